@@ -1,0 +1,14 @@
+pub mod Stamp
+pub mod Identifier
+pub mod Bus
+pub mod Frame
+pub mod Device
+pub mod Told
+pub mod Fields
+pub mod Shape
+pub mod Text
+pub mod Line
+pub mod Spelled
+pub mod Reading
+pub mod Parts
+pub mod Canonical

@@ -1,0 +1,12 @@
+-- The parts of a line that a frame has.
+use Rattle.std.specs.Prelude.{ℕ, List}
+use Rattle.j39_frame.specs.Stamp.{stamp_micros}
+use Rattle.j39_frame.specs.Line.{HasParts, IsBlankLine}
+use Rattle.j39_frame.specs.declared.line.Parts.{Parts}
+use Rattle.j39_frame.specs.declared.line.Parts.TheVariants.{Blank, Three, Unread}
+
+-- the line has these parts, or none
+abbrev pub AreParts : Parts → List ℕ → Type 0
+AreParts Blank line = IsBlankLine line
+AreParts (Three stamp bus third) line = HasParts line bus.now third.now (stamp_micros stamp)
+AreParts Unread line = ((bus third : List ℕ) (stamp : ℕ) → HasParts line bus third stamp → ⊥) × (IsBlankLine line → ⊥)

@@ -1,0 +1,10 @@
+-- A device with its mark.
+use Rattle.std.specs.Prelude.{Bool}
+use Rattle.j39_frame.specs.declared.device.Told.{Told}
+
+abbrev pub told_device : {T : Type 0} → Told T → T
+told_device told = told.device
+
+-- whether a fault has come
+abbrev pub is_marked : {T : Type 0} → Told T → Bool
+is_marked told = told.has_failed

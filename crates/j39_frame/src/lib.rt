@@ -1,0 +1,25 @@
+//! Identifiers, frames and log lines of a J1939 bus, and the devices that a log is read from and
+//! a report is written to.
+#![tactic(auto)]
+
+mod bus;
+mod canonical;
+mod device;
+mod fields;
+mod frame;
+mod identifier;
+pub mod laws;
+mod line;
+mod stamp;
+mod text;
+
+pub use bus::Bus;
+pub use canonical::line_of;
+pub use device::{DeviceFault, Sink, Source, Told, put_all};
+pub use frame::Frame;
+pub use identifier::{Id, Pgn};
+pub use line::{LINE_LIMIT, Line, read_line};
+pub use stamp::Stamp;
+
+#[cfg(test)]
+mod tests;

@@ -1,0 +1,97 @@
+//! Lines of a log.
+ghost use Rattle.std.specs.Prelude.{◌≡◌, ◌≢◌, ℕ, List, [], ◌∷◌, ◌++◌, ◌↔◌, length, IsTrue, Contains};
+ghost use Rattle.j39_frame.specs.Line.{IsBody};
+ghost use Rattle.j39_frame.specs.Parts.{AreParts};
+ghost use Rattle.j39_frame.specs.Spelled.{Spelled, Spells};
+ghost use Rattle.j39_frame.specs.Reading.{spelled_of};
+
+use crate::bus::is_bus_name;
+use crate::fields::{Shape, shape_of};
+use crate::text::{frame_of, stamp_of};
+use crate::{Frame, Stamp};
+
+/// What a line of a log holds.
+#[derive(Debug, Drop)]
+pub enum Line<'a> {
+    /// A frame with a 29-bit identifier, and the interface that it was seen on.
+    Frame { bus: &'a [u8], frame: Frame },
+    /// A line of candump's form that holds no such frame.
+    Other,
+    /// A line of no such form, or of more than 256 bytes.
+    Unread,
+    /// A line of spaces alone.
+    Blank,
+}
+
+/// The most bytes of a line that is read (own). A longer line is unread.
+pub const LINE_LIMIT: usize = 256;
+
+/// The line without one CR at its end.
+fn body_of(line: &[u8]) -> &[u8]
+    ensures { IsBody line.now result.now }
+{
+    match line.split_last() {
+        Some((13, body)) => body,
+        _ => line,
+    }
+}
+
+/// The parts of a line that a frame has.
+enum Parts<'a> {
+    Blank,
+    Three(Stamp, &'a [u8], &'a [u8]),
+    Unread,
+}
+
+fn parts_of(line: &[u8]) -> Parts<'_>
+    ensures { AreParts result line.now }
+{
+    if line.len() > LINE_LIMIT {
+        return Parts::Unread;
+    }
+    match shape_of(body_of(line)) {
+        Shape::Blank => Parts::Blank,
+        Shape::Odd => Parts::Unread,
+        Shape::Three(stamp, bus, third) => match stamp_of(stamp) {
+            None => Parts::Unread,
+            Some(stamp) => {
+                if is_bus_name(bus) {
+                    Parts::Three(stamp, bus, third)
+                } else {
+                    Parts::Unread
+                }
+            }
+        },
+    }
+}
+
+fn is_marked(field: &[u8]) -> bool
+    ensures { IsTrue result ↔ Contains field.now 35 }
+{
+    field.contains(&b'#')
+}
+
+fn reading_of(line: &[u8]) -> Line<'_>
+    ensures { Spells line.now (spelled_of result) }
+{
+    match parts_of(line) {
+        Parts::Blank => Line::Blank,
+        Parts::Unread => Line::Unread,
+        Parts::Three(stamp, bus, third) => match frame_of(third) {
+            Some((id, bytes)) => Line::Frame {
+                bus,
+                frame: Frame::from_parts(stamp, id, bytes),
+            },
+            None if is_marked(third) => Line::Other,
+            None => Line::Unread,
+        },
+    }
+}
+
+/// Reads a line of a log, which is given without its newline. A frame of any bus is a `Frame` here.
+pub fn read_line(line: &[u8]) -> Line<'_>
+    ensures reads { Spells line.now (spelled_of result) }
+    ensures only { (s : Spelled) → Spells line.now s → spelled_of result ≡ s }
+{
+    reading_of(line)
+}
