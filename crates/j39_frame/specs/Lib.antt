@@ -9,6 +9,8 @@ pub mod Shape
 pub mod Text
 pub mod Line
 pub mod Spelled
+pub mod Log
 pub mod Reading
 pub mod Parts
+pub mod Spelling
 pub mod Canonical

@@ -10,6 +10,7 @@ mod frame;
 mod identifier;
 pub mod laws;
 mod line;
+pub mod spelling;
 mod stamp;
 mod text;
 
