@@ -1,0 +1,110 @@
+//! A run, line by line.
+ghost use Rattle.std.specs.Prelude.{◌≡◌, ◌∷◌, [], Some, OnOk, IfOk, length, unwrap_or};
+ghost use Rattle.std.specs.Io.KnownBytes.{Appends};
+ghost use Rattle.std.specs.Str.{bytes_eq};
+ghost use Rattle.j39_frame.specs.Bus.{IsBusName};
+ghost use Rattle.j39_frame.specs.Device.{Marks};
+ghost use Rattle.j39_cli.specs.Counting.{frame_counts};
+ghost use Rattle.j39_cli.specs.Report.{report_of, text_of};
+ghost use Rattle.j39_cli.specs.Run.{MeetsLine, ReadsLine};
+
+use crate::Counts;
+use crate::heard::heard_in;
+use crate::report::put_heard;
+use j39_frame::{Bus, DeviceFault, Frame, Line, Sink, read_line};
+
+/// The bus of a run, once it is known, and what the run has counted so far.
+#[derive(Debug, Drop)]
+pub(crate) struct Reporter {
+    pub bus: Option<Bus>,
+    pub counts: Counts,
+}
+
+impl Reporter {
+    /// Reads a line of the log, and writes the report of its frame.
+    pub fn read<W: Sink>(&mut self, line: &[u8], sink: &mut W) -> Result<(), DeviceFault>
+        ensures read { OnOk result (ReadsLine line.now self.old.bus self.new.bus self.old.counts self.new.counts
+            (W.held sink.old) (W.held sink.new)) }
+        ensures mark { Marks result (W.has_failed sink.old) (W.has_failed sink.new) }
+    {
+        let met = put_line(&mut self.bus, line, sink)?;
+        self.counts = self.counts.and(met);
+        Ok(())
+    }
+}
+
+/// Reads a line of a run, writes the report of its frame, and answers what the line counts for.
+fn put_line<W: Sink>(bus: &mut Option<Bus>, line: &[u8], sink: &mut W) -> Result<Counts, DeviceFault>
+    ensures met { IfOk result (λ met. MeetsLine line.now bus.old bus.new met (W.held sink.old) (W.held sink.new)) }
+    ensures mark { Marks result (W.has_failed sink.old) (W.has_failed sink.new) }
+{
+    match read_line(line) {
+        Line::Frame { bus: name, frame } => {
+            if is_on(bus, name) {
+                put_frame(&frame, sink)
+            } else {
+                Ok(OTHER)
+            }
+        }
+        Line::Other => Ok(OTHER),
+        Line::Unread => Ok(UNREAD),
+        Line::Blank => Ok(NOTHING),
+    }
+}
+
+const NOTHING: Counts = Counts {
+    frames: 0,
+    other: 0,
+    unread: 0,
+    messages: 0,
+    lines: 0,
+};
+
+const OTHER: Counts = Counts {
+    frames: 0,
+    other: 1,
+    unread: 0,
+    messages: 0,
+    lines: 0,
+};
+
+const UNREAD: Counts = Counts {
+    frames: 0,
+    other: 0,
+    unread: 1,
+    messages: 0,
+    lines: 0,
+};
+
+/// Whether an interface is the bus of the run, which it becomes where there is none yet.
+fn is_on(bus: &mut Option<Bus>, name: &[u8]) -> bool
+    requires { IsBusName name.now }
+    ensures bus { bus.new ≡ Some (unwrap_or bus.old name.now) }
+    ensures on { result ≡ bytes_eq name.now (unwrap_or bus.old name.now) }
+{
+    match bus {
+        Some(bus) => name == bus.bytes(),
+        None => {
+            *bus = Bus::new(name);
+            true
+        }
+    }
+}
+
+/// Writes the report of a frame of the run's bus, and answers what it counts for.
+fn put_frame<W: Sink>(frame: &Frame, sink: &mut W) -> Result<Counts, DeviceFault>
+    ensures counts { IfOk result (λ met. met ≡ frame_counts frame.now) }
+    ensures written { OnOk result (Appends (W.held sink.old) (W.held sink.new) (text_of (report_of (frame.now ∷ [])))) }
+    ensures mark { Marks result (W.has_failed sink.old) (W.has_failed sink.new) }
+{
+    let Some(heard) = heard_in(frame) else {
+        return Ok(Counts { frames: 1, ..NOTHING });
+    };
+    let lines = put_heard(&heard, sink)?;
+    Ok(Counts {
+        frames: 1,
+        messages: 1,
+        lines,
+        ..NOTHING
+    })
+}
