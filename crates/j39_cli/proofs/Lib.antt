@@ -1,0 +1,4 @@
+pub mod ValueLemmas
+pub mod PartLemmas
+pub mod TakenLemmas
+pub mod MetLemmas
