@@ -73,7 +73,7 @@ walked-part rules w (given word) is_part = go w.stopped is_part
     go : (stopped : Option (Text × List Text)) → IsValue word → walked_from rules [] stopped w word ≡ value_walked rules stopped w word
     go (Some stop) is_value = refl
     go None is_value = ap (λ (met : Held × Step). after_step rules word w met.0 met.1)
-      (word_met-value rules w.is_trailing w.waiting w.position word w.held is_value)
+        (word_met-value rules w.is_trailing w.waiting w.position word w.held is_value)
 
 -- whether clap takes the part
 abbrev part_passes : Shape → Walk → Part → Bool

@@ -32,11 +32,11 @@ read : (program word : Text) (a : App) → Enters (built line_app) word (leaf_of
 unfolding line_app
 read program word a enters xs s are spelled passes texts = record {
   taken = ap (λ (words : List Text). takes line_app (program ∷ words)) spelled
-    ∙ built_takes-enters (built line_app) word (leaf_of a) (map text_of xs) enters (level_passes-parts (leaf_of a) xs are ∙ passes);
+      ∙ built_takes-enters (built line_app) word (leaf_of a) (map text_of xs) enters (level_passes-parts (leaf_of a) xs are ∙ passes);
   met = rows_of_parts a xs;
   rows = ap (λ (words : List Text). subcommand_of line_app (program ∷ words)) spelled
-    ∙ entered-enters (built line_app) word (leaf_of a) (map text_of xs) enters
-    ∙ ap (λ (rows : List Row). Some ((leaf_of a).name, rows)) (rows_after-parts (leaf_of a) xs are);
+      ∙ entered-enters (built line_app) word (leaf_of a) (map text_of xs) enters
+      ∙ ap (λ (rows : List Row). Some ((leaf_of a).name, rows)) (rows_after-parts (leaf_of a) xs are);
   texts = texts;
 }
 

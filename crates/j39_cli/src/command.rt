@@ -10,26 +10,30 @@ use std::alloc::{AllocError, Global};
 const LINE_EXAMPLES: &str = "\
 Examples:
   j1939 report trip.log
-  j1939 report --bus can0 trip.log
   candump -L can0 | j1939 report
   j1939 id 18EEFF00";
 
 const REPORT_ABOUT: &str = "\
-Reads a log and writes one line for each parameter value that it holds: the time, the source \
-address, the NAME of the device behind that address (16 dashes where it isn't known), the PGN, the \
-SPN, and the value with its unit.";
+Writes one line for each parameter value in a log: the time, the source address
+(hex), the NAME of the device at that address (hex, or dashes where the log
+doesn't tell it), the PGN, the SPN, and the value with its unit.";
 
 const REPORT_EXAMPLE: &str = "\
 Example:
-  j1939 report --bus can0 trip.log";
+  j1939 report --bus can0 trip.log
+writes lines such as
+  (0000000001.010000) 00 8000000001401234 61444 190 1500.000 rpm";
 
 const ID_ABOUT: &str = "\
-Writes the fields of a 29-bit identifier: the priority, the PGN, the destination address (- where \
-the group has none, 255 for all) and the source address, in decimal.";
+Writes the fields of a 29-bit identifier in decimal: the priority, the PGN, the
+destination address (255 for all, - where the group has none) and the source
+address.";
 
 const ID_EXAMPLE: &str = "\
 Example:
-  j1939 id 18EEFF00";
+  j1939 id 18EEFF00
+writes
+  priority 6 pgn 60928 destination 255 source 0";
 
 /// The whole command line.
 pub(crate) fn line<'a>(alloc: Global) -> Result<Command<'a>, AllocError>
@@ -54,7 +58,7 @@ fn report<'a>(alloc: Global) -> Result<Command<'a>, AllocError>
     ensures local { IfOk result (λ c. (fields_of c).has_globals ≡ false) }
 {
     let command = Command::new(alloc, "report")
-        .about("Writes the parameter values of a log")
+        .about("Writes the parameter values in a log")
         .long_about(REPORT_ABOUT)
         .after_help(REPORT_EXAMPLE);
     let command = with_arg(command, bus(alloc, false))?;
@@ -69,8 +73,9 @@ fn id<'a>(alloc: Global) -> Result<Command<'a>, AllocError>
         .about("Writes the fields of a 29-bit identifier")
         .long_about(ID_ABOUT)
         .after_help(ID_EXAMPLE);
-    let hex = value(alloc, "hex", "HEX", true)
-        .help("The identifier: 1 to 8 hex digits of a number below 20000000");
+    let hex = value(alloc, "hex", "HEX", true).help(
+        "The identifier, 1 to 8 hex digits of a number below 20000000",
+    );
     with_arg(command, hex)
 }
 
@@ -79,7 +84,7 @@ fn bus<'a>(alloc: Global, is_required: bool) -> Arg<'a>
     ensures local { result.global ≡ false }
 {
     option(alloc, "bus", "B", is_required).help(
-        "The interface to read, as can0 (without it, that of the first frame in the log)",
+        "The interface to read, as can0; without it, that of the first frame in the log",
     )
 }
 
@@ -87,7 +92,7 @@ fn file<'a>(alloc: Global) -> Arg<'a>
     ensures rule { rule_of result ≡ value_rule (codes "file") false }
     ensures local { result.global ≡ false }
 {
-    value(alloc, "file", "FILE", false).help("The log to read (without it, standard input)")
+    value(alloc, "file", "FILE", false).help("The log to read; without it, standard input")
 }
 
 // `--name VALUE`
