@@ -1,3 +1,8 @@
+pub mod Value
+pub mod Command
+pub mod Words
+pub mod Task
+pub mod Refusal
 pub mod Heard
 pub mod Report
 pub mod Counting

@@ -1,0 +1,19 @@
+-- One more command after another.
+use Rattle.std.proofs.Common.{◌≡◌, ◌∙◌, ap₂}
+use Rattle.std.proofs.lemmas.Result.{IfOk-weaker}
+use Rattle.clap.specs.Words.{App, with_subcommand}
+use Rattle.j39_cli.specs.Command.{bare_app, id_app, line_app, report_app}
+use Rattle.j39_cli.proofs.command.line.Goals as goal
+
+-- one more command, by what is known of the line and of the command
+more : (line command old sub new : App) → old ≡ line → sub ≡ command → new ≡ with_subcommand old sub.top → new ≡ with_subcommand line command.top
+more line command old sub new is_line is_command added = added ∙ ap₂ (λ (x y : App). with_subcommand x y.top) is_line is_command
+
+abbrev with_report : App
+with_report = with_subcommand bare_app report_app.top
+
+pub returns : goal.returns
+unfolding line_app
+returns c =
+    let has_report = more bare_app report_app _ _ _ c.bare-line.ensures c.in_ok-report.ensures.app c.in_ok-line.ensures in
+    IfOk-weaker c.with_command-2.result _ _ (λ _ added. more with_report id_app _ _ _ has_report c.in_ok-id.ensures.app added) c.with_command-2.ensures

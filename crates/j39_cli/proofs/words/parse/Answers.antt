@@ -1,0 +1,23 @@
+-- clap takes each command that is spelled, and meets it with its texts.
+use Rattle.std.proofs.Common.{◌≡◌, ◌∙◌, List, Some, ap, sym, subst}
+use Rattle.std.specs.Prelude.{Err}
+use Rattle.clap.specs.Words.{Text, subcommand_of, subcommand_rows_of, takes}
+use Rattle.j39_cli.specs.Command.{line_app}
+use Rattle.j39_cli.specs.Task.{IsAnswer}
+use Rattle.j39_cli.specs.declared.task.ParseFault.{ParseFault}
+use Rattle.j39_cli.proofs.TakenLemmas.{is_read, line_is_simple}
+use Rattle.j39_cli.proofs.MetLemmas.{memory_answers}
+use Rattle.j39_cli.proofs.words.parse.Goals as goal
+
+pub returns-in-Ok-clause-answer : goal.returns-in-Ok-clause-answer
+returns-in-Ok-clause-answer g c program s values spelled =
+    let read = is_read program s values in
+    let rows : subcommand_rows_of c.in-Ok.matches ≡ Some read.met =
+    (c.in-Ok.ensures.ok line_is_simple).1 ∙ ap (λ (words : List Text). subcommand_of line_app words) spelled ∙ read.rows in
+    c.task_of.ensures.answer s read.met rows read.texts
+
+pub returns-in-Err-clause-answer : goal.returns-in-Err-clause-answer
+returns-in-Err-clause-answer g c program s values spelled =
+    let read = is_read program s values in
+    let is_memory = c.in-Err.ensures.err (ap (λ (words : List Text). takes line_app words) spelled ∙ read.taken) in
+    subst (λ (fault : ParseFault). IsAnswer s (Err fault)) (sym is_memory) (memory_answers s)

@@ -1,0 +1,19 @@
+-- The command that clap met is the one that was spelled.
+use Rattle.std.proofs.Common.{refl, codes}
+use Rattle.clap.specs.Words.{found_of}
+use Rattle.j39_cli.proofs.MetLemmas.{id_answers, is_met, report_answers}
+use Rattle.j39_cli.proofs.words.task_of.Goals as goal
+
+pub returns-in-Some-clause-answer : goal.returns-in-Some-clause-answer
+returns-in-Some-clause-answer c s met rows texts =
+    let found = found_of c.in-Some.given.now in
+    report_answers s met found c.report_of.result texts
+    (is_met c.args.matches.now found (codes "report") met rows (c.in-Some.ensures.found.0 refl) c.in-Some.ensures.rows)
+    c.report_of.ensures.answer
+
+pub returns-in-Some-id-clause-answer : goal.returns-in-Some-id-clause-answer
+returns-in-Some-id-clause-answer c s met rows texts =
+    let found = found_of c.in-Some-id.given.now in
+    id_answers s met found c.id_task_of.result texts
+    (is_met c.args.matches.now found (codes "id") met rows (c.in-Some-id.ensures.found.0 refl) c.in-Some-id.ensures.rows)
+    c.id_task_of.ensures.answer

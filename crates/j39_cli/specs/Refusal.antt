@@ -1,0 +1,42 @@
+-- What the program says where it has no task.
+use Rattle.std.specs.Prelude.{◌≡◌, ◌++◌, ◌∷◌, ℕ, Bool, false, List, [], Option, codes, string_bytes}
+use Rattle.std.specs.Io.KnownBytes.{Appends}
+use Rattle.j39_cli.specs.Task.{argument_text}
+use Rattle.j39_cli.specs.declared.task.ParseFault.{ParseFault}
+use Rattle.j39_cli.specs.declared.task.ParseFault.TheVariants.{Memory, Usage, BadValue, Help}
+
+-- the words ask for help
+abbrev pub IsHelp : ParseFault → Type 0
+IsHelp Memory = ⊥
+IsHelp (Usage text) = ⊥
+IsHelp (BadValue argument) = ⊥
+IsHelp (Help text) = Unit {0}
+
+-- the words are no command, or one of its values is out of range
+abbrev pub IsWrongLine : ParseFault → Type 0
+IsWrongLine Memory = ⊥
+IsWrongLine (Usage text) = Unit {0}
+IsWrongLine (BadValue argument) = Unit {0}
+IsWrongLine (Help text) = ⊥
+
+-- a line of the program's own on standard error
+abbrev pub error_line : List ℕ → List ℕ → List ℕ
+error_line words name = codes "j1939: " ++ (words ++ (name ++ 10 ∷ []))
+
+-- what standard output is told
+abbrev pub out_words : ParseFault → List ℕ
+out_words Memory = []
+out_words (Usage text) = []
+out_words (BadValue argument) = []
+out_words (Help text) = string_bytes text
+
+-- what standard error is told
+abbrev pub error_words : ParseFault → List ℕ
+error_words Memory = error_line (codes "out of memory") []
+error_words (Usage text) = string_bytes text
+error_words (BadValue argument) = error_line (codes "bad value for ") (argument_text argument)
+error_words (Help text) = []
+
+-- a writer that no fault has come to holds the bytes after those of before
+abbrev pub Writes : Option (List ℕ) → Option (List ℕ) → Bool → List ℕ → Type 0
+Writes old new has_failed bytes = has_failed ≡ false → Appends old new bytes

@@ -1,0 +1,89 @@
+-- What a command line asks for.
+use Rattle.std.specs.Prelude.{◌≡◌, ◌<◌, ◌^◌, ℕ, List, Option, Some, None, Result, Ok, Err, codes}
+use Rattle.std.specs.Option.{ForSome}
+use Rattle.std.specs.Str.Parse.{digits_value}
+use Rattle.clap.specs.Words.{Text}
+use Rattle.j39_frame.specs.Bus.{IsBusName}
+use Rattle.j39_frame.specs.Identifier.{id_raw}
+use Rattle.j39_cli.specs.Value.{IsIdText}
+use Rattle.j39_cli.specs.Words.{Spelled}
+use Rattle.j39_cli.specs.Words as spelled
+use Rattle.j39_cli.specs.declared.task.Argument.{Argument}
+use Rattle.j39_cli.specs.declared.task.Argument.TheVariants as argument
+use Rattle.j39_cli.specs.declared.task.Task.{Task}
+use Rattle.j39_cli.specs.declared.task.Task.TheVariants as task
+use Rattle.j39_cli.specs.declared.task.ParseFault.{ParseFault}
+use Rattle.j39_cli.specs.declared.task.ParseFault.TheVariants as fault
+
+-- a command with its values, as numbers and lists of bytes
+pub data Asked : Type 0 where
+  report : Option (List ℕ) → Option (List ℕ) → Asked
+  id : ℕ → Asked
+
+abbrev pub asked_of : Task → Asked
+asked_of (task.Report bus file) = report bus file
+asked_of (task.Id i) = id (id_raw i)
+
+-- FILE, where the task has one
+abbrev pub file_of : Task → Option (List ℕ)
+file_of (task.Report bus file) = file
+file_of (task.Id i) = None
+
+-- the values of a task are those that the command line takes
+abbrev pub IsInRange : Task → Type 0
+IsInRange (task.Report bus file) = ForSome bus IsBusName
+IsInRange (task.Id i) = id_raw i < 2 ^ 29
+
+-- an argument as help spells it
+abbrev pub argument_text : Argument → List ℕ
+argument_text argument.Bus = codes "--bus"
+argument_text argument.Name = codes "--name"
+argument_text argument.Address = codes "--address"
+argument_text argument.Source = codes "--source"
+argument_text argument.Pgn = codes "--pgn"
+argument_text argument.At = codes "--at"
+argument_text argument.Hex = codes "HEX"
+
+-- ---- the answer to a command that is spelled
+
+abbrev pub Answer : Type 0
+Answer = Result Task ParseFault
+
+-- the task with these values, or memory was refused
+abbrev pub IsTask : Asked → Answer → Type 0
+IsTask asked (Ok t) = asked_of t ≡ asked
+IsTask asked (Err fault.Memory) = Unit {0}
+IsTask asked (Err (fault.Usage text)) = ⊥
+IsTask asked (Err (fault.BadValue a)) = ⊥
+IsTask asked (Err (fault.Help text)) = ⊥
+
+-- this argument's value is wrong, or memory was refused
+abbrev pub IsWrong : {T : Type 0} → Argument → Result T ParseFault → Type 0
+IsWrong a (Ok t) = ⊥
+IsWrong a (Err fault.Memory) = Unit {0}
+IsWrong a (Err (fault.Usage text)) = ⊥
+IsWrong a (Err (fault.BadValue b)) = b ≡ a
+IsWrong a (Err (fault.Help text)) = ⊥
+
+-- where the value of the argument is in range, the answer is the next one; else that it is wrong
+pub record IsChecked (InRange : Type 0) (a : Argument) (Next : Answer → Type 0) (r : Answer) : Type 0 where
+  pub in_range : InRange → Next r
+  pub wrong : ¬ InRange → IsWrong a r
+
+-- the same of `--bus`, which may be left out
+abbrev pub IsBusChecked : Option Text → (Answer → Type 0) → Answer → Type 0
+IsBusChecked None Next r = Next r
+IsBusChecked (Some bus) Next r = IsChecked (IsBusName bus) argument.Bus Next r
+
+-- the values are checked in the order of the spelling, and the first wrong one is the answer
+abbrev pub IsAnswer : Spelled → Answer → Type 0
+IsAnswer (spelled.report bus file) r = IsBusChecked bus (IsTask (report bus file)) r
+IsAnswer (spelled.id hex) r = IsChecked (IsIdText hex) argument.Hex (IsTask (id (digits_value 16 hex))) r
+
+-- ---- what is read of `--bus`
+
+-- the name, where it is in range; else that it is wrong
+abbrev pub IsBusValue : Option Text → Result (Option (List ℕ)) ParseFault → Type 0
+IsBusValue None r = r ≡ Ok None
+IsBusValue (Some name) (Ok bus) = IsBusName name × (bus ≡ Some name)
+IsBusValue (Some name) (Err e) = (¬ IsBusName name) × (e ≡ fault.BadValue argument.Bus)

@@ -1,0 +1,80 @@
+//! What the program says where it has no task, or can't open the log.
+ghost use Rattle.std.specs.Prelude.{◌≡◌, ◌↔◌, OnOk, codes, string_bytes};
+ghost use Rattle.std.specs.Io.KnownBytes.{Appends};
+ghost use Rattle.j39_frame.specs.Device.{Marks};
+ghost use Rattle.j39_cli.specs.Refusal.{IsHelp, IsWrongLine, Writes, error_line, error_words, out_words};
+
+use crate::ParseFault;
+use j39_frame::{DeviceFault, Sink, put_all};
+
+/// Says why there is no task, and answers the exit status: 0 for help, which goes to `out`, 1 for
+/// memory and 2 for a wrong command line, both on `err`. A fault of either writer is passed over.
+pub fn refuse<W: Sink, E: Sink>(fault: &ParseFault, out: &mut W, err: &mut E) -> u8
+    ensures help { (result ≡ 0) ↔ IsHelp fault.now }
+    ensures memory { (result ≡ 1) ↔ (fault.now ≡ ParseFault.Memory) }
+    ensures wrong { (result ≡ 2) ↔ IsWrongLine fault.now }
+
+    // Each writer holds its own words, where no fault came, and the other one isn't touched.
+    ensures out { Writes (W.held out.old) (W.held out.new) (W.has_failed out.new) (out_words fault.now) }
+    ensures err { Writes (E.held err.old) (E.held err.new) (E.has_failed err.new) (error_words fault.now) }
+    ensures silent_out { ¬ (IsHelp fault.now) → out.new ≡ out.old }
+    ensures silent_err { IsHelp fault.now → err.new ≡ err.old }
+{
+    match fault {
+        ParseFault::Help(text) => {
+            show(out, text);
+            0
+        }
+        ParseFault::Usage(text) => {
+            show(err, text);
+            2
+        }
+        ParseFault::Memory => {
+            complain(err, "out of memory", "");
+            1
+        }
+        ParseFault::BadValue(argument) => {
+            complain(err, "bad value for ", argument.text());
+            2
+        }
+    }
+}
+
+/// Says that this file can't be opened, and answers the exit status. A fault of the writer is
+/// passed over.
+pub fn unopened<E: Sink>(file: &str, err: &mut E) -> u8
+    ensures status { result ≡ 1 }
+    ensures err { Writes (E.held err.old) (E.held err.new) (E.has_failed err.new)
+        (error_line (codes "cannot open ") file.now) }
+{
+    complain(err, "cannot open ", file);
+    1
+}
+
+// Writes the text, and passes it on. A fault shows in the mark alone.
+fn show<S: Sink>(sink: &mut S, text: &String)
+    ensures { Writes (S.held sink.old) (S.held sink.new) (S.has_failed sink.new) (string_bytes text.now) }
+{
+    if put_all(sink, text.as_bytes()).is_ok() {
+        let _ = sink.flush();
+    }
+}
+
+// Writes a line of the program's own, and passes it on. A fault shows in the mark alone.
+fn complain<E: Sink>(err: &mut E, words: &str, name: &str)
+    ensures { Writes (E.held err.old) (E.held err.new) (E.has_failed err.new) (error_line words.now name.now) }
+{
+    if put_line(err, words, name).is_ok() {
+        let _ = err.flush();
+    }
+}
+
+fn put_line<E: Sink>(err: &mut E, words: &str, name: &str) -> Result<(), DeviceFault>
+    ensures ok { OnOk result (Appends (E.held err.old) (E.held err.new) (error_line words.now name.now)) }
+    ensures mark { Marks result (E.has_failed err.old) (E.has_failed err.new) }
+{
+    put_all(err, b"j1939: ")?;
+    put_all(err, words.as_bytes())?;
+    put_all(err, name.as_bytes())?;
+    put_all(err, b"\n")
+}

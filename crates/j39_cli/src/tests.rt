@@ -1,0 +1,211 @@
+use crate::{Argument, ParseFault, Task, parse, refuse, unopened};
+use j39_frame::Told;
+use std::alloc::{AllocError, Global};
+use std::test::Fail;
+
+// The answer to a command line, in short.
+fn answer(alloc: Global, words: &[&str]) -> Result<String, AllocError> {
+    match parse(alloc, words) {
+        Ok(Task::Report(bus, file)) => {
+            let bus = match &bus {
+                Some(bus) => bus.bytes(),
+                None => b"-",
+            };
+            let file = match &file {
+                Some(file) => file.as_str(),
+                None => "-",
+            };
+            format!(in alloc; "report {} {file}", String::from_utf8_lossy(alloc, bus)?)
+        }
+        Ok(Task::Id(id)) => format!(in alloc; "id {:08X}", id.raw()),
+        Err(ParseFault::Memory) => format!(in alloc; "memory"),
+        Err(ParseFault::Usage(_)) => format!(in alloc; "usage"),
+        Err(ParseFault::BadValue(argument)) => format!(in alloc; "bad {argument}"),
+        Err(ParseFault::Help(_)) => format!(in alloc; "help"),
+    }
+}
+
+#[test]
+fn reads_report(rt: HostRuntime) -> Result<(), Fail> {
+    let lines: [(&[&str], &str); 8] = [
+        (&["j1939", "report"], "report - -"),
+        (&["j1939", "report", "trip.log"], "report - trip.log"),
+        (&["j1939", "report", "--bus", "can0"], "report can0 -"),
+        (
+            &["j1939", "report", "--bus", "can0", "trip.log"],
+            "report can0 trip.log",
+        ),
+        (
+            &["/usr/bin/j1939", "report", "--bus", "0123456789abcde"],
+            "report 0123456789abcde -",
+        ),
+        (
+            &["j1939", "report", "--bus", "0123456789abcdef"],
+            "bad --bus",
+        ),
+        (&["j1939", "report", "--bus", "can 0", "log"], "bad --bus"),
+        (&["j1939", "report", "--bus", "can0", "a", "b"], "usage"),
+    ];
+    for (words, want) in lines.iter() {
+        let told = answer(rt.alloc(), words)?;
+        assert_eq!(rt; told.as_str(), *want);
+    }
+    Ok(())
+}
+
+#[test]
+fn reads_id(rt: HostRuntime) -> Result<(), Fail> {
+    let values = [
+        ("7", "id 00000007"),
+        ("18EEFF00", "id 18EEFF00"),
+        ("0cf00400", "id 0CF00400"),
+        ("1fffffff", "id 1FFFFFFF"),
+        ("20000000", "bad HEX"),
+        ("ffffffff", "bad HEX"),
+        ("018EEFF00", "bad HEX"),
+        ("18EEFFG0", "bad HEX"),
+        ("0x18EEFF", "bad HEX"),
+        ("+1", "bad HEX"),
+        ("", "bad HEX"),
+    ];
+    for (value, want) in values {
+        let told = answer(rt.alloc(), &["j1939", "id", value])?;
+        assert_eq!(rt; told.as_str(), want, "{value}");
+    }
+    Ok(())
+}
+
+#[test]
+fn reads_other_words(rt: HostRuntime) -> Result<(), Fail> {
+    let lines: [(&[&str], &str); 11] = [
+        (&[], "usage"),
+        (&["j1939"], "usage"),
+        (&["j1939", "frobnicate"], "usage"),
+        (&["j1939", "nodes"], "usage"),
+        (&["j1939", "name", "8000000001401234"], "usage"),
+        (&["j1939", "id"], "usage"),
+        (&["j1939", "report", "--speed", "9"], "usage"),
+        (&["j1939", "--help"], "help"),
+        (&["j1939", "report", "--help"], "help"),
+        (&["j1939", "id", "-h"], "help"),
+        (&["j1939", "help", "report"], "help"),
+    ];
+    for (words, want) in lines.iter() {
+        let told = answer(rt.alloc(), words)?;
+        assert_eq!(rt; told.as_str(), *want);
+    }
+    Ok(())
+}
+
+#[test]
+fn names_the_file(rt: HostRuntime) -> Result<(), Fail> {
+    let words = ["j1939", "report", "trip.log"];
+    let with_file = parse(rt.alloc(), &words)?;
+    assert_eq!(rt; with_file.file(), Some("trip.log"));
+    let words = ["j1939", "id", "7"];
+    let without = parse(rt.alloc(), &words)?;
+    assert_eq!(rt; without.file(), None);
+    Ok(())
+}
+
+#[test]
+fn refuses(rt: HostRuntime) -> Result<(), Fail> {
+    let alloc = rt.alloc();
+    let faults = [
+        (ParseFault::Memory, 1, "", "j1939: out of memory\n"),
+        (
+            ParseFault::Usage(String::from_str(alloc, "usage\n")?),
+            2,
+            "",
+            "usage\n",
+        ),
+        (
+            ParseFault::BadValue(Argument::Bus),
+            2,
+            "",
+            "j1939: bad value for --bus\n",
+        ),
+        (
+            ParseFault::BadValue(Argument::Hex),
+            2,
+            "",
+            "j1939: bad value for HEX\n",
+        ),
+        (
+            ParseFault::Help(String::from_str(alloc, "help\n")?),
+            0,
+            "help\n",
+            "",
+        ),
+    ];
+    for (fault, status, out_words, err_words) in faults.iter() {
+        let mut out = Vec::new(alloc);
+        let mut err = Vec::new(alloc);
+        let told = refuse(fault, &mut Told::new(&mut out), &mut Told::new(&mut err));
+        assert_eq!(rt; told, *status);
+        assert_eq!(rt; out.as_slice(), out_words.as_bytes());
+        assert_eq!(rt; err.as_slice(), err_words.as_bytes());
+
+        // Writers that take three bytes and then no more.
+        let mut out = [0u8; 3];
+        let mut err = [0u8; 3];
+        let told = refuse(
+            fault,
+            &mut Told::new(out.as_mut_slice()),
+            &mut Told::new(err.as_mut_slice()),
+        );
+        assert_eq!(rt; told, *status);
+    }
+    Ok(())
+}
+
+#[test]
+fn says_how_it_is_used(rt: HostRuntime) -> Result<(), Fail> {
+    let lines: [(&[&str], u8, &str, &str); 4] = [
+        (&["j1939"], 2, "", "error: 'j1939' requires a subcommand"),
+        (
+            &["j1939", "nodes"],
+            2,
+            "",
+            "error: unrecognized subcommand 'nodes'",
+        ),
+        (
+            &["j1939", "--help"],
+            0,
+            "Reads logs of a J1939 bus, as candump -l writes them.",
+            "",
+        ),
+        (
+            &["j1939", "report", "--help"],
+            0,
+            "Writes one line for each parameter value in a log:",
+            "",
+        ),
+    ];
+    for (words, status, out_front, err_front) in lines.iter() {
+        let mut out = Vec::new(rt.alloc());
+        let mut err = Vec::new(rt.alloc());
+        if let Err(fault) = parse(rt.alloc(), words) {
+            let told = refuse(&fault, &mut Told::new(&mut out), &mut Told::new(&mut err));
+            assert_eq!(rt; told, *status);
+        }
+        assert!(rt; out.as_slice().starts_with(out_front.as_bytes()));
+        assert!(rt; err.as_slice().starts_with(err_front.as_bytes()));
+        assert_eq!(rt; out.is_empty(), out_front.is_empty());
+        assert_eq!(rt; err.is_empty(), err_front.is_empty());
+    }
+    Ok(())
+}
+
+#[test]
+fn says_what_cannot_be_opened(rt: HostRuntime) {
+    let mut err = Vec::new(rt.alloc());
+    assert_eq!(rt; unopened("trip.log", &mut Told::new(&mut err)), 1);
+    assert_eq!(rt; err.as_slice(), b"j1939: cannot open trip.log\n".as_slice());
+    let mut full = [0u8; 3];
+    assert_eq!(rt;
+        unopened("trip.log", &mut Told::new(full.as_mut_slice())),
+        1
+    );
+    assert_eq!(rt; full.as_slice(), b"j19".as_slice());
+}

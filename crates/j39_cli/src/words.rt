@@ -1,0 +1,129 @@
+//! From words to a task.
+ghost use Rattle.std.specs.Prelude.{◌≡◌, ◌∷◌, IfErr, IfOk, List, None, Some, codes, map, true};
+ghost use Rattle.clap.specs.Words.{HasMatchesOf, Row, Text, first_value, found_of, kind_of};
+ghost use Rattle.clap.specs.Words.{subcommand_rows_of, takes};
+ghost use Rattle.j39_frame.specs.Bus.{IsBusName};
+ghost use Rattle.j39_cli.specs.Command.{line_app};
+ghost use Rattle.j39_cli.specs.Words.{HasTexts, HasValues, Spelled, words_of};
+ghost use Rattle.j39_cli.specs.Words as spelled;
+ghost use Rattle.j39_cli.specs.Task.{IsAnswer, IsBusValue, IsInRange, IsWrong};
+
+use crate::command::line;
+use crate::value::id_of;
+use crate::{Argument, ParseFault, Task, WordText};
+use clap::error::ErrorKind;
+use clap::{ArgMatches, Error};
+use j39_frame::Bus;
+use std::alloc::Global;
+use std::convert::AsStr;
+
+/// The task that the words ask for. They begin with the program's name. What words mean that spell
+/// no command is clap's: it also takes `--bus=can0`, and options after FILE.
+pub fn parse<'a, S: AsStr>(alloc: Global, words: &'a [S]) -> Result<Task<'a>, ParseFault>
+    ensures answer { (program : Text) (s : Spelled) → HasValues s
+        → map S.text words.entry.now ≡ program ∷ words_of s → IsAnswer s result }
+    ensures in_range { IfOk result IsInRange }
+{
+    match matched(alloc, words) {
+        Ok(matches) => task_of(alloc, &matches),
+        Err(fault) => Err(fault),
+    }
+}
+
+// What clap makes of the words.
+fn matched<'a, S: AsStr>(alloc: Global, words: &'a [S]) -> Result<ArgMatches<'a>, ParseFault>
+    ensures ok { IfOk result (HasMatchesOf line_app (map S.text words.entry.now)) }
+    ensures err { IfErr result (λ fault. takes line_app (map S.text words.entry.now) ≡ true
+        → fault ≡ ParseFault.Memory) }
+{
+    let Ok(line) = line(alloc) else {
+        return Err(ParseFault::Memory);
+    };
+    match line.try_get_matches_from(words) {
+        Ok(matches) => Ok(matches),
+        Err(error) => Err(fault_of(alloc, &error)),
+    }
+}
+
+fn fault_of(alloc: Global, error: &Error) -> ParseFault
+    ensures { kind_of error.now ≡ ErrorKind.OutOfMemory → result ≡ ParseFault.Memory }
+{
+    let kind = error.kind();
+    if kind == ErrorKind::OutOfMemory {
+        return ParseFault::Memory;
+    }
+    match error.to_string(alloc) {
+        Err(_) => ParseFault::Memory,
+        Ok(text) if kind == ErrorKind::DisplayHelp => ParseFault::Help(text),
+        Ok(text) => ParseFault::Usage(text),
+    }
+}
+
+// The task of the command that clap met.
+fn task_of<'a>(alloc: Global, matches: &ArgMatches<'a>) -> Result<Task<'a>, ParseFault>
+    ensures answer { (s : Spelled) (met : Text × List Row) → subcommand_rows_of matches.now ≡ Some met
+        → HasTexts s met → IsAnswer s result }
+    ensures in_range { IfOk result IsInRange }
+{
+    let report = matches.subcommand_matches("report");
+    if let Some(given) = report {
+        return report_of(given);
+    }
+    let id = matches.subcommand_matches("id");
+    if let Some(given) = id {
+        return id_task_of(given);
+    }
+    // clap requires a command and knows no other, so that nothing comes here.
+    Err(ParseFault::Usage(String::new(alloc)))
+}
+
+fn report_of<'a>(given: &ArgMatches<'a>) -> Result<Task<'a>, ParseFault>
+    ensures answer { IsAnswer (spelled.report (first_value (found_of given.now) (codes "bus"))
+        (first_value (found_of given.now) (codes "file"))) result }
+    ensures in_range { IfOk result IsInRange }
+{
+    let file = given.get_str("file").map(WordText::new);
+    match bus_of(given) {
+        Ok(bus) => Ok(Task::Report(bus, file)),
+        Err(fault) => Err(fault),
+    }
+}
+
+fn id_task_of<'a>(given: &ArgMatches<'a>) -> Result<Task<'a>, ParseFault>
+    ensures answer { (hex : Text) → first_value (found_of given.now) (codes "hex") ≡ Some hex
+        → IsAnswer (spelled.id hex) result }
+    ensures in_range { IfOk result IsInRange }
+{
+    let hex = match required(given, "hex") {
+        Ok(hex) => hex,
+        Err(fault) => return Err(fault),
+    };
+    match id_of(hex) {
+        Some(id) => Ok(Task::Id(id)),
+        None => Err(ParseFault::BadValue(Argument::Hex)),
+    }
+}
+
+// The value of `--bus`, where it is given.
+fn bus_of(given: &ArgMatches<'_>) -> Result<Option<Bus>, ParseFault>
+    ensures { IsBusValue (first_value (found_of given.now) (codes "bus")) result }
+{
+    match given.get_str("bus") {
+        None => Ok(None),
+        Some(name) => match Bus::new(name.as_bytes()) {
+            Some(bus) => Ok(Some(bus)),
+            None => Err(ParseFault::BadValue(Argument::Bus)),
+        },
+    }
+}
+
+// The value of an argument that clap requires.
+fn required<'a>(given: &ArgMatches<'a>, id: &str) -> Result<&'a str, ParseFault>
+    ensures ok { IfOk result (λ text. first_value (found_of given.now) id.now ≡ Some text.now) }
+    ensures err { IfErr result (λ _. first_value (found_of given.now) id.now ≡ None) }
+{
+    match given.get_str(id) {
+        Some(text) => Ok(text),
+        None => Err(ParseFault::Memory),
+    }
+}
