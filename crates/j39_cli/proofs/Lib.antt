@@ -1,3 +1,5 @@
+pub mod DeviceLemmas
+pub mod FieldLemmas
 pub mod ValueLemmas
 pub mod PartLemmas
 pub mod TakenLemmas

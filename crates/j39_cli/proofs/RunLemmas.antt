@@ -17,6 +17,7 @@ use Rattle.j39_cli.specs.Report.{Entry, entries_of, report_of, text_of}
 use Rattle.j39_cli.specs.Lines.{TakesLine}
 use Rattle.j39_cli.specs.Run.{run_text, MeetsLine, ReadsLine, WritesReport}
 use Rattle.j39_cli.specs.declared.counts.Counts.{Counts}
+use Rattle.j39_cli.proofs.DeviceLemmas.{Appends-kept}
 use Rattle.j39_cli.proofs.ReportLemmas.{text_of-append, text_of-none}
 
 -- ---- one frame
@@ -383,10 +384,4 @@ writes_last given log rest bus bus' counts counts' old mid new h whole some r =
 pub writes_kept : (given : Option (List ℕ)) (log : List ℕ) (counts : Counts) (old mid new : Option (List ℕ))
     → WritesReport given log counts old mid → Keeps mid new → WritesReport given log counts old new
 writes_kept given log counts old mid new h k =
-    record { spelled = h.spelled; is_log = h.is_log; counts_are = h.counts_are; written = kept old mid new (run_text given h.spelled) h.written k }
-  where
-    kept : (a b c : Option (List ℕ)) (bs : List ℕ) → Appends a b bs → Keeps b c → Appends a c bs
-    kept None b c bs p q = tt
-    kept (Some x) None c bs p q = absurd p
-    kept (Some x) (Some y) None bs p q = absurd q
-    kept (Some x) (Some y) (Some z) bs p q = q ∙ p
+    record { spelled = h.spelled; is_log = h.is_log; counts_are = h.counts_are; written = Appends-kept old mid new (run_text given h.spelled) h.written k }

@@ -9,3 +9,5 @@ pub mod Counting
 pub mod Run
 pub mod Message
 pub mod Lines
+pub mod Fields
+pub mod Perform

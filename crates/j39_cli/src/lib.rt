@@ -3,10 +3,11 @@
 
 mod command;
 mod counts;
+mod fields;
 mod heard;
 mod lines;
 mod log;
-mod perform;
+mod performing;
 mod refusal;
 mod report;
 mod reporter;
@@ -16,7 +17,7 @@ mod value;
 mod words;
 
 pub use counts::Counts;
-pub use perform::perform;
+pub use performing::perform;
 pub use refusal::{refuse, unopened};
 pub use runs::{RunFault, run};
 pub use task::{Argument, ParseFault, Task, WordText};

@@ -60,8 +60,8 @@ fn show<S: Sink>(sink: &mut S, text: &String)
     }
 }
 
-// Writes a line of the program's own, and passes it on. A fault shows in the mark alone.
-fn complain<E: Sink>(err: &mut E, words: &str, name: &str)
+/// Writes a line of the program's own, and passes it on. A fault shows in the mark alone.
+pub(crate) fn complain<E: Sink>(err: &mut E, words: &str, name: &str)
     ensures { Writes (E.held err.old) (E.held err.new) (E.has_failed err.new) (error_line words.now name.now) }
 {
     if put_line(err, words, name).is_ok() {
