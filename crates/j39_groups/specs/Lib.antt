@@ -1,0 +1,6 @@
+pub mod Value
+pub mod Shown
+pub mod Table
+pub mod Sound
+pub mod Parts
+pub mod Readings

@@ -1,0 +1,12 @@
+//! Parameter groups and their readings (J1939-71).
+#![tactic(auto)]
+
+mod field;
+mod reading;
+mod slot;
+mod table;
+mod value;
+
+pub use reading::{is_reported, readings};
+pub use slot::Slot;
+pub use value::{Reading, Value};

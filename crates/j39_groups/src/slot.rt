@@ -1,0 +1,88 @@
+//! Slots: the scale, the places and the unit of a number (J1939-71).
+ghost use Rattle.std.specs.Prelude.{◌≡◌, ◌+ℤ◌, ◌*ℤ◌, ◌<◌, ◌^◌, pos};
+ghost use Rattle.j39_groups.specs.Shown.{slot_record, unit_text};
+
+/// The units that values are printed in.
+#[derive(Clone, Copy, Debug, PartialEq, Eq)]
+pub(crate) enum Unit {
+    Percent,
+    Rpm,
+    Kilometres,
+    Hours,
+    Revolutions,
+    Celsius,
+    Kilopascals,
+    KilometresPerHour,
+    LitresPerHour,
+    KilometresPerLitre,
+    Volts,
+}
+
+impl Unit {
+    /// The unit's text (own).
+    fn text(self) -> &'static str
+        ensures { result.now ≡ unit_text self }
+    {
+        match self {
+            Unit::Percent => "%",
+            Unit::Rpm => "rpm",
+            Unit::Kilometres => "km",
+            Unit::Hours => "h",
+            Unit::Revolutions => "r",
+            Unit::Celsius => "degC",
+            Unit::Kilopascals => "kPa",
+            Unit::KilometresPerHour => "km/h",
+            Unit::LitresPerHour => "L/h",
+            Unit::KilometresPerLitre => "km/L",
+            Unit::Volts => "V",
+        }
+    }
+}
+
+/// How a raw number is read: `value = raw * step + offset`, in units of the last printed decimal
+/// place (J1939-71). Each slot is one row of the table.
+#[derive(Clone, Copy, Debug, PartialEq, Eq)]
+pub struct Slot {
+    pub(crate) step: u32,
+    pub(crate) offset: i32,
+    pub(crate) places: u8,
+    pub(crate) unit: Unit,
+}
+
+impl Slot {
+    /// What one raw step is worth, above 0, in units of the last printed place.
+    pub fn step(self) -> i64
+        ensures { result ≡ (slot_record self).step }
+    {
+        i64::from(self.step)
+    }
+
+    /// The value of the raw number 0, in units of the last printed place.
+    pub fn offset(self) -> i64
+        ensures { result ≡ (slot_record self).offset }
+    {
+        i64::from(self.offset)
+    }
+
+    /// The value of a raw number, in units of the last printed place.
+    pub(crate) fn value(self, raw: u32) -> i64
+        requires { self.step < 2 ^ 30 }
+        ensures { result ≡ pos raw *ℤ (slot_record self).step +ℤ (slot_record self).offset }
+    {
+        i64::from(raw) * i64::from(self.step) + i64::from(self.offset)
+    }
+
+    /// How many decimal places are printed.
+    pub fn places(self) -> u8
+        ensures { result ≡ (slot_record self).places }
+    {
+        self.places
+    }
+
+    /// The unit, as it is printed.
+    pub fn unit(self) -> &'static str
+        ensures { result.now ≡ (slot_record self).unit }
+    {
+        self.unit.text()
+    }
+}
