@@ -1,11 +1,12 @@
 -- What holds of the whole table, row by row.
-use Rattle.std.proofs.Common.{◌≡◌, ◌<◌, ◌≤◌, ◌+◌, ◌==◌, ◌++◌, ℕ, List, [], ◌∷◌, Bool, length, get_or, take, zero, suc, refl, ap, ◌∙◌, sym, true, false, arith, rules, append-nil}
+use Rattle.std.proofs.Common.{◌≡◌, ◌<◌, ◌≤◌, ◌+◌, ◌==◌, ◌++◌, ℕ, List, [], ◌∷◌, Bool, length, get_or, take, zero, suc, refl, ap, ◌∙◌, sym, true, false, arith, rules, map, inl, inr}
 use Rattle.std.specs.Prelude.{cond, count_by, filter, if◌then◌else◌, Option, Some, None}
 use Rattle.std.specs.List.{filter_map}
-use Rattle.std.specs.Option.{option_to_list}
+use Rattle.std.specs.Option.{option_to_list, option_map}
 use Rattle.std.proofs.lemmas.Grind.{common_steps}
-use Rattle.std.proofs.lemmas.Bool.{and_parts, ltb-true, leb-true, eq-eqb}
-use Rattle.std.proofs.lemmas.List.Sums.{AllPass-from_list_all, count_by_more_yes, sum_by-take-le}
+use Rattle.std.proofs.lemmas.Bool.{and_parts, cases_Bool, ltb-true, leb-true, eq-eqb}
+use Rattle.std.proofs.lemmas.List.Sums.{AllPass-from_list_all, count_by_more_yes, count_by_more_no, sum_by-take-le}
+use Rattle.std.proofs.lemmas.List.{map-append}
 use Rattle.std.proofs.lemmas.List.Elements.{filter_more, filter_map-append}
 use Rattle.j39_groups.specs.declared.table.Field.{Field}
 use Rattle.j39_groups.specs.declared.table.Field.TheVariants.{Number, Switch, Text}
@@ -63,3 +64,22 @@ chosen_more f p xs i d below =
     let next = get_or xs i d in
     ap (filter_map f) (filter_more p xs i d below) ∙ (filter_map-append f (filter p (take i xs)) (if p next then (next ∷ []) else [])
     ∙ ap (λ ys. filter_map f (filter p (take i xs)) ++ ys) (chosen_one f (p next) next))
+
+seen_list : {A B : Type 0} (view : A → B) (o : Option A) → map view (option_to_list o) ≡ option_to_list (option_map view o)
+seen_list view None = refl
+seen_list view (Some x) = refl
+
+-- one turn of a loop that pushes what the next element gives
+pub pushed : {A B X : Type 0} (view : A → B) (f : X → Option B) (p : X → Bool) (xs : List X) (i : ℕ) (d : X) → i < length xs
+    → (old : List A) (o : Option A) → map view old ≡ filter_map f (filter p (take i xs))
+    → option_map view o ≡ (if p (get_or xs i d) then f (get_or xs i d) else None)
+    → map view (old ++ option_to_list o) ≡ filter_map f (filter p (take (i + 1) xs))
+pushed view f p xs i d below old o before next =
+    let more = chosen_more f p xs i d below in
+    map-append view old (option_to_list o) ∙ (rw (before, seen_list view o, next, more) refl)
+
+pub counted_more : {X : Type 0} (p : X → Bool) (xs : List X) (i : ℕ) → i < length xs → count_by p (take i xs) ≤ count_by p (take (i + 1) xs)
+counted_more p [] i below = absurd (omega arith)
+counted_more p (x ∷ xs) i below = elim (cases_Bool (p (get_or (x ∷ xs) i x))) [
+    inl is_one ↦ let more = count_by_more_yes p (x ∷ xs) i x below is_one in omega (arith, more)
+    | inr is_none ↦ let more = count_by_more_no p (x ∷ xs) i x below is_none in omega (arith, more) ]
