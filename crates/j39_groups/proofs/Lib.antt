@@ -1,2 +1,4 @@
 pub mod NumberLemmas
 pub mod TableLemmas
+pub mod TextLemmas
+pub mod DeviceLemmas

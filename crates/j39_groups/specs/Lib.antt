@@ -4,3 +4,4 @@ pub mod Table
 pub mod Sound
 pub mod Parts
 pub mod Readings
+pub mod ValueText

@@ -5,8 +5,10 @@ mod field;
 mod reading;
 mod slot;
 mod table;
+mod text;
 mod value;
 
 pub use reading::{is_reported, readings};
 pub use slot::Slot;
+pub use text::put_value;
 pub use value::{Reading, Value};

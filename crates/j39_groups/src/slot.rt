@@ -1,5 +1,5 @@
 //! Slots: the scale, the places and the unit of a number (J1939-71).
-ghost use Rattle.std.specs.Prelude.{◌≡◌, ◌+ℤ◌, ◌*ℤ◌, ◌<◌, ◌^◌, pos};
+ghost use Rattle.std.specs.Prelude.{◌≡◌, ◌+ℤ◌, ◌*ℤ◌, ◌<◌, ◌≤◌, ◌^◌, pos, length};
 ghost use Rattle.j39_groups.specs.Shown.{slot_record, unit_text};
 
 /// The units that values are printed in.
@@ -21,7 +21,8 @@ pub(crate) enum Unit {
 impl Unit {
     /// The unit's text (own).
     fn text(self) -> &'static str
-        ensures { result.now ≡ unit_text self }
+        ensures text { result.now ≡ unit_text self }
+        ensures short { length result.now ≤ 4 }
     {
         match self {
             Unit::Percent => "%",
@@ -81,7 +82,8 @@ impl Slot {
 
     /// The unit, as it is printed.
     pub fn unit(self) -> &'static str
-        ensures { result.now ≡ (slot_record self).unit }
+        ensures text { result.now ≡ (slot_record self).unit }
+        ensures short { length result.now ≤ 4 }
     {
         self.unit.text()
     }
