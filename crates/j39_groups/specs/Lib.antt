@@ -4,4 +4,5 @@ pub mod Table
 pub mod Sound
 pub mod Parts
 pub mod Readings
+pub mod Slots
 pub mod ValueText

@@ -14,6 +14,11 @@ pub record IsSoundNumber (first last : ℕ) (slot : Slot) : Type 0 where
   pub rises : 0 < slot.step
   pub small : slot.step < 2 ^ 30
 
+pub record IsSoundCount (count : ℕ) (slot : Slot) : Type 0 where
+  pub some : 0 < count
+  pub narrow : count ≤ 4
+  pub rises : 0 < slot.step
+
 pub record IsSoundSwitch (byte bit : ℕ) : Type 0 where
   pub starts : 0 < byte
   pub low : 0 < bit

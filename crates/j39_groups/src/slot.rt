@@ -1,6 +1,7 @@
 //! Slots: the scale, the places and the unit of a number (J1939-71).
-ghost use Rattle.std.specs.Prelude.{◌≡◌, ◌+ℤ◌, ◌*ℤ◌, ◌<◌, ◌≤◌, ◌^◌, pos, length};
+ghost use Rattle.std.specs.Prelude.{◌≡◌, ◌+ℤ◌, ◌*ℤ◌, ◌*◌, ◌<◌, ◌≤◌, ◌^◌, pos, length, ℕ, Some, IfSome};
 ghost use Rattle.j39_groups.specs.Shown.{slot_record, unit_text};
+ghost use Rattle.j39_groups.specs.Slots.{IsAt};
 
 /// The units that values are printed in.
 #[derive(Clone, Copy, Debug, PartialEq, Eq)]
@@ -73,6 +74,19 @@ impl Slot {
         i64::from(raw) * i64::from(self.step) + i64::from(self.offset)
     }
 
+    /// The raw number of a value, where the value stands on a step.
+    pub(crate) fn raw(self, value: i64) -> Option<u32>
+        requires { 0 < self.step }
+        ensures found { IfSome result (λ raw. IsAt (slot_record self) value raw) }
+        ensures only { (raw : ℕ) → raw < 2 ^ 32 → IsAt (slot_record self) value raw → result ≡ Some raw }
+    {
+        let offset = self.offset();
+        if value < offset {
+            return None;
+        }
+        steps_in(value.abs_diff(offset), self.step)
+    }
+
     /// How many decimal places are printed.
     pub fn places(self) -> u8
         ensures { result ≡ (slot_record self).places }
@@ -87,4 +101,17 @@ impl Slot {
     {
         self.unit.text()
     }
+}
+
+/// How many whole steps a distance is; `None` where it is no whole number of steps, or too many.
+fn steps_in(distance: u64, step: u32) -> Option<u32>
+    requires { 0 < step }
+    ensures found { IfSome result (λ n. n * step ≡ distance) }
+    ensures only { (n : ℕ) → n < 2 ^ 32 → n * step ≡ distance → result ≡ Some n }
+{
+    let step = u64::from(step);
+    if distance % step != 0 {
+        return None;
+    }
+    u32::try_from(distance / step).ok()
 }
