@@ -1,0 +1,5 @@
+pub mod NumberLemmas
+pub mod TableLemmas
+pub mod TextLemmas
+pub mod DeviceLemmas
+pub mod SlotLemmas

@@ -1,0 +1,85 @@
+-- What holds of the whole table, row by row.
+use Rattle.std.proofs.Common.{◌≡◌, ◌<◌, ◌≤◌, ◌+◌, ◌==◌, ◌++◌, ℕ, List, [], ◌∷◌, Bool, length, get_or, take, zero, suc, refl, ap, ◌∙◌, sym, true, false, arith, rules, map, inl, inr}
+use Rattle.std.specs.Prelude.{cond, count_by, filter, if◌then◌else◌, Option, Some, None}
+use Rattle.std.specs.List.{filter_map}
+use Rattle.std.specs.Option.{option_to_list, option_map}
+use Rattle.std.proofs.lemmas.Grind.{common_steps}
+use Rattle.std.proofs.lemmas.Bool.{and_parts, cases_Bool, ltb-true, leb-true, eq-eqb}
+use Rattle.std.proofs.lemmas.List.Sums.{AllPass-from_list_all, count_by_more_yes, count_by_more_no, sum_by-take-le}
+use Rattle.std.proofs.lemmas.List.{map-append}
+use Rattle.std.proofs.lemmas.List.Elements.{filter_more, filter_map-append}
+use Rattle.j39_groups.specs.declared.table.Field.{Field}
+use Rattle.j39_groups.specs.declared.table.Field.TheVariants.{Number, Switch, Text}
+use Rattle.j39_groups.specs.declared.table.Row.{Row}
+use Rattle.j39_groups.specs.Table.{the_table}
+use Rattle.j39_groups.specs.Sound.{is_sound_table, is_sound, IsSound}
+
+pub table_sound : is_sound_table the_table ≡ true
+unfolding the_table
+table_sound = refl
+
+field_sound : (field : Field) → is_sound field ≡ true → IsSound field
+field_sound (Number first last slot) h =
+    let a = and_parts _ _ h in
+    let b = and_parts _ _ a.1 in
+    let c = and_parts _ _ b.1 in
+    let d = and_parts _ _ c.1 in
+    record { starts = ltb-true _ _ a.0; ordered = leb-true _ _ b.0; narrow = ltb-true _ _ c.0; rises = ltb-true _ _ d.0; small = ltb-true _ _ d.1 }
+field_sound (Switch byte bit) h =
+    let a = and_parts _ _ h in
+    let b = and_parts _ _ a.1 in
+    record { starts = ltb-true _ _ a.0; low = ltb-true _ _ b.0; high = ltb-true _ _ b.1 }
+field_sound (Text part) h = ltb-true _ _ h
+
+pub row_sound : (rows : List Row) (i : ℕ) (d : Row) → is_sound_table rows ≡ true → i < length rows → IsSound (get_or rows i d).field
+row_sound rows i d h below =
+    let each = AllPass-from_list_all _ rows h in
+    field_sound (get_or rows i d).field (and_parts _ _ (each i d below)).0
+
+-- a further row of a group has a place
+pub room : (rows : List Row) (pgn i : ℕ) (d : Row) → is_sound_table rows ≡ true → i < length rows → (get_or rows i d).pgn ≡ pgn
+    → count_by (λ row. row.pgn == pgn) (take i rows) < 8
+room rows pgn i d h below same =
+    let each = AllPass-from_list_all _ rows h in
+    let whole : count_by (λ row. row.pgn == (get_or rows i d).pgn) rows ≤ 8 = leb-true _ _ (and_parts _ _ (each i d below)).1 in
+    let group : count_by (λ row. row.pgn == pgn) rows ≤ 8 = rw same at whole in
+    let front = sum_by-take-le (λ row. cond (row.pgn == pgn) 1 0) rows (i + 1) in
+    let more = count_by_more_yes (λ row. row.pgn == pgn) rows i d below (eq-eqb _ _ same) in
+    omega (arith, group, front, more)
+
+chosen_one : {X Y : Type 0} (f : X → Option Y) (b : Bool) (x : X)
+    → filter_map f (if b then (x ∷ []) else []) ≡ option_to_list (if b then f x else None)
+chosen_one f true x = given (f x)
+  where
+  given : {Y : Type 0} (o : Option Y) → filter_map (λ (u : Unit {0}). o) (tt ∷ []) ≡ option_to_list o
+  given None = refl
+  given (Some y) = refl
+chosen_one f false x = refl
+
+-- what a filtered list gives grows by what its next element gives
+pub chosen_more : {X Y : Type 0} (f : X → Option Y) (p : X → Bool) (xs : List X) (i : ℕ) (d : X) → i < length xs
+    → filter_map f (filter p (take (i + 1) xs))
+        ≡ filter_map f (filter p (take i xs)) ++ option_to_list (if p (get_or xs i d) then f (get_or xs i d) else None)
+chosen_more f p xs i d below =
+    let next = get_or xs i d in
+    ap (filter_map f) (filter_more p xs i d below) ∙ (filter_map-append f (filter p (take i xs)) (if p next then (next ∷ []) else [])
+    ∙ ap (λ ys. filter_map f (filter p (take i xs)) ++ ys) (chosen_one f (p next) next))
+
+seen_list : {A B : Type 0} (view : A → B) (o : Option A) → map view (option_to_list o) ≡ option_to_list (option_map view o)
+seen_list view None = refl
+seen_list view (Some x) = refl
+
+-- one turn of a loop that pushes what the next element gives
+pub pushed : {A B X : Type 0} (view : A → B) (f : X → Option B) (p : X → Bool) (xs : List X) (i : ℕ) (d : X) → i < length xs
+    → (old : List A) (o : Option A) → map view old ≡ filter_map f (filter p (take i xs))
+    → option_map view o ≡ (if p (get_or xs i d) then f (get_or xs i d) else None)
+    → map view (old ++ option_to_list o) ≡ filter_map f (filter p (take (i + 1) xs))
+pushed view f p xs i d below old o before next =
+    let more = chosen_more f p xs i d below in
+    map-append view old (option_to_list o) ∙ (rw (before, seen_list view o, next, more) refl)
+
+pub counted_more : {X : Type 0} (p : X → Bool) (xs : List X) (i : ℕ) → i < length xs → count_by p (take i xs) ≤ count_by p (take (i + 1) xs)
+counted_more p [] i below = absurd (omega arith)
+counted_more p (x ∷ xs) i below = elim (cases_Bool (p (get_or (x ∷ xs) i x))) [
+    inl is_one ↦ let more = count_by_more_yes p (x ∷ xs) i x below is_one in omega (arith, more)
+    | inr is_none ↦ let more = count_by_more_no p (x ∷ xs) i x below is_none in omega (arith, more) ]

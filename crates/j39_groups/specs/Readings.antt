@@ -1,0 +1,57 @@
+-- What is read in the payload of a group (J1939-71).
+use Rattle.std.specs.Prelude.{◌+◌, ◌-◌, ◌*◌, ◌/◌, ◌%◌, ◌^◌, ◌+ℤ◌, ◌*ℤ◌, ◌==◌, ℕ, pos, List, [], ◌∷◌, length, Bool, Option, Some, None, if◌then◌else◌, nat_le, slice_get, slice_range, filter}
+use Rattle.std.specs.Option.{option_map, option_and_then}
+use Rattle.std.specs.List.{filter_map, list_any}
+use Rattle.byteorder.specs.Endian.{little_number}
+use Rattle.j39_groups.specs.declared.table.Field.{Field}
+use Rattle.j39_groups.specs.declared.table.Field.TheVariants.{Number, Switch, Text}
+use Rattle.j39_groups.specs.declared.table.Row.{Row}
+use Rattle.j39_groups.specs.Value.{SlotRecord, ValueRecord, number, on, off, error, reserved, indicator, text, ReadingRecord}
+use Rattle.j39_groups.specs.Shown.{slot_record}
+use Rattle.j39_groups.specs.Table.{the_table}
+use Rattle.j39_groups.specs.Parts.{parts_of}
+
+-- the number in the bytes first to last, counted from 1, the low byte first, where all lie within the payload
+unfoldable pub raw_number : ℕ → ℕ → List ℕ → Option ℕ
+raw_number first last bytes =
+    if nat_le last (length bytes) then Some (little_number (last - (first - 1)) (slice_range bytes (first - 1) last)) else None
+
+-- what a raw number means, by its top byte; nothing where it is not available
+unfoldable pub by_top_byte : ℕ → ValueRecord → Option ValueRecord
+by_top_byte top valid =
+    if nat_le top 0xFA then Some valid else
+    (if nat_le top 0xFB then Some indicator else
+    (if nat_le top 0xFD then Some reserved else
+    (if nat_le top 0xFE then Some error else None)))
+
+-- the top byte of a raw number of count bytes
+abbrev pub top_byte : ℕ → ℕ → ℕ
+top_byte count raw = raw / 256 ^ (count - 1)
+
+-- a valid raw number is so many steps above the offset
+abbrev pub number_meaning : ℕ → SlotRecord → ℕ → Option ValueRecord
+number_meaning count slot raw = by_top_byte (top_byte count raw) (number (pos raw *ℤ slot.step +ℤ slot.offset) slot)
+
+-- two bits: off, on, error, not available
+unfoldable pub switch_meaning : ℕ → Option ValueRecord
+switch_meaning bits =
+    if bits == 0 then Some off else (if bits == 1 then Some on else (if bits == 2 then Some error else None))
+
+-- an empty part is not there
+unfoldable pub text_meaning : List ℕ → Option ValueRecord
+text_meaning part = if length part == 0 then None else Some (text part)
+
+unfoldable pub value_at : List ℕ → Field → Option ValueRecord
+value_at bytes (Number first last slot) = option_and_then (number_meaning (last - (first - 1)) (slot_record slot)) (raw_number first last bytes)
+value_at bytes (Switch byte bit) = option_and_then (λ b. switch_meaning (b / 2 ^ (bit - 1) % 4)) (slice_get bytes (byte - 1))
+value_at bytes (Text part) = option_and_then text_meaning (slice_get (parts_of bytes) (part - 1))
+
+abbrev pub reading_at : List ℕ → Row → Option ReadingRecord
+reading_at bytes row = option_map (λ value. record { spn = row.spn; value = value }) (value_at bytes row.field)
+
+-- each row of the group, in the table's order
+unfoldable pub readings_of : ℕ → List ℕ → List ReadingRecord
+readings_of pgn bytes = filter_map (reading_at bytes) (filter (λ row. row.pgn == pgn) the_table)
+
+unfoldable pub is_reported_group : ℕ → Bool
+is_reported_group pgn = list_any (λ row. row.pgn == pgn) the_table

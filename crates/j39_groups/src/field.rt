@@ -1,0 +1,151 @@
+//! The value of one field of a payload (J1939-71).
+ghost use Rattle.std.specs.Prelude.{◌≡◌, ◌+◌, ◌-◌, ◌/◌, ◌%◌, ◌^◌, ◌<◌, ◌≤◌, length, slice_get};
+ghost use Rattle.std.specs.Option.{option_map, option_and_then};
+ghost use Rattle.byteorder.specs.Endian.{little_number};
+ghost use Rattle.j39_groups.specs.Sound.{IsSound, IsSoundNumber, IsSoundSwitch};
+ghost use Rattle.j39_groups.specs.Parts.{parts_of};
+ghost use Rattle.j39_groups.specs.Shown.{value_of, slot_record};
+ghost use Rattle.j39_groups.specs.Readings.{value_at, raw_number, number_meaning, by_top_byte, switch_meaning, text_meaning};
+
+use crate::slot::Slot;
+use crate::table::Field;
+use crate::value::Value;
+use byteorder::{ByteOrder, LittleEndian};
+
+/// The value in a field; `None` where the payload does not reach it or it is not available.
+pub(crate) fn value_at(bytes: &[u8], field: Field) -> Option<Value<'_>>
+    requires { IsSound field }
+    ensures { option_map value_of result ≡ value_at bytes.now field }
+{
+    match field {
+        Field::Number { first, last, slot } => number_at(bytes, first, last, slot),
+        Field::Switch { byte, bit } => switch_at(bytes, byte, bit),
+        Field::Text { part } => text_at(bytes, part),
+    }
+}
+
+fn number_at(bytes: &[u8], first: u8, last: u8, slot: Slot) -> Option<Value<'_>>
+    requires { IsSoundNumber first last slot }
+    ensures { option_map value_of result
+        ≡ option_and_then (number_meaning (last - (first - 1)) (slot_record slot)) (raw_number first last bytes.now) }
+{
+    let raw = raw_number(bytes, first, last)?;
+    meaning(raw, last - (first - 1), slot)
+}
+
+/// The number in the bytes `first` to `last`, the low byte first.
+fn raw_number(bytes: &[u8], first: u8, last: u8) -> Option<u32>
+    requires starts { 0 < first }
+    requires ordered { first ≤ last }
+    requires narrow { last < first + 4 }
+    ensures { result ≡ raw_number first last bytes.now }
+{
+    let start = usize::from(first) - 1;
+    let end = usize::from(last);
+    if end > bytes.len() {
+        return None;
+    }
+    Some(number_of(&bytes[start..end]))
+}
+
+/// The number of one to four bytes, the low byte first.
+fn number_of(part: &[u8]) -> u32
+    requires some { 0 < length part.now }
+    requires narrow { length part.now ≤ 4 }
+    ensures { result ≡ little_number (length part.now) part.now }
+{
+    LittleEndian::read_uint(part, part.len()) as u32
+}
+
+/// The top byte of a raw number of `count` bytes.
+pub(crate) fn top_byte(raw: u32, count: u8) -> u32
+    requires some { 0 < count }
+    requires narrow { count ≤ 4 }
+    ensures { result ≡ raw / 256 ^ (count - 1) }
+{
+    match count {
+        1 => raw,
+        2 => raw >> 8,
+        3 => raw >> 16,
+        _ => raw >> 24,
+    }
+}
+
+/// What a raw number means, by its top byte.
+fn meaning<'a>(raw: u32, count: u8, slot: Slot) -> Option<Value<'a>>
+    requires some { 0 < count }
+    requires narrow { count ≤ 4 }
+    requires small { slot.step < 2 ^ 30 }
+    ensures { option_map value_of result ≡ number_meaning count (slot_record slot) raw }
+{
+    by_top_byte(top_byte(raw, count), Value::Number(slot.value(raw), slot))
+}
+
+#[tactic(auto, unfolding(crate::specs::Readings::by_top_byte))]
+fn by_top_byte(top: u32, valid: Value<'_>) -> Option<Value<'_>>
+    ensures { option_map value_of result ≡ by_top_byte top (value_of valid.entry) }
+{
+    match top {
+        0..=0xFA => Some(valid),
+        0xFB => Some(Value::Indicator),
+        0xFC..=0xFD => Some(Value::Reserved),
+        0xFE => Some(Value::Error),
+        _ => None,
+    }
+}
+
+fn switch_at(bytes: &[u8], byte: u8, bit: u8) -> Option<Value<'_>>
+    requires { IsSoundSwitch byte bit }
+    ensures { option_map value_of result
+        ≡ option_and_then (λ b. switch_meaning (b / 2 ^ (bit - 1) % 4)) (slice_get bytes.now (byte - 1)) }
+{
+    let byte = bytes.get(usize::from(byte) - 1).copied()?;
+    switch_of(two_bits(byte, bit))
+}
+
+/// The two bits from the bit `bit` on.
+fn two_bits(byte: u8, bit: u8) -> u8
+    requires low { 0 < bit }
+    requires high { bit < 8 }
+    ensures { result ≡ byte / 2 ^ (bit - 1) % 4 }
+{
+    byte >> (bit - 1) & 3
+}
+
+#[tactic(auto, unfolding(crate::specs::Readings::switch_meaning))]
+fn switch_of<'a>(bits: u8) -> Option<Value<'a>>
+    ensures { option_map value_of result ≡ switch_meaning bits }
+{
+    match bits {
+        0 => Some(Value::Off),
+        1 => Some(Value::On),
+        2 => Some(Value::Error),
+        _ => None,
+    }
+}
+
+fn text_at(bytes: &[u8], part: u8) -> Option<Value<'_>>
+    requires { 0 < part }
+    ensures { option_map value_of result ≡ option_and_then text_meaning (slice_get (parts_of bytes.now) (part - 1)) }
+{
+    let text = part_at(bytes, usize::from(part) - 1)?;
+    text_of(text)
+}
+
+/// The part at this index, from 0, between the bytes `*`.
+fn part_at(bytes: &[u8], index: usize) -> Option<&[u8]>
+    ensures { option_map (λ part. part.now) result ≡ slice_get (parts_of bytes.now) index }
+{
+    bytes.split(|b| *b == b'*').nth(index)
+}
+
+#[tactic(auto, unfolding(crate::specs::Readings::text_meaning))]
+fn text_of(text: &[u8]) -> Option<Value<'_>>
+    ensures { option_map value_of result ≡ text_meaning text.now }
+{
+    if text.is_empty() {
+        None
+    } else {
+        Some(Value::Text(text))
+    }
+}

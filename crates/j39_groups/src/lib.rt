@@ -1,0 +1,16 @@
+//! Parameter groups and their readings (J1939-71).
+#![tactic(auto)]
+
+mod field;
+mod parameter;
+mod reading;
+mod slot;
+mod table;
+mod text;
+mod value;
+
+pub use parameter::{raw_of, slot_of};
+pub use reading::{is_reported, readings};
+pub use slot::Slot;
+pub use text::put_value;
+pub use value::{Reading, Value};

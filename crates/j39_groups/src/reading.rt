@@ -1,0 +1,76 @@
+//! What is read in the payload of a group (J1939-71).
+ghost use Rattle.std.specs.Prelude.{◌≡◌, ◌==◌, map, filter, IsTrue, IsSome, None, if◌then◌else◌};
+ghost use Rattle.std.specs.List.{list_any, filter_map};
+ghost use Rattle.std.specs.Option.{option_map};
+ghost use Rattle.j39_frame.specs.Identifier.{pgn_raw};
+ghost use Rattle.j39_groups.specs.Table.{the_table};
+ghost use Rattle.j39_groups.specs.Sound.{IsSound, is_sound_table};
+ghost use Rattle.j39_groups.specs.Readings.{is_reported_group, readings_of, reading_at};
+ghost use Rattle.j39_groups.specs.Shown.{reading_of};
+
+use crate::field::value_at;
+use crate::table::{Row, TABLE};
+use crate::value::Reading;
+use arrayvec::ArrayVec;
+use j39_frame::Pgn;
+
+/// All rows.
+pub(crate) fn rows() -> &'static [Row]
+    ensures table { result.now ≡ the_table }
+    ensures sound { IsTrue (is_sound_table result.now) }
+{
+    TABLE
+}
+
+/// Whether parameters of this group are read.
+#[tactic(auto, unfolding(crate::specs::Readings::is_reported_group))]
+pub fn is_reported(pgn: Pgn) -> bool
+    ensures { result ≡ is_reported_group (pgn_raw pgn) }
+{
+    has_group(rows(), pgn.raw())
+}
+
+fn has_group(rows: &[Row], pgn: u32) -> bool
+    ensures { result ≡ list_any (λ row. row.pgn == pgn) rows.now }
+{
+    rows.iter().any(|row| row.pgn == pgn)
+}
+
+/// What is read in a payload of this group, in the table's order; nothing for a group that is not
+/// reported. Texts are lent out of the payload.
+#[tactic(auto, unfolding(crate::specs::Readings::readings_of))]
+pub fn readings(pgn: Pgn, bytes: &[u8]) -> ArrayVec<Reading<'_>, 8>
+    ensures { map reading_of result.items ≡ readings_of (pgn_raw pgn) bytes.now }
+{
+    read_rows(rows(), pgn.raw(), bytes)
+}
+
+fn read_rows<'a>(rows: &[Row], pgn: u32, bytes: &'a [u8]) -> ArrayVec<Reading<'a>, 8>
+    requires { IsTrue (is_sound_table rows.now) }
+    ensures { map reading_of result.items
+        ≡ filter_map (reading_at bytes.now) (filter (λ row. row.pgn == pgn) rows.now) }
+{
+    let mut found = ArrayVec::new();
+    for row in rows {
+        if let Some(reading) = reading_in(bytes, row, pgn) {
+            found.push(reading);
+        }
+    }
+    found
+}
+
+/// What is read by one row, where it is one of this group.
+fn reading_in<'a>(bytes: &'a [u8], row: &Row, pgn: u32) -> Option<Reading<'a>>
+    requires { IsSound row.now.field }
+    ensures value { option_map reading_of result ≡ (if row.now.pgn == pgn then reading_at bytes.now row.now else None) }
+    ensures group { IsSome result → row.now.pgn ≡ pgn }
+{
+    if row.pgn != pgn {
+        return None;
+    }
+    let value = value_at(bytes, row.field)?;
+    Some(Reading {
+        spn: row.spn,
+        value,
+    })
+}

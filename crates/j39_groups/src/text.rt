@@ -1,0 +1,166 @@
+//! The text of a value (own).
+ghost use Rattle.std.specs.Prelude.{◌≡◌, ◌+◌, ◌*◌, ◌/◌, ◌%◌, ◌^◌, ◌<◌, ◌≤◌, ◌++◌, ◌∷◌, [], length, true, OnOk, OnErr};
+ghost use Rattle.std.specs.Io.KnownBytes.{Appends};
+ghost use Rattle.std.specs.List.{flat_map};
+ghost use Rattle.std.specs.Fmt.{decimal, digit_glyph};
+ghost use Rattle.arrayvec.specs.ArrayVec.{array_vec_len};
+ghost use Rattle.j39_frame.specs.Device.{Marks, AppendsFront};
+ghost use Rattle.j39_groups.specs.Shown.{value_of, slot_record};
+ghost use Rattle.j39_groups.specs.ValueText.{value_text, number_text, magnitude_text, pointed, byte_text, is_plain, quoted};
+
+use crate::slot::Slot;
+use crate::value::Value;
+use arrayvec::ArrayVec;
+use j39_frame::{DeviceFault, Sink, put_all};
+
+/// A sign, 20 digits, a point, 255 places, a space and a unit fit.
+type Text = ArrayVec<u8, 288>;
+
+/// Writes a value's text. After a fault a front of it was written.
+#[tactic(auto, unfolding(crate::specs::ValueText::value_text))]
+pub fn put_value<W: Sink>(value: &Value<'_>, sink: &mut W) -> Result<(), DeviceFault>
+    ensures ok { OnOk result (Appends (W.held sink.old) (W.held sink.new) (value_text (value_of value.now))) }
+    ensures err { OnErr result (AppendsFront (W.held sink.old) (W.held sink.new) (value_text (value_of value.now))) }
+    ensures mark { Marks result (W.has_failed sink.old) (W.has_failed sink.new) }
+{
+    match *value {
+        Value::Number(number, slot) => put_all(sink, number_text(number, slot).as_slice()),
+        Value::On => put_all(sink, b"on"),
+        Value::Off => put_all(sink, b"off"),
+        Value::Error => put_all(sink, b"error"),
+        Value::Reserved => put_all(sink, b"reserved"),
+        Value::Indicator => put_all(sink, b"indicator"),
+        Value::Text(text) => put_quoted(text, sink),
+    }
+}
+
+/// The number in decimal with its places, a space and the unit.
+fn number_text(number: i64, slot: Slot) -> Text
+    ensures { result.items ≡ number_text number (slot_record slot) }
+{
+    let mut out = ArrayVec::new();
+    if number.is_negative() {
+        out.push(b'-');
+    }
+    push_magnitude(&mut out, number.unsigned_abs(), slot.places());
+    out.push(b' ');
+    push_all(&mut out, slot.unit().as_bytes());
+    out
+}
+
+/// Appends bytes.
+fn push_all(out: &mut Text, bytes: &[u8])
+    requires { array_vec_len out.old + length bytes.now ≤ 288 }
+    ensures items { out.new.items ≡ out.old.items ++ bytes.now }
+    ensures len { array_vec_len out.new ≡ array_vec_len out.old + length bytes.now }
+{
+    let _ = out.try_extend_from_slice(bytes);
+}
+
+/// Appends a magnitude with its places.
+fn push_magnitude(out: &mut Text, magnitude: u64, places: u8)
+    requires { array_vec_len out.old + places + 21 ≤ 288 }
+    ensures items { out.new.items ≡ out.old.items ++ magnitude_text magnitude places }
+    ensures len { array_vec_len out.new ≤ array_vec_len out.old + places + 21 }
+{
+    if places == 0 {
+        push_whole(out, magnitude);
+    } else {
+        push_pointed(out, magnitude, places);
+    }
+}
+
+/// Appends the digits of a number.
+fn push_whole(out: &mut Text, value: u64)
+    requires { array_vec_len out.old + length (decimal value) ≤ 288 }
+    ensures items { out.new.items ≡ out.old.items ++ decimal value }
+    ensures len { array_vec_len out.new ≡ array_vec_len out.old + length (decimal value) }
+{
+    if value < 10 {
+        push_digit(out, value);
+    } else {
+        push_whole(out, value / 10);
+        push_digit(out, value % 10);
+    }
+}
+
+/// Appends the digits of a number with a point before the last `places` of them.
+fn push_pointed(out: &mut Text, value: u64, places: u8)
+    requires { array_vec_len out.old + places + 21 ≤ 288 }
+    ensures items { out.new.items ≡ out.old.items ++ pointed places value }
+    ensures len { array_vec_len out.new ≤ array_vec_len out.old + places + 21 }
+{
+    if places == 0 {
+        push_whole(out, value);
+        push_all(out, b".");
+    } else {
+        push_pointed(out, value / 10, places - 1);
+        push_digit(out, value % 10);
+    }
+}
+
+fn push_digit(out: &mut Text, digit: u64)
+    requires digit { digit < 10 }
+    requires room { array_vec_len out.old < 288 }
+    ensures items { out.new.items ≡ out.old.items ++ (48 + digit) ∷ [] }
+    ensures len { array_vec_len out.new ≡ array_vec_len out.old + 1 }
+{
+    out.push(b'0' + digit as u8);
+}
+
+/// Writes a text in quotes.
+fn put_quoted<W: Sink>(text: &[u8], sink: &mut W) -> Result<(), DeviceFault>
+    ensures ok { OnOk result (Appends (W.held sink.old) (W.held sink.new) (quoted text.now)) }
+    ensures err { OnErr result (AppendsFront (W.held sink.old) (W.held sink.new) (quoted text.now)) }
+    ensures mark { Marks result (W.has_failed sink.old) (W.has_failed sink.new) }
+{
+    put_all(sink, b"\"")?;
+    put_escaped(text, sink)?;
+    put_all(sink, b"\"")
+}
+
+/// Writes each byte as it is or escaped.
+fn put_escaped<W: Sink>(text: &[u8], sink: &mut W) -> Result<(), DeviceFault>
+    ensures ok { OnOk result (Appends (W.held sink.old) (W.held sink.new) (flat_map byte_text text.now)) }
+    ensures err { OnErr result (AppendsFront (W.held sink.old) (W.held sink.new) (flat_map byte_text text.now)) }
+    ensures mark { Marks result (W.has_failed sink.old) (W.has_failed sink.new) }
+{
+    for &byte in text {
+        put_all(sink, byte_text(byte).as_slice())?;
+    }
+    Ok(())
+}
+
+/// A printable byte as it is; any other, the quote and the backslash in hex.
+fn byte_text(byte: u8) -> ArrayVec<u8, 4>
+    ensures { result.items ≡ byte_text byte }
+{
+    let mut out = ArrayVec::new();
+    if is_plain(byte) {
+        out.push(byte);
+    } else {
+        out.push(b'\\');
+        out.push(b'x');
+        out.push(hex_digit(byte / 16));
+        out.push(hex_digit(byte % 16));
+    }
+    out
+}
+
+fn is_plain(byte: u8) -> bool
+    ensures { result ≡ is_plain byte }
+{
+    byte >= 0x20 && byte <= 0x7E && byte != b'"' && byte != b'\\'
+}
+
+/// A digit from 0 to 15 in upper-case hex.
+fn hex_digit(digit: u8) -> u8
+    requires { digit < 16 }
+    ensures { result ≡ digit_glyph true digit }
+{
+    if digit < 10 {
+        b'0' + digit
+    } else {
+        b'A' + (digit - 10)
+    }
+}

@@ -1,0 +1,41 @@
+//! What a parameter's raw value means.
+
+use crate::slot::Slot;
+
+/// A parameter's value.
+#[derive(Clone, Copy, Debug, PartialEq, Eq)]
+pub enum Value<'a> {
+    /// A valid number, `raw * step + offset`, and its slot.
+    Number(i64, Slot),
+    /// A switch that is on.
+    On,
+    /// A switch that is off.
+    Off,
+    /// The sender reports an error.
+    Error,
+    /// A raw value in the reserved range.
+    Reserved,
+    /// A raw value in the range of parameter specific indicators.
+    Indicator,
+    /// A text that is not empty, lent out of the payload.
+    Text(&'a [u8]),
+}
+
+/// A parameter that was read.
+#[derive(Clone, Copy, Debug, PartialEq, Eq)]
+pub struct Reading<'a> {
+    /// The parameter's number (SPN).
+    pub spn: u32,
+    /// Its value.
+    pub value: Value<'a>,
+}
+
+/// The filler of places that hold no reading yet.
+impl Default for Reading<'_> {
+    fn default() -> Self {
+        Reading {
+            spn: 0,
+            value: Value::Reserved,
+        }
+    }
+}
