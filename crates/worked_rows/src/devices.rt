@@ -1,0 +1,107 @@
+//! Devices that fail, and logs that are too long.
+use crate::bench::counts;
+use j39_cli::{RunFault, parse, perform, run};
+use j39_frame::{Bus, Told};
+use std::alloc::Global;
+use std::fs;
+use std::io::{self, ErrorKind, Read};
+use std::test::Fail;
+
+const LOG: &[u8] = b"(0000000001.000000) can0 18EEFF00#3412400100000080\n\
+    (0000000001.010000) can0 0CF00400#F0A096E02EFFFFFF\n";
+
+const TEXT: &[u8] = b"(0000000001.010000) 00 ---------------- 61444 512 35 %\n\
+    (0000000001.010000) 00 ---------------- 61444 513 25 %\n\
+    (0000000001.010000) 00 ---------------- 61444 190 1500.000 rpm\n";
+
+/// Gives its bytes, and then fails.
+#[derive(Drop)]
+struct Broken<'a> {
+    bytes: &'a [u8],
+}
+
+impl Read for Broken<'_> {
+    fn read(&mut self, buf: &mut [u8]) -> io::Result<usize> {
+        if self.bytes.is_empty() {
+            return Err(io::Error::from(ErrorKind::Other));
+        }
+        self.bytes.read(buf)
+    }
+}
+
+/// What `report` writes on standard error, and its status.
+fn status_of<R: Read + Drop>(alloc: Global, source: R, out: &mut [u8]) -> Result<(Vec<u8>, u8), Fail> {
+    let task = parse(alloc, &["j1939", "report"])?;
+    let mut err = Vec::new(alloc);
+    let status = perform(
+        alloc,
+        &task,
+        &mut Told::new(source),
+        &mut Told::new(out),
+        &mut Told::new(&mut err),
+    );
+    Ok((err, status))
+}
+
+#[test]
+fn log_at_the_limit(rt: HostRuntime) -> Result<(), Fail> {
+    let mut out = Vec::new(rt.alloc());
+    let met = run(rt.alloc(), &mut Told::new(LOG), &mut Told::new(&mut out), None, 102)?;
+    assert_eq!(rt; met, counts([2, 0, 0, 1, 3]));
+    assert_eq!(rt; out.as_slice(), TEXT);
+    let mut out = Vec::new(rt.alloc());
+    let met = run(rt.alloc(), &mut Told::new(LOG), &mut Told::new(&mut out), None, 101);
+    assert_eq!(rt; met, Err(RunFault::TooLong));
+    assert!(rt; out.is_empty());
+    Ok(())
+}
+
+#[test]
+fn faults_of_writer_and_reader(rt: HostRuntime) -> Result<(), Fail> {
+    let mut out = [0u8; 60];
+    let (err, status) = status_of(rt.alloc(), LOG, &mut out)?;
+    assert_eq!(rt; status, 1);
+    assert_eq!(rt; err.as_slice(), b"j1939: write failed\n".as_slice());
+    assert_eq!(rt; out.as_slice(), &TEXT[..60]);
+
+    let mut out = [0u8; 200];
+    let broken = Broken { bytes: &LOG[..51] };
+    let (err, status) = status_of(rt.alloc(), broken, &mut out)?;
+    assert_eq!(rt; status, 1);
+    assert_eq!(rt; err.as_slice(), b"j1939: read failed\n".as_slice());
+    assert_eq!(rt; out[0], 0);
+    Ok(())
+}
+
+#[test]
+fn counts_on_standard_error(rt: HostRuntime) -> Result<(), Fail> {
+    let mut out = [0u8; 200];
+    let (err, status) = status_of(rt.alloc(), LOG, &mut out)?;
+    assert_eq!(rt; status, 0);
+    assert_eq!(rt; err.as_slice(), b"frames 2 other 0 unread 0 messages 1 lines 3\n".as_slice());
+    assert_eq!(rt; &out[..TEXT.len()], TEXT);
+    Ok(())
+}
+
+#[test]
+fn bus_that_is_given(rt: HostRuntime) -> Result<(), Fail> {
+    let bus = Bus::new(b"can1");
+    let mut out = Vec::new(rt.alloc());
+    let met = run(rt.alloc(), &mut Told::new(LOG), &mut Told::new(&mut out), bus, 1000)?;
+    assert_eq!(rt; met, counts([0, 2, 0, 0, 0]));
+    assert!(rt; out.is_empty());
+    Ok(())
+}
+
+#[test]
+fn report_of_a_file(rt: HostRuntime) -> Result<(), Fail> {
+    let name = "eec1_with_a_claim.log";
+    fs::write(&rt, name, LOG)?;
+    let log = fs::open(&rt, name)?;
+    let mut out = [0u8; 200];
+    let (_, status) = status_of(rt.alloc(), log, &mut out)?;
+    assert_eq!(rt; status, 0);
+    assert_eq!(rt; &out[..TEXT.len()], TEXT);
+    fs::remove_file(&rt, name)?;
+    Ok(())
+}

@@ -1,0 +1,13 @@
+//! Worked examples that cross crates, each a test under its name. The library itself is empty.
+#![tactic(auto)]
+
+#[cfg(test)]
+mod bench;
+#[cfg(test)]
+mod devices;
+#[cfg(test)]
+mod identifiers;
+#[cfg(test)]
+mod lines;
+#[cfg(test)]
+mod values;
