@@ -62,10 +62,12 @@ fn faults_of_writer_and_reader(rt: HostRuntime) -> Result<(), Fail> {
     let (err, status) = status_of(rt.alloc(), LOG, &mut out)?;
     assert_eq!(rt; status, 1);
     assert_eq!(rt; err.as_slice(), b"j1939: write failed\n".as_slice());
-    assert_eq!(rt; out.as_slice(), &TEXT[..60]);
+    assert!(rt; TEXT.starts_with(&out));
 
     let mut out = [0u8; 200];
-    let broken = Broken { bytes: &LOG[..51] };
+    let broken = Broken {
+        bytes: b"(0000000001.000000) can0 18EEFF00#3412400100000080\n",
+    };
     let (err, status) = status_of(rt.alloc(), broken, &mut out)?;
     assert_eq!(rt; status, 1);
     assert_eq!(rt; err.as_slice(), b"j1939: read failed\n".as_slice());
@@ -79,7 +81,7 @@ fn counts_on_standard_error(rt: HostRuntime) -> Result<(), Fail> {
     let (err, status) = status_of(rt.alloc(), LOG, &mut out)?;
     assert_eq!(rt; status, 0);
     assert_eq!(rt; err.as_slice(), b"frames 2 other 0 unread 0 messages 1 lines 3\n".as_slice());
-    assert_eq!(rt; &out[..TEXT.len()], TEXT);
+    assert!(rt; out.starts_with(TEXT));
     Ok(())
 }
 
@@ -101,7 +103,7 @@ fn report_of_a_file(rt: HostRuntime) -> Result<(), Fail> {
     let mut out = [0u8; 200];
     let (_, status) = status_of(rt.alloc(), log, &mut out)?;
     assert_eq!(rt; status, 0);
-    assert_eq!(rt; &out[..TEXT.len()], TEXT);
+    assert!(rt; out.starts_with(TEXT));
     fs::remove_file(&rt, name)?;
     Ok(())
 }
