@@ -1,5 +1,5 @@
 //! What a command line asks for, and why it may ask for nothing.
-ghost use Rattle.std.specs.Prelude.{◌≡◌, option_map};
+ghost use Rattle.std.specs.Prelude.{◌≡◌, Some, option_map};
 ghost use Rattle.j39_cli.specs.Task.{argument_text, file_of};
 
 use j39_frame::{Bus, Id};
@@ -80,7 +80,7 @@ pub enum Argument {
 
 impl Argument {
     /// The argument as help spells it.
-    pub fn text(self) -> &'static str
+    pub(crate) fn text(self) -> &'static str
         ensures { result.now ≡ argument_text self }
     {
         match self {
@@ -96,6 +96,8 @@ impl Argument {
 }
 
 impl fmt::Display for Argument {
+    ghost output = { λ argument. Some (argument_text argument) };
+
     fn fmt<W: fmt::Write>(&self, f: &mut fmt::Formatter<W>) -> fmt::Result {
         f.write_str(self.text())
     }

@@ -1,5 +1,7 @@
+ghost use Rattle.std.specs.Prelude.{None, false};
+
 use crate::{Argument, ParseFault, Task, parse, refuse, unopened};
-use j39_frame::Told;
+use j39_frame::{DeviceFault, Sink, Told};
 use std::alloc::{AllocError, Global};
 use std::test::Fail;
 
@@ -208,4 +210,38 @@ fn says_what_cannot_be_opened(rt: HostRuntime) {
         1
     );
     assert_eq!(rt; full.as_slice(), b"j19".as_slice());
+}
+
+// A writer that notes whether what it took was passed on.
+#[derive(Drop)]
+struct Noted {
+    is_flushed: bool,
+}
+
+impl Sink for Noted {
+    ghost held = { λ _. None };
+
+    ghost has_failed = { λ _. false };
+
+    fn put(&mut self, bytes: &[u8]) -> Result<usize, DeviceFault> {
+        self.is_flushed = false;
+        Ok(bytes.len())
+    }
+
+    fn flush(&mut self) -> Result<(), DeviceFault> {
+        self.is_flushed = true;
+        Ok(())
+    }
+}
+
+#[test]
+fn passes_on_what_it_says(rt: HostRuntime) -> Result<(), Fail> {
+    let mut out = Noted { is_flushed: false };
+    let mut err = Noted { is_flushed: false };
+    let help = ParseFault::Help(String::from_str(rt.alloc(), "help\n")?);
+    refuse(&help, &mut out, &mut err);
+    assert!(rt; out.is_flushed && !err.is_flushed);
+    unopened("trip.log", &mut err);
+    assert!(rt; err.is_flushed);
+    Ok(())
 }

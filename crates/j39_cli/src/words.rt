@@ -117,7 +117,8 @@ fn bus_of(given: &ArgMatches<'_>) -> Result<Option<Bus>, ParseFault>
     }
 }
 
-// The value of an argument that clap requires.
+// The value of an argument that clap requires, so that it is there; where it isn't, the answer is the
+// one that every command may give.
 fn required<'a>(given: &ArgMatches<'a>, id: &str) -> Result<&'a str, ParseFault>
     ensures ok { IfOk result (λ text. first_value (found_of given.now) id.now ≡ Some text.now) }
     ensures err { IfErr result (λ _. first_value (found_of given.now) id.now ≡ None) }
