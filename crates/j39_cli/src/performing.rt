@@ -8,7 +8,7 @@ ghost use Rattle.j39_cli.specs.Fields.{id_text};
 ghost use Rattle.j39_cli.specs.Perform.{HasReport, PutsText};
 
 use crate::fields::{counts_line, id_line};
-use crate::refusal::complain;
+use crate::refusal::{complain, show};
 use crate::{RunFault, Task, run};
 use j39_frame::{Bus, DeviceFault, Id, Sink, Source, put_all};
 use std::alloc::Global;
@@ -59,9 +59,7 @@ fn perform_report<R: Source, W: Sink, E: Sink>(
 {
     match run(alloc, source, sink, copy_of(bus), LOG_LIMIT) {
         Ok(counts) => {
-            if put_all(err, counts_line(counts).as_slice()).is_ok() {
-                let _ = err.flush();
-            }
+            show(err, counts_line(counts).as_slice());
             0
         }
         Err(fault) => {

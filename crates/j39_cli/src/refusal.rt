@@ -1,5 +1,5 @@
 //! What the program says where it has no task, or can't open the log.
-ghost use Rattle.std.specs.Prelude.{◌≡◌, ◌↔◌, OnOk, codes, string_bytes};
+ghost use Rattle.std.specs.Prelude.{◌≡◌, ◌↔◌, OnOk, codes};
 ghost use Rattle.std.specs.Io.KnownBytes.{Appends};
 ghost use Rattle.j39_frame.specs.Device.{Marks};
 ghost use Rattle.j39_cli.specs.Refusal.{IsHelp, IsWrongLine, Writes, error_line, error_words, out_words};
@@ -22,11 +22,11 @@ pub fn refuse<W: Sink, E: Sink>(fault: &ParseFault, out: &mut W, err: &mut E) ->
 {
     match fault {
         ParseFault::Help(text) => {
-            show(out, text);
+            show(out, text.as_bytes());
             0
         }
         ParseFault::Usage(text) => {
-            show(err, text);
+            show(err, text.as_bytes());
             2
         }
         ParseFault::Memory => {
@@ -51,11 +51,11 @@ pub fn unopened<E: Sink>(file: &str, err: &mut E) -> u8
     1
 }
 
-// Writes the text, and passes it on. A fault shows in the mark alone.
-fn show<S: Sink>(sink: &mut S, text: &String)
-    ensures { Writes (S.held sink.old) (S.held sink.new) (S.has_failed sink.new) (string_bytes text.now) }
+/// Writes the text, and passes it on. A fault shows in the mark alone.
+pub(crate) fn show<S: Sink>(sink: &mut S, text: &[u8])
+    ensures { Writes (S.held sink.old) (S.held sink.new) (S.has_failed sink.new) text.now }
 {
-    if put_all(sink, text.as_bytes()).is_ok() {
+    if put_all(sink, text).is_ok() {
         let _ = sink.flush();
     }
 }
