@@ -3,6 +3,7 @@ ghost use Rattle.std.specs.Prelude.{None, false};
 use crate::{Argument, ParseFault, Task, parse, refuse, unopened};
 use j39_frame::{DeviceFault, Sink, Told};
 use std::alloc::{AllocError, Global};
+use std::process::Abort;
 use std::test::Fail;
 
 // The answer to a command line, in short.
@@ -110,54 +111,49 @@ fn names_the_file(rt: HostRuntime) -> Result<(), Fail> {
     Ok(())
 }
 
+// What is told of the fault, and that writers which take three bytes change no status.
+fn check_refusal(
+    rt: &impl Abort,
+    alloc: Global,
+    fault: &ParseFault,
+    status: u8,
+    told: (&str, &str),
+) {
+    let mut out = Vec::new(alloc);
+    let mut err = Vec::new(alloc);
+    let answer = refuse(fault, &mut Told::new(&mut out), &mut Told::new(&mut err));
+    assert_eq!(rt; answer, status);
+    assert_eq!(rt; out.as_slice(), told.0.as_bytes());
+    assert_eq!(rt; err.as_slice(), told.1.as_bytes());
+
+    let mut out = [0u8; 3];
+    let mut err = [0u8; 3];
+    let answer = refuse(
+        fault,
+        &mut Told::new(out.as_mut_slice()),
+        &mut Told::new(err.as_mut_slice()),
+    );
+    assert_eq!(rt; answer, status);
+}
+
 #[test]
 fn refuses(rt: HostRuntime) -> Result<(), Fail> {
     let alloc = rt.alloc();
-    let faults = [
-        (ParseFault::Memory, 1, "", "j1939: out of memory\n"),
-        (
-            ParseFault::Usage(String::from_str(alloc, "usage\n")?),
-            2,
-            "",
-            "usage\n",
-        ),
-        (
-            ParseFault::BadValue(Argument::Bus),
-            2,
-            "",
-            "j1939: bad value for --bus\n",
-        ),
-        (
-            ParseFault::BadValue(Argument::Hex),
-            2,
-            "",
-            "j1939: bad value for HEX\n",
-        ),
-        (
-            ParseFault::Help(String::from_str(alloc, "help\n")?),
-            0,
-            "help\n",
-            "",
-        ),
-    ];
-    for (fault, status, out_words, err_words) in faults.iter() {
-        let mut out = Vec::new(alloc);
-        let mut err = Vec::new(alloc);
-        let told = refuse(fault, &mut Told::new(&mut out), &mut Told::new(&mut err));
-        assert_eq!(rt; told, *status);
-        assert_eq!(rt; out.as_slice(), out_words.as_bytes());
-        assert_eq!(rt; err.as_slice(), err_words.as_bytes());
-
-        // Writers that take three bytes and then no more.
-        let mut out = [0u8; 3];
-        let mut err = [0u8; 3];
-        let told = refuse(
-            fault,
-            &mut Told::new(out.as_mut_slice()),
-            &mut Told::new(err.as_mut_slice()),
-        );
-        assert_eq!(rt; told, *status);
-    }
+    let usage = ParseFault::Usage(String::from_str(alloc, "usage\n")?);
+    let help = ParseFault::Help(String::from_str(alloc, "help\n")?);
+    let bus = ParseFault::BadValue(Argument::Bus);
+    let hex = ParseFault::BadValue(Argument::Hex);
+    check_refusal(&rt, alloc, &help, 0, ("help\n", ""));
+    check_refusal(
+        &rt,
+        alloc,
+        &ParseFault::Memory,
+        1,
+        ("", "j1939: out of memory\n"),
+    );
+    check_refusal(&rt, alloc, &usage, 2, ("", "usage\n"));
+    check_refusal(&rt, alloc, &bus, 2, ("", "j1939: bad value for --bus\n"));
+    check_refusal(&rt, alloc, &hex, 2, ("", "j1939: bad value for HEX\n"));
     Ok(())
 }
 
