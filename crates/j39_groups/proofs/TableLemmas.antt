@@ -1,18 +1,20 @@
 -- What holds of the whole table, row by row.
 use Rattle.std.proofs.Common.{◌≡◌, ◌<◌, ◌≤◌, ◌+◌, ◌==◌, ◌++◌, ℕ, List, [], ◌∷◌, Bool, length, get_or, take, zero, suc, refl, ap, ◌∙◌, sym, true, false, arith, rules, map, inl, inr}
-use Rattle.std.specs.Prelude.{cond, count_by, filter, if◌then◌else◌, Option, Some, None}
-use Rattle.std.specs.List.{filter_map}
+use Rattle.std.specs.Prelude.{cond, count_by, filter, slice_get,  if◌then◌else◌, Option, Some, None}
+use Rattle.std.specs.List.{filter_map, Contains}
 use Rattle.std.specs.Option.{option_to_list, option_map}
 use Rattle.std.proofs.lemmas.Grind.{common_steps}
 use Rattle.std.proofs.lemmas.Bool.{and_parts, cases_Bool, ltb-true, leb-true, eq-eqb}
 use Rattle.std.proofs.lemmas.List.Sums.{AllPass-from_list_all, count_by_more_yes, count_by_more_no, sum_by-take-le}
 use Rattle.std.proofs.lemmas.List.{map-append}
-use Rattle.std.proofs.lemmas.List.Elements.{filter_more, filter_map-append}
+use Rattle.std.proofs.lemmas.List.Elements.{All-contains, filter_more, filter_map-append}
 use Rattle.j39_groups.specs.declared.table.Field.{Field}
 use Rattle.j39_groups.specs.declared.table.Field.TheVariants.{Number, Switch, Text}
 use Rattle.j39_groups.specs.declared.table.Row.{Row}
 use Rattle.j39_groups.specs.Table.{the_table}
-use Rattle.j39_groups.specs.Sound.{is_sound_table, is_sound, IsSound}
+use Rattle.j39_groups.specs.Sound.{is_sound_table, is_sound_row, is_sound, IsSound}
+use Rattle.j39_groups.specs.Slots.{NumberRecord, number_at}
+use Rattle.j39_groups.proofs.ListLemmas.{lone, contains_filter_map}
 
 pub table_sound : is_sound_table the_table ≡ true
 unfolding the_table
@@ -41,7 +43,7 @@ pub room : (rows : List Row) (pgn i : ℕ) (d : Row) → is_sound_table rows ≡
     → count_by (λ row. row.pgn == pgn) (take i rows) < 8
 room rows pgn i d h below same =
     let each = AllPass-from_list_all _ rows h in
-    let whole : count_by (λ row. row.pgn == (get_or rows i d).pgn) rows ≤ 8 = leb-true _ _ (and_parts _ _ (each i d below)).1 in
+    let whole : count_by (λ row. row.pgn == (get_or rows i d).pgn) rows ≤ 8 = leb-true _ _ (and_parts _ _ (and_parts _ _ (each i d below)).1).0 in
     let group : count_by (λ row. row.pgn == pgn) rows ≤ 8 = rw same at whole in
     let front = sum_by-take-le (λ row. cond (row.pgn == pgn) 1 0) rows (i + 1) in
     let more = count_by_more_yes (λ row. row.pgn == pgn) rows i d below (eq-eqb _ _ same) in
@@ -83,3 +85,11 @@ counted_more p [] i below = absurd (omega arith)
 counted_more p (x ∷ xs) i below = elim (cases_Bool (p (get_or (x ∷ xs) i x))) [
     inl is_one ↦ let more = count_by_more_yes p (x ∷ xs) i x below is_one in omega (arith, more)
     | inr is_none ↦ let more = count_by_more_no p (x ∷ xs) i x below is_none in omega (arith, more) ]
+
+-- a parameter that is a number in one row is that number
+pub number_only : (rows : List Row) (row : Row) (n : NumberRecord) → is_sound_table rows ≡ true → Contains rows row
+    → number_at row.spn row ≡ Some n → slice_get (filter_map (number_at row.spn) rows) 0 ≡ Some n
+number_only rows row n h listed here =
+    let test = All-contains (λ r. is_sound_row rows r ≡ true) rows row (AllPass-from_list_all _ rows h) listed in
+    let few = leb-true _ _ (and_parts _ _ (and_parts _ _ test).1).1 in
+    lone _ n few (contains_filter_map (number_at row.spn) rows row n listed here)

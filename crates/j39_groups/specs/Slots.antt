@@ -46,3 +46,17 @@ pub record IsRawIn (n : NumberRecord) (value : ℤ) (raw : ℕ) : Type 0 where
 
 abbrev pub IsRawOf : ℕ → ℤ → ℕ → Type 0
 IsRawOf spn value raw = IsSomeAnd (number_of_spn spn) (λ n. IsRawIn n value raw)
+
+-- the bytes of the field hold this raw number
+abbrev pub HoldsIn : Field → List ℕ → ℕ → Type 0
+HoldsIn (Number first last slot) bytes raw = raw_number first last bytes ≡ Some raw
+HoldsIn (Switch byte bit) bytes raw = ⊥
+HoldsIn (Text part) bytes raw = ⊥
+
+-- the payload of the group holds this raw number of the parameter
+pub record Holds (pgn spn : ℕ) (bytes : List ℕ) (raw : ℕ) : Type 0 where
+  pub row : Row
+  pub listed : Contains the_table row
+  pub group : row.pgn ≡ pgn
+  pub parameter : row.spn ≡ spn
+  pub held : HoldsIn row.field bytes raw

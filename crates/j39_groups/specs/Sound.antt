@@ -1,10 +1,11 @@
 -- What holds of each row of the table, and of the table as a whole.
-use Rattle.std.specs.Prelude.{◌+◌, ◌-◌, ◌^◌, ◌<◌, ◌≤◌, ◌==◌, ◌&&◌, ℕ, List, Bool, nat_lt, nat_le, count_by}
-use Rattle.std.specs.List.{list_all}
+use Rattle.std.specs.Prelude.{◌+◌, ◌-◌, ◌^◌, ◌<◌, ◌≤◌, ◌==◌, ◌&&◌, ℕ, List, Bool, nat_lt, nat_le, count_by, length}
+use Rattle.std.specs.List.{list_all, filter_map}
 use Rattle.j39_groups.specs.declared.table.Field.{Field}
 use Rattle.j39_groups.specs.declared.table.Field.TheVariants.{Number, Switch, Text}
 use Rattle.j39_groups.specs.declared.table.Row.{Row}
 use Rattle.j39_groups.specs.declared.slot.Slot.{Slot}
+use Rattle.j39_groups.specs.Slots.{number_at}
 
 -- bytes, bits and parts count from 1; a number has one to four bytes, and its values fit 64 bits
 pub record IsSoundNumber (first last : ℕ) (slot : Slot) : Type 0 where
@@ -36,6 +37,11 @@ is_sound (Number first last slot) =
 is_sound (Switch byte bit) = nat_lt 0 byte && (nat_lt 0 bit && nat_lt bit 8)
 is_sound (Text part) = nat_lt 0 part
 
--- each row is sound, and no group has more than eight
+-- each row is sound, no group has more than eight, and no parameter is a number in two
+abbrev pub is_sound_row : List Row → Row → Bool
+is_sound_row rows row =
+    is_sound row.field
+    && (nat_le (count_by (λ other. other.pgn == row.pgn) rows) 8 && nat_le (length (filter_map (number_at row.spn) rows)) 1)
+
 abbrev pub is_sound_table : List Row → Bool
-is_sound_table rows = list_all (λ row. is_sound row.field && nat_le (count_by (λ other. other.pgn == row.pgn) rows) 8) rows
+is_sound_table rows = list_all (is_sound_row rows) rows

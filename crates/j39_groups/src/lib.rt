@@ -2,6 +2,7 @@
 #![tactic(auto)]
 
 mod field;
+pub mod laws;
 mod parameter;
 mod reading;
 mod slot;
