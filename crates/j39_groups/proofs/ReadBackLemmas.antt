@@ -27,7 +27,7 @@ has_number (Number first last slot) bytes raw held =
     (record { count = last - (first - 1); slot = slot_record slot }, refl,
      λ value is. ap (option_and_then (number_meaning (last - (first - 1)) (slot_record slot))) held
         ∙ valid_meaning (record { count = last - (first - 1); slot = slot_record slot }) value raw is)
-has_number (Switch byte bit) bytes raw held = absurd held
+has_number (Switch byte low high) bytes raw held = absurd held
 has_number (Text part) bytes raw held = absurd held
 
 pub reads_back : (pgn spn raw : ℕ) (value : ℤ) (bytes : List ℕ) → Holds pgn spn bytes raw → IsRawOf spn value raw

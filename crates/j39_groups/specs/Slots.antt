@@ -21,7 +21,7 @@ number_record n = record { count = n.count; slot = slot_record n.slot }
 
 abbrev pub number_in : Field → Option NumberRecord
 number_in (Number first last slot) = Some (record { count = last - (first - 1); slot = slot_record slot })
-number_in (Switch byte bit) = None
+number_in (Switch byte low high) = None
 number_in (Text part) = None
 
 -- the number of this parameter in a row
@@ -50,7 +50,7 @@ IsRawOf spn value raw = IsSomeAnd (number_of_spn spn) (λ n. IsRawIn n value raw
 -- the bytes of the field hold this raw number
 abbrev pub HoldsIn : Field → List ℕ → ℕ → Type 0
 HoldsIn (Number first last slot) bytes raw = raw_number first last bytes ≡ Some raw
-HoldsIn (Switch byte bit) bytes raw = ⊥
+HoldsIn (Switch byte low high) bytes raw = ⊥
 HoldsIn (Text part) bytes raw = ⊥
 
 -- the payload of the group holds this raw number of the parameter
