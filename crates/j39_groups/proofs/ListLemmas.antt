@@ -1,6 +1,6 @@
 -- Elements of lists.
-use Rattle.std.proofs.Common.{◌≡◌, ◌<◌, ◌≤◌, ◌+◌, ℕ, zero, suc, List, [], ◌∷◌, ◌++◌, Bool, true, length, take, drop, get_or, refl, ap, ◌∙◌, sym, subst, arith, take-append-drop, drop-cons}
-use Rattle.std.specs.Prelude.{Option, Some, None, slice_get, filter}
+use Rattle.std.proofs.Common.{◌≡◌, ◌<◌, ◌≤◌, ℕ, zero, suc, List, [], ◌∷◌, ◌++◌, Bool, true, length, take, drop, get_or, refl, ap, ◌∙◌, sym, arith, take-append-drop, drop-cons}
+use Rattle.std.specs.Prelude.{Option, Some, slice_get, filter}
 use Rattle.std.specs.List.{filter_map, Contains}
 use Rattle.std.proofs.lemmas.List.Elements.{filter-append, filter_map-append, Contains-append_right}
 
@@ -15,13 +15,13 @@ cut_at xs x k below here =
 pub contains_filter : {X : Type 0} (p : X → Bool) (xs : List X) (x : X) → Contains xs x → p x ≡ true → Contains (filter p xs) x
 contains_filter p xs x (k, below, here) passes =
     let whole : filter p xs ≡ filter p (take k xs) ++ (x ∷ filter p (drop (suc k) xs)) =
-        ap (filter p) (cut_at xs x k below here) ∙ (filter-append p (take k xs) (x ∷ drop (suc k) xs) ∙ (rw passes refl)) in
+    ap (filter p) (cut_at xs x k below here) ∙ (filter-append p (take k xs) (x ∷ drop (suc k) xs) ∙ (rw passes refl)) in
     rw whole (Contains-append_right (filter p (take k xs)) (x ∷ filter p (drop (suc k) xs)) x (contains_head x (filter p (drop (suc k) xs))))
 
 pub contains_filter_map : {X Y : Type 0} (f : X → Option Y) (xs : List X) (x : X) (y : Y) → Contains xs x → f x ≡ Some y → Contains (filter_map f xs) y
 contains_filter_map f xs x y (k, below, here) gives =
     let whole : filter_map f xs ≡ filter_map f (take k xs) ++ (y ∷ filter_map f (drop (suc k) xs)) =
-        ap (filter_map f) (cut_at xs x k below here) ∙ (filter_map-append f (take k xs) (x ∷ drop (suc k) xs) ∙ (rw gives refl)) in
+    ap (filter_map f) (cut_at xs x k below here) ∙ (filter_map-append f (take k xs) (x ∷ drop (suc k) xs) ∙ (rw gives refl)) in
     rw whole (Contains-append_right (filter_map f (take k xs)) (y ∷ filter_map f (drop (suc k) xs)) y (contains_head y (filter_map f (drop (suc k) xs))))
 
 -- the only element is the first

@@ -1,11 +1,10 @@
 -- What holds of the whole table, row by row.
-use Rattle.std.proofs.Common.{◌≡◌, ◌<◌, ◌≤◌, ◌+◌, ◌%◌, ◌==◌, ◌++◌, ℕ, eqb, List, [], ◌∷◌, Bool, length, get_or, take, zero, suc, refl, ap, ◌∙◌, sym, true, false, arith, rules, map, inl, inr}
+use Rattle.std.proofs.Common.{◌≡◌, ◌<◌, ◌≤◌, ◌+◌, ◌%◌, ◌==◌, ◌++◌, ℕ, eqb, List, [], ◌∷◌, Bool, length, get_or, take, refl, ap, ◌∙◌, true, false, arith, map, inl, inr}
 use Rattle.std.specs.Bool.{OnFalse}
 use Rattle.std.proofs.lemmas.Nat.{and_mask}
-use Rattle.std.specs.Prelude.{bit_and, cond, count_by, filter, slice_get,  if◌then◌else◌, Option, Some, None}
+use Rattle.std.specs.Prelude.{bit_and, cond, count_by, filter, slice_get, if◌then◌else◌, Option, Some, None}
 use Rattle.std.specs.List.{filter_map, Contains, All, list_all}
 use Rattle.std.specs.Option.{option_to_list, option_map}
-use Rattle.std.proofs.lemmas.Grind.{common_steps}
 use Rattle.std.proofs.lemmas.Bool.{and_parts, cases_Bool, ltb-true, leb-true, eq-eqb, eqb-true, eqb-false, ne_eqb}
 use Rattle.std.proofs.lemmas.List.Sums.{AllPass-from_list_all, count_by_more_yes, count_by_more_no, sum_by-take-le}
 use Rattle.std.proofs.lemmas.List.{map-append}
@@ -56,15 +55,15 @@ chosen_one : {X Y : Type 0} (f : X → Option Y) (b : Bool) (x : X)
     → filter_map f (if b then (x ∷ []) else []) ≡ option_to_list (if b then f x else None)
 chosen_one f true x = given (f x)
   where
-  given : {Y : Type 0} (o : Option Y) → filter_map (λ (u : Unit {0}). o) (tt ∷ []) ≡ option_to_list o
-  given None = refl
-  given (Some y) = refl
+    given : {Y : Type 0} (o : Option Y) → filter_map (λ (u : Unit {0}). o) (tt ∷ []) ≡ option_to_list o
+    given None = refl
+    given (Some y) = refl
 chosen_one f false x = refl
 
 -- what a filtered list gives grows by what its next element gives
 pub chosen_more : {X Y : Type 0} (f : X → Option Y) (p : X → Bool) (xs : List X) (i : ℕ) (d : X) → i < length xs
     → filter_map f (filter p (take (i + 1) xs))
-        ≡ filter_map f (filter p (take i xs)) ++ option_to_list (if p (get_or xs i d) then f (get_or xs i d) else None)
+    ≡ filter_map f (filter p (take i xs)) ++ option_to_list (if p (get_or xs i d) then f (get_or xs i d) else None)
 chosen_more f p xs i d below =
     let next = get_or xs i d in
     ap (filter_map f) (filter_more p xs i d below) ∙ (filter_map-append f (filter p (take i xs)) (if p next then (next ∷ []) else [])
@@ -86,8 +85,9 @@ pushed view f p xs i d below old o before next =
 pub counted_more : {X : Type 0} (p : X → Bool) (xs : List X) (i : ℕ) → i < length xs → count_by p (take i xs) ≤ count_by p (take (i + 1) xs)
 counted_more p [] i below = absurd (omega arith)
 counted_more p (x ∷ xs) i below = elim (cases_Bool (p (get_or (x ∷ xs) i x))) [
-    inl is_one ↦ let more = count_by_more_yes p (x ∷ xs) i x below is_one in omega (arith, more)
-    | inr is_none ↦ let more = count_by_more_no p (x ∷ xs) i x below is_none in omega (arith, more) ]
+  | inl is_one ↦ let more = count_by_more_yes p (x ∷ xs) i x below is_one in omega (arith, more)
+  | inr is_none ↦ let more = count_by_more_no p (x ∷ xs) i x below is_none in omega (arith, more)
+]
 
 -- a parameter that is a number in one row is that number
 pub number_only : (rows : List Row) (row : Row) (n : NumberRecord) → is_sound_table rows ≡ true → Contains rows row
@@ -115,5 +115,6 @@ pub on_unset : (b : ℕ) (P : Type 0) → (b % 2 ≡ 0 → P) → OnFalse (eqb (
 on_unset b P f =
     let last : bit_and b 1 ≡ b % 2 = and_mask b 1 in
     elim (cases_Bool (eqb (bit_and b 1) 1)) [
-    inl is_set ↦ rw is_set tt
-    | inr is_unset ↦ let other = eqb-false (bit_and b 1) 1 is_unset in rw is_unset (f (omega (arith, last, other))) ]
+      | inl is_set ↦ rw is_set tt
+      | inr is_unset ↦ let other = eqb-false (bit_and b 1) 1 is_unset in rw is_unset (f (omega (arith, last, other)))
+    ]

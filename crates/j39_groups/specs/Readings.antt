@@ -1,5 +1,5 @@
 -- What is read in the payload of a group (J1939-71).
-use Rattle.std.specs.Prelude.{◌+◌, ◌-◌, ◌*◌, ◌/◌, ◌%◌, ◌^◌, ◌+ℤ◌, ◌*ℤ◌, ◌==◌, ℕ, pos, List, [], ◌∷◌, length, Bool, Option, Some, None, if◌then◌else◌, nat_le, slice_get, slice_range, filter}
+use Rattle.std.specs.Prelude.{◌-◌, ◌/◌, ◌%◌, ◌^◌, ◌+ℤ◌, ◌*ℤ◌, ◌==◌, ℕ, pos, List, length, Bool, Option, Some, None, if◌then◌else◌, nat_le, slice_get, slice_range, filter}
 use Rattle.std.specs.Option.{option_map, option_and_then}
 use Rattle.std.specs.List.{filter_map, list_any}
 use Rattle.byteorder.specs.Endian.{little_number}

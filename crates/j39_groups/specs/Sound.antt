@@ -1,5 +1,5 @@
 -- What holds of each row of the table, and of the table as a whole.
-use Rattle.std.specs.Prelude.{◌≡◌, ◌+◌, ◌-◌, ◌^◌, ◌<◌, ◌≤◌, ◌==◌, ◌&&◌, ℕ, List, Bool, nat_lt, nat_le, count_by, length}
+use Rattle.std.specs.Prelude.{◌≡◌, ◌+◌, ◌^◌, ◌<◌, ◌≤◌, ◌==◌, ◌&&◌, ℕ, List, Bool, nat_lt, nat_le, count_by, length}
 use Rattle.std.specs.List.{list_all, filter_map}
 use Rattle.j39_groups.specs.declared.table.Field.{Field}
 use Rattle.j39_groups.specs.declared.table.Field.TheVariants.{Number, Switch, Text}

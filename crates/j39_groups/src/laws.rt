@@ -10,13 +10,11 @@ ghost use Rattle.j39_groups.specs.Slots.{Holds, IsRawOf, slot_of_spn};
 pub fn one_list_of_parts()
     ensures found { (bytes : List ℕ) → AreParts bytes (parts_of bytes) }
     ensures only { (bytes : List ℕ) (parts : List (List ℕ)) → AreParts bytes parts → parts ≡ parts_of bytes }
-{
-}
+{}
 
 /// Where a payload holds the raw number of a value, the value is read.
 pub fn raw_reads_back()
     ensures { (pgn spn raw : ℕ) (value : ℤ) (bytes : List ℕ) → Holds pgn spn bytes raw → IsRawOf spn value raw
         → IsSomeAnd (slot_of_spn spn) (λ slot.
-            Contains (readings_of pgn bytes) (record { spn = spn; value = number value slot })) }
-{
-}
+        Contains (readings_of pgn bytes) (record { spn = spn; value = number value slot })) }
+{}

@@ -197,7 +197,10 @@ fn switches(rt: HostRuntime) -> Result<(), Fail> {
             let mut whole = [0xFF; 9];
             *whole.get_mut(place - 1).ok_or("place")? = byte;
             assert_eq!(rt; read(65265, spn, &whole), value);
-            assert_eq!(rt; read(65265, spn, whole.get(..place - 1).ok_or("short")?), None);
+            assert_eq!(rt;
+                read(65265, spn, whole.get(..place - 1).ok_or("short")?),
+                None
+            );
         }
         assert_eq!(rt; slot_of(spn), None);
         assert_eq!(rt; raw_of(spn, 0), None);
@@ -222,7 +225,10 @@ fn texts(rt: HostRuntime) {
         (b"make*", [b"make", b"none", b"none", b"none"]),
         (b"*model", [b"none", b"model", b"none", b"none"]),
         (b"a*b*c*d*e", [b"a", b"b", b"c", b"d"]),
-        (b"a**\"\\*\x00\x7F\xFF", [b"a", b"none", b"\"\\", b"\x00\x7F\xFF"]),
+        (
+            b"a**\"\\*\x00\x7F\xFF",
+            [b"a", b"none", b"\"\\", b"\x00\x7F\xFF"],
+        ),
         (b"\xFF\xFF*x", [b"\xFF\xFF", b"x", b"none", b"none"]),
     ];
     for (bytes, [make, model, serial, unit]) in cases {
