@@ -1,11 +1,11 @@
 -- What holds of the whole table, row by row.
-use Rattle.std.proofs.Common.{◌≡◌, ◌<◌, ◌≤◌, ◌+◌, ◌%◌, ◌==◌, ◌++◌, ℕ, eqb, List, [], ◌∷◌, Bool, length, get_or, take, refl, ap, ◌∙◌, true, false, arith, map, inl, inr}
+use Rattle.std.proofs.Common.{sym, ◌≡◌, ◌<◌, ◌≤◌, ◌+◌, ◌%◌, ◌==◌, ◌++◌, ℕ, eqb, List, [], ◌∷◌, Bool, length, get_or, take, refl, ap, ◌∙◌, true, false, arith, map, inl, inr}
 use Rattle.std.specs.Bool.{OnFalse}
 use Rattle.std.proofs.lemmas.Nat.{and_mask}
 use Rattle.std.specs.Prelude.{bit_and, cond, count_by, filter, slice_get, if◌then◌else◌, Option, Some, None}
-use Rattle.std.specs.List.{filter_map, Contains, All, list_all}
+use Rattle.std.specs.List.{filter_map, Contains, All, list_all, list_any}
 use Rattle.std.specs.Option.{option_to_list, option_map}
-use Rattle.std.proofs.lemmas.Bool.{and_parts, cases_Bool, ltb-true, leb-true, eq-eqb, eqb-true, eqb-false, ne_eqb}
+use Rattle.std.proofs.lemmas.Bool.{and_parts, cases_Bool, ltb-true, leb-true, eq-eqb, eqb-true, eqb-false, ne_eqb, false≢true}
 use Rattle.std.proofs.lemmas.List.Sums.{AllPass-from_list_all, count_by_more_yes, count_by_more_no, sum_by-take-le}
 use Rattle.std.proofs.lemmas.List.{map-append}
 use Rattle.std.proofs.lemmas.List.Elements.{All-contains, All-head, All-tail, filter_more, filter_map-append}
@@ -118,3 +118,10 @@ on_unset b P f =
       | inl is_set ↦ rw is_set tt
       | inr is_unset ↦ let other = eqb-false (bit_and b 1) 1 is_unset in rw is_unset (f (omega (arith, last, other)))
     ]
+
+pub filter_unlisted : {X : Type 0} (p : X → Bool) (xs : List X) → list_any p xs ≡ false → filter p xs ≡ []
+filter_unlisted p [] h = refl
+filter_unlisted p (x ∷ xs) h = elim (cases_Bool (p x)) [
+  | inl passes ↦ let same : list_any p (x ∷ xs) ≡ true = rw passes refl in absurd (false≢true (sym h ∙ same))
+  | inr fails ↦ let rest : list_any p xs ≡ false = rw fails at h in rw fails (filter_unlisted p xs rest)
+]
