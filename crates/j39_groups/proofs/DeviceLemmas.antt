@@ -1,6 +1,6 @@
 -- Writes one after another.
-use Rattle.std.proofs.Common.{◌≡◌, ℕ, List, [], ◌∷◌, ◌++◌, refl, ap, ◌∙◌, sym, append_assoc, append-nil, ◌<◌, suc, length, take, drop, get_or, take-append-drop, drop-cons}
-use Rattle.std.specs.Prelude.{Option, Some, None, Result, Ok, Err, OnErr}
+use Rattle.std.proofs.Common.{◌≡◌, ℕ, List, ◌∷◌, ◌++◌, refl, ap, ◌∙◌, sym, append_assoc, ◌<◌, suc, length, take, drop, get_or, take-append-drop, drop-cons}
+use Rattle.std.specs.Prelude.{Option, Result, Ok, Err, OnErr}
 use Rattle.std.specs.Io.KnownBytes.{Appends}
 use Rattle.std.proofs.KnownBytes.{Appends-trans}
 use Rattle.std.specs.List.{flat_map}
@@ -11,10 +11,12 @@ use Rattle.j39_frame.specs.Device.{AppendsFront}
 -- a fault in the middle
 pub front_within : (old mid new : Option (List ℕ)) (a b rest all : List ℕ) → all ≡ a ++ (b ++ rest)
     → Appends old mid a → AppendsFront mid new b → AppendsFront old new all
-front_within old mid new a b rest all same first (front, left, cut, second) =
-    (a ++ front, left ++ rest,
-     same ∙ (rw (cut, append_assoc, append_assoc) refl),
-     Appends-trans old mid new a front first second)
+front_within old mid new a b rest all same first (front, left, cut, second) = (
+  a ++ front,
+  left ++ rest,
+  same ∙ (rw (cut, append_assoc, append_assoc) refl),
+  Appends-trans old mid new a front first second,
+)
 
 -- a fault at the first
 pub front_first : (old new : Option (List ℕ)) (b rest all : List ℕ) → all ≡ b ++ rest → AppendsFront old new b → AppendsFront old new all

@@ -1,5 +1,8 @@
 pub mod NumberLemmas
+pub mod ListLemmas
+pub mod PartsLemmas
 pub mod TableLemmas
 pub mod TextLemmas
 pub mod DeviceLemmas
 pub mod SlotLemmas
+pub mod ReadBackLemmas

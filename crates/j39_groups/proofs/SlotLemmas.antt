@@ -1,7 +1,7 @@
 -- The first that a list gives, and steps.
-use Rattle.std.proofs.Common.{◌≡◌, ◌<◌, ◌≤◌, ◌+◌, ◌-◌, ◌*◌, ◌/◌, ◌^◌, ℕ, zero, suc, List, [], ◌∷◌, ◌++◌, length, take, drop, get_or, refl, ap, ◌∙◌, sym, arith, take-append-drop, drop-cons}
+use Rattle.std.proofs.Common.{◌≡◌, ◌<◌, ◌≤◌, ◌+◌, ◌-◌, ◌*◌, ◌/◌, ◌^◌, ℕ, suc, List, [], ◌∷◌, ◌++◌, length, take, drop, get_or, refl, ap, ◌∙◌, sym, arith, take-append-drop, drop-cons}
 use Rattle.std.specs.Prelude.{Option, Some, None, slice_get, Result, Ok, Err, OkIff}
-use Rattle.std.specs.List.{filter_map, cons_option}
+use Rattle.std.specs.List.{filter_map}
 use Rattle.std.specs.Result.{result_ok}
 use Rattle.std.proofs.lemmas.List.{take_more}
 use Rattle.std.proofs.lemmas.List.Elements.{filter_map-append}
@@ -15,7 +15,7 @@ pub first_found : {X Y : Type 0} (f : X → Option Y) (xs : List X) (i : ℕ) (d
 first_found f xs i d y below none here =
     let cut : xs ≡ take i xs ++ (get_or xs i d ∷ drop (suc i) xs) = sym (take-append-drop i xs) ∙ ap (λ ys. take i xs ++ ys) (drop-cons xs i d below) in
     let whole : filter_map f xs ≡ y ∷ filter_map f (drop (suc i) xs) =
-        ap (filter_map f) cut ∙ filter_map-append f (take i xs) (get_or xs i d ∷ drop (suc i) xs) ∙ (rw (none, here) refl) in
+    ap (filter_map f) cut ∙ filter_map-append f (take i xs) (get_or xs i d ∷ drop (suc i) xs) ∙ (rw (none, here) refl) in
     rw whole refl
 
 pub none_more : {X Y : Type 0} (f : X → Option Y) (xs : List X) (i : ℕ) (d : X) → i < length xs

@@ -1,18 +1,21 @@
 -- What holds of the whole table, row by row.
-use Rattle.std.proofs.Common.{◌≡◌, ◌<◌, ◌≤◌, ◌+◌, ◌==◌, ◌++◌, ℕ, List, [], ◌∷◌, Bool, length, get_or, take, zero, suc, refl, ap, ◌∙◌, sym, true, false, arith, rules, map, inl, inr}
-use Rattle.std.specs.Prelude.{cond, count_by, filter, if◌then◌else◌, Option, Some, None}
-use Rattle.std.specs.List.{filter_map}
+use Rattle.std.proofs.Common.{sym, ◌≡◌, ◌<◌, ◌≤◌, ◌+◌, ◌%◌, ◌==◌, ◌++◌, ℕ, eqb, List, [], ◌∷◌, Bool, length, get_or, take, refl, ap, ◌∙◌, true, false, arith, map, inl, inr}
+use Rattle.std.specs.Bool.{OnFalse}
+use Rattle.std.proofs.lemmas.Nat.{and_mask}
+use Rattle.std.specs.Prelude.{bit_and, cond, count_by, filter, slice_get, if◌then◌else◌, Option, Some, None}
+use Rattle.std.specs.List.{filter_map, Contains, All, list_all, list_any}
 use Rattle.std.specs.Option.{option_to_list, option_map}
-use Rattle.std.proofs.lemmas.Grind.{common_steps}
-use Rattle.std.proofs.lemmas.Bool.{and_parts, cases_Bool, ltb-true, leb-true, eq-eqb}
+use Rattle.std.proofs.lemmas.Bool.{and_parts, cases_Bool, ltb-true, leb-true, eq-eqb, eqb-true, eqb-false, ne_eqb, false≢true}
 use Rattle.std.proofs.lemmas.List.Sums.{AllPass-from_list_all, count_by_more_yes, count_by_more_no, sum_by-take-le}
 use Rattle.std.proofs.lemmas.List.{map-append}
-use Rattle.std.proofs.lemmas.List.Elements.{filter_more, filter_map-append}
+use Rattle.std.proofs.lemmas.List.Elements.{All-contains, All-head, All-tail, filter_more, filter_map-append}
 use Rattle.j39_groups.specs.declared.table.Field.{Field}
 use Rattle.j39_groups.specs.declared.table.Field.TheVariants.{Number, Switch, Text}
 use Rattle.j39_groups.specs.declared.table.Row.{Row}
-use Rattle.j39_groups.specs.Table.{the_table}
-use Rattle.j39_groups.specs.Sound.{is_sound_table, is_sound, IsSound}
+use Rattle.j39_groups.specs.Table.{the_table, low_bit}
+use Rattle.j39_groups.specs.Sound.{is_sound_table, is_sound_row, is_sound, IsSound}
+use Rattle.j39_groups.specs.Slots.{NumberRecord, number_at}
+use Rattle.j39_groups.proofs.ListLemmas.{lone, contains_filter_map}
 
 pub table_sound : is_sound_table the_table ≡ true
 unfolding the_table
@@ -25,10 +28,11 @@ field_sound (Number first last slot) h =
     let c = and_parts _ _ b.1 in
     let d = and_parts _ _ c.1 in
     record { starts = ltb-true _ _ a.0; ordered = leb-true _ _ b.0; narrow = ltb-true _ _ c.0; rises = ltb-true _ _ d.0; small = ltb-true _ _ d.1 }
-field_sound (Switch byte bit) h =
+field_sound (Switch byte low high) h =
     let a = and_parts _ _ h in
     let b = and_parts _ _ a.1 in
-    record { starts = ltb-true _ _ a.0; low = ltb-true _ _ b.0; high = ltb-true _ _ b.1 }
+    let c = and_parts _ _ b.1 in
+    record { byte_starts = ltb-true _ _ a.0; starts = ltb-true _ _ b.0; two = eqb-true _ _ c.0; ends = leb-true _ _ c.1 }
 field_sound (Text part) h = ltb-true _ _ h
 
 pub row_sound : (rows : List Row) (i : ℕ) (d : Row) → is_sound_table rows ≡ true → i < length rows → IsSound (get_or rows i d).field
@@ -41,7 +45,7 @@ pub room : (rows : List Row) (pgn i : ℕ) (d : Row) → is_sound_table rows ≡
     → count_by (λ row. row.pgn == pgn) (take i rows) < 8
 room rows pgn i d h below same =
     let each = AllPass-from_list_all _ rows h in
-    let whole : count_by (λ row. row.pgn == (get_or rows i d).pgn) rows ≤ 8 = leb-true _ _ (and_parts _ _ (each i d below)).1 in
+    let whole : count_by (λ row. row.pgn == (get_or rows i d).pgn) rows ≤ 8 = leb-true _ _ (and_parts _ _ (and_parts _ _ (each i d below)).1).0 in
     let group : count_by (λ row. row.pgn == pgn) rows ≤ 8 = rw same at whole in
     let front = sum_by-take-le (λ row. cond (row.pgn == pgn) 1 0) rows (i + 1) in
     let more = count_by_more_yes (λ row. row.pgn == pgn) rows i d below (eq-eqb _ _ same) in
@@ -51,15 +55,15 @@ chosen_one : {X Y : Type 0} (f : X → Option Y) (b : Bool) (x : X)
     → filter_map f (if b then (x ∷ []) else []) ≡ option_to_list (if b then f x else None)
 chosen_one f true x = given (f x)
   where
-  given : {Y : Type 0} (o : Option Y) → filter_map (λ (u : Unit {0}). o) (tt ∷ []) ≡ option_to_list o
-  given None = refl
-  given (Some y) = refl
+    given : {Y : Type 0} (o : Option Y) → filter_map (λ (u : Unit {0}). o) (tt ∷ []) ≡ option_to_list o
+    given None = refl
+    given (Some y) = refl
 chosen_one f false x = refl
 
 -- what a filtered list gives grows by what its next element gives
 pub chosen_more : {X Y : Type 0} (f : X → Option Y) (p : X → Bool) (xs : List X) (i : ℕ) (d : X) → i < length xs
     → filter_map f (filter p (take (i + 1) xs))
-        ≡ filter_map f (filter p (take i xs)) ++ option_to_list (if p (get_or xs i d) then f (get_or xs i d) else None)
+    ≡ filter_map f (filter p (take i xs)) ++ option_to_list (if p (get_or xs i d) then f (get_or xs i d) else None)
 chosen_more f p xs i d below =
     let next = get_or xs i d in
     ap (filter_map f) (filter_more p xs i d below) ∙ (filter_map-append f (filter p (take i xs)) (if p next then (next ∷ []) else [])
@@ -81,5 +85,43 @@ pushed view f p xs i d below old o before next =
 pub counted_more : {X : Type 0} (p : X → Bool) (xs : List X) (i : ℕ) → i < length xs → count_by p (take i xs) ≤ count_by p (take (i + 1) xs)
 counted_more p [] i below = absurd (omega arith)
 counted_more p (x ∷ xs) i below = elim (cases_Bool (p (get_or (x ∷ xs) i x))) [
-    inl is_one ↦ let more = count_by_more_yes p (x ∷ xs) i x below is_one in omega (arith, more)
-    | inr is_none ↦ let more = count_by_more_no p (x ∷ xs) i x below is_none in omega (arith, more) ]
+  | inl is_one ↦ let more = count_by_more_yes p (x ∷ xs) i x below is_one in omega (arith, more)
+  | inr is_none ↦ let more = count_by_more_no p (x ∷ xs) i x below is_none in omega (arith, more)
+]
+
+-- a parameter that is a number in one row is that number
+pub number_only : (rows : List Row) (row : Row) (n : NumberRecord) → is_sound_table rows ≡ true → Contains rows row
+    → number_at row.spn row ≡ Some n → slice_get (filter_map (number_at row.spn) rows) 0 ≡ Some n
+number_only rows row n h listed here =
+    let test = All-contains (λ r. is_sound_row rows r ≡ true) rows row (AllPass-from_list_all _ rows h) listed in
+    let few = leb-true _ _ (and_parts _ _ (and_parts _ _ test).1).1 in
+    lone _ n few (contains_filter_map (number_at row.spn) rows row n listed here)
+
+low_bits_set : list_all (λ row. low_bit row.pgn == 1) the_table ≡ true
+unfolding the_table low_bit
+low_bits_set = refl
+
+-- where the bit of a group's low byte is not set, no row is the group's
+pub other_rows : (pgn : ℕ) → low_bit pgn ≡ 0 → All (λ row. (row.pgn == pgn) ≡ false) the_table
+other_rows pgn unset k d below =
+    let set = eqb-true _ _ (AllPass-from_list_all (λ row. low_bit row.pgn == 1) the_table low_bits_set k d below) in
+    ne_eqb _ _ (λ same. let at : low_bit pgn ≡ 1 = rw (← same) set in absurd (omega (arith, at, unset)))
+
+pub filter_none : {X : Type 0} (p : X → Bool) (xs : List X) → All (λ x. p x ≡ false) xs → filter p xs ≡ []
+filter_none p [] h = refl
+filter_none p (x ∷ xs) h = rw (All-head (λ x. p x ≡ false) x xs h) (filter_none p xs (All-tail (λ x. p x ≡ false) x xs h))
+
+pub on_unset : (b : ℕ) (P : Type 0) → (b % 2 ≡ 0 → P) → OnFalse (eqb (bit_and b 1) 1) P
+on_unset b P f =
+    let last : bit_and b 1 ≡ b % 2 = and_mask b 1 in
+    elim (cases_Bool (eqb (bit_and b 1) 1)) [
+      | inl is_set ↦ rw is_set tt
+      | inr is_unset ↦ let other = eqb-false (bit_and b 1) 1 is_unset in rw is_unset (f (omega (arith, last, other)))
+    ]
+
+pub filter_unlisted : {X : Type 0} (p : X → Bool) (xs : List X) → list_any p xs ≡ false → filter p xs ≡ []
+filter_unlisted p [] h = refl
+filter_unlisted p (x ∷ xs) h = elim (cases_Bool (p x)) [
+  | inl passes ↦ let same : list_any p (x ∷ xs) ≡ true = rw passes refl in absurd (false≢true (sym h ∙ same))
+  | inr fails ↦ let rest : list_any p xs ≡ false = rw fails at h in rw fails (filter_unlisted p xs rest)
+]

@@ -1,7 +1,7 @@
 -- The digits of numbers.
-use Rattle.std.proofs.Common.{◌≡◌, ◌<◌, ◌≤◌, ◌+◌, ◌-◌, ◌*◌, ◌/◌, ◌%◌, ◌^◌, ℕ, zero, suc, List, [], ◌∷◌, ◌++◌, length, refl, ap, ◌∙◌, sym, arith, append_assoc, length-append}
-use Rattle.std.proofs.lemmas.Grind.{common_steps, pow_more}
-use Rattle.std.proofs.lemmas.Fmt.{decimal_digit, decimal_step, length-decimal-le}
+use Rattle.std.proofs.Common.{◌≡◌, ◌<◌, ◌≤◌, ◌+◌, ◌-◌, ◌*◌, ◌/◌, ◌%◌, ◌^◌, ℕ, zero, suc, [], ◌∷◌, ◌++◌, length, refl, ap, ◌∙◌, arith, append_assoc, length-append}
+use Rattle.std.proofs.lemmas.Grind.{pow_more}
+use Rattle.std.proofs.lemmas.Fmt.{decimal_step, length-decimal-le}
 use Rattle.std.proofs.lemmas.Nat.{div-mul-add, mod-mul-add}
 use Rattle.std.proofs.Math.Nat.{div-div-eq-div-mul, one-le-pow}
 use Rattle.std.proofs.Math.Arith.{mod-mul}
@@ -31,7 +31,7 @@ pub pointed_step : (places value : ℕ) → 0 < places
 unfolding pointed
 pointed_step places value h =
     let whole : value / 10 / 10 ^ (places - 1) ≡ value / 10 ^ places =
-        div-div-eq-div-mul value 10 (10 ^ (places - 1)) ∙ ap (λ k. value / k) (let p = power places h in omega arith) in
+    div-div-eq-div-mul value 10 (10 ^ (places - 1)) ∙ ap (λ k. value / k) (let p = power places h in omega arith) in
     let rest = last_digits_step places value h in
     rw (whole, rest, append_assoc) refl
 
@@ -42,7 +42,7 @@ last_digits_rest (suc count) x =
     let next : suc count ≡ count + 1 = omega arith in
     let size : 10 ^ suc count ≡ 10 ^ count * 10 = ap (λ j. 10 ^ j) next ∙ pow_more 10 count in
     let cut : x % 10 ^ suc count ≡ (x / 10 % 10 ^ count) * 10 + x % 10 =
-        ap (λ k. x % k) size ∙ mod-mul x (one-le-pow count 10 (omega arith)) (omega arith) in
+    ap (λ k. x % k) size ∙ mod-mul x (one-le-pow count 10 (omega arith)) (omega arith) in
     let high : x % 10 ^ suc count / 10 ≡ x / 10 % 10 ^ count = ap (λ k. k / 10) cut ∙ div-mul-add (x / 10 % 10 ^ count) 10 (x % 10) (omega arith) in
     let low : x % 10 ^ suc count % 10 ≡ x % 10 = ap (λ k. k % 10) cut ∙ mod-mul-add (x / 10 % 10 ^ count) 10 (x % 10) (omega arith) in
     rw (high, low, last_digits_rest count (x / 10)) refl

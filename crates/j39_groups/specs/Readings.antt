@@ -1,5 +1,5 @@
 -- What is read in the payload of a group (J1939-71).
-use Rattle.std.specs.Prelude.{◌+◌, ◌-◌, ◌*◌, ◌/◌, ◌%◌, ◌^◌, ◌+ℤ◌, ◌*ℤ◌, ◌==◌, ℕ, pos, List, [], ◌∷◌, length, Bool, Option, Some, None, if◌then◌else◌, nat_le, slice_get, slice_range, filter}
+use Rattle.std.specs.Prelude.{◌-◌, ◌/◌, ◌%◌, ◌^◌, ◌+ℤ◌, ◌*ℤ◌, ◌==◌, ℕ, pos, List, length, Bool, Option, Some, None, if◌then◌else◌, nat_le, slice_get, slice_range, filter}
 use Rattle.std.specs.Option.{option_map, option_and_then}
 use Rattle.std.specs.List.{filter_map, list_any}
 use Rattle.byteorder.specs.Endian.{little_number}
@@ -43,7 +43,7 @@ text_meaning part = if length part == 0 then None else Some (text part)
 
 unfoldable pub value_at : List ℕ → Field → Option ValueRecord
 value_at bytes (Number first last slot) = option_and_then (number_meaning (last - (first - 1)) (slot_record slot)) (raw_number first last bytes)
-value_at bytes (Switch byte bit) = option_and_then (λ b. switch_meaning (b / 2 ^ (bit - 1) % 4)) (slice_get bytes (byte - 1))
+value_at bytes (Switch byte low high) = option_and_then (λ b. switch_meaning (b / 2 ^ (low - 1) % 4)) (slice_get bytes (byte - 1))
 value_at bytes (Text part) = option_and_then text_meaning (slice_get (parts_of bytes) (part - 1))
 
 abbrev pub reading_at : List ℕ → Row → Option ReadingRecord

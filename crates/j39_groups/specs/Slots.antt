@@ -21,7 +21,7 @@ number_record n = record { count = n.count; slot = slot_record n.slot }
 
 abbrev pub number_in : Field → Option NumberRecord
 number_in (Number first last slot) = Some (record { count = last - (first - 1); slot = slot_record slot })
-number_in (Switch byte bit) = None
+number_in (Switch byte low high) = None
 number_in (Text part) = None
 
 -- the number of this parameter in a row
@@ -46,3 +46,17 @@ pub record IsRawIn (n : NumberRecord) (value : ℤ) (raw : ℕ) : Type 0 where
 
 abbrev pub IsRawOf : ℕ → ℤ → ℕ → Type 0
 IsRawOf spn value raw = IsSomeAnd (number_of_spn spn) (λ n. IsRawIn n value raw)
+
+-- the bytes of the field hold this raw number
+abbrev pub HoldsIn : Field → List ℕ → ℕ → Type 0
+HoldsIn (Number first last slot) bytes raw = raw_number first last bytes ≡ Some raw
+HoldsIn (Switch byte low high) bytes raw = ⊥
+HoldsIn (Text part) bytes raw = ⊥
+
+-- the payload of the group holds this raw number of the parameter
+pub record Holds (pgn spn : ℕ) (bytes : List ℕ) (raw : ℕ) : Type 0 where
+  pub row : Row
+  pub listed : Contains the_table row
+  pub group : row.pgn ≡ pgn
+  pub parameter : row.spn ≡ spn
+  pub held : HoldsIn row.field bytes raw

@@ -2,7 +2,7 @@
 ghost use Rattle.std.specs.Prelude.{◌≡◌, ◌+◌, ◌-◌, ◌/◌, ◌%◌, ◌^◌, ◌<◌, ◌≤◌, length, slice_get};
 ghost use Rattle.std.specs.Option.{option_map, option_and_then};
 ghost use Rattle.byteorder.specs.Endian.{little_number};
-ghost use Rattle.j39_groups.specs.Sound.{IsSound, IsSoundNumber, IsSoundSwitch};
+ghost use Rattle.j39_groups.specs.Sound.{IsSound, IsSoundNumber};
 ghost use Rattle.j39_groups.specs.Parts.{parts_of};
 ghost use Rattle.j39_groups.specs.Shown.{value_of, slot_record};
 ghost use Rattle.j39_groups.specs.Readings.{value_at, raw_number, number_meaning, by_top_byte, switch_meaning, text_meaning};
@@ -19,7 +19,7 @@ pub(crate) fn value_at(bytes: &[u8], field: Field) -> Option<Value<'_>>
 {
     match field {
         Field::Number { first, last, slot } => number_at(bytes, first, last, slot),
-        Field::Switch { byte, bit } => switch_at(bytes, byte, bit),
+        Field::Switch { byte, low, .. } => switch_at(bytes, byte, low),
         Field::Text { part } => text_at(bytes, part),
     }
 }
@@ -94,22 +94,24 @@ fn by_top_byte(top: u32, valid: Value<'_>) -> Option<Value<'_>>
     }
 }
 
-fn switch_at(bytes: &[u8], byte: u8, bit: u8) -> Option<Value<'_>>
-    requires { IsSoundSwitch byte bit }
+fn switch_at(bytes: &[u8], byte: u8, low: u8) -> Option<Value<'_>>
+    requires byte { 0 < byte }
+    requires starts { 0 < low }
+    requires ends { low < 8 }
     ensures { option_map value_of result
-        ≡ option_and_then (λ b. switch_meaning (b / 2 ^ (bit - 1) % 4)) (slice_get bytes.now (byte - 1)) }
+        ≡ option_and_then (λ b. switch_meaning (b / 2 ^ (low - 1) % 4)) (slice_get bytes.now (byte - 1)) }
 {
     let byte = bytes.get(usize::from(byte) - 1).copied()?;
-    switch_of(two_bits(byte, bit))
+    switch_of(two_bits(byte, low))
 }
 
-/// The two bits from the bit `bit` on.
-fn two_bits(byte: u8, bit: u8) -> u8
-    requires low { 0 < bit }
-    requires high { bit < 8 }
-    ensures { result ≡ byte / 2 ^ (bit - 1) % 4 }
+/// The two bits from the bit `low` on.
+fn two_bits(byte: u8, low: u8) -> u8
+    requires starts { 0 < low }
+    requires ends { low < 8 }
+    ensures { result ≡ byte / 2 ^ (low - 1) % 4 }
 {
-    byte >> (bit - 1) & 3
+    byte >> (low - 1) & 3
 }
 
 #[tactic(auto, unfolding(crate::specs::Readings::switch_meaning))]

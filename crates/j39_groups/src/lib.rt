@@ -2,6 +2,7 @@
 #![tactic(auto)]
 
 mod field;
+pub mod laws;
 mod parameter;
 mod reading;
 mod slot;
@@ -14,3 +15,6 @@ pub use reading::{is_reported, readings};
 pub use slot::Slot;
 pub use text::put_value;
 pub use value::{Reading, Value};
+
+#[cfg(test)]
+mod tests;

@@ -1,6 +1,7 @@
 //! What is read in the payload of a group (J1939-71).
-ghost use Rattle.std.specs.Prelude.{◌≡◌, ◌==◌, map, filter, IsTrue, IsSome, None, if◌then◌else◌};
+ghost use Rattle.std.specs.Prelude.{◌≡◌, ◌==◌, [], false, map, filter, IsTrue, IsSome, None, if◌then◌else◌};
 ghost use Rattle.std.specs.List.{list_any, filter_map};
+ghost use Rattle.std.specs.Bool.{OnFalse};
 ghost use Rattle.std.specs.Option.{option_map};
 ghost use Rattle.j39_frame.specs.Identifier.{pgn_raw};
 ghost use Rattle.j39_groups.specs.Table.{the_table};
@@ -9,7 +10,7 @@ ghost use Rattle.j39_groups.specs.Readings.{is_reported_group, readings_of, read
 ghost use Rattle.j39_groups.specs.Shown.{reading_of};
 
 use crate::field::value_at;
-use crate::table::{Row, TABLE};
+use crate::table::{LOW_BYTES, Row, TABLE};
 use crate::value::Reading;
 use arrayvec::ArrayVec;
 use j39_frame::Pgn;
@@ -22,12 +23,23 @@ pub(crate) fn rows() -> &'static [Row]
     TABLE
 }
 
+/// A first test, without a look at the rows: `false` only where the group has none.
+#[inline]
+fn may_be_listed(pgn: u32) -> bool
+    ensures any { OnFalse result (list_any (λ row. row.pgn == pgn) the_table ≡ false) }
+    ensures rows { OnFalse result (filter (λ row. row.pgn == pgn) the_table ≡ []) }
+{
+    let word = LOW_BYTES[(pgn / 64 % 4) as usize];
+    word >> (pgn % 64) & 1 == 1
+}
+
 /// Whether parameters of this group are read.
 #[tactic(auto, unfolding(crate::specs::Readings::is_reported_group))]
 pub fn is_reported(pgn: Pgn) -> bool
     ensures { result ≡ is_reported_group (pgn_raw pgn) }
 {
-    has_group(rows(), pgn.raw())
+    let raw = pgn.raw();
+    may_be_listed(raw) && has_group(rows(), raw)
 }
 
 fn has_group(rows: &[Row], pgn: u32) -> bool
@@ -42,7 +54,11 @@ fn has_group(rows: &[Row], pgn: u32) -> bool
 pub fn readings(pgn: Pgn, bytes: &[u8]) -> ArrayVec<Reading<'_>, 8>
     ensures { map reading_of result.items ≡ readings_of (pgn_raw pgn) bytes.now }
 {
-    read_rows(rows(), pgn.raw(), bytes)
+    let raw = pgn.raw();
+    if !may_be_listed(raw) {
+        return ArrayVec::new();
+    }
+    read_rows(rows(), raw, bytes)
 }
 
 fn read_rows<'a>(rows: &[Row], pgn: u32, bytes: &'a [u8]) -> ArrayVec<Reading<'a>, 8>

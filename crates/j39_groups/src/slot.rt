@@ -52,7 +52,7 @@ pub struct Slot {
 }
 
 impl Slot {
-    /// What one raw step is worth, above 0, in units of the last printed place.
+    /// What one raw step is worth, in units of the last printed place.
     pub fn step(self) -> i64
         ensures { result ≡ (slot_record self).step }
     {

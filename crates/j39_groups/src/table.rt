@@ -7,8 +7,8 @@ use crate::slot::{Slot, Unit};
 pub(crate) enum Field {
     /// A number in the bytes `first` to `last`, low byte first.
     Number { first: u8, last: u8, slot: Slot },
-    /// Two bits of a byte, from the bit `bit` on.
-    Switch { byte: u8, bit: u8 },
+    /// The bits `low` and `high` of a byte.
+    Switch { byte: u8, low: u8, high: u8 },
     /// One of the parts of the payload between the bytes `*`.
     Text { part: u8 },
 }
@@ -21,6 +21,68 @@ pub(crate) struct Row {
     /// The parameter's number (SPN).
     pub spn: u32,
     pub field: Field,
+}
+
+/// The table of parameters. The rows of a group stand in the order in which they are read.
+macro_rules! parameters {
+    ($made:ident) => {
+        $made![
+            // EEC2, electronic engine controller 2
+            number(0xF003, 91, bytes 2 to 2, step 4, offset 0, places 1, Percent), // accelerator pedal position 1
+            number(0xF003, 92, bytes 3 to 3, step 1, offset 0, places 0, Percent), // percent load at current speed
+            // EEC1, electronic engine controller 1
+            number(0xF004, 512, bytes 2 to 2, step 1, offset -125, places 0, Percent), // driver's demand percent torque
+            number(0xF004, 513, bytes 3 to 3, step 1, offset -125, places 0, Percent), // actual percent torque
+            number(0xF004, 190, bytes 4 to 5, step 125, offset 0, places 3, Rpm), // engine speed
+            // VD, vehicle distance
+            number(0xFEE0, 244, bytes 1 to 4, step 125, offset 0, places 3, Kilometres), // trip distance
+            number(0xFEE0, 245, bytes 5 to 8, step 125, offset 0, places 3, Kilometres), // total distance
+            // HOURS, engine hours and revolutions
+            number(0xFEE5, 247, bytes 1 to 4, step 5, offset 0, places 2, Hours), // total engine hours
+            number(0xFEE5, 249, bytes 5 to 8, step 1000, offset 0, places 0, Revolutions), // total engine revolutions
+            // ET1, engine temperature 1
+            number(0xFEEE, 110, bytes 1 to 1, step 1, offset -40, places 0, Celsius), // coolant temperature
+            number(0xFEEE, 174, bytes 2 to 2, step 1, offset -40, places 0, Celsius), // fuel temperature
+            number(0xFEEE, 175, bytes 3 to 4, step 3125, offset -27300000, places 5, Celsius), // oil temperature
+            number(0xFEEE, 176, bytes 5 to 6, step 3125, offset -27300000, places 5, Celsius), // turbocharger oil temperature
+            number(0xFEEE, 52, bytes 7 to 7, step 1, offset -40, places 0, Celsius), // intercooler temperature
+            // EFL/P1, engine fluid level and pressure 1
+            number(0xFEEF, 94, bytes 1 to 1, step 4, offset 0, places 0, Kilopascals), // fuel delivery pressure
+            number(0xFEEF, 98, bytes 3 to 3, step 4, offset 0, places 1, Percent), // oil level
+            number(0xFEEF, 100, bytes 4 to 4, step 4, offset 0, places 0, Kilopascals), // oil pressure
+            number(0xFEEF, 109, bytes 7 to 7, step 2, offset 0, places 0, Kilopascals), // coolant pressure
+            number(0xFEEF, 111, bytes 8 to 8, step 4, offset 0, places 1, Percent), // coolant level
+            // CCVS, cruise control and vehicle speed
+            switch(0xFEF1, 70, byte 1, bits 3 to 4), // parking brake switch
+            number(0xFEF1, 84, bytes 2 to 3, step 390625, offset 0, places 8, KilometresPerHour), // wheel-based vehicle speed
+            switch(0xFEF1, 595, byte 4, bits 1 to 2), // cruise control active
+            switch(0xFEF1, 597, byte 4, bits 5 to 6), // brake switch
+            switch(0xFEF1, 598, byte 4, bits 7 to 8), // clutch switch
+            number(0xFEF1, 86, bytes 6 to 6, step 1, offset 0, places 0, KilometresPerHour), // cruise control set speed
+            // LFE, liquid fuel economy
+            number(0xFEF2, 183, bytes 1 to 2, step 5, offset 0, places 2, LitresPerHour), // fuel rate
+            number(0xFEF2, 184, bytes 3 to 4, step 1953125, offset 0, places 9, KilometresPerLitre), // instantaneous fuel economy
+            // AMB, ambient conditions
+            number(0xFEF5, 108, bytes 1 to 1, step 5, offset 0, places 1, Kilopascals), // barometric pressure
+            number(0xFEF5, 171, bytes 4 to 5, step 3125, offset -27300000, places 5, Celsius), // ambient air temperature
+            number(0xFEF5, 172, bytes 6 to 6, step 1, offset -40, places 0, Celsius), // air inlet temperature
+            // IC1, inlet and exhaust conditions 1
+            number(0xFEF6, 102, bytes 2 to 2, step 2, offset 0, places 0, Kilopascals), // boost pressure
+            number(0xFEF6, 105, bytes 3 to 3, step 1, offset -40, places 0, Celsius), // intake manifold temperature
+            number(0xFEF6, 173, bytes 6 to 7, step 3125, offset -27300000, places 5, Celsius), // exhaust gas temperature
+            // VEP1, vehicle electrical power 1
+            number(0xFEF7, 168, bytes 5 to 6, step 5, offset 0, places 2, Volts), // battery potential
+            // DD, dash display
+            number(0xFEFC, 96, bytes 2 to 2, step 4, offset 0, places 1, Percent), // fuel level
+            // VI, vehicle identification
+            text(0xFEEC, 237, part 1), // vehicle identification number
+            // CI, component identification
+            text(0xFEEB, 586, part 1), // make
+            text(0xFEEB, 587, part 2), // model
+            text(0xFEEB, 588, part 3), // serial number
+            text(0xFEEB, 233, part 4), // unit number
+        ]
+    };
 }
 
 macro_rules! number {
@@ -44,13 +106,14 @@ macro_rules! number {
 }
 
 macro_rules! switch {
-    ($pgn:literal, $spn:literal, byte $byte:literal, bits $bit:literal and up) => {
+    ($pgn:literal, $spn:literal, byte $byte:literal, bits $low:literal to $high:literal) => {
         Row {
             pgn: $pgn,
             spn: $spn,
             field: Field::Switch {
                 byte: $byte,
-                bit: $bit,
+                low: $low,
+                high: $high,
             },
         }
     };
@@ -66,60 +129,25 @@ macro_rules! text {
     };
 }
 
-/// The rows of a group stand in the order in which they are read.
-pub(crate) const TABLE: &[Row] = &[
-    // EEC2, electronic engine controller 2
-    number!(0xF003, 91, bytes 2 to 2, step 4, offset 0, places 1, Percent), // accelerator pedal position 1
-    number!(0xF003, 92, bytes 3 to 3, step 1, offset 0, places 0, Percent), // percent load at current speed
-    // EEC1, electronic engine controller 1
-    number!(0xF004, 512, bytes 2 to 2, step 1, offset -125, places 0, Percent), // driver's demand percent torque
-    number!(0xF004, 513, bytes 3 to 3, step 1, offset -125, places 0, Percent), // actual percent torque
-    number!(0xF004, 190, bytes 4 to 5, step 125, offset 0, places 3, Rpm), // engine speed
-    // VD, vehicle distance
-    number!(0xFEE0, 244, bytes 1 to 4, step 125, offset 0, places 3, Kilometres), // trip distance
-    number!(0xFEE0, 245, bytes 5 to 8, step 125, offset 0, places 3, Kilometres), // total distance
-    // HOURS, engine hours and revolutions
-    number!(0xFEE5, 247, bytes 1 to 4, step 5, offset 0, places 2, Hours), // total engine hours
-    number!(0xFEE5, 249, bytes 5 to 8, step 1000, offset 0, places 0, Revolutions), // total engine revolutions
-    // ET1, engine temperature 1
-    number!(0xFEEE, 110, bytes 1 to 1, step 1, offset -40, places 0, Celsius), // coolant temperature
-    number!(0xFEEE, 174, bytes 2 to 2, step 1, offset -40, places 0, Celsius), // fuel temperature
-    number!(0xFEEE, 175, bytes 3 to 4, step 3125, offset -27300000, places 5, Celsius), // oil temperature
-    number!(0xFEEE, 176, bytes 5 to 6, step 3125, offset -27300000, places 5, Celsius), // turbocharger oil temperature
-    number!(0xFEEE, 52, bytes 7 to 7, step 1, offset -40, places 0, Celsius), // intercooler temperature
-    // EFL/P1, engine fluid level and pressure 1
-    number!(0xFEEF, 94, bytes 1 to 1, step 4, offset 0, places 0, Kilopascals), // fuel delivery pressure
-    number!(0xFEEF, 98, bytes 3 to 3, step 4, offset 0, places 1, Percent), // oil level
-    number!(0xFEEF, 100, bytes 4 to 4, step 4, offset 0, places 0, Kilopascals), // oil pressure
-    number!(0xFEEF, 109, bytes 7 to 7, step 2, offset 0, places 0, Kilopascals), // coolant pressure
-    number!(0xFEEF, 111, bytes 8 to 8, step 4, offset 0, places 1, Percent), // coolant level
-    // CCVS, cruise control and vehicle speed
-    switch!(0xFEF1, 70, byte 1, bits 3 and up), // parking brake switch
-    number!(0xFEF1, 84, bytes 2 to 3, step 390625, offset 0, places 8, KilometresPerHour), // wheel-based vehicle speed
-    switch!(0xFEF1, 595, byte 4, bits 1 and up), // cruise control active
-    switch!(0xFEF1, 597, byte 4, bits 5 and up), // brake switch
-    switch!(0xFEF1, 598, byte 4, bits 7 and up), // clutch switch
-    number!(0xFEF1, 86, bytes 6 to 6, step 1, offset 0, places 0, KilometresPerHour), // cruise control set speed
-    // LFE, liquid fuel economy
-    number!(0xFEF2, 183, bytes 1 to 2, step 5, offset 0, places 2, LitresPerHour), // fuel rate
-    number!(0xFEF2, 184, bytes 3 to 4, step 1953125, offset 0, places 9, KilometresPerLitre), // instantaneous fuel economy
-    // AMB, ambient conditions
-    number!(0xFEF5, 108, bytes 1 to 1, step 5, offset 0, places 1, Kilopascals), // barometric pressure
-    number!(0xFEF5, 171, bytes 4 to 5, step 3125, offset -27300000, places 5, Celsius), // ambient air temperature
-    number!(0xFEF5, 172, bytes 6 to 6, step 1, offset -40, places 0, Celsius), // air inlet temperature
-    // IC1, inlet and exhaust conditions 1
-    number!(0xFEF6, 102, bytes 2 to 2, step 2, offset 0, places 0, Kilopascals), // boost pressure
-    number!(0xFEF6, 105, bytes 3 to 3, step 1, offset -40, places 0, Celsius), // intake manifold temperature
-    number!(0xFEF6, 173, bytes 6 to 7, step 3125, offset -27300000, places 5, Celsius), // exhaust gas temperature
-    // VEP1, vehicle electrical power 1
-    number!(0xFEF7, 168, bytes 5 to 6, step 5, offset 0, places 2, Volts), // battery potential
-    // DD, dash display
-    number!(0xFEFC, 96, bytes 2 to 2, step 4, offset 0, places 1, Percent), // fuel level
-    // VI, vehicle identification
-    text!(0xFEEC, 237, part 1), // vehicle identification number
-    // CI, component identification
-    text!(0xFEEB, 586, part 1), // make
-    text!(0xFEEB, 587, part 2), // model
-    text!(0xFEEB, 588, part 3), // serial number
-    text!(0xFEEB, 233, part 4), // unit number
-];
+macro_rules! rows {
+    ($($kind:ident ($($column:tt)*),)*) => {
+        &[$($kind!($($column)*)),*]
+    };
+}
+
+/// All rows.
+pub(crate) const TABLE: &[Row] = parameters!(rows);
+
+macro_rules! low_bits {
+    ($($kind:ident ($pgn:literal, $($column:tt)*),)*) => {
+        [
+            0 $(| if $pgn / 64 % 4 == 0 { 1 << ($pgn % 64) } else { 0 })*,
+            0 $(| if $pgn / 64 % 4 == 1 { 1 << ($pgn % 64) } else { 0 })*,
+            0 $(| if $pgn / 64 % 4 == 2 { 1 << ($pgn % 64) } else { 0 })*,
+            0 $(| if $pgn / 64 % 4 == 3 { 1 << ($pgn % 64) } else { 0 })*,
+        ]
+    };
+}
+
+/// The low bytes of the groups: the bit `b % 64` of the word `b / 64` stands for `b`.
+pub(crate) const LOW_BYTES: [u64; 4] = parameters!(low_bits);

@@ -32,6 +32,12 @@ pub struct Reading<'a> {
 
 /// The filler of places that hold no reading yet.
 impl Default for Reading<'_> {
+    ghost use Rattle.std.specs.Prelude.{◌≡◌};
+    ghost use Rattle.j39_groups.specs.Value.{ReadingRecord, reserved};
+    ghost use Rattle.j39_groups.specs.Shown.{reading_of};
+
+    ghost is_default = { λ reading. reading_of reading ≡ record { spn = 0; value = reserved } };
+
     fn default() -> Self {
         Reading {
             spn: 0,

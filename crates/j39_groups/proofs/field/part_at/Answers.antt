@@ -1,5 +1,5 @@
 -- The parts that the split yields, at one index.
-use Rattle.std.proofs.Common.{◌≡◌, eqb, rules}
+use Rattle.std.proofs.Common.{eqb, rules}
 use borrow.Author.Tests.{tests}
 use Rattle.std.proofs.lemmas.Iterator.Consumers.{nth_from_yields_List}
 use Rattle.std.proofs.lemmas.Iterator.Splits.{YieldsList-from_slice_split}

@@ -1,6 +1,5 @@
 -- The bytes of the number.
-use Rattle.std.proofs.Common.{◌≡◌, ◌<◌, ◌≤◌, ◌^◌, arith}
-use Rattle.std.proofs.lemmas.Grind.{common_steps}
+use Rattle.std.proofs.Common.{arith}
 use Rattle.std.proofs.lemmas.Bool.Decides.{nat_tests}
 use Rattle.j39_groups.specs.Readings.{raw_number}
 use Rattle.j39_groups.proofs.field.raw_number.Goals as goal

@@ -1,5 +1,4 @@
 -- Each kind of field by its own function.
-use Rattle.std.proofs.Common.{◌≡◌, arith}
 use Rattle.j39_groups.specs.Readings.{value_at}
 use Rattle.j39_groups.proofs.field.value_at.Goals as goal
 

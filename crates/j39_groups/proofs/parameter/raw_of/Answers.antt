@@ -1,8 +1,8 @@
 -- A valid raw number fits 32 bits, so it is the slot's.
-use Rattle.std.proofs.Common.{◌≡◌, ◌<◌, ◌^◌, sym, subst, ◌∙◌, w64}
-use Rattle.std.specs.Prelude.{IsSomeAnd, Some}
+use Rattle.std.proofs.Common.{sym, subst, ◌∙◌, w64}
+use Rattle.std.specs.Prelude.{IsSomeAnd}
 use Rattle.std.proofs.lemmas.Int.{to_z-of_z}
-use Rattle.j39_groups.specs.Slots.{IsAt, IsRawIn, number_record}
+use Rattle.j39_groups.specs.Slots.{IsAt, IsRawIn}
 use Rattle.j39_groups.specs.Shown.{slot_record}
 use Rattle.j39_groups.proofs.SlotLemmas.{valid_fits}
 use Rattle.j39_groups.proofs.parameter.raw_of.Goals as goal

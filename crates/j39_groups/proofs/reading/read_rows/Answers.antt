@@ -1,5 +1,5 @@
 -- Each row of the group takes a place and gives its reading.
-use Rattle.std.proofs.Common.{◌≡◌, ◌<◌, ◌++◌, ◌==◌, refl, arith, ap, ◌∙◌, append-nil}
+use Rattle.std.proofs.Common.{◌==◌, refl, arith, append-nil}
 use Rattle.std.specs.Prelude.{Some, None}
 use Rattle.j39_groups.specs.Readings.{reading_at}
 use Rattle.j39_groups.specs.Shown.{reading_of}
@@ -22,16 +22,19 @@ loop-row-preserved c =
     let below = c.loop-row-test.true in
     let before = c.loop-row.invariant in
     elim c.match-reading_in.branch [
-    in-Some w ↦
-        let more = count_by_more_yes (λ row. row.pgn == c.args.pgn) rows i _ below (eq-eqb _ _ (w.in-Some.ensures.group refl)) in
-        (rw (w.found-is, w.push.ensures.items)
-            (pushed reading_of (reading_at c.args.bytes.now) (λ row. row.pgn == c.args.pgn) rows i _ below
+      | in-Some w ↦
+          let more = count_by_more_yes (λ row. row.pgn == c.args.pgn) rows i _ below (eq-eqb _ _ (w.in-Some.ensures.group refl)) in (
+            rw (w.found-is, w.push.ensures.items)
+                (pushed reading_of (reading_at c.args.bytes.now) (λ row. row.pgn == c.args.pgn) rows i _ below
                 c.loop-row.found.items (Some w.in-Some.reading) before.0 w.in-Some.ensures.value),
-        let len = w.push.ensures.len in
-        rw w.found-is (omega (arith, more, len, before.1)))
-    | in_default w ↦
-        let more = counted_more (λ row. row.pgn == c.args.pgn) rows i below in
-        (rw (w.found-is, ← append-nil c.loop-row.found.items)
-            (pushed reading_of (reading_at c.args.bytes.now) (λ row. row.pgn == c.args.pgn) rows i _ below
+            let len = w.push.ensures.len in
+                rw w.found-is (omega (arith, more, len, before.1)),
+          )
+      | in_default w ↦
+          let more = counted_more (λ row. row.pgn == c.args.pgn) rows i below in (
+            rw (w.found-is, ← append-nil c.loop-row.found.items)
+                (pushed reading_of (reading_at c.args.bytes.now) (λ row. row.pgn == c.args.pgn) rows i _ below
                 c.loop-row.found.items None before.0 w.in_default.ensures.value),
-        rw w.found-is (omega (arith, more, before.1))) ]
+            rw w.found-is (omega (arith, more, before.1)),
+          )
+    ]

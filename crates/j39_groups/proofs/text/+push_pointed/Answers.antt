@@ -1,5 +1,5 @@
 -- The point follows the front, and each further digit the digits before it.
-use Rattle.std.proofs.Common.{◌≡◌, ◌<◌, ◌≤◌, ◌+◌, ◌++◌, ◌∷◌, [], length, ap, ◌∙◌, sym, append_assoc, arith}
+use Rattle.std.proofs.Common.{◌++◌, ap, sym, append_assoc, arith}
 use Rattle.j39_groups.proofs.TextLemmas.{decimal_short, pointed_none, pointed_step}
 use Rattle.j39_groups.proofs.text.+push_pointed.Goals as goal
 

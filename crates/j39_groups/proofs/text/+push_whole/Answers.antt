@@ -1,6 +1,5 @@
 -- The last digit follows the digits before it.
-use Rattle.std.proofs.Common.{◌≡◌, ◌<◌, ◌≤◌, ◌+◌, ◌/◌, ◌%◌, ◌^◌, ◌++◌, ◌∷◌, [], length, ap, ◌∙◌, sym, append_assoc, arith}
-use Rattle.std.specs.Fmt.{decimal}
+use Rattle.std.proofs.Common.{◌++◌, length, ap, ◌∙◌, sym, append_assoc, arith}
 use Rattle.std.proofs.lemmas.Fmt.{decimal_digit, decimal_step}
 use Rattle.j39_groups.proofs.TextLemmas.{decimal_grows}
 use Rattle.j39_groups.proofs.text.+push_whole.Goals as goal

@@ -1,5 +1,5 @@
 -- Without places the digits alone, else with a point.
-use Rattle.std.proofs.Common.{◌≡◌, ◌<◌, ◌≤◌, ◌+◌, ◌++◌, ap, ◌∙◌, sym, arith}
+use Rattle.std.proofs.Common.{◌++◌, ap, ◌∙◌, arith}
 use Rattle.j39_groups.proofs.TextLemmas.{decimal_short, magnitude_pointed}
 use Rattle.j39_groups.proofs.text.push_magnitude.Goals as goal
 

@@ -1,0 +1,31 @@
+-- Elements of lists.
+use Rattle.std.proofs.Common.{◌≡◌, ◌<◌, ◌≤◌, ℕ, zero, suc, List, [], ◌∷◌, ◌++◌, Bool, true, length, take, drop, get_or, refl, ap, ◌∙◌, sym, arith, take-append-drop, drop-cons}
+use Rattle.std.specs.Prelude.{Option, Some, slice_get, filter}
+use Rattle.std.specs.List.{filter_map, Contains}
+use Rattle.std.proofs.lemmas.List.Elements.{filter-append, filter_map-append, Contains-append_right}
+
+contains_head : {X : Type 0} (x : X) (xs : List X) → Contains (x ∷ xs) x
+contains_head x xs = (0, omega arith, refl)
+
+-- the list, cut before the element
+cut_at : {X : Type 0} (xs : List X) (x : X) (k : ℕ) → k < length xs → get_or xs k x ≡ x → xs ≡ take k xs ++ (x ∷ drop (suc k) xs)
+cut_at xs x k below here =
+    sym (take-append-drop k xs) ∙ ap (λ ys. take k xs ++ ys) (drop-cons xs k x below ∙ ap (λ y. y ∷ drop (suc k) xs) here)
+
+pub contains_filter : {X : Type 0} (p : X → Bool) (xs : List X) (x : X) → Contains xs x → p x ≡ true → Contains (filter p xs) x
+contains_filter p xs x (k, below, here) passes =
+    let whole : filter p xs ≡ filter p (take k xs) ++ (x ∷ filter p (drop (suc k) xs)) =
+    ap (filter p) (cut_at xs x k below here) ∙ (filter-append p (take k xs) (x ∷ drop (suc k) xs) ∙ (rw passes refl)) in
+    rw whole (Contains-append_right (filter p (take k xs)) (x ∷ filter p (drop (suc k) xs)) x (contains_head x (filter p (drop (suc k) xs))))
+
+pub contains_filter_map : {X Y : Type 0} (f : X → Option Y) (xs : List X) (x : X) (y : Y) → Contains xs x → f x ≡ Some y → Contains (filter_map f xs) y
+contains_filter_map f xs x y (k, below, here) gives =
+    let whole : filter_map f xs ≡ filter_map f (take k xs) ++ (y ∷ filter_map f (drop (suc k) xs)) =
+    ap (filter_map f) (cut_at xs x k below here) ∙ (filter_map-append f (take k xs) (x ∷ drop (suc k) xs) ∙ (rw gives refl)) in
+    rw whole (Contains-append_right (filter_map f (take k xs)) (y ∷ filter_map f (drop (suc k) xs)) y (contains_head y (filter_map f (drop (suc k) xs))))
+
+-- the only element is the first
+pub lone : {X : Type 0} (xs : List X) (x : X) → length xs ≤ 1 → Contains xs x → slice_get xs 0 ≡ Some x
+lone [] x few (k, below, here) = absurd (omega arith)
+lone (y ∷ ys) x few (zero, below, here) = ap Some here
+lone (y ∷ ys) x few (suc k, below, here) = absurd (omega arith)

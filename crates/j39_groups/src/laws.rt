@@ -1,0 +1,25 @@
+//! Laws about the definitions, each the contract of a function that does nothing.
+ghost use Rattle.std.specs.Prelude.{◌≡◌, ℕ, ℤ, List, [], false, IsSomeAnd};
+ghost use Rattle.std.specs.List.{Contains};
+ghost use Rattle.j39_groups.specs.Value.{number, ReadingRecord};
+ghost use Rattle.j39_groups.specs.Parts.{AreParts, parts_of};
+ghost use Rattle.j39_groups.specs.Readings.{readings_of, is_reported_group};
+ghost use Rattle.j39_groups.specs.Slots.{Holds, IsRawOf, slot_of_spn};
+
+/// The parts of a payload are the only parts without `*` that, joined by it, are the payload.
+pub fn one_list_of_parts()
+    ensures found { (bytes : List ℕ) → AreParts bytes (parts_of bytes) }
+    ensures only { (bytes : List ℕ) (parts : List (List ℕ)) → AreParts bytes parts → parts ≡ parts_of bytes }
+{}
+
+/// Where a payload holds the raw number of a value, the value is read.
+pub fn raw_reads_back()
+    ensures { (pgn spn raw : ℕ) (value : ℤ) (bytes : List ℕ) → Holds pgn spn bytes raw → IsRawOf spn value raw
+        → IsSomeAnd (slot_of_spn spn) (λ slot.
+        Contains (readings_of pgn bytes) (record { spn = spn; value = number value slot })) }
+{}
+
+/// Nothing is read in a group that is not reported.
+pub fn other_groups_are_silent()
+    ensures { (pgn : ℕ) (bytes : List ℕ) → is_reported_group pgn ≡ false → readings_of pgn bytes ≡ [] }
+{}
