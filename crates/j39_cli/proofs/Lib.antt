@@ -1,4 +1,3 @@
-pub mod DeviceLemmas
 pub mod FieldLemmas
 pub mod ValueLemmas
 pub mod PartLemmas

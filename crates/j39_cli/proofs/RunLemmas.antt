@@ -17,7 +17,7 @@ use Rattle.j39_cli.specs.Report.{Entry, entries_of, report_of, text_of}
 use Rattle.j39_cli.specs.Lines.{TakesLine}
 use Rattle.j39_cli.specs.Run.{run_text, MeetsLine, ReadsLine, WritesReport}
 use Rattle.j39_cli.specs.declared.counts.Counts.{Counts}
-use Rattle.j39_cli.proofs.DeviceLemmas.{Appends-kept}
+use Rattle.j39_frame.proofs.DeviceLemmas.{Appends-kept}
 use Rattle.j39_cli.proofs.ReportLemmas.{text_of-append, text_of-none}
 
 -- ---- one frame

@@ -1,6 +1,6 @@
 -- What contracts see of a message that was heard.
 use Rattle.std.specs.Prelude.{None}
-use Rattle.j39_frame.specs.Identifier.{pgn_raw}
+use Rattle.j39_frame.specs.Pgn.{pgn_raw}
 use Rattle.j39_frame.specs.Stamp.{stamp_micros}
 use Rattle.j39_cli.specs.Heard.{Hearing}
 use Rattle.j39_cli.specs.declared.heard.Heard.{Heard}

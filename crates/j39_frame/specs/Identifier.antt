@@ -1,14 +1,10 @@
 -- The fields of a 29-bit identifier, by division and remainder (J1939-21, 5.2).
 use Rattle.std.specs.Prelude.{◌<◌, ◌≡◌, ℕ, ◌+◌, ◌*◌, ◌/◌, ◌%◌, ◌^◌, nat_lt, Option, Some, None, if◌then◌else◌}
 use Rattle.j39_frame.specs.declared.identifier.Id.{Id}
-use Rattle.j39_frame.specs.declared.identifier.Pgn.{Pgn}
 
--- the 29 bits of an identifier, and the 18 bits of a parameter group number
+-- the 29 bits of an identifier
 abbrev pub id_raw : Id → ℕ
 id_raw id = id.raw
-
-abbrev pub pgn_raw : Pgn → ℕ
-pgn_raw pgn = pgn.raw
 
 abbrev pub source_of : ℕ → ℕ
 source_of raw = raw % 256

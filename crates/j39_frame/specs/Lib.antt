@@ -1,4 +1,5 @@
 pub mod Stamp
+pub mod Pgn
 pub mod Identifier
 pub mod Bus
 pub mod Frame

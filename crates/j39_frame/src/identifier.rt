@@ -1,36 +1,7 @@
-//! Identifiers and parameter group numbers (J1939-21, 5.2).
+//! Identifiers (J1939-21, 5.2).
 ghost use Rattle.std.specs.Prelude.{◌≡◌, ℕ, ◌+◌, ◌*◌, ◌^◌, ◌<◌, ◌↔◌, IsSome, IfSome, IsSomeAnd, Some, None, if◌then◌else◌, nat_lt};
 
-/// A parameter group number (PGN) of 18 bits: EDP, DP, PF and PS.
-#[derive(Clone, Copy, Debug, PartialEq, Eq, PartialOrd, Ord)]
-pub struct Pgn {
-    raw: u32,
-    pub ghost fits: { raw < 2 ^ 18 },
-}
-
-impl Pgn {
-    ghost use Rattle.j39_frame.specs.Identifier.{pgn_raw};
-
-    /// The group of this number; `None` from 2^18 up.
-    pub fn new(raw: u32) -> Option<Pgn>
-        ensures known { IsSome result ↔ (raw < 2 ^ 18) }
-        ensures value { IfSome result (λ pgn. pgn_raw pgn ≡ raw) }
-    {
-        if raw < 1 << 18 {
-            Some(Pgn { raw })
-        } else {
-            None
-        }
-    }
-
-    /// The number, 0 to 262,143.
-    pub fn raw(self) -> u32
-        ensures value { result ≡ pgn_raw self }
-        ensures fits { result < 2 ^ 18 }
-    {
-        self.raw
-    }
-}
+use crate::Pgn;
 
 /// A 29-bit identifier: priority, EDP, DP, PF, PS and source address, from the top.
 #[derive(Clone, Copy, Debug, PartialEq, Eq, PartialOrd, Ord)]
@@ -40,7 +11,8 @@ pub struct Id {
 }
 
 impl Id {
-    ghost use Rattle.j39_frame.specs.Identifier.{id_raw, pgn_raw, source_of, ps_of, pf_of, priority_of, pgn_of, destination_of, CanCompose};
+    ghost use Rattle.j39_frame.specs.Pgn.{pgn_raw};
+    ghost use Rattle.j39_frame.specs.Identifier.{id_raw, source_of, ps_of, pf_of, priority_of, pgn_of, destination_of, CanCompose};
 
     /// The identifier of these bits; `None` from 2^29 up.
     pub fn new(raw: u32) -> Option<Id>

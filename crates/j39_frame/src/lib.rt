@@ -10,6 +10,7 @@ mod frame;
 mod identifier;
 pub mod laws;
 mod line;
+mod pgn;
 pub mod spelling;
 mod stamp;
 mod text;
@@ -18,8 +19,9 @@ pub use bus::Bus;
 pub use canonical::line_of;
 pub use device::{DeviceFault, Sink, Source, Told, put_all};
 pub use frame::Frame;
-pub use identifier::{Id, Pgn};
+pub use identifier::Id;
 pub use line::{LINE_LIMIT, Line, read_line};
+pub use pgn::Pgn;
 pub use stamp::Stamp;
 
 #[cfg(test)]

@@ -3,6 +3,5 @@ pub mod ListLemmas
 pub mod PartsLemmas
 pub mod TableLemmas
 pub mod TextLemmas
-pub mod DeviceLemmas
 pub mod SlotLemmas
 pub mod ReadBackLemmas

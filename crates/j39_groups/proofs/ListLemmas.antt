@@ -1,7 +1,9 @@
 -- Elements of lists.
 use Rattle.std.proofs.Common.{◌≡◌, ◌<◌, ◌≤◌, ℕ, zero, suc, List, [], ◌∷◌, ◌++◌, Bool, true, length, take, drop, get_or, refl, ap, ◌∙◌, sym, arith, take-append-drop, drop-cons}
 use Rattle.std.specs.Prelude.{Option, Some, slice_get, filter}
-use Rattle.std.specs.List.{filter_map, Contains}
+use Rattle.std.specs.List.{filter_map, flat_map, Contains}
+use Rattle.std.proofs.lemmas.List.Concat.{flat_map-cons}
+use Rattle.std.proofs.lemmas.Grind.{flat_map-append}
 use Rattle.std.proofs.lemmas.List.Elements.{filter-append, filter_map-append, Contains-append_right}
 
 contains_head : {X : Type 0} (x : X) (xs : List X) → Contains (x ∷ xs) x
@@ -29,3 +31,11 @@ pub lone : {X : Type 0} (xs : List X) (x : X) → length xs ≤ 1 → Contains x
 lone [] x few (k, below, here) = absurd (omega arith)
 lone (y ∷ ys) x few (zero, below, here) = ap Some here
 lone (y ∷ ys) x few (suc k, below, here) = absurd (omega arith)
+
+-- what each element gives, in the order of the list
+pub flat_map-at : (f : ℕ → List ℕ) (xs : List ℕ) (i : ℕ) → i < length xs
+    → flat_map f xs ≡ flat_map f (take i xs) ++ (f (get_or xs i 0) ++ flat_map f (drop (suc i) xs))
+flat_map-at f xs i below =
+    let cut : xs ≡ take i xs ++ (get_or xs i 0 ∷ drop (suc i) xs) = sym (take-append-drop i xs) ∙ ap (λ ys. take i xs ++ ys) (drop-cons xs i 0 below) in
+    ap (flat_map f) cut ∙ flat_map-append f (take i xs) (get_or xs i 0 ∷ drop (suc i) xs)
+    ∙ ap (λ ys. flat_map f (take i xs) ++ ys) (flat_map-cons f (get_or xs i 0) (drop (suc i) xs))

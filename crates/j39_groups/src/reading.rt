@@ -3,7 +3,7 @@ ghost use Rattle.std.specs.Prelude.{◌≡◌, ◌==◌, [], false, map, filter,
 ghost use Rattle.std.specs.List.{list_any, filter_map};
 ghost use Rattle.std.specs.Bool.{OnFalse};
 ghost use Rattle.std.specs.Option.{option_map};
-ghost use Rattle.j39_frame.specs.Identifier.{pgn_raw};
+ghost use Rattle.j39_frame.specs.Pgn.{pgn_raw};
 ghost use Rattle.j39_groups.specs.Table.{the_table};
 ghost use Rattle.j39_groups.specs.Sound.{IsSound, is_sound_table};
 ghost use Rattle.j39_groups.specs.Readings.{is_reported_group, readings_of, reading_at};

@@ -11,6 +11,7 @@ ghost use Rattle.j39_groups.specs.ValueText.{value_text, number_text, magnitude_
 use crate::slot::Slot;
 use crate::value::Value;
 use arrayvec::ArrayVec;
+use j39_frame::spelling::{push_bytes, push_number};
 use j39_frame::{DeviceFault, Sink, put_all};
 
 /// A sign, 20 digits, a point, 255 places, a space and a unit fit.
@@ -44,17 +45,8 @@ fn number_text(number: i64, slot: Slot) -> Text
     }
     push_magnitude(&mut out, number.unsigned_abs(), slot.places());
     out.push(b' ');
-    push_all(&mut out, slot.unit().as_bytes());
+    push_bytes(&mut out, slot.unit().as_bytes());
     out
-}
-
-/// Appends bytes.
-fn push_all(out: &mut Text, bytes: &[u8])
-    requires { array_vec_len out.old + length bytes.now ≤ 288 }
-    ensures items { out.new.items ≡ out.old.items ++ bytes.now }
-    ensures len { array_vec_len out.new ≡ array_vec_len out.old + length bytes.now }
-{
-    let _ = out.try_extend_from_slice(bytes);
 }
 
 /// Appends a magnitude with its places.
@@ -64,23 +56,9 @@ fn push_magnitude(out: &mut Text, magnitude: u64, places: u8)
     ensures len { array_vec_len out.new ≤ array_vec_len out.old + places + 21 }
 {
     if places == 0 {
-        push_whole(out, magnitude);
+        push_number(out, magnitude);
     } else {
         push_pointed(out, magnitude, places);
-    }
-}
-
-/// Appends the digits of a number.
-fn push_whole(out: &mut Text, value: u64)
-    requires { array_vec_len out.old + length (decimal value) ≤ 288 }
-    ensures items { out.new.items ≡ out.old.items ++ decimal value }
-    ensures len { array_vec_len out.new ≡ array_vec_len out.old + length (decimal value) }
-{
-    if value < 10 {
-        push_digit(out, value);
-    } else {
-        push_whole(out, value / 10);
-        push_digit(out, value % 10);
     }
 }
 
@@ -91,8 +69,8 @@ fn push_pointed(out: &mut Text, value: u64, places: u8)
     ensures len { array_vec_len out.new ≤ array_vec_len out.old + places + 21 }
 {
     if places == 0 {
-        push_whole(out, value);
-        push_all(out, b".");
+        push_number(out, value);
+        push_bytes(out, b".");
     } else {
         push_pointed(out, value / 10, places - 1);
         push_digit(out, value % 10);

@@ -1,12 +1,19 @@
--- Writes one after another.
-use Rattle.std.proofs.Common.{◌≡◌, ℕ, List, ◌∷◌, ◌++◌, refl, ap, ◌∙◌, sym, append_assoc, ◌<◌, suc, length, take, drop, get_or, take-append-drop, drop-cons}
-use Rattle.std.specs.Prelude.{Option, Result, Ok, Err, OnErr}
-use Rattle.std.specs.Io.KnownBytes.{Appends}
+-- What a writer holds after calls one after another.
+use Rattle.std.proofs.Common.{◌≡◌, ℕ, List, [], ◌++◌, refl, Option, Some, None, Result, Ok, Err, sym, ◌∙◌, append_assoc, append-nil}
+use Rattle.std.specs.Prelude.{OnErr}
+use Rattle.std.specs.Io.KnownBytes.{Appends, Keeps}
 use Rattle.std.proofs.KnownBytes.{Appends-trans}
-use Rattle.std.specs.List.{flat_map}
-use Rattle.std.proofs.lemmas.List.Concat.{flat_map-cons}
-use Rattle.std.proofs.lemmas.Grind.{flat_map-append}
 use Rattle.j39_frame.specs.Device.{AppendsFront}
+
+pub Appends-kept : (a b c : Option (List ℕ)) (bs : List ℕ) → Appends a b bs → Keeps b c → Appends a c bs
+Appends-kept None b c bs p q = tt
+Appends-kept (Some x) None c bs p q = absurd p
+Appends-kept (Some x) (Some y) None bs p q = absurd q
+Appends-kept (Some x) (Some y) (Some z) bs p q = q ∙ p
+
+-- all of the bytes are a front of them
+pub front_of_all : (a b c : Option (List ℕ)) (bs : List ℕ) → Appends a b bs → Keeps b c → AppendsFront a c bs
+front_of_all a b c bs p q = (bs, [], sym (append-nil bs), Appends-kept a b c bs p q)
 
 -- a fault in the middle
 pub front_within : (old mid new : Option (List ℕ)) (a b rest all : List ℕ) → all ≡ a ++ (b ++ rest)
@@ -30,11 +37,3 @@ on_err (Err e) P p = p
 pub on_err_from : {T E : Type 0} (r : Result T E) (P Q : Type 0) → (P → Q) → OnErr r P → OnErr r Q
 on_err_from (Ok x) P Q f h = tt
 on_err_from (Err e) P Q f h = f h
-
--- what each element gives, in the order of the list
-pub flat_map-at : (f : ℕ → List ℕ) (xs : List ℕ) (i : ℕ) → i < length xs
-    → flat_map f xs ≡ flat_map f (take i xs) ++ (f (get_or xs i 0) ++ flat_map f (drop (suc i) xs))
-flat_map-at f xs i below =
-    let cut : xs ≡ take i xs ++ (get_or xs i 0 ∷ drop (suc i) xs) = sym (take-append-drop i xs) ∙ ap (λ ys. take i xs ++ ys) (drop-cons xs i 0 below) in
-    ap (flat_map f) cut ∙ flat_map-append f (take i xs) (get_or xs i 0 ∷ drop (suc i) xs)
-    ∙ ap (λ ys. flat_map f (take i xs) ++ ys) (flat_map-cons f (get_or xs i 0) (drop (suc i) xs))
