@@ -11,7 +11,8 @@ use crate::reading::rows;
 use crate::slot::Slot;
 use crate::table::{Field, Row};
 
-/// The slot of a parameter that is a number; `None` for switches, texts and unknown numbers (SPN).
+/// The slot of a parameter (SPN) that is a number (J1939-71); `None` for switches, texts and unknown
+/// parameters.
 pub fn slot_of(spn: u32) -> Option<Slot>
     ensures { option_map slot_record result ≡ slot_of_spn spn }
 {
@@ -19,8 +20,9 @@ pub fn slot_of(spn: u32) -> Option<Slot>
     Some(number.slot)
 }
 
-/// The valid raw number of a parameter (SPN) with this value, in units of the last printed place.
-/// `None` where the parameter has no slot, and where no valid raw number has this very value.
+/// The valid raw number of a parameter (SPN) with this value, in units of the last printed place
+/// (J1939-71). `None` where the parameter has no slot, the value is off the slot's steps, or the raw
+/// number is past the valid range (top byte 00 to FA).
 pub fn raw_of(spn: u32, value: i64) -> Option<u32>
     ensures found { IfSome result (λ raw. IsRawOf spn value raw) }
     ensures only { (raw : ℕ) → IsRawOf spn value raw → result ≡ Some raw }

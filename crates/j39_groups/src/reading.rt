@@ -33,7 +33,7 @@ fn may_be_listed(pgn: u32) -> bool
     word >> (pgn % 64) & 1 == 1
 }
 
-/// Whether parameters of this group are read.
+/// Whether parameters of this group are read (own): those of the table alone.
 #[tactic(auto, unfolding(crate::specs::Readings::is_reported_group))]
 pub fn is_reported(pgn: Pgn) -> bool
     ensures { result ≡ is_reported_group (pgn_raw pgn) }
@@ -48,8 +48,9 @@ fn has_group(rows: &[Row], pgn: u32) -> bool
     rows.iter().any(|row| row.pgn == pgn)
 }
 
-/// What is read in a payload of this group, in the table's order; nothing for a group that is not
-/// reported. Texts are lent out of the payload.
+/// What is read in a payload of this group, of any length, in the table's order (J1939-71). Nothing
+/// for a group that is not reported; no reading for a parameter with a byte past the payload's end,
+/// one that is not available, or an empty text. Texts are lent out of the payload.
 #[tactic(auto, unfolding(crate::specs::Readings::readings_of))]
 pub fn readings(pgn: Pgn, bytes: &[u8]) -> ArrayVec<Reading<'_>, 8>
     ensures { map reading_of result.items ≡ readings_of (pgn_raw pgn) bytes.now }

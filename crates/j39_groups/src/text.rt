@@ -17,7 +17,8 @@ use j39_frame::{DeviceFault, Sink, put_all};
 /// A sign, 20 digits, a point, 255 places, a space and a unit fit.
 type Text = ArrayVec<u8, 288>;
 
-/// Writes a value's text. After a fault a front of it was written.
+/// Writes a value's text (own): a number in decimal with its places and unit, a word, or a text in
+/// quotes. After a fault a front of the text was written.
 #[tactic(auto, unfolding(crate::specs::ValueText::value_text))]
 pub fn put_value<W: Sink>(value: &Value<'_>, sink: &mut W) -> Result<(), DeviceFault>
     ensures ok { OnOk result (Appends (W.held sink.old) (W.held sink.new) (value_text (value_of value.now))) }

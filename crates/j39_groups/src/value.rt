@@ -2,26 +2,26 @@
 
 use crate::slot::Slot;
 
-/// A parameter's value.
+/// A parameter's value (J1939-71).
 #[derive(Clone, Copy, Debug, PartialEq, Eq)]
 pub enum Value<'a> {
-    /// A valid number, `raw * step + offset`, and its slot.
+    /// A valid number, `raw * step + offset`, in units of the last printed place, and its slot.
     Number(i64, Slot),
     /// A switch that is on.
     On,
     /// A switch that is off.
     Off,
-    /// The sender reports an error.
+    /// The sender reports an error (top byte FE, or bits 10).
     Error,
-    /// A raw value in the reserved range.
+    /// A raw value in the reserved range (top byte FC or FD).
     Reserved,
-    /// A raw value in the range of parameter specific indicators.
+    /// A raw value in the range of parameter specific indicators (top byte FB).
     Indicator,
-    /// A text that is not empty, lent out of the payload.
+    /// A text that is not empty, lent out of the payload; any bytes but `*`.
     Text(&'a [u8]),
 }
 
-/// A parameter that was read.
+/// A parameter that was read (J1939-71).
 #[derive(Clone, Copy, Debug, PartialEq, Eq)]
 pub struct Reading<'a> {
     /// The parameter's number (SPN).
