@@ -1,9 +1,9 @@
 -- The lines of a log are determined by its bytes.
-use Rattle.std.proofs.Common.{◌≡◌, ◌≢◌, ◌==◌, ◌⊎◌, ℕ, List, [], ◌∷◌, ◌++◌, refl, sym, ap, ap₂, ◌∙◌, if◌then◌else◌, append-nil, append_assoc, inl, inr, true, false}
+use Rattle.std.proofs.Common.{◌≡◌, ◌≢◌, ◌==◌, ◌⊎◌, ℕ, List, [], ◌∷◌, ◌++◌, refl, sym, ap, ap₂, ◌∙◌, if◌then◌else◌, append-nil, append_assoc, inl, inr, false}
 use Rattle.std.specs.List.{AllByRecursion}
 use Rattle.std.proofs.lemmas.Bool.{eqb-true, eqb-false, ne_eqb, cond_both}
 use Rattle.j39_frame.specs.Frame.{FrameRecord}
-use Rattle.j39_frame.specs.Spelled.{Spelled, Spells}
+use Rattle.j39_frame.specs.Spelled.{Spelled}
 use Rattle.j39_frame.specs.Log.{HasNoNewline, ended, LacksLastNewline, AreLines, SpellEach, IsLog, frames_of, AreFrames}
 use Rattle.j39_frame.proofs.LineLemmas.{one_spelled}
 
