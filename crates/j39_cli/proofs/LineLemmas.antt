@@ -1,5 +1,5 @@
 -- Where the first newline stands.
-use Rattle.std.proofs.Common.{◌≡◌, ◌≢◌, ◌<◌, ◌≤◌, ◌==◌, ◌-◌, ℕ, zero, suc, not, true, false, List, [], ◌∷◌, ◌++◌, length, take, drop, get_or, sym, ap, ◌∙◌, arith, take-append-drop, length-drop, take_all, refl}
+use Rattle.std.proofs.Common.{◌≡◌, ◌≢◌, ◌<◌, ◌≤◌, ◌==◌, ◌-◌, ℕ, zero, suc, not, false, List, [], ◌∷◌, ◌++◌, length, take, drop, get_or, sym, ap, ◌∙◌, arith, take-append-drop, length-drop, take_all, refl}
 use Rattle.std.specs.List.{prefix_len}
 use Rattle.std.proofs.lemmas.Grind.{common_steps}
 use Rattle.std.proofs.lemmas.Bool.{eqb-true, eqb-false, not-true, not-false}
@@ -15,10 +15,10 @@ front_whole : (bytes : List ℕ) (n : ℕ) → n ≡ line_len bytes → HasNoNew
 front_whole bytes n e =
     recursion_from_All (λ b. b ≢ 10) (take n bytes)
     (All-from_get_or (λ b. b ≢ 10) (take n bytes) 0 (λ i lt.
-      let p = prefix_len_passes (λ b. not (b == 10)) bytes i 0 in
-      let below : i < line_len bytes = grind (arith, common_steps) in
-      let at : get_or (take n bytes) i 0 ≡ get_or bytes i 0 = grind (arith, common_steps) in
-      rw at (eqb-false _ 10 (not-true _ (p below)))))
+    let p = prefix_len_passes (λ b. not (b == 10)) bytes i 0 in
+    let below : i < line_len bytes = grind (arith, common_steps) in
+    let at : get_or (take n bytes) i 0 ≡ get_or bytes i 0 = grind (arith, common_steps) in
+    rw at (eqb-false _ 10 (not-true _ (p below)))))
 
 pub no_newline : (bytes rest : List ℕ) (n : ℕ) → n ≡ line_len bytes → rest ≡ drop n bytes → length rest ≡ 0 → HasNoNewline bytes
 no_newline bytes rest n e q none =

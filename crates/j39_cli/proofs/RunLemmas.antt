@@ -1,6 +1,6 @@
 -- A run, line by line, against its definition.
-use Rattle.std.proofs.Common.{◌≡◌, ◌≢◌, ◌<◌, ◌≤◌, ◌+◌, ◌-◌, ◌^◌, ℕ, List, [], ◌∷◌, ◌++◌, Option, Some, None, Bool, true, false, ◌==◌, length, min, refl, sym, ap, ap₂, ◌∙◌, subst, arith, append-nil, append_assoc, length-append, inl, inr}
-use Rattle.std.specs.Prelude.{option_map, unwrap_or, count_by}
+use Rattle.std.proofs.Common.{◌≡◌, ◌≢◌, ◌<◌, ◌+◌, ◌^◌, ℕ, List, [], ◌∷◌, ◌++◌, Option, Some, None, Bool, true, false, ◌==◌, length, refl, sym, ap, ap₂, ◌∙◌, subst, arith, append-nil, append_assoc, length-append, inl, inr}
+use Rattle.std.specs.Prelude.{unwrap_or, count_by}
 use Rattle.std.specs.List.{AllByRecursion, filter_map, cons_option, flat_map}
 use Rattle.std.specs.Str.{bytes_eq}
 use Rattle.std.specs.Io.KnownBytes.{Appends, Keeps}
@@ -9,7 +9,7 @@ use Rattle.std.proofs.lemmas.List.Elements.{filter_map-append}
 use Rattle.std.proofs.lemmas.Bool.{eqb-true, eqb-false}
 use Rattle.std.proofs.lemmas.Grind.{flat_map-append, common_steps}
 use Rattle.j39_frame.specs.Frame.{FrameRecord}
-use Rattle.j39_frame.specs.Log.{HasNoNewline, ended, AreLines, SpellEach, IsLog, bus_of, first_bus, frame_on, frames_of, is_on, is_other_on, is_unread, others_of, unread_of}
+use Rattle.j39_frame.specs.Log.{HasNoNewline, ended, SpellEach, bus_of, first_bus, frame_on, frames_of, is_other_on, is_unread, others_of, unread_of}
 use Rattle.j39_frame.specs.Spelled.{Spelled, frame, other, unread, blank, Spells}
 use Rattle.j39_cli.specs.Counting.{capped, counts_of, frame_counts, sum_of}
 use Rattle.j39_cli.specs.Heard.{Hearing, hearing_of, heard_of}
@@ -318,9 +318,9 @@ has_met given log rest line bus bus' counts counts' old mid new h r =
     record {
       bus_is = r.meets.bus_is ∙ ap (λ (o : Option (List ℕ)). bus_of o (s ∷ [])) at ∙ sym (bus_of-append given h.spelled (s ∷ []));
       counts_are = r.counts_are ∙ ap₂ sum_of h.counts_are (r.meets.met_is ∙ ap (λ (o : Option (List ℕ)). counts_of o (s ∷ [])) at)
-        ∙ sym (counts_of-append given h.spelled (s ∷ []));
+          ∙ sym (counts_of-append given h.spelled (s ∷ []));
       written = subst (Appends old new) (sym (run_text-append given h.spelled (s ∷ [])))
-        (Appends-trans old mid new _ _ h.written (subst (λ (o : Option (List ℕ)). Appends mid new (run_text o (s ∷ []))) at r.meets.written));
+          (Appends-trans old mid new _ _ h.written (subst (λ (o : Option (List ℕ)). Appends mid new (run_text o (s ∷ []))) at r.meets.written));
     }
 
 -- one line more that is ended

@@ -1,5 +1,5 @@
 -- What a task leaves of its devices.
-use Rattle.std.specs.Prelude.{◌≡◌, ◌⊎◌, ℕ, Bool, true, List, Option, IfSome}
+use Rattle.std.specs.Prelude.{◌≡◌, ◌⊎◌, ℕ, Bool, true, List, Option}
 use Rattle.std.specs.Io.KnownBytes.{Appends}
 use Rattle.j39_frame.specs.Device.{AppendsFront}
 use Rattle.j39_cli.specs.Run.{WritesReport}

@@ -17,7 +17,11 @@ pub(crate) enum ReadFault {
 const PIECE: usize = 65_536;
 
 /// Reads a log of at most `limit` bytes to its end.
-pub(crate) fn read_log<R: Source>(alloc: Global, source: &mut R, limit: u64) -> Result<Vec<u8>, ReadFault>
+pub(crate) fn read_log<R: Source>(
+    alloc: Global,
+    source: &mut R,
+    limit: u64,
+) -> Result<Vec<u8>, ReadFault>
     ensures bytes { IfOk result (λ log. IfSome (R.remaining source.old) (λ bytes. log.items ≡ bytes)) }
     ensures short { IfOk result (λ log. vec_len log ≤ limit) }
     ensures read { result ≡ Err Read → R.has_failed source.new ≡ true }

@@ -34,7 +34,11 @@ impl Reporter {
 }
 
 /// Reads a line of a run, writes the report of its frame, and answers what the line counts for.
-fn put_line<W: Sink>(bus: &mut Option<Bus>, line: &[u8], sink: &mut W) -> Result<Counts, DeviceFault>
+fn put_line<W: Sink>(
+    bus: &mut Option<Bus>,
+    line: &[u8],
+    sink: &mut W,
+) -> Result<Counts, DeviceFault>
     ensures met { IfOk result (λ met. MeetsLine line.now bus.old bus.new met (W.held sink.old) (W.held sink.new)) }
     ensures mark { Marks result (W.has_failed sink.old) (W.has_failed sink.new) }
 {
@@ -98,7 +102,10 @@ fn put_frame<W: Sink>(frame: &Frame, sink: &mut W) -> Result<Counts, DeviceFault
     ensures mark { Marks result (W.has_failed sink.old) (W.has_failed sink.new) }
 {
     let Some(heard) = heard_in(frame) else {
-        return Ok(Counts { frames: 1, ..NOTHING });
+        return Ok(Counts {
+            frames: 1,
+            ..NOTHING
+        });
     };
     let lines = put_heard(&heard, sink)?;
     Ok(Counts {

@@ -13,8 +13,7 @@ loop-reading-init g c =
 
 pub loop-reading-preserved : goal.loop-reading-preserved
 loop-reading-preserved g c =
-    let head = c.as_slice.ensures.value ∙ c.head_of-head.ensures in
-    (
+    let head = c.as_slice.ensures.value ∙ c.head_of-head.ensures in (
       appends_line _ _ _ (hearing_at c.args.heard.now) _ c.loop-reading.reading-index _ _ (omega arith) head c.loop-reading.invariant.0 c.in_ok-put_reading.ensures.written,
       c.in_ok-put_reading.ensures.mark ∙ c.loop-reading.invariant.1,
     )

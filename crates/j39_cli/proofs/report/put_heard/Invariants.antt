@@ -9,5 +9,5 @@ use Rattle.j39_cli.proofs.report.put_heard.Given as goal
 abbrev pub invariant-loop-reading : goal.invariant-loop-reading
 invariant-loop-reading g l =
     Appends (g.W.Sink.held l.initial.sink) (g.W.Sink.held l.sink)
-        (text_of (map (entry_of (hearing_at l.heard)) (map reading_of (take l.reading-index l.reading-items))))
+    (text_of (map (entry_of (hearing_at l.heard)) (map reading_of (take l.reading-index l.reading-items))))
     × (g.W.Sink.has_failed l.sink ≡ g.W.Sink.has_failed l.initial.sink)

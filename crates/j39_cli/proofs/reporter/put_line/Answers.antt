@@ -12,8 +12,8 @@ both (Err e) P R f p q = tt
 pub returns-then-is_on-clause-met : goal.returns-then-is_on-clause-met
 returns-then-is_on-clause-met g c =
     both c.put_frame.result _ _ (λ met counts text.
-      meets_frame c.args.line.now c.in-Frame.name.now c.in-Frame.frame _ _ met _ _ c.in-Frame.ensures.reads c.is_on.ensures.bus
-      (sym c.is_on.ensures.on ∙ c.if-is_on.true) counts text) c.put_frame.ensures.counts c.put_frame.ensures.written
+    meets_frame c.args.line.now c.in-Frame.name.now c.in-Frame.frame _ _ met _ _ c.in-Frame.ensures.reads c.is_on.ensures.bus
+    (sym c.is_on.ensures.on ∙ c.if-is_on.true) counts text) c.put_frame.ensures.counts c.put_frame.ensures.written
 
 pub returns-else-is_on-clause-met : goal.returns-else-is_on-clause-met
 returns-else-is_on-clause-met g c =
