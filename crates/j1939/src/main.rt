@@ -2,12 +2,11 @@
 #![tactic(auto)]
 
 use j39_cli::{ParseFault, Task, parse, perform, refuse, unopened};
-use j39_frame::{Sink, Told};
-use std::fs;
+use j39_frame::Told;
 use std::io::BufWriter;
 use std::process::ExitCode;
 use std::rt::{Stderr, Stdout};
-use std::{env, io};
+use std::{env, fs, io};
 
 /// The bytes that are kept before they are written.
 const OUT_BUFFER: usize = 65_536;
@@ -37,7 +36,12 @@ fn answer(rt: &HostRuntime, err: &mut Told<Stderr>) -> io::Result<u8> {
 }
 
 /// Performs a task over its FILE, or over standard input.
-fn done(rt: &HostRuntime, task: &Task<'_>, out: &mut Told<BufWriter<Stdout>>, err: &mut Told<Stderr>) -> u8 {
+fn done(
+    rt: &HostRuntime,
+    task: &Task<'_>,
+    out: &mut Told<BufWriter<Stdout>>,
+    err: &mut Told<Stderr>,
+) -> u8 {
     let Some(file) = task.file() else {
         return perform(rt.alloc(), task, &mut Told::new(rt.stdin()), out, err);
     };

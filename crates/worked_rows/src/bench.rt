@@ -32,15 +32,28 @@ pub fn counts(numbers: [u64; 5]) -> Counts {
 }
 
 /// The report of a log is this text, with these counts.
-pub fn reports(rt: &(impl Abort + AllocGlobal), log: &str, want: &str, numbers: [u64; 5]) -> Result<(), Fail> {
+pub fn reports(
+    rt: &(impl Abort + AllocGlobal),
+    log: &str,
+    want: &str,
+    numbers: [u64; 5],
+) -> Result<(), Fail> {
     let (out, met) = report(rt.alloc(), log.as_bytes())?;
-    assert_eq!(rt; String::from_utf8_lossy(rt.alloc(), out.as_slice())?.as_str(), want);
+    assert_eq!(rt;
+        String::from_utf8_lossy(rt.alloc(), out.as_slice())?.as_str(),
+        want
+    );
     assert_eq!(rt; met, counts(numbers));
     Ok(())
 }
 
 /// The report of one frame has these values, each given from its SPN on.
-pub fn reads(rt: &(impl Abort + AllocGlobal), frame: &str, pgn: &str, values: &[&str]) -> Result<(), Fail> {
+pub fn reads(
+    rt: &(impl Abort + AllocGlobal),
+    frame: &str,
+    pgn: &str,
+    values: &[&str],
+) -> Result<(), Fail> {
     let alloc = rt.alloc();
     let log = format!(in alloc; "(1.000000) can0 {frame}\n")?;
     let mut want = String::new(alloc);

@@ -30,7 +30,11 @@ impl Read for Broken<'_> {
 }
 
 /// What `report` writes on standard error, and its status.
-fn status_of<R: Read + Drop>(alloc: Global, source: R, out: &mut [u8]) -> Result<(Vec<u8>, u8), Fail> {
+fn status_of<R: Read + Drop>(
+    alloc: Global,
+    source: R,
+    out: &mut [u8],
+) -> Result<(Vec<u8>, u8), Fail> {
     let task = parse(alloc, &["j1939", "report"])?;
     let mut err = Vec::new(alloc);
     let status = perform(
@@ -46,11 +50,23 @@ fn status_of<R: Read + Drop>(alloc: Global, source: R, out: &mut [u8]) -> Result
 #[test]
 fn log_at_the_limit(rt: HostRuntime) -> Result<(), Fail> {
     let mut out = Vec::new(rt.alloc());
-    let met = run(rt.alloc(), &mut Told::new(LOG), &mut Told::new(&mut out), None, 102)?;
+    let met = run(
+        rt.alloc(),
+        &mut Told::new(LOG),
+        &mut Told::new(&mut out),
+        None,
+        102,
+    )?;
     assert_eq!(rt; met, counts([2, 0, 0, 1, 3]));
     assert_eq!(rt; out.as_slice(), TEXT);
     let mut out = Vec::new(rt.alloc());
-    let met = run(rt.alloc(), &mut Told::new(LOG), &mut Told::new(&mut out), None, 101);
+    let met = run(
+        rt.alloc(),
+        &mut Told::new(LOG),
+        &mut Told::new(&mut out),
+        None,
+        101,
+    );
     assert_eq!(rt; met, Err(RunFault::TooLong));
     assert!(rt; out.is_empty());
     Ok(())
@@ -80,7 +96,10 @@ fn counts_on_standard_error(rt: HostRuntime) -> Result<(), Fail> {
     let mut out = [0u8; 200];
     let (err, status) = status_of(rt.alloc(), LOG, &mut out)?;
     assert_eq!(rt; status, 0);
-    assert_eq!(rt; err.as_slice(), b"frames 2 other 0 unread 0 messages 1 lines 3\n".as_slice());
+    assert_eq!(rt;
+        err.as_slice(),
+        b"frames 2 other 0 unread 0 messages 1 lines 3\n".as_slice()
+    );
     assert!(rt; out.starts_with(TEXT));
     Ok(())
 }
@@ -89,7 +108,13 @@ fn counts_on_standard_error(rt: HostRuntime) -> Result<(), Fail> {
 fn bus_that_is_given(rt: HostRuntime) -> Result<(), Fail> {
     let bus = Bus::new(b"can1");
     let mut out = Vec::new(rt.alloc());
-    let met = run(rt.alloc(), &mut Told::new(LOG), &mut Told::new(&mut out), bus, 1000)?;
+    let met = run(
+        rt.alloc(),
+        &mut Told::new(LOG),
+        &mut Told::new(&mut out),
+        bus,
+        1000,
+    )?;
     assert_eq!(rt; met, counts([0, 2, 0, 0, 0]));
     assert!(rt; out.is_empty());
     Ok(())

@@ -25,7 +25,10 @@ fn id(alloc: Global, hex: &str) -> (Vec<u8>, Vec<u8>, u8) {
 #[test]
 fn id_fields(rt: HostRuntime) -> Result<(), Fail> {
     let rows = [
-        ("18EEFF00", "priority 6 pgn 60928 destination 255 source 0\n"),
+        (
+            "18EEFF00",
+            "priority 6 pgn 60928 destination 255 source 0\n",
+        ),
         ("0CF00400", "priority 3 pgn 61444 destination - source 0\n"),
     ];
     for (hex, want) in rows {

@@ -5,8 +5,18 @@ use std::test::Fail;
 
 #[test]
 fn engine_speed_ranges(rt: HostRuntime) -> Result<(), Fail> {
-    reads(&rt, "0CF00400#F0FFFFFFFAFFFFFF", "61444", &["190 8031.875 rpm"])?;
-    reads(&rt, "0CF00400#F0FFFF00FBFFFFFF", "61444", &["190 indicator"])?;
+    reads(
+        &rt,
+        "0CF00400#F0FFFFFFFAFFFFFF",
+        "61444",
+        &["190 8031.875 rpm"],
+    )?;
+    reads(
+        &rt,
+        "0CF00400#F0FFFF00FBFFFFFF",
+        "61444",
+        &["190 indicator"],
+    )?;
     reads(&rt, "0CF00400#F0FFFF00FCFFFFFF", "61444", &["190 reserved"])?;
     reads(&rt, "0CF00400#F0FFFF00FEFFFFFF", "61444", &["190 error"])?;
     reads(&rt, "0CF00400#F0FFFF00FFFFFFFF", "61444", &[])
@@ -14,9 +24,24 @@ fn engine_speed_ranges(rt: HostRuntime) -> Result<(), Fail> {
 
 #[test]
 fn temperatures(rt: HostRuntime) -> Result<(), Fail> {
-    reads(&rt, "18FEEE00#82FF402DFFFFFFFF", "65262", &["110 90 degC", "175 89.00000 degC"])?;
-    reads(&rt, "18FEEE00#00FF0000FFFFFFFF", "65262", &["110 -40 degC", "175 -273.00000 degC"])?;
-    reads(&rt, "18FEEE00#FFFF1F22FFFFFFFF", "65262", &["175 -0.03125 degC"])
+    reads(
+        &rt,
+        "18FEEE00#82FF402DFFFFFFFF",
+        "65262",
+        &["110 90 degC", "175 89.00000 degC"],
+    )?;
+    reads(
+        &rt,
+        "18FEEE00#00FF0000FFFFFFFF",
+        "65262",
+        &["110 -40 degC", "175 -273.00000 degC"],
+    )?;
+    reads(
+        &rt,
+        "18FEEE00#FFFF1F22FFFFFFFF",
+        "65262",
+        &["175 -0.03125 degC"],
+    )
 }
 
 #[test]
@@ -25,25 +50,56 @@ fn vehicle_speed_and_switches(rt: HostRuntime) -> Result<(), Fail> {
         &rt,
         "18FEF100#F70019CDFF50FFFF",
         "65265",
-        &["70 on", "84 25.00000000 km/h", "595 on", "597 off", "86 80 km/h"],
+        &[
+            "70 on",
+            "84 25.00000000 km/h",
+            "595 on",
+            "597 off",
+            "86 80 km/h",
+        ],
     )?;
     reads(&rt, "18FEF100#F700", "65265", &["70 on"])
 }
 
 #[test]
 fn hours_voltage_fuel(rt: HostRuntime) -> Result<(), Fail> {
-    reads(&rt, "18FEE500#4523010002000000", "65253", &["247 3728.25 h", "249 2000 r"])?;
-    reads(&rt, "18FEE500#FFFFFFFA000000FB", "65253", &["247 210554060.75 h", "249 indicator"])?;
+    reads(
+        &rt,
+        "18FEE500#4523010002000000",
+        "65253",
+        &["247 3728.25 h", "249 2000 r"],
+    )?;
+    reads(
+        &rt,
+        "18FEE500#FFFFFFFA000000FB",
+        "65253",
+        &["247 210554060.75 h", "249 indicator"],
+    )?;
     reads(&rt, "18FEF700#FFFFFFFF1801FFFF", "65271", &["168 14.00 V"])?;
-    reads(&rt, "18FEF200#64000100FFFFFFFF", "65266", &["183 5.00 L/h", "184 0.001953125 km/L"])
+    reads(
+        &rt,
+        "18FEF200#64000100FFFFFFFF",
+        "65266",
+        &["183 5.00 L/h", "184 0.001953125 km/L"],
+    )
 }
 
 #[test]
 fn vin_in_one_frame(rt: HostRuntime) -> Result<(), Fail> {
-    reads(&rt, "18FEEC00#41225C0A2A", "65260", &["237 \"A\\x22\\x5C\\x0A\""])?;
+    reads(
+        &rt,
+        "18FEEC00#41225C0A2A",
+        "65260",
+        &["237 \"A\\x22\\x5C\\x0A\""],
+    )?;
     reads(&rt, "18FEEC00#2A", "65260", &[])?;
     // The null address is never heard.
-    reports(&rt, "(1.000000) can0 0CF004FE#F0A096E02EFFFFFF\n", "", [1, 0, 0, 0, 0])
+    reports(
+        &rt,
+        "(1.000000) can0 0CF004FE#F0A096E02EFFFFFF\n",
+        "",
+        [1, 0, 0, 0, 0],
+    )
 }
 
 #[test]
