@@ -3,7 +3,7 @@
 
 use j39_cli::{ParseFault, Task, parse, perform, refuse, unopened};
 use j39_frame::Told;
-use std::io::BufWriter;
+use std::io::{BufWriter, ErrorKind};
 use std::process::ExitCode;
 use std::rt::{Stderr, Stdout};
 use std::{env, fs, io};
@@ -15,10 +15,24 @@ fn main(rt: HostRuntime) -> ExitCode {
     let mut err = Told::new(rt.stderr());
     let status = match answer(&rt, &mut err) {
         Ok(status) => status,
-        // Before there is a task, memory alone can be refused.
-        Err(_) => refuse(&ParseFault::Memory, &mut Told::new(rt.stdout()), &mut err),
+        Err(error) => refuse(
+            &fault_of(&rt, &error),
+            &mut Told::new(rt.stdout()),
+            &mut err,
+        ),
     };
     ExitCode::from(status)
+}
+
+/// Why there are no words to read: memory was refused, or one of them is no text.
+fn fault_of(rt: &HostRuntime, error: &io::Error) -> ParseFault {
+    if error.kind() == ErrorKind::OutOfMemory {
+        return ParseFault::Memory;
+    }
+    match String::from_str(rt.alloc(), "error: a word is not UTF-8\n") {
+        Ok(text) => ParseFault::Usage(text),
+        Err(_) => ParseFault::Memory,
+    }
 }
 
 /// Does what the words ask for, and answers the exit status.

@@ -1,11 +1,13 @@
 //! Tasks over devices.
-ghost use Rattle.std.specs.Prelude.{◌≡◌, ◌⊎◌, List, ℕ, Option, true, IfSome, OnOk, OnErr};
+ghost use Rattle.std.specs.Prelude.{◌≡◌, ◌⊎◌, List, [], ℕ, Option, IfSome, OnOk, OnErr, codes};
 ghost use Rattle.std.specs.Io.KnownBytes.{Appends};
 ghost use Rattle.j39_frame.specs.Device.{AppendsFront, Marks};
 ghost use Rattle.j39_frame.specs.Identifier.{id_raw};
 ghost use Rattle.j39_frame.specs.declared.identifier.Id.{Id as Identifier};
 ghost use Rattle.j39_cli.specs.Fields.{id_text};
-ghost use Rattle.j39_cli.specs.Perform.{HasReport, PutsText};
+ghost use Rattle.j39_cli.specs.Perform.{Fails, HasReport, PutsText, fault_text};
+ghost use Rattle.j39_cli.specs.Refusal.{Writes, error_line};
+ghost use Rattle.j39_cli.specs.declared.runs.RunFault.{RunFault};
 
 use crate::fields::{counts_line, id_line};
 use crate::refusal::{complain, show};
@@ -28,15 +30,23 @@ pub fn perform<R: Source, W: Sink, E: Sink>(
 ) -> u8
     ensures status { (result ≡ 0) ⊎ (result ≡ 1) }
 
-    // The fields of an identifier: all of the line and 0, or a front of it and 1.
-    ensures id { (id : Identifier) → task.now ≡ Task.Id id
-        → PutsText (id_text (id_raw id)) result (W.held sink.old) (W.held sink.new) (W.has_failed sink.new) }
-
-    // A report: 0 only where all of it was written and no device failed.
+    // A report: 0 where all of it was written and no device failed, else 1 and the fault that came.
     ensures report { (bus : Option (List ℕ)) (file : Option (List ℕ)) → task.now ≡ Task.Report bus file → result ≡ 0
-        → IfSome (R.remaining source.old) (λ log. HasReport bus log (W.held sink.old) (W.held sink.new)) }
-    ensures unmarked { (bus : Option (List ℕ)) (file : Option (List ℕ)) → task.now ≡ Task.Report bus file → result ≡ 0
+        → IfSome (R.remaining source.old) (λ log. HasReport bus log (W.held sink.old) (W.held sink.new)
+        (E.held err.old) (E.held err.new) (E.has_failed err.new)) }
+    ensures report_unmarked { (bus : Option (List ℕ)) (file : Option (List ℕ)) → task.now ≡ Task.Report bus file → result ≡ 0
         → (R.has_failed source.new ≡ R.has_failed source.old) × (W.has_failed sink.new ≡ W.has_failed sink.old) }
+    ensures report_fails { (bus : Option (List ℕ)) (file : Option (List ℕ)) → task.now ≡ Task.Report bus file → result ≡ 1
+        → (fault : RunFault) × Fails fault (R.remaining source.old) (R.has_failed source.new) (W.has_failed sink.new)
+        (E.held err.old) (E.held err.new) (E.has_failed err.new) }
+
+    // The fields of an identifier: all of the line and 0, or a front of it and 1. No log is read.
+    ensures id { (id : Identifier) → task.now ≡ Task.Id id
+        → PutsText (id_text (id_raw id)) result (W.held sink.old) (W.held sink.new) (W.has_failed sink.old) (W.has_failed sink.new) }
+    ensures id_source { (id : Identifier) → task.now ≡ Task.Id id → source.new ≡ source.old }
+    ensures id_silent { (id : Identifier) → task.now ≡ Task.Id id → result ≡ 0 → err.new ≡ err.old }
+    ensures id_told { (id : Identifier) → task.now ≡ Task.Id id → result ≡ 1
+        → Writes (E.held err.old) (E.held err.new) (E.has_failed err.new) (error_line (codes "write failed") []) }
 {
     match task {
         Task::Report(bus, _) => perform_report(alloc, bus, source, sink, err),
@@ -52,10 +62,13 @@ fn perform_report<R: Source, W: Sink, E: Sink>(
     err: &mut E,
 ) -> u8
     ensures status { (result ≡ 0) ⊎ (result ≡ 1) }
-    ensures report { result ≡ 0
-        → IfSome (R.remaining source.old) (λ log. HasReport bus.now log (W.held sink.old) (W.held sink.new)) }
+    ensures report { result ≡ 0 → IfSome (R.remaining source.old) (λ log. HasReport bus.now log (W.held sink.old) (W.held sink.new)
+        (E.held err.old) (E.held err.new) (E.has_failed err.new)) }
     ensures unmarked { result ≡ 0
         → (R.has_failed source.new ≡ R.has_failed source.old) × (W.has_failed sink.new ≡ W.has_failed sink.old) }
+    ensures fails { result ≡ 1
+        → (fault : RunFault) × Fails fault (R.remaining source.old) (R.has_failed source.new) (W.has_failed sink.new)
+        (E.held err.old) (E.held err.new) (E.has_failed err.new) }
 {
     match run(alloc, source, sink, copy_of(bus), LOG_LIMIT) {
         Ok(counts) => {
@@ -78,7 +91,9 @@ fn copy_of(bus: &Option<Bus>) -> Option<Bus>
     }
 }
 
-fn words_of(fault: RunFault) -> &'static str {
+fn words_of(fault: RunFault) -> &'static str
+    ensures { result.now ≡ fault_text fault }
+{
     match fault {
         RunFault::Memory => "out of memory",
         RunFault::Read => "read failed",
@@ -88,7 +103,11 @@ fn words_of(fault: RunFault) -> &'static str {
 }
 
 fn perform_id<W: Sink, E: Sink>(id: Id, sink: &mut W, err: &mut E) -> u8
-    ensures { PutsText (id_text (id_raw id)) result (W.held sink.old) (W.held sink.new) (W.has_failed sink.new) }
+    ensures line { PutsText (id_text (id_raw id)) result (W.held sink.old) (W.held sink.new)
+        (W.has_failed sink.old) (W.has_failed sink.new) }
+    ensures silent { result ≡ 0 → err.new ≡ err.old }
+    ensures told { result ≡ 1
+        → Writes (E.held err.old) (E.held err.new) (E.has_failed err.new) (error_line (codes "write failed") []) }
 {
     match put_id(id, sink) {
         Ok(()) => 0,

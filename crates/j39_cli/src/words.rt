@@ -71,7 +71,7 @@ fn task_of<'a>(alloc: Global, matches: &ArgMatches<'a>) -> Result<Task<'a>, Pars
     }
     let id = matches.subcommand_matches("id");
     if let Some(given) = id {
-        return id_task_of(given);
+        return id_task_of(alloc, given);
     }
     // clap requires a command and knows no other, so that nothing comes here.
     Err(ParseFault::Usage(String::new(alloc)))
@@ -89,12 +89,12 @@ fn report_of<'a>(given: &ArgMatches<'a>) -> Result<Task<'a>, ParseFault>
     }
 }
 
-fn id_task_of<'a>(given: &ArgMatches<'a>) -> Result<Task<'a>, ParseFault>
+fn id_task_of<'a>(alloc: Global, given: &ArgMatches<'a>) -> Result<Task<'a>, ParseFault>
     ensures answer { (hex : Text) → first_value (found_of given.now) (codes "hex") ≡ Some hex
         → IsAnswer (spelled.id hex) result }
     ensures in_range { IfOk result IsInRange }
 {
-    let hex = match required(given, "hex") {
+    let hex = match required(alloc, given, "hex") {
         Ok(hex) => hex,
         Err(fault) => return Err(fault),
     };
@@ -117,14 +117,13 @@ fn bus_of(given: &ArgMatches<'_>) -> Result<Option<Bus>, ParseFault>
     }
 }
 
-// The value of an argument that clap requires, so that it is there; where it isn't, the answer is the
-// one that every command may give.
-fn required<'a>(given: &ArgMatches<'a>, id: &str) -> Result<&'a str, ParseFault>
+// The value of an argument. clap requires it, so that it is there.
+fn required<'a>(alloc: Global, given: &ArgMatches<'a>, id: &str) -> Result<&'a str, ParseFault>
     ensures ok { IfOk result (λ text. first_value (found_of given.now) id.now ≡ Some text.now) }
     ensures err { IfErr result (λ _. first_value (found_of given.now) id.now ≡ None) }
 {
     match given.get_str(id) {
         Some(text) => Ok(text),
-        None => Err(ParseFault::Memory),
+        None => Err(ParseFault::Usage(String::new(alloc))),
     }
 }

@@ -6,7 +6,7 @@ use Rattle.j39_frame.specs.declared.line.Parts.{Parts}
 use Rattle.j39_frame.specs.declared.line.Parts.TheVariants.{Blank, Three, Unread}
 
 -- the line has these parts, or none
-abbrev pub AreParts : Parts → List ℕ → Type 0
-AreParts Blank line = IsBlankLine line
-AreParts (Three stamp bus third) line = HasParts line bus.now third.now (stamp_micros stamp)
-AreParts Unread line = ((bus third : List ℕ) (stamp : ℕ) → HasParts line bus third stamp → ⊥) × (IsBlankLine line → ⊥)
+abbrev pub HasReadParts : Parts → List ℕ → Type 0
+HasReadParts Blank line = IsBlankLine line
+HasReadParts (Three stamp bus third) line = HasParts line bus.now third.now (stamp_micros stamp)
+HasReadParts Unread line = ((bus third : List ℕ) (stamp : ℕ) → HasParts line bus third stamp → ⊥) × (IsBlankLine line → ⊥)

@@ -4,7 +4,7 @@ ghost use Rattle.j39_frame.specs.Frame.{FrameRecord};
 ghost use Rattle.j39_frame.specs.Log.{AreFrames, AreLines, IsLog};
 ghost use Rattle.j39_frame.specs.Spelled.{Spelled, Spells};
 
-/// A line spells one thing: so at most one frame, of one bus.
+/// A line spells at most one thing: so at most one frame, of one bus.
 pub fn one_spelled()
     ensures { (line : List ℕ) (s t : Spelled) → Spells line s → Spells line t → s ≡ t }
 {}
@@ -15,7 +15,7 @@ pub fn lines_of_a_log()
     ensures same { (bytes : List ℕ) (a b : List (List ℕ)) → AreLines bytes a → AreLines bytes b → a ≡ b }
 {}
 
-/// A log spells one list, and so has one list of frames for each bus that is given or not.
+/// A log spells at most one list, and so has at most one list of frames for each bus, given or not.
 pub fn one_log()
     ensures spelled { (bytes : List ℕ) (s t : List Spelled) → IsLog bytes s → IsLog bytes t → s ≡ t }
     ensures frames { (given : Option (List ℕ)) (bytes : List ℕ) (f g : List FrameRecord)

@@ -1,7 +1,7 @@
 //! Lines of a log.
 ghost use Rattle.std.specs.Prelude.{◌≡◌, ◌≢◌, ℕ, List, [], ◌∷◌, ◌++◌, ◌↔◌, length, IsTrue, Contains};
 ghost use Rattle.j39_frame.specs.Line.{IsBody};
-ghost use Rattle.j39_frame.specs.Parts.{AreParts};
+ghost use Rattle.j39_frame.specs.Parts.{HasReadParts};
 ghost use Rattle.j39_frame.specs.Spelled.{Spelled, Spells};
 ghost use Rattle.j39_frame.specs.Reading.{spelled_of};
 
@@ -44,7 +44,7 @@ enum Parts<'a> {
 }
 
 fn parts_of(line: &[u8]) -> Parts<'_>
-    ensures { AreParts result line.now }
+    ensures { HasReadParts result line.now }
 {
     if line.len() > LINE_LIMIT {
         return Parts::Unread;

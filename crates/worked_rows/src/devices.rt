@@ -4,7 +4,7 @@ use j39_cli::{RunFault, parse, perform, run};
 use j39_frame::{Bus, Told};
 use std::alloc::Global;
 use std::fs;
-use std::io::{self, ErrorKind, Read};
+use std::io::{self, ErrorKind, Read, Write};
 use std::test::Fail;
 
 const LOG: &[u8] = b"(0000000001.000000) can0 18EEFF00#3412400100000080\n\
@@ -26,6 +26,20 @@ impl Read for Broken<'_> {
             return Err(io::Error::from(ErrorKind::Other));
         }
         self.bytes.read(buf)
+    }
+}
+
+/// Takes all bytes, and fails to pass them on.
+#[derive(Drop)]
+struct Stuck;
+
+impl Write for Stuck {
+    fn write(&mut self, bytes: &[u8]) -> io::Result<usize> {
+        Ok(bytes.len())
+    }
+
+    fn flush(&mut self) -> io::Result<()> {
+        Err(io::Error::from(ErrorKind::Other))
     }
 }
 
@@ -88,6 +102,28 @@ fn faults_of_writer_and_reader(rt: HostRuntime) -> Result<(), Fail> {
     assert_eq!(rt; status, 1);
     assert_eq!(rt; err.as_slice(), b"j1939: read failed\n".as_slice());
     assert_eq!(rt; out[0], 0);
+    Ok(())
+}
+
+#[test]
+fn failed_flush(rt: HostRuntime) -> Result<(), Fail> {
+    let alloc = rt.alloc();
+    let met = run(alloc, &mut Told::new(LOG), &mut Told::new(Stuck), None, 102);
+    assert_eq!(rt; met, Err(RunFault::Write));
+    let lines: [&[&str]; 2] = [&["j1939", "report"], &["j1939", "id", "7"]];
+    for words in lines.iter() {
+        let task = parse(alloc, words)?;
+        let mut err = Vec::new(alloc);
+        let status = perform(
+            alloc,
+            &task,
+            &mut Told::new(LOG),
+            &mut Told::new(Stuck),
+            &mut Told::new(&mut err),
+        );
+        assert_eq!(rt; status, 1);
+        assert_eq!(rt; err.as_slice(), b"j1939: write failed\n".as_slice());
+    }
     Ok(())
 }
 
