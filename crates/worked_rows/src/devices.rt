@@ -1,5 +1,5 @@
 //! Devices that fail, and logs that are too long.
-use crate::bench::counts;
+use crate::support::counts;
 use j39_cli::{RunFault, parse, perform, run};
 use j39_frame::{Bus, Told};
 use std::alloc::Global;

@@ -2,12 +2,12 @@
 #![tactic(auto)]
 
 #[cfg(test)]
-mod bench;
-#[cfg(test)]
 mod devices;
 #[cfg(test)]
 mod identifiers;
 #[cfg(test)]
 mod lines;
+#[cfg(test)]
+mod support;
 #[cfg(test)]
 mod values;

@@ -1,5 +1,5 @@
 //! Logs and their reports.
-use crate::bench::reports;
+use crate::support::reports;
 use std::test::Fail;
 
 #[test]

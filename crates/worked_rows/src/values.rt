@@ -1,5 +1,5 @@
 //! Payloads and the values in them.
-use crate::bench::{reads, reports};
+use crate::support::{reads, reports};
 use j39_groups::raw_of;
 use std::test::Fail;
 

@@ -6,7 +6,7 @@ use std::process::Abort;
 use std::test::Fail;
 
 /// What a run over a log in memory wrote, and its counts.
-pub fn report(alloc: Global, log: &[u8]) -> Result<(Vec<u8>, Counts), RunFault> {
+pub(crate) fn report(alloc: Global, log: &[u8]) -> Result<(Vec<u8>, Counts), RunFault> {
     let mut out = Vec::new(alloc);
     let limit = log.len() as u64;
     let counts = run(
@@ -20,7 +20,7 @@ pub fn report(alloc: Global, log: &[u8]) -> Result<(Vec<u8>, Counts), RunFault> 
 }
 
 /// Counts in the order in which they are printed.
-pub fn counts(numbers: [u64; 5]) -> Counts {
+pub(crate) fn counts(numbers: [u64; 5]) -> Counts {
     let [frames, other, unread, messages, lines] = numbers;
     Counts {
         frames,
@@ -32,7 +32,7 @@ pub fn counts(numbers: [u64; 5]) -> Counts {
 }
 
 /// The report of a log is this text, with these counts.
-pub fn reports(
+pub(crate) fn reports(
     rt: &(impl Abort + AllocGlobal),
     log: &str,
     want: &str,
@@ -48,7 +48,7 @@ pub fn reports(
 }
 
 /// The report of one frame has these values, each given from its SPN on.
-pub fn reads(
+pub(crate) fn reads(
     rt: &(impl Abort + AllocGlobal),
     frame: &str,
     pgn: &str,
