@@ -14,18 +14,40 @@ const TEXT: &[u8] = b"(0000000001.010000) 00 ---------------- 61444 512 35 %\n\
     (0000000001.010000) 00 ---------------- 61444 513 25 %\n\
     (0000000001.010000) 00 ---------------- 61444 190 1500.000 rpm\n";
 
-/// Gives its bytes, and then fails.
+/// Gives its bytes, and then fails, as often as it is asked.
 #[derive(Drop)]
 struct Broken<'a> {
     bytes: &'a [u8],
+    faults: u32,
 }
 
 impl Read for Broken<'_> {
     fn read(&mut self, buf: &mut [u8]) -> io::Result<usize> {
         if self.bytes.is_empty() {
+            self.faults = self.faults.saturating_add(1);
             return Err(io::Error::from(ErrorKind::Other));
         }
         self.bytes.read(buf)
+    }
+}
+
+/// Takes all bytes, but at its fourth write.
+#[derive(Drop)]
+struct Skipping {
+    writes: u32,
+}
+
+impl Write for Skipping {
+    fn write(&mut self, bytes: &[u8]) -> io::Result<usize> {
+        self.writes = self.writes.saturating_add(1);
+        if self.writes == 4 {
+            return Err(io::Error::from(ErrorKind::Other));
+        }
+        Ok(bytes.len())
+    }
+
+    fn flush(&mut self) -> io::Result<()> {
+        Ok(())
     }
 }
 
@@ -97,12 +119,43 @@ fn faults_of_writer_and_reader(rt: HostRuntime) -> Result<(), Fail> {
     let mut out = [0u8; 200];
     let broken = Broken {
         bytes: b"(0000000001.000000) can0 18EEFF00#3412400100000080\n",
+        faults: 0,
     };
     let (err, status) = status_of(rt.alloc(), broken, &mut out)?;
     assert_eq!(rt; status, 1);
     assert_eq!(rt; err.as_slice(), b"j1939: read failed\n".as_slice());
     assert_eq!(rt; out[0], 0);
     Ok(())
+}
+
+#[test]
+fn a_fault_ends_the_run(rt: HostRuntime) {
+    let alloc = rt.alloc();
+    let mut broken = Broken {
+        bytes: b"hello\n",
+        faults: 0,
+    };
+    let mut out = Vec::new(alloc);
+    let met = run(
+        alloc,
+        &mut Told::new(&mut broken),
+        &mut Told::new(&mut out),
+        None,
+        102,
+    );
+    assert_eq!(rt; met, Err(RunFault::Read));
+    assert_eq!(rt; broken.faults, 1);
+
+    let mut skipping = Skipping { writes: 0 };
+    let met = run(
+        alloc,
+        &mut Told::new(LOG),
+        &mut Told::new(&mut skipping),
+        None,
+        102,
+    );
+    assert_eq!(rt; met, Err(RunFault::Write));
+    assert_eq!(rt; skipping.writes, 4);
 }
 
 #[test]
