@@ -4,7 +4,7 @@ use Rattle.std.specs.Int.{to_be_bytes, w64}
 use Rattle.std.specs.List.{flat_map}
 use Rattle.hex.specs.Hex.{encode_upper}
 use Rattle.j39_frame.specs.Frame.{FrameRecord}
-use Rattle.j39_frame.specs.Spelling.{stamp_text}
+use Rattle.j39_frame.specs.Printing.{stamp_text}
 use Rattle.j39_groups.specs.Readings.{readings_of}
 use Rattle.j39_groups.specs.Value.{ReadingRecord, ValueRecord}
 use Rattle.j39_groups.specs.ValueText.{value_text}

@@ -7,7 +7,7 @@ ghost use Rattle.j39_cli.specs.Fields.{counts_text, destination_text, id_text};
 use crate::Counts;
 use arrayvec::ArrayVec;
 use j39_frame::Id;
-use j39_frame::spelling::{push_bytes, push_number};
+use j39_frame::printing::{push_bytes, push_number};
 
 /// The line of an identifier's fields, with its newline.
 pub(crate) fn id_line(id: Id) -> ArrayVec<u8, 128>

@@ -9,7 +9,7 @@ ghost use Rattle.j39_cli.specs.Report.{entries_of, hearing_head, text_of};
 
 use crate::heard::Heard;
 use arrayvec::ArrayVec;
-use j39_frame::spelling::{push_bytes, push_hex, push_number, push_stamp};
+use j39_frame::printing::{push_bytes, push_hex, push_number, push_stamp};
 use j39_frame::{DeviceFault, Sink, put_all};
 use j39_groups::{Reading, put_value, readings};
 

@@ -1,6 +1,9 @@
+pub mod Chars
 pub mod Stamp
 pub mod Pgn
 pub mod Identifier
+pub mod Address
+pub mod Network
 pub mod Bus
 pub mod Frame
 pub mod Device
@@ -11,7 +14,7 @@ pub mod Text
 pub mod Line
 pub mod Spelled
 pub mod Log
-pub mod Reading
-pub mod Parts
-pub mod Spelling
+pub mod LineRead
+pub mod LineParts
+pub mod Printing
 pub mod Canonical

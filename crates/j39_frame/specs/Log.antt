@@ -1,17 +1,18 @@
 -- The lines of a log, and what a run on one bus takes of them.
 use Rattle.std.specs.Prelude.{◌≡◌, ◌≢◌, ◌⊎◌, ℕ, List, [], ◌∷◌, ◌++◌, Bool, true, false, not, Option, Some, None, if◌then◌else◌, count_by}
+use Rattle.j39_frame.specs.Chars.{newline}
 use Rattle.std.specs.List.{AllByRecursion, filter_map}
 use Rattle.std.specs.Str.{bytes_eq}
 use Rattle.j39_frame.specs.Frame.{FrameRecord}
 use Rattle.j39_frame.specs.Spelled.{Spelled, frame, other, unread, blank, Spells}
 
 abbrev pub HasNoNewline : List ℕ → Type 0
-HasNoNewline line = AllByRecursion (λ b. b ≢ 10) line
+HasNoNewline line = AllByRecursion (λ b. b ≢ newline) line
 
 -- the lines one after another, each followed by a newline
 abbrev pub ended : List (List ℕ) → List ℕ
 ended [] = []
-ended (line ∷ lines) = line ++ (10 ∷ ended lines)
+ended (line ∷ lines) = line ++ (newline ∷ ended lines)
 
 -- the lines one after another, each followed by a newline but for the last, which is not empty
 pub record LacksLastNewline (bytes : List ℕ) (lines : List (List ℕ)) : Type 0 where

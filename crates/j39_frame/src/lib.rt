@@ -2,6 +2,7 @@
 //! a report is written to.
 #![tactic(auto)]
 
+mod address;
 mod bus;
 mod canonical;
 mod device;
@@ -10,11 +11,13 @@ mod frame;
 mod identifier;
 pub mod laws;
 mod line;
+mod network;
 mod pgn;
-pub mod spelling;
+pub mod printing;
 mod stamp;
 mod text;
 
+pub use address::{GLOBAL_ADDRESS, NULL_ADDRESS, is_address};
 pub use bus::Bus;
 pub use canonical::line_of;
 pub use device::{DeviceFault, Sink, Source, Told, put_all};

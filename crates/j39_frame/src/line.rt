@@ -1,9 +1,10 @@
 //! Lines of a log.
 ghost use Rattle.std.specs.Prelude.{◌≡◌, ◌≢◌, ℕ, List, [], ◌∷◌, ◌++◌, ◌↔◌, length, IsTrue, Contains};
+ghost use Rattle.j39_frame.specs.Chars.{hash};
 ghost use Rattle.j39_frame.specs.Line.{IsBody};
-ghost use Rattle.j39_frame.specs.Parts.{HasReadParts};
+ghost use Rattle.j39_frame.specs.LineParts.{HasReadParts};
 ghost use Rattle.j39_frame.specs.Spelled.{Spelled, Spells};
-ghost use Rattle.j39_frame.specs.Reading.{spelled_of};
+ghost use Rattle.j39_frame.specs.LineRead.{spelled_of};
 
 use crate::bus::is_bus_name;
 use crate::fields::{Shape, shape_of};
@@ -31,58 +32,58 @@ fn body_of(line: &[u8]) -> &[u8]
     ensures { IsBody line.now result.now }
 {
     match line.split_last() {
-        Some((13, body)) => body,
+        Some((b'\r', body)) => body,
         _ => line,
     }
 }
 
 /// The parts of a line that a frame has.
-enum Parts<'a> {
+enum LineParts<'a> {
     Blank,
     Three(Stamp, &'a [u8], &'a [u8]),
     Unread,
 }
 
-fn parts_of(line: &[u8]) -> Parts<'_>
+fn line_parts(line: &[u8]) -> LineParts<'_>
     ensures { HasReadParts result line.now }
 {
     if line.len() > LINE_LIMIT {
-        return Parts::Unread;
+        return LineParts::Unread;
     }
     match shape_of(body_of(line)) {
-        Shape::Blank => Parts::Blank,
-        Shape::Odd => Parts::Unread,
+        Shape::Blank => LineParts::Blank,
+        Shape::Odd => LineParts::Unread,
         Shape::Three(stamp, bus, third) => match stamp_of(stamp) {
-            None => Parts::Unread,
+            None => LineParts::Unread,
             Some(stamp) => {
                 if is_bus_name(bus) {
-                    Parts::Three(stamp, bus, third)
+                    LineParts::Three(stamp, bus, third)
                 } else {
-                    Parts::Unread
+                    LineParts::Unread
                 }
             }
         },
     }
 }
 
-fn is_marked(field: &[u8]) -> bool
-    ensures { IsTrue result ↔ Contains field.now 35 }
+fn holds_hash(field: &[u8]) -> bool
+    ensures { IsTrue result ↔ Contains field.now hash }
 {
     field.contains(&b'#')
 }
 
-fn reading_of(line: &[u8]) -> Line<'_>
+fn classified(line: &[u8]) -> Line<'_>
     ensures { Spells line.now (spelled_of result) }
 {
-    match parts_of(line) {
-        Parts::Blank => Line::Blank,
-        Parts::Unread => Line::Unread,
-        Parts::Three(stamp, bus, third) => match frame_of(third) {
+    match line_parts(line) {
+        LineParts::Blank => Line::Blank,
+        LineParts::Unread => Line::Unread,
+        LineParts::Three(stamp, bus, third) => match frame_of(third) {
             Some((id, bytes)) => Line::Frame {
                 bus,
                 frame: Frame::from_parts(stamp, id, bytes),
             },
-            None if is_marked(third) => Line::Other,
+            None if holds_hash(third) => Line::Other,
             None => Line::Unread,
         },
     }
@@ -93,5 +94,5 @@ pub fn read_line(line: &[u8]) -> Line<'_>
     ensures reads { Spells line.now (spelled_of result) }
     ensures only { (s : Spelled) → Spells line.now s → spelled_of result ≡ s }
 {
-    reading_of(line)
+    classified(line)
 }

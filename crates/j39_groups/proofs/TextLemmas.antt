@@ -6,8 +6,8 @@ use Rattle.std.proofs.lemmas.Nat.{div-mul-add, mod-mul-add}
 use Rattle.std.proofs.Math.Nat.{div-div-eq-div-mul, one-le-pow}
 use Rattle.std.proofs.Math.Arith.{mod-mul}
 use Rattle.std.specs.Fmt.{decimal}
-use Rattle.j39_frame.specs.Spelling.{last_digits}
-use Rattle.j39_frame.proofs.SpellingLemmas.{last_digits_step, last_digits_none}
+use Rattle.j39_frame.specs.Printing.{last_digits}
+use Rattle.j39_frame.proofs.PrintingLemmas.{last_digits_step, last_digits_none}
 use Rattle.j39_groups.specs.ValueText.{pointed, magnitude_text}
 
 pub decimal_short : (n : ℕ) → n < 2 ^ 64 → length (decimal n) ≤ 20

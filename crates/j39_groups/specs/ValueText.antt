@@ -3,7 +3,7 @@ use Rattle.std.specs.Prelude.{◌/◌, ◌%◌, ◌^◌, ◌==◌, ◌&&◌, not
 use Rattle.std.specs.Int.{is_negative}
 use Rattle.std.specs.List.{flat_map}
 use Rattle.std.specs.Fmt.{decimal, digit_glyph, sign_text}
-use Rattle.j39_frame.specs.Spelling.{last_digits}
+use Rattle.j39_frame.specs.Printing.{last_digits}
 use Rattle.j39_groups.specs.Value.{SlotRecord, ValueRecord, number, on, off, error, reserved, indicator, text}
 
 -- in decimal: with places, the magnitude divided by 10 ^ places, `.` and the remainder in that many digits

@@ -11,7 +11,7 @@ ghost use Rattle.j39_groups.specs.ValueText.{value_text, number_text, magnitude_
 use crate::slot::Slot;
 use crate::value::Value;
 use arrayvec::ArrayVec;
-use j39_frame::spelling::{push_bytes, push_number};
+use j39_frame::printing::{push_bytes, push_number};
 use j39_frame::{DeviceFault, Sink, put_all};
 
 /// A sign, 20 digits, a point, 255 places, a space and a unit fit.

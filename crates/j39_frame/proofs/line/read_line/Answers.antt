@@ -1,6 +1,6 @@
-use Rattle.j39_frame.specs.Reading.{spelled_of}
+use Rattle.j39_frame.specs.LineRead.{spelled_of}
 use Rattle.j39_frame.proofs.LineLemmas.{one_spelled}
 use Rattle.j39_frame.proofs.line.read_line.Goals as goal
 
 pub returns-clause-only : goal.returns-clause-only
-returns-clause-only c = λ s p. one_spelled c.args.line.now (spelled_of c.reading_of.result) s c.reading_of.ensures p
+returns-clause-only c = λ s p. one_spelled c.args.line.now (spelled_of c.classified.result) s c.classified.ensures p

@@ -1,7 +1,7 @@
 -- The parts by the fields of the body.
 use Rattle.std.proofs.Common.{arith}
 use Rattle.j39_frame.proofs.LineLemmas.{is_blank, has_parts, odd_has_no_parts, three_has_no_parts}
-use Rattle.j39_frame.proofs.line.parts_of.Goals as goal
+use Rattle.j39_frame.proofs.line.line_parts.Goals as goal
 
 pub returns-in-Blank : goal.returns-in-Blank
 returns-in-Blank c = is_blank c.args.line.now c.body_of.result.now (omega arith) c.body_of.ensures c.in-Blank.ensures

@@ -2,14 +2,14 @@
 ghost use Rattle.std.specs.Prelude.{◌≡◌, ◌+◌, ◌*◌, ◌/◌, ◌≤◌, ◌++◌, decimal, length};
 ghost use Rattle.arrayvec.specs.ArrayVec.{array_vec_len};
 ghost use Rattle.hex.specs.Hex.{encode_upper};
-ghost use Rattle.j39_frame.specs.Spelling.{last_digits, stamp_text};
+ghost use Rattle.j39_frame.specs.Printing.{last_digits, stamp_text};
 ghost use Rattle.j39_frame.specs.Stamp.{stamp_micros};
 
 use crate::Stamp;
 use arrayvec::ArrayVec;
 
 /// Appends a number in decimal.
-#[tactic(auto, using(crate::proofs::SpellingLemmas::shortest_decimal))]
+#[tactic(auto, using(crate::proofs::PrintingLemmas::shortest_decimal))]
 pub fn push_number<const N: usize>(out: &mut ArrayVec<u8, N>, value: u64)
     requires { array_vec_len out.old + length (decimal value) ≤ N }
     ensures items { out.new.items ≡ out.old.items ++ decimal value }

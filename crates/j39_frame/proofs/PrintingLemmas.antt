@@ -7,7 +7,7 @@ use Rattle.std.specs.Fmt.{decimal}
 use Rattle.std.proofs.lemmas.Fmt.{decimal_step, decimal_digit}
 use Rattle.std.proofs.lemmas.Int.Digits.{digits_push, digits_value_push}
 use Rattle.hex.specs.Hex.{encode_with}
-use Rattle.j39_frame.specs.Spelling.{last_digits}
+use Rattle.j39_frame.specs.Printing.{last_digits}
 
 pub last_digits_step : (count x : ℕ) → 0 < count → last_digits count x ≡ last_digits (count - 1) (x / 10) ++ ((48 + x % 10) ∷ [])
 unfolding last_digits

@@ -1,7 +1,7 @@
 -- The digits so far and the next.
 use Rattle.std.proofs.Common.{◌++◌, sym, ap, ◌∙◌, append_assoc, append-nil, arith}
-use Rattle.j39_frame.proofs.SpellingLemmas.{last_digits_step, last_digits_none}
-use Rattle.j39_frame.proofs.spelling.+push_last_digits.Goals as goal
+use Rattle.j39_frame.proofs.PrintingLemmas.{last_digits_step, last_digits_none}
+use Rattle.j39_frame.proofs.printing.+push_last_digits.Goals as goal
 
 pub returns-then-count-gt0-clause-items : goal.returns-then-count-gt0-clause-items
 returns-then-count-gt0-clause-items g t c =

@@ -1,7 +1,7 @@
 -- A digit, or the digits before it and then it.
 use Rattle.std.proofs.Common.{◌++◌, sym, ap, ◌∙◌, append_assoc, arith}
 use Rattle.std.proofs.lemmas.Fmt.{decimal_step, decimal_digit}
-use Rattle.j39_frame.proofs.spelling.+push_number.Goals as goal
+use Rattle.j39_frame.proofs.printing.+push_number.Goals as goal
 
 pub returns-then-value-lt10-clause-items : goal.returns-then-value-lt10-clause-items
 returns-then-value-lt10-clause-items g t c =

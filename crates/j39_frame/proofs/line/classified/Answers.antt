@@ -1,7 +1,7 @@
 -- What the third field says of the line.
 use Rattle.j39_frame.specs.Stamp.{stamp_micros}
 use Rattle.j39_frame.proofs.LineLemmas.{no_frame_from, no_other_from, blank_has_no_parts}
-use Rattle.j39_frame.proofs.line.reading_of.Goals as goal
+use Rattle.j39_frame.proofs.line.classified.Goals as goal
 
 pub returns-in-Unread : goal.returns-in-Unread
 returns-in-Unread c =
@@ -20,7 +20,7 @@ returns-in-None c =
       third = c.in-Three.third.now;
       stamp = stamp_micros c.in-Three.stamp;
       parts = parts;
-      marked = c.is_marked.ensures.0 c.if-is_marked.true;
+      marked = c.holds_hash.ensures.0 c.if-holds_hash.true;
       no_frame = no_frame_from c.args.line.now _ _ _ parts c.in-None.ensures.only;
     }
 
@@ -29,6 +29,6 @@ returns-in-None-2 c =
     let parts = c.in-Three.ensures in
     record {
       no_frame = no_frame_from c.args.line.now _ _ _ parts c.in-None.ensures.only;
-      no_other = no_other_from c.args.line.now _ _ _ parts (λ h. cc (c.is_marked.ensures.1 h));
+      no_other = no_other_from c.args.line.now _ _ _ parts (λ h. cc (c.holds_hash.ensures.1 h));
       no_blank = λ b. blank_has_no_parts c.args.line.now _ _ _ b parts;
     }
