@@ -3,6 +3,6 @@ pub mod ValueLemmas
 pub mod PartLemmas
 pub mod TakenLemmas
 pub mod MetLemmas
-pub mod LineLemmas
 pub mod ReportLemmas
 pub mod RunLemmas
+pub mod ReadingLemmas

@@ -9,15 +9,18 @@ use Rattle.std.proofs.lemmas.List.Elements.{filter_map-append}
 use Rattle.std.proofs.lemmas.Bool.{eqb-true, eqb-false}
 use Rattle.std.proofs.lemmas.Grind.{flat_map-append, common_steps}
 use Rattle.j39_frame.specs.Frame.{FrameRecord}
-use Rattle.j39_frame.specs.Log.{HasNoNewline, ended, SpellEach, bus_of, first_bus, frame_on, frames_of, is_other_on, is_unread, others_of, unread_of}
+use Rattle.j39_frame.specs.Log.{HasNoNewline, ended, IsLog, SpellEach, bus_of, first_bus, frame_on, frames_of, is_other_on, is_unread, others_of, unread_of}
 use Rattle.j39_frame.specs.Spelled.{Spelled, frame, other, unread, blank, Spells}
 use Rattle.j39_cli.specs.Counting.{capped, counts_of, frame_counts, sum_of}
 use Rattle.j39_cli.specs.Heard.{Hearing, hearing_of, heard_of}
 use Rattle.j39_cli.specs.Report.{Entry, entries_of, report_of, text_of}
-use Rattle.j39_cli.specs.Lines.{TakesLine}
-use Rattle.j39_cli.specs.Run.{run_text, MeetsLine, ReadsLine, WritesReport}
+use Rattle.j39_cli.specs.Reading.{HasRead, StopsIn, StopsLast}
+use Rattle.j39_frame.specs.Device.{AppendsFront}
+use Rattle.j39_frame.proofs.LogLemmas.{first_spelled, same_log}
+use Rattle.j39_frame.proofs.SplitterLemmas.{no_newline_append}
+use Rattle.j39_cli.specs.Run.{run_text, MeetsLine, ReadsLine, WritesFront, WritesReport}
 use Rattle.j39_cli.specs.declared.counts.Counts.{Counts}
-use Rattle.j39_frame.proofs.DeviceLemmas.{Appends-kept}
+use Rattle.j39_frame.proofs.DeviceLemmas.{Appends-kept, front_within}
 use Rattle.j39_cli.proofs.ReportLemmas.{text_of-append, text_of-none}
 
 -- ---- one frame
@@ -103,10 +106,17 @@ unfolding heard_of report_of
 no_text bus spelled held none =
     subst (Appends held held) (sym (ap (λ (fs : List FrameRecord). text_of (report_of fs)) none ∙ text_of-none)) (Appends-nil held)
 
-pub meets_frame : (line name : List ℕ) (f : FrameRecord) (bus bus' : Option (List ℕ)) (met : Counts) (old new : Option (List ℕ))
-    → Spells line (frame name f) → bus' ≡ Some (unwrap_or bus name) → bytes_eq name (unwrap_or bus name) ≡ true → met ≡ frame_counts f
-    → Appends old new (text_of (report_of (f ∷ []))) → MeetsLine line bus bus' met old new
-meets_frame line name f bus bus' met old new spells is on counts text =
+pub frame_text : (name : List ℕ) (f : FrameRecord) (bus : Option (List ℕ)) → bytes_eq name (unwrap_or bus name) ≡ true
+    → text_of (report_of (f ∷ [])) ≡ run_text bus (frame name f ∷ [])
+frame_text name f bus on =
+    let frames_are : frames_of bus (frame name f ∷ []) ≡ f ∷ [] =
+    ap (λ (b : Option (List ℕ)). filter_map (frame_on b) (frame name f ∷ [])) (bus_of-frame bus name f) ∙ rw on refl in
+    ap (λ (fs : List FrameRecord). text_of (report_of fs)) (sym frames_are)
+
+pub meets_frame : (name : List ℕ) (f : FrameRecord) (bus bus' : Option (List ℕ)) (met : Counts) (old new : Option (List ℕ))
+    → bus' ≡ Some (unwrap_or bus name) → bytes_eq name (unwrap_or bus name) ≡ true → met ≡ frame_counts f
+    → Appends old new (text_of (report_of (f ∷ []))) → MeetsLine (frame name f) bus bus' met old new
+meets_frame name f bus bus' met old new is on counts text =
     let bus_is = bus_of-frame bus name f in
     let frames_are : frames_of bus (frame name f ∷ []) ≡ f ∷ [] =
     ap (λ (b : Option (List ℕ)). filter_map (frame_on b) (frame name f ∷ [])) bus_is ∙ rw on refl in
@@ -115,52 +125,42 @@ meets_frame line name f bus bus' met old new spells is on counts text =
     let counts_are : frame_counts f ≡ counts_of bus (frame name f ∷ []) =
     same_counts (frame_counts f) _ refl (ap capped (sym others_are)) refl refl refl ∙ sym (counts_by bus (frame name f ∷ []) (f ∷ []) frames_are) in
     record {
-      spelled = frame name f;
-      spells = spells;
       bus_is = is ∙ sym bus_is;
       met_is = counts ∙ counts_are;
       written = subst (λ (fs : List FrameRecord). Appends old new (text_of (report_of fs))) (sym frames_are) text;
     }
 
-pub meets_frame_elsewhere : (line name : List ℕ) (f : FrameRecord) (bus bus' : Option (List ℕ)) (held : Option (List ℕ))
-    → Spells line (frame name f) → bus' ≡ Some (unwrap_or bus name) → bytes_eq name (unwrap_or bus name) ≡ false
-    → MeetsLine line bus bus' (counts_without_frame 1 0) held held
-meets_frame_elsewhere line name f bus bus' held spells is off =
+pub meets_frame_elsewhere : (name : List ℕ) (f : FrameRecord) (bus bus' : Option (List ℕ)) (held : Option (List ℕ))
+    → bus' ≡ Some (unwrap_or bus name) → bytes_eq name (unwrap_or bus name) ≡ false
+    → MeetsLine (frame name f) bus bus' (counts_without_frame 1 0) held held
+meets_frame_elsewhere name f bus bus' held is off =
     let bus_is = bus_of-frame bus name f in
     let none : frames_of bus (frame name f ∷ []) ≡ [] =
     ap (λ (b : Option (List ℕ)). filter_map (frame_on b) (frame name f ∷ [])) bus_is ∙ rw off refl in
     let one : others_of bus (frame name f ∷ []) ≡ 1 =
     ap (λ (b : Option (List ℕ)). count_by (is_other_on b) (frame name f ∷ [])) bus_is ∙ rw off refl in
     record {
-      spelled = frame name f;
-      spells = spells;
       bus_is = is ∙ sym bus_is;
       met_is = without_frame bus (frame name f ∷ []) 1 0 none one refl (omega arith) (omega arith);
       written = no_text bus (frame name f ∷ []) held none;
     }
 
-pub meets_other : (line : List ℕ) (bus held : Option (List ℕ)) → Spells line other → MeetsLine line bus bus (counts_without_frame 1 0) held held
-meets_other line bus held spells = record {
-  spelled = other;
-  spells = spells;
+pub meets_other : (bus held : Option (List ℕ)) → MeetsLine other bus bus (counts_without_frame 1 0) held held
+meets_other bus held = record {
   bus_is = bus_of-kept bus other refl;
   met_is = without_frame bus (other ∷ []) 1 0 refl refl refl (omega arith) (omega arith);
   written = no_text bus (other ∷ []) held refl;
 }
 
-pub meets_unread : (line : List ℕ) (bus held : Option (List ℕ)) → Spells line unread → MeetsLine line bus bus (counts_without_frame 0 1) held held
-meets_unread line bus held spells = record {
-  spelled = unread;
-  spells = spells;
+pub meets_unread : (bus held : Option (List ℕ)) → MeetsLine unread bus bus (counts_without_frame 0 1) held held
+meets_unread bus held = record {
   bus_is = bus_of-kept bus unread refl;
   met_is = without_frame bus (unread ∷ []) 0 1 refl refl refl (omega arith) (omega arith);
   written = no_text bus (unread ∷ []) held refl;
 }
 
-pub meets_blank : (line : List ℕ) (bus held : Option (List ℕ)) → Spells line blank → MeetsLine line bus bus (counts_without_frame 0 0) held held
-meets_blank line bus held spells = record {
-  spelled = blank;
-  spells = spells;
+pub meets_blank : (bus held : Option (List ℕ)) → MeetsLine blank bus bus (counts_without_frame 0 0) held held
+meets_blank bus held = record {
   bus_is = bus_of-kept bus blank refl;
   met_is = without_frame bus (blank ∷ []) 0 0 refl refl refl (omega arith) (omega arith);
   written = no_text bus (blank ∷ []) held refl;
@@ -256,17 +256,6 @@ run_text-append bus xs ys =
 
 -- ---- the lines so far
 
--- the lines so far, all ended: what they spell, and what they make of the bus, the counts and the writer
-pub record HasRead (given : Option (List ℕ)) (log rest : List ℕ) (bus : Option (List ℕ)) (counts : Counts) (old new : Option (List ℕ)) : Type 0 where
-  pub lines : List (List ℕ)
-  pub spelled : List Spelled
-  pub whole : AllByRecursion HasNoNewline lines
-  pub log_is : log ≡ ended lines ++ rest
-  pub spell_each : SpellEach lines spelled
-  pub bus_is : bus ≡ bus_of given spelled
-  pub counts_are : counts ≡ counts_of given spelled
-  pub written : Appends old new (run_text given spelled)
-
 whole-more : (lines : List (List ℕ)) (line : List ℕ) → AllByRecursion HasNoNewline lines → HasNoNewline line → AllByRecursion HasNoNewline (lines ++ (line ∷ []))
 whole-more [] line h k = (k, tt)
 whole-more (x ∷ lines) line h k = (h.0, whole-more lines line h.1 k)
@@ -292,7 +281,7 @@ has_read-none given log held counts zero =
       lines = [];
       spelled = [];
       whole = tt;
-      log_is = refl;
+      taken_is = refl;
       spell_each = tt;
       bus_is = bus_is;
       counts_are = zero ∙ without_frame given [] 0 0 refl refl refl (omega arith) (omega arith);
@@ -309,11 +298,10 @@ record HasMet (given : Option (List ℕ)) (spelled : List Spelled) (s : Spelled)
   pub counts_are : counts' ≡ counts_of given (spelled ++ (s ∷ []))
   pub written : Appends old new (run_text given (spelled ++ (s ∷ [])))
 
-has_met : (given : Option (List ℕ)) (log rest line : List ℕ) (bus bus' : Option (List ℕ)) (counts counts' : Counts) (old mid new : Option (List ℕ))
-    → (h : HasRead given log rest bus counts old mid) (r : ReadsLine line bus bus' counts counts' mid new)
-    → HasMet given h.spelled r.meets.spelled bus' counts' old new
-has_met given log rest line bus bus' counts counts' old mid new h r =
-    let s = r.meets.spelled in
+has_met : (given : Option (List ℕ)) (log rest : List ℕ) (s : Spelled) (bus bus' : Option (List ℕ)) (counts counts' : Counts) (old mid new : Option (List ℕ))
+    → (h : HasRead given log rest bus counts old mid) (r : ReadsLine s bus bus' counts counts' mid new)
+    → HasMet given h.spelled s bus' counts' old new
+has_met given log rest s bus bus' counts counts' old mid new h r =
     let at = h.bus_is in
     record {
       bus_is = r.meets.bus_is ∙ ap (λ (o : Option (List ℕ)). bus_of o (s ∷ [])) at ∙ sym (bus_of-append given h.spelled (s ∷ []));
@@ -323,22 +311,44 @@ has_met given log rest line bus bus' counts counts' old mid new h r =
           (Appends-trans old mid new _ _ h.written (subst (λ (o : Option (List ℕ)). Appends mid new (run_text o (s ∷ []))) at r.meets.written));
     }
 
+-- the bytes of the lines so far, with those of one line more
+ended-line : (taken begun front line rest : List ℕ) (lines : List (List ℕ)) → taken ≡ ended lines ++ begun → line ≡ begun ++ front
+    → taken ++ (front ++ (10 ∷ rest)) ≡ ended (lines ++ (line ∷ [])) ++ rest
+ended-line taken begun front line rest lines is line_is =
+    ap (λ t. t ++ (front ++ (10 ∷ rest))) is ∙ append_assoc (ended lines) begun (front ++ (10 ∷ rest))
+    ∙ ap (λ t. ended lines ++ t) (sym (append_assoc begun front (10 ∷ rest)) ∙ ap (λ t. t ++ (10 ∷ rest)) (sym line_is))
+    ∙ ended-more lines line rest
+
 -- one line more that is ended
-pub has_read-more : (given : Option (List ℕ)) (log rest line later : List ℕ) (bus bus' : Option (List ℕ)) (counts counts' : Counts) (old mid new : Option (List ℕ))
-    → HasRead given log rest bus counts old mid → TakesLine rest line later → ReadsLine line bus bus' counts counts' mid new
-    → HasRead given log later bus' counts' old new
-has_read-more given log rest line later bus bus' counts counts' old mid new h t r =
-    let m = has_met given log rest line bus bus' counts counts' old mid new h r in
+pub has_read-more : (given : Option (List ℕ)) (taken begun front line : List ℕ) (s : Spelled) (bus bus' : Option (List ℕ)) (counts counts' : Counts) (old mid new : Option (List ℕ))
+    → HasRead given taken begun bus counts old mid → line ≡ begun ++ front → HasNoNewline line → Spells line s → ReadsLine s bus bus' counts counts' mid new
+    → HasRead given (taken ++ (front ++ (10 ∷ []))) [] bus' counts' old new
+has_read-more given taken begun front line s bus bus' counts counts' old mid new h line_is whole spells r =
+    let m = has_met given taken begun s bus bus' counts counts' old mid new h r in
     record {
       lines = h.lines ++ (line ∷ []);
-      spelled = h.spelled ++ (r.meets.spelled ∷ []);
-      whole = whole-more h.lines line h.whole t.whole;
-      log_is = h.log_is ∙ ap (λ (x : List ℕ). ended h.lines ++ x) t.bytes_are ∙ ended-more h.lines line later;
-      spell_each = spell-more h.lines h.spelled line r.meets.spelled h.spell_each r.meets.spells;
+      spelled = h.spelled ++ (s ∷ []);
+      whole = whole-more h.lines line h.whole whole;
+      taken_is = ended-line taken begun front line [] h.lines h.taken_is line_is;
+      spell_each = spell-more h.lines h.spelled line s h.spell_each spells;
       bus_is = m.bus_is;
       counts_are = m.counts_are;
       written = m.written;
     }
+
+-- bytes more that end no line
+pub has_read-bytes : (given : Option (List ℕ)) (taken begun bytes : List ℕ) (bus : Option (List ℕ)) (counts : Counts) (old new : Option (List ℕ))
+    → HasRead given taken begun bus counts old new → HasRead given (taken ++ bytes) (begun ++ bytes) bus counts old new
+has_read-bytes given taken begun bytes bus counts old new h = record {
+  lines = h.lines;
+  spelled = h.spelled;
+  whole = h.whole;
+  taken_is = ap (λ t. t ++ bytes) h.taken_is ∙ append_assoc (ended h.lines) begun bytes;
+  spell_each = h.spell_each;
+  bus_is = h.bus_is;
+  counts_are = h.counts_are;
+  written = h.written;
+}
 
 -- what a test for an empty slice says
 pub empty : (xs : List ℕ) → true ≡ (length xs == 0) → xs ≡ []
@@ -352,7 +362,7 @@ not_empty xs none e = eqb-false (length xs) 0 (sym e) (ap length none)
 pub writes_ended : (given : Option (List ℕ)) (log rest : List ℕ) (bus : Option (List ℕ)) (counts : Counts) (old new : Option (List ℕ))
     → HasRead given log rest bus counts old new → rest ≡ [] → WritesReport given log counts old new
 writes_ended given log rest bus counts old new h none =
-    let joined : log ≡ ended h.lines = h.log_is ∙ ap (λ (x : List ℕ). ended h.lines ++ x) none ∙ append-nil (ended h.lines) in
+    let joined : log ≡ ended h.lines = h.taken_is ∙ ap (λ (x : List ℕ). ended h.lines ++ x) none ∙ append-nil (ended h.lines) in
     record {
       spelled = h.spelled;
       is_log = record { lines = h.lines; are_lines = record { whole = h.whole; joined = inl joined }; spell_each = h.spell_each };
@@ -361,21 +371,25 @@ writes_ended given log rest bus counts old new h none =
     }
 
 -- a last line is not ended
-pub writes_last : (given : Option (List ℕ)) (log rest : List ℕ) (bus bus' : Option (List ℕ)) (counts counts' : Counts) (old mid new : Option (List ℕ))
-    → HasRead given log rest bus counts old mid → HasNoNewline rest → rest ≢ [] → ReadsLine rest bus bus' counts counts' mid new
+last_log : (given : Option (List ℕ)) (log rest : List ℕ) (s : Spelled) (bus : Option (List ℕ)) (counts : Counts) (old new : Option (List ℕ))
+    → (h : HasRead given log rest bus counts old new) → HasNoNewline rest → rest ≢ [] → Spells rest s → IsLog log (h.spelled ++ (s ∷ []))
+last_log given log rest s bus counts old new h whole some spells = record {
+  lines = h.lines ++ (rest ∷ []);
+  are_lines = record {
+    whole = whole-more h.lines rest h.whole whole;
+    joined = inr (record { front = h.lines; last = rest; lines_are = refl; last_is = some; bytes_are = h.taken_is });
+  };
+  spell_each = spell-more h.lines h.spelled rest s h.spell_each spells;
+}
+
+pub writes_last : (given : Option (List ℕ)) (log rest : List ℕ) (s : Spelled) (bus bus' : Option (List ℕ)) (counts counts' : Counts) (old mid new : Option (List ℕ))
+    → HasRead given log rest bus counts old mid → HasNoNewline rest → rest ≢ [] → Spells rest s → ReadsLine s bus bus' counts counts' mid new
     → WritesReport given log counts' old new
-writes_last given log rest bus bus' counts counts' old mid new h whole some r =
-    let m = has_met given log rest rest bus bus' counts counts' old mid new h r in
+writes_last given log rest s bus bus' counts counts' old mid new h whole some spells r =
+    let m = has_met given log rest s bus bus' counts counts' old mid new h r in
     record {
-      spelled = h.spelled ++ (r.meets.spelled ∷ []);
-      is_log = record {
-        lines = h.lines ++ (rest ∷ []);
-        are_lines = record {
-          whole = whole-more h.lines rest h.whole whole;
-          joined = inr (record { front = h.lines; last = rest; lines_are = refl; last_is = some; bytes_are = h.log_is });
-        };
-        spell_each = spell-more h.lines h.spelled rest r.meets.spelled h.spell_each r.meets.spells;
-      };
+      spelled = h.spelled ++ (s ∷ []);
+      is_log = last_log given log rest s bus counts old mid h whole some spells;
       counts_are = m.counts_are;
       written = m.written;
     }
@@ -385,3 +399,49 @@ pub writes_kept : (given : Option (List ℕ)) (log : List ℕ) (counts : Counts)
     → WritesReport given log counts old mid → Keeps mid new → WritesReport given log counts old new
 writes_kept given log counts old mid new h k =
     record { spelled = h.spelled; is_log = h.is_log; counts_are = h.counts_are; written = Appends-kept old mid new (run_text given h.spelled) h.written k }
+
+-- ---- a run that stops
+
+-- any bytes behind those that were read leave what was written a front of the report
+pub writes_front : (given : Option (List ℕ)) (taken begun more : List ℕ) (bus : Option (List ℕ)) (counts : Counts) (old new : Option (List ℕ))
+    → HasRead given taken begun bus counts old new → WritesFront given (taken ++ more) old new
+writes_front given taken begun more bus counts old new h = λ all log.
+    let is = ap (λ t. t ++ more) h.taken_is ∙ append_assoc (ended h.lines) begun more in
+    let split = first_spelled (taken ++ more) (begun ++ more) h.lines h.spelled all h.whole h.spell_each is log in (
+      run_text given h.spelled,
+      run_text (bus_of given h.spelled) split.0,
+      ap (run_text given) split.1 ∙ run_text-append given h.spelled split.0,
+      h.written,
+    )
+
+-- a fault in the line that s is of
+front_of_line : (given : Option (List ℕ)) (spelled left all : List Spelled) (s : Spelled) (old mid new : Option (List ℕ)) → all ≡ (spelled ++ (s ∷ [])) ++ left
+    → Appends old mid (run_text given spelled) → AppendsFront mid new (run_text (bus_of given spelled) (s ∷ [])) → AppendsFront old new (run_text given all)
+front_of_line given spelled left all s old mid new is before front =
+    let rest = run_text (bus_of given (spelled ++ (s ∷ []))) left in
+    let text : run_text given all ≡ run_text given spelled ++ (run_text (bus_of given spelled) (s ∷ []) ++ rest) =
+    ap (run_text given) is ∙ run_text-append given (spelled ++ (s ∷ [])) left
+    ∙ ap (λ t. t ++ rest) (run_text-append given spelled (s ∷ []))
+    ∙ append_assoc (run_text given spelled) (run_text (bus_of given spelled) (s ∷ [])) rest in
+    front_within old mid new (run_text given spelled) (run_text (bus_of given spelled) (s ∷ [])) rest (run_text given all) text before front
+
+-- a fault in a line that is ended
+pub stops_in : (given : Option (List ℕ)) (taken begun bytes : List ℕ) (bus : Option (List ℕ)) (counts : Counts) (old mid new : Option (List ℕ))
+    → HasRead given taken begun bus counts old mid → HasNoNewline begun → StopsIn begun bytes bus mid new → WritesFront given (taken ++ bytes) old new
+stops_in given taken begun bytes bus counts old mid new h whole k = λ all log.
+    let line = k.line in
+    let takes = k.ends.takes in
+    let line_whole : HasNoNewline line = rw k.ends.line_is (no_newline_append begun k.ends.front whole takes.whole) in
+    let is = ap (λ t. taken ++ t) takes.bytes_are ∙ ended-line taken begun k.ends.front line k.ends.rest h.lines h.taken_is k.ends.line_is in
+    let split = first_spelled (taken ++ bytes) k.ends.rest (h.lines ++ (line ∷ [])) (h.spelled ++ (k.spelled ∷ [])) all
+    (whole-more h.lines line h.whole line_whole) (spell-more h.lines h.spelled line k.spelled h.spell_each k.spells) is log in
+    front_of_line given h.spelled split.0 all k.spelled old mid new split.1 h.written
+    (subst (λ (o : Option (List ℕ)). AppendsFront mid new (run_text o (k.spelled ∷ []))) h.bus_is k.front)
+
+-- a fault in the last line
+pub stops_last : (given : Option (List ℕ)) (taken begun : List ℕ) (bus : Option (List ℕ)) (counts : Counts) (old mid new : Option (List ℕ))
+    → HasRead given taken begun bus counts old mid → HasNoNewline begun → StopsLast begun bus mid new → WritesFront given taken old new
+stops_last given taken begun bus counts old mid new h whole k = λ all log.
+    let is = same_log taken all (h.spelled ++ (k.spelled ∷ [])) log (last_log given taken begun k.spelled bus counts old mid h whole k.some k.spells) in
+    front_of_line given h.spelled [] all k.spelled old mid new (is ∙ sym (append-nil (h.spelled ++ (k.spelled ∷ [])))) h.written
+    (subst (λ (o : Option (List ℕ)). AppendsFront mid new (run_text o (k.spelled ∷ []))) h.bus_is k.front)

@@ -7,7 +7,7 @@ pub mod Heard
 pub mod Report
 pub mod Counting
 pub mod Run
+pub mod Reading
 pub mod Message
-pub mod Lines
 pub mod Fields
 pub mod Perform

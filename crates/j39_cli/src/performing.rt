@@ -5,6 +5,7 @@ ghost use Rattle.j39_frame.specs.Device.{AppendsFront, Marks};
 ghost use Rattle.j39_frame.specs.Identifier.{id_raw};
 ghost use Rattle.j39_frame.specs.declared.identifier.Id.{Id as Identifier};
 ghost use Rattle.j39_cli.specs.Fields.{id_text};
+ghost use Rattle.j39_cli.specs.Run.{StopsWithin};
 ghost use Rattle.j39_cli.specs.Perform.{Fails, HasReport, PutsText, fault_text};
 ghost use Rattle.j39_cli.specs.Refusal.{Writes, error_line};
 ghost use Rattle.j39_cli.specs.declared.runs.RunFault.{RunFault};
@@ -39,6 +40,8 @@ pub fn perform<R: Source, W: Sink, E: Sink>(
     ensures report_fails { (bus : Option (List ℕ)) (file : Option (List ℕ)) → task.now ≡ Task.Report bus file → result ≡ 1
         → (fault : RunFault) × Fails fault (R.remaining source.old) (R.has_failed source.new) (W.has_failed sink.new)
         (E.held err.old) (E.held err.new) (E.has_failed err.new) }
+    ensures report_stops { (bus : Option (List ℕ)) (file : Option (List ℕ)) → task.now ≡ Task.Report bus file → result ≡ 1
+        → StopsWithin bus (R.remaining source.old) (R.remaining source.new) (W.held sink.old) (W.held sink.new) }
 
     // The fields of an identifier: all of the line and 0, or a front of it and 1. No log is read.
     ensures id { (id : Identifier) → task.now ≡ Task.Id id
@@ -69,6 +72,8 @@ fn perform_report<R: Source, W: Sink, E: Sink>(
     ensures fails { result ≡ 1
         → (fault : RunFault) × Fails fault (R.remaining source.old) (R.has_failed source.new) (W.has_failed sink.new)
         (E.held err.old) (E.held err.new) (E.has_failed err.new) }
+    ensures stops { result ≡ 1
+        → StopsWithin bus.now (R.remaining source.old) (R.remaining source.new) (W.held sink.old) (W.held sink.new) }
 {
     match run(alloc, source, sink, copy_of(bus), LOG_LIMIT) {
         Ok(counts) => {

@@ -1,7 +1,7 @@
 //! The lines of a report.
-ghost use Rattle.std.specs.Prelude.{◌≡◌, ◌≤◌, ◌++◌, ◌∷◌, [], OnOk, IfOk, decimal, length};
+ghost use Rattle.std.specs.Prelude.{◌≡◌, ◌≤◌, ◌++◌, ◌∷◌, [], OnOk, OnErr, IfOk, decimal, length};
 ghost use Rattle.std.specs.Io.KnownBytes.{Appends};
-ghost use Rattle.j39_frame.specs.Device.{Marks};
+ghost use Rattle.j39_frame.specs.Device.{AppendsFront, Marks};
 ghost use Rattle.j39_groups.specs.Shown.{value_of};
 ghost use Rattle.j39_groups.specs.ValueText.{value_text};
 ghost use Rattle.j39_cli.specs.Message.{hearing_at};
@@ -17,6 +17,8 @@ use j39_groups::{Reading, put_value, readings};
 pub(crate) fn put_heard<W: Sink>(heard: &Heard<'_>, sink: &mut W) -> Result<u64, DeviceFault>
     ensures lines { IfOk result (λ n. n ≡ length (entries_of (hearing_at heard.now))) }
     ensures written { OnOk result (Appends (W.held sink.old) (W.held sink.new)
+        (text_of (entries_of (hearing_at heard.now)))) }
+    ensures front { OnErr result (AppendsFront (W.held sink.old) (W.held sink.new)
         (text_of (entries_of (hearing_at heard.now)))) }
     ensures mark { Marks result (W.has_failed sink.old) (W.has_failed sink.new) }
 {
@@ -48,6 +50,8 @@ fn head_of(heard: &Heard<'_>) -> ArrayVec<u8, 47>
 fn put_reading<W: Sink>(head: &[u8], reading: &Reading<'_>, sink: &mut W) -> Result<(), DeviceFault>
     requires { length head.now ≤ 47 }
     ensures written { OnOk result (Appends (W.held sink.old) (W.held sink.new)
+        (head.now ++ decimal reading.now.spn ++ (32 ∷ []) ++ value_text (value_of reading.now.value) ++ (10 ∷ []))) }
+    ensures front { OnErr result (AppendsFront (W.held sink.old) (W.held sink.new)
         (head.now ++ decimal reading.now.spn ++ (32 ∷ []) ++ value_text (value_of reading.now.value) ++ (10 ∷ []))) }
     ensures mark { Marks result (W.has_failed sink.old) (W.has_failed sink.new) }
 {

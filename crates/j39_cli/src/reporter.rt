@@ -1,17 +1,18 @@
 //! A run, line by line.
-ghost use Rattle.std.specs.Prelude.{◌≡◌, ◌∷◌, [], Some, OnOk, IfOk, length, unwrap_or};
+ghost use Rattle.std.specs.Prelude.{◌≡◌, ◌∷◌, [], Some, OnOk, OnErr, IfOk, length, unwrap_or};
 ghost use Rattle.std.specs.Io.KnownBytes.{Appends};
 ghost use Rattle.std.specs.Str.{bytes_eq};
 ghost use Rattle.j39_frame.specs.Bus.{IsBusName};
-ghost use Rattle.j39_frame.specs.Device.{Marks};
+ghost use Rattle.j39_frame.specs.Device.{AppendsFront, Marks};
+ghost use Rattle.j39_frame.specs.Reading.{spelled_of};
 ghost use Rattle.j39_cli.specs.Counting.{frame_counts};
 ghost use Rattle.j39_cli.specs.Report.{report_of, text_of};
-ghost use Rattle.j39_cli.specs.Run.{MeetsLine, ReadsLine};
+ghost use Rattle.j39_cli.specs.Run.{IsSpelling, MeetsLine, ReadsLine, run_text};
 
 use crate::Counts;
 use crate::heard::heard_in;
 use crate::report::put_heard;
-use j39_frame::{Bus, DeviceFault, Frame, Line, Sink, read_line};
+use j39_frame::{Bus, DeviceFault, Frame, Line, Sink};
 
 /// The bus of a run, once it is known, and what the run has counted so far.
 #[derive(Debug, Drop)]
@@ -21,10 +22,12 @@ pub(crate) struct Reporter {
 }
 
 impl Reporter {
-    /// Reads a line of the log, and writes the report of its frame.
-    pub fn read<W: Sink>(&mut self, line: &[u8], sink: &mut W) -> Result<(), DeviceFault>
-        ensures read { OnOk result (ReadsLine line.now self.old.bus self.new.bus self.old.counts self.new.counts
-            (W.held sink.old) (W.held sink.new)) }
+    /// Takes a line of the log, and writes the report of its frame.
+    pub fn read<W: Sink>(&mut self, line: Line<'_>, sink: &mut W) -> Result<(), DeviceFault>
+        ensures read { OnOk result (IsSpelling (spelled_of line.entry) → ReadsLine (spelled_of line.entry)
+            self.old.bus self.new.bus self.old.counts self.new.counts (W.held sink.old) (W.held sink.new)) }
+        ensures front { OnErr result (IsSpelling (spelled_of line.entry) → AppendsFront (W.held sink.old) (W.held sink.new)
+            (run_text self.old.bus (spelled_of line.entry ∷ []))) }
         ensures mark { Marks result (W.has_failed sink.old) (W.has_failed sink.new) }
     {
         let met = put_line(&mut self.bus, line, sink)?;
@@ -33,16 +36,19 @@ impl Reporter {
     }
 }
 
-/// Reads a line of a run, writes the report of its frame, and answers what the line counts for.
+/// Writes the report of a line's frame, and answers what the line counts for.
 fn put_line<W: Sink>(
     bus: &mut Option<Bus>,
-    line: &[u8],
+    line: Line<'_>,
     sink: &mut W,
 ) -> Result<Counts, DeviceFault>
-    ensures met { IfOk result (λ met. MeetsLine line.now bus.old bus.new met (W.held sink.old) (W.held sink.new)) }
+    ensures met { IfOk result (λ met. IsSpelling (spelled_of line.entry)
+        → MeetsLine (spelled_of line.entry) bus.old bus.new met (W.held sink.old) (W.held sink.new)) }
+    ensures front { OnErr result (IsSpelling (spelled_of line.entry)
+        → AppendsFront (W.held sink.old) (W.held sink.new) (run_text bus.old (spelled_of line.entry ∷ []))) }
     ensures mark { Marks result (W.has_failed sink.old) (W.has_failed sink.new) }
 {
-    match read_line(line) {
+    match line {
         Line::Frame { bus: name, frame } => {
             if is_on(bus, name) {
                 put_frame(&frame, sink)
@@ -82,9 +88,8 @@ const UNREAD: Counts = Counts {
 
 /// Whether an interface is the bus of the run, which it becomes where there is none yet.
 fn is_on(bus: &mut Option<Bus>, name: &[u8]) -> bool
-    requires { IsBusName name.now }
-    ensures bus { bus.new ≡ Some (unwrap_or bus.old name.now) }
-    ensures on { result ≡ bytes_eq name.now (unwrap_or bus.old name.now) }
+    ensures bus { IsBusName name.now → bus.new ≡ Some (unwrap_or bus.old name.now) }
+    ensures on { IsBusName name.now → result ≡ bytes_eq name.now (unwrap_or bus.old name.now) }
 {
     match bus {
         Some(bus) => name == bus.bytes(),
@@ -99,6 +104,7 @@ fn is_on(bus: &mut Option<Bus>, name: &[u8]) -> bool
 fn put_frame<W: Sink>(frame: &Frame, sink: &mut W) -> Result<Counts, DeviceFault>
     ensures counts { IfOk result (λ met. met ≡ frame_counts frame.now) }
     ensures written { OnOk result (Appends (W.held sink.old) (W.held sink.new) (text_of (report_of (frame.now ∷ [])))) }
+    ensures front { OnErr result (AppendsFront (W.held sink.old) (W.held sink.new) (text_of (report_of (frame.now ∷ [])))) }
     ensures mark { Marks result (W.has_failed sink.old) (W.has_failed sink.new) }
 {
     let Some(heard) = heard_in(frame) else {

@@ -1,13 +1,10 @@
 //! The report of a log.
-ghost use Rattle.std.specs.Prelude.{◌≡◌, ◌≢◌, ◌<◌, ◌≤◌, true, length, IfOk, OnOk, IfSome, Err};
-ghost use Rattle.j39_frame.specs.Device.{Marks};
-ghost use Rattle.j39_cli.specs.Run.{WritesReport};
-ghost use Rattle.j39_cli.specs.declared.runs.RunFault.TheVariants.{Read, Write, TooLong};
+ghost use Rattle.std.specs.Prelude.{◌≡◌, ◌≢◌, ◌<◌, ◌≤◌, true, length, IfOk, OnOk, OnErr, IfSome, Err};
+ghost use Rattle.j39_cli.specs.Run.{StopsWithin, WritesReport};
+ghost use Rattle.j39_cli.specs.declared.runs.RunFault.TheVariants.{Memory, Read, Write, TooLong};
 
 use crate::Counts;
-use crate::lines::split_line;
-use crate::log::{ReadFault, read_log};
-use crate::reporter::Reporter;
+use crate::reading::Reading;
 use j39_frame::{Bus, DeviceFault, Sink, Source};
 use std::alloc::Global;
 use thiserror::Error;
@@ -29,10 +26,13 @@ pub enum RunFault {
     TooLong,
 }
 
+/// The bytes of one read.
+const PIECE: usize = 65_536;
+
 /// Writes the report of a log of at most `limit` bytes: a line for each value that a controller on
 /// the bus reported. Without a bus it is that of the first frame in the log.
 pub fn run<R: Source, W: Sink>(
-    alloc: Global,
+    _alloc: Global,
     source: &mut R,
     sink: &mut W,
     bus: Option<Bus>,
@@ -49,36 +49,30 @@ pub fn run<R: Source, W: Sink>(
     ensures read_unmarked { result ≢ Err Read → R.has_failed source.new ≡ R.has_failed source.old }
     ensures write { result ≡ Err Write → W.has_failed sink.new ≡ true }
     ensures write_unmarked { result ≢ Err Write → W.has_failed sink.new ≡ W.has_failed sink.old }
-{
-    let log = match read_log(alloc, source, limit) {
-        Ok(log) => log,
-        Err(ReadFault::Memory) => return Err(RunFault::Memory),
-        Err(ReadFault::Read) => return Err(RunFault::Read),
-        Err(ReadFault::TooLong) => return Err(RunFault::TooLong),
-    };
-    match put_report(log.as_slice(), sink, bus) {
-        Ok(counts) => Ok(counts),
-        Err(DeviceFault) => Err(RunFault::Write),
-    }
-}
+    ensures memory { result ≢ Err Memory }
 
-/// Writes the report of a log that was read.
-fn put_report<W: Sink>(log: &[u8], sink: &mut W, bus: Option<Bus>) -> Result<Counts, DeviceFault>
-    ensures report { IfOk result (λ counts. WritesReport bus log.now counts (W.held sink.old) (W.held sink.new)) }
-    ensures mark { Marks result (W.has_failed sink.old) (W.has_failed sink.new) }
+    // What was written before a fault is a front of the report of the bytes that were read.
+    ensures prefix { OnErr result (StopsWithin bus (R.remaining source.old) (R.remaining source.new) (W.held sink.old) (W.held sink.new)) }
 {
-    let mut reporter = Reporter {
-        bus,
-        counts: Counts::default(),
-    };
-    let mut rest = log;
-    while let Some((line, later)) = split_line(rest) {
-        reporter.read(line, sink)?;
-        rest = later;
+    let mut reading = Reading::new(bus);
+    let mut piece = [0u8; PIECE];
+    let mut room = limit;
+    'pieces: loop {
+        let Ok(n) = source.pull(&mut piece) else {
+            return Err(RunFault::Read);
+        };
+        if n == 0 {
+            return match reading.finish(sink) {
+                Ok(counts) => Ok(counts),
+                Err(DeviceFault) => Err(RunFault::Write),
+            };
+        }
+        if n as u64 > room {
+            return Err(RunFault::TooLong);
+        }
+        room -= n as u64;
+        let Ok(()) = reading.take(&piece[..n], sink) else {
+            return Err(RunFault::Write);
+        };
     }
-    if !rest.is_empty() {
-        reporter.read(rest, sink)?;
-    }
-    sink.flush()?;
-    Ok(reporter.counts)
 }

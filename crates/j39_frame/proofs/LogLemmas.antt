@@ -75,6 +75,30 @@ same_log bytes s t p q =
 pub same_frames : (given : _) (bytes : List ℕ) (f g : List FrameRecord) → AreFrames given bytes f → AreFrames given bytes g → f ≡ g
 same_frames given bytes f g p q = p.2 ∙ ap (frames_of given) (same_log bytes p.0 q.0 p.1 q.1) ∙ sym q.2
 
+-- ---- the first lines of a log
+
+-- lines that are ended, with any bytes behind them, are the first lines of all
+pub first_lines : (bytes rest : List ℕ) (lines all : List (List ℕ)) → AllByRecursion HasNoNewline lines → bytes ≡ ended lines ++ rest → AreLines bytes all
+    → (more : List (List ℕ)) × (all ≡ lines ++ more)
+first_lines bytes rest lines all whole is h = (lines_of rest, sym (lines_of-lines bytes all h) ∙ ap lines_of is ∙ lines_of-ended lines rest whole)
+
+first_each : (lines more : List (List ℕ)) (spelled all : List Spelled) → SpellEach lines spelled → SpellEach (lines ++ more) all
+    → (left : List Spelled) × (all ≡ spelled ++ left)
+first_each [] more [] all p q = (all, refl)
+first_each [] more (x ∷ spelled) all p q = absurd p
+first_each (line ∷ lines) more [] all p q = absurd p
+first_each (line ∷ lines) more (x ∷ spelled) [] p q = absurd q
+first_each (line ∷ lines) more (x ∷ spelled) (y ∷ all) p q =
+    let left = first_each lines more spelled all p.1 q.1 in
+    (left.0, ap₂ (λ h ts. h ∷ ts) (one_spelled line y x q.0 p.0) left.1)
+
+-- what they spell is the front of what the log spells
+pub first_spelled : (bytes rest : List ℕ) (lines : List (List ℕ)) (spelled all : List Spelled) → AllByRecursion HasNoNewline lines → SpellEach lines spelled
+    → bytes ≡ ended lines ++ rest → IsLog bytes all → (left : List Spelled) × (all ≡ spelled ++ left)
+first_spelled bytes rest lines spelled all whole each is log =
+    let more = first_lines bytes rest lines log.lines whole is log.are_lines in
+    first_each lines more.0 spelled all each (rw (sym more.1) log.spell_each)
+
 -- ---- each log has its lines
 
 whole_lines_of : (bytes : List ℕ) → AllByRecursion HasNoNewline (lines_of bytes)

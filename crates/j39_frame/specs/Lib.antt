@@ -16,5 +16,8 @@ pub mod Spelled
 pub mod Log
 pub mod LineRead
 pub mod LineParts
+pub mod Newline
+pub mod Splitter
+pub mod SplitterSteps
 pub mod Printing
 pub mod Canonical

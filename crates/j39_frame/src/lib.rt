@@ -12,8 +12,10 @@ mod identifier;
 pub mod laws;
 mod line;
 mod network;
+mod newline;
 mod pgn;
 pub mod printing;
+mod splitter;
 mod stamp;
 mod text;
 
@@ -25,6 +27,7 @@ pub use frame::Frame;
 pub use identifier::Id;
 pub use line::{LINE_LIMIT, Line, read_line};
 pub use pgn::Pgn;
+pub use splitter::{RawLine, Splitter};
 pub use stamp::Stamp;
 
 #[cfg(test)]

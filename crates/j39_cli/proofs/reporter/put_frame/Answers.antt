@@ -2,6 +2,8 @@
 use Rattle.std.proofs.Common.{List, subst, sym, ◌∙◌, ap, arith}
 use Rattle.std.specs.Io.KnownBytes.{Appends}
 use Rattle.std.proofs.KnownBytes.{Appends-nil}
+use Rattle.j39_frame.proofs.DeviceLemmas.{on_err}
+use Rattle.j39_frame.specs.Device.{AppendsFront}
 use Rattle.j39_cli.specs.Message.{hearing_at}
 use Rattle.j39_cli.specs.Report.{Entry, text_of}
 use Rattle.j39_cli.proofs.ReportLemmas.{text_of-none}
@@ -24,3 +26,8 @@ pub returns-clause-written : goal.returns-clause-written
 returns-clause-written g c =
     subst (λ (es : List Entry). Appends (g.W.Sink.held c.args.sink.now) (g.W.Sink.held c.put_heard.new.sink) (text_of es))
     (sym (report_of-some c.args.frame.now (hearing_at c.in-Some.heard) c.in-Some.ensures)) c.in_ok-lines.ensures.written
+
+pub returns-in_err-lines-clause-front : goal.returns-in_err-lines-clause-front
+returns-in_err-lines-clause-front g c =
+    on_err _ _ (subst (λ (es : List Entry). AppendsFront (g.W.Sink.held c.args.sink.now) (g.W.Sink.held c.put_heard.new.sink) (text_of es))
+    (sym (report_of-some c.args.frame.now (hearing_at c.in-Some.heard) c.in-Some.ensures)) c.in_err-lines.ensures.front)

@@ -6,7 +6,7 @@ use Rattle.std.proofs.lemmas.Bool.{eqb-true, eqb-false, not-true, not-false}
 use Rattle.std.proofs.lemmas.List.Elements.{recursion_from_All, All-from_get_or}
 use Rattle.std.proofs.lemmas.List.Sums.{prefix_len_passes, prefix_len_stops}
 use Rattle.j39_frame.specs.Log.{HasNoNewline}
-use Rattle.j39_cli.specs.Lines.{TakesLine}
+use Rattle.j39_frame.specs.Newline.{TakesLine}
 
 abbrev line_len : List ℕ → ℕ
 line_len bytes = prefix_len (λ b. not (b == 10)) bytes

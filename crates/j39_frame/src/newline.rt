@@ -1,8 +1,9 @@
-//! The lines of a log.
+//! The first line of bytes.
 ghost use Rattle.std.specs.Prelude.{◌≡◌, ◌++◌, ◌∷◌, ◌≤◌, length, MatchOption, not, ◌==◌};
 ghost use Rattle.std.specs.List.{prefix_len};
+ghost use Rattle.j39_frame.specs.Chars.{newline};
 ghost use Rattle.j39_frame.specs.Log.{HasNoNewline};
-ghost use Rattle.j39_cli.specs.Lines.{TakesLine};
+ghost use Rattle.j39_frame.specs.Newline.{TakesLine};
 
 /// The bytes before the first newline, and those after it; `None` where there is no newline.
 pub(crate) fn split_line(bytes: &[u8]) -> Option<(&[u8], &[u8])>
@@ -16,7 +17,7 @@ pub(crate) fn split_line(bytes: &[u8]) -> Option<(&[u8], &[u8])>
 }
 
 fn line_len(bytes: &[u8]) -> usize
-    ensures value { result ≡ prefix_len (λ b. not (b == 10)) bytes.now }
+    ensures value { result ≡ prefix_len (λ b. not (b == newline)) bytes.now }
     ensures fits { result ≤ length bytes.now }
 {
     bytes.iter().take_while(|b| **b != b'\n').count()

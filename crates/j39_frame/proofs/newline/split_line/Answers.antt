@@ -1,6 +1,6 @@
 use Rattle.std.proofs.Common.{rules}
-use Rattle.j39_cli.proofs.LineLemmas.{no_newline, takes_line}
-use Rattle.j39_cli.proofs.lines.split_line.Goals as goal
+use Rattle.j39_frame.proofs.NewlineLemmas.{no_newline, takes_line}
+use Rattle.j39_frame.proofs.newline.split_line.Goals as goal
 
 pub returns-in-None : goal.returns-in-None
 returns-in-None c =

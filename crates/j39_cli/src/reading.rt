@@ -1,0 +1,120 @@
+//! A run over pieces of a log.
+ghost use Rattle.std.specs.Prelude.{◌≡◌, ◌<◌, ◌≤◌, ◌++◌, ℕ, List, [], Option, OnOk, OnErr, IfOk, length};
+ghost use Rattle.j39_frame.specs.Device.{Marks};
+ghost use Rattle.j39_frame.specs.Splitter.{HasBegun};
+ghost use Rattle.j39_cli.specs.Reading.{HasTaken, ReadsLast, StepsOver, StopsIn, StopsLast};
+ghost use Rattle.j39_cli.specs.Run.{WritesFront, WritesReport};
+
+use crate::Counts;
+use crate::reporter::Reporter;
+use j39_frame::{Bus, DeviceFault, Sink, Splitter};
+
+/// A log that is read in pieces, and the run over its lines.
+#[derive(Debug, Drop)]
+pub(crate) struct Reading {
+    splitter: Splitter,
+    reporter: Reporter,
+}
+
+impl Reading {
+    /// At the start of a log.
+    pub fn new(bus: Option<Bus>) -> Reading
+        ensures { (held : Option (List ℕ)) → HasTaken bus [] result held held }
+    {
+        Reading {
+            splitter: Splitter::new(),
+            reporter: Reporter {
+                bus,
+                counts: Counts::default(),
+            },
+        }
+    }
+
+    /// Takes a piece of the log, and writes the report of the lines that it ends. What was written
+    /// is passed on.
+    pub fn take<W: Sink>(&mut self, piece: &[u8], sink: &mut W) -> Result<(), DeviceFault>
+        ensures taken { OnOk result ((given : Option (List ℕ)) (taken : List ℕ) (held : Option (List ℕ))
+            → HasTaken given taken self.old held (W.held sink.old) → HasTaken given (taken ++ piece.now) self.new held (W.held sink.new)) }
+        ensures front { OnErr result ((given : Option (List ℕ)) (taken : List ℕ) (held : Option (List ℕ))
+            → HasTaken given taken self.old held (W.held sink.old) → WritesFront given (taken ++ piece.now) held (W.held sink.new)) }
+        ensures mark { Marks result (W.has_failed sink.old) (W.has_failed sink.new) }
+    {
+        let lines = self.reporter.counts.lines;
+        self.take_lines(piece, sink)?;
+        if self.reporter.counts.lines > lines {
+            sink.flush()?;
+        }
+        Ok(())
+    }
+
+    fn take_lines<W: Sink>(&mut self, piece: &[u8], sink: &mut W) -> Result<(), DeviceFault>
+        ensures taken { OnOk result ((given : Option (List ℕ)) (taken : List ℕ) (held : Option (List ℕ))
+            → HasTaken given taken self.old held (W.held sink.old) → HasTaken given (taken ++ piece.now) self.new held (W.held sink.new)) }
+        ensures front { OnErr result ((given : Option (List ℕ)) (taken : List ℕ) (held : Option (List ℕ))
+            → HasTaken given taken self.old held (W.held sink.old) → WritesFront given (taken ++ piece.now) held (W.held sink.new)) }
+        ensures mark { Marks result (W.has_failed sink.old) (W.has_failed sink.new) }
+    {
+        let mut rest = piece;
+        while !rest.is_empty() {
+            let n = take_line(&mut self.splitter, &mut self.reporter, rest, sink)?;
+            (_, rest) = rest.split_at(n);
+        }
+        Ok(())
+    }
+
+    /// Reads the last line where it is not ended, and passes on what was written.
+    pub fn finish<W: Sink>(&mut self, sink: &mut W) -> Result<Counts, DeviceFault>
+        ensures report { IfOk result (λ counts. (given : Option (List ℕ)) (taken : List ℕ) (held : Option (List ℕ))
+            → HasTaken given taken self.old held (W.held sink.old) → WritesReport given taken counts held (W.held sink.new)) }
+        ensures front { OnErr result ((given : Option (List ℕ)) (taken : List ℕ) (held : Option (List ℕ))
+            → HasTaken given taken self.old held (W.held sink.old) → WritesFront given taken held (W.held sink.new)) }
+        ensures mark { Marks result (W.has_failed sink.old) (W.has_failed sink.new) }
+    {
+        take_last(&mut self.splitter, &mut self.reporter, sink)?;
+        sink.flush()?;
+        Ok(self.reporter.counts)
+    }
+}
+
+/// Takes the bytes to the end of a line, which it reads, or all of them: how many it took.
+fn take_line<W: Sink>(
+    splitter: &mut Splitter,
+    reporter: &mut Reporter,
+    bytes: &[u8],
+    sink: &mut W,
+) -> Result<usize, DeviceFault>
+    ensures count { IfOk result (λ n. n ≤ length bytes.now) }
+    ensures some { IfOk result (λ n. 0 < length bytes.now → 0 < n) }
+    ensures steps { IfOk result (λ n. (begun : List ℕ) → HasBegun splitter.old begun
+        → StepsOver begun bytes.now n splitter.new reporter.old reporter.new (W.held sink.old) (W.held sink.new)) }
+    ensures front { OnErr result ((begun : List ℕ) → HasBegun splitter.old begun
+        → StopsIn begun bytes.now reporter.old.bus (W.held sink.old) (W.held sink.new)) }
+    ensures mark { Marks result (W.has_failed sink.old) (W.has_failed sink.new) }
+{
+    let (n, cut) = splitter.feed(bytes);
+    match cut {
+        None => Ok(n),
+        Some(cut) => {
+            reporter.read(cut.read(), sink)?;
+            Ok(n)
+        }
+    }
+}
+
+/// Reads the last line, where one is begun.
+fn take_last<W: Sink>(
+    splitter: &mut Splitter,
+    reporter: &mut Reporter,
+    sink: &mut W,
+) -> Result<(), DeviceFault>
+    ensures reads { OnOk result ((begun : List ℕ) → HasBegun splitter.old begun
+        → ReadsLast begun reporter.old reporter.new (W.held sink.old) (W.held sink.new)) }
+    ensures front { OnErr result ((begun : List ℕ) → HasBegun splitter.old begun
+        → StopsLast begun reporter.old.bus (W.held sink.old) (W.held sink.new)) }
+    ensures mark { Marks result (W.has_failed sink.old) (W.has_failed sink.new) }
+{
+    match splitter.finish() {
+        None => Ok(()),
+        Some(cut) => reporter.read(cut.read(), sink),
+    }
+}
