@@ -1,0 +1,5 @@
+pub mod ReportLemmas
+pub mod MeetLemmas
+pub mod RunLemmas
+pub mod StopLemmas
+pub mod PieceLemmas

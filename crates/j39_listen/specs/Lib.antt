@@ -1,0 +1,7 @@
+pub mod Heard
+pub mod Report
+pub mod Counting
+pub mod Run
+pub mod LineSteps
+pub mod PieceSteps
+pub mod Shown

@@ -1,0 +1,51 @@
+-- The report of a list of frames, and its text.
+use Rattle.std.specs.Prelude.{ℕ, List, [], ◌∷◌, ◌++◌, Option, Some, None, map, replicate, decimal}
+use Rattle.std.specs.Int.{to_be_bytes, w64}
+use Rattle.std.specs.List.{flat_map}
+use Rattle.hex.specs.Hex.{encode_upper}
+use Rattle.j39_frame.specs.Frame.{FrameRecord}
+use Rattle.j39_frame.specs.Printing.{stamp_text}
+use Rattle.j39_groups.specs.Readings.{readings_of}
+use Rattle.j39_groups.specs.Value.{ReadingRecord, ValueRecord}
+use Rattle.j39_groups.specs.ValueText.{value_text}
+use Rattle.j39_listen.specs.Heard.{Hearing, heard_of}
+
+-- one value that a controller reported
+pub record Entry : Type 0 where
+  pub stamp : ℕ
+  pub address : ℕ
+  pub name : Option ℕ
+  pub pgn : ℕ
+  pub spn : ℕ
+  pub value : ValueRecord
+
+abbrev pub entry_of : Hearing → ReadingRecord → Entry
+entry_of h r = record { stamp = h.stamp; address = h.source; name = h.name; pgn = h.pgn; spn = r.spn; value = r.value }
+
+-- an entry for each reading of a message, in order
+abbrev pub entries_of : Hearing → List Entry
+entries_of h = map (entry_of h) (readings_of h.pgn h.bytes)
+
+-- the entries of each message that is heard, in order
+unfoldable pub report_of : List FrameRecord → List Entry
+report_of frames = flat_map entries_of (heard_of frames)
+
+-- a NAME in sixteen upper-case hex digits, or sixteen `-`
+abbrev pub name_text : Option ℕ → List ℕ
+name_text None = replicate 16 45
+name_text (Some name) = encode_upper (to_be_bytes w64 name)
+
+-- what the lines of a message begin with: stamp, address, NAME and PGN, a space after each
+abbrev pub head_text : ℕ → ℕ → Option ℕ → ℕ → List ℕ
+head_text stamp address name pgn =
+    stamp_text stamp ++ (32 ∷ []) ++ encode_upper (address ∷ []) ++ (32 ∷ []) ++ name_text name ++ (32 ∷ []) ++ decimal pgn ++ (32 ∷ [])
+
+abbrev pub hearing_head : Hearing → List ℕ
+hearing_head h = head_text h.stamp h.source h.name h.pgn
+
+-- the line of an entry, with its newline
+unfoldable pub entry_text : Entry → List ℕ
+entry_text e = head_text e.stamp e.address e.name e.pgn ++ decimal e.spn ++ (32 ∷ []) ++ value_text e.value ++ (10 ∷ [])
+
+unfoldable pub text_of : List Entry → List ℕ
+text_of entries = flat_map entry_text entries

@@ -1,0 +1,12 @@
+//! What a listener hears on a bus, and the runs that write it down.
+#![tactic(auto)]
+
+mod counts;
+mod heard;
+mod pieces;
+mod progress;
+mod report_lines;
+mod running;
+
+pub use counts::Counts;
+pub use running::{RunFault, run};

@@ -1,0 +1,78 @@
+//! The report of a log.
+ghost use Rattle.std.specs.Prelude.{◌≡◌, ◌≢◌, ◌<◌, ◌≤◌, true, length, IfOk, OnOk, OnErr, IfSome, Err};
+ghost use Rattle.j39_listen.specs.Run.{StopsWithin, WritesReport};
+ghost use Rattle.j39_listen.specs.declared.running.RunFault.TheVariants.{Memory, Read, Write, TooLong};
+
+use crate::Counts;
+use crate::pieces::Pieces;
+use j39_frame::{Bus, DeviceFault, Sink, Source};
+use std::alloc::Global;
+use thiserror::Error;
+
+/// Why a run was not finished.
+#[derive(Clone, Copy, Debug, PartialEq, Eq, Error)]
+pub enum RunFault {
+    /// Memory was refused.
+    #[error("out of memory")]
+    Memory,
+    /// The reader answered an error.
+    #[error("read failed")]
+    Read,
+    /// The writer answered an error, or took no byte.
+    #[error("write failed")]
+    Write,
+    /// The reader gave more bytes than the limit.
+    #[error("input too long")]
+    TooLong,
+}
+
+/// The bytes of one read.
+const PIECE: usize = 65_536;
+
+/// Writes the report of a log of at most `limit` bytes: a line for each value that a controller on
+/// the bus reported. Without a bus it is that of the first frame in the log.
+pub fn run<R: Source, W: Sink>(
+    _alloc: Global,
+    source: &mut R,
+    sink: &mut W,
+    bus: Option<Bus>,
+    limit: u64,
+) -> Result<Counts, RunFault>
+    // The report promise: what is written is the report of the log, and nothing else.
+    ensures report { IfOk result (λ counts. IfSome (R.remaining source.old)
+        (λ log. WritesReport bus log counts (W.held sink.old) (W.held sink.new))) }
+
+    // Each fault comes only where its device failed, or the log is longer than the limit.
+    ensures short { OnOk result (IfSome (R.remaining source.old) (λ log. length log ≤ limit)) }
+    ensures too_long { result ≡ Err TooLong → IfSome (R.remaining source.old) (λ log. limit < length log) }
+    ensures read { result ≡ Err Read → R.has_failed source.new ≡ true }
+    ensures read_unmarked { result ≢ Err Read → R.has_failed source.new ≡ R.has_failed source.old }
+    ensures write { result ≡ Err Write → W.has_failed sink.new ≡ true }
+    ensures write_unmarked { result ≢ Err Write → W.has_failed sink.new ≡ W.has_failed sink.old }
+    ensures memory { result ≢ Err Memory }
+
+    // What was written before a fault is a front of the report of the bytes that were read.
+    ensures prefix { OnErr result (StopsWithin bus (R.remaining source.old) (R.remaining source.new) (W.held sink.old) (W.held sink.new)) }
+{
+    let mut pieces = Pieces::new(bus);
+    let mut piece = [0u8; PIECE];
+    let mut room = limit;
+    'pieces: loop {
+        let Ok(n) = source.pull(&mut piece) else {
+            return Err(RunFault::Read);
+        };
+        if n == 0 {
+            return match pieces.finish(sink) {
+                Ok(counts) => Ok(counts),
+                Err(DeviceFault) => Err(RunFault::Write),
+            };
+        }
+        if n as u64 > room {
+            return Err(RunFault::TooLong);
+        }
+        room -= n as u64;
+        let Ok(()) = pieces.take(&piece[..n], sink) else {
+            return Err(RunFault::Write);
+        };
+    }
+}
