@@ -9,12 +9,12 @@ use Rattle.clap.specs.declared.parser.matches.Found.{Found}
 use Rattle.clap.specs.declared.parser.matches.ArgMatches.{ArgMatches}
 use Rattle.clap.specs.declared.parser.matches.ArgMatches.TheViews.{out-ArgMatches, out-SubCommand}
 use Rattle.clap.specs.declared.parser.matches.SubCommand.{SubCommand}
-use Rattle.j39_cli.specs.Words.{HasTexts, Spelled, id, report}
+use Rattle.j39_cli.specs.CommandWords.{HasTexts, CommandWords, id, report}
 use Rattle.j39_cli.specs.Task.{Answer, IsAnswer}
 use Rattle.j39_cli.specs.declared.task.ParseFault.TheVariants.{Memory}
 
 -- memory answers any command
-pub memory_answers : (s : Spelled) → IsAnswer s (Err Memory)
+pub memory_answers : (s : CommandWords) → IsAnswer s (Err Memory)
 memory_answers (report None file) = tt
 memory_answers (report (Some bus) file) = record { in_range = λ _. tt; wrong = λ _. tt }
 memory_answers (id hex) = record { in_range = λ _. tt; wrong = λ _. tt }
@@ -43,7 +43,7 @@ is_met m found name met rows is_name is_found =
 
 -- ---- each command's answer, for the command that was spelled
 
-abbrev name_of : Spelled → Text
+abbrev name_of : CommandWords → Text
 name_of (report bus file) = codes "report"
 name_of (id hex) = codes "id"
 
@@ -51,14 +51,14 @@ name_of (id hex) = codes "id"
 apart : (t a b : Text) → t ≡ a → t ≡ b → bytes_eq a b ≡ false → bytes_eq b b ≡ true → ⊥
 apart t a b is_a is_b differ same = let e : bytes_eq a b ≡ bytes_eq b b = ap (λ (x : Text). bytes_eq x b) (sym is_a ∙ is_b) in cc
 
-pub report_answers : (s : Spelled) (met : Text × List Row) (found : Found) (r : Answer) → HasTexts s met → IsMet found (codes "report") met
+pub report_answers : (s : CommandWords) (met : Text × List Row) (found : Found) (r : Answer) → HasTexts s met → IsMet found (codes "report") met
     → IsAnswer (report (first_value found (codes "bus")) (first_value found (codes "file"))) r → IsAnswer s r
 report_answers (report bus file) met found r texts is answer =
     subst (λ (f : Option Text). IsAnswer (report bus f) r) (is.values (codes "file") ∙ texts.2)
     (subst (λ (b : Option Text). IsAnswer (report b (first_value found (codes "file"))) r) (is.values (codes "bus") ∙ texts.1) answer)
 report_answers s met found r texts is answer = absurd (apart met.0 (name_of s) (codes "report") texts.0 is.name_is refl refl)
 
-pub id_answers : (s : Spelled) (met : Text × List Row) (found : Found) (r : Answer) → HasTexts s met → IsMet found (codes "id") met
+pub id_answers : (s : CommandWords) (met : Text × List Row) (found : Found) (r : Answer) → HasTexts s met → IsMet found (codes "id") met
     → ((hex : Text) → first_value found (codes "hex") ≡ Some hex → IsAnswer (id hex) r) → IsAnswer s r
 id_answers (id hex) met found r texts is answer = answer hex (is.values (codes "hex") ∙ texts.1)
 id_answers s met found r texts is answer = absurd (apart met.0 (name_of s) (codes "id") texts.0 is.name_is refl refl)

@@ -4,8 +4,10 @@ use Rattle.clap.specs.Words.{App, Row, Shape, Text, built, is_simple, subcommand
 use Rattle.clap.specs.Simple.{built_leaf}
 use Rattle.clap.specs.Walk.{finished}
 use Rattle.clap.proofs.OnLiterals.{clap_on_literals}
-use Rattle.j39_cli.specs.Command.{id_app, line_app, report_app}
-use Rattle.j39_cli.specs.Words.{HasTexts, HasValues, Spelled, id, report, words_of}
+use Rattle.j39_cli.specs.Command.{line_app}
+use Rattle.j39_cli.specs.IdCommand.{id_app}
+use Rattle.j39_cli.specs.ReportCommand.{report_app}
+use Rattle.j39_cli.specs.CommandWords.{HasTexts, HasValues, CommandWords, id, report, words_of}
 use Rattle.j39_cli.proofs.PartLemmas.{AreParts, Enters, Part, built_takes-enters, entered-enters, given, held_after, level_passes-parts, parts_pass, rows_after-parts, takes_parts, text_of, written}
 
 pub line_is_simple : is_simple line_app ≡ true
@@ -13,7 +15,7 @@ unfolding clap_on_literals line_app
 line_is_simple = refl
 
 -- what is known of a command that is spelled: clap takes it, and meets it with its texts
-pub record IsRead (program : Text) (s : Spelled) : Type 0 where
+pub record IsRead (program : Text) (s : CommandWords) : Type 0 where
   pub taken : takes line_app (program ∷ words_of s) ≡ true
   pub met : Text × List Row
   pub rows : subcommand_of line_app (program ∷ words_of s) ≡ Some met
@@ -27,7 +29,7 @@ abbrev rows_of_parts : App → List Part → Text × List Row
 rows_of_parts a xs = ((leaf_of a).name, finished (leaf_of a).rules (held_after (leaf_of a) xs))
 
 -- it is read where its words are those of parts that the command takes
-read : (program word : Text) (a : App) → Enters (built line_app) word (leaf_of a) → (xs : List Part) (s : Spelled) → AreParts xs
+read : (program word : Text) (a : App) → Enters (built line_app) word (leaf_of a) → (xs : List Part) (s : CommandWords) → AreParts xs
     → words_of s ≡ word ∷ map text_of xs → takes_parts (leaf_of a) xs ≡ true → HasTexts s (rows_of_parts a xs) → IsRead program s
 unfolding line_app
 read program word a enters xs s are spelled passes texts = record {
@@ -50,7 +52,7 @@ enters_id : Enters (built line_app) (codes "id") (leaf_of id_app)
 unfolding clap_on_literals line_app
 enters_id = record { step = refl; passes = refl; found = refl; checks = refl }
 
-pub is_read : (program : Text) (s : Spelled) → HasValues s → IsRead program s
+pub is_read : (program : Text) (s : CommandWords) → HasValues s → IsRead program s
 unfolding clap_on_literals parts_pass
 is_read program (report None None) values = read program (codes "report") report_app enters_report
     [] _ tt refl refl (refl, refl, refl)

@@ -1,6 +1,6 @@
 -- What the program says where it has no task.
-use Rattle.std.specs.Prelude.{◌≡◌, ◌++◌, ◌∷◌, ℕ, Bool, false, List, [], Option, codes, string_bytes}
-use Rattle.std.specs.Io.KnownBytes.{Appends}
+use Rattle.std.specs.Prelude.{◌++◌, ◌∷◌, ℕ, List, [], codes, string_bytes}
+use Rattle.j39_frame.specs.Chars.{newline}
 use Rattle.j39_cli.specs.Task.{argument_text}
 use Rattle.j39_cli.specs.declared.task.ParseFault.{ParseFault}
 use Rattle.j39_cli.specs.declared.task.ParseFault.TheVariants.{Memory, Usage, BadValue, Help}
@@ -21,7 +21,7 @@ IsWrongLine (Help text) = ⊥
 
 -- a line of the program's own on standard error
 abbrev pub error_line : List ℕ → List ℕ → List ℕ
-error_line words name = codes "j1939: " ++ (words ++ (name ++ 10 ∷ []))
+error_line words name = codes "j1939: " ++ (words ++ (name ++ newline ∷ []))
 
 -- what standard output is told
 abbrev pub out_words : ParseFault → List ℕ
@@ -36,7 +36,3 @@ error_words Memory = error_line (codes "out of memory") []
 error_words (Usage text) = string_bytes text
 error_words (BadValue argument) = error_line (codes "bad value for ") (argument_text argument)
 error_words (Help text) = []
-
--- a writer that no fault has come to holds the bytes after those of before
-abbrev pub Writes : Option (List ℕ) → Option (List ℕ) → Bool → List ℕ → Type 0
-Writes old new has_failed bytes = has_failed ≡ false → Appends old new bytes

@@ -5,9 +5,9 @@ use Rattle.std.specs.Str.Parse.{digits_value}
 use Rattle.clap.specs.Words.{Text}
 use Rattle.j39_frame.specs.Bus.{IsBusName}
 use Rattle.j39_frame.specs.Identifier.{id_raw}
-use Rattle.j39_cli.specs.Value.{IsIdText}
-use Rattle.j39_cli.specs.Words.{Spelled}
-use Rattle.j39_cli.specs.Words as spelled
+use Rattle.j39_cli.specs.IdCommand.{IsIdText}
+use Rattle.j39_cli.specs.CommandWords.{CommandWords}
+use Rattle.j39_cli.specs.CommandWords as written
 use Rattle.j39_cli.specs.declared.task.Argument.{Argument}
 use Rattle.j39_cli.specs.declared.task.Argument.TheVariants as argument
 use Rattle.j39_cli.specs.declared.task.Task.{Task}
@@ -75,10 +75,10 @@ abbrev pub IsBusChecked : Option Text → (Answer → Type 0) → Answer → Typ
 IsBusChecked None Next r = Next r
 IsBusChecked (Some bus) Next r = IsChecked (IsBusName bus) argument.Bus Next r
 
--- the values are checked in the order of the spelling, and the first wrong one is the answer
-abbrev pub IsAnswer : Spelled → Answer → Type 0
-IsAnswer (spelled.report bus file) r = IsBusChecked bus (IsTask (report bus file)) r
-IsAnswer (spelled.id hex) r = IsChecked (IsIdText hex) argument.Hex (IsTask (id (digits_value 16 hex))) r
+-- the values are checked in the order of the words, and the first wrong one is the answer
+abbrev pub IsAnswer : CommandWords → Answer → Type 0
+IsAnswer (written.report bus file) r = IsBusChecked bus (IsTask (report bus file)) r
+IsAnswer (written.id hex) r = IsChecked (IsIdText hex) argument.Hex (IsTask (id (digits_value 16 hex))) r
 
 -- ---- what is read of `--bus`
 

@@ -4,13 +4,11 @@ ghost use Rattle.clap.specs.Words.{HasMatchesOf, Row, Text, first_value, found_o
 ghost use Rattle.clap.specs.Words.{subcommand_rows_of, takes};
 ghost use Rattle.j39_frame.specs.Bus.{IsBusName};
 ghost use Rattle.j39_cli.specs.Command.{line_app};
-ghost use Rattle.j39_cli.specs.Words.{HasTexts, HasValues, Spelled, words_of};
-ghost use Rattle.j39_cli.specs.Words as spelled;
-ghost use Rattle.j39_cli.specs.Task.{IsAnswer, IsBusValue, IsInRange, IsWrong};
+ghost use Rattle.j39_cli.specs.CommandWords.{CommandWords, HasTexts, HasValues, words_of};
+ghost use Rattle.j39_cli.specs.Task.{IsAnswer, IsBusValue, IsInRange};
 
 use crate::command::line;
-use crate::value::id_of;
-use crate::{Argument, ParseFault, Task, WordText};
+use crate::{Argument, ParseFault, Task, id, report};
 use clap::error::ErrorKind;
 use clap::{ArgMatches, Error};
 use j39_frame::Bus;
@@ -20,7 +18,7 @@ use std::convert::AsStr;
 /// The task that the words ask for. They begin with the program's name. What words mean that spell
 /// no command is clap's: it also takes `--bus=can0`, and options after FILE.
 pub fn parse<'a, S: AsStr>(alloc: Global, words: &'a [S]) -> Result<Task<'a>, ParseFault>
-    ensures answer { (program : Text) (s : Spelled) → HasValues s
+    ensures answer { (program : Text) (s : CommandWords) → HasValues s
         → map S.text words.entry.now ≡ program ∷ words_of s → IsAnswer s result }
     ensures in_range { IfOk result IsInRange }
 {
@@ -30,7 +28,7 @@ pub fn parse<'a, S: AsStr>(alloc: Global, words: &'a [S]) -> Result<Task<'a>, Pa
     }
 }
 
-// What clap makes of the words.
+/// What clap makes of the words.
 fn matched<'a, S: AsStr>(alloc: Global, words: &'a [S]) -> Result<ArgMatches<'a>, ParseFault>
     ensures ok { IfOk result (HasMatchesOf line_app (map S.text words.entry.now)) }
     ensures err { IfErr result (λ fault. takes line_app (map S.text words.entry.now) ≡ true
@@ -54,58 +52,33 @@ fn fault_of(alloc: Global, error: &Error) -> ParseFault
     }
     match error.to_string(alloc) {
         Err(_) => ParseFault::Memory,
-        Ok(text) if kind == ErrorKind::DisplayHelp => ParseFault::Help(text),
+        Ok(text) if kind == ErrorKind::DisplayHelp || kind == ErrorKind::DisplayVersion => {
+            ParseFault::Help(text)
+        }
         Ok(text) => ParseFault::Usage(text),
     }
 }
 
-// The task of the command that clap met.
+/// The task of the command that clap met.
 fn task_of<'a>(alloc: Global, matches: &ArgMatches<'a>) -> Result<Task<'a>, ParseFault>
-    ensures answer { (s : Spelled) (met : Text × List Row) → subcommand_rows_of matches.now ≡ Some met
+    ensures answer { (s : CommandWords) (met : Text × List Row) → subcommand_rows_of matches.now ≡ Some met
         → HasTexts s met → IsAnswer s result }
     ensures in_range { IfOk result IsInRange }
 {
     let report = matches.subcommand_matches("report");
     if let Some(given) = report {
-        return report_of(given);
+        return report::task(given);
     }
     let id = matches.subcommand_matches("id");
     if let Some(given) = id {
-        return id_task_of(alloc, given);
+        return id::task(alloc, given);
     }
     // clap requires a command and knows no other, so that nothing comes here.
     Err(ParseFault::Usage(String::new(alloc)))
 }
 
-fn report_of<'a>(given: &ArgMatches<'a>) -> Result<Task<'a>, ParseFault>
-    ensures answer { IsAnswer (spelled.report (first_value (found_of given.now) (codes "bus"))
-        (first_value (found_of given.now) (codes "file"))) result }
-    ensures in_range { IfOk result IsInRange }
-{
-    let file = given.get_str("file").map(WordText::new);
-    match bus_of(given) {
-        Ok(bus) => Ok(Task::Report(bus, file)),
-        Err(fault) => Err(fault),
-    }
-}
-
-fn id_task_of<'a>(alloc: Global, given: &ArgMatches<'a>) -> Result<Task<'a>, ParseFault>
-    ensures answer { (hex : Text) → first_value (found_of given.now) (codes "hex") ≡ Some hex
-        → IsAnswer (spelled.id hex) result }
-    ensures in_range { IfOk result IsInRange }
-{
-    let hex = match required(alloc, given, "hex") {
-        Ok(hex) => hex,
-        Err(fault) => return Err(fault),
-    };
-    match id_of(hex) {
-        Some(id) => Ok(Task::Id(id)),
-        None => Err(ParseFault::BadValue(Argument::Hex)),
-    }
-}
-
-// The value of `--bus`, where it is given.
-fn bus_of(given: &ArgMatches<'_>) -> Result<Option<Bus>, ParseFault>
+/// The value of `--bus`, where it is given.
+pub(crate) fn bus_value(given: &ArgMatches<'_>) -> Result<Option<Bus>, ParseFault>
     ensures { IsBusValue (first_value (found_of given.now) (codes "bus")) result }
 {
     match given.get_str("bus") {
@@ -117,8 +90,8 @@ fn bus_of(given: &ArgMatches<'_>) -> Result<Option<Bus>, ParseFault>
     }
 }
 
-// The value of an argument. clap requires it, so that it is there.
-fn required<'a>(alloc: Global, given: &ArgMatches<'a>, id: &str) -> Result<&'a str, ParseFault>
+/// The value of an argument. clap requires it, so that it is there.
+pub(crate) fn required<'a>(alloc: Global, given: &ArgMatches<'a>, id: &str) -> Result<&'a str, ParseFault>
     ensures ok { IfOk result (λ text. first_value (found_of given.now) id.now ≡ Some text.now) }
     ensures err { IfErr result (λ _. first_value (found_of given.now) id.now ≡ None) }
 {

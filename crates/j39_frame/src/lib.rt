@@ -6,6 +6,7 @@ mod address;
 mod bus;
 mod canonical;
 mod device;
+mod digits;
 mod fields;
 mod frame;
 mod identifier;
@@ -18,17 +19,20 @@ pub mod printing;
 mod splitter;
 mod stamp;
 mod text;
+mod trial;
 
 pub use address::{GLOBAL_ADDRESS, NULL_ADDRESS, is_address};
 pub use bus::Bus;
 pub use canonical::line_of;
 pub use device::{DeviceFault, Sink, Source, Told, put_all};
+pub use digits::number;
 pub use frame::Frame;
 pub use identifier::Id;
 pub use line::{LINE_LIMIT, Line, read_line};
 pub use pgn::Pgn;
 pub use splitter::{RawLine, Splitter};
 pub use stamp::Stamp;
+pub use trial::{Full, Trial};
 
 #[cfg(test)]
 mod tests;

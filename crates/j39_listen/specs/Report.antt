@@ -1,8 +1,9 @@
 -- The report of a list of frames, and its text.
-use Rattle.std.specs.Prelude.{ℕ, List, [], ◌∷◌, ◌++◌, Option, Some, None, map, replicate, decimal}
+use Rattle.std.specs.Prelude.{ℕ, List, [], ◌∷◌, ◌++◌, Option, Some, None, map, codes, decimal}
 use Rattle.std.specs.Int.{to_be_bytes, w64}
 use Rattle.std.specs.List.{flat_map}
 use Rattle.hex.specs.Hex.{encode_upper}
+use Rattle.j39_frame.specs.Chars.{newline}
 use Rattle.j39_frame.specs.Frame.{FrameRecord}
 use Rattle.j39_frame.specs.Printing.{stamp_text}
 use Rattle.j39_groups.specs.Readings.{readings_of}
@@ -32,20 +33,20 @@ report_of frames = flat_map entries_of (heard_of frames)
 
 -- a NAME in sixteen upper-case hex digits, or sixteen `-`
 abbrev pub name_text : Option ℕ → List ℕ
-name_text None = replicate 16 45
+name_text None = codes "----------------"
 name_text (Some name) = encode_upper (to_be_bytes w64 name)
 
 -- what the lines of a message begin with: stamp, address, NAME and PGN, a space after each
 abbrev pub head_text : ℕ → ℕ → Option ℕ → ℕ → List ℕ
 head_text stamp address name pgn =
-    stamp_text stamp ++ (32 ∷ []) ++ encode_upper (address ∷ []) ++ (32 ∷ []) ++ name_text name ++ (32 ∷ []) ++ decimal pgn ++ (32 ∷ [])
+    stamp_text stamp ++ codes " " ++ encode_upper (address ∷ []) ++ codes " " ++ name_text name ++ codes " " ++ decimal pgn ++ codes " "
 
 abbrev pub hearing_head : Hearing → List ℕ
 hearing_head h = head_text h.stamp h.source h.name h.pgn
 
 -- the line of an entry, with its newline
 unfoldable pub entry_text : Entry → List ℕ
-entry_text e = head_text e.stamp e.address e.name e.pgn ++ decimal e.spn ++ (32 ∷ []) ++ value_text e.value ++ (10 ∷ [])
+entry_text e = head_text e.stamp e.address e.name e.pgn ++ decimal e.spn ++ codes " " ++ value_text e.value ++ (newline ∷ [])
 
 unfoldable pub text_of : List Entry → List ℕ
 text_of entries = flat_map entry_text entries

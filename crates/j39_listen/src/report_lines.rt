@@ -1,6 +1,7 @@
 //! The lines of a report.
-ghost use Rattle.std.specs.Prelude.{◌≡◌, ◌≤◌, ◌++◌, ◌∷◌, [], OnOk, OnErr, IfOk, decimal, length};
+ghost use Rattle.std.specs.Prelude.{◌≡◌, ◌≤◌, ◌++◌, ◌∷◌, [], OnOk, OnErr, IfOk, codes, decimal, length};
 ghost use Rattle.std.specs.Io.KnownBytes.{Appends};
+ghost use Rattle.j39_frame.specs.Chars.{newline};
 ghost use Rattle.j39_frame.specs.Device.{AppendsFront, Marks};
 ghost use Rattle.j39_groups.specs.Shown.{value_of};
 ghost use Rattle.j39_groups.specs.ValueText.{value_text};
@@ -50,9 +51,9 @@ fn head_of(heard: &Heard<'_>) -> ArrayVec<u8, 47>
 fn put_reading<W: Sink>(head: &[u8], reading: &Reading<'_>, sink: &mut W) -> Result<(), DeviceFault>
     requires { length head.now ≤ 47 }
     ensures written { OnOk result (Appends (W.held sink.old) (W.held sink.new)
-        (head.now ++ decimal reading.now.spn ++ (32 ∷ []) ++ value_text (value_of reading.now.value) ++ (10 ∷ []))) }
+        (head.now ++ decimal reading.now.spn ++ codes " " ++ value_text (value_of reading.now.value) ++ (newline ∷ []))) }
     ensures front { OnErr result (AppendsFront (W.held sink.old) (W.held sink.new)
-        (head.now ++ decimal reading.now.spn ++ (32 ∷ []) ++ value_text (value_of reading.now.value) ++ (10 ∷ []))) }
+        (head.now ++ decimal reading.now.spn ++ codes " " ++ value_text (value_of reading.now.value) ++ (newline ∷ []))) }
     ensures mark { Marks result (W.has_failed sink.old) (W.has_failed sink.new) }
 {
     let mut line = ArrayVec::<u8, 64>::new();

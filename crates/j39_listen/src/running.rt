@@ -7,23 +7,47 @@ use crate::Counts;
 use crate::pieces::Pieces;
 use j39_frame::{Bus, DeviceFault, Sink, Source};
 use std::alloc::Global;
+use std::fmt;
 use thiserror::Error;
 
 /// Why a run was not finished.
 #[derive(Clone, Copy, Debug, PartialEq, Eq, Error)]
 pub enum RunFault {
     /// Memory was refused.
-    #[error("out of memory")]
     Memory,
     /// The reader answered an error.
-    #[error("read failed")]
     Read,
     /// The writer answered an error, or took no byte.
-    #[error("write failed")]
     Write,
     /// The reader gave more bytes than the limit.
-    #[error("input too long")]
     TooLong,
+}
+
+impl RunFault {
+    ghost use Rattle.j39_listen.specs.Fault.{fault_words};
+
+    /// What went wrong, in words.
+    pub fn words(self) -> &'static str
+        ensures { result.now ≡ fault_words self }
+    {
+        match self {
+            RunFault::Memory => "out of memory",
+            RunFault::Read => "read failed",
+            RunFault::Write => "write failed",
+            RunFault::TooLong => "input too long",
+        }
+    }
+}
+
+impl fmt::Display for RunFault {
+    ghost use Rattle.std.specs.Prelude.{Some};
+    ghost use Rattle.j39_listen.specs.Fault.{fault_words};
+
+    ghost output = { λ fault. Some (fault_words fault) };
+
+    fn fmt<W: fmt::Write>(&self, f: &mut fmt::Formatter<W>) -> fmt::Result {
+        f.write_str(self.words())
+    }
 }
 
 /// The bytes of one read.

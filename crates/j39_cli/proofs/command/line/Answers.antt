@@ -2,7 +2,9 @@
 use Rattle.std.proofs.Common.{◌≡◌, ◌∙◌, ap₂}
 use Rattle.std.proofs.lemmas.Result.{IfOk-weaker}
 use Rattle.clap.specs.Words.{App, with_subcommand}
-use Rattle.j39_cli.specs.Command.{bare_app, id_app, line_app, report_app}
+use Rattle.j39_cli.specs.Command.{bare_app, line_app}
+use Rattle.j39_cli.specs.IdCommand.{id_app}
+use Rattle.j39_cli.specs.ReportCommand.{report_app}
 use Rattle.j39_cli.proofs.command.line.Goals as goal
 
 -- one more command, by what is known of the line and of the command
@@ -15,5 +17,5 @@ with_report = with_subcommand bare_app report_app.top
 pub returns : goal.returns
 unfolding line_app
 returns c =
-    let has_report = more bare_app report_app _ _ _ c.bare-line.ensures c.in_ok-report.ensures.app c.in_ok-line.ensures in
+    let has_report = more bare_app report_app _ _ _ c.bare.ensures c.in_ok-report.ensures.app c.in_ok-line.ensures in
     IfOk-weaker c.with_command-2.result _ _ (λ _ added. more with_report id_app _ _ _ has_report c.in_ok-id.ensures.app added) c.with_command-2.ensures

@@ -7,13 +7,13 @@ use Rattle.j39_cli.proofs.words.task_of.Goals as goal
 pub returns-in-Some-clause-answer : goal.returns-in-Some-clause-answer
 returns-in-Some-clause-answer c s met rows texts =
     let found = found_of c.in-Some.given.now in
-    report_answers s met found c.report_of.result texts
+    report_answers s met found c.task.result texts
     (is_met c.args.matches.now found (codes "report") met rows (c.in-Some.ensures.found.0 refl) c.in-Some.ensures.rows)
-    c.report_of.ensures.answer
+    c.task.ensures.answer
 
 pub returns-in-Some-id-clause-answer : goal.returns-in-Some-id-clause-answer
 returns-in-Some-id-clause-answer c s met rows texts =
     let found = found_of c.in-Some-id.given.now in
-    id_answers s met found c.id_task_of.result texts
+    id_answers s met found c.task-in-Some-id.result texts
     (is_met c.args.matches.now found (codes "id") met rows (c.in-Some-id.ensures.found.0 refl) c.in-Some-id.ensures.rows)
-    c.id_task_of.ensures.answer
+    c.task-in-Some-id.ensures.answer

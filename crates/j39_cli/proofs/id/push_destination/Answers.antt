@@ -1,5 +1,5 @@
 use Rattle.std.proofs.Common.{append_assoc, codes, sym}
-use Rattle.j39_cli.proofs.fields.push_destination.Goals as goal
+use Rattle.j39_cli.proofs.id.push_destination.Goals as goal
 
 pub returns-in-None-clause-items : goal.returns-in-None-clause-items
 returns-in-None-clause-items g c =

@@ -1,11 +1,11 @@
--- How a command is spelled, and what clap then meets.
-use Rattle.std.specs.Prelude.{◌≡◌, ◌==◌, false, List, [], ◌∷◌, ◌++◌, Option, Some, None, codes}
+-- The words of a command, and what clap then meets.
+use Rattle.std.specs.Prelude.{◌≡◌, ◌==◌, ℕ, false, List, [], ◌∷◌, ◌++◌, Option, Some, None, codes}
 use Rattle.clap.specs.Words.{Row, Text, first_of}
 
 -- a command with the texts of its values, in the order of its spelling
-pub data Spelled : Type 0 where
-  report : Option Text → Option Text → Spelled
-  id : Text → Spelled
+pub data CommandWords : Type 0 where
+  report : Option Text → Option Text → CommandWords
+  id : Text → CommandWords
 
 -- an option with its value, where it is given
 abbrev pub option_words : Text → Option Text → List Text
@@ -18,24 +18,27 @@ value_words None = []
 value_words (Some value) = value ∷ []
 
 -- the words after the program's name
-abbrev pub words_of : Spelled → List Text
+abbrev pub words_of : CommandWords → List Text
 words_of (report bus file) = codes "report" ∷ (option_words (codes "--bus") bus ++ value_words file)
 words_of (id hex) = codes "id" ∷ hex ∷ []
+
+abbrev pub hyphen : ℕ
+hyphen = 0x2D
 
 -- a value stands in a word of its own: not empty, and with no `-` in front
 abbrev pub IsValue : Text → Type 0
 IsValue [] = ⊥
-IsValue (first ∷ rest) = (first == 45) ≡ false
+IsValue (first ∷ rest) = (first == hyphen) ≡ false
 
 abbrev pub IsValueIfGiven : Option Text → Type 0
 IsValueIfGiven None = Unit {0}
 IsValueIfGiven (Some value) = IsValue value
 
-abbrev pub HasValues : Spelled → Type 0
+abbrev pub HasValues : CommandWords → Type 0
 HasValues (report bus file) = IsValueIfGiven bus × IsValueIfGiven file
 HasValues (id hex) = IsValue hex
 
 -- the command that clap met, by its name and rows, has the texts of s
-abbrev pub HasTexts : Spelled → Text × List Row → Type 0
+abbrev pub HasTexts : CommandWords → Text × List Row → Type 0
 HasTexts (report bus file) met = (met.0 ≡ codes "report") × (first_of (codes "bus") met.1 ≡ bus) × (first_of (codes "file") met.1 ≡ file)
 HasTexts (id hex) met = (met.0 ≡ codes "id") × (first_of (codes "hex") met.1 ≡ Some hex)

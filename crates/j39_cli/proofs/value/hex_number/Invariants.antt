@@ -1,7 +1,0 @@
-use Rattle.std.proofs.Common.{◌≡◌, take}
-use Rattle.std.specs.Str.Parse.{AllDigits, digits_value}
-use Rattle.j39_cli.proofs.value.hex_number.Given as goal
-
--- the bytes so far are digits, and write the value
-abbrev pub invariant-loop-digit : goal.invariant-loop-digit
-invariant-loop-digit l = AllDigits 16 (take l.digit-index l.digits) × (l.value ≡ digits_value 16 (take l.digit-index l.digits))

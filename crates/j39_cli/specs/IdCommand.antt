@@ -1,0 +1,24 @@
+-- The command `id HEX`.
+use Rattle.std.specs.Prelude.{◌≤◌, ◌<◌, ◌^◌, ◌∷◌, ◌++◌, ℕ, true, List, [], Option, Some, None, codes, decimal, length}
+use Rattle.std.specs.Str.Parse.{IsNumeral, digits_value}
+use Rattle.clap.specs.Words.{App, new_app, with_rule}
+use Rattle.j39_frame.specs.Chars.{newline}
+use Rattle.j39_frame.specs.Identifier.{destination_of, pgn_of, priority_of, source_of}
+use Rattle.j39_cli.specs.Rules.{value_rule}
+
+abbrev pub id_app : App
+id_app = with_rule (new_app (codes "id")) (value_rule (codes "hex") true)
+
+-- 1 to 8 hex digits, of either case, of a number of 29 bits
+abbrev pub IsIdText : List ℕ → Type 0
+IsIdText text = IsNumeral 16 text × (length text ≤ 8) × (digits_value 16 text < 2 ^ 29)
+
+abbrev pub destination_text : Option ℕ → List ℕ
+destination_text None = codes "-"
+destination_text (Some address) = decimal address
+
+-- the line of an identifier's fields
+abbrev pub id_text : ℕ → List ℕ
+id_text raw =
+    codes "priority " ++ decimal (priority_of raw) ++ codes " pgn " ++ decimal (pgn_of raw)
+    ++ codes " destination " ++ destination_text (destination_of raw) ++ codes " source " ++ decimal (source_of raw) ++ (newline ∷ [])

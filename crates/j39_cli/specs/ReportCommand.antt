@@ -1,0 +1,51 @@
+-- The command `report [--bus B] [FILE]`.
+use Rattle.std.specs.Prelude.{◌≡◌, ◌≢◌, ◌⊎◌, ◌<◌, ◌≤◌, ℕ, true, false, List, [], Option, IfSome, codes, length}
+use Rattle.clap.specs.Words.{App, new_app, with_rule}
+use Rattle.j39_listen.specs.Run.{StopsWithin, WritesReport}
+use Rattle.j39_listen.specs.Fault.{fault_words}
+use Rattle.j39_listen.specs.declared.counts.Counts.{Counts}
+use Rattle.j39_listen.specs.declared.running.RunFault.{RunFault}
+use Rattle.j39_listen.specs.declared.running.RunFault.TheVariants.{Memory, Read, Write, TooLong}
+use Rattle.j39_cli.specs.Rules.{option_rule, value_rule}
+use Rattle.j39_cli.specs.Counted.{counts_text}
+use Rattle.j39_cli.specs.Refusal.{error_line}
+use Rattle.j39_cli.specs.Turn.{IsUnmarked, Turn, Writes}
+
+abbrev pub report_app : App
+report_app = with_rule (with_rule (new_app (codes "report")) (option_rule (codes "bus") false)) (value_rule (codes "file") false)
+
+-- the most bytes of a log that the program reads, 16 GiB
+abbrev pub log_limit : ℕ
+log_limit = 17179869184
+
+-- what is said of a fault
+abbrev pub fault_text : RunFault → List ℕ
+fault_text Memory = fault_words Memory
+fault_text Read = fault_words Read
+fault_text Write = fault_words Write
+fault_text TooLong = codes "input longer than 17179869184 bytes"
+
+-- the report of this log was written, no device failed, and the counts are on standard error
+pub record HasReport (bus : Option (List ℕ)) (log : List ℕ) (out err : Turn) : Type 0 where
+  pub short : length log ≤ log_limit
+  pub counts : Counts
+  pub writes : WritesReport bus log counts out.old.bytes out.new.bytes
+  pub told : Writes err (counts_text counts)
+
+-- this fault came: its own mark stands, and it alone changed one; a front of the report was written; and it is told
+pub record HasFailed (fault : RunFault) (bus : Option (List ℕ)) (log out err : Turn) : Type 0 where
+  pub memory : fault ≢ Memory
+  pub too_long : fault ≡ TooLong → IfSome log.old.bytes (λ bytes. log_limit < length bytes)
+  pub read : fault ≡ Read → log.new.has_failed ≡ true
+  pub read_alone : fault ≢ Read → IsUnmarked log
+  pub write : fault ≡ Write → out.new.has_failed ≡ true
+  pub write_alone : fault ≢ Write → IsUnmarked out
+  pub stops : StopsWithin bus log.old.bytes log.new.bytes out.old.bytes out.new.bytes
+  pub told : Writes err (error_line (fault_text fault) [])
+
+-- status 0: the report was written; status 1: a fault came
+pub record IsReported (bus : Option (List ℕ)) (status : ℕ) (log out err : Turn) : Type 0 where
+  pub known : (status ≡ 0) ⊎ (status ≡ 1)
+  pub report : status ≡ 0 → IfSome log.old.bytes (λ bytes. HasReport bus bytes out err)
+  pub unmarked : status ≡ 0 → IsUnmarked log × IsUnmarked out
+  pub fault : status ≡ 1 → (fault : RunFault) × HasFailed fault bus log out err

@@ -1,0 +1,11 @@
+-- What clap is told of arguments.
+use Rattle.std.specs.Prelude.{Bool, Some}
+use Rattle.clap.specs.Words.{Rule, Text, new_rule}
+
+-- `--name VALUE`
+abbrev pub option_rule : Text → Bool → Rule
+option_rule name is_required = record (new_rule name) { long = Some name; value_names = 1; required = is_required }
+
+-- a value that stands alone
+abbrev pub value_rule : Text → Bool → Rule
+value_rule name is_required = record (new_rule name) { value_names = 1; required = is_required }

@@ -1,0 +1,114 @@
+//! The command `id`: its words, and how it is performed.
+ghost use Rattle.std.specs.Prelude.{◌≡◌, ◌↔◌, ◌++◌, ◌≤◌, ◌+◌, IfOk, IfSome, IsSome, Some, codes, false, length};
+ghost use Rattle.std.specs.Str.Parse.{digits_value};
+ghost use Rattle.arrayvec.specs.ArrayVec.{array_vec_len};
+ghost use Rattle.clap.specs.Words.{Text, app_of, first_value, found_of};
+ghost use Rattle.clap.specs.declared.builder.command.Command.TheViews.{out-Command as settings_of};
+ghost use Rattle.j39_frame.specs.Identifier.{id_raw};
+ghost use Rattle.j39_cli.specs.CommandWords as written;
+ghost use Rattle.j39_cli.specs.IdCommand.{IsIdText, destination_text, id_app, id_text};
+ghost use Rattle.j39_cli.specs.Shown.{IsShown};
+ghost use Rattle.j39_cli.specs.Task.{IsAnswer, IsInRange};
+ghost use Rattle.j39_cli.specs.Turn.{turn};
+
+use crate::command::{value, with_arg};
+use crate::fields::push_field;
+use crate::shown::show_text;
+use crate::words::required;
+use crate::{Argument, ParseFault, Task};
+use arrayvec::ArrayVec;
+use clap::{ArgMatches, Command};
+use j39_frame::printing::push_bytes;
+use j39_frame::{Id, Sink, number};
+use std::alloc::{AllocError, Global};
+
+const ABOUT: &str = "\
+Writes the fields of a 29-bit identifier in decimal: the priority, the PGN, the
+destination address (255 for all, - where the group has none) and the source
+address.";
+
+const HELP: &str = "\
+Example:
+  j1939 id 18EEFF00
+writes
+  priority 6 pgn 60928 destination 255 source 0";
+
+/// What clap is told of it.
+pub(crate) fn command<'a>(alloc: Global) -> Result<Command<'a>, AllocError>
+    ensures app { IfOk result (λ c. app_of c ≡ id_app) }
+    ensures local { IfOk result (λ c. (settings_of c).has_globals ≡ false) }
+{
+    let command = Command::new(alloc, "id")
+        .about("Writes the fields of a 29-bit identifier")
+        .long_about(ABOUT)
+        .after_help(HELP);
+    let hex = value(alloc, "hex", "HEX", true).help(
+        "The identifier, 1 to 8 hex digits (of either case, no 0x) of a number below 20000000",
+    );
+    with_arg(command, hex)
+}
+
+/// The task that its words ask for.
+pub(crate) fn task<'a>(alloc: Global, given: &ArgMatches<'a>) -> Result<Task<'a>, ParseFault>
+    ensures answer { (hex : Text) → first_value (found_of given.now) (codes "hex") ≡ Some hex
+        → IsAnswer (written.id hex) result }
+    ensures in_range { IfOk result IsInRange }
+{
+    let hex = match required(alloc, given, "hex") {
+        Ok(hex) => hex,
+        Err(fault) => return Err(fault),
+    };
+    match id_of(hex) {
+        Some(id) => Ok(Task::Id(id)),
+        None => Err(ParseFault::BadValue(Argument::Hex)),
+    }
+}
+
+/// The identifier of 1 to 8 hex digits of either case; `None` for other text, and from 2^29 up.
+fn id_of(text: &str) -> Option<Id>
+    ensures known { IsSome result ↔ IsIdText text.now }
+    ensures value { IfSome result (λ id. id_raw id ≡ digits_value 16 text.now) }
+{
+    if text.is_empty() || text.len() > 8 {
+        return None;
+    }
+    let raw = number(text.as_bytes(), 16)?;
+    if raw >= 1 << 29 {
+        return None;
+    }
+    Id::new(raw as u32)
+}
+
+/// Performs it: the line goes to `sink`, a fault to `err`.
+pub(crate) fn perform<W: Sink, E: Sink>(id: Id, sink: &mut W, err: &mut E) -> u8
+    ensures shown { IsShown (id_text (id_raw id)) result
+        (turn (W.held sink.old) (W.has_failed sink.old) (W.held sink.new) (W.has_failed sink.new))
+        (turn (E.held err.old) (E.has_failed err.old) (E.held err.new) (E.has_failed err.new)) }
+    ensures silent { result ≡ 0 → err.new ≡ err.old }
+{
+    show_text(id_line(id).as_slice(), sink, err)
+}
+
+/// The line of an identifier's fields, with its newline.
+fn id_line(id: Id) -> ArrayVec<u8, 128>
+    ensures { result.items ≡ id_text (id_raw id) }
+{
+    let mut line = ArrayVec::new();
+    push_field(&mut line, b"priority ", u64::from(id.priority()));
+    push_field(&mut line, b" pgn ", u64::from(id.pgn().raw()));
+    push_destination(&mut line, id.destination());
+    push_field(&mut line, b" source ", u64::from(id.source()));
+    line.push(b'\n');
+    line
+}
+
+fn push_destination<const N: usize>(line: &mut ArrayVec<u8, N>, destination: Option<u8>)
+    requires { array_vec_len line.old + 33 ≤ N }
+    ensures items { line.new.items ≡ line.old.items ++ codes " destination " ++ destination_text destination }
+    ensures len { array_vec_len line.new ≤ array_vec_len line.old + 33 }
+{
+    match destination {
+        Some(address) => push_field(line, b" destination ", u64::from(address)),
+        None => push_bytes(line, b" destination -"),
+    }
+}

@@ -1,0 +1,116 @@
+//! The command `report`: its words, and how it is performed.
+ghost use Rattle.std.specs.Prelude.{◌≡◌, IfOk, codes, false};
+ghost use Rattle.clap.specs.Words.{app_of, first_value, found_of};
+ghost use Rattle.clap.specs.declared.builder.command.Command.TheViews.{out-Command as settings_of};
+ghost use Rattle.j39_cli.specs.CommandWords as written;
+ghost use Rattle.j39_cli.specs.ReportCommand.{IsReported, fault_text, report_app};
+ghost use Rattle.j39_cli.specs.Task.{IsAnswer, IsInRange};
+ghost use Rattle.j39_cli.specs.Turn.{turn};
+
+use crate::command::{bus, file, with_arg};
+use crate::fields::counts_line;
+use crate::refusal::{complain, show};
+use crate::words::bus_value;
+use crate::{ParseFault, Task, WordText};
+use clap::{ArgMatches, Command};
+use j39_frame::{Bus, Sink, Source};
+use j39_listen::{RunFault, run};
+use std::alloc::{AllocError, Global};
+
+const ABOUT: &str = "\
+Writes one line for each parameter value in a log: the time, the source address
+(hex), the NAME of the device at that address (hex; today always dashes, since
+claims of addresses aren't read yet), the PGN, the SPN, and the value with its
+unit. A value is a number, on or off, a text in quotes, or what the sender says
+in its place: error (it has a fault), indicator (a code of the parameter's own)
+or reserved (a code that means nothing yet). What it marks as not available has
+no line.";
+
+const HELP: &str = "\
+At the end the counts go to standard error:
+  frames    frames of the bus that is read
+  other     lines that hold no such frame: of another bus, standard or remote
+            frames, CAN FD, error frames
+  unread    lines of no form that candump writes
+  messages  messages of the groups that are reported
+  lines     lines written
+
+Example:
+  j1939 report --bus can0 trip.log
+writes lines such as
+  (0000000001.010000) 00 ---------------- 61444 190 1500.000 rpm";
+
+/// What clap is told of it.
+pub(crate) fn command<'a>(alloc: Global) -> Result<Command<'a>, AllocError>
+    ensures app { IfOk result (λ c. app_of c ≡ report_app) }
+    ensures local { IfOk result (λ c. (settings_of c).has_globals ≡ false) }
+{
+    let command = Command::new(alloc, "report")
+        .about("Writes the parameter values in a log")
+        .long_about(ABOUT)
+        .after_help(HELP);
+    let command = with_arg(command, bus(alloc, false))?;
+    with_arg(command, file(alloc))
+}
+
+/// The task that its words ask for.
+pub(crate) fn task<'a>(given: &ArgMatches<'a>) -> Result<Task<'a>, ParseFault>
+    ensures answer { IsAnswer (written.report (first_value (found_of given.now) (codes "bus"))
+        (first_value (found_of given.now) (codes "file"))) result }
+    ensures in_range { IfOk result IsInRange }
+{
+    let file = given.get_str("file").map(WordText::new);
+    match bus_value(given) {
+        Ok(bus) => Ok(Task::Report(bus, file)),
+        Err(fault) => Err(fault),
+    }
+}
+
+/// The most bytes of a log that the program reads.
+const LOG_LIMIT: u64 = 17_179_869_184;
+
+/// Performs it: the report goes to `sink`, the counts or what failed to `err`.
+pub(crate) fn perform<R: Source, W: Sink, E: Sink>(
+    alloc: Global,
+    bus: &Option<Bus>,
+    source: &mut R,
+    sink: &mut W,
+    err: &mut E,
+) -> u8
+    ensures { IsReported bus.now result
+        (turn (R.remaining source.old) (R.has_failed source.old) (R.remaining source.new) (R.has_failed source.new))
+        (turn (W.held sink.old) (W.has_failed sink.old) (W.held sink.new) (W.has_failed sink.new))
+        (turn (E.held err.old) (E.has_failed err.old) (E.held err.new) (E.has_failed err.new)) }
+{
+    match run(alloc, source, sink, copy_of(bus), LOG_LIMIT) {
+        Ok(counts) => {
+            show(err, counts_line(counts).as_slice());
+            0
+        }
+        Err(fault) => {
+            complain(err, words_of(fault), "");
+            1
+        }
+    }
+}
+
+fn copy_of(bus: &Option<Bus>) -> Option<Bus>
+    ensures { result ≡ bus.now }
+{
+    match bus {
+        Some(bus) => Bus::new(bus.bytes()),
+        None => None,
+    }
+}
+
+/// What is said of a fault: the program alone knows its limit.
+fn words_of(fault: RunFault) -> &'static str
+    ensures { result.now ≡ fault_text fault }
+{
+    match fault {
+        RunFault::TooLong => "input longer than 17179869184 bytes",
+        RunFault::Memory => fault.words(),
+        RunFault::Read => fault.words(),
+        RunFault::Write => fault.words(),
+    }
+}

@@ -1,0 +1,35 @@
+//! What a command writes whole, where it reads no log.
+ghost use Rattle.std.specs.Prelude.{◌≡◌, OnOk, OnErr};
+ghost use Rattle.std.specs.Io.KnownBytes.{Appends};
+ghost use Rattle.j39_frame.specs.Device.{AppendsFront, Marks};
+ghost use Rattle.j39_cli.specs.Shown.{IsShown};
+ghost use Rattle.j39_cli.specs.Turn.{turn};
+
+use crate::refusal::complain;
+use j39_frame::{DeviceFault, Sink, put_all};
+
+/// Writes all that a command has to say, and answers the status.
+pub(crate) fn show_text<W: Sink, E: Sink>(text: &[u8], sink: &mut W, err: &mut E) -> u8
+    ensures shown { IsShown text.now result
+        (turn (W.held sink.old) (W.has_failed sink.old) (W.held sink.new) (W.has_failed sink.new))
+        (turn (E.held err.old) (E.has_failed err.old) (E.held err.new) (E.has_failed err.new)) }
+    ensures silent { result ≡ 0 → err.new ≡ err.old }
+{
+    match put_text(text, sink) {
+        Ok(()) => 0,
+        Err(DeviceFault) => {
+            complain(err, "write failed", "");
+            1
+        }
+    }
+}
+
+/// Writes the text and passes it on.
+fn put_text<W: Sink>(text: &[u8], sink: &mut W) -> Result<(), DeviceFault>
+    ensures ok { OnOk result (Appends (W.held sink.old) (W.held sink.new) text.now) }
+    ensures err { OnErr result (AppendsFront (W.held sink.old) (W.held sink.new) text.now) }
+    ensures mark { Marks result (W.has_failed sink.old) (W.has_failed sink.new) }
+{
+    put_all(sink, text)?;
+    sink.flush()
+}
