@@ -73,12 +73,7 @@ fn option<'a>(alloc: Global, name: &'a str, value: &'a str, is_required: bool) -
 }
 
 /// A value that stands alone.
-pub(crate) fn value<'a>(
-    alloc: Global,
-    name: &'a str,
-    value: &'a str,
-    is_required: bool,
-) -> Arg<'a>
+pub(crate) fn value<'a>(alloc: Global, name: &'a str, value: &'a str, is_required: bool) -> Arg<'a>
     ensures rule { rule_of result ≡ value_rule name.entry.now is_required }
     ensures local { result.global ≡ false }
 {
@@ -88,10 +83,7 @@ pub(crate) fn value<'a>(
 }
 
 /// A command with one argument more.
-pub(crate) fn with_arg<'a>(
-    command: Command<'a>,
-    arg: Arg<'a>,
-) -> Result<Command<'a>, AllocError>
+pub(crate) fn with_arg<'a>(command: Command<'a>, arg: Arg<'a>) -> Result<Command<'a>, AllocError>
     requires { arg.global ≡ false }
     ensures app { IfOk result (λ c. app_of c ≡ with_rule (app_of command.entry) (rule_of arg.entry)) }
     ensures local { IfOk result (λ c. (settings_of c).has_globals ≡ (settings_of command.entry).has_globals) }

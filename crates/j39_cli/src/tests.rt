@@ -80,7 +80,7 @@ fn reads_id(rt: HostRuntime) -> Result<(), Fail> {
 
 #[test]
 fn reads_other_words(rt: HostRuntime) -> Result<(), Fail> {
-    let lines: [(&[&str], &str); 11] = [
+    let lines: [(&[&str], &str); 13] = [
         (&[], "usage"),
         (&["j1939"], "usage"),
         (&["j1939", "frobnicate"], "usage"),
@@ -92,6 +92,8 @@ fn reads_other_words(rt: HostRuntime) -> Result<(), Fail> {
         (&["j1939", "report", "--help"], "help"),
         (&["j1939", "id", "-h"], "help"),
         (&["j1939", "help", "report"], "help"),
+        (&["j1939", "--version"], "help"),
+        (&["j1939", "-V"], "help"),
     ];
     for (words, want) in lines.iter() {
         let told = answer(rt.alloc(), words)?;
@@ -159,7 +161,8 @@ fn refuses(rt: HostRuntime) -> Result<(), Fail> {
 
 #[test]
 fn says_how_it_is_used(rt: HostRuntime) -> Result<(), Fail> {
-    let lines: [(&[&str], u8, &str, &str); 4] = [
+    let lines: [(&[&str], u8, &str, &str); 5] = [
+        (&["j1939", "--version"], 0, "j1939 0.1.0\n", ""),
         (&["j1939"], 2, "", "error: 'j1939' requires a subcommand"),
         (
             &["j1939", "nodes"],

@@ -91,7 +91,11 @@ pub(crate) fn bus_value(given: &ArgMatches<'_>) -> Result<Option<Bus>, ParseFaul
 }
 
 /// The value of an argument. clap requires it, so that it is there.
-pub(crate) fn required<'a>(alloc: Global, given: &ArgMatches<'a>, id: &str) -> Result<&'a str, ParseFault>
+pub(crate) fn required<'a>(
+    alloc: Global,
+    given: &ArgMatches<'a>,
+    id: &str,
+) -> Result<&'a str, ParseFault>
     ensures ok { IfOk result (λ text. first_value (found_of given.now) id.now ≡ Some text.now) }
     ensures err { IfErr result (λ _. first_value (found_of given.now) id.now ≡ None) }
 {

@@ -1,223 +1,214 @@
 //! Devices that fail, and logs that are too long.
-use crate::support::counts;
-use j39_cli::{RunFault, parse, perform, run};
-use j39_frame::{Bus, Told};
+use crate::support::program;
+use j39_cli::{parse, perform};
+use j39_frame::{Bus, Full, Told, Trial};
+use j39_listen::{RunFault, run};
 use std::alloc::Global;
 use std::fs;
-use std::io::{self, ErrorKind, Read, Write};
 use std::test::Fail;
 
 const LOG: &[u8] = b"(0000000001.000000) can0 18EEFF00#3412400100000080\n\
-    (0000000001.010000) can0 0CF00400#F0A096E02EFFFFFF\n";
+    (0000000001.010000) can0 0CF00400#F0A096E02EFFFFFF\n\
+    (0000000001.020000) can0 0CF00400#F0FFFFE82EFFFFFF\n";
 
 const TEXT: &[u8] = b"(0000000001.010000) 00 ---------------- 61444 512 35 %\n\
     (0000000001.010000) 00 ---------------- 61444 513 25 %\n\
-    (0000000001.010000) 00 ---------------- 61444 190 1500.000 rpm\n";
+    (0000000001.010000) 00 ---------------- 61444 190 1500.000 rpm\n\
+    (0000000001.020000) 00 ---------------- 61444 190 1501.000 rpm\n";
 
-/// Gives its bytes, and then fails, as often as it is asked.
-#[derive(Drop)]
-struct Broken<'a> {
-    bytes: &'a [u8],
-    faults: u32,
+/// The lines of `TEXT` that the first two lines of `LOG` have.
+const FIRST: usize = TEXT.len() - 63;
+
+/// A source of `LOG` in pieces.
+fn log_in(alloc: Global, most: usize) -> Result<Trial, Fail> {
+    Ok(Trial::new(alloc, LOG, 0)?.in_pieces(most))
 }
 
-impl Read for Broken<'_> {
-    fn read(&mut self, buf: &mut [u8]) -> io::Result<usize> {
-        if self.bytes.is_empty() {
-            self.faults = self.faults.saturating_add(1);
-            return Err(io::Error::from(ErrorKind::Other));
-        }
-        self.bytes.read(buf)
-    }
+/// A sink with room for so many bytes.
+fn room_for(alloc: Global, room: usize) -> Result<Trial, Fail> {
+    Ok(Trial::new(alloc, b"", room)?)
 }
 
-/// Takes all bytes, but at its fourth write.
-#[derive(Drop)]
-struct Skipping {
-    writes: u32,
-}
-
-impl Write for Skipping {
-    fn write(&mut self, bytes: &[u8]) -> io::Result<usize> {
-        self.writes = self.writes.saturating_add(1);
-        if self.writes == 4 {
-            return Err(io::Error::from(ErrorKind::Other));
-        }
-        Ok(bytes.len())
-    }
-
-    fn flush(&mut self) -> io::Result<()> {
-        Ok(())
-    }
-}
-
-/// Takes all bytes, and fails to pass them on.
-#[derive(Drop)]
-struct Stuck;
-
-impl Write for Stuck {
-    fn write(&mut self, bytes: &[u8]) -> io::Result<usize> {
-        Ok(bytes.len())
-    }
-
-    fn flush(&mut self) -> io::Result<()> {
-        Err(io::Error::from(ErrorKind::Other))
-    }
-}
-
-/// What `report` writes on standard error, and its status.
-fn status_of<R: Read + Drop>(
+/// What a run answers over these devices, but for its counts.
+fn run_over(
     alloc: Global,
-    source: R,
-    out: &mut [u8],
-) -> Result<(Vec<u8>, u8), Fail> {
+    source: &mut Trial,
+    sink: &mut Trial,
+    limit: u64,
+) -> Result<(), RunFault> {
+    run(
+        alloc,
+        &mut Told::new(source),
+        &mut Told::new(sink),
+        None,
+        limit,
+    )?;
+    Ok(())
+}
+
+/// The status of `report` over these devices.
+fn report_over(
+    alloc: Global,
+    source: &mut Trial,
+    sink: &mut Trial,
+    err: &mut Trial,
+) -> Result<u8, Fail> {
     let task = parse(alloc, &["j1939", "report"])?;
-    let mut err = Vec::new(alloc);
-    let status = perform(
+    Ok(perform(
         alloc,
         &task,
         &mut Told::new(source),
-        &mut Told::new(out),
-        &mut Told::new(&mut err),
-    );
-    Ok((err, status))
+        &mut Told::new(sink),
+        &mut Told::new(err),
+    ))
 }
 
 #[test]
 fn log_at_the_limit(rt: HostRuntime) -> Result<(), Fail> {
-    let mut out = Vec::new(rt.alloc());
-    let met = run(
-        rt.alloc(),
-        &mut Told::new(LOG),
-        &mut Told::new(&mut out),
-        None,
-        102,
-    )?;
-    assert_eq!(rt; met, counts([2, 0, 0, 1, 3]));
-    assert_eq!(rt; out.as_slice(), TEXT);
-    let mut out = Vec::new(rt.alloc());
-    let met = run(
-        rt.alloc(),
-        &mut Told::new(LOG),
-        &mut Told::new(&mut out),
-        None,
-        101,
+    let alloc = rt.alloc();
+    let limit = LOG.len() as u64;
+    let (mut source, mut sink) = (log_in(alloc, 1)?, room_for(alloc, TEXT.len())?);
+    assert_eq!(rt; run_over(alloc, &mut source, &mut sink, limit), Ok(()));
+    assert_eq!(rt; sink.written(), TEXT);
+    assert!(rt; source.reads() <= limit + 2);
+    // The piece that passes the limit isn't handled.
+    let (mut source, mut sink) = (log_in(alloc, 51)?, room_for(alloc, TEXT.len())?);
+    assert_eq!(rt;
+        run_over(alloc, &mut source, &mut sink, limit - 1),
+        Err(RunFault::TooLong)
     );
-    assert_eq!(rt; met, Err(RunFault::TooLong));
-    assert!(rt; out.is_empty());
+    assert_eq!(rt; sink.written(), &TEXT[..FIRST]);
+    Ok(())
+}
+
+#[test]
+fn nth_read_fails(rt: HostRuntime) -> Result<(), Fail> {
+    let alloc = rt.alloc();
+    for nth in 1..=23 {
+        let mut source = log_in(alloc, 7)?.failing_read(nth);
+        let mut sink = room_for(alloc, TEXT.len())?;
+        assert_eq!(rt;
+            run_over(alloc, &mut source, &mut sink, 1000),
+            Err(RunFault::Read)
+        );
+        assert_eq!(rt; source.reads(), nth);
+        assert!(rt; TEXT.starts_with(sink.written()));
+    }
+    Ok(())
+}
+
+#[test]
+fn values_before_the_next_read(rt: HostRuntime) -> Result<(), Fail> {
+    // Each read gives one line; what its frame holds is written and passed on before the next.
+    let alloc = rt.alloc();
+    for (nth, written) in [(2, 0), (3, FIRST), (4, TEXT.len())] {
+        let mut source = log_in(alloc, 51)?.failing_read(nth);
+        let mut sink = room_for(alloc, TEXT.len())?;
+        assert_eq!(rt;
+            run_over(alloc, &mut source, &mut sink, 1000),
+            Err(RunFault::Read)
+        );
+        assert_eq!(rt; sink.written(), &TEXT[..written]);
+        assert_eq!(rt; sink.flushes(), nth - 1);
+    }
+    Ok(())
+}
+
+#[test]
+fn writer_that_fails(rt: HostRuntime) -> Result<(), Fail> {
+    let alloc = rt.alloc();
+    for room in 0..TEXT.len() {
+        let mut source = log_in(alloc, 4096)?;
+        let mut sink = room_for(alloc, room)?;
+        assert_eq!(rt;
+            run_over(alloc, &mut source, &mut sink, 1000),
+            Err(RunFault::Write)
+        );
+        assert_eq!(rt; sink.written(), &TEXT[..room]);
+        assert_eq!(rt; source.reads(), 1);
+    }
+    let mut full = room_for(alloc, 60)?.when_full(Full::TakesNone);
+    assert_eq!(rt;
+        run_over(alloc, &mut log_in(alloc, 7)?, &mut full, 1000),
+        Err(RunFault::Write)
+    );
+    assert_eq!(rt; full.written(), &TEXT[..60]);
+    let mut stuck = room_for(alloc, 1000)?.failing_flush();
+    assert_eq!(rt;
+        run_over(alloc, &mut log_in(alloc, 4096)?, &mut stuck, 1000),
+        Err(RunFault::Write)
+    );
+    assert_eq!(rt; stuck.flushes(), 1);
     Ok(())
 }
 
 #[test]
 fn faults_of_writer_and_reader(rt: HostRuntime) -> Result<(), Fail> {
-    let mut out = [0u8; 60];
-    let (err, status) = status_of(rt.alloc(), LOG, &mut out)?;
+    let alloc = rt.alloc();
+    let (mut sink, mut err) = (room_for(alloc, 60)?, room_for(alloc, 80)?);
+    let status = report_over(alloc, &mut log_in(alloc, 4096)?, &mut sink, &mut err)?;
     assert_eq!(rt; status, 1);
-    assert_eq!(rt; err.as_slice(), b"j1939: write failed\n".as_slice());
-    assert!(rt; TEXT.starts_with(&out));
+    assert_eq!(rt; err.written(), b"j1939: write failed\n".as_slice());
+    assert_eq!(rt; sink.written(), &TEXT[..60]);
 
-    let mut out = [0u8; 200];
-    let broken = Broken {
-        bytes: b"(0000000001.000000) can0 18EEFF00#3412400100000080\n",
-        faults: 0,
-    };
-    let (err, status) = status_of(rt.alloc(), broken, &mut out)?;
+    let (mut sink, mut err) = (room_for(alloc, 300)?, room_for(alloc, 80)?);
+    let mut source = log_in(alloc, 51)?.failing_read(2);
+    let status = report_over(alloc, &mut source, &mut sink, &mut err)?;
     assert_eq!(rt; status, 1);
-    assert_eq!(rt; err.as_slice(), b"j1939: read failed\n".as_slice());
-    assert_eq!(rt; out[0], 0);
+    assert_eq!(rt; err.written(), b"j1939: read failed\n".as_slice());
+    assert!(rt; sink.written().is_empty());
+
+    let (mut sink, mut err) = (
+        room_for(alloc, 300)?.failing_flush(),
+        room_for(alloc, 80)?,
+    );
+    let status = report_over(alloc, &mut log_in(alloc, 4096)?, &mut sink, &mut err)?;
+    assert_eq!(rt; status, 1);
+    assert_eq!(rt; err.written(), b"j1939: write failed\n".as_slice());
     Ok(())
 }
 
 #[test]
-fn a_fault_ends_the_run(rt: HostRuntime) {
+fn error_writer_that_fails(rt: HostRuntime) -> Result<(), Fail> {
     let alloc = rt.alloc();
-    let mut broken = Broken {
-        bytes: b"hello\n",
-        faults: 0,
-    };
-    let mut out = Vec::new(alloc);
-    let met = run(
-        alloc,
-        &mut Told::new(&mut broken),
-        &mut Told::new(&mut out),
-        None,
-        102,
-    );
-    assert_eq!(rt; met, Err(RunFault::Read));
-    assert_eq!(rt; broken.faults, 1);
-
-    let mut skipping = Skipping { writes: 0 };
-    let met = run(
-        alloc,
-        &mut Told::new(LOG),
-        &mut Told::new(&mut skipping),
-        None,
-        102,
-    );
-    assert_eq!(rt; met, Err(RunFault::Write));
-    assert_eq!(rt; skipping.writes, 4);
-}
-
-#[test]
-fn failed_flush(rt: HostRuntime) -> Result<(), Fail> {
-    let alloc = rt.alloc();
-    let met = run(alloc, &mut Told::new(LOG), &mut Told::new(Stuck), None, 102);
-    assert_eq!(rt; met, Err(RunFault::Write));
-    let lines: [&[&str]; 2] = [&["j1939", "report"], &["j1939", "id", "7"]];
-    for words in lines.iter() {
-        let task = parse(alloc, words)?;
-        let mut err = Vec::new(alloc);
-        let status = perform(
-            alloc,
-            &task,
-            &mut Told::new(LOG),
-            &mut Told::new(Stuck),
-            &mut Told::new(&mut err),
-        );
-        assert_eq!(rt; status, 1);
-        assert_eq!(rt; err.as_slice(), b"j1939: write failed\n".as_slice());
-    }
-    Ok(())
-}
-
-#[test]
-fn counts_on_standard_error(rt: HostRuntime) -> Result<(), Fail> {
-    let mut out = [0u8; 200];
-    let (err, status) = status_of(rt.alloc(), LOG, &mut out)?;
+    let (mut sink, mut err) = (room_for(alloc, 300)?, room_for(alloc, 0)?);
+    let status = report_over(alloc, &mut log_in(alloc, 4096)?, &mut sink, &mut err)?;
     assert_eq!(rt; status, 0);
-    assert_eq!(rt;
-        err.as_slice(),
-        b"frames 2 other 0 unread 0 messages 1 lines 3\n".as_slice()
-    );
-    assert!(rt; out.starts_with(TEXT));
+    assert_eq!(rt; sink.written(), TEXT);
     Ok(())
 }
 
 #[test]
 fn bus_that_is_given(rt: HostRuntime) -> Result<(), Fail> {
-    let bus = Bus::new(b"can1");
-    let mut out = Vec::new(rt.alloc());
-    let met = run(
-        rt.alloc(),
-        &mut Told::new(LOG),
-        &mut Told::new(&mut out),
-        bus,
-        1000,
-    )?;
-    assert_eq!(rt; met, counts([0, 2, 0, 0, 0]));
-    assert!(rt; out.is_empty());
+    let shown = program(rt.alloc(), &["j1939", "report", "--bus", "can1"], LOG)?;
+    assert_eq!(rt; shown.out.as_str(), "");
+    assert_eq!(rt;
+        shown.err.as_str(),
+        "frames 0 other 3 unread 0 messages 0 lines 0\n"
+    );
+    assert_eq!(rt; shown.status, 0);
+    assert!(rt; Bus::new(b"can1").is_some());
     Ok(())
 }
 
 #[test]
 fn report_of_a_file(rt: HostRuntime) -> Result<(), Fail> {
+    let alloc = rt.alloc();
     let name = "eec1_with_a_claim.log";
     fs::write(&rt, name, LOG)?;
     let log = fs::open(&rt, name)?;
-    let mut out = [0u8; 200];
-    let (_, status) = status_of(rt.alloc(), log, &mut out)?;
+    let words = ["j1939", "report", name];
+    let task = parse(alloc, &words)?;
+    let (mut sink, mut err) = (room_for(alloc, 300)?, room_for(alloc, 80)?);
+    let status = perform(
+        alloc,
+        &task,
+        &mut Told::new(log),
+        &mut Told::new(&mut sink),
+        &mut Told::new(&mut err),
+    );
     assert_eq!(rt; status, 0);
-    assert!(rt; out.starts_with(TEXT));
+    assert_eq!(rt; sink.written(), TEXT);
     fs::remove_file(&rt, name)?;
     Ok(())
 }

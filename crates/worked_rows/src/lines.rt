@@ -4,7 +4,7 @@ use std::test::Fail;
 
 #[test]
 fn empty_log(rt: HostRuntime) -> Result<(), Fail> {
-    reports(&rt, "", "", [0, 0, 0, 0, 0])
+    reports(&rt, "", "", "frames 0 other 0 unread 0 messages 0 lines 0")
 }
 
 #[test]
@@ -15,7 +15,7 @@ fn eec1_without_a_claim(rt: HostRuntime) -> Result<(), Fail> {
         "(0000000001.010000) 00 ---------------- 61444 512 35 %\n\
          (0000000001.010000) 00 ---------------- 61444 513 25 %\n\
          (0000000001.010000) 00 ---------------- 61444 190 1500.000 rpm\n",
-        [1, 0, 0, 1, 3],
+        "frames 1 other 0 unread 0 messages 1 lines 3",
     )
 }
 
@@ -44,7 +44,7 @@ fn line_forms(rt: HostRuntime) -> Result<(), Fail> {
         log.as_str(),
         "(0000000001.400000) 00 ---------------- 61444 190 1500.000 rpm\n\
          (0000000001.600000) 00 ---------------- 61444 190 1500.000 rpm\n",
-        [2, 5, 2, 2, 2],
+        "frames 2 other 5 unread 2 messages 2 lines 2",
     )
 }
 
@@ -58,7 +58,7 @@ fn bus_of_a_run(rt: HostRuntime) -> Result<(), Fail> {
          (1.000000) can0 0CF00400#F0FFFFE02EFFFFFF\n\
          (1.000000) can1 0CF00400#F0FFFFE82EFFFFFF\n",
         "(0000000001.000000) 00 ---------------- 61444 190 1501.000 rpm\n",
-        [2, 2, 0, 1, 1],
+        "frames 2 other 2 unread 0 messages 1 lines 1",
     )
 }
 
@@ -70,6 +70,6 @@ fn repeated_values(rt: HostRuntime) -> Result<(), Fail> {
          (1.000000) can0 0CF00400#F0FFFFE02EFFFFFF\n",
         "(0000000001.000000) 00 ---------------- 61444 190 1500.000 rpm\n\
          (0000000001.000000) 00 ---------------- 61444 190 1500.000 rpm\n",
-        [2, 0, 0, 2, 2],
+        "frames 2 other 0 unread 0 messages 2 lines 2",
     )
 }

@@ -1,49 +1,61 @@
 //! What the examples are run on.
-use j39_cli::{Counts, RunFault, run};
-use j39_frame::Told;
-use std::alloc::Global;
+use j39_cli::{parse, perform, refuse};
+use j39_frame::{Told, Trial};
+use j39_listen::run;
+use std::alloc::{AllocError, Global};
 use std::process::Abort;
 use std::test::Fail;
 
-/// What a run over a log in memory wrote, and its counts.
-pub(crate) fn report(alloc: Global, log: &[u8]) -> Result<(Vec<u8>, Counts), RunFault> {
+/// What the program wrote on both streams, and its exit status.
+#[derive(Drop)]
+pub(crate) struct Shown {
+    pub out: String,
+    pub err: String,
+    pub status: u8,
+}
+
+/// Runs the program with these words over this input.
+pub(crate) fn program(alloc: Global, words: &[&str], input: &[u8]) -> Result<Shown, AllocError> {
     let mut out = Vec::new(alloc);
-    let limit = log.len() as u64;
-    let counts = run(
-        alloc,
-        &mut Told::new(log),
-        &mut Told::new(&mut out),
-        None,
-        limit,
-    )?;
-    Ok((out, counts))
+    let mut err = Vec::new(alloc);
+    let (sink, told) = (&mut Told::new(&mut out), &mut Told::new(&mut err));
+    let status = match parse(alloc, words) {
+        Ok(task) => perform(alloc, &task, &mut Told::new(input), sink, told),
+        Err(fault) => refuse(&fault, sink, told),
+    };
+    Ok(Shown {
+        out: String::from_utf8_lossy(alloc, out.as_slice())?,
+        err: String::from_utf8_lossy(alloc, err.as_slice())?,
+        status,
+    })
 }
 
-/// Counts in the order in which they are printed.
-pub(crate) fn counts(numbers: [u64; 5]) -> Counts {
-    let [frames, other, unread, messages, lines] = numbers;
-    Counts {
-        frames,
-        other,
-        unread,
-        messages,
-        lines,
-    }
-}
-
-/// The report of a log is this text, with these counts.
+/// The report of a log is this text, with these counts, however the log comes in pieces.
 pub(crate) fn reports(
     rt: &(impl Abort + AllocGlobal),
     log: &str,
     want: &str,
-    numbers: [u64; 5],
+    counts: &str,
 ) -> Result<(), Fail> {
-    let (out, met) = report(rt.alloc(), log.as_bytes())?;
-    assert_eq!(rt;
-        String::from_utf8_lossy(rt.alloc(), out.as_slice())?.as_str(),
-        want
-    );
-    assert_eq!(rt; met, counts(numbers));
+    let alloc = rt.alloc();
+    let shown = program(alloc, &["j1939", "report"], log.as_bytes())?;
+    assert_eq!(rt; shown.out.as_str(), want);
+    assert_eq!(rt; shown.err.as_str().trim_end(), counts);
+    assert_eq!(rt; shown.status, 0);
+    for most in [1, 2, 7, 51, 4096] {
+        let mut source = Trial::new(alloc, log.as_bytes(), 0)?.in_pieces(most);
+        let mut sink = Trial::new(alloc, b"", want.len())?;
+        let limit = log.len() as u64;
+        let met = run(
+            alloc,
+            &mut Told::new(&mut source),
+            &mut Told::new(&mut sink),
+            None,
+            limit,
+        );
+        assert!(rt; met.is_ok());
+        assert_eq!(rt; sink.written(), want.as_bytes());
+    }
     Ok(())
 }
 
@@ -64,10 +76,8 @@ pub(crate) fn reads(
         want.push_str(value)?;
         want.push_str("\n")?;
     }
-    reports(
-        rt,
-        log.as_str(),
-        want.as_str(),
-        [1, 0, 0, 1, values.len() as u64],
-    )
+    let counts = format!(
+        in alloc; "frames 1 other 0 unread 0 messages 1 lines {}", values.len()
+    )?;
+    reports(rt, log.as_str(), want.as_str(), counts.as_str())
 }

@@ -98,7 +98,7 @@ fn vin_in_one_frame(rt: HostRuntime) -> Result<(), Fail> {
         &rt,
         "(1.000000) can0 0CF004FE#F0A096E02EFFFFFF\n",
         "",
-        [1, 0, 0, 0, 0],
+        "frames 1 other 0 unread 0 messages 0 lines 0",
     )
 }
 
