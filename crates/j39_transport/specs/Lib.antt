@@ -1,2 +1,15 @@
 pub mod Key
 pub mod Frames
+pub mod Assembly
+pub mod Standing
+pub mod Answering
+pub mod Session
+pub mod Places
+pub mod Reading
+pub mod Step
+pub mod ReadingIs
+pub mod MovedIs
+pub mod PacketIs
+pub mod AcceptedIs
+pub mod FedIs
+pub mod Assembled
