@@ -1,30 +1,32 @@
--- What an assembler is_control is what the definitions say.
+-- What an assembler answers is what the definitions say.
 use Rattle.std.proofs.Common.{◌≡◌, ◌≢◌, ℕ, suc, ◌+◌, ◌<◌, Bool, true, false, if◌then◌else◌, ◌&&◌, List, [], ◌∷◌, ◌++◌, length, drop, take, slice_index, Option, Some, None, refl, sym, ap, ◌∙◌, subst, inl, inr, arith, nat_lt, ◌==◌, eqb-true, ltb-true}
 use Rattle.std.proofs.lemmas.Bool.{cond_both, cond-true, cond-false, and_parts, and_from, both_ways, eqb-false}
 use Rattle.j39_frame.specs.Frame.{FrameRecord}
 use Rattle.j39_transport.specs.Key.{Key, sender, limit}
-use Rattle.j39_transport.specs.Frames.{is_announcement, is_packet}
+use Rattle.j39_transport.specs.Frames.{source_of, is_announcement, is_packet}
 use Rattle.j39_transport.specs.Key.Key.{Broadcast, Directed}
 use Rattle.j39_transport.specs.Assembly.{Event, sends, number, payload, stamp}
 use Rattle.j39_transport.specs.Assembly.Event.{Frame}
-use Rattle.j39_transport.specs.Standing.{Session}
+use Rattle.j39_transport.specs.EventSteps.{Session}
 use Rattle.j39_transport.specs.Session.{SessionRecord}
 use Rattle.j39_transport.specs.Places.{Places, at, find}
-use Rattle.j39_transport.specs.Reading.{Reading, Announces, Packs, Grants, Finishes, Aborts, Other, reading_of}
-use Rattle.j39_transport.specs.Step.{AssemblerRecord, moves, packed, granted, closed, finished, with_place, state_after}
-use Rattle.j39_transport.specs.Step as steps
+use Rattle.j39_transport.specs.FrameSteps.{Said, Announces, Packs, Grants, Finishes, Aborts, Other, said_by}
+use Rattle.j39_transport.specs.Steps.{AssemblerRecord, moves, packed, granted, closed, finished, with_place, state_after}
+use Rattle.j39_transport.specs.Steps as steps
+use Rattle.j39_transport.specs.Answers as answers
 use Rattle.j39_transport.specs.Session as sessions
-use Rattle.j39_transport.specs.Assembled.{full, aged, table_of}
+use Rattle.j39_transport.specs.Stands.{full, aged, table_of}
 use Rattle.j39_transport.proofs.Places.{packet_facts, sends-others}
 use Rattle.j39_transport.proofs.ReadLemmas.{IsControl, Facts, read_is}
 use Rattle.j39_transport.proofs.MoveLemmas.{sent_over, session_in}
 use Rattle.j39_transport.proofs.BridgeLemmas.{ev_announces, ev_sends, announced_no_packet, no_pack, no_opening}
-use Rattle.j39_transport.specs.Step.{state_without, without_broadcast, room, empty_state}
-use Rattle.j39_transport.specs.Assembled.{Stands}
-use Rattle.j39_transport.specs.Step.{told, told_at, answer, answer_by}
-use Rattle.j39_transport.specs.Answering.{IsPartial}
-use Rattle.j39_transport.specs.Assembled.{AnswersAt, IsTaken, NoneWhole}
-use Rattle.j39_transport.specs.Standing.{StandsFor, is_over}
+use Rattle.j39_transport.specs.Steps.{state_without, without_broadcast, room, empty_state}
+use Rattle.j39_transport.specs.Stands.{Stands}
+use Rattle.j39_transport.specs.Steps.{told, told_at, answer, answer_by}
+use Rattle.j39_transport.specs.Answers.{IsPartial}
+use Rattle.j39_transport.specs.Answers.{AnswersAt, IsTaken, NoneWhole}
+use Rattle.j39_transport.specs.Stands.{StandsFor}
+use Rattle.j39_transport.specs.EventSteps.{is_over}
 use Rattle.j39_transport.specs.Assembly.{Whole}
 use Rattle.j39_transport.specs.Places.{find_from}
 use Rattle.j39_transport.proofs.Sessions.{Continues, Completes, whole_from, whole_only}
@@ -44,7 +46,7 @@ module _ (E : List Event) (f : FrameRecord) (a : AssemblerRecord) (h : Stands E 
   no_packet_no_whole : ((k : Key) → is_packet k f ≡ false) → NoneWhole E f
   no_packet_no_whole n m w = both_ways _ (n w.0) (assembled_sent E f w.0 m.group m.bytes w.2)
 
-  ignored : ((k : Key) → is_announcement k f ≡ false) → ((k : Key) → is_packet k f ≡ false) → AnswersAt E f steps.Ignored
+  ignored : ((k : Key) → is_announcement k f ≡ false) → ((k : Key) → is_packet k f ≡ false) → AnswersAt E f answers.Ignored
   ignored n m = ((λ t. elim t [ inl j ↦ both_ways _ (n j.0) j.1 | inr j ↦ both_ways _ (m j.0) (partial_sent j.0 j.1 j.2) ]), no_packet_no_whole m)
 
   -- ---- a packet of k, which has the session o
@@ -83,7 +85,7 @@ module _ (E : List Event) (f : FrameRecord) (a : AssemblerRecord) (h : Stands E 
         goes_on : (c : Session) → c ≡ full i x → Continues E (Frame f) k c → Continues E (Frame f) k (full i x)
         goes_on c e t = subst (λ (y : Session). Continues E (Frame f) k y) e t
 
-        ignored_by : (Continues E (Frame f) k (full i x) → ⊥) → AnswersAt E f steps.Ignored
+        ignored_by : (Continues E (Frame f) k (full i x) → ⊥) → AnswersAt E f answers.Ignored
         ignored_by n = (none_grows (Some (full i x)) s (λ g c. n (goes_on c.session (is_it c.session c.was) c.continues)), none_completes (Some (full i x)) s (λ g b c. n (goes_on c.session (is_it c.session c.was) c.continues)))
 
         continues : nat_lt (x.last + limit k) f.stamp ≡ false → (slice_index f.bytes 0 == suc x.count) ≡ true → Continues E (Frame f) k (full i x)
@@ -143,21 +145,21 @@ module _ (E : List Event) (f : FrameRecord) (a : AssemblerRecord) (h : Stands E 
           told_is E f a h (Directed s d) p j (at a.directed j)
           (subst (λ (q : Option Session). StandsFor E (Directed s d) q) (e.2 ∙ ap (λ n. session_in j (at a.directed n)) (sym i)) (directed_stands E (aged 0 a.directed) h.is.directed s d))
 
-  announcement_answer : (k : Key) → is_announcement k f ≡ true → AnswersAt E f steps.Taken
+  announcement_answer : (k : Key) → is_announcement k f ≡ true → AnswersAt E f answers.Taken
   announcement_answer k p = (inl (k, p), no_packet_no_whole E f a h (λ j. sym (ev_sends j f) ∙ announced_no_packet k j f p))
 
-  control_answer : (b s d g : ℕ) → IsControl b s d g f → b ≢ 16 → b ≢ 32 → AnswersAt E f steps.Ignored
+  control_answer : (b s d g : ℕ) → IsControl b s d g f → b ≢ 16 → b ≢ 32 → AnswersAt E f answers.Ignored
   control_answer b s d g c n m = ignored E f a h (λ k. sym (ev_announces k f) ∙ no_opening b s d g f c n m k) (λ k. sym (ev_sends k f) ∙ no_pack b s d g f c k)
 
-  answer_is : (r : Reading) → Facts f r → AnswersAt E f (answer a f.stamp r)
+  answer_is : (r : Said) → Facts f r → AnswersAt E f (answer a (source_of f.id) f.stamp r)
   unfolding answer
   answer_is (Announces k g n p) c = announcement_answer k c.announces_it
-  answer_is (Packs (Broadcast s) n bs) c = subst (λ (o : steps.Outcome). AnswersAt E f o) (λ i. told s 750000 (sym c.number_is i) (sym c.data_are i) f.stamp (at a.broadcasts s)) (packs_broadcast s c.packs_it)
-  answer_is (Packs (Directed s d) n bs) c = subst (λ (o : steps.Outcome). AnswersAt E f o) (λ i. told_at (find s d a.directed) (told s 1250000 (sym c.number_is i) (sym c.data_are i) f.stamp) a.directed) (packs_directed s d c.packs_it)
+  answer_is (Packs (Broadcast s) n bs) c = subst (λ (o : answers.Outcome). AnswersAt E f o) (λ i. told (sym (packet_facts (Broadcast s) f c.packs_it).source i) 750000 (sym c.number_is i) (sym c.data_are i) f.stamp (at a.broadcasts s)) (packs_broadcast s c.packs_it)
+  answer_is (Packs (Directed s d) n bs) c = subst (λ (o : answers.Outcome). AnswersAt E f o) (λ i. told_at (find s d a.directed) (told (sym (packet_facts (Directed s d) f c.packs_it).source i) 1250000 (sym c.number_is i) (sym c.data_are i) f.stamp) a.directed) (packs_directed s d c.packs_it)
   answer_is (Grants s d g) c = control_answer 17 s d g c (λ e. let o : ⊥ = omega arith in o) (λ e. let o : ⊥ = omega arith in o)
   answer_is (Finishes s d g) c = control_answer 19 s d g c (λ e. let o : ⊥ = omega arith in o) (λ e. let o : ⊥ = omega arith in o)
   answer_is (Aborts s d g) c = control_answer 255 s d g c (λ e. let o : ⊥ = omega arith in o) (λ e. let o : ⊥ = omega arith in o)
   answer_is Other c = ignored E f a h c.no_announcement c.no_packet
 
-  pub answers_at : AnswersAt E f (answer a f.stamp (reading_of f))
-  answers_at = answer_is (reading_of f) (read_is f)
+  pub answers_at : AnswersAt E f (answer a (source_of f.id) f.stamp (said_by f))
+  answers_at = answer_is (said_by f) (read_is f)

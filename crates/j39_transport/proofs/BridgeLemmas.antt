@@ -7,13 +7,13 @@ use Rattle.j39_transport.specs.Frames.{goes, group_of, source_of, destination_of
 use Rattle.j39_transport.specs.Key.Key.{Broadcast, Directed}
 use Rattle.j39_transport.specs.Assembly.{Event, announces, sends, grants, ends, rivals, number, payload, stamp}
 use Rattle.j39_transport.specs.Assembly.Event.{Frame}
-use Rattle.j39_transport.specs.Standing.{moved, moved_place, entry_of}
+use Rattle.j39_transport.specs.EventSteps.{moved, moved_place, entry_of}
 use Rattle.j39_transport.specs.Session.{SessionRecord}
 use Rattle.j39_transport.specs.Places.{is_of}
-use Rattle.j39_transport.specs.Step.{AssemblerRecord, moves, packed, granted, closed, finished, with_place, state_after}
-use Rattle.j39_transport.specs.Step as steps
+use Rattle.j39_transport.specs.Steps.{AssemblerRecord, moves, packed, granted, closed, finished, with_place, state_after}
+use Rattle.j39_transport.specs.Steps as steps
 use Rattle.j39_transport.specs.Session as sessions
-use Rattle.j39_transport.specs.Assembled.{full, entry_in}
+use Rattle.j39_transport.specs.Stands.{full, entry_in}
 use Rattle.j39_transport.proofs.Places.{announcement_facts, packet_facts, closing_facts, allowing_facts, pressing_facts, goes_parts, one_key, sends-others, announces-ends}
 use Rattle.j39_transport.proofs.ReadLemmas.{IsNoFrame, IsControl}
 use Rattle.j39_transport.proofs.MoveLemmas.{moved_none, moved_end, moved_rival, moved_grant, moved_packet, session_in, packed_is, granted_is}

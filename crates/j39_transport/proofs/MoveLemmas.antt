@@ -3,12 +3,12 @@ use Rattle.std.proofs.Common.{◌≡◌, ℕ, suc, ◌+◌, ◌<◌, Bool, true,
 use Rattle.std.proofs.lemmas.Bool.{cond-false, false_from_ne_true}
 use Rattle.j39_transport.specs.Key.{Key, limit}
 use Rattle.j39_transport.specs.Assembly.{Event, announces, sends, grants, ends, rivals, number, payload, stamp}
-use Rattle.j39_transport.specs.Standing.{Session, is_over, moved, is_late, is_crowded}
+use Rattle.j39_transport.specs.EventSteps.{Session, is_over, moved, is_late, is_crowded}
 use Rattle.j39_transport.specs.Session as record_of
 use Rattle.j39_transport.specs.Session.{SessionRecord}
-use Rattle.j39_transport.specs.Step as step
-use Rattle.j39_transport.specs.Step.{moves, left_by, packed, granted, closed}
-use Rattle.j39_transport.specs.Assembled.{full}
+use Rattle.j39_transport.specs.Steps as step
+use Rattle.j39_transport.specs.Steps.{moves, left_by, packed, granted, closed}
+use Rattle.j39_transport.specs.Stands.{full}
 
 -- the session with its last stamp and its age
 abbrev pub set_to : ℕ → ℕ → Session → Session

@@ -6,7 +6,7 @@ use Rattle.j39_frame.specs.Identifier as identifier
 use Rattle.j39_transport.specs.Key.{Key, sender, goes_to, opening, is_key}
 use Rattle.j39_transport.specs.Frames.{goes, group_of, source_of, destination_of, size_named, packets_named, pgn_named, names_message, is_announcement, is_packet, is_control, is_clear_to_send, is_end}
 use Rattle.j39_transport.specs.Key.Key.{Broadcast, Directed}
-use Rattle.j39_transport.specs.Reading.{Reading, Announces, Packs, Grants, Finishes, Aborts, Other, key_named, announced_by, packed_by, control_of, reading_of}
+use Rattle.j39_transport.specs.FrameSteps.{Said, Announces, Packs, Grants, Finishes, Aborts, Other, key_named, announced_by, packed_by, control_of, said_by}
 use Rattle.j39_transport.proofs.Places.{one_key, announcement_facts, packet_facts, closing_facts, allowing_facts}
 
 -- the frame is nothing of any message
@@ -32,7 +32,7 @@ pub record IsPacking (k : Key) (n : ℕ) (bs : List ℕ) (f : FrameRecord) : Typ
   pub number_is : n ≡ slice_index f.bytes 0
   pub data_are : bs ≡ drop 1 f.bytes
 
-abbrev pub Facts : FrameRecord → Reading → Type 0
+abbrev pub Facts : FrameRecord → Said → Type 0
 Facts f (Announces k g n p) = IsAnnouncing k g n p f
 Facts f (Packs k n bs) = IsPacking k n bs f
 Facts f (Grants s d g) = IsControl 17 s d g f
@@ -41,26 +41,6 @@ Facts f (Aborts s d g) = IsControl 255 s d g f
 Facts f Other = IsNoFrame f
 
 -- ---- by the group
-
-control_pf : (id : ℕ) → group_of id ≡ 60416 → identifier.pf_of id ≡ 236
-unfolding group_of
-control_pf id h = go (identifier.page_of id) (identifier.pf_of id) (identifier.ps_of id) (omega arith) h
-  where
-    go : (page pf ps : ℕ) → (pf < 256) × (ps < 256) → page * 65536 + pf * 256 + (if nat_lt pf 240 then 0 else ps) ≡ 60416 → pf ≡ 236
-    go page pf ps l e = elim (cases_Bool (nat_lt pf 240)) [
-      | inl t ↦ (let z : (if nat_lt pf 240 then 0 else ps) ≡ 0 = cond-true _ _ _ t in let m : pf < 240 = ltb-true _ _ t in omega arith)
-      | inr t ↦ (let z : (if nat_lt pf 240 then 0 else ps) ≡ ps = cond-false _ _ _ t in let m : 240 ≤ pf = ltb-false _ _ t in omega arith)
-    ]
-
-packet_pf : (id : ℕ) → group_of id ≡ 60160 → identifier.pf_of id ≡ 235
-unfolding group_of
-packet_pf id h = go (identifier.page_of id) (identifier.pf_of id) (identifier.ps_of id) (omega arith) h
-  where
-    go : (page pf ps : ℕ) → (pf < 256) × (ps < 256) → page * 65536 + pf * 256 + (if nat_lt pf 240 then 0 else ps) ≡ 60160 → pf ≡ 235
-    go page pf ps l e = elim (cases_Bool (nat_lt pf 240)) [
-      | inl t ↦ (let z : (if nat_lt pf 240 then 0 else ps) ≡ 0 = cond-true _ _ _ t in let m : pf < 240 = ltb-true _ _ t in omega arith)
-      | inr t ↦ (let z : (if nat_lt pf 240 then 0 else ps) ≡ ps = cond-false _ _ _ t in let m : 240 ≤ pf = ltb-false _ _ t in omega arith)
-    ]
 
 -- where no frame of the two groups with 8 bytes goes
 and4 : (a b c d : Bool) → (a && b && c && d) ≡ true → (a ≡ true) × (b ≡ true) × (c ≡ true) × (d ≡ true)
@@ -210,23 +190,10 @@ control_is f a b = cond_both (slice_index f.bytes 0 == 17) _ _ (Facts f)
     (λ v. record { goes_back = goes_from 60416 f a b; first = eqb-true _ _ v; group_is = refl })
     (λ v. announced_is f a b (eqb-false _ _ t) (eqb-false _ _ u) (eqb-false _ _ v) (key_named (source_of f.id) (destination_of f.id)) (key_is (source_of f.id) (destination_of f.id)))))
 
-pub read_is : (f : FrameRecord) → Facts f (reading_of f)
-unfolding reading_of
-read_is f = cond_both (identifier.pf_of f.id == 236) _ _ (Facts f)
+pub read_is : (f : FrameRecord) → Facts f (said_by f)
+unfolding said_by
+read_is f = cond_both (group_of f.id == 60160 && length f.bytes == 8) _ _ (Facts f)
+    (λ t. (let p = and_parts _ _ t in packed_is f (eqb-true _ _ p.0) (eqb-true _ _ p.1) (key_named (source_of f.id) (destination_of f.id)) (key_is (source_of f.id) (destination_of f.id))))
     (λ t. cond_both (group_of f.id == 60416 && length f.bytes == 8) _ _ (Facts f)
     (λ u. (let p = and_parts _ _ u in control_is f (eqb-true _ _ p.0) (eqb-true _ _ p.1)))
-    (λ u. nothing_here f u (false_from_ne_true _ (λ v.
-    let e : identifier.pf_of f.id ≡ 235 = packet_pf f.id (eqb-true _ _ (and_parts _ _ v).0) in
-    let g : identifier.pf_of f.id ≡ 236 = eqb-true _ _ t in
-    not_two (identifier.pf_of f.id) e g))))
-    (λ t. cond_both (identifier.pf_of f.id == 235) _ _ (Facts f)
-    (λ s. cond_both (group_of f.id == 60160 && length f.bytes == 8) _ _ (Facts f)
-    (λ u. (let p = and_parts _ _ u in packed_is f (eqb-true _ _ p.0) (eqb-true _ _ p.1) (key_named (source_of f.id) (destination_of f.id)) (key_is (source_of f.id) (destination_of f.id))))
-    (λ u. nothing_here f (no_conn t) u))
-    (λ s. nothing_here f (no_conn t) (false_from_ne_true _ (λ v. eqb-false _ _ s (packet_pf f.id (eqb-true _ _ (and_parts _ _ v).0))))))
-  where
-    not_two : (pf : ℕ) → pf ≡ 235 → pf ≡ 236 → ⊥
-    not_two pf e g = omega arith
-
-    no_conn : (identifier.pf_of f.id == 236) ≡ false → (group_of f.id == 60416 && length f.bytes == 8) ≡ false
-    no_conn t = false_from_ne_true _ (λ v. eqb-false _ _ t (control_pf f.id (eqb-true _ _ (and_parts _ _ v).0)))
+    (λ u. nothing_here f u t))

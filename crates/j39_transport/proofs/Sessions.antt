@@ -5,7 +5,8 @@ use Rattle.std.proofs.lemmas.Bool.{cond_both, cond-true, cond-false, eqb-false, 
 use Rattle.j39_transport.specs.Key.{Key, limit}
 use Rattle.j39_transport.specs.Assembly.{Event, at, announces, sends, grants, ends, rivals, number, payload, size, packets, group, stamp, belongs, is_numbered, IsFirstAfter, last_of, Links, AreSuccessive, count_below, Runs, Chain, joined, Whole, OpenBy}
 use Rattle.j39_transport.proofs.Places.{announces-packets, sends-others, past_belongs, belongs_within, at_before, at_new, announced_within, past_sends, agree_push, agree_pop, agree_less, Links-same, Runs-same, Runs-less, count_same, joined-same, Links-from, Links-within, Open-unique}
-use Rattle.j39_transport.specs.Standing.{Session, opened, last_after, after_after, touched, grown, is_late, is_crowded, is_over, on_other, step, IsSession, StandsFor}
+use Rattle.j39_transport.specs.EventSteps.{Session, opened, last_after, after_after, touched, grown, is_late, is_crowded, is_over, on_other, step}
+use Rattle.j39_transport.specs.Stands.{IsSession, StandsFor}
 
 -- (a) nothing is open at first
 pub stands_new : (s : Key) → StandsFor [] s None

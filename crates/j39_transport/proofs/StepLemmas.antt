@@ -8,22 +8,24 @@ use Rattle.j39_transport.specs.Frames.{source_of, destination_of, is_announcemen
 use Rattle.j39_transport.specs.Key.Key.{Broadcast, Directed}
 use Rattle.j39_transport.specs.Assembly.{Event, announces, sends, grants, ends, rivals, number, payload, size, packets, group, stamp}
 use Rattle.j39_transport.specs.Assembly.Event.{Frame, Forget}
-use Rattle.j39_transport.specs.Standing.{Session, Table, moved_place, is_request_to_send, directed_step, step, IsTable}
+use Rattle.j39_transport.specs.EventSteps.{Session, Table, moved_place, is_request_to_send, directed_step, step}
+use Rattle.j39_transport.specs.Stands.{IsTable}
 use Rattle.j39_transport.specs.Session.{SessionRecord}
 use Rattle.j39_transport.specs.Places.{Places, at, is_of, find}
-use Rattle.j39_transport.specs.Reading.{Reading, Announces, Packs, Grants, Finishes, Aborts, Other, reading_of}
-use Rattle.j39_transport.specs.Step.{AssemblerRecord, packed, granted, closed, finished, with_place, state_after}
+use Rattle.j39_transport.specs.FrameSteps.{Said, Announces, Packs, Grants, Finishes, Aborts, Other, said_by}
+use Rattle.j39_transport.specs.Steps.{AssemblerRecord, packed, granted, closed, finished, with_place, state_after}
 use Rattle.j39_transport.specs.Session as sessions
-use Rattle.j39_transport.specs.Assembled.{full, broadcast_in, entry_in, aged, table_of}
+use Rattle.j39_transport.specs.Stands.{full, broadcast_in, entry_in, aged, table_of}
 use Rattle.j39_transport.proofs.Places.{announcement_facts, packet_facts, sends-others}
 use Rattle.j39_transport.proofs.ReadLemmas.{IsControl, Facts, read_is}
 use Rattle.j39_transport.proofs.MoveLemmas.{moved_none, moved_end, moved_packet, session_in, packed_is}
 use Rattle.j39_transport.proofs.PlaceLemmas.{Change, on_pair, Once, with_once, room_once, aged_moves, aged_shifts, once_of}
 use Rattle.j39_transport.proofs.BridgeLemmas.{packs_place, packs_other, grants_place, finishes_place, aborts_place, other_place, broadcast_place, rival_place, ev_announces, ev_sends, announced_no_packet, place_moves, quiet_moves, key_in, no_pack, no_opening}
 use Rattle.j39_transport.specs.Places.{forgotten, without}
-use Rattle.j39_transport.specs.Step.{state_without, without_broadcast, room, empty_state}
-use Rattle.j39_transport.specs.Assembled.{Stands}
-use Rattle.j39_transport.proofs.Whole.{Apart, are_apart, broadcast_step, table_more, table_new}
+use Rattle.j39_transport.specs.Steps.{state_without, without_broadcast, room, empty_state}
+use Rattle.j39_transport.specs.Stands.{Stands}
+use Rattle.j39_transport.specs.EventSteps.{broadcast_step}
+use Rattle.j39_transport.proofs.Whole.{Apart, are_apart, table_more, table_new}
 use Rattle.j39_transport.proofs.PlaceLemmas.{aged_at}
 
 -- ---- the directed messages
@@ -85,7 +87,7 @@ both_closed s d g t u =
     ∙ (with_once d s (closed g) (map (on_pair s d (closed g)) t) (once_closed d s s d g t (once_of t u d s)) ∙ map_twice (on_pair s d (closed g)) (on_pair d s (closed g)) t)
 
 -- the directed messages after a reading
-pub directed_after : (f : FrameRecord) (r : Reading) (a : AssemblerRecord) → Facts f r → Apart (aged 0 a.directed) → aged 0 (state_after a f.stamp r).directed ≡ directed_step (Frame f) (aged 0 a.directed)
+pub directed_after : (f : FrameRecord) (r : Said) (a : AssemblerRecord) → Facts f r → Apart (aged 0 a.directed) → aged 0 (state_after a f.stamp r).directed ≡ directed_step (Frame f) (aged 0 a.directed)
 unfolding state_after finished aged payload size packets group stamp
 directed_after f (Announces (Broadcast s) g n p) a h u =
     unchanged f a.directed
@@ -152,12 +154,12 @@ control_broadcasts b s d g f a c n m = quiet_broadcasts f (map broadcast_in a.br
     (sym (ev_sends (Broadcast (source_of f.id)) f) ∙ no_pack b s d g f c (Broadcast (source_of f.id)))
 
 -- the broadcasts after a reading
-pub broadcasts_after : (f : FrameRecord) (r : Reading) (a : AssemblerRecord) → Facts f r → map broadcast_in (state_after a f.stamp r).broadcasts ≡ broadcast_step (Frame f) (map broadcast_in a.broadcasts)
+pub broadcasts_after : (f : FrameRecord) (r : Said) (a : AssemblerRecord) → Facts f r → map broadcast_in (state_after a f.stamp r).broadcasts ≡ broadcast_step (Frame f) (map broadcast_in a.broadcasts)
 unfolding state_after payload size packets group stamp
 broadcasts_after f (Announces (Broadcast s) g n p) a h =
     let q = announcement_facts (Broadcast s) f h.announces_it in
     let t : announces (Broadcast (source_of f.id)) (Frame f) ≡ true = ev_announces (Broadcast (source_of f.id)) f ∙ subst (λ x. is_announcement (Broadcast x) f ≡ true) (sym q.source) h.announces_it in
-    map-set broadcast_in a.broadcasts s (Some (sessions.opened s 255 g n p f.stamp))
+    map-set broadcast_in a.broadcasts s (Some (sessions.opened (Broadcast s) g n p f.stamp))
     ∙ ((λ i. set (map broadcast_in a.broadcasts) (sym q.source i) (Some (record { packets_due = h.packets_are i; size_due = h.size_is i; group_due = h.group_is i; count = 0; bytes = []; last = f.stamp; after = 0 })))
     ∙ ap (set (map broadcast_in a.broadcasts) (source_of f.id)) (sym (cond-true _ _ _ t)))
 broadcasts_after f (Announces (Directed s d) g n p) a h = quiet_broadcasts f (map broadcast_in a.broadcasts)
@@ -188,10 +190,10 @@ pub stands_new : Stands [] empty_state
 unfolding aged
 stands_new = record { is = table_new }
 
-pub stands_after : (E : List Event) (f : FrameRecord) (a : AssemblerRecord) → Stands E a → Stands (E ++ Frame f ∷ []) (state_after a f.stamp (reading_of f))
+pub stands_after : (E : List Event) (f : FrameRecord) (a : AssemblerRecord) → Stands E a → Stands (E ++ Frame f ∷ []) (state_after a f.stamp (said_by f))
 stands_after E f a h =
-    let x = broadcasts_after f (reading_of f) a (read_is f) in
-    let y = directed_after f (reading_of f) a (read_is f) (are_apart E (aged 0 a.directed) h.is.directed) in
+    let x = broadcasts_after f (said_by f) a (read_is f) in
+    let y = directed_after f (said_by f) a (read_is f) (are_apart E (aged 0 a.directed) h.is.directed) in
     record { is = subst (λ (t : Table). IsTable (E ++ Frame f ∷ []) t) (λ i. record { broadcasts = sym x i; directed = sym y i }) (table_more E (Frame f) (table_of a) h.is) }
 
 -- ---- a source forgotten

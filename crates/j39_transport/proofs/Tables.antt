@@ -10,7 +10,8 @@ use Rattle.j39_transport.specs.Assembly.{Event, at, announces, rivals, is_number
 use Rattle.j39_transport.specs.Assembly.Event.{Frame, Forget}
 use Rattle.j39_transport.proofs.Places.{Open-unique, few_packets, announcement_facts}
 use Rattle.j39_transport.proofs.Sessions.{stands_new, step_stands}
-use Rattle.j39_transport.specs.Standing.{Session, opened, after_after, touched, grown, is_crowded, is_over, moved, on_other, IsSession, StandsFor, Entry, entry_of, moved_place, from_of, to_of, is_request_to_send, directed_step, AreDirected}
+use Rattle.j39_transport.specs.EventSteps.{Session, opened, after_after, touched, grown, is_crowded, is_over, moved, on_other, Entry, entry_of, moved_place, from_of, to_of, is_request_to_send, directed_step}
+use Rattle.j39_transport.specs.Stands.{IsSession, StandsFor, AreDirected}
 
 -- ---- one open message
 

@@ -5,11 +5,12 @@ use Rattle.j39_transport.specs.Frames.{is_packet}
 use Rattle.j39_frame.specs.Frame.{FrameRecord}
 use Rattle.j39_transport.specs.Assembly.{Event, at, sends, packets, last_of, Links, Chain, Whole}
 use Rattle.j39_transport.specs.Assembly.Event.{Frame}
-use Rattle.j39_transport.specs.Answering.{IsPartial}
+use Rattle.j39_transport.specs.Answers.{IsPartial}
 use Rattle.std.proofs.lemmas.Bool.{and_parts}
 use Rattle.j39_transport.proofs.Places.{announced_within, at_before, at_new, announces-packets, Links-from}
 use Rattle.j39_transport.proofs.Sessions.{Continues, chain_new, chain_continued}
-use Rattle.j39_transport.specs.Standing.{Session, StandsFor}
+use Rattle.j39_transport.specs.EventSteps.{Session}
+use Rattle.j39_transport.specs.Stands.{StandsFor}
 
 -- it ends with a packet, after its announcement
 pub whole_ends : (E : List Event) (i : ℕ) (s : Key) (g : ℕ) (b : List ℕ) (w : Whole E i s g b) → (sends s (at E i) ≡ true) × (w.start < i)

@@ -10,24 +10,18 @@ use Rattle.j39_transport.specs.Frames.{source_of, destination_of, is_packet, is_
 use Rattle.j39_transport.specs.Key.Key.{Broadcast, Directed}
 use Rattle.j39_transport.specs.Assembly.{Event, at, announces, sends, ends, rivals, belongs, count_below, is_numbered, grants, number, payload, Opens, Whole}
 use Rattle.j39_transport.specs.Assembly.Event.{Frame, Forget}
-use Rattle.j39_transport.specs.Answering.{Message, WholeBy, Assembled}
 use Rattle.j39_transport.specs.Assembly.{broadcast_keys, row, pairs, all_keys}
 use Rattle.j39_transport.proofs.Places.{Open-unique, packet_facts, announcement_facts}
 use Rattle.j39_transport.proofs.Sessions.{stands_new, step_stands, Continues, Completes, whole_from, whole_only}
 use Rattle.j39_transport.proofs.Taken.{assembled_sent}
 use Rattle.j39_transport.proofs.Tables.{opens_bounded, opens_unique, is_open, holding, over, opens_over, directed_new, directed_more, directed_stands, lookup, Looked, looked}
-use Rattle.j39_transport.specs.Standing.{Session, last_after, after_after, is_late, is_crowded, is_over, step, IsSession, StandsFor, Entry, from_of, directed_step, AreDirected, Table, AreBroadcasts, IsTable}
+use Rattle.j39_transport.specs.EventSteps.{Session, last_after, after_after, is_late, is_crowded, is_over, step, Entry, from_of, directed_step, broadcast_step, table_step, Table}
+use Rattle.j39_transport.specs.Stands.{IsSession, StandsFor, AreDirected, AreBroadcasts, IsTable}
 
 -- ---- the state
 
 abbrev pub no_sessions : Table
 no_sessions = record { broadcasts = replicate 254 None; directed = replicate 16 None }
-
-abbrev pub broadcast_step : Event → List (Option Session) → List (Option Session)
-broadcast_step e T = set T (from_of e) (step (Broadcast (from_of e)) e (get_or T (from_of e) None))
-
-abbrev pub table_step : Event → Table → Table
-table_step e T = record { broadcasts = broadcast_step e T.broadcasts; directed = directed_step e T.directed }
 
 pub table_new : IsTable [] no_sessions
 table_new = record {
@@ -351,64 +345,3 @@ opens_few E n held h =
     let f : total is_open (table_run E no_sessions) ≤ 270 = table_few E (table_run E no_sessions) t in
     let e : n ≡ total is_open (table_run E no_sessions) = u.one_count in
     (omega arith, (opens_bounded E all_keys n held h).small)
-
--- ---- the message that is whole, from its session
-
-abbrev pub ready : Key → Event → Session → Bool
-ready k e x = is_numbered k (suc x.count) e && (if is_over k e x then false else true) && (suc x.count == x.packets_due)
-
-abbrev pub finish : Key → Event → Option Session → Option Message
-finish k e None = None
-finish k e (Some x) = if ready k e x then Some (record { source = sender k; group = x.group_due; bytes = take x.size_due (x.bytes ++ payload e) }) else None
-
-not_over_is : (b : Bool) → (if b then false else true) ≡ true → b ≡ false
-not_over_is true h = absurd (both_ways false refl h)
-not_over_is false h = refl
-
--- the key that a packet goes under
-abbrev pub key_of : FrameRecord → Key
-key_of f = if destination_of f.id == 255 then Broadcast (source_of f.id) else Directed (source_of f.id) (destination_of f.id)
-
-pub packet_key_of : (k : Key) (f : FrameRecord) → is_packet k f ≡ true → k ≡ key_of f
-packet_key_of (Broadcast s) f h =
-    let p = packet_facts (Broadcast s) f h in
-    ap (λ (x : ℕ). Broadcast x) (sym p.source) ∙ sym (cond-true _ _ _ (eq-eqb _ _ p.destination))
-packet_key_of (Directed s d) f h =
-    let p = packet_facts (Directed s d) f h in
-    let l : d < 254 = ltb-true _ _ (and_parts (nat_lt s 254) (nat_lt d 254) p.key).1 in
-    let e : destination_of f.id ≡ d = p.destination in
-    ap (λ (x : ℕ). Directed x d) (sym p.source) ∙ (ap (λ (x : ℕ). Directed (source_of f.id) x) (sym e) ∙ sym (cond-false _ _ _ (ne_eqb _ _ (λ q. let w : destination_of f.id ≡ 255 = q in let o : ⊥ = omega arith in o))))
-
-module _ (E : List Event) (f : FrameRecord) (k : Key) where
-  ready_parts : (x : Session) → ready k (Frame f) x ≡ true → Continues E (Frame f) k x × (suc x.count ≡ x.packets_due)
-  ready_parts x h =
-      let a = and_parts (is_numbered k (suc x.count) (Frame f) && (if is_over k (Frame f) x then false else true)) (suc x.count == x.packets_due) h in
-      let b = and_parts (is_numbered k (suc x.count) (Frame f)) (if is_over k (Frame f) x then false else true) a.0 in
-      (record { is_next = b.0; not_over = not_over_is _ b.1 }, eqb-true _ _ a.1)
-
-  ready_from : (x : Session) → Continues E (Frame f) k x → suc x.count ≡ x.packets_due → ready k (Frame f) x ≡ true
-  ready_from x c d = and_from _ _ (and_from _ _ c.is_next (cond-false _ _ _ c.not_over)) (eq-eqb _ _ d)
-
-  -- no message is whole with f but by its session
-  none_whole : (o : Option Session) → StandsFor E k o → key_of f ≡ k → (m : Message) → WholeBy E f m → Completes E (Frame f) k o m.group m.bytes
-  none_whole o h e m w = whole_only E (Frame f) k o h m.group m.bytes
-      (subst (λ (j : Key). Whole (E ++ Frame f ∷ []) (length E) j m.group m.bytes) (packet_key_of w.0 f (assembled_sent E f w.0 m.group m.bytes w.2) ∙ e) w.2)
-
-  assembled_by : (o : Option Session) → StandsFor E k o → key_of f ≡ k → Assembled E f (finish k (Frame f) o)
-  assembled_by None h e = λ m w. (let c = none_whole None h e m w in absurd (cc (c.was)))
-  assembled_by (Some x) h e = cond_both (ready k (Frame f) x) _ _ (λ (o : Option Message). Assembled E f o)
-      (λ t. (
-        k,
-        refl,
-        whole_from E (Frame f) k (Some x) h x.group_due (take x.size_due (x.bytes ++ payload (Frame f)))
-            (record { session = x; was = refl; continues = (ready_parts x t).0; is_last = (ready_parts x t).1; group_is = refl; bytes_are = refl }),
-      ))
-      (λ t m w.
-      let c = none_whole (Some x) h e m w in
-      let was : Some x ≡ Some c.session = c.was in
-      let i : c.session ≡ x = cc in
-      both_ways _ t (ready_from x (subst (λ (z : Session). Continues E (Frame f) k z) i c.continues) (subst (λ (z : Session). suc z.count ≡ z.packets_due) i c.is_last)))
-
--- the table's answer at the frame f
-pub table_assembled : (E : List Event) (T : Table) (f : FrameRecord) → IsTable E T → Assembled E f (finish (key_of f) (Frame f) (session_of T (key_of f)))
-table_assembled E T f h = assembled_by E f (key_of f) (session_of T (key_of f)) (table_stands E T h (key_of f)) refl

@@ -1,12 +1,16 @@
 //! The transport protocol: messages of more than eight bytes, in packets (J1939-21, 5.10).
 #![tactic(auto)]
 
+mod announce;
+mod announcement;
 mod assembler;
+mod control;
+mod key;
 mod message;
-mod moved;
-mod reading;
+mod packet;
 mod session;
 mod table;
+mod transport_frame;
 
 pub use assembler::Assembler;
 pub use message::{Fed, Message};

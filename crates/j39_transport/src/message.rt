@@ -1,4 +1,4 @@
-//! Messages, and what an assembler is_control.
+//! Messages, and what an assembler answers.
 use j39_frame::{Pgn, Stamp};
 
 /// A message that came in packets.

@@ -1,12 +1,12 @@
--- What stands for a list of events: a session of a key, and a table of sessions.
-use Rattle.std.specs.Prelude.{◌≡◌, ℕ, suc, ◌+◌, ◌<◌, Bool, true, false, if◌then◌else◌, ◌&&◌, ◌||◌, List, [], ◌∷◌, ◌++◌, map, length, get_or, take, Option, Some, None, nat_lt, ◌==◌}
+-- How the open messages move with each event: steps that follow the definitions, and that the code follows.
+use Rattle.std.specs.Prelude.{ℕ, suc, ◌+◌, Bool, if◌then◌else◌, ◌&&◌, ◌||◌, List, [], ◌∷◌, ◌++◌, map, get_or, set, take, Option, Some, None, nat_lt, ◌==◌}
 use Rattle.j39_transport.specs.Key.{Key, limit}
-use Rattle.j39_transport.specs.Frames.{source_of, destination_of}
 use Rattle.j39_transport.specs.Key.Key.{Broadcast, Directed}
-use Rattle.j39_transport.specs.Assembly.{Event, at, announces, ends, rivals, payload, size, packets, group, stamp, belongs, is_numbered, count_below, joined, OpenBy}
+use Rattle.j39_transport.specs.Frames.{source_of, destination_of}
+use Rattle.j39_transport.specs.Assembly.{Event, announces, ends, rivals, payload, size, packets, group, stamp, belongs, is_numbered}
 use Rattle.j39_transport.specs.Assembly.Event.{Frame, Forget}
 
--- ---- the machine
+-- ---- one key
 
 pub record Session : Type 0 where
   pub packets_due : ℕ
@@ -60,25 +60,7 @@ on_other k e (Some x) = moved k e x
 abbrev pub step : Key → Event → Option Session → Option Session
 step k e o = if announces k e then Some (opened e) else on_other k e o
 
--- ---- what a session stands for
-
-pub record IsSession (E : List Event) (s : Key) (x : Session) : Type 0 where
-  pub start : ℕ
-  pub places : List ℕ
-  pub open_by : OpenBy E s x.group_due start places
-  pub packets_are : x.packets_due ≡ packets (at E start)
-  pub size_is : x.size_due ≡ size (at E start)
-  pub count_is : x.count ≡ length places
-  pub bytes_are : x.bytes ≡ joined E places
-  pub recent : ℕ
-  pub recent_stands : belongs s x.group_due (at E recent) ≡ true
-  pub none_since : (q : ℕ) → recent < q → belongs s x.group_due (at E q) ≡ false
-  pub last_is : x.last ≡ stamp (at E recent)
-  pub after_is : x.after + count_below (rivals s) E (suc start) ≡ count_below (rivals s) E (length E)
-
-abbrev pub StandsFor : List Event → Key → Option Session → Type 0
-StandsFor E s None = (g p0 : ℕ) (ps : List ℕ) → OpenBy E s g p0 ps → ⊥
-StandsFor E s (Some x) = IsSession E s x
+-- ---- all keys
 
 pub record Entry : Type 0 where
   pub from : ℕ
@@ -112,20 +94,12 @@ directed_step e L =
     if is_request_to_send e then Some (record { from = from_of e; to = to_of e; session = opened e }) ∷ take 15 (map (moved_place e) L)
     else map (moved_place e) L
 
-pub record AreDirected (E : List Event) (L : List (Option Entry)) : Type 0 where
-  pub size_is : length L ≡ 16
-  pub each : (i : ℕ) (y : Entry) → get_or L i None ≡ Some y → IsSession E (Directed y.from y.to) y.session × (y.session.after ≡ i)
-  pub all : (s d g p0 : ℕ) (ps : List ℕ) → OpenBy E (Directed s d) g p0 ps → (i : ℕ) × (x : Session) × (get_or L i None ≡ Some (record { from = s; to = d; session = x }))
-
 pub record Table : Type 0 where
   pub broadcasts : List (Option Session)
   pub directed : List (Option Entry)
 
--- each place below 254 stands for E at its source
-pub record AreBroadcasts (E : List Event) (T : List (Option Session)) : Type 0 where
-  pub size_is : length T ≡ 254
-  pub each : (s : ℕ) → s < 254 → StandsFor E (Broadcast s) (get_or T s None)
+abbrev pub broadcast_step : Event → List (Option Session) → List (Option Session)
+broadcast_step e T = set T (from_of e) (step (Broadcast (from_of e)) e (get_or T (from_of e) None))
 
-pub record IsTable (E : List Event) (T : Table) : Type 0 where
-  pub broadcasts : AreBroadcasts E T.broadcasts
-  pub directed : AreDirected E T.directed
+abbrev pub table_step : Event → Table → Table
+table_step e T = record { broadcasts = broadcast_step e T.broadcasts; directed = directed_step e T.directed }

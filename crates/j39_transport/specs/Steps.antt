@@ -1,10 +1,11 @@
 -- How an assembler moves.
-use Rattle.std.specs.Prelude.{ℕ, ◌+◌, ◌==◌, nat_lt, if◌then◌else◌, List, take, slice_set, replicate, Option, Some, None}
+use Rattle.std.specs.Prelude.{ℕ, ◌+◌, ◌==◌, nat_lt, if◌then◌else◌, List, sum_by, take, slice_set, replicate, Option, Some, None}
 use Rattle.j39_transport.specs.Key.{limit}
 use Rattle.j39_transport.specs.Key.Key.{Broadcast, Directed}
-use Rattle.j39_transport.specs.Reading.{Reading, Announces, Packs, Grants, Finishes, Aborts, Other}
+use Rattle.j39_transport.specs.FrameSteps.{Said, Announces, Packs, Grants, Finishes, Aborts, Other}
+use Rattle.j39_transport.specs.Answers.{Outcome, Whole, Taken, Ignored}
 use Rattle.j39_transport.specs.Session.{SessionRecord, opened, touched, grown}
-use Rattle.j39_transport.specs.Places.{Places, at, find, pushed, forgotten}
+use Rattle.j39_transport.specs.Places.{Places, at, find, pushed, forgotten, open_in, bytes_in}
 
 -- broadcasts by source, and directed messages by age
 pub record AssemblerRecord : Type 0 where
@@ -13,12 +14,6 @@ pub record AssemblerRecord : Type 0 where
 
 abbrev pub state_of : Places → Places → AssemblerRecord
 state_of broadcasts directed = record { broadcasts = broadcasts; directed = directed }
-
--- what a call is_control: a message with its source, group, bytes and stamp, or none
-pub data Outcome : Type 0 where
-  Whole : ℕ → ℕ → List ℕ → ℕ → Outcome
-  Taken : Outcome
-  Ignored : Outcome
 
 -- how a packet moves an open message
 pub data Moved : Type 0 where
@@ -83,11 +78,11 @@ unfoldable pub finished : ℕ → ℕ → ℕ → Places → Places
 finished s d group t = with_place (find s d t) (closed group) t
 
 -- the state after a reading, and the answer
-unfoldable pub state_after : AssemblerRecord → ℕ → Reading → AssemblerRecord
+unfoldable pub state_after : AssemblerRecord → ℕ → Said → AssemblerRecord
 state_after a stamp (Announces (Broadcast s) group size packets) =
-    record { broadcasts = slice_set a.broadcasts s (Some (opened s 255 group size packets stamp)); directed = a.directed }
+    record { broadcasts = slice_set a.broadcasts s (Some (opened (Broadcast s) group size packets stamp)); directed = a.directed }
 state_after a stamp (Announces (Directed s d) group size packets) =
-    record { broadcasts = a.broadcasts; directed = pushed 15 (opened s d group size packets stamp) (slice_set a.directed (room (find s d a.directed)) None) }
+    record { broadcasts = a.broadcasts; directed = pushed 15 (opened (Directed s d) group size packets stamp) (slice_set a.directed (room (find s d a.directed)) None) }
 state_after a stamp (Packs (Broadcast s) number joined) =
     record { broadcasts = slice_set a.broadcasts s (packed 750000 number joined stamp (at a.broadcasts s)); directed = a.directed }
 state_after a stamp (Packs (Directed s d) number joined) =
@@ -100,14 +95,14 @@ state_after a stamp (Aborts s d group) =
     record { broadcasts = a.broadcasts; directed = finished d s group (finished s d group a.directed) }
 state_after a stamp Other = a
 
-unfoldable pub answer : AssemblerRecord → ℕ → Reading → Outcome
-answer a stamp (Announces k group size packets) = Taken
-answer a stamp (Packs (Broadcast s) number joined) = told s 750000 number joined stamp (at a.broadcasts s)
-answer a stamp (Packs (Directed s d) number joined) = told_at (find s d a.directed) (told s 1250000 number joined stamp) a.directed
-answer a stamp (Grants s d group) = Ignored
-answer a stamp (Finishes s d group) = Ignored
-answer a stamp (Aborts s d group) = Ignored
-answer a stamp Other = Ignored
+unfoldable pub answer : AssemblerRecord → ℕ → ℕ → Said → Outcome
+answer a source stamp (Announces k group size packets) = Taken
+answer a source stamp (Packs (Broadcast s) number joined) = told source 750000 number joined stamp (at a.broadcasts s)
+answer a source stamp (Packs (Directed s d) number joined) = told_at (find s d a.directed) (told source 1250000 number joined stamp) a.directed
+answer a source stamp (Grants s d group) = Ignored
+answer a source stamp (Finishes s d group) = Ignored
+answer a source stamp (Aborts s d group) = Ignored
+answer a source stamp Other = Ignored
 
 -- without what is of a source
 unfoldable pub without_broadcast : ℕ → Places → Places
@@ -119,8 +114,15 @@ state_without a s = record { broadcasts = without_broadcast s a.broadcasts; dire
 abbrev pub empty_state : AssemblerRecord
 empty_state = record { broadcasts = replicate 254 None; directed = replicate 16 None }
 
+-- how many messages are open, and their bytes so far
+abbrev pub messages_open : AssemblerRecord → ℕ
+messages_open a = sum_by open_in a.broadcasts + sum_by open_in a.directed
+
+abbrev pub bytes_held : AssemblerRecord → ℕ
+bytes_held a = sum_by bytes_in a.broadcasts + sum_by bytes_in a.directed
+
 -- an announcement, of either kind
-abbrev pub IsAnnounced : Reading → Type 0
+abbrev pub IsAnnounced : Said → Type 0
 IsAnnounced (Announces k group size packets) = Unit {0}
 IsAnnounced (Packs k number joined) = ⊥
 IsAnnounced (Grants s d group) = ⊥
