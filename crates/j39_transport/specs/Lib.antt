@@ -11,3 +11,4 @@ pub mod Stands
 pub mod ShownSession
 pub mod ShownFrame
 pub mod Shown
+pub mod Laws

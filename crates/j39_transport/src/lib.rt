@@ -6,6 +6,7 @@ mod announcement;
 mod assembler;
 mod control;
 mod key;
+pub mod laws;
 mod message;
 mod packet;
 mod session;
