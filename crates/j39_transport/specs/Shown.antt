@@ -7,8 +7,8 @@ use Rattle.j39_transport.specs.Steps as steps
 use Rattle.j39_transport.specs.Answers as answers
 use Rattle.j39_transport.specs.declared.packet.Moved.{Moved}
 use Rattle.j39_transport.specs.declared.packet.Moved.TheVariants.{Ends, Grows, Stays, Late}
-use Rattle.j39_transport.specs.declared.assembler.Accepted.{Accepted}
-use Rattle.j39_transport.specs.declared.assembler.Accepted.TheVariants as accept
+use Rattle.j39_transport.specs.declared.packet.Accepted.{Accepted}
+use Rattle.j39_transport.specs.declared.packet.Accepted.TheVariants as accept
 use Rattle.j39_transport.specs.declared.message.Fed.{Fed}
 use Rattle.j39_transport.specs.declared.message.Fed.TheVariants.{Whole, Taken, Ignored}
 

@@ -1,6 +1,6 @@
 -- How an assembler moves.
 use Rattle.std.specs.Prelude.{ℕ, ◌+◌, ◌==◌, nat_lt, if◌then◌else◌, List, sum_by, take, slice_set, replicate, Option, Some, None}
-use Rattle.j39_transport.specs.Key.{limit}
+use Rattle.j39_transport.specs.Key.{Key}
 use Rattle.j39_transport.specs.Key.Key.{Broadcast, Directed}
 use Rattle.j39_transport.specs.FrameSteps.{Said, Announces, Packs, Grants, Finishes, Aborts, Other}
 use Rattle.j39_transport.specs.Answers.{Outcome, Whole, Taken, Ignored}
@@ -11,9 +11,6 @@ use Rattle.j39_transport.specs.Places.{Places, at, find, pushed, forgotten, open
 pub record AssemblerRecord : Type 0 where
   pub broadcasts : Places
   pub directed : Places
-
-abbrev pub state_of : Places → Places → AssemblerRecord
-state_of broadcasts directed = record { broadcasts = broadcasts; directed = directed }
 
 -- how a packet moves an open message
 pub data Moved : Type 0 where
@@ -77,28 +74,36 @@ room (Some i) = i
 unfoldable pub finished : ℕ → ℕ → ℕ → Places → Places
 finished s d group t = with_place (find s d t) (closed group) t
 
--- the state after a reading, and the answer
-unfoldable pub state_after : AssemblerRecord → ℕ → Said → AssemblerRecord
-state_after a stamp (Announces (Broadcast s) group size packets) =
-    record { broadcasts = slice_set a.broadcasts s (Some (opened (Broadcast s) group size packets stamp)); directed = a.directed }
-state_after a stamp (Announces (Directed s d) group size packets) =
-    record { broadcasts = a.broadcasts; directed = pushed 15 (opened (Directed s d) group size packets stamp) (slice_set a.directed (room (find s d a.directed)) None) }
-state_after a stamp (Packs (Broadcast s) number joined) =
+-- the state after an announcement, whose session is x
+abbrev pub announced : AssemblerRecord → Key → SessionRecord → AssemblerRecord
+announced a (Broadcast s) x = record { broadcasts = slice_set a.broadcasts s (Some x); directed = a.directed }
+announced a (Directed s d) x = record { broadcasts = a.broadcasts; directed = pushed 15 x (slice_set a.directed (room (find s d a.directed)) None) }
+
+-- the state after a packet, and the answer
+abbrev pub after_packet : AssemblerRecord → ℕ → Key → ℕ → List ℕ → AssemblerRecord
+after_packet a stamp (Broadcast s) number joined =
     record { broadcasts = slice_set a.broadcasts s (packed 750000 number joined stamp (at a.broadcasts s)); directed = a.directed }
-state_after a stamp (Packs (Directed s d) number joined) =
+after_packet a stamp (Directed s d) number joined =
     record { broadcasts = a.broadcasts; directed = with_place (find s d a.directed) (packed 1250000 number joined stamp) a.directed }
+
+abbrev pub answer_to_packet : AssemblerRecord → ℕ → ℕ → Key → ℕ → List ℕ → Outcome
+answer_to_packet a source stamp (Broadcast s) number joined = told source 750000 number joined stamp (at a.broadcasts s)
+answer_to_packet a source stamp (Directed s d) number joined = told_at (find s d a.directed) (told source 1250000 number joined stamp) a.directed
+
+-- the state after a frame that says this, and the answer
+unfoldable pub state_after : AssemblerRecord → ℕ → Said → AssemblerRecord
+state_after a stamp (Announces k group size packets) = announced a k (opened k group size packets stamp)
+state_after a stamp (Packs k number joined) = after_packet a stamp k number joined
 state_after a stamp (Grants s d group) =
     record { broadcasts = a.broadcasts; directed = with_place (find s d a.directed) (granted group stamp) a.directed }
-state_after a stamp (Finishes s d group) =
-    record { broadcasts = a.broadcasts; directed = finished s d group a.directed }
+state_after a stamp (Finishes s d group) = record { broadcasts = a.broadcasts; directed = finished s d group a.directed }
 state_after a stamp (Aborts s d group) =
     record { broadcasts = a.broadcasts; directed = finished d s group (finished s d group a.directed) }
 state_after a stamp Other = a
 
 unfoldable pub answer : AssemblerRecord → ℕ → ℕ → Said → Outcome
 answer a source stamp (Announces k group size packets) = Taken
-answer a source stamp (Packs (Broadcast s) number joined) = told source 750000 number joined stamp (at a.broadcasts s)
-answer a source stamp (Packs (Directed s d) number joined) = told_at (find s d a.directed) (told source 1250000 number joined stamp) a.directed
+answer a source stamp (Packs k number joined) = answer_to_packet a source stamp k number joined
 answer a source stamp (Grants s d group) = Ignored
 answer a source stamp (Finishes s d group) = Ignored
 answer a source stamp (Aborts s d group) = Ignored

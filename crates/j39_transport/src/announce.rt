@@ -6,9 +6,8 @@ ghost use Rattle.j39_transport.specs.Steps.{room};
 ghost use Rattle.j39_transport.specs.ShownSession.{opened_by};
 
 use crate::announcement::Announcement;
-use crate::assembler::{PAIRS, SOURCES};
 use crate::session::Session;
-use crate::table::{Place, Table};
+use crate::table::{PAIRS, Place, SOURCES, Table};
 use j39_frame::Stamp;
 use std::alloc::{AllocError, Global};
 

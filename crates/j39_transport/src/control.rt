@@ -4,9 +4,8 @@ ghost use Rattle.j39_frame.specs.Stamp.{stamp_micros};
 ghost use Rattle.j39_transport.specs.Places.{find};
 ghost use Rattle.j39_transport.specs.Steps.{granted, finished, with_place};
 
-use crate::assembler::PAIRS;
 use crate::packet::DIRECTED_LIMIT;
-use crate::table::Table;
+use crate::table::{PAIRS, Table};
 use j39_frame::Stamp;
 
 /// Hands a CTS to the session that it lets go on.

@@ -10,6 +10,7 @@ pub mod laws;
 mod message;
 mod packet;
 mod session;
+mod sessions;
 mod table;
 mod transport_frame;
 

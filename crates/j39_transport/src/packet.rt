@@ -5,13 +5,23 @@ ghost use Rattle.j39_transport.specs.Places.{at, held_in, find};
 ghost use Rattle.j39_transport.specs.Steps.{moves, packed, told, told_at, with_place};
 ghost use Rattle.j39_transport.specs.Shown.{shown_move, IsMove, outcome_by, CanLend};
 
-use crate::assembler::{Accepted, PAIRS};
 use crate::session::Session;
-use crate::table::{Place, Table};
+use crate::table::{PAIRS, Place, Table};
 use j39_frame::Stamp;
 
-/// The most microseconds between two frames of a directed message.
+/// The most microseconds between two frames of a broadcast (T1).
+pub(crate) const BROADCAST_LIMIT: u64 = 750_000;
+
+/// The most microseconds between two frames of a directed message (own).
 pub(crate) const DIRECTED_LIMIT: u64 = 1_250_000;
+
+/// What a frame was to the open messages.
+#[derive(Clone, Copy)]
+pub(crate) enum Accepted {
+    Whole,
+    Taken,
+    Ignored,
+}
 
 /// What a packet made of a session.
 #[derive(Drop)]
