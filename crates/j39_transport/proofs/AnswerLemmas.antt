@@ -16,10 +16,11 @@ use Rattle.j39_transport.specs.Steps as steps
 use Rattle.j39_transport.specs.Answers as answers
 use Rattle.j39_transport.specs.Session as sessions
 use Rattle.j39_transport.specs.Stands.{full, aged, table_of}
-use Rattle.j39_transport.proofs.Places.{packet_facts, sends-others}
+use Rattle.j39_transport.proofs.FrameFacts.{packet_facts, sends-others}
 use Rattle.j39_transport.proofs.ReadLemmas.{IsControl, Facts, read_is}
 use Rattle.j39_transport.proofs.MoveLemmas.{sent_over, session_in}
-use Rattle.j39_transport.proofs.BridgeLemmas.{ev_announces, ev_sends, announced_no_packet, no_pack, no_opening}
+use Rattle.j39_transport.proofs.Bridge.{ev_announces, ev_sends, announced_no_packet}
+use Rattle.j39_transport.proofs.ControlBridge.{no_pack, no_opening}
 use Rattle.j39_transport.specs.Steps.{state_without, without_broadcast, room, empty_state}
 use Rattle.j39_transport.specs.Stands.{Stands}
 use Rattle.j39_transport.specs.Steps.{told, told_at, answer, answer_by}
@@ -29,11 +30,11 @@ use Rattle.j39_transport.specs.Stands.{StandsFor}
 use Rattle.j39_transport.specs.EventSteps.{is_over}
 use Rattle.j39_transport.specs.Assembly.{Whole}
 use Rattle.j39_transport.specs.Places.{find_from}
-use Rattle.j39_transport.proofs.Sessions.{Continues, Completes, whole_from, whole_only}
+use Rattle.j39_transport.proofs.Completing.{Continues, Completes, whole_from, whole_only}
 use Rattle.j39_transport.proofs.Taken.{Grows, partial_iff, assembled_sent}
 use Rattle.j39_transport.proofs.Tables.{lookup, directed_stands}
-use Rattle.j39_transport.proofs.Whole.{table_stands, session_of}
-use Rattle.j39_transport.proofs.BridgeLemmas.{packet_key, ev_stamp}
+use Rattle.j39_transport.proofs.AllKeys.{table_stands, session_of}
+use Rattle.j39_transport.proofs.Bridge.{packet_key, ev_stamp}
 use Rattle.j39_transport.proofs.StepLemmas.{broadcast_at, in_broadcast, packet_no_announcement}
 
 module _ (E : List Event) (f : FrameRecord) (a : AssemblerRecord) (h : Stands E a) where

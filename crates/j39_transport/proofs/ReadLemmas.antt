@@ -7,7 +7,7 @@ use Rattle.j39_transport.specs.Key.{Key, sender, goes_to, opening, is_key}
 use Rattle.j39_transport.specs.Frames.{goes, group_of, source_of, destination_of, size_named, packets_named, pgn_named, names_message, is_announcement, is_packet, is_control, is_clear_to_send, is_end}
 use Rattle.j39_transport.specs.Key.Key.{Broadcast, Directed}
 use Rattle.j39_transport.specs.FrameSteps.{Said, Announces, Packs, Grants, Finishes, Aborts, Other, key_named, announced_by, packed_by, control_of, said_by}
-use Rattle.j39_transport.proofs.Places.{one_key, announcement_facts, packet_facts, closing_facts, allowing_facts}
+use Rattle.j39_transport.proofs.FrameFacts.{one_key, announcement_facts, packet_facts, closing_facts, allowing_facts}
 
 -- the frame is nothing of any message
 pub record IsNoFrame (f : FrameRecord) : Type 0 where

@@ -16,16 +16,18 @@ use Rattle.j39_transport.specs.FrameSteps.{Said, Announces, Packs, Grants, Finis
 use Rattle.j39_transport.specs.Steps.{AssemblerRecord, packed, granted, closed, finished, with_place, state_after}
 use Rattle.j39_transport.specs.Session as sessions
 use Rattle.j39_transport.specs.Stands.{full, broadcast_in, entry_in, aged, table_of}
-use Rattle.j39_transport.proofs.Places.{announcement_facts, packet_facts, sends-others}
+use Rattle.j39_transport.proofs.FrameFacts.{announcement_facts, packet_facts, sends-others}
 use Rattle.j39_transport.proofs.ReadLemmas.{IsControl, Facts, read_is}
 use Rattle.j39_transport.proofs.MoveLemmas.{moved_none, moved_end, moved_packet, session_in, packed_is}
 use Rattle.j39_transport.proofs.PlaceLemmas.{Change, on_pair, Once, with_once, room_once, aged_moves, aged_shifts, once_of}
-use Rattle.j39_transport.proofs.BridgeLemmas.{packs_place, packs_other, grants_place, finishes_place, aborts_place, other_place, broadcast_place, rival_place, ev_announces, ev_sends, announced_no_packet, place_moves, quiet_moves, key_in, no_pack, no_opening}
+use Rattle.j39_transport.proofs.Bridge.{packs_place, packs_other, broadcast_place, rival_place, ev_announces, ev_sends, announced_no_packet, place_moves, quiet_moves, key_in}
+use Rattle.j39_transport.proofs.ControlBridge.{grants_place, finishes_place, aborts_place, other_place, no_pack, no_opening}
 use Rattle.j39_transport.specs.Places.{forgotten, without}
 use Rattle.j39_transport.specs.Steps.{state_without, without_broadcast, room, empty_state}
 use Rattle.j39_transport.specs.Stands.{Stands}
 use Rattle.j39_transport.specs.EventSteps.{broadcast_step}
-use Rattle.j39_transport.proofs.Whole.{Apart, are_apart, table_more, table_new}
+use Rattle.j39_transport.proofs.Sums.{Apart, are_apart}
+use Rattle.j39_transport.proofs.AllKeys.{table_more, table_new}
 use Rattle.j39_transport.proofs.PlaceLemmas.{aged_at}
 
 -- ---- the directed messages

@@ -8,8 +8,10 @@ use Rattle.j39_transport.specs.Frames.{destination_of, is_announcement, is_rival
 use Rattle.j39_transport.specs.Key.Key.{Directed}
 use Rattle.j39_transport.specs.Assembly.{Event, at, announces, rivals, is_numbered, packets, Open, OpenBy, Opens}
 use Rattle.j39_transport.specs.Assembly.Event.{Frame, Forget}
-use Rattle.j39_transport.proofs.Places.{Open-unique, few_packets, announcement_facts}
-use Rattle.j39_transport.proofs.Sessions.{stands_new, step_stands}
+use Rattle.j39_transport.proofs.Chains.{Open-unique}
+use Rattle.j39_transport.proofs.FrameFacts.{few_packets, announcement_facts}
+use Rattle.j39_transport.proofs.OneMore.{stands_new}
+use Rattle.j39_transport.proofs.Moving.{step_stands}
 use Rattle.j39_transport.specs.EventSteps.{Session, opened, after_after, touched, grown, is_crowded, is_over, moved, on_other, Entry, entry_of, moved_place, from_of, to_of, is_request_to_send, directed_step}
 use Rattle.j39_transport.specs.Stands.{IsSession, StandsFor, AreDirected}
 

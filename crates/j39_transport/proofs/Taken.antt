@@ -7,8 +7,10 @@ use Rattle.j39_transport.specs.Assembly.{Event, at, sends, packets, last_of, Lin
 use Rattle.j39_transport.specs.Assembly.Event.{Frame}
 use Rattle.j39_transport.specs.Answers.{IsPartial}
 use Rattle.std.proofs.lemmas.Bool.{and_parts}
-use Rattle.j39_transport.proofs.Places.{announced_within, at_before, at_new, announces-packets, Links-from}
-use Rattle.j39_transport.proofs.Sessions.{Continues, chain_new, chain_continued}
+use Rattle.j39_transport.proofs.Agreeing.{announced_within, at_before, at_new}
+use Rattle.j39_transport.proofs.FrameFacts.{announces-packets}
+use Rattle.j39_transport.proofs.Chains.{Links-from}
+use Rattle.j39_transport.proofs.Completing.{Continues, chain_new, chain_continued}
 use Rattle.j39_transport.specs.EventSteps.{Session}
 use Rattle.j39_transport.specs.Stands.{StandsFor}
 

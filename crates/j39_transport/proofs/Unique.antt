@@ -5,11 +5,11 @@ use Rattle.j39_transport.specs.Key.{Key}
 use Rattle.j39_transport.specs.Assembly.{Event, at, sends, size, packets, group, Links, Runs, joined, Whole}
 use Rattle.j39_transport.specs.Assembly.Event.{Frame, Forget}
 use Rattle.j39_transport.specs.Laws.{OneMessageLaw, CountsLaw}
-use Rattle.j39_transport.proofs.Places.{Links-unique, start_unique}
+use Rattle.j39_transport.proofs.Chains.{Links-unique, start_unique}
 use Rattle.j39_transport.proofs.Taken.{whole_ends}
-use Rattle.j39_transport.proofs.BridgeLemmas.{packet_key}
+use Rattle.j39_transport.proofs.Bridge.{packet_key}
 use Rattle.j39_transport.proofs.Tables.{opens_unique}
-use Rattle.j39_transport.proofs.Whole.{opens_few}
+use Rattle.j39_transport.proofs.Sums.{opens_few}
 
 sent_key : (j k : Key) (e : Event) → sends j e ≡ true → sends k e ≡ true → j ≡ k
 unfolding sends
@@ -19,7 +19,7 @@ sent_key j k (Forget t) a b = absurd (both_ways _ refl a)
 one_of_key : (E : List Event) (i : ℕ) (k : Key) (g h : ℕ) (b c : List ℕ) → Whole E i k g b → Whole E i k h c → (g ≡ h) × (b ≡ c)
 one_of_key E i k g h b c w v =
     let e : w.start ≡ v.start = start_unique E k g h w.start v.start (suc i) w.chain.announced v.chain.announced (let l : w.start < i = (whole_ends E i k g b w).1 in omega arith) (let l : v.start < i = (whole_ends E i k h c v).1 in omega arith)
-        (subst (λ (t : ℕ). Runs E k g w.start (suc t)) w.ends_at w.chain.runs) (subst (λ (t : ℕ). Runs E k h v.start (suc t)) v.ends_at v.chain.runs) in
+    (subst (λ (t : ℕ). Runs E k g w.start (suc t)) w.ends_at w.chain.runs) (subst (λ (t : ℕ). Runs E k h v.start (suc t)) v.ends_at v.chain.runs) in
     let x : at E w.start ≡ at E v.start = ap (at E) e in
     let n : length w.places ≡ length v.places = w.full ∙ (ap packets x ∙ sym v.full) in
     let p : w.places ≡ v.places = Links-unique E k w.start w.places v.places n w.chain.links (subst (λ (t : ℕ). Links E k t v.places) (sym e) v.chain.links) in (

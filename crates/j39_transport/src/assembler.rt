@@ -82,7 +82,9 @@ impl Assembler {
             (λ _. n ≡ state_after self.old frame.now.stamp (said_by frame.now))
             (λ _. n ≡ self.old))) }
     {
-        let accepted = self.sessions.accept(&mut self.lent, self.alloc, read(frame), frame.stamp)?;
+        let accepted = self
+            .sessions
+            .accept(&mut self.lent, self.alloc, read(frame), frame.stamp)?;
         Ok(lend(&self.lent, accepted, frame.id.source(), frame.stamp))
     }
 

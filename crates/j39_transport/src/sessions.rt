@@ -66,7 +66,9 @@ impl Sessions {
                 self.announce(lent, alloc, announcement, stamp)?;
                 Ok(Accepted::Taken)
             }
-            TransportFrame::Packet(key, number, bytes) => Ok(self.pack(lent, key, number, bytes, stamp)),
+            TransportFrame::Packet(key, number, bytes) => Ok(self.pack(
+                lent, key, number, bytes, stamp,
+            )),
             TransportFrame::ClearToSend(s, d, group) => {
                 grant(&mut self.directed, s, d, group, stamp);
                 Ok(Accepted::Ignored)
@@ -106,7 +108,14 @@ impl Sessions {
         }
     }
 
-    fn pack(&mut self, lent: &mut Place, key: Key, number: u8, bytes: &[u8], stamp: Stamp) -> Accepted
+    fn pack(
+        &mut self,
+        lent: &mut Place,
+        key: Key,
+        number: u8,
+        bytes: &[u8],
+        stamp: Stamp,
+    ) -> Accepted
         requires key { IsKey key }
         requires seven { length bytes.now ≡ 7 }
         ensures after { self.new ≡ after_packet self.old (stamp_micros stamp) (key_in key) number bytes.now }
@@ -116,9 +125,25 @@ impl Sessions {
         match key {
             Key::Broadcast(s) => {
                 let place = usize::from(s);
-                pack(&mut self.broadcasts, place, lent, BROADCAST_LIMIT, number, bytes, stamp)
+                pack(
+                    &mut self.broadcasts,
+                    place,
+                    lent,
+                    BROADCAST_LIMIT,
+                    number,
+                    bytes,
+                    stamp,
+                )
             }
-            Key::Directed(s, d) => pack_directed(&mut self.directed, s, d, lent, number, bytes, stamp),
+            Key::Directed(s, d) => pack_directed(
+                &mut self.directed,
+                s,
+                d,
+                lent,
+                number,
+                bytes,
+                stamp,
+            ),
         }
     }
 
