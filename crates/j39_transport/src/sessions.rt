@@ -66,9 +66,10 @@ impl Sessions {
                 self.announce(lent, alloc, announcement, stamp)?;
                 Ok(Accepted::Taken)
             }
-            TransportFrame::Packet(key, number, bytes) => Ok(self.pack(
-                lent, key, number, bytes, stamp,
-            )),
+            TransportFrame::Packet(key, number, bytes) => {
+                let accepted = self.pack(lent, key, number, bytes, stamp);
+                Ok(accepted)
+            }
             TransportFrame::ClearToSend(s, d, group) => {
                 grant(&mut self.directed, s, d, group, stamp);
                 Ok(Accepted::Ignored)
