@@ -1,0 +1,14 @@
+pub mod Key
+pub mod Frames
+pub mod Assembly
+pub mod Answers
+pub mod EventSteps
+pub mod Session
+pub mod Places
+pub mod FrameSteps
+pub mod Steps
+pub mod Stands
+pub mod ShownSession
+pub mod ShownFrame
+pub mod Shown
+pub mod Laws
