@@ -1,6 +1,14 @@
 //! The transport protocol: messages of more than eight bytes, in packets (J1939-21, 5.10).
 #![tactic(auto)]
 
+mod broadcast;
+mod control;
+mod cut;
 mod message;
 
+pub use broadcast::{Broadcast, Poll};
+pub use cut::Cut;
 pub use message::{Fed, Message};
+
+#[cfg(test)]
+mod cutting_tests;
