@@ -1,5 +1,5 @@
 -- The frames of a cut carry its message.
-use Rattle.std.proofs.Common.{◌≡◌, ◌≢◌, ℕ, zero, suc, ◌+◌, ◌-◌, ◌*◌, ◌<◌, ◌≤◌, ◌==◌, Bool, true, cond, List, [], ◌∷◌, ◌++◌, length, take, drop, map, get_or, replicate, slice_index, refl, sym, ap, ◌∙◌, subst, inr, arith, append_assoc, lt-ltb}
+use Rattle.std.proofs.Common.{◌≡◌, ℕ, zero, suc, ◌+◌, ◌-◌, ◌*◌, ◌<◌, ◌≤◌, Bool, true, cond, List, [], ◌∷◌, ◌++◌, length, take, drop, map, get_or, replicate, slice_index, refl, sym, ap, ◌∙◌, subst, inr, arith, append_assoc, lt-ltb}
 use Rattle.std.proofs.Math.Seq.{take-append-add}
 use Rattle.std.proofs.lemmas.List.{append-nil, length-take, length-map, take_at}
 use Rattle.std.proofs.lemmas.List.FromFn.{length-map-range_with_len}
@@ -7,9 +7,9 @@ use Rattle.std.proofs.lemmas.Bool.{ne_eqb}
 use Rattle.std.specs.List.{range_with_len}
 use Rattle.j39_frame.specs.Frame.{FrameRecord}
 use Rattle.j39_transport.specs.Key.{Key, sender, is_key}
-use Rattle.j39_transport.specs.Frames.{size_named, packets_named, pgn_named, is_announcement, is_packet}
+use Rattle.j39_transport.specs.Frames.{is_packet}
 use Rattle.j39_transport.specs.Message.{MessageRecord, IsLong, packets_of, as_broadcast}
-use Rattle.j39_transport.specs.Carries.{AreNumbered, joined, CarriesCut, Carries}
+use Rattle.j39_transport.specs.Carries.{AreNumbered, joined, Carries}
 use Rattle.j39_transport.specs.Cutting.{ToSend, without_stamp, at_moment, announcement_of, packet_data, packet_of, cut_frame, cut_frames}
 use Rattle.j39_transport.proofs.PacketLemmas.{joined_more}
 use Rattle.j39_transport.proofs.FrameLemmas.{AnnouncesOf, announces, packs}

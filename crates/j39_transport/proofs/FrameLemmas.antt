@@ -1,14 +1,13 @@
 -- What the frames of a cut say.
-use Rattle.std.proofs.Common.{◌≡◌, ℕ, suc, ◌+◌, ◌*◌, ◌/◌, ◌%◌, ◌^◌, ◌<◌, ◌≤◌, ◌==◌, nat_le, nat_lt, Bool, true, ◌&&◌, cond, if◌then◌else◌, List, [], ◌∷◌, ◌++◌, length, drop, slice_index, refl, sym, ap, ◌∙◌, arith, eq-eqb, lt-ltb, ltb-true, le-leb, lit<}
+use Rattle.std.proofs.Common.{◌≡◌, ℕ, suc, ◌+◌, ◌*◌, ◌%◌, ◌^◌, ◌<◌, ◌≤◌, ◌==◌, nat_le, nat_lt, Bool, true, ◌&&◌, if◌then◌else◌, List, [], ◌∷◌, length, slice_index, refl, sym, ap, ◌∙◌, arith, eq-eqb, lt-ltb, ltb-true, le-leb, lit<}
 use Rattle.std.proofs.lemmas.Bool.{and_parts}
-use Rattle.byteorder.specs.Endian.{little_bytes}
 use Rattle.byteorder.specs.Numbers.{little_number-reads_back}
 use Rattle.j39_frame.specs.Identifier.{pf_of, page_of, pgn_of, ps_of}
 use Rattle.j39_frame.specs.Network.{transport_control_group, transport_data_group}
 use Rattle.j39_frame.specs.Frame.{FrameRecord}
 use Rattle.j39_transport.specs.Key.{Key, Broadcast, Directed, sender, goes_to, opening, is_key}
 use Rattle.j39_transport.specs.Frames.{group_of, source_of, destination_of, goes, size_named, packets_named, pgn_named, packets_for, names_message, is_announcement, is_packet}
-use Rattle.j39_transport.specs.Message.{MessageRecord, IsMessage, IsLong, packets_of}
+use Rattle.j39_transport.specs.Message.{MessageRecord, IsLong, packets_of}
 use Rattle.j39_transport.specs.Cutting.{transport_id, announcement_bytes, announcement_of, packet_data, packet_of, at_moment}
 use Rattle.j39_transport.proofs.PacketLemmas.{packet_length}
 
@@ -19,11 +18,11 @@ record IsTransportGroup (group : ℕ) : Type 0 where
   directed : front < 240
   group_is : group ≡ front * 256
 
-control : IsTransportGroup transport_control_group
-control = record { front = 236; directed = omega arith; group_is = refl }
+is_control_group : IsTransportGroup transport_control_group
+is_control_group = record { front = 236; directed = omega arith; group_is = refl }
 
-data_group : IsTransportGroup transport_data_group
-data_group = record { front = 235; directed = omega arith; group_is = refl }
+is_data_group : IsTransportGroup transport_data_group
+is_data_group = record { front = 235; directed = omega arith; group_is = refl }
 
 pf_is : (raw group front s d : ℕ) → raw ≡ transport_id group s d → group ≡ front * 256 → front < 240 → s < 256 → d < 256 → pf_of raw ≡ front
 pf_is raw group front s d e g f h k = let r : raw ≡ 469762048 + front * 65536 + d * 256 + s = omega arith in omega arith
@@ -99,7 +98,7 @@ announces k m t l h =
     let fits : m.pgn < 2 ^ 18 = l.message.pgn in
     let size : size_named f ≡ length m.bytes = size_back (opening k) (length m.bytes) (packets_of m) m.pgn (omega arith) in
     let pgn : pgn_named f ≡ m.pgn = pgn_back (opening k) (length m.bytes) (packets_of m) m.pgn (omega arith) in
-    let g : goes transport_control_group (sender k) (goes_to k) f ≡ true = goes_there transport_control_group (sender k) (goes_to k) t f.bytes control (sender_below k h) (goes_to_below k h) refl in
+    let g : goes transport_control_group (sender k) (goes_to k) f ≡ true = goes_there transport_control_group (sender k) (goes_to k) t f.bytes is_control_group (sender_below k h) (goes_to_below k h) refl in
     let o : (opening k == opening k) ≡ true = eq-eqb _ _ refl in
     let n : names_message f ≡ true = names f m l size refl pgn in
     record {
@@ -116,5 +115,5 @@ unfolding packet_of is_packet
 packs k m t number h =
     let e : length (number ∷ packet_data m.bytes number) ≡ 8 = ap suc (packet_length m.bytes number) in
     let g : goes transport_data_group (sender k) (goes_to k) (at_moment t (packet_of k m number)) ≡ true =
-    goes_there transport_data_group (sender k) (goes_to k) t (number ∷ packet_data m.bytes number) data_group (sender_below k h) (goes_to_below k h) e in
+    goes_there transport_data_group (sender k) (goes_to k) t (number ∷ packet_data m.bytes number) is_data_group (sender_below k h) (goes_to_below k h) e in
     λ i. h i && g i

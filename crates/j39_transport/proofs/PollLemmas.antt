@@ -1,11 +1,11 @@
 -- A broadcast sends the frames of its message, in order and in time.
-use Rattle.std.proofs.Common.{◌≡◌, ℕ, ◌+◌, ◌≤◌, nat_lt, List, [], ◌∷◌, ◌++◌, length, map, refl, sym, ap, ◌∙◌, subst, arith, Bool, true, false, cond}
+use Rattle.std.proofs.Common.{◌≡◌, ℕ, ◌+◌, ◌≤◌, nat_lt, List, [], ◌∷◌, ◌++◌, length, refl, sym, ap, ◌∙◌, subst, arith, Bool, true, false, cond}
 use Rattle.std.proofs.lemmas.Bool.{cond_both, ltb-false}
 use Rattle.std.proofs.lemmas.List.{map_push}
 use Rattle.std.proofs.lemmas.List.FromFn.{map-range_with_len_more}
 use Rattle.j39_frame.specs.Frame.{FrameRecord}
 use Rattle.j39_transport.specs.Message.{MessageRecord, packets_of, as_broadcast}
-use Rattle.j39_transport.specs.Cutting.{ToSend, without_stamp, at_moment, cut_frame, first_frames}
+use Rattle.j39_transport.specs.Cutting.{without_stamp, at_moment, cut_frame, first_frames}
 use Rattle.j39_transport.specs.Broadcasting.{gap, next_moment, AreSpaced, Answer, Send, WaitUntil, Done, answer_after, with_answer, BroadcastRecord, HasSent}
 use Rattle.j39_transport.specs.Polling.{Polled, poll_step, PollStep}
 

@@ -1,6 +1,5 @@
 -- The step of a broadcast at a poll, below the definitions.
 use Rattle.std.specs.Prelude.{◌≡◌, ◌+◌, ℕ, nat_lt, if◌then◌else◌}
-use Rattle.j39_frame.specs.Identifier.{id_raw}
 use Rattle.j39_transport.specs.Message.{packets_of, as_broadcast}
 use Rattle.j39_transport.specs.Cutting.{cut_frame, to_send}
 use Rattle.j39_transport.specs.Broadcasting.{gap, Answer, BroadcastRecord}

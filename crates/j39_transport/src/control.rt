@@ -7,18 +7,24 @@ ghost use Rattle.j39_transport.specs.Cutting.{announcement_bytes, transport_id};
 
 use j39_frame::{Id, Pgn};
 
+/// The group TP.CM.
+const TRANSPORT_CONTROL: u32 = 60_416;
+
+/// The group TP.DT.
+const TRANSPORT_DATA: u32 = 60_160;
+
 /// The identifier of a TP.CM frame.
 pub(crate) fn control_id(source: u8, destination: u8) -> Id
     ensures { id_raw result ≡ transport_id transport_control_group source destination }
 {
-    transport_id(60_416, source, destination)
+    transport_id(TRANSPORT_CONTROL, source, destination)
 }
 
 /// The identifier of a TP.DT frame.
 pub(crate) fn data_id(source: u8, destination: u8) -> Id
     ensures { id_raw result ≡ transport_id transport_data_group source destination }
 {
-    transport_id(60_160, source, destination)
+    transport_id(TRANSPORT_DATA, source, destination)
 }
 
 /// An identifier of a group of the transport protocol, which is sent with priority 7.
