@@ -1,5 +1,10 @@
 pub mod Key
 pub mod Frames
+pub mod Message
+pub mod Carries
+pub mod Cutting
+pub mod Broadcasting
+pub mod Polling
 pub mod Assembly
 pub mod Answers
 pub mod EventSteps

@@ -4,7 +4,9 @@
 mod announce;
 mod announcement;
 mod assembler;
+mod broadcast;
 mod control;
+mod cut;
 mod key;
 pub mod laws;
 mod message;
@@ -13,9 +15,14 @@ mod session;
 mod sessions;
 mod table;
 mod transport_frame;
+mod writing;
 
 pub use assembler::Assembler;
+pub use broadcast::{Broadcast, Poll};
+pub use cut::Cut;
 pub use message::{Fed, Message};
 
+#[cfg(test)]
+mod cutting_tests;
 #[cfg(test)]
 mod tests;

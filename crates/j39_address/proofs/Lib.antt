@@ -1,0 +1,3 @@
+pub mod HolderLemmas
+pub mod OrderLemmas
+pub mod NotingLemmas

@@ -1,0 +1,56 @@
+//! Writing the frames of the transport protocol (J1939-21, 5.10.3 and 5.10.4).
+ghost use Rattle.std.specs.Prelude.{◌≡◌, ◌∷◌, ◌<◌};
+ghost use Rattle.j39_frame.specs.Identifier.{id_raw};
+ghost use Rattle.j39_frame.specs.Network.{transport_control_group, transport_data_group};
+ghost use Rattle.j39_frame.specs.Pgn.{pgn_raw};
+ghost use Rattle.j39_transport.specs.Cutting.{announcement_bytes, transport_id};
+
+use j39_frame::{Id, Pgn};
+
+/// The group TP.CM.
+const TRANSPORT_CONTROL: u32 = 60_416;
+
+/// The group TP.DT.
+const TRANSPORT_DATA: u32 = 60_160;
+
+/// The identifier of a TP.CM frame.
+pub(crate) fn control_id(source: u8, destination: u8) -> Id
+    ensures { id_raw result ≡ transport_id transport_control_group source destination }
+{
+    transport_id(TRANSPORT_CONTROL, source, destination)
+}
+
+/// The identifier of a TP.DT frame.
+pub(crate) fn data_id(source: u8, destination: u8) -> Id
+    ensures { id_raw result ≡ transport_id transport_data_group source destination }
+{
+    transport_id(TRANSPORT_DATA, source, destination)
+}
+
+/// An identifier of a group of the transport protocol, which is sent with priority 7.
+fn transport_id(group: u32, source: u8, destination: u8) -> Id
+    requires { group < 65281 }
+    ensures { id_raw result ≡ transport_id group source destination }
+{
+    let front = (7 << 26) + (group << 8);
+    Id::new(front + u32::from(destination) * 256 + u32::from(source)).unwrap()
+}
+
+/// The data of an announcement: its kind (32 a BAM, 16 an RTS), and FF for no limit of packets.
+pub(crate) fn announcement_bytes(kind: u8, size: u16, packets: u8, pgn: Pgn) -> [u8; 8]
+    ensures { result ≡ announcement_bytes kind size packets (pgn_raw pgn) }
+{
+    let [size_low, size_high] = size.to_le_bytes();
+    let [pgn_low, pgn_mid, pgn_high, _] = pgn.raw().to_le_bytes();
+    [
+        kind, size_low, size_high, packets, 0xFF, pgn_low, pgn_mid, pgn_high,
+    ]
+}
+
+/// The data of a packet: its number, then seven bytes of the message.
+pub(crate) fn packet_bytes(number: u8, bytes: [u8; 7]) -> [u8; 8]
+    ensures { result ≡ number ∷ bytes }
+{
+    let [a, b, c, d, e, f, g] = bytes;
+    [number, a, b, c, d, e, f, g]
+}
