@@ -7,7 +7,7 @@ ghost use Rattle.j39_transport.specs.Message.{IsLong, as_broadcast, packets_of};
 ghost use Rattle.j39_transport.specs.Carries.{Carries, joined};
 ghost use Rattle.j39_transport.specs.Cutting.{cut_frame, cut_frames, packet_data, to_send, without_stamp};
 
-use crate::control;
+use crate::writing;
 use j39_frame::{GLOBAL_ADDRESS, Id, Pgn, is_address};
 use std::marker::Model;
 
@@ -74,11 +74,11 @@ impl<'a> Cut<'a> {
     {
         let packets = self.packets();
         if k == 0 {
-            let bytes = control::announcement_bytes(BROADCAST, self.size(), packets, self.pgn);
-            Some((control::control_id(self.source, GLOBAL_ADDRESS), bytes))
+            let bytes = writing::announcement_bytes(BROADCAST, self.size(), packets, self.pgn);
+            Some((writing::control_id(self.source, GLOBAL_ADDRESS), bytes))
         } else if k <= u16::from(packets) {
-            let bytes = control::packet_bytes(k as u8, self.data(k as u8));
-            Some((control::data_id(self.source, GLOBAL_ADDRESS), bytes))
+            let bytes = writing::packet_bytes(k as u8, self.data(k as u8));
+            Some((writing::data_id(self.source, GLOBAL_ADDRESS), bytes))
         } else {
             None
         }

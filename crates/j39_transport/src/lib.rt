@@ -2,9 +2,9 @@
 #![tactic(auto)]
 
 mod broadcast;
-mod control;
 mod cut;
 mod message;
+mod writing;
 
 pub use broadcast::{Broadcast, Poll};
 pub use cut::Cut;
