@@ -34,9 +34,6 @@ sent_within E s p h = elim (cases_lt p (length E)) [
 pub past_sends : (E : List Event) (s : Key) (p : ℕ) → length E ≤ p → sends s (at E p) ≡ false
 past_sends E s p k = ap (sends s) (get_or_past E p (Forget 255) k) ∙ (nothing s 0).no_packet
 
-pub past_announces : (E : List Event) (s : Key) (p : ℕ) → length E ≤ p → announces s (at E p) ≡ false
-past_announces E s p k = ap (announces s) (get_or_past E p (Forget 255) k) ∙ (nothing s 0).no_announcement
-
 -- ---- lists that agree below a place
 
 pub record Agree (E D : List Event) (n : ℕ) : Type 0 where

@@ -45,14 +45,6 @@ pub ev_stamp : (f : FrameRecord) → stamp (Frame f) ≡ f.stamp
 unfolding stamp
 ev_stamp f = refl
 
-ev_number : (f : FrameRecord) → number (Frame f) ≡ slice_index f.bytes 0
-unfolding number
-ev_number f = refl
-
-ev_payload : (f : FrameRecord) → payload (Frame f) ≡ drop 1 f.bytes
-unfolding payload
-ev_payload f = refl
-
 -- ---- a session that moves keeps its pair
 
 abbrev Same : SessionRecord → Option SessionRecord → Type 0
@@ -77,14 +69,6 @@ same_granted x g st = go (x.group == g) (nat_lt (x.last + 1250000) st)
     go true true = tt
     go true false = (refl, refl)
     go false b = (refl, refl)
-
-same_closed : (x : SessionRecord) (g : ℕ) → Same x (closed g (Some x))
-unfolding closed
-same_closed x g = go (x.group == g)
-  where
-    go : (a : Bool) → Same x (if a then None else Some x)
-    go true = tt
-    go false = (refl, refl)
 
 entry_kept : (i : ℕ) (x : SessionRecord) (o : Option SessionRecord) → Same x o → entry_of x.source x.destination (session_in i o) ≡ entry_in i o
 entry_kept i x None h = refl

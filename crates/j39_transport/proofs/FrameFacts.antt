@@ -125,9 +125,6 @@ sends-others i j k g (Frame f) h =
     }
 sends-others i j k g (Forget t) h = absurd (both_ways false refl h)
 
-pub announces-sends : (k : Key) (e : Event) → announces k e ≡ true → sends k e ≡ false
-announces-sends k e h = false_from_ne_true _ (λ t. both_ways _ (sends-others k k k 0 e t).no_announcement h)
-
 -- an announcement has packets, 255 at most
 pub announces-packets : (k : Key) (e : Event) → announces k e ≡ true → 0 < packets e
 unfolding announces packets

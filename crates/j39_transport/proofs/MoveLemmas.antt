@@ -110,11 +110,3 @@ granted_is i g st s = go (s.group == g) (nat_lt (s.last + 1250000) st)
     go true true = refl
     go true false = refl
     go false b = refl
-
-pub closed_is : (i g : ℕ) (s : SessionRecord) → session_in i (closed g (Some s)) ≡ (if s.group == g then None else Some (full i s))
-unfolding closed
-closed_is i g s = go (s.group == g)
-  where
-    go : (a : Bool) → session_in i (if a then None else Some s) ≡ (if a then None else Some (full i s))
-    go true = refl
-    go false = refl

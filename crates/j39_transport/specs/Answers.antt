@@ -22,11 +22,6 @@ pub data Outcome : Type 0 where
 abbrev pub WholeBy : List Event → FrameRecord → Message → Type 0
 WholeBy E f m = (k : Key) × (sender k ≡ m.source) × assembly.Whole (E ++ Frame f ∷ []) (length E) k m.group m.bytes
 
--- this message is whole with the frame f after E, or none is
-abbrev pub Assembled : List Event → FrameRecord → Option Message → Type 0
-Assembled E f (Some m) = WholeBy E f m
-Assembled E f None = (m : Message) → WholeBy E f m → ⊥
-
 -- at place i ends a chain of s with at least one packet, which lacks one
 pub record IsPartial (E : List Event) (i : ℕ) (s : Key) (g : ℕ) : Type 0 where
   pub start : ℕ

@@ -12,3 +12,4 @@ pub mod ShownSession
 pub mod ShownFrame
 pub mod Shown
 pub mod Laws
+pub mod Course

@@ -18,4 +18,6 @@ pub use assembler::Assembler;
 pub use message::{Fed, Message};
 
 #[cfg(test)]
-mod tests;
+mod assembler_tests;
+#[cfg(test)]
+mod transfer_tests;
