@@ -2,7 +2,7 @@
 use Rattle.std.proofs.Common.{◌≡◌, ℕ, suc, ◌+◌, ◌<◌, Bool, true, false, if◌then◌else◌, ◌&&◌, ◌||◌, List, ◌++◌, Option, Some, None, refl, ap, ◌∙◌, arith, nat_lt, ◌==◌, ltb-true}
 use Rattle.std.proofs.lemmas.Bool.{cond-false, false_from_ne_true}
 use Rattle.j39_transport.specs.Key.{Key, limit}
-use Rattle.j39_transport.specs.Assembly.{Event, announces, sends, grants, ends, rivals, number, payload, stamp}
+use Rattle.j39_transport.specs.Events.{Event, announces, sends, grants, ends, rivals, number, payload, stamp}
 use Rattle.j39_transport.specs.EventSteps.{Session, is_over, moved, is_late, is_crowded}
 use Rattle.j39_transport.specs.Session as record_of
 use Rattle.j39_transport.specs.Session.{SessionRecord}

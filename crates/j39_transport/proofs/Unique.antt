@@ -2,8 +2,9 @@
 use Rattle.std.proofs.Common.{◌≡◌, ℕ, suc, ◌<◌, true, List, length, take, refl, sym, ap, ◌∙◌, subst, arith}
 use Rattle.std.proofs.lemmas.Bool.{both_ways}
 use Rattle.j39_transport.specs.Key.{Key}
-use Rattle.j39_transport.specs.Assembly.{Event, at, sends, size, packets, group, Links, Runs, joined, Whole}
-use Rattle.j39_transport.specs.Assembly.Event.{Frame, Forget}
+use Rattle.j39_transport.specs.Events.{Event, at, sends, size, packets, group}
+use Rattle.j39_transport.specs.Assembly.{Links, Runs, joined, Whole}
+use Rattle.j39_transport.specs.Events.Event.{Frame, Forget}
 use Rattle.j39_transport.specs.Laws.{OneMessageLaw, AtPacketLaw, CountsLaw}
 use Rattle.j39_transport.proofs.Chains.{Links-unique, start_unique}
 use Rattle.j39_transport.proofs.Taken.{whole_ends}

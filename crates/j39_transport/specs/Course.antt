@@ -1,7 +1,8 @@
 -- What a message's own packets, where some of them are missing, make of the chains from its announcement.
 use Rattle.std.specs.Prelude.{◌≡◌, ℕ, suc, ◌+◌, ◌<◌, ◌≤◌, Bool, true, false, List, length}
 use Rattle.j39_transport.specs.Key.{Key, limit}
-use Rattle.j39_transport.specs.Assembly.{Event, at, announces, ends, rivals, stamp, belongs, is_numbered, last_of, Links, AreSuccessive, count_below, Runs}
+use Rattle.j39_transport.specs.Events.{Event, at, announces, ends, rivals, stamp, belongs, is_numbered}
+use Rattle.j39_transport.specs.Assembly.{last_of, Links, AreSuccessive, count_below, Runs}
 
 -- no announcement of k stands after c0 and before r
 abbrev pub Undisturbed : List Event → Key → ℕ → ℕ → Type 0

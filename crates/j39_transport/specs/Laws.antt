@@ -1,7 +1,8 @@
 -- Laws on messages that are put together.
 use Rattle.std.specs.Prelude.{◌≡◌, ◌≤◌, ◌*◌, ℕ, true, List}
-use Rattle.j39_transport.specs.Key.{Key}
-use Rattle.j39_transport.specs.Assembly.{Event, at, sends, Whole, Opens, all_keys}
+use Rattle.j39_transport.specs.Key.{Key, all_keys}
+use Rattle.j39_transport.specs.Events.{Event, at, sends}
+use Rattle.j39_transport.specs.Assembly.{Whole, Opens}
 
 -- at a place at most one message is whole
 abbrev pub OneMessageLaw : Type 0

@@ -1,5 +1,6 @@
 pub mod Key
 pub mod Frames
+pub mod Events
 pub mod Assembly
 pub mod Answers
 pub mod EventSteps

@@ -2,7 +2,7 @@
 ghost use Rattle.std.specs.Prelude.{◌≡◌, ◌≤◌, ◌+◌, ◌*◌, ◌↔◌, length, slice_index, IsTrue};
 ghost use Rattle.j39_frame.specs.Frame.{FrameRecord};
 ghost use Rattle.j39_transport.specs.Frames.{packets_for, source_of, destination_of};
-ghost use Rattle.j39_transport.specs.FrameSteps.{said_by, control_of, announced_by, packed_by, key_named};
+ghost use Rattle.j39_transport.specs.FrameSteps.{transport_frame_of, control_of, announced_by, packed_by, key_named};
 ghost use Rattle.j39_transport.specs.ShownFrame.{shown_frame, HasAddresses};
 
 use crate::announcement::Announcement;
@@ -25,9 +25,9 @@ pub(crate) enum TransportFrame<'a> {
 }
 
 /// Reads a frame. One of another group costs its identifier alone.
-#[tactic(auto, unfolding(crate::specs::FrameSteps::said_by, crate::specs::Frames::group_of))]
+#[tactic(auto, unfolding(crate::specs::FrameSteps::transport_frame_of, crate::specs::Frames::group_of))]
 pub(crate) fn read(frame: &Frame) -> TransportFrame<'_>
-    ensures value { shown_frame result ≡ said_by frame.now }
+    ensures value { shown_frame result ≡ transport_frame_of frame.now }
     ensures addresses { HasAddresses result }
 {
     if frame.id.is_transport_data() && frame.bytes.len() == 8 {
