@@ -74,10 +74,14 @@ room (Some i) = i
 unfoldable pub finished : ℕ → ℕ → ℕ → Places → Places
 finished s d group t = with_place (find s d t) (closed group) t
 
+-- the directed messages with a new one, x, in front: that of its own pair is left out, else the oldest
+abbrev pub with_announced : ℕ → ℕ → SessionRecord → Places → Places
+with_announced s d x t = pushed 15 x (slice_set t (room (find s d t)) None)
+
 -- the state after an announcement, whose session is x
 abbrev pub announced : AssemblerRecord → Key → SessionRecord → AssemblerRecord
 announced a (Broadcast s) x = record { broadcasts = slice_set a.broadcasts s (Some x); directed = a.directed }
-announced a (Directed s d) x = record { broadcasts = a.broadcasts; directed = pushed 15 x (slice_set a.directed (room (find s d a.directed)) None) }
+announced a (Directed s d) x = record { broadcasts = a.broadcasts; directed = with_announced s d x a.directed }
 
 -- the state after a packet, and the answer
 abbrev pub after_packet : AssemblerRecord → ℕ → Key → ℕ → List ℕ → AssemblerRecord

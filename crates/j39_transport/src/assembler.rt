@@ -64,7 +64,8 @@ impl Assembler {
     /// Takes the next frame. Memory is taken at an announcement alone, before anything changes:
     /// after an error the same frame may be fed again.
     pub fn feed(&mut self, frame: &Frame) -> Result<Fed<'_>, AllocError>
-        ensures answer { IfOk result (λ fed. (E : List Event) → Stands E self.old → AnswersAt E frame.now (outcome_of fed)) }
+        ensures answer { IfOk result (λ fed. (E : List Event) → Stands E self.old
+            → AnswersAt E frame.now (outcome_of fed)) }
         ensures refused { OnErr result (IsAnnouncement frame.now) }
         ensures* after { sem 𝓛 (Rests the_row self.entry (λ n. MatchResult result
             (λ _. (E : List Event) → Stands E self.old → Stands (E ++ Came frame.now ∷ []) n)
@@ -76,7 +77,8 @@ impl Assembler {
     /// Hands a frame to the open messages, and answers what it was.
     #[tactic(auto, unfolding(crate::specs::Frames::source_of))]
     fn step(&mut self, frame: &Frame) -> Result<Fed<'_>, AllocError>
-        ensures answer { IfOk result (λ fed. outcome_of fed ≡ answer self.old (source_of frame.now.id) frame.now.stamp (transport_frame_of frame.now)) }
+        ensures answer { IfOk result (λ fed. outcome_of fed
+            ≡ answer self.old (source_of frame.now.id) frame.now.stamp (transport_frame_of frame.now)) }
         ensures refused { OnErr result (IsAnnounced (transport_frame_of frame.now)) }
         ensures* after { sem 𝓛 (Rests the_row self.entry (λ n. MatchResult result
             (λ _. n ≡ state_after self.old frame.now.stamp (transport_frame_of frame.now))

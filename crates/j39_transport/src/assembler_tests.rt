@@ -17,14 +17,15 @@ use Kind::{Ignored, Taken, Whole};
 /// A frame's stamp, identifier and data, and what it is to an assembler.
 pub(crate) type Row = (u64, u32, [u8; 8], Kind);
 
-/// Feeds a frame, once more where its memory was refused, as a test with failing allocations does.
+/// Feeds a frame; an announcement once more where its memory was refused, as where the tests are run
+/// with an allocation refused. No other frame may meet that.
 pub(crate) fn fed(assembler: &mut Assembler, micros: u64, id: u32, bytes: &[u8]) -> Option<Kind> {
     let frame = Frame::new(Stamp::new(micros)?, Id::new(id)?, bytes)?;
     let kind = kind_of(assembler, &frame);
-    if kind.is_some() {
-        kind
-    } else {
+    if kind.is_none() && frame.id.is_transport_control() {
         kind_of(assembler, &frame)
+    } else {
+        kind
     }
 }
 

@@ -99,8 +99,8 @@ fn overheard_hold(rt: HostRuntime) -> Result<(), Fail> {
     Ok(())
 }
 
-/// A transfer of 00 to 0B, and after its first packet one to each address from 10 (hex) to the last:
-/// how many are open then, and what the second and the third packet are.
+/// A transfer of 00 to 0B, and after its first packet one to each address from 10 (hex) to the
+/// last: how many are open then, and what the second and the third packet are.
 fn crowded(assembler: &mut Assembler, last: u32) -> (usize, Option<Kind>, Option<Kind>) {
     let _begun = follows(
         assembler,
