@@ -74,9 +74,27 @@ impl Assembler {
         self.step(frame)
     }
 
+    /// Answers at once where a frame is of another group, which costs its identifier alone.
+    #[tactic(auto, unfolding(crate::specs::FrameSteps::transport_frame_of, crate::specs::Frames::group_of, crate::specs::Steps::state_after, crate::specs::Steps::answer))]
+    fn step(&mut self, frame: &Frame) -> Result<Fed<'_>, AllocError>
+        ensures answer { IfOk result (λ fed. outcome_of fed
+            ≡ answer self.old (source_of frame.now.id) frame.now.stamp (transport_frame_of frame.now)) }
+        ensures refused { OnErr result (IsAnnounced (transport_frame_of frame.now)) }
+        ensures* after { sem 𝓛 (Rests the_row self.entry (λ n. MatchResult result
+            (λ _. n ≡ state_after self.old frame.now.stamp (transport_frame_of frame.now))
+            (λ _. n ≡ self.old))) }
+    {
+        if frame.id.is_transport_data() || frame.id.is_transport_control() {
+            self.take(frame)
+        } else {
+            Ok(Fed::Ignored)
+        }
+    }
+
     /// Hands a frame to the open messages, and answers what it was.
     #[tactic(auto, unfolding(crate::specs::Frames::source_of))]
-    fn step(&mut self, frame: &Frame) -> Result<Fed<'_>, AllocError>
+    #[inline(never)]
+    fn take(&mut self, frame: &Frame) -> Result<Fed<'_>, AllocError>
         ensures answer { IfOk result (λ fed. outcome_of fed
             ≡ answer self.old (source_of frame.now.id) frame.now.stamp (transport_frame_of frame.now)) }
         ensures refused { OnErr result (IsAnnounced (transport_frame_of frame.now)) }
