@@ -1,14 +1,30 @@
 //! The transport protocol: messages of more than eight bytes, in packets (J1939-21, 5.10).
 #![tactic(auto)]
 
+mod announce;
+mod announcement;
+mod assembler;
 mod broadcast;
+mod control;
 mod cut;
+mod key;
+pub mod laws;
 mod message;
+mod packet;
+mod session;
+mod sessions;
+mod table;
+mod transport_frame;
 mod writing;
 
+pub use assembler::Assembler;
 pub use broadcast::{Broadcast, Poll};
 pub use cut::Cut;
 pub use message::{Fed, Message};
 
 #[cfg(test)]
+mod assembler_tests;
+#[cfg(test)]
 mod cutting_tests;
+#[cfg(test)]
+mod transfer_tests;

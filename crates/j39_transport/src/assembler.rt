@@ -1,0 +1,161 @@
+//! Messages put together again (J1939-21, 5.10).
+ghost use Rattle.std.specs.Prelude.{◌≡◌, ◌≤◌, ◌*◌, ◌++◌, ◌∷◌, [], List, IfOk, OnErr, MatchResult};
+ghost use Rattle.std.specs.Borrow.{sem};
+ghost use Rattle.std.specs.Io.BufRead.{Rests};
+ghost use Rattle.j39_frame.specs.Stamp.{stamp_micros};
+ghost use Rattle.j39_transport.specs.Frames.{source_of};
+ghost use Rattle.j39_transport.specs.Events.{Event};
+ghost use Rattle.j39_transport.specs.Events.Event.{Frame as Came, Forget};
+ghost use Rattle.j39_transport.specs.Answers.{IsAnnouncement, AnswersAt, AreOpenAfter, AreHeldAfter};
+ghost use Rattle.j39_transport.specs.Stands.{Stands};
+ghost use Rattle.j39_transport.specs.FrameSteps.{transport_frame_of};
+ghost use Rattle.j39_transport.specs.Places.{held_in};
+ghost use Rattle.j39_transport.specs.Steps.{state_after, answer, IsAnnounced, empty_state, state_without, messages_open, bytes_held};
+ghost use Rattle.j39_transport.specs.Shown.{outcome_by, CanLend, outcome_of};
+
+use crate::message::{Fed, Message};
+use crate::packet::Accepted;
+use crate::sessions::Sessions;
+use crate::table::Place;
+use crate::transport_frame::read;
+use j39_frame::{Frame, Stamp};
+use std::alloc::{AllocError, Global};
+use std::marker::Model;
+
+/// Puts messages of more than eight bytes together again: broadcasts, and those that one
+/// controller sends to another. It has 270 places, each empty or one box with an open message and
+/// its buffer of 1,785 bytes, and besides at most the box of the message last lent.
+#[derive(Drop)]
+pub struct Assembler {
+    alloc: Global,
+    sessions: Sessions,
+    /// The message last lent; its box is used again.
+    lent: Place,
+}
+
+impl Model for Assembler {
+    ghost use Rattle.j39_transport.specs.Steps.{AssemblerRecord};
+
+    ghost Value = { AssemblerRecord };
+
+    ghost view = { λ a. a.sessions };
+}
+
+impl Assembler {
+    ghost use Rattle.j39_transport.specs.contracts.assembler.Assembler.{the_row};
+
+    /// An assembler with no message open; it takes no memory.
+    pub fn new(alloc: Global) -> Assembler
+        ensures { Stands [] result }
+    {
+        Self::empty(alloc)
+    }
+
+    fn empty(alloc: Global) -> Assembler
+        ensures { result ≡ empty_state }
+    {
+        Assembler {
+            alloc,
+            sessions: Sessions::new(),
+            lent: None,
+        }
+    }
+
+    /// Takes the next frame. Memory is taken at an announcement alone, before anything changes:
+    /// after an error the same frame may be fed again.
+    pub fn feed(&mut self, frame: &Frame) -> Result<Fed<'_>, AllocError>
+        ensures answer { IfOk result (λ fed. (E : List Event) → Stands E self.old
+            → AnswersAt E frame.now (outcome_of fed)) }
+        ensures refused { OnErr result (IsAnnouncement frame.now) }
+        ensures* after { sem 𝓛 (Rests the_row self.entry (λ n. MatchResult result
+            (λ _. (E : List Event) → Stands E self.old → Stands (E ++ Came frame.now ∷ []) n)
+            (λ _. n ≡ self.old))) }
+    {
+        self.step(frame)
+    }
+
+    /// Answers at once where a frame is of another group, which costs its identifier alone.
+    #[tactic(auto, unfolding(crate::specs::FrameSteps::transport_frame_of, crate::specs::Frames::group_of, crate::specs::Steps::state_after, crate::specs::Steps::answer))]
+    fn step(&mut self, frame: &Frame) -> Result<Fed<'_>, AllocError>
+        ensures answer { IfOk result (λ fed. outcome_of fed
+            ≡ answer self.old (source_of frame.now.id) frame.now.stamp (transport_frame_of frame.now)) }
+        ensures refused { OnErr result (IsAnnounced (transport_frame_of frame.now)) }
+        ensures* after { sem 𝓛 (Rests the_row self.entry (λ n. MatchResult result
+            (λ _. n ≡ state_after self.old frame.now.stamp (transport_frame_of frame.now))
+            (λ _. n ≡ self.old))) }
+    {
+        if frame.id.is_transport_data() || frame.id.is_transport_control() {
+            self.take(frame)
+        } else {
+            Ok(Fed::Ignored)
+        }
+    }
+
+    /// Hands a frame to the open messages, and answers what it was.
+    #[tactic(auto, unfolding(crate::specs::Frames::source_of))]
+    #[inline(never)]
+    fn take(&mut self, frame: &Frame) -> Result<Fed<'_>, AllocError>
+        ensures answer { IfOk result (λ fed. outcome_of fed
+            ≡ answer self.old (source_of frame.now.id) frame.now.stamp (transport_frame_of frame.now)) }
+        ensures refused { OnErr result (IsAnnounced (transport_frame_of frame.now)) }
+        ensures* after { sem 𝓛 (Rests the_row self.entry (λ n. MatchResult result
+            (λ _. n ≡ state_after self.old frame.now.stamp (transport_frame_of frame.now))
+            (λ _. n ≡ self.old))) }
+    {
+        let accepted = self
+            .sessions
+            .accept(&mut self.lent, self.alloc, read(frame), frame.stamp)?;
+        Ok(lend(&self.lent, accepted, frame.id.source(), frame.stamp))
+    }
+
+    /// Ends all messages of a source.
+    pub fn forget(&mut self, source: u8)
+        ensures { (E : List Event) → Stands E self.old → Stands (E ++ Forget source ∷ []) self.new }
+    {
+        self.leave_out(source);
+    }
+
+    fn leave_out(&mut self, source: u8)
+        ensures { self.new ≡ state_without self.old source }
+    {
+        self.sessions.forget(source);
+    }
+
+    /// How many messages are open, 0 to 270.
+    pub fn open(&self) -> usize
+        ensures value { result ≡ messages_open self.now }
+        ensures few { result ≤ 270 }
+        ensures after { (E : List Event) → Stands E self.now → AreOpenAfter E result }
+    {
+        self.sessions.open()
+    }
+
+    /// Seven bytes for each packet appended in an open message.
+    pub fn held(&self) -> usize
+        ensures value { result ≡ bytes_held self.now }
+        ensures bounded { result ≤ 1785 * messages_open self.now }
+        ensures after { (E : List Event) → Stands E self.now → AreHeldAfter E result }
+    {
+        self.sessions.held()
+    }
+}
+
+/// The answer, with a whole message lent out of its place.
+fn lend(place: &Place, accepted: Accepted, source: u8, stamp: Stamp) -> Fed<'_>
+    requires { CanLend accepted (held_in place.now) }
+    ensures { outcome_of result ≡ outcome_by accepted source (stamp_micros stamp) (held_in place.now) }
+{
+    match accepted {
+        Accepted::Whole => match place {
+            Some(session) => Fed::Whole(Message {
+                source,
+                pgn: session.group(),
+                payload: session.payload(),
+                stamp,
+            }),
+            None => Fed::Ignored,
+        },
+        Accepted::Taken => Fed::Taken,
+        Accepted::Ignored => Fed::Ignored,
+    }
+}

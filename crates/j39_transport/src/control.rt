@@ -1,0 +1,46 @@
+//! What a receiver says to an open message, and aborts.
+ghost use Rattle.std.specs.Prelude.{◌≡◌};
+ghost use Rattle.j39_frame.specs.Stamp.{stamp_micros};
+ghost use Rattle.j39_transport.specs.Places.{find};
+ghost use Rattle.j39_transport.specs.Steps.{granted, finished, with_place};
+
+use crate::packet::DIRECTED_LIMIT;
+use crate::table::{PAIRS, Table};
+use j39_frame::Stamp;
+
+/// Hands a CTS to the session that it lets go on.
+#[tactic(auto, unfolding(crate::specs::Steps::granted), using(crate::proofs::TableLemmas::set_again, crate::proofs::TableLemmas::set_same))]
+pub(crate) fn grant(table: &mut Table<PAIRS>, source: u8, destination: u8, group: u32, stamp: Stamp)
+    ensures { table.new
+        ≡ with_place (find source destination table.old) (granted group (stamp_micros stamp)) table.old }
+{
+    let Some(place) = table.find(source, destination) else {
+        return;
+    };
+    let Some(mut session) = table.take(place) else {
+        return;
+    };
+    if session.group().raw() == group {
+        if stamp.micros() > session.last().micros() + DIRECTED_LIMIT {
+            return;
+        }
+        session.touch(stamp);
+    }
+    table.put(place, session);
+}
+
+/// Ends the session of this group from one address to another.
+#[tactic(auto, unfolding(crate::specs::Steps::finished, crate::specs::Steps::closed), using(crate::proofs::TableLemmas::set_again, crate::proofs::TableLemmas::set_same))]
+pub(crate) fn finish(table: &mut Table<PAIRS>, source: u8, destination: u8, group: u32)
+    ensures { table.new ≡ finished source destination group table.old }
+{
+    let Some(place) = table.find(source, destination) else {
+        return;
+    };
+    let Some(session) = table.take(place) else {
+        return;
+    };
+    if session.group().raw() != group {
+        table.put(place, session);
+    }
+}

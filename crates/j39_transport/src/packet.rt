@@ -1,0 +1,131 @@
+//! Packets, handed to the open messages that they are of.
+ghost use Rattle.std.specs.Prelude.{◌≡◌, ◌<◌, ◌≤◌, ℕ, length, slice_set};
+ghost use Rattle.j39_frame.specs.Stamp.{stamp_micros};
+ghost use Rattle.j39_transport.specs.Places.{at, held_in, find};
+ghost use Rattle.j39_transport.specs.Steps.{moves, packed, told, told_at, with_place};
+ghost use Rattle.j39_transport.specs.Shown.{shown_move, IsMove, outcome_by, CanLend};
+
+use crate::session::Session;
+use crate::table::{PAIRS, Place, Table};
+use j39_frame::Stamp;
+
+/// The most microseconds between two frames of a broadcast (T1).
+pub(crate) const BROADCAST_LIMIT: u64 = 750_000;
+
+/// The most microseconds between two frames of a directed message (own).
+pub(crate) const DIRECTED_LIMIT: u64 = 1_250_000;
+
+/// What a frame was to the open messages.
+#[derive(Clone, Copy)]
+pub(crate) enum Accepted {
+    Whole,
+    Taken,
+    Ignored,
+}
+
+/// What a packet made of a session.
+#[derive(Drop)]
+pub(crate) enum Moved {
+    Ends(Box<Session>),
+    Grows(Box<Session>),
+    Stays(Box<Session>),
+    Late,
+}
+
+/// The session after the packet of this number and bytes.
+#[tactic(auto, unfolding(crate::specs::Steps::moves))]
+fn after_packet(
+    mut session: Box<Session>,
+    limit: u64,
+    number: u8,
+    bytes: &[u8],
+    stamp: Stamp,
+) -> Moved
+    requires limit { limit ≤ 1250000 }
+    requires seven { length bytes.now ≡ 7 }
+    requires open { session.value.count < session.value.packets }
+    ensures value { shown_move result
+        ≡ moves limit number bytes.now (stamp_micros stamp) session.value }
+    ensures moved { IsMove result }
+{
+    if stamp.micros() > session.last().micros() + limit {
+        return Moved::Late;
+    }
+    if u16::from(number) == u16::from(session.count()) + 1 {
+        session.append(bytes, stamp);
+        if session.count() == session.packets() {
+            Moved::Ends(session)
+        } else {
+            Moved::Grows(session)
+        }
+    } else {
+        session.touch(stamp);
+        Moved::Stays(session)
+    }
+}
+
+/// Hands a packet to the session at a place. A message that is whole stands in `lent` then.
+#[tactic(auto, using(crate::proofs::TableLemmas::set_again, crate::proofs::TableLemmas::set_same))]
+pub(crate) fn pack<const N: usize>(
+    table: &mut Table<N>,
+    place: usize,
+    lent: &mut Place,
+    limit: u64,
+    number: u8,
+    bytes: &[u8],
+    stamp: Stamp,
+) -> Accepted
+    requires place { place < N }
+    requires limit { limit ≤ 1250000 }
+    requires seven { length bytes.now ≡ 7 }
+    ensures table { table.new ≡ slice_set table.old place
+        (packed limit number bytes.now (stamp_micros stamp) (at table.old place)) }
+    ensures lends { CanLend result (held_in lent.new) }
+    ensures told { (source : ℕ)
+        → outcome_by result source (stamp_micros stamp) (held_in lent.new)
+        ≡ told source limit number bytes.now (stamp_micros stamp) (at table.old place) }
+{
+    let Some(session) = table.take(place) else {
+        return Accepted::Ignored;
+    };
+    match after_packet(session, limit, number, bytes, stamp) {
+        Moved::Ends(session) => {
+            *lent = Some(session);
+            Accepted::Whole
+        }
+        Moved::Grows(session) => {
+            table.put(place, session);
+            Accepted::Taken
+        }
+        Moved::Stays(session) => {
+            table.put(place, session);
+            Accepted::Ignored
+        }
+        Moved::Late => Accepted::Ignored,
+    }
+}
+
+/// Hands a packet to the session from one address to another.
+pub(crate) fn pack_directed(
+    table: &mut Table<PAIRS>,
+    source: u8,
+    destination: u8,
+    lent: &mut Place,
+    number: u8,
+    bytes: &[u8],
+    stamp: Stamp,
+) -> Accepted
+    requires { length bytes.now ≡ 7 }
+    ensures table { table.new ≡ with_place (find source destination table.old)
+        (packed 1250000 number bytes.now (stamp_micros stamp)) table.old }
+    ensures lends { CanLend result (held_in lent.new) }
+    ensures told { (from : ℕ)
+        → outcome_by result from (stamp_micros stamp) (held_in lent.new)
+        ≡ told_at (find source destination table.old)
+        (told from 1250000 number bytes.now (stamp_micros stamp)) table.old }
+{
+    match table.find(source, destination) {
+        Some(place) => pack(table, place, lent, DIRECTED_LIMIT, number, bytes, stamp),
+        None => Accepted::Ignored,
+    }
+}
