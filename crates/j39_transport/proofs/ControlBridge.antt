@@ -5,8 +5,8 @@ use Rattle.j39_frame.specs.Frame.{FrameRecord}
 use Rattle.j39_transport.specs.Key.{Key, sender, goes_to, opening}
 use Rattle.j39_transport.specs.Frames.{goes, group_of, source_of, destination_of, pgn_named, is_announcement, is_packet, is_control, is_clear_to_send, is_end, is_rival}
 use Rattle.j39_transport.specs.Key.Key.{Broadcast, Directed}
-use Rattle.j39_transport.specs.Assembly.{Event, announces, sends, grants, ends, rivals, number, payload, stamp}
-use Rattle.j39_transport.specs.Assembly.Event.{Frame}
+use Rattle.j39_transport.specs.Events.{Event, announces, sends, grants, ends, rivals, number, payload, stamp}
+use Rattle.j39_transport.specs.Events.Event.{Frame}
 use Rattle.j39_transport.specs.EventSteps.{moved, moved_place, entry_of}
 use Rattle.j39_transport.specs.Session.{SessionRecord}
 use Rattle.j39_transport.specs.Places.{is_of}

@@ -2,7 +2,7 @@
 use Rattle.std.proofs.Common.{◌≡◌, ℕ, suc, ◌+◌, ◌<◌, Bool, true, false, if◌then◌else◌, ◌&&◌, ◌||◌, List, ◌++◌, Option, Some, None, refl, ap, ◌∙◌, arith, nat_lt, ◌==◌, ltb-true}
 use Rattle.std.proofs.lemmas.Bool.{cond-false, false_from_ne_true}
 use Rattle.j39_transport.specs.Key.{Key, limit}
-use Rattle.j39_transport.specs.Assembly.{Event, announces, sends, grants, ends, rivals, number, payload, stamp}
+use Rattle.j39_transport.specs.Events.{Event, announces, sends, grants, ends, rivals, number, payload, stamp}
 use Rattle.j39_transport.specs.EventSteps.{Session, is_over, moved, is_late, is_crowded}
 use Rattle.j39_transport.specs.Session as record_of
 use Rattle.j39_transport.specs.Session.{SessionRecord}
@@ -110,11 +110,3 @@ granted_is i g st s = go (s.group == g) (nat_lt (s.last + 1250000) st)
     go true true = refl
     go true false = refl
     go false b = refl
-
-pub closed_is : (i g : ℕ) (s : SessionRecord) → session_in i (closed g (Some s)) ≡ (if s.group == g then None else Some (full i s))
-unfolding closed
-closed_is i g s = go (s.group == g)
-  where
-    go : (a : Bool) → session_in i (if a then None else Some s) ≡ (if a then None else Some (full i s))
-    go true = refl
-    go false = refl

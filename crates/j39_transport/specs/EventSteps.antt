@@ -3,11 +3,12 @@ use Rattle.std.specs.Prelude.{ℕ, suc, ◌+◌, Bool, if◌then◌else◌, ◌&
 use Rattle.j39_transport.specs.Key.{Key, limit}
 use Rattle.j39_transport.specs.Key.Key.{Broadcast, Directed}
 use Rattle.j39_transport.specs.Frames.{source_of, destination_of}
-use Rattle.j39_transport.specs.Assembly.{Event, announces, ends, rivals, payload, size, packets, group, stamp, belongs, is_numbered}
-use Rattle.j39_transport.specs.Assembly.Event.{Frame, Forget}
+use Rattle.j39_transport.specs.Events.{Event, announces, ends, rivals, payload, size, packets, group, stamp, belongs, is_numbered}
+use Rattle.j39_transport.specs.Events.Event.{Frame, Forget}
 
 -- ---- one key
 
+-- an open message
 pub record Session : Type 0 where
   pub packets_due : ℕ
   pub size_due : ℕ
@@ -62,6 +63,7 @@ step k e o = if announces k e then Some (opened e) else on_other k e o
 
 -- ---- all keys
 
+-- a place with the message of a pair
 pub record Entry : Type 0 where
   pub from : ℕ
   pub to : ℕ
@@ -71,6 +73,7 @@ abbrev pub entry_of : ℕ → ℕ → Option Session → Option Entry
 entry_of s d None = None
 entry_of s d (Some x) = Some (record { from = s; to = d; session = x })
 
+-- how an event moves a place; one that announces the place's message again leaves it empty
 abbrev pub moved_place : Event → Option Entry → Option Entry
 moved_place e None = None
 moved_place e (Some y) = if announces (Directed y.from y.to) e then None else entry_of y.from y.to (moved (Directed y.from y.to) e y.session)

@@ -2,7 +2,8 @@
 use Rattle.std.specs.Prelude.{◌≡◌, ℕ, suc, ◌+◌, ◌<◌, true, false, List, [], ◌∷◌, map, length, get_or, Option, Some, None}
 use Rattle.j39_transport.specs.Key.{Key}
 use Rattle.j39_transport.specs.Key.Key.{Broadcast, Directed}
-use Rattle.j39_transport.specs.Assembly.{Event, at, rivals, size, packets, stamp, belongs, count_below, joined, OpenBy}
+use Rattle.j39_transport.specs.Events.{Event, at, rivals, size, packets, stamp, belongs}
+use Rattle.j39_transport.specs.Assembly.{count_below, joined, OpenBy}
 use Rattle.j39_transport.specs.EventSteps.{Session, Entry, Table}
 use Rattle.j39_transport.specs.Session.{SessionRecord}
 use Rattle.j39_transport.specs.Places.{Places}
