@@ -30,10 +30,10 @@ abbrev pub after_after : Key → Event → Session → ℕ
 after_after k e x = if rivals k e then suc x.after else x.after
 
 abbrev pub touched : Key → Event → Session → Session
-touched k e x = record { packets_due = x.packets_due; size_due = x.size_due; group_due = x.group_due; count = x.count; bytes = x.bytes; last = last_after k e x; after = after_after k e x }
+touched k e x = record x { last = last_after k e x; after = after_after k e x }
 
 abbrev pub grown : Key → Event → Session → Session
-grown k e x = record { packets_due = x.packets_due; size_due = x.size_due; group_due = x.group_due; count = suc x.count; bytes = x.bytes ++ payload e; last = last_after k e x; after = after_after k e x }
+grown k e x = record x { count = suc x.count; bytes = x.bytes ++ payload e; last = last_after k e x; after = after_after k e x }
 
 -- what is out of time, and the sixteenth announcement
 unfoldable pub is_late : Key → Event → Session → Bool
