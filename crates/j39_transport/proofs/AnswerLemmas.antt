@@ -141,17 +141,17 @@ module _ (E : List Event) (f : FrameRecord) (a : AssemblerRecord) (h : Stands E 
   announcement_answer : (k : Key) → is_announcement k f ≡ true → AnswersAt E f answers.Taken
   announcement_answer k p = (inl (k, p), no_packet_no_whole E f a h (λ j. sym (ev_sends j f) ∙ announced_no_packet k j f p))
 
-  control_answer : (b s d g : ℕ) → IsControl b s d g f → b ≢ 16 → b ≢ 32 → AnswersAt E f answers.Ignored
-  control_answer b s d g c n m = ignored E f a h (λ k. sym (ev_announces k f) ∙ no_opening b s d g f c n m k) (λ k. sym (ev_sends k f) ∙ no_pack b s d g f c k)
+  control_answer : (b s d g : ℕ) → IsControl b s d g f → AnswersAt E f answers.Ignored
+  control_answer b s d g c = ignored E f a h (λ k. sym (ev_announces k f) ∙ no_opening b s d g f c k) (λ k. sym (ev_sends k f) ∙ no_pack b s d g f c k)
 
   answer_is : (r : TransportFrame) → Facts f r → AnswersAt E f (answer a (source_of f.id) f.stamp r)
   unfolding answer
   answer_is (Announcement k g n p) c = announcement_answer k c.announces_it
   answer_is (Packet (Broadcast s) n bs) c = subst (λ (o : answers.Outcome). AnswersAt E f o) (λ i. told (sym (packet_facts (Broadcast s) f c.packs_it).source i) 750000 (sym c.number_is i) (sym c.data_are i) f.stamp (at a.broadcasts s)) (packs_broadcast s c.packs_it)
   answer_is (Packet (Directed s d) n bs) c = subst (λ (o : answers.Outcome). AnswersAt E f o) (λ i. told_at (find s d a.directed) (told (sym (packet_facts (Directed s d) f c.packs_it).source i) 1250000 (sym c.number_is i) (sym c.data_are i) f.stamp) a.directed) (packs_directed s d c.packs_it)
-  answer_is (ClearToSend s d g) c = control_answer 17 s d g c (λ e. let o : ⊥ = omega arith in o) (λ e. let o : ⊥ = omega arith in o)
-  answer_is (Acknowledgment s d g) c = control_answer 19 s d g c (λ e. let o : ⊥ = omega arith in o) (λ e. let o : ⊥ = omega arith in o)
-  answer_is (Abort s d g) c = control_answer 255 s d g c (λ e. let o : ⊥ = omega arith in o) (λ e. let o : ⊥ = omega arith in o)
+  answer_is (ClearToSend s d g) c = control_answer 17 s d g c
+  answer_is (Acknowledgment s d g) c = control_answer 19 s d g c
+  answer_is (Abort s d g) c = control_answer 255 s d g c
   answer_is Other c = ignored E f a h c.no_announcement c.no_packet
 
   pub answers_at : AnswersAt E f (answer a (source_of f.id) f.stamp (transport_frame_of f))

@@ -12,10 +12,10 @@ use Rattle.j39_transport.specs.Stands.{full}
 
 -- the session with its last stamp and its age
 abbrev pub set_to : ℕ → ℕ → Session → Session
-set_to l a x = record { packets_due = x.packets_due; size_due = x.size_due; group_due = x.group_due; count = x.count; bytes = x.bytes; last = l; after = a }
+set_to l a x = record x { last = l; after = a }
 
 abbrev pub more_to : List ℕ → ℕ → ℕ → Session → Session
-more_to d l a x = record { packets_due = x.packets_due; size_due = x.size_due; group_due = x.group_due; count = suc x.count; bytes = x.bytes ++ d; last = l; after = a }
+more_to d l a x = record x { count = suc x.count; bytes = x.bytes ++ d; last = l; after = a }
 
 abbrev pub moved_by : (A S G N R : Bool) → (lim num st : ℕ) → List ℕ → Session → Option Session
 moved_by A S G N R lim num st d x =

@@ -18,6 +18,8 @@ pub record IsNoFrame (f : FrameRecord) : Type 0 where
 
 pub record IsControl (b s d g : ℕ) (f : FrameRecord) : Type 0 where
   pub goes_back : goes 60416 d s f ≡ true
+  pub no_rts : b ≢ 16
+  pub no_bam : b ≢ 32
   pub first : slice_index f.bytes 0 ≡ b
   pub group_is : g ≡ pgn_named f
 
@@ -183,12 +185,15 @@ module _ (f : FrameRecord) (a : group_of f.id ≡ 60416) (b : length f.bytes ≡
 control_is : (f : FrameRecord) → group_of f.id ≡ 60416 → length f.bytes ≡ 8 → Facts f (control_of f)
 unfolding control_of
 control_is f a b = cond_both (slice_index f.bytes 0 == 17) _ _ (Facts f)
-    (λ t. record { goes_back = goes_from 60416 f a b; first = eqb-true _ _ t; group_is = refl })
+    (λ t. from_first 17 ((λ e. let o : ⊥ = omega arith in o), (λ e. let o : ⊥ = omega arith in o)) t)
     (λ t. cond_both (slice_index f.bytes 0 == 19) _ _ (Facts f)
-    (λ u. record { goes_back = goes_from 60416 f a b; first = eqb-true _ _ u; group_is = refl })
+    (λ u. from_first 19 ((λ e. let o : ⊥ = omega arith in o), (λ e. let o : ⊥ = omega arith in o)) u)
     (λ u. cond_both (slice_index f.bytes 0 == 255) _ _ (Facts f)
-    (λ v. record { goes_back = goes_from 60416 f a b; first = eqb-true _ _ v; group_is = refl })
+    (λ v. from_first 255 ((λ e. let o : ⊥ = omega arith in o), (λ e. let o : ⊥ = omega arith in o)) v)
     (λ v. announced_is f a b (eqb-false _ _ t) (eqb-false _ _ u) (eqb-false _ _ v) (key_named (source_of f.id) (destination_of f.id)) (key_is (source_of f.id) (destination_of f.id)))))
+  where
+    from_first : (n : ℕ) → (n ≡ 16 → ⊥) × (n ≡ 32 → ⊥) → (slice_index f.bytes 0 == n) ≡ true → IsControl n (destination_of f.id) (source_of f.id) (pgn_named f) f
+    from_first n apart t = record { goes_back = goes_from 60416 f a b; no_rts = apart.0; no_bam = apart.1; first = eqb-true _ _ t; group_is = refl }
 
 pub read_is : (f : FrameRecord) → Facts f (transport_frame_of f)
 unfolding transport_frame_of

@@ -22,7 +22,7 @@ use Rattle.j39_transport.proofs.PlaceLemmas.{Change, on_pair, Once, with_once, r
 use Rattle.j39_transport.proofs.Bridge.{packs_place, packs_other, broadcast_place, rival_place, ev_announces, ev_sends, announced_no_packet, place_moves, quiet_moves, key_in}
 use Rattle.j39_transport.proofs.ControlBridge.{grants_place, finishes_place, aborts_place, other_place, no_pack, no_opening}
 use Rattle.j39_transport.proofs.Sums.{Apart, are_apart}
-use Rattle.j39_transport.proofs.AllKeys.{table_more, table_new}
+use Rattle.j39_transport.proofs.AllKeys.{quiet_step, table_more, table_new}
 
 -- ---- the directed messages
 
@@ -49,8 +49,8 @@ one_change : (f : FrameRecord) (s d : ℕ) (g : Change) (t : Places) → Apart (
     → aged 0 (with_place (find s d t) g t) ≡ directed_step (Frame f) (aged 0 t)
 one_change f s d g t u n h = sym (quietly f (on_pair s d g) t n h ∙ ap (aged 0) (sym (with_once s d g t (once_of t u s d))))
 
-pub control_no_announcement : (b s d g : ℕ) (f : FrameRecord) → IsControl b s d g f → b ≢ 16 → b ≢ 32 → is_announcement (Directed (source_of f.id) (destination_of f.id)) f ≡ false
-control_no_announcement b s d g f c n m = sym (ev_announces (Directed (source_of f.id) (destination_of f.id)) f) ∙ no_opening b s d g f c n m (Directed (source_of f.id) (destination_of f.id))
+pub control_no_announcement : (b s d g : ℕ) (f : FrameRecord) → IsControl b s d g f → is_announcement (Directed (source_of f.id) (destination_of f.id)) f ≡ false
+control_no_announcement b s d g f c = sym (ev_announces (Directed (source_of f.id) (destination_of f.id)) f) ∙ no_opening b s d g f c (Directed (source_of f.id) (destination_of f.id))
 
 pub packet_no_announcement : (j k : Key) (f : FrameRecord) → is_packet j f ≡ true → is_announcement k f ≡ false
 packet_no_announcement j k f h = sym (ev_announces k f) ∙ (sends-others j k k 0 (Frame f) (ev_sends j f ∙ h)).no_announcement
@@ -100,20 +100,14 @@ directed_after f (Packet (Broadcast s) n bs) a h u = unchanged f a.directed (pac
 directed_after f (Packet (Directed s d) n bs) a h u =
     (λ i. aged 0 (with_place (find s d a.directed) (packed 1250000 (h.number_is i) (h.data_are i) f.stamp) a.directed))
     ∙ one_change f s d (packed 1250000 (slice_index f.bytes 0) (drop 1 f.bytes) f.stamp) a.directed u (packet_no_announcement (Directed s d) _ f h.packs_it) (packs_place s d f h.packs_it)
-directed_after f (ClearToSend s d g) a h u = one_change f s d (granted g f.stamp) a.directed u (control_no_announcement 17 s d g f h (λ e. let o : ⊥ = omega arith in o) (λ e. let o : ⊥ = omega arith in o)) (grants_place s d g f h)
-directed_after f (Acknowledgment s d g) a h u = one_change f s d (closed g) a.directed u (control_no_announcement 19 s d g f h (λ e. let o : ⊥ = omega arith in o) (λ e. let o : ⊥ = omega arith in o)) (finishes_place s d g f h)
+directed_after f (ClearToSend s d g) a h u = one_change f s d (granted g f.stamp) a.directed u (control_no_announcement 17 s d g f h) (grants_place s d g f h)
+directed_after f (Acknowledgment s d g) a h u = one_change f s d (closed g) a.directed u (control_no_announcement 19 s d g f h) (finishes_place s d g f h)
 directed_after f (Abort s d g) a h u =
-    sym (quietly f (λ p. on_pair d s (closed g) (on_pair s d (closed g) p)) a.directed (control_no_announcement 255 s d g f h (λ e. let o : ⊥ = omega arith in o) (λ e. let o : ⊥ = omega arith in o)) (aborts_place s d g f h)
+    sym (quietly f (λ p. on_pair d s (closed g) (on_pair s d (closed g) p)) a.directed (control_no_announcement 255 s d g f h) (aborts_place s d g f h)
     ∙ ap (aged 0) (sym (both_closed s d g a.directed u)))
 directed_after f Other a h u = unchanged f a.directed (h.no_announcement (Directed (source_of f.id) (destination_of f.id))) (other_place f h)
 
 -- ---- the broadcasts
-
--- an event that is nothing to the broadcast of its source
-pub quiet_step : (e : Event) (s : ℕ) (o : Option Session) → announces (Broadcast s) e ≡ false → sends (Broadcast s) e ≡ false → ((g : ℕ) → grants (Broadcast s) g e ≡ false) → ((g : ℕ) → ends (Broadcast s) g e ≡ false) → rivals (Broadcast s) e ≡ false
-    → step (Broadcast s) e o ≡ o
-quiet_step e s None a b c d r = cond-false _ _ _ a
-quiet_step e s (Some x) a b c d r = cond-false _ _ _ a ∙ moved_none (Broadcast s) e x a b (c x.group_due) (d x.group_due) r
 
 frame_none : (s : ℕ) (f : FrameRecord) → ((g : ℕ) → grants (Broadcast s) g (Frame f) ≡ false) × ((g : ℕ) → ends (Broadcast s) g (Frame f) ≡ false) × (rivals (Broadcast s) (Frame f) ≡ false)
 unfolding grants ends rivals is_clear_to_send is_end is_rival
@@ -144,9 +138,9 @@ packed_step s f (Some x) h =
     ∙ (packed_is 0 750000 (slice_index f.bytes 0) f.stamp (drop 1 f.bytes) x
     ∙ (sym (moved_packet (Broadcast s) (Frame f) (full 0 x) a (ev_sends (Broadcast s) f ∙ h) (n.0 x.group) (n.1 x.group) n.2) ∙ sym (cond-false _ _ _ a)))
 
-control_broadcasts : (b s d g : ℕ) (f : FrameRecord) (a : AssemblerRecord) → IsControl b s d g f → b ≢ 16 → b ≢ 32 → map broadcast_in a.broadcasts ≡ broadcast_step (Frame f) (map broadcast_in a.broadcasts)
-control_broadcasts b s d g f a c n m = quiet_broadcasts f (map broadcast_in a.broadcasts)
-    (sym (ev_announces (Broadcast (source_of f.id)) f) ∙ no_opening b s d g f c n m (Broadcast (source_of f.id)))
+control_broadcasts : (b s d g : ℕ) (f : FrameRecord) (a : AssemblerRecord) → IsControl b s d g f → map broadcast_in a.broadcasts ≡ broadcast_step (Frame f) (map broadcast_in a.broadcasts)
+control_broadcasts b s d g f a c = quiet_broadcasts f (map broadcast_in a.broadcasts)
+    (sym (ev_announces (Broadcast (source_of f.id)) f) ∙ no_opening b s d g f c (Broadcast (source_of f.id)))
     (sym (ev_sends (Broadcast (source_of f.id)) f) ∙ no_pack b s d g f c (Broadcast (source_of f.id)))
 
 -- the broadcasts after a reading
@@ -175,9 +169,9 @@ broadcasts_after f (Packet (Directed s d) n bs) a h = quiet_broadcasts f (map br
     let y : destination_of f.id ≡ d = q.destination in
     let l : d < 254 = ltb-true _ _ (and_parts (nat_lt s 254) (nat_lt d 254) q.key).1 in
     let o : ⊥ = omega arith in o))
-broadcasts_after f (ClearToSend s d g) a h = control_broadcasts 17 s d g f a h (λ e. let o : ⊥ = omega arith in o) (λ e. let o : ⊥ = omega arith in o)
-broadcasts_after f (Acknowledgment s d g) a h = control_broadcasts 19 s d g f a h (λ e. let o : ⊥ = omega arith in o) (λ e. let o : ⊥ = omega arith in o)
-broadcasts_after f (Abort s d g) a h = control_broadcasts 255 s d g f a h (λ e. let o : ⊥ = omega arith in o) (λ e. let o : ⊥ = omega arith in o)
+broadcasts_after f (ClearToSend s d g) a h = control_broadcasts 17 s d g f a h
+broadcasts_after f (Acknowledgment s d g) a h = control_broadcasts 19 s d g f a h
+broadcasts_after f (Abort s d g) a h = control_broadcasts 255 s d g f a h
 broadcasts_after f Other a h = quiet_broadcasts f (map broadcast_in a.broadcasts) (h.no_announcement (Broadcast (source_of f.id))) (h.no_packet (Broadcast (source_of f.id)))
 
 -- ---- one event more

@@ -41,7 +41,8 @@ NoneWhole E f = (m : Message) → WholeBy E f m → ⊥
 
 -- what is answered to the frame f after E
 abbrev pub AnswersAt : List Event → FrameRecord → Outcome → Type 0
-AnswersAt E f (Whole source group bytes stamp) = (stamp ≡ f.stamp) × WholeBy E f (record { source = source; group = group; bytes = bytes })
+AnswersAt E f (Whole source group bytes stamp) =
+    (stamp ≡ f.stamp) × WholeBy E f (record { source = source; group = group; bytes = bytes })
 AnswersAt E f Taken = IsTaken E f × NoneWhole E f
 AnswersAt E f Ignored = (IsTaken E f → ⊥) × NoneWhole E f
 

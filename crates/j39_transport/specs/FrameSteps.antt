@@ -26,7 +26,10 @@ key_named s d =
 
 unfoldable pub announced_by : FrameRecord → Option Key → TransportFrame
 announced_by f None = Other
-announced_by f (Some k) = if slice_index f.bytes 0 == opening k && names_message f then Announcement k (pgn_named f) (size_named f) (packets_named f) else Other
+announced_by f (Some k) =
+    if slice_index f.bytes 0 == opening k && names_message f
+    then Announcement k (pgn_named f) (size_named f) (packets_named f)
+    else Other
 
 unfoldable pub packed_by : FrameRecord → Option Key → TransportFrame
 packed_by f None = Other
@@ -41,6 +44,7 @@ control_of f =
 
 unfoldable pub transport_frame_of : FrameRecord → TransportFrame
 transport_frame_of f =
-    if group_of f.id == transport_data_group && length f.bytes == 8 then packed_by f (key_named (source_of f.id) (destination_of f.id))
+    if group_of f.id == transport_data_group && length f.bytes == 8
+    then packed_by f (key_named (source_of f.id) (destination_of f.id))
     else if group_of f.id == transport_control_group && length f.bytes == 8 then control_of f
     else Other

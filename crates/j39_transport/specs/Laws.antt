@@ -6,7 +6,8 @@ use Rattle.j39_transport.specs.Assembly.{Whole, Opens}
 
 -- at a place at most one message is whole
 abbrev pub OneMessageLaw : Type 0
-OneMessageLaw = (E : List Event) (i : ℕ) (k j : Key) (g h : ℕ) (b c : List ℕ) → Whole E i k g b → Whole E i j h c → (k ≡ j) × (g ≡ h) × (b ≡ c)
+OneMessageLaw = (E : List Event) (i : ℕ) (k j : Key) (g h : ℕ) (b c : List ℕ)
+    → Whole E i k g b → Whole E i j h c → (k ≡ j) × (g ≡ h) × (b ≡ c)
 
 -- it is whole at a packet of its own
 abbrev pub AtPacketLaw : Type 0
@@ -14,4 +15,5 @@ AtPacketLaw = (E : List Event) (i : ℕ) (k : Key) (g : ℕ) (b : List ℕ) → 
 
 -- how many messages are open, and with how many bytes, is determined: at most 270, with at most 1,785 bytes each
 abbrev pub CountsLaw : Type 0
-CountsLaw = (E : List Event) (n m held kept : ℕ) → Opens E all_keys n held → Opens E all_keys m kept → (n ≡ m) × (held ≡ kept) × (n ≤ 270) × (held ≤ 1785 * n)
+CountsLaw = (E : List Event) (n m held kept : ℕ) → Opens E all_keys n held → Opens E all_keys m kept
+    → (n ≡ m) × (held ≡ kept) × (n ≤ 270) × (held ≤ 1785 * n)

@@ -80,15 +80,15 @@ with_announced s d x t = pushed 15 x (slice_set t (room (find s d t)) None)
 
 -- the state after an announcement, whose session is x
 abbrev pub announced : AssemblerRecord → Key → SessionRecord → AssemblerRecord
-announced a (Broadcast s) x = record { broadcasts = slice_set a.broadcasts s (Some x); directed = a.directed }
-announced a (Directed s d) x = record { broadcasts = a.broadcasts; directed = with_announced s d x a.directed }
+announced a (Broadcast s) x = record a { broadcasts = slice_set a.broadcasts s (Some x) }
+announced a (Directed s d) x = record a { directed = with_announced s d x a.directed }
 
 -- the state after a packet, and the answer
 abbrev pub after_packet : AssemblerRecord → ℕ → Key → ℕ → List ℕ → AssemblerRecord
 after_packet a stamp (Broadcast s) number joined =
-    record { broadcasts = slice_set a.broadcasts s (packed 750000 number joined stamp (at a.broadcasts s)); directed = a.directed }
+    record a { broadcasts = slice_set a.broadcasts s (packed 750000 number joined stamp (at a.broadcasts s)) }
 after_packet a stamp (Directed s d) number joined =
-    record { broadcasts = a.broadcasts; directed = with_place (find s d a.directed) (packed 1250000 number joined stamp) a.directed }
+    record a { directed = with_place (find s d a.directed) (packed 1250000 number joined stamp) a.directed }
 
 abbrev pub answer_to_packet : AssemblerRecord → ℕ → ℕ → Key → ℕ → List ℕ → Outcome
 answer_to_packet a source stamp (Broadcast s) number joined = told source 750000 number joined stamp (at a.broadcasts s)
@@ -99,10 +99,10 @@ unfoldable pub state_after : AssemblerRecord → ℕ → TransportFrame → Asse
 state_after a stamp (Announcement k group size packets) = announced a k (opened k group size packets stamp)
 state_after a stamp (Packet k number joined) = after_packet a stamp k number joined
 state_after a stamp (ClearToSend s d group) =
-    record { broadcasts = a.broadcasts; directed = with_place (find s d a.directed) (granted group stamp) a.directed }
-state_after a stamp (Acknowledgment s d group) = record { broadcasts = a.broadcasts; directed = finished s d group a.directed }
+    record a { directed = with_place (find s d a.directed) (granted group stamp) a.directed }
+state_after a stamp (Acknowledgment s d group) = record a { directed = finished s d group a.directed }
 state_after a stamp (Abort s d group) =
-    record { broadcasts = a.broadcasts; directed = finished d s group (finished s d group a.directed) }
+    record a { directed = finished d s group (finished s d group a.directed) }
 state_after a stamp Other = a
 
 unfoldable pub answer : AssemblerRecord → ℕ → ℕ → TransportFrame → Outcome

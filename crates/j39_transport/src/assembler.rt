@@ -85,16 +85,17 @@ impl Assembler {
             (λ _. n ≡ self.old))) }
     {
         if frame.id.is_transport_data() || frame.id.is_transport_control() {
-            self.take(frame)
+            self.hand_on(frame)
         } else {
             Ok(Fed::Ignored)
         }
     }
 
-    /// Hands a frame to the open messages, and answers what it was.
+    /// Hands a frame to the open messages, and answers what it was. Out of line: so a frame of
+    /// another group pays nothing for it.
     #[tactic(auto, unfolding(crate::specs::Frames::source_of))]
     #[inline(never)]
-    fn take(&mut self, frame: &Frame) -> Result<Fed<'_>, AllocError>
+    fn hand_on(&mut self, frame: &Frame) -> Result<Fed<'_>, AllocError>
         ensures answer { IfOk result (λ fed. outcome_of fed
             ≡ answer self.old (source_of frame.now.id) frame.now.stamp (transport_frame_of frame.now)) }
         ensures refused { OnErr result (IsAnnounced (transport_frame_of frame.now)) }
