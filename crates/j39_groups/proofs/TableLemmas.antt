@@ -1,8 +1,8 @@
 -- What holds of the whole table, row by row.
-use Rattle.std.proofs.Common.{sym, ◌≡◌, ◌<◌, ◌≤◌, ◌+◌, ◌%◌, ◌==◌, ◌++◌, ℕ, eqb, List, [], ◌∷◌, Bool, length, get_or, take, refl, ap, ◌∙◌, true, false, arith, map, inl, inr}
+use Rattle.std.proofs.Common.{sym, ◌≡◌, ◌<◌, ◌≤◌, ◌+◌, ◌/◌, ◌%◌, ◌^◌, ◌==◌, ◌++◌, ℕ, eqb, List, [], ◌∷◌, Bool, length, get_or, take, refl, ap, ◌∙◌, true, false, arith, map, inl, inr}
 use Rattle.std.specs.Bool.{OnFalse}
 use Rattle.std.proofs.lemmas.Nat.{and_mask}
-use Rattle.std.specs.Prelude.{bit_and, cond, count_by, filter, slice_get, if◌then◌else◌, Option, Some, None}
+use Rattle.std.specs.Prelude.{nat_le, slice_index, bit_and, cond, count_by, filter, slice_get, if◌then◌else◌, Option, Some, None}
 use Rattle.std.specs.List.{filter_map, Contains, All, list_all, list_any}
 use Rattle.std.specs.Option.{option_to_list, option_map}
 use Rattle.std.proofs.lemmas.Bool.{and_parts, cases_Bool, ltb-true, leb-true, eq-eqb, eqb-true, eqb-false, ne_eqb, false≢true}
@@ -12,14 +12,12 @@ use Rattle.std.proofs.lemmas.List.Elements.{All-contains, All-head, All-tail, fi
 use Rattle.j39_groups.specs.declared.table.Field.{Field}
 use Rattle.j39_groups.specs.declared.table.Field.TheVariants.{Number, Switch, Text}
 use Rattle.j39_groups.specs.declared.table.Row.{Row}
-use Rattle.j39_groups.specs.Table.{the_table, low_bit}
-use Rattle.j39_groups.specs.Sound.{is_sound_table, is_sound_row, is_sound, IsSound}
-use Rattle.j39_groups.specs.Slots.{NumberRecord, number_at}
+use Rattle.j39_groups.specs.declared.table.TheConstants.{LOW_BYTES}
+use Rattle.j39_groups.specs.Row.{RowRecord}
+use Rattle.j39_groups.specs.Table.{the_table}
+use Rattle.j39_groups.specs.CodeRows.{is_sound_table, is_sound, IsSound}
+use Rattle.j39_groups.specs.Slots.{SizedSlotRecord, slot_at}
 use Rattle.j39_groups.proofs.ListLemmas.{lone, contains_filter_map}
-
-pub table_sound : is_sound_table the_table ≡ true
-unfolding the_table
-table_sound = refl
 
 field_sound : (field : Field) → is_sound field ≡ true → IsSound field
 field_sound (Number first last slot) h =
@@ -45,7 +43,7 @@ pub room : (rows : List Row) (pgn i : ℕ) (d : Row) → is_sound_table rows ≡
     → count_by (λ row. row.pgn == pgn) (take i rows) < 8
 room rows pgn i d h below same =
     let each = AllPass-from_list_all _ rows h in
-    let whole : count_by (λ row. row.pgn == (get_or rows i d).pgn) rows ≤ 8 = leb-true _ _ (and_parts _ _ (and_parts _ _ (each i d below)).1).0 in
+    let whole : count_by (λ row. row.pgn == (get_or rows i d).pgn) rows ≤ 8 = leb-true _ _ (and_parts _ _ (each i d below)).1 in
     let group : count_by (λ row. row.pgn == pgn) rows ≤ 8 = rw same at whole in
     let front = sum_by-take-le (λ row. cond (row.pgn == pgn) 1 0) rows (i + 1) in
     let more = count_by_more_yes (λ row. row.pgn == pgn) rows i d below (eq-eqb _ _ same) in
@@ -89,13 +87,24 @@ counted_more p (x ∷ xs) i below = elim (cases_Bool (p (get_or (x ∷ xs) i x))
   | inr is_none ↦ let more = count_by_more_no p (x ∷ xs) i x below is_none in omega (arith, more)
 ]
 
--- a parameter that is a number in one row is that number
-pub number_only : (rows : List Row) (row : Row) (n : NumberRecord) → is_sound_table rows ≡ true → Contains rows row
-    → number_at row.spn row ≡ Some n → slice_get (filter_map (number_at row.spn) rows) 0 ≡ Some n
-number_only rows row n h listed here =
-    let test = All-contains (λ r. is_sound_row rows r ≡ true) rows row (AllPass-from_list_all _ rows h) listed in
-    let few = leb-true _ _ (and_parts _ _ (and_parts _ _ test).1).1 in
-    lone _ n few (contains_filter_map (number_at row.spn) rows row n listed here)
+-- no parameter has a slot in two rows
+abbrev has_one_slot : RowRecord → Bool
+has_one_slot row = nat_le (length (filter_map (slot_at row.spn) the_table)) 1
+
+one_slot_each : list_all has_one_slot the_table ≡ true
+unfolding the_table
+one_slot_each = refl
+
+-- a parameter that has a slot in one row has that slot
+pub slot_only : (row : RowRecord) (n : SizedSlotRecord) → Contains the_table row
+    → slot_at row.spn row ≡ Some n → slice_get (filter_map (slot_at row.spn) the_table) 0 ≡ Some n
+slot_only row n listed here =
+    let few = leb-true _ _ (All-contains (λ r. has_one_slot r ≡ true) the_table row (AllPass-from_list_all _ the_table one_slot_each) listed) in
+    lone _ n few (contains_filter_map (slot_at row.spn) the_table row n listed here)
+
+-- the bit of a group's low byte
+unfoldable pub low_bit : ℕ → ℕ
+low_bit pgn = slice_index LOW_BYTES (pgn / 64 % 4) / 2 ^ (pgn % 64) % 2
 
 low_bits_set : list_all (λ row. low_bit row.pgn == 1) the_table ≡ true
 unfolding the_table low_bit
@@ -125,3 +134,19 @@ filter_unlisted p (x ∷ xs) h = elim (cases_Bool (p x)) [
   | inl passes ↦ let same : list_any p (x ∷ xs) ≡ true = rw passes refl in absurd (false≢true (sym h ∙ same))
   | inr fails ↦ let rest : list_any p xs ≡ false = rw fails at h in rw fails (filter_unlisted p xs rest)
 ]
+
+-- what is asked of the rows of a list, asked of what is seen of them
+pub filter-seen : {X Y : Type 0} (view : X → Y) (p : Y → Bool) (xs : List X) → filter p (map view xs) ≡ map view (filter (λ x. p (view x)) xs)
+filter-seen view p [] = refl
+filter-seen view p (x ∷ xs) = elim (cases_Bool (p (view x))) [
+  | inl passes ↦ rw passes (ap (λ ys. view x ∷ ys) (filter-seen view p xs))
+  | inr fails ↦ rw fails (filter-seen view p xs)
+]
+
+pub filter_map-seen : {X Y Z : Type 0} (view : X → Y) (f : Y → Option Z) (xs : List X) → filter_map f (map view xs) ≡ filter_map (λ x. f (view x)) xs
+filter_map-seen view f [] = refl
+filter_map-seen view f (x ∷ xs) = rw (filter_map-seen view f xs) refl
+
+pub list_any-seen : {X Y : Type 0} (view : X → Y) (p : Y → Bool) (xs : List X) → list_any p (map view xs) ≡ list_any (λ x. p (view x)) xs
+list_any-seen view p [] = refl
+list_any-seen view p (x ∷ xs) = rw (list_any-seen view p xs) refl

@@ -2,9 +2,10 @@
 ghost use Rattle.std.specs.Prelude.{◌≡◌, ◌+◌, ◌-◌, ◌/◌, ◌%◌, ◌^◌, ◌<◌, ◌≤◌, length, slice_get};
 ghost use Rattle.std.specs.Option.{option_map, option_and_then};
 ghost use Rattle.byteorder.specs.Endian.{little_number};
-ghost use Rattle.j39_groups.specs.Sound.{IsSound, IsSoundNumber};
+ghost use Rattle.j39_groups.specs.CodeRows.{field_record, IsSound, IsSoundNumber};
 ghost use Rattle.j39_groups.specs.Parts.{parts_of};
 ghost use Rattle.j39_groups.specs.Shown.{value_of, slot_record};
+ghost use Rattle.j39_groups.specs.Ranges.{is_valid};
 ghost use Rattle.j39_groups.specs.Readings.{value_at, raw_number, number_meaning, by_top_byte, switch_meaning, text_meaning};
 
 use crate::slot::Slot;
@@ -15,7 +16,7 @@ use byteorder::{ByteOrder, LittleEndian};
 /// The value in a field; `None` where the payload does not reach it or it is not available.
 pub(crate) fn value_at(bytes: &[u8], field: Field) -> Option<Value<'_>>
     requires { IsSound field }
-    ensures { option_map value_of result ≡ value_at bytes.now field }
+    ensures { option_map value_of result ≡ value_at bytes.now (field_record field) }
 {
     match field {
         Field::Number { first, last, slot } => number_at(bytes, first, last, slot),
@@ -45,11 +46,11 @@ fn raw_number(bytes: &[u8], first: u8, last: u8) -> Option<u32>
     if end > bytes.len() {
         return None;
     }
-    Some(number_of(&bytes[start..end]))
+    Some(little_number(&bytes[start..end]))
 }
 
 /// The number of one to four bytes, the low byte first.
-fn number_of(part: &[u8]) -> u32
+fn little_number(part: &[u8]) -> u32
     requires some { 0 < length part.now }
     requires narrow { length part.now ≤ 4 }
     ensures { result ≡ little_number (length part.now) part.now }
@@ -71,6 +72,13 @@ pub(crate) fn top_byte(raw: u32, count: u8) -> u32
     }
 }
 
+/// Whether a raw number with this top byte is valid.
+pub(crate) fn is_valid(top: u32) -> bool
+    ensures { result ≡ is_valid top }
+{
+    top <= 0xFA
+}
+
 /// What a raw number means, by its top byte.
 fn meaning<'a>(raw: u32, count: u8, slot: Slot) -> Option<Value<'a>>
     requires some { 0 < count }
@@ -85,8 +93,10 @@ fn meaning<'a>(raw: u32, count: u8, slot: Slot) -> Option<Value<'a>>
 fn by_top_byte(top: u32, valid: Value<'_>) -> Option<Value<'_>>
     ensures { option_map value_of result ≡ by_top_byte top (value_of valid.entry) }
 {
+    if is_valid(top) {
+        return Some(valid);
+    }
     match top {
-        0..=0xFA => Some(valid),
         0xFB => Some(Value::Indicator),
         0xFC..=0xFD => Some(Value::Reserved),
         0xFE => Some(Value::Error),

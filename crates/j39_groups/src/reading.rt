@@ -5,7 +5,7 @@ ghost use Rattle.std.specs.Bool.{OnFalse};
 ghost use Rattle.std.specs.Option.{option_map};
 ghost use Rattle.j39_frame.specs.Pgn.{pgn_raw};
 ghost use Rattle.j39_groups.specs.Table.{the_table};
-ghost use Rattle.j39_groups.specs.Sound.{IsSound, is_sound_table};
+ghost use Rattle.j39_groups.specs.CodeRows.{row_record, IsSound, is_sound_table};
 ghost use Rattle.j39_groups.specs.Readings.{is_reported_group, readings_of, reading_at};
 ghost use Rattle.j39_groups.specs.Shown.{reading_of};
 
@@ -17,7 +17,7 @@ use j39_frame::Pgn;
 
 /// All rows.
 pub(crate) fn rows() -> &'static [Row]
-    ensures table { result.now ≡ the_table }
+    ensures table { map row_record result.now ≡ the_table }
     ensures sound { IsTrue (is_sound_table result.now) }
 {
     TABLE
@@ -65,7 +65,7 @@ pub fn readings(pgn: Pgn, bytes: &[u8]) -> ArrayVec<Reading<'_>, 8>
 fn read_rows<'a>(rows: &[Row], pgn: u32, bytes: &'a [u8]) -> ArrayVec<Reading<'a>, 8>
     requires { IsTrue (is_sound_table rows.now) }
     ensures { map reading_of result.items
-        ≡ filter_map (reading_at bytes.now) (filter (λ row. row.pgn == pgn) rows.now) }
+        ≡ filter_map (λ row. reading_at bytes.now (row_record row)) (filter (λ row. row.pgn == pgn) rows.now) }
 {
     let mut found = ArrayVec::new();
     for row in rows {
@@ -79,7 +79,7 @@ fn read_rows<'a>(rows: &[Row], pgn: u32, bytes: &'a [u8]) -> ArrayVec<Reading<'a
 /// What is read by one row, where it is one of this group.
 fn reading_in<'a>(bytes: &'a [u8], row: &Row, pgn: u32) -> Option<Reading<'a>>
     requires { IsSound row.now.field }
-    ensures value { option_map reading_of result ≡ (if row.now.pgn == pgn then reading_at bytes.now row.now else None) }
+    ensures value { option_map reading_of result ≡ (if row.now.pgn == pgn then reading_at bytes.now (row_record row.now) else None) }
     ensures group { IsSome result → row.now.pgn ≡ pgn }
 {
     if row.pgn != pgn {

@@ -1,6 +1,7 @@
 -- Each row of the group takes a place and gives its reading.
 use Rattle.std.proofs.Common.{◌==◌, refl, arith, append-nil}
 use Rattle.std.specs.Prelude.{Some, None}
+use Rattle.j39_groups.specs.CodeRows.{row_record}
 use Rattle.j39_groups.specs.Readings.{reading_at}
 use Rattle.j39_groups.specs.Shown.{reading_of}
 use Rattle.j39_groups.proofs.TableLemmas.{room, pushed, counted_more}
@@ -25,7 +26,7 @@ loop-row-preserved c =
       | in-Some w ↦
           let more = count_by_more_yes (λ row. row.pgn == c.args.pgn) rows i _ below (eq-eqb _ _ (w.in-Some.ensures.group refl)) in (
             rw (w.found-is, w.push.ensures.items)
-                (pushed reading_of (reading_at c.args.bytes.now) (λ row. row.pgn == c.args.pgn) rows i _ below
+                (pushed reading_of (λ row. reading_at c.args.bytes.now (row_record row)) (λ row. row.pgn == c.args.pgn) rows i _ below
                 c.loop-row.found.items (Some w.in-Some.reading) before.0 w.in-Some.ensures.value),
             let len = w.push.ensures.len in
                 rw w.found-is (omega (arith, more, len, before.1)),
@@ -33,7 +34,7 @@ loop-row-preserved c =
       | in_default w ↦
           let more = counted_more (λ row. row.pgn == c.args.pgn) rows i below in (
             rw (w.found-is, ← append-nil c.loop-row.found.items)
-                (pushed reading_of (reading_at c.args.bytes.now) (λ row. row.pgn == c.args.pgn) rows i _ below
+                (pushed reading_of (λ row. reading_at c.args.bytes.now (row_record row)) (λ row. row.pgn == c.args.pgn) rows i _ below
                 c.loop-row.found.items None before.0 w.in_default.ensures.value),
             rw w.found-is (omega (arith, more, before.1)),
           )

@@ -1,11 +1,25 @@
--- What holds of each row of the table, and of the table as a whole.
-use Rattle.std.specs.Prelude.{◌≡◌, ◌+◌, ◌^◌, ◌<◌, ◌≤◌, ◌==◌, ◌&&◌, ℕ, List, Bool, nat_lt, nat_le, count_by, length}
-use Rattle.std.specs.List.{list_all, filter_map}
+-- What private contracts see of the code's own table, and what its arithmetic needs of each row.
+use Rattle.std.specs.Prelude.{◌≡◌, ◌+◌, ◌^◌, ◌<◌, ◌≤◌, ◌==◌, ◌&&◌, ℕ, List, Bool, nat_lt, nat_le, count_by}
+use Rattle.std.specs.List.{list_all}
 use Rattle.j39_groups.specs.declared.table.Field.{Field}
 use Rattle.j39_groups.specs.declared.table.Field.TheVariants.{Number, Switch, Text}
 use Rattle.j39_groups.specs.declared.table.Row.{Row}
 use Rattle.j39_groups.specs.declared.slot.Slot.{Slot}
-use Rattle.j39_groups.specs.Slots.{number_at}
+use Rattle.j39_groups.specs.declared.parameter.SizedSlot
+use Rattle.j39_groups.specs.Row.{FieldRecord, number_field, switch_field, text_field, RowRecord}
+use Rattle.j39_groups.specs.Slots.{SizedSlotRecord}
+use Rattle.j39_groups.specs.Shown.{slot_record}
+
+abbrev pub field_record : Field → FieldRecord
+field_record (Number first last slot) = number_field first last (slot_record slot)
+field_record (Switch byte low high) = switch_field byte low high
+field_record (Text part) = text_field part
+
+abbrev pub row_record : Row → RowRecord
+row_record row = record { pgn = row.pgn; spn = row.spn; field = field_record row.field }
+
+abbrev pub sized_slot_record : SizedSlot.SizedSlot → SizedSlotRecord
+sized_slot_record n = record { count = n.count; slot = slot_record n.slot }
 
 -- bytes, bits and parts count from 1; a number has one to four bytes, and its values fit 64 bits; a switch has two bits
 pub record IsSoundNumber (first last : ℕ) (slot : Slot) : Type 0 where
@@ -38,11 +52,9 @@ is_sound (Number first last slot) =
 is_sound (Switch byte low high) = nat_lt 0 byte && (nat_lt 0 low && (high == low + 1 && nat_le high 8))
 is_sound (Text part) = nat_lt 0 part
 
--- each row is sound, no group has more than eight, and no parameter is a number in two
+-- each row is sound, and no group has more than eight
 abbrev pub is_sound_row : List Row → Row → Bool
-is_sound_row rows row =
-    is_sound row.field
-    && (nat_le (count_by (λ other. other.pgn == row.pgn) rows) 8 && nat_le (length (filter_map (number_at row.spn) rows)) 1)
+is_sound_row rows row = is_sound row.field && nat_le (count_by (λ other. other.pgn == row.pgn) rows) 8
 
 abbrev pub is_sound_table : List Row → Bool
 is_sound_table rows = list_all (is_sound_row rows) rows
