@@ -11,6 +11,8 @@ pub data FieldRecord : Type 0 where
   switch_field : ℕ → ℕ → ℕ → FieldRecord
   -- one of the parts of the payload between the bytes `*`
   text_field : ℕ → FieldRecord
+  -- so many parts, at most, of the bytes from this one on; a part of bytes FF alone is not there
+  texts_field : ℕ → ℕ → FieldRecord
 
 -- one parameter (SPN) of a group (PGN)
 pub record RowRecord : Type 0 where
@@ -30,3 +32,6 @@ switch_row pgn spn byte low high = record { pgn = pgn; spn = spn; field = switch
 
 abbrev pub text_row : ℕ → ℕ → ℕ → RowRecord
 text_row pgn spn part = record { pgn = pgn; spn = spn; field = text_field part }
+
+abbrev pub texts_row : ℕ → ℕ → ℕ → ℕ → RowRecord
+texts_row pgn spn byte count = record { pgn = pgn; spn = spn; field = texts_field byte count }

@@ -3,7 +3,7 @@ use Rattle.std.specs.Prelude.{◌≡◌, ◌-◌, ◌==◌, ◌+ℤ◌, ◌*ℤ�
 use Rattle.std.specs.Option.{option_map}
 use Rattle.std.specs.List.{filter_map, Contains}
 use Rattle.j39_groups.specs.Value.{SlotRecord}
-use Rattle.j39_groups.specs.Row.{FieldRecord, number_field, switch_field, text_field, RowRecord}
+use Rattle.j39_groups.specs.Row.{FieldRecord, number_field, switch_field, text_field, texts_field, RowRecord}
 use Rattle.j39_groups.specs.Table.{the_table}
 use Rattle.j39_groups.specs.Ranges.{top_byte, is_valid}
 use Rattle.j39_groups.specs.Readings.{raw_number}
@@ -17,6 +17,7 @@ abbrev pub slot_in : FieldRecord → Option SizedSlotRecord
 slot_in (number_field first last slot) = Some (record { count = last - (first - 1); slot = slot })
 slot_in (switch_field byte low high) = None
 slot_in (text_field part) = None
+slot_in (texts_field byte count) = None
 
 -- the slot of this parameter in a row
 abbrev pub slot_at : ℕ → RowRecord → Option SizedSlotRecord
@@ -46,6 +47,7 @@ abbrev pub HoldsIn : FieldRecord → List ℕ → ℕ → Type 0
 HoldsIn (number_field first last slot) bytes raw = raw_number first last bytes ≡ Some raw
 HoldsIn (switch_field byte low high) bytes raw = ⊥
 HoldsIn (text_field part) bytes raw = ⊥
+HoldsIn (texts_field byte count) bytes raw = ⊥
 
 -- the payload of the group holds this raw number of the parameter
 pub record Holds (pgn spn : ℕ) (bytes : List ℕ) (raw : ℕ) : Type 0 where

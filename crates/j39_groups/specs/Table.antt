@@ -1,11 +1,12 @@
 -- The table of parameters (J1939-71): what each row says, in the order in which a group's rows are read.
 use Prim.Native.String.{String}
 use Rattle.std.specs.Prelude.{ℕ, ℤ, pos, neg_ℤ, List, [], ◌∷◌}
-use Rattle.j39_groups.specs.Row.{RowRecord, number_row, switch_row, text_row}
+use Rattle.j39_groups.specs.Row.{RowRecord, number_row, switch_row, text_row, texts_row}
 
 infix 90 number◌spn◌bytes◌to◌step◌offset◌places◌unit◌
 infix 90 switch◌spn◌byte◌bits◌to◌
 infix 90 text◌spn◌part◌
+infix 90 texts◌spn◌byte◌parts◌
 -- a number in the bytes first to last: `raw * step + offset`, in units of the last printed place
 abbrev pub number◌spn◌bytes◌to◌step◌offset◌places◌unit◌ : ℕ → ℕ → ℕ → ℕ → ℕ → ℤ → ℕ → String → RowRecord
 number◌spn◌bytes◌to◌step◌offset◌places◌unit◌ = number_row
@@ -17,6 +18,10 @@ switch◌spn◌byte◌bits◌to◌ = switch_row
 -- a part of the payload between the bytes `*`
 abbrev pub text◌spn◌part◌ : ℕ → ℕ → ℕ → RowRecord
 text◌spn◌part◌ = text_row
+
+-- so many parts, at most, of the bytes from this one on
+abbrev pub texts◌spn◌byte◌parts◌ : ℕ → ℕ → ℕ → ℕ → RowRecord
+texts◌spn◌byte◌parts◌ = texts_row
 
 abbrev plus : ℕ → ℤ
 plus n = pos n
@@ -80,4 +85,7 @@ the_table =
     text 0xFEEB spn 587 part 2 ∷  -- model
     text 0xFEEB spn 588 part 3 ∷  -- serial number
     text 0xFEEB spn 233 part 4 ∷  -- unit number
+    -- SOFT, software identification (J1939-71 names the parameters; this layout is the project's own)
+    number 0xFEDA spn 965 bytes 1 to 1 step 1 offset plus 0 places 0 unit "fields" ∷  -- number of software identification fields
+    texts 0xFEDA spn 234 byte 2 parts 31 ∷  -- software identification
     []

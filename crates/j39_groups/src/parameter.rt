@@ -80,5 +80,6 @@ fn slot_in(row: &Row, spn: u32) -> Option<SizedSlot>
         }),
         Field::Switch { .. } => None,
         Field::Text { .. } => None,
+        Field::Texts { .. } => None,
     }
 }
