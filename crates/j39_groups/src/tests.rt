@@ -1,5 +1,4 @@
 use crate::{Value, is_reported, put_value, raw_of, readings, slot_of};
-use arrayvec::ArrayVec;
 use j39_frame::{Pgn, Told};
 use std::test::Fail;
 
@@ -225,71 +224,6 @@ fn texts(rt: HostRuntime) {
     }
     assert_eq!(rt; slot_of(237), None);
     assert_eq!(rt; raw_of(586, 0), None);
-}
-
-/// The texts of software identification, in their order, as far as there is room.
-fn softwares<'a>(bytes: &'a [u8]) -> [&'a [u8]; 3] {
-    let mut texts: [&[u8]; 3] = [b"none"; 3];
-    let mut found = ArrayVec::new();
-    if let Some(soft) = Pgn::new(65242) {
-        found = readings(soft, bytes);
-    }
-    let fields = found.as_slice().iter().filter(|reading| reading.spn == 234);
-    for (text, reading) in texts.iter_mut().zip(fields) {
-        if let Value::Text(field) = reading.value {
-            *text = field;
-        }
-    }
-    texts
-}
-
-#[test]
-fn software_identification(rt: HostRuntime) -> Result<(), Fail> {
-    let cases: [(&[u8], [&[u8]; 3]); 9] = [
-        (b"", [b"none", b"none", b"none"]),
-        (b"\x01", [b"none", b"none", b"none"]),
-        (b"\x02A1*B22*", [b"A1", b"B22", b"none"]),
-        (b"\x01A1*\xFF\xFF\xFF\xFF", [b"A1", b"none", b"none"]),
-        (b"\xFF**\xFF\xFF\xFF\xFF\xFF", [b"none", b"none", b"none"]),
-        (b"*a*b", [b"a", b"b", b"none"]),
-        (b"\x01\xFF*b*c", [b"b", b"c", b"none"]),
-        (b"\x00a**c", [b"a", b"c", b"none"]),
-        (b"\x01\xFFa*\x00*\xFF", [b"\xFFa", b"\x00", b"none"]),
-    ];
-    for (bytes, wanted) in cases {
-        assert_eq!(rt; softwares(bytes), wanted);
-    }
-    let soft = Pgn::new(65242).ok_or("pgn")?;
-    assert!(rt; is_reported(soft));
-    // The number in byte 1 and 31 texts, of 32 that stand there.
-    let mut whole = [b'*'; 65];
-    *whole.first_mut().ok_or("first")? = 32;
-    for (place, byte) in whole.iter_mut().enumerate() {
-        if place % 2 == 1 {
-            *byte = b'A';
-        }
-    }
-    let found = readings(soft, &whole);
-    assert_eq!(rt; found.len(), 32);
-    assert_eq!(rt;
-        found.first().map(|first| first.value),
-        Some(number(965, 32))
-    );
-    for reading in found.iter().skip(1) {
-        assert_eq!(rt; reading.spn, 234);
-        assert_eq!(rt; reading.value, Value::Text(b"A"));
-    }
-    // A part of bytes FF takes its place: the 32nd part is never read.
-    let mut filled = [0xFF; 64];
-    for (place, byte) in filled.iter_mut().enumerate() {
-        if place % 2 == 0 {
-            *byte = b'*';
-        }
-    }
-    *filled.get_mut(61).ok_or("31st")? = b'X';
-    *filled.get_mut(63).ok_or("32nd")? = b'Y';
-    assert_eq!(rt; softwares(&filled), [b"X".as_slice(), b"none", b"none"]);
-    Ok(())
 }
 
 #[test]
