@@ -13,7 +13,7 @@ use Rattle.j39_frame.specs.Line.{IsBody, HasParts, IsFrameLine, IsOtherLine, IsB
 use Rattle.j39_frame.specs.Bus.{IsBusName}
 use Rattle.j39_frame.specs.Spelled.{Spelled, frame, other, unread, blank, Spells}
 use Rattle.j39_frame.proofs.FieldLemmas.{fields_of-spaced, IsSpaced-fields_of}
-use Rattle.j39_frame.proofs.TextLemmas.{stamp_only, frame_only}
+use Rattle.j39_frame.proofs.TextLemmas.{one_stamp, frame_only}
 
 snoc_front : (a b : List ℕ) → a ++ (13 ∷ []) ≡ b ++ (13 ∷ []) → a ≡ b
 snoc_front a b e =
@@ -47,15 +47,6 @@ blank_has_no_parts line bus third stamp h p =
     let e = fields_of-blank line p.body h p.body_is in
     let f = fields_of-parts line p.body bus third stamp p p.body_is in
     cc
-
--- a text spells one stamp
-pub one_stamp : (text : List ℕ) (m n : ℕ) → IsStampText text m → IsStampText text n → m ≡ n
-one_stamp text m n p q =
-    let a = stamp_only text p.seconds p.micros p.parts in
-    let b = stamp_only text q.seconds q.micros q.parts in
-    let s : p.seconds ≡ q.seconds = sym a.0 ∙ b.0 in
-    let u : p.micros ≡ q.micros = sym a.1 ∙ b.1 in
-    p.stamp_is ∙ rw (s, u) (sym q.stamp_is)
 
 -- a line has one set of parts
 pub one_bus : (line b b' t t' : List ℕ) (m n : ℕ) → HasParts line b t m → HasParts line b' t' n → (b ≡ b') × (t ≡ t') × (m ≡ n)

@@ -1,4 +1,4 @@
--- The characters of a log that have a meaning of their own, as bytes.
+-- Characters that have a meaning of their own in logs and texts, as bytes.
 use Rattle.std.specs.Prelude.{ℕ}
 
 abbrev pub newline : ℕ
@@ -10,8 +10,17 @@ carriage_return = 0x0D
 abbrev pub space : ℕ
 space = 0x20
 
+abbrev pub quote : ℕ
+quote = 0x22
+
 abbrev pub hash : ℕ
 hash = 0x23
+
+abbrev pub star : ℕ
+star = 0x2A
+
+abbrev pub backslash : ℕ
+backslash = 0x5C
 
 abbrev pub delete : ℕ
 delete = 0x7F

@@ -1,5 +1,5 @@
 //! The texts of a line's fields.
-ghost use Rattle.std.specs.Prelude.{◌≡◌, ◌≤◌, ◌^◌, ◌<◌, ℕ, List, length, IsSome, IfSome, IsSomeAnd, SomeIff, Some, None, Ok, IsTrue, ◌*◌};
+ghost use Rattle.std.specs.Prelude.{◌≡◌, ◌≤◌, ◌^◌, ◌<◌, ℕ, List, length, IsSome, IfSome, IsSomeAnd, SomeIff, Some, None, Ok, IsTrue, ◌*◌, ◌⊎◌};
 ghost use Rattle.std.specs.Int.{to_be_bytes, w32};
 ghost use Rattle.std.specs.Bool.{OnTrue};
 ghost use Rattle.hex.specs.Hex.{decode_of};
@@ -25,26 +25,48 @@ fn number(digits: &[u8]) -> Option<u64>
     Some(value)
 }
 
-fn stamp_parts(text: &[u8]) -> Option<(&[u8], &[u8])>
-    ensures found { IfSome result (λ parts. HasStampParts text.now parts.0.now parts.1.now) }
-    ensures only { (seconds micros : List ℕ) → HasStampParts text.now seconds micros
-        → IsSomeAnd result (λ parts. (parts.0.now ≡ seconds) × (parts.1.now ≡ micros)) }
+/// The parts of a stamp of which the last `cut` decimals are cut.
+fn stamp_parts(text: &[u8], cut: usize) -> Option<(&[u8], &[u8], &[u8])>
+    requires { (cut ≡ 0) ⊎ (cut ≡ 3) }
+    ensures found { IfSome result (λ parts. HasStampParts text.now parts.0.now parts.1.now parts.2.now) }
+    ensures only { (seconds micros rest : List ℕ) → HasStampParts text.now seconds micros rest → length rest ≡ cut
+        → IsSomeAnd result (λ parts. (parts.0.now ≡ seconds) × (parts.1.now ≡ micros) × (parts.2.now ≡ rest)) }
 {
     let n = text.len();
-    if n < 10 || n > 19 || text[0] != b'(' || text[n - 8] != b'.' || text[n - 1] != b')' {
+    if n < 10 + cut
+        || n > 19 + cut
+        || text[0] != b'('
+        || text[n - cut - 8] != b'.'
+        || text[n - 1] != b')'
+    {
         return None;
     }
-    Some((&text[1..n - 8], &text[n - 7..n - 1]))
+    let end = n - cut - 1;
+    Some((&text[1..end - 7], &text[end - 6..end], &text[end..n - 1]))
+}
+
+/// The stamp of a text of which the last `cut` decimals are cut.
+fn stamp_with(text: &[u8], cut: usize) -> Option<Stamp>
+    requires { (cut ≡ 0) ⊎ (cut ≡ 3) }
+    ensures found { IfSome result (λ stamp. IsStampText text.now (stamp_micros stamp)) }
+    ensures only { (micros : ℕ) → (p : IsStampText text.now micros) → length p.cut ≡ cut
+        → IsSomeAnd result (λ stamp. stamp_micros stamp ≡ micros) }
+{
+    let (seconds, micros, rest) = stamp_parts(text, cut)?;
+    let seconds = number(seconds)?;
+    let micros = number(micros)?;
+    number(rest)?;
+    Stamp::new(seconds * 1_000_000 + micros)
 }
 
 pub(crate) fn stamp_of(text: &[u8]) -> Option<Stamp>
     ensures found { IfSome result (λ stamp. IsStampText text.now (stamp_micros stamp)) }
     ensures only { (micros : ℕ) → IsStampText text.now micros → IsSomeAnd result (λ stamp. stamp_micros stamp ≡ micros) }
 {
-    let (seconds, micros) = stamp_parts(text)?;
-    let seconds = number(seconds)?;
-    let micros = number(micros)?;
-    Stamp::new(seconds * 1_000_000 + micros)
+    match stamp_with(text, 0) {
+        Some(stamp) => Some(stamp),
+        None => stamp_with(text, 3),
+    }
 }
 
 fn frame_parts(text: &[u8]) -> Option<(&[u8], &[u8])>

@@ -1,12 +1,14 @@
 -- Elements of lists.
-use Rattle.std.proofs.Common.{◌≡◌, ◌<◌, ◌≤◌, ℕ, zero, suc, List, [], ◌∷◌, ◌++◌, Bool, true, length, take, drop, get_or, refl, ap, ◌∙◌, sym, arith, take-append-drop, drop-cons}
-use Rattle.std.specs.Prelude.{Option, Some, slice_get, filter}
+use Rattle.std.proofs.Common.{◌≡◌, ◌<◌, ◌≤◌, ◌+◌, ℕ, zero, suc, List, [], ◌∷◌, ◌++◌, Bool, true, length, take, drop, get_or, refl, ap, ◌∙◌, sym, arith, take-append-drop, drop-cons, append_assoc}
+use Rattle.std.specs.Prelude.{Option, Some, None, slice_get, filter, map}
+use Rattle.std.specs.Option.{option_to_list}
+use Rattle.std.proofs.lemmas.List.{take_more, map-append}
 use Rattle.std.specs.List.{filter_map, flat_map, Contains}
 use Rattle.std.proofs.lemmas.List.Concat.{flat_map-cons}
 use Rattle.std.proofs.lemmas.Grind.{flat_map-append}
-use Rattle.std.proofs.lemmas.List.Elements.{filter-append, filter_map-append, Contains-append_right}
+use Rattle.std.proofs.lemmas.List.Elements.{filter-append, filter_map-append, Contains-append_left, Contains-append_right}
 
-contains_head : {X : Type 0} (x : X) (xs : List X) → Contains (x ∷ xs) x
+pub contains_head : {X : Type 0} (x : X) (xs : List X) → Contains (x ∷ xs) x
 contains_head x xs = (0, omega arith, refl)
 
 -- the list, cut before the element
@@ -26,6 +28,13 @@ contains_filter_map f xs x y (k, below, here) gives =
     ap (filter_map f) (cut_at xs x k below here) ∙ (filter_map-append f (take k xs) (x ∷ drop (suc k) xs) ∙ (rw gives refl)) in
     rw whole (Contains-append_right (filter_map f (take k xs)) (y ∷ filter_map f (drop (suc k) xs)) y (contains_head y (filter_map f (drop (suc k) xs))))
 
+pub contains_flat_map : {X Y : Type 0} (f : X → List Y) (xs : List X) (x : X) (y : Y) → Contains xs x → Contains (f x) y → Contains (flat_map f xs) y
+contains_flat_map f xs x y (k, below, here) gives =
+    let whole : flat_map f xs ≡ flat_map f (take k xs) ++ (f x ++ flat_map f (drop (suc k) xs)) =
+    ap (flat_map f) (cut_at xs x k below here) ∙ (flat_map-append f (take k xs) (x ∷ drop (suc k) xs)
+    ∙ ap (λ ys. flat_map f (take k xs) ++ ys) (flat_map-cons f x (drop (suc k) xs))) in
+    rw whole (Contains-append_right (flat_map f (take k xs)) (f x ++ flat_map f (drop (suc k) xs)) y (Contains-append_left (f x) (flat_map f (drop (suc k) xs)) y gives))
+
 -- the only element is the first
 pub lone : {X : Type 0} (xs : List X) (x : X) → length xs ≤ 1 → Contains xs x → slice_get xs 0 ≡ Some x
 lone [] x few (k, below, here) = absurd (omega arith)
@@ -39,3 +48,22 @@ flat_map-at f xs i below =
     let cut : xs ≡ take i xs ++ (get_or xs i 0 ∷ drop (suc i) xs) = sym (take-append-drop i xs) ∙ ap (λ ys. take i xs ++ ys) (drop-cons xs i 0 below) in
     ap (flat_map f) cut ∙ flat_map-append f (take i xs) (get_or xs i 0 ∷ drop (suc i) xs)
     ∙ ap (λ ys. flat_map f (take i xs) ++ ys) (flat_map-cons f (get_or xs i 0) (drop (suc i) xs))
+
+given : {X Y : Type 0} (f : X → Option Y) (x : X) → filter_map f (x ∷ []) ≡ option_to_list (f x)
+given f x = of (f x) where
+  of : {Y : Type 0} (o : Option Y) → filter_map (λ (u : Unit {0}). o) (tt ∷ []) ≡ option_to_list o
+  of None = refl
+  of (Some y) = refl
+
+-- what is given grows by what the next element gives
+pub given_more : {X Y Z : Type 0} (f : X → Option Y) (g : Y → Z) (xs : List X) (n m : ℕ) (x : X) (o : Option Y) (front old new : List Z)
+    → n < length xs → m ≡ n + 1 → x ≡ get_or xs n x → o ≡ f x
+    → old ≡ front ++ map g (filter_map f (take n xs)) → new ≡ old ++ map g (option_to_list o)
+    → new ≡ front ++ map g (filter_map f (take m xs))
+given_more f g xs n m x o front old new below next here is before after =
+    let whole : filter_map f (take m xs) ≡ filter_map f (take n xs) ++ option_to_list o =
+    ap (λ k. filter_map f (take k xs)) next ∙ ap (filter_map f) (take_more xs n x below) ∙ filter_map-append f (take n xs) (get_or xs n x ∷ [])
+    ∙ ap (λ ys. filter_map f (take n xs) ++ ys) (given f (get_or xs n x) ∙ ap (λ z. option_to_list (f z)) (sym here) ∙ ap option_to_list (sym is)) in
+    after ∙ ap (λ ys. ys ++ map g (option_to_list o)) before
+    ∙ append_assoc front (map g (filter_map f (take n xs))) (map g (option_to_list o))
+    ∙ ap (λ ys. front ++ ys) (sym (map-append g (filter_map f (take n xs)) (option_to_list o)) ∙ ap (map g) (sym whole))

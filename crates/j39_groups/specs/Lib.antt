@@ -1,8 +1,10 @@
 pub mod Value
-pub mod Shown
+pub mod Row
 pub mod Table
 pub mod Parts
+pub mod Ranges
 pub mod Readings
 pub mod Slots
-pub mod Sound
 pub mod ValueText
+pub mod Shown
+pub mod CodeRows

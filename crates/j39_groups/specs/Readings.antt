@@ -1,15 +1,13 @@
 -- What is read in the payload of a group (J1939-71).
-use Rattle.std.specs.Prelude.{◌-◌, ◌/◌, ◌%◌, ◌^◌, ◌+ℤ◌, ◌*ℤ◌, ◌==◌, ℕ, pos, List, length, Bool, Option, Some, None, if◌then◌else◌, nat_le, slice_get, slice_range, filter}
-use Rattle.std.specs.Option.{option_map, option_and_then}
-use Rattle.std.specs.List.{filter_map, list_any}
+use Rattle.std.specs.Prelude.{◌-◌, ◌/◌, ◌%◌, ◌^◌, ◌+ℤ◌, ◌*ℤ◌, ◌==◌, ℕ, pos, List, length, Bool, Option, Some, None, if◌then◌else◌, nat_le, slice_get, slice_range, filter, map, take, drop}
+use Rattle.std.specs.Option.{option_and_then, option_to_list}
+use Rattle.std.specs.List.{filter_map, flat_map, list_any, list_all}
 use Rattle.byteorder.specs.Endian.{little_number}
-use Rattle.j39_groups.specs.declared.table.Field.{Field}
-use Rattle.j39_groups.specs.declared.table.Field.TheVariants.{Number, Switch, Text}
-use Rattle.j39_groups.specs.declared.table.Row.{Row}
 use Rattle.j39_groups.specs.Value.{SlotRecord, ValueRecord, number, on, off, error, reserved, indicator, text, ReadingRecord}
-use Rattle.j39_groups.specs.Shown.{slot_record}
+use Rattle.j39_groups.specs.Row.{FieldRecord, number_field, switch_field, text_field, texts_field, RowRecord}
 use Rattle.j39_groups.specs.Table.{the_table}
 use Rattle.j39_groups.specs.Parts.{parts_of}
+use Rattle.j39_groups.specs.Ranges.{top_byte, is_valid}
 
 -- the number in the bytes first to last, counted from 1, the low byte first, where all lie within the payload
 unfoldable pub raw_number : ℕ → ℕ → List ℕ → Option ℕ
@@ -19,14 +17,10 @@ raw_number first last bytes =
 -- what a raw number means, by its top byte; nothing where it is not available
 unfoldable pub by_top_byte : ℕ → ValueRecord → Option ValueRecord
 by_top_byte top valid =
-    if nat_le top 0xFA then Some valid else
+    if is_valid top then Some valid else
     (if nat_le top 0xFB then Some indicator else
     (if nat_le top 0xFD then Some reserved else
     (if nat_le top 0xFE then Some error else None)))
-
--- the top byte of a raw number of count bytes
-abbrev pub top_byte : ℕ → ℕ → ℕ
-top_byte count raw = raw / 256 ^ (count - 1)
 
 -- a valid raw number is so many steps above the offset
 abbrev pub number_meaning : ℕ → SlotRecord → ℕ → Option ValueRecord
@@ -41,17 +35,25 @@ switch_meaning bits =
 unfoldable pub text_meaning : List ℕ → Option ValueRecord
 text_meaning part = if length part == 0 then None else Some (text part)
 
-unfoldable pub value_at : List ℕ → Field → Option ValueRecord
-value_at bytes (Number first last slot) = option_and_then (number_meaning (last - (first - 1)) (slot_record slot)) (raw_number first last bytes)
-value_at bytes (Switch byte low high) = option_and_then (λ b. switch_meaning (b / 2 ^ (low - 1) % 4)) (slice_get bytes (byte - 1))
-value_at bytes (Text part) = option_and_then text_meaning (slice_get (parts_of bytes) (part - 1))
+-- nor, where a group fills what it does not use, a part of bytes FF alone (own)
+unfoldable pub filled_text_meaning : List ℕ → Option ValueRecord
+filled_text_meaning part = if list_all (λ b. b == 0xFF) part then None else Some (text part)
 
-abbrev pub reading_at : List ℕ → Row → Option ReadingRecord
-reading_at bytes row = option_map (λ value. record { spn = row.spn; value = value }) (value_at bytes row.field)
+-- the values in a field, in the payload's order: one at most but where a field has several texts
+unfoldable pub values_at : List ℕ → FieldRecord → List ValueRecord
+values_at bytes (number_field first last slot) =
+    option_to_list (option_and_then (number_meaning (last - (first - 1)) slot) (raw_number first last bytes))
+values_at bytes (switch_field byte low high) =
+    option_to_list (option_and_then (λ b. switch_meaning (b / 2 ^ (low - 1) % 4)) (slice_get bytes (byte - 1)))
+values_at bytes (text_field part) = option_to_list (option_and_then text_meaning (slice_get (parts_of bytes) (part - 1)))
+values_at bytes (texts_field byte count) = filter_map filled_text_meaning (take count (parts_of (drop (byte - 1) bytes)))
+
+abbrev pub readings_at : List ℕ → RowRecord → List ReadingRecord
+readings_at bytes row = map (λ value. record { spn = row.spn; value = value }) (values_at bytes row.field)
 
 -- each row of the group, in the table's order
 unfoldable pub readings_of : ℕ → List ℕ → List ReadingRecord
-readings_of pgn bytes = filter_map (reading_at bytes) (filter (λ row. row.pgn == pgn) the_table)
+readings_of pgn bytes = flat_map (readings_at bytes) (filter (λ row. row.pgn == pgn) the_table)
 
 unfoldable pub is_reported_group : ℕ → Bool
 is_reported_group pgn = list_any (λ row. row.pgn == pgn) the_table

@@ -1,7 +1,7 @@
 -- What contracts see of the code's types.
 use Rattle.std.specs.Prelude.{ℕ, List, pos, codes}
 use Rattle.j39_groups.specs.declared.slot.Unit.{Unit}
-use Rattle.j39_groups.specs.declared.slot.Unit.TheVariants.{Percent, Rpm, Kilometres, Hours, Revolutions, Celsius, Kilopascals, KilometresPerHour, LitresPerHour, KilometresPerLitre, Volts}
+use Rattle.j39_groups.specs.declared.slot.Unit.TheVariants.{Percent, Rpm, Kilometres, Hours, Revolutions, Celsius, Kilopascals, KilometresPerHour, LitresPerHour, KilometresPerLitre, Volts, Fields}
 use Rattle.j39_groups.specs.declared.slot.Slot.{Slot}
 use Rattle.j39_groups.specs.declared.value.Value.{Value}
 use Rattle.j39_groups.specs.declared.value.Value.TheVariants.{Number, On, Off, Error, Reserved, Indicator, Text}
@@ -20,6 +20,7 @@ unit_text KilometresPerHour = codes "km/h"
 unit_text LitresPerHour = codes "L/h"
 unit_text KilometresPerLitre = codes "km/L"
 unit_text Volts = codes "V"
+unit_text Fields = codes "fields"
 
 abbrev pub slot_record : Slot → SlotRecord
 slot_record slot = record { step = pos slot.step; offset = slot.offset; places = slot.places; unit = unit_text slot.unit }

@@ -1,30 +1,21 @@
 //! The value of one field of a payload (J1939-71).
-ghost use Rattle.std.specs.Prelude.{◌≡◌, ◌+◌, ◌-◌, ◌/◌, ◌%◌, ◌^◌, ◌<◌, ◌≤◌, length, slice_get};
+ghost use Rattle.std.specs.Prelude.{◌≡◌, ◌+◌, ◌-◌, ◌/◌, ◌%◌, ◌^◌, ◌<◌, ◌≤◌, ◌==◌, length, slice_get, drop};
+ghost use Rattle.std.specs.List.{list_all};
 ghost use Rattle.std.specs.Option.{option_map, option_and_then};
 ghost use Rattle.byteorder.specs.Endian.{little_number};
-ghost use Rattle.j39_groups.specs.Sound.{IsSound, IsSoundNumber};
+ghost use Rattle.j39_groups.specs.CodeRows.{IsSoundNumber};
 ghost use Rattle.j39_groups.specs.Parts.{parts_of};
 ghost use Rattle.j39_groups.specs.Shown.{value_of, slot_record};
-ghost use Rattle.j39_groups.specs.Readings.{value_at, raw_number, number_meaning, by_top_byte, switch_meaning, text_meaning};
+ghost use Rattle.j39_groups.specs.Ranges.{is_valid};
+ghost use Rattle.j39_groups.specs.Readings.{raw_number, number_meaning, by_top_byte, switch_meaning, text_meaning, filled_text_meaning};
 
 use crate::slot::Slot;
-use crate::table::Field;
 use crate::value::Value;
 use byteorder::{ByteOrder, LittleEndian};
 
-/// The value in a field; `None` where the payload does not reach it or it is not available.
-pub(crate) fn value_at(bytes: &[u8], field: Field) -> Option<Value<'_>>
-    requires { IsSound field }
-    ensures { option_map value_of result ≡ value_at bytes.now field }
-{
-    match field {
-        Field::Number { first, last, slot } => number_at(bytes, first, last, slot),
-        Field::Switch { byte, low, .. } => switch_at(bytes, byte, low),
-        Field::Text { part } => text_at(bytes, part),
-    }
-}
-
-fn number_at(bytes: &[u8], first: u8, last: u8, slot: Slot) -> Option<Value<'_>>
+/// The number in the bytes `first` to `last`; `None` where the payload does not reach them or it is
+/// not available.
+pub(crate) fn number_at(bytes: &[u8], first: u8, last: u8, slot: Slot) -> Option<Value<'_>>
     requires { IsSoundNumber first last slot }
     ensures { option_map value_of result
         ≡ option_and_then (number_meaning (last - (first - 1)) (slot_record slot)) (raw_number first last bytes.now) }
@@ -45,11 +36,11 @@ fn raw_number(bytes: &[u8], first: u8, last: u8) -> Option<u32>
     if end > bytes.len() {
         return None;
     }
-    Some(number_of(&bytes[start..end]))
+    Some(little_number(&bytes[start..end]))
 }
 
 /// The number of one to four bytes, the low byte first.
-fn number_of(part: &[u8]) -> u32
+fn little_number(part: &[u8]) -> u32
     requires some { 0 < length part.now }
     requires narrow { length part.now ≤ 4 }
     ensures { result ≡ little_number (length part.now) part.now }
@@ -71,6 +62,13 @@ pub(crate) fn top_byte(raw: u32, count: u8) -> u32
     }
 }
 
+/// Whether a raw number with this top byte is valid.
+pub(crate) fn is_valid(top: u32) -> bool
+    ensures { result ≡ is_valid top }
+{
+    top <= 0xFA
+}
+
 /// What a raw number means, by its top byte.
 fn meaning<'a>(raw: u32, count: u8, slot: Slot) -> Option<Value<'a>>
     requires some { 0 < count }
@@ -85,8 +83,10 @@ fn meaning<'a>(raw: u32, count: u8, slot: Slot) -> Option<Value<'a>>
 fn by_top_byte(top: u32, valid: Value<'_>) -> Option<Value<'_>>
     ensures { option_map value_of result ≡ by_top_byte top (value_of valid.entry) }
 {
+    if is_valid(top) {
+        return Some(valid);
+    }
     match top {
-        0..=0xFA => Some(valid),
         0xFB => Some(Value::Indicator),
         0xFC..=0xFD => Some(Value::Reserved),
         0xFE => Some(Value::Error),
@@ -94,7 +94,9 @@ fn by_top_byte(top: u32, valid: Value<'_>) -> Option<Value<'_>>
     }
 }
 
-fn switch_at(bytes: &[u8], byte: u8, low: u8) -> Option<Value<'_>>
+/// The switch in the two bits from `low` on; `None` where the payload does not reach them or it is
+/// not available.
+pub(crate) fn switch_at(bytes: &[u8], byte: u8, low: u8) -> Option<Value<'_>>
     requires byte { 0 < byte }
     requires starts { 0 < low }
     requires ends { low < 8 }
@@ -126,7 +128,8 @@ fn switch_of<'a>(bits: u8) -> Option<Value<'a>>
     }
 }
 
-fn text_at(bytes: &[u8], part: u8) -> Option<Value<'_>>
+/// The text in the numbered part, where there is one.
+pub(crate) fn text_at(bytes: &[u8], part: u8) -> Option<Value<'_>>
     requires { 0 < part }
     ensures { option_map value_of result ≡ option_and_then text_meaning (slice_get (parts_of bytes.now) (part - 1)) }
 {
@@ -150,4 +153,33 @@ fn text_of(text: &[u8]) -> Option<Value<'_>>
     } else {
         Some(Value::Text(text))
     }
+}
+
+/// A part where a group fills what it does not use with bytes FF.
+#[tactic(auto, unfolding(crate::specs::Readings::filled_text_meaning))]
+pub(crate) fn filled_text_of(part: &[u8]) -> Option<Value<'_>>
+    ensures { option_map value_of result ≡ filled_text_meaning part.now }
+{
+    if is_filler(part) {
+        None
+    } else {
+        Some(Value::Text(part))
+    }
+}
+
+/// Whether a part is empty or of bytes FF alone.
+fn is_filler(part: &[u8]) -> bool
+    ensures { result ≡ list_all (λ b. b == 0xFF) part.now }
+{
+    part.iter().all(|b| *b == 0xFF)
+}
+
+/// The bytes from this one on.
+pub(crate) fn bytes_from(bytes: &[u8], byte: u8) -> &[u8]
+    requires { 0 < byte }
+    ensures { result.now ≡ drop (byte - 1) bytes.now }
+{
+    let start = usize::from(byte) - 1;
+    let (_, rest) = bytes.split_at(start.min(bytes.len()));
+    rest
 }

@@ -17,4 +17,6 @@ pub use text::put_value;
 pub use value::{Reading, Value};
 
 #[cfg(test)]
+mod software_tests;
+#[cfg(test)]
 mod tests;

@@ -2,11 +2,11 @@
 ghost use Rattle.std.specs.Prelude.{◌≡◌, ◌+◌, ◌-◌, ◌^◌, ◌<◌, ℕ, Some, IsTrue, IfSome, slice_get};
 ghost use Rattle.std.specs.Option.{option_map};
 ghost use Rattle.std.specs.List.{filter_map};
-ghost use Rattle.j39_groups.specs.Sound.{is_sound_table, IsSound, IsSoundCount};
+ghost use Rattle.j39_groups.specs.CodeRows.{row_record, sized_slot_record, is_sound_table, IsSound, IsSoundCount};
 ghost use Rattle.j39_groups.specs.Shown.{slot_record};
-ghost use Rattle.j39_groups.specs.Slots.{number_record, number_at, number_of_spn, slot_of_spn, IsAt, IsRawOf};
+ghost use Rattle.j39_groups.specs.Slots.{slot_at, sized_slot_of_spn, slot_of_spn, IsAt, IsRawOf};
 
-use crate::field::top_byte;
+use crate::field::{is_valid, top_byte};
 use crate::reading::rows;
 use crate::slot::Slot;
 use crate::table::{Field, Row};
@@ -16,8 +16,8 @@ use crate::table::{Field, Row};
 pub fn slot_of(spn: u32) -> Option<Slot>
     ensures { option_map slot_record result ≡ slot_of_spn spn }
 {
-    let number = number_of(spn)?;
-    Some(number.slot)
+    let sized = sized_slot_of(spn)?;
+    Some(sized.slot)
 }
 
 /// The valid raw number of a parameter (SPN) with this value, in units of the last printed place
@@ -27,9 +27,9 @@ pub fn raw_of(spn: u32, value: i64) -> Option<u32>
     ensures found { IfSome result (λ raw. IsRawOf spn value raw) }
     ensures only { (raw : ℕ) → IsRawOf spn value raw → result ≡ Some raw }
 {
-    let number = number_of(spn)?;
-    let raw = number.slot.raw(value)?;
-    if top_byte(raw, number.count) > 0xFA {
+    let sized = sized_slot_of(spn)?;
+    let raw = sized.slot.raw(value)?;
+    if !is_valid(top_byte(raw, sized.count)) {
         return None;
     }
     Some(raw)
@@ -37,48 +37,49 @@ pub fn raw_of(spn: u32, value: i64) -> Option<u32>
 
 /// How many bytes a number has, and its slot.
 #[derive(Clone, Copy, Debug, PartialEq, Eq)]
-struct Number {
+struct SizedSlot {
     count: u8,
     slot: Slot,
 }
 
-/// The number of a parameter in the table.
-#[tactic(auto, unfolding(crate::specs::Slots::number_of_spn))]
-fn number_of(spn: u32) -> Option<Number>
-    ensures value { option_map number_record result ≡ number_of_spn spn }
+/// The slot of a parameter in the table.
+#[tactic(auto, unfolding(crate::specs::Slots::sized_slot_of_spn))]
+fn sized_slot_of(spn: u32) -> Option<SizedSlot>
+    ensures value { option_map sized_slot_record result ≡ sized_slot_of_spn spn }
     ensures sound { IfSome result (λ n. IsSoundCount n.count n.slot) }
 {
-    find_number(rows(), spn)
+    find_slot(rows(), spn)
 }
 
-fn find_number(rows: &[Row], spn: u32) -> Option<Number>
+fn find_slot(rows: &[Row], spn: u32) -> Option<SizedSlot>
     requires { IsTrue (is_sound_table rows.now) }
-    ensures value { option_map number_record result ≡ slice_get (filter_map (number_at spn) rows.now) 0 }
+    ensures value { option_map sized_slot_record result ≡ slice_get (filter_map (λ row. slot_at spn (row_record row)) rows.now) 0 }
     ensures sound { IfSome result (λ n. IsSoundCount n.count n.slot) }
 {
     for row in rows {
-        if let Some(number) = number_in(row, spn) {
-            return Some(number);
+        if let Some(sized) = slot_in(row, spn) {
+            return Some(sized);
         }
     }
     None
 }
 
-/// The number in a row, where it is a row of this parameter.
-fn number_in(row: &Row, spn: u32) -> Option<Number>
+/// The slot in a row, where it is a row of this parameter.
+fn slot_in(row: &Row, spn: u32) -> Option<SizedSlot>
     requires { IsSound row.now.field }
-    ensures value { option_map number_record result ≡ number_at spn row.now }
+    ensures value { option_map sized_slot_record result ≡ slot_at spn (row_record row.now) }
     ensures sound { IfSome result (λ n. IsSoundCount n.count n.slot) }
 {
     if row.spn != spn {
         return None;
     }
     match row.field {
-        Field::Number { first, last, slot } => Some(Number {
+        Field::Number { first, last, slot } => Some(SizedSlot {
             count: last - (first - 1),
             slot,
         }),
         Field::Switch { .. } => None,
         Field::Text { .. } => None,
+        Field::Texts { .. } => None,
     }
 }

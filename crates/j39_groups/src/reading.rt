@@ -1,23 +1,25 @@
 //! What is read in the payload of a group (J1939-71).
-ghost use Rattle.std.specs.Prelude.{◌≡◌, ◌==◌, [], false, map, filter, IsTrue, IsSome, None, if◌then◌else◌};
-ghost use Rattle.std.specs.List.{list_any, filter_map};
+ghost use Rattle.std.specs.Prelude.{◌≡◌, ◌+◌, ◌≤◌, ◌<◌, ◌==◌, ◌++◌, [], false, map, filter, take, IsTrue};
+ghost use Rattle.std.specs.List.{list_any, filter_map, flat_map};
 ghost use Rattle.std.specs.Bool.{OnFalse};
-ghost use Rattle.std.specs.Option.{option_map};
+ghost use Rattle.std.specs.Option.{option_map, option_to_list};
+ghost use Rattle.arrayvec.specs.ArrayVec.{array_vec_len};
 ghost use Rattle.j39_frame.specs.Pgn.{pgn_raw};
 ghost use Rattle.j39_groups.specs.Table.{the_table};
-ghost use Rattle.j39_groups.specs.Sound.{IsSound, is_sound_table};
-ghost use Rattle.j39_groups.specs.Readings.{is_reported_group, readings_of, reading_at};
-ghost use Rattle.j39_groups.specs.Shown.{reading_of};
+ghost use Rattle.j39_groups.specs.CodeRows.{row_record, IsSound, most_values, is_sound_table};
+ghost use Rattle.j39_groups.specs.Readings.{is_reported_group, readings_of, readings_at, filled_text_meaning};
+ghost use Rattle.j39_groups.specs.Parts.{parts_of};
+ghost use Rattle.j39_groups.specs.Shown.{value_of, reading_of};
 
-use crate::field::value_at;
-use crate::table::{LOW_BYTES, Row, TABLE};
-use crate::value::Reading;
+use crate::field::{bytes_from, filled_text_of, number_at, switch_at, text_at};
+use crate::table::{Field, LOW_BYTES, Row, TABLE};
+use crate::value::{Reading, Value};
 use arrayvec::ArrayVec;
 use j39_frame::Pgn;
 
 /// All rows.
 pub(crate) fn rows() -> &'static [Row]
-    ensures table { result.now ≡ the_table }
+    ensures table { map row_record result.now ≡ the_table }
     ensures sound { IsTrue (is_sound_table result.now) }
 {
     TABLE
@@ -50,9 +52,10 @@ fn has_group(rows: &[Row], pgn: u32) -> bool
 
 /// What is read in a payload of this group, of any length, in the table's order (J1939-71). Nothing
 /// for a group that is not reported; no reading for a parameter with a byte past the payload's end,
-/// one that is not available, or an empty text. Texts are lent out of the payload.
+/// one that is not available, or an empty text, nor, in software identification, for a text of bytes
+/// FF alone (own). Texts are lent out of the payload.
 #[tactic(auto, unfolding(crate::specs::Readings::readings_of))]
-pub fn readings(pgn: Pgn, bytes: &[u8]) -> ArrayVec<Reading<'_>, 8>
+pub fn readings(pgn: Pgn, bytes: &[u8]) -> ArrayVec<Reading<'_>, 32>
     ensures { map reading_of result.items ≡ readings_of (pgn_raw pgn) bytes.now }
 {
     let raw = pgn.raw();
@@ -62,32 +65,66 @@ pub fn readings(pgn: Pgn, bytes: &[u8]) -> ArrayVec<Reading<'_>, 8>
     read_rows(rows(), raw, bytes)
 }
 
-fn read_rows<'a>(rows: &[Row], pgn: u32, bytes: &'a [u8]) -> ArrayVec<Reading<'a>, 8>
+fn read_rows<'a>(rows: &[Row], pgn: u32, bytes: &'a [u8]) -> ArrayVec<Reading<'a>, 32>
     requires { IsTrue (is_sound_table rows.now) }
     ensures { map reading_of result.items
-        ≡ filter_map (reading_at bytes.now) (filter (λ row. row.pgn == pgn) rows.now) }
+        ≡ flat_map (λ row. readings_at bytes.now (row_record row)) (filter (λ row. row.pgn == pgn) rows.now) }
 {
     let mut found = ArrayVec::new();
     for row in rows {
-        if let Some(reading) = reading_in(bytes, row, pgn) {
-            found.push(reading);
+        if row.pgn == pgn {
+            push_readings(&mut found, row, bytes);
         }
     }
     found
 }
 
-/// What is read by one row, where it is one of this group.
-fn reading_in<'a>(bytes: &'a [u8], row: &Row, pgn: u32) -> Option<Reading<'a>>
-    requires { IsSound row.now.field }
-    ensures value { option_map reading_of result ≡ (if row.now.pgn == pgn then reading_at bytes.now row.now else None) }
-    ensures group { IsSome result → row.now.pgn ≡ pgn }
+/// Appends what is read by one row.
+#[tactic(auto, unfolding(crate::specs::Readings::values_at))]
+fn push_readings<'a>(found: &mut ArrayVec<Reading<'a>, 32>, row: &Row, bytes: &'a [u8])
+    requires sound { IsSound row.now.field }
+    requires room { array_vec_len found.old + most_values row.now.field ≤ 32 }
+    ensures items { map reading_of found.new.items
+        ≡ map reading_of found.old.items ++ readings_at bytes.now (row_record row.now) }
+    ensures len { array_vec_len found.new ≤ array_vec_len found.old + most_values row.now.field }
 {
-    if row.pgn != pgn {
-        return None;
+    match row.field {
+        Field::Number { first, last, slot } => {
+            push_value(found, row.spn, number_at(bytes, first, last, slot));
+        }
+        Field::Switch { byte, low, .. } => {
+            push_value(found, row.spn, switch_at(bytes, byte, low));
+        }
+        Field::Text { part } => push_value(found, row.spn, text_at(bytes, part)),
+        Field::Texts { byte, count } => {
+            push_texts(found, row.spn, bytes_from(bytes, byte), count);
+        }
     }
-    let value = value_at(bytes, row.field)?;
-    Some(Reading {
-        spn: row.spn,
-        value,
-    })
+}
+
+/// Appends the reading of a value, where there is one.
+fn push_value<'a>(found: &mut ArrayVec<Reading<'a>, 32>, spn: u32, value: Option<Value<'a>>)
+    requires { array_vec_len found.old < 32 }
+    ensures items { map reading_of found.new.items
+        ≡ map reading_of found.old.items
+        ++ map (λ value. record { spn = spn; value = value }) (option_to_list (option_map value_of value.entry)) }
+    ensures len { array_vec_len found.new ≤ array_vec_len found.old + 1 }
+{
+    if let Some(value) = value {
+        found.push(Reading { spn, value });
+    }
+}
+
+/// Appends the readings of the first `count` parts.
+fn push_texts<'a>(found: &mut ArrayVec<Reading<'a>, 32>, spn: u32, bytes: &'a [u8], count: u8)
+    requires { array_vec_len found.old + count ≤ 32 }
+    ensures items { map reading_of found.new.items
+        ≡ map reading_of found.old.items
+        ++ map (λ value. record { spn = spn; value = value })
+        (filter_map filled_text_meaning (take count (parts_of bytes.now))) }
+    ensures len { array_vec_len found.new ≤ array_vec_len found.old + count }
+{
+    for part in bytes.split(|b| *b == b'*').take(usize::from(count)) {
+        push_value(found, spn, filled_text_of(part));
+    }
 }

@@ -17,13 +17,14 @@ pub(crate) enum Unit {
     LitresPerHour,
     KilometresPerLitre,
     Volts,
+    Fields,
 }
 
 impl Unit {
     /// The unit's text (own).
     fn text(self) -> &'static str
         ensures text { result.now ≡ unit_text self }
-        ensures short { length result.now ≤ 4 }
+        ensures short { length result.now ≤ 6 }
     {
         match self {
             Unit::Percent => "%",
@@ -37,6 +38,7 @@ impl Unit {
             Unit::LitresPerHour => "L/h",
             Unit::KilometresPerLitre => "km/L",
             Unit::Volts => "V",
+            Unit::Fields => "fields",
         }
     }
 }
@@ -97,7 +99,7 @@ impl Slot {
     /// The unit, as it is printed.
     pub fn unit(self) -> &'static str
         ensures text { result.now ≡ (slot_record self).unit }
-        ensures short { length result.now ≤ 4 }
+        ensures short { length result.now ≤ 6 }
     {
         self.unit.text()
     }

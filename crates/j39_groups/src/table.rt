@@ -11,6 +11,8 @@ pub(crate) enum Field {
     Switch { byte: u8, low: u8, high: u8 },
     /// One of the parts of the payload between the bytes `*`.
     Text { part: u8 },
+    /// At most `count` parts of the bytes from `byte` on.
+    Texts { byte: u8, count: u8 },
 }
 
 /// One parameter of a group.
@@ -81,6 +83,9 @@ macro_rules! parameters {
             text(0xFEEB, 587, part 2), // model
             text(0xFEEB, 588, part 3), // serial number
             text(0xFEEB, 233, part 4), // unit number
+            // SOFT, software identification (own layout)
+            number(0xFEDA, 965, bytes 1 to 1, step 1, offset 0, places 0, Fields), // number of software identification fields
+            texts(0xFEDA, 234, byte 2, parts 31), // software identification
         ]
     };
 }
@@ -125,6 +130,19 @@ macro_rules! text {
             pgn: $pgn,
             spn: $spn,
             field: Field::Text { part: $part },
+        }
+    };
+}
+
+macro_rules! texts {
+    ($pgn:literal, $spn:literal, byte $byte:literal, parts $count:literal) => {
+        Row {
+            pgn: $pgn,
+            spn: $spn,
+            field: Field::Texts {
+                byte: $byte,
+                count: $count,
+            },
         }
     };
 }

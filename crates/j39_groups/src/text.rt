@@ -6,7 +6,7 @@ ghost use Rattle.std.specs.Fmt.{decimal, digit_glyph};
 ghost use Rattle.arrayvec.specs.ArrayVec.{array_vec_len};
 ghost use Rattle.j39_frame.specs.Device.{Marks, AppendsFront};
 ghost use Rattle.j39_groups.specs.Shown.{value_of, slot_record};
-ghost use Rattle.j39_groups.specs.ValueText.{value_text, number_text, magnitude_text, pointed, byte_text, is_plain, quoted};
+ghost use Rattle.j39_groups.specs.ValueText.{value_text, number_text, magnitude_text, byte_text, is_plain, quoted};
 
 use crate::slot::Slot;
 use crate::value::Value;
@@ -50,31 +50,21 @@ fn number_text(number: i64, slot: Slot) -> Text
     out
 }
 
-/// Appends a magnitude with its places.
+/// Appends a magnitude with its places, from the last digit back.
 fn push_magnitude(out: &mut Text, magnitude: u64, places: u8)
     requires { array_vec_len out.old + places + 21 ≤ 288 }
-    ensures items { out.new.items ≡ out.old.items ++ magnitude_text magnitude places }
+    ensures items { out.new.items ≡ out.old.items ++ magnitude_text places magnitude }
     ensures len { array_vec_len out.new ≤ array_vec_len out.old + places + 21 }
 {
     if places == 0 {
         push_number(out, magnitude);
-    } else {
-        push_pointed(out, magnitude, places);
-    }
-}
-
-/// Appends the digits of a number with a point before the last `places` of them.
-fn push_pointed(out: &mut Text, value: u64, places: u8)
-    requires { array_vec_len out.old + places + 21 ≤ 288 }
-    ensures items { out.new.items ≡ out.old.items ++ pointed places value }
-    ensures len { array_vec_len out.new ≤ array_vec_len out.old + places + 21 }
-{
-    if places == 0 {
-        push_number(out, value);
+    } else if places == 1 {
+        push_number(out, magnitude / 10);
         push_bytes(out, b".");
+        push_digit(out, magnitude % 10);
     } else {
-        push_pointed(out, value / 10, places - 1);
-        push_digit(out, value % 10);
+        push_magnitude(out, magnitude / 10, places - 1);
+        push_digit(out, magnitude % 10);
     }
 }
 
@@ -129,7 +119,7 @@ fn byte_text(byte: u8) -> ArrayVec<u8, 4>
 fn is_plain(byte: u8) -> bool
     ensures { result ≡ is_plain byte }
 {
-    byte >= 0x20 && byte <= 0x7E && byte != b'"' && byte != b'\\'
+    byte >= b' ' && byte <= b'~' && byte != b'"' && byte != b'\\'
 }
 
 /// A digit from 0 to 15 in upper-case hex.

@@ -73,3 +73,14 @@ fn repeated_values(rt: HostRuntime) -> Result<(), Fail> {
         "frames 2 other 0 unread 0 messages 2 lines 2",
     )
 }
+
+#[test]
+fn nine_decimals(rt: HostRuntime) -> Result<(), Fail> {
+    reports(
+        &rt,
+        "(1.000000999) can0 0CF00400#F0FFFFE02EFFFFFF\n\
+         (1.0000009) can0 0CF00400#F0FFFFE02EFFFFFF\n",
+        "(0000000001.000000) 00 ---------------- 61444 190 1500.000 rpm\n",
+        [1, 0, 1, 1, 1],
+    )
+}

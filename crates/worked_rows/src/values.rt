@@ -103,6 +103,23 @@ fn vin_in_one_frame(rt: HostRuntime) -> Result<(), Fail> {
 }
 
 #[test]
+fn software_in_one_frame(rt: HostRuntime) -> Result<(), Fail> {
+    reads(
+        &rt,
+        "18FEDA00#0241312A4232322A",
+        "65242",
+        &["965 2 fields", "234 \"A1\"", "234 \"B22\""],
+    )?;
+    reads(
+        &rt,
+        "18FEDA00#0141312AFFFFFFFF",
+        "65242",
+        &["965 1 fields", "234 \"A1\""],
+    )?;
+    reads(&rt, "18FEDA00#FF2A2AFFFFFFFFFF", "65242", &[])
+}
+
+#[test]
 fn raw_values(rt: HostRuntime) {
     let rows = [
         (190, 1_500_000, Some(12_000)),
@@ -113,6 +130,9 @@ fn raw_values(rt: HostRuntime) {
         (110, -41, None),
         (175, -3_125, Some(8_735)),
         (70, 1, None),
+        (965, 250, Some(250)),
+        (965, 251, None),
+        (234, 1, None),
     ];
     for (spn, value, raw) in rows {
         assert_eq!(rt; raw_of(spn, value), raw, "{spn} {value}");

@@ -1,8 +1,8 @@
 -- Each row sets the bit of its group.
 use Rattle.std.proofs.Common.{◌==◌}
 use Rattle.std.proofs.lemmas.List.Folds.{list_any_none}
-use Rattle.j39_groups.specs.Table.{low_bit, the_table}
-use Rattle.j39_groups.proofs.TableLemmas.{on_unset, other_rows, filter_none}
+use Rattle.j39_groups.specs.Table.{the_table}
+use Rattle.j39_groups.proofs.TableLemmas.{low_bit, on_unset, other_rows, filter_none}
 use Rattle.j39_groups.proofs.reading.may_be_listed.Goals as goal
 
 pub returns-clause-any : goal.returns-clause-any

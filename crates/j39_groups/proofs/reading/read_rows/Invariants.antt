@@ -1,13 +1,14 @@
 use Rattle.std.proofs.Common.{◌≡◌, ◌≤◌, ◌==◌, map, take}
-use Rattle.std.specs.Prelude.{filter, count_by}
-use Rattle.std.specs.List.{filter_map}
+use Rattle.std.specs.Prelude.{filter}
+use Rattle.std.specs.List.{flat_map}
 use Rattle.arrayvec.specs.ArrayVec.{array_vec_len}
-use Rattle.j39_groups.specs.Readings.{reading_at}
+use Rattle.j39_groups.specs.CodeRows.{row_record, most_values_of}
+use Rattle.j39_groups.specs.Readings.{readings_at}
 use Rattle.j39_groups.specs.Shown.{reading_of}
 use Rattle.j39_groups.proofs.reading.read_rows.Given as goal
 
--- the rows so far are read, and each took one place at most
+-- the rows so far are read, and took no more places than they have values
 abbrev pub invariant-loop-row : goal.invariant-loop-row
 invariant-loop-row l =
-    (map reading_of l.found.items ≡ filter_map (reading_at l.bytes) (filter (λ row. row.pgn == l.pgn) (take l.row-index l.rows)))
-    × (array_vec_len l.found ≤ count_by (λ row. row.pgn == l.pgn) (take l.row-index l.rows))
+    (map reading_of l.found.items ≡ flat_map (λ row. readings_at l.bytes (row_record row)) (filter (λ row. row.pgn == l.pgn) (take l.row-index l.rows)))
+    × (array_vec_len l.found ≤ most_values_of l.pgn (take l.row-index l.rows))

@@ -3,7 +3,7 @@ use Rattle.std.proofs.Common.{◌<◌, ◌≤◌, ◌^◌, length, arith}
 use Rattle.byteorder.specs.Endian.{little_number}
 use Rattle.byteorder.specs.Numbers.{little_from-lt}
 use Rattle.j39_groups.proofs.NumberLemmas.{pow-256-le}
-use Rattle.j39_groups.proofs.field.number_of.Goals as goal
+use Rattle.j39_groups.proofs.field.little_number.Goals as goal
 
 pub overflow_cast-result : goal.overflow_cast-result
 overflow_cast-result c =
