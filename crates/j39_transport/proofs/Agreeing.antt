@@ -1,15 +1,11 @@
 -- What stands at a place of a list of events, and chains over lists that agree up to a place.
-use Rattle.std.proofs.Common.{◌≡◌, ◌⊎◌, ℕ, zero, suc, ◌+◌, ◌/◌, ◌^◌, ◌<◌, ◌≤◌, Bool, true, false, if◌then◌else◌, ◌||◌, ◌&&◌, List, [], ◌∷◌, ◌++◌, length, refl, sym, ap, ◌∙◌, subst, inl, inr, arith, slice_index, ◌==◌, eqb-true, ltb-true, nat_lt, nat_le}
+use Rattle.std.proofs.Common.{◌≡◌, ℕ, zero, suc, ◌+◌, ◌<◌, ◌≤◌, Bool, true, false, if◌then◌else◌, List, [], ◌∷◌, ◌++◌, length, refl, sym, ap, ◌∙◌, subst, inl, inr, arith}
 use Rattle.std.proofs.lemmas.List.{get_or_append_left, get_or_push, get_or_past}
-use Rattle.std.proofs.lemmas.Bool.{leb-true, cases_lt, cases_eq, cases_order, cases_Bool, and_parts, or_cases, or_from, or_left, or_right, false_from_ne_true, both_ways, cond-true, cond-false}
-use Rattle.j39_frame.specs.Frame.{FrameRecord}
-use Rattle.j39_frame.specs.Network.{transport_control_group}
-use Rattle.j39_transport.specs.Key.{Key, sender, goes_to, opening, is_key, limit}
-use Rattle.j39_transport.specs.Frames.{packets_named, size_named, pgn_named, packets_for, names_message, is_announcement, is_packet, is_control, is_clear_to_send, is_end, is_rival, goes, group_of, source_of, destination_of}
-use Rattle.j39_transport.specs.Key.Key.{Broadcast, Directed}
-use Rattle.j39_transport.specs.Events.{Event, at, announces, sends, grants, ends, rivals, number, packets, stamp, belongs, is_numbered}
-use Rattle.j39_transport.specs.Assembly.{IsFirstAfter, last_of, Links, AreSuccessive, count_below, Runs, joined, OpenBy}
-use Rattle.j39_transport.specs.Events.Event.{Frame, Forget}
+use Rattle.std.proofs.lemmas.Bool.{cases_lt, cases_eq, cases_Bool, both_ways, cond-true, cond-false}
+use Rattle.j39_transport.specs.Key.{Key, limit}
+use Rattle.j39_transport.specs.Events.{Event, at, announces, sends, ends, rivals, stamp, belongs, is_numbered}
+use Rattle.j39_transport.specs.Assembly.{IsFirstAfter, last_of, Links, AreSuccessive, count_below, Runs, joined}
+use Rattle.j39_transport.specs.Events.Event.{Forget}
 use Rattle.j39_transport.proofs.FrameFacts.{nothing}
 
 -- ---- what stands at a place

@@ -1,9 +1,9 @@
 -- What a frame is as an event, and how a packet and an announcement move a place.
-use Rattle.std.proofs.Common.{◌≡◌, ◌≢◌, ℕ, suc, ◌+◌, ◌<◌, Bool, true, false, if◌then◌else◌, ◌&&◌, ◌||◌, List, drop, slice_index, Option, Some, None, refl, sym, ap, ◌∙◌, subst, inl, inr, arith, nat_lt, ◌==◌, eqb-true, eq-eqb, ltb-true}
-use Rattle.std.proofs.lemmas.Bool.{cases_Bool, cond-true, cond-false, and_parts, and_from, and_right, or_left, or_right, or_cases, both_ways, false_from_ne_true, eqb-false}
+use Rattle.std.proofs.Common.{◌≡◌, ℕ, suc, ◌+◌, ◌<◌, Bool, true, false, if◌then◌else◌, List, drop, slice_index, Option, Some, None, refl, sym, ap, ◌∙◌, subst, inl, inr, arith, nat_lt, ◌==◌, eqb-true, eq-eqb, ltb-true}
+use Rattle.std.proofs.lemmas.Bool.{cases_Bool, cond-true, cond-false, and_parts, and_from, both_ways, false_from_ne_true}
 use Rattle.j39_frame.specs.Frame.{FrameRecord}
 use Rattle.j39_transport.specs.Key.{Key, sender, goes_to, opening}
-use Rattle.j39_transport.specs.Frames.{goes, group_of, source_of, destination_of, pgn_named, is_announcement, is_packet, is_control, is_clear_to_send, is_end, is_rival}
+use Rattle.j39_transport.specs.Frames.{group_of, source_of, destination_of, is_announcement, is_packet, is_clear_to_send, is_end, is_rival}
 use Rattle.j39_transport.specs.Key.Key.{Broadcast, Directed}
 use Rattle.j39_transport.specs.Events.{Event, announces, sends, grants, ends, rivals, number, payload, stamp}
 use Rattle.j39_transport.specs.Events.Event.{Frame}
@@ -14,9 +14,8 @@ use Rattle.j39_transport.specs.Steps.{AssemblerRecord, moves, packed, granted, c
 use Rattle.j39_transport.specs.Steps as steps
 use Rattle.j39_transport.specs.Session as sessions
 use Rattle.j39_transport.specs.Stands.{full, entry_in}
-use Rattle.j39_transport.proofs.FrameFacts.{announcement_facts, packet_facts, closing_facts, allowing_facts, pressing_facts, goes_parts, one_key, sends-others, announces-ends}
-use Rattle.j39_transport.proofs.ReadLemmas.{IsNoFrame, IsControl}
-use Rattle.j39_transport.proofs.MoveLemmas.{moved_none, moved_end, moved_rival, moved_grant, moved_packet, session_in, packed_is, granted_is}
+use Rattle.j39_transport.proofs.FrameFacts.{announcement_facts, packet_facts, allowing_facts, pressing_facts, one_key, sends-others, announces-ends}
+use Rattle.j39_transport.proofs.MoveLemmas.{moved_none, moved_rival, moved_packet, session_in, packed_is}
 use Rattle.j39_transport.proofs.PlaceLemmas.{on_pair}
 
 -- ---- what a frame is as an event

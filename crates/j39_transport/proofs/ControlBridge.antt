@@ -1,22 +1,20 @@
 -- How a CTS, an acknowledgment and an abort move a place.
-use Rattle.std.proofs.Common.{◌≡◌, ◌≢◌, ℕ, suc, ◌+◌, ◌<◌, Bool, true, false, if◌then◌else◌, ◌&&◌, ◌||◌, List, drop, slice_index, Option, Some, None, refl, sym, ap, ◌∙◌, subst, inl, inr, arith, nat_lt, ◌==◌, eqb-true, eq-eqb, ltb-true}
+use Rattle.std.proofs.Common.{◌≡◌, ◌≢◌, ℕ, Bool, true, false, if◌then◌else◌, ◌&&◌, ◌||◌, slice_index, Option, Some, None, refl, sym, ap, ◌∙◌, subst, inl, inr, arith, ◌==◌, eqb-true, eq-eqb}
 use Rattle.std.proofs.lemmas.Bool.{cases_Bool, cond-true, cond-false, and_parts, and_from, and_right, or_left, or_right, or_cases, both_ways, false_from_ne_true, eqb-false}
 use Rattle.j39_frame.specs.Frame.{FrameRecord}
-use Rattle.j39_transport.specs.Key.{Key, sender, goes_to, opening}
-use Rattle.j39_transport.specs.Frames.{goes, group_of, source_of, destination_of, pgn_named, is_announcement, is_packet, is_control, is_clear_to_send, is_end, is_rival}
+use Rattle.j39_transport.specs.Key.{Key, opening}
+use Rattle.j39_transport.specs.Frames.{goes, group_of, source_of, destination_of, pgn_named, is_control, is_clear_to_send, is_end, is_rival}
 use Rattle.j39_transport.specs.Key.Key.{Broadcast, Directed}
-use Rattle.j39_transport.specs.Events.{Event, announces, sends, grants, ends, rivals, number, payload, stamp}
+use Rattle.j39_transport.specs.Events.{Event, announces, sends, grants, ends, rivals, stamp}
 use Rattle.j39_transport.specs.Events.Event.{Frame}
-use Rattle.j39_transport.specs.EventSteps.{moved, moved_place, entry_of}
+use Rattle.j39_transport.specs.EventSteps.{moved_place}
 use Rattle.j39_transport.specs.Session.{SessionRecord}
 use Rattle.j39_transport.specs.Places.{is_of}
-use Rattle.j39_transport.specs.Steps.{AssemblerRecord, moves, packed, granted, closed, finished, with_place, state_after}
-use Rattle.j39_transport.specs.Steps as steps
-use Rattle.j39_transport.specs.Session as sessions
+use Rattle.j39_transport.specs.Steps.{granted, closed}
 use Rattle.j39_transport.specs.Stands.{full, entry_in}
-use Rattle.j39_transport.proofs.FrameFacts.{announcement_facts, packet_facts, closing_facts, allowing_facts, pressing_facts, goes_parts, one_key, sends-others, announces-ends}
+use Rattle.j39_transport.proofs.FrameFacts.{announcement_facts, packet_facts, closing_facts, allowing_facts, pressing_facts, goes_parts}
 use Rattle.j39_transport.proofs.ReadLemmas.{IsNoFrame, IsControl}
-use Rattle.j39_transport.proofs.MoveLemmas.{moved_none, moved_end, moved_rival, moved_grant, moved_packet, session_in, packed_is, granted_is}
+use Rattle.j39_transport.proofs.MoveLemmas.{moved_end, moved_grant, granted_is}
 use Rattle.j39_transport.proofs.PlaceLemmas.{on_pair}
 use Rattle.j39_transport.proofs.Bridge.{ev_announces, ev_sends, ev_grants, ev_ends, ev_rivals, same_granted, key_in, place_moves, quiet_moves, is_pair, pair_is}
 

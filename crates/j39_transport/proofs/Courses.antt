@@ -1,11 +1,10 @@
 -- The chains of a message some of whose packets are missing.
-use Rattle.std.proofs.Common.{◌≡◌, ◌⊎◌, ℕ, zero, suc, ◌+◌, ◌<◌, ◌≤◌, Bool, true, false, List, [], ◌∷◌, length, refl, sym, ap, ◌∙◌, subst, inl, inr, arith}
+use Rattle.std.proofs.Common.{◌≡◌, ℕ, zero, suc, ◌+◌, ◌<◌, ◌≤◌, Bool, true, List, [], ◌∷◌, length, refl, sym, ap, ◌∙◌, subst, inl, inr, arith}
 use Rattle.std.proofs.lemmas.Bool.{cases_lt, cases_eq, both_ways, false_from_ne_true}
 use Rattle.j39_transport.specs.Key.{Key, limit}
-use Rattle.j39_transport.specs.Events.{Event, at, announces, stamp, belongs, is_numbered}
-use Rattle.j39_transport.specs.Assembly.{IsFirstAfter, last_of, Links, AreSuccessive, Runs}
+use Rattle.j39_transport.specs.Events.{Event, at, stamp, is_numbered}
+use Rattle.j39_transport.specs.Assembly.{IsFirstAfter, last_of, Links}
 use Rattle.j39_transport.specs.Course.{Undisturbed, Course, GoesLaw, ReachesLaw, RunsLaw}
-use Rattle.j39_transport.proofs.Chains.{Links-from}
 use Rattle.j39_transport.proofs.Search.{last_true, first_true}
 
 pub goes : GoesLaw

@@ -1,15 +1,14 @@
 -- Open chains of a list of events, and of the list with one event more.
-use Rattle.std.proofs.Common.{◌≡◌, ◌⊎◌, ℕ, suc, ◌+◌, ◌<◌, ◌≤◌, Bool, true, false, if◌then◌else◌, ◌||◌, List, [], ◌∷◌, ◌++◌, length, take, Option, Some, None, refl, sym, ap, ◌∙◌, subst, inl, inr, arith, nat_lt, ◌==◌, eqb-true, ltb-true, ltb-false}
+use Rattle.std.proofs.Common.{◌≡◌, ◌⊎◌, ℕ, suc, ◌+◌, ◌<◌, ◌≤◌, Bool, true, false, if◌then◌else◌, List, [], ◌∷◌, ◌++◌, length, None, refl, sym, ap, ◌∙◌, subst, inl, inr, arith}
 use Rattle.std.proofs.lemmas.List.{length_push}
-use Rattle.std.proofs.lemmas.Bool.{cond_both, cond-true, cond-false, eqb-false, cases_lt, cases_order, cases_Bool, and_parts, or_parts, or_from, or_left, false_from_ne_true, both_ways, and_left, and_from}
+use Rattle.std.proofs.lemmas.Bool.{cases_lt, both_ways, and_left}
 use Rattle.j39_transport.specs.Key.{Key, limit}
-use Rattle.j39_transport.specs.Events.{Event, at, announces, sends, grants, ends, rivals, number, payload, size, packets, group, stamp, belongs, is_numbered}
-use Rattle.j39_transport.specs.Assembly.{IsFirstAfter, last_of, Links, AreSuccessive, count_below, Runs, Chain, joined, Whole, OpenBy}
-use Rattle.j39_transport.proofs.FrameFacts.{announces-packets, sends-others}
-use Rattle.j39_transport.proofs.Chains.{past_belongs, belongs_within, Links-from, Links-within, Open-unique}
-use Rattle.j39_transport.proofs.Agreeing.{at_before, at_new, announced_within, past_sends, agree_push, agree_pop, agree_less, Links-same, Runs-same, Runs-less, count_same, joined-same}
-use Rattle.j39_transport.specs.EventSteps.{Session, opened, last_after, after_after, touched, grown, is_late, is_crowded, is_over, on_other, step}
-use Rattle.j39_transport.specs.Stands.{IsSession, StandsFor}
+use Rattle.j39_transport.specs.Events.{Event, at, announces, ends, rivals, packets, group, stamp, belongs, is_numbered}
+use Rattle.j39_transport.specs.Assembly.{IsFirstAfter, last_of, Links, AreSuccessive, count_below, Runs, OpenBy}
+use Rattle.j39_transport.proofs.FrameFacts.{announces-packets}
+use Rattle.j39_transport.proofs.Chains.{Links-within}
+use Rattle.j39_transport.proofs.Agreeing.{at_before, at_new, announced_within, past_sends, agree_push, agree_pop, agree_less, Links-same, Runs-same, Runs-less, count_same}
+use Rattle.j39_transport.specs.Stands.{StandsFor}
 
 -- (a) nothing is open at first
 pub stands_new : (s : Key) → StandsFor [] s None

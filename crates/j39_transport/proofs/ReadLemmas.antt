@@ -1,8 +1,7 @@
 -- What a frame is, by what it is read as.
-use Rattle.std.proofs.Common.{◌≡◌, ◌≢◌, ℕ, ◌+◌, ◌*◌, ◌/◌, ◌<◌, ◌≤◌, Bool, true, false, if◌then◌else◌, ◌&&◌, List, length, drop, Option, Some, None, refl, sym, ◌∙◌, subst, inl, inr, arith, nat_lt, nat_le, ◌==◌, eqb-true, eq-eqb, ne_eqb, ltb-true, ltb-false, slice_index}
-use Rattle.std.proofs.lemmas.Bool.{cases_Bool, cond_both, cond-true, cond-false, and_parts, and_from, and_left, or_from, both_ways, false_from_ne_true, eqb-false}
+use Rattle.std.proofs.Common.{◌≡◌, ◌≢◌, ℕ, Bool, true, false, ◌&&◌, List, length, drop, Option, Some, None, refl, sym, ◌∙◌, subst, inl, inr, arith, nat_lt, ◌==◌, eqb-true, eq-eqb, ne_eqb, slice_index}
+use Rattle.std.proofs.lemmas.Bool.{cond_both, and_parts, and_from, and_left, or_from, both_ways, false_from_ne_true, eqb-false}
 use Rattle.j39_frame.specs.Frame.{FrameRecord}
-use Rattle.j39_frame.specs.Identifier as identifier
 use Rattle.j39_transport.specs.Key.{Key, sender, goes_to, opening, is_key}
 use Rattle.j39_transport.specs.Frames.{goes, group_of, source_of, destination_of, size_named, packets_named, pgn_named, names_message, is_announcement, is_packet, is_control, is_clear_to_send, is_end}
 use Rattle.j39_transport.specs.Key.Key.{Broadcast, Directed}

@@ -1,5 +1,5 @@
 -- The state of an assembler after an event is that of the definitions.
-use Rattle.std.proofs.Common.{◌≡◌, ◌≢◌, ℕ, zero, suc, ◌+◌, ◌<◌, ◌≤◌, Bool, true, false, if◌then◌else◌, List, [], ◌∷◌, ◌++◌, map, length, drop, take, set, get_or, slice_index, slice_set, Option, Some, None, refl, sym, ap, ◌∙◌, subst, inl, inr, arith, nat_lt, ◌==◌, eq-eqb, ltb-true, lt-ltb}
+use Rattle.std.proofs.Common.{◌≡◌, ℕ, zero, suc, ◌+◌, ◌<◌, ◌≤◌, Bool, true, false, if◌then◌else◌, List, [], ◌∷◌, ◌++◌, map, length, drop, take, set, get_or, slice_index, slice_set, Option, Some, None, refl, sym, ap, ◌∙◌, subst, inl, inr, arith, nat_lt, ◌==◌, eq-eqb, ltb-true, lt-ltb}
 use Rattle.std.proofs.lemmas.Bool.{cases_Bool, cases_lt, cond-true, cond-false, and_parts, and_from, and_left, and_right, both_ways, false_from_ne_true}
 use Rattle.std.proofs.lemmas.List.{map-set, get_or-map, set-get_or, length-map, get_or_past}
 use Rattle.j39_frame.specs.Frame.{FrameRecord}
@@ -17,7 +17,7 @@ use Rattle.j39_transport.specs.Steps.{AssemblerRecord, packed, granted, closed, 
 use Rattle.j39_transport.specs.Session as sessions
 use Rattle.j39_transport.proofs.FrameFacts.{announcement_facts, packet_facts, sends-others}
 use Rattle.j39_transport.proofs.ReadLemmas.{IsControl, Facts, read_is}
-use Rattle.j39_transport.proofs.MoveLemmas.{moved_none, moved_end, moved_packet, session_in, packed_is}
+use Rattle.j39_transport.proofs.MoveLemmas.{moved_end, moved_packet, session_in, packed_is}
 use Rattle.j39_transport.proofs.PlaceLemmas.{Change, on_pair, Once, with_once, room_once, aged_moves, aged_shifts, once_of, aged_at}
 use Rattle.j39_transport.proofs.Bridge.{packs_place, packs_other, broadcast_place, rival_place, ev_announces, ev_sends, announced_no_packet, place_moves, quiet_moves, key_in}
 use Rattle.j39_transport.proofs.ControlBridge.{grants_place, finishes_place, aborts_place, other_place, no_pack, no_opening}

@@ -1,25 +1,17 @@
 -- How many messages are open, and their bytes, as sums over the places.
-use Rattle.std.proofs.Common.{◌≡◌, ◌≢◌, ℕ, zero, suc, ◌+◌, ◌*◌, ◌<◌, ◌≤◌, Bool, true, false, if◌then◌else◌, ◌&&◌, ◌||◌, List, [], ◌∷◌, ◌++◌, length, get_or, take, replicate, set, Option, Some, None, refl, sym, ap, ◌∙◌, subst, inl, inr, arith, nat_lt, ◌==◌, eqb-true, eq-eqb, ne_eqb, ltb-true, lt-ltb, append_assoc, append-nil}
-use Rattle.std.proofs.lemmas.Bool.{cases_lt, cases_eq, cases_Bool, cond_both, cond-true, cond-false, and_parts, and_from, and_left, and_right, or_from, both_ways, false_from_ne_true}
-use Rattle.std.proofs.lemmas.List.{get_or-set_same, get_or-set_other, length-set, get_or-replicate, length-replicate, take_all}
+use Rattle.std.proofs.Common.{◌≡◌, ◌≢◌, ℕ, zero, suc, ◌+◌, ◌*◌, ◌<◌, ◌≤◌, Bool, false, if◌then◌else◌, ◌&&◌, List, [], ◌∷◌, ◌++◌, length, get_or, take, Option, Some, None, refl, sym, ap, ◌∙◌, subst, inl, inr, arith, nat_lt, ◌==◌, eqb-true, eq-eqb, ne_eqb, ltb-true, lt-ltb}
+use Rattle.std.proofs.lemmas.Bool.{cases_lt, cases_eq, cases_Bool, cond-true, cond-false, and_parts, and_from, and_left, and_right, both_ways, false_from_ne_true}
+use Rattle.std.proofs.lemmas.List.{take_all}
 use Rattle.std.proofs.lemmas.List.Sums.{sum_by_more, sum_by-cons}
 use Rattle.std.specs.List.{sum_by}
-use Rattle.j39_frame.specs.Frame.{FrameRecord}
-use Rattle.j39_transport.specs.Key.{Key, sender, is_key, broadcast_keys, row, pairs, all_keys}
-use Rattle.j39_transport.specs.Frames.{source_of, destination_of, is_packet, is_clear_to_send, is_end, is_rival}
+use Rattle.j39_transport.specs.Key.{Key, broadcast_keys, row, pairs, all_keys}
 use Rattle.j39_transport.specs.Key.Key.{Broadcast, Directed}
-use Rattle.j39_transport.specs.Events.{Event, at, announces, sends, ends, rivals, belongs, is_numbered, grants, number, payload}
-use Rattle.j39_transport.specs.Assembly.{count_below, Opens, Whole}
-use Rattle.j39_transport.specs.Events.Event.{Frame, Forget}
+use Rattle.j39_transport.specs.Events.{Event, at, rivals}
+use Rattle.j39_transport.specs.Assembly.{count_below, Opens}
 use Rattle.j39_transport.proofs.Chains.{Open-unique}
-use Rattle.j39_transport.proofs.FrameFacts.{packet_facts, announcement_facts}
-use Rattle.j39_transport.proofs.OneMore.{stands_new}
-use Rattle.j39_transport.proofs.Moving.{step_stands}
-use Rattle.j39_transport.proofs.Completing.{Continues, Completes, whole_from, whole_only}
-use Rattle.j39_transport.proofs.Taken.{assembled_sent}
-use Rattle.j39_transport.proofs.Tables.{opens_bounded, opens_unique, is_open, holding, over, opens_over, directed_new, directed_more, directed_stands, lookup, Looked, looked}
-use Rattle.j39_transport.specs.EventSteps.{Session, last_after, after_after, is_late, is_crowded, is_over, step, Entry, from_of, directed_step, broadcast_step, table_step, Table}
-use Rattle.j39_transport.specs.Stands.{IsSession, StandsFor, AreDirected, AreBroadcasts, IsTable}
+use Rattle.j39_transport.proofs.Tables.{opens_bounded, opens_unique, is_open, holding, over, opens_over, lookup, Looked, looked}
+use Rattle.j39_transport.specs.EventSteps.{Session, Entry, Table}
+use Rattle.j39_transport.specs.Stands.{IsSession, AreDirected, IsTable}
 use Rattle.j39_transport.proofs.AllKeys.{no_sessions, table_new, table_run, table_all, session_of, announced_key, table_stands}
 
 -- ---- the sums

@@ -1,7 +1,7 @@
 -- Messages put together: which places of a list of events make a message (J1939-21, 5.10).
 use Rattle.std.specs.Prelude.{◌≡◌, ◌⊎◌, ℕ, zero, suc, ◌+◌, ◌*◌, ◌<◌, ◌≤◌, Bool, true, false, List, [], ◌∷◌, ◌++◌, length, take, if◌then◌else◌}
 use Rattle.j39_transport.specs.Key.{Key, limit}
-use Rattle.j39_transport.specs.Events.{Event, at, announces, ends, rivals, number, payload, size, packets, group, stamp, belongs, is_numbered}
+use Rattle.j39_transport.specs.Events.{Event, at, announces, ends, rivals, payload, size, packets, group, stamp, belongs, is_numbered}
 
 -- p is the first place after q at which a packet of k numbered j stands
 pub record IsFirstAfter (E : List Event) (k : Key) (q j p : ℕ) : Type 0 where

@@ -2,7 +2,7 @@
 use Rattle.std.specs.Prelude.{◌≡◌, ℕ, suc, ◌+◌, ◌<◌, ◌≤◌, Bool, true, false, List, length}
 use Rattle.j39_transport.specs.Key.{Key, limit}
 use Rattle.j39_transport.specs.Events.{Event, at, announces, ends, rivals, stamp, belongs, is_numbered}
-use Rattle.j39_transport.specs.Assembly.{last_of, Links, AreSuccessive, count_below, Runs}
+use Rattle.j39_transport.specs.Assembly.{last_of, Links, count_below, Runs}
 
 -- no announcement of k stands after c0 and before r
 abbrev pub Undisturbed : List Event → Key → ℕ → ℕ → Type 0

@@ -99,18 +99,17 @@ fn overheard_hold(rt: HostRuntime) -> Result<(), Fail> {
     Ok(())
 }
 
-/// A transfer of 00 to 0B, and after its first packet one to each address from 10 (hex) to the
-/// last: how many are open then, and what the second and the third packet are.
-fn crowded(assembler: &mut Assembler, last: u32) -> (usize, Option<Kind>, Option<Kind>) {
-    let _begun = follows(
-        assembler,
-        &[
-            (2_000_000, TO_0B, Q, Taken),
-            (2_010_000, DATA_TO_0B, P1, Taken),
-        ],
-    );
-    for destination in 0x10..last + 1 {
-        let _other = fed(assembler, 2_020_000, 0x1CEC0000 + 256 * destination, &Q);
+/// A transfer of 00 to 0B, and after its first packet one to each address from 10 (hex) to before
+/// the end: how many are open then, and what the second and the third packet are.
+fn crowded(assembler: &mut Assembler, end: u8) -> (usize, Option<Kind>, Option<Kind>) {
+    let begun = [
+        (2_000_000, TO_0B, Q, Taken),
+        (2_010_000, DATA_TO_0B, P1, Taken),
+    ];
+    let _begun = follows(assembler, &begun);
+    for destination in 0x10..end {
+        let id = 0x1CEC0000 + 256 * u32::from(destination);
+        let _other = fed(assembler, 2_020_000, id, &Q);
     }
     let open = assembler.open();
     let second = fed(assembler, 2_030_000, DATA_TO_0B, &P2);
@@ -121,12 +120,12 @@ fn crowded(assembler: &mut Assembler, last: u32) -> (usize, Option<Kind>, Option
 fn sixteen_transfers(rt: HostRuntime) -> Result<(), Fail> {
     let mut assembler = Assembler::new(rt.alloc());
     assert_eq!(rt;
-        crowded(&mut assembler, 0x1E),
+        crowded(&mut assembler, 0x1F),
         (16, Some(Taken), Some(Whole))
     );
     let mut assembler = Assembler::new(rt.alloc());
     assert_eq!(rt;
-        crowded(&mut assembler, 0x1F),
+        crowded(&mut assembler, 0x20),
         (16, Some(Ignored), Some(Ignored))
     );
     Ok(())
