@@ -1,5 +1,11 @@
-pub mod ReportLemmas
-pub mod MeetLemmas
-pub mod RunLemmas
-pub mod StopLemmas
-pub mod PieceLemmas
+pub mod Rising
+pub mod Held
+pub mod Causal
+pub mod Events
+pub mod Reported
+pub mod Unique
+pub mod Masks
+pub mod Forgets
+pub mod Gaps
+pub mod Between
+pub mod Feeding

@@ -1,8 +1,6 @@
 pub mod Heard
+pub mod Forgets
 pub mod Report
-pub mod Counting
-pub mod Run
-pub mod Fault
-pub mod LineSteps
-pub mod PieceSteps
-pub mod Shown
+pub mod NextSteps
+pub mod Lost
+pub mod Laws

@@ -1,12 +1,9 @@
 //! What a listener hears on a bus, and the runs that write it down.
 #![tactic(auto)]
 
-mod counts;
-mod heard;
-mod pieces;
-mod progress;
-mod report_lines;
-mod running;
+ghost use Rattle.j39_listen.specs.Laws.{NextLaw};
 
-pub use counts::Counts;
-pub use running::{RunFault, run};
+/// What is heard at one frame more.
+pub fn next_frame()
+    ensures { NextLaw }
+{}
