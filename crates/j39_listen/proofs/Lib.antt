@@ -9,3 +9,4 @@ pub mod Forgets
 pub mod Gaps
 pub mod Between
 pub mod Feeding
+pub mod ListenerLemmas

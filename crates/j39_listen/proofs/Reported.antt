@@ -1,5 +1,5 @@
 -- Frames of reported groups, and frames of the transport protocol.
-use Rattle.std.proofs.Common.{◌≡◌, ℕ, true, refl, sym, ◌∙◌, subst}
+use Rattle.std.proofs.Common.{◌≡◌, ℕ, true, false, refl, sym, ap, ◌∙◌, subst}
 use Rattle.std.proofs.lemmas.Bool.{both_ways}
 use Rattle.j39_frame.specs.Frame.{FrameRecord}
 use Rattle.j39_frame.specs.Identifier.{pgn_of, source_of}
@@ -30,3 +30,10 @@ transport_data_silent e = both_ways _ refl e
 
 pub not_reported : (g : ℕ) → is_reported_group g ≡ true → g ≡ 60160 → ⊥
 not_reported g r e = transport_data_silent (subst (λ (x : ℕ). is_reported_group x ≡ true) e r)
+
+silent_claims : is_reported_group 60928 ≡ false
+unfolding is_reported_group the_table
+silent_claims = refl
+
+pub claims_silent : (g : ℕ) → g ≡ 60928 → is_reported_group g ≡ false
+claims_silent g e = ap is_reported_group e ∙ silent_claims

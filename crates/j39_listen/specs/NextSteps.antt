@@ -1,5 +1,5 @@
 -- One frame more: what it carries, and what is heard at it.
-use Rattle.std.specs.Prelude.{◌≡◌, ℕ, Bool, true, false, List, Option, Some, None, nat_lt}
+use Rattle.std.specs.Prelude.{◌≡◌, ℕ, Bool, true, false, List, Option, Some, None, nat_lt, if◌then◌else◌}
 use Rattle.j39_frame.specs.Address.{null_address}
 use Rattle.j39_frame.specs.Frame.{FrameRecord}
 use Rattle.j39_frame.specs.Identifier.{source_of, pgn_of}
@@ -7,6 +7,7 @@ use Rattle.j39_groups.specs.Readings.{is_reported_group}
 use Rattle.j39_transport.specs.Answers.{Assembled}
 use Rattle.j39_transport.specs.Assembly.{Event}
 use Rattle.j39_transport.specs.Message.{MessageRecord}
+use Rattle.j39_address.specs.Claim.{claim_of}
 use Rattle.j39_listen.specs.Heard.{Hearing}
 
 -- the message that a frame of a reported group is
@@ -25,3 +26,12 @@ Next E f c = NextBy (is_reported_group (pgn_of f.id)) (nat_lt (source_of f.id) n
 abbrev pub heard_of : FrameRecord → Option ℕ → Option MessageRecord → Option Hearing
 heard_of f name None = None
 heard_of f name (Some m) = Some (record { message = m; stamp = f.stamp; name = name })
+
+-- a frame of a reported group, as it is heard
+abbrev pub heard_alone : FrameRecord → Option ℕ → Option Hearing
+heard_alone f name = if nat_lt (source_of f.id) null_address then heard_of f name (Some (alone_of f)) else None
+
+-- the frame claims nothing, and is of no reported group: it may be one of many of a message
+pub record IsMany (f : FrameRecord) : Type 0 where
+  pub no_claim : claim_of f ≡ None
+  pub not_reported : is_reported_group (pgn_of f.id) ≡ false
