@@ -10,3 +10,5 @@ pub mod Gaps
 pub mod Between
 pub mod Feeding
 pub mod ListenerLemmas
+pub mod ReportLemmas
+pub mod MeetLemmas

@@ -6,3 +6,5 @@ pub mod Listening
 pub mod Shown
 pub mod Lost
 pub mod Laws
+pub mod Counting
+pub mod LineSteps

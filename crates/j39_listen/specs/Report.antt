@@ -50,3 +50,7 @@ entry_text e = head_text e.stamp e.address e.name e.pgn ++ decimal e.spn ++ code
 
 unfoldable pub text_of : List Entry → List ℕ
 text_of entries = flat_map entry_text entries
+
+-- the text of the report of these messages
+abbrev pub report_text : List Hearing → List ℕ
+report_text heard = text_of (flat_map entries_of heard)

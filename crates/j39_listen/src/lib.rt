@@ -1,8 +1,12 @@
 //! What a listener hears on a bus, and the runs that write it down.
 #![tactic(auto)]
 
+mod counts;
 mod heard;
 mod listener;
+mod progress;
+mod report_lines;
 
+pub use counts::Counts;
 pub use heard::Heard;
 pub use listener::Listener;
