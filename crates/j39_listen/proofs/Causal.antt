@@ -13,8 +13,10 @@ use Rattle.j39_listen.specs.Heard.{AreHeard, HeardAt, HeardBelow, Hearing, IsAss
 use Rattle.j39_listen.specs.Report.{Entry, IsReport, entries_of}
 use Rattle.j39_transport.proofs.Agreeing.{Agree, Links-same, Runs-same, joined-same}
 use Rattle.j39_transport.proofs.Chains.{Links-from}
-use Rattle.j39_transport.specs.Assembly.{Chain, Event, Whole, announces, at, group, joined, last_of, packets, size, stamp}
-use Rattle.j39_transport.specs.Assembly.Event.{Frame, Forget}
+use Rattle.j39_transport.specs.Assembly.{Chain, Whole, joined, last_of}
+use Rattle.j39_transport.specs.Events.{Event, announces, group, packets, size, stamp}
+use Rattle.j39_transport.specs.Places.{at}
+use Rattle.j39_transport.specs.Events.Event.{Frame, Forget}
 use Rattle.j39_transport.specs.Key.{Key}
 use Rattle.j39_transport.specs.Message.{MessageRecord}
 use Rattle.j39_transport.specs.Stands.{full}

@@ -23,8 +23,9 @@ use Rattle.j39_listen.specs.Report.{Entry, IsReport, entries_of}
 use Rattle.j39_transport.proofs.Agreeing.{Agree, at_new}
 use Rattle.j39_transport.proofs.FrameFacts.{packet_facts}
 use Rattle.j39_transport.specs.Answers.{WholeBy}
-use Rattle.j39_transport.specs.Assembly.{Event, Whole, sends, stamp}
-use Rattle.j39_transport.specs.Assembly.Event.{Frame, Forget}
+use Rattle.j39_transport.specs.Events.{Event, sends, stamp}
+use Rattle.j39_transport.specs.Assembly.{Whole}
+use Rattle.j39_transport.specs.Events.Event.{Frame, Forget}
 use Rattle.j39_transport.specs.Frames.{is_packet}
 use Rattle.j39_transport.specs.Key.{Key}
 use Rattle.j39_transport.specs.Message.{MessageRecord}

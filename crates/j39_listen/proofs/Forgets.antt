@@ -4,8 +4,10 @@ use Rattle.std.proofs.lemmas.Bool.{cases_lt, cases_eq, cases_Bool, and_parts, an
 use Rattle.j39_listen.proofs.Masks.{Same, kept_at, one_in_H, order_to_F, order_to_H, place_in_F, place_in_H, rank, rank_gone, rank_kept, same_element}
 use Rattle.j39_listen.specs.Lost.{without}
 use Rattle.j39_transport.proofs.Chains.{announces-belongs, belongs_within, sends-belongs}
-use Rattle.j39_transport.specs.Assembly.{AreSuccessive, Event, IsFirstAfter, Links, Runs, Whole, announces, at, belongs, count_below, ends, group, is_numbered, joined, last_of, number, packets, payload, rivals, sends, size, stamp}
-use Rattle.j39_transport.specs.Assembly.Event.{Forget}
+use Rattle.j39_transport.specs.Assembly.{AreSuccessive, IsFirstAfter, Links, Runs, Whole, count_below, joined, last_of}
+use Rattle.j39_transport.specs.Events.{Event, announces, belongs, ends, group, is_numbered, number, packets, payload, rivals, sends, size, stamp}
+use Rattle.j39_transport.specs.Places.{at}
+use Rattle.j39_transport.specs.Events.Event.{Forget}
 use Rattle.j39_transport.specs.Key.{Key, limit}
 use Rattle.j39_transport.specs.Stands.{full}
 

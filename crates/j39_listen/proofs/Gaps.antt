@@ -14,8 +14,9 @@ use Rattle.j39_listen.specs.Forgets.{Changed, WithForgets}
 use Rattle.j39_listen.specs.Heard.{frame_at, frames_only}
 use Rattle.j39_listen.specs.Lost.{without}
 use Rattle.j39_transport.proofs.FrameFacts.{key_below}
-use Rattle.j39_transport.specs.Assembly.{Event, announces, at, ends, grants, rivals, sends}
-use Rattle.j39_transport.specs.Assembly.Event.{Frame, Forget}
+use Rattle.j39_transport.specs.Events.{Event, announces, ends, grants, rivals, sends}
+use Rattle.j39_transport.specs.Places.{at}
+use Rattle.j39_transport.specs.Events.Event.{Frame, Forget}
 use Rattle.j39_transport.specs.Key.{Key, is_key, sender}
 
 -- ---- the frames of a list of events

@@ -12,3 +12,5 @@ pub mod Feeding
 pub mod ListenerLemmas
 pub mod ReportLemmas
 pub mod MeetLemmas
+pub mod RunLemmas
+pub mod StopLemmas

@@ -3,8 +3,8 @@ use Rattle.std.specs.Prelude.{◌≡◌, ◌≢◌, ℕ, zero, suc, List, [], �
 use Rattle.std.specs.List.{Contains}
 use Rattle.std.specs.List.Sorted.{IsStrictlyIncreasing}
 use Rattle.j39_frame.specs.Frame.{FrameRecord}
-use Rattle.j39_transport.specs.Assembly.{Event}
-use Rattle.j39_transport.specs.Assembly.Event.{Frame, Forget}
+use Rattle.j39_transport.specs.Events.{Event}
+use Rattle.j39_transport.specs.Events.Event.{Frame, Forget}
 use Rattle.j39_address.specs.Claim.{Claim, claims_of}
 use Rattle.j39_address.specs.Holder.{IsHolder}
 use Rattle.j39_listen.specs.Heard.{frame_at}

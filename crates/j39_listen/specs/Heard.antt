@@ -4,8 +4,9 @@ use Rattle.j39_frame.specs.Address.{IsAddress}
 use Rattle.j39_frame.specs.Frame.{FrameRecord}
 use Rattle.j39_frame.specs.Identifier.{source_of, pgn_of}
 use Rattle.j39_groups.specs.Readings.{is_reported_group}
-use Rattle.j39_transport.specs.Assembly.{Event, Whole}
-use Rattle.j39_transport.specs.Assembly.Event.{Frame}
+use Rattle.j39_transport.specs.Events.{Event}
+use Rattle.j39_transport.specs.Assembly.{Whole}
+use Rattle.j39_transport.specs.Events.Event.{Frame}
 use Rattle.j39_transport.specs.Key.{Key, sender}
 use Rattle.j39_transport.specs.Message.{MessageRecord}
 use Rattle.j39_address.specs.Claim.{claims_of}

@@ -3,8 +3,8 @@ use Rattle.std.specs.Prelude.{ℕ, List, [], ◌∷◌, ◌++◌, map, length, O
 use Rattle.std.specs.List.{flat_map}
 use Rattle.j39_frame.specs.Frame.{FrameRecord}
 use Rattle.j39_frame.specs.Identifier.{source_of}
-use Rattle.j39_transport.specs.Assembly.{Event}
-use Rattle.j39_transport.specs.Assembly.Event.{Frame, Forget}
+use Rattle.j39_transport.specs.Events.{Event}
+use Rattle.j39_transport.specs.Events.Event.{Frame, Forget}
 use Rattle.j39_transport.specs.Message.{MessageRecord}
 use Rattle.j39_address.specs.Claim.{claims_of}
 use Rattle.j39_address.specs.Holder.{IsHolder}

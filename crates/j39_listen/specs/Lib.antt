@@ -7,4 +7,6 @@ pub mod Shown
 pub mod Lost
 pub mod Laws
 pub mod Counting
+pub mod Run
 pub mod LineSteps
+pub mod PieceSteps

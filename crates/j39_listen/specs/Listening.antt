@@ -3,7 +3,7 @@ use Rattle.std.specs.Prelude.{ℕ, List, length}
 use Rattle.j39_address.specs.Claims.{Knows}
 use Rattle.j39_frame.specs.Frame.{FrameRecord}
 use Rattle.j39_transport.specs.Answers.{AreHeldAfter, AreOpenAfter}
-use Rattle.j39_transport.specs.Assembly.{Event}
+use Rattle.j39_transport.specs.Events.{Event}
 use Rattle.j39_transport.specs.Stands.{Stands}
 use Rattle.j39_listen.specs.Forgets.{WithForgets}
 use Rattle.j39_listen.specs.declared.listener.Listener.{Listener}

@@ -5,7 +5,7 @@ use Rattle.j39_frame.specs.Frame.{FrameRecord}
 use Rattle.j39_frame.specs.Identifier.{source_of, pgn_of}
 use Rattle.j39_groups.specs.Readings.{is_reported_group}
 use Rattle.j39_transport.specs.Answers.{Assembled}
-use Rattle.j39_transport.specs.Assembly.{Event}
+use Rattle.j39_transport.specs.Events.{Event}
 use Rattle.j39_transport.specs.Message.{MessageRecord}
 use Rattle.j39_address.specs.Claim.{claim_of}
 use Rattle.j39_listen.specs.Heard.{Hearing}

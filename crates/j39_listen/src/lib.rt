@@ -4,6 +4,7 @@
 mod counts;
 mod heard;
 mod listener;
+mod pieces;
 mod progress;
 mod report_lines;
 

@@ -6,6 +6,7 @@ ghost use Rattle.j39_frame.specs.Frame.{FrameRecord};
 ghost use Rattle.j39_frame.specs.LineRead.{spelled_of};
 ghost use Rattle.j39_listen.specs.LineSteps.{IsSpelling, MeetsFrame, MeetsLine, StopsFrame, StopsLine};
 ghost use Rattle.j39_listen.specs.Listening.{Hears};
+ghost use Rattle.j39_listen.specs.PieceSteps.{ReadsLine, StopsAt};
 ghost use Rattle.j39_listen.specs.declared.progress.LineFault.TheVariants.{Memory, Write};
 
 use crate::report_lines::put_heard;
@@ -28,6 +29,26 @@ pub(crate) enum LineFault {
     Memory,
     /// The writer failed.
     Write,
+}
+
+impl Progress {
+    /// Takes a line of the log, and writes the report of what is heard at it.
+    pub fn read<W: Sink>(&mut self, line: Line<'_>, sink: &mut W) -> Result<(), LineFault>
+        ensures read { OnOk result (IsSpelling (spelled_of line.entry)
+            → ReadsLine (spelled_of line.entry) self.old self.new (W.held sink.old) (W.held sink.new)) }
+        ensures write { result ≡ Err Write → W.has_failed sink.new ≡ true }
+        ensures stops { result ≡ Err Write → IsSpelling (spelled_of line.entry)
+            → StopsAt (spelled_of line.entry) self.old (W.held sink.old) (W.held sink.new) }
+        ensures memory { result ≡ Err Memory → W.held sink.new ≡ W.held sink.old }
+        ensures unmarked { result ≢ Err Write → W.has_failed sink.new ≡ W.has_failed sink.old }
+    {
+        let met = match meet(&mut self.bus, &mut self.listener, line, sink) {
+            Ok(met) => met,
+            Err(fault) => return Err(fault),
+        };
+        self.counts = self.counts.and(met);
+        Ok(())
+    }
 }
 
 /// Writes the report of what is heard at a line, and answers what the line counts for.

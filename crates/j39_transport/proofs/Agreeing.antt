@@ -7,8 +7,9 @@ use Rattle.j39_frame.specs.Network.{transport_control_group}
 use Rattle.j39_transport.specs.Key.{Key, sender, goes_to, opening, is_key, limit}
 use Rattle.j39_transport.specs.Frames.{packets_named, size_named, pgn_named, packets_for, names_message, is_announcement, is_packet, is_control, is_clear_to_send, is_end, is_rival, goes, group_of, source_of, destination_of}
 use Rattle.j39_transport.specs.Key.Key.{Broadcast, Directed}
-use Rattle.j39_transport.specs.Assembly.{Event, at, announces, sends, grants, ends, rivals, number, packets, stamp, belongs, is_numbered, IsFirstAfter, last_of, Links, AreSuccessive, count_below, Runs, joined, OpenBy}
-use Rattle.j39_transport.specs.Assembly.Event.{Frame, Forget}
+use Rattle.j39_transport.specs.Events.{Event, at, announces, sends, grants, ends, rivals, number, packets, stamp, belongs, is_numbered}
+use Rattle.j39_transport.specs.Assembly.{IsFirstAfter, last_of, Links, AreSuccessive, count_below, Runs, joined, OpenBy}
+use Rattle.j39_transport.specs.Events.Event.{Frame, Forget}
 use Rattle.j39_transport.proofs.FrameFacts.{nothing}
 
 -- ---- what stands at a place
@@ -33,9 +34,6 @@ sent_within E s p h = elim (cases_lt p (length E)) [
 
 pub past_sends : (E : List Event) (s : Key) (p : ℕ) → length E ≤ p → sends s (at E p) ≡ false
 past_sends E s p k = ap (sends s) (get_or_past E p (Forget 255) k) ∙ (nothing s 0).no_packet
-
-pub past_announces : (E : List Event) (s : Key) (p : ℕ) → length E ≤ p → announces s (at E p) ≡ false
-past_announces E s p k = ap (announces s) (get_or_past E p (Forget 255) k) ∙ (nothing s 0).no_announcement
 
 -- ---- lists that agree below a place
 

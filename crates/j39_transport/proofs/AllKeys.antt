@@ -5,12 +5,12 @@ use Rattle.std.proofs.lemmas.List.{get_or-set_same, get_or-set_other, length-set
 use Rattle.std.proofs.lemmas.List.Sums.{sum_by_more, sum_by-cons}
 use Rattle.std.specs.List.{sum_by}
 use Rattle.j39_frame.specs.Frame.{FrameRecord}
-use Rattle.j39_transport.specs.Key.{Key, sender, is_key}
+use Rattle.j39_transport.specs.Key.{Key, sender, is_key, broadcast_keys, row, pairs, all_keys}
 use Rattle.j39_transport.specs.Frames.{source_of, destination_of, is_packet, is_clear_to_send, is_end, is_rival}
 use Rattle.j39_transport.specs.Key.Key.{Broadcast, Directed}
-use Rattle.j39_transport.specs.Assembly.{Event, at, announces, sends, ends, rivals, belongs, count_below, is_numbered, grants, number, payload, Opens, Whole}
-use Rattle.j39_transport.specs.Assembly.Event.{Frame, Forget}
-use Rattle.j39_transport.specs.Assembly.{broadcast_keys, row, pairs, all_keys}
+use Rattle.j39_transport.specs.Events.{Event, at, announces, sends, ends, rivals, belongs, is_numbered, grants, number, payload}
+use Rattle.j39_transport.specs.Assembly.{count_below, Opens, Whole}
+use Rattle.j39_transport.specs.Events.Event.{Frame, Forget}
 use Rattle.j39_transport.proofs.Chains.{Open-unique}
 use Rattle.j39_transport.proofs.FrameFacts.{packet_facts, announcement_facts}
 use Rattle.j39_transport.proofs.OneMore.{stands_new}
@@ -20,6 +20,7 @@ use Rattle.j39_transport.proofs.Taken.{assembled_sent}
 use Rattle.j39_transport.proofs.Tables.{opens_bounded, opens_unique, is_open, holding, over, opens_over, directed_new, directed_more, directed_stands, lookup, Looked, looked}
 use Rattle.j39_transport.specs.EventSteps.{Session, last_after, after_after, is_late, is_crowded, is_over, step, Entry, from_of, directed_step, broadcast_step, table_step, Table}
 use Rattle.j39_transport.specs.Stands.{IsSession, StandsFor, AreDirected, AreBroadcasts, IsTable}
+use Rattle.j39_transport.proofs.MoveLemmas.{moved_none}
 
 -- ---- the state
 
@@ -41,19 +42,14 @@ unfolding announces sends ends grants rivals is_end is_clear_to_send is_rival
 others s (Frame f) n = (false_from_ne_true _ (λ k. n (sym (announcement_facts (Broadcast s) f k).source)), false_from_ne_true _ (λ k. n (sym (packet_facts (Broadcast s) f k).source)), (λ g. refl), (λ g. refl), refl)
 others s (Forget t) n = (refl, refl, (λ g. false_from_ne_true _ (λ k. n (eqb-true _ _ (and_parts (s == t) (nat_lt s 254) k).0))), (λ g. refl), refl)
 
+-- an event that is nothing to the broadcast of a source
+pub quiet_step : (e : Event) (s : ℕ) (o : Option Session) → announces (Broadcast s) e ≡ false → sends (Broadcast s) e ≡ false → ((g : ℕ) → grants (Broadcast s) g e ≡ false) → ((g : ℕ) → ends (Broadcast s) g e ≡ false) → rivals (Broadcast s) e ≡ false
+    → step (Broadcast s) e o ≡ o
+quiet_step e s None a b c d r = cond-false _ _ _ a
+quiet_step e s (Some x) a b c d r = cond-false _ _ _ a ∙ moved_none (Broadcast s) e x a b (c x.group_due) (d x.group_due) r
+
 step_other : (s : ℕ) (e : Event) (o : Option Session) → s ≢ from_of e → step (Broadcast s) e o ≡ o
-unfolding is_late is_crowded
-step_other s e None n = cond-false _ _ _ (others s e n).0
-step_other s e (Some x) n =
-    let t = others s e n in
-    let b : belongs (Broadcast s) x.group_due e ≡ false = or_from (announces (Broadcast s) e || sends (Broadcast s) e) (grants (Broadcast s) x.group_due e) (or_from (announces (Broadcast s) e) (sends (Broadcast s) e) t.0 t.1) (t.3 x.group_due) in
-    let o : is_over (Broadcast s) e x ≡ false = or_from (ends (Broadcast s) x.group_due e || is_late (Broadcast s) e x) (is_crowded (Broadcast s) e x)
-    (or_from (ends (Broadcast s) x.group_due e) (is_late (Broadcast s) e x) (t.2 x.group_due) (and_left _ _ b)) (and_left _ _ t.4) in
-    let l : last_after (Broadcast s) e x ≡ x.last = cond-false _ _ _ b in
-    let a : after_after (Broadcast s) e x ≡ x.after = cond-false _ _ _ t.4 in
-    cond-false _ _ _ t.0 ∙ (cond-false _ _ _ o ∙ (cond-false _ _ _ (and_left (sends (Broadcast s) e) (number e == suc x.count) t.1)
-    ∙ (ap (λ (v : ℕ). Some (record { packets_due = x.packets_due; size_due = x.size_due; group_due = x.group_due; count = x.count; bytes = x.bytes; last = v; after = after_after (Broadcast s) e x })) l
-    ∙ ap (λ (v : ℕ). Some (record { packets_due = x.packets_due; size_due = x.size_due; group_due = x.group_due; count = x.count; bytes = x.bytes; last = x.last; after = v })) a)))
+step_other s e o n = let t = others s e n in quiet_step e s o t.0 t.1 t.3 t.2 t.4
 
 broadcasts_more : (E : List Event) (e : Event) (T : List (Option Session)) → AreBroadcasts E T → AreBroadcasts (E ++ e ∷ []) (broadcast_step e T)
 broadcasts_more E e T h = record {

@@ -5,36 +5,28 @@ use Rattle.j39_frame.specs.Frame.{FrameRecord}
 use Rattle.j39_transport.specs.Key.{Key, sender, limit}
 use Rattle.j39_transport.specs.Frames.{source_of, is_announcement, is_packet}
 use Rattle.j39_transport.specs.Key.Key.{Broadcast, Directed}
-use Rattle.j39_transport.specs.Assembly.{Event, sends, number, payload, stamp}
-use Rattle.j39_transport.specs.Assembly.Event.{Frame}
-use Rattle.j39_transport.specs.EventSteps.{Session}
+use Rattle.j39_transport.specs.Events.{Event, sends, number, payload, stamp}
+use Rattle.j39_transport.specs.Events.Event.{Frame}
+use Rattle.j39_transport.specs.EventSteps.{Session, is_over}
 use Rattle.j39_transport.specs.Session.{SessionRecord}
-use Rattle.j39_transport.specs.Places.{Places, at, find}
-use Rattle.j39_transport.specs.FrameSteps.{Said, Announces, Packs, Grants, Finishes, Aborts, Other, said_by}
-use Rattle.j39_transport.specs.Steps.{AssemblerRecord, moves, packed, granted, closed, finished, with_place, state_after}
+use Rattle.j39_transport.specs.Places.{Places, at, find, find_from}
+use Rattle.j39_transport.specs.FrameSteps.{TransportFrame, Announcement, Packet, ClearToSend, Acknowledgment, Abort, Other, transport_frame_of}
+use Rattle.j39_transport.specs.Steps.{AssemblerRecord, moves, packed, granted, closed, finished, with_place, state_after, state_without, without_broadcast, room, empty_state, told, told_at, answer, answer_by}
 use Rattle.j39_transport.specs.Steps as steps
 use Rattle.j39_transport.specs.Answers as answers
 use Rattle.j39_transport.specs.Session as sessions
-use Rattle.j39_transport.specs.Stands.{full, aged, table_of}
+use Rattle.j39_transport.specs.Stands.{full, aged, table_of, Stands, StandsFor}
 use Rattle.j39_transport.proofs.FrameFacts.{packet_facts, sends-others}
 use Rattle.j39_transport.proofs.ReadLemmas.{IsControl, Facts, read_is}
 use Rattle.j39_transport.proofs.MoveLemmas.{sent_over, session_in}
-use Rattle.j39_transport.proofs.Bridge.{ev_announces, ev_sends, announced_no_packet}
+use Rattle.j39_transport.proofs.Bridge.{ev_announces, ev_sends, announced_no_packet, packet_key, ev_stamp}
 use Rattle.j39_transport.proofs.ControlBridge.{no_pack, no_opening}
-use Rattle.j39_transport.specs.Steps.{state_without, without_broadcast, room, empty_state}
-use Rattle.j39_transport.specs.Stands.{Stands}
-use Rattle.j39_transport.specs.Steps.{told, told_at, answer, answer_by}
-use Rattle.j39_transport.specs.Answers.{IsPartial}
-use Rattle.j39_transport.specs.Answers.{AnswersAt, IsTaken, NoneWhole}
-use Rattle.j39_transport.specs.Stands.{StandsFor}
-use Rattle.j39_transport.specs.EventSteps.{is_over}
+use Rattle.j39_transport.specs.Answers.{IsPartial, AnswersAt, IsTaken, NoneWhole}
 use Rattle.j39_transport.specs.Assembly.{Whole}
-use Rattle.j39_transport.specs.Places.{find_from}
 use Rattle.j39_transport.proofs.Completing.{Continues, Completes, whole_from, whole_only}
 use Rattle.j39_transport.proofs.Taken.{Grows, partial_iff, assembled_sent}
 use Rattle.j39_transport.proofs.Tables.{lookup, directed_stands}
 use Rattle.j39_transport.proofs.AllKeys.{table_stands, session_of}
-use Rattle.j39_transport.proofs.Bridge.{packet_key, ev_stamp}
 use Rattle.j39_transport.proofs.StepLemmas.{broadcast_at, in_broadcast, packet_no_announcement}
 
 module _ (E : List Event) (f : FrameRecord) (a : AssemblerRecord) (h : Stands E a) where
@@ -149,18 +141,18 @@ module _ (E : List Event) (f : FrameRecord) (a : AssemblerRecord) (h : Stands E 
   announcement_answer : (k : Key) → is_announcement k f ≡ true → AnswersAt E f answers.Taken
   announcement_answer k p = (inl (k, p), no_packet_no_whole E f a h (λ j. sym (ev_sends j f) ∙ announced_no_packet k j f p))
 
-  control_answer : (b s d g : ℕ) → IsControl b s d g f → b ≢ 16 → b ≢ 32 → AnswersAt E f answers.Ignored
-  control_answer b s d g c n m = ignored E f a h (λ k. sym (ev_announces k f) ∙ no_opening b s d g f c n m k) (λ k. sym (ev_sends k f) ∙ no_pack b s d g f c k)
+  control_answer : (b s d g : ℕ) → IsControl b s d g f → AnswersAt E f answers.Ignored
+  control_answer b s d g c = ignored E f a h (λ k. sym (ev_announces k f) ∙ no_opening b s d g f c k) (λ k. sym (ev_sends k f) ∙ no_pack b s d g f c k)
 
-  answer_is : (r : Said) → Facts f r → AnswersAt E f (answer a (source_of f.id) f.stamp r)
+  answer_is : (r : TransportFrame) → Facts f r → AnswersAt E f (answer a (source_of f.id) f.stamp r)
   unfolding answer
-  answer_is (Announces k g n p) c = announcement_answer k c.announces_it
-  answer_is (Packs (Broadcast s) n bs) c = subst (λ (o : answers.Outcome). AnswersAt E f o) (λ i. told (sym (packet_facts (Broadcast s) f c.packs_it).source i) 750000 (sym c.number_is i) (sym c.data_are i) f.stamp (at a.broadcasts s)) (packs_broadcast s c.packs_it)
-  answer_is (Packs (Directed s d) n bs) c = subst (λ (o : answers.Outcome). AnswersAt E f o) (λ i. told_at (find s d a.directed) (told (sym (packet_facts (Directed s d) f c.packs_it).source i) 1250000 (sym c.number_is i) (sym c.data_are i) f.stamp) a.directed) (packs_directed s d c.packs_it)
-  answer_is (Grants s d g) c = control_answer 17 s d g c (λ e. let o : ⊥ = omega arith in o) (λ e. let o : ⊥ = omega arith in o)
-  answer_is (Finishes s d g) c = control_answer 19 s d g c (λ e. let o : ⊥ = omega arith in o) (λ e. let o : ⊥ = omega arith in o)
-  answer_is (Aborts s d g) c = control_answer 255 s d g c (λ e. let o : ⊥ = omega arith in o) (λ e. let o : ⊥ = omega arith in o)
+  answer_is (Announcement k g n p) c = announcement_answer k c.announces_it
+  answer_is (Packet (Broadcast s) n bs) c = subst (λ (o : answers.Outcome). AnswersAt E f o) (λ i. told (sym (packet_facts (Broadcast s) f c.packs_it).source i) 750000 (sym c.number_is i) (sym c.data_are i) f.stamp (at a.broadcasts s)) (packs_broadcast s c.packs_it)
+  answer_is (Packet (Directed s d) n bs) c = subst (λ (o : answers.Outcome). AnswersAt E f o) (λ i. told_at (find s d a.directed) (told (sym (packet_facts (Directed s d) f c.packs_it).source i) 1250000 (sym c.number_is i) (sym c.data_are i) f.stamp) a.directed) (packs_directed s d c.packs_it)
+  answer_is (ClearToSend s d g) c = control_answer 17 s d g c
+  answer_is (Acknowledgment s d g) c = control_answer 19 s d g c
+  answer_is (Abort s d g) c = control_answer 255 s d g c
   answer_is Other c = ignored E f a h c.no_announcement c.no_packet
 
-  pub answers_at : AnswersAt E f (answer a (source_of f.id) f.stamp (said_by f))
-  answers_at = answer_is (said_by f) (read_is f)
+  pub answers_at : AnswersAt E f (answer a (source_of f.id) f.stamp (transport_frame_of f))
+  answers_at = answer_is (transport_frame_of f) (read_is f)

@@ -5,8 +5,8 @@ use Rattle.j39_frame.specs.Frame.{FrameRecord}
 use Rattle.j39_transport.specs.Key.{Key, sender, goes_to, opening}
 use Rattle.j39_transport.specs.Frames.{goes, group_of, source_of, destination_of, pgn_named, is_announcement, is_packet, is_control, is_clear_to_send, is_end, is_rival}
 use Rattle.j39_transport.specs.Key.Key.{Broadcast, Directed}
-use Rattle.j39_transport.specs.Assembly.{Event, announces, sends, grants, ends, rivals, number, payload, stamp}
-use Rattle.j39_transport.specs.Assembly.Event.{Frame}
+use Rattle.j39_transport.specs.Events.{Event, announces, sends, grants, ends, rivals, number, payload, stamp}
+use Rattle.j39_transport.specs.Events.Event.{Frame}
 use Rattle.j39_transport.specs.EventSteps.{moved, moved_place, entry_of}
 use Rattle.j39_transport.specs.Session.{SessionRecord}
 use Rattle.j39_transport.specs.Places.{is_of}
@@ -45,14 +45,6 @@ pub ev_stamp : (f : FrameRecord) → stamp (Frame f) ≡ f.stamp
 unfolding stamp
 ev_stamp f = refl
 
-ev_number : (f : FrameRecord) → number (Frame f) ≡ slice_index f.bytes 0
-unfolding number
-ev_number f = refl
-
-ev_payload : (f : FrameRecord) → payload (Frame f) ≡ drop 1 f.bytes
-unfolding payload
-ev_payload f = refl
-
 -- ---- a session that moves keeps its pair
 
 abbrev Same : SessionRecord → Option SessionRecord → Type 0
@@ -77,14 +69,6 @@ same_granted x g st = go (x.group == g) (nat_lt (x.last + 1250000) st)
     go true true = tt
     go true false = (refl, refl)
     go false b = (refl, refl)
-
-same_closed : (x : SessionRecord) (g : ℕ) → Same x (closed g (Some x))
-unfolding closed
-same_closed x g = go (x.group == g)
-  where
-    go : (a : Bool) → Same x (if a then None else Some x)
-    go true = tt
-    go false = (refl, refl)
 
 entry_kept : (i : ℕ) (x : SessionRecord) (o : Option SessionRecord) → Same x o → entry_of x.source x.destination (session_in i o) ≡ entry_in i o
 entry_kept i x None h = refl

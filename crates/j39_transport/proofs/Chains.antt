@@ -7,8 +7,9 @@ use Rattle.j39_frame.specs.Network.{transport_control_group}
 use Rattle.j39_transport.specs.Key.{Key, sender, goes_to, opening, is_key, limit}
 use Rattle.j39_transport.specs.Frames.{packets_named, size_named, pgn_named, packets_for, names_message, is_announcement, is_packet, is_control, is_clear_to_send, is_end, is_rival, goes, group_of, source_of, destination_of}
 use Rattle.j39_transport.specs.Key.Key.{Broadcast, Directed}
-use Rattle.j39_transport.specs.Assembly.{Event, at, announces, sends, grants, ends, rivals, number, packets, stamp, belongs, is_numbered, IsFirstAfter, last_of, Links, AreSuccessive, count_below, Runs, joined, OpenBy}
-use Rattle.j39_transport.specs.Assembly.Event.{Frame, Forget}
+use Rattle.j39_transport.specs.Events.{Event, at, announces, sends, grants, ends, rivals, number, packets, stamp, belongs, is_numbered}
+use Rattle.j39_transport.specs.Assembly.{IsFirstAfter, last_of, Links, AreSuccessive, count_below, Runs, joined, OpenBy}
+use Rattle.j39_transport.specs.Events.Event.{Frame, Forget}
 use Rattle.j39_transport.proofs.FrameFacts.{sends-others, nothing}
 use Rattle.j39_transport.proofs.Agreeing.{announced_within, sent_within}
 
@@ -80,12 +81,6 @@ Open-unique E s g g' p0 q0 ps qs h k =
     let b : length ps ≤ length qs = Links-longest E s p0 qs ps k'.links k'.no_next h.links in
     record { one_group = h.group_is ∙ sym k'.group_is; one_start = e; one_places = Links-unique E s p0 ps qs (omega arith) h.links k'.links }
 
-pub sends-belongs : (s : Key) (g : ℕ) (e : Event) → sends s e ≡ true → belongs s g e ≡ true
-sends-belongs s g e h = or_left (announces s e || sends s e) (grants s g e) (or_right (announces s e) (sends s e) h)
-
-pub announces-belongs : (s : Key) (g : ℕ) (e : Event) → announces s e ≡ true → belongs s g e ≡ true
-announces-belongs s g e h = or_left (announces s e || sends s e) (grants s g e) (or_left (announces s e) (sends s e) h)
-
 -- nothing of the message stands past the end
 pub past_belongs : (s : Key) (g : ℕ) (D : List Event) (q : ℕ) → length D ≤ q → belongs s g (at D q) ≡ false
 past_belongs s g D q h = ap (belongs s g) (get_or_past D q (Forget 255) h)
@@ -94,22 +89,3 @@ past_belongs s g D q h = ap (belongs s g) (get_or_past D q (Forget 255) h)
 
 pub belongs_within : (s : Key) (g : ℕ) (D : List Event) (q : ℕ) → belongs s g (at D q) ≡ true → q < length D
 belongs_within s g D q h = elim (cases_lt q (length D)) [ inl l ↦ l | inr l ↦ absurd (both_ways _ (past_belongs s g D q l) h) ]
-
--- between the announcement and the last packet is enough: the last packet itself neither announces nor ends
-pub runs_between : (E : List Event) (s : Key) (g p0 : ℕ) (ps : List ℕ) → Links E s p0 ps
-    → ((q : ℕ) → p0 < q → q < last_of p0 ps → (announces s (at E q) ≡ false) × (ends s g (at E q) ≡ false))
-    → ((a b : ℕ) → p0 ≤ a → b ≤ last_of p0 ps → AreSuccessive E s g a b → stamp (at E b) ≤ stamp (at E a) + limit s)
-    → count_below (rivals s) E (suc (last_of p0 ps)) < 16 + count_below (rivals s) E (suc p0)
-    → Runs E s g p0 (suc (last_of p0 ps))
-runs_between E s g p0 ps l quiet timely young = record {
-  quiet = λ q u v. elim (cases_eq q (last_of p0 ps)) [ inl e ↦ at_last ps l q e u | inr e ↦ quiet q u (omega arith) ];
-  in_time = λ a b u v c. timely a b u (omega arith) c;
-  young = young;
-}
-  where
-    at_last : (ps : List ℕ) → Links E s p0 ps → (q : ℕ) → q ≡ last_of p0 ps → p0 < q → (announces s (at E q) ≡ false) × (ends s g (at E q) ≡ false)
-    at_last [] l q e u = absurd (omega arith)
-    at_last (p ∷ ps) l q e u =
-        let a : sends s (at E p) ≡ true = (and_parts (sends s (at E p)) (number (at E p) == suc (length ps)) l.0.stands).0 in
-        let n = sends-others s s s g (at E p) a in
-        (ap (λ (i : ℕ). announces s (at E i)) e ∙ n.no_announcement, ap (λ (i : ℕ). ends s g (at E i)) e ∙ n.no_end)

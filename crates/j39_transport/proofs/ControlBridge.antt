@@ -5,8 +5,8 @@ use Rattle.j39_frame.specs.Frame.{FrameRecord}
 use Rattle.j39_transport.specs.Key.{Key, sender, goes_to, opening}
 use Rattle.j39_transport.specs.Frames.{goes, group_of, source_of, destination_of, pgn_named, is_announcement, is_packet, is_control, is_clear_to_send, is_end, is_rival}
 use Rattle.j39_transport.specs.Key.Key.{Broadcast, Directed}
-use Rattle.j39_transport.specs.Assembly.{Event, announces, sends, grants, ends, rivals, number, payload, stamp}
-use Rattle.j39_transport.specs.Assembly.Event.{Frame}
+use Rattle.j39_transport.specs.Events.{Event, announces, sends, grants, ends, rivals, number, payload, stamp}
+use Rattle.j39_transport.specs.Events.Event.{Frame}
 use Rattle.j39_transport.specs.EventSteps.{moved, moved_place, entry_of}
 use Rattle.j39_transport.specs.Session.{SessionRecord}
 use Rattle.j39_transport.specs.Places.{is_of}
@@ -29,15 +29,15 @@ module _ (b s d g : ℕ) (f : FrameRecord) (c : IsControl b s d g f) where
   pub no_pack : (k : Key) → sends k (Frame f) ≡ false
   no_pack k = ev_sends k f ∙ false_from_ne_true _ (λ t. (let p : group_of f.id ≡ 60160 = (packet_facts k f t).pgn in let q : group_of f.id ≡ 60416 = sent_pgn in let o : ⊥ = omega arith in o))
 
-  pub no_opening : b ≢ 16 → b ≢ 32 → (k : Key) → announces k (Frame f) ≡ false
-  no_opening n m k = ev_announces k f ∙ false_from_ne_true _ (λ t. go k (announcement_facts k f t).first)
+  pub no_opening : (k : Key) → announces k (Frame f) ≡ false
+  no_opening k = ev_announces k f ∙ false_from_ne_true _ (λ t. go k (announcement_facts k f t).first)
     where
       go : (k : Key) → slice_index f.bytes 0 ≡ opening k → ⊥
-      go (Broadcast s) e = m (sym c.first ∙ e)
-      go (Directed s d) e = n (sym c.first ∙ e)
+      go (Broadcast s) e = c.no_bam (sym c.first ∙ e)
+      go (Directed s d) e = c.no_rts (sym c.first ∙ e)
 
-  no_pressing : b ≢ 16 → (k : Key) → rivals k (Frame f) ≡ false
-  no_pressing n k = ev_rivals k f ∙ false_from_ne_true _ (λ t. n (sym c.first ∙ (pressing_facts k f t).1))
+  no_pressing : (k : Key) → rivals k (Frame f) ≡ false
+  no_pressing k = ev_rivals k f ∙ false_from_ne_true _ (λ t. c.no_rts (sym c.first ∙ (pressing_facts k f t).1))
 
   no_leave : b ≢ 17 → (k : Key) (g : ℕ) → grants k g (Frame f) ≡ false
   no_leave n k g = ev_grants k g f ∙ false_from_ne_true _ (λ t. n (sym c.first ∙ (allowing_facts k g f t).1))
@@ -64,10 +64,10 @@ pub grants_place : (s d g : ℕ) (f : FrameRecord) → IsControl 17 s d g f → 
 unfolding stamp granted is_clear_to_send
 grants_place s d g f c i None = refl
 grants_place s d g f c i (Some x) =
-    let a : announces (key_in x) (Frame f) ≡ false = no_opening 17 s d g f c (λ e. let o : ⊥ = omega arith in o) (λ e. let o : ⊥ = omega arith in o) (key_in x) in
+    let a : announces (key_in x) (Frame f) ≡ false = no_opening 17 s d g f c (key_in x) in
     let k : sends (key_in x) (Frame f) ≡ false = no_pack 17 s d g f c (key_in x) in
     let n : ends (key_in x) x.group (Frame f) ≡ false = no_close 17 s d g f c (λ e. let o : ⊥ = omega arith in o) (λ e. let o : ⊥ = omega arith in o) (key_in x) x.group in
-    let r : rivals (key_in x) (Frame f) ≡ false = no_pressing 17 s d g f c (λ e. let o : ⊥ = omega arith in o) (key_in x) in
+    let r : rivals (key_in x) (Frame f) ≡ false = no_pressing 17 s d g f c (key_in x) in
     elim (cases_Bool (is_of s d (Some x))) [
       | inl y ↦ elim (cases_Bool (x.group == g)) [
         | inl z ↦
@@ -93,15 +93,15 @@ ended_moves : (e : Event) (i : ℕ) (x : SessionRecord) → announces (key_in x)
 ended_moves e i x a t = place_moves e i x None a (moved_end (key_in x) e (full i x) a t) tt
 
 -- what ends is exactly what is closed
-module _ (b s d g : ℕ) (f : FrameRecord) (c : IsControl b s d g f) (n16 : b ≢ 16) (n17 : b ≢ 17) (n32 : b ≢ 32) where
+module _ (b s d g : ℕ) (f : FrameRecord) (c : IsControl b s d g f) (n17 : b ≢ 17) where
   closing_moves : (i : ℕ) (x : SessionRecord) (h : Bool) → is_end (key_in x) x.group f ≡ h → moved_place (Frame f) (entry_in i (Some x)) ≡ entry_in i (if h then None else Some x)
-  closing_moves i x true h = ended_moves (Frame f) i x (no_opening b s d g f c n16 n32 (key_in x)) (ev_ends (key_in x) x.group f ∙ h)
+  closing_moves i x true h = ended_moves (Frame f) i x (no_opening b s d g f c (key_in x)) (ev_ends (key_in x) x.group f ∙ h)
   closing_moves i x false h = quiet_moves (Frame f) i x (record {
-    no_announcement = no_opening b s d g f c n16 n32 (key_in x);
+    no_announcement = no_opening b s d g f c (key_in x);
     no_packet = no_pack b s d g f c (key_in x);
     no_grant = no_leave b s d g f c n17 (key_in x) x.group;
     no_end = ev_ends (key_in x) x.group f ∙ h;
-    no_rival = no_pressing b s d g f c n16 (key_in x);
+    no_rival = no_pressing b s d g f c (key_in x);
   })
 
 close_pair : (s d g : ℕ) (x : SessionRecord) → on_pair s d (closed g) (Some x) ≡ (if is_of s d (Some x) && x.group == g then None else Some x)
@@ -116,7 +116,7 @@ pub finishes_place : (s d g : ℕ) (f : FrameRecord) → IsControl 19 s d g f �
 unfolding is_end
 finishes_place s d g f c i None = refl
 finishes_place s d g f c i (Some x) =
-    closing_moves 19 s d g f c (λ e. let o : ⊥ = omega arith in o) (λ e. let o : ⊥ = omega arith in o) (λ e. let o : ⊥ = omega arith in o) i x (is_of s d (Some x) && x.group == g) is
+    closing_moves 19 s d g f c (λ e. let o : ⊥ = omega arith in o) i x (is_of s d (Some x) && x.group == g) is
     ∙ ap (entry_in i) (sym (close_pair s d g x))
   where
     is : is_end (key_in x) x.group f ≡ (is_of s d (Some x) && x.group == g)
@@ -154,7 +154,7 @@ pub aborts_place : (s d g : ℕ) (f : FrameRecord) → IsControl 255 s d g f →
 unfolding is_end
 aborts_place s d g f c i None = refl
 aborts_place s d g f c i (Some x) =
-    closing_moves 255 s d g f c (λ e. let o : ⊥ = omega arith in o) (λ e. let o : ⊥ = omega arith in o) (λ e. let o : ⊥ = omega arith in o) i x ((is_of s d (Some x) || is_of d s (Some x)) && x.group == g) is
+    closing_moves 255 s d g f c (λ e. let o : ⊥ = omega arith in o) i x ((is_of s d (Some x) || is_of d s (Some x)) && x.group == g) is
     ∙ ap (entry_in i) (sym (close_both s d g x))
   where
     is : is_end (key_in x) x.group f ≡ ((is_of s d (Some x) || is_of d s (Some x)) && x.group == g)

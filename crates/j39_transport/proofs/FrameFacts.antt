@@ -7,8 +7,9 @@ use Rattle.j39_frame.specs.Network.{transport_control_group}
 use Rattle.j39_transport.specs.Key.{Key, sender, goes_to, opening, is_key, limit}
 use Rattle.j39_transport.specs.Frames.{packets_named, size_named, pgn_named, packets_for, names_message, is_announcement, is_packet, is_control, is_clear_to_send, is_end, is_rival, goes, group_of, source_of, destination_of}
 use Rattle.j39_transport.specs.Key.Key.{Broadcast, Directed}
-use Rattle.j39_transport.specs.Assembly.{Event, at, announces, sends, grants, ends, rivals, number, packets, stamp, belongs, is_numbered, IsFirstAfter, last_of, Links, AreSuccessive, count_below, Runs, joined, OpenBy}
-use Rattle.j39_transport.specs.Assembly.Event.{Frame, Forget}
+use Rattle.j39_transport.specs.Events.{Event, at, announces, sends, grants, ends, rivals, number, packets, stamp, belongs, is_numbered}
+use Rattle.j39_transport.specs.Assembly.{IsFirstAfter, last_of, Links, AreSuccessive, count_below, Runs, joined, OpenBy}
+use Rattle.j39_transport.specs.Events.Event.{Frame, Forget}
 
 -- ---- no event is of two kinds
 
@@ -124,9 +125,6 @@ sends-others i j k g (Frame f) h =
       no_rival = false_from_ne_true _ (λ t. let q : group_of f.id ≡ 60416 = (pressing_facts k f t).0 in omega arith);
     }
 sends-others i j k g (Forget t) h = absurd (both_ways false refl h)
-
-pub announces-sends : (k : Key) (e : Event) → announces k e ≡ true → sends k e ≡ false
-announces-sends k e h = false_from_ne_true _ (λ t. both_ways _ (sends-others k k k 0 e t).no_announcement h)
 
 -- an announcement has packets, 255 at most
 pub announces-packets : (k : Key) (e : Event) → announces k e ≡ true → 0 < packets e

@@ -2,7 +2,7 @@
 use Rattle.std.proofs.Common.{◌≡◌, ℕ, suc, ◌+◌, ◌<◌, Bool, true, false, if◌then◌else◌, ◌&&◌, ◌||◌, List, ◌++◌, Option, Some, None, refl, ap, ◌∙◌, arith, nat_lt, ◌==◌, ltb-true}
 use Rattle.std.proofs.lemmas.Bool.{cond-false, false_from_ne_true}
 use Rattle.j39_transport.specs.Key.{Key, limit}
-use Rattle.j39_transport.specs.Assembly.{Event, announces, sends, grants, ends, rivals, number, payload, stamp}
+use Rattle.j39_transport.specs.Events.{Event, announces, sends, grants, ends, rivals, number, payload, stamp}
 use Rattle.j39_transport.specs.EventSteps.{Session, is_over, moved, is_late, is_crowded}
 use Rattle.j39_transport.specs.Session as record_of
 use Rattle.j39_transport.specs.Session.{SessionRecord}
@@ -12,10 +12,10 @@ use Rattle.j39_transport.specs.Stands.{full}
 
 -- the session with its last stamp and its age
 abbrev pub set_to : ℕ → ℕ → Session → Session
-set_to l a x = record { packets_due = x.packets_due; size_due = x.size_due; group_due = x.group_due; count = x.count; bytes = x.bytes; last = l; after = a }
+set_to l a x = record x { last = l; after = a }
 
 abbrev pub more_to : List ℕ → ℕ → ℕ → Session → Session
-more_to d l a x = record { packets_due = x.packets_due; size_due = x.size_due; group_due = x.group_due; count = suc x.count; bytes = x.bytes ++ d; last = l; after = a }
+more_to d l a x = record x { count = suc x.count; bytes = x.bytes ++ d; last = l; after = a }
 
 abbrev pub moved_by : (A S G N R : Bool) → (lim num st : ℕ) → List ℕ → Session → Option Session
 moved_by A S G N R lim num st d x =
@@ -110,11 +110,3 @@ granted_is i g st s = go (s.group == g) (nat_lt (s.last + 1250000) st)
     go true true = refl
     go true false = refl
     go false b = refl
-
-pub closed_is : (i g : ℕ) (s : SessionRecord) → session_in i (closed g (Some s)) ≡ (if s.group == g then None else Some (full i s))
-unfolding closed
-closed_is i g s = go (s.group == g)
-  where
-    go : (a : Bool) → session_in i (if a then None else Some s) ≡ (if a then None else Some (full i s))
-    go true = refl
-    go false = refl

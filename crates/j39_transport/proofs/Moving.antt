@@ -3,7 +3,8 @@ use Rattle.std.proofs.Common.{◌≡◌, ◌⊎◌, ℕ, suc, ◌+◌, ◌<◌, 
 use Rattle.std.proofs.lemmas.List.{length_push}
 use Rattle.std.proofs.lemmas.Bool.{cond_both, cond-true, cond-false, eqb-false, cases_lt, cases_order, cases_Bool, and_parts, or_parts, or_from, or_left, false_from_ne_true, both_ways, and_left, and_from}
 use Rattle.j39_transport.specs.Key.{Key, limit}
-use Rattle.j39_transport.specs.Assembly.{Event, at, announces, sends, grants, ends, rivals, number, payload, size, packets, group, stamp, belongs, is_numbered, IsFirstAfter, last_of, Links, AreSuccessive, count_below, Runs, Chain, joined, Whole, OpenBy}
+use Rattle.j39_transport.specs.Events.{Event, at, announces, sends, grants, ends, rivals, number, payload, size, packets, group, stamp, belongs, is_numbered}
+use Rattle.j39_transport.specs.Assembly.{IsFirstAfter, last_of, Links, AreSuccessive, count_below, Runs, Chain, joined, Whole, OpenBy}
 use Rattle.j39_transport.proofs.FrameFacts.{announces-packets, sends-others}
 use Rattle.j39_transport.proofs.Chains.{past_belongs, belongs_within, Links-from, Links-within, Open-unique}
 use Rattle.j39_transport.proofs.Agreeing.{at_before, at_new, announced_within, past_sends, agree_push, agree_pop, agree_less, Links-same, Runs-same, Runs-less, count_same, joined-same}

@@ -6,7 +6,7 @@ use Rattle.j39_frame.specs.Identifier as identifier
 use Rattle.j39_transport.specs.Key.{Key, sender, goes_to, opening, is_key}
 use Rattle.j39_transport.specs.Frames.{goes, group_of, source_of, destination_of, size_named, packets_named, pgn_named, names_message, is_announcement, is_packet, is_control, is_clear_to_send, is_end}
 use Rattle.j39_transport.specs.Key.Key.{Broadcast, Directed}
-use Rattle.j39_transport.specs.FrameSteps.{Said, Announces, Packs, Grants, Finishes, Aborts, Other, key_named, announced_by, packed_by, control_of, said_by}
+use Rattle.j39_transport.specs.FrameSteps.{TransportFrame, Announcement, Packet, ClearToSend, Acknowledgment, Abort, Other, key_named, announced_by, packed_by, control_of, transport_frame_of}
 use Rattle.j39_transport.proofs.FrameFacts.{one_key, announcement_facts, packet_facts, closing_facts, allowing_facts}
 
 -- the frame is nothing of any message
@@ -18,6 +18,8 @@ pub record IsNoFrame (f : FrameRecord) : Type 0 where
 
 pub record IsControl (b s d g : ℕ) (f : FrameRecord) : Type 0 where
   pub goes_back : goes 60416 d s f ≡ true
+  pub no_rts : b ≢ 16
+  pub no_bam : b ≢ 32
   pub first : slice_index f.bytes 0 ≡ b
   pub group_is : g ≡ pgn_named f
 
@@ -32,12 +34,12 @@ pub record IsPacking (k : Key) (n : ℕ) (bs : List ℕ) (f : FrameRecord) : Typ
   pub number_is : n ≡ slice_index f.bytes 0
   pub data_are : bs ≡ drop 1 f.bytes
 
-abbrev pub Facts : FrameRecord → Said → Type 0
-Facts f (Announces k g n p) = IsAnnouncing k g n p f
-Facts f (Packs k n bs) = IsPacking k n bs f
-Facts f (Grants s d g) = IsControl 17 s d g f
-Facts f (Finishes s d g) = IsControl 19 s d g f
-Facts f (Aborts s d g) = IsControl 255 s d g f
+abbrev pub Facts : FrameRecord → TransportFrame → Type 0
+Facts f (Announcement k g n p) = IsAnnouncing k g n p f
+Facts f (Packet k n bs) = IsPacking k n bs f
+Facts f (ClearToSend s d g) = IsControl 17 s d g f
+Facts f (Acknowledgment s d g) = IsControl 19 s d g f
+Facts f (Abort s d g) = IsControl 255 s d g f
 Facts f Other = IsNoFrame f
 
 -- ---- by the group
@@ -183,15 +185,18 @@ module _ (f : FrameRecord) (a : group_of f.id ≡ 60416) (b : length f.bytes ≡
 control_is : (f : FrameRecord) → group_of f.id ≡ 60416 → length f.bytes ≡ 8 → Facts f (control_of f)
 unfolding control_of
 control_is f a b = cond_both (slice_index f.bytes 0 == 17) _ _ (Facts f)
-    (λ t. record { goes_back = goes_from 60416 f a b; first = eqb-true _ _ t; group_is = refl })
+    (λ t. from_first 17 ((λ e. let o : ⊥ = omega arith in o), (λ e. let o : ⊥ = omega arith in o)) t)
     (λ t. cond_both (slice_index f.bytes 0 == 19) _ _ (Facts f)
-    (λ u. record { goes_back = goes_from 60416 f a b; first = eqb-true _ _ u; group_is = refl })
+    (λ u. from_first 19 ((λ e. let o : ⊥ = omega arith in o), (λ e. let o : ⊥ = omega arith in o)) u)
     (λ u. cond_both (slice_index f.bytes 0 == 255) _ _ (Facts f)
-    (λ v. record { goes_back = goes_from 60416 f a b; first = eqb-true _ _ v; group_is = refl })
+    (λ v. from_first 255 ((λ e. let o : ⊥ = omega arith in o), (λ e. let o : ⊥ = omega arith in o)) v)
     (λ v. announced_is f a b (eqb-false _ _ t) (eqb-false _ _ u) (eqb-false _ _ v) (key_named (source_of f.id) (destination_of f.id)) (key_is (source_of f.id) (destination_of f.id)))))
+  where
+    from_first : (n : ℕ) → (n ≡ 16 → ⊥) × (n ≡ 32 → ⊥) → (slice_index f.bytes 0 == n) ≡ true → IsControl n (destination_of f.id) (source_of f.id) (pgn_named f) f
+    from_first n apart t = record { goes_back = goes_from 60416 f a b; no_rts = apart.0; no_bam = apart.1; first = eqb-true _ _ t; group_is = refl }
 
-pub read_is : (f : FrameRecord) → Facts f (said_by f)
-unfolding said_by
+pub read_is : (f : FrameRecord) → Facts f (transport_frame_of f)
+unfolding transport_frame_of
 read_is f = cond_both (group_of f.id == 60160 && length f.bytes == 8) _ _ (Facts f)
     (λ t. (let p = and_parts _ _ t in packed_is f (eqb-true _ _ p.0) (eqb-true _ _ p.1) (key_named (source_of f.id) (destination_of f.id)) (key_is (source_of f.id) (destination_of f.id))))
     (λ t. cond_both (group_of f.id == 60416 && length f.bytes == 8) _ _ (Facts f)

@@ -6,29 +6,23 @@ use Rattle.j39_frame.specs.Frame.{FrameRecord}
 use Rattle.j39_transport.specs.Key.{Key, is_key}
 use Rattle.j39_transport.specs.Frames.{source_of, destination_of, is_announcement, is_packet, is_clear_to_send, is_end, is_rival}
 use Rattle.j39_transport.specs.Key.Key.{Broadcast, Directed}
-use Rattle.j39_transport.specs.Assembly.{Event, announces, sends, grants, ends, rivals, number, payload, size, packets, group, stamp}
-use Rattle.j39_transport.specs.Assembly.Event.{Frame, Forget}
-use Rattle.j39_transport.specs.EventSteps.{Session, Table, moved_place, is_request_to_send, directed_step, step}
-use Rattle.j39_transport.specs.Stands.{IsTable}
+use Rattle.j39_transport.specs.Events.{Event, announces, sends, grants, ends, rivals, number, payload, size, packets, group, stamp}
+use Rattle.j39_transport.specs.Events.Event.{Frame, Forget}
+use Rattle.j39_transport.specs.EventSteps.{Session, Table, moved_place, is_request_to_send, directed_step, step, broadcast_step}
+use Rattle.j39_transport.specs.Stands.{IsTable, full, broadcast_in, entry_in, aged, table_of, Stands}
 use Rattle.j39_transport.specs.Session.{SessionRecord}
-use Rattle.j39_transport.specs.Places.{Places, at, is_of, find}
-use Rattle.j39_transport.specs.FrameSteps.{Said, Announces, Packs, Grants, Finishes, Aborts, Other, said_by}
-use Rattle.j39_transport.specs.Steps.{AssemblerRecord, packed, granted, closed, finished, with_place, state_after}
+use Rattle.j39_transport.specs.Places.{Places, at, is_of, find, forgotten, without}
+use Rattle.j39_transport.specs.FrameSteps.{TransportFrame, Announcement, Packet, ClearToSend, Acknowledgment, Abort, Other, transport_frame_of}
+use Rattle.j39_transport.specs.Steps.{AssemblerRecord, packed, granted, closed, finished, with_place, state_after, state_without, without_broadcast, room, empty_state}
 use Rattle.j39_transport.specs.Session as sessions
-use Rattle.j39_transport.specs.Stands.{full, broadcast_in, entry_in, aged, table_of}
 use Rattle.j39_transport.proofs.FrameFacts.{announcement_facts, packet_facts, sends-others}
 use Rattle.j39_transport.proofs.ReadLemmas.{IsControl, Facts, read_is}
 use Rattle.j39_transport.proofs.MoveLemmas.{moved_none, moved_end, moved_packet, session_in, packed_is}
-use Rattle.j39_transport.proofs.PlaceLemmas.{Change, on_pair, Once, with_once, room_once, aged_moves, aged_shifts, once_of}
+use Rattle.j39_transport.proofs.PlaceLemmas.{Change, on_pair, Once, with_once, room_once, aged_moves, aged_shifts, once_of, aged_at}
 use Rattle.j39_transport.proofs.Bridge.{packs_place, packs_other, broadcast_place, rival_place, ev_announces, ev_sends, announced_no_packet, place_moves, quiet_moves, key_in}
 use Rattle.j39_transport.proofs.ControlBridge.{grants_place, finishes_place, aborts_place, other_place, no_pack, no_opening}
-use Rattle.j39_transport.specs.Places.{forgotten, without}
-use Rattle.j39_transport.specs.Steps.{state_without, without_broadcast, room, empty_state}
-use Rattle.j39_transport.specs.Stands.{Stands}
-use Rattle.j39_transport.specs.EventSteps.{broadcast_step}
 use Rattle.j39_transport.proofs.Sums.{Apart, are_apart}
-use Rattle.j39_transport.proofs.AllKeys.{table_more, table_new}
-use Rattle.j39_transport.proofs.PlaceLemmas.{aged_at}
+use Rattle.j39_transport.proofs.AllKeys.{quiet_step, table_more, table_new}
 
 -- ---- the directed messages
 
@@ -55,8 +49,8 @@ one_change : (f : FrameRecord) (s d : ℕ) (g : Change) (t : Places) → Apart (
     → aged 0 (with_place (find s d t) g t) ≡ directed_step (Frame f) (aged 0 t)
 one_change f s d g t u n h = sym (quietly f (on_pair s d g) t n h ∙ ap (aged 0) (sym (with_once s d g t (once_of t u s d))))
 
-pub control_no_announcement : (b s d g : ℕ) (f : FrameRecord) → IsControl b s d g f → b ≢ 16 → b ≢ 32 → is_announcement (Directed (source_of f.id) (destination_of f.id)) f ≡ false
-control_no_announcement b s d g f c n m = sym (ev_announces (Directed (source_of f.id) (destination_of f.id)) f) ∙ no_opening b s d g f c n m (Directed (source_of f.id) (destination_of f.id))
+pub control_no_announcement : (b s d g : ℕ) (f : FrameRecord) → IsControl b s d g f → is_announcement (Directed (source_of f.id) (destination_of f.id)) f ≡ false
+control_no_announcement b s d g f c = sym (ev_announces (Directed (source_of f.id) (destination_of f.id)) f) ∙ no_opening b s d g f c (Directed (source_of f.id) (destination_of f.id))
 
 pub packet_no_announcement : (j k : Key) (f : FrameRecord) → is_packet j f ≡ true → is_announcement k f ≡ false
 packet_no_announcement j k f h = sym (ev_announces k f) ∙ (sends-others j k k 0 (Frame f) (ev_sends j f ∙ h)).no_announcement
@@ -89,37 +83,31 @@ both_closed s d g t u =
     ∙ (with_once d s (closed g) (map (on_pair s d (closed g)) t) (once_closed d s s d g t (once_of t u d s)) ∙ map_twice (on_pair s d (closed g)) (on_pair d s (closed g)) t)
 
 -- the directed messages after a reading
-pub directed_after : (f : FrameRecord) (r : Said) (a : AssemblerRecord) → Facts f r → Apart (aged 0 a.directed) → aged 0 (state_after a f.stamp r).directed ≡ directed_step (Frame f) (aged 0 a.directed)
+pub directed_after : (f : FrameRecord) (r : TransportFrame) (a : AssemblerRecord) → Facts f r → Apart (aged 0 a.directed) → aged 0 (state_after a f.stamp r).directed ≡ directed_step (Frame f) (aged 0 a.directed)
 unfolding state_after finished aged payload size packets group stamp
-directed_after f (Announces (Broadcast s) g n p) a h u =
+directed_after f (Announcement (Broadcast s) g n p) a h u =
     unchanged f a.directed
     (false_from_ne_true _ (λ t. (let x : slice_index f.bytes 0 ≡ 16 = (announcement_facts (Directed (source_of f.id) (destination_of f.id)) f t).first in let y : slice_index f.bytes 0 ≡ 32 = (announcement_facts (Broadcast s) f h.announces_it).first in let o : ⊥ = omega arith in o)))
     (broadcast_place s f h.announces_it)
-directed_after f (Announces (Directed s d) g n p) a h u =
+directed_after f (Announcement (Directed s d) g n p) a h u =
     let q = announcement_facts (Directed s d) f h.announces_it in
     let r : is_request_to_send (Frame f) ≡ true = ev_announces (Directed (source_of f.id) (destination_of f.id)) f ∙ subst (λ x. is_announcement (Directed (source_of f.id) x) f ≡ true) (sym q.destination) (subst (λ x. is_announcement (Directed x d) f ≡ true) (sym q.source) h.announces_it) in
     let rest : aged 1 (take 15 (slice_set a.directed (room (find s d a.directed)) None)) ≡ take 15 (map (moved_place (Frame f)) (aged 0 a.directed)) =
     ap (aged 1) (room_once s d a.directed (once_of a.directed u s d)) ∙ sym (aged_shifts (Frame f) (on_pair s d (λ p. None)) 15 0 a.directed (omega arith) (rival_place s d f h.announces_it)) in
     (λ i. Some (record { from = sym q.source i; to = sym q.destination i; session = record { packets_due = h.packets_are i; size_due = h.size_is i; group_due = h.group_is i; count = 0; bytes = []; last = f.stamp; after = 0 } }) ∷ rest i)
     ∙ sym (cond-true _ _ _ r)
-directed_after f (Packs (Broadcast s) n bs) a h u = unchanged f a.directed (packet_no_announcement (Broadcast s) _ f h.packs_it) (packs_other s f h.packs_it)
-directed_after f (Packs (Directed s d) n bs) a h u =
+directed_after f (Packet (Broadcast s) n bs) a h u = unchanged f a.directed (packet_no_announcement (Broadcast s) _ f h.packs_it) (packs_other s f h.packs_it)
+directed_after f (Packet (Directed s d) n bs) a h u =
     (λ i. aged 0 (with_place (find s d a.directed) (packed 1250000 (h.number_is i) (h.data_are i) f.stamp) a.directed))
     ∙ one_change f s d (packed 1250000 (slice_index f.bytes 0) (drop 1 f.bytes) f.stamp) a.directed u (packet_no_announcement (Directed s d) _ f h.packs_it) (packs_place s d f h.packs_it)
-directed_after f (Grants s d g) a h u = one_change f s d (granted g f.stamp) a.directed u (control_no_announcement 17 s d g f h (λ e. let o : ⊥ = omega arith in o) (λ e. let o : ⊥ = omega arith in o)) (grants_place s d g f h)
-directed_after f (Finishes s d g) a h u = one_change f s d (closed g) a.directed u (control_no_announcement 19 s d g f h (λ e. let o : ⊥ = omega arith in o) (λ e. let o : ⊥ = omega arith in o)) (finishes_place s d g f h)
-directed_after f (Aborts s d g) a h u =
-    sym (quietly f (λ p. on_pair d s (closed g) (on_pair s d (closed g) p)) a.directed (control_no_announcement 255 s d g f h (λ e. let o : ⊥ = omega arith in o) (λ e. let o : ⊥ = omega arith in o)) (aborts_place s d g f h)
+directed_after f (ClearToSend s d g) a h u = one_change f s d (granted g f.stamp) a.directed u (control_no_announcement 17 s d g f h) (grants_place s d g f h)
+directed_after f (Acknowledgment s d g) a h u = one_change f s d (closed g) a.directed u (control_no_announcement 19 s d g f h) (finishes_place s d g f h)
+directed_after f (Abort s d g) a h u =
+    sym (quietly f (λ p. on_pair d s (closed g) (on_pair s d (closed g) p)) a.directed (control_no_announcement 255 s d g f h) (aborts_place s d g f h)
     ∙ ap (aged 0) (sym (both_closed s d g a.directed u)))
 directed_after f Other a h u = unchanged f a.directed (h.no_announcement (Directed (source_of f.id) (destination_of f.id))) (other_place f h)
 
 -- ---- the broadcasts
-
--- an event that is nothing to the broadcast of its source
-pub quiet_step : (e : Event) (s : ℕ) (o : Option Session) → announces (Broadcast s) e ≡ false → sends (Broadcast s) e ≡ false → ((g : ℕ) → grants (Broadcast s) g e ≡ false) → ((g : ℕ) → ends (Broadcast s) g e ≡ false) → rivals (Broadcast s) e ≡ false
-    → step (Broadcast s) e o ≡ o
-quiet_step e s None a b c d r = cond-false _ _ _ a
-quiet_step e s (Some x) a b c d r = cond-false _ _ _ a ∙ moved_none (Broadcast s) e x a b (c x.group_due) (d x.group_due) r
 
 frame_none : (s : ℕ) (f : FrameRecord) → ((g : ℕ) → grants (Broadcast s) g (Frame f) ≡ false) × ((g : ℕ) → ends (Broadcast s) g (Frame f) ≡ false) × (rivals (Broadcast s) (Frame f) ≡ false)
 unfolding grants ends rivals is_clear_to_send is_end is_rival
@@ -150,30 +138,30 @@ packed_step s f (Some x) h =
     ∙ (packed_is 0 750000 (slice_index f.bytes 0) f.stamp (drop 1 f.bytes) x
     ∙ (sym (moved_packet (Broadcast s) (Frame f) (full 0 x) a (ev_sends (Broadcast s) f ∙ h) (n.0 x.group) (n.1 x.group) n.2) ∙ sym (cond-false _ _ _ a)))
 
-control_broadcasts : (b s d g : ℕ) (f : FrameRecord) (a : AssemblerRecord) → IsControl b s d g f → b ≢ 16 → b ≢ 32 → map broadcast_in a.broadcasts ≡ broadcast_step (Frame f) (map broadcast_in a.broadcasts)
-control_broadcasts b s d g f a c n m = quiet_broadcasts f (map broadcast_in a.broadcasts)
-    (sym (ev_announces (Broadcast (source_of f.id)) f) ∙ no_opening b s d g f c n m (Broadcast (source_of f.id)))
+control_broadcasts : (b s d g : ℕ) (f : FrameRecord) (a : AssemblerRecord) → IsControl b s d g f → map broadcast_in a.broadcasts ≡ broadcast_step (Frame f) (map broadcast_in a.broadcasts)
+control_broadcasts b s d g f a c = quiet_broadcasts f (map broadcast_in a.broadcasts)
+    (sym (ev_announces (Broadcast (source_of f.id)) f) ∙ no_opening b s d g f c (Broadcast (source_of f.id)))
     (sym (ev_sends (Broadcast (source_of f.id)) f) ∙ no_pack b s d g f c (Broadcast (source_of f.id)))
 
 -- the broadcasts after a reading
-pub broadcasts_after : (f : FrameRecord) (r : Said) (a : AssemblerRecord) → Facts f r → map broadcast_in (state_after a f.stamp r).broadcasts ≡ broadcast_step (Frame f) (map broadcast_in a.broadcasts)
+pub broadcasts_after : (f : FrameRecord) (r : TransportFrame) (a : AssemblerRecord) → Facts f r → map broadcast_in (state_after a f.stamp r).broadcasts ≡ broadcast_step (Frame f) (map broadcast_in a.broadcasts)
 unfolding state_after payload size packets group stamp
-broadcasts_after f (Announces (Broadcast s) g n p) a h =
+broadcasts_after f (Announcement (Broadcast s) g n p) a h =
     let q = announcement_facts (Broadcast s) f h.announces_it in
     let t : announces (Broadcast (source_of f.id)) (Frame f) ≡ true = ev_announces (Broadcast (source_of f.id)) f ∙ subst (λ x. is_announcement (Broadcast x) f ≡ true) (sym q.source) h.announces_it in
     map-set broadcast_in a.broadcasts s (Some (sessions.opened (Broadcast s) g n p f.stamp))
     ∙ ((λ i. set (map broadcast_in a.broadcasts) (sym q.source i) (Some (record { packets_due = h.packets_are i; size_due = h.size_is i; group_due = h.group_is i; count = 0; bytes = []; last = f.stamp; after = 0 })))
     ∙ ap (set (map broadcast_in a.broadcasts) (source_of f.id)) (sym (cond-true _ _ _ t)))
-broadcasts_after f (Announces (Directed s d) g n p) a h = quiet_broadcasts f (map broadcast_in a.broadcasts)
+broadcasts_after f (Announcement (Directed s d) g n p) a h = quiet_broadcasts f (map broadcast_in a.broadcasts)
     (false_from_ne_true _ (λ t. (let x : slice_index f.bytes 0 ≡ 32 = (announcement_facts (Broadcast (source_of f.id)) f t).first in let y : slice_index f.bytes 0 ≡ 16 = (announcement_facts (Directed s d) f h.announces_it).first in let o : ⊥ = omega arith in o)))
     (sym (ev_sends (Broadcast (source_of f.id)) f) ∙ announced_no_packet (Directed s d) (Broadcast (source_of f.id)) f h.announces_it)
-broadcasts_after f (Packs (Broadcast s) n bs) a h =
+broadcasts_after f (Packet (Broadcast s) n bs) a h =
     let q = packet_facts (Broadcast s) f h.packs_it in
     map-set broadcast_in a.broadcasts s (packed 750000 n bs f.stamp (at a.broadcasts s))
     ∙ ((λ i. set (map broadcast_in a.broadcasts) s (broadcast_in (packed 750000 (h.number_is i) (h.data_are i) f.stamp (at a.broadcasts s))))
     ∙ (ap (set (map broadcast_in a.broadcasts) s) (packed_step s f (at a.broadcasts s) h.packs_it ∙ ap (step (Broadcast s) (Frame f)) (sym (broadcast_at a.broadcasts s)))
     ∙ ap (λ x. set (map broadcast_in a.broadcasts) x (step (Broadcast x) (Frame f) (get_or (map broadcast_in a.broadcasts) x None))) (sym q.source)))
-broadcasts_after f (Packs (Directed s d) n bs) a h = quiet_broadcasts f (map broadcast_in a.broadcasts)
+broadcasts_after f (Packet (Directed s d) n bs) a h = quiet_broadcasts f (map broadcast_in a.broadcasts)
     (packet_no_announcement (Directed s d) _ f h.packs_it)
     (false_from_ne_true _ (λ t.
     let x : destination_of f.id ≡ 255 = (packet_facts (Broadcast (source_of f.id)) f t).destination in
@@ -181,9 +169,9 @@ broadcasts_after f (Packs (Directed s d) n bs) a h = quiet_broadcasts f (map bro
     let y : destination_of f.id ≡ d = q.destination in
     let l : d < 254 = ltb-true _ _ (and_parts (nat_lt s 254) (nat_lt d 254) q.key).1 in
     let o : ⊥ = omega arith in o))
-broadcasts_after f (Grants s d g) a h = control_broadcasts 17 s d g f a h (λ e. let o : ⊥ = omega arith in o) (λ e. let o : ⊥ = omega arith in o)
-broadcasts_after f (Finishes s d g) a h = control_broadcasts 19 s d g f a h (λ e. let o : ⊥ = omega arith in o) (λ e. let o : ⊥ = omega arith in o)
-broadcasts_after f (Aborts s d g) a h = control_broadcasts 255 s d g f a h (λ e. let o : ⊥ = omega arith in o) (λ e. let o : ⊥ = omega arith in o)
+broadcasts_after f (ClearToSend s d g) a h = control_broadcasts 17 s d g f a h
+broadcasts_after f (Acknowledgment s d g) a h = control_broadcasts 19 s d g f a h
+broadcasts_after f (Abort s d g) a h = control_broadcasts 255 s d g f a h
 broadcasts_after f Other a h = quiet_broadcasts f (map broadcast_in a.broadcasts) (h.no_announcement (Broadcast (source_of f.id))) (h.no_packet (Broadcast (source_of f.id)))
 
 -- ---- one event more
@@ -192,10 +180,10 @@ pub stands_new : Stands [] empty_state
 unfolding aged
 stands_new = record { is = table_new }
 
-pub stands_after : (E : List Event) (f : FrameRecord) (a : AssemblerRecord) → Stands E a → Stands (E ++ Frame f ∷ []) (state_after a f.stamp (said_by f))
+pub stands_after : (E : List Event) (f : FrameRecord) (a : AssemblerRecord) → Stands E a → Stands (E ++ Frame f ∷ []) (state_after a f.stamp (transport_frame_of f))
 stands_after E f a h =
-    let x = broadcasts_after f (said_by f) a (read_is f) in
-    let y = directed_after f (said_by f) a (read_is f) (are_apart E (aged 0 a.directed) h.is.directed) in
+    let x = broadcasts_after f (transport_frame_of f) a (read_is f) in
+    let y = directed_after f (transport_frame_of f) a (read_is f) (are_apart E (aged 0 a.directed) h.is.directed) in
     record { is = subst (λ (t : Table). IsTable (E ++ Frame f ∷ []) t) (λ i. record { broadcasts = sym x i; directed = sym y i }) (table_more E (Frame f) (table_of a) h.is) }
 
 -- ---- a source forgotten

@@ -5,12 +5,12 @@ use Rattle.std.proofs.lemmas.List.{get_or-set_same, get_or-set_other, length-set
 use Rattle.std.proofs.lemmas.List.Sums.{sum_by_more, sum_by-cons}
 use Rattle.std.specs.List.{sum_by}
 use Rattle.j39_frame.specs.Frame.{FrameRecord}
-use Rattle.j39_transport.specs.Key.{Key, sender, is_key}
+use Rattle.j39_transport.specs.Key.{Key, sender, is_key, broadcast_keys, row, pairs, all_keys}
 use Rattle.j39_transport.specs.Frames.{source_of, destination_of, is_packet, is_clear_to_send, is_end, is_rival}
 use Rattle.j39_transport.specs.Key.Key.{Broadcast, Directed}
-use Rattle.j39_transport.specs.Assembly.{Event, at, announces, sends, ends, rivals, belongs, count_below, is_numbered, grants, number, payload, Opens, Whole}
-use Rattle.j39_transport.specs.Assembly.Event.{Frame, Forget}
-use Rattle.j39_transport.specs.Assembly.{broadcast_keys, row, pairs, all_keys}
+use Rattle.j39_transport.specs.Events.{Event, at, announces, sends, ends, rivals, belongs, is_numbered, grants, number, payload}
+use Rattle.j39_transport.specs.Assembly.{count_below, Opens, Whole}
+use Rattle.j39_transport.specs.Events.Event.{Frame, Forget}
 use Rattle.j39_transport.proofs.Chains.{Open-unique}
 use Rattle.j39_transport.proofs.FrameFacts.{packet_facts, announcement_facts}
 use Rattle.j39_transport.proofs.OneMore.{stands_new}

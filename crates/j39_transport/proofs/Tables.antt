@@ -6,8 +6,9 @@ use Rattle.std.proofs.lemmas.List.{get_or-replicate, length-replicate, get_or-ta
 use Rattle.j39_transport.specs.Key.{Key}
 use Rattle.j39_transport.specs.Frames.{destination_of, is_announcement, is_rival}
 use Rattle.j39_transport.specs.Key.Key.{Directed}
-use Rattle.j39_transport.specs.Assembly.{Event, at, announces, rivals, is_numbered, packets, Open, OpenBy, Opens}
-use Rattle.j39_transport.specs.Assembly.Event.{Frame, Forget}
+use Rattle.j39_transport.specs.Events.{Event, at, announces, rivals, is_numbered, packets}
+use Rattle.j39_transport.specs.Assembly.{Open, OpenBy, Opens}
+use Rattle.j39_transport.specs.Events.Event.{Frame, Forget}
 use Rattle.j39_transport.proofs.Chains.{Open-unique}
 use Rattle.j39_transport.proofs.FrameFacts.{few_packets, announcement_facts}
 use Rattle.j39_transport.proofs.OneMore.{stands_new}

@@ -3,8 +3,9 @@ use Rattle.std.proofs.Common.{◌≡◌, ◌≢◌, ◌↔◌, ℕ, suc, ◌<◌
 use Rattle.j39_transport.specs.Key.{Key}
 use Rattle.j39_transport.specs.Frames.{is_packet}
 use Rattle.j39_frame.specs.Frame.{FrameRecord}
-use Rattle.j39_transport.specs.Assembly.{Event, at, sends, packets, last_of, Links, Chain, Whole}
-use Rattle.j39_transport.specs.Assembly.Event.{Frame}
+use Rattle.j39_transport.specs.Events.{Event, at, sends, packets}
+use Rattle.j39_transport.specs.Assembly.{last_of, Links, Chain, Whole}
+use Rattle.j39_transport.specs.Events.Event.{Frame}
 use Rattle.j39_transport.specs.Answers.{IsPartial}
 use Rattle.std.proofs.lemmas.Bool.{and_parts}
 use Rattle.j39_transport.proofs.Agreeing.{announced_within, at_before, at_new}

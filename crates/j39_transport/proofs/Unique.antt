@@ -2,9 +2,10 @@
 use Rattle.std.proofs.Common.{◌≡◌, ℕ, suc, ◌<◌, true, List, length, take, refl, sym, ap, ◌∙◌, subst, arith}
 use Rattle.std.proofs.lemmas.Bool.{both_ways}
 use Rattle.j39_transport.specs.Key.{Key}
-use Rattle.j39_transport.specs.Assembly.{Event, at, sends, size, packets, group, Links, Runs, joined, Whole}
-use Rattle.j39_transport.specs.Assembly.Event.{Frame, Forget}
-use Rattle.j39_transport.specs.Laws.{OneMessageLaw, CountsLaw}
+use Rattle.j39_transport.specs.Events.{Event, at, sends, size, packets, group}
+use Rattle.j39_transport.specs.Assembly.{Links, Runs, joined, Whole}
+use Rattle.j39_transport.specs.Events.Event.{Frame, Forget}
+use Rattle.j39_transport.specs.Laws.{OneMessageLaw, AtPacketLaw, CountsLaw}
 use Rattle.j39_transport.proofs.Chains.{Links-unique, start_unique}
 use Rattle.j39_transport.proofs.Taken.{whole_ends}
 use Rattle.j39_transport.proofs.Bridge.{packet_key}
@@ -32,6 +33,9 @@ one_message E i k j g h b c w v =
     let e : j ≡ k = sent_key j k (at E i) (whole_ends E i j h c v).0 (whole_ends E i k g b w).0 in
     let o = one_of_key E i k g h b c w (subst (λ (x : Key). Whole E i x h c) e v) in
     (sym e, o.0, o.1)
+
+pub at_a_packet : AtPacketLaw
+at_a_packet E i k g b w = (whole_ends E i k g b w).0
 
 pub counts : CountsLaw
 counts E n m held kept h k =

@@ -1,12 +1,13 @@
 -- What an assembler answers to a frame, by the events so far.
 use Rattle.std.specs.Prelude.{◌≡◌, ◌⊎◌, ℕ, ◌<◌, true, List, [], ◌∷◌, ◌++◌, length, Option, Some, None}
 use Rattle.j39_frame.specs.Frame.{FrameRecord}
-use Rattle.j39_transport.specs.Key.{Key, sender}
+use Rattle.j39_transport.specs.Key.{Key, sender, all_keys}
 use Rattle.j39_transport.specs.Frames.{is_announcement}
 use Rattle.j39_transport.specs.Message.{MessageRecord}
 use Rattle.j39_transport.specs.Assembly as assembly
-use Rattle.j39_transport.specs.Assembly.{Event, at, packets, last_of, Chain, Opens, all_keys}
-use Rattle.j39_transport.specs.Assembly.Event.{Frame}
+use Rattle.j39_transport.specs.Events.{Event, at, packets}
+use Rattle.j39_transport.specs.Assembly.{last_of, Chain, Opens}
+use Rattle.j39_transport.specs.Events.Event.{Frame}
 
 -- what is answered to a frame: a message with its source, group, bytes and stamp, or none
 pub data Outcome : Type 0 where
@@ -18,16 +19,11 @@ pub data Outcome : Type 0 where
 abbrev pub WholeBy : List Event → FrameRecord → MessageRecord → Type 0
 WholeBy E f m = (k : Key) × (sender k ≡ m.source) × assembly.Whole (E ++ Frame f ∷ []) (length E) k m.pgn m.bytes
 
--- this message is whole with the frame f after E, or none is
-abbrev pub Assembled : List Event → FrameRecord → Option MessageRecord → Type 0
-Assembled E f (Some m) = WholeBy E f m
-Assembled E f None = (m : MessageRecord) → WholeBy E f m → ⊥
-
--- at place i ends a chain of s with at least one packet, which lacks one
-pub record IsPartial (E : List Event) (i : ℕ) (s : Key) (g : ℕ) : Type 0 where
+-- at place i ends a chain of k with at least one packet, which lacks one
+pub record IsPartial (E : List Event) (i : ℕ) (k : Key) (g : ℕ) : Type 0 where
   pub start : ℕ
   pub places : List ℕ
-  pub chain : Chain E s g start places
+  pub chain : Chain E k g start places
   pub ends_at : last_of start places ≡ i
   pub some : 0 < length places
   pub lacks : length places < packets (at E start)
@@ -41,7 +37,8 @@ NoneWhole E f = (m : MessageRecord) → WholeBy E f m → ⊥
 
 -- what is answered to the frame f after E
 abbrev pub AnswersAt : List Event → FrameRecord → Outcome → Type 0
-AnswersAt E f (Whole source group bytes stamp) = (stamp ≡ f.stamp) × WholeBy E f (record { source = source; pgn = group; bytes = bytes })
+AnswersAt E f (Whole source group bytes stamp) =
+    (stamp ≡ f.stamp) × WholeBy E f (record { source = source; pgn = group; bytes = bytes })
 AnswersAt E f Taken = IsTaken E f × NoneWhole E f
 AnswersAt E f Ignored = (IsTaken E f → ⊥) × NoneWhole E f
 

@@ -1,74 +1,7 @@
--- Messages put together again: which places of a list of events make a message.
-use Rattle.std.specs.Prelude.{◌≡◌, ◌⊎◌, ℕ, zero, suc, ◌+◌, ◌*◌, ◌<◌, ◌≤◌, Bool, true, false, ◌&&◌, ◌||◌, List, [], ◌∷◌, ◌++◌, length, get_or, take, drop, ◌==◌, if◌then◌else◌, slice_index}
-use Rattle.j39_frame.specs.Frame.{FrameRecord}
-use Rattle.j39_transport.specs.Key.Key.{Broadcast, Directed}
-use Rattle.j39_transport.specs.Key.{Key, sender, is_key, limit}
-use Rattle.j39_transport.specs.Frames.{is_announcement, is_packet, is_clear_to_send, is_end, is_rival, size_named, packets_named, pgn_named}
-
--- what an assembler is told: a frame came, or a source is to be forgotten
-pub data Event : Type 0 where
-  Frame : FrameRecord → Event
-  Forget : ℕ → Event
-
--- what stands past the end of the list: nothing (no address is 255)
-abbrev pub at : List Event → ℕ → Event
-at E i = get_or E i (Forget 255)
-
-unfoldable pub announces : Key → Event → Bool
-announces k (Frame f) = is_announcement k f
-announces k (Forget t) = false
-
-unfoldable pub sends : Key → Event → Bool
-sends k (Frame f) = is_packet k f
-sends k (Forget t) = false
-
--- a CTS of the pair and the group g
-unfoldable pub grants : Key → ℕ → Event → Bool
-grants k g (Frame f) = is_clear_to_send k g f
-grants k g (Forget t) = false
-
--- a forget of the source; of a transfer of the group g also an acknowledgment or an abort
-unfoldable pub ends : Key → ℕ → Event → Bool
-ends k g (Frame f) = is_end k g f
-ends k g (Forget t) = sender k == t && is_key k
-
--- a directed announcement of whatever pair, where k is directed
-unfoldable pub rivals : Key → Event → Bool
-rivals k (Frame f) = is_rival k f
-rivals k (Forget t) = false
-
--- the number and the seven bytes of a packet; what an announcement names; the stamp
-unfoldable pub number : Event → ℕ
-number (Frame f) = slice_index f.bytes 0
-number (Forget t) = 0
-
-unfoldable pub payload : Event → List ℕ
-payload (Frame f) = drop 1 f.bytes
-payload (Forget t) = []
-
-unfoldable pub size : Event → ℕ
-size (Frame f) = size_named f
-size (Forget t) = 0
-
-unfoldable pub packets : Event → ℕ
-packets (Frame f) = packets_named f
-packets (Forget t) = 0
-
-unfoldable pub group : Event → ℕ
-group (Frame f) = pgn_named f
-group (Forget t) = 0
-
-unfoldable pub stamp : Event → ℕ
-stamp (Frame f) = f.stamp
-stamp (Forget t) = 0
-
--- a frame of the message of group g
-abbrev pub belongs : Key → ℕ → Event → Bool
-belongs k g e = announces k e || sends k e || grants k g e
-
--- e is a packet of k numbered j
-abbrev pub is_numbered : Key → ℕ → Event → Bool
-is_numbered k j e = sends k e && number e == j
+-- Messages put together: which places of a list of events make a message (J1939-21, 5.10).
+use Rattle.std.specs.Prelude.{◌≡◌, ◌⊎◌, ℕ, zero, suc, ◌+◌, ◌*◌, ◌<◌, ◌≤◌, Bool, true, false, List, [], ◌∷◌, ◌++◌, length, take, if◌then◌else◌}
+use Rattle.j39_transport.specs.Key.{Key, limit}
+use Rattle.j39_transport.specs.Events.{Event, at, announces, ends, rivals, number, payload, size, packets, group, stamp, belongs, is_numbered}
 
 -- p is the first place after q at which a packet of k numbered j stands
 pub record IsFirstAfter (E : List Event) (k : Key) (q j p : ℕ) : Type 0 where
@@ -144,19 +77,3 @@ abbrev pub Opens : List Event → List Key → ℕ → ℕ → Type 0
 Opens E [] n held = (n ≡ 0) × (held ≡ 0)
 Opens E (k ∷ ks) n held = (a : ℕ) × (b : ℕ) × Opens E ks a b
     × (((m : ℕ) × Open E k m × (n ≡ suc a) × (held ≡ b + 7 * m)) ⊎ (((m : ℕ) → Open E k m → ⊥) × (n ≡ a) × (held ≡ b)))
-
--- all keys: the broadcasts of each source, and each pair
-unfoldable pub broadcast_keys : ℕ → List Key
-broadcast_keys zero = []
-broadcast_keys (suc n) = Broadcast n ∷ broadcast_keys n
-
-unfoldable pub row : ℕ → ℕ → List Key
-row s zero = []
-row s (suc n) = Directed s n ∷ row s n
-
-unfoldable pub pairs : ℕ → List Key
-pairs zero = []
-pairs (suc m) = row m 254 ++ pairs m
-
-unfoldable pub all_keys : List Key
-all_keys = broadcast_keys 254 ++ pairs 254

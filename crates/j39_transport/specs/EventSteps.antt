@@ -3,11 +3,12 @@ use Rattle.std.specs.Prelude.{ℕ, suc, ◌+◌, Bool, if◌then◌else◌, ◌&
 use Rattle.j39_transport.specs.Key.{Key, limit}
 use Rattle.j39_transport.specs.Key.Key.{Broadcast, Directed}
 use Rattle.j39_transport.specs.Frames.{source_of, destination_of}
-use Rattle.j39_transport.specs.Assembly.{Event, announces, ends, rivals, payload, size, packets, group, stamp, belongs, is_numbered}
-use Rattle.j39_transport.specs.Assembly.Event.{Frame, Forget}
+use Rattle.j39_transport.specs.Events.{Event, announces, ends, rivals, payload, size, packets, group, stamp, belongs, is_numbered}
+use Rattle.j39_transport.specs.Events.Event.{Frame, Forget}
 
 -- ---- one key
 
+-- an open message
 pub record Session : Type 0 where
   pub packets_due : ℕ
   pub size_due : ℕ
@@ -19,7 +20,15 @@ pub record Session : Type 0 where
   pub after : ℕ
 
 abbrev pub opened : Event → Session
-opened e = record { packets_due = packets e; size_due = size e; group_due = group e; count = 0; bytes = []; last = stamp e; after = 0 }
+opened e = record {
+  packets_due = packets e;
+  size_due = size e;
+  group_due = group e;
+  count = 0;
+  bytes = [];
+  last = stamp e;
+  after = 0;
+}
 
 -- what an event leaves of the last stamp and of the count of announcements
 abbrev pub last_after : Key → Event → Session → ℕ
@@ -29,10 +38,10 @@ abbrev pub after_after : Key → Event → Session → ℕ
 after_after k e x = if rivals k e then suc x.after else x.after
 
 abbrev pub touched : Key → Event → Session → Session
-touched k e x = record { packets_due = x.packets_due; size_due = x.size_due; group_due = x.group_due; count = x.count; bytes = x.bytes; last = last_after k e x; after = after_after k e x }
+touched k e x = record x { last = last_after k e x; after = after_after k e x }
 
 abbrev pub grown : Key → Event → Session → Session
-grown k e x = record { packets_due = x.packets_due; size_due = x.size_due; group_due = x.group_due; count = suc x.count; bytes = x.bytes ++ payload e; last = last_after k e x; after = after_after k e x }
+grown k e x = record x { count = suc x.count; bytes = x.bytes ++ payload e; last = last_after k e x; after = after_after k e x }
 
 -- what is out of time, and the sixteenth announcement
 unfoldable pub is_late : Key → Event → Session → Bool
@@ -62,6 +71,7 @@ step k e o = if announces k e then Some (opened e) else on_other k e o
 
 -- ---- all keys
 
+-- a place with the message of a pair
 pub record Entry : Type 0 where
   pub from : ℕ
   pub to : ℕ
@@ -71,9 +81,12 @@ abbrev pub entry_of : ℕ → ℕ → Option Session → Option Entry
 entry_of s d None = None
 entry_of s d (Some x) = Some (record { from = s; to = d; session = x })
 
+-- how an event moves a place; one that announces the place's message again leaves it empty
 abbrev pub moved_place : Event → Option Entry → Option Entry
 moved_place e None = None
-moved_place e (Some y) = if announces (Directed y.from y.to) e then None else entry_of y.from y.to (moved (Directed y.from y.to) e y.session)
+moved_place e (Some y) =
+    if announces (Directed y.from y.to) e then None
+    else entry_of y.from y.to (moved (Directed y.from y.to) e y.session)
 
 -- where the event comes from and goes to
 abbrev pub from_of : Event → ℕ
@@ -91,7 +104,8 @@ is_request_to_send e = announces (Directed (from_of e) (to_of e)) e
 -- each directed announcement moves the places on by one, and the last falls out
 abbrev pub directed_step : Event → List (Option Entry) → List (Option Entry)
 directed_step e L =
-    if is_request_to_send e then Some (record { from = from_of e; to = to_of e; session = opened e }) ∷ take 15 (map (moved_place e) L)
+    if is_request_to_send e
+    then Some (record { from = from_of e; to = to_of e; session = opened e }) ∷ take 15 (map (moved_place e) L)
     else map (moved_place e) L
 
 pub record Table : Type 0 where

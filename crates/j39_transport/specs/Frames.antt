@@ -36,11 +36,15 @@ packets_for size = (size + 6) / 7
 
 -- the size is 9 to 1,785, the packets are as many as it takes, and the group has 18 bits
 unfoldable pub names_message : FrameRecord → Bool
-names_message f = nat_le 9 (size_named f) && nat_le (size_named f) 1785 && packets_named f == packets_for (size_named f) && nat_lt (pgn_named f) (2 ^ 18)
+names_message f =
+    nat_le 9 (size_named f) && nat_le (size_named f) 1785 && packets_named f == packets_for (size_named f)
+    && nat_lt (pgn_named f) (2 ^ 18)
 
 -- f announces a message of k: a BAM or an RTS
 unfoldable pub is_announcement : Key → FrameRecord → Bool
-is_announcement k f = is_key k && goes transport_control_group (sender k) (goes_to k) f && slice_index f.bytes 0 == opening k && names_message f
+is_announcement k f =
+    is_key k && goes transport_control_group (sender k) (goes_to k) f && slice_index f.bytes 0 == opening k
+    && names_message f
 
 -- f is a packet of k: a TP.DT frame
 unfoldable pub is_packet : Key → FrameRecord → Bool

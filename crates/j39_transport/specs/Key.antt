@@ -1,5 +1,5 @@
 -- What a message of more than eight bytes goes under (J1939-21, 5.10).
-use Rattle.std.specs.Prelude.{ℕ, Bool, ◌&&◌, nat_lt}
+use Rattle.std.specs.Prelude.{ℕ, zero, suc, Bool, ◌&&◌, nat_lt, List, [], ◌∷◌, ◌++◌}
 use Rattle.j39_frame.specs.Address.{null_address, global_address}
 
 -- broadcast by s, or sent by s to d
@@ -26,7 +26,24 @@ abbrev pub is_key : Key → Bool
 is_key (Broadcast s) = nat_lt s null_address
 is_key (Directed s d) = nat_lt s null_address && nat_lt d null_address
 
--- how much later than the frame of a message before it a frame of it may be, in microseconds
+-- how much later than the frame of a message before it a frame of it may be, in microseconds: a broadcast T1 (J1939-21,
+-- 5.13.3), a directed message 1,250 ms (own)
 abbrev pub limit : Key → ℕ
 limit (Broadcast s) = 750000
 limit (Directed s d) = 1250000
+
+-- all keys: the broadcasts of each of the 254 addresses, and each pair of them
+unfoldable pub broadcast_keys : ℕ → List Key
+broadcast_keys zero = []
+broadcast_keys (suc n) = Broadcast n ∷ broadcast_keys n
+
+unfoldable pub row : ℕ → ℕ → List Key
+row s zero = []
+row s (suc n) = Directed s n ∷ row s n
+
+unfoldable pub pairs : ℕ → List Key
+pairs zero = []
+pairs (suc m) = row m 254 ++ pairs m
+
+unfoldable pub all_keys : List Key
+all_keys = broadcast_keys 254 ++ pairs 254

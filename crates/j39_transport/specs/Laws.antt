@@ -1,12 +1,19 @@
 -- Laws on messages that are put together.
-use Rattle.std.specs.Prelude.{◌≡◌, ◌≤◌, ◌*◌, ℕ, List}
-use Rattle.j39_transport.specs.Key.{Key}
-use Rattle.j39_transport.specs.Assembly.{Event, Whole, Opens, all_keys}
+use Rattle.std.specs.Prelude.{◌≡◌, ◌≤◌, ◌*◌, ℕ, true, List}
+use Rattle.j39_transport.specs.Key.{Key, all_keys}
+use Rattle.j39_transport.specs.Events.{Event, at, sends}
+use Rattle.j39_transport.specs.Assembly.{Whole, Opens}
 
 -- at a place at most one message is whole
 abbrev pub OneMessageLaw : Type 0
-OneMessageLaw = (E : List Event) (i : ℕ) (k j : Key) (g h : ℕ) (b c : List ℕ) → Whole E i k g b → Whole E i j h c → (k ≡ j) × (g ≡ h) × (b ≡ c)
+OneMessageLaw = (E : List Event) (i : ℕ) (k j : Key) (g h : ℕ) (b c : List ℕ)
+    → Whole E i k g b → Whole E i j h c → (k ≡ j) × (g ≡ h) × (b ≡ c)
+
+-- it is whole at a packet of its own
+abbrev pub AtPacketLaw : Type 0
+AtPacketLaw = (E : List Event) (i : ℕ) (k : Key) (g : ℕ) (b : List ℕ) → Whole E i k g b → sends k (at E i) ≡ true
 
 -- how many messages are open, and with how many bytes, is determined: at most 270, with at most 1,785 bytes each
 abbrev pub CountsLaw : Type 0
-CountsLaw = (E : List Event) (n m held kept : ℕ) → Opens E all_keys n held → Opens E all_keys m kept → (n ≡ m) × (held ≡ kept) × (n ≤ 270) × (held ≤ 1785 * n)
+CountsLaw = (E : List Event) (n m held kept : ℕ) → Opens E all_keys n held → Opens E all_keys m kept
+    → (n ≡ m) × (held ≡ kept) × (n ≤ 270) × (held ≤ 1785 * n)

@@ -1,10 +1,6 @@
 pub mod Key
 pub mod Frames
-pub mod Message
-pub mod Carries
-pub mod Cutting
-pub mod Broadcasting
-pub mod Polling
+pub mod Events
 pub mod Assembly
 pub mod Answers
 pub mod EventSteps
@@ -17,3 +13,9 @@ pub mod ShownSession
 pub mod ShownFrame
 pub mod Shown
 pub mod Laws
+pub mod Course
+pub mod Message
+pub mod Carries
+pub mod Cutting
+pub mod Broadcasting
+pub mod Polling

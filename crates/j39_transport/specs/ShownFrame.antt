@@ -6,12 +6,12 @@ use Rattle.j39_transport.specs.ShownSession.{key_in, IsKey}
 use Rattle.j39_transport.specs.declared.transport_frame.TransportFrame.{TransportFrame}
 use Rattle.j39_transport.specs.declared.transport_frame.TransportFrame.TheVariants.{Announcement, Packet, ClearToSend, Acknowledgment, Abort, Other}
 
-abbrev pub shown_frame : TransportFrame → frames.Said
-shown_frame (Announcement a) = frames.Announces (key_in a.key) (pgn_raw a.group) a.size a.packets
-shown_frame (Packet key number bytes) = frames.Packs (key_in key) number bytes.now
-shown_frame (ClearToSend s d group) = frames.Grants s d group
-shown_frame (Acknowledgment s d group) = frames.Finishes s d group
-shown_frame (Abort s d group) = frames.Aborts s d group
+abbrev pub shown_frame : TransportFrame → frames.TransportFrame
+shown_frame (Announcement a) = frames.Announcement (key_in a.key) (pgn_raw a.group) a.size a.packets
+shown_frame (Packet key number bytes) = frames.Packet (key_in key) number bytes.now
+shown_frame (ClearToSend s d group) = frames.ClearToSend s d group
+shown_frame (Acknowledgment s d group) = frames.Acknowledgment s d group
+shown_frame (Abort s d group) = frames.Abort s d group
 shown_frame Other = frames.Other
 
 abbrev pub HasAddresses : TransportFrame → Type 0

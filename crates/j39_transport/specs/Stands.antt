@@ -2,7 +2,8 @@
 use Rattle.std.specs.Prelude.{◌≡◌, ℕ, suc, ◌+◌, ◌<◌, true, false, List, [], ◌∷◌, map, length, get_or, Option, Some, None}
 use Rattle.j39_transport.specs.Key.{Key}
 use Rattle.j39_transport.specs.Key.Key.{Broadcast, Directed}
-use Rattle.j39_transport.specs.Assembly.{Event, at, rivals, size, packets, stamp, belongs, count_below, joined, OpenBy}
+use Rattle.j39_transport.specs.Events.{Event, at, rivals, size, packets, stamp, belongs}
+use Rattle.j39_transport.specs.Assembly.{count_below, joined, OpenBy}
 use Rattle.j39_transport.specs.EventSteps.{Session, Entry, Table}
 use Rattle.j39_transport.specs.Session.{SessionRecord}
 use Rattle.j39_transport.specs.Places.{Places}
@@ -10,30 +11,34 @@ use Rattle.j39_transport.specs.Steps.{AssemblerRecord}
 
 -- ---- what a session stands for
 
-pub record IsSession (E : List Event) (s : Key) (x : Session) : Type 0 where
+-- x is the message of k that is open after E: announced at start, with packets at places; its last frame stands at recent
+pub record IsSession (E : List Event) (k : Key) (x : Session) : Type 0 where
   pub start : ℕ
   pub places : List ℕ
-  pub open_by : OpenBy E s x.group_due start places
+  pub open_by : OpenBy E k x.group_due start places
   pub packets_are : x.packets_due ≡ packets (at E start)
   pub size_is : x.size_due ≡ size (at E start)
   pub count_is : x.count ≡ length places
   pub bytes_are : x.bytes ≡ joined E places
   pub recent : ℕ
-  pub recent_stands : belongs s x.group_due (at E recent) ≡ true
-  pub none_since : (q : ℕ) → recent < q → belongs s x.group_due (at E q) ≡ false
+  pub recent_stands : belongs k x.group_due (at E recent) ≡ true
+  pub none_since : (q : ℕ) → recent < q → belongs k x.group_due (at E q) ≡ false
   pub last_is : x.last ≡ stamp (at E recent)
-  pub after_is : x.after + count_below (rivals s) E (suc start) ≡ count_below (rivals s) E (length E)
+  pub after_is : x.after + count_below (rivals k) E (suc start) ≡ count_below (rivals k) E (length E)
 
+-- no message of k is open after E, or x is
 abbrev pub StandsFor : List Event → Key → Option Session → Type 0
-StandsFor E s None = (g p0 : ℕ) (ps : List ℕ) → OpenBy E s g p0 ps → ⊥
-StandsFor E s (Some x) = IsSession E s x
+StandsFor E k None = (g p0 : ℕ) (ps : List ℕ) → OpenBy E k g p0 ps → ⊥
+StandsFor E k (Some x) = IsSession E k x
 
+-- the directed messages that are open after E, and no others, each at the place of its age
 pub record AreDirected (E : List Event) (L : List (Option Entry)) : Type 0 where
   pub size_is : length L ≡ 16
   pub each : (i : ℕ) (y : Entry) → get_or L i None ≡ Some y → IsSession E (Directed y.from y.to) y.session × (y.session.after ≡ i)
-  pub all : (s d g p0 : ℕ) (ps : List ℕ) → OpenBy E (Directed s d) g p0 ps → (i : ℕ) × (x : Session) × (get_or L i None ≡ Some (record { from = s; to = d; session = x }))
+  pub all : (s d g p0 : ℕ) (ps : List ℕ) → OpenBy E (Directed s d) g p0 ps
+      → (i : ℕ) × (x : Session) × (get_or L i None ≡ Some (record { from = s; to = d; session = x }))
 
--- each place below 254 stands for E at its source
+-- each place of the 254 has the broadcast of its source that is open after E, if one is
 pub record AreBroadcasts (E : List Event) (T : List (Option Session)) : Type 0 where
   pub size_is : length T ≡ 254
   pub each : (s : ℕ) → s < 254 → StandsFor E (Broadcast s) (get_or T s None)
@@ -46,7 +51,15 @@ pub record IsTable (E : List Event) (T : Table) : Type 0 where
 
 -- a session i directed announcements after its own
 abbrev pub full : ℕ → SessionRecord → Session
-full i s = record { packets_due = s.packets; size_due = s.size; group_due = s.group; count = s.count; bytes = s.bytes; last = s.last; after = i }
+full i s = record {
+  packets_due = s.packets;
+  size_due = s.size;
+  group_due = s.group;
+  count = s.count;
+  bytes = s.bytes;
+  last = s.last;
+  after = i;
+}
 
 abbrev pub broadcast_in : Option SessionRecord → Option Session
 broadcast_in None = None

@@ -1,8 +1,8 @@
--- How an assembler moves.
+-- How an assembler moves with what a frame says: the steps of the code.
 use Rattle.std.specs.Prelude.{ℕ, ◌+◌, ◌==◌, nat_lt, if◌then◌else◌, List, sum_by, take, slice_set, replicate, Option, Some, None}
 use Rattle.j39_transport.specs.Key.{Key}
 use Rattle.j39_transport.specs.Key.Key.{Broadcast, Directed}
-use Rattle.j39_transport.specs.FrameSteps.{Said, Announces, Packs, Grants, Finishes, Aborts, Other}
+use Rattle.j39_transport.specs.FrameSteps.{TransportFrame, Announcement, Packet, ClearToSend, Acknowledgment, Abort, Other}
 use Rattle.j39_transport.specs.Answers.{Outcome, Whole, Taken, Ignored}
 use Rattle.j39_transport.specs.Session.{SessionRecord, opened, touched, grown}
 use Rattle.j39_transport.specs.Places.{Places, at, find, pushed, forgotten, open_in, bytes_in}
@@ -74,39 +74,43 @@ room (Some i) = i
 unfoldable pub finished : ℕ → ℕ → ℕ → Places → Places
 finished s d group t = with_place (find s d t) (closed group) t
 
+-- the directed messages with a new one, x, in front: that of its own pair is left out, else the oldest
+abbrev pub with_announced : ℕ → ℕ → SessionRecord → Places → Places
+with_announced s d x t = pushed 15 x (slice_set t (room (find s d t)) None)
+
 -- the state after an announcement, whose session is x
 abbrev pub announced : AssemblerRecord → Key → SessionRecord → AssemblerRecord
-announced a (Broadcast s) x = record { broadcasts = slice_set a.broadcasts s (Some x); directed = a.directed }
-announced a (Directed s d) x = record { broadcasts = a.broadcasts; directed = pushed 15 x (slice_set a.directed (room (find s d a.directed)) None) }
+announced a (Broadcast s) x = record a { broadcasts = slice_set a.broadcasts s (Some x) }
+announced a (Directed s d) x = record a { directed = with_announced s d x a.directed }
 
 -- the state after a packet, and the answer
 abbrev pub after_packet : AssemblerRecord → ℕ → Key → ℕ → List ℕ → AssemblerRecord
 after_packet a stamp (Broadcast s) number joined =
-    record { broadcasts = slice_set a.broadcasts s (packed 750000 number joined stamp (at a.broadcasts s)); directed = a.directed }
+    record a { broadcasts = slice_set a.broadcasts s (packed 750000 number joined stamp (at a.broadcasts s)) }
 after_packet a stamp (Directed s d) number joined =
-    record { broadcasts = a.broadcasts; directed = with_place (find s d a.directed) (packed 1250000 number joined stamp) a.directed }
+    record a { directed = with_place (find s d a.directed) (packed 1250000 number joined stamp) a.directed }
 
 abbrev pub answer_to_packet : AssemblerRecord → ℕ → ℕ → Key → ℕ → List ℕ → Outcome
 answer_to_packet a source stamp (Broadcast s) number joined = told source 750000 number joined stamp (at a.broadcasts s)
 answer_to_packet a source stamp (Directed s d) number joined = told_at (find s d a.directed) (told source 1250000 number joined stamp) a.directed
 
 -- the state after a frame that says this, and the answer
-unfoldable pub state_after : AssemblerRecord → ℕ → Said → AssemblerRecord
-state_after a stamp (Announces k group size packets) = announced a k (opened k group size packets stamp)
-state_after a stamp (Packs k number joined) = after_packet a stamp k number joined
-state_after a stamp (Grants s d group) =
-    record { broadcasts = a.broadcasts; directed = with_place (find s d a.directed) (granted group stamp) a.directed }
-state_after a stamp (Finishes s d group) = record { broadcasts = a.broadcasts; directed = finished s d group a.directed }
-state_after a stamp (Aborts s d group) =
-    record { broadcasts = a.broadcasts; directed = finished d s group (finished s d group a.directed) }
+unfoldable pub state_after : AssemblerRecord → ℕ → TransportFrame → AssemblerRecord
+state_after a stamp (Announcement k group size packets) = announced a k (opened k group size packets stamp)
+state_after a stamp (Packet k number joined) = after_packet a stamp k number joined
+state_after a stamp (ClearToSend s d group) =
+    record a { directed = with_place (find s d a.directed) (granted group stamp) a.directed }
+state_after a stamp (Acknowledgment s d group) = record a { directed = finished s d group a.directed }
+state_after a stamp (Abort s d group) =
+    record a { directed = finished d s group (finished s d group a.directed) }
 state_after a stamp Other = a
 
-unfoldable pub answer : AssemblerRecord → ℕ → ℕ → Said → Outcome
-answer a source stamp (Announces k group size packets) = Taken
-answer a source stamp (Packs k number joined) = answer_to_packet a source stamp k number joined
-answer a source stamp (Grants s d group) = Ignored
-answer a source stamp (Finishes s d group) = Ignored
-answer a source stamp (Aborts s d group) = Ignored
+unfoldable pub answer : AssemblerRecord → ℕ → ℕ → TransportFrame → Outcome
+answer a source stamp (Announcement k group size packets) = Taken
+answer a source stamp (Packet k number joined) = answer_to_packet a source stamp k number joined
+answer a source stamp (ClearToSend s d group) = Ignored
+answer a source stamp (Acknowledgment s d group) = Ignored
+answer a source stamp (Abort s d group) = Ignored
 answer a source stamp Other = Ignored
 
 -- without what is of a source
@@ -127,10 +131,10 @@ abbrev pub bytes_held : AssemblerRecord → ℕ
 bytes_held a = sum_by bytes_in a.broadcasts + sum_by bytes_in a.directed
 
 -- an announcement, of either kind
-abbrev pub IsAnnounced : Said → Type 0
-IsAnnounced (Announces k group size packets) = Unit {0}
-IsAnnounced (Packs k number joined) = ⊥
-IsAnnounced (Grants s d group) = ⊥
-IsAnnounced (Finishes s d group) = ⊥
-IsAnnounced (Aborts s d group) = ⊥
+abbrev pub IsAnnounced : TransportFrame → Type 0
+IsAnnounced (Announcement k group size packets) = Unit {0}
+IsAnnounced (Packet k number joined) = ⊥
+IsAnnounced (ClearToSend s d group) = ⊥
+IsAnnounced (Acknowledgment s d group) = ⊥
+IsAnnounced (Abort s d group) = ⊥
 IsAnnounced Other = ⊥

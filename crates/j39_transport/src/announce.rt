@@ -1,8 +1,7 @@
 //! Announcements: the one place where memory is taken, before anything changes.
 ghost use Rattle.std.specs.Prelude.{◌≡◌, ◌<◌, None, Some, IfOk, MatchResult, slice_set};
 ghost use Rattle.j39_frame.specs.Stamp.{stamp_micros};
-ghost use Rattle.j39_transport.specs.Places.{find, pushed};
-ghost use Rattle.j39_transport.specs.Steps.{room};
+ghost use Rattle.j39_transport.specs.Steps.{room, with_announced};
 ghost use Rattle.j39_transport.specs.ShownSession.{opened_by};
 
 use crate::announcement::Announcement;
@@ -23,17 +22,30 @@ fn take_box<const N: usize>(
 ) -> Result<Box<Session>, AllocError>
     requires place { place < N }
     ensures value { IfOk result (λ b. b.value ≡ opened_by announcement (stamp_micros stamp)) }
-    ensures table { MatchResult result (λ _. table.new ≡ slice_set table.old place None) (λ _. table.new ≡ table.old) }
+    ensures table { MatchResult result
+        (λ _. table.new ≡ slice_set table.old place None)
+        (λ _. table.new ≡ table.old) }
 {
     let mut session = match table.take(place) {
         Some(session) => session,
         None => match lent.take() {
             Some(session) => session,
-            None => Box::new(alloc, Session::new(announcement, stamp))?,
+            None => boxed(alloc, announcement, stamp)?,
         },
     };
     session.restart(announcement, stamp);
     Ok(session)
+}
+
+/// A session in a box of its own. Only here a whole buffer is written.
+fn boxed(
+    alloc: Global,
+    announcement: Announcement,
+    stamp: Stamp,
+) -> Result<Box<Session>, AllocError>
+    ensures { IfOk result (λ b. b.value ≡ opened_by announcement (stamp_micros stamp)) }
+{
+    Ok(Box::new(alloc, Session::new(announcement, stamp))?)
 }
 
 /// Opens a broadcast, in place of that of its source.
@@ -48,7 +60,8 @@ pub(crate) fn announce_broadcast(
 ) -> Result<(), AllocError>
     requires { source < 254 }
     ensures { MatchResult result
-        (λ _. table.new ≡ slice_set table.old source (Some (opened_by announcement (stamp_micros stamp))))
+        (λ _. table.new
+        ≡ slice_set table.old source (Some (opened_by announcement (stamp_micros stamp))))
         (λ _. table.new ≡ table.old) }
 {
     let place = usize::from(source);
@@ -78,7 +91,8 @@ pub(crate) fn announce_directed(
     stamp: Stamp,
 ) -> Result<(), AllocError>
     ensures { MatchResult result
-        (λ _. table.new ≡ pushed 15 (opened_by announcement (stamp_micros stamp)) (slice_set table.old (room (find source destination table.old)) None))
+        (λ _. table.new
+        ≡ with_announced source destination (opened_by announcement (stamp_micros stamp)) table.old)
         (λ _. table.new ≡ table.old) }
 {
     let place = room(table.find(source, destination));

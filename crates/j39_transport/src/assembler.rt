@@ -4,11 +4,11 @@ ghost use Rattle.std.specs.Borrow.{sem};
 ghost use Rattle.std.specs.Io.BufRead.{Rests};
 ghost use Rattle.j39_frame.specs.Stamp.{stamp_micros};
 ghost use Rattle.j39_transport.specs.Frames.{source_of};
-ghost use Rattle.j39_transport.specs.Assembly.{Event};
-ghost use Rattle.j39_transport.specs.Assembly.Event.{Frame as Came, Forget};
+ghost use Rattle.j39_transport.specs.Events.{Event};
+ghost use Rattle.j39_transport.specs.Events.Event.{Frame as Came, Forget};
 ghost use Rattle.j39_transport.specs.Answers.{IsAnnouncement, AnswersAt, AreOpenAfter, AreHeldAfter};
 ghost use Rattle.j39_transport.specs.Stands.{Stands};
-ghost use Rattle.j39_transport.specs.FrameSteps.{said_by};
+ghost use Rattle.j39_transport.specs.FrameSteps.{transport_frame_of};
 ghost use Rattle.j39_transport.specs.Places.{held_in};
 ghost use Rattle.j39_transport.specs.Steps.{state_after, answer, IsAnnounced, empty_state, state_without, messages_open, bytes_held};
 ghost use Rattle.j39_transport.specs.Shown.{outcome_by, CanLend, outcome_of};
@@ -64,7 +64,8 @@ impl Assembler {
     /// Takes the next frame. Memory is taken at an announcement alone, before anything changes:
     /// after an error the same frame may be fed again.
     pub fn feed(&mut self, frame: &Frame) -> Result<Fed<'_>, AllocError>
-        ensures answer { IfOk result (λ fed. (E : List Event) → Stands E self.old → AnswersAt E frame.now (outcome_of fed)) }
+        ensures answer { IfOk result (λ fed. (E : List Event) → Stands E self.old
+            → AnswersAt E frame.now (outcome_of fed)) }
         ensures refused { OnErr result (IsAnnouncement frame.now) }
         ensures* after { sem 𝓛 (Rests the_row self.entry (λ n. MatchResult result
             (λ _. (E : List Event) → Stands E self.old → Stands (E ++ Came frame.now ∷ []) n)
@@ -73,13 +74,33 @@ impl Assembler {
         self.step(frame)
     }
 
-    /// Hands a frame to the open messages, and answers what it was.
-    #[tactic(auto, unfolding(crate::specs::Frames::source_of))]
+    /// Answers at once where a frame is of another group, which costs its identifier alone.
+    #[tactic(auto, unfolding(crate::specs::FrameSteps::transport_frame_of, crate::specs::Frames::group_of, crate::specs::Steps::state_after, crate::specs::Steps::answer))]
     fn step(&mut self, frame: &Frame) -> Result<Fed<'_>, AllocError>
-        ensures answer { IfOk result (λ fed. outcome_of fed ≡ answer self.old (source_of frame.now.id) frame.now.stamp (said_by frame.now)) }
-        ensures refused { OnErr result (IsAnnounced (said_by frame.now)) }
+        ensures answer { IfOk result (λ fed. outcome_of fed
+            ≡ answer self.old (source_of frame.now.id) frame.now.stamp (transport_frame_of frame.now)) }
+        ensures refused { OnErr result (IsAnnounced (transport_frame_of frame.now)) }
         ensures* after { sem 𝓛 (Rests the_row self.entry (λ n. MatchResult result
-            (λ _. n ≡ state_after self.old frame.now.stamp (said_by frame.now))
+            (λ _. n ≡ state_after self.old frame.now.stamp (transport_frame_of frame.now))
+            (λ _. n ≡ self.old))) }
+    {
+        if frame.id.is_transport_data() || frame.id.is_transport_control() {
+            self.hand_on(frame)
+        } else {
+            Ok(Fed::Ignored)
+        }
+    }
+
+    /// Hands a frame to the open messages, and answers what it was. Out of line: so a frame of
+    /// another group pays nothing for it.
+    #[tactic(auto, unfolding(crate::specs::Frames::source_of))]
+    #[inline(never)]
+    fn hand_on(&mut self, frame: &Frame) -> Result<Fed<'_>, AllocError>
+        ensures answer { IfOk result (λ fed. outcome_of fed
+            ≡ answer self.old (source_of frame.now.id) frame.now.stamp (transport_frame_of frame.now)) }
+        ensures refused { OnErr result (IsAnnounced (transport_frame_of frame.now)) }
+        ensures* after { sem 𝓛 (Rests the_row self.entry (λ n. MatchResult result
+            (λ _. n ≡ state_after self.old frame.now.stamp (transport_frame_of frame.now))
             (λ _. n ≡ self.old))) }
     {
         let accepted = self

@@ -11,7 +11,8 @@ use j39_frame::Stamp;
 /// Hands a CTS to the session that it lets go on.
 #[tactic(auto, unfolding(crate::specs::Steps::granted), using(crate::proofs::TableLemmas::set_again, crate::proofs::TableLemmas::set_same))]
 pub(crate) fn grant(table: &mut Table<PAIRS>, source: u8, destination: u8, group: u32, stamp: Stamp)
-    ensures { table.new ≡ with_place (find source destination table.old) (granted group (stamp_micros stamp)) table.old }
+    ensures { table.new
+        ≡ with_place (find source destination table.old) (granted group (stamp_micros stamp)) table.old }
 {
     let Some(place) = table.find(source, destination) else {
         return;

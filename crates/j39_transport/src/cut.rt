@@ -2,6 +2,7 @@
 ghost use Rattle.std.specs.Prelude.{◌≡◌, ◌≤◌, ◌↔◌, ◌++◌, List, length, take, drop, map, replicate, IsSome, IfSome};
 ghost use Rattle.j39_frame.specs.Address.{IsAddress};
 ghost use Rattle.j39_frame.specs.Frame.{FrameRecord};
+ghost use Rattle.j39_frame.specs.Identifier.{id_raw, priority_of};
 ghost use Rattle.j39_frame.specs.Pgn.{pgn_raw};
 ghost use Rattle.j39_transport.specs.Message.{IsLong, as_broadcast, packets_of};
 ghost use Rattle.j39_transport.specs.Carries.{Carries, joined};
@@ -65,6 +66,7 @@ impl<'a> Cut<'a> {
     pub fn frame(&self, k: u16) -> Option<(Id, [u8; 8])>
         ensures known { IsSome result ↔ (k ≤ packets_of self.now) }
         ensures value { IfSome result (λ frame. to_send frame ≡ cut_frame (as_broadcast self.now) self.now k) }
+        ensures priority { IfSome result (λ frame. priority_of (id_raw frame.0) ≡ 7) }
 
         // At whatever moments, the frames carry the message as a broadcast.
         ensures carries { (frames : List FrameRecord) → map without_stamp frames ≡ cut_frames (as_broadcast self.now) self.now

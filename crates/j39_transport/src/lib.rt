@@ -23,6 +23,8 @@ pub use cut::Cut;
 pub use message::{Fed, Message};
 
 #[cfg(test)]
+mod assembler_tests;
+#[cfg(test)]
 mod cutting_tests;
 #[cfg(test)]
-mod tests;
+mod transfer_tests;

@@ -44,7 +44,8 @@ fn after_packet(
     requires limit { limit ≤ 1250000 }
     requires seven { length bytes.now ≡ 7 }
     requires open { session.value.count < session.value.packets }
-    ensures value { shown_move result ≡ moves limit number bytes.now (stamp_micros stamp) session.value }
+    ensures value { shown_move result
+        ≡ moves limit number bytes.now (stamp_micros stamp) session.value }
     ensures moved { IsMove result }
 {
     if stamp.micros() > session.last().micros() + limit {
@@ -77,9 +78,12 @@ pub(crate) fn pack<const N: usize>(
     requires place { place < N }
     requires limit { limit ≤ 1250000 }
     requires seven { length bytes.now ≡ 7 }
-    ensures table { table.new ≡ slice_set table.old place (packed limit number bytes.now (stamp_micros stamp) (at table.old place)) }
+    ensures table { table.new ≡ slice_set table.old place
+        (packed limit number bytes.now (stamp_micros stamp) (at table.old place)) }
     ensures lends { CanLend result (held_in lent.new) }
-    ensures told { (source : ℕ) → outcome_by result source (stamp_micros stamp) (held_in lent.new) ≡ told source limit number bytes.now (stamp_micros stamp) (at table.old place) }
+    ensures told { (source : ℕ)
+        → outcome_by result source (stamp_micros stamp) (held_in lent.new)
+        ≡ told source limit number bytes.now (stamp_micros stamp) (at table.old place) }
 {
     let Some(session) = table.take(place) else {
         return Accepted::Ignored;
@@ -112,9 +116,13 @@ pub(crate) fn pack_directed(
     stamp: Stamp,
 ) -> Accepted
     requires { length bytes.now ≡ 7 }
-    ensures table { table.new ≡ with_place (find source destination table.old) (packed 1250000 number bytes.now (stamp_micros stamp)) table.old }
+    ensures table { table.new ≡ with_place (find source destination table.old)
+        (packed 1250000 number bytes.now (stamp_micros stamp)) table.old }
     ensures lends { CanLend result (held_in lent.new) }
-    ensures told { (source' : ℕ) → outcome_by result source' (stamp_micros stamp) (held_in lent.new) ≡ told_at (find source destination table.old) (told source' 1250000 number bytes.now (stamp_micros stamp)) table.old }
+    ensures told { (from : ℕ)
+        → outcome_by result from (stamp_micros stamp) (held_in lent.new)
+        ≡ told_at (find source destination table.old)
+        (told from 1250000 number bytes.now (stamp_micros stamp)) table.old }
 {
     match table.find(source, destination) {
         Some(place) => pack(table, place, lent, DIRECTED_LIMIT, number, bytes, stamp),

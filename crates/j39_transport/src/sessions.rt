@@ -54,7 +54,9 @@ impl Sessions {
         stamp: Stamp,
     ) -> Result<Accepted, AllocError>
         requires { HasAddresses frame }
-        ensures answer { IfOk result (λ a. (source : ℕ) → outcome_by a source (stamp_micros stamp) (held_in lent.new) ≡ answer self.old source (stamp_micros stamp) (shown_frame frame.entry)) }
+        ensures answer { IfOk result (λ a. (source : ℕ)
+            → outcome_by a source (stamp_micros stamp) (held_in lent.new)
+            ≡ answer self.old source (stamp_micros stamp) (shown_frame frame.entry)) }
         ensures lends { IfOk result (λ a. CanLend a (held_in lent.new)) }
         ensures refused { OnErr result (IsAnnounced (shown_frame frame.entry)) }
         ensures after { MatchResult result
@@ -96,7 +98,8 @@ impl Sessions {
     ) -> Result<(), AllocError>
         requires { IsKey announcement.key }
         ensures { MatchResult result
-            (λ _. self.new ≡ announced self.old (key_in announcement.key) (opened_by announcement (stamp_micros stamp)))
+            (λ _. self.new ≡ announced self.old (key_in announcement.key)
+            (opened_by announcement (stamp_micros stamp)))
             (λ _. self.new ≡ self.old) }
     {
         match announcement.key {
@@ -119,9 +122,12 @@ impl Sessions {
     ) -> Accepted
         requires key { IsKey key }
         requires seven { length bytes.now ≡ 7 }
-        ensures after { self.new ≡ after_packet self.old (stamp_micros stamp) (key_in key) number bytes.now }
+        ensures after { self.new
+            ≡ after_packet self.old (stamp_micros stamp) (key_in key) number bytes.now }
         ensures lends { CanLend result (held_in lent.new) }
-        ensures answer { (source : ℕ) → outcome_by result source (stamp_micros stamp) (held_in lent.new) ≡ answer_to_packet self.old source (stamp_micros stamp) (key_in key) number bytes.now }
+        ensures answer { (source : ℕ)
+            → outcome_by result source (stamp_micros stamp) (held_in lent.new)
+            ≡ answer_to_packet self.old source (stamp_micros stamp) (key_in key) number bytes.now }
     {
         match key {
             Key::Broadcast(s) => {

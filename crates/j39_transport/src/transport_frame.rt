@@ -2,7 +2,7 @@
 ghost use Rattle.std.specs.Prelude.{◌≡◌, ◌≤◌, ◌+◌, ◌*◌, ◌↔◌, length, slice_index, IsTrue};
 ghost use Rattle.j39_frame.specs.Frame.{FrameRecord};
 ghost use Rattle.j39_transport.specs.Frames.{packets_for, source_of, destination_of};
-ghost use Rattle.j39_transport.specs.FrameSteps.{said_by, control_of, announced_by, packed_by, key_named};
+ghost use Rattle.j39_transport.specs.FrameSteps.{transport_frame_of, control_of, announced_by, packed_by, key_named};
 ghost use Rattle.j39_transport.specs.ShownFrame.{shown_frame, HasAddresses};
 
 use crate::announcement::Announcement;
@@ -25,9 +25,9 @@ pub(crate) enum TransportFrame<'a> {
 }
 
 /// Reads a frame. One of another group costs its identifier alone.
-#[tactic(auto, unfolding(crate::specs::FrameSteps::said_by, crate::specs::Frames::group_of))]
+#[tactic(auto, unfolding(crate::specs::FrameSteps::transport_frame_of, crate::specs::Frames::group_of))]
 pub(crate) fn read(frame: &Frame) -> TransportFrame<'_>
-    ensures value { shown_frame result ≡ said_by frame.now }
+    ensures value { shown_frame result ≡ transport_frame_of frame.now }
     ensures addresses { HasAddresses result }
 {
     if frame.id.is_transport_data() && frame.bytes.len() == 8 {
@@ -56,7 +56,8 @@ fn destination(frame: &Frame) -> u8
 #[tactic(auto, unfolding(crate::specs::FrameSteps::packed_by))]
 fn read_packet(frame: &Frame) -> TransportFrame<'_>
     requires { length frame.now.bytes ≡ 8 }
-    ensures value { shown_frame result ≡ packed_by frame.now (key_named (source_of frame.now.id) (destination_of frame.now.id)) }
+    ensures value { shown_frame result
+        ≡ packed_by frame.now (key_named (source_of frame.now.id) (destination_of frame.now.id)) }
     ensures addresses { HasAddresses result }
 {
     let bytes = frame.bytes.as_slice();
@@ -84,7 +85,8 @@ fn read_control(frame: &Frame) -> TransportFrame<'_>
 #[tactic(auto, unfolding(crate::specs::FrameSteps::announced_by, crate::specs::Frames::names_message))]
 fn read_announcement(frame: &Frame) -> TransportFrame<'_>
     requires { length frame.now.bytes ≡ 8 }
-    ensures value { shown_frame result ≡ announced_by frame.now (key_named (source_of frame.now.id) (destination_of frame.now.id)) }
+    ensures value { shown_frame result
+        ≡ announced_by frame.now (key_named (source_of frame.now.id) (destination_of frame.now.id)) }
     ensures addresses { HasAddresses result }
 {
     let bytes = frame.bytes.as_slice();
@@ -119,7 +121,8 @@ fn size_in(bytes: &[u8]) -> u16
 /// The group of a message, in bytes 6 to 8.
 fn group_in(bytes: &[u8]) -> u32
     requires { length bytes.now ≡ 8 }
-    ensures { result ≡ slice_index bytes.now 5 + 256 * slice_index bytes.now 6 + 65536 * slice_index bytes.now 7 }
+    ensures { result
+        ≡ slice_index bytes.now 5 + 256 * slice_index bytes.now 6 + 65536 * slice_index bytes.now 7 }
 {
     u32::from(bytes[5]) + 256 * u32::from(bytes[6]) + 65536 * u32::from(bytes[7])
 }

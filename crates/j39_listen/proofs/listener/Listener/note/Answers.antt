@@ -3,8 +3,8 @@ use Rattle.std.proofs.Common.{◌≡◌, ◌∙◌, ◌++◌, ◌∷◌, [], Lis
 use Rattle.std.proofs.lemmas.List.{take_more}
 use Rattle.j39_address.specs.Claims.{Knows}
 use Rattle.j39_address.specs.declared.claims.Claims.{Claims}
-use Rattle.j39_transport.specs.Assembly.{Event}
-use Rattle.j39_transport.specs.Assembly.Event.{Frame, Forget}
+use Rattle.j39_transport.specs.Events.{Event}
+use Rattle.j39_transport.specs.Events.Event.{Frame, Forget}
 use Rattle.j39_transport.specs.Stands.{Stands}
 use Rattle.j39_listen.proofs.ListenerLemmas.{forgets_more_than, hears_claim, on_ok}
 use Rattle.j39_listen.proofs.listener.Listener.note.Goals as goal

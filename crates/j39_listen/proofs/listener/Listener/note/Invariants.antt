@@ -1,6 +1,6 @@
 use Rattle.std.proofs.Common.{◌≡◌, ◌++◌, List, map, take}
-use Rattle.j39_transport.specs.Assembly.{Event}
-use Rattle.j39_transport.specs.Assembly.Event.{Forget}
+use Rattle.j39_transport.specs.Events.{Event}
+use Rattle.j39_transport.specs.Events.Event.{Forget}
 use Rattle.j39_transport.specs.Stands.{Stands}
 use Rattle.j39_listen.proofs.listener.Listener.note.Given as goal
 
