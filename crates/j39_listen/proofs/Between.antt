@@ -17,7 +17,7 @@ use Rattle.j39_listen.specs.Heard.{IsAssembled, frames_only}
 use Rattle.j39_transport.proofs.FrameFacts.{announcement_facts, key_below}
 use Rattle.j39_transport.specs.Events.{Event, announces}
 use Rattle.j39_transport.specs.Assembly.{Whole, last_of}
-use Rattle.j39_transport.specs.Places.{at}
+use Rattle.j39_transport.specs.Events.{at}
 use Rattle.j39_transport.specs.Events.Event.{Frame, Forget}
 use Rattle.j39_transport.specs.Key.{Key, is_key, sender}
 use Rattle.j39_transport.specs.Message.{MessageRecord}

@@ -15,7 +15,7 @@ use Rattle.j39_transport.proofs.Agreeing.{Agree, Links-same, Runs-same, joined-s
 use Rattle.j39_transport.proofs.Chains.{Links-from}
 use Rattle.j39_transport.specs.Assembly.{Chain, Whole, joined, last_of}
 use Rattle.j39_transport.specs.Events.{Event, announces, group, packets, size, stamp}
-use Rattle.j39_transport.specs.Places.{at}
+use Rattle.j39_transport.specs.Events.{at}
 use Rattle.j39_transport.specs.Events.Event.{Frame, Forget}
 use Rattle.j39_transport.specs.Key.{Key}
 use Rattle.j39_transport.specs.Message.{MessageRecord}

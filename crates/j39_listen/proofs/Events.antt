@@ -6,7 +6,7 @@ use Rattle.j39_frame.specs.Frame.{FrameRecord}
 use Rattle.j39_listen.specs.Heard.{frame_at, frames_only}
 use Rattle.j39_transport.proofs.FrameFacts.{announcement_facts, packet_facts}
 use Rattle.j39_transport.specs.Events.{announces, ends, grants, group, is_numbered, number, packets, payload, sends, size, stamp}
-use Rattle.j39_transport.specs.Places.{at}
+use Rattle.j39_transport.specs.Events.{at}
 use Rattle.j39_transport.specs.Events.Event.{Frame, Forget}
 use Rattle.j39_transport.specs.Frames.{group_of, is_announcement, is_clear_to_send, is_end, is_packet, packets_named, pgn_named, size_named}
 use Rattle.j39_transport.specs.Key.{Key}

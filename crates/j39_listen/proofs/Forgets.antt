@@ -3,13 +3,19 @@ use Rattle.std.proofs.Common.{◌≡◌, ◌≢◌, ◌⊎◌, ℕ, zero, suc, �
 use Rattle.std.proofs.lemmas.Bool.{cases_lt, cases_eq, cases_Bool, and_parts, and_left, or_from, or_cases, or_left, or_right, both_ways, false_from_ne_true, cond-true, cond-false}
 use Rattle.j39_listen.proofs.Masks.{Same, kept_at, one_in_H, order_to_F, order_to_H, place_in_F, place_in_H, rank, rank_gone, rank_kept, same_element}
 use Rattle.j39_listen.specs.Lost.{without}
-use Rattle.j39_transport.proofs.Chains.{announces-belongs, belongs_within, sends-belongs}
+use Rattle.j39_transport.proofs.Chains.{belongs_within}
 use Rattle.j39_transport.specs.Assembly.{AreSuccessive, IsFirstAfter, Links, Runs, Whole, count_below, joined, last_of}
 use Rattle.j39_transport.specs.Events.{Event, announces, belongs, ends, group, is_numbered, number, packets, payload, rivals, sends, size, stamp}
-use Rattle.j39_transport.specs.Places.{at}
+use Rattle.j39_transport.specs.Events.{at}
 use Rattle.j39_transport.specs.Events.Event.{Forget}
 use Rattle.j39_transport.specs.Key.{Key, limit}
-use Rattle.j39_transport.specs.Stands.{full}
+
+-- a packet of a key belongs to its message, and so does its announcement
+sends-belongs : (k : Key) (g : ℕ) (e : Event) → sends k e ≡ true → belongs k g e ≡ true
+sends-belongs k g e h = or_left _ _ (or_right _ _ h)
+
+announces-belongs : (k : Key) (g : ℕ) (e : Event) → announces k e ≡ true → belongs k g e ≡ true
+announces-belongs k g e h = or_left _ _ (or_left _ _ h)
 
 -- what doesn't count is not missed
 pub count_rest : (t : Event → Bool) (X : ℕ → Bool) (E : List Event) → ((i : ℕ) → X i ≡ true → t (at E i) ≡ false)

@@ -15,7 +15,7 @@ use Rattle.j39_listen.specs.Heard.{frame_at, frames_only}
 use Rattle.j39_listen.specs.Lost.{without}
 use Rattle.j39_transport.proofs.FrameFacts.{key_below}
 use Rattle.j39_transport.specs.Events.{Event, announces, ends, grants, rivals, sends}
-use Rattle.j39_transport.specs.Places.{at}
+use Rattle.j39_transport.specs.Events.{at}
 use Rattle.j39_transport.specs.Events.Event.{Frame, Forget}
 use Rattle.j39_transport.specs.Key.{Key, is_key, sender}
 

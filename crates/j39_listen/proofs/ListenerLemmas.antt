@@ -12,7 +12,7 @@ use Rattle.j39_address.proofs.NotingLemmas.{claims_of-push, quiet_changed, quiet
 use Rattle.j39_frame.specs.Frame.{FrameRecord}
 use Rattle.j39_frame.specs.Identifier.{pgn_of, source_of}
 use Rattle.j39_groups.specs.Readings.{is_reported_group}
-use Rattle.j39_transport.specs.Answers.{AreHeldAfter, AreOpenAfter, Assembled, NoneWhole, WholeBy}
+use Rattle.j39_transport.specs.Answers.{AreHeldAfter, AreOpenAfter, NoneWhole, WholeBy}
 use Rattle.j39_transport.specs.Events.{Event}
 use Rattle.j39_transport.specs.Events.Event.{Frame, Forget}
 use Rattle.j39_transport.specs.Message.{MessageRecord}

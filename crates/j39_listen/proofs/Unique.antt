@@ -21,7 +21,7 @@ use Rattle.j39_transport.proofs.Chains.{Links-from, Links-unique, start_unique}
 use Rattle.j39_transport.proofs.FrameFacts.{announces-packets, packet_facts}
 use Rattle.j39_transport.specs.Events.{Event, group, packets, sends, size, stamp}
 use Rattle.j39_transport.specs.Assembly.{Links, Runs, Whole, joined, last_of}
-use Rattle.j39_transport.specs.Places.{at}
+use Rattle.j39_transport.specs.Events.{at}
 use Rattle.j39_transport.specs.Events.Event.{Frame, Forget}
 use Rattle.j39_transport.specs.Frames.{is_packet}
 use Rattle.j39_transport.specs.Key.{Key, sender}

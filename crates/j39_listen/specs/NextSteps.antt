@@ -4,7 +4,7 @@ use Rattle.j39_frame.specs.Address.{null_address}
 use Rattle.j39_frame.specs.Frame.{FrameRecord}
 use Rattle.j39_frame.specs.Identifier.{source_of, pgn_of}
 use Rattle.j39_groups.specs.Readings.{is_reported_group}
-use Rattle.j39_transport.specs.Answers.{Assembled}
+use Rattle.j39_transport.specs.Answers.{NoneWhole, WholeBy}
 use Rattle.j39_transport.specs.Events.{Event}
 use Rattle.j39_transport.specs.Message.{MessageRecord}
 use Rattle.j39_address.specs.Claim.{claim_of}
@@ -13,6 +13,11 @@ use Rattle.j39_listen.specs.Heard.{Hearing}
 -- the message that a frame of a reported group is
 abbrev pub alone_of : FrameRecord → MessageRecord
 alone_of f = record { source = source_of f.id; pgn = pgn_of f.id; bytes = f.bytes }
+
+-- this message is whole with the frame f after E, or none is
+abbrev pub Assembled : List Event → FrameRecord → Option MessageRecord → Type 0
+Assembled E f (Some m) = WholeBy E f m
+Assembled E f None = NoneWhole E f
 
 abbrev pub NextBy : Bool → Bool → List Event → FrameRecord → Option MessageRecord → Type 0
 NextBy true true E f c = c ≡ Some (alone_of f)
