@@ -1,7 +1,8 @@
 -- A run over pieces of a log.
-use Rattle.std.proofs.Common.{◌≡◌, ◌≢◌, ◌+◌, ℕ, List, [], ◌∷◌, ◌++◌, Option, length, take, sym, ap, ◌∙◌, subst, arith, append-nil, append_assoc, take_all, inl, inr}
+use Rattle.std.proofs.Common.{◌≡◌, ◌≢◌, ◌+◌, ℕ, List, [], ◌∷◌, ◌++◌, Option, length, take, sym, ap, ◌∙◌, subst, arith, append-nil, append_assoc, take_all, inl, inr, refl}
 use Rattle.std.proofs.Math.Seq.{take-append-add}
 use Rattle.std.specs.Io.KnownBytes.{Keeps}
+use Rattle.std.specs.Prelude.{IfOk, OnErr, OnOk, Result, Ok, Err}
 use Rattle.j39_frame.specs.Chars.{newline}
 use Rattle.j39_frame.specs.Device.{AppendsFront}
 use Rattle.j39_frame.specs.Log.{HasNoNewline, frames_of}
@@ -19,6 +20,8 @@ use Rattle.j39_listen.specs.Report.{report_text}
 use Rattle.j39_listen.specs.Run.{WritesFront, WritesReport}
 use Rattle.j39_listen.specs.declared.counts.Counts.{Counts}
 use Rattle.j39_listen.specs.declared.pieces.Pieces.{Pieces}
+use Rattle.j39_listen.specs.declared.progress.LineFault.{LineFault}
+use Rattle.j39_listen.specs.declared.progress.LineFault.TheVariants.{Memory, Write}
 use Rattle.j39_listen.specs.declared.progress.Progress.{Progress}
 use Rattle.j39_listen.proofs.RunLemmas.{has_read-bytes, has_read-more, writes_ended, writes_kept, writes_last}
 use Rattle.j39_listen.proofs.StopLemmas.{stops_in, stops_last, writes_front}
@@ -157,3 +160,33 @@ pub stops_last_line : (splitter : Splitter) (raw : RawLine) (s : Spelled) (p : P
 stops_last_line splitter raw s p a b cuts spells stops begun h =
     let line = cuts begun h in
     record { some = line.0; spelled = s; spells = spells begun line.1; stops = stops (begun, spells begun line.1) }
+
+-- ---- which fault it was
+
+pub by_fault : (fault : LineFault) (P : Type 0) → (fault ≡ Write → P) → (fault ≡ Memory → P) → P
+by_fault Write P write memory = write refl
+by_fault Memory P write memory = memory refl
+
+pub no_fault : {T E : Type 0} {x : T} {fault : E} → (let r : Result T E = Ok x in r) ≢ Err fault
+no_fault e = cc
+
+pub if_ok : {X E : Type 0} (r : Result X E) (P R : X → Type 0) → ((x : X) → P x → R x) → IfOk r P → IfOk r R
+if_ok (Ok x) P R f p = f x p
+if_ok (Err e) P R f p = tt
+
+pub on_err_from : {T E : Type 0} (r : Result T E) (P Q : Type 0) → (P → Q) → OnErr r P → OnErr r Q
+on_err_from (Ok x) P Q f h = tt
+on_err_from (Err e) P Q f h = f h
+
+pub on_ok_from : {T E : Type 0} (r : Result T E) (P Q : Type 0) → (P → Q) → OnOk r P → OnOk r Q
+on_ok_from (Ok x) P Q f h = f h
+on_ok_from (Err e) P Q f h = tt
+
+pub stops_line : (begun bytes : List ℕ) (n : ℕ) (raw : RawLine) (s : Spelled) (p : Progress) (a b : Option (List ℕ))
+    → (line : List ℕ) × EndsLine begun bytes line n × IsRawLine raw line → ((line : List ℕ) → IsRawLine raw line → Spells line s)
+    → (IsSpelling s → StopsAt s p a b) → StopsIn begun bytes p a b
+stops_line begun bytes n raw s p a b (line, ends, cut) spells stops =
+    record { line = line; n = n; ends = ends; spelled = s; spells = spells line cut; stops = stops (line, spells line cut) }
+
+pub same_fault : {T : Type 0} (x y : LineFault) → (let r : Result T LineFault = Err x in r) ≡ Err y → x ≡ y
+same_fault x y e = cc

@@ -8,5 +8,6 @@ pub mod Lost
 pub mod Laws
 pub mod Counting
 pub mod Run
+pub mod Fault
 pub mod LineSteps
 pub mod PieceSteps

@@ -7,7 +7,9 @@ mod listener;
 mod pieces;
 mod progress;
 mod report_lines;
+mod running;
 
 pub use counts::Counts;
 pub use heard::Heard;
 pub use listener::Listener;
+pub use running::{RunFault, run};

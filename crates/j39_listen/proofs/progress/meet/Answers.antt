@@ -1,12 +1,9 @@
 -- The line by what it spells.
 use Rattle.std.proofs.Common.{sym, ◌∙◌, Result, Ok, Err}
 use Rattle.std.specs.Prelude.{IfOk}
+use Rattle.j39_listen.proofs.PieceLemmas.{if_ok}
 use Rattle.j39_listen.proofs.MeetLemmas.{meets_blank, meets_frame, meets_frame_elsewhere, meets_other, meets_unread, stops_frame}
 use Rattle.j39_listen.proofs.progress.meet.Goals as goal
-
-if_ok : {X E : Type 0} (r : Result X E) (P R : X → Type 0) → ((x : X) → P x → R x) → IfOk r P → IfOk r R
-if_ok (Ok x) P R f p = f x p
-if_ok (Err e) P R f p = tt
 
 pub returns-then-is_on-clause-met : goal.returns-then-is_on-clause-met
 returns-then-is_on-clause-met g c =

@@ -1,0 +1,5 @@
+use Rattle.j39_listen.proofs.PieceLemmas.{if_ok, on_err_from}
+use Rattle.j39_listen.proofs.running.run.Goals as goal
+
+pub returns-clause-report : goal.returns-clause-report
+returns-clause-report g c = if_ok c.read_pieces.result _ _ (λ counts report. report c.args.bus (c.new-pieces.ensures _)) c.read_pieces.ensures.report
