@@ -1,3 +1,15 @@
+pub mod Rising
+pub mod Held
+pub mod Causal
+pub mod Events
+pub mod Reported
+pub mod Unique
+pub mod Masks
+pub mod Forgets
+pub mod Gaps
+pub mod Between
+pub mod Feeding
+pub mod ListenerLemmas
 pub mod ReportLemmas
 pub mod MeetLemmas
 pub mod RunLemmas

@@ -1,24 +1,67 @@
--- The messages that a listener hears in a list of frames.
-use Rattle.std.specs.Prelude.{ℕ, List, Option, Some, None, ◌&&◌, nat_lt, if◌then◌else◌}
-use Rattle.std.specs.List.{filter_map}
+-- What a listener hears in the frames of a bus, in order (J1939-21, 5.10; J1939-81, 4.2).
+use Rattle.std.specs.Prelude.{◌≡◌, ◌⊎◌, ℕ, zero, suc, ◌<◌, ◌≤◌, true, List, [], ◌∷◌, ◌++◌, map, length, get_or, Option, Some, None}
+use Rattle.j39_frame.specs.Address.{IsAddress}
 use Rattle.j39_frame.specs.Frame.{FrameRecord}
 use Rattle.j39_frame.specs.Identifier.{source_of, pgn_of}
 use Rattle.j39_groups.specs.Readings.{is_reported_group}
+use Rattle.j39_transport.specs.Events.{Event}
+use Rattle.j39_transport.specs.Assembly.{Whole}
+use Rattle.j39_transport.specs.Events.Event.{Frame}
+use Rattle.j39_transport.specs.Key.{Key, sender}
+use Rattle.j39_transport.specs.Message.{MessageRecord}
+use Rattle.j39_address.specs.Claim.{claims_of}
+use Rattle.j39_address.specs.Holder.{IsHolder}
 
--- a message, with the stamp of its last frame and the NAME that holds its source there, or none
+-- a message, the stamp of the frame that it was heard at, and the NAME that held its source there, or none
 pub record Hearing : Type 0 where
+  pub message : MessageRecord
   pub stamp : ℕ
-  pub source : ℕ
   pub name : Option ℕ
-  pub pgn : ℕ
-  pub bytes : List ℕ
 
--- a frame of a reported group from a source 0 to 253 is heard as a message of its data
-abbrev pub hearing_of : FrameRecord → Option Hearing
-hearing_of f =
-    if is_reported_group (pgn_of f.id) && nat_lt (source_of f.id) 254
-    then Some (record { stamp = f.stamp; source = source_of f.id; name = None; pgn = pgn_of f.id; bytes = f.bytes })
-    else None
+-- what stands past the end: a frame that means nothing
+abbrev pub frame_at : List FrameRecord → ℕ → FrameRecord
+frame_at F i = get_or F i (record { stamp = 0; id = 0; bytes = [] })
 
-unfoldable pub heard_of : List FrameRecord → List Hearing
-heard_of frames = filter_map hearing_of frames
+abbrev pub frames_only : List FrameRecord → List Event
+frames_only F = map (λ f. Frame f) F
+
+-- F[i] is of a reported group, from an address that a controller can hold, and its data is the message
+pub record IsSingle (F : List FrameRecord) (i : ℕ) (m : MessageRecord) : Type 0 where
+  pub inside : i < length F
+  pub reported : is_reported_group (pgn_of (frame_at F i).id) ≡ true
+  pub address : IsAddress m.source
+  pub source_is : source_of (frame_at F i).id ≡ m.source
+  pub pgn_is : pgn_of (frame_at F i).id ≡ m.pgn
+  pub bytes_are : (frame_at F i).bytes ≡ m.bytes
+
+-- at F[i] the message is whole, broadcast or directed, and its source had the same holder, or none, from its announcement on
+pub record IsAssembled (F : List FrameRecord) (i : ℕ) (m : MessageRecord) (name : Option ℕ) : Type 0 where
+  pub key : Key
+  pub source_is : sender key ≡ m.source
+  pub whole : Whole (frames_only F) i key m.pgn m.bytes
+  pub same_holder : (j : ℕ) → whole.start ≤ j → j ≤ i → IsHolder (claims_of F) j m.source name
+
+-- this is heard at F[i]
+pub record IsHeard (F : List FrameRecord) (i : ℕ) (h : Hearing) : Type 0 where
+  pub carried : IsSingle F i h.message ⊎ IsAssembled F i h.message h.name
+  pub held_by : IsHolder (claims_of F) i h.message.source h.name
+  pub stamp_is : h.stamp ≡ (frame_at F i).stamp
+
+-- what is heard at F[i], or nothing
+abbrev pub HeardAt : List FrameRecord → ℕ → Option Hearing → Type 0
+HeardAt F i (Some h) = IsHeard F i h
+HeardAt F i None = (h : Hearing) → IsHeard F i h → ⊥
+
+abbrev pub or_none : Option Hearing → List Hearing
+or_none None = []
+or_none (Some h) = h ∷ []
+
+-- what is heard at the first n places of F, in order
+abbrev pub HeardBelow : List FrameRecord → ℕ → List Hearing → Type 0
+HeardBelow F zero hs = hs ≡ []
+HeardBelow F (suc n) hs =
+    (before : List Hearing) × (o : Option Hearing) × HeardBelow F n before × HeardAt F n o × (hs ≡ before ++ or_none o)
+
+-- what is heard in F, in order
+abbrev pub AreHeard : List FrameRecord → List Hearing → Type 0
+AreHeard F hs = HeardBelow F (length F) hs

@@ -1,8 +1,13 @@
 pub mod Heard
+pub mod Forgets
 pub mod Report
+pub mod NextSteps
+pub mod Listening
+pub mod Shown
+pub mod Lost
+pub mod Laws
 pub mod Counting
 pub mod Run
 pub mod Fault
 pub mod LineSteps
 pub mod PieceSteps
-pub mod Shown

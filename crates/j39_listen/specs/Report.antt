@@ -1,5 +1,5 @@
 -- The report of a list of frames, and its text.
-use Rattle.std.specs.Prelude.{ℕ, List, [], ◌∷◌, ◌++◌, Option, Some, None, map, codes, decimal}
+use Rattle.std.specs.Prelude.{◌≡◌, ℕ, List, [], ◌∷◌, ◌++◌, Option, Some, None, map, codes, decimal}
 use Rattle.std.specs.Int.{to_be_bytes, w64}
 use Rattle.std.specs.List.{flat_map}
 use Rattle.hex.specs.Hex.{encode_upper}
@@ -9,7 +9,7 @@ use Rattle.j39_frame.specs.Printing.{stamp_text}
 use Rattle.j39_groups.specs.Readings.{readings_of}
 use Rattle.j39_groups.specs.Value.{ReadingRecord, ValueRecord}
 use Rattle.j39_groups.specs.ValueText.{value_text}
-use Rattle.j39_listen.specs.Heard.{Hearing, heard_of}
+use Rattle.j39_listen.specs.Heard.{AreHeard, Hearing}
 
 -- one value that a controller reported
 pub record Entry : Type 0 where
@@ -21,15 +21,15 @@ pub record Entry : Type 0 where
   pub value : ValueRecord
 
 abbrev pub entry_of : Hearing → ReadingRecord → Entry
-entry_of h r = record { stamp = h.stamp; address = h.source; name = h.name; pgn = h.pgn; spn = r.spn; value = r.value }
+entry_of h r = record { stamp = h.stamp; address = h.message.source; name = h.name; pgn = h.message.pgn; spn = r.spn; value = r.value }
 
 -- an entry for each reading of a message, in order
 abbrev pub entries_of : Hearing → List Entry
-entries_of h = map (entry_of h) (readings_of h.pgn h.bytes)
+entries_of h = map (entry_of h) (readings_of h.message.pgn h.message.bytes)
 
--- the entries of each message that is heard, in order
-unfoldable pub report_of : List FrameRecord → List Entry
-report_of frames = flat_map entries_of (heard_of frames)
+-- the report of F: the entries of each message that is heard in it, in order
+abbrev pub IsReport : List FrameRecord → List Entry → Type 0
+IsReport F entries = (heard : List Hearing) × AreHeard F heard × (entries ≡ flat_map entries_of heard)
 
 -- a NAME in sixteen upper-case hex digits, or sixteen `-`
 abbrev pub name_text : Option ℕ → List ℕ
@@ -42,7 +42,7 @@ head_text stamp address name pgn =
     stamp_text stamp ++ codes " " ++ encode_upper (address ∷ []) ++ codes " " ++ name_text name ++ codes " " ++ decimal pgn ++ codes " "
 
 abbrev pub hearing_head : Hearing → List ℕ
-hearing_head h = head_text h.stamp h.source h.name h.pgn
+hearing_head h = head_text h.stamp h.message.source h.name h.message.pgn
 
 -- the line of an entry, with its newline
 unfoldable pub entry_text : Entry → List ℕ
@@ -50,3 +50,7 @@ entry_text e = head_text e.stamp e.address e.name e.pgn ++ decimal e.spn ++ code
 
 unfoldable pub text_of : List Entry → List ℕ
 text_of entries = flat_map entry_text entries
+
+-- the text of the report of these messages
+abbrev pub report_text : List Hearing → List ℕ
+report_text heard = text_of (flat_map entries_of heard)

@@ -5,23 +5,24 @@ use Rattle.j39_frame.specs.Device.{AppendsFront}
 use Rattle.j39_frame.specs.Log.{IsLog, frames_of}
 use Rattle.j39_frame.specs.Spelled.{Spelled}
 use Rattle.j39_listen.specs.Counting.{counts_of}
-use Rattle.j39_listen.specs.Report.{report_of, text_of}
+use Rattle.j39_listen.specs.Heard.{AreHeard, Hearing}
+use Rattle.j39_listen.specs.Report.{report_text}
 use Rattle.j39_listen.specs.declared.counts.Counts.{Counts}
-
--- the text of the report of a run's frames
-abbrev pub run_text : Option (List ℕ) → List Spelled → List ℕ
-run_text given spelled = text_of (report_of (frames_of given spelled))
 
 -- a run over the log with this bus or none given wrote the report of its frames, and nothing else, and counted it
 pub record WritesReport (given : Option (List ℕ)) (log : List ℕ) (counts : Counts) (old new : Option (List ℕ)) : Type 0 where
   pub spelled : List Spelled
   pub is_log : IsLog log spelled
-  pub counts_are : counts ≡ counts_of given spelled
-  pub written : Appends old new (run_text given spelled)
+  pub heard : List Hearing
+  pub are_heard : AreHeard (frames_of given spelled) heard
+  pub counts_are : counts ≡ counts_of given spelled heard
+  pub written : Appends old new (report_text heard)
 
 -- what a run stopped with is a front of the report of these bytes
 abbrev pub WritesFront : Option (List ℕ) → List ℕ → Option (List ℕ) → Option (List ℕ) → Type 0
-WritesFront given taken old new = (spelled : List Spelled) → IsLog taken spelled → AppendsFront old new (run_text given spelled)
+WritesFront given taken old new =
+    (spelled : List Spelled) (heard : List Hearing) → IsLog taken spelled → AreHeard (frames_of given spelled) heard
+    → AppendsFront old new (report_text heard)
 
 -- a run that stopped took these bytes of its source, and wrote a front of their report
 pub record StopsWithin (given remaining remaining' old new : Option (List ℕ)) : Type 0 where

@@ -3,10 +3,13 @@
 
 mod counts;
 mod heard;
+mod listener;
 mod pieces;
 mod progress;
 mod report_lines;
 mod running;
 
 pub use counts::Counts;
+pub use heard::Heard;
+pub use listener::Listener;
 pub use running::{RunFault, run};

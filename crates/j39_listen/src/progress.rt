@@ -1,58 +1,75 @@
 //! A run, line by line.
-ghost use Rattle.std.specs.Prelude.{◌≡◌, ◌∷◌, [], Some, OnOk, OnErr, IfOk, length, unwrap_or};
-ghost use Rattle.std.specs.Io.KnownBytes.{Appends};
+ghost use Rattle.std.specs.Prelude.{◌≡◌, ◌≢◌, Some, List, true, IfOk, OnOk, Err, unwrap_or};
 ghost use Rattle.std.specs.Str.{bytes_eq};
 ghost use Rattle.j39_frame.specs.Bus.{IsBusName};
-ghost use Rattle.j39_frame.specs.Device.{AppendsFront, Marks};
+ghost use Rattle.j39_frame.specs.Frame.{FrameRecord};
 ghost use Rattle.j39_frame.specs.LineRead.{spelled_of};
-ghost use Rattle.j39_listen.specs.LineSteps.{frame_counts};
-ghost use Rattle.j39_listen.specs.Report.{report_of, text_of};
-ghost use Rattle.j39_listen.specs.Run.{run_text};
-ghost use Rattle.j39_listen.specs.LineSteps.{IsSpelling, MeetsLine, ReadsLine};
+ghost use Rattle.j39_listen.specs.LineSteps.{IsSpelling, MeetsFrame, MeetsLine, StopsFrame, StopsLine};
+ghost use Rattle.j39_listen.specs.Listening.{Hears};
+ghost use Rattle.j39_listen.specs.PieceSteps.{ReadsLine, StopsAt};
+ghost use Rattle.j39_listen.specs.declared.progress.LineFault.TheVariants.{Memory, Write};
 
-use crate::Counts;
-use crate::heard::heard_in;
 use crate::report_lines::put_heard;
+use crate::{Counts, Listener};
 use j39_frame::{Bus, DeviceFault, Frame, Line, Sink};
+use std::alloc::AllocError;
 
-/// The bus of a run, once it is known, and what the run has counted so far.
-#[derive(Debug, Drop)]
+/// The bus of a run, once it is known, what is heard on it, and what the run has counted so far.
+#[derive(Drop)]
 pub(crate) struct Progress {
     pub bus: Option<Bus>,
+    pub listener: Listener,
     pub counts: Counts,
 }
 
+/// Why a line was not finished.
+#[derive(Clone, Copy, Debug, PartialEq, Eq)]
+pub(crate) enum LineFault {
+    /// Memory was refused; nothing was written for the line.
+    Memory,
+    /// The writer failed.
+    Write,
+}
+
 impl Progress {
-    /// Takes a line of the log, and writes the report of its frame.
-    pub fn read<W: Sink>(&mut self, line: Line<'_>, sink: &mut W) -> Result<(), DeviceFault>
-        ensures read { OnOk result (IsSpelling (spelled_of line.entry) → ReadsLine (spelled_of line.entry)
-            self.old.bus self.new.bus self.old.counts self.new.counts (W.held sink.old) (W.held sink.new)) }
-        ensures front { OnErr result (IsSpelling (spelled_of line.entry) → AppendsFront (W.held sink.old) (W.held sink.new)
-            (run_text self.old.bus (spelled_of line.entry ∷ []))) }
-        ensures mark { Marks result (W.has_failed sink.old) (W.has_failed sink.new) }
+    /// Takes a line of the log, and writes the report of what is heard at it.
+    pub fn read<W: Sink>(&mut self, line: Line<'_>, sink: &mut W) -> Result<(), LineFault>
+        ensures read { OnOk result (IsSpelling (spelled_of line.entry)
+            → ReadsLine (spelled_of line.entry) self.old self.new (W.held sink.old) (W.held sink.new)) }
+        ensures write { result ≡ Err Write → W.has_failed sink.new ≡ true }
+        ensures stops { result ≡ Err Write → IsSpelling (spelled_of line.entry)
+            → StopsAt (spelled_of line.entry) self.old (W.held sink.old) (W.held sink.new) }
+        ensures memory { result ≡ Err Memory → W.held sink.new ≡ W.held sink.old }
+        ensures unmarked { result ≢ Err Write → W.has_failed sink.new ≡ W.has_failed sink.old }
     {
-        let met = meet(&mut self.bus, line, sink)?;
+        let met = match meet(&mut self.bus, &mut self.listener, line, sink) {
+            Ok(met) => met,
+            Err(fault) => return Err(fault),
+        };
         self.counts = self.counts.and(met);
         Ok(())
     }
 }
 
-/// Writes the report of a line's frame, and answers what the line counts for.
+/// Writes the report of what is heard at a line, and answers what the line counts for.
 fn meet<W: Sink>(
     bus: &mut Option<Bus>,
+    listener: &mut Listener,
     line: Line<'_>,
     sink: &mut W,
-) -> Result<Counts, DeviceFault>
+) -> Result<Counts, LineFault>
     ensures met { IfOk result (λ met. IsSpelling (spelled_of line.entry)
-        → MeetsLine (spelled_of line.entry) bus.old bus.new met (W.held sink.old) (W.held sink.new)) }
-    ensures front { OnErr result (IsSpelling (spelled_of line.entry)
-        → AppendsFront (W.held sink.old) (W.held sink.new) (run_text bus.old (spelled_of line.entry ∷ []))) }
-    ensures mark { Marks result (W.has_failed sink.old) (W.has_failed sink.new) }
+        → MeetsLine (spelled_of line.entry) bus.old bus.new listener.old listener.new met (W.held sink.old) (W.held sink.new)) }
+    ensures write { result ≡ Err Write → W.has_failed sink.new ≡ true }
+    ensures stops { result ≡ Err Write → IsSpelling (spelled_of line.entry)
+        → StopsLine (spelled_of line.entry) bus.old listener.old (W.held sink.old) (W.held sink.new) }
+    ensures memory { result ≡ Err Memory → W.held sink.new ≡ W.held sink.old }
+    ensures unmarked { result ≢ Err Write → W.has_failed sink.new ≡ W.has_failed sink.old }
 {
     match line {
         Line::Frame { bus: name, frame } => {
             if is_on(bus, name) {
-                put_frame(&frame, sink)
+                put_frame(listener, &frame, sink)
             } else {
                 Ok(OTHER)
             }
@@ -101,24 +118,34 @@ fn is_on(bus: &mut Option<Bus>, name: &[u8]) -> bool
     }
 }
 
-/// Writes the report of a frame of the run's bus, and answers what it counts for.
-fn put_frame<W: Sink>(frame: &Frame, sink: &mut W) -> Result<Counts, DeviceFault>
-    ensures counts { IfOk result (λ met. met ≡ frame_counts frame.now) }
-    ensures written { OnOk result (Appends (W.held sink.old) (W.held sink.new) (text_of (report_of (frame.now ∷ [])))) }
-    ensures front { OnErr result (AppendsFront (W.held sink.old) (W.held sink.new) (text_of (report_of (frame.now ∷ [])))) }
-    ensures mark { Marks result (W.has_failed sink.old) (W.has_failed sink.new) }
+/// Writes the report of what is heard at a frame of the run's bus, and answers what it counts for.
+fn put_frame<W: Sink>(
+    listener: &mut Listener,
+    frame: &Frame,
+    sink: &mut W,
+) -> Result<Counts, LineFault>
+    ensures met { IfOk result (λ met. (F : List FrameRecord) → Hears listener.old F
+        → MeetsFrame listener.new F frame.now met (W.held sink.old) (W.held sink.new)) }
+    ensures write { result ≡ Err Write → W.has_failed sink.new ≡ true }
+    ensures stops { result ≡ Err Write → (F : List FrameRecord) → Hears listener.old F
+        → StopsFrame F frame.now (W.held sink.old) (W.held sink.new) }
+    ensures memory { result ≡ Err Memory → W.held sink.new ≡ W.held sink.old }
+    ensures unmarked { result ≢ Err Write → W.has_failed sink.new ≡ W.has_failed sink.old }
 {
-    let Some(heard) = heard_in(frame) else {
-        return Ok(Counts {
+    match listener.feed(frame) {
+        Err(AllocError) => Err(LineFault::Memory),
+        Ok(None) => Ok(Counts {
             frames: 1,
             ..NOTHING
-        });
-    };
-    let lines = put_heard(&heard, sink)?;
-    Ok(Counts {
-        frames: 1,
-        messages: 1,
-        lines,
-        ..NOTHING
-    })
+        }),
+        Ok(Some(heard)) => match put_heard(&heard, sink) {
+            Ok(lines) => Ok(Counts {
+                frames: 1,
+                messages: 1,
+                lines,
+                ..NOTHING
+            }),
+            Err(DeviceFault) => Err(LineFault::Write),
+        },
+    }
 }

@@ -1,11 +1,13 @@
 //! The report of a log.
-ghost use Rattle.std.specs.Prelude.{◌≡◌, ◌≢◌, ◌<◌, ◌≤◌, true, length, IfOk, OnOk, OnErr, IfSome, Err};
-ghost use Rattle.j39_listen.specs.Run.{StopsWithin, WritesReport};
-ghost use Rattle.j39_listen.specs.declared.running.RunFault.TheVariants.{Memory, Read, Write, TooLong};
+ghost use Rattle.std.specs.Prelude.{◌≡◌, ◌≢◌, ◌<◌, ◌≤◌, ◌++◌, ℕ, List, [], Option, true, length, IfOk, OnOk, OnErr, IfSome, Err};
+ghost use Rattle.j39_listen.specs.PieceSteps.{HasTaken};
+ghost use Rattle.j39_listen.specs.Run.{StopsWithin, WritesFront, WritesReport};
+ghost use Rattle.j39_listen.specs.declared.running.RunFault.TheVariants.{Read, Write, TooLong};
 
 use crate::Counts;
 use crate::pieces::Pieces;
-use j39_frame::{Bus, DeviceFault, Sink, Source};
+use crate::progress::LineFault;
+use j39_frame::{Bus, Sink, Source};
 use std::alloc::Global;
 use std::fmt;
 use thiserror::Error;
@@ -56,7 +58,7 @@ const PIECE: usize = 65_536;
 /// Writes the report of a log of at most `limit` bytes: a line for each value that a controller on
 /// the bus reported. Without a bus it is that of the first frame in the log.
 pub fn run<R: Source, W: Sink>(
-    _alloc: Global,
+    alloc: Global,
     source: &mut R,
     sink: &mut W,
     bus: Option<Bus>,
@@ -73,12 +75,32 @@ pub fn run<R: Source, W: Sink>(
     ensures read_unmarked { result ≢ Err Read → R.has_failed source.new ≡ R.has_failed source.old }
     ensures write { result ≡ Err Write → W.has_failed sink.new ≡ true }
     ensures write_unmarked { result ≢ Err Write → W.has_failed sink.new ≡ W.has_failed sink.old }
-    ensures memory { result ≢ Err Memory }
 
     // What was written before a fault is a front of the report of the bytes that were read.
     ensures prefix { OnErr result (StopsWithin bus (R.remaining source.old) (R.remaining source.new) (W.held sink.old) (W.held sink.new)) }
 {
-    let mut pieces = Pieces::new(bus);
+    let mut pieces = Pieces::new(alloc, bus);
+    read_pieces(&mut pieces, source, sink, limit)
+}
+
+/// Reads a log to its end, piece by piece.
+fn read_pieces<R: Source, W: Sink>(
+    pieces: &mut Pieces,
+    source: &mut R,
+    sink: &mut W,
+    limit: u64,
+) -> Result<Counts, RunFault>
+    ensures report { IfOk result (λ counts. (given : Option (List ℕ)) → HasTaken given [] pieces.old (W.held sink.old) (W.held sink.old)
+        → IfSome (R.remaining source.old) (λ log. WritesReport given log counts (W.held sink.old) (W.held sink.new))) }
+    ensures short { OnOk result (IfSome (R.remaining source.old) (λ log. length log ≤ limit)) }
+    ensures too_long { result ≡ Err TooLong → IfSome (R.remaining source.old) (λ log. limit < length log) }
+    ensures read { result ≡ Err Read → R.has_failed source.new ≡ true }
+    ensures read_unmarked { result ≢ Err Read → R.has_failed source.new ≡ R.has_failed source.old }
+    ensures write { result ≡ Err Write → W.has_failed sink.new ≡ true }
+    ensures write_unmarked { result ≢ Err Write → W.has_failed sink.new ≡ W.has_failed sink.old }
+    ensures prefix { OnErr result ((given : Option (List ℕ)) → HasTaken given [] pieces.old (W.held sink.old) (W.held sink.old)
+        → StopsWithin given (R.remaining source.old) (R.remaining source.new) (W.held sink.old) (W.held sink.new)) }
+{
     let mut piece = [0u8; PIECE];
     let mut room = limit;
     'pieces: loop {
@@ -86,17 +108,51 @@ pub fn run<R: Source, W: Sink>(
             return Err(RunFault::Read);
         };
         if n == 0 {
-            return match pieces.finish(sink) {
-                Ok(counts) => Ok(counts),
-                Err(DeviceFault) => Err(RunFault::Write),
-            };
+            return finish(pieces, sink);
         }
         if n as u64 > room {
             return Err(RunFault::TooLong);
         }
         room -= n as u64;
-        let Ok(()) = pieces.take(&piece[..n], sink) else {
-            return Err(RunFault::Write);
-        };
+        match take(pieces, &piece[..n], sink) {
+            Ok(()) => {}
+            Err(fault) => return Err(fault),
+        }
+    }
+}
+
+/// Takes a piece, and tells its faults as those of a run.
+fn take<W: Sink>(pieces: &mut Pieces, piece: &[u8], sink: &mut W) -> Result<(), RunFault>
+    ensures taken { OnOk result ((given : Option (List ℕ)) (taken : List ℕ) (held : Option (List ℕ))
+        → HasTaken given taken pieces.old held (W.held sink.old) → HasTaken given (taken ++ piece.now) pieces.new held (W.held sink.new)) }
+    ensures front { OnErr result ((given : Option (List ℕ)) (taken : List ℕ) (held : Option (List ℕ))
+        → HasTaken given taken pieces.old held (W.held sink.old) → WritesFront given (taken ++ piece.now) held (W.held sink.new)) }
+    ensures write { result ≡ Err Write → W.has_failed sink.new ≡ true }
+    ensures unmarked { result ≢ Err Write → W.has_failed sink.new ≡ W.has_failed sink.old }
+    ensures not_read { result ≢ Err Read }
+    ensures not_long { result ≢ Err TooLong }
+{
+    match pieces.take(piece, sink) {
+        Ok(()) => Ok(()),
+        Err(LineFault::Memory) => Err(RunFault::Memory),
+        Err(LineFault::Write) => Err(RunFault::Write),
+    }
+}
+
+/// Finishes the log, and tells the faults as those of a run.
+fn finish<W: Sink>(pieces: &mut Pieces, sink: &mut W) -> Result<Counts, RunFault>
+    ensures report { IfOk result (λ counts. (given : Option (List ℕ)) (taken : List ℕ) (held : Option (List ℕ))
+        → HasTaken given taken pieces.old held (W.held sink.old) → WritesReport given taken counts held (W.held sink.new)) }
+    ensures front { OnErr result ((given : Option (List ℕ)) (taken : List ℕ) (held : Option (List ℕ))
+        → HasTaken given taken pieces.old held (W.held sink.old) → WritesFront given taken held (W.held sink.new)) }
+    ensures write { result ≡ Err Write → W.has_failed sink.new ≡ true }
+    ensures unmarked { result ≢ Err Write → W.has_failed sink.new ≡ W.has_failed sink.old }
+    ensures not_read { result ≢ Err Read }
+    ensures not_long { result ≢ Err TooLong }
+{
+    match pieces.finish(sink) {
+        Ok(counts) => Ok(counts),
+        Err(LineFault::Memory) => Err(RunFault::Memory),
+        Err(LineFault::Write) => Err(RunFault::Write),
     }
 }

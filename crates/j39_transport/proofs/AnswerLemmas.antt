@@ -37,7 +37,7 @@ module _ (E : List Event) (f : FrameRecord) (a : AssemblerRecord) (h : Stands E 
       sym (ev_sends k f) ∙ (and_parts (sends k (Frame f)) (number (Frame f) == suc c.session.count) c.continues.is_next).0
 
   no_packet_no_whole : ((k : Key) → is_packet k f ≡ false) → NoneWhole E f
-  no_packet_no_whole n m w = both_ways _ (n w.0) (assembled_sent E f w.0 m.group m.bytes w.2)
+  no_packet_no_whole n m w = both_ways _ (n w.0) (assembled_sent E f w.0 m.pgn m.bytes w.2)
 
   ignored : ((k : Key) → is_announcement k f ≡ false) → ((k : Key) → is_packet k f ≡ false) → AnswersAt E f answers.Ignored
   ignored n m = ((λ t. elim t [ inl j ↦ both_ways _ (n j.0) j.1 | inr j ↦ both_ways _ (m j.0) (partial_sent j.0 j.1 j.2) ]), no_packet_no_whole m)
@@ -56,8 +56,8 @@ module _ (E : List Event) (f : FrameRecord) (a : AssemblerRecord) (h : Stands E 
 
     none_completes : (o : Option Session) → StandsFor E k o → ((g : ℕ) (b : List ℕ) → Completes E (Frame f) k o g b → ⊥) → NoneWhole E f
     none_completes o s n m w =
-        let e = only_key w.0 (assembled_sent E f w.0 m.group m.bytes w.2) in
-        n m.group m.bytes (whole_only E (Frame f) k o s m.group m.bytes (subst (λ (x : Key). Whole (E ++ Frame f ∷ []) (length E) x m.group m.bytes) e w.2))
+        let e = only_key w.0 (assembled_sent E f w.0 m.pgn m.bytes w.2) in
+        n m.pgn m.bytes (whole_only E (Frame f) k o s m.pgn m.bytes (subst (λ (x : Key). Whole (E ++ Frame f ∷ []) (length E) x m.pgn m.bytes) e w.2))
 
     packet_over : (x : Session) → is_over k (Frame f) x ≡ nat_lt (x.last + limit k) f.stamp
     packet_over x =

@@ -3,15 +3,11 @@ use Rattle.std.specs.Prelude.{◌≡◌, ◌⊎◌, ℕ, ◌<◌, true, List, []
 use Rattle.j39_frame.specs.Frame.{FrameRecord}
 use Rattle.j39_transport.specs.Key.{Key, sender, all_keys}
 use Rattle.j39_transport.specs.Frames.{is_announcement}
+use Rattle.j39_transport.specs.Message.{MessageRecord}
 use Rattle.j39_transport.specs.Assembly as assembly
 use Rattle.j39_transport.specs.Events.{Event, at, packets}
 use Rattle.j39_transport.specs.Assembly.{last_of, Chain, Opens}
 use Rattle.j39_transport.specs.Events.Event.{Frame}
-
-pub record Message : Type 0 where
-  pub source : ℕ
-  pub group : ℕ
-  pub bytes : List ℕ
 
 -- what is answered to a frame: a message with its source, group, bytes and stamp, or none
 pub data Outcome : Type 0 where
@@ -20,8 +16,8 @@ pub data Outcome : Type 0 where
   Ignored : Outcome
 
 -- with the frame f after E the message m is whole
-abbrev pub WholeBy : List Event → FrameRecord → Message → Type 0
-WholeBy E f m = (k : Key) × (sender k ≡ m.source) × assembly.Whole (E ++ Frame f ∷ []) (length E) k m.group m.bytes
+abbrev pub WholeBy : List Event → FrameRecord → MessageRecord → Type 0
+WholeBy E f m = (k : Key) × (sender k ≡ m.source) × assembly.Whole (E ++ Frame f ∷ []) (length E) k m.pgn m.bytes
 
 -- at place i ends a chain of k with at least one packet, which lacks one
 pub record IsPartial (E : List Event) (i : ℕ) (k : Key) (g : ℕ) : Type 0 where
@@ -37,12 +33,12 @@ abbrev pub IsTaken : List Event → FrameRecord → Type 0
 IsTaken E f = ((k : Key) × (is_announcement k f ≡ true)) ⊎ ((k : Key) × (g : ℕ) × IsPartial (E ++ Frame f ∷ []) (length E) k g)
 
 abbrev pub NoneWhole : List Event → FrameRecord → Type 0
-NoneWhole E f = (m : Message) → WholeBy E f m → ⊥
+NoneWhole E f = (m : MessageRecord) → WholeBy E f m → ⊥
 
 -- what is answered to the frame f after E
 abbrev pub AnswersAt : List Event → FrameRecord → Outcome → Type 0
 AnswersAt E f (Whole source group bytes stamp) =
-    (stamp ≡ f.stamp) × WholeBy E f (record { source = source; group = group; bytes = bytes })
+    (stamp ≡ f.stamp) × WholeBy E f (record { source = source; pgn = group; bytes = bytes })
 AnswersAt E f Taken = IsTaken E f × NoneWhole E f
 AnswersAt E f Ignored = (IsTaken E f → ⊥) × NoneWhole E f
 

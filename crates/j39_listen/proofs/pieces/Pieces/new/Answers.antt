@@ -9,5 +9,5 @@ returns c = λ held.
     record {
       begun = [];
       begins = c.new.ensures;
-      has_read = has_read-none c.args.bus [] held c.default.result (same_counts c.default.result _ e.0 e.1.0 e.1.1.0 e.1.1.1.0 e.1.1.1.1);
+      has_read = has_read-none c.args.bus [] held c.new-2.result c.default.result c.new-2.ensures (same_counts c.default.result _ e.0 e.1.0 e.1.1.0 e.1.1.1.0 e.1.1.1.1);
     }

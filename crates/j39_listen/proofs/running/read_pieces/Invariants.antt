@@ -1,13 +1,14 @@
-use Rattle.std.proofs.Common.{◌≡◌, ◌+◌, ℕ, List, length}
+use Rattle.std.proofs.Common.{◌≡◌, ◌+◌, [], ℕ, List, Option, length}
 use Rattle.std.specs.Io.KnownBytes.{Consumes}
 use Rattle.j39_listen.specs.PieceSteps.{HasTaken}
-use Rattle.j39_listen.proofs.running.run.Given as goal
+use Rattle.j39_listen.proofs.running.read_pieces.Given as goal
 
 -- the run stands for what the source gave so far, which is as long as the room that was used, and no fault came
 abbrev pub invariant-pieces : goal.invariant-pieces
 invariant-pieces g l =
     (taken : List ℕ) × Consumes (g.R.Source.remaining l.initial.source) (g.R.Source.remaining l.source) taken
-    × HasTaken l.fn.bus taken l.pieces (g.W.Sink.held l.initial.sink) (g.W.Sink.held l.sink)
+    × ((given : Option (List ℕ)) → HasTaken given [] l.initial.pieces (g.W.Sink.held l.initial.sink) (g.W.Sink.held l.initial.sink)
+    → HasTaken given taken l.pieces (g.W.Sink.held l.initial.sink) (g.W.Sink.held l.sink))
     × (length taken + l.room ≡ l.limit)
     × (g.R.Source.has_failed l.source ≡ g.R.Source.has_failed l.initial.source)
     × (g.W.Sink.has_failed l.sink ≡ g.W.Sink.has_failed l.initial.sink)

@@ -1,0 +1,158 @@
+-- What a listener stands for after one frame more, and what it hears at it.
+use Rattle.std.proofs.Common.{◌≡◌, ◌≢◌, ℕ, suc, ◌+◌, ◌<◌, ◌≤◌, Bool, true, false, if◌then◌else◌, List, [], ◌∷◌, ◌++◌, map, length, take, Option, Some, None, refl, sym, ap, ◌∙◌, subst, arith, eqb-true, append-nil, append_assoc, nat_lt, ◌==◌}
+use Rattle.std.proofs.lemmas.Bool.{both_ways, cond_both}
+use Rattle.std.proofs.lemmas.List.{length-map, length_push, map_push}
+use Rattle.std.specs.Prelude.{Result, Ok, Err, MatchResult}
+use Rattle.j39_address.specs.Changes.{AreChanged}
+use Rattle.j39_address.specs.Claim.{Claim, claim_of, claims_of}
+use Rattle.j39_address.specs.Claims.{Knows, StandsFor}
+use Rattle.j39_address.specs.declared.claims.Claims.{Claims}
+use Rattle.j39_address.specs.Holder.{IsHolder, IsHolderAfter}
+use Rattle.j39_address.proofs.NotingLemmas.{claims_of-push, quiet_changed, quiet_stands}
+use Rattle.j39_frame.specs.Frame.{FrameRecord}
+use Rattle.j39_frame.specs.Identifier.{pgn_of, source_of}
+use Rattle.j39_groups.specs.Readings.{is_reported_group}
+use Rattle.j39_transport.specs.Answers.{AreHeldAfter, AreOpenAfter, NoneWhole, WholeBy}
+use Rattle.j39_transport.specs.Events.{Event}
+use Rattle.j39_transport.specs.Events.Event.{Frame, Forget}
+use Rattle.j39_transport.specs.Message.{MessageRecord}
+use Rattle.j39_transport.specs.Stands.{Stands}
+use Rattle.j39_transport.specs.Steps.{AssemblerRecord}
+use Rattle.j39_listen.specs.Forgets.{Changed, ChangesAt, WithForgets}
+use Rattle.j39_listen.specs.Heard.{HeardAt, Hearing, IsHeard}
+use Rattle.j39_listen.specs.Listening.{Hears}
+use Rattle.j39_listen.specs.NextSteps.{IsMany, Next, NextBy, alone_of, heard_alone, heard_of}
+use Rattle.j39_listen.specs.declared.listener.Listener.{Listener}
+use Rattle.j39_listen.proofs.Causal.{forgets_more, holder_prefix}
+use Rattle.j39_listen.proofs.Feeding.{assembled_sent, heard_next}
+use Rattle.j39_listen.proofs.Held.{held_is, holder_of}
+use Rattle.j39_listen.proofs.Reported.{claims_silent, packet_group}
+use Rattle.j39_listen.proofs.Unique.{forgets_unique}
+
+-- ---- holders after frames, and before a place
+
+after_is : (F : List FrameRecord) (a : ℕ) (o : Option ℕ) → IsHolderAfter (claims_of F) a o → IsHolder (claims_of F) (length F) a o
+after_is F a o h = subst (λ (n : ℕ). IsHolder (claims_of F) n a o) (length-map F claim_of) h
+
+is_after : (F : List FrameRecord) (a : ℕ) (o : Option ℕ) → IsHolder (claims_of F) (length F) a o → IsHolderAfter (claims_of F) a o
+is_after F a o h = subst (λ (n : ℕ). IsHolder (claims_of F) n a o) (sym (length-map F claim_of)) h
+
+pub changed_next : (F : List FrameRecord) (f : FrameRecord) (xs : List ℕ) → AreChanged (claims_of F) (claims_of (F ++ f ∷ [])) xs
+    → Changed (claims_of (F ++ f ∷ [])) (length F) xs
+changed_next F f xs h =
+    let n : length (F ++ f ∷ []) ≡ suc (length F) = omega (arith, length_push F f) in
+    let before : (a : ℕ) (o : Option ℕ) → IsHolder (claims_of (F ++ f ∷ [])) (length F) a o → IsHolderAfter (claims_of F) a o =
+        λ a o x. is_after F a o ((holder_prefix F (f ∷ []) (length F) a o (omega arith)).1 x) in
+    let since : (a : ℕ) (o : Option ℕ) → IsHolderAfter (claims_of F) a o → IsHolder (claims_of (F ++ f ∷ [])) (length F) a o =
+        λ a o x. (holder_prefix F (f ∷ []) (length F) a o (omega arith)).0 (after_is F a o x) in
+    let behind : (a : ℕ) (o : Option ℕ) → IsHolder (claims_of (F ++ f ∷ [])) (suc (length F)) a o → IsHolderAfter (claims_of (F ++ f ∷ [])) a o =
+        λ a o x. is_after (F ++ f ∷ []) a o (subst (λ (k : ℕ). IsHolder (claims_of (F ++ f ∷ [])) k a o) (sym n) x) in
+    let at : (a : ℕ) (o : Option ℕ) → IsHolderAfter (claims_of (F ++ f ∷ [])) a o → IsHolder (claims_of (F ++ f ∷ [])) (suc (length F)) a o =
+        λ a o x. subst (λ (k : ℕ). IsHolder (claims_of (F ++ f ∷ [])) k a o) n (after_is (F ++ f ∷ []) a o x) in
+    record {
+      rising = h.rising;
+      changed = λ a l o p x y. h.changed a l o p (before a o x) (behind a p y);
+      all = λ a w. h.all a (λ o p x y. w o p (since a o x) (at a p y));
+    }
+
+-- ---- a frame that claims nothing
+
+quiet_next : (F : List FrameRecord) (f : FrameRecord) (table : Claims) → claim_of f ≡ None → Knows table F
+    → AreChanged (claims_of F) (claims_of (F ++ f ∷ [])) [] × Knows table (F ++ f ∷ [])
+quiet_next F f table none knows =
+    let push : claims_of F ++ None ∷ [] ≡ claims_of (F ++ f ∷ []) = sym (claims_of-push F f ∙ ap (λ (c : Option Claim). claims_of F ++ c ∷ []) none) in (
+      subst (λ (C : List (Option Claim)). AreChanged (claims_of F) C []) push (quiet_changed (claims_of F) table knows),
+      subst (λ (C : List (Option Claim)). StandsFor table C) push (quiet_stands (claims_of F) table knows),
+    )
+
+pub hears_quiet : (l : Listener) (F : List FrameRecord) (f : FrameRecord) (a : AssemblerRecord) → claim_of f ≡ None → (h : Hears l F)
+    → Stands (h.events ++ Frame f ∷ []) a → Hears (record { assembler = a; claims = l.claims }) (F ++ f ∷ [])
+hears_quiet l F f a none h stands =
+    let quiet = quiet_next F f l.claims none h.knows in
+    record {
+      events = h.events ++ Frame f ∷ [];
+      with_forgets = subst (λ (E : List Event). WithForgets (F ++ f ∷ []) (length (F ++ f ∷ [])) E) (append-nil (h.events ++ Frame f ∷ []))
+          (forgets_more F f h.events [] h.with_forgets (changed_next F f [] quiet.0));
+      stands = stands;
+      knows = quiet.1;
+    }
+
+-- ---- what is heard
+
+next_by : (r : Bool) (E : List Event) (f : FrameRecord) (c : Option MessageRecord) → is_reported_group (pgn_of f.id) ≡ r
+    → NextBy r (nat_lt (source_of f.id) 254) E f c → Next E f c
+next_by r E f c e n = subst (λ (b : Bool). NextBy b (nat_lt (source_of f.id) 254) E f c) (sym e) n
+
+pub heard_many : (l : Listener) (F : List FrameRecord) (f : FrameRecord) (m : MessageRecord) (t : ℕ) (name : Option ℕ) → IsMany f → (h : Hears l F)
+    → IsHolderAfter (claims_of F) (source_of f.id) name → t ≡ f.stamp → WholeBy h.events f m
+    → IsHeard (F ++ f ∷ []) (length F) (record { message = m; stamp = t; name = name })
+heard_many l F f m t name many h held stamp whole =
+    subst (λ (s : ℕ). IsHeard (F ++ f ∷ []) (length F) (record { message = m; stamp = s; name = name })) (sym stamp)
+    (heard_next F h.events f h.with_forgets (Some m) name (next_by false h.events f (Some m) many.not_reported whole) (after_is F (source_of f.id) name held))
+
+pub silent_many : (l : Listener) (F : List FrameRecord) (f : FrameRecord) → IsMany f → (h : Hears l F) → NoneWhole h.events f
+    → HeardAt (F ++ f ∷ []) (length F) None
+silent_many l F f many h none =
+    heard_next F h.events f h.with_forgets None (holder_of (claims_of F) (length F) (source_of f.id)) (next_by false h.events f None many.not_reported none)
+    (held_is (claims_of F) (length F) (source_of f.id))
+
+pub heard_single : (l : Listener) (F : List FrameRecord) (f : FrameRecord) (name : Option ℕ) → is_reported_group (pgn_of f.id) ≡ true → (h : Hears l F)
+    → IsHolderAfter (claims_of F) (source_of f.id) name → HeardAt (F ++ f ∷ []) (length F) (heard_alone f name)
+heard_single l F f name reported h held =
+    let hears : (c : Option MessageRecord) → NextBy true (nat_lt (source_of f.id) 254) h.events f c → HeardAt (F ++ f ∷ []) (length F) (heard_of f name c) =
+        λ c n. heard_next F h.events f h.with_forgets c name (next_by true h.events f c reported n) (after_is F (source_of f.id) name held) in
+    let by : (b : Bool) → nat_lt (source_of f.id) 254 ≡ b → (c : Option MessageRecord) → NextBy true b h.events f c → HeardAt (F ++ f ∷ []) (length F) (heard_of f name c) =
+        λ b e c n. hears c (subst (λ (x : Bool). NextBy true x h.events f c) (sym e) n) in
+    cond_both (nat_lt (source_of f.id) 254) _ _ (λ (o : Option Hearing). HeardAt (F ++ f ∷ []) (length F) o)
+    (λ below. by true below (Some (alone_of f)) refl) (λ above. by false above None refl)
+
+-- a frame of the group of claims is heard as nothing
+pub heard_claim : (l : Listener) (F : List FrameRecord) (f : FrameRecord) → (pgn_of f.id == 60928) ≡ true → Hears l F → HeardAt (F ++ f ∷ []) (length F) None
+heard_claim l F f is h =
+    let claims : pgn_of f.id ≡ 60928 = eqb-true _ _ is in
+    let none : NoneWhole h.events f = λ m w.
+        let packet = packet_group w.0 f (assembled_sent h.events f w.0 m.pgn m.bytes w.2) in
+        let apart : 60160 ≡ 60928 = sym packet ∙ claims in
+        absurd (omega arith) in
+    heard_next F h.events f h.with_forgets None (holder_of (claims_of F) (length F) (source_of f.id)) (next_by false h.events f None (claims_silent _ claims) none)
+    (held_is (claims_of F) (length F) (source_of f.id))
+
+-- ---- what is open
+
+pub open_after : (l : Listener) (F : List FrameRecord) → Hears l F → (E : List Event) → WithForgets F (length F) E → (n : ℕ)
+    → ((D : List Event) → Stands D l.assembler → AreOpenAfter D n) → AreOpenAfter E n
+open_after l F h E w n some =
+    subst (λ (D : List Event). AreOpenAfter D n) (forgets_unique F (length F) h.events E h.with_forgets w) (some h.events h.stands)
+
+pub held_after : (l : Listener) (F : List FrameRecord) → Hears l F → (E : List Event) → WithForgets F (length F) E → (n : ℕ)
+    → ((D : List Event) → Stands D l.assembler → AreHeldAfter D n) → AreHeldAfter E n
+held_after l F h E w n kept =
+    subst (λ (D : List Event). AreHeldAfter D n) (forgets_unique F (length F) h.events E h.with_forgets w) (kept h.events h.stands)
+
+-- ---- answers that are known
+
+pub on_ok : {X E : Type 0} (r : Result X E) (x : X) (P : X → Type 0) (Q : E → Type 0) → r ≡ Ok x → MatchResult r P Q → P x
+on_ok {X = X} {E = E} r x P Q e m = subst (λ (y : Result X E). MatchResult y P Q) e m
+
+-- ---- a claim
+
+pub forgets_more_than : (E : List Event) (xs : List ℕ) (a : ℕ) → (E ++ map (λ t. Forget t) xs) ++ Forget a ∷ [] ≡ E ++ map (λ t. Forget t) (xs ++ a ∷ [])
+forgets_more_than E xs a = append_assoc E (map (λ t. Forget t) xs) (Forget a ∷ []) ∙ ap (λ (D : List Event). E ++ D) (sym (map_push (λ t. Forget t) xs a))
+
+pub hears_claim : (l : Listener) (F : List FrameRecord) (f : FrameRecord) (a : AssemblerRecord) (claims : Claims) (gone : List ℕ) → (h : Hears l F)
+    → AreChanged (claims_of F) (claims_of (F ++ f ∷ [])) gone → Knows claims (F ++ f ∷ [])
+    → Stands ((h.events ++ Frame f ∷ []) ++ map (λ t. Forget t) gone) a → Hears (record { assembler = a; claims = claims }) (F ++ f ∷ [])
+hears_claim l F f a claims gone h changed knows stands = record {
+  events = (h.events ++ Frame f ∷ []) ++ map (λ t. Forget t) gone;
+  with_forgets = forgets_more F f h.events gone h.with_forgets (changed_next F f gone changed);
+  stands = stands;
+  knows = knows;
+}
+
+-- ---- a frame of a group that is reported claims nothing
+
+pub no_claim : (f : FrameRecord) → (pgn_of f.id == 60928) ≡ false → claim_of f ≡ None
+no_claim f e = rw e refl
+
+pub is_many : (f : FrameRecord) → (pgn_of f.id == 60928) ≡ false → is_reported_group (pgn_of f.id) ≡ false → IsMany f
+is_many f e r = record { no_claim = no_claim f e; not_reported = r }

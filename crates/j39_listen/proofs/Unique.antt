@@ -1,0 +1,99 @@
+-- What is heard, what is reported and what is forgotten are determined.
+use Rattle.j39_transport.proofs.Taken.{whole_ends}
+use Rattle.j39_listen.proofs.Reported.{not_reported, packet_group}
+use Rattle.j39_transport.proofs.Unique.{one_message}
+use Rattle.j39_address.proofs.OrderLemmas.{same_rising}
+use Rattle.j39_address.proofs.HolderLemmas.{none_above}
+use Rattle.j39_listen.proofs.Rising.{Listed, contains_of}
+use Rattle.j39_listen.specs.Report.{IsReport}
+use Rattle.std.proofs.Common.{◌≡◌, ◌⊎◌, ℕ, zero, suc, ◌<◌, ◌≤◌, true, List, [], ◌∷◌, ◌++◌, map, length, take, Option, Some, None, refl, sym, ap, ◌∙◌, subst, inl, inr, arith, flat_map}
+use Rattle.std.proofs.lemmas.Bool.{cases_lt, and_parts}
+use Rattle.j39_address.proofs.HolderLemmas.{holder_below, holder_is, same_holder}
+use Rattle.j39_address.specs.Claim.{Claim, claims_of}
+use Rattle.j39_address.specs.Holder.{IsHolder}
+use Rattle.j39_frame.specs.Frame.{FrameRecord}
+use Rattle.j39_listen.proofs.Events.{ev_sends}
+use Rattle.j39_listen.specs.Forgets.{Changed, WithForgets}
+use Rattle.j39_listen.specs.Heard.{HeardAt, HeardBelow, Hearing, IsAssembled, IsHeard, IsSingle, frame_at, frames_only, or_none}
+use Rattle.j39_listen.specs.Report.{Entry, entries_of}
+use Rattle.j39_transport.proofs.Bridge.{packet_key}
+use Rattle.j39_transport.proofs.Chains.{Links-from, Links-unique, start_unique}
+use Rattle.j39_transport.proofs.FrameFacts.{announces-packets, packet_facts}
+use Rattle.j39_transport.specs.Events.{Event, group, packets, sends, size, stamp}
+use Rattle.j39_transport.specs.Assembly.{Links, Runs, Whole, joined, last_of}
+use Rattle.j39_transport.specs.Events.{at}
+use Rattle.j39_transport.specs.Events.Event.{Frame, Forget}
+use Rattle.j39_transport.specs.Frames.{is_packet}
+use Rattle.j39_transport.specs.Key.{Key, sender}
+use Rattle.j39_transport.specs.Message.{MessageRecord}
+use Rattle.j39_transport.specs.Stands.{full}
+
+-- ---- what is heard
+
+pub assembled_packet : (F : List FrameRecord) (i : ℕ) (m : MessageRecord) (name : Option ℕ) (h : IsAssembled F i m name) → is_packet h.key (frame_at F i) ≡ true
+assembled_packet F i m name h = sym (ev_sends F h.key i) ∙ (whole_ends (frames_only F) i h.key m.pgn m.bytes h.whole).0
+
+-- no frame of a reported group ends a message of many
+pub not_both : (F : List FrameRecord) (i : ℕ) (m n : MessageRecord) (name : Option ℕ) → IsSingle F i m → IsAssembled F i n name → ⊥
+not_both F i m n name h k = not_reported _ h.reported (packet_group k.key (frame_at F i) (assembled_packet F i n name k))
+
+message_same : (m n : MessageRecord) → m.source ≡ n.source → m.pgn ≡ n.pgn → m.bytes ≡ n.bytes → m ≡ n
+message_same m n a b c =
+    ap (λ (x : ℕ). record { source = x; pgn = m.pgn; bytes = m.bytes }) a
+    ∙ (ap (λ (x : ℕ). record { source = n.source; pgn = x; bytes = m.bytes }) b ∙ ap (λ (x : List ℕ). record { source = n.source; pgn = n.pgn; bytes = x }) c)
+
+hearing_same : (h k : Hearing) → h.message ≡ k.message → h.stamp ≡ k.stamp → h.name ≡ k.name → h ≡ k
+hearing_same h k a b c =
+    ap (λ (x : MessageRecord). record { message = x; stamp = h.stamp; name = h.name }) a
+    ∙ (ap (λ (x : ℕ). record { message = k.message; stamp = x; name = h.name }) b ∙ ap (λ (x : Option ℕ). record { message = k.message; stamp = k.stamp; name = x }) c)
+
+one_heard : (F : List FrameRecord) (i : ℕ) (m n : MessageRecord) (o p : Option ℕ) → IsSingle F i m ⊎ IsAssembled F i m o → IsSingle F i n ⊎ IsAssembled F i n p → m ≡ n
+one_heard F i m n o p (inl h) (inl k) = message_same m n (sym h.source_is ∙ k.source_is) (sym h.pgn_is ∙ k.pgn_is) (sym h.bytes_are ∙ k.bytes_are)
+one_heard F i m n o p (inl h) (inr k) = absurd (not_both F i m n p h k)
+one_heard F i m n o p (inr h) (inl k) = absurd (not_both F i n m o k h)
+one_heard F i m n o p (inr h) (inr k) =
+    let u = one_message (frames_only F) i h.key k.key m.pgn n.pgn m.bytes n.bytes h.whole k.whole in
+    message_same m n (sym h.source_is ∙ (ap sender u.0 ∙ k.source_is)) u.1 u.2
+
+pub heard_unique : (F : List FrameRecord) (i : ℕ) (h k : Hearing) → IsHeard F i h → IsHeard F i k → h ≡ k
+heard_unique F i h k x y =
+    let m : h.message ≡ k.message = one_heard F i h.message k.message h.name k.name x.carried y.carried in
+    hearing_same h k m (x.stamp_is ∙ sym y.stamp_is)
+      (same_holder (claims_of F) i h.message.source h.name k.name x.held_by (subst (λ (t : MessageRecord). IsHolder (claims_of F) i t.source k.name) (sym m) y.held_by))
+
+pub heard_at_unique : (F : List FrameRecord) (i : ℕ) (o p : Option Hearing) → HeardAt F i o → HeardAt F i p → o ≡ p
+heard_at_unique F i None None h k = refl
+heard_at_unique F i None (Some y) h k = absurd (h y k)
+heard_at_unique F i (Some x) None h k = absurd (k x h)
+heard_at_unique F i (Some x) (Some y) h k = ap (λ (z : Hearing). Some z) (heard_unique F i x y h k)
+
+pub heard_below_unique : (F : List FrameRecord) (n : ℕ) (hs ks : List Hearing) → HeardBelow F n hs → HeardBelow F n ks → hs ≡ ks
+heard_below_unique F zero hs ks h k = h ∙ sym k
+heard_below_unique F (suc n) hs ks h k =
+    let a : h.0 ≡ k.0 = heard_below_unique F n h.0 k.0 h.2 k.2 in
+    let b : h.1 ≡ k.1 = heard_at_unique F n h.1 k.1 h.3 k.3 in
+    h.4 ∙ (ap (λ (xs : List Hearing). xs ++ or_none h.1) a ∙ (ap (λ (o : Option Hearing). k.0 ++ or_none o) b ∙ sym k.4))
+
+pub report_unique : (F : List FrameRecord) (es fs : List Entry) → IsReport F es → IsReport F fs → es ≡ fs
+report_unique F es fs h k = h.2 ∙ (ap (λ (hs : List Hearing). flat_map entries_of hs) (heard_below_unique F (length F) h.0 k.0 h.1 k.1) ∙ sym k.2)
+
+-- ---- what is forgotten
+
+pub changed_unique : (C : List (Option Claim)) (n : ℕ) (gone away : List ℕ) → Changed C n gone → Changed C n away → gone ≡ away
+changed_unique C n gone away h k =
+    same_rising gone away h.rising k.rising (λ a l. k.all a (h.changed a l)) (λ a l. h.all a (k.changed a l))
+
+-- nobody holds an address from 254 on, so none of them changes
+pub listed_below : (C : List (Option Claim)) (n a : ℕ) (gone : List ℕ) → Changed C n gone → Listed a gone → a < 254
+listed_below C n a gone h l = elim (cases_lt a 254) [
+  | inl w ↦ w
+  | inr w ↦ absurd (h.changed a (contains_of a gone l) None None (none_above C n a w) (none_above C (suc n) a w) refl)
+]
+
+pub forgets_unique : (F : List FrameRecord) (n : ℕ) (E D : List Event) → WithForgets F n E → WithForgets F n D → E ≡ D
+forgets_unique F zero E D h k = h ∙ sym k
+forgets_unique F (suc n) E D h k =
+    let a : h.0 ≡ k.0 = forgets_unique F n h.0 k.0 h.2 k.2 in
+    let b : h.1 ≡ k.1 = changed_unique (claims_of F) n h.1 k.1 h.3 k.3 in
+    h.4 ∙ (ap (λ (x : List Event). (x ++ Frame (frame_at F n) ∷ []) ++ map (λ t. Forget t) h.1) a
+      ∙ (ap (λ (x : List ℕ). (k.0 ++ Frame (frame_at F n) ∷ []) ++ map (λ t. Forget t) x) b ∙ sym k.4))

@@ -1,0 +1,9 @@
+use Rattle.std.proofs.Common.{ap}
+use Rattle.std.specs.Prelude.{Err}
+use Rattle.j39_listen.proofs.PieceLemmas.{same_fault, stops_line}
+use Rattle.j39_listen.proofs.pieces.take_line.Goals as goal
+
+pub returns-in-Err-clause-stops : goal.returns-in-Err-clause-stops
+returns-in-Err-clause-stops g c = λ fails begun h.
+    stops_line begun c.args.bytes.now _ _ _ c.args.progress.now _ _ (rw c.in-Some.is at (c.feed.ensures.line begun h)) c.read.ensures
+    (c.in-Err.ensures.stops (ap Err (same_fault _ _ fails)))

@@ -1,0 +1,23 @@
+-- What a listener stands for: the frames that it was fed.
+use Rattle.std.specs.Prelude.{ℕ, List, length}
+use Rattle.j39_address.specs.Claims.{Knows}
+use Rattle.j39_frame.specs.Frame.{FrameRecord}
+use Rattle.j39_transport.specs.Answers.{AreHeldAfter, AreOpenAfter}
+use Rattle.j39_transport.specs.Events.{Event}
+use Rattle.j39_transport.specs.Stands.{Stands}
+use Rattle.j39_listen.specs.Forgets.{WithForgets}
+use Rattle.j39_listen.specs.declared.listener.Listener.{Listener}
+
+-- the listener was fed the frames F: its messages are those open after F with its forgets, its holders those after F
+pub record Hears (listener : Listener) (F : List FrameRecord) : Type 0 where
+  pub events : List Event
+  pub with_forgets : WithForgets F (length F) events
+  pub stands : Stands events listener.assembler
+  pub knows : Knows listener.claims F
+
+-- so many messages are open after F with its forgets, with so many bytes
+abbrev pub AreOpen : List FrameRecord → ℕ → Type 0
+AreOpen F n = (E : List Event) → WithForgets F (length F) E → AreOpenAfter E n
+
+abbrev pub AreHeld : List FrameRecord → ℕ → Type 0
+AreHeld F held = (E : List Event) → WithForgets F (length F) E → AreHeldAfter E held

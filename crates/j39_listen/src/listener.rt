@@ -1,0 +1,147 @@
+//! A listener on a bus (J1939-21, 5.10; J1939-81, 4.2).
+ghost use Rattle.std.specs.Prelude.{◌≡◌, ◌≤◌, ◌++◌, ◌∷◌, [], List, Option, None, IfOk, OnOk, OnErr, MatchResult, length};
+ghost use Rattle.std.specs.Option.{option_map};
+ghost use Rattle.std.specs.Borrow.{sem};
+ghost use Rattle.std.specs.Io.BufRead.{Rests};
+ghost use Rattle.j39_address.specs.Claim.{claim_of, claims_of};
+ghost use Rattle.j39_address.specs.Holder.{IsHolderAfter};
+ghost use Rattle.j39_address.specs.Name.{name_raw};
+ghost use Rattle.j39_frame.specs.Frame.{FrameRecord};
+ghost use Rattle.j39_transport.specs.Answers.{IsAnnouncement};
+ghost use Rattle.j39_listen.specs.Heard.{HeardAt};
+ghost use Rattle.j39_listen.specs.Listening.{AreHeld, AreOpen, Hears};
+ghost use Rattle.j39_listen.specs.NextSteps.{IsMany, heard_alone};
+ghost use Rattle.j39_listen.specs.Shown.{hearing_of};
+
+use crate::Heard;
+use j39_address::{Claims, Name};
+use j39_frame::{Frame, is_address};
+use j39_groups::is_reported;
+use j39_transport::{Assembler, Fed, Message};
+use std::alloc::{AllocError, Global};
+
+/// Hears the messages of a bus: single frames of the groups that are reported, and messages in
+/// packets, broadcast or from one controller to another. It knows who holds each address, and
+/// forgets what a source had begun when its holder changes.
+#[derive(Drop)]
+pub struct Listener {
+    assembler: Assembler,
+    claims: Claims,
+}
+
+impl Listener {
+    ghost use Rattle.j39_listen.specs.contracts.listener.Listener.{the_row};
+
+    /// A listener that has heard nothing; it takes no memory.
+    pub fn new(alloc: Global) -> Listener
+        ensures { Hears result [] }
+    {
+        Listener {
+            assembler: Assembler::new(alloc),
+            claims: Claims::new(),
+        }
+    }
+
+    /// Takes the next frame of the bus, and answers the message that is heard at it. Memory is
+    /// taken at an announcement alone; after an error nothing has changed.
+    pub fn feed<'a>(&'a mut self, frame: &'a Frame) -> Result<Option<Heard<'a>>, AllocError>
+        ensures heard { IfOk result (λ heard. (F : List FrameRecord) → Hears self.old F
+            → HeardAt (F ++ frame.now ∷ []) (length F) (option_map hearing_of heard)) }
+        ensures refused { OnErr result (IsAnnouncement frame.now) }
+        ensures* after { sem 𝓛 (Rests the_row self.entry (λ n. MatchResult result
+            (λ _. (F : List FrameRecord) → Hears self.old F → Hears n (F ++ frame.now ∷ []))
+            (λ _. n ≡ self.old))) }
+    {
+        if frame.id.is_address_claimed() {
+            self.note(frame)?;
+            return Ok(None);
+        }
+        if is_reported(frame.id.pgn()) {
+            self.pass(frame)?;
+            return Ok(alone(frame, self.claims.holder(frame.id.source())));
+        }
+        self.assemble(frame)
+    }
+
+    /// Notes a claim, and forgets what was begun by each address whose holder it changed.
+    fn note(&mut self, frame: &Frame) -> Result<(), AllocError>
+        ensures noted { OnOk result ((F : List FrameRecord) → Hears self.old F → Hears self.new (F ++ frame.now ∷ [])) }
+        ensures refused { OnErr result (IsAnnouncement frame.now) }
+        ensures unchanged { OnErr result (self.new ≡ self.old) }
+    {
+        self.assembler.feed(frame)?;
+        let changed = self.claims.note(frame);
+        for address in changed.as_slice() {
+            self.assembler.forget(*address);
+        }
+        Ok(())
+    }
+
+    /// Lets the assembler see a frame that claims nothing and ends no message.
+    fn pass(&mut self, frame: &Frame) -> Result<(), AllocError>
+        ensures passed { OnOk result (claim_of frame.now ≡ None → (F : List FrameRecord) → Hears self.old F
+            → Hears self.new (F ++ frame.now ∷ [])) }
+        ensures holders { self.new.claims ≡ self.old.claims }
+        ensures refused { OnErr result (IsAnnouncement frame.now) }
+        ensures unchanged { OnErr result (self.new ≡ self.old) }
+    {
+        self.assembler.feed(frame)?;
+        Ok(())
+    }
+
+    /// Hands a frame that claims nothing and is no message by itself to the assembler.
+    fn assemble(&mut self, frame: &Frame) -> Result<Option<Heard<'_>>, AllocError>
+        ensures heard { IfOk result (λ heard. IsMany frame.now → (F : List FrameRecord) → Hears self.old F
+            → HeardAt (F ++ frame.now ∷ []) (length F) (option_map hearing_of heard)) }
+        ensures refused { OnErr result (IsAnnouncement frame.now) }
+        ensures* after { sem 𝓛 (Rests the_row self.entry (λ n. MatchResult result
+            (λ _. IsMany frame.now → (F : List FrameRecord) → Hears self.old F → Hears n (F ++ frame.now ∷ []))
+            (λ _. n ≡ self.old))) }
+    {
+        let name = self.claims.holder(frame.id.source());
+        match self.assembler.feed(frame)? {
+            Fed::Whole(message) => Ok(Some(Heard { message, name })),
+            Fed::Taken => Ok(None),
+            Fed::Ignored => Ok(None),
+        }
+    }
+
+    /// The NAME that holds the address; `None` where no claim tells it, and for 254 and 255.
+    pub fn holder(&self, address: u8) -> Option<Name>
+        ensures { (F : List FrameRecord) → Hears self.now F → IsHolderAfter (claims_of F) address (option_map name_raw result) }
+    {
+        self.claims.holder(address)
+    }
+
+    /// How many messages are open, 0 to 270.
+    pub fn open(&self) -> usize
+        ensures few { result ≤ 270 }
+        ensures after { (F : List FrameRecord) → Hears self.now F → AreOpen F result }
+    {
+        self.assembler.open()
+    }
+
+    /// Seven bytes for each packet that is kept of an open message.
+    pub fn held(&self) -> usize
+        ensures after { (F : List FrameRecord) → Hears self.now F → AreHeld F result }
+    {
+        self.assembler.held()
+    }
+}
+
+/// A frame of a reported group as a message; `None` from the null and the global address.
+fn alone(frame: &Frame, name: Option<Name>) -> Option<Heard<'_>>
+    ensures { option_map hearing_of result ≡ heard_alone frame.now (option_map name_raw name) }
+{
+    let source = frame.id.source();
+    if !is_address(source) {
+        return None;
+    }
+    let message = Message {
+        source,
+        pgn: frame.id.pgn(),
+        payload: frame.bytes.as_slice(),
+        stamp: frame.stamp,
+    };
+    Some(Heard { message, name })
+}
