@@ -34,7 +34,6 @@ pub record HasReport (bus : Option (List ℕ)) (log : List ℕ) (out err : Turn)
 
 -- this fault came: its own mark stands, and it alone changed one; a front of the report was written; and it is told
 pub record HasFailed (fault : RunFault) (bus : Option (List ℕ)) (log out err : Turn) : Type 0 where
-  pub memory : fault ≢ Memory
   pub too_long : fault ≡ TooLong → IfSome log.old.bytes (λ bytes. log_limit < length bytes)
   pub read : fault ≡ Read → log.new.has_failed ≡ true
   pub read_alone : fault ≢ Read → IsUnmarked log

@@ -19,12 +19,12 @@ use std::alloc::{AllocError, Global};
 
 const ABOUT: &str = "\
 Writes one line for each parameter value in a log: the time, the source address
-(hex), the NAME of the device at that address (hex; today always dashes, since
-claims of addresses aren't read yet), the PGN, the SPN, and the value with its
-unit. A value is a number, on or off, a text in quotes, or what the sender says
-in its place: error (it has a fault), indicator (a code of the parameter's own)
-or reserved (a code that means nothing yet). What it marks as not available has
-no line.";
+(hex), the NAME of the device at that address (hex, or dashes where no claim in
+the log tells it), the PGN, the SPN, and the value with its unit. A value is a
+number, on or off, a text in quotes, or what the sender says in its place: error
+(it has a fault), indicator (a code of the parameter's own) or reserved (a code
+that means nothing yet). What it marks as not available has no line. Messages in
+packets are put together, broadcast or sent to one controller.";
 
 const HELP: &str = "\
 At the end the counts go to standard error:
@@ -38,7 +38,7 @@ At the end the counts go to standard error:
 Example:
   j1939 report --bus can0 trip.log
 writes lines such as
-  (0000000001.010000) 00 ---------------- 61444 190 1500.000 rpm";
+  (0000000001.010000) 00 8000000001401234 61444 190 1500.000 rpm";
 
 /// What clap is told of it.
 pub(crate) fn command<'a>(alloc: Global) -> Result<Command<'a>, AllocError>
