@@ -12,7 +12,7 @@ use Rattle.j39_listen.proofs.Masks.{Same, rank}
 use Rattle.j39_listen.proofs.Unique.{forgets_unique}
 use Rattle.j39_listen.specs.Forgets.{Changed, WithForgets}
 use Rattle.j39_listen.specs.Heard.{frame_at, frames_only}
-use Rattle.j39_listen.specs.Lost.{without}
+use Rattle.j39_listen.proofs.Lost.{without}
 use Rattle.j39_transport.proofs.FrameFacts.{key_below}
 use Rattle.j39_transport.specs.Events.{Event, announces, ends, grants, rivals, sends}
 use Rattle.j39_transport.specs.Events.{at}

@@ -1,7 +1,7 @@
 -- A list without the elements at some places.
 use Rattle.std.proofs.Common.{◌≡◌, ◌≢◌, ◌⊎◌, ℕ, zero, suc, ◌+◌, ◌<◌, ◌≤◌, Bool, true, false, cond, if◌then◌else◌, List, [], ◌∷◌, length, get_or, refl, sym, ap, ◌∙◌, subst, inl, inr, arith}
 use Rattle.std.proofs.lemmas.Bool.{cases_lt, cases_eq, cases_order, cases_Bool, cond_both, cond-true, cond-false, both_ways}
-use Rattle.j39_listen.specs.Lost.{later, without}
+use Rattle.j39_listen.proofs.Lost.{later, without}
 
 -- how many of the first i places X doesn't name
 abbrev pub rank : (ℕ → Bool) → ℕ → ℕ
