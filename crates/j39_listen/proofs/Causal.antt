@@ -1,7 +1,6 @@
 -- What is heard at a place depends on the frames up to it alone.
 use Rattle.std.proofs.Common.{◌≡◌, ◌↔◌, ℕ, zero, suc, ◌<◌, ◌≤◌, List, [], ◌∷◌, ◌++◌, map, length, get_or, take, Option, Some, None, refl, sym, ap, ◌∙◌, subst, inl, inr, arith, flat_map, length-append}
 use Rattle.std.proofs.lemmas.List.{get_or_append_left, get_or_push, get_or-map, length_push, length-map}
-use Rattle.j39_address.proofs.HolderLemmas.{same_holder}
 use Rattle.j39_address.specs.Claim.{Claim, claim_of, claims_of}
 use Rattle.j39_address.specs.Holder.{IsHolder}
 use Rattle.j39_address.proofs.HolderLemmas.{holder_agree}
@@ -14,12 +13,11 @@ use Rattle.j39_listen.specs.Report.{Entry, IsReport, entries_of}
 use Rattle.j39_transport.proofs.Agreeing.{Agree, Links-same, Runs-same, joined-same}
 use Rattle.j39_transport.proofs.Chains.{Links-from}
 use Rattle.j39_transport.specs.Assembly.{Chain, Whole, joined, last_of}
-use Rattle.j39_transport.specs.Events.{Event, announces, group, packets, size, stamp}
+use Rattle.j39_transport.specs.Events.{Event, announces, group, packets, size}
 use Rattle.j39_transport.specs.Events.{at}
 use Rattle.j39_transport.specs.Events.Event.{Frame, Forget}
 use Rattle.j39_transport.specs.Key.{Key}
 use Rattle.j39_transport.specs.Message.{MessageRecord}
-use Rattle.j39_transport.specs.Stands.{full}
 
 -- ---- two lists of frames with the same first n
 
@@ -33,17 +31,17 @@ same_below_sym h = record { in_F = h.in_G; in_G = h.in_F; same = λ j l. sym (h.
 
 pub same_below_less : {F G : List FrameRecord} {n : ℕ} (m : ℕ) → m ≤ n → SameBelow F G n → SameBelow F G m
 same_below_less m l h = record {
-    in_F = (let a = h.in_F in omega arith);
-    in_G = (let a = h.in_G in omega arith);
-    same = λ j k. h.same j (omega arith);
-  }
+  in_F = (let a = h.in_F in omega arith);
+  in_G = (let a = h.in_G in omega arith);
+  same = λ j k. h.same j (omega arith);
+}
 
 pub same_below_append : (F G : List FrameRecord) (n : ℕ) → n ≤ length F → SameBelow F (F ++ G) n
 same_below_append F G n l = record {
-    in_F = l;
-    in_G = omega (arith, length-append F G);
-    same = λ j k. get_or_append_left F G (record { stamp = 0; id = 0; bytes = [] }) j (omega arith);
-  }
+  in_F = l;
+  in_G = omega (arith, length-append F G);
+  same = λ j k. get_or_append_left F G (record { stamp = 0; id = 0; bytes = [] }) j (omega arith);
+}
 
 pub claim_at : (F : List FrameRecord) (j : ℕ) → j < length F → get_or (claims_of F) j None ≡ claim_of (frame_at F j)
 claim_at F j l = get_or-map claim_of F j (record { stamp = 0; id = 0; bytes = [] }) None l
@@ -57,9 +55,11 @@ same_claims F G n j h l =
     claim_at G j (omega arith) ∙ (ap claim_of (h.same j l) ∙ sym (claim_at F j (omega arith)))
 
 pub same_events : (F G : List FrameRecord) (n : ℕ) → SameBelow F G n → Agree (frames_only F) (frames_only G) n
-same_events F G n h = record { same = λ j l.
-    let a = h.in_F in let b = h.in_G in
-    event_at G j (omega arith) ∙ (ap (λ (f : FrameRecord). Frame f) (h.same j l) ∙ sym (event_at F j (omega arith))) }
+same_events F G n h = record {
+  same = λ j l.
+      let a = h.in_F in let b = h.in_G in
+      event_at G j (omega arith) ∙ (ap (λ (f : FrameRecord). Frame f) (h.same j l) ∙ sym (event_at F j (omega arith)));
+}
 
 pub holder_same : (F G : List FrameRecord) (n i a : ℕ) (o : Option ℕ) → SameBelow F G n → i ≤ n → IsHolder (claims_of F) i a o → IsHolder (claims_of G) i a o
 holder_same F G n i a o h l k = holder_agree (claims_of F) (claims_of G) i a o (λ j m. sym (same_claims F G n j h (omega arith))) k
@@ -125,10 +125,10 @@ assembled_same F G i m name h k =
 
 pub heard_same : (F G : List FrameRecord) (i : ℕ) (x : Hearing) → SameBelow F G (suc i) → IsHeard F i x → IsHeard G i x
 heard_same F G i x h k = record {
-    carried = elim k.carried [ inl m ↦ inl (single_same F G i x.message h m) | inr b ↦ inr (assembled_same F G i x.message x.name h b) ];
-    held_by = holder_same F G (suc i) i x.message.source x.name h (omega arith) k.held_by;
-    stamp_is = k.stamp_is ∙ sym (ap (λ (f : FrameRecord). f.stamp) (h.same i (omega arith)));
-  }
+  carried = elim k.carried [ inl m ↦ inl (single_same F G i x.message h m) | inr b ↦ inr (assembled_same F G i x.message x.name h b) ];
+  held_by = holder_same F G (suc i) i x.message.source x.name h (omega arith) k.held_by;
+  stamp_is = k.stamp_is ∙ sym (ap (λ (f : FrameRecord). f.stamp) (h.same i (omega arith)));
+}
 
 -- what is heard at i depends on the first i + 1 frames alone
 pub heard_at_same : (F G : List FrameRecord) (i : ℕ) (o : Option Hearing) → SameBelow F G (suc i) → HeardAt F i o → HeardAt G i o
@@ -151,19 +151,23 @@ heard_below_same F G (suc n) hs h k = (k.0, k.1, heard_below_same F G n k.0 (sam
 
 pub changed_agree : (C D : List (Option Claim)) (n : ℕ) (gone : List ℕ) → ((j : ℕ) → j < suc n → get_or D j None ≡ get_or C j None) → Changed C n gone → Changed D n gone
 changed_agree C D n gone e c = record {
-    rising = c.rising;
-    changed = λ a l o p x y. c.changed a l o p (holder_agree D C n a o (λ j m. e j (omega arith)) x) (holder_agree D C (suc n) a p (λ j m. e j m) y);
-    all = λ a w. c.all a (λ o p x y. w o p (holder_agree C D n a o (λ j m. sym (e j (omega arith))) x) (holder_agree C D (suc n) a p (λ j m. sym (e j m)) y));
-  }
+  rising = c.rising;
+  changed = λ a l o p x y. c.changed a l o p (holder_agree D C n a o (λ j m. e j (omega arith)) x) (holder_agree D C (suc n) a p (λ j m. e j m) y);
+  all = λ a w. c.all a (λ o p x y. w o p (holder_agree C D n a o (λ j m. sym (e j (omega arith))) x) (holder_agree C D (suc n) a p (λ j m. sym (e j m)) y));
+}
 
 pub changed_same : (F G : List FrameRecord) (n : ℕ) (gone : List ℕ) → SameBelow F G (suc n) → Changed (claims_of F) n gone → Changed (claims_of G) n gone
 changed_same F G n gone h c = changed_agree (claims_of F) (claims_of G) n gone (λ j l. same_claims F G (suc n) j h l) c
 
 pub forgets_same : (F G : List FrameRecord) (n : ℕ) (E : List Event) → SameBelow F G n → WithForgets F n E → WithForgets G n E
 forgets_same F G zero E h k = k
-forgets_same F G (suc n) E h k =
-    (k.0, k.1, forgets_same F G n k.0 (same_below_less n (omega arith) h) k.2, changed_same F G n k.1 h k.3,
-     k.4 ∙ ap (λ (f : FrameRecord). (k.0 ++ Frame f ∷ []) ++ map (λ t. Forget t) k.1) (sym (h.same n (omega arith))))
+forgets_same F G (suc n) E h k = (
+  k.0,
+  k.1,
+  forgets_same F G n k.0 (same_below_less n (omega arith) h) k.2,
+  changed_same F G n k.1 h k.3,
+  k.4 ∙ ap (λ (f : FrameRecord). (k.0 ++ Frame f ∷ []) ++ map (λ t. Forget t) k.1) (sym (h.same n (omega arith))),
+)
 
 -- ---- a frame more
 
@@ -187,7 +191,11 @@ report_more F f es o h k =
 pub forgets_more : (F : List FrameRecord) (f : FrameRecord) (E : List Event) (gone : List ℕ) → WithForgets F (length F) E → Changed (claims_of (F ++ f ∷ [])) (length F) gone
     → WithForgets (F ++ f ∷ []) (length (F ++ f ∷ [])) ((E ++ Frame f ∷ []) ++ map (λ t. Forget t) gone)
 forgets_more F f E gone h c =
-    let x : WithForgets (F ++ f ∷ []) (suc (length F)) ((E ++ Frame f ∷ []) ++ map (λ t. Forget t) gone) =
-        (E, gone, forgets_same F (F ++ f ∷ []) (length F) E (same_below_append F (f ∷ []) (length F) (omega arith)) h, c,
-         ap (λ (z : FrameRecord). (E ++ Frame z ∷ []) ++ map (λ t. Forget t) gone) (sym (frame_new F f))) in
+    let x : WithForgets (F ++ f ∷ []) (suc (length F)) ((E ++ Frame f ∷ []) ++ map (λ t. Forget t) gone) = (
+      E,
+      gone,
+      forgets_same F (F ++ f ∷ []) (length F) E (same_below_append F (f ∷ []) (length F) (omega arith)) h,
+      c,
+      ap (λ (z : FrameRecord). (E ++ Frame z ∷ []) ++ map (λ t. Forget t) gone) (sym (frame_new F f)),
+    ) in
     subst (λ (n : ℕ). WithForgets (F ++ f ∷ []) n ((E ++ Frame f ∷ []) ++ map (λ t. Forget t) gone)) (let n : suc (length F) ≡ length (F ++ f ∷ []) = omega (arith, length_push F f) in n) x

@@ -1,7 +1,7 @@
 -- Frames as events.
-use Rattle.std.proofs.Common.{◌≡◌, ◌≢◌, ◌⊎◌, ℕ, zero, suc, ◌+◌, ◌-◌, ◌<◌, ◌≤◌, Bool, true, false, cond, ◌&&◌, ◌||◌, if◌then◌else◌, List, [], ◌∷◌, ◌++◌, map, length, get_or, take, drop, Option, Some, None, refl, sym, ap, ◌∙◌, subst, inl, inr, arith, slice_get, slice_index, flat_map, ◌==◌, eqb-true, eq-eqb, ltb-true}
-use Rattle.std.proofs.lemmas.Bool.{cases_lt, cases_eq, cases_order, cases_Bool, and_parts, and_from, or_parts, or_cases, or_left, or_right, or_from, both_ways, false_from_ne_true, eqb-false, cond-true, cond-false}
-use Rattle.std.proofs.lemmas.List.{length-map, get_or_past, take_at}
+use Rattle.std.proofs.Common.{◌≡◌, ℕ, zero, suc, ◌<◌, ◌≤◌, true, false, List, [], ◌∷◌, length, drop, refl, sym, ap, ◌∙◌, inl, inr, arith, slice_index, eqb-true, eq-eqb}
+use Rattle.std.proofs.lemmas.Bool.{cases_lt, and_parts, and_from, both_ways, false_from_ne_true}
+use Rattle.std.proofs.lemmas.List.{length-map, get_or_past}
 use Rattle.j39_frame.specs.Frame.{FrameRecord}
 use Rattle.j39_listen.specs.Heard.{frame_at, frames_only}
 use Rattle.j39_transport.proofs.FrameFacts.{announcement_facts, packet_facts}
@@ -52,13 +52,15 @@ frame_numbers f = (refl, refl, refl, refl, refl, refl)
 
 pub ev_announces : (H : List FrameRecord) (s : Key) (i : ℕ) → announces s (at (frames_only H) i) ≡ is_announcement s (frame_at H i)
 ev_announces H s i = elim (cases_lt i (length H)) [
-    inl l ↦ ap (announces s) (event_at H i l) ∙ announces_frame s (frame_at H i)
-  | inr l ↦ ap (announces s) (past_event H i l) ∙ (none_announced s ∙ sym (ap (is_announcement s) (past_frame H i l) ∙ (no_frame s).0)) ]
+  | inl l ↦ ap (announces s) (event_at H i l) ∙ announces_frame s (frame_at H i)
+  | inr l ↦ ap (announces s) (past_event H i l) ∙ (none_announced s ∙ sym (ap (is_announcement s) (past_frame H i l) ∙ (no_frame s).0))
+]
 
 pub ev_sends : (H : List FrameRecord) (s : Key) (i : ℕ) → sends s (at (frames_only H) i) ≡ is_packet s (frame_at H i)
 ev_sends H s i = elim (cases_lt i (length H)) [
-    inl l ↦ ap (sends s) (event_at H i l) ∙ sends_frame s (frame_at H i)
-  | inr l ↦ ap (sends s) (past_event H i l) ∙ (none_sent s ∙ sym (ap (is_packet s) (past_frame H i l) ∙ (no_frame s).1)) ]
+  | inl l ↦ ap (sends s) (event_at H i l) ∙ sends_frame s (frame_at H i)
+  | inr l ↦ ap (sends s) (past_event H i l) ∙ (none_sent s ∙ sym (ap (is_packet s) (past_frame H i l) ∙ (no_frame s).1))
+]
 
 ends_frame : (s : Key) (g : ℕ) (f : FrameRecord) → ends s g (Frame f) ≡ is_end s g f
 unfolding ends

@@ -2,7 +2,7 @@
 use Rattle.std.proofs.Common.{◌≡◌, ◌≢◌, ◌⊎◌, ◌↔◌, ℕ, zero, suc, ◌+◌, ◌<◌, ◌≤◌, Bool, true, false, if◌then◌else◌, List, [], ◌∷◌, ◌++◌, map, length, Option, Some, None, refl, sym, ap, ◌∙◌, subst, inl, inr, arith, flat_map, nat_lt, ltb-true, lt-ltb}
 use Rattle.std.proofs.lemmas.Bool.{cases_lt, cases_eq, cases_Bool, cond_both, cond-true, cond-false, both_ways, false_from_ne_true}
 use Rattle.std.proofs.lemmas.List.{get_or_append_left, length_push}
-use Rattle.j39_listen.proofs.Held.{holder_of, held_is, held_only}
+use Rattle.j39_listen.proofs.Held.{holder_of, held_only}
 use Rattle.j39_address.proofs.HolderLemmas.{same_holder, none_above}
 use Rattle.j39_address.specs.Claim.{Claim, claims_of}
 use Rattle.j39_address.specs.Holder.{IsHolder}
@@ -11,7 +11,7 @@ use Rattle.j39_frame.specs.Identifier.{pgn_of, source_of}
 use Rattle.j39_groups.specs.Readings.{is_reported_group}
 use Rattle.j39_listen.proofs.Between.{assembled_iff}
 use Rattle.j39_address.proofs.OrderLemmas.{cases_option}
-use Rattle.j39_listen.proofs.Rising.{Listed, Rises, Changes, changed_of}
+use Rattle.j39_listen.proofs.Rising.{Listed, Rises, changed_of}
 use Rattle.j39_listen.proofs.Reported.{not_reported, packet_group, packet_source}
 use Rattle.j39_transport.proofs.Taken.{whole_ends}
 use Rattle.j39_listen.specs.NextSteps.{alone_of, NextBy, Next, heard_of}
@@ -21,9 +21,8 @@ use Rattle.j39_listen.specs.Forgets.{Changed, WithForgets}
 use Rattle.j39_listen.specs.Heard.{HeardAt, Hearing, IsAssembled, IsHeard, IsSingle, frame_at, or_none}
 use Rattle.j39_listen.specs.Report.{Entry, IsReport, entries_of}
 use Rattle.j39_transport.proofs.Agreeing.{Agree, at_new}
-use Rattle.j39_transport.proofs.FrameFacts.{packet_facts}
 use Rattle.j39_transport.specs.Answers.{WholeBy}
-use Rattle.j39_transport.specs.Events.{Event, sends, stamp}
+use Rattle.j39_transport.specs.Events.{Event, sends}
 use Rattle.j39_transport.specs.Assembly.{Whole}
 use Rattle.j39_transport.specs.Events.Event.{Frame, Forget}
 use Rattle.j39_transport.specs.Frames.{is_packet}
@@ -55,14 +54,14 @@ changed_from C n k zero = []
 changed_from C n k (suc m) = if differs (holder_of C n k) (holder_of C (suc n) k) then k ∷ changed_from C n (suc k) m else changed_from C n (suc k) m
 
 module _ (C : List (Option Claim)) (n : ℕ) where
-
   from_within : (k m a : ℕ) → Listed a (changed_from C n k m) → (k ≤ a) × (a < k + m) × (holder_of C n a ≢ holder_of C (suc n) a)
   unfolding changed_from
   from_within k zero a l = absurd l
   from_within k (suc m) a l = elim (cases_Bool (differs (holder_of C n k) (holder_of C (suc n) k))) [
-      inl t ↦ there t (λ u. from_within (suc k) m a u) (subst (λ (xs : List ℕ). Listed a xs) (cond-true _ _ _ t) l)
+    | inl t ↦ there t (λ u. from_within (suc k) m a u) (subst (λ (xs : List ℕ). Listed a xs) (cond-true _ _ _ t) l)
     | inr t ↦ (let r = from_within (suc k) m a (subst (λ (xs : List ℕ). Listed a xs) (cond-false _ _ _ t) l) in
-        let u : suc k ≤ a = r.0 in let v : a < suc k + m = r.1 in (omega arith, omega arith, r.2)) ]
+        let u : suc k ≤ a = r.0 in let v : a < suc k + m = r.1 in (omega arith, omega arith, r.2))
+  ]
     where
       there : differs (holder_of C n k) (holder_of C (suc n) k) ≡ true → (Listed a (changed_from C n (suc k) m) → (suc k ≤ a) × (a < suc k + m) × (holder_of C n a ≢ holder_of C (suc n) a))
           → Listed a (k ∷ changed_from C n (suc k) m) → (k ≤ a) × (a < k + suc m) × (holder_of C n a ≢ holder_of C (suc n) a)
@@ -73,15 +72,18 @@ module _ (C : List (Option Claim)) (n : ℕ) where
   unfolding changed_from
   from_each k zero a u v d = absurd (omega arith)
   from_each k (suc m) a u v d = elim (cases_eq a k) [
-      inl e ↦ subst (λ (xs : List ℕ). Listed a xs) (sym (cond-true _ _ _ (here e))) (inl e)
+    | inl e ↦ subst (λ (xs : List ℕ). Listed a xs) (sym (cond-true _ _ _ (here e))) (inl e)
     | inr w ↦ elim (cases_Bool (differs (holder_of C n k) (holder_of C (suc n) k))) [
-        inl t ↦ subst (λ (xs : List ℕ). Listed a xs) (sym (cond-true _ _ _ t)) (inr (from_each (suc k) m a (omega arith) (omega arith) d))
-      | inr t ↦ subst (λ (xs : List ℕ). Listed a xs) (sym (cond-false _ _ _ t)) (from_each (suc k) m a (omega arith) (omega arith) d) ] ]
+      | inl t ↦ subst (λ (xs : List ℕ). Listed a xs) (sym (cond-true _ _ _ t)) (inr (from_each (suc k) m a (omega arith) (omega arith) d))
+      | inr t ↦ subst (λ (xs : List ℕ). Listed a xs) (sym (cond-false _ _ _ t)) (from_each (suc k) m a (omega arith) (omega arith) d)
+    ]
+  ]
     where
       here : a ≡ k → differs (holder_of C n k) (holder_of C (suc n) k) ≡ true
       here e = elim (cases_Bool (differs (holder_of C n k) (holder_of C (suc n) k))) [
-          inl t ↦ t
-        | inr t ↦ absurd (d (subst (λ (x : ℕ). holder_of C n x ≡ holder_of C (suc n) x) (sym e) (differs_false _ _ t))) ]
+        | inl t ↦ t
+        | inr t ↦ absurd (d (subst (λ (x : ℕ). holder_of C n x ≡ holder_of C (suc n) x) (sym e) (differs_false _ _ t)))
+      ]
 
   from_rises : (k m : ℕ) → Rises (changed_from C n k m)
   unfolding changed_from
@@ -92,16 +94,20 @@ module _ (C : List (Option Claim)) (n : ℕ) where
 
   -- there is such a list
   pub changed_exists : (gone : List ℕ) × Changed C n gone
-  changed_exists = (changed_from C n 0 254, changed_of C n (changed_from C n 0 254) (record {
+  changed_exists = (
+    changed_from C n 0 254,
+    changed_of C n (changed_from C n 0 254) (record {
       rises = from_rises 0 254;
       only = λ a o p l x y e.
-        (let r = from_within 0 254 a l in
-        let w : a < 254 = (let v : a < 0 + 254 = r.1 in omega arith) in
-        r.2 (sym (held_only C n a o x) ∙ (e ∙ held_only C (suc n) a p y)));
+          (let r = from_within 0 254 a l in
+          let w : a < 254 = (let v : a < 0 + 254 = r.1 in omega arith) in
+          r.2 (sym (held_only C n a o x) ∙ (e ∙ held_only C (suc n) a p y)));
       each = λ a o p x y d. elim (cases_lt a 254) [
-          inl w ↦ from_each 0 254 a (omega arith) (omega arith) (λ e. d (held_only C n a o x ∙ (e ∙ sym (held_only C (suc n) a p y))))
-        | inr w ↦ absurd (d (same_holder C n a o None x (none_above C n a w) ∙ sym (same_holder C (suc n) a p None y (none_above C (suc n) a w)))) ];
-    }))
+        | inl w ↦ from_each 0 254 a (omega arith) (omega arith) (λ e. d (held_only C n a o x ∙ (e ∙ sym (held_only C (suc n) a p y))))
+        | inr w ↦ absurd (d (same_holder C n a o None x (none_above C n a w) ∙ sym (same_holder C (suc n) a p None y (none_above C (suc n) a w))))
+      ];
+    }),
+  )
 
 pub forgets_exist : (F : List FrameRecord) (n : ℕ) → (E : List Event) × WithForgets F n E
 forgets_exist F zero = ([], refl)
@@ -130,7 +136,6 @@ agree_onto : (A B : List Event) → Agree A (A ++ B) (length A)
 agree_onto A B = record { same = λ i l. get_or_append_left A B (Forget 255) i l }
 
 module _ (F : List FrameRecord) (E : List Event) (f : FrameRecord) (h : WithForgets F (length F) E) where
-
   -- a message ends at f exactly where one is whole after E
   pub next_assembled : (m : MessageRecord) (name : Option ℕ) → IsHolder (claims_of F) (length F) m.source name
       → WholeBy E f m ↔ IsAssembled (F ++ f ∷ []) (length F) m name
@@ -142,18 +147,21 @@ module _ (F : List FrameRecord) (E : List Event) (f : FrameRecord) (h : WithForg
       let iff = assembled_iff (F ++ f ∷ []) ((E ++ Frame f ∷ []) ++ map (λ t. Forget t) c.0) w (length F) E m name l k in
       let n : length (E ++ Frame f ∷ []) ≡ suc (length E) = omega (arith, length_push E (Frame f)) in
       let a1 : Agree (E ++ Frame f ∷ []) ((E ++ Frame f ∷ []) ++ map (λ t. Forget t) c.0) (suc (length E)) = subst (λ (x : ℕ). Agree (E ++ Frame f ∷ []) ((E ++ Frame f ∷ []) ++ map (λ t. Forget t) c.0) x) n (agree_onto (E ++ Frame f ∷ []) (map (λ t. Forget t) c.0)) in
-      let a2 : Agree ((E ++ Frame f ∷ []) ++ map (λ t. Forget t) c.0) (E ++ Frame f ∷ []) (suc (length E)) = subst (λ (x : ℕ). Agree ((E ++ Frame f ∷ []) ++ map (λ t. Forget t) c.0) (E ++ Frame f ∷ []) x) n (agree_append (E ++ Frame f ∷ []) (map (λ t. Forget t) c.0)) in
-      ((λ x. iff.0 ((x.0, x.1, (Whole-same (E ++ Frame f ∷ []) ((E ++ Frame f ∷ []) ++ map (λ t. Forget t) c.0) (length E) x.0 m.pgn m.bytes a1 x.2).whole),
-                    (holder_prefix F (f ∷ []) (length F) m.source name (omega arith)).0 held)),
-       (λ y. (let z = (iff.1 y).0 in (z.0, z.1, (Whole-same ((E ++ Frame f ∷ []) ++ map (λ t. Forget t) c.0) (E ++ Frame f ∷ []) (length E) z.0 m.pgn m.bytes a2 z.2).whole))))
+      let a2 : Agree ((E ++ Frame f ∷ []) ++ map (λ t. Forget t) c.0) (E ++ Frame f ∷ []) (suc (length E)) = subst (λ (x : ℕ). Agree ((E ++ Frame f ∷ []) ++ map (λ t. Forget t) c.0) (E ++ Frame f ∷ []) x) n (agree_append (E ++ Frame f ∷ []) (map (λ t. Forget t) c.0)) in (
+        (λ x. iff.0 (
+          (x.0, x.1, (Whole-same (E ++ Frame f ∷ []) ((E ++ Frame f ∷ []) ++ map (λ t. Forget t) c.0) (length E) x.0 m.pgn m.bytes a1 x.2).whole),
+          (holder_prefix F (f ∷ []) (length F) m.source name (omega arith)).0 held,
+        )),
+        (λ y. (let z = (iff.1 y).0 in (z.0, z.1, (Whole-same ((E ++ Frame f ∷ []) ++ map (λ t. Forget t) c.0) (E ++ Frame f ∷ []) (length E) z.0 m.pgn m.bytes a2 z.2).whole))),
+      )
 
   heard_from : (m : MessageRecord) (name : Option ℕ) → m.source ≡ source_of f.id → IsHolder (claims_of F) (length F) (source_of f.id) name
       → IsSingle (F ++ f ∷ []) (length F) m ⊎ IsAssembled (F ++ f ∷ []) (length F) m name → IsHeard (F ++ f ∷ []) (length F) (record { message = m; stamp = f.stamp; name = name })
   heard_from m name s held c = record {
-      carried = c;
-      held_by = (holder_prefix F (f ∷ []) (length F) m.source name (omega arith)).0 (subst (λ (a : ℕ). IsHolder (claims_of F) (length F) a name) (sym s) held);
-      stamp_is = ap (λ (x : FrameRecord). x.stamp) (sym (frame_new F f));
-    }
+    carried = c;
+    held_by = (holder_prefix F (f ∷ []) (length F) m.source name (omega arith)).0 (subst (λ (a : ℕ). IsHolder (claims_of F) (length F) a name) (sym s) held);
+    stamp_is = ap (λ (x : FrameRecord). x.stamp) (sym (frame_new F f));
+  }
 
   single_new : is_reported_group (pgn_of f.id) ≡ true → nat_lt (source_of f.id) 254 ≡ true → IsSingle (F ++ f ∷ []) (length F) (alone_of f)
   single_new r b =
@@ -187,15 +195,17 @@ module _ (F : List FrameRecord) (E : List Event) (f : FrameRecord) (h : WithForg
       go true true x y c k = subst (λ (o : Option MessageRecord). HeardAt (F ++ f ∷ []) (length F) (heard_of f name o)) (sym k) (heard_from (alone_of f) name refl held (inl (single_new x y)))
       go true false x y c k = subst (λ (o : Option MessageRecord). HeardAt (F ++ f ∷ []) (length F) (heard_of f name o)) (sym k) (λ u v.
           elim v.carried [
-              inl s ↦ both_ways _ y (single_reported u.message s).1
-            | inr t ↦ both_ways _ (assembled_unreported u.message u.name t) x ])
+            | inl s ↦ both_ways _ y (single_reported u.message s).1
+            | inr t ↦ both_ways _ (assembled_unreported u.message u.name t) x
+          ])
       go false b x y (Some m) k =
           let s : m.source ≡ source_of f.id = sym (assembled_source E f m k) in
           heard_from m name s held (inr ((next_assembled m name (subst (λ (a : ℕ). IsHolder (claims_of F) (length F) a name) (sym s) held)).0 k))
       go false b x y None k = λ u v.
           elim v.carried [
-              inl s ↦ both_ways _ x (single_reported u.message s).0
-            | inr t ↦ k u.message ((next_assembled u.message u.name ((holder_prefix F (f ∷ []) (length F) u.message.source u.name (omega arith)).1 v.held_by)).1 t) ]
+            | inl s ↦ both_ways _ x (single_reported u.message s).0
+            | inr t ↦ k u.message ((next_assembled u.message u.name ((holder_prefix F (f ∷ []) (length F) u.message.source u.name (omega arith)).1 v.held_by)).1 t)
+          ]
 
 -- a call more: the report, and the list with forgets
 pub record Fed (F : List FrameRecord) (f : FrameRecord) (o : Option Hearing) (D : List Event) : Type 0 where

@@ -1,5 +1,5 @@
 -- A list of frames and the same list with forgets: which place is which, and where a forget stands.
-use Rattle.j39_listen.proofs.Rising.{Listed, Changes, changes_of, changed_of}
+use Rattle.j39_listen.proofs.Rising.{Listed, changes_of}
 use Rattle.std.proofs.Common.{◌≡◌, ◌≢◌, ℕ, zero, suc, ◌+◌, ◌-◌, ◌<◌, ◌≤◌, Bool, true, false, ◌&&◌, nat_lt, ◌==◌, List, [], ◌∷◌, ◌++◌, map, length, take, Option, refl, sym, ap, ◌∙◌, subst, inl, inr, arith, length-append, append_assoc, append-nil, eqb-true, eq-eqb, ltb-true, lt-ltb}
 use Rattle.std.proofs.lemmas.Bool.{cases_eq, cases_order, and_parts, and_from, both_ways}
 use Rattle.std.proofs.lemmas.List.{get_or_append_left, get_or_push, get_or-append-add, length_push, length-map, take_more}
@@ -12,7 +12,7 @@ use Rattle.j39_listen.proofs.Masks.{Same, rank}
 use Rattle.j39_listen.proofs.Unique.{forgets_unique}
 use Rattle.j39_listen.specs.Forgets.{Changed, WithForgets}
 use Rattle.j39_listen.specs.Heard.{frame_at, frames_only}
-use Rattle.j39_listen.specs.Lost.{without}
+use Rattle.j39_listen.proofs.Lost.{without}
 use Rattle.j39_transport.proofs.FrameFacts.{key_below}
 use Rattle.j39_transport.specs.Events.{Event, announces, ends, grants, rivals, sends}
 use Rattle.j39_transport.specs.Events.{at}
@@ -74,7 +74,7 @@ frames_first F (suc n) E l h =
     let b : take (n + 1) (frames_only F) ≡ take n (frames_only F) ++ at (frames_only F) n ∷ [] = take_more (frames_only F) n (Forget 255) (omega arith) in
     let c : at (frames_only F) n ≡ Frame (frame_at F n) = event_at F n l in
     ap frames_in h.4 ∙ (frames_next h.0 (frame_at F n) h.1 ∙ (ap (λ (x : List Event). x ++ Frame (frame_at F n) ∷ []) a
-      ∙ (ap (λ (x : Event). take n (frames_only F) ++ x ∷ []) (sym c) ∙ (sym b ∙ ap (λ (x : ℕ). take x (frames_only F)) (let e : n + 1 ≡ suc n = omega arith in e)))))
+    ∙ (ap (λ (x : Event). take n (frames_only F) ++ x ∷ []) (sym c) ∙ (sym b ∙ ap (λ (x : ℕ). take x (frames_only F)) (let e : n + 1 ≡ suc n = omega arith in e)))))
 
 frames_count : (F : List FrameRecord) (n : ℕ) (E : List Event) → WithForgets F n E → length (frames_in E) ≡ n
 frames_count F zero E h = ap (λ (x : List Event). length (frames_in x)) h
@@ -111,7 +111,7 @@ pub part : (F : List FrameRecord) (n i : ℕ) (E : List Event) → i ≤ n → W
 part F zero zero E l h = record { before = E; stands = h; rest = []; whole_is = sym (append-nil E) }
 part F zero (suc i) E l h = absurd (omega arith)
 part F (suc n) i E l h = elim (cases_eq i (suc n)) [
-    inl e ↦ record { before = E; stands = subst (λ (x : ℕ). WithForgets F x E) (sym e) h; rest = []; whole_is = sym (append-nil E) }
+  | inl e ↦ record { before = E; stands = subst (λ (x : ℕ). WithForgets F x E) (sym e) h; rest = []; whole_is = sym (append-nil E) }
   | inr e ↦
       (let p = part F n i h.0 (omega arith) h.2 in
       record {
@@ -119,9 +119,10 @@ part F (suc n) i E l h = elim (cases_eq i (suc n)) [
         stands = p.stands;
         rest = (p.rest ++ Frame (frame_at F n) ∷ []) ++ map (λ t. Forget t) h.1;
         whole_is = h.4 ∙ (ap (λ (x : List Event). (x ++ Frame (frame_at F n) ∷ []) ++ map (λ t. Forget t) h.1) p.whole_is
-          ∙ (ap (λ (x : List Event). x ++ map (λ t. Forget t) h.1) (append_assoc p.before p.rest (Frame (frame_at F n) ∷ []))
-          ∙ append_assoc p.before (p.rest ++ Frame (frame_at F n) ∷ []) (map (λ t. Forget t) h.1)));
-      }) ]
+            ∙ (ap (λ (x : List Event). x ++ map (λ t. Forget t) h.1) (append_assoc p.before p.rest (Frame (frame_at F n) ∷ []))
+            ∙ append_assoc p.before (p.rest ++ Frame (frame_at F n) ∷ []) (map (λ t. Forget t) h.1)));
+      })
+]
 
 -- the parts grow
 pub part_le : (F : List FrameRecord) (i j : ℕ) (A B : List Event) → i ≤ j → WithForgets F i A → WithForgets F j B → length A ≤ length B
@@ -153,12 +154,12 @@ placed F E D i h l k =
     let d : q.0 ≡ D = forgets_unique F i q.0 D q.2 k in
     let n : length q.0 ≡ length D = ap length d in
     let b : p.before ≡ D ++ (Frame (frame_at F i) ∷ map (λ t. Forget t) q.1) =
-        q.4 ∙ (ap (λ (x : List Event). (x ++ Frame (frame_at F i) ∷ []) ++ map (λ t. Forget t) q.1) d ∙ append_assoc D (Frame (frame_at F i) ∷ []) (map (λ t. Forget t) q.1)) in
+    q.4 ∙ (ap (λ (x : List Event). (x ++ Frame (frame_at F i) ∷ []) ++ map (λ t. Forget t) q.1) d ∙ append_assoc D (Frame (frame_at F i) ∷ []) (map (λ t. Forget t) q.1)) in
     let w : E ≡ D ++ ((Frame (frame_at F i) ∷ map (λ t. Forget t) q.1) ++ p.rest) =
-        p.whole_is ∙ (ap (λ (x : List Event). x ++ p.rest) b ∙ append_assoc D (Frame (frame_at F i) ∷ map (λ t. Forget t) q.1) p.rest) in
+    p.whole_is ∙ (ap (λ (x : List Event). x ++ p.rest) b ∙ append_assoc D (Frame (frame_at F i) ∷ map (λ t. Forget t) q.1) p.rest) in
     let e : at E (length D) ≡ Frame (frame_at F i) =
-        ap (λ (x : List Event). at x (length D)) w ∙ (ap (at (D ++ ((Frame (frame_at F i) ∷ map (λ t. Forget t) q.1) ++ p.rest))) (let z : length D ≡ length D + 0 = omega arith in z)
-          ∙ get_or-append-add D ((Frame (frame_at F i) ∷ map (λ t. Forget t) q.1) ++ p.rest) 0 (Forget 255)) in
+    ap (λ (x : List Event). at x (length D)) w ∙ (ap (at (D ++ ((Frame (frame_at F i) ∷ map (λ t. Forget t) q.1) ++ p.rest))) (let z : length D ≡ length D + 0 = omega arith in z)
+    ∙ get_or-append-add D ((Frame (frame_at F i) ∷ map (λ t. Forget t) q.1) ++ p.rest) 0 (Forget 255)) in
     let m : length E ≡ length D + suc (length (map (λ t. Forget t) q.1 ++ p.rest)) = ap length w ∙ length-append D ((Frame (frame_at F i) ∷ map (λ t. Forget t) q.1) ++ p.rest) in
     record {
       before = D;
@@ -236,20 +237,28 @@ forget_of F (suc n) E s q h l k =
     let e : at E q ≡ at ((h.0 ++ Frame (frame_at F n) ∷ []) ++ map (λ t. Forget t) h.1) q = ap (λ (x : List Event). at x q) h.4 in
     let b : length (h.0 ++ Frame (frame_at F n) ∷ []) ≡ length h.0 + 1 = length_push h.0 (Frame (frame_at F n)) in
     elim (cases_order q (length h.0)) [
-        inl i ↦ absurd (both_ways _ (forgets_frame s (frame_at F n)) (subst (λ (x : Event). forgets s x ≡ true)
+      | inl i ↦ absurd (both_ways _ (forgets_frame s (frame_at F n)) (subst (λ (x : Event). forgets s x ≡ true)
           (e ∙ (get_or_append_left (h.0 ++ Frame (frame_at F n) ∷ []) (map (λ t. Forget t) h.1) (Forget 255) q (omega arith) ∙ get_or_push h.0 (Frame (frame_at F n)) (Forget 255) q (sym i))) k))
       | inr o ↦ elim o [
-          inl u ↦ forget_of F n h.0 s q h.2 u (subst (λ (x : Event). forgets s x ≡ true)
+        | inl u ↦ forget_of F n h.0 s q h.2 u (subst (λ (x : Event). forgets s x ≡ true)
             (e ∙ (get_or_append_left (h.0 ++ Frame (frame_at F n) ∷ []) (map (λ t. Forget t) h.1) (Forget 255) q (omega arith) ∙ get_or_append_left h.0 (Frame (frame_at F n) ∷ []) (Forget 255) q u)) k)
         | inr u ↦
             (let z : q ≡ length (h.0 ++ Frame (frame_at F n) ∷ []) + (q - suc (length h.0)) = omega arith in
             record {
-              frame = n; before = h.0; after = E; stands = h.2; stands_after = h; gone = h.1; changed = h.3;
+              frame = n;
+              before = h.0;
+              after = E;
+              stands = h.2;
+              stands_after = h;
+              gone = h.1;
+              changed = h.3;
               listed = forget_listed s h.1 (q - suc (length h.0)) (subst (λ (x : Event). forgets s x ≡ true)
-                (e ∙ (ap (at ((h.0 ++ Frame (frame_at F n) ∷ []) ++ map (λ t. Forget t) h.1)) z ∙ get_or-append-add (h.0 ++ Frame (frame_at F n) ∷ []) (map (λ t. Forget t) h.1) (q - suc (length h.0)) (Forget 255))) k);
+                  (e ∙ (ap (at ((h.0 ++ Frame (frame_at F n) ∷ []) ++ map (λ t. Forget t) h.1)) z ∙ get_or-append-add (h.0 ++ Frame (frame_at F n) ∷ []) (map (λ t. Forget t) h.1) (q - suc (length h.0)) (Forget 255))) k);
               low = u;
               high = l;
-            }) ] ]
+            })
+      ]
+    ]
 
 -- where F[j] changes the holder of s, a forget of s stands in E(F) between the places of F[j] and F[j + 1]
 pub record Forgotten (F : List FrameRecord) (E : List Event) (s j : ℕ) : Type 0 where
@@ -273,11 +282,14 @@ forgotten F n E s j o p h l w x y d =
     let a : r.before ≡ (q.0 ++ Frame (frame_at F j) ∷ []) ++ map (λ t. Forget t) q.1 = q.4 in
     record {
       place = length (q.0 ++ Frame (frame_at F j) ∷ []) + k.0;
-      before = q.0; after = r.before; stands = q.2; stands_after = q;
+      before = q.0;
+      after = r.before;
+      stands = q.2;
+      stands_after = q;
       low = omega arith;
       high = omega arith;
       is_forget = ap (λ (z : List Event). forgets s (at z (length (q.0 ++ Frame (frame_at F j) ∷ []) + k.0))) r.whole_is
-        ∙ (ap (forgets s) (get_or_append_left r.before r.rest (Forget 255) (length (q.0 ++ Frame (frame_at F j) ∷ []) + k.0) (omega arith))
-        ∙ (ap (λ (z : List Event). forgets s (at z (length (q.0 ++ Frame (frame_at F j) ∷ []) + k.0))) a
-        ∙ (ap (forgets s) (get_or-append-add (q.0 ++ Frame (frame_at F j) ∷ []) (map (λ t. Forget t) q.1) k.0 (Forget 255)) ∙ k.2)));
+          ∙ (ap (forgets s) (get_or_append_left r.before r.rest (Forget 255) (length (q.0 ++ Frame (frame_at F j) ∷ []) + k.0) (omega arith))
+          ∙ (ap (λ (z : List Event). forgets s (at z (length (q.0 ++ Frame (frame_at F j) ∷ []) + k.0))) a
+          ∙ (ap (forgets s) (get_or-append-add (q.0 ++ Frame (frame_at F j) ∷ []) (map (λ t. Forget t) q.1) k.0 (Forget 255)) ∙ k.2)));
     }

@@ -4,6 +4,7 @@ pub mod Causal
 pub mod Events
 pub mod Reported
 pub mod Unique
+pub mod Lost
 pub mod Masks
 pub mod Forgets
 pub mod Gaps

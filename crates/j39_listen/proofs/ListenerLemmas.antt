@@ -1,8 +1,8 @@
 -- What a listener stands for after one frame more, and what it hears at it.
-use Rattle.std.proofs.Common.{◌≡◌, ◌≢◌, ℕ, suc, ◌+◌, ◌<◌, ◌≤◌, Bool, true, false, if◌then◌else◌, List, [], ◌∷◌, ◌++◌, map, length, take, Option, Some, None, refl, sym, ap, ◌∙◌, subst, arith, eqb-true, append-nil, append_assoc, nat_lt, ◌==◌}
-use Rattle.std.proofs.lemmas.Bool.{both_ways, cond_both}
+use Rattle.std.proofs.Common.{◌≡◌, ℕ, suc, Bool, true, false, List, [], ◌∷◌, ◌++◌, map, length, Option, Some, None, refl, sym, ap, ◌∙◌, subst, arith, eqb-true, append-nil, append_assoc, nat_lt, ◌==◌}
+use Rattle.std.proofs.lemmas.Bool.{cond_both}
 use Rattle.std.proofs.lemmas.List.{length-map, length_push, map_push}
-use Rattle.std.specs.Prelude.{Result, Ok, Err, MatchResult}
+use Rattle.std.specs.Prelude.{Result, Ok, MatchResult}
 use Rattle.j39_address.specs.Changes.{AreChanged}
 use Rattle.j39_address.specs.Claim.{Claim, claim_of, claims_of}
 use Rattle.j39_address.specs.Claims.{Knows, StandsFor}
@@ -18,7 +18,7 @@ use Rattle.j39_transport.specs.Events.Event.{Frame, Forget}
 use Rattle.j39_transport.specs.Message.{MessageRecord}
 use Rattle.j39_transport.specs.Stands.{Stands}
 use Rattle.j39_transport.specs.Steps.{AssemblerRecord}
-use Rattle.j39_listen.specs.Forgets.{Changed, ChangesAt, WithForgets}
+use Rattle.j39_listen.specs.Forgets.{Changed, WithForgets}
 use Rattle.j39_listen.specs.Heard.{HeardAt, Hearing, IsHeard}
 use Rattle.j39_listen.specs.Listening.{Hears}
 use Rattle.j39_listen.specs.NextSteps.{IsMany, Next, NextBy, alone_of, heard_alone, heard_of}
@@ -42,13 +42,13 @@ pub changed_next : (F : List FrameRecord) (f : FrameRecord) (xs : List ℕ) → 
 changed_next F f xs h =
     let n : length (F ++ f ∷ []) ≡ suc (length F) = omega (arith, length_push F f) in
     let before : (a : ℕ) (o : Option ℕ) → IsHolder (claims_of (F ++ f ∷ [])) (length F) a o → IsHolderAfter (claims_of F) a o =
-        λ a o x. is_after F a o ((holder_prefix F (f ∷ []) (length F) a o (omega arith)).1 x) in
+    λ a o x. is_after F a o ((holder_prefix F (f ∷ []) (length F) a o (omega arith)).1 x) in
     let since : (a : ℕ) (o : Option ℕ) → IsHolderAfter (claims_of F) a o → IsHolder (claims_of (F ++ f ∷ [])) (length F) a o =
-        λ a o x. (holder_prefix F (f ∷ []) (length F) a o (omega arith)).0 (after_is F a o x) in
+    λ a o x. (holder_prefix F (f ∷ []) (length F) a o (omega arith)).0 (after_is F a o x) in
     let behind : (a : ℕ) (o : Option ℕ) → IsHolder (claims_of (F ++ f ∷ [])) (suc (length F)) a o → IsHolderAfter (claims_of (F ++ f ∷ [])) a o =
-        λ a o x. is_after (F ++ f ∷ []) a o (subst (λ (k : ℕ). IsHolder (claims_of (F ++ f ∷ [])) k a o) (sym n) x) in
+    λ a o x. is_after (F ++ f ∷ []) a o (subst (λ (k : ℕ). IsHolder (claims_of (F ++ f ∷ [])) k a o) (sym n) x) in
     let at : (a : ℕ) (o : Option ℕ) → IsHolderAfter (claims_of (F ++ f ∷ [])) a o → IsHolder (claims_of (F ++ f ∷ [])) (suc (length F)) a o =
-        λ a o x. subst (λ (k : ℕ). IsHolder (claims_of (F ++ f ∷ [])) k a o) n (after_is (F ++ f ∷ []) a o x) in
+    λ a o x. subst (λ (k : ℕ). IsHolder (claims_of (F ++ f ∷ [])) k a o) n (after_is (F ++ f ∷ []) a o x) in
     record {
       rising = h.rising;
       changed = λ a l o p x y. h.changed a l o p (before a o x) (behind a p y);
@@ -100,9 +100,9 @@ pub heard_single : (l : Listener) (F : List FrameRecord) (f : FrameRecord) (name
     → IsHolderAfter (claims_of F) (source_of f.id) name → HeardAt (F ++ f ∷ []) (length F) (heard_alone f name)
 heard_single l F f name reported h held =
     let hears : (c : Option MessageRecord) → NextBy true (nat_lt (source_of f.id) 254) h.events f c → HeardAt (F ++ f ∷ []) (length F) (heard_of f name c) =
-        λ c n. heard_next F h.events f h.with_forgets c name (next_by true h.events f c reported n) (after_is F (source_of f.id) name held) in
+    λ c n. heard_next F h.events f h.with_forgets c name (next_by true h.events f c reported n) (after_is F (source_of f.id) name held) in
     let by : (b : Bool) → nat_lt (source_of f.id) 254 ≡ b → (c : Option MessageRecord) → NextBy true b h.events f c → HeardAt (F ++ f ∷ []) (length F) (heard_of f name c) =
-        λ b e c n. hears c (subst (λ (x : Bool). NextBy true x h.events f c) (sym e) n) in
+    λ b e c n. hears c (subst (λ (x : Bool). NextBy true x h.events f c) (sym e) n) in
     cond_both (nat_lt (source_of f.id) 254) _ _ (λ (o : Option Hearing). HeardAt (F ++ f ∷ []) (length F) o)
     (λ below. by true below (Some (alone_of f)) refl) (λ above. by false above None refl)
 
@@ -111,9 +111,9 @@ pub heard_claim : (l : Listener) (F : List FrameRecord) (f : FrameRecord) → (p
 heard_claim l F f is h =
     let claims : pgn_of f.id ≡ 60928 = eqb-true _ _ is in
     let none : NoneWhole h.events f = λ m w.
-        let packet = packet_group w.0 f (assembled_sent h.events f w.0 m.pgn m.bytes w.2) in
-        let apart : 60160 ≡ 60928 = sym packet ∙ claims in
-        absurd (omega arith) in
+    let packet = packet_group w.0 f (assembled_sent h.events f w.0 m.pgn m.bytes w.2) in
+    let apart : 60160 ≡ 60928 = sym packet ∙ claims in
+    absurd (omega arith) in
     heard_next F h.events f h.with_forgets None (holder_of (claims_of F) (length F) (source_of f.id)) (next_by false h.events f None (claims_silent _ claims) none)
     (held_is (claims_of F) (length F) (source_of f.id))
 

@@ -1,7 +1,7 @@
 -- A list without the elements at some places.
-use Rattle.std.proofs.Common.{◌≡◌, ◌≢◌, ◌⊎◌, ℕ, zero, suc, ◌+◌, ◌<◌, ◌≤◌, Bool, true, false, cond, if◌then◌else◌, List, [], ◌∷◌, length, get_or, refl, sym, ap, ◌∙◌, subst, inl, inr, arith}
-use Rattle.std.proofs.lemmas.Bool.{cases_lt, cases_eq, cases_order, cases_Bool, cond_both, cond-true, cond-false, both_ways}
-use Rattle.j39_listen.specs.Lost.{later, without}
+use Rattle.std.proofs.Common.{◌≡◌, ℕ, zero, suc, ◌<◌, ◌≤◌, Bool, true, false, if◌then◌else◌, List, [], ◌∷◌, length, get_or, refl, sym, ap, ◌∙◌, subst, inl, inr, arith}
+use Rattle.std.proofs.lemmas.Bool.{cases_lt, cases_order, cases_Bool, cond-true, cond-false}
+use Rattle.j39_listen.proofs.Lost.{later, without}
 
 -- how many of the first i places X doesn't name
 abbrev pub rank : (ℕ → Bool) → ℕ → ℕ
@@ -13,12 +13,13 @@ rank_more X zero = refl
 rank_more X (suc i) =
     let h : rank (later X) (suc i) ≡ (if X (suc i) then rank (later X) i else suc (rank (later X) i)) = rank_more (later X) i in
     elim (cases_Bool (X 0)) [
-        inl e ↦ cond-true _ _ _ e ∙ (h ∙ ap (λ (r : ℕ). if X (suc i) then r else suc r) (sym (cond-true _ _ _ e)))
-      | inr e ↦ cond-false _ _ _ e ∙ (ap suc h ∙ (push_in (X (suc i)) ∙ ap (λ (r : ℕ). if X (suc i) then r else suc r) (sym (cond-false _ _ _ e)))) ]
-    where
-      push_in : (b : Bool) → suc (if b then rank (later X) i else suc (rank (later X) i)) ≡ (if b then suc (rank (later X) i) else suc (suc (rank (later X) i)))
-      push_in true = refl
-      push_in false = refl
+      | inl e ↦ cond-true _ _ _ e ∙ (h ∙ ap (λ (r : ℕ). if X (suc i) then r else suc r) (sym (cond-true _ _ _ e)))
+      | inr e ↦ cond-false _ _ _ e ∙ (ap suc h ∙ (push_in (X (suc i)) ∙ ap (λ (r : ℕ). if X (suc i) then r else suc r) (sym (cond-false _ _ _ e))))
+    ]
+  where
+    push_in : (b : Bool) → suc (if b then rank (later X) i else suc (rank (later X) i)) ≡ (if b then suc (rank (later X) i) else suc (suc (rank (later X) i)))
+    push_in true = refl
+    push_in false = refl
 
 pub rank_kept : (X : ℕ → Bool) (i : ℕ) → X i ≡ false → rank X (suc i) ≡ suc (rank X i)
 rank_kept X i h = rank_more X i ∙ cond-false _ _ _ h
@@ -30,8 +31,9 @@ pub rank_mono : (X : ℕ → Bool) (i j : ℕ) → i ≤ j → rank X i ≤ rank
 rank_mono X zero j h = omega arith
 rank_mono X (suc i) zero h = absurd (omega arith)
 rank_mono X (suc i) (suc j) h = elim (cases_Bool (X 0)) [
-    inl e ↦ rw e (rank_mono (later X) i j (omega arith))
-  | inr e ↦ rw e (let m : rank (later X) i ≤ rank (later X) j = rank_mono (later X) i j (omega arith) in omega arith) ]
+  | inl e ↦ rw e (rank_mono (later X) i j (omega arith))
+  | inr e ↦ rw e (let m : rank (later X) i ≤ rank (later X) j = rank_mono (later X) i j (omega arith) in omega arith)
+]
 
 pub rank_strict : (X : ℕ → Bool) (i j : ℕ) → X i ≡ false → i < j → rank X i < rank X j
 rank_strict X i j h l = let m : rank X (suc i) ≤ rank X j = rank_mono X (suc i) j l in let e : rank X (suc i) ≡ suc (rank X i) = rank_kept X i h in omega arith
@@ -41,15 +43,17 @@ pub kept_at : {A : Type 0} (X : ℕ → Bool) (xs : List A) (i : ℕ) (d : A) �
 kept_at X [] i d h l = absurd (omega arith)
 kept_at X (x ∷ xs) zero d h l = rw h refl
 kept_at X (x ∷ xs) (suc i) d h l = elim (cases_Bool (X 0)) [
-    inl e ↦ rw e (kept_at (later X) xs i d h (omega arith))
-  | inr e ↦ rw e (kept_at (later X) xs i d h (omega arith)) ]
+  | inl e ↦ rw e (kept_at (later X) xs i d h (omega arith))
+  | inr e ↦ rw e (kept_at (later X) xs i d h (omega arith))
+]
 
 pub kept_within : {A : Type 0} (X : ℕ → Bool) (xs : List A) (i : ℕ) → X i ≡ false → i < length xs → rank X i < length (without X xs)
 kept_within X [] i h l = absurd (omega arith)
 kept_within X (x ∷ xs) zero h l = rw h (omega arith)
 kept_within X (x ∷ xs) (suc i) h l = elim (cases_Bool (X 0)) [
-    inl e ↦ rw e (kept_within (later X) xs i h (omega arith))
-  | inr e ↦ rw e (let m : rank (later X) i < length (without (later X) xs) = kept_within (later X) xs i h (omega arith) in omega arith) ]
+  | inl e ↦ rw e (kept_within (later X) xs i h (omega arith))
+  | inr e ↦ rw e (let m : rank (later X) i < length (without (later X) xs) = kept_within (later X) xs i h (omega arith) in omega arith)
+]
 
 -- where an element of the rest stood
 pub record Stood {A : Type 0} (X : ℕ → Bool) (xs : List A) (g : ℕ) : Type 0 where
@@ -67,11 +71,13 @@ stood_next X x xs g e r = record { place = suc r.place; below = (let l : r.place
 pub stood : {A : Type 0} (X : ℕ → Bool) (xs : List A) (g : ℕ) → g < length (without X xs) → Stood X xs g
 stood X [] g h = absurd (omega arith)
 stood X (x ∷ xs) zero h = elim (cases_Bool (X 0)) [
-    inl e ↦ stood_later X x xs 0 e (stood (later X) xs 0 (rw e at h))
-  | inr e ↦ record { place = 0; below = omega arith; kept = e; rank_is = refl } ]
+  | inl e ↦ stood_later X x xs 0 e (stood (later X) xs 0 (rw e at h))
+  | inr e ↦ record { place = 0; below = omega arith; kept = e; rank_is = refl }
+]
 stood X (x ∷ xs) (suc g) h = elim (cases_Bool (X 0)) [
-    inl e ↦ stood_later X x xs (suc g) e (stood (later X) xs (suc g) (rw e at h))
-  | inr e ↦ stood_next X x xs g e (stood (later X) xs g (let l : suc g < suc (length (without (later X) xs)) = (rw e at h) in omega arith)) ]
+  | inl e ↦ stood_later X x xs (suc g) e (stood (later X) xs (suc g) (rw e at h))
+  | inr e ↦ stood_next X x xs g e (stood (later X) xs g (let l : suc g < suc (length (without (later X) xs)) = (rw e at h) in omega arith))
+]
 
 -- ---- two lists with the same rest
 
@@ -83,7 +89,6 @@ pub record Same {A : Type 0} (X Y : ℕ → Bool) (F H : List A) (f h : ℕ) : T
   pub ranks : rank X f ≡ rank Y h
 
 module _ {A : Type 0} (X Y : ℕ → Bool) (F H : List A) (one_rest : without X F ≡ without Y H) where
-
   pub same_element : {f h : ℕ} (d : A) → Same X Y F H f h → get_or H h d ≡ get_or F f d
   same_element {f = f} {h = h} d r =
       let a : get_or (without X F) (rank X f) d ≡ get_or F f d = kept_at X F f d r.f_kept r.f_below in
@@ -105,15 +110,18 @@ module _ {A : Type 0} (X Y : ℕ → Bool) (F H : List A) (one_rest : without X 
 
   pub order_to_H : {f h g i : ℕ} → Same X Y F H f h → Same X Y F H g i → f < g → h < i
   order_to_H {f = f} {h = h} {g = g} {i = i} a b l = elim (cases_lt h i) [
-      inl m ↦ m
-    | inr m ↦ absurd (let x : rank X f < rank X g = rank_strict X f g a.f_kept l in let y : rank Y i ≤ rank Y h = rank_mono Y i h m in omega (arith, a.ranks, b.ranks)) ]
+    | inl m ↦ m
+    | inr m ↦ absurd (let x : rank X f < rank X g = rank_strict X f g a.f_kept l in let y : rank Y i ≤ rank Y h = rank_mono Y i h m in omega (arith, a.ranks, b.ranks))
+  ]
 
   pub order_to_F : {f h g i : ℕ} → Same X Y F H f h → Same X Y F H g i → h < i → f < g
   order_to_F {f = f} {h = h} {g = g} {i = i} a b l = elim (cases_lt f g) [
-      inl m ↦ m
-    | inr m ↦ absurd (let x : rank Y h < rank Y i = rank_strict Y h i a.h_kept l in let y : rank X g ≤ rank X f = rank_mono X g f m in omega (arith, a.ranks, b.ranks)) ]
+    | inl m ↦ m
+    | inr m ↦ absurd (let x : rank Y h < rank Y i = rank_strict Y h i a.h_kept l in let y : rank X g ≤ rank X f = rank_mono X g f m in omega (arith, a.ranks, b.ranks))
+  ]
 
   pub one_in_H : {f h i : ℕ} → Same X Y F H f h → Same X Y F H f i → h ≡ i
   one_in_H {f = f} {h = h} {i = i} a b = elim (cases_order h i) [
-      inl e ↦ e
-    | inr o ↦ elim o [ inl l ↦ absurd (let m : f < f = order_to_F a b l in omega arith) | inr l ↦ absurd (let m : f < f = order_to_F b a l in omega arith) ] ]
+    | inl e ↦ e
+    | inr o ↦ elim o [ inl l ↦ absurd (let m : f < f = order_to_F a b l in omega arith) | inr l ↦ absurd (let m : f < f = order_to_F b a l in omega arith) ]
+  ]

@@ -12,7 +12,7 @@ use Rattle.j39_frame.specs.Spelled.{Spelled, frame, other, unread, blank}
 use Rattle.j39_frame.proofs.BusLemmas.{bus_of-frame, bus_of-kept}
 use Rattle.j39_listen.specs.Counting.{capped, counts_of}
 use Rattle.j39_listen.specs.Heard.{AreHeard, HeardAt, Hearing, or_none}
-use Rattle.j39_listen.specs.LineSteps.{IsMore, MeetsBehind, MeetsFrame, MeetsLine, StopsBehind, StopsFrame, StopsLine, frame_counts}
+use Rattle.j39_listen.specs.LineSteps.{IsMore, MeetsFrame, MeetsLine, StopsFrame, StopsLine, frame_counts}
 use Rattle.j39_listen.specs.Listening.{Hears}
 use Rattle.j39_listen.specs.Report.{Entry, entries_of, report_text, text_of}
 use Rattle.j39_listen.specs.declared.counts.Counts.{Counts}

@@ -1,9 +1,7 @@
 -- A run, line after line, against its definition.
-use Rattle.std.proofs.Common.{◌≡◌, ◌≢◌, ◌+◌, ℕ, List, [], ◌∷◌, ◌++◌, Option, Some, None, true, false, ◌==◌, length, refl, sym, ap, ap₂, ◌∙◌, subst, arith, append-nil, append_assoc, length-append, inl, inr, flat_map}
-use Rattle.std.specs.List.{AllByRecursion}
+use Rattle.std.proofs.Common.{◌≡◌, ◌≢◌, ◌+◌, ℕ, List, [], ◌∷◌, ◌++◌, Option, Some, None, length, refl, sym, ap, ap₂, ◌∙◌, subst, arith, append-nil, append_assoc, length-append, inl, inr, flat_map}
 use Rattle.std.specs.Io.KnownBytes.{Appends, Keeps}
 use Rattle.std.proofs.KnownBytes.{Appends-trans}
-use Rattle.std.proofs.lemmas.Bool.{eqb-true, eqb-false}
 use Rattle.std.proofs.lemmas.Grind.{flat_map-append}
 use Rattle.j39_frame.specs.Chars.{newline}
 use Rattle.j39_frame.specs.Frame.{FrameRecord}
@@ -46,18 +44,18 @@ counts_of-append bus xs ys hs ks =
 pub has_read-none : (given : Option (List ℕ)) (log : List ℕ) (held : Option (List ℕ)) (l : Listener) (counts : Counts) → Hears l [] → counts ≡ counts_without_frame 0 0
     → HasRead given log log (record { bus = given; listener = l; counts = counts }) held held
 has_read-none given log held l counts hears zero = record {
-    lines = [];
-    spelled = [];
-    heard = [];
-    whole = tt;
-    taken_is = refl;
-    spell_each = tt;
-    bus_is = none given;
-    hears = hears;
-    are_heard = refl;
-    counts_are = zero ∙ without_frame given [] 0 0 refl refl refl (omega arith) (omega arith);
-    written = nothing_written held;
-  }
+  lines = [];
+  spelled = [];
+  heard = [];
+  whole = tt;
+  taken_is = refl;
+  spell_each = tt;
+  bus_is = none given;
+  hears = hears;
+  are_heard = refl;
+  counts_are = zero ∙ without_frame given [] 0 0 refl refl refl (omega arith) (omega arith);
+  written = nothing_written held;
+}
   where
     none : (o : Option (List ℕ)) → o ≡ bus_of o []
     none None = refl

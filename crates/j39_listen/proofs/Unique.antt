@@ -6,9 +6,9 @@ use Rattle.j39_address.proofs.OrderLemmas.{same_rising}
 use Rattle.j39_address.proofs.HolderLemmas.{none_above}
 use Rattle.j39_listen.proofs.Rising.{Listed, contains_of}
 use Rattle.j39_listen.specs.Report.{IsReport}
-use Rattle.std.proofs.Common.{◌≡◌, ◌⊎◌, ℕ, zero, suc, ◌<◌, ◌≤◌, true, List, [], ◌∷◌, ◌++◌, map, length, take, Option, Some, None, refl, sym, ap, ◌∙◌, subst, inl, inr, arith, flat_map}
-use Rattle.std.proofs.lemmas.Bool.{cases_lt, and_parts}
-use Rattle.j39_address.proofs.HolderLemmas.{holder_below, holder_is, same_holder}
+use Rattle.std.proofs.Common.{◌≡◌, ◌⊎◌, ℕ, zero, suc, ◌<◌, true, List, [], ◌∷◌, ◌++◌, map, length, Option, Some, None, refl, sym, ap, ◌∙◌, subst, inl, inr, flat_map}
+use Rattle.std.proofs.lemmas.Bool.{cases_lt}
+use Rattle.j39_address.proofs.HolderLemmas.{same_holder}
 use Rattle.j39_address.specs.Claim.{Claim, claims_of}
 use Rattle.j39_address.specs.Holder.{IsHolder}
 use Rattle.j39_frame.specs.Frame.{FrameRecord}
@@ -16,17 +16,11 @@ use Rattle.j39_listen.proofs.Events.{ev_sends}
 use Rattle.j39_listen.specs.Forgets.{Changed, WithForgets}
 use Rattle.j39_listen.specs.Heard.{HeardAt, HeardBelow, Hearing, IsAssembled, IsHeard, IsSingle, frame_at, frames_only, or_none}
 use Rattle.j39_listen.specs.Report.{Entry, entries_of}
-use Rattle.j39_transport.proofs.Bridge.{packet_key}
-use Rattle.j39_transport.proofs.Chains.{Links-from, Links-unique, start_unique}
-use Rattle.j39_transport.proofs.FrameFacts.{announces-packets, packet_facts}
-use Rattle.j39_transport.specs.Events.{Event, group, packets, sends, size, stamp}
-use Rattle.j39_transport.specs.Assembly.{Links, Runs, Whole, joined, last_of}
-use Rattle.j39_transport.specs.Events.{at}
+use Rattle.j39_transport.specs.Events.{Event}
 use Rattle.j39_transport.specs.Events.Event.{Frame, Forget}
 use Rattle.j39_transport.specs.Frames.{is_packet}
-use Rattle.j39_transport.specs.Key.{Key, sender}
+use Rattle.j39_transport.specs.Key.{sender}
 use Rattle.j39_transport.specs.Message.{MessageRecord}
-use Rattle.j39_transport.specs.Stands.{full}
 
 -- ---- what is heard
 
@@ -59,7 +53,7 @@ pub heard_unique : (F : List FrameRecord) (i : ℕ) (h k : Hearing) → IsHeard 
 heard_unique F i h k x y =
     let m : h.message ≡ k.message = one_heard F i h.message k.message h.name k.name x.carried y.carried in
     hearing_same h k m (x.stamp_is ∙ sym y.stamp_is)
-      (same_holder (claims_of F) i h.message.source h.name k.name x.held_by (subst (λ (t : MessageRecord). IsHolder (claims_of F) i t.source k.name) (sym m) y.held_by))
+    (same_holder (claims_of F) i h.message.source h.name k.name x.held_by (subst (λ (t : MessageRecord). IsHolder (claims_of F) i t.source k.name) (sym m) y.held_by))
 
 pub heard_at_unique : (F : List FrameRecord) (i : ℕ) (o p : Option Hearing) → HeardAt F i o → HeardAt F i p → o ≡ p
 heard_at_unique F i None None h k = refl
@@ -96,4 +90,4 @@ forgets_unique F (suc n) E D h k =
     let a : h.0 ≡ k.0 = forgets_unique F n h.0 k.0 h.2 k.2 in
     let b : h.1 ≡ k.1 = changed_unique (claims_of F) n h.1 k.1 h.3 k.3 in
     h.4 ∙ (ap (λ (x : List Event). (x ++ Frame (frame_at F n) ∷ []) ++ map (λ t. Forget t) h.1) a
-      ∙ (ap (λ (x : List ℕ). (k.0 ++ Frame (frame_at F n) ∷ []) ++ map (λ t. Forget t) x) b ∙ sym k.4))
+    ∙ (ap (λ (x : List ℕ). (k.0 ++ Frame (frame_at F n) ∷ []) ++ map (λ t. Forget t) x) b ∙ sym k.4))

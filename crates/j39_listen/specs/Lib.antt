@@ -4,8 +4,6 @@ pub mod Report
 pub mod NextSteps
 pub mod Listening
 pub mod Shown
-pub mod Lost
-pub mod Laws
 pub mod Counting
 pub mod Run
 pub mod Fault

@@ -3,6 +3,7 @@
 
 mod counts;
 mod heard;
+pub mod laws;
 mod listener;
 mod pieces;
 mod progress;

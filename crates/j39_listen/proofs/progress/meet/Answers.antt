@@ -1,6 +1,5 @@
 -- The line by what it spells.
-use Rattle.std.proofs.Common.{sym, ◌∙◌, Result, Ok, Err}
-use Rattle.std.specs.Prelude.{IfOk}
+use Rattle.std.proofs.Common.{sym, ◌∙◌}
 use Rattle.j39_listen.proofs.PieceLemmas.{if_ok}
 use Rattle.j39_listen.proofs.MeetLemmas.{meets_blank, meets_frame, meets_frame_elsewhere, meets_other, meets_unread, stops_frame}
 use Rattle.j39_listen.proofs.progress.meet.Goals as goal

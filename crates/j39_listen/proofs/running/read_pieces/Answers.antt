@@ -1,5 +1,5 @@
 -- The bytes that were taken, at each fault.
-use Rattle.std.proofs.Common.{[], ◌++◌, ◌∙◌, ◌≡◌, ◌+◌, ◌-◌, subst, ap, append-nil, take, arith, length, length-append, length-take}
+use Rattle.std.proofs.Common.{◌++◌, ◌∙◌, ◌≡◌, ◌+◌, ◌-◌, subst, ap, append-nil, take, arith, length, length-append, length-take}
 use Rattle.std.specs.Io.KnownBytes.{Consumes}
 use Rattle.std.proofs.KnownBytes.{Consumes-kept, Consumes-trans}
 use Rattle.j39_listen.proofs.PieceLemmas.{front_of_more, front_of_taken, no_fault, on_err_from}

@@ -1,4 +1,4 @@
-use Rattle.j39_listen.proofs.PieceLemmas.{if_ok, on_err_from}
+use Rattle.j39_listen.proofs.PieceLemmas.{if_ok}
 use Rattle.j39_listen.proofs.running.run.Goals as goal
 
 pub returns-clause-report : goal.returns-clause-report

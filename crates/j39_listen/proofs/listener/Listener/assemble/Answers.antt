@@ -11,8 +11,12 @@ use Rattle.j39_listen.proofs.listener.Listener.assemble.Goals as goal
 
 pub returns-in-Whole : goal.returns-in-Whole
 returns-in-Whole c = (
-  (refl, (λ _. tt), (λ many F h.
-      hears_quiet c.args.self.now F c.args.frame.now _ many.no_claim h (on_ok _ _ _ _ c.in_ok-message.was c.feed.follows.holds-at-none h.events h.stands))),
+  (
+    refl,
+    (λ _. tt),
+    (λ many F h.
+        hears_quiet c.args.self.now F c.args.frame.now _ many.no_claim h (on_ok _ _ _ _ c.in_ok-message.was c.feed.follows.holds-at-none h.events h.stands)),
+  ),
   record {
     heard = λ many F h.
         let said = rw c.in-Whole.is at (c.in_ok-message.ensures.answer h.events h.stands) in
@@ -25,8 +29,12 @@ returns-in-Whole c = (
 
 pub returns-in-Taken : goal.returns-in-Taken
 returns-in-Taken c = (
-  (refl, (λ _. tt), (λ many F h.
-      hears_quiet c.args.self.now F c.args.frame.now _ many.no_claim h (on_ok _ _ _ _ c.in_ok-message.was c.feed.follows.holds-at-none h.events h.stands))),
+  (
+    refl,
+    (λ _. tt),
+    (λ many F h.
+        hears_quiet c.args.self.now F c.args.frame.now _ many.no_claim h (on_ok _ _ _ _ c.in_ok-message.was c.feed.follows.holds-at-none h.events h.stands)),
+  ),
   record {
     heard = λ many F h. silent_many c.args.self.now F c.args.frame.now many h (rw c.in-Taken.is at (c.in_ok-message.ensures.answer h.events h.stands)).1;
     refused = tt;
@@ -36,8 +44,12 @@ returns-in-Taken c = (
 
 pub returns-in-Ignored : goal.returns-in-Ignored
 returns-in-Ignored c = (
-  (refl, (λ _. tt), (λ many F h.
-      hears_quiet c.args.self.now F c.args.frame.now _ many.no_claim h (on_ok _ _ _ _ c.in_ok-message.was c.feed.follows.holds-at-none h.events h.stands))),
+  (
+    refl,
+    (λ _. tt),
+    (λ many F h.
+        hears_quiet c.args.self.now F c.args.frame.now _ many.no_claim h (on_ok _ _ _ _ c.in_ok-message.was c.feed.follows.holds-at-none h.events h.stands)),
+  ),
   record {
     heard = λ many F h. silent_many c.args.self.now F c.args.frame.now many h (rw c.in-Ignored.is at (c.in_ok-message.ensures.answer h.events h.stands)).1;
     refused = tt;

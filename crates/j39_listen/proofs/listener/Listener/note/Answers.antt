@@ -12,16 +12,18 @@ use Rattle.j39_listen.proofs.listener.Listener.note.Goals as goal
 pub loop-address-preserved : goal.loop-address-preserved
 loop-address-preserved c =
     let xs = c.as_slice-address-items.result.now in
-    let more = take_more xs c.loop-address.address-index 0 (omega arith) in
-    ((λ E stands. subst (λ (D : List Event). Stands D c.forget.new.self)
-        (forgets_more_than E (take c.loop-address.address-index xs) _ ∙ ap (λ (ys : List _). E ++ map (λ t. Forget t) ys) (sym more))
-        (c.forget.ensures _ (c.loop-address.invariant.0 E stands))), c.loop-address.invariant.1)
+    let more = take_more xs c.loop-address.address-index 0 (omega arith) in (
+      (λ E stands. subst (λ (D : List Event). Stands D c.forget.new.self)
+          (forgets_more_than E (take c.loop-address.address-index xs) _ ∙ ap (λ (ys : List _). E ++ map (λ t. Forget t) ys) (sym more))
+          (c.forget.ensures _ (c.loop-address.invariant.0 E stands))),
+      c.loop-address.invariant.1,
+    )
 
 pub returns-clause-noted : goal.returns-clause-noted
 returns-clause-noted c = λ F h.
     let gone = c.note-changed.result.items in
     let whole : take c.loop-address.address-index c.as_slice-address-items.result.now ≡ gone =
-        take_all c.loop-address.address-index c.as_slice-address-items.result.now (omega arith) ∙ c.as_slice-address-items.ensures.value in
+    take_all c.loop-address.address-index c.as_slice-address-items.result.now (omega arith) ∙ c.as_slice-address-items.ensures.value in
     let fed = on_ok _ _ _ _ c.in_ok-feed.was c.feed.follows.holds-at-none h.events h.stands in
     hears_claim c.args.self.now F c.args.frame.now c.loop-address.self.assembler c.loop-address.self.claims gone h
     (c.note-changed.ensures.changed F h.knows)

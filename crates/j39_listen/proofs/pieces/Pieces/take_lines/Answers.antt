@@ -1,5 +1,5 @@
 -- One line after the other.
-use Rattle.std.proofs.Common.{◌≡◌, ◌∙◌, ◌++◌, [], List, Option, sym, ap, subst, refl, take, drop, append_assoc, append-nil, take-append-drop}
+use Rattle.std.proofs.Common.{◌∙◌, ◌++◌, [], sym, ap, subst, refl, take, drop, append_assoc, append-nil, take-append-drop}
 use Rattle.std.specs.Prelude.{Err}
 use Rattle.j39_listen.specs.PieceSteps.{HasTaken}
 use Rattle.j39_listen.specs.declared.pieces.Pieces.{Pieces}

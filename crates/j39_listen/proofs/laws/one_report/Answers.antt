@@ -1,0 +1,12 @@
+use Rattle.j39_listen.proofs.Unique.{heard_at_unique, heard_below_unique, report_unique}
+use Rattle.j39_listen.proofs.laws.one_report.Goals as goal
+use Rattle.std.proofs.Common.{length}
+
+pub returns-clause-one_at_a_frame : goal.returns-clause-one_at_a_frame
+returns-clause-one_at_a_frame c = heard_at_unique
+
+pub returns-clause-heard : goal.returns-clause-heard
+returns-clause-heard c F = heard_below_unique F (length F)
+
+pub returns-clause-report : goal.returns-clause-report
+returns-clause-report c = report_unique
