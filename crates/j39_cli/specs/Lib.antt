@@ -5,6 +5,7 @@ pub mod CommandWords
 pub mod Command
 pub mod ReportCommand
 pub mod IdCommand
+pub mod NameCommand
 pub mod Task
 pub mod Counted
 pub mod Refusal

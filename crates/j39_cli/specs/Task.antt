@@ -3,9 +3,11 @@ use Rattle.std.specs.Prelude.{◌≡◌, ◌<◌, ◌^◌, ℕ, List, Option, So
 use Rattle.std.specs.Option.{ForSome}
 use Rattle.std.specs.Str.Parse.{digits_value}
 use Rattle.clap.specs.Words.{Text}
+use Rattle.j39_address.specs.Name.{name_raw}
 use Rattle.j39_frame.specs.Bus.{IsBusName}
 use Rattle.j39_frame.specs.Identifier.{id_raw}
 use Rattle.j39_cli.specs.IdCommand.{IsIdText}
+use Rattle.j39_cli.specs.NameCommand.{IsNameText}
 use Rattle.j39_cli.specs.CommandWords.{CommandWords}
 use Rattle.j39_cli.specs.CommandWords as written
 use Rattle.j39_cli.specs.declared.task.Argument.{Argument}
@@ -19,20 +21,24 @@ use Rattle.j39_cli.specs.declared.task.ParseFault.TheVariants as fault
 pub data Asked : Type 0 where
   report : Option (List ℕ) → Option (List ℕ) → Asked
   id : ℕ → Asked
+  name : ℕ → Asked
 
 abbrev pub asked_of : Task → Asked
 asked_of (task.Report bus file) = report bus file
 asked_of (task.Id i) = id (id_raw i)
+asked_of (task.Name n) = name (name_raw n)
 
 -- FILE, where the task has one
 abbrev pub file_of : Task → Option (List ℕ)
 file_of (task.Report bus file) = file
 file_of (task.Id i) = None
+file_of (task.Name n) = None
 
 -- the values of a task are those that the command line takes
 abbrev pub IsInRange : Task → Type 0
 IsInRange (task.Report bus file) = ForSome bus IsBusName
 IsInRange (task.Id i) = id_raw i < 2 ^ 29
+IsInRange (task.Name n) = name_raw n < 2 ^ 64
 
 -- an argument as help spells it
 abbrev pub argument_text : Argument → List ℕ
@@ -79,11 +85,12 @@ IsBusChecked (Some bus) Next r = IsChecked (IsBusName bus) argument.Bus Next r
 abbrev pub IsAnswer : CommandWords → Answer → Type 0
 IsAnswer (written.report bus file) r = IsBusChecked bus (IsTask (report bus file)) r
 IsAnswer (written.id hex) r = IsChecked (IsIdText hex) argument.Hex (IsTask (id (digits_value 16 hex))) r
+IsAnswer (written.name hex) r = IsChecked (IsNameText hex) argument.Hex (IsTask (name (digits_value 16 hex))) r
 
 -- ---- what is read of `--bus`
 
 -- the name, where it is in range; else that it is wrong
 abbrev pub IsBusValue : Option Text → Result (Option (List ℕ)) ParseFault → Type 0
 IsBusValue None r = r ≡ Ok None
-IsBusValue (Some name) (Ok bus) = IsBusName name × (bus ≡ Some name)
-IsBusValue (Some name) (Err e) = (¬ IsBusName name) × (e ≡ fault.BadValue argument.Bus)
+IsBusValue (Some text) (Ok bus) = IsBusName text × (bus ≡ Some text)
+IsBusValue (Some text) (Err e) = (¬ IsBusName text) × (e ≡ fault.BadValue argument.Bus)

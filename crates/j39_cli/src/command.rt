@@ -5,7 +5,7 @@ ghost use Rattle.clap.specs.declared.builder.command.Command.TheViews.{out-Comma
 ghost use Rattle.j39_cli.specs.Command.{bare_app, line_app};
 ghost use Rattle.j39_cli.specs.Rules.{option_rule, value_rule};
 
-use crate::{id, report};
+use crate::{id, name, report};
 use clap::{Arg, Command};
 use std::alloc::{AllocError, Global};
 
@@ -17,6 +17,7 @@ Examples:
   j1939 report trip.log
   candump -L can0 | j1939 report
   j1939 id 18EEFF00
+  j1939 name 8000000001401234
 
 Exit status:
   0  done, or help was asked for
@@ -29,8 +30,10 @@ pub(crate) fn line<'a>(alloc: Global) -> Result<Command<'a>, AllocError>
 {
     let report = report::command(alloc)?;
     let id = id::command(alloc)?;
+    let name = name::command(alloc)?;
     let line = with_command(bare(alloc), report)?;
-    with_command(line, id)
+    let line = with_command(line, id)?;
+    with_command(line, name)
 }
 
 fn bare<'a>(alloc: Global) -> Command<'a>

@@ -4,6 +4,7 @@
 mod command;
 mod fields;
 mod id;
+mod name;
 mod performing;
 mod refusal;
 mod report;
@@ -16,5 +17,7 @@ pub use refusal::{refuse, unopened};
 pub use task::{Argument, ParseFault, Task, WordText};
 pub use words::parse;
 
+#[cfg(test)]
+mod performing_tests;
 #[cfg(test)]
 mod tests;
