@@ -9,7 +9,7 @@ use Rattle.clap.specs.declared.parser.matches.Found.{Found}
 use Rattle.clap.specs.declared.parser.matches.ArgMatches.{ArgMatches}
 use Rattle.clap.specs.declared.parser.matches.ArgMatches.TheViews.{out-ArgMatches, out-SubCommand}
 use Rattle.clap.specs.declared.parser.matches.SubCommand.{SubCommand}
-use Rattle.j39_cli.specs.CommandWords.{HasTexts, CommandWords, id, name, report}
+use Rattle.j39_cli.specs.CommandWords.{HasTexts, CommandWords, cut, id, name, report}
 use Rattle.j39_cli.specs.Task.{Answer, IsAnswer}
 use Rattle.j39_cli.specs.declared.task.ParseFault.TheVariants.{Memory}
 
@@ -19,6 +19,19 @@ memory_answers (report None file) = tt
 memory_answers (report (Some bus) file) = record { in_range = λ _. tt; wrong = λ _. tt }
 memory_answers (id hex) = record { in_range = λ _. tt; wrong = λ _. tt }
 memory_answers (name hex) = record { in_range = λ _. tt; wrong = λ _. tt }
+memory_answers (cut source pgn at bus hex) = record {
+  in_range = λ _. record {
+    in_range = λ _. record {
+      in_range = λ _. record {
+        in_range = λ _. record { in_range = λ _. record { in_range = λ _. tt; wrong = λ _. tt }; wrong = λ _. tt };
+        wrong = λ _. tt;
+      };
+      wrong = λ _. tt;
+    };
+    wrong = λ _. tt;
+  };
+  wrong = λ _. tt;
+}
 
 -- ---- the command that clap met
 
@@ -48,6 +61,7 @@ abbrev name_of : CommandWords → Text
 name_of (report bus file) = codes "report"
 name_of (id hex) = codes "id"
 name_of (name hex) = codes "name"
+name_of (cut source pgn at bus hex) = codes "cut"
 
 -- a command has one name
 apart : (t a b : Text) → t ≡ a → t ≡ b → bytes_eq a b ≡ false → bytes_eq b b ≡ true → ⊥
@@ -69,3 +83,12 @@ pub name_answers : (s : CommandWords) (met : Text × List Row) (found : Found) (
     → ((hex : Text) → first_value found (codes "hex") ≡ Some hex → IsAnswer (name hex) r) → IsAnswer s r
 name_answers (name hex) met found r texts is answer = answer hex (is.values (codes "hex") ∙ texts.1)
 name_answers s met found r texts is answer = absurd (apart met.0 (name_of s) (codes "name") texts.0 is.name_is refl refl)
+
+pub cut_answers : (s : CommandWords) (met : Text × List Row) (found : Found) (r : Answer) → HasTexts s met → IsMet found (codes "cut") met
+    → ((source pgn at bus hex : Text) → first_value found (codes "source") ≡ Some source → first_value found (codes "pgn") ≡ Some pgn
+    → first_value found (codes "at") ≡ Some at → first_value found (codes "bus") ≡ Some bus → first_value found (codes "hex") ≡ Some hex
+    → IsAnswer (cut source pgn at bus hex) r) → IsAnswer s r
+cut_answers (cut source pgn at bus hex) met found r (_, is_source, is_pgn, is_at, is_bus, is_hex) is answer = answer source pgn at bus hex
+    (is.values (codes "source") ∙ is_source) (is.values (codes "pgn") ∙ is_pgn) (is.values (codes "at") ∙ is_at)
+    (is.values (codes "bus") ∙ is_bus) (is.values (codes "hex") ∙ is_hex)
+cut_answers s met found r texts is answer = absurd (apart met.0 (name_of s) (codes "cut") texts.0 is.name_is refl refl)

@@ -6,6 +6,7 @@ pub mod Command
 pub mod ReportCommand
 pub mod IdCommand
 pub mod NameCommand
+pub mod CutCommand
 pub mod Task
 pub mod Counted
 pub mod Refusal

@@ -60,3 +60,29 @@ fn writes_the_fields_of_a_name(rt: HostRuntime) -> Result<(), Fail> {
     check_command(&rt, rt.alloc(), &words, NAME_FIELDS)?;
     Ok(())
 }
+
+const VIN_FRAMES: &str = "\
+(0000000002.000000) can0 1CECFF00#20120003FFECFE00
+(0000000002.050000) can0 1CEBFF00#013146554A413643
+(0000000002.100000) can0 1CEBFF00#025631324C4B3132
+(0000000002.150000) can0 1CEBFF00#033334352AFFFFFF
+";
+
+#[test]
+fn cut_a_vin(rt: HostRuntime) -> Result<(), Fail> {
+    let words = [
+        "j1939",
+        "cut",
+        "--source",
+        "0",
+        "--pgn",
+        "65260",
+        "--at",
+        "2.000000",
+        "--bus",
+        "can0",
+        "3146554A4136435631324C4B31323334352A",
+    ];
+    check_command(&rt, rt.alloc(), &words, VIN_FRAMES)?;
+    Ok(())
+}

@@ -2,6 +2,7 @@
 ghost use Rattle.std.specs.Prelude.{◌≡◌, Some, option_map};
 ghost use Rattle.j39_cli.specs.Task.{argument_text, file_of};
 
+use crate::Outgoing;
 use j39_address::Name;
 use j39_frame::{Bus, Id};
 use std::fmt;
@@ -47,6 +48,8 @@ pub enum Task<'a> {
     Id(Id),
     /// The fields of a NAME.
     Name(Name),
+    /// The frames of a message.
+    Cut(Outgoing),
 }
 
 impl<'a> Task<'a> {
@@ -59,6 +62,7 @@ impl<'a> Task<'a> {
             Task::Report(_, None) => None,
             Task::Id(_) => None,
             Task::Name(_) => None,
+            Task::Cut(_) => None,
         }
     }
 }

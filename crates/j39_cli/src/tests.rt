@@ -22,6 +22,7 @@ fn answer(alloc: Global, words: &[&str]) -> Result<String, AllocError> {
         }
         Ok(Task::Id(id)) => format!(in alloc; "id {:08X}", id.raw()),
         Ok(Task::Name(name)) => format!(in alloc; "name {:016X}", name.raw()),
+        Ok(Task::Cut(_)) => format!(in alloc; "cut"),
         Err(ParseFault::Memory) => format!(in alloc; "memory"),
         Err(ParseFault::Usage(_)) => format!(in alloc; "usage"),
         Err(ParseFault::BadValue(argument)) => format!(in alloc; "bad {argument}"),
