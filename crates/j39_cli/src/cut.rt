@@ -10,7 +10,7 @@ ghost use Rattle.j39_cli.specs.Task.{IsAnswer, IsInRange};
 ghost use Rattle.j39_cli.specs.Turn.{turn};
 
 use crate::command::{bus, option, value, with_arg};
-use crate::cut_values::{number_below, payload_of, pgn_of, stamp_of};
+use crate::cut_values::{payload_of, pgn_of, source_of, stamp_of};
 use crate::shown::show_text;
 use crate::words::required;
 use crate::{Argument, Outgoing, ParseFault, Task};
@@ -117,7 +117,7 @@ fn task_of<'a>(
     ensures answer { IsAnswer (written.cut source.now pgn.now at.now bus.now hex.now) result }
     ensures in_range { IfOk result IsInRange }
 {
-    let Some(source) = number_below(source, 254) else {
+    let Some(source) = source_of(source) else {
         return Err(ParseFault::BadValue(Argument::Source));
     };
     let Some(pgn) = pgn_of(pgn) else {
@@ -133,7 +133,7 @@ fn task_of<'a>(
         Ok(payload) => payload,
         Err(fault) => return Err(fault),
     };
-    match Outgoing::new(source as u8, pgn, at, bus, payload) {
+    match Outgoing::new(source, pgn, at, bus, payload) {
         Some(outgoing) => Ok(Task::Cut(outgoing)),
         None => Err(ParseFault::BadValue(Argument::At)),
     }

@@ -13,7 +13,7 @@ use j39_frame::{Pgn, Stamp, number};
 use std::alloc::Global;
 
 /// The number of decimal digits, leading zeros taken; `None` for other text, and from the limit up.
-pub(crate) fn number_below(text: &str, limit: u64) -> Option<u64>
+fn number_below(text: &str, limit: u64) -> Option<u64>
     ensures { SomeIff result (IsNumberBelow limit text.now) (digits_value 10 text.now) }
 {
     if text.is_empty() {
@@ -21,6 +21,14 @@ pub(crate) fn number_below(text: &str, limit: u64) -> Option<u64>
     }
     let value = number(text.as_bytes(), 10)?;
     if value < limit { Some(value) } else { None }
+}
+
+/// The address of this number in decimal; `None` for other text, and from 254 up.
+pub(crate) fn source_of(text: &str) -> Option<u8>
+    ensures { SomeIff result (IsNumberBelow 254 text.now) (digits_value 10 text.now) }
+{
+    let source = number_below(text, 254)?;
+    Some(source as u8)
 }
 
 /// The group of this number in decimal; `None` for other text, and from 2^18 up.
