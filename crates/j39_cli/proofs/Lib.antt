@@ -1,4 +1,5 @@
 pub mod FieldLemmas
+pub mod DigitLemmas
 pub mod PartLemmas
 pub mod TakenLemmas
 pub mod MetLemmas

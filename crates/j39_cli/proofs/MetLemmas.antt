@@ -9,7 +9,7 @@ use Rattle.clap.specs.declared.parser.matches.Found.{Found}
 use Rattle.clap.specs.declared.parser.matches.ArgMatches.{ArgMatches}
 use Rattle.clap.specs.declared.parser.matches.ArgMatches.TheViews.{out-ArgMatches, out-SubCommand}
 use Rattle.clap.specs.declared.parser.matches.SubCommand.{SubCommand}
-use Rattle.j39_cli.specs.CommandWords.{HasTexts, CommandWords, id, report}
+use Rattle.j39_cli.specs.CommandWords.{HasTexts, CommandWords, cut, id, name, report}
 use Rattle.j39_cli.specs.Task.{Answer, IsAnswer}
 use Rattle.j39_cli.specs.declared.task.ParseFault.TheVariants.{Memory}
 
@@ -18,6 +18,20 @@ pub memory_answers : (s : CommandWords) → IsAnswer s (Err Memory)
 memory_answers (report None file) = tt
 memory_answers (report (Some bus) file) = record { in_range = λ _. tt; wrong = λ _. tt }
 memory_answers (id hex) = record { in_range = λ _. tt; wrong = λ _. tt }
+memory_answers (name hex) = record { in_range = λ _. tt; wrong = λ _. tt }
+memory_answers (cut source pgn at bus hex) = record {
+  in_range = λ _. record {
+    in_range = λ _. record {
+      in_range = λ _. record {
+        in_range = λ _. record { in_range = λ _. record { in_range = λ _. tt; wrong = λ _. tt }; wrong = λ _. tt };
+        wrong = λ _. tt;
+      };
+      wrong = λ _. tt;
+    };
+    wrong = λ _. tt;
+  };
+  wrong = λ _. tt;
+}
 
 -- ---- the command that clap met
 
@@ -29,14 +43,14 @@ name_of_met m = go (out-ArgMatches m).subcommand
     go (Some b) = refl
 
 -- it has this name, and its values are those that were found
-pub record IsMet (found : Found) (name : Text) (met : Text × List Row) : Type 0 where
-  pub name_is : met.0 ≡ name
+pub record IsMet (found : Found) (called : Text) (met : Text × List Row) : Type 0 where
+  pub name_is : met.0 ≡ called
   pub values : (id : Text) → first_value found id ≡ first_of id met.1
 
-pub is_met : (m : ArgMatches) (found : Found) (name : Text) (met : Text × List Row) → subcommand_rows_of m ≡ Some met
-    → subcommand_name_of m ≡ Some name → option_map (λ q. q.1) (subcommand_rows_of m) ≡ Some (rows_of found) → IsMet found name met
-is_met m found name met rows is_name is_found =
-    let names : option_map (λ q. q.0) (Some met) ≡ Some name = ap (λ (o : Option (Text × List Row)). option_map (λ q. q.0) o) (sym rows) ∙ name_of_met m ∙ is_name in
+pub is_met : (m : ArgMatches) (found : Found) (called : Text) (met : Text × List Row) → subcommand_rows_of m ≡ Some met
+    → subcommand_name_of m ≡ Some called → option_map (λ q. q.1) (subcommand_rows_of m) ≡ Some (rows_of found) → IsMet found called met
+is_met m found called met rows is_name is_found =
+    let names : option_map (λ q. q.0) (Some met) ≡ Some called = ap (λ (o : Option (Text × List Row)). option_map (λ q. q.0) o) (sym rows) ∙ name_of_met m ∙ is_name in
     let texts : option_map (λ q. q.1) (Some met) ≡ Some (rows_of found) = ap (λ (o : Option (Text × List Row)). option_map (λ q. q.1) o) (sym rows) ∙ is_found in
     let same_rows : rows_of found ≡ met.1 = cc in
     record { name_is = cc; values = λ id. first_value-rows found id ∙ ap (λ (r : List Row). first_of id r) same_rows }
@@ -46,6 +60,8 @@ is_met m found name met rows is_name is_found =
 abbrev name_of : CommandWords → Text
 name_of (report bus file) = codes "report"
 name_of (id hex) = codes "id"
+name_of (name hex) = codes "name"
+name_of (cut source pgn at bus hex) = codes "cut"
 
 -- a command has one name
 apart : (t a b : Text) → t ≡ a → t ≡ b → bytes_eq a b ≡ false → bytes_eq b b ≡ true → ⊥
@@ -62,3 +78,17 @@ pub id_answers : (s : CommandWords) (met : Text × List Row) (found : Found) (r 
     → ((hex : Text) → first_value found (codes "hex") ≡ Some hex → IsAnswer (id hex) r) → IsAnswer s r
 id_answers (id hex) met found r texts is answer = answer hex (is.values (codes "hex") ∙ texts.1)
 id_answers s met found r texts is answer = absurd (apart met.0 (name_of s) (codes "id") texts.0 is.name_is refl refl)
+
+pub name_answers : (s : CommandWords) (met : Text × List Row) (found : Found) (r : Answer) → HasTexts s met → IsMet found (codes "name") met
+    → ((hex : Text) → first_value found (codes "hex") ≡ Some hex → IsAnswer (name hex) r) → IsAnswer s r
+name_answers (name hex) met found r texts is answer = answer hex (is.values (codes "hex") ∙ texts.1)
+name_answers s met found r texts is answer = absurd (apart met.0 (name_of s) (codes "name") texts.0 is.name_is refl refl)
+
+pub cut_answers : (s : CommandWords) (met : Text × List Row) (found : Found) (r : Answer) → HasTexts s met → IsMet found (codes "cut") met
+    → ((source pgn at bus hex : Text) → first_value found (codes "source") ≡ Some source → first_value found (codes "pgn") ≡ Some pgn
+    → first_value found (codes "at") ≡ Some at → first_value found (codes "bus") ≡ Some bus → first_value found (codes "hex") ≡ Some hex
+    → IsAnswer (cut source pgn at bus hex) r) → IsAnswer s r
+cut_answers (cut source pgn at bus hex) met found r (_, is_source, is_pgn, is_at, is_bus, is_hex) is answer = answer source pgn at bus hex
+    (is.values (codes "source") ∙ is_source) (is.values (codes "pgn") ∙ is_pgn) (is.values (codes "at") ∙ is_at)
+    (is.values (codes "bus") ∙ is_bus) (is.values (codes "hex") ∙ is_hex)
+cut_answers s met found r texts is answer = absurd (apart met.0 (name_of s) (codes "cut") texts.0 is.name_is refl refl)

@@ -6,11 +6,13 @@ use Rattle.clap.specs.Words.{Row, Text, first_of}
 pub data CommandWords : Type 0 where
   report : Option Text → Option Text → CommandWords
   id : Text → CommandWords
+  name : Text → CommandWords
+  cut : Text → Text → Text → Text → Text → CommandWords
 
 -- an option with its value, where it is given
 abbrev pub option_words : Text → Option Text → List Text
-option_words name None = []
-option_words name (Some value) = name ∷ value ∷ []
+option_words spelled None = []
+option_words spelled (Some value) = spelled ∷ value ∷ []
 
 -- a value that stands alone, where it is given
 abbrev pub value_words : Option Text → List Text
@@ -21,6 +23,9 @@ value_words (Some value) = value ∷ []
 abbrev pub words_of : CommandWords → List Text
 words_of (report bus file) = codes "report" ∷ (option_words (codes "--bus") bus ++ value_words file)
 words_of (id hex) = codes "id" ∷ hex ∷ []
+words_of (name hex) = codes "name" ∷ hex ∷ []
+words_of (cut source pgn at bus hex) =
+    codes "cut" ∷ codes "--source" ∷ source ∷ codes "--pgn" ∷ pgn ∷ codes "--at" ∷ at ∷ codes "--bus" ∷ bus ∷ hex ∷ []
 
 abbrev pub hyphen : ℕ
 hyphen = 0x2D
@@ -37,8 +42,14 @@ IsValueIfGiven (Some value) = IsValue value
 abbrev pub HasValues : CommandWords → Type 0
 HasValues (report bus file) = IsValueIfGiven bus × IsValueIfGiven file
 HasValues (id hex) = IsValue hex
+HasValues (name hex) = IsValue hex
+HasValues (cut source pgn at bus hex) = IsValue source × IsValue pgn × IsValue at × IsValue bus × IsValue hex
 
 -- the command that clap met, by its name and rows, has the texts of s
 abbrev pub HasTexts : CommandWords → Text × List Row → Type 0
 HasTexts (report bus file) met = (met.0 ≡ codes "report") × (first_of (codes "bus") met.1 ≡ bus) × (first_of (codes "file") met.1 ≡ file)
 HasTexts (id hex) met = (met.0 ≡ codes "id") × (first_of (codes "hex") met.1 ≡ Some hex)
+HasTexts (name hex) met = (met.0 ≡ codes "name") × (first_of (codes "hex") met.1 ≡ Some hex)
+HasTexts (cut source pgn at bus hex) met =
+    (met.0 ≡ codes "cut") × (first_of (codes "source") met.1 ≡ Some source) × (first_of (codes "pgn") met.1 ≡ Some pgn)
+    × (first_of (codes "at") met.1 ≡ Some at) × (first_of (codes "bus") met.1 ≡ Some bus) × (first_of (codes "hex") met.1 ≡ Some hex)

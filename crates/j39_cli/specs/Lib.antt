@@ -5,6 +5,8 @@ pub mod CommandWords
 pub mod Command
 pub mod ReportCommand
 pub mod IdCommand
+pub mod NameCommand
+pub mod CutCommand
 pub mod Task
 pub mod Counted
 pub mod Refusal

@@ -3,9 +3,12 @@ use Rattle.std.specs.Prelude.{◌≡◌, ◌<◌, ◌^◌, ℕ, List, Option, So
 use Rattle.std.specs.Option.{ForSome}
 use Rattle.std.specs.Str.Parse.{digits_value}
 use Rattle.clap.specs.Words.{Text}
+use Rattle.j39_address.specs.Name.{name_raw}
 use Rattle.j39_frame.specs.Bus.{IsBusName}
 use Rattle.j39_frame.specs.Identifier.{id_raw}
+use Rattle.j39_cli.specs.CutCommand.{EndsInTime, IsMomentText, IsNumberBelow, IsOutgoing, IsPayloadText, OutgoingRecord, moment_value, outgoing, payload_of}
 use Rattle.j39_cli.specs.IdCommand.{IsIdText}
+use Rattle.j39_cli.specs.NameCommand.{IsNameText}
 use Rattle.j39_cli.specs.CommandWords.{CommandWords}
 use Rattle.j39_cli.specs.CommandWords as written
 use Rattle.j39_cli.specs.declared.task.Argument.{Argument}
@@ -19,20 +22,28 @@ use Rattle.j39_cli.specs.declared.task.ParseFault.TheVariants as fault
 pub data Asked : Type 0 where
   report : Option (List ℕ) → Option (List ℕ) → Asked
   id : ℕ → Asked
+  name : ℕ → Asked
+  cut : OutgoingRecord → Asked
 
 abbrev pub asked_of : Task → Asked
 asked_of (task.Report bus file) = report bus file
 asked_of (task.Id i) = id (id_raw i)
+asked_of (task.Name n) = name (name_raw n)
+asked_of (task.Cut o) = cut o
 
 -- FILE, where the task has one
 abbrev pub file_of : Task → Option (List ℕ)
 file_of (task.Report bus file) = file
 file_of (task.Id i) = None
+file_of (task.Name n) = None
+file_of (task.Cut o) = None
 
 -- the values of a task are those that the command line takes
 abbrev pub IsInRange : Task → Type 0
 IsInRange (task.Report bus file) = ForSome bus IsBusName
 IsInRange (task.Id i) = id_raw i < 2 ^ 29
+IsInRange (task.Name n) = name_raw n < 2 ^ 64
+IsInRange (task.Cut o) = IsOutgoing o
 
 -- an argument as help spells it
 abbrev pub argument_text : Argument → List ℕ
@@ -75,15 +86,28 @@ abbrev pub IsBusChecked : Option Text → (Answer → Type 0) → Answer → Typ
 IsBusChecked None Next r = Next r
 IsBusChecked (Some bus) Next r = IsChecked (IsBusName bus) argument.Bus Next r
 
+-- the message that the texts of `cut` are of
+abbrev pub outgoing_of : Text → Text → Text → Text → Text → OutgoingRecord
+outgoing_of source pgn at bus hex = outgoing (digits_value 10 source) (digits_value 10 pgn) (moment_value at) bus (payload_of hex)
+
+-- `cut`, whose end is checked last
+abbrev pub IsCutAnswer : Text → Text → Text → Text → Text → Answer → Type 0
+IsCutAnswer source pgn at bus hex r =
+    IsChecked (IsNumberBelow 254 source) argument.Source (IsChecked (IsNumberBelow (2 ^ 18) pgn) argument.Pgn
+    (IsChecked (IsMomentText at) argument.At (IsChecked (IsBusName bus) argument.Bus (IsChecked (IsPayloadText hex) argument.Hex
+    (IsChecked (EndsInTime (outgoing_of source pgn at bus hex)) argument.At (IsTask (cut (outgoing_of source pgn at bus hex)))))))) r
+
 -- the values are checked in the order of the words, and the first wrong one is the answer
 abbrev pub IsAnswer : CommandWords → Answer → Type 0
 IsAnswer (written.report bus file) r = IsBusChecked bus (IsTask (report bus file)) r
 IsAnswer (written.id hex) r = IsChecked (IsIdText hex) argument.Hex (IsTask (id (digits_value 16 hex))) r
+IsAnswer (written.name hex) r = IsChecked (IsNameText hex) argument.Hex (IsTask (name (digits_value 16 hex))) r
+IsAnswer (written.cut source pgn at bus hex) r = IsCutAnswer source pgn at bus hex r
 
 -- ---- what is read of `--bus`
 
 -- the name, where it is in range; else that it is wrong
 abbrev pub IsBusValue : Option Text → Result (Option (List ℕ)) ParseFault → Type 0
 IsBusValue None r = r ≡ Ok None
-IsBusValue (Some name) (Ok bus) = IsBusName name × (bus ≡ Some name)
-IsBusValue (Some name) (Err e) = (¬ IsBusName name) × (e ≡ fault.BadValue argument.Bus)
+IsBusValue (Some text) (Ok bus) = IsBusName text × (bus ≡ Some text)
+IsBusValue (Some text) (Err e) = (¬ IsBusName text) × (e ≡ fault.BadValue argument.Bus)

@@ -5,7 +5,7 @@ ghost use Rattle.clap.specs.declared.builder.command.Command.TheViews.{out-Comma
 ghost use Rattle.j39_cli.specs.Command.{bare_app, line_app};
 ghost use Rattle.j39_cli.specs.Rules.{option_rule, value_rule};
 
-use crate::{id, report};
+use crate::{cut, id, name, report};
 use clap::{Arg, Command};
 use std::alloc::{AllocError, Global};
 
@@ -17,6 +17,9 @@ Examples:
   j1939 report trip.log
   candump -L can0 | j1939 report
   j1939 id 18EEFF00
+  j1939 name 8000000001401234
+  j1939 cut --source 0 --pgn 65260 --at 2.000000 --bus can0 \\
+    3146554A4136435631324C4B31323334352A
 
 Exit status:
   0  done, or help was asked for
@@ -29,8 +32,12 @@ pub(crate) fn line<'a>(alloc: Global) -> Result<Command<'a>, AllocError>
 {
     let report = report::command(alloc)?;
     let id = id::command(alloc)?;
+    let name = name::command(alloc)?;
+    let cut = cut::command(alloc)?;
     let line = with_command(bare(alloc), report)?;
-    with_command(line, id)
+    let line = with_command(line, id)?;
+    let line = with_command(line, name)?;
+    with_command(line, cut)
 }
 
 fn bare<'a>(alloc: Global) -> Command<'a>
@@ -62,7 +69,7 @@ pub(crate) fn file<'a>(alloc: Global) -> Arg<'a>
 }
 
 /// `--name VALUE`
-fn option<'a>(alloc: Global, name: &'a str, value: &'a str, is_required: bool) -> Arg<'a>
+pub(crate) fn option<'a>(alloc: Global, name: &'a str, value: &'a str, is_required: bool) -> Arg<'a>
     ensures rule { rule_of result ≡ option_rule name.entry.now is_required }
     ensures local { result.global ≡ false }
 {

@@ -2,8 +2,12 @@
 #![tactic(auto)]
 
 mod command;
+mod cut;
+mod cut_values;
 mod fields;
 mod id;
+mod name;
+mod outgoing;
 mod performing;
 mod refusal;
 mod report;
@@ -11,10 +15,15 @@ mod shown;
 mod task;
 mod words;
 
+pub use outgoing::Outgoing;
 pub use performing::perform;
 pub use refusal::{refuse, unopened};
 pub use task::{Argument, ParseFault, Task, WordText};
 pub use words::parse;
 
+#[cfg(test)]
+mod cut_tests;
+#[cfg(test)]
+mod performing_tests;
 #[cfg(test)]
 mod tests;

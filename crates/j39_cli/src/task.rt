@@ -2,6 +2,8 @@
 ghost use Rattle.std.specs.Prelude.{◌≡◌, Some, option_map};
 ghost use Rattle.j39_cli.specs.Task.{argument_text, file_of};
 
+use crate::Outgoing;
+use j39_address::Name;
 use j39_frame::{Bus, Id};
 use std::fmt;
 use std::marker::Model;
@@ -44,6 +46,10 @@ pub enum Task<'a> {
     Report(Option<Bus>, Option<WordText<'a>>),
     /// The fields of an identifier.
     Id(Id),
+    /// The fields of a NAME.
+    Name(Name),
+    /// The frames of a message.
+    Cut(Outgoing),
 }
 
 impl<'a> Task<'a> {
@@ -55,6 +61,8 @@ impl<'a> Task<'a> {
             Task::Report(_, Some(file)) => Some(file.as_str()),
             Task::Report(_, None) => None,
             Task::Id(_) => None,
+            Task::Name(_) => None,
+            Task::Cut(_) => None,
         }
     }
 }

@@ -21,6 +21,8 @@ fn answer(alloc: Global, words: &[&str]) -> Result<String, AllocError> {
             format!(in alloc; "report {} {file}", String::from_utf8_lossy(alloc, bus)?)
         }
         Ok(Task::Id(id)) => format!(in alloc; "id {:08X}", id.raw()),
+        Ok(Task::Name(name)) => format!(in alloc; "name {:016X}", name.raw()),
+        Ok(Task::Cut(_)) => format!(in alloc; "cut"),
         Err(ParseFault::Memory) => format!(in alloc; "memory"),
         Err(ParseFault::Usage(_)) => format!(in alloc; "usage"),
         Err(ParseFault::BadValue(argument)) => format!(in alloc; "bad {argument}"),
@@ -79,14 +81,34 @@ fn reads_id(rt: HostRuntime) -> Result<(), Fail> {
 }
 
 #[test]
+fn reads_name(rt: HostRuntime) -> Result<(), Fail> {
+    let values = [
+        ("8000000001401234", "name 8000000001401234"),
+        ("0000000000000000", "name 0000000000000000"),
+        ("ffffFFFFffffFFFF", "name FFFFFFFFFFFFFFFF"),
+        ("800000000140123", "bad HEX"),
+        ("08000000001401234", "bad HEX"),
+        ("800000000140123G", "bad HEX"),
+        ("0x00000001401234", "bad HEX"),
+        ("+000000001401234", "bad HEX"),
+        ("", "bad HEX"),
+    ];
+    for (value, want) in values {
+        let told = answer(rt.alloc(), &["j1939", "name", value])?;
+        assert_eq!(rt; told.as_str(), want, "{value}");
+    }
+    Ok(())
+}
+
+#[test]
 fn reads_other_words(rt: HostRuntime) -> Result<(), Fail> {
     let lines: [(&[&str], &str); 13] = [
         (&[], "usage"),
         (&["j1939"], "usage"),
         (&["j1939", "frobnicate"], "usage"),
         (&["j1939", "nodes"], "usage"),
-        (&["j1939", "name", "8000000001401234"], "usage"),
         (&["j1939", "id"], "usage"),
+        (&["j1939", "name"], "usage"),
         (&["j1939", "report", "--speed", "9"], "usage"),
         (&["j1939", "--help"], "help"),
         (&["j1939", "report", "--help"], "help"),

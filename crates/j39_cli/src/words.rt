@@ -8,7 +8,7 @@ ghost use Rattle.j39_cli.specs.CommandWords.{CommandWords, HasTexts, HasValues, 
 ghost use Rattle.j39_cli.specs.Task.{IsAnswer, IsBusValue, IsInRange};
 
 use crate::command::line;
-use crate::{Argument, ParseFault, Task, id, report};
+use crate::{Argument, ParseFault, Task, cut, id, name, report};
 use clap::error::ErrorKind;
 use clap::{ArgMatches, Error};
 use j39_frame::Bus;
@@ -72,6 +72,14 @@ fn task_of<'a>(alloc: Global, matches: &ArgMatches<'a>) -> Result<Task<'a>, Pars
     let id = matches.subcommand_matches("id");
     if let Some(given) = id {
         return id::task(alloc, given);
+    }
+    let name = matches.subcommand_matches("name");
+    if let Some(given) = name {
+        return name::task(alloc, given);
+    }
+    let cut = matches.subcommand_matches("cut");
+    if let Some(given) = cut {
+        return cut::task(alloc, given);
     }
     // clap requires a command and knows no other, so that nothing comes here.
     Err(ParseFault::Usage(String::new(alloc)))

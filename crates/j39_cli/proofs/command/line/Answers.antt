@@ -3,7 +3,9 @@ use Rattle.std.proofs.Common.{◌≡◌, ◌∙◌, ap₂}
 use Rattle.std.proofs.lemmas.Result.{IfOk-weaker}
 use Rattle.clap.specs.Words.{App, with_subcommand}
 use Rattle.j39_cli.specs.Command.{bare_app, line_app}
+use Rattle.j39_cli.specs.CutCommand.{cut_app}
 use Rattle.j39_cli.specs.IdCommand.{id_app}
+use Rattle.j39_cli.specs.NameCommand.{name_app}
 use Rattle.j39_cli.specs.ReportCommand.{report_app}
 use Rattle.j39_cli.proofs.command.line.Goals as goal
 
@@ -14,8 +16,16 @@ more line command old sub new is_line is_command added = added ∙ ap₂ (λ (x 
 abbrev with_report : App
 with_report = with_subcommand bare_app report_app.top
 
+abbrev with_id : App
+with_id = with_subcommand with_report id_app.top
+
+abbrev with_name : App
+with_name = with_subcommand with_id name_app.top
+
 pub returns : goal.returns
 unfolding line_app
 returns c =
     let has_report = more bare_app report_app _ _ _ c.bare.ensures c.in_ok-report.ensures.app c.in_ok-line.ensures in
-    IfOk-weaker c.with_command-2.result _ _ (λ _ added. more with_report id_app _ _ _ has_report c.in_ok-id.ensures.app added) c.with_command-2.ensures
+    let has_id = more with_report id_app _ _ _ has_report c.in_ok-id.ensures.app c.in_ok-line-2.ensures in
+    let has_name = more with_id name_app _ _ _ has_id c.in_ok-name.ensures.app c.in_ok-line-3.ensures in
+    IfOk-weaker c.with_command-4.result _ _ (λ _ added. more with_name cut_app _ _ _ has_name c.in_ok-cut.ensures.app added) c.with_command-4.ensures

@@ -1,7 +1,7 @@
 -- The command that clap met is the one that was spelled.
 use Rattle.std.proofs.Common.{refl, codes}
 use Rattle.clap.specs.Words.{found_of}
-use Rattle.j39_cli.proofs.MetLemmas.{id_answers, is_met, report_answers}
+use Rattle.j39_cli.proofs.MetLemmas.{cut_answers, id_answers, is_met, name_answers, report_answers}
 use Rattle.j39_cli.proofs.words.task_of.Goals as goal
 
 pub returns-in-Some-clause-answer : goal.returns-in-Some-clause-answer
@@ -17,3 +17,17 @@ returns-in-Some-id-clause-answer c s met rows texts =
     id_answers s met found c.task-in-Some-id.result texts
     (is_met c.args.matches.now found (codes "id") met rows (c.in-Some-id.ensures.found.0 refl) c.in-Some-id.ensures.rows)
     c.task-in-Some-id.ensures.answer
+
+pub returns-in-Some-name-clause-answer : goal.returns-in-Some-name-clause-answer
+returns-in-Some-name-clause-answer c s met rows texts =
+    let found = found_of c.in-Some-name.given.now in
+    name_answers s met found c.task-in-Some-name.result texts
+    (is_met c.args.matches.now found (codes "name") met rows (c.in-Some-name.ensures.found.0 refl) c.in-Some-name.ensures.rows)
+    c.task-in-Some-name.ensures.answer
+
+pub returns-in-Some-cut-clause-answer : goal.returns-in-Some-cut-clause-answer
+returns-in-Some-cut-clause-answer c s met rows texts =
+    let found = found_of c.in-Some-cut.given.now in
+    cut_answers s met found c.task-in-Some-cut.result texts
+    (is_met c.args.matches.now found (codes "cut") met rows (c.in-Some-cut.ensures.found.0 refl) c.in-Some-cut.ensures.rows)
+    c.task-in-Some-cut.ensures.answer

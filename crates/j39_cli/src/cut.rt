@@ -1,0 +1,150 @@
+//! The command `cut`: its words, and how it is performed.
+ghost use Rattle.std.specs.Prelude.{◌≡◌, IfOk, Some, codes, false, true};
+ghost use Rattle.clap.specs.Words.{Text, app_of, first_value, found_of, new_app, rule_of};
+ghost use Rattle.clap.specs.declared.builder.command.Command.TheViews.{out-Command as settings_of};
+ghost use Rattle.j39_cli.specs.CommandWords as written;
+ghost use Rattle.j39_cli.specs.CutCommand.{cut_app, cut_text};
+ghost use Rattle.j39_cli.specs.Rules.{option_rule, value_rule};
+ghost use Rattle.j39_cli.specs.Shown.{IsShown};
+ghost use Rattle.j39_cli.specs.Task.{IsAnswer, IsInRange};
+ghost use Rattle.j39_cli.specs.Turn.{turn};
+
+use crate::command::{bus, option, value, with_arg};
+use crate::cut_values::{payload_of, pgn_of, source_of, stamp_of};
+use crate::shown::show_text;
+use crate::words::required;
+use crate::{Argument, Outgoing, ParseFault, Task};
+use clap::{Arg, ArgMatches, Command};
+use j39_frame::{Bus, Sink};
+use std::alloc::{AllocError, Global};
+
+const ABOUT: &str = "\
+Cuts a message of 9 to 1,785 bytes into the frames that broadcast it, and writes
+them as lines of a log: the announcement, then its packets, each 50 ms after the
+frame before it.";
+
+const HELP: &str = "\
+Example:
+  j1939 cut --source 0 --pgn 65260 --at 2.000000 --bus can0 \\
+    3146554A4136435631324C4B31323334352A
+writes four lines, of which the first is
+  (0000000002.000000) can0 1CECFF00#20120003FFECFE00";
+
+/// What clap is told of it.
+pub(crate) fn command<'a>(alloc: Global) -> Result<Command<'a>, AllocError>
+    ensures app { IfOk result (λ c. app_of c ≡ cut_app) }
+    ensures local { IfOk result (λ c. (settings_of c).has_globals ≡ false) }
+{
+    let command = with_arg(bare(alloc), source(alloc))?;
+    let command = with_arg(command, pgn(alloc))?;
+    let command = with_arg(command, at(alloc))?;
+    let command = with_arg(command, bus(alloc, true))?;
+    with_arg(command, hex(alloc))
+}
+
+fn bare<'a>(alloc: Global) -> Command<'a>
+    ensures app { app_of result ≡ new_app (codes "cut") }
+    ensures local { (settings_of result).has_globals ≡ false }
+{
+    Command::new(alloc, "cut")
+        .about("Writes the frames that broadcast a long message")
+        .long_about(ABOUT)
+        .after_help(HELP)
+}
+
+fn source<'a>(alloc: Global) -> Arg<'a>
+    ensures rule { rule_of result ≡ option_rule (codes "source") true }
+    ensures local { result.global ≡ false }
+{
+    option(alloc, "source", "N", true).help(
+        "The address that the message is sent from, 0 to 253, in decimal",
+    )
+}
+
+fn pgn<'a>(alloc: Global) -> Arg<'a>
+    ensures rule { rule_of result ≡ option_rule (codes "pgn") true }
+    ensures local { result.global ≡ false }
+{
+    option(alloc, "pgn", "N", true).help("The PGN of the message, 0 to 262143, in decimal")
+}
+
+fn at<'a>(alloc: Global) -> Arg<'a>
+    ensures rule { rule_of result ≡ option_rule (codes "at") true }
+    ensures local { result.global ≡ false }
+{
+    option(alloc, "at", "STAMP", true).help(
+        "The time of the announcement: seconds, a point and six digits, as 2.000000",
+    )
+}
+
+fn hex<'a>(alloc: Global) -> Arg<'a>
+    ensures rule { rule_of result ≡ value_rule (codes "hex") true }
+    ensures local { result.global ≡ false }
+{
+    value(alloc, "hex", "HEX", true).help(
+        "The bytes of the message, 9 to 1,785 pairs of hex digits (of either case, no 0x)",
+    )
+}
+
+/// The task that its words ask for.
+pub(crate) fn task<'a>(alloc: Global, given: &ArgMatches<'a>) -> Result<Task<'a>, ParseFault>
+    ensures answer { (source pgn at bus hex : Text)
+        → first_value (found_of given.now) (codes "source") ≡ Some source
+        → first_value (found_of given.now) (codes "pgn") ≡ Some pgn
+        → first_value (found_of given.now) (codes "at") ≡ Some at
+        → first_value (found_of given.now) (codes "bus") ≡ Some bus
+        → first_value (found_of given.now) (codes "hex") ≡ Some hex
+        → IsAnswer (written.cut source pgn at bus hex) result }
+    ensures in_range { IfOk result IsInRange }
+{
+    let source = required(alloc, given, "source")?;
+    let pgn = required(alloc, given, "pgn")?;
+    let at = required(alloc, given, "at")?;
+    let bus = required(alloc, given, "bus")?;
+    let hex = required(alloc, given, "hex")?;
+    task_of(alloc, source, pgn, at, bus, hex)
+}
+
+/// The task of these texts: the values are checked in their order, and last the end.
+fn task_of<'a>(
+    alloc: Global,
+    source: &str,
+    pgn: &str,
+    at: &str,
+    bus: &str,
+    hex: &str,
+) -> Result<Task<'a>, ParseFault>
+    ensures answer { IsAnswer (written.cut source.now pgn.now at.now bus.now hex.now) result }
+    ensures in_range { IfOk result IsInRange }
+{
+    let Some(source) = source_of(source) else {
+        return Err(ParseFault::BadValue(Argument::Source));
+    };
+    let Some(pgn) = pgn_of(pgn) else {
+        return Err(ParseFault::BadValue(Argument::Pgn));
+    };
+    let Some(at) = stamp_of(at.as_bytes()) else {
+        return Err(ParseFault::BadValue(Argument::At));
+    };
+    let Some(bus) = Bus::new(bus.as_bytes()) else {
+        return Err(ParseFault::BadValue(Argument::Bus));
+    };
+    let payload = match payload_of(alloc, hex) {
+        Ok(payload) => payload,
+        Err(fault) => return Err(fault),
+    };
+    match Outgoing::new(source, pgn, at, bus, payload) {
+        Some(outgoing) => Ok(Task::Cut(outgoing)),
+        None => Err(ParseFault::BadValue(Argument::At)),
+    }
+}
+
+/// Performs it: the lines go to `sink`, a fault to `err`.
+pub(crate) fn perform<W: Sink, E: Sink>(outgoing: &Outgoing, sink: &mut W, err: &mut E) -> u8
+    ensures shown { IsShown (cut_text outgoing.now) result
+        (turn (W.held sink.old) (W.has_failed sink.old) (W.held sink.new) (W.has_failed sink.new))
+        (turn (E.held err.old) (E.has_failed err.old) (E.held err.new) (E.has_failed err.new)) }
+    ensures silent { result ≡ 0 → err.new ≡ err.old }
+{
+    show_text(outgoing.lines().as_slice(), sink, err)
+}
