@@ -45,17 +45,17 @@ fn bare<'a>(alloc: Global) -> Command<'a>
 {
     Command::new(alloc, "j1939")
         .version(VERSION)
-        .about("Reads logs of a J1939 bus, as candump -l writes them.")
+        .about("Reads and writes logs of a J1939 bus, in the form of candump -l.")
         .after_help(LINE_HELP)
         .subcommand_required(true)
 }
 
-/// `--bus B`, which most commands take.
-pub(crate) fn bus<'a>(alloc: Global, is_required: bool) -> Arg<'a>
-    ensures rule { rule_of result ≡ option_rule (codes "bus") is_required }
+/// `--bus B`, which each command takes that reads a log.
+pub(crate) fn bus<'a>(alloc: Global) -> Arg<'a>
+    ensures rule { rule_of result ≡ option_rule (codes "bus") false }
     ensures local { result.global ≡ false }
 {
-    option(alloc, "bus", "B", is_required).help(
+    option(alloc, "bus", "B", false).help(
         "The interface to read, as can0; without it, that of the first frame in the log",
     )
 }

@@ -9,7 +9,7 @@ ghost use Rattle.j39_cli.specs.Shown.{IsShown};
 ghost use Rattle.j39_cli.specs.Task.{IsAnswer, IsInRange};
 ghost use Rattle.j39_cli.specs.Turn.{turn};
 
-use crate::command::{bus, option, value, with_arg};
+use crate::command::{option, value, with_arg};
 use crate::cut_values::{payload_of, pgn_of, source_of, stamp_of};
 use crate::shown::show_text;
 use crate::words::required;
@@ -38,7 +38,7 @@ pub(crate) fn command<'a>(alloc: Global) -> Result<Command<'a>, AllocError>
     let command = with_arg(bare(alloc), source(alloc))?;
     let command = with_arg(command, pgn(alloc))?;
     let command = with_arg(command, at(alloc))?;
-    let command = with_arg(command, bus(alloc, true))?;
+    let command = with_arg(command, bus(alloc))?;
     with_arg(command, hex(alloc))
 }
 
@@ -75,6 +75,13 @@ fn at<'a>(alloc: Global) -> Arg<'a>
     option(alloc, "at", "STAMP", true).help(
         "The time of the announcement: seconds, a point and six digits, as 2.000000",
     )
+}
+
+fn bus<'a>(alloc: Global) -> Arg<'a>
+    ensures rule { rule_of result ≡ option_rule (codes "bus") true }
+    ensures local { result.global ≡ false }
+{
+    option(alloc, "bus", "B", true).help("The interface that the lines name, as can0")
 }
 
 fn hex<'a>(alloc: Global) -> Arg<'a>

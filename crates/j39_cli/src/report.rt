@@ -49,7 +49,7 @@ pub(crate) fn command<'a>(alloc: Global) -> Result<Command<'a>, AllocError>
         .about("Writes the parameter values in a log")
         .long_about(ABOUT)
         .after_help(HELP);
-    let command = with_arg(command, bus(alloc, false))?;
+    let command = with_arg(command, bus(alloc))?;
     with_arg(command, file(alloc))
 }
 

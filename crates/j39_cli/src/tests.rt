@@ -195,7 +195,7 @@ fn says_how_it_is_used(rt: HostRuntime) -> Result<(), Fail> {
         (
             &["j1939", "--help"],
             0,
-            "Reads logs of a J1939 bus, as candump -l writes them.",
+            "Reads and writes logs of a J1939 bus, in the form of candump -l.",
             "",
         ),
         (

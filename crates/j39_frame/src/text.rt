@@ -11,7 +11,7 @@ ghost use Rattle.j39_frame.specs.Text.{HasStampParts, IsStampText, HasFrameParts
 use crate::{Id, Stamp};
 use arrayvec::ArrayVec;
 
-/// The number that decimal digits write.
+/// The number that at most ten decimal digits write, which needs no look for overflow.
 fn number(digits: &[u8]) -> Option<u64>
     requires { length digits.now ≤ 10 }
     ensures value { SomeIff result (AllDigits 10 digits.now) (digits_value 10 digits.now) }
