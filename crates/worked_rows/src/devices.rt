@@ -11,10 +11,10 @@ const LOG: &[u8] = b"(0000000001.000000) can0 18EEFF00#3412400100000080\n\
     (0000000001.010000) can0 0CF00400#F0A096E02EFFFFFF\n\
     (0000000001.020000) can0 0CF00400#F0FFFFE82EFFFFFF\n";
 
-const TEXT: &[u8] = b"(0000000001.010000) 00 ---------------- 61444 512 35 %\n\
-    (0000000001.010000) 00 ---------------- 61444 513 25 %\n\
-    (0000000001.010000) 00 ---------------- 61444 190 1500.000 rpm\n\
-    (0000000001.020000) 00 ---------------- 61444 190 1501.000 rpm\n";
+const TEXT: &[u8] = b"(0000000001.010000) 00 8000000001401234 61444 512 35 %\n\
+    (0000000001.010000) 00 8000000001401234 61444 513 25 %\n\
+    (0000000001.010000) 00 8000000001401234 61444 190 1500.000 rpm\n\
+    (0000000001.020000) 00 8000000001401234 61444 190 1501.000 rpm\n";
 
 /// The lines of `TEXT` that the first two lines of `LOG` have.
 const FIRST: usize = TEXT.len() - 63;
@@ -158,10 +158,7 @@ fn faults_of_writer_and_reader(rt: HostRuntime) -> Result<(), Fail> {
     assert_eq!(rt; err.written(), b"j1939: read failed\n".as_slice());
     assert!(rt; sink.written().is_empty());
 
-    let (mut sink, mut err) = (
-        room_for(alloc, 300)?.failing_flush(),
-        room_for(alloc, 80)?,
-    );
+    let (mut sink, mut err) = (room_for(alloc, 300)?.failing_flush(), room_for(alloc, 80)?);
     let status = report_over(alloc, &mut log_in(alloc, 4096)?, &mut sink, &mut err)?;
     assert_eq!(rt; status, 1);
     assert_eq!(rt; err.written(), b"j1939: write failed\n".as_slice());

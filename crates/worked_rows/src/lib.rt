@@ -2,12 +2,20 @@
 #![tactic(auto)]
 
 #[cfg(test)]
+mod broadcasts;
+#[cfg(test)]
+mod claims;
+#[cfg(test)]
 mod devices;
+#[cfg(test)]
+mod frames;
 #[cfg(test)]
 mod identifiers;
 #[cfg(test)]
 mod lines;
 #[cfg(test)]
 mod support;
+#[cfg(test)]
+mod transfers;
 #[cfg(test)]
 mod values;

@@ -1,5 +1,6 @@
 //! Logs and their reports.
-use crate::support::reports;
+use crate::frames::{ANNOUNCED, FIRST, SECOND, THIRD, VIN_OF_NOBODY};
+use crate::support::{reports, shows};
 use std::test::Fail;
 
 #[test]
@@ -81,6 +82,29 @@ fn nine_decimals(rt: HostRuntime) -> Result<(), Fail> {
         "(1.000000999) can0 0CF00400#F0FFFFE02EFFFFFF\n\
          (1.0000009) can0 0CF00400#F0FFFFE02EFFFFFF\n",
         "(0000000001.000000) 00 ---------------- 61444 190 1500.000 rpm\n",
-        [1, 0, 1, 1, 1],
+        "frames 1 other 0 unread 1 messages 1 lines 1",
+    )?;
+    // A broadcast's limit of 750 ms is that of the cut stamps.
+    shows(
+        &rt,
+        &[
+            ("2.000000", ANNOUNCED),
+            ("2.750000999", FIRST),
+            ("3.500000", SECOND),
+            ("4.250000", THIRD),
+        ],
+        &[("4.250000", VIN_OF_NOBODY)],
+        "frames 4 other 0 unread 0 messages 1 lines 1",
+    )?;
+    shows(
+        &rt,
+        &[
+            ("2.000000", ANNOUNCED),
+            ("2.750001000", FIRST),
+            ("3.500000", SECOND),
+            ("4.250000", THIRD),
+        ],
+        &[],
+        "frames 4 other 0 unread 0 messages 0 lines 0",
     )
 }

@@ -76,8 +76,41 @@ pub(crate) fn reads(
         want.push_str(value)?;
         want.push_str("\n")?;
     }
-    let counts = format!(
-        in alloc; "frames 1 other 0 unread 0 messages 1 lines {}", values.len()
+    let counts = format!(in alloc;
+        "frames 1 other 0 unread 0 messages 1 lines {}",
+        values.len()
     )?;
     reports(rt, log.as_str(), want.as_str(), counts.as_str())
+}
+
+/// The report of the log of these frames has these lines and counts. Each frame and each line
+/// stands behind its stamp, which is below ten seconds.
+pub(crate) fn shows(
+    rt: &(impl Abort + AllocGlobal),
+    frames: &[(&str, &str)],
+    lines: &[(&str, &str)],
+    counts: &str,
+) -> Result<(), Fail> {
+    let alloc = rt.alloc();
+    let log = stamped(alloc, "can0 ", frames)?;
+    let want = stamped(alloc, "", lines)?;
+    reports(rt, log.as_str(), want.as_str(), counts)
+}
+
+/// Lines of a stamp, some words and the rest.
+pub(crate) fn stamped(
+    alloc: Global,
+    words: &str,
+    rows: &[(&str, &str)],
+) -> Result<String, AllocError> {
+    let mut text = String::new(alloc);
+    for (stamp, rest) in rows {
+        text.push_str("(000000000")?;
+        text.push_str(stamp)?;
+        text.push_str(") ")?;
+        text.push_str(words)?;
+        text.push_str(rest)?;
+        text.push_str("\n")?;
+    }
+    Ok(text)
 }
