@@ -50,6 +50,7 @@ impl Outgoing {
     {
         let cut = Cut::new(source, pgn, payload.as_slice())?;
         let last = moment_after(at, u16::from(cut.packets()));
+        // What `bytes` promises is all that the proof knows of a bus: that its name is one.
         let _name = bus.bytes();
         if last >= Stamp::LIMIT {
             return None;
