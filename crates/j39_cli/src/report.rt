@@ -32,7 +32,8 @@ At the end the counts go to standard error:
   other     lines that hold no such frame: of another bus, standard or remote
             frames, CAN FD, error frames
   unread    lines of no form that candump writes
-  messages  messages of the groups that are reported
+  messages  messages that were heard: in packets of any group, in one frame of the
+            groups that are reported
   lines     lines written
 
 Example:
