@@ -9,24 +9,30 @@ use std::test::Fail;
 // The answer to a command line, in short.
 fn answer(alloc: Global, words: &[&str]) -> Result<String, AllocError> {
     match parse(alloc, words) {
-        Ok(Task::Report(bus, file)) => {
-            let bus = match &bus {
+        Ok(task) => told(alloc, &task),
+        Err(ParseFault::Memory) => format!(in alloc; "memory"),
+        Err(ParseFault::Usage(_)) => format!(in alloc; "usage"),
+        Err(ParseFault::BadValue(argument)) => format!(in alloc; "bad {argument}"),
+        Err(ParseFault::Help(_)) => format!(in alloc; "help"),
+    }
+}
+
+fn told(alloc: Global, task: &Task<'_>) -> Result<String, AllocError> {
+    match task {
+        Task::Report(bus, file) => {
+            let bus = match bus {
                 Some(bus) => bus.bytes(),
                 None => b"-",
             };
-            let file = match &file {
+            let file = match file {
                 Some(file) => file.as_str(),
                 None => "-",
             };
             format!(in alloc; "report {} {file}", String::from_utf8_lossy(alloc, bus)?)
         }
-        Ok(Task::Id(id)) => format!(in alloc; "id {:08X}", id.raw()),
-        Ok(Task::Name(name)) => format!(in alloc; "name {:016X}", name.raw()),
-        Ok(Task::Cut(_)) => format!(in alloc; "cut"),
-        Err(ParseFault::Memory) => format!(in alloc; "memory"),
-        Err(ParseFault::Usage(_)) => format!(in alloc; "usage"),
-        Err(ParseFault::BadValue(argument)) => format!(in alloc; "bad {argument}"),
-        Err(ParseFault::Help(_)) => format!(in alloc; "help"),
+        Task::Id(id) => format!(in alloc; "id {:08X}", id.raw()),
+        Task::Name(name) => format!(in alloc; "name {:016X}", name.raw()),
+        Task::Cut(_) => format!(in alloc; "cut"),
     }
 }
 
