@@ -26,8 +26,8 @@ abbrev pub is_key : Key → Bool
 is_key (Broadcast s) = nat_lt s null_address
 is_key (Directed s d) = nat_lt s null_address && nat_lt d null_address
 
--- how much later than the frame of a message before it a frame of it may be, in microseconds: a broadcast T1 (J1939-21,
--- 5.13.3), a directed message 1,250 ms (own)
+-- how much later than the frame of a message before it a frame of it may be, in microseconds: 750 ms of a broadcast
+-- (J1939-21, 5.13.3), 1,250 ms of a directed message (own)
 abbrev pub limit : Key → ℕ
 limit (Broadcast s) = 750000
 limit (Directed s d) = 1250000

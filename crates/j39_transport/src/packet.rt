@@ -9,7 +9,7 @@ use crate::session::Session;
 use crate::table::{PAIRS, Place, Table};
 use j39_frame::Stamp;
 
-/// The most microseconds between two frames of a broadcast (T1).
+/// The most microseconds between two frames of a broadcast: 750 ms (J1939-21, 5.13.3).
 pub(crate) const BROADCAST_LIMIT: u64 = 750_000;
 
 /// The most microseconds between two frames of a directed message (own).
