@@ -1,20 +1,12 @@
 -- The bus of a run, its frames and its other lines, as lines follow one another.
-use Rattle.std.proofs.Common.{◌≡◌, ◌≢◌, ◌<◌, ◌+◌, ◌^◌, ℕ, List, [], ◌∷◌, ◌++◌, Option, Some, None, Bool, true, false, ◌==◌, length, refl, sym, ap, ap₂, ◌∙◌, subst, arith, append-nil, append_assoc, length-append, inl, inr}
+use Rattle.std.proofs.Common.{◌≡◌, ◌+◌, ℕ, List, [], ◌∷◌, ◌++◌, Option, Some, None, Bool, refl, sym, ap, ap₂, ◌∙◌, arith, append_assoc}
 use Rattle.std.specs.Prelude.{unwrap_or, count_by}
-use Rattle.std.specs.List.{AllByRecursion, filter_map, cons_option, flat_map}
-use Rattle.std.specs.Str.{bytes_eq}
-use Rattle.std.specs.Io.KnownBytes.{Appends, Keeps}
-use Rattle.std.proofs.KnownBytes.{Appends-trans, Appends-nil}
+use Rattle.std.specs.List.{AllByRecursion, filter_map}
 use Rattle.std.proofs.lemmas.List.Elements.{filter_map-append}
-use Rattle.std.proofs.lemmas.Bool.{eqb-true, eqb-false}
-use Rattle.std.proofs.lemmas.Grind.{flat_map-append, common_steps}
+use Rattle.std.proofs.lemmas.Grind.{common_steps}
 use Rattle.j39_frame.specs.Frame.{FrameRecord}
-use Rattle.j39_frame.specs.Log.{HasNoNewline, ended, IsLog, SpellEach, bus_of, first_bus, frame_on, frames_of, is_other_on, is_unread, others_of, unread_of}
+use Rattle.j39_frame.specs.Log.{HasNoNewline, ended, SpellEach, bus_of, first_bus, frame_on, frames_of, is_other_on, others_of}
 use Rattle.j39_frame.specs.Spelled.{Spelled, frame, other, unread, blank, Spells}
-use Rattle.j39_frame.specs.Device.{AppendsFront}
-use Rattle.j39_frame.proofs.LogLemmas.{first_spelled, same_log}
-use Rattle.j39_frame.proofs.SplitterLemmas.{no_newline_append}
-use Rattle.j39_frame.proofs.DeviceLemmas.{Appends-kept, front_within}
 
 pub bus_of-frame : (bus : Option (List ℕ)) (name : List ℕ) (f : FrameRecord) → bus_of bus (frame name f ∷ []) ≡ Some (unwrap_or bus name)
 bus_of-frame None name f = refl

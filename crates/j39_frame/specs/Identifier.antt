@@ -1,5 +1,6 @@
 -- The fields of a 29-bit identifier, by division and remainder (J1939-21, 5.2).
 use Rattle.std.specs.Prelude.{◌<◌, ◌≡◌, ℕ, ◌+◌, ◌*◌, ◌/◌, ◌%◌, ◌^◌, nat_lt, Option, Some, None, if◌then◌else◌}
+use Rattle.j39_frame.specs.Network.{IsDirectedGroup}
 use Rattle.j39_frame.specs.declared.identifier.Id.{Id}
 
 -- the 29 bits of an identifier
@@ -34,4 +35,4 @@ destination_of raw = if nat_lt (pf_of raw) 240 then Some (ps_of raw) else None
 
 -- what an identifier is composed of: a priority of three bits, and a group whose low byte is 0 where PF is below 240
 abbrev pub CanCompose : ℕ → ℕ → Type 0
-CanCompose priority pgn = (priority < 8) × (pgn / 256 % 256 < 240 → pgn % 256 ≡ 0)
+CanCompose priority pgn = (priority < 8) × (IsDirectedGroup pgn → pgn % 256 ≡ 0)

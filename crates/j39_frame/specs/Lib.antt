@@ -1,13 +1,14 @@
 pub mod Chars
 pub mod Stamp
 pub mod Pgn
+pub mod Network
 pub mod Identifier
 pub mod Address
-pub mod Network
 pub mod Bus
 pub mod Frame
 pub mod Device
 pub mod Told
+pub mod Trial
 pub mod Fields
 pub mod Shape
 pub mod Text

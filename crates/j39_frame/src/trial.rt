@@ -1,5 +1,7 @@
 //! A device for tests: it gives bytes in small pieces, takes as many as it has room for, counts its
 //! calls, and fails where it is told to.
+ghost use Rattle.std.specs.Prelude.{◌≡◌, ◌≤◌, IfOk};
+
 use std::alloc::{AllocError, Global};
 use std::io::{self, ErrorKind, Read, Write};
 
@@ -12,8 +14,8 @@ pub enum Full {
     TakesNone,
 }
 
-/// A reader and a writer of std for tests, to be put into a `Told`. No contract sees its bytes.
-/// Making one takes all the memory that it uses.
+/// A reader and a writer of std for tests, to be put into a `Told`. Its contracts say what its calls set
+/// and count, and not which bytes a read gives or a write takes. Making one takes all its memory.
 #[derive(Drop)]
 pub struct Trial {
     given: Vec<u8>,
@@ -29,8 +31,15 @@ pub struct Trial {
 }
 
 impl Trial {
+    ghost use Rattle.j39_frame.specs.Trial.{IsFresh, trial_given, trial_room, trial_reads, trial_flushes, trial_held, trial_written};
+    ghost use Rattle.j39_frame.specs.Trial.{in_pieces_of, with_failing_read, with_full, with_failing_flush};
+
     /// A device that gives these bytes, as many at once as are asked for, and takes `room` bytes.
-    pub fn new(alloc: Global, bytes: &[u8], room: usize) -> Result<Trial, AllocError> {
+    pub fn new(alloc: Global, bytes: &[u8], room: usize) -> Result<Trial, AllocError>
+        ensures given { IfOk result (λ trial. trial_given trial ≡ bytes.now) }
+        ensures room { IfOk result (λ trial. trial_room trial ≡ room) }
+        ensures fresh { IfOk result (λ trial. IsFresh trial) }
+    {
         let mut given = Vec::new(alloc);
         given.extend_from_slice(bytes)?;
         Ok(Trial {
@@ -48,41 +57,55 @@ impl Trial {
     }
 
     /// It gives at most so many bytes a read.
-    pub fn in_pieces(mut self, most: usize) -> Trial {
+    pub fn in_pieces(mut self, most: usize) -> Trial
+        ensures { result ≡ in_pieces_of most self }
+    {
         self.most = most;
         self
     }
 
     /// Its nth read fails, counted from 1, and no other.
-    pub fn failing_read(mut self, nth: u64) -> Trial {
+    pub fn failing_read(mut self, nth: u64) -> Trial
+        ensures { result ≡ with_failing_read nth self }
+    {
         self.failing_read = nth;
         self
     }
 
     /// What it answers to a write once its room is used up.
-    pub fn when_full(mut self, full: Full) -> Trial {
+    pub fn when_full(mut self, full: Full) -> Trial
+        ensures { result ≡ with_full full self }
+    {
         self.full = full;
         self
     }
 
     /// Each flush fails.
-    pub fn failing_flush(mut self) -> Trial {
+    pub fn failing_flush(mut self) -> Trial
+        ensures { result ≡ with_failing_flush self }
+    {
         self.fails_flush = true;
         self
     }
 
     /// How often it was read, faults and the end included.
-    pub fn reads(&self) -> u64 {
+    pub fn reads(&self) -> u64
+        ensures { result ≡ trial_reads self.now }
+    {
         self.reads
     }
 
     /// How often it was flushed, faults included.
-    pub fn flushes(&self) -> u64 {
+    pub fn flushes(&self) -> u64
+        ensures { result ≡ trial_flushes self.now }
+    {
         self.flushes
     }
 
     /// The bytes that it took.
-    pub fn written(&self) -> &[u8] {
+    pub fn written(&self) -> &[u8]
+        ensures { trial_held self.now ≤ trial_room self.now → result.now ≡ trial_written self.now }
+    {
         match self.room.get(..self.held) {
             Some(written) => written,
             None => &[],
