@@ -9,7 +9,7 @@ use Rattle.clap.specs.declared.parser.matches.Found.{Found}
 use Rattle.clap.specs.declared.parser.matches.ArgMatches.{ArgMatches}
 use Rattle.clap.specs.declared.parser.matches.ArgMatches.TheViews.{out-ArgMatches, out-SubCommand}
 use Rattle.clap.specs.declared.parser.matches.SubCommand.{SubCommand}
-use Rattle.j39_cli.specs.CommandWords.{HasTexts, CommandWords, cut, id, name, report}
+use Rattle.j39_cli.specs.CommandWords.{HasTexts, CommandWords, cut, id, name, nodes, report}
 use Rattle.j39_cli.specs.Task.{Answer, IsAnswer}
 use Rattle.j39_cli.specs.declared.task.ParseFault.TheVariants.{Memory}
 
@@ -17,6 +17,8 @@ use Rattle.j39_cli.specs.declared.task.ParseFault.TheVariants.{Memory}
 pub memory_answers : (s : CommandWords) → IsAnswer s (Err Memory)
 memory_answers (report None file) = tt
 memory_answers (report (Some bus) file) = record { in_range = λ _. tt; wrong = λ _. tt }
+memory_answers (nodes None file) = tt
+memory_answers (nodes (Some bus) file) = record { in_range = λ _. tt; wrong = λ _. tt }
 memory_answers (id hex) = record { in_range = λ _. tt; wrong = λ _. tt }
 memory_answers (name hex) = record { in_range = λ _. tt; wrong = λ _. tt }
 memory_answers (cut source pgn at bus hex) = record {
@@ -59,6 +61,7 @@ is_met m found called met rows is_name is_found =
 
 abbrev name_of : CommandWords → Text
 name_of (report bus file) = codes "report"
+name_of (nodes bus file) = codes "nodes"
 name_of (id hex) = codes "id"
 name_of (name hex) = codes "name"
 name_of (cut source pgn at bus hex) = codes "cut"
@@ -73,6 +76,13 @@ report_answers (report bus file) met found r texts is answer =
     subst (λ (f : Option Text). IsAnswer (report bus f) r) (is.values (codes "file") ∙ texts.2)
     (subst (λ (b : Option Text). IsAnswer (report b (first_value found (codes "file"))) r) (is.values (codes "bus") ∙ texts.1) answer)
 report_answers s met found r texts is answer = absurd (apart met.0 (name_of s) (codes "report") texts.0 is.name_is refl refl)
+
+pub nodes_answers : (s : CommandWords) (met : Text × List Row) (found : Found) (r : Answer) → HasTexts s met → IsMet found (codes "nodes") met
+    → IsAnswer (nodes (first_value found (codes "bus")) (first_value found (codes "file"))) r → IsAnswer s r
+nodes_answers (nodes bus file) met found r texts is answer =
+    subst (λ (f : Option Text). IsAnswer (nodes bus f) r) (is.values (codes "file") ∙ texts.2)
+    (subst (λ (b : Option Text). IsAnswer (nodes b (first_value found (codes "file"))) r) (is.values (codes "bus") ∙ texts.1) answer)
+nodes_answers s met found r texts is answer = absurd (apart met.0 (name_of s) (codes "nodes") texts.0 is.name_is refl refl)
 
 pub id_answers : (s : CommandWords) (met : Text × List Row) (found : Found) (r : Answer) → HasTexts s met → IsMet found (codes "id") met
     → ((hex : Text) → first_value found (codes "hex") ≡ Some hex → IsAnswer (id hex) r) → IsAnswer s r

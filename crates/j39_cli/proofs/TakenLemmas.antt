@@ -8,8 +8,8 @@ use Rattle.j39_cli.specs.Command.{line_app}
 use Rattle.j39_cli.specs.CutCommand.{cut_app}
 use Rattle.j39_cli.specs.IdCommand.{id_app}
 use Rattle.j39_cli.specs.NameCommand.{name_app}
-use Rattle.j39_cli.specs.ReportCommand.{report_app}
-use Rattle.j39_cli.specs.CommandWords.{HasTexts, HasValues, CommandWords, cut, id, name, report, words_of}
+use Rattle.j39_cli.specs.LogCommand.{nodes_app, report_app}
+use Rattle.j39_cli.specs.CommandWords.{HasTexts, HasValues, CommandWords, cut, id, name, nodes, report, words_of}
 use Rattle.j39_cli.proofs.PartLemmas.{AreParts, Enters, Part, built_takes-enters, entered-enters, given, held_after, level_passes-parts, parts_pass, rows_after-parts, takes_parts, text_of, written}
 
 pub line_is_simple : is_simple line_app ≡ true
@@ -50,6 +50,10 @@ enters_report : Enters (built line_app) (codes "report") (leaf_of report_app)
 unfolding clap_on_literals line_app
 enters_report = record { step = refl; passes = refl; found = refl; checks = refl }
 
+enters_nodes : Enters (built line_app) (codes "nodes") (leaf_of nodes_app)
+unfolding clap_on_literals line_app
+enters_nodes = record { step = refl; passes = refl; found = refl; checks = refl }
+
 enters_id : Enters (built line_app) (codes "id") (leaf_of id_app)
 unfolding clap_on_literals line_app
 enters_id = record { step = refl; passes = refl; found = refl; checks = refl }
@@ -71,6 +75,14 @@ is_read program (report None (Some file)) values = read program (codes "report")
 is_read program (report (Some bus) None) values = read program (codes "report") report_app enters_report
     (written (codes "--bus") ∷ given bus ∷ []) _ (tt, (values.0, tt)) refl refl (refl, refl, refl)
 is_read program (report (Some bus) (Some file)) values = read program (codes "report") report_app enters_report
+    (written (codes "--bus") ∷ given bus ∷ given file ∷ []) _ (tt, (values.0, (values.1, tt))) refl refl (refl, refl, refl)
+is_read program (nodes None None) values = read program (codes "nodes") nodes_app enters_nodes
+    [] _ tt refl refl (refl, refl, refl)
+is_read program (nodes None (Some file)) values = read program (codes "nodes") nodes_app enters_nodes
+    (given file ∷ []) _ (values.1, tt) refl refl (refl, refl, refl)
+is_read program (nodes (Some bus) None) values = read program (codes "nodes") nodes_app enters_nodes
+    (written (codes "--bus") ∷ given bus ∷ []) _ (tt, (values.0, tt)) refl refl (refl, refl, refl)
+is_read program (nodes (Some bus) (Some file)) values = read program (codes "nodes") nodes_app enters_nodes
     (written (codes "--bus") ∷ given bus ∷ given file ∷ []) _ (tt, (values.0, (values.1, tt))) refl refl (refl, refl, refl)
 is_read program (id hex) values = read program (codes "id") id_app enters_id
     (given hex ∷ []) _ (values, tt) refl refl (refl, refl)

@@ -3,7 +3,7 @@ pub mod Shown
 pub mod Rules
 pub mod CommandWords
 pub mod Command
-pub mod ReportCommand
+pub mod LogCommand
 pub mod IdCommand
 pub mod NameCommand
 pub mod CutCommand

@@ -21,12 +21,14 @@ use Rattle.j39_cli.specs.declared.task.ParseFault.TheVariants as fault
 -- a command with its values, as numbers and lists of bytes
 pub data Asked : Type 0 where
   report : Option (List ℕ) → Option (List ℕ) → Asked
+  nodes : Option (List ℕ) → Option (List ℕ) → Asked
   id : ℕ → Asked
   name : ℕ → Asked
   cut : OutgoingRecord → Asked
 
 abbrev pub asked_of : Task → Asked
 asked_of (task.Report bus file) = report bus file
+asked_of (task.Nodes bus file) = nodes bus file
 asked_of (task.Id i) = id (id_raw i)
 asked_of (task.Name n) = name (name_raw n)
 asked_of (task.Cut o) = cut o
@@ -34,6 +36,7 @@ asked_of (task.Cut o) = cut o
 -- FILE, where the task has one
 abbrev pub file_of : Task → Option (List ℕ)
 file_of (task.Report bus file) = file
+file_of (task.Nodes bus file) = file
 file_of (task.Id i) = None
 file_of (task.Name n) = None
 file_of (task.Cut o) = None
@@ -41,6 +44,7 @@ file_of (task.Cut o) = None
 -- the values of a task are those that the command line takes
 abbrev pub IsInRange : Task → Type 0
 IsInRange (task.Report bus file) = ForSome bus IsBusName
+IsInRange (task.Nodes bus file) = ForSome bus IsBusName
 IsInRange (task.Id i) = id_raw i < 2 ^ 29
 IsInRange (task.Name n) = name_raw n < 2 ^ 64
 IsInRange (task.Cut o) = IsOutgoing o
@@ -100,6 +104,7 @@ IsCutAnswer source pgn at bus hex r =
 -- the values are checked in the order of the words, and the first wrong one is the answer
 abbrev pub IsAnswer : CommandWords → Answer → Type 0
 IsAnswer (written.report bus file) r = IsBusChecked bus (IsTask (report bus file)) r
+IsAnswer (written.nodes bus file) r = IsBusChecked bus (IsTask (nodes bus file)) r
 IsAnswer (written.id hex) r = IsChecked (IsIdText hex) argument.Hex (IsTask (id (digits_value 16 hex))) r
 IsAnswer (written.name hex) r = IsChecked (IsNameText hex) argument.Hex (IsTask (name (digits_value 16 hex))) r
 IsAnswer (written.cut source pgn at bus hex) r = IsCutAnswer source pgn at bus hex r

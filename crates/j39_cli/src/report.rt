@@ -2,19 +2,18 @@
 ghost use Rattle.std.specs.Prelude.{◌≡◌, IfOk, codes, false};
 ghost use Rattle.clap.specs.Words.{app_of, first_value, found_of};
 ghost use Rattle.clap.specs.declared.builder.command.Command.TheViews.{out-Command as settings_of};
+ghost use Rattle.j39_listen.specs.Output.{MakesReport};
 ghost use Rattle.j39_cli.specs.CommandWords as written;
-ghost use Rattle.j39_cli.specs.ReportCommand.{IsReported, fault_text, report_app};
+ghost use Rattle.j39_cli.specs.LogCommand.{IsRun, report_app};
 ghost use Rattle.j39_cli.specs.Task.{IsAnswer, IsInRange};
 ghost use Rattle.j39_cli.specs.Turn.{turn};
 
-use crate::command::{bus, file, with_arg};
-use crate::fields::counts_line;
-use crate::refusal::{complain, show};
+use crate::log::{LOG_LIMIT, copy_of, tell_counts, tell_fault, with_log};
 use crate::words::bus_value;
 use crate::{ParseFault, Task, WordText};
 use clap::{ArgMatches, Command};
 use j39_frame::{Bus, Sink, Source};
-use j39_listen::{RunFault, run};
+use j39_listen::run;
 use std::alloc::{AllocError, Global};
 
 const ABOUT: &str = "\
@@ -50,8 +49,7 @@ pub(crate) fn command<'a>(alloc: Global) -> Result<Command<'a>, AllocError>
         .about("Writes the parameter values in a log")
         .long_about(ABOUT)
         .after_help(HELP);
-    let command = with_arg(command, bus(alloc))?;
-    with_arg(command, file(alloc))
+    with_log(alloc, command)
 }
 
 /// The task that its words ask for.
@@ -67,9 +65,6 @@ pub(crate) fn task<'a>(given: &ArgMatches<'a>) -> Result<Task<'a>, ParseFault>
     }
 }
 
-/// The most bytes of a log that the program reads.
-const LOG_LIMIT: u64 = 17_179_869_184;
-
 /// Performs it: the report goes to `sink`, the counts or what failed to `err`.
 pub(crate) fn perform<R: Source, W: Sink, E: Sink>(
     alloc: Global,
@@ -78,40 +73,19 @@ pub(crate) fn perform<R: Source, W: Sink, E: Sink>(
     sink: &mut W,
     err: &mut E,
 ) -> u8
-    ensures { IsReported bus.now result
+    ensures { IsRun MakesReport bus.now result
         (turn (R.remaining source.old) (R.has_failed source.old) (R.remaining source.new) (R.has_failed source.new))
         (turn (W.held sink.old) (W.has_failed sink.old) (W.held sink.new) (W.has_failed sink.new))
         (turn (E.held err.old) (E.has_failed err.old) (E.held err.new) (E.has_failed err.new)) }
 {
     match run(alloc, source, sink, copy_of(bus), LOG_LIMIT) {
         Ok(counts) => {
-            show(err, counts_line(counts).as_slice());
+            tell_counts(counts, err);
             0
         }
         Err(fault) => {
-            complain(err, words_of(fault), "");
+            tell_fault(fault, err);
             1
         }
-    }
-}
-
-fn copy_of(bus: &Option<Bus>) -> Option<Bus>
-    ensures { result ≡ bus.now }
-{
-    match bus {
-        Some(bus) => Bus::new(bus.bytes()),
-        None => None,
-    }
-}
-
-/// What is said of a fault: the program alone knows its limit.
-fn words_of(fault: RunFault) -> &'static str
-    ensures { result.now ≡ fault_text fault }
-{
-    match fault {
-        RunFault::TooLong => "input longer than 17179869184 bytes",
-        RunFault::Memory => fault.words(),
-        RunFault::Read => fault.words(),
-        RunFault::Write => fault.words(),
     }
 }

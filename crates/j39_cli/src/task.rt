@@ -44,6 +44,8 @@ impl<'a> WordText<'a> {
 pub enum Task<'a> {
     /// The report of a log: the bus to read, where one is named, and FILE, where it is given.
     Report(Option<Bus>, Option<WordText<'a>>),
+    /// Who holds which address after a log: the bus to read, and FILE, as of a report.
+    Nodes(Option<Bus>, Option<WordText<'a>>),
     /// The fields of an identifier.
     Id(Id),
     /// The fields of a NAME.
@@ -60,6 +62,8 @@ impl<'a> Task<'a> {
         match self {
             Task::Report(_, Some(file)) => Some(file.as_str()),
             Task::Report(_, None) => None,
+            Task::Nodes(_, Some(file)) => Some(file.as_str()),
+            Task::Nodes(_, None) => None,
             Task::Id(_) => None,
             Task::Name(_) => None,
             Task::Cut(_) => None,

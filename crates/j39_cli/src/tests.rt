@@ -1,7 +1,7 @@
 ghost use Rattle.std.specs.Prelude.{None, false};
 
-use crate::{Argument, ParseFault, Task, parse, refuse, unopened};
-use j39_frame::{DeviceFault, Sink, Told};
+use crate::{Argument, ParseFault, Task, WordText, parse, refuse, unopened};
+use j39_frame::{Bus, DeviceFault, Sink, Told};
 use std::alloc::{AllocError, Global};
 use std::process::Abort;
 use std::test::Fail;
@@ -19,21 +19,48 @@ fn answer(alloc: Global, words: &[&str]) -> Result<String, AllocError> {
 
 fn told(alloc: Global, task: &Task<'_>) -> Result<String, AllocError> {
     match task {
-        Task::Report(bus, file) => {
-            let bus = match bus {
-                Some(bus) => bus.bytes(),
-                None => b"-",
-            };
-            let file = match file {
-                Some(file) => file.as_str(),
-                None => "-",
-            };
-            format!(in alloc; "report {} {file}", String::from_utf8_lossy(alloc, bus)?)
-        }
+        Task::Report(bus, file) => told_of_log(alloc, "report", bus, file),
+        Task::Nodes(bus, file) => told_of_log(alloc, "nodes", bus, file),
         Task::Id(id) => format!(in alloc; "id {:08X}", id.raw()),
         Task::Name(name) => format!(in alloc; "name {:016X}", name.raw()),
         Task::Cut(_) => format!(in alloc; "cut"),
     }
+}
+
+fn told_of_log(
+    alloc: Global,
+    command: &str,
+    bus: &Option<Bus>,
+    file: &Option<WordText<'_>>,
+) -> Result<String, AllocError> {
+    let bus = match bus {
+        Some(bus) => bus.bytes(),
+        None => b"-",
+    };
+    let file = match file {
+        Some(file) => file.as_str(),
+        None => "-",
+    };
+    format!(in alloc; "{command} {} {file}", String::from_utf8_lossy(alloc, bus)?)
+}
+
+#[test]
+fn reads_nodes(rt: HostRuntime) -> Result<(), Fail> {
+    let lines: [(&[&str], &str); 5] = [
+        (&["j1939", "nodes"], "nodes - -"),
+        (&["j1939", "nodes", "trip.log"], "nodes - trip.log"),
+        (
+            &["j1939", "nodes", "--bus", "can0", "trip.log"],
+            "nodes can0 trip.log",
+        ),
+        (&["j1939", "nodes", "--bus", "can 0", "log"], "bad --bus"),
+        (&["j1939", "nodes", "a", "b"], "usage"),
+    ];
+    for (words, want) in lines.iter() {
+        let met = answer(rt.alloc(), words)?;
+        assert_eq!(rt; met.as_str(), *want);
+    }
+    Ok(())
 }
 
 #[test]

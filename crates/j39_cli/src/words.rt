@@ -8,7 +8,7 @@ ghost use Rattle.j39_cli.specs.CommandWords.{CommandWords, HasTexts, HasValues, 
 ghost use Rattle.j39_cli.specs.Task.{IsAnswer, IsBusValue, IsInRange};
 
 use crate::command::line;
-use crate::{Argument, ParseFault, Task, cut, id, name, report};
+use crate::{Argument, ParseFault, Task, cut, id, name, nodes, report};
 use clap::error::ErrorKind;
 use clap::{ArgMatches, Error};
 use j39_frame::Bus;
@@ -80,6 +80,10 @@ fn task_of<'a>(alloc: Global, matches: &ArgMatches<'a>) -> Result<Task<'a>, Pars
     let cut = matches.subcommand_matches("cut");
     if let Some(given) = cut {
         return cut::task(alloc, given);
+    }
+    let nodes = matches.subcommand_matches("nodes");
+    if let Some(given) = nodes {
+        return nodes::task(given);
     }
     // clap requires a command and knows no other, so that nothing comes here.
     Err(ParseFault::Usage(String::new(alloc)))

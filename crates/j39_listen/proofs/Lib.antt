@@ -12,7 +12,9 @@ pub mod Between
 pub mod Feeding
 pub mod ListenerLemmas
 pub mod ReportLemmas
-pub mod MeetLemmas
+pub mod LineLemmas
+pub mod ReportAccount
+pub mod NodeLemmas
 pub mod RunLemmas
 pub mod StopLemmas
 pub mod PieceLemmas

@@ -1,22 +1,20 @@
 -- What a run counts.
 use Rattle.std.specs.Prelude.{◌-◌, ◌^◌, ℕ, List, length, min, Option}
-use Rattle.std.specs.List.{flat_map}
 use Rattle.j39_frame.specs.Log.{frames_of, others_of, unread_of}
 use Rattle.j39_frame.specs.Spelled.{Spelled}
-use Rattle.j39_listen.specs.Heard.{Hearing}
-use Rattle.j39_listen.specs.Report.{entries_of}
+use Rattle.j39_listen.specs.Output.{Output}
 use Rattle.j39_listen.specs.declared.counts.Counts.{Counts}
 
 -- a count that would pass 2^64 - 1 stays there
 abbrev pub capped : ℕ → ℕ
 capped n = min n (2 ^ 64 - 1)
 
--- the counts of a run over what the lines of a log spell, in whose frames this is heard
-unfoldable pub counts_of : Option (List ℕ) → List Spelled → List Hearing → Counts
-counts_of given spelled heard = record {
+-- the counts of a run over what the lines of a log spell, of whose frames this is made
+abbrev pub counts_of : Option (List ℕ) → List Spelled → Output → Counts
+counts_of given spelled output = record {
   frames = capped (length (frames_of given spelled));
   other = capped (others_of given spelled);
   unread = capped (unread_of spelled);
-  messages = capped (length heard);
-  lines = capped (length (flat_map entries_of heard));
+  messages = capped output.messages;
+  lines = capped output.lines;
 }

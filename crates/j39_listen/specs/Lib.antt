@@ -1,11 +1,16 @@
 pub mod Heard
 pub mod Forgets
 pub mod Report
+pub mod Nodes
+pub mod Output
 pub mod NextSteps
 pub mod Listening
 pub mod Shown
 pub mod Counting
 pub mod Run
 pub mod Fault
+pub mod AccountSteps
+pub mod ReportSteps
+pub mod NodeSteps
 pub mod LineSteps
 pub mod PieceSteps

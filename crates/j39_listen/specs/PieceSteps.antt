@@ -2,49 +2,63 @@
 use Rattle.std.specs.Prelude.{◌≡◌, ◌≢◌, ◌⊎◌, ◌++◌, [], ℕ, List, Option, length}
 use Rattle.std.specs.List.{AllByRecursion}
 use Rattle.std.specs.Io.KnownBytes.{Appends}
+use Rattle.j39_frame.specs.Device.{AppendsFront}
+use Rattle.j39_frame.specs.Frame.{FrameRecord}
 use Rattle.j39_frame.specs.Log.{HasNoNewline, ended, SpellEach, bus_of, frames_of}
 use Rattle.j39_frame.specs.Spelled.{Spelled, Spells}
 use Rattle.j39_frame.specs.Splitter.{HasBegun, EndsLine}
 use Rattle.j39_frame.specs.declared.splitter.Splitter.{Splitter}
 use Rattle.j39_listen.specs.Counting.{counts_of}
-use Rattle.j39_listen.specs.Heard.{AreHeard, Hearing}
-use Rattle.j39_listen.specs.LineSteps.{MeetsLine, StopsLine, sum_of}
-use Rattle.j39_listen.specs.Listening.{Hears}
-use Rattle.j39_listen.specs.Report.{report_text}
+use Rattle.j39_listen.specs.LineSteps.{MeetsLine, StopsLine, sum_of, tally_of}
+use Rattle.j39_listen.specs.Output.{Output}
 use Rattle.j39_listen.specs.declared.counts.Counts.{Counts}
+use Rattle.j39_listen.specs.declared.counts.Tally.{Tally}
 use Rattle.j39_listen.specs.declared.pieces.Pieces.{Pieces}
 use Rattle.j39_listen.specs.declared.progress.Progress.{Progress}
 
--- what a line spells was met, and its counts go to those so far
-pub record ReadsLine (s : Spelled) (p p' : Progress) (old new : Option (List ℕ)) : Type 0 where
-  pub met : Counts
-  pub meets : MeetsLine s p.bus p'.bus p.listener p'.listener met old new
-  pub counts_are : p'.counts ≡ sum_of p.counts met
+-- what a line spells was met, and what it counts for goes to what was counted so far
+pub record ReadsLine {A : Type 0} (has_met : A → List FrameRecord → Output → Type 0) (s : Spelled) (p p' : Progress A) (old new : Option (List ℕ)) : Type 0 where
+  pub met : Tally
+  pub meets : MeetsLine has_met s p.bus p'.bus p.account p'.account met old new
+  pub tally_is : p'.tally ≡ sum_of p.tally met
 
 -- a fault of the writer in what a line spells
-abbrev pub StopsAt : Spelled → Progress → Option (List ℕ) → Option (List ℕ) → Type 0
-StopsAt s p old new = StopsLine s p.bus p.listener old new
+abbrev pub StopsAt : {A : Type 0} → (A → List FrameRecord → Output → Type 0) → (List FrameRecord → Output → Type 0) → Spelled → Progress A → Option (List ℕ) → Option (List ℕ) → Type 0
+StopsAt has_met makes s p old new = StopsLine has_met makes s p.bus p.account old new
 
--- the bytes so far are lines and the beginning of one; what the lines spell, what is heard in their frames, and what
--- they make of the run and the writer
-pub record HasRead (given : Option (List ℕ)) (taken begun : List ℕ) (p : Progress) (old new : Option (List ℕ)) : Type 0 where
+-- what the lines spell was met, and what is made of their frames so far was written
+pub record HasMetAll {A : Type 0} (has_met : A → List FrameRecord → Output → Type 0) (given : Option (List ℕ)) (spelled : List Spelled) (p : Progress A) (old new : Option (List ℕ)) : Type 0 where
+  pub bus_is : p.bus ≡ bus_of given spelled
+  pub tally_is : p.tally ≡ tally_of given spelled
+  pub output : Output
+  pub met : has_met p.account (frames_of given spelled) output
+  pub written : Appends old new output.text
+
+-- all that is made of the frames of these lines was written, and counted
+pub record WritesAll (makes : List FrameRecord → Output → Type 0) (given : Option (List ℕ)) (spelled : List Spelled) (counts : Counts) (old new : Option (List ℕ)) : Type 0 where
+  pub output : Output
+  pub is_made : makes (frames_of given spelled) output
+  pub counts_are : counts ≡ counts_of given spelled output
+  pub written : Appends old new output.text
+
+-- a front of it was written
+abbrev pub WritesSome : (List FrameRecord → Output → Type 0) → Option (List ℕ) → List Spelled → Option (List ℕ) → Option (List ℕ) → Type 0
+WritesSome makes given spelled old new = (output : Output) → makes (frames_of given spelled) output → AppendsFront old new output.text
+
+-- the bytes so far are lines and the beginning of one, and the lines were met
+pub record HasRead {A : Type 0} (has_met : A → List FrameRecord → Output → Type 0) (given : Option (List ℕ)) (taken begun : List ℕ) (p : Progress A) (old new : Option (List ℕ)) : Type 0 where
   pub lines : List (List ℕ)
   pub spelled : List Spelled
-  pub heard : List Hearing
   pub whole : AllByRecursion HasNoNewline lines
   pub taken_is : taken ≡ ended lines ++ begun
   pub spell_each : SpellEach lines spelled
-  pub bus_is : p.bus ≡ bus_of given spelled
-  pub hears : Hears p.listener (frames_of given spelled)
-  pub are_heard : AreHeard (frames_of given spelled) heard
-  pub counts_are : p.counts ≡ counts_of given spelled heard
-  pub written : Appends old new (report_text heard)
+  pub met : HasMetAll has_met given spelled p old new
 
 -- the run stands for these bytes
-pub record HasTaken (given : Option (List ℕ)) (taken : List ℕ) (run : Pieces) (old new : Option (List ℕ)) : Type 0 where
+pub record HasTaken {A : Type 0} (has_met : A → List FrameRecord → Output → Type 0) (given : Option (List ℕ)) (taken : List ℕ) (run : Pieces A) (old new : Option (List ℕ)) : Type 0 where
   pub begun : List ℕ
   pub begins : HasBegun run.splitter begun
-  pub has_read : HasRead given taken begun run.progress old new
+  pub has_read : HasRead has_met given taken begun run.progress old new
 
 -- n of the bytes were taken: all of them, which end no line
 pub record TakesAll (begun bytes : List ℕ) (n : ℕ) (splitter : Splitter) : Type 0 where
@@ -53,40 +67,40 @@ pub record TakesAll (begun bytes : List ℕ) (n : ℕ) (splitter : Splitter) : T
   pub begins : HasBegun splitter (begun ++ bytes)
 
 -- or those to the end of a line, which was read
-pub record ReadsNext (begun bytes : List ℕ) (n : ℕ) (splitter : Splitter) (p p' : Progress) (old new : Option (List ℕ)) : Type 0 where
+pub record ReadsNext {A : Type 0} (has_met : A → List FrameRecord → Output → Type 0) (begun bytes : List ℕ) (n : ℕ) (splitter : Splitter) (p p' : Progress A) (old new : Option (List ℕ)) : Type 0 where
   pub line : List ℕ
   pub ends : EndsLine begun bytes line n
   pub begins : HasBegun splitter []
   pub spelled : Spelled
   pub spells : Spells line spelled
-  pub reads : ReadsLine spelled p p' old new
+  pub reads : ReadsLine has_met spelled p p' old new
 
-abbrev pub StepsOver : List ℕ → List ℕ → ℕ → Splitter → Progress → Progress → Option (List ℕ) → Option (List ℕ) → Type 0
-StepsOver begun bytes n splitter progress progress' old new =
-    (TakesAll begun bytes n splitter × (progress' ≡ progress) × (new ≡ old)) ⊎ ReadsNext begun bytes n splitter progress progress' old new
+abbrev pub StepsOver : {A : Type 0} → (A → List FrameRecord → Output → Type 0) → List ℕ → List ℕ → ℕ → Splitter → Progress A → Progress A → Option (List ℕ) → Option (List ℕ) → Type 0
+StepsOver has_met begun bytes n splitter progress progress' old new =
+    (TakesAll begun bytes n splitter × (progress' ≡ progress) × (new ≡ old)) ⊎ ReadsNext has_met begun bytes n splitter progress progress' old new
 
 -- a fault of the writer came in the line that the bytes end
-pub record StopsIn (begun bytes : List ℕ) (p : Progress) (old new : Option (List ℕ)) : Type 0 where
+pub record StopsIn {A : Type 0} (has_met : A → List FrameRecord → Output → Type 0) (makes : List FrameRecord → Output → Type 0) (begun bytes : List ℕ) (p : Progress A) (old new : Option (List ℕ)) : Type 0 where
   pub line : List ℕ
   pub n : ℕ
   pub ends : EndsLine begun bytes line n
   pub spelled : Spelled
   pub spells : Spells line spelled
-  pub stops : StopsAt spelled p old new
+  pub stops : StopsAt has_met makes spelled p old new
 
 -- the last line, where one is begun
-pub record ReadsEnd (begun : List ℕ) (p p' : Progress) (old new : Option (List ℕ)) : Type 0 where
+pub record ReadsEnd {A : Type 0} (has_met : A → List FrameRecord → Output → Type 0) (begun : List ℕ) (p p' : Progress A) (old new : Option (List ℕ)) : Type 0 where
   pub some : begun ≢ []
   pub spelled : Spelled
   pub spells : Spells begun spelled
-  pub reads : ReadsLine spelled p p' old new
+  pub reads : ReadsLine has_met spelled p p' old new
 
-abbrev pub ReadsLast : List ℕ → Progress → Progress → Option (List ℕ) → Option (List ℕ) → Type 0
-ReadsLast begun progress progress' old new = ((begun ≡ []) × (progress' ≡ progress) × (new ≡ old)) ⊎ ReadsEnd begun progress progress' old new
+abbrev pub ReadsLast : {A : Type 0} → (A → List FrameRecord → Output → Type 0) → List ℕ → Progress A → Progress A → Option (List ℕ) → Option (List ℕ) → Type 0
+ReadsLast has_met begun progress progress' old new = ((begun ≡ []) × (progress' ≡ progress) × (new ≡ old)) ⊎ ReadsEnd has_met begun progress progress' old new
 
 -- a fault of the writer came in the last line
-pub record StopsLast (begun : List ℕ) (p : Progress) (old new : Option (List ℕ)) : Type 0 where
+pub record StopsLast {A : Type 0} (has_met : A → List FrameRecord → Output → Type 0) (makes : List FrameRecord → Output → Type 0) (begun : List ℕ) (p : Progress A) (old new : Option (List ℕ)) : Type 0 where
   pub some : begun ≢ []
   pub spelled : Spelled
   pub spells : Spells begun spelled
-  pub stops : StopsAt spelled p old new
+  pub stops : StopsAt has_met makes spelled p old new

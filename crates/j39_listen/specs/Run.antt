@@ -1,31 +1,30 @@
--- What a run writes and counts.
+-- What a run over a log writes and counts, whatever it makes of the frames.
 use Rattle.std.specs.Prelude.{◌≡◌, ℕ, List, Option}
 use Rattle.std.specs.Io.KnownBytes.{Appends, Consumes}
 use Rattle.j39_frame.specs.Device.{AppendsFront}
+use Rattle.j39_frame.specs.Frame.{FrameRecord}
 use Rattle.j39_frame.specs.Log.{IsLog, frames_of}
 use Rattle.j39_frame.specs.Spelled.{Spelled}
 use Rattle.j39_listen.specs.Counting.{counts_of}
-use Rattle.j39_listen.specs.Heard.{AreHeard, Hearing}
-use Rattle.j39_listen.specs.Report.{report_text}
+use Rattle.j39_listen.specs.Output.{Output}
 use Rattle.j39_listen.specs.declared.counts.Counts.{Counts}
 
--- a run over the log with this bus or none given wrote the report of its frames, and nothing else, and counted it
-pub record WritesReport (given : Option (List ℕ)) (log : List ℕ) (counts : Counts) (old new : Option (List ℕ)) : Type 0 where
+-- a run over the log with this bus or none given wrote what is made of its frames, and nothing else, and counted it
+pub record Writes (makes : List FrameRecord → Output → Type 0) (given : Option (List ℕ)) (log : List ℕ) (counts : Counts) (old new : Option (List ℕ)) : Type 0 where
   pub spelled : List Spelled
   pub is_log : IsLog log spelled
-  pub heard : List Hearing
-  pub are_heard : AreHeard (frames_of given spelled) heard
-  pub counts_are : counts ≡ counts_of given spelled heard
-  pub written : Appends old new (report_text heard)
+  pub output : Output
+  pub is_made : makes (frames_of given spelled) output
+  pub counts_are : counts ≡ counts_of given spelled output
+  pub written : Appends old new output.text
 
--- what a run stopped with is a front of the report of these bytes
-abbrev pub WritesFront : Option (List ℕ) → List ℕ → Option (List ℕ) → Option (List ℕ) → Type 0
-WritesFront given taken old new =
-    (spelled : List Spelled) (heard : List Hearing) → IsLog taken spelled → AreHeard (frames_of given spelled) heard
-    → AppendsFront old new (report_text heard)
+-- what a run stopped with is a front of what is made of the frames in these bytes
+abbrev pub WritesFront : (List FrameRecord → Output → Type 0) → Option (List ℕ) → List ℕ → Option (List ℕ) → Option (List ℕ) → Type 0
+WritesFront makes given taken old new =
+    (spelled : List Spelled) (output : Output) → IsLog taken spelled → makes (frames_of given spelled) output → AppendsFront old new output.text
 
--- a run that stopped took these bytes of its source, and wrote a front of their report
-pub record StopsWithin (given remaining remaining' old new : Option (List ℕ)) : Type 0 where
+-- a run that stopped took these bytes of its source, and wrote a front of what is made of them
+pub record StopsWithin (makes : List FrameRecord → Output → Type 0) (given remaining remaining' old new : Option (List ℕ)) : Type 0 where
   pub taken : List ℕ
   pub consumed : Consumes remaining remaining' taken
-  pub written : WritesFront given taken old new
+  pub written : WritesFront makes given taken old new

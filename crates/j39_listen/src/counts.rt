@@ -16,17 +16,44 @@ pub struct Counts {
     pub lines: u64,
 }
 
-impl Counts {
+/// What was met in the lines of a log.
+#[derive(Clone, Copy, Debug, Default, PartialEq, Eq)]
+pub(crate) struct Tally {
+    pub frames: u64,
+    pub other: u64,
+    pub unread: u64,
+}
+
+impl Tally {
     ghost use Rattle.j39_listen.specs.LineSteps.{sum_of};
 
-    /// These counts and more, each at most 2^64 - 1.
-    pub(crate) fn and(self, more: Counts) -> Counts
+    /// This and more, each at most 2^64 - 1.
+    pub fn and(self, more: Tally) -> Tally
         ensures { result ≡ sum_of self more }
     {
-        Counts {
+        Tally {
             frames: self.frames.saturating_add(more.frames),
             other: self.other.saturating_add(more.other),
             unread: self.unread.saturating_add(more.unread),
+        }
+    }
+}
+
+/// What was made of the frames of a log.
+#[derive(Clone, Copy, Debug, Default, PartialEq, Eq)]
+pub(crate) struct Made {
+    pub messages: u64,
+    pub lines: u64,
+}
+
+impl Made {
+    ghost use Rattle.j39_listen.specs.ReportSteps.{made_sum};
+
+    /// This and more, each at most 2^64 - 1.
+    pub fn and(self, more: Made) -> Made
+        ensures { result ≡ made_sum self more }
+    {
+        Made {
             messages: self.messages.saturating_add(more.messages),
             lines: self.lines.saturating_add(more.lines),
         }

@@ -1,16 +1,20 @@
 //! What a listener hears on a bus, and the runs that write it down.
 #![tactic(auto)]
 
+mod account;
 mod counts;
 mod heard;
 pub mod laws;
 mod listener;
+mod node_list;
 mod pieces;
 mod progress;
+mod report;
 mod report_lines;
 mod running;
 
 pub use counts::Counts;
 pub use heard::Heard;
 pub use listener::Listener;
+pub use node_list::nodes;
 pub use running::{RunFault, run};

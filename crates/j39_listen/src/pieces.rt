@@ -1,47 +1,53 @@
 //! A run over pieces of a log.
 ghost use Rattle.std.specs.Prelude.{◌≡◌, ◌≢◌, ◌<◌, ◌≤◌, ◌++◌, ℕ, List, [], Option, true, OnOk, OnErr, IfOk, Err, length};
+ghost use Rattle.j39_frame.specs.Device.{Marks};
+ghost use Rattle.j39_frame.specs.Spelled.{Spelled};
 ghost use Rattle.j39_frame.specs.Splitter.{HasBegun};
-ghost use Rattle.j39_listen.specs.PieceSteps.{HasTaken, ReadsLast, StepsOver, StopsIn, StopsLast};
-ghost use Rattle.j39_listen.specs.Run.{WritesFront, WritesReport};
-ghost use Rattle.j39_listen.specs.declared.progress.LineFault.TheVariants.{Memory, Write};
+ghost use Rattle.j39_listen.specs.Output.{Output};
+ghost use Rattle.j39_listen.specs.PieceSteps.{HasMetAll, HasTaken, ReadsLast, StepsOver, StopsIn, StopsLast, WritesAll, WritesSome};
+ghost use Rattle.j39_listen.specs.Run.{Writes, WritesFront};
+ghost use Rattle.j39_listen.specs.declared.account.LineFault.TheVariants.{Memory, Write};
 
-use crate::progress::{LineFault, Progress};
-use crate::{Counts, Listener};
+use crate::Counts;
+use crate::account::{Account, LineFault};
+use crate::counts::Tally;
+use crate::progress::Progress;
 use j39_frame::{Bus, DeviceFault, Sink, Splitter};
-use std::alloc::Global;
 
 /// A log that is read in pieces, and the run over its lines.
 #[derive(Drop)]
-pub(crate) struct Pieces {
+pub(crate) struct Pieces<A> {
     splitter: Splitter,
-    progress: Progress,
+    progress: Progress<A>,
 }
 
-impl Pieces {
-    /// At the start of a log.
-    pub fn new(alloc: Global, bus: Option<Bus>) -> Pieces
-        ensures { (held : Option (List ℕ)) → HasTaken bus [] result held held }
+impl<A: Account> Pieces<A> {
+    /// At the start of a log, with an account of no frames.
+    pub fn new(account: A, bus: Option<Bus>) -> Pieces<A>
+        ensures { (output : Output) (held : Option (List ℕ)) → A.has_met account [] output → output.text ≡ []
+            → HasTaken A.has_met bus [] result held held }
     {
         Pieces {
             splitter: Splitter::new(),
             progress: Progress {
                 bus,
-                listener: Listener::new(alloc),
-                counts: Counts::default(),
+                account,
+                tally: Tally::default(),
             },
         }
     }
 
-    /// Takes a piece of the log, writes the report of the lines that it ends, and passes it on: so
+    /// Takes a piece of the log, writes what is to be written at the lines that it ends, and passes it on: so
     /// a reader of a live bus sees each value before the next read.
     pub fn take<W: Sink>(&mut self, piece: &[u8], sink: &mut W) -> Result<(), LineFault>
         ensures taken { OnOk result ((given : Option (List ℕ)) (taken : List ℕ) (held : Option (List ℕ))
-            → HasTaken given taken self.old held (W.held sink.old) → HasTaken given (taken ++ piece.now) self.new held (W.held sink.new)) }
+            → HasTaken A.has_met given taken self.old held (W.held sink.old) → HasTaken A.has_met given (taken ++ piece.now) self.new held (W.held sink.new)) }
         ensures front { OnErr result ((given : Option (List ℕ)) (taken : List ℕ) (held : Option (List ℕ))
-            → HasTaken given taken self.old held (W.held sink.old) → WritesFront given (taken ++ piece.now) held (W.held sink.new)) }
+            → HasTaken A.has_met given taken self.old held (W.held sink.old) → WritesFront A.makes given (taken ++ piece.now) held (W.held sink.new)) }
         ensures write { result ≡ Err Write → W.has_failed sink.new ≡ true }
         ensures unmarked { result ≢ Err Write → W.has_failed sink.new ≡ W.has_failed sink.old }
     {
+        A::laws();
         match self.take_lines(piece, sink) {
             Ok(()) => {}
             Err(fault) => return Err(fault),
@@ -54,12 +60,13 @@ impl Pieces {
 
     fn take_lines<W: Sink>(&mut self, piece: &[u8], sink: &mut W) -> Result<(), LineFault>
         ensures taken { OnOk result ((given : Option (List ℕ)) (taken : List ℕ) (held : Option (List ℕ))
-            → HasTaken given taken self.old held (W.held sink.old) → HasTaken given (taken ++ piece.now) self.new held (W.held sink.new)) }
+            → HasTaken A.has_met given taken self.old held (W.held sink.old) → HasTaken A.has_met given (taken ++ piece.now) self.new held (W.held sink.new)) }
         ensures front { OnErr result ((given : Option (List ℕ)) (taken : List ℕ) (held : Option (List ℕ))
-            → HasTaken given taken self.old held (W.held sink.old) → WritesFront given (taken ++ piece.now) held (W.held sink.new)) }
+            → HasTaken A.has_met given taken self.old held (W.held sink.old) → WritesFront A.makes given (taken ++ piece.now) held (W.held sink.new)) }
         ensures write { result ≡ Err Write → W.has_failed sink.new ≡ true }
         ensures unmarked { result ≢ Err Write → W.has_failed sink.new ≡ W.has_failed sink.old }
     {
+        A::laws();
         let mut rest = piece;
         while !rest.is_empty() {
             let n = match take_line(&mut self.splitter, &mut self.progress, rest, sink) {
@@ -71,40 +78,41 @@ impl Pieces {
         Ok(())
     }
 
-    /// Reads the last line where it is not ended, and passes on what was written.
+    /// Reads the last line where it is not ended, closes the account, and passes on what was written.
     pub fn finish<W: Sink>(&mut self, sink: &mut W) -> Result<Counts, LineFault>
         ensures report { IfOk result (λ counts. (given : Option (List ℕ)) (taken : List ℕ) (held : Option (List ℕ))
-            → HasTaken given taken self.old held (W.held sink.old) → WritesReport given taken counts held (W.held sink.new)) }
+            → HasTaken A.has_met given taken self.old held (W.held sink.old) → Writes A.makes given taken counts held (W.held sink.new)) }
         ensures front { OnErr result ((given : Option (List ℕ)) (taken : List ℕ) (held : Option (List ℕ))
-            → HasTaken given taken self.old held (W.held sink.old) → WritesFront given taken held (W.held sink.new)) }
+            → HasTaken A.has_met given taken self.old held (W.held sink.old) → WritesFront A.makes given taken held (W.held sink.new)) }
         ensures write { result ≡ Err Write → W.has_failed sink.new ≡ true }
         ensures unmarked { result ≢ Err Write → W.has_failed sink.new ≡ W.has_failed sink.old }
     {
+        A::laws();
         match take_last(&mut self.splitter, &mut self.progress, sink) {
             Ok(()) => {}
             Err(fault) => return Err(fault),
         }
-        match sink.flush() {
-            Ok(()) => Ok(self.progress.counts),
+        match close(&mut self.progress, sink) {
+            Ok(counts) => Ok(counts),
             Err(DeviceFault) => Err(LineFault::Write),
         }
     }
 }
 
 /// Takes the bytes to the end of a line, which it reads, or all of them: how many it took.
-fn take_line<W: Sink>(
+fn take_line<A: Account, W: Sink>(
     splitter: &mut Splitter,
-    progress: &mut Progress,
+    progress: &mut Progress<A>,
     bytes: &[u8],
     sink: &mut W,
 ) -> Result<usize, LineFault>
     ensures count { IfOk result (λ n. n ≤ length bytes.now) }
     ensures some { IfOk result (λ n. 0 < length bytes.now → 0 < n) }
     ensures steps { IfOk result (λ n. (begun : List ℕ) → HasBegun splitter.old begun
-        → StepsOver begun bytes.now n splitter.new progress.old progress.new (W.held sink.old) (W.held sink.new)) }
+        → StepsOver A.has_met begun bytes.now n splitter.new progress.old progress.new (W.held sink.old) (W.held sink.new)) }
     ensures write { result ≡ Err Write → W.has_failed sink.new ≡ true }
     ensures stops { result ≡ Err Write → (begun : List ℕ) → HasBegun splitter.old begun
-        → StopsIn begun bytes.now progress.old (W.held sink.old) (W.held sink.new) }
+        → StopsIn A.has_met A.makes begun bytes.now progress.old (W.held sink.old) (W.held sink.new) }
     ensures memory { result ≡ Err Memory → W.held sink.new ≡ W.held sink.old }
     ensures unmarked { result ≢ Err Write → W.has_failed sink.new ≡ W.has_failed sink.old }
 {
@@ -119,16 +127,16 @@ fn take_line<W: Sink>(
 }
 
 /// Reads the last line, where one is begun.
-fn take_last<W: Sink>(
+fn take_last<A: Account, W: Sink>(
     splitter: &mut Splitter,
-    progress: &mut Progress,
+    progress: &mut Progress<A>,
     sink: &mut W,
 ) -> Result<(), LineFault>
     ensures reads { OnOk result ((begun : List ℕ) → HasBegun splitter.old begun
-        → ReadsLast begun progress.old progress.new (W.held sink.old) (W.held sink.new)) }
+        → ReadsLast A.has_met begun progress.old progress.new (W.held sink.old) (W.held sink.new)) }
     ensures write { result ≡ Err Write → W.has_failed sink.new ≡ true }
     ensures stops { result ≡ Err Write → (begun : List ℕ) → HasBegun splitter.old begun
-        → StopsLast begun progress.old (W.held sink.old) (W.held sink.new) }
+        → StopsLast A.has_met A.makes begun progress.old (W.held sink.old) (W.held sink.new) }
     ensures memory { result ≡ Err Memory → W.held sink.new ≡ W.held sink.old }
     ensures unmarked { result ≢ Err Write → W.has_failed sink.new ≡ W.has_failed sink.old }
 {
@@ -136,4 +144,34 @@ fn take_last<W: Sink>(
         None => Ok(()),
         Some(raw) => progress.read(raw.read(), sink),
     }
+}
+
+/// Closes the account of all lines, and passes on what was written.
+fn close<A: Account, W: Sink>(
+    progress: &mut Progress<A>,
+    sink: &mut W,
+) -> Result<Counts, DeviceFault>
+    ensures closes { IfOk result (λ counts. (given : Option (List ℕ)) (spelled : List Spelled) (held : Option (List ℕ))
+        → HasMetAll A.has_met given spelled progress.old held (W.held sink.old)
+        → WritesAll A.makes given spelled counts held (W.held sink.new)) }
+    ensures stops { OnErr result ((given : Option (List ℕ)) (spelled : List Spelled) (held : Option (List ℕ))
+        → HasMetAll A.has_met given spelled progress.old held (W.held sink.old)
+        → WritesSome A.makes given spelled held (W.held sink.new)) }
+    ensures mark { Marks result (W.has_failed sink.old) (W.has_failed sink.new) }
+{
+    A::laws();
+    let made = progress.account.close(sink)?;
+    sink.flush()?;
+    let Tally {
+        frames,
+        other,
+        unread,
+    } = progress.tally;
+    Ok(Counts {
+        frames,
+        other,
+        unread,
+        messages: made.messages,
+        lines: made.lines,
+    })
 }

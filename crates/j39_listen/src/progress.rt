@@ -1,75 +1,66 @@
 //! A run, line by line.
-ghost use Rattle.std.specs.Prelude.{◌≡◌, ◌≢◌, Some, List, true, IfOk, OnOk, Err, unwrap_or};
+ghost use Rattle.std.specs.Prelude.{◌≡◌, ◌≢◌, Some, true, IfOk, OnOk, Err, unwrap_or};
 ghost use Rattle.std.specs.Str.{bytes_eq};
 ghost use Rattle.j39_frame.specs.Bus.{IsBusName};
-ghost use Rattle.j39_frame.specs.Frame.{FrameRecord};
 ghost use Rattle.j39_frame.specs.LineRead.{spelled_of};
-ghost use Rattle.j39_listen.specs.LineSteps.{IsSpelling, MeetsFrame, MeetsLine, StopsFrame, StopsLine};
-ghost use Rattle.j39_listen.specs.Listening.{Hears};
+ghost use Rattle.j39_listen.specs.LineSteps.{IsSpelling, MeetsLine, StopsLine};
 ghost use Rattle.j39_listen.specs.PieceSteps.{ReadsLine, StopsAt};
-ghost use Rattle.j39_listen.specs.declared.progress.LineFault.TheVariants.{Memory, Write};
+ghost use Rattle.j39_listen.specs.declared.account.LineFault.TheVariants.{Memory, Write};
 
-use crate::report_lines::put_heard;
-use crate::{Counts, Listener};
-use j39_frame::{Bus, DeviceFault, Frame, Line, Sink};
-use std::alloc::AllocError;
+use crate::account::{Account, LineFault};
+use crate::counts::Tally;
+use j39_frame::{Bus, Line, Sink};
 
-/// The bus of a run, once it is known, what is heard on it, and what the run has counted so far.
+/// The bus of a run, once it is known, the account of its frames, and what was met so far.
 #[derive(Drop)]
-pub(crate) struct Progress {
+pub(crate) struct Progress<A> {
     pub bus: Option<Bus>,
-    pub listener: Listener,
-    pub counts: Counts,
+    pub account: A,
+    pub tally: Tally,
 }
 
-/// Why a line was not finished.
-#[derive(Clone, Copy, Debug, PartialEq, Eq)]
-pub(crate) enum LineFault {
-    /// Memory was refused; nothing was written for the line.
-    Memory,
-    /// The writer failed.
-    Write,
-}
-
-impl Progress {
-    /// Takes a line of the log, and writes the report of what is heard at it.
+impl<A: Account> Progress<A> {
+    /// Takes a line of the log, and writes what is to be written at it.
     pub fn read<W: Sink>(&mut self, line: Line<'_>, sink: &mut W) -> Result<(), LineFault>
         ensures read { OnOk result (IsSpelling (spelled_of line.entry)
-            → ReadsLine (spelled_of line.entry) self.old self.new (W.held sink.old) (W.held sink.new)) }
+            → ReadsLine A.has_met (spelled_of line.entry) self.old self.new (W.held sink.old) (W.held sink.new)) }
         ensures write { result ≡ Err Write → W.has_failed sink.new ≡ true }
         ensures stops { result ≡ Err Write → IsSpelling (spelled_of line.entry)
-            → StopsAt (spelled_of line.entry) self.old (W.held sink.old) (W.held sink.new) }
+            → StopsAt A.has_met A.makes (spelled_of line.entry) self.old (W.held sink.old) (W.held sink.new) }
         ensures memory { result ≡ Err Memory → W.held sink.new ≡ W.held sink.old }
         ensures unmarked { result ≢ Err Write → W.has_failed sink.new ≡ W.has_failed sink.old }
     {
-        let met = match meet(&mut self.bus, &mut self.listener, line, sink) {
+        let met = match meet(&mut self.bus, &mut self.account, line, sink) {
             Ok(met) => met,
             Err(fault) => return Err(fault),
         };
-        self.counts = self.counts.and(met);
+        self.tally = self.tally.and(met);
         Ok(())
     }
 }
 
-/// Writes the report of what is heard at a line, and answers what the line counts for.
-fn meet<W: Sink>(
+/// Writes what is to be written at a line, and answers what the line counts for.
+fn meet<A: Account, W: Sink>(
     bus: &mut Option<Bus>,
-    listener: &mut Listener,
+    account: &mut A,
     line: Line<'_>,
     sink: &mut W,
-) -> Result<Counts, LineFault>
+) -> Result<Tally, LineFault>
     ensures met { IfOk result (λ met. IsSpelling (spelled_of line.entry)
-        → MeetsLine (spelled_of line.entry) bus.old bus.new listener.old listener.new met (W.held sink.old) (W.held sink.new)) }
+        → MeetsLine A.has_met (spelled_of line.entry) bus.old bus.new account.old account.new met (W.held sink.old) (W.held sink.new)) }
     ensures write { result ≡ Err Write → W.has_failed sink.new ≡ true }
     ensures stops { result ≡ Err Write → IsSpelling (spelled_of line.entry)
-        → StopsLine (spelled_of line.entry) bus.old listener.old (W.held sink.old) (W.held sink.new) }
+        → StopsLine A.has_met A.makes (spelled_of line.entry) bus.old account.old (W.held sink.old) (W.held sink.new) }
     ensures memory { result ≡ Err Memory → W.held sink.new ≡ W.held sink.old }
     ensures unmarked { result ≢ Err Write → W.has_failed sink.new ≡ W.has_failed sink.old }
 {
     match line {
         Line::Frame { bus: name, frame } => {
             if is_on(bus, name) {
-                put_frame(listener, &frame, sink)
+                match account.meet(&frame, sink) {
+                    Ok(()) => Ok(FRAME),
+                    Err(fault) => Err(fault),
+                }
             } else {
                 Ok(OTHER)
             }
@@ -80,28 +71,25 @@ fn meet<W: Sink>(
     }
 }
 
-const NOTHING: Counts = Counts {
+const NOTHING: Tally = Tally {
     frames: 0,
     other: 0,
     unread: 0,
-    messages: 0,
-    lines: 0,
 };
 
-const OTHER: Counts = Counts {
-    frames: 0,
+const FRAME: Tally = Tally {
+    frames: 1,
+    ..NOTHING
+};
+
+const OTHER: Tally = Tally {
     other: 1,
-    unread: 0,
-    messages: 0,
-    lines: 0,
+    ..NOTHING
 };
 
-const UNREAD: Counts = Counts {
-    frames: 0,
-    other: 0,
+const UNREAD: Tally = Tally {
     unread: 1,
-    messages: 0,
-    lines: 0,
+    ..NOTHING
 };
 
 /// Whether an interface is the bus of the run, which it becomes where there is none yet.
@@ -115,37 +103,5 @@ fn is_on(bus: &mut Option<Bus>, name: &[u8]) -> bool
             *bus = Bus::new(name);
             true
         }
-    }
-}
-
-/// Writes the report of what is heard at a frame of the run's bus, and answers what it counts for.
-fn put_frame<W: Sink>(
-    listener: &mut Listener,
-    frame: &Frame,
-    sink: &mut W,
-) -> Result<Counts, LineFault>
-    ensures met { IfOk result (λ met. (F : List FrameRecord) → Hears listener.old F
-        → MeetsFrame listener.new F frame.now met (W.held sink.old) (W.held sink.new)) }
-    ensures write { result ≡ Err Write → W.has_failed sink.new ≡ true }
-    ensures stops { result ≡ Err Write → (F : List FrameRecord) → Hears listener.old F
-        → StopsFrame F frame.now (W.held sink.old) (W.held sink.new) }
-    ensures memory { result ≡ Err Memory → W.held sink.new ≡ W.held sink.old }
-    ensures unmarked { result ≢ Err Write → W.has_failed sink.new ≡ W.has_failed sink.old }
-{
-    match listener.feed(frame) {
-        Err(AllocError) => Err(LineFault::Memory),
-        Ok(None) => Ok(Counts {
-            frames: 1,
-            ..NOTHING
-        }),
-        Ok(Some(heard)) => match put_heard(&heard, sink) {
-            Ok(lines) => Ok(Counts {
-                frames: 1,
-                messages: 1,
-                lines,
-                ..NOTHING
-            }),
-            Err(DeviceFault) => Err(LineFault::Write),
-        },
     }
 }

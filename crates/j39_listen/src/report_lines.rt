@@ -52,7 +52,7 @@ fn head_of(heard: &Heard<'_>) -> ArrayVec<u8, 47>
 }
 
 /// Appends a NAME in sixteen hex digits, or sixteen dashes.
-fn push_name<const N: usize>(line: &mut ArrayVec<u8, N>, name: Option<Name>)
+pub(crate) fn push_name<const N: usize>(line: &mut ArrayVec<u8, N>, name: Option<Name>)
     requires { array_vec_len line.old + 16 ≤ N }
     ensures items { line.new.items ≡ line.old.items ++ name_text (option_map name_raw name) }
     ensures len { array_vec_len line.new ≡ array_vec_len line.old + 16 }

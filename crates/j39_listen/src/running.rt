@@ -1,12 +1,14 @@
 //! The report of a log.
 ghost use Rattle.std.specs.Prelude.{◌≡◌, ◌≢◌, ◌<◌, ◌≤◌, ◌++◌, ℕ, List, [], Option, true, length, IfOk, OnOk, OnErr, IfSome, Err};
+ghost use Rattle.j39_listen.specs.Output.{MakesReport, Output};
 ghost use Rattle.j39_listen.specs.PieceSteps.{HasTaken};
-ghost use Rattle.j39_listen.specs.Run.{StopsWithin, WritesFront, WritesReport};
+ghost use Rattle.j39_listen.specs.Run.{StopsWithin, Writes, WritesFront};
 ghost use Rattle.j39_listen.specs.declared.running.RunFault.TheVariants.{Read, Write, TooLong};
 
 use crate::Counts;
+use crate::account::{Account, LineFault};
 use crate::pieces::Pieces;
-use crate::progress::LineFault;
+use crate::report::Report;
 use j39_frame::{Bus, Sink, Source};
 use std::alloc::Global;
 use std::fmt;
@@ -66,7 +68,7 @@ pub fn run<R: Source, W: Sink>(
 ) -> Result<Counts, RunFault>
     // The report promise: what is written is the report of the log, and nothing else.
     ensures report { IfOk result (λ counts. IfSome (R.remaining source.old)
-        (λ log. WritesReport bus log counts (W.held sink.old) (W.held sink.new))) }
+        (λ log. Writes MakesReport bus log counts (W.held sink.old) (W.held sink.new))) }
 
     // Each fault comes only where its device failed, or the log is longer than the limit.
     ensures short { OnOk result (IfSome (R.remaining source.old) (λ log. length log ≤ limit)) }
@@ -77,30 +79,53 @@ pub fn run<R: Source, W: Sink>(
     ensures write_unmarked { result ≢ Err Write → W.has_failed sink.new ≡ W.has_failed sink.old }
 
     // What was written before a fault is a front of the report of the bytes that were read.
-    ensures prefix { OnErr result (StopsWithin bus (R.remaining source.old) (R.remaining source.new) (W.held sink.old) (W.held sink.new)) }
+    ensures prefix { OnErr result (StopsWithin MakesReport bus (R.remaining source.old) (R.remaining source.new) (W.held sink.old) (W.held sink.new)) }
 {
-    let mut pieces = Pieces::new(alloc, bus);
-    read_pieces(&mut pieces, source, sink, limit)
+    run_over(Report::new(alloc), source, sink, bus, limit)
 }
 
-/// Reads a log to its end, piece by piece.
-fn read_pieces<R: Source, W: Sink>(
-    pieces: &mut Pieces,
+/// Writes an account of a log of at most `limit` bytes; the account has met no frame.
+pub(crate) fn run_over<A: Account, R: Source, W: Sink>(
+    account: A,
     source: &mut R,
     sink: &mut W,
+    bus: Option<Bus>,
     limit: u64,
 ) -> Result<Counts, RunFault>
-    ensures report { IfOk result (λ counts. (given : Option (List ℕ)) → HasTaken given [] pieces.old (W.held sink.old) (W.held sink.old)
-        → IfSome (R.remaining source.old) (λ log. WritesReport given log counts (W.held sink.old) (W.held sink.new))) }
+    ensures writes { IfOk result (λ counts. (output : Output) → A.has_met account [] output → output.text ≡ []
+        → IfSome (R.remaining source.old) (λ log. Writes A.makes bus log counts (W.held sink.old) (W.held sink.new))) }
     ensures short { OnOk result (IfSome (R.remaining source.old) (λ log. length log ≤ limit)) }
     ensures too_long { result ≡ Err TooLong → IfSome (R.remaining source.old) (λ log. limit < length log) }
     ensures read { result ≡ Err Read → R.has_failed source.new ≡ true }
     ensures read_unmarked { result ≢ Err Read → R.has_failed source.new ≡ R.has_failed source.old }
     ensures write { result ≡ Err Write → W.has_failed sink.new ≡ true }
     ensures write_unmarked { result ≢ Err Write → W.has_failed sink.new ≡ W.has_failed sink.old }
-    ensures prefix { OnErr result ((given : Option (List ℕ)) → HasTaken given [] pieces.old (W.held sink.old) (W.held sink.old)
-        → StopsWithin given (R.remaining source.old) (R.remaining source.new) (W.held sink.old) (W.held sink.new)) }
+    ensures prefix { OnErr result ((output : Output) → A.has_met account [] output → output.text ≡ []
+        → StopsWithin A.makes bus (R.remaining source.old) (R.remaining source.new) (W.held sink.old) (W.held sink.new)) }
 {
+    let mut pieces = Pieces::new(account, bus);
+    read_pieces(&mut pieces, source, sink, limit)
+}
+
+/// Reads a log to its end, piece by piece.
+fn read_pieces<A: Account, R: Source, W: Sink>(
+    pieces: &mut Pieces<A>,
+    source: &mut R,
+    sink: &mut W,
+    limit: u64,
+) -> Result<Counts, RunFault>
+    ensures report { IfOk result (λ counts. (given : Option (List ℕ)) → HasTaken A.has_met given [] pieces.old (W.held sink.old) (W.held sink.old)
+        → IfSome (R.remaining source.old) (λ log. Writes A.makes given log counts (W.held sink.old) (W.held sink.new))) }
+    ensures short { OnOk result (IfSome (R.remaining source.old) (λ log. length log ≤ limit)) }
+    ensures too_long { result ≡ Err TooLong → IfSome (R.remaining source.old) (λ log. limit < length log) }
+    ensures read { result ≡ Err Read → R.has_failed source.new ≡ true }
+    ensures read_unmarked { result ≢ Err Read → R.has_failed source.new ≡ R.has_failed source.old }
+    ensures write { result ≡ Err Write → W.has_failed sink.new ≡ true }
+    ensures write_unmarked { result ≢ Err Write → W.has_failed sink.new ≡ W.has_failed sink.old }
+    ensures prefix { OnErr result ((given : Option (List ℕ)) → HasTaken A.has_met given [] pieces.old (W.held sink.old) (W.held sink.old)
+        → StopsWithin A.makes given (R.remaining source.old) (R.remaining source.new) (W.held sink.old) (W.held sink.new)) }
+{
+    A::laws();
     let mut piece = [0u8; PIECE];
     let mut room = limit;
     'pieces: loop {
@@ -122,11 +147,15 @@ fn read_pieces<R: Source, W: Sink>(
 }
 
 /// Takes a piece, and tells its faults as those of a run.
-fn take<W: Sink>(pieces: &mut Pieces, piece: &[u8], sink: &mut W) -> Result<(), RunFault>
+fn take<A: Account, W: Sink>(
+    pieces: &mut Pieces<A>,
+    piece: &[u8],
+    sink: &mut W,
+) -> Result<(), RunFault>
     ensures taken { OnOk result ((given : Option (List ℕ)) (taken : List ℕ) (held : Option (List ℕ))
-        → HasTaken given taken pieces.old held (W.held sink.old) → HasTaken given (taken ++ piece.now) pieces.new held (W.held sink.new)) }
+        → HasTaken A.has_met given taken pieces.old held (W.held sink.old) → HasTaken A.has_met given (taken ++ piece.now) pieces.new held (W.held sink.new)) }
     ensures front { OnErr result ((given : Option (List ℕ)) (taken : List ℕ) (held : Option (List ℕ))
-        → HasTaken given taken pieces.old held (W.held sink.old) → WritesFront given (taken ++ piece.now) held (W.held sink.new)) }
+        → HasTaken A.has_met given taken pieces.old held (W.held sink.old) → WritesFront A.makes given (taken ++ piece.now) held (W.held sink.new)) }
     ensures write { result ≡ Err Write → W.has_failed sink.new ≡ true }
     ensures unmarked { result ≢ Err Write → W.has_failed sink.new ≡ W.has_failed sink.old }
     ensures not_read { result ≢ Err Read }
@@ -140,11 +169,11 @@ fn take<W: Sink>(pieces: &mut Pieces, piece: &[u8], sink: &mut W) -> Result<(), 
 }
 
 /// Finishes the log, and tells the faults as those of a run.
-fn finish<W: Sink>(pieces: &mut Pieces, sink: &mut W) -> Result<Counts, RunFault>
+fn finish<A: Account, W: Sink>(pieces: &mut Pieces<A>, sink: &mut W) -> Result<Counts, RunFault>
     ensures report { IfOk result (λ counts. (given : Option (List ℕ)) (taken : List ℕ) (held : Option (List ℕ))
-        → HasTaken given taken pieces.old held (W.held sink.old) → WritesReport given taken counts held (W.held sink.new)) }
+        → HasTaken A.has_met given taken pieces.old held (W.held sink.old) → Writes A.makes given taken counts held (W.held sink.new)) }
     ensures front { OnErr result ((given : Option (List ℕ)) (taken : List ℕ) (held : Option (List ℕ))
-        → HasTaken given taken pieces.old held (W.held sink.old) → WritesFront given taken held (W.held sink.new)) }
+        → HasTaken A.has_met given taken pieces.old held (W.held sink.old) → WritesFront A.makes given taken held (W.held sink.new)) }
     ensures write { result ≡ Err Write → W.has_failed sink.new ≡ true }
     ensures unmarked { result ≢ Err Write → W.has_failed sink.new ≡ W.has_failed sink.old }
     ensures not_read { result ≢ Err Read }

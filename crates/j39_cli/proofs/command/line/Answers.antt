@@ -6,7 +6,7 @@ use Rattle.j39_cli.specs.Command.{bare_app, line_app}
 use Rattle.j39_cli.specs.CutCommand.{cut_app}
 use Rattle.j39_cli.specs.IdCommand.{id_app}
 use Rattle.j39_cli.specs.NameCommand.{name_app}
-use Rattle.j39_cli.specs.ReportCommand.{report_app}
+use Rattle.j39_cli.specs.LogCommand.{nodes_app, report_app}
 use Rattle.j39_cli.proofs.command.line.Goals as goal
 
 -- one more command, by what is known of the line and of the command
@@ -22,10 +22,14 @@ with_id = with_subcommand with_report id_app.top
 abbrev with_name : App
 with_name = with_subcommand with_id name_app.top
 
+abbrev with_cut : App
+with_cut = with_subcommand with_name cut_app.top
+
 pub returns : goal.returns
 unfolding line_app
 returns c =
     let has_report = more bare_app report_app _ _ _ c.bare.ensures c.in_ok-report.ensures.app c.in_ok-line.ensures in
     let has_id = more with_report id_app _ _ _ has_report c.in_ok-id.ensures.app c.in_ok-line-2.ensures in
     let has_name = more with_id name_app _ _ _ has_id c.in_ok-name.ensures.app c.in_ok-line-3.ensures in
-    IfOk-weaker c.with_command-4.result _ _ (λ _ added. more with_name cut_app _ _ _ has_name c.in_ok-cut.ensures.app added) c.with_command-4.ensures
+    let has_cut = more with_name cut_app _ _ _ has_name c.in_ok-cut.ensures.app c.in_ok-line-4.ensures in
+    IfOk-weaker c.with_command-5.result _ _ (λ _ added. more with_cut nodes_app _ _ _ has_cut c.in_ok-nodes.ensures.app added) c.with_command-5.ensures

@@ -3,8 +3,8 @@ use Rattle.j39_listen.proofs.pieces.take_last.Goals as goal
 
 pub returns-in-Some-clause-reads : goal.returns-in-Some-clause-reads
 returns-in-Some-clause-reads g c =
-    on_ok_from _ _ _ (reads_last c.args.splitter.now _ _ c.args.progress.now c.read-in-Some.new.self _ _ c.in-Some.ensures.line c.read.ensures) c.read-in-Some.ensures.read
+    on_ok_from _ _ _ (reads_last g.A.Account.has_met c.args.splitter.now _ _ c.args.progress.now c.read-in-Some.new.self _ _ c.in-Some.ensures.line c.read.ensures) c.read-in-Some.ensures.read
 
 pub returns-in-Some-clause-stops : goal.returns-in-Some-clause-stops
 returns-in-Some-clause-stops g c = λ fails.
-    stops_last_line c.args.splitter.now _ _ c.args.progress.now _ _ c.in-Some.ensures.line c.read.ensures (c.read-in-Some.ensures.stops fails)
+    stops_last_line g.A.Account.has_met g.A.Account.makes c.args.splitter.now _ _ c.args.progress.now _ _ c.in-Some.ensures.line c.read.ensures (c.read-in-Some.ensures.stops fails)

@@ -11,7 +11,7 @@ returns-in_default-clause-prefix g c = λ given h.
     record {
       taken = inv.0;
       consumed = Consumes-kept _ _ _ inv.0 inv.1 c.in_default.ensures.bytes;
-      written = front_of_taken given inv.0 c.pieces.pieces _ _ (inv.2 given h);
+      written = front_of_taken g.A.Account.has_met g.A.Account.makes c.laws.ensures.begins given inv.0 c.pieces.pieces _ _ (inv.2 given h);
     }
 
 pub returns-then-n-eq0-clause-prefix : goal.returns-then-n-eq0-clause-prefix
@@ -31,7 +31,7 @@ returns-then-n-room-clause-prefix g c = λ given h.
     record {
       taken = inv.0 ++ bytes;
       consumed = Consumes-trans _ _ _ inv.0 bytes inv.1 c.in-Ok.ensures.bytes.0;
-      written = front_of_more given inv.0 bytes c.pieces.pieces _ _ (inv.2 given h);
+      written = front_of_more g.A.Account.has_met g.A.Account.makes c.laws.ensures.begins given inv.0 bytes c.pieces.pieces _ _ (inv.2 given h);
     }
 
 pub returns-in-Err-clause-prefix : goal.returns-in-Err-clause-prefix

@@ -1,7 +1,9 @@
--- The command `report [--bus B] [FILE]`.
+-- The commands `report [--bus B] [FILE]` and `nodes [--bus B] [FILE]`.
 use Rattle.std.specs.Prelude.{◌≡◌, ◌≢◌, ◌⊎◌, ◌<◌, ◌≤◌, ℕ, true, false, List, [], Option, IfSome, codes, length}
 use Rattle.clap.specs.Words.{App, new_app, with_rule}
-use Rattle.j39_listen.specs.Run.{StopsWithin, WritesReport}
+use Rattle.j39_frame.specs.Frame.{FrameRecord}
+use Rattle.j39_listen.specs.Output.{Output}
+use Rattle.j39_listen.specs.Run as run
 use Rattle.j39_listen.specs.Fault.{fault_words}
 use Rattle.j39_listen.specs.declared.counts.Counts.{Counts}
 use Rattle.j39_listen.specs.declared.running.RunFault.{RunFault}
@@ -11,8 +13,15 @@ use Rattle.j39_cli.specs.Counted.{counts_text}
 use Rattle.j39_cli.specs.Refusal.{error_line}
 use Rattle.j39_cli.specs.Turn.{IsUnmarked, Turn, Writes}
 
+-- a command that reads a log takes `--bus` and FILE
+abbrev pub with_log : App → App
+with_log command = with_rule (with_rule command (option_rule (codes "bus") false)) (value_rule (codes "file") false)
+
 abbrev pub report_app : App
-report_app = with_rule (with_rule (new_app (codes "report")) (option_rule (codes "bus") false)) (value_rule (codes "file") false)
+report_app = with_log (new_app (codes "report"))
+
+abbrev pub nodes_app : App
+nodes_app = with_log (new_app (codes "nodes"))
 
 -- the most bytes of a log that the program reads, 16 GiB
 abbrev pub log_limit : ℕ
@@ -25,26 +34,26 @@ fault_text Read = fault_words Read
 fault_text Write = fault_words Write
 fault_text TooLong = codes "input longer than 17179869184 bytes"
 
--- the report of this log was written, no device failed, and the counts are on standard error
-pub record HasReport (bus : Option (List ℕ)) (log : List ℕ) (out err : Turn) : Type 0 where
+-- what is made of the frames of this log was written, and the counts are on standard error
+pub record HasWritten (makes : List FrameRecord → Output → Type 0) (bus : Option (List ℕ)) (log : List ℕ) (out err : Turn) : Type 0 where
   pub short : length log ≤ log_limit
   pub counts : Counts
-  pub writes : WritesReport bus log counts out.old.bytes out.new.bytes
+  pub writes : run.Writes makes bus log counts out.old.bytes out.new.bytes
   pub told : Writes err (counts_text counts)
 
--- this fault came: its own mark stands, and it alone changed one; a front of the report was written; and it is told
-pub record HasFailed (fault : RunFault) (bus : Option (List ℕ)) (log out err : Turn) : Type 0 where
+-- this fault came: its own mark stands, and it alone changed one; a front was written; and it is told
+pub record HasFailed (makes : List FrameRecord → Output → Type 0) (fault : RunFault) (bus : Option (List ℕ)) (log out err : Turn) : Type 0 where
   pub too_long : fault ≡ TooLong → IfSome log.old.bytes (λ bytes. log_limit < length bytes)
   pub read : fault ≡ Read → log.new.has_failed ≡ true
   pub read_alone : fault ≢ Read → IsUnmarked log
   pub write : fault ≡ Write → out.new.has_failed ≡ true
   pub write_alone : fault ≢ Write → IsUnmarked out
-  pub stops : StopsWithin bus log.old.bytes log.new.bytes out.old.bytes out.new.bytes
+  pub stops : run.StopsWithin makes bus log.old.bytes log.new.bytes out.old.bytes out.new.bytes
   pub told : Writes err (error_line (fault_text fault) [])
 
--- status 0: the report was written; status 1: a fault came
-pub record IsReported (bus : Option (List ℕ)) (status : ℕ) (log out err : Turn) : Type 0 where
+-- status 0: it was written whole, and no device failed; status 1: a fault came
+pub record IsRun (makes : List FrameRecord → Output → Type 0) (bus : Option (List ℕ)) (status : ℕ) (log out err : Turn) : Type 0 where
   pub known : (status ≡ 0) ⊎ (status ≡ 1)
-  pub report : status ≡ 0 → IfSome log.old.bytes (λ bytes. HasReport bus bytes out err)
+  pub written : status ≡ 0 → IfSome log.old.bytes (λ bytes. HasWritten makes bus bytes out err)
   pub unmarked : status ≡ 0 → IsUnmarked log × IsUnmarked out
-  pub fault : status ≡ 1 → (fault : RunFault) × HasFailed fault bus log out err
+  pub fault : status ≡ 1 → (fault : RunFault) × HasFailed makes fault bus log out err

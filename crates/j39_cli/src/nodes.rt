@@ -1,0 +1,84 @@
+//! The command `nodes`: its words, and how it is performed.
+ghost use Rattle.std.specs.Prelude.{◌≡◌, IfOk, codes, false};
+ghost use Rattle.clap.specs.Words.{app_of, first_value, found_of};
+ghost use Rattle.clap.specs.declared.builder.command.Command.TheViews.{out-Command as settings_of};
+ghost use Rattle.j39_listen.specs.Output.{MakesNodes};
+ghost use Rattle.j39_cli.specs.CommandWords as written;
+ghost use Rattle.j39_cli.specs.LogCommand.{IsRun, nodes_app};
+ghost use Rattle.j39_cli.specs.Task.{IsAnswer, IsInRange};
+ghost use Rattle.j39_cli.specs.Turn.{turn};
+
+use crate::log::{LOG_LIMIT, copy_of, tell_counts, tell_fault, with_log};
+use crate::words::bus_value;
+use crate::{ParseFault, Task, WordText};
+use clap::{ArgMatches, Command};
+use j39_frame::{Bus, Sink, Source};
+use std::alloc::{AllocError, Global};
+
+const ABOUT: &str = "\
+Writes who holds an address at the end of a log: one line for each address that is
+held, rising, with the source address (hex) and the NAME of the device (hex), by
+the address claims in the log. A device whose claim was lost to a smaller NAME, or
+that gave its address up, has none. `j1939 name` explains a NAME.";
+
+const HELP: &str = "\
+At the end the counts go to standard error:
+  frames    frames of the bus that is read
+  other     lines that hold no such frame
+  unread    lines of no form that candump writes
+  messages  0: messages are not heard
+  lines     lines written
+
+Example:
+  j1939 nodes --bus can0 trip.log
+writes lines such as
+  00 8000000001401234";
+
+/// What clap is told of it.
+pub(crate) fn command<'a>(alloc: Global) -> Result<Command<'a>, AllocError>
+    ensures app { IfOk result (λ c. app_of c ≡ nodes_app) }
+    ensures local { IfOk result (λ c. (settings_of c).has_globals ≡ false) }
+{
+    let command = Command::new(alloc, "nodes")
+        .about("Writes who holds which address after a log")
+        .long_about(ABOUT)
+        .after_help(HELP);
+    with_log(alloc, command)
+}
+
+/// The task that its words ask for.
+pub(crate) fn task<'a>(given: &ArgMatches<'a>) -> Result<Task<'a>, ParseFault>
+    ensures answer { IsAnswer (written.nodes (first_value (found_of given.now) (codes "bus"))
+        (first_value (found_of given.now) (codes "file"))) result }
+    ensures in_range { IfOk result IsInRange }
+{
+    let file = given.get_str("file").map(WordText::new);
+    match bus_value(given) {
+        Ok(bus) => Ok(Task::Nodes(bus, file)),
+        Err(fault) => Err(fault),
+    }
+}
+
+/// Performs it: the lines go to `sink`, the counts or what failed to `err`.
+pub(crate) fn perform<R: Source, W: Sink, E: Sink>(
+    bus: &Option<Bus>,
+    source: &mut R,
+    sink: &mut W,
+    err: &mut E,
+) -> u8
+    ensures { IsRun MakesNodes bus.now result
+        (turn (R.remaining source.old) (R.has_failed source.old) (R.remaining source.new) (R.has_failed source.new))
+        (turn (W.held sink.old) (W.has_failed sink.old) (W.held sink.new) (W.has_failed sink.new))
+        (turn (E.held err.old) (E.has_failed err.old) (E.held err.new) (E.has_failed err.new)) }
+{
+    match j39_listen::nodes(source, sink, copy_of(bus), LOG_LIMIT) {
+        Ok(counts) => {
+            tell_counts(counts, err);
+            0
+        }
+        Err(fault) => {
+            tell_fault(fault, err);
+            1
+        }
+    }
+}

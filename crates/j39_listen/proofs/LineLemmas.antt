@@ -1,0 +1,100 @@
+-- One line of a run, by the definitions over the list of it alone.
+use Rattle.std.proofs.Common.{◌≡◌, ◌<◌, ◌^◌, ℕ, List, [], ◌∷◌, Option, Some, true, false, length, refl, sym, ap, ◌∙◌, subst, arith, append-nil}
+use Rattle.std.specs.Prelude.{unwrap_or, count_by}
+use Rattle.std.specs.List.{filter_map}
+use Rattle.std.specs.Str.{bytes_eq}
+use Rattle.std.proofs.KnownBytes.{Appends-nil}
+use Rattle.j39_frame.specs.Frame.{FrameRecord}
+use Rattle.j39_frame.specs.Log.{bus_of, frame_on, frames_of, is_other_on, others_of, unread_of}
+use Rattle.j39_frame.specs.Spelled.{Spelled, frame, other, unread, blank}
+use Rattle.j39_frame.proofs.BusLemmas.{bus_of-frame, bus_of-kept}
+use Rattle.j39_listen.specs.AccountSteps.{Meets, Stops}
+use Rattle.j39_listen.specs.Counting.{capped}
+use Rattle.j39_listen.specs.LineSteps.{MeetsLine, StopsLine, tally_of}
+use Rattle.j39_listen.specs.Output.{Output}
+use Rattle.j39_listen.specs.declared.counts.Tally.{Tally}
+
+-- ---- tallies
+
+pub capped-fits : (n : ℕ) → n < 2 ^ 64 → capped n ≡ n
+capped-fits n h = omega arith
+
+pub same_tally : (a b : Tally) → a.frames ≡ b.frames → a.other ≡ b.other → a.unread ≡ b.unread → a ≡ b
+same_tally a b f o u = λ i. record { frames = f i; other = o i; unread = u i }
+
+abbrev pub tally : ℕ → ℕ → ℕ → Tally
+tally f o u = record { frames = f; other = o; unread = u }
+
+-- a line counts for one at most
+pub line_tally : (bus : Option (List ℕ)) (spelled : List Spelled) (f o u : ℕ) → length (frames_of bus spelled) ≡ f → others_of bus spelled ≡ o → unread_of spelled ≡ u
+    → f < 2 → o < 2 → u < 2 → tally f o u ≡ tally_of bus spelled
+unfolding tally_of
+line_tally bus spelled f o u is_f is_o is_u small_f small_o small_u =
+    same_tally (tally f o u) (tally_of bus spelled)
+    (sym (ap capped is_f ∙ capped-fits f (omega arith)))
+    (sym (ap capped is_o ∙ capped-fits o (omega arith)))
+    (sym (ap capped is_u ∙ capped-fits u (omega arith)))
+
+-- ---- a frame of the run's bus
+
+on_bus : (name : List ℕ) (f : FrameRecord) (bus : Option (List ℕ)) → bytes_eq name (unwrap_or bus name) ≡ true → frames_of bus (frame name f ∷ []) ≡ f ∷ []
+on_bus name f bus on = ap (λ (b : Option (List ℕ)). filter_map (frame_on b) (frame name f ∷ [])) (bus_of-frame bus name f) ∙ rw on refl
+
+pub meets_frame : {A : Type 0} (has_met : A → List FrameRecord → Output → Type 0) (name : List ℕ) (f : FrameRecord) (bus bus' : Option (List ℕ)) (a a' : A) (old new : Option (List ℕ))
+    → bus' ≡ Some (unwrap_or bus name) → bytes_eq name (unwrap_or bus name) ≡ true → Meets has_met a a' (f ∷ []) old new
+    → MeetsLine has_met (frame name f) bus bus' a a' (tally 1 0 0) old new
+meets_frame has_met name f bus bus' a a' old new is on meets =
+    let bus_is = bus_of-frame bus name f in
+    let frames_are = on_bus name f bus on in
+    let others_are : others_of bus (frame name f ∷ []) ≡ 0 =
+    ap (λ (b : Option (List ℕ)). count_by (is_other_on b) (frame name f ∷ [])) bus_is ∙ rw on refl in
+    record {
+      bus_is = is ∙ sym bus_is;
+      met_is = line_tally bus (frame name f ∷ []) 1 0 0 (ap length frames_are) others_are refl (omega arith) (omega arith) (omega arith);
+      meets = subst (λ (fs : List FrameRecord). Meets has_met a a' fs old new) (sym frames_are) meets;
+    }
+
+pub stops_frame : {A : Type 0} (has_met : A → List FrameRecord → Output → Type 0) (makes : List FrameRecord → Output → Type 0) (name : List ℕ) (f : FrameRecord) (bus : Option (List ℕ)) (a : A) (old new : Option (List ℕ))
+    → bytes_eq name (unwrap_or bus name) ≡ true → Stops has_met makes a (f ∷ []) old new → StopsLine has_met makes (frame name f) bus a old new
+stops_frame has_met makes name f bus a old new on stops =
+    subst (λ (fs : List FrameRecord). Stops has_met makes a fs old new) (sym (on_bus name f bus on)) stops
+
+-- ---- a line that spells none
+
+meets_nothing : {A : Type 0} (has_met : A → List FrameRecord → Output → Type 0) (a : A) (held : Option (List ℕ)) → Meets has_met a a [] held held
+meets_nothing has_met a held = λ F before met. record {
+  after = before;
+  met = subst (λ (fs : List FrameRecord). has_met a fs before) (sym (append-nil F)) met;
+  more = [];
+  text_is = sym (append-nil before.text);
+  written = Appends-nil held;
+}
+
+meets_none : {A : Type 0} (has_met : A → List FrameRecord → Output → Type 0) (s : Spelled) (bus bus' : Option (List ℕ)) (a : A) (o u : ℕ) (held : Option (List ℕ))
+    → bus' ≡ bus_of bus (s ∷ []) → frames_of bus (s ∷ []) ≡ [] → others_of bus (s ∷ []) ≡ o → unread_of (s ∷ []) ≡ u → o < 2 → u < 2
+    → MeetsLine has_met s bus bus' a a (tally 0 o u) held held
+meets_none has_met s bus bus' a o u held is none is_o is_u small_o small_u = record {
+  bus_is = is;
+  met_is = line_tally bus (s ∷ []) 0 o u (ap length none) is_o is_u (omega arith) small_o small_u;
+  meets = subst (λ (fs : List FrameRecord). Meets has_met a a fs held held) (sym none) (meets_nothing has_met a held);
+}
+
+pub meets_frame_elsewhere : {A : Type 0} (has_met : A → List FrameRecord → Output → Type 0) (name : List ℕ) (f : FrameRecord) (bus bus' : Option (List ℕ)) (a : A) (held : Option (List ℕ))
+    → bus' ≡ Some (unwrap_or bus name) → bytes_eq name (unwrap_or bus name) ≡ false
+    → MeetsLine has_met (frame name f) bus bus' a a (tally 0 1 0) held held
+meets_frame_elsewhere has_met name f bus bus' a held is off =
+    let bus_is = bus_of-frame bus name f in
+    let none : frames_of bus (frame name f ∷ []) ≡ [] =
+    ap (λ (b : Option (List ℕ)). filter_map (frame_on b) (frame name f ∷ [])) bus_is ∙ rw off refl in
+    let one : others_of bus (frame name f ∷ []) ≡ 1 =
+    ap (λ (b : Option (List ℕ)). count_by (is_other_on b) (frame name f ∷ [])) bus_is ∙ rw off refl in
+    meets_none has_met (frame name f) bus bus' a 1 0 held (is ∙ sym bus_is) none one refl (omega arith) (omega arith)
+
+pub meets_other : {A : Type 0} (has_met : A → List FrameRecord → Output → Type 0) (bus : Option (List ℕ)) (a : A) (held : Option (List ℕ)) → MeetsLine has_met other bus bus a a (tally 0 1 0) held held
+meets_other has_met bus a held = meets_none has_met other bus bus a 1 0 held (bus_of-kept bus other refl) refl refl refl (omega arith) (omega arith)
+
+pub meets_unread : {A : Type 0} (has_met : A → List FrameRecord → Output → Type 0) (bus : Option (List ℕ)) (a : A) (held : Option (List ℕ)) → MeetsLine has_met unread bus bus a a (tally 0 0 1) held held
+meets_unread has_met bus a held = meets_none has_met unread bus bus a 0 1 held (bus_of-kept bus unread refl) refl refl refl (omega arith) (omega arith)
+
+pub meets_blank : {A : Type 0} (has_met : A → List FrameRecord → Output → Type 0) (bus : Option (List ℕ)) (a : A) (held : Option (List ℕ)) → MeetsLine has_met blank bus bus a a (tally 0 0 0) held held
+meets_blank has_met bus a held = meets_none has_met blank bus bus a 0 0 held (bus_of-kept bus blank refl) refl refl refl (omega arith) (omega arith)

@@ -1,0 +1,132 @@
+//! Who holds which address, as an account of the frames of a bus (J1939-81, 4.2).
+ghost use Rattle.std.specs.Prelude.{◌≡◌, ◌≢◌, ◌<◌, ◌≤◌, ◌++◌, ◌∷◌, [], ℕ, List, true, IfOk, IfSome, OnOk, OnErr, Err, Some, length};
+ghost use Rattle.std.specs.Io.KnownBytes.{Appends};
+ghost use Rattle.j39_address.specs.Name.{name_raw};
+ghost use Rattle.j39_frame.specs.Device.{AppendsFront, Marks};
+ghost use Rattle.j39_frame.specs.Frame.{FrameRecord};
+ghost use Rattle.j39_address.specs.Claims.{Knows, holder_in};
+ghost use Rattle.j39_listen.specs.NodeSteps.{HasNoted};
+ghost use Rattle.j39_listen.specs.Nodes.{AreNodes, Node, node_at, node_text, nodes_text};
+ghost use Rattle.j39_listen.specs.Output.{MakesNodes, nodes_of};
+ghost use Rattle.j39_listen.specs.Run.{StopsWithin, Writes};
+ghost use Rattle.j39_listen.specs.declared.running.RunFault.TheVariants.{Memory, Read, Write, TooLong};
+
+use crate::Counts;
+use crate::account::{Account, LineFault};
+use crate::counts::Made;
+use crate::report_lines::push_name;
+use crate::running::{RunFault, run_over};
+use arrayvec::ArrayVec;
+use j39_address::{Claims, Name};
+use j39_frame::printing::push_hex;
+use j39_frame::{Bus, DeviceFault, Frame, NULL_ADDRESS, Sink, Source, put_all};
+
+/// Writes, after the whole log, a line for each address that is held, rising: the address and the NAME
+/// that holds it. The log has at most `limit` bytes; without a bus it is that of the first frame in it.
+/// It takes no memory; no message counts.
+pub fn nodes<R: Source, W: Sink>(
+    source: &mut R,
+    sink: &mut W,
+    bus: Option<Bus>,
+    limit: u64,
+) -> Result<Counts, RunFault>
+    // What is written is who holds an address after the frames of the log, and nothing else.
+    ensures nodes { IfOk result (λ counts. IfSome (R.remaining source.old)
+        (λ log. Writes MakesNodes bus log counts (W.held sink.old) (W.held sink.new))) }
+
+    // Each fault comes only where its device failed, or the log is longer than the limit.
+    ensures short { OnOk result (IfSome (R.remaining source.old) (λ log. length log ≤ limit)) }
+    ensures too_long { result ≡ Err TooLong → IfSome (R.remaining source.old) (λ log. limit < length log) }
+    ensures read { result ≡ Err Read → R.has_failed source.new ≡ true }
+    ensures read_unmarked { result ≢ Err Read → R.has_failed source.new ≡ R.has_failed source.old }
+    ensures write { result ≡ Err Write → W.has_failed sink.new ≡ true }
+    ensures write_unmarked { result ≢ Err Write → W.has_failed sink.new ≡ W.has_failed sink.old }
+
+    // What was written before a fault is a front of what is written for the bytes that were read.
+    ensures prefix { OnErr result (StopsWithin MakesNodes bus (R.remaining source.old) (R.remaining source.new) (W.held sink.old) (W.held sink.new)) }
+{
+    run_over(NodeList::new(), source, sink, bus, limit)
+}
+
+/// The claims of the frames so far.
+#[derive(Drop)]
+pub(crate) struct NodeList {
+    claims: Claims,
+}
+
+impl NodeList {
+    /// The nodes of no frames.
+    fn new() -> NodeList
+        ensures { HasNoted result [] (nodes_of []) }
+    {
+        NodeList {
+            claims: Claims::new(),
+        }
+    }
+}
+
+impl Account for NodeList {
+    ghost use Rattle.j39_listen.specs.NodeSteps.{HasNoted};
+    ghost use Rattle.j39_listen.specs.Output.{MakesNodes};
+
+    ghost has_met = { λ nodes. HasNoted nodes };
+
+    ghost makes = { MakesNodes };
+
+    fn meet<W: Sink>(&mut self, frame: &Frame, _: &mut W) -> Result<(), LineFault> {
+        self.claims.note(frame);
+        Ok(())
+    }
+
+    fn close<W: Sink>(&mut self, sink: &mut W) -> Result<Made, DeviceFault> {
+        let lines = put_nodes(&self.claims, sink)?;
+        Ok(Made { messages: 0, lines })
+    }
+
+    fn laws() {}
+}
+
+/// Writes a line for each address that is held, and answers how many.
+fn put_nodes<W: Sink>(claims: &Claims, sink: &mut W) -> Result<u64, DeviceFault>
+    ensures nodes { IfOk result (λ n. (F : List FrameRecord) → Knows claims.now F
+        → (nodes : List Node) × AreNodes F nodes × (n ≡ length nodes) × Appends (W.held sink.old) (W.held sink.new) (nodes_text nodes)) }
+    ensures front { OnErr result ((F : List FrameRecord) (nodes : List Node) → Knows claims.now F → AreNodes F nodes
+        → AppendsFront (W.held sink.old) (W.held sink.new) (nodes_text nodes)) }
+    ensures mark { Marks result (W.has_failed sink.old) (W.has_failed sink.new) }
+{
+    let mut lines = 0;
+    for address in 0..NULL_ADDRESS {
+        lines += put_holder(claims, address, sink)?;
+    }
+    Ok(lines)
+}
+
+/// Writes a line where the address is held, and answers how many lines that is.
+fn put_holder<W: Sink>(claims: &Claims, address: u8, sink: &mut W) -> Result<u64, DeviceFault>
+    ensures lines { IfOk result (λ n. n ≡ length (node_at address (holder_in claims.now address))) }
+    ensures written { OnOk result (Appends (W.held sink.old) (W.held sink.new)
+        (nodes_text (node_at address (holder_in claims.now address)))) }
+    ensures front { OnErr result (AppendsFront (W.held sink.old) (W.held sink.new)
+        (nodes_text (node_at address (holder_in claims.now address)))) }
+    ensures mark { Marks result (W.has_failed sink.old) (W.has_failed sink.new) }
+{
+    match claims.holder(address) {
+        None => Ok(0),
+        Some(name) => {
+            put_all(sink, line_of(address, name).as_slice())?;
+            Ok(1)
+        }
+    }
+}
+
+/// The line of a node.
+fn line_of(address: u8, name: Name) -> ArrayVec<u8, 20>
+    ensures { result.items ≡ node_text (record { address = address; name = name_raw name }) }
+{
+    let mut line = ArrayVec::new();
+    push_hex(&mut line, &[address]);
+    line.push(b' ');
+    push_name(&mut line, Some(name));
+    line.push(b'\n');
+    line
+}

@@ -1,0 +1,82 @@
+//! The report of what is heard on a bus, as an account of its frames.
+ghost use Rattle.std.specs.Prelude.{◌≡◌, ◌≢◌, [], List, true, IfOk, Err};
+ghost use Rattle.j39_frame.specs.Frame.{FrameRecord};
+ghost use Rattle.j39_listen.specs.Listening.{Hears};
+ghost use Rattle.j39_listen.specs.Output.{report_of};
+ghost use Rattle.j39_listen.specs.ReportSteps.{HasReported, MeetsFrame, StopsFrame};
+ghost use Rattle.j39_listen.specs.declared.account.LineFault.TheVariants.{Memory, Write};
+
+use crate::Listener;
+use crate::account::{Account, LineFault};
+use crate::counts::Made;
+use crate::report_lines::put_heard;
+use j39_frame::{DeviceFault, Frame, Sink};
+use std::alloc::{AllocError, Global};
+
+/// What is heard so far, and the numbers of its report.
+#[derive(Drop)]
+pub(crate) struct Report {
+    listener: Listener,
+    made: Made,
+}
+
+impl Report {
+    /// The report of no frames.
+    pub fn new(alloc: Global) -> Report
+        ensures { HasReported result [] (report_of []) }
+    {
+        Report {
+            listener: Listener::new(alloc),
+            made: Made::default(),
+        }
+    }
+}
+
+impl Account for Report {
+    ghost use Rattle.j39_listen.specs.Output.{MakesReport};
+    ghost use Rattle.j39_listen.specs.ReportSteps.{HasReported};
+
+    ghost has_met = { λ report. HasReported report };
+
+    ghost makes = { MakesReport };
+
+    fn meet<W: Sink>(&mut self, frame: &Frame, sink: &mut W) -> Result<(), LineFault> {
+        match put_frame(&mut self.listener, frame, sink) {
+            Ok(made) => {
+                self.made = self.made.and(made);
+                Ok(())
+            }
+            Err(fault) => Err(fault),
+        }
+    }
+
+    fn close<W: Sink>(&mut self, _: &mut W) -> Result<Made, DeviceFault> {
+        Ok(self.made)
+    }
+
+    fn laws() {}
+}
+
+/// Writes the report of what is heard at a frame of the run's bus, and answers its numbers.
+fn put_frame<W: Sink>(
+    listener: &mut Listener,
+    frame: &Frame,
+    sink: &mut W,
+) -> Result<Made, LineFault>
+    ensures met { IfOk result (λ made. (F : List FrameRecord) → Hears listener.old F
+        → MeetsFrame listener.new F frame.now made (W.held sink.old) (W.held sink.new)) }
+    ensures write { result ≡ Err Write → W.has_failed sink.new ≡ true }
+    ensures stops { result ≡ Err Write → (F : List FrameRecord) → Hears listener.old F
+        → StopsFrame F frame.now (W.held sink.old) (W.held sink.new) }
+    ensures memory { result ≡ Err Memory → W.held sink.new ≡ W.held sink.old }
+    ensures unmarked { result ≢ Err Write → W.has_failed sink.new ≡ W.has_failed sink.old }
+{
+    match listener.feed(frame) {
+        Err(AllocError) => Err(LineFault::Memory),
+        Ok(None) => Ok(Made::default()),
+        Ok(Some(heard)) => match put_heard(&heard, sink) {
+            Ok(lines) => Ok(Made { messages: 1, lines }),
+            Err(DeviceFault) => Err(LineFault::Write),
+        },
+    }
+}
