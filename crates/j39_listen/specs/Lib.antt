@@ -1,6 +1,9 @@
 pub mod Heard
 pub mod Forgets
 pub mod Report
+pub mod Published
+pub mod Loss
+pub mod Values
 pub mod NextSteps
 pub mod Listening
 pub mod Shown
