@@ -1,5 +1,5 @@
--- What publishers sent: messages of addresses that they hold, each whole, with at most one broadcast and one transfer for
--- each destination open.
+-- What publishers sent: messages from addresses that they hold, with at most one broadcast and one transfer for each
+-- destination open (J1939-21, 5.10; J1939-81, 4.2).
 use Rattle.std.specs.Prelude.{◌≡◌, ◌≢◌, ◌⊎◌, ℕ, suc, ◌+◌, ◌-◌, ◌<◌, ◌≤◌, Bool, true, false, ◌||◌, ◌==◌, List, length, map, slice_get, slice_index, Option, Some, All}
 use Rattle.std.specs.List.{Contains, list_any}
 use Rattle.std.specs.List.Sorted.{IsStrictlyIncreasing}
@@ -71,7 +71,7 @@ pub record AreSuccessive (F : List FrameRecord) (item : Item) (a b : ℕ) : Type
   pub later : Spans item b × (is_frame_of F item b ≡ true)
   pub none_between : (q : ℕ) → a < q → q < b → is_frame_of F item q ≡ false
 
--- the item's frames carry its message, while its publisher holds the address, in time, and with nothing that ends it
+-- a publisher sent the item: the frames at its places carry its message
 pub record IsSent (F : List FrameRecord) (P : Publishing) (item : Item) : Type 0 where
   pub of_a_publisher : Contains P.publishers item.publisher
   pub source_is : item.message.source ≡ item.publisher.address
@@ -79,8 +79,11 @@ pub record IsSent (F : List FrameRecord) (P : Publishing) (item : Item) : Type 0
   pub rising : IsStrictlyIncreasing item.places
   pub inside : last_place item < length F
   pub carried : Carries item.key item.message (map (frame_at F) item.places)
+  -- from its first place to its last the publisher's NAME, or nobody, holds the address
   pub held : (j : ℕ) → Spans item j → IsHolder (claims_of F) j item.publisher.address item.publisher.name
+  -- its frames are near enough to one another
   pub in_time : (a b : ℕ) → AreSuccessive F item a b → (frame_at F b).stamp ≤ (frame_at F a).stamp + limit item.key
+  -- no acknowledgment and no abort ends it, and fewer than sixteen directed announcements stand behind its own
   pub unended : (j : ℕ) → Spans item j → is_end item.key item.message.pgn (frame_at F j) ≡ false
   pub young : count_below (rivals item.key) (frames_only F) (suc (last_place item))
       < 16 + count_below (rivals item.key) (frames_only F) (suc (first_place item))
@@ -100,7 +103,8 @@ pub record IsNextPlace (item : Item) (j q : ℕ) : Type 0 where
   pub stands : Contains item.places q
   pub first : (r : ℕ) → Contains item.places r → j < r → q ≤ r
 
--- no message of the key is open at place j, or the number there isn't that of its next packet
+-- the packet at place j has a number that no open message of the key needs: none is open there, or it isn't that of the
+-- message's next packet
 abbrev pub IsSpare : List FrameRecord → Publishing → Key → ℕ → Type 0
 IsSpare F P k j = (n : ℕ) (item : Item) → slice_get P.items n ≡ Some item → item.key ≡ k → Spans item j
     → (q : ℕ) → IsNextPlace item j q → number_at F j ≢ number_at F q
@@ -108,18 +112,19 @@ IsSpare F P k j = (n : ℕ) (item : Item) → slice_get P.items n ≡ Some item 
 abbrev pub NeverBack : List FrameRecord → Type 0
 NeverBack F = (i j : ℕ) → i < j → j < length F → (frame_at F i).stamp ≤ (frame_at F j).stamp
 
--- in F publishers sent these items and nothing else of what is reported: each announcement, broadcast packet and frame of
--- a reported group from their addresses stands in one item, but for packets that no announcement precedes; each directed
--- packet too, but for those that a receiver has no use for
+-- in F the publishers sent these items, and nothing else that would be heard
 pub record Published (F : List FrameRecord) (P : Publishing) : Type 0 where
   pub addresses : All (λ p. IsAddress p.address) P.publishers
   pub distinct : (m n : ℕ) (p : Publisher) → slice_get P.publishers m ≡ Some p → slice_get P.publishers n ≡ Some p → m ≡ n
   pub sent : (n : ℕ) (item : Item) → slice_get P.items n ≡ Some item → IsSent F P item
+  -- two items that are alike stand one behind the other
   pub apart : (m n : ℕ) (x y : Item) → slice_get P.items m ≡ Some x → slice_get P.items n ≡ Some y → m ≢ n → AreAlike x y
       → (last_place x < first_place y) ⊎ (last_place y < first_place x)
+  -- each frame of a reported group and each announcement from their addresses stands in one item
   pub reported : (j : ℕ) → j < length F → is_publisher P (source_of (frame_at F j).id) ≡ true
       → is_reported_group (pgn_of (frame_at F j).id) ≡ true → StandsInOne P j
   pub announced : (j : ℕ) (k : Key) → is_publisher P (sender k) ≡ true → is_announcement k (frame_at F j) ≡ true → StandsInOne P j
+  -- each packet too, but for those of broadcasts that no announcement precedes, and for spare ones of transfers
   pub broadcast : (j s : ℕ) → is_publisher P s ≡ true → is_packet (Broadcast s) (frame_at F j) ≡ true
       → StandsInOne P j ⊎ ((q : ℕ) → q < j → is_announcement (Broadcast s) (frame_at F q) ≡ false)
   pub directed : (j s d : ℕ) → is_publisher P s ≡ true → is_packet (Directed s d) (frame_at F j) ≡ true
