@@ -2,7 +2,7 @@
 use Rattle.std.proofs.Common.{◌≡◌, ◌⊎◌, ℕ, zero, suc, ◌+◌, ◌<◌, ◌≤◌, Bool, true, false, if◌then◌else◌, List, [], ◌∷◌, ◌++◌, length, take, refl, sym, ap, ◌∙◌, subst, inl, inr, arith, ◌==◌}
 use Rattle.std.proofs.lemmas.Bool.{cases_lt, cases_eq, cases_Bool, and_parts, or_left, or_right, both_ways, false_from_ne_true, cond-false}
 use Rattle.j39_listen.proofs.Masks.{Same, kept_at, one_in_H, order_to_F, order_to_H, place_in_F, place_in_H, rank, rank_gone, rank_kept, same_element}
-use Rattle.j39_listen.proofs.Lost.{without}
+use Rattle.j39_listen.specs.Loss.{without}
 use Rattle.j39_transport.proofs.Chains.{belongs_within}
 use Rattle.j39_transport.specs.Assembly.{AreSuccessive, IsFirstAfter, Links, Runs, Whole, count_below, joined, last_of}
 use Rattle.j39_transport.specs.Events.{Event, announces, belongs, ends, group, is_numbered, number, packets, payload, rivals, sends, size, stamp}

@@ -8,11 +8,11 @@ use Rattle.j39_address.specs.Holder.{IsHolder}
 use Rattle.j39_frame.specs.Frame.{FrameRecord}
 use Rattle.j39_listen.proofs.Causal.{event_at}
 use Rattle.j39_listen.proofs.Forgets.{IsAside}
-use Rattle.j39_listen.proofs.Masks.{Same, rank}
+use Rattle.j39_listen.proofs.Masks.{Same, rank, without_none}
 use Rattle.j39_listen.proofs.Unique.{forgets_unique}
 use Rattle.j39_listen.specs.Forgets.{Changed, WithForgets}
 use Rattle.j39_listen.specs.Heard.{frame_at, frames_only}
-use Rattle.j39_listen.proofs.Lost.{without}
+use Rattle.j39_listen.specs.Loss.{without}
 use Rattle.j39_transport.proofs.FrameFacts.{key_below}
 use Rattle.j39_transport.specs.Events.{Event, announces, ends, grants, rivals, sends}
 use Rattle.j39_transport.specs.Events.{at}
@@ -37,10 +37,6 @@ without_gaps : (E : List Event) → without (gaps E) E ≡ frames_in E
 without_gaps [] = refl
 without_gaps (Frame f ∷ E) = ap (λ (x : List Event). Frame f ∷ x) (without_gaps E)
 without_gaps (Forget t ∷ E) = without_gaps E
-
-without_none : (E : List Event) → without (λ i. false) E ≡ E
-without_none [] = refl
-without_none (e ∷ E) = ap (λ (x : List Event). e ∷ x) (without_none E)
 
 rank_gaps : (A B : List Event) → rank (gaps (A ++ B)) (length A) ≡ length (frames_in A)
 rank_gaps [] B = refl

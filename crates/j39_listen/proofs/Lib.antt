@@ -4,7 +4,6 @@ pub mod Causal
 pub mod Events
 pub mod Reported
 pub mod Unique
-pub mod Lost
 pub mod Masks
 pub mod Forgets
 pub mod Gaps
@@ -18,3 +17,14 @@ pub mod NodeLemmas
 pub mod RunLemmas
 pub mod StopLemmas
 pub mod PieceLemmas
+pub mod Items
+pub mod Sent
+pub mod Story
+pub mod Courses
+pub mod InTime
+pub mod Holders
+pub mod HeardAlone
+pub mod HeardItems
+pub mod Endings
+pub mod Headline
+pub mod Written

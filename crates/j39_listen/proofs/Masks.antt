@@ -1,7 +1,7 @@
 -- A list without the elements at some places.
-use Rattle.std.proofs.Common.{◌≡◌, ℕ, zero, suc, ◌<◌, ◌≤◌, Bool, true, false, if◌then◌else◌, List, [], ◌∷◌, length, get_or, refl, sym, ap, ◌∙◌, subst, inl, inr, arith}
+use Rattle.std.proofs.Common.{◌≡◌, ℕ, zero, suc, ◌<◌, ◌≤◌, Bool, true, false, if◌then◌else◌, List, [], ◌∷◌, map, length, get_or, refl, sym, ap, ◌∙◌, subst, inl, inr, arith}
 use Rattle.std.proofs.lemmas.Bool.{cases_lt, cases_order, cases_Bool, cond-true, cond-false}
-use Rattle.j39_listen.proofs.Lost.{later, without}
+use Rattle.j39_listen.specs.Loss.{later, without}
 
 -- how many of the first i places X doesn't name
 abbrev pub rank : (ℕ → Bool) → ℕ → ℕ
@@ -125,3 +125,33 @@ module _ {A : Type 0} (X Y : ℕ → Bool) (F H : List A) (one_rest : without X 
     | inl e ↦ e
     | inr o ↦ elim o [ inl l ↦ absurd (let m : f < f = order_to_F a b l in omega arith) | inr l ↦ absurd (let m : f < f = order_to_F b a l in omega arith) ]
   ]
+
+-- ---- what is kept of a list, and of what a function makes of it
+
+pub without-map : {A B : Type 0} (X : ℕ → Bool) (f : A → B) (xs : List A) → without X (map f xs) ≡ map f (without X xs)
+without-map X f [] = refl
+without-map X f (x ∷ xs) = elim (cases_Bool (X 0)) [
+  | inl e ↦ rw e (without-map (later X) f xs)
+  | inr e ↦ rw e (ap (λ (ys : List _). f x ∷ ys) (without-map (later X) f xs))
+]
+
+pub without_none : {A : Type 0} (xs : List A) → without (λ i. false) xs ≡ xs
+without_none [] = refl
+without_none (x ∷ xs) = ap (λ (ys : List _). x ∷ ys) (without_none xs)
+
+pub length-without : {A : Type 0} (X : ℕ → Bool) (xs : List A) → length (without X xs) ≡ rank X (length xs)
+length-without X [] = refl
+length-without X (x ∷ xs) = elim (cases_Bool (X 0)) [
+  | inl e ↦ rw e (length-without (later X) xs)
+  | inr e ↦ rw e (ap suc (length-without (later X) xs))
+]
+
+-- a kept place is where its rank is
+pub rank_once : (X : ℕ → Bool) (i j : ℕ) → X i ≡ false → X j ≡ false → rank X i ≡ rank X j → i ≡ j
+rank_once X i j a b e = elim (cases_order i j) [
+  | inl z ↦ z
+  | inr o ↦ elim o [
+    | inl l ↦ absurd (let w : rank X i < rank X j = rank_strict X i j a l in omega arith)
+    | inr l ↦ absurd (let w : rank X j < rank X i = rank_strict X j i b l in omega arith)
+  ]
+]

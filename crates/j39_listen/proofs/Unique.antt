@@ -31,12 +31,12 @@ assembled_packet F i m name h = sym (ev_sends F h.key i) ∙ (whole_ends (frames
 pub not_both : (F : List FrameRecord) (i : ℕ) (m n : MessageRecord) (name : Option ℕ) → IsSingle F i m → IsAssembled F i n name → ⊥
 not_both F i m n name h k = not_reported _ h.reported (packet_group k.key (frame_at F i) (assembled_packet F i n name k))
 
-message_same : (m n : MessageRecord) → m.source ≡ n.source → m.pgn ≡ n.pgn → m.bytes ≡ n.bytes → m ≡ n
+pub message_same : (m n : MessageRecord) → m.source ≡ n.source → m.pgn ≡ n.pgn → m.bytes ≡ n.bytes → m ≡ n
 message_same m n a b c =
     ap (λ (x : ℕ). record { source = x; pgn = m.pgn; bytes = m.bytes }) a
     ∙ (ap (λ (x : ℕ). record { source = n.source; pgn = x; bytes = m.bytes }) b ∙ ap (λ (x : List ℕ). record { source = n.source; pgn = n.pgn; bytes = x }) c)
 
-hearing_same : (h k : Hearing) → h.message ≡ k.message → h.stamp ≡ k.stamp → h.name ≡ k.name → h ≡ k
+pub hearing_same : (h k : Hearing) → h.message ≡ k.message → h.stamp ≡ k.stamp → h.name ≡ k.name → h ≡ k
 hearing_same h k a b c =
     ap (λ (x : MessageRecord). record { message = x; stamp = h.stamp; name = h.name }) a
     ∙ (ap (λ (x : ℕ). record { message = k.message; stamp = x; name = h.name }) b ∙ ap (λ (x : Option ℕ). record { message = k.message; stamp = k.stamp; name = x }) c)

@@ -3,6 +3,9 @@ pub mod Forgets
 pub mod Report
 pub mod Nodes
 pub mod Output
+pub mod Published
+pub mod Loss
+pub mod Values
 pub mod NextSteps
 pub mod Listening
 pub mod Shown

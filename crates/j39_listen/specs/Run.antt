@@ -7,6 +7,8 @@ use Rattle.j39_frame.specs.Log.{IsLog, frames_of}
 use Rattle.j39_frame.specs.Spelled.{Spelled}
 use Rattle.j39_listen.specs.Counting.{counts_of}
 use Rattle.j39_listen.specs.Output.{Output}
+use Rattle.j39_listen.specs.Report.{Entry, IsReport, text_of}
+use Rattle.j39_listen.specs.Values.{TellsPublished, TellsRepeated, TellsThinned}
 use Rattle.j39_listen.specs.declared.counts.Counts.{Counts}
 
 -- a run over the log with this bus or none given wrote what is made of its frames, and nothing else, and counted it
@@ -28,3 +30,15 @@ pub record StopsWithin (makes : List FrameRecord → Output → Type 0) (given r
   pub taken : List ℕ
   pub consumed : Consumes remaining remaining' taken
   pub written : WritesFront makes given taken old new
+
+-- a run over the log wrote a line for each of these entries, which tell of publishers what was published in the log's
+-- frames, whatever packets were lost and repeated on the way there
+pub record WritesPublished (given : Option (List ℕ)) (log : List ℕ) (old new : Option (List ℕ)) : Type 0 where
+  pub spelled : List Spelled
+  pub is_log : IsLog log spelled
+  pub entries : List Entry
+  pub are_reported : IsReport (frames_of given spelled) entries
+  pub written : Appends old new (text_of entries)
+  pub published : TellsPublished (frames_of given spelled) entries
+  pub thinned : TellsThinned (frames_of given spelled) entries
+  pub repeated : TellsRepeated (frames_of given spelled) entries

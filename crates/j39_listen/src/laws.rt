@@ -3,10 +3,27 @@ ghost use Rattle.std.specs.Prelude.{◌≡◌, ℕ, List, Option};
 ghost use Rattle.j39_frame.specs.Frame.{FrameRecord};
 ghost use Rattle.j39_listen.specs.Heard.{AreHeard, HeardAt, Hearing};
 ghost use Rattle.j39_listen.specs.Report.{Entry, IsReport};
+ghost use Rattle.j39_listen.specs.Values.{TellsPublished, TellsRepeated, TellsThinned};
 
 /// A list of frames has at most one report: at each frame one message is heard at most.
 pub fn one_report()
     ensures one_at_a_frame { (F : List FrameRecord) (i : ℕ) (g h : Option Hearing) → HeardAt F i g → HeardAt F i h → g ≡ h }
     ensures heard { (F : List FrameRecord) (gs hs : List Hearing) → AreHeard F gs → AreHeard F hs → gs ≡ hs }
     ensures report { (F : List FrameRecord) (a b : List Entry) → IsReport F a → IsReport F b → a ≡ b }
+{}
+
+/// Of what publishers sent, a report has under their addresses exactly the values published, in order
+/// of completion, each under its publisher's NAME.
+pub fn published()
+    ensures { (F : List FrameRecord) (entries : List Entry) → IsReport F entries → TellsPublished F entries }
+{}
+
+/// Where packets were lost, and nothing else, exactly the messages that lost one are missing.
+pub fn thinned()
+    ensures { (G : List FrameRecord) (entries : List Entry) → IsReport G entries → TellsThinned G entries }
+{}
+
+/// Where packets were lost, and others came more than once, it is the same.
+pub fn repeated()
+    ensures { (H : List FrameRecord) (entries : List Entry) → IsReport H entries → TellsRepeated H entries }
 {}

@@ -2,7 +2,7 @@
 ghost use Rattle.std.specs.Prelude.{◌≡◌, ◌≢◌, ◌<◌, ◌≤◌, ◌++◌, ℕ, List, [], Option, true, length, IfOk, OnOk, OnErr, IfSome, Err};
 ghost use Rattle.j39_listen.specs.Output.{MakesReport, Output};
 ghost use Rattle.j39_listen.specs.PieceSteps.{HasTaken};
-ghost use Rattle.j39_listen.specs.Run.{StopsWithin, Writes, WritesFront};
+ghost use Rattle.j39_listen.specs.Run.{StopsWithin, Writes, WritesFront, WritesPublished};
 ghost use Rattle.j39_listen.specs.declared.running.RunFault.TheVariants.{Read, Write, TooLong};
 
 use crate::Counts;
@@ -69,6 +69,11 @@ pub fn run<R: Source, W: Sink>(
     // The report promise: what is written is the report of the log, and nothing else.
     ensures report { IfOk result (λ counts. IfSome (R.remaining source.old)
         (λ log. Writes MakesReport bus log counts (W.held sink.old) (W.held sink.new))) }
+
+    // The headline: of what publishers sent, its lines under their addresses are exactly the values
+    // published, but for the messages that lost a packet.
+    ensures published { OnOk result (IfSome (R.remaining source.old)
+        (λ log. WritesPublished bus log (W.held sink.old) (W.held sink.new))) }
 
     // Each fault comes only where its device failed, or the log is longer than the limit.
     ensures short { OnOk result (IfSome (R.remaining source.old) (λ log. length log ≤ limit)) }
