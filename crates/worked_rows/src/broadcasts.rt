@@ -29,7 +29,7 @@ fn vin_by_broadcast(rt: HostRuntime) -> Result<(), Fail> {
 }
 
 /// This announcement and 255 packets of seven `A` each, 50 ms apart.
-fn longest_log(alloc: Global, announcement: &str) -> Result<String, AllocError> {
+pub(crate) fn longest_log(alloc: Global, announcement: &str) -> Result<String, AllocError> {
     let mut log = format!(in alloc; "(2.000000) can0 1CECFF00#{announcement}\n")?;
     for number in 1..=255u32 {
         let micros = 2_000_000 + 50_000 * number;
@@ -43,7 +43,7 @@ fn longest_log(alloc: Global, announcement: &str) -> Result<String, AllocError> 
 }
 
 /// The report of the longest broadcast: one value of 1,785 `A`.
-fn longest_text(alloc: Global) -> Result<String, AllocError> {
+pub(crate) fn longest_text(alloc: Global) -> Result<String, AllocError> {
     let mut text = String::from_str(
         alloc,
         "(0000000014.750000) 00 ---------------- 65260 237 \"",

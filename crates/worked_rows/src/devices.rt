@@ -1,10 +1,12 @@
-//! Devices that fail, and logs that are too long.
+//! Devices that fail, memory that is refused, and logs that are too long.
+use crate::broadcasts::{longest_log, longest_text};
 use crate::support::program;
 use j39_cli::{parse, perform};
-use j39_frame::{Bus, Full, Told, Trial};
-use j39_listen::{RunFault, run};
-use std::alloc::Global;
+use j39_frame::{Bus, Frame, Full, Id, Stamp, Told, Trial};
+use j39_listen::{Listener, RunFault, run};
+use std::alloc::{AllocError, Global};
 use std::fs;
+use std::process::Abort;
 use std::test::Fail;
 
 const LOG: &[u8] = b"(0000000001.000000) can0 18EEFF00#3412400100000080\n\
@@ -16,12 +18,40 @@ const TEXT: &[u8] = b"(0000000001.010000) 00 8000000001401234 61444 512 35 %\n\
     (0000000001.010000) 00 8000000001401234 61444 190 1500.000 rpm\n\
     (0000000001.020000) 00 8000000001401234 61444 190 1501.000 rpm\n";
 
-/// The lines of `TEXT` that the first two lines of `LOG` have.
-const FIRST: usize = TEXT.len() - 63;
+/// The first two lines of `LOG`, a claim and a frame, and what `TEXT` has of them.
+const TWO_LINES: usize = 102;
+
+const TEXT_OF_TWO: usize = TEXT.len() - 63;
+
+const VIN_LOG: &[u8] = b"(0000000001.000000) can0 18EEFF00#3412400100000080\n\
+    (0000000002.000000) can0 1CECFF00#20120003FFECFE00\n\
+    (0000000002.010000) can0 0CF00400#F0FFFFE02EFFFFFF\n\
+    (0000000002.050000) can0 1CEBFF00#013146554A413643\n\
+    (0000000002.060000) can0 0CF00400#F0FFFFE82EFFFFFF\n\
+    (0000000002.100000) can0 1CEBFF00#025631324C4B3132\n\
+    (0000000002.150000) can0 1CEBFF00#033334352AFFFFFF\n";
+
+const VIN_TEXT: &[u8] = b"(0000000002.010000) 00 8000000001401234 61444 190 1500.000 rpm\n\
+    (0000000002.060000) 00 8000000001401234 61444 190 1501.000 rpm\n\
+    (0000000002.150000) 00 8000000001401234 65260 237 \"1FUJA6CV12LK12345\"\n";
+
+/// Logs with their reports.
+fn logs() -> [(&'static [u8], &'static [u8]); 3] {
+    [
+        (&LOG[..TWO_LINES], &TEXT[..TEXT_OF_TWO]),
+        (LOG, TEXT),
+        (VIN_LOG, VIN_TEXT),
+    ]
+}
+
+/// A source of a log in pieces.
+fn source_of(alloc: Global, log: &[u8], most: usize) -> Result<Trial, Fail> {
+    Ok(Trial::new(alloc, log, 0)?.in_pieces(most))
+}
 
 /// A source of `LOG` in pieces.
 fn log_in(alloc: Global, most: usize) -> Result<Trial, Fail> {
-    Ok(Trial::new(alloc, LOG, 0)?.in_pieces(most))
+    source_of(alloc, LOG, most)
 }
 
 /// A sink with room for so many bytes.
@@ -66,33 +96,119 @@ fn report_over(
 #[test]
 fn log_at_the_limit(rt: HostRuntime) -> Result<(), Fail> {
     let alloc = rt.alloc();
+    for (log, text) in logs() {
+        let limit = log.len() as u64;
+        let (mut source, mut sink) = (source_of(alloc, log, 1)?, room_for(alloc, text.len())?);
+        assert_eq!(rt; run_over(alloc, &mut source, &mut sink, limit), Ok(()));
+        assert_eq!(rt; sink.written(), text);
+        assert!(rt; source.reads() <= limit + 2);
+        let (mut source, mut sink) = (source_of(alloc, log, 1)?, room_for(alloc, text.len())?);
+        assert_eq!(rt;
+            run_over(alloc, &mut source, &mut sink, limit - 1),
+            Err(RunFault::TooLong)
+        );
+        assert!(rt; text.starts_with(sink.written()));
+    }
+    Ok(())
+}
+
+#[test]
+fn piece_that_passes_the_limit(rt: HostRuntime) -> Result<(), Fail> {
+    // It isn't handled.
+    let alloc = rt.alloc();
     let limit = LOG.len() as u64;
-    let (mut source, mut sink) = (log_in(alloc, 1)?, room_for(alloc, TEXT.len())?);
-    assert_eq!(rt; run_over(alloc, &mut source, &mut sink, limit), Ok(()));
-    assert_eq!(rt; sink.written(), TEXT);
-    assert!(rt; source.reads() <= limit + 2);
-    // The piece that passes the limit isn't handled.
     let (mut source, mut sink) = (log_in(alloc, 51)?, room_for(alloc, TEXT.len())?);
     assert_eq!(rt;
         run_over(alloc, &mut source, &mut sink, limit - 1),
         Err(RunFault::TooLong)
     );
-    assert_eq!(rt; sink.written(), &TEXT[..FIRST]);
+    assert_eq!(rt; sink.written(), &TEXT[..TEXT_OF_TWO]);
     Ok(())
 }
 
 #[test]
 fn nth_read_fails(rt: HostRuntime) -> Result<(), Fail> {
     let alloc = rt.alloc();
-    for nth in 1..=23 {
-        let mut source = log_in(alloc, 7)?.failing_read(nth);
-        let mut sink = room_for(alloc, TEXT.len())?;
-        assert_eq!(rt;
-            run_over(alloc, &mut source, &mut sink, 1000),
-            Err(RunFault::Read)
-        );
-        assert_eq!(rt; source.reads(), nth);
-        assert!(rt; TEXT.starts_with(sink.written()));
+    for (log, text) in logs() {
+        // The last read is the one that meets the end.
+        let reads = log.len().div_ceil(7) as u64 + 1;
+        for nth in 1..=reads {
+            let mut source = source_of(alloc, log, 7)?.failing_read(nth);
+            let mut sink = room_for(alloc, text.len())?;
+            assert_eq!(rt;
+                run_over(alloc, &mut source, &mut sink, 1000),
+                Err(RunFault::Read)
+            );
+            assert_eq!(rt; source.reads(), nth);
+            assert!(rt; text.starts_with(sink.written()));
+        }
+    }
+    Ok(())
+}
+
+/// The report of a log, or a front of it where memory was refused.
+fn reports_without_memory(
+    rt: &(impl Abort + AllocGlobal),
+    log: &[u8],
+    text: &[u8],
+) -> Result<(), Fail> {
+    let alloc = rt.alloc();
+    let (mut source, mut sink) = (source_of(alloc, log, 4096)?, room_for(alloc, text.len())?);
+    let met = run_over(alloc, &mut source, &mut sink, 100_000);
+    if met == Err(RunFault::Memory) {
+        assert!(rt; text.starts_with(sink.written()));
+    } else {
+        assert_eq!(rt; met, Ok(()));
+        assert_eq!(rt; sink.written(), text);
+    }
+    Ok(())
+}
+
+// These hold with any one allocation refused, which the tool does in turn.
+#[test]
+fn memory_of_a_run(rt: HostRuntime) -> Result<(), Fail> {
+    for (log, text) in logs() {
+        reports_without_memory(&rt, log, text)?;
+    }
+    let alloc = rt.alloc();
+    let (log, text) = (
+        longest_log(alloc, "20F906FFFFECFE00")?,
+        longest_text(alloc)?,
+    );
+    reports_without_memory(&rt, log.as_bytes(), text.as_bytes())
+}
+
+/// The broadcast of `VIN_LOG`, with stamps in microseconds.
+const BROADCAST: [(u64, u32, [u8; 8]); 4] = [
+    (2_000_000, 0x1CEC_FF00, *b"\x20\x12\x00\x03\xFF\xEC\xFE\x00"),
+    (2_050_000, 0x1CEB_FF00, *b"\x011FUJA6C"),
+    (2_100_000, 0x1CEB_FF00, *b"\x02V12LK12"),
+    (2_150_000, 0x1CEB_FF00, *b"\x03345*\xFF\xFF\xFF"),
+];
+
+fn frame_of(micros: u64, id: u32, bytes: &[u8]) -> Option<Frame> {
+    Frame::new(Stamp::new(micros)?, Id::new(id)?, bytes)
+}
+
+/// Whether a message is heard at the frame.
+fn hears(listener: &mut Listener, frame: &Frame) -> Result<bool, AllocError> {
+    Ok(listener.feed(frame)?.is_some())
+}
+
+#[test]
+fn memory_of_a_listener(rt: HostRuntime) -> Result<(), Fail> {
+    let mut listener = Listener::new(rt.alloc());
+    for (micros, id, bytes) in &BROADCAST {
+        let Some(frame) = frame_of(*micros, *id, bytes) else {
+            continue;
+        };
+        // A frame that was refused is fed again, and nothing later is otherwise.
+        let heard = match hears(&mut listener, &frame) {
+            Ok(heard) => heard,
+            Err(AllocError) => hears(&mut listener, &frame)?,
+        };
+        assert_eq!(rt; heard, *micros == 2_150_000);
+        assert_eq!(rt; listener.open(), usize::from(!heard));
     }
     Ok(())
 }
@@ -101,7 +217,7 @@ fn nth_read_fails(rt: HostRuntime) -> Result<(), Fail> {
 fn values_before_the_next_read(rt: HostRuntime) -> Result<(), Fail> {
     // Each read gives one line; what its frame holds is written and passed on before the next.
     let alloc = rt.alloc();
-    for (nth, written) in [(2, 0), (3, FIRST), (4, TEXT.len())] {
+    for (nth, written) in [(2, 0), (3, TEXT_OF_TWO), (4, TEXT.len())] {
         let mut source = log_in(alloc, 51)?.failing_read(nth);
         let mut sink = room_for(alloc, TEXT.len())?;
         assert_eq!(rt;
@@ -117,15 +233,17 @@ fn values_before_the_next_read(rt: HostRuntime) -> Result<(), Fail> {
 #[test]
 fn writer_that_fails(rt: HostRuntime) -> Result<(), Fail> {
     let alloc = rt.alloc();
-    for room in 0..TEXT.len() {
-        let mut source = log_in(alloc, 4096)?;
-        let mut sink = room_for(alloc, room)?;
-        assert_eq!(rt;
-            run_over(alloc, &mut source, &mut sink, 1000),
-            Err(RunFault::Write)
-        );
-        assert_eq!(rt; sink.written(), &TEXT[..room]);
-        assert_eq!(rt; source.reads(), 1);
+    for (log, text) in logs() {
+        for room in 0..text.len() {
+            let mut source = source_of(alloc, log, 4096)?;
+            let mut sink = room_for(alloc, room)?;
+            assert_eq!(rt;
+                run_over(alloc, &mut source, &mut sink, 1000),
+                Err(RunFault::Write)
+            );
+            assert_eq!(rt; sink.written(), &text[..room]);
+            assert_eq!(rt; source.reads(), 1);
+        }
     }
     let mut full = room_for(alloc, 60)?.when_full(Full::TakesNone);
     assert_eq!(rt;

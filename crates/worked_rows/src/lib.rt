@@ -14,6 +14,8 @@ mod identifiers;
 #[cfg(test)]
 mod lines;
 #[cfg(test)]
+mod losses;
+#[cfg(test)]
 mod nodes;
 #[cfg(test)]
 mod support;

@@ -8,12 +8,7 @@ use std::process::Abort;
 use std::test::Fail;
 
 /// The nodes after a log are these lines, with these counts, however the log comes in pieces.
-fn lists(
-    rt: &(impl Abort + AllocGlobal),
-    log: &str,
-    want: &str,
-    counts: &str,
-) -> Result<(), Fail> {
+fn lists(rt: &(impl Abort + AllocGlobal), log: &str, want: &str, counts: &str) -> Result<(), Fail> {
     let alloc = rt.alloc();
     let shown = program(alloc, &["j1939", "nodes"], log.as_bytes())?;
     assert_eq!(rt; shown.out.as_str(), want);
@@ -115,7 +110,10 @@ fn nodes_of_devices_that_fail(rt: HostRuntime) -> Result<(), Fail> {
     for nth in 1..=16 {
         let mut source = log_in(alloc, 7)?.failing_read(nth);
         let mut sink = Trial::new(alloc, b"", TEXT.len())?;
-        assert_eq!(rt; nodes_over(&mut source, &mut sink, 1000), Err(RunFault::Read));
+        assert_eq!(rt;
+            nodes_over(&mut source, &mut sink, 1000),
+            Err(RunFault::Read)
+        );
         assert_eq!(rt; source.reads(), nth);
         assert!(rt; sink.written().is_empty());
     }
