@@ -4,6 +4,7 @@ pub mod Report
 pub mod Published
 pub mod Loss
 pub mod Values
+pub mod Example
 pub mod NextSteps
 pub mod Listening
 pub mod Shown
