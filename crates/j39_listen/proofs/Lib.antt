@@ -28,3 +28,4 @@ pub mod HeardItems
 pub mod Endings
 pub mod Headline
 pub mod Written
+pub mod Example

@@ -6,6 +6,7 @@ pub mod Output
 pub mod Published
 pub mod Loss
 pub mod Values
+pub mod Example
 pub mod NextSteps
 pub mod Listening
 pub mod Shown

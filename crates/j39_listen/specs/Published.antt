@@ -30,6 +30,7 @@ pub record Item : Type 0 where
   pub message : MessageRecord
   pub places : List ℕ
 
+-- who published, and what
 pub record Publishing : Type 0 where
   pub publishers : List Publisher
   pub items : List Item

@@ -1,9 +1,11 @@
 //! Laws about the definitions, each the contract of a function that does nothing.
 ghost use Rattle.std.specs.Prelude.{◌≡◌, ℕ, List, Option};
 ghost use Rattle.j39_frame.specs.Frame.{FrameRecord};
+ghost use Rattle.j39_listen.specs.Example.{example, example_frames, example_values};
 ghost use Rattle.j39_listen.specs.Heard.{AreHeard, HeardAt, Hearing};
 ghost use Rattle.j39_listen.specs.Report.{Entry, IsReport};
-ghost use Rattle.j39_listen.specs.Values.{TellsPublished, TellsRepeated, TellsThinned};
+ghost use Rattle.j39_listen.specs.Published.{Published};
+ghost use Rattle.j39_listen.specs.Values.{TellsPublished, TellsRepeated, TellsThinned, no_place, values};
 
 /// A list of frames has at most one report: at each frame one message is heard at most.
 pub fn one_report()
@@ -26,4 +28,11 @@ pub fn thinned()
 /// Where packets were lost, and others came more than once, it is the same.
 pub fn repeated()
     ensures { (H : List FrameRecord) (entries : List Entry) → IsReport H entries → TellsRepeated H entries }
+{}
+
+/// The premises can be met: by a log in which a receiver asks for a packet of a transfer again, with
+/// one value published.
+pub fn an_example()
+    ensures published { Published example_frames example }
+    ensures values { values example_frames example no_place ≡ example_values }
 {}

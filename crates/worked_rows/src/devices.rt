@@ -101,7 +101,7 @@ fn log_at_the_limit(rt: HostRuntime) -> Result<(), Fail> {
         let (mut source, mut sink) = (source_of(alloc, log, 1)?, room_for(alloc, text.len())?);
         assert_eq!(rt; run_over(alloc, &mut source, &mut sink, limit), Ok(()));
         assert_eq!(rt; sink.written(), text);
-        assert!(rt; source.reads() <= limit + 2);
+        assert!(rt; source.reads() <= limit.saturating_add(2));
         let (mut source, mut sink) = (source_of(alloc, log, 1)?, room_for(alloc, text.len())?);
         assert_eq!(rt;
             run_over(alloc, &mut source, &mut sink, limit - 1),
@@ -131,7 +131,7 @@ fn nth_read_fails(rt: HostRuntime) -> Result<(), Fail> {
     let alloc = rt.alloc();
     for (log, text) in logs() {
         // The last read is the one that meets the end.
-        let reads = log.len().div_ceil(7) as u64 + 1;
+        let reads = (log.len().div_ceil(7) as u64).saturating_add(1);
         for nth in 1..=reads {
             let mut source = source_of(alloc, log, 7)?.failing_read(nth);
             let mut sink = room_for(alloc, text.len())?;
