@@ -19,3 +19,7 @@ pub mod Carries
 pub mod Cutting
 pub mod Broadcasting
 pub mod Polling
+pub mod Signals
+pub mod ShownSignal
+pub mod Sending
+pub mod ShownSender

@@ -11,8 +11,12 @@ mod key;
 pub mod laws;
 mod message;
 mod packet;
+mod progress;
+mod reading;
+mod sender;
 mod session;
 mod sessions;
+mod signal;
 mod table;
 mod transport_frame;
 mod writing;
@@ -21,6 +25,8 @@ pub use assembler::Assembler;
 pub use broadcast::{Broadcast, Poll};
 pub use cut::Cut;
 pub use message::{Fed, Message};
+pub use progress::{SendEvent, SendState};
+pub use sender::Sender;
 
 #[cfg(test)]
 mod assembler_tests;

@@ -1,0 +1,12 @@
+-- What a signal of the code shows.
+use Rattle.j39_frame.specs.Pgn.{pgn_raw}
+use Rattle.j39_transport.specs.Signals as signals
+use Rattle.j39_transport.specs.declared.signal.Signal.{Signal}
+use Rattle.j39_transport.specs.declared.signal.Signal.TheVariants.{RequestToSend, ClearToSend, Acknowledgment, Abort, Packet}
+
+abbrev pub said : Signal → signals.Signal
+said (RequestToSend a most) = signals.RequestToSend a.size a.packets most (pgn_raw a.group)
+said (ClearToSend count next pgn) = signals.ClearToSend count next pgn
+said (Acknowledgment size packets pgn) = signals.Acknowledgment size packets pgn
+said (Abort reason pgn) = signals.Abort reason pgn
+said (Packet number joined) = signals.Packet number joined
