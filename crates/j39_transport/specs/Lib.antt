@@ -23,3 +23,7 @@ pub mod Signals
 pub mod ShownSignal
 pub mod Sending
 pub mod ShownSender
+pub mod Reception
+pub mod Receiving
+pub mod Received
+pub mod ShownReceiver

@@ -13,6 +13,9 @@ mod message;
 mod packet;
 mod progress;
 mod reading;
+mod receiver;
+mod receiving;
+mod reception;
 mod sender;
 mod session;
 mod sessions;
@@ -26,6 +29,7 @@ pub use broadcast::{Broadcast, Poll};
 pub use cut::Cut;
 pub use message::{Fed, Message};
 pub use progress::{SendEvent, SendState};
+pub use receiver::{Receiver, Reply};
 pub use sender::Sender;
 
 #[cfg(test)]

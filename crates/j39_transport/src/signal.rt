@@ -4,8 +4,10 @@ ghost use Rattle.std.specs.Option.{option_map};
 ghost use Rattle.j39_frame.specs.Network.{transport_control_group, transport_data_group};
 ghost use Rattle.j39_transport.specs.Cutting.{to_send};
 ghost use Rattle.j39_transport.specs.Frames.{goes};
+ghost use Rattle.j39_transport.specs.Key.Key.{Directed};
 ghost use Rattle.j39_transport.specs.Signals.{said_between, said_in_control, bytes_with, written};
-ghost use Rattle.j39_transport.specs.ShownSignal.{said};
+ghost use Rattle.j39_transport.specs.ShownSession.{key_in};
+ghost use Rattle.j39_transport.specs.ShownSignal.{said, HasKey};
 
 use crate::announcement::Announcement;
 use crate::key::Key;
@@ -31,7 +33,8 @@ pub(crate) enum Signal {
 /// What a frame says from one address to another; `None` for any other frame.
 #[tactic(auto, unfolding(crate::specs::Signals::said_between))]
 pub(crate) fn read(frame: &Frame, source: u8, destination: u8) -> Option<Signal>
-    ensures { option_map said result ≡ said_between source destination frame.now }
+    ensures value { option_map said result ≡ said_between source destination frame.now }
+    ensures key { HasKey (Directed source destination) result }
 {
     if is_control(frame, source, destination) {
         read_control(frame, Key::Directed(source, destination))
@@ -78,7 +81,8 @@ fn packet(bytes: &[u8]) -> [u8; 7]
 #[tactic(auto, unfolding(crate::specs::Signals::said_in_control, crate::specs::Frames::names_message))]
 fn read_control(frame: &Frame, key: Key) -> Option<Signal>
     requires { length frame.now.bytes ≡ 8 }
-    ensures { option_map said result ≡ said_in_control frame.now }
+    ensures value { option_map said result ≡ said_in_control frame.now }
+    ensures key { HasKey (key_in key) result }
 {
     let bytes = frame.bytes.as_slice();
     let group = group_in(bytes);
