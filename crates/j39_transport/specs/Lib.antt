@@ -27,3 +27,4 @@ pub mod Reception
 pub mod Receiving
 pub mod Received
 pub mod ShownReceiver
+pub mod Net
