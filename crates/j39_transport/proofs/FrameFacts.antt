@@ -23,7 +23,7 @@ pub record NamesMessage (f : FrameRecord) : Type 0 where
   pub large : 9 ≤ size_named f
   pub count : packets_named f ≡ (size_named f + 6) / 7
 
-message_facts : (f : FrameRecord) → names_message f ≡ true → NamesMessage f
+pub message_facts : (f : FrameRecord) → names_message f ≡ true → NamesMessage f
 unfolding names_message
 message_facts f h =
     let a = and_parts (nat_le 9 (size_named f) && nat_le (size_named f) 1785 && packets_named f == packets_for (size_named f)) (nat_lt (pgn_named f) (2 ^ 18)) h in

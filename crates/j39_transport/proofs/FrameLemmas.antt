@@ -13,15 +13,15 @@ use Rattle.j39_transport.proofs.PacketLemmas.{packet_length}
 
 -- ---- identifiers
 
-record IsTransportGroup (group : ℕ) : Type 0 where
-  front : ℕ
-  directed : front < 240
-  group_is : group ≡ front * 256
+pub record IsTransportGroup (group : ℕ) : Type 0 where
+  pub front : ℕ
+  pub directed : front < 240
+  pub group_is : group ≡ front * 256
 
-is_control_group : IsTransportGroup transport_control_group
+pub is_control_group : IsTransportGroup transport_control_group
 is_control_group = record { front = 236; directed = omega arith; group_is = refl }
 
-is_data_group : IsTransportGroup transport_data_group
+pub is_data_group : IsTransportGroup transport_data_group
 is_data_group = record { front = 235; directed = omega arith; group_is = refl }
 
 pf_is : (raw group front s d : ℕ) → raw ≡ transport_id group s d → group ≡ front * 256 → front < 240 → s < 256 → d < 256 → pf_of raw ≡ front
@@ -42,7 +42,7 @@ pgn_from raw front p f t =
     ∙ ap (λ (b : Bool). 0 * 65536 + front * 256 + (if b then 0 else ps_of raw)) t
     ∙ omega arith
 
-goes_there : (group s d t : ℕ) (bytes : List ℕ) → IsTransportGroup group → s < 256 → d < 256 → length bytes ≡ 8
+pub goes_there : (group s d t : ℕ) (bytes : List ℕ) → IsTransportGroup group → s < 256 → d < 256 → length bytes ≡ 8
     → goes group s d (record { stamp = t; id = transport_id group s d; bytes = bytes }) ≡ true
 unfolding goes group_of source_of destination_of
 goes_there group s d t bytes g h k e =
@@ -64,12 +64,12 @@ goes_to_below (Directed s d) h = let b : d < 254 = ltb-true _ _ (and_parts _ _ h
 
 -- ---- the announcement
 
-size_back : (kind size packets pgn : ℕ) → size < 65536 → let b : List ℕ = announcement_bytes kind size packets pgn in slice_index b 1 + 256 * slice_index b 2 ≡ size
-size_back kind size packets pgn h = omega (arith, little_number-reads_back 2 size [] h)
+pub size_back : (kind size packets most pgn : ℕ) → size < 65536 → let b : List ℕ = announcement_bytes kind size packets most pgn in slice_index b 1 + 256 * slice_index b 2 ≡ size
+size_back kind size packets most pgn h = omega (arith, little_number-reads_back 2 size [] h)
 
-pgn_back : (kind size packets pgn : ℕ) → pgn < 16777216
-    → let b : List ℕ = announcement_bytes kind size packets pgn in slice_index b 5 + 256 * slice_index b 6 + 65536 * slice_index b 7 ≡ pgn
-pgn_back kind size packets pgn h = omega (arith, little_number-reads_back 3 pgn [] h)
+pub pgn_back : (kind size packets most pgn : ℕ) → pgn < 16777216
+    → let b : List ℕ = announcement_bytes kind size packets most pgn in slice_index b 5 + 256 * slice_index b 6 + 65536 * slice_index b 7 ≡ pgn
+pgn_back kind size packets most pgn h = omega (arith, little_number-reads_back 3 pgn [] h)
 
 -- an announcement of k that names the size, the packets and the group of m
 pub record AnnouncesOf (k : Key) (m : MessageRecord) (f : FrameRecord) : Type 0 where
@@ -78,7 +78,7 @@ pub record AnnouncesOf (k : Key) (m : MessageRecord) (f : FrameRecord) : Type 0 
   pub packets : packets_named f ≡ packets_of m
   pub pgn : pgn_named f ≡ m.pgn
 
-names : (f : FrameRecord) (m : MessageRecord) → IsLong m → size_named f ≡ length m.bytes → packets_named f ≡ packets_of m → pgn_named f ≡ m.pgn → names_message f ≡ true
+pub names : (f : FrameRecord) (m : MessageRecord) → IsLong m → size_named f ≡ length m.bytes → packets_named f ≡ packets_of m → pgn_named f ≡ m.pgn → names_message f ≡ true
 unfolding names_message
 names f m l size packets pgn =
     let long : 9 ≤ length m.bytes = l.least in
@@ -96,8 +96,8 @@ announces k m t l h =
     let f : FrameRecord = at_moment t (announcement_of k m) in
     let most : length m.bytes ≤ 1785 = l.message.most in
     let fits : m.pgn < 2 ^ 18 = l.message.pgn in
-    let size : size_named f ≡ length m.bytes = size_back (opening k) (length m.bytes) (packets_of m) m.pgn (omega arith) in
-    let pgn : pgn_named f ≡ m.pgn = pgn_back (opening k) (length m.bytes) (packets_of m) m.pgn (omega arith) in
+    let size : size_named f ≡ length m.bytes = size_back (opening k) (length m.bytes) (packets_of m) 255 m.pgn (omega arith) in
+    let pgn : pgn_named f ≡ m.pgn = pgn_back (opening k) (length m.bytes) (packets_of m) 255 m.pgn (omega arith) in
     let g : goes transport_control_group (sender k) (goes_to k) f ≡ true = goes_there transport_control_group (sender k) (goes_to k) t f.bytes is_control_group (sender_below k h) (goes_to_below k h) refl in
     let o : (opening k == opening k) ≡ true = eq-eqb _ _ refl in
     let n : names_message f ≡ true = names f m l size refl pgn in

@@ -29,14 +29,15 @@ to_send f = record { id = id_raw f.0; bytes = f.1 }
 abbrev pub transport_id : ℕ → ℕ → ℕ → ℕ
 transport_id group source destination = 7 * 2 ^ 26 + group * 2 ^ 8 + destination * 2 ^ 8 + source
 
--- the announcement of the message: its kind, size, packets, FF (a request to send sets no limit by it), and its group
-abbrev pub announcement_bytes : ℕ → ℕ → ℕ → ℕ → List ℕ
-announcement_bytes kind size packets pgn = (kind ∷ little_bytes 2 size) ++ (packets ∷ 0xFF ∷ little_bytes 3 pgn)
+-- the announcement of a message: its kind, size, packets, the most packets for one CTS (FF: no limit, and in a
+-- broadcast), and its group
+abbrev pub announcement_bytes : ℕ → ℕ → ℕ → ℕ → ℕ → List ℕ
+announcement_bytes kind size packets most pgn = (kind ∷ little_bytes 2 size) ++ (packets ∷ most ∷ little_bytes 3 pgn)
 
 unfoldable pub announcement_of : Key → MessageRecord → ToSend
 announcement_of k m = record {
   id = transport_id transport_control_group (sender k) (goes_to k);
-  bytes = announcement_bytes (opening k) (length m.bytes) (packets_of m) m.pgn;
+  bytes = announcement_bytes (opening k) (length m.bytes) (packets_of m) 0xFF m.pgn;
 }
 
 -- the next seven bytes, filled up with FF

@@ -35,10 +35,11 @@ abbrev pub packets_for : ℕ → ℕ
 packets_for size = (size + 6) / 7
 
 -- the size is 9 to 1,785, the packets are as many as it takes, and the group has 18 bits
+abbrev pub agree : ℕ → ℕ → ℕ → Bool
+agree size packets pgn = nat_le 9 size && nat_le size 1785 && packets == packets_for size && nat_lt pgn (2 ^ 18)
+
 unfoldable pub names_message : FrameRecord → Bool
-names_message f =
-    nat_le 9 (size_named f) && nat_le (size_named f) 1785 && packets_named f == packets_for (size_named f)
-    && nat_lt (pgn_named f) (2 ^ 18)
+names_message f = agree (size_named f) (packets_named f) (pgn_named f)
 
 -- f announces a message of k: a BAM or an RTS
 unfoldable pub is_announcement : Key → FrameRecord → Bool

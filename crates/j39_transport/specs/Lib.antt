@@ -19,3 +19,12 @@ pub mod Carries
 pub mod Cutting
 pub mod Broadcasting
 pub mod Polling
+pub mod Signals
+pub mod ShownSignal
+pub mod Sending
+pub mod ShownSender
+pub mod Reception
+pub mod Receiving
+pub mod Received
+pub mod ShownReceiver
+pub mod Net

@@ -1,6 +1,7 @@
 //! What an announcement names.
-ghost use Rattle.std.specs.Prelude.{◌≡◌, ◌≤◌};
-ghost use Rattle.j39_transport.specs.Frames.{packets_for};
+ghost use Rattle.std.specs.Prelude.{◌≡◌, ◌≤◌, ◌↔◌, IsTrue, IsSome, IfSome};
+ghost use Rattle.j39_frame.specs.Pgn.{pgn_raw};
+ghost use Rattle.j39_transport.specs.Frames.{agree, packets_for};
 
 use crate::key::Key;
 use j39_frame::Pgn;
@@ -15,4 +16,33 @@ pub(crate) struct Announcement {
     pub ghost least: { 9 ≤ size },
     pub ghost most: { size ≤ 1785 },
     pub ghost enough: { packets ≡ packets_for size },
+}
+
+impl Announcement {
+    /// What is announced; `None` where size, packets and group don't agree.
+    pub(crate) fn new(key: Key, group: u32, size: u16, packets: u8) -> Option<Announcement>
+        ensures known { IsSome result ↔ IsTrue (agree size packets group) }
+        ensures value { IfSome result (λ a.
+            (a.key ≡ key) × (pgn_raw a.group ≡ group) × (a.size ≡ size) × (a.packets ≡ packets)) }
+    {
+        let group = Pgn::new(group)?;
+        if size >= 9 && size <= 1785 && takes(size, packets) {
+            Some(Announcement {
+                key,
+                group,
+                size,
+                packets,
+            })
+        } else {
+            None
+        }
+    }
+}
+
+/// Whether a message of this size takes so many packets.
+fn takes(size: u16, packets: u8) -> bool
+    requires { size ≤ 65000 }
+    ensures { IsTrue result ↔ (packets ≡ packets_for size) }
+{
+    u16::from(packets) == (size + 6) / 7
 }

@@ -8,6 +8,8 @@ ghost use Rattle.j39_transport.specs.Message.{IsLong, as_broadcast, packets_of};
 ghost use Rattle.j39_transport.specs.Carries.{Carries, joined};
 ghost use Rattle.j39_transport.specs.Cutting.{cut_frame, cut_frames, packet_data, to_send, without_stamp};
 
+use crate::announcement::Announcement;
+use crate::key::Key;
 use crate::writing;
 use j39_frame::{GLOBAL_ADDRESS, Id, Pgn, is_address};
 use std::marker::Model;
@@ -76,7 +78,8 @@ impl<'a> Cut<'a> {
     {
         let packets = self.packets();
         if k == 0 {
-            let bytes = writing::announcement_bytes(BROADCAST, self.size(), packets, self.pgn);
+            let group = self.pgn.raw();
+            let bytes = writing::announcement_bytes(BROADCAST, self.size(), packets, 0xFF, group);
             Some((writing::control_id(self.source, GLOBAL_ADDRESS), bytes))
         } else if k <= u16::from(packets) {
             let bytes = writing::packet_bytes(k as u8, self.data(k as u8));
@@ -86,8 +89,36 @@ impl<'a> Cut<'a> {
         }
     }
 
+    /// The address that sends it.
+    pub(crate) fn source(&self) -> u8
+        ensures value { result ≡ self.now.source }
+        ensures address { IsAddress result }
+    {
+        self.source
+    }
+
+    pub(crate) fn group(&self) -> Pgn
+        ensures { pgn_raw result ≡ self.now.pgn }
+    {
+        self.pgn
+    }
+
+    /// What it announces under a key.
+    pub(crate) fn announcement(&self, key: Key) -> Announcement
+        ensures size { result.size ≡ length self.now.bytes }
+        ensures packets { result.packets ≡ packets_of self.now }
+        ensures group { pgn_raw result.group ≡ self.now.pgn }
+    {
+        Announcement {
+            key,
+            group: self.pgn,
+            size: self.size(),
+            packets: self.packets(),
+        }
+    }
+
     /// The size in bytes, 9 to 1,785.
-    fn size(&self) -> u16
+    pub(crate) fn size(&self) -> u16
         ensures value { result ≡ length self.now.bytes }
         ensures long { IsLong self.now }
     {
@@ -96,7 +127,7 @@ impl<'a> Cut<'a> {
 
     /// The data of a packet: the next seven bytes, filled up with FF.
     #[tactic(auto, unfolding(crate::specs::Cutting::packet_data))]
-    fn data(&self, number: u8) -> [u8; 7]
+    pub(crate) fn data(&self, number: u8) -> [u8; 7]
         requires first { 1 ≤ number }
         requires last { number ≤ packets_of self.now }
         ensures { result ≡ packet_data self.now.bytes number }

@@ -1,4 +1,5 @@
 //! Laws about the definitions, each the contract of a function that does nothing.
+ghost use Rattle.j39_transport.specs.Net.{TransfersLaw};
 ghost use Rattle.j39_transport.specs.Laws.{OneMessageLaw, AtPacketLaw, CountsLaw};
 ghost use Rattle.j39_transport.specs.Course.{GoesLaw, ReachesLaw, RunsLaw};
 
@@ -33,4 +34,12 @@ pub fn reaches()
 /// and nothing ends it.
 pub fn runs()
     ensures { RunsLaw }
+{}
+
+/// Over a bus that loses whatever frames, the messages that a receiver delivers are a subsequence of
+/// those handed to senders, each at most once, and each whose sender is done is among them. A
+/// controller starts its next sender to a receiver when the last one is over and the receiver is not
+/// busy.
+pub fn transfers()
+    ensures { TransfersLaw }
 {}

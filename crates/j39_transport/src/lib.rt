@@ -11,8 +11,15 @@ mod key;
 pub mod laws;
 mod message;
 mod packet;
+mod progress;
+mod reading;
+mod receiver;
+mod receiving;
+mod reception;
+mod sender;
 mod session;
 mod sessions;
+mod signal;
 mod table;
 mod transport_frame;
 mod writing;
@@ -21,10 +28,19 @@ pub use assembler::Assembler;
 pub use broadcast::{Broadcast, Poll};
 pub use cut::Cut;
 pub use message::{Fed, Message};
+pub use progress::{SendEvent, SendState};
+pub use receiver::{Receiver, Reply};
+pub use sender::Sender;
 
 #[cfg(test)]
 mod assembler_tests;
 #[cfg(test)]
+mod controller_tests;
+#[cfg(test)]
 mod cutting_tests;
+#[cfg(test)]
+mod directed_tests;
+#[cfg(test)]
+mod loss_tests;
 #[cfg(test)]
 mod transfer_tests;

@@ -7,7 +7,8 @@ ghost use Rattle.j39_transport.specs.ShownFrame.{shown_frame, HasAddresses};
 
 use crate::announcement::Announcement;
 use crate::key::Key;
-use j39_frame::{Frame, Pgn};
+use crate::reading::{group_in, size_in};
+use j39_frame::Frame;
 
 /// What a frame says to an assembler.
 #[derive(Drop)]
@@ -93,44 +94,11 @@ fn read_announcement(frame: &Frame) -> TransportFrame<'_>
     let Some(key) = Key::new(source(frame), destination(frame)) else {
         return TransportFrame::Other;
     };
-    let Some(group) = Pgn::new(group_in(bytes)) else {
+    if bytes[0] != key.opening() {
         return TransportFrame::Other;
-    };
-    let size = size_in(bytes);
-    let packets = bytes[3];
-    if bytes[0] == key.opening() && size >= 9 && size <= 1785 && takes(size, packets) {
-        TransportFrame::Announcement(Announcement {
-            key,
-            group,
-            size,
-            packets,
-        })
-    } else {
-        TransportFrame::Other
     }
-}
-
-/// The size of a message, in bytes 2 and 3.
-fn size_in(bytes: &[u8]) -> u16
-    requires { length bytes.now ≡ 8 }
-    ensures { result ≡ slice_index bytes.now 1 + 256 * slice_index bytes.now 2 }
-{
-    u16::from(bytes[1]) + 256 * u16::from(bytes[2])
-}
-
-/// The group of a message, in bytes 6 to 8.
-fn group_in(bytes: &[u8]) -> u32
-    requires { length bytes.now ≡ 8 }
-    ensures { result
-        ≡ slice_index bytes.now 5 + 256 * slice_index bytes.now 6 + 65536 * slice_index bytes.now 7 }
-{
-    u32::from(bytes[5]) + 256 * u32::from(bytes[6]) + 65536 * u32::from(bytes[7])
-}
-
-/// Whether a message of this size takes so many packets.
-fn takes(size: u16, packets: u8) -> bool
-    requires { size ≤ 65000 }
-    ensures { IsTrue result ↔ (packets ≡ packets_for size) }
-{
-    u16::from(packets) == (size + 6) / 7
+    match Announcement::new(key, group_in(bytes), size_in(bytes), bytes[3]) {
+        Some(announcement) => TransportFrame::Announcement(announcement),
+        None => TransportFrame::Other,
+    }
 }

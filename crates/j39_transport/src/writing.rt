@@ -1,11 +1,11 @@
 //! Writing the frames of the transport protocol (J1939-21, 5.10.3 and 5.10.4).
 ghost use Rattle.std.specs.Prelude.{◌≡◌, ◌∷◌, ◌<◌};
+ghost use Rattle.byteorder.specs.Endian.{little_bytes};
 ghost use Rattle.j39_frame.specs.Identifier.{id_raw};
 ghost use Rattle.j39_frame.specs.Network.{transport_control_group, transport_data_group};
-ghost use Rattle.j39_frame.specs.Pgn.{pgn_raw};
 ghost use Rattle.j39_transport.specs.Cutting.{announcement_bytes, transport_id};
 
-use j39_frame::{Id, Pgn};
+use j39_frame::Id;
 
 /// The group TP.CM.
 const TRANSPORT_CONTROL: u32 = 60_416;
@@ -36,15 +36,32 @@ fn transport_id(group: u32, source: u8, destination: u8) -> Id
     Id::new(front + u32::from(destination) * 256 + u32::from(source)).unwrap()
 }
 
-/// The data of an announcement: its kind (32 a BAM, 16 an RTS), and FF for no limit of packets.
-pub(crate) fn announcement_bytes(kind: u8, size: u16, packets: u8, pgn: Pgn) -> [u8; 8]
-    ensures { result ≡ announcement_bytes kind size packets (pgn_raw pgn) }
+/// The data of an announcement: its kind (32 a BAM, 16 an RTS), and the most packets for one CTS
+/// (FF: no limit, and in a BAM). An end-of-message acknowledgment has the same form, of kind 19.
+pub(crate) fn announcement_bytes(kind: u8, size: u16, packets: u8, most: u8, pgn: u32) -> [u8; 8]
+    ensures { result ≡ announcement_bytes kind size packets most pgn }
 {
     let [size_low, size_high] = size.to_le_bytes();
-    let [pgn_low, pgn_mid, pgn_high, _] = pgn.raw().to_le_bytes();
+    let [pgn_low, pgn_mid, pgn_high, _] = pgn.to_le_bytes();
     [
-        kind, size_low, size_high, packets, 0xFF, pgn_low, pgn_mid, pgn_high,
+        kind, size_low, size_high, packets, most, pgn_low, pgn_mid, pgn_high,
     ]
+}
+
+/// The data of a CTS of so many packets, from this number on.
+pub(crate) fn clear_to_send_bytes(count: u8, next: u8, pgn: u32) -> [u8; 8]
+    ensures { result ≡ 17 ∷ count ∷ next ∷ 255 ∷ 255 ∷ little_bytes 3 pgn }
+{
+    let [pgn_low, pgn_mid, pgn_high, _] = pgn.to_le_bytes();
+    [17, count, next, 0xFF, 0xFF, pgn_low, pgn_mid, pgn_high]
+}
+
+/// The data of an abort for this reason.
+pub(crate) fn abort_bytes(reason: u8, pgn: u32) -> [u8; 8]
+    ensures { result ≡ 255 ∷ reason ∷ 255 ∷ 255 ∷ 255 ∷ little_bytes 3 pgn }
+{
+    let [pgn_low, pgn_mid, pgn_high, _] = pgn.to_le_bytes();
+    [255, reason, 0xFF, 0xFF, 0xFF, pgn_low, pgn_mid, pgn_high]
 }
 
 /// The data of a packet: its number, then seven bytes of the message.

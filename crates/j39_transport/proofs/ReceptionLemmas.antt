@@ -1,0 +1,12 @@
+-- What a tick does to a session.
+use Rattle.std.proofs.Common.{◌≡◌, ℕ, ◌+◌, ◌==◌, nat_lt, Option, Some, None, refl}
+use Rattle.std.proofs.lemmas.Bool.{cond_both}
+use Rattle.j39_transport.specs.Reception.{ReceptionRecord, Reaction, grants, asks_again, limit_of, takes_tick}
+
+-- a tick asks or aborts, and delivers nothing
+pub tick_delivers_nothing : (now : ℕ) (o : Option ReceptionRecord) → (takes_tick now o).delivers ≡ None
+unfolding takes_tick asks_again grants
+tick_delivers_nothing now None = refl
+tick_delivers_nothing now (Some r) = cond_both (nat_lt (r.message.last + limit_of r) now) _ _ (λ (x : Reaction). x.delivers ≡ None)
+    (λ t. cond_both (r.asks == 2) _ _ (λ (x : Reaction). x.delivers ≡ None) (λ u. refl) (λ u. refl))
+    (λ t. refl)

@@ -1,0 +1,196 @@
+//! The receiving end of directed transfers (J1939-21, 5.10.3).
+ghost use Rattle.std.specs.Prelude.{◌≡◌, ◌↔◌, ◌∷◌, ◌++◌, [], IsTrue, IsSome, IfSome, Bool, List, None};
+ghost use Rattle.std.specs.Borrow.{sem};
+ghost use Rattle.std.specs.Io.BufRead.{Rests};
+ghost use Rattle.std.specs.Option.{option_map};
+ghost use Rattle.j39_frame.specs.Address.{IsAddress};
+ghost use Rattle.j39_frame.specs.Frame.{FrameRecord};
+ghost use Rattle.j39_frame.specs.Stamp.{stamp_micros};
+ghost use Rattle.j39_transport.specs.Cutting.{to_send};
+ghost use Rattle.j39_transport.specs.Frames.{source_of};
+ghost use Rattle.j39_transport.specs.Key.Key.{Directed};
+ghost use Rattle.j39_transport.specs.Received.{StandsFor, WereHanded, HasHeard};
+ghost use Rattle.j39_transport.specs.Receiving.{said_to, RecvStep, Tick, Heard, recv_step, answer_in, result_of, new_receiver, partner_of};
+ghost use Rattle.j39_transport.specs.ShownSignal.{said, HasKey};
+ghost use Rattle.j39_transport.specs.ShownReceiver.{held_in, reacted, CanLend, answer_of, IsStamped};
+
+use crate::key::Key;
+use crate::message::Message;
+use crate::receiving::{self, Move, Slot};
+use crate::signal::{self, Signal};
+use j39_frame::{Frame, Id, NULL_ADDRESS, Stamp, is_address};
+use std::alloc::Global;
+use std::marker::Model;
+
+/// What a receiver answers to a frame.
+#[derive(Debug, Drop)]
+pub enum Reply<'a> {
+    /// Nothing.
+    Nothing,
+    /// A frame to send.
+    Send(Id, [u8; 8]),
+    /// A message that is whole, and its acknowledgment, to be sent.
+    Delivered(Message<'a>, Id, [u8; 8]),
+}
+
+/// Receives the messages that are sent to one address, one at a time.
+#[derive(Drop)]
+pub struct Receiver {
+    alloc: Global,
+    own: u8,
+    session: Slot,
+    /// The session last over: its message is lent from it, and the next RTS uses its box again.
+    lent: Slot,
+}
+
+impl Model for Receiver {
+    ghost use Rattle.j39_frame.specs.Address.{IsAddress};
+    ghost use Rattle.j39_transport.specs.Receiving.{ReceiverRecord};
+    ghost use Rattle.j39_transport.specs.ShownReceiver.{held_in, IsOpen};
+
+    ghost Value = { ReceiverRecord };
+
+    ghost view = { λ r. record { own = r.own; session = held_in r.session } };
+
+    ghost invariant = { λ r. IsAddress r.own × IsOpen (held_in r.session) };
+}
+
+impl Receiver {
+    ghost use Rattle.j39_transport.specs.contracts.receiver.Receiver.{the_row};
+
+    /// A receiver at an address, with no session; `None` above 253. It takes no memory.
+    pub fn new(alloc: Global, own: u8) -> Option<Receiver>
+        ensures known { IsSome result ↔ IsAddress own }
+        ensures value { IfSome result (λ receiver. receiver ≡ new_receiver own) }
+        ensures stands { IfSome result (StandsFor []) }
+    {
+        if !is_address(own) {
+            return None;
+        }
+        Some(Receiver {
+            alloc,
+            own,
+            session: None,
+            lent: None,
+        })
+    }
+
+    /// Takes a frame of the bus, of whatever group, at a moment. Memory is taken at an RTS alone; where
+    /// it is refused, abort 2 is answered and nothing has changed.
+    pub fn on(&mut self, frame: &Frame, now: Stamp) -> Reply<'_>
+        ensures answer { (found : Bool)
+            × (answer_of result ≡ answer_in (recv_step self.old (Heard frame.now) (stamp_micros now) found)) }
+        ensures delivered { (E : List FrameRecord) → StandsFor E self.old
+            → WereHanded self.old.own (E ++ frame.now ∷ []) (answer_of result).delivers }
+        ensures stamp { IsStamped (stamp_micros now) result }
+        ensures* after { sem 𝓛 (Rests the_row self.entry (λ n.
+            HasHeard self.old frame.now (stamp_micros now) (answer_of result) n)) }
+    {
+        self.hear(frame, now)
+    }
+
+    #[tactic(auto, unfolding(crate::specs::Receiving::recv_step, crate::specs::Receiving::said_to, crate::specs::Frames::source_of))]
+    fn hear(&mut self, frame: &Frame, now: Stamp) -> Reply<'_>
+        ensures answer { (found : Bool)
+            × (answer_of result ≡ answer_in (recv_step self.old (Heard frame.now) (stamp_micros now) found)) }
+        ensures stamp { IsStamped (stamp_micros now) result }
+        ensures* after { sem 𝓛 (Rests the_row self.entry (λ n.
+            RecvStep self.old (Heard frame.now) (stamp_micros now) (answer_of result) n)) }
+    {
+        let source = frame.id.source();
+        let done = receiving::take_signal(
+            &mut self.session,
+            &mut self.lent,
+            self.alloc,
+            Key::Directed(source, self.own),
+            said_to(self.own, frame),
+            now,
+        );
+        lend(&self.lent, done, self.own, source, now)
+    }
+
+    /// Lets time pass, and answers the frame to send, if there is one: a CTS again, or abort 3.
+    pub fn tick(&mut self, now: Stamp) -> Option<(Id, [u8; 8])>
+        ensures step { RecvStep self.old Tick (stamp_micros now) (record { sends = option_map to_send result; delivers = None }) self.new }
+        ensures stands { (E : List FrameRecord) → StandsFor E self.old → StandsFor E self.new }
+    {
+        self.wait(now)
+    }
+
+    #[tactic(auto, unfolding(crate::specs::Receiving::recv_step), using(crate::proofs::ReceptionLemmas::tick_delivers_nothing))]
+    fn wait(&mut self, now: Stamp) -> Option<(Id, [u8; 8])>
+        ensures { RecvStep self.old Tick (stamp_micros now) (record { sends = option_map to_send result; delivers = None }) self.new }
+    {
+        let to = partner(&self.session);
+        match receiving::tick(&mut self.session, &mut self.lent, now) {
+            Move::Quiet => None,
+            Move::Says(signal) => Some(signal::write(signal, self.own, to)),
+            Move::Refused(signal) => Some(signal::write(signal, self.own, to)),
+            Move::Delivers(signal) => Some(signal::write(signal, self.own, to)),
+        }
+    }
+
+    /// Whether a session is open. A controller starts its next message to a receiver when this is
+    /// false there.
+    pub fn busy(&self) -> bool
+        ensures value { IsTrue result ↔ IsSome self.now.session }
+    {
+        self.session.is_some()
+    }
+}
+
+/// What a frame says to the controller at its own address.
+#[tactic(auto, unfolding(crate::specs::Receiving::said_to, crate::specs::Frames::source_of))]
+fn said_to(own: u8, frame: &Frame) -> Option<Signal>
+    ensures value { option_map said result ≡ said_to own frame.now }
+    ensures key { HasKey (Directed (source_of frame.now.id) own) result }
+{
+    let source = frame.id.source();
+    if is_address(source) {
+        signal::read(frame, source, own)
+    } else {
+        None
+    }
+}
+
+/// Where the answer of a tick goes: to the session's source.
+fn partner(slot: &Slot) -> u8
+    ensures { result ≡ partner_of (held_in slot.now) }
+{
+    match slot {
+        Some(session) => session.source(),
+        None => NULL_ADDRESS,
+    }
+}
+
+/// The answer, with a message that is delivered lent out of its buffer.
+fn lend(slot: &Slot, done: Move, own: u8, to: u8, now: Stamp) -> Reply<'_>
+    requires { CanLend done (held_in slot.now) }
+    ensures answer { answer_of result ≡ answer_in (result_of own to (reacted done None (held_in slot.now))) }
+    ensures stamp { IsStamped (stamp_micros now) result }
+{
+    match done {
+        Move::Quiet => Reply::Nothing,
+        Move::Says(signal) => {
+            let (id, bytes) = signal::write(signal, own, to);
+            Reply::Send(id, bytes)
+        }
+        Move::Refused(signal) => {
+            let (id, bytes) = signal::write(signal, own, to);
+            Reply::Send(id, bytes)
+        }
+        Move::Delivers(signal) => match slot {
+            Some(session) => {
+                let (id, bytes) = signal::write(signal, own, to);
+                let message = Message {
+                    source: session.source(),
+                    pgn: session.group(),
+                    payload: session.payload(),
+                    stamp: now,
+                };
+                Reply::Delivered(message, id, bytes)
+            }
+            None => Reply::Nothing,
+        },
+    }
+}

@@ -1,0 +1,214 @@
+//! What an event does to the session of a receiver.
+ghost use Rattle.std.specs.Prelude.{◌≡◌, true, None};
+ghost use Rattle.std.specs.Option.{option_map};
+ghost use Rattle.j39_frame.specs.Stamp.{stamp_micros};
+ghost use Rattle.j39_transport.specs.Reception.{takes_request, takes_data, takes_abort, takes_signal, takes_tick, is_taken};
+ghost use Rattle.j39_transport.specs.ShownReceiver.{stepped, IsStep, held_in, IsOpen, reacted, found_in, CanLend};
+ghost use Rattle.j39_transport.specs.ShownSession.{key_in, opened_by};
+ghost use Rattle.j39_transport.specs.ShownSignal.{said, HasKey};
+
+use crate::announcement::Announcement;
+use crate::key::Key;
+use crate::reception::{Reception, Step};
+use crate::signal::Signal;
+use j39_frame::Stamp;
+use std::alloc::Global;
+
+/// The session of a receiver with its buffer, or none.
+pub(crate) type Slot = Option<Box<Reception>>;
+
+/// The reason of an abort where another source's session is open (J1939-21, 5.10.3.4).
+const BUSY: u8 = 1;
+
+/// The reason of an abort where there is no memory (J1939-21, 5.10.3.4).
+const NO_RESOURCES: u8 = 2;
+
+/// What an event did.
+#[derive(Clone, Copy)]
+pub(crate) enum Move {
+    Quiet,
+    Says(Signal),
+    /// Memory for an RTS was refused.
+    Refused(Signal),
+    /// The message of the session last over is delivered.
+    Delivers(Signal),
+}
+
+/// Puts a session back, or where it is over aside.
+fn settle(slot: &mut Slot, lent: &mut Slot, session: Box<Reception>, step: Step) -> Move
+    requires empty { held_in slot.old ≡ None }
+    requires step { IsStep step session.value }
+    ensures does { reacted result (held_in slot.new) (held_in lent.new) ≡ stepped step session.value }
+    ensures found { found_in result ≡ true }
+    ensures open { IsOpen (held_in slot.new) }
+    ensures lends { CanLend result (held_in lent.new) }
+{
+    match step {
+        Step::Stays => {
+            *slot = Some(session);
+            Move::Quiet
+        }
+        Step::Says(signal) => {
+            *slot = Some(session);
+            Move::Says(signal)
+        }
+        Step::Aborts(signal) => {
+            *lent = Some(session);
+            Move::Says(signal)
+        }
+        Step::Delivers(signal) => {
+            *lent = Some(session);
+            Move::Delivers(signal)
+        }
+    }
+}
+
+/// A packet of a source.
+#[tactic(auto, unfolding(crate::specs::Reception::takes_data))]
+fn take_data(
+    slot: &mut Slot,
+    lent: &mut Slot,
+    source: u8,
+    number: u8,
+    joined: &[u8; 7],
+    now: Stamp,
+) -> Move
+    requires { IsOpen (held_in slot.old) }
+    ensures does { reacted result (held_in slot.new) (held_in lent.new)
+        ≡ takes_data source number joined.now (stamp_micros now) (held_in slot.old) }
+    ensures found { found_in result ≡ true }
+    ensures open { IsOpen (held_in slot.new) }
+    ensures lends { CanLend result (held_in lent.new) }
+{
+    match slot.take() {
+        None => Move::Quiet,
+        Some(mut session) => {
+            if source == session.source() {
+                let step = session.take_packet(number, joined, now);
+                settle(slot, lent, session, step)
+            } else {
+                *slot = Some(session);
+                Move::Quiet
+            }
+        }
+    }
+}
+
+/// An abort of a source.
+#[tactic(auto, unfolding(crate::specs::Reception::takes_abort))]
+fn take_abort(slot: &mut Slot, lent: &mut Slot, source: u8, pgn: u32) -> Move
+    requires { IsOpen (held_in slot.old) }
+    ensures does { reacted result (held_in slot.new) (held_in lent.new)
+        ≡ takes_abort source pgn (held_in slot.old) }
+    ensures found { found_in result ≡ true }
+    ensures open { IsOpen (held_in slot.new) }
+    ensures lends { CanLend result (held_in lent.new) }
+{
+    match slot.take() {
+        None => Move::Quiet,
+        Some(session) => {
+            if source == session.source() && pgn == session.group().raw() {
+                *lent = Some(session);
+            } else {
+                *slot = Some(session);
+            }
+            Move::Quiet
+        }
+    }
+}
+
+/// Whether the session of another source is open.
+fn is_taken(slot: &Slot, source: u8) -> bool
+    ensures { result ≡ is_taken source (held_in slot.now) }
+{
+    match slot {
+        None => false,
+        Some(session) => source != session.source(),
+    }
+}
+
+/// An RTS: the one place where memory is taken.
+#[tactic(auto, unfolding(crate::specs::Reception::takes_request, crate::specs::Reception::grants, crate::specs::Reception::begun, crate::specs::Reception::granted_at))]
+fn take_request(
+    slot: &mut Slot,
+    lent: &mut Slot,
+    alloc: Global,
+    announcement: Announcement,
+    most: u8,
+    now: Stamp,
+) -> Move
+    requires { IsOpen (held_in slot.old) }
+    ensures does { reacted result (held_in slot.new) (held_in lent.new)
+        ≡ takes_request (opened_by announcement (stamp_micros now)) most (stamp_micros now) (found_in result) (held_in slot.old) }
+    ensures open { IsOpen (held_in slot.new) }
+    ensures lends { CanLend result (held_in lent.new) }
+{
+    let group = announcement.group.raw();
+    if is_taken(slot, announcement.key.source()) {
+        return Move::Says(Signal::Abort(BUSY, group));
+    }
+    let kept = match slot.take() {
+        Some(session) => Some(session),
+        None => lent.take(),
+    };
+    let mut session = match kept {
+        Some(session) => session,
+        None => match Box::new(alloc, Reception::new(announcement, most, now)) {
+            Ok(session) => session,
+            Err(_) => return Move::Refused(Signal::Abort(NO_RESOURCES, group)),
+        },
+    };
+    session.restart(announcement, most, now);
+    let signal = session.grant(now);
+    *slot = Some(session);
+    Move::Says(signal)
+}
+
+/// What is said under a key: from its source to the receiver.
+#[tactic(auto, unfolding(crate::specs::Reception::takes_signal))]
+pub(crate) fn take_signal(
+    slot: &mut Slot,
+    lent: &mut Slot,
+    alloc: Global,
+    key: Key,
+    signal: Option<Signal>,
+    now: Stamp,
+) -> Move
+    requires open { IsOpen (held_in slot.old) }
+    requires key { HasKey (key_in key) signal }
+    ensures does { reacted result (held_in slot.new) (held_in lent.new)
+        ≡ takes_signal (key_in key) (option_map said signal) (stamp_micros now) (found_in result) (held_in slot.old) }
+    ensures open { IsOpen (held_in slot.new) }
+    ensures lends { CanLend result (held_in lent.new) }
+{
+    match signal {
+        None => Move::Quiet,
+        Some(Signal::RequestToSend(announcement, most)) => {
+            take_request(slot, lent, alloc, announcement, most, now)
+        }
+        Some(Signal::ClearToSend(_, _, _)) => Move::Quiet,
+        Some(Signal::Acknowledgment(_, _, _)) => Move::Quiet,
+        Some(Signal::Abort(_, pgn)) => take_abort(slot, lent, key.source(), pgn),
+        Some(Signal::Packet(number, joined)) => {
+            take_data(slot, lent, key.source(), number, &joined, now)
+        }
+    }
+}
+
+/// Time that passes.
+#[tactic(auto, unfolding(crate::specs::Reception::takes_tick))]
+pub(crate) fn tick(slot: &mut Slot, lent: &mut Slot, now: Stamp) -> Move
+    requires { IsOpen (held_in slot.old) }
+    ensures does { reacted result (held_in slot.new) (held_in lent.new)
+        ≡ takes_tick (stamp_micros now) (held_in slot.old) }
+    ensures open { IsOpen (held_in slot.new) }
+    ensures lends { CanLend result (held_in lent.new) }
+{
+    match slot.take() {
+        None => Move::Quiet,
+        Some(mut session) => {
+            let step = session.tick(now);
+            settle(slot, lent, session, step)
+        }
+    }
+}

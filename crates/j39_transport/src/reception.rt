@@ -1,0 +1,197 @@
+//! One message that a receiver is receiving.
+ghost use Rattle.std.specs.Prelude.{◌≡◌, ◌<◌, ◌+◌, length, take, Some};
+ghost use Rattle.j39_frame.specs.Pgn.{pgn_raw};
+ghost use Rattle.j39_frame.specs.Stamp.{stamp_micros};
+ghost use Rattle.j39_transport.specs.Reception.{begun, most_named, granted_at, window, asks_again, goes_on, takes_packet, takes_tick};
+ghost use Rattle.j39_transport.specs.ShownReceiver.{stepped, IsStep};
+ghost use Rattle.j39_transport.specs.ShownSession.{opened_by};
+ghost use Rattle.j39_transport.specs.ShownSignal.{said};
+ghost use Rattle.j39_transport.specs.Signals.{ClearToSend};
+
+use crate::announcement::Announcement;
+use crate::session::Session;
+use crate::signal::Signal;
+use j39_frame::{Pgn, Stamp};
+use std::marker::Model;
+
+/// The longest wait between two packets, in microseconds: 750 ms (J1939-21, 5.10.2.4).
+const T1: u64 = 750_000;
+
+/// The longest wait from a CTS to its first packet: 1,250 ms (J1939-21, 5.10.2.4).
+const T2: u64 = 1_250_000;
+
+/// How often a receiver asks again for a message (own).
+const MOST_ASKS: u8 = 2;
+
+/// The reason of an abort where packets are late (J1939-21, 5.10.3.4).
+const TIMEOUT: u8 = 3;
+
+/// What an event did to a session.
+#[derive(Clone, Copy)]
+pub(crate) enum Step {
+    /// It is open still.
+    Stays,
+    /// It is open still, and this is said.
+    Says(Signal),
+    /// It is over.
+    Aborts(Signal),
+    /// It is over, and its message is whole.
+    Delivers(Signal),
+}
+
+/// A message that is being received, with what was granted of it.
+#[derive(Drop)]
+pub(crate) struct Reception {
+    message: Session,
+    most: u8,
+    granted: u8,
+    asks: u8,
+    fresh: bool,
+}
+
+impl Model for Reception {
+    ghost use Rattle.j39_transport.specs.Reception.{ReceptionRecord};
+    ghost use Rattle.j39_transport.specs.ShownReceiver.{IsReception};
+
+    ghost Value = { ReceptionRecord };
+
+    ghost view = { λ r. record { message = r.message; most = r.most; granted = r.granted; asks = r.asks; fresh = r.fresh } };
+
+    ghost invariant = { λ r. IsReception (record { message = r.message; most = r.most; granted = r.granted; asks = r.asks; fresh = r.fresh }) };
+}
+
+impl Reception {
+    /// The session of a message, with nothing granted yet.
+    #[tactic(auto, unfolding(crate::specs::Reception::begun))]
+    pub(crate) fn new(announcement: Announcement, most: u8, now: Stamp) -> Reception
+        ensures { result ≡ begun (opened_by announcement (stamp_micros now)) most }
+    {
+        Reception {
+            message: Session::new(announcement, now),
+            most: most_packets(most),
+            granted: 0,
+            asks: 0,
+            fresh: true,
+        }
+    }
+
+    /// Begins another message in the same buffer.
+    #[tactic(auto, unfolding(crate::specs::Reception::begun))]
+    pub(crate) fn restart(&mut self, announcement: Announcement, most: u8, now: Stamp)
+        ensures { self.new ≡ begun (opened_by announcement (stamp_micros now)) most }
+    {
+        self.message.restart(announcement, now);
+        self.most = most_packets(most);
+        self.granted = 0;
+        self.asks = 0;
+        self.fresh = true;
+    }
+
+    pub(crate) fn source(&self) -> u8
+        ensures { result ≡ self.now.message.source }
+    {
+        self.message.source()
+    }
+
+    pub(crate) fn group(&self) -> Pgn
+        ensures { pgn_raw result ≡ self.now.message.group }
+    {
+        self.message.group()
+    }
+
+    /// The bytes of a whole message, without padding.
+    pub(crate) fn payload(&self) -> &[u8]
+        requires { self.now.message.count ≡ self.now.message.packets }
+        ensures { result.now ≡ take self.now.message.size self.now.message.bytes }
+    {
+        self.message.payload()
+    }
+
+    /// Grants the next packets: the CTS to send.
+    #[tactic(auto, unfolding(crate::specs::Reception::granted_at))]
+    pub(crate) fn grant(&mut self, now: Stamp) -> Signal
+        requires { self.old.message.count < self.old.message.packets }
+        ensures after { self.new ≡ granted_at (stamp_micros now) self.old }
+        ensures says { said result ≡ ClearToSend (window self.old) (self.old.message.count + 1) self.old.message.group }
+    {
+        let got = self.message.count();
+        let count = self.most.min(self.message.packets() - got);
+        self.granted = got + count;
+        self.fresh = true;
+        self.message.touch(now);
+        Signal::ClearToSend(count, got + 1, self.message.group().raw())
+    }
+
+    /// Asks for the packets from the number that comes next, at most twice for a message.
+    #[tactic(auto, unfolding(crate::specs::Reception::asks_again, crate::specs::Reception::grants, crate::specs::Reception::granted_at))]
+    fn ask_again(&mut self, now: Stamp) -> Step
+        requires { self.old.message.count < self.old.message.packets }
+        ensures step { stepped result self.new ≡ asks_again (stamp_micros now) self.old }
+        ensures open { IsStep result self.new }
+    {
+        if self.asks == MOST_ASKS {
+            Step::Aborts(Signal::Abort(TIMEOUT, self.message.group().raw()))
+        } else {
+            self.asks += 1;
+            Step::Says(self.grant(now))
+        }
+    }
+
+    /// Goes on after the packet that came next was appended.
+    #[tactic(auto, unfolding(crate::specs::Reception::goes_on, crate::specs::Reception::grants, crate::specs::Reception::granted_at, crate::specs::Reception::delivers_message))]
+    fn go_on(&mut self, now: Stamp) -> Step
+        ensures step { stepped result self.new ≡ goes_on (stamp_micros now) self.old }
+        ensures open { IsStep result self.new }
+    {
+        if self.message.count() == self.message.packets() {
+            Step::Delivers(self.message.acknowledgment())
+        } else if self.message.count() == self.granted {
+            Step::Says(self.grant(now))
+        } else {
+            Step::Stays
+        }
+    }
+
+    /// Takes a packet of the session's source.
+    #[tactic(auto, unfolding(crate::specs::Reception::takes_packet))]
+    pub(crate) fn take_packet(&mut self, number: u8, joined: &[u8], now: Stamp) -> Step
+        requires lacks { self.old.message.count < self.old.message.packets }
+        requires seven { length joined.now ≡ 7 }
+        ensures step { stepped result self.new ≡ takes_packet number joined.now (stamp_micros now) self.old }
+        ensures open { IsStep result self.new }
+    {
+        if u16::from(number) == u16::from(self.message.count()) + 1 {
+            self.message.append(joined, now);
+            self.fresh = false;
+            self.go_on(now)
+        } else if number == self.granted {
+            self.ask_again(now)
+        } else {
+            self.message.touch(now);
+            self.fresh = false;
+            Step::Stays
+        }
+    }
+
+    /// Lets time pass.
+    #[tactic(auto, unfolding(crate::specs::Reception::takes_tick))]
+    pub(crate) fn tick(&mut self, now: Stamp) -> Step
+        requires { self.old.message.count < self.old.message.packets }
+        ensures step { stepped result self.new ≡ takes_tick (stamp_micros now) (Some self.old) }
+        ensures open { IsStep result self.new }
+    {
+        let limit = if self.fresh { T2 } else { T1 };
+        if now.micros() > self.message.last().micros() + limit {
+            self.ask_again(now)
+        } else {
+            Step::Stays
+        }
+    }
+}
+
+/// The most packets for one CTS, as an RTS names them; 0 sets no limit (own).
+fn most_packets(most: u8) -> u8
+    ensures { result ≡ most_named most }
+{
+    if most == 0 { 255 } else { most }
+}

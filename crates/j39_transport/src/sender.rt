@@ -1,0 +1,215 @@
+//! The sending end of a directed transfer (J1939-21, 5.10.3).
+ghost use Rattle.std.specs.Prelude.{◌≡◌, ◌≤◌, ◌↔◌, IsSome, IfSome, Some};
+ghost use Rattle.std.specs.Option.{option_map};
+ghost use Rattle.j39_frame.specs.Address.{IsAddress};
+ghost use Rattle.j39_frame.specs.Stamp.{stamp_micros};
+ghost use Rattle.j39_transport.specs.Cutting.{to_send};
+ghost use Rattle.j39_transport.specs.Message.{packets_of};
+ghost use Rattle.j39_transport.specs.Sending.{SendStep, new_sender, ticks_in, sends_packet, waits, hears, cleared, acknowledged, aborted};
+ghost use Rattle.j39_transport.specs.ShownSender.{event_of, state_of};
+ghost use Rattle.j39_transport.specs.ShownSignal.{said};
+
+use crate::Cut;
+use crate::key::Key;
+use crate::progress::{Progress, SendEvent, SendState};
+use crate::signal::{self, Signal};
+use j39_frame::{Id, Stamp, is_address};
+use std::marker::Model;
+
+/// The longest wait for an answer, in microseconds: 1,250 ms (J1939-21, 5.10.2.4).
+const T3: u64 = 1_250_000;
+
+/// The longest wait after a CTS that holds: 1,050 ms (J1939-21, 5.10.2.4).
+const T4: u64 = 1_050_000;
+
+/// The reason of an abort where an answer is late (J1939-21, 5.10.3.4).
+const TIMEOUT: u8 = 3;
+
+/// Sends one message to one controller, by request to send (RTS) and clear to send (CTS).
+#[derive(Drop)]
+pub struct Sender<'a> {
+    cut: Cut<'a>,
+    destination: u8,
+    progress: Progress,
+    since: Stamp,
+    highest: u8,
+}
+
+impl<'a> Model for Sender<'a> {
+    ghost use Rattle.j39_frame.specs.Stamp.{stamp_micros};
+    ghost use Rattle.j39_transport.specs.Sending.{SenderRecord};
+    ghost use Rattle.j39_transport.specs.ShownSender.{progress_in, IsSender};
+
+    ghost Value = { SenderRecord };
+
+    ghost view = { λ s. record { message = s.cut; destination = s.destination; state = progress_in s.progress; since = stamp_micros s.since; highest = s.highest } };
+
+    ghost invariant = { λ s. IsSender (record { message = s.cut; destination = s.destination; state = progress_in s.progress; since = stamp_micros s.since; highest = s.highest }) };
+}
+
+impl<'a> Sender<'a> {
+    /// A sender of a message to an address; `None` for a destination above 253. It sends its RTS at the
+    /// first tick.
+    #[tactic(auto, unfolding(crate::specs::Sending::new_sender))]
+    pub fn new(cut: Cut<'a>, destination: u8) -> Option<Sender<'a>>
+        ensures known { IsSome result ↔ IsAddress destination }
+        ensures value { IfSome result (λ sender. sender ≡ new_sender cut.entry destination) }
+    {
+        if !is_address(destination) {
+            return None;
+        }
+        let _long = cut.packets();
+        Some(Sender {
+            cut,
+            destination,
+            progress: Progress::Idle,
+            since: Stamp::new(0).unwrap(),
+            highest: 0,
+        })
+    }
+
+    /// Takes an event at a moment, and answers the frame to send, if there is one: at a tick alone.
+    #[tactic(auto, unfolding(crate::specs::Sending::send_step))]
+    pub fn on(&mut self, event: SendEvent<'_>, now: Stamp) -> Option<(Id, [u8; 8])>
+        ensures step { SendStep self.old (event_of event.entry) (stamp_micros now) (option_map to_send result) self.new }
+    {
+        let source = self.cut.source();
+        let destination = self.destination;
+        match event {
+            SendEvent::Tick => {
+                let signal = self.tick(now)?;
+                Some(signal::write(signal, source, destination))
+            }
+            SendEvent::Heard(frame) => {
+                let signal = signal::read(frame, destination, source);
+                self.hear(signal, now);
+                None
+            }
+        }
+    }
+
+    /// How far it is.
+    pub fn state(&self) -> SendState
+        ensures value { result ≡ state_of self.now.state }
+    {
+        match self.progress {
+            Progress::Idle => SendState::Idle,
+            Progress::Waiting(_) => SendState::Waiting,
+            Progress::Sending(_, _) => SendState::Sending,
+            Progress::Done => SendState::Done,
+            Progress::Failed(reason) => SendState::Failed(reason),
+        }
+    }
+
+    #[tactic(auto, unfolding(crate::specs::Sending::ticks_in))]
+    fn tick(&mut self, now: Stamp) -> Option<Signal>
+        ensures after { self.new ≡ (ticks_in self.old.state (stamp_micros now) self.old).after }
+        ensures says { option_map said result ≡ (ticks_in self.old.state (stamp_micros now) self.old).says }
+    {
+        match self.progress {
+            Progress::Idle => {
+                let key = Key::Directed(self.cut.source(), self.destination);
+                self.wait(T3, now);
+                Some(Signal::RequestToSend(self.cut.announcement(key), 0xFF))
+            }
+            Progress::Waiting(limit) => {
+                if now.micros() > self.since.micros() + limit {
+                    self.progress = Progress::Failed(TIMEOUT);
+                    Some(Signal::Abort(TIMEOUT, self.cut.group().raw()))
+                } else {
+                    None
+                }
+            }
+            Progress::Sending(next, last) => Some(self.send(next, last, now)),
+            Progress::Done => None,
+            Progress::Failed(_) => None,
+        }
+    }
+
+    fn wait(&mut self, limit: u64, now: Stamp)
+        requires { limit ≤ 1250000 }
+        ensures { self.new ≡ waits limit (stamp_micros now) self.old }
+    {
+        self.progress = Progress::Waiting(limit);
+        self.since = now;
+    }
+
+    /// Sends a packet, of those granted up to the last.
+    #[tactic(auto, unfolding(crate::specs::Sending::sends_packet))]
+    fn send(&mut self, number: u8, last: u8, now: Stamp) -> Signal
+        requires first { 1 ≤ number }
+        requires granted { number ≤ last }
+        requires last { last ≤ packets_of self.old.message }
+        ensures after { self.new ≡ (sends_packet number last (stamp_micros now) self.old).after }
+        ensures says { Some (said result) ≡ (sends_packet number last (stamp_micros now) self.old).says }
+    {
+        self.highest = self.highest.max(number);
+        if number == last {
+            self.progress = Progress::Waiting(T3);
+            self.since = now;
+        } else {
+            self.progress = Progress::Sending(number + 1, last);
+        }
+        Signal::Packet(number, self.cut.data(number))
+    }
+
+    /// What the receiver says; only what names the message's group counts.
+    #[tactic(auto, unfolding(crate::specs::Sending::hears))]
+    fn hear(&mut self, signal: Option<Signal>, now: Stamp)
+        ensures { self.new ≡ hears (option_map said signal) (stamp_micros now) self.old }
+    {
+        let group = self.cut.group().raw();
+        match signal {
+            Some(Signal::ClearToSend(count, next, pgn)) if pgn == group => self.clear(
+                count, next, now,
+            ),
+            Some(Signal::Acknowledgment(size, packets, pgn)) if pgn == group => self.acknowledge(
+                size, packets,
+            ),
+            Some(Signal::Abort(reason, pgn)) if pgn == group => self.abort(reason),
+            _ => {}
+        }
+    }
+
+    #[tactic(auto, unfolding(crate::specs::Sending::cleared))]
+    fn clear(&mut self, count: u8, next: u8, now: Stamp)
+        ensures { self.new ≡ cleared count next (stamp_micros now) self.old }
+    {
+        if let Progress::Waiting(_) = self.progress {
+            let packets = self.cut.packets();
+            if count == 0 {
+                self.wait(T4, now);
+            } else if next >= 1
+                && next <= packets
+                && u16::from(next) <= u16::from(self.highest) + 1
+            {
+                let last = (u16::from(next) + u16::from(count) - 1).min(u16::from(packets));
+                self.progress = Progress::Sending(next, last as u8);
+            }
+        }
+    }
+
+    #[tactic(auto, unfolding(crate::specs::Sending::acknowledged))]
+    fn acknowledge(&mut self, size: u16, packets: u8)
+        ensures { self.new ≡ acknowledged size packets self.old }
+    {
+        if let Progress::Waiting(_) = self.progress {
+            if size == self.cut.size() && packets == self.cut.packets() && self.highest == packets {
+                self.progress = Progress::Done;
+            }
+        }
+    }
+
+    #[tactic(auto, unfolding(crate::specs::Sending::aborted))]
+    fn abort(&mut self, reason: u8)
+        ensures { self.new ≡ aborted reason self.old }
+    {
+        match self.progress {
+            Progress::Waiting(_) => self.progress = Progress::Failed(reason),
+            Progress::Sending(_, _) => self.progress = Progress::Failed(reason),
+            Progress::Idle => {}
+            Progress::Done => {}
+            Progress::Failed(_) => {}
+        }
+    }
+}
