@@ -1,12 +1,10 @@
-//! Devices that fail, memory that is refused, and logs that are too long.
-use crate::broadcasts::{longest_log, longest_text};
+//! Devices that fail, and logs that are too long.
 use crate::support::program;
 use j39_cli::{parse, perform};
-use j39_frame::{Bus, Frame, Full, Id, Stamp, Told, Trial};
-use j39_listen::{Listener, RunFault, run};
-use std::alloc::{AllocError, Global};
+use j39_frame::{Bus, Full, Told, Trial};
+use j39_listen::{RunFault, run};
+use std::alloc::Global;
 use std::fs;
-use std::process::Abort;
 use std::test::Fail;
 
 const LOG: &[u8] = b"(0000000001.000000) can0 18EEFF00#3412400100000080\n\
@@ -36,7 +34,7 @@ const VIN_TEXT: &[u8] = b"(0000000002.010000) 00 8000000001401234 61444 190 1500
     (0000000002.150000) 00 8000000001401234 65260 237 \"1FUJA6CV12LK12345\"\n";
 
 /// Logs with their reports.
-fn logs() -> [(&'static [u8], &'static [u8]); 3] {
+pub(crate) fn logs() -> [(&'static [u8], &'static [u8]); 3] {
     [
         (&LOG[..TWO_LINES], &TEXT[..TEXT_OF_TWO]),
         (LOG, TEXT),
@@ -45,7 +43,7 @@ fn logs() -> [(&'static [u8], &'static [u8]); 3] {
 }
 
 /// A source of a log in pieces.
-fn source_of(alloc: Global, log: &[u8], most: usize) -> Result<Trial, Fail> {
+pub(crate) fn source_of(alloc: Global, log: &[u8], most: usize) -> Result<Trial, Fail> {
     Ok(Trial::new(alloc, log, 0)?.in_pieces(most))
 }
 
@@ -55,12 +53,12 @@ fn log_in(alloc: Global, most: usize) -> Result<Trial, Fail> {
 }
 
 /// A sink with room for so many bytes.
-fn room_for(alloc: Global, room: usize) -> Result<Trial, Fail> {
+pub(crate) fn room_for(alloc: Global, room: usize) -> Result<Trial, Fail> {
     Ok(Trial::new(alloc, b"", room)?)
 }
 
 /// What a run answers over these devices, but for its counts.
-fn run_over(
+pub(crate) fn run_over(
     alloc: Global,
     source: &mut Trial,
     sink: &mut Trial,
@@ -142,73 +140,6 @@ fn nth_read_fails(rt: HostRuntime) -> Result<(), Fail> {
             assert_eq!(rt; source.reads(), nth);
             assert!(rt; text.starts_with(sink.written()));
         }
-    }
-    Ok(())
-}
-
-/// The report of a log, or a front of it where memory was refused.
-fn reports_without_memory(
-    rt: &(impl Abort + AllocGlobal),
-    log: &[u8],
-    text: &[u8],
-) -> Result<(), Fail> {
-    let alloc = rt.alloc();
-    let (mut source, mut sink) = (source_of(alloc, log, 4096)?, room_for(alloc, text.len())?);
-    let met = run_over(alloc, &mut source, &mut sink, 100_000);
-    if met == Err(RunFault::Memory) {
-        assert!(rt; text.starts_with(sink.written()));
-    } else {
-        assert_eq!(rt; met, Ok(()));
-        assert_eq!(rt; sink.written(), text);
-    }
-    Ok(())
-}
-
-// These hold with any one allocation refused, which the tool does in turn.
-#[test]
-fn memory_of_a_run(rt: HostRuntime) -> Result<(), Fail> {
-    for (log, text) in logs() {
-        reports_without_memory(&rt, log, text)?;
-    }
-    let alloc = rt.alloc();
-    let (log, text) = (
-        longest_log(alloc, "20F906FFFFECFE00")?,
-        longest_text(alloc)?,
-    );
-    reports_without_memory(&rt, log.as_bytes(), text.as_bytes())
-}
-
-/// The broadcast of `VIN_LOG`, with stamps in microseconds.
-const BROADCAST: [(u64, u32, [u8; 8]); 4] = [
-    (2_000_000, 0x1CEC_FF00, *b"\x20\x12\x00\x03\xFF\xEC\xFE\x00"),
-    (2_050_000, 0x1CEB_FF00, *b"\x011FUJA6C"),
-    (2_100_000, 0x1CEB_FF00, *b"\x02V12LK12"),
-    (2_150_000, 0x1CEB_FF00, *b"\x03345*\xFF\xFF\xFF"),
-];
-
-fn frame_of(micros: u64, id: u32, bytes: &[u8]) -> Option<Frame> {
-    Frame::new(Stamp::new(micros)?, Id::new(id)?, bytes)
-}
-
-/// Whether a message is heard at the frame.
-fn hears(listener: &mut Listener, frame: &Frame) -> Result<bool, AllocError> {
-    Ok(listener.feed(frame)?.is_some())
-}
-
-#[test]
-fn memory_of_a_listener(rt: HostRuntime) -> Result<(), Fail> {
-    let mut listener = Listener::new(rt.alloc());
-    for (micros, id, bytes) in &BROADCAST {
-        let Some(frame) = frame_of(*micros, *id, bytes) else {
-            continue;
-        };
-        // A frame that was refused is fed again, and nothing later is otherwise.
-        let heard = match hears(&mut listener, &frame) {
-            Ok(heard) => heard,
-            Err(AllocError) => hears(&mut listener, &frame)?,
-        };
-        assert_eq!(rt; heard, *micros == 2_150_000);
-        assert_eq!(rt; listener.open(), usize::from(!heard));
     }
     Ok(())
 }

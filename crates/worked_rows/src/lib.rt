@@ -16,6 +16,8 @@ mod lines;
 #[cfg(test)]
 mod losses;
 #[cfg(test)]
+mod memory;
+#[cfg(test)]
 mod nodes;
 #[cfg(test)]
 mod support;
