@@ -26,7 +26,7 @@ first_is f fs x xs e = ap (λ (l : List ToSend). get_or l 0 x) e
 rest_are : (f : FrameRecord) (fs : List FrameRecord) (x : ToSend) (xs : List ToSend) → map without_stamp (f ∷ fs) ≡ x ∷ xs → map without_stamp fs ≡ xs
 rest_are f fs x xs e = ap (λ (l : List ToSend). drop 1 l) e
 
-cut_packet : (k : Key) (m : MessageRecord) (n : ℕ) → 1 ≤ n → cut_frame k m n ≡ packet_of k m n
+pub cut_packet : (k : Key) (m : MessageRecord) (n : ℕ) → 1 ≤ n → cut_frame k m n ≡ packet_of k m n
 unfolding cut_frame
 cut_packet k m n h = ap (λ (b : Bool). cond b (announcement_of k m) (packet_of k m n)) (ne_eqb n 0 (λ e. absurd (omega arith)))
 

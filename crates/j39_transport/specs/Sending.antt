@@ -1,9 +1,10 @@
 -- The sender of a directed transfer: its states, and what it does at each event (J1939-21, 5.10.2.4 and 5.10.3).
-use Rattle.std.specs.Prelude.{◌≡◌, ℕ, ◌+◌, ◌-◌, min, max, length, nat_lt, nat_le, ◌==◌, Bool, true, false, ◌&&◌, if◌then◌else◌, Option, Some, None}
+use Rattle.std.specs.Prelude.{◌≡◌, ◌≤◌, ◌⊎◌, ℕ, ◌+◌, ◌-◌, min, max, length, nat_lt, nat_le, ◌==◌, Bool, true, false, ◌&&◌, if◌then◌else◌, Option, Some, None}
 use Rattle.std.specs.Option.{option_map}
 use Rattle.j39_frame.specs.Frame.{FrameRecord}
+use Rattle.j39_transport.specs.Key.{Directed}
 use Rattle.j39_transport.specs.Message.{MessageRecord, packets_of}
-use Rattle.j39_transport.specs.Cutting.{ToSend, packet_data}
+use Rattle.j39_transport.specs.Cutting.{ToSend, packet_data, cut_frame}
 use Rattle.j39_transport.specs.Signals.{Signal, RequestToSend, ClearToSend, Acknowledgment, Abort, Packet, said_between, written}
 
 -- the longest wait for an answer to an RTS or to the last granted packet, in microseconds
@@ -141,3 +142,11 @@ sent_by s says = option_map (written s.message.source s.destination) says
 pub record SendStep (old : SenderRecord) (event : SendEvent) (now : ℕ) (answer : Option ToSend) (new : SenderRecord) : Type 0 where
   pub after : new ≡ (send_step old event now).after
   pub answers : answer ≡ sent_by old (send_step old event now).says
+
+-- ---- its frames
+
+-- what a sender may send: a frame of its message, cut for its destination, or abort 3
+abbrev pub IsOwn : SenderRecord → ToSend → Type 0
+IsOwn s f =
+    ((k : ℕ) × (k ≤ packets_of s.message) × (f ≡ cut_frame (Directed s.message.source s.destination) s.message k))
+    ⊎ (f ≡ written s.message.source s.destination (Abort 3 s.message.pgn))

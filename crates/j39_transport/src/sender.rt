@@ -5,7 +5,7 @@ ghost use Rattle.j39_frame.specs.Address.{IsAddress};
 ghost use Rattle.j39_frame.specs.Stamp.{stamp_micros};
 ghost use Rattle.j39_transport.specs.Cutting.{to_send};
 ghost use Rattle.j39_transport.specs.Message.{packets_of};
-ghost use Rattle.j39_transport.specs.Sending.{SendStep, new_sender, ticks_in, sends_packet, waits, hears, cleared, acknowledged, aborted};
+ghost use Rattle.j39_transport.specs.Sending.{SendStep, IsOwn, new_sender, ticks_in, sends_packet, waits, hears, cleared, acknowledged, aborted};
 ghost use Rattle.j39_transport.specs.ShownSender.{event_of, state_of};
 ghost use Rattle.j39_transport.specs.ShownSignal.{said};
 
@@ -69,9 +69,17 @@ impl<'a> Sender<'a> {
     }
 
     /// Takes an event at a moment, and answers the frame to send, if there is one: at a tick alone.
-    #[tactic(auto, unfolding(crate::specs::Sending::send_step))]
     pub fn on(&mut self, event: SendEvent<'_>, now: Stamp) -> Option<(Id, [u8; 8])>
         ensures step { SendStep self.old (event_of event.entry) (stamp_micros now) (option_map to_send result) self.new }
+        ensures own { IfSome (option_map to_send result) (IsOwn self.old) }
+    {
+        let _ = &self.cut;
+        self.step(event, now)
+    }
+
+    #[tactic(auto, unfolding(crate::specs::Sending::send_step))]
+    fn step(&mut self, event: SendEvent<'_>, now: Stamp) -> Option<(Id, [u8; 8])>
+        ensures { SendStep self.old (event_of event.entry) (stamp_micros now) (option_map to_send result) self.new }
     {
         let source = self.cut.source();
         let destination = self.destination;
