@@ -1,3 +1,4 @@
 pub mod HolderLemmas
 pub mod OrderLemmas
 pub mod NotingLemmas
+mod ClaimerLemmas
