@@ -1,5 +1,6 @@
 -- A net of nodes that claim addresses: nothing is lost, and claims come in any order (J1939-81, 4.5).
 use Rattle.std.specs.Prelude.{◌≡◌, ◌≢◌, ◌⊎◌, ◌==◌, ℕ, zero, suc, List, [], ◌∷◌, ◌++◌, length, slice_get, slice_set, Option, Some, None, if◌then◌else◌}
+use Rattle.std.specs.List.{Contains}
 use Rattle.j39_address.specs.Claim.{Claim}
 use Rattle.j39_address.specs.Node.{Node, IsAt}
 use Rattle.j39_address.specs.Node.NodeStatus.{Idle}
@@ -59,8 +60,7 @@ pub record IsStart (net : Net) : Type 0 where
 
 -- n's claim of a is on its way to the member of this number
 abbrev pub IsPending : ℕ → ℕ → ℕ → List Delivery → Type 0
-IsPending n a to [] = ⊥
-IsPending n a to (d ∷ ds) = (d ≡ record { claim = record { name = n; address = a }; to = to }) ⊎ IsPending n a to ds
+IsPending n a to deliveries = Contains deliveries (record { claim = record { name = n; address = a }; to = to })
 
 -- of two members at one address, the claim of one is on its way to the other
 abbrev pub OneIsTold : Net → Type 0

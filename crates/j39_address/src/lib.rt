@@ -18,4 +18,6 @@ pub use name::Name;
 pub use status::Status;
 
 #[cfg(test)]
+mod claimer_tests;
+#[cfg(test)]
 mod tests;
