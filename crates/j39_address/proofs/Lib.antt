@@ -1,3 +1,8 @@
 pub mod HolderLemmas
 pub mod OrderLemmas
 pub mod NotingLemmas
+mod ClaimerLemmas
+mod StepLemmas
+mod NetLemmas
+mod OneStepLemmas
+mod SomeStepLemmas

@@ -33,7 +33,7 @@ in_order-from (Some y) (Some x) a h = cond_both (nat_lt y x) (y ∷ x ∷ []) (x
     (λ t k. elim (two_have a y x k) [ inl e ↦ inl (some_is y a e) | inr e ↦ inr (some_is x a e) ])
     (λ t k. elim (two_have a x y k) [ inl e ↦ inr (some_is x a e) | inr e ↦ inl (some_is y a e) ]) h
 
-first_in : (a b : ℕ) (xs : List ℕ) → b ≡ a → Contains (b ∷ xs) a
+first_in : {X : Type 0} (a b : X) (xs : List X) → b ≡ a → Contains (b ∷ xs) a
 first_in a b xs e = (0, omega arith, e)
 
 second_in : (a b c : ℕ) (xs : List ℕ) → c ≡ a → Contains (b ∷ c ∷ xs) a
@@ -77,13 +77,13 @@ above x a (y ∷ ys) h (suc k, l, e) =
     let v : y < a = above y a ys (tail_rises x (y ∷ ys) h) (k, omega (arith, l), e) in
     omega arith
 
-first : (x : ℕ) (xs : List ℕ) → Contains (x ∷ xs) x
+pub first : {X : Type 0} (x : X) (xs : List X) → Contains (x ∷ xs) x
 first x xs = first_in x x xs refl
 
-later : (x a : ℕ) (xs : List ℕ) → Contains xs a → Contains (x ∷ xs) a
+pub later : {X : Type 0} (x a : X) (xs : List X) → Contains xs a → Contains (x ∷ xs) a
 later x a xs (k, l, e) = (suc k, omega (arith, l), e)
 
-among : (x a : ℕ) (xs : List ℕ) → Contains (x ∷ xs) a → (x ≡ a) ⊎ Contains xs a
+pub among : {X : Type 0} (x a : X) (xs : List X) → Contains (x ∷ xs) a → (x ≡ a) ⊎ Contains xs a
 among x a xs (zero, l, e) = inl e
 among x a xs (suc k, l, e) = inr (k, omega (arith, l), e)
 

@@ -1,6 +1,6 @@
 -- Address claims (J1939-81, 4.2.2).
-use Rattle.std.specs.Prelude.{ℕ, ◌==◌, ◌&&◌, nat_lt, List, map, length, Option, Some, None, if◌then◌else◌}
-use Rattle.byteorder.specs.Endian.{little_number}
+use Rattle.std.specs.Prelude.{◌+◌, ◌*◌, ◌^◌, ℕ, ◌==◌, ◌&&◌, nat_lt, List, map, length, Option, Some, None, if◌then◌else◌}
+use Rattle.byteorder.specs.Endian.{little_number, little_bytes}
 use Rattle.j39_frame.specs.Address.{global_address}
 use Rattle.j39_frame.specs.Network.{address_claimed_group}
 use Rattle.j39_frame.specs.Identifier.{pgn_of, source_of}
@@ -27,3 +27,11 @@ claims_of frames = map claim_of frames
 -- a claim as the calls answer it
 abbrev pub claim_by : Name × ℕ → Claim
 claim_by claim = record { name = name_raw claim.0; address = claim.1 }
+
+-- the frame by which n claims a at a moment, or says that it can't claim where a is the null address: priority 6, to all
+abbrev pub claim_frame : ℕ → ℕ → ℕ → FrameRecord
+claim_frame now n a = record {
+  stamp = now;
+  id = 6 * 2 ^ 26 + address_claimed_group * 2 ^ 8 + global_address * 2 ^ 8 + a;
+  bytes = little_bytes 8 n;
+}

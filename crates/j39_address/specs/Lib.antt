@@ -4,3 +4,11 @@ pub mod Holder
 pub mod Changes
 pub mod Claims
 pub mod Noting
+pub mod Request
+pub mod Command
+pub mod Node
+pub mod Call
+pub mod NodeStep
+pub mod Net
+pub mod Claimer
+pub mod Claiming

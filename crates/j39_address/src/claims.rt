@@ -63,7 +63,7 @@ impl Claims {
 
     /// Notes the claim of a NAME for an address, and gives the addresses whose holder it changed.
     #[inline(never)]
-    fn note_claim(&mut self, name: Name, address: u8) -> ArrayVec<u8, 2>
+    pub(crate) fn note_claim(&mut self, name: Name, address: u8) -> ArrayVec<u8, 2>
         ensures stands { (C : List (Option Claim)) → StandsFor self.old C
             → StandsFor self.new (C ++ Some (claim_by (name, address)) ∷ []) }
         ensures changed { (C : List (Option Claim)) → StandsFor self.old C
