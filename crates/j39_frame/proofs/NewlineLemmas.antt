@@ -6,16 +6,16 @@ use Rattle.std.proofs.lemmas.Bool.{eqb-true, eqb-false, not-true, not-false}
 use Rattle.std.proofs.lemmas.List.Elements.{recursion_from_All, All-from_get_or}
 use Rattle.std.proofs.lemmas.List.Sums.{prefix_len_passes, prefix_len_stops}
 use Rattle.j39_frame.specs.Log.{HasNoNewline}
-use Rattle.j39_frame.specs.Newline.{TakesLine}
+use Rattle.j39_frame.specs.Newline.{TakesLine, is_no_newline}
 
-abbrev line_len : List ℕ → ℕ
-line_len bytes = prefix_len (λ b. not (b == 10)) bytes
+abbrev pub line_len : List ℕ → ℕ
+line_len bytes = prefix_len is_no_newline bytes
 
 front_whole : (bytes : List ℕ) (n : ℕ) → n ≡ line_len bytes → HasNoNewline (take n bytes)
 front_whole bytes n e =
     recursion_from_All (λ b. b ≢ 10) (take n bytes)
     (All-from_get_or (λ b. b ≢ 10) (take n bytes) 0 (λ i lt.
-    let p = prefix_len_passes (λ b. not (b == 10)) bytes i 0 in
+    let p = prefix_len_passes is_no_newline bytes i 0 in
     let below : i < line_len bytes = grind (arith, common_steps) in
     let at : get_or (take n bytes) i 0 ≡ get_or bytes i 0 = grind (arith, common_steps) in
     rw at (eqb-false _ 10 (not-true _ (p below)))))
@@ -38,7 +38,7 @@ takes_line bytes line rest later b n e p q r =
     let len : length bytes - n ≡ suc (length later) = sym (length-drop n bytes) ∙ ap length tail in
     let below : line_len bytes < length bytes = omega arith in
     let first : get_or bytes n 0 ≡ b = get_or-drop_head bytes n b later tail in
-    let stop : not (get_or bytes n 0 == 10) ≡ false = rw e (prefix_len_stops (λ b. not (b == 10)) bytes 0 below) in
+    let stop : not (get_or bytes n 0 == 10) ≡ false = rw e (prefix_len_stops is_no_newline bytes 0 below) in
     let newline : b ≡ 10 = sym first ∙ eqb-true _ 10 (not-false _ stop) in
     let split : bytes ≡ take n bytes ++ (b ∷ later) = sym (take-append-drop n bytes) ∙ ap (λ t. take n bytes ++ t) tail in
     record { whole = rw p (front_whole bytes n e); bytes_are = split ∙ rw (p, newline) refl }

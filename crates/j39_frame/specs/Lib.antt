@@ -12,6 +12,7 @@ pub mod Trial
 pub mod Fields
 pub mod Shape
 pub mod Text
+pub mod Lanes
 pub mod Line
 pub mod Spelled
 pub mod Log

@@ -1,7 +1,10 @@
 -- The first line of bytes.
-use Rattle.std.specs.Prelude.{◌≡◌, ℕ, List, ◌∷◌, ◌++◌}
+use Rattle.std.specs.Prelude.{◌≡◌, ◌==◌, ℕ, List, ◌∷◌, ◌++◌, Bool, not}
 use Rattle.j39_frame.specs.Chars.{newline}
 use Rattle.j39_frame.specs.Log.{HasNoNewline}
+
+abbrev pub is_no_newline : ℕ → Bool
+is_no_newline b = not (b == newline)
 
 -- a line, its newline, and what follows
 pub record TakesLine (bytes line rest : List ℕ) : Type 0 where

@@ -8,6 +8,7 @@ ghost use Rattle.j39_frame.specs.LineRead.{spelled_of};
 
 use crate::bus::is_bus_name;
 use crate::fields::{Shape, shape_of};
+use crate::plain::read_plain;
 use crate::text::{frame_of, stamp_of};
 use crate::{Frame, Stamp};
 
@@ -28,7 +29,8 @@ pub enum Line<'a> {
 pub const LINE_LIMIT: usize = 256;
 
 /// The line without one CR at its end.
-fn body_of(line: &[u8]) -> &[u8]
+#[inline(always)]
+pub(crate) fn body_of(line: &[u8]) -> &[u8]
     ensures { IsBody line.now result.now }
 {
     match line.split_last() {
@@ -66,12 +68,15 @@ fn line_parts(line: &[u8]) -> LineParts<'_>
     }
 }
 
-fn holds_hash(field: &[u8]) -> bool
+pub(crate) fn holds_hash(field: &[u8]) -> bool
     ensures { IsTrue result ↔ Contains field.now hash }
 {
     field.contains(&b'#')
 }
 
+/// Reads a line by the grammar alone.
+#[cold]
+#[inline(never)]
 fn classified(line: &[u8]) -> Line<'_>
     ensures { Spells line.now (spelled_of result) }
 {
@@ -94,5 +99,8 @@ pub fn read_line(line: &[u8]) -> Line<'_>
     ensures reads { Spells line.now (spelled_of result) }
     ensures only { (s : Spelled) → Spells line.now s → spelled_of result ≡ s }
 {
-    classified(line)
+    match read_plain(line) {
+        Some(read) => read,
+        None => classified(line),
+    }
 }
