@@ -102,7 +102,7 @@ fn log_at_the_limit(rt: HostRuntime) -> Result<(), Fail> {
         assert!(rt; source.reads() <= limit.saturating_add(2));
         let (mut source, mut sink) = (source_of(alloc, log, 1)?, room_for(alloc, text.len())?);
         assert_eq!(rt;
-            run_over(alloc, &mut source, &mut sink, limit - 1),
+            run_over(alloc, &mut source, &mut sink, limit.saturating_sub(1)),
             Err(RunFault::TooLong)
         );
         assert!(rt; text.starts_with(sink.written()));
@@ -117,7 +117,7 @@ fn piece_that_passes_the_limit(rt: HostRuntime) -> Result<(), Fail> {
     let limit = LOG.len() as u64;
     let (mut source, mut sink) = (log_in(alloc, 51)?, room_for(alloc, TEXT.len())?);
     assert_eq!(rt;
-        run_over(alloc, &mut source, &mut sink, limit - 1),
+        run_over(alloc, &mut source, &mut sink, limit.saturating_sub(1)),
         Err(RunFault::TooLong)
     );
     assert_eq!(rt; sink.written(), &TEXT[..TEXT_OF_TWO]);
