@@ -1,6 +1,7 @@
 -- What is heard at a place depends on the frames up to it alone.
 use Rattle.std.proofs.Common.{◌≡◌, ◌↔◌, ℕ, zero, suc, ◌<◌, ◌≤◌, List, [], ◌∷◌, ◌++◌, map, length, get_or, take, Option, Some, None, refl, sym, ap, ◌∙◌, subst, inl, inr, arith, flat_map, length-append}
-use Rattle.std.proofs.lemmas.List.{get_or_append_left, get_or_push, get_or-map, length_push, length-map}
+use Rattle.std.proofs.lemmas.List.{get_or_append_left, get_or_push, get_or-map, length_push}
+use Rattle.std.proofs.lemmas.Grind.{flat_map-append}
 use Rattle.j39_address.specs.Claim.{Claim, claim_of, claims_of}
 use Rattle.j39_address.specs.Holder.{IsHolder}
 use Rattle.j39_address.proofs.HolderLemmas.{holder_agree}
@@ -179,14 +180,10 @@ heard_more F f hs o h k =
     let x : HeardBelow (F ++ f ∷ []) (suc (length F)) (hs ++ or_none o) = (hs, o, heard_below_same F (F ++ f ∷ []) (length F) hs (same_below_append F (f ∷ []) (length F) (omega arith)) h, k, refl) in
     subst (λ (n : ℕ). HeardBelow (F ++ f ∷ []) n (hs ++ or_none o)) (let n : suc (length F) ≡ length (F ++ f ∷ []) = omega (arith, length_push F f) in n) x
 
-flat_append : {A B : Type 0} (f : A → List B) (xs ys : List A) → flat_map f (xs ++ ys) ≡ flat_map f xs ++ flat_map f ys
-flat_append f [] ys = refl
-flat_append f (x ∷ xs) ys = ap (λ (zs : List _). f x ++ zs) (flat_append f xs ys) ∙ sym (Rattle.std.proofs.lemmas.List.append_assoc (f x) (flat_map f xs) (flat_map f ys))
-
 pub report_more : (F : List FrameRecord) (f : FrameRecord) (es : List Entry) (o : Option Hearing) → IsReport F es → HeardAt (F ++ f ∷ []) (length F) o
     → IsReport (F ++ f ∷ []) (es ++ flat_map entries_of (or_none o))
 report_more F f es o h k =
-    (h.0 ++ or_none o, heard_more F f h.0 o h.1 k, ap (λ (xs : List Entry). xs ++ flat_map entries_of (or_none o)) h.2 ∙ sym (flat_append entries_of h.0 (or_none o)))
+    (h.0 ++ or_none o, heard_more F f h.0 o h.1 k, ap (λ (xs : List Entry). xs ++ flat_map entries_of (or_none o)) h.2 ∙ sym (flat_map-append entries_of h.0 (or_none o)))
 
 pub forgets_more : (F : List FrameRecord) (f : FrameRecord) (E : List Event) (gone : List ℕ) → WithForgets F (length F) E → Changed (claims_of (F ++ f ∷ [])) (length F) gone
     → WithForgets (F ++ f ∷ []) (length (F ++ f ∷ [])) ((E ++ Frame f ∷ []) ++ map (λ t. Forget t) gone)

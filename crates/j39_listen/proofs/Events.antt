@@ -1,20 +1,16 @@
 -- Frames as events.
-use Rattle.std.proofs.Common.{◌≡◌, ℕ, zero, suc, ◌<◌, ◌≤◌, true, false, List, [], ◌∷◌, length, drop, refl, sym, ap, ◌∙◌, inl, inr, arith, slice_index, eqb-true, eq-eqb}
+use Rattle.std.proofs.Common.{◌≡◌, ℕ, ◌<◌, ◌≤◌, true, false, List, [], length, drop, refl, sym, ap, ◌∙◌, inl, inr, arith, slice_index, eqb-true, eq-eqb}
 use Rattle.std.proofs.lemmas.Bool.{cases_lt, and_parts, and_from, both_ways, false_from_ne_true}
 use Rattle.std.proofs.lemmas.List.{length-map, get_or_past}
 use Rattle.j39_frame.specs.Frame.{FrameRecord}
 use Rattle.j39_listen.specs.Heard.{frame_at, frames_only}
+use Rattle.j39_listen.proofs.Causal.{event_at}
 use Rattle.j39_transport.proofs.FrameFacts.{announcement_facts, packet_facts}
 use Rattle.j39_transport.specs.Events.{announces, ends, grants, group, is_numbered, number, packets, payload, sends, size, stamp}
 use Rattle.j39_transport.specs.Events.{at}
 use Rattle.j39_transport.specs.Events.Event.{Frame, Forget}
 use Rattle.j39_transport.specs.Frames.{group_of, is_announcement, is_clear_to_send, is_end, is_packet, packets_named, pgn_named, size_named}
 use Rattle.j39_transport.specs.Key.{Key}
-
-pub event_at : (H : List FrameRecord) (i : ℕ) → i < length H → at (frames_only H) i ≡ Frame (frame_at H i)
-event_at [] i l = absurd (omega arith)
-event_at (f ∷ H) zero l = refl
-event_at (f ∷ H) (suc i) l = event_at H i (omega arith)
 
 past_event : (H : List FrameRecord) (i : ℕ) → length H ≤ i → at (frames_only H) i ≡ Forget 255
 past_event H i l = get_or_past (frames_only H) i (Forget 255) (let e = length-map H (λ (f : FrameRecord). Frame f) in omega arith)
