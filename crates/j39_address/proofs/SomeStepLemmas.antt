@@ -99,6 +99,7 @@ on_claim old now c = elim (cases_eq n old.name) [
   where
     n : ℕ
     n = c.name
+
     a : ℕ
     a = c.address
 
@@ -134,6 +135,7 @@ on_command old now c = elim (cases_eq n old.name) [
   where
     n : ℕ
     n = c.name
+
     a : ℕ
     a = c.address
 

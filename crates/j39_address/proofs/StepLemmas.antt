@@ -1,10 +1,10 @@
 -- What one step does to a node's NAME and address.
-use Rattle.std.proofs.Common.{◌≡◌, ◌≢◌, ◌⊎◌, ℕ, List, Option, Some, None, sym, ap, ◌∙◌, subst, inl, inr, arith}
+use Rattle.std.proofs.Common.{◌≡◌, ◌≢◌, ◌⊎◌, ℕ, List, Option, Some, None, sym, ap, ◌∙◌, subst, inl, inr}
 use Rattle.j39_address.specs.Claim.{Claim}
 use Rattle.j39_address.specs.Node.{Node, NodeStatus, IsAt, address_of}
 use Rattle.j39_address.specs.Call.{Call}
 use Rattle.j39_address.specs.Call.Call.{Heard}
-use Rattle.j39_address.specs.NodeStep.{NodeStep, Rests, Repeats, Begins, GivesUp}
+use Rattle.j39_address.specs.NodeStep.{NodeStep, Begins, GivesUp}
 use Rattle.j39_address.specs.NodeStep.NodeStep.{starts, is_started, holds, waits, ticks_on, hears_itself, notes, wins, moves, gives_up, tells, tells_of_none, is_not_asked, obeys, ignores, passes}
 
 -- a node is at one address at most

@@ -40,14 +40,12 @@ pub data NodeStep (old : Node) (call : Call) (now : ℕ) (answer : Option ℕ) (
   -- an idle node is started; any other was
   starts : call ≡ Start → old.status ≡ Idle → Begins old old.claims now old.preferred answer new → NodeStep old call now answer new
   is_started : call ≡ Start → old.status ≢ Idle → Rests old answer new → NodeStep old call now answer new
-
   -- 250 ms after its claim the address is its own
   holds : (a : ℕ) → call ≡ Tick → old.status ≡ Claiming a → old.moment + claim_time ≤ now
       → answer ≡ None → new ≡ record old { status = Holding a } → NodeStep old call now answer new
   waits : (a : ℕ) → call ≡ Tick → old.status ≡ Claiming a → now < old.moment + claim_time
       → Rests old answer new → NodeStep old call now answer new
   ticks_on : call ≡ Tick → ((a : ℕ) → old.status ≢ Claiming a) → Rests old answer new → NodeStep old call now answer new
-
   -- a claim of its own NAME is ignored; one of another NAME, elsewhere, is noted
   hears_itself : (a : ℕ) → call ≡ Heard (record { name = old.name; address = a }) → Rests old answer new → NodeStep old call now answer new
   notes : (n a : ℕ) → call ≡ Heard (record { name = n; address = a }) → n ≢ old.name → (IsAt old a → ⊥)
@@ -61,7 +59,6 @@ pub data NodeStep (old : Node) (call : Call) (now : ℕ) (answer : Option ℕ) (
   gives_up : (n a : ℕ) → call ≡ Heard (record { name = n; address = a }) → IsAt old a → n < old.name
       → (IsCapable old.name → NoneFree (with_claim old.claims n a))
       → GivesUp old (with_claim old.claims n a) answer new → NodeStep old call now answer new
-
   -- a request to all, or to its address, is answered; where it has none, one to all
   tells : (a to : ℕ) → call ≡ Asked to → IsAt old a → (to ≡ global_address) ⊎ (to ≡ a)
       → Repeats old old.claims a answer new → NodeStep old call now answer new
@@ -69,12 +66,10 @@ pub data NodeStep (old : Node) (call : Call) (now : ℕ) (answer : Option ℕ) (
       → Repeats old old.claims null_address answer new → NodeStep old call now answer new
   is_not_asked : (to : ℕ) → call ≡ Asked to → ((a : ℕ) → IsAt old a → (to ≢ global_address) × (to ≢ a))
       → (old.status ≡ Cannot → to ≢ global_address) → Rests old answer new → NodeStep old call now answer new
-
   -- a node that was started obeys a command to its NAME
   obeys : (a : ℕ) → call ≡ Commanded (record { name = old.name; address = a }) → IsAddress a → old.status ≢ Idle
       → Begins old old.claims now a answer new → NodeStep old call now answer new
   ignores : (n a : ℕ) → call ≡ Commanded (record { name = n; address = a }) → (n ≢ old.name) ⊎ (null_address ≤ a) ⊎ (old.status ≡ Idle)
       → Rests old answer new → NodeStep old call now answer new
-
   -- every other frame is nothing to it
   passes : call ≡ Other → Rests old answer new → NodeStep old call now answer new

@@ -6,6 +6,7 @@ use std::process::Abort;
 use std::test::Fail;
 
 const N1: u64 = 0x8000000001401234;
+
 const N2: u64 = 0x8000000001405678;
 
 /// N1 without the bit of an arbitrary address capable NAME.
@@ -171,7 +172,11 @@ fn commands(rt: HostRuntime) -> Result<(), Fail> {
     let claim = "(0000000001.000000) can0 18EEFF00#3412400100000080";
     let mut node = started(&rt, N1, claim)?;
     sends(&rt, node.commanded(Name::new(N2), 5, at(2_000_000)?), None)?;
-    sends(&rt, node.commanded(Name::new(N1), 254, at(2_000_000)?), None)?;
+    sends(
+        &rt,
+        node.commanded(Name::new(N1), 254, at(2_000_000)?),
+        None,
+    )?;
     assert_eq!(rt; node.status(), Status::Claiming(0));
     Ok(())
 }
