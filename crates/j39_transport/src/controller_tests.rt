@@ -76,11 +76,15 @@ const VIN: [u8; 18] = *b"1FUJA6CV12LK12345*";
 const COMPONENT: [u8; 11] = *b"ACME*X1*77*";
 
 /// Two messages one after the other: the second begins when the first is over and its receiver has no
-/// session. How both ended, and whether both came.
+/// session. How both ended, and whether both came. Where the receiver lacks memory, the first is sent
+/// again.
 fn exchange(alloc: Global) -> Option<(SendState, SendState, bool)> {
     let mut inbox = Inbox::new();
     let mut receiver = Receiver::new(alloc, 0x0B)?;
-    let first = transfer(&VIN, &mut receiver, &mut inbox, 0)?;
+    let mut first = transfer(&VIN, &mut receiver, &mut inbox, 0)?;
+    if first == SendState::Failed(2) {
+        first = transfer(&VIN, &mut receiver, &mut inbox, 5_000_000)?;
+    }
     let first_came = inbox.as_slice() == VIN.as_slice();
     let second = transfer(&COMPONENT, &mut receiver, &mut inbox, 10_000_000)?;
     let second_came = inbox.as_slice() == COMPONENT.as_slice();

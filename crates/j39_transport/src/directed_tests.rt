@@ -18,6 +18,8 @@ const CTS: [u8; 8] = [0x11, 3, 1, 0xFF, 0xFF, 0xEC, 0xFE, 0];
 
 const ACKNOWLEDGMENT: [u8; 8] = [0x13, 0x12, 0, 3, 0xFF, 0xEC, 0xFE, 0];
 
+const NO_MEMORY: [u8; 8] = [0xFF, 2, 0xFF, 0xFF, 0xFF, 0xEC, 0xFE, 0];
+
 const TIMEOUT: [u8; 8] = [0xFF, 3, 0xFF, 0xFF, 0xFF, 0xEC, 0xFE, 0];
 
 const P1: [u8; 8] = [1, 0x31, 0x46, 0x55, 0x4A, 0x41, 0x36, 0x43];
@@ -57,18 +59,29 @@ fn told(sender: &mut Sender<'_>, bytes: &[u8], micros: u64) -> Option<SendState>
 }
 
 /// What a receiver sends at a frame, and how many bytes it delivers.
-pub(crate) fn heard(
-    receiver: &mut Receiver,
-    raw: u32,
-    bytes: &[u8],
-    micros: u64,
-) -> Option<(Sent, usize)> {
+fn handed(receiver: &mut Receiver, raw: u32, bytes: &[u8], micros: u64) -> Option<(Sent, usize)> {
     let frame = frame(raw, bytes)?;
     Some(match receiver.on(&frame, Stamp::new(micros)?) {
         Reply::Nothing => (None, 0),
         Reply::Send(id, bytes) => (Some((id.raw(), bytes)), 0),
         Reply::Delivered(message, id, bytes) => (Some((id.raw(), bytes)), message.payload.len()),
     })
+}
+
+/// The same, for an RTS whose memory was refused at the second time: so the tests hold with an
+/// allocation refused.
+pub(crate) fn heard(
+    receiver: &mut Receiver,
+    raw: u32,
+    bytes: &[u8],
+    micros: u64,
+) -> Option<(Sent, usize)> {
+    let answer = handed(receiver, raw, bytes, micros)?;
+    if answer == (Some((BACK, NO_MEMORY)), 0) {
+        handed(receiver, raw, bytes, micros)
+    } else {
+        Some(answer)
+    }
 }
 
 /// What a receiver sends at a tick.
@@ -151,10 +164,9 @@ fn acknowledgment_that_is_lost(rt: HostRuntime) -> Result<(), Fail> {
 fn receiver_refusals_and_timeouts(rt: HostRuntime) -> Result<(), Fail> {
     let mut receiver = Receiver::new(rt.alloc(), 0x0B).ok_or("receiver")?;
     let cts = Some((BACK, CTS));
-    let first = heard(&mut receiver, CONTROL, &RTS, 0);
+    let first = handed(&mut receiver, CONTROL, &RTS, 0);
     if first != Some((cts, 0)) {
-        let no_memory = [0xFF, 2, 0xFF, 0xFF, 0xFF, 0xEC, 0xFE, 0];
-        assert_eq!(rt; first, Some((Some((BACK, no_memory)), 0)));
+        assert_eq!(rt; first, Some((Some((BACK, NO_MEMORY)), 0)));
         assert!(rt; !receiver.busy());
         assert!(rt; answers(&mut receiver, &[(CONTROL, RTS, cts)]));
     }
