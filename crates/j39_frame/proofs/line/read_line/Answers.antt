@@ -6,4 +6,4 @@ pub returns-in-Some-clause-only : goal.returns-in-Some-clause-only
 returns-in-Some-clause-only c = λ s p. one_spelled c.args.line.now (spelled_of c.in-Some.read) s c.in-Some.ensures p
 
 pub returns-in-None-clause-only : goal.returns-in-None-clause-only
-returns-in-None-clause-only c = λ s p. one_spelled c.args.line.now (spelled_of c.classified.result) s c.classified.ensures p
+returns-in-None-clause-only c = λ s p. one_spelled c.args.line.now (spelled_of c.read_any.result) s c.read_any.ensures p
