@@ -99,8 +99,5 @@ pub fn read_line(line: &[u8]) -> Line<'_>
     ensures reads { Spells line.now (spelled_of result) }
     ensures only { (s : Spelled) → Spells line.now s → spelled_of result ≡ s }
 {
-    match read_plain(line) {
-        Some(read) => read,
-        None => read_any(line),
-    }
+    read_plain(line)
 }
