@@ -74,10 +74,10 @@ pub(crate) fn holds_hash(field: &[u8]) -> bool
     field.contains(&b'#')
 }
 
-/// Reads a line by the grammar alone.
+/// Reads a line of any form.
 #[cold]
 #[inline(never)]
-fn classified(line: &[u8]) -> Line<'_>
+pub(crate) fn read_any(line: &[u8]) -> Line<'_>
     ensures { Spells line.now (spelled_of result) }
 {
     match line_parts(line) {
@@ -99,8 +99,5 @@ pub fn read_line(line: &[u8]) -> Line<'_>
     ensures reads { Spells line.now (spelled_of result) }
     ensures only { (s : Spelled) → Spells line.now s → spelled_of result ≡ s }
 {
-    match read_plain(line) {
-        Some(read) => read,
-        None => classified(line),
-    }
+    read_plain(line)
 }

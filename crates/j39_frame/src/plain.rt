@@ -2,11 +2,12 @@
 //! one space between the fields, and none before or after them.
 ghost use Rattle.std.specs.Prelude.{◌≡◌, ◌<◌, ◌+◌, ◌*◌, ◌^◌, ◌++◌, ◌∷◌, ◌⊎◌, ◌≤◌, [], ℕ, List, length, get_or, IfSome, Ok, codes};
 ghost use Rattle.std.specs.Bool.{OnTrue};
+ghost use Rattle.std.specs.Char.{is_ascii_graphic};
 ghost use Rattle.std.specs.List.{prefix_len};
 ghost use Rattle.std.specs.Str.Parse.{AllDigits};
 ghost use Rattle.std.specs.Int.{to_be_bytes, w32};
 ghost use Rattle.hex.specs.Hex.{decode_of};
-ghost use Rattle.j39_frame.specs.Bus.{IsBusName, is_name_byte};
+ghost use Rattle.j39_frame.specs.Bus.{IsBusName};
 ghost use Rattle.j39_frame.specs.Chars.{space};
 ghost use Rattle.j39_frame.specs.Fields.{IsField};
 ghost use Rattle.j39_frame.specs.Identifier.{id_raw};
@@ -17,31 +18,32 @@ ghost use Rattle.j39_frame.specs.Stamp.{stamp_micros};
 ghost use Rattle.j39_frame.specs.Text.{IsFrameText, IsStampText};
 
 use crate::lanes::{are_below, eight, four, pairs};
-use crate::line::{body_of, holds_hash};
+use crate::line::{body_of, holds_hash, read_any};
 use crate::text::{bytes_of, frame_of};
 use crate::{Frame, Id, LINE_LIMIT, Line, Stamp};
 use arrayvec::ArrayVec;
 use std::simd::prelude::*;
 
-/// What a line of such a spelling holds; `None` for all other lines, and for some of these.
+/// Reads a line, and hands one of another form on.
 #[inline(always)]
-pub(crate) fn read_plain(line: &[u8]) -> Option<Line<'_>>
-    ensures { IfSome result (λ read. Spells line.now (spelled_of read)) }
+pub(crate) fn read_plain(line: &[u8]) -> Line<'_>
+    ensures { Spells line.now (spelled_of result) }
 {
-    let (stamp, bus, third) = parts_of(line)?;
-    if let Some((id, bytes)) = plain_frame(third) {
-        let frame = Frame::from_parts(stamp, id, bytes);
-        return Some(Line::Frame { bus, frame });
+    let Some((stamp, bus, third)) = parts_of(line) else {
+        return read_any(line);
+    };
+    if let Some(frame) = frame_at(stamp, third) {
+        return Line::Frame { bus, frame };
     }
     match frame_of(third) {
-        None if is_field(third) && holds_hash(third) => Some(Line::Other),
-        _ => None,
+        None if is_field(third) && holds_hash(third) => Line::Other,
+        _ => read_any(line),
     }
 }
 
 /// The stamp of a line, its bus and what follows the bus and a space.
 #[inline(always)]
-fn parts_of(line: &[u8]) -> Option<(Stamp, &[u8], &[u8])>
+pub(crate) fn parts_of(line: &[u8]) -> Option<(Stamp, &[u8], &[u8])>
     ensures { IfSome result (λ found. IsField found.2.now → HasParts line.now found.1.now found.2.now (stamp_micros found.0)) }
 {
     if line.len() > LINE_LIMIT {
@@ -126,26 +128,24 @@ fn bus_of(text: &[u8]) -> Option<(&[u8], &[u8])>
     }
 }
 
-/// How many bytes at the start of a text can stand in the name of a bus.
+/// How many bytes at the start of a text are visible characters of ASCII.
 #[inline(always)]
 fn name_len(text: &[u8]) -> usize
-    ensures value { result ≡ prefix_len is_name_byte text.now }
+    ensures value { result ≡ prefix_len is_ascii_graphic text.now }
     ensures fits { result ≤ length text.now }
 {
-    text.iter()
-        .take_while(|b| **b > 0x20 && **b != 0x7F)
-        .count()
+    text.iter().take_while(|b| b.is_ascii_graphic()).count()
 }
 
-/// The identifier and the data of 8 hex digits, `#` and pairs of them.
+/// The frame of 8 hex digits, `#` and pairs of them.
 #[inline(always)]
-fn plain_frame(text: &[u8]) -> Option<(Id, ArrayVec<u8, 8>)>
-    ensures { IfSome result (λ frame. IsFrameText text.now (id_raw frame.0) frame.1.items) }
+pub(crate) fn frame_at(stamp: Stamp, text: &[u8]) -> Option<Frame>
+    ensures { IfSome result (λ frame. (frame.stamp ≡ stamp_micros stamp) × IsFrameText text.now frame.id frame.bytes) }
 {
     let (digits, rest) = text.split_first_chunk::<8>()?;
     let id = id_of(digits)?;
     match rest.split_first() {
-        Some((b'#', pairs)) => Some((id, data_of(pairs)?)),
+        Some((b'#', pairs)) => Some(Frame::from_parts(stamp, id, data_of(pairs)?)),
         _ => None,
     }
 }

@@ -1,7 +1,7 @@
 -- What the third field says of the line.
 use Rattle.j39_frame.specs.Stamp.{stamp_micros}
 use Rattle.j39_frame.proofs.LineLemmas.{no_frame_from, no_other_from, blank_has_no_parts}
-use Rattle.j39_frame.proofs.line.classified.Goals as goal
+use Rattle.j39_frame.proofs.line.read_any.Goals as goal
 
 pub returns-in-Unread : goal.returns-in-Unread
 returns-in-Unread c =
