@@ -37,4 +37,6 @@ pub use stamp::Stamp;
 pub use trial::{Full, Trial};
 
 #[cfg(test)]
+mod line_tests;
+#[cfg(test)]
 mod tests;
