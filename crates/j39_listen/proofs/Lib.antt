@@ -28,4 +28,6 @@ pub mod HeardItems
 pub mod Endings
 pub mod Headline
 pub mod Written
+pub mod Checked
 pub mod Example
+pub mod Examples

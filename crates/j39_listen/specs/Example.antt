@@ -6,10 +6,10 @@ use Rattle.j39_listen.specs.Published.{Item, Publisher, Publishing}
 use Rattle.j39_listen.specs.Report.{Entry}
 use Rattle.j39_transport.specs.Key.Key.{Directed}
 
-abbrev frame : ℕ → ℕ → List ℕ → FrameRecord
+abbrev pub frame : ℕ → ℕ → List ℕ → FrameRecord
 frame stamp id bytes = record { stamp = stamp; id = id; bytes = bytes }
 
-abbrev padding : List ℕ
+abbrev pub padding : List ℕ
 padding = 0xFF ∷ 0xFF ∷ 0xFF ∷ []
 
 -- the third packet comes before the second, and again behind it

@@ -7,6 +7,7 @@ pub mod Published
 pub mod Loss
 pub mod Values
 pub mod Example
+pub mod Examples
 pub mod NextSteps
 pub mod Listening
 pub mod Shown

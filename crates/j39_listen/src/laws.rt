@@ -2,6 +2,7 @@
 ghost use Rattle.std.specs.Prelude.{◌≡◌, ℕ, List, Option};
 ghost use Rattle.j39_frame.specs.Frame.{FrameRecord};
 ghost use Rattle.j39_listen.specs.Example.{example, example_frames, example_values};
+ghost use Rattle.j39_listen.specs.Examples.{Publishes, eec1, eec1_frames, eec1_values};
 ghost use Rattle.j39_listen.specs.Heard.{AreHeard, HeardAt, Hearing};
 ghost use Rattle.j39_listen.specs.Report.{Entry, IsReport};
 ghost use Rattle.j39_listen.specs.Published.{Published};
@@ -35,4 +36,9 @@ pub fn repeated()
 pub fn an_example()
     ensures published { Published example_frames example }
     ensures values { values example_frames example no_place ≡ example_values }
+{}
+
+/// Logs with no transfer meet them too, each with its values.
+pub fn examples()
+    ensures eec1_without_a_claim { Publishes eec1_frames eec1 eec1_values }
 {}
