@@ -28,6 +28,7 @@ pub mod HeardItems
 pub mod Endings
 pub mod Headline
 pub mod Written
+pub mod CheckedItems
 pub mod Checked
 pub mod Example
 pub mod Examples

@@ -2,7 +2,7 @@
 ghost use Rattle.std.specs.Prelude.{◌≡◌, ℕ, List, Option};
 ghost use Rattle.j39_frame.specs.Frame.{FrameRecord};
 ghost use Rattle.j39_listen.specs.Example.{example, example_frames, example_values};
-ghost use Rattle.j39_listen.specs.Examples.{Publishes, eec1, eec1_frames, eec1_values};
+ghost use Rattle.j39_listen.specs.Examples.{Publishes, early, early_frames, eec1, eec1_frames, eec1_values, two, two_frames, two_values, vin, vin_frames, vin_values};
 ghost use Rattle.j39_listen.specs.Heard.{AreHeard, HeardAt, Hearing};
 ghost use Rattle.j39_listen.specs.Report.{Entry, IsReport};
 ghost use Rattle.j39_listen.specs.Published.{Published};
@@ -41,4 +41,7 @@ pub fn an_example()
 /// Logs with no transfer meet them too, each with its values.
 pub fn examples()
     ensures eec1_without_a_claim { Publishes eec1_frames eec1 eec1_values }
+    ensures vin_by_broadcast { Publishes vin_frames vin vin_values }
+    ensures two_broadcasts_at_once { Publishes two_frames two two_values }
+    ensures packet_before_any_announcement { Publishes early_frames early two_values }
 {}
