@@ -14,17 +14,17 @@ use Rattle.j39_listen.specs.Heard.{frame_at}
 use Rattle.j39_listen.specs.Published.{Item, NeverBack, Published, Publisher, Publishing, StandsInOne, is_publisher}
 use Rattle.j39_transport.proofs.FrameFacts.{announcement_facts, packet_facts}
 use Rattle.j39_transport.specs.Frames as frames
-use Rattle.j39_transport.specs.Frames.{destination_of, group_of, is_announcement, is_end, is_packet, is_rival}
+use Rattle.j39_transport.specs.Frames.{destination_of, group_of, is_announcement, is_packet}
 use Rattle.j39_transport.specs.Key.{Key, sender}
 use Rattle.j39_transport.specs.Key.Key.{Broadcast, Directed}
 use Rattle.j39_listen.proofs.CheckedItems.{Each, Given, all_below, all_pairs, below_at, each_at, from_not, has, has_from, has_to, implied, implies, is_sent, pair_at}
 
+-- an announcement is of the group of transport control, from its key's sender
 announcement_group : (k : Key) (f : FrameRecord) → is_announcement k f ≡ true → (pgn_of f.id ≡ 60416) × (source_of f.id ≡ sender k)
 unfolding group_of frames.source_of
 announcement_group k f h = let a = announcement_facts k f h in (a.pgn, a.source)
 
--- ---- the check of all of them
-
+-- whether place j is one of some item's
 abbrev owned : Publishing → ℕ → Bool
 owned P j = list_any (λ item. has item.places j) P.items
 
@@ -42,11 +42,13 @@ is_told f = is_reported_group (pgn_of f.id) || (pgn_of f.id == 60416 || pgn_of f
 abbrev is_early : List FrameRecord → ℕ → Bool
 is_early F j = pgn_of (frame_at F j).id == 60160 && all_below (λ q. not (pgn_of (frame_at F q).id == 60416)) j
 
+-- packets go to all, and what a publisher tells stands in an item
 abbrev pub place_fits : List FrameRecord → Publishing → ℕ → Bool
 place_fits F P j =
     implies (pgn_of (frame_at F j).id == 60160) (destination_of (frame_at F j).id == 255)
     && implies (is_publisher P (source_of (frame_at F j).id)) (implies (is_told (frame_at F j)) (owned P j || is_early F j))
 
+-- what a log and a publishing are asked: all but the items' frames is a test that computes
 pub record Passes (F : List FrameRecord) (P : Publishing) : Type 0 where
   pub addresses : list_all (λ p. nat_lt p.address 254) P.publishers ≡ true
   pub distinct : all_pairs (λ p q. not (p.address == q.address)) P.publishers ≡ true

@@ -21,6 +21,7 @@ use Rattle.j39_transport.specs.Key.Key.{Broadcast}
 
 -- ---- tests
 
+-- each number below n passes
 abbrev pub all_below : (ℕ → Bool) → ℕ → Bool
 all_below t n = agree_below t (λ j. true) n
 
@@ -34,6 +35,7 @@ pub implied : (a b : Bool) → implies a b ≡ true → a ≡ true → b ≡ tru
 implied true b h e = h
 implied false b h e = absurd (both_ways false refl e)
 
+-- each element with each later one
 abbrev pub all_pairs : {X : Type 0} → (X → X → Bool) → List X → Bool
 all_pairs t [] = true
 all_pairs t (x ∷ xs) = list_all (t x) xs && all_pairs t xs
@@ -48,22 +50,23 @@ Each T [] = Unit {0}
 Each T (x ∷ xs) = T x × Each T xs
 
 pub each_at : {X : Type 0} (T : X → Type 0) (xs : List X) (n : ℕ) (x : X) → Each T xs → slice_get xs n ≡ Some x → T x
-each_at T [] n x h e = absurd (cc (e))
+each_at T [] n x h e = absurd (cc e)
 each_at T (z ∷ xs) zero x h e = subst T (let s : Some z ≡ Some x = e in cc) h.0
 each_at T (z ∷ xs) (suc n) x h e = each_at T xs n x h.1 e
 
 all_at : {X : Type 0} (t : X → Bool) (xs : List X) (n : ℕ) (x : X) → list_all t xs ≡ true → slice_get xs n ≡ Some x → t x ≡ true
-all_at t [] n x h e = absurd (cc (e))
+all_at t [] n x h e = absurd (cc e)
 all_at t (z ∷ xs) zero x h e = subst (λ y. t y ≡ true) (let s : Some z ≡ Some x = e in cc) (and_parts _ _ h).0
 all_at t (z ∷ xs) (suc n) x h e = all_at t xs n x (and_parts _ _ h).1 e
 
 pub pair_at : {X : Type 0} (t : X → X → Bool) (xs : List X) (m n : ℕ) (x y : X) → all_pairs t xs ≡ true → m < n
     → slice_get xs m ≡ Some x → slice_get xs n ≡ Some y → t x y ≡ true
-pair_at t [] m n x y h l a b = absurd (cc (a))
+pair_at t [] m n x y h l a b = absurd (cc a)
 pair_at t (z ∷ xs) m zero x y h l a b = absurd (omega arith)
 pair_at t (z ∷ xs) zero (suc n) x y h l a b = all_at (t x) xs n y (subst (λ w. list_all (t w) xs ≡ true) (let s : Some z ≡ Some x = a in cc) (and_parts _ _ h).0) b
 pair_at t (z ∷ xs) (suc m) (suc n) x y h l a b = pair_at t xs m n x y (and_parts _ _ h).1 (omega arith) a b
 
+-- whether j is one of the places
 abbrev pub has : List ℕ → ℕ → Bool
 has ps j = list_any (λ p. p == j) ps
 
@@ -81,6 +84,7 @@ same_option (Some m) (Some n) h = ap (λ (x : ℕ). Some x) (eqb-true _ _ h)
 
 -- ---- the check of an item
 
+-- whether this name holds the address before place j
 abbrev name_is : List FrameRecord → Item → ℕ → Bool
 name_is F item j = option_eq (λ a b. a == b) (holder_below (claims_of F) j item.publisher.address) item.publisher.name
 

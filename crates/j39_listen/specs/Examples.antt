@@ -1,6 +1,6 @@
 -- Logs with no transfer, and what was published in them.
-use Rattle.std.specs.Prelude.{◌≡◌, ℕ, pos, neg_ℤ, ℤ, List, [], ◌∷◌, ◌++◌, Some, None, codes}
 use Prim.Native.String.{String}
+use Rattle.std.specs.Prelude.{◌≡◌, ℕ, ℤ, pos, neg_ℤ, List, [], ◌∷◌, ◌++◌, Some, None, codes}
 use Rattle.j39_frame.specs.Frame.{FrameRecord}
 use Rattle.j39_groups.specs.Value.{ValueRecord, number, text}
 use Rattle.j39_listen.specs.Example.{frame, padding}
@@ -14,7 +14,7 @@ abbrev pub Publishes : List FrameRecord → Publishing → List Entry → Type 0
 Publishes F P entries = Published F P × (values F P no_place ≡ entries)
 
 -- a message of a publisher to all, in the frames at these places
-abbrev pub item : Publisher → ℕ → List ℕ → List ℕ → Item
+abbrev item : Publisher → ℕ → List ℕ → List ℕ → Item
 item publisher pgn bytes places = record {
   publisher = publisher;
   key = Broadcast publisher.address;
@@ -40,7 +40,7 @@ speed thousandths = measured (pos thousandths) 125 (pos 0) 3 "rpm"
 abbrev pub eec1_frame : ℕ → List ℕ → FrameRecord
 eec1_frame stamp bytes = frame stamp 0x0CF00400 bytes
 
-abbrev pub nobody : Publisher
+abbrev nobody : Publisher
 nobody = record { name = None; address = 0 }
 
 abbrev pub eec1_bytes : List ℕ
@@ -57,7 +57,7 @@ eec1_values = entry 1010000 nobody 61444 512 (torque 35) ∷ entry 1010000 nobod
 
 -- ---- a broadcast of eighteen bytes, and two frames of EEC1 meanwhile
 
-abbrev pub engine : Publisher
+abbrev engine : Publisher
 engine = record { name = Some 0x8000000001401234; address = 0 }
 
 abbrev engine_claim : FrameRecord

@@ -38,7 +38,9 @@ pub fn an_example()
     ensures values { values example_frames example no_place ≡ example_values }
 {}
 
-/// Logs with no transfer meet them too, each with its values.
+/// By four logs with no transfer too, each with its values: one frame of a controller that claims
+/// nothing, a broadcast among single frames, two broadcasts at once, and these behind a packet that no
+/// announcement precedes.
 pub fn examples()
     ensures eec1_without_a_claim { Publishes eec1_frames eec1 eec1_values }
     ensures vin_by_broadcast { Publishes vin_frames vin vin_values }
