@@ -1,20 +1,28 @@
-//! Memory that is refused. Each test holds with any one allocation refused, which the tool does in turn.
+//! Memory that is refused. Each test holds with any one allocation refused, which the tool does in turn; one of
+//! the test's own is passed over, since a wrong answer ends the test at once.
 use crate::broadcasts::{longest_log, longest_text};
-use crate::devices::{logs, room_for, run_over, source_of};
-use j39_frame::{Frame, Id, Stamp};
+use crate::devices::{logs, run_over};
+use crate::frames::{
+    ACKNOWLEDGED, ASKED, CLAIM, CLEARED, SENT_FIRST, SENT_SECOND, SENT_THIRD, VIN,
+};
+use crate::losses::{FRAMES, LINES};
+use crate::support::stamped;
+use j39_cli::{parse, refuse};
+use j39_frame::{Frame, Id, Stamp, Told, Trial};
 use j39_listen::{Listener, RunFault};
 use std::alloc::AllocError;
 use std::process::Abort;
 use std::test::Fail;
 
-/// The report of a log, or a front of it where memory was refused.
+/// The report of a log, or a front of it where memory was refused. An error is the test's own want of memory.
 fn reports_without_memory(
     rt: &(impl Abort + AllocGlobal),
     log: &[u8],
     text: &[u8],
-) -> Result<(), Fail> {
+) -> Result<(), AllocError> {
     let alloc = rt.alloc();
-    let (mut source, mut sink) = (source_of(alloc, log, 4096)?, room_for(alloc, text.len())?);
+    let mut source = Trial::new(alloc, log, 0)?;
+    let mut sink = Trial::new(alloc, b"", text.len())?;
     let met = run_over(alloc, &mut source, &mut sink, 100_000);
     if met == Err(RunFault::Memory) {
         assert!(rt; text.starts_with(sink.written()));
@@ -28,14 +36,52 @@ fn reports_without_memory(
 #[test]
 fn memory_of_a_run(rt: HostRuntime) -> Result<(), Fail> {
     for (log, text) in logs() {
-        reports_without_memory(&rt, log, text)?;
+        let _own = reports_without_memory(&rt, log, text);
     }
-    let alloc = rt.alloc();
-    let (log, text) = (
-        longest_log(alloc, "20F906FFFFECFE00")?,
-        longest_text(alloc)?,
+    let _own = reports_the_longest(&rt);
+    Ok(())
+}
+
+/// The same of the longest broadcast.
+fn reports_the_longest(rt: &(impl Abort + AllocGlobal)) -> Result<(), AllocError> {
+    let log = longest_log(rt.alloc(), "20F906FFFFECFE00")?;
+    let text = longest_text(rt.alloc())?;
+    reports_without_memory(rt, log.as_bytes(), text.as_bytes())
+}
+
+/// The same of the log of these frames, whose report has these lines.
+fn shows_without_memory(
+    rt: &(impl Abort + AllocGlobal),
+    frames: &[(&str, &str)],
+    lines: &[(&str, &str)],
+) -> Result<(), AllocError> {
+    let log = stamped(rt.alloc(), "can0 ", frames)?;
+    let text = stamped(rt.alloc(), "", lines)?;
+    reports_without_memory(rt, log.as_bytes(), text.as_bytes())
+}
+
+#[test]
+fn memory_of_two_broadcasts(rt: HostRuntime) -> Result<(), Fail> {
+    let _own = shows_without_memory(&rt, &FRAMES, &LINES);
+    Ok(())
+}
+
+#[test]
+fn memory_of_a_transfer(rt: HostRuntime) -> Result<(), Fail> {
+    let _own = shows_without_memory(
+        &rt,
+        &[
+            ("1.000000", CLAIM),
+            ("2.000000", ASKED),
+            ("2.010000", CLEARED),
+            ("2.020000", SENT_FIRST),
+            ("2.030000", SENT_SECOND),
+            ("2.040000", SENT_THIRD),
+            ("2.050000", ACKNOWLEDGED),
+        ],
+        &[("2.040000", VIN)],
     );
-    reports_without_memory(&rt, log.as_bytes(), text.as_bytes())
+    Ok(())
 }
 
 /// The broadcast of `VIN_LOG`, with stamps in microseconds.
@@ -70,5 +116,41 @@ fn memory_of_a_listener(rt: HostRuntime) -> Result<(), Fail> {
         assert_eq!(rt; heard, *micros == 2_150_000);
         assert_eq!(rt; listener.open(), usize::from(!heard));
     }
+    Ok(())
+}
+
+/// The task of `cut`, or that memory was refused, which is told.
+fn parses_without_memory(rt: &(impl Abort + AllocGlobal)) -> Result<(), AllocError> {
+    let alloc = rt.alloc();
+    let words = [
+        "j1939",
+        "cut",
+        "--source",
+        "0",
+        "--pgn",
+        "65260",
+        "--at",
+        "2.000000",
+        "--bus",
+        "can0",
+        "3146554A4136435631324C4B31323334352A",
+    ];
+    let mut out = Trial::new(alloc, b"", 40)?;
+    let mut err = Trial::new(alloc, b"", 40)?;
+    match parse(alloc, &words) {
+        Ok(task) => assert!(rt; task.file().is_none()),
+        Err(fault) => {
+            let status = refuse(&fault, &mut Told::new(&mut out), &mut Told::new(&mut err));
+            assert_eq!(rt; status, 1);
+            assert_eq!(rt; err.written(), b"j1939: out of memory\n".as_slice());
+            assert!(rt; out.written().is_empty());
+        }
+    }
+    Ok(())
+}
+
+#[test]
+fn memory_of_a_command_line(rt: HostRuntime) -> Result<(), Fail> {
+    let _own = parses_without_memory(&rt);
     Ok(())
 }
