@@ -82,14 +82,17 @@ module _ (F : List FrameRecord) (P : Publishing) (h : Passes F P) where
   stands j o =
       let a = Any-from_list_any (λ item. has item.places j) P.items o in
       let g : slice_get P.items a.0 ≡ Some a.1 = slice_get-get_or P.items a.0 a.1 a.2 ∙ ap (λ (x : Item). Some x) a.3 in
-      let c : Contains a.1.places j = has_to a.1.places j a.4 in
-      (a.0, (a.1, g, c), λ m s. elim (cases_eq m a.0) [
-        | inl e ↦ e
-        | inr e ↦ absurd (elim (apart_at m a.0 s.0 a.1 s.1 g e) [
-          | inl z ↦ both_ways _ z (share s.0 a.1 j s.2 c)
-          | inr z ↦ both_ways _ z (share a.1 s.0 j c s.2)
-        ])
-      ])
+      let c : Contains a.1.places j = has_to a.1.places j a.4 in (
+        a.0,
+        (a.1, g, c),
+        λ m s. elim (cases_eq m a.0) [
+          | inl e ↦ e
+          | inr e ↦ absurd (elim (apart_at m a.0 s.0 a.1 s.1 g e) [
+            | inl z ↦ both_ways _ z (share s.0 a.1 j s.2 c)
+            | inr z ↦ both_ways _ z (share a.1 s.0 j c s.2)
+          ])
+        ],
+      )
 
   long_meet : (x y : Item) → 9 ≤ length x.message.bytes → 9 ≤ length y.message.bytes → x.publisher.address ≡ y.publisher.address → meets x y ≡ true
   long_meet x y a b e = or_right _ _ (and_from _ _ (lt-ltb _ _ a) (and_from _ _ (lt-ltb _ _ b) (eq-eqb _ _ e)))
@@ -128,10 +131,10 @@ module _ (F : List FrameRecord) (P : Publishing) (h : Passes F P) where
         ];
     broadcast = λ j s a b. elim (told j s (packet_within F (Broadcast s) j b) a (packet_source (Broadcast s) (frame_at F j) b)
         (or_right _ _ (or_right _ _ (eq-eqb _ _ (packet_group (Broadcast s) (frame_at F j) b))))) [
-      | inl o ↦ inl o
-      | inr o ↦ inr (λ q l. false_from_ne_true _ (λ z.
-          both_ways _ (from_not _ (below_at _ j q (and_parts _ _ o).1 l)) (eq-eqb _ _ (announcement_group (Broadcast s) (frame_at F q) z).0)))
-    ];
+          | inl o ↦ inl o
+          | inr o ↦ inr (λ q l. false_from_ne_true _ (λ z.
+              both_ways _ (from_not _ (below_at _ j q (and_parts _ _ o).1 l)) (eq-eqb _ _ (announcement_group (Broadcast s) (frame_at F q) z).0)))
+        ];
     directed = λ j s d a b.
         let u : destination_of (frame_at F j).id ≡ 255 = to_all (Directed s d) j b in
         let v = packet_facts (Directed s d) (frame_at F j) b in

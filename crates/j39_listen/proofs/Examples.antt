@@ -80,8 +80,10 @@ vin_passes = record {
   distinct = refl;
   items = (
     ((0, omega arith, refl), refl, eec1_carried 2010000 (speed_bytes 0xE0) refl, refl),
-    (((0, omega arith, refl), refl, eec1_carried 2060000 (speed_bytes 0xE8) refl, refl),
-    (((0, omega arith, refl), refl, vin_carried, refl), tt)),
+    (
+      ((0, omega arith, refl), refl, eec1_carried 2060000 (speed_bytes 0xE8) refl, refl),
+      (((0, omega arith, refl), refl, vin_carried, refl), tt),
+    ),
   );
   apart = refl;
   places = refl;
