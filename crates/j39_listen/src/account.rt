@@ -26,12 +26,16 @@ pub(crate) trait Account: Drop {
     // So much is made of these frames in all.
     ghost makes: { List FrameRecord → Output → Type 0 };
 
+    // Whether it may want memory.
+    ghost takes_memory: { Type 0 };
+
     /// Takes the next frame, and writes what is to be written at it.
     fn meet<W: Sink>(&mut self, frame: &Frame, sink: &mut W) -> Result<(), LineFault>
         ensures met { OnOk result (Meets has_met self.old self.new (frame.now ∷ []) (W.held sink.old) (W.held sink.new)) }
         ensures write { result ≡ Err Write → W.has_failed sink.new ≡ true }
         ensures stops { result ≡ Err Write → Stops has_met makes self.old (frame.now ∷ []) (W.held sink.old) (W.held sink.new) }
         ensures memory { result ≡ Err Memory → W.held sink.new ≡ W.held sink.old }
+        ensures wants { result ≡ Err Memory → takes_memory }
         ensures unmarked { result ≢ Err Write → W.has_failed sink.new ≡ W.has_failed sink.old };
 
     /// Writes what is left to be written at the end, and answers the numbers of the whole.

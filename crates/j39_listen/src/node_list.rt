@@ -39,6 +39,7 @@ pub fn nodes<R: Source, W: Sink>(
     ensures too_long { result ≡ Err TooLong → IfSome (R.remaining source.old) (λ log. limit < length log) }
     ensures read { result ≡ Err Read → R.has_failed source.new ≡ true }
     ensures read_unmarked { result ≢ Err Read → R.has_failed source.new ≡ R.has_failed source.old }
+    ensures memory { result ≢ Err Memory }
     ensures write { result ≡ Err Write → W.has_failed sink.new ≡ true }
     ensures write_unmarked { result ≢ Err Write → W.has_failed sink.new ≡ W.has_failed sink.old }
 
@@ -72,6 +73,8 @@ impl Account for NodeList {
     ghost has_met = { λ nodes. HasNoted nodes };
 
     ghost makes = { MakesNodes };
+
+    ghost takes_memory = { ⊥ };
 
     fn meet<W: Sink>(&mut self, frame: &Frame, _: &mut W) -> Result<(), LineFault> {
         self.claims.note(frame);

@@ -46,6 +46,7 @@ impl<A: Account> Pieces<A> {
             → HasTaken A.has_met given taken self.old held (W.held sink.old) → WritesFront A.makes given (taken ++ piece.now) held (W.held sink.new)) }
         ensures write { result ≡ Err Write → W.has_failed sink.new ≡ true }
         ensures unmarked { result ≢ Err Write → W.has_failed sink.new ≡ W.has_failed sink.old }
+        ensures wants { result ≡ Err Memory → A.takes_memory }
     {
         A::laws();
         match self.take_lines(piece, sink) {
@@ -65,6 +66,7 @@ impl<A: Account> Pieces<A> {
             → HasTaken A.has_met given taken self.old held (W.held sink.old) → WritesFront A.makes given (taken ++ piece.now) held (W.held sink.new)) }
         ensures write { result ≡ Err Write → W.has_failed sink.new ≡ true }
         ensures unmarked { result ≢ Err Write → W.has_failed sink.new ≡ W.has_failed sink.old }
+        ensures wants { result ≡ Err Memory → A.takes_memory }
     {
         A::laws();
         let mut rest = piece;
@@ -86,6 +88,7 @@ impl<A: Account> Pieces<A> {
             → HasTaken A.has_met given taken self.old held (W.held sink.old) → WritesFront A.makes given taken held (W.held sink.new)) }
         ensures write { result ≡ Err Write → W.has_failed sink.new ≡ true }
         ensures unmarked { result ≢ Err Write → W.has_failed sink.new ≡ W.has_failed sink.old }
+        ensures wants { result ≡ Err Memory → A.takes_memory }
     {
         A::laws();
         match take_last(&mut self.splitter, &mut self.progress, sink) {
@@ -115,6 +118,7 @@ fn take_line<A: Account, W: Sink>(
         → StopsIn A.has_met A.makes begun bytes.now progress.old (W.held sink.old) (W.held sink.new) }
     ensures memory { result ≡ Err Memory → W.held sink.new ≡ W.held sink.old }
     ensures unmarked { result ≢ Err Write → W.has_failed sink.new ≡ W.has_failed sink.old }
+    ensures wants { result ≡ Err Memory → A.takes_memory }
 {
     let (n, raw) = splitter.feed(bytes);
     match raw {
@@ -139,6 +143,7 @@ fn take_last<A: Account, W: Sink>(
         → StopsLast A.has_met A.makes begun progress.old (W.held sink.old) (W.held sink.new) }
     ensures memory { result ≡ Err Memory → W.held sink.new ≡ W.held sink.old }
     ensures unmarked { result ≢ Err Write → W.has_failed sink.new ≡ W.has_failed sink.old }
+    ensures wants { result ≡ Err Memory → A.takes_memory }
 {
     match splitter.finish() {
         None => Ok(()),

@@ -29,6 +29,7 @@ impl<A: Account> Progress<A> {
             → StopsAt A.has_met A.makes (spelled_of line.entry) self.old (W.held sink.old) (W.held sink.new) }
         ensures memory { result ≡ Err Memory → W.held sink.new ≡ W.held sink.old }
         ensures unmarked { result ≢ Err Write → W.has_failed sink.new ≡ W.has_failed sink.old }
+        ensures wants { result ≡ Err Memory → A.takes_memory }
     {
         let met = match meet(&mut self.bus, &mut self.account, line, sink) {
             Ok(met) => met,
@@ -53,6 +54,7 @@ fn meet<A: Account, W: Sink>(
         → StopsLine A.has_met A.makes (spelled_of line.entry) bus.old account.old (W.held sink.old) (W.held sink.new) }
     ensures memory { result ≡ Err Memory → W.held sink.new ≡ W.held sink.old }
     ensures unmarked { result ≢ Err Write → W.has_failed sink.new ≡ W.has_failed sink.old }
+    ensures wants { result ≡ Err Memory → A.takes_memory }
 {
     match line {
         Line::Frame { bus: name, frame } => {

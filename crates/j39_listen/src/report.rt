@@ -33,12 +33,15 @@ impl Report {
 }
 
 impl Account for Report {
+    ghost use Rattle.std.specs.Prelude.{⊤};
     ghost use Rattle.j39_listen.specs.Output.{MakesReport};
     ghost use Rattle.j39_listen.specs.ReportSteps.{HasReported};
 
     ghost has_met = { λ report. HasReported report };
 
     ghost makes = { MakesReport };
+
+    ghost takes_memory = { ⊤ };
 
     fn meet<W: Sink>(&mut self, frame: &Frame, sink: &mut W) -> Result<(), LineFault> {
         match put_frame(&mut self.listener, frame, sink) {

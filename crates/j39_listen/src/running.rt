@@ -3,7 +3,7 @@ ghost use Rattle.std.specs.Prelude.{◌≡◌, ◌≢◌, ◌<◌, ◌≤◌, �
 ghost use Rattle.j39_listen.specs.Output.{MakesReport, Output};
 ghost use Rattle.j39_listen.specs.PieceSteps.{HasTaken};
 ghost use Rattle.j39_listen.specs.Run.{StopsWithin, Writes, WritesFront, WritesPublished};
-ghost use Rattle.j39_listen.specs.declared.running.RunFault.TheVariants.{Read, Write, TooLong};
+ghost use Rattle.j39_listen.specs.declared.running.RunFault.TheVariants.{Memory, Read, Write, TooLong};
 
 use crate::Counts;
 use crate::account::{Account, LineFault};
@@ -105,6 +105,7 @@ pub(crate) fn run_over<A: Account, R: Source, W: Sink>(
     ensures read_unmarked { result ≢ Err Read → R.has_failed source.new ≡ R.has_failed source.old }
     ensures write { result ≡ Err Write → W.has_failed sink.new ≡ true }
     ensures write_unmarked { result ≢ Err Write → W.has_failed sink.new ≡ W.has_failed sink.old }
+    ensures wants { result ≡ Err Memory → A.takes_memory }
     ensures prefix { OnErr result ((output : Output) → A.has_met account [] output → output.text ≡ []
         → StopsWithin A.makes bus (R.remaining source.old) (R.remaining source.new) (W.held sink.old) (W.held sink.new)) }
 {
@@ -127,6 +128,7 @@ fn read_pieces<A: Account, R: Source, W: Sink>(
     ensures read_unmarked { result ≢ Err Read → R.has_failed source.new ≡ R.has_failed source.old }
     ensures write { result ≡ Err Write → W.has_failed sink.new ≡ true }
     ensures write_unmarked { result ≢ Err Write → W.has_failed sink.new ≡ W.has_failed sink.old }
+    ensures wants { result ≡ Err Memory → A.takes_memory }
     ensures prefix { OnErr result ((given : Option (List ℕ)) → HasTaken A.has_met given [] pieces.old (W.held sink.old) (W.held sink.old)
         → StopsWithin A.makes given (R.remaining source.old) (R.remaining source.new) (W.held sink.old) (W.held sink.new)) }
 {
@@ -163,6 +165,7 @@ fn take<A: Account, W: Sink>(
         → HasTaken A.has_met given taken pieces.old held (W.held sink.old) → WritesFront A.makes given (taken ++ piece.now) held (W.held sink.new)) }
     ensures write { result ≡ Err Write → W.has_failed sink.new ≡ true }
     ensures unmarked { result ≢ Err Write → W.has_failed sink.new ≡ W.has_failed sink.old }
+    ensures wants { result ≡ Err Memory → A.takes_memory }
     ensures not_read { result ≢ Err Read }
     ensures not_long { result ≢ Err TooLong }
 {
@@ -181,6 +184,7 @@ fn finish<A: Account, W: Sink>(pieces: &mut Pieces<A>, sink: &mut W) -> Result<C
         → HasTaken A.has_met given taken pieces.old held (W.held sink.old) → WritesFront A.makes given taken held (W.held sink.new)) }
     ensures write { result ≡ Err Write → W.has_failed sink.new ≡ true }
     ensures unmarked { result ≢ Err Write → W.has_failed sink.new ≡ W.has_failed sink.old }
+    ensures wants { result ≡ Err Memory → A.takes_memory }
     ensures not_read { result ≢ Err Read }
     ensures not_long { result ≢ Err TooLong }
 {
