@@ -9,6 +9,7 @@ pub mod Forgets
 pub mod Gaps
 pub mod Between
 pub mod Feeding
+pub mod Existing
 pub mod ListenerLemmas
 pub mod ReportLemmas
 pub mod LineLemmas

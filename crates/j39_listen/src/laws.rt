@@ -1,5 +1,5 @@
 //! Laws about the definitions, each the contract of a function that does nothing.
-ghost use Rattle.std.specs.Prelude.{◌≡◌, ℕ, List, Option};
+ghost use Rattle.std.specs.Prelude.{◌≡◌, ◌<◌, ℕ, List, Option, length};
 ghost use Rattle.j39_frame.specs.Frame.{FrameRecord};
 ghost use Rattle.j39_listen.specs.Example.{example, example_frames, example_values};
 ghost use Rattle.j39_listen.specs.Examples.{Publishes, early, early_frames, eec1, eec1_frames, eec1_values, two, two_frames, two_values, vin, vin_frames, vin_values};
@@ -13,6 +13,13 @@ pub fn one_report()
     ensures one_at_a_frame { (F : List FrameRecord) (i : ℕ) (g h : Option Hearing) → HeardAt F i g → HeardAt F i h → g ≡ h }
     ensures heard { (F : List FrameRecord) (gs hs : List Hearing) → AreHeard F gs → AreHeard F hs → gs ≡ hs }
     ensures report { (F : List FrameRecord) (a b : List Entry) → IsReport F a → IsReport F b → a ≡ b }
+{}
+
+/// Each list of frames has a report: at each frame a message is heard, or none is.
+pub fn some_report()
+    ensures at_a_frame { (F : List FrameRecord) (i : ℕ) → i < length F → (o : Option Hearing) × HeardAt F i o }
+    ensures heard { (F : List FrameRecord) → (hs : List Hearing) × AreHeard F hs }
+    ensures report { (F : List FrameRecord) → (entries : List Entry) × IsReport F entries }
 {}
 
 /// Of what publishers sent, a report has under their addresses exactly the values published, in order

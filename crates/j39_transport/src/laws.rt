@@ -1,6 +1,6 @@
 //! Laws about the definitions, each the contract of a function that does nothing.
 ghost use Rattle.j39_transport.specs.Net.{TransfersLaw};
-ghost use Rattle.j39_transport.specs.Laws.{OneMessageLaw, AtPacketLaw, CountsLaw};
+ghost use Rattle.j39_transport.specs.Laws.{OneMessageLaw, AtPacketLaw, WholeOrNoneLaw, CountsLaw};
 ghost use Rattle.j39_transport.specs.Course.{GoesLaw, ReachesLaw, RunsLaw};
 
 /// At a place at most one message is whole.
@@ -11,6 +11,11 @@ pub fn one_message()
 /// A message is whole at a packet of its own: so it goes where that frame goes.
 pub fn at_a_packet()
     ensures { AtPacketLaw }
+{}
+
+/// With each frame, after whatever events, a message is whole or none is.
+pub fn whole_or_none()
+    ensures { WholeOrNoneLaw }
 {}
 
 /// How many messages are open, and with how many bytes, is determined by the events: at most 270,
