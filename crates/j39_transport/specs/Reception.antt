@@ -6,12 +6,12 @@ use Rattle.j39_transport.specs.Session.{SessionRecord, opened, touched, grown}
 use Rattle.j39_transport.specs.Signals.{Signal, RequestToSend, ClearToSend, Acknowledgment, Abort, Packet}
 
 -- the longest wait between two packets, in microseconds
-abbrev pub T1 : ℕ
-T1 = 750000
+abbrev pub timer_t1 : ℕ
+timer_t1 = 750000
 
 -- the longest wait from a CTS to its first packet
-abbrev pub T2 : ℕ
-T2 = 1250000
+abbrev pub timer_t2 : ℕ
+timer_t2 = 1250000
 
 -- the message so far, whose last stamp is the time of the session; the most packets for one CTS; the last packet
 -- granted; how often it asked again; and fresh: no packet has come since its last CTS
@@ -121,7 +121,7 @@ takes_signal k (Some (Packet number joined)) now found o = takes_data (sender k)
 -- ---- time
 
 abbrev pub limit_of : ReceptionRecord → ℕ
-limit_of r = if r.fresh then T2 else T1
+limit_of r = if r.fresh then timer_t2 else timer_t1
 
 -- exactly the limit is in time, and a time that goes back counts as no time passed
 unfoldable pub takes_tick : ℕ → Option ReceptionRecord → Reaction

@@ -8,12 +8,12 @@ use Rattle.j39_transport.specs.Cutting.{ToSend, packet_data, cut_frame}
 use Rattle.j39_transport.specs.Signals.{Signal, RequestToSend, ClearToSend, Acknowledgment, Abort, Packet, said_between, written}
 
 -- the longest wait for an answer to an RTS or to the last granted packet, in microseconds
-abbrev pub T3 : ℕ
-T3 = 1250000
+abbrev pub timer_t3 : ℕ
+timer_t3 = 1250000
 
 -- the longest wait for the next CTS after one of 0 packets
-abbrev pub T4 : ℕ
-T4 = 1050000
+abbrev pub timer_t4 : ℕ
+timer_t4 = 1050000
 
 -- nothing was sent; it waits, so long at most; packets from next to last are to be sent; acknowledged; aborted
 pub data SendState : Type 0 where
@@ -57,7 +57,7 @@ sends_packet k last now s = record {
   after = record {
     message = s.message;
     destination = s.destination;
-    state = (if k == last then Waiting T3 else Sending (k + 1) last);
+    state = (if k == last then Waiting timer_t3 else Sending (k + 1) last);
     since = (if k == last then now else s.since);
     highest = max s.highest k;
   };
@@ -66,7 +66,7 @@ sends_packet k last now s = record {
 
 -- exactly the limit is in time, and a time that goes back counts as no time passed
 unfoldable pub ticks_in : SendState → ℕ → SenderRecord → SendResult
-ticks_in Idle now s = record { after = waits T3 now s; says = Some (request_of s.message) }
+ticks_in Idle now s = record { after = waits timer_t3 now s; says = Some (request_of s.message) }
 ticks_in (Waiting limit) now s =
     if nat_lt (s.since + limit) now
     then record { after = record s { state = Failed 3 }; says = Some (Abort 3 s.message.pgn) }
@@ -100,7 +100,7 @@ may_name s p = nat_le 1 p && nat_le p (packets_of s.message) && nat_le p (s.high
 unfoldable pub cleared : ℕ → ℕ → ℕ → SenderRecord → SenderRecord
 cleared count p now s =
     if is_waiting s.state
-    then (if count == 0 then waits T4 now s
+    then (if count == 0 then waits timer_t4 now s
     else if may_name s p then record s { state = Sending p (min (p + count - 1) (packets_of s.message)) }
     else s)
     else s

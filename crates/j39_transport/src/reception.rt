@@ -15,10 +15,10 @@ use j39_frame::{Pgn, Stamp};
 use std::marker::Model;
 
 /// The longest wait between two packets, in microseconds: 750 ms (J1939-21, 5.10.2.4).
-const T1: u64 = 750_000;
+const TIMER_T1: u64 = 750_000;
 
 /// The longest wait from a CTS to its first packet: 1,250 ms (J1939-21, 5.10.2.4).
-const T2: u64 = 1_250_000;
+const TIMER_T2: u64 = 1_250_000;
 
 /// How often a receiver asks again for a message (own).
 const MOST_ASKS: u8 = 2;
@@ -180,7 +180,7 @@ impl Reception {
         ensures step { stepped result self.new ≡ takes_tick (stamp_micros now) (Some self.old) }
         ensures open { IsStep result self.new }
     {
-        let limit = if self.fresh { T2 } else { T1 };
+        let limit = if self.fresh { TIMER_T2 } else { TIMER_T1 };
         if now.micros() > self.message.last().micros() + limit {
             self.ask_again(now)
         } else {

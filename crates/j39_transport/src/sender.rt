@@ -17,10 +17,10 @@ use j39_frame::{Id, Stamp, is_address};
 use std::marker::Model;
 
 /// The longest wait for an answer, in microseconds: 1,250 ms (J1939-21, 5.10.2.4).
-const T3: u64 = 1_250_000;
+const TIMER_T3: u64 = 1_250_000;
 
 /// The longest wait after a CTS that holds: 1,050 ms (J1939-21, 5.10.2.4).
-const T4: u64 = 1_050_000;
+const TIMER_T4: u64 = 1_050_000;
 
 /// The reason of an abort where an answer is late (J1939-21, 5.10.3.4).
 const TIMEOUT: u8 = 3;
@@ -117,7 +117,7 @@ impl<'a> Sender<'a> {
         match self.progress {
             Progress::Idle => {
                 let key = Key::Directed(self.cut.source(), self.destination);
-                self.wait(T3, now);
+                self.wait(TIMER_T3, now);
                 Some(Signal::RequestToSend(self.cut.announcement(key), 0xFF))
             }
             Progress::Waiting(limit) => {
@@ -153,7 +153,7 @@ impl<'a> Sender<'a> {
     {
         self.highest = self.highest.max(number);
         if number == last {
-            self.progress = Progress::Waiting(T3);
+            self.progress = Progress::Waiting(TIMER_T3);
             self.since = now;
         } else {
             self.progress = Progress::Sending(number + 1, last);
@@ -186,7 +186,7 @@ impl<'a> Sender<'a> {
         if let Progress::Waiting(_) = self.progress {
             let packets = self.cut.packets();
             if count == 0 {
-                self.wait(T4, now);
+                self.wait(TIMER_T4, now);
             } else if next >= 1
                 && next <= packets
                 && u16::from(next) <= u16::from(self.highest) + 1
