@@ -13,17 +13,16 @@ use Rattle.j39_listen.proofs.Between.{assembled_iff}
 use Rattle.j39_address.proofs.OrderLemmas.{cases_option}
 use Rattle.j39_listen.proofs.Rising.{Listed, Rises, changed_of}
 use Rattle.j39_listen.proofs.Reported.{not_reported, packet_group, packet_source}
-use Rattle.j39_transport.proofs.Taken.{whole_ends}
+use Rattle.j39_transport.proofs.Taken.{assembled_sent}
 use Rattle.j39_listen.specs.NextSteps.{alone_of, NextBy, Next, heard_of}
 use Rattle.j39_listen.proofs.Causal.{Whole-same, forgets_more, forgets_same, frame_new, holder_prefix, report_more, same_below_append}
 use Rattle.j39_listen.proofs.Unique.{assembled_packet}
 use Rattle.j39_listen.specs.Forgets.{Changed, WithForgets}
 use Rattle.j39_listen.specs.Heard.{HeardAt, Hearing, IsAssembled, IsHeard, IsSingle, frame_at, or_none}
 use Rattle.j39_listen.specs.Report.{Entry, IsReport, entries_of}
-use Rattle.j39_transport.proofs.Agreeing.{Agree, at_new}
+use Rattle.j39_transport.proofs.Agreeing.{Agree}
 use Rattle.j39_transport.specs.Answers.{WholeBy}
 use Rattle.j39_transport.specs.Events.{Event, sends}
-use Rattle.j39_transport.specs.Assembly.{Whole}
 use Rattle.j39_transport.specs.Events.Event.{Frame, Forget}
 use Rattle.j39_transport.specs.Frames.{is_packet}
 use Rattle.j39_transport.specs.Key.{Key}
@@ -123,9 +122,6 @@ unfolding sends
 sends_frame s f = refl
 
 -- only its own key has a message that is whole with f
-pub assembled_sent : (E : List Event) (f : FrameRecord) (s : Key) (g : ℕ) (b : List ℕ) → Whole (E ++ Frame f ∷ []) (length E) s g b → is_packet s f ≡ true
-assembled_sent E f s g b w = sym (sends_frame s f) ∙ (sym (ap (sends s) (at_new E (Frame f))) ∙ (whole_ends (E ++ Frame f ∷ []) (length E) s g b w).0)
-
 pub assembled_source : (E : List Event) (f : FrameRecord) (m : MessageRecord) → WholeBy E f m → source_of f.id ≡ m.source
 assembled_source E f m w = packet_source w.0 f (assembled_sent E f w.0 m.pgn m.bytes w.2) ∙ w.1
 

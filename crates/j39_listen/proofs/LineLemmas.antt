@@ -1,5 +1,5 @@
 -- One line of a run, by the definitions over the list of it alone.
-use Rattle.std.proofs.Common.{◌≡◌, ◌<◌, ◌^◌, ℕ, List, [], ◌∷◌, Option, Some, true, false, length, refl, sym, ap, ◌∙◌, subst, arith, append-nil}
+use Rattle.std.proofs.Common.{◌≡◌, ◌<◌, ◌+◌, ◌^◌, ℕ, List, [], ◌∷◌, Option, Some, true, false, length, refl, sym, ap, ◌∙◌, subst, arith, append-nil}
 use Rattle.std.specs.Prelude.{unwrap_or, count_by}
 use Rattle.std.specs.List.{filter_map}
 use Rattle.std.specs.Str.{bytes_eq}
@@ -18,6 +18,9 @@ use Rattle.j39_listen.specs.declared.counts.Tally.{Tally}
 
 pub capped-fits : (n : ℕ) → n < 2 ^ 64 → capped n ≡ n
 capped-fits n h = omega arith
+
+pub capped-sum : (a b n : ℕ) → n ≡ a + b → capped n ≡ capped (capped a + capped b)
+capped-sum a b n e = omega arith
 
 pub same_tally : (a b : Tally) → a.frames ≡ b.frames → a.other ≡ b.other → a.unread ≡ b.unread → a ≡ b
 same_tally a b f o u = λ i. record { frames = f i; other = o i; unread = u i }

@@ -24,7 +24,8 @@ use Rattle.j39_listen.specs.Listening.{Hears}
 use Rattle.j39_listen.specs.NextSteps.{IsMany, Next, NextBy, alone_of, heard_alone, heard_of}
 use Rattle.j39_listen.specs.declared.listener.Listener.{Listener}
 use Rattle.j39_listen.proofs.Causal.{forgets_more, holder_prefix}
-use Rattle.j39_listen.proofs.Feeding.{assembled_sent, heard_next}
+use Rattle.j39_listen.proofs.Feeding.{heard_next}
+use Rattle.j39_transport.proofs.Taken.{assembled_sent}
 use Rattle.j39_listen.proofs.Held.{held_is, holder_of}
 use Rattle.j39_listen.proofs.Reported.{claims_silent, packet_group}
 use Rattle.j39_listen.proofs.Unique.{forgets_unique}

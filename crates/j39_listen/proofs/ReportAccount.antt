@@ -16,15 +16,12 @@ use Rattle.j39_listen.specs.declared.counts.Made.{Made}
 use Rattle.j39_listen.specs.declared.listener.Listener.{Listener}
 use Rattle.j39_listen.specs.declared.report.Report.{Report}
 use Rattle.j39_listen.proofs.Causal.{heard_below_same, heard_more, same_below_append}
-use Rattle.j39_listen.proofs.LineLemmas.{capped-fits}
+use Rattle.j39_listen.proofs.LineLemmas.{capped-fits, capped-sum}
 use Rattle.j39_listen.proofs.ReportLemmas.{text_of-append, text_of-none}
 use Rattle.j39_listen.proofs.Unique.{heard_below_unique}
 
 report_text-append : (hs ks : List Hearing) → report_text (hs ++ ks) ≡ report_text hs ++ report_text ks
 report_text-append hs ks = ap text_of (flat_map-append entries_of hs ks) ∙ text_of-append (flat_map entries_of hs) (flat_map entries_of ks)
-
-capped-sum : (a b n : ℕ) → n ≡ a + b → capped n ≡ capped (capped a + capped b)
-capped-sum a b n e = omega arith
 
 same_made : (a b : Made) → a.messages ≡ b.messages → a.lines ≡ b.lines → a ≡ b
 same_made a b m l = λ i. record { messages = m i; lines = l i }

@@ -1,5 +1,5 @@
 -- A run, line after line, against its definition.
-use Rattle.std.proofs.Common.{◌≡◌, ◌≢◌, ◌+◌, ℕ, List, [], ◌∷◌, ◌++◌, Option, Some, None, length, refl, sym, ap, ap₂, ◌∙◌, subst, arith, append-nil, append_assoc, length-append, inl, inr}
+use Rattle.std.proofs.Common.{◌≡◌, ◌≢◌, ℕ, List, [], ◌∷◌, ◌++◌, Option, Some, None, length, refl, sym, ap, ap₂, ◌∙◌, subst, arith, append-nil, append_assoc, length-append, inl, inr}
 use Rattle.std.specs.Io.KnownBytes.{Appends, Keeps}
 use Rattle.std.proofs.KnownBytes.{Appends-nil, Appends-trans}
 use Rattle.j39_frame.specs.Chars.{newline}
@@ -9,7 +9,7 @@ use Rattle.j39_frame.specs.Spelled.{Spelled, Spells}
 use Rattle.j39_frame.proofs.BusLemmas.{bus_of-append, count_by-append, ended-line, frames_of-append, others_of-append, spell-more, whole-more}
 use Rattle.j39_frame.proofs.DeviceLemmas.{Appends-kept}
 use Rattle.j39_listen.specs.AccountSteps.{Closes, MeetsMore}
-use Rattle.j39_listen.specs.Counting.{capped, counts_of}
+use Rattle.j39_listen.specs.Counting.{counts_of}
 use Rattle.j39_listen.specs.LineSteps.{sum_of, tally_of}
 use Rattle.j39_listen.specs.Output.{Output}
 use Rattle.j39_listen.specs.PieceSteps.{HasMetAll, HasRead, ReadsLine, WritesAll}
@@ -18,10 +18,7 @@ use Rattle.j39_listen.specs.declared.counts.Counts.{Counts}
 use Rattle.j39_listen.specs.declared.counts.Made.{Made}
 use Rattle.j39_listen.specs.declared.counts.Tally.{Tally}
 use Rattle.j39_listen.specs.declared.progress.Progress.{Progress}
-use Rattle.j39_listen.proofs.LineLemmas.{line_tally, same_tally, tally}
-
-capped-sum : (a b n : ℕ) → n ≡ a + b → capped n ≡ capped (capped a + capped b)
-capped-sum a b n e = omega arith
+use Rattle.j39_listen.proofs.LineLemmas.{capped-sum, line_tally, same_tally, tally}
 
 tally_of-append : (bus : Option (List ℕ)) (xs ys : List Spelled) → tally_of bus (xs ++ ys) ≡ sum_of (tally_of bus xs) (tally_of (bus_of bus xs) ys)
 unfolding tally_of
