@@ -44,7 +44,7 @@ pub(crate) trait Account: Drop {
         ensures stops { OnErr result (StopsAtEnd has_met makes self.old (W.held sink.old) (W.held sink.new)) }
         ensures mark { Marks result (W.has_failed sink.old) (W.has_failed sink.new) };
 
-    /// Does nothing: laws that hold of the two words above.
+    /// Does nothing: laws of what was met and of what is made.
     fn laws()
         ensures begins { Begins has_met makes }
         ensures one { MakesOne makes };
