@@ -4,5 +4,5 @@ pub mod NotingLemmas
 mod ClaimerLemmas
 mod StepLemmas
 mod NetLemmas
-mod OneStepLemmas
+pub mod OneStepLemmas
 mod SomeStepLemmas
