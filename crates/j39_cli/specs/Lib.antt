@@ -6,6 +6,7 @@ pub mod Command
 pub mod LogCommand
 pub mod IdCommand
 pub mod NameCommand
+pub mod AnswerCommand
 pub mod CutCommand
 pub mod Task
 pub mod Counted
