@@ -5,4 +5,4 @@ mod ClaimerLemmas
 mod StepLemmas
 mod NetLemmas
 pub mod OneStepLemmas
-mod SomeStepLemmas
+pub mod SomeStepLemmas

@@ -17,6 +17,7 @@ pub mod ReportAccount
 pub mod NodeLemmas
 pub mod AnswerLemmas
 pub mod AnswerAccount
+pub mod AnswerExisting
 pub mod RunLemmas
 pub mod StopLemmas
 pub mod PieceLemmas
