@@ -4,5 +4,5 @@ pub mod NotingLemmas
 mod ClaimerLemmas
 mod StepLemmas
 mod NetLemmas
-mod OneStepLemmas
-mod SomeStepLemmas
+pub mod OneStepLemmas
+pub mod SomeStepLemmas

@@ -9,7 +9,7 @@ use Rattle.clap.specs.declared.parser.matches.Found.{Found}
 use Rattle.clap.specs.declared.parser.matches.ArgMatches.{ArgMatches}
 use Rattle.clap.specs.declared.parser.matches.ArgMatches.TheViews.{out-ArgMatches, out-SubCommand}
 use Rattle.clap.specs.declared.parser.matches.SubCommand.{SubCommand}
-use Rattle.j39_cli.specs.CommandWords.{HasTexts, CommandWords, cut, groups, id, name, nodes, report}
+use Rattle.j39_cli.specs.CommandWords.{HasTexts, CommandWords, answer, cut, groups, id, name, nodes, report}
 use Rattle.j39_cli.specs.Task.{Answer, IsAnswer}
 use Rattle.j39_cli.specs.declared.task.ParseFault.TheVariants.{Memory}
 
@@ -19,6 +19,11 @@ memory_answers (report None file) = tt
 memory_answers (report (Some bus) file) = record { in_range = λ _. tt; wrong = λ _. tt }
 memory_answers (nodes None file) = tt
 memory_answers (nodes (Some bus) file) = record { in_range = λ _. tt; wrong = λ _. tt }
+memory_answers (answer node address None file) = record { in_range = λ _. record { in_range = λ _. tt; wrong = λ _. tt }; wrong = λ _. tt }
+memory_answers (answer node address (Some bus) file) = record {
+  in_range = λ _. record { in_range = λ _. record { in_range = λ _. tt; wrong = λ _. tt }; wrong = λ _. tt };
+  wrong = λ _. tt;
+}
 memory_answers (id hex) = record { in_range = λ _. tt; wrong = λ _. tt }
 memory_answers (name hex) = record { in_range = λ _. tt; wrong = λ _. tt }
 memory_answers (cut source pgn at bus hex) = record {
@@ -58,11 +63,16 @@ is_met m found called met rows is_name is_found =
     let same_rows : rows_of found ≡ met.1 = cc in
     record { name_is = cc; values = λ id. first_value-rows found id ∙ ap (λ (r : List Row). first_of id r) same_rows }
 
+-- one text is found
+pub same_text : (value : Option Text) (read given : Text) → value ≡ Some read → value ≡ Some given → read ≡ given
+same_text value read given is_read is_given = let both : Some read ≡ Some given = sym is_read ∙ is_given in cc
+
 -- ---- each command's answer, for the command that was spelled
 
 abbrev name_of : CommandWords → Text
 name_of (report bus file) = codes "report"
 name_of (nodes bus file) = codes "nodes"
+name_of (answer node address bus file) = codes "answer"
 name_of (id hex) = codes "id"
 name_of (name hex) = codes "name"
 name_of (cut source pgn at bus hex) = codes "cut"
@@ -74,38 +84,47 @@ apart t a b is_a is_b differ same = let e : bytes_eq a b ≡ bytes_eq b b = ap (
 
 pub report_answers : (s : CommandWords) (met : Text × List Row) (found : Found) (r : Answer) → HasTexts s met → IsMet found (codes "report") met
     → IsAnswer (report (first_value found (codes "bus")) (first_value found (codes "file"))) r → IsAnswer s r
-report_answers (report bus file) met found r texts is answer =
+report_answers (report bus file) met found r texts is given =
     subst (λ (f : Option Text). IsAnswer (report bus f) r) (is.values (codes "file") ∙ texts.2)
-    (subst (λ (b : Option Text). IsAnswer (report b (first_value found (codes "file"))) r) (is.values (codes "bus") ∙ texts.1) answer)
-report_answers s met found r texts is answer = absurd (apart met.0 (name_of s) (codes "report") texts.0 is.name_is refl refl)
+    (subst (λ (b : Option Text). IsAnswer (report b (first_value found (codes "file"))) r) (is.values (codes "bus") ∙ texts.1) given)
+report_answers s met found r texts is given = absurd (apart met.0 (name_of s) (codes "report") texts.0 is.name_is refl refl)
 
 pub nodes_answers : (s : CommandWords) (met : Text × List Row) (found : Found) (r : Answer) → HasTexts s met → IsMet found (codes "nodes") met
     → IsAnswer (nodes (first_value found (codes "bus")) (first_value found (codes "file"))) r → IsAnswer s r
-nodes_answers (nodes bus file) met found r texts is answer =
+nodes_answers (nodes bus file) met found r texts is given =
     subst (λ (f : Option Text). IsAnswer (nodes bus f) r) (is.values (codes "file") ∙ texts.2)
-    (subst (λ (b : Option Text). IsAnswer (nodes b (first_value found (codes "file"))) r) (is.values (codes "bus") ∙ texts.1) answer)
-nodes_answers s met found r texts is answer = absurd (apart met.0 (name_of s) (codes "nodes") texts.0 is.name_is refl refl)
+    (subst (λ (b : Option Text). IsAnswer (nodes b (first_value found (codes "file"))) r) (is.values (codes "bus") ∙ texts.1) given)
+nodes_answers s met found r texts is given = absurd (apart met.0 (name_of s) (codes "nodes") texts.0 is.name_is refl refl)
+
+pub node_answers : (s : CommandWords) (met : Text × List Row) (found : Found) (r : Answer) → HasTexts s met → IsMet found (codes "answer") met
+    → ((node address : Text) → first_value found (codes "name") ≡ Some node → first_value found (codes "address") ≡ Some address
+    → IsAnswer (answer node address (first_value found (codes "bus")) (first_value found (codes "file"))) r) → IsAnswer s r
+node_answers (answer node address bus file) met found r (_, is_name, is_address, is_bus, is_file) is given =
+    subst (λ (f : Option Text). IsAnswer (answer node address bus f) r) (is.values (codes "file") ∙ is_file)
+    (subst (λ (b : Option Text). IsAnswer (answer node address b (first_value found (codes "file"))) r) (is.values (codes "bus") ∙ is_bus)
+    (given node address (is.values (codes "name") ∙ is_name) (is.values (codes "address") ∙ is_address)))
+node_answers s met found r texts is given = absurd (apart met.0 (name_of s) (codes "answer") texts.0 is.name_is refl refl)
 
 pub id_answers : (s : CommandWords) (met : Text × List Row) (found : Found) (r : Answer) → HasTexts s met → IsMet found (codes "id") met
     → ((hex : Text) → first_value found (codes "hex") ≡ Some hex → IsAnswer (id hex) r) → IsAnswer s r
-id_answers (id hex) met found r texts is answer = answer hex (is.values (codes "hex") ∙ texts.1)
-id_answers s met found r texts is answer = absurd (apart met.0 (name_of s) (codes "id") texts.0 is.name_is refl refl)
+id_answers (id hex) met found r texts is given = given hex (is.values (codes "hex") ∙ texts.1)
+id_answers s met found r texts is given = absurd (apart met.0 (name_of s) (codes "id") texts.0 is.name_is refl refl)
 
 pub name_answers : (s : CommandWords) (met : Text × List Row) (found : Found) (r : Answer) → HasTexts s met → IsMet found (codes "name") met
     → ((hex : Text) → first_value found (codes "hex") ≡ Some hex → IsAnswer (name hex) r) → IsAnswer s r
-name_answers (name hex) met found r texts is answer = answer hex (is.values (codes "hex") ∙ texts.1)
-name_answers s met found r texts is answer = absurd (apart met.0 (name_of s) (codes "name") texts.0 is.name_is refl refl)
+name_answers (name hex) met found r texts is given = given hex (is.values (codes "hex") ∙ texts.1)
+name_answers s met found r texts is given = absurd (apart met.0 (name_of s) (codes "name") texts.0 is.name_is refl refl)
 
 pub cut_answers : (s : CommandWords) (met : Text × List Row) (found : Found) (r : Answer) → HasTexts s met → IsMet found (codes "cut") met
     → ((source pgn at bus hex : Text) → first_value found (codes "source") ≡ Some source → first_value found (codes "pgn") ≡ Some pgn
     → first_value found (codes "at") ≡ Some at → first_value found (codes "bus") ≡ Some bus → first_value found (codes "hex") ≡ Some hex
     → IsAnswer (cut source pgn at bus hex) r) → IsAnswer s r
-cut_answers (cut source pgn at bus hex) met found r (_, is_source, is_pgn, is_at, is_bus, is_hex) is answer = answer source pgn at bus hex
+cut_answers (cut source pgn at bus hex) met found r (_, is_source, is_pgn, is_at, is_bus, is_hex) is given = given source pgn at bus hex
     (is.values (codes "source") ∙ is_source) (is.values (codes "pgn") ∙ is_pgn) (is.values (codes "at") ∙ is_at)
     (is.values (codes "bus") ∙ is_bus) (is.values (codes "hex") ∙ is_hex)
-cut_answers s met found r texts is answer = absurd (apart met.0 (name_of s) (codes "cut") texts.0 is.name_is refl refl)
+cut_answers s met found r texts is given = absurd (apart met.0 (name_of s) (codes "cut") texts.0 is.name_is refl refl)
 
 pub groups_answers : (s : CommandWords) (met : Text × List Row) (found : Found) (r : Answer) → HasTexts s met → IsMet found (codes "groups") met
     → IsAnswer groups r → IsAnswer s r
-groups_answers groups met found r texts is answer = answer
-groups_answers s met found r texts is answer = absurd (apart met.0 (name_of s) (codes "groups") texts.0 is.name_is refl refl)
+groups_answers groups met found r texts is given = given
+groups_answers s met found r texts is given = absurd (apart met.0 (name_of s) (codes "groups") texts.0 is.name_is refl refl)

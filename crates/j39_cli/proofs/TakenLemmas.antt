@@ -5,12 +5,13 @@ use Rattle.clap.specs.Simple.{built_leaf}
 use Rattle.clap.specs.Walk.{finished}
 use Rattle.clap.proofs.OnLiterals.{clap_on_literals}
 use Rattle.j39_cli.specs.Command.{line_app}
+use Rattle.j39_cli.specs.AnswerCommand.{answer_app}
 use Rattle.j39_cli.specs.CutCommand.{cut_app}
 use Rattle.j39_cli.specs.GroupsCommand.{groups_app}
 use Rattle.j39_cli.specs.IdCommand.{id_app}
 use Rattle.j39_cli.specs.NameCommand.{name_app}
 use Rattle.j39_cli.specs.LogCommand.{nodes_app, report_app}
-use Rattle.j39_cli.specs.CommandWords.{HasTexts, HasValues, CommandWords, cut, groups, id, name, nodes, report, words_of}
+use Rattle.j39_cli.specs.CommandWords.{HasTexts, HasValues, CommandWords, answer, cut, groups, id, name, nodes, report, words_of}
 use Rattle.j39_cli.proofs.PartLemmas.{AreParts, Enters, Part, built_takes-enters, entered-enters, given, held_after, level_passes-parts, parts_pass, rows_after-parts, takes_parts, text_of, written}
 
 pub line_is_simple : is_simple line_app ≡ true
@@ -55,6 +56,10 @@ enters_nodes : Enters (built line_app) (codes "nodes") (leaf_of nodes_app)
 unfolding clap_on_literals line_app
 enters_nodes = record { step = refl; passes = refl; found = refl; checks = refl }
 
+enters_answer : Enters (built line_app) (codes "answer") (leaf_of answer_app)
+unfolding clap_on_literals line_app
+enters_answer = record { step = refl; passes = refl; found = refl; checks = refl }
+
 enters_id : Enters (built line_app) (codes "id") (leaf_of id_app)
 unfolding clap_on_literals line_app
 enters_id = record { step = refl; passes = refl; found = refl; checks = refl }
@@ -89,6 +94,18 @@ is_read program (nodes (Some bus) None) values = read program (codes "nodes") no
     (written (codes "--bus") ∷ given bus ∷ []) _ (tt, (values.0, tt)) refl refl (refl, refl, refl)
 is_read program (nodes (Some bus) (Some file)) values = read program (codes "nodes") nodes_app enters_nodes
     (written (codes "--bus") ∷ given bus ∷ given file ∷ []) _ (tt, (values.0, (values.1, tt))) refl refl (refl, refl, refl)
+is_read program (answer node address None None) values = read program (codes "answer") answer_app enters_answer
+    (written (codes "--name") ∷ given node ∷ written (codes "--address") ∷ given address ∷ [])
+    _ (tt, (values.0, (tt, (values.1, tt)))) refl refl (refl, refl, refl, refl, refl)
+is_read program (answer node address None (Some file)) values = read program (codes "answer") answer_app enters_answer
+    (written (codes "--name") ∷ given node ∷ written (codes "--address") ∷ given address ∷ given file ∷ [])
+    _ (tt, (values.0, (tt, (values.1, (values.3, tt))))) refl refl (refl, refl, refl, refl, refl)
+is_read program (answer node address (Some bus) None) values = read program (codes "answer") answer_app enters_answer
+    (written (codes "--name") ∷ given node ∷ written (codes "--address") ∷ given address ∷ written (codes "--bus") ∷ given bus ∷ [])
+    _ (tt, (values.0, (tt, (values.1, (tt, (values.2, tt)))))) refl refl (refl, refl, refl, refl, refl)
+is_read program (answer node address (Some bus) (Some file)) values = read program (codes "answer") answer_app enters_answer
+    (written (codes "--name") ∷ given node ∷ written (codes "--address") ∷ given address ∷ written (codes "--bus") ∷ given bus ∷ given file ∷ [])
+    _ (tt, (values.0, (tt, (values.1, (tt, (values.2, (values.3, tt))))))) refl refl (refl, refl, refl, refl, refl)
 is_read program (id hex) values = read program (codes "id") id_app enters_id
     (given hex ∷ []) _ (values, tt) refl refl (refl, refl)
 is_read program (name hex) values = read program (codes "name") name_app enters_name

@@ -6,6 +6,7 @@ use Rattle.clap.specs.Words.{Row, Text, first_of}
 pub data CommandWords : Type 0 where
   report : Option Text → Option Text → CommandWords
   nodes : Option Text → Option Text → CommandWords
+  answer : Text → Text → Option Text → Option Text → CommandWords
   id : Text → CommandWords
   name : Text → CommandWords
   cut : Text → Text → Text → Text → Text → CommandWords
@@ -25,6 +26,8 @@ value_words (Some value) = value ∷ []
 abbrev pub words_of : CommandWords → List Text
 words_of (report bus file) = codes "report" ∷ (option_words (codes "--bus") bus ++ value_words file)
 words_of (nodes bus file) = codes "nodes" ∷ (option_words (codes "--bus") bus ++ value_words file)
+words_of (answer node address bus file) =
+    codes "answer" ∷ codes "--name" ∷ node ∷ codes "--address" ∷ address ∷ (option_words (codes "--bus") bus ++ value_words file)
 words_of (id hex) = codes "id" ∷ hex ∷ []
 words_of (name hex) = codes "name" ∷ hex ∷ []
 words_of (cut source pgn at bus hex) =
@@ -46,6 +49,7 @@ IsValueIfGiven (Some value) = IsValue value
 abbrev pub HasValues : CommandWords → Type 0
 HasValues (report bus file) = IsValueIfGiven bus × IsValueIfGiven file
 HasValues (nodes bus file) = IsValueIfGiven bus × IsValueIfGiven file
+HasValues (answer node address bus file) = IsValue node × IsValue address × IsValueIfGiven bus × IsValueIfGiven file
 HasValues (id hex) = IsValue hex
 HasValues (name hex) = IsValue hex
 HasValues (cut source pgn at bus hex) = IsValue source × IsValue pgn × IsValue at × IsValue bus × IsValue hex
@@ -55,6 +59,9 @@ HasValues groups = Unit {0}
 abbrev pub HasTexts : CommandWords → Text × List Row → Type 0
 HasTexts (report bus file) met = (met.0 ≡ codes "report") × (first_of (codes "bus") met.1 ≡ bus) × (first_of (codes "file") met.1 ≡ file)
 HasTexts (nodes bus file) met = (met.0 ≡ codes "nodes") × (first_of (codes "bus") met.1 ≡ bus) × (first_of (codes "file") met.1 ≡ file)
+HasTexts (answer node address bus file) met =
+    (met.0 ≡ codes "answer") × (first_of (codes "name") met.1 ≡ Some node) × (first_of (codes "address") met.1 ≡ Some address)
+    × (first_of (codes "bus") met.1 ≡ bus) × (first_of (codes "file") met.1 ≡ file)
 HasTexts (id hex) met = (met.0 ≡ codes "id") × (first_of (codes "hex") met.1 ≡ Some hex)
 HasTexts (name hex) met = (met.0 ≡ codes "name") × (first_of (codes "hex") met.1 ≡ Some hex)
 HasTexts (cut source pgn at bus hex) met =

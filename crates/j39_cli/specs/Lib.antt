@@ -7,6 +7,7 @@ pub mod LogCommand
 pub mod GroupsCommand
 pub mod IdCommand
 pub mod NameCommand
+pub mod AnswerCommand
 pub mod CutCommand
 pub mod Task
 pub mod Counted

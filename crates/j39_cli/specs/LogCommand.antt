@@ -1,4 +1,4 @@
--- The commands `report [--bus B] [FILE]` and `nodes [--bus B] [FILE]`.
+-- The commands `report [--bus B] [FILE]` and `nodes [--bus B] [FILE]`, and what those that read a log have in common.
 use Rattle.std.specs.Prelude.{◌≡◌, ◌≢◌, ◌⊎◌, ◌<◌, ◌≤◌, ℕ, true, false, List, [], Option, IfSome, codes, length}
 use Rattle.clap.specs.Words.{App, new_app, with_rule}
 use Rattle.j39_frame.specs.Frame.{FrameRecord}
@@ -35,14 +35,14 @@ fault_text Write = fault_words Write
 fault_text TooLong = codes "input longer than 17179869184 bytes"
 
 -- what is made of the frames of this log was written, and the counts are on standard error
-pub record HasWritten (makes : List FrameRecord → Output → Type 0) (bus : Option (List ℕ)) (log : List ℕ) (out err : Turn) : Type 0 where
+pub record HasWritten (makes : List ℕ → List FrameRecord → Output → Type 0) (bus : Option (List ℕ)) (log : List ℕ) (out err : Turn) : Type 0 where
   pub short : length log ≤ log_limit
   pub counts : Counts
   pub writes : run.Writes makes bus log counts out.old.bytes out.new.bytes
   pub told : Writes err (counts_text counts)
 
 -- this fault came: its own mark stands, and it alone changed one; a front was written; and it is told
-pub record HasFailed (makes : List FrameRecord → Output → Type 0) (fault : RunFault) (bus : Option (List ℕ)) (log out err : Turn) : Type 0 where
+pub record HasFailed (makes : List ℕ → List FrameRecord → Output → Type 0) (fault : RunFault) (bus : Option (List ℕ)) (log out err : Turn) : Type 0 where
   pub too_long : fault ≡ TooLong → IfSome log.old.bytes (λ bytes. log_limit < length bytes)
   pub read : fault ≡ Read → log.new.has_failed ≡ true
   pub read_alone : fault ≢ Read → IsUnmarked log
@@ -52,7 +52,7 @@ pub record HasFailed (makes : List FrameRecord → Output → Type 0) (fault : R
   pub told : Writes err (error_line (fault_text fault) [])
 
 -- status 0: it was written whole, and no device failed; status 1: a fault came
-pub record IsRun (makes : List FrameRecord → Output → Type 0) (bus : Option (List ℕ)) (status : ℕ) (log out err : Turn) : Type 0 where
+pub record IsRun (makes : List ℕ → List FrameRecord → Output → Type 0) (bus : Option (List ℕ)) (status : ℕ) (log out err : Turn) : Type 0 where
   pub known : (status ≡ 0) ⊎ (status ≡ 1)
   pub written : status ≡ 0 → IfSome log.old.bytes (λ bytes. HasWritten makes bus bytes out err)
   pub unmarked : status ≡ 0 → IsUnmarked log × IsUnmarked out

@@ -4,6 +4,7 @@ use Rattle.std.specs.Option.{ForSome}
 use Rattle.std.specs.Str.Parse.{digits_value}
 use Rattle.clap.specs.Words.{Text}
 use Rattle.j39_address.specs.Name.{name_raw}
+use Rattle.j39_frame.specs.Address.{IsAddress}
 use Rattle.j39_frame.specs.Bus.{IsBusName}
 use Rattle.j39_frame.specs.Identifier.{id_raw}
 use Rattle.j39_cli.specs.CutCommand.{EndsInTime, IsMomentText, IsNumberBelow, IsOutgoing, IsPayloadText, OutgoingRecord, moment_value, outgoing, payload_of}
@@ -22,6 +23,7 @@ use Rattle.j39_cli.specs.declared.task.ParseFault.TheVariants as fault
 pub data Asked : Type 0 where
   report : Option (List ℕ) → Option (List ℕ) → Asked
   nodes : Option (List ℕ) → Option (List ℕ) → Asked
+  answer : ℕ → ℕ → Option (List ℕ) → Option (List ℕ) → Asked
   id : ℕ → Asked
   name : ℕ → Asked
   cut : OutgoingRecord → Asked
@@ -30,6 +32,7 @@ pub data Asked : Type 0 where
 abbrev pub asked_of : Task → Asked
 asked_of (task.Report bus file) = report bus file
 asked_of (task.Nodes bus file) = nodes bus file
+asked_of (task.Answer n address bus file) = answer (name_raw n) address bus file
 asked_of (task.Id i) = id (id_raw i)
 asked_of (task.Name n) = name (name_raw n)
 asked_of (task.Cut o) = cut o
@@ -39,6 +42,7 @@ asked_of task.Groups = groups
 abbrev pub file_of : Task → Option (List ℕ)
 file_of (task.Report bus file) = file
 file_of (task.Nodes bus file) = file
+file_of (task.Answer n address bus file) = file
 file_of (task.Id i) = None
 file_of (task.Name n) = None
 file_of (task.Cut o) = None
@@ -48,6 +52,7 @@ file_of task.Groups = None
 abbrev pub IsInRange : Task → Type 0
 IsInRange (task.Report bus file) = ForSome bus IsBusName
 IsInRange (task.Nodes bus file) = ForSome bus IsBusName
+IsInRange (task.Answer n address bus file) = (name_raw n < 2 ^ 64) × IsAddress address × ForSome bus IsBusName
 IsInRange (task.Id i) = id_raw i < 2 ^ 29
 IsInRange (task.Name n) = name_raw n < 2 ^ 64
 IsInRange (task.Cut o) = IsOutgoing o
@@ -105,10 +110,17 @@ IsCutAnswer source pgn at bus hex r =
     (IsChecked (IsMomentText at) argument.At (IsChecked (IsBusName bus) argument.Bus (IsChecked (IsPayloadText hex) argument.Hex
     (IsChecked (EndsInTime (outgoing_of source pgn at bus hex)) argument.At (IsTask (cut (outgoing_of source pgn at bus hex)))))))) r
 
+-- `answer`
+abbrev pub IsNodeAnswer : Text → Text → Option Text → Option Text → Answer → Type 0
+IsNodeAnswer node address bus file r =
+    IsChecked (IsNameText node) argument.Name (IsChecked (IsNumberBelow 254 address) argument.Address
+    (IsBusChecked bus (IsTask (answer (digits_value 16 node) (digits_value 10 address) bus file)))) r
+
 -- the values are checked in the order of the words, and the first wrong one is the answer
 abbrev pub IsAnswer : CommandWords → Answer → Type 0
 IsAnswer (written.report bus file) r = IsBusChecked bus (IsTask (report bus file)) r
 IsAnswer (written.nodes bus file) r = IsBusChecked bus (IsTask (nodes bus file)) r
+IsAnswer (written.answer node address bus file) r = IsNodeAnswer node address bus file r
 IsAnswer (written.id hex) r = IsChecked (IsIdText hex) argument.Hex (IsTask (id (digits_value 16 hex))) r
 IsAnswer (written.name hex) r = IsChecked (IsNameText hex) argument.Hex (IsTask (name (digits_value 16 hex))) r
 IsAnswer (written.cut source pgn at bus hex) r = IsCutAnswer source pgn at bus hex r

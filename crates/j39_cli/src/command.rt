@@ -5,7 +5,7 @@ ghost use Rattle.clap.specs.declared.builder.command.Command.TheViews.{out-Comma
 ghost use Rattle.j39_cli.specs.Command.{bare_app, line_app};
 ghost use Rattle.j39_cli.specs.Rules.{option_rule, value_rule};
 
-use crate::{cut, groups, id, name, nodes, report};
+use crate::{answer, cut, groups, id, name, nodes, report};
 use clap::{Arg, Command};
 use std::alloc::{AllocError, Global};
 
@@ -17,6 +17,7 @@ Examples:
   j1939 report trip.log
   candump -L can0 | j1939 report
   j1939 nodes trip.log
+  j1939 answer --name 8000000001401234 --address 0 trip.log
   j1939 id 18EEFF00
   j1939 name 8000000001401234
   j1939 cut --source 0 --pgn 65260 --at 2.000000 --bus can0 \\
@@ -37,11 +38,13 @@ pub(crate) fn line<'a>(alloc: Global) -> Result<Command<'a>, AllocError>
     let name = name::command(alloc)?;
     let cut = cut::command(alloc)?;
     let nodes = nodes::command(alloc)?;
+    let answer = answer::command(alloc)?;
     let line = with_command(bare(alloc), report)?;
     let line = with_command(line, id)?;
     let line = with_command(line, name)?;
     let line = with_command(line, cut)?;
     let line = with_command(line, nodes)?;
+    let line = with_command(line, answer)?;
     with_command(line, groups::command(alloc))
 }
 

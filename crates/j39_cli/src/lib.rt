@@ -1,6 +1,7 @@
 //! The program `j1939`: its command line, and the tasks that it performs.
 #![tactic(auto)]
 
+mod answer;
 mod command;
 mod cut;
 mod cut_values;
@@ -21,7 +22,7 @@ mod words;
 pub use outgoing::Outgoing;
 pub use performing::perform;
 pub use refusal::{refuse, unopened};
-pub use task::{Argument, ParseFault, Task, WordText};
+pub use task::{Address, Argument, ParseFault, Task, WordText};
 pub use words::parse;
 
 #[cfg(test)]

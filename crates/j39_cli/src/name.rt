@@ -68,7 +68,7 @@ pub(crate) fn task<'a>(alloc: Global, given: &ArgMatches<'a>) -> Result<Task<'a>
 
 /// The NAME of 16 hex digits of either case; `None` for other text.
 #[tactic(auto, using(crate::proofs::DigitLemmas::sixteen_digits))]
-fn name_of(text: &str) -> Option<Name>
+pub(crate) fn name_of(text: &str) -> Option<Name>
     ensures known { IsSome result ↔ IsNameText text.now }
     ensures value { IfSome result (λ name. name_raw name ≡ digits_value 16 text.now) }
 {

@@ -3,7 +3,7 @@ ghost use Rattle.std.specs.Prelude.{◌≡◌, ◌⊎◌, false};
 ghost use Rattle.j39_cli.specs.Perform.{IsPerformed, reads_log};
 ghost use Rattle.j39_cli.specs.Turn.{turn};
 
-use crate::{Task, cut, groups, id, name, nodes, report};
+use crate::{Task, answer, cut, groups, id, name, nodes, report};
 use j39_frame::{Sink, Source};
 use std::alloc::Global;
 
@@ -32,6 +32,9 @@ pub fn perform<R: Source, W: Sink, E: Sink>(
     match task {
         Task::Report(bus, _) => report::perform(alloc, bus, source, sink, err),
         Task::Nodes(bus, _) => nodes::perform(bus, source, sink, err),
+        Task::Answer(name, address, bus, _) => {
+            answer::perform(alloc, *name, address, bus, source, sink, err)
+        }
         Task::Id(id) => id::perform(*id, sink, err),
         Task::Name(name) => name::perform(*name, sink, err),
         Task::Cut(outgoing) => cut::perform(outgoing, sink, err),

@@ -1,10 +1,11 @@
 //! What a command line asks for, and why it may ask for nothing.
-ghost use Rattle.std.specs.Prelude.{◌≡◌, Some, option_map};
+ghost use Rattle.std.specs.Prelude.{◌≡◌, ◌↔◌, IfSome, IsSome, Some, option_map};
+ghost use Rattle.j39_frame.specs.Address.{IsAddress};
 ghost use Rattle.j39_cli.specs.Task.{argument_text, file_of};
 
 use crate::Outgoing;
 use j39_address::Name;
-use j39_frame::{Bus, Id};
+use j39_frame::{Bus, Id, is_address};
 use std::fmt;
 use std::marker::Model;
 use thiserror::Error;
@@ -39,6 +40,45 @@ impl<'a> WordText<'a> {
     }
 }
 
+/// An address of a controller, 0 to 253.
+#[derive(Debug, Drop)]
+pub struct Address {
+    number: u8,
+}
+
+impl Model for Address {
+    ghost use Rattle.std.specs.Prelude.{ℕ};
+    ghost use Rattle.j39_frame.specs.Address.{IsAddress};
+
+    ghost Value = { ℕ };
+
+    ghost view = { λ address. address.number };
+
+    ghost invariant = { λ address. IsAddress address.number };
+}
+
+impl Address {
+    /// The address of this number; `None` from 254 up.
+    pub fn new(number: u8) -> Option<Address>
+        ensures known { IsSome result ↔ IsAddress number }
+        ensures value { IfSome result (λ address. address ≡ number) }
+    {
+        if is_address(number) {
+            Some(Address { number })
+        } else {
+            None
+        }
+    }
+
+    /// Its number, 0 to 253.
+    pub fn number(&self) -> u8
+        ensures value { result ≡ self.now }
+        ensures is_address { IsAddress self.now }
+    {
+        self.number
+    }
+}
+
 /// A command with its values.
 #[derive(Debug, Drop)]
 pub enum Task<'a> {
@@ -46,6 +86,9 @@ pub enum Task<'a> {
     Report(Option<Bus>, Option<WordText<'a>>),
     /// Who holds which address after a log: the bus to read, and FILE, as of a report.
     Nodes(Option<Bus>, Option<WordText<'a>>),
+    /// What a node of this NAME, which starts with this address, would send: with the bus to read, and FILE, as of
+    /// a report.
+    Answer(Name, Address, Option<Bus>, Option<WordText<'a>>),
     /// The fields of an identifier.
     Id(Id),
     /// The fields of a NAME.
@@ -66,6 +109,8 @@ impl<'a> Task<'a> {
             Task::Report(_, None) => None,
             Task::Nodes(_, Some(file)) => Some(file.as_str()),
             Task::Nodes(_, None) => None,
+            Task::Answer(_, _, _, Some(file)) => Some(file.as_str()),
+            Task::Answer(_, _, _, None) => None,
             Task::Id(_) => None,
             Task::Name(_) => None,
             Task::Cut(_) => None,

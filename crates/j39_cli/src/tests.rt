@@ -21,6 +21,10 @@ fn told(alloc: Global, task: &Task<'_>) -> Result<String, AllocError> {
     match task {
         Task::Report(bus, file) => told_of_log(alloc, "report", bus, file),
         Task::Nodes(bus, file) => told_of_log(alloc, "nodes", bus, file),
+        Task::Answer(name, address, bus, file) => {
+            let command = format!(in alloc; "answer {:016X} {}", name.raw(), address.number())?;
+            told_of_log(alloc, command.as_str(), bus, file)
+        }
         Task::Id(id) => format!(in alloc; "id {:08X}", id.raw()),
         Task::Name(name) => format!(in alloc; "name {:016X}", name.raw()),
         Task::Cut(_) => format!(in alloc; "cut"),
@@ -134,8 +138,47 @@ fn reads_name(rt: HostRuntime) -> Result<(), Fail> {
 }
 
 #[test]
+fn reads_answer(rt: HostRuntime) -> Result<(), Fail> {
+    let values = [
+        ("8000000001401234", "0", "answer 8000000001401234 0 - -"),
+        (
+            "ffffFFFFffffFFFF",
+            "00253",
+            "answer FFFFFFFFFFFFFFFF 253 - -",
+        ),
+        ("8000000001401234", "254", "bad --address"),
+        ("8000000001401234", "0x0", "bad --address"),
+        ("800000000140123", "0", "bad --name"),
+        // Of two that are wrong, the first.
+        ("8000", "254", "bad --name"),
+    ];
+    for (name, address, want) in values {
+        let words = ["j1939", "answer", "--name", name, "--address", address];
+        let told = answer(rt.alloc(), &words)?;
+        assert_eq!(rt; told.as_str(), want);
+    }
+    let words = [
+        "j1939",
+        "answer",
+        "--name",
+        "8000000001401234",
+        "--address",
+        "7",
+        "--bus",
+        "can0",
+        "trip.log",
+    ];
+    let told = answer(rt.alloc(), &words)?;
+    assert_eq!(rt; told.as_str(), "answer 8000000001401234 7 can0 trip.log");
+    let told = answer(rt.alloc(), &words[..8])?;
+    assert_eq!(rt; told.as_str(), "answer 8000000001401234 7 can0 -");
+    assert_eq!(rt; parse(rt.alloc(), &words)?.file(), Some("trip.log"));
+    Ok(())
+}
+
+#[test]
 fn reads_other_words(rt: HostRuntime) -> Result<(), Fail> {
-    let lines: [(&[&str], &str); 15] = [
+    let lines: [(&[&str], &str); 16] = [
         (&["j1939", "groups"], "groups"),
         (&["j1939", "groups", "61444"], "usage"),
         (&[], "usage"),
@@ -144,6 +187,7 @@ fn reads_other_words(rt: HostRuntime) -> Result<(), Fail> {
         (&["j1939", "nodes", "--address", "9"], "usage"),
         (&["j1939", "id"], "usage"),
         (&["j1939", "name"], "usage"),
+        (&["j1939", "answer", "--address", "0"], "usage"),
         (&["j1939", "report", "--speed", "9"], "usage"),
         (&["j1939", "--help"], "help"),
         (&["j1939", "report", "--help"], "help"),
@@ -218,14 +262,14 @@ fn refuses(rt: HostRuntime) -> Result<(), Fail> {
 
 #[test]
 fn says_how_it_is_used(rt: HostRuntime) -> Result<(), Fail> {
-    let lines: [(&[&str], u8, &str, &str); 5] = [
+    let lines: [(&[&str], u8, &str, &str); 6] = [
         (&["j1939", "--version"], 0, "j1939 0.1.0\n", ""),
         (&["j1939"], 2, "", "error: 'j1939' requires a subcommand"),
         (
-            &["j1939", "answer"],
+            &["j1939", "frobnicate"],
             2,
             "",
-            "error: unrecognized subcommand 'answer'",
+            "error: unrecognized subcommand 'frobnicate'",
         ),
         (
             &["j1939", "--help"],
@@ -237,6 +281,12 @@ fn says_how_it_is_used(rt: HostRuntime) -> Result<(), Fail> {
             &["j1939", "report", "--help"],
             0,
             "Writes one line for each parameter value in a log:",
+            "",
+        ),
+        (
+            &["j1939", "answer", "--help"],
+            0,
+            "Writes the frames that a device with this NAME would have sent",
             "",
         ),
     ];

@@ -15,6 +15,9 @@ pub mod ReportLemmas
 pub mod LineLemmas
 pub mod ReportAccount
 pub mod NodeLemmas
+pub mod AnswerLemmas
+pub mod AnswerAccount
+pub mod AnswerExisting
 pub mod RunLemmas
 pub mod StopLemmas
 pub mod PieceLemmas

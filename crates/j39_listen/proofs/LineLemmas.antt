@@ -10,7 +10,7 @@ use Rattle.j39_frame.specs.Spelled.{Spelled, frame, other, unread, blank}
 use Rattle.j39_frame.proofs.BusLemmas.{bus_of-frame, bus_of-kept}
 use Rattle.j39_listen.specs.AccountSteps.{Meets, Stops}
 use Rattle.j39_listen.specs.Counting.{capped}
-use Rattle.j39_listen.specs.LineSteps.{MeetsLine, StopsLine, tally_of}
+use Rattle.j39_listen.specs.LineSteps.{IsNamed, MeetsLine, StopsLine, tally_of}
 use Rattle.j39_listen.specs.Output.{Output}
 use Rattle.j39_listen.specs.declared.counts.Tally.{Tally}
 
@@ -40,27 +40,42 @@ line_tally bus spelled f o u is_f is_o is_u small_f small_o small_u =
 
 -- ---- a frame of the run's bus
 
-on_bus : (name : List ℕ) (f : FrameRecord) (bus : Option (List ℕ)) → bytes_eq name (unwrap_or bus name) ≡ true → frames_of bus (frame name f ∷ []) ≡ f ∷ []
-on_bus name f bus on = ap (λ (b : Option (List ℕ)). filter_map (frame_on b) (frame name f ∷ [])) (bus_of-frame bus name f) ∙ rw on refl
+-- with a frame the bus is known
+with_frame : (name : List ℕ) (f : FrameRecord) (bus : Option (List ℕ)) (own : List ℕ) → own ≡ unwrap_or bus name → bus_of bus (frame name f ∷ []) ≡ Some own
+with_frame name f bus own is = bus_of-frame bus name f ∙ ap (λ (b : List ℕ). Some b) (sym is)
 
-pub meets_frame : {A : Type 0} (has_met : A → List FrameRecord → Output → Type 0) (name : List ℕ) (f : FrameRecord) (bus bus' : Option (List ℕ)) (a a' : A) (old new : Option (List ℕ))
-    → bus' ≡ Some (unwrap_or bus name) → bytes_eq name (unwrap_or bus name) ≡ true → Meets has_met a a' (f ∷ []) old new
-    → MeetsLine has_met (frame name f) bus bus' a a' (tally 1 0 0) old new
-meets_frame has_met name f bus bus' a a' old new is on meets =
-    let bus_is = bus_of-frame bus name f in
-    let frames_are = on_bus name f bus on in
+on_bus : (name : List ℕ) (f : FrameRecord) (bus : Option (List ℕ)) (own : List ℕ) → own ≡ unwrap_or bus name → bytes_eq name own ≡ true → frames_of bus (frame name f ∷ []) ≡ f ∷ []
+on_bus name f bus own is on =
+    ap (λ (b : Option (List ℕ)). filter_map (frame_on b) (frame name f ∷ [])) (with_frame name f bus own is) ∙ rw on refl
+
+its_name : (name : List ℕ) (f : FrameRecord) (bus : Option (List ℕ)) (own given : List ℕ) → own ≡ unwrap_or bus name → IsNamed (bus_of bus (frame name f ∷ [])) given → own ≡ given
+its_name name f bus own given is named = sym (ap (λ (o : Option (List ℕ)). unwrap_or o given) (with_frame name f bus own is)) ∙ named
+
+pub known_bus : (bus : Option (List ℕ)) (own name : List ℕ) → bus ≡ Some own → bus ≡ Some name → own ≡ name
+known_bus bus own name is as_named = ap (λ (o : Option (List ℕ)). unwrap_or o name) (sym is ∙ as_named)
+
+pub meets_frame : {A : Type 0} (has_met : List ℕ → A → List FrameRecord → Output → Type 0) (name : List ℕ) (f : FrameRecord) (bus : Option (List ℕ)) (own : List ℕ) (a a' : A) (old new : Option (List ℕ))
+    → own ≡ unwrap_or bus name → bytes_eq name own ≡ true → Meets (has_met own) a a' (f ∷ []) old new
+    → MeetsLine has_met (frame name f) bus (Some own) a a' (tally 1 0 0) old new
+meets_frame has_met name f bus own a a' old new is on meets =
+    let bus_is = with_frame name f bus own is in
+    let frames_are = on_bus name f bus own is on in
     let others_are : others_of bus (frame name f ∷ []) ≡ 0 =
     ap (λ (b : Option (List ℕ)). count_by (is_other_on b) (frame name f ∷ [])) bus_is ∙ rw on refl in
     record {
-      bus_is = is ∙ sym bus_is;
+      bus_is = sym bus_is;
       met_is = line_tally bus (frame name f ∷ []) 1 0 0 (ap length frames_are) others_are refl (omega arith) (omega arith) (omega arith);
-      meets = subst (λ (fs : List FrameRecord). Meets has_met a a' fs old new) (sym frames_are) meets;
+      meets = λ given named.
+          subst (λ (b : List ℕ). Meets (has_met b) a a' (frames_of bus (frame name f ∷ [])) old new) (its_name name f bus own given is named)
+          (subst (λ (fs : List FrameRecord). Meets (has_met own) a a' fs old new) (sym frames_are) meets);
     }
 
-pub stops_frame : {A : Type 0} (has_met : A → List FrameRecord → Output → Type 0) (makes : List FrameRecord → Output → Type 0) (name : List ℕ) (f : FrameRecord) (bus : Option (List ℕ)) (a : A) (old new : Option (List ℕ))
-    → bytes_eq name (unwrap_or bus name) ≡ true → Stops has_met makes a (f ∷ []) old new → StopsLine has_met makes (frame name f) bus a old new
-stops_frame has_met makes name f bus a old new on stops =
-    subst (λ (fs : List FrameRecord). Stops has_met makes a fs old new) (sym (on_bus name f bus on)) stops
+pub stops_frame : {A : Type 0} (has_met : List ℕ → A → List FrameRecord → Output → Type 0) (makes : List ℕ → List FrameRecord → Output → Type 0) (name : List ℕ) (f : FrameRecord) (bus : Option (List ℕ))
+    (own : List ℕ) (a : A) (old new : Option (List ℕ)) → own ≡ unwrap_or bus name → bytes_eq name own ≡ true → Stops (has_met own) (makes own) a (f ∷ []) old new
+    → StopsLine has_met makes (frame name f) bus a old new
+stops_frame has_met makes name f bus own a old new is on stops = λ given named.
+    subst (λ (b : List ℕ). Stops (has_met b) (makes b) a (frames_of bus (frame name f ∷ [])) old new) (its_name name f bus own given is named)
+    (subst (λ (fs : List FrameRecord). Stops (has_met own) (makes own) a fs old new) (sym (on_bus name f bus own is on)) stops)
 
 -- ---- a line that spells none
 
@@ -73,31 +88,30 @@ meets_nothing has_met a held = λ F before met. record {
   written = Appends-nil held;
 }
 
-meets_none : {A : Type 0} (has_met : A → List FrameRecord → Output → Type 0) (s : Spelled) (bus bus' : Option (List ℕ)) (a : A) (o u : ℕ) (held : Option (List ℕ))
+meets_none : {A : Type 0} (has_met : List ℕ → A → List FrameRecord → Output → Type 0) (s : Spelled) (bus bus' : Option (List ℕ)) (a : A) (o u : ℕ) (held : Option (List ℕ))
     → bus' ≡ bus_of bus (s ∷ []) → frames_of bus (s ∷ []) ≡ [] → others_of bus (s ∷ []) ≡ o → unread_of (s ∷ []) ≡ u → o < 2 → u < 2
     → MeetsLine has_met s bus bus' a a (tally 0 o u) held held
 meets_none has_met s bus bus' a o u held is none is_o is_u small_o small_u = record {
   bus_is = is;
   met_is = line_tally bus (s ∷ []) 0 o u (ap length none) is_o is_u (omega arith) small_o small_u;
-  meets = subst (λ (fs : List FrameRecord). Meets has_met a a fs held held) (sym none) (meets_nothing has_met a held);
+  meets = λ own named. subst (λ (fs : List FrameRecord). Meets (has_met own) a a fs held held) (sym none) (meets_nothing (has_met own) a held);
 }
 
-pub meets_frame_elsewhere : {A : Type 0} (has_met : A → List FrameRecord → Output → Type 0) (name : List ℕ) (f : FrameRecord) (bus bus' : Option (List ℕ)) (a : A) (held : Option (List ℕ))
-    → bus' ≡ Some (unwrap_or bus name) → bytes_eq name (unwrap_or bus name) ≡ false
-    → MeetsLine has_met (frame name f) bus bus' a a (tally 0 1 0) held held
-meets_frame_elsewhere has_met name f bus bus' a held is off =
-    let bus_is = bus_of-frame bus name f in
+pub meets_frame_elsewhere : {A : Type 0} (has_met : List ℕ → A → List FrameRecord → Output → Type 0) (name : List ℕ) (f : FrameRecord) (bus : Option (List ℕ)) (own : List ℕ) (a : A) (held : Option (List ℕ))
+    → own ≡ unwrap_or bus name → bytes_eq name own ≡ false → MeetsLine has_met (frame name f) bus (Some own) a a (tally 0 1 0) held held
+meets_frame_elsewhere has_met name f bus own a held is off =
+    let bus_is = with_frame name f bus own is in
     let none : frames_of bus (frame name f ∷ []) ≡ [] =
     ap (λ (b : Option (List ℕ)). filter_map (frame_on b) (frame name f ∷ [])) bus_is ∙ rw off refl in
     let one : others_of bus (frame name f ∷ []) ≡ 1 =
     ap (λ (b : Option (List ℕ)). count_by (is_other_on b) (frame name f ∷ [])) bus_is ∙ rw off refl in
-    meets_none has_met (frame name f) bus bus' a 1 0 held (is ∙ sym bus_is) none one refl (omega arith) (omega arith)
+    meets_none has_met (frame name f) bus (Some own) a 1 0 held (sym bus_is) none one refl (omega arith) (omega arith)
 
-pub meets_other : {A : Type 0} (has_met : A → List FrameRecord → Output → Type 0) (bus : Option (List ℕ)) (a : A) (held : Option (List ℕ)) → MeetsLine has_met other bus bus a a (tally 0 1 0) held held
+pub meets_other : {A : Type 0} (has_met : List ℕ → A → List FrameRecord → Output → Type 0) (bus : Option (List ℕ)) (a : A) (held : Option (List ℕ)) → MeetsLine has_met other bus bus a a (tally 0 1 0) held held
 meets_other has_met bus a held = meets_none has_met other bus bus a 1 0 held (bus_of-kept bus other refl) refl refl refl (omega arith) (omega arith)
 
-pub meets_unread : {A : Type 0} (has_met : A → List FrameRecord → Output → Type 0) (bus : Option (List ℕ)) (a : A) (held : Option (List ℕ)) → MeetsLine has_met unread bus bus a a (tally 0 0 1) held held
+pub meets_unread : {A : Type 0} (has_met : List ℕ → A → List FrameRecord → Output → Type 0) (bus : Option (List ℕ)) (a : A) (held : Option (List ℕ)) → MeetsLine has_met unread bus bus a a (tally 0 0 1) held held
 meets_unread has_met bus a held = meets_none has_met unread bus bus a 0 1 held (bus_of-kept bus unread refl) refl refl refl (omega arith) (omega arith)
 
-pub meets_blank : {A : Type 0} (has_met : A → List FrameRecord → Output → Type 0) (bus : Option (List ℕ)) (a : A) (held : Option (List ℕ)) → MeetsLine has_met blank bus bus a a (tally 0 0 0) held held
+pub meets_blank : {A : Type 0} (has_met : List ℕ → A → List FrameRecord → Output → Type 0) (bus : Option (List ℕ)) (a : A) (held : Option (List ℕ)) → MeetsLine has_met blank bus bus a a (tally 0 0 0) held held
 meets_blank has_met bus a held = meets_none has_met blank bus bus a 0 0 held (bus_of-kept bus blank refl) refl refl refl (omega arith) (omega arith)

@@ -144,18 +144,18 @@ front_in_nodes table n lines old mid new below h front F nodes knows are =
 
 -- ---- the account
 
-pub nodes_begin : Begins HasNoted MakesNodes
-nodes_begin = λ a F G before all has made.
+pub nodes_begin : Begins (λ bus. HasNoted) MakesNodes
+nodes_begin = λ bus a F G before all has made.
     (all.text, ap (λ t. t ++ all.text) (sym (ap (λ (o : Output). o.text) has.nothing ∙ nodes_text-none)))
 
 pub nodes_one : MakesOne MakesNodes
-nodes_one = λ F x y (xs, are_x, is_x) (ys, are_y, is_y).
+nodes_one = λ bus F x y (xs, are_x, is_x) (ys, are_y, is_y).
     ap (λ (o : Output). o.text) is_x ∙ ap nodes_text (one_list_of_nodes F xs ys are_x are_y) ∙ sym (ap (λ (o : Output). o.text) is_y)
 
 pub nodes_close : (a : NodeList) (lines : ℕ) (old new : Option (List ℕ)) → lines < 2 ^ 64
     → ((F : List FrameRecord) → Knows a.claims F → (nodes : List Node) × AreNodes F nodes × (lines ≡ length nodes) × Appends old new (nodes_text nodes))
-    → Closes HasNoted MakesNodes a (record { messages = 0; lines = lines }) old new
-nodes_close a lines old new fits puts = λ F before has.
+    → Closes (λ bus. HasNoted) MakesNodes a (record { messages = 0; lines = lines }) old new
+nodes_close a lines old new fits puts = λ bus F before has.
     let p = puts F has.knows in
     record {
       after = nodes_of p.0;
@@ -169,8 +169,8 @@ nodes_close a lines old new fits puts = λ F before has.
 
 pub nodes_stop : (a : NodeList) (old new : Option (List ℕ))
     → ((F : List FrameRecord) (nodes : List Node) → Knows a.claims F → AreNodes F nodes → AppendsFront old new (nodes_text nodes))
-    → StopsAtEnd HasNoted MakesNodes a old new
-nodes_stop a old new stops = λ F before all has (nodes, are, is).
+    → StopsAtEnd (λ bus. HasNoted) MakesNodes a old new
+nodes_stop a old new stops = λ bus F before all has (nodes, are, is).
     record {
       rest = nodes_text nodes;
       all_is = ap (λ (o : Output). o.text) is ∙ ap (λ t. t ++ nodes_text nodes) (sym (ap (λ (o : Output). o.text) has.nothing ∙ nodes_text-none));

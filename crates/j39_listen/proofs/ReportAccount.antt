@@ -23,7 +23,7 @@ use Rattle.j39_listen.proofs.Unique.{heard_below_unique}
 report_text-append : (hs ks : List Hearing) → report_text (hs ++ ks) ≡ report_text hs ++ report_text ks
 report_text-append hs ks = ap text_of (flat_map-append entries_of hs ks) ∙ text_of-append (flat_map entries_of hs) (flat_map entries_of ks)
 
-same_made : (a b : Made) → a.messages ≡ b.messages → a.lines ≡ b.lines → a ≡ b
+pub same_made : (a b : Made) → a.messages ≡ b.messages → a.lines ≡ b.lines → a ≡ b
 same_made a b m l = λ i. record { messages = m i; lines = l i }
 
 made_of-append : (hs ks : List Hearing) → made_of (report_of (hs ++ ks)) ≡ made_sum (made_of (report_of hs)) (made_of (report_of ks))
@@ -113,31 +113,31 @@ heard_first F G all first whole part =
     (b.1, b.3 ∙ ap (λ (x : List Hearing). x ++ b.1) same)
 
 -- the texts of what comes first and of the rest
-texts : (F G : List FrameRecord) (first : List Hearing) (before all : Output) → AreHeard F first → before ≡ report_of first → MakesReport (F ++ G) all
+texts : (bus : List ℕ) (F G : List FrameRecord) (first : List Hearing) (before all : Output) → AreHeard F first → before ≡ report_of first → MakesReport bus (F ++ G) all
     → (rest : List Hearing) × (all.text ≡ before.text ++ report_text rest)
-texts F G first before all are is (heard, are_all, all_is) =
+texts bus F G first before all are is (heard, are_all, all_is) =
     let split = heard_first F G heard first are_all are in (
       split.0,
       ap (λ (o : Output). o.text) all_is ∙ ap report_text split.1 ∙ report_text-append first split.0 ∙ ap (λ t. t ++ report_text split.0) (sym (ap (λ (o : Output). o.text) is)),
     )
 
-pub report_begins : Begins HasReported MakesReport
-report_begins = λ r F G before all has made.
-    let t = texts F G has.heard before all has.are_heard has.output_is made in
+pub report_begins : Begins (λ bus. HasReported) MakesReport
+report_begins = λ bus r F G before all has made.
+    let t = texts bus F G has.heard before all has.are_heard has.output_is made in
     (report_text t.0, t.1)
 
 pub report_one : MakesOne MakesReport
-report_one = λ F x y (hs, are_x, is_x) (ks, are_y, is_y).
+report_one = λ bus F x y (hs, are_x, is_x) (ks, are_y, is_y).
     ap (λ (o : Output). o.text) is_x ∙ ap report_text (heard_below_unique F (length F) hs ks are_x are_y) ∙ sym (ap (λ (o : Output). o.text) is_y)
 
 -- a fault of the writer at a frame
 pub report_stops : (r : Report) (f : FrameRecord) (old new : Option (List ℕ)) → ((F : List FrameRecord) → Hears r.listener F → StopsFrame F f old new)
-    → Stops HasReported MakesReport r (f ∷ []) old new
-report_stops r f old new stops = λ F G before all has made.
+    → (bus : List ℕ) → Stops HasReported (MakesReport bus) r (f ∷ []) old new
+report_stops r f old new stops bus = λ F G before all has made.
     let s = stops F has.hears in
     let more = or_none s.heard in
     let first = has.heard ++ more in
-    let t = texts (F ++ f ∷ []) G first (report_of first) all (heard_more F f has.heard s.heard has.are_heard s.heard_at) refl made in
+    let t = texts bus (F ++ f ∷ []) G first (report_of first) all (heard_more F f has.heard s.heard has.are_heard s.heard_at) refl made in
     let is : all.text ≡ before.text ++ (report_text more ++ report_text t.0) =
     t.1 ∙ ap (λ x. x ++ report_text t.0) (report_text-append has.heard more) ∙ append_assoc (report_text has.heard) (report_text more) (report_text t.0)
     ∙ ap (λ x. x ++ (report_text more ++ report_text t.0)) (sym (ap (λ (o : Output). o.text) has.output_is)) in

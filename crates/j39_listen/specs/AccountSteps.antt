@@ -40,19 +40,20 @@ pub record MakesMore (makes : List FrameRecord → Output → Type 0) (F : List 
   pub text_is : after.text ≡ before ++ more
   pub written : Appends old new more
 
-abbrev pub Closes : {A : Type 0} → (A → List FrameRecord → Output → Type 0) → (List FrameRecord → Output → Type 0) → A → Made → Option (List ℕ) → Option (List ℕ) → Type 0
-Closes has_met makes a made old new = (F : List FrameRecord) (before : Output) → has_met a F before → MakesMore makes F before.text made old new
+abbrev pub Closes : {A : Type 0} → (List ℕ → A → List FrameRecord → Output → Type 0) → (List ℕ → List FrameRecord → Output → Type 0) → A → Made → Option (List ℕ) → Option (List ℕ) → Type 0
+Closes has_met makes a made old new =
+    (bus : List ℕ) (F : List FrameRecord) (before : Output) → has_met bus a F before → MakesMore (makes bus) F before.text made old new
 
 -- it stops at the end of the frames
-abbrev pub StopsAtEnd : {A : Type 0} → (A → List FrameRecord → Output → Type 0) → (List FrameRecord → Output → Type 0) → A → Option (List ℕ) → Option (List ℕ) → Type 0
+abbrev pub StopsAtEnd : {A : Type 0} → (List ℕ → A → List FrameRecord → Output → Type 0) → (List ℕ → List FrameRecord → Output → Type 0) → A → Option (List ℕ) → Option (List ℕ) → Type 0
 StopsAtEnd has_met makes a old new =
-    (F : List FrameRecord) (before all : Output) → has_met a F before → makes F all → WritesOn before.text all.text old new
+    (bus : List ℕ) (F : List FrameRecord) (before all : Output) → has_met bus a F before → makes bus F all → WritesOn before.text all.text old new
 
 -- what is made of some frames begins what is made of more
-abbrev pub Begins : {A : Type 0} → (A → List FrameRecord → Output → Type 0) → (List FrameRecord → Output → Type 0) → Type 0
+abbrev pub Begins : {A : Type 0} → (List ℕ → A → List FrameRecord → Output → Type 0) → (List ℕ → List FrameRecord → Output → Type 0) → Type 0
 Begins {A} has_met makes =
-    (a : A) (F G : List FrameRecord) (before all : Output) → has_met a F before → makes (F ++ G) all → (rest : List ℕ) × (all.text ≡ before.text ++ rest)
+    (bus : List ℕ) (a : A) (F G : List FrameRecord) (before all : Output) → has_met bus a F before → makes bus (F ++ G) all → (rest : List ℕ) × (all.text ≡ before.text ++ rest)
 
 -- one text is made of some frames
-abbrev pub MakesOne : (List FrameRecord → Output → Type 0) → Type 0
-MakesOne makes = (F : List FrameRecord) (x y : Output) → makes F x → makes F y → x.text ≡ y.text
+abbrev pub MakesOne : (List ℕ → List FrameRecord → Output → Type 0) → Type 0
+MakesOne makes = (bus : List ℕ) (F : List FrameRecord) (x y : Output) → makes bus F x → makes bus F y → x.text ≡ y.text

@@ -2,6 +2,7 @@ pub mod Heard
 pub mod Forgets
 pub mod Report
 pub mod Nodes
+pub mod Answers
 pub mod Output
 pub mod Published
 pub mod Loss
@@ -17,5 +18,6 @@ pub mod Fault
 pub mod AccountSteps
 pub mod ReportSteps
 pub mod NodeSteps
+pub mod AnswerSteps
 pub mod LineSteps
 pub mod PieceSteps

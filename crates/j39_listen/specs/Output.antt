@@ -1,9 +1,12 @@
 -- What is made of the frames of a log.
-use Rattle.std.specs.Prelude.{◌≡◌, ℕ, List, length}
+use Rattle.std.specs.Prelude.{◌≡◌, ℕ, List, [], length}
 use Rattle.std.specs.List.{flat_map}
 use Rattle.j39_frame.specs.Frame.{FrameRecord}
+use Rattle.j39_address.specs.Node.{Node}
+use Rattle.j39_listen.specs.Answers.{AreAnswers, sent_text}
 use Rattle.j39_listen.specs.Heard.{AreHeard, Hearing}
-use Rattle.j39_listen.specs.Nodes.{AreNodes, Node, nodes_text}
+use Rattle.j39_listen.specs.Nodes as nodes
+use Rattle.j39_listen.specs.Nodes.{AreNodes, nodes_text}
 use Rattle.j39_listen.specs.Report.{entries_of, report_text}
 
 -- a text, for so many messages, in so many lines
@@ -12,17 +15,30 @@ pub record Output : Type 0 where
   pub messages : ℕ
   pub lines : ℕ
 
+-- no text
+abbrev pub nothing : Output
+nothing = record { text = []; messages = 0; lines = 0 }
+
 abbrev pub report_of : List Hearing → Output
 report_of heard = record { text = report_text heard; messages = length heard; lines = length (flat_map entries_of heard) }
 
--- the report of what is heard in the frames
-abbrev pub MakesReport : List FrameRecord → Output → Type 0
-MakesReport F output = (heard : List Hearing) × AreHeard F heard × (output ≡ report_of heard)
+-- the report of what is heard in the frames, whatever their bus is called
+abbrev pub MakesReport : List ℕ → List FrameRecord → Output → Type 0
+MakesReport bus F output = (heard : List Hearing) × AreHeard F heard × (output ≡ report_of heard)
 
 -- no message counts
-abbrev pub nodes_of : List Node → Output
-nodes_of nodes = record { text = nodes_text nodes; messages = 0; lines = length nodes }
+abbrev pub nodes_of : List nodes.Node → Output
+nodes_of held = record { text = nodes_text held; messages = 0; lines = length held }
 
--- the nodes that hold an address after the frames
-abbrev pub MakesNodes : List FrameRecord → Output → Type 0
-MakesNodes F output = (nodes : List Node) × AreNodes F nodes × (output ≡ nodes_of nodes)
+-- the nodes that hold an address after the frames, whatever their bus is called
+abbrev pub MakesNodes : List ℕ → List FrameRecord → Output → Type 0
+MakesNodes bus F output = (held : List nodes.Node) × AreNodes F held × (output ≡ nodes_of held)
+
+-- a line for each frame that is sent
+abbrev pub answers_of : List ℕ → List Hearing → List FrameRecord → Output
+answers_of bus heard sent = record { text = sent_text bus sent; messages = length heard; lines = length sent }
+
+-- what a node sends on a bus of this name; each message counts that is heard there
+abbrev pub MakesAnswers : Node → List ℕ → List FrameRecord → Output → Type 0
+MakesAnswers node bus F output =
+    (heard : List Hearing) × (sent : List FrameRecord) × AreHeard F heard × AreAnswers node F sent × (output ≡ answers_of bus heard sent)

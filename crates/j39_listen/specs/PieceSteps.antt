@@ -9,44 +9,49 @@ use Rattle.j39_frame.specs.Spelled.{Spelled, Spells}
 use Rattle.j39_frame.specs.Splitter.{HasBegun, EndsLine}
 use Rattle.j39_frame.specs.declared.splitter.Splitter.{Splitter}
 use Rattle.j39_listen.specs.Counting.{counts_of}
-use Rattle.j39_listen.specs.LineSteps.{MeetsLine, StopsLine, sum_of, tally_of}
+use Rattle.j39_listen.specs.LineSteps.{IsNamed, MeetsLine, StopsLine, sum_of, tally_of}
 use Rattle.j39_listen.specs.Output.{Output}
+use Rattle.j39_listen.specs.Run.{run_bus}
 use Rattle.j39_listen.specs.declared.counts.Counts.{Counts}
 use Rattle.j39_listen.specs.declared.counts.Tally.{Tally}
 use Rattle.j39_listen.specs.declared.pieces.Pieces.{Pieces}
 use Rattle.j39_listen.specs.declared.progress.Progress.{Progress}
 
 -- what a line spells was met, and what it counts for goes to what was counted so far
-pub record ReadsLine {A : Type 0} (has_met : A → List FrameRecord → Output → Type 0) (s : Spelled) (p p' : Progress A) (old new : Option (List ℕ)) : Type 0 where
+pub record ReadsLine {A : Type 0} (has_met : List ℕ → A → List FrameRecord → Output → Type 0) (s : Spelled) (p p' : Progress A) (old new : Option (List ℕ)) : Type 0 where
   pub met : Tally
   pub meets : MeetsLine has_met s p.bus p'.bus p.account p'.account met old new
   pub tally_is : p'.tally ≡ sum_of p.tally met
 
 -- a fault of the writer in what a line spells
-abbrev pub StopsAt : {A : Type 0} → (A → List FrameRecord → Output → Type 0) → (List FrameRecord → Output → Type 0) → Spelled → Progress A → Option (List ℕ) → Option (List ℕ) → Type 0
+abbrev pub StopsAt : {A : Type 0} → (List ℕ → A → List FrameRecord → Output → Type 0) → (List ℕ → List FrameRecord → Output → Type 0) → Spelled → Progress A → Option (List ℕ) → Option (List ℕ) → Type 0
 StopsAt has_met makes s p old new = StopsLine has_met makes s p.bus p.account old new
 
--- what the lines spell was met, and what is made of their frames so far was written
-pub record HasMetAll {A : Type 0} (has_met : A → List FrameRecord → Output → Type 0) (given : Option (List ℕ)) (spelled : List Spelled) (p : Progress A) (old new : Option (List ℕ)) : Type 0 where
-  pub bus_is : p.bus ≡ bus_of given spelled
-  pub tally_is : p.tally ≡ tally_of given spelled
+-- so much is made of the frames so far, and was written
+pub record HasMade {A : Type 0} (has_met : A → List FrameRecord → Output → Type 0) (a : A) (F : List FrameRecord) (old new : Option (List ℕ)) : Type 0 where
   pub output : Output
-  pub met : has_met p.account (frames_of given spelled) output
+  pub met : has_met a F output
   pub written : Appends old new output.text
 
+-- what the lines spell was met, and what is made of their frames so far was written
+pub record HasMetAll {A : Type 0} (has_met : List ℕ → A → List FrameRecord → Output → Type 0) (given : Option (List ℕ)) (spelled : List Spelled) (p : Progress A) (old new : Option (List ℕ)) : Type 0 where
+  pub bus_is : p.bus ≡ bus_of given spelled
+  pub tally_is : p.tally ≡ tally_of given spelled
+  pub made : (name : List ℕ) → IsNamed (bus_of given spelled) name → HasMade (has_met name) p.account (frames_of given spelled) old new
+
 -- all that is made of the frames of these lines was written, and counted
-pub record WritesAll (makes : List FrameRecord → Output → Type 0) (given : Option (List ℕ)) (spelled : List Spelled) (counts : Counts) (old new : Option (List ℕ)) : Type 0 where
+pub record WritesAll (makes : List ℕ → List FrameRecord → Output → Type 0) (given : Option (List ℕ)) (spelled : List Spelled) (counts : Counts) (old new : Option (List ℕ)) : Type 0 where
   pub output : Output
-  pub is_made : makes (frames_of given spelled) output
+  pub is_made : makes (run_bus given spelled) (frames_of given spelled) output
   pub counts_are : counts ≡ counts_of given spelled output
   pub written : Appends old new output.text
 
 -- a front of it was written
-abbrev pub WritesSome : (List FrameRecord → Output → Type 0) → Option (List ℕ) → List Spelled → Option (List ℕ) → Option (List ℕ) → Type 0
-WritesSome makes given spelled old new = (output : Output) → makes (frames_of given spelled) output → AppendsFront old new output.text
+abbrev pub WritesSome : (List ℕ → List FrameRecord → Output → Type 0) → Option (List ℕ) → List Spelled → Option (List ℕ) → Option (List ℕ) → Type 0
+WritesSome makes given spelled old new = (output : Output) → makes (run_bus given spelled) (frames_of given spelled) output → AppendsFront old new output.text
 
 -- the bytes so far are lines and the beginning of one, and the lines were met
-pub record HasRead {A : Type 0} (has_met : A → List FrameRecord → Output → Type 0) (given : Option (List ℕ)) (taken begun : List ℕ) (p : Progress A) (old new : Option (List ℕ)) : Type 0 where
+pub record HasRead {A : Type 0} (has_met : List ℕ → A → List FrameRecord → Output → Type 0) (given : Option (List ℕ)) (taken begun : List ℕ) (p : Progress A) (old new : Option (List ℕ)) : Type 0 where
   pub lines : List (List ℕ)
   pub spelled : List Spelled
   pub whole : AllByRecursion HasNoNewline lines
@@ -55,7 +60,7 @@ pub record HasRead {A : Type 0} (has_met : A → List FrameRecord → Output →
   pub met : HasMetAll has_met given spelled p old new
 
 -- the run stands for these bytes
-pub record HasTaken {A : Type 0} (has_met : A → List FrameRecord → Output → Type 0) (given : Option (List ℕ)) (taken : List ℕ) (run : Pieces A) (old new : Option (List ℕ)) : Type 0 where
+pub record HasTaken {A : Type 0} (has_met : List ℕ → A → List FrameRecord → Output → Type 0) (given : Option (List ℕ)) (taken : List ℕ) (run : Pieces A) (old new : Option (List ℕ)) : Type 0 where
   pub begun : List ℕ
   pub begins : HasBegun run.splitter begun
   pub has_read : HasRead has_met given taken begun run.progress old new
@@ -67,7 +72,7 @@ pub record TakesAll (begun bytes : List ℕ) (n : ℕ) (splitter : Splitter) : T
   pub begins : HasBegun splitter (begun ++ bytes)
 
 -- or those to the end of a line, which was read
-pub record ReadsNext {A : Type 0} (has_met : A → List FrameRecord → Output → Type 0) (begun bytes : List ℕ) (n : ℕ) (splitter : Splitter) (p p' : Progress A) (old new : Option (List ℕ)) : Type 0 where
+pub record ReadsNext {A : Type 0} (has_met : List ℕ → A → List FrameRecord → Output → Type 0) (begun bytes : List ℕ) (n : ℕ) (splitter : Splitter) (p p' : Progress A) (old new : Option (List ℕ)) : Type 0 where
   pub line : List ℕ
   pub ends : EndsLine begun bytes line n
   pub begins : HasBegun splitter []
@@ -75,12 +80,12 @@ pub record ReadsNext {A : Type 0} (has_met : A → List FrameRecord → Output �
   pub spells : Spells line spelled
   pub reads : ReadsLine has_met spelled p p' old new
 
-abbrev pub StepsOver : {A : Type 0} → (A → List FrameRecord → Output → Type 0) → List ℕ → List ℕ → ℕ → Splitter → Progress A → Progress A → Option (List ℕ) → Option (List ℕ) → Type 0
+abbrev pub StepsOver : {A : Type 0} → (List ℕ → A → List FrameRecord → Output → Type 0) → List ℕ → List ℕ → ℕ → Splitter → Progress A → Progress A → Option (List ℕ) → Option (List ℕ) → Type 0
 StepsOver has_met begun bytes n splitter progress progress' old new =
     (TakesAll begun bytes n splitter × (progress' ≡ progress) × (new ≡ old)) ⊎ ReadsNext has_met begun bytes n splitter progress progress' old new
 
 -- a fault of the writer came in the line that the bytes end
-pub record StopsIn {A : Type 0} (has_met : A → List FrameRecord → Output → Type 0) (makes : List FrameRecord → Output → Type 0) (begun bytes : List ℕ) (p : Progress A) (old new : Option (List ℕ)) : Type 0 where
+pub record StopsIn {A : Type 0} (has_met : List ℕ → A → List FrameRecord → Output → Type 0) (makes : List ℕ → List FrameRecord → Output → Type 0) (begun bytes : List ℕ) (p : Progress A) (old new : Option (List ℕ)) : Type 0 where
   pub line : List ℕ
   pub n : ℕ
   pub ends : EndsLine begun bytes line n
@@ -89,17 +94,17 @@ pub record StopsIn {A : Type 0} (has_met : A → List FrameRecord → Output →
   pub stops : StopsAt has_met makes spelled p old new
 
 -- the last line, where one is begun
-pub record ReadsEnd {A : Type 0} (has_met : A → List FrameRecord → Output → Type 0) (begun : List ℕ) (p p' : Progress A) (old new : Option (List ℕ)) : Type 0 where
+pub record ReadsEnd {A : Type 0} (has_met : List ℕ → A → List FrameRecord → Output → Type 0) (begun : List ℕ) (p p' : Progress A) (old new : Option (List ℕ)) : Type 0 where
   pub some : begun ≢ []
   pub spelled : Spelled
   pub spells : Spells begun spelled
   pub reads : ReadsLine has_met spelled p p' old new
 
-abbrev pub ReadsLast : {A : Type 0} → (A → List FrameRecord → Output → Type 0) → List ℕ → Progress A → Progress A → Option (List ℕ) → Option (List ℕ) → Type 0
+abbrev pub ReadsLast : {A : Type 0} → (List ℕ → A → List FrameRecord → Output → Type 0) → List ℕ → Progress A → Progress A → Option (List ℕ) → Option (List ℕ) → Type 0
 ReadsLast has_met begun progress progress' old new = ((begun ≡ []) × (progress' ≡ progress) × (new ≡ old)) ⊎ ReadsEnd has_met begun progress progress' old new
 
 -- a fault of the writer came in the last line
-pub record StopsLast {A : Type 0} (has_met : A → List FrameRecord → Output → Type 0) (makes : List FrameRecord → Output → Type 0) (begun : List ℕ) (p : Progress A) (old new : Option (List ℕ)) : Type 0 where
+pub record StopsLast {A : Type 0} (has_met : List ℕ → A → List FrameRecord → Output → Type 0) (makes : List ℕ → List FrameRecord → Output → Type 0) (begun : List ℕ) (p : Progress A) (old new : Option (List ℕ)) : Type 0 where
   pub some : begun ≢ []
   pub spelled : Spelled
   pub spells : Spells begun spelled

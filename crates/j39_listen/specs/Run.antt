@@ -1,9 +1,9 @@
 -- What a run over a log writes and counts, whatever it makes of the frames.
-use Rattle.std.specs.Prelude.{◌≡◌, ℕ, List, Option}
+use Rattle.std.specs.Prelude.{◌≡◌, ℕ, List, [], Option, unwrap_or}
 use Rattle.std.specs.Io.KnownBytes.{Appends, Consumes}
 use Rattle.j39_frame.specs.Device.{AppendsFront}
 use Rattle.j39_frame.specs.Frame.{FrameRecord}
-use Rattle.j39_frame.specs.Log.{IsLog, frames_of}
+use Rattle.j39_frame.specs.Log.{IsLog, bus_of, frames_of}
 use Rattle.j39_frame.specs.Spelled.{Spelled}
 use Rattle.j39_listen.specs.Counting.{counts_of}
 use Rattle.j39_listen.specs.Output.{Output}
@@ -11,22 +11,26 @@ use Rattle.j39_listen.specs.Report.{Entry, IsReport, text_of}
 use Rattle.j39_listen.specs.Values.{TellsPublished, TellsRepeated, TellsThinned}
 use Rattle.j39_listen.specs.declared.counts.Counts.{Counts}
 
+-- the name of the run's bus; empty where none is given and no line is a frame, so that nothing is on it
+abbrev pub run_bus : Option (List ℕ) → List Spelled → List ℕ
+run_bus given spelled = unwrap_or (bus_of given spelled) []
+
 -- a run over the log with this bus or none given wrote what is made of its frames, and nothing else, and counted it
-pub record Writes (makes : List FrameRecord → Output → Type 0) (given : Option (List ℕ)) (log : List ℕ) (counts : Counts) (old new : Option (List ℕ)) : Type 0 where
+pub record Writes (makes : List ℕ → List FrameRecord → Output → Type 0) (given : Option (List ℕ)) (log : List ℕ) (counts : Counts) (old new : Option (List ℕ)) : Type 0 where
   pub spelled : List Spelled
   pub is_log : IsLog log spelled
   pub output : Output
-  pub is_made : makes (frames_of given spelled) output
+  pub is_made : makes (run_bus given spelled) (frames_of given spelled) output
   pub counts_are : counts ≡ counts_of given spelled output
   pub written : Appends old new output.text
 
 -- what a run stopped with is a front of what is made of the frames in these bytes
-abbrev pub WritesFront : (List FrameRecord → Output → Type 0) → Option (List ℕ) → List ℕ → Option (List ℕ) → Option (List ℕ) → Type 0
+abbrev pub WritesFront : (List ℕ → List FrameRecord → Output → Type 0) → Option (List ℕ) → List ℕ → Option (List ℕ) → Option (List ℕ) → Type 0
 WritesFront makes given taken old new =
-    (spelled : List Spelled) (output : Output) → IsLog taken spelled → makes (frames_of given spelled) output → AppendsFront old new output.text
+    (spelled : List Spelled) (output : Output) → IsLog taken spelled → makes (run_bus given spelled) (frames_of given spelled) output → AppendsFront old new output.text
 
 -- a run that stopped took these bytes of its source, and wrote a front of what is made of them
-pub record StopsWithin (makes : List FrameRecord → Output → Type 0) (given remaining remaining' old new : Option (List ℕ)) : Type 0 where
+pub record StopsWithin (makes : List ℕ → List FrameRecord → Output → Type 0) (given remaining remaining' old new : Option (List ℕ)) : Type 0 where
   pub taken : List ℕ
   pub consumed : Consumes remaining remaining' taken
   pub written : WritesFront makes given taken old new

@@ -1,5 +1,5 @@
 //! What a run makes of the frames of its bus.
-ghost use Rattle.std.specs.Prelude.{◌≡◌, ◌≢◌, ◌∷◌, [], List, true, OnOk, OnErr, IfOk, Err};
+ghost use Rattle.std.specs.Prelude.{◌≡◌, ◌≢◌, ◌∷◌, [], ℕ, List, true, OnOk, OnErr, IfOk, Err};
 ghost use Rattle.j39_frame.specs.Device.{Marks};
 ghost use Rattle.j39_frame.specs.Frame.{FrameRecord};
 ghost use Rattle.j39_listen.specs.AccountSteps.{Begins, Closes, MakesOne, Meets, Stops, StopsAtEnd};
@@ -7,7 +7,7 @@ ghost use Rattle.j39_listen.specs.Output.{Output};
 ghost use Rattle.j39_listen.specs.declared.account.LineFault.TheVariants.{Memory, Write};
 
 use crate::counts::Made;
-use j39_frame::{DeviceFault, Frame, Sink};
+use j39_frame::{Bus, DeviceFault, Frame, Sink};
 
 /// Why a line was not finished.
 #[derive(Clone, Copy, Debug, PartialEq, Eq)]
@@ -20,32 +20,35 @@ pub(crate) enum LineFault {
 
 /// An account of the frames of a bus: it is written frame by frame, and at their end.
 pub(crate) trait Account: Drop {
-    // It was given these frames, and has made so much of them.
-    ghost has_met: { Self → List FrameRecord → Output → Type 0 };
+    // What it is an account of, beside the frames.
+    ghost Subject: { Type 0 };
 
-    // So much is made of these frames in all.
-    ghost makes: { List FrameRecord → Output → Type 0 };
+    // It is an account of this; it was given these frames of a bus with this name, and has made so much of them.
+    ghost has_met: { Subject → List ℕ → Self → List FrameRecord → Output → Type 0 };
+
+    // So much is made of the subject and these frames of a bus with this name in all.
+    ghost makes: { Subject → List ℕ → List FrameRecord → Output → Type 0 };
 
     // Whether it may want memory.
     ghost takes_memory: { Type 0 };
 
-    /// Takes the next frame, and writes what is to be written at it.
-    fn meet<W: Sink>(&mut self, frame: &Frame, sink: &mut W) -> Result<(), LineFault>
-        ensures met { OnOk result (Meets has_met self.old self.new (frame.now ∷ []) (W.held sink.old) (W.held sink.new)) }
+    /// Takes the next frame of the bus, and writes what is to be written at it.
+    fn meet<W: Sink>(&mut self, bus: &Bus, frame: &Frame, sink: &mut W) -> Result<(), LineFault>
+        ensures met { OnOk result ((subject : Subject) → Meets (has_met subject bus.now) self.old self.new (frame.now ∷ []) (W.held sink.old) (W.held sink.new)) }
         ensures write { result ≡ Err Write → W.has_failed sink.new ≡ true }
-        ensures stops { result ≡ Err Write → Stops has_met makes self.old (frame.now ∷ []) (W.held sink.old) (W.held sink.new) }
+        ensures stops { result ≡ Err Write → (subject : Subject) → Stops (has_met subject bus.now) (makes subject bus.now) self.old (frame.now ∷ []) (W.held sink.old) (W.held sink.new) }
         ensures memory { result ≡ Err Memory → W.held sink.new ≡ W.held sink.old }
         ensures wants { result ≡ Err Memory → takes_memory }
         ensures unmarked { result ≢ Err Write → W.has_failed sink.new ≡ W.has_failed sink.old };
 
     /// Writes what is left to be written at the end, and answers the numbers of the whole.
     fn close<W: Sink>(&mut self, sink: &mut W) -> Result<Made, DeviceFault>
-        ensures closes { IfOk result (λ made. Closes has_met makes self.old made (W.held sink.old) (W.held sink.new)) }
-        ensures stops { OnErr result (StopsAtEnd has_met makes self.old (W.held sink.old) (W.held sink.new)) }
+        ensures closes { IfOk result (λ made. (subject : Subject) → Closes (has_met subject) (makes subject) self.old made (W.held sink.old) (W.held sink.new)) }
+        ensures stops { OnErr result ((subject : Subject) → StopsAtEnd (has_met subject) (makes subject) self.old (W.held sink.old) (W.held sink.new)) }
         ensures mark { Marks result (W.has_failed sink.old) (W.has_failed sink.new) };
 
     /// Does nothing: laws of what was met and of what is made.
     fn laws()
-        ensures begins { Begins has_met makes }
-        ensures one { MakesOne makes };
+        ensures begins { (subject : Subject) → Begins (has_met subject) (makes subject) }
+        ensures one { (subject : Subject) → MakesOne (makes subject) };
 }

@@ -1,6 +1,9 @@
 //! Laws about the definitions, each the contract of a function that does nothing.
 ghost use Rattle.std.specs.Prelude.{◌≡◌, ◌<◌, ℕ, List, Option, length};
 ghost use Rattle.j39_frame.specs.Frame.{FrameRecord};
+ghost use Rattle.j39_address.specs.Command.{Command};
+ghost use Rattle.j39_address.specs.Node.{Node};
+ghost use Rattle.j39_listen.specs.Answers.{AreAnswers, CommandedAt};
 ghost use Rattle.j39_listen.specs.Example.{example, example_frames, example_values};
 ghost use Rattle.j39_listen.specs.Examples.{Publishes, early, early_frames, eec1, eec1_frames, eec1_values, two, two_frames, two_values, vin, vin_frames, vin_values};
 ghost use Rattle.j39_listen.specs.Heard.{AreHeard, HeardAt, Hearing};
@@ -20,6 +23,13 @@ pub fn some_report()
     ensures at_a_frame { (F : List FrameRecord) (i : ℕ) → i < length F → (o : Option Hearing) × HeardAt F i o }
     ensures heard { (F : List FrameRecord) → (hs : List Hearing) × AreHeard F hs }
     ensures report { (F : List FrameRecord) → (entries : List Entry) × IsReport F entries }
+{}
+
+/// With each list of frames a node sends some frames, and no others: at each frame it is commanded or not.
+pub fn answers_of_nodes()
+    ensures at_a_frame { (F : List FrameRecord) (i : ℕ) → i < length F → (c : Option Command) × CommandedAt F i c }
+    ensures some { (node : Node) (F : List FrameRecord) → (sent : List FrameRecord) × AreAnswers node F sent }
+    ensures one { (node : Node) (F : List FrameRecord) (a b : List FrameRecord) → AreAnswers node F a → AreAnswers node F b → a ≡ b }
 {}
 
 /// Of what publishers sent, a report has under their addresses exactly the values published, in order

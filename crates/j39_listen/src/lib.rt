@@ -2,6 +2,7 @@
 #![tactic(auto)]
 
 mod account;
+mod answers;
 mod counts;
 mod heard;
 pub mod laws;
@@ -13,6 +14,7 @@ mod report;
 mod report_lines;
 mod running;
 
+pub use answers::answer;
 pub use counts::Counts;
 pub use heard::Heard;
 pub use listener::Listener;

@@ -67,16 +67,19 @@ impl NodeList {
 }
 
 impl Account for NodeList {
+    ghost use Rattle.std.specs.Prelude.{⊤};
     ghost use Rattle.j39_listen.specs.NodeSteps.{HasNoted};
     ghost use Rattle.j39_listen.specs.Output.{MakesNodes};
 
-    ghost has_met = { λ nodes. HasNoted nodes };
+    ghost Subject = { ⊤ };
 
-    ghost makes = { MakesNodes };
+    ghost has_met = { λ subject bus. HasNoted };
+
+    ghost makes = { λ subject. MakesNodes };
 
     ghost takes_memory = { ⊥ };
 
-    fn meet<W: Sink>(&mut self, frame: &Frame, _: &mut W) -> Result<(), LineFault> {
+    fn meet<W: Sink>(&mut self, _: &Bus, frame: &Frame, _: &mut W) -> Result<(), LineFault> {
         self.claims.note(frame);
         Ok(())
     }

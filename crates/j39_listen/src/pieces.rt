@@ -24,8 +24,8 @@ pub(crate) struct Pieces<A> {
 impl<A: Account> Pieces<A> {
     /// At the start of a log, with an account of no frames.
     pub fn new(account: A, bus: Option<Bus>) -> Pieces<A>
-        ensures { (output : Output) (held : Option (List ℕ)) → A.has_met account [] output → output.text ≡ []
-            → HasTaken A.has_met bus [] result held held }
+        ensures { (subject : A.Subject) (output : Output) (held : Option (List ℕ)) → ((name : List ℕ) → A.has_met subject name account [] output) → output.text ≡ []
+            → HasTaken (A.has_met subject) bus [] result held held }
     {
         Pieces {
             splitter: Splitter::new(),
@@ -40,10 +40,10 @@ impl<A: Account> Pieces<A> {
     /// Takes a piece of the log, writes what is to be written at the lines that it ends, and passes it on: so
     /// a reader of a live bus sees each value before the next read.
     pub fn take<W: Sink>(&mut self, piece: &[u8], sink: &mut W) -> Result<(), LineFault>
-        ensures taken { OnOk result ((given : Option (List ℕ)) (taken : List ℕ) (held : Option (List ℕ))
-            → HasTaken A.has_met given taken self.old held (W.held sink.old) → HasTaken A.has_met given (taken ++ piece.now) self.new held (W.held sink.new)) }
-        ensures front { OnErr result ((given : Option (List ℕ)) (taken : List ℕ) (held : Option (List ℕ))
-            → HasTaken A.has_met given taken self.old held (W.held sink.old) → WritesFront A.makes given (taken ++ piece.now) held (W.held sink.new)) }
+        ensures taken { OnOk result ((subject : A.Subject) (given : Option (List ℕ)) (taken : List ℕ) (held : Option (List ℕ))
+            → HasTaken (A.has_met subject) given taken self.old held (W.held sink.old) → HasTaken (A.has_met subject) given (taken ++ piece.now) self.new held (W.held sink.new)) }
+        ensures front { OnErr result ((subject : A.Subject) (given : Option (List ℕ)) (taken : List ℕ) (held : Option (List ℕ))
+            → HasTaken (A.has_met subject) given taken self.old held (W.held sink.old) → WritesFront (A.makes subject) given (taken ++ piece.now) held (W.held sink.new)) }
         ensures write { result ≡ Err Write → W.has_failed sink.new ≡ true }
         ensures unmarked { result ≢ Err Write → W.has_failed sink.new ≡ W.has_failed sink.old }
         ensures wants { result ≡ Err Memory → A.takes_memory }
@@ -60,10 +60,10 @@ impl<A: Account> Pieces<A> {
     }
 
     fn take_lines<W: Sink>(&mut self, piece: &[u8], sink: &mut W) -> Result<(), LineFault>
-        ensures taken { OnOk result ((given : Option (List ℕ)) (taken : List ℕ) (held : Option (List ℕ))
-            → HasTaken A.has_met given taken self.old held (W.held sink.old) → HasTaken A.has_met given (taken ++ piece.now) self.new held (W.held sink.new)) }
-        ensures front { OnErr result ((given : Option (List ℕ)) (taken : List ℕ) (held : Option (List ℕ))
-            → HasTaken A.has_met given taken self.old held (W.held sink.old) → WritesFront A.makes given (taken ++ piece.now) held (W.held sink.new)) }
+        ensures taken { OnOk result ((subject : A.Subject) (given : Option (List ℕ)) (taken : List ℕ) (held : Option (List ℕ))
+            → HasTaken (A.has_met subject) given taken self.old held (W.held sink.old) → HasTaken (A.has_met subject) given (taken ++ piece.now) self.new held (W.held sink.new)) }
+        ensures front { OnErr result ((subject : A.Subject) (given : Option (List ℕ)) (taken : List ℕ) (held : Option (List ℕ))
+            → HasTaken (A.has_met subject) given taken self.old held (W.held sink.old) → WritesFront (A.makes subject) given (taken ++ piece.now) held (W.held sink.new)) }
         ensures write { result ≡ Err Write → W.has_failed sink.new ≡ true }
         ensures unmarked { result ≢ Err Write → W.has_failed sink.new ≡ W.has_failed sink.old }
         ensures wants { result ≡ Err Memory → A.takes_memory }
@@ -82,10 +82,10 @@ impl<A: Account> Pieces<A> {
 
     /// Reads the last line where it is not ended, closes the account, and passes on what was written.
     pub fn finish<W: Sink>(&mut self, sink: &mut W) -> Result<Counts, LineFault>
-        ensures report { IfOk result (λ counts. (given : Option (List ℕ)) (taken : List ℕ) (held : Option (List ℕ))
-            → HasTaken A.has_met given taken self.old held (W.held sink.old) → Writes A.makes given taken counts held (W.held sink.new)) }
-        ensures front { OnErr result ((given : Option (List ℕ)) (taken : List ℕ) (held : Option (List ℕ))
-            → HasTaken A.has_met given taken self.old held (W.held sink.old) → WritesFront A.makes given taken held (W.held sink.new)) }
+        ensures report { IfOk result (λ counts. (subject : A.Subject) (given : Option (List ℕ)) (taken : List ℕ) (held : Option (List ℕ))
+            → HasTaken (A.has_met subject) given taken self.old held (W.held sink.old) → Writes (A.makes subject) given taken counts held (W.held sink.new)) }
+        ensures front { OnErr result ((subject : A.Subject) (given : Option (List ℕ)) (taken : List ℕ) (held : Option (List ℕ))
+            → HasTaken (A.has_met subject) given taken self.old held (W.held sink.old) → WritesFront (A.makes subject) given taken held (W.held sink.new)) }
         ensures write { result ≡ Err Write → W.has_failed sink.new ≡ true }
         ensures unmarked { result ≢ Err Write → W.has_failed sink.new ≡ W.has_failed sink.old }
         ensures wants { result ≡ Err Memory → A.takes_memory }
@@ -111,11 +111,11 @@ fn take_line<A: Account, W: Sink>(
 ) -> Result<usize, LineFault>
     ensures count { IfOk result (λ n. n ≤ length bytes.now) }
     ensures some { IfOk result (λ n. 0 < length bytes.now → 0 < n) }
-    ensures steps { IfOk result (λ n. (begun : List ℕ) → HasBegun splitter.old begun
-        → StepsOver A.has_met begun bytes.now n splitter.new progress.old progress.new (W.held sink.old) (W.held sink.new)) }
+    ensures steps { IfOk result (λ n. (subject : A.Subject) (begun : List ℕ) → HasBegun splitter.old begun
+        → StepsOver (A.has_met subject) begun bytes.now n splitter.new progress.old progress.new (W.held sink.old) (W.held sink.new)) }
     ensures write { result ≡ Err Write → W.has_failed sink.new ≡ true }
-    ensures stops { result ≡ Err Write → (begun : List ℕ) → HasBegun splitter.old begun
-        → StopsIn A.has_met A.makes begun bytes.now progress.old (W.held sink.old) (W.held sink.new) }
+    ensures stops { result ≡ Err Write → (subject : A.Subject) (begun : List ℕ) → HasBegun splitter.old begun
+        → StopsIn (A.has_met subject) (A.makes subject) begun bytes.now progress.old (W.held sink.old) (W.held sink.new) }
     ensures memory { result ≡ Err Memory → W.held sink.new ≡ W.held sink.old }
     ensures unmarked { result ≢ Err Write → W.has_failed sink.new ≡ W.has_failed sink.old }
     ensures wants { result ≡ Err Memory → A.takes_memory }
@@ -136,11 +136,11 @@ fn take_last<A: Account, W: Sink>(
     progress: &mut Progress<A>,
     sink: &mut W,
 ) -> Result<(), LineFault>
-    ensures reads { OnOk result ((begun : List ℕ) → HasBegun splitter.old begun
-        → ReadsLast A.has_met begun progress.old progress.new (W.held sink.old) (W.held sink.new)) }
+    ensures reads { OnOk result ((subject : A.Subject) (begun : List ℕ) → HasBegun splitter.old begun
+        → ReadsLast (A.has_met subject) begun progress.old progress.new (W.held sink.old) (W.held sink.new)) }
     ensures write { result ≡ Err Write → W.has_failed sink.new ≡ true }
-    ensures stops { result ≡ Err Write → (begun : List ℕ) → HasBegun splitter.old begun
-        → StopsLast A.has_met A.makes begun progress.old (W.held sink.old) (W.held sink.new) }
+    ensures stops { result ≡ Err Write → (subject : A.Subject) (begun : List ℕ) → HasBegun splitter.old begun
+        → StopsLast (A.has_met subject) (A.makes subject) begun progress.old (W.held sink.old) (W.held sink.new) }
     ensures memory { result ≡ Err Memory → W.held sink.new ≡ W.held sink.old }
     ensures unmarked { result ≢ Err Write → W.has_failed sink.new ≡ W.has_failed sink.old }
     ensures wants { result ≡ Err Memory → A.takes_memory }
@@ -156,12 +156,12 @@ fn close<A: Account, W: Sink>(
     progress: &mut Progress<A>,
     sink: &mut W,
 ) -> Result<Counts, DeviceFault>
-    ensures closes { IfOk result (λ counts. (given : Option (List ℕ)) (spelled : List Spelled) (held : Option (List ℕ))
-        → HasMetAll A.has_met given spelled progress.old held (W.held sink.old)
-        → WritesAll A.makes given spelled counts held (W.held sink.new)) }
-    ensures stops { OnErr result ((given : Option (List ℕ)) (spelled : List Spelled) (held : Option (List ℕ))
-        → HasMetAll A.has_met given spelled progress.old held (W.held sink.old)
-        → WritesSome A.makes given spelled held (W.held sink.new)) }
+    ensures closes { IfOk result (λ counts. (subject : A.Subject) (given : Option (List ℕ)) (spelled : List Spelled) (held : Option (List ℕ))
+        → HasMetAll (A.has_met subject) given spelled progress.old held (W.held sink.old)
+        → WritesAll (A.makes subject) given spelled counts held (W.held sink.new)) }
+    ensures stops { OnErr result ((subject : A.Subject) (given : Option (List ℕ)) (spelled : List Spelled) (held : Option (List ℕ))
+        → HasMetAll (A.has_met subject) given spelled progress.old held (W.held sink.old)
+        → WritesSome (A.makes subject) given spelled held (W.held sink.new)) }
     ensures mark { Marks result (W.has_failed sink.old) (W.has_failed sink.new) }
 {
     A::laws();

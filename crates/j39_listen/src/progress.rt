@@ -1,6 +1,5 @@
 //! A run, line by line.
 ghost use Rattle.std.specs.Prelude.{◌≡◌, ◌≢◌, Some, true, IfOk, OnOk, Err, unwrap_or};
-ghost use Rattle.std.specs.Str.{bytes_eq};
 ghost use Rattle.j39_frame.specs.Bus.{IsBusName};
 ghost use Rattle.j39_frame.specs.LineRead.{spelled_of};
 ghost use Rattle.j39_listen.specs.LineSteps.{IsSpelling, MeetsLine, StopsLine};
@@ -22,11 +21,11 @@ pub(crate) struct Progress<A> {
 impl<A: Account> Progress<A> {
     /// Takes a line of the log, and writes what is to be written at it.
     pub fn read<W: Sink>(&mut self, line: Line<'_>, sink: &mut W) -> Result<(), LineFault>
-        ensures read { OnOk result (IsSpelling (spelled_of line.entry)
-            → ReadsLine A.has_met (spelled_of line.entry) self.old self.new (W.held sink.old) (W.held sink.new)) }
+        ensures read { OnOk result ((subject : A.Subject) → IsSpelling (spelled_of line.entry)
+            → ReadsLine (A.has_met subject) (spelled_of line.entry) self.old self.new (W.held sink.old) (W.held sink.new)) }
         ensures write { result ≡ Err Write → W.has_failed sink.new ≡ true }
-        ensures stops { result ≡ Err Write → IsSpelling (spelled_of line.entry)
-            → StopsAt A.has_met A.makes (spelled_of line.entry) self.old (W.held sink.old) (W.held sink.new) }
+        ensures stops { result ≡ Err Write → (subject : A.Subject) → IsSpelling (spelled_of line.entry)
+            → StopsAt (A.has_met subject) (A.makes subject) (spelled_of line.entry) self.old (W.held sink.old) (W.held sink.new) }
         ensures memory { result ≡ Err Memory → W.held sink.new ≡ W.held sink.old }
         ensures unmarked { result ≢ Err Write → W.has_failed sink.new ≡ W.has_failed sink.old }
         ensures wants { result ≡ Err Memory → A.takes_memory }
@@ -47,24 +46,30 @@ fn meet<A: Account, W: Sink>(
     line: Line<'_>,
     sink: &mut W,
 ) -> Result<Tally, LineFault>
-    ensures met { IfOk result (λ met. IsSpelling (spelled_of line.entry)
-        → MeetsLine A.has_met (spelled_of line.entry) bus.old bus.new account.old account.new met (W.held sink.old) (W.held sink.new)) }
+    ensures met { IfOk result (λ met. (subject : A.Subject) → IsSpelling (spelled_of line.entry)
+        → MeetsLine (A.has_met subject) (spelled_of line.entry) bus.old bus.new account.old account.new met (W.held sink.old) (W.held sink.new)) }
     ensures write { result ≡ Err Write → W.has_failed sink.new ≡ true }
-    ensures stops { result ≡ Err Write → IsSpelling (spelled_of line.entry)
-        → StopsLine A.has_met A.makes (spelled_of line.entry) bus.old account.old (W.held sink.old) (W.held sink.new) }
+    ensures stops { result ≡ Err Write → (subject : A.Subject) → IsSpelling (spelled_of line.entry)
+        → StopsLine (A.has_met subject) (A.makes subject) (spelled_of line.entry) bus.old account.old (W.held sink.old) (W.held sink.new) }
     ensures memory { result ≡ Err Memory → W.held sink.new ≡ W.held sink.old }
     ensures unmarked { result ≢ Err Write → W.has_failed sink.new ≡ W.has_failed sink.old }
     ensures wants { result ≡ Err Memory → A.takes_memory }
 {
     match line {
         Line::Frame { bus: name, frame } => {
-            if is_on(bus, name) {
-                match account.meet(&frame, sink) {
-                    Ok(()) => Ok(FRAME),
-                    Err(fault) => Err(fault),
+            know(bus, name);
+            match bus {
+                None => Ok(OTHER),
+                Some(bus) => {
+                    if name == bus.bytes() {
+                        match account.meet(bus, &frame, sink) {
+                            Ok(()) => Ok(FRAME),
+                            Err(fault) => Err(fault),
+                        }
+                    } else {
+                        Ok(OTHER)
+                    }
                 }
-            } else {
-                Ok(OTHER)
             }
         }
         Line::Other => Ok(OTHER),
@@ -94,16 +99,11 @@ const UNREAD: Tally = Tally {
     ..NOTHING
 };
 
-/// Whether an interface is the bus of the run, which it becomes where there is none yet.
-fn is_on(bus: &mut Option<Bus>, name: &[u8]) -> bool
-    ensures bus { IsBusName name.now → bus.new ≡ Some (unwrap_or bus.old name.now) }
-    ensures on { IsBusName name.now → result ≡ bytes_eq name.now (unwrap_or bus.old name.now) }
+/// An interface becomes the bus of the run where there is none yet.
+fn know(bus: &mut Option<Bus>, name: &[u8])
+    ensures { IsBusName name.now → bus.new ≡ Some (unwrap_or bus.old name.now) }
 {
-    match bus {
-        Some(bus) => name == bus.bytes(),
-        None => {
-            *bus = Bus::new(name);
-            true
-        }
+    if bus.is_none() {
+        *bus = Bus::new(name);
     }
 }

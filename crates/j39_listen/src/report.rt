@@ -10,7 +10,7 @@ use crate::Listener;
 use crate::account::{Account, LineFault};
 use crate::counts::Made;
 use crate::report_lines::put_heard;
-use j39_frame::{DeviceFault, Frame, Sink};
+use j39_frame::{Bus, DeviceFault, Frame, Sink};
 use std::alloc::{AllocError, Global};
 
 /// What is heard so far, and the numbers of its report.
@@ -37,13 +37,15 @@ impl Account for Report {
     ghost use Rattle.j39_listen.specs.Output.{MakesReport};
     ghost use Rattle.j39_listen.specs.ReportSteps.{HasReported};
 
-    ghost has_met = { λ report. HasReported report };
+    ghost Subject = { ⊤ };
 
-    ghost makes = { MakesReport };
+    ghost has_met = { λ subject bus. HasReported };
+
+    ghost makes = { λ subject. MakesReport };
 
     ghost takes_memory = { ⊤ };
 
-    fn meet<W: Sink>(&mut self, frame: &Frame, sink: &mut W) -> Result<(), LineFault> {
+    fn meet<W: Sink>(&mut self, _: &Bus, frame: &Frame, sink: &mut W) -> Result<(), LineFault> {
         match put_frame(&mut self.listener, frame, sink) {
             Ok(made) => {
                 self.made = self.made.and(made);

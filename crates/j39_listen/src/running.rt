@@ -97,8 +97,8 @@ pub(crate) fn run_over<A: Account, R: Source, W: Sink>(
     bus: Option<Bus>,
     limit: u64,
 ) -> Result<Counts, RunFault>
-    ensures writes { IfOk result (λ counts. (output : Output) → A.has_met account [] output → output.text ≡ []
-        → IfSome (R.remaining source.old) (λ log. Writes A.makes bus log counts (W.held sink.old) (W.held sink.new))) }
+    ensures writes { IfOk result (λ counts. (subject : A.Subject) (output : Output) → ((name : List ℕ) → A.has_met subject name account [] output) → output.text ≡ []
+        → IfSome (R.remaining source.old) (λ log. Writes (A.makes subject) bus log counts (W.held sink.old) (W.held sink.new))) }
     ensures short { OnOk result (IfSome (R.remaining source.old) (λ log. length log ≤ limit)) }
     ensures too_long { result ≡ Err TooLong → IfSome (R.remaining source.old) (λ log. limit < length log) }
     ensures read { result ≡ Err Read → R.has_failed source.new ≡ true }
@@ -106,8 +106,8 @@ pub(crate) fn run_over<A: Account, R: Source, W: Sink>(
     ensures write { result ≡ Err Write → W.has_failed sink.new ≡ true }
     ensures write_unmarked { result ≢ Err Write → W.has_failed sink.new ≡ W.has_failed sink.old }
     ensures wants { result ≡ Err Memory → A.takes_memory }
-    ensures prefix { OnErr result ((output : Output) → A.has_met account [] output → output.text ≡ []
-        → StopsWithin A.makes bus (R.remaining source.old) (R.remaining source.new) (W.held sink.old) (W.held sink.new)) }
+    ensures prefix { OnErr result ((subject : A.Subject) (output : Output) → ((name : List ℕ) → A.has_met subject name account [] output) → output.text ≡ []
+        → StopsWithin (A.makes subject) bus (R.remaining source.old) (R.remaining source.new) (W.held sink.old) (W.held sink.new)) }
 {
     let mut pieces = Pieces::new(account, bus);
     read_pieces(&mut pieces, source, sink, limit)
@@ -120,8 +120,8 @@ fn read_pieces<A: Account, R: Source, W: Sink>(
     sink: &mut W,
     limit: u64,
 ) -> Result<Counts, RunFault>
-    ensures report { IfOk result (λ counts. (given : Option (List ℕ)) → HasTaken A.has_met given [] pieces.old (W.held sink.old) (W.held sink.old)
-        → IfSome (R.remaining source.old) (λ log. Writes A.makes given log counts (W.held sink.old) (W.held sink.new))) }
+    ensures report { IfOk result (λ counts. (subject : A.Subject) (given : Option (List ℕ)) → HasTaken (A.has_met subject) given [] pieces.old (W.held sink.old) (W.held sink.old)
+        → IfSome (R.remaining source.old) (λ log. Writes (A.makes subject) given log counts (W.held sink.old) (W.held sink.new))) }
     ensures short { OnOk result (IfSome (R.remaining source.old) (λ log. length log ≤ limit)) }
     ensures too_long { result ≡ Err TooLong → IfSome (R.remaining source.old) (λ log. limit < length log) }
     ensures read { result ≡ Err Read → R.has_failed source.new ≡ true }
@@ -129,8 +129,8 @@ fn read_pieces<A: Account, R: Source, W: Sink>(
     ensures write { result ≡ Err Write → W.has_failed sink.new ≡ true }
     ensures write_unmarked { result ≢ Err Write → W.has_failed sink.new ≡ W.has_failed sink.old }
     ensures wants { result ≡ Err Memory → A.takes_memory }
-    ensures prefix { OnErr result ((given : Option (List ℕ)) → HasTaken A.has_met given [] pieces.old (W.held sink.old) (W.held sink.old)
-        → StopsWithin A.makes given (R.remaining source.old) (R.remaining source.new) (W.held sink.old) (W.held sink.new)) }
+    ensures prefix { OnErr result ((subject : A.Subject) (given : Option (List ℕ)) → HasTaken (A.has_met subject) given [] pieces.old (W.held sink.old) (W.held sink.old)
+        → StopsWithin (A.makes subject) given (R.remaining source.old) (R.remaining source.new) (W.held sink.old) (W.held sink.new)) }
 {
     A::laws();
     let mut piece = [0u8; PIECE];
@@ -159,10 +159,10 @@ fn take<A: Account, W: Sink>(
     piece: &[u8],
     sink: &mut W,
 ) -> Result<(), RunFault>
-    ensures taken { OnOk result ((given : Option (List ℕ)) (taken : List ℕ) (held : Option (List ℕ))
-        → HasTaken A.has_met given taken pieces.old held (W.held sink.old) → HasTaken A.has_met given (taken ++ piece.now) pieces.new held (W.held sink.new)) }
-    ensures front { OnErr result ((given : Option (List ℕ)) (taken : List ℕ) (held : Option (List ℕ))
-        → HasTaken A.has_met given taken pieces.old held (W.held sink.old) → WritesFront A.makes given (taken ++ piece.now) held (W.held sink.new)) }
+    ensures taken { OnOk result ((subject : A.Subject) (given : Option (List ℕ)) (taken : List ℕ) (held : Option (List ℕ))
+        → HasTaken (A.has_met subject) given taken pieces.old held (W.held sink.old) → HasTaken (A.has_met subject) given (taken ++ piece.now) pieces.new held (W.held sink.new)) }
+    ensures front { OnErr result ((subject : A.Subject) (given : Option (List ℕ)) (taken : List ℕ) (held : Option (List ℕ))
+        → HasTaken (A.has_met subject) given taken pieces.old held (W.held sink.old) → WritesFront (A.makes subject) given (taken ++ piece.now) held (W.held sink.new)) }
     ensures write { result ≡ Err Write → W.has_failed sink.new ≡ true }
     ensures unmarked { result ≢ Err Write → W.has_failed sink.new ≡ W.has_failed sink.old }
     ensures wants { result ≡ Err Memory → A.takes_memory }
@@ -178,10 +178,10 @@ fn take<A: Account, W: Sink>(
 
 /// Finishes the log, and tells the faults as those of a run.
 fn finish<A: Account, W: Sink>(pieces: &mut Pieces<A>, sink: &mut W) -> Result<Counts, RunFault>
-    ensures report { IfOk result (λ counts. (given : Option (List ℕ)) (taken : List ℕ) (held : Option (List ℕ))
-        → HasTaken A.has_met given taken pieces.old held (W.held sink.old) → Writes A.makes given taken counts held (W.held sink.new)) }
-    ensures front { OnErr result ((given : Option (List ℕ)) (taken : List ℕ) (held : Option (List ℕ))
-        → HasTaken A.has_met given taken pieces.old held (W.held sink.old) → WritesFront A.makes given taken held (W.held sink.new)) }
+    ensures report { IfOk result (λ counts. (subject : A.Subject) (given : Option (List ℕ)) (taken : List ℕ) (held : Option (List ℕ))
+        → HasTaken (A.has_met subject) given taken pieces.old held (W.held sink.old) → Writes (A.makes subject) given taken counts held (W.held sink.new)) }
+    ensures front { OnErr result ((subject : A.Subject) (given : Option (List ℕ)) (taken : List ℕ) (held : Option (List ℕ))
+        → HasTaken (A.has_met subject) given taken pieces.old held (W.held sink.old) → WritesFront (A.makes subject) given taken held (W.held sink.new)) }
     ensures write { result ≡ Err Write → W.has_failed sink.new ≡ true }
     ensures unmarked { result ≢ Err Write → W.has_failed sink.new ≡ W.has_failed sink.old }
     ensures wants { result ≡ Err Memory → A.takes_memory }

@@ -5,7 +5,7 @@ use Rattle.j39_listen.proofs.PieceLemmas.{if_ok, on_err_from}
 use Rattle.j39_listen.proofs.node_list.nodes.Goals as goal
 
 pub returns-clause-nodes : goal.returns-clause-nodes
-returns-clause-nodes g c = if_ok c.run_over.result _ _ (λ counts writes. writes (nodes_of []) c.new.ensures nodes_text-none) c.run_over.ensures.writes
+returns-clause-nodes g c = if_ok c.run_over.result _ _ (λ counts writes. writes tt (nodes_of []) (λ name. c.new.ensures) nodes_text-none) c.run_over.ensures.writes
 
 pub returns-clause-prefix : goal.returns-clause-prefix
-returns-clause-prefix g c = on_err_from c.run_over.result _ _ (λ stops. stops (nodes_of []) c.new.ensures nodes_text-none) c.run_over.ensures.prefix
+returns-clause-prefix g c = on_err_from c.run_over.result _ _ (λ stops. stops tt (nodes_of []) (λ name. c.new.ensures) nodes_text-none) c.run_over.ensures.prefix

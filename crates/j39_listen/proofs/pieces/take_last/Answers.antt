@@ -1,10 +1,10 @@
-use Rattle.j39_listen.proofs.PieceLemmas.{on_ok_from, reads_last, stops_last_line}
+use Rattle.j39_listen.proofs.PieceLemmas.{each_reads_last, stops_last_line}
 use Rattle.j39_listen.proofs.pieces.take_last.Goals as goal
 
 pub returns-in-Some-clause-reads : goal.returns-in-Some-clause-reads
 returns-in-Some-clause-reads g c =
-    on_ok_from _ _ _ (reads_last g.A.Account.has_met c.args.splitter.now _ _ c.args.progress.now c.read-in-Some.new.self _ _ c.in-Some.ensures.line c.read.ensures) c.read-in-Some.ensures.read
+    each_reads_last g.A.Account.has_met c.args.splitter.now _ _ c.args.progress.now c.read-in-Some.new.self _ _ _ c.in-Some.ensures.line c.read.ensures c.read-in-Some.ensures.read
 
 pub returns-in-Some-clause-stops : goal.returns-in-Some-clause-stops
-returns-in-Some-clause-stops g c = λ fails.
-    stops_last_line g.A.Account.has_met g.A.Account.makes c.args.splitter.now _ _ c.args.progress.now _ _ c.in-Some.ensures.line c.read.ensures (c.read-in-Some.ensures.stops fails)
+returns-in-Some-clause-stops g c = λ fails subject.
+    stops_last_line (g.A.Account.has_met subject) (g.A.Account.makes subject) c.args.splitter.now _ _ c.args.progress.now _ _ c.in-Some.ensures.line c.read.ensures (c.read-in-Some.ensures.stops fails subject)

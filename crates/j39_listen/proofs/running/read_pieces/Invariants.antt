@@ -7,8 +7,8 @@ use Rattle.j39_listen.proofs.running.read_pieces.Given as goal
 abbrev pub invariant-pieces : goal.invariant-pieces
 invariant-pieces g l =
     (taken : List ℕ) × Consumes (g.R.Source.remaining l.initial.source) (g.R.Source.remaining l.source) taken
-    × ((given : Option (List ℕ)) → HasTaken g.A.Account.has_met given [] l.initial.pieces (g.W.Sink.held l.initial.sink) (g.W.Sink.held l.initial.sink)
-    → HasTaken g.A.Account.has_met given taken l.pieces (g.W.Sink.held l.initial.sink) (g.W.Sink.held l.sink))
+    × ((subject : g.A.Account.Subject) (given : Option (List ℕ)) → HasTaken (g.A.Account.has_met subject) given [] l.initial.pieces (g.W.Sink.held l.initial.sink) (g.W.Sink.held l.initial.sink)
+    → HasTaken (g.A.Account.has_met subject) given taken l.pieces (g.W.Sink.held l.initial.sink) (g.W.Sink.held l.sink))
     × (length taken + l.room ≡ l.limit)
     × (g.R.Source.has_failed l.source ≡ g.R.Source.has_failed l.initial.source)
     × (g.W.Sink.has_failed l.sink ≡ g.W.Sink.has_failed l.initial.sink)

@@ -6,11 +6,11 @@ use Rattle.j39_listen.proofs.Written.{tells_published}
 use Rattle.j39_listen.proofs.running.run.Goals as goal
 
 pub returns-clause-report : goal.returns-clause-report
-returns-clause-report g c = if_ok c.run_over.result _ _ (λ counts writes. writes (report_of []) c.new.ensures no_text) c.run_over.ensures.writes
+returns-clause-report g c = if_ok c.run_over.result _ _ (λ counts writes. writes tt (report_of []) (λ name. c.new.ensures) no_text) c.run_over.ensures.writes
 
 pub returns-clause-published : goal.returns-clause-published
 returns-clause-published g c = if_ok c.run_over.result _ _ (λ counts writes.
-    tells_published c.args.bus _ counts _ _ (writes (report_of []) c.new.ensures no_text)) c.run_over.ensures.writes
+    tells_published c.args.bus _ counts _ _ (writes tt (report_of []) (λ name. c.new.ensures) no_text)) c.run_over.ensures.writes
 
 pub returns-clause-prefix : goal.returns-clause-prefix
-returns-clause-prefix g c = on_err_from c.run_over.result _ _ (λ stops. stops (report_of []) c.new.ensures no_text) c.run_over.ensures.prefix
+returns-clause-prefix g c = on_err_from c.run_over.result _ _ (λ stops. stops tt (report_of []) (λ name. c.new.ensures) no_text) c.run_over.ensures.prefix

@@ -4,17 +4,17 @@ use Rattle.j39_listen.proofs.PieceLemmas.{FrontAtEnd, by_fault, end_fails, end_n
 use Rattle.j39_listen.proofs.pieces.Pieces.finish.Goals as goal
 
 pub returns-in-Err-clause-front : goal.returns-in-Err-clause-front
-returns-in-Err-clause-front g c =
+returns-in-Err-clause-front g c = λ subject.
     let old = g.W.Sink.held c.args.sink.now in
     let new = g.W.Sink.held c.take_last.new.sink in
-    by_fault c.in-Err.fault (FrontAtEnd g.A.Account.has_met g.A.Account.makes c.args.self.now old new)
-    (λ e. end_stops g.A.Account.has_met g.A.Account.makes c.args.self.now old new (c.in-Err.ensures.stops (ap Err e)))
-    (λ e. end_none g.A.Account.has_met g.A.Account.makes c.laws.ensures.begins c.args.self.now old new (c.in-Err.ensures.memory (ap Err e)))
+    by_fault c.in-Err.fault (FrontAtEnd (g.A.Account.has_met subject) (g.A.Account.makes subject) c.args.self.now old new)
+    (λ e. end_stops (g.A.Account.has_met subject) (g.A.Account.makes subject) c.args.self.now old new (c.in-Err.ensures.stops (ap Err e) subject))
+    (λ e. end_none (g.A.Account.has_met subject) (g.A.Account.makes subject) (c.laws.ensures.begins subject) c.args.self.now old new (c.in-Err.ensures.memory (ap Err e)))
 
 pub returns-in-Ok-close-clause-report : goal.returns-in-Ok-close-clause-report
-returns-in-Ok-close-clause-report g c =
-    end_writes g.A.Account.has_met g.A.Account.makes c.args.self.now c.take_last.new.progress _ _ _ _ c.in-Ok.ensures.reads c.in-Ok-close.ensures.closes
+returns-in-Ok-close-clause-report g c = λ subject.
+    end_writes (g.A.Account.has_met subject) (g.A.Account.makes subject) c.args.self.now c.take_last.new.progress _ _ _ _ (c.in-Ok.ensures.reads subject) (c.in-Ok-close.ensures.closes subject)
 
 pub returns-in-Err-close-clause-front : goal.returns-in-Err-close-clause-front
-returns-in-Err-close-clause-front g c =
-    end_fails g.A.Account.has_met g.A.Account.makes c.args.self.now c.take_last.new.progress _ _ _ c.in-Ok.ensures.reads c.in-Err-close.ensures.stops
+returns-in-Err-close-clause-front g c = λ subject.
+    end_fails (g.A.Account.has_met subject) (g.A.Account.makes subject) c.args.self.now c.take_last.new.progress _ _ _ (c.in-Ok.ensures.reads subject) (c.in-Err-close.ensures.stops subject)

@@ -4,7 +4,7 @@ use Rattle.j39_listen.proofs.RunLemmas.{has_met-none}
 use Rattle.j39_listen.proofs.pieces.Pieces.new.Goals as goal
 
 pub returns : goal.returns
-returns g c = λ output held met none.
+returns g c = λ subject output held met none.
     let e = c.default.ensures in
     record {
       begun = [];
@@ -15,6 +15,6 @@ returns g c = λ output held met none.
         whole = tt;
         taken_is = refl;
         spell_each = tt;
-        met = has_met-none g.A.Account.has_met c.args.bus c.args.account output c.default.result held met none (same_tally c.default.result _ e.0 e.1.0 e.1.1);
+        met = has_met-none (g.A.Account.has_met subject) c.args.bus c.args.account output c.default.result held met none (same_tally c.default.result _ e.0 e.1.0 e.1.1);
       };
     }

@@ -8,17 +8,17 @@ use Rattle.j39_listen.proofs.pieces.Pieces.take_lines.Goals as goal
 
 pub loop-rest-init : goal.loop-rest-init
 loop-rest-init g c =
-    ([], refl, (λ given taken held h. subst (λ t. HasTaken g.A.Account.has_met given t c.args.self.now held (g.W.Sink.held c.args.sink.now)) (sym (append-nil taken)) h), refl)
+    ([], refl, (λ subject given taken held h. subst (λ t. HasTaken (g.A.Account.has_met subject) given t c.args.self.now held (g.W.Sink.held c.args.sink.now)) (sym (append-nil taken)) h), refl)
 
 pub returns-in-Err-clause-front : goal.returns-in-Err-clause-front
-returns-in-Err-clause-front g c =
+returns-in-Err-clause-front g c = λ subject.
     let inv = c.loop-rest.invariant in
     let start = g.W.Sink.held c.args.sink.now in
     let old = g.W.Sink.held c.loop-rest.sink in
     let new = g.W.Sink.held c.take_line.new.sink in
-    by_fault c.in-Err.fault (StopsBytes g.A.Account.has_met g.A.Account.makes c.args.self.now c.args.piece.now start new)
-    (λ e. takes_then_stops g.A.Account.has_met g.A.Account.makes c.args.self.now c.loop-rest.self inv.0 c.loop-rest.rest.now c.args.piece.now start old new inv.1 inv.2 (c.in-Err.ensures.stops (ap Err e)))
-    (λ e. takes_then_none g.A.Account.has_met g.A.Account.makes c.laws.ensures.begins c.args.self.now c.loop-rest.self inv.0 c.loop-rest.rest.now c.args.piece.now start old new inv.1 inv.2 (c.in-Err.ensures.memory (ap Err e)))
+    by_fault c.in-Err.fault (StopsBytes (g.A.Account.has_met subject) (g.A.Account.makes subject) c.args.self.now c.args.piece.now start new)
+    (λ e. takes_then_stops (g.A.Account.has_met subject) (g.A.Account.makes subject) c.args.self.now c.loop-rest.self inv.0 c.loop-rest.rest.now c.args.piece.now start old new inv.1 (inv.2 subject) (c.in-Err.ensures.stops (ap Err e) subject))
+    (λ e. takes_then_none (g.A.Account.has_met subject) (g.A.Account.makes subject) (c.laws.ensures.begins subject) c.args.self.now c.loop-rest.self inv.0 c.loop-rest.rest.now c.args.piece.now start old new inv.1 (inv.2 subject) (c.in-Err.ensures.memory (ap Err e)))
 
 pub loop-rest-preserved : goal.loop-rest-preserved
 loop-rest-preserved g c =
@@ -30,6 +30,6 @@ loop-rest-preserved g c =
     let left = ap (λ xs. (inv.0 ++ take n rest) ++ xs) (sym c.split_at.ensures.back) in (
       inv.0 ++ take n rest,
       inv.1 ∙ (cut ∙ left),
-      takes_then_takes g.A.Account.has_met c.args.self.now c.loop-rest.self run inv.0 rest n _ _ _ inv.2 c.in-Ok.ensures.steps,
+      (λ subject. takes_then_takes (g.A.Account.has_met subject) c.args.self.now c.loop-rest.self run inv.0 rest n _ _ _ (inv.2 subject) (c.in-Ok.ensures.steps subject)),
       c.in-Ok.ensures.unmarked no_fault ∙ inv.3,
     )

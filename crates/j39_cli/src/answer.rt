@@ -1,0 +1,157 @@
+//! The command `answer`: its words, and how it is performed.
+ghost use Rattle.std.specs.Prelude.{◌≡◌, ◌↔◌, IfOk, IfSome, IsSome, Some, codes, false, true};
+ghost use Rattle.std.specs.Str.Parse.{digits_value};
+ghost use Rattle.clap.specs.Words.{Text, app_of, first_value, found_of, new_app, rule_of};
+ghost use Rattle.clap.specs.declared.builder.command.Command.TheViews.{out-Command as settings_of};
+ghost use Rattle.j39_address.specs.Name.{name_raw};
+ghost use Rattle.j39_address.specs.Node.{idle_node};
+ghost use Rattle.j39_listen.specs.Output.{MakesAnswers};
+ghost use Rattle.j39_cli.specs.AnswerCommand.{answer_app};
+ghost use Rattle.j39_cli.specs.CommandWords as written;
+ghost use Rattle.j39_cli.specs.CutCommand.{IsNumberBelow};
+ghost use Rattle.j39_cli.specs.LogCommand.{IsRun};
+ghost use Rattle.j39_cli.specs.Rules.{option_rule};
+ghost use Rattle.j39_cli.specs.Task.{IsAnswer, IsInRange};
+ghost use Rattle.j39_cli.specs.Turn.{turn};
+
+use crate::command::{option, with_arg};
+use crate::cut_values::source_of;
+use crate::log::{LOG_LIMIT, copy_of, tell_counts, tell_fault, with_log};
+use crate::name::name_of;
+use crate::words::{bus_value, required};
+use crate::{Address, Argument, ParseFault, Task, WordText};
+use clap::{Arg, ArgMatches, Command};
+use j39_address::Name;
+use j39_frame::{Bus, Sink, Source};
+use std::alloc::{AllocError, Global};
+
+const ABOUT: &str = "\
+Writes the frames that a device with this NAME would have sent to get and keep an
+address, had it been on the bus of a log, as lines of a log. It claims its address
+at the first frame. It answers a claim of the same address, takes another address
+or gives up, answers requests for address claims, and obeys a commanded address
+that is broadcast. `j1939 name` explains a NAME.";
+
+const HELP: &str = "\
+A frame that ends with source FE says that the device has no address.
+
+At the end the counts go to standard error:
+  frames    frames of the bus that is read
+  other     lines that hold no such frame
+  unread    lines of no form that candump writes
+  messages  messages that were heard
+  lines     lines written, one for each frame that would be sent
+
+Example:
+  j1939 answer --name 8000000001401234 --address 0 trip.log
+writes lines such as
+  (0000000001.000000) can0 18EEFF00#3412400100000080";
+
+/// What clap is told of it.
+pub(crate) fn command<'a>(alloc: Global) -> Result<Command<'a>, AllocError>
+    ensures app { IfOk result (λ c. app_of c ≡ answer_app) }
+    ensures local { IfOk result (λ c. (settings_of c).has_globals ≡ false) }
+{
+    let command = with_arg(bare(alloc), name(alloc))?;
+    let command = with_arg(command, address(alloc))?;
+    with_log(alloc, command)
+}
+
+fn bare<'a>(alloc: Global) -> Command<'a>
+    ensures app { app_of result ≡ new_app (codes "answer") }
+    ensures local { (settings_of result).has_globals ≡ false }
+{
+    Command::new(alloc, "answer")
+        .about("Writes what a device of a NAME would have sent to get and keep an address")
+        .long_about(ABOUT)
+        .after_help(HELP)
+}
+
+fn name<'a>(alloc: Global) -> Arg<'a>
+    ensures rule { rule_of result ≡ option_rule (codes "name") true }
+    ensures local { result.global ≡ false }
+{
+    option(alloc, "name", "H", true).help(
+        "The NAME of the device, 16 hex digits (of either case, no 0x), the top bits first",
+    )
+}
+
+fn address<'a>(alloc: Global) -> Arg<'a>
+    ensures rule { rule_of result ≡ option_rule (codes "address") true }
+    ensures local { result.global ≡ false }
+{
+    option(alloc, "address", "N", true).help(
+        "The address that the device claims first, 0 to 253, in decimal",
+    )
+}
+
+/// The task that its words ask for.
+pub(crate) fn task<'a>(alloc: Global, given: &ArgMatches<'a>) -> Result<Task<'a>, ParseFault>
+    ensures answer { (name address : Text)
+        → first_value (found_of given.now) (codes "name") ≡ Some name
+        → first_value (found_of given.now) (codes "address") ≡ Some address
+        → IsAnswer (written.answer name address (first_value (found_of given.now) (codes "bus"))
+        (first_value (found_of given.now) (codes "file"))) result }
+    ensures in_range { IfOk result IsInRange }
+{
+    let name = required(alloc, given, "name")?;
+    let address = required(alloc, given, "address")?;
+    task_of(name, address, given)
+}
+
+/// The task of these texts: the values are checked in their order.
+fn task_of<'a>(name: &str, address: &str, given: &ArgMatches<'a>) -> Result<Task<'a>, ParseFault>
+    ensures answer { IsAnswer (written.answer name.now address.now (first_value (found_of given.now) (codes "bus"))
+        (first_value (found_of given.now) (codes "file"))) result }
+    ensures in_range { IfOk result IsInRange }
+{
+    let Some(name) = name_of(name) else {
+        return Err(ParseFault::BadValue(Argument::Name));
+    };
+    let Some(address) = address_of(address) else {
+        return Err(ParseFault::BadValue(Argument::Address));
+    };
+    let file = given.get_str("file").map(WordText::new);
+    match bus_value(given) {
+        Ok(bus) => Ok(Task::Answer(name, address, bus, file)),
+        Err(fault) => Err(fault),
+    }
+}
+
+/// The address of this number in decimal; `None` for other text, and from 254 up.
+fn address_of(text: &str) -> Option<Address>
+    ensures known { IsSome result ↔ IsNumberBelow 254 text.now }
+    ensures value { IfSome result (λ address. address ≡ digits_value 10 text.now) }
+{
+    Address::new(source_of(text)?)
+}
+
+/// Performs it: the lines go to `sink`, the counts or what failed to `err`.
+pub(crate) fn perform<R: Source, W: Sink, E: Sink>(
+    alloc: Global,
+    name: Name,
+    address: &Address,
+    bus: &Option<Bus>,
+    source: &mut R,
+    sink: &mut W,
+    err: &mut E,
+) -> u8
+    ensures { IsRun (MakesAnswers (idle_node (name_raw name) address.now)) bus.now result
+        (turn (R.remaining source.old) (R.has_failed source.old) (R.remaining source.new) (R.has_failed source.new))
+        (turn (W.held sink.old) (W.has_failed sink.old) (W.held sink.new) (W.has_failed sink.new))
+        (turn (E.held err.old) (E.has_failed err.old) (E.held err.new) (E.has_failed err.new)) }
+{
+    let address = address.number();
+    match j39_listen::answer(alloc, source, sink, copy_of(bus), name, address, LOG_LIMIT) {
+        Ok(Some(counts)) => {
+            tell_counts(counts, err);
+            0
+        }
+        // An address is 253 at most, so that nothing comes here.
+        Ok(None) => 1,
+        Err(fault) => {
+            tell_fault(fault, err);
+            1
+        }
+    }
+}

@@ -1,0 +1,15 @@
+use Rattle.std.proofs.Common.{refl}
+use Rattle.j39_address.specs.Name.{name_raw}
+use Rattle.j39_address.specs.Node.{idle_node}
+use Rattle.j39_listen.specs.Output.{nothing}
+use Rattle.j39_listen.proofs.answers.answer.Goals as goal
+
+pub returns-in-Ok-clause-answers : goal.returns-in-Ok-clause-answers
+returns-in-Ok-clause-answers g c =
+    let node = idle_node (name_raw c.args.name) c.args.preferred in
+    c.in-Ok.ensures.writes node nothing (λ bus. c.new-2.ensures node bus c.in-Some.ensures.node) refl
+
+pub returns-in-Err-clause-prefix : goal.returns-in-Err-clause-prefix
+returns-in-Err-clause-prefix g c =
+    let node = idle_node (name_raw c.args.name) c.args.preferred in
+    c.in-Err.ensures.prefix node nothing (λ bus. c.new-2.ensures node bus c.in-Some.ensures.node) refl
