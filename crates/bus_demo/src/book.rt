@@ -1,0 +1,138 @@
+//! What was handed in to send, and what became of it.
+use crate::outbox::Part;
+use j39_address::Name;
+use j39_frame::{Pgn, Stamp};
+use j39_transport::Message;
+use std::alloc::{AllocError, Global};
+
+/// What became of a message.
+#[derive(Clone, Copy, PartialEq, Eq)]
+pub(crate) enum Fate {
+    /// It is on its way.
+    Open,
+    /// Its last frame was seen on the bus, and none was lost that wasn't sent again.
+    Whole(Stamp),
+    /// A frame of it was lost, or its transfer failed.
+    Lost,
+    /// Its sender lost its address before it was whole.
+    Withdrawn,
+}
+
+/// A message that a controller was told to send.
+#[derive(Drop)]
+pub(crate) struct Handed {
+    /// The NAME of the controller, and the address that it held.
+    pub name: Name,
+    pub address: u8,
+    /// Where it goes; `None` for all.
+    pub to: Option<u8>,
+    pub pgn: Pgn,
+    pub payload: Vec<u8>,
+    pub fate: Fate,
+}
+
+/// A message that a receiver delivered.
+#[derive(Drop)]
+pub(crate) struct Delivery {
+    pub source: u8,
+    pub pgn: Pgn,
+    pub payload: Vec<u8>,
+}
+
+/// The book of a bus. It knows nothing of any log.
+#[derive(Drop)]
+pub(crate) struct Book {
+    alloc: Global,
+    handed: Vec<Handed>,
+    deliveries: Vec<Delivery>,
+    done: Vec<usize>,
+}
+
+impl Book {
+    /// An empty book.
+    pub(crate) fn new(alloc: Global) -> Book {
+        Book {
+            alloc,
+            handed: Vec::new(alloc),
+            deliveries: Vec::new(alloc),
+            done: Vec::new(alloc),
+        }
+    }
+
+    /// Notes a message that is handed in now, and answers its number.
+    pub(crate) fn hand_in(&mut self, message: Handed) -> Result<usize, AllocError> {
+        let number = self.handed.len();
+        self.handed.push(message)?;
+        Ok(number)
+    }
+
+    /// Notes that a frame was seen on the bus.
+    pub(crate) fn seen(&mut self, part: Part, now: Stamp) {
+        if part.is_last {
+            self.settle(part.number, Fate::Whole(now));
+        }
+    }
+
+    /// Notes what became of a message, where it was open.
+    pub(crate) fn settle(&mut self, number: usize, fate: Fate) {
+        if let Some(message) = self.handed.get_mut(number) {
+            if message.fate == Fate::Open {
+                message.fate = fate;
+            }
+        }
+    }
+
+    /// Notes what a receiver delivered: the message that was handed in last with this source, group and
+    /// payload to one controller is whole.
+    pub(crate) fn deliver(&mut self, message: &Message<'_>) -> Result<(), AllocError> {
+        let payload = Vec::from_slice(self.alloc, message.payload)?;
+        self.deliveries.push(Delivery {
+            source: message.source,
+            pgn: message.pgn,
+            payload,
+        })?;
+        let mut number = None;
+        for (place, handed) in self.handed.iter().enumerate() {
+            if handed.to.is_some()
+                && handed.address == message.source
+                && handed.pgn == message.pgn
+                && handed.payload.as_slice() == message.payload
+            {
+                number = Some(place);
+            }
+        }
+        if let Some(number) = number {
+            self.settle(number, Fate::Whole(message.stamp));
+        }
+        Ok(())
+    }
+
+    /// Notes that a sender counts a message as done.
+    pub(crate) fn count_done(&mut self, number: usize) -> Result<(), AllocError> {
+        self.done.push(number)?;
+        Ok(())
+    }
+
+    /// All messages that were handed in, in order; each one's number is its place.
+    pub(crate) fn handed(&self) -> &[Handed] {
+        self.handed.as_slice()
+    }
+
+    /// How many of them are whole.
+    pub(crate) fn whole(&self) -> usize {
+        self.handed
+            .iter()
+            .filter(|message| matches!(message.fate, Fate::Whole(_)))
+            .count()
+    }
+
+    /// What receivers delivered, in order.
+    pub(crate) fn deliveries(&self) -> &[Delivery] {
+        self.deliveries.as_slice()
+    }
+
+    /// The numbers of the messages that senders count as done, in order.
+    pub(crate) fn done(&self) -> &[usize] {
+        self.done.as_slice()
+    }
+}

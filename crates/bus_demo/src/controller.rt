@@ -1,0 +1,203 @@
+//! A controller made of the stack's parts: it claims an address, sends, receives and obeys.
+ghost use Rattle.std.specs.Prelude.{◌≡◌, IfSome};
+ghost use Rattle.j39_address.specs.Claimer.{IsNode};
+ghost use Rattle.j39_address.specs.Node.{Node};
+ghost use Rattle.bus_demo.specs.MaySend.{MaySend, held_in};
+
+use crate::book::{Book, Fate};
+use crate::gauges::Gauges;
+use crate::outbox::{Outbox, Wish};
+use crate::publisher::Publisher;
+use crate::role::Role;
+use j39_address::{Claimer, Claims, Name, Status, commanded_of};
+use j39_frame::{Frame, GLOBAL_ADDRESS, Id, Stamp};
+use j39_transport::{Assembler, Fed, Receiver, Reply};
+use std::alloc::{AllocError, Global};
+
+/// The time between two turns of a controller's loop, in microseconds.
+const TURN: u64 = 10_000;
+
+/// A controller on the bus.
+#[derive(Drop)]
+pub(crate) struct Controller {
+    alloc: Global,
+    name: Name,
+    /// Its own address.
+    node: Claimer,
+    /// Who holds which address, by the claims that were sent and heard.
+    holders: Claims,
+    /// Puts together what others broadcast.
+    messages: Assembler,
+    /// Receives what others send to this controller, at the address that it holds.
+    receiver: Option<(u8, Receiver)>,
+    /// What it sends of its own accord.
+    publisher: Publisher,
+    outbox: Outbox,
+    /// When its loop turns next.
+    due: u64,
+}
+
+impl Controller {
+    /// A controller that has claimed no address yet; `None` for a preferred address above 253.
+    pub(crate) fn new(alloc: Global, role: &Role, mut gauges: Gauges) -> Option<Controller> {
+        let phase = u64::from(gauges.below(10_000));
+        Some(Controller {
+            alloc,
+            name: Name::new(role.name),
+            node: Claimer::new(Name::new(role.name), role.preferred)?,
+            holders: Claims::new(),
+            messages: Assembler::new(alloc),
+            receiver: None,
+            publisher: Publisher::new(alloc, role, gauges),
+            outbox: Outbox::new(alloc),
+            due: role.starts.saturating_add(phase),
+        })
+    }
+
+    /// The address that it holds.
+    pub(crate) fn held(&self) -> Option<u8>
+        ensures { (node : Node) → IsNode self.now.node node → result ≡ held_in node.status }
+    {
+        match self.node.status() {
+            Status::Holding(address) => Some(address),
+            Status::Idle => None,
+            Status::Claiming(_) => None,
+            Status::Cannot => None,
+        }
+    }
+
+    /// Its NAME.
+    pub(crate) fn name(&self) -> Name {
+        self.name
+    }
+
+    /// The identifier of the frame that it wishes to send next.
+    pub(crate) fn wish(&self) -> Option<Id> {
+        self.outbox.first()
+    }
+
+    /// The frame that it wishes to send next, which the bus now takes: from the address that it holds, or
+    /// a claim.
+    pub(crate) fn take_wish(&mut self) -> Option<Wish>
+        ensures { (node : Node) → IsNode self.old.node node
+            → IfSome result (λ wish. MaySend (held_in node.status) wish.frame.id) }
+    {
+        let held = self.held();
+        self.outbox.take(held)
+    }
+
+    /// Lets time pass: the loop turns every 10 ms.
+    pub(crate) fn pass(&mut self, now: Stamp, book: &mut Book) -> Result<(), AllocError> {
+        if now.micros() < self.due {
+            return Ok(());
+        }
+        self.due = self.due.saturating_add(TURN);
+        self.node.tick(now);
+        let claim = self.node.start(now);
+        self.say(claim, book)?;
+        match self.held() {
+            Some(address) => self.turn(address, now, book),
+            None => Ok(()),
+        }
+    }
+
+    /// A turn of the loop while it holds this address.
+    fn turn(&mut self, address: u8, now: Stamp, book: &mut Book) -> Result<(), AllocError> {
+        self.publisher.turn(address, now, &mut self.outbox, book)?;
+        self.listen_at(address);
+        let late = match &mut self.receiver {
+            Some((_, receiver)) => receiver.tick(now),
+            None => None,
+        };
+        self.outbox.post(late, None, now)
+    }
+
+    /// Has a receiver at the address that it holds.
+    fn listen_at(&mut self, address: u8) {
+        let is_there = match &self.receiver {
+            Some((at, _)) => *at == address,
+            None => false,
+        };
+        if !is_there {
+            if let Some(receiver) = Receiver::new(self.alloc, address) {
+                self.receiver = Some((address, receiver));
+            }
+        }
+    }
+
+    /// Hears a frame that another controller sent.
+    pub(crate) fn hear(&mut self, frame: &Frame, book: &mut Book) -> Result<(), AllocError> {
+        let now = frame.stamp;
+        self.note(frame);
+        self.node.tick(now);
+        let claim = self.node.on(frame, now);
+        self.say(claim, book)?;
+        self.publisher.hear(frame);
+        self.receive(frame, book)?;
+        self.obey(frame, book)
+    }
+
+    /// Notes who holds which address. What an address had begun whose holder changes is forgotten, so that
+    /// no message is put together of two senders.
+    fn note(&mut self, frame: &Frame) {
+        for address in self.holders.note(frame) {
+            self.messages.forget(address);
+        }
+    }
+
+    /// Sends a claim, where the node answered one. While the address isn't held, nothing else is sent.
+    fn say(&mut self, claim: Option<Frame>, book: &mut Book) -> Result<(), AllocError> {
+        let Some(claim) = claim else {
+            return Ok(());
+        };
+        self.note(&claim);
+        if self.held().is_none() {
+            self.withdraw(book);
+        }
+        self.outbox.push(claim, None)
+    }
+
+    /// Drops all that was to be sent or received at an address that is lost.
+    fn withdraw(&mut self, book: &mut Book) {
+        for wish in self.outbox.iter() {
+            if let Some(part) = wish.part {
+                book.settle(part.number, Fate::Withdrawn);
+            }
+        }
+        self.outbox.clear();
+        self.publisher.withdraw(book);
+        self.receiver = None;
+    }
+
+    /// Hears a frame at the receiving end of transfers.
+    fn receive(&mut self, frame: &Frame, book: &mut Book) -> Result<(), AllocError> {
+        let Some((_, receiver)) = &mut self.receiver else {
+            return Ok(());
+        };
+        let now = frame.stamp;
+        let answer = match receiver.on(frame, now) {
+            Reply::Nothing => None,
+            Reply::Send(id, bytes) => Some((id, bytes)),
+            Reply::Delivered(message, id, bytes) => {
+                book.deliver(&message)?;
+                Some((id, bytes))
+            }
+        };
+        self.outbox.post(answer, None, now)
+    }
+
+    /// Puts together what is broadcast, and takes the address that a message commands it to take.
+    fn obey(&mut self, frame: &Frame, book: &mut Book) -> Result<(), AllocError> {
+        let Fed::Whole(message) = self.messages.feed(frame)? else {
+            return Ok(());
+        };
+        if frame.id.destination() != Some(GLOBAL_ADDRESS) {
+            return Ok(());
+        }
+        let Some((name, address)) = commanded_of(&message) else {
+            return Ok(());
+        };
+        let claim = self.node.commanded(name, address, frame.stamp);
+        self.say(claim, book)
+    }
+}

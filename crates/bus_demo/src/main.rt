@@ -1,0 +1,111 @@
+//! The program `bus_demo`: a bus of simulated controllers, whose log it writes as `candump -L` does.
+#![tactic(auto)]
+
+mod arbitration;
+mod book;
+mod bus;
+mod controller;
+#[cfg(test)]
+mod expected;
+mod gauges;
+#[cfg(test)]
+mod loop_tests;
+#[cfg(test)]
+mod memory_tests;
+mod outbox;
+mod publisher;
+mod role;
+mod scenario;
+mod words;
+#[cfg(test)]
+mod words_tests;
+
+use book::Book;
+use bus::{Bus, BusFault};
+use controller::Controller;
+use j39_frame::Told;
+use scenario::controllers;
+use std::io::BufWriter;
+use std::process::ExitCode;
+use std::{env, io};
+use words::{Refusal, Words, read_words};
+
+/// The bytes that are kept before they are written.
+const OUT_BUFFER: usize = 65_536;
+
+fn main(rt: HostRuntime) -> io::Result<ExitCode> {
+    let mut words = Vec::new(rt.alloc());
+    for word in env::args(&rt)? {
+        words.push(word)?;
+    }
+    let status = match read_words(rt.alloc(), words.as_slice()) {
+        Ok(words) => play(&rt, &words)?,
+        Err(refusal) => refuse(&rt, &refusal)?,
+    };
+    Ok(ExitCode::from(status))
+}
+
+/// Plays the scenario, its log to standard output and its counts to standard error, and answers the
+/// exit status.
+fn play(rt: &HostRuntime, words: &Words) -> io::Result<u8> {
+    let mut out = Told::new(BufWriter::with_capacity(rt.alloc(), OUT_BUFFER, rt.stdout())?);
+    let controllers = controllers(rt.alloc(), words.seed)?;
+    let mut bus = Bus::new(rt.alloc(), controllers, words.lose.as_slice());
+    match bus.run(words.seconds.saturating_mul(1_000_000), &mut out) {
+        Ok(()) => {
+            tell_counts(rt, bus.frames(), bus.book())?;
+            tell_addresses(rt, bus.controllers())?;
+            Ok(0)
+        }
+        Err(BusFault::Memory) => {
+            eprintln!(rt; "bus_demo: out of memory")?;
+            Ok(1)
+        }
+        Err(BusFault::Write) => {
+            eprintln!(rt; "bus_demo: write failed")?;
+            Ok(1)
+        }
+    }
+}
+
+fn tell_counts(rt: &HostRuntime, frames: u64, book: &Book) -> io::Result<()> {
+    let handed = book.handed().len();
+    let whole = book.whole();
+    let delivered = book.deliveries().len();
+    let done = book.done().len();
+    eprintln!(rt; "frames {frames} handed {handed} whole {whole} delivered {delivered} done {done}")
+}
+
+/// Says which address each controller holds by its own account, a line each, as `j1939 nodes` does by the
+/// log's.
+fn tell_addresses(rt: &HostRuntime, controllers: &[Controller]) -> io::Result<()> {
+    for controller in controllers {
+        if let Some(address) = controller.held() {
+            let name = controller.name().raw();
+            eprintln!(rt; "{address:02X} {name:016X}")?;
+        }
+    }
+    Ok(())
+}
+
+/// Says why there is nothing to play, and answers the exit status.
+fn refuse(rt: &HostRuntime, refusal: &Refusal) -> io::Result<u8> {
+    match refusal {
+        Refusal::Memory => {
+            eprintln!(rt; "bus_demo: out of memory")?;
+            Ok(1)
+        }
+        Refusal::Help(text) => {
+            print!(rt; "{text}")?;
+            Ok(0)
+        }
+        Refusal::Usage(text) => {
+            eprint!(rt; "{text}")?;
+            Ok(2)
+        }
+        Refusal::BadValue(word) => {
+            eprintln!(rt; "bus_demo: bad value for {word}")?;
+            Ok(2)
+        }
+    }
+}

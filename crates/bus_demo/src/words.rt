@@ -1,0 +1,146 @@
+//! The words of the command line.
+ghost use Rattle.std.specs.Prelude.{◌≤◌, IfSome};
+
+use clap::error::ErrorKind;
+use clap::{Arg, ArgMatches, Command, Error};
+use j39_frame::number;
+use std::alloc::{AllocError, Global};
+use std::convert::AsStr;
+
+const HELP: &str = "\
+Examples:
+  bus_demo | j1939 report
+  bus_demo --seed 7 --seconds 10 --lose 98,105
+
+Four controllers share the bus: two want one address, one is commanded to another,
+each sends engine speed, temperatures and distance, one broadcasts its vehicle's
+identification, and one sends its component's to another. A frame that is lost is
+seen by no one: neither the log nor another controller has it.
+
+Exit status:
+  0  done, or help was asked for
+  1  out of memory, or a write failed
+  2  the words are wrong";
+
+/// The longest time that is played, in seconds.
+const LONGEST: u64 = 3_600;
+
+/// What is to be played.
+#[derive(Drop)]
+pub(crate) struct Words {
+    /// What the gauges and the turns of the controllers' loops hang on.
+    pub seed: u64,
+    /// How long it goes, 1 to 3,600 seconds.
+    pub seconds: u64,
+    /// The numbers of the frames that are lost, counted from 1.
+    pub lose: Vec<u64>,
+}
+
+/// Why there is nothing to play.
+#[derive(Drop)]
+pub(crate) enum Refusal {
+    /// Memory was refused.
+    Memory,
+    /// Help was asked for; with clap's text.
+    Help(String),
+    /// The words are no command line; with what clap says of them.
+    Usage(String),
+    /// The value of this word is wrong.
+    BadValue(&'static str),
+}
+
+impl From<AllocError> for Refusal {
+    fn from(_error: AllocError) -> Refusal {
+        Refusal::Memory
+    }
+}
+
+/// What the words ask for. They begin with the program's name.
+pub(crate) fn read_words<S: AsStr>(alloc: Global, words: &[S]) -> Result<Words, Refusal> {
+    let command = command(alloc)?;
+    let matches = match command.try_get_matches_from(words) {
+        Ok(matches) => matches,
+        Err(error) => return Err(refusal_of(alloc, &error)),
+    };
+    Ok(Words {
+        seed: value(&matches, "seed", 1, 0, u64::MAX).ok_or(Refusal::BadValue("--seed"))?,
+        seconds: value(&matches, "seconds", 3, 1, LONGEST).ok_or(Refusal::BadValue("--seconds"))?,
+        lose: numbers(alloc, matches.get_str("lose"))?,
+    })
+}
+
+/// What clap is told.
+fn command<'a>(alloc: Global) -> Result<Command<'a>, AllocError> {
+    Command::new(alloc, "bus_demo")
+        .about("Plays a J1939 bus of simulated controllers, and writes its log as candump -L does.")
+        .after_help(HELP)
+        .arg(option(alloc, "seed", "N", "What the run hangs on; without it 1"))?
+        .arg(option(
+            alloc,
+            "seconds",
+            "N",
+            "How long it goes, 1 to 3600; without it 3",
+        ))?
+        .arg(option(
+            alloc,
+            "lose",
+            "N,N..",
+            "The frames that are lost, counted from 1",
+        ))
+}
+
+/// `--name VALUE`
+fn option<'a>(alloc: Global, name: &'a str, value: &'a str, help: &'a str) -> Arg<'a> {
+    Arg::new(alloc, name)
+        .long(name)
+        .value_name(value)
+        .help(help)
+}
+
+fn refusal_of(alloc: Global, error: &Error) -> Refusal {
+    let kind = error.kind();
+    match error.to_string(alloc) {
+        Err(_) => Refusal::Memory,
+        Ok(_) if kind == ErrorKind::OutOfMemory => Refusal::Memory,
+        Ok(text) if kind == ErrorKind::DisplayHelp => Refusal::Help(text),
+        Ok(text) => Refusal::Usage(text),
+    }
+}
+
+/// The number that a word has, within bounds, or the one that stands for none; `None` for a wrong one.
+fn value(matches: &ArgMatches<'_>, id: &str, none: u64, least: u64, most: u64) -> Option<u64> {
+    match matches.get_str(id) {
+        None => Some(none),
+        Some(text) => within(text, least, most),
+    }
+}
+
+/// The number of one or more decimal digits, within bounds.
+fn within(text: &str, least: u64, most: u64) -> Option<u64>
+    ensures { IfSome result (λ n. (least ≤ n) × (n ≤ most)) }
+{
+    if text.is_empty() {
+        return None;
+    }
+    let value = number(text.as_bytes(), 10)?;
+    if least <= value && value <= most {
+        Some(value)
+    } else {
+        None
+    }
+}
+
+/// The numbers of a list, each 1 or more, with commas between them.
+fn numbers(alloc: Global, list: Option<&str>) -> Result<Vec<u64>, Refusal> {
+    let mut numbers = Vec::new(alloc);
+    let Some(list) = list else {
+        return Ok(numbers);
+    };
+    for text in list.split(',') {
+        match within(text, 1, u64::MAX) {
+            Some(number) => numbers.push(number).map_err(|_| Refusal::Memory)?,
+            None => return Err(Refusal::BadValue("--lose")),
+        }
+    }
+    Ok(numbers)
+}

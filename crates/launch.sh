@@ -1,0 +1,73 @@
+# What the scripts at the top have in common: each sources this file and calls launch.
+
+# The crates that a crate stands on, and itself.
+crates_below() {
+  local crate
+  echo "$1"
+  for crate in $(sed -n "s/^$1: //p" "$top/crates.txt"); do
+    if [ -d "$top/crates/$crate" ]; then
+      crates_below "$crate"
+    fi
+  done
+}
+
+is_stale() {
+  [ ! -x "$program" ] || [ -n "$(cd "$top/crates" && find "$top/crates.txt" $crates \
+    -name out -prune -o -name must-fail -prune -o -type f -newer "$program" -print -quit)" ]
+}
+
+# How many crates are built after this one, in the order of crates.txt.
+count_after() {
+  awk -F: -v at="$1" -v ours="$crates" 'BEGIN { split(ours, names); for (i in names) ours_too[names[i]] }
+    seen && $1 in ours_too { n++ } $1 == at { seen = 1 } END { print n + 0 }' "$top/crates.txt"
+}
+
+# Shows, until the shell $$ ends, which crate the log is at and how many are left.
+show_progress() {
+  local log=$1 crate
+  while kill -0 $$ 2>/dev/null; do
+    crate=$(sed -n 's/^rt: chose --jobs .* for //p' "$log" | tail -n 1)
+    if [ -n "$crate" ]; then
+      printf '\r%s: %s is at hand, %d more to go; %d:%02d minutes\033[K' \
+        "$name" "$crate" "$(count_after "$crate")" $((SECONDS / 60)) $((SECONDS % 60)) >&2
+    fi
+    sleep 1
+  done
+}
+
+build() {
+  local teller='' status=0
+  log=$(mktemp)
+  trap 'rm -f "$log"' EXIT
+  echo "$name: proving and building the program first: ten to fifteen minutes on 4 cores" >&2
+  if [ -t 2 ]; then
+    show_progress "$log" &
+    teller=$!
+  fi
+  (cd "$top/crates/$name" && rt run -- --help) >"$log" 2>&1 </dev/null || status=$?
+  if [ -n "$teller" ]; then
+    kill "$teller" 2>/dev/null || true
+    wait "$teller" 2>/dev/null || true
+    printf '\r\033[K' >&2
+  fi
+  if [ "$status" -ne 0 ]; then
+    tail -n 20 "$log" >&2
+    echo "$name: the program was not built" >&2
+  fi
+  rm -f "$log"
+  return "$status"
+}
+
+# Runs the program of this name, a crate, with the words that follow. Where it isn't built, or its
+# sources are newer, it is proved and built first.
+launch() {
+  name=$1
+  shift
+  program=$top/crates/$name/out/$name
+  crates=$(crates_below "$name" | sort -u | tr '\n' ' ')
+  if is_stale; then
+    build || exit 1
+    touch "$program"
+  fi
+  exec "$program" "$@"
+}
