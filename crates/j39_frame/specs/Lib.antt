@@ -4,6 +4,7 @@ pub mod Pgn
 pub mod Network
 pub mod Identifier
 pub mod Address
+pub mod Backwards
 pub mod Bus
 pub mod Frame
 pub mod Device

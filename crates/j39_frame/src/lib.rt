@@ -3,6 +3,7 @@
 #![tactic(auto)]
 
 mod address;
+pub mod backwards;
 mod bus;
 mod canonical;
 mod device;
