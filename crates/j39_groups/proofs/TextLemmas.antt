@@ -1,5 +1,5 @@
 -- The digits of numbers.
-use Rattle.std.proofs.Common.{◌≡◌, ◌<◌, ◌≤◌, ◌+◌, ◌-◌, ◌*◌, ◌/◌, ◌%◌, ◌^◌, ℕ, zero, suc, [], ◌∷◌, ◌++◌, length, refl, ap, ◌∙◌, sym, arith, append-nil, append_assoc}
+use Rattle.std.proofs.Common.{div-le_self, ◌≡◌, ◌<◌, ◌≤◌, ◌+◌, ◌-◌, ◌*◌, ◌/◌, ◌%◌, ◌^◌, ℕ, zero, suc, [], ◌∷◌, ◌++◌, length, refl, ap, ◌∙◌, sym, arith, append-nil, append_assoc}
 use Rattle.std.proofs.lemmas.Grind.{pow_more}
 use Rattle.std.proofs.lemmas.Fmt.{length-decimal-le}
 use Rattle.std.proofs.Math.Nat.{div-div-eq-div-mul}
@@ -38,3 +38,13 @@ magnitude_more (suc zero) magnitude h = absurd (omega arith)
 magnitude_more (suc (suc more)) magnitude h =
     let before : suc (suc more) - 1 ≡ suc more = omega arith in
     rw (before, rest (suc more) magnitude) (simp append_assoc refl)
+
+pub less_by_places : (n k m : ℕ) → n < 2 ^ 64 → m ≡ n / 10 ^ k → m < 2 ^ 64
+less_by_places n k m h e = let less : n / 10 ^ k ≤ n = div-le_self n (10 ^ k) in omega (arith, e, less)
+
+-- the digits of the whole part, the point and the places
+pub magnitude_pointed : (places magnitude : ℕ) → 0 < places
+    → decimal (magnitude / 10 ^ places) ++ ((46 ∷ []) ++ last_digits places magnitude) ≡ magnitude_text places magnitude
+unfolding magnitude_text
+magnitude_pointed zero magnitude h = absurd (omega arith)
+magnitude_pointed (suc more) magnitude h = refl

@@ -8,3 +8,4 @@ pub mod Slots
 pub mod ValueText
 pub mod Shown
 pub mod CodeRows
+pub mod Quick

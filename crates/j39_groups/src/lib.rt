@@ -4,13 +4,17 @@
 mod field;
 pub mod laws;
 mod parameter;
+mod quick_lines;
+mod quick_rows;
 mod reading;
+mod short_text;
 mod slot;
 mod table;
 mod text;
 mod value;
 
 pub use parameter::{raw_of, slot_of};
+pub use quick_lines::{HEAD, LINES, lines_before};
 pub use reading::{is_reported, readings};
 pub use slot::Slot;
 pub use text::put_value;
