@@ -23,7 +23,9 @@ hex_pair_before-at-requires-clause-room c =
     omega (arith, starts, long, rest, c.requires.room, c.bytes.invariant.1)
 
 pub bytes-preserved : goal.bytes-preserved
-bytes-preserved c =
-    (subst (λ t. WritesBefore c.args.out.now c.hex_pair_before-at.new.out c.args.end c.hex_pair_before-at.result t)
-    (sym (hex_more c.args.bytes.now c.bytes.left (omega arith) c.bytes.invariant.1))
-    (before_then _ _ _ _ _ _ _ _ c.bytes.invariant.0 c.hex_pair_before-at.ensures), omega arith)
+bytes-preserved c = (
+  subst (λ t. WritesBefore c.args.out.now c.hex_pair_before-at.new.out c.args.end c.hex_pair_before-at.result t)
+      (sym (hex_more c.args.bytes.now c.bytes.left (omega arith) c.bytes.invariant.1))
+      (before_then _ _ _ _ _ _ _ _ c.bytes.invariant.0 c.hex_pair_before-at.ensures),
+  omega arith,
+)
