@@ -138,7 +138,8 @@ fn hex_pair_before(out: &mut [u8], end: usize, byte: u8) -> usize
 pub fn hex_before(out: &mut [u8], end: usize, bytes: &[u8]) -> usize
     requires room { 2 * length bytes.now ≤ end }
     requires within { end ≤ length out.old }
-    ensures { WritesBefore out.old out.new end result (encode_upper bytes.now) }
+    ensures written { WritesBefore out.old out.new end result (encode_upper bytes.now) }
+    ensures starts { result + 2 * length bytes.now ≡ end }
 {
     let mut at = end;
     let mut left = bytes.len();

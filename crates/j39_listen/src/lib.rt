@@ -3,6 +3,7 @@
 
 mod account;
 mod counts;
+mod head;
 mod heard;
 pub mod laws;
 mod listener;

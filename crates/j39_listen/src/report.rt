@@ -11,6 +11,7 @@ use crate::account::{Account, LineFault};
 use crate::counts::Made;
 use crate::report_lines::put_heard;
 use j39_frame::{DeviceFault, Frame, Sink};
+use j39_groups::LINES;
 use std::alloc::{AllocError, Global};
 
 /// What is heard so far, and the numbers of its report.
@@ -18,6 +19,8 @@ use std::alloc::{AllocError, Global};
 pub(crate) struct Report {
     listener: Listener,
     made: Made,
+    /// Where the lines of a message are made.
+    block: [u8; LINES],
 }
 
 impl Report {
@@ -28,6 +31,7 @@ impl Report {
         Report {
             listener: Listener::new(alloc),
             made: Made::default(),
+            block: [0; LINES],
         }
     }
 }
@@ -44,7 +48,7 @@ impl Account for Report {
     ghost takes_memory = { ⊤ };
 
     fn meet<W: Sink>(&mut self, frame: &Frame, sink: &mut W) -> Result<(), LineFault> {
-        match put_frame(&mut self.listener, frame, sink) {
+        match put_frame(&mut self.listener, &mut self.block, frame, sink) {
             Ok(made) => {
                 self.made = self.made.and(made);
                 Ok(())
@@ -63,6 +67,7 @@ impl Account for Report {
 /// Writes the report of what is heard at a frame of the run's bus, and answers its numbers.
 fn put_frame<W: Sink>(
     listener: &mut Listener,
+    block: &mut [u8; LINES],
     frame: &Frame,
     sink: &mut W,
 ) -> Result<Made, LineFault>
@@ -77,7 +82,7 @@ fn put_frame<W: Sink>(
     match listener.feed(frame) {
         Err(AllocError) => Err(LineFault::Memory),
         Ok(None) => Ok(Made::default()),
-        Ok(Some(heard)) => match put_heard(&heard, sink) {
+        Ok(Some(heard)) => match put_heard(&heard, block, sink) {
             Ok(lines) => Ok(Made { messages: 1, lines }),
             Err(DeviceFault) => Err(LineFault::Write),
         },

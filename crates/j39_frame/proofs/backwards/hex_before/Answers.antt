@@ -29,3 +29,15 @@ bytes-preserved c = (
       (before_then _ _ _ _ _ _ _ _ c.bytes.invariant.0 c.hex_pair_before-at.ensures),
   omega arith,
 )
+
+pub returns-clause-written : goal.returns-clause-written
+returns-clause-written c =
+    let none : c.bytes.left ≡ 0 = omega arith in
+    subst (λ n. WritesBefore c.args.out.now c.bytes.out c.args.end c.bytes.at (encode_upper (drop n c.args.bytes.now))) none c.bytes.invariant.0
+
+pub returns-clause-starts : goal.returns-clause-starts
+returns-clause-starts c =
+    let starts = c.bytes.invariant.0.starts in
+    let long = length-encode_with upper_digits (drop c.bytes.left c.args.bytes.now) in
+    let rest = length-drop c.bytes.left c.args.bytes.now in
+    omega (arith, starts, long, rest)
