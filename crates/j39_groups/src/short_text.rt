@@ -29,7 +29,8 @@ pub(crate) fn short_before(out: &mut [u8], end: usize, text: &ShortText) -> usiz
     ensures written { WritesBefore out.old out.new end result (short_text text.now) }
     ensures short { end ≤ result + 8 }
 {
-    tail_before(out, end, &text.bytes, usize::from(text.from))
+    let bytes = text.bytes;
+    tail_before(out, end, &bytes, usize::from(text.from))
 }
 
 /// Writes the text of a value and a newline.

@@ -21,6 +21,7 @@ pub(crate) struct Progress<A> {
 
 impl<A: Account> Progress<A> {
     /// Takes a line of the log, and writes what is to be written at it.
+    #[inline(always)]
     pub fn read<W: Sink>(&mut self, line: Line<'_>, sink: &mut W) -> Result<(), LineFault>
         ensures read { OnOk result (IsSpelling (spelled_of line.entry)
             → ReadsLine A.has_met (spelled_of line.entry) self.old self.new (W.held sink.old) (W.held sink.new)) }
@@ -41,6 +42,7 @@ impl<A: Account> Progress<A> {
 }
 
 /// Writes what is to be written at a line, and answers what the line counts for.
+#[inline(always)]
 fn meet<A: Account, W: Sink>(
     bus: &mut Option<Bus>,
     account: &mut A,
@@ -95,6 +97,7 @@ const UNREAD: Tally = Tally {
 };
 
 /// Whether an interface is the bus of the run, which it becomes where there is none yet.
+#[inline(always)]
 fn is_on(bus: &mut Option<Bus>, name: &[u8]) -> bool
     ensures bus { IsBusName name.now → bus.new ≡ Some (unwrap_or bus.old name.now) }
     ensures on { IsBusName name.now → result ≡ bytes_eq name.now (unwrap_or bus.old name.now) }

@@ -47,6 +47,7 @@ impl Account for Report {
 
     ghost takes_memory = { ⊤ };
 
+    #[inline(always)]
     fn meet<W: Sink>(&mut self, frame: &Frame, sink: &mut W) -> Result<(), LineFault> {
         match put_frame(&mut self.listener, &mut self.block, frame, sink) {
             Ok(made) => {
@@ -65,6 +66,7 @@ impl Account for Report {
 }
 
 /// Writes the report of what is heard at a frame of the run's bus, and answers its numbers.
+#[inline(always)]
 fn put_frame<W: Sink>(
     listener: &mut Listener,
     block: &mut [u8; LINES],

@@ -21,6 +21,7 @@ use j39_groups::{HEAD, LINES, Reading, lines_before, put_value, readings};
 
 /// Writes a line for each reading of a message, and answers how many: in one piece where each value is a
 /// number or a switch. The block is for that alone.
+#[inline(never)]
 pub(crate) fn put_heard<W: Sink>(
     heard: &Heard<'_>,
     block: &mut [u8; LINES],
