@@ -23,4 +23,5 @@ pub mod Newline
 pub mod Splitter
 pub mod SplitterSteps
 pub mod Printing
+pub mod Seconds
 pub mod Canonical

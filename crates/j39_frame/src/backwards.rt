@@ -4,10 +4,7 @@
 ghost use Rattle.std.specs.Prelude.{◌≡◌, ◌+◌, ◌*◌, ◌/◌, ◌^◌, ◌<◌, ◌≤◌, ◌∷◌, [], decimal, drop, length};
 ghost use Rattle.hex.specs.Hex.{encode_upper};
 ghost use Rattle.j39_frame.specs.Backwards.{WritesBefore, two_digits};
-ghost use Rattle.j39_frame.specs.Printing.{last_digits, stamp_text};
-ghost use Rattle.j39_frame.specs.Stamp.{stamp_micros};
-
-use crate::Stamp;
+ghost use Rattle.j39_frame.specs.Printing.{last_digits};
 
 /// Writes a byte.
 #[inline(always)]
@@ -148,19 +145,4 @@ pub fn hex_before(out: &mut [u8], end: usize, bytes: &[u8]) -> usize
         at = hex_pair_before(out, at, bytes[left]);
     }
     at
-}
-
-/// Writes a stamp, as `(0000000001.010000)`: the seconds in ten digits, the microseconds in six.
-#[inline(always)]
-pub fn stamp_before(out: &mut [u8], end: usize, stamp: Stamp) -> usize
-    requires room { 19 ≤ end }
-    requires within { end ≤ length out.old }
-    ensures { WritesBefore out.old out.new end result (stamp_text (stamp_micros stamp)) }
-{
-    let micros = stamp.micros();
-    let close = byte_before(out, end, b')');
-    let (fraction, _) = last_digits_before(out, close, 6, micros % 1_000_000);
-    let point = byte_before(out, fraction, b'.');
-    let (seconds, _) = last_digits_before(out, point, 10, micros / 1_000_000);
-    byte_before(out, seconds, b'(')
 }

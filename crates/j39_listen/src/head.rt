@@ -9,13 +9,13 @@ ghost use Rattle.j39_listen.specs.Shown.{hearing_of};
 
 use crate::Heard;
 use j39_address::Name;
-use j39_frame::Pgn;
-use j39_frame::backwards::{byte_before, bytes_before, hex_before, number_before, stamp_before};
+use j39_frame::backwards::{byte_before, bytes_before, hex_before, number_before};
+use j39_frame::{Pgn, Seconds};
 use j39_groups::HEAD;
 
 /// Writes the head of a message's lines at the end of a block, and answers where it starts.
 #[inline(always)]
-pub(crate) fn head_before(out: &mut [u8; HEAD], heard: &Heard<'_>) -> usize
+pub(crate) fn head_before(out: &mut [u8; HEAD], heard: &Heard<'_>, seconds: &mut Seconds) -> usize
     ensures head { drop result out.new ≡ hearing_head (hearing_of heard.now) }
     ensures within { result ≤ 48 }
 {
@@ -26,7 +26,7 @@ pub(crate) fn head_before(out: &mut [u8; HEAD], heard: &Heard<'_>) -> usize
     let second = byte_before(out, name, b' ');
     let address = hex_before(out, second, &[heard.message.source]);
     let first = byte_before(out, address, b' ');
-    stamp_before(out, first, heard.message.stamp)
+    seconds.stamp_before(out, first, heard.message.stamp)
 }
 
 /// Writes the number of a group (PGN): six digits at most.

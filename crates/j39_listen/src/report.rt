@@ -9,9 +9,8 @@ ghost use Rattle.j39_listen.specs.declared.account.LineFault.TheVariants.{Memory
 use crate::Listener;
 use crate::account::{Account, LineFault};
 use crate::counts::Made;
-use crate::report_lines::put_heard;
+use crate::report_lines::{Pen, put_heard};
 use j39_frame::{DeviceFault, Frame, Sink};
-use j39_groups::LINES;
 use std::alloc::{AllocError, Global};
 
 /// What is heard so far, and the numbers of its report.
@@ -19,8 +18,7 @@ use std::alloc::{AllocError, Global};
 pub(crate) struct Report {
     listener: Listener,
     made: Made,
-    /// Where the lines of a message are made.
-    block: [u8; LINES],
+    pen: Pen,
 }
 
 impl Report {
@@ -31,7 +29,7 @@ impl Report {
         Report {
             listener: Listener::new(alloc),
             made: Made::default(),
-            block: [0; LINES],
+            pen: Pen::new(),
         }
     }
 }
@@ -49,7 +47,7 @@ impl Account for Report {
 
     #[inline(always)]
     fn meet<W: Sink>(&mut self, frame: &Frame, sink: &mut W) -> Result<(), LineFault> {
-        match put_frame(&mut self.listener, &mut self.block, frame, sink) {
+        match put_frame(&mut self.listener, &mut self.pen, frame, sink) {
             Ok(made) => {
                 self.made = self.made.and(made);
                 Ok(())
@@ -69,7 +67,7 @@ impl Account for Report {
 #[inline(always)]
 fn put_frame<W: Sink>(
     listener: &mut Listener,
-    block: &mut [u8; LINES],
+    pen: &mut Pen,
     frame: &Frame,
     sink: &mut W,
 ) -> Result<Made, LineFault>
@@ -84,7 +82,7 @@ fn put_frame<W: Sink>(
     match listener.feed(frame) {
         Err(AllocError) => Err(LineFault::Memory),
         Ok(None) => Ok(Made::default()),
-        Ok(Some(heard)) => match put_heard(&heard, block, sink) {
+        Ok(Some(heard)) => match put_heard(&heard, pen, sink) {
             Ok(lines) => Ok(Made { messages: 1, lines }),
             Err(DeviceFault) => Err(LineFault::Write),
         },

@@ -16,15 +16,31 @@ use crate::head::head_before;
 use arrayvec::ArrayVec;
 use j39_address::Name;
 use j39_frame::printing::{push_bytes, push_hex, push_number};
-use j39_frame::{DeviceFault, Sink, put_all};
+use j39_frame::{DeviceFault, Seconds, Sink, put_all};
 use j39_groups::{HEAD, LINES, Reading, lines_before, put_value, readings};
 
+/// What the lines of a message are made with, kept from message to message.
+#[derive(Debug, Drop)]
+pub(crate) struct Pen {
+    block: [u8; LINES],
+    seconds: Seconds,
+}
+
+impl Pen {
+    pub fn new() -> Pen {
+        Pen {
+            block: [0; LINES],
+            seconds: Seconds::new(0),
+        }
+    }
+}
+
 /// Writes a line for each reading of a message, and answers how many: in one piece where each value is a
-/// number or a switch. The block is for that alone.
+/// number or a switch.
 #[inline(never)]
 pub(crate) fn put_heard<W: Sink>(
     heard: &Heard<'_>,
-    block: &mut [u8; LINES],
+    pen: &mut Pen,
     sink: &mut W,
 ) -> Result<u64, DeviceFault>
     ensures lines { IfOk result (λ n. n ≡ length (entries_of (hearing_of heard.now))) }
@@ -35,10 +51,16 @@ pub(crate) fn put_heard<W: Sink>(
     ensures mark { Marks result (W.has_failed sink.old) (W.has_failed sink.new) }
 {
     let mut head = [0; HEAD];
-    let from = head_before(&mut head, heard);
-    match lines_before(block, &head, from, heard.message.pgn, heard.message.payload) {
+    let from = head_before(&mut head, heard, &mut pen.seconds);
+    match lines_before(
+        &mut pen.block,
+        &head,
+        from,
+        heard.message.pgn,
+        heard.message.payload,
+    ) {
         Some((start, lines)) => {
-            put_all(sink, &block[start..])?;
+            put_all(sink, &pen.block[start..])?;
             Ok(lines)
         }
         None => put_each(&head[from..], heard, sink),
