@@ -4,6 +4,7 @@ pub mod Pgn
 pub mod Network
 pub mod Identifier
 pub mod Address
+pub mod Backwards
 pub mod Bus
 pub mod Frame
 pub mod Device
@@ -22,4 +23,5 @@ pub mod Newline
 pub mod Splitter
 pub mod SplitterSteps
 pub mod Printing
+pub mod Seconds
 pub mod Canonical

@@ -3,6 +3,7 @@
 #![tactic(auto)]
 
 mod address;
+pub mod backwards;
 mod bus;
 mod canonical;
 mod device;
@@ -18,6 +19,7 @@ mod newline;
 mod pgn;
 mod plain;
 pub mod printing;
+mod seconds;
 mod splitter;
 mod stamp;
 mod text;
@@ -32,6 +34,7 @@ pub use frame::Frame;
 pub use identifier::Id;
 pub use line::{LINE_LIMIT, Line, read_line};
 pub use pgn::Pgn;
+pub use seconds::Seconds;
 pub use splitter::{RawLine, Splitter};
 pub use stamp::Stamp;
 pub use trial::{Full, Trial};

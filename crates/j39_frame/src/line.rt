@@ -95,6 +95,7 @@ pub(crate) fn read_any(line: &[u8]) -> Line<'_>
 }
 
 /// Reads a line of a log, which is given without its newline. A frame of any bus is a `Frame` here.
+#[inline(always)]
 pub fn read_line(line: &[u8]) -> Line<'_>
     ensures reads { Spells line.now (spelled_of result) }
     ensures only { (s : Spelled) → Spells line.now s → spelled_of result ≡ s }

@@ -9,6 +9,7 @@ ghost use Rattle.j39_frame.specs.Newline.{TakesLine, is_no_newline};
 use std::simd::prelude::*;
 
 /// The bytes before the first newline, and those after it; `None` where there is no newline.
+#[inline(always)]
 pub(crate) fn split_line(bytes: &[u8]) -> Option<(&[u8], &[u8])>
     ensures { MatchOption result (HasNoNewline bytes.now) (λ cut. TakesLine bytes.now cut.0.now cut.1.now) }
 {

@@ -32,6 +32,7 @@ impl<'a> RawLine<'a> {
     ghost use Rattle.j39_frame.specs.Splitter.{IsRawLine};
 
     /// Reads the line.
+    #[inline(always)]
     pub fn read(self) -> Line<'a>
         ensures { (line : List ℕ) → IsRawLine self.entry line → Spells line (spelled_of result) }
     {
@@ -70,6 +71,7 @@ impl Splitter {
 
     /// Takes the bytes up to and with the first newline of the piece, else all of them: how many
     /// it took, and the line where one ended.
+    #[inline(always)]
     pub fn feed<'a>(&'a mut self, piece: &'a [u8]) -> (usize, Option<RawLine<'a>>)
         ensures count { result.0 ≤ length piece.now }
         ensures some { 0 < length piece.now → 0 < result.0 }
@@ -90,6 +92,7 @@ impl Splitter {
         self.last(has_line)
     }
 
+    #[inline(always)]
     fn take<'a>(&mut self, piece: &'a [u8]) -> PieceStep<'a>
         ensures count { StepFits result piece.now }
         ensures step { (begun : List ℕ) → HasBegun self.old begun → Steps result begun piece.now self.new }
@@ -128,6 +131,7 @@ impl Splitter {
     }
 
     /// Keeps what there is room for.
+    #[inline(never)]
     fn keep(&mut self, bytes: &[u8])
         ensures kept { (line : List ℕ) → IsKept line self.old.kept.items self.old.has_more
             → IsKept (line ++ bytes.now) self.new.kept.items self.new.has_more }

@@ -19,7 +19,7 @@ use Rattle.j39_groups.specs.CodeRows.{is_sound_table, is_sound, IsSound, most_va
 use Rattle.j39_groups.specs.Slots.{SizedSlotRecord, slot_at}
 use Rattle.j39_groups.proofs.ListLemmas.{lone, contains_filter_map}
 
-field_sound : (field : Field) → is_sound field ≡ true → IsSound field
+pub field_sound : (field : Field) → is_sound field ≡ true → IsSound field
 field_sound (Number first last slot) h =
     let a = and_parts _ _ h in
     let b = and_parts _ _ a.1 in

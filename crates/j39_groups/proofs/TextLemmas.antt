@@ -1,5 +1,5 @@
 -- The digits of numbers.
-use Rattle.std.proofs.Common.{◌≡◌, ◌<◌, ◌≤◌, ◌+◌, ◌-◌, ◌*◌, ◌/◌, ◌%◌, ◌^◌, ℕ, List, zero, suc, [], ◌∷◌, ◌++◌, length, refl, ap, ◌∙◌, sym, arith, append-nil, append_assoc}
+use Rattle.std.proofs.Common.{div-le_self, ◌≡◌, ◌<◌, ◌≤◌, ◌+◌, ◌-◌, ◌*◌, ◌/◌, ◌%◌, ◌^◌, ℕ, List, zero, suc, [], ◌∷◌, ◌++◌, length, refl, ap, ◌∙◌, sym, arith, append-nil, append_assoc}
 use Rattle.std.proofs.lemmas.Grind.{pow_more}
 use Rattle.std.proofs.lemmas.Fmt.{length-decimal-le}
 use Rattle.std.proofs.Math.Nat.{div-div-eq-div-mul}
@@ -48,3 +48,13 @@ pub words_joined : (a b c d e f space end : List ℕ)
     → a ++ space ++ b ++ space ++ c ++ space ++ d ++ space ++ e ++ space ++ f ++ end
     ≡ flat_map (λ (part : List ℕ). part) (a ∷ space ∷ b ∷ space ∷ c ∷ space ∷ d ∷ space ∷ e ∷ space ∷ f ∷ end ∷ [])
 words_joined a b c d e f space end = simp (append_assoc, append-nil) refl
+
+pub less_by_places : (n k m : ℕ) → n < 2 ^ 64 → m ≡ n / 10 ^ k → m < 2 ^ 64
+less_by_places n k m h e = let less : n / 10 ^ k ≤ n = div-le_self n (10 ^ k) in omega (arith, e, less)
+
+-- the digits of the whole part, the point and the places
+pub magnitude_pointed : (places magnitude : ℕ) → 0 < places
+    → decimal (magnitude / 10 ^ places) ++ ((46 ∷ []) ++ last_digits places magnitude) ≡ magnitude_text places magnitude
+unfolding magnitude_text
+magnitude_pointed zero magnitude h = absurd (omega arith)
+magnitude_pointed (suc more) magnitude h = refl

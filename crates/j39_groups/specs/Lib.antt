@@ -9,3 +9,4 @@ pub mod ValueText
 pub mod Parameters
 pub mod Shown
 pub mod CodeRows
+pub mod Quick

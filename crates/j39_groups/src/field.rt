@@ -15,6 +15,7 @@ use byteorder::{ByteOrder, LittleEndian};
 
 /// The number in the bytes `first` to `last`; `None` where the payload does not reach them or it is
 /// not available.
+#[inline(always)]
 pub(crate) fn number_at(bytes: &[u8], first: u8, last: u8, slot: Slot) -> Option<Value<'_>>
     requires { IsSoundNumber first last slot }
     ensures { option_map value_of result
@@ -45,7 +46,12 @@ fn little_number(part: &[u8]) -> u32
     requires narrow { length part.now ≤ 4 }
     ensures { result ≡ little_number (length part.now) part.now }
 {
-    LittleEndian::read_uint(part, part.len()) as u32
+    match part {
+        [byte] => u32::from(*byte),
+        [_, _] => u32::from(LittleEndian::read_u16(part)),
+        [_, _, _, _] => LittleEndian::read_u32(part),
+        _ => LittleEndian::read_uint(part, part.len()) as u32,
+    }
 }
 
 /// The top byte of a raw number of `count` bytes.

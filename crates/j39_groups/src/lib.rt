@@ -5,7 +5,10 @@ mod field;
 pub mod laws;
 mod parameter;
 mod parameters;
+mod quick_lines;
+mod quick_rows;
 mod reading;
+mod short_text;
 mod slot;
 mod table;
 mod text;
@@ -13,6 +16,7 @@ mod value;
 
 pub use parameter::{raw_of, slot_of};
 pub use parameters::put_parameters;
+pub use quick_lines::{HEAD, LINES, lines_before};
 pub use reading::{is_reported, readings};
 pub use slot::Slot;
 pub use text::put_value;

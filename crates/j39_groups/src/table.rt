@@ -1,5 +1,6 @@
 //! The table: which parameters are read, and where each stands in its group's payload (J1939-71).
 
+use crate::short_text::ShortText;
 use crate::slot::{Slot, Unit};
 
 /// Where a parameter stands in the payload. Bytes, bits and parts count from 1.
@@ -181,3 +182,52 @@ macro_rules! low_bits {
 
 /// The low bytes of the groups: the bit `b % 64` of the word `b / 64` stands for `b`.
 pub(crate) const LOW_BYTES: [u64; 4] = parameters!(low_bits);
+
+macro_rules! label {
+    ($spn:literal) => {
+        ShortText {
+            bytes: [
+                b'0',
+                b'0' + ($spn / 100_000 % 10) as u8,
+                b'0' + ($spn / 10_000 % 10) as u8,
+                b'0' + ($spn / 1_000 % 10) as u8,
+                b'0' + ($spn / 100 % 10) as u8,
+                b'0' + ($spn / 10 % 10) as u8,
+                b'0' + ($spn % 10) as u8,
+                b' ',
+            ],
+            from: if $spn < 10 {
+                6
+            } else if $spn < 100 {
+                5
+            } else if $spn < 1_000 {
+                4
+            } else if $spn < 10_000 {
+                3
+            } else if $spn < 100_000 {
+                2
+            } else {
+                1
+            },
+        }
+    };
+}
+
+macro_rules! labelled {
+    ($($kind:ident ($pgn:literal, $group:literal, $spn:literal, $($column:tt)*),)*) => {
+        &[$(LabelledRow {
+            label: label!($spn),
+            row: $kind!($pgn, $group, $spn, $($column)*),
+        }),*]
+    };
+}
+
+/// A row, and its parameter's number in decimal with a space after it.
+#[derive(Clone, Copy, Debug, PartialEq, Eq)]
+pub(crate) struct LabelledRow {
+    pub label: ShortText,
+    pub row: Row,
+}
+
+/// All rows, with their labels.
+pub(crate) const LABELLED: &[LabelledRow] = parameters!(labelled);

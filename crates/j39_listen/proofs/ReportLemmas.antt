@@ -7,11 +7,15 @@ use Rattle.std.specs.Io.KnownBytes.{Appends}
 use Rattle.std.proofs.KnownBytes.{Appends-trans}
 use Rattle.std.proofs.lemmas.List.{take_more, map-append}
 use Rattle.std.proofs.lemmas.Grind.{flat_map-append}
+use Rattle.std.proofs.lemmas.List.Folds.{flat_map-map}
+use Rattle.std.specs.List.{flat_map}
+use Rattle.j39_groups.specs.Quick.{reading_line}
+use Rattle.j39_groups.specs.Readings.{readings_of}
 use Rattle.j39_groups.specs.declared.Reading.{Reading}
 use Rattle.j39_groups.specs.Shown.{reading_of, value_of}
 use Rattle.j39_groups.specs.ValueText.{value_text}
 use Rattle.j39_listen.specs.Heard.{Hearing}
-use Rattle.j39_listen.specs.Report.{Entry, entry_of, hearing_head, entry_text, text_of}
+use Rattle.j39_listen.specs.Report.{Entry, entries_of, entry_of, hearing_head, entry_text, text_of}
 
 pub text_of-append : (xs ys : List Entry) → text_of (xs ++ ys) ≡ text_of xs ++ text_of ys
 unfolding text_of
@@ -76,3 +80,8 @@ front_in_line a b c h readings i d head below is before front =
     let line = line_behind head (get_or readings i d) in
     let text = text_of-cut h readings (i + 1) ∙ ap (λ t. t ++ rest) (line_more h readings i d head below is) ∙ append_assoc (text_of (entries_to h readings i)) line rest in
     front_within a b c (text_of (entries_to h readings i)) line rest _ text before front
+
+-- the text of a message's entries, by its readings
+pub text_of-lines : (h : Hearing) → flat_map (reading_line (hearing_head h)) (readings_of h.message.pgn h.message.bytes) ≡ text_of (entries_of h)
+unfolding text_of entry_text
+text_of-lines h = sym (flat_map-map entry_text (entry_of h) (readings_of h.message.pgn h.message.bytes))

@@ -4,6 +4,7 @@
 mod account;
 mod answers;
 mod counts;
+mod head;
 mod heard;
 pub mod laws;
 mod listener;

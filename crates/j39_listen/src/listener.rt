@@ -44,6 +44,7 @@ impl Listener {
 
     /// Takes the next frame of the bus, and answers the message that is heard at it. Memory is
     /// taken at an announcement alone; after an error nothing has changed.
+    #[inline(always)]
     pub fn feed<'a>(&'a mut self, frame: &'a Frame) -> Result<Option<Heard<'a>>, AllocError>
         ensures heard { IfOk result (λ heard. (F : List FrameRecord) → Hears self.old F
             → HeardAt (F ++ frame.now ∷ []) (length F) (option_map hearing_of heard)) }
@@ -64,6 +65,7 @@ impl Listener {
     }
 
     /// Notes a claim, and forgets what was begun by each address whose holder it changed.
+    #[inline(never)]
     fn note(&mut self, frame: &Frame) -> Result<(), AllocError>
         ensures noted { OnOk result ((F : List FrameRecord) → Hears self.old F → Hears self.new (F ++ frame.now ∷ [])) }
         ensures refused { OnErr result (IsAnnouncement frame.now) }
@@ -78,6 +80,7 @@ impl Listener {
     }
 
     /// Lets the assembler see a frame that claims nothing and ends no message.
+    #[inline(always)]
     fn pass(&mut self, frame: &Frame) -> Result<(), AllocError>
         ensures passed { OnOk result (claim_of frame.now ≡ None → (F : List FrameRecord) → Hears self.old F
             → Hears self.new (F ++ frame.now ∷ [])) }
@@ -90,6 +93,7 @@ impl Listener {
     }
 
     /// Hands a frame that claims nothing and is no message by itself to the assembler.
+    #[inline(always)]
     fn assemble(&mut self, frame: &Frame) -> Result<Option<Heard<'_>>, AllocError>
         ensures heard { IfOk result (λ heard. IsMany frame.now → (F : List FrameRecord) → Hears self.old F
             → HeardAt (F ++ frame.now ∷ []) (length F) (option_map hearing_of heard)) }

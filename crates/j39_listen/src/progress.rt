@@ -20,6 +20,7 @@ pub(crate) struct Progress<A> {
 
 impl<A: Account> Progress<A> {
     /// Takes a line of the log, and writes what is to be written at it.
+    #[inline(always)]
     pub fn read<W: Sink>(&mut self, line: Line<'_>, sink: &mut W) -> Result<(), LineFault>
         ensures read { OnOk result ((subject : A.Subject) → IsSpelling (spelled_of line.entry)
             → ReadsLine (A.has_met subject) (spelled_of line.entry) self.old self.new (W.held sink.old) (W.held sink.new)) }
@@ -40,6 +41,7 @@ impl<A: Account> Progress<A> {
 }
 
 /// Writes what is to be written at a line, and answers what the line counts for.
+#[inline(always)]
 fn meet<A: Account, W: Sink>(
     bus: &mut Option<Bus>,
     account: &mut A,
@@ -100,6 +102,7 @@ const UNREAD: Tally = Tally {
 };
 
 /// An interface becomes the bus of the run where there is none yet.
+#[inline(always)]
 fn know(bus: &mut Option<Bus>, name: &[u8])
     ensures { IsBusName name.now → bus.new ≡ Some (unwrap_or bus.old name.now) }
 {

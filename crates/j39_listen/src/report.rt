@@ -9,7 +9,7 @@ ghost use Rattle.j39_listen.specs.declared.account.LineFault.TheVariants.{Memory
 use crate::Listener;
 use crate::account::{Account, LineFault};
 use crate::counts::Made;
-use crate::report_lines::put_heard;
+use crate::report_lines::{Pen, put_heard};
 use j39_frame::{Bus, DeviceFault, Frame, Sink};
 use std::alloc::{AllocError, Global};
 
@@ -18,6 +18,7 @@ use std::alloc::{AllocError, Global};
 pub(crate) struct Report {
     listener: Listener,
     made: Made,
+    pen: Pen,
 }
 
 impl Report {
@@ -28,6 +29,7 @@ impl Report {
         Report {
             listener: Listener::new(alloc),
             made: Made::default(),
+            pen: Pen::new(),
         }
     }
 }
@@ -45,8 +47,9 @@ impl Account for Report {
 
     ghost takes_memory = { ⊤ };
 
+    #[inline(always)]
     fn meet<W: Sink>(&mut self, _: &Bus, frame: &Frame, sink: &mut W) -> Result<(), LineFault> {
-        match put_frame(&mut self.listener, frame, sink) {
+        match put_frame(&mut self.listener, &mut self.pen, frame, sink) {
             Ok(made) => {
                 self.made = self.made.and(made);
                 Ok(())
@@ -63,8 +66,10 @@ impl Account for Report {
 }
 
 /// Writes the report of what is heard at a frame of the run's bus, and answers its numbers.
+#[inline(always)]
 fn put_frame<W: Sink>(
     listener: &mut Listener,
+    pen: &mut Pen,
     frame: &Frame,
     sink: &mut W,
 ) -> Result<Made, LineFault>
@@ -79,7 +84,7 @@ fn put_frame<W: Sink>(
     match listener.feed(frame) {
         Err(AllocError) => Err(LineFault::Memory),
         Ok(None) => Ok(Made::default()),
-        Ok(Some(heard)) => match put_heard(&heard, sink) {
+        Ok(Some(heard)) => match put_heard(&heard, pen, sink) {
             Ok(lines) => Ok(Made { messages: 1, lines }),
             Err(DeviceFault) => Err(LineFault::Write),
         },

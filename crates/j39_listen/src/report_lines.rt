@@ -12,14 +12,37 @@ ghost use Rattle.j39_listen.specs.Report.{entries_of, hearing_head, name_text, t
 ghost use Rattle.j39_listen.specs.Shown.{hearing_of};
 
 use crate::Heard;
+use crate::head::head_before;
 use arrayvec::ArrayVec;
 use j39_address::Name;
-use j39_frame::printing::{push_bytes, push_hex, push_number, push_stamp};
-use j39_frame::{DeviceFault, Sink, put_all};
-use j39_groups::{Reading, put_value, readings};
+use j39_frame::printing::{push_bytes, push_hex, push_number};
+use j39_frame::{DeviceFault, Seconds, Sink, put_all};
+use j39_groups::{HEAD, LINES, Reading, lines_before, put_value, readings};
 
-/// Writes a line for each reading of a message, and answers how many.
-pub(crate) fn put_heard<W: Sink>(heard: &Heard<'_>, sink: &mut W) -> Result<u64, DeviceFault>
+/// What the lines of a message are made with, kept from message to message.
+#[derive(Debug, Drop)]
+pub(crate) struct Pen {
+    block: [u8; LINES],
+    seconds: Seconds,
+}
+
+impl Pen {
+    pub fn new() -> Pen {
+        Pen {
+            block: [0; LINES],
+            seconds: Seconds::new(0),
+        }
+    }
+}
+
+/// Writes a line for each reading of a message, and answers how many: in one piece where each value is a
+/// number or a switch.
+#[inline(never)]
+pub(crate) fn put_heard<W: Sink>(
+    heard: &Heard<'_>,
+    pen: &mut Pen,
+    sink: &mut W,
+) -> Result<u64, DeviceFault>
     ensures lines { IfOk result (λ n. n ≡ length (entries_of (hearing_of heard.now))) }
     ensures written { OnOk result (Appends (W.held sink.old) (W.held sink.new)
         (text_of (entries_of (hearing_of heard.now)))) }
@@ -27,28 +50,40 @@ pub(crate) fn put_heard<W: Sink>(heard: &Heard<'_>, sink: &mut W) -> Result<u64,
         (text_of (entries_of (hearing_of heard.now)))) }
     ensures mark { Marks result (W.has_failed sink.old) (W.has_failed sink.new) }
 {
-    let head = head_of(heard);
-    let found = readings(heard.message.pgn, heard.message.payload);
-    for reading in found.as_slice() {
-        put_reading(head.as_slice(), reading, sink)?;
+    let mut head = [0; HEAD];
+    let from = head_before(&mut head, heard, &mut pen.seconds);
+    match lines_before(
+        &mut pen.block,
+        &head,
+        from,
+        heard.message.pgn,
+        heard.message.payload,
+    ) {
+        Some((start, lines)) => {
+            put_all(sink, &pen.block[start..])?;
+            Ok(lines)
+        }
+        None => put_each(&head[from..], heard, sink),
     }
-    Ok(found.len() as u64)
 }
 
-/// What each line of a message begins with: 47 bytes at most.
-fn head_of(heard: &Heard<'_>) -> ArrayVec<u8, 47>
-    ensures { result.items ≡ hearing_head (hearing_of heard.now) }
+/// Writes the lines of a message one by one, whatever its values are; `head` is what each begins with.
+#[inline(never)]
+fn put_each<W: Sink>(head: &[u8], heard: &Heard<'_>, sink: &mut W) -> Result<u64, DeviceFault>
+    requires short { length head.now ≤ 48 }
+    requires head { head.now ≡ hearing_head (hearing_of heard.now) }
+    ensures lines { IfOk result (λ n. n ≡ length (entries_of (hearing_of heard.now))) }
+    ensures written { OnOk result (Appends (W.held sink.old) (W.held sink.new)
+        (text_of (entries_of (hearing_of heard.now)))) }
+    ensures front { OnErr result (AppendsFront (W.held sink.old) (W.held sink.new)
+        (text_of (entries_of (hearing_of heard.now)))) }
+    ensures mark { Marks result (W.has_failed sink.old) (W.has_failed sink.new) }
 {
-    let mut head = ArrayVec::new();
-    push_stamp(&mut head, heard.message.stamp);
-    head.push(b' ');
-    push_hex(&mut head, &[heard.message.source]);
-    head.push(b' ');
-    push_name(&mut head, heard.name);
-    head.push(b' ');
-    push_number(&mut head, u64::from(heard.message.pgn.raw()));
-    head.push(b' ');
-    head
+    let found = readings(heard.message.pgn, heard.message.payload);
+    for reading in found.as_slice() {
+        put_reading(head, reading, sink)?;
+    }
+    Ok(found.len() as u64)
 }
 
 /// Appends a NAME in sixteen hex digits, or sixteen dashes.
@@ -65,7 +100,7 @@ pub(crate) fn push_name<const N: usize>(line: &mut ArrayVec<u8, N>, name: Option
 
 /// Writes the line of one reading.
 fn put_reading<W: Sink>(head: &[u8], reading: &Reading<'_>, sink: &mut W) -> Result<(), DeviceFault>
-    requires { length head.now ≤ 47 }
+    requires { length head.now ≤ 48 }
     ensures written { OnOk result (Appends (W.held sink.old) (W.held sink.new)
         (head.now ++ decimal reading.now.spn ++ codes " " ++ value_text (value_of reading.now.value) ++ (newline ∷ []))) }
     ensures front { OnErr result (AppendsFront (W.held sink.old) (W.held sink.new)

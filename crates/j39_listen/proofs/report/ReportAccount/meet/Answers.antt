@@ -7,7 +7,7 @@ use Rattle.j39_listen.proofs.report.ReportAccount.meet.Goals as goal
 
 pub returns-in-Ok-clause-met : goal.returns-in-Ok-clause-met
 returns-in-Ok-clause-met g c =
-    let report : Report = record { listener = c.put_frame.new.listener; made = c.and-self.result } in
+    let report : Report = record { listener = c.put_frame.new.listener; made = c.and-self.result; pen = c.put_frame.new.pen } in
     λ subject. report_meets c.args.self.now report c.args.frame.now c.in-Ok.made _ _ c.in-Ok.ensures.met c.and-self.ensures
 
 pub returns-in-Err-clause-stops : goal.returns-in-Err-clause-stops

@@ -3,7 +3,7 @@ use Rattle.std.specs.Io.KnownBytes.{Appends}
 use Rattle.j39_groups.specs.Shown.{reading_of}
 use Rattle.j39_listen.specs.Shown.{hearing_of}
 use Rattle.j39_listen.specs.Report.{entry_of, text_of}
-use Rattle.j39_listen.proofs.report_lines.put_heard.Given as goal
+use Rattle.j39_listen.proofs.report_lines.put_each.Given as goal
 
 -- the lines of the readings so far are written, and no fault came
 abbrev pub invariant-loop-reading : goal.invariant-loop-reading
