@@ -23,7 +23,8 @@ the log tells it), the PGN, the SPN, and the value with its unit. A value is a
 number, on or off, a text in quotes, or what the sender says in its place: error
 (it has a fault), indicator (a code of the parameter's own) or reserved (a code
 that means nothing yet). What it marks as not available has no line. Messages in
-packets are put together, broadcast or sent to one controller.";
+packets are put together, broadcast or sent to one controller. `j1939 groups` says
+what the PGNs and SPNs are.";
 
 const HELP: &str = "\
 At the end the counts go to standard error:
