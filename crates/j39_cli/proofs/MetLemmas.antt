@@ -9,7 +9,7 @@ use Rattle.clap.specs.declared.parser.matches.Found.{Found}
 use Rattle.clap.specs.declared.parser.matches.ArgMatches.{ArgMatches}
 use Rattle.clap.specs.declared.parser.matches.ArgMatches.TheViews.{out-ArgMatches, out-SubCommand}
 use Rattle.clap.specs.declared.parser.matches.SubCommand.{SubCommand}
-use Rattle.j39_cli.specs.CommandWords.{HasTexts, CommandWords, answer, cut, id, name, nodes, report}
+use Rattle.j39_cli.specs.CommandWords.{HasTexts, CommandWords, answer, cut, groups, id, name, nodes, report}
 use Rattle.j39_cli.specs.Task.{Answer, IsAnswer}
 use Rattle.j39_cli.specs.declared.task.ParseFault.TheVariants.{Memory}
 
@@ -39,6 +39,7 @@ memory_answers (cut source pgn at bus hex) = record {
   };
   wrong = λ _. tt;
 }
+memory_answers groups = tt
 
 -- ---- the command that clap met
 
@@ -75,6 +76,7 @@ name_of (answer node address bus file) = codes "answer"
 name_of (id hex) = codes "id"
 name_of (name hex) = codes "name"
 name_of (cut source pgn at bus hex) = codes "cut"
+name_of groups = codes "groups"
 
 -- a command has one name
 apart : (t a b : Text) → t ≡ a → t ≡ b → bytes_eq a b ≡ false → bytes_eq b b ≡ true → ⊥
@@ -121,3 +123,8 @@ cut_answers (cut source pgn at bus hex) met found r (_, is_source, is_pgn, is_at
     (is.values (codes "source") ∙ is_source) (is.values (codes "pgn") ∙ is_pgn) (is.values (codes "at") ∙ is_at)
     (is.values (codes "bus") ∙ is_bus) (is.values (codes "hex") ∙ is_hex)
 cut_answers s met found r texts is given = absurd (apart met.0 (name_of s) (codes "cut") texts.0 is.name_is refl refl)
+
+pub groups_answers : (s : CommandWords) (met : Text × List Row) (found : Found) (r : Answer) → HasTexts s met → IsMet found (codes "groups") met
+    → IsAnswer groups r → IsAnswer s r
+groups_answers groups met found r texts is given = given
+groups_answers s met found r texts is given = absurd (apart met.0 (name_of s) (codes "groups") texts.0 is.name_is refl refl)

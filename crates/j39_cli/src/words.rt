@@ -8,7 +8,7 @@ ghost use Rattle.j39_cli.specs.CommandWords.{CommandWords, HasTexts, HasValues, 
 ghost use Rattle.j39_cli.specs.Task.{IsAnswer, IsBusValue, IsInRange};
 
 use crate::command::line;
-use crate::{Argument, ParseFault, Task, answer, cut, id, name, nodes, report};
+use crate::{Argument, ParseFault, Task, answer, cut, groups, id, name, nodes, report};
 use clap::error::ErrorKind;
 use clap::{ArgMatches, Error};
 use j39_frame::Bus;
@@ -88,6 +88,10 @@ fn task_of<'a>(alloc: Global, matches: &ArgMatches<'a>) -> Result<Task<'a>, Pars
     let answer = matches.subcommand_matches("answer");
     if let Some(given) = answer {
         return answer::task(alloc, given);
+    }
+    let groups = matches.subcommand_matches("groups");
+    if let Some(given) = groups {
+        return groups::task(given);
     }
     // clap requires a command and knows no other, so that nothing comes here.
     Err(ParseFault::Usage(String::new(alloc)))

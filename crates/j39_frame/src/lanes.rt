@@ -1,9 +1,10 @@
 //! Digits by vectors, all at once.
 ghost use Rattle.std.specs.Prelude.{◌≡◌, ◌≤◌, ◌<◌, map, IfSome, Ok};
+ghost use Rattle.std.specs.Simd.Lanes.{mask_l};
 ghost use Rattle.std.specs.Bool.{OnTrue};
 ghost use Rattle.std.specs.List.{AllByRecursion, range_with_len};
 ghost use Rattle.hex.specs.Hex.{decode_of};
-ghost use Rattle.j39_frame.specs.Lanes.{hex_lane, pair_at};
+ghost use Rattle.j39_frame.specs.Lanes.{hex_lane, is_gap, pair_at};
 
 use std::simd::prelude::*;
 
@@ -14,6 +15,15 @@ pub(crate) fn are_below<const N: usize>(v: Simd<u8, N>, limit: u8) -> bool
     ensures { OnTrue result (AllByRecursion (λ x. x < limit) v.entry) }
 {
     v.simd_ge(Simd::splat(limit)).to_bitmask() == 0
+}
+
+/// A bit for each byte that is no visible character of ASCII.
+#[inline(always)]
+pub(crate) fn gaps_of(block: &[u8; 16]) -> u64
+    ensures { result ≡ mask_l (map is_gap block.now) }
+{
+    let from_first = u8x16::from_array(*block) - u8x16::splat(33);
+    from_first.simd_ge(u8x16::splat(94)).to_bitmask()
 }
 
 /// The value of each hex digit, and 255 for another byte.

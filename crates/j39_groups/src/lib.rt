@@ -4,6 +4,7 @@
 mod field;
 pub mod laws;
 mod parameter;
+mod parameters;
 mod reading;
 mod slot;
 mod table;
@@ -11,6 +12,7 @@ mod text;
 mod value;
 
 pub use parameter::{raw_of, slot_of};
+pub use parameters::put_parameters;
 pub use reading::{is_reported, readings};
 pub use slot::Slot;
 pub use text::put_value;

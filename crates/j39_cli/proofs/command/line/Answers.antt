@@ -5,6 +5,7 @@ use Rattle.clap.specs.Words.{App, with_subcommand}
 use Rattle.j39_cli.specs.Command.{bare_app, line_app}
 use Rattle.j39_cli.specs.AnswerCommand.{answer_app}
 use Rattle.j39_cli.specs.CutCommand.{cut_app}
+use Rattle.j39_cli.specs.GroupsCommand.{groups_app}
 use Rattle.j39_cli.specs.IdCommand.{id_app}
 use Rattle.j39_cli.specs.NameCommand.{name_app}
 use Rattle.j39_cli.specs.LogCommand.{nodes_app, report_app}
@@ -29,6 +30,9 @@ with_cut = with_subcommand with_name cut_app.top
 abbrev with_nodes : App
 with_nodes = with_subcommand with_cut nodes_app.top
 
+abbrev with_answer : App
+with_answer = with_subcommand with_nodes answer_app.top
+
 pub returns : goal.returns
 unfolding line_app
 returns c =
@@ -37,4 +41,5 @@ returns c =
     let has_name = more with_id name_app _ _ _ has_id c.in_ok-name.ensures.app c.in_ok-line-3.ensures in
     let has_cut = more with_name cut_app _ _ _ has_name c.in_ok-cut.ensures.app c.in_ok-line-4.ensures in
     let has_nodes = more with_cut nodes_app _ _ _ has_cut c.in_ok-nodes.ensures.app c.in_ok-line-5.ensures in
-    IfOk-weaker c.with_command-6.result _ _ (λ _ added. more with_nodes answer_app _ _ _ has_nodes c.in_ok-answer.ensures.app added) c.with_command-6.ensures
+    let has_answer = more with_nodes answer_app _ _ _ has_nodes c.in_ok-answer.ensures.app c.in_ok-line-6.ensures in
+    IfOk-weaker c.with_command-7.result _ _ (λ _ added. more with_answer groups_app _ _ _ has_answer c.command-7.ensures.app added) c.with_command-7.ensures

@@ -1,7 +1,7 @@
 -- The command that clap met is the one that was spelled.
 use Rattle.std.proofs.Common.{refl, codes}
 use Rattle.clap.specs.Words.{found_of}
-use Rattle.j39_cli.proofs.MetLemmas.{cut_answers, id_answers, is_met, name_answers, node_answers, nodes_answers, report_answers}
+use Rattle.j39_cli.proofs.MetLemmas.{cut_answers, groups_answers, id_answers, is_met, name_answers, node_answers, nodes_answers, report_answers}
 use Rattle.j39_cli.proofs.words.task_of.Goals as goal
 
 pub returns-in-Some-clause-answer : goal.returns-in-Some-clause-answer
@@ -45,3 +45,10 @@ returns-in-Some-answer-clause-answer c s met rows texts =
     node_answers s met found c.task-in-Some-answer.result texts
     (is_met c.args.matches.now found (codes "answer") met rows (c.in-Some-answer.ensures.found.0 refl) c.in-Some-answer.ensures.rows)
     c.task-in-Some-answer.ensures.answer
+
+pub returns-in-Some-groups-clause-answer : goal.returns-in-Some-groups-clause-answer
+returns-in-Some-groups-clause-answer c s met rows texts =
+    let found = found_of c.in-Some-groups.given.now in
+    groups_answers s met found c.task-in-Some-groups.result texts
+    (is_met c.args.matches.now found (codes "groups") met rows (c.in-Some-groups.ensures.found.0 refl) c.in-Some-groups.ensures.rows)
+    c.task-in-Some-groups.ensures.answer
