@@ -15,5 +15,5 @@ bare_app = on_top (λ s. record s { subcommand_required = true; has_version = tr
 
 unfoldable pub line_app : App
 line_app =
-    with_subcommand (with_subcommand (with_subcommand (with_subcommand (with_subcommand (with_subcommand (with_subcommand bare_app report_app.top) id_app.top) name_app.top)
-    cut_app.top) nodes_app.top) answer_app.top) groups_app.top
+    with_subcommand (with_subcommand (with_subcommand (with_subcommand (with_subcommand (with_subcommand (with_subcommand bare_app report_app.top) id_app.top)
+    name_app.top) cut_app.top) nodes_app.top) answer_app.top) groups_app.top

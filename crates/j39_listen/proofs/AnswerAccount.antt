@@ -1,5 +1,5 @@
 -- A node on a bus as an account.
-use Rattle.std.proofs.Common.{◌≡◌, ◌<◌, ◌+◌, ◌^◌, ℕ, Bool, true, false, List, [], ◌∷◌, ◌++◌, Option, None, Some, length, refl, sym, ap, ◌∙◌, subst, arith, append-nil, append_assoc, length-append}
+use Rattle.std.proofs.Common.{◌≡◌, ◌<◌, ℕ, Bool, true, false, List, [], ◌∷◌, ◌++◌, Option, None, Some, length, refl, sym, ap, ◌∙◌, subst, arith, append-nil, append_assoc, length-append}
 use Rattle.std.specs.Io.KnownBytes.{Appends}
 use Rattle.std.specs.Option.{option_map}
 use Rattle.std.proofs.KnownBytes.{Appends-nil, Appends-trans}
@@ -9,7 +9,7 @@ use Rattle.j39_frame.specs.Device.{AppendsFront}
 use Rattle.j39_frame.proofs.DeviceLemmas.{front_first, front_within}
 use Rattle.j39_frame.specs.Frame.{FrameRecord}
 use Rattle.j39_address.specs.Call.{Call}
-use Rattle.j39_address.specs.Claimer.{IsNode, MakesStep, Steps}
+use Rattle.j39_address.specs.Claimer.{IsNode, Steps}
 use Rattle.j39_address.specs.Command.{Command, command_by}
 use Rattle.j39_address.specs.Claim.{claim_frame}
 use Rattle.j39_address.specs.Node.{Node}
@@ -18,11 +18,9 @@ use Rattle.j39_listen.proofs.AnswerLemmas.{answered_first, answered_more, answer
 use Rattle.j39_listen.proofs.Causal.{heard_more}
 use Rattle.j39_listen.proofs.LineLemmas.{capped-fits, capped-sum}
 use Rattle.j39_listen.proofs.ReportAccount.{same_made}
-use Rattle.j39_listen.proofs.Unique.{heard_below_unique}
 use Rattle.j39_listen.specs.AccountSteps.{Begins, MakesOne, Meets, Stops}
 use Rattle.j39_listen.specs.AnswerSteps.{Calls, HasAnswered, Notices, Obeys, all_sent, at_most_one, is_empty, starts}
-use Rattle.j39_listen.specs.Answers.{AnsweredBelow, Called, calls_at, calls_with, sent_by, sent_text}
-use Rattle.j39_listen.specs.Counting.{capped}
+use Rattle.j39_listen.specs.Answers.{AnsweredBelow, calls_at, calls_with, sent_by, sent_text}
 use Rattle.j39_listen.specs.Heard.{Hearing, or_none}
 use Rattle.j39_listen.specs.Listening.{Hears}
 use Rattle.j39_listen.specs.Output.{MakesAnswers, Output, answers_of, nothing}

@@ -8,7 +8,7 @@ use Rattle.j39_address.specs.Claimer.{IsNode}
 use Rattle.j39_address.specs.Command.{command_by}
 use Rattle.j39_address.specs.Node.{Node}
 use Rattle.j39_address.specs.declared.claimer.Claimer.{Claimer}
-use Rattle.j39_listen.specs.Answers.{AnsweredBelow, Called, CommandedAt, commands}
+use Rattle.j39_listen.specs.Answers.{AnsweredBelow, Called, CommandedAt}
 use Rattle.j39_listen.specs.Heard.{AreHeard, Hearing, HeardAt, or_none}
 use Rattle.j39_listen.specs.Listening.{Hears}
 use Rattle.j39_listen.specs.Output.{Output, answers_of}

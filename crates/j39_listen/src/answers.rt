@@ -1,5 +1,5 @@
 //! What a node sends on a bus, as an account of its frames (J1939-81, 4.2 and 4.5).
-ghost use Rattle.std.specs.Prelude.{◌≡◌, ◌≢◌, ◌<◌, ◌≤◌, ◌++◌, ◌∷◌, ◌↔◌, [], ℕ, Bool, List, Option, Result, true, length, option_map, IfOk, IfSome, OnOk, OnErr, Ok, Err, None, Some};
+ghost use Rattle.std.specs.Prelude.{◌≡◌, ◌≢◌, ◌<◌, ◌≤◌, ◌++◌, ◌∷◌, ◌↔◌, [], ℕ, List, Option, Result, true, length, option_map, IfOk, IfSome, OnOk, OnErr, Ok, Err, None, Some};
 ghost use Rattle.std.specs.Io.KnownBytes.{Appends};
 ghost use Rattle.j39_address.specs.Claimer.{IsNode};
 ghost use Rattle.j39_address.specs.Command.{command_by, commanded_of};
@@ -8,7 +8,7 @@ ghost use Rattle.j39_address.specs.Node.{Node, idle_node};
 ghost use Rattle.j39_frame.specs.Address.{global_address, null_address};
 ghost use Rattle.j39_frame.specs.Device.{AppendsFront, Marks};
 ghost use Rattle.j39_frame.specs.Frame.{FrameRecord};
-ghost use Rattle.j39_frame.specs.Identifier.{destination_of, id_raw};
+ghost use Rattle.j39_frame.specs.Identifier.{destination_of};
 ghost use Rattle.j39_frame.specs.Pgn.{pgn_raw};
 ghost use Rattle.j39_frame.specs.Stamp.{stamp_micros};
 ghost use Rattle.j39_listen.specs.Answers.{calls_with, commands, sent_text};

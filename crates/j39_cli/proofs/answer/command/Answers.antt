@@ -1,9 +1,8 @@
 -- The arguments of a log behind its own.
-use Rattle.std.proofs.Common.{◌≡◌, ◌∙◌, ap, ap₂, true, codes}
+use Rattle.std.proofs.Common.{◌∙◌, ap, ap₂}
 use Rattle.std.proofs.lemmas.Result.{IfOk-weaker}
-use Rattle.clap.specs.Words.{App, Rule, new_app, with_rule}
+use Rattle.clap.specs.Words.{with_rule}
 use Rattle.j39_cli.specs.LogCommand.{with_log}
-use Rattle.j39_cli.specs.Rules.{option_rule}
 use Rattle.j39_cli.proofs.answer.command.Goals as goal
 
 pub returns-clause-app : goal.returns-clause-app
