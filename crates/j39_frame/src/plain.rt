@@ -17,7 +17,7 @@ ghost use Rattle.j39_frame.specs.Spelled.{Spells};
 ghost use Rattle.j39_frame.specs.Stamp.{stamp_micros};
 ghost use Rattle.j39_frame.specs.Text.{IsFrameText, IsStampText};
 
-use crate::lanes::{are_below, eight, four, pairs};
+use crate::lanes::{are_below, eight, four, pairs, visible_in};
 use crate::line::{body_of, holds_hash, read_any};
 use crate::text::{bytes_of, frame_of};
 use crate::{Frame, Id, LINE_LIMIT, Line, Stamp};
@@ -131,6 +131,20 @@ fn bus_of(text: &[u8]) -> Option<(&[u8], &[u8])>
 /// How many bytes at the start of a text are visible characters of ASCII.
 #[inline(always)]
 fn name_len(text: &[u8]) -> usize
+    ensures value { result ≡ prefix_len is_ascii_graphic text.now }
+    ensures fits { result ≤ length text.now }
+{
+    if let Some((block, _)) = text.split_first_chunk::<16>() {
+        let n = visible_in(block);
+        if n < 16 {
+            return n;
+        }
+    }
+    visible_len(text)
+}
+
+/// The same, byte by byte.
+fn visible_len(text: &[u8]) -> usize
     ensures value { result ≡ prefix_len is_ascii_graphic text.now }
     ensures fits { result ≤ length text.now }
 {
