@@ -22,6 +22,7 @@ pub(crate) fn split_line(bytes: &[u8]) -> Option<(&[u8], &[u8])>
 
 /// How many bytes come before the first newline, or before the end where there is none. It looks at
 /// 64 bytes at once.
+#[inline(always)]
 fn line_len(bytes: &[u8]) -> usize
     ensures value { result ≡ prefix_len is_no_newline bytes.now }
     ensures fits { result ≤ length bytes.now }

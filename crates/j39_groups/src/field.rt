@@ -21,8 +21,26 @@ pub(crate) fn number_at(bytes: &[u8], first: u8, last: u8, slot: Slot) -> Option
     ensures { option_map value_of result
         ≡ option_and_then (number_meaning (last - (first - 1)) (slot_record slot)) (raw_number first last bytes.now) }
 {
-    let raw = raw_number(bytes, first, last)?;
-    meaning(raw, last - (first - 1), slot)
+    match last - (first - 1) {
+        1 => meaning(raw_of::<1>(bytes, first)?, 1, slot),
+        2 => meaning(raw_of::<2>(bytes, first)?, 2, slot),
+        count => meaning(raw_number(bytes, first, last)?, count, slot),
+    }
+}
+
+/// The number in so many bytes from `first` on: a width that is known beforehand is read at once.
+#[inline(always)]
+fn raw_of<const N: usize>(bytes: &[u8], first: u8) -> Option<u32>
+    requires starts { 0 < first }
+    requires some { 0 < N }
+    requires narrow { N ≤ 4 }
+    ensures { result ≡ raw_number first (first - 1 + N) bytes.now }
+{
+    let start = usize::from(first) - 1;
+    if start + N > bytes.len() {
+        return None;
+    }
+    Some(little_number(&bytes[start..start + N]))
 }
 
 /// The number in the bytes `first` to `last`, the low byte first.
