@@ -30,6 +30,8 @@ mod cut_tests;
 #[cfg(test)]
 mod groups_tests;
 #[cfg(test)]
+mod parse_tests;
+#[cfg(test)]
 mod performing_tests;
 #[cfg(test)]
-mod tests;
+mod refusal_tests;
