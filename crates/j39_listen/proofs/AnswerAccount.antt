@@ -231,5 +231,5 @@ answers_stop a claimer' bus f noticed sent old new notices obeys front start = �
     record {
       rest = sent_text bus more ++ sent_text bus t.0;
       all_is = is;
-      front = (front.0, front.1 ++ sent_text bus t.0, ap (λ x. x ++ sent_text bus t.0) front.2 ∙ append_assoc front.0 front.1 (sent_text bus t.0), front.3);
+      front = front_first old new (sent_text bus more) (sent_text bus t.0) _ refl front;
     }
