@@ -1,5 +1,5 @@
 //! The bus: one frame at a time, and a clock in microseconds.
-ghost use Rattle.std.specs.Prelude.{◌≡◌, ◌≤◌, ◌+◌, ◌*◌};
+ghost use Rattle.std.specs.Prelude.{◌≡◌, ◌≤◌, ◌<◌, ◌+◌, ◌*◌, ◌^◌};
 ghost use Rattle.j39_frame.specs.Stamp.{stamp_micros};
 
 use crate::arbitration::winner;
@@ -182,7 +182,8 @@ fn frame_time(bytes: usize) -> u64
 
 /// The moment so many microseconds later; at the end of time the same.
 fn later(now: Stamp, micros: u64) -> Stamp
-    ensures { stamp_micros now ≤ stamp_micros result }
+    ensures passes { stamp_micros now + micros < 10 ^ 16 → stamp_micros result ≡ stamp_micros now + micros }
+    ensures never_back { stamp_micros now ≤ stamp_micros result }
 {
     Stamp::new(now.micros().saturating_add(micros)).unwrap_or(now)
 }
