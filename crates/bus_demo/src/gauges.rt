@@ -3,6 +3,7 @@ ghost use Rattle.std.specs.Prelude.{◌≡◌, ◌<◌, ℕ, Some};
 ghost use Rattle.j39_groups.specs.Slots.{IsRawOf};
 ghost use Rattle.bus_demo.specs.Payloads.{distance_bytes, engine_bytes, temperature_bytes};
 
+use j39_frame::Pgn;
 use j39_groups::raw_of;
 use rand_core::Rng;
 use rand_pcg::Pcg32;
@@ -20,11 +21,11 @@ pub(crate) enum Group {
 
 impl Group {
     /// Its number.
-    pub(crate) fn pgn(self) -> u32 {
+    pub(crate) fn pgn(self) -> Pgn {
         match self {
-            Group::Engine => 61_444,
-            Group::Temperatures => 65_262,
-            Group::Distance => 65_248,
+            Group::Engine => Pgn::new(61_444).unwrap(),
+            Group::Temperatures => Pgn::new(65_262).unwrap(),
+            Group::Distance => Pgn::new(65_248).unwrap(),
         }
     }
 
