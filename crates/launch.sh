@@ -18,7 +18,7 @@ is_stale() {
 
 # How many crates are built after this one, in the order of crates.txt.
 count_after() {
-  awk -F: -v at="$1" -v ours="$crates" 'BEGIN { split(ours, names); for (i in names) ours_too[names[i]] }
+  awk -F: -v at="$1" -v ours="$crates" 'BEGIN { split(ours, names, " "); for (i in names) ours_too[names[i]] }
     seen && $1 in ours_too { n++ } $1 == at { seen = 1 } END { print n + 0 }' "$top/crates.txt"
 }
 

@@ -1,2 +1,4 @@
 pub mod Arbitration
 pub mod MaySend
+pub mod Numerals
+pub mod Payloads

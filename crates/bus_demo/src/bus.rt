@@ -1,5 +1,5 @@
 //! The bus: one frame at a time, and a clock in microseconds.
-ghost use Rattle.std.specs.Prelude.{◌≡◌, ◌≤◌, ◌+◌, ◌*◌};
+ghost use Rattle.std.specs.Prelude.{◌≡◌, ◌≤◌, ◌<◌, ◌+◌, ◌*◌, ◌^◌};
 ghost use Rattle.j39_frame.specs.Stamp.{stamp_micros};
 
 use crate::arbitration::winner;
@@ -20,7 +20,7 @@ const FRAME_BITS: u64 = 67;
 const IDLE: u64 = 100;
 
 /// The name of the bus in the log.
-const NETWORK: &[u8] = b"can0";
+const NETWORK: &[u8; 4] = b"can0";
 
 /// Why a bus stops before its end.
 #[derive(Clone, Copy)]
@@ -49,8 +49,10 @@ impl From<DeviceFault> for BusFault {
 /// controller has it. Its sender knows nothing of that.
 #[derive(Drop)]
 pub(crate) struct Bus<'a> {
-    alloc: Global,
+    network: Network,
     controllers: Vec<Controller>,
+    /// What each of them wishes to send.
+    wishes: Vec<Option<Id>>,
     /// The numbers of the frames that are lost, counted from 1.
     lose: &'a [u64],
     now: Stamp,
@@ -62,8 +64,9 @@ impl<'a> Bus<'a> {
     /// A bus at the moment 0, on which nothing was sent yet.
     pub(crate) fn new(alloc: Global, controllers: Vec<Controller>, lose: &'a [u64]) -> Bus<'a> {
         Bus {
-            alloc,
+            network: Network::new(NETWORK).unwrap(),
             controllers,
+            wishes: Vec::new(alloc),
             lose,
             now: Stamp::new(0).unwrap(),
             frames: 0,
@@ -73,33 +76,22 @@ impl<'a> Bus<'a> {
 
     /// Runs the bus to a moment in microseconds, and writes each frame that is seen as a line of a log.
     pub(crate) fn run<W: Sink>(&mut self, end: u64, log: &mut W) -> Result<(), BusFault> {
-        let network = Network::new(NETWORK);
         // Each step takes a microsecond at least.
         for _step in 0..end {
             if self.now.micros() >= end {
                 break;
             }
-            self.step(network.as_ref(), log)?;
+            self.step(log)?;
         }
         log.flush()?;
         Ok(())
     }
 
-    /// Lets each controller take its turn, and answers what each wishes to send.
-    fn turns(&mut self) -> Result<Vec<Option<Id>>, AllocError> {
-        let mut wishes = Vec::new(self.alloc);
-        for controller in self.controllers.iter_mut() {
-            controller.pass(self.now, &mut self.book)?;
-            wishes.push(controller.wish())?;
-        }
-        Ok(wishes)
-    }
-
     /// Lets each controller take its turn, and then sends the frame that wins the bus.
-    fn step<W: Sink>(&mut self, network: Option<&Network>, log: &mut W) -> Result<(), BusFault> {
-        let wishes = self.turns()?;
-        match winner(wishes.as_slice()) {
-            Some(sender) => self.send(sender, network, log),
+    fn step<W: Sink>(&mut self, log: &mut W) -> Result<(), BusFault> {
+        self.turns()?;
+        match winner(self.wishes.as_slice()) {
+            Some(sender) => self.send(sender, log),
             None => {
                 self.now = later(self.now, IDLE);
                 Ok(())
@@ -107,13 +99,18 @@ impl<'a> Bus<'a> {
         }
     }
 
+    /// Lets each controller take its turn, and asks what it wishes to send.
+    fn turns(&mut self) -> Result<(), AllocError> {
+        self.wishes.clear();
+        for controller in self.controllers.iter_mut() {
+            controller.pass(self.now, &mut self.book)?;
+            self.wishes.push(controller.wish())?;
+        }
+        Ok(())
+    }
+
     /// Sends the frame that a controller wishes to send. It is seen at its end.
-    fn send<W: Sink>(
-        &mut self,
-        sender: usize,
-        network: Option<&Network>,
-        log: &mut W,
-    ) -> Result<(), BusFault> {
+    fn send<W: Sink>(&mut self, sender: usize, log: &mut W) -> Result<(), BusFault> {
         let Some(controller) = self.controllers.get_mut(sender) else {
             return Ok(());
         };
@@ -138,10 +135,8 @@ impl<'a> Bus<'a> {
         if is_lost {
             return Ok(());
         }
-        if let Some(network) = network {
-            put_all(log, line_of(&seen, network).as_slice())?;
-            put_all(log, b"\n")?;
-        }
+        put_all(log, line_of(&seen, &self.network).as_slice())?;
+        put_all(log, b"\n")?;
         self.tell(sender, &seen)?;
         Ok(())
     }
@@ -182,7 +177,8 @@ fn frame_time(bytes: usize) -> u64
 
 /// The moment so many microseconds later; at the end of time the same.
 fn later(now: Stamp, micros: u64) -> Stamp
-    ensures { stamp_micros now ≤ stamp_micros result }
+    ensures passes { stamp_micros now + micros < 10 ^ 16 → stamp_micros result ≡ stamp_micros now + micros }
+    ensures never_back { stamp_micros now ≤ stamp_micros result }
 {
     Stamp::new(now.micros().saturating_add(micros)).unwrap_or(now)
 }

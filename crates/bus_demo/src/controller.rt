@@ -1,5 +1,5 @@
 //! A controller made of the stack's parts: it claims an address, sends, receives and obeys.
-ghost use Rattle.std.specs.Prelude.{◌≡◌, IfSome};
+ghost use Rattle.std.specs.Prelude.{◌≡◌, ◌∷◌, IfSome, List, Some};
 ghost use Rattle.j39_address.specs.Claimer.{IsNode};
 ghost use Rattle.j39_address.specs.Node.{Node};
 ghost use Rattle.bus_demo.specs.MaySend.{MaySend, held_in};
@@ -38,6 +38,8 @@ pub(crate) struct Controller {
 }
 
 impl Controller {
+    ghost use Rattle.bus_demo.specs.declared.outbox.Wish.{Wish};
+
     /// A controller that has claimed no address yet; `None` for a preferred address above 253.
     pub(crate) fn new(alloc: Global, role: &Role, mut gauges: Gauges) -> Option<Controller> {
         let phase = u64::from(gauges.below(10_000));
@@ -79,8 +81,11 @@ impl Controller {
     /// The frame that it wishes to send next, which the bus now takes: from the address that it holds, or
     /// a claim.
     pub(crate) fn take_wish(&mut self) -> Option<Wish>
-        ensures { (node : Node) → IsNode self.old.node node
+        ensures may { (node : Node) → IsNode self.old.node node
             → IfSome result (λ wish. MaySend (held_in node.status) wish.frame.id) }
+        ensures goes { (node : Node) (first : Wish) (others : List Wish) → IsNode self.old.node node
+            → self.old.outbox.wishes.items ≡ first ∷ others → MaySend (held_in node.status) first.frame.id
+            → result ≡ Some first }
     {
         let held = self.held();
         self.outbox.take(held)

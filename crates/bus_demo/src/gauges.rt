@@ -1,6 +1,9 @@
 //! What a controller measures, and the payloads that say it (J1939-71).
-ghost use Rattle.std.specs.Prelude.{◌<◌};
+ghost use Rattle.std.specs.Prelude.{◌≡◌, ◌<◌, ℕ, Some};
+ghost use Rattle.j39_groups.specs.Slots.{IsRawOf};
+ghost use Rattle.bus_demo.specs.Payloads.{distance_bytes, engine_bytes, temperature_bytes};
 
+use j39_frame::Pgn;
 use j39_groups::raw_of;
 use rand_core::Rng;
 use rand_pcg::Pcg32;
@@ -18,11 +21,11 @@ pub(crate) enum Group {
 
 impl Group {
     /// Its number.
-    pub(crate) fn pgn(self) -> u32 {
+    pub(crate) fn pgn(self) -> Pgn {
         match self {
-            Group::Engine => 61_444,
-            Group::Temperatures => 65_262,
-            Group::Distance => 65_248,
+            Group::Engine => Pgn::new(61_444).unwrap(),
+            Group::Temperatures => Pgn::new(65_262).unwrap(),
+            Group::Distance => Pgn::new(65_248).unwrap(),
         }
     }
 
@@ -75,30 +78,52 @@ impl Gauges {
 
     /// EEC1: 600 to 2,400 rpm, in steps of 0.125 rpm.
     fn engine(&mut self) -> Option<[u8; 8]> {
-        let speed = 600_000 + 125 * i64::from(self.below(14_401));
-        let [low, high, _, _] = raw_of(190, speed)?.to_le_bytes();
-        Some([
-            NOTHING, NOTHING, NOTHING, low, high, NOTHING, NOTHING, NOTHING,
-        ])
+        engine_payload(600_000 + 125 * i64::from(self.below(14_401)))
     }
 
     /// ET1: coolant of -20 to 99 degrees, and oil of 80 to 111 degrees, in steps of 0.03125 degrees.
     fn temperatures(&mut self) -> Option<[u8; 8]> {
         let coolant = i64::from(self.below(120)) - 20;
         let oil = 8_000_000 + 3_125 * i64::from(self.below(1_000));
-        let [coolant, _, _, _] = raw_of(110, coolant)?.to_le_bytes();
-        let [low, high, _, _] = raw_of(175, oil)?.to_le_bytes();
-        Some([
-            coolant, NOTHING, low, high, NOTHING, NOTHING, NOTHING, NOTHING,
-        ])
+        temperature_payload(coolant, oil)
     }
 
     /// VD: this trip, which goes on by up to 500 m at a time, and 1,000 km before it.
     fn distance(&mut self) -> Option<[u8; 8]> {
         self.steps = self.steps.saturating_add(self.below(5));
         let trip = 125 * i64::from(self.steps);
-        let [a, b, c, d] = raw_of(244, trip)?.to_le_bytes();
-        let [e, f, g, h] = raw_of(245, 1_000_000 + trip)?.to_le_bytes();
-        Some([a, b, c, d, e, f, g, h])
+        distance_payload(trip, 1_000_000 + trip)
     }
+}
+
+/// EEC1 with this engine speed, in thousandths of an rpm; `None` where no raw number has it.
+fn engine_payload(speed: i64) -> Option<[u8; 8]>
+    ensures { (raw : ℕ) → IsRawOf 190 speed raw → result ≡ Some (engine_bytes raw) }
+{
+    let [low, high, _, _] = raw_of(190, speed)?.to_le_bytes();
+    Some([
+        NOTHING, NOTHING, NOTHING, low, high, NOTHING, NOTHING, NOTHING,
+    ])
+}
+
+/// ET1 with these temperatures of coolant, in degrees, and oil, in 0.00001 degrees.
+fn temperature_payload(coolant: i64, oil: i64) -> Option<[u8; 8]>
+    ensures { (raw_coolant raw_oil : ℕ) → IsRawOf 110 coolant raw_coolant → IsRawOf 175 oil raw_oil
+        → result ≡ Some (temperature_bytes raw_coolant raw_oil) }
+{
+    let [coolant, _, _, _] = raw_of(110, coolant)?.to_le_bytes();
+    let [low, high, _, _] = raw_of(175, oil)?.to_le_bytes();
+    Some([
+        coolant, NOTHING, low, high, NOTHING, NOTHING, NOTHING, NOTHING,
+    ])
+}
+
+/// VD with these distances of the trip and of all, in metres.
+fn distance_payload(trip: i64, total: i64) -> Option<[u8; 8]>
+    ensures { (raw_trip raw_total : ℕ) → IsRawOf 244 trip raw_trip → IsRawOf 245 total raw_total
+        → result ≡ Some (distance_bytes raw_trip raw_total) }
+{
+    let [a, b, c, d] = raw_of(244, trip)?.to_le_bytes();
+    let [e, f, g, h] = raw_of(245, total)?.to_le_bytes();
+    Some([a, b, c, d, e, f, g, h])
 }

@@ -35,6 +35,9 @@ pub(crate) struct Outbox {
 }
 
 impl Outbox {
+    ghost use Rattle.std.specs.Prelude.{◌≡◌, ◌∷◌, List, Some, drop};
+    ghost use Rattle.bus_demo.specs.declared.outbox.Wish.{Wish};
+
     /// An empty one.
     pub(crate) fn new(alloc: Global) -> Outbox {
         Outbox {
@@ -73,7 +76,10 @@ impl Outbox {
     /// Takes the first frame out, for the bus. One that may not be sent from the address that is held
     /// now is dropped.
     pub(crate) fn take(&mut self, held: Option<u8>) -> Option<Wish>
-        ensures { IfSome result (λ wish. MaySend held wish.frame.id) }
+        ensures may { IfSome result (λ wish. MaySend held wish.frame.id) }
+        ensures goes { (first : Wish) (others : List Wish) → self.old.wishes.items ≡ first ∷ others
+            → MaySend held first.frame.id → result ≡ Some first }
+        ensures rest { self.new.wishes.items ≡ drop 1 self.old.wishes.items }
     {
         let wish = self.wishes.pop_front()?;
         if may_send(held, wish.frame.id) {

@@ -79,9 +79,7 @@ impl Publisher {
             let Some(payload) = self.gauges.payload(rate.group) else {
                 continue;
             };
-            let Some(pgn) = Pgn::new(rate.group.pgn()) else {
-                continue;
-            };
+            let pgn = rate.group.pgn();
             let Some(frame) = frame_of(rate.group.priority(), pgn, address, &payload, now) else {
                 continue;
             };

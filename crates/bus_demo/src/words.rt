@@ -1,5 +1,7 @@
 //! The words of the command line.
-ghost use Rattle.std.specs.Prelude.{◌≤◌, IfSome};
+ghost use Rattle.std.specs.Option.{SomeIff};
+ghost use Rattle.std.specs.Str.Parse.{digits_value};
+ghost use Rattle.bus_demo.specs.Numerals.{IsNumberWithin};
 
 use clap::error::ErrorKind;
 use clap::{Arg, ArgMatches, Command, Error};
@@ -117,7 +119,7 @@ fn value(matches: &ArgMatches<'_>, id: &str, none: u64, least: u64, most: u64) -
 
 /// The number of one or more decimal digits, within bounds.
 fn within(text: &str, least: u64, most: u64) -> Option<u64>
-    ensures { IfSome result (λ n. (least ≤ n) × (n ≤ most)) }
+    ensures { SomeIff result (IsNumberWithin least most text.now) (digits_value 10 text.now) }
 {
     if text.is_empty() {
         return None;

@@ -1,4 +1,4 @@
-//! The loop of a controller, as docs/CONTROLLER.md shows it.
+//! Both ends of a directed transfer, with nothing round them; docs/CONTROLLER.md has a whole controller.
 use crate::{Cut, Receiver, Reply, SendEvent, SendState, Sender};
 use arrayvec::ArrayVec;
 use j39_frame::{Frame, Id, Pgn, Stamp};
