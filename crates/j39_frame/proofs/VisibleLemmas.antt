@@ -1,5 +1,5 @@
 -- Where the visible bytes of a block end, through the masks of those that are too low or too high.
-use Rattle.std.proofs.Common.{◌≡◌, ◌<◌, ◌≤◌, ◌+◌, ◌⊎◌, inl, inr, ℕ, Bool, true, false, not, cond, nat_le, ◌&&◌, ◌==◌, List, [], ◌∷◌, ◌++◌, map, length, take, take-append-drop, refl, sym, ap, ◌∙◌, arith, w64}
+use Rattle.std.proofs.Common.{◌≡◌, ◌<◌, ◌≤◌, ◌+◌, ◌⊎◌, inl, inr, ℕ, Bool, true, false, not, cond, nat_le, ◌&&◌, ◌==◌, List, [], ◌∷◌, ◌++◌, map, length, refl, sym, ap, ◌∙◌, arith, w64}
 use Rattle.std.specs.Prelude.{if◌then◌else◌}
 use Rattle.std.specs.Char.{is_ascii_graphic}
 use Rattle.std.specs.Int.{trailing_zeros}
