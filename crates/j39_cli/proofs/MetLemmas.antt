@@ -9,7 +9,7 @@ use Rattle.clap.specs.declared.parser.matches.Found.{Found}
 use Rattle.clap.specs.declared.parser.matches.ArgMatches.{ArgMatches}
 use Rattle.clap.specs.declared.parser.matches.ArgMatches.TheViews.{out-ArgMatches, out-SubCommand}
 use Rattle.clap.specs.declared.parser.matches.SubCommand.{SubCommand}
-use Rattle.j39_cli.specs.CommandWords.{HasTexts, CommandWords, cut, id, name, nodes, report}
+use Rattle.j39_cli.specs.CommandWords.{HasTexts, CommandWords, cut, groups, id, name, nodes, report}
 use Rattle.j39_cli.specs.Task.{Answer, IsAnswer}
 use Rattle.j39_cli.specs.declared.task.ParseFault.TheVariants.{Memory}
 
@@ -34,6 +34,7 @@ memory_answers (cut source pgn at bus hex) = record {
   };
   wrong = λ _. tt;
 }
+memory_answers groups = tt
 
 -- ---- the command that clap met
 
@@ -65,6 +66,7 @@ name_of (nodes bus file) = codes "nodes"
 name_of (id hex) = codes "id"
 name_of (name hex) = codes "name"
 name_of (cut source pgn at bus hex) = codes "cut"
+name_of groups = codes "groups"
 
 -- a command has one name
 apart : (t a b : Text) → t ≡ a → t ≡ b → bytes_eq a b ≡ false → bytes_eq b b ≡ true → ⊥
@@ -102,3 +104,8 @@ cut_answers (cut source pgn at bus hex) met found r (_, is_source, is_pgn, is_at
     (is.values (codes "source") ∙ is_source) (is.values (codes "pgn") ∙ is_pgn) (is.values (codes "at") ∙ is_at)
     (is.values (codes "bus") ∙ is_bus) (is.values (codes "hex") ∙ is_hex)
 cut_answers s met found r texts is answer = absurd (apart met.0 (name_of s) (codes "cut") texts.0 is.name_is refl refl)
+
+pub groups_answers : (s : CommandWords) (met : Text × List Row) (found : Found) (r : Answer) → HasTexts s met → IsMet found (codes "groups") met
+    → IsAnswer groups r → IsAnswer s r
+groups_answers groups met found r texts is answer = answer
+groups_answers s met found r texts is answer = absurd (apart met.0 (name_of s) (codes "groups") texts.0 is.name_is refl refl)

@@ -6,10 +6,11 @@ use Rattle.clap.specs.Walk.{finished}
 use Rattle.clap.proofs.OnLiterals.{clap_on_literals}
 use Rattle.j39_cli.specs.Command.{line_app}
 use Rattle.j39_cli.specs.CutCommand.{cut_app}
+use Rattle.j39_cli.specs.GroupsCommand.{groups_app}
 use Rattle.j39_cli.specs.IdCommand.{id_app}
 use Rattle.j39_cli.specs.NameCommand.{name_app}
 use Rattle.j39_cli.specs.LogCommand.{nodes_app, report_app}
-use Rattle.j39_cli.specs.CommandWords.{HasTexts, HasValues, CommandWords, cut, id, name, nodes, report, words_of}
+use Rattle.j39_cli.specs.CommandWords.{HasTexts, HasValues, CommandWords, cut, groups, id, name, nodes, report, words_of}
 use Rattle.j39_cli.proofs.PartLemmas.{AreParts, Enters, Part, built_takes-enters, entered-enters, given, held_after, level_passes-parts, parts_pass, rows_after-parts, takes_parts, text_of, written}
 
 pub line_is_simple : is_simple line_app ≡ true
@@ -66,6 +67,10 @@ enters_cut : Enters (built line_app) (codes "cut") (leaf_of cut_app)
 unfolding clap_on_literals line_app
 enters_cut = record { step = refl; passes = refl; found = refl; checks = refl }
 
+enters_groups : Enters (built line_app) (codes "groups") (leaf_of groups_app)
+unfolding clap_on_literals line_app
+enters_groups = record { step = refl; passes = refl; found = refl; checks = refl }
+
 pub is_read : (program : Text) (s : CommandWords) → HasValues s → IsRead program s
 unfolding clap_on_literals parts_pass
 is_read program (report None None) values = read program (codes "report") report_app enters_report
@@ -92,3 +97,4 @@ is_read program (cut source pgn at bus hex) values = read program (codes "cut") 
     (written (codes "--source") ∷ given source ∷ written (codes "--pgn") ∷ given pgn ∷ written (codes "--at") ∷ given at
     ∷ written (codes "--bus") ∷ given bus ∷ given hex ∷ [])
     _ (tt, (values.0, (tt, (values.1, (tt, (values.2, (tt, (values.3, (values.4, tt))))))))) refl refl (refl, refl, refl, refl, refl, refl)
+is_read program groups values = read program (codes "groups") groups_app enters_groups [] _ tt refl refl (refl, tt)

@@ -9,6 +9,7 @@ pub data CommandWords : Type 0 where
   id : Text → CommandWords
   name : Text → CommandWords
   cut : Text → Text → Text → Text → Text → CommandWords
+  groups : CommandWords
 
 -- an option with its value, where it is given
 abbrev pub option_words : Text → Option Text → List Text
@@ -28,6 +29,7 @@ words_of (id hex) = codes "id" ∷ hex ∷ []
 words_of (name hex) = codes "name" ∷ hex ∷ []
 words_of (cut source pgn at bus hex) =
     codes "cut" ∷ codes "--source" ∷ source ∷ codes "--pgn" ∷ pgn ∷ codes "--at" ∷ at ∷ codes "--bus" ∷ bus ∷ hex ∷ []
+words_of groups = codes "groups" ∷ []
 
 abbrev pub hyphen : ℕ
 hyphen = 0x2D
@@ -47,6 +49,7 @@ HasValues (nodes bus file) = IsValueIfGiven bus × IsValueIfGiven file
 HasValues (id hex) = IsValue hex
 HasValues (name hex) = IsValue hex
 HasValues (cut source pgn at bus hex) = IsValue source × IsValue pgn × IsValue at × IsValue bus × IsValue hex
+HasValues groups = Unit {0}
 
 -- the command that clap met, by its name and rows, has the texts of s
 abbrev pub HasTexts : CommandWords → Text × List Row → Type 0
@@ -57,3 +60,4 @@ HasTexts (name hex) met = (met.0 ≡ codes "name") × (first_of (codes "hex") me
 HasTexts (cut source pgn at bus hex) met =
     (met.0 ≡ codes "cut") × (first_of (codes "source") met.1 ≡ Some source) × (first_of (codes "pgn") met.1 ≡ Some pgn)
     × (first_of (codes "at") met.1 ≡ Some at) × (first_of (codes "bus") met.1 ≡ Some bus) × (first_of (codes "hex") met.1 ≡ Some hex)
+HasTexts groups met = (met.0 ≡ codes "groups") × Unit {0}

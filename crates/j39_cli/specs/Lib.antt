@@ -4,6 +4,7 @@ pub mod Rules
 pub mod CommandWords
 pub mod Command
 pub mod LogCommand
+pub mod GroupsCommand
 pub mod IdCommand
 pub mod NameCommand
 pub mod CutCommand

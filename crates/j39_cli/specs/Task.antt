@@ -25,6 +25,7 @@ pub data Asked : Type 0 where
   id : ℕ → Asked
   name : ℕ → Asked
   cut : OutgoingRecord → Asked
+  groups : Asked
 
 abbrev pub asked_of : Task → Asked
 asked_of (task.Report bus file) = report bus file
@@ -32,6 +33,7 @@ asked_of (task.Nodes bus file) = nodes bus file
 asked_of (task.Id i) = id (id_raw i)
 asked_of (task.Name n) = name (name_raw n)
 asked_of (task.Cut o) = cut o
+asked_of task.Groups = groups
 
 -- FILE, where the task has one
 abbrev pub file_of : Task → Option (List ℕ)
@@ -40,6 +42,7 @@ file_of (task.Nodes bus file) = file
 file_of (task.Id i) = None
 file_of (task.Name n) = None
 file_of (task.Cut o) = None
+file_of task.Groups = None
 
 -- the values of a task are those that the command line takes
 abbrev pub IsInRange : Task → Type 0
@@ -48,6 +51,7 @@ IsInRange (task.Nodes bus file) = ForSome bus IsBusName
 IsInRange (task.Id i) = id_raw i < 2 ^ 29
 IsInRange (task.Name n) = name_raw n < 2 ^ 64
 IsInRange (task.Cut o) = IsOutgoing o
+IsInRange task.Groups = Unit {0}
 
 -- an argument as help spells it
 abbrev pub argument_text : Argument → List ℕ
@@ -108,6 +112,7 @@ IsAnswer (written.nodes bus file) r = IsBusChecked bus (IsTask (nodes bus file))
 IsAnswer (written.id hex) r = IsChecked (IsIdText hex) argument.Hex (IsTask (id (digits_value 16 hex))) r
 IsAnswer (written.name hex) r = IsChecked (IsNameText hex) argument.Hex (IsTask (name (digits_value 16 hex))) r
 IsAnswer (written.cut source pgn at bus hex) r = IsCutAnswer source pgn at bus hex r
+IsAnswer written.groups r = IsTask groups r
 
 -- ---- what is read of `--bus`
 

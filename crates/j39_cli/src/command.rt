@@ -5,7 +5,7 @@ ghost use Rattle.clap.specs.declared.builder.command.Command.TheViews.{out-Comma
 ghost use Rattle.j39_cli.specs.Command.{bare_app, line_app};
 ghost use Rattle.j39_cli.specs.Rules.{option_rule, value_rule};
 
-use crate::{cut, id, name, nodes, report};
+use crate::{cut, groups, id, name, nodes, report};
 use clap::{Arg, Command};
 use std::alloc::{AllocError, Global};
 
@@ -21,6 +21,7 @@ Examples:
   j1939 name 8000000001401234
   j1939 cut --source 0 --pgn 65260 --at 2.000000 --bus can0 \\
     3146554A4136435631324C4B31323334352A
+  j1939 groups
 
 Exit status:
   0  done, or help was asked for
@@ -40,7 +41,8 @@ pub(crate) fn line<'a>(alloc: Global) -> Result<Command<'a>, AllocError>
     let line = with_command(line, id)?;
     let line = with_command(line, name)?;
     let line = with_command(line, cut)?;
-    with_command(line, nodes)
+    let line = with_command(line, nodes)?;
+    with_command(line, groups::command(alloc))
 }
 
 fn bare<'a>(alloc: Global) -> Command<'a>

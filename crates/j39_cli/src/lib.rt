@@ -5,6 +5,7 @@ mod command;
 mod cut;
 mod cut_values;
 mod fields;
+mod groups;
 mod id;
 mod log;
 mod name;
@@ -25,6 +26,8 @@ pub use words::parse;
 
 #[cfg(test)]
 mod cut_tests;
+#[cfg(test)]
+mod groups_tests;
 #[cfg(test)]
 mod performing_tests;
 #[cfg(test)]

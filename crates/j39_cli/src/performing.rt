@@ -3,7 +3,7 @@ ghost use Rattle.std.specs.Prelude.{◌≡◌, ◌⊎◌, false};
 ghost use Rattle.j39_cli.specs.Perform.{IsPerformed, reads_log};
 ghost use Rattle.j39_cli.specs.Turn.{turn};
 
-use crate::{Task, cut, id, name, nodes, report};
+use crate::{Task, cut, groups, id, name, nodes, report};
 use j39_frame::{Sink, Source};
 use std::alloc::Global;
 
@@ -35,5 +35,6 @@ pub fn perform<R: Source, W: Sink, E: Sink>(
         Task::Id(id) => id::perform(*id, sink, err),
         Task::Name(name) => name::perform(*name, sink, err),
         Task::Cut(outgoing) => cut::perform(outgoing, sink, err),
+        Task::Groups => groups::perform(sink, err),
     }
 }

@@ -6,7 +6,7 @@ use std::test::Fail;
 
 // What a command writes to a writer with room for it, and what is told where it has room for three
 // bytes alone. The log is empty.
-fn check_command(
+pub(crate) fn check_command(
     rt: &impl Abort,
     alloc: Global,
     words: &[&str],

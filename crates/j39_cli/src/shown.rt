@@ -1,9 +1,10 @@
 //! What a command writes whole, where it reads no log.
-ghost use Rattle.std.specs.Prelude.{◌≡◌, OnOk, OnErr};
+ghost use Rattle.std.specs.Prelude.{◌≡◌, [], OnOk, OnErr, codes};
 ghost use Rattle.std.specs.Io.KnownBytes.{Appends};
 ghost use Rattle.j39_frame.specs.Device.{AppendsFront, Marks};
 ghost use Rattle.j39_cli.specs.Shown.{IsShown};
-ghost use Rattle.j39_cli.specs.Turn.{turn};
+ghost use Rattle.j39_cli.specs.Refusal.{error_line};
+ghost use Rattle.j39_cli.specs.Turn.{Writes, turn};
 
 use crate::refusal::complain;
 use j39_frame::{DeviceFault, Sink, put_all};
@@ -15,7 +16,16 @@ pub(crate) fn show_text<W: Sink, E: Sink>(text: &[u8], sink: &mut W, err: &mut E
         (turn (E.held err.old) (E.has_failed err.old) (E.held err.new) (E.has_failed err.new)) }
     ensures silent { result ≡ 0 → err.new ≡ err.old }
 {
-    match put_text(text, sink) {
+    status_of(put_text(text, sink), err)
+}
+
+/// The status of what was written; a fault is told.
+pub(crate) fn status_of<E: Sink>(put: Result<(), DeviceFault>, err: &mut E) -> u8
+    ensures done { OnOk put ((result ≡ 0) × (err.new ≡ err.old)) }
+    ensures failed { OnErr put ((result ≡ 1)
+        × Writes (turn (E.held err.old) (E.has_failed err.old) (E.held err.new) (E.has_failed err.new)) (error_line (codes "write failed") [])) }
+{
+    match put {
         Ok(()) => 0,
         Err(DeviceFault) => {
             complain(err, "write failed", "");

@@ -52,6 +52,8 @@ pub enum Task<'a> {
     Name(Name),
     /// The frames of a message.
     Cut(Outgoing),
+    /// The parameters that a report may hold.
+    Groups,
 }
 
 impl<'a> Task<'a> {
@@ -67,6 +69,7 @@ impl<'a> Task<'a> {
             Task::Id(_) => None,
             Task::Name(_) => None,
             Task::Cut(_) => None,
+            Task::Groups => None,
         }
     }
 }

@@ -24,6 +24,7 @@ fn told(alloc: Global, task: &Task<'_>) -> Result<String, AllocError> {
         Task::Id(id) => format!(in alloc; "id {:08X}", id.raw()),
         Task::Name(name) => format!(in alloc; "name {:016X}", name.raw()),
         Task::Cut(_) => format!(in alloc; "cut"),
+        Task::Groups => format!(in alloc; "groups"),
     }
 }
 
@@ -134,7 +135,9 @@ fn reads_name(rt: HostRuntime) -> Result<(), Fail> {
 
 #[test]
 fn reads_other_words(rt: HostRuntime) -> Result<(), Fail> {
-    let lines: [(&[&str], &str); 13] = [
+    let lines: [(&[&str], &str); 15] = [
+        (&["j1939", "groups"], "groups"),
+        (&["j1939", "groups", "61444"], "usage"),
         (&[], "usage"),
         (&["j1939"], "usage"),
         (&["j1939", "frobnicate"], "usage"),

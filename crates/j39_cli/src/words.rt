@@ -8,7 +8,7 @@ ghost use Rattle.j39_cli.specs.CommandWords.{CommandWords, HasTexts, HasValues, 
 ghost use Rattle.j39_cli.specs.Task.{IsAnswer, IsBusValue, IsInRange};
 
 use crate::command::line;
-use crate::{Argument, ParseFault, Task, cut, id, name, nodes, report};
+use crate::{Argument, ParseFault, Task, cut, groups, id, name, nodes, report};
 use clap::error::ErrorKind;
 use clap::{ArgMatches, Error};
 use j39_frame::Bus;
@@ -84,6 +84,10 @@ fn task_of<'a>(alloc: Global, matches: &ArgMatches<'a>) -> Result<Task<'a>, Pars
     let nodes = matches.subcommand_matches("nodes");
     if let Some(given) = nodes {
         return nodes::task(given);
+    }
+    let groups = matches.subcommand_matches("groups");
+    if let Some(given) = groups {
+        return groups::task(given);
     }
     // clap requires a command and knows no other, so that nothing comes here.
     Err(ParseFault::Usage(String::new(alloc)))

@@ -42,12 +42,12 @@ lone (y ∷ ys) x few (zero, below, here) = ap Some here
 lone (y ∷ ys) x few (suc k, below, here) = absurd (omega arith)
 
 -- what each element gives, in the order of the list
-pub flat_map-at : (f : ℕ → List ℕ) (xs : List ℕ) (i : ℕ) → i < length xs
-    → flat_map f xs ≡ flat_map f (take i xs) ++ (f (get_or xs i 0) ++ flat_map f (drop (suc i) xs))
-flat_map-at f xs i below =
-    let cut : xs ≡ take i xs ++ (get_or xs i 0 ∷ drop (suc i) xs) = sym (take-append-drop i xs) ∙ ap (λ ys. take i xs ++ ys) (drop-cons xs i 0 below) in
-    ap (flat_map f) cut ∙ flat_map-append f (take i xs) (get_or xs i 0 ∷ drop (suc i) xs)
-    ∙ ap (λ ys. flat_map f (take i xs) ++ ys) (flat_map-cons f (get_or xs i 0) (drop (suc i) xs))
+pub flat_map-at : {X Y : Type 0} (f : X → List Y) (xs : List X) (i : ℕ) (d : X) → i < length xs
+    → flat_map f xs ≡ flat_map f (take i xs) ++ (f (get_or xs i d) ++ flat_map f (drop (suc i) xs))
+flat_map-at f xs i d below =
+    let cut : xs ≡ take i xs ++ (get_or xs i d ∷ drop (suc i) xs) = sym (take-append-drop i xs) ∙ ap (λ ys. take i xs ++ ys) (drop-cons xs i d below) in
+    ap (flat_map f) cut ∙ flat_map-append f (take i xs) (get_or xs i d ∷ drop (suc i) xs)
+    ∙ ap (λ ys. flat_map f (take i xs) ++ ys) (flat_map-cons f (get_or xs i d) (drop (suc i) xs))
 
 given : {X Y : Type 0} (f : X → Option Y) (x : X) → filter_map f (x ∷ []) ≡ option_to_list (f x)
 given f x = of (f x) where

@@ -1,15 +1,19 @@
 -- The digits of numbers.
-use Rattle.std.proofs.Common.{div-le_self, ◌≡◌, ◌<◌, ◌≤◌, ◌+◌, ◌-◌, ◌*◌, ◌/◌, ◌%◌, ◌^◌, ℕ, zero, suc, [], ◌∷◌, ◌++◌, length, refl, ap, ◌∙◌, sym, arith, append-nil, append_assoc}
+use Rattle.std.proofs.Common.{div-le_self, ◌≡◌, ◌<◌, ◌≤◌, ◌+◌, ◌-◌, ◌*◌, ◌/◌, ◌%◌, ◌^◌, ℕ, List, zero, suc, [], ◌∷◌, ◌++◌, length, refl, ap, ◌∙◌, sym, arith, append-nil, append_assoc}
 use Rattle.std.proofs.lemmas.Grind.{pow_more}
 use Rattle.std.proofs.lemmas.Fmt.{length-decimal-le}
 use Rattle.std.proofs.Math.Nat.{div-div-eq-div-mul}
 use Rattle.std.specs.Fmt.{decimal}
 use Rattle.std.specs.Prelude.{codes}
+use Rattle.std.specs.List.{flat_map}
 use Rattle.j39_frame.specs.Printing.{last_digits}
 use Rattle.j39_groups.specs.ValueText.{magnitude_text}
 
 pub decimal_short : (n : ℕ) → n < 2 ^ 64 → length (decimal n) ≤ 20
 decimal_short n h = length-decimal-le 20 n (omega arith) (omega arith) h
+
+pub decimal_ten : (n : ℕ) → n < 2 ^ 32 → length (decimal n) ≤ 10
+decimal_ten n h = length-decimal-le 10 n (omega arith) (omega arith) (omega arith)
 
 pub magnitude_whole : (places magnitude : ℕ) → places ≡ 0 → magnitude_text places magnitude ≡ decimal magnitude
 unfolding magnitude_text
@@ -48,3 +52,9 @@ pub magnitude_pointed : (places magnitude : ℕ) → 0 < places
 unfolding magnitude_text
 magnitude_pointed zero magnitude h = absurd (omega arith)
 magnitude_pointed (suc more) magnitude h = refl
+
+-- six words and what stands behind each, joined
+pub words_joined : (a b c d e f space end : List ℕ)
+    → a ++ space ++ b ++ space ++ c ++ space ++ d ++ space ++ e ++ space ++ f ++ end
+    ≡ flat_map (λ (part : List ℕ). part) (a ∷ space ∷ b ∷ space ∷ c ∷ space ∷ d ∷ space ∷ e ∷ space ∷ f ∷ end ∷ [])
+words_joined a b c d e f space end = simp (append_assoc, append-nil) refl

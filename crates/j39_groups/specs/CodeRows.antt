@@ -17,7 +17,7 @@ field_record (Text part) = text_field part
 field_record (Texts byte count) = texts_field byte count
 
 abbrev pub row_record : Row → RowRecord
-row_record row = record { pgn = row.pgn; spn = row.spn; field = field_record row.field }
+row_record row = record { pgn = row.pgn; group = row.group.now; spn = row.spn; name = row.name.now; field = field_record row.field }
 
 abbrev pub sized_slot_record : SizedSlot.SizedSlot → SizedSlotRecord
 sized_slot_record n = record { count = n.count; slot = slot_record n.slot }

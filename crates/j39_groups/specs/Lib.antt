@@ -6,6 +6,7 @@ pub mod Ranges
 pub mod Readings
 pub mod Slots
 pub mod ValueText
+pub mod Parameters
 pub mod Shown
 pub mod CodeRows
 pub mod Quick

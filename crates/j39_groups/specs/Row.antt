@@ -1,6 +1,6 @@
 -- What a row of the table of parameters says (J1939-71).
 use Prim.Native.String.{String}
-use Rattle.std.specs.Prelude.{ℕ, ℤ, pos, codes}
+use Rattle.std.specs.Prelude.{ℕ, ℤ, List, pos, codes}
 use Rattle.j39_groups.specs.Value.{SlotRecord}
 
 -- where a parameter stands in the payload; bytes, bits and parts count from 1
@@ -14,24 +14,26 @@ pub data FieldRecord : Type 0 where
   -- so many parts, at most, of the bytes from this one on; a part of bytes FF alone is not there
   texts_field : ℕ → ℕ → FieldRecord
 
--- one parameter (SPN) of a group (PGN)
+-- one parameter (SPN) of a group (PGN), and what both are called
 pub record RowRecord : Type 0 where
   pub pgn : ℕ
+  pub group : List ℕ
   pub spn : ℕ
+  pub name : List ℕ
   pub field : FieldRecord
 
-abbrev pub number_row : ℕ → ℕ → ℕ → ℕ → ℕ → ℤ → ℕ → String → RowRecord
-number_row pgn spn first last step offset places unit = record {
-  pgn = pgn;
-  spn = spn;
-  field = number_field first last (record { step = pos step; offset = offset; places = places; unit = codes unit });
-}
+abbrev pub row_of : ℕ → String → ℕ → String → FieldRecord → RowRecord
+row_of pgn group spn name field = record { pgn = pgn; group = codes group; spn = spn; name = codes name; field = field }
 
-abbrev pub switch_row : ℕ → ℕ → ℕ → ℕ → ℕ → RowRecord
-switch_row pgn spn byte low high = record { pgn = pgn; spn = spn; field = switch_field byte low high }
+abbrev pub number_row : ℕ → String → ℕ → ℕ → ℕ → ℕ → ℤ → ℕ → String → String → RowRecord
+number_row pgn group spn first last step offset places unit name =
+    row_of pgn group spn name (number_field first last (record { step = pos step; offset = offset; places = places; unit = codes unit }))
 
-abbrev pub text_row : ℕ → ℕ → ℕ → RowRecord
-text_row pgn spn part = record { pgn = pgn; spn = spn; field = text_field part }
+abbrev pub switch_row : ℕ → String → ℕ → ℕ → ℕ → ℕ → String → RowRecord
+switch_row pgn group spn byte low high name = row_of pgn group spn name (switch_field byte low high)
 
-abbrev pub texts_row : ℕ → ℕ → ℕ → ℕ → RowRecord
-texts_row pgn spn byte count = record { pgn = pgn; spn = spn; field = texts_field byte count }
+abbrev pub text_row : ℕ → String → ℕ → ℕ → String → RowRecord
+text_row pgn group spn part name = row_of pgn group spn name (text_field part)
+
+abbrev pub texts_row : ℕ → String → ℕ → ℕ → ℕ → String → RowRecord
+texts_row pgn group spn byte count name = row_of pgn group spn name (texts_field byte count)

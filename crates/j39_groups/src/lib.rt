@@ -4,6 +4,7 @@
 mod field;
 pub mod laws;
 mod parameter;
+mod parameters;
 mod quick_lines;
 mod quick_rows;
 mod reading;
@@ -14,6 +15,7 @@ mod text;
 mod value;
 
 pub use parameter::{raw_of, slot_of};
+pub use parameters::put_parameters;
 pub use quick_lines::{HEAD, LINES, lines_before};
 pub use reading::{is_reported, readings};
 pub use slot::Slot;

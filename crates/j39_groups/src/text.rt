@@ -5,6 +5,7 @@ ghost use Rattle.std.specs.List.{flat_map};
 ghost use Rattle.std.specs.Fmt.{decimal, digit_glyph};
 ghost use Rattle.arrayvec.specs.ArrayVec.{array_vec_len};
 ghost use Rattle.j39_frame.specs.Device.{Marks, AppendsFront};
+ghost use Rattle.j39_groups.specs.Parameters.{scaled_text};
 ghost use Rattle.j39_groups.specs.Shown.{value_of, slot_record};
 ghost use Rattle.j39_groups.specs.ValueText.{value_text, number_text, magnitude_text, byte_text, is_plain, quoted};
 
@@ -15,7 +16,7 @@ use j39_frame::printing::{push_bytes, push_number};
 use j39_frame::{DeviceFault, Sink, put_all};
 
 /// A sign, 20 digits, a point, 255 places, a space and a unit fit.
-type Text = ArrayVec<u8, 288>;
+pub(crate) type Text = ArrayVec<u8, 288>;
 
 /// Writes a value's text (own): a number in decimal with its places and unit, a word, or a text in
 /// quotes. After a fault a front of the text was written.
@@ -40,13 +41,22 @@ pub fn put_value<W: Sink>(value: &Value<'_>, sink: &mut W) -> Result<(), DeviceF
 fn number_text(number: i64, slot: Slot) -> Text
     ensures { result.items ≡ number_text number (slot_record slot) }
 {
+    let mut out = scaled_text(number, slot.places());
+    out.push(b' ');
+    push_bytes(&mut out, slot.unit().as_bytes());
+    out
+}
+
+/// The number in decimal with its places.
+pub(crate) fn scaled_text(number: i64, places: u8) -> Text
+    ensures items { result.items ≡ scaled_text places number }
+    ensures len { array_vec_len result ≤ places + 22 }
+{
     let mut out = ArrayVec::new();
     if number.is_negative() {
         out.push(b'-');
     }
-    push_magnitude(&mut out, number.unsigned_abs(), slot.places());
-    out.push(b' ');
-    push_bytes(&mut out, slot.unit().as_bytes());
+    push_magnitude(&mut out, number.unsigned_abs(), places);
     out
 }
 

@@ -4,6 +4,7 @@ use Rattle.std.proofs.lemmas.Result.{IfOk-weaker}
 use Rattle.clap.specs.Words.{App, with_subcommand}
 use Rattle.j39_cli.specs.Command.{bare_app, line_app}
 use Rattle.j39_cli.specs.CutCommand.{cut_app}
+use Rattle.j39_cli.specs.GroupsCommand.{groups_app}
 use Rattle.j39_cli.specs.IdCommand.{id_app}
 use Rattle.j39_cli.specs.NameCommand.{name_app}
 use Rattle.j39_cli.specs.LogCommand.{nodes_app, report_app}
@@ -25,6 +26,9 @@ with_name = with_subcommand with_id name_app.top
 abbrev with_cut : App
 with_cut = with_subcommand with_name cut_app.top
 
+abbrev with_nodes : App
+with_nodes = with_subcommand with_cut nodes_app.top
+
 pub returns : goal.returns
 unfolding line_app
 returns c =
@@ -32,4 +36,5 @@ returns c =
     let has_id = more with_report id_app _ _ _ has_report c.in_ok-id.ensures.app c.in_ok-line-2.ensures in
     let has_name = more with_id name_app _ _ _ has_id c.in_ok-name.ensures.app c.in_ok-line-3.ensures in
     let has_cut = more with_name cut_app _ _ _ has_name c.in_ok-cut.ensures.app c.in_ok-line-4.ensures in
-    IfOk-weaker c.with_command-5.result _ _ (λ _ added. more with_cut nodes_app _ _ _ has_cut c.in_ok-nodes.ensures.app added) c.with_command-5.ensures
+    let has_nodes = more with_cut nodes_app _ _ _ has_cut c.in_ok-nodes.ensures.app c.in_ok-line-5.ensures in
+    IfOk-weaker c.with_command-6.result _ _ (λ _ added. more with_nodes groups_app _ _ _ has_nodes c.command-6.ensures.app added) c.with_command-6.ensures

@@ -1,7 +1,7 @@
 -- The command that clap met is the one that was spelled.
 use Rattle.std.proofs.Common.{refl, codes}
 use Rattle.clap.specs.Words.{found_of}
-use Rattle.j39_cli.proofs.MetLemmas.{cut_answers, id_answers, is_met, name_answers, nodes_answers, report_answers}
+use Rattle.j39_cli.proofs.MetLemmas.{cut_answers, groups_answers, id_answers, is_met, name_answers, nodes_answers, report_answers}
 use Rattle.j39_cli.proofs.words.task_of.Goals as goal
 
 pub returns-in-Some-clause-answer : goal.returns-in-Some-clause-answer
@@ -38,3 +38,10 @@ returns-in-Some-nodes-clause-answer c s met rows texts =
     nodes_answers s met found c.task-in-Some-nodes.result texts
     (is_met c.args.matches.now found (codes "nodes") met rows (c.in-Some-nodes.ensures.found.0 refl) c.in-Some-nodes.ensures.rows)
     c.task-in-Some-nodes.ensures.answer
+
+pub returns-in-Some-groups-clause-answer : goal.returns-in-Some-groups-clause-answer
+returns-in-Some-groups-clause-answer c s met rows texts =
+    let found = found_of c.in-Some-groups.given.now in
+    groups_answers s met found c.task-in-Some-groups.result texts
+    (is_met c.args.matches.now found (codes "groups") met rows (c.in-Some-groups.ensures.found.0 refl) c.in-Some-groups.ensures.rows)
+    c.task-in-Some-groups.ensures.answer

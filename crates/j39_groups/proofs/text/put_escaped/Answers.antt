@@ -12,6 +12,6 @@ returns-in_err-put_all-clause-err g c =
     let i = c.loop-byte.byte-index in
     let said = c.as_slice.ensures.value ∙ c.byte_text.ensures in
     on_err _ _ (front_within _ _ _ (flat_map byte_text (take i text)) c.as_slice.result.now (flat_map byte_text (drop (suc i) text)) (flat_map byte_text text)
-    (flat_map-at byte_text text i c.loop-byte-test.true
+    (flat_map-at byte_text text i 0 c.loop-byte-test.true
     ∙ ap (λ bytes. flat_map byte_text (take i text) ++ (bytes ++ flat_map byte_text (drop (suc i) text))) (sym said))
     c.loop-byte.invariant.0 c.in_err-put_all.ensures.err)
