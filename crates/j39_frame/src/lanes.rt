@@ -1,12 +1,10 @@
 //! Digits by vectors, all at once.
-ghost use Rattle.std.specs.Prelude.{◌≡◌, ◌≤◌, ◌<◌, ◌==◌, map, nat_le, IfSome, Ok, if◌then◌else◌};
-ghost use Rattle.std.specs.Bool.{OnTrue};
-ghost use Rattle.std.specs.Char.{is_ascii_graphic};
-ghost use Rattle.std.specs.List.{AllByRecursion, prefix_len, range_with_len};
+ghost use Rattle.std.specs.Prelude.{◌≡◌, ◌≤◌, ◌<◌, map, IfSome, Ok};
 ghost use Rattle.std.specs.Simd.Lanes.{mask_l};
-ghost use Rattle.std.specs.Int.{trailing_zeros, w64};
+ghost use Rattle.std.specs.Bool.{OnTrue};
+ghost use Rattle.std.specs.List.{AllByRecursion, range_with_len};
 ghost use Rattle.hex.specs.Hex.{decode_of};
-ghost use Rattle.j39_frame.specs.Lanes.{hex_lane, pair_at};
+ghost use Rattle.j39_frame.specs.Lanes.{hex_lane, is_gap, pair_at};
 
 use std::simd::prelude::*;
 
@@ -17,6 +15,15 @@ pub(crate) fn are_below<const N: usize>(v: Simd<u8, N>, limit: u8) -> bool
     ensures { OnTrue result (AllByRecursion (λ x. x < limit) v.entry) }
 {
     v.simd_ge(Simd::splat(limit)).to_bitmask() == 0
+}
+
+/// A bit for each byte that is no visible character of ASCII.
+#[inline(always)]
+pub(crate) fn gaps_of(block: &[u8; 16]) -> u64
+    ensures { result ≡ mask_l (map is_gap block.now) }
+{
+    let from_first = u8x16::from_array(*block) - u8x16::splat(33);
+    from_first.simd_ge(u8x16::splat(94)).to_bitmask()
 }
 
 /// The value of each hex digit, and 255 for another byte.
@@ -66,46 +73,4 @@ pub(crate) fn pairs(values: u8x16, base: u8) -> [u8; 8]
     let high: u8x8 = values.swizzle([0, 2, 4, 6, 8, 10, 12, 14]);
     let low: u8x8 = values.swizzle([1, 3, 5, 7, 9, 11, 13, 15]);
     (high * u8x8::splat(base) + low).to_array()
-}
-
-/// How many bytes at the start of a block are visible characters of ASCII.
-#[inline(always)]
-pub(crate) fn visible_in(block: &[u8; 16]) -> usize
-    ensures { result ≡ prefix_len is_ascii_graphic block.now }
-{
-    let low = first_set(at_most(block, 32));
-    let high = first_set(at_least(block, 127));
-    if low < high { low } else { high }
-}
-
-/// A bit for each byte, set where it is at most `limit`.
-#[inline(always)]
-fn at_most(block: &[u8; 16], limit: u8) -> u64
-    ensures { result ≡ mask_l (map (λ b. nat_le b limit) block.now) }
-{
-    u8x16::from_array(*block)
-        .simd_le(u8x16::splat(limit))
-        .to_bitmask()
-}
-
-/// A bit for each byte, set where it is at least `limit`.
-#[inline(always)]
-fn at_least(block: &[u8; 16], limit: u8) -> u64
-    ensures { result ≡ mask_l (map (nat_le limit) block.now) }
-{
-    u8x16::from_array(*block)
-        .simd_ge(u8x16::splat(limit))
-        .to_bitmask()
-}
-
-/// The place of the first bit that is set, and 16 where none is.
-#[inline(always)]
-fn first_set(mask: u64) -> usize
-    ensures { result ≡ (if mask == 0 then 16 else trailing_zeros w64 mask) }
-{
-    if mask == 0 {
-        16
-    } else {
-        mask.trailing_zeros() as usize
-    }
 }

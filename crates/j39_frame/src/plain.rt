@@ -1,8 +1,7 @@
 //! A quick reader of the line as `candump` writes it: ten digits of seconds, six decimals or nine,
 //! one space between the fields, and none before or after them.
-ghost use Rattle.std.specs.Prelude.{◌≡◌, ◌<◌, ◌+◌, ◌*◌, ◌^◌, ◌++◌, ◌∷◌, ◌⊎◌, ◌≤◌, [], ℕ, List, length, get_or, IfSome, Ok, codes};
+ghost use Rattle.std.specs.Prelude.{◌≡◌, ◌<◌, ◌+◌, ◌*◌, ◌^◌, ◌++◌, ◌∷◌, ◌⊎◌, ◌≤◌, [], ℕ, List, length, get_or, not, IfSome, Ok, codes};
 ghost use Rattle.std.specs.Bool.{OnTrue};
-ghost use Rattle.std.specs.Char.{is_ascii_graphic};
 ghost use Rattle.std.specs.List.{prefix_len};
 ghost use Rattle.std.specs.Str.Parse.{AllDigits};
 ghost use Rattle.std.specs.Int.{to_be_bytes, w32};
@@ -12,12 +11,13 @@ ghost use Rattle.j39_frame.specs.Chars.{space};
 ghost use Rattle.j39_frame.specs.Fields.{IsField};
 ghost use Rattle.j39_frame.specs.Identifier.{id_raw};
 ghost use Rattle.j39_frame.specs.Line.{HasParts};
+ghost use Rattle.j39_frame.specs.Lanes.{is_gap};
 ghost use Rattle.j39_frame.specs.LineRead.{spelled_of};
 ghost use Rattle.j39_frame.specs.Spelled.{Spells};
 ghost use Rattle.j39_frame.specs.Stamp.{stamp_micros};
 ghost use Rattle.j39_frame.specs.Text.{IsFrameText, IsStampText};
 
-use crate::lanes::{are_below, eight, four, pairs, visible_in};
+use crate::lanes::{are_below, eight, four, gaps_of, pairs};
 use crate::line::{body_of, holds_hash, read_any};
 use crate::text::{bytes_of, frame_of};
 use crate::{Frame, Id, LINE_LIMIT, Line, Stamp};
@@ -128,27 +128,28 @@ fn bus_of(text: &[u8]) -> Option<(&[u8], &[u8])>
     }
 }
 
-/// How many bytes at the start of a text are visible characters of ASCII.
+/// How many bytes at the start of a text are visible characters of ASCII, where that is less than 16.
 #[inline(always)]
 fn name_len(text: &[u8]) -> usize
-    ensures value { result ≡ prefix_len is_ascii_graphic text.now }
-    ensures fits { result ≤ length text.now }
+    ensures { result < 16 → result ≡ prefix_len (λ b. not (is_gap b)) text.now }
 {
-    if let Some((block, _)) = text.split_first_chunk::<16>() {
-        let n = visible_in(block);
-        if n < 16 {
-            return n;
-        }
+    match text.split_first_chunk::<16>() {
+        Some((block, _)) => gaps_of(block).trailing_zeros() as usize,
+        None => short_name_len(text),
     }
-    visible_len(text)
 }
 
-/// The same, byte by byte.
-fn visible_len(text: &[u8]) -> usize
-    ensures value { result ≡ prefix_len is_ascii_graphic text.now }
-    ensures fits { result ≤ length text.now }
+/// The same of any text, byte by byte.
+fn short_name_len(text: &[u8]) -> usize
+    ensures { result ≡ prefix_len (λ b. not (is_gap b)) text.now }
 {
-    text.iter().take_while(|b| b.is_ascii_graphic()).count()
+    text.iter().take_while(|b| !is_gap(**b)).count()
+}
+
+fn is_gap(b: u8) -> bool
+    ensures { result ≡ is_gap b }
+{
+    b.wrapping_sub(b'!') >= 94
 }
 
 /// The frame of 8 hex digits, `#` and pairs of them.

@@ -43,12 +43,6 @@ magnitude_more (suc (suc more)) magnitude h =
     let before : suc (suc more) - 1 ≡ suc more = omega arith in
     rw (before, rest (suc more) magnitude) (simp append_assoc refl)
 
--- six words and what stands behind each, joined
-pub words_joined : (a b c d e f space end : List ℕ)
-    → a ++ space ++ b ++ space ++ c ++ space ++ d ++ space ++ e ++ space ++ f ++ end
-    ≡ flat_map (λ (part : List ℕ). part) (a ∷ space ∷ b ∷ space ∷ c ∷ space ∷ d ∷ space ∷ e ∷ space ∷ f ∷ end ∷ [])
-words_joined a b c d e f space end = simp (append_assoc, append-nil) refl
-
 pub less_by_places : (n k m : ℕ) → n < 2 ^ 64 → m ≡ n / 10 ^ k → m < 2 ^ 64
 less_by_places n k m h e = let less : n / 10 ^ k ≤ n = div-le_self n (10 ^ k) in omega (arith, e, less)
 
@@ -58,3 +52,9 @@ pub magnitude_pointed : (places magnitude : ℕ) → 0 < places
 unfolding magnitude_text
 magnitude_pointed zero magnitude h = absurd (omega arith)
 magnitude_pointed (suc more) magnitude h = refl
+
+-- six words and what stands behind each, joined
+pub words_joined : (a b c d e f space end : List ℕ)
+    → a ++ space ++ b ++ space ++ c ++ space ++ d ++ space ++ e ++ space ++ f ++ end
+    ≡ flat_map (λ (part : List ℕ). part) (a ∷ space ∷ b ∷ space ∷ c ∷ space ∷ d ∷ space ∷ e ∷ space ∷ f ∷ end ∷ [])
+words_joined a b c d e f space end = simp (append_assoc, append-nil) refl

@@ -1,11 +1,10 @@
 -- What the fast way writes, and what it needs of its rows.
-use Rattle.std.specs.Prelude.{◌≡◌, ◌≤◌, ◌==◌, ◌&&◌, ⊤, ℕ, List, [], ◌∷◌, ◌++◌, Bool, true, false, codes, decimal, drop, nat_le}
+use Rattle.std.specs.Prelude.{◌≡◌, ◌≤◌, ◌&&◌, ⊤, ℕ, List, [], ◌∷◌, ◌++◌, Bool, true, false, codes, decimal, drop, nat_le}
 use Rattle.std.specs.List.{list_all}
 use Rattle.std.specs.Fmt.{digits_onto}
 use Rattle.std.specs.Str.{bytes_eq}
 use Rattle.j39_frame.specs.Chars.{newline, space}
 use Rattle.j39_groups.specs.declared.short_text.ShortText.{ShortText}
-use Rattle.j39_groups.specs.declared.slot.Slot.{Slot}
 use Rattle.j39_groups.specs.declared.table.Field.{Field}
 use Rattle.j39_groups.specs.declared.table.Field.TheVariants.{Number, Switch, Text, Texts}
 use Rattle.j39_groups.specs.declared.table.LabelledRow.{LabelledRow}

@@ -1,9 +1,8 @@
 -- Each turn writes the digits of the byte before.
-use Rattle.std.proofs.Common.{◌≡◌, ◌++◌, ◌∷◌, [], ◌+◌, ◌-◌, ◌*◌, length, drop, sym, subst, ap, ◌∙◌, arith, length-drop, refl}
+use Rattle.std.proofs.Common.{◌≡◌, [], length, drop, sym, subst, ap, ◌∙◌, arith, length-drop}
 use Rattle.std.proofs.lemmas.List.{drop_all}
-use Rattle.hex.specs.Hex.{encode_upper, encode_with, upper_digits}
+use Rattle.hex.specs.Hex.{encode_upper, upper_digits}
 use Rattle.hex.proofs.HexLemmas.{length-encode_with}
-use Rattle.hex.proofs.Pairs.{encode_with-drop}
 use Rattle.j39_frame.specs.Backwards.{WritesBefore}
 use Rattle.j39_frame.proofs.PrintingLemmas.{encode_with_none}
 use Rattle.j39_frame.proofs.BackwardsLemmas.{before_none, before_then, hex_more}

@@ -1,4 +1,4 @@
-use Rattle.std.proofs.Common.{◌≡◌, ◌≤◌, ◌+◌, ◌*◌, ◌++◌, drop, length}
+use Rattle.std.proofs.Common.{◌≤◌, drop, length}
 use Rattle.hex.specs.Hex.{encode_upper}
 use Rattle.j39_frame.specs.Backwards.{WritesBefore}
 use Rattle.j39_frame.proofs.backwards.hex_before.Given as goal

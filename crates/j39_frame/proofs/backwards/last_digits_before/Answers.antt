@@ -1,5 +1,5 @@
 -- Each turn writes the last two digits of what is left.
-use Rattle.std.proofs.Common.{◌≡◌, ◌++◌, ◌∷◌, [], ◌+◌, ◌-◌, ◌/◌, ◌%◌, ◌^◌, sym, ap, ◌∙◌, subst, append_assoc, arith}
+use Rattle.std.proofs.Common.{◌++◌, ◌∷◌, [], ◌+◌, ◌-◌, ◌/◌, ◌%◌, sym, ap, ◌∙◌, subst, append_assoc, arith}
 use Rattle.j39_frame.specs.Backwards.{WritesBefore, two_digits}
 use Rattle.j39_frame.specs.Printing.{last_digits}
 use Rattle.j39_frame.proofs.PrintingLemmas.{last_digits_step, last_digits_none}

@@ -1,5 +1,5 @@
 -- What stands in the block from the start on is the text of the entries.
-use Rattle.std.proofs.Common.{◌≡◌, ◌-◌, take, drop, ap, sym, subst, ◌∙◌, arith}
+use Rattle.std.proofs.Common.{ap, subst, ◌∙◌, arith}
 use Rattle.std.specs.Io.KnownBytes.{Appends}
 use Rattle.std.specs.List.{flat_map}
 use Rattle.std.proofs.lemmas.Slice.{between_to_end}
