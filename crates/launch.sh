@@ -28,7 +28,7 @@ show_progress() {
   while kill -0 $$ 2>/dev/null; do
     crate=$(sed -n 's/^rt: chose --jobs .* for //p' "$log" | tail -n 1)
     if [ -n "$crate" ]; then
-      printf '\r%s: %s is at hand, %d more to go; %d:%02d minutes\033[K' \
+      printf '\r%s: %s is being proved, %d more to go; %d:%02d minutes\033[K' \
         "$name" "$crate" "$(count_after "$crate")" $((SECONDS / 60)) $((SECONDS % 60)) >&2
     fi
     sleep 1
@@ -36,7 +36,12 @@ show_progress() {
 }
 
 build() {
-  local teller='' status=0
+  local teller='' status=0 began
+  if ! command -v rt >/dev/null; then
+    echo "$name: needs the Rattle kit: its command rt is not on the path" >&2
+    return 1
+  fi
+  began=$(date +%s)
   log=$(mktemp)
   trap 'rm -f "$log"' EXIT
   echo "$name: proving and building the program first: ten to fifteen minutes on 4 cores" >&2
@@ -55,6 +60,8 @@ build() {
     echo "$name: the program was not built" >&2
   fi
   rm -f "$log"
+  # What was changed while it was built is newer.
+  [ "$status" -ne 0 ] || touch -d "@$began" "$program"
   return "$status"
 }
 
@@ -66,8 +73,13 @@ launch() {
   program=$top/crates/$name/out/$name
   crates=$(crates_below "$name" | sort -u | tr '\n' ' ')
   if is_stale; then
-    build || exit 1
-    touch "$program"
+    # Two builds in one tree spoil one another: the second of a pipe waits for the first.
+    exec 9<"$top/crates.txt"
+    flock 9
+    if is_stale; then
+      build 9<&- || exit 1
+    fi
+    exec 9<&-
   fi
   exec "$program" "$@"
 }

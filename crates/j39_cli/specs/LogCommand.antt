@@ -41,8 +41,10 @@ pub record HasWritten (makes : List ℕ → List FrameRecord → Output → Type
   pub writes : run.Writes makes bus log counts out.old.bytes out.new.bytes
   pub told : Writes err (counts_text counts)
 
--- this fault came: its own mark stands, and it alone changed one; a front was written; and it is told
-pub record HasFailed (makes : List ℕ → List FrameRecord → Output → Type 0) (fault : RunFault) (bus : Option (List ℕ)) (log out err : Turn) : Type 0 where
+-- this fault came: its own mark stands, and it alone changed one; a front was written; and it is told. Memory fails a
+-- command alone that takes some.
+pub record HasFailed (takes_memory : Type 0) (makes : List ℕ → List FrameRecord → Output → Type 0) (fault : RunFault) (bus : Option (List ℕ)) (log out err : Turn) : Type 0 where
+  pub wants : fault ≡ Memory → takes_memory
   pub too_long : fault ≡ TooLong → IfSome log.old.bytes (λ bytes. log_limit < length bytes)
   pub read : fault ≡ Read → log.new.has_failed ≡ true
   pub read_alone : fault ≢ Read → IsUnmarked log
@@ -52,8 +54,8 @@ pub record HasFailed (makes : List ℕ → List FrameRecord → Output → Type 
   pub told : Writes err (error_line (fault_text fault) [])
 
 -- status 0: it was written whole, and no device failed; status 1: a fault came
-pub record IsRun (makes : List ℕ → List FrameRecord → Output → Type 0) (bus : Option (List ℕ)) (status : ℕ) (log out err : Turn) : Type 0 where
+pub record IsRun (takes_memory : Type 0) (makes : List ℕ → List FrameRecord → Output → Type 0) (bus : Option (List ℕ)) (status : ℕ) (log out err : Turn) : Type 0 where
   pub known : (status ≡ 0) ⊎ (status ≡ 1)
   pub written : status ≡ 0 → IfSome log.old.bytes (λ bytes. HasWritten makes bus bytes out err)
   pub unmarked : status ≡ 0 → IsUnmarked log × IsUnmarked out
-  pub fault : status ≡ 1 → (fault : RunFault) × HasFailed makes fault bus log out err
+  pub fault : status ≡ 1 → (fault : RunFault) × HasFailed takes_memory makes fault bus log out err

@@ -1,5 +1,5 @@
 -- What a task leaves of its devices.
-use Rattle.std.specs.Prelude.{ℕ, Bool, true, false}
+use Rattle.std.specs.Prelude.{ℕ, ⊤, Bool, true, false}
 use Rattle.j39_address.specs.Name.{name_raw}
 use Rattle.j39_address.specs.Node.{idle_node}
 use Rattle.j39_frame.specs.Identifier.{id_raw}
@@ -16,9 +16,9 @@ use Rattle.j39_cli.specs.declared.task.Task.TheVariants.{Report, Nodes, Answer, 
 
 -- by the command: its status, and what it leaves of the reader, the writer and the error writer
 abbrev pub IsPerformed : Task → ℕ → Turn → Turn → Turn → Type 0
-IsPerformed (Report bus file) status log out err = IsRun MakesReport bus status log out err
-IsPerformed (Nodes bus file) status log out err = IsRun MakesNodes bus status log out err
-IsPerformed (Answer name address bus file) status log out err = IsRun (MakesAnswers (idle_node (name_raw name) address)) bus status log out err
+IsPerformed (Report bus file) status log out err = IsRun ⊤ MakesReport bus status log out err
+IsPerformed (Nodes bus file) status log out err = IsRun ⊥ MakesNodes bus status log out err
+IsPerformed (Answer name address bus file) status log out err = IsRun ⊤ (MakesAnswers (idle_node (name_raw name) address)) bus status log out err
 IsPerformed (Id id) status log out err = IsShown (id_text (id_raw id)) status out err
 IsPerformed (Name name) status log out err = IsShown (name_text (name_raw name)) status out err
 IsPerformed (Cut outgoing) status log out err = IsShown (cut_text outgoing) status out err

@@ -1,5 +1,5 @@
 //! The command `answer`: its words, and how it is performed.
-ghost use Rattle.std.specs.Prelude.{◌≡◌, ◌↔◌, IfOk, IfSome, IsSome, Some, codes, false, true};
+ghost use Rattle.std.specs.Prelude.{◌≡◌, ◌↔◌, ⊤, IfOk, IfSome, IsSome, Some, codes, false, true};
 ghost use Rattle.std.specs.Str.Parse.{digits_value};
 ghost use Rattle.clap.specs.Words.{Text, app_of, first_value, found_of, new_app, rule_of};
 ghost use Rattle.clap.specs.declared.builder.command.Command.TheViews.{out-Command as settings_of};
@@ -33,7 +33,7 @@ or gives up, answers requests for address claims, and obeys a commanded address
 that is broadcast. `j1939 name` explains a NAME.";
 
 const HELP: &str = "\
-A frame that ends with source FE says that the device has no address.
+A frame whose identifier ends with FE says that the device has no address.
 
 At the end the counts go to standard error:
   frames    frames of the bus that is read
@@ -136,7 +136,7 @@ pub(crate) fn perform<R: Source, W: Sink, E: Sink>(
     sink: &mut W,
     err: &mut E,
 ) -> u8
-    ensures { IsRun (MakesAnswers (idle_node (name_raw name) address.now)) bus.now result
+    ensures { IsRun ⊤ (MakesAnswers (idle_node (name_raw name) address.now)) bus.now result
         (turn (R.remaining source.old) (R.has_failed source.old) (R.remaining source.new) (R.has_failed source.new))
         (turn (W.held sink.old) (W.has_failed sink.old) (W.held sink.new) (W.has_failed sink.new))
         (turn (E.held err.old) (E.has_failed err.old) (E.held err.new) (E.has_failed err.new)) }

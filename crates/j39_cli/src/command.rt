@@ -26,7 +26,8 @@ Examples:
 
 Exit status:
   0  done, or help was asked for
-  1  out of memory, a read or a write failed, or the log is too long
+  1  out of memory, a read or a write failed, or the log can't be opened or is
+     too long
   2  the words are no command, or a value is wrong";
 
 /// The whole command line.

@@ -66,7 +66,7 @@ pub(crate) fn perform<R: Source, W: Sink, E: Sink>(
     sink: &mut W,
     err: &mut E,
 ) -> u8
-    ensures { IsRun MakesNodes bus.now result
+    ensures { IsRun ⊥ MakesNodes bus.now result
         (turn (R.remaining source.old) (R.has_failed source.old) (R.remaining source.new) (R.has_failed source.new))
         (turn (W.held sink.old) (W.has_failed sink.old) (W.held sink.new) (W.has_failed sink.new))
         (turn (E.held err.old) (E.has_failed err.old) (E.held err.new) (E.has_failed err.new)) }

@@ -1,5 +1,5 @@
 //! The command `report`: its words, and how it is performed.
-ghost use Rattle.std.specs.Prelude.{◌≡◌, IfOk, codes, false};
+ghost use Rattle.std.specs.Prelude.{◌≡◌, ⊤, IfOk, codes, false};
 ghost use Rattle.clap.specs.Words.{app_of, first_value, found_of};
 ghost use Rattle.clap.specs.declared.builder.command.Command.TheViews.{out-Command as settings_of};
 ghost use Rattle.j39_listen.specs.Output.{MakesReport};
@@ -74,7 +74,7 @@ pub(crate) fn perform<R: Source, W: Sink, E: Sink>(
     sink: &mut W,
     err: &mut E,
 ) -> u8
-    ensures { IsRun MakesReport bus.now result
+    ensures { IsRun ⊤ MakesReport bus.now result
         (turn (R.remaining source.old) (R.has_failed source.old) (R.remaining source.new) (R.has_failed source.new))
         (turn (W.held sink.old) (W.has_failed sink.old) (W.held sink.new) (W.has_failed sink.new))
         (turn (E.held err.old) (E.has_failed err.old) (E.held err.new) (E.has_failed err.new)) }
