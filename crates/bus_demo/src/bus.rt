@@ -76,7 +76,7 @@ impl<'a> Bus<'a> {
 
     /// Runs the bus to a moment in microseconds, and writes each frame that is seen as a line of a log.
     pub(crate) fn run<W: Sink>(&mut self, end: u64, log: &mut W) -> Result<(), BusFault> {
-        // Each step takes a microsecond at least.
+        // A step takes 100 microseconds or more, but for one that drops a frame.
         for _step in 0..end {
             if self.now.micros() >= end {
                 break;

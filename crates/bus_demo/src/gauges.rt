@@ -1,5 +1,5 @@
 //! What a controller measures, and the payloads that say it (J1939-71).
-ghost use Rattle.std.specs.Prelude.{◌≡◌, ◌<◌, ℕ, Some};
+ghost use Rattle.std.specs.Prelude.{◌≡◌, ◌<◌, ℕ, None, Some};
 ghost use Rattle.j39_groups.specs.Slots.{IsRawOf};
 ghost use Rattle.bus_demo.specs.Payloads.{distance_bytes, engine_bytes, temperature_bytes};
 
@@ -98,7 +98,8 @@ impl Gauges {
 
 /// EEC1 with this engine speed, in thousandths of an rpm; `None` where no raw number has it.
 fn engine_payload(speed: i64) -> Option<[u8; 8]>
-    ensures { (raw : ℕ) → IsRawOf 190 speed raw → result ≡ Some (engine_bytes raw) }
+    ensures only { (raw : ℕ) → IsRawOf 190 speed raw → result ≡ Some (engine_bytes raw) }
+    ensures none { ((raw : ℕ) → IsRawOf 190 speed raw → ⊥) → result ≡ None }
 {
     let [low, high, _, _] = raw_of(190, speed)?.to_le_bytes();
     Some([
@@ -106,10 +107,13 @@ fn engine_payload(speed: i64) -> Option<[u8; 8]>
     ])
 }
 
-/// ET1 with these temperatures of coolant, in degrees, and oil, in 0.00001 degrees.
+/// ET1 with these temperatures of coolant, in degrees, and oil, in 0.00001 degrees; `None` where one of
+/// them has no raw number.
 fn temperature_payload(coolant: i64, oil: i64) -> Option<[u8; 8]>
-    ensures { (raw_coolant raw_oil : ℕ) → IsRawOf 110 coolant raw_coolant → IsRawOf 175 oil raw_oil
+    ensures only { (raw_coolant raw_oil : ℕ) → IsRawOf 110 coolant raw_coolant → IsRawOf 175 oil raw_oil
         → result ≡ Some (temperature_bytes raw_coolant raw_oil) }
+    ensures none { ((raw_coolant raw_oil : ℕ) → IsRawOf 110 coolant raw_coolant → IsRawOf 175 oil raw_oil → ⊥)
+        → result ≡ None }
 {
     let [coolant, _, _, _] = raw_of(110, coolant)?.to_le_bytes();
     let [low, high, _, _] = raw_of(175, oil)?.to_le_bytes();
@@ -118,10 +122,12 @@ fn temperature_payload(coolant: i64, oil: i64) -> Option<[u8; 8]>
     ])
 }
 
-/// VD with these distances of the trip and of all, in metres.
+/// VD with these distances of the trip and of all, in metres; `None` where one of them has no raw number.
 fn distance_payload(trip: i64, total: i64) -> Option<[u8; 8]>
-    ensures { (raw_trip raw_total : ℕ) → IsRawOf 244 trip raw_trip → IsRawOf 245 total raw_total
+    ensures only { (raw_trip raw_total : ℕ) → IsRawOf 244 trip raw_trip → IsRawOf 245 total raw_total
         → result ≡ Some (distance_bytes raw_trip raw_total) }
+    ensures none { ((raw_trip raw_total : ℕ) → IsRawOf 244 trip raw_trip → IsRawOf 245 total raw_total → ⊥)
+        → result ≡ None }
 {
     let [a, b, c, d] = raw_of(244, trip)?.to_le_bytes();
     let [e, f, g, h] = raw_of(245, total)?.to_le_bytes();

@@ -8,9 +8,6 @@ use std::alloc::{AllocError, Global};
 use std::collections::VecDeque;
 use std::collections::vec_deque::Iter;
 
-/// The group of claims (J1939-81, 4.2.2).
-const ADDRESS_CLAIMED: u32 = 60_928;
-
 /// A frame of a message that was handed in: the message's number in the book, and whether the message
 /// is whole with it.
 #[derive(Clone, Copy)]
@@ -35,7 +32,7 @@ pub(crate) struct Outbox {
 }
 
 impl Outbox {
-    ghost use Rattle.std.specs.Prelude.{◌≡◌, ◌∷◌, List, Some, drop};
+    ghost use Rattle.std.specs.Prelude.{◌≡◌, ◌∷◌, List, None, Some, drop};
     ghost use Rattle.bus_demo.specs.declared.outbox.Wish.{Wish};
 
     /// An empty one.
@@ -79,6 +76,8 @@ impl Outbox {
         ensures may { IfSome result (λ wish. MaySend held wish.frame.id) }
         ensures goes { (first : Wish) (others : List Wish) → self.old.wishes.items ≡ first ∷ others
             → MaySend held first.frame.id → result ≡ Some first }
+        ensures dropped { (first : Wish) (others : List Wish) → self.old.wishes.items ≡ first ∷ others
+            → (MaySend held first.frame.id → ⊥) → result ≡ None }
         ensures rest { self.new.wishes.items ≡ drop 1 self.old.wishes.items }
     {
         let wish = self.wishes.pop_front()?;
@@ -107,6 +106,6 @@ fn may_send(held: Option<u8>, id: Id) -> bool
 {
     match held {
         Some(address) if address == id.source() => true,
-        _ => id.pgn().raw() == ADDRESS_CLAIMED,
+        _ => id.is_address_claimed(),
     }
 }

@@ -76,7 +76,12 @@ fn command<'a>(alloc: Global) -> Result<Command<'a>, AllocError> {
     Command::new(alloc, "bus_demo")
         .about("Plays a J1939 bus of simulated controllers, and writes its log as candump -L does.")
         .after_help(HELP)
-        .arg(option(alloc, "seed", "N", "What the run hangs on; without it 1"))?
+        .arg(option(
+            alloc,
+            "seed",
+            "N",
+            "Any number: one seed gives one log; without it 1",
+        ))?
         .arg(option(
             alloc,
             "seconds",
