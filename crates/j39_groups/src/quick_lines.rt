@@ -25,7 +25,7 @@ pub const HEAD: usize = 48;
 /// The most bytes of a line: its head, a number and a space, a value and a newline.
 const LINE: usize = HEAD + 8 + 40;
 
-/// The lines of a message fit.
+/// The bytes of a block that the lines of every message fit in.
 pub const LINES: usize = 8 * LINE;
 
 /// Writes a line for each reading of a payload: the bytes of `head` from `from` on, the parameter's
