@@ -20,7 +20,7 @@ impl Seconds {
     ghost use Rattle.j39_frame.specs.Seconds.{seconds_value};
     ghost use Rattle.j39_frame.specs.Stamp.{stamp_micros};
 
-    /// This many seconds.
+    /// This many seconds. Of a number above ten digits the last ten are kept as text.
     pub fn new(value: u64) -> Seconds
         ensures { seconds_value result ≡ value }
     {

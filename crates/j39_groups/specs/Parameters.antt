@@ -1,17 +1,11 @@
 -- The table of parameters as it is printed (own): a line for each, in the table's order.
-use Rattle.std.specs.Prelude.{◌==◌, ◌++◌, ◌∷◌, ℕ, ℤ, List, [], if◌then◌else◌, codes, decimal, unsigned_abs}
-use Rattle.std.specs.Fmt.{sign_text}
-use Rattle.std.specs.Int.{is_negative}
+use Rattle.std.specs.Prelude.{◌==◌, ◌++◌, ◌∷◌, ℕ, List, [], if◌then◌else◌, codes, decimal}
 use Rattle.std.specs.List.{flat_map}
 use Rattle.j39_frame.specs.Chars.{newline}
 use Rattle.j39_groups.specs.Row.{FieldRecord, number_field, switch_field, text_field, texts_field, RowRecord}
 use Rattle.j39_groups.specs.Table.{the_table}
 use Rattle.j39_groups.specs.Value.{SlotRecord}
-use Rattle.j39_groups.specs.ValueText.{magnitude_text}
-
--- `-` where negative, and the magnitude with its places
-abbrev pub scaled_text : ℕ → ℤ → List ℕ
-scaled_text places n = sign_text (is_negative n) ++ magnitude_text places (unsigned_abs n)
+use Rattle.j39_groups.specs.ValueText.{scaled_text}
 
 abbrev pub range_text : ℕ → ℕ → List ℕ
 range_text first last = decimal first ++ (if first == last then [] else codes "-" ++ decimal last)

@@ -16,9 +16,13 @@ places_text (suc more) magnitude = codes "." ++ last_digits (suc more) magnitude
 unfoldable pub magnitude_text : ℕ → ℕ → List ℕ
 magnitude_text places magnitude = decimal (magnitude / 10 ^ places) ++ places_text places magnitude
 
--- `-` where negative, the magnitude, a space and the unit
+-- `-` where negative, and the magnitude with its places
+abbrev pub scaled_text : ℕ → ℤ → List ℕ
+scaled_text places n = sign_text (is_negative n) ++ magnitude_text places (unsigned_abs n)
+
+-- a space and the unit follow
 abbrev pub number_text : ℤ → SlotRecord → List ℕ
-number_text n slot = sign_text (is_negative n) ++ magnitude_text slot.places (unsigned_abs n) ++ codes " " ++ slot.unit
+number_text n slot = scaled_text slot.places n ++ codes " " ++ slot.unit
 
 -- a printable character but for the quote and the backslash
 abbrev pub is_plain : ℕ → Bool

@@ -23,6 +23,8 @@ pub use text::put_value;
 pub use value::{Reading, Value};
 
 #[cfg(test)]
+mod quick_tests;
+#[cfg(test)]
 mod software_tests;
 #[cfg(test)]
 mod tests;

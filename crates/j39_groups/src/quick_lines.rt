@@ -1,12 +1,12 @@
 //! The lines of the readings of a message in one block, the last line first.
-ghost use Rattle.std.specs.Prelude.{◌≡◌, ◌+◌, ◌≤◌, ◌++◌, ◌∷◌, [], IfSome, drop, length};
+ghost use Rattle.std.specs.Prelude.{◌≡◌, ◌+◌, ◌≤◌, ◌++◌, ◌∷◌, [], IfSome, drop, is_some, length};
 ghost use Rattle.std.specs.List.{flat_map};
 ghost use Rattle.std.specs.Option.{option_map, option_to_list};
 ghost use Rattle.j39_frame.specs.Backwards.{WritesBefore};
 ghost use Rattle.j39_frame.specs.Chars.{newline};
 ghost use Rattle.j39_frame.specs.Pgn.{pgn_raw};
 ghost use Rattle.j39_groups.specs.CodeRows.{field_record};
-ghost use Rattle.j39_groups.specs.Quick.{IsQuick, IsQuickField, IsShort, reading_line, short_text};
+ghost use Rattle.j39_groups.specs.Quick.{IsQuick, IsQuickField, IsShort, is_quick_group, reading_line, short_text};
 ghost use Rattle.j39_groups.specs.Readings.{readings_of, values_at};
 ghost use Rattle.j39_groups.specs.Shown.{value_of};
 ghost use Rattle.j39_groups.specs.ValueText.{value_text};
@@ -25,13 +25,13 @@ pub const HEAD: usize = 48;
 /// The most bytes of a line: its head, a number and a space, a value and a newline.
 const LINE: usize = HEAD + 8 + 40;
 
-/// The lines of a message fit.
+/// The bytes of a block that the lines of every message fit in.
 pub const LINES: usize = 8 * LINE;
 
 /// Writes a line for each reading of a payload: the bytes of `head` from `from` on, the parameter's
 /// number (SPN), a space, the value's text and a newline. The lines end at the end of `out`; answers
-/// where they start, and how many they are. `None`, and nothing of use is written, for a group with a
-/// text, or that is not reported.
+/// where they start, and how many they are. `None`, and nothing of use is written, exactly for a group
+/// with a text, or that is not reported.
 #[inline(always)]
 pub fn lines_before(
     out: &mut [u8; LINES],
@@ -41,6 +41,7 @@ pub fn lines_before(
     bytes: &[u8],
 ) -> Option<(usize, u64)>
     requires { from ≤ 48 }
+    ensures known { is_some result ≡ is_quick_group (pgn_raw pgn) }
     ensures written { IfSome result (λ found. WritesBefore out.old out.new 768 found.0
         (flat_map (reading_line (drop from head.now)) (readings_of (pgn_raw pgn) bytes.now))) }
     ensures lines { IfSome result (λ found. found.1 ≡ length (readings_of (pgn_raw pgn) bytes.now)) }

@@ -5,9 +5,8 @@ ghost use Rattle.std.specs.List.{flat_map};
 ghost use Rattle.std.specs.Fmt.{decimal, digit_glyph};
 ghost use Rattle.arrayvec.specs.ArrayVec.{array_vec_len};
 ghost use Rattle.j39_frame.specs.Device.{Marks, AppendsFront};
-ghost use Rattle.j39_groups.specs.Parameters.{scaled_text};
 ghost use Rattle.j39_groups.specs.Shown.{value_of, slot_record};
-ghost use Rattle.j39_groups.specs.ValueText.{value_text, number_text, magnitude_text, byte_text, is_plain, quoted};
+ghost use Rattle.j39_groups.specs.ValueText.{value_text, number_text, scaled_text, magnitude_text, byte_text, is_plain, quoted};
 
 use crate::slot::Slot;
 use crate::value::Value;

@@ -1,6 +1,4 @@
 -- The rows of the code's table are those of the table.
-use Rattle.std.proofs.Common.{◌≡◌, ◌∙◌, ap, sym}
-use Rattle.std.specs.List.{flat_map}
 use Rattle.std.proofs.lemmas.List.Folds.{flat_map-map}
 use Rattle.j39_groups.specs.CodeRows.{row_record}
 use Rattle.j39_groups.specs.Parameters.{parameters_text, row_text}

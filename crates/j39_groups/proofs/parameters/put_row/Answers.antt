@@ -1,11 +1,11 @@
 -- The parts joined are the line.
-use Rattle.std.proofs.Common.{◌≡◌, ◌∷◌, [], ◌++◌, ℕ, List, decimal, sym, ap, ◌∙◌, subst, rules}
+use Rattle.std.proofs.Common.{◌≡◌, ◌∷◌, [], decimal, sym, subst, rules}
 use Rattle.std.specs.Io.KnownBytes.{Appends}
 use Rattle.std.specs.Prelude.{codes, OnOk, Result, Ok, Err}
 use Rattle.j39_frame.specs.Chars.{newline}
 use Rattle.j39_frame.proofs.DeviceLemmas.{on_err_from}
 use Rattle.j39_frame.specs.Device.{AppendsFront}
-use Rattle.j39_groups.specs.CodeRows.{field_record, row_record}
+use Rattle.j39_groups.specs.CodeRows.{field_record}
 use Rattle.j39_groups.specs.Parameters.{place_text, row_text, scale_text}
 use Rattle.j39_groups.proofs.TextLemmas.{words_joined}
 use Rattle.j39_groups.proofs.parameters.put_row.Goals as goal
