@@ -102,13 +102,13 @@ pub record LinesWritten (head bytes : List ℕ) (pgn : ℕ) (old new : List ℕ)
   pub fewer : lines ≤ length done
   pub room : 768 ≤ at + 96 * length done
 
-pub none_written : (head bytes : List ℕ) (pgn : ℕ) (old : List ℕ) (rows : List LabelledRow)
-    → map (λ quick. row_record quick.row) rows ≡ filter (λ row. row.pgn == pgn) the_table → length rows ≤ 8 → are_quick rows ≡ true
-    → LinesWritten head bytes pgn old old rows 768 0
-none_written head bytes pgn old rows all few quick = record {
+pub none_written : (head bytes : List ℕ) (pgn : ℕ) (old : List ℕ) (left : List LabelledRow)
+    → map (λ quick. row_record quick.row) left ≡ filter (λ row. row.pgn == pgn) the_table → length left ≤ 8 → are_quick left ≡ true
+    → LinesWritten head bytes pgn old old left 768 0
+none_written head bytes pgn old left all few quick = record {
   done = [];
-  rows = ap (map (λ quick. row_record quick.row)) (append-nil rows) ∙ all;
-  few = (let same = ap length (append-nil rows) in omega (arith, same, few));
+  rows = ap (map (λ quick. row_record quick.row)) (append-nil left) ∙ all;
+  few = (let same = ap length (append-nil left) in omega (arith, same, few));
   quick = quick;
   text = before_none old 768;
   count = refl;

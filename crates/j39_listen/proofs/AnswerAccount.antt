@@ -1,7 +1,7 @@
 -- A node on a bus as an account.
 use Rattle.std.proofs.Common.{◌≡◌, ◌<◌, ℕ, Bool, true, false, List, [], ◌∷◌, ◌++◌, Option, None, Some, length, refl, sym, ap, ◌∙◌, subst, arith, append-nil, append_assoc, length-append}
 use Rattle.std.specs.Io.KnownBytes.{Appends}
-use Rattle.std.specs.Option.{option_map}
+use Rattle.std.specs.Option.{option_map, option_to_list}
 use Rattle.std.proofs.KnownBytes.{Appends-nil, Appends-trans}
 use Rattle.j39_frame.specs.Canonical.{line_text}
 use Rattle.j39_frame.specs.Chars.{newline}
@@ -19,7 +19,7 @@ use Rattle.j39_listen.proofs.Causal.{heard_more}
 use Rattle.j39_listen.proofs.LineLemmas.{capped-fits, capped-sum}
 use Rattle.j39_listen.proofs.ReportAccount.{same_made}
 use Rattle.j39_listen.specs.AccountSteps.{Begins, MakesOne, Meets, Stops}
-use Rattle.j39_listen.specs.AnswerSteps.{Calls, HasAnswered, Notices, Obeys, all_sent, at_most_one, is_empty, starts}
+use Rattle.j39_listen.specs.AnswerSteps.{Calls, HasAnswered, Notices, Obeys, all_sent, is_empty, starts}
 use Rattle.j39_listen.specs.Answers.{AnsweredBelow, calls_at, calls_with, sent_by, sent_text}
 use Rattle.j39_listen.specs.Heard.{Hearing, or_none}
 use Rattle.j39_listen.specs.Listening.{Hears}
@@ -54,18 +54,18 @@ whole_line bus f line old mid new is written ended =
 
 module _ (bus : List ℕ) (sent : Sent) where
   abbrev first : List ℕ
-  first = sent_text bus (at_most_one sent.started)
+  first = sent_text bus (option_to_list sent.started)
 
   abbrev second : List ℕ
-  second = sent_text bus (at_most_one sent.answered)
+  second = sent_text bus (option_to_list sent.answered)
 
   abbrev third : List ℕ
-  third = sent_text bus (at_most_one sent.obeyed)
+  third = sent_text bus (option_to_list sent.obeyed)
 
   pub three_texts : sent_text bus (all_sent sent) ≡ first ++ (second ++ third)
   three_texts =
-      sent_text-append bus (at_most_one sent.started) (at_most_one sent.answered ++ at_most_one sent.obeyed)
-      ∙ ap (λ t. first ++ t) (sent_text-append bus (at_most_one sent.answered) (at_most_one sent.obeyed))
+      sent_text-append bus (option_to_list sent.started) (option_to_list sent.answered ++ option_to_list sent.obeyed)
+      ∙ ap (λ t. first ++ t) (sent_text-append bus (option_to_list sent.answered) (option_to_list sent.obeyed))
 
   pub front_of_first : (old new : Option (List ℕ)) → AppendsFront old new first → AppendsFront old new (sent_text bus (all_sent sent))
   front_of_first old new front = front_first old new first (second ++ third) _ three_texts front
@@ -85,11 +85,11 @@ module _ (bus : List ℕ) (sent : Sent) where
 -- ---- one call after the other
 
 -- the frame of an answer
-at_most : (now name : ℕ) (answer : Option ℕ) (frame : Option FrameRecord) → frame ≡ option_map (claim_frame now name) answer → at_most_one frame ≡ sent_by now name answer
-at_most now name None frame is = ap at_most_one is
-at_most now name (Some a) frame is = ap at_most_one is
+at_most : (now name : ℕ) (answer : Option ℕ) (frame : Option FrameRecord) → frame ≡ option_map (claim_frame now name) answer → option_to_list frame ≡ sent_by now name answer
+at_most now name None frame is = ap option_to_list is
+at_most now name (Some a) frame is = ap option_to_list is
 
-pub obeys_one : (old new : Claimer) (call : Call) (now : ℕ) (frame : Option FrameRecord) → Steps old call now frame new → Obeys old (call ∷ []) now (at_most_one frame) new
+pub obeys_one : (old new : Claimer) (call : Call) (now : ℕ) (frame : Option FrameRecord) → Steps old call now frame new → Obeys old (call ∷ []) now (option_to_list frame) new
 obeys_one old new call now frame steps = λ node is.
     let s = steps node is in
     record {
@@ -148,9 +148,9 @@ heard_few (Some h) = omega arith
 sent_few : (sent : Sent) → length (all_sent sent) < 4
 sent_few sent =
     let a = at_most_few sent.started in let b = at_most_few sent.answered in let c = at_most_few sent.obeyed in
-    omega (arith, length-append (at_most_one sent.started) (at_most_one sent.answered ++ at_most_one sent.obeyed), length-append (at_most_one sent.answered) (at_most_one sent.obeyed))
+    omega (arith, length-append (option_to_list sent.started) (option_to_list sent.answered ++ option_to_list sent.obeyed), length-append (option_to_list sent.answered) (option_to_list sent.obeyed))
   where
-    at_most_few : (o : Option FrameRecord) → length (at_most_one o) < 2
+    at_most_few : (o : Option FrameRecord) → length (option_to_list o) < 2
     at_most_few None = omega arith
     at_most_few (Some f) = omega arith
 

@@ -1,6 +1,6 @@
 -- The steps of a node on a bus, frame by frame.
-use Rattle.std.specs.Prelude.{◌≡◌, ◌++◌, ◌∷◌, [], ℕ, Bool, true, false, List, Option, Some, None, length}
-use Rattle.std.specs.Option.{option_map}
+use Rattle.std.specs.Prelude.{◌≡◌, ◌++◌, ◌∷◌, [], ℕ, Bool, true, false, List, Option, length}
+use Rattle.std.specs.Option.{option_map, option_to_list}
 use Rattle.j39_frame.specs.Frame.{FrameRecord}
 use Rattle.j39_address.specs.Call.{Call, call_of}
 use Rattle.j39_address.specs.Call.Call.{Start, Tick}
@@ -31,12 +31,8 @@ abbrev pub hears : FrameRecord → List Call
 hears f = Tick ∷ call_of f ∷ []
 
 -- what is sent at a frame, in order
-abbrev pub at_most_one : Option FrameRecord → List FrameRecord
-at_most_one None = []
-at_most_one (Some f) = f ∷ []
-
 abbrev pub all_sent : Sent → List FrameRecord
-all_sent sent = at_most_one sent.started ++ (at_most_one sent.answered ++ at_most_one sent.obeyed)
+all_sent sent = option_to_list sent.started ++ (option_to_list sent.answered ++ option_to_list sent.obeyed)
 
 -- called with these the node sends these frames, and is the claimer afterwards
 pub record Calls (node : Node) (calls : List Call) (now : ℕ) (sent : List FrameRecord) (claimer : Claimer) : Type 0 where

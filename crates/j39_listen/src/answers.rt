@@ -1,5 +1,6 @@
 //! What a node sends on a bus, as an account of its frames (J1939-81, 4.2 and 4.5).
 ghost use Rattle.std.specs.Prelude.{◌≡◌, ◌≢◌, ◌<◌, ◌≤◌, ◌++◌, ◌∷◌, ◌↔◌, [], ℕ, List, Option, Result, true, length, option_map, IfOk, IfSome, OnOk, OnErr, Ok, Err, None, Some};
+ghost use Rattle.std.specs.Option.{option_to_list};
 ghost use Rattle.std.specs.Io.KnownBytes.{Appends};
 ghost use Rattle.j39_address.specs.Claimer.{IsNode};
 ghost use Rattle.j39_address.specs.Command.{command_by, commanded_of};
@@ -12,7 +13,7 @@ ghost use Rattle.j39_frame.specs.Identifier.{destination_of};
 ghost use Rattle.j39_frame.specs.Pgn.{pgn_raw};
 ghost use Rattle.j39_frame.specs.Stamp.{stamp_micros};
 ghost use Rattle.j39_listen.specs.Answers.{calls_with, commands, sent_text};
-ghost use Rattle.j39_listen.specs.AnswerSteps.{HasAnswered, Notices, Obeys, all_sent, at_most_one, hears, starts};
+ghost use Rattle.j39_listen.specs.AnswerSteps.{HasAnswered, Notices, Obeys, all_sent, hears, starts};
 ghost use Rattle.j39_listen.specs.Listening.{Hears};
 ghost use Rattle.j39_listen.specs.Output.{MakesAnswers, nothing};
 ghost use Rattle.j39_listen.specs.Run.{StopsWithin, Writes};
@@ -189,20 +190,20 @@ fn call(claimer: &mut Claimer, is_idle: bool, frame: &Frame, command: Option<(Na
 }
 
 fn start(claimer: &mut Claimer, is_idle: bool, now: Stamp) -> Option<Frame>
-    ensures { Obeys claimer.old (starts is_idle) (stamp_micros now) (at_most_one result) claimer.new }
+    ensures { Obeys claimer.old (starts is_idle) (stamp_micros now) (option_to_list result) claimer.new }
 {
     if is_idle { claimer.start(now) } else { None }
 }
 
 fn hear(claimer: &mut Claimer, frame: &Frame, now: Stamp) -> Option<Frame>
-    ensures { Obeys claimer.old (hears frame.now) (stamp_micros now) (at_most_one result) claimer.new }
+    ensures { Obeys claimer.old (hears frame.now) (stamp_micros now) (option_to_list result) claimer.new }
 {
     claimer.tick(now);
     claimer.on(frame, now)
 }
 
 fn obey(claimer: &mut Claimer, command: Option<(Name, u8)>, now: Stamp) -> Option<Frame>
-    ensures { Obeys claimer.old (commands (option_map command_by command)) (stamp_micros now) (at_most_one result) claimer.new }
+    ensures { Obeys claimer.old (commands (option_map command_by command)) (stamp_micros now) (option_to_list result) claimer.new }
 {
     match command {
         Some((name, address)) => claimer.commanded(name, address, now),
@@ -226,9 +227,9 @@ fn put_sent<W: Sink>(sent: &Sent, bus: &Bus, sink: &mut W) -> Result<u64, Device
 /// Writes the line of a frame where there is one, and answers how many lines that is.
 fn put_answer<W: Sink>(answer: &Option<Frame>, bus: &Bus, sink: &mut W) -> Result<u64, DeviceFault>
     ensures one { IfOk result (λ n. n ≤ 1) }
-    ensures lines { IfOk result (λ n. n ≡ length (at_most_one answer.now)) }
-    ensures written { OnOk result (Appends (W.held sink.old) (W.held sink.new) (sent_text bus.now (at_most_one answer.now))) }
-    ensures front { OnErr result (AppendsFront (W.held sink.old) (W.held sink.new) (sent_text bus.now (at_most_one answer.now))) }
+    ensures lines { IfOk result (λ n. n ≡ length (option_to_list answer.now)) }
+    ensures written { OnOk result (Appends (W.held sink.old) (W.held sink.new) (sent_text bus.now (option_to_list answer.now))) }
+    ensures front { OnErr result (AppendsFront (W.held sink.old) (W.held sink.new) (sent_text bus.now (option_to_list answer.now))) }
     ensures mark { Marks result (W.has_failed sink.old) (W.has_failed sink.new) }
 {
     match answer {

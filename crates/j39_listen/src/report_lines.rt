@@ -6,6 +6,7 @@ ghost use Rattle.arrayvec.specs.ArrayVec.{array_vec_len};
 ghost use Rattle.j39_address.specs.Name.{name_raw};
 ghost use Rattle.j39_frame.specs.Chars.{newline};
 ghost use Rattle.j39_frame.specs.Device.{AppendsFront, Marks};
+ghost use Rattle.j39_frame.specs.Seconds.{seconds_value};
 ghost use Rattle.j39_groups.specs.Shown.{value_of};
 ghost use Rattle.j39_groups.specs.ValueText.{value_text};
 ghost use Rattle.j39_listen.specs.Report.{entries_of, hearing_head, name_text, text_of};
@@ -27,7 +28,10 @@ pub(crate) struct Pen {
 }
 
 impl Pen {
-    pub fn new() -> Pen {
+    /// With nothing written, at the second 0.
+    pub fn new() -> Pen
+        ensures { seconds_value result.seconds ≡ 0 }
+    {
         Pen {
             block: [0; LINES],
             seconds: Seconds::new(0),
