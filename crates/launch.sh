@@ -1,19 +1,25 @@
-# What the scripts at the top have in common: each sources this file and calls launch.
+# shellcheck shell=bash
+# What the scripts at the top have in common: each sources this file, with its own folder in `top`, and calls launch.
+: "${top:?}"
 
 # The crates that a crate stands on, and itself.
 crates_below() {
-  local crate
+  local crate below
   echo "$1"
-  for crate in $(sed -n "s/^$1: //p" "$top/crates.txt"); do
+  read -ra below <<<"$(sed -n "s/^$1: //p" "$top/crates.txt")"
+  for crate in "${below[@]}"; do
     if [ -d "$top/crates/$crate" ]; then
       crates_below "$crate"
     fi
   done
 }
 
+# Whether the program isn't built, or a source of it is newer. A page, a test or an edit is none.
 is_stale() {
+  # shellcheck disable=SC2086 # The crates are words.
   [ ! -x "$program" ] || [ -n "$(cd "$top/crates" && find "$top/crates.txt" $crates \
-    -name out -prune -o -name must-fail -prune -o -type f -newer "$program" -print -quit)" ]
+    -name out -prune -o -type f \( -name '*.rt' -o -name '*.antt' -o -name crates.txt \) ! -name '*tests.rt' \
+    -newer "$program" -print -quit)" ]
 }
 
 # How many crates are built after this one, in the order of crates.txt.
@@ -44,7 +50,7 @@ build() {
   began=$(date +%s)
   log=$(mktemp)
   trap 'rm -f "$log"' EXIT
-  echo "$name: proving and building the program first: ten to fifteen minutes on 4 cores" >&2
+  echo "$name: proving and building what has changed; all of it takes ten to fifteen minutes on 4 cores" >&2
   if [ -t 2 ]; then
     show_progress "$log" &
     teller=$!

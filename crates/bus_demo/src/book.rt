@@ -1,4 +1,7 @@
 //! What was handed in to send, and what became of it.
+ghost use Rattle.std.specs.Prelude.{◌≡◌, ◌∷◌, ◌++◌, []};
+ghost use Rattle.std.specs.Result.{OnOk};
+
 use crate::outbox::Part;
 use j39_address::Name;
 use j39_frame::{Pgn, Stamp};
@@ -108,7 +111,9 @@ impl Book {
     }
 
     /// Notes that a sender counts a message as done.
-    pub(crate) fn count_done(&mut self, number: usize) -> Result<(), AllocError> {
+    pub(crate) fn count_done(&mut self, number: usize) -> Result<(), AllocError>
+        ensures { OnOk result (self.new.done.items ≡ self.old.done.items ++ number ∷ []) }
+    {
         self.done.push(number)?;
         Ok(())
     }

@@ -163,6 +163,47 @@ fn nothing_is_lost(rt: HostRuntime) -> Result<(), Fail> {
     Ok(())
 }
 
+/// A NAME, a group, and the least and the most messages that it sends in 5 seconds: one each period, or
+/// up to a turn of 10 ms later, while the address is held, which is 250 ms after each claim.
+const COUNTS: [(u64, u32, usize, usize); 12] = [
+    (0x8000_0000_0340_1001, 61_444, 40, 47),
+    (0x8000_0000_0340_1001, 65_262, 8, 11),
+    (0x8000_0000_0340_1001, 65_248, 4, 6),
+    (0x8000_0000_0140_1002, 61_444, 33, 38),
+    (0x8000_0000_0140_1002, 65_262, 3, 4),
+    (0x8000_0000_0140_1002, 65_248, 3, 4),
+    (0x8000_0000_0240_1003, 61_444, 20, 24),
+    (0x8000_0000_0240_1003, 65_262, 4, 6),
+    (0x8000_0000_0240_1003, 65_248, 4, 6),
+    (0x8000_0000_0440_1004, 61_444, 9, 10),
+    (0x8000_0000_0440_1004, 65_262, 4, 5),
+    (0x8000_0000_0440_1004, 65_248, 4, 5),
+];
+
+/// Each controller sends each of its groups as often as it is told to, and nothing is begun at the end.
+#[test]
+fn each_sends_its_groups(rt: HostRuntime) -> Result<(), Fail> {
+    for seed in SEEDS {
+        let (_log, bus) = played(rt.alloc(), seed, &[])?;
+        for (name, pgn, least, most) in COUNTS {
+            let sent = bus.book().handed().iter().filter(|message| {
+                message.name.raw() == name
+                    && message.pgn.raw() == pgn
+                    && matches!(message.fate, Fate::Whole(_))
+            });
+            let count = sent.count();
+            assert!(rt;
+                least <= count && count <= most,
+                "seed {seed}: {name:016X} {pgn}: {count}"
+            );
+        }
+        for controller in bus.controllers() {
+            assert_eq!(rt; controller.begun(), 0, "seed {seed}");
+        }
+    }
+    Ok(())
+}
+
 /// A broadcast that loses its announcement or a packet is missing, and nothing else.
 #[test]
 fn a_frame_of_a_broadcast_is_lost(rt: HostRuntime) -> Result<(), Fail> {

@@ -11,6 +11,8 @@ mod gauges;
 #[cfg(test)]
 mod loop_tests;
 #[cfg(test)]
+mod loss_tests;
+#[cfg(test)]
 mod memory_tests;
 mod outbox;
 mod publisher;

@@ -1,9 +1,15 @@
 //! What a controller wishes to send.
-ghost use Rattle.std.specs.Prelude.{◌↔◌, IfSome, IsTrue};
-ghost use Rattle.j39_frame.specs.Identifier.{id_raw};
-ghost use Rattle.bus_demo.specs.MaySend.{MaySend};
+ghost use Rattle.std.specs.Prelude.{◌≡◌, ◌≢◌, ◌↔◌, Some, IfSome, IsTrue};
+ghost use Rattle.std.specs.Result.{OnOk};
+ghost use Rattle.j39_frame.specs.Identifier.{id_raw, pgn_of, source_of};
+ghost use Rattle.j39_frame.specs.Network.{address_claimed_group};
+ghost use Rattle.j39_address.specs.Claimer.{IsNode, status_of};
+ghost use Rattle.j39_address.specs.Name.{name_raw};
+ghost use Rattle.j39_address.specs.Node.{Node};
+ghost use Rattle.bus_demo.specs.MaySend.{MaySend, claims_from, held_in};
 
-use j39_frame::{Frame, Id, Stamp};
+use j39_address::{Claimer, Name, Status, claim_of};
+use j39_frame::{Frame, Id, NULL_ADDRESS, Stamp};
 use std::alloc::{AllocError, Global};
 use std::collections::VecDeque;
 use std::collections::vec_deque::Iter;
@@ -32,7 +38,7 @@ pub(crate) struct Outbox {
 }
 
 impl Outbox {
-    ghost use Rattle.std.specs.Prelude.{◌≡◌, ◌∷◌, List, None, Some, drop};
+    ghost use Rattle.std.specs.Prelude.{◌≡◌, ◌∷◌, ◌++◌, [], List, None, Some, drop};
     ghost use Rattle.bus_demo.specs.declared.outbox.Wish.{Wish};
 
     /// An empty one.
@@ -43,7 +49,10 @@ impl Outbox {
     }
 
     /// Puts a frame behind the others.
-    pub(crate) fn push(&mut self, frame: Frame, part: Option<Part>) -> Result<(), AllocError> {
+    pub(crate) fn push(&mut self, frame: Frame, part: Option<Part>) -> Result<(), AllocError>
+        ensures { OnOk result (self.new.wishes.items
+            ≡ self.old.wishes.items ++ record { frame = frame; part = part } ∷ []) }
+    {
         self.wishes.push_back(Wish { frame, part })?;
         Ok(())
     }
@@ -70,18 +79,17 @@ impl Outbox {
         Some(self.wishes.front()?.frame.id)
     }
 
-    /// Takes the first frame out, for the bus. One that may not be sent from the address that is held
-    /// now is dropped.
-    pub(crate) fn take(&mut self, held: Option<u8>) -> Option<Wish>
-        ensures may { IfSome result (λ wish. MaySend held wish.frame.id) }
-        ensures goes { (first : Wish) (others : List Wish) → self.old.wishes.items ≡ first ∷ others
-            → MaySend held first.frame.id → result ≡ Some first }
-        ensures dropped { (first : Wish) (others : List Wish) → self.old.wishes.items ≡ first ∷ others
-            → (MaySend held first.frame.id → ⊥) → result ≡ None }
+    /// Takes the first frame out, for the bus. One that the node may not send now is dropped.
+    pub(crate) fn take(&mut self, node: &Claimer) -> Option<Wish>
+        ensures may { (n : Node) → IsNode node.now n → IfSome result (λ wish. MaySend n wish.frame) }
+        ensures goes { (n : Node) (first : Wish) (others : List Wish) → IsNode node.now n
+            → self.old.wishes.items ≡ first ∷ others → MaySend n first.frame → result ≡ Some first }
+        ensures dropped { (n : Node) (first : Wish) (others : List Wish) → IsNode node.now n
+            → self.old.wishes.items ≡ first ∷ others → (MaySend n first.frame → ⊥) → result ≡ None }
         ensures rest { self.new.wishes.items ≡ drop 1 self.old.wishes.items }
     {
         let wish = self.wishes.pop_front()?;
-        if may_send(held, wish.frame.id) {
+        if may_send(node, &wish.frame) {
             Some(wish)
         } else {
             None
@@ -94,18 +102,66 @@ impl Outbox {
     }
 
     /// Drops all frames.
-    pub(crate) fn clear(&mut self) {
+    pub(crate) fn clear(&mut self)
+        ensures { self.new.wishes.items ≡ [] }
+    {
         self.wishes.clear();
     }
 }
 
-/// Whether a controller that holds this address, or none, may send a frame of this identifier: from that
-/// address, and otherwise claims alone (J1939-81, 4.2).
-fn may_send(held: Option<u8>, id: Id) -> bool
-    ensures { IsTrue result ↔ MaySend held (id_raw id) }
+/// Whether a node may send a frame: a claim with its own NAME from its own address, and all else from the
+/// address that it holds (J1939-81, 4.2).
+fn may_send(node: &Claimer, frame: &Frame) -> bool
+    ensures { (n : Node) → IsNode node.now n → (IsTrue result ↔ MaySend n frame.now) }
 {
-    match held {
-        Some(address) if address == id.source() => true,
-        _ => id.is_address_claimed(),
+    match claim_of(frame) {
+        Some((name, address)) => may_claim(node, name, address),
+        None => may_use(node, frame.id),
+    }
+}
+
+/// Whether it is the node that claims an address by this NAME.
+fn may_claim(node: &Claimer, name: Name, address: u8) -> bool
+    ensures { (n : Node) → IsNode node.now n
+        → (IsTrue result ↔ ((name_raw name ≡ n.name) × (claims_from n.status ≡ Some address))) }
+{
+    match claims_from(node.status()) {
+        Some(own) => own == address && name.raw() == node.name().raw(),
+        None => false,
+    }
+}
+
+/// Whether a frame of this identifier comes from the address that the node holds, and is none of claims.
+fn may_use(node: &Claimer, id: Id) -> bool
+    ensures { (n : Node) → IsNode node.now n → (IsTrue result
+        ↔ ((held_in n.status ≡ Some (source_of (id_raw id))) × (pgn_of (id_raw id) ≢ address_claimed_group))) }
+{
+    match held_by(node.status()) {
+        Some(own) => own == id.source() && !id.is_address_claimed(),
+        None => false,
+    }
+}
+
+/// The address that is a node's own.
+pub(crate) fn held_by(status: Status) -> Option<u8>
+    ensures { result ≡ held_in (status_of status) }
+{
+    match status {
+        Status::Holding(address) => Some(address),
+        Status::Idle => None,
+        Status::Claiming(_) => None,
+        Status::Cannot => None,
+    }
+}
+
+/// Where a node's claims come from, the null address where it lost its own.
+fn claims_from(status: Status) -> Option<u8>
+    ensures { result ≡ claims_from (status_of status) }
+{
+    match status {
+        Status::Claiming(address) => Some(address),
+        Status::Holding(address) => Some(address),
+        Status::Cannot => Some(NULL_ADDRESS),
+        Status::Idle => None,
     }
 }

@@ -1,4 +1,9 @@
 //! What a controller sends: single frames again and again, and long messages.
+ghost use Rattle.std.specs.Prelude.{◌≡◌, ◌≢◌, ◌⊎◌, ◌+◌, ◌<◌, ◌≤◌, None, length};
+ghost use Rattle.std.specs.Result.{OnOk};
+ghost use Rattle.j39_frame.specs.Stamp.{stamp_micros};
+ghost use Rattle.bus_demo.specs.Silent.{IsIdle};
+
 use crate::book::{Book, Fate, Handed};
 use crate::gauges::Gauges;
 use crate::outbox::{Outbox, Part};
@@ -101,7 +106,10 @@ impl Publisher {
     }
 
     /// Begins the next long message whose moment has come, one at a time.
-    fn begin(&mut self, address: u8, now: Stamp, book: &mut Book) -> Result<(), AllocError> {
+    fn begin(&mut self, address: u8, now: Stamp, book: &mut Book) -> Result<(), AllocError>
+        ensures waits { stamp_micros now < self.old.quiet_until → self.new ≡ self.old }
+        ensures one_at_a_time { (self.old.broadcast ≢ None) ⊎ (self.old.sender ≢ None) → self.new ≡ self.old }
+    {
         let Some((plan, rest)) = self.plans.split_first() else {
             return Ok(());
         };
@@ -164,8 +172,12 @@ impl Publisher {
         now: Stamp,
         outbox: &mut Outbox,
         book: &mut Book,
-    ) -> Result<(), AllocError> {
-        let Some(sender) = &mut self.sender else {
+    ) -> Result<(), AllocError>
+        ensures quiet { OnOk result (self.old.sender ≢ None → self.new.sender ≡ None
+            → (length book.new.done.items ≡ length book.old.done.items + 1)
+            ⊎ (stamp_micros now + 4000000 ≤ self.new.quiet_until)) }
+    {
+        let Some(mut sender) = self.sender.take() else {
             return Ok(());
         };
         let number = sender.number;
@@ -173,17 +185,16 @@ impl Publisher {
         let state = sender.sending.state();
         outbox.post(sent, None, now)?;
         match state {
-            SendState::Done => {
-                self.sender = None;
-                book.count_done(number)
-            }
+            SendState::Done => book.count_done(number),
             SendState::Failed(_) => {
-                self.sender = None;
                 self.quiet_until = now.micros().saturating_add(QUIET);
                 book.settle(number, Fate::Lost);
                 Ok(())
             }
-            _ => Ok(()),
+            _ => {
+                self.sender = Some(sender);
+                Ok(())
+            }
         }
     }
 
@@ -195,7 +206,9 @@ impl Publisher {
     }
 
     /// Drops the messages that are on their way, since their address is lost.
-    pub(crate) fn withdraw(&mut self, book: &mut Book) {
+    pub(crate) fn withdraw(&mut self, book: &mut Book)
+        ensures { IsIdle self.new }
+    {
         if let Some(broadcast) = &self.broadcast {
             book.settle(broadcast.number, Fate::Withdrawn);
         }

@@ -4,5 +4,7 @@ pub mod NotingLemmas
 mod ClaimerLemmas
 mod StepLemmas
 mod NetLemmas
+mod SettlingLemmas
+mod SmallestLemmas
 pub mod OneStepLemmas
 pub mod SomeStepLemmas

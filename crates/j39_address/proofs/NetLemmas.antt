@@ -138,8 +138,13 @@ start_stands u h = record {
   told = λ i j a m n e f d x y. absurd (not_at m Idle a (h.idle i m e) refl x);
 }
 
-not_among : (x : Delivery) → Contains [] x → ⊥
+pub not_among : (x : Delivery) → Contains [] x → ⊥
 not_among x h = let l : h.0 < 0 = h.1 in omega arith
+
+-- a run that goes on
+pub run_on : {u v w : Net} → NetRun u v → NetRun v w → NetRun u w
+run_on r done = r
+run_on r (more l s) = more (run_on r l) s
 
 pub one_is_told : (u w : Net) → IsStart u → NetRun u w → OneIsTold w
 one_is_told u w h r = (run_stands (start_stands u h) r).told

@@ -41,7 +41,7 @@ free_below C (suc k) w = elim (free_below C k (omega arith)) [
   ]
 ]
 
-least_free : (C : List (Option Claim)) → ((b : ℕ) × IsLeastFree C b) ⊎ NoneFree C
+pub least_free : (C : List (Option Claim)) → ((b : ℕ) × IsLeastFree C b) ⊎ NoneFree C
 least_free C = elim (free_below C 120 (omega arith)) [
   | inl h ↦ inl h
   | inr n ↦ inr (λ b f. n b (let k : b ≤ 247 = f.most in omega arith) f)

@@ -10,5 +10,6 @@ pub mod Node
 pub mod Call
 pub mod NodeStep
 pub mod Net
+pub mod Settling
 pub mod Claimer
 pub mod Claiming

@@ -51,6 +51,13 @@ impl Claimer {
         })
     }
 
+    /// The node's NAME.
+    pub fn name(&self) -> Name
+        ensures { (node : Node) → IsNode self.now node → name_raw result ≡ node.name }
+    {
+        self.name
+    }
+
     /// How far the node is with its address.
     pub fn status(&self) -> Status
         ensures { (node : Node) → IsNode self.now node → status_of result ≡ node.status }

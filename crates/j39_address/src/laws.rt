@@ -1,14 +1,17 @@
 //! Laws about the definitions, each the contract of a function that does nothing.
-ghost use Rattle.std.specs.Prelude.{◌≡◌, ◌<◌, ◌^◌, ◌↔◌, ℕ, List, [], get_or, Option, None};
+ghost use Rattle.std.specs.Prelude.{◌≡◌, ◌≢◌, ◌⊎◌, ◌+◌, ◌<◌, ◌≤◌, ◌^◌, ◌↔◌, ℕ, List, [], get_or, Option, Some, None};
+ghost use Rattle.std.specs.List.{All};
 ghost use Rattle.j39_frame.specs.Address.{global_address};
 ghost use Rattle.j39_address.specs.Call.{Call, call_of};
-ghost use Rattle.j39_address.specs.Call.Call.{Heard};
+ghost use Rattle.j39_address.specs.Call.Call.{Start, Tick, Heard};
 ghost use Rattle.j39_address.specs.Claim.{Claim, claim_frame};
 ghost use Rattle.j39_address.specs.Changes.{AreChanged};
 ghost use Rattle.j39_address.specs.Holder.{Holds, HoldsSince, IsHolder};
-ghost use Rattle.j39_address.specs.Net.{Net, IsStart, NetRun, OneIsTold, NoneShared};
-ghost use Rattle.j39_address.specs.Node.{Node};
+ghost use Rattle.j39_address.specs.Net.{Net, IsMember, IsStart, NetRun, OneIsTold, NoneShared};
+ghost use Rattle.j39_address.specs.Node.{Node, IsAt, IsCapable, IsFree, with_claim};
+ghost use Rattle.j39_address.specs.Node.NodeStatus.{Idle, Claiming, Holding, Cannot};
 ghost use Rattle.j39_address.specs.NodeStep.{NodeStep};
+ghost use Rattle.j39_address.specs.Settling.{TimedCall, Runs, ClaimsSince, NoneDrivesAway, HasNoneLeft, IsSmallestAt};
 
 /// A NAME holds an address since its last claim of it, if no smaller NAME held the address before that
 /// claim or claimed it since.
@@ -55,4 +58,52 @@ pub fn a_claim_is_heard()
 pub fn contests()
     ensures told { (start net : Net) → IsStart start → NetRun start net → OneIsTold net }
     ensures none_shared { (start net : Net) → IsStart start → NetRun start net → net.pending ≡ [] → NoneShared net }
+{}
+
+/// A node that is started claims its preferred address at once. Where nothing drives it away from an
+/// address that it claims, neither a smaller NAME's claim of it nor a command, it keeps that address, and
+/// its first tick 250 ms after it began to claim makes it the node's own (J1939-81, 4.5.1). Before that
+/// moment it has no address of its own, whatever comes.
+pub fn settles()
+    ensures begins { (idle started : Node) (t : ℕ) (answer : Option ℕ) → idle.status ≡ Idle
+        → NodeStep idle Start t answer started
+        → (answer ≡ Some idle.preferred) × (started.name ≡ idle.name) × ClaimsSince started idle.preferred t }
+    ensures keeps { (node later : Node) (a t : ℕ) (calls : List TimedCall) → ClaimsSince node a t
+        → NoneDrivesAway node.name a calls → Runs node calls later
+        → (later.status ≡ Claiming a) ⊎ (later.status ≡ Holding a) }
+    ensures holds { (node later last : Node) (a t now : ℕ) (calls : List TimedCall) (answer : Option ℕ)
+        → ClaimsSince node a t → NoneDrivesAway node.name a calls → Runs node calls later
+        → NodeStep later Tick now answer last → t + 250000 ≤ now → last.status ≡ Holding a }
+    ensures holds_on { (node later : Node) (a : ℕ) (calls : List TimedCall) → node.status ≡ Holding a
+        → NoneDrivesAway node.name a calls → Runs node calls later → later.status ≡ Holding a }
+    ensures not_before { (node later : Node) (a b t : ℕ) (calls : List TimedCall) → ClaimsSince node a t
+        → All (λ c. (t ≤ c.now) × (c.now < t + 250000)) calls → Runs node calls later → later.status ≢ Holding b }
+{}
+
+/// A node that loses its address to a smaller NAME's claim, and may choose, claims one of 128 to 247 that
+/// nobody holds, if there is one (J1939-81, 4.5). It gives up at such a claim alone, and where it may
+/// choose only if none is left.
+pub fn moves_on()
+    ensures claims_another { (old new : Node) (n a now free : ℕ) (answer : Option ℕ) → IsAt old a → n < old.name
+        → IsCapable old.name → IsFree (with_claim old.claims n a) free
+        → NodeStep old (Heard (record { name = n; address = a })) now answer new
+        → (b : ℕ) × IsFree (with_claim old.claims n a) b × (answer ≡ Some b) × ClaimsSince new b now }
+    ensures gives_up { (old new : Node) (call : Call) (now : ℕ) (answer : Option ℕ) → old.status ≢ Cannot
+        → NodeStep old call now answer new → new.status ≡ Cannot → HasNoneLeft old call }
+{}
+
+/// In a net of distinct NAMEs that loses no claim, the smallest NAME that ever claims an address stays at
+/// it from then on, unless it is commanded away. Once no claim is on its way it is there alone, and its
+/// first tick 250 ms after it began to claim makes the address its own (J1939-81, 4.5).
+pub fn smallest_stays()
+    ensures stays { (start mid last : Net) (earlier : NetRun start mid) (later : NetRun mid last)
+        (i a : ℕ) (m : Node) → IsSmallestAt start mid last earlier later i a m
+        → (n : Node) × IsMember last i n × (n.name ≡ m.name) × IsAt n a }
+    ensures alone { (start mid last : Net) (earlier : NetRun start mid) (later : NetRun mid last)
+        (i a j : ℕ) (m n : Node) → IsSmallestAt start mid last earlier later i a m → last.pending ≡ []
+        → IsMember last j n → IsAt n a → j ≡ i }
+    ensures holds { (start mid last : Net) (earlier : NetRun start mid) (later : NetRun mid last)
+        (i a now : ℕ) (m n ticked : Node) (answer : Option ℕ)
+        → IsSmallestAt start mid last earlier later i a m → IsMember last i n
+        → NodeStep n Tick now answer ticked → m.moment + 250000 ≤ now → ticked.status ≡ Holding a }
 {}

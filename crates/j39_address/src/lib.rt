@@ -16,8 +16,3 @@ pub use claims::Claims;
 pub use commanded::commanded_of;
 pub use name::Name;
 pub use status::Status;
-
-#[cfg(test)]
-mod claimer_tests;
-#[cfg(test)]
-mod tests;

@@ -3,3 +3,4 @@ pub mod DigitLemmas
 pub mod PartLemmas
 pub mod TakenLemmas
 pub mod MetLemmas
+pub mod RunLemmas

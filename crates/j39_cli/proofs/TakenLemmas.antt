@@ -1,6 +1,6 @@
 -- clap takes each command as it is spelled, and meets it with its texts.
 use Rattle.std.proofs.Common.{◌≡◌, ◌∙◌, ap, List, [], ◌∷◌, refl, true, Some, None, codes, map}
-use Rattle.clap.specs.Words.{App, Row, Shape, Text, built, is_simple, subcommand_of, takes}
+use Rattle.clap.specs.Words.{App, Row, Shape, Text, built, is_simple, is_simple_and_free, subcommand_of, takes}
 use Rattle.clap.specs.Simple.{built_leaf}
 use Rattle.clap.specs.Walk.{finished}
 use Rattle.clap.proofs.OnLiterals.{clap_on_literals}
@@ -17,6 +17,11 @@ use Rattle.j39_cli.proofs.PartLemmas.{AreParts, Enters, Part, built_takes-enters
 pub line_is_simple : is_simple line_app ≡ true
 unfolding clap_on_literals line_app
 line_is_simple = refl
+
+-- and its arguments have no rule on one another
+pub line_is_free : is_simple_and_free line_app ≡ true
+unfolding clap_on_literals line_app
+line_is_free = refl
 
 -- what is known of a command that is spelled: clap takes it, and meets it with its texts
 pub record IsRead (program : Text) (s : CommandWords) : Type 0 where
@@ -78,14 +83,24 @@ enters_groups = record { step = refl; passes = refl; found = refl; checks = refl
 
 pub is_read : (program : Text) (s : CommandWords) → HasValues s → IsRead program s
 unfolding clap_on_literals parts_pass
-is_read program (report None None) values = read program (codes "report") report_app enters_report
-    [] _ tt refl refl (refl, refl, refl)
-is_read program (report None (Some file)) values = read program (codes "report") report_app enters_report
-    (given file ∷ []) _ (values.1, tt) refl refl (refl, refl, refl)
-is_read program (report (Some bus) None) values = read program (codes "report") report_app enters_report
-    (written (codes "--bus") ∷ given bus ∷ []) _ (tt, (values.0, tt)) refl refl (refl, refl, refl)
-is_read program (report (Some bus) (Some file)) values = read program (codes "report") report_app enters_report
-    (written (codes "--bus") ∷ given bus ∷ given file ∷ []) _ (tt, (values.0, (values.1, tt))) refl refl (refl, refl, refl)
+is_read program (report None None None) values = read program (codes "report") report_app enters_report
+    [] _ tt refl refl (refl, refl, refl, refl)
+is_read program (report None None (Some file)) values = read program (codes "report") report_app enters_report
+    (given file ∷ []) _ (values.2, tt) refl refl (refl, refl, refl, refl)
+is_read program (report None (Some table) None) values = read program (codes "report") report_app enters_report
+    (written (codes "--table") ∷ given table ∷ []) _ (tt, (values.1, tt)) refl refl (refl, refl, refl, refl)
+is_read program (report None (Some table) (Some file)) values = read program (codes "report") report_app enters_report
+    (written (codes "--table") ∷ given table ∷ given file ∷ []) _ (tt, (values.1, (values.2, tt))) refl refl (refl, refl, refl, refl)
+is_read program (report (Some bus) None None) values = read program (codes "report") report_app enters_report
+    (written (codes "--bus") ∷ given bus ∷ []) _ (tt, (values.0, tt)) refl refl (refl, refl, refl, refl)
+is_read program (report (Some bus) None (Some file)) values = read program (codes "report") report_app enters_report
+    (written (codes "--bus") ∷ given bus ∷ given file ∷ []) _ (tt, (values.0, (values.2, tt))) refl refl (refl, refl, refl, refl)
+is_read program (report (Some bus) (Some table) None) values = read program (codes "report") report_app enters_report
+    (written (codes "--bus") ∷ given bus ∷ written (codes "--table") ∷ given table ∷ [])
+    _ (tt, (values.0, (tt, (values.1, tt)))) refl refl (refl, refl, refl, refl)
+is_read program (report (Some bus) (Some table) (Some file)) values = read program (codes "report") report_app enters_report
+    (written (codes "--bus") ∷ given bus ∷ written (codes "--table") ∷ given table ∷ given file ∷ [])
+    _ (tt, (values.0, (tt, (values.1, (values.2, tt))))) refl refl (refl, refl, refl, refl)
 is_read program (nodes None None) values = read program (codes "nodes") nodes_app enters_nodes
     [] _ tt refl refl (refl, refl, refl)
 is_read program (nodes None (Some file)) values = read program (codes "nodes") nodes_app enters_nodes
@@ -114,4 +129,6 @@ is_read program (cut source pgn at bus hex) values = read program (codes "cut") 
     (written (codes "--source") ∷ given source ∷ written (codes "--pgn") ∷ given pgn ∷ written (codes "--at") ∷ given at
     ∷ written (codes "--bus") ∷ given bus ∷ given hex ∷ [])
     _ (tt, (values.0, (tt, (values.1, (tt, (values.2, (tt, (values.3, (values.4, tt))))))))) refl refl (refl, refl, refl, refl, refl, refl)
-is_read program groups values = read program (codes "groups") groups_app enters_groups [] _ tt refl refl (refl, tt)
+is_read program (groups None) values = read program (codes "groups") groups_app enters_groups [] _ tt refl refl (refl, refl)
+is_read program (groups (Some table)) values = read program (codes "groups") groups_app enters_groups
+    (written (codes "--table") ∷ given table ∷ []) _ (tt, (values, tt)) refl refl (refl, refl)

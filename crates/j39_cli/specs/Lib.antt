@@ -3,6 +3,7 @@ pub mod Shown
 pub mod Rules
 pub mod CommandWords
 pub mod Command
+pub mod Spelling
 pub mod LogCommand
 pub mod GroupsCommand
 pub mod IdCommand
@@ -13,3 +14,4 @@ pub mod Task
 pub mod Counted
 pub mod Refusal
 pub mod Perform
+pub mod OwnTable

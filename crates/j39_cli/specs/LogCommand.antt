@@ -1,7 +1,9 @@
--- The commands `report [--bus B] [FILE]` and `nodes [--bus B] [FILE]`, and what those that read a log have in common.
+-- The commands that read a log, `report`, `nodes` and `answer`: what they have in common, and what clap is told of the
+-- first two.
 use Rattle.std.specs.Prelude.{◌≡◌, ◌≢◌, ◌⊎◌, ◌<◌, ◌≤◌, ℕ, true, false, List, [], Option, IfSome, codes, length}
 use Rattle.clap.specs.Words.{App, new_app, with_rule}
 use Rattle.j39_frame.specs.Frame.{FrameRecord}
+use Rattle.j39_listen.specs.Asking.{AsksWithin}
 use Rattle.j39_listen.specs.Output.{Output}
 use Rattle.j39_listen.specs.Run as run
 use Rattle.j39_listen.specs.Fault.{fault_words}
@@ -17,8 +19,9 @@ use Rattle.j39_cli.specs.Turn.{IsUnmarked, Turn, Writes}
 abbrev pub with_log : App → App
 with_log command = with_rule (with_rule command (option_rule (codes "bus") false)) (value_rule (codes "file") false)
 
+-- `report` takes `--table` too
 abbrev pub report_app : App
-report_app = with_log (new_app (codes "report"))
+report_app = with_log (with_rule (new_app (codes "report")) (option_rule (codes "table") false))
 
 abbrev pub nodes_app : App
 nodes_app = with_log (new_app (codes "nodes"))
@@ -42,9 +45,11 @@ pub record HasWritten (makes : List ℕ → List FrameRecord → Output → Type
   pub told : Writes err (counts_text counts)
 
 -- this fault came: its own mark stands, and it alone changed one; a front was written; and it is told. Memory fails a
--- command alone that takes some.
-pub record HasFailed (takes_memory : Type 0) (makes : List ℕ → List FrameRecord → Output → Type 0) (fault : RunFault) (bus : Option (List ℕ)) (log out err : Turn) : Type 0 where
-  pub wants : fault ≡ Memory → takes_memory
+-- command only at a frame that asks for some, and the length of the log exactly one that took more than the limit.
+pub record HasFailed (asks : List FrameRecord → FrameRecord → Type 0) (makes : List ℕ → List FrameRecord → Output → Type 0) (fault : RunFault) (bus : Option (List ℕ)) (log out err : Turn) : Type 0 where
+  pub memory : fault ≡ Memory → AsksWithin asks bus log.old.bytes log.new.bytes
+  pub within : fault ≢ TooLong → run.TakesWithin log_limit log.old.bytes log.new.bytes
+  pub at_limit : fault ≡ TooLong → run.StopsAtLimit makes log_limit bus log.old.bytes log.new.bytes out.old.bytes out.new.bytes
   pub too_long : fault ≡ TooLong → IfSome log.old.bytes (λ bytes. log_limit < length bytes)
   pub read : fault ≡ Read → log.new.has_failed ≡ true
   pub read_alone : fault ≢ Read → IsUnmarked log
@@ -54,8 +59,8 @@ pub record HasFailed (takes_memory : Type 0) (makes : List ℕ → List FrameRec
   pub told : Writes err (error_line (fault_text fault) [])
 
 -- status 0: it was written whole, and no device failed; status 1: a fault came
-pub record IsRun (takes_memory : Type 0) (makes : List ℕ → List FrameRecord → Output → Type 0) (bus : Option (List ℕ)) (status : ℕ) (log out err : Turn) : Type 0 where
+pub record IsRun (asks : List FrameRecord → FrameRecord → Type 0) (makes : List ℕ → List FrameRecord → Output → Type 0) (bus : Option (List ℕ)) (status : ℕ) (log out err : Turn) : Type 0 where
   pub known : (status ≡ 0) ⊎ (status ≡ 1)
   pub written : status ≡ 0 → IfSome log.old.bytes (λ bytes. HasWritten makes bus bytes out err)
   pub unmarked : status ≡ 0 → IsUnmarked log × IsUnmarked out
-  pub fault : status ≡ 1 → (fault : RunFault) × HasFailed takes_memory makes fault bus log out err
+  pub fault : status ≡ 1 → (fault : RunFault) × HasFailed asks makes fault bus log out err

@@ -21,42 +21,52 @@ use Rattle.j39_cli.specs.declared.task.ParseFault.TheVariants as fault
 
 -- a command with its values, as numbers and lists of bytes
 pub data Asked : Type 0 where
-  report : Option (List ℕ) → Option (List ℕ) → Asked
+  report : Option (List ℕ) → Option (List ℕ) → Option (List ℕ) → Asked
   nodes : Option (List ℕ) → Option (List ℕ) → Asked
   answer : ℕ → ℕ → Option (List ℕ) → Option (List ℕ) → Asked
   id : ℕ → Asked
   name : ℕ → Asked
   cut : OutgoingRecord → Asked
-  groups : Asked
+  groups : Option (List ℕ) → Asked
 
 abbrev pub asked_of : Task → Asked
-asked_of (task.Report bus file) = report bus file
+asked_of (task.Report bus table file) = report bus table file
 asked_of (task.Nodes bus file) = nodes bus file
 asked_of (task.Answer n address bus file) = answer (name_raw n) address bus file
 asked_of (task.Id i) = id (id_raw i)
 asked_of (task.Name n) = name (name_raw n)
 asked_of (task.Cut o) = cut o
-asked_of task.Groups = groups
+asked_of (task.Groups table) = groups table
 
 -- FILE, where the task has one
 abbrev pub file_of : Task → Option (List ℕ)
-file_of (task.Report bus file) = file
+file_of (task.Report bus table file) = file
 file_of (task.Nodes bus file) = file
 file_of (task.Answer n address bus file) = file
 file_of (task.Id i) = None
 file_of (task.Name n) = None
 file_of (task.Cut o) = None
-file_of task.Groups = None
+file_of (task.Groups table) = None
+
+-- the table of parameters that the task names, where it may name one
+abbrev pub table_of : Task → Option (List ℕ)
+table_of (task.Report bus table file) = table
+table_of (task.Nodes bus file) = None
+table_of (task.Answer n address bus file) = None
+table_of (task.Id i) = None
+table_of (task.Name n) = None
+table_of (task.Cut o) = None
+table_of (task.Groups table) = table
 
 -- the values of a task are those that the command line takes
 abbrev pub IsInRange : Task → Type 0
-IsInRange (task.Report bus file) = ForSome bus IsBusName
+IsInRange (task.Report bus table file) = ForSome bus IsBusName
 IsInRange (task.Nodes bus file) = ForSome bus IsBusName
 IsInRange (task.Answer n address bus file) = (name_raw n < 2 ^ 64) × IsAddress address × ForSome bus IsBusName
 IsInRange (task.Id i) = id_raw i < 2 ^ 29
 IsInRange (task.Name n) = name_raw n < 2 ^ 64
 IsInRange (task.Cut o) = IsOutgoing o
-IsInRange task.Groups = Unit {0}
+IsInRange (task.Groups table) = Unit {0}
 
 -- an argument as help spells it
 abbrev pub argument_text : Argument → List ℕ
@@ -118,13 +128,13 @@ IsNodeAnswer node address bus file r =
 
 -- the values are checked in the order of the words, and the first wrong one is the answer
 abbrev pub IsAnswer : CommandWords → Answer → Type 0
-IsAnswer (written.report bus file) r = IsBusChecked bus (IsTask (report bus file)) r
+IsAnswer (written.report bus table file) r = IsBusChecked bus (IsTask (report bus table file)) r
 IsAnswer (written.nodes bus file) r = IsBusChecked bus (IsTask (nodes bus file)) r
 IsAnswer (written.answer node address bus file) r = IsNodeAnswer node address bus file r
 IsAnswer (written.id hex) r = IsChecked (IsIdText hex) argument.Hex (IsTask (id (digits_value 16 hex))) r
 IsAnswer (written.name hex) r = IsChecked (IsNameText hex) argument.Hex (IsTask (name (digits_value 16 hex))) r
 IsAnswer (written.cut source pgn at bus hex) r = IsCutAnswer source pgn at bus hex r
-IsAnswer written.groups r = IsTask groups r
+IsAnswer (written.groups table) r = IsTask (groups table) r
 
 -- ---- what is read of `--bus`
 

@@ -1,10 +1,11 @@
 //! The command `answer`: its words, and how it is performed.
-ghost use Rattle.std.specs.Prelude.{◌≡◌, ◌↔◌, ⊤, IfOk, IfSome, IsSome, Some, codes, false, true};
+ghost use Rattle.std.specs.Prelude.{◌≡◌, ◌≢◌, ◌↔◌, IfOk, IfSome, IsSome, Some, codes, false, true, Err};
 ghost use Rattle.std.specs.Str.Parse.{digits_value};
 ghost use Rattle.clap.specs.Words.{Text, app_of, first_value, found_of, new_app, rule_of};
 ghost use Rattle.clap.specs.declared.builder.command.Command.TheViews.{out-Command as settings_of};
 ghost use Rattle.j39_address.specs.Name.{name_raw};
 ghost use Rattle.j39_address.specs.Node.{idle_node};
+ghost use Rattle.j39_listen.specs.Asking.{AsksForBoxes};
 ghost use Rattle.j39_listen.specs.Output.{MakesAnswers};
 ghost use Rattle.j39_cli.specs.AnswerCommand.{answer_app};
 ghost use Rattle.j39_cli.specs.CommandWords as written;
@@ -38,7 +39,7 @@ A frame whose identifier ends with FE says that the device has no address.
 At the end the counts go to standard error:
   frames    frames of the bus that is read
   other     lines that hold no such frame
-  unread    lines of no form that candump writes
+  unread    lines of no form that candump -l or -L writes
   messages  messages that were heard
   lines     lines written, one for each frame that would be sent
 
@@ -92,10 +93,20 @@ pub(crate) fn task<'a>(alloc: Global, given: &ArgMatches<'a>) -> Result<Task<'a>
         → first_value (found_of given.now) (codes "address") ≡ Some address
         → IsAnswer (written.answer name address (first_value (found_of given.now) (codes "bus"))
         (first_value (found_of given.now) (codes "file"))) result }
+    ensures given { IfOk result (λ _. (name : Text) × (address : Text)
+        × (first_value (found_of given.now) (codes "name") ≡ Some name)
+        × (first_value (found_of given.now) (codes "address") ≡ Some address)) }
+    ensures memory { result ≢ Err ParseFault.Memory }
     ensures in_range { IfOk result IsInRange }
 {
-    let name = required(alloc, given, "name")?;
-    let address = required(alloc, given, "address")?;
+    let name = match required(alloc, given, "name") {
+        Ok(name) => name,
+        Err(fault) => return Err(fault),
+    };
+    let address = match required(alloc, given, "address") {
+        Ok(address) => address,
+        Err(fault) => return Err(fault),
+    };
     task_of(name, address, given)
 }
 
@@ -103,6 +114,7 @@ pub(crate) fn task<'a>(alloc: Global, given: &ArgMatches<'a>) -> Result<Task<'a>
 fn task_of<'a>(name: &str, address: &str, given: &ArgMatches<'a>) -> Result<Task<'a>, ParseFault>
     ensures answer { IsAnswer (written.answer name.now address.now (first_value (found_of given.now) (codes "bus"))
         (first_value (found_of given.now) (codes "file"))) result }
+    ensures memory { result ≢ Err ParseFault.Memory }
     ensures in_range { IfOk result IsInRange }
 {
     let Some(name) = name_of(name) else {
@@ -136,10 +148,11 @@ pub(crate) fn perform<R: Source, W: Sink, E: Sink>(
     sink: &mut W,
     err: &mut E,
 ) -> u8
-    ensures { IsRun ⊤ (MakesAnswers (idle_node (name_raw name) address.now)) bus.now result
+    ensures run { IsRun AsksForBoxes (MakesAnswers (idle_node (name_raw name) address.now)) bus.now result
         (turn (R.remaining source.old) (R.has_failed source.old) (R.remaining source.new) (R.has_failed source.new))
         (turn (W.held sink.old) (W.has_failed sink.old) (W.held sink.new) (W.has_failed sink.new))
         (turn (E.held err.old) (E.has_failed err.old) (E.held err.new) (E.has_failed err.new)) }
+    ensures flushed { result ≡ 0 → W.is_flushed sink.new ≡ true }
 {
     let address = address.number();
     match j39_listen::answer(alloc, source, sink, copy_of(bus), name, address, LOG_LIMIT) {

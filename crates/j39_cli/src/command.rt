@@ -15,6 +15,7 @@ const VERSION: &str = "0.1.0";
 const LINE_HELP: &str = "\
 Examples:
   j1939 report trip.log
+  j1939 report --table my.table trip.log
   candump -L can0 | j1939 report
   j1939 nodes trip.log
   j1939 answer --name 8000000001401234 --address 0 trip.log
@@ -26,8 +27,8 @@ Examples:
 
 Exit status:
   0  done, or help was asked for
-  1  out of memory, a read or a write failed, or the log can't be opened or is
-     too long
+  1  out of memory, a read or a write failed, the log or the table can't be
+     opened or is too long, or a line of the table is wrong
   2  the words are no command, or a value is wrong";
 
 /// The whole command line.
@@ -46,7 +47,8 @@ pub(crate) fn line<'a>(alloc: Global) -> Result<Command<'a>, AllocError>
     let line = with_command(line, cut)?;
     let line = with_command(line, nodes)?;
     let line = with_command(line, answer)?;
-    with_command(line, groups::command(alloc))
+    let groups = groups::command(alloc)?;
+    with_command(line, groups)
 }
 
 fn bare<'a>(alloc: Global) -> Command<'a>
@@ -75,6 +77,16 @@ pub(crate) fn file<'a>(alloc: Global) -> Arg<'a>
     ensures local { result.global ≡ false }
 {
     value(alloc, "file", "FILE", false).help("The log to read; without it, standard input")
+}
+
+/// `--table T`, which each command takes that goes by a table of parameters.
+pub(crate) fn table<'a>(alloc: Global) -> Arg<'a>
+    ensures rule { rule_of result ≡ option_rule (codes "table") false }
+    ensures local { result.global ≡ false }
+{
+    option(alloc, "table", "T", false).help(
+        "The parameters to read: a file of lines as `groups` writes them, or trucks",
+    )
 }
 
 /// `--name VALUE`

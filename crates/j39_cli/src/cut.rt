@@ -102,6 +102,12 @@ pub(crate) fn task<'a>(alloc: Global, given: &ArgMatches<'a>) -> Result<Task<'a>
         → first_value (found_of given.now) (codes "bus") ≡ Some bus
         → first_value (found_of given.now) (codes "hex") ≡ Some hex
         → IsAnswer (written.cut source pgn at bus hex) result }
+    ensures given { IfOk result (λ _. (source : Text) × (pgn : Text) × (at : Text) × (bus : Text) × (hex : Text)
+        × (first_value (found_of given.now) (codes "source") ≡ Some source)
+        × (first_value (found_of given.now) (codes "pgn") ≡ Some pgn)
+        × (first_value (found_of given.now) (codes "at") ≡ Some at)
+        × (first_value (found_of given.now) (codes "bus") ≡ Some bus)
+        × (first_value (found_of given.now) (codes "hex") ≡ Some hex)) }
     ensures in_range { IfOk result IsInRange }
 {
     let source = required(alloc, given, "source")?;
@@ -151,6 +157,7 @@ pub(crate) fn perform<W: Sink, E: Sink>(outgoing: &Outgoing, sink: &mut W, err: 
     ensures shown { IsShown (cut_text outgoing.now) result
         (turn (W.held sink.old) (W.has_failed sink.old) (W.held sink.new) (W.has_failed sink.new))
         (turn (E.held err.old) (E.has_failed err.old) (E.held err.new) (E.has_failed err.new)) }
+    ensures flushed { result ≡ 0 → W.is_flushed sink.new ≡ true }
     ensures silent { result ≡ 0 → err.new ≡ err.old }
 {
     show_text(outgoing.lines().as_slice(), sink, err)

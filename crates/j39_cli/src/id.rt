@@ -1,5 +1,5 @@
 //! The command `id`: its words, and how it is performed.
-ghost use Rattle.std.specs.Prelude.{◌≡◌, ◌↔◌, ◌++◌, ◌≤◌, ◌+◌, IfOk, IfSome, IsSome, Some, codes, false, length};
+ghost use Rattle.std.specs.Prelude.{◌≡◌, ◌≢◌, ◌↔◌, ◌++◌, ◌≤◌, ◌+◌, IfOk, IfSome, IsSome, Some, codes, false, length, true, Err};
 ghost use Rattle.std.specs.Str.Parse.{digits_value};
 ghost use Rattle.arrayvec.specs.ArrayVec.{array_vec_len};
 ghost use Rattle.clap.specs.Words.{Text, app_of, first_value, found_of};
@@ -52,6 +52,8 @@ pub(crate) fn command<'a>(alloc: Global) -> Result<Command<'a>, AllocError>
 pub(crate) fn task<'a>(alloc: Global, given: &ArgMatches<'a>) -> Result<Task<'a>, ParseFault>
     ensures answer { (hex : Text) → first_value (found_of given.now) (codes "hex") ≡ Some hex
         → IsAnswer (written.id hex) result }
+    ensures given { IfOk result (λ _. (hex : Text) × (first_value (found_of given.now) (codes "hex") ≡ Some hex)) }
+    ensures memory { result ≢ Err ParseFault.Memory }
     ensures in_range { IfOk result IsInRange }
 {
     let hex = match required(alloc, given, "hex") {
@@ -84,6 +86,7 @@ pub(crate) fn perform<W: Sink, E: Sink>(id: Id, sink: &mut W, err: &mut E) -> u8
     ensures shown { IsShown (id_text (id_raw id)) result
         (turn (W.held sink.old) (W.has_failed sink.old) (W.held sink.new) (W.has_failed sink.new))
         (turn (E.held err.old) (E.has_failed err.old) (E.held err.new) (E.has_failed err.new)) }
+    ensures flushed { result ≡ 0 → W.is_flushed sink.new ≡ true }
     ensures silent { result ≡ 0 → err.new ≡ err.old }
 {
     show_text(id_line(id).as_slice(), sink, err)

@@ -12,6 +12,7 @@ mod log;
 mod name;
 mod nodes;
 mod outgoing;
+mod own_table;
 mod performing;
 mod refusal;
 mod report;
@@ -20,18 +21,8 @@ mod task;
 mod words;
 
 pub use outgoing::Outgoing;
-pub use performing::perform;
+pub use own_table::wrong_table;
+pub use performing::{perform, perform_with};
 pub use refusal::{refuse, unopened};
 pub use task::{Address, Argument, ParseFault, Task, WordText};
 pub use words::parse;
-
-#[cfg(test)]
-mod cut_tests;
-#[cfg(test)]
-mod groups_tests;
-#[cfg(test)]
-mod parse_tests;
-#[cfg(test)]
-mod performing_tests;
-#[cfg(test)]
-mod refusal_tests;

@@ -48,7 +48,7 @@ pub(crate) fn tell_fault<E: Sink>(fault: RunFault, err: &mut E)
     ensures { Writes (turn (E.held err.old) (E.has_failed err.old) (E.held err.new) (E.has_failed err.new))
         (error_line (fault_text fault) []) }
 {
-    complain(err, words_of(fault), "");
+    complain(err, words_of(fault).as_bytes(), b"");
 }
 
 /// What is said of a fault: the program alone knows its limit.

@@ -1,7 +1,8 @@
 //! The command `nodes`: its words, and how it is performed.
-ghost use Rattle.std.specs.Prelude.{◌≡◌, IfOk, codes, false};
+ghost use Rattle.std.specs.Prelude.{◌≡◌, ◌≢◌, IfOk, codes, false, true, Err};
 ghost use Rattle.clap.specs.Words.{app_of, first_value, found_of};
 ghost use Rattle.clap.specs.declared.builder.command.Command.TheViews.{out-Command as settings_of};
+ghost use Rattle.j39_listen.specs.Asking.{AsksNowhere};
 ghost use Rattle.j39_listen.specs.Output.{MakesNodes};
 ghost use Rattle.j39_cli.specs.CommandWords as written;
 ghost use Rattle.j39_cli.specs.LogCommand.{IsRun, nodes_app};
@@ -25,7 +26,7 @@ const HELP: &str = "\
 At the end the counts go to standard error:
   frames    frames of the bus that is read
   other     lines that hold no such frame
-  unread    lines of no form that candump writes
+  unread    lines of no form that candump -l or -L writes
   messages  0: messages are not heard
   lines     lines written
 
@@ -50,6 +51,7 @@ pub(crate) fn command<'a>(alloc: Global) -> Result<Command<'a>, AllocError>
 pub(crate) fn task<'a>(given: &ArgMatches<'a>) -> Result<Task<'a>, ParseFault>
     ensures answer { IsAnswer (written.nodes (first_value (found_of given.now) (codes "bus"))
         (first_value (found_of given.now) (codes "file"))) result }
+    ensures memory { result ≢ Err ParseFault.Memory }
     ensures in_range { IfOk result IsInRange }
 {
     let file = given.get_str("file").map(WordText::new);
@@ -66,10 +68,11 @@ pub(crate) fn perform<R: Source, W: Sink, E: Sink>(
     sink: &mut W,
     err: &mut E,
 ) -> u8
-    ensures { IsRun ⊥ MakesNodes bus.now result
+    ensures run { IsRun AsksNowhere MakesNodes bus.now result
         (turn (R.remaining source.old) (R.has_failed source.old) (R.remaining source.new) (R.has_failed source.new))
         (turn (W.held sink.old) (W.has_failed sink.old) (W.held sink.new) (W.has_failed sink.new))
         (turn (E.held err.old) (E.has_failed err.old) (E.held err.new) (E.has_failed err.new)) }
+    ensures flushed { result ≡ 0 → W.is_flushed sink.new ≡ true }
 {
     match j39_listen::nodes(source, sink, copy_of(bus), LOG_LIMIT) {
         Ok(counts) => {

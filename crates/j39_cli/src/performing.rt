@@ -1,15 +1,15 @@
 //! Tasks over devices.
-ghost use Rattle.std.specs.Prelude.{◌≡◌, ◌⊎◌, false};
+ghost use Rattle.std.specs.Prelude.{◌≡◌, ◌⊎◌, false, true};
+ghost use Rattle.j39_groups.specs.Table.{the_table};
 ghost use Rattle.j39_cli.specs.Perform.{IsPerformed, reads_log};
 ghost use Rattle.j39_cli.specs.Turn.{turn};
 
 use crate::{Task, answer, cut, groups, id, name, nodes, report};
 use j39_frame::{Sink, Source};
+use j39_groups::Groups;
 use std::alloc::Global;
 
-/// Performs a task: reads its log from `source` where it has one, writes its lines to `sink`, and
-/// says what happened on `err`. Answers the exit status: 0, or 1 for a fault of memory, of a
-/// device, or of the log's length. A fault of `err` is passed over.
+/// Performs a task by the built-in table of parameters.
 pub fn perform<R: Source, W: Sink, E: Sink>(
     alloc: Global,
     task: &Task<'_>,
@@ -20,17 +20,49 @@ pub fn perform<R: Source, W: Sink, E: Sink>(
     ensures status { (result ≡ 0) ⊎ (result ≡ 1) }
 
     // What each command leaves of the reader, the writer and the error writer.
-    ensures performed { IsPerformed task.now result
+    ensures performed { IsPerformed the_table task.now result
         (turn (R.remaining source.old) (R.has_failed source.old) (R.remaining source.new) (R.has_failed source.new))
         (turn (W.held sink.old) (W.has_failed sink.old) (W.held sink.new) (W.has_failed sink.new))
         (turn (E.held err.old) (E.has_failed err.old) (E.held err.new) (E.has_failed err.new)) }
+
+    // Status 0 says that what was written was passed on.
+    ensures flushed { result ≡ 0 → W.is_flushed sink.new ≡ true }
+
+    // A command that reads no log leaves the reader alone, and says nothing where all is well.
+    ensures unread { reads_log task.now ≡ false → source.new ≡ source.old }
+    ensures silent { reads_log task.now ≡ false → result ≡ 0 → err.new ≡ err.old }
+{
+    perform_with(alloc, &Groups::built_in(), task, source, sink, err)
+}
+
+/// Performs a task by a table of parameters: reads its log from `source` where it has one, writes its lines to `sink`, and
+/// says what happened on `err`. Answers the exit status: 0, or 1 for a fault of memory, of a
+/// device, or of the log's length. A fault of `err` is passed over.
+pub fn perform_with<R: Source, W: Sink, E: Sink>(
+    alloc: Global,
+    groups: &Groups<'_>,
+    task: &Task<'_>,
+    source: &mut R,
+    sink: &mut W,
+    err: &mut E,
+) -> u8
+    ensures status { (result ≡ 0) ⊎ (result ≡ 1) }
+
+    // What each command leaves of the reader, the writer and the error writer.
+    ensures performed { IsPerformed groups.now task.now result
+        (turn (R.remaining source.old) (R.has_failed source.old) (R.remaining source.new) (R.has_failed source.new))
+        (turn (W.held sink.old) (W.has_failed sink.old) (W.held sink.new) (W.has_failed sink.new))
+        (turn (E.held err.old) (E.has_failed err.old) (E.held err.new) (E.has_failed err.new)) }
+
+    // Status 0 says that what was written was passed on.
+    ensures flushed { result ≡ 0 → W.is_flushed sink.new ≡ true }
 
     // A command that reads no log leaves the reader alone, and says nothing where all is well.
     ensures unread { reads_log task.now ≡ false → source.new ≡ source.old }
     ensures silent { reads_log task.now ≡ false → result ≡ 0 → err.new ≡ err.old }
 {
     match task {
-        Task::Report(bus, _) => report::perform(alloc, bus, source, sink, err),
+        Task::Report(bus, _, _) => report::perform(alloc, groups, bus, source, sink, err),
         Task::Nodes(bus, _) => nodes::perform(bus, source, sink, err),
         Task::Answer(name, address, bus, _) => {
             answer::perform(alloc, *name, address, bus, source, sink, err)
@@ -38,6 +70,6 @@ pub fn perform<R: Source, W: Sink, E: Sink>(
         Task::Id(id) => id::perform(*id, sink, err),
         Task::Name(name) => name::perform(*name, sink, err),
         Task::Cut(outgoing) => cut::perform(outgoing, sink, err),
-        Task::Groups => groups::perform(sink, err),
+        Task::Groups(_) => groups::perform(groups, sink, err),
     }
 }

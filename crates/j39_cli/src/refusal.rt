@@ -31,11 +31,11 @@ pub fn refuse<W: Sink, E: Sink>(fault: &ParseFault, out: &mut W, err: &mut E) ->
             2
         }
         ParseFault::Memory => {
-            complain(err, "out of memory", "");
+            complain(err, b"out of memory", b"");
             1
         }
         ParseFault::BadValue(argument) => {
-            complain(err, "bad value for ", argument.text());
+            complain(err, b"bad value for ", argument.text().as_bytes());
             2
         }
     }
@@ -48,7 +48,7 @@ pub fn unopened<E: Sink>(file: &str, err: &mut E) -> u8
     ensures err { Writes (turn (E.held err.old) (E.has_failed err.old) (E.held err.new) (E.has_failed err.new))
         (error_line (codes "cannot open ") file.now) }
 {
-    complain(err, "cannot open ", file);
+    complain(err, b"cannot open ", file.as_bytes());
     1
 }
 
@@ -62,7 +62,7 @@ pub(crate) fn show<S: Sink>(sink: &mut S, text: &[u8])
 }
 
 /// Writes a line of the program's own, and passes it on. A fault shows in the mark alone.
-pub(crate) fn complain<E: Sink>(err: &mut E, words: &str, name: &str)
+pub(crate) fn complain<E: Sink>(err: &mut E, words: &[u8], name: &[u8])
     ensures { Writes (turn (E.held err.old) (E.has_failed err.old) (E.held err.new) (E.has_failed err.new)) (error_line words.now name.now) }
 {
     if put_line(err, words, name).is_ok() {
@@ -70,12 +70,12 @@ pub(crate) fn complain<E: Sink>(err: &mut E, words: &str, name: &str)
     }
 }
 
-fn put_line<E: Sink>(err: &mut E, words: &str, name: &str) -> Result<(), DeviceFault>
+fn put_line<E: Sink>(err: &mut E, words: &[u8], name: &[u8]) -> Result<(), DeviceFault>
     ensures ok { OnOk result (Appends (E.held err.old) (E.held err.new) (error_line words.now name.now)) }
     ensures mark { Marks result (E.has_failed err.old) (E.has_failed err.new) }
 {
     put_all(err, b"j1939: ")?;
-    put_all(err, words.as_bytes())?;
-    put_all(err, name.as_bytes())?;
+    put_all(err, words)?;
+    put_all(err, name)?;
     put_all(err, b"\n")
 }

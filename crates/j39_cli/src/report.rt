@@ -1,25 +1,28 @@
 //! The command `report`: its words, and how it is performed.
-ghost use Rattle.std.specs.Prelude.{◌≡◌, ⊤, IfOk, codes, false};
+ghost use Rattle.std.specs.Prelude.{◌≡◌, ◌≢◌, IfOk, codes, false, true, Err};
 ghost use Rattle.clap.specs.Words.{app_of, first_value, found_of};
 ghost use Rattle.clap.specs.declared.builder.command.Command.TheViews.{out-Command as settings_of};
+ghost use Rattle.j39_listen.specs.Asking.{AsksForBoxes};
 ghost use Rattle.j39_listen.specs.Output.{MakesReport};
 ghost use Rattle.j39_cli.specs.CommandWords as written;
 ghost use Rattle.j39_cli.specs.LogCommand.{IsRun, report_app};
 ghost use Rattle.j39_cli.specs.Task.{IsAnswer, IsInRange};
 ghost use Rattle.j39_cli.specs.Turn.{turn};
 
+use crate::command::{table, with_arg};
 use crate::log::{LOG_LIMIT, copy_of, tell_counts, tell_fault, with_log};
 use crate::words::bus_value;
 use crate::{ParseFault, Task, WordText};
 use clap::{ArgMatches, Command};
 use j39_frame::{Bus, Sink, Source};
-use j39_listen::run;
+use j39_groups::Groups;
+use j39_listen::run_with;
 use std::alloc::{AllocError, Global};
 
 const ABOUT: &str = "\
 Writes one line for each parameter value in a log: the time, the source address
-(hex), the NAME of the device at that address (hex, or dashes where no claim in
-the log tells it), the PGN, the SPN, and the value with its unit. A value is a
+(hex), the NAME of the device at that address (hex, or dashes where no claim
+before tells it), the PGN, the SPN, and the value with its unit. A value is a
 number, on or off, a text in quotes, or what the sender says in its place: error
 (it has a fault), indicator (a code of the parameter's own) or reserved (a code
 that means nothing yet). What it marks as not available has no line. Messages in
@@ -31,7 +34,7 @@ At the end the counts go to standard error:
   frames    frames of the bus that is read
   other     lines that hold no such frame: of another bus, standard or remote
             frames, CAN FD, error frames
-  unread    lines of no form that candump writes
+  unread    lines of no form that candump -l or -L writes
   messages  messages that were heard: in packets of any group, in one frame of the
             groups that are reported
   lines     lines written
@@ -50,36 +53,41 @@ pub(crate) fn command<'a>(alloc: Global) -> Result<Command<'a>, AllocError>
         .about("Writes the parameter values in a log")
         .long_about(ABOUT)
         .after_help(HELP);
+    let command = with_arg(command, table(alloc))?;
     with_log(alloc, command)
 }
 
 /// The task that its words ask for.
 pub(crate) fn task<'a>(given: &ArgMatches<'a>) -> Result<Task<'a>, ParseFault>
     ensures answer { IsAnswer (written.report (first_value (found_of given.now) (codes "bus"))
-        (first_value (found_of given.now) (codes "file"))) result }
+        (first_value (found_of given.now) (codes "table")) (first_value (found_of given.now) (codes "file"))) result }
+    ensures memory { result ≢ Err ParseFault.Memory }
     ensures in_range { IfOk result IsInRange }
 {
+    let table = given.get_str("table").map(WordText::new);
     let file = given.get_str("file").map(WordText::new);
     match bus_value(given) {
-        Ok(bus) => Ok(Task::Report(bus, file)),
+        Ok(bus) => Ok(Task::Report(bus, table, file)),
         Err(fault) => Err(fault),
     }
 }
 
-/// Performs it: the report goes to `sink`, the counts or what failed to `err`.
+/// Performs it by a table of parameters: the report goes to `sink`, the counts or what failed to `err`.
 pub(crate) fn perform<R: Source, W: Sink, E: Sink>(
     alloc: Global,
+    groups: &Groups<'_>,
     bus: &Option<Bus>,
     source: &mut R,
     sink: &mut W,
     err: &mut E,
 ) -> u8
-    ensures { IsRun ⊤ MakesReport bus.now result
+    ensures run { IsRun AsksForBoxes (MakesReport groups.now) bus.now result
         (turn (R.remaining source.old) (R.has_failed source.old) (R.remaining source.new) (R.has_failed source.new))
         (turn (W.held sink.old) (W.has_failed sink.old) (W.held sink.new) (W.has_failed sink.new))
         (turn (E.held err.old) (E.has_failed err.old) (E.held err.new) (E.has_failed err.new)) }
+    ensures flushed { result ≡ 0 → W.is_flushed sink.new ≡ true }
 {
-    match run(alloc, source, sink, copy_of(bus), LOG_LIMIT) {
+    match run_with(alloc, groups, source, sink, copy_of(bus), LOG_LIMIT) {
         Ok(counts) => {
             tell_counts(counts, err);
             0

@@ -1,5 +1,5 @@
 //! What a command writes whole, where it reads no log.
-ghost use Rattle.std.specs.Prelude.{◌≡◌, [], OnOk, OnErr, codes};
+ghost use Rattle.std.specs.Prelude.{◌≡◌, [], OnOk, OnErr, codes, true};
 ghost use Rattle.std.specs.Io.KnownBytes.{Appends};
 ghost use Rattle.j39_frame.specs.Device.{AppendsFront, Marks};
 ghost use Rattle.j39_cli.specs.Shown.{IsShown};
@@ -14,6 +14,7 @@ pub(crate) fn show_text<W: Sink, E: Sink>(text: &[u8], sink: &mut W, err: &mut E
     ensures shown { IsShown text.now result
         (turn (W.held sink.old) (W.has_failed sink.old) (W.held sink.new) (W.has_failed sink.new))
         (turn (E.held err.old) (E.has_failed err.old) (E.held err.new) (E.has_failed err.new)) }
+    ensures flushed { result ≡ 0 → W.is_flushed sink.new ≡ true }
     ensures silent { result ≡ 0 → err.new ≡ err.old }
 {
     status_of(put_text(text, sink), err)
@@ -28,7 +29,7 @@ pub(crate) fn status_of<E: Sink>(put: Result<(), DeviceFault>, err: &mut E) -> u
     match put {
         Ok(()) => 0,
         Err(DeviceFault) => {
-            complain(err, "write failed", "");
+            complain(err, b"write failed", b"");
             1
         }
     }
@@ -38,6 +39,7 @@ pub(crate) fn status_of<E: Sink>(put: Result<(), DeviceFault>, err: &mut E) -> u
 fn put_text<W: Sink>(text: &[u8], sink: &mut W) -> Result<(), DeviceFault>
     ensures ok { OnOk result (Appends (W.held sink.old) (W.held sink.new) text.now) }
     ensures err { OnErr result (AppendsFront (W.held sink.old) (W.held sink.new) text.now) }
+    ensures flushed { OnOk result (W.is_flushed sink.new ≡ true) }
     ensures mark { Marks result (W.has_failed sink.old) (W.has_failed sink.new) }
 {
     put_all(sink, text)?;

@@ -1,7 +1,7 @@
 //! What a command line asks for, and why it may ask for nothing.
 ghost use Rattle.std.specs.Prelude.{◌≡◌, ◌↔◌, IfSome, IsSome, Some, option_map};
 ghost use Rattle.j39_frame.specs.Address.{IsAddress};
-ghost use Rattle.j39_cli.specs.Task.{argument_text, file_of};
+ghost use Rattle.j39_cli.specs.Task.{argument_text, file_of, table_of};
 
 use crate::Outgoing;
 use j39_address::Name;
@@ -82,8 +82,9 @@ impl Address {
 /// A command with its values.
 #[derive(Debug, Drop)]
 pub enum Task<'a> {
-    /// The report of a log: the bus to read, where one is named, and FILE, where it is given.
-    Report(Option<Bus>, Option<WordText<'a>>),
+    /// The report of a log: the bus to read, where one is named, the file of the table of parameters, where it isn't the
+    /// built-in one, and FILE, where it is given.
+    Report(Option<Bus>, Option<WordText<'a>>, Option<WordText<'a>>),
     /// Who holds which address after a log: the bus to read, and FILE, as of a report.
     Nodes(Option<Bus>, Option<WordText<'a>>),
     /// What a node of this NAME, which starts with this address, would send: with the bus to read, and FILE, as of
@@ -95,8 +96,8 @@ pub enum Task<'a> {
     Name(Name),
     /// The frames of a message.
     Cut(Outgoing),
-    /// The parameters that a report may hold.
-    Groups,
+    /// The parameters that a report may hold: by the table of this file, or the built-in one.
+    Groups(Option<WordText<'a>>),
 }
 
 impl<'a> Task<'a> {
@@ -105,8 +106,8 @@ impl<'a> Task<'a> {
         ensures { option_map (λ text. text.now) result ≡ file_of self.now }
     {
         match self {
-            Task::Report(_, Some(file)) => Some(file.as_str()),
-            Task::Report(_, None) => None,
+            Task::Report(_, _, Some(file)) => Some(file.as_str()),
+            Task::Report(_, _, None) => None,
             Task::Nodes(_, Some(file)) => Some(file.as_str()),
             Task::Nodes(_, None) => None,
             Task::Answer(_, _, _, Some(file)) => Some(file.as_str()),
@@ -114,7 +115,24 @@ impl<'a> Task<'a> {
             Task::Id(_) => None,
             Task::Name(_) => None,
             Task::Cut(_) => None,
-            Task::Groups => None,
+            Task::Groups(_) => None,
+        }
+    }
+
+    /// The file of the table of parameters, `--table`; `None` where it isn't given, or the command takes none.
+    pub fn table(&self) -> Option<&'a str>
+        ensures { option_map (λ text. text.now) result ≡ table_of self.now }
+    {
+        match self {
+            Task::Report(_, Some(table), _) => Some(table.as_str()),
+            Task::Report(_, None, _) => None,
+            Task::Nodes(_, _) => None,
+            Task::Answer(_, _, _, _) => None,
+            Task::Id(_) => None,
+            Task::Name(_) => None,
+            Task::Cut(_) => None,
+            Task::Groups(Some(table)) => Some(table.as_str()),
+            Task::Groups(None) => None,
         }
     }
 }

@@ -1,10 +1,11 @@
 //! From words to a task.
-ghost use Rattle.std.specs.Prelude.{◌≡◌, ◌∷◌, IfErr, IfOk, List, None, Some, codes, map, true};
+ghost use Rattle.std.specs.Prelude.{◌≡◌, ◌≢◌, ◌∷◌, [], Err, IfErr, IfOk, List, None, OnOk, Some, codes, map, true};
 ghost use Rattle.clap.specs.Words.{HasMatchesOf, Row, Text, first_value, found_of, kind_of};
-ghost use Rattle.clap.specs.Words.{subcommand_rows_of, takes};
+ghost use Rattle.clap.specs.Words.{fault_of, subcommand_name_of, subcommand_of, subcommand_rows_of, takes};
 ghost use Rattle.j39_frame.specs.Bus.{IsBusName};
 ghost use Rattle.j39_cli.specs.Command.{line_app};
 ghost use Rattle.j39_cli.specs.CommandWords.{CommandWords, HasTexts, HasValues, words_of};
+ghost use Rattle.j39_cli.specs.Spelling.{IsEntered, IsSpelled};
 ghost use Rattle.j39_cli.specs.Task.{IsAnswer, IsBusValue, IsInRange};
 
 use crate::command::line;
@@ -15,12 +16,19 @@ use j39_frame::Bus;
 use std::alloc::Global;
 use std::convert::AsStr;
 
-/// The task that the words ask for. They begin with the program's name. What words mean that spell
-/// no command is clap's: it also takes `--bus=can0`, and options after FILE.
+/// The task that the words ask for. They begin with the program's name. They spell a command as the help
+/// says, or as clap takes it besides: with `--bus=can0`, with options behind FILE. What is said of words that
+/// clap doesn't take is clap's.
 pub fn parse<'a, S: AsStr>(alloc: Global, words: &'a [S]) -> Result<Task<'a>, ParseFault>
     ensures answer { (program : Text) (s : CommandWords) → HasValues s
         → map S.text words.entry.now ≡ program ∷ words_of s → IsAnswer s result }
     ensures in_range { IfOk result IsInRange }
+
+    // Whatever words clap takes, the command that it enters is answered; and each task answered is one that the
+    // words spell.
+    ensures spelled { (s : CommandWords) → takes line_app (map S.text words.entry.now) ≡ true
+        → IsEntered (subcommand_of line_app (map S.text words.entry.now)) s → IsAnswer s result }
+    ensures task { IfOk result (λ _. (s : CommandWords) × IsSpelled (map S.text words.entry.now) s × IsAnswer s result) }
 {
     match matched(alloc, words) {
         Ok(matches) => task_of(alloc, &matches),
@@ -31,6 +39,7 @@ pub fn parse<'a, S: AsStr>(alloc: Global, words: &'a [S]) -> Result<Task<'a>, Pa
 /// What clap makes of the words.
 fn matched<'a, S: AsStr>(alloc: Global, words: &'a [S]) -> Result<ArgMatches<'a>, ParseFault>
     ensures ok { IfOk result (HasMatchesOf line_app (map S.text words.entry.now)) }
+    ensures faultless { OnOk result (fault_of line_app (map S.text words.entry.now) ≡ []) }
     ensures err { IfErr result (λ fault. takes line_app (map S.text words.entry.now) ≡ true
         → fault ≡ ParseFault.Memory) }
 {
@@ -63,6 +72,8 @@ fn fault_of(alloc: Global, error: &Error) -> ParseFault
 fn task_of<'a>(alloc: Global, matches: &ArgMatches<'a>) -> Result<Task<'a>, ParseFault>
     ensures answer { (s : CommandWords) (met : Text × List Row) → subcommand_rows_of matches.now ≡ Some met
         → HasTexts s met → IsAnswer s result }
+    ensures memory { result ≡ Err ParseFault.Memory → subcommand_name_of matches.now ≡ Some (codes "cut") }
+    ensures met { IfOk result (λ _. (s : CommandWords) × IsEntered (subcommand_rows_of matches.now) s × IsAnswer s result) }
     ensures in_range { IfOk result IsInRange }
 {
     let report = matches.subcommand_matches("report");
@@ -118,6 +129,7 @@ pub(crate) fn required<'a>(
 ) -> Result<&'a str, ParseFault>
     ensures ok { IfOk result (λ text. first_value (found_of given.now) id.now ≡ Some text.now) }
     ensures err { IfErr result (λ _. first_value (found_of given.now) id.now ≡ None) }
+    ensures memory { result ≢ Err ParseFault.Memory }
 {
     match given.get_str(id) {
         Some(text) => Ok(text),

@@ -1,10 +1,10 @@
 //! What a log is read from and a report is written to.
-ghost use Rattle.std.specs.Prelude.{◌≡◌, ◌<◌, ℕ, List, Bool, true, false, Option, length, OnOk, OnErr, IfOk};
+ghost use Rattle.std.specs.Prelude.{◌≡◌, ◌<◌, ℕ, List, Bool, true, false, Option, Ok, IsErr, length, OnOk, OnErr, IfOk};
 ghost use Rattle.std.specs.Io.{ReadsAtMost, WritesAtMost};
 ghost use Rattle.std.specs.Io.KnownBytes.{ReadConsumes, WriteAppends, Keeps, Appends};
 ghost use Rattle.j39_frame.specs.Device.{Marks, AppendsFront};
 
-use std::io::{Read, Write};
+use std::io::{self, Read, Write};
 use thiserror::Error;
 
 /// A device answered an error, or took no byte of some.
@@ -35,37 +35,61 @@ pub trait Sink {
     // Whether a fault has come.
     ghost has_failed: { Self → Bool };
 
+    // Whether all that it took was passed on.
+    ghost is_flushed: { Self → Bool };
+
     /// Writes a front of the bytes, of one byte at least where there is one. A fault adds no byte.
+    /// What it takes may be buffered until the next flush.
     fn put(&mut self, bytes: &[u8]) -> Result<usize, DeviceFault>
         ensures bound { WritesAtMost result bytes.now }
         ensures some { IfOk result (λ n. 0 < length bytes.now → 0 < n) }
         ensures bytes { WriteAppends (held self.old) (held self.new) result bytes.now }
+        ensures waits { OnOk result (is_flushed self.new ≡ false) }
         ensures mark { Marks result (has_failed self.old) (has_failed self.new) };
 
     /// Passes on what is buffered. Adds no byte, fault or none.
     fn flush(&mut self) -> Result<(), DeviceFault>
         ensures bytes { Keeps (held self.old) (held self.new) }
+        ensures flushed { OnOk result (is_flushed self.new ≡ true) }
         ensures mark { Marks result (has_failed self.old) (has_failed self.new) };
 }
 
-/// A reader or a writer of std, with a mark that stands from its first fault on.
+/// A reader or a writer of std, with a mark that stands from its first fault on, and one that stands while all
+/// that it took was passed on.
 #[derive(Debug, Drop)]
 pub struct Told<T> {
     device: T,
     has_failed: bool,
+    is_flushed: bool,
 }
 
 impl<T> Told<T> {
-    ghost use Rattle.j39_frame.specs.Told.{told_device, is_marked};
+    ghost use Rattle.j39_frame.specs.Told.{told_device, is_marked, is_passed_on};
 
-    /// The device, unmarked.
+    /// The device, unmarked: it has taken nothing yet.
     pub fn new(device: T) -> Told<T>
         ensures device { told_device result ≡ device }
         ensures unmarked { is_marked result ≡ false }
+        ensures flushed { is_passed_on result ≡ true }
     {
         Told {
             device,
             has_failed: false,
+            is_flushed: true,
+        }
+    }
+}
+
+/// Tells a device's error as a fault, and marks it; nothing else is a fault.
+fn tell<A>(answer: io::Result<A>, has_failed: &mut bool) -> Result<A, DeviceFault>
+    ensures good { IfOk answer (λ a. (result ≡ Ok a) × (has_failed.new ≡ has_failed.old)) }
+    ensures fault { OnErr answer (IsErr result × (has_failed.new ≡ true)) }
+{
+    match answer {
+        Ok(a) => Ok(a),
+        Err(_) => {
+            *has_failed = true;
+            Err(DeviceFault)
         }
     }
 }
@@ -78,41 +102,33 @@ impl<T: Read> Source for Told<T> {
     ghost has_failed = { λ told. is_marked told };
 
     fn pull(&mut self, buf: &mut [u8]) -> Result<usize, DeviceFault> {
-        match self.device.read(buf) {
-            Ok(n) => Ok(n),
-            Err(_) => {
-                self.has_failed = true;
-                Err(DeviceFault)
-            }
-        }
+        tell(self.device.read(buf), &mut self.has_failed)
     }
 }
 
 impl<T: Write> Sink for Told<T> {
-    ghost use Rattle.j39_frame.specs.Told.{told_device, is_marked};
+    ghost use Rattle.j39_frame.specs.Told.{told_device, is_marked, is_passed_on};
 
     ghost held = { λ told. T.contents (told_device told) };
 
     ghost has_failed = { λ told. is_marked told };
 
+    ghost is_flushed = { λ told. is_passed_on told };
+
     fn put(&mut self, bytes: &[u8]) -> Result<usize, DeviceFault> {
-        match self.device.write(bytes) {
-            Ok(n) if n > 0 || bytes.is_empty() => Ok(n),
-            _ => {
-                self.has_failed = true;
-                Err(DeviceFault)
-            }
+        self.is_flushed = false;
+        let n = tell(self.device.write(bytes), &mut self.has_failed)?;
+        if n == 0 && !bytes.is_empty() {
+            self.has_failed = true;
+            return Err(DeviceFault);
         }
+        Ok(n)
     }
 
     fn flush(&mut self) -> Result<(), DeviceFault> {
-        match self.device.flush() {
-            Ok(()) => Ok(()),
-            Err(_) => {
-                self.has_failed = true;
-                Err(DeviceFault)
-            }
-        }
+        tell(self.device.flush(), &mut self.has_failed)?;
+        self.is_flushed = true;
+        Ok(())
     }
 }
 

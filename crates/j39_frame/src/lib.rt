@@ -38,8 +38,3 @@ pub use seconds::Seconds;
 pub use splitter::{RawLine, Splitter};
 pub use stamp::Stamp;
 pub use trial::{Full, Trial};
-
-#[cfg(test)]
-mod line_tests;
-#[cfg(test)]
-mod tests;

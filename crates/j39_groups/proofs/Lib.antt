@@ -6,3 +6,6 @@ pub mod TextLemmas
 pub mod QuickLemmas
 pub mod SlotLemmas
 pub mod ReadBackLemmas
+pub mod ReadLemmas
+pub mod MarkLemmas
+pub mod SortLemmas

@@ -1,8 +1,9 @@
 -- Elements of lists.
-use Rattle.std.proofs.Common.{◌≡◌, ◌<◌, ◌≤◌, ◌+◌, ℕ, zero, suc, List, [], ◌∷◌, ◌++◌, Bool, true, length, take, drop, get_or, refl, ap, ◌∙◌, sym, arith, take-append-drop, drop-cons, append_assoc}
+use Rattle.std.proofs.Common.{◌≡◌, ◌<◌, ◌≤◌, ◌+◌, ◌-◌, ℕ, zero, suc, List, [], ◌∷◌, ◌++◌, Bool, true, length, take, drop, get_or, refl, ap, ◌∙◌, sym, arith, take-append-drop, drop-cons, append_assoc}
 use Rattle.std.specs.Prelude.{Option, Some, None, slice_get, filter, map}
 use Rattle.std.specs.Option.{option_to_list}
 use Rattle.std.proofs.lemmas.List.{take_more, map-append}
+use Rattle.std.proofs.Math.Seq.{take-nil}
 use Rattle.std.specs.List.{filter_map, flat_map, Contains}
 use Rattle.std.proofs.lemmas.List.Concat.{flat_map-cons}
 use Rattle.std.proofs.lemmas.Grind.{flat_map-append}
@@ -48,6 +49,25 @@ flat_map-at f xs i d below =
     let cut : xs ≡ take i xs ++ (get_or xs i d ∷ drop (suc i) xs) = sym (take-append-drop i xs) ∙ ap (λ ys. take i xs ++ ys) (drop-cons xs i d below) in
     ap (flat_map f) cut ∙ flat_map-append f (take i xs) (get_or xs i d ∷ drop (suc i) xs)
     ∙ ap (λ ys. flat_map f (take i xs) ++ ys) (flat_map-cons f (get_or xs i d) (drop (suc i) xs))
+
+part_of : {X : Type 0} (xs : List X) (i n : ℕ) → take (i + n) xs ≡ take i xs ++ take n (drop i xs)
+part_of xs zero n = let none : 0 + n ≡ n = omega arith in rw none refl
+part_of [] (suc i) n = rw (take-nil (suc i + n), take-nil n) refl
+part_of (x ∷ xs) (suc i) n = let next : suc i + n ≡ suc (i + n) = omega arith in rw next (ap (λ ys. x ∷ ys) (part_of xs i n))
+
+-- what the elements of a part give, behind those before it
+pub flat_map-part : {X Y : Type 0} (f : X → List Y) (xs : List X) (i j : ℕ) → i ≤ j
+    → flat_map f (take j xs) ≡ flat_map f (take i xs) ++ flat_map f (take (j - i) (drop i xs))
+flat_map-part f xs i j up =
+    let end : i + (j - i) ≡ j = omega (arith, up) in
+    ap (λ k. flat_map f (take k xs)) (sym end) ∙ ap (flat_map f) (part_of xs i (j - i)) ∙ flat_map-append f (take i xs) (take (j - i) (drop i xs))
+
+pub flat_map-around : {X Y : Type 0} (f : X → List Y) (xs : List X) (i j : ℕ) → i ≤ j
+    → flat_map f xs ≡ flat_map f (take i xs) ++ (flat_map f (take (j - i) (drop i xs)) ++ flat_map f (drop j xs))
+flat_map-around f xs i j up =
+    ap (flat_map f) (sym (take-append-drop j xs)) ∙ flat_map-append f (take j xs) (drop j xs)
+    ∙ ap (λ ys. ys ++ flat_map f (drop j xs)) (flat_map-part f xs i j up)
+    ∙ append_assoc (flat_map f (take i xs)) (flat_map f (take (j - i) (drop i xs))) (flat_map f (drop j xs))
 
 given : {X Y : Type 0} (f : X → Option Y) (x : X) → filter_map f (x ∷ []) ≡ option_to_list (f x)
 given f x = of (f x) where

@@ -21,7 +21,7 @@ use Rattle.j39_groups.specs.Table.{the_table}
 use Rattle.j39_groups.specs.ValueText.{value_text}
 use Rattle.j39_groups.proofs.TableLemmas.{field_sound}
 use Rattle.j39_groups.specs.Ranges.{is_valid}
-use Rattle.j39_groups.specs.Readings.{by_top_byte, number_meaning, readings_at, readings_of, switch_meaning, values_at}
+use Rattle.j39_groups.specs.Readings.{by_top_byte, number_meaning, readings_at, readings_in, readings_of, switch_meaning, values_at}
 use Rattle.j39_groups.specs.Shown.{value_of}
 use Rattle.j39_groups.specs.Value.{ReadingRecord, SlotRecord, ValueRecord, on, off, error, reserved, indicator}
 
@@ -176,7 +176,7 @@ line_none head bytes pgn old new left rest quick at lines w cut value =
 -- once no row is left, they are the readings of the payload
 pub all_found : (head bytes : List ℕ) (pgn : ℕ) (old new : List ℕ) (left : List LabelledRow) (at lines : ℕ) (w : LinesWritten head bytes pgn old new left at lines)
     → length left ≡ 0 → found bytes w.done ≡ readings_of pgn bytes
-unfolding readings_of
+unfolding readings_in
 all_found head bytes pgn old new left at lines w none =
     let empty = nil_from_length left none in
     sym (flat_map-map (readings_at bytes) (λ quick. row_record quick.row) w.done)

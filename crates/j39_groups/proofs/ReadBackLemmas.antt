@@ -5,9 +5,9 @@ use Rattle.std.specs.List.{Contains}
 use Rattle.std.specs.Option.{option_and_then, option_to_list}
 use Rattle.std.proofs.lemmas.Bool.{eq-eqb}
 use Rattle.j39_groups.specs.Value.{number, ReadingRecord}
-use Rattle.j39_groups.specs.Row.{FieldRecord, number_field, switch_field, text_field, texts_field}
+use Rattle.j39_groups.specs.Row.{FieldRecord, number_field, bits_field, switch_field, text_field, texts_field}
 use Rattle.j39_groups.specs.Table.{the_table}
-use Rattle.j39_groups.specs.Readings.{by_top_byte, number_meaning, values_at, readings_at, readings_of}
+use Rattle.j39_groups.specs.Readings.{by_top_byte, number_meaning, values_at, readings_at, readings_in, readings_of}
 use Rattle.j39_groups.specs.Slots.{SizedSlotRecord, slot_in, slot_at, sized_slot_of_spn, slot_of_spn, IsRawIn, IsRawOf, HoldsIn, Holds}
 use Rattle.j39_groups.proofs.ListLemmas.{contains_filter, contains_flat_map, contains_head}
 use Rattle.j39_groups.proofs.TableLemmas.{slot_only}
@@ -27,13 +27,14 @@ has_number (number_field first last slot) bytes raw held = (
   λ value is. ap option_to_list (ap (option_and_then (number_meaning (last - (first - 1)) slot)) held
       ∙ valid_meaning (record { count = last - (first - 1); slot = slot }) value raw is),
 )
+has_number (bits_field byte low count slot) bytes raw held = absurd held
 has_number (switch_field byte low high) bytes raw held = absurd held
 has_number (text_field part) bytes raw held = absurd held
 has_number (texts_field byte count) bytes raw held = absurd held
 
 pub reads_back : (pgn spn raw : ℕ) (value : ℤ) (bytes : List ℕ) → Holds pgn spn bytes raw → IsRawOf spn value raw
     → IsSomeAnd (slot_of_spn spn) (λ slot. Contains (readings_of pgn bytes) (record { spn = spn; value = number value slot }))
-unfolding sized_slot_of_spn readings_of
+unfolding sized_slot_of_spn readings_in
 reads_back pgn spn raw value bytes holds is =
     let row = holds.row in
     let has = has_number row.field bytes raw holds.held in

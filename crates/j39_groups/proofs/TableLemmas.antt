@@ -16,6 +16,7 @@ use Rattle.j39_groups.specs.declared.table.TheConstants.{LOW_BYTES}
 use Rattle.j39_groups.specs.Row.{RowRecord}
 use Rattle.j39_groups.specs.Table.{the_table}
 use Rattle.j39_groups.specs.CodeRows.{is_sound_table, is_sound, IsSound, most_values, most_values_of}
+use Rattle.j39_groups.specs.Readings.{is_network_group, is_reported_in}
 use Rattle.j39_groups.specs.Slots.{SizedSlotRecord, slot_at}
 use Rattle.j39_groups.proofs.ListLemmas.{lone, contains_filter_map}
 
@@ -117,6 +118,33 @@ on_unset b P f =
       | inl is_set ↦ rw is_set tt
       | inr is_unset ↦ let other = eqb-false (bit_and b 1) 1 is_unset in rw is_unset (f (omega (arith, last, other)))
     ]
+
+-- where a table has no row of the network's groups, a group is reported that it lists
+no_network : (pgn : ℕ) (rows : List RowRecord) → is_network_group pgn ≡ true → list_any (λ row. is_network_group row.pgn) rows ≡ false
+    → list_any (λ row. row.pgn == pgn) rows ≡ false
+no_network pgn [] net none = refl
+no_network pgn (row ∷ rows) net none = elim (cases_Bool (is_network_group row.pgn)) [
+  | inl listed ↦ let first : list_any (λ row. is_network_group row.pgn) (row ∷ rows) ≡ true = rw listed refl in absurd (false≢true (sym none ∙ first))
+  | inr free ↦
+      let rest : list_any (λ row. is_network_group row.pgn) rows ≡ false = rw free at none in
+      let other : (row.pgn == pgn) ≡ false = ne_eqb _ _ (λ same. absurd (false≢true (sym free ∙ (ap is_network_group same ∙ net)))) in
+      rw other (no_network pgn rows net rest)
+]
+
+pub listed_is_reported : (rows : List RowRecord) (pgn : ℕ) → list_any (λ row. is_network_group row.pgn) rows ≡ false
+    → list_any (λ row. row.pgn == pgn) rows ≡ is_reported_in rows pgn
+unfolding is_reported_in
+listed_is_reported rows pgn none = elim (cases_Bool (is_network_group pgn)) [
+  | inl net ↦ let silent = no_network pgn rows net none in rw (net, silent) refl
+  | inr free ↦ rw free refl
+]
+
+built_in_is_open : list_any (λ row. is_network_group row.pgn) the_table ≡ false
+unfolding the_table
+built_in_is_open = refl
+
+pub listed_is_reported_built_in : (pgn : ℕ) → list_any (λ row. row.pgn == pgn) the_table ≡ is_reported_in the_table pgn
+listed_is_reported_built_in pgn = listed_is_reported the_table pgn built_in_is_open
 
 pub filter_unlisted : {X : Type 0} (p : X → Bool) (xs : List X) → list_any p xs ≡ false → filter p xs ≡ []
 filter_unlisted p [] h = refl

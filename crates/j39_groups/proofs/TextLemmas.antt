@@ -43,6 +43,9 @@ magnitude_more (suc (suc more)) magnitude h =
     let before : suc (suc more) - 1 ≡ suc more = omega arith in
     rw (before, rest (suc more) magnitude) (simp append_assoc refl)
 
+pub fewer : (more magnitude : ℕ) → magnitude / 10 ^ suc more ≡ magnitude / 10 / 10 ^ more
+fewer = rest
+
 pub less_by_places : (n k m : ℕ) → n < 2 ^ 64 → m ≡ n / 10 ^ k → m < 2 ^ 64
 less_by_places n k m h e = let less : n / 10 ^ k ≤ n = div-le_self n (10 ^ k) in omega (arith, e, less)
 
@@ -53,8 +56,16 @@ unfolding magnitude_text
 magnitude_pointed zero magnitude h = absurd (omega arith)
 magnitude_pointed (suc more) magnitude h = refl
 
--- six words and what stands behind each, joined
-pub words_joined : (a b c d e f space end : List ℕ)
-    → a ++ space ++ b ++ space ++ c ++ space ++ d ++ space ++ e ++ space ++ f ++ end
-    ≡ flat_map (λ (part : List ℕ). part) (a ∷ space ∷ b ∷ space ∷ c ∷ space ∷ d ∷ space ∷ e ∷ space ∷ f ∷ end ∷ [])
-words_joined a b c d e f space end = simp (append_assoc, append-nil) refl
+pub decimal_five : (n : ℕ) → n < 2 ^ 16 → length (decimal n) ≤ 5
+decimal_five n h = length-decimal-le 5 n (omega arith) (omega arith) (omega arith)
+
+-- the columns of a line and what stands behind each, joined
+pub columns_joined : (a b c d e f g h space end : List ℕ)
+    → a ++ space ++ b ++ space ++ c ++ space ++ d ++ space ++ (e ++ space ++ f ++ space ++ g) ++ space ++ h ++ end
+    ≡ flat_map (λ (part : List ℕ). part) (a ∷ space ∷ b ∷ space ∷ c ∷ space ∷ d ∷ space ∷ e ∷ space ∷ f ∷ space ∷ g ∷ space ∷ h ∷ end ∷ [])
+columns_joined a b c d e f g h space end = simp (append_assoc, append-nil) refl
+
+-- the parts of a number's text, and what follows it
+pub number_parts : (sign magnitude space unit end : List ℕ)
+    → sign ++ (magnitude ++ (space ++ (unit ++ end))) ≡ sign ++ magnitude ++ space ++ unit ++ end
+number_parts sign magnitude space unit end = simp append_assoc refl

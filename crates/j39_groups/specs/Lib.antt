@@ -10,3 +10,8 @@ pub mod Parameters
 pub mod Shown
 pub mod CodeRows
 pub mod Quick
+pub mod ReadFields
+pub mod ReadRows
+pub mod Marks
+pub mod ReadValues
+pub mod ReadLines

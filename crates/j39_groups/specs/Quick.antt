@@ -1,6 +1,6 @@
 -- What the fast way writes, and what it needs of its rows.
-use Rattle.std.specs.Prelude.{◌≡◌, ◌==◌, ◌≤◌, ◌&&◌, ◌||◌, not, ⊤, ℕ, List, [], ◌∷◌, ◌++◌, Bool, true, false, codes, decimal, drop, nat_le}
-use Rattle.std.specs.List.{list_all}
+use Rattle.std.specs.Prelude.{◌≡◌, ◌==◌, ◌≤◌, ◌&&◌, ⊤, ℕ, List, [], ◌∷◌, ◌++◌, Bool, true, false, codes, decimal, drop, nat_le}
+use Rattle.std.specs.List.{list_all, list_any}
 use Rattle.std.specs.Fmt.{digits_onto}
 use Rattle.std.specs.Str.{bytes_eq}
 use Rattle.j39_frame.specs.Chars.{newline, space}
@@ -9,9 +9,6 @@ use Rattle.j39_groups.specs.declared.table.Field.{Field}
 use Rattle.j39_groups.specs.declared.table.Field.TheVariants.{Number, Switch, Text, Texts}
 use Rattle.j39_groups.specs.declared.table.LabelledRow.{LabelledRow}
 use Rattle.j39_groups.specs.CodeRows.{is_sound, IsSound}
-use Rattle.j39_groups.specs.Readings.{is_reported_group}
-use Rattle.j39_groups.specs.Row.{FieldRecord, number_field, switch_field, text_field, texts_field}
-use Rattle.j39_groups.specs.Table.{the_table}
 use Rattle.j39_groups.specs.Value.{ReadingRecord, ValueRecord, number, on, off, error, reserved, indicator, text}
 use Rattle.j39_groups.specs.ValueText.{value_text}
 
@@ -22,15 +19,13 @@ reading_line head r = head ++ decimal r.spn ++ codes " " ++ value_text r.value +
 abbrev pub short_text : ShortText → List ℕ
 short_text short = drop short.from short.bytes
 
-abbrev pub is_number_or_switch : FieldRecord → Bool
-is_number_or_switch (number_field first last slot) = true
-is_number_or_switch (switch_field byte low high) = true
-is_number_or_switch (text_field part) = false
-is_number_or_switch (texts_field byte count) = false
+-- the groups whose lines are made in one block (own): a choice among those of eight parameters at most, all numbers and switches
+abbrev pub quick_groups : List ℕ
+quick_groups =
+    0xF003 ∷ 0xF004 ∷ 0xFEE0 ∷ 0xFEE5 ∷ 0xFEEE ∷ 0xFEEF ∷ 0xFEF1 ∷ 0xFEF2 ∷ 0xFEF5 ∷ 0xFEF6 ∷ 0xFEF7 ∷ 0xFEFC ∷ []
 
--- a group of the table whose parameters are all numbers and switches
 unfoldable pub is_quick_group : ℕ → Bool
-is_quick_group pgn = is_reported_group pgn && list_all (λ row. not (row.pgn == pgn) || is_number_or_switch row.field) the_table
+is_quick_group pgn = list_any (λ group. group == pgn) quick_groups
 
 -- a value with nine places at most, and no text of the sender's
 abbrev pub IsShort : ValueRecord → Type 0

@@ -1,10 +1,10 @@
 -- What is read in the payload of a group (J1939-71).
-use Rattle.std.specs.Prelude.{◌-◌, ◌/◌, ◌%◌, ◌^◌, ◌+ℤ◌, ◌*ℤ◌, ◌==◌, ℕ, pos, List, length, Bool, Option, Some, None, if◌then◌else◌, nat_le, slice_get, slice_range, filter, map, take, drop}
+use Rattle.std.specs.Prelude.{◌≡◌, ◌-◌, ◌/◌, ◌%◌, ◌^◌, ◌+◌, ◌+ℤ◌, ◌*ℤ◌, ◌==◌, ◌&&◌, ◌||◌, not, ℕ, pos, List, length, Bool, Option, Some, None, if◌then◌else◌, nat_le, nat_lt, slice_get, slice_range, filter, map, take, drop}
 use Rattle.std.specs.Option.{option_and_then, option_to_list}
 use Rattle.std.specs.List.{filter_map, flat_map, list_any, list_all}
 use Rattle.byteorder.specs.Endian.{little_number}
 use Rattle.j39_groups.specs.Value.{SlotRecord, ValueRecord, number, on, off, error, reserved, indicator, text, ReadingRecord}
-use Rattle.j39_groups.specs.Row.{FieldRecord, number_field, switch_field, text_field, texts_field, RowRecord}
+use Rattle.j39_groups.specs.Row.{FieldRecord, number_field, bits_field, switch_field, text_field, texts_field, RowRecord}
 use Rattle.j39_groups.specs.Table.{the_table}
 use Rattle.j39_groups.specs.Parts.{parts_of}
 use Rattle.j39_groups.specs.Ranges.{top_byte, is_valid}
@@ -26,6 +26,23 @@ by_top_byte top valid =
 abbrev pub number_meaning : ℕ → SlotRecord → ℕ → Option ValueRecord
 number_meaning count slot raw = by_top_byte (top_byte count raw) (number (pos raw *ℤ slot.step +ℤ slot.offset) slot)
 
+-- the last byte that has one of so many bits from the bit low of a byte on
+abbrev pub last_byte : ℕ → ℕ → ℕ → ℕ
+last_byte byte low count = byte - 1 + (low - 1 + count + 7) / 8
+
+-- the number in these bits, the low bit first, where all lie within the payload
+unfoldable pub raw_bits : ℕ → ℕ → ℕ → List ℕ → Option ℕ
+raw_bits byte low count bytes =
+    if nat_le (last_byte byte low count) (length bytes)
+    then Some (little_number (last_byte byte low count - (byte - 1)) (slice_range bytes (byte - 1) (last_byte byte low count)) / 2 ^ (low - 1) % 2 ^ count)
+    else None
+
+-- two bits and more that are all set are not available; of two bits 10 is an error (J1939-71), any other number of more is valid (own)
+unfoldable pub bits_meaning : ℕ → SlotRecord → ℕ → Option ValueRecord
+bits_meaning count slot raw =
+    if nat_lt 1 count && raw + 1 == 2 ^ count then None else
+    (if count == 2 && raw == 2 then Some error else Some (number (pos raw *ℤ slot.step +ℤ slot.offset) slot))
+
 -- two bits: off, on, error, not available
 unfoldable pub switch_meaning : ℕ → Option ValueRecord
 switch_meaning bits =
@@ -43,6 +60,8 @@ filled_text_meaning part = if list_all (λ b. b == 0xFF) part then None else Som
 unfoldable pub values_at : List ℕ → FieldRecord → List ValueRecord
 values_at bytes (number_field first last slot) =
     option_to_list (option_and_then (number_meaning (last - (first - 1)) slot) (raw_number first last bytes))
+values_at bytes (bits_field byte low count slot) =
+    option_to_list (option_and_then (bits_meaning count slot) (raw_bits byte low count bytes))
 values_at bytes (switch_field byte low high) =
     option_to_list (option_and_then (λ b. switch_meaning (b / 2 ^ (low - 1) % 4)) (slice_get bytes (byte - 1)))
 values_at bytes (text_field part) = option_to_list (option_and_then text_meaning (slice_get (parts_of bytes) (part - 1)))
@@ -51,9 +70,33 @@ values_at bytes (texts_field byte count) = filter_map filled_text_meaning (take 
 abbrev pub readings_at : List ℕ → RowRecord → List ReadingRecord
 readings_at bytes row = map (λ value. record { spn = row.spn; value = value }) (values_at bytes row.field)
 
--- each row of the group, in the table's order
-unfoldable pub readings_of : ℕ → List ℕ → List ReadingRecord
-readings_of pgn bytes = flat_map (readings_at bytes) (filter (λ row. row.pgn == pgn) the_table)
+-- the rows of a group, in the table's order
+abbrev pub group_rows : ℕ → List RowRecord → List RowRecord
+group_rows pgn table = filter (λ row. row.pgn == pgn) table
 
-unfoldable pub is_reported_group : ℕ → Bool
-is_reported_group pgn = list_any (λ row. row.pgn == pgn) the_table
+-- each group has the same rows in both tables, in the same order
+pub record HaveSameGroups (these those : List RowRecord) : Type 0 where
+  pub same : (pgn : ℕ) → group_rows pgn these ≡ group_rows pgn those
+
+-- what each row of the group gives
+unfoldable pub readings_in : List RowRecord → ℕ → List ℕ → List ReadingRecord
+readings_in table pgn bytes = flat_map (readings_at bytes) (group_rows pgn table)
+
+-- the groups of packets, of announcements and of claims: no table makes a parameter group of them
+abbrev pub is_network_group : ℕ → Bool
+is_network_group pgn = pgn == 60160 || (pgn == 60416 || pgn == 60928)
+
+-- a group below PF 240 has no group extension: its low byte is 0 (J1939-21, 5.2)
+abbrev pub is_heard_group : ℕ → Bool
+is_heard_group pgn = nat_le 240 (pgn / 256 % 256) || pgn % 256 == 0
+
+-- a table lists the group, and the network leaves it to tables
+unfoldable pub is_reported_in : List RowRecord → ℕ → Bool
+is_reported_in table pgn = not (is_network_group pgn) && list_any (λ row. row.pgn == pgn) table
+
+-- by the table that is built in
+abbrev pub readings_of : ℕ → List ℕ → List ReadingRecord
+readings_of pgn bytes = readings_in the_table pgn bytes
+
+abbrev pub is_reported_group : ℕ → Bool
+is_reported_group pgn = is_reported_in the_table pgn

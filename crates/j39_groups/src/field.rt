@@ -30,7 +30,7 @@ pub(crate) fn number_at(bytes: &[u8], first: u8, last: u8, slot: Slot) -> Option
 
 /// The number in so many bytes from `first` on: a width that is known beforehand is read at once.
 #[inline(always)]
-fn raw_of<const N: usize>(bytes: &[u8], first: u8) -> Option<u32>
+pub(crate) fn raw_of<const N: usize>(bytes: &[u8], first: u8) -> Option<u32>
     requires starts { 0 < first }
     requires some { 0 < N }
     requires narrow { N ≤ 4 }
@@ -44,7 +44,7 @@ fn raw_of<const N: usize>(bytes: &[u8], first: u8) -> Option<u32>
 }
 
 /// The number in the bytes `first` to `last`, the low byte first.
-fn raw_number(bytes: &[u8], first: u8, last: u8) -> Option<u32>
+pub(crate) fn raw_number(bytes: &[u8], first: u8, last: u8) -> Option<u32>
     requires starts { 0 < first }
     requires ordered { first ≤ last }
     requires narrow { last < first + 4 }
@@ -153,6 +153,7 @@ fn switch_of<'a>(bits: u8) -> Option<Value<'a>>
 }
 
 /// The text in the numbered part, where there is one.
+#[inline(never)]
 pub(crate) fn text_at(bytes: &[u8], part: u8) -> Option<Value<'_>>
     requires { 0 < part }
     ensures { option_map value_of result ≡ option_and_then text_meaning (slice_get (parts_of bytes.now) (part - 1)) }

@@ -3,7 +3,8 @@ ghost use Rattle.std.specs.Prelude.{◌≡◌, ℕ, ℤ, List, [], false, IsSome
 ghost use Rattle.std.specs.List.{Contains};
 ghost use Rattle.j39_groups.specs.Value.{number, ReadingRecord};
 ghost use Rattle.j39_groups.specs.Parts.{AreParts, parts_of};
-ghost use Rattle.j39_groups.specs.Readings.{readings_of, is_reported_group};
+ghost use Rattle.j39_groups.specs.Readings.{HaveSameGroups, readings_in, is_reported_in, readings_of, is_reported_group};
+ghost use Rattle.j39_groups.specs.Row.{RowRecord};
 ghost use Rattle.j39_groups.specs.Slots.{Holds, IsRawOf, slot_of_spn};
 
 /// The parts of a payload are the only parts without `*` that, joined by it, are the payload.
@@ -22,4 +23,12 @@ pub fn raw_reads_back()
 /// Nothing is read in a group that is not reported.
 pub fn other_groups_are_silent()
     ensures { (pgn : ℕ) (bytes : List ℕ) → is_reported_group pgn ≡ false → readings_of pgn bytes ≡ [] }
+{}
+
+/// What is read, and whether a group is reported, hangs on each group's rows alone.
+pub fn groups_alone_count()
+    ensures readings { (these those : List RowRecord) → HaveSameGroups these those
+        → (pgn : ℕ) (bytes : List ℕ) → readings_in these pgn bytes ≡ readings_in those pgn bytes }
+    ensures reported { (these those : List RowRecord) → HaveSameGroups these those
+        → (pgn : ℕ) → is_reported_in these pgn ≡ is_reported_in those pgn }
 {}

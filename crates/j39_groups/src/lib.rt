@@ -1,30 +1,42 @@
 //! Parameter groups and their readings (J1939-71).
 #![tactic(auto)]
 
+mod by_group;
 mod field;
+mod groups_table;
 pub mod laws;
+mod lines;
+mod listable;
+mod listed;
+mod marks;
 mod parameter;
 mod parameters;
 mod quick_lines;
 mod quick_rows;
+mod quick_value;
+mod read_field;
+mod read_lines;
+mod read_parameters;
+mod read_row;
+mod read_value;
 mod reading;
+mod rows_before;
+mod scale;
 mod short_text;
 mod slot;
 mod table;
 mod text;
 mod value;
 
+pub use groups_table::Groups;
+pub use listable::{is_heard_group, is_network_group};
 pub use parameter::{raw_of, slot_of};
-pub use parameters::put_parameters;
+pub use parameters::{decimal_of, push_decimal, push_range, put_parameters};
 pub use quick_lines::{HEAD, LINES, lines_before};
+pub use read_field::ReadField;
+pub use read_row::ReadRow;
 pub use reading::{is_reported, readings};
+pub use scale::Scale;
 pub use slot::Slot;
-pub use text::put_value;
+pub use text::{Text, put_value, scaled_text};
 pub use value::{Reading, Value};
-
-#[cfg(test)]
-mod quick_tests;
-#[cfg(test)]
-mod software_tests;
-#[cfg(test)]
-mod tests;

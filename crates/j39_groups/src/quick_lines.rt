@@ -30,8 +30,8 @@ pub const LINES: usize = 8 * LINE;
 
 /// Writes a line for each reading of a payload: the bytes of `head` from `from` on, the parameter's
 /// number (SPN), a space, the value's text and a newline. The lines end at the end of `out`; answers
-/// where they start, and how many they are. `None`, and nothing of use is written, exactly for a group
-/// with a text, or that is not reported.
+/// where they start, and how many they are. `None`, and nothing of use is written, exactly for a group that
+/// is not in `quick_groups` (`specs/Quick.antt`): it has a text, or more than eight parameters, or is not reported.
 #[inline(always)]
 pub fn lines_before(
     out: &mut [u8; LINES],

@@ -1,4 +1,4 @@
-//! The rows of the groups whose parameters are all numbers and switches, found by a `match`.
+//! The rows of the groups whose lines are made in one block, found by a `match`.
 ghost use Rattle.std.specs.Prelude.{◌≡◌, ◌≤◌, ◌==◌, IfSome, IsTrue, filter, is_some, length, map};
 ghost use Rattle.j39_groups.specs.CodeRows.{row_record};
 ghost use Rattle.j39_groups.specs.Quick.{are_quick, is_quick_group};
@@ -6,9 +6,9 @@ ghost use Rattle.j39_groups.specs.Table.{the_table};
 
 use crate::table::{LABELLED, LabelledRow};
 
-/// The rows of a group, by their places in the table; `None` exactly where it has a text, or is not reported.
+/// The rows of a group, by their places in the table; `None` exactly where it is none of `quick_groups`.
 #[inline(always)]
-#[tactic(auto, unfolding(crate::specs::Quick::is_quick_group, crate::specs::Readings::is_reported_group, crate::specs::Table::the_table))]
+#[tactic(auto, unfolding(crate::specs::Quick::is_quick_group, crate::specs::Table::the_table))]
 pub(crate) fn quick_rows(pgn: u32) -> Option<&'static [LabelledRow]>
     ensures known { is_some result ≡ is_quick_group pgn }
     ensures rows { IfSome result (λ rows. map (λ quick. row_record quick.row) rows.now ≡ filter (λ row. row.pgn == pgn) the_table) }

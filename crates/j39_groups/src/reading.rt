@@ -36,7 +36,7 @@ fn may_be_listed(pgn: u32) -> bool
 }
 
 /// Whether parameters of this group are read (own): those of the table alone.
-#[tactic(auto, unfolding(crate::specs::Readings::is_reported_group))]
+#[tactic(auto, unfolding(crate::specs::Readings::is_reported_in))]
 pub fn is_reported(pgn: Pgn) -> bool
     ensures { result ≡ is_reported_group (pgn_raw pgn) }
 {
@@ -54,7 +54,7 @@ fn has_group(rows: &[Row], pgn: u32) -> bool
 /// for a group that is not reported; no reading for a parameter with a byte past the payload's end,
 /// one that is not available, or an empty text, nor, in software identification, for a text of bytes
 /// FF alone (own). Texts are lent out of the payload.
-#[tactic(auto, unfolding(crate::specs::Readings::readings_of))]
+#[tactic(auto, unfolding(crate::specs::Readings::readings_in))]
 pub fn readings(pgn: Pgn, bytes: &[u8]) -> ArrayVec<Reading<'_>, 32>
     ensures { map reading_of result.items ≡ readings_of (pgn_raw pgn) bytes.now }
 {
@@ -116,7 +116,12 @@ fn push_value<'a>(found: &mut ArrayVec<Reading<'a>, 32>, spn: u32, value: Option
 }
 
 /// Appends the readings of the first `count` parts.
-fn push_texts<'a>(found: &mut ArrayVec<Reading<'a>, 32>, spn: u32, bytes: &'a [u8], count: u8)
+pub(crate) fn push_texts<'a>(
+    found: &mut ArrayVec<Reading<'a>, 32>,
+    spn: u32,
+    bytes: &'a [u8],
+    count: u8,
+)
     requires { array_vec_len found.old + count ≤ 32 }
     ensures items { map reading_of found.new.items
         ≡ map reading_of found.old.items

@@ -147,7 +147,7 @@ fn unit_end(unit: Unit) -> &'static ShortText
 
 /// Writes a magnitude with its places.
 #[inline(always)]
-fn magnitude_before(out: &mut [u8], end: usize, magnitude: u64, places: u8) -> usize
+pub(crate) fn magnitude_before(out: &mut [u8], end: usize, magnitude: u64, places: u8) -> usize
     requires places { places ≤ 9 }
     requires room { 31 ≤ end }
     requires within { end ≤ length out.old }

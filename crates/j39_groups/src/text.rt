@@ -15,7 +15,7 @@ use j39_frame::printing::{push_bytes, push_number};
 use j39_frame::{DeviceFault, Sink, put_all};
 
 /// A sign, 20 digits, a point, 255 places, a space and a unit fit.
-pub(crate) type Text = ArrayVec<u8, 288>;
+pub type Text = ArrayVec<u8, 288>;
 
 /// Writes a value's text (own): a number in decimal with its places and unit, a word, or a text in
 /// quotes. After a fault a front of the text was written.
@@ -47,7 +47,7 @@ fn number_text(number: i64, slot: Slot) -> Text
 }
 
 /// The number in decimal with its places.
-pub(crate) fn scaled_text(number: i64, places: u8) -> Text
+pub fn scaled_text(number: i64, places: u8) -> Text
     ensures items { result.items ≡ scaled_text places number }
     ensures len { array_vec_len result ≤ places + 22 }
 {

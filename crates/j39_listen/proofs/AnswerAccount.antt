@@ -8,6 +8,7 @@ use Rattle.j39_frame.specs.Chars.{newline}
 use Rattle.j39_frame.specs.Device.{AppendsFront}
 use Rattle.j39_frame.proofs.DeviceLemmas.{front_first, front_within}
 use Rattle.j39_frame.specs.Frame.{FrameRecord}
+use Rattle.j39_groups.specs.Table.{the_table}
 use Rattle.j39_address.specs.Call.{Call}
 use Rattle.j39_address.specs.Claimer.{IsNode, Steps}
 use Rattle.j39_address.specs.Command.{Command, command_by}
@@ -181,7 +182,7 @@ answers_meet a a' bus f noticed sent lines old new notices hears obeys begun cou
       after = answers_of bus heard all;
       met = record {
         heard = heard;
-        are_heard = heard_more F f has.heard n.heard has.are_heard n.heard_at;
+        are_heard = heard_more the_table F f has.heard n.heard has.are_heard n.heard_at;
         sent = all;
         node = c.after;
         answered = answered_more start has.node c.after F f has.sent (all_sent sent) _ has.answered n.commanded c.called;

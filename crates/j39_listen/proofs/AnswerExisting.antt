@@ -4,6 +4,7 @@ use Rattle.std.proofs.lemmas.Bool.{cases_eq}
 use Rattle.j39_frame.specs.Address.{global_address}
 use Rattle.j39_frame.specs.Frame.{FrameRecord}
 use Rattle.j39_frame.specs.Identifier.{destination_of}
+use Rattle.j39_groups.specs.Table.{the_table}
 use Rattle.j39_address.proofs.SomeStepLemmas.{some_step}
 use Rattle.j39_address.specs.Call.{Call}
 use Rattle.j39_address.specs.Command.{Command, commanded_of}
@@ -19,7 +20,7 @@ other_destination : (d : ℕ) → d ≢ global_address → (let o : Option ℕ =
 other_destination d differ e = differ cc
 
 -- by where the frame goes to
-command_by_destination : (F : List FrameRecord) (i : ℕ) (h : Hearing) → IsHeard F i h → (to : Option ℕ) → destination_of (frame_at F i).id ≡ to
+command_by_destination : (F : List FrameRecord) (i : ℕ) (h : Hearing) → IsHeard the_table F i h → (to : Option ℕ) → destination_of (frame_at F i).id ≡ to
     → (x : Option Command) × CommandedAt F i x
 command_by_destination F i h heard None to =
     (None, heard_command F i h (frame_at F i) None heard refl (λ c e. cc) (λ all. let none : None ≡ Some global_address = sym to ∙ all in cc))
@@ -31,12 +32,12 @@ command_by_destination F i h heard (Some d) to = elim (cases_eq d global_address
   | inr differ ↦ (None, heard_command F i h (frame_at F i) None heard refl (λ c e. cc) (λ all. absurd (other_destination d differ (sym to ∙ all))))
 ]
 
-command_of_heard : (F : List FrameRecord) (i : ℕ) (o : Option Hearing) → HeardAt F i o → (x : Option Command) × CommandedAt F i x
+command_of_heard : (F : List FrameRecord) (i : ℕ) (o : Option Hearing) → HeardAt the_table F i o → (x : Option Command) × CommandedAt F i x
 command_of_heard F i None silent = (None, silent_command F i silent)
 command_of_heard F i (Some h) heard = command_by_destination F i h heard (destination_of (frame_at F i).id) refl
 
 pub command_exists : (F : List FrameRecord) (i : ℕ) → i < length F → (x : Option Command) × CommandedAt F i x
-command_exists F i l = let h = heard_exists F i l in command_of_heard F i h.0 h.1
+command_exists F i l = let h = heard_exists the_table F i l in command_of_heard F i h.0 h.1
 
 -- ---- the calls of a node
 

@@ -6,6 +6,7 @@ use Rattle.std.proofs.lemmas.List.{length_push}
 use Rattle.j39_frame.specs.Address.{global_address}
 use Rattle.j39_frame.specs.Frame.{FrameRecord}
 use Rattle.j39_frame.specs.Identifier.{destination_of}
+use Rattle.j39_groups.specs.Table.{the_table}
 use Rattle.j39_address.proofs.OneStepLemmas.{same_step}
 use Rattle.j39_address.specs.Call.{Call}
 use Rattle.j39_address.specs.Command.{Command, commanded_of}
@@ -46,13 +47,13 @@ one_command F i None None h k = refl
 one_command F i None (Some d) h k = absurd (h d k)
 one_command F i (Some c) None h k = absurd (k c h)
 one_command F i (Some c) (Some d) h k =
-    let heard = heard_unique F i h.heard k.heard h.is_heard k.is_heard in
+    let heard = heard_unique the_table F i h.heard k.heard h.is_heard k.is_heard in
     ap (λ (z : Command). Some z) (same_command _ _ c d h.command_is k.command_is (ap (λ (x : Hearing). commanded_of x.message.pgn x.message.bytes) heard))
 
 command_same : (F G : List FrameRecord) (i : ℕ) (c : Command) → SameBelow F G (suc i) → IsCommanded F i c → IsCommanded G i c
 command_same F G i c h k = record {
   heard = k.heard;
-  is_heard = heard_same F G i k.heard h k.is_heard;
+  is_heard = heard_same the_table F G i k.heard h k.is_heard;
   command_is = k.command_is;
   to_all = ap (λ (f : FrameRecord). destination_of f.id) (h.same i (omega arith)) ∙ k.to_all;
 }
@@ -62,15 +63,15 @@ commanded_same F G i None h k = λ c d. k c (command_same G F i c (same_below_sy
 commanded_same F G i (Some c) h k = command_same F G i c h k
 
 -- nothing is heard, so nothing is commanded
-pub silent_command : (F : List FrameRecord) (i : ℕ) → HeardAt F i None → CommandedAt F i None
+pub silent_command : (F : List FrameRecord) (i : ℕ) → HeardAt the_table F i None → CommandedAt F i None
 silent_command F i silent = λ c h. silent h.heard h.is_heard
 
 -- the message that is heard commands, if it was broadcast
-pub heard_command : (F : List FrameRecord) (i : ℕ) (h : Hearing) (f : FrameRecord) (x : Option Command) → IsHeard F i h → frame_at F i ≡ f
+pub heard_command : (F : List FrameRecord) (i : ℕ) (h : Hearing) (f : FrameRecord) (x : Option Command) → IsHeard the_table F i h → frame_at F i ≡ f
     → ((c : Command) → x ≡ Some c → destination_of f.id ≡ Some global_address)
     → (destination_of f.id ≡ Some global_address → x ≡ commanded_of h.message.pgn h.message.bytes) → CommandedAt F i x
 heard_command F i h f None heard at to_all command = λ c k.
-    let same = heard_unique F i k.heard h k.is_heard heard in
+    let same = heard_unique the_table F i k.heard h k.is_heard heard in
     let all = sym (ap (λ (g : FrameRecord). destination_of g.id) at) ∙ k.to_all in
     let none : None ≡ Some c = command all ∙ sym (ap (λ (z : Hearing). commanded_of z.message.pgn z.message.bytes) same) ∙ k.command_is in
     cc

@@ -1,5 +1,5 @@
 -- Tests of places and items, and an item that passes them: it was sent.
-use Rattle.std.proofs.Common.{◌≡◌, ℕ, zero, suc, ◌+◌, ◌-◌, ◌<◌, ◌≤◌, Bool, true, false, not, ◌&&◌, ◌||◌, List, [], ◌∷◌, length, get_or, map, if◌then◌else◌, Option, Some, None, Contains, refl, sym, ap, ◌∙◌, subst, inl, inr, arith, slice_get, slice_index, nat_lt, nat_le, ◌==◌, eqb-true, eq-eqb, ltb-true, le-leb}
+use Rattle.std.proofs.Common.{◌≡◌, ℕ, zero, suc, ◌+◌, ◌-◌, ◌<◌, ◌≤◌, Bool, true, false, not, ◌&&◌, ◌||◌, List, [], ◌∷◌, length, get_or, map, if◌then◌else◌, Option, Some, None, Contains, refl, sym, ap, subst, inl, inr, arith, slice_get, slice_index, nat_lt, nat_le, ◌==◌, eqb-true, eq-eqb, ltb-true, le-leb}
 use Rattle.std.specs.List.{list_all, list_any}
 use Rattle.std.specs.Option.{option_eq}
 use Rattle.std.proofs.lemmas.Bool.{agree_below, agree_below_at, and_parts, both_ways, cases_eq, leb-true}
@@ -9,15 +9,14 @@ use Rattle.j39_address.specs.Claim.{Claim, claims_of}
 use Rattle.j39_address.specs.Holder.{IsHolder}
 use Rattle.j39_frame.specs.Frame.{FrameRecord}
 use Rattle.j39_groups.specs.Readings.{is_reported_group}
+use Rattle.j39_groups.specs.Table.{the_table}
 use Rattle.j39_listen.specs.Heard.{frame_at, frames_only}
 use Rattle.j39_listen.specs.Published.{IsSent, Item, NeverBack, Publishing, first_place, last_place}
 use Rattle.j39_transport.specs.Assembly.{count_below}
 use Rattle.j39_transport.specs.Carries.{Carries}
 use Rattle.j39_transport.specs.Events.{Event, at, rivals}
-use Rattle.j39_transport.specs.Events.Event.{Frame, Forget}
-use Rattle.j39_transport.specs.Frames.{is_end, is_rival}
-use Rattle.j39_transport.specs.Key.{Key, limit}
-use Rattle.j39_transport.specs.Key.Key.{Broadcast}
+use Rattle.j39_transport.specs.Frames.{is_end}
+use Rattle.j39_transport.specs.Key.{limit}
 
 -- ---- tests
 
@@ -54,7 +53,7 @@ each_at T [] n x h e = absurd (cc e)
 each_at T (z ∷ xs) zero x h e = subst T (let s : Some z ≡ Some x = e in cc) h.0
 each_at T (z ∷ xs) (suc n) x h e = each_at T xs n x h.1 e
 
-all_at : {X : Type 0} (t : X → Bool) (xs : List X) (n : ℕ) (x : X) → list_all t xs ≡ true → slice_get xs n ≡ Some x → t x ≡ true
+pub all_at : {X : Type 0} (t : X → Bool) (xs : List X) (n : ℕ) (x : X) → list_all t xs ≡ true → slice_get xs n ≡ Some x → t x ≡ true
 all_at t [] n x h e = absurd (cc e)
 all_at t (z ∷ xs) zero x h e = subst (λ y. t y ≡ true) (let s : Some z ≡ Some x = e in cc) (and_parts _ _ h).0
 all_at t (z ∷ xs) (suc n) x h e = all_at t xs n x (and_parts _ _ h).1 e
@@ -94,6 +93,19 @@ is_held F item = all_below (λ j. implies (nat_le (first_place item) j) (name_is
 abbrev rises : List ℕ → Bool
 rises ps = all_below (λ k. nat_lt (slice_index ps k) (slice_index ps (k + 1))) (length ps - 1)
 
+-- short enough for every limit: no sixteen frames and no more time than between two frames of it may lie
+abbrev is_near : List FrameRecord → Item → Bool
+is_near F item =
+    nat_le (first_place item) (last_place item)
+    && (nat_lt (last_place item) (first_place item + 16)
+    && nat_le (frame_at F (last_place item)).stamp ((frame_at F (first_place item)).stamp + limit item.key))
+
+abbrev goes_on : List FrameRecord → Item → ℕ → Bool
+goes_on F item j = implies (nat_le (first_place item) j) (not (is_end item.key item.message.pgn (frame_at F j)))
+
+abbrev is_unended : List FrameRecord → Item → Bool
+is_unended F item = all_below (goes_on F item) (suc (last_place item))
+
 abbrev pub item_fits : List FrameRecord → Item → Bool
 item_fits F item =
     nat_lt item.publisher.address 254
@@ -102,31 +114,28 @@ item_fits F item =
     && (rises item.places
     && (nat_lt (last_place item) (length F)
     && (is_held F item
-    && nat_le (frame_at F (last_place item)).stamp ((frame_at F (first_place item)).stamp + 750000))))))
+    && (is_near F item
+    && is_unended F item))))))
 
 held_below : (C : List (Option Claim)) (i a : ℕ) → a < 254 → IsHolder C i a (holder_below C i a)
 held_below C zero a w = λ n h. h
 held_below C (suc i) a w = one_more C i a (get_or C i None) (holder_below C i a) w refl (held_below C i a w)
 
-no_end : (k : Key) (s g : ℕ) (f : FrameRecord) → k ≡ Broadcast s → is_end k g f ≡ false
-unfolding is_end
-no_end k s g f e = ap (λ (x : Key). is_end x g f) e
+one_step : (b : Bool) (c k m n : ℕ) → c + m ≤ k + n → (if b then suc c else c) + m ≤ k + suc n
+one_step true c k m n l = omega arith
+one_step false c k m n l = omega arith
 
-no_rival : (s : ℕ) (e : Event) → rivals (Broadcast s) e ≡ false
-unfolding rivals is_rival
-no_rival s (Frame f) = refl
-no_rival s (Forget t) = refl
+-- no more places pass a test than there are
+few_more : (t : Event → Bool) (E : List Event) (m n : ℕ) → m ≤ n → count_below t E n + m ≤ count_below t E m + n
+few_more t E m zero l = let z : ◌≡◌ {A = ℕ} m 0 = omega arith in subst (λ (x : ℕ). count_below t E 0 + x ≤ count_below t E x + 0) (sym z) (omega arith)
+few_more t E m (suc n) l = elim (cases_eq m (suc n)) [
+  | inl e ↦ subst (λ (x : ℕ). count_below t E (suc n) + x ≤ count_below t E x + suc n) (sym e) (omega arith)
+  | inr d ↦ one_step (t (at E n)) (count_below t E n) (count_below t E m) m n (few_more t E m n (omega arith))
+]
 
-no_rivals : (k : Key) (s : ℕ) (E : List Event) (n : ℕ) → k ≡ Broadcast s → count_below (rivals k) E n ≡ 0
-no_rivals k s E zero e = refl
-no_rivals k s E (suc n) e =
-    ap (λ (b : Bool). if b then suc (count_below (rivals k) E n) else count_below (rivals k) E n) (ap (λ (x : Key). rivals x (at E n)) e ∙ no_rival s (at E n))
-    ∙ no_rivals k s E n e
-
--- what is given of an item by itself: whose it is, that it isn't a transfer, and its frames
+-- what is given of an item by itself: whose it is, and its frames
 abbrev pub Given : List FrameRecord → Publishing → Item → Type 0
-Given F P item = Contains P.publishers item.publisher × (item.key ≡ Broadcast item.publisher.address)
-    × Carries item.key item.message (map (frame_at F) item.places) × (item_fits F item ≡ true)
+Given F P item = Contains P.publishers item.publisher × Carries item.key item.message (map (frame_at F) item.places) × (item_fits F item ≡ true)
 
 stamps_rise : (F : List FrameRecord) (i j : ℕ) → NeverBack F → i ≤ j → j < length F → (frame_at F i).stamp ≤ (frame_at F j).stamp
 stamps_rise F i j h k l = elim (cases_eq i j) [
@@ -134,23 +143,28 @@ stamps_rise F i j h k l = elim (cases_eq i j) [
   | inr e ↦ h i j (omega arith) l
 ]
 
-pub is_sent : (F : List FrameRecord) (P : Publishing) (item : Item) → NeverBack F → Given F P item → IsSent F P item
+pub is_sent : (F : List FrameRecord) (P : Publishing) (item : Item) → NeverBack F → Given F P item → IsSent the_table F P item
 is_sent F P item never g =
-    let a = and_parts _ _ g.3 in
+    let a = and_parts _ _ g.2 in
     let b = and_parts _ _ a.1 in
     let c = and_parts _ _ b.1 in
     let d = and_parts _ _ c.1 in
     let e = and_parts _ _ d.1 in
     let f = and_parts _ _ e.1 in
+    let n = and_parts _ _ f.1 in
+    let o = and_parts _ _ n.0 in
+    let p = and_parts _ _ o.1 in
     let inside : last_place item < length F = ltb-true _ _ e.0 in
-    let short : (frame_at F (last_place item)).stamp ≤ (frame_at F (first_place item)).stamp + 750000 = leb-true _ _ f.1 in
+    let order : first_place item ≤ last_place item = leb-true _ _ o.0 in
+    let few : last_place item < first_place item + 16 = ltb-true _ _ p.0 in
+    let short : (frame_at F (last_place item)).stamp ≤ (frame_at F (first_place item)).stamp + limit item.key = leb-true _ _ p.1 in
     record {
       of_a_publisher = g.0;
       source_is = eqb-true _ _ b.0;
       reported = λ l. implied _ _ c.0 (le-leb _ _ l);
       rising = λ k l. ltb-true _ _ (below_at _ (length item.places - 1) k d.0 (omega arith));
       inside = inside;
-      carried = g.2;
+      carried = g.1;
       held = λ j s.
           let l : j ≤ last_place item = s.1 in
           subst (λ (o : Option ℕ). IsHolder (claims_of F) j item.publisher.address o)
@@ -162,11 +176,13 @@ is_sent F P item never g =
           let order : x < y = s.order in
           let u : (frame_at F (first_place item)).stamp ≤ (frame_at F x).stamp = stamps_rise F (first_place item) x never first (omega arith) in
           let v : (frame_at F y).stamp ≤ (frame_at F (last_place item)).stamp = stamps_rise F y (last_place item) never last inside in
-          let w : limit item.key ≡ 750000 = ap limit g.1 in
           omega arith;
-      unended = λ j s. no_end item.key item.publisher.address item.message.pgn (frame_at F j) g.1;
+      unended = λ j s.
+          let l : j ≤ last_place item = s.1 in
+          from_not _ (implied _ _ (below_at (goes_on F item) (suc (last_place item)) j n.1 (omega arith)) (le-leb _ _ s.0));
       young =
-          let u = no_rivals item.key item.publisher.address (frames_only F) (suc (last_place item)) g.1 in
-          let v = no_rivals item.key item.publisher.address (frames_only F) (suc (first_place item)) g.1 in
+          let u : count_below (rivals item.key) (frames_only F) (suc (last_place item)) + suc (first_place item)
+          ≤ count_below (rivals item.key) (frames_only F) (suc (first_place item)) + suc (last_place item)
+          = few_more (rivals item.key) (frames_only F) (suc (first_place item)) (suc (last_place item)) (omega arith) in
           omega arith;
     }

@@ -6,6 +6,7 @@ use Rattle.j39_address.specs.Claim.{claim_of, claims_of}
 use Rattle.j39_address.specs.Holder.{IsHolder}
 use Rattle.j39_frame.specs.Frame.{FrameRecord}
 use Rattle.j39_frame.specs.Identifier.{pgn_of}
+use Rattle.j39_groups.specs.Row.{RowRecord}
 use Rattle.j39_listen.proofs.ListenerLemmas.{no_claim}
 use Rattle.j39_listen.proofs.Masks.{kept_at, rank, rank_gone, rank_kept}
 use Rattle.j39_listen.proofs.Reported.{packet_group}
@@ -47,14 +48,14 @@ holder_rest X F n (suc i) a o w l h =
           (subst (λ (x : Option ℕ). IsHolder (claims_of G) (suc (rank X i)) a x) q (one_more (claims_of G) (rank X i) a c p.0 w d r))
     ]
 
-module _ (F H : List FrameRecord) (P : Publishing) (X Y : ℕ → Bool) (st : Story F H P X Y) where
+module _ (groups : List RowRecord) (F H : List FrameRecord) (P : Publishing) (X Y : ℕ → Bool) (st : Story groups F H P X Y) where
   -- at places up to which the same frames stand, but for what is lost and repeated
   pub holder_to_H : (f h a : ℕ) (o : Option ℕ) → a < 254 → f ≤ length F → h ≤ length H → rank X f ≡ rank Y h
       → IsHolder (claims_of F) f a o → IsHolder (claims_of H) h a o
   holder_to_H f h a o w l m e k =
       let p = holder_is (claims_of H) h a in
       let x : IsHolder (claims_of (without X F)) (rank X f) a o = holder_rest X F (λ i t. let r = st.lost i t in packet_claims r.0 _ r.1) f a o w l k in
-      let y : IsHolder (claims_of (without Y H)) (rank Y h) a p.0 = holder_rest Y H (λ i t. let r = copy_packet F H P X Y st i t in packet_claims (Broadcast r.0) _ r.1) h a p.0 w m p.1 in
+      let y : IsHolder (claims_of (without Y H)) (rank Y h) a p.0 = holder_rest Y H (λ i t. let r = copy_packet groups F H P X Y st i t in packet_claims (Broadcast r.0) _ r.1) h a p.0 w m p.1 in
       let z : IsHolder (claims_of (without Y H)) (rank Y h) a o =
       subst (λ (G : List FrameRecord). IsHolder (claims_of G) (rank Y h) a o) st.one_rest (subst (λ (i : ℕ). IsHolder (claims_of (without X F)) i a o) e x) in
       subst (λ (q : Option ℕ). IsHolder (claims_of H) h a q) (same_holder (claims_of (without Y H)) (rank Y h) a p.0 o y z) p.1

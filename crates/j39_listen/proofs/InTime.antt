@@ -5,6 +5,7 @@ use Rattle.std.proofs.lemmas.List.{length-map}
 use Rattle.std.proofs.lemmas.List.Folds.{Any-from_list_any, list_any-from_Any}
 use Rattle.std.specs.List.{list_any}
 use Rattle.j39_frame.specs.Frame.{FrameRecord}
+use Rattle.j39_groups.specs.Row.{RowRecord}
 use Rattle.j39_listen.proofs.Courses.{quiet_H}
 use Rattle.j39_listen.proofs.Events.{ev_announces, ev_ends, ev_grants, ev_sends, ev_stamp}
 use Rattle.j39_listen.proofs.Forgets.{count_rest}
@@ -32,7 +33,7 @@ any_found test ps h = let a = Any-from_list_any test ps h in (a.1, (a.0, a.2, a.
 packet_quiet : (G : List FrameRecord) (k j : Key) (i : ℕ) → is_packet k (frame_at G i) ≡ true → rivals j (at (frames_only G) i) ≡ false
 packet_quiet G k j i h = (sends-others k k j 0 (at (frames_only G) i) (ev_sends G k i ∙ h)).no_rival
 
-module _ (F H : List FrameRecord) (P : Publishing) (X Y : ℕ → Bool) (st : Story F H P X Y) (n : ℕ) (item : Item) (c : CutItem F P n item)
+module _ (groups : List RowRecord) (F H : List FrameRecord) (P : Publishing) (X Y : ℕ → Bool) (st : Story groups F H P X Y) (n : ℕ) (item : Item) (c : CutItem groups F P n item)
     (addressed : is_publisher P (sender item.key) ≡ true) (c0 : ℕ) (start_at : Same X Y F H c.start c0)
     (hl : ℕ) (end_at : Same X Y F H (nth c (length c.rest)) hl) (not_lost : (j : ℕ) → j ≤ length c.rest → X (nth c j) ≡ false) where
   -- a frame of the item, as it stands in H
@@ -40,7 +41,7 @@ module _ (F H : List FrameRecord) (P : Publishing) (X Y : ℕ → Bool) (st : St
   mark h = if Y h then false else (list_any (λ p. rank X p == rank Y h) item.places || is_clear_to_send item.key item.message.pgn (frame_at H h))
 
   listed_kept : (p : ℕ) → Contains item.places p → X p ≡ false
-  listed_kept p l = let j = listed_nth F P n item c p l in ap X j.2 ∙ not_lost j.0 j.1
+  listed_kept p l = let j = listed_nth groups F P n item c p l in ap X j.2 ∙ not_lost j.0 j.1
 
   to_H : (f h : ℕ) → Same X Y F H f h → is_frame_of F item f ≡ true → mark h ≡ true
   unfolding mark
@@ -48,7 +49,7 @@ module _ (F H : List FrameRecord) (P : Publishing) (X Y : ℕ → Bool) (st : St
     | inl a ↦
         (let p = any_found (λ p. p == f) item.places a in
         or_left _ _ (any_from (λ p. rank X p == rank Y h) item.places p.0 p.1 (eq-eqb _ _ (ap (rank X) (eqb-true _ _ p.2) ∙ s.ranks))))
-    | inr a ↦ or_right (list_any (λ p. rank X p == rank Y h) item.places) _ (ap (is_clear_to_send item.key item.message.pgn) (same_frame F H P X Y st s) ∙ a)
+    | inr a ↦ or_right (list_any (λ p. rank X p == rank Y h) item.places) _ (ap (is_clear_to_send item.key item.message.pgn) (same_frame groups F H P X Y st s) ∙ a)
   ]
 
   to_F : (f h : ℕ) → Same X Y F H f h → mark h ≡ true → is_frame_of F item f ≡ true
@@ -59,7 +60,7 @@ module _ (F H : List FrameRecord) (P : Publishing) (X Y : ℕ → Bool) (st : St
             (let p = any_found (λ p. rank X p == rank Y h) item.places a in
             let e : p.0 ≡ f = rank_once X p.0 f (listed_kept p.0 p.1) s.f_kept (eqb-true _ _ p.2 ∙ sym s.ranks) in
             or_left _ _ (any_from (λ q. q == f) item.places p.0 p.1 (eq-eqb _ _ e)))
-        | inr a ↦ or_right (list_any (λ p. p == f) item.places) _ (ap (is_clear_to_send item.key item.message.pgn) (sym (same_frame F H P X Y st s)) ∙ a)
+        | inr a ↦ or_right (list_any (λ p. p == f) item.places) _ (ap (is_clear_to_send item.key item.message.pgn) (sym (same_frame groups F H P X Y st s)) ∙ a)
       ]
 
   -- where a mark stood
@@ -73,18 +74,18 @@ module _ (F H : List FrameRecord) (P : Publishing) (X Y : ℕ → Bool) (st : St
   frame_kept : (f : ℕ) → is_frame_of F item f ≡ true → X f ≡ false
   frame_kept f m = elim (or_cases (list_any (λ p. p == f) item.places) (is_clear_to_send item.key item.message.pgn (frame_at F f)) m) [
     | inl a ↦ (let p = any_found (λ p. p == f) item.places a in sym (ap X (eqb-true _ _ p.2)) ∙ listed_kept p.0 p.1)
-    | inr a ↦ kept_in_F F H P X Y st f (allowing_facts item.key item.message.pgn (frame_at F f) a).0
+    | inr a ↦ kept_in_F groups F H P X Y st f (allowing_facts item.key item.message.pgn (frame_at F f) a).0
   ]
 
   own : (j : ℕ) → j ≤ length c.rest → is_frame_of F item (nth c j) ≡ true
-  own j l = or_left _ _ (any_from (λ p. p == nth c j) item.places (nth c j) (nth_listed F P n item c j l) (eq-eqb _ _ refl))
+  own j l = or_left _ _ (any_from (λ p. p == nth c j) item.places (nth c j) (nth_listed groups F P n item c j l) (eq-eqb _ _ refl))
 
   spans_H : (f h : ℕ) → Same X Y F H f h → c0 ≤ h → h ≤ hl → Spans item f
-  spans_H f h s a b = spans F P n item c f (le_to_F F H P X Y st start_at s a) (le_to_F F H P X Y st s end_at b)
+  spans_H f h s a b = spans groups F P n item c f (le_to_F groups F H P X Y st start_at s a) (le_to_F groups F H P X Y st s end_at b)
 
   c0_le : c0 ≤ hl
   c0_le = elim (cases_lt hl c0) [
-    | inl z ↦ absurd (let a : nth c (length c.rest) < c.start = order_to_F X Y F H st.one_rest end_at start_at z in let b : c.start ≤ nth c (length c.rest) = nth_le F P n item c 0 (length c.rest) (omega arith) (omega arith) in omega arith)
+    | inl z ↦ absurd (let a : nth c (length c.rest) < c.start = order_to_F X Y F H st.one_rest end_at start_at z in let b : c.start ≤ nth c (length c.rest) = nth_le groups F P n item c 0 (length c.rest) (omega arith) (omega arith) in omega arith)
     | inr z ↦ z
   ]
 
@@ -92,7 +93,7 @@ module _ (F H : List FrameRecord) (P : Publishing) (X Y : ℕ → Bool) (st : St
   ours q u v m =
       let w : hl < length H = end_at.h_below in
       let r = from q (omega arith) m in
-      let fr = same_frame F H P X Y st r.1 in
+      let fr = same_frame groups F H P X Y st r.1 in
       elim (or_cases (list_any (λ p. p == r.0) item.places) (is_clear_to_send item.key item.message.pgn (frame_at F r.0)) r.2) [
         | inl a ↦
             (let p = any_found (λ p. p == r.0) item.places a in
@@ -103,11 +104,11 @@ module _ (F H : List FrameRecord) (P : Publishing) (X Y : ℕ → Bool) (st : St
       ]
     where
       packet : (f : ℕ) → c.start < f → Contains item.places f → is_packet item.key (frame_at F f) ≡ true
-      packet f l h = go (listed_nth F P n item c f h)
+      packet f l h = go (listed_nth groups F P n item c f h)
         where
           go : (j : ℕ) × (j ≤ length c.rest) × (f ≡ nth c j) → is_packet item.key (frame_at F f) ≡ true
           go (zero, w, e) = absurd (omega arith)
-          go (suc j, w, e) = ap (λ (t : ℕ). is_packet item.key (frame_at F t)) e ∙ nth_packet F P n item c j (omega arith)
+          go (suc j, w, e) = ap (λ (t : ℕ). is_packet item.key (frame_at F t)) e ∙ nth_packet groups F P n item c j (omega arith)
 
   near : (a b : ℕ) → c0 ≤ a → a < b → b ≤ hl → mark a ≡ true → mark b ≡ true → ((q : ℕ) → a < q → q < b → mark q ≡ false)
       → stamp (at (frames_only H) b) ≤ stamp (at (frames_only H) a) + limit item.key
@@ -124,21 +125,21 @@ module _ (F H : List FrameRecord) (P : Publishing) (X Y : ℕ → Bool) (st : St
             let r = place_in_H X Y F H st.one_rest q (omega arith) (frame_kept q m) in
             both_ways _ (none r.0 (order_to_H X Y F H st.one_rest x.1 r.1 i) (order_to_H X Y F H st.one_rest r.1 y.1 j)) (to_H q r.0 r.1 m));
       }) in
-      let s1 : stamp (at (frames_only H) b) ≡ (frame_at F y.0).stamp = ev_stamp H b (omega arith) ∙ ap (λ (f : FrameRecord). f.stamp) (same_frame F H P X Y st y.1) in
-      let s2 : stamp (at (frames_only H) a) ≡ (frame_at F x.0).stamp = ev_stamp H a (omega arith) ∙ ap (λ (f : FrameRecord). f.stamp) (same_frame F H P X Y st x.1) in
+      let s1 : stamp (at (frames_only H) b) ≡ (frame_at F y.0).stamp = ev_stamp H b (omega arith) ∙ ap (λ (f : FrameRecord). f.stamp) (same_frame groups F H P X Y st y.1) in
+      let s2 : stamp (at (frames_only H) a) ≡ (frame_at F x.0).stamp = ev_stamp H a (omega arith) ∙ ap (λ (f : FrameRecord). f.stamp) (same_frame groups F H P X Y st x.1) in
       omega arith
 
   unended : (q : ℕ) → c0 < q → q ≤ hl → ends item.key item.message.pgn (at (frames_only H) q) ≡ false
   unended q u v =
       let w : hl < length H = end_at.h_below in
       ev_ends H item.key item.message.pgn q (omega arith) ∙ false_from_ne_true _ (λ z.
-      let r = place_in_F X Y F H st.one_rest q (omega arith) (kept_in_H F H P X Y st q (closing_facts item.key item.message.pgn (frame_at H q) z).0) in
-      both_ways _ (c.sent.unended r.0 (spans_H r.0 q r.1 (omega arith) v)) (ap (is_end item.key item.message.pgn) (sym (same_frame F H P X Y st r.1)) ∙ z))
+      let r = place_in_F X Y F H st.one_rest q (omega arith) (kept_in_H groups F H P X Y st q (closing_facts item.key item.message.pgn (frame_at H q) z).0) in
+      both_ways _ (c.sent.unended r.0 (spans_H r.0 q r.1 (omega arith) v)) (ap (is_end item.key item.message.pgn) (sym (same_frame groups F H P X Y st r.1)) ∙ z))
 
   -- as many directed announcements stand up to a frame in H as in F
   counts_agree : (f h : ℕ) → Same X Y F H f h → count_below (rivals item.key) (frames_only H) (suc h) ≡ count_below (rivals item.key) (frames_only F) (suc f)
   counts_agree f h s =
-      count_rest (rivals item.key) Y (frames_only H) (λ i e. let r = copy_packet F H P X Y st i e in packet_quiet H (Broadcast r.0) item.key i r.1) (suc h) (let a = s.h_below in let b = length-map H (λ (g : FrameRecord). Frame g) in omega arith)
+      count_rest (rivals item.key) Y (frames_only H) (λ i e. let r = copy_packet groups F H P X Y st i e in packet_quiet H (Broadcast r.0) item.key i r.1) (suc h) (let a = s.h_below in let b = length-map H (λ (g : FrameRecord). Frame g) in omega arith)
       ∙ (ap₂ (λ (E : List Event) (i : ℕ). count_below (rivals item.key) E i)
       (without-map Y (λ g. Frame g) H ∙ (ap frames_only (sym st.one_rest) ∙ sym (without-map X (λ g. Frame g) F)))
       (rank_kept Y h s.h_kept ∙ (ap suc (sym s.ranks) ∙ sym (rank_kept X f s.f_kept)))
@@ -148,8 +149,8 @@ module _ (F H : List FrameRecord) (P : Publishing) (X Y : ℕ → Bool) (st : St
   young =
       let a = counts_agree (nth c (length c.rest)) hl end_at in
       let b = counts_agree c.start c0 start_at in
-      let e = ap (λ (t : ℕ). count_below (rivals item.key) (frames_only F) (suc t)) (nth_last F P n item c) in
-      let d = ap (λ (t : ℕ). count_below (rivals item.key) (frames_only F) (suc t)) (nth_first F P n item c) in
+      let e = ap (λ (t : ℕ). count_below (rivals item.key) (frames_only F) (suc t)) (nth_last groups F P n item c) in
+      let d = ap (λ (t : ℕ). count_below (rivals item.key) (frames_only F) (suc t)) (nth_first groups F P n item c) in
       let y = c.sent.young in
       omega arith
 
@@ -162,5 +163,5 @@ module _ (F H : List FrameRecord) (P : Publishing) (X Y : ℕ → Bool) (st : St
       (λ a b u l v. let w : hl < length H = end_at.h_below in
       let s = not_back H st.never_back a b l (omega arith) in
       let x = ev_stamp H a (omega arith) in let y = ev_stamp H b (omega arith) in omega arith)
-      (λ q u v. (ev_announces H item.key q ∙ quiet_H F H P X Y st n item c addressed c0 start_at hl q end_at u v, unended q u v))
+      (λ q u v. (ev_announces H item.key q ∙ quiet_H groups F H P X Y st n item c addressed c0 start_at hl q end_at u v, unended q u v))
       young

@@ -8,7 +8,8 @@ use Rattle.j39_address.specs.Claim.{claims_of}
 use Rattle.j39_address.specs.Holder.{IsHolder}
 use Rattle.j39_frame.specs.Frame.{FrameRecord}
 use Rattle.j39_frame.specs.Identifier.{pgn_of}
-use Rattle.j39_groups.specs.Readings.{is_reported_group}
+use Rattle.j39_groups.specs.Readings.{is_reported_in}
+use Rattle.j39_groups.specs.Row.{RowRecord}
 use Rattle.j39_listen.specs.Heard.{frame_at}
 use Rattle.j39_listen.specs.Published.{IsSent, Item, Published, Publishing, Spans, first_place, last_place, number_at}
 use Rattle.j39_transport.proofs.FrameFacts.{announcement_facts, one_key, packet_facts}
@@ -55,26 +56,26 @@ numbered_at F k j (p ∷ ps) (suc i) h l =
 
 -- ---- the two kinds of items
 
-pub record AloneItem (F : List FrameRecord) (P : Publishing) (n : ℕ) (item : Item) : Type 0 where
+pub record AloneItem (groups : List RowRecord) (F : List FrameRecord) (P : Publishing) (n : ℕ) (item : Item) : Type 0 where
   pub at_n : slice_get P.items n ≡ Some item
-  pub sent : IsSent F P item
+  pub sent : IsSent groups F P item
   pub place : ℕ
   pub places_are : item.places ≡ place ∷ []
   pub alone : CarriesAlone item.message (frame_at F place) []
 
-pub record CutItem (F : List FrameRecord) (P : Publishing) (n : ℕ) (item : Item) : Type 0 where
+pub record CutItem (groups : List RowRecord) (F : List FrameRecord) (P : Publishing) (n : ℕ) (item : Item) : Type 0 where
   pub at_n : slice_get P.items n ≡ Some item
-  pub sent : IsSent F P item
+  pub sent : IsSent groups F P item
   pub start : ℕ
   pub rest : List ℕ
   pub places_are : item.places ≡ start ∷ rest
   pub cut : CarriesCut item.key item.message (frame_at F start) (map (frame_at F) rest)
 
-pub item_kinds : (F : List FrameRecord) (P : Publishing) (n : ℕ) (item : Item) → Published F P → slice_get P.items n ≡ Some item
-    → AloneItem F P n item ⊎ CutItem F P n item
-item_kinds F P n item h e = go item.places refl
+pub item_kinds : (groups : List RowRecord) (F : List FrameRecord) (P : Publishing) (n : ℕ) (item : Item) → Published groups F P → slice_get P.items n ≡ Some item
+    → AloneItem groups F P n item ⊎ CutItem groups F P n item
+item_kinds groups F P n item h e = go item.places refl
   where
-    m : IsSent F P item
+    m : IsSent groups F P item
     m = h.sent n item e
 
     empty : (ps : List ℕ) → map (frame_at F) ps ≡ [] → ps ≡ []
@@ -84,7 +85,7 @@ item_kinds F P n item h e = go item.places refl
     carried : (ps : List ℕ) → item.places ≡ ps → Carries item.key item.message (map (frame_at F) ps)
     carried ps k = subst (λ (qs : List ℕ). Carries item.key item.message (map (frame_at F) qs)) k m.carried
 
-    go : (ps : List ℕ) → item.places ≡ ps → AloneItem F P n item ⊎ CutItem F P n item
+    go : (ps : List ℕ) → item.places ≡ ps → AloneItem groups F P n item ⊎ CutItem groups F P n item
     go [] k = absurd (carried [] k)
     go (p ∷ ps) k = elim (carried (p ∷ ps) k).1 [
       | inl a ↦
@@ -100,29 +101,29 @@ item_kinds F P n item h e = go item.places refl
     ]
 
 -- the place of the j-th frame, the announcement being the 0-th
-abbrev pub nth : {F : List FrameRecord} {P : Publishing} {n : ℕ} {item : Item} → CutItem F P n item → ℕ → ℕ
+abbrev pub nth : {groups : List RowRecord} {F : List FrameRecord} {P : Publishing} {n : ℕ} {item : Item} → CutItem groups F P n item → ℕ → ℕ
 nth c j = slice_index (c.start ∷ c.rest) j
 
-pub alone_place : (F : List FrameRecord) (P : Publishing) (n : ℕ) (item : Item) (c : AloneItem F P n item) (j : ℕ) → Contains item.places j → j ≡ c.place
-alone_place F P n item c j h = go (subst (λ (ps : List ℕ). Contains ps j) c.places_are h)
+pub alone_place : (groups : List RowRecord) (F : List FrameRecord) (P : Publishing) (n : ℕ) (item : Item) (c : AloneItem groups F P n item) (j : ℕ) → Contains item.places j → j ≡ c.place
+alone_place groups F P n item c j h = go (subst (λ (ps : List ℕ). Contains ps j) c.places_are h)
   where
     go : Contains (c.place ∷ []) j → j ≡ c.place
     go (zero, w, e) = sym e
     go (suc k, w, e) = absurd (omega arith)
 
-pub alone_last : (F : List FrameRecord) (P : Publishing) (n : ℕ) (item : Item) (c : AloneItem F P n item) → last_place item ≡ c.place
-alone_last F P n item c = ap (λ (ps : List ℕ). slice_index ps (length ps - 1)) c.places_are
+pub alone_last : (groups : List RowRecord) (F : List FrameRecord) (P : Publishing) (n : ℕ) (item : Item) (c : AloneItem groups F P n item) → last_place item ≡ c.place
+alone_last groups F P n item c = ap (λ (ps : List ℕ). slice_index ps (length ps - 1)) c.places_are
 
 -- an item one of whose frames is of a group that isn't reported is cut
-pub cut_from : (F : List FrameRecord) (P : Publishing) (n j : ℕ) (item : Item) → Published F P → slice_get P.items n ≡ Some item
-    → Contains item.places j → is_reported_group (pgn_of (frame_at F j).id) ≡ false → CutItem F P n item
-cut_from F P n j item h e l r = elim (item_kinds F P n item h e) [
+pub cut_from : (groups : List RowRecord) (F : List FrameRecord) (P : Publishing) (n j : ℕ) (item : Item) → Published groups F P → slice_get P.items n ≡ Some item
+    → Contains item.places j → is_reported_in groups (pgn_of (frame_at F j).id) ≡ false → CutItem groups F P n item
+cut_from groups F P n j item h e l r = elim (item_kinds groups F P n item h e) [
   | inl c ↦ absurd (both_ways _ r
-      (ap (λ (q : ℕ). is_reported_group (pgn_of (frame_at F q).id)) (alone_place F P n item c j l) ∙ (ap is_reported_group c.alone.pgn ∙ c.sent.reported c.alone.short)))
+      (ap (λ (q : ℕ). is_reported_in groups (pgn_of (frame_at F q).id)) (alone_place groups F P n item c j l) ∙ (ap (is_reported_in groups) c.alone.pgn ∙ c.sent.reported c.alone.short)))
   | inr c ↦ c
 ]
 
-module _ (F : List FrameRecord) (P : Publishing) (n : ℕ) (item : Item) (c : CutItem F P n item) where
+module _ (groups : List RowRecord) (F : List FrameRecord) (P : Publishing) (n : ℕ) (item : Item) (c : CutItem groups F P n item) where
   pub count_is : length c.rest ≡ packets_named (frame_at F c.start)
   count_is = sym (length-map c.rest (frame_at F)) ∙ c.cut.count
 
@@ -181,18 +182,18 @@ module _ (F : List FrameRecord) (P : Publishing) (n : ℕ) (item : Item) (c : Cu
   held_at j k l = subst (λ (a : ℕ). IsHolder (claims_of F) j a item.publisher.name) (sym c.sent.source_is) (c.sent.held j (spans j k l))
 
 -- two cut items of one key that meet are one
-pub meet : (F : List FrameRecord) (P : Publishing) (m n : ℕ) (x y : Item) → Published F P → (c : CutItem F P m x) (d : CutItem F P n y)
+pub meet : (groups : List RowRecord) (F : List FrameRecord) (P : Publishing) (m n : ℕ) (x y : Item) → Published groups F P → (c : CutItem groups F P m x) (d : CutItem groups F P n y)
     → x.key ≡ y.key → (t : ℕ) → c.start ≤ t → t ≤ nth c (length c.rest) → d.start ≤ t → t ≤ nth d (length d.rest) → m ≡ n
-meet F P m n x y h c d ek t a b u v = elim (cases_eq m n) [
+meet groups F P m n x y h c d ek t a b u v = elim (cases_eq m n) [
   | inl k ↦ k
   | inr k ↦
       let e : x.message.source ≡ y.message.source = sym c.cut.source ∙ (ap sender ek ∙ d.cut.source) in
-      let q : IsHolder (claims_of F) t x.message.source y.publisher.name = subst (λ (s : ℕ). IsHolder (claims_of F) t s y.publisher.name) (sym e) (held_at F P n y d t u v) in
-      let i : x.publisher.name ≡ y.publisher.name = same_holder (claims_of F) t x.message.source _ _ (held_at F P m x c t a b) q in
+      let q : IsHolder (claims_of F) t x.message.source y.publisher.name = subst (λ (s : ℕ). IsHolder (claims_of F) t s y.publisher.name) (sym e) (held_at groups F P n y d t u v) in
+      let i : x.publisher.name ≡ y.publisher.name = same_holder (claims_of F) t x.message.source _ _ (held_at groups F P m x c t a b) q in
       let j : x.publisher.address ≡ y.publisher.address = sym c.sent.source_is ∙ (e ∙ d.sent.source_is) in
       let s : x.publisher ≡ y.publisher = λ i'. record { name = i i'; address = j i' } in
       elim (h.apart m n x y c.at_n d.at_n k (record { publisher = s; key = ek; long_x = c.cut.long; long_y = d.cut.long })) [
-        | inl z ↦ absurd (let z' : last_place x < first_place y = z in let e1 = nth_last F P m x c in let e2 = nth_first F P n y d in omega arith)
-        | inr z ↦ absurd (let z' : last_place y < first_place x = z in let e1 = nth_last F P n y d in let e2 = nth_first F P m x c in omega arith)
+        | inl z ↦ absurd (let z' : last_place x < first_place y = z in let e1 = nth_last groups F P m x c in let e2 = nth_first groups F P n y d in omega arith)
+        | inr z ↦ absurd (let z' : last_place y < first_place x = z in let e1 = nth_last groups F P n y d in let e2 = nth_first groups F P m x c in omega arith)
       ]
 ]

@@ -21,6 +21,7 @@ pub mod AnswerExisting
 pub mod RunLemmas
 pub mod StopLemmas
 pub mod PieceLemmas
+pub mod AskLemmas
 pub mod Items
 pub mod Sent
 pub mod Story
@@ -36,3 +37,4 @@ pub mod CheckedItems
 pub mod Checked
 pub mod Example
 pub mod Examples
+pub mod LossExample

@@ -44,11 +44,11 @@ line_tally bus spelled f o u is_f is_o is_u small_f small_o small_u =
 with_frame : (name : List ℕ) (f : FrameRecord) (bus : Option (List ℕ)) (own : List ℕ) → own ≡ unwrap_or bus name → bus_of bus (frame name f ∷ []) ≡ Some own
 with_frame name f bus own is = bus_of-frame bus name f ∙ ap (λ (b : List ℕ). Some b) (sym is)
 
-on_bus : (name : List ℕ) (f : FrameRecord) (bus : Option (List ℕ)) (own : List ℕ) → own ≡ unwrap_or bus name → bytes_eq name own ≡ true → frames_of bus (frame name f ∷ []) ≡ f ∷ []
+pub on_bus : (name : List ℕ) (f : FrameRecord) (bus : Option (List ℕ)) (own : List ℕ) → own ≡ unwrap_or bus name → bytes_eq name own ≡ true → frames_of bus (frame name f ∷ []) ≡ f ∷ []
 on_bus name f bus own is on =
     ap (λ (b : Option (List ℕ)). filter_map (frame_on b) (frame name f ∷ [])) (with_frame name f bus own is) ∙ rw on refl
 
-its_name : (name : List ℕ) (f : FrameRecord) (bus : Option (List ℕ)) (own given : List ℕ) → own ≡ unwrap_or bus name → IsNamed (bus_of bus (frame name f ∷ [])) given → own ≡ given
+pub its_name : (name : List ℕ) (f : FrameRecord) (bus : Option (List ℕ)) (own given : List ℕ) → own ≡ unwrap_or bus name → IsNamed (bus_of bus (frame name f ∷ [])) given → own ≡ given
 its_name name f bus own given is named = sym (ap (λ (o : Option (List ℕ)). unwrap_or o given) (with_frame name f bus own is)) ∙ named
 
 pub known_bus : (bus : Option (List ℕ)) (own name : List ℕ) → bus ≡ Some own → bus ≡ Some name → own ≡ name

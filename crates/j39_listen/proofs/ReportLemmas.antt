@@ -10,7 +10,8 @@ use Rattle.std.proofs.lemmas.Grind.{flat_map-append}
 use Rattle.std.proofs.lemmas.List.Folds.{flat_map-map}
 use Rattle.std.specs.List.{flat_map}
 use Rattle.j39_groups.specs.Quick.{reading_line}
-use Rattle.j39_groups.specs.Readings.{readings_of}
+use Rattle.j39_groups.specs.Readings.{readings_in}
+use Rattle.j39_groups.specs.Row.{RowRecord}
 use Rattle.j39_groups.specs.declared.Reading.{Reading}
 use Rattle.j39_groups.specs.Shown.{reading_of, value_of}
 use Rattle.j39_groups.specs.ValueText.{value_text}
@@ -82,6 +83,6 @@ front_in_line a b c h readings i d head below is before front =
     front_within a b c (text_of (entries_to h readings i)) line rest _ text before front
 
 -- the text of a message's entries, by its readings
-pub text_of-lines : (h : Hearing) → flat_map (reading_line (hearing_head h)) (readings_of h.message.pgn h.message.bytes) ≡ text_of (entries_of h)
+pub text_of-lines : (groups : List RowRecord) (h : Hearing) → flat_map (reading_line (hearing_head h)) (readings_in groups h.message.pgn h.message.bytes) ≡ text_of (entries_of groups h)
 unfolding text_of entry_text
-text_of-lines h = sym (flat_map-map entry_text (entry_of h) (readings_of h.message.pgn h.message.bytes))
+text_of-lines groups h = sym (flat_map-map entry_text (entry_of h) (readings_in groups h.message.pgn h.message.bytes))

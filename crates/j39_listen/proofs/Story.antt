@@ -2,6 +2,7 @@
 use Rattle.std.proofs.Common.{◌≡◌, ◌⊎◌, ℕ, ◌<◌, ◌≤◌, Bool, true, false, List, [], ◌∷◌, length, slice_index, refl, sym, ap, ◌∙◌, subst, inl, inr, arith}
 use Rattle.std.proofs.lemmas.Bool.{cases_lt, cases_eq, cases_Bool, both_ways, false_from_ne_true}
 use Rattle.j39_frame.specs.Frame.{FrameRecord}
+use Rattle.j39_groups.specs.Row.{RowRecord}
 use Rattle.j39_listen.proofs.Events.{announcement_within, packet_within}
 use Rattle.j39_listen.proofs.Items.{packet_key}
 use Rattle.j39_listen.proofs.Masks.{Same, order_to_H, place_in_F, place_in_H, same_element}
@@ -14,8 +15,8 @@ use Rattle.j39_transport.specs.Key.{Key}
 use Rattle.j39_transport.specs.Key.Key.{Broadcast}
 
 -- F was sent, without what X names it is H without what Y names
-pub record Story (F H : List FrameRecord) (P : Publishing) (X Y : ℕ → Bool) : Type 0 where
-  pub published : Published F P
+pub record Story (groups : List RowRecord) (F H : List FrameRecord) (P : Publishing) (X Y : ℕ → Bool) : Type 0 where
+  pub published : Published groups F P
   pub lost : (i : ℕ) → X i ≡ true → (k : Key) × (is_packet k (frame_at F i) ≡ true)
   pub together : LostTogether F P X
   pub one_rest : without X F ≡ without Y H
@@ -33,7 +34,7 @@ not_back G nb a b u v = elim (cases_eq a b) [
   | inr e ↦ nb a b (omega arith) v
 ]
 
-module _ (F H : List FrameRecord) (P : Publishing) (X Y : ℕ → Bool) (st : Story F H P X Y) where
+module _ (groups : List RowRecord) (F H : List FrameRecord) (P : Publishing) (X Y : ℕ → Bool) (st : Story groups F H P X Y) where
   pub same_frame : {f h : ℕ} → Same X Y F H f h → frame_at H h ≡ frame_at F f
   same_frame r = same_element X Y F H st.one_rest (record { stamp = 0; id = 0; bytes = [] }) r
 

@@ -12,6 +12,7 @@ use Rattle.j39_address.proofs.HolderLemmas.{same_holder}
 use Rattle.j39_address.specs.Claim.{Claim, claims_of}
 use Rattle.j39_address.specs.Holder.{IsHolder}
 use Rattle.j39_frame.specs.Frame.{FrameRecord}
+use Rattle.j39_groups.specs.Row.{RowRecord}
 use Rattle.j39_listen.proofs.Events.{ev_sends}
 use Rattle.j39_listen.specs.Forgets.{Changed, WithForgets}
 use Rattle.j39_listen.specs.Heard.{HeardAt, HeardBelow, Hearing, IsAssembled, IsHeard, IsSingle, frame_at, frames_only, or_none}
@@ -28,8 +29,8 @@ pub assembled_packet : (F : List FrameRecord) (i : ℕ) (m : MessageRecord) (nam
 assembled_packet F i m name h = sym (ev_sends F h.key i) ∙ (whole_ends (frames_only F) i h.key m.pgn m.bytes h.whole).0
 
 -- no frame of a reported group ends a message of many
-pub not_both : (F : List FrameRecord) (i : ℕ) (m n : MessageRecord) (name : Option ℕ) → IsSingle F i m → IsAssembled F i n name → ⊥
-not_both F i m n name h k = not_reported _ h.reported (packet_group k.key (frame_at F i) (assembled_packet F i n name k))
+pub not_both : (groups : List RowRecord) (F : List FrameRecord) (i : ℕ) (m n : MessageRecord) (name : Option ℕ) → IsSingle groups F i m → IsAssembled F i n name → ⊥
+not_both groups F i m n name h k = not_reported groups _ h.reported (packet_group k.key (frame_at F i) (assembled_packet F i n name k))
 
 pub message_same : (m n : MessageRecord) → m.source ≡ n.source → m.pgn ≡ n.pgn → m.bytes ≡ n.bytes → m ≡ n
 message_same m n a b c =
@@ -41,35 +42,35 @@ hearing_same h k a b c =
     ap (λ (x : MessageRecord). record { message = x; stamp = h.stamp; name = h.name }) a
     ∙ (ap (λ (x : ℕ). record { message = k.message; stamp = x; name = h.name }) b ∙ ap (λ (x : Option ℕ). record { message = k.message; stamp = k.stamp; name = x }) c)
 
-one_heard : (F : List FrameRecord) (i : ℕ) (m n : MessageRecord) (o p : Option ℕ) → IsSingle F i m ⊎ IsAssembled F i m o → IsSingle F i n ⊎ IsAssembled F i n p → m ≡ n
-one_heard F i m n o p (inl h) (inl k) = message_same m n (sym h.source_is ∙ k.source_is) (sym h.pgn_is ∙ k.pgn_is) (sym h.bytes_are ∙ k.bytes_are)
-one_heard F i m n o p (inl h) (inr k) = absurd (not_both F i m n p h k)
-one_heard F i m n o p (inr h) (inl k) = absurd (not_both F i n m o k h)
-one_heard F i m n o p (inr h) (inr k) =
+one_heard : (groups : List RowRecord) (F : List FrameRecord) (i : ℕ) (m n : MessageRecord) (o p : Option ℕ) → IsSingle groups F i m ⊎ IsAssembled F i m o → IsSingle groups F i n ⊎ IsAssembled F i n p → m ≡ n
+one_heard groups F i m n o p (inl h) (inl k) = message_same m n (sym h.source_is ∙ k.source_is) (sym h.pgn_is ∙ k.pgn_is) (sym h.bytes_are ∙ k.bytes_are)
+one_heard groups F i m n o p (inl h) (inr k) = absurd (not_both groups F i m n p h k)
+one_heard groups F i m n o p (inr h) (inl k) = absurd (not_both groups F i n m o k h)
+one_heard groups F i m n o p (inr h) (inr k) =
     let u = one_message (frames_only F) i h.key k.key m.pgn n.pgn m.bytes n.bytes h.whole k.whole in
     message_same m n (sym h.source_is ∙ (ap sender u.0 ∙ k.source_is)) u.1 u.2
 
-pub heard_unique : (F : List FrameRecord) (i : ℕ) (h k : Hearing) → IsHeard F i h → IsHeard F i k → h ≡ k
-heard_unique F i h k x y =
-    let m : h.message ≡ k.message = one_heard F i h.message k.message h.name k.name x.carried y.carried in
+pub heard_unique : (groups : List RowRecord) (F : List FrameRecord) (i : ℕ) (h k : Hearing) → IsHeard groups F i h → IsHeard groups F i k → h ≡ k
+heard_unique groups F i h k x y =
+    let m : h.message ≡ k.message = one_heard groups F i h.message k.message h.name k.name x.carried y.carried in
     hearing_same h k m (x.stamp_is ∙ sym y.stamp_is)
     (same_holder (claims_of F) i h.message.source h.name k.name x.held_by (subst (λ (t : MessageRecord). IsHolder (claims_of F) i t.source k.name) (sym m) y.held_by))
 
-pub heard_at_unique : (F : List FrameRecord) (i : ℕ) (o p : Option Hearing) → HeardAt F i o → HeardAt F i p → o ≡ p
-heard_at_unique F i None None h k = refl
-heard_at_unique F i None (Some y) h k = absurd (h y k)
-heard_at_unique F i (Some x) None h k = absurd (k x h)
-heard_at_unique F i (Some x) (Some y) h k = ap (λ (z : Hearing). Some z) (heard_unique F i x y h k)
+pub heard_at_unique : (groups : List RowRecord) (F : List FrameRecord) (i : ℕ) (o p : Option Hearing) → HeardAt groups F i o → HeardAt groups F i p → o ≡ p
+heard_at_unique groups F i None None h k = refl
+heard_at_unique groups F i None (Some y) h k = absurd (h y k)
+heard_at_unique groups F i (Some x) None h k = absurd (k x h)
+heard_at_unique groups F i (Some x) (Some y) h k = ap (λ (z : Hearing). Some z) (heard_unique groups F i x y h k)
 
-pub heard_below_unique : (F : List FrameRecord) (n : ℕ) (hs ks : List Hearing) → HeardBelow F n hs → HeardBelow F n ks → hs ≡ ks
-heard_below_unique F zero hs ks h k = h ∙ sym k
-heard_below_unique F (suc n) hs ks h k =
-    let a : h.0 ≡ k.0 = heard_below_unique F n h.0 k.0 h.2 k.2 in
-    let b : h.1 ≡ k.1 = heard_at_unique F n h.1 k.1 h.3 k.3 in
+pub heard_below_unique : (groups : List RowRecord) (F : List FrameRecord) (n : ℕ) (hs ks : List Hearing) → HeardBelow groups F n hs → HeardBelow groups F n ks → hs ≡ ks
+heard_below_unique groups F zero hs ks h k = h ∙ sym k
+heard_below_unique groups F (suc n) hs ks h k =
+    let a : h.0 ≡ k.0 = heard_below_unique groups F n h.0 k.0 h.2 k.2 in
+    let b : h.1 ≡ k.1 = heard_at_unique groups F n h.1 k.1 h.3 k.3 in
     h.4 ∙ (ap (λ (xs : List Hearing). xs ++ or_none h.1) a ∙ (ap (λ (o : Option Hearing). k.0 ++ or_none o) b ∙ sym k.4))
 
-pub report_unique : (F : List FrameRecord) (es fs : List Entry) → IsReport F es → IsReport F fs → es ≡ fs
-report_unique F es fs h k = h.2 ∙ (ap (λ (hs : List Hearing). flat_map entries_of hs) (heard_below_unique F (length F) h.0 k.0 h.1 k.1) ∙ sym k.2)
+pub report_unique : (groups : List RowRecord) (F : List FrameRecord) (es fs : List Entry) → IsReport groups F es → IsReport groups F fs → es ≡ fs
+report_unique groups F es fs h k = h.2 ∙ (ap (λ (hs : List Hearing). flat_map (entries_of groups) hs) (heard_below_unique groups F (length F) h.0 k.0 h.1 k.1) ∙ sym k.2)
 
 -- ---- what is forgotten
 

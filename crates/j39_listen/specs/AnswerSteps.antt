@@ -2,6 +2,7 @@
 use Rattle.std.specs.Prelude.{◌≡◌, ◌++◌, ◌∷◌, [], ℕ, Bool, true, false, List, Option, length}
 use Rattle.std.specs.Option.{option_map, option_to_list}
 use Rattle.j39_frame.specs.Frame.{FrameRecord}
+use Rattle.j39_groups.specs.Table.{the_table}
 use Rattle.j39_address.specs.Call.{Call, call_of}
 use Rattle.j39_address.specs.Call.Call.{Start, Tick}
 use Rattle.j39_address.specs.Claimer.{IsNode}
@@ -47,14 +48,14 @@ Obeys old calls now sent new = (node : Node) → IsNode old node → Calls node 
 -- behind the frames F so many messages are heard at the frame f, and it commands this
 pub record Notices (F : List FrameRecord) (f : FrameRecord) (noticed : Noticed) : Type 0 where
   pub heard : Option Hearing
-  pub heard_at : HeardAt (F ++ f ∷ []) (length F) heard
+  pub heard_at : HeardAt the_table (F ++ f ∷ []) (length F) heard
   pub messages_are : noticed.messages ≡ length (or_none heard)
   pub commanded : CommandedAt (F ++ f ∷ []) (length F) (option_map command_by noticed.command)
 
 -- the node was given F, and has sent so much on a bus of this name
 pub record HasAnswered (start : Node) (bus : List ℕ) (answers : Answers) (F : List FrameRecord) (output : Output) : Type 0 where
   pub heard : List Hearing
-  pub are_heard : AreHeard F heard
+  pub are_heard : AreHeard the_table F heard
   pub sent : List FrameRecord
   pub node : Node
   pub answered : AnsweredBelow start F (length F) sent node

@@ -6,6 +6,7 @@ use Rattle.j39_frame.specs.Canonical.{line_text}
 use Rattle.j39_frame.specs.Chars.{newline}
 use Rattle.j39_frame.specs.Frame.{FrameRecord}
 use Rattle.j39_frame.specs.Identifier.{destination_of}
+use Rattle.j39_groups.specs.Table.{the_table}
 use Rattle.j39_address.specs.Call.{Call, call_of}
 use Rattle.j39_address.specs.Call.Call.{Start, Tick, Commanded}
 use Rattle.j39_address.specs.Claim.{claim_frame}
@@ -17,7 +18,7 @@ use Rattle.j39_listen.specs.Heard.{Hearing, IsHeard, frame_at}
 -- the message that is heard at F[i] is this commanded address, and it was broadcast
 pub record IsCommanded (F : List FrameRecord) (i : ℕ) (c : Command) : Type 0 where
   pub heard : Hearing
-  pub is_heard : IsHeard F i heard
+  pub is_heard : IsHeard the_table F i heard
   pub command_is : commanded_of heard.message.pgn heard.message.bytes ≡ Some c
   pub to_all : destination_of (frame_at F i).id ≡ Some global_address
 

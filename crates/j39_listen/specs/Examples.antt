@@ -2,8 +2,9 @@
 use Prim.Native.String.{String}
 use Rattle.std.specs.Prelude.{◌≡◌, ℕ, ℤ, pos, neg_ℤ, List, [], ◌∷◌, ◌++◌, Some, None, codes}
 use Rattle.j39_frame.specs.Frame.{FrameRecord}
+use Rattle.j39_groups.specs.Table.{the_table}
 use Rattle.j39_groups.specs.Value.{ValueRecord, number, text}
-use Rattle.j39_listen.specs.Example.{frame, padding}
+use Rattle.j39_listen.specs.Example.{engine, engine_claim, entry, frame, padding, vin_value}
 use Rattle.j39_listen.specs.Published.{Item, Published, Publisher, Publishing}
 use Rattle.j39_listen.specs.Report.{Entry}
 use Rattle.j39_listen.specs.Values.{no_place, values}
@@ -11,7 +12,7 @@ use Rattle.j39_transport.specs.Key.Key.{Broadcast}
 
 -- this was published in F, with these values
 abbrev pub Publishes : List FrameRecord → Publishing → List Entry → Type 0
-Publishes F P entries = Published F P × (values F P no_place ≡ entries)
+Publishes F P entries = Published the_table F P × (values the_table F P no_place ≡ entries)
 
 -- a message of a publisher to all, in the frames at these places
 abbrev item : Publisher → ℕ → List ℕ → List ℕ → Item
@@ -21,9 +22,6 @@ item publisher pgn bytes places = record {
   message = record { source = publisher.address; pgn = pgn; bytes = bytes };
   places = places;
 }
-
-abbrev entry : ℕ → Publisher → ℕ → ℕ → ValueRecord → Entry
-entry stamp publisher pgn spn value = record { stamp = stamp; address = publisher.address; name = publisher.name; pgn = pgn; spn = spn; value = value }
 
 abbrev measured : ℤ → ℕ → ℤ → ℕ → String → ValueRecord
 measured value step offset places unit = number value (record { step = pos step; offset = offset; places = places; unit = codes unit })
@@ -57,12 +55,6 @@ eec1_values = entry 1010000 nobody 61444 512 (torque 35) ∷ entry 1010000 nobod
 
 -- ---- a broadcast of eighteen bytes, and two frames of EEC1 meanwhile
 
-abbrev engine : Publisher
-engine = record { name = Some 0x8000000001401234; address = 0 }
-
-abbrev engine_claim : FrameRecord
-engine_claim = frame 1000000 0x18EEFF00 (0x34 ∷ 0x12 ∷ 0x40 ∷ 0x01 ∷ 0 ∷ 0 ∷ 0 ∷ 0x80 ∷ [])
-
 abbrev pub speed_bytes : ℕ → List ℕ
 speed_bytes low = 0xF0 ∷ 0xFF ∷ 0xFF ∷ low ∷ 0x2E ∷ 0xFF ∷ 0xFF ∷ 0xFF ∷ []
 
@@ -82,9 +74,6 @@ vin_third stamp = frame stamp 0x1CEBFF00 (3 ∷ codes "345*" ++ padding)
 abbrev pub vin_item : List ℕ → Item
 vin_item places = item engine 65260 (codes "1FUJA6CV12LK12345*") places
 
-abbrev vin_value : Entry
-vin_value = entry 2150000 engine 65260 237 (text (codes "1FUJA6CV12LK12345"))
-
 abbrev pub vin_frames : List FrameRecord
 vin_frames =
     engine_claim
@@ -103,24 +92,34 @@ vin = record {
 }
 
 abbrev pub vin_values : List Entry
-vin_values = entry 2010000 engine 61444 190 (speed 1500000) ∷ entry 2060000 engine 61444 190 (speed 1501000) ∷ vin_value ∷ []
+vin_values = entry 2010000 engine 61444 190 (speed 1500000) ∷ entry 2060000 engine 61444 190 (speed 1501000) ∷ vin_value 2150000 ∷ []
 
 -- ---- that broadcast, and another at once
 
-abbrev device : Publisher
+abbrev pub device : Publisher
 device = record { name = Some 0x8000000001405678; address = 11 }
 
-abbrev device_claim : FrameRecord
+abbrev pub device_claim : FrameRecord
 device_claim = frame 1000100 0x18EEFF0B (0x78 ∷ 0x56 ∷ 0x40 ∷ 0x01 ∷ 0 ∷ 0 ∷ 0 ∷ 0x80 ∷ [])
+
+-- BAM: 12 bytes of group 65259 in two packets
+abbrev pub parts_announced : ℕ → FrameRecord
+parts_announced stamp = frame stamp 0x1CECFF0B (32 ∷ 12 ∷ 0 ∷ 2 ∷ 0xFF ∷ 0xEB ∷ 0xFE ∷ 0 ∷ [])
+
+abbrev pub parts_first : ℕ → FrameRecord
+parts_first stamp = frame stamp 0x1CEBFF0B (1 ∷ codes "ACME*X1")
+
+abbrev pub parts_second : ℕ → FrameRecord
+parts_second stamp = frame stamp 0x1CEBFF0B (2 ∷ codes "*77**" ++ 0xFF ∷ 0xFF ∷ [])
 
 abbrev pub broadcasts : List FrameRecord
 broadcasts =
     vin_announced
-    ∷ frame 2010000 0x1CECFF0B (32 ∷ 12 ∷ 0 ∷ 2 ∷ 0xFF ∷ 0xEB ∷ 0xFE ∷ 0 ∷ [])  -- BAM: 12 bytes of group 65259 in two packets
+    ∷ parts_announced 2010000
     ∷ vin_first
-    ∷ frame 2060000 0x1CEBFF0B (1 ∷ codes "ACME*X1")
+    ∷ parts_first 2060000
     ∷ vin_second
-    ∷ frame 2110000 0x1CEBFF0B (2 ∷ codes "*77**" ++ 0xFF ∷ 0xFF ∷ [])
+    ∷ parts_second 2110000
     ∷ vin_third 2150000
     ∷ []
 
@@ -133,13 +132,15 @@ two_frames = engine_claim ∷ device_claim ∷ broadcasts
 abbrev pub two : Publishing
 two = record { publishers = engine ∷ device ∷ []; items = vin_item (2 ∷ 4 ∷ 6 ∷ 8 ∷ []) ∷ parts_item (3 ∷ 5 ∷ 7 ∷ []) ∷ [] }
 
-abbrev pub two_values : List Entry
-two_values =
-    entry 2110000 device 65259 586 (text (codes "ACME"))
-    ∷ entry 2110000 device 65259 587 (text (codes "X1"))
-    ∷ entry 2110000 device 65259 588 (text (codes "77"))
-    ∷ vin_value
+abbrev pub parts_values : ℕ → List Entry
+parts_values stamp =
+    entry stamp device 65259 586 (text (codes "ACME"))
+    ∷ entry stamp device 65259 587 (text (codes "X1"))
+    ∷ entry stamp device 65259 588 (text (codes "77"))
     ∷ []
+
+abbrev pub two_values : List Entry
+two_values = parts_values 2110000 ++ vin_value 2150000 ∷ []
 
 -- ---- the same behind a packet that no announcement precedes
 

@@ -1,9 +1,10 @@
--- What a listener hears in the frames of a bus, in order (J1939-21, 5.10; J1939-81, 4.2).
+-- What a listener hears in the frames of a bus, in order, by a table of parameters (J1939-21, 5.10; J1939-81, 4.2).
 use Rattle.std.specs.Prelude.{◌≡◌, ◌⊎◌, ℕ, zero, suc, ◌<◌, ◌≤◌, true, List, [], ◌∷◌, ◌++◌, map, length, get_or, Option, Some, None}
 use Rattle.j39_frame.specs.Address.{IsAddress}
 use Rattle.j39_frame.specs.Frame.{FrameRecord}
 use Rattle.j39_frame.specs.Identifier.{source_of, pgn_of}
-use Rattle.j39_groups.specs.Readings.{is_reported_group}
+use Rattle.j39_groups.specs.Readings.{is_reported_in}
+use Rattle.j39_groups.specs.Row.{RowRecord}
 use Rattle.j39_transport.specs.Events.{Event}
 use Rattle.j39_transport.specs.Assembly.{Whole}
 use Rattle.j39_transport.specs.Events.Event.{Frame}
@@ -26,9 +27,9 @@ abbrev pub frames_only : List FrameRecord → List Event
 frames_only F = map (λ f. Frame f) F
 
 -- F[i] is of a reported group, from an address that a controller can hold, and its data is the message
-pub record IsSingle (F : List FrameRecord) (i : ℕ) (m : MessageRecord) : Type 0 where
+pub record IsSingle (groups : List RowRecord) (F : List FrameRecord) (i : ℕ) (m : MessageRecord) : Type 0 where
   pub inside : i < length F
-  pub reported : is_reported_group (pgn_of (frame_at F i).id) ≡ true
+  pub reported : is_reported_in groups (pgn_of (frame_at F i).id) ≡ true
   pub address : IsAddress m.source
   pub source_is : source_of (frame_at F i).id ≡ m.source
   pub pgn_is : pgn_of (frame_at F i).id ≡ m.pgn
@@ -42,26 +43,26 @@ pub record IsAssembled (F : List FrameRecord) (i : ℕ) (m : MessageRecord) (nam
   pub same_holder : (j : ℕ) → whole.start ≤ j → j ≤ i → IsHolder (claims_of F) j m.source name
 
 -- this is heard at F[i]
-pub record IsHeard (F : List FrameRecord) (i : ℕ) (h : Hearing) : Type 0 where
-  pub carried : IsSingle F i h.message ⊎ IsAssembled F i h.message h.name
+pub record IsHeard (groups : List RowRecord) (F : List FrameRecord) (i : ℕ) (h : Hearing) : Type 0 where
+  pub carried : IsSingle groups F i h.message ⊎ IsAssembled F i h.message h.name
   pub held_by : IsHolder (claims_of F) i h.message.source h.name
   pub stamp_is : h.stamp ≡ (frame_at F i).stamp
 
 -- what is heard at F[i], or nothing
-abbrev pub HeardAt : List FrameRecord → ℕ → Option Hearing → Type 0
-HeardAt F i (Some h) = IsHeard F i h
-HeardAt F i None = (h : Hearing) → IsHeard F i h → ⊥
+abbrev pub HeardAt : List RowRecord → List FrameRecord → ℕ → Option Hearing → Type 0
+HeardAt groups F i (Some h) = IsHeard groups F i h
+HeardAt groups F i None = (h : Hearing) → IsHeard groups F i h → ⊥
 
 abbrev pub or_none : Option Hearing → List Hearing
 or_none None = []
 or_none (Some h) = h ∷ []
 
 -- what is heard at the first n places of F, in order
-abbrev pub HeardBelow : List FrameRecord → ℕ → List Hearing → Type 0
-HeardBelow F zero hs = hs ≡ []
-HeardBelow F (suc n) hs =
-    (before : List Hearing) × (o : Option Hearing) × HeardBelow F n before × HeardAt F n o × (hs ≡ before ++ or_none o)
+abbrev pub HeardBelow : List RowRecord → List FrameRecord → ℕ → List Hearing → Type 0
+HeardBelow groups F zero hs = hs ≡ []
+HeardBelow groups F (suc n) hs =
+    (before : List Hearing) × (o : Option Hearing) × HeardBelow groups F n before × HeardAt groups F n o × (hs ≡ before ++ or_none o)
 
 -- what is heard in F, in order
-abbrev pub AreHeard : List FrameRecord → List Hearing → Type 0
-AreHeard F hs = HeardBelow F (length F) hs
+abbrev pub AreHeard : List RowRecord → List FrameRecord → List Hearing → Type 0
+AreHeard groups F hs = HeardBelow groups F (length F) hs

@@ -9,11 +9,14 @@ pub mod Loss
 pub mod Values
 pub mod Example
 pub mod Examples
+pub mod LossExample
 pub mod NextSteps
 pub mod Listening
 pub mod Shown
 pub mod Counting
 pub mod Run
+pub mod Asking
+pub mod AskSteps
 pub mod Fault
 pub mod AccountSteps
 pub mod ReportSteps

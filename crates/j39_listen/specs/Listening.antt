@@ -3,6 +3,7 @@ use Rattle.std.specs.Prelude.{ℕ, List, length}
 use Rattle.j39_address.specs.Claims.{Knows}
 use Rattle.j39_frame.specs.Frame.{FrameRecord}
 use Rattle.j39_transport.specs.Answers.{AreHeldAfter, AreOpenAfter}
+use Rattle.j39_transport.specs.Boxes.{WantsMemory}
 use Rattle.j39_transport.specs.Events.{Event}
 use Rattle.j39_transport.specs.Stands.{Stands}
 use Rattle.j39_listen.specs.Forgets.{WithForgets}
@@ -14,6 +15,11 @@ pub record Hears (listener : Listener) (F : List FrameRecord) : Type 0 where
   pub with_forgets : WithForgets F (length F) events
   pub stands : Stands events listener.assembler
   pub knows : Knows listener.claims F
+
+-- behind the frames F, with what claims made forgotten, the frame wants memory: it announces a message, none is open of its
+-- kind, and no box lies unused
+abbrev pub WantsMemoryBehind : List FrameRecord → FrameRecord → Type 0
+WantsMemoryBehind F frame = (E : List Event) × WithForgets F (length F) E × WantsMemory E frame
 
 -- so many messages are open after F with its forgets, with so many bytes
 abbrev pub AreOpen : List FrameRecord → ℕ → Type 0

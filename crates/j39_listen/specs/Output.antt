@@ -1,4 +1,6 @@
 -- What is made of the frames of a log.
+use Rattle.j39_groups.specs.Row.{RowRecord}
+use Rattle.j39_groups.specs.Table.{the_table}
 use Rattle.std.specs.Prelude.{◌≡◌, ℕ, List, [], length}
 use Rattle.std.specs.List.{flat_map}
 use Rattle.j39_frame.specs.Frame.{FrameRecord}
@@ -19,12 +21,12 @@ pub record Output : Type 0 where
 abbrev pub nothing : Output
 nothing = record { text = []; messages = 0; lines = 0 }
 
-abbrev pub report_of : List Hearing → Output
-report_of heard = record { text = report_text heard; messages = length heard; lines = length (flat_map entries_of heard) }
+abbrev pub report_of : List RowRecord → List Hearing → Output
+report_of groups heard = record { text = report_text groups heard; messages = length heard; lines = length (flat_map (entries_of groups) heard) }
 
 -- the report of what is heard in the frames, whatever their bus is called
-abbrev pub MakesReport : List ℕ → List FrameRecord → Output → Type 0
-MakesReport bus F output = (heard : List Hearing) × AreHeard F heard × (output ≡ report_of heard)
+abbrev pub MakesReport : List RowRecord → List ℕ → List FrameRecord → Output → Type 0
+MakesReport groups bus F output = (heard : List Hearing) × AreHeard groups F heard × (output ≡ report_of groups heard)
 
 -- no message counts
 abbrev pub nodes_of : List nodes.Node → Output
@@ -41,4 +43,4 @@ answers_of bus heard sent = record { text = sent_text bus sent; messages = lengt
 -- what a node sends on a bus of this name; each message counts that is heard there
 abbrev pub MakesAnswers : Node → List ℕ → List FrameRecord → Output → Type 0
 MakesAnswers node bus F output =
-    (heard : List Hearing) × (sent : List FrameRecord) × AreHeard F heard × AreAnswers node F sent × (output ≡ answers_of bus heard sent)
+    (heard : List Hearing) × (sent : List FrameRecord) × AreHeard the_table F heard × AreAnswers node F sent × (output ≡ answers_of bus heard sent)

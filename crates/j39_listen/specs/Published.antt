@@ -1,12 +1,13 @@
 -- What publishers sent: messages from addresses that they hold, with at most one broadcast and one transfer for each
--- destination open (J1939-21, 5.10; J1939-81, 4.2).
+-- destination open (J1939-21, 5.10; J1939-81, 4.2). A message in one frame is of a group that a table reports.
 use Rattle.std.specs.Prelude.{◌≡◌, ◌≢◌, ◌⊎◌, ℕ, suc, ◌+◌, ◌-◌, ◌<◌, ◌≤◌, Bool, true, false, ◌||◌, ◌==◌, List, length, map, slice_get, slice_index, Option, Some, All}
 use Rattle.std.specs.List.{Contains, list_any}
 use Rattle.std.specs.List.Sorted.{IsStrictlyIncreasing}
 use Rattle.j39_frame.specs.Address.{IsAddress}
 use Rattle.j39_frame.specs.Frame.{FrameRecord}
 use Rattle.j39_frame.specs.Identifier.{pgn_of, source_of}
-use Rattle.j39_groups.specs.Readings.{is_reported_group}
+use Rattle.j39_groups.specs.Readings.{is_reported_in}
+use Rattle.j39_groups.specs.Row.{RowRecord}
 use Rattle.j39_transport.specs.Assembly.{count_below}
 use Rattle.j39_transport.specs.Carries.{Carries}
 use Rattle.j39_transport.specs.Events.{rivals}
@@ -73,10 +74,10 @@ pub record AreSuccessive (F : List FrameRecord) (item : Item) (a b : ℕ) : Type
   pub none_between : (q : ℕ) → a < q → q < b → is_frame_of F item q ≡ false
 
 -- a publisher sent the item: the frames at its places carry its message
-pub record IsSent (F : List FrameRecord) (P : Publishing) (item : Item) : Type 0 where
+pub record IsSent (groups : List RowRecord) (F : List FrameRecord) (P : Publishing) (item : Item) : Type 0 where
   pub of_a_publisher : Contains P.publishers item.publisher
   pub source_is : item.message.source ≡ item.publisher.address
-  pub reported : length item.message.bytes ≤ 8 → is_reported_group item.message.pgn ≡ true
+  pub reported : length item.message.bytes ≤ 8 → is_reported_in groups item.message.pgn ≡ true
   pub rising : IsStrictlyIncreasing item.places
   pub inside : last_place item < length F
   pub carried : Carries item.key item.message (map (frame_at F) item.places)
@@ -114,16 +115,16 @@ abbrev pub NeverBack : List FrameRecord → Type 0
 NeverBack F = (i j : ℕ) → i < j → j < length F → (frame_at F i).stamp ≤ (frame_at F j).stamp
 
 -- in F the publishers sent these items, and nothing else that would be heard
-pub record Published (F : List FrameRecord) (P : Publishing) : Type 0 where
+pub record Published (groups : List RowRecord) (F : List FrameRecord) (P : Publishing) : Type 0 where
   pub addresses : All (λ p. IsAddress p.address) P.publishers
   pub distinct : (m n : ℕ) (p : Publisher) → slice_get P.publishers m ≡ Some p → slice_get P.publishers n ≡ Some p → m ≡ n
-  pub sent : (n : ℕ) (item : Item) → slice_get P.items n ≡ Some item → IsSent F P item
+  pub sent : (n : ℕ) (item : Item) → slice_get P.items n ≡ Some item → IsSent groups F P item
   -- two items that are alike stand one behind the other
   pub apart : (m n : ℕ) (x y : Item) → slice_get P.items m ≡ Some x → slice_get P.items n ≡ Some y → m ≢ n → AreAlike x y
       → (last_place x < first_place y) ⊎ (last_place y < first_place x)
   -- each frame of a reported group and each announcement from their addresses stands in one item
   pub reported : (j : ℕ) → j < length F → is_publisher P (source_of (frame_at F j).id) ≡ true
-      → is_reported_group (pgn_of (frame_at F j).id) ≡ true → StandsInOne P j
+      → is_reported_in groups (pgn_of (frame_at F j).id) ≡ true → StandsInOne P j
   pub announced : (j : ℕ) (k : Key) → is_publisher P (sender k) ≡ true → is_announcement k (frame_at F j) ≡ true → StandsInOne P j
   -- each packet too, but for those of broadcasts that no announcement precedes, and for spare ones of transfers
   pub broadcast : (j s : ℕ) → is_publisher P s ≡ true → is_packet (Broadcast s) (frame_at F j) ≡ true

@@ -1,4 +1,4 @@
--- The report of a list of frames, and its text.
+-- The report of a list of frames by a table of parameters, and its text.
 use Rattle.std.specs.Prelude.{◌≡◌, ℕ, List, [], ◌∷◌, ◌++◌, Option, Some, None, map, codes, decimal}
 use Rattle.std.specs.Int.{to_be_bytes, w64}
 use Rattle.std.specs.List.{flat_map}
@@ -6,7 +6,8 @@ use Rattle.hex.specs.Hex.{encode_upper}
 use Rattle.j39_frame.specs.Chars.{newline}
 use Rattle.j39_frame.specs.Frame.{FrameRecord}
 use Rattle.j39_frame.specs.Printing.{stamp_text}
-use Rattle.j39_groups.specs.Readings.{readings_of}
+use Rattle.j39_groups.specs.Readings.{readings_in}
+use Rattle.j39_groups.specs.Row.{RowRecord}
 use Rattle.j39_groups.specs.Value.{ReadingRecord, ValueRecord}
 use Rattle.j39_groups.specs.ValueText.{value_text}
 use Rattle.j39_listen.specs.Heard.{AreHeard, Hearing}
@@ -24,12 +25,12 @@ abbrev pub entry_of : Hearing → ReadingRecord → Entry
 entry_of h r = record { stamp = h.stamp; address = h.message.source; name = h.name; pgn = h.message.pgn; spn = r.spn; value = r.value }
 
 -- an entry for each reading of a message, in order
-abbrev pub entries_of : Hearing → List Entry
-entries_of h = map (entry_of h) (readings_of h.message.pgn h.message.bytes)
+abbrev pub entries_of : List RowRecord → Hearing → List Entry
+entries_of groups h = map (entry_of h) (readings_in groups h.message.pgn h.message.bytes)
 
 -- the report of F: the entries of each message that is heard in it, in order
-abbrev pub IsReport : List FrameRecord → List Entry → Type 0
-IsReport F entries = (heard : List Hearing) × AreHeard F heard × (entries ≡ flat_map entries_of heard)
+abbrev pub IsReport : List RowRecord → List FrameRecord → List Entry → Type 0
+IsReport groups F entries = (heard : List Hearing) × AreHeard groups F heard × (entries ≡ flat_map (entries_of groups) heard)
 
 -- a NAME in sixteen upper-case hex digits, or sixteen `-`
 abbrev pub name_text : Option ℕ → List ℕ
@@ -52,5 +53,5 @@ unfoldable pub text_of : List Entry → List ℕ
 text_of entries = flat_map entry_text entries
 
 -- the text of the report of these messages
-abbrev pub report_text : List Hearing → List ℕ
-report_text heard = text_of (flat_map entries_of heard)
+abbrev pub report_text : List RowRecord → List Hearing → List ℕ
+report_text groups heard = text_of (flat_map (entries_of groups) heard)

@@ -3,6 +3,7 @@ use Rattle.std.specs.Prelude.{◌≡◌, ◌+◌, ◌++◌, ◌∷◌, [], List,
 use Rattle.std.specs.Io.KnownBytes.{Appends}
 use Rattle.j39_frame.specs.Device.{AppendsFront}
 use Rattle.j39_frame.specs.Frame.{FrameRecord}
+use Rattle.j39_groups.specs.Row.{RowRecord}
 use Rattle.j39_listen.specs.Counting.{capped}
 use Rattle.j39_listen.specs.Heard.{AreHeard, Hearing, HeardAt, or_none}
 use Rattle.j39_listen.specs.Listening.{Hears}
@@ -19,24 +20,25 @@ made_of output = record { messages = capped output.messages; lines = capped outp
 abbrev pub made_sum : Made → Made → Made
 made_sum a b = record { messages = capped (a.messages + b.messages); lines = capped (a.lines + b.lines) }
 
--- the report of F was made, and its listener was fed F
-pub record HasReported (report : Report) (F : List FrameRecord) (output : Output) : Type 0 where
+-- the report of F by this table was made, and its listener was fed F
+pub record HasReported (groups : List RowRecord) (report : Report) (F : List FrameRecord) (output : Output) : Type 0 where
+  pub by : report.groups.now ≡ groups
   pub heard : List Hearing
-  pub are_heard : AreHeard F heard
-  pub output_is : output ≡ report_of heard
+  pub are_heard : AreHeard groups F heard
+  pub output_is : output ≡ report_of groups heard
   pub hears : Hears report.listener F
   pub made_is : report.made ≡ made_of output
 
 -- behind the frames F this is heard at the frame f, and its report was written
-pub record MeetsFrame (l' : Listener) (F : List FrameRecord) (f : FrameRecord) (made : Made) (old new : Option (List ℕ)) : Type 0 where
+pub record MeetsFrame (groups : List RowRecord) (l' : Listener) (F : List FrameRecord) (f : FrameRecord) (made : Made) (old new : Option (List ℕ)) : Type 0 where
   pub heard : Option Hearing
-  pub heard_at : HeardAt (F ++ f ∷ []) (length F) heard
+  pub heard_at : HeardAt groups (F ++ f ∷ []) (length F) heard
   pub hears : Hears l' (F ++ f ∷ [])
-  pub made_is : made ≡ made_of (report_of (or_none heard))
-  pub written : Appends old new (report_text (or_none heard))
+  pub made_is : made ≡ made_of (report_of groups (or_none heard))
+  pub written : Appends old new (report_text groups (or_none heard))
 
 -- behind the frames F this is heard at the frame f, and a front of its report was written
-pub record StopsFrame (F : List FrameRecord) (f : FrameRecord) (old new : Option (List ℕ)) : Type 0 where
+pub record StopsFrame (groups : List RowRecord) (F : List FrameRecord) (f : FrameRecord) (old new : Option (List ℕ)) : Type 0 where
   pub heard : Option Hearing
-  pub heard_at : HeardAt (F ++ f ∷ []) (length F) heard
-  pub front : AppendsFront old new (report_text (or_none heard))
+  pub heard_at : HeardAt groups (F ++ f ∷ []) (length F) heard
+  pub front : AppendsFront old new (report_text groups (or_none heard))

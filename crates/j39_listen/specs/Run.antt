@@ -1,10 +1,11 @@
 -- What a run over a log writes and counts, whatever it makes of the frames.
-use Rattle.std.specs.Prelude.{◌≡◌, ℕ, List, [], Option, unwrap_or}
+use Rattle.std.specs.Prelude.{◌≡◌, ◌<◌, ◌≤◌, ◌++◌, ℕ, List, [], Option, length, unwrap_or}
 use Rattle.std.specs.Io.KnownBytes.{Appends, Consumes}
 use Rattle.j39_frame.specs.Device.{AppendsFront}
 use Rattle.j39_frame.specs.Frame.{FrameRecord}
 use Rattle.j39_frame.specs.Log.{IsLog, bus_of, frames_of}
 use Rattle.j39_frame.specs.Spelled.{Spelled}
+use Rattle.j39_groups.specs.Row.{RowRecord}
 use Rattle.j39_listen.specs.Counting.{counts_of}
 use Rattle.j39_listen.specs.Output.{Output}
 use Rattle.j39_listen.specs.Report.{Entry, IsReport, text_of}
@@ -35,14 +36,29 @@ pub record StopsWithin (makes : List ℕ → List FrameRecord → Output → Typ
   pub consumed : Consumes remaining remaining' taken
   pub written : WritesFront makes given taken old new
 
+-- a run took at most so many bytes of its source
+pub record TakesWithin (limit : ℕ) (remaining remaining' : Option (List ℕ)) : Type 0 where
+  pub taken : List ℕ
+  pub consumed : Consumes remaining remaining' taken
+  pub fits : length taken ≤ limit
+
+-- a run stopped at the read that passes the limit: what it wrote is a front of what is made of the bytes before that read
+pub record StopsAtLimit (makes : List ℕ → List FrameRecord → Output → Type 0) (limit : ℕ) (given remaining remaining' old new : Option (List ℕ)) : Type 0 where
+  pub taken : List ℕ
+  pub read : List ℕ
+  pub consumed : Consumes remaining remaining' (taken ++ read)
+  pub fits : length taken ≤ limit
+  pub passes : limit < length (taken ++ read)
+  pub written : WritesFront makes given taken old new
+
 -- a run over the log wrote a line for each of these entries, which tell of publishers what was published in the log's
 -- frames, whatever packets were lost and repeated on the way there
-pub record WritesPublished (given : Option (List ℕ)) (log : List ℕ) (old new : Option (List ℕ)) : Type 0 where
+pub record WritesPublished (groups : List RowRecord) (given : Option (List ℕ)) (log : List ℕ) (old new : Option (List ℕ)) : Type 0 where
   pub spelled : List Spelled
   pub is_log : IsLog log spelled
   pub entries : List Entry
-  pub are_reported : IsReport (frames_of given spelled) entries
+  pub are_reported : IsReport groups (frames_of given spelled) entries
   pub written : Appends old new (text_of entries)
-  pub published : TellsPublished (frames_of given spelled) entries
-  pub thinned : TellsThinned (frames_of given spelled) entries
-  pub repeated : TellsRepeated (frames_of given spelled) entries
+  pub published : TellsPublished groups (frames_of given spelled) entries
+  pub thinned : TellsThinned groups (frames_of given spelled) entries
+  pub repeated : TellsRepeated groups (frames_of given spelled) entries

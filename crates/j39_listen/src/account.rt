@@ -29,8 +29,8 @@ pub(crate) trait Account: Drop {
     // So much is made of the subject and these frames of a bus with this name in all.
     ghost makes: { Subject → List ℕ → List FrameRecord → Output → Type 0 };
 
-    // Whether it may want memory.
-    ghost takes_memory: { Type 0 };
+    // Where it may want memory: behind these frames of the bus, at this frame.
+    ghost asks: { List FrameRecord → FrameRecord → Type 0 };
 
     /// Takes the next frame of the bus, and writes what is to be written at it.
     fn meet<W: Sink>(&mut self, bus: &Bus, frame: &Frame, sink: &mut W) -> Result<(), LineFault>
@@ -38,7 +38,8 @@ pub(crate) trait Account: Drop {
         ensures write { result ≡ Err Write → W.has_failed sink.new ≡ true }
         ensures stops { result ≡ Err Write → (subject : Subject) → Stops (has_met subject bus.now) (makes subject bus.now) self.old (frame.now ∷ []) (W.held sink.old) (W.held sink.new) }
         ensures memory { result ≡ Err Memory → W.held sink.new ≡ W.held sink.old }
-        ensures wants { result ≡ Err Memory → takes_memory }
+        ensures asked { result ≡ Err Memory → (subject : Subject) (F : List FrameRecord) (output : Output)
+            → has_met subject bus.now self.old F output → asks F frame.now }
         ensures unmarked { result ≢ Err Write → W.has_failed sink.new ≡ W.has_failed sink.old };
 
     /// Writes what is left to be written at the end, and answers the numbers of the whole.

@@ -1,5 +1,5 @@
 //! What a node sends on a bus, as an account of its frames (J1939-81, 4.2 and 4.5).
-ghost use Rattle.std.specs.Prelude.{◌≡◌, ◌≢◌, ◌<◌, ◌≤◌, ◌++◌, ◌∷◌, ◌↔◌, [], ℕ, List, Option, Result, true, length, option_map, IfOk, IfSome, OnOk, OnErr, Ok, Err, None, Some};
+ghost use Rattle.std.specs.Prelude.{◌≡◌, ◌≢◌, ◌<◌, ◌≤◌, ◌⊎◌, ◌++◌, ◌∷◌, ◌↔◌, [], ℕ, List, Option, Result, true, length, option_map, IfOk, IfSome, OnOk, OnErr, Ok, Err, None, Some};
 ghost use Rattle.std.specs.Option.{option_to_list};
 ghost use Rattle.std.specs.Io.KnownBytes.{Appends};
 ghost use Rattle.j39_address.specs.Claimer.{IsNode};
@@ -12,11 +12,12 @@ ghost use Rattle.j39_frame.specs.Frame.{FrameRecord};
 ghost use Rattle.j39_frame.specs.Identifier.{destination_of};
 ghost use Rattle.j39_frame.specs.Pgn.{pgn_raw};
 ghost use Rattle.j39_frame.specs.Stamp.{stamp_micros};
+ghost use Rattle.j39_listen.specs.Asking.{AsksForBoxes, AsksWithin};
 ghost use Rattle.j39_listen.specs.Answers.{calls_with, commands, sent_text};
 ghost use Rattle.j39_listen.specs.AnswerSteps.{HasAnswered, Notices, Obeys, all_sent, hears, starts};
 ghost use Rattle.j39_listen.specs.Listening.{Hears};
 ghost use Rattle.j39_listen.specs.Output.{MakesAnswers, nothing};
-ghost use Rattle.j39_listen.specs.Run.{StopsWithin, Writes};
+ghost use Rattle.j39_listen.specs.Run.{StopsAtLimit, StopsWithin, TakesWithin, Writes};
 ghost use Rattle.j39_listen.specs.declared.running.RunFault.TheVariants.{Memory, Read, Write, TooLong};
 
 use crate::account::{Account, LineFault};
@@ -55,6 +56,19 @@ pub fn answer<R: Source, W: Sink>(
     ensures read_unmarked { result ≢ Err Read → R.has_failed source.new ≡ R.has_failed source.old }
     ensures write { result ≡ Err Write → W.has_failed sink.new ≡ true }
     ensures write_unmarked { result ≢ Err Write → W.has_failed sink.new ≡ W.has_failed sink.old }
+
+    // Memory is wanted only at a frame of the log that announces a message.
+    ensures memory { result ≡ Err Memory → AsksWithin AsksForBoxes bus (R.remaining source.old) (R.remaining source.new) }
+
+    // The bytes that were taken pass the limit exactly where `TooLong` is answered, and those that pass it aren't handled.
+    ensures within { result ≢ Err TooLong → TakesWithin limit (R.remaining source.old) (R.remaining source.new) }
+    ensures at_limit { result ≡ Err TooLong → StopsAtLimit (MakesAnswers (idle_node (name_raw name) preferred)) limit bus
+        (R.remaining source.old) (R.remaining source.new) (W.held sink.old) (W.held sink.new) }
+
+    // What was written is passed on at the end, and before each read.
+    ensures flushed { IfOk result (λ answered. IfSome answered (λ _. W.is_flushed sink.new ≡ true)) }
+    ensures flushed_at_reads { (result ≡ Err Read) ⊎ (result ≡ Err TooLong)
+        → W.is_flushed sink.old ≡ true → W.is_flushed sink.new ≡ true }
 
     // What was written before a fault is a front of what is written for the bytes that were read.
     ensures prefix { OnErr result (StopsWithin (MakesAnswers (idle_node (name_raw name) preferred)) bus
@@ -96,6 +110,7 @@ impl Account for Answers {
     ghost use Rattle.std.specs.Prelude.{⊤};
     ghost use Rattle.j39_address.specs.Node.{Node};
     ghost use Rattle.j39_listen.specs.AnswerSteps.{HasAnswered};
+    ghost use Rattle.j39_listen.specs.Asking.{AsksForBoxes};
     ghost use Rattle.j39_listen.specs.Output.{MakesAnswers};
 
     ghost Subject = { Node };
@@ -104,7 +119,7 @@ impl Account for Answers {
 
     ghost makes = { MakesAnswers };
 
-    ghost takes_memory = { ⊤ };
+    ghost asks = { AsksForBoxes };
 
     // The listener hears the log alone, so it may hear a frame before the node does: where memory is
     // refused nothing was sent at the frame.
@@ -142,6 +157,7 @@ pub(crate) struct Noticed {
 fn notice(listener: &mut Listener, frame: &Frame) -> Result<Noticed, AllocError>
     ensures notices { IfOk result (λ noticed. (F : List FrameRecord) → Hears listener.old F → Notices F frame.now noticed) }
     ensures hears { OnOk result ((F : List FrameRecord) → Hears listener.old F → Hears listener.new (F ++ frame.now ∷ [])) }
+    ensures asked { OnErr result ((F : List FrameRecord) → Hears listener.old F → AsksForBoxes F frame.now) }
 {
     match listener.feed(frame) {
         Err(AllocError) => Err(AllocError),

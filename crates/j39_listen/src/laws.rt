@@ -3,26 +3,34 @@ ghost use Rattle.std.specs.Prelude.{◌≡◌, ◌<◌, ℕ, List, Option, lengt
 ghost use Rattle.j39_frame.specs.Frame.{FrameRecord};
 ghost use Rattle.j39_address.specs.Command.{Command};
 ghost use Rattle.j39_address.specs.Node.{Node};
+ghost use Rattle.j39_groups.specs.Row.{RowRecord};
+ghost use Rattle.j39_groups.specs.Table.{the_table};
 ghost use Rattle.j39_listen.specs.Answers.{AreAnswers, CommandedAt};
 ghost use Rattle.j39_listen.specs.Example.{example, example_frames, example_values};
 ghost use Rattle.j39_listen.specs.Examples.{Publishes, early, early_frames, eec1, eec1_frames, eec1_values, two, two_frames, two_values, vin, vin_frames, vin_values};
 ghost use Rattle.j39_listen.specs.Heard.{AreHeard, HeardAt, Hearing};
 ghost use Rattle.j39_listen.specs.Report.{Entry, IsReport};
+ghost use Rattle.j39_listen.specs.Loss.{LostTogether, Repeated, Thinned};
+ghost use Rattle.j39_listen.specs.LossExample.{heard_frames, left_frames, left_values, lost, sent, sent_frames, sent_values};
 ghost use Rattle.j39_listen.specs.Published.{Published};
 ghost use Rattle.j39_listen.specs.Values.{TellsPublished, TellsRepeated, TellsThinned, no_place, values};
 
-/// A list of frames has at most one report: at each frame one message is heard at most.
+/// By each table a list of frames has at most one report: at each frame one message is heard at most.
 pub fn one_report()
-    ensures one_at_a_frame { (F : List FrameRecord) (i : ℕ) (g h : Option Hearing) → HeardAt F i g → HeardAt F i h → g ≡ h }
-    ensures heard { (F : List FrameRecord) (gs hs : List Hearing) → AreHeard F gs → AreHeard F hs → gs ≡ hs }
-    ensures report { (F : List FrameRecord) (a b : List Entry) → IsReport F a → IsReport F b → a ≡ b }
+    ensures one_at_a_frame { (groups : List RowRecord) (F : List FrameRecord) (i : ℕ) (g h : Option Hearing)
+        → HeardAt groups F i g → HeardAt groups F i h → g ≡ h }
+    ensures heard { (groups : List RowRecord) (F : List FrameRecord) (gs hs : List Hearing)
+        → AreHeard groups F gs → AreHeard groups F hs → gs ≡ hs }
+    ensures report { (groups : List RowRecord) (F : List FrameRecord) (a b : List Entry)
+        → IsReport groups F a → IsReport groups F b → a ≡ b }
 {}
 
-/// Each list of frames has a report: at each frame a message is heard, or none is.
+/// By each table each list of frames has a report: at each frame a message is heard, or none is.
 pub fn some_report()
-    ensures at_a_frame { (F : List FrameRecord) (i : ℕ) → i < length F → (o : Option Hearing) × HeardAt F i o }
-    ensures heard { (F : List FrameRecord) → (hs : List Hearing) × AreHeard F hs }
-    ensures report { (F : List FrameRecord) → (entries : List Entry) × IsReport F entries }
+    ensures at_a_frame { (groups : List RowRecord) (F : List FrameRecord) (i : ℕ) → i < length F
+        → (o : Option Hearing) × HeardAt groups F i o }
+    ensures heard { (groups : List RowRecord) (F : List FrameRecord) → (hs : List Hearing) × AreHeard groups F hs }
+    ensures report { (groups : List RowRecord) (F : List FrameRecord) → (entries : List Entry) × IsReport groups F entries }
 {}
 
 /// With each list of frames a node sends some frames, and no others: at each frame it is commanded or not.
@@ -35,24 +43,27 @@ pub fn answers_of_nodes()
 /// Of what publishers sent, a report has under their addresses exactly the values published, in order
 /// of completion, each under its publisher's NAME.
 pub fn published()
-    ensures { (F : List FrameRecord) (entries : List Entry) → IsReport F entries → TellsPublished F entries }
+    ensures { (groups : List RowRecord) (F : List FrameRecord) (entries : List Entry)
+        → IsReport groups F entries → TellsPublished groups F entries }
 {}
 
 /// Where packets were lost, and nothing else, exactly the messages that lost one are missing.
 pub fn thinned()
-    ensures { (G : List FrameRecord) (entries : List Entry) → IsReport G entries → TellsThinned G entries }
+    ensures { (groups : List RowRecord) (G : List FrameRecord) (entries : List Entry)
+        → IsReport groups G entries → TellsThinned groups G entries }
 {}
 
 /// Where packets were lost, and others came more than once, it is the same.
 pub fn repeated()
-    ensures { (H : List FrameRecord) (entries : List Entry) → IsReport H entries → TellsRepeated H entries }
+    ensures { (groups : List RowRecord) (H : List FrameRecord) (entries : List Entry)
+        → IsReport groups H entries → TellsRepeated groups H entries }
 {}
 
 /// The premises can be met: by a log in which a receiver asks for a packet of a transfer again, with
 /// one value published.
 pub fn an_example()
-    ensures published { Published example_frames example }
-    ensures values { values example_frames example no_place ≡ example_values }
+    ensures published { Published the_table example_frames example }
+    ensures values { values the_table example_frames example no_place ≡ example_values }
 {}
 
 /// By four logs with no transfer too, each with its values: one frame of a controller that claims
@@ -63,4 +74,16 @@ pub fn examples()
     ensures vin_by_broadcast { Publishes vin_frames vin vin_values }
     ensures two_broadcasts_at_once { Publishes two_frames two two_values }
     ensures packet_before_any_announcement { Publishes early_frames early two_values }
+{}
+
+/// With packets lost and repeated in one log too: of a transfer and a broadcast at once the transfer's
+/// third packet is lost, both times that it was sent, and the broadcast's first is heard twice; what is
+/// left of the values sent is the broadcast's.
+pub fn losses_and_copies()
+    ensures published { Published the_table sent_frames sent }
+    ensures thinned { Thinned sent_frames left_frames lost }
+    ensures lost_together { LostTogether sent_frames sent lost }
+    ensures repeated { Repeated left_frames heard_frames }
+    ensures values_sent { values the_table sent_frames sent no_place ≡ sent_values }
+    ensures values_left { values the_table sent_frames sent lost ≡ left_values }
 {}

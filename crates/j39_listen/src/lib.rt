@@ -20,4 +20,4 @@ pub use counts::Counts;
 pub use heard::Heard;
 pub use listener::Listener;
 pub use node_list::nodes;
-pub use running::{RunFault, run};
+pub use running::{RunFault, run, run_with};

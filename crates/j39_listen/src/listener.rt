@@ -1,5 +1,5 @@
 //! A listener on a bus (J1939-21, 5.10; J1939-81, 4.2).
-ghost use Rattle.std.specs.Prelude.{◌≡◌, ◌≤◌, ◌++◌, ◌∷◌, [], List, Option, None, IfOk, OnOk, OnErr, MatchResult, length};
+ghost use Rattle.std.specs.Prelude.{◌≡◌, ◌≤◌, ◌*◌, ◌++◌, ◌∷◌, [], List, Option, None, IfOk, OnOk, OnErr, MatchResult, length};
 ghost use Rattle.std.specs.Option.{option_map};
 ghost use Rattle.std.specs.Borrow.{sem};
 ghost use Rattle.std.specs.Io.BufRead.{Rests};
@@ -7,16 +7,21 @@ ghost use Rattle.j39_address.specs.Claim.{claim_of, claims_of};
 ghost use Rattle.j39_address.specs.Holder.{IsHolderAfter};
 ghost use Rattle.j39_address.specs.Name.{name_raw};
 ghost use Rattle.j39_frame.specs.Frame.{FrameRecord};
+ghost use Rattle.j39_frame.specs.Identifier.{pgn_of};
+ghost use Rattle.j39_frame.specs.Pgn.{pgn_raw};
+ghost use Rattle.j39_groups.specs.Row.{RowRecord};
+ghost use Rattle.j39_groups.specs.Table.{the_table};
 ghost use Rattle.j39_transport.specs.Answers.{IsAnnouncement};
+ghost use Rattle.j39_transport.specs.Steps.{messages_open};
 ghost use Rattle.j39_listen.specs.Heard.{HeardAt};
-ghost use Rattle.j39_listen.specs.Listening.{AreHeld, AreOpen, Hears};
+ghost use Rattle.j39_listen.specs.Listening.{AreHeld, AreOpen, Hears, WantsMemoryBehind};
 ghost use Rattle.j39_listen.specs.NextSteps.{IsMany, heard_alone};
 ghost use Rattle.j39_listen.specs.Shown.{hearing_of};
 
 use crate::Heard;
 use j39_address::{Claims, Name};
-use j39_frame::{Frame, is_address};
-use j39_groups::is_reported;
+use j39_frame::{Frame, Pgn, is_address};
+use j39_groups::Groups;
 use j39_transport::{Assembler, Fed, Message};
 use std::alloc::{AllocError, Global};
 
@@ -42,13 +47,34 @@ impl Listener {
         }
     }
 
-    /// Takes the next frame of the bus, and answers the message that is heard at it. Memory is
-    /// taken at an announcement alone; after an error nothing has changed.
+    /// Takes the next frame of the bus, and answers the message that is heard at it by the built-in table. Memory is
+    /// taken at an announcement alone, of a message of which none is open yet, and where no box lies unused; after
+    /// an error nothing has changed.
     #[inline(always)]
     pub fn feed<'a>(&'a mut self, frame: &'a Frame) -> Result<Option<Heard<'a>>, AllocError>
         ensures heard { IfOk result (λ heard. (F : List FrameRecord) → Hears self.old F
-            → HeardAt (F ++ frame.now ∷ []) (length F) (option_map hearing_of heard)) }
+            → HeardAt the_table (F ++ frame.now ∷ []) (length F) (option_map hearing_of heard)) }
         ensures refused { OnErr result (IsAnnouncement frame.now) }
+        ensures wanted { OnErr result ((F : List FrameRecord) → Hears self.old F → WantsMemoryBehind F frame.now) }
+        ensures* after { sem 𝓛 (Rests the_row self.entry (λ n. MatchResult result
+            (λ _. (F : List FrameRecord) → Hears self.old F → Hears n (F ++ frame.now ∷ []))
+            (λ _. n ≡ self.old))) }
+    {
+        self.feed_with(&Groups::built_in(), frame)
+    }
+
+    /// Takes the next frame of the bus, and answers the message that is heard at it by a table of parameters. Memory is
+    /// taken as by `feed`; after an error nothing has changed.
+    #[inline(always)]
+    pub fn feed_with<'a>(
+        &'a mut self,
+        groups: &Groups<'_>,
+        frame: &'a Frame,
+    ) -> Result<Option<Heard<'a>>, AllocError>
+        ensures heard { IfOk result (λ heard. (F : List FrameRecord) → Hears self.old F
+            → HeardAt groups.now (F ++ frame.now ∷ []) (length F) (option_map hearing_of heard)) }
+        ensures refused { OnErr result (IsAnnouncement frame.now) }
+        ensures wanted { OnErr result ((F : List FrameRecord) → Hears self.old F → WantsMemoryBehind F frame.now) }
         ensures* after { sem 𝓛 (Rests the_row self.entry (λ n. MatchResult result
             (λ _. (F : List FrameRecord) → Hears self.old F → Hears n (F ++ frame.now ∷ []))
             (λ _. n ≡ self.old))) }
@@ -57,9 +83,10 @@ impl Listener {
             self.note(frame)?;
             return Ok(None);
         }
-        if is_reported(frame.id.pgn()) {
-            self.pass(frame)?;
-            return Ok(alone(frame, self.claims.holder(frame.id.source())));
+        let pgn = frame.id.pgn();
+        // No table reports packets and announcements: the assembler would let the frame pass.
+        if groups.is_reported(pgn) {
+            return Ok(alone(frame, pgn, self.claims.holder(frame.id.source())));
         }
         self.assemble(frame)
     }
@@ -69,6 +96,7 @@ impl Listener {
     fn note(&mut self, frame: &Frame) -> Result<(), AllocError>
         ensures noted { OnOk result ((F : List FrameRecord) → Hears self.old F → Hears self.new (F ++ frame.now ∷ [])) }
         ensures refused { OnErr result (IsAnnouncement frame.now) }
+        ensures wanted { OnErr result ((F : List FrameRecord) → Hears self.old F → WantsMemoryBehind F frame.now) }
         ensures unchanged { OnErr result (self.new ≡ self.old) }
     {
         self.assembler.feed(frame)?;
@@ -79,27 +107,15 @@ impl Listener {
         Ok(())
     }
 
-    /// Lets the assembler see a frame that claims nothing and ends no message.
-    #[inline(always)]
-    fn pass(&mut self, frame: &Frame) -> Result<(), AllocError>
-        ensures passed { OnOk result (claim_of frame.now ≡ None → (F : List FrameRecord) → Hears self.old F
-            → Hears self.new (F ++ frame.now ∷ [])) }
-        ensures holders { self.new.claims ≡ self.old.claims }
-        ensures refused { OnErr result (IsAnnouncement frame.now) }
-        ensures unchanged { OnErr result (self.new ≡ self.old) }
-    {
-        self.assembler.feed(frame)?;
-        Ok(())
-    }
-
     /// Hands a frame that claims nothing and is no message by itself to the assembler.
     #[inline(always)]
     fn assemble(&mut self, frame: &Frame) -> Result<Option<Heard<'_>>, AllocError>
-        ensures heard { IfOk result (λ heard. IsMany frame.now → (F : List FrameRecord) → Hears self.old F
-            → HeardAt (F ++ frame.now ∷ []) (length F) (option_map hearing_of heard)) }
+        ensures heard { IfOk result (λ heard. (groups : List RowRecord) → IsMany groups frame.now → (F : List FrameRecord) → Hears self.old F
+            → HeardAt groups (F ++ frame.now ∷ []) (length F) (option_map hearing_of heard)) }
         ensures refused { OnErr result (IsAnnouncement frame.now) }
+        ensures wanted { OnErr result ((F : List FrameRecord) → Hears self.old F → WantsMemoryBehind F frame.now) }
         ensures* after { sem 𝓛 (Rests the_row self.entry (λ n. MatchResult result
-            (λ _. IsMany frame.now → (F : List FrameRecord) → Hears self.old F → Hears n (F ++ frame.now ∷ []))
+            (λ _. claim_of frame.now ≡ None → (F : List FrameRecord) → Hears self.old F → Hears n (F ++ frame.now ∷ []))
             (λ _. n ≡ self.old))) }
     {
         let name = self.claims.holder(frame.id.source());
@@ -119,14 +135,16 @@ impl Listener {
 
     /// How many messages are open, 0 to 270.
     pub fn open(&self) -> usize
+        ensures value { result ≡ messages_open self.now.assembler.sessions }
         ensures few { result ≤ 270 }
         ensures after { (F : List FrameRecord) → Hears self.now F → AreOpen F result }
     {
         self.assembler.open()
     }
 
-    /// Seven bytes for each packet that is kept of an open message.
+    /// Seven bytes for each packet that is kept of an open message: at most 1,785 for each of these.
     pub fn held(&self) -> usize
+        ensures bounded { result ≤ 1785 * messages_open self.now.assembler.sessions }
         ensures after { (F : List FrameRecord) → Hears self.now F → AreHeld F result }
     {
         self.assembler.held()
@@ -134,7 +152,8 @@ impl Listener {
 }
 
 /// A frame of a reported group as a message; `None` from the null and the global address.
-fn alone(frame: &Frame, name: Option<Name>) -> Option<Heard<'_>>
+fn alone(frame: &Frame, pgn: Pgn, name: Option<Name>) -> Option<Heard<'_>>
+    requires { pgn_raw pgn ≡ pgn_of frame.now.id }
     ensures { option_map hearing_of result ≡ heard_alone frame.now (option_map name_raw name) }
 {
     let source = frame.id.source();
@@ -143,7 +162,7 @@ fn alone(frame: &Frame, name: Option<Name>) -> Option<Heard<'_>>
     }
     let message = Message {
         source,
-        pgn: frame.id.pgn(),
+        pgn,
         payload: frame.bytes.as_slice(),
         stamp: frame.stamp,
     };

@@ -1,5 +1,5 @@
 //! Who holds which address, as an account of the frames of a bus (J1939-81, 4.2).
-ghost use Rattle.std.specs.Prelude.{◌≡◌, ◌≢◌, ◌<◌, ◌≤◌, ◌++◌, ◌∷◌, [], ℕ, List, true, IfOk, IfSome, OnOk, OnErr, Err, Some, length};
+ghost use Rattle.std.specs.Prelude.{◌≡◌, ◌≢◌, ◌<◌, ◌≤◌, ◌⊎◌, ◌++◌, ◌∷◌, [], ℕ, List, true, IfOk, IfSome, OnOk, OnErr, Err, Some, length};
 ghost use Rattle.std.specs.Io.KnownBytes.{Appends};
 ghost use Rattle.j39_address.specs.Name.{name_raw};
 ghost use Rattle.j39_frame.specs.Device.{AppendsFront, Marks};
@@ -8,7 +8,7 @@ ghost use Rattle.j39_address.specs.Claims.{Knows, holder_in};
 ghost use Rattle.j39_listen.specs.NodeSteps.{HasNoted};
 ghost use Rattle.j39_listen.specs.Nodes.{AreNodes, Node, node_at, node_text, nodes_text};
 ghost use Rattle.j39_listen.specs.Output.{MakesNodes, nodes_of};
-ghost use Rattle.j39_listen.specs.Run.{StopsWithin, Writes};
+ghost use Rattle.j39_listen.specs.Run.{StopsAtLimit, StopsWithin, TakesWithin, Writes};
 ghost use Rattle.j39_listen.specs.declared.running.RunFault.TheVariants.{Memory, Read, Write, TooLong};
 
 use crate::Counts;
@@ -43,6 +43,16 @@ pub fn nodes<R: Source, W: Sink>(
     ensures write { result ≡ Err Write → W.has_failed sink.new ≡ true }
     ensures write_unmarked { result ≢ Err Write → W.has_failed sink.new ≡ W.has_failed sink.old }
 
+    // The bytes that were taken pass the limit exactly where `TooLong` is answered, and those that pass it aren't handled.
+    ensures within { result ≢ Err TooLong → TakesWithin limit (R.remaining source.old) (R.remaining source.new) }
+    ensures at_limit { result ≡ Err TooLong → StopsAtLimit MakesNodes limit bus
+        (R.remaining source.old) (R.remaining source.new) (W.held sink.old) (W.held sink.new) }
+
+    // What was written is passed on at the end, and before each read.
+    ensures flushed { OnOk result (W.is_flushed sink.new ≡ true) }
+    ensures flushed_at_reads { (result ≡ Err Read) ⊎ (result ≡ Err TooLong)
+        → W.is_flushed sink.old ≡ true → W.is_flushed sink.new ≡ true }
+
     // What was written before a fault is a front of what is written for the bytes that were read.
     ensures prefix { OnErr result (StopsWithin MakesNodes bus (R.remaining source.old) (R.remaining source.new) (W.held sink.old) (W.held sink.new)) }
 {
@@ -68,6 +78,7 @@ impl NodeList {
 
 impl Account for NodeList {
     ghost use Rattle.std.specs.Prelude.{⊤};
+    ghost use Rattle.j39_listen.specs.Asking.{AsksNowhere};
     ghost use Rattle.j39_listen.specs.NodeSteps.{HasNoted};
     ghost use Rattle.j39_listen.specs.Output.{MakesNodes};
 
@@ -77,7 +88,7 @@ impl Account for NodeList {
 
     ghost makes = { λ subject. MakesNodes };
 
-    ghost takes_memory = { ⊥ };
+    ghost asks = { AsksNowhere };
 
     fn meet<W: Sink>(&mut self, _: &Bus, frame: &Frame, _: &mut W) -> Result<(), LineFault> {
         self.claims.note(frame);

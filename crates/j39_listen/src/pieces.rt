@@ -3,6 +3,8 @@ ghost use Rattle.std.specs.Prelude.{◌≡◌, ◌≢◌, ◌<◌, ◌≤◌, �
 ghost use Rattle.j39_frame.specs.Device.{Marks};
 ghost use Rattle.j39_frame.specs.Spelled.{Spelled};
 ghost use Rattle.j39_frame.specs.Splitter.{HasBegun};
+ghost use Rattle.j39_listen.specs.Asking.{AsksAmong};
+ghost use Rattle.j39_listen.specs.AskSteps.{AsksIn, AsksLast};
 ghost use Rattle.j39_listen.specs.Output.{Output};
 ghost use Rattle.j39_listen.specs.PieceSteps.{HasMetAll, HasTaken, ReadsLast, StepsOver, StopsIn, StopsLast, WritesAll, WritesSome};
 ghost use Rattle.j39_listen.specs.Run.{Writes, WritesFront};
@@ -46,7 +48,9 @@ impl<A: Account> Pieces<A> {
             → HasTaken (A.has_met subject) given taken self.old held (W.held sink.old) → WritesFront (A.makes subject) given (taken ++ piece.now) held (W.held sink.new)) }
         ensures write { result ≡ Err Write → W.has_failed sink.new ≡ true }
         ensures unmarked { result ≢ Err Write → W.has_failed sink.new ≡ W.has_failed sink.old }
-        ensures wants { result ≡ Err Memory → A.takes_memory }
+        ensures flushed { OnOk result (W.is_flushed sink.new ≡ true) }
+        ensures asked { result ≡ Err Memory → (subject : A.Subject) (given : Option (List ℕ)) (taken : List ℕ) (held : Option (List ℕ))
+            → HasTaken (A.has_met subject) given taken self.old held (W.held sink.old) → AsksAmong A.asks given (taken ++ piece.now) }
     {
         A::laws();
         match self.take_lines(piece, sink) {
@@ -66,7 +70,8 @@ impl<A: Account> Pieces<A> {
             → HasTaken (A.has_met subject) given taken self.old held (W.held sink.old) → WritesFront (A.makes subject) given (taken ++ piece.now) held (W.held sink.new)) }
         ensures write { result ≡ Err Write → W.has_failed sink.new ≡ true }
         ensures unmarked { result ≢ Err Write → W.has_failed sink.new ≡ W.has_failed sink.old }
-        ensures wants { result ≡ Err Memory → A.takes_memory }
+        ensures asked { result ≡ Err Memory → (subject : A.Subject) (given : Option (List ℕ)) (taken : List ℕ) (held : Option (List ℕ))
+            → HasTaken (A.has_met subject) given taken self.old held (W.held sink.old) → AsksAmong A.asks given (taken ++ piece.now) }
     {
         A::laws();
         let mut rest = piece;
@@ -88,7 +93,9 @@ impl<A: Account> Pieces<A> {
             → HasTaken (A.has_met subject) given taken self.old held (W.held sink.old) → WritesFront (A.makes subject) given taken held (W.held sink.new)) }
         ensures write { result ≡ Err Write → W.has_failed sink.new ≡ true }
         ensures unmarked { result ≢ Err Write → W.has_failed sink.new ≡ W.has_failed sink.old }
-        ensures wants { result ≡ Err Memory → A.takes_memory }
+        ensures flushed { OnOk result (W.is_flushed sink.new ≡ true) }
+        ensures asked { result ≡ Err Memory → (subject : A.Subject) (given : Option (List ℕ)) (taken : List ℕ) (held : Option (List ℕ))
+            → HasTaken (A.has_met subject) given taken self.old held (W.held sink.old) → AsksAmong A.asks given taken }
     {
         A::laws();
         match take_last(&mut self.splitter, &mut self.progress, sink) {
@@ -118,7 +125,8 @@ fn take_line<A: Account, W: Sink>(
         → StopsIn (A.has_met subject) (A.makes subject) begun bytes.now progress.old (W.held sink.old) (W.held sink.new) }
     ensures memory { result ≡ Err Memory → W.held sink.new ≡ W.held sink.old }
     ensures unmarked { result ≢ Err Write → W.has_failed sink.new ≡ W.has_failed sink.old }
-    ensures wants { result ≡ Err Memory → A.takes_memory }
+    ensures asked { result ≡ Err Memory → (subject : A.Subject) (begun : List ℕ) → HasBegun splitter.old begun
+        → AsksIn (A.has_met subject) A.asks begun bytes.now progress.old }
 {
     let (n, raw) = splitter.feed(bytes);
     match raw {
@@ -143,7 +151,8 @@ fn take_last<A: Account, W: Sink>(
         → StopsLast (A.has_met subject) (A.makes subject) begun progress.old (W.held sink.old) (W.held sink.new) }
     ensures memory { result ≡ Err Memory → W.held sink.new ≡ W.held sink.old }
     ensures unmarked { result ≢ Err Write → W.has_failed sink.new ≡ W.has_failed sink.old }
-    ensures wants { result ≡ Err Memory → A.takes_memory }
+    ensures asked { result ≡ Err Memory → (subject : A.Subject) (begun : List ℕ) → HasBegun splitter.old begun
+        → AsksLast (A.has_met subject) A.asks begun progress.old }
 {
     match splitter.finish() {
         None => Ok(()),
@@ -162,6 +171,7 @@ fn close<A: Account, W: Sink>(
     ensures stops { OnErr result ((subject : A.Subject) (given : Option (List ℕ)) (spelled : List Spelled) (held : Option (List ℕ))
         → HasMetAll (A.has_met subject) given spelled progress.old held (W.held sink.old)
         → WritesSome (A.makes subject) given spelled held (W.held sink.new)) }
+    ensures flushed { OnOk result (W.is_flushed sink.new ≡ true) }
     ensures mark { Marks result (W.has_failed sink.old) (W.has_failed sink.new) }
 {
     A::laws();

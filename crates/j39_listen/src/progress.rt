@@ -2,6 +2,7 @@
 ghost use Rattle.std.specs.Prelude.{◌≡◌, ◌≢◌, Some, true, IfOk, OnOk, Err, unwrap_or};
 ghost use Rattle.j39_frame.specs.Bus.{IsBusName};
 ghost use Rattle.j39_frame.specs.LineRead.{spelled_of};
+ghost use Rattle.j39_listen.specs.AskSteps.{AsksLine};
 ghost use Rattle.j39_listen.specs.LineSteps.{IsSpelling, MeetsLine, StopsLine};
 ghost use Rattle.j39_listen.specs.PieceSteps.{ReadsLine, StopsAt};
 ghost use Rattle.j39_listen.specs.declared.account.LineFault.TheVariants.{Memory, Write};
@@ -29,7 +30,8 @@ impl<A: Account> Progress<A> {
             → StopsAt (A.has_met subject) (A.makes subject) (spelled_of line.entry) self.old (W.held sink.old) (W.held sink.new) }
         ensures memory { result ≡ Err Memory → W.held sink.new ≡ W.held sink.old }
         ensures unmarked { result ≢ Err Write → W.has_failed sink.new ≡ W.has_failed sink.old }
-        ensures wants { result ≡ Err Memory → A.takes_memory }
+        ensures asked { result ≡ Err Memory → (subject : A.Subject) → IsSpelling (spelled_of line.entry)
+            → AsksLine (A.has_met subject) A.asks (spelled_of line.entry) self.old.bus self.old.account }
     {
         let met = match meet(&mut self.bus, &mut self.account, line, sink) {
             Ok(met) => met,
@@ -55,7 +57,8 @@ fn meet<A: Account, W: Sink>(
         → StopsLine (A.has_met subject) (A.makes subject) (spelled_of line.entry) bus.old account.old (W.held sink.old) (W.held sink.new) }
     ensures memory { result ≡ Err Memory → W.held sink.new ≡ W.held sink.old }
     ensures unmarked { result ≢ Err Write → W.has_failed sink.new ≡ W.has_failed sink.old }
-    ensures wants { result ≡ Err Memory → A.takes_memory }
+    ensures asked { result ≡ Err Memory → (subject : A.Subject) → IsSpelling (spelled_of line.entry)
+        → AsksLine (A.has_met subject) A.asks (spelled_of line.entry) bus.old account.old }
 {
     match line {
         Line::Frame { bus: name, frame } => {

@@ -1,8 +1,10 @@
 //! The report of a log.
-ghost use Rattle.std.specs.Prelude.{◌≡◌, ◌≢◌, ◌<◌, ◌≤◌, ◌++◌, ℕ, List, [], Option, true, length, IfOk, OnOk, OnErr, IfSome, Err};
+ghost use Rattle.std.specs.Prelude.{◌≡◌, ◌≢◌, ◌<◌, ◌≤◌, ◌⊎◌, ◌++◌, ℕ, List, [], Option, true, length, IfOk, OnOk, OnErr, IfSome, Err};
+ghost use Rattle.j39_groups.specs.Table.{the_table};
+ghost use Rattle.j39_listen.specs.Asking.{AsksAmong, AsksForBoxes, AsksWithin};
 ghost use Rattle.j39_listen.specs.Output.{MakesReport, Output};
 ghost use Rattle.j39_listen.specs.PieceSteps.{HasTaken};
-ghost use Rattle.j39_listen.specs.Run.{StopsWithin, Writes, WritesFront, WritesPublished};
+ghost use Rattle.j39_listen.specs.Run.{StopsAtLimit, StopsWithin, TakesWithin, Writes, WritesFront, WritesPublished};
 ghost use Rattle.j39_listen.specs.declared.running.RunFault.TheVariants.{Memory, Read, Write, TooLong};
 
 use crate::Counts;
@@ -10,6 +12,7 @@ use crate::account::{Account, LineFault};
 use crate::pieces::Pieces;
 use crate::report::Report;
 use j39_frame::{Bus, Sink, Source};
+use j39_groups::Groups;
 use std::alloc::Global;
 use std::fmt;
 use thiserror::Error;
@@ -57,8 +60,8 @@ impl fmt::Display for RunFault {
 /// The bytes of one read.
 const PIECE: usize = 65_536;
 
-/// Writes the report of a log of at most `limit` bytes: a line for each value that a controller on
-/// the bus reported. Without a bus it is that of the first frame in the log.
+/// Writes the report of a log of at most `limit` bytes by the built-in table: a line for each value that a
+/// controller on the bus reported. Without a bus it is that of the first frame in the log.
 pub fn run<R: Source, W: Sink>(
     alloc: Global,
     source: &mut R,
@@ -68,12 +71,12 @@ pub fn run<R: Source, W: Sink>(
 ) -> Result<Counts, RunFault>
     // The report promise: what is written is the report of the log, and nothing else.
     ensures report { IfOk result (λ counts. IfSome (R.remaining source.old)
-        (λ log. Writes MakesReport bus log counts (W.held sink.old) (W.held sink.new))) }
+        (λ log. Writes (MakesReport the_table) bus log counts (W.held sink.old) (W.held sink.new))) }
 
     // The headline: of what publishers sent, its lines under their addresses are exactly the values
     // published, but for the messages that lost a packet.
     ensures published { OnOk result (IfSome (R.remaining source.old)
-        (λ log. WritesPublished bus log (W.held sink.old) (W.held sink.new))) }
+        (λ log. WritesPublished the_table bus log (W.held sink.old) (W.held sink.new))) }
 
     // Each fault comes only where its device failed, or the log is longer than the limit.
     ensures short { OnOk result (IfSome (R.remaining source.old) (λ log. length log ≤ limit)) }
@@ -83,10 +86,69 @@ pub fn run<R: Source, W: Sink>(
     ensures write { result ≡ Err Write → W.has_failed sink.new ≡ true }
     ensures write_unmarked { result ≢ Err Write → W.has_failed sink.new ≡ W.has_failed sink.old }
 
+    // Memory is wanted only at a frame of the log that announces a message.
+    ensures memory { result ≡ Err Memory → AsksWithin AsksForBoxes bus (R.remaining source.old) (R.remaining source.new) }
+
+    // The bytes that were taken pass the limit exactly where `TooLong` is answered, and those that pass it aren't handled.
+    ensures within { result ≢ Err TooLong → TakesWithin limit (R.remaining source.old) (R.remaining source.new) }
+    ensures at_limit { result ≡ Err TooLong → StopsAtLimit (MakesReport the_table) limit bus
+        (R.remaining source.old) (R.remaining source.new) (W.held sink.old) (W.held sink.new) }
+
+    // What was written is passed on at the end, and before each read.
+    ensures flushed { OnOk result (W.is_flushed sink.new ≡ true) }
+    ensures flushed_at_reads { (result ≡ Err Read) ⊎ (result ≡ Err TooLong)
+        → W.is_flushed sink.old ≡ true → W.is_flushed sink.new ≡ true }
+
     // What was written before a fault is a front of the report of the bytes that were read.
-    ensures prefix { OnErr result (StopsWithin MakesReport bus (R.remaining source.old) (R.remaining source.new) (W.held sink.old) (W.held sink.new)) }
+    ensures prefix { OnErr result (StopsWithin (MakesReport the_table) bus (R.remaining source.old) (R.remaining source.new) (W.held sink.old) (W.held sink.new)) }
 {
-    run_over(Report::new(alloc), source, sink, bus, limit)
+    run_with(alloc, &Groups::built_in(), source, sink, bus, limit)
+}
+
+/// Writes the report of a log of at most `limit` bytes by a table of parameters: a line for each value of it that
+/// a controller on the bus reported. Without a bus it is that of the first frame in the log.
+pub fn run_with<R: Source, W: Sink>(
+    alloc: Global,
+    groups: &Groups<'_>,
+    source: &mut R,
+    sink: &mut W,
+    bus: Option<Bus>,
+    limit: u64,
+) -> Result<Counts, RunFault>
+    // The report promise: what is written is the report of the log, and nothing else.
+    ensures report { IfOk result (λ counts. IfSome (R.remaining source.old)
+        (λ log. Writes (MakesReport groups.now) bus log counts (W.held sink.old) (W.held sink.new))) }
+
+    // The headline: of what publishers sent, its lines under their addresses are exactly the values
+    // published, but for the messages that lost a packet.
+    ensures published { OnOk result (IfSome (R.remaining source.old)
+        (λ log. WritesPublished groups.now bus log (W.held sink.old) (W.held sink.new))) }
+
+    // Each fault comes only where its device failed, or the log is longer than the limit.
+    ensures short { OnOk result (IfSome (R.remaining source.old) (λ log. length log ≤ limit)) }
+    ensures too_long { result ≡ Err TooLong → IfSome (R.remaining source.old) (λ log. limit < length log) }
+    ensures read { result ≡ Err Read → R.has_failed source.new ≡ true }
+    ensures read_unmarked { result ≢ Err Read → R.has_failed source.new ≡ R.has_failed source.old }
+    ensures write { result ≡ Err Write → W.has_failed sink.new ≡ true }
+    ensures write_unmarked { result ≢ Err Write → W.has_failed sink.new ≡ W.has_failed sink.old }
+
+    // Memory is wanted only at a frame of the log that announces a message.
+    ensures memory { result ≡ Err Memory → AsksWithin AsksForBoxes bus (R.remaining source.old) (R.remaining source.new) }
+
+    // The bytes that were taken pass the limit exactly where `TooLong` is answered, and those that pass it aren't handled.
+    ensures within { result ≢ Err TooLong → TakesWithin limit (R.remaining source.old) (R.remaining source.new) }
+    ensures at_limit { result ≡ Err TooLong → StopsAtLimit (MakesReport groups.now) limit bus
+        (R.remaining source.old) (R.remaining source.new) (W.held sink.old) (W.held sink.new) }
+
+    // What was written is passed on at the end, and before each read.
+    ensures flushed { OnOk result (W.is_flushed sink.new ≡ true) }
+    ensures flushed_at_reads { (result ≡ Err Read) ⊎ (result ≡ Err TooLong)
+        → W.is_flushed sink.old ≡ true → W.is_flushed sink.new ≡ true }
+
+    // What was written before a fault is a front of the report of the bytes that were read.
+    ensures prefix { OnErr result (StopsWithin (MakesReport groups.now) bus (R.remaining source.old) (R.remaining source.new) (W.held sink.old) (W.held sink.new)) }
+{
+    run_over(Report::new(alloc, groups), source, sink, bus, limit)
 }
 
 /// Writes an account of a log of at most `limit` bytes; the account has met no frame.
@@ -105,7 +167,13 @@ pub(crate) fn run_over<A: Account, R: Source, W: Sink>(
     ensures read_unmarked { result ≢ Err Read → R.has_failed source.new ≡ R.has_failed source.old }
     ensures write { result ≡ Err Write → W.has_failed sink.new ≡ true }
     ensures write_unmarked { result ≢ Err Write → W.has_failed sink.new ≡ W.has_failed sink.old }
-    ensures wants { result ≡ Err Memory → A.takes_memory }
+    ensures asked { result ≡ Err Memory → (subject : A.Subject) (output : Output) → ((name : List ℕ) → A.has_met subject name account [] output) → output.text ≡ []
+        → AsksWithin A.asks bus (R.remaining source.old) (R.remaining source.new) }
+    ensures within { result ≢ Err TooLong → TakesWithin limit (R.remaining source.old) (R.remaining source.new) }
+    ensures at_limit { result ≡ Err TooLong → (subject : A.Subject) (output : Output) → ((name : List ℕ) → A.has_met subject name account [] output) → output.text ≡ []
+        → StopsAtLimit (A.makes subject) limit bus (R.remaining source.old) (R.remaining source.new) (W.held sink.old) (W.held sink.new) }
+    ensures flushed { OnOk result (W.is_flushed sink.new ≡ true) }
+    ensures flushed_at_reads { (result ≡ Err Read) ⊎ (result ≡ Err TooLong) → W.is_flushed sink.old ≡ true → W.is_flushed sink.new ≡ true }
     ensures prefix { OnErr result ((subject : A.Subject) (output : Output) → ((name : List ℕ) → A.has_met subject name account [] output) → output.text ≡ []
         → StopsWithin (A.makes subject) bus (R.remaining source.old) (R.remaining source.new) (W.held sink.old) (W.held sink.new)) }
 {
@@ -128,7 +196,13 @@ fn read_pieces<A: Account, R: Source, W: Sink>(
     ensures read_unmarked { result ≢ Err Read → R.has_failed source.new ≡ R.has_failed source.old }
     ensures write { result ≡ Err Write → W.has_failed sink.new ≡ true }
     ensures write_unmarked { result ≢ Err Write → W.has_failed sink.new ≡ W.has_failed sink.old }
-    ensures wants { result ≡ Err Memory → A.takes_memory }
+    ensures asked { result ≡ Err Memory → (subject : A.Subject) (given : Option (List ℕ)) → HasTaken (A.has_met subject) given [] pieces.old (W.held sink.old) (W.held sink.old)
+        → AsksWithin A.asks given (R.remaining source.old) (R.remaining source.new) }
+    ensures within { result ≢ Err TooLong → TakesWithin limit (R.remaining source.old) (R.remaining source.new) }
+    ensures at_limit { result ≡ Err TooLong → (subject : A.Subject) (given : Option (List ℕ)) → HasTaken (A.has_met subject) given [] pieces.old (W.held sink.old) (W.held sink.old)
+        → StopsAtLimit (A.makes subject) limit given (R.remaining source.old) (R.remaining source.new) (W.held sink.old) (W.held sink.new) }
+    ensures flushed { OnOk result (W.is_flushed sink.new ≡ true) }
+    ensures flushed_at_reads { (result ≡ Err Read) ⊎ (result ≡ Err TooLong) → W.is_flushed sink.old ≡ true → W.is_flushed sink.new ≡ true }
     ensures prefix { OnErr result ((subject : A.Subject) (given : Option (List ℕ)) → HasTaken (A.has_met subject) given [] pieces.old (W.held sink.old) (W.held sink.old)
         → StopsWithin (A.makes subject) given (R.remaining source.old) (R.remaining source.new) (W.held sink.old) (W.held sink.new)) }
 {
@@ -165,7 +239,9 @@ fn take<A: Account, W: Sink>(
         → HasTaken (A.has_met subject) given taken pieces.old held (W.held sink.old) → WritesFront (A.makes subject) given (taken ++ piece.now) held (W.held sink.new)) }
     ensures write { result ≡ Err Write → W.has_failed sink.new ≡ true }
     ensures unmarked { result ≢ Err Write → W.has_failed sink.new ≡ W.has_failed sink.old }
-    ensures wants { result ≡ Err Memory → A.takes_memory }
+    ensures asked { result ≡ Err Memory → (subject : A.Subject) (given : Option (List ℕ)) (taken : List ℕ) (held : Option (List ℕ))
+        → HasTaken (A.has_met subject) given taken pieces.old held (W.held sink.old) → AsksAmong A.asks given (taken ++ piece.now) }
+    ensures flushed { OnOk result (W.is_flushed sink.new ≡ true) }
     ensures not_read { result ≢ Err Read }
     ensures not_long { result ≢ Err TooLong }
 {
@@ -184,7 +260,9 @@ fn finish<A: Account, W: Sink>(pieces: &mut Pieces<A>, sink: &mut W) -> Result<C
         → HasTaken (A.has_met subject) given taken pieces.old held (W.held sink.old) → WritesFront (A.makes subject) given taken held (W.held sink.new)) }
     ensures write { result ≡ Err Write → W.has_failed sink.new ≡ true }
     ensures unmarked { result ≢ Err Write → W.has_failed sink.new ≡ W.has_failed sink.old }
-    ensures wants { result ≡ Err Memory → A.takes_memory }
+    ensures asked { result ≡ Err Memory → (subject : A.Subject) (given : Option (List ℕ)) (taken : List ℕ) (held : Option (List ℕ))
+        → HasTaken (A.has_met subject) given taken pieces.old held (W.held sink.old) → AsksAmong A.asks given taken }
+    ensures flushed { OnOk result (W.is_flushed sink.new ≡ true) }
     ensures not_read { result ≢ Err Read }
     ensures not_long { result ≢ Err TooLong }
 {

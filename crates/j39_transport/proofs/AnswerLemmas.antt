@@ -11,11 +11,11 @@ use Rattle.j39_transport.specs.EventSteps.{Session, is_over}
 use Rattle.j39_transport.specs.Session.{SessionRecord}
 use Rattle.j39_transport.specs.Places.{Places, at, find, find_from}
 use Rattle.j39_transport.specs.FrameSteps.{TransportFrame, Announcement, Packet, ClearToSend, Acknowledgment, Abort, Other, transport_frame_of}
-use Rattle.j39_transport.specs.Steps.{AssemblerRecord, moves, packed, granted, closed, finished, with_place, state_after, state_without, without_broadcast, room, empty_state, told, told_at, answer, answer_by}
+use Rattle.j39_transport.specs.Steps.{SessionsRecord, moves, packed, granted, closed, finished, with_place, state_after, state_without, without_broadcast, room, empty_state, told, told_at, answer, answer_by}
 use Rattle.j39_transport.specs.Steps as steps
 use Rattle.j39_transport.specs.Answers as answers
 use Rattle.j39_transport.specs.Session as sessions
-use Rattle.j39_transport.specs.Stands.{full, aged, table_of, Stands, StandsFor}
+use Rattle.j39_transport.specs.Stands.{full, aged, table_of, AreKept, StandsFor}
 use Rattle.j39_transport.proofs.FrameFacts.{packet_facts, sends-others}
 use Rattle.j39_transport.proofs.ReadLemmas.{IsControl, Facts, read_is}
 use Rattle.j39_transport.proofs.MoveLemmas.{sent_over, session_in}
@@ -29,7 +29,7 @@ use Rattle.j39_transport.proofs.Tables.{lookup, directed_stands}
 use Rattle.j39_transport.proofs.AllKeys.{table_stands, session_of}
 use Rattle.j39_transport.proofs.StepLemmas.{broadcast_at, in_broadcast, packet_no_announcement}
 
-module _ (E : List Event) (f : FrameRecord) (a : AssemblerRecord) (h : Stands E a) where
+module _ (E : List Event) (f : FrameRecord) (a : SessionsRecord) (h : AreKept E a) where
   -- a message that lacks a packet still takes packets alone
   partial_sent : (k : Key) (g : ℕ) → IsPartial (E ++ Frame f ∷ []) (length E) k g → is_packet k f ≡ true
   partial_sent k g p =
@@ -120,7 +120,7 @@ looked_is s d k (Some x ∷ t) = cond_both (x.source == s && x.destination == d)
     (λ a. (0, omega arith, cond-true (x.source == s && x.destination == d) _ (lookup s d (aged (suc k) t)) a))
     (λ a. looked_later s d k (Some x) t (find_from s d (suc k) t) (cond-false (x.source == s && x.destination == d) (Some (full k x)) _ a) (looked_is s d (suc k) t))
 
-module _ (E : List Event) (f : FrameRecord) (a : AssemblerRecord) (h : Stands E a) where
+module _ (E : List Event) (f : FrameRecord) (a : SessionsRecord) (h : AreKept E a) where
   packs_broadcast : (s : ℕ) → is_packet (Broadcast s) f ≡ true → AnswersAt E f (told s 750000 (slice_index f.bytes 0) (drop 1 f.bytes) f.stamp (at a.broadcasts s))
   packs_broadcast s p =
       let l : s < 254 = ltb-true _ _ (packet_facts (Broadcast s) f p).key in

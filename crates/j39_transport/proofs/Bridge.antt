@@ -10,7 +10,7 @@ use Rattle.j39_transport.specs.Events.Event.{Frame}
 use Rattle.j39_transport.specs.EventSteps.{moved, moved_place, entry_of}
 use Rattle.j39_transport.specs.Session.{SessionRecord}
 use Rattle.j39_transport.specs.Places.{is_of}
-use Rattle.j39_transport.specs.Steps.{AssemblerRecord, moves, packed, granted, closed, finished, with_place, state_after}
+use Rattle.j39_transport.specs.Steps.{SessionsRecord, moves, packed, granted, closed, finished, with_place, state_after}
 use Rattle.j39_transport.specs.Steps as steps
 use Rattle.j39_transport.specs.Session as sessions
 use Rattle.j39_transport.specs.Stands.{full, entry_in}

@@ -140,7 +140,7 @@ cut_payload k m (f ∷ fs) l e =
 
 -- ---- as a broadcast
 
-broadcast_key : (m : MessageRecord) → IsLong m → is_key (as_broadcast m) ≡ true
+pub broadcast_key : (m : MessageRecord) → IsLong m → is_key (as_broadcast m) ≡ true
 broadcast_key m l = let s : m.source < 254 = l.message.source in lt-ltb _ _ s
 
 pub broadcast_carries : (m : MessageRecord) (frames : List FrameRecord) → IsLong m → AreCut (as_broadcast m) m frames → Carries (as_broadcast m) m frames

@@ -33,7 +33,7 @@ page_is raw group front s d e g f h k = let r : raw ≡ 469762048 + front * 6553
 source_is : (raw group front s d : ℕ) → raw ≡ transport_id group s d → group ≡ front * 256 → s < 256 → raw % 256 ≡ s
 source_is raw group front s d e g h = let r : raw ≡ 469762048 + front * 65536 + d * 256 + s = omega arith in omega arith
 
-ps_is : (raw group front s d : ℕ) → raw ≡ transport_id group s d → group ≡ front * 256 → s < 256 → d < 256 → ps_of raw ≡ d
+pub ps_is : (raw group front s d : ℕ) → raw ≡ transport_id group s d → group ≡ front * 256 → s < 256 → d < 256 → ps_of raw ≡ d
 ps_is raw group front s d e g h k = let r : raw ≡ 469762048 + front * 65536 + d * 256 + s = omega arith in omega arith
 
 pgn_from : (raw front : ℕ) → page_of raw ≡ 0 → pf_of raw ≡ front → nat_lt front 240 ≡ true → pgn_of raw ≡ front * 256

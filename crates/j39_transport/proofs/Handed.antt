@@ -6,7 +6,7 @@ use Rattle.j39_frame.specs.Frame.{FrameRecord}
 use Rattle.j39_transport.specs.Frames.{source_of, packets_for, names_message, goes}
 use Rattle.j39_transport.specs.Key.{Directed}
 use Rattle.j39_transport.specs.Reception.{ReceptionRecord, Reaction, quiet, granted_at, grants, asks_again, begun, delivers_message, goes_on, takes_packet, is_from, is_taken, takes_request, takes_data, takes_abort, takes_signal, limit_of, takes_tick}
-use Rattle.j39_transport.specs.Receiving.{ReceiverRecord, Answer, Heard, Tick, answer_in, said_to, recv_step, RecvStep}
+use Rattle.j39_transport.specs.Receiving.{ReceiverRecord, BoxedReceiver, HearStep, Answer, Heard, Tick, answer_in, said_to, recv_step, RecvStep}
 use Rattle.j39_transport.specs.Received.{AreJoined, requested, passed, packed, IsReceived, AreReceived, StandsFor, WereHanded, HasHeard}
 use Rattle.j39_transport.specs.Session.{opened, grown}
 use Rattle.j39_transport.specs.Signals.{Signal, RequestToSend, ClearToSend, Acknowledgment, Abort, Packet, said_between, said_in_control}
@@ -143,12 +143,12 @@ unfolding recv_step
 were_handed E r f now found answer e h = subst (λ (a : Answer). WereHanded r.own (E ++ f ∷ []) a.delivers) (sym e) (fair_frame E r f now found h).delivers
 
 -- a receiver that was handed a frame stands for one frame more
-pub has_heard : (old : ReceiverRecord) (f : FrameRecord) (now : ℕ) (answer : Answer) (new : ReceiverRecord)
-    → RecvStep old (Heard f) now answer new → HasHeard old f now answer new
+pub has_heard : (old : BoxedReceiver) (f : FrameRecord) (now : ℕ) (answer : Answer) (new : BoxedReceiver)
+    → HearStep old f now answer new → HasHeard old f now answer new
 unfolding recv_step
 has_heard old f now answer new s = record {
-  step = s;
-  stands = λ E h. subst (StandsFor (E ++ f ∷ [])) (sym s.after) (fair_frame E old f now s.found h).session;
+  takes = s;
+  stands = λ E h. subst (StandsFor (E ++ f ∷ [])) (sym s.step.after) (fair_frame E old.state f now s.step.found h).session;
 }
 
 -- one that let time pass stands for the same frames

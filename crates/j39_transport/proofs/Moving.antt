@@ -15,7 +15,7 @@ module _ (E : List Event) (e : Event) (s : Key) where
   none_since_new : (g q : ℕ) → length E < q → belongs s g (at (E ++ e ∷ []) q) ≡ false
   none_since_new g q h = past_belongs s g (E ++ e ∷ []) q (omega (arith, (grows E e s)))
 
-  opened_stands : announces s e ≡ true → IsSession (E ++ e ∷ []) s (opened e)
+  pub opened_stands : announces s e ≡ true → IsSession (E ++ e ∷ []) s (opened e)
   opened_stands a = record {
     start = length E;
     places = [];
@@ -158,7 +158,7 @@ module _ (E : List Event) (e : Event) (s : Key) where
         }
       ]
 
-  touched_stands : (x : Session) → IsSession E s x → announces s e ≡ false → is_over s e x ≡ false → is_numbered s (suc x.count) e ≡ false → IsSession (E ++ e ∷ []) s (touched s e x)
+  pub touched_stands : (x : Session) → IsSession E s x → announces s e ≡ false → is_over s e x ≡ false → is_numbered s (suc x.count) e ≡ false → IsSession (E ++ e ∷ []) s (touched s e x)
   touched_stands x h a o n =
       let l : h.start < length E = announced_within E s h.start h.open_by.announced in
       let w : last_of h.start h.places < length E = Links-within E s h.start h.places h.open_by.announced h.open_by.links in
@@ -185,7 +185,7 @@ module _ (E : List Event) (e : Event) (s : Key) where
       let j : at (E ++ e ∷ []) (length E) ≡ e = at_new E e in
       cc
 
-  grown_stands : (x : Session) → IsSession E s x → announces s e ≡ false → is_over s e x ≡ false → is_numbered s (suc x.count) e ≡ true → (suc x.count == x.packets_due) ≡ false
+  pub grown_stands : (x : Session) → IsSession E s x → announces s e ≡ false → is_over s e x ≡ false → is_numbered s (suc x.count) e ≡ true → (suc x.count == x.packets_due) ≡ false
       → IsSession (E ++ e ∷ []) s (grown s e x)
   grown_stands x h a o n m =
       let l : h.start < length E = announced_within E s h.start h.open_by.announced in

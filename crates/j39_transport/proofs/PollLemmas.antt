@@ -14,7 +14,7 @@ spaced_more [] f s h = tt
 spaced_more (g ∷ []) f s h = (h, tt)
 spaced_more (g ∷ e ∷ sent) f s h = (s.0, spaced_more (e ∷ sent) f s.1 h)
 
-next_after : (sent : List FrameRecord) (f : FrameRecord) → next_moment (sent ++ f ∷ []) ≡ f.stamp + gap
+pub next_after : (sent : List FrameRecord) (f : FrameRecord) → next_moment (sent ++ f ∷ []) ≡ f.stamp + gap
 next_after [] f = refl
 next_after (g ∷ []) f = refl
 next_after (g ∷ e ∷ sent) f = next_after (e ∷ sent) f

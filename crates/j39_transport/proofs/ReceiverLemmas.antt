@@ -67,7 +67,7 @@ open_asks m r now l h = cond_both (r.asks == 2) _ _ (Open m)
     (λ t. record { session_is = tt; delivers_is = refl; no_ack = λ a. a; can_say = pgn_fits m r.message.group l h.is_of.group_is })
     (λ t. open_grants m (record r { asks = r.asks + 1 }) now l h)
 
-one_more : (m : MessageRecord) (x : SessionRecord) (joined : List ℕ) (now : ℕ) → IsPart m x → joined ≡ packet_data m.bytes (x.count + 1) → IsOf m (grown now joined x)
+pub one_more : (m : MessageRecord) (x : SessionRecord) (joined : List ℕ) (now : ℕ) → IsPart m x → joined ≡ packet_data m.bytes (x.count + 1) → IsOf m (grown now joined x)
 one_more m x joined now h e =
     let f : x.count < x.packets = h.lacks in
     let p : x.packets ≡ packets_of m = h.is_of.packets_is in
@@ -82,7 +82,7 @@ one_more m x joined now h e =
       bytes_are = (λ i. h.is_of.bytes_are i ++ e i) ∙ (joined_more m.bytes x.count b ∙ ap (λ (k : ℕ). take (7 * k) (m.bytes ++ replicate 7 255)) n);
     }
 
-whole : (m : MessageRecord) (x : SessionRecord) → IsLong m → IsOf m x → x.count ≡ x.packets → message_of x ≡ m
+pub whole : (m : MessageRecord) (x : SessionRecord) → IsLong m → IsOf m x → x.count ≡ x.packets → message_of x ≡ m
 whole m x l h e =
     let p : x.packets ≡ packets_of m = h.packets_is in
     let n : length m.bytes ≤ 7 * x.count = omega arith in

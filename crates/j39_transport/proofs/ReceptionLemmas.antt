@@ -1,5 +1,5 @@
 -- What a tick does to a session.
-use Rattle.std.proofs.Common.{◌≡◌, ℕ, ◌+◌, ◌==◌, nat_lt, Option, Some, None, refl}
+use Rattle.std.proofs.Common.{◌≡◌, ℕ, ◌+◌, ◌==◌, nat_lt, Bool, true, false, ◌||◌, Option, Some, None, refl}
 use Rattle.std.proofs.lemmas.Bool.{cond_both}
 use Rattle.j39_transport.specs.Reception.{ReceptionRecord, Reaction, grants, asks_again, limit_of, takes_tick}
 
@@ -10,3 +10,8 @@ tick_delivers_nothing now None = refl
 tick_delivers_nothing now (Some r) = cond_both (nat_lt (r.message.last + limit_of r) now) _ _ (λ (x : Reaction). x.delivers ≡ None)
     (λ t. cond_both (r.asks == 2) _ _ (λ (x : Reaction). x.delivers ≡ None) (λ u. refl) (λ u. refl))
     (λ t. refl)
+
+-- a box that is there still, where a session has it or not
+pub box_again : (a l b : Bool) → (a || l) ≡ b → (a || l) ≡ (a || b)
+box_again true l b e = refl
+box_again false l b e = e

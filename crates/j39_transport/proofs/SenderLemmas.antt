@@ -97,7 +97,7 @@ pub record Hears (s : SenderRecord) (ack : Type 0) (r : SenderRecord) : Type 0 w
   pub idle_is : is_idle s.state ≡ false → is_idle r.state ≡ false
   pub done_is : (ack → ⊥) → is_done s.state ≡ false → is_done r.state ≡ false
 
-same : (s : SenderRecord) (ack : Type 0) → Hears s ack s
+pub same : (s : SenderRecord) (ack : Type 0) → Hears s ack s
 same s ack = record { message_is = refl; destination_is = refl; idle_is = λ h. h; done_is = λ n h. h }
 
 hears_cts : (s : SenderRecord) (count p now : ℕ) → Hears s ⊥ (cleared count p now s)

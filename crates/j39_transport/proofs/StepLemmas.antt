@@ -9,11 +9,11 @@ use Rattle.j39_transport.specs.Key.Key.{Broadcast, Directed}
 use Rattle.j39_transport.specs.Events.{Event, announces, sends, grants, ends, rivals, number, payload, size, packets, group, stamp}
 use Rattle.j39_transport.specs.Events.Event.{Frame, Forget}
 use Rattle.j39_transport.specs.EventSteps.{Session, Table, moved_place, is_request_to_send, directed_step, step, broadcast_step}
-use Rattle.j39_transport.specs.Stands.{IsTable, full, broadcast_in, entry_in, aged, table_of, Stands}
+use Rattle.j39_transport.specs.Stands.{IsTable, full, broadcast_in, entry_in, aged, table_of, AreKept}
 use Rattle.j39_transport.specs.Session.{SessionRecord}
 use Rattle.j39_transport.specs.Places.{Places, at, is_of, find, forgotten, without}
 use Rattle.j39_transport.specs.FrameSteps.{TransportFrame, Announcement, Packet, ClearToSend, Acknowledgment, Abort, Other, transport_frame_of}
-use Rattle.j39_transport.specs.Steps.{AssemblerRecord, packed, granted, closed, finished, with_place, state_after, state_without, without_broadcast, room, empty_state}
+use Rattle.j39_transport.specs.Steps.{SessionsRecord, packed, granted, closed, finished, with_place, state_after, state_without, without_broadcast, room, empty_state}
 use Rattle.j39_transport.specs.Session as sessions
 use Rattle.j39_transport.proofs.FrameFacts.{announcement_facts, packet_facts, sends-others}
 use Rattle.j39_transport.proofs.ReadLemmas.{IsControl, Facts, read_is}
@@ -83,7 +83,7 @@ both_closed s d g t u =
     ∙ (with_once d s (closed g) (map (on_pair s d (closed g)) t) (once_closed d s s d g t (once_of t u d s)) ∙ map_twice (on_pair s d (closed g)) (on_pair d s (closed g)) t)
 
 -- the directed messages after a reading
-pub directed_after : (f : FrameRecord) (r : TransportFrame) (a : AssemblerRecord) → Facts f r → Apart (aged 0 a.directed) → aged 0 (state_after a f.stamp r).directed ≡ directed_step (Frame f) (aged 0 a.directed)
+pub directed_after : (f : FrameRecord) (r : TransportFrame) (a : SessionsRecord) → Facts f r → Apart (aged 0 a.directed) → aged 0 (state_after a f.stamp r).directed ≡ directed_step (Frame f) (aged 0 a.directed)
 unfolding state_after finished aged payload size packets group stamp
 directed_after f (Announcement (Broadcast s) g n p) a h u =
     unchanged f a.directed
@@ -138,13 +138,13 @@ packed_step s f (Some x) h =
     ∙ (packed_is 0 750000 (slice_index f.bytes 0) f.stamp (drop 1 f.bytes) x
     ∙ (sym (moved_packet (Broadcast s) (Frame f) (full 0 x) a (ev_sends (Broadcast s) f ∙ h) (n.0 x.group) (n.1 x.group) n.2) ∙ sym (cond-false _ _ _ a)))
 
-control_broadcasts : (b s d g : ℕ) (f : FrameRecord) (a : AssemblerRecord) → IsControl b s d g f → map broadcast_in a.broadcasts ≡ broadcast_step (Frame f) (map broadcast_in a.broadcasts)
+control_broadcasts : (b s d g : ℕ) (f : FrameRecord) (a : SessionsRecord) → IsControl b s d g f → map broadcast_in a.broadcasts ≡ broadcast_step (Frame f) (map broadcast_in a.broadcasts)
 control_broadcasts b s d g f a c = quiet_broadcasts f (map broadcast_in a.broadcasts)
     (sym (ev_announces (Broadcast (source_of f.id)) f) ∙ no_opening b s d g f c (Broadcast (source_of f.id)))
     (sym (ev_sends (Broadcast (source_of f.id)) f) ∙ no_pack b s d g f c (Broadcast (source_of f.id)))
 
 -- the broadcasts after a reading
-pub broadcasts_after : (f : FrameRecord) (r : TransportFrame) (a : AssemblerRecord) → Facts f r → map broadcast_in (state_after a f.stamp r).broadcasts ≡ broadcast_step (Frame f) (map broadcast_in a.broadcasts)
+pub broadcasts_after : (f : FrameRecord) (r : TransportFrame) (a : SessionsRecord) → Facts f r → map broadcast_in (state_after a f.stamp r).broadcasts ≡ broadcast_step (Frame f) (map broadcast_in a.broadcasts)
 unfolding state_after payload size packets group stamp
 broadcasts_after f (Announcement (Broadcast s) g n p) a h =
     let q = announcement_facts (Broadcast s) f h.announces_it in
@@ -176,12 +176,12 @@ broadcasts_after f Other a h = quiet_broadcasts f (map broadcast_in a.broadcasts
 
 -- ---- one event more
 
-pub stands_new : Stands [] empty_state
+pub kept_new : AreKept [] empty_state
 unfolding aged
-stands_new = record { is = table_new }
+kept_new = record { is = table_new }
 
-pub stands_after : (E : List Event) (f : FrameRecord) (a : AssemblerRecord) → Stands E a → Stands (E ++ Frame f ∷ []) (state_after a f.stamp (transport_frame_of f))
-stands_after E f a h =
+pub kept_after : (E : List Event) (f : FrameRecord) (a : SessionsRecord) → AreKept E a → AreKept (E ++ Frame f ∷ []) (state_after a f.stamp (transport_frame_of f))
+kept_after E f a h =
     let x = broadcasts_after f (transport_frame_of f) a (read_is f) in
     let y = directed_after f (transport_frame_of f) a (read_is f) (are_apart E (aged 0 a.directed) h.is.directed) in
     record { is = subst (λ (t : Table). IsTable (E ++ Frame f ∷ []) t) (λ i. record { broadcasts = sym x i; directed = sym y i }) (table_more E (Frame f) (table_of a) h.is) }
@@ -221,8 +221,8 @@ broadcasts_forgotten t B = elim (cases_Bool (nat_lt t 254)) [
     ended y None = refl
     ended y (Some x) = moved_end (Broadcast t) (Forget t) x refl (and_from _ _ (eq-eqb t t refl) y)
 
-pub stands_forgotten : (E : List Event) (t : ℕ) (a : AssemblerRecord) → Stands E a → Stands (E ++ Forget t ∷ []) (state_without a t)
-stands_forgotten E t a h =
+pub kept_forgotten : (E : List Event) (t : ℕ) (a : SessionsRecord) → AreKept E a → AreKept (E ++ Forget t ∷ []) (state_without a t)
+kept_forgotten E t a h =
     let x = broadcasts_forgotten t a.broadcasts in
     let y = directed_forgotten t a.directed (are_apart E (aged 0 a.directed) h.is.directed) in
     record { is = subst (λ (T : Table). IsTable (E ++ Forget t ∷ []) T) (λ i. record { broadcasts = sym x i; directed = sym y i }) (table_more E (Forget t) (table_of a) h.is) }

@@ -3,6 +3,7 @@ pub mod Frames
 pub mod Events
 pub mod Assembly
 pub mod Answers
+pub mod Boxes
 pub mod EventSteps
 pub mod Session
 pub mod Places
@@ -19,6 +20,7 @@ pub mod Carries
 pub mod Cutting
 pub mod Broadcasting
 pub mod Polling
+pub mod Broadcasts
 pub mod Signals
 pub mod ShownSignal
 pub mod Sending
@@ -28,3 +30,4 @@ pub mod Receiving
 pub mod Received
 pub mod ShownReceiver
 pub mod Net
+pub mod Liveness

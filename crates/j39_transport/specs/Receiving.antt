@@ -1,6 +1,6 @@
 -- The receiver of directed transfers: what it does at each event (J1939-21, 5.10.3).
-use Rattle.std.specs.Prelude.{◌≡◌, ℕ, nat_lt, Bool, if◌then◌else◌, Option, Some, None}
-use Rattle.std.specs.Option.{option_map}
+use Rattle.std.specs.Prelude.{◌≡◌, ℕ, nat_lt, Bool, true, ◌||◌, if◌then◌else◌, Option, Some, None}
+use Rattle.std.specs.Option.{is_some, option_map}
 use Rattle.j39_frame.specs.Address.{null_address}
 use Rattle.j39_frame.specs.Frame.{FrameRecord}
 use Rattle.j39_transport.specs.Cutting.{ToSend}
@@ -62,3 +62,16 @@ pub record RecvStep (old : ReceiverRecord) (event : RecvEvent) (now : ℕ) (answ
   pub found : Bool
   pub after : new ≡ (recv_step old event now found).after
   pub answers : answer ≡ answer_in (recv_step old event now found)
+
+-- ---- its memory
+
+-- a receiver, and whether it has a box: room for a message, in use by its session or not
+pub record BoxedReceiver : Type 0 where
+  pub state : ReceiverRecord
+  pub has_box : Bool
+
+-- it takes the step of a frame: memory is found where it has a box; and it has one then, where it had one or has a session
+pub record HearStep (old : BoxedReceiver) (f : FrameRecord) (now : ℕ) (answer : Answer) (new : BoxedReceiver) : Type 0 where
+  pub step : RecvStep old.state (Heard f) now answer new.state
+  pub finds : old.has_box ≡ true → step.found ≡ true
+  pub box_is : new.has_box ≡ (is_some new.state.session || old.has_box)

@@ -1,6 +1,6 @@
 -- What a receiver of the code shows.
-use Rattle.std.specs.Prelude.{◌≡◌, ◌<◌, ◌≤◌, ℕ, Bool, true, false, Option, Some, None}
-use Rattle.std.specs.Option.{option_map}
+use Rattle.std.specs.Prelude.{◌≡◌, ◌<◌, ◌≤◌, ℕ, Bool, true, false, ◌||◌, Option, Some, None}
+use Rattle.std.specs.Option.{is_some, option_map}
 use Rattle.std.specs.declared.boxed.Box.{Box}
 use Rattle.std.specs.Global.{Global}
 use Rattle.j39_frame.specs.Pgn.{pgn_raw}
@@ -49,6 +49,10 @@ held_in o = option_map (λ b. b.value) o
 abbrev pub IsOpen : Option ReceptionRecord → Type 0
 IsOpen None = Unit {0}
 IsOpen (Some r) = r.message.count < r.message.packets
+
+-- whether there is a box: with the open session, or with the one last over
+abbrev pub has_box : Option ReceptionRecord → Option ReceptionRecord → Bool
+has_box o lent = is_some o || is_some lent
 
 abbrev pub message_in : Option ReceptionRecord → Option MessageRecord
 message_in o = option_map (λ r. message_of r.message) o

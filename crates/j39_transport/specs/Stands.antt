@@ -4,10 +4,11 @@ use Rattle.j39_transport.specs.Key.{Key}
 use Rattle.j39_transport.specs.Key.Key.{Broadcast, Directed}
 use Rattle.j39_transport.specs.Events.{Event, at, rivals, size, packets, stamp, belongs}
 use Rattle.j39_transport.specs.Assembly.{count_below, joined, OpenBy}
+use Rattle.j39_transport.specs.Boxes.{HasSpare}
 use Rattle.j39_transport.specs.EventSteps.{Session, Entry, Table}
 use Rattle.j39_transport.specs.Session.{SessionRecord}
 use Rattle.j39_transport.specs.Places.{Places}
-use Rattle.j39_transport.specs.Steps.{AssemblerRecord}
+use Rattle.j39_transport.specs.Steps.{AssemblerRecord, SessionsRecord}
 
 -- ---- what a session stands for
 
@@ -74,9 +75,14 @@ unfoldable pub aged : ℕ → Places → List (Option Entry)
 aged i [] = []
 aged i (p ∷ t) = entry_in i p ∷ aged (suc i) t
 
-abbrev pub table_of : AssemblerRecord → Table
+abbrev pub table_of : SessionsRecord → Table
 table_of a = record { broadcasts = map broadcast_in a.broadcasts; directed = aged 0 a.directed }
 
 -- the messages that are open after the events, and no others
-pub record Stands (E : List Event) (a : AssemblerRecord) : Type 0 where
+pub record AreKept (E : List Event) (a : SessionsRecord) : Type 0 where
   pub is : IsTable E (table_of a)
+
+-- and where a box lies unused after the events, the assembler has one
+pub record Stands (E : List Event) (a : AssemblerRecord) : Type 0 where
+  pub kept : AreKept E a.sessions
+  pub spare : HasSpare E → a.has_spare ≡ true

@@ -1,7 +1,9 @@
 //! Announcements: the one place where memory is taken, before anything changes.
-ghost use Rattle.std.specs.Prelude.{◌≡◌, ◌<◌, None, Some, IfOk, MatchResult, slice_set};
+ghost use Rattle.std.specs.Prelude.{◌≡◌, ◌<◌, false, None, Some, IfOk, OnErr, MatchResult, slice_set};
+ghost use Rattle.std.specs.Option.{is_some};
 ghost use Rattle.j39_frame.specs.Stamp.{stamp_micros};
-ghost use Rattle.j39_transport.specs.Steps.{room, with_announced};
+ghost use Rattle.j39_transport.specs.Places.{at, find, held_in};
+ghost use Rattle.j39_transport.specs.Steps.{room, spare_left, with_announced};
 ghost use Rattle.j39_transport.specs.ShownSession.{opened_by};
 
 use crate::announcement::Announcement;
@@ -9,6 +11,20 @@ use crate::session::Session;
 use crate::table::{PAIRS, Place, SOURCES, Table};
 use j39_frame::Stamp;
 use std::alloc::{AllocError, Global};
+
+/// Takes out the session at a place, or else that last lent.
+fn take_used<const N: usize>(table: &mut Table<N>, place: usize, lent: &mut Place) -> Place
+    requires place { place < N }
+    ensures table { table.new ≡ slice_set table.old place None }
+    ensures spare { is_some (held_in lent.new) ≡ spare_left (at table.old place) (is_some (held_in lent.old)) }
+    ensures none { held_in result ≡ None
+        → (at table.old place ≡ None) × (is_some (held_in lent.old) ≡ false) }
+{
+    match table.take(place) {
+        Some(session) => Some(session),
+        None => lent.take(),
+    }
+}
 
 /// Takes the session at a place, or that last lent, or memory for one, and begins it anew.
 #[tactic(auto, using(crate::proofs::TableLemmas::set_same))]
@@ -25,16 +41,18 @@ fn take_box<const N: usize>(
     ensures table { MatchResult result
         (λ _. table.new ≡ slice_set table.old place None)
         (λ _. table.new ≡ table.old) }
+    ensures spare { MatchResult result
+        (λ _. is_some (held_in lent.new) ≡ spare_left (at table.old place) (is_some (held_in lent.old)))
+        (λ _. is_some (held_in lent.new) ≡ is_some (held_in lent.old)) }
+    ensures lacked { OnErr result ((at table.old place ≡ None) × (is_some (held_in lent.old) ≡ false)) }
 {
-    let mut session = match table.take(place) {
-        Some(session) => session,
-        None => match lent.take() {
-            Some(session) => session,
-            None => boxed(alloc, announcement, stamp)?,
-        },
-    };
-    session.restart(announcement, stamp);
-    Ok(session)
+    match take_used(table, place, lent) {
+        Some(mut session) => {
+            session.restart(announcement, stamp);
+            Ok(session)
+        }
+        None => boxed(alloc, announcement, stamp),
+    }
 }
 
 /// A session in a box of its own. Only here a whole buffer is written.
@@ -59,10 +77,14 @@ pub(crate) fn announce_broadcast(
     stamp: Stamp,
 ) -> Result<(), AllocError>
     requires { source < 254 }
-    ensures { MatchResult result
+    ensures table { MatchResult result
         (λ _. table.new
         ≡ slice_set table.old source (Some (opened_by announcement (stamp_micros stamp))))
         (λ _. table.new ≡ table.old) }
+    ensures spare { MatchResult result
+        (λ _. is_some (held_in lent.new) ≡ spare_left (at table.old source) (is_some (held_in lent.old)))
+        (λ _. is_some (held_in lent.new) ≡ is_some (held_in lent.old)) }
+    ensures lacked { OnErr result ((at table.old source ≡ None) × (is_some (held_in lent.old) ≡ false)) }
 {
     let place = usize::from(source);
     let session = take_box(table, place, lent, alloc, announcement, stamp)?;
@@ -90,10 +112,16 @@ pub(crate) fn announce_directed(
     announcement: Announcement,
     stamp: Stamp,
 ) -> Result<(), AllocError>
-    ensures { MatchResult result
+    ensures table { MatchResult result
         (λ _. table.new
         ≡ with_announced source destination (opened_by announcement (stamp_micros stamp)) table.old)
         (λ _. table.new ≡ table.old) }
+    ensures spare { MatchResult result
+        (λ _. is_some (held_in lent.new)
+        ≡ spare_left (at table.old (room (find source destination table.old))) (is_some (held_in lent.old)))
+        (λ _. is_some (held_in lent.new) ≡ is_some (held_in lent.old)) }
+    ensures lacked { OnErr result ((at table.old (room (find source destination table.old)) ≡ None)
+        × (is_some (held_in lent.old) ≡ false)) }
 {
     let place = room(table.find(source, destination));
     let session = take_box(table, place, lent, alloc, announcement, stamp)?;

@@ -19,6 +19,16 @@ pub(crate) struct Announcement {
 }
 
 impl Announcement {
+    /// What stands in a buffer before its first message.
+    pub(crate) fn unused() -> Announcement {
+        Announcement {
+            key: Key::Broadcast(0),
+            group: Pgn::new(0).unwrap(),
+            size: 9,
+            packets: 2,
+        }
+    }
+
     /// What is announced; `None` where size, packets and group don't agree.
     pub(crate) fn new(key: Key, group: u32, size: u16, packets: u8) -> Option<Announcement>
         ensures known { IsSome result ↔ IsTrue (agree size packets group) }

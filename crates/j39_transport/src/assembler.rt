@@ -7,10 +7,11 @@ ghost use Rattle.j39_transport.specs.Frames.{source_of};
 ghost use Rattle.j39_transport.specs.Events.{Event};
 ghost use Rattle.j39_transport.specs.Events.Event.{Frame as Came, Forget};
 ghost use Rattle.j39_transport.specs.Answers.{IsAnnouncement, AnswersAt, AreOpenAfter, AreHeldAfter};
+ghost use Rattle.j39_transport.specs.Boxes.{WantsMemory};
 ghost use Rattle.j39_transport.specs.Stands.{Stands};
 ghost use Rattle.j39_transport.specs.FrameSteps.{transport_frame_of};
 ghost use Rattle.j39_transport.specs.Places.{held_in};
-ghost use Rattle.j39_transport.specs.Steps.{state_after, answer, IsAnnounced, empty_state, state_without, messages_open, bytes_held};
+ghost use Rattle.j39_transport.specs.Steps.{fed, answer, LacksBox, new_assembler, forgot, messages_open, bytes_held};
 ghost use Rattle.j39_transport.specs.Shown.{outcome_by, CanLend, outcome_of};
 
 use crate::message::{Fed, Message};
@@ -34,11 +35,13 @@ pub struct Assembler {
 }
 
 impl Model for Assembler {
+    ghost use Rattle.std.specs.Option.{is_some};
+    ghost use Rattle.j39_transport.specs.Places.{held_in};
     ghost use Rattle.j39_transport.specs.Steps.{AssemblerRecord};
 
     ghost Value = { AssemblerRecord };
 
-    ghost view = { λ a. a.sessions };
+    ghost view = { λ a. record { sessions = a.sessions; has_spare = is_some (held_in a.lent) } };
 }
 
 impl Assembler {
@@ -52,7 +55,7 @@ impl Assembler {
     }
 
     fn empty(alloc: Global) -> Assembler
-        ensures { result ≡ empty_state }
+        ensures { result ≡ new_assembler }
     {
         Assembler {
             alloc,
@@ -61,12 +64,14 @@ impl Assembler {
         }
     }
 
-    /// Takes the next frame. Memory is taken at an announcement alone, before anything changes:
-    /// after an error the same frame may be fed again.
+    /// Takes the next frame. Memory is taken at an announcement alone, where one more message is open
+    /// with it and no box lies unused, and before anything changes: after an error the same frame may
+    /// be fed again.
     pub fn feed(&mut self, frame: &Frame) -> Result<Fed<'_>, AllocError>
         ensures answer { IfOk result (λ fed. (E : List Event) → Stands E self.old
             → AnswersAt E frame.now (outcome_of fed)) }
         ensures refused { OnErr result (IsAnnouncement frame.now) }
+        ensures wanted { OnErr result ((E : List Event) → Stands E self.old → WantsMemory E frame.now) }
         ensures* after { sem 𝓛 (Rests the_row self.entry (λ n. MatchResult result
             (λ _. (E : List Event) → Stands E self.old → Stands (E ++ Came frame.now ∷ []) n)
             (λ _. n ≡ self.old))) }
@@ -75,13 +80,13 @@ impl Assembler {
     }
 
     /// Answers at once where a frame is of another group, which costs its identifier alone.
-    #[tactic(auto, unfolding(crate::specs::FrameSteps::transport_frame_of, crate::specs::Frames::group_of, crate::specs::Steps::state_after, crate::specs::Steps::answer))]
+    #[tactic(auto, unfolding(crate::specs::FrameSteps::transport_frame_of, crate::specs::Frames::group_of, crate::specs::Steps::state_after, crate::specs::Steps::answer, crate::specs::Steps::spare_after))]
     fn step(&mut self, frame: &Frame) -> Result<Fed<'_>, AllocError>
-        ensures answer { IfOk result (λ fed. outcome_of fed
-            ≡ answer self.old (source_of frame.now.id) frame.now.stamp (transport_frame_of frame.now)) }
-        ensures refused { OnErr result (IsAnnounced (transport_frame_of frame.now)) }
+        ensures answer { IfOk result (λ taken. outcome_of taken
+            ≡ answer self.old.sessions (source_of frame.now.id) frame.now.stamp (transport_frame_of frame.now)) }
+        ensures lacked { OnErr result (LacksBox self.old.sessions self.old.has_spare (transport_frame_of frame.now)) }
         ensures* after { sem 𝓛 (Rests the_row self.entry (λ n. MatchResult result
-            (λ _. n ≡ state_after self.old frame.now.stamp (transport_frame_of frame.now))
+            (λ _. n ≡ fed self.old frame.now.stamp (transport_frame_of frame.now))
             (λ _. n ≡ self.old))) }
     {
         if frame.id.is_transport_data() || frame.id.is_transport_control() {
@@ -96,11 +101,11 @@ impl Assembler {
     #[tactic(auto, unfolding(crate::specs::Frames::source_of))]
     #[inline(never)]
     fn hand_on(&mut self, frame: &Frame) -> Result<Fed<'_>, AllocError>
-        ensures answer { IfOk result (λ fed. outcome_of fed
-            ≡ answer self.old (source_of frame.now.id) frame.now.stamp (transport_frame_of frame.now)) }
-        ensures refused { OnErr result (IsAnnounced (transport_frame_of frame.now)) }
+        ensures answer { IfOk result (λ taken. outcome_of taken
+            ≡ answer self.old.sessions (source_of frame.now.id) frame.now.stamp (transport_frame_of frame.now)) }
+        ensures lacked { OnErr result (LacksBox self.old.sessions self.old.has_spare (transport_frame_of frame.now)) }
         ensures* after { sem 𝓛 (Rests the_row self.entry (λ n. MatchResult result
-            (λ _. n ≡ state_after self.old frame.now.stamp (transport_frame_of frame.now))
+            (λ _. n ≡ fed self.old frame.now.stamp (transport_frame_of frame.now))
             (λ _. n ≡ self.old))) }
     {
         let accepted = self
@@ -109,7 +114,7 @@ impl Assembler {
         Ok(lend(&self.lent, accepted, frame.id.source(), frame.stamp))
     }
 
-    /// Ends all messages of a source.
+    /// Ends all messages of a source, and gives their memory back.
     pub fn forget(&mut self, source: u8)
         ensures { (E : List Event) → Stands E self.old → Stands (E ++ Forget source ∷ []) self.new }
     {
@@ -117,14 +122,14 @@ impl Assembler {
     }
 
     fn leave_out(&mut self, source: u8)
-        ensures { self.new ≡ state_without self.old source }
+        ensures { self.new ≡ forgot self.old source }
     {
         self.sessions.forget(source);
     }
 
     /// How many messages are open, 0 to 270.
     pub fn open(&self) -> usize
-        ensures value { result ≡ messages_open self.now }
+        ensures value { result ≡ messages_open self.now.sessions }
         ensures few { result ≤ 270 }
         ensures after { (E : List Event) → Stands E self.now → AreOpenAfter E result }
     {
@@ -133,8 +138,8 @@ impl Assembler {
 
     /// Seven bytes for each packet appended in an open message.
     pub fn held(&self) -> usize
-        ensures value { result ≡ bytes_held self.now }
-        ensures bounded { result ≤ 1785 * messages_open self.now }
+        ensures value { result ≡ bytes_held self.now.sessions }
+        ensures bounded { result ≤ 1785 * messages_open self.now.sessions }
         ensures after { (E : List Event) → Stands E self.now → AreHeldAfter E result }
     {
         self.sessions.held()

@@ -1,5 +1,8 @@
 //! Laws about the definitions, each the contract of a function that does nothing.
-ghost use Rattle.j39_transport.specs.Net.{TransfersLaw};
+ghost use Rattle.j39_transport.specs.Liveness.{CompletesLaw, SenderWaitsLaw, ReceiverWaitsLaw};
+ghost use Rattle.j39_transport.specs.Liveness.{SenderRestsLaw, ReceiverRestsLaw, SenderLastsLaw, ReceiverLastsLaw};
+ghost use Rattle.j39_transport.specs.Broadcasts.{SendsAllLaw, IsHeardLaw};
+ghost use Rattle.j39_transport.specs.Net.{TransfersLaw, TransfersAloneLaw};
 ghost use Rattle.j39_transport.specs.Laws.{OneMessageLaw, AtPacketLaw, WholeOrNoneLaw, CountsLaw};
 ghost use Rattle.j39_transport.specs.Course.{GoesLaw, ReachesLaw, RunsLaw};
 
@@ -41,10 +44,44 @@ pub fn runs()
     ensures { RunsLaw }
 {}
 
-/// Over a bus that loses whatever frames, the messages that a receiver delivers are a subsequence of
-/// those handed to senders, each at most once, and each whose sender is done is among them. A
-/// controller starts its next sender to a receiver when the last one is over and the receiver is not
-/// busy.
+/// Over a bus that loses whatever frames, and on which third controllers send whatever frames, the
+/// messages of a source that a receiver delivers are a subsequence of those handed to its senders, each
+/// at most once, and each whose sender is done is among them. A controller starts its next sender to a
+/// receiver when the last one is over and the receiver has no session of it. Where no third sends,
+/// these are all the messages that the receiver delivers.
 pub fn transfers()
-    ensures { TransfersLaw }
+    ensures of_source { TransfersLaw }
+    ensures alone { TransfersAloneLaw }
+{}
+
+/// On a bus that loses nothing, where there is memory and the receiver is not late in its calls, a
+/// message is done and delivered after as many ticks of its sender as it has packets, and one more.
+pub fn completes()
+    ensures { CompletesLaw }
+{}
+
+/// Whatever came before, a sender that hears nothing more, each tick more than 1,250 ms after the one
+/// before, is done or has failed after as many ticks as its message has packets, and one more; and a
+/// receiver has no session after three. Fewer may not do, of either.
+pub fn rests()
+    ensures sender { SenderRestsLaw }
+    ensures receiver { ReceiverRestsLaw }
+    ensures sender_lasts { SenderLastsLaw }
+    ensures receiver_lasts { ReceiverLastsLaw }
+{}
+
+/// A broadcast that is polled at whatever moment first, and then each time when it asks to be, sends all
+/// its frames, 50 ms apart. Whatever came before, and whatever comes between them but frames of another
+/// broadcast of its source and a forget of that: with the last frame its message is whole.
+pub fn broadcasts()
+    ensures sends { SendsAllLaw }
+    ensures heard { IsHeardLaw }
+{}
+
+/// A sender waits 1,250 ms (T3) after its RTS and after the last granted packet, and 1,050 ms (T4) after
+/// a CTS of no packets: at a tick later than that it fails. A receiver waits 1,250 ms (T2) after a CTS
+/// and 750 ms (T1) after a packet: at a tick later than that it asks again or aborts.
+pub fn waits()
+    ensures sender { SenderWaitsLaw }
+    ensures receiver { ReceiverWaitsLaw }
 {}

@@ -31,16 +31,3 @@ pub use message::{Fed, Message};
 pub use progress::{SendEvent, SendState};
 pub use receiver::{Receiver, Reply};
 pub use sender::Sender;
-
-#[cfg(test)]
-mod assembler_tests;
-#[cfg(test)]
-mod controller_tests;
-#[cfg(test)]
-mod cutting_tests;
-#[cfg(test)]
-mod directed_tests;
-#[cfg(test)]
-mod loss_tests;
-#[cfg(test)]
-mod transfer_tests;

@@ -1,7 +1,7 @@
 //! Messages, and what an assembler answers.
 use j39_frame::{Pgn, Stamp};
 
-/// A message that came in packets.
+/// A message: put together of packets, or a frame of a group by itself.
 #[derive(Debug, Drop)]
 pub struct Message<'a> {
     /// The address that sent it, 0 to 253.

@@ -1,8 +1,9 @@
 //! Packets, handed to the open messages that they are of.
-ghost use Rattle.std.specs.Prelude.{◌≡◌, ◌<◌, ◌≤◌, ℕ, length, slice_set};
+ghost use Rattle.std.specs.Prelude.{◌≡◌, ◌<◌, ◌≤◌, ◌||◌, ℕ, length, slice_set};
+ghost use Rattle.std.specs.Option.{is_some};
 ghost use Rattle.j39_frame.specs.Stamp.{stamp_micros};
 ghost use Rattle.j39_transport.specs.Places.{at, held_in, find};
-ghost use Rattle.j39_transport.specs.Steps.{moves, packed, told, told_at, with_place};
+ghost use Rattle.j39_transport.specs.Steps.{is_whole, moves, packed, told, told_at, with_place};
 ghost use Rattle.j39_transport.specs.Shown.{shown_move, IsMove, outcome_by, CanLend};
 
 use crate::session::Session;
@@ -84,6 +85,8 @@ pub(crate) fn pack<const N: usize>(
     ensures told { (source : ℕ)
         → outcome_by result source (stamp_micros stamp) (held_in lent.new)
         ≡ told source limit number bytes.now (stamp_micros stamp) (at table.old place) }
+    ensures spare { is_some (held_in lent.new)
+        ≡ is_whole (told 0 limit number bytes.now (stamp_micros stamp) (at table.old place)) || is_some (held_in lent.old) }
 {
     let Some(session) = table.take(place) else {
         return Accepted::Ignored;
@@ -123,6 +126,9 @@ pub(crate) fn pack_directed(
         → outcome_by result from (stamp_micros stamp) (held_in lent.new)
         ≡ told_at (find source destination table.old)
         (told from 1250000 number bytes.now (stamp_micros stamp)) table.old }
+    ensures spare { is_some (held_in lent.new)
+        ≡ is_whole (told_at (find source destination table.old)
+        (told 0 1250000 number bytes.now (stamp_micros stamp)) table.old) || is_some (held_in lent.old) }
 {
     match table.find(source, destination) {
         Some(place) => pack(table, place, lent, DIRECTED_LIMIT, number, bytes, stamp),

@@ -1,8 +1,8 @@
 //! The receiving end of directed transfers (J1939-21, 5.10.3).
-ghost use Rattle.std.specs.Prelude.{◌≡◌, ◌↔◌, ◌∷◌, ◌++◌, [], IsTrue, IsSome, IfSome, Bool, List, None};
+ghost use Rattle.std.specs.Prelude.{◌≡◌, ◌↔◌, ◌∷◌, ◌++◌, [], IsTrue, IsSome, IfSome, IfOk, OnErr, Bool, true, false, List, None};
 ghost use Rattle.std.specs.Borrow.{sem};
 ghost use Rattle.std.specs.Io.BufRead.{Rests};
-ghost use Rattle.std.specs.Option.{option_map};
+ghost use Rattle.std.specs.Option.{is_some, option_map};
 ghost use Rattle.j39_frame.specs.Address.{IsAddress};
 ghost use Rattle.j39_frame.specs.Frame.{FrameRecord};
 ghost use Rattle.j39_frame.specs.Stamp.{stamp_micros};
@@ -10,7 +10,7 @@ ghost use Rattle.j39_transport.specs.Cutting.{to_send};
 ghost use Rattle.j39_transport.specs.Frames.{source_of};
 ghost use Rattle.j39_transport.specs.Key.Key.{Directed};
 ghost use Rattle.j39_transport.specs.Received.{StandsFor, WereHanded, HasHeard};
-ghost use Rattle.j39_transport.specs.Receiving.{said_to, RecvStep, Tick, Heard, recv_step, answer_in, result_of, new_receiver, partner_of};
+ghost use Rattle.j39_transport.specs.Receiving.{said_to, RecvStep, HearStep, Tick, Heard, recv_step, answer_in, result_of, new_receiver, partner_of};
 ghost use Rattle.j39_transport.specs.ShownSignal.{said, HasKey};
 ghost use Rattle.j39_transport.specs.ShownReceiver.{held_in, reacted, CanLend, answer_of, IsStamped};
 
@@ -19,7 +19,7 @@ use crate::message::Message;
 use crate::receiving::{self, Move, Slot};
 use crate::signal::{self, Signal};
 use j39_frame::{Frame, Id, NULL_ADDRESS, Stamp, is_address};
-use std::alloc::Global;
+use std::alloc::{AllocError, Global};
 use std::marker::Model;
 
 /// What a receiver answers to a frame.
@@ -39,18 +39,22 @@ pub struct Receiver {
     alloc: Global,
     own: u8,
     session: Slot,
-    /// The session last over: its message is lent from it, and the next RTS uses its box again.
+    /// The session last over: its message is lent from it, and the next RTS uses its box again. Or a
+    /// buffer in which no message was begun yet.
     lent: Slot,
 }
 
 impl Model for Receiver {
     ghost use Rattle.j39_frame.specs.Address.{IsAddress};
-    ghost use Rattle.j39_transport.specs.Receiving.{ReceiverRecord};
-    ghost use Rattle.j39_transport.specs.ShownReceiver.{held_in, IsOpen};
+    ghost use Rattle.j39_transport.specs.Receiving.{BoxedReceiver};
+    ghost use Rattle.j39_transport.specs.ShownReceiver.{has_box, held_in, IsOpen};
 
-    ghost Value = { ReceiverRecord };
+    ghost Value = { BoxedReceiver };
 
-    ghost view = { λ r. record { own = r.own; session = held_in r.session } };
+    ghost view = { λ r. record {
+      state = record { own = r.own; session = held_in r.session };
+      has_box = has_box (held_in r.session) (held_in r.lent);
+    } };
 
     ghost invariant = { λ r. IsAddress r.own × IsOpen (held_in r.session) };
 }
@@ -58,11 +62,12 @@ impl Model for Receiver {
 impl Receiver {
     ghost use Rattle.j39_transport.specs.contracts.receiver.Receiver.{the_row};
 
-    /// A receiver at an address, with no session; `None` above 253. It takes no memory.
+    /// A receiver at an address, with no session; `None` above 253. It takes no memory: that comes at
+    /// an RTS, and may be wanting there.
     pub fn new(alloc: Global, own: u8) -> Option<Receiver>
         ensures known { IsSome result ↔ IsAddress own }
-        ensures value { IfSome result (λ receiver. receiver ≡ new_receiver own) }
-        ensures stands { IfSome result (StandsFor []) }
+        ensures value { IfSome result (λ receiver. receiver ≡ record { state = new_receiver own; has_box = false }) }
+        ensures stands { IfSome result (λ receiver. StandsFor [] receiver.state) }
     {
         if !is_address(own) {
             return None;
@@ -75,13 +80,33 @@ impl Receiver {
         })
     }
 
-    /// Takes a frame of the bus, of whatever group, at a moment. Memory is taken at an RTS alone; where
-    /// it is refused, abort 2 is answered and nothing has changed.
+    /// A receiver at an address, with no session and with its buffer, 1.8 kB, taken at once: so no
+    /// call of it wants memory, and no RTS is answered by abort 2. `None` above 253, where nothing is
+    /// taken; an error where memory is refused.
+    pub fn with_buffer(alloc: Global, own: u8) -> Result<Option<Receiver>, AllocError>
+        ensures known { IfOk result (λ found. IsSome found ↔ IsAddress own) }
+        ensures value { IfOk result (λ found. IfSome found (λ receiver.
+            receiver ≡ record { state = new_receiver own; has_box = true })) }
+        ensures stands { IfOk result (λ found. IfSome found (λ receiver. StandsFor [] receiver.state)) }
+        ensures refused { OnErr result (IsAddress own) }
+    {
+        let Some(mut receiver) = Receiver::new(alloc, own) else {
+            return Ok(None);
+        };
+        receiver.lent = Some(receiving::boxed(alloc)?);
+        Ok(Some(receiver))
+    }
+
+    /// Takes a frame of the bus, of whatever group, at a moment. Memory is taken at an RTS alone, and
+    /// only by a receiver that has no buffer yet; where it is refused, abort 2 is answered and nothing
+    /// has changed.
     pub fn on(&mut self, frame: &Frame, now: Stamp) -> Reply<'_>
         ensures answer { (found : Bool)
-            × (answer_of result ≡ answer_in (recv_step self.old (Heard frame.now) (stamp_micros now) found)) }
-        ensures delivered { (E : List FrameRecord) → StandsFor E self.old
-            → WereHanded self.old.own (E ++ frame.now ∷ []) (answer_of result).delivers }
+            × (answer_of result ≡ answer_in (recv_step self.old.state (Heard frame.now) (stamp_micros now) found)) }
+        ensures boxed { self.old.has_box ≡ true
+            → answer_of result ≡ answer_in (recv_step self.old.state (Heard frame.now) (stamp_micros now) true) }
+        ensures delivered { (E : List FrameRecord) → StandsFor E self.old.state
+            → WereHanded self.old.state.own (E ++ frame.now ∷ []) (answer_of result).delivers }
         ensures stamp { IsStamped (stamp_micros now) result }
         ensures* after { sem 𝓛 (Rests the_row self.entry (λ n.
             HasHeard self.old frame.now (stamp_micros now) (answer_of result) n)) }
@@ -91,11 +116,11 @@ impl Receiver {
 
     #[tactic(auto, unfolding(crate::specs::Receiving::recv_step, crate::specs::Receiving::said_to, crate::specs::Frames::source_of))]
     fn hear(&mut self, frame: &Frame, now: Stamp) -> Reply<'_>
-        ensures answer { (found : Bool)
-            × (answer_of result ≡ answer_in (recv_step self.old (Heard frame.now) (stamp_micros now) found)) }
+        ensures answer { (found : Bool) × (self.old.has_box ≡ true → found ≡ true)
+            × (answer_of result ≡ answer_in (recv_step self.old.state (Heard frame.now) (stamp_micros now) found)) }
         ensures stamp { IsStamped (stamp_micros now) result }
         ensures* after { sem 𝓛 (Rests the_row self.entry (λ n.
-            RecvStep self.old (Heard frame.now) (stamp_micros now) (answer_of result) n)) }
+            HearStep self.old frame.now (stamp_micros now) (answer_of result) n)) }
     {
         let source = frame.id.source();
         let done = receiving::take_signal(
@@ -111,15 +136,19 @@ impl Receiver {
 
     /// Lets time pass, and answers the frame to send, if there is one: a CTS again, or abort 3.
     pub fn tick(&mut self, now: Stamp) -> Option<(Id, [u8; 8])>
-        ensures step { RecvStep self.old Tick (stamp_micros now) (record { sends = option_map to_send result; delivers = None }) self.new }
-        ensures stands { (E : List FrameRecord) → StandsFor E self.old → StandsFor E self.new }
+        ensures step { RecvStep self.old.state Tick (stamp_micros now)
+            (record { sends = option_map to_send result; delivers = None }) self.new.state }
+        ensures buffer { self.new.has_box ≡ self.old.has_box }
+        ensures stands { (E : List FrameRecord) → StandsFor E self.old.state → StandsFor E self.new.state }
     {
         self.wait(now)
     }
 
     #[tactic(auto, unfolding(crate::specs::Receiving::recv_step), using(crate::proofs::ReceptionLemmas::tick_delivers_nothing))]
     fn wait(&mut self, now: Stamp) -> Option<(Id, [u8; 8])>
-        ensures { RecvStep self.old Tick (stamp_micros now) (record { sends = option_map to_send result; delivers = None }) self.new }
+        ensures step { RecvStep self.old.state Tick (stamp_micros now)
+            (record { sends = option_map to_send result; delivers = None }) self.new.state }
+        ensures buffer { self.new.has_box ≡ self.old.has_box }
     {
         let to = partner(&self.session);
         match receiving::tick(&mut self.session, &mut self.lent, now) {
@@ -133,7 +162,7 @@ impl Receiver {
     /// Whether a session is open. A controller starts its next message to a receiver when this is
     /// false there.
     pub fn busy(&self) -> bool
-        ensures value { IsTrue result ↔ IsSome self.now.session }
+        ensures value { IsTrue result ↔ IsSome self.now.state.session }
     {
         self.session.is_some()
     }

@@ -1,9 +1,9 @@
 //! What an event does to the session of a receiver.
-ghost use Rattle.std.specs.Prelude.{◌≡◌, true, None};
-ghost use Rattle.std.specs.Option.{option_map};
+ghost use Rattle.std.specs.Prelude.{◌≡◌, ◌||◌, true, false, None, OnErr};
+ghost use Rattle.std.specs.Option.{is_some, option_map};
 ghost use Rattle.j39_frame.specs.Stamp.{stamp_micros};
 ghost use Rattle.j39_transport.specs.Reception.{takes_request, takes_data, takes_abort, takes_signal, takes_tick, is_taken};
-ghost use Rattle.j39_transport.specs.ShownReceiver.{stepped, IsStep, held_in, IsOpen, reacted, found_in, CanLend};
+ghost use Rattle.j39_transport.specs.ShownReceiver.{stepped, IsStep, held_in, IsOpen, has_box, reacted, found_in, CanLend};
 ghost use Rattle.j39_transport.specs.ShownSession.{key_in, opened_by};
 ghost use Rattle.j39_transport.specs.ShownSignal.{said, HasKey};
 
@@ -12,7 +12,7 @@ use crate::key::Key;
 use crate::reception::{Reception, Step};
 use crate::signal::Signal;
 use j39_frame::Stamp;
-use std::alloc::Global;
+use std::alloc::{AllocError, Global};
 
 /// The session of a receiver with its buffer, or none.
 pub(crate) type Slot = Option<Box<Reception>>;
@@ -40,6 +40,7 @@ fn settle(slot: &mut Slot, lent: &mut Slot, session: Box<Reception>, step: Step)
     requires step { IsStep step session.value }
     ensures does { reacted result (held_in slot.new) (held_in lent.new) ≡ stepped step session.value }
     ensures found { found_in result ≡ true }
+    ensures buffer { has_box (held_in slot.new) (held_in lent.new) ≡ true }
     ensures open { IsOpen (held_in slot.new) }
     ensures lends { CanLend result (held_in lent.new) }
 {
@@ -77,6 +78,7 @@ fn take_data(
     ensures does { reacted result (held_in slot.new) (held_in lent.new)
         ≡ takes_data source number joined.now (stamp_micros now) (held_in slot.old) }
     ensures found { found_in result ≡ true }
+    ensures buffer { has_box (held_in slot.new) (held_in lent.new) ≡ has_box (held_in slot.old) (held_in lent.old) }
     ensures open { IsOpen (held_in slot.new) }
     ensures lends { CanLend result (held_in lent.new) }
 {
@@ -101,6 +103,7 @@ fn take_abort(slot: &mut Slot, lent: &mut Slot, source: u8, pgn: u32) -> Move
     ensures does { reacted result (held_in slot.new) (held_in lent.new)
         ≡ takes_abort source pgn (held_in slot.old) }
     ensures found { found_in result ≡ true }
+    ensures buffer { has_box (held_in slot.new) (held_in lent.new) ≡ has_box (held_in slot.old) (held_in lent.old) }
     ensures open { IsOpen (held_in slot.new) }
     ensures lends { CanLend result (held_in lent.new) }
 {
@@ -127,7 +130,27 @@ fn is_taken(slot: &Slot, source: u8) -> bool
     }
 }
 
-/// An RTS: the one place where memory is taken.
+/// A buffer for a message: the one place where memory is taken.
+pub(crate) fn boxed(alloc: Global) -> Result<Box<Reception>, AllocError> {
+    Ok(Box::new(alloc, Reception::unused())?)
+}
+
+/// The buffer of the open session, or of the one last over, or memory for one.
+fn take_box(slot: &mut Slot, lent: &mut Slot, alloc: Global) -> Result<Box<Reception>, AllocError>
+    ensures open { OnErr result (held_in slot.new ≡ held_in slot.old) }
+    ensures buffer { OnErr result (has_box (held_in slot.new) (held_in lent.new) ≡ false) }
+    ensures lacked { OnErr result (has_box (held_in slot.old) (held_in lent.old) ≡ false) }
+{
+    match slot.take() {
+        Some(session) => Ok(session),
+        None => match lent.take() {
+            Some(session) => Ok(session),
+            None => boxed(alloc),
+        },
+    }
+}
+
+/// An RTS: with a buffer at hand, no memory is wanted.
 #[tactic(auto, unfolding(crate::specs::Reception::takes_request, crate::specs::Reception::grants, crate::specs::Reception::begun, crate::specs::Reception::granted_at))]
 fn take_request(
     slot: &mut Slot,
@@ -140,6 +163,9 @@ fn take_request(
     requires { IsOpen (held_in slot.old) }
     ensures does { reacted result (held_in slot.new) (held_in lent.new)
         ≡ takes_request (opened_by announcement (stamp_micros now)) most (stamp_micros now) (found_in result) (held_in slot.old) }
+    ensures finds { has_box (held_in slot.old) (held_in lent.old) ≡ true → found_in result ≡ true }
+    ensures buffer { has_box (held_in slot.new) (held_in lent.new)
+        ≡ is_some (held_in slot.new) || has_box (held_in slot.old) (held_in lent.old) }
     ensures open { IsOpen (held_in slot.new) }
     ensures lends { CanLend result (held_in lent.new) }
 {
@@ -147,16 +173,9 @@ fn take_request(
     if is_taken(slot, announcement.key.source()) {
         return Move::Says(Signal::Abort(BUSY, group));
     }
-    let kept = match slot.take() {
-        Some(session) => Some(session),
-        None => lent.take(),
-    };
-    let mut session = match kept {
-        Some(session) => session,
-        None => match Box::new(alloc, Reception::new(announcement, most, now)) {
-            Ok(session) => session,
-            Err(_) => return Move::Refused(Signal::Abort(NO_RESOURCES, group)),
-        },
+    let mut session = match take_box(slot, lent, alloc) {
+        Ok(session) => session,
+        Err(_) => return Move::Refused(Signal::Abort(NO_RESOURCES, group)),
     };
     session.restart(announcement, most, now);
     let signal = session.grant(now);
@@ -165,7 +184,7 @@ fn take_request(
 }
 
 /// What is said under a key: from its source to the receiver.
-#[tactic(auto, unfolding(crate::specs::Reception::takes_signal))]
+#[tactic(auto, unfolding(crate::specs::Reception::takes_signal), using(crate::proofs::ReceptionLemmas::box_again))]
 pub(crate) fn take_signal(
     slot: &mut Slot,
     lent: &mut Slot,
@@ -178,6 +197,9 @@ pub(crate) fn take_signal(
     requires key { HasKey (key_in key) signal }
     ensures does { reacted result (held_in slot.new) (held_in lent.new)
         ≡ takes_signal (key_in key) (option_map said signal) (stamp_micros now) (found_in result) (held_in slot.old) }
+    ensures finds { has_box (held_in slot.old) (held_in lent.old) ≡ true → found_in result ≡ true }
+    ensures buffer { has_box (held_in slot.new) (held_in lent.new)
+        ≡ is_some (held_in slot.new) || has_box (held_in slot.old) (held_in lent.old) }
     ensures open { IsOpen (held_in slot.new) }
     ensures lends { CanLend result (held_in lent.new) }
 {
@@ -201,6 +223,7 @@ pub(crate) fn tick(slot: &mut Slot, lent: &mut Slot, now: Stamp) -> Move
     requires { IsOpen (held_in slot.old) }
     ensures does { reacted result (held_in slot.new) (held_in lent.new)
         ≡ takes_tick (stamp_micros now) (held_in slot.old) }
+    ensures buffer { has_box (held_in slot.new) (held_in lent.new) ≡ has_box (held_in slot.old) (held_in lent.old) }
     ensures open { IsOpen (held_in slot.new) }
     ensures lends { CanLend result (held_in lent.new) }
 {

@@ -61,21 +61,18 @@ impl Model for Reception {
 }
 
 impl Reception {
-    /// The session of a message, with nothing granted yet.
-    #[tactic(auto, unfolding(crate::specs::Reception::begun))]
-    pub(crate) fn new(announcement: Announcement, most: u8, now: Stamp) -> Reception
-        ensures { result ≡ begun (opened_by announcement (stamp_micros now)) most }
-    {
+    /// A buffer in which no message was begun yet.
+    pub(crate) fn unused() -> Reception {
         Reception {
-            message: Session::new(announcement, now),
-            most: most_packets(most),
+            message: Session::new(Announcement::unused(), Stamp::new(0).unwrap()),
+            most: 1,
             granted: 0,
             asks: 0,
             fresh: true,
         }
     }
 
-    /// Begins another message in the same buffer.
+    /// Begins a message in this buffer.
     #[tactic(auto, unfolding(crate::specs::Reception::begun))]
     pub(crate) fn restart(&mut self, announcement: Announcement, most: u8, now: Stamp)
         ensures { self.new ≡ begun (opened_by announcement (stamp_micros now)) most }

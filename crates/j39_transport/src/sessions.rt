@@ -1,8 +1,9 @@
 //! All open messages.
-ghost use Rattle.std.specs.Prelude.{◌≡◌, ◌≤◌, ◌*◌, ◌+◌, ℕ, length, sum_by, IfOk, OnErr, MatchResult};
+ghost use Rattle.std.specs.Prelude.{◌≡◌, ◌≤◌, ◌*◌, ◌+◌, ◌||◌, ℕ, false, None, length, sum_by, IfOk, OnErr, MatchResult};
+ghost use Rattle.std.specs.Option.{is_some};
 ghost use Rattle.j39_frame.specs.Stamp.{stamp_micros};
 ghost use Rattle.j39_transport.specs.Places.{held_in};
-ghost use Rattle.j39_transport.specs.Steps.{announced, after_packet, answer_to_packet, state_after, answer, state_without, without_broadcast, empty_state, IsAnnounced, messages_open, bytes_held};
+ghost use Rattle.j39_transport.specs.Steps.{announced, after_packet, answer_to_packet, state_after, answer, state_without, without_broadcast, empty_state, place_for, spare_left, spare_after, is_whole, LacksBox, messages_open, bytes_held};
 ghost use Rattle.j39_transport.specs.ShownSession.{key_in, IsKey, opened_by};
 ghost use Rattle.j39_transport.specs.ShownFrame.{shown_frame, HasAddresses};
 ghost use Rattle.j39_transport.specs.Shown.{outcome_by, CanLend};
@@ -27,9 +28,9 @@ pub(crate) struct Sessions {
 }
 
 impl Model for Sessions {
-    ghost use Rattle.j39_transport.specs.Steps.{AssemblerRecord};
+    ghost use Rattle.j39_transport.specs.Steps.{SessionsRecord};
 
-    ghost Value = { AssemblerRecord };
+    ghost Value = { SessionsRecord };
 
     ghost view = { λ s. record { broadcasts = s.broadcasts; directed = s.directed } };
 }
@@ -45,7 +46,7 @@ impl Sessions {
     }
 
     /// Takes what a frame says. A message that is whole stands in `lent` then.
-    #[tactic(auto, unfolding(crate::specs::Steps::state_after, crate::specs::Steps::answer))]
+    #[tactic(auto, unfolding(crate::specs::Steps::state_after, crate::specs::Steps::answer, crate::specs::Steps::spare_after))]
     pub(crate) fn accept(
         &mut self,
         lent: &mut Place,
@@ -58,10 +59,14 @@ impl Sessions {
             → outcome_by a source (stamp_micros stamp) (held_in lent.new)
             ≡ answer self.old source (stamp_micros stamp) (shown_frame frame.entry)) }
         ensures lends { IfOk result (λ a. CanLend a (held_in lent.new)) }
-        ensures refused { OnErr result (IsAnnounced (shown_frame frame.entry)) }
+        ensures lacked { OnErr result (LacksBox self.old (is_some (held_in lent.old)) (shown_frame frame.entry)) }
         ensures after { MatchResult result
             (λ _. self.new ≡ state_after self.old (stamp_micros stamp) (shown_frame frame.entry))
             (λ _. self.new ≡ self.old) }
+        ensures spare { MatchResult result
+            (λ _. is_some (held_in lent.new)
+            ≡ spare_after self.old (is_some (held_in lent.old)) (stamp_micros stamp) (shown_frame frame.entry))
+            (λ _. is_some (held_in lent.new) ≡ is_some (held_in lent.old)) }
     {
         match frame {
             TransportFrame::Announcement(announcement) => {
@@ -97,10 +102,16 @@ impl Sessions {
         stamp: Stamp,
     ) -> Result<(), AllocError>
         requires { IsKey announcement.key }
-        ensures { MatchResult result
+        ensures after { MatchResult result
             (λ _. self.new ≡ announced self.old (key_in announcement.key)
             (opened_by announcement (stamp_micros stamp)))
             (λ _. self.new ≡ self.old) }
+        ensures spare { MatchResult result
+            (λ _. is_some (held_in lent.new)
+            ≡ spare_left (place_for self.old (key_in announcement.key)) (is_some (held_in lent.old)))
+            (λ _. is_some (held_in lent.new) ≡ is_some (held_in lent.old)) }
+        ensures lacked { OnErr result ((place_for self.old (key_in announcement.key) ≡ None)
+            × (is_some (held_in lent.old) ≡ false)) }
     {
         match announcement.key {
             Key::Broadcast(s) => {
@@ -128,6 +139,9 @@ impl Sessions {
         ensures answer { (source : ℕ)
             → outcome_by result source (stamp_micros stamp) (held_in lent.new)
             ≡ answer_to_packet self.old source (stamp_micros stamp) (key_in key) number bytes.now }
+        ensures spare { is_some (held_in lent.new)
+            ≡ is_whole (answer_to_packet self.old 0 (stamp_micros stamp) (key_in key) number bytes.now)
+            || is_some (held_in lent.old) }
     {
         match key {
             Key::Broadcast(s) => {

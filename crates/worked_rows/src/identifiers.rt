@@ -19,6 +19,19 @@ fn id_fields(rt: HostRuntime) -> Result<(), Fail> {
             "",
             0,
         ),
+        // PF 239 is the last that has a destination, 240 the first whose PS belongs to the group.
+        (
+            "18EF2103",
+            "priority 6 pgn 61184 destination 33 source 3\n",
+            "",
+            0,
+        ),
+        (
+            "18F02103",
+            "priority 6 pgn 61473 destination - source 3\n",
+            "",
+            0,
+        ),
         ("20000000", "", "j1939: bad value for HEX\n", 2),
     ];
     for (hex, out, err, status) in rows {

@@ -24,6 +24,8 @@ mod nodes;
 #[cfg(test)]
 mod support;
 #[cfg(test)]
+mod tables;
+#[cfg(test)]
 mod transfers;
 #[cfg(test)]
 mod values;

@@ -13,5 +13,5 @@ same_answer node address node' address' bus file r e1 e2 given =
 
 pub returns-clause-answer : goal.returns-clause-answer
 returns-clause-answer c node address is_node is_address =
-    same_answer _ _ node address _ _ c.task_of.result (same_text _ _ node c.in_ok-name.ensures.ok is_node) (same_text _ _ address c.in_ok-address.ensures.ok is_address)
+    same_answer _ _ node address _ _ c.task_of.result (same_text _ _ node c.in-Ok.ensures.ok is_node) (same_text _ _ address c.in-Ok-required.ensures.ok is_address)
     c.task_of.ensures.answer

@@ -42,4 +42,4 @@ returns c =
     let has_cut = more with_name cut_app _ _ _ has_name c.in_ok-cut.ensures.app c.in_ok-line-4.ensures in
     let has_nodes = more with_cut nodes_app _ _ _ has_cut c.in_ok-nodes.ensures.app c.in_ok-line-5.ensures in
     let has_answer = more with_nodes answer_app _ _ _ has_nodes c.in_ok-answer.ensures.app c.in_ok-line-6.ensures in
-    IfOk-weaker c.with_command-7.result _ _ (λ _ added. more with_answer groups_app _ _ _ has_answer c.command-7.ensures.app added) c.with_command-7.ensures
+    IfOk-weaker c.with_command-7.result _ _ (λ _ added. more with_answer groups_app _ _ _ has_answer c.in_ok-groups.ensures.app added) c.with_command-7.ensures

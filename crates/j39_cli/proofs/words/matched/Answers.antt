@@ -1,6 +1,7 @@
 -- clap was told the whole command line.
-use Rattle.std.proofs.Common.{◌∙◌, ap, map, subst}
-use Rattle.clap.specs.Words.{App, HasMatchesOf, takes}
+use Rattle.std.proofs.Common.{◌≡◌, ◌∙◌, [], ap, map, subst}
+use Rattle.clap.specs.Words.{App, HasMatchesOf, fault_of, is_simple_and_free, takes}
+use Rattle.j39_cli.proofs.TakenLemmas.{line_is_free}
 use Rattle.j39_cli.proofs.words.matched.Goals as goal
 
 pub returns-in-Ok-try_get_matches_from-clause-ok : goal.returns-in-Ok-try_get_matches_from-clause-ok
@@ -11,3 +12,8 @@ returns-in-Ok-try_get_matches_from-clause-ok g c =
 pub returns-in-Err-clause-err : goal.returns-in-Err-clause-err
 returns-in-Err-clause-err g c = λ taken. c.fault_of.ensures (c.in-Err.ensures.passes
     (ap (λ (a : App). takes a (map g.S.AsStr.text c.args.words.now)) c.in-Ok.ensures ∙ taken))
+
+pub returns-in-Ok-try_get_matches_from-clause-faultless : goal.returns-in-Ok-try_get_matches_from-clause-faultless
+returns-in-Ok-try_get_matches_from-clause-faultless g c =
+    subst (λ (a : App). fault_of a (map g.S.AsStr.text c.args.words.now) ≡ []) c.in-Ok.ensures
+    (c.in-Ok-try_get_matches_from.ensures.kinds (ap (λ (a : App). is_simple_and_free a) c.in-Ok.ensures ∙ line_is_free))

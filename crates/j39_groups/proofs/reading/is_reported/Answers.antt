@@ -3,13 +3,12 @@ use Rattle.std.proofs.Common.{◌==◌, ap, sym, ◌∙◌}
 use Rattle.std.specs.List.{list_any}
 use Rattle.j39_frame.specs.Pgn.{pgn_raw}
 use Rattle.j39_groups.specs.CodeRows.{row_record}
-use Rattle.j39_groups.specs.Readings.{is_reported_group}
-use Rattle.j39_groups.proofs.TableLemmas.{list_any-seen}
+use Rattle.j39_groups.proofs.TableLemmas.{list_any-seen, listed_is_reported_built_in}
 use Rattle.j39_groups.proofs.reading.is_reported.Goals as goal
 
 pub returns-then-may_be_listed : goal.returns-then-may_be_listed
-unfolding is_reported_group
 returns-then-may_be_listed c =
     let pgn = pgn_raw c.args.pgn in
     (rw c.raw-raw.ensures.value at c.has_group.ensures)
     ∙ sym (list_any-seen row_record (λ row. row.pgn == pgn) c.rows.result.now) ∙ ap (list_any (λ row. row.pgn == pgn)) c.rows.ensures.table
+    ∙ listed_is_reported_built_in pgn

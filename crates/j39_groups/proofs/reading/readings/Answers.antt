@@ -5,12 +5,12 @@ use Rattle.std.specs.List.{flat_map}
 use Rattle.std.proofs.lemmas.List.Folds.{flat_map-map}
 use Rattle.j39_frame.specs.Pgn.{pgn_raw}
 use Rattle.j39_groups.specs.CodeRows.{row_record}
-use Rattle.j39_groups.specs.Readings.{readings_of, readings_at}
+use Rattle.j39_groups.specs.Readings.{readings_in, readings_at}
 use Rattle.j39_groups.proofs.TableLemmas.{filter-seen}
 use Rattle.j39_groups.proofs.reading.readings.Goals as goal
 
 pub returns : goal.returns
-unfolding readings_of
+unfolding readings_in
 returns c =
     let pgn = pgn_raw c.args.pgn in
     let rows = c.rows.result.now in

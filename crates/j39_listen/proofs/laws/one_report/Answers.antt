@@ -6,7 +6,7 @@ pub returns-clause-one_at_a_frame : goal.returns-clause-one_at_a_frame
 returns-clause-one_at_a_frame c = heard_at_unique
 
 pub returns-clause-heard : goal.returns-clause-heard
-returns-clause-heard c F = heard_below_unique F (length F)
+returns-clause-heard c groups F = heard_below_unique groups F (length F)
 
 pub returns-clause-report : goal.returns-clause-report
 returns-clause-report c = report_unique

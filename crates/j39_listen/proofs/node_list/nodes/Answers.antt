@@ -9,3 +9,9 @@ returns-clause-nodes g c = if_ok c.run_over.result _ _ (λ counts writes. writes
 
 pub returns-clause-prefix : goal.returns-clause-prefix
 returns-clause-prefix g c = on_err_from c.run_over.result _ _ (λ stops. stops tt (nodes_of []) (λ name. c.new.ensures) nodes_text-none) c.run_over.ensures.prefix
+
+pub returns-clause-memory : goal.returns-clause-memory
+returns-clause-memory g c = λ fails. (c.run_over.ensures.asked fails tt (nodes_of []) (λ name. c.new.ensures) nodes_text-none).among.asked
+
+pub returns-clause-at_limit : goal.returns-clause-at_limit
+returns-clause-at_limit g c = λ too_long. c.run_over.ensures.at_limit too_long tt (nodes_of []) (λ name. c.new.ensures) nodes_text-none

@@ -1,3 +1,4 @@
+use Rattle.j39_listen.proofs.AskLemmas.{asks_last_line}
 use Rattle.j39_listen.proofs.PieceLemmas.{each_reads_last, stops_last_line}
 use Rattle.j39_listen.proofs.pieces.take_last.Goals as goal
 
@@ -8,3 +9,7 @@ returns-in-Some-clause-reads g c =
 pub returns-in-Some-clause-stops : goal.returns-in-Some-clause-stops
 returns-in-Some-clause-stops g c = λ fails subject.
     stops_last_line (g.A.Account.has_met subject) (g.A.Account.makes subject) c.args.splitter.now _ _ c.args.progress.now _ _ c.in-Some.ensures.line c.read.ensures (c.read-in-Some.ensures.stops fails subject)
+
+pub returns-in-Some-clause-asked : goal.returns-in-Some-clause-asked
+returns-in-Some-clause-asked g c = λ fails subject.
+    asks_last_line (g.A.Account.has_met subject) g.A.Account.asks c.args.splitter.now _ _ c.args.progress.now c.in-Some.ensures.line c.read.ensures (c.read-in-Some.ensures.asked fails subject)

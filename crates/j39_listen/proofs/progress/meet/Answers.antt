@@ -2,6 +2,7 @@
 use Rattle.std.proofs.Common.{ap, sym, ◌∙◌}
 use Rattle.std.specs.Prelude.{Err}
 use Rattle.std.specs.Str.{bytes_eq}
+use Rattle.j39_listen.proofs.AskLemmas.{asks_frame}
 use Rattle.j39_listen.proofs.LineLemmas.{known_bus, meets_blank, meets_frame, meets_frame_elsewhere, meets_other, meets_unread, stops_frame}
 use Rattle.j39_listen.proofs.PieceLemmas.{same_fault}
 use Rattle.j39_listen.proofs.progress.meet.Goals as goal
@@ -34,3 +35,10 @@ returns-in-Unread-clause-met g c = λ subject. rw c.in-Unread.is (λ spelling. m
 
 pub returns-in-Blank-clause-met : goal.returns-in-Blank-clause-met
 returns-in-Blank-clause-met g c = λ subject. rw c.in-Blank.is (λ spelling. meets_blank (g.A.Account.has_met subject) _ c.args.account.now _)
+
+pub returns-in-Err-clause-asked : goal.returns-in-Err-clause-asked
+returns-in-Err-clause-asked g c = λ fails subject.
+    rw c.in-Frame.is (λ spelling.
+    asks_frame (g.A.Account.has_met subject) g.A.Account.asks c.in-Frame.name.now c.in-Frame.frame _ c.in-Some.bus c.args.account.now
+    (known_bus _ _ _ c.in-Some.is (c.know.ensures spelling.1.parts.bus_is)) (ap (bytes_eq c.in-Frame.name.now) (sym c.bytes.ensures.value) ∙ sym c.eq.ensures ∙ c.if-eq.true)
+    (c.in-Err.ensures.asked (ap Err (same_fault _ _ fails)) subject))

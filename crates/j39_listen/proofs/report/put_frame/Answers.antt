@@ -7,14 +7,14 @@ use Rattle.j39_listen.proofs.report.put_frame.Goals as goal
 
 pub returns-in-Ok-None-clause-met : goal.returns-in-Ok-None-clause-met
 returns-in-Ok-None-clause-met g c = λ F h.
-    meets_silent _ F c.args.frame.now c.default.result _ (rw c.in-Ok-None.field-0-is at (c.in-Ok-None.ensures.heard F h))
-    (on_ok _ _ _ _ c.in-Ok-None.is c.feed.follows.holds-at-none F h) c.default.ensures.0 c.default.ensures.1
+    meets_silent c.args.groups.now _ F c.args.frame.now c.default.result _ (rw c.in-Ok-None.field-0-is at (c.in-Ok-None.ensures.heard F h))
+    (on_ok _ _ _ _ c.in-Ok-None.is c.feed_with.follows.holds-at-none F h) c.default.ensures.0 c.default.ensures.1
 
 pub returns-in-Ok-clause-met : goal.returns-in-Ok-clause-met
 returns-in-Ok-clause-met g c = λ F h.
-    meets_heard _ F c.args.frame.now (hearing_of c.in-Ok-Some.heard) c.in-Ok.lines _ _ (rw c.in-Ok-Some.field-0-is at (c.in-Ok-Some.ensures.heard F h))
-    (on_ok _ _ _ _ c.in-Ok-Some.is c.feed.follows.holds-at-none F h) c.in-Ok.ensures.lines (omega arith) c.in-Ok.ensures.written
+    meets_heard c.args.groups.now _ F c.args.frame.now (hearing_of c.in-Ok-Some.heard) c.in-Ok.lines _ _ (rw c.in-Ok-Some.field-0-is at (c.in-Ok-Some.ensures.heard F h))
+    (on_ok _ _ _ _ c.in-Ok-Some.is c.feed_with.follows.holds-at-none F h) c.in-Ok.ensures.lines (omega arith) c.in-Ok.ensures.written
 
 pub returns-in-Err-put_heard-clause-stops : goal.returns-in-Err-put_heard-clause-stops
 returns-in-Err-put_heard-clause-stops g c = λ e F h.
-    stops_heard F c.args.frame.now (hearing_of c.in-Ok-Some.heard) _ _ (rw c.in-Ok-Some.field-0-is at (c.in-Ok-Some.ensures.heard F h)) c.in-Err-put_heard.ensures.front
+    stops_heard c.args.groups.now F c.args.frame.now (hearing_of c.in-Ok-Some.heard) _ _ (rw c.in-Ok-Some.field-0-is at (c.in-Ok-Some.ensures.heard F h)) c.in-Err-put_heard.ensures.front

@@ -6,3 +6,9 @@ returns-clause-writes g c = if_ok c.read_pieces.result _ _ (λ counts report sub
 
 pub returns-clause-prefix : goal.returns-clause-prefix
 returns-clause-prefix g c = on_err_from c.read_pieces.result _ _ (λ stops subject output met none. stops subject c.args.bus (c.new-pieces.ensures subject output _ met none)) c.read_pieces.ensures.prefix
+
+pub returns-clause-asked : goal.returns-clause-asked
+returns-clause-asked g c = λ fails subject output met none. c.read_pieces.ensures.asked fails subject c.args.bus (c.new-pieces.ensures subject output _ met none)
+
+pub returns-clause-at_limit : goal.returns-clause-at_limit
+returns-clause-at_limit g c = λ too_long subject output met none. c.read_pieces.ensures.at_limit too_long subject c.args.bus (c.new-pieces.ensures subject output _ met none)

@@ -13,3 +13,6 @@ pub returns-in-Err-put_sent-clause-stops : goal.returns-in-Err-put_sent-clause-s
 returns-in-Err-put_sent-clause-stops g c = λ fails.
     answers_stop c.args.self.now c.call-sent.new.claimer c.args.bus.now c.args.frame.now c.in-Ok.noticed c.call-sent.result _ _
     c.in-Ok.ensures.notices c.call-sent.ensures c.in-Err-put_sent.ensures.front
+
+pub returns-in-Err-clause-asked : goal.returns-in-Err-clause-asked
+returns-in-Err-clause-asked g c = λ fails subject F output met. c.in-Err.ensures.asked F met.hears

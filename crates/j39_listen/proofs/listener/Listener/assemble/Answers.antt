@@ -14,15 +14,16 @@ returns-in-Whole c = (
   (
     refl,
     (λ _. tt),
-    (λ many F h.
-        hears_quiet c.args.self.now F c.args.frame.now _ many.no_claim h (on_ok _ _ _ _ c.in_ok-message.was c.feed.follows.holds-at-none h.events h.stands)),
+    (λ none F h.
+        hears_quiet c.args.self.now F c.args.frame.now _ none h (on_ok _ _ _ _ c.in_ok-message.was c.feed.follows.holds-at-none h.events h.stands)),
   ),
   record {
-    heard = λ many F h.
+    heard = λ table many F h.
         let said = rw c.in-Whole.is at (c.in_ok-message.ensures.answer h.events h.stands) in
         let name = subst (λ a. IsHolderAfter (claims_of F) a (option_map name_raw c.holder-name.result)) (c.source.ensures ∙ ap (λ (x : FrameRecord). source_of x.id) c.frame.view_is) (c.holder-name.ensures.holder F h.knows) in
-        heard_many c.args.self.now F c.args.frame.now _ _ _ many h name said.0 said.1;
+        heard_many table c.args.self.now F c.args.frame.now _ _ _ many h name said.0 said.1;
     refused = tt;
+    wanted = tt;
     after = tt;
   },
 )
@@ -32,12 +33,13 @@ returns-in-Taken c = (
   (
     refl,
     (λ _. tt),
-    (λ many F h.
-        hears_quiet c.args.self.now F c.args.frame.now _ many.no_claim h (on_ok _ _ _ _ c.in_ok-message.was c.feed.follows.holds-at-none h.events h.stands)),
+    (λ none F h.
+        hears_quiet c.args.self.now F c.args.frame.now _ none h (on_ok _ _ _ _ c.in_ok-message.was c.feed.follows.holds-at-none h.events h.stands)),
   ),
   record {
-    heard = λ many F h. silent_many c.args.self.now F c.args.frame.now many h (rw c.in-Taken.is at (c.in_ok-message.ensures.answer h.events h.stands)).1;
+    heard = λ table many F h. silent_many table c.args.self.now F c.args.frame.now many h (rw c.in-Taken.is at (c.in_ok-message.ensures.answer h.events h.stands)).1;
     refused = tt;
+    wanted = tt;
     after = tt;
   },
 )
@@ -47,12 +49,13 @@ returns-in-Ignored c = (
   (
     refl,
     (λ _. tt),
-    (λ many F h.
-        hears_quiet c.args.self.now F c.args.frame.now _ many.no_claim h (on_ok _ _ _ _ c.in_ok-message.was c.feed.follows.holds-at-none h.events h.stands)),
+    (λ none F h.
+        hears_quiet c.args.self.now F c.args.frame.now _ none h (on_ok _ _ _ _ c.in_ok-message.was c.feed.follows.holds-at-none h.events h.stands)),
   ),
   record {
-    heard = λ many F h. silent_many c.args.self.now F c.args.frame.now many h (rw c.in-Ignored.is at (c.in_ok-message.ensures.answer h.events h.stands)).1;
+    heard = λ table many F h. silent_many table c.args.self.now F c.args.frame.now many h (rw c.in-Ignored.is at (c.in_ok-message.ensures.answer h.events h.stands)).1;
     refused = tt;
+    wanted = tt;
     after = tt;
   },
 )

@@ -1,6 +1,7 @@
 use Rattle.std.proofs.Common.{ap}
 use Rattle.std.specs.Prelude.{Err}
-use Rattle.j39_listen.proofs.PieceLemmas.{FrontAtEnd, by_fault, end_fails, end_none, end_stops, end_writes}
+use Rattle.j39_listen.proofs.AskLemmas.{asks_at_end}
+use Rattle.j39_listen.proofs.PieceLemmas.{FrontAtEnd, by_fault, end_fails, end_none, end_stops, end_writes, same_fault}
 use Rattle.j39_listen.proofs.pieces.Pieces.finish.Goals as goal
 
 pub returns-in-Err-clause-front : goal.returns-in-Err-clause-front
@@ -18,3 +19,7 @@ returns-in-Ok-close-clause-report g c = λ subject.
 pub returns-in-Err-close-clause-front : goal.returns-in-Err-close-clause-front
 returns-in-Err-close-clause-front g c = λ subject.
     end_fails (g.A.Account.has_met subject) (g.A.Account.makes subject) c.args.self.now c.take_last.new.progress _ _ _ (c.in-Ok.ensures.reads subject) (c.in-Err-close.ensures.stops subject)
+
+pub returns-in-Err-clause-asked : goal.returns-in-Err-clause-asked
+returns-in-Err-clause-asked g c = λ fails subject.
+    asks_at_end (g.A.Account.has_met subject) g.A.Account.asks c.args.self.now (g.W.Sink.held c.args.sink.now) (c.in-Err.ensures.asked (ap Err (same_fault _ _ fails)) subject)

@@ -3,7 +3,8 @@ use Rattle.std.proofs.Common.{◌∙◌, ◌++◌, [], sym, ap, subst, refl, tak
 use Rattle.std.specs.Prelude.{Err}
 use Rattle.j39_listen.specs.PieceSteps.{HasTaken}
 use Rattle.j39_listen.specs.declared.pieces.Pieces.{Pieces}
-use Rattle.j39_listen.proofs.PieceLemmas.{StopsBytes, by_fault, no_fault, takes_then_none, takes_then_stops, takes_then_takes}
+use Rattle.j39_listen.proofs.AskLemmas.{takes_then_asks}
+use Rattle.j39_listen.proofs.PieceLemmas.{StopsBytes, by_fault, no_fault, same_fault, takes_then_none, takes_then_stops, takes_then_takes}
 use Rattle.j39_listen.proofs.pieces.Pieces.take_lines.Goals as goal
 
 pub loop-rest-init : goal.loop-rest-init
@@ -33,3 +34,9 @@ loop-rest-preserved g c =
       (λ subject. takes_then_takes (g.A.Account.has_met subject) c.args.self.now c.loop-rest.self run inv.0 rest n _ _ _ (inv.2 subject) (c.in-Ok.ensures.steps subject)),
       c.in-Ok.ensures.unmarked no_fault ∙ inv.3,
     )
+
+pub returns-in-Err-clause-asked : goal.returns-in-Err-clause-asked
+returns-in-Err-clause-asked g c = λ fails subject.
+    let inv = c.loop-rest.invariant in
+    takes_then_asks (g.A.Account.has_met subject) g.A.Account.asks c.args.self.now c.loop-rest.self inv.0 c.loop-rest.rest.now c.args.piece.now (g.W.Sink.held c.args.sink.now) (g.W.Sink.held c.loop-rest.sink) inv.1 (inv.2 subject)
+    (c.in-Err.ensures.asked (ap Err (same_fault _ _ fails)) subject)

@@ -1,0 +1,11 @@
+use Rattle.std.proofs.Common.{◌≡◌, ◌++◌, List, map, take}
+use Rattle.j39_transport.specs.Events.{Event}
+use Rattle.j39_transport.specs.Events.Event.{Forget}
+use Rattle.j39_transport.specs.Stands.{Stands}
+use Rattle.bus_demo.proofs.controller.Controller.note.Given as goal
+
+-- the addresses so far are forgotten
+abbrev pub invariant-loop-address : goal.invariant-loop-address
+invariant-loop-address l =
+    ((E : List Event) → Stands E l.initial.self.messages → Stands (E ++ map (λ a. Forget a) (take l.address-index l.address-items)) l.self.messages)
+    × (l.self ≡ record l.initial.self { messages = l.self.messages })

@@ -1,0 +1,7 @@
+//! Tests of j39_frame by its public calls. The library itself is empty.
+#![tactic(auto)]
+
+#[cfg(test)]
+mod frames_and_devices;
+#[cfg(test)]
+mod lines;

@@ -1,0 +1,35 @@
+//! The file of a table of parameters: where it is found, and its text.
+use j39_table::MOST_BYTES;
+use std::env;
+use std::fs::{self, File};
+use std::io::{self, Read};
+
+/// Where the tables that come with the program are, from its own folder on: installed, and in the project.
+const SHIPPED: [&str; 2] = ["../share/j1939", "../../../tables"];
+
+/// The text of the table of this name: of a file, or else of the table that comes with the program under it. Of a longer
+/// text than a table has, one byte too many.
+pub(crate) fn table_text(rt: &HostRuntime, name: &str) -> io::Result<Vec<u8>> {
+    let file = match fs::open(rt, name) {
+        Ok(file) => file,
+        Err(error) => open_shipped(rt, name)?.ok_or(error)?,
+    };
+    let mut text = Vec::new(rt.alloc());
+    file.take(MOST_BYTES as u64 + 1).read_to_end(&mut text)?;
+    Ok(text)
+}
+
+/// The table that comes with the program under this name.
+fn open_shipped(rt: &HostRuntime, name: &str) -> io::Result<Option<File>> {
+    let program = env::current_exe(rt)?;
+    let Some(folder) = program.parent() else {
+        return Ok(None);
+    };
+    for place in SHIPPED {
+        let path = format!(in rt.alloc(); "{}/{place}/{name}.table", folder.as_str())?;
+        if let Ok(file) = fs::open(rt, path.as_str()) {
+            return Ok(Some(file));
+        }
+    }
+    Ok(None)
+}

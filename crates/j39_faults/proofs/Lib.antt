@@ -1,0 +1,4 @@
+pub mod CodeLemmas
+pub mod NumberLemmas
+pub mod LampLemmas
+pub mod WriteLemmas

@@ -1,0 +1,18 @@
+-- After a fault a front of the rows that are left was written.
+use Rattle.std.proofs.Common.{ℕ, List, suc, take, drop, subst}
+use Rattle.std.specs.List.{flat_map}
+use Rattle.j39_frame.specs.Device.{AppendsFront}
+use Rattle.j39_frame.proofs.DeviceLemmas.{front_within, on_err}
+use Rattle.j39_groups.specs.declared.read_row.ReadRow.{ReadRow}
+use Rattle.j39_groups.specs.ReadLines.{row_lines}
+use Rattle.j39_groups.proofs.ListLemmas.{flat_map-at}
+use Rattle.j39_groups.proofs.read_lines.put_each_row.Goals as goal
+
+pub returns-in_err-more-clause-front : goal.returns-in_err-more-clause-front
+returns-in_err-more-clause-front g c =
+    let text : ReadRow → List ℕ = row_lines (drop c.args.from c.args.head.now) c.args.bytes.now in
+    let rows = c.args.rows.now in
+    let i = c.loop-row.row-index in
+    let here = subst (λ (row : ReadRow). AppendsFront (g.W.Sink.held c.loop-row.sink) (g.W.Sink.held c.put_row.new.sink) (text row)) c.row-item.is c.in_err-more.ensures.front in
+    on_err _ _ (front_within _ _ _ (flat_map text (take i rows)) _ (flat_map text (drop (suc i) rows)) (flat_map text rows)
+    (flat_map-at text rows i c.row-item.result c.loop-row-test.true) c.loop-row.invariant.0 here)

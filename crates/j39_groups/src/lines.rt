@@ -1,0 +1,50 @@
+//! The lines of readings, one by one.
+ghost use Rattle.std.specs.Prelude.{◌≡◌, ◌≤◌, OnOk, OnErr, length};
+ghost use Rattle.std.specs.Io.KnownBytes.{Appends};
+ghost use Rattle.std.specs.List.{flat_map};
+ghost use Rattle.j39_frame.specs.Device.{AppendsFront, Marks};
+ghost use Rattle.j39_groups.specs.Quick.{reading_line};
+ghost use Rattle.j39_groups.specs.Shown.{reading_of};
+
+use crate::text::put_value;
+use crate::value::Reading;
+use arrayvec::ArrayVec;
+use j39_frame::printing::{push_bytes, push_number};
+use j39_frame::{DeviceFault, Sink, put_all};
+
+/// Writes a line for each reading; `head` is what each begins with.
+pub(crate) fn put_found<W: Sink>(
+    head: &[u8],
+    found: &[Reading<'_>],
+    sink: &mut W,
+) -> Result<(), DeviceFault>
+    requires { length head.now ≤ 48 }
+    ensures written { OnOk result (Appends (W.held sink.old) (W.held sink.new)
+        (flat_map (λ r. reading_line head.now (reading_of r)) found.now)) }
+    ensures front { OnErr result (AppendsFront (W.held sink.old) (W.held sink.new)
+        (flat_map (λ r. reading_line head.now (reading_of r)) found.now)) }
+    ensures mark { Marks result (W.has_failed sink.old) (W.has_failed sink.new) }
+{
+    for reading in found {
+        put_reading(head, reading, sink)?;
+    }
+    Ok(())
+}
+
+/// Writes the line of one reading.
+fn put_reading<W: Sink>(head: &[u8], reading: &Reading<'_>, sink: &mut W) -> Result<(), DeviceFault>
+    requires { length head.now ≤ 48 }
+    ensures written { OnOk result (Appends (W.held sink.old) (W.held sink.new)
+        (reading_line head.now (reading_of reading.now))) }
+    ensures front { OnErr result (AppendsFront (W.held sink.old) (W.held sink.new)
+        (reading_line head.now (reading_of reading.now))) }
+    ensures mark { Marks result (W.has_failed sink.old) (W.has_failed sink.new) }
+{
+    let mut line = ArrayVec::<u8, 64>::new();
+    push_bytes(&mut line, head);
+    push_number(&mut line, u64::from(reading.spn));
+    line.push(b' ');
+    put_all(sink, line.as_slice())?;
+    put_value(&reading.value, sink)?;
+    put_all(sink, b"\n")
+}

@@ -1,0 +1,44 @@
+//! How the raw numbers of a table that was built become values.
+ghost use Rattle.std.specs.Prelude.{◌<◌, ◌+◌, ◌*◌, ◌-◌, ◌^◌, ◌≤◌, unsigned_abs};
+
+/// How a raw number is read (J1939-71): `value = raw * step + offset`, in units of the last printed place.
+#[derive(Clone, Copy)]
+pub struct Scale<'t> {
+    /// What one raw step is worth.
+    pub step: u64,
+    /// The value of the raw number 0.
+    pub offset: i64,
+    /// How many decimal places are printed.
+    pub places: u8,
+    /// The unit's text, of any bytes.
+    pub unit: &'t [u8],
+}
+
+impl<'t> Scale<'t> {
+    ghost use Rattle.std.specs.Prelude.{◌≡◌, ◌+ℤ◌, ◌*ℤ◌, pos, nat_lt};
+    ghost use Rattle.j39_groups.specs.ReadFields.{largest, scale_record};
+
+    /// The value of a raw number, in units of the last printed place.
+    #[inline(always)]
+    pub(crate) fn value(self, raw: u32) -> i64
+        requires { self.step * raw + unsigned_abs self.offset < 2 ^ 63 }
+        ensures { result ≡ pos raw *ℤ (scale_record self.entry).step +ℤ (scale_record self.entry).offset }
+    {
+        (u64::from(raw) * self.step) as i64 + self.offset
+    }
+
+    /// Whether the value of each raw number of so many bits fits 64 bits.
+    pub(crate) fn fits(self, bits: u8) -> bool
+        requires { bits ≤ 32 }
+        ensures { result ≡ nat_lt (largest bits self.entry) (2 ^ 63) }
+    {
+        let most = (1u64 << bits) - 1;
+        let Some(product) = self.step.checked_mul(most) else {
+            return false;
+        };
+        let Some(sum) = product.checked_add(self.offset.unsigned_abs()) else {
+            return false;
+        };
+        sum < 1 << 63
+    }
+}

@@ -1,0 +1,6 @@
+use Rattle.std.proofs.Common.{ap}
+use Rattle.std.specs.Prelude.{Err}
+use Rattle.j39_listen.proofs.running.finish.Goals as goal
+
+pub returns-in-Err-Memory-clause-asked : goal.returns-in-Err-Memory-clause-asked
+returns-in-Err-Memory-clause-asked g c = λ fails. c.in-Err-Memory.ensures.asked (ap Err c.in-Err-Memory.field-0-is)

@@ -1,0 +1,14 @@
+pub mod Agreement
+pub mod Columns
+pub mod FaultWords
+pub mod Faults
+pub mod Fields
+pub mod Laws
+pub mod Lines
+pub mod Places
+pub mod Rows
+pub mod Scales
+pub mod Spelled
+pub mod TableSteps
+pub mod Tables
+pub mod Words

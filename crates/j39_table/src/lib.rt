@@ -1,0 +1,17 @@
+//! A user's table of parameters: its lines, read.
+#![tactic(auto)]
+
+mod columns;
+mod fault;
+mod field;
+pub mod laws;
+mod line;
+mod place;
+mod reading;
+mod row;
+mod scale;
+mod words;
+
+pub use fault::{RowFault, TableFault};
+pub use reading::{MOST_BYTES, read};
+pub use row::read_row;

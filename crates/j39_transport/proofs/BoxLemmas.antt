@@ -1,0 +1,263 @@
+-- Which announcements need a box, and when an assembler has one that lies unused.
+use Rattle.std.proofs.Common.{◌≡◌, ◌⊎◌, ℕ, suc, ◌+◌, ◌<◌, Bool, true, false, ◌||◌, List, [], ◌∷◌, ◌++◌, length, take, get_or, slice_set, Option, Some, None, refl, sym, ap, ◌∙◌, subst, inl, inr, arith, length-append, ltb-true, eq-eqb}
+use Rattle.std.proofs.lemmas.Bool.{and_from, both_ways, cases_eq, cases_lt, or_right}
+use Rattle.std.proofs.lemmas.List.{get_or-set_same, get_or-set_other, get_or-take, get_or_past, length-map}
+use Rattle.j39_frame.specs.Frame.{FrameRecord}
+use Rattle.j39_transport.specs.Answers.{Outcome, Whole, Taken, Ignored, AnswersAt, WholeBy}
+use Rattle.j39_transport.specs.Boxes.{HasOpen, NeedsBox, HasSpare, freed, kept, WantsMemory}
+use Rattle.j39_transport.specs.EventSteps.{Session, Entry}
+use Rattle.j39_transport.specs.Events.{Event, at as event_at}
+use Rattle.j39_transport.specs.Events.Event.{Frame, Forget}
+use Rattle.j39_transport.specs.Frames.{source_of, is_announcement}
+use Rattle.j39_transport.specs.FrameSteps.{TransportFrame, Announcement, Packet, ClearToSend, Acknowledgment, Abort, Other, transport_frame_of}
+use Rattle.j39_transport.specs.Key.{Key}
+use Rattle.j39_transport.specs.Key.Key.{Broadcast, Directed}
+use Rattle.j39_transport.specs.Message.{MessageRecord}
+use Rattle.j39_transport.specs.Places.{Places, at, is_of, find, find_from}
+use Rattle.j39_transport.specs.Session.{SessionRecord, opened}
+use Rattle.j39_transport.specs.Stands.{IsSession, StandsFor, AreKept, Stands, aged, broadcast_in, entry_in, full}
+use Rattle.j39_transport.specs.Steps.{AssemblerRecord, SessionsRecord, Moved, Ends, Grows, Stays, Late, announced, answer, answer_by, answer_to_packet, fed, forgot, is_whole, LacksBox, moves, new_assembler, place_for, room, spare_after, spare_left, state_after, told, told_at}
+use Rattle.j39_transport.proofs.AllKeys.{announced_key}
+use Rattle.j39_transport.proofs.AnswerLemmas.{answers_at}
+use Rattle.j39_transport.proofs.Bridge.{ev_announces, pair_is}
+use Rattle.j39_transport.proofs.PlaceLemmas.{Found, aged_at, found}
+use Rattle.j39_transport.proofs.ReadLemmas.{Facts, read_is}
+use Rattle.j39_transport.proofs.StepLemmas.{broadcast_at, kept_after, kept_forgotten, kept_new}
+use Rattle.j39_transport.proofs.TableLemmas.{set_same}
+
+-- ---- the keys that have a message open, and their places
+
+abbrev Keeps : SessionsRecord → Key → Type 0
+Keeps a (Broadcast s) = (s < 254) × (x : SessionRecord) × (at a.broadcasts s ≡ Some x)
+Keeps a (Directed s d) = (i : ℕ) × (x : SessionRecord) × (at a.directed i ≡ Some x) × (is_of s d (Some x) ≡ true)
+
+same_frame : (f g : FrameRecord) → Frame f ≡ Frame g → f ≡ g
+same_frame f g e = cc (e)
+
+no_frame : (t : ℕ) (f : FrameRecord) → Forget t ≡ Frame f → ⊥
+no_frame t f e = cc (e)
+
+length-aged : (i : ℕ) (t : Places) → length (aged i t) ≡ length t
+unfolding aged
+length-aged i [] = refl
+length-aged i (p ∷ t) = ap suc (length-aged (suc i) t)
+
+some_not_none : {A : Type 0} (x : A) → ◌≡◌ {A = Option A} (Some x) None → ⊥
+some_not_none x e = cc (e)
+
+has_open : (E : List Event) (k : Key) (x : Session) → IsSession E k x → HasOpen E k
+has_open E k x h = (x.count, (x.group_due, h.start, h.places, h.open_by, sym h.count_is))
+
+module _ (E : List Event) (a : SessionsRecord) (h : AreKept E a) where
+  keeps : (k : Key) → HasOpen E k → Keeps a k
+  keeps (Broadcast s) o =
+      let l : s < 254 = ltb-true _ _ (announced_key (Broadcast s) (event_at E o.1.1) o.1.3.announced) in
+      go l (at a.broadcasts s) refl (subst (λ (q : Option Session). StandsFor E (Broadcast s) q) (broadcast_at a.broadcasts s) (h.is.broadcasts.each s l))
+    where
+      go : s < 254 → (q : Option SessionRecord) → at a.broadcasts s ≡ q → StandsFor E (Broadcast s) (broadcast_in (at a.broadcasts s)) → Keeps a (Broadcast s)
+      go l None e w = absurd ((subst (λ (p : Option SessionRecord). StandsFor E (Broadcast s) (broadcast_in p)) e w) o.1.0 o.1.1 o.1.2 o.1.3)
+      go l (Some x) e w = (l, x, e)
+  keeps (Directed s d) o =
+      let k = h.is.directed.all s d o.1.0 o.1.1 o.1.2 o.1.3 in
+      go k.0 k.1 (at a.directed k.0) refl (sym (aged_at 0 a.directed k.0) ∙ k.2)
+    where
+      go : (i : ℕ) (z : Session) (q : Option SessionRecord) → at a.directed i ≡ q → entry_in (0 + i) (at a.directed i) ≡ Some (record { from = s; to = d; session = z }) → Keeps a (Directed s d)
+      go i z None e w = absurd (some_not_none _ (sym w ∙ ap (entry_in (0 + i)) e))
+      go i z (Some x) e w =
+          let n : ◌≡◌ {A = Option Entry} (Some (record { from = x.source; to = x.destination; session = full (0 + i) x })) (Some (record { from = s; to = d; session = z })) = ap (entry_in (0 + i)) (sym e) ∙ w in
+          let m : record { from = x.source; to = x.destination; session = full (0 + i) x } ≡ record { from = s; to = d; session = z } = cc (n) in
+          (i, x, e, and_from _ _ (eq-eqb _ _ (ap (λ (y : Entry). y.from) m)) (eq-eqb _ _ (ap (λ (y : Entry). y.to) m)))
+
+  is_kept : (k : Key) → Keeps a k → HasOpen E k
+  is_kept (Broadcast s) w =
+      has_open E (Broadcast s) (full 0 w.1)
+      (subst (λ (q : Option Session). StandsFor E (Broadcast s) q) (broadcast_at a.broadcasts s ∙ ap broadcast_in w.2) (h.is.broadcasts.each s w.0))
+  is_kept (Directed s d) w =
+      let p = pair_is s d w.1 w.3 in
+      let y : Entry = record { from = w.1.source; to = w.1.destination; session = full (0 + w.0) w.1 } in
+      let e : get_or (aged 0 a.directed) w.0 None ≡ Some y = aged_at 0 a.directed w.0 ∙ ap (entry_in (0 + w.0)) w.2 in
+      let z : HasOpen E (Directed w.1.source w.1.destination) = has_open E (Directed w.1.source w.1.destination) (full (0 + w.0) w.1) (h.is.directed.each w.0 y e).0 in
+      subst (λ (n : ℕ). HasOpen E (Directed n d)) p.0 (subst (λ (n : ℕ). HasOpen E (Directed w.1.source n)) p.1 z)
+
+  broadcasts_size : length a.broadcasts ≡ 254
+  broadcasts_size = sym (length-map a.broadcasts broadcast_in) ∙ h.is.broadcasts.size_is
+
+  directed_size : length a.directed ≡ 16
+  directed_size = sym (length-aged 0 a.directed) ∙ h.is.directed.size_is
+
+-- ---- an announcement whose place is empty
+
+-- it is of a key with none open
+none_kept : (a : SessionsRecord) (k : Key) → place_for a k ≡ None → Keeps a k → ⊥
+unfolding find
+none_kept a (Broadcast s) e w = some_not_none w.1 (sym w.2 ∙ e)
+none_kept a (Directed s d) e w = go (find_from s d 0 a.directed) (found s d 0 a.directed) e
+  where
+    go : (o : Option ℕ) → Found s d 0 a.directed o → at a.directed (room o) ≡ None → ⊥
+    go None n e = both_ways _ (n w.0) (ap (is_of s d) w.2 ∙ w.3)
+    go (Some j) f e = both_ways false refl (sym (ap (is_of s d) (ap (at a.directed) (let z : j ≡ 0 + f.0 = f.1 in let y : f.0 ≡ j = omega arith in y) ∙ e)) ∙ f.3)
+
+-- and the oldest place is empty too
+none_oldest : (s d : ℕ) (t : Places) → at t (room (find s d t)) ≡ None → find s d t ≡ None
+unfolding find
+none_oldest s d t e = go (find_from s d 0 t) (found s d 0 t) e
+  where
+    go : (o : Option ℕ) → Found s d 0 t o → at t (room o) ≡ None → o ≡ None
+    go None n e = refl
+    go (Some j) f e = absurd (both_ways false refl (sym (ap (is_of s d) (ap (at t) (let z : j ≡ 0 + f.0 = f.1 in let y : f.0 ≡ j = omega arith in y) ∙ e)) ∙ f.3))
+
+-- whatever is kept is kept on
+keeps_on : (a : SessionsRecord) (k : Key) (x : SessionRecord) (j : Key) → length a.directed ≡ 16 → length a.broadcasts ≡ 254 → place_for a k ≡ None → Keeps a j → Keeps (announced a k x) j
+keeps_on a (Broadcast s) x (Broadcast t) sized many e w = elim (cases_eq t s) [
+  | inl i ↦ (w.0, x, ap (λ n. at (slice_set a.broadcasts s (Some x)) n) i ∙ get_or-set_same a.broadcasts s (Some x) None (let l : t < 254 = w.0 in omega arith))
+  | inr n ↦ (w.0, w.1, get_or-set_other a.broadcasts s t (Some x) None n ∙ w.2)
+]
+keeps_on a (Broadcast s) x (Directed t u) sized many e w = w
+keeps_on a (Directed s d) x (Broadcast t) sized many e w = w
+keeps_on a (Directed s d) x (Directed t u) sized many e w =
+    let r : find s d a.directed ≡ None = none_oldest s d a.directed e in
+    let o : at a.directed 15 ≡ None = subst (λ q. at a.directed (room q) ≡ None) r e in
+    let l : w.0 < 15 = below_oldest a.directed w.0 w.1 sized o w.2 in
+    let z : slice_set a.directed (room (find s d a.directed)) None ≡ a.directed = set_same a.directed (room (find s d a.directed)) e in (
+      suc w.0,
+      w.1,
+      ap (λ t. get_or (take 15 t) w.0 None) z ∙ (get_or-take 15 a.directed w.0 None l ∙ w.2),
+      w.3,
+    )
+  where
+    below_oldest : (t : Places) (i : ℕ) (y : SessionRecord) → length t ≡ 16 → at t 15 ≡ None → at t i ≡ Some y → i < 15
+    below_oldest t i y n o p = elim (cases_lt i 15) [
+      | inl l ↦ l
+      | inr g ↦ absurd (elim (cases_eq i 15) [
+        | inl q ↦ some_not_none y (sym p ∙ (ap (at t) q ∙ o))
+        | inr q ↦ some_not_none y (sym p ∙ get_or_past t i None (omega arith))
+      ])
+    ]
+
+module _ (E : List Event) (f : FrameRecord) (a : AssemblerRecord) (h : Stands E a) where
+  needs_box : (k : Key) (g n p : ℕ) → is_announcement k f ≡ true → AreKept (E ++ Frame f ∷ []) (announced a.sessions k (opened k g n p f.stamp)) → place_for a.sessions k ≡ None → NeedsBox E (Frame f)
+  needs_box k g n p is next e = record {
+    key = k;
+    announced = ev_announces k f ∙ is;
+    none_open = λ o. none_kept a.sessions k e (keeps E a.sessions h.kept k o);
+    ends_none = λ j o.
+        is_kept (E ++ Frame f ∷ []) (announced a.sessions k (opened k g n p f.stamp)) next j
+        (keeps_on a.sessions k (opened k g n p f.stamp) j (directed_size E a.sessions h.kept) (broadcasts_size E a.sessions h.kept) e (keeps E a.sessions h.kept j o));
+  }
+
+  wants_by : (r : TransportFrame) → Facts f r → AreKept (E ++ Frame f ∷ []) (state_after a.sessions f.stamp r) → LacksBox a.sessions a.has_spare r → WantsMemory E f
+  unfolding state_after
+  wants_by (Announcement k g n p) c next w = record {
+    needs = needs_box k g n p c.announces_it next w.0;
+    none_unused = λ s. both_ways _ w.1 (h.spare s);
+  }
+  wants_by (Packet k n bs) c next w = absurd w
+  wants_by (ClearToSend s d g) c next w = absurd w
+  wants_by (Acknowledgment s d g) c next w = absurd w
+  wants_by (Abort s d g) c next w = absurd w
+  wants_by Other c next w = absurd w
+
+  pub wants_memory : LacksBox a.sessions a.has_spare (transport_frame_of f) → WantsMemory E f
+  wants_memory w = wants_by (transport_frame_of f) (read_is f) (kept_after E f a.sessions h.kept) w
+
+-- ---- the box that lies unused
+
+-- where one lies unused after one event more: a message became whole, or one lay there and wasn't needed
+abbrev IsFreed : List Event → Event → Type 0
+IsFreed E e = (f : FrameRecord) × (m : MessageRecord) × (e ≡ Frame f) × WholeBy E f m
+
+abbrev IsLeft : List Event → Event → Type 0
+IsLeft E e = HasSpare E × (NeedsBox E e → ⊥)
+
+same_last : (A B : List Event) (a b : Event) → A ++ a ∷ [] ≡ B ++ b ∷ [] → (A ≡ B) × (a ≡ b)
+same_last [] [] a b q = (refl, cc (q))
+same_last [] (y ∷ B) a b q = absurd (omega (arith, ap length q, length-append B (b ∷ [])))
+same_last (x ∷ A) [] a b q = absurd (omega (arith, ap length q, length-append A (a ∷ [])))
+same_last (x ∷ A) (y ∷ B) a b q =
+    let h : x ≡ y = cc (q) in
+    let t : A ++ a ∷ [] ≡ B ++ b ∷ [] = cc (q) in
+    let r = same_last A B a b t in
+    ((λ i. h i ∷ r.0 i), r.1)
+
+unused_by : (D : List Event) → HasSpare D → (E : List Event) (e : Event) → D ≡ E ++ e ∷ [] → IsFreed E e ⊎ IsLeft E e
+unused_by _ (freed A f m w) E e q =
+    let r = same_last A E (Frame f) e q in
+    inl (f, m, sym r.1, subst (λ (X : List Event). WholeBy X f m) r.0 w)
+unused_by _ (kept A a s n) E e q =
+    let r = same_last A E a e q in
+    inr (subst HasSpare r.0 s, subst (λ (X : List Event). NeedsBox X e → ⊥) r.0 (subst (λ (x : Event). NeedsBox A x → ⊥) r.1 n))
+
+-- whether a message is whole doesn't hang on its source
+whole_by : (s t stamp : ℕ) (m : Moved) → is_whole (answer_by s stamp m) ≡ is_whole (answer_by t stamp m)
+whole_by s t stamp (Ends x) = refl
+whole_by s t stamp (Grows x) = refl
+whole_by s t stamp (Stays x) = refl
+whole_by s t stamp Late = refl
+
+whole_told : (s t limit number stamp : ℕ) (joined : List ℕ) (o : Option SessionRecord) → is_whole (told s limit number joined stamp o) ≡ is_whole (told t limit number joined stamp o)
+whole_told s t limit number stamp joined None = refl
+whole_told s t limit number stamp joined (Some x) = whole_by s t stamp (moves limit number joined stamp x)
+
+whole_packet : (a : SessionsRecord) (s t stamp : ℕ) (k : Key) (number : ℕ) (joined : List ℕ) → is_whole (answer_to_packet a s stamp k number joined) ≡ is_whole (answer_to_packet a t stamp k number joined)
+whole_packet a s t stamp (Broadcast n) number joined = whole_told s t 750000 number stamp joined (at a.broadcasts n)
+whole_packet a s t stamp (Directed n d) number joined = go (find n d a.directed)
+  where
+    go : (o : Option ℕ) → is_whole (told_at o (told s 1250000 number joined stamp) a.directed) ≡ is_whole (told_at o (told t 1250000 number joined stamp) a.directed)
+    go None = refl
+    go (Some i) = whole_told s t 1250000 number stamp joined (at a.directed i)
+
+whole_answered : (E : List Event) (f : FrameRecord) (m : MessageRecord) (o : Outcome) → AnswersAt E f o → WholeBy E f m → is_whole o ≡ true
+whole_answered E f m (Whole s g b t) h w = refl
+whole_answered E f m Taken h w = absurd (h.1 m w)
+whole_answered E f m Ignored h w = absurd (h.1 m w)
+
+module _ (E : List Event) (f : FrameRecord) (a : AssemblerRecord) (h : Stands E a) where
+  freed_box : (m : MessageRecord) → WholeBy E f m → (r : TransportFrame) → AnswersAt E f (answer a.sessions (source_of f.id) f.stamp r) → spare_after a.sessions a.has_spare f.stamp r ≡ true
+  unfolding answer spare_after
+  freed_box m w (Announcement k g n p) o = absurd (o.1 m w)
+  freed_box m w (Packet k n bs) o =
+      ap (λ (b : Bool). b || a.has_spare) (whole_packet a.sessions 0 (source_of f.id) f.stamp k n bs ∙ whole_answered E f m (answer_to_packet a.sessions (source_of f.id) f.stamp k n bs) o w)
+  freed_box m w (ClearToSend s d g) o = absurd (o.1 m w)
+  freed_box m w (Acknowledgment s d g) o = absurd (o.1 m w)
+  freed_box m w (Abort s d g) o = absurd (o.1 m w)
+  freed_box m w Other o = absurd (o.1 m w)
+
+  left_box : a.has_spare ≡ true → (NeedsBox E (Frame f) → ⊥) → (r : TransportFrame) → Facts f r → AreKept (E ++ Frame f ∷ []) (state_after a.sessions f.stamp r) → spare_after a.sessions a.has_spare f.stamp r ≡ true
+  unfolding spare_after state_after
+  left_box b n (Announcement k g size p) c next = go (place_for a.sessions k) refl
+    where
+      go : (o : Option SessionRecord) → place_for a.sessions k ≡ o → spare_left o a.has_spare ≡ true
+      go None e = absurd (n (needs_box E f a h k g size p c.announces_it next e))
+      go (Some x) e = b
+  left_box b n (Packet k number bs) c next = or_right _ _ b
+  left_box b n (ClearToSend s d g) c next = b
+  left_box b n (Acknowledgment s d g) c next = b
+  left_box b n (Abort s d g) c next = b
+  left_box b n Other c next = b
+
+  spare_on : HasSpare (E ++ Frame f ∷ []) → spare_after a.sessions a.has_spare f.stamp (transport_frame_of f) ≡ true
+  spare_on s = elim (unused_by (E ++ Frame f ∷ []) s E (Frame f) refl) [
+    | inl w ↦ freed_box w.1 (let e : w.0 ≡ f = same_frame w.0 f (sym w.2) in subst (λ (x : FrameRecord). WholeBy E x w.1) e w.3) (transport_frame_of f) (answers_at E f a.sessions h.kept)
+    | inr w ↦ left_box (h.spare w.0) w.1 (transport_frame_of f) (read_is f) (kept_after E f a.sessions h.kept)
+  ]
+
+-- ---- what an assembler stands for
+
+pub stands_after : (E : List Event) (f : FrameRecord) (a : AssemblerRecord) → Stands E a → Stands (E ++ Frame f ∷ []) (fed a f.stamp (transport_frame_of f))
+stands_after E f a h = record { kept = kept_after E f a.sessions h.kept; spare = spare_on E f a h }
+
+pub stands_forgotten : (E : List Event) (t : ℕ) (a : AssemblerRecord) → Stands E a → Stands (E ++ Forget t ∷ []) (forgot a t)
+stands_forgotten E t a h = record {
+  kept = kept_forgotten E t a.sessions h.kept;
+  spare = λ s. elim (unused_by (E ++ Forget t ∷ []) s E (Forget t) refl) [
+    | inl w ↦ absurd (no_frame t w.0 w.2)
+    | inr w ↦ h.spare w.0
+  ];
+}
+
+none_yet : (D : List Event) → HasSpare D → D ≡ [] → ⊥
+none_yet _ (freed A f m w) e = omega (arith, ap length e, length-append A (Frame f ∷ []))
+none_yet _ (kept A a s n) e = omega (arith, ap length e, length-append A (a ∷ []))
+
+pub stands_new : Stands [] new_assembler
+stands_new = record { kept = kept_new; spare = λ s. absurd (none_yet [] s refl) }
