@@ -1,6 +1,5 @@
 //! What a node of a NAME would send on the bus of a log.
-use crate::frames::CLAIM_OF_SMALLER;
-use crate::support::{program, stamped};
+use crate::support::stamped;
 use j39_address::Name;
 use j39_frame::{Bus, Full, Told, Trial};
 use j39_listen::{RunFault, answer};
@@ -8,64 +7,14 @@ use std::alloc::{AllocError, Global};
 use std::process::Abort;
 use std::test::Fail;
 
-/// The NAME of most examples; its claim data is 3412400100000080.
-const NAME: &str = "8000000001401234";
-
-const NAME_RAW: u64 = 0x8000_0000_0140_1234;
-
-/// What a node of this NAME that starts at address 0 sends on the bus of a log is this text, with these counts,
-/// however the log comes in pieces.
-fn answers(
-    rt: &(impl Abort + AllocGlobal),
-    name: &str,
-    log: &str,
-    want: &str,
-    counts: &str,
-) -> Result<(), Fail> {
-    let alloc = rt.alloc();
-    let words = ["j1939", "answer", "--name", name, "--address", "0"];
-    let shown = program(alloc, &words, log.as_bytes())?;
-    assert_eq!(rt; shown.out.as_str(), want);
-    assert_eq!(rt; shown.err.as_str().trim_end(), counts);
-    assert_eq!(rt; shown.status, 0);
-    let raw = u64::from_str_radix(name, 16)?;
-    for most in [1, 2, 7, 51, 4096] {
-        let mut source = Trial::new(alloc, log.as_bytes(), 0)?.in_pieces(most);
-        let mut sink = Trial::new(alloc, b"", want.len())?;
-        let limit = log.len() as u64;
-        let met = answer(
-            alloc,
-            &mut Told::new(&mut source),
-            &mut Told::new(&mut sink),
-            None,
-            Name::new(raw),
-            0,
-            limit,
-        );
-        assert!(rt; matches!(met, Ok(Some(_))));
-        assert_eq!(rt; sink.written(), want.as_bytes());
-    }
-    Ok(())
-}
-
-fn answers_to(
-    rt: &(impl Abort + AllocGlobal),
-    name: &str,
-    frames: &[(&str, &str)],
-    sent: &[(&str, &str)],
-    counts: &str,
-) -> Result<(), Fail> {
-    let alloc = rt.alloc();
-    let log = stamped(alloc, "can0 ", frames)?;
-    let want = stamped(alloc, "can0 ", sent)?;
-    answers(rt, name, log.as_str(), want.as_str(), counts)
-}
+/// The NAME of the node; its claim data is 3412400100000080.
+const NAME: u64 = 0x8000_0000_0140_1234;
 
 /// A larger NAME claims 0B, a smaller one 00; 254 asks all for their claims; and 0B commands the node by a
 /// broadcast to take 05.
 const FRAMES: [(&str, &str); 6] = [
     ("1.000000", "18EEFF0B#7856400100000080"),
-    ("1.100000", CLAIM_OF_SMALLER),
+    ("1.100000", "18EEFF00#0100400100000080"),
     ("1.200000", "18EAFFFE#00EE00"),
     ("2.000000", "1CECFF0B#20090002FFD8FE00"),
     ("2.050000", "1CEBFF0B#0134124001000000"),
@@ -79,75 +28,6 @@ const SENT: [(&str, &str); 4] = [
     ("2.100000", "18EEFF05#3412400100000080"),
 ];
 
-#[test]
-fn answers_of_a_node(rt: HostRuntime) -> Result<(), Fail> {
-    answers_to(
-        &rt,
-        NAME,
-        &FRAMES,
-        &SENT,
-        "frames 6 other 0 unread 0 messages 1 lines 4",
-    )?;
-    // A NAME that may claim no other address has lost it with the first frame.
-    answers_to(
-        &rt,
-        "0000000001401234",
-        &[("1.000000", "18EEFF00#0100400100000000")],
-        &[
-            ("1.000000", "18EEFF00#3412400100000000"),
-            ("1.000000", "18EEFFFE#3412400100000000"),
-        ],
-        "frames 1 other 0 unread 0 messages 0 lines 2",
-    )?;
-    let words = ["j1939", "answer", "--name", NAME, "--address", "254"];
-    let shown = program(rt.alloc(), &words, b"")?;
-    assert_eq!(rt; shown.status, 2);
-    assert_eq!(rt; shown.err.as_str(), "j1939: bad value for --address\n");
-    Ok(())
-}
-
-#[test]
-fn command_in_a_directed_transfer(rt: HostRuntime) -> Result<(), Fail> {
-    // It is heard, and the node obeys broadcasts alone.
-    answers_to(
-        &rt,
-        NAME,
-        &[
-            ("2.000000", "1CEC000B#10090002FFD8FE00"),
-            ("2.010000", "1CEC0B00#110201FFFFD8FE00"),
-            ("2.020000", "1CEB000B#0134124001000000"),
-            ("2.030000", "1CEB000B#028005FFFFFFFFFF"),
-        ],
-        &[("2.000000", "18EEFF00#3412400100000080")],
-        "frames 4 other 0 unread 0 messages 1 lines 1",
-    )
-}
-
-#[test]
-fn answers_on_the_bus_of_the_log(rt: HostRuntime) -> Result<(), Fail> {
-    // The first frame is on can1, so the node is there alone, and its lines name that bus.
-    answers(
-        &rt,
-        NAME,
-        "(1.000000) can1 18EEFF0B#7856400100000080 R\nhello\n(2.000000) can0 18EAFFFE#00EE00\n\
-         (3.000000) can1 18EAFFFE#00EE00\n",
-        "(0000000001.000000) can1 18EEFF00#3412400100000080\n\
-         (0000000003.000000) can1 18EEFF00#3412400100000080\n",
-        "frames 2 other 1 unread 1 messages 0 lines 2",
-    )
-}
-
-#[test]
-fn empty_log(rt: HostRuntime) -> Result<(), Fail> {
-    answers(
-        &rt,
-        NAME,
-        "",
-        "",
-        "frames 0 other 0 unread 0 messages 0 lines 0",
-    )
-}
-
 /// What `answer` says over these devices for a node that starts at this address, but for its counts.
 fn answer_over(
     alloc: Global,
@@ -156,7 +36,7 @@ fn answer_over(
     address: u8,
     limit: u64,
 ) -> Result<bool, RunFault> {
-    let name = Name::new(NAME_RAW);
+    let name = Name::new(NAME);
     let bus = Bus::new(b"can0");
     let counts = answer(
         alloc,

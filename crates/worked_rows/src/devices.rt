@@ -1,8 +1,8 @@
 //! Devices that fail, and logs that are too long.
-use crate::support::program;
+use crate::support::run_over;
 use j39_cli::{parse, perform};
-use j39_frame::{Bus, Full, Told, Trial};
-use j39_listen::{RunFault, run};
+use j39_frame::{Full, Told, Trial};
+use j39_listen::RunFault;
 use std::alloc::Global;
 use std::fs;
 use std::test::Fail;
@@ -55,23 +55,6 @@ fn log_in(alloc: Global, most: usize) -> Result<Trial, Fail> {
 /// A sink with room for so many bytes.
 pub(crate) fn room_for(alloc: Global, room: usize) -> Result<Trial, Fail> {
     Ok(Trial::new(alloc, b"", room)?)
-}
-
-/// What a run answers over these devices, but for its counts.
-pub(crate) fn run_over(
-    alloc: Global,
-    source: &mut Trial,
-    sink: &mut Trial,
-    limit: u64,
-) -> Result<(), RunFault> {
-    run(
-        alloc,
-        &mut Told::new(source),
-        &mut Told::new(sink),
-        None,
-        limit,
-    )?;
-    Ok(())
 }
 
 /// The status of `report` over these devices.
@@ -221,19 +204,6 @@ fn error_writer_that_fails(rt: HostRuntime) -> Result<(), Fail> {
     let status = report_over(alloc, &mut log_in(alloc, 4096)?, &mut sink, &mut err)?;
     assert_eq!(rt; status, 0);
     assert_eq!(rt; sink.written(), TEXT);
-    Ok(())
-}
-
-#[test]
-fn bus_that_is_given(rt: HostRuntime) -> Result<(), Fail> {
-    let shown = program(rt.alloc(), &["j1939", "report", "--bus", "can1"], LOG)?;
-    assert_eq!(rt; shown.out.as_str(), "");
-    assert_eq!(rt;
-        shown.err.as_str(),
-        "frames 0 other 3 unread 0 messages 0 lines 0\n"
-    );
-    assert_eq!(rt; shown.status, 0);
-    assert!(rt; Bus::new(b"can1").is_some());
     Ok(())
 }
 

@@ -1,20 +1,15 @@
-//! Worked examples that cross crates, each a test under its name. The library itself is empty.
+//! Worked examples that cross crates and that no row of `rows` can say: devices that fail, memory that is refused,
+//! logs in pieces. The library itself is empty.
 #![tactic(auto)]
 
 #[cfg(test)]
 mod answers;
 #[cfg(test)]
-mod broadcasts;
-#[cfg(test)]
-mod claims;
-#[cfg(test)]
 mod devices;
-#[cfg(test)]
-mod frames;
 #[cfg(test)]
 mod identifiers;
 #[cfg(test)]
-mod lines;
+mod longest;
 #[cfg(test)]
 mod losses;
 #[cfg(test)]
@@ -25,7 +20,3 @@ mod nodes;
 mod support;
 #[cfg(test)]
 mod tables;
-#[cfg(test)]
-mod transfers;
-#[cfg(test)]
-mod values;

@@ -1,12 +1,9 @@
 //! Memory that is refused. Each test holds with any one allocation refused, which the tool does in turn; one of
 //! the test's own is passed over, since a wrong answer ends the test at once.
-use crate::broadcasts::{longest_log, longest_text};
-use crate::devices::{logs, run_over};
-use crate::frames::{
-    ACKNOWLEDGED, ASKED, CLAIM, CLEARED, SENT_FIRST, SENT_SECOND, SENT_THIRD, VIN,
-};
+use crate::devices::logs;
+use crate::longest::{longest_log, longest_text};
 use crate::losses::{FRAMES, LINES};
-use crate::support::stamped;
+use crate::support::{run_over, stamped};
 use j39_cli::{parse, refuse};
 use j39_frame::{Frame, Id, Stamp, Told, Trial};
 use j39_listen::{Listener, RunFault};
@@ -71,15 +68,18 @@ fn memory_of_a_transfer(rt: HostRuntime) -> Result<(), Fail> {
     let _own = shows_without_memory(
         &rt,
         &[
-            ("1.000000", CLAIM),
-            ("2.000000", ASKED),
-            ("2.010000", CLEARED),
-            ("2.020000", SENT_FIRST),
-            ("2.030000", SENT_SECOND),
-            ("2.040000", SENT_THIRD),
-            ("2.050000", ACKNOWLEDGED),
+            ("1.000000", "18EEFF00#3412400100000080"),
+            ("2.000000", "1CEC0B00#10120003FFECFE00"),
+            ("2.010000", "1CEC000B#110301FFFFECFE00"),
+            ("2.020000", "1CEB0B00#013146554A413643"),
+            ("2.030000", "1CEB0B00#025631324C4B3132"),
+            ("2.040000", "1CEB0B00#033334352AFFFFFF"),
+            ("2.050000", "1CEC000B#13120003FFECFE00"),
         ],
-        &[("2.040000", VIN)],
+        &[(
+            "2.040000",
+            "00 8000000001401234 65260 237 \"1FUJA6CV12LK12345\"",
+        )],
     );
     Ok(())
 }

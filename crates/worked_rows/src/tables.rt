@@ -1,6 +1,4 @@
-//! Logs by a table of one's own.
-use crate::support::program;
-use j39_cli::{parse, perform_with};
+//! A log by a table of one's own.
 use j39_frame::{Told, Trial};
 use j39_listen::{RunFault, run_with};
 use j39_table::read;
@@ -28,42 +26,6 @@ const REPORT: &str = "\
 (0000000001.010000) 0B 8000000001401234 65280 520194 on
 (0000000001.020000) 0B 8000000001401234 61449 1808 -0.0137500000000 rad/s
 ";
-
-#[test]
-fn one_log_by_two_tables(rt: HostRuntime) -> Result<(), Fail> {
-    let alloc = rt.alloc();
-    let groups = read(alloc, TABLE.as_bytes())?;
-    let task = parse(alloc, &["j1939", "report", "--table", "my.table"])?;
-    let mut out = Vec::new(alloc);
-    let mut err = Vec::new(alloc);
-    let status = perform_with(
-        alloc,
-        &groups,
-        &task,
-        &mut Told::new(LOG.as_bytes()),
-        &mut Told::new(&mut out),
-        &mut Told::new(&mut err),
-    );
-    assert_eq!(rt; status, 0);
-    assert_eq!(rt; out.as_slice(), REPORT.as_bytes());
-    assert_eq!(rt;
-        err.as_slice(),
-        b"frames 4 other 0 unread 0 messages 2 lines 4\n".as_slice()
-    );
-
-    let built_in = program(alloc, &["j1939", "report"], LOG.as_bytes())?;
-    assert!(rt;
-        built_in
-            .out
-            .as_str()
-            .starts_with("(0000000001.030000) 0B 8000000001401234 61444 512 35 %\n")
-    );
-    assert_eq!(rt;
-        built_in.err.as_str().trim_end(),
-        "frames 4 other 0 unread 0 messages 1 lines 3"
-    );
-    Ok(())
-}
 
 /// In pieces of any size, and where the writer takes a front alone.
 #[test]
