@@ -1,7 +1,7 @@
 //! Worked rows of broadcasts, and allocations that are refused.
 use j39_frame::{Frame, Id, Stamp};
 use j39_transport::{Assembler, Fed};
-use std::alloc::Global;
+use std::process::Abort;
 use std::test::Fail;
 
 /// What a frame was to an assembler.
@@ -38,14 +38,12 @@ fn kind_of(assembler: &mut Assembler, frame: &Frame) -> Option<Kind> {
     }
 }
 
-/// Whether each frame is what its row says.
-pub(crate) fn follows(assembler: &mut Assembler, rows: &[Row]) -> bool {
-    for (micros, id, bytes, kind) in rows {
-        if fed(assembler, *micros, *id, bytes) != Some(*kind) {
-            return false;
-        }
+/// Each frame is what its row says; the number of one that isn't is told.
+pub(crate) fn follows(rt: &impl Abort, assembler: &mut Assembler, rows: &[Row]) {
+    for (place, (micros, id, bytes, kind)) in rows.iter().enumerate() {
+        let met = fed(assembler, *micros, *id, bytes);
+        assert_eq!(rt; met, Some(*kind), "row {place}");
     }
-    true
 }
 
 // Of 00, and of 0B, to all.
@@ -73,7 +71,7 @@ fn vin_by_broadcast(rt: HostRuntime) -> Result<(), Fail> {
         (2_050_000, DATA, P1, Taken),
         (2_100_000, DATA, P2, Taken),
     ];
-    assert!(rt; follows(&mut assembler, &rows));
+    follows(&rt, &mut assembler, &rows);
     let last = Frame::new(
         Stamp::new(2_150_000).ok_or("stamp")?,
         Id::new(DATA).ok_or("id")?,
@@ -101,7 +99,7 @@ fn longest_broadcast(rt: HostRuntime) -> Result<(), Fail> {
         (0, BAM, [0x20, 0x12, 0, 4, 0xFF, 0xEC, 0xFE, 0], Ignored),
         (0, BAM, [0x20, 0xF9, 6, 255, 0xFF, 0xEC, 0xFE, 0], Taken),
     ];
-    assert!(rt; follows(&mut assembler, &rows));
+    follows(&rt, &mut assembler, &rows);
     for number in 1..255u8 {
         assert_eq!(rt;
             fed(
@@ -134,7 +132,7 @@ fn broken_broadcast_then_another(rt: HostRuntime) -> Result<(), Fail> {
         (3_100_000, DATA, P2, Taken),
         (3_150_000, DATA, P3, Whole),
     ];
-    assert!(rt; follows(&mut assembler, &rows));
+    follows(&rt, &mut assembler, &rows);
     Ok(())
 }
 
@@ -160,7 +158,7 @@ fn broadcast_timing(rt: HostRuntime) -> Result<(), Fail> {
         (3_600_000, DATA, P2, Taken),
         (3_700_000, DATA, P3, Whole),
     ];
-    assert!(rt; follows(&mut assembler, &rows));
+    follows(&rt, &mut assembler, &rows);
     Ok(())
 }
 
@@ -191,7 +189,7 @@ fn two_broadcasts_at_once(rt: HostRuntime) -> Result<(), Fail> {
         ),
         (2_150_000, DATA, P3, Whole),
     ];
-    assert!(rt; follows(&mut assembler, &rows));
+    follows(&rt, &mut assembler, &rows);
     Ok(())
 }
 
@@ -215,7 +213,7 @@ fn assembler_without_memory(rt: HostRuntime) -> Result<(), Fail> {
     assert_eq!(rt; assembler.open(), 0);
     assert_eq!(rt; assembler.held(), 0);
     let rows = [(3_000_000, BAM, B, Taken), (3_050_000, DATA, P1, Taken)];
-    assert!(rt; follows(&mut assembler, &rows));
+    follows(&rt, &mut assembler, &rows);
     assembler.forget(0);
     assert_eq!(rt; assembler.open(), 0);
     assert_eq!(rt; fed(&mut assembler, 3_100_000, DATA, &P2), Some(Ignored));

@@ -2,6 +2,7 @@
 use j39_frame::{Frame, Id, Pgn, Stamp};
 use j39_transport::{Cut, Receiver, Reply, SendEvent, SendState, Sender};
 use std::alloc::Global;
+use std::process::Abort;
 use std::test::Fail;
 
 pub(crate) const VIN: [u8; 18] = *b"1FUJA6CV12LK12345*";
@@ -86,24 +87,23 @@ pub(crate) fn receiver_tick(receiver: &mut Receiver, micros: u64) -> Sent {
     shown(receiver.tick(Stamp::new(micros)?))
 }
 
-/// Whether a receiver answers these frames of 00 so, and delivers nothing.
-fn answers(receiver: &mut Receiver, rows: &[(u32, [u8; 8], Sent)]) -> bool {
-    for (raw, bytes, answer) in rows {
-        if heard(receiver, *raw, bytes, 0) != Some((*answer, 0)) {
-            return false;
-        }
+/// A receiver answers these frames of 00 so, and delivers nothing; the number of one where it doesn't is told.
+fn answers(rt: &impl Abort, receiver: &mut Receiver, rows: &[(u32, [u8; 8], Sent)]) {
+    for (place, (raw, bytes, answer)) in rows.iter().enumerate() {
+        let met = heard(receiver, *raw, bytes, 0);
+        assert_eq!(rt; met, Some((*answer, 0)), "row {place}");
     }
-    true
 }
 
-/// Whether a sender that has sent its RTS still waits after each of these frames.
-fn waits(sender: &mut Sender<'_>, frames: &[&[u8]]) -> bool {
-    for bytes in frames {
-        if told(sender, bytes, 0) != Some(SendState::Waiting) {
-            return false;
-        }
+/// A sender that has sent its RTS still waits after each of these frames; the number of one where it doesn't is told.
+fn waits(rt: &impl Abort, sender: &mut Sender<'_>, frames: &[&[u8]]) {
+    for (place, bytes) in frames.iter().enumerate() {
+        assert_eq!(rt;
+            told(sender, bytes, 0),
+            Some(SendState::Waiting),
+            "frame {place}"
+        );
     }
-    true
 }
 
 #[test]
@@ -112,18 +112,18 @@ fn transfer_with_a_loss(rt: HostRuntime) -> Result<(), Fail> {
     let mut receiver = receiver(rt.alloc()).ok_or("receiver")?;
     assert_eq!(rt; tick(&mut sender, 0), Some((CONTROL, RTS)));
     let cts = Some((BACK, CTS));
-    assert!(rt; answers(&mut receiver, &[(CONTROL, RTS, cts)]));
+    answers(&rt, &mut receiver, &[(CONTROL, RTS, cts)]);
     assert_eq!(rt; told(&mut sender, &CTS, 0), Some(SendState::Sending));
     assert_eq!(rt; tick(&mut sender, 1), Some((DATA, P1)));
     assert_eq!(rt; tick(&mut sender, 2), Some((DATA, P2)));
     assert_eq!(rt; tick(&mut sender, 3), Some((DATA, P3)));
     let again = [0x11, 2, 2, 0xFF, 0xFF, 0xEC, 0xFE, 0];
     let rows = [(DATA, P1, None), (DATA, P3, Some((BACK, again)))];
-    assert!(rt; answers(&mut receiver, &rows));
+    answers(&rt, &mut receiver, &rows);
     assert_eq!(rt; told(&mut sender, &again, 3), Some(SendState::Sending));
     assert_eq!(rt; tick(&mut sender, 4), Some((DATA, P2)));
     assert_eq!(rt; tick(&mut sender, 5), Some((DATA, P3)));
-    assert!(rt; answers(&mut receiver, &[(DATA, P2, None)]));
+    answers(&rt, &mut receiver, &[(DATA, P2, None)]);
     let last = frame(DATA, &P3).ok_or("frame")?;
     let Reply::Delivered(message, id, bytes) = receiver.on(&last, Stamp::new(5).ok_or("stamp")?)
     else {
@@ -165,7 +165,7 @@ fn receiver_timeouts(rt: HostRuntime) -> Result<(), Fail> {
         (CONTROL, RTS, cts),
         (0x1CEC0B21, RTS, Some((0x1CEC210B, busy))),
     ];
-    assert!(rt; answers(&mut receiver, &rows));
+    answers(&rt, &mut receiver, &rows);
     assert_eq!(rt; receiver_tick(&mut receiver, 1_250_000), None);
     assert_eq!(rt; receiver_tick(&mut receiver, 1_250_001), cts);
     assert_eq!(rt; receiver_tick(&mut receiver, 2_500_002), cts);
@@ -183,7 +183,7 @@ fn receiver_timeouts(rt: HostRuntime) -> Result<(), Fail> {
 fn packet_that_is_late(rt: HostRuntime) -> Result<(), Fail> {
     let mut receiver = receiver(rt.alloc()).ok_or("receiver")?;
     let rows = [(CONTROL, RTS, Some((BACK, CTS))), (DATA, P1, None)];
-    assert!(rt; answers(&mut receiver, &rows));
+    answers(&rt, &mut receiver, &rows);
     assert_eq!(rt; receiver_tick(&mut receiver, 750_000), None);
     let again = [0x11, 2, 2, 0xFF, 0xFF, 0xEC, 0xFE, 0];
     assert_eq!(rt; receiver_tick(&mut receiver, 750_001), Some((BACK, again)));
@@ -208,7 +208,7 @@ fn frames_that_a_sender_ignores(rt: HostRuntime) -> Result<(), Fail> {
         &CTS[..6],
         &CTS[..7],
     ];
-    assert!(rt; waits(&mut sender, &frames));
+    waits(&rt, &mut sender, &frames);
     Ok(())
 }
 
@@ -245,7 +245,7 @@ fn requests_that_a_receiver_ignores(rt: HostRuntime) -> Result<(), Fail> {
         (CONTROL, [0x10, 0xFA, 6, 0xFF, 0xFF, 0xEC, 0xFE, 0], None),
         (CONTROL, [0x10, 0x12, 0, 4, 0xFF, 0xEC, 0xFE, 0], None),
     ];
-    assert!(rt; answers(&mut receiver, &rows));
+    answers(&rt, &mut receiver, &rows);
     assert!(rt; !receiver.busy());
     Ok(())
 }
@@ -255,7 +255,11 @@ fn requests_that_a_receiver_ignores(rt: HostRuntime) -> Result<(), Fail> {
 fn limits_of_a_request(rt: HostRuntime) -> Result<(), Fail> {
     let mut receiver = receiver(rt.alloc()).ok_or("receiver")?;
     let no_limit = [0x10, 0x12, 0, 3, 0, 0xEC, 0xFE, 0];
-    assert!(rt; answers(&mut receiver, &[(CONTROL, no_limit, Some((BACK, CTS)))]));
+    answers(
+        &rt,
+        &mut receiver,
+        &[(CONTROL, no_limit, Some((BACK, CTS)))],
+    );
     let two = [0x10, 0x12, 0, 3, 2, 0xEC, 0xFE, 0];
     let rows = [
         (
@@ -270,7 +274,7 @@ fn limits_of_a_request(rt: HostRuntime) -> Result<(), Fail> {
             Some((BACK, [0x11, 1, 3, 0xFF, 0xFF, 0xEC, 0xFE, 0])),
         ),
     ];
-    assert!(rt; answers(&mut receiver, &rows));
+    answers(&rt, &mut receiver, &rows);
     Ok(())
 }
 
@@ -279,10 +283,10 @@ fn aborts_of_a_sender(rt: HostRuntime) -> Result<(), Fail> {
     let mut receiver = receiver(rt.alloc()).ok_or("receiver")?;
     let other = [0xFF, 3, 0xFF, 0xFF, 0xFF, 0xEB, 0xFE, 0];
     let rows = [(CONTROL, RTS, Some((BACK, CTS))), (CONTROL, other, None)];
-    assert!(rt; answers(&mut receiver, &rows));
+    answers(&rt, &mut receiver, &rows);
     assert!(rt; receiver.busy());
     let own = [0xFF, 0x63, 0xFF, 0xFF, 0xFF, 0xEC, 0xFE, 0];
-    assert!(rt; answers(&mut receiver, &[(CONTROL, own, None)]));
+    answers(&rt, &mut receiver, &[(CONTROL, own, None)]);
     assert!(rt; !receiver.busy());
     Ok(())
 }

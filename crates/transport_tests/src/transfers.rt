@@ -32,7 +32,7 @@ fn overheard_transfer(rt: HostRuntime) -> Result<(), Fail> {
         (2_040_000, DATA_TO_0B, P3, Whole),
         (2_050_000, BACK, ACKNOWLEDGMENT, Ignored),
     ];
-    assert!(rt; follows(&mut assembler, &rows));
+    follows(&rt, &mut assembler, &rows);
     Ok(())
 }
 
@@ -57,7 +57,7 @@ fn overheard_resend(rt: HostRuntime) -> Result<(), Fail> {
         (3_050_000, BACK, ACKNOWLEDGMENT, Ignored),
         (3_060_000, DATA_TO_0B, P2, Ignored),
     ];
-    assert!(rt; follows(&mut assembler, &rows));
+    follows(&rt, &mut assembler, &rows);
     Ok(())
 }
 
@@ -66,16 +66,16 @@ fn overheard_abort(rt: HostRuntime) -> Result<(), Fail> {
     let mut assembler = Assembler::new(rt.alloc());
     let of_another_group = [0xFF, 2, 0xFF, 0xFF, 0xFF, 0xEB, 0xFE, 0];
     let rows = [(0, TO_0B, Q, Taken), (0, BACK, of_another_group, Ignored)];
-    assert!(rt; follows(&mut assembler, &rows));
+    follows(&rt, &mut assembler, &rows);
     assert_eq!(rt; assembler.open(), 1);
     let rows = [(0, BACK, Q, Taken), (0, BACK, ACKNOWLEDGMENT, Ignored)];
-    assert!(rt; follows(&mut assembler, &rows));
+    follows(&rt, &mut assembler, &rows);
     assert_eq!(rt; assembler.open(), 1);
     let rows = [(0, TO_0B, Q, Taken)];
-    assert!(rt; follows(&mut assembler, &rows));
+    follows(&rt, &mut assembler, &rows);
     assert_eq!(rt; assembler.open(), 2);
     let rows = [(0, BACK, ABORT, Ignored)];
-    assert!(rt; follows(&mut assembler, &rows));
+    follows(&rt, &mut assembler, &rows);
     assert_eq!(rt; assembler.open(), 0);
     Ok(())
 }
@@ -95,18 +95,15 @@ fn overheard_hold(rt: HostRuntime) -> Result<(), Fail> {
         (3_250_001, BACK, HOLD, Ignored),
         (4_500_000, DATA_TO_0B, P2, Ignored),
     ];
-    assert!(rt; follows(&mut assembler, &rows));
+    follows(&rt, &mut assembler, &rows);
     Ok(())
 }
 
 /// A transfer of 00 to 0B, and after its first packet one to each address from 10 (hex) to before
 /// the end: how many are open then, and what the second and the third packet are.
 fn crowded(assembler: &mut Assembler, end: u8) -> (usize, Option<Kind>, Option<Kind>) {
-    let begun = [
-        (2_000_000, TO_0B, Q, Taken),
-        (2_010_000, DATA_TO_0B, P1, Taken),
-    ];
-    let _begun = follows(assembler, &begun);
+    let _first = fed(assembler, 2_000_000, TO_0B, &Q);
+    let _second = fed(assembler, 2_010_000, DATA_TO_0B, &P1);
     for destination in 0x10..end {
         let id = 0x1CEC0000 + 256 * u32::from(destination);
         let _other = fed(assembler, 2_020_000, id, &Q);
