@@ -7,7 +7,8 @@ use Rattle.j39_address.specs.Holder.{IsHolderAfter}
 
 -- a has another holder after the later claims than after the earlier ones, or no longer one, or one now
 abbrev pub ChangesHolder : List (Option Claim) → List (Option Claim) → ℕ → Type 0
-ChangesHolder earlier later a = (old new : Option ℕ) → IsHolderAfter earlier a old → IsHolderAfter later a new → old ≢ new
+ChangesHolder earlier later a = (old new : Option ℕ) → IsHolderAfter earlier a old → IsHolderAfter later a new
+    → old ≢ new
 
 -- the addresses whose holder changes from the earlier claims to the later ones, rising
 pub record AreChanged (earlier later : List (Option Claim)) (addresses : List ℕ) : Type 0 where

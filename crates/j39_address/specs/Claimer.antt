@@ -29,7 +29,8 @@ pub record IsNode (claimer : Claimer) (node : Node) : Type 0 where
   pub claims : StandsFor claimer.claims node.claims
 
 -- the node makes a step after which it is the claimer, and what it answers is this frame, or none
-pub record MakesStep (node : Node) (call : Call) (now : ℕ) (frame : Option FrameRecord) (claimer : Claimer) : Type 0 where
+pub record MakesStep (node : Node) (call : Call) (now : ℕ) (frame : Option FrameRecord)
+    (claimer : Claimer) : Type 0 where
   pub answer : Option ℕ
   pub after : Node
   pub step : NodeStep node call now answer after

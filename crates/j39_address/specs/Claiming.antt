@@ -11,7 +11,8 @@ use Rattle.j39_address.specs.Node.{with_claim}
 -- the claimer notes its own claim of a, and answers its frame; all else stays
 pub record Says (old new : Claimer) (a now : ℕ) (frame : Option FrameRecord) : Type 0 where
   pub frame_is : frame ≡ Some (claim_frame now (name_raw old.name) a)
-  pub noted : (C : List (Option Claim)) → StandsFor old.claims C → StandsFor new.claims (with_claim C (name_raw old.name) a)
+  pub noted : (C : List (Option Claim)) → StandsFor old.claims C
+      → StandsFor new.claims (with_claim C (name_raw old.name) a)
   pub name : new.name ≡ old.name
   pub preferred : new.preferred ≡ old.preferred
   pub status : new.status ≡ old.status

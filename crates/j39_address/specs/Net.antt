@@ -25,7 +25,8 @@ IsMember net i m = slice_get net.members i ≡ Some m
 abbrev pub sent_to : ℕ → ℕ → Claim → List Delivery
 sent_to zero sender claim = []
 sent_to (suc count) sender claim =
-    if count == sender then sent_to count sender claim else record { claim = claim; to = count } ∷ sent_to count sender claim
+    if count == sender then sent_to count sender claim else record
+    { claim = claim; to = count } ∷ sent_to count sender claim
 
 -- what a member's answer, if any, puts on its way: a claim, "cannot claim" too
 abbrev pub sent : ℕ → ℕ → ℕ → Option ℕ → List Delivery
@@ -41,11 +42,14 @@ moved net rest i new answer = record {
 
 pub data NetStep (old new : Net) : Type 0 where
   -- a member is called with anything but a claim, at any moment
-  acts : (i now : ℕ) (call : Call) (m n : Node) (answer : Option ℕ) → IsMember old i m → ((claim : Claim) → call ≢ Heard claim)
+  acts : (i now : ℕ) (call : Call) (m n : Node) (answer : Option ℕ) → IsMember old i m
+      → ((claim : Claim) → call ≢ Heard claim)
       → NodeStep m call now answer n → new ≡ moved old old.pending i n answer → NetStep old new
   -- a member hears one of the claims that are on their way to it
-  hears : (now : ℕ) (before later : List Delivery) (d : Delivery) (m n : Node) (answer : Option ℕ) → old.pending ≡ before ++ d ∷ later
-      → IsMember old d.to m → NodeStep m (Heard d.claim) now answer n → new ≡ moved old (before ++ later) d.to n answer → NetStep old new
+  hears : (now : ℕ) (before later : List Delivery) (d : Delivery) (m n : Node) (answer : Option ℕ)
+      → old.pending ≡ before ++ d ∷ later
+      → IsMember old d.to m → NodeStep m (Heard d.claim) now answer n
+      → new ≡ moved old (before ++ later) d.to n answer → NetStep old new
 
 -- any number of steps
 pub data NetRun : Net → Net → Type 0 where

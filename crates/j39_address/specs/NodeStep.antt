@@ -38,7 +38,8 @@ GivesUp old C answer new =
 
 pub data NodeStep (old : Node) (call : Call) (now : ℕ) (answer : Option ℕ) (new : Node) : Type 0 where
   -- an idle node is started; any other was
-  starts : call ≡ Start → old.status ≡ Idle → Begins old old.claims now old.preferred answer new → NodeStep old call now answer new
+  starts : call ≡ Start → old.status ≡ Idle → Begins old old.claims now old.preferred answer new
+      → NodeStep old call now answer new
   is_started : call ≡ Start → old.status ≢ Idle → Rests old answer new → NodeStep old call now answer new
   -- 250 ms after its claim the address is its own
   holds : (a : ℕ) → call ≡ Tick → old.status ≡ Claiming a → old.moment + claim_time ≤ now
@@ -47,7 +48,8 @@ pub data NodeStep (old : Node) (call : Call) (now : ℕ) (answer : Option ℕ) (
       → Rests old answer new → NodeStep old call now answer new
   ticks_on : call ≡ Tick → ((a : ℕ) → old.status ≢ Claiming a) → Rests old answer new → NodeStep old call now answer new
   -- a claim of its own NAME is ignored; one of another NAME, elsewhere, is noted
-  hears_itself : (a : ℕ) → call ≡ Heard (record { name = old.name; address = a }) → Rests old answer new → NodeStep old call now answer new
+  hears_itself : (a : ℕ) → call ≡ Heard (record { name = old.name; address = a }) → Rests old answer new
+      → NodeStep old call now answer new
   notes : (n a : ℕ) → call ≡ Heard (record { name = n; address = a }) → n ≢ old.name → (IsAt old a → ⊥)
       → Notes old (with_claim old.claims n a) answer new → NodeStep old call now answer new
   -- at its own address the smaller NAME wins: a larger one is answered, a smaller one takes the address
@@ -69,7 +71,8 @@ pub data NodeStep (old : Node) (call : Call) (now : ℕ) (answer : Option ℕ) (
   -- a node that was started obeys a command to its NAME
   obeys : (a : ℕ) → call ≡ Commanded (record { name = old.name; address = a }) → IsAddress a → old.status ≢ Idle
       → Begins old old.claims now a answer new → NodeStep old call now answer new
-  ignores : (n a : ℕ) → call ≡ Commanded (record { name = n; address = a }) → (n ≢ old.name) ⊎ (null_address ≤ a) ⊎ (old.status ≡ Idle)
+  ignores : (n a : ℕ) → call ≡ Commanded (record { name = n; address = a }) → (n ≢ old.name) ⊎ (null_address ≤ a)
+      ⊎ (old.status ≡ Idle)
       → Rests old answer new → NodeStep old call now answer new
   -- every other frame is nothing to it
   passes : call ≡ Other → Rests old answer new → NodeStep old call now answer new

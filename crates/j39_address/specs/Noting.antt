@@ -16,7 +16,8 @@ pub record Leaves (old new : Claims) (n address : ℕ) (left : Option ℕ) : Typ
 
 -- n takes the address that it claims from nobody, or from a larger NAME
 pub record Takes (old new : Claims) (n address : ℕ) (taken : Option ℕ) : Type 0 where
-  pub found : IfSome taken (λ a. (a ≡ address) × IsAddress a × ((m : ℕ) → holder_in old a ≡ Some m → n < m) × (holder_in new a ≡ Some n))
+  pub found : IfSome taken (λ a. (a ≡ address) × IsAddress a × ((m : ℕ) → holder_in old a ≡ Some m → n < m)
+      × (holder_in new a ≡ Some n))
   pub none : taken ≡ None → IsAddress address → (m : ℕ) × (holder_in old address ≡ Some m) × (m ≤ n)
   pub others : KeepsOthers old new taken
 

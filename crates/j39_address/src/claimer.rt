@@ -197,7 +197,11 @@ impl Claimer {
 
     /// Claims the address from now on.
     fn claim(&mut self, address: u8, now: Stamp) -> Option<Frame>
-        ensures { Says (record self.old { status = status.Claiming address; since = stamp_micros now }) self.new address (stamp_micros now) result }
+        ensures { Says (record self.old {
+          status = status.Claiming address;
+          since =
+              stamp_micros now;
+        }) self.new address (stamp_micros now) result }
     {
         self.status = Status::Claiming(address);
         self.since = now.micros();

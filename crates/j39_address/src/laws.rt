@@ -42,7 +42,8 @@ pub fn one_list_of_changes()
 
 /// Whatever a node is called with and when, it has exactly one step: no state and call is left open.
 pub fn one_step()
-    ensures some { (old : Node) (call : Call) (now : ℕ) → (answer : Option ℕ) × (new : Node) × NodeStep old call now answer new }
+    ensures some { (old : Node) (call : Call) (now : ℕ) → (answer : Option ℕ) × (new : Node)
+        × NodeStep old call now answer new }
     ensures same { (old : Node) (call : Call) (now : ℕ) (x y : Option ℕ) (m n : Node)
         → NodeStep old call now x m → NodeStep old call now y n → (x ≡ y) × (m ≡ n) }
 {}

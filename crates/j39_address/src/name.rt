@@ -121,7 +121,8 @@ impl Name {
     ) -> Option<Name>
         ensures known { IsSome result ↔ AreNameFields (name_fields arbitrary industry system_instance system
             reserved function function_instance ecu_instance manufacturer identity) }
-        ensures fields { IfSome result (λ name. fields_of (name_raw name) ≡ (name_fields arbitrary industry system_instance system
+        ensures fields { IfSome result (λ name. fields_of (name_raw name)
+            ≡ (name_fields arbitrary industry system_instance system
             reserved function function_instance ecu_instance manufacturer identity)) }
 
         // The fields of a NAME give it back.
@@ -174,7 +175,8 @@ fn top_of(
     requires reserved { reserved < 2 }
     requires function_instance { function_instance < 32 }
     requires ecu_instance { ecu_instance < 8 }
-    ensures { result ≡ arbitrary * 2 ^ 31 + industry * 2 ^ 28 + system_instance * 2 ^ 24 + system * 2 ^ 17 + reserved * 2 ^ 16
+    ensures { result
+        ≡ arbitrary * 2 ^ 31 + industry * 2 ^ 28 + system_instance * 2 ^ 24 + system * 2 ^ 17 + reserved * 2 ^ 16
         + function * 2 ^ 8 + function_instance * 2 ^ 3 + ecu_instance }
 {
     let group = u32::from(arbitrary) * 8 + u32::from(industry);

@@ -1,4 +1,6 @@
+-- codes and lamps
 pub mod CodeLemmas
-pub mod NumberLemmas
 pub mod LampLemmas
+-- writing them
+pub mod NumberLemmas
 pub mod WriteLemmas

@@ -15,7 +15,8 @@ count_of bits = if bits == 127 then None else Some bits
 -- SPN 0 with FMI 0, or bytes FF alone
 abbrev pub is_no_code : ℕ → ℕ → ℕ → ℕ → Bool
 is_no_code first second third fourth =
-    (first == 0xFF && (second == 0xFF && (third == 0xFF && fourth == 0xFF))) || (spn_of first second third == 0 && third % 32 == 0)
+    (first == 0xFF && (second == 0xFF && (third == 0xFF && fourth == 0xFF)))
+    || (spn_of first second third == 0 && third % 32 == 0)
 
 -- the FMI is the low 5 bits of the third byte, and the top bit of the fourth the conversion method: the SPN of 1 can't be known
 unfoldable pub code_of : ℕ → ℕ → ℕ → ℕ → Option Code
@@ -27,7 +28,8 @@ code_of first second third fourth =
 -- the code i, counted from 0, has the bytes 3 + 4 i to 6 + 4 i, counted from 1
 abbrev pub code_at : List ℕ → ℕ → Option Code
 code_at payload i =
-    code_of (slice_index payload (2 + 4 * i)) (slice_index payload (3 + 4 * i)) (slice_index payload (4 + 4 * i)) (slice_index payload (5 + 4 * i))
+    code_of (slice_index payload (2 + 4 * i)) (slice_index payload (3 + 4 * i)) (slice_index payload (4 + 4 * i))
+    (slice_index payload (5 + 4 * i))
 
 -- how many times four bytes stand behind byte 2
 abbrev pub places_of : List ℕ → ℕ

@@ -10,12 +10,14 @@ use Rattle.j39_faults.specs.declared.lamps.Lamps.{Lamps}
 -- two bits: 00 off, 01 on, 10 reserved, 11 not available
 abbrev pub state_of : ℕ → LampState
 state_of bits =
-    if bits == 0 then state.Off else (if bits == 1 then state.On else (if bits == 2 then state.Reserved else state.NotAvailable))
+    if bits == 0 then state.Off else (if bits == 1 then state.On else
+    (if bits == 2 then state.Reserved else state.NotAvailable))
 
 -- two bits: 00 slowly, 01 fast, 10 reserved, 11 not at all
 abbrev pub flash_of : ℕ → Flash
 flash_of bits =
-    if bits == 0 then flash.Slow else (if bits == 1 then flash.Fast else (if bits == 2 then flash.Reserved else flash.Steady))
+    if bits == 0 then flash.Slow else (if bits == 1 then flash.Fast else
+    (if bits == 2 then flash.Reserved else flash.Steady))
 
 abbrev pub lamp_of : ℕ → ℕ → Lamp
 lamp_of states flashes = record { state = state_of states; flash = flash_of flashes }

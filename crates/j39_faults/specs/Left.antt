@@ -7,4 +7,5 @@ use Rattle.j39_faults.specs.Codes.{code_at, places_of}
 
 -- those from the next place on
 unfoldable pub codes_left : Codes → List Code
-codes_left codes = filter_map (code_at codes.payload.now) (range_with_len codes.place (places_of codes.payload.now - codes.place))
+codes_left codes = filter_map (code_at codes.payload.now)
+    (range_with_len codes.place (places_of codes.payload.now - codes.place))

@@ -64,13 +64,15 @@ meaning_text fmi = codes ": " ++ fmi_words fmi
 -- the kind, the SPN, the FMI, the count and the lamps
 abbrev pub columns_text : Kind → ℕ → ℕ → Option ℕ → Lamps → List ℕ
 columns_text kind spn fmi count lamps =
-    kind_text kind ++ codes " " ++ decimal spn ++ codes " " ++ decimal fmi ++ codes " " ++ count_text count ++ codes " " ++ lamps_text lamps
+    kind_text kind ++ codes " " ++ decimal spn ++ codes " " ++ decimal fmi ++ codes " " ++ count_text count
+    ++ codes " " ++ lamps_text lamps
 
 -- as `active 110 0 3 red,amber coolant temperature: above normal, most severe`; of a code of conversion method 1 the bytes in hex
 unfoldable pub code_text : Kind → Lamps → Option (List ℕ) → Code → List ℕ
 code_text kind lamps name (Known spn fmi count) =
     columns_text kind spn fmi count lamps ++ codes " " ++ name_text spn name ++ meaning_text fmi
-code_text kind lamps name (Raw bytes) = kind_text kind ++ codes " " ++ encode_upper bytes ++ codes " - " ++ lamps_text lamps
+code_text kind lamps name (Raw bytes) = kind_text kind ++ codes " " ++ encode_upper bytes ++ codes " - "
+    ++ lamps_text lamps
 
 -- as `active none - -`, where a message has no code
 unfoldable pub no_code_text : Kind → Lamps → List ℕ

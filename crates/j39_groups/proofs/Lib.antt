@@ -1,11 +1,14 @@
+-- numbers, texts and lists
 pub mod NumberLemmas
 pub mod ListLemmas
-pub mod PartsLemmas
-pub mod TableLemmas
 pub mod TextLemmas
-pub mod QuickLemmas
+pub mod PartsLemmas
+-- the built-in table, and its fast way
+pub mod TableLemmas
 pub mod SlotLemmas
 pub mod ReadBackLemmas
-pub mod ReadLemmas
-pub mod MarkLemmas
+pub mod QuickLemmas
+-- tables that were read
 pub mod SortLemmas
+pub mod MarkLemmas
+pub mod ReadLemmas

@@ -17,7 +17,14 @@ field_record (Text part) = text_field part
 field_record (Texts byte count) = texts_field byte count
 
 abbrev pub row_record : Row → RowRecord
-row_record row = record { pgn = row.pgn; group = row.group.now; spn = row.spn; name = row.name.now; field = field_record row.field }
+row_record row = record {
+  pgn = row.pgn;
+  group = row.group.now;
+  spn = row.spn;
+  name = row.name.now;
+  field =
+      field_record row.field;
+}
 
 abbrev pub sized_slot_record : SizedSlot.SizedSlot → SizedSlotRecord
 sized_slot_record n = record { count = n.count; slot = slot_record n.slot }
@@ -50,7 +57,8 @@ IsSound (Texts byte count) = 0 < byte
 -- the same as a test
 abbrev pub is_sound : Field → Bool
 is_sound (Number first last slot) =
-    nat_lt 0 first && (nat_le first last && (nat_lt last (first + 4) && (nat_lt 0 slot.step && nat_lt slot.step (2 ^ 30))))
+    nat_lt 0 first && (nat_le first last &&
+    (nat_lt last (first + 4) && (nat_lt 0 slot.step && nat_lt slot.step (2 ^ 30))))
 is_sound (Switch byte low high) = nat_lt 0 byte && (nat_lt 0 low && (high == low + 1 && nat_le high 8))
 is_sound (Text part) = nat_lt 0 part
 is_sound (Texts byte count) = nat_lt 0 byte

@@ -1,17 +1,21 @@
+-- the rules of the standard, and the table
 pub mod Value
 pub mod Row
 pub mod Table
-pub mod Parts
 pub mod Ranges
-pub mod Readings
+pub mod Parts
 pub mod Slots
+pub mod Readings
+-- what is printed (own)
 pub mod ValueText
 pub mod Parameters
+-- what the code's values show
 pub mod Shown
-pub mod CodeRows
-pub mod Quick
 pub mod ReadFields
 pub mod ReadRows
-pub mod Marks
 pub mod ReadValues
+-- the code's steps, below the rules
+pub mod CodeRows
+pub mod Quick
+pub mod Marks
 pub mod ReadLines

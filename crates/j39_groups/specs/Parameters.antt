@@ -18,7 +18,8 @@ bits_end low count = low + count - 2
 abbrev pub bits_text : ℕ → ℕ → ℕ → List ℕ
 bits_text byte low last =
     if last / 8 == 0 then decimal byte ++ codes "." ++ range_text low (last + 1) else
-    decimal byte ++ codes "." ++ decimal low ++ codes "-" ++ decimal (byte + last / 8) ++ codes "." ++ decimal (last % 8 + 1)
+    decimal byte ++ codes "." ++ decimal low ++ codes "-" ++ decimal (byte + last / 8) ++ codes "."
+    ++ decimal (last % 8 + 1)
 
 -- the bytes as 4-5, or one as 4; bits of a byte as 4.1-2; a part between the bytes `*` as *1; the bytes from one on as 2-
 abbrev pub place_text : FieldRecord → List ℕ
@@ -45,7 +46,8 @@ scale_text (texts_field byte count) = codes "- - -"
 
 abbrev pub line_of_columns : ℕ → List ℕ → ℕ → List ℕ → List ℕ → List ℕ → List ℕ
 line_of_columns pgn group spn place scale name =
-    decimal pgn ++ codes " " ++ group ++ codes " " ++ decimal spn ++ codes " " ++ place ++ codes " " ++ scale ++ codes " " ++ name ++ (newline ∷ [])
+    decimal pgn ++ codes " " ++ group ++ codes " " ++ decimal spn ++ codes " " ++ place ++ codes " " ++ scale
+    ++ codes " " ++ name ++ (newline ∷ [])
 
 -- the group's PGN and short name, the SPN, where it stands, its scale, and what it is called
 unfoldable pub row_text : RowRecord → List ℕ

@@ -64,7 +64,8 @@ is_plain_field (Texts byte count) = false
 abbrev pub is_quick : LabelledRow → Bool
 is_quick quick =
     is_sound quick.row.field && (is_plain_field quick.row.field
-    && (nat_le quick.label.from 8 && bytes_eq (short_text quick.label) (digits_onto 64 10 false quick.row.spn [] ++ (space ∷ []))))
+    && (nat_le quick.label.from 8 && bytes_eq (short_text quick.label)
+    (digits_onto 64 10 false quick.row.spn [] ++ (space ∷ []))))
 
 abbrev pub are_quick : List LabelledRow → Bool
 are_quick rows = list_all is_quick rows

@@ -7,7 +7,13 @@ use Rattle.j39_groups.specs.Row.{FieldRecord, number_field, bits_field, switch_f
 use Rattle.j39_groups.specs.Value.{SlotRecord}
 
 abbrev pub scale_record : Scale → SlotRecord
-scale_record scale = record { step = pos scale.step; offset = scale.offset; places = scale.places; unit = scale.unit.now }
+scale_record scale = record {
+  step = pos scale.step;
+  offset = scale.offset;
+  places = scale.places;
+  unit =
+      scale.unit.now;
+}
 
 abbrev pub read_field_record : ReadField → FieldRecord
 read_field_record (Number first last scale) = number_field first last (scale_record scale)
@@ -59,9 +65,11 @@ IsSoundRead (Texts byte count) = IsSoundParts byte count
 -- the same as a test
 abbrev pub is_sound_read : ReadField → Bool
 is_sound_read (Number first last scale) =
-    nat_lt 0 first && (nat_le first last && nat_lt last (first + 4)) && nat_lt (largest (8 * (last - first + 1)) scale) (2 ^ 63)
+    nat_lt 0 first && (nat_le first last && nat_lt last (first + 4))
+    && nat_lt (largest (8 * (last - first + 1)) scale) (2 ^ 63)
 is_sound_read (Bits byte low count scale) =
-    nat_lt 0 byte && (nat_lt 0 low && (nat_le low 8 && (nat_lt 0 count && nat_le count 32))) && nat_lt (largest count scale) (2 ^ 63)
+    nat_lt 0 byte && (nat_lt 0 low && (nat_le low 8 && (nat_lt 0 count && nat_le count 32)))
+    && nat_lt (largest count scale) (2 ^ 63)
 is_sound_read (Switch byte low high) = nat_lt 0 byte && (nat_lt 0 low && (high == low + 1 && nat_le high 8))
 is_sound_read (Text part) = nat_lt 0 part
 is_sound_read (Texts byte count) = nat_lt 0 byte && nat_le count 31

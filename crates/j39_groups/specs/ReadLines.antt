@@ -17,7 +17,8 @@ row_lines head bytes row = flat_map (reading_line head) (row_readings bytes row)
 
 -- the readings of the first parts of a payload
 abbrev pub text_readings : ℕ → List ℕ → ℕ → List ReadingRecord
-text_readings spn bytes count = map (λ value. record { spn = spn; value = value }) (filter_map filled_text_meaning (take count (parts_of bytes)))
+text_readings spn bytes count = map (λ value. record { spn = spn; value = value })
+    (filter_map filled_text_meaning (take count (parts_of bytes)))
 
 -- the line of a number with this text and unit
 abbrev pub number_line : List ℕ → ℕ → List ℕ → List ℕ → List ℕ

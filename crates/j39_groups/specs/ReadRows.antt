@@ -9,7 +9,14 @@ use Rattle.j39_groups.specs.Row.{RowRecord}
 use Rattle.j39_groups.specs.Table.{the_table}
 
 abbrev pub read_row_record : ReadRow → RowRecord
-read_row_record row = record { pgn = pgn_raw row.pgn; group = row.group.now; spn = row.spn; name = row.name.now; field = read_field_record row.field }
+read_row_record row = record {
+  pgn = pgn_raw row.pgn;
+  group = row.group.now;
+  spn = row.spn;
+  name =
+      row.name.now;
+  field = read_field_record row.field;
+}
 
 abbrev pub rows_in : Listed → List RowRecord
 rows_in BuiltIn = the_table

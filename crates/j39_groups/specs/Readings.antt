@@ -12,7 +12,8 @@ use Rattle.j39_groups.specs.Ranges.{top_byte, is_valid}
 -- the number in the bytes first to last, counted from 1, the low byte first, where all lie within the payload
 unfoldable pub raw_number : ℕ → ℕ → List ℕ → Option ℕ
 raw_number first last bytes =
-    if nat_le last (length bytes) then Some (little_number (last - (first - 1)) (slice_range bytes (first - 1) last)) else None
+    if nat_le last (length bytes) then Some
+    (little_number (last - (first - 1)) (slice_range bytes (first - 1) last)) else None
 
 -- what a raw number means, by its top byte; nothing where it is not available
 unfoldable pub by_top_byte : ℕ → ValueRecord → Option ValueRecord
@@ -34,7 +35,8 @@ last_byte byte low count = byte - 1 + (low - 1 + count + 7) / 8
 unfoldable pub raw_bits : ℕ → ℕ → ℕ → List ℕ → Option ℕ
 raw_bits byte low count bytes =
     if nat_le (last_byte byte low count) (length bytes)
-    then Some (little_number (last_byte byte low count - (byte - 1)) (slice_range bytes (byte - 1) (last_byte byte low count)) / 2 ^ (low - 1) % 2 ^ count)
+    then Some (little_number (last_byte byte low count - (byte - 1))
+    (slice_range bytes (byte - 1) (last_byte byte low count)) / 2 ^ (low - 1) % 2 ^ count)
     else None
 
 -- two bits and more that are all set are not available; of two bits 10 is an error (J1939-71), any other number of more is valid (own)
@@ -64,8 +66,10 @@ values_at bytes (bits_field byte low count slot) =
     option_to_list (option_and_then (bits_meaning count slot) (raw_bits byte low count bytes))
 values_at bytes (switch_field byte low high) =
     option_to_list (option_and_then (λ b. switch_meaning (b / 2 ^ (low - 1) % 4)) (slice_get bytes (byte - 1)))
-values_at bytes (text_field part) = option_to_list (option_and_then text_meaning (slice_get (parts_of bytes) (part - 1)))
-values_at bytes (texts_field byte count) = filter_map filled_text_meaning (take count (parts_of (drop (byte - 1) bytes)))
+values_at bytes (text_field part) = option_to_list
+    (option_and_then text_meaning (slice_get (parts_of bytes) (part - 1)))
+values_at bytes (texts_field byte count) =
+    filter_map filled_text_meaning (take count (parts_of (drop (byte - 1) bytes)))
 
 abbrev pub readings_at : List ℕ → RowRecord → List ReadingRecord
 readings_at bytes row = map (λ value. record { spn = row.spn; value = value }) (values_at bytes row.field)

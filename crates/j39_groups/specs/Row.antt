@@ -29,7 +29,8 @@ row_of pgn group spn name field = record { pgn = pgn; group = codes group; spn =
 
 abbrev pub number_row : ℕ → String → ℕ → ℕ → ℕ → ℕ → ℤ → ℕ → String → String → RowRecord
 number_row pgn group spn first last step offset places unit name =
-    row_of pgn group spn name (number_field first last (record { step = pos step; offset = offset; places = places; unit = codes unit }))
+    row_of pgn group spn name (number_field first last
+    (record { step = pos step; offset = offset; places = places; unit = codes unit }))
 
 abbrev pub switch_row : ℕ → String → ℕ → ℕ → ℕ → ℕ → String → RowRecord
 switch_row pgn group spn byte low high name = row_of pgn group spn name (switch_field byte low high)

@@ -23,7 +23,13 @@ unit_text Volts = codes "V"
 unit_text Fields = codes "fields"
 
 abbrev pub slot_record : Slot → SlotRecord
-slot_record slot = record { step = pos slot.step; offset = slot.offset; places = slot.places; unit = unit_text slot.unit }
+slot_record slot = record {
+  step = pos slot.step;
+  offset = slot.offset;
+  places = slot.places;
+  unit =
+      unit_text slot.unit;
+}
 
 abbrev pub value_of : Value → ValueRecord
 value_of (Number n slot) = number n (slot_record slot)

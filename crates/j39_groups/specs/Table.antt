@@ -8,7 +8,8 @@ infix 90 switch◌of◌spn◌byte◌bits◌to◌called◌
 infix 90 text◌of◌spn◌part◌called◌
 infix 90 texts◌of◌spn◌byte◌parts◌called◌
 -- a number in the bytes first to last: `raw * step + offset`, in units of the last printed place
-abbrev pub number◌of◌spn◌bytes◌to◌step◌offset◌places◌unit◌called◌ : ℕ → String → ℕ → ℕ → ℕ → ℕ → ℤ → ℕ → String → String → RowRecord
+abbrev pub number◌of◌spn◌bytes◌to◌step◌offset◌places◌unit◌called◌ : ℕ → String → ℕ → ℕ → ℕ → ℕ → ℤ → ℕ → String
+    → String → RowRecord
 number◌of◌spn◌bytes◌to◌step◌offset◌places◌unit◌called◌ = number_row
 
 -- two bits of a byte

@@ -31,7 +31,8 @@ is_plain byte = nat_le space byte && (nat_lt byte delete && (not (byte == quote)
 -- any other byte is `\x` and two upper-case hex digits
 abbrev pub byte_text : ℕ → List ℕ
 byte_text byte =
-    if is_plain byte then byte ∷ [] else codes "\\x" ++ (digit_glyph true (byte / 16) ∷ digit_glyph true (byte % 16) ∷ [])
+    if is_plain byte then byte ∷ [] else codes "\\x"
+    ++ (digit_glyph true (byte / 16) ∷ digit_glyph true (byte % 16) ∷ [])
 
 -- in quotes
 abbrev pub quoted : List ℕ → List ℕ

@@ -53,7 +53,8 @@ fn sized_slot_of(spn: u32) -> Option<SizedSlot>
 
 fn find_slot(rows: &[Row], spn: u32) -> Option<SizedSlot>
     requires { IsTrue (is_sound_table rows.now) }
-    ensures value { option_map sized_slot_record result ≡ slice_get (filter_map (λ row. slot_at spn (row_record row)) rows.now) 0 }
+    ensures value { option_map sized_slot_record result
+        ≡ slice_get (filter_map (λ row. slot_at spn (row_record row)) rows.now) 0 }
     ensures sound { IfSome result (λ n. IsSoundCount n.count n.slot) }
 {
     for row in rows {

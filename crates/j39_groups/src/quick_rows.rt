@@ -11,7 +11,8 @@ use crate::table::{LABELLED, LabelledRow};
 #[tactic(auto, unfolding(crate::specs::Quick::is_quick_group, crate::specs::Table::the_table))]
 pub(crate) fn quick_rows(pgn: u32) -> Option<&'static [LabelledRow]>
     ensures known { is_some result ≡ is_quick_group pgn }
-    ensures rows { IfSome result (λ rows. map (λ quick. row_record quick.row) rows.now ≡ filter (λ row. row.pgn == pgn) the_table) }
+    ensures rows { IfSome result (λ rows. map (λ quick. row_record quick.row) rows.now
+        ≡ filter (λ row. row.pgn == pgn) the_table) }
     ensures quick { IfSome result (λ rows. IsTrue (are_quick rows.now)) }
     ensures few { IfSome result (λ rows. length rows.now ≤ 8) }
 {

@@ -60,7 +60,8 @@ fn number_text_before(out: &mut [u8], end: usize, number: i64, slot: Slot) -> us
     requires places { slot.places ≤ 9 }
     requires room { 40 ≤ end }
     requires within { end ≤ length out.old }
-    ensures written { WritesBefore out.old out.new end result (number_text number (slot_record slot) ++ (newline ∷ [])) }
+    ensures written { WritesBefore out.old out.new end result
+        (number_text number (slot_record slot) ++ (newline ∷ [])) }
     ensures short { end ≤ result + 40 }
 {
     let unit = short_before(out, end, unit_end(slot.unit));

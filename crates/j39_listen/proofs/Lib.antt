@@ -1,3 +1,4 @@
+-- what is heard at a place: for the contract of a listener
 pub mod Rising
 pub mod Held
 pub mod Causal
@@ -11,17 +12,20 @@ pub mod Between
 pub mod Feeding
 pub mod Existing
 pub mod ListenerLemmas
+-- the accounts: for those of `report`, `nodes` and `answer`
 pub mod ReportLemmas
-pub mod LineLemmas
 pub mod ReportAccount
 pub mod NodeLemmas
 pub mod AnswerLemmas
 pub mod AnswerAccount
 pub mod AnswerExisting
+-- the runs: for the clauses that all runs share
+pub mod LineLemmas
 pub mod RunLemmas
 pub mod StopLemmas
 pub mod PieceLemmas
 pub mod AskLemmas
+-- the headline: for the laws on what was published
 pub mod Items
 pub mod Sent
 pub mod Story
@@ -33,6 +37,7 @@ pub mod HeardItems
 pub mod Endings
 pub mod Headline
 pub mod Written
+-- its premises can be met
 pub mod CheckedItems
 pub mod Checked
 pub mod Example

@@ -11,7 +11,7 @@ use Rattle.j39_frame.proofs.BusLemmas.{bus_of-frame, bus_of-kept}
 use Rattle.j39_listen.specs.AccountSteps.{Meets, Stops}
 use Rattle.j39_listen.specs.Counting.{capped}
 use Rattle.j39_listen.specs.LineSteps.{IsNamed, MeetsLine, StopsLine, tally_of}
-use Rattle.j39_listen.specs.Output.{Output}
+use Rattle.j39_listen.specs.Output.{Output, Making, Meeting}
 use Rattle.j39_listen.specs.declared.counts.Tally.{Tally}
 
 -- ---- tallies
@@ -54,7 +54,7 @@ its_name name f bus own given is named = sym (ap (λ (o : Option (List ℕ)). un
 pub known_bus : (bus : Option (List ℕ)) (own name : List ℕ) → bus ≡ Some own → bus ≡ Some name → own ≡ name
 known_bus bus own name is as_named = ap (λ (o : Option (List ℕ)). unwrap_or o name) (sym is ∙ as_named)
 
-pub meets_frame : {A : Type 0} (has_met : List ℕ → A → List FrameRecord → Output → Type 0) (name : List ℕ) (f : FrameRecord) (bus : Option (List ℕ)) (own : List ℕ) (a a' : A) (old new : Option (List ℕ))
+pub meets_frame : {A : Type 0} (has_met : Meeting A) (name : List ℕ) (f : FrameRecord) (bus : Option (List ℕ)) (own : List ℕ) (a a' : A) (old new : Option (List ℕ))
     → own ≡ unwrap_or bus name → bytes_eq name own ≡ true → Meets (has_met own) a a' (f ∷ []) old new
     → MeetsLine has_met (frame name f) bus (Some own) a a' (tally 1 0 0) old new
 meets_frame has_met name f bus own a a' old new is on meets =
@@ -70,7 +70,7 @@ meets_frame has_met name f bus own a a' old new is on meets =
           (subst (λ (fs : List FrameRecord). Meets (has_met own) a a' fs old new) (sym frames_are) meets);
     }
 
-pub stops_frame : {A : Type 0} (has_met : List ℕ → A → List FrameRecord → Output → Type 0) (makes : List ℕ → List FrameRecord → Output → Type 0) (name : List ℕ) (f : FrameRecord) (bus : Option (List ℕ))
+pub stops_frame : {A : Type 0} (has_met : Meeting A) (makes : Making) (name : List ℕ) (f : FrameRecord) (bus : Option (List ℕ))
     (own : List ℕ) (a : A) (old new : Option (List ℕ)) → own ≡ unwrap_or bus name → bytes_eq name own ≡ true → Stops (has_met own) (makes own) a (f ∷ []) old new
     → StopsLine has_met makes (frame name f) bus a old new
 stops_frame has_met makes name f bus own a old new is on stops = λ given named.
@@ -88,7 +88,7 @@ meets_nothing has_met a held = λ F before met. record {
   written = Appends-nil held;
 }
 
-meets_none : {A : Type 0} (has_met : List ℕ → A → List FrameRecord → Output → Type 0) (s : Spelled) (bus bus' : Option (List ℕ)) (a : A) (o u : ℕ) (held : Option (List ℕ))
+meets_none : {A : Type 0} (has_met : Meeting A) (s : Spelled) (bus bus' : Option (List ℕ)) (a : A) (o u : ℕ) (held : Option (List ℕ))
     → bus' ≡ bus_of bus (s ∷ []) → frames_of bus (s ∷ []) ≡ [] → others_of bus (s ∷ []) ≡ o → unread_of (s ∷ []) ≡ u → o < 2 → u < 2
     → MeetsLine has_met s bus bus' a a (tally 0 o u) held held
 meets_none has_met s bus bus' a o u held is none is_o is_u small_o small_u = record {
@@ -97,7 +97,7 @@ meets_none has_met s bus bus' a o u held is none is_o is_u small_o small_u = rec
   meets = λ own named. subst (λ (fs : List FrameRecord). Meets (has_met own) a a fs held held) (sym none) (meets_nothing (has_met own) a held);
 }
 
-pub meets_frame_elsewhere : {A : Type 0} (has_met : List ℕ → A → List FrameRecord → Output → Type 0) (name : List ℕ) (f : FrameRecord) (bus : Option (List ℕ)) (own : List ℕ) (a : A) (held : Option (List ℕ))
+pub meets_frame_elsewhere : {A : Type 0} (has_met : Meeting A) (name : List ℕ) (f : FrameRecord) (bus : Option (List ℕ)) (own : List ℕ) (a : A) (held : Option (List ℕ))
     → own ≡ unwrap_or bus name → bytes_eq name own ≡ false → MeetsLine has_met (frame name f) bus (Some own) a a (tally 0 1 0) held held
 meets_frame_elsewhere has_met name f bus own a held is off =
     let bus_is = with_frame name f bus own is in
@@ -107,11 +107,11 @@ meets_frame_elsewhere has_met name f bus own a held is off =
     ap (λ (b : Option (List ℕ)). count_by (is_other_on b) (frame name f ∷ [])) bus_is ∙ rw off refl in
     meets_none has_met (frame name f) bus (Some own) a 1 0 held (sym bus_is) none one refl (omega arith) (omega arith)
 
-pub meets_other : {A : Type 0} (has_met : List ℕ → A → List FrameRecord → Output → Type 0) (bus : Option (List ℕ)) (a : A) (held : Option (List ℕ)) → MeetsLine has_met other bus bus a a (tally 0 1 0) held held
+pub meets_other : {A : Type 0} (has_met : Meeting A) (bus : Option (List ℕ)) (a : A) (held : Option (List ℕ)) → MeetsLine has_met other bus bus a a (tally 0 1 0) held held
 meets_other has_met bus a held = meets_none has_met other bus bus a 1 0 held (bus_of-kept bus other refl) refl refl refl (omega arith) (omega arith)
 
-pub meets_unread : {A : Type 0} (has_met : List ℕ → A → List FrameRecord → Output → Type 0) (bus : Option (List ℕ)) (a : A) (held : Option (List ℕ)) → MeetsLine has_met unread bus bus a a (tally 0 0 1) held held
+pub meets_unread : {A : Type 0} (has_met : Meeting A) (bus : Option (List ℕ)) (a : A) (held : Option (List ℕ)) → MeetsLine has_met unread bus bus a a (tally 0 0 1) held held
 meets_unread has_met bus a held = meets_none has_met unread bus bus a 0 1 held (bus_of-kept bus unread refl) refl refl refl (omega arith) (omega arith)
 
-pub meets_blank : {A : Type 0} (has_met : List ℕ → A → List FrameRecord → Output → Type 0) (bus : Option (List ℕ)) (a : A) (held : Option (List ℕ)) → MeetsLine has_met blank bus bus a a (tally 0 0 0) held held
+pub meets_blank : {A : Type 0} (has_met : Meeting A) (bus : Option (List ℕ)) (a : A) (held : Option (List ℕ)) → MeetsLine has_met blank bus bus a a (tally 0 0 0) held held
 meets_blank has_met bus a held = meets_none has_met blank bus bus a 0 0 held (bus_of-kept bus blank refl) refl refl refl (omega arith) (omega arith)

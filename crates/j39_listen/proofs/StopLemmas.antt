@@ -10,7 +10,7 @@ use Rattle.j39_frame.proofs.DeviceLemmas.{front_of_all, front_within}
 use Rattle.j39_frame.proofs.LogLemmas.{first_spelled, same_log}
 use Rattle.j39_frame.proofs.SplitterLemmas.{no_newline_append}
 use Rattle.j39_listen.specs.AccountSteps.{Begins, MakesOne, Stops, StopsAtEnd, WritesOn}
-use Rattle.j39_listen.specs.Output.{Output}
+use Rattle.j39_listen.specs.Output.{Output, Making, Meeting}
 use Rattle.j39_listen.specs.PieceSteps.{HasMetAll, HasRead, StopsAt, StopsIn, StopsLast, WritesAll, WritesSome}
 use Rattle.j39_listen.specs.LineSteps.{IsNamed}
 use Rattle.j39_listen.specs.Run.{WritesFront, run_bus}
@@ -30,7 +30,7 @@ named_of given first left all is =
     (subst (λ (o : Option (List ℕ)). IsNamed o (run_bus given all)) (ap (bus_of given) is ∙ bus_of-append given first left) (has_run_bus given all))
 
 -- any bytes behind those that were read leave what was written a front
-pub writes_front : {A : Type 0} (has_met : List ℕ → A → List FrameRecord → Output → Type 0) (makes : List ℕ → List FrameRecord → Output → Type 0) → Begins has_met makes
+pub writes_front : {A : Type 0} (has_met : Meeting A) (makes : Making) → Begins has_met makes
     → (given : Option (List ℕ)) (taken begun more : List ℕ) (p : Progress A) (old new : Option (List ℕ))
     → HasRead has_met given taken begun p old new → WritesFront makes given (taken ++ more) old new
 writes_front has_met makes begins given taken begun more p old new h = λ all output log made.
@@ -44,7 +44,7 @@ writes_front has_met makes begins given taken begun more p old new h = λ all ou
     (before.output.text, b.0, b.1, before.written)
 
 -- a fault in the line that s is of
-front_of_line : {A : Type 0} (has_met : List ℕ → A → List FrameRecord → Output → Type 0) (makes : List ℕ → List FrameRecord → Output → Type 0)
+front_of_line : {A : Type 0} (has_met : Meeting A) (makes : Making)
     (given : Option (List ℕ)) (spelled left all : List Spelled) (output : Output) (s : Spelled) (p : Progress A) (old mid new : Option (List ℕ))
     → HasMetAll has_met given spelled p old mid → all ≡ (spelled ++ (s ∷ [])) ++ left → makes (run_bus given all) (frames_of given all) output
     → StopsAt has_met makes s p mid new → AppendsFront old new output.text
@@ -61,7 +61,7 @@ front_of_line has_met makes given spelled left all output s p old mid new h is m
     front_behind old mid new before.output output before.written (at F G before.output output before.met (subst (λ (fs : List FrameRecord). makes bus fs output) frames made))
 
 -- a fault in a line that is ended
-pub stops_in : {A : Type 0} (has_met : List ℕ → A → List FrameRecord → Output → Type 0) (makes : List ℕ → List FrameRecord → Output → Type 0)
+pub stops_in : {A : Type 0} (has_met : Meeting A) (makes : Making)
     (given : Option (List ℕ)) (taken begun bytes : List ℕ) (p : Progress A) (old mid new : Option (List ℕ))
     → HasRead has_met given taken begun p old mid → HasNoNewline begun → StopsIn has_met makes begun bytes p mid new → WritesFront makes given (taken ++ bytes) old new
 stops_in has_met makes given taken begun bytes p old mid new h whole k = λ all output log made.
@@ -74,7 +74,7 @@ stops_in has_met makes given taken begun bytes p old mid new h whole k = λ all 
     front_of_line has_met makes given h.spelled split.0 all output k.spelled p old mid new h.met split.1 made k.stops
 
 -- a fault in the last line
-pub stops_last : {A : Type 0} (has_met : List ℕ → A → List FrameRecord → Output → Type 0) (makes : List ℕ → List FrameRecord → Output → Type 0)
+pub stops_last : {A : Type 0} (has_met : Meeting A) (makes : Making)
     (given : Option (List ℕ)) (taken begun : List ℕ) (p : Progress A) (old mid new : Option (List ℕ))
     → HasRead has_met given taken begun p old mid → HasNoNewline begun → StopsLast has_met makes begun p mid new → WritesFront makes given taken old new
 stops_last has_met makes given taken begun p old mid new h whole k = λ all output log made.
@@ -83,7 +83,7 @@ stops_last has_met makes given taken begun p old mid new h whole k = λ all outp
 
 -- ---- at the end
 
-pub stops_closing : {A : Type 0} (has_met : List ℕ → A → List FrameRecord → Output → Type 0) (makes : List ℕ → List FrameRecord → Output → Type 0)
+pub stops_closing : {A : Type 0} (has_met : Meeting A) (makes : Making)
     (given : Option (List ℕ)) (spelled : List Spelled) (p : Progress A) (old mid new : Option (List ℕ))
     → HasMetAll has_met given spelled p old mid → StopsAtEnd has_met makes p.account mid new → WritesSome makes given spelled old new
 stops_closing has_met makes given spelled p old mid new h stops = λ output made.
@@ -92,12 +92,12 @@ stops_closing has_met makes given spelled p old mid new h stops = λ output made
     front_behind old mid new before.output output before.written (stops bus (frames_of given spelled) before.output output before.met made)
 
 -- what was written whole is a front of itself, and a flush adds nothing
-pub some_of_all : (makes : List ℕ → List FrameRecord → Output → Type 0) → MakesOne makes → (given : Option (List ℕ)) (spelled : List Spelled) (counts : Counts) (old mid new : Option (List ℕ))
+pub some_of_all : (makes : Making) → MakesOne makes → (given : Option (List ℕ)) (spelled : List Spelled) (counts : Counts) (old mid new : Option (List ℕ))
     → WritesAll makes given spelled counts old mid → Keeps mid new → WritesSome makes given spelled old new
 some_of_all makes one given spelled counts old mid new h keeps = λ output made.
     subst (AppendsFront old new) (one (run_bus given spelled) (frames_of given spelled) h.output output h.is_made made) (front_of_all old mid new h.output.text h.written keeps)
 
-pub front_of_log : (makes : List ℕ → List FrameRecord → Output → Type 0) (given : Option (List ℕ)) (log : List ℕ) (spelled : List Spelled) (old new : Option (List ℕ))
+pub front_of_log : (makes : Making) (given : Option (List ℕ)) (log : List ℕ) (spelled : List Spelled) (old new : Option (List ℕ))
     → IsLog log spelled → WritesSome makes given spelled old new → WritesFront makes given log old new
 front_of_log makes given log spelled old new is some = λ all output log_is made.
     some output (subst (λ (ss : List Spelled). makes (run_bus given ss) (frames_of given ss) output) (same_log log all spelled log_is is) made)

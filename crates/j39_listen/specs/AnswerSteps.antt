@@ -36,7 +36,8 @@ abbrev pub all_sent : Sent → List FrameRecord
 all_sent sent = option_to_list sent.started ++ (option_to_list sent.answered ++ option_to_list sent.obeyed)
 
 -- called with these the node sends these frames, and is the claimer afterwards
-pub record Calls (node : Node) (calls : List Call) (now : ℕ) (sent : List FrameRecord) (claimer : Claimer) : Type 0 where
+pub record Calls (node : Node) (calls : List Call) (now : ℕ) (sent : List FrameRecord)
+    (claimer : Claimer) : Type 0 where
   pub after : Node
   pub called : Called node calls now sent after
   pub is_node : IsNode claimer after
@@ -53,7 +54,8 @@ pub record Notices (F : List FrameRecord) (f : FrameRecord) (noticed : Noticed) 
   pub commanded : CommandedAt (F ++ f ∷ []) (length F) (option_map command_by noticed.command)
 
 -- the node was given F, and has sent so much on a bus of this name
-pub record HasAnswered (start : Node) (bus : List ℕ) (answers : Answers) (F : List FrameRecord) (output : Output) : Type 0 where
+pub record HasAnswered (start : Node) (bus : List ℕ) (answers : Answers) (F : List FrameRecord)
+    (output : Output) : Type 0 where
   pub heard : List Hearing
   pub are_heard : AreHeard the_table F heard
   pub sent : List FrameRecord

@@ -50,7 +50,8 @@ abbrev pub Called : Node → List Call → ℕ → List FrameRecord → Node →
 Called node [] now sent node' = (sent ≡ []) × (node' ≡ node)
 Called node (call ∷ calls) now sent node' =
     (answer : Option ℕ) × (mid : Node) × (rest : List FrameRecord)
-    × NodeStep node call now answer mid × Called mid calls now rest node' × (sent ≡ sent_by now node.name answer ++ rest)
+    × NodeStep node call now answer mid × Called mid calls now rest node'
+    × (sent ≡ sent_by now node.name answer ++ rest)
 
 -- with the first n frames of F, each at its stamp, the node sends these frames, and is that node afterwards
 abbrev pub AnsweredBelow : Node → List FrameRecord → ℕ → List FrameRecord → Node → Type 0

@@ -5,17 +5,21 @@ use Rattle.j39_frame.specs.Log.{bus_of, frames_of}
 use Rattle.j39_frame.specs.Spelled.{Spelled, Spells}
 use Rattle.j39_frame.specs.Splitter.{EndsLine}
 use Rattle.j39_listen.specs.LineSteps.{IsNamed}
-use Rattle.j39_listen.specs.Output.{Output}
+use Rattle.j39_listen.specs.Output.{Output, Meeting}
 use Rattle.j39_listen.specs.declared.progress.Progress.{Progress}
+use Rattle.j39_listen.specs.Asking.{Wanting}
 
 -- what a line spells is a frame of the bus that asks for memory, whatever the account has met
-pub record AsksLine {A : Type 0} (has_met : List ℕ → A → List FrameRecord → Output → Type 0) (asks : List FrameRecord → FrameRecord → Type 0) (s : Spelled) (bus : Option (List ℕ)) (a : A) : Type 0 where
+pub record AsksLine {A : Type 0} (has_met : Meeting A) (asks : Wanting) (s : Spelled) (bus : Option (List ℕ))
+    (a : A) : Type 0 where
   pub at : FrameRecord
   pub is_on : frames_of bus (s ∷ []) ≡ at ∷ []
-  pub asked : (name : List ℕ) → IsNamed (bus_of bus (s ∷ [])) name → (F : List FrameRecord) (output : Output) → has_met name a F output → asks F at
+  pub asked : (name : List ℕ) → IsNamed (bus_of bus (s ∷ [])) name → (F : List FrameRecord) (output : Output)
+      → has_met name a F output → asks F at
 
 -- so is the line that the bytes end
-pub record AsksIn {A : Type 0} (has_met : List ℕ → A → List FrameRecord → Output → Type 0) (asks : List FrameRecord → FrameRecord → Type 0) (begun bytes : List ℕ) (p : Progress A) : Type 0 where
+pub record AsksIn {A : Type 0} (has_met : Meeting A) (asks : Wanting) (begun bytes : List ℕ)
+    (p : Progress A) : Type 0 where
   pub line : List ℕ
   pub n : ℕ
   pub ends : EndsLine begun bytes line n
@@ -24,7 +28,7 @@ pub record AsksIn {A : Type 0} (has_met : List ℕ → A → List FrameRecord �
   pub line_asks : AsksLine has_met asks spelled p.bus p.account
 
 -- so is the last line
-pub record AsksLast {A : Type 0} (has_met : List ℕ → A → List FrameRecord → Output → Type 0) (asks : List FrameRecord → FrameRecord → Type 0) (begun : List ℕ) (p : Progress A) : Type 0 where
+pub record AsksLast {A : Type 0} (has_met : Meeting A) (asks : Wanting) (begun : List ℕ) (p : Progress A) : Type 0 where
   pub some : begun ≢ []
   pub spelled : Spelled
   pub spells : Spells begun spelled

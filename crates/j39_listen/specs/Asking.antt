@@ -8,16 +8,20 @@ use Rattle.j39_frame.specs.Spelled.{Spelled}
 use Rattle.j39_transport.specs.Answers.{IsAnnouncement}
 use Rattle.j39_listen.specs.Listening.{WantsMemoryBehind}
 
+-- where memory is wanted: behind these frames of the bus, at this frame
+abbrev pub Wanting : Type 1
+Wanting = List FrameRecord → FrameRecord → Type 0
+
 -- a run that puts messages together asks where one is announced that needs a box, and none lies unused
-abbrev pub AsksForBoxes : List FrameRecord → FrameRecord → Type 0
+abbrev pub AsksForBoxes : Wanting
 AsksForBoxes F frame = IsAnnouncement frame × WantsMemoryBehind F frame
 
 -- a run that puts none together never asks
-abbrev pub AsksNowhere : List FrameRecord → FrameRecord → Type 0
+abbrev pub AsksNowhere : Wanting
 AsksNowhere F frame = ⊥
 
 -- some lines at the front of the bytes spell frames of the bus, of which the last asks for memory
-pub record AsksAmong (asks : List FrameRecord → FrameRecord → Type 0) (given : Option (List ℕ)) (bytes : List ℕ) : Type 0 where
+pub record AsksAmong (asks : Wanting) (given : Option (List ℕ)) (bytes : List ℕ) : Type 0 where
   pub front : List ℕ
   pub rest : List ℕ
   pub bytes_are : bytes ≡ front ++ rest
@@ -29,7 +33,7 @@ pub record AsksAmong (asks : List FrameRecord → FrameRecord → Type 0) (given
   pub asked : asks before at
 
 -- among the bytes that a run took of its source is a frame that asks for memory
-pub record AsksWithin (asks : List FrameRecord → FrameRecord → Type 0) (given remaining remaining' : Option (List ℕ)) : Type 0 where
+pub record AsksWithin (asks : Wanting) (given remaining remaining' : Option (List ℕ)) : Type 0 where
   pub taken : List ℕ
   pub consumed : Consumes remaining remaining' taken
   pub among : AsksAmong asks given taken

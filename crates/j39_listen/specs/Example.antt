@@ -11,7 +11,8 @@ abbrev pub frame : ℕ → ℕ → List ℕ → FrameRecord
 frame stamp id bytes = record { stamp = stamp; id = id; bytes = bytes }
 
 abbrev pub entry : ℕ → Publisher → ℕ → ℕ → ValueRecord → Entry
-entry stamp publisher pgn spn value = record { stamp = stamp; address = publisher.address; name = publisher.name; pgn = pgn; spn = spn; value = value }
+entry stamp publisher pgn spn value = record
+    { stamp = stamp; address = publisher.address; name = publisher.name; pgn = pgn; spn = spn; value = value }
 
 abbrev pub padding : List ℕ
 padding = 0xFF ∷ 0xFF ∷ 0xFF ∷ []

@@ -24,7 +24,8 @@ item publisher pgn bytes places = record {
 }
 
 abbrev measured : ℤ → ℕ → ℤ → ℕ → String → ValueRecord
-measured value step offset places unit = number value (record { step = pos step; offset = offset; places = places; unit = codes unit })
+measured value step offset places unit = number value
+    (record { step = pos step; offset = offset; places = places; unit = codes unit })
 
 abbrev torque : ℕ → ValueRecord
 torque percent = measured (pos percent) 1 (neg_ℤ (pos 125)) 0 "%"
@@ -51,7 +52,8 @@ abbrev pub eec1 : Publishing
 eec1 = record { publishers = nobody ∷ []; items = item nobody 61444 eec1_bytes (0 ∷ []) ∷ [] }
 
 abbrev pub eec1_values : List Entry
-eec1_values = entry 1010000 nobody 61444 512 (torque 35) ∷ entry 1010000 nobody 61444 513 (torque 25) ∷ entry 1010000 nobody 61444 190 (speed 1500000) ∷ []
+eec1_values = entry 1010000 nobody 61444 512 (torque 35) ∷ entry 1010000 nobody 61444 513
+    (torque 25) ∷ entry 1010000 nobody 61444 190 (speed 1500000) ∷ []
 
 -- ---- a broadcast of eighteen bytes, and two frames of EEC1 meanwhile
 
@@ -88,11 +90,13 @@ vin_frames =
 abbrev pub vin : Publishing
 vin = record {
   publishers = engine ∷ [];
-  items = item engine 61444 (speed_bytes 0xE0) (2 ∷ []) ∷ item engine 61444 (speed_bytes 0xE8) (4 ∷ []) ∷ vin_item (1 ∷ 3 ∷ 5 ∷ 6 ∷ []) ∷ [];
+  items = item engine 61444 (speed_bytes 0xE0) (2 ∷ []) ∷ item engine 61444 (speed_bytes 0xE8) (4 ∷ []) ∷ vin_item
+      (1 ∷ 3 ∷ 5 ∷ 6 ∷ []) ∷ [];
 }
 
 abbrev pub vin_values : List Entry
-vin_values = entry 2010000 engine 61444 190 (speed 1500000) ∷ entry 2060000 engine 61444 190 (speed 1501000) ∷ vin_value 2150000 ∷ []
+vin_values = entry 2010000 engine 61444 190 (speed 1500000) ∷ entry 2060000 engine 61444 190
+    (speed 1501000) ∷ vin_value 2150000 ∷ []
 
 -- ---- that broadcast, and another at once
 
@@ -130,7 +134,11 @@ abbrev pub two_frames : List FrameRecord
 two_frames = engine_claim ∷ device_claim ∷ broadcasts
 
 abbrev pub two : Publishing
-two = record { publishers = engine ∷ device ∷ []; items = vin_item (2 ∷ 4 ∷ 6 ∷ 8 ∷ []) ∷ parts_item (3 ∷ 5 ∷ 7 ∷ []) ∷ [] }
+two = record {
+  publishers = engine ∷ device ∷ [];
+  items =
+      vin_item (2 ∷ 4 ∷ 6 ∷ 8 ∷ []) ∷ parts_item (3 ∷ 5 ∷ 7 ∷ []) ∷ [];
+}
 
 abbrev pub parts_values : ℕ → List Entry
 parts_values stamp =
@@ -148,4 +156,8 @@ abbrev pub early_frames : List FrameRecord
 early_frames = engine_claim ∷ device_claim ∷ vin_third 1900000 ∷ broadcasts
 
 abbrev pub early : Publishing
-early = record { publishers = engine ∷ device ∷ []; items = vin_item (3 ∷ 5 ∷ 7 ∷ 9 ∷ []) ∷ parts_item (4 ∷ 6 ∷ 8 ∷ []) ∷ [] }
+early = record {
+  publishers = engine ∷ device ∷ [];
+  items =
+      vin_item (3 ∷ 5 ∷ 7 ∷ 9 ∷ []) ∷ parts_item (4 ∷ 6 ∷ 8 ∷ []) ∷ [];
+}

@@ -61,7 +61,8 @@ or_none (Some h) = h ∷ []
 abbrev pub HeardBelow : List RowRecord → List FrameRecord → ℕ → List Hearing → Type 0
 HeardBelow groups F zero hs = hs ≡ []
 HeardBelow groups F (suc n) hs =
-    (before : List Hearing) × (o : Option Hearing) × HeardBelow groups F n before × HeardAt groups F n o × (hs ≡ before ++ or_none o)
+    (before : List Hearing) × (o : Option Hearing) × HeardBelow groups F n before × HeardAt groups F n o
+    × (hs ≡ before ++ or_none o)
 
 -- what is heard in F, in order
 abbrev pub AreHeard : List RowRecord → List FrameRecord → List Hearing → Type 0

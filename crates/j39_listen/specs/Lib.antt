@@ -1,26 +1,32 @@
+-- what is heard, and what is made of it
 pub mod Heard
 pub mod Forgets
 pub mod Report
 pub mod Nodes
 pub mod Answers
 pub mod Output
+-- what was published, and what a report tells of it
 pub mod Published
 pub mod Loss
 pub mod Values
+-- logs that meet the premises
 pub mod Example
 pub mod Examples
 pub mod LossExample
-pub mod NextSteps
-pub mod Listening
-pub mod Shown
+-- what a run promises
 pub mod Counting
 pub mod Run
 pub mod Asking
-pub mod AskSteps
 pub mod Fault
+-- what the code's values show
+pub mod Listening
+pub mod Shown
+-- the code's steps, below the rules
+pub mod NextSteps
 pub mod AccountSteps
 pub mod ReportSteps
 pub mod NodeSteps
 pub mod AnswerSteps
 pub mod LineSteps
 pub mod PieceSteps
+pub mod AskSteps

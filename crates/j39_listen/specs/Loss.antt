@@ -26,7 +26,8 @@ pub record Thinned (F G : List FrameRecord) (X : ℕ → Bool) : Type 0 where
 -- announcement of the pair: with all that repeat it
 abbrev pub LostTogether : List FrameRecord → Publishing → (ℕ → Bool) → Type 0
 LostTogether F P X = (i j s d : ℕ) → is_publisher P s ≡ true → X i ≡ true → i < j
-    → is_packet (Directed s d) (frame_at F i) ≡ true → is_packet (Directed s d) (frame_at F j) ≡ true → number_at F j ≡ number_at F i
+    → is_packet (Directed s d) (frame_at F i) ≡ true → is_packet (Directed s d) (frame_at F j) ≡ true
+    → number_at F j ≡ number_at F i
     → ((q : ℕ) → i < q → q < j → is_announcement (Directed s d) (frame_at F q) ≡ false) → X j ≡ true
 
 -- the frame at place c of H is a copy of the broadcast packet at q: it has its identifier and data, and stands behind it

@@ -22,7 +22,8 @@ node_at a (Some name) = record { address = a; name = name } ∷ []
 unfoldable pub NodesBelow : List FrameRecord → ℕ → List Node → Type 0
 NodesBelow F zero nodes = nodes ≡ []
 NodesBelow F (suc n) nodes =
-    (before : List Node) × (holder : Option ℕ) × NodesBelow F n before × IsHolderAfter (claims_of F) n holder × (nodes ≡ before ++ node_at n holder)
+    (before : List Node) × (holder : Option ℕ) × NodesBelow F n before × IsHolderAfter (claims_of F) n holder
+    × (nodes ≡ before ++ node_at n holder)
 
 -- all nodes that hold an address after F
 abbrev pub AreNodes : List FrameRecord → List Node → Type 0

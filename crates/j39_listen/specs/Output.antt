@@ -17,15 +17,28 @@ pub record Output : Type 0 where
   pub messages : ℕ
   pub lines : ℕ
 
+-- which outputs are made of the frames of a bus with this name
+abbrev pub Making : Type 1
+Making = List ℕ → List FrameRecord → Output → Type 0
+
+-- which accounts have met these frames of a bus with this name, and have made so much of them
+abbrev pub Meeting : Type 0 → Type 1
+Meeting A = List ℕ → A → List FrameRecord → Output → Type 0
+
 -- no text
 abbrev pub nothing : Output
 nothing = record { text = []; messages = 0; lines = 0 }
 
 abbrev pub report_of : List RowRecord → List Hearing → Output
-report_of groups heard = record { text = report_text groups heard; messages = length heard; lines = length (flat_map (entries_of groups) heard) }
+report_of groups heard = record {
+  text = report_text groups heard;
+  messages = length heard;
+  lines =
+      length (flat_map (entries_of groups) heard);
+}
 
 -- the report of what is heard in the frames, whatever their bus is called
-abbrev pub MakesReport : List RowRecord → List ℕ → List FrameRecord → Output → Type 0
+abbrev pub MakesReport : List RowRecord → Making
 MakesReport groups bus F output = (heard : List Hearing) × AreHeard groups F heard × (output ≡ report_of groups heard)
 
 -- no message counts
@@ -33,7 +46,7 @@ abbrev pub nodes_of : List nodes.Node → Output
 nodes_of held = record { text = nodes_text held; messages = 0; lines = length held }
 
 -- the nodes that hold an address after the frames, whatever their bus is called
-abbrev pub MakesNodes : List ℕ → List FrameRecord → Output → Type 0
+abbrev pub MakesNodes : Making
 MakesNodes bus F output = (held : List nodes.Node) × AreNodes F held × (output ≡ nodes_of held)
 
 -- a line for each frame that is sent
@@ -41,6 +54,7 @@ abbrev pub answers_of : List ℕ → List Hearing → List FrameRecord → Outpu
 answers_of bus heard sent = record { text = sent_text bus sent; messages = length heard; lines = length sent }
 
 -- what a node sends on a bus of this name; each message counts that is heard there
-abbrev pub MakesAnswers : Node → List ℕ → List FrameRecord → Output → Type 0
+abbrev pub MakesAnswers : Node → Making
 MakesAnswers node bus F output =
-    (heard : List Hearing) × (sent : List FrameRecord) × AreHeard the_table F heard × AreAnswers node F sent × (output ≡ answers_of bus heard sent)
+    (heard : List Hearing) × (sent : List FrameRecord) × AreHeard the_table F heard × AreAnswers node F sent
+    × (output ≡ answers_of bus heard sent)

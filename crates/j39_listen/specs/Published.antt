@@ -117,15 +117,18 @@ NeverBack F = (i j : ℕ) → i < j → j < length F → (frame_at F i).stamp �
 -- in F the publishers sent these items, and nothing else that would be heard
 pub record Published (groups : List RowRecord) (F : List FrameRecord) (P : Publishing) : Type 0 where
   pub addresses : All (λ p. IsAddress p.address) P.publishers
-  pub distinct : (m n : ℕ) (p : Publisher) → slice_get P.publishers m ≡ Some p → slice_get P.publishers n ≡ Some p → m ≡ n
+  pub distinct : (m n : ℕ) (p : Publisher) → slice_get P.publishers m ≡ Some p → slice_get P.publishers n ≡ Some p
+      → m ≡ n
   pub sent : (n : ℕ) (item : Item) → slice_get P.items n ≡ Some item → IsSent groups F P item
   -- two items that are alike stand one behind the other
-  pub apart : (m n : ℕ) (x y : Item) → slice_get P.items m ≡ Some x → slice_get P.items n ≡ Some y → m ≢ n → AreAlike x y
+  pub apart : (m n : ℕ) (x y : Item) → slice_get P.items m ≡ Some x → slice_get P.items n ≡ Some y → m ≢ n
+      → AreAlike x y
       → (last_place x < first_place y) ⊎ (last_place y < first_place x)
   -- each frame of a reported group and each announcement from their addresses stands in one item
   pub reported : (j : ℕ) → j < length F → is_publisher P (source_of (frame_at F j).id) ≡ true
       → is_reported_in groups (pgn_of (frame_at F j).id) ≡ true → StandsInOne P j
-  pub announced : (j : ℕ) (k : Key) → is_publisher P (sender k) ≡ true → is_announcement k (frame_at F j) ≡ true → StandsInOne P j
+  pub announced : (j : ℕ) (k : Key) → is_publisher P (sender k) ≡ true → is_announcement k (frame_at F j) ≡ true
+      → StandsInOne P j
   -- each packet too, but for those of broadcasts that no announcement precedes, and for spare ones of transfers
   pub broadcast : (j s : ℕ) → is_publisher P s ≡ true → is_packet (Broadcast s) (frame_at F j) ≡ true
       → StandsInOne P j ⊎ ((q : ℕ) → q < j → is_announcement (Broadcast s) (frame_at F q) ≡ false)

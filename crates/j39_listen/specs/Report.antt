@@ -22,7 +22,15 @@ pub record Entry : Type 0 where
   pub value : ValueRecord
 
 abbrev pub entry_of : Hearing → ReadingRecord → Entry
-entry_of h r = record { stamp = h.stamp; address = h.message.source; name = h.name; pgn = h.message.pgn; spn = r.spn; value = r.value }
+entry_of h r = record {
+  stamp = h.stamp;
+  address = h.message.source;
+  name = h.name;
+  pgn = h.message.pgn;
+  spn =
+      r.spn;
+  value = r.value;
+}
 
 -- an entry for each reading of a message, in order
 abbrev pub entries_of : List RowRecord → Hearing → List Entry
@@ -30,7 +38,8 @@ entries_of groups h = map (entry_of h) (readings_in groups h.message.pgn h.messa
 
 -- the report of F: the entries of each message that is heard in it, in order
 abbrev pub IsReport : List RowRecord → List FrameRecord → List Entry → Type 0
-IsReport groups F entries = (heard : List Hearing) × AreHeard groups F heard × (entries ≡ flat_map (entries_of groups) heard)
+IsReport groups F entries = (heard : List Hearing) × AreHeard groups F heard
+    × (entries ≡ flat_map (entries_of groups) heard)
 
 -- a NAME in sixteen upper-case hex digits, or sixteen `-`
 abbrev pub name_text : Option ℕ → List ℕ
@@ -40,14 +49,16 @@ name_text (Some name) = encode_upper (to_be_bytes w64 name)
 -- what the lines of a message begin with: stamp, address, NAME and PGN, a space after each
 abbrev pub head_text : ℕ → ℕ → Option ℕ → ℕ → List ℕ
 head_text stamp address name pgn =
-    stamp_text stamp ++ codes " " ++ encode_upper (address ∷ []) ++ codes " " ++ name_text name ++ codes " " ++ decimal pgn ++ codes " "
+    stamp_text stamp ++ codes " " ++ encode_upper (address ∷ []) ++ codes " " ++ name_text name ++ codes " "
+    ++ decimal pgn ++ codes " "
 
 abbrev pub hearing_head : Hearing → List ℕ
 hearing_head h = head_text h.stamp h.message.source h.name h.message.pgn
 
 -- the line of an entry, with its newline
 unfoldable pub entry_text : Entry → List ℕ
-entry_text e = head_text e.stamp e.address e.name e.pgn ++ decimal e.spn ++ codes " " ++ value_text e.value ++ (newline ∷ [])
+entry_text e = head_text e.stamp e.address e.name e.pgn ++ decimal e.spn ++ codes " " ++ value_text e.value
+    ++ (newline ∷ [])
 
 unfoldable pub text_of : List Entry → List ℕ
 text_of entries = flat_map entry_text entries

@@ -21,7 +21,8 @@ abbrev pub made_sum : Made → Made → Made
 made_sum a b = record { messages = capped (a.messages + b.messages); lines = capped (a.lines + b.lines) }
 
 -- the report of F by this table was made, and its listener was fed F
-pub record HasReported (groups : List RowRecord) (report : Report) (F : List FrameRecord) (output : Output) : Type 0 where
+pub record HasReported (groups : List RowRecord) (report : Report) (F : List FrameRecord)
+    (output : Output) : Type 0 where
   pub by : report.groups.now ≡ groups
   pub heard : List Hearing
   pub are_heard : AreHeard groups F heard
@@ -30,7 +31,8 @@ pub record HasReported (groups : List RowRecord) (report : Report) (F : List Fra
   pub made_is : report.made ≡ made_of output
 
 -- behind the frames F this is heard at the frame f, and its report was written
-pub record MeetsFrame (groups : List RowRecord) (l' : Listener) (F : List FrameRecord) (f : FrameRecord) (made : Made) (old new : Option (List ℕ)) : Type 0 where
+pub record MeetsFrame (groups : List RowRecord) (l' : Listener) (F : List FrameRecord) (f : FrameRecord)
+    (made : Made) (old new : Option (List ℕ)) : Type 0 where
   pub heard : Option Hearing
   pub heard_at : HeardAt groups (F ++ f ∷ []) (length F) heard
   pub hears : Hears l' (F ++ f ∷ [])
@@ -38,7 +40,8 @@ pub record MeetsFrame (groups : List RowRecord) (l' : Listener) (F : List FrameR
   pub written : Appends old new (report_text groups (or_none heard))
 
 -- behind the frames F this is heard at the frame f, and a front of its report was written
-pub record StopsFrame (groups : List RowRecord) (F : List FrameRecord) (f : FrameRecord) (old new : Option (List ℕ)) : Type 0 where
+pub record StopsFrame (groups : List RowRecord) (F : List FrameRecord) (f : FrameRecord)
+    (old new : Option (List ℕ)) : Type 0 where
   pub heard : Option Hearing
   pub heard_at : HeardAt groups (F ++ f ∷ []) (length F) heard
   pub front : AppendsFront old new (report_text groups (or_none heard))

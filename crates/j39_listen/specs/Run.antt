@@ -2,12 +2,11 @@
 use Rattle.std.specs.Prelude.{◌≡◌, ◌<◌, ◌≤◌, ◌++◌, ℕ, List, [], Option, length, unwrap_or}
 use Rattle.std.specs.Io.KnownBytes.{Appends, Consumes}
 use Rattle.j39_frame.specs.Device.{AppendsFront}
-use Rattle.j39_frame.specs.Frame.{FrameRecord}
 use Rattle.j39_frame.specs.Log.{IsLog, bus_of, frames_of}
 use Rattle.j39_frame.specs.Spelled.{Spelled}
 use Rattle.j39_groups.specs.Row.{RowRecord}
 use Rattle.j39_listen.specs.Counting.{counts_of}
-use Rattle.j39_listen.specs.Output.{Output}
+use Rattle.j39_listen.specs.Output.{Output, Making}
 use Rattle.j39_listen.specs.Report.{Entry, IsReport, text_of}
 use Rattle.j39_listen.specs.Values.{TellsPublished, TellsRepeated, TellsThinned}
 use Rattle.j39_listen.specs.declared.counts.Counts.{Counts}
@@ -17,7 +16,8 @@ abbrev pub run_bus : Option (List ℕ) → List Spelled → List ℕ
 run_bus given spelled = unwrap_or (bus_of given spelled) []
 
 -- a run over the log with this bus or none given wrote what is made of its frames, and nothing else, and counted it
-pub record Writes (makes : List ℕ → List FrameRecord → Output → Type 0) (given : Option (List ℕ)) (log : List ℕ) (counts : Counts) (old new : Option (List ℕ)) : Type 0 where
+pub record Writes (makes : Making) (given : Option (List ℕ)) (log : List ℕ) (counts : Counts)
+    (old new : Option (List ℕ)) : Type 0 where
   pub spelled : List Spelled
   pub is_log : IsLog log spelled
   pub output : Output
@@ -26,12 +26,13 @@ pub record Writes (makes : List ℕ → List FrameRecord → Output → Type 0) 
   pub written : Appends old new output.text
 
 -- what a run stopped with is a front of what is made of the frames in these bytes
-abbrev pub WritesFront : (List ℕ → List FrameRecord → Output → Type 0) → Option (List ℕ) → List ℕ → Option (List ℕ) → Option (List ℕ) → Type 0
+abbrev pub WritesFront : Making → Option (List ℕ) → List ℕ → Option (List ℕ) → Option (List ℕ) → Type 0
 WritesFront makes given taken old new =
-    (spelled : List Spelled) (output : Output) → IsLog taken spelled → makes (run_bus given spelled) (frames_of given spelled) output → AppendsFront old new output.text
+    (spelled : List Spelled) (output : Output) → IsLog taken spelled
+    → makes (run_bus given spelled) (frames_of given spelled) output → AppendsFront old new output.text
 
 -- a run that stopped took these bytes of its source, and wrote a front of what is made of them
-pub record StopsWithin (makes : List ℕ → List FrameRecord → Output → Type 0) (given remaining remaining' old new : Option (List ℕ)) : Type 0 where
+pub record StopsWithin (makes : Making) (given remaining remaining' old new : Option (List ℕ)) : Type 0 where
   pub taken : List ℕ
   pub consumed : Consumes remaining remaining' taken
   pub written : WritesFront makes given taken old new
@@ -43,7 +44,8 @@ pub record TakesWithin (limit : ℕ) (remaining remaining' : Option (List ℕ)) 
   pub fits : length taken ≤ limit
 
 -- a run stopped at the read that passes the limit: what it wrote is a front of what is made of the bytes before that read
-pub record StopsAtLimit (makes : List ℕ → List FrameRecord → Output → Type 0) (limit : ℕ) (given remaining remaining' old new : Option (List ℕ)) : Type 0 where
+pub record StopsAtLimit (makes : Making) (limit : ℕ)
+    (given remaining remaining' old new : Option (List ℕ)) : Type 0 where
   pub taken : List ℕ
   pub read : List ℕ
   pub consumed : Consumes remaining remaining' (taken ++ read)
@@ -53,7 +55,8 @@ pub record StopsAtLimit (makes : List ℕ → List FrameRecord → Output → Ty
 
 -- a run over the log wrote a line for each of these entries, which tell of publishers what was published in the log's
 -- frames, whatever packets were lost and repeated on the way there
-pub record WritesPublished (groups : List RowRecord) (given : Option (List ℕ)) (log : List ℕ) (old new : Option (List ℕ)) : Type 0 where
+pub record WritesPublished (groups : List RowRecord) (given : Option (List ℕ)) (log : List ℕ)
+    (old new : Option (List ℕ)) : Type 0 where
   pub spelled : List Spelled
   pub is_log : IsLog log spelled
   pub entries : List Entry

@@ -12,4 +12,9 @@ abbrev pub message_of : Message → MessageRecord
 message_of m = record { source = m.source; pgn = pgn_raw m.pgn; bytes = m.payload.now }
 
 abbrev pub hearing_of : Heard → Hearing
-hearing_of h = record { message = message_of h.message; stamp = stamp_micros h.message.stamp; name = option_map name_raw h.name }
+hearing_of h = record {
+  message = message_of h.message;
+  stamp = stamp_micros h.message.stamp;
+  name =
+      option_map name_raw h.name;
+}

@@ -10,7 +10,12 @@ use Rattle.j39_listen.specs.Report.{Entry, entries_of}
 
 -- an item as it is heard at its last place, under its publisher's NAME
 abbrev pub hearing_of : List FrameRecord → Item → Hearing
-hearing_of F item = record { message = item.message; stamp = (frame_at F (last_place item)).stamp; name = item.publisher.name }
+hearing_of F item = record {
+  message = item.message;
+  stamp = (frame_at F (last_place item)).stamp;
+  name =
+      item.publisher.name;
+}
 
 -- the items whose last place is i, but for those that have a place in X
 abbrev pub ending : Publishing → (ℕ → Bool) → ℕ → List Item
@@ -19,7 +24,8 @@ ending P X i = filter (λ item. last_place item == i && not (list_any X item.pla
 -- an entry for each reading of each item whose last place is below n, by rising last place
 abbrev pub values_below : List RowRecord → List FrameRecord → Publishing → (ℕ → Bool) → ℕ → List Entry
 values_below groups F P X zero = []
-values_below groups F P X (suc n) = values_below groups F P X n ++ flat_map (λ item. entries_of groups (hearing_of F item)) (ending P X n)
+values_below groups F P X (suc n) = values_below groups F P X n
+    ++ flat_map (λ item. entries_of groups (hearing_of F item)) (ending P X n)
 
 -- the values published in F, without the items that have a place in X
 abbrev pub values : List RowRecord → List FrameRecord → Publishing → (ℕ → Bool) → List Entry
@@ -36,7 +42,8 @@ kept_to P entries = filter (λ e. is_publisher P e.address) entries
 
 -- for whatever was published in F: exactly the values published, in order of completion
 abbrev pub TellsPublished : List RowRecord → List FrameRecord → List Entry → Type 0
-TellsPublished groups F entries = (P : Publishing) → Published groups F P → kept_to P entries ≡ values groups F P no_place
+TellsPublished groups F entries = (P : Publishing) → Published groups F P
+    → kept_to P entries ≡ values groups F P no_place
 
 -- where G is what is left of the frames F: exactly the values of the messages that lost no packet
 abbrev pub TellsThinned : List RowRecord → List FrameRecord → List Entry → Type 0

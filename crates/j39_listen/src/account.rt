@@ -1,10 +1,11 @@
 //! What a run makes of the frames of its bus.
-ghost use Rattle.std.specs.Prelude.{◌≡◌, ◌≢◌, ◌∷◌, [], ℕ, List, true, OnOk, OnErr, IfOk, Err};
+ghost use Rattle.std.specs.Prelude.{◌≡◌, ◌≢◌, ◌∷◌, [], List, true, OnOk, OnErr, IfOk, Err};
 ghost use Rattle.j39_frame.specs.Device.{Marks};
 ghost use Rattle.j39_frame.specs.Frame.{FrameRecord};
 ghost use Rattle.j39_listen.specs.AccountSteps.{Begins, Closes, MakesOne, Meets, Stops, StopsAtEnd};
-ghost use Rattle.j39_listen.specs.Output.{Output};
+ghost use Rattle.j39_listen.specs.Output.{Output, Making, Meeting};
 ghost use Rattle.j39_listen.specs.declared.account.LineFault.TheVariants.{Memory, Write};
+ghost use Rattle.j39_listen.specs.Asking.{Wanting};
 
 use crate::counts::Made;
 use j39_frame::{Bus, DeviceFault, Frame, Sink};
@@ -24,19 +25,23 @@ pub(crate) trait Account: Drop {
     ghost Subject: { Type 0 };
 
     // It is an account of this; it was given these frames of a bus with this name, and has made so much of them.
-    ghost has_met: { Subject → List ℕ → Self → List FrameRecord → Output → Type 0 };
+    ghost has_met: { Subject → Meeting Self };
 
     // So much is made of the subject and these frames of a bus with this name in all.
-    ghost makes: { Subject → List ℕ → List FrameRecord → Output → Type 0 };
+    ghost makes: { Subject → Making };
 
     // Where it may want memory: behind these frames of the bus, at this frame.
-    ghost asks: { List FrameRecord → FrameRecord → Type 0 };
+    ghost asks: { Wanting };
 
     /// Takes the next frame of the bus, and writes what is to be written at it.
     fn meet<W: Sink>(&mut self, bus: &Bus, frame: &Frame, sink: &mut W) -> Result<(), LineFault>
-        ensures met { OnOk result ((subject : Subject) → Meets (has_met subject bus.now) self.old self.new (frame.now ∷ []) (W.held sink.old) (W.held sink.new)) }
+        ensures met { OnOk result ((subject : Subject)
+            → Meets (has_met subject bus.now) self.old self.new (frame.now ∷ []) (W.held sink.old)
+            (W.held sink.new)) }
         ensures write { result ≡ Err Write → W.has_failed sink.new ≡ true }
-        ensures stops { result ≡ Err Write → (subject : Subject) → Stops (has_met subject bus.now) (makes subject bus.now) self.old (frame.now ∷ []) (W.held sink.old) (W.held sink.new) }
+        ensures stops { result ≡ Err Write → (subject : Subject)
+            → Stops (has_met subject bus.now) (makes subject bus.now) self.old (frame.now ∷ []) (W.held sink.old)
+            (W.held sink.new) }
         ensures memory { result ≡ Err Memory → W.held sink.new ≡ W.held sink.old }
         ensures asked { result ≡ Err Memory → (subject : Subject) (F : List FrameRecord) (output : Output)
             → has_met subject bus.now self.old F output → asks F frame.now }
@@ -44,8 +49,10 @@ pub(crate) trait Account: Drop {
 
     /// Writes what is left to be written at the end, and answers the numbers of the whole.
     fn close<W: Sink>(&mut self, sink: &mut W) -> Result<Made, DeviceFault>
-        ensures closes { IfOk result (λ made. (subject : Subject) → Closes (has_met subject) (makes subject) self.old made (W.held sink.old) (W.held sink.new)) }
-        ensures stops { OnErr result ((subject : Subject) → StopsAtEnd (has_met subject) (makes subject) self.old (W.held sink.old) (W.held sink.new)) }
+        ensures closes { IfOk result (λ made. (subject : Subject)
+            → Closes (has_met subject) (makes subject) self.old made (W.held sink.old) (W.held sink.new)) }
+        ensures stops { OnErr result ((subject : Subject)
+            → StopsAtEnd (has_met subject) (makes subject) self.old (W.held sink.old) (W.held sink.new)) }
         ensures mark { Marks result (W.has_failed sink.old) (W.has_failed sink.new) };
 
     /// Does nothing: laws of what was met and of what is made.

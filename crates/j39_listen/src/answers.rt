@@ -43,14 +43,16 @@ pub fn answer<R: Source, W: Sink>(
 ) -> Result<Option<Counts>, RunFault>
     // What is written is what the node sends with the frames of the log, and nothing else.
     ensures answers { IfOk result (λ answered. IfSome answered (λ counts. IfSome (R.remaining source.old)
-        (λ log. Writes (MakesAnswers (idle_node (name_raw name) preferred)) bus log counts (W.held sink.old) (W.held sink.new)))) }
+        (λ log. Writes (MakesAnswers (idle_node (name_raw name) preferred)) bus log counts (W.held sink.old)
+        (W.held sink.new)))) }
 
     // No node starts with an address above 253, and then nothing is read or written.
     ensures none { result ≡ Ok None ↔ null_address ≤ preferred }
     ensures untouched { null_address ≤ preferred → (source.new ≡ source.old) × (sink.new ≡ sink.old) }
 
     // Each fault comes only where its device failed, or the log is longer than the limit.
-    ensures short { IfOk result (λ answered. IfSome answered (λ _. IfSome (R.remaining source.old) (λ log. length log ≤ limit))) }
+    ensures short { IfOk result (λ answered. IfSome answered
+        (λ _. IfSome (R.remaining source.old) (λ log. length log ≤ limit))) }
     ensures too_long { result ≡ Err TooLong → IfSome (R.remaining source.old) (λ log. limit < length log) }
     ensures read { result ≡ Err Read → R.has_failed source.new ≡ true }
     ensures read_unmarked { result ≢ Err Read → R.has_failed source.new ≡ R.has_failed source.old }
@@ -58,11 +60,13 @@ pub fn answer<R: Source, W: Sink>(
     ensures write_unmarked { result ≢ Err Write → W.has_failed sink.new ≡ W.has_failed sink.old }
 
     // Memory is wanted only at a frame of the log that announces a message.
-    ensures memory { result ≡ Err Memory → AsksWithin AsksForBoxes bus (R.remaining source.old) (R.remaining source.new) }
+    ensures memory { result ≡ Err Memory → AsksWithin AsksForBoxes bus (R.remaining source.old)
+        (R.remaining source.new) }
 
     // The bytes that were taken pass the limit exactly where `TooLong` is answered, and those that pass it aren't handled.
     ensures within { result ≢ Err TooLong → TakesWithin limit (R.remaining source.old) (R.remaining source.new) }
-    ensures at_limit { result ≡ Err TooLong → StopsAtLimit (MakesAnswers (idle_node (name_raw name) preferred)) limit bus
+    ensures at_limit { result ≡ Err TooLong
+        → StopsAtLimit (MakesAnswers (idle_node (name_raw name) preferred)) limit bus
         (R.remaining source.old) (R.remaining source.new) (W.held sink.old) (W.held sink.new) }
 
     // What was written is passed on at the end, and before each read.
@@ -155,8 +159,10 @@ pub(crate) struct Noticed {
 }
 
 fn notice(listener: &mut Listener, frame: &Frame) -> Result<Noticed, AllocError>
-    ensures notices { IfOk result (λ noticed. (F : List FrameRecord) → Hears listener.old F → Notices F frame.now noticed) }
-    ensures hears { OnOk result ((F : List FrameRecord) → Hears listener.old F → Hears listener.new (F ++ frame.now ∷ [])) }
+    ensures notices { IfOk result (λ noticed. (F : List FrameRecord) → Hears listener.old F
+        → Notices F frame.now noticed) }
+    ensures hears { OnOk result ((F : List FrameRecord) → Hears listener.old F
+        → Hears listener.new (F ++ frame.now ∷ [])) }
     ensures asked { OnErr result ((F : List FrameRecord) → Hears listener.old F → AsksForBoxes F frame.now) }
 {
     match listener.feed(frame) {
@@ -195,7 +201,8 @@ pub(crate) struct Sent {
 
 /// Calls the node with what a frame is to it.
 fn call(claimer: &mut Claimer, is_idle: bool, frame: &Frame, command: Option<(Name, u8)>) -> Sent
-    ensures { Obeys claimer.old (starts is_idle ++ calls_with frame.now (option_map command_by command)) frame.now.stamp (all_sent result) claimer.new }
+    ensures { Obeys claimer.old (starts is_idle
+        ++ calls_with frame.now (option_map command_by command)) frame.now.stamp (all_sent result) claimer.new }
 {
     let now = frame.stamp;
     Sent {
@@ -219,7 +226,8 @@ fn hear(claimer: &mut Claimer, frame: &Frame, now: Stamp) -> Option<Frame>
 }
 
 fn obey(claimer: &mut Claimer, command: Option<(Name, u8)>, now: Stamp) -> Option<Frame>
-    ensures { Obeys claimer.old (commands (option_map command_by command)) (stamp_micros now) (option_to_list result) claimer.new }
+    ensures { Obeys claimer.old (commands (option_map command_by command)) (stamp_micros now)
+        (option_to_list result) claimer.new }
 {
     match command {
         Some((name, address)) => claimer.commanded(name, address, now),
@@ -230,8 +238,10 @@ fn obey(claimer: &mut Claimer, command: Option<(Name, u8)>, now: Stamp) -> Optio
 /// Writes a line for each frame that is sent, and answers how many.
 fn put_sent<W: Sink>(sent: &Sent, bus: &Bus, sink: &mut W) -> Result<u64, DeviceFault>
     ensures lines { IfOk result (λ n. n ≡ length (all_sent sent.now)) }
-    ensures written { OnOk result (Appends (W.held sink.old) (W.held sink.new) (sent_text bus.now (all_sent sent.now))) }
-    ensures front { OnErr result (AppendsFront (W.held sink.old) (W.held sink.new) (sent_text bus.now (all_sent sent.now))) }
+    ensures written { OnOk result (Appends (W.held sink.old) (W.held sink.new)
+        (sent_text bus.now (all_sent sent.now))) }
+    ensures front { OnErr result (AppendsFront (W.held sink.old) (W.held sink.new)
+        (sent_text bus.now (all_sent sent.now))) }
     ensures mark { Marks result (W.has_failed sink.old) (W.has_failed sink.new) }
 {
     let started = put_answer(&sent.started, bus, sink)?;
@@ -244,8 +254,10 @@ fn put_sent<W: Sink>(sent: &Sent, bus: &Bus, sink: &mut W) -> Result<u64, Device
 fn put_answer<W: Sink>(answer: &Option<Frame>, bus: &Bus, sink: &mut W) -> Result<u64, DeviceFault>
     ensures one { IfOk result (λ n. n ≤ 1) }
     ensures lines { IfOk result (λ n. n ≡ length (option_to_list answer.now)) }
-    ensures written { OnOk result (Appends (W.held sink.old) (W.held sink.new) (sent_text bus.now (option_to_list answer.now))) }
-    ensures front { OnErr result (AppendsFront (W.held sink.old) (W.held sink.new) (sent_text bus.now (option_to_list answer.now))) }
+    ensures written { OnOk result (Appends (W.held sink.old) (W.held sink.new)
+        (sent_text bus.now (option_to_list answer.now))) }
+    ensures front { OnErr result (AppendsFront (W.held sink.old) (W.held sink.new)
+        (sent_text bus.now (option_to_list answer.now))) }
     ensures mark { Marks result (W.has_failed sink.old) (W.has_failed sink.new) }
 {
     match answer {

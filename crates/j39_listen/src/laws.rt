@@ -30,14 +30,16 @@ pub fn some_report()
     ensures at_a_frame { (groups : List RowRecord) (F : List FrameRecord) (i : ℕ) → i < length F
         → (o : Option Hearing) × HeardAt groups F i o }
     ensures heard { (groups : List RowRecord) (F : List FrameRecord) → (hs : List Hearing) × AreHeard groups F hs }
-    ensures report { (groups : List RowRecord) (F : List FrameRecord) → (entries : List Entry) × IsReport groups F entries }
+    ensures report { (groups : List RowRecord) (F : List FrameRecord) → (entries : List Entry)
+        × IsReport groups F entries }
 {}
 
 /// With each list of frames a node sends some frames, and no others: at each frame it is commanded or not.
 pub fn answers_of_nodes()
     ensures at_a_frame { (F : List FrameRecord) (i : ℕ) → i < length F → (c : Option Command) × CommandedAt F i c }
     ensures some { (node : Node) (F : List FrameRecord) → (sent : List FrameRecord) × AreAnswers node F sent }
-    ensures one { (node : Node) (F : List FrameRecord) (a b : List FrameRecord) → AreAnswers node F a → AreAnswers node F b → a ≡ b }
+    ensures one { (node : Node) (F : List FrameRecord) (a b : List FrameRecord) → AreAnswers node F a
+        → AreAnswers node F b → a ≡ b }
 {}
 
 /// Of what publishers sent, a report has under their addresses exactly the values published, in order

@@ -110,7 +110,8 @@ impl Listener {
     /// Hands a frame that claims nothing and is no message by itself to the assembler.
     #[inline(always)]
     fn assemble(&mut self, frame: &Frame) -> Result<Option<Heard<'_>>, AllocError>
-        ensures heard { IfOk result (λ heard. (groups : List RowRecord) → IsMany groups frame.now → (F : List FrameRecord) → Hears self.old F
+        ensures heard { IfOk result (λ heard. (groups : List RowRecord) → IsMany groups frame.now
+            → (F : List FrameRecord) → Hears self.old F
             → HeardAt groups (F ++ frame.now ∷ []) (length F) (option_map hearing_of heard)) }
         ensures refused { OnErr result (IsAnnouncement frame.now) }
         ensures wanted { OnErr result ((F : List FrameRecord) → Hears self.old F → WantsMemoryBehind F frame.now) }
@@ -128,7 +129,8 @@ impl Listener {
 
     /// The NAME that holds the address; `None` where no claim tells it, and for 254 and 255.
     pub fn holder(&self, address: u8) -> Option<Name>
-        ensures { (F : List FrameRecord) → Hears self.now F → IsHolderAfter (claims_of F) address (option_map name_raw result) }
+        ensures { (F : List FrameRecord) → Hears self.now F
+            → IsHolderAfter (claims_of F) address (option_map name_raw result) }
     {
         self.claims.holder(address)
     }

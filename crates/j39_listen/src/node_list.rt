@@ -54,7 +54,8 @@ pub fn nodes<R: Source, W: Sink>(
         → W.is_flushed sink.old ≡ true → W.is_flushed sink.new ≡ true }
 
     // What was written before a fault is a front of what is written for the bytes that were read.
-    ensures prefix { OnErr result (StopsWithin MakesNodes bus (R.remaining source.old) (R.remaining source.new) (W.held sink.old) (W.held sink.new)) }
+    ensures prefix { OnErr result (StopsWithin MakesNodes bus (R.remaining source.old) (R.remaining source.new)
+        (W.held sink.old) (W.held sink.new)) }
 {
     run_over(NodeList::new(), source, sink, bus, limit)
 }
@@ -106,7 +107,8 @@ impl Account for NodeList {
 /// Writes a line for each address that is held, and answers how many.
 fn put_nodes<W: Sink>(claims: &Claims, sink: &mut W) -> Result<u64, DeviceFault>
     ensures nodes { IfOk result (λ n. (F : List FrameRecord) → Knows claims.now F
-        → (nodes : List Node) × AreNodes F nodes × (n ≡ length nodes) × Appends (W.held sink.old) (W.held sink.new) (nodes_text nodes)) }
+        → (nodes : List Node) × AreNodes F nodes × (n ≡ length nodes)
+        × Appends (W.held sink.old) (W.held sink.new) (nodes_text nodes)) }
     ensures front { OnErr result ((F : List FrameRecord) (nodes : List Node) → Knows claims.now F → AreNodes F nodes
         → AppendsFront (W.held sink.old) (W.held sink.new) (nodes_text nodes)) }
     ensures mark { Marks result (W.has_failed sink.old) (W.has_failed sink.new) }

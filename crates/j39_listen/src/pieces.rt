@@ -5,8 +5,8 @@ ghost use Rattle.j39_frame.specs.Spelled.{Spelled};
 ghost use Rattle.j39_frame.specs.Splitter.{HasBegun};
 ghost use Rattle.j39_listen.specs.Asking.{AsksAmong};
 ghost use Rattle.j39_listen.specs.AskSteps.{AsksIn, AsksLast};
-ghost use Rattle.j39_listen.specs.Output.{Output};
-ghost use Rattle.j39_listen.specs.PieceSteps.{HasMetAll, HasTaken, ReadsLast, StepsOver, StopsIn, StopsLast, WritesAll, WritesSome};
+ghost use Rattle.j39_listen.specs.PieceSteps.{AtStart, Behind, HasMetAll, HasTaken, ReadsLast, StepsOver};
+ghost use Rattle.j39_listen.specs.PieceSteps.{StopsIn, StopsLast, WritesAll, WritesSome};
 ghost use Rattle.j39_listen.specs.Run.{Writes, WritesFront};
 ghost use Rattle.j39_listen.specs.declared.account.LineFault.TheVariants.{Memory, Write};
 
@@ -26,8 +26,8 @@ pub(crate) struct Pieces<A> {
 impl<A: Account> Pieces<A> {
     /// At the start of a log, with an account of no frames.
     pub fn new(account: A, bus: Option<Bus>) -> Pieces<A>
-        ensures { (subject : A.Subject) (output : Output) (held : Option (List ℕ)) → ((name : List ℕ) → A.has_met subject name account [] output) → output.text ≡ []
-            → HasTaken (A.has_met subject) bus [] result held held }
+        ensures { (held : Option (List ℕ))
+            → AtStart A.has_met account (λ subject. HasTaken (A.has_met subject) bus [] result held held) }
     {
         Pieces {
             splitter: Splitter::new(),
@@ -42,15 +42,17 @@ impl<A: Account> Pieces<A> {
     /// Takes a piece of the log, writes what is to be written at the lines that it ends, and passes it on: so
     /// a reader of a live bus sees each value before the next read.
     pub fn take<W: Sink>(&mut self, piece: &[u8], sink: &mut W) -> Result<(), LineFault>
-        ensures taken { OnOk result ((subject : A.Subject) (given : Option (List ℕ)) (taken : List ℕ) (held : Option (List ℕ))
-            → HasTaken (A.has_met subject) given taken self.old held (W.held sink.old) → HasTaken (A.has_met subject) given (taken ++ piece.now) self.new held (W.held sink.new)) }
-        ensures front { OnErr result ((subject : A.Subject) (given : Option (List ℕ)) (taken : List ℕ) (held : Option (List ℕ))
-            → HasTaken (A.has_met subject) given taken self.old held (W.held sink.old) → WritesFront (A.makes subject) given (taken ++ piece.now) held (W.held sink.new)) }
+        ensures taken { OnOk result ((subject : A.Subject) → Behind (A.has_met subject) self.old (W.held sink.old)
+            (λ given taken held. HasTaken (A.has_met subject) given (taken ++ piece.now) self.new held
+            (W.held sink.new))) }
+        ensures front { OnErr result ((subject : A.Subject) → Behind (A.has_met subject) self.old (W.held sink.old)
+            (λ given taken held. WritesFront (A.makes subject) given (taken ++ piece.now) held (W.held sink.new))) }
         ensures write { result ≡ Err Write → W.has_failed sink.new ≡ true }
         ensures unmarked { result ≢ Err Write → W.has_failed sink.new ≡ W.has_failed sink.old }
         ensures flushed { OnOk result (W.is_flushed sink.new ≡ true) }
-        ensures asked { result ≡ Err Memory → (subject : A.Subject) (given : Option (List ℕ)) (taken : List ℕ) (held : Option (List ℕ))
-            → HasTaken (A.has_met subject) given taken self.old held (W.held sink.old) → AsksAmong A.asks given (taken ++ piece.now) }
+        ensures asked { result ≡ Err Memory → (subject : A.Subject)
+            → Behind (A.has_met subject) self.old (W.held sink.old)
+            (λ given taken held. AsksAmong A.asks given (taken ++ piece.now)) }
     {
         A::laws();
         match self.take_lines(piece, sink) {
@@ -64,14 +66,16 @@ impl<A: Account> Pieces<A> {
     }
 
     fn take_lines<W: Sink>(&mut self, piece: &[u8], sink: &mut W) -> Result<(), LineFault>
-        ensures taken { OnOk result ((subject : A.Subject) (given : Option (List ℕ)) (taken : List ℕ) (held : Option (List ℕ))
-            → HasTaken (A.has_met subject) given taken self.old held (W.held sink.old) → HasTaken (A.has_met subject) given (taken ++ piece.now) self.new held (W.held sink.new)) }
-        ensures front { OnErr result ((subject : A.Subject) (given : Option (List ℕ)) (taken : List ℕ) (held : Option (List ℕ))
-            → HasTaken (A.has_met subject) given taken self.old held (W.held sink.old) → WritesFront (A.makes subject) given (taken ++ piece.now) held (W.held sink.new)) }
+        ensures taken { OnOk result ((subject : A.Subject) → Behind (A.has_met subject) self.old (W.held sink.old)
+            (λ given taken held. HasTaken (A.has_met subject) given (taken ++ piece.now) self.new held
+            (W.held sink.new))) }
+        ensures front { OnErr result ((subject : A.Subject) → Behind (A.has_met subject) self.old (W.held sink.old)
+            (λ given taken held. WritesFront (A.makes subject) given (taken ++ piece.now) held (W.held sink.new))) }
         ensures write { result ≡ Err Write → W.has_failed sink.new ≡ true }
         ensures unmarked { result ≢ Err Write → W.has_failed sink.new ≡ W.has_failed sink.old }
-        ensures asked { result ≡ Err Memory → (subject : A.Subject) (given : Option (List ℕ)) (taken : List ℕ) (held : Option (List ℕ))
-            → HasTaken (A.has_met subject) given taken self.old held (W.held sink.old) → AsksAmong A.asks given (taken ++ piece.now) }
+        ensures asked { result ≡ Err Memory → (subject : A.Subject)
+            → Behind (A.has_met subject) self.old (W.held sink.old)
+            (λ given taken held. AsksAmong A.asks given (taken ++ piece.now)) }
     {
         A::laws();
         let mut rest = piece;
@@ -87,15 +91,16 @@ impl<A: Account> Pieces<A> {
 
     /// Reads the last line where it is not ended, closes the account, and passes on what was written.
     pub fn finish<W: Sink>(&mut self, sink: &mut W) -> Result<Counts, LineFault>
-        ensures report { IfOk result (λ counts. (subject : A.Subject) (given : Option (List ℕ)) (taken : List ℕ) (held : Option (List ℕ))
-            → HasTaken (A.has_met subject) given taken self.old held (W.held sink.old) → Writes (A.makes subject) given taken counts held (W.held sink.new)) }
-        ensures front { OnErr result ((subject : A.Subject) (given : Option (List ℕ)) (taken : List ℕ) (held : Option (List ℕ))
-            → HasTaken (A.has_met subject) given taken self.old held (W.held sink.old) → WritesFront (A.makes subject) given taken held (W.held sink.new)) }
+        ensures report { IfOk result (λ counts. (subject : A.Subject)
+            → Behind (A.has_met subject) self.old (W.held sink.old)
+            (λ given taken held. Writes (A.makes subject) given taken counts held (W.held sink.new))) }
+        ensures front { OnErr result ((subject : A.Subject) → Behind (A.has_met subject) self.old (W.held sink.old)
+            (λ given taken held. WritesFront (A.makes subject) given taken held (W.held sink.new))) }
         ensures write { result ≡ Err Write → W.has_failed sink.new ≡ true }
         ensures unmarked { result ≢ Err Write → W.has_failed sink.new ≡ W.has_failed sink.old }
         ensures flushed { OnOk result (W.is_flushed sink.new ≡ true) }
-        ensures asked { result ≡ Err Memory → (subject : A.Subject) (given : Option (List ℕ)) (taken : List ℕ) (held : Option (List ℕ))
-            → HasTaken (A.has_met subject) given taken self.old held (W.held sink.old) → AsksAmong A.asks given taken }
+        ensures asked { result ≡ Err Memory → (subject : A.Subject)
+            → Behind (A.has_met subject) self.old (W.held sink.old) (λ given taken held. AsksAmong A.asks given taken) }
     {
         A::laws();
         match take_last(&mut self.splitter, &mut self.progress, sink) {
@@ -119,10 +124,12 @@ fn take_line<A: Account, W: Sink>(
     ensures count { IfOk result (λ n. n ≤ length bytes.now) }
     ensures some { IfOk result (λ n. 0 < length bytes.now → 0 < n) }
     ensures steps { IfOk result (λ n. (subject : A.Subject) (begun : List ℕ) → HasBegun splitter.old begun
-        → StepsOver (A.has_met subject) begun bytes.now n splitter.new progress.old progress.new (W.held sink.old) (W.held sink.new)) }
+        → StepsOver (A.has_met subject) begun bytes.now n splitter.new progress.old progress.new
+        (W.held sink.old) (W.held sink.new)) }
     ensures write { result ≡ Err Write → W.has_failed sink.new ≡ true }
     ensures stops { result ≡ Err Write → (subject : A.Subject) (begun : List ℕ) → HasBegun splitter.old begun
-        → StopsIn (A.has_met subject) (A.makes subject) begun bytes.now progress.old (W.held sink.old) (W.held sink.new) }
+        → StopsIn (A.has_met subject) (A.makes subject) begun bytes.now progress.old (W.held sink.old)
+        (W.held sink.new) }
     ensures memory { result ≡ Err Memory → W.held sink.new ≡ W.held sink.old }
     ensures unmarked { result ≢ Err Write → W.has_failed sink.new ≡ W.has_failed sink.old }
     ensures asked { result ≡ Err Memory → (subject : A.Subject) (begun : List ℕ) → HasBegun splitter.old begun
@@ -165,10 +172,12 @@ fn close<A: Account, W: Sink>(
     progress: &mut Progress<A>,
     sink: &mut W,
 ) -> Result<Counts, DeviceFault>
-    ensures closes { IfOk result (λ counts. (subject : A.Subject) (given : Option (List ℕ)) (spelled : List Spelled) (held : Option (List ℕ))
+    ensures closes { IfOk result (λ counts.
+        (subject : A.Subject) (given : Option (List ℕ)) (spelled : List Spelled) (held : Option (List ℕ))
         → HasMetAll (A.has_met subject) given spelled progress.old held (W.held sink.old)
         → WritesAll (A.makes subject) given spelled counts held (W.held sink.new)) }
-    ensures stops { OnErr result ((subject : A.Subject) (given : Option (List ℕ)) (spelled : List Spelled) (held : Option (List ℕ))
+    ensures stops { OnErr result (
+        (subject : A.Subject) (given : Option (List ℕ)) (spelled : List Spelled) (held : Option (List ℕ))
         → HasMetAll (A.has_met subject) given spelled progress.old held (W.held sink.old)
         → WritesSome (A.makes subject) given spelled held (W.held sink.new)) }
     ensures flushed { OnOk result (W.is_flushed sink.new ≡ true) }

@@ -24,10 +24,12 @@ impl<A: Account> Progress<A> {
     #[inline(always)]
     pub fn read<W: Sink>(&mut self, line: Line<'_>, sink: &mut W) -> Result<(), LineFault>
         ensures read { OnOk result ((subject : A.Subject) → IsSpelling (spelled_of line.entry)
-            → ReadsLine (A.has_met subject) (spelled_of line.entry) self.old self.new (W.held sink.old) (W.held sink.new)) }
+            → ReadsLine (A.has_met subject) (spelled_of line.entry) self.old self.new (W.held sink.old)
+            (W.held sink.new)) }
         ensures write { result ≡ Err Write → W.has_failed sink.new ≡ true }
         ensures stops { result ≡ Err Write → (subject : A.Subject) → IsSpelling (spelled_of line.entry)
-            → StopsAt (A.has_met subject) (A.makes subject) (spelled_of line.entry) self.old (W.held sink.old) (W.held sink.new) }
+            → StopsAt (A.has_met subject) (A.makes subject) (spelled_of line.entry) self.old (W.held sink.old)
+            (W.held sink.new) }
         ensures memory { result ≡ Err Memory → W.held sink.new ≡ W.held sink.old }
         ensures unmarked { result ≢ Err Write → W.has_failed sink.new ≡ W.has_failed sink.old }
         ensures asked { result ≡ Err Memory → (subject : A.Subject) → IsSpelling (spelled_of line.entry)
@@ -51,10 +53,12 @@ fn meet<A: Account, W: Sink>(
     sink: &mut W,
 ) -> Result<Tally, LineFault>
     ensures met { IfOk result (λ met. (subject : A.Subject) → IsSpelling (spelled_of line.entry)
-        → MeetsLine (A.has_met subject) (spelled_of line.entry) bus.old bus.new account.old account.new met (W.held sink.old) (W.held sink.new)) }
+        → MeetsLine (A.has_met subject) (spelled_of line.entry) bus.old bus.new account.old account.new met
+        (W.held sink.old) (W.held sink.new)) }
     ensures write { result ≡ Err Write → W.has_failed sink.new ≡ true }
     ensures stops { result ≡ Err Write → (subject : A.Subject) → IsSpelling (spelled_of line.entry)
-        → StopsLine (A.has_met subject) (A.makes subject) (spelled_of line.entry) bus.old account.old (W.held sink.old) (W.held sink.new) }
+        → StopsLine (A.has_met subject) (A.makes subject) (spelled_of line.entry) bus.old account.old
+        (W.held sink.old) (W.held sink.new) }
     ensures memory { result ≡ Err Memory → W.held sink.new ≡ W.held sink.old }
     ensures unmarked { result ≢ Err Write → W.has_failed sink.new ≡ W.has_failed sink.old }
     ensures asked { result ≡ Err Memory → (subject : A.Subject) → IsSpelling (spelled_of line.entry)

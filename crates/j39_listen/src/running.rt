@@ -3,7 +3,7 @@ ghost use Rattle.std.specs.Prelude.{◌≡◌, ◌≢◌, ◌<◌, ◌≤◌, �
 ghost use Rattle.j39_groups.specs.Table.{the_table};
 ghost use Rattle.j39_listen.specs.Asking.{AsksAmong, AsksForBoxes, AsksWithin};
 ghost use Rattle.j39_listen.specs.Output.{MakesReport, Output};
-ghost use Rattle.j39_listen.specs.PieceSteps.{HasTaken};
+ghost use Rattle.j39_listen.specs.PieceSteps.{AtNothing, AtStart, Behind, HasTaken};
 ghost use Rattle.j39_listen.specs.Run.{StopsAtLimit, StopsWithin, TakesWithin, Writes, WritesFront, WritesPublished};
 ghost use Rattle.j39_listen.specs.declared.running.RunFault.TheVariants.{Memory, Read, Write, TooLong};
 
@@ -87,7 +87,8 @@ pub fn run<R: Source, W: Sink>(
     ensures write_unmarked { result ≢ Err Write → W.has_failed sink.new ≡ W.has_failed sink.old }
 
     // Memory is wanted only at a frame of the log that announces a message.
-    ensures memory { result ≡ Err Memory → AsksWithin AsksForBoxes bus (R.remaining source.old) (R.remaining source.new) }
+    ensures memory { result ≡ Err Memory
+        → AsksWithin AsksForBoxes bus (R.remaining source.old) (R.remaining source.new) }
 
     // The bytes that were taken pass the limit exactly where `TooLong` is answered, and those that pass it aren't handled.
     ensures within { result ≢ Err TooLong → TakesWithin limit (R.remaining source.old) (R.remaining source.new) }
@@ -100,7 +101,8 @@ pub fn run<R: Source, W: Sink>(
         → W.is_flushed sink.old ≡ true → W.is_flushed sink.new ≡ true }
 
     // What was written before a fault is a front of the report of the bytes that were read.
-    ensures prefix { OnErr result (StopsWithin (MakesReport the_table) bus (R.remaining source.old) (R.remaining source.new) (W.held sink.old) (W.held sink.new)) }
+    ensures prefix { OnErr result (StopsWithin (MakesReport the_table) bus
+        (R.remaining source.old) (R.remaining source.new) (W.held sink.old) (W.held sink.new)) }
 {
     run_with(alloc, &Groups::built_in(), source, sink, bus, limit)
 }
@@ -133,7 +135,8 @@ pub fn run_with<R: Source, W: Sink>(
     ensures write_unmarked { result ≢ Err Write → W.has_failed sink.new ≡ W.has_failed sink.old }
 
     // Memory is wanted only at a frame of the log that announces a message.
-    ensures memory { result ≡ Err Memory → AsksWithin AsksForBoxes bus (R.remaining source.old) (R.remaining source.new) }
+    ensures memory { result ≡ Err Memory
+        → AsksWithin AsksForBoxes bus (R.remaining source.old) (R.remaining source.new) }
 
     // The bytes that were taken pass the limit exactly where `TooLong` is answered, and those that pass it aren't handled.
     ensures within { result ≢ Err TooLong → TakesWithin limit (R.remaining source.old) (R.remaining source.new) }
@@ -146,7 +149,8 @@ pub fn run_with<R: Source, W: Sink>(
         → W.is_flushed sink.old ≡ true → W.is_flushed sink.new ≡ true }
 
     // What was written before a fault is a front of the report of the bytes that were read.
-    ensures prefix { OnErr result (StopsWithin (MakesReport groups.now) bus (R.remaining source.old) (R.remaining source.new) (W.held sink.old) (W.held sink.new)) }
+    ensures prefix { OnErr result (StopsWithin (MakesReport groups.now) bus
+        (R.remaining source.old) (R.remaining source.new) (W.held sink.old) (W.held sink.new)) }
 {
     run_over(Report::new(alloc, groups), source, sink, bus, limit)
 }
@@ -159,23 +163,26 @@ pub(crate) fn run_over<A: Account, R: Source, W: Sink>(
     bus: Option<Bus>,
     limit: u64,
 ) -> Result<Counts, RunFault>
-    ensures writes { IfOk result (λ counts. (subject : A.Subject) (output : Output) → ((name : List ℕ) → A.has_met subject name account [] output) → output.text ≡ []
-        → IfSome (R.remaining source.old) (λ log. Writes (A.makes subject) bus log counts (W.held sink.old) (W.held sink.new))) }
+    ensures writes { IfOk result (λ counts. AtStart A.has_met account (λ subject. IfSome (R.remaining source.old)
+        (λ log. Writes (A.makes subject) bus log counts (W.held sink.old) (W.held sink.new)))) }
     ensures short { OnOk result (IfSome (R.remaining source.old) (λ log. length log ≤ limit)) }
     ensures too_long { result ≡ Err TooLong → IfSome (R.remaining source.old) (λ log. limit < length log) }
     ensures read { result ≡ Err Read → R.has_failed source.new ≡ true }
     ensures read_unmarked { result ≢ Err Read → R.has_failed source.new ≡ R.has_failed source.old }
     ensures write { result ≡ Err Write → W.has_failed sink.new ≡ true }
     ensures write_unmarked { result ≢ Err Write → W.has_failed sink.new ≡ W.has_failed sink.old }
-    ensures asked { result ≡ Err Memory → (subject : A.Subject) (output : Output) → ((name : List ℕ) → A.has_met subject name account [] output) → output.text ≡ []
-        → AsksWithin A.asks bus (R.remaining source.old) (R.remaining source.new) }
+    ensures asked { result ≡ Err Memory
+        → AtStart A.has_met account (λ subject. AsksWithin A.asks bus (R.remaining source.old)
+        (R.remaining source.new)) }
     ensures within { result ≢ Err TooLong → TakesWithin limit (R.remaining source.old) (R.remaining source.new) }
-    ensures at_limit { result ≡ Err TooLong → (subject : A.Subject) (output : Output) → ((name : List ℕ) → A.has_met subject name account [] output) → output.text ≡ []
-        → StopsAtLimit (A.makes subject) limit bus (R.remaining source.old) (R.remaining source.new) (W.held sink.old) (W.held sink.new) }
+    ensures at_limit { result ≡ Err TooLong
+        → AtStart A.has_met account (λ subject. StopsAtLimit (A.makes subject) limit bus
+        (R.remaining source.old) (R.remaining source.new) (W.held sink.old) (W.held sink.new)) }
     ensures flushed { OnOk result (W.is_flushed sink.new ≡ true) }
-    ensures flushed_at_reads { (result ≡ Err Read) ⊎ (result ≡ Err TooLong) → W.is_flushed sink.old ≡ true → W.is_flushed sink.new ≡ true }
-    ensures prefix { OnErr result ((subject : A.Subject) (output : Output) → ((name : List ℕ) → A.has_met subject name account [] output) → output.text ≡ []
-        → StopsWithin (A.makes subject) bus (R.remaining source.old) (R.remaining source.new) (W.held sink.old) (W.held sink.new)) }
+    ensures flushed_at_reads { (result ≡ Err Read) ⊎ (result ≡ Err TooLong)
+        → W.is_flushed sink.old ≡ true → W.is_flushed sink.new ≡ true }
+    ensures prefix { OnErr result (AtStart A.has_met account (λ subject. StopsWithin (A.makes subject) bus
+        (R.remaining source.old) (R.remaining source.new) (W.held sink.old) (W.held sink.new))) }
 {
     let mut pieces = Pieces::new(account, bus);
     read_pieces(&mut pieces, source, sink, limit)
@@ -188,23 +195,27 @@ fn read_pieces<A: Account, R: Source, W: Sink>(
     sink: &mut W,
     limit: u64,
 ) -> Result<Counts, RunFault>
-    ensures report { IfOk result (λ counts. (subject : A.Subject) (given : Option (List ℕ)) → HasTaken (A.has_met subject) given [] pieces.old (W.held sink.old) (W.held sink.old)
-        → IfSome (R.remaining source.old) (λ log. Writes (A.makes subject) given log counts (W.held sink.old) (W.held sink.new))) }
+    ensures report { IfOk result (λ counts. AtNothing A.has_met pieces.old (W.held sink.old)
+        (λ subject given. IfSome (R.remaining source.old)
+        (λ log. Writes (A.makes subject) given log counts (W.held sink.old) (W.held sink.new)))) }
     ensures short { OnOk result (IfSome (R.remaining source.old) (λ log. length log ≤ limit)) }
     ensures too_long { result ≡ Err TooLong → IfSome (R.remaining source.old) (λ log. limit < length log) }
     ensures read { result ≡ Err Read → R.has_failed source.new ≡ true }
     ensures read_unmarked { result ≢ Err Read → R.has_failed source.new ≡ R.has_failed source.old }
     ensures write { result ≡ Err Write → W.has_failed sink.new ≡ true }
     ensures write_unmarked { result ≢ Err Write → W.has_failed sink.new ≡ W.has_failed sink.old }
-    ensures asked { result ≡ Err Memory → (subject : A.Subject) (given : Option (List ℕ)) → HasTaken (A.has_met subject) given [] pieces.old (W.held sink.old) (W.held sink.old)
-        → AsksWithin A.asks given (R.remaining source.old) (R.remaining source.new) }
+    ensures asked { result ≡ Err Memory → AtNothing A.has_met pieces.old (W.held sink.old)
+        (λ subject given. AsksWithin A.asks given (R.remaining source.old) (R.remaining source.new)) }
     ensures within { result ≢ Err TooLong → TakesWithin limit (R.remaining source.old) (R.remaining source.new) }
-    ensures at_limit { result ≡ Err TooLong → (subject : A.Subject) (given : Option (List ℕ)) → HasTaken (A.has_met subject) given [] pieces.old (W.held sink.old) (W.held sink.old)
-        → StopsAtLimit (A.makes subject) limit given (R.remaining source.old) (R.remaining source.new) (W.held sink.old) (W.held sink.new) }
+    ensures at_limit { result ≡ Err TooLong → AtNothing A.has_met pieces.old (W.held sink.old)
+        (λ subject given. StopsAtLimit (A.makes subject) limit given
+        (R.remaining source.old) (R.remaining source.new) (W.held sink.old) (W.held sink.new)) }
     ensures flushed { OnOk result (W.is_flushed sink.new ≡ true) }
-    ensures flushed_at_reads { (result ≡ Err Read) ⊎ (result ≡ Err TooLong) → W.is_flushed sink.old ≡ true → W.is_flushed sink.new ≡ true }
-    ensures prefix { OnErr result ((subject : A.Subject) (given : Option (List ℕ)) → HasTaken (A.has_met subject) given [] pieces.old (W.held sink.old) (W.held sink.old)
-        → StopsWithin (A.makes subject) given (R.remaining source.old) (R.remaining source.new) (W.held sink.old) (W.held sink.new)) }
+    ensures flushed_at_reads { (result ≡ Err Read) ⊎ (result ≡ Err TooLong)
+        → W.is_flushed sink.old ≡ true → W.is_flushed sink.new ≡ true }
+    ensures prefix { OnErr result (AtNothing A.has_met pieces.old (W.held sink.old)
+        (λ subject given. StopsWithin (A.makes subject) given
+        (R.remaining source.old) (R.remaining source.new) (W.held sink.old) (W.held sink.new))) }
 {
     A::laws();
     let mut piece = [0u8; PIECE];
@@ -233,14 +244,18 @@ fn take<A: Account, W: Sink>(
     piece: &[u8],
     sink: &mut W,
 ) -> Result<(), RunFault>
-    ensures taken { OnOk result ((subject : A.Subject) (given : Option (List ℕ)) (taken : List ℕ) (held : Option (List ℕ))
-        → HasTaken (A.has_met subject) given taken pieces.old held (W.held sink.old) → HasTaken (A.has_met subject) given (taken ++ piece.now) pieces.new held (W.held sink.new)) }
-    ensures front { OnErr result ((subject : A.Subject) (given : Option (List ℕ)) (taken : List ℕ) (held : Option (List ℕ))
-        → HasTaken (A.has_met subject) given taken pieces.old held (W.held sink.old) → WritesFront (A.makes subject) given (taken ++ piece.now) held (W.held sink.new)) }
+    ensures taken { OnOk result ((subject : A.Subject)
+        → Behind (A.has_met subject) pieces.old (W.held sink.old)
+        (λ given taken held. HasTaken (A.has_met subject) given (taken ++ piece.now) pieces.new held
+        (W.held sink.new))) }
+    ensures front { OnErr result ((subject : A.Subject)
+        → Behind (A.has_met subject) pieces.old (W.held sink.old)
+        (λ given taken held. WritesFront (A.makes subject) given (taken ++ piece.now) held (W.held sink.new))) }
     ensures write { result ≡ Err Write → W.has_failed sink.new ≡ true }
     ensures unmarked { result ≢ Err Write → W.has_failed sink.new ≡ W.has_failed sink.old }
-    ensures asked { result ≡ Err Memory → (subject : A.Subject) (given : Option (List ℕ)) (taken : List ℕ) (held : Option (List ℕ))
-        → HasTaken (A.has_met subject) given taken pieces.old held (W.held sink.old) → AsksAmong A.asks given (taken ++ piece.now) }
+    ensures asked { result ≡ Err Memory → (subject : A.Subject)
+        → Behind (A.has_met subject) pieces.old (W.held sink.old)
+        (λ given taken held. AsksAmong A.asks given (taken ++ piece.now)) }
     ensures flushed { OnOk result (W.is_flushed sink.new ≡ true) }
     ensures not_read { result ≢ Err Read }
     ensures not_long { result ≢ Err TooLong }
@@ -254,14 +269,17 @@ fn take<A: Account, W: Sink>(
 
 /// Finishes the log, and tells the faults as those of a run.
 fn finish<A: Account, W: Sink>(pieces: &mut Pieces<A>, sink: &mut W) -> Result<Counts, RunFault>
-    ensures report { IfOk result (λ counts. (subject : A.Subject) (given : Option (List ℕ)) (taken : List ℕ) (held : Option (List ℕ))
-        → HasTaken (A.has_met subject) given taken pieces.old held (W.held sink.old) → Writes (A.makes subject) given taken counts held (W.held sink.new)) }
-    ensures front { OnErr result ((subject : A.Subject) (given : Option (List ℕ)) (taken : List ℕ) (held : Option (List ℕ))
-        → HasTaken (A.has_met subject) given taken pieces.old held (W.held sink.old) → WritesFront (A.makes subject) given taken held (W.held sink.new)) }
+    ensures report { IfOk result (λ counts. (subject : A.Subject)
+        → Behind (A.has_met subject) pieces.old (W.held sink.old)
+        (λ given taken held. Writes (A.makes subject) given taken counts held (W.held sink.new))) }
+    ensures front { OnErr result ((subject : A.Subject)
+        → Behind (A.has_met subject) pieces.old (W.held sink.old)
+        (λ given taken held. WritesFront (A.makes subject) given taken held (W.held sink.new))) }
     ensures write { result ≡ Err Write → W.has_failed sink.new ≡ true }
     ensures unmarked { result ≢ Err Write → W.has_failed sink.new ≡ W.has_failed sink.old }
-    ensures asked { result ≡ Err Memory → (subject : A.Subject) (given : Option (List ℕ)) (taken : List ℕ) (held : Option (List ℕ))
-        → HasTaken (A.has_met subject) given taken pieces.old held (W.held sink.old) → AsksAmong A.asks given taken }
+    ensures asked { result ≡ Err Memory → (subject : A.Subject)
+        → Behind (A.has_met subject) pieces.old (W.held sink.old)
+        (λ given taken held. AsksAmong A.asks given taken) }
     ensures flushed { OnOk result (W.is_flushed sink.new ≡ true) }
     ensures not_read { result ≢ Err Read }
     ensures not_long { result ≢ Err TooLong }

@@ -1,7 +1,9 @@
-pub mod ColumnLemmas
+-- the columns of a line, from the smallest up
 pub mod PlaceLemmas
+pub mod ColumnLemmas
 pub mod ScaleLemmas
 pub mod FieldLemmas
 pub mod RowLemmas
+-- the lines of a table, and what is printed
 pub mod TableLemmas
 pub mod PrintedLemmas

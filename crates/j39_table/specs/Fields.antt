@@ -30,10 +30,12 @@ unscaled_of (Texts byte) = Some (texts_field byte 31)
 
 -- no good field has the text of this place and another place
 abbrev pub IsAlone : Place → Type 0
-IsAlone place = (field : FieldRecord) → IsGoodField field → place_text field ≡ text_of_place place → place_of field ≡ place
+IsAlone place = (field : FieldRecord) → IsGoodField field → place_text field ≡ text_of_place place
+    → place_of field ≡ place
 
 -- the fault names the wrong one of the columns from this one on
-pub record IsFaultFrom {T : Type 0} (IsGood : T → Type 0) (columns : T → List (List ℕ)) (start : ℕ) (texts : List (List ℕ)) (fault : RowFault) : Type 0 where
+pub record IsFaultFrom {T : Type 0} (IsGood : T → Type 0) (columns : T → List (List ℕ)) (start : ℕ)
+    (texts : List (List ℕ)) (fault : RowFault) : Type 0 where
   pub count : ℕ
   pub column : column_of fault ≡ start + count
   pub within : count < length texts
@@ -41,8 +43,10 @@ pub record IsFaultFrom {T : Type 0} (IsGood : T → Type 0) (columns : T → Lis
 
 abbrev pub HasScale : ℕ → List (List ℕ) → Result Scale RowFault → Type 0
 HasScale bits texts result =
-    MatchResult result (λ scale. AreColumnsOf (IsGoodScale bits) slot_columns texts (scale_record scale)) (λ fault. IsFaultFrom (IsGoodScale bits) slot_columns 4 texts fault)
+    MatchResult result (λ scale. AreColumnsOf (IsGoodScale bits) slot_columns texts (scale_record scale))
+    (λ fault. IsFaultFrom (IsGoodScale bits) slot_columns 4 texts fault)
 
 abbrev pub HasField : List (List ℕ) → Result ReadField RowFault → Type 0
 HasField texts result =
-    MatchResult result (λ field. AreColumnsOf IsGoodField field_columns texts (read_field_record field)) (λ fault. IsFaultFrom IsGoodField field_columns 3 texts fault)
+    MatchResult result (λ field. AreColumnsOf IsGoodField field_columns texts (read_field_record field))
+    (λ fault. IsFaultFrom IsGoodField field_columns 3 texts fault)

@@ -10,8 +10,10 @@ use Rattle.j39_table.specs.Tables.{SpellRows, lines_of, row_lines}
 
 -- the line that is printed for a good row spells it
 abbrev pub PrintedLinesSpell : Type 0
-PrintedLinesSpell = (row : RowRecord) (line : List ℕ) → IsGoodRow row → row_text row ≡ line ++ (newline ∷ []) → SpellsRow line row
+PrintedLinesSpell = (row : RowRecord) (line : List ℕ) → IsGoodRow row → row_text row ≡ line ++ (newline ∷ [])
+    → SpellsRow line row
 
 -- what is printed for a table of good rows spells its rows, in their order
 abbrev pub PrintedTablesSpell : Type 0
-PrintedTablesSpell = (rows : List RowRecord) → AllByRecursion IsGoodRow rows → SpellRows (row_lines (lines_of (flat_map row_text rows))) rows
+PrintedTablesSpell = (rows : List RowRecord) → AllByRecursion IsGoodRow rows
+    → SpellRows (row_lines (lines_of (flat_map row_text rows))) rows

@@ -1,14 +1,16 @@
-pub mod Agreement
-pub mod Columns
-pub mod FaultWords
-pub mod Faults
-pub mod Fields
-pub mod Laws
-pub mod Lines
-pub mod Places
-pub mod Rows
-pub mod Scales
-pub mod Spelled
-pub mod TableSteps
-pub mod Tables
+-- the rules: what a line and a text say, and what is wrong with them (own)
 pub mod Words
+pub mod Places
+pub mod Columns
+pub mod Scales
+pub mod Fields
+pub mod Rows
+pub mod Lines
+pub mod Spelled
+pub mod Faults
+pub mod FaultWords
+pub mod Tables
+pub mod Laws
+-- the code's steps, below the rules
+pub mod Agreement
+pub mod TableSteps

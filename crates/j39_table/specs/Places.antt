@@ -48,7 +48,8 @@ behind_first_byte first last = if first == last then [] else codes "-" ++ decima
 
 -- the end of bits, behind `-`
 abbrev pub end_text : ℕ → ℕ → List ℕ
-end_text byte last = if last / 8 == 0 then decimal (last + 1) else decimal (byte + last / 8) ++ (46 ∷ decimal (last % 8 + 1))
+end_text byte last = if last / 8 == 0 then decimal (last + 1) else decimal (byte + last / 8)
+    ++ (46 ∷ decimal (last % 8 + 1))
 
 abbrev pub behind_low_bit : ℕ → ℕ → ℕ → List ℕ
 behind_low_bit byte low last = if last + 1 == low then [] else 45 ∷ end_text byte last

@@ -29,4 +29,5 @@ pub record SaysParameter (text : List ℕ) (spn : ℕ) : Type 0 where
 
 abbrev pub HasRow : List (List ℕ) → Result ReadRow RowFault → Type 0
 HasRow texts result =
-    MatchResult result (λ row. AreColumnsOf IsGoodRow columns_of texts (read_row_record row)) (λ fault. IsWrongAfter IsGoodRow columns_of texts (column_of fault))
+    MatchResult result (λ row. AreColumnsOf IsGoodRow columns_of texts (read_row_record row))
+    (λ fault. IsWrongAfter IsGoodRow columns_of texts (column_of fault))

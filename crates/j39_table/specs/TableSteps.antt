@@ -26,4 +26,5 @@ IsLineFault before number line TooLong = ⊥
 IsLineFault before number line Memory = ⊤
 
 abbrev pub IsLineRead : List RowRecord → List RowRecord → ℕ → List ℕ → Result (Unit {0}) TableFault → Type 0
-IsLineRead before after number line result = MatchResult result (λ _. AddsRow before after line) (λ fault. IsLineFault before number line fault)
+IsLineRead before after number line result =
+    MatchResult result (λ _. AddsRow before after line) (λ fault. IsLineFault before number line fault)

@@ -59,7 +59,8 @@ fn power(places: usize) -> u64
 /// What a text without a sign may be the printed form of: so many units of the last of so many places.
 fn magnitude_in(text: &[u8]) -> Option<(u64, u8)>
     ensures few { IfSome result (λ found. found.1 ≤ 15) }
-    ensures only { (magnitude places : ℕ) → places ≤ 15 → magnitude < 2 ^ 64 → text.now ≡ magnitude_text places magnitude
+    ensures only { (magnitude places : ℕ) → places ≤ 15 → magnitude < 2 ^ 64
+        → text.now ≡ magnitude_text places magnitude
         → IsSomeAnd result (λ found. (found.0 ≡ magnitude) × (found.1 ≡ places)) }
 {
     let len = whole_len(text);

@@ -118,7 +118,8 @@ fn part_in(text: &[u8]) -> Option<Place>
 }
 
 fn counted_place(text: &[u8]) -> Option<Place>
-    ensures bytes { (first last : ℕ) → first ≤ 255 → last ≤ 255 → text.now ≡ decimal first ++ behind_first_byte first last
+    ensures bytes { (first last : ℕ) → first ≤ 255 → last ≤ 255
+        → text.now ≡ decimal first ++ behind_first_byte first last
         → result ≡ Some (Place.Bytes first last) }
     ensures bits { (byte low count : ℕ) → IsGoodBits byte low count → text.now ≡ bits_text byte low (bits_end low count)
         → result ≡ Some (Place.Bits byte low count) }
@@ -129,8 +130,10 @@ fn counted_place(text: &[u8]) -> Option<Place>
 }
 
 fn place_behind(first: u8, rest: &[u8]) -> Option<Place>
-    ensures bytes { (last : ℕ) → last ≤ 255 → rest.now ≡ behind_first_byte first last → result ≡ Some (Place.Bytes first last) }
-    ensures bits { (low count : ℕ) → IsGoodBits first low count → rest.now ≡ 46 ∷ decimal low ++ behind_low_bit first low (bits_end low count)
+    ensures bytes { (last : ℕ) → last ≤ 255 → rest.now ≡ behind_first_byte first last
+        → result ≡ Some (Place.Bytes first last) }
+    ensures bits { (low count : ℕ) → IsGoodBits first low count
+        → rest.now ≡ 46 ∷ decimal low ++ behind_low_bit first low (bits_end low count)
         → result ≡ Some (Place.Bits first low count) }
     ensures texts { rest.now ≡ codes "-" → result ≡ Some (Place.Texts first) }
 {
@@ -154,7 +157,8 @@ fn bytes_from(first: u8, rest: &[u8]) -> Option<Place>
 }
 
 fn bits_from(byte: u8, rest: &[u8]) -> Option<Place>
-    ensures { (low count : ℕ) → IsGoodBits byte low count → rest.now ≡ decimal low ++ behind_low_bit byte low (bits_end low count)
+    ensures { (low count : ℕ) → IsGoodBits byte low count
+        → rest.now ≡ decimal low ++ behind_low_bit byte low (bits_end low count)
         → result ≡ Some (Place.Bits byte low count) }
 {
     let (low, rest) = leading_number(rest)?;
@@ -187,7 +191,8 @@ fn bits_to(byte: u8, low: u8, text: &[u8]) -> Option<Place>
 
 /// The bits from one bit to another.
 fn bits_between(byte: u8, low: u8, end: u8, bit: u8) -> Option<Place>
-    ensures { (count : ℕ) → IsGoodBits byte low count → end ≡ byte + bits_end low count / 8 → bit ≡ bits_end low count % 8 + 1
+    ensures { (count : ℕ) → IsGoodBits byte low count → end ≡ byte + bits_end low count / 8
+        → bit ≡ bits_end low count % 8 + 1
         → result ≡ Some (Place.Bits byte low count) }
 {
     let bytes = u32::from(end).checked_sub(u32::from(byte))?;

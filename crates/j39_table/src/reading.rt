@@ -58,7 +58,8 @@ fn rows_in(alloc: Global, text: &[u8]) -> Result<Vec<ReadRow<'_>>, TableFault>
 
 /// Appends the row that a line spells.
 fn push_row<'t>(rows: &mut Vec<ReadRow<'t>>, number: u32, line: &'t [u8]) -> Result<(), TableFault>
-    ensures { IsLineRead (map read_row_record rows.old.items) (map read_row_record rows.new.items) number line.entry.now result }
+    ensures { IsLineRead (map read_row_record rows.old.items)
+        (map read_row_record rows.new.items) number line.entry.now result }
 {
     if rows.len() >= 65536 {
         return Err(TableFault::TooManyRows(number));

@@ -4,7 +4,7 @@ use Rattle.j39_listen.proofs.RunLemmas.{has_met-none}
 use Rattle.j39_listen.proofs.pieces.Pieces.new.Goals as goal
 
 pub returns : goal.returns
-returns g c = λ subject output held met none.
+returns g c = λ held subject output met none.
     let e = c.default.ensures in
     record {
       begun = [];
