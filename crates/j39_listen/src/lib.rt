@@ -20,4 +20,5 @@ pub use counts::Counts;
 pub use heard::Heard;
 pub use listener::Listener;
 pub use node_list::nodes;
-pub use running::{RunFault, run, run_with};
+pub use report::{run, run_with};
+pub use running::RunFault;

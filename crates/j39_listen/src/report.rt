@@ -1,19 +1,119 @@
-//! The report of what is heard on a bus, as an account of its frames.
-ghost use Rattle.std.specs.Prelude.{◌≡◌, ◌≢◌, [], List, true, IfOk, Err};
+//! The report of what is heard on a bus: the runs that write it, and the account of frames that they write.
+ghost use Rattle.std.specs.Prelude.{◌≡◌, ◌≢◌, ◌<◌, ◌≤◌, ◌⊎◌, [], List, true, length};
+ghost use Rattle.std.specs.Prelude.{IfOk, IfSome, OnOk, OnErr, Err};
 ghost use Rattle.j39_frame.specs.Frame.{FrameRecord};
-ghost use Rattle.j39_listen.specs.Asking.{AsksForBoxes};
+ghost use Rattle.j39_groups.specs.Table.{the_table};
+ghost use Rattle.j39_listen.specs.Asking.{AsksForBoxes, AsksWithin};
 ghost use Rattle.j39_listen.specs.Listening.{Hears};
-ghost use Rattle.j39_listen.specs.Output.{report_of};
+ghost use Rattle.j39_listen.specs.Output.{MakesReport, report_of};
 ghost use Rattle.j39_listen.specs.ReportSteps.{HasReported, MeetsFrame, StopsFrame};
-ghost use Rattle.j39_listen.specs.declared.account.LineFault.TheVariants.{Memory, Write};
+ghost use Rattle.j39_listen.specs.Run.{StopsAtLimit, StopsWithin, TakesWithin, Writes, WritesPublished};
+ghost use Rattle.j39_listen.specs.declared.account.LineFault.TheVariants as line_fault;
+ghost use Rattle.j39_listen.specs.declared.running.RunFault.TheVariants.{Memory, Read, Write, TooLong};
 
-use crate::Listener;
 use crate::account::{Account, LineFault};
 use crate::counts::Made;
 use crate::report_lines::{Pen, put_heard};
-use j39_frame::{Bus, DeviceFault, Frame, Sink};
+use crate::running::{RunFault, run_over};
+use crate::{Counts, Listener};
+use j39_frame::{Bus, DeviceFault, Frame, Sink, Source};
 use j39_groups::Groups;
 use std::alloc::{AllocError, Global};
+
+/// Writes the report of a log of at most `limit` bytes by the built-in table: a line for each value that a
+/// controller on the bus reported. Without a bus it is that of the first frame in the log.
+pub fn run<R: Source, W: Sink>(
+    alloc: Global,
+    source: &mut R,
+    sink: &mut W,
+    bus: Option<Bus>,
+    limit: u64,
+) -> Result<Counts, RunFault>
+    // The report promise: what is written is the report of the log, and nothing else.
+    ensures report { IfOk result (λ counts. IfSome (R.remaining source.old)
+        (λ log. Writes (MakesReport the_table) bus log counts (W.held sink.old) (W.held sink.new))) }
+
+    // The headline: of what publishers sent, its lines under their addresses are exactly the values
+    // published, but for the messages that lost a packet.
+    ensures published { OnOk result (IfSome (R.remaining source.old)
+        (λ log. WritesPublished the_table bus log (W.held sink.old) (W.held sink.new))) }
+
+    // Each fault comes only where its device failed, or the log is longer than the limit.
+    ensures short { OnOk result (IfSome (R.remaining source.old) (λ log. length log ≤ limit)) }
+    ensures too_long { result ≡ Err TooLong → IfSome (R.remaining source.old) (λ log. limit < length log) }
+    ensures read { result ≡ Err Read → R.has_failed source.new ≡ true }
+    ensures read_unmarked { result ≢ Err Read → R.has_failed source.new ≡ R.has_failed source.old }
+    ensures write { result ≡ Err Write → W.has_failed sink.new ≡ true }
+    ensures write_unmarked { result ≢ Err Write → W.has_failed sink.new ≡ W.has_failed sink.old }
+
+    // Memory is wanted only at a frame of the log that announces a message.
+    ensures memory { result ≡ Err Memory
+        → AsksWithin AsksForBoxes bus (R.remaining source.old) (R.remaining source.new) }
+
+    // The bytes that were taken pass the limit exactly where `TooLong` is answered, and those that pass it aren't handled.
+    ensures within { result ≢ Err TooLong → TakesWithin limit (R.remaining source.old) (R.remaining source.new) }
+    ensures at_limit { result ≡ Err TooLong → StopsAtLimit (MakesReport the_table) limit bus
+        (R.remaining source.old) (R.remaining source.new) (W.held sink.old) (W.held sink.new) }
+
+    // What was written is passed on at the end, and before each read.
+    ensures flushed { OnOk result (W.is_flushed sink.new ≡ true) }
+    ensures flushed_at_reads { (result ≡ Err Read) ⊎ (result ≡ Err TooLong)
+        → W.is_flushed sink.old ≡ true → W.is_flushed sink.new ≡ true }
+
+    // What was written before a fault is a front of the report of the bytes that were read.
+    ensures prefix { OnErr result (StopsWithin (MakesReport the_table) bus
+        (R.remaining source.old) (R.remaining source.new) (W.held sink.old) (W.held sink.new)) }
+{
+    run_with(alloc, &Groups::built_in(), source, sink, bus, limit)
+}
+
+/// Writes the report of a log of at most `limit` bytes by a table of parameters: a line for each value of it that
+/// a controller on the bus reported. Without a bus it is that of the first frame in the log.
+pub fn run_with<R: Source, W: Sink>(
+    alloc: Global,
+    groups: &Groups<'_>,
+    source: &mut R,
+    sink: &mut W,
+    bus: Option<Bus>,
+    limit: u64,
+) -> Result<Counts, RunFault>
+    // The report promise: what is written is the report of the log, and nothing else.
+    ensures report { IfOk result (λ counts. IfSome (R.remaining source.old)
+        (λ log. Writes (MakesReport groups.now) bus log counts (W.held sink.old) (W.held sink.new))) }
+
+    // The headline: of what publishers sent, its lines under their addresses are exactly the values
+    // published, but for the messages that lost a packet.
+    ensures published { OnOk result (IfSome (R.remaining source.old)
+        (λ log. WritesPublished groups.now bus log (W.held sink.old) (W.held sink.new))) }
+
+    // Each fault comes only where its device failed, or the log is longer than the limit.
+    ensures short { OnOk result (IfSome (R.remaining source.old) (λ log. length log ≤ limit)) }
+    ensures too_long { result ≡ Err TooLong → IfSome (R.remaining source.old) (λ log. limit < length log) }
+    ensures read { result ≡ Err Read → R.has_failed source.new ≡ true }
+    ensures read_unmarked { result ≢ Err Read → R.has_failed source.new ≡ R.has_failed source.old }
+    ensures write { result ≡ Err Write → W.has_failed sink.new ≡ true }
+    ensures write_unmarked { result ≢ Err Write → W.has_failed sink.new ≡ W.has_failed sink.old }
+
+    // Memory is wanted only at a frame of the log that announces a message.
+    ensures memory { result ≡ Err Memory
+        → AsksWithin AsksForBoxes bus (R.remaining source.old) (R.remaining source.new) }
+
+    // The bytes that were taken pass the limit exactly where `TooLong` is answered, and those that pass it aren't handled.
+    ensures within { result ≢ Err TooLong → TakesWithin limit (R.remaining source.old) (R.remaining source.new) }
+    ensures at_limit { result ≡ Err TooLong → StopsAtLimit (MakesReport groups.now) limit bus
+        (R.remaining source.old) (R.remaining source.new) (W.held sink.old) (W.held sink.new) }
+
+    // What was written is passed on at the end, and before each read.
+    ensures flushed { OnOk result (W.is_flushed sink.new ≡ true) }
+    ensures flushed_at_reads { (result ≡ Err Read) ⊎ (result ≡ Err TooLong)
+        → W.is_flushed sink.old ≡ true → W.is_flushed sink.new ≡ true }
+
+    // What was written before a fault is a front of the report of the bytes that were read.
+    ensures prefix { OnErr result (StopsWithin (MakesReport groups.now) bus
+        (R.remaining source.old) (R.remaining source.new) (W.held sink.old) (W.held sink.new)) }
+{
+    run_over(Report::new(alloc, groups), source, sink, bus, limit)
+}
 
 /// What is heard so far, and the numbers of its report.
 #[derive(Drop)]
@@ -86,12 +186,12 @@ fn put_frame<W: Sink>(
 ) -> Result<Made, LineFault>
     ensures met { IfOk result (λ made. (F : List FrameRecord) → Hears listener.old F
         → MeetsFrame groups.now listener.new F frame.now made (W.held sink.old) (W.held sink.new)) }
-    ensures write { result ≡ Err Write → W.has_failed sink.new ≡ true }
-    ensures stops { result ≡ Err Write → (F : List FrameRecord) → Hears listener.old F
+    ensures write { result ≡ Err line_fault.Write → W.has_failed sink.new ≡ true }
+    ensures stops { result ≡ Err line_fault.Write → (F : List FrameRecord) → Hears listener.old F
         → StopsFrame groups.now F frame.now (W.held sink.old) (W.held sink.new) }
-    ensures memory { result ≡ Err Memory → W.held sink.new ≡ W.held sink.old }
-    ensures asked { result ≡ Err Memory → (F : List FrameRecord) → Hears listener.old F → AsksForBoxes F frame.now }
-    ensures unmarked { result ≢ Err Write → W.has_failed sink.new ≡ W.has_failed sink.old }
+    ensures memory { result ≡ Err line_fault.Memory → W.held sink.new ≡ W.held sink.old }
+    ensures asked { result ≡ Err line_fault.Memory → (F : List FrameRecord) → Hears listener.old F → AsksForBoxes F frame.now }
+    ensures unmarked { result ≢ Err line_fault.Write → W.has_failed sink.new ≡ W.has_failed sink.old }
 {
     match listener.feed_with(groups, frame) {
         Err(AllocError) => Err(LineFault::Memory),

@@ -1,19 +1,14 @@
-//! The report of a log.
-ghost use Rattle.std.specs.Prelude.{◌≡◌, ◌≢◌, ◌<◌, ◌≤◌, ◌⊎◌, ◌++◌, ℕ, List, [], Option, true, length, IfOk, OnOk, OnErr, IfSome, Err};
-ghost use Rattle.j39_groups.specs.Table.{the_table};
-ghost use Rattle.j39_listen.specs.Asking.{AsksAmong, AsksForBoxes, AsksWithin};
-ghost use Rattle.j39_listen.specs.Output.{MakesReport, Output};
+//! A run over a log, piece by piece, whatever account of it is written.
+ghost use Rattle.std.specs.Prelude.{◌≡◌, ◌≢◌, ◌<◌, ◌≤◌, ◌⊎◌, ◌++◌, true, length, IfOk, OnOk, OnErr, IfSome, Err};
+ghost use Rattle.j39_listen.specs.Asking.{AsksAmong, AsksWithin};
 ghost use Rattle.j39_listen.specs.PieceSteps.{AtNothing, AtStart, Behind, HasTaken};
-ghost use Rattle.j39_listen.specs.Run.{StopsAtLimit, StopsWithin, TakesWithin, Writes, WritesFront, WritesPublished};
+ghost use Rattle.j39_listen.specs.Run.{StopsAtLimit, StopsWithin, TakesWithin, Writes, WritesFront};
 ghost use Rattle.j39_listen.specs.declared.running.RunFault.TheVariants.{Memory, Read, Write, TooLong};
 
 use crate::Counts;
 use crate::account::{Account, LineFault};
 use crate::pieces::Pieces;
-use crate::report::Report;
 use j39_frame::{Bus, Sink, Source};
-use j39_groups::Groups;
-use std::alloc::Global;
 use std::fmt;
 use thiserror::Error;
 
@@ -59,101 +54,6 @@ impl fmt::Display for RunFault {
 
 /// The bytes of one read.
 const PIECE: usize = 65_536;
-
-/// Writes the report of a log of at most `limit` bytes by the built-in table: a line for each value that a
-/// controller on the bus reported. Without a bus it is that of the first frame in the log.
-pub fn run<R: Source, W: Sink>(
-    alloc: Global,
-    source: &mut R,
-    sink: &mut W,
-    bus: Option<Bus>,
-    limit: u64,
-) -> Result<Counts, RunFault>
-    // The report promise: what is written is the report of the log, and nothing else.
-    ensures report { IfOk result (λ counts. IfSome (R.remaining source.old)
-        (λ log. Writes (MakesReport the_table) bus log counts (W.held sink.old) (W.held sink.new))) }
-
-    // The headline: of what publishers sent, its lines under their addresses are exactly the values
-    // published, but for the messages that lost a packet.
-    ensures published { OnOk result (IfSome (R.remaining source.old)
-        (λ log. WritesPublished the_table bus log (W.held sink.old) (W.held sink.new))) }
-
-    // Each fault comes only where its device failed, or the log is longer than the limit.
-    ensures short { OnOk result (IfSome (R.remaining source.old) (λ log. length log ≤ limit)) }
-    ensures too_long { result ≡ Err TooLong → IfSome (R.remaining source.old) (λ log. limit < length log) }
-    ensures read { result ≡ Err Read → R.has_failed source.new ≡ true }
-    ensures read_unmarked { result ≢ Err Read → R.has_failed source.new ≡ R.has_failed source.old }
-    ensures write { result ≡ Err Write → W.has_failed sink.new ≡ true }
-    ensures write_unmarked { result ≢ Err Write → W.has_failed sink.new ≡ W.has_failed sink.old }
-
-    // Memory is wanted only at a frame of the log that announces a message.
-    ensures memory { result ≡ Err Memory
-        → AsksWithin AsksForBoxes bus (R.remaining source.old) (R.remaining source.new) }
-
-    // The bytes that were taken pass the limit exactly where `TooLong` is answered, and those that pass it aren't handled.
-    ensures within { result ≢ Err TooLong → TakesWithin limit (R.remaining source.old) (R.remaining source.new) }
-    ensures at_limit { result ≡ Err TooLong → StopsAtLimit (MakesReport the_table) limit bus
-        (R.remaining source.old) (R.remaining source.new) (W.held sink.old) (W.held sink.new) }
-
-    // What was written is passed on at the end, and before each read.
-    ensures flushed { OnOk result (W.is_flushed sink.new ≡ true) }
-    ensures flushed_at_reads { (result ≡ Err Read) ⊎ (result ≡ Err TooLong)
-        → W.is_flushed sink.old ≡ true → W.is_flushed sink.new ≡ true }
-
-    // What was written before a fault is a front of the report of the bytes that were read.
-    ensures prefix { OnErr result (StopsWithin (MakesReport the_table) bus
-        (R.remaining source.old) (R.remaining source.new) (W.held sink.old) (W.held sink.new)) }
-{
-    run_with(alloc, &Groups::built_in(), source, sink, bus, limit)
-}
-
-/// Writes the report of a log of at most `limit` bytes by a table of parameters: a line for each value of it that
-/// a controller on the bus reported. Without a bus it is that of the first frame in the log.
-pub fn run_with<R: Source, W: Sink>(
-    alloc: Global,
-    groups: &Groups<'_>,
-    source: &mut R,
-    sink: &mut W,
-    bus: Option<Bus>,
-    limit: u64,
-) -> Result<Counts, RunFault>
-    // The report promise: what is written is the report of the log, and nothing else.
-    ensures report { IfOk result (λ counts. IfSome (R.remaining source.old)
-        (λ log. Writes (MakesReport groups.now) bus log counts (W.held sink.old) (W.held sink.new))) }
-
-    // The headline: of what publishers sent, its lines under their addresses are exactly the values
-    // published, but for the messages that lost a packet.
-    ensures published { OnOk result (IfSome (R.remaining source.old)
-        (λ log. WritesPublished groups.now bus log (W.held sink.old) (W.held sink.new))) }
-
-    // Each fault comes only where its device failed, or the log is longer than the limit.
-    ensures short { OnOk result (IfSome (R.remaining source.old) (λ log. length log ≤ limit)) }
-    ensures too_long { result ≡ Err TooLong → IfSome (R.remaining source.old) (λ log. limit < length log) }
-    ensures read { result ≡ Err Read → R.has_failed source.new ≡ true }
-    ensures read_unmarked { result ≢ Err Read → R.has_failed source.new ≡ R.has_failed source.old }
-    ensures write { result ≡ Err Write → W.has_failed sink.new ≡ true }
-    ensures write_unmarked { result ≢ Err Write → W.has_failed sink.new ≡ W.has_failed sink.old }
-
-    // Memory is wanted only at a frame of the log that announces a message.
-    ensures memory { result ≡ Err Memory
-        → AsksWithin AsksForBoxes bus (R.remaining source.old) (R.remaining source.new) }
-
-    // The bytes that were taken pass the limit exactly where `TooLong` is answered, and those that pass it aren't handled.
-    ensures within { result ≢ Err TooLong → TakesWithin limit (R.remaining source.old) (R.remaining source.new) }
-    ensures at_limit { result ≡ Err TooLong → StopsAtLimit (MakesReport groups.now) limit bus
-        (R.remaining source.old) (R.remaining source.new) (W.held sink.old) (W.held sink.new) }
-
-    // What was written is passed on at the end, and before each read.
-    ensures flushed { OnOk result (W.is_flushed sink.new ≡ true) }
-    ensures flushed_at_reads { (result ≡ Err Read) ⊎ (result ≡ Err TooLong)
-        → W.is_flushed sink.old ≡ true → W.is_flushed sink.new ≡ true }
-
-    // What was written before a fault is a front of the report of the bytes that were read.
-    ensures prefix { OnErr result (StopsWithin (MakesReport groups.now) bus
-        (R.remaining source.old) (R.remaining source.new) (W.held sink.old) (W.held sink.new)) }
-{
-    run_over(Report::new(alloc, groups), source, sink, bus, limit)
-}
 
 /// Writes an account of a log of at most `limit` bytes; the account has met no frame.
 pub(crate) fn run_over<A: Account, R: Source, W: Sink>(

@@ -3,7 +3,7 @@ use Rattle.j39_listen.specs.Output.{report_of}
 use Rattle.j39_listen.proofs.PieceLemmas.{if_ok, on_err_from}
 use Rattle.j39_listen.proofs.ReportAccount.{no_text}
 use Rattle.j39_listen.proofs.Written.{tells_published}
-use Rattle.j39_listen.proofs.running.run_with.Goals as goal
+use Rattle.j39_listen.proofs.report.run_with.Goals as goal
 
 pub returns-clause-report : goal.returns-clause-report
 returns-clause-report g c = if_ok c.run_over.result _ _ (λ counts writes. writes c.args.groups.now (report_of c.args.groups.now []) (λ name. c.new.ensures) (no_text c.args.groups.now)) c.run_over.ensures.writes
