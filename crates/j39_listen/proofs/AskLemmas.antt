@@ -17,7 +17,7 @@ use Rattle.j39_listen.specs.Output.{Output, Meeting}
 use Rattle.j39_listen.specs.PieceSteps.{HasMetAll, HasRead, HasTaken}
 use Rattle.j39_listen.specs.Run.{run_bus}
 use Rattle.j39_listen.specs.declared.pieces.Pieces.{Pieces}
-use Rattle.j39_listen.specs.declared.progress.Progress.{Progress}
+use Rattle.j39_listen.specs.declared.lines.Lines.{Lines}
 use Rattle.j39_listen.specs.declared.running.RunFault.{RunFault}
 use Rattle.j39_listen.proofs.LineLemmas.{its_name, on_bus}
 use Rattle.j39_listen.proofs.PieceLemmas.{TakesBytes}
@@ -34,13 +34,13 @@ asks_frame has_met asks name f bus own a is on asked = record {
   asked = λ given named F output met. asked F output (subst (λ (b : List ℕ). has_met b a F output) (sym (its_name name f bus own given is named)) met);
 }
 
-pub asks_line : {A : Type 0} (has_met : Meeting A) (asks : Wanting) (begun bytes : List ℕ) (n : ℕ) (raw : RawLine) (s : Spelled) (p : Progress A)
+pub asks_line : {A : Type 0} (has_met : Meeting A) (asks : Wanting) (begun bytes : List ℕ) (n : ℕ) (raw : RawLine) (s : Spelled) (p : Lines A)
     → (line : List ℕ) × EndsLine begun bytes line n × IsRawLine raw line → ((line : List ℕ) → IsRawLine raw line → Spells line s)
     → (IsSpelling s → AsksLine has_met asks s p.bus p.account) → AsksIn has_met asks begun bytes p
 asks_line has_met asks begun bytes n raw s p (line, ends, cut) spells line_asks =
     record { line = line; n = n; ends = ends; spelled = s; spells = spells line cut; line_asks = line_asks (line, spells line cut) }
 
-pub asks_last_line : {A : Type 0} (has_met : Meeting A) (asks : Wanting) (splitter : Splitter) (raw : RawLine) (s : Spelled) (p : Progress A)
+pub asks_last_line : {A : Type 0} (has_met : Meeting A) (asks : Wanting) (splitter : Splitter) (raw : RawLine) (s : Spelled) (p : Lines A)
     → ((begun : List ℕ) → HasBegun splitter begun → (begun ≢ []) × IsRawLine raw begun) → ((line : List ℕ) → IsRawLine raw line → Spells line s)
     → (IsSpelling s → AsksLine has_met asks s p.bus p.account) → (begun : List ℕ) → HasBegun splitter begun → AsksLast has_met asks begun p
 asks_last_line has_met asks splitter raw s p cuts spells line_asks begun h =
@@ -50,7 +50,7 @@ asks_last_line has_met asks splitter raw s p cuts spells line_asks begun h =
 -- ---- the lines before it
 
 -- behind the frames of all lines so far, which the account has met
-asks_behind : {A : Type 0} (has_met : Meeting A) (asks : Wanting) (given : Option (List ℕ)) (spelled : List Spelled) (s : Spelled) (p : Progress A) (old mid : Option (List ℕ))
+asks_behind : {A : Type 0} (has_met : Meeting A) (asks : Wanting) (given : Option (List ℕ)) (spelled : List Spelled) (s : Spelled) (p : Lines A) (old mid : Option (List ℕ))
     → HasMetAll has_met given spelled p old mid → (k : AsksLine has_met asks s p.bus p.account) → asks (frames_of given spelled) k.at
 asks_behind has_met asks given spelled s p old mid h k =
     let name = run_bus given (spelled ++ (s ∷ [])) in
@@ -65,7 +65,7 @@ among : (given : Option (List ℕ)) (spelled : List Spelled) (s : Spelled) (bus 
 among given spelled s bus f is on =
     frames_of-append given spelled (s ∷ []) ∙ ap (λ fs. frames_of given spelled ++ fs) (subst (λ (o : Option (List ℕ)). frames_of o (s ∷ []) ≡ f ∷ []) is on)
 
-asks_in : {A : Type 0} (has_met : Meeting A) (asks : Wanting) (given : Option (List ℕ)) (taken begun bytes : List ℕ) (p : Progress A) (old mid : Option (List ℕ))
+asks_in : {A : Type 0} (has_met : Meeting A) (asks : Wanting) (given : Option (List ℕ)) (taken begun bytes : List ℕ) (p : Lines A) (old mid : Option (List ℕ))
     → HasRead has_met given taken begun p old mid → HasNoNewline begun → AsksIn has_met asks begun bytes p → AsksAmong asks given (taken ++ bytes)
 asks_in has_met asks given taken begun bytes p old mid h whole k =
     let line = k.line in
@@ -91,7 +91,7 @@ asks_in has_met asks given taken begun bytes p old mid h whole k =
 -- ---- what calls made of a run, whatever bytes it stands for
 
 pub asks_at_end : {A : Type 0} (has_met : Meeting A) (asks : Wanting) (run : Pieces A) (mid : Option (List ℕ))
-    → ((begun : List ℕ) → HasBegun run.splitter begun → AsksLast has_met asks begun run.progress)
+    → ((begun : List ℕ) → HasBegun run.splitter begun → AsksLast has_met asks begun run.lines)
     → (given : Option (List ℕ)) (taken : List ℕ) (held : Option (List ℕ)) → HasTaken has_met given taken run held mid → AsksAmong asks given taken
 asks_at_end has_met asks run mid lasts given taken held t =
     let k = lasts t.begun t.begins in
@@ -101,20 +101,20 @@ asks_at_end has_met asks run mid lasts given taken held t =
       rest = [];
       bytes_are = sym (append-nil taken);
       spelled = h.spelled ++ (k.spelled ∷ []);
-      is_log = last_log has_met given taken t.begun k.spelled run.progress held mid h t.begins.whole k.some k.spells;
+      is_log = last_log has_met given taken t.begun k.spelled run.lines held mid h t.begins.whole k.some k.spells;
       before = frames_of given h.spelled;
       at = k.line_asks.at;
-      frames_are = among given h.spelled k.spelled run.progress.bus k.line_asks.at h.met.bus_is k.line_asks.is_on;
-      asked = asks_behind has_met asks given h.spelled k.spelled run.progress held mid h.met k.line_asks;
+      frames_are = among given h.spelled k.spelled run.lines.bus k.line_asks.at h.met.bus_is k.line_asks.is_on;
+      asked = asks_behind has_met asks given h.spelled k.spelled run.lines held mid h.met k.line_asks;
     }
 
 pub takes_then_asks : {A : Type 0} (has_met : Meeting A) (asks : Wanting) (run run' : Pieces A) (done rest piece : List ℕ) (a b : Option (List ℕ)) → piece ≡ done ++ rest
-    → TakesBytes has_met run run' done a b → ((begun : List ℕ) → HasBegun run'.splitter begun → AsksIn has_met asks begun rest run'.progress)
+    → TakesBytes has_met run run' done a b → ((begun : List ℕ) → HasBegun run'.splitter begun → AsksIn has_met asks begun rest run'.lines)
     → (given : Option (List ℕ)) (taken : List ℕ) (held : Option (List ℕ)) → HasTaken has_met given taken run held a → AsksAmong asks given (taken ++ piece)
 takes_then_asks has_met asks run run' done rest piece a b is takes asking = λ given taken held h.
     let t = takes given taken held h in
     subst (λ t. AsksAmong asks given t) (append_assoc taken done rest ∙ ap (λ t. taken ++ t) (sym is))
-    (asks_in has_met asks given (taken ++ done) t.begun rest run'.progress held b t.has_read t.begins.whole (asking t.begun t.begins))
+    (asks_in has_met asks given (taken ++ done) t.begun rest run'.lines held b t.has_read t.begins.whole (asking t.begun t.begins))
 
 pub same_run_fault : {T : Type 0} (x y : RunFault) → (let r : Result T RunFault = Err x in r) ≡ Err y → x ≡ y
 same_run_fault x y e = cc

@@ -13,13 +13,13 @@ use Rattle.j39_address.specs.declared.claims.Claims.{Claims}
 use Rattle.j39_listen.specs.AccountSteps.{Begins, Closes, MakesOne, StopsAtEnd}
 use Rattle.j39_listen.specs.Counting.{capped}
 use Rattle.j39_listen.specs.NodeSteps.{HasNoted}
-use Rattle.j39_listen.specs.Nodes.{AreNodes, Node, NodesBelow, node_at, node_text, nodes_text}
+use Rattle.j39_listen.specs.Nodes.{AreNodes, Holding, NodesBelow, node_at, node_text, nodes_text}
 use Rattle.j39_listen.specs.Output.{MakesNodes, Output, nodes_of}
 use Rattle.j39_listen.specs.declared.node_list.NodeList.{NodeList}
 use Rattle.j39_listen.proofs.LineLemmas.{capped-fits}
 use Rattle.j39_address.proofs.HolderLemmas.{same_holder}
 
-pub nodes_text-append : (xs ys : List Node) → nodes_text (xs ++ ys) ≡ nodes_text xs ++ nodes_text ys
+pub nodes_text-append : (xs ys : List Holding) → nodes_text (xs ++ ys) ≡ nodes_text xs ++ nodes_text ys
 unfolding nodes_text
 nodes_text-append xs ys = flat_map-append node_text xs ys
 
@@ -27,7 +27,7 @@ pub nodes_text-none : nodes_text [] ≡ []
 unfolding nodes_text
 nodes_text-none = refl
 
-pub nodes_text-one : (n : Node) → nodes_text (n ∷ []) ≡ node_text n
+pub nodes_text-one : (n : Holding) → nodes_text (n ∷ []) ≡ node_text n
 unfolding nodes_text
 nodes_text-one n = append-nil (node_text n)
 
@@ -42,7 +42,7 @@ at_some n name o some = ap (λ h. nodes_text (node_at n h)) (sym some) ∙ nodes
 -- ---- what the table has
 
 -- the nodes below n that the table has
-pub held_below : Claims → ℕ → List Node
+pub held_below : Claims → ℕ → List Holding
 held_below table zero = []
 held_below table (suc n) = held_below table n ++ node_at n (holder_in table n)
 
@@ -63,7 +63,7 @@ held_are table F (suc n) knows = (held_below table n, holder_in table n, held_ar
 
 -- ---- one list
 
-nodes_below_unique : (F : List FrameRecord) (n : ℕ) (xs ys : List Node) → NodesBelow F n xs → NodesBelow F n ys → xs ≡ ys
+nodes_below_unique : (F : List FrameRecord) (n : ℕ) (xs ys : List Holding) → NodesBelow F n xs → NodesBelow F n ys → xs ≡ ys
 unfolding NodesBelow
 nodes_below_unique F zero xs ys x y = x ∙ sym y
 nodes_below_unique F (suc n) xs ys (xs', a, below_x, holds_x, is_x) (ys', b, below_y, holds_y, is_y) =
@@ -73,7 +73,7 @@ nodes_below_unique F (suc n) xs ys (xs', a, below_x, holds_x, is_x) (ys', b, bel
 pub table_has : (table : Claims) (F : List FrameRecord) (n : ℕ) → n ≡ null_address → Knows table F → AreNodes F (held_below table n)
 table_has table F n is knows = subst (λ (k : ℕ). NodesBelow F k (held_below table n)) is (held_are table F n knows)
 
-one_list_of_nodes : (F : List FrameRecord) (xs ys : List Node) → AreNodes F xs → AreNodes F ys → xs ≡ ys
+one_list_of_nodes : (F : List FrameRecord) (xs ys : List Holding) → AreNodes F xs → AreNodes F ys → xs ≡ ys
 one_list_of_nodes F xs ys x y = nodes_below_unique F null_address xs ys x y
 
 -- ---- what was written so far
@@ -112,13 +112,13 @@ puts_more table n lines k old mid new h count more =
     }
 
 pub puts_all : (table : Claims) (n lines : ℕ) (old new : Option (List ℕ)) → HasPut table n lines old new → n ≡ null_address → (F : List FrameRecord) → Knows table F
-    → (nodes : List Node) × AreNodes F nodes × (lines ≡ length nodes) × Appends old new (nodes_text nodes)
+    → (nodes : List Holding) × AreNodes F nodes × (lines ≡ length nodes) × Appends old new (nodes_text nodes)
 puts_all table n lines old new h end F knows = (held_below table n, table_has table F n end knows, h.lines_are, h.written)
 
 -- ---- a fault in a line
 
 -- the nodes of the first addresses come first
-held_more : (table : Claims) (n k : ℕ) → (rest : List Node) × (held_below table (n + k) ≡ held_below table n ++ rest)
+held_more : (table : Claims) (n k : ℕ) → (rest : List Holding) × (held_below table (n + k) ≡ held_below table n ++ rest)
 held_more table n zero =
     let same : n + 0 ≡ n = omega arith in
     ([], ap (held_below table) same ∙ sym (append-nil (held_below table n)))
@@ -126,10 +126,10 @@ held_more table n (suc k) =
     let next : n + suc k ≡ (n + k) + 1 = omega arith in
     let m = held_more table n k in
     let last = node_at (n + k) (holder_in table (n + k)) in
-    (m.0 ++ last, ap (held_below table) next ∙ held_next table (n + k) ∙ ap (λ (xs : List Node). xs ++ last) m.1 ∙ append_assoc (held_below table n) m.0 last)
+    (m.0 ++ last, ap (held_below table) next ∙ held_next table (n + k) ∙ ap (λ (xs : List Holding). xs ++ last) m.1 ∙ append_assoc (held_below table n) m.0 last)
 
 pub front_in_nodes : (table : Claims) (n lines : ℕ) (old mid new : Option (List ℕ)) → n < null_address → HasPut table n lines old mid
-    → AppendsFront mid new (nodes_text (node_at n (holder_in table n))) → (F : List FrameRecord) (nodes : List Node) → Knows table F → AreNodes F nodes
+    → AppendsFront mid new (nodes_text (node_at n (holder_in table n))) → (F : List FrameRecord) (nodes : List Holding) → Knows table F → AreNodes F nodes
     → AppendsFront old new (nodes_text nodes)
 front_in_nodes table n lines old mid new below h front F nodes knows are =
     let here = nodes_text (node_at n (holder_in table n)) in
@@ -153,7 +153,7 @@ nodes_one = λ bus F x y (xs, are_x, is_x) (ys, are_y, is_y).
     ap (λ (o : Output). o.text) is_x ∙ ap nodes_text (one_list_of_nodes F xs ys are_x are_y) ∙ sym (ap (λ (o : Output). o.text) is_y)
 
 pub nodes_close : (a : NodeList) (lines : ℕ) (old new : Option (List ℕ)) → lines < 2 ^ 64
-    → ((F : List FrameRecord) → Knows a.claims F → (nodes : List Node) × AreNodes F nodes × (lines ≡ length nodes) × Appends old new (nodes_text nodes))
+    → ((F : List FrameRecord) → Knows a.claims F → (nodes : List Holding) × AreNodes F nodes × (lines ≡ length nodes) × Appends old new (nodes_text nodes))
     → Closes (λ bus. HasNoted) MakesNodes a (record { messages = 0; lines = lines }) old new
 nodes_close a lines old new fits puts = λ bus F before has.
     let p = puts F has.knows in
@@ -168,7 +168,7 @@ nodes_close a lines old new fits puts = λ bus F before has.
     }
 
 pub nodes_stop : (a : NodeList) (old new : Option (List ℕ))
-    → ((F : List FrameRecord) (nodes : List Node) → Knows a.claims F → AreNodes F nodes → AppendsFront old new (nodes_text nodes))
+    → ((F : List FrameRecord) (nodes : List Holding) → Knows a.claims F → AreNodes F nodes → AppendsFront old new (nodes_text nodes))
     → StopsAtEnd (λ bus. HasNoted) MakesNodes a old new
 nodes_stop a old new stops = λ bus F before all has (nodes, are, is).
     record {

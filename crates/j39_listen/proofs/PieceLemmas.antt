@@ -21,7 +21,7 @@ use Rattle.j39_listen.specs.declared.account.LineFault.{LineFault}
 use Rattle.j39_listen.specs.declared.account.LineFault.TheVariants.{Memory, Write}
 use Rattle.j39_listen.specs.declared.counts.Counts.{Counts}
 use Rattle.j39_listen.specs.declared.pieces.Pieces.{Pieces}
-use Rattle.j39_listen.specs.declared.progress.Progress.{Progress}
+use Rattle.j39_listen.specs.declared.lines.Lines.{Lines}
 use Rattle.j39_listen.proofs.RunLemmas.{ended_log, has_met-more, has_read-bytes, has_read-more, last_log, writes_log}
 use Rattle.j39_listen.proofs.StopLemmas.{front_of_log, stops_in, stops_last, writes_front}
 
@@ -33,7 +33,7 @@ takes_front begun bytes line n e =
 -- one step more
 takes_more : {A : Type 0} (has_met : Meeting A) (given : Option (List ℕ)) (taken bytes : List ℕ) (n : ℕ) (run run' : Pieces A) (old mid new : Option (List ℕ))
     → HasTaken has_met given taken run old mid
-    → ((begun : List ℕ) → HasBegun run.splitter begun → StepsOver has_met begun bytes n run'.splitter run.progress run'.progress mid new)
+    → ((begun : List ℕ) → HasBegun run.splitter begun → StepsOver has_met begun bytes n run'.splitter run.lines run'.lines mid new)
     → HasTaken has_met given (taken ++ take n bytes) run' old new
 takes_more has_met given taken bytes n run run' old mid new h steps =
     elim (steps h.begun h.begins) [
@@ -65,8 +65,8 @@ front_of_taken has_met makes begins given taken run old new h =
     subst (λ t. WritesFront makes given t old new) (append-nil taken) (front_of_more has_met makes begins given taken [] run old new h)
 
 -- with the last line all lines of the log were met
-finishes : {A : Type 0} (has_met : Meeting A) (given : Option (List ℕ)) (taken : List ℕ) (run : Pieces A) (p' : Progress A) (old mid new : Option (List ℕ)) → HasTaken has_met given taken run old mid
-    → ((begun : List ℕ) → HasBegun run.splitter begun → ReadsLast has_met begun run.progress p' mid new)
+finishes : {A : Type 0} (has_met : Meeting A) (given : Option (List ℕ)) (taken : List ℕ) (run : Pieces A) (p' : Lines A) (old mid new : Option (List ℕ)) → HasTaken has_met given taken run old mid
+    → ((begun : List ℕ) → HasBegun run.splitter begun → ReadsLast has_met begun run.lines p' mid new)
     → (spelled : List Spelled) × IsLog taken spelled × HasMetAll has_met given spelled p' old new
 finishes has_met given taken run p' old mid new h reads =
     elim (reads h.begun h.begins) [
@@ -95,7 +95,7 @@ StopsBytes has_met makes run bytes old new =
     (given : Option (List ℕ)) (taken : List ℕ) (held : Option (List ℕ)) → HasTaken has_met given taken run held old → WritesFront makes given (taken ++ bytes) held new
 
 pub takes_then_takes : {A : Type 0} (has_met : Meeting A) (run run' run'' : Pieces A) (done rest : List ℕ) (n : ℕ) (a b c : Option (List ℕ)) → TakesBytes has_met run run' done a b
-    → ((begun : List ℕ) → HasBegun run'.splitter begun → StepsOver has_met begun rest n run''.splitter run'.progress run''.progress b c)
+    → ((begun : List ℕ) → HasBegun run'.splitter begun → StepsOver has_met begun rest n run''.splitter run'.lines run''.lines b c)
     → TakesBytes has_met run run'' (done ++ take n rest) a c
 takes_then_takes has_met run run' run'' done rest n a b c takes steps = λ given taken held h.
     subst (λ t. HasTaken has_met given t run'' held c) (append_assoc taken done (take n rest))
@@ -103,7 +103,7 @@ takes_then_takes has_met run run' run'' done rest n a b c takes steps = λ given
 
 -- a fault of the writer
 pub takes_then_stops : {A : Type 0} (has_met : Meeting A) (makes : Making) (run run' : Pieces A) (done rest piece : List ℕ) (a b c : Option (List ℕ)) → piece ≡ done ++ rest
-    → TakesBytes has_met run run' done a b → ((begun : List ℕ) → HasBegun run'.splitter begun → StopsIn has_met makes begun rest run'.progress b c)
+    → TakesBytes has_met run run' done a b → ((begun : List ℕ) → HasBegun run'.splitter begun → StopsIn has_met makes begun rest run'.lines b c)
     → StopsBytes has_met makes run piece a c
 takes_then_stops has_met makes run run' done rest piece a b c is takes stops = λ given taken held h.
     let t = takes given taken held h in
@@ -130,7 +130,7 @@ abbrev pub WritesAtEnd : {A : Type 0} → Meeting A → Making → Pieces A → 
 WritesAtEnd has_met makes run counts old new =
     (given : Option (List ℕ)) (taken : List ℕ) (held : Option (List ℕ)) → HasTaken has_met given taken run held old → Writes makes given taken counts held new
 
-pub end_stops : {A : Type 0} (has_met : Meeting A) (makes : Making) (run : Pieces A) (a b : Option (List ℕ)) → ((begun : List ℕ) → HasBegun run.splitter begun → StopsLast has_met makes begun run.progress a b)
+pub end_stops : {A : Type 0} (has_met : Meeting A) (makes : Making) (run : Pieces A) (a b : Option (List ℕ)) → ((begun : List ℕ) → HasBegun run.splitter begun → StopsLast has_met makes begun run.lines a b)
     → FrontAtEnd has_met makes run a b
 end_stops has_met makes run a b stops = λ given taken held h.
     stops_last has_met makes given taken h.begun _ held a b h.has_read h.begins.whole (stops h.begun h.begins)
@@ -139,16 +139,16 @@ pub end_none : {A : Type 0} (has_met : Meeting A) (makes : Making) → Begins ha
 end_none has_met makes begins run a b none = λ given taken held h.
     subst (WritesFront makes given taken held) (sym none) (front_of_taken has_met makes begins given taken run held a h)
 
-pub end_fails : {A : Type 0} (has_met : Meeting A) (makes : Making) (run : Pieces A) (p' : Progress A) (a b c : Option (List ℕ))
-    → ((begun : List ℕ) → HasBegun run.splitter begun → ReadsLast has_met begun run.progress p' a b)
+pub end_fails : {A : Type 0} (has_met : Meeting A) (makes : Making) (run : Pieces A) (p' : Lines A) (a b c : Option (List ℕ))
+    → ((begun : List ℕ) → HasBegun run.splitter begun → ReadsLast has_met begun run.lines p' a b)
     → ((given : Option (List ℕ)) (spelled : List Spelled) (held : Option (List ℕ)) → HasMetAll has_met given spelled p' held b → WritesSome makes given spelled held c)
     → FrontAtEnd has_met makes run a c
 end_fails has_met makes run p' a b c reads closes = λ given taken held h.
     let f = finishes has_met given taken run p' held a b h reads in
     front_of_log makes given taken f.0 held c f.1 (closes given f.0 held f.2)
 
-pub end_writes : {A : Type 0} (has_met : Meeting A) (makes : Making) (run : Pieces A) (p' : Progress A) (counts : Counts) (a b c : Option (List ℕ))
-    → ((begun : List ℕ) → HasBegun run.splitter begun → ReadsLast has_met begun run.progress p' a b)
+pub end_writes : {A : Type 0} (has_met : Meeting A) (makes : Making) (run : Pieces A) (p' : Lines A) (counts : Counts) (a b c : Option (List ℕ))
+    → ((begun : List ℕ) → HasBegun run.splitter begun → ReadsLast has_met begun run.lines p' a b)
     → ((given : Option (List ℕ)) (spelled : List Spelled) (held : Option (List ℕ)) → HasMetAll has_met given spelled p' held b → WritesAll makes given spelled counts held c)
     → WritesAtEnd has_met makes run counts a c
 end_writes has_met makes run p' counts a b c reads closes = λ given taken held h.
@@ -157,7 +157,7 @@ end_writes has_met makes run p' counts a b c reads closes = λ given taken held 
 
 -- ---- a line, as it was cut
 
-reads_last : {A : Type 0} (has_met : Meeting A) (splitter : Splitter) (raw : RawLine) (s : Spelled) (p p' : Progress A) (a b : Option (List ℕ))
+reads_last : {A : Type 0} (has_met : Meeting A) (splitter : Splitter) (raw : RawLine) (s : Spelled) (p p' : Lines A) (a b : Option (List ℕ))
     → ((begun : List ℕ) → HasBegun splitter begun → (begun ≢ []) × IsRawLine raw begun) → ((line : List ℕ) → IsRawLine raw line → Spells line s)
     → (IsSpelling s → ReadsLine has_met s p p' a b) → (begun : List ℕ) → HasBegun splitter begun → ReadsLast has_met begun p p' a b
 reads_last has_met splitter raw s p p' a b cuts spells read begun h =
@@ -165,14 +165,14 @@ reads_last has_met splitter raw s p p' a b cuts spells read begun h =
     inr (record { some = line.0; spelled = s; spells = spells begun line.1; reads = read (begun, spells begun line.1) })
 
 -- whatever the account is of
-pub each_reads_last : {A S T E : Type 0} (has_met : S → Meeting A) (splitter : Splitter) (raw : RawLine) (s : Spelled) (p p' : Progress A) (a b : Option (List ℕ)) (r : Result T E)
+pub each_reads_last : {A S T E : Type 0} (has_met : S → Meeting A) (splitter : Splitter) (raw : RawLine) (s : Spelled) (p p' : Lines A) (a b : Option (List ℕ)) (r : Result T E)
     → ((begun : List ℕ) → HasBegun splitter begun → (begun ≢ []) × IsRawLine raw begun) → ((line : List ℕ) → IsRawLine raw line → Spells line s)
     → OnOk r ((subject : S) → IsSpelling s → ReadsLine (has_met subject) s p p' a b)
     → OnOk r ((subject : S) (begun : List ℕ) → HasBegun splitter begun → ReadsLast (has_met subject) begun p p' a b)
 each_reads_last has_met splitter raw s p p' a b (Ok x) cuts spells read = λ subject. reads_last (has_met subject) splitter raw s p p' a b cuts spells (read subject)
 each_reads_last has_met splitter raw s p p' a b (Err e) cuts spells read = tt
 
-pub stops_last_line : {A : Type 0} (has_met : Meeting A) (makes : Making) (splitter : Splitter) (raw : RawLine) (s : Spelled) (p : Progress A) (a b : Option (List ℕ))
+pub stops_last_line : {A : Type 0} (has_met : Meeting A) (makes : Making) (splitter : Splitter) (raw : RawLine) (s : Spelled) (p : Lines A) (a b : Option (List ℕ))
     → ((begun : List ℕ) → HasBegun splitter begun → (begun ≢ []) × IsRawLine raw begun) → ((line : List ℕ) → IsRawLine raw line → Spells line s)
     → (IsSpelling s → StopsAt has_met makes s p a b) → (begun : List ℕ) → HasBegun splitter begun → StopsLast has_met makes begun p a b
 stops_last_line has_met makes splitter raw s p a b cuts spells stops begun h =
@@ -196,7 +196,7 @@ pub on_err_from : {T E : Type 0} (r : Result T E) (P Q : Type 0) → (P → Q) �
 on_err_from (Ok x) P Q f h = tt
 on_err_from (Err e) P Q f h = f h
 
-pub stops_line : {A : Type 0} (has_met : Meeting A) (makes : Making) (begun bytes : List ℕ) (n : ℕ) (raw : RawLine) (s : Spelled) (p : Progress A) (a b : Option (List ℕ))
+pub stops_line : {A : Type 0} (has_met : Meeting A) (makes : Making) (begun bytes : List ℕ) (n : ℕ) (raw : RawLine) (s : Spelled) (p : Lines A) (a b : Option (List ℕ))
     → (line : List ℕ) × EndsLine begun bytes line n × IsRawLine raw line → ((line : List ℕ) → IsRawLine raw line → Spells line s)
     → (IsSpelling s → StopsAt has_met makes s p a b) → StopsIn has_met makes begun bytes p a b
 stops_line has_met makes begun bytes n raw s p a b (line, ends, cut) spells stops =

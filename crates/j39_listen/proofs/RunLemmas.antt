@@ -18,7 +18,7 @@ use Rattle.j39_listen.specs.Run.{Writes, run_bus}
 use Rattle.j39_listen.specs.declared.counts.Counts.{Counts}
 use Rattle.j39_listen.specs.declared.counts.Made.{Made}
 use Rattle.j39_listen.specs.declared.counts.Tally.{Tally}
-use Rattle.j39_listen.specs.declared.progress.Progress.{Progress}
+use Rattle.j39_listen.specs.declared.lines.Lines.{Lines}
 use Rattle.j39_listen.proofs.LineLemmas.{capped-sum, line_tally, same_tally, tally}
 
 tally_of-append : (bus : Option (List ℕ)) (xs ys : List Spelled) → tally_of bus (xs ++ ys) ≡ sum_of (tally_of bus xs) (tally_of (bus_of bus xs) ys)
@@ -58,7 +58,7 @@ has_run_bus given spelled = by_bus (bus_of given spelled)
     by_bus (Some b) = refl
 
 -- in one line more
-pub has_met-more : {A : Type 0} (has_met : Meeting A) (given : Option (List ℕ)) (spelled : List Spelled) (s : Spelled) (p p' : Progress A) (old mid new : Option (List ℕ))
+pub has_met-more : {A : Type 0} (has_met : Meeting A) (given : Option (List ℕ)) (spelled : List Spelled) (s : Spelled) (p p' : Lines A) (old mid new : Option (List ℕ))
     → HasMetAll has_met given spelled p old mid → ReadsLine has_met s p p' mid new → HasMetAll has_met given (spelled ++ (s ∷ [])) p' old new
 has_met-more has_met given spelled s p p' old mid new h r =
     let F = frames_of given spelled in
@@ -83,7 +83,7 @@ has_met-more has_met given spelled s p p' old mid new h r =
 -- ---- the lines so far
 
 -- one line more that is ended
-pub has_read-more : {A : Type 0} (has_met : Meeting A) (given : Option (List ℕ)) (taken begun front line : List ℕ) (s : Spelled) (p p' : Progress A) (old mid new : Option (List ℕ))
+pub has_read-more : {A : Type 0} (has_met : Meeting A) (given : Option (List ℕ)) (taken begun front line : List ℕ) (s : Spelled) (p p' : Lines A) (old mid new : Option (List ℕ))
     → HasRead has_met given taken begun p old mid → line ≡ begun ++ front → HasNoNewline line → Spells line s → ReadsLine has_met s p p' mid new
     → HasRead has_met given (taken ++ (front ++ (newline ∷ []))) [] p' old new
 has_read-more has_met given taken begun front line s p p' old mid new h line_is whole spells r = record {
@@ -96,7 +96,7 @@ has_read-more has_met given taken begun front line s p p' old mid new h line_is 
 }
 
 -- bytes more that end no line
-pub has_read-bytes : {A : Type 0} (has_met : Meeting A) (given : Option (List ℕ)) (taken begun bytes : List ℕ) (p : Progress A) (old new : Option (List ℕ))
+pub has_read-bytes : {A : Type 0} (has_met : Meeting A) (given : Option (List ℕ)) (taken begun bytes : List ℕ) (p : Lines A) (old new : Option (List ℕ))
     → HasRead has_met given taken begun p old new → HasRead has_met given (taken ++ bytes) (begun ++ bytes) p old new
 has_read-bytes has_met given taken begun bytes p old new h = record {
   lines = h.lines;
@@ -110,14 +110,14 @@ has_read-bytes has_met given taken begun bytes p old new h = record {
 -- ---- the end of the log
 
 -- all lines are ended
-pub ended_log : {A : Type 0} (has_met : Meeting A) (given : Option (List ℕ)) (log rest : List ℕ) (p : Progress A) (old new : Option (List ℕ))
+pub ended_log : {A : Type 0} (has_met : Meeting A) (given : Option (List ℕ)) (log rest : List ℕ) (p : Lines A) (old new : Option (List ℕ))
     → (h : HasRead has_met given log rest p old new) → rest ≡ [] → IsLog log h.spelled
 ended_log has_met given log rest p old new h none =
     let joined : log ≡ ended h.lines = h.taken_is ∙ ap (λ (x : List ℕ). ended h.lines ++ x) none ∙ append-nil (ended h.lines) in
     record { lines = h.lines; are_lines = record { whole = h.whole; joined = inl joined }; spell_each = h.spell_each }
 
 -- a last line is not ended
-pub last_log : {A : Type 0} (has_met : Meeting A) (given : Option (List ℕ)) (log rest : List ℕ) (s : Spelled) (p : Progress A) (old new : Option (List ℕ))
+pub last_log : {A : Type 0} (has_met : Meeting A) (given : Option (List ℕ)) (log rest : List ℕ) (s : Spelled) (p : Lines A) (old new : Option (List ℕ))
     → (h : HasRead has_met given log rest p old new) → HasNoNewline rest → rest ≢ [] → Spells rest s → IsLog log (h.spelled ++ (s ∷ []))
 last_log has_met given log rest s p old new h whole some spells = record {
   lines = h.lines ++ (rest ∷ []);
@@ -133,7 +133,7 @@ same_counts a b f o u m l = λ i. record { frames = f i; other = o i; unread = u
 
 -- the account is closed, and a flush adds nothing
 pub closes_all : {A : Type 0} (has_met : Meeting A) (makes : Making) (given : Option (List ℕ)) (spelled : List Spelled)
-    (p : Progress A) (made : Made) (old mid new : Option (List ℕ)) → HasMetAll has_met given spelled p old mid → Closes has_met makes p.account made mid new
+    (p : Lines A) (made : Made) (old mid new : Option (List ℕ)) → HasMetAll has_met given spelled p old mid → Closes has_met makes p.account made mid new
     → WritesAll makes given spelled (record { frames = p.tally.frames; other = p.tally.other; unread = p.tally.unread; messages = made.messages; lines = made.lines }) old new
 unfolding tally_of
 closes_all has_met makes given spelled p made old mid new h closes =

@@ -15,7 +15,7 @@ use Rattle.j39_listen.specs.PieceSteps.{HasMetAll, HasRead, StopsAt, StopsIn, St
 use Rattle.j39_listen.specs.LineSteps.{IsNamed}
 use Rattle.j39_listen.specs.Run.{WritesFront, run_bus}
 use Rattle.j39_listen.specs.declared.counts.Counts.{Counts}
-use Rattle.j39_listen.specs.declared.progress.Progress.{Progress}
+use Rattle.j39_listen.specs.declared.lines.Lines.{Lines}
 use Rattle.j39_listen.proofs.RunLemmas.{has_run_bus, last_log, named_before}
 
 -- what was written before, and a front of what follows it
@@ -31,7 +31,7 @@ named_of given first left all is =
 
 -- any bytes behind those that were read leave what was written a front
 pub writes_front : {A : Type 0} (has_met : Meeting A) (makes : Making) → Begins has_met makes
-    → (given : Option (List ℕ)) (taken begun more : List ℕ) (p : Progress A) (old new : Option (List ℕ))
+    → (given : Option (List ℕ)) (taken begun more : List ℕ) (p : Lines A) (old new : Option (List ℕ))
     → HasRead has_met given taken begun p old new → WritesFront makes given (taken ++ more) old new
 writes_front has_met makes begins given taken begun more p old new h = λ all output log made.
     let is = ap (λ t. t ++ more) h.taken_is ∙ append_assoc (ended h.lines) begun more in
@@ -45,7 +45,7 @@ writes_front has_met makes begins given taken begun more p old new h = λ all ou
 
 -- a fault in the line that s is of
 front_of_line : {A : Type 0} (has_met : Meeting A) (makes : Making)
-    (given : Option (List ℕ)) (spelled left all : List Spelled) (output : Output) (s : Spelled) (p : Progress A) (old mid new : Option (List ℕ))
+    (given : Option (List ℕ)) (spelled left all : List Spelled) (output : Output) (s : Spelled) (p : Lines A) (old mid new : Option (List ℕ))
     → HasMetAll has_met given spelled p old mid → all ≡ (spelled ++ (s ∷ [])) ++ left → makes (run_bus given all) (frames_of given all) output
     → StopsAt has_met makes s p mid new → AppendsFront old new output.text
 front_of_line has_met makes given spelled left all output s p old mid new h is made stops =
@@ -62,7 +62,7 @@ front_of_line has_met makes given spelled left all output s p old mid new h is m
 
 -- a fault in a line that is ended
 pub stops_in : {A : Type 0} (has_met : Meeting A) (makes : Making)
-    (given : Option (List ℕ)) (taken begun bytes : List ℕ) (p : Progress A) (old mid new : Option (List ℕ))
+    (given : Option (List ℕ)) (taken begun bytes : List ℕ) (p : Lines A) (old mid new : Option (List ℕ))
     → HasRead has_met given taken begun p old mid → HasNoNewline begun → StopsIn has_met makes begun bytes p mid new → WritesFront makes given (taken ++ bytes) old new
 stops_in has_met makes given taken begun bytes p old mid new h whole k = λ all output log made.
     let line = k.line in
@@ -75,7 +75,7 @@ stops_in has_met makes given taken begun bytes p old mid new h whole k = λ all 
 
 -- a fault in the last line
 pub stops_last : {A : Type 0} (has_met : Meeting A) (makes : Making)
-    (given : Option (List ℕ)) (taken begun : List ℕ) (p : Progress A) (old mid new : Option (List ℕ))
+    (given : Option (List ℕ)) (taken begun : List ℕ) (p : Lines A) (old mid new : Option (List ℕ))
     → HasRead has_met given taken begun p old mid → HasNoNewline begun → StopsLast has_met makes begun p mid new → WritesFront makes given taken old new
 stops_last has_met makes given taken begun p old mid new h whole k = λ all output log made.
     let is = same_log taken all (h.spelled ++ (k.spelled ∷ [])) log (last_log has_met given taken begun k.spelled p old mid h whole k.some k.spells) in
@@ -84,7 +84,7 @@ stops_last has_met makes given taken begun p old mid new h whole k = λ all outp
 -- ---- at the end
 
 pub stops_closing : {A : Type 0} (has_met : Meeting A) (makes : Making)
-    (given : Option (List ℕ)) (spelled : List Spelled) (p : Progress A) (old mid new : Option (List ℕ))
+    (given : Option (List ℕ)) (spelled : List Spelled) (p : Lines A) (old mid new : Option (List ℕ))
     → HasMetAll has_met given spelled p old mid → StopsAtEnd has_met makes p.account mid new → WritesSome makes given spelled old new
 stops_closing has_met makes given spelled p old mid new h stops = λ output made.
     let bus = run_bus given spelled in

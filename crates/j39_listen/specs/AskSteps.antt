@@ -6,7 +6,7 @@ use Rattle.j39_frame.specs.Spelled.{Spelled, Spells}
 use Rattle.j39_frame.specs.Splitter.{EndsLine}
 use Rattle.j39_listen.specs.LineSteps.{IsNamed}
 use Rattle.j39_listen.specs.Output.{Output, Meeting}
-use Rattle.j39_listen.specs.declared.progress.Progress.{Progress}
+use Rattle.j39_listen.specs.declared.lines.Lines.{Lines}
 use Rattle.j39_listen.specs.Asking.{Wanting}
 
 -- what a line spells is a frame of the bus that asks for memory, whatever the account has met
@@ -19,7 +19,7 @@ pub record AsksLine {A : Type 0} (has_met : Meeting A) (asks : Wanting) (s : Spe
 
 -- so is the line that the bytes end
 pub record AsksIn {A : Type 0} (has_met : Meeting A) (asks : Wanting) (begun bytes : List ℕ)
-    (p : Progress A) : Type 0 where
+    (p : Lines A) : Type 0 where
   pub line : List ℕ
   pub n : ℕ
   pub ends : EndsLine begun bytes line n
@@ -28,7 +28,7 @@ pub record AsksIn {A : Type 0} (has_met : Meeting A) (asks : Wanting) (begun byt
   pub line_asks : AsksLine has_met asks spelled p.bus p.account
 
 -- so is the last line
-pub record AsksLast {A : Type 0} (has_met : Meeting A) (asks : Wanting) (begun : List ℕ) (p : Progress A) : Type 0 where
+pub record AsksLast {A : Type 0} (has_met : Meeting A) (asks : Wanting) (begun : List ℕ) (p : Lines A) : Type 0 where
   pub some : begun ≢ []
   pub spelled : Spelled
   pub spells : Spells begun spelled

@@ -10,28 +10,28 @@ use Rattle.j39_address.specs.Holder.{IsHolderAfter}
 use Rattle.j39_listen.specs.Report.{name_text}
 
 -- an address, and the NAME that holds it
-pub record Node : Type 0 where
+pub record Holding : Type 0 where
   pub address : ℕ
   pub name : ℕ
 
-abbrev pub node_at : ℕ → Option ℕ → List Node
+abbrev pub node_at : ℕ → Option ℕ → List Holding
 node_at a None = []
 node_at a (Some name) = record { address = a; name = name } ∷ []
 
 -- the nodes at the addresses below n, rising
-unfoldable pub NodesBelow : List FrameRecord → ℕ → List Node → Type 0
+unfoldable pub NodesBelow : List FrameRecord → ℕ → List Holding → Type 0
 NodesBelow F zero nodes = nodes ≡ []
 NodesBelow F (suc n) nodes =
-    (before : List Node) × (holder : Option ℕ) × NodesBelow F n before × IsHolderAfter (claims_of F) n holder
+    (before : List Holding) × (holder : Option ℕ) × NodesBelow F n before × IsHolderAfter (claims_of F) n holder
     × (nodes ≡ before ++ node_at n holder)
 
 -- all nodes that hold an address after F
-abbrev pub AreNodes : List FrameRecord → List Node → Type 0
+abbrev pub AreNodes : List FrameRecord → List Holding → Type 0
 AreNodes F nodes = NodesBelow F null_address nodes
 
 -- the line of a node, with its newline: the address in two hex digits, and the NAME
-abbrev pub node_text : Node → List ℕ
+abbrev pub node_text : Holding → List ℕ
 node_text node = encode_upper (node.address ∷ []) ++ codes " " ++ name_text (Some node.name) ++ (newline ∷ [])
 
-unfoldable pub nodes_text : List Node → List ℕ
+unfoldable pub nodes_text : List Holding → List ℕ
 nodes_text nodes = flat_map node_text nodes

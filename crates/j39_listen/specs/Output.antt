@@ -7,8 +7,7 @@ use Rattle.j39_frame.specs.Frame.{FrameRecord}
 use Rattle.j39_address.specs.Node.{Node}
 use Rattle.j39_listen.specs.Answers.{AreAnswers, sent_text}
 use Rattle.j39_listen.specs.Heard.{AreHeard, Hearing}
-use Rattle.j39_listen.specs.Nodes as nodes
-use Rattle.j39_listen.specs.Nodes.{AreNodes, nodes_text}
+use Rattle.j39_listen.specs.Nodes.{AreNodes, Holding, nodes_text}
 use Rattle.j39_listen.specs.Report.{entries_of, report_text}
 
 -- a text, for so many messages, in so many lines
@@ -42,12 +41,12 @@ abbrev pub MakesReport : List RowRecord → Making
 MakesReport groups bus F output = (heard : List Hearing) × AreHeard groups F heard × (output ≡ report_of groups heard)
 
 -- no message counts
-abbrev pub nodes_of : List nodes.Node → Output
+abbrev pub nodes_of : List Holding → Output
 nodes_of held = record { text = nodes_text held; messages = 0; lines = length held }
 
 -- the nodes that hold an address after the frames, whatever their bus is called
 abbrev pub MakesNodes : Making
-MakesNodes bus F output = (held : List nodes.Node) × AreNodes F held × (output ≡ nodes_of held)
+MakesNodes bus F output = (held : List Holding) × AreNodes F held × (output ≡ nodes_of held)
 
 -- a line for each frame that is sent
 abbrev pub answers_of : List ℕ → List Hearing → List FrameRecord → Output

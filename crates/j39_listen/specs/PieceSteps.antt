@@ -15,17 +15,17 @@ use Rattle.j39_listen.specs.Run.{run_bus}
 use Rattle.j39_listen.specs.declared.counts.Counts.{Counts}
 use Rattle.j39_listen.specs.declared.counts.Tally.{Tally}
 use Rattle.j39_listen.specs.declared.pieces.Pieces.{Pieces}
-use Rattle.j39_listen.specs.declared.progress.Progress.{Progress}
+use Rattle.j39_listen.specs.declared.lines.Lines.{Lines}
 
 -- what a line spells was met, and what it counts for goes to what was counted so far
-pub record ReadsLine {A : Type 0} (has_met : Meeting A) (s : Spelled) (p p' : Progress A)
+pub record ReadsLine {A : Type 0} (has_met : Meeting A) (s : Spelled) (p p' : Lines A)
     (old new : Option (List ℕ)) : Type 0 where
   pub met : Tally
   pub meets : MeetsLine has_met s p.bus p'.bus p.account p'.account met old new
   pub tally_is : p'.tally ≡ sum_of p.tally met
 
 -- a fault of the writer in what a line spells
-abbrev pub StopsAt : {A : Type 0} → Meeting A → Making → Spelled → Progress A → Option (List ℕ) → Option (List ℕ)
+abbrev pub StopsAt : {A : Type 0} → Meeting A → Making → Spelled → Lines A → Option (List ℕ) → Option (List ℕ)
     → Type 0
 StopsAt has_met makes s p old new = StopsLine has_met makes s p.bus p.account old new
 
@@ -38,7 +38,7 @@ pub record HasMade {A : Type 0} (has_met : A → List FrameRecord → Output →
 
 -- what the lines spell was met, and what is made of their frames so far was written
 pub record HasMetAll {A : Type 0} (has_met : Meeting A) (given : Option (List ℕ)) (spelled : List Spelled)
-    (p : Progress A) (old new : Option (List ℕ)) : Type 0 where
+    (p : Lines A) (old new : Option (List ℕ)) : Type 0 where
   pub bus_is : p.bus ≡ bus_of given spelled
   pub tally_is : p.tally ≡ tally_of given spelled
   pub made : (name : List ℕ) → IsNamed (bus_of given spelled) name
@@ -59,7 +59,7 @@ WritesSome makes given spelled old new = (output : Output)
 
 -- the bytes so far are lines and the beginning of one, and the lines were met
 pub record HasRead {A : Type 0} (has_met : Meeting A) (given : Option (List ℕ)) (taken begun : List ℕ)
-    (p : Progress A) (old new : Option (List ℕ)) : Type 0 where
+    (p : Lines A) (old new : Option (List ℕ)) : Type 0 where
   pub lines : List (List ℕ)
   pub spelled : List Spelled
   pub whole : AllByRecursion HasNoNewline lines
@@ -72,7 +72,7 @@ pub record HasTaken {A : Type 0} (has_met : Meeting A) (given : Option (List ℕ
     (old new : Option (List ℕ)) : Type 0 where
   pub begun : List ℕ
   pub begins : HasBegun run.splitter begun
-  pub has_read : HasRead has_met given taken begun run.progress old new
+  pub has_read : HasRead has_met given taken begun run.lines old new
 
 -- whatever bytes the run stands for, this is so of them and of what the writer held before them
 abbrev pub Behind : {A : Type 0} → Meeting A → Pieces A → Option (List ℕ)
@@ -101,7 +101,7 @@ pub record TakesAll (begun bytes : List ℕ) (n : ℕ) (splitter : Splitter) : T
 
 -- or those to the end of a line, which was read
 pub record ReadsNext {A : Type 0} (has_met : Meeting A) (begun bytes : List ℕ) (n : ℕ) (splitter : Splitter)
-    (p p' : Progress A) (old new : Option (List ℕ)) : Type 0 where
+    (p p' : Lines A) (old new : Option (List ℕ)) : Type 0 where
   pub line : List ℕ
   pub ends : EndsLine begun bytes line n
   pub begins : HasBegun splitter []
@@ -109,14 +109,14 @@ pub record ReadsNext {A : Type 0} (has_met : Meeting A) (begun bytes : List ℕ)
   pub spells : Spells line spelled
   pub reads : ReadsLine has_met spelled p p' old new
 
-abbrev pub StepsOver : {A : Type 0} → Meeting A → List ℕ → List ℕ → ℕ → Splitter → Progress A → Progress A
+abbrev pub StepsOver : {A : Type 0} → Meeting A → List ℕ → List ℕ → ℕ → Splitter → Lines A → Lines A
     → Option (List ℕ) → Option (List ℕ) → Type 0
-StepsOver has_met begun bytes n splitter progress progress' old new =
-    (TakesAll begun bytes n splitter × (progress' ≡ progress) × (new ≡ old))
-    ⊎ ReadsNext has_met begun bytes n splitter progress progress' old new
+StepsOver has_met begun bytes n splitter lines lines' old new =
+    (TakesAll begun bytes n splitter × (lines' ≡ lines) × (new ≡ old))
+    ⊎ ReadsNext has_met begun bytes n splitter lines lines' old new
 
 -- a fault of the writer came in the line that the bytes end
-pub record StopsIn {A : Type 0} (has_met : Meeting A) (makes : Making) (begun bytes : List ℕ) (p : Progress A)
+pub record StopsIn {A : Type 0} (has_met : Meeting A) (makes : Making) (begun bytes : List ℕ) (p : Lines A)
     (old new : Option (List ℕ)) : Type 0 where
   pub line : List ℕ
   pub n : ℕ
@@ -126,20 +126,20 @@ pub record StopsIn {A : Type 0} (has_met : Meeting A) (makes : Making) (begun by
   pub stops : StopsAt has_met makes spelled p old new
 
 -- the last line, where one is begun
-pub record ReadsEnd {A : Type 0} (has_met : Meeting A) (begun : List ℕ) (p p' : Progress A)
+pub record ReadsEnd {A : Type 0} (has_met : Meeting A) (begun : List ℕ) (p p' : Lines A)
     (old new : Option (List ℕ)) : Type 0 where
   pub some : begun ≢ []
   pub spelled : Spelled
   pub spells : Spells begun spelled
   pub reads : ReadsLine has_met spelled p p' old new
 
-abbrev pub ReadsLast : {A : Type 0} → Meeting A → List ℕ → Progress A → Progress A → Option (List ℕ)
+abbrev pub ReadsLast : {A : Type 0} → Meeting A → List ℕ → Lines A → Lines A → Option (List ℕ)
     → Option (List ℕ) → Type 0
-ReadsLast has_met begun progress progress' old new = ((begun ≡ []) × (progress' ≡ progress) × (new ≡ old))
-    ⊎ ReadsEnd has_met begun progress progress' old new
+ReadsLast has_met begun lines lines' old new = ((begun ≡ []) × (lines' ≡ lines) × (new ≡ old))
+    ⊎ ReadsEnd has_met begun lines lines' old new
 
 -- a fault of the writer came in the last line
-pub record StopsLast {A : Type 0} (has_met : Meeting A) (makes : Making) (begun : List ℕ) (p : Progress A)
+pub record StopsLast {A : Type 0} (has_met : Meeting A) (makes : Making) (begun : List ℕ) (p : Lines A)
     (old new : Option (List ℕ)) : Type 0 where
   pub some : begun ≢ []
   pub spelled : Spelled

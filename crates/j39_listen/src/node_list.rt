@@ -6,7 +6,7 @@ ghost use Rattle.j39_frame.specs.Device.{AppendsFront, Marks};
 ghost use Rattle.j39_frame.specs.Frame.{FrameRecord};
 ghost use Rattle.j39_address.specs.Claims.{Knows, holder_in};
 ghost use Rattle.j39_listen.specs.NodeSteps.{HasNoted};
-ghost use Rattle.j39_listen.specs.Nodes.{AreNodes, Node, node_at, node_text, nodes_text};
+ghost use Rattle.j39_listen.specs.Nodes.{AreNodes, Holding, node_at, node_text, nodes_text};
 ghost use Rattle.j39_listen.specs.Output.{MakesNodes, nodes_of};
 ghost use Rattle.j39_listen.specs.Run.{StopsAtLimit, StopsWithin, TakesWithin, Writes};
 ghost use Rattle.j39_listen.specs.declared.running.RunFault.TheVariants.{Memory, Read, Write, TooLong};
@@ -107,9 +107,9 @@ impl Account for NodeList {
 /// Writes a line for each address that is held, and answers how many.
 fn put_nodes<W: Sink>(claims: &Claims, sink: &mut W) -> Result<u64, DeviceFault>
     ensures nodes { IfOk result (λ n. (F : List FrameRecord) → Knows claims.now F
-        → (nodes : List Node) × AreNodes F nodes × (n ≡ length nodes)
+        → (nodes : List Holding) × AreNodes F nodes × (n ≡ length nodes)
         × Appends (W.held sink.old) (W.held sink.new) (nodes_text nodes)) }
-    ensures front { OnErr result ((F : List FrameRecord) (nodes : List Node) → Knows claims.now F → AreNodes F nodes
+    ensures front { OnErr result ((F : List FrameRecord) (nodes : List Holding) → Knows claims.now F → AreNodes F nodes
         → AppendsFront (W.held sink.old) (W.held sink.new) (nodes_text nodes)) }
     ensures mark { Marks result (W.has_failed sink.old) (W.has_failed sink.new) }
 {

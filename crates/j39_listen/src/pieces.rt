@@ -13,14 +13,14 @@ ghost use Rattle.j39_listen.specs.declared.account.LineFault.TheVariants.{Memory
 use crate::Counts;
 use crate::account::{Account, LineFault};
 use crate::counts::Tally;
-use crate::progress::Progress;
+use crate::lines::Lines;
 use j39_frame::{Bus, DeviceFault, Sink, Splitter};
 
 /// A log that is read in pieces, and the run over its lines.
 #[derive(Drop)]
 pub(crate) struct Pieces<A> {
     splitter: Splitter,
-    progress: Progress<A>,
+    lines: Lines<A>,
 }
 
 impl<A: Account> Pieces<A> {
@@ -31,7 +31,7 @@ impl<A: Account> Pieces<A> {
     {
         Pieces {
             splitter: Splitter::new(),
-            progress: Progress {
+            lines: Lines {
                 bus,
                 account,
                 tally: Tally::default(),
@@ -80,7 +80,7 @@ impl<A: Account> Pieces<A> {
         A::laws();
         let mut rest = piece;
         while !rest.is_empty() {
-            let n = match take_line(&mut self.splitter, &mut self.progress, rest, sink) {
+            let n = match take_line(&mut self.splitter, &mut self.lines, rest, sink) {
                 Ok(n) => n,
                 Err(fault) => return Err(fault),
             };
@@ -103,11 +103,11 @@ impl<A: Account> Pieces<A> {
             → Behind (A.has_met subject) self.old (W.held sink.old) (λ given taken held. AsksAmong A.asks given taken) }
     {
         A::laws();
-        match take_last(&mut self.splitter, &mut self.progress, sink) {
+        match take_last(&mut self.splitter, &mut self.lines, sink) {
             Ok(()) => {}
             Err(fault) => return Err(fault),
         }
-        match close(&mut self.progress, sink) {
+        match close(&mut self.lines, sink) {
             Ok(counts) => Ok(counts),
             Err(DeviceFault) => Err(LineFault::Write),
         }
@@ -117,28 +117,28 @@ impl<A: Account> Pieces<A> {
 /// Takes the bytes to the end of a line, which it reads, or all of them: how many it took.
 fn take_line<A: Account, W: Sink>(
     splitter: &mut Splitter,
-    progress: &mut Progress<A>,
+    lines: &mut Lines<A>,
     bytes: &[u8],
     sink: &mut W,
 ) -> Result<usize, LineFault>
     ensures count { IfOk result (λ n. n ≤ length bytes.now) }
     ensures some { IfOk result (λ n. 0 < length bytes.now → 0 < n) }
     ensures steps { IfOk result (λ n. (subject : A.Subject) (begun : List ℕ) → HasBegun splitter.old begun
-        → StepsOver (A.has_met subject) begun bytes.now n splitter.new progress.old progress.new
+        → StepsOver (A.has_met subject) begun bytes.now n splitter.new lines.old lines.new
         (W.held sink.old) (W.held sink.new)) }
     ensures write { result ≡ Err Write → W.has_failed sink.new ≡ true }
     ensures stops { result ≡ Err Write → (subject : A.Subject) (begun : List ℕ) → HasBegun splitter.old begun
-        → StopsIn (A.has_met subject) (A.makes subject) begun bytes.now progress.old (W.held sink.old)
+        → StopsIn (A.has_met subject) (A.makes subject) begun bytes.now lines.old (W.held sink.old)
         (W.held sink.new) }
     ensures memory { result ≡ Err Memory → W.held sink.new ≡ W.held sink.old }
     ensures unmarked { result ≢ Err Write → W.has_failed sink.new ≡ W.has_failed sink.old }
     ensures asked { result ≡ Err Memory → (subject : A.Subject) (begun : List ℕ) → HasBegun splitter.old begun
-        → AsksIn (A.has_met subject) A.asks begun bytes.now progress.old }
+        → AsksIn (A.has_met subject) A.asks begun bytes.now lines.old }
 {
     let (n, raw) = splitter.feed(bytes);
     match raw {
         None => Ok(n),
-        Some(raw) => match progress.read(raw.read(), sink) {
+        Some(raw) => match lines.read(raw.read(), sink) {
             Ok(()) => Ok(n),
             Err(fault) => Err(fault),
         },
@@ -148,49 +148,46 @@ fn take_line<A: Account, W: Sink>(
 /// Reads the last line, where one is begun.
 fn take_last<A: Account, W: Sink>(
     splitter: &mut Splitter,
-    progress: &mut Progress<A>,
+    lines: &mut Lines<A>,
     sink: &mut W,
 ) -> Result<(), LineFault>
     ensures reads { OnOk result ((subject : A.Subject) (begun : List ℕ) → HasBegun splitter.old begun
-        → ReadsLast (A.has_met subject) begun progress.old progress.new (W.held sink.old) (W.held sink.new)) }
+        → ReadsLast (A.has_met subject) begun lines.old lines.new (W.held sink.old) (W.held sink.new)) }
     ensures write { result ≡ Err Write → W.has_failed sink.new ≡ true }
     ensures stops { result ≡ Err Write → (subject : A.Subject) (begun : List ℕ) → HasBegun splitter.old begun
-        → StopsLast (A.has_met subject) (A.makes subject) begun progress.old (W.held sink.old) (W.held sink.new) }
+        → StopsLast (A.has_met subject) (A.makes subject) begun lines.old (W.held sink.old) (W.held sink.new) }
     ensures memory { result ≡ Err Memory → W.held sink.new ≡ W.held sink.old }
     ensures unmarked { result ≢ Err Write → W.has_failed sink.new ≡ W.has_failed sink.old }
     ensures asked { result ≡ Err Memory → (subject : A.Subject) (begun : List ℕ) → HasBegun splitter.old begun
-        → AsksLast (A.has_met subject) A.asks begun progress.old }
+        → AsksLast (A.has_met subject) A.asks begun lines.old }
 {
     match splitter.finish() {
         None => Ok(()),
-        Some(raw) => progress.read(raw.read(), sink),
+        Some(raw) => lines.read(raw.read(), sink),
     }
 }
 
 /// Closes the account of all lines, and passes on what was written.
-fn close<A: Account, W: Sink>(
-    progress: &mut Progress<A>,
-    sink: &mut W,
-) -> Result<Counts, DeviceFault>
+fn close<A: Account, W: Sink>(lines: &mut Lines<A>, sink: &mut W) -> Result<Counts, DeviceFault>
     ensures closes { IfOk result (λ counts.
         (subject : A.Subject) (given : Option (List ℕ)) (spelled : List Spelled) (held : Option (List ℕ))
-        → HasMetAll (A.has_met subject) given spelled progress.old held (W.held sink.old)
+        → HasMetAll (A.has_met subject) given spelled lines.old held (W.held sink.old)
         → WritesAll (A.makes subject) given spelled counts held (W.held sink.new)) }
     ensures stops { OnErr result (
         (subject : A.Subject) (given : Option (List ℕ)) (spelled : List Spelled) (held : Option (List ℕ))
-        → HasMetAll (A.has_met subject) given spelled progress.old held (W.held sink.old)
+        → HasMetAll (A.has_met subject) given spelled lines.old held (W.held sink.old)
         → WritesSome (A.makes subject) given spelled held (W.held sink.new)) }
     ensures flushed { OnOk result (W.is_flushed sink.new ≡ true) }
     ensures mark { Marks result (W.has_failed sink.old) (W.has_failed sink.new) }
 {
     A::laws();
-    let made = progress.account.close(sink)?;
+    let made = lines.account.close(sink)?;
     sink.flush()?;
     let Tally {
         frames,
         other,
         unread,
-    } = progress.tally;
+    } = lines.tally;
     Ok(Counts {
         frames,
         other,

@@ -6,10 +6,10 @@ use Rattle.j39_listen.proofs.pieces.take_line.Goals as goal
 
 pub returns-in-Err-clause-stops : goal.returns-in-Err-clause-stops
 returns-in-Err-clause-stops g c = λ fails subject begun h.
-    stops_line (g.A.Account.has_met subject) (g.A.Account.makes subject) begun c.args.bytes.now _ _ _ c.args.progress.now _ _ (rw c.in-Some.is at (c.feed.ensures.line begun h)) c.read.ensures
+    stops_line (g.A.Account.has_met subject) (g.A.Account.makes subject) begun c.args.bytes.now _ _ _ c.args.lines.now _ _ (rw c.in-Some.is at (c.feed.ensures.line begun h)) c.read.ensures
     (c.in-Err.ensures.stops (ap Err (same_fault _ _ fails)) subject)
 
 pub returns-in-Err-clause-asked : goal.returns-in-Err-clause-asked
 returns-in-Err-clause-asked g c = λ fails subject begun h.
-    asks_line (g.A.Account.has_met subject) g.A.Account.asks begun c.args.bytes.now _ _ _ c.args.progress.now (rw c.in-Some.is at (c.feed.ensures.line begun h)) c.read.ensures
+    asks_line (g.A.Account.has_met subject) g.A.Account.asks begun c.args.bytes.now _ _ _ c.args.lines.now (rw c.in-Some.is at (c.feed.ensures.line begun h)) c.read.ensures
     (c.in-Err.ensures.asked (ap Err (same_fault _ _ fails)) subject)

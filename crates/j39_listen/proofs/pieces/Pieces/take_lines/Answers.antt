@@ -26,7 +26,7 @@ loop-rest-preserved g c =
     let inv = c.loop-rest.invariant in
     let n = c.in-Ok.n in
     let rest = c.loop-rest.rest.now in
-    let run : Pieces g.row.A.Denot = record { splitter = c.take_line.new.splitter; progress = c.take_line.new.progress } in
+    let run : Pieces g.row.A.Denot = record { splitter = c.take_line.new.splitter; lines = c.take_line.new.lines } in
     let cut = ap (λ xs. inv.0 ++ xs) (sym (take-append-drop n rest)) ∙ sym (append_assoc inv.0 (take n rest) (drop n rest)) in
     let left = ap (λ xs. (inv.0 ++ take n rest) ++ xs) (sym c.split_at.ensures.back) in (
       inv.0 ++ take n rest,

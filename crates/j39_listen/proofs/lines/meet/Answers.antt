@@ -5,7 +5,7 @@ use Rattle.std.specs.Str.{bytes_eq}
 use Rattle.j39_listen.proofs.AskLemmas.{asks_frame}
 use Rattle.j39_listen.proofs.LineLemmas.{known_bus, meets_blank, meets_frame, meets_frame_elsewhere, meets_other, meets_unread, stops_frame}
 use Rattle.j39_listen.proofs.PieceLemmas.{same_fault}
-use Rattle.j39_listen.proofs.progress.meet.Goals as goal
+use Rattle.j39_listen.proofs.lines.meet.Goals as goal
 
 pub returns-in-Ok-clause-met : goal.returns-in-Ok-clause-met
 returns-in-Ok-clause-met g c = λ subject.

@@ -1,5 +1,5 @@
 -- What a line counts for goes to the tally.
-use Rattle.j39_listen.proofs.progress.Progress.read.Goals as goal
+use Rattle.j39_listen.proofs.lines.Lines.read.Goals as goal
 
 pub returns-clause-read : goal.returns-clause-read
 returns-clause-read g c = λ subject spelling. record {

@@ -13,13 +13,13 @@ use j39_frame::{Bus, Line, Sink};
 
 /// The bus of a run, once it is known, the account of its frames, and what was met so far.
 #[derive(Drop)]
-pub(crate) struct Progress<A> {
+pub(crate) struct Lines<A> {
     pub bus: Option<Bus>,
     pub account: A,
     pub tally: Tally,
 }
 
-impl<A: Account> Progress<A> {
+impl<A: Account> Lines<A> {
     /// Takes a line of the log, and writes what is to be written at it.
     #[inline(always)]
     pub fn read<W: Sink>(&mut self, line: Line<'_>, sink: &mut W) -> Result<(), LineFault>
