@@ -11,8 +11,10 @@ use crate::Listener;
 use crate::account::{Account, LineFault};
 use crate::counts::Made;
 use crate::report_lines::{Pen, put_heard};
-use j39_frame::{Bus, DeviceFault, Frame, Sink};
+use j39_device::{DeviceFault, Sink};
+use j39_frame::Frame;
 use j39_groups::Groups;
+use j39_log::Bus;
 use std::alloc::{AllocError, Global};
 
 /// What is heard so far, and the numbers of its report.

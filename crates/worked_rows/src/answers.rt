@@ -2,8 +2,10 @@
 use crate::frames::CLAIM_OF_SMALLER;
 use crate::support::{program, stamped};
 use j39_address::Name;
-use j39_frame::{Bus, Full, Told, Trial};
+use j39_device::Told;
 use j39_listen::{RunFault, answer};
+use j39_log::Bus;
+use j39_trial::{Full, Trial};
 use std::alloc::{AllocError, Global};
 use std::process::Abort;
 use std::test::Fail;

@@ -4,8 +4,9 @@ use crate::frames::{
     SECOND, SENT_FIRST, SENT_SECOND, SENT_THIRD, THIRD, VIN,
 };
 use crate::support::{reports, shows};
-use j39_frame::{Told, Trial};
+use j39_device::Told;
 use j39_listen::{RunFault, run};
+use j39_trial::Trial;
 use std::process::Abort;
 use std::test::Fail;
 

@@ -1,8 +1,10 @@
 //! Devices that fail, and logs that are too long.
 use crate::support::program;
 use j39_cli::{parse, perform};
-use j39_frame::{Bus, Full, Told, Trial};
+use j39_device::Told;
 use j39_listen::{RunFault, run};
+use j39_log::Bus;
+use j39_trial::{Full, Trial};
 use std::alloc::Global;
 use std::fs;
 use std::test::Fail;

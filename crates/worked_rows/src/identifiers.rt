@@ -1,7 +1,8 @@
 //! The command `id`, from its words to its line.
 use crate::support::program;
 use j39_cli::{parse, perform};
-use j39_frame::{Told, Trial};
+use j39_device::Told;
+use j39_trial::Trial;
 use std::test::Fail;
 
 #[test]

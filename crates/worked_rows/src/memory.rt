@@ -8,8 +8,10 @@ use crate::frames::{
 use crate::losses::{FRAMES, LINES};
 use crate::support::stamped;
 use j39_cli::{parse, refuse};
-use j39_frame::{Frame, Id, Stamp, Told, Trial};
+use j39_device::Told;
+use j39_frame::{Frame, Id, Stamp};
 use j39_listen::{Listener, RunFault};
+use j39_trial::Trial;
 use std::alloc::AllocError;
 use std::process::Abort;
 use std::test::Fail;

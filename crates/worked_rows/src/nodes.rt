@@ -1,8 +1,9 @@
 //! Who holds which address after a log.
 use crate::frames::{CLAIM, CLAIM_OF_LARGER, CLAIM_OF_SMALLER, SPEED_1500};
 use crate::support::{program, stamped};
-use j39_frame::{Full, Told, Trial};
+use j39_device::Told;
 use j39_listen::{RunFault, nodes};
+use j39_trial::{Full, Trial};
 use std::alloc::Global;
 use std::process::Abort;
 use std::test::Fail;

@@ -1,7 +1,8 @@
 //! What the examples are run on.
 use j39_cli::{parse, perform, refuse};
-use j39_frame::{Told, Trial};
+use j39_device::Told;
 use j39_listen::run;
+use j39_trial::Trial;
 use std::alloc::{AllocError, Global};
 use std::process::Abort;
 use std::test::Fail;
