@@ -1,5 +1,6 @@
 use j39_address::{Claimer, Claims, Name, Status, commanded_of};
-use j39_frame::{Bus, Frame, GLOBAL_ADDRESS, Line, Pgn, Stamp, line_of, read_line};
+use j39_frame::{Frame, GLOBAL_ADDRESS, Pgn, Stamp};
+use j39_log::{Bus, Line, line_of, read_line};
 use j39_transport::{Assembler, Fed, Message};
 use std::alloc::{AllocError, Global};
 use std::process::Abort;

@@ -1,6 +1,6 @@
 use arrayvec::ArrayVec;
 use j39_address::{Claims, Name, claim_of};
-use j39_frame::{Line, read_line};
+use j39_log::{Line, read_line};
 use std::test::Fail;
 
 const N1: u64 = 0x8000000001401234;

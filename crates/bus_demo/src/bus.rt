@@ -6,7 +6,9 @@ use crate::arbitration::winner;
 use crate::book::{Book, Fate};
 use crate::controller::Controller;
 use crate::outbox::Wish;
-use j39_frame::{Bus as Network, DeviceFault, Frame, Id, Sink, Stamp, line_of, put_all};
+use j39_device::{DeviceFault, Sink, put_all};
+use j39_frame::{Frame, Id, Stamp};
+use j39_log::{Bus as Network, line_of};
 use std::alloc::{AllocError, Global};
 
 /// The microseconds of a bit at 250 kbit/s.

@@ -3,7 +3,7 @@ use crate::book::{Book, Fate};
 use crate::bus::Bus;
 use crate::expected::{expected_nodes, expected_report};
 use crate::scenario::{COMPONENT, VIN, controllers};
-use j39_frame::Told;
+use j39_device::Told;
 use j39_listen::{nodes, run};
 use std::alloc::Global;
 use std::process::Abort;

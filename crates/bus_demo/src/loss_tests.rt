@@ -5,7 +5,7 @@ use crate::controller::Controller;
 use crate::gauges::{Gauges, Group};
 use crate::role::{Plan, Rate, Role};
 use crate::scenario::COMMAND;
-use j39_frame::Told;
+use j39_device::Told;
 use std::alloc::{AllocError, Global};
 use std::test::Fail;
 

@@ -25,7 +25,7 @@ mod words_tests;
 use book::Book;
 use bus::{Bus, BusFault};
 use controller::Controller;
-use j39_frame::Told;
+use j39_device::Told;
 use scenario::controllers;
 use std::io::BufWriter;
 use std::process::ExitCode;

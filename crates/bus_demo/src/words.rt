@@ -5,7 +5,7 @@ ghost use Rattle.bus_demo.specs.Numerals.{IsNumberWithin};
 
 use clap::error::ErrorKind;
 use clap::{Arg, ArgMatches, Command, Error};
-use j39_frame::number;
+use j39_text::number;
 use std::alloc::{AllocError, Global};
 use std::convert::AsStr;
 

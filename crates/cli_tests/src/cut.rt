@@ -1,5 +1,5 @@
 use j39_cli::{ParseFault, Task, parse, refuse};
-use j39_frame::Told;
+use j39_device::Told;
 use std::alloc::{AllocError, Global};
 use std::test::Fail;
 

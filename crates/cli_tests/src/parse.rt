@@ -1,5 +1,5 @@
 use j39_cli::{ParseFault, Task, WordText, parse};
-use j39_frame::Bus;
+use j39_log::Bus;
 use std::alloc::{AllocError, Global};
 use std::test::Fail;
 

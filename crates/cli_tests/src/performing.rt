@@ -1,5 +1,5 @@
 use j39_cli::{ParseFault, parse, perform};
-use j39_frame::Told;
+use j39_device::Told;
 use std::alloc::Global;
 use std::process::Abort;
 use std::test::Fail;

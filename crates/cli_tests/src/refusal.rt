@@ -1,7 +1,7 @@
 ghost use Rattle.std.specs.Prelude.{None, false};
 
 use j39_cli::{Argument, ParseFault, parse, refuse, unopened, wrong_table};
-use j39_frame::{DeviceFault, Sink, Told};
+use j39_device::{DeviceFault, Sink, Told};
 use j39_table::{RowFault, TableFault};
 use std::alloc::Global;
 use std::process::Abort;

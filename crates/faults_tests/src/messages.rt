@@ -1,8 +1,10 @@
+use j39_device::Told;
 use j39_faults::{
     Code, Flash, Kind, LampState, codes_of, fault_group, fmi_words, lamps_of, lamps_text, put_code,
     put_no_code,
 };
-use j39_frame::{Pgn, Told, Trial};
+use j39_frame::Pgn;
+use j39_trial::Trial;
 use std::test::Fail;
 
 /// What is written of a message: a line for each code, or one that says that there is none.

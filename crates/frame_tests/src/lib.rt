@@ -2,6 +2,4 @@
 #![tactic(auto)]
 
 #[cfg(test)]
-mod frames_and_devices;
-#[cfg(test)]
-mod lines;
+mod frames;

@@ -1,4 +1,5 @@
-use j39_frame::{Pgn, Told};
+use j39_device::Told;
+use j39_frame::Pgn;
 use j39_groups::{
     Groups, HEAD, LINES, ReadField, ReadRow, Scale, is_heard_group, is_network_group,
 };

@@ -1,4 +1,5 @@
-use j39_frame::{Pgn, Told};
+use j39_device::Told;
+use j39_frame::Pgn;
 use j39_groups::{Value, is_reported, put_value, raw_of, readings, slot_of};
 use std::test::Fail;
 

@@ -4,9 +4,9 @@ use Rattle.std.specs.Str.Parse.{AllDigits, IsNumeral, digits_value}
 use Rattle.clap.specs.Words.{App, new_app, with_rule}
 use Rattle.hex.specs.Hex.{decode_of}
 use Rattle.hex.specs.declared.error.FromHexError.{FromHexError}
-use Rattle.j39_frame.specs.Bus.{IsBusName}
-use Rattle.j39_frame.specs.Canonical.{line_text}
-use Rattle.j39_frame.specs.Chars.{newline}
+use Rattle.j39_log.specs.Bus.{IsBusName}
+use Rattle.j39_log.specs.Canonical.{line_text}
+use Rattle.j39_text.specs.Chars.{newline}
 use Rattle.j39_transport.specs.Cutting.{at_moment, cut_frame}
 use Rattle.j39_transport.specs.Message.{IsLong, MessageRecord, as_broadcast, packets_of}
 use Rattle.j39_cli.specs.Rules.{option_rule, value_rule}

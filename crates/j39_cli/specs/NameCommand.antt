@@ -3,7 +3,7 @@ use Rattle.std.specs.Prelude.{◌≡◌, ◌∷◌, ◌++◌, ℕ, true, List, [
 use Rattle.std.specs.Str.Parse.{AllDigits}
 use Rattle.clap.specs.Words.{App, new_app, with_rule}
 use Rattle.j39_address.specs.Name.{NameFields, fields_of}
-use Rattle.j39_frame.specs.Chars.{newline}
+use Rattle.j39_text.specs.Chars.{newline}
 use Rattle.j39_cli.specs.Rules.{value_rule}
 
 abbrev pub name_app : App

@@ -1,7 +1,7 @@
 -- A text that a command writes whole.
 use Rattle.std.specs.Prelude.{◌≡◌, ◌⊎◌, ℕ, true, List, [], codes}
 use Rattle.std.specs.Io.KnownBytes.{Appends}
-use Rattle.j39_frame.specs.Device.{AppendsFront}
+use Rattle.j39_device.specs.Device.{AppendsFront}
 use Rattle.j39_cli.specs.Refusal.{error_line}
 use Rattle.j39_cli.specs.Turn.{IsUnmarked, Turn, Writes}
 

@@ -5,7 +5,7 @@ use Rattle.std.specs.Str.Parse.{digits_value}
 use Rattle.clap.specs.Words.{Text}
 use Rattle.j39_address.specs.Name.{name_raw}
 use Rattle.j39_frame.specs.Address.{IsAddress}
-use Rattle.j39_frame.specs.Bus.{IsBusName}
+use Rattle.j39_log.specs.Bus.{IsBusName}
 use Rattle.j39_frame.specs.Identifier.{id_raw}
 use Rattle.j39_cli.specs.CutCommand.{EndsInTime, IsMomentText, IsNumberBelow, IsOutgoing, IsPayloadText, OutgoingRecord, moment_value, outgoing, payload_of}
 use Rattle.j39_cli.specs.IdCommand.{IsIdText}

@@ -23,7 +23,8 @@ use crate::words::{bus_value, required};
 use crate::{Address, Argument, ParseFault, Task, WordText};
 use clap::{Arg, ArgMatches, Command};
 use j39_address::Name;
-use j39_frame::{Bus, Sink, Source};
+use j39_device::{Sink, Source};
+use j39_log::Bus;
 use std::alloc::{AllocError, Global};
 
 const ABOUT: &str = "\

@@ -15,7 +15,8 @@ use crate::shown::show_text;
 use crate::words::required;
 use crate::{Argument, Outgoing, ParseFault, Task};
 use clap::{Arg, ArgMatches, Command};
-use j39_frame::{Bus, Sink};
+use j39_device::Sink;
+use j39_log::Bus;
 use std::alloc::{AllocError, Global};
 
 const ABOUT: &str = "\

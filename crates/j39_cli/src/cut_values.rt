@@ -9,7 +9,8 @@ ghost use Rattle.j39_cli.specs.CutCommand as cut;
 
 use crate::{Argument, ParseFault};
 use hex::FromHexError;
-use j39_frame::{Pgn, Stamp, number};
+use j39_frame::{Pgn, Stamp};
+use j39_text::number;
 use std::alloc::Global;
 
 /// The number of decimal digits, leading zeros taken; `None` for other text, and from the limit up.

@@ -3,7 +3,7 @@ ghost use Rattle.std.specs.Prelude.{◌≡◌, ◌≢◌, IfOk, OnErr, OnOk, cod
 ghost use Rattle.std.specs.Io.KnownBytes.{Appends};
 ghost use Rattle.clap.specs.Words.{app_of, first_value, found_of};
 ghost use Rattle.clap.specs.declared.builder.command.Command.TheViews.{out-Command as settings_of};
-ghost use Rattle.j39_frame.specs.Device.{AppendsFront, Marks};
+ghost use Rattle.j39_device.specs.Device.{AppendsFront, Marks};
 ghost use Rattle.j39_groups.specs.Parameters.{rows_text};
 ghost use Rattle.j39_cli.specs.CommandWords as written;
 ghost use Rattle.j39_cli.specs.GroupsCommand.{groups_app};
@@ -15,7 +15,7 @@ use crate::command::{table, with_arg};
 use crate::shown::status_of;
 use crate::{ParseFault, Task, WordText};
 use clap::{ArgMatches, Command};
-use j39_frame::{DeviceFault, Sink};
+use j39_device::{DeviceFault, Sink};
 use j39_groups::Groups;
 use std::alloc::{AllocError, Global};
 

@@ -18,8 +18,10 @@ use crate::words::required;
 use crate::{Argument, ParseFault, Task};
 use arrayvec::ArrayVec;
 use clap::{ArgMatches, Command};
-use j39_frame::printing::push_bytes;
-use j39_frame::{Id, Sink, number};
+use j39_device::Sink;
+use j39_frame::Id;
+use j39_text::number;
+use j39_text::printing::push_bytes;
 use std::alloc::{AllocError, Global};
 
 const ABOUT: &str = "\

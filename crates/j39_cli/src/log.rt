@@ -11,8 +11,9 @@ use crate::command::{bus, file, with_arg};
 use crate::fields::counts_line;
 use crate::refusal::{complain, show};
 use clap::Command;
-use j39_frame::{Bus, Sink};
+use j39_device::Sink;
 use j39_listen::{Counts, RunFault};
+use j39_log::Bus;
 use std::alloc::{AllocError, Global};
 
 /// The most bytes of a log that the program reads.

@@ -6,9 +6,9 @@ ghost use Rattle.j39_cli.specs.Turn.{Writes, turn};
 use crate::fields::push_field;
 use crate::refusal::complain;
 use arrayvec::ArrayVec;
-use j39_frame::Sink;
-use j39_frame::printing::push_bytes;
+use j39_device::Sink;
 use j39_table::TableFault;
+use j39_text::printing::push_bytes;
 
 /// Says why this file is no table, and answers the exit status. A fault of the writer is passed over.
 pub fn wrong_table<E: Sink>(file: &str, fault: TableFault, err: &mut E) -> u8

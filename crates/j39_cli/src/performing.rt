@@ -5,7 +5,7 @@ ghost use Rattle.j39_cli.specs.Perform.{IsPerformed, reads_log};
 ghost use Rattle.j39_cli.specs.Turn.{turn};
 
 use crate::{Task, answer, cut, groups, id, name, nodes, report};
-use j39_frame::{Sink, Source};
+use j39_device::{Sink, Source};
 use j39_groups::Groups;
 use std::alloc::Global;
 

@@ -14,9 +14,10 @@ use crate::log::{LOG_LIMIT, copy_of, tell_counts, tell_fault, with_log};
 use crate::words::bus_value;
 use crate::{ParseFault, Task, WordText};
 use clap::{ArgMatches, Command};
-use j39_frame::{Bus, Sink, Source};
+use j39_device::{Sink, Source};
 use j39_groups::Groups;
 use j39_listen::run_with;
+use j39_log::Bus;
 use std::alloc::{AllocError, Global};
 
 const ABOUT: &str = "\

@@ -5,7 +5,8 @@ ghost use Rattle.j39_cli.specs.Task.{argument_text, file_of, table_of};
 
 use crate::Outgoing;
 use j39_address::Name;
-use j39_frame::{Bus, Id, is_address};
+use j39_frame::{Id, is_address};
+use j39_log::Bus;
 use std::fmt;
 use std::marker::Model;
 use thiserror::Error;

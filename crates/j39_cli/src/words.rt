@@ -2,7 +2,7 @@
 ghost use Rattle.std.specs.Prelude.{◌≡◌, ◌≢◌, ◌∷◌, [], Err, IfErr, IfOk, List, None, OnOk, Some, codes, map, true};
 ghost use Rattle.clap.specs.Words.{HasMatchesOf, Row, Text, first_value, found_of, kind_of};
 ghost use Rattle.clap.specs.Words.{fault_of, subcommand_name_of, subcommand_of, subcommand_rows_of, takes};
-ghost use Rattle.j39_frame.specs.Bus.{IsBusName};
+ghost use Rattle.j39_log.specs.Bus.{IsBusName};
 ghost use Rattle.j39_cli.specs.Command.{line_app};
 ghost use Rattle.j39_cli.specs.CommandWords.{CommandWords, HasTexts, HasValues, words_of};
 ghost use Rattle.j39_cli.specs.Spelling.{IsEntered, IsSpelled};
@@ -12,7 +12,7 @@ use crate::command::line;
 use crate::{Argument, ParseFault, Task, answer, cut, groups, id, name, nodes, report};
 use clap::error::ErrorKind;
 use clap::{ArgMatches, Error};
-use j39_frame::Bus;
+use j39_log::Bus;
 use std::alloc::Global;
 use std::convert::AsStr;
 

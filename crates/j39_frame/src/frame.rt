@@ -47,7 +47,9 @@ impl Frame {
         })
     }
 
-    pub(crate) fn from_parts(stamp: Stamp, id: Id, bytes: ArrayVec<u8, 8>) -> Frame
+    /// The frame of these parts, which are any.
+    #[inline]
+    pub fn from_parts(stamp: Stamp, id: Id, bytes: ArrayVec<u8, 8>) -> Frame
         ensures { result ≡ record { stamp = stamp_micros stamp; id = id_raw id; bytes = bytes.items } }
     {
         let _bytes = are_bytes(bytes.as_slice());

@@ -3,10 +3,10 @@ use Rattle.std.proofs.Common.{◌≡◌, ◌<◌, ℕ, Bool, true, false, List, 
 use Rattle.std.specs.Io.KnownBytes.{Appends}
 use Rattle.std.specs.Option.{option_map, option_to_list}
 use Rattle.std.proofs.KnownBytes.{Appends-nil, Appends-trans}
-use Rattle.j39_frame.specs.Canonical.{line_text}
-use Rattle.j39_frame.specs.Chars.{newline}
-use Rattle.j39_frame.specs.Device.{AppendsFront}
-use Rattle.j39_frame.proofs.DeviceLemmas.{front_first, front_within}
+use Rattle.j39_log.specs.Canonical.{line_text}
+use Rattle.j39_text.specs.Chars.{newline}
+use Rattle.j39_device.specs.Device.{AppendsFront}
+use Rattle.j39_device.proofs.DeviceLemmas.{front_first, front_within}
 use Rattle.j39_frame.specs.Frame.{FrameRecord}
 use Rattle.j39_groups.specs.Table.{the_table}
 use Rattle.j39_address.specs.Call.{Call}

@@ -3,13 +3,13 @@ use Rattle.std.proofs.Common.{◌≡◌, ◌≢◌, ℕ, List, [], ◌∷◌, �
 use Rattle.std.specs.Str.{bytes_eq}
 use Rattle.std.specs.Prelude.{Result, Err, true, unwrap_or}
 use Rattle.j39_frame.specs.Frame.{FrameRecord}
-use Rattle.j39_frame.specs.Log.{HasNoNewline, bus_of, ended, frames_of}
-use Rattle.j39_frame.specs.Spelled.{Spelled, Spells, frame}
-use Rattle.j39_frame.specs.Splitter.{EndsLine, HasBegun, IsRawLine}
-use Rattle.j39_frame.specs.declared.splitter.RawLine.{RawLine}
-use Rattle.j39_frame.specs.declared.splitter.Splitter.{Splitter}
-use Rattle.j39_frame.proofs.BusLemmas.{bus_of-append, ended-line, frames_of-append, spell-more, whole-more}
-use Rattle.j39_frame.proofs.SplitterLemmas.{no_newline_append}
+use Rattle.j39_log.specs.Log.{HasNoNewline, bus_of, ended, frames_of}
+use Rattle.j39_log.specs.Spelled.{Spelled, Spells, frame}
+use Rattle.j39_log.specs.Splitter.{EndsLine, HasBegun, IsRawLine}
+use Rattle.j39_log.specs.declared.splitter.RawLine.{RawLine}
+use Rattle.j39_log.specs.declared.splitter.Splitter.{Splitter}
+use Rattle.j39_log.proofs.BusLemmas.{bus_of-append, ended-line, frames_of-append, spell-more, whole-more}
+use Rattle.j39_log.proofs.SplitterLemmas.{no_newline_append}
 use Rattle.j39_listen.specs.Asking.{AsksAmong, Wanting}
 use Rattle.j39_listen.specs.AskSteps.{AsksIn, AsksLast, AsksLine}
 use Rattle.j39_listen.specs.LineSteps.{IsNamed, IsSpelling}

@@ -5,9 +5,9 @@ use Rattle.std.specs.List.{filter_map}
 use Rattle.std.specs.Str.{bytes_eq}
 use Rattle.std.proofs.KnownBytes.{Appends-nil}
 use Rattle.j39_frame.specs.Frame.{FrameRecord}
-use Rattle.j39_frame.specs.Log.{bus_of, frame_on, frames_of, is_other_on, others_of, unread_of}
-use Rattle.j39_frame.specs.Spelled.{Spelled, frame, other, unread, blank}
-use Rattle.j39_frame.proofs.BusLemmas.{bus_of-frame, bus_of-kept}
+use Rattle.j39_log.specs.Log.{bus_of, frame_on, frames_of, is_other_on, others_of, unread_of}
+use Rattle.j39_log.specs.Spelled.{Spelled, frame, other, unread, blank}
+use Rattle.j39_log.proofs.BusLemmas.{bus_of-frame, bus_of-kept}
 use Rattle.j39_listen.specs.AccountSteps.{Meets, Stops}
 use Rattle.j39_listen.specs.Counting.{capped}
 use Rattle.j39_listen.specs.LineSteps.{IsNamed, MeetsLine, StopsLine, tally_of}

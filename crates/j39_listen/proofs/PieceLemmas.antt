@@ -3,15 +3,15 @@ use Rattle.std.proofs.Common.{◌≡◌, ◌≢◌, ◌+◌, ℕ, List, [], ◌�
 use Rattle.std.proofs.Math.Seq.{take-append-add}
 use Rattle.std.specs.Io.KnownBytes.{Keeps}
 use Rattle.std.specs.Prelude.{IfOk, OnErr, OnOk, Result, Ok, Err}
-use Rattle.j39_frame.specs.Chars.{newline}
+use Rattle.j39_text.specs.Chars.{newline}
 use Rattle.j39_frame.specs.Frame.{FrameRecord}
-use Rattle.j39_frame.specs.Log.{HasNoNewline, IsLog}
-use Rattle.j39_frame.specs.Spelled.{Spelled, Spells}
-use Rattle.j39_frame.specs.Splitter.{EndsLine, HasBegun, IsRawLine}
-use Rattle.j39_frame.specs.declared.splitter.RawLine.{RawLine}
-use Rattle.j39_frame.specs.declared.splitter.Splitter.{Splitter}
-use Rattle.j39_frame.proofs.DeviceLemmas.{Appends-kept}
-use Rattle.j39_frame.proofs.SplitterLemmas.{no_newline_append}
+use Rattle.j39_log.specs.Log.{HasNoNewline, IsLog}
+use Rattle.j39_log.specs.Spelled.{Spelled, Spells}
+use Rattle.j39_log.specs.Splitter.{EndsLine, HasBegun, IsRawLine}
+use Rattle.j39_log.specs.declared.splitter.RawLine.{RawLine}
+use Rattle.j39_log.specs.declared.splitter.Splitter.{Splitter}
+use Rattle.j39_device.proofs.DeviceLemmas.{Appends-kept}
+use Rattle.j39_log.proofs.SplitterLemmas.{no_newline_append}
 use Rattle.j39_listen.specs.AccountSteps.{Begins}
 use Rattle.j39_listen.specs.LineSteps.{IsSpelling}
 use Rattle.j39_listen.specs.Output.{Output, Making, Meeting}

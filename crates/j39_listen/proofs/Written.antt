@@ -1,6 +1,6 @@
 -- What a run writes tells of publishers what was published.
 use Rattle.std.proofs.Common.{ℕ, List, Option, IfSome, Some, None, refl, subst}
-use Rattle.j39_frame.specs.Log.{frames_of}
+use Rattle.j39_log.specs.Log.{frames_of}
 use Rattle.j39_listen.proofs.Headline.{published, repeated, thinned}
 use Rattle.j39_listen.specs.Report.{Entry, IsReport, entries_of}
 use Rattle.j39_listen.specs.Output.{MakesReport, Output}

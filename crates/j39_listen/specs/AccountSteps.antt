@@ -1,7 +1,7 @@
 -- What the calls of an account make of it. An account has met some frames, of which it has made an output so far.
 use Rattle.std.specs.Prelude.{◌≡◌, ◌++◌, ℕ, List, Option}
 use Rattle.std.specs.Io.KnownBytes.{Appends}
-use Rattle.j39_frame.specs.Device.{AppendsFront}
+use Rattle.j39_device.specs.Device.{AppendsFront}
 use Rattle.j39_frame.specs.Frame.{FrameRecord}
 use Rattle.j39_listen.specs.Counting.{capped}
 use Rattle.j39_listen.specs.Output.{Output, Making, Meeting}

@@ -1,9 +1,9 @@
 -- The steps of a run to a frame that asks for memory.
 use Rattle.std.specs.Prelude.{◌≡◌, ◌≢◌, ℕ, List, [], ◌∷◌, Option}
 use Rattle.j39_frame.specs.Frame.{FrameRecord}
-use Rattle.j39_frame.specs.Log.{bus_of, frames_of}
-use Rattle.j39_frame.specs.Spelled.{Spelled, Spells}
-use Rattle.j39_frame.specs.Splitter.{EndsLine}
+use Rattle.j39_log.specs.Log.{bus_of, frames_of}
+use Rattle.j39_log.specs.Spelled.{Spelled, Spells}
+use Rattle.j39_log.specs.Splitter.{EndsLine}
 use Rattle.j39_listen.specs.LineSteps.{IsNamed}
 use Rattle.j39_listen.specs.Output.{Output, Meeting}
 use Rattle.j39_listen.specs.declared.lines.Lines.{Lines}

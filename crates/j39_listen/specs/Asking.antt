@@ -3,8 +3,8 @@
 use Rattle.std.specs.Prelude.{◌≡◌, ℕ, List, [], ◌∷◌, ◌++◌, Option}
 use Rattle.std.specs.Io.KnownBytes.{Consumes}
 use Rattle.j39_frame.specs.Frame.{FrameRecord}
-use Rattle.j39_frame.specs.Log.{IsLog, frames_of}
-use Rattle.j39_frame.specs.Spelled.{Spelled}
+use Rattle.j39_log.specs.Log.{IsLog, frames_of}
+use Rattle.j39_log.specs.Spelled.{Spelled}
 use Rattle.j39_transport.specs.Answers.{IsAnnouncement}
 use Rattle.j39_listen.specs.Listening.{WantsMemoryBehind}
 

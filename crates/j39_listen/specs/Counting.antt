@@ -1,7 +1,7 @@
 -- What a run counts.
 use Rattle.std.specs.Prelude.{◌-◌, ◌^◌, ℕ, List, length, min, Option}
-use Rattle.j39_frame.specs.Log.{frames_of, others_of, unread_of}
-use Rattle.j39_frame.specs.Spelled.{Spelled}
+use Rattle.j39_log.specs.Log.{frames_of, others_of, unread_of}
+use Rattle.j39_log.specs.Spelled.{Spelled}
 use Rattle.j39_listen.specs.Output.{Output}
 use Rattle.j39_listen.specs.declared.counts.Counts.{Counts}
 

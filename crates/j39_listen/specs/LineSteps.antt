@@ -1,7 +1,7 @@
 -- The steps of a run, line by line: each by the definitions over that line alone, whatever was met before.
 use Rattle.std.specs.Prelude.{◌≡◌, ◌+◌, ◌∷◌, [], ℕ, List, Option, length, unwrap_or}
-use Rattle.j39_frame.specs.Log.{bus_of, frames_of, others_of, unread_of}
-use Rattle.j39_frame.specs.Spelled.{Spelled, Spells}
+use Rattle.j39_log.specs.Log.{bus_of, frames_of, others_of, unread_of}
+use Rattle.j39_log.specs.Spelled.{Spelled, Spells}
 use Rattle.j39_listen.specs.AccountSteps.{Meets, Stops}
 use Rattle.j39_listen.specs.Counting.{capped}
 use Rattle.j39_listen.specs.Output.{Making, Meeting}

@@ -2,12 +2,12 @@
 use Rattle.std.specs.Prelude.{◌≡◌, ◌≢◌, ◌⊎◌, ◌++◌, [], ℕ, List, Option, length}
 use Rattle.std.specs.List.{AllByRecursion}
 use Rattle.std.specs.Io.KnownBytes.{Appends}
-use Rattle.j39_frame.specs.Device.{AppendsFront}
+use Rattle.j39_device.specs.Device.{AppendsFront}
 use Rattle.j39_frame.specs.Frame.{FrameRecord}
-use Rattle.j39_frame.specs.Log.{HasNoNewline, ended, SpellEach, bus_of, frames_of}
-use Rattle.j39_frame.specs.Spelled.{Spelled, Spells}
-use Rattle.j39_frame.specs.Splitter.{HasBegun, EndsLine}
-use Rattle.j39_frame.specs.declared.splitter.Splitter.{Splitter}
+use Rattle.j39_log.specs.Log.{HasNoNewline, ended, SpellEach, bus_of, frames_of}
+use Rattle.j39_log.specs.Spelled.{Spelled, Spells}
+use Rattle.j39_log.specs.Splitter.{HasBegun, EndsLine}
+use Rattle.j39_log.specs.declared.splitter.Splitter.{Splitter}
 use Rattle.j39_listen.specs.Counting.{counts_of}
 use Rattle.j39_listen.specs.LineSteps.{IsNamed, MeetsLine, StopsLine, sum_of, tally_of}
 use Rattle.j39_listen.specs.Output.{Output, Making, Meeting}

@@ -1,9 +1,9 @@
 -- What a run over a log writes and counts, whatever it makes of the frames.
 use Rattle.std.specs.Prelude.{◌≡◌, ◌<◌, ◌≤◌, ◌++◌, ℕ, List, [], Option, length, unwrap_or}
 use Rattle.std.specs.Io.KnownBytes.{Appends, Consumes}
-use Rattle.j39_frame.specs.Device.{AppendsFront}
-use Rattle.j39_frame.specs.Log.{IsLog, bus_of, frames_of}
-use Rattle.j39_frame.specs.Spelled.{Spelled}
+use Rattle.j39_device.specs.Device.{AppendsFront}
+use Rattle.j39_log.specs.Log.{IsLog, bus_of, frames_of}
+use Rattle.j39_log.specs.Spelled.{Spelled}
 use Rattle.j39_groups.specs.Row.{RowRecord}
 use Rattle.j39_listen.specs.Counting.{counts_of}
 use Rattle.j39_listen.specs.Output.{Output, Making}

@@ -1,6 +1,6 @@
 //! What a run makes of the frames of its bus.
 ghost use Rattle.std.specs.Prelude.{◌≡◌, ◌≢◌, ◌∷◌, [], List, true, OnOk, OnErr, IfOk, Err};
-ghost use Rattle.j39_frame.specs.Device.{Marks};
+ghost use Rattle.j39_device.specs.Device.{Marks};
 ghost use Rattle.j39_frame.specs.Frame.{FrameRecord};
 ghost use Rattle.j39_listen.specs.AccountSteps.{Begins, Closes, MakesOne, Meets, Stops, StopsAtEnd};
 ghost use Rattle.j39_listen.specs.Output.{Output, Making, Meeting};
@@ -8,7 +8,9 @@ ghost use Rattle.j39_listen.specs.declared.account.LineFault.TheVariants.{Memory
 ghost use Rattle.j39_listen.specs.Asking.{Wanting};
 
 use crate::counts::Made;
-use j39_frame::{Bus, DeviceFault, Frame, Sink};
+use j39_device::{DeviceFault, Sink};
+use j39_frame::Frame;
+use j39_log::Bus;
 
 /// Why a line was not finished.
 #[derive(Clone, Copy, Debug, PartialEq, Eq)]

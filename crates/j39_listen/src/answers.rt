@@ -7,7 +7,7 @@ ghost use Rattle.j39_address.specs.Command.{command_by, commanded_of};
 ghost use Rattle.j39_address.specs.Name.{name_raw};
 ghost use Rattle.j39_address.specs.Node.{Node, idle_node};
 ghost use Rattle.j39_frame.specs.Address.{global_address, null_address};
-ghost use Rattle.j39_frame.specs.Device.{AppendsFront, Marks};
+ghost use Rattle.j39_device.specs.Device.{AppendsFront, Marks};
 ghost use Rattle.j39_frame.specs.Frame.{FrameRecord};
 ghost use Rattle.j39_frame.specs.Identifier.{destination_of};
 ghost use Rattle.j39_frame.specs.Pgn.{pgn_raw};
@@ -25,7 +25,9 @@ use crate::counts::Made;
 use crate::running::{RunFault, run_over};
 use crate::{Counts, Heard, Listener};
 use j39_address::{Claimer, Name, commanded_of};
-use j39_frame::{Bus, DeviceFault, Frame, GLOBAL_ADDRESS, Sink, Source, Stamp, line_of, put_all};
+use j39_device::{DeviceFault, Sink, Source, put_all};
+use j39_frame::{Frame, GLOBAL_ADDRESS, Stamp};
+use j39_log::{Bus, line_of};
 use std::alloc::{AllocError, Global};
 
 /// Writes what a node of this NAME would send on the bus of a log, as lines of a log: it is started at the

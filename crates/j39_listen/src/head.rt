@@ -2,16 +2,17 @@
 ghost use Rattle.std.specs.Prelude.{◌≡◌, ◌+◌, ◌≤◌, decimal, drop, length};
 ghost use Rattle.std.specs.Option.{option_map};
 ghost use Rattle.j39_address.specs.Name.{name_raw};
-ghost use Rattle.j39_frame.specs.Backwards.{WritesBefore};
+ghost use Rattle.j39_text.specs.Backwards.{WritesBefore};
 ghost use Rattle.j39_frame.specs.Pgn.{pgn_raw};
 ghost use Rattle.j39_listen.specs.Report.{hearing_head, name_text};
 ghost use Rattle.j39_listen.specs.Shown.{hearing_of};
 
 use crate::Heard;
 use j39_address::Name;
-use j39_frame::backwards::{byte_before, bytes_before, hex_before, number_before};
-use j39_frame::{Pgn, Seconds};
+use j39_frame::Pgn;
 use j39_groups::HEAD;
+use j39_log::Seconds;
+use j39_text::backwards::{byte_before, bytes_before, hex_before, number_before};
 
 /// Writes the head of a message's lines at the end of a block, and answers where it starts.
 #[inline(always)]

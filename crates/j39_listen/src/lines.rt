@@ -1,7 +1,7 @@
 //! A run, line by line.
 ghost use Rattle.std.specs.Prelude.{◌≡◌, ◌≢◌, Some, true, IfOk, OnOk, Err, unwrap_or};
-ghost use Rattle.j39_frame.specs.Bus.{IsBusName};
-ghost use Rattle.j39_frame.specs.LineRead.{spelled_of};
+ghost use Rattle.j39_log.specs.Bus.{IsBusName};
+ghost use Rattle.j39_log.specs.LineRead.{spelled_of};
 ghost use Rattle.j39_listen.specs.AskSteps.{AsksLine};
 ghost use Rattle.j39_listen.specs.LineSteps.{IsSpelling, MeetsLine, StopsLine};
 ghost use Rattle.j39_listen.specs.PieceSteps.{ReadsLine, StopsAt};
@@ -9,7 +9,8 @@ ghost use Rattle.j39_listen.specs.declared.account.LineFault.TheVariants.{Memory
 
 use crate::account::{Account, LineFault};
 use crate::counts::Tally;
-use j39_frame::{Bus, Line, Sink};
+use j39_device::Sink;
+use j39_log::{Bus, Line};
 
 /// The bus of a run, once it is known, the account of its frames, and what was met so far.
 #[derive(Drop)]

@@ -1,8 +1,8 @@
 //! A run over pieces of a log.
 ghost use Rattle.std.specs.Prelude.{◌≡◌, ◌≢◌, ◌<◌, ◌≤◌, ◌++◌, ℕ, List, [], Option, true, OnOk, OnErr, IfOk, Err, length};
-ghost use Rattle.j39_frame.specs.Device.{Marks};
-ghost use Rattle.j39_frame.specs.Spelled.{Spelled};
-ghost use Rattle.j39_frame.specs.Splitter.{HasBegun};
+ghost use Rattle.j39_device.specs.Device.{Marks};
+ghost use Rattle.j39_log.specs.Spelled.{Spelled};
+ghost use Rattle.j39_log.specs.Splitter.{HasBegun};
 ghost use Rattle.j39_listen.specs.Asking.{AsksAmong};
 ghost use Rattle.j39_listen.specs.AskSteps.{AsksIn, AsksLast};
 ghost use Rattle.j39_listen.specs.PieceSteps.{AtStart, Behind, HasMetAll, HasTaken, ReadsLast, StepsOver};
@@ -14,7 +14,8 @@ use crate::Counts;
 use crate::account::{Account, LineFault};
 use crate::counts::Tally;
 use crate::lines::Lines;
-use j39_frame::{Bus, DeviceFault, Sink, Splitter};
+use j39_device::{DeviceFault, Sink};
+use j39_log::{Bus, Splitter};
 
 /// A log that is read in pieces, and the run over its lines.
 #[derive(Drop)]

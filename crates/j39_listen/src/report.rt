@@ -16,8 +16,10 @@ use crate::counts::Made;
 use crate::report_lines::{Pen, put_heard};
 use crate::running::{RunFault, run_over};
 use crate::{Counts, Listener};
-use j39_frame::{Bus, DeviceFault, Frame, Sink, Source};
+use j39_device::{DeviceFault, Sink, Source};
+use j39_frame::Frame;
 use j39_groups::Groups;
+use j39_log::Bus;
 use std::alloc::{AllocError, Global};
 
 /// Writes the report of a log of at most `limit` bytes by the built-in table: a line for each value that a

@@ -8,7 +8,8 @@ ghost use Rattle.j39_listen.specs.declared.running.RunFault.TheVariants.{Memory,
 use crate::Counts;
 use crate::account::{Account, LineFault};
 use crate::pieces::Pieces;
-use j39_frame::{Bus, Sink, Source};
+use j39_device::{Sink, Source};
+use j39_log::Bus;
 use std::fmt;
 use thiserror::Error;
 

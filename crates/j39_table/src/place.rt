@@ -7,8 +7,8 @@ ghost use Rattle.j39_table.specs.declared.place.Place.{Place};
 ghost use Rattle.j39_table.specs.Places.{IsAfterDigits, IsGoodBits, IsGoodPlace, behind_first_byte, behind_low_bit, end_text, is_digit, text_of_place};
 
 use arrayvec::ArrayVec;
-use j39_frame::{number, printing};
 use j39_groups::{push_decimal, push_range};
+use j39_text::{number, printing};
 
 /// Where a parameter stands in the payload. Bytes, bits and parts count from 1.
 #[derive(Clone, Copy, Debug, PartialEq, Eq)]

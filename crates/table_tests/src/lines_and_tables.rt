@@ -1,4 +1,4 @@
-use j39_frame::Told;
+use j39_device::Told;
 use j39_groups::{ReadField, put_parameters};
 use j39_table::{RowFault, TableFault, read, read_row};
 use std::test::Fail;

@@ -1,8 +1,10 @@
 //! What a node of a NAME would send on the bus of a log.
 use crate::support::stamped;
 use j39_address::Name;
-use j39_frame::{Bus, Full, Told, Trial};
+use j39_device::Told;
 use j39_listen::{RunFault, answer};
+use j39_log::Bus;
+use j39_trial::{Full, Trial};
 use std::alloc::{AllocError, Global};
 use std::process::Abort;
 use std::test::Fail;

@@ -1,8 +1,9 @@
 //! Devices that fail, and logs that are too long.
 use crate::support::run_over;
 use j39_cli::{parse, perform};
-use j39_frame::{Full, Told, Trial};
+use j39_device::Told;
 use j39_listen::RunFault;
+use j39_trial::{Full, Trial};
 use std::alloc::Global;
 use std::fs;
 use std::test::Fail;

@@ -1,6 +1,7 @@
 //! The command `id` over a writer that fails.
 use j39_cli::{parse, perform};
-use j39_frame::{Told, Trial};
+use j39_device::Told;
+use j39_trial::Trial;
 use std::test::Fail;
 
 #[test]

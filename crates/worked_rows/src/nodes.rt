@@ -1,6 +1,7 @@
 //! Who holds which address after a log.
-use j39_frame::{Full, Told, Trial};
+use j39_device::Told;
 use j39_listen::{RunFault, nodes};
+use j39_trial::{Full, Trial};
 use std::alloc::Global;
 use std::test::Fail;
 

@@ -1,6 +1,7 @@
 //! What the examples are run on.
-use j39_frame::{Told, Trial};
+use j39_device::Told;
 use j39_listen::{RunFault, run};
+use j39_trial::Trial;
 use std::alloc::{AllocError, Global};
 use std::process::Abort;
 use std::test::Fail;

@@ -1,7 +1,8 @@
 //! A log by a table of one's own.
-use j39_frame::{Told, Trial};
+use j39_device::Told;
 use j39_listen::{RunFault, run_with};
 use j39_table::read;
+use j39_trial::Trial;
 use std::test::Fail;
 
 /// A group of a maker's own, with bits over a byte's end, and one with steps of 13 places.

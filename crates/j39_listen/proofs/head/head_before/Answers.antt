@@ -1,12 +1,12 @@
 -- The parts, one before the other.
 use Rattle.std.proofs.Common.{ℕ, List, ◌≡◌, ◌++◌, ◌∷◌, [], refl, ◌∙◌, append_assoc, arith}
-use Rattle.j39_frame.proofs.BackwardsLemmas.{before_end, before_then}
+use Rattle.j39_text.proofs.BackwardsLemmas.{before_end, before_then}
 use Rattle.std.specs.Fmt.{decimal}
 use Rattle.std.specs.Option.{option_map}
 use Rattle.hex.specs.Hex.{encode_upper}
 use Rattle.j39_address.specs.Name.{name_raw}
 use Rattle.j39_frame.specs.Pgn.{pgn_raw}
-use Rattle.j39_frame.specs.Printing.{stamp_text}
+use Rattle.j39_log.specs.StampText.{stamp_text}
 use Rattle.j39_frame.specs.Stamp.{stamp_micros}
 use Rattle.j39_listen.specs.Report.{name_text}
 use Rattle.j39_listen.proofs.head.head_before.Goals as goal

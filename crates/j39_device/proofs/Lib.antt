@@ -1,0 +1,2 @@
+-- ---- calls one after another
+pub mod DeviceLemmas

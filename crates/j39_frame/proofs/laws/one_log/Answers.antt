@@ -1,8 +1,0 @@
-use Rattle.j39_frame.proofs.LogLemmas.{same_log, same_frames}
-use Rattle.j39_frame.proofs.laws.one_log.Goals as goal
-
-pub returns-clause-spelled : goal.returns-clause-spelled
-returns-clause-spelled c = same_log
-
-pub returns-clause-frames : goal.returns-clause-frames
-returns-clause-frames c = same_frames

@@ -1,6 +1,0 @@
-use Rattle.std.proofs.Common.{◌∙◌}
-use Rattle.j39_frame.proofs.SplitterLemmas.{whole_kept}
-use Rattle.j39_frame.proofs.splitter.Splitter.kept_line.Goals as goal
-
-pub returns-else-self : goal.returns-else-self
-returns-else-self c = λ line k. c.as_slice.ensures.value ∙ whole_kept line _ _ k c.if-self.false

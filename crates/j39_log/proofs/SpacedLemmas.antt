@@ -1,0 +1,102 @@
+-- A line with one space between its fields, and none before or after them.
+use Rattle.std.proofs.Common.{◌≡◌, ◌≢◌, ◌<◌, ◌≤◌, ℕ, true, false, List, [], ◌∷◌, ◌++◌, length, refl, sym, ap, ◌∙◌, arith, subst, append-nil, length-append, lit<, inl, Ok, ◌==◌}
+use Rattle.std.specs.List.{AllByRecursion}
+use Rattle.std.specs.Int.{to_be_bytes, w32}
+use Rattle.std.specs.Char.{digit_value}
+use Rattle.std.specs.Str.Parse.{AllDigits}
+use Rattle.std.proofs.lemmas.Bool.{ne_eqb}
+use Rattle.std.proofs.lemmas.List.Elements.{recursion_from_All}
+use Rattle.hex.specs.Hex.{decode_of, is_hex_digit}
+use Rattle.hex.proofs.HexLemmas.{decode_of-ok}
+use Rattle.j39_log.specs.Bus.{IsBusName}
+use Rattle.j39_log.specs.Fields.{IsField, IsAfterField, TakesField, IsSpaced}
+use Rattle.j39_log.specs.Text.{IsStampText, IsFrameText}
+use Rattle.j39_log.specs.Line.{IsBody, HasParts}
+
+-- each byte is above the space
+abbrev pub AreAbove : List ℕ → Type 0
+AreAbove bs = AllByRecursion (λ b. 32 < b) bs
+
+AreAbove-append : (xs ys : List ℕ) → AreAbove xs → AreAbove ys → AreAbove (xs ++ ys)
+AreAbove-append [] ys p q = q
+AreAbove-append (x ∷ xs) ys p q = (p.0, AreAbove-append xs ys p.1 q)
+
+AreAbove-digits : (cs : List ℕ) → AllDigits 10 cs → AreAbove cs
+AreAbove-digits [] h = tt
+AreAbove-digits (c ∷ cs) h = (above c h.0, AreAbove-digits cs h.1) where
+  above : (c : ℕ) → digit_value c < 10 → 32 < c
+  above c h = grind arith
+
+AreAbove-hex : (text bytes : List ℕ) → decode_of text ≡ Ok bytes → AreAbove text
+AreAbove-hex text bytes h = go text (recursion_from_All (λ c. is_hex_digit c ≡ true) text (decode_of-ok text bytes h).1) where
+  above : (c : ℕ) → is_hex_digit c ≡ true → 32 < c
+  above c h = grind arith
+
+  go : (cs : List ℕ) → AllByRecursion (λ c. is_hex_digit c ≡ true) cs → AreAbove cs
+  go [] p = tt
+  go (c ∷ cs) p = (above c p.0, go cs p.1)
+
+AreAbove-bus : (bus : List ℕ) → IsBusName bus → AreAbove bus
+AreAbove-bus bus h = go bus (recursion_from_All _ bus h.2) where
+  go : (xs : List ℕ) → AllByRecursion (λ b. (0x20 < b) × (b ≢ 0x7F)) xs → AreAbove xs
+  go [] p = tt
+  go (x ∷ xs) p = (p.0.0, go xs p.1)
+
+AreAbove-stamp : (text : List ℕ) (stamp : ℕ) → IsStampText text stamp → AreAbove text
+AreAbove-stamp text stamp h =
+    subst AreAbove (sym h.parts.text_is) (
+      lit< tt,
+      AreAbove-append h.seconds (46 ∷ (h.micros ++ (h.cut ++ (41 ∷ [])))) (AreAbove-digits h.seconds h.seconds_are) (
+        lit< tt,
+        AreAbove-append h.micros (h.cut ++ (41 ∷ [])) (AreAbove-digits h.micros h.micros_are)
+            (AreAbove-append h.cut (41 ∷ []) (AreAbove-digits h.cut h.cut_are) (lit< tt, tt)),
+      ),
+    )
+
+pub AreAbove-frame : (text : List ℕ) (id : ℕ) (bytes : List ℕ) → IsFrameText text id bytes → AreAbove text
+AreAbove-frame text id bytes h =
+    subst AreAbove (sym h.parts.text_is)
+    (AreAbove-append h.digits (35 ∷ h.pairs) (AreAbove-hex h.digits (to_be_bytes w32 id) h.id_is) (lit< tt, AreAbove-hex h.pairs bytes h.bytes_are))
+
+IsField-above : (xs : List ℕ) → 0 < length xs → AreAbove xs → IsField xs
+IsField-above xs some above = (some, go xs above) where
+  go : (ys : List ℕ) → AreAbove ys → AllByRecursion (λ b. b == 32 ≡ false) ys
+  go [] h = tt
+  go (y ∷ ys) h = (ne_eqb y 32 (λ e. omega arith), go ys h.1)
+
+takes_first : (field rest : List ℕ) → IsField field → IsAfterField rest → TakesField (field ++ rest) field rest
+takes_first field rest h after = record { spaces = []; text_is = refl; spaces_are = tt; field_is = h; rest_is = after }
+
+takes_next : (field rest : List ℕ) → IsField field → IsAfterField rest → TakesField (32 ∷ (field ++ rest)) field rest
+takes_next field rest h after = record { spaces = 32 ∷ []; text_is = refl; spaces_are = (refl, tt); field_is = h; rest_is = after }
+
+-- such a stamp, bus and field are a line's parts
+pub spaced_parts : (line body first bus third : List ℕ) (stamp : ℕ) → length line ≤ 256 → IsBody line body → body ≡ first ++ (32 ∷ (bus ++ (32 ∷ third)))
+    → IsStampText first stamp → IsBusName bus → IsField third → HasParts line bus third stamp
+spaced_parts line body first bus third stamp short body_is is s b f =
+    let first_some : 0 < length first = omega (arith, ap length s.parts.text_is) in
+    let closed : body ≡ first ++ (32 ∷ (bus ++ (32 ∷ (third ++ [])))) = is ∙ ap (λ t. first ++ (32 ∷ (bus ++ (32 ∷ t)))) (sym (append-nil third)) in
+    record {
+      short = short;
+      body = body;
+      body_is = body_is;
+      first = first;
+      flags = [];
+      fields_are = subst (IsSpaced (first ∷ bus ∷ third ∷ [])) (sym closed) (
+        32 ∷ (bus ++ (32 ∷ (third ++ []))),
+        takes_first first (32 ∷ (bus ++ (32 ∷ (third ++ [])))) (IsField-above first first_some (AreAbove-stamp first stamp s)) refl,
+        (
+          32 ∷ (third ++ []),
+          takes_next bus (32 ∷ (third ++ [])) (IsField-above bus b.0 (AreAbove-bus bus b)) refl,
+          ([], takes_next third [] f tt, tt),
+        ),
+      );
+      stamp_is = s;
+      bus_is = b;
+      flags_are = inl refl;
+    }
+
+pub IsField-frame : (text : List ℕ) (id : ℕ) (bytes : List ℕ) → IsFrameText text id bytes → IsField text
+IsField-frame text id bytes f =
+    let some : 0 < length text = omega (arith, ap length f.parts.text_is, f.parts.digits_fit, length-append f.digits (35 ∷ f.pairs)) in
+    IsField-above text some (AreAbove-frame text id bytes f)

@@ -1,0 +1,5 @@
+-- ---- characters
+pub mod Chars
+-- ---- numbers as text, and where a text stands that is written backwards
+pub mod Printing
+pub mod Backwards

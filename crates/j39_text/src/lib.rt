@@ -1,0 +1,8 @@
+//! Numbers and bytes as text: appended, written backwards, and read.
+#![tactic(auto)]
+
+pub mod backwards;
+mod digits;
+pub mod printing;
+
+pub use digits::number;

@@ -1,0 +1,2 @@
+-- ---- what the calls set and count
+pub mod Trial
