@@ -10,7 +10,8 @@ use Rattle.j39_transport.specs.Message.{MessageRecord, IsLong, packets_of}
 use Rattle.j39_transport.specs.Net.{World, with_delivery, handed_back, replied, carried, Event, SenderTick, ReceiverTick, Next, Third, is_busy_with, happens, run, of_source, IsThird}
 use Rattle.j39_transport.specs.Receiving.{RecvResult, Heard, said_to, partner_of, result_of, recv_step, new_receiver}
 use Rattle.j39_transport.specs.Reception.{ReceptionRecord, Reaction, quiet, answers, begun, granted_at, grants, asks_again, delivers_message, goes_on, takes_packet, is_from, takes_request, takes_data, takes_signal, limit_of, takes_tick}
-use Rattle.j39_transport.specs.Sending.{SenderRecord, SendState, SendResult, Waiting, Sending, Done, is_waiting, is_running, may_name, silent, waits, sends_packet, ticks_in, cleared, acknowledged, aborted, hears, send_step, sent_by, new_sender, timer_t3, timer_t4}
+use Rattle.j39_transport.specs.Sending.{SenderRecord, SendState, SendResult, Waiting, Sending, Done, is_waiting, is_running, may_name, silent, waits, sends_packet, ticks_in, cleared, acknowledged, aborted, hears, send_step, sent_by, new_sender}
+use Rattle.j39_transport.specs.Protocol.{timer_t3, timer_t4}
 use Rattle.j39_transport.specs.Sending as sender
 use Rattle.j39_transport.specs.Session.{opened, grown, touched}
 use Rattle.j39_transport.specs.Signals.{Signal, RequestToSend, ClearToSend, Acknowledgment, Abort, Packet, said_between, written}

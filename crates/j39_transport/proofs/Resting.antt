@@ -11,7 +11,8 @@ use Rattle.j39_transport.specs.Net.{is_over}
 use Rattle.j39_transport.specs.Receiving.{ReceiverRecord, RecvEvent, RecvResult, said_to, recv_step, new_receiver}
 use Rattle.j39_transport.specs.Receiving as receiving
 use Rattle.j39_transport.specs.Reception.{ReceptionRecord, Reaction, quiet, answers, granted_at, grants, asks_again, begun, delivers_message, goes_on, takes_packet, is_from, is_taken, takes_request, takes_data, takes_abort, takes_signal, limit_of, takes_tick}
-use Rattle.j39_transport.specs.Sending.{SenderRecord, SendEvent, SendState, SendResult, Idle, Waiting, Sending, Done, Failed, Tick, Heard, waits, sends_packet, ticks_in, is_waiting, is_running, may_name, cleared, acknowledged, aborted, hears, send_step, new_sender, timer_t3}
+use Rattle.j39_transport.specs.Sending.{SenderRecord, SendEvent, SendState, SendResult, Idle, Waiting, Sending, Done, Failed, Tick, Heard, waits, sends_packet, ticks_in, is_waiting, is_running, may_name, cleared, acknowledged, aborted, hears, send_step, new_sender}
+use Rattle.j39_transport.specs.Protocol.{timer_t3}
 use Rattle.j39_transport.specs.Session.{SessionRecord, opened, grown}
 use Rattle.j39_transport.specs.ShownSender.{IsState}
 use Rattle.j39_transport.specs.Signals.{Signal, RequestToSend, ClearToSend, Acknowledgment, Abort, Packet, said_between, written}

@@ -6,7 +6,8 @@ use Rattle.j39_transport.specs.Key.{Key, sender}
 use Rattle.j39_transport.specs.Liveness.{SenderWaits, SenderWaitsLaw, ReceiverWaits, ReceiverWaitsLaw}
 use Rattle.j39_transport.specs.Net.{is_busy_with}
 use Rattle.j39_transport.specs.Reception.{ReceptionRecord, Reaction, quiet, answers, granted_at, grants, asks_again, begun, delivers_message, goes_on, takes_packet, is_from, is_taken, takes_request, takes_data, takes_abort, takes_signal, limit_of, takes_tick}
-use Rattle.j39_transport.specs.Sending.{SenderRecord, SendState, SendResult, Idle, Waiting, Sending, Done, Failed, is_waiting, silent, waits, sends_packet, ticks_in, cleared, hears, send_step, timer_t3, timer_t4}
+use Rattle.j39_transport.specs.Sending.{SenderRecord, SendState, SendResult, Idle, Waiting, Sending, Done, Failed, is_waiting, silent, waits, sends_packet, ticks_in, cleared, hears, send_step}
+use Rattle.j39_transport.specs.Protocol.{timer_t3, timer_t4}
 use Rattle.j39_transport.specs.Session.{SessionRecord, opened, grown, touched}
 use Rattle.j39_transport.specs.Signals.{Signal, RequestToSend, ClearToSend, Acknowledgment, Abort, Packet}
 

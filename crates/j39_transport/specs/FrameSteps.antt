@@ -6,6 +6,7 @@ use Rattle.j39_frame.specs.Network.{transport_control_group, transport_data_grou
 use Rattle.j39_transport.specs.Key.{Key, opening}
 use Rattle.j39_transport.specs.Frames.{group_of, source_of, destination_of, size_named, packets_named, pgn_named, names_message}
 use Rattle.j39_transport.specs.Key.Key.{Broadcast, Directed}
+use Rattle.j39_transport.specs.Protocol.{clear_to_send, acknowledgment, connection_abort}
 
 -- what a frame says: an announcement of a group, a size and a number of packets; a packet with its number and data
 pub data TransportFrame : Type 0 where
@@ -37,9 +38,9 @@ packed_by f (Some k) = Packet k (slice_index f.bytes 0) (drop 1 f.bytes)
 
 unfoldable pub control_of : FrameRecord → TransportFrame
 control_of f =
-    if slice_index f.bytes 0 == 17 then ClearToSend (destination_of f.id) (source_of f.id) (pgn_named f)
-    else if slice_index f.bytes 0 == 19 then Acknowledgment (destination_of f.id) (source_of f.id) (pgn_named f)
-    else if slice_index f.bytes 0 == 255 then Abort (destination_of f.id) (source_of f.id) (pgn_named f)
+    if slice_index f.bytes 0 == clear_to_send then ClearToSend (destination_of f.id) (source_of f.id) (pgn_named f)
+    else if slice_index f.bytes 0 == acknowledgment then Acknowledgment (destination_of f.id) (source_of f.id) (pgn_named f)
+    else if slice_index f.bytes 0 == connection_abort then Abort (destination_of f.id) (source_of f.id) (pgn_named f)
     else announced_by f (key_named (source_of f.id) (destination_of f.id))
 
 unfoldable pub transport_frame_of : FrameRecord → TransportFrame

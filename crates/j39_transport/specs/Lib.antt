@@ -1,3 +1,4 @@
+pub mod Protocol
 pub mod Key
 pub mod Frames
 pub mod Events

@@ -5,6 +5,7 @@ use Rattle.j39_frame.specs.Frame.{FrameRecord}
 use Rattle.j39_frame.specs.Network.{transport_control_group, transport_data_group}
 use Rattle.j39_transport.specs.Frames.{goes, size_named, packets_named, pgn_named, names_message}
 use Rattle.j39_transport.specs.Cutting.{ToSend, transport_id, announcement_bytes}
+use Rattle.j39_transport.specs.Protocol.{request_to_send, clear_to_send, acknowledgment, connection_abort, filler}
 
 -- a request to send (RTS), a clear to send (CTS; one of 0 packets holds), an end-of-message acknowledgment, an abort,
 -- and a packet with its data
@@ -20,13 +21,13 @@ pub data Signal : Type 0 where
 -- a TP.CM frame of 8 bytes, by its first byte; an RTS whose size, packets and group don't agree says nothing
 unfoldable pub said_in_control : FrameRecord → Option Signal
 said_in_control f =
-    if slice_index f.bytes 0 == 16
+    if slice_index f.bytes 0 == request_to_send
     then (if names_message f
     then Some (RequestToSend (size_named f) (packets_named f) (slice_index f.bytes 4) (pgn_named f))
     else None)
-    else if slice_index f.bytes 0 == 17 then Some (ClearToSend (slice_index f.bytes 1) (slice_index f.bytes 2) (pgn_named f))
-    else if slice_index f.bytes 0 == 19 then Some (Acknowledgment (size_named f) (packets_named f) (pgn_named f))
-    else if slice_index f.bytes 0 == 255 then Some (Abort (slice_index f.bytes 1) (pgn_named f))
+    else if slice_index f.bytes 0 == clear_to_send then Some (ClearToSend (slice_index f.bytes 1) (slice_index f.bytes 2) (pgn_named f))
+    else if slice_index f.bytes 0 == acknowledgment then Some (Acknowledgment (size_named f) (packets_named f) (pgn_named f))
+    else if slice_index f.bytes 0 == connection_abort then Some (Abort (slice_index f.bytes 1) (pgn_named f))
     else None
 
 -- what f says from s to d; nothing where it doesn't go from s to d, is of another group, or hasn't 8 bytes
@@ -46,10 +47,10 @@ group_with (Abort reason pgn) = transport_control_group
 group_with (Packet number joined) = transport_data_group
 
 abbrev pub bytes_with : Signal → List ℕ
-bytes_with (RequestToSend size packets most pgn) = announcement_bytes 16 size packets most pgn
-bytes_with (ClearToSend count next pgn) = 17 ∷ count ∷ next ∷ 0xFF ∷ 0xFF ∷ little_bytes 3 pgn
-bytes_with (Acknowledgment size packets pgn) = announcement_bytes 19 size packets 0xFF pgn
-bytes_with (Abort reason pgn) = 255 ∷ reason ∷ 0xFF ∷ 0xFF ∷ 0xFF ∷ little_bytes 3 pgn
+bytes_with (RequestToSend size packets most pgn) = announcement_bytes request_to_send size packets most pgn
+bytes_with (ClearToSend count next pgn) = clear_to_send ∷ count ∷ next ∷ filler ∷ filler ∷ little_bytes 3 pgn
+bytes_with (Acknowledgment size packets pgn) = announcement_bytes acknowledgment size packets filler pgn
+bytes_with (Abort reason pgn) = connection_abort ∷ reason ∷ filler ∷ filler ∷ filler ∷ little_bytes 3 pgn
 bytes_with (Packet number joined) = number ∷ joined
 
 -- the frame that says it from s to d

@@ -5,6 +5,7 @@ use Rattle.j39_transport.specs.Key.Key.{Broadcast, Directed}
 use Rattle.j39_transport.specs.FrameSteps.{TransportFrame, Announcement, Packet, ClearToSend, Acknowledgment, Abort, Other}
 use Rattle.j39_transport.specs.Answers.{Outcome, Whole, Taken, Ignored}
 use Rattle.j39_transport.specs.Session.{SessionRecord, opened, touched, grown}
+use Rattle.j39_transport.specs.Protocol.{broadcast_limit, directed_limit}
 use Rattle.j39_transport.specs.Places.{Places, at, find, pushed, forgotten, open_in, bytes_in}
 
 -- broadcasts by source, and directed messages by age
@@ -56,7 +57,7 @@ told source limit number joined stamp (Some s) = answer_by source stamp (moves l
 unfoldable pub granted : ℕ → ℕ → Option SessionRecord → Option SessionRecord
 granted group stamp None = None
 granted group stamp (Some s) =
-    if s.group == group then (if nat_lt (s.last + 1250000) stamp then None else Some (touched stamp s)) else Some s
+    if s.group == group then (if nat_lt (s.last + directed_limit) stamp then None else Some (touched stamp s)) else Some s
 
 unfoldable pub closed : ℕ → Option SessionRecord → Option SessionRecord
 closed group None = None
@@ -91,13 +92,13 @@ announced a (Directed s d) x = record a { directed = with_announced s d x a.dire
 -- the state after a packet, and the answer
 abbrev pub after_packet : SessionsRecord → ℕ → Key → ℕ → List ℕ → SessionsRecord
 after_packet a stamp (Broadcast s) number joined =
-    record a { broadcasts = slice_set a.broadcasts s (packed 750000 number joined stamp (at a.broadcasts s)) }
+    record a { broadcasts = slice_set a.broadcasts s (packed broadcast_limit number joined stamp (at a.broadcasts s)) }
 after_packet a stamp (Directed s d) number joined =
-    record a { directed = with_place (find s d a.directed) (packed 1250000 number joined stamp) a.directed }
+    record a { directed = with_place (find s d a.directed) (packed directed_limit number joined stamp) a.directed }
 
 abbrev pub answer_to_packet : SessionsRecord → ℕ → ℕ → Key → ℕ → List ℕ → Outcome
-answer_to_packet a source stamp (Broadcast s) number joined = told source 750000 number joined stamp (at a.broadcasts s)
-answer_to_packet a source stamp (Directed s d) number joined = told_at (find s d a.directed) (told source 1250000 number joined stamp) a.directed
+answer_to_packet a source stamp (Broadcast s) number joined = told source broadcast_limit number joined stamp (at a.broadcasts s)
+answer_to_packet a source stamp (Directed s d) number joined = told_at (find s d a.directed) (told source directed_limit number joined stamp) a.directed
 
 -- the state after a frame that says this, and the answer
 unfoldable pub state_after : SessionsRecord → ℕ → TransportFrame → SessionsRecord

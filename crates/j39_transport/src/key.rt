@@ -5,6 +5,7 @@ ghost use Rattle.j39_transport.specs.Key as keys;
 ghost use Rattle.j39_transport.specs.FrameSteps.{key_named};
 ghost use Rattle.j39_transport.specs.ShownSession.{key_in, IsKey};
 
+use crate::protocol::{BROADCAST_ANNOUNCE, REQUEST_TO_SEND};
 use j39_frame::{GLOBAL_ADDRESS, is_address};
 
 /// What a message goes under: its source, or its source and its destination.
@@ -57,8 +58,8 @@ impl Key {
         ensures { result ≡ keys.opening (key_in self) }
     {
         match self {
-            Key::Broadcast(_) => 32,
-            Key::Directed(_, _) => 16,
+            Key::Broadcast(_) => BROADCAST_ANNOUNCE,
+            Key::Directed(_, _) => REQUEST_TO_SEND,
         }
     }
 }

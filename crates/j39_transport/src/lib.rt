@@ -12,6 +12,7 @@ pub mod laws;
 mod message;
 mod packet;
 mod progress;
+mod protocol;
 mod reading;
 mod receiver;
 mod receiving;

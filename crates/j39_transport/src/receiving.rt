@@ -9,6 +9,7 @@ ghost use Rattle.j39_transport.specs.ShownSignal.{said, HasKey};
 
 use crate::announcement::Announcement;
 use crate::key::Key;
+use crate::protocol::{BUSY, NO_RESOURCES};
 use crate::reception::{Reception, Step};
 use crate::signal::Signal;
 use j39_frame::Stamp;
@@ -16,12 +17,6 @@ use std::alloc::{AllocError, Global};
 
 /// The session of a receiver with its buffer, or none.
 pub(crate) type Slot = Option<Box<Reception>>;
-
-/// The reason of an abort where another source's session is open (J1939-21, 5.10.3.4).
-const BUSY: u8 = 1;
-
-/// The reason of an abort where there is no memory (J1939-21, 5.10.3.4).
-const NO_RESOURCES: u8 = 2;
 
 /// What an event did.
 #[derive(Clone, Copy)]

@@ -11,6 +11,7 @@ ghost use Rattle.j39_transport.specs.ShownSignal.{said, HasKey};
 
 use crate::announcement::Announcement;
 use crate::key::Key;
+use crate::protocol::{ACKNOWLEDGMENT, CLEAR_TO_SEND, CONNECTION_ABORT, FILLER, REQUEST_TO_SEND};
 use crate::reading::{group_in, size_in};
 use crate::writing;
 use j39_frame::{Frame, Id};
@@ -87,13 +88,13 @@ fn read_control(frame: &Frame, key: Key) -> Option<Signal>
     let bytes = frame.bytes.as_slice();
     let group = group_in(bytes);
     match bytes[0] {
-        16 => {
+        REQUEST_TO_SEND => {
             let announcement = Announcement::new(key, group, size_in(bytes), bytes[3])?;
             Some(Signal::RequestToSend(announcement, bytes[4]))
         }
-        17 => Some(Signal::ClearToSend(bytes[1], bytes[2], group)),
-        19 => Some(Signal::Acknowledgment(size_in(bytes), bytes[3], group)),
-        255 => Some(Signal::Abort(bytes[1], group)),
+        CLEAR_TO_SEND => Some(Signal::ClearToSend(bytes[1], bytes[2], group)),
+        ACKNOWLEDGMENT => Some(Signal::Acknowledgment(size_in(bytes), bytes[3], group)),
+        CONNECTION_ABORT => Some(Signal::Abort(bytes[1], group)),
         _ => None,
     }
 }
@@ -115,11 +116,11 @@ fn bytes_with(signal: Signal) -> [u8; 8]
 {
     match signal {
         Signal::RequestToSend(a, most) => {
-            writing::announcement_bytes(16, a.size, a.packets, most, a.group.raw())
+            writing::announcement_bytes(REQUEST_TO_SEND, a.size, a.packets, most, a.group.raw())
         }
         Signal::ClearToSend(count, next, pgn) => writing::clear_to_send_bytes(count, next, pgn),
         Signal::Acknowledgment(size, packets, pgn) => {
-            writing::announcement_bytes(19, size, packets, 0xFF, pgn)
+            writing::announcement_bytes(ACKNOWLEDGMENT, size, packets, FILLER, pgn)
         }
         Signal::Abort(reason, pgn) => writing::abort_bytes(reason, pgn),
         Signal::Packet(number, joined) => writing::packet_bytes(number, joined),

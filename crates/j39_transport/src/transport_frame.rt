@@ -7,6 +7,7 @@ ghost use Rattle.j39_transport.specs.ShownFrame.{shown_frame, HasAddresses};
 
 use crate::announcement::Announcement;
 use crate::key::Key;
+use crate::protocol::{ACKNOWLEDGMENT, CLEAR_TO_SEND, CONNECTION_ABORT};
 use crate::reading::{group_in, size_in};
 use j39_frame::Frame;
 
@@ -76,9 +77,9 @@ fn read_control(frame: &Frame) -> TransportFrame<'_>
 {
     let bytes = frame.bytes.as_slice();
     match bytes[0] {
-        17 => TransportFrame::ClearToSend(destination(frame), source(frame), group_in(bytes)),
-        19 => TransportFrame::Acknowledgment(destination(frame), source(frame), group_in(bytes)),
-        255 => TransportFrame::Abort(destination(frame), source(frame), group_in(bytes)),
+        CLEAR_TO_SEND => TransportFrame::ClearToSend(destination(frame), source(frame), group_in(bytes)),
+        ACKNOWLEDGMENT => TransportFrame::Acknowledgment(destination(frame), source(frame), group_in(bytes)),
+        CONNECTION_ABORT => TransportFrame::Abort(destination(frame), source(frame), group_in(bytes)),
         _ => read_announcement(frame),
     }
 }
