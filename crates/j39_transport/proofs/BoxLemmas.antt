@@ -5,7 +5,7 @@ use Rattle.std.proofs.lemmas.List.{get_or-set_same, get_or-set_other, get_or-tak
 use Rattle.j39_frame.specs.Frame.{FrameRecord}
 use Rattle.j39_transport.specs.Answers.{Outcome, Whole, Taken, Ignored, AnswersAt, WholeBy}
 use Rattle.j39_transport.specs.Boxes.{HasOpen, NeedsBox, HasSpare, freed, kept, WantsMemory}
-use Rattle.j39_transport.specs.EventSteps.{Session, Entry}
+use Rattle.j39_transport.specs.EventSteps.{pair_of}
 use Rattle.j39_transport.specs.Events.{Event, at as event_at}
 use Rattle.j39_transport.specs.Events.Event.{Frame, Forget}
 use Rattle.j39_transport.specs.Frames.{source_of, is_announcement}
@@ -15,15 +15,17 @@ use Rattle.j39_transport.specs.Key.Key.{Broadcast, Directed}
 use Rattle.j39_transport.specs.Message.{MessageRecord}
 use Rattle.j39_transport.specs.Places.{Places, at, is_of, find, find_from}
 use Rattle.j39_transport.specs.Session.{SessionRecord, opened}
-use Rattle.j39_transport.specs.Stands.{IsSession, StandsFor, AreKept, Stands, aged, broadcast_in, entry_in, full}
+use Rattle.j39_transport.specs.Stands.{IsSession, StandsFor, AreKept, Stands}
 use Rattle.j39_transport.specs.Steps.{AssemblerRecord, SessionsRecord, Moved, Ends, Grows, Stays, Late, announced, answer, answer_by, answer_to_packet, fed, forgot, is_whole, LacksBox, moves, new_assembler, place_for, room, spare_after, spare_left, state_after, told, told_at}
-use Rattle.j39_transport.proofs.AllKeys.{announced_key}
+use Rattle.j39_transport.specs.Protocol.{broadcast_limit, directed_limit}
+use Rattle.j39_transport.proofs.AllKeys.{announced_key, table_new}
 use Rattle.j39_transport.proofs.AnswerLemmas.{answers_at}
-use Rattle.j39_transport.proofs.Bridge.{ev_announces, pair_is}
-use Rattle.j39_transport.proofs.PlaceLemmas.{Found, aged_at, found}
+use Rattle.j39_transport.proofs.Bridge.{ev_announces}
+use Rattle.j39_transport.proofs.PlaceLemmas.{Found, found}
 use Rattle.j39_transport.proofs.ReadLemmas.{Facts, read_is}
-use Rattle.j39_transport.proofs.StepLemmas.{broadcast_at, kept_after, kept_forgotten, kept_new}
+use Rattle.j39_transport.proofs.StepLemmas.{kept_after, kept_forgotten}
 use Rattle.j39_transport.proofs.TableLemmas.{set_same}
+use Rattle.j39_transport.proofs.Tables.{is_pair, pair_is, same_pair}
 
 -- ---- the keys that have a message open, and their places
 
@@ -37,53 +39,34 @@ same_frame f g e = cc (e)
 no_frame : (t : ℕ) (f : FrameRecord) → Forget t ≡ Frame f → ⊥
 no_frame t f e = cc (e)
 
-length-aged : (i : ℕ) (t : Places) → length (aged i t) ≡ length t
-unfolding aged
-length-aged i [] = refl
-length-aged i (p ∷ t) = ap suc (length-aged (suc i) t)
-
 some_not_none : {A : Type 0} (x : A) → ◌≡◌ {A = Option A} (Some x) None → ⊥
 some_not_none x e = cc (e)
 
-has_open : (E : List Event) (k : Key) (x : Session) → IsSession E k x → HasOpen E k
-has_open E k x h = (x.count, (x.group_due, h.start, h.places, h.open_by, sym h.count_is))
+has_open : (E : List Event) (k : Key) (x : SessionRecord) → IsSession E k x → HasOpen E k
+has_open E k x h = (x.count, (x.group, h.start, h.places, h.open_by, sym h.count_is))
 
 module _ (E : List Event) (a : SessionsRecord) (h : AreKept E a) where
   keeps : (k : Key) → HasOpen E k → Keeps a k
   keeps (Broadcast s) o =
       let l : s < 254 = ltb-true _ _ (announced_key (Broadcast s) (event_at E o.1.1) o.1.3.announced) in
-      go l (at a.broadcasts s) refl (subst (λ (q : Option Session). StandsFor E (Broadcast s) q) (broadcast_at a.broadcasts s) (h.is.broadcasts.each s l))
+      go l (at a.broadcasts s) refl (h.broadcasts.each s l)
     where
-      go : s < 254 → (q : Option SessionRecord) → at a.broadcasts s ≡ q → StandsFor E (Broadcast s) (broadcast_in (at a.broadcasts s)) → Keeps a (Broadcast s)
-      go l None e w = absurd ((subst (λ (p : Option SessionRecord). StandsFor E (Broadcast s) (broadcast_in p)) e w) o.1.0 o.1.1 o.1.2 o.1.3)
+      go : s < 254 → (q : Option SessionRecord) → at a.broadcasts s ≡ q → StandsFor E (Broadcast s) (at a.broadcasts s) → Keeps a (Broadcast s)
+      go l None e w = absurd ((subst (λ (p : Option SessionRecord). StandsFor E (Broadcast s) p) e w) o.1.0 o.1.1 o.1.2 o.1.3)
       go l (Some x) e w = (l, x, e)
   keeps (Directed s d) o =
-      let k = h.is.directed.all s d o.1.0 o.1.1 o.1.2 o.1.3 in
-      go k.0 k.1 (at a.directed k.0) refl (sym (aged_at 0 a.directed k.0) ∙ k.2)
-    where
-      go : (i : ℕ) (z : Session) (q : Option SessionRecord) → at a.directed i ≡ q → entry_in (0 + i) (at a.directed i) ≡ Some (record { from = s; to = d; session = z }) → Keeps a (Directed s d)
-      go i z None e w = absurd (some_not_none _ (sym w ∙ ap (entry_in (0 + i)) e))
-      go i z (Some x) e w =
-          let n : ◌≡◌ {A = Option Entry} (Some (record { from = x.source; to = x.destination; session = full (0 + i) x })) (Some (record { from = s; to = d; session = z })) = ap (entry_in (0 + i)) (sym e) ∙ w in
-          let m : record { from = x.source; to = x.destination; session = full (0 + i) x } ≡ record { from = s; to = d; session = z } = cc (n) in
-          (i, x, e, and_from _ _ (eq-eqb _ _ (ap (λ (y : Entry). y.from) m)) (eq-eqb _ _ (ap (λ (y : Entry). y.to) m)))
+      let k = h.directed.all s d o.1.0 o.1.1 o.1.2 o.1.3 in
+      (k.0, k.1, k.2, is_pair s d k.1 k.3 k.4)
 
   is_kept : (k : Key) → Keeps a k → HasOpen E k
-  is_kept (Broadcast s) w =
-      has_open E (Broadcast s) (full 0 w.1)
-      (subst (λ (q : Option Session). StandsFor E (Broadcast s) q) (broadcast_at a.broadcasts s ∙ ap broadcast_in w.2) (h.is.broadcasts.each s w.0))
-  is_kept (Directed s d) w =
-      let p = pair_is s d w.1 w.3 in
-      let y : Entry = record { from = w.1.source; to = w.1.destination; session = full (0 + w.0) w.1 } in
-      let e : get_or (aged 0 a.directed) w.0 None ≡ Some y = aged_at 0 a.directed w.0 ∙ ap (entry_in (0 + w.0)) w.2 in
-      let z : HasOpen E (Directed w.1.source w.1.destination) = has_open E (Directed w.1.source w.1.destination) (full (0 + w.0) w.1) (h.is.directed.each w.0 y e).0 in
-      subst (λ (n : ℕ). HasOpen E (Directed n d)) p.0 (subst (λ (n : ℕ). HasOpen E (Directed w.1.source n)) p.1 z)
+  is_kept (Broadcast s) w = has_open E (Broadcast s) w.1 (subst (λ (q : Option SessionRecord). StandsFor E (Broadcast s) q) w.2 (h.broadcasts.each s w.0))
+  is_kept (Directed s d) w = subst (λ (k : Key). HasOpen E k) (same_pair s d w.1 (pair_is s d w.1 w.3)) (has_open E (pair_of w.1) w.1 (h.directed.each w.0 w.1 w.2).session)
 
   broadcasts_size : length a.broadcasts ≡ 254
-  broadcasts_size = sym (length-map a.broadcasts broadcast_in) ∙ h.is.broadcasts.size_is
+  broadcasts_size = h.broadcasts.size_is
 
   directed_size : length a.directed ≡ 16
-  directed_size = sym (length-aged 0 a.directed) ∙ h.is.directed.size_is
+  directed_size = h.directed.size_is
 
 -- ---- an announcement whose place is empty
 
@@ -199,12 +182,12 @@ whole_told s t limit number stamp joined None = refl
 whole_told s t limit number stamp joined (Some x) = whole_by s t stamp (moves limit number joined stamp x)
 
 whole_packet : (a : SessionsRecord) (s t stamp : ℕ) (k : Key) (number : ℕ) (joined : List ℕ) → is_whole (answer_to_packet a s stamp k number joined) ≡ is_whole (answer_to_packet a t stamp k number joined)
-whole_packet a s t stamp (Broadcast n) number joined = whole_told s t 750000 number stamp joined (at a.broadcasts n)
+whole_packet a s t stamp (Broadcast n) number joined = whole_told s t broadcast_limit number stamp joined (at a.broadcasts n)
 whole_packet a s t stamp (Directed n d) number joined = go (find n d a.directed)
   where
-    go : (o : Option ℕ) → is_whole (told_at o (told s 1250000 number joined stamp) a.directed) ≡ is_whole (told_at o (told t 1250000 number joined stamp) a.directed)
+    go : (o : Option ℕ) → is_whole (told_at o (told s directed_limit number joined stamp) a.directed) ≡ is_whole (told_at o (told t directed_limit number joined stamp) a.directed)
     go None = refl
-    go (Some i) = whole_told s t 1250000 number stamp joined (at a.directed i)
+    go (Some i) = whole_told s t directed_limit number stamp joined (at a.directed i)
 
 whole_answered : (E : List Event) (f : FrameRecord) (m : MessageRecord) (o : Outcome) → AnswersAt E f o → WholeBy E f m → is_whole o ≡ true
 whole_answered E f m (Whole s g b t) h w = refl
@@ -260,4 +243,4 @@ none_yet _ (freed A f m w) e = omega (arith, ap length e, length-append A (Frame
 none_yet _ (kept A a s n) e = omega (arith, ap length e, length-append A (a ∷ []))
 
 pub stands_new : Stands [] new_assembler
-stands_new = record { kept = kept_new; spare = λ s. absurd (none_yet [] s refl) }
+stands_new = record { kept = table_new; spare = λ s. absurd (none_yet [] s refl) }

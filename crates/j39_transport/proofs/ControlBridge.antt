@@ -3,20 +3,21 @@ use Rattle.std.proofs.Common.{◌≡◌, ◌≢◌, ℕ, Bool, true, false, if�
 use Rattle.std.proofs.lemmas.Bool.{cases_Bool, cond-true, cond-false, and_parts, and_from, and_right, or_left, or_right, or_cases, both_ways, false_from_ne_true, eqb-false}
 use Rattle.j39_frame.specs.Frame.{FrameRecord}
 use Rattle.j39_transport.specs.Key.{Key, opening}
-use Rattle.j39_transport.specs.Frames.{goes, group_of, source_of, destination_of, pgn_named, is_control, is_clear_to_send, is_end, is_rival}
+use Rattle.j39_transport.specs.Frames.{goes, group_of, pgn_named, is_control, is_clear_to_send, is_end}
 use Rattle.j39_transport.specs.Key.Key.{Broadcast, Directed}
-use Rattle.j39_transport.specs.Events.{Event, announces, sends, grants, ends, rivals, stamp}
+use Rattle.j39_transport.specs.Events.{Event, announces, sends, grants, ends, stamp}
 use Rattle.j39_transport.specs.Events.Event.{Frame}
-use Rattle.j39_transport.specs.EventSteps.{moved_place}
+use Rattle.j39_transport.specs.EventSteps.{pair_of, moved_place}
+use Rattle.j39_transport.specs.Protocol.{clear_to_send, acknowledgment, connection_abort}
 use Rattle.j39_transport.specs.Session.{SessionRecord}
 use Rattle.j39_transport.specs.Places.{is_of}
 use Rattle.j39_transport.specs.Steps.{granted, closed}
-use Rattle.j39_transport.specs.Stands.{full, entry_in}
-use Rattle.j39_transport.proofs.FrameFacts.{announcement_facts, packet_facts, closing_facts, allowing_facts, pressing_facts, goes_parts}
+use Rattle.j39_transport.proofs.FrameFacts.{announcement_facts, packet_facts, closing_facts, allowing_facts, goes_parts}
 use Rattle.j39_transport.proofs.ReadLemmas.{IsNoFrame, IsControl}
-use Rattle.j39_transport.proofs.MoveLemmas.{moved_end, moved_grant, granted_is}
+use Rattle.j39_transport.proofs.MoveLemmas.{moved_end, moved_grant}
 use Rattle.j39_transport.proofs.PlaceLemmas.{on_pair}
-use Rattle.j39_transport.proofs.Bridge.{ev_announces, ev_sends, ev_grants, ev_ends, ev_rivals, same_granted, key_in, place_moves, quiet_moves, is_pair, pair_is}
+use Rattle.j39_transport.proofs.Bridge.{ev_announces, ev_sends, ev_grants, ev_ends, place_moves, quiet_moves}
+use Rattle.j39_transport.proofs.Tables.{is_pair, pair_is}
 
 -- ---- a control frame
 
@@ -34,13 +35,10 @@ module _ (b s d g : ℕ) (f : FrameRecord) (c : IsControl b s d g f) where
       go (Broadcast s) e = c.no_bam (sym c.first ∙ e)
       go (Directed s d) e = c.no_rts (sym c.first ∙ e)
 
-  no_pressing : (k : Key) → rivals k (Frame f) ≡ false
-  no_pressing k = ev_rivals k f ∙ false_from_ne_true _ (λ t. c.no_rts (sym c.first ∙ (pressing_facts k f t).1))
-
-  no_leave : b ≢ 17 → (k : Key) (g : ℕ) → grants k g (Frame f) ≡ false
+  no_leave : b ≢ clear_to_send → (k : Key) (g : ℕ) → grants k g (Frame f) ≡ false
   no_leave n k g = ev_grants k g f ∙ false_from_ne_true _ (λ t. n (sym c.first ∙ (allowing_facts k g f t).1))
 
-  no_close : b ≢ 19 → b ≢ 255 → (k : Key) (g : ℕ) → ends k g (Frame f) ≡ false
+  no_close : b ≢ acknowledgment → b ≢ connection_abort → (k : Key) (g : ℕ) → ends k g (Frame f) ≡ false
   no_close n m k g = ev_ends k g f ∙ false_from_ne_true _ (λ t. elim (closing_facts k g f t).1 [ inl e ↦ n (sym c.first ∙ e) | inr e ↦ m (sym c.first ∙ e) ])
 
   -- an answer to a pair and a group, exactly where they are those of the frame
@@ -58,48 +56,41 @@ module _ (b s d g : ℕ) (f : FrameRecord) (c : IsControl b s d g f) where
       let y = goes_parts 60416 d s f c.goes_back in
       (sym (eqb-true _ _ q.1) ∙ c.first, sym x.2 ∙ y.2, sym x.1 ∙ y.1, sym (eqb-true _ _ p.1) ∙ sym c.group_is)
 
-pub grants_place : (s d g : ℕ) (f : FrameRecord) → IsControl 17 s d g f → (i : ℕ) (p : Option SessionRecord) → moved_place (Frame f) (entry_in i p) ≡ entry_in i (on_pair s d (granted g f.stamp) p)
+pub grants_place : (s d g : ℕ) (f : FrameRecord) → IsControl clear_to_send s d g f → (p : Option SessionRecord) → moved_place (Frame f) p ≡ on_pair s d (granted g f.stamp) p
 unfolding stamp granted is_clear_to_send
-grants_place s d g f c i None = refl
-grants_place s d g f c i (Some x) =
-    let a : announces (key_in x) (Frame f) ≡ false = no_opening 17 s d g f c (key_in x) in
-    let k : sends (key_in x) (Frame f) ≡ false = no_pack 17 s d g f c (key_in x) in
-    let n : ends (key_in x) x.group (Frame f) ≡ false = no_close 17 s d g f c (λ e. let o : ⊥ = omega arith in o) (λ e. let o : ⊥ = omega arith in o) (key_in x) x.group in
-    let r : rivals (key_in x) (Frame f) ≡ false = no_pressing 17 s d g f c (key_in x) in
+grants_place s d g f c None = refl
+grants_place s d g f c (Some x) =
+    let a : announces (pair_of x) (Frame f) ≡ false = no_opening clear_to_send s d g f c (pair_of x) in
+    let k : sends (pair_of x) (Frame f) ≡ false = no_pack clear_to_send s d g f c (pair_of x) in
+    let n : ends (pair_of x) x.group (Frame f) ≡ false = no_close clear_to_send s d g f c (λ e. let o : ⊥ = omega arith in o) (λ e. let o : ⊥ = omega arith in o) (pair_of x) x.group in
+    let quiet : grants (pair_of x) x.group (Frame f) ≡ false → moved_place (Frame f) (Some x) ≡ Some x = λ t. quiet_moves (Frame f) x (record { no_announcement = a; no_packet = k; no_grant = t; no_end = n }) in
     elim (cases_Bool (is_of s d (Some x))) [
       | inl y ↦ elim (cases_Bool (x.group == g)) [
         | inl z ↦
             (let w = pair_is s d x y in
-            let t : grants (key_in x) x.group (Frame f) ≡ true = ev_grants (key_in x) x.group f ∙ answer_from 17 s d g f c x.source x.destination x.group w.0 w.1 (eqb-true _ _ z) in
-            place_moves (Frame f) i x (granted g f.stamp (Some x)) a
-            (moved_grant (key_in x) (Frame f) (full i x) a k t n r ∙ sym (granted_is i g f.stamp x ∙ cond-true (x.group == g) _ (Some (full i x)) z))
-            (same_granted x g f.stamp)
-            ∙ ap (entry_in i) (sym (cond-true (is_of s d (Some x)) _ (Some x) y)))
+            let t : grants (pair_of x) x.group (Frame f) ≡ true = ev_grants (pair_of x) x.group f ∙ answer_from clear_to_send s d g f c x.source x.destination x.group w.0 w.1 (eqb-true _ _ z) in
+            place_moves (Frame f) x (granted g f.stamp (Some x)) a (moved_grant (pair_of x) (Frame f) x a k t n ∙ sym (cond-true (x.group == g) _ (Some x) z))
+            ∙ sym (cond-true (is_of s d (Some x)) _ (Some x) y))
         | inr z ↦
-            (let t : grants (key_in x) x.group (Frame f) ≡ false = ev_grants (key_in x) x.group f ∙ false_from_ne_true _ (λ q. eqb-false _ _ z (answer_to 17 s d g f c 17 x.source x.destination x.group q).3) in
-            quiet_moves (Frame f) i x (record { no_announcement = a; no_packet = k; no_grant = t; no_end = n; no_rival = r })
-            ∙ ap (entry_in i) (sym (cond-true (is_of s d (Some x)) _ (Some x) y ∙ cond-false (x.group == g) _ (Some x) z)))
+            (quiet (ev_grants (pair_of x) x.group f ∙ false_from_ne_true _ (λ q. eqb-false _ _ z (answer_to clear_to_send s d g f c clear_to_send x.source x.destination x.group q).3))
+            ∙ sym (cond-true (is_of s d (Some x)) _ (Some x) y ∙ cond-false (x.group == g) _ (Some x) z))
       ]
       | inr y ↦
-          (let t : grants (key_in x) x.group (Frame f) ≡ false = ev_grants (key_in x) x.group f ∙ false_from_ne_true _ (λ q. (let w = answer_to 17 s d g f c 17 x.source x.destination x.group q in both_ways _ y (is_pair s d x w.1 w.2))) in
-          quiet_moves (Frame f) i x (record { no_announcement = a; no_packet = k; no_grant = t; no_end = n; no_rival = r })
-          ∙ ap (entry_in i) (sym (cond-false (is_of s d (Some x)) _ (Some x) y)))
+          (quiet (ev_grants (pair_of x) x.group f ∙ false_from_ne_true _ (λ q. (let w = answer_to clear_to_send s d g f c clear_to_send x.source x.destination x.group q in both_ways _ y (is_pair s d x w.1 w.2))))
+          ∙ sym (cond-false (is_of s d (Some x)) _ (Some x) y))
     ]
 
--- a session that a frame ends, or not
-ended_moves : (e : Event) (i : ℕ) (x : SessionRecord) → announces (key_in x) e ≡ false → ends (key_in x) x.group e ≡ true → moved_place e (entry_in i (Some x)) ≡ entry_in i None
-ended_moves e i x a t = place_moves e i x None a (moved_end (key_in x) e (full i x) a t) tt
-
 -- what ends is exactly what is closed
-module _ (b s d g : ℕ) (f : FrameRecord) (c : IsControl b s d g f) (n17 : b ≢ 17) where
-  closing_moves : (i : ℕ) (x : SessionRecord) (h : Bool) → is_end (key_in x) x.group f ≡ h → moved_place (Frame f) (entry_in i (Some x)) ≡ entry_in i (if h then None else Some x)
-  closing_moves i x true h = ended_moves (Frame f) i x (no_opening b s d g f c (key_in x)) (ev_ends (key_in x) x.group f ∙ h)
-  closing_moves i x false h = quiet_moves (Frame f) i x (record {
-    no_announcement = no_opening b s d g f c (key_in x);
-    no_packet = no_pack b s d g f c (key_in x);
-    no_grant = no_leave b s d g f c n17 (key_in x) x.group;
-    no_end = ev_ends (key_in x) x.group f ∙ h;
-    no_rival = no_pressing b s d g f c (key_in x);
+module _ (b s d g : ℕ) (f : FrameRecord) (c : IsControl b s d g f) (no_grant : b ≢ clear_to_send) where
+  closing_moves : (x : SessionRecord) (h : Bool) → is_end (pair_of x) x.group f ≡ h → moved_place (Frame f) (Some x) ≡ (if h then None else Some x)
+  closing_moves x true h =
+      let a : announces (pair_of x) (Frame f) ≡ false = no_opening b s d g f c (pair_of x) in
+      place_moves (Frame f) x None a (moved_end (pair_of x) (Frame f) x a (ev_ends (pair_of x) x.group f ∙ h))
+  closing_moves x false h = quiet_moves (Frame f) x (record {
+    no_announcement = no_opening b s d g f c (pair_of x);
+    no_packet = no_pack b s d g f c (pair_of x);
+    no_grant = no_leave b s d g f c no_grant (pair_of x) x.group;
+    no_end = ev_ends (pair_of x) x.group f ∙ h;
   })
 
 close_pair : (s d g : ℕ) (x : SessionRecord) → on_pair s d (closed g) (Some x) ≡ (if is_of s d (Some x) && x.group == g then None else Some x)
@@ -110,25 +101,25 @@ close_pair s d g x = go (is_of s d (Some x)) (x.group == g)
     go true b = refl
     go false b = refl
 
-pub finishes_place : (s d g : ℕ) (f : FrameRecord) → IsControl 19 s d g f → (i : ℕ) (p : Option SessionRecord) → moved_place (Frame f) (entry_in i p) ≡ entry_in i (on_pair s d (closed g) p)
+pub finishes_place : (s d g : ℕ) (f : FrameRecord) → IsControl acknowledgment s d g f → (p : Option SessionRecord) → moved_place (Frame f) p ≡ on_pair s d (closed g) p
 unfolding is_end
-finishes_place s d g f c i None = refl
-finishes_place s d g f c i (Some x) =
-    closing_moves 19 s d g f c (λ e. let o : ⊥ = omega arith in o) i x (is_of s d (Some x) && x.group == g) is
-    ∙ ap (entry_in i) (sym (close_pair s d g x))
+finishes_place s d g f c None = refl
+finishes_place s d g f c (Some x) =
+    closing_moves acknowledgment s d g f c (λ e. let o : ⊥ = omega arith in o) x (is_of s d (Some x) && x.group == g) is
+    ∙ sym (close_pair s d g x)
   where
-    is : is_end (key_in x) x.group f ≡ (is_of s d (Some x) && x.group == g)
+    is : is_end (pair_of x) x.group f ≡ (is_of s d (Some x) && x.group == g)
     is = elim (cases_Bool (is_of s d (Some x) && x.group == g)) [
       | inl y ↦
           (let p = and_parts (is_of s d (Some x)) (x.group == g) y in
           let w = pair_is s d x p.0 in
-          or_left _ _ (or_left _ _ (answer_from 19 s d g f c x.source x.destination x.group w.0 w.1 (eqb-true _ _ p.1))) ∙ sym y)
-      | inr y ↦ false_from_ne_true _ (λ q. elim (or_cases (is_control 19 x.destination x.source x.group f || is_control 255 x.destination x.source x.group f) (is_control 255 x.source x.destination x.group f) q) [
-        | inl u ↦ elim (or_cases (is_control 19 x.destination x.source x.group f) (is_control 255 x.destination x.source x.group f) u) [
-          | inl v ↦ (let w = answer_to 19 s d g f c 19 x.source x.destination x.group v in both_ways _ y (and_from _ _ (is_pair s d x w.1 w.2) (eq-eqb _ _ w.3)))
-          | inr v ↦ (let w : 255 ≡ 19 = (answer_to 19 s d g f c 255 x.source x.destination x.group v).0 in let o : ⊥ = omega arith in o)
+          or_left _ _ (or_left _ _ (answer_from acknowledgment s d g f c x.source x.destination x.group w.0 w.1 (eqb-true _ _ p.1))) ∙ sym y)
+      | inr y ↦ false_from_ne_true _ (λ q. elim (or_cases (is_control acknowledgment x.destination x.source x.group f || is_control connection_abort x.destination x.source x.group f) (is_control connection_abort x.source x.destination x.group f) q) [
+        | inl u ↦ elim (or_cases (is_control acknowledgment x.destination x.source x.group f) (is_control connection_abort x.destination x.source x.group f) u) [
+          | inl v ↦ (let w = answer_to acknowledgment s d g f c acknowledgment x.source x.destination x.group v in both_ways _ y (and_from _ _ (is_pair s d x w.1 w.2) (eq-eqb _ _ w.3)))
+          | inr v ↦ (let w : 255 ≡ 19 = (answer_to acknowledgment s d g f c connection_abort x.source x.destination x.group v).0 in let o : ⊥ = omega arith in o)
         ]
-        | inr u ↦ (let w : 255 ≡ 19 = (answer_to 19 s d g f c 255 x.destination x.source x.group u).0 in let o : ⊥ = omega arith in o)
+        | inr u ↦ (let w : 255 ≡ 19 = (answer_to acknowledgment s d g f c connection_abort x.destination x.source x.group u).0 in let o : ⊥ = omega arith in o)
       ]) ∙ sym y
     ]
 
@@ -148,37 +139,35 @@ close_both s d g x = go (is_of s d (Some x)) (x.group == g) refl
     go true false e = same false e refl
     go false c e = other (is_of d s (Some x)) (x.group == g) ∙ ap (λ q. if is_of d s (Some x) && q then None else Some x) e
 
-pub aborts_place : (s d g : ℕ) (f : FrameRecord) → IsControl 255 s d g f → (i : ℕ) (p : Option SessionRecord) → moved_place (Frame f) (entry_in i p) ≡ entry_in i (on_pair d s (closed g) (on_pair s d (closed g) p))
+pub aborts_place : (s d g : ℕ) (f : FrameRecord) → IsControl connection_abort s d g f → (p : Option SessionRecord) → moved_place (Frame f) p ≡ on_pair d s (closed g) (on_pair s d (closed g) p)
 unfolding is_end
-aborts_place s d g f c i None = refl
-aborts_place s d g f c i (Some x) =
-    closing_moves 255 s d g f c (λ e. let o : ⊥ = omega arith in o) i x ((is_of s d (Some x) || is_of d s (Some x)) && x.group == g) is
-    ∙ ap (entry_in i) (sym (close_both s d g x))
+aborts_place s d g f c None = refl
+aborts_place s d g f c (Some x) =
+    closing_moves connection_abort s d g f c (λ e. let o : ⊥ = omega arith in o) x ((is_of s d (Some x) || is_of d s (Some x)) && x.group == g) is
+    ∙ sym (close_both s d g x)
   where
-    is : is_end (key_in x) x.group f ≡ ((is_of s d (Some x) || is_of d s (Some x)) && x.group == g)
+    is : is_end (pair_of x) x.group f ≡ ((is_of s d (Some x) || is_of d s (Some x)) && x.group == g)
     is = elim (cases_Bool ((is_of s d (Some x) || is_of d s (Some x)) && x.group == g)) [
       | inl y ↦
           (let p = and_parts (is_of s d (Some x) || is_of d s (Some x)) (x.group == g) y in
           elim (or_cases (is_of s d (Some x)) (is_of d s (Some x)) p.0) [
-            | inl z ↦ (let w = pair_is s d x z in or_left _ _ (or_right _ _ (answer_from 255 s d g f c x.source x.destination x.group w.0 w.1 (eqb-true _ _ p.1))) ∙ sym y)
-            | inr z ↦ (let w = pair_is d s x z in or_right _ _ (answer_from 255 s d g f c x.destination x.source x.group w.1 w.0 (eqb-true _ _ p.1)) ∙ sym y)
+            | inl z ↦ (let w = pair_is s d x z in or_left _ _ (or_right _ _ (answer_from connection_abort s d g f c x.source x.destination x.group w.0 w.1 (eqb-true _ _ p.1))) ∙ sym y)
+            | inr z ↦ (let w = pair_is d s x z in or_right _ _ (answer_from connection_abort s d g f c x.destination x.source x.group w.1 w.0 (eqb-true _ _ p.1)) ∙ sym y)
           ])
-      | inr y ↦ false_from_ne_true _ (λ q. elim (or_cases (is_control 19 x.destination x.source x.group f || is_control 255 x.destination x.source x.group f) (is_control 255 x.source x.destination x.group f) q) [
-        | inl u ↦ elim (or_cases (is_control 19 x.destination x.source x.group f) (is_control 255 x.destination x.source x.group f) u) [
-          | inl v ↦ (let w : 19 ≡ 255 = (answer_to 255 s d g f c 19 x.source x.destination x.group v).0 in let o : ⊥ = omega arith in o)
-          | inr v ↦ (let w = answer_to 255 s d g f c 255 x.source x.destination x.group v in both_ways _ y (and_from _ _ (or_left _ _ (is_pair s d x w.1 w.2)) (eq-eqb _ _ w.3)))
+      | inr y ↦ false_from_ne_true _ (λ q. elim (or_cases (is_control acknowledgment x.destination x.source x.group f || is_control connection_abort x.destination x.source x.group f) (is_control connection_abort x.source x.destination x.group f) q) [
+        | inl u ↦ elim (or_cases (is_control acknowledgment x.destination x.source x.group f) (is_control connection_abort x.destination x.source x.group f) u) [
+          | inl v ↦ (let w : 19 ≡ 255 = (answer_to connection_abort s d g f c acknowledgment x.source x.destination x.group v).0 in let o : ⊥ = omega arith in o)
+          | inr v ↦ (let w = answer_to connection_abort s d g f c connection_abort x.source x.destination x.group v in both_ways _ y (and_from _ _ (or_left _ _ (is_pair s d x w.1 w.2)) (eq-eqb _ _ w.3)))
         ]
-        | inr u ↦ (let w = answer_to 255 s d g f c 255 x.destination x.source x.group u in both_ways _ y (and_from _ _ (or_right _ _ (is_pair d s x w.2 w.1)) (eq-eqb _ _ w.3)))
+        | inr u ↦ (let w = answer_to connection_abort s d g f c connection_abort x.destination x.source x.group u in both_ways _ y (and_from _ _ (or_right _ _ (is_pair d s x w.2 w.1)) (eq-eqb _ _ w.3)))
       ]) ∙ sym y
     ]
 
-pub other_place : (f : FrameRecord) → IsNoFrame f → (i : ℕ) (p : Option SessionRecord) → moved_place (Frame f) (entry_in i p) ≡ entry_in i p
-unfolding is_rival
-other_place f h i None = refl
-other_place f h i (Some x) = quiet_moves (Frame f) i x (record {
-  no_announcement = ev_announces (key_in x) f ∙ h.no_announcement (key_in x);
-  no_packet = ev_sends (key_in x) f ∙ h.no_packet (key_in x);
-  no_grant = ev_grants (key_in x) x.group f ∙ h.no_grant (key_in x) x.group;
-  no_end = ev_ends (key_in x) x.group f ∙ h.no_end (key_in x) x.group;
-  no_rival = ev_rivals (key_in x) f ∙ h.no_announcement (Directed (source_of f.id) (destination_of f.id));
+pub other_place : (f : FrameRecord) → IsNoFrame f → (p : Option SessionRecord) → moved_place (Frame f) p ≡ p
+other_place f h None = refl
+other_place f h (Some x) = quiet_moves (Frame f) x (record {
+  no_announcement = ev_announces (pair_of x) f ∙ h.no_announcement (pair_of x);
+  no_packet = ev_sends (pair_of x) f ∙ h.no_packet (pair_of x);
+  no_grant = ev_grants (pair_of x) x.group f ∙ h.no_grant (pair_of x) x.group;
+  no_end = ev_ends (pair_of x) x.group f ∙ h.no_end (pair_of x) x.group;
 })

@@ -1,8 +1,9 @@
 -- With each frame a message is whole, or none is.
 use Rattle.std.proofs.Common.{◌⊎◌, List, [], ◌∷◌, ◌++◌, sym, subst, inl, inr, append_assoc, append-nil}
 use Rattle.j39_frame.specs.Frame.{FrameRecord}
+use Rattle.j39_transport.proofs.AllKeys.{table_new}
 use Rattle.j39_transport.proofs.AnswerLemmas.{answers_at}
-use Rattle.j39_transport.proofs.StepLemmas.{kept_after, kept_forgotten, kept_new}
+use Rattle.j39_transport.proofs.StepLemmas.{kept_after, kept_forgotten}
 use Rattle.j39_transport.specs.Answers.{AnswersAt, NoneWhole, Outcome, WholeBy}
 use Rattle.j39_transport.specs.Answers.Outcome.{Ignored, Taken, Whole}
 use Rattle.j39_transport.specs.Events.{Event}
@@ -32,5 +33,5 @@ decided_by E f Ignored h = inr h.1
 
 pub whole_or_none : WholeOrNoneLaw
 whole_or_none E f =
-    let s = taken_on [] E (empty_state, kept_new) in
+    let s = taken_on [] E (empty_state, table_new) in
     decided_by E f (answer s.0 (source_of f.id) f.stamp (transport_frame_of f)) (answers_at E f s.0 s.1)

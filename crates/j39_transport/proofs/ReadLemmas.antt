@@ -5,6 +5,7 @@ use Rattle.j39_frame.specs.Frame.{FrameRecord}
 use Rattle.j39_transport.specs.Key.{Key, sender, goes_to, opening, is_key}
 use Rattle.j39_transport.specs.Frames.{goes, group_of, source_of, destination_of, size_named, packets_named, pgn_named, names_message, is_announcement, is_packet, is_control, is_clear_to_send, is_end}
 use Rattle.j39_transport.specs.Key.Key.{Broadcast, Directed}
+use Rattle.j39_transport.specs.Protocol.{request_to_send, clear_to_send, acknowledgment, connection_abort, broadcast_announce}
 use Rattle.j39_transport.specs.FrameSteps.{TransportFrame, Announcement, Packet, ClearToSend, Acknowledgment, Abort, Other, key_named, announced_by, packed_by, control_of, transport_frame_of}
 use Rattle.j39_transport.proofs.FrameFacts.{one_key, announcement_facts, packet_facts, closing_facts, allowing_facts}
 
@@ -17,8 +18,8 @@ pub record IsNoFrame (f : FrameRecord) : Type 0 where
 
 pub record IsControl (b s d g : ℕ) (f : FrameRecord) : Type 0 where
   pub goes_back : goes 60416 d s f ≡ true
-  pub no_rts : b ≢ 16
-  pub no_bam : b ≢ 32
+  pub no_rts : b ≢ request_to_send
+  pub no_bam : b ≢ broadcast_announce
   pub first : slice_index f.bytes 0 ≡ b
   pub group_is : g ≡ pgn_named f
 
@@ -36,9 +37,9 @@ pub record IsPacking (k : Key) (n : ℕ) (bs : List ℕ) (f : FrameRecord) : Typ
 abbrev pub Facts : FrameRecord → TransportFrame → Type 0
 Facts f (Announcement k g n p) = IsAnnouncing k g n p f
 Facts f (Packet k n bs) = IsPacking k n bs f
-Facts f (ClearToSend s d g) = IsControl 17 s d g f
-Facts f (Acknowledgment s d g) = IsControl 19 s d g f
-Facts f (Abort s d g) = IsControl 255 s d g f
+Facts f (ClearToSend s d g) = IsControl clear_to_send s d g f
+Facts f (Acknowledgment s d g) = IsControl acknowledgment s d g f
+Facts f (Abort s d g) = IsControl connection_abort s d g f
 Facts f Other = IsNoFrame f
 
 -- ---- by the group
@@ -78,12 +79,12 @@ no_answer f h b s d g = false_from_ne_true _ (λ t. both_ways _ h (goes_eight _ 
 no_allow : (f : FrameRecord) → (group_of f.id == 60416 && length f.bytes == 8) ≡ false → (k : Key) (g : ℕ) → is_clear_to_send k g f ≡ false
 unfolding is_clear_to_send
 no_allow f h (Broadcast s) g = refl
-no_allow f h (Directed s d) g = no_answer f h 17 d s g
+no_allow f h (Directed s d) g = no_answer f h clear_to_send d s g
 
 no_closing : (f : FrameRecord) → (group_of f.id == 60416 && length f.bytes == 8) ≡ false → (k : Key) (g : ℕ) → is_end k g f ≡ false
 unfolding is_end
 no_closing f h (Broadcast s) g = refl
-no_closing f h (Directed s d) g = or_from _ _ (or_from _ _ (no_answer f h 19 d s g) (no_answer f h 255 d s g)) (no_answer f h 255 s d g)
+no_closing f h (Directed s d) g = or_from _ _ (or_from _ _ (no_answer f h acknowledgment d s g) (no_answer f h connection_abort d s g)) (no_answer f h connection_abort s d g)
 
 no_control : (f : FrameRecord) → (group_of f.id == 60416 && length f.bytes == 8) ≡ false → ((k : Key) → is_announcement k f ≡ false) × ((k : Key) (g : ℕ) → is_clear_to_send k g f ≡ false) × ((k : Key) (g : ℕ) → is_end k g f ≡ false)
 no_control f h = ((λ k. false_from_ne_true _ (λ t. both_ways _ h (goes_eight _ _ _ f (announcement_goes k f t)))), no_allow f h, no_closing f h)
@@ -147,7 +148,7 @@ packed_is f a b (Some k) h = record {
 -- ---- an announcement
 
 module _ (f : FrameRecord) (a : group_of f.id ≡ 60416) (b : length f.bytes ≡ 8)
-    (n17 : slice_index f.bytes 0 ≢ 17) (n19 : slice_index f.bytes 0 ≢ 19) (n255 : slice_index f.bytes 0 ≢ 255) where
+    (n17 : slice_index f.bytes 0 ≢ clear_to_send) (n19 : slice_index f.bytes 0 ≢ acknowledgment) (n255 : slice_index f.bytes 0 ≢ connection_abort) where
   no_leave : (k : Key) (g : ℕ) → is_clear_to_send k g f ≡ false
   no_leave k g = false_from_ne_true _ (λ t. n17 (allowing_facts k g f t).1)
 
@@ -183,15 +184,15 @@ module _ (f : FrameRecord) (a : group_of f.id ≡ 60416) (b : length f.bytes ≡
 
 control_is : (f : FrameRecord) → group_of f.id ≡ 60416 → length f.bytes ≡ 8 → Facts f (control_of f)
 unfolding control_of
-control_is f a b = cond_both (slice_index f.bytes 0 == 17) _ _ (Facts f)
-    (λ t. from_first 17 ((λ e. let o : ⊥ = omega arith in o), (λ e. let o : ⊥ = omega arith in o)) t)
-    (λ t. cond_both (slice_index f.bytes 0 == 19) _ _ (Facts f)
-    (λ u. from_first 19 ((λ e. let o : ⊥ = omega arith in o), (λ e. let o : ⊥ = omega arith in o)) u)
-    (λ u. cond_both (slice_index f.bytes 0 == 255) _ _ (Facts f)
-    (λ v. from_first 255 ((λ e. let o : ⊥ = omega arith in o), (λ e. let o : ⊥ = omega arith in o)) v)
+control_is f a b = cond_both (slice_index f.bytes 0 == clear_to_send) _ _ (Facts f)
+    (λ t. from_first clear_to_send ((λ e. let o : ⊥ = omega arith in o), (λ e. let o : ⊥ = omega arith in o)) t)
+    (λ t. cond_both (slice_index f.bytes 0 == acknowledgment) _ _ (Facts f)
+    (λ u. from_first acknowledgment ((λ e. let o : ⊥ = omega arith in o), (λ e. let o : ⊥ = omega arith in o)) u)
+    (λ u. cond_both (slice_index f.bytes 0 == connection_abort) _ _ (Facts f)
+    (λ v. from_first connection_abort ((λ e. let o : ⊥ = omega arith in o), (λ e. let o : ⊥ = omega arith in o)) v)
     (λ v. announced_is f a b (eqb-false _ _ t) (eqb-false _ _ u) (eqb-false _ _ v) (key_named (source_of f.id) (destination_of f.id)) (key_is (source_of f.id) (destination_of f.id)))))
   where
-    from_first : (n : ℕ) → (n ≡ 16 → ⊥) × (n ≡ 32 → ⊥) → (slice_index f.bytes 0 == n) ≡ true → IsControl n (destination_of f.id) (source_of f.id) (pgn_named f) f
+    from_first : (n : ℕ) → (n ≢ request_to_send) × (n ≢ broadcast_announce) → (slice_index f.bytes 0 == n) ≡ true → IsControl n (destination_of f.id) (source_of f.id) (pgn_named f) f
     from_first n apart t = record { goes_back = goes_from 60416 f a b; no_rts = apart.0; no_bam = apart.1; first = eqb-true _ _ t; group_is = refl }
 
 pub read_is : (f : FrameRecord) → Facts f (transport_frame_of f)
