@@ -3,22 +3,22 @@ use Rattle.std.proofs.Common.{◌≡◌, ℕ, suc, ◌+◌, ◌<◌, Bool, true,
 use Rattle.std.proofs.lemmas.Bool.{cond_both, cond-true, cond-false, and_parts, and_from, both_ways, eqb-false}
 use Rattle.j39_frame.specs.Frame.{FrameRecord}
 use Rattle.j39_transport.specs.Key.{Key, sender, limit}
-use Rattle.j39_transport.specs.Frames.{source_of, is_announcement, is_packet}
+use Rattle.j39_transport.specs.Frames.{source_of, destination_of, is_announcement, is_packet}
 use Rattle.j39_transport.specs.Key.Key.{Broadcast, Directed}
 use Rattle.j39_transport.specs.Events.{Event, sends, number, payload, stamp}
 use Rattle.j39_transport.specs.Events.Event.{Frame}
 use Rattle.j39_transport.specs.EventSteps.{is_over}
 use Rattle.j39_transport.specs.Session.{SessionRecord}
 use Rattle.j39_transport.specs.Places.{Places, at, is_of, find, find_from}
-use Rattle.j39_transport.specs.FrameSteps.{TransportFrame, Announcement, Packet, ClearToSend, Acknowledgment, Abort, Other, transport_frame_of}
-use Rattle.j39_transport.specs.Steps.{SessionsRecord, moves, packed, granted, closed, finished, with_place, state_after, state_without, without_broadcast, room, empty_state, told, told_at, answer, answer_by}
+use Rattle.j39_transport.specs.Signals.{Signal, BroadcastAnnounce, RequestToSend, ClearToSend, Acknowledgment, Abort, Packet, said_by}
+use Rattle.j39_transport.specs.Steps.{SessionsRecord, moves, packed, granted, closed, finished, with_place, state_after, state_without, without_broadcast, room, empty_state, told, told_at, answer, answer_by, answer_to_packet, key_of}
 use Rattle.j39_transport.specs.Steps as steps
 use Rattle.j39_transport.specs.Answers as answers
 use Rattle.j39_transport.specs.Session as sessions
 use Rattle.j39_transport.specs.Protocol.{clear_to_send, acknowledgment, connection_abort, broadcast_limit, directed_limit}
 use Rattle.j39_transport.specs.Stands.{AreKept, StandsFor}
 use Rattle.j39_transport.proofs.FrameFacts.{packet_facts, sends-others}
-use Rattle.j39_transport.proofs.ReadLemmas.{IsControl, Facts, read_is}
+use Rattle.j39_transport.proofs.ReadLemmas.{IsControl, IsPacking, Facts, read_is}
 use Rattle.j39_transport.proofs.MoveLemmas.{sent_over}
 use Rattle.j39_transport.proofs.Bridge.{ev_announces, ev_sends, announced_no_packet, packet_key, ev_stamp}
 use Rattle.j39_transport.proofs.ControlBridge.{no_pack, no_opening}
@@ -141,15 +141,19 @@ module _ (E : List Event) (f : FrameRecord) (a : SessionsRecord) (h : AreKept E 
   control_answer : (b s d g : ℕ) → IsControl b s d g f → AnswersAt E f answers.Ignored
   control_answer b s d g c = ignored E f a h (λ k. sym (ev_announces k f) ∙ no_opening b s d g f c k) (λ k. sym (ev_sends k f) ∙ no_pack b s d g f c k)
 
-  answer_is : (r : TransportFrame) → Facts f r → AnswersAt E f (answer a (source_of f.id) f.stamp r)
-  unfolding answer
-  answer_is (Announcement k g n p) c = announcement_answer k c.announces_it
-  answer_is (Packet (Broadcast s) n bs) c = subst (λ (o : answers.Outcome). AnswersAt E f o) (λ i. told (sym (packet_facts (Broadcast s) f c.packs_it).source i) broadcast_limit (sym c.number_is i) (sym c.data_are i) f.stamp (at a.broadcasts s)) (packs_broadcast s c.packs_it)
-  answer_is (Packet (Directed s d) n bs) c = subst (λ (o : answers.Outcome). AnswersAt E f o) (λ i. told_at (find s d a.directed) (told (sym (packet_facts (Directed s d) f c.packs_it).source i) directed_limit (sym c.number_is i) (sym c.data_are i) f.stamp) a.directed) (packs_directed s d c.packs_it)
-  answer_is (ClearToSend s d g) c = control_answer clear_to_send s d g c
-  answer_is (Acknowledgment s d g) c = control_answer acknowledgment s d g c
-  answer_is (Abort s d g) c = control_answer connection_abort s d g c
-  answer_is Other c = ignored E f a h c.no_announcement c.no_packet
+  packet_answer : (k : Key) (n : ℕ) (bs : List ℕ) → IsPacking k n bs f → AnswersAt E f (answer_to_packet a (source_of f.id) f.stamp k n bs)
+  packet_answer (Broadcast s) n bs c = subst (λ (o : answers.Outcome). AnswersAt E f o) (λ i. told (sym (packet_facts (Broadcast s) f c.packs_it).source i) broadcast_limit (sym c.number_is i) (sym c.data_are i) f.stamp (at a.broadcasts s)) (packs_broadcast s c.packs_it)
+  packet_answer (Directed s d) n bs c = subst (λ (o : answers.Outcome). AnswersAt E f o) (λ i. told_at (find s d a.directed) (told (sym (packet_facts (Directed s d) f c.packs_it).source i) directed_limit (sym c.number_is i) (sym c.data_are i) f.stamp) a.directed) (packs_directed s d c.packs_it)
 
-  pub answers_at : AnswersAt E f (answer a (source_of f.id) f.stamp (transport_frame_of f))
-  answers_at = answer_is (transport_frame_of f) (read_is f)
+  answer_is : (r : Option Signal) → Facts f r → AnswersAt E f (answer a f r)
+  unfolding answer
+  answer_is None c = ignored E f a h c.no_announcement c.no_packet
+  answer_is (Some (BroadcastAnnounce n p g)) c = announcement_answer (Broadcast (source_of f.id)) c.announces_it
+  answer_is (Some (RequestToSend n p most g)) c = announcement_answer (Directed (source_of f.id) (destination_of f.id)) c.announces_it
+  answer_is (Some (ClearToSend count next g)) c = control_answer clear_to_send _ _ g c
+  answer_is (Some (Acknowledgment n p g)) c = control_answer acknowledgment _ _ g c
+  answer_is (Some (Abort reason g)) c = control_answer connection_abort _ _ g c
+  answer_is (Some (Packet n bs)) c = packet_answer (key_of f) n bs c
+
+  pub answers_at : AnswersAt E f (answer a f (said_by f))
+  answers_at = answer_is (said_by f) (read_is f)

@@ -8,15 +8,15 @@ use Rattle.j39_transport.specs.Boxes.{HasOpen, NeedsBox, HasSpare, freed, kept, 
 use Rattle.j39_transport.specs.EventSteps.{pair_of}
 use Rattle.j39_transport.specs.Events.{Event, at as event_at}
 use Rattle.j39_transport.specs.Events.Event.{Frame, Forget}
-use Rattle.j39_transport.specs.Frames.{source_of, is_announcement}
-use Rattle.j39_transport.specs.FrameSteps.{TransportFrame, Announcement, Packet, ClearToSend, Acknowledgment, Abort, Other, transport_frame_of}
+use Rattle.j39_transport.specs.Frames.{source_of, destination_of, is_announcement}
+use Rattle.j39_transport.specs.Signals.{Signal, BroadcastAnnounce, RequestToSend, ClearToSend, Acknowledgment, Abort, Packet, said_by}
 use Rattle.j39_transport.specs.Key.{Key}
 use Rattle.j39_transport.specs.Key.Key.{Broadcast, Directed}
 use Rattle.j39_transport.specs.Message.{MessageRecord}
 use Rattle.j39_transport.specs.Places.{Places, at, is_of, find, find_from}
 use Rattle.j39_transport.specs.Session.{SessionRecord, opened}
 use Rattle.j39_transport.specs.Stands.{IsSession, StandsFor, AreKept, Stands}
-use Rattle.j39_transport.specs.Steps.{AssemblerRecord, SessionsRecord, Moved, Ends, Grows, Stays, Late, announced, answer, answer_by, answer_to_packet, fed, forgot, is_whole, LacksBox, moves, new_assembler, place_for, room, spare_after, spare_left, state_after, told, told_at}
+use Rattle.j39_transport.specs.Steps.{AssemblerRecord, SessionsRecord, Moved, Ends, Grows, Stays, Late, announced, answer, answer_by, answer_to_packet, fed, forgot, key_of, is_whole, LacksBox, moves, new_assembler, place_for, room, spare_after, spare_left, state_after, told, told_at}
 use Rattle.j39_transport.specs.Protocol.{broadcast_limit, directed_limit}
 use Rattle.j39_transport.proofs.AllKeys.{announced_key, table_new}
 use Rattle.j39_transport.proofs.AnswerLemmas.{answers_at}
@@ -128,20 +128,24 @@ module _ (E : List Event) (f : FrameRecord) (a : AssemblerRecord) (h : Stands E 
         (keeps_on a.sessions k (opened k g n p f.stamp) j (directed_size E a.sessions h.kept) (broadcasts_size E a.sessions h.kept) e (keeps E a.sessions h.kept j o));
   }
 
-  wants_by : (r : TransportFrame) → Facts f r → AreKept (E ++ Frame f ∷ []) (state_after a.sessions f.stamp r) → LacksBox a.sessions a.has_spare r → WantsMemory E f
-  unfolding state_after
-  wants_by (Announcement k g n p) c next w = record {
-    needs = needs_box k g n p c.announces_it next w.0;
+  wanting : (k : Key) (g n p : ℕ) → is_announcement k f ≡ true → AreKept (E ++ Frame f ∷ []) (announced a.sessions k (opened k g n p f.stamp)) → (place_for a.sessions k ≡ None) × (a.has_spare ≡ false) → WantsMemory E f
+  wanting k g n p is next w = record {
+    needs = needs_box k g n p is next w.0;
     none_unused = λ s. both_ways _ w.1 (h.spare s);
   }
-  wants_by (Packet k n bs) c next w = absurd w
-  wants_by (ClearToSend s d g) c next w = absurd w
-  wants_by (Acknowledgment s d g) c next w = absurd w
-  wants_by (Abort s d g) c next w = absurd w
-  wants_by Other c next w = absurd w
 
-  pub wants_memory : LacksBox a.sessions a.has_spare (transport_frame_of f) → WantsMemory E f
-  wants_memory w = wants_by (transport_frame_of f) (read_is f) (kept_after E f a.sessions h.kept) w
+  wants_by : (r : Option Signal) → Facts f r → AreKept (E ++ Frame f ∷ []) (state_after a.sessions f r) → LacksBox a.sessions a.has_spare f r → WantsMemory E f
+  unfolding state_after
+  wants_by None c next w = absurd w
+  wants_by (Some (BroadcastAnnounce n p g)) c next w = wanting (Broadcast (source_of f.id)) g n p c.announces_it next w
+  wants_by (Some (RequestToSend n p most g)) c next w = wanting (Directed (source_of f.id) (destination_of f.id)) g n p c.announces_it next w
+  wants_by (Some (ClearToSend count n g)) c next w = absurd w
+  wants_by (Some (Acknowledgment n p g)) c next w = absurd w
+  wants_by (Some (Abort reason g)) c next w = absurd w
+  wants_by (Some (Packet n bs)) c next w = absurd w
+
+  pub wants_memory : LacksBox a.sessions a.has_spare f (said_by f) → WantsMemory E f
+  wants_memory w = wants_by (said_by f) (read_is f) (kept_after E f a.sessions h.kept) w
 
 -- ---- the box that lies unused
 
@@ -195,38 +199,43 @@ whole_answered E f m Taken h w = absurd (h.1 m w)
 whole_answered E f m Ignored h w = absurd (h.1 m w)
 
 module _ (E : List Event) (f : FrameRecord) (a : AssemblerRecord) (h : Stands E a) where
-  freed_box : (m : MessageRecord) → WholeBy E f m → (r : TransportFrame) → AnswersAt E f (answer a.sessions (source_of f.id) f.stamp r) → spare_after a.sessions a.has_spare f.stamp r ≡ true
+  freed_box : (m : MessageRecord) → WholeBy E f m → (r : Option Signal) → AnswersAt E f (answer a.sessions f r) → spare_after a.sessions a.has_spare f r ≡ true
   unfolding answer spare_after
-  freed_box m w (Announcement k g n p) o = absurd (o.1 m w)
-  freed_box m w (Packet k n bs) o =
-      ap (λ (b : Bool). b || a.has_spare) (whole_packet a.sessions 0 (source_of f.id) f.stamp k n bs ∙ whole_answered E f m (answer_to_packet a.sessions (source_of f.id) f.stamp k n bs) o w)
-  freed_box m w (ClearToSend s d g) o = absurd (o.1 m w)
-  freed_box m w (Acknowledgment s d g) o = absurd (o.1 m w)
-  freed_box m w (Abort s d g) o = absurd (o.1 m w)
-  freed_box m w Other o = absurd (o.1 m w)
+  freed_box m w None o = absurd (o.1 m w)
+  freed_box m w (Some (BroadcastAnnounce n p g)) o = absurd (o.1 m w)
+  freed_box m w (Some (RequestToSend n p most g)) o = absurd (o.1 m w)
+  freed_box m w (Some (ClearToSend count next g)) o = absurd (o.1 m w)
+  freed_box m w (Some (Acknowledgment n p g)) o = absurd (o.1 m w)
+  freed_box m w (Some (Abort reason g)) o = absurd (o.1 m w)
+  freed_box m w (Some (Packet n bs)) o =
+      ap (λ (b : Bool). b || a.has_spare) (whole_packet a.sessions 0 (source_of f.id) f.stamp (key_of f) n bs ∙ whole_answered E f m (answer_to_packet a.sessions (source_of f.id) f.stamp (key_of f) n bs) o w)
 
-  left_box : a.has_spare ≡ true → (NeedsBox E (Frame f) → ⊥) → (r : TransportFrame) → Facts f r → AreKept (E ++ Frame f ∷ []) (state_after a.sessions f.stamp r) → spare_after a.sessions a.has_spare f.stamp r ≡ true
-  unfolding spare_after state_after
-  left_box b n (Announcement k g size p) c next = go (place_for a.sessions k) refl
+  left_place : a.has_spare ≡ true → (NeedsBox E (Frame f) → ⊥) → (k : Key) (g n p : ℕ) → is_announcement k f ≡ true → AreKept (E ++ Frame f ∷ []) (announced a.sessions k (opened k g n p f.stamp)) → spare_left (place_for a.sessions k) a.has_spare ≡ true
+  left_place b none k g n p is next = go (place_for a.sessions k) refl
     where
       go : (o : Option SessionRecord) → place_for a.sessions k ≡ o → spare_left o a.has_spare ≡ true
-      go None e = absurd (n (needs_box E f a h k g size p c.announces_it next e))
+      go None e = absurd (none (needs_box E f a h k g n p is next e))
       go (Some x) e = b
-  left_box b n (Packet k number bs) c next = or_right _ _ b
-  left_box b n (ClearToSend s d g) c next = b
-  left_box b n (Acknowledgment s d g) c next = b
-  left_box b n (Abort s d g) c next = b
-  left_box b n Other c next = b
 
-  spare_on : HasSpare (E ++ Frame f ∷ []) → spare_after a.sessions a.has_spare f.stamp (transport_frame_of f) ≡ true
+  left_box : a.has_spare ≡ true → (NeedsBox E (Frame f) → ⊥) → (r : Option Signal) → Facts f r → AreKept (E ++ Frame f ∷ []) (state_after a.sessions f r) → spare_after a.sessions a.has_spare f r ≡ true
+  unfolding spare_after state_after
+  left_box b none None c next = b
+  left_box b none (Some (BroadcastAnnounce n p g)) c next = left_place b none (Broadcast (source_of f.id)) g n p c.announces_it next
+  left_box b none (Some (RequestToSend n p most g)) c next = left_place b none (Directed (source_of f.id) (destination_of f.id)) g n p c.announces_it next
+  left_box b none (Some (ClearToSend count n g)) c next = b
+  left_box b none (Some (Acknowledgment n p g)) c next = b
+  left_box b none (Some (Abort reason g)) c next = b
+  left_box b none (Some (Packet n bs)) c next = or_right _ _ b
+
+  spare_on : HasSpare (E ++ Frame f ∷ []) → spare_after a.sessions a.has_spare f (said_by f) ≡ true
   spare_on s = elim (unused_by (E ++ Frame f ∷ []) s E (Frame f) refl) [
-    | inl w ↦ freed_box w.1 (let e : w.0 ≡ f = same_frame w.0 f (sym w.2) in subst (λ (x : FrameRecord). WholeBy E x w.1) e w.3) (transport_frame_of f) (answers_at E f a.sessions h.kept)
-    | inr w ↦ left_box (h.spare w.0) w.1 (transport_frame_of f) (read_is f) (kept_after E f a.sessions h.kept)
+    | inl w ↦ freed_box w.1 (let e : w.0 ≡ f = same_frame w.0 f (sym w.2) in subst (λ (x : FrameRecord). WholeBy E x w.1) e w.3) (said_by f) (answers_at E f a.sessions h.kept)
+    | inr w ↦ left_box (h.spare w.0) w.1 (said_by f) (read_is f) (kept_after E f a.sessions h.kept)
   ]
 
 -- ---- what an assembler stands for
 
-pub stands_after : (E : List Event) (f : FrameRecord) (a : AssemblerRecord) → Stands E a → Stands (E ++ Frame f ∷ []) (fed a f.stamp (transport_frame_of f))
+pub stands_after : (E : List Event) (f : FrameRecord) (a : AssemblerRecord) → Stands E a → Stands (E ++ Frame f ∷ []) (fed a f (said_by f))
 stands_after E f a h = record { kept = kept_after E f a.sessions h.kept; spare = spare_on E f a h }
 
 pub stands_forgotten : (E : List Event) (t : ℕ) (a : AssemblerRecord) → Stands E a → Stands (E ++ Forget t ∷ []) (forgot a t)

@@ -14,7 +14,7 @@ use Rattle.j39_transport.specs.Sending.{SenderRecord, SendState, SendResult, Wai
 use Rattle.j39_transport.specs.Protocol.{timer_t3, timer_t4}
 use Rattle.j39_transport.specs.Sending as sender
 use Rattle.j39_transport.specs.Session.{opened, grown, touched}
-use Rattle.j39_transport.specs.Signals.{Signal, RequestToSend, ClearToSend, Acknowledgment, Abort, Packet, said_between, written}
+use Rattle.j39_transport.specs.Signals.{Signal, BroadcastAnnounce, RequestToSend, ClearToSend, Acknowledgment, Abort, Packet, said_between, written}
 use Rattle.j39_transport.proofs.PacketLemmas.{packet_length}
 use Rattle.j39_transport.proofs.ReceiverLemmas.{IsOf, IsPart, one_more, whole}
 use Rattle.j39_transport.proofs.SenderLemmas.{pgn_fits, own_can_say}
@@ -26,6 +26,7 @@ use Rattle.j39_transport.proofs.ThirdLemmas.{IfOpen, IsNot, source_fits, Keeps, 
 done_hears : (s : SenderRecord) (a : Option Signal) (now : ℕ) → s.state ≡ Done → (hears a now s).state ≡ Done
 unfolding hears cleared acknowledged aborted
 done_hears s None now e = e
+done_hears s (Some (BroadcastAnnounce size packets pgn)) now e = e
 done_hears s (Some (RequestToSend size packets most pgn)) now e = e
 done_hears s (Some (Packet k joined)) now e = e
 done_hears s (Some (ClearToSend count next pgn)) now e = cond_both (pgn == s.message.pgn) _ _ (λ (r : SenderRecord). r.state ≡ Done)

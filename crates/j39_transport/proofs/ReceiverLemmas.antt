@@ -7,7 +7,7 @@ use Rattle.j39_transport.specs.Key.{Directed}
 use Rattle.j39_transport.specs.Message.{MessageRecord, IsLong, packets_of}
 use Rattle.j39_transport.specs.Reception.{ReceptionRecord, Reaction, quiet, granted_at, grants, asks_again, begun, message_of, delivers_message, goes_on, takes_packet, is_from, is_taken, takes_request, takes_data, takes_abort, takes_signal, limit_of, takes_tick}
 use Rattle.j39_transport.specs.Session.{SessionRecord, opened, grown, touched}
-use Rattle.j39_transport.specs.Signals.{Signal, RequestToSend, ClearToSend, Acknowledgment, Abort, Packet}
+use Rattle.j39_transport.specs.Signals.{Signal, BroadcastAnnounce, RequestToSend, ClearToSend, Acknowledgment, Abort, Packet}
 use Rattle.j39_transport.proofs.PacketLemmas.{joined_more}
 use Rattle.j39_transport.proofs.SenderLemmas.{IsOwn, IsAck, CanSayIf, pgn_fits}
 
@@ -134,6 +134,7 @@ request_case m own o most now found l h = cond_both (is_taken m.source o) _ _ (O
 pub signal_case : (m : MessageRecord) (own : ℕ) (idle : Bool) (o : Option ReceptionRecord) (a : Signal) (now : ℕ) (found : Bool) → IsLong m → SessionOf m o → IsOwn m idle a
     → Open m (takes_signal (Directed m.source own) (Some a) now found o) ⊎ Closed m (takes_signal (Directed m.source own) (Some a) now found o)
 unfolding takes_signal takes_data takes_abort
+signal_case m own idle o (BroadcastAnnounce size packets pgn) now found l h s = absurd s
 signal_case m own idle o (RequestToSend size packets most pgn) now found l h s =
     let e : opened (Directed m.source own) m.pgn (length m.bytes) (packets_of m) now ≡ opened (Directed m.source own) pgn size packets now =
     λ i. opened (Directed m.source own) (sym s.3 i) (sym s.1 i) (sym s.2 i) now in

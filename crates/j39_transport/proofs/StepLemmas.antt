@@ -13,11 +13,11 @@ use Rattle.j39_transport.specs.Protocol.{clear_to_send, acknowledgment, connecti
 use Rattle.j39_transport.specs.Stands.{AreKept}
 use Rattle.j39_transport.specs.Session.{SessionRecord}
 use Rattle.j39_transport.specs.Places.{Places, at, is_of, find, forgotten, without}
-use Rattle.j39_transport.specs.FrameSteps.{TransportFrame, Announcement, Packet, ClearToSend, Acknowledgment, Abort, Other, transport_frame_of}
-use Rattle.j39_transport.specs.Steps.{SessionsRecord, packed, granted, closed, finished, with_place, state_after, state_without, without_broadcast, room}
+use Rattle.j39_transport.specs.Signals.{Signal, BroadcastAnnounce, RequestToSend, ClearToSend, Acknowledgment, Abort, Packet, said_by}
+use Rattle.j39_transport.specs.Steps.{SessionsRecord, after_packet, key_of, packed, granted, closed, finished, with_place, state_after, state_without, without_broadcast, room}
 use Rattle.j39_transport.specs.Session as sessions
 use Rattle.j39_transport.proofs.FrameFacts.{announcement_facts, packet_facts, sends-others}
-use Rattle.j39_transport.proofs.ReadLemmas.{IsControl, Facts, read_is}
+use Rattle.j39_transport.proofs.ReadLemmas.{IsControl, IsPacking, Facts, read_is}
 use Rattle.j39_transport.proofs.MoveLemmas.{moved_end, moved_packet}
 use Rattle.j39_transport.proofs.PlaceLemmas.{Change, on_pair, Once, with_once, room_once, once_of}
 use Rattle.j39_transport.proofs.Bridge.{packs_place, packs_other, broadcast_place, rival_place, ev_announces, ev_sends, announced_no_packet, place_moves, quiet_moves}
@@ -87,30 +87,36 @@ both_closed s d g t u =
     ap (λ (x : Places). with_place (find d s x) (closed g) x) e
     ∙ (with_once d s (closed g) (map (on_pair s d (closed g)) t) (once_closed d s s d g t (once_of t u d s)) ∙ map_twice (on_pair s d (closed g)) (on_pair d s (closed g)) t)
 
--- the directed messages after a reading
-pub directed_after : (f : FrameRecord) (r : TransportFrame) (a : SessionsRecord) → Facts f r → Apart a.directed → (state_after a f.stamp r).directed ≡ directed_step (Frame f) a.directed
-unfolding state_after finished payload size packets group stamp
-directed_after f (Announcement (Broadcast s) g n p) a h u =
-    unchanged f a.directed
-    (false_from_ne_true _ (λ t. (let x : slice_index f.bytes 0 ≡ 16 = (announcement_facts (Directed (source_of f.id) (destination_of f.id)) f t).first in let y : slice_index f.bytes 0 ≡ 32 = (announcement_facts (Broadcast s) f h.announces_it).first in let o : ⊥ = omega arith in o)))
-    (broadcast_place s f h.announces_it)
-directed_after f (Announcement (Directed s d) g n p) a h u =
-    let q = announcement_facts (Directed s d) f h.announces_it in
-    let r : is_request_to_send (Frame f) ≡ true = ev_announces (Directed (source_of f.id) (destination_of f.id)) f ∙ subst (λ x. is_announcement (Directed (source_of f.id) x) f ≡ true) (sym q.destination) (subst (λ x. is_announcement (Directed x d) f ≡ true) (sym q.source) h.announces_it) in
-    let rest : take 15 (slice_set a.directed (room (find s d a.directed)) None) ≡ take 15 (map (moved_place (Frame f)) a.directed) =
-    room_once s d a.directed (once_of a.directed u s d) ∙ ap (take 15) (sym (moves_by (Frame f) (on_pair s d (λ p. None)) a.directed (rival_place s d f h.announces_it))) in
-    (λ i. Some (sessions.opened (Directed (sym q.source i) (sym q.destination i)) (h.group_is i) (h.size_is i) (h.packets_are i) f.stamp) ∷ rest i)
-    ∙ sym (cond-true _ _ _ r)
-directed_after f (Packet (Broadcast s) n bs) a h u = unchanged f a.directed (packet_no_announcement (Broadcast s) _ f h.packs_it) (packs_other s f h.packs_it)
-directed_after f (Packet (Directed s d) n bs) a h u =
+-- the directed messages after a packet
+directed_packet : (f : FrameRecord) (k : Key) (n : ℕ) (bs : List ℕ) (a : SessionsRecord) → IsPacking k n bs f → Apart a.directed → (after_packet a f.stamp k n bs).directed ≡ directed_step (Frame f) a.directed
+directed_packet f (Broadcast s) n bs a h u = unchanged f a.directed (packet_no_announcement (Broadcast s) _ f h.packs_it) (packs_other s f h.packs_it)
+directed_packet f (Directed s d) n bs a h u =
     (λ i. with_place (find s d a.directed) (packed directed_limit (h.number_is i) (h.data_are i) f.stamp) a.directed)
     ∙ one_change f s d (packed directed_limit (slice_index f.bytes 0) (drop 1 f.bytes) f.stamp) a.directed u (packet_no_announcement (Directed s d) _ f h.packs_it) (packs_place s d f h.packs_it)
-directed_after f (ClearToSend s d g) a h u = one_change f s d (granted g f.stamp) a.directed u (control_no_announcement clear_to_send s d g f h) (grants_place s d g f h)
-directed_after f (Acknowledgment s d g) a h u = one_change f s d (closed g) a.directed u (control_no_announcement acknowledgment s d g f h) (finishes_place s d g f h)
-directed_after f (Abort s d g) a h u =
+
+-- the directed messages after a frame
+pub directed_after : (f : FrameRecord) (r : Option Signal) (a : SessionsRecord) → Facts f r → Apart a.directed → (state_after a f r).directed ≡ directed_step (Frame f) a.directed
+unfolding state_after finished payload size packets group stamp
+directed_after f None a h u = unchanged f a.directed (h.no_announcement (Directed (source_of f.id) (destination_of f.id))) (other_place f h)
+directed_after f (Some (BroadcastAnnounce n p g)) a h u =
+    unchanged f a.directed
+    (false_from_ne_true _ (λ t. (let x : slice_index f.bytes 0 ≡ 16 = (announcement_facts (Directed (source_of f.id) (destination_of f.id)) f t).first in let y : slice_index f.bytes 0 ≡ 32 = (announcement_facts (Broadcast (source_of f.id)) f h.announces_it).first in let o : ⊥ = omega arith in o)))
+    (broadcast_place (source_of f.id) f h.announces_it)
+directed_after f (Some (RequestToSend n p most g)) a h u =
+    let s : ℕ = source_of f.id in
+    let d : ℕ = destination_of f.id in
+    let rest : take 15 (slice_set a.directed (room (find s d a.directed)) None) ≡ take 15 (map (moved_place (Frame f)) a.directed) =
+    room_once s d a.directed (once_of a.directed u s d) ∙ ap (take 15) (sym (moves_by (Frame f) (on_pair s d (λ p. None)) a.directed (rival_place s d f h.announces_it))) in
+    (λ i. Some (sessions.opened (Directed s d) (h.group_is i) (h.size_is i) (h.packets_are i) f.stamp) ∷ rest i)
+    ∙ sym (cond-true _ _ _ (ev_announces (Directed s d) f ∙ h.announces_it))
+directed_after f (Some (ClearToSend count next g)) a h u = one_change f (destination_of f.id) (source_of f.id) (granted g f.stamp) a.directed u (control_no_announcement clear_to_send _ _ g f h) (grants_place _ _ g f h)
+directed_after f (Some (Acknowledgment n p g)) a h u = one_change f (destination_of f.id) (source_of f.id) (closed g) a.directed u (control_no_announcement acknowledgment _ _ g f h) (finishes_place _ _ g f h)
+directed_after f (Some (Abort reason g)) a h u =
+    let s : ℕ = destination_of f.id in
+    let d : ℕ = source_of f.id in
     sym (quietly f (λ p. on_pair d s (closed g) (on_pair s d (closed g) p)) a.directed (control_no_announcement connection_abort s d g f h) (aborts_place s d g f h)
     ∙ sym (both_closed s d g a.directed u))
-directed_after f Other a h u = unchanged f a.directed (h.no_announcement (Directed (source_of f.id) (destination_of f.id))) (other_place f h)
+directed_after f (Some (Packet n bs)) a h u = directed_packet f (key_of f) n bs a h u
 
 -- ---- the broadcasts
 
@@ -136,23 +142,14 @@ control_broadcasts b s d g f a c = quiet_broadcasts f a.broadcasts
     (sym (ev_announces (Broadcast (source_of f.id)) f) ∙ no_opening b s d g f c (Broadcast (source_of f.id)))
     (sym (ev_sends (Broadcast (source_of f.id)) f) ∙ no_pack b s d g f c (Broadcast (source_of f.id)))
 
--- the broadcasts after a reading
-pub broadcasts_after : (f : FrameRecord) (r : TransportFrame) (a : SessionsRecord) → Facts f r → (state_after a f.stamp r).broadcasts ≡ broadcast_step (Frame f) a.broadcasts
-unfolding state_after payload size packets group stamp
-broadcasts_after f (Announcement (Broadcast s) g n p) a h =
-    let q = announcement_facts (Broadcast s) f h.announces_it in
-    let t : announces (Broadcast (source_of f.id)) (Frame f) ≡ true = ev_announces (Broadcast (source_of f.id)) f ∙ subst (λ x. is_announcement (Broadcast x) f ≡ true) (sym q.source) h.announces_it in
-    (λ i. set a.broadcasts (sym q.source i) (Some (sessions.opened (Broadcast (sym q.source i)) (h.group_is i) (h.size_is i) (h.packets_are i) f.stamp)))
-    ∙ ap (set a.broadcasts (source_of f.id)) (sym (cond-true _ _ _ t))
-broadcasts_after f (Announcement (Directed s d) g n p) a h = quiet_broadcasts f a.broadcasts
-    (false_from_ne_true _ (λ t. (let x : slice_index f.bytes 0 ≡ 32 = (announcement_facts (Broadcast (source_of f.id)) f t).first in let y : slice_index f.bytes 0 ≡ 16 = (announcement_facts (Directed s d) f h.announces_it).first in let o : ⊥ = omega arith in o)))
-    (sym (ev_sends (Broadcast (source_of f.id)) f) ∙ announced_no_packet (Directed s d) (Broadcast (source_of f.id)) f h.announces_it)
-broadcasts_after f (Packet (Broadcast s) n bs) a h =
+-- the broadcasts after a packet
+broadcasts_packet : (f : FrameRecord) (k : Key) (n : ℕ) (bs : List ℕ) (a : SessionsRecord) → IsPacking k n bs f → (after_packet a f.stamp k n bs).broadcasts ≡ broadcast_step (Frame f) a.broadcasts
+broadcasts_packet f (Broadcast s) n bs a h =
     let q = packet_facts (Broadcast s) f h.packs_it in
     (λ i. set a.broadcasts s (packed broadcast_limit (h.number_is i) (h.data_are i) f.stamp (at a.broadcasts s)))
     ∙ (ap (set a.broadcasts s) (packed_step s f (at a.broadcasts s) h.packs_it)
     ∙ ap (λ x. set a.broadcasts x (step (Broadcast x) (Frame f) (get_or a.broadcasts x None))) (sym q.source))
-broadcasts_after f (Packet (Directed s d) n bs) a h = quiet_broadcasts f a.broadcasts
+broadcasts_packet f (Directed s d) n bs a h = quiet_broadcasts f a.broadcasts
     (packet_no_announcement (Directed s d) _ f h.packs_it)
     (false_from_ne_true _ (λ t.
     let x : destination_of f.id ≡ 255 = (packet_facts (Broadcast (source_of f.id)) f t).destination in
@@ -160,17 +157,30 @@ broadcasts_after f (Packet (Directed s d) n bs) a h = quiet_broadcasts f a.broad
     let y : destination_of f.id ≡ d = q.destination in
     let l : d < 254 = ltb-true _ _ (and_parts (nat_lt s 254) (nat_lt d 254) q.key).1 in
     let o : ⊥ = omega arith in o))
-broadcasts_after f (ClearToSend s d g) a h = control_broadcasts clear_to_send s d g f a h
-broadcasts_after f (Acknowledgment s d g) a h = control_broadcasts acknowledgment s d g f a h
-broadcasts_after f (Abort s d g) a h = control_broadcasts connection_abort s d g f a h
-broadcasts_after f Other a h = quiet_broadcasts f a.broadcasts (h.no_announcement (Broadcast (source_of f.id))) (h.no_packet (Broadcast (source_of f.id)))
+
+-- the broadcasts after a frame
+pub broadcasts_after : (f : FrameRecord) (r : Option Signal) (a : SessionsRecord) → Facts f r → (state_after a f r).broadcasts ≡ broadcast_step (Frame f) a.broadcasts
+unfolding state_after payload size packets group stamp
+broadcasts_after f None a h = quiet_broadcasts f a.broadcasts (h.no_announcement (Broadcast (source_of f.id))) (h.no_packet (Broadcast (source_of f.id)))
+broadcasts_after f (Some (BroadcastAnnounce n p g)) a h =
+    (λ i. set a.broadcasts (source_of f.id) (Some (sessions.opened (Broadcast (source_of f.id)) (h.group_is i) (h.size_is i) (h.packets_are i) f.stamp)))
+    ∙ ap (set a.broadcasts (source_of f.id)) (sym (cond-true _ _ _ (ev_announces (Broadcast (source_of f.id)) f ∙ h.announces_it)))
+broadcasts_after f (Some (RequestToSend n p most g)) a h =
+    let k : Key = Directed (source_of f.id) (destination_of f.id) in
+    quiet_broadcasts f a.broadcasts
+    (false_from_ne_true _ (λ t. (let x : slice_index f.bytes 0 ≡ 32 = (announcement_facts (Broadcast (source_of f.id)) f t).first in let y : slice_index f.bytes 0 ≡ 16 = (announcement_facts k f h.announces_it).first in let o : ⊥ = omega arith in o)))
+    (sym (ev_sends (Broadcast (source_of f.id)) f) ∙ announced_no_packet k (Broadcast (source_of f.id)) f h.announces_it)
+broadcasts_after f (Some (ClearToSend count next g)) a h = control_broadcasts clear_to_send _ _ g f a h
+broadcasts_after f (Some (Acknowledgment n p g)) a h = control_broadcasts acknowledgment _ _ g f a h
+broadcasts_after f (Some (Abort reason g)) a h = control_broadcasts connection_abort _ _ g f a h
+broadcasts_after f (Some (Packet n bs)) a h = broadcasts_packet f (key_of f) n bs a h
 
 -- ---- one event more
 
-pub kept_after : (E : List Event) (f : FrameRecord) (a : SessionsRecord) → AreKept E a → AreKept (E ++ Frame f ∷ []) (state_after a f.stamp (transport_frame_of f))
+pub kept_after : (E : List Event) (f : FrameRecord) (a : SessionsRecord) → AreKept E a → AreKept (E ++ Frame f ∷ []) (state_after a f (said_by f))
 kept_after E f a h =
-    let x = broadcasts_after f (transport_frame_of f) a (read_is f) in
-    let y = directed_after f (transport_frame_of f) a (read_is f) (are_apart E a.directed h.directed) in
+    let x = broadcasts_after f (said_by f) a (read_is f) in
+    let y = directed_after f (said_by f) a (read_is f) (are_apart E a.directed h.directed) in
     subst (λ (t : SessionsRecord). AreKept (E ++ Frame f ∷ []) t) (λ i. record { broadcasts = sym x i; directed = sym y i }) (table_more E (Frame f) a h)
 
 -- ---- a source forgotten

@@ -1,5 +1,5 @@
 -- What a message of more than eight bytes goes under (J1939-21, 5.10).
-use Rattle.std.specs.Prelude.{ℕ, zero, suc, Bool, ◌&&◌, nat_lt, List, [], ◌∷◌, ◌++◌}
+use Rattle.std.specs.Prelude.{ℕ, zero, suc, Bool, ◌&&◌, ◌==◌, if◌then◌else◌, nat_lt, List, [], ◌∷◌, ◌++◌}
 use Rattle.j39_frame.specs.Address.{null_address, global_address}
 use Rattle.j39_transport.specs.Protocol.{request_to_send, broadcast_announce, broadcast_limit, directed_limit}
 
@@ -16,6 +16,10 @@ sender (Directed s d) = s
 abbrev pub goes_to : Key → ℕ
 goes_to (Broadcast s) = global_address
 goes_to (Directed s d) = d
+
+-- the key of what goes from s to d: to all, where d is the global address
+unfoldable pub key_between : ℕ → ℕ → Key
+key_between s d = if d == global_address then Broadcast s else Directed s d
 
 -- the first byte of its announcement: a broadcast announce message (BAM), or a request to send (RTS)
 abbrev pub opening : Key → ℕ

@@ -4,7 +4,7 @@ use Rattle.j39_transport.specs.Key.{Key, sender}
 use Rattle.j39_transport.specs.Message.{MessageRecord}
 use Rattle.j39_transport.specs.Protocol.{no_limit, busy, no_resources, timeout, timer_t1, timer_t2}
 use Rattle.j39_transport.specs.Session.{SessionRecord, opened, touched, grown}
-use Rattle.j39_transport.specs.Signals.{Signal, RequestToSend, ClearToSend, Acknowledgment, Abort, Packet}
+use Rattle.j39_transport.specs.Signals.{Signal, BroadcastAnnounce, RequestToSend, ClearToSend, Acknowledgment, Abort, Packet}
 
 -- the message so far, whose last stamp is the time of the session; the most packets for one CTS; the last packet
 -- granted; how often it asked again; and fresh: no packet has come since its last CTS
@@ -104,6 +104,7 @@ takes_abort source pgn (Some r) = if is_from source r && pgn == r.message.group 
 -- what is said under a key: from its source to the receiver
 unfoldable pub takes_signal : Key → Option Signal → ℕ → Bool → Option ReceptionRecord → Reaction
 takes_signal k None now found o = quiet o
+takes_signal k (Some (BroadcastAnnounce size packets pgn)) now found o = quiet o
 takes_signal k (Some (RequestToSend size packets most pgn)) now found o =
     takes_request (opened k pgn size packets now) most now found o
 takes_signal k (Some (ClearToSend count next pgn)) now found o = quiet o

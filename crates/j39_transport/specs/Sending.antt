@@ -6,7 +6,7 @@ use Rattle.j39_transport.specs.Key.{Directed}
 use Rattle.j39_transport.specs.Message.{MessageRecord, packets_of}
 use Rattle.j39_transport.specs.Cutting.{ToSend, packet_data, cut_frame}
 use Rattle.j39_transport.specs.Protocol.{no_limit, timeout, timer_t3, timer_t4}
-use Rattle.j39_transport.specs.Signals.{Signal, RequestToSend, ClearToSend, Acknowledgment, Abort, Packet, said_between, written}
+use Rattle.j39_transport.specs.Signals.{Signal, BroadcastAnnounce, RequestToSend, ClearToSend, Acknowledgment, Abort, Packet, said_between, written}
 
 -- nothing was sent; it waits, so long at most; packets from next to last are to be sent; acknowledged; aborted
 pub data SendState : Type 0 where
@@ -111,6 +111,7 @@ aborted reason s = if is_running s.state then record s { state = Failed reason }
 -- what the receiver says; only what names the message's group counts, and nothing is answered
 unfoldable pub hears : Option Signal → ℕ → SenderRecord → SenderRecord
 hears None now s = s
+hears (Some (BroadcastAnnounce size packets pgn)) now s = s
 hears (Some (RequestToSend size packets most pgn)) now s = s
 hears (Some (ClearToSend count next pgn)) now s = if pgn == s.message.pgn then cleared count next now s else s
 hears (Some (Acknowledgment size packets pgn)) now s = if pgn == s.message.pgn then acknowledged size packets s else s

@@ -10,7 +10,6 @@ ghost use Rattle.j39_transport.specs.Protocol.{filler};
 ghost use Rattle.j39_transport.specs.Cutting.{cut_frame, cut_frames, packet_data, to_send, without_stamp};
 
 use crate::announcement::Announcement;
-use crate::key::Key;
 use crate::protocol::{BROADCAST_ANNOUNCE, FILLER, NO_LIMIT};
 use crate::writing;
 use j39_frame::{GLOBAL_ADDRESS, Id, Pgn, is_address};
@@ -102,14 +101,13 @@ impl<'a> Cut<'a> {
         self.pgn
     }
 
-    /// What it announces under a key.
-    pub(crate) fn announcement(&self, key: Key) -> Announcement
+    /// What it announces.
+    pub(crate) fn announcement(&self) -> Announcement
         ensures size { result.size ≡ length self.now.bytes }
         ensures packets { result.packets ≡ packets_of self.now }
         ensures group { pgn_raw result.group ≡ self.now.pgn }
     {
         Announcement {
-            key,
             group: self.pgn,
             size: self.size(),
             packets: self.packets(),

@@ -7,7 +7,6 @@ mod assembler;
 mod broadcast;
 mod control;
 mod cut;
-mod key;
 pub mod laws;
 mod message;
 mod packet;
@@ -22,7 +21,6 @@ mod session;
 mod sessions;
 mod signal;
 mod table;
-mod transport_frame;
 mod writing;
 
 pub use assembler::Assembler;

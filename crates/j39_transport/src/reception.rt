@@ -56,7 +56,7 @@ impl Reception {
     /// A buffer in which no message was begun yet.
     pub(crate) fn unused() -> Reception {
         Reception {
-            message: Session::new(Announcement::unused(), Stamp::new(0).unwrap()),
+            message: Session::new(0, 0, Announcement::unused(), Stamp::new(0).unwrap()),
             most: 1,
             granted: 0,
             asks: 0,
@@ -66,10 +66,17 @@ impl Reception {
 
     /// Begins a message in this buffer.
     #[tactic(auto, unfolding(crate::specs::Reception::begun))]
-    pub(crate) fn restart(&mut self, announcement: Announcement, most: u8, now: Stamp)
-        ensures { self.new ≡ begun (opened_by announcement (stamp_micros now)) most }
+    pub(crate) fn restart(
+        &mut self,
+        source: u8,
+        own: u8,
+        announcement: Announcement,
+        most: u8,
+        now: Stamp,
+    )
+        ensures { self.new ≡ begun (opened_by source own announcement (stamp_micros now)) most }
     {
-        self.message.restart(announcement, now);
+        self.message.restart(source, own, announcement, now);
         self.most = most_packets(most);
         self.granted = 0;
         self.asks = 0;

@@ -11,7 +11,6 @@ ghost use Rattle.j39_transport.specs.ShownSender.{event_of, state_of};
 ghost use Rattle.j39_transport.specs.ShownSignal.{said};
 
 use crate::Cut;
-use crate::key::Key;
 use crate::progress::{Progress, SendEvent, SendState};
 use crate::protocol::{NO_LIMIT, TIMEOUT, TIMER_T3, TIMER_T4};
 use crate::signal::{self, Signal};
@@ -82,7 +81,7 @@ impl<'a> Sender<'a> {
                 Some(signal::write(signal, source, destination))
             }
             SendEvent::Heard(frame) => {
-                let signal = signal::read(frame, destination, source);
+                let signal = signal::read_between(frame, destination, source);
                 self.hear(signal, now);
                 None
             }
@@ -109,9 +108,8 @@ impl<'a> Sender<'a> {
     {
         match self.progress {
             Progress::Idle => {
-                let key = Key::Directed(self.cut.source(), self.destination);
                 self.wait(TIMER_T3, now);
-                Some(Signal::RequestToSend(self.cut.announcement(key), NO_LIMIT))
+                Some(Signal::RequestToSend(self.cut.announcement(), NO_LIMIT))
             }
             Progress::Waiting(limit) => {
                 if now.micros() > self.since.micros() + limit {
