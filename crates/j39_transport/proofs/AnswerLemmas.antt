@@ -1,5 +1,5 @@
 -- What an assembler answers is what the definitions say.
-use Rattle.std.proofs.Common.{◌≡◌, ℕ, suc, ◌+◌, ◌<◌, Bool, true, false, if◌then◌else◌, ◌&&◌, List, [], ◌∷◌, ◌++◌, length, drop, take, slice_index, Option, Some, None, refl, sym, ap, ◌∙◌, subst, inl, inr, arith, nat_lt, ◌==◌, eqb-true, ltb-true}
+use Rattle.std.proofs.Common.{◌≡◌, ℕ, suc, ◌+◌, Bool, true, false, if◌then◌else◌, List, [], ◌∷◌, ◌++◌, length, drop, take, slice_index, Option, Some, None, refl, sym, ap, ◌∙◌, subst, inl, inr, arith, nat_lt, ◌==◌, eqb-true, ltb-true}
 use Rattle.std.proofs.lemmas.Bool.{cond_both, cond-true, cond-false, and_parts, and_from, both_ways, eqb-false}
 use Rattle.j39_frame.specs.Frame.{FrameRecord}
 use Rattle.j39_transport.specs.Key.{Key, sender, limit}
@@ -20,8 +20,8 @@ use Rattle.j39_transport.specs.Stands.{AreKept, StandsFor}
 use Rattle.j39_transport.proofs.FrameFacts.{packet_facts, sends-others}
 use Rattle.j39_transport.proofs.ReadLemmas.{IsControl, IsPacking, Facts, read_is}
 use Rattle.j39_transport.proofs.MoveLemmas.{sent_over}
-use Rattle.j39_transport.proofs.Bridge.{ev_announces, ev_sends, announced_no_packet, packet_key, ev_stamp}
-use Rattle.j39_transport.proofs.ControlBridge.{no_pack, no_opening}
+use Rattle.j39_transport.proofs.FramePlaces.{ev_announces, ev_sends, announced_no_packet, packet_key, ev_stamp}
+use Rattle.j39_transport.proofs.ControlPlaces.{no_pack, no_opening}
 use Rattle.j39_transport.specs.Answers.{IsPartial, AnswersAt, IsTaken, NoneWhole}
 use Rattle.j39_transport.specs.Assembly.{Whole}
 use Rattle.j39_transport.proofs.Completing.{Continues, Completes, whole_from, whole_only}

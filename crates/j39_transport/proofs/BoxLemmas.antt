@@ -1,7 +1,7 @@
 -- Which announcements need a box, and when an assembler has one that lies unused.
-use Rattle.std.proofs.Common.{◌≡◌, ◌⊎◌, ℕ, suc, ◌+◌, ◌<◌, Bool, true, false, ◌||◌, List, [], ◌∷◌, ◌++◌, length, take, get_or, slice_set, Option, Some, None, refl, sym, ap, ◌∙◌, subst, inl, inr, arith, length-append, ltb-true, eq-eqb}
-use Rattle.std.proofs.lemmas.Bool.{and_from, both_ways, cases_eq, cases_lt, or_right}
-use Rattle.std.proofs.lemmas.List.{get_or-set_same, get_or-set_other, get_or-take, get_or_past, length-map}
+use Rattle.std.proofs.Common.{◌≡◌, ◌⊎◌, ℕ, suc, ◌+◌, ◌<◌, Bool, true, false, ◌||◌, List, [], ◌∷◌, ◌++◌, length, take, get_or, slice_set, Option, Some, None, refl, sym, ap, ◌∙◌, subst, inl, inr, arith, length-append, ltb-true}
+use Rattle.std.proofs.lemmas.Bool.{both_ways, cases_eq, cases_lt, or_right}
+use Rattle.std.proofs.lemmas.List.{get_or-set_same, get_or-set_other, get_or-take, get_or_past}
 use Rattle.j39_frame.specs.Frame.{FrameRecord}
 use Rattle.j39_transport.specs.Answers.{Outcome, Whole, Taken, Ignored, AnswersAt, WholeBy}
 use Rattle.j39_transport.specs.Boxes.{HasOpen, NeedsBox, HasSpare, freed, kept, WantsMemory}
@@ -20,7 +20,7 @@ use Rattle.j39_transport.specs.Steps.{AssemblerRecord, SessionsRecord, Moved, En
 use Rattle.j39_transport.specs.Protocol.{broadcast_limit, directed_limit}
 use Rattle.j39_transport.proofs.AllKeys.{announced_key, table_new}
 use Rattle.j39_transport.proofs.AnswerLemmas.{answers_at}
-use Rattle.j39_transport.proofs.Bridge.{ev_announces}
+use Rattle.j39_transport.proofs.FramePlaces.{ev_announces}
 use Rattle.j39_transport.proofs.PlaceLemmas.{Found, found}
 use Rattle.j39_transport.proofs.ReadLemmas.{Facts, read_is}
 use Rattle.j39_transport.proofs.StepLemmas.{kept_after, kept_forgotten}

@@ -1,6 +1,6 @@
 -- The state of an assembler after an event is that of the definitions.
-use Rattle.std.proofs.Common.{◌≡◌, ℕ, zero, suc, ◌+◌, ◌<◌, ◌≤◌, Bool, true, false, if◌then◌else◌, List, [], ◌∷◌, ◌++◌, map, length, drop, take, set, get_or, slice_index, slice_set, Option, Some, None, refl, sym, ap, ◌∙◌, subst, inl, inr, arith, nat_lt, ◌==◌, eq-eqb, ltb-true, lt-ltb}
-use Rattle.std.proofs.lemmas.Bool.{cases_Bool, cases_lt, cond-true, cond-false, and_parts, and_from, and_left, and_right, both_ways, false_from_ne_true}
+use Rattle.std.proofs.Common.{◌≡◌, ℕ, zero, suc, ◌<◌, Bool, true, false, if◌then◌else◌, List, [], ◌∷◌, ◌++◌, map, drop, take, set, get_or, slice_index, slice_set, Option, Some, None, refl, sym, ap, ◌∙◌, subst, inl, inr, arith, nat_lt, ◌==◌, eq-eqb, ltb-true, lt-ltb}
+use Rattle.std.proofs.lemmas.Bool.{cases_Bool, cond-true, cond-false, and_parts, and_from, and_left, and_right, both_ways, false_from_ne_true}
 use Rattle.std.proofs.lemmas.List.{set-get_or}
 use Rattle.j39_frame.specs.Frame.{FrameRecord}
 use Rattle.j39_transport.specs.Key.{Key, is_key}
@@ -20,8 +20,8 @@ use Rattle.j39_transport.proofs.FrameFacts.{announcement_facts, packet_facts, se
 use Rattle.j39_transport.proofs.ReadLemmas.{IsControl, IsPacking, Facts, read_is}
 use Rattle.j39_transport.proofs.MoveLemmas.{moved_end, moved_packet}
 use Rattle.j39_transport.proofs.PlaceLemmas.{Change, on_pair, Once, with_once, room_once, once_of}
-use Rattle.j39_transport.proofs.Bridge.{packs_place, packs_other, broadcast_place, rival_place, ev_announces, ev_sends, announced_no_packet, place_moves, quiet_moves}
-use Rattle.j39_transport.proofs.ControlBridge.{grants_place, finishes_place, aborts_place, other_place, no_pack, no_opening}
+use Rattle.j39_transport.proofs.FramePlaces.{packs_place, packs_other, broadcast_place, rival_place, ev_announces, ev_sends, announced_no_packet, place_moves, quiet_moves}
+use Rattle.j39_transport.proofs.ControlPlaces.{grants_place, finishes_place, aborts_place, other_place, no_pack, no_opening}
 use Rattle.j39_transport.proofs.Sums.{Apart, apart_later, are_apart}
 use Rattle.j39_transport.proofs.AllKeys.{quiet_step, table_more}
 

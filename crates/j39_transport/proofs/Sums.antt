@@ -12,7 +12,7 @@ use Rattle.j39_transport.proofs.Chains.{Open-unique}
 use Rattle.j39_transport.proofs.Tables.{opens_bounded, opens_unique, over, opens_over, lookup, Looked, looked, pair_is}
 use Rattle.j39_transport.specs.EventSteps.{pair_of}
 use Rattle.j39_transport.specs.Session.{SessionRecord}
-use Rattle.j39_transport.specs.Places.{Places, is_of, open_in, bytes_in}
+use Rattle.j39_transport.specs.Places.{Places, open_in, bytes_in}
 use Rattle.j39_transport.specs.Steps.{SessionsRecord, empty_state, messages_open, bytes_held}
 use Rattle.j39_transport.specs.Stands.{IsAged, AreDirected, AreKept}
 use Rattle.j39_transport.proofs.AllKeys.{table_new, table_run, table_all, session_of, announced_key, table_stands}

@@ -3,9 +3,8 @@ use Rattle.std.proofs.Common.{◌≡◌, ℕ, ◌+◌, ◌<◌, ◌==◌, nat_lt
 use Rattle.std.proofs.lemmas.Bool.{cond_both, cond-false, and_parts, both_ways, false_from_ne_true}
 use Rattle.std.specs.Option.{option_map}
 use Rattle.j39_frame.specs.Frame.{FrameRecord}
-use Rattle.j39_frame.specs.Network.{transport_control_group, transport_data_group}
 use Rattle.j39_transport.specs.Cutting.{ToSend, at_moment}
-use Rattle.j39_transport.specs.Frames.{source_of, destination_of, goes}
+use Rattle.j39_transport.specs.Frames.{source_of, destination_of}
 use Rattle.j39_transport.specs.Key.{Key, sender}
 use Rattle.j39_transport.specs.Message.{MessageRecord}
 use Rattle.j39_transport.specs.Net.{with_delivery, handed_back, of_source}
@@ -13,7 +12,6 @@ use Rattle.j39_transport.specs.Reception.{ReceptionRecord, Reaction, quiet, gran
 use Rattle.j39_transport.specs.Sending.{SenderRecord, hears, send_step}
 use Rattle.j39_transport.specs.Session.{SessionRecord, opened, grown, touched}
 use Rattle.j39_transport.specs.Signals.{Signal, BroadcastAnnounce, RequestToSend, ClearToSend, Acknowledgment, Abort, Packet, said_between, said_by, group_with, written}
-use Rattle.j39_transport.proofs.FrameFacts.{goes_parts}
 use Rattle.j39_transport.proofs.FrameLemmas.{IsTransportGroup, is_control_group, is_data_group, ps_is}
 
 -- ---- whose session it is

@@ -1,5 +1,5 @@
 -- How the open messages move with each event: steps that follow the definitions, and that the code follows.
-use Rattle.std.specs.Prelude.{ℕ, suc, ◌+◌, Bool, if◌then◌else◌, ◌&&◌, ◌||◌, List, ◌∷◌, map, get_or, set, take, Option, Some, None, nat_lt, ◌==◌}
+use Rattle.std.specs.Prelude.{ℕ, suc, ◌+◌, Bool, if◌then◌else◌, ◌&&◌, ◌||◌, ◌∷◌, map, get_or, set, take, Option, Some, None, nat_lt, ◌==◌}
 use Rattle.j39_transport.specs.Key.{Key, limit}
 use Rattle.j39_transport.specs.Key.Key.{Broadcast, Directed}
 use Rattle.j39_transport.specs.Frames.{source_of, destination_of}

@@ -68,7 +68,10 @@ fn boxed(
 ) -> Result<Box<Session>, AllocError>
     ensures { IfOk result (λ b. b.value ≡ opened_by source destination announcement (stamp_micros stamp)) }
 {
-    Ok(Box::new(alloc, Session::new(source, destination, announcement, stamp))?)
+    Ok(Box::new(
+        alloc,
+        Session::new(source, destination, announcement, stamp),
+    )?)
 }
 
 /// Opens a broadcast, in place of that of its source.
@@ -92,7 +95,16 @@ pub(crate) fn announce_broadcast(
     ensures lacked { OnErr result ((at table.old source ≡ None) × (is_some (held_in lent.old) ≡ false)) }
 {
     let place = usize::from(source);
-    let session = take_box(table, place, lent, alloc, source, GLOBAL_ADDRESS, announcement, stamp)?;
+    let session = take_box(
+        table,
+        place,
+        lent,
+        alloc,
+        source,
+        GLOBAL_ADDRESS,
+        announcement,
+        stamp,
+    )?;
     table.put(place, session);
     Ok(())
 }
@@ -129,7 +141,16 @@ pub(crate) fn announce_directed(
         × (is_some (held_in lent.old) ≡ false)) }
 {
     let place = room(table.find(source, destination));
-    let session = take_box(table, place, lent, alloc, source, destination, announcement, stamp)?;
+    let session = take_box(
+        table,
+        place,
+        lent,
+        alloc,
+        source,
+        destination,
+        announcement,
+        stamp,
+    )?;
     table.push(session);
     Ok(())
 }

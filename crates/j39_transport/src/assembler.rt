@@ -107,9 +107,7 @@ impl Assembler {
             (λ _. n ≡ fed self.old frame.now (said_by frame.now))
             (λ _. n ≡ self.old))) }
     {
-        let accepted = self
-            .sessions
-            .accept(&mut self.lent, self.alloc, frame)?;
+        let accepted = self.sessions.accept(&mut self.lent, self.alloc, frame)?;
         Ok(lend(&self.lent, accepted, frame.id.source(), frame.stamp))
     }
 

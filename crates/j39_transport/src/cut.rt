@@ -77,7 +77,13 @@ impl<'a> Cut<'a> {
         let packets = self.packets();
         if k == 0 {
             let group = self.pgn.raw();
-            let bytes = writing::announcement_bytes(BROADCAST_ANNOUNCE, self.size(), packets, NO_LIMIT, group);
+            let bytes = writing::announcement_bytes(
+                BROADCAST_ANNOUNCE,
+                self.size(),
+                packets,
+                NO_LIMIT,
+                group,
+            );
             Some((writing::control_id(self.source, GLOBAL_ADDRESS), bytes))
         } else if k <= u16::from(packets) {
             let bytes = writing::packet_bytes(k as u8, self.data(k as u8));

@@ -29,7 +29,7 @@ pub struct Sender<'a> {
 
 impl<'a> Model for Sender<'a> {
     ghost use Rattle.j39_frame.specs.Stamp.{stamp_micros};
-ghost use Rattle.j39_transport.specs.Sending.{SenderRecord};
+    ghost use Rattle.j39_transport.specs.Sending.{SenderRecord};
     ghost use Rattle.j39_transport.specs.ShownSender.{progress_in, IsSender};
 
     ghost Value = { SenderRecord };

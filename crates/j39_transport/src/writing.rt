@@ -49,7 +49,16 @@ pub(crate) fn clear_to_send_bytes(count: u8, next: u8, pgn: u32) -> [u8; 8]
     ensures { result ≡ clear_to_send ∷ count ∷ next ∷ filler ∷ filler ∷ little_bytes 3 pgn }
 {
     let [pgn_low, pgn_mid, pgn_high, _] = pgn.to_le_bytes();
-    [CLEAR_TO_SEND, count, next, FILLER, FILLER, pgn_low, pgn_mid, pgn_high]
+    [
+        CLEAR_TO_SEND,
+        count,
+        next,
+        FILLER,
+        FILLER,
+        pgn_low,
+        pgn_mid,
+        pgn_high,
+    ]
 }
 
 /// The data of an abort for this reason.
@@ -57,7 +66,16 @@ pub(crate) fn abort_bytes(reason: u8, pgn: u32) -> [u8; 8]
     ensures { result ≡ connection_abort ∷ reason ∷ filler ∷ filler ∷ filler ∷ little_bytes 3 pgn }
 {
     let [pgn_low, pgn_mid, pgn_high, _] = pgn.to_le_bytes();
-    [CONNECTION_ABORT, reason, FILLER, FILLER, FILLER, pgn_low, pgn_mid, pgn_high]
+    [
+        CONNECTION_ABORT,
+        reason,
+        FILLER,
+        FILLER,
+        FILLER,
+        pgn_low,
+        pgn_mid,
+        pgn_high,
+    ]
 }
 
 /// The data of a packet: its number, then seven bytes of the message.

@@ -5,7 +5,7 @@ use Rattle.j39_frame.specs.Frame.{FrameRecord}
 use Rattle.j39_transport.specs.Key.{Key, opening}
 use Rattle.j39_transport.specs.Frames.{goes, group_of, pgn_named, is_control, is_clear_to_send, is_end}
 use Rattle.j39_transport.specs.Key.Key.{Broadcast, Directed}
-use Rattle.j39_transport.specs.Events.{Event, announces, sends, grants, ends, stamp}
+use Rattle.j39_transport.specs.Events.{announces, sends, grants, ends, stamp}
 use Rattle.j39_transport.specs.Events.Event.{Frame}
 use Rattle.j39_transport.specs.EventSteps.{pair_of, moved_place}
 use Rattle.j39_transport.specs.Protocol.{clear_to_send, acknowledgment, connection_abort}
@@ -16,7 +16,7 @@ use Rattle.j39_transport.proofs.FrameFacts.{announcement_facts, packet_facts, cl
 use Rattle.j39_transport.proofs.ReadLemmas.{IsNoFrame, IsControl}
 use Rattle.j39_transport.proofs.MoveLemmas.{moved_end, moved_grant}
 use Rattle.j39_transport.proofs.PlaceLemmas.{on_pair}
-use Rattle.j39_transport.proofs.Bridge.{ev_announces, ev_sends, ev_grants, ev_ends, place_moves, quiet_moves}
+use Rattle.j39_transport.proofs.FramePlaces.{ev_announces, ev_sends, ev_grants, ev_ends, place_moves, quiet_moves}
 use Rattle.j39_transport.proofs.Tables.{is_pair, pair_is}
 
 -- ---- a control frame
