@@ -2,6 +2,7 @@
 use Rattle.std.proofs.Common.{◌≡◌, ◌≢◌, ℕ, Bool, true, false, if◌then◌else◌, ◌&&◌, ◌||◌, slice_index, Option, Some, None, refl, sym, ap, ◌∙◌, subst, inl, inr, arith, ◌==◌, eqb-true, eq-eqb}
 use Rattle.std.proofs.lemmas.Bool.{cases_Bool, cond-true, cond-false, and_parts, and_from, and_right, or_left, or_right, or_cases, both_ways, false_from_ne_true, eqb-false}
 use Rattle.j39_frame.specs.Frame.{FrameRecord}
+use Rattle.j39_frame.specs.Network.{transport_control_group, transport_data_group}
 use Rattle.j39_transport.specs.Key.{Key, opening}
 use Rattle.j39_transport.specs.Frames.{goes, group_of, pgn_named, is_control, is_clear_to_send, is_end}
 use Rattle.j39_transport.specs.Key.Key.{Broadcast, Directed}
@@ -22,11 +23,11 @@ use Rattle.j39_transport.proofs.Tables.{is_pair, pair_is}
 -- ---- a control frame
 
 module _ (b s d g : ℕ) (f : FrameRecord) (c : IsControl b s d g f) where
-  pub sent_pgn : group_of f.id ≡ 60416
-  sent_pgn = (goes_parts 60416 d s f c.goes_back).0
+  pub sent_pgn : group_of f.id ≡ transport_control_group
+  sent_pgn = (goes_parts transport_control_group d s f c.goes_back).0
 
   pub no_pack : (k : Key) → sends k (Frame f) ≡ false
-  no_pack k = ev_sends k f ∙ false_from_ne_true _ (λ t. (let p : group_of f.id ≡ 60160 = (packet_facts k f t).pgn in let q : group_of f.id ≡ 60416 = sent_pgn in let o : ⊥ = omega arith in o))
+  no_pack k = ev_sends k f ∙ false_from_ne_true _ (λ t. (let p : group_of f.id ≡ transport_data_group = (packet_facts k f t).pgn in let q : group_of f.id ≡ transport_control_group = sent_pgn in let o : ⊥ = omega arith in o))
 
   pub no_opening : (k : Key) → announces k (Frame f) ≡ false
   no_opening k = ev_announces k f ∙ false_from_ne_true _ (λ t. go k (announcement_facts k f t).first)
@@ -45,15 +46,15 @@ module _ (b s d g : ℕ) (f : FrameRecord) (c : IsControl b s d g f) where
   answer_from : (s' d' g' : ℕ) → s' ≡ s → d' ≡ d → g' ≡ g → is_control b d' s' g' f ≡ true
   unfolding is_control
   answer_from s' d' g' x y z =
-      and_from _ _ (and_from _ _ (subst (λ n. goes 60416 d' n f ≡ true) (sym x) (subst (λ n. goes 60416 n s f ≡ true) (sym y) c.goes_back)) (eq-eqb _ _ c.first)) (eq-eqb _ _ (sym c.group_is ∙ sym z))
+      and_from _ _ (and_from _ _ (subst (λ n. goes transport_control_group d' n f ≡ true) (sym x) (subst (λ n. goes transport_control_group n s f ≡ true) (sym y) c.goes_back)) (eq-eqb _ _ c.first)) (eq-eqb _ _ (sym c.group_is ∙ sym z))
 
   answer_to : (a s' d' g' : ℕ) → is_control a d' s' g' f ≡ true → (a ≡ b) × (s' ≡ s) × (d' ≡ d) × (g' ≡ g)
   unfolding is_control
   answer_to a s' d' g' h =
-      let p = and_parts (goes 60416 d' s' f && slice_index f.bytes 0 == a) (pgn_named f == g') h in
-      let q = and_parts (goes 60416 d' s' f) (slice_index f.bytes 0 == a) p.0 in
-      let x = goes_parts 60416 d' s' f q.0 in
-      let y = goes_parts 60416 d s f c.goes_back in
+      let p = and_parts (goes transport_control_group d' s' f && slice_index f.bytes 0 == a) (pgn_named f == g') h in
+      let q = and_parts (goes transport_control_group d' s' f) (slice_index f.bytes 0 == a) p.0 in
+      let x = goes_parts transport_control_group d' s' f q.0 in
+      let y = goes_parts transport_control_group d s f c.goes_back in
       (sym (eqb-true _ _ q.1) ∙ c.first, sym x.2 ∙ y.2, sym x.1 ∙ y.1, sym (eqb-true _ _ p.1) ∙ sym c.group_is)
 
 pub grants_place : (s d g : ℕ) (f : FrameRecord) → IsControl clear_to_send s d g f → (p : Option SessionRecord) → moved_place (Frame f) p ≡ on_pair s d (granted g f.stamp) p
@@ -117,9 +118,9 @@ finishes_place s d g f c (Some x) =
       | inr y ↦ false_from_ne_true _ (λ q. elim (or_cases (is_control acknowledgment x.destination x.source x.group f || is_control connection_abort x.destination x.source x.group f) (is_control connection_abort x.source x.destination x.group f) q) [
         | inl u ↦ elim (or_cases (is_control acknowledgment x.destination x.source x.group f) (is_control connection_abort x.destination x.source x.group f) u) [
           | inl v ↦ (let w = answer_to acknowledgment s d g f c acknowledgment x.source x.destination x.group v in both_ways _ y (and_from _ _ (is_pair s d x w.1 w.2) (eq-eqb _ _ w.3)))
-          | inr v ↦ (let w : 255 ≡ 19 = (answer_to acknowledgment s d g f c connection_abort x.source x.destination x.group v).0 in let o : ⊥ = omega arith in o)
+          | inr v ↦ (let w : connection_abort ≡ acknowledgment = (answer_to acknowledgment s d g f c connection_abort x.source x.destination x.group v).0 in let o : ⊥ = omega arith in o)
         ]
-        | inr u ↦ (let w : 255 ≡ 19 = (answer_to acknowledgment s d g f c connection_abort x.destination x.source x.group u).0 in let o : ⊥ = omega arith in o)
+        | inr u ↦ (let w : connection_abort ≡ acknowledgment = (answer_to acknowledgment s d g f c connection_abort x.destination x.source x.group u).0 in let o : ⊥ = omega arith in o)
       ]) ∙ sym y
     ]
 
@@ -156,7 +157,7 @@ aborts_place s d g f c (Some x) =
           ])
       | inr y ↦ false_from_ne_true _ (λ q. elim (or_cases (is_control acknowledgment x.destination x.source x.group f || is_control connection_abort x.destination x.source x.group f) (is_control connection_abort x.source x.destination x.group f) q) [
         | inl u ↦ elim (or_cases (is_control acknowledgment x.destination x.source x.group f) (is_control connection_abort x.destination x.source x.group f) u) [
-          | inl v ↦ (let w : 19 ≡ 255 = (answer_to connection_abort s d g f c acknowledgment x.source x.destination x.group v).0 in let o : ⊥ = omega arith in o)
+          | inl v ↦ (let w : acknowledgment ≡ connection_abort = (answer_to connection_abort s d g f c acknowledgment x.source x.destination x.group v).0 in let o : ⊥ = omega arith in o)
           | inr v ↦ (let w = answer_to connection_abort s d g f c connection_abort x.source x.destination x.group v in both_ways _ y (and_from _ _ (or_left _ _ (is_pair s d x w.1 w.2)) (eq-eqb _ _ w.3)))
         ]
         | inr u ↦ (let w = answer_to connection_abort s d g f c connection_abort x.destination x.source x.group u in both_ways _ y (and_from _ _ (or_right _ _ (is_pair d s x w.2 w.1)) (eq-eqb _ _ w.3)))

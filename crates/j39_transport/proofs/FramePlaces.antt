@@ -2,13 +2,14 @@
 use Rattle.std.proofs.Common.{◌≡◌, ℕ, ◌<◌, true, false, drop, slice_index, Option, Some, None, refl, sym, ap, ◌∙◌, subst, inl, inr, arith, nat_lt, ltb-true}
 use Rattle.std.proofs.lemmas.Bool.{cases_Bool, cond-true, cond-false, and_parts, both_ways, false_from_ne_true}
 use Rattle.j39_frame.specs.Frame.{FrameRecord}
+use Rattle.j39_frame.specs.Network.{transport_control_group, transport_data_group}
 use Rattle.j39_transport.specs.Key.{Key, sender, goes_to, opening}
 use Rattle.j39_transport.specs.Frames.{group_of, destination_of, is_announcement, is_packet, is_clear_to_send, is_end}
 use Rattle.j39_transport.specs.Key.Key.{Broadcast, Directed}
 use Rattle.j39_transport.specs.Events.{Event, announces, sends, grants, ends, number, payload, stamp}
 use Rattle.j39_transport.specs.Events.Event.{Frame}
 use Rattle.j39_transport.specs.EventSteps.{moved, pair_of, moved_place}
-use Rattle.j39_transport.specs.Protocol.{directed_limit}
+use Rattle.j39_transport.specs.Protocol.{directed_limit, request_to_send, clear_to_send, broadcast_announce}
 use Rattle.j39_transport.specs.Session.{SessionRecord}
 use Rattle.j39_transport.specs.Places.{is_of}
 use Rattle.j39_transport.specs.Steps.{packed}
@@ -97,21 +98,21 @@ packs_other s f h (Some x) = quiet_moves (Frame f) x (quiet_packet (Broadcast s)
 -- ---- an announcement
 
 pub announced_no_packet : (j k : Key) (f : FrameRecord) → is_announcement j f ≡ true → sends k (Frame f) ≡ false
-announced_no_packet j k f h = ev_sends k f ∙ false_from_ne_true _ (λ t. (let p : group_of f.id ≡ 60160 = (packet_facts k f t).pgn in let q : group_of f.id ≡ 60416 = (announcement_facts j f h).pgn in let o : ⊥ = omega arith in o))
+announced_no_packet j k f h = ev_sends k f ∙ false_from_ne_true _ (λ t. (let p : group_of f.id ≡ transport_data_group = (packet_facts k f t).pgn in let q : group_of f.id ≡ transport_control_group = (announcement_facts j f h).pgn in let o : ⊥ = omega arith in o))
 
 pub announced_no_grant : (j k : Key) (g : ℕ) (f : FrameRecord) → is_announcement j f ≡ true → grants k g (Frame f) ≡ false
 announced_no_grant j k g f h = ev_grants k g f ∙ false_from_ne_true _ (λ t. go j (announcement_facts j f h).first (allowing_facts k g f t).1)
   where
-    go : (j : Key) → slice_index f.bytes 0 ≡ opening j → slice_index f.bytes 0 ≡ 17 → ⊥
+    go : (j : Key) → slice_index f.bytes 0 ≡ opening j → slice_index f.bytes 0 ≡ clear_to_send → ⊥
     go (Broadcast s) a b = omega arith
     go (Directed s d) a b = omega arith
 
 pub broadcast_place : (s : ℕ) (f : FrameRecord) → is_announcement (Broadcast s) f ≡ true → (p : Option SessionRecord) → moved_place (Frame f) p ≡ p
 broadcast_place s f h None = refl
 broadcast_place s f h (Some x) =
-    let b : slice_index f.bytes 0 ≡ 32 = (announcement_facts (Broadcast s) f h).first in
+    let b : slice_index f.bytes 0 ≡ broadcast_announce = (announcement_facts (Broadcast s) f h).first in
     quiet_moves (Frame f) x (record {
-      no_announcement = ev_announces (pair_of x) f ∙ false_from_ne_true _ (λ t. (let c : slice_index f.bytes 0 ≡ 16 = (announcement_facts (pair_of x) f t).first in let o : ⊥ = omega arith in o));
+      no_announcement = ev_announces (pair_of x) f ∙ false_from_ne_true _ (λ t. (let c : slice_index f.bytes 0 ≡ request_to_send = (announcement_facts (pair_of x) f t).first in let o : ⊥ = omega arith in o));
       no_packet = announced_no_packet (Broadcast s) (pair_of x) f h;
       no_grant = announced_no_grant (Broadcast s) (pair_of x) x.group f h;
       no_end = announces-ends (Broadcast s) (pair_of x) x.group (Frame f) (ev_announces (Broadcast s) f ∙ h);

@@ -5,6 +5,7 @@ use Rattle.std.proofs.lemmas.List.{append-nil, take-take, take_at}
 use Rattle.std.proofs.lemmas.List.FromFn.{length-map-range_with_len, map-range_with_len_more}
 use Rattle.std.specs.List.{range_with_len}
 use Rattle.j39_frame.specs.Frame.{FrameRecord}
+use Rattle.j39_transport.specs.Protocol.{filler}
 use Rattle.j39_transport.specs.Answers.{WholeBy}
 use Rattle.j39_transport.specs.Broadcasting.{Send, WaitUntil, Done, next_moment, answer_after, with_answer}
 use Rattle.j39_transport.specs.Broadcasts.{poll_moment, polled, frames_apart, SendsAllLaw, IsAside, AreAmong, ended, sent, passed, IsHeardLaw}
@@ -134,7 +135,7 @@ record Underway (m : MessageRecord) (first count : ℕ) (E : List Event) : Type 
   size_is : session.size ≡ length m.bytes
   group_is : session.group ≡ m.pgn
   count_is : session.count ≡ count
-  bytes_are : session.bytes ≡ take (7 * count) (m.bytes ++ replicate 7 255)
+  bytes_are : session.bytes ≡ take (7 * count) (m.bytes ++ replicate 7 filler)
   last_is : session.last ≡ first + 50000 * count
 
 begins : (m : MessageRecord) (first : ℕ) (E : List Event) → IsLong m → Underway m first 0 (E ++ Frame (frame_at m first 0) ∷ [])
@@ -212,7 +213,7 @@ next_at : (m : MessageRecord) (first count : ℕ) (x : SessionRecord) → IsLong
 next_at m first count x l n t = subst (λ (f : FrameRecord). IsNext m first count (Frame f) x) (sym (frame_is m first count)) (next_is m first count x l n t)
 
 bytes_on : (m : MessageRecord) (first count : ℕ) (E : List Event) (e : Event) (u : Underway m first count E) → count < packets_of m → payload e ≡ packet_data m.bytes (count + 1)
-    → u.session.bytes ++ payload e ≡ take (7 * (count + 1)) (m.bytes ++ replicate 7 255)
+    → u.session.bytes ++ payload e ≡ take (7 * (count + 1)) (m.bytes ++ replicate 7 filler)
 bytes_on m first count E e u f p = (λ i. u.bytes_are i ++ p i) ∙ joined_more m.bytes count (omega arith)
 
 goes_on : (m : MessageRecord) (first count : ℕ) (E : List Event) → IsLong m → count + 1 < packets_of m → Underway m first count E
@@ -244,7 +245,7 @@ ends_whole m first count E l f u =
     let n : x.count ≡ count = u.count_is in
     let p : x.packets ≡ packets_of m = u.packets_are in
     let h : IsNext m first count e x = next_at m first count x l n u.last_is in
-    let b : x.bytes ++ payload e ≡ take (7 * (count + 1)) (m.bytes ++ replicate 7 255) = bytes_on m first count E e u (omega arith) h.payload_is in
+    let b : x.bytes ++ payload e ≡ take (7 * (count + 1)) (m.bytes ++ replicate 7 filler) = bytes_on m first count E e u (omega arith) h.payload_is in
     let z : length m.bytes ≤ 7 * (count + 1) = omega arith in (
       k,
       refl,
@@ -255,7 +256,7 @@ ends_whole m first count E l f u =
         is_last = omega arith;
         group_is = sym u.group_is;
         bytes_are = sym ((λ i. take (u.size_is i) (b i))
-            ∙ (take-take (length m.bytes) (7 * (count + 1)) (m.bytes ++ replicate 7 255) z ∙ take_at m.bytes (replicate 7 255) (length m.bytes) refl));
+            ∙ (take-take (length m.bytes) (7 * (count + 1)) (m.bytes ++ replicate 7 filler) z ∙ take_at m.bytes (replicate 7 filler) (length m.bytes) refl));
       }),
     )
 

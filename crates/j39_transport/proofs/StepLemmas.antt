@@ -9,7 +9,7 @@ use Rattle.j39_transport.specs.Key.Key.{Broadcast, Directed}
 use Rattle.j39_transport.specs.Events.{Event, announces, sends, grants, ends, number, payload, size, packets, group, stamp}
 use Rattle.j39_transport.specs.Events.Event.{Frame, Forget}
 use Rattle.j39_transport.specs.EventSteps.{pair_of, moved_place, is_request_to_send, directed_step, step, broadcast_step}
-use Rattle.j39_transport.specs.Protocol.{clear_to_send, acknowledgment, connection_abort, broadcast_limit, directed_limit}
+use Rattle.j39_transport.specs.Protocol.{clear_to_send, acknowledgment, connection_abort, broadcast_limit, directed_limit, request_to_send, broadcast_announce}
 use Rattle.j39_transport.specs.Stands.{AreKept}
 use Rattle.j39_transport.specs.Session.{SessionRecord}
 use Rattle.j39_transport.specs.Places.{Places, at, is_of, find, forgotten, without}
@@ -100,7 +100,7 @@ unfolding state_after finished payload size packets group stamp
 directed_after f None a h u = unchanged f a.directed (h.no_announcement (Directed (source_of f.id) (destination_of f.id))) (other_place f h)
 directed_after f (Some (BroadcastAnnounce n p g)) a h u =
     unchanged f a.directed
-    (false_from_ne_true _ (λ t. (let x : slice_index f.bytes 0 ≡ 16 = (announcement_facts (Directed (source_of f.id) (destination_of f.id)) f t).first in let y : slice_index f.bytes 0 ≡ 32 = (announcement_facts (Broadcast (source_of f.id)) f h.announces_it).first in let o : ⊥ = omega arith in o)))
+    (false_from_ne_true _ (λ t. (let x : slice_index f.bytes 0 ≡ request_to_send = (announcement_facts (Directed (source_of f.id) (destination_of f.id)) f t).first in let y : slice_index f.bytes 0 ≡ broadcast_announce = (announcement_facts (Broadcast (source_of f.id)) f h.announces_it).first in let o : ⊥ = omega arith in o)))
     (broadcast_place (source_of f.id) f h.announces_it)
 directed_after f (Some (RequestToSend n p most g)) a h u =
     let s : ℕ = source_of f.id in
@@ -168,7 +168,7 @@ broadcasts_after f (Some (BroadcastAnnounce n p g)) a h =
 broadcasts_after f (Some (RequestToSend n p most g)) a h =
     let k : Key = Directed (source_of f.id) (destination_of f.id) in
     quiet_broadcasts f a.broadcasts
-    (false_from_ne_true _ (λ t. (let x : slice_index f.bytes 0 ≡ 32 = (announcement_facts (Broadcast (source_of f.id)) f t).first in let y : slice_index f.bytes 0 ≡ 16 = (announcement_facts k f h.announces_it).first in let o : ⊥ = omega arith in o)))
+    (false_from_ne_true _ (λ t. (let x : slice_index f.bytes 0 ≡ broadcast_announce = (announcement_facts (Broadcast (source_of f.id)) f t).first in let y : slice_index f.bytes 0 ≡ request_to_send = (announcement_facts k f h.announces_it).first in let o : ⊥ = omega arith in o)))
     (sym (ev_sends (Broadcast (source_of f.id)) f) ∙ announced_no_packet k (Broadcast (source_of f.id)) f h.announces_it)
 broadcasts_after f (Some (ClearToSend count next g)) a h = control_broadcasts clear_to_send _ _ g f a h
 broadcasts_after f (Some (Acknowledgment n p g)) a h = control_broadcasts acknowledgment _ _ g f a h
