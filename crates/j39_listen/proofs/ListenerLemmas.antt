@@ -16,7 +16,7 @@ use Rattle.j39_groups.specs.Row.{RowRecord}
 use Rattle.j39_transport.specs.Answers.{AreHeldAfter, AreOpenAfter, NoneWhole, WholeBy}
 use Rattle.j39_transport.specs.Events.{Event}
 use Rattle.j39_transport.specs.Events.Event.{Frame, Forget}
-use Rattle.j39_transport.specs.FrameSteps.{transport_frame_of}
+use Rattle.j39_transport.specs.Signals.{said_by}
 use Rattle.j39_transport.specs.Message.{MessageRecord}
 use Rattle.j39_transport.specs.Stands.{Stands}
 use Rattle.j39_transport.specs.Steps.{AssemblerRecord, fed, spare_after, state_after}
@@ -99,7 +99,7 @@ pub hears_reported : (groups : List RowRecord) (l : Listener) (F : List FrameRec
     → Hears l F → Hears l (F ++ f ∷ [])
 unfolding state_after spare_after
 hears_reported groups l F f reported none h =
-    let kept : fed l.assembler f.stamp (transport_frame_of f) ≡ l.assembler = ap (fed l.assembler f.stamp) (reported_other groups f reported) in
+    let kept : fed l.assembler f (said_by f) ≡ l.assembler = ap (fed l.assembler f) (reported_other groups f reported) in
     hears_quiet l F f l.assembler none h (subst (λ (a : AssemblerRecord). Stands (h.events ++ Frame f ∷ []) a) kept (stands_after h.events f l.assembler h.stands))
 
 pub silent_many : (groups : List RowRecord) (l : Listener) (F : List FrameRecord) (f : FrameRecord) → IsMany groups f → (h : Hears l F) → NoneWhole h.events f

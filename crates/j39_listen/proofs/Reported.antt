@@ -1,6 +1,6 @@
 -- Frames of reported groups, and frames of the transport protocol.
 use Rattle.std.specs.Prelude.{List}
-use Rattle.std.proofs.Common.{◌≡◌, ◌==◌, ℕ, true, false, refl, sym, ap, ◌∙◌, subst, eqb-true}
+use Rattle.std.proofs.Common.{◌≡◌, ◌==◌, ℕ, true, false, None, refl, sym, ap, ◌∙◌, subst, eqb-true}
 use Rattle.std.proofs.lemmas.Bool.{both_ways, false_from_ne_true}
 use Rattle.j39_frame.specs.Frame.{FrameRecord}
 use Rattle.j39_frame.specs.Identifier.{pgn_of, source_of}
@@ -9,8 +9,7 @@ use Rattle.j39_groups.specs.Readings.{is_reported_in}
 use Rattle.j39_groups.specs.Row.{RowRecord}
 use Rattle.j39_transport.specs.Frames as transport
 use Rattle.j39_transport.specs.Frames.{group_of, is_announcement, is_packet}
-use Rattle.j39_transport.specs.FrameSteps.{transport_frame_of}
-use Rattle.j39_transport.specs.FrameSteps.TransportFrame.{Other}
+use Rattle.j39_transport.specs.Signals.{said_by}
 use Rattle.j39_transport.specs.Key.{Key, sender}
 use Rattle.j39_transport.proofs.FrameFacts.{announcement_facts, packet_facts}
 
@@ -47,8 +46,8 @@ pub unreported_packet : (groups : List RowRecord) (k : Key) (f : FrameRecord) �
 unreported_packet groups k f h = false_from_ne_true _ (λ r. not_reported groups _ r (packet_group k f h))
 
 -- nor is a frame of a reported group one of the transport protocol
-pub reported_other : (groups : List RowRecord) (f : FrameRecord) → is_reported_in groups (pgn_of f.id) ≡ true → transport_frame_of f ≡ Other
-unfolding transport_frame_of
+pub reported_other : (groups : List RowRecord) (f : FrameRecord) → is_reported_in groups (pgn_of f.id) ≡ true → said_by f ≡ None
+unfolding said_by
 reported_other groups f reported =
     let no_data : (group_of f.id == transport_data_group) ≡ false = false_from_ne_true _ (λ e. not_reported groups _ reported (sym (group_is f.id) ∙ eqb-true _ _ e)) in
     let no_control : (group_of f.id == transport_control_group) ≡ false =

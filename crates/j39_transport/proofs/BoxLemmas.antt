@@ -1,29 +1,31 @@
 -- Which announcements need a box, and when an assembler has one that lies unused.
-use Rattle.std.proofs.Common.{◌≡◌, ◌⊎◌, ℕ, suc, ◌+◌, ◌<◌, Bool, true, false, ◌||◌, List, [], ◌∷◌, ◌++◌, length, take, get_or, slice_set, Option, Some, None, refl, sym, ap, ◌∙◌, subst, inl, inr, arith, length-append, ltb-true, eq-eqb}
-use Rattle.std.proofs.lemmas.Bool.{and_from, both_ways, cases_eq, cases_lt, or_right}
-use Rattle.std.proofs.lemmas.List.{get_or-set_same, get_or-set_other, get_or-take, get_or_past, length-map}
+use Rattle.std.proofs.Common.{◌≡◌, ◌⊎◌, ℕ, suc, ◌+◌, ◌<◌, Bool, true, false, ◌||◌, List, [], ◌∷◌, ◌++◌, length, take, get_or, slice_set, Option, Some, None, refl, sym, ap, ◌∙◌, subst, inl, inr, arith, length-append, ltb-true}
+use Rattle.std.proofs.lemmas.Bool.{both_ways, cases_eq, cases_lt, or_right}
+use Rattle.std.proofs.lemmas.List.{get_or-set_same, get_or-set_other, get_or-take, get_or_past}
 use Rattle.j39_frame.specs.Frame.{FrameRecord}
 use Rattle.j39_transport.specs.Answers.{Outcome, Whole, Taken, Ignored, AnswersAt, WholeBy}
 use Rattle.j39_transport.specs.Boxes.{HasOpen, NeedsBox, HasSpare, freed, kept, WantsMemory}
-use Rattle.j39_transport.specs.EventSteps.{Session, Entry}
+use Rattle.j39_transport.specs.EventSteps.{pair_of}
 use Rattle.j39_transport.specs.Events.{Event, at as event_at}
 use Rattle.j39_transport.specs.Events.Event.{Frame, Forget}
-use Rattle.j39_transport.specs.Frames.{source_of, is_announcement}
-use Rattle.j39_transport.specs.FrameSteps.{TransportFrame, Announcement, Packet, ClearToSend, Acknowledgment, Abort, Other, transport_frame_of}
+use Rattle.j39_transport.specs.Frames.{source_of, destination_of, is_announcement}
+use Rattle.j39_transport.specs.Signals.{Signal, BroadcastAnnounce, RequestToSend, ClearToSend, Acknowledgment, Abort, Packet, said_by}
 use Rattle.j39_transport.specs.Key.{Key}
 use Rattle.j39_transport.specs.Key.Key.{Broadcast, Directed}
 use Rattle.j39_transport.specs.Message.{MessageRecord}
 use Rattle.j39_transport.specs.Places.{Places, at, is_of, find, find_from}
 use Rattle.j39_transport.specs.Session.{SessionRecord, opened}
-use Rattle.j39_transport.specs.Stands.{IsSession, StandsFor, AreKept, Stands, aged, broadcast_in, entry_in, full}
-use Rattle.j39_transport.specs.Steps.{AssemblerRecord, SessionsRecord, Moved, Ends, Grows, Stays, Late, announced, answer, answer_by, answer_to_packet, fed, forgot, is_whole, LacksBox, moves, new_assembler, place_for, room, spare_after, spare_left, state_after, told, told_at}
-use Rattle.j39_transport.proofs.AllKeys.{announced_key}
+use Rattle.j39_transport.specs.Stands.{IsSession, StandsFor, AreKept, Stands}
+use Rattle.j39_transport.specs.Steps.{AssemblerRecord, SessionsRecord, Moved, Ends, Grows, Stays, Late, announced, answer, answer_by, answer_to_packet, fed, forgot, key_of, is_whole, LacksBox, moves, new_assembler, place_for, room, spare_after, spare_left, state_after, told, told_at}
+use Rattle.j39_transport.specs.Protocol.{broadcast_limit, directed_limit}
+use Rattle.j39_transport.proofs.AllKeys.{announced_key, table_new}
 use Rattle.j39_transport.proofs.AnswerLemmas.{answers_at}
-use Rattle.j39_transport.proofs.Bridge.{ev_announces, pair_is}
-use Rattle.j39_transport.proofs.PlaceLemmas.{Found, aged_at, found}
+use Rattle.j39_transport.proofs.FramePlaces.{ev_announces}
+use Rattle.j39_transport.proofs.PlaceLemmas.{Found, found}
 use Rattle.j39_transport.proofs.ReadLemmas.{Facts, read_is}
-use Rattle.j39_transport.proofs.StepLemmas.{broadcast_at, kept_after, kept_forgotten, kept_new}
+use Rattle.j39_transport.proofs.StepLemmas.{kept_after, kept_forgotten}
 use Rattle.j39_transport.proofs.TableLemmas.{set_same}
+use Rattle.j39_transport.proofs.Tables.{is_pair, pair_is, same_pair}
 
 -- ---- the keys that have a message open, and their places
 
@@ -37,53 +39,34 @@ same_frame f g e = cc (e)
 no_frame : (t : ℕ) (f : FrameRecord) → Forget t ≡ Frame f → ⊥
 no_frame t f e = cc (e)
 
-length-aged : (i : ℕ) (t : Places) → length (aged i t) ≡ length t
-unfolding aged
-length-aged i [] = refl
-length-aged i (p ∷ t) = ap suc (length-aged (suc i) t)
-
 some_not_none : {A : Type 0} (x : A) → ◌≡◌ {A = Option A} (Some x) None → ⊥
 some_not_none x e = cc (e)
 
-has_open : (E : List Event) (k : Key) (x : Session) → IsSession E k x → HasOpen E k
-has_open E k x h = (x.count, (x.group_due, h.start, h.places, h.open_by, sym h.count_is))
+has_open : (E : List Event) (k : Key) (x : SessionRecord) → IsSession E k x → HasOpen E k
+has_open E k x h = (x.count, (x.group, h.start, h.places, h.open_by, sym h.count_is))
 
 module _ (E : List Event) (a : SessionsRecord) (h : AreKept E a) where
   keeps : (k : Key) → HasOpen E k → Keeps a k
   keeps (Broadcast s) o =
       let l : s < 254 = ltb-true _ _ (announced_key (Broadcast s) (event_at E o.1.1) o.1.3.announced) in
-      go l (at a.broadcasts s) refl (subst (λ (q : Option Session). StandsFor E (Broadcast s) q) (broadcast_at a.broadcasts s) (h.is.broadcasts.each s l))
+      go l (at a.broadcasts s) refl (h.broadcasts.each s l)
     where
-      go : s < 254 → (q : Option SessionRecord) → at a.broadcasts s ≡ q → StandsFor E (Broadcast s) (broadcast_in (at a.broadcasts s)) → Keeps a (Broadcast s)
-      go l None e w = absurd ((subst (λ (p : Option SessionRecord). StandsFor E (Broadcast s) (broadcast_in p)) e w) o.1.0 o.1.1 o.1.2 o.1.3)
+      go : s < 254 → (q : Option SessionRecord) → at a.broadcasts s ≡ q → StandsFor E (Broadcast s) (at a.broadcasts s) → Keeps a (Broadcast s)
+      go l None e w = absurd ((subst (λ (p : Option SessionRecord). StandsFor E (Broadcast s) p) e w) o.1.0 o.1.1 o.1.2 o.1.3)
       go l (Some x) e w = (l, x, e)
   keeps (Directed s d) o =
-      let k = h.is.directed.all s d o.1.0 o.1.1 o.1.2 o.1.3 in
-      go k.0 k.1 (at a.directed k.0) refl (sym (aged_at 0 a.directed k.0) ∙ k.2)
-    where
-      go : (i : ℕ) (z : Session) (q : Option SessionRecord) → at a.directed i ≡ q → entry_in (0 + i) (at a.directed i) ≡ Some (record { from = s; to = d; session = z }) → Keeps a (Directed s d)
-      go i z None e w = absurd (some_not_none _ (sym w ∙ ap (entry_in (0 + i)) e))
-      go i z (Some x) e w =
-          let n : ◌≡◌ {A = Option Entry} (Some (record { from = x.source; to = x.destination; session = full (0 + i) x })) (Some (record { from = s; to = d; session = z })) = ap (entry_in (0 + i)) (sym e) ∙ w in
-          let m : record { from = x.source; to = x.destination; session = full (0 + i) x } ≡ record { from = s; to = d; session = z } = cc (n) in
-          (i, x, e, and_from _ _ (eq-eqb _ _ (ap (λ (y : Entry). y.from) m)) (eq-eqb _ _ (ap (λ (y : Entry). y.to) m)))
+      let k = h.directed.all s d o.1.0 o.1.1 o.1.2 o.1.3 in
+      (k.0, k.1, k.2, is_pair s d k.1 k.3 k.4)
 
   is_kept : (k : Key) → Keeps a k → HasOpen E k
-  is_kept (Broadcast s) w =
-      has_open E (Broadcast s) (full 0 w.1)
-      (subst (λ (q : Option Session). StandsFor E (Broadcast s) q) (broadcast_at a.broadcasts s ∙ ap broadcast_in w.2) (h.is.broadcasts.each s w.0))
-  is_kept (Directed s d) w =
-      let p = pair_is s d w.1 w.3 in
-      let y : Entry = record { from = w.1.source; to = w.1.destination; session = full (0 + w.0) w.1 } in
-      let e : get_or (aged 0 a.directed) w.0 None ≡ Some y = aged_at 0 a.directed w.0 ∙ ap (entry_in (0 + w.0)) w.2 in
-      let z : HasOpen E (Directed w.1.source w.1.destination) = has_open E (Directed w.1.source w.1.destination) (full (0 + w.0) w.1) (h.is.directed.each w.0 y e).0 in
-      subst (λ (n : ℕ). HasOpen E (Directed n d)) p.0 (subst (λ (n : ℕ). HasOpen E (Directed w.1.source n)) p.1 z)
+  is_kept (Broadcast s) w = has_open E (Broadcast s) w.1 (subst (λ (q : Option SessionRecord). StandsFor E (Broadcast s) q) w.2 (h.broadcasts.each s w.0))
+  is_kept (Directed s d) w = subst (λ (k : Key). HasOpen E k) (same_pair s d w.1 (pair_is s d w.1 w.3)) (has_open E (pair_of w.1) w.1 (h.directed.each w.0 w.1 w.2).session)
 
   broadcasts_size : length a.broadcasts ≡ 254
-  broadcasts_size = sym (length-map a.broadcasts broadcast_in) ∙ h.is.broadcasts.size_is
+  broadcasts_size = h.broadcasts.size_is
 
   directed_size : length a.directed ≡ 16
-  directed_size = sym (length-aged 0 a.directed) ∙ h.is.directed.size_is
+  directed_size = h.directed.size_is
 
 -- ---- an announcement whose place is empty
 
@@ -145,20 +128,24 @@ module _ (E : List Event) (f : FrameRecord) (a : AssemblerRecord) (h : Stands E 
         (keeps_on a.sessions k (opened k g n p f.stamp) j (directed_size E a.sessions h.kept) (broadcasts_size E a.sessions h.kept) e (keeps E a.sessions h.kept j o));
   }
 
-  wants_by : (r : TransportFrame) → Facts f r → AreKept (E ++ Frame f ∷ []) (state_after a.sessions f.stamp r) → LacksBox a.sessions a.has_spare r → WantsMemory E f
-  unfolding state_after
-  wants_by (Announcement k g n p) c next w = record {
-    needs = needs_box k g n p c.announces_it next w.0;
+  wanting : (k : Key) (g n p : ℕ) → is_announcement k f ≡ true → AreKept (E ++ Frame f ∷ []) (announced a.sessions k (opened k g n p f.stamp)) → (place_for a.sessions k ≡ None) × (a.has_spare ≡ false) → WantsMemory E f
+  wanting k g n p is next w = record {
+    needs = needs_box k g n p is next w.0;
     none_unused = λ s. both_ways _ w.1 (h.spare s);
   }
-  wants_by (Packet k n bs) c next w = absurd w
-  wants_by (ClearToSend s d g) c next w = absurd w
-  wants_by (Acknowledgment s d g) c next w = absurd w
-  wants_by (Abort s d g) c next w = absurd w
-  wants_by Other c next w = absurd w
 
-  pub wants_memory : LacksBox a.sessions a.has_spare (transport_frame_of f) → WantsMemory E f
-  wants_memory w = wants_by (transport_frame_of f) (read_is f) (kept_after E f a.sessions h.kept) w
+  wants_by : (r : Option Signal) → Facts f r → AreKept (E ++ Frame f ∷ []) (state_after a.sessions f r) → LacksBox a.sessions a.has_spare f r → WantsMemory E f
+  unfolding state_after
+  wants_by None c next w = absurd w
+  wants_by (Some (BroadcastAnnounce n p g)) c next w = wanting (Broadcast (source_of f.id)) g n p c.announces_it next w
+  wants_by (Some (RequestToSend n p most g)) c next w = wanting (Directed (source_of f.id) (destination_of f.id)) g n p c.announces_it next w
+  wants_by (Some (ClearToSend count n g)) c next w = absurd w
+  wants_by (Some (Acknowledgment n p g)) c next w = absurd w
+  wants_by (Some (Abort reason g)) c next w = absurd w
+  wants_by (Some (Packet n bs)) c next w = absurd w
+
+  pub wants_memory : LacksBox a.sessions a.has_spare f (said_by f) → WantsMemory E f
+  wants_memory w = wants_by (said_by f) (read_is f) (kept_after E f a.sessions h.kept) w
 
 -- ---- the box that lies unused
 
@@ -199,12 +186,12 @@ whole_told s t limit number stamp joined None = refl
 whole_told s t limit number stamp joined (Some x) = whole_by s t stamp (moves limit number joined stamp x)
 
 whole_packet : (a : SessionsRecord) (s t stamp : ℕ) (k : Key) (number : ℕ) (joined : List ℕ) → is_whole (answer_to_packet a s stamp k number joined) ≡ is_whole (answer_to_packet a t stamp k number joined)
-whole_packet a s t stamp (Broadcast n) number joined = whole_told s t 750000 number stamp joined (at a.broadcasts n)
+whole_packet a s t stamp (Broadcast n) number joined = whole_told s t broadcast_limit number stamp joined (at a.broadcasts n)
 whole_packet a s t stamp (Directed n d) number joined = go (find n d a.directed)
   where
-    go : (o : Option ℕ) → is_whole (told_at o (told s 1250000 number joined stamp) a.directed) ≡ is_whole (told_at o (told t 1250000 number joined stamp) a.directed)
+    go : (o : Option ℕ) → is_whole (told_at o (told s directed_limit number joined stamp) a.directed) ≡ is_whole (told_at o (told t directed_limit number joined stamp) a.directed)
     go None = refl
-    go (Some i) = whole_told s t 1250000 number stamp joined (at a.directed i)
+    go (Some i) = whole_told s t directed_limit number stamp joined (at a.directed i)
 
 whole_answered : (E : List Event) (f : FrameRecord) (m : MessageRecord) (o : Outcome) → AnswersAt E f o → WholeBy E f m → is_whole o ≡ true
 whole_answered E f m (Whole s g b t) h w = refl
@@ -212,38 +199,43 @@ whole_answered E f m Taken h w = absurd (h.1 m w)
 whole_answered E f m Ignored h w = absurd (h.1 m w)
 
 module _ (E : List Event) (f : FrameRecord) (a : AssemblerRecord) (h : Stands E a) where
-  freed_box : (m : MessageRecord) → WholeBy E f m → (r : TransportFrame) → AnswersAt E f (answer a.sessions (source_of f.id) f.stamp r) → spare_after a.sessions a.has_spare f.stamp r ≡ true
+  freed_box : (m : MessageRecord) → WholeBy E f m → (r : Option Signal) → AnswersAt E f (answer a.sessions f r) → spare_after a.sessions a.has_spare f r ≡ true
   unfolding answer spare_after
-  freed_box m w (Announcement k g n p) o = absurd (o.1 m w)
-  freed_box m w (Packet k n bs) o =
-      ap (λ (b : Bool). b || a.has_spare) (whole_packet a.sessions 0 (source_of f.id) f.stamp k n bs ∙ whole_answered E f m (answer_to_packet a.sessions (source_of f.id) f.stamp k n bs) o w)
-  freed_box m w (ClearToSend s d g) o = absurd (o.1 m w)
-  freed_box m w (Acknowledgment s d g) o = absurd (o.1 m w)
-  freed_box m w (Abort s d g) o = absurd (o.1 m w)
-  freed_box m w Other o = absurd (o.1 m w)
+  freed_box m w None o = absurd (o.1 m w)
+  freed_box m w (Some (BroadcastAnnounce n p g)) o = absurd (o.1 m w)
+  freed_box m w (Some (RequestToSend n p most g)) o = absurd (o.1 m w)
+  freed_box m w (Some (ClearToSend count next g)) o = absurd (o.1 m w)
+  freed_box m w (Some (Acknowledgment n p g)) o = absurd (o.1 m w)
+  freed_box m w (Some (Abort reason g)) o = absurd (o.1 m w)
+  freed_box m w (Some (Packet n bs)) o =
+      ap (λ (b : Bool). b || a.has_spare) (whole_packet a.sessions 0 (source_of f.id) f.stamp (key_of f) n bs ∙ whole_answered E f m (answer_to_packet a.sessions (source_of f.id) f.stamp (key_of f) n bs) o w)
 
-  left_box : a.has_spare ≡ true → (NeedsBox E (Frame f) → ⊥) → (r : TransportFrame) → Facts f r → AreKept (E ++ Frame f ∷ []) (state_after a.sessions f.stamp r) → spare_after a.sessions a.has_spare f.stamp r ≡ true
-  unfolding spare_after state_after
-  left_box b n (Announcement k g size p) c next = go (place_for a.sessions k) refl
+  left_place : a.has_spare ≡ true → (NeedsBox E (Frame f) → ⊥) → (k : Key) (g n p : ℕ) → is_announcement k f ≡ true → AreKept (E ++ Frame f ∷ []) (announced a.sessions k (opened k g n p f.stamp)) → spare_left (place_for a.sessions k) a.has_spare ≡ true
+  left_place b none k g n p is next = go (place_for a.sessions k) refl
     where
       go : (o : Option SessionRecord) → place_for a.sessions k ≡ o → spare_left o a.has_spare ≡ true
-      go None e = absurd (n (needs_box E f a h k g size p c.announces_it next e))
+      go None e = absurd (none (needs_box E f a h k g n p is next e))
       go (Some x) e = b
-  left_box b n (Packet k number bs) c next = or_right _ _ b
-  left_box b n (ClearToSend s d g) c next = b
-  left_box b n (Acknowledgment s d g) c next = b
-  left_box b n (Abort s d g) c next = b
-  left_box b n Other c next = b
 
-  spare_on : HasSpare (E ++ Frame f ∷ []) → spare_after a.sessions a.has_spare f.stamp (transport_frame_of f) ≡ true
+  left_box : a.has_spare ≡ true → (NeedsBox E (Frame f) → ⊥) → (r : Option Signal) → Facts f r → AreKept (E ++ Frame f ∷ []) (state_after a.sessions f r) → spare_after a.sessions a.has_spare f r ≡ true
+  unfolding spare_after state_after
+  left_box b none None c next = b
+  left_box b none (Some (BroadcastAnnounce n p g)) c next = left_place b none (Broadcast (source_of f.id)) g n p c.announces_it next
+  left_box b none (Some (RequestToSend n p most g)) c next = left_place b none (Directed (source_of f.id) (destination_of f.id)) g n p c.announces_it next
+  left_box b none (Some (ClearToSend count n g)) c next = b
+  left_box b none (Some (Acknowledgment n p g)) c next = b
+  left_box b none (Some (Abort reason g)) c next = b
+  left_box b none (Some (Packet n bs)) c next = or_right _ _ b
+
+  spare_on : HasSpare (E ++ Frame f ∷ []) → spare_after a.sessions a.has_spare f (said_by f) ≡ true
   spare_on s = elim (unused_by (E ++ Frame f ∷ []) s E (Frame f) refl) [
-    | inl w ↦ freed_box w.1 (let e : w.0 ≡ f = same_frame w.0 f (sym w.2) in subst (λ (x : FrameRecord). WholeBy E x w.1) e w.3) (transport_frame_of f) (answers_at E f a.sessions h.kept)
-    | inr w ↦ left_box (h.spare w.0) w.1 (transport_frame_of f) (read_is f) (kept_after E f a.sessions h.kept)
+    | inl w ↦ freed_box w.1 (let e : w.0 ≡ f = same_frame w.0 f (sym w.2) in subst (λ (x : FrameRecord). WholeBy E x w.1) e w.3) (said_by f) (answers_at E f a.sessions h.kept)
+    | inr w ↦ left_box (h.spare w.0) w.1 (said_by f) (read_is f) (kept_after E f a.sessions h.kept)
   ]
 
 -- ---- what an assembler stands for
 
-pub stands_after : (E : List Event) (f : FrameRecord) (a : AssemblerRecord) → Stands E a → Stands (E ++ Frame f ∷ []) (fed a f.stamp (transport_frame_of f))
+pub stands_after : (E : List Event) (f : FrameRecord) (a : AssemblerRecord) → Stands E a → Stands (E ++ Frame f ∷ []) (fed a f (said_by f))
 stands_after E f a h = record { kept = kept_after E f a.sessions h.kept; spare = spare_on E f a h }
 
 pub stands_forgotten : (E : List Event) (t : ℕ) (a : AssemblerRecord) → Stands E a → Stands (E ++ Forget t ∷ []) (forgot a t)
@@ -260,4 +252,4 @@ none_yet _ (freed A f m w) e = omega (arith, ap length e, length-append A (Frame
 none_yet _ (kept A a s n) e = omega (arith, ap length e, length-append A (a ∷ []))
 
 pub stands_new : Stands [] new_assembler
-stands_new = record { kept = kept_new; spare = λ s. absurd (none_yet [] s refl) }
+stands_new = record { kept = table_new; spare = λ s. absurd (none_yet [] s refl) }

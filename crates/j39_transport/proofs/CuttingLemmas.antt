@@ -6,6 +6,7 @@ use Rattle.std.proofs.lemmas.List.FromFn.{length-map-range_with_len}
 use Rattle.std.proofs.lemmas.Bool.{ne_eqb}
 use Rattle.std.specs.List.{range_with_len}
 use Rattle.j39_frame.specs.Frame.{FrameRecord}
+use Rattle.j39_transport.specs.Protocol.{filler}
 use Rattle.j39_transport.specs.Key.{Key, sender, is_key}
 use Rattle.j39_transport.specs.Frames.{is_packet}
 use Rattle.j39_transport.specs.Message.{MessageRecord, IsLong, packets_of, as_broadcast}
@@ -69,25 +70,25 @@ joined_is k m n (suc count) (f ∷ fs) l e =
 
 -- the first n packets and count more
 joined_on : (bytes : List ℕ) (n count : ℕ) → 7 * (n + count) ≤ length bytes + 6
-    → take (7 * n) (bytes ++ replicate 7 255) ++ joined_from bytes (n + 1) count ≡ take (7 * (n + count)) (bytes ++ replicate 7 255)
+    → take (7 * n) (bytes ++ replicate 7 filler) ++ joined_from bytes (n + 1) count ≡ take (7 * (n + count)) (bytes ++ replicate 7 filler)
 unfolding joined_from
-joined_on bytes n zero h = append-nil (take (7 * n) (bytes ++ replicate 7 255)) ∙ ap (λ (k : ℕ). take k (bytes ++ replicate 7 255)) (omega arith)
+joined_on bytes n zero h = append-nil (take (7 * n) (bytes ++ replicate 7 filler)) ∙ ap (λ (k : ℕ). take k (bytes ++ replicate 7 filler)) (omega arith)
 joined_on bytes n (suc count) h =
     let a : 7 * n ≤ length bytes = omega arith in
     let b : 7 * (n + 1 + count) ≤ length bytes + 6 = omega arith in
     let e : n + 1 + count ≡ n + suc count = omega arith in
-    sym (append_assoc (take (7 * n) (bytes ++ replicate 7 255)) (packet_data bytes (n + 1)) (joined_from bytes (n + 1 + 1) count))
+    sym (append_assoc (take (7 * n) (bytes ++ replicate 7 filler)) (packet_data bytes (n + 1)) (joined_from bytes (n + 1 + 1) count))
     ∙ (ap (λ (r : List ℕ). r ++ joined_from bytes (n + 1 + 1) count) (joined_more bytes n a)
-    ∙ (joined_on bytes (n + 1) count b ∙ ap (λ (k : ℕ). take (7 * k) (bytes ++ replicate 7 255)) e))
+    ∙ (joined_on bytes (n + 1) count b ∙ ap (λ (k : ℕ). take (7 * k) (bytes ++ replicate 7 filler)) e))
 
-joined_all : (bytes : List ℕ) (n : ℕ) → 7 * n ≤ length bytes + 6 → joined_from bytes 1 n ≡ take (7 * n) (bytes ++ replicate 7 255)
-joined_all bytes n h = joined_on bytes 0 n (let e : 0 + n ≡ n = omega arith in omega arith) ∙ ap (λ (k : ℕ). take (7 * k) (bytes ++ replicate 7 255)) (omega arith)
+joined_all : (bytes : List ℕ) (n : ℕ) → 7 * n ≤ length bytes + 6 → joined_from bytes 1 n ≡ take (7 * n) (bytes ++ replicate 7 filler)
+joined_all bytes n h = joined_on bytes 0 n (let e : 0 + n ≡ n = omega arith in omega arith) ∙ ap (λ (k : ℕ). take (7 * k) (bytes ++ replicate 7 filler)) (omega arith)
 
-joined_padded : (m : MessageRecord) → IsLong m → joined_from m.bytes 1 (packets_of m) ≡ m.bytes ++ take (7 * packets_of m - length m.bytes) (replicate 7 255)
+joined_padded : (m : MessageRecord) → IsLong m → joined_from m.bytes 1 (packets_of m) ≡ m.bytes ++ take (7 * packets_of m - length m.bytes) (replicate 7 filler)
 joined_padded m l =
     let e : length m.bytes + (7 * packets_of m - length m.bytes) ≡ 7 * packets_of m = omega arith in
     joined_all m.bytes (packets_of m) (omega arith)
-    ∙ (ap (λ (k : ℕ). take k (m.bytes ++ replicate 7 255)) (sym e) ∙ take-append-add m.bytes (replicate 7 255) (7 * packets_of m - length m.bytes))
+    ∙ (ap (λ (k : ℕ). take k (m.bytes ++ replicate 7 filler)) (sym e) ∙ take-append-add m.bytes (replicate 7 filler) (7 * packets_of m - length m.bytes))
 
 few_taken : (n : ℕ) (xs : List ℕ) → n < 7 → length (take n xs) < 7
 few_taken n xs h = omega (arith, length-take n xs)
@@ -125,8 +126,8 @@ cut_carries k m (f ∷ fs) l h s e =
         pgn = a.pgn;
         count = n ∙ sym a.packets;
         numbered = numbered_from k m 1 (packets_of m) fs h (omega arith) packets;
-        padding = take (7 * packets_of m - length m.bytes) (replicate 7 255);
-        few = few_taken (7 * packets_of m - length m.bytes) (replicate 7 255) (omega arith);
+        padding = take (7 * packets_of m - length m.bytes) (replicate 7 filler);
+        few = few_taken (7 * packets_of m - length m.bytes) (replicate 7 filler) (omega arith);
         joined_are = joined_is k m 1 (packets_of m) fs (omega arith) packets ∙ joined_padded m l;
       }),
     )

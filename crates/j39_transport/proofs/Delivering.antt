@@ -10,7 +10,7 @@ use Rattle.j39_transport.specs.Net.{World, with_delivery, handed_back, replied, 
 use Rattle.j39_transport.specs.Receiving.{RecvResult, Heard, said_to, partner_of, result_of, recv_step}
 use Rattle.j39_transport.specs.Reception.{ReceptionRecord, Reaction, quiet, is_from, is_taken, takes_request, takes_data, takes_abort, takes_signal, takes_tick}
 use Rattle.j39_transport.specs.Sending.{SenderRecord, SendResult, ticks_in, send_step, sent_by, new_sender}
-use Rattle.j39_transport.specs.Signals.{Signal, RequestToSend, ClearToSend, Acknowledgment, Abort, Packet, written}
+use Rattle.j39_transport.specs.Signals.{Signal, BroadcastAnnounce, RequestToSend, ClearToSend, Acknowledgment, Abort, Packet, written}
 use Rattle.j39_transport.proofs.ReceiverLemmas.{SessionOf, Open, Closed, signal_case, tick_case}
 use Rattle.j39_transport.proofs.SenderLemmas.{is_idle, IsOwn, OwnIf, Ticked, ticked, pgn_fits, own_can_say, IsAck, Hears, same, Between, CanSayIf, hears_answer}
 use Rattle.j39_transport.proofs.SignalLemmas.{CanSay, heard_by_receiver}
@@ -114,6 +114,7 @@ ticked_phase s r o mine ds t (over h g k) =
 -- after its delivery no frame of the message opens a session
 stays_closed : (m : MessageRecord) (source own : ℕ) (a : Signal) (now : ℕ) (found : Bool) → IsOwn m false a → takes_signal (Directed source own) (Some a) now found None ≡ quiet None
 unfolding takes_signal takes_data takes_abort
+stays_closed m source own (BroadcastAnnounce size packets pgn) now found h = absurd h
 stays_closed m source own (RequestToSend size packets most pgn) now found h = absurd (both_ways false refl h.0)
 stays_closed m source own (ClearToSend count next pgn) now found h = absurd h
 stays_closed m source own (Acknowledgment size packets pgn) now found h = absurd h
@@ -128,6 +129,7 @@ record Aside (x : Reaction) : Type 0 where
 says_aside : (m : MessageRecord) (own : ℕ) (idle : Bool) (a : Signal) (now : ℕ) (found : Bool) (r : ReceptionRecord) → IsLong m → IsOwn m idle a → IsNot m.source r.message.source
     → Aside (takes_signal (Directed m.source own) (Some a) now found (Some r))
 unfolding takes_signal takes_data takes_abort takes_request
+says_aside m own idle (BroadcastAnnounce size packets pgn) now found r l h n = absurd h
 says_aside m own idle (RequestToSend size packets most pgn) now found r l h n = cond_both (is_taken m.source (Some r)) _ _ Aside
     (λ t. record { no_ack = λ a. a; can_say = pgn_fits m pgn l h.3 })
     (λ t. absurd (both_ways _ t (ap not (not_from m.source r n))))

@@ -10,10 +10,11 @@ use Rattle.j39_transport.specs.Message.{MessageRecord, IsLong, packets_of}
 use Rattle.j39_transport.specs.Net.{World, with_delivery, handed_back, replied, carried, Event, SenderTick, ReceiverTick, Next, Third, is_busy_with, happens, run, of_source, IsThird}
 use Rattle.j39_transport.specs.Receiving.{RecvResult, Heard, said_to, partner_of, result_of, recv_step, new_receiver}
 use Rattle.j39_transport.specs.Reception.{ReceptionRecord, Reaction, quiet, answers, begun, granted_at, grants, asks_again, delivers_message, goes_on, takes_packet, is_from, takes_request, takes_data, takes_signal, limit_of, takes_tick}
-use Rattle.j39_transport.specs.Sending.{SenderRecord, SendState, SendResult, Waiting, Sending, Done, is_waiting, is_running, may_name, silent, waits, sends_packet, ticks_in, cleared, acknowledged, aborted, hears, send_step, sent_by, new_sender, timer_t3, timer_t4}
+use Rattle.j39_transport.specs.Sending.{SenderRecord, SendState, SendResult, Waiting, Sending, Done, is_waiting, is_running, may_name, silent, waits, sends_packet, ticks_in, cleared, acknowledged, aborted, hears, send_step, sent_by, new_sender}
+use Rattle.j39_transport.specs.Protocol.{timer_t3, timer_t4}
 use Rattle.j39_transport.specs.Sending as sender
 use Rattle.j39_transport.specs.Session.{opened, grown, touched}
-use Rattle.j39_transport.specs.Signals.{Signal, RequestToSend, ClearToSend, Acknowledgment, Abort, Packet, said_between, written}
+use Rattle.j39_transport.specs.Signals.{Signal, BroadcastAnnounce, RequestToSend, ClearToSend, Acknowledgment, Abort, Packet, said_between, written}
 use Rattle.j39_transport.proofs.PacketLemmas.{packet_length}
 use Rattle.j39_transport.proofs.ReceiverLemmas.{IsOf, IsPart, one_more, whole}
 use Rattle.j39_transport.proofs.SenderLemmas.{pgn_fits, own_can_say}
@@ -25,6 +26,7 @@ use Rattle.j39_transport.proofs.ThirdLemmas.{IfOpen, IsNot, source_fits, Keeps, 
 done_hears : (s : SenderRecord) (a : Option Signal) (now : ℕ) → s.state ≡ Done → (hears a now s).state ≡ Done
 unfolding hears cleared acknowledged aborted
 done_hears s None now e = e
+done_hears s (Some (BroadcastAnnounce size packets pgn)) now e = e
 done_hears s (Some (RequestToSend size packets most pgn)) now e = e
 done_hears s (Some (Packet k joined)) now e = e
 done_hears s (Some (ClearToSend count next pgn)) now e = cond_both (pgn == s.message.pgn) _ _ (λ (r : SenderRecord). r.state ≡ Done)

@@ -2,7 +2,8 @@
 use Rattle.std.proofs.Common.{◌≡◌, ◌⊎◌, ℕ, ◌+◌, ◌/◌, ◌^◌, ◌<◌, ◌≤◌, true, false, ◌||◌, ◌&&◌, refl, ap, ◌∙◌, inl, inr, arith, slice_index, ◌==◌, eqb-true, ltb-true, nat_lt, nat_le}
 use Rattle.std.proofs.lemmas.Bool.{leb-true, and_parts, or_cases, false_from_ne_true, both_ways}
 use Rattle.j39_frame.specs.Frame.{FrameRecord}
-use Rattle.j39_frame.specs.Network.{transport_control_group}
+use Rattle.j39_frame.specs.Network.{transport_control_group, transport_data_group}
+use Rattle.j39_transport.specs.Protocol.{request_to_send, clear_to_send, acknowledgment, connection_abort, broadcast_announce}
 use Rattle.j39_transport.specs.Key.{Key, sender, goes_to, opening, is_key}
 use Rattle.j39_transport.specs.Frames.{packets_named, size_named, pgn_named, packets_for, names_message, is_announcement, is_packet, is_control, is_clear_to_send, is_end, is_rival, goes, group_of, source_of, destination_of}
 use Rattle.j39_transport.specs.Key.Key.{Broadcast, Directed}
@@ -33,7 +34,7 @@ message_facts f h =
 
 pub record Announced (k : Key) (f : FrameRecord) : Type 0 where
   pub key : is_key k ≡ true
-  pub pgn : group_of f.id ≡ 60416
+  pub pgn : group_of f.id ≡ transport_control_group
   pub source : source_of f.id ≡ sender k
   pub destination : destination_of f.id ≡ goes_to k
   pub first : slice_index f.bytes 0 ≡ opening k
@@ -54,7 +55,7 @@ announcement_facts k f h =
 
 pub record Sent (k : Key) (f : FrameRecord) : Type 0 where
   pub key : is_key k ≡ true
-  pub pgn : group_of f.id ≡ 60160
+  pub pgn : group_of f.id ≡ transport_data_group
   pub source : source_of f.id ≡ sender k
   pub destination : destination_of f.id ≡ goes_to k
 
@@ -76,32 +77,32 @@ one_key (Broadcast s) (Directed t d) a b e f = absurd (let l : d < 254 = ltb-tru
 one_key (Directed s d) (Broadcast t) a b e f = absurd (let l : d < 254 = ltb-true _ _ (and_parts _ _ a).1 in omega arith)
 one_key (Directed s d) (Directed t c) a b e f = ap (λ (x : ℕ). Directed x d) e ∙ ap (λ (x : ℕ). Directed t x) f
 
-pub answer_facts : (b s d g : ℕ) (f : FrameRecord) → is_control b s d g f ≡ true → (group_of f.id ≡ 60416) × (slice_index f.bytes 0 ≡ b)
+pub answer_facts : (b s d g : ℕ) (f : FrameRecord) → is_control b s d g f ≡ true → (group_of f.id ≡ transport_control_group) × (slice_index f.bytes 0 ≡ b)
 unfolding is_control
 answer_facts b s d g f h = let a = and_parts _ _ (and_parts _ _ h).0 in ((goes_parts _ _ _ f a.0).0, eqb-true _ _ a.1)
 
-pub closing_facts : (k : Key) (g : ℕ) (f : FrameRecord) → is_end k g f ≡ true → (group_of f.id ≡ 60416) × ((slice_index f.bytes 0 ≡ 19) ⊎ (slice_index f.bytes 0 ≡ 255))
+pub closing_facts : (k : Key) (g : ℕ) (f : FrameRecord) → is_end k g f ≡ true → (group_of f.id ≡ transport_control_group) × ((slice_index f.bytes 0 ≡ acknowledgment) ⊎ (slice_index f.bytes 0 ≡ connection_abort))
 unfolding is_end
 closing_facts (Broadcast s) g f h = absurd (both_ways false refl h)
-closing_facts (Directed s d) g f h = elim (or_cases (is_control 19 d s g f || is_control 255 d s g f) (is_control 255 s d g f) h) [
-  | inl a ↦ elim (or_cases (is_control 19 d s g f) (is_control 255 d s g f) a) [
-    | inl b ↦ (let r = answer_facts 19 d s g f b in (r.0, inl r.1))
-    | inr b ↦ (let r = answer_facts 255 d s g f b in (r.0, inr r.1))
+closing_facts (Directed s d) g f h = elim (or_cases (is_control acknowledgment d s g f || is_control connection_abort d s g f) (is_control connection_abort s d g f) h) [
+  | inl a ↦ elim (or_cases (is_control acknowledgment d s g f) (is_control connection_abort d s g f) a) [
+    | inl b ↦ (let r = answer_facts acknowledgment d s g f b in (r.0, inl r.1))
+    | inr b ↦ (let r = answer_facts connection_abort d s g f b in (r.0, inr r.1))
   ]
-  | inr a ↦ (let r = answer_facts 255 s d g f a in (r.0, inr r.1))
+  | inr a ↦ (let r = answer_facts connection_abort s d g f a in (r.0, inr r.1))
 ]
 
-pub allowing_facts : (k : Key) (g : ℕ) (f : FrameRecord) → is_clear_to_send k g f ≡ true → (group_of f.id ≡ 60416) × (slice_index f.bytes 0 ≡ 17)
+pub allowing_facts : (k : Key) (g : ℕ) (f : FrameRecord) → is_clear_to_send k g f ≡ true → (group_of f.id ≡ transport_control_group) × (slice_index f.bytes 0 ≡ clear_to_send)
 unfolding is_clear_to_send
 allowing_facts (Broadcast s) g f h = absurd (both_ways false refl h)
-allowing_facts (Directed s d) g f h = answer_facts 17 d s g f h
+allowing_facts (Directed s d) g f h = answer_facts clear_to_send d s g f h
 
-pub pressing_facts : (k : Key) (f : FrameRecord) → is_rival k f ≡ true → (group_of f.id ≡ 60416) × (slice_index f.bytes 0 ≡ 16)
+pub pressing_facts : (k : Key) (f : FrameRecord) → is_rival k f ≡ true → (group_of f.id ≡ transport_control_group) × (slice_index f.bytes 0 ≡ request_to_send)
 unfolding is_rival
 pressing_facts (Broadcast s) f h = absurd (both_ways false refl h)
 pressing_facts (Directed s d) f h = let r = announcement_facts (Directed (source_of f.id) (destination_of f.id)) f h in (r.pgn, r.first)
 
-pub opening_is : (k : Key) → (opening k ≡ 32) ⊎ (opening k ≡ 16)
+pub opening_is : (k : Key) → (opening k ≡ broadcast_announce) ⊎ (opening k ≡ request_to_send)
 opening_is (Broadcast s) = inl refl
 opening_is (Directed s d) = inr refl
 
@@ -115,12 +116,12 @@ pub record OnlySent (j k : Key) (g : ℕ) (e : Event) : Type 0 where
 pub sends-others : (i j k : Key) (g : ℕ) (e : Event) → sends i e ≡ true → OnlySent j k g e
 unfolding announces sends ends grants rivals
 sends-others i j k g (Frame f) h =
-    let p : group_of f.id ≡ 60160 = (packet_facts i f h).pgn in
+    let p : group_of f.id ≡ transport_data_group = (packet_facts i f h).pgn in
     record {
-      no_announcement = false_from_ne_true _ (λ t. let q : group_of f.id ≡ 60416 = (announcement_facts j f t).pgn in omega arith);
-      no_end = false_from_ne_true _ (λ t. let q : group_of f.id ≡ 60416 = (closing_facts k g f t).0 in omega arith);
-      no_grant = false_from_ne_true _ (λ t. let q : group_of f.id ≡ 60416 = (allowing_facts k g f t).0 in omega arith);
-      no_rival = false_from_ne_true _ (λ t. let q : group_of f.id ≡ 60416 = (pressing_facts k f t).0 in omega arith);
+      no_announcement = false_from_ne_true _ (λ t. let q : group_of f.id ≡ transport_control_group = (announcement_facts j f t).pgn in omega arith);
+      no_end = false_from_ne_true _ (λ t. let q : group_of f.id ≡ transport_control_group = (closing_facts k g f t).0 in omega arith);
+      no_grant = false_from_ne_true _ (λ t. let q : group_of f.id ≡ transport_control_group = (allowing_facts k g f t).0 in omega arith);
+      no_rival = false_from_ne_true _ (λ t. let q : group_of f.id ≡ transport_control_group = (pressing_facts k f t).0 in omega arith);
     }
 sends-others i j k g (Forget t) h = absurd (both_ways false refl h)
 

@@ -1,21 +1,24 @@
 -- A receiver stands for the frames that were handed to it.
-use Rattle.std.proofs.Common.{◌≡◌, ℕ, ◌+◌, ◌==◌, nat_lt, suc, Bool, false, ◌&&◌, List, [], ◌∷◌, ◌++◌, Option, Some, None, refl, sym, ap, ◌∙◌, subst, arith, slice_index, eqb-true}
-use Rattle.std.proofs.lemmas.Bool.{cond_both}
-use Rattle.j39_frame.specs.Address.{null_address}
+use Rattle.std.proofs.Common.{◌≡◌, ℕ, ◌+◌, ◌==◌, nat_lt, suc, Bool, false, ◌&&◌, List, [], ◌∷◌, ◌++◌, length, Option, Some, None, refl, sym, ap, ◌∙◌, subst, arith, slice_index, eqb-true}
+use Rattle.std.proofs.lemmas.Bool.{cond_both, and_parts}
+use Rattle.j39_frame.specs.Address.{null_address, global_address}
 use Rattle.j39_frame.specs.Frame.{FrameRecord}
-use Rattle.j39_transport.specs.Frames.{source_of, packets_for, names_message, goes}
-use Rattle.j39_transport.specs.Key.{Directed}
+use Rattle.j39_frame.specs.Network.{transport_control_group, transport_data_group}
+use Rattle.j39_transport.specs.Frames.{group_of, source_of, destination_of, packets_for, names_message}
+use Rattle.j39_transport.specs.Key.{Broadcast, Directed, is_key, key_between}
+use Rattle.j39_transport.specs.Protocol.{request_to_send, clear_to_send, acknowledgment, connection_abort, broadcast_announce}
 use Rattle.j39_transport.specs.Reception.{ReceptionRecord, Reaction, quiet, granted_at, grants, asks_again, begun, delivers_message, goes_on, takes_packet, is_from, is_taken, takes_request, takes_data, takes_abort, takes_signal, limit_of, takes_tick}
 use Rattle.j39_transport.specs.Receiving.{ReceiverRecord, BoxedReceiver, HearStep, Answer, Heard, Tick, answer_in, said_to, recv_step, RecvStep}
 use Rattle.j39_transport.specs.Received.{AreJoined, requested, passed, packed, IsReceived, AreReceived, StandsFor, WereHanded, HasHeard}
 use Rattle.j39_transport.specs.Session.{opened, grown}
-use Rattle.j39_transport.specs.Signals.{Signal, RequestToSend, ClearToSend, Acknowledgment, Abort, Packet, said_between, said_in_control}
+use Rattle.j39_transport.specs.Signals.{Signal, BroadcastAnnounce, RequestToSend, ClearToSend, Acknowledgment, Abort, Packet, said_between, said_by, packet_in, control_in, request_in, broadcast_in}
 use Rattle.j39_transport.proofs.FrameFacts.{message_facts}
 
 -- ---- an RTS names as many packets as its size takes
 
 abbrev Agrees : Option Signal → Type 0
 Agrees None = Unit {0}
+Agrees (Some (BroadcastAnnounce size packets pgn)) = Unit {0}
 Agrees (Some (RequestToSend size packets most pgn)) = packets ≡ packets_for size
 Agrees (Some (ClearToSend count next pgn)) = Unit {0}
 Agrees (Some (Acknowledgment size packets pgn)) = Unit {0}
@@ -23,14 +26,22 @@ Agrees (Some (Abort reason pgn)) = Unit {0}
 Agrees (Some (Packet number joined)) = Unit {0}
 
 said_agrees : (s d : ℕ) (f : FrameRecord) → Agrees (said_between s d f)
-unfolding said_between said_in_control
-said_agrees s d f = cond_both (goes 60416 s d f) _ _ Agrees
-    (λ a. cond_both (slice_index f.bytes 0 == 16) _ _ Agrees
-    (λ b. cond_both (names_message f) _ _ Agrees (λ c. (message_facts f c).count) (λ c. tt))
-    (λ b. cond_both (slice_index f.bytes 0 == 17) _ _ Agrees (λ c. tt)
-    (λ c. cond_both (slice_index f.bytes 0 == 19) _ _ Agrees (λ d. tt)
-    (λ d. cond_both (slice_index f.bytes 0 == 255) _ _ Agrees (λ e. tt) (λ e. tt)))))
-    (λ a. cond_both (goes 60160 s d f) _ _ Agrees (λ b. tt) (λ b. tt))
+unfolding said_between said_by packet_in control_in request_in broadcast_in
+said_agrees s d f = cond_both (source_of f.id == s && destination_of f.id == d) _ _ Agrees
+    (λ a. cond_both (group_of f.id == transport_data_group && length f.bytes == 8) _ _ Agrees
+    (λ b. cond_both (is_key (key_between (source_of f.id) (destination_of f.id))) _ _ Agrees (λ c. tt) (λ c. tt))
+    (λ b. cond_both (group_of f.id == transport_control_group && length f.bytes == 8) _ _ Agrees (λ c. control) (λ c. tt)))
+    (λ a. tt)
+  where
+    control : Agrees (control_in f)
+    control = cond_both (slice_index f.bytes 0 == request_to_send) _ _ Agrees
+        (λ a. cond_both (is_key (Directed (source_of f.id) (destination_of f.id)) && names_message f) _ _ Agrees
+        (λ b. (message_facts f (and_parts (is_key (Directed (source_of f.id) (destination_of f.id))) (names_message f) b).1).count) (λ b. tt))
+        (λ a. cond_both (slice_index f.bytes 0 == broadcast_announce) _ _ Agrees
+        (λ b. cond_both (is_key (Broadcast (source_of f.id)) && destination_of f.id == global_address && names_message f) _ _ Agrees (λ c. tt) (λ c. tt))
+        (λ b. cond_both (slice_index f.bytes 0 == clear_to_send) _ _ Agrees (λ c. tt)
+        (λ c. cond_both (slice_index f.bytes 0 == acknowledgment) _ _ Agrees (λ d. tt)
+        (λ d. cond_both (slice_index f.bytes 0 == connection_abort) _ _ Agrees (λ e. tt) (λ e. tt)))))
 
 -- ---- each event
 
@@ -110,6 +121,7 @@ fair_signal : (own : ℕ) (E : List FrameRecord) (f : FrameRecord) (o : Option R
     → Fair own (E ++ f ∷ []) (takes_signal (Directed source own) a now found o)
 unfolding takes_signal takes_data takes_abort
 fair_signal own E f o source None now found s h = fair_quiet own _ o (received_on own E f o h)
+fair_signal own E f o source (Some (BroadcastAnnounce size packets pgn)) now found s h = fair_quiet own _ o (received_on own E f o h)
 fair_signal own E f o source (Some (RequestToSend size packets most pgn)) now found s h = fair_request own E f o source size packets most pgn now found h s
 fair_signal own E f o source (Some (ClearToSend count next pgn)) now found s h = fair_quiet own _ o (received_on own E f o h)
 fair_signal own E f o source (Some (Acknowledgment size packets pgn)) now found s h = fair_quiet own _ o (received_on own E f o h)

@@ -1,20 +1,22 @@
 -- A broadcast that is polled when it asks to be sends its frames 50 ms apart, and with the last one its message is whole.
 use Rattle.std.proofs.Common.{◌≡◌, ℕ, zero, suc, ◌+◌, ◌-◌, ◌*◌, ◌<◌, ◌≤◌, ◌==◌, nat_lt, Bool, true, false, ◌&&◌, ◌||◌, cond, List, [], ◌∷◌, ◌++◌, length, drop, take, map, get_or, replicate, Some, refl, sym, ap, ◌∙◌, subst, arith, append_assoc, eq-eqb, ne_eqb, lt-ltb, eqb-true}
-use Rattle.std.proofs.lemmas.Bool.{and_parts, and_from, or_from, or_left, or_right, and_right, false_from_ne_true, le-ltb, cond-true, cond-false}
+use Rattle.std.proofs.lemmas.Bool.{and_parts, and_from, or_from, or_left, or_right, and_right, both_ways, false_from_ne_true, le-ltb, cond-true, cond-false}
 use Rattle.std.proofs.lemmas.List.{append-nil, take-take, take_at}
 use Rattle.std.proofs.lemmas.List.FromFn.{length-map-range_with_len, map-range_with_len_more}
 use Rattle.std.specs.List.{range_with_len}
 use Rattle.j39_frame.specs.Frame.{FrameRecord}
+use Rattle.j39_transport.specs.Protocol.{filler}
 use Rattle.j39_transport.specs.Answers.{WholeBy}
 use Rattle.j39_transport.specs.Broadcasting.{Send, WaitUntil, Done, next_moment, answer_after, with_answer}
 use Rattle.j39_transport.specs.Broadcasts.{poll_moment, polled, frames_apart, SendsAllLaw, IsAside, AreAmong, ended, sent, passed, IsHeardLaw}
 use Rattle.j39_transport.specs.Cutting.{at_moment, packet_data, packet_of, cut_frame}
 use Rattle.j39_transport.specs.Events.{Event, announces, sends, grants, ends, rivals, number, payload, size, packets, group, stamp, belongs, is_numbered}
 use Rattle.j39_transport.specs.Events.Event.{Frame, Forget}
-use Rattle.j39_transport.specs.EventSteps.{Session, opened, touched, grown, is_late, is_crowded, is_over}
+use Rattle.j39_transport.specs.EventSteps.{opened, touched, grown, is_late, is_over}
 use Rattle.j39_transport.specs.Frames.{is_clear_to_send, is_end, is_rival}
 use Rattle.j39_transport.specs.Key.{Key, Broadcast, is_key}
 use Rattle.j39_transport.specs.Message.{MessageRecord, IsLong, packets_of, as_broadcast}
+use Rattle.j39_transport.specs.Session.{SessionRecord}
 use Rattle.j39_transport.specs.Stands.{IsSession}
 use Rattle.j39_transport.proofs.Completing.{whole_from}
 use Rattle.j39_transport.proofs.CuttingLemmas.{cut_packet, broadcast_key}
@@ -124,23 +126,16 @@ other_is s (Forget t) h = record {
   no_end = λ g. false_from_ne_true _ (λ u. h (sym (eqb-true _ _ (and_parts (s == t) (is_key (Broadcast s)) u).0)));
 }
 
-not_over : (s : ℕ) (e : Event) (x : Session) → ends (Broadcast s) x.group_due e ≡ false → is_late (Broadcast s) e x ≡ false → is_over (Broadcast s) e x ≡ false
-unfolding is_crowded
-not_over s e x a b =
-    or_from (ends (Broadcast s) x.group_due e || is_late (Broadcast s) e x) (is_crowded (Broadcast s) e x)
-    (or_from (ends (Broadcast s) x.group_due e) (is_late (Broadcast s) e x) a b)
-    (ap (λ (r : Bool). r && nat_lt 14 x.after) (no_rival s e))
-
 -- ---- a broadcast under way
 
 record Underway (m : MessageRecord) (first count : ℕ) (E : List Event) : Type 0 where
-  session : Session
+  session : SessionRecord
   stands : IsSession E (as_broadcast m) session
-  packets_are : session.packets_due ≡ packets_of m
-  size_is : session.size_due ≡ length m.bytes
-  group_is : session.group_due ≡ m.pgn
+  packets_are : session.packets ≡ packets_of m
+  size_is : session.size ≡ length m.bytes
+  group_is : session.group ≡ m.pgn
   count_is : session.count ≡ count
-  bytes_are : session.bytes ≡ take (7 * count) (m.bytes ++ replicate 7 255)
+  bytes_are : session.bytes ≡ take (7 * count) (m.bytes ++ replicate 7 filler)
   last_is : session.last ≡ first + 50000 * count
 
 begins : (m : MessageRecord) (first : ℕ) (E : List Event) → IsLong m → Underway m first 0 (E ++ Frame (frame_at m first 0) ∷ [])
@@ -150,7 +145,7 @@ begins m first E l =
     let e : Event = Frame (frame_at m first 0) in
     let a : AnnouncesOf k m (frame_at m first 0) = announces_it k m (first + 50000 * 0) l (broadcast_key m l) in
     record {
-      session = opened e;
+      session = opened k e;
       stands = opened_stands E e k a.announced;
       packets_are = a.packets;
       size_is = a.size;
@@ -164,14 +159,14 @@ goes_by : (m : MessageRecord) (first count : ℕ) (E : List Event) (e : Event) �
 unfolding is_late
 goes_by m first count E e i u =
     let k : Key = as_broadcast m in
-    let x : Session = u.session in
+    let x : SessionRecord = u.session in
     let o : IsOther k e = other_is m.source e i in
-    let b : belongs k x.group_due e ≡ false =
-    or_from (announces k e || sends k e) (grants k x.group_due e) (or_from (announces k e) (sends k e) o.no_announcement o.no_packet) (no_grant m.source x.group_due e) in
+    let b : belongs k x.group e ≡ false =
+    or_from (announces k e || sends k e) (grants k x.group e) (or_from (announces k e) (sends k e) o.no_announcement o.no_packet) (no_grant m.source x.group e) in
     let late : is_late k e x ≡ false = ap (λ (t : Bool). t && nat_lt (x.last + 750000) (stamp e)) b in
     record {
       session = touched k e x;
-      stands = touched_stands E e k x u.stands o.no_announcement (not_over m.source e x (o.no_end x.group_due) late) (ap (λ (t : Bool). t && number e == suc x.count) o.no_packet);
+      stands = touched_stands E e k x u.stands o.no_announcement (or_from (ends k x.group e) (is_late k e x) (o.no_end x.group) late) (ap (λ (t : Bool). t && number e == suc x.count) o.no_packet) (λ r. absurd (both_ways _ (no_rival m.source e) r));
       packets_are = u.packets_are;
       size_is = u.size_is;
       group_is = u.group_is;
@@ -181,29 +176,29 @@ goes_by m first count E e i u =
     }
 
 -- the next packet
-record IsNext (m : MessageRecord) (first count : ℕ) (e : Event) (x : Session) : Type 0 where
+record IsNext (m : MessageRecord) (first count : ℕ) (e : Event) (x : SessionRecord) : Type 0 where
   no_announcement : announces (as_broadcast m) e ≡ false
-  belongs_is : belongs (as_broadcast m) x.group_due e ≡ true
+  belongs_is : belongs (as_broadcast m) x.group e ≡ true
   over_not : is_over (as_broadcast m) e x ≡ false
   numbered : is_numbered (as_broadcast m) (suc x.count) e ≡ true
   stamp_is : stamp e ≡ first + 50000 * (count + 1)
   payload_is : payload e ≡ packet_data m.bytes (count + 1)
 
-next_is : (m : MessageRecord) (first count : ℕ) (x : Session) → IsLong m → x.count ≡ count → x.last ≡ first + 50000 * count
+next_is : (m : MessageRecord) (first count : ℕ) (x : SessionRecord) → IsLong m → x.count ≡ count → x.last ≡ first + 50000 * count
     → IsNext m first count (Frame (at_moment (first + 50000 * (count + 1)) (packet_of (as_broadcast m) m (count + 1)))) x
 unfolding sends number payload stamp packet_of is_late
 next_is m first count x l n t =
     let k : Key = as_broadcast m in
     let e : Event = Frame (at_moment (first + 50000 * (count + 1)) (packet_of k m (count + 1))) in
     let s : sends k e ≡ true = packs k m (first + 50000 * (count + 1)) (count + 1) (broadcast_key m l) in
-    let o = sends-others k k k x.group_due e s in
-    let b : belongs k x.group_due e ≡ true = or_left (announces k e || sends k e) (grants k x.group_due e) (or_right (announces k e) (sends k e) s) in
+    let o = sends-others k k k x.group e s in
+    let b : belongs k x.group e ≡ true = or_left (announces k e || sends k e) (grants k x.group e) (or_right (announces k e) (sends k e) s) in
     let q : (count + 1 == suc x.count) ≡ true = eq-eqb _ _ (omega arith) in
     let in_time : nat_lt (x.last + 750000) (first + 50000 * (count + 1)) ≡ false = le-ltb _ _ (omega arith) in
     record {
       no_announcement = o.no_announcement;
       belongs_is = b;
-      over_not = not_over m.source e x o.no_end (and_right (belongs k x.group_due e) _ in_time);
+      over_not = or_from (ends k x.group e) (is_late k e x) o.no_end (and_right (belongs k x.group e) _ in_time);
       numbered = and_from (sends k e) (count + 1 == suc x.count) s q;
       stamp_is = refl;
       payload_is = refl;
@@ -213,12 +208,12 @@ frame_is : (m : MessageRecord) (first count : ℕ)
     → frame_at m first (count + 1) ≡ at_moment (first + 50000 * (count + 1)) (packet_of (as_broadcast m) m (count + 1))
 frame_is m first count = ap (at_moment (first + 50000 * (count + 1))) (cut_packet (as_broadcast m) m (count + 1) (omega arith))
 
-next_at : (m : MessageRecord) (first count : ℕ) (x : Session) → IsLong m → x.count ≡ count → x.last ≡ first + 50000 * count
+next_at : (m : MessageRecord) (first count : ℕ) (x : SessionRecord) → IsLong m → x.count ≡ count → x.last ≡ first + 50000 * count
     → IsNext m first count (Frame (frame_at m first (count + 1))) x
 next_at m first count x l n t = subst (λ (f : FrameRecord). IsNext m first count (Frame f) x) (sym (frame_is m first count)) (next_is m first count x l n t)
 
 bytes_on : (m : MessageRecord) (first count : ℕ) (E : List Event) (e : Event) (u : Underway m first count E) → count < packets_of m → payload e ≡ packet_data m.bytes (count + 1)
-    → u.session.bytes ++ payload e ≡ take (7 * (count + 1)) (m.bytes ++ replicate 7 255)
+    → u.session.bytes ++ payload e ≡ take (7 * (count + 1)) (m.bytes ++ replicate 7 filler)
 bytes_on m first count E e u f p = (λ i. u.bytes_are i ++ p i) ∙ joined_more m.bytes count (omega arith)
 
 goes_on : (m : MessageRecord) (first count : ℕ) (E : List Event) → IsLong m → count + 1 < packets_of m → Underway m first count E
@@ -226,13 +221,13 @@ goes_on : (m : MessageRecord) (first count : ℕ) (E : List Event) → IsLong m 
 goes_on m first count E l f u =
     let k : Key = as_broadcast m in
     let e : Event = Frame (frame_at m first (count + 1)) in
-    let x : Session = u.session in
+    let x : SessionRecord = u.session in
     let n : x.count ≡ count = u.count_is in
-    let p : x.packets_due ≡ packets_of m = u.packets_are in
+    let p : x.packets ≡ packets_of m = u.packets_are in
     let h : IsNext m first count e x = next_at m first count x l n u.last_is in
     record {
       session = grown k e x;
-      stands = grown_stands E e k x u.stands h.no_announcement h.over_not h.numbered (ne_eqb _ _ (λ z. absurd (omega arith)));
+      stands = grown_stands E e k x u.stands h.no_announcement h.over_not h.numbered (ne_eqb _ _ (λ z. absurd (omega arith))) (λ r. absurd (both_ways _ (no_rival m.source e) r));
       packets_are = p;
       size_is = u.size_is;
       group_is = u.group_is;
@@ -246,11 +241,11 @@ ends_whole : (m : MessageRecord) (first count : ℕ) (E : List Event) → IsLong
 ends_whole m first count E l f u =
     let k : Key = as_broadcast m in
     let e : Event = Frame (frame_at m first (count + 1)) in
-    let x : Session = u.session in
+    let x : SessionRecord = u.session in
     let n : x.count ≡ count = u.count_is in
-    let p : x.packets_due ≡ packets_of m = u.packets_are in
+    let p : x.packets ≡ packets_of m = u.packets_are in
     let h : IsNext m first count e x = next_at m first count x l n u.last_is in
-    let b : x.bytes ++ payload e ≡ take (7 * (count + 1)) (m.bytes ++ replicate 7 255) = bytes_on m first count E e u (omega arith) h.payload_is in
+    let b : x.bytes ++ payload e ≡ take (7 * (count + 1)) (m.bytes ++ replicate 7 filler) = bytes_on m first count E e u (omega arith) h.payload_is in
     let z : length m.bytes ≤ 7 * (count + 1) = omega arith in (
       k,
       refl,
@@ -261,7 +256,7 @@ ends_whole m first count E l f u =
         is_last = omega arith;
         group_is = sym u.group_is;
         bytes_are = sym ((λ i. take (u.size_is i) (b i))
-            ∙ (take-take (length m.bytes) (7 * (count + 1)) (m.bytes ++ replicate 7 255) z ∙ take_at m.bytes (replicate 7 255) (length m.bytes) refl));
+            ∙ (take-take (length m.bytes) (7 * (count + 1)) (m.bytes ++ replicate 7 filler) z ∙ take_at m.bytes (replicate 7 filler) (length m.bytes) refl));
       }),
     )
 

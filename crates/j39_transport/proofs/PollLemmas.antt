@@ -6,7 +6,8 @@ use Rattle.std.proofs.lemmas.List.FromFn.{map-range_with_len_more}
 use Rattle.j39_frame.specs.Frame.{FrameRecord}
 use Rattle.j39_transport.specs.Message.{MessageRecord, packets_of, as_broadcast}
 use Rattle.j39_transport.specs.Cutting.{without_stamp, at_moment, cut_frame, first_frames}
-use Rattle.j39_transport.specs.Broadcasting.{gap, next_moment, AreSpaced, Answer, Send, WaitUntil, Done, answer_after, with_answer, BroadcastRecord, HasSent}
+use Rattle.j39_transport.specs.Protocol.{gap}
+use Rattle.j39_transport.specs.Broadcasting.{next_moment, AreSpaced, Answer, Send, WaitUntil, Done, answer_after, with_answer, BroadcastRecord, HasSent}
 use Rattle.j39_transport.specs.Polling.{Polled, poll_step, PollStep}
 
 spaced_more : (sent : List FrameRecord) (f : FrameRecord) → AreSpaced sent → next_moment sent ≤ f.stamp → AreSpaced (sent ++ f ∷ [])

@@ -2,12 +2,13 @@
 use Rattle.std.proofs.Common.{◌≡◌, ◌⊎◌, ℕ, suc, ◌+◌, ◌*◌, ◌<◌, ◌≤◌, ◌==◌, nat_lt, Bool, false, not, ◌&&◌, List, ◌++◌, length, take, replicate, Option, Some, None, refl, sym, ap, ◌∙◌, subst, inl, inr, arith, eqb-true, eq-eqb}
 use Rattle.std.proofs.lemmas.Bool.{cond_both, both_ways, eqb-false}
 use Rattle.std.proofs.lemmas.List.{take_at, take-take}
+use Rattle.j39_transport.specs.Protocol.{filler}
 use Rattle.j39_transport.specs.Cutting.{packet_data}
 use Rattle.j39_transport.specs.Key.{Directed}
 use Rattle.j39_transport.specs.Message.{MessageRecord, IsLong, packets_of}
 use Rattle.j39_transport.specs.Reception.{ReceptionRecord, Reaction, quiet, granted_at, grants, asks_again, begun, message_of, delivers_message, goes_on, takes_packet, is_from, is_taken, takes_request, takes_data, takes_abort, takes_signal, limit_of, takes_tick}
 use Rattle.j39_transport.specs.Session.{SessionRecord, opened, grown, touched}
-use Rattle.j39_transport.specs.Signals.{Signal, RequestToSend, ClearToSend, Acknowledgment, Abort, Packet}
+use Rattle.j39_transport.specs.Signals.{Signal, BroadcastAnnounce, RequestToSend, ClearToSend, Acknowledgment, Abort, Packet}
 use Rattle.j39_transport.proofs.PacketLemmas.{joined_more}
 use Rattle.j39_transport.proofs.SenderLemmas.{IsOwn, IsAck, CanSayIf, pgn_fits}
 
@@ -18,7 +19,7 @@ pub record IsOf (m : MessageRecord) (x : SessionRecord) : Type 0 where
   pub packets_is : x.packets ≡ packets_of m
   pub group_is : x.group ≡ m.pgn
   pub few : x.count ≤ x.packets
-  pub bytes_are : x.bytes ≡ take (7 * x.count) (m.bytes ++ replicate 7 255)
+  pub bytes_are : x.bytes ≡ take (7 * x.count) (m.bytes ++ replicate 7 filler)
 
 -- it lacks one
 pub record IsPart (m : MessageRecord) (x : SessionRecord) : Type 0 where
@@ -79,7 +80,7 @@ one_more m x joined now h e =
       packets_is = h.is_of.packets_is;
       group_is = h.is_of.group_is;
       few = omega arith;
-      bytes_are = (λ i. h.is_of.bytes_are i ++ e i) ∙ (joined_more m.bytes x.count b ∙ ap (λ (k : ℕ). take (7 * k) (m.bytes ++ replicate 7 255)) n);
+      bytes_are = (λ i. h.is_of.bytes_are i ++ e i) ∙ (joined_more m.bytes x.count b ∙ ap (λ (k : ℕ). take (7 * k) (m.bytes ++ replicate 7 filler)) n);
     }
 
 pub whole : (m : MessageRecord) (x : SessionRecord) → IsLong m → IsOf m x → x.count ≡ x.packets → message_of x ≡ m
@@ -88,7 +89,7 @@ whole m x l h e =
     let n : length m.bytes ≤ 7 * x.count = omega arith in
     let s : x.size ≡ length m.bytes = h.size_is in
     let b : take x.size x.bytes ≡ m.bytes =
-    (λ i. take (s i) (h.bytes_are i)) ∙ (take-take (length m.bytes) (7 * x.count) (m.bytes ++ replicate 7 255) n ∙ take_at m.bytes (replicate 7 255) (length m.bytes) refl) in
+    (λ i. take (s i) (h.bytes_are i)) ∙ (take-take (length m.bytes) (7 * x.count) (m.bytes ++ replicate 7 filler) n ∙ take_at m.bytes (replicate 7 filler) (length m.bytes) refl) in
     λ i. record { source = h.source_is i; pgn = h.group_is i; bytes = b i }
 
 goes_on_case : (m : MessageRecord) (r : ReceptionRecord) (now : ℕ) → IsLong m → IsOf m r.message → Open m (goes_on now r) ⊎ Closed m (goes_on now r)
@@ -134,6 +135,7 @@ request_case m own o most now found l h = cond_both (is_taken m.source o) _ _ (O
 pub signal_case : (m : MessageRecord) (own : ℕ) (idle : Bool) (o : Option ReceptionRecord) (a : Signal) (now : ℕ) (found : Bool) → IsLong m → SessionOf m o → IsOwn m idle a
     → Open m (takes_signal (Directed m.source own) (Some a) now found o) ⊎ Closed m (takes_signal (Directed m.source own) (Some a) now found o)
 unfolding takes_signal takes_data takes_abort
+signal_case m own idle o (BroadcastAnnounce size packets pgn) now found l h s = absurd s
 signal_case m own idle o (RequestToSend size packets most pgn) now found l h s =
     let e : opened (Directed m.source own) m.pgn (length m.bytes) (packets_of m) now ≡ opened (Directed m.source own) pgn size packets now =
     λ i. opened (Directed m.source own) (sym s.3 i) (sym s.1 i) (sym s.2 i) now in

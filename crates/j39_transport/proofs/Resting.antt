@@ -11,10 +11,11 @@ use Rattle.j39_transport.specs.Net.{is_over}
 use Rattle.j39_transport.specs.Receiving.{ReceiverRecord, RecvEvent, RecvResult, said_to, recv_step, new_receiver}
 use Rattle.j39_transport.specs.Receiving as receiving
 use Rattle.j39_transport.specs.Reception.{ReceptionRecord, Reaction, quiet, answers, granted_at, grants, asks_again, begun, delivers_message, goes_on, takes_packet, is_from, is_taken, takes_request, takes_data, takes_abort, takes_signal, limit_of, takes_tick}
-use Rattle.j39_transport.specs.Sending.{SenderRecord, SendEvent, SendState, SendResult, Idle, Waiting, Sending, Done, Failed, Tick, Heard, waits, sends_packet, ticks_in, is_waiting, is_running, may_name, cleared, acknowledged, aborted, hears, send_step, new_sender, timer_t3}
+use Rattle.j39_transport.specs.Sending.{SenderRecord, SendEvent, SendState, SendResult, Idle, Waiting, Sending, Done, Failed, Tick, Heard, waits, sends_packet, ticks_in, is_waiting, is_running, may_name, cleared, acknowledged, aborted, hears, send_step, new_sender}
+use Rattle.j39_transport.specs.Protocol.{timer_t3}
 use Rattle.j39_transport.specs.Session.{SessionRecord, opened, grown}
 use Rattle.j39_transport.specs.ShownSender.{IsState}
-use Rattle.j39_transport.specs.Signals.{Signal, RequestToSend, ClearToSend, Acknowledgment, Abort, Packet, said_between, written}
+use Rattle.j39_transport.specs.Signals.{Signal, BroadcastAnnounce, RequestToSend, ClearToSend, Acknowledgment, Abort, Packet, said_between, written}
 use Rattle.j39_transport.proofs.Finishing.{cts_heard}
 use Rattle.j39_transport.proofs.SenderLemmas.{pgn_fits}
 use Rattle.j39_transport.proofs.SignalLemmas.{heard_by_sender, heard_by_receiver}
@@ -130,6 +131,7 @@ cleared_sound m s count p now h = cond_both (is_waiting s.state) _ _ (IsSound m)
 heard_sound : (m : MessageRecord) (s : SenderRecord) (a : Option Signal) (now : ℕ) → IsSound m s → IsSound m (hears a now s)
 unfolding hears acknowledged aborted
 heard_sound m s None now h = h
+heard_sound m s (Some (BroadcastAnnounce size packets pgn)) now h = h
 heard_sound m s (Some (RequestToSend size packets most pgn)) now h = h
 heard_sound m s (Some (Packet k joined)) now h = h
 heard_sound m s (Some (ClearToSend count p pgn)) now h = cond_both (pgn == s.message.pgn) _ _ (IsSound m) (λ t. cleared_sound m s count p now h) (λ t. h)
@@ -199,6 +201,7 @@ few_request x most now found o h = cond_both (is_taken x.source o) _ _ FewIn (λ
 few_signal : (k : Key) (a : Option Signal) (now : ℕ) (found : Bool) (o : Option ReceptionRecord) → AsksFew o → FewIn (takes_signal k a now found o)
 unfolding takes_signal takes_data takes_abort
 few_signal k None now found o h = h
+few_signal k (Some (BroadcastAnnounce size packets pgn)) now found o h = h
 few_signal k (Some (RequestToSend size packets most pgn)) now found o h = few_request (opened k pgn size packets now) most now found o h
 few_signal k (Some (ClearToSend count next pgn)) now found o h = h
 few_signal k (Some (Acknowledgment size packets pgn)) now found o h = h

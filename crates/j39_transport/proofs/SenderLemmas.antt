@@ -7,7 +7,7 @@ use Rattle.j39_transport.specs.Frames.{agree}
 use Rattle.j39_transport.specs.Message.{MessageRecord, IsLong, packets_of}
 use Rattle.j39_transport.specs.Net.{is_done, handed_back}
 use Rattle.j39_transport.specs.Sending.{SenderRecord, SendState, SendResult, Idle, Waiting, Sending, Done, Failed, sends_packet, ticks_in, is_waiting, is_running, may_name, cleared, acknowledged, aborted, hears}
-use Rattle.j39_transport.specs.Signals.{Signal, RequestToSend, ClearToSend, Acknowledgment, Abort, Packet, written}
+use Rattle.j39_transport.specs.Signals.{Signal, BroadcastAnnounce, RequestToSend, ClearToSend, Acknowledgment, Abort, Packet, written}
 use Rattle.j39_transport.proofs.PacketLemmas.{packet_length}
 use Rattle.j39_transport.proofs.SignalLemmas.{CanSay, heard_by_sender}
 
@@ -22,6 +22,7 @@ is_idle (Failed reason) = false
 
 -- what a sender of the message may say; an RTS where it was idle alone
 abbrev pub IsOwn : MessageRecord → Bool → Signal → Type 0
+IsOwn m idle (BroadcastAnnounce size packets pgn) = ⊥
 IsOwn m idle (RequestToSend size packets most pgn) = (idle ≡ true) × (size ≡ length m.bytes) × (packets ≡ packets_of m) × (pgn ≡ m.pgn)
 IsOwn m idle (Packet k joined) = joined ≡ packet_data m.bytes k
 IsOwn m idle (Abort reason pgn) = pgn ≡ m.pgn
@@ -67,6 +68,7 @@ agrees m l =
     λ i. a i && b i && c i && d i
 
 pub own_can_say : (m : MessageRecord) (idle : Bool) (a : Signal) → IsLong m → IsOwn m idle a → CanSay a
+own_can_say m idle (BroadcastAnnounce size packets pgn) l h = absurd h
 own_can_say m idle (RequestToSend size packets most pgn) l h =
     let a : size ≡ length m.bytes = h.1 in
     let c : length m.bytes ≤ 1785 = l.message.most in
@@ -84,6 +86,7 @@ own_can_say m idle (Acknowledgment size packets pgn) l h = absurd h
 
 abbrev pub IsAck : Option Signal → Type 0
 IsAck None = ⊥
+IsAck (Some (BroadcastAnnounce size packets pgn)) = ⊥
 IsAck (Some (RequestToSend size packets most pgn)) = ⊥
 IsAck (Some (Packet k joined)) = ⊥
 IsAck (Some (Abort reason pgn)) = ⊥
@@ -124,6 +127,7 @@ hears_abort s reason = cond_both (is_running s.state) _ _ (Hears s ⊥)
 
 hears_signal : (s : SenderRecord) (a : Signal) (now : ℕ) → Hears s (IsAck (Some a)) (hears (Some a) now s)
 unfolding hears
+hears_signal s (BroadcastAnnounce size packets pgn) now = same s _
 hears_signal s (RequestToSend size packets most pgn) now = same s _
 hears_signal s (Packet k joined) now = same s _
 hears_signal s (ClearToSend count p pgn) now = cond_both (pgn == s.message.pgn) _ _ (Hears s ⊥) (λ t. hears_cts s count p now) (λ t. same s ⊥)

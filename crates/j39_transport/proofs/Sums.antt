@@ -9,10 +9,13 @@ use Rattle.j39_transport.specs.Key.Key.{Broadcast, Directed}
 use Rattle.j39_transport.specs.Events.{Event, at, rivals}
 use Rattle.j39_transport.specs.Assembly.{count_below, Opens}
 use Rattle.j39_transport.proofs.Chains.{Open-unique}
-use Rattle.j39_transport.proofs.Tables.{opens_bounded, opens_unique, is_open, holding, over, opens_over, lookup, Looked, looked}
-use Rattle.j39_transport.specs.EventSteps.{Session, Entry, Table}
-use Rattle.j39_transport.specs.Stands.{IsSession, AreDirected, IsTable}
-use Rattle.j39_transport.proofs.AllKeys.{no_sessions, table_new, table_run, table_all, session_of, announced_key, table_stands}
+use Rattle.j39_transport.proofs.Tables.{opens_bounded, opens_unique, over, opens_over, lookup, Looked, looked, pair_is}
+use Rattle.j39_transport.specs.EventSteps.{pair_of}
+use Rattle.j39_transport.specs.Session.{SessionRecord}
+use Rattle.j39_transport.specs.Places.{Places, open_in, bytes_in}
+use Rattle.j39_transport.specs.Steps.{SessionsRecord, empty_state, messages_open, bytes_held}
+use Rattle.j39_transport.specs.Stands.{IsAged, AreDirected, AreKept}
+use Rattle.j39_transport.proofs.AllKeys.{table_new, table_run, table_all, session_of, announced_key, table_stands}
 
 -- ---- the sums
 
@@ -34,7 +37,7 @@ over_none (k ∷ ks) = let i : over (λ j. 0) ks ≡ 0 = over_none ks in omega a
 
 -- ---- of the broadcasts
 
-module _ (f : Option Session → ℕ) (T : Table) where
+module _ (f : Option SessionRecord → ℕ) (T : SessionsRecord) where
   over_broadcasts : length T.broadcasts ≡ 254 → (n : ℕ) → n ≤ 254 → over (λ k. f (session_of T k)) (broadcast_keys n) ≡ sum_by f (take n T.broadcasts)
   unfolding broadcast_keys
   over_broadcasts z zero l = refl
@@ -48,86 +51,82 @@ module _ (f : Option Session → ℕ) (T : Table) where
 
 -- ---- and of the directed ones
 
-abbrev pub session_at : Option Entry → Option Session
-session_at None = None
-session_at (Some y) = Some y.session
-
-is_this : Entry → Key → Bool
+is_this : SessionRecord → Key → Bool
 is_this y (Broadcast s) = false
-is_this y (Directed s d) = y.from == s && y.to == d
+is_this y (Directed s d) = y.source == s && y.destination == d
 
-pub record Apart (L : List (Option Entry)) : Type 0 where
-  pub one_place : (i j : ℕ) (y z : Entry) → get_or L i None ≡ Some y → get_or L j None ≡ Some z → y.from ≡ z.from → y.to ≡ z.to → i ≡ j
-  pub within : (i : ℕ) (y : Entry) → get_or L i None ≡ Some y → (y.from < 254) × (y.to < 254)
+pub record Apart (L : Places) : Type 0 where
+  pub one_place : (i j : ℕ) (y z : SessionRecord) → get_or L i None ≡ Some y → get_or L j None ≡ Some z → y.source ≡ z.source → y.destination ≡ z.destination → i ≡ j
+  pub within : (i : ℕ) (y : SessionRecord) → get_or L i None ≡ Some y → (y.source < 254) × (y.destination < 254)
 
-apart_later : (p : Option Entry) (L : List (Option Entry)) → Apart (p ∷ L) → Apart L
+pub apart_later : (p : Option SessionRecord) (L : Places) → Apart (p ∷ L) → Apart L
 apart_later p L h = record {
   one_place = λ i j y z a b u v. (let e : suc i ≡ suc j = h.one_place (suc i) (suc j) y z a b u v in omega arith);
   within = λ i y a. h.within (suc i) y a;
 }
 
-module _ (c : ℕ) (y : Entry) where
-  over_row : (s n : ℕ) → over (λ k. if is_this y k then c else 0) (row s n) ≡ (if y.from == s && nat_lt y.to n then c else 0)
+module _ (c : ℕ) (y : SessionRecord) where
+  over_row : (s n : ℕ) → over (λ k. if is_this y k then c else 0) (row s n) ≡ (if y.source == s && nat_lt y.destination n then c else 0)
   unfolding is_this row
-  over_row s zero = sym (cond-false _ _ _ (and_right _ _ (false_from_ne_true _ (λ t. let l : y.to < 0 = ltb-true _ _ t in omega arith))))
+  over_row s zero = sym (cond-false _ _ _ (and_right _ _ (false_from_ne_true _ (λ t. let l : y.destination < 0 = ltb-true _ _ t in omega arith))))
   over_row s (suc n) =
-      let i : over (λ k. if is_this y k then c else 0) (row s n) ≡ (if y.from == s && nat_lt y.to n then c else 0) = over_row s n in
-      elim (cases_Bool (y.from == s && y.to == n)) [
+      let i : over (λ k. if is_this y k then c else 0) (row s n) ≡ (if y.source == s && nat_lt y.destination n then c else 0) = over_row s n in
+      elim (cases_Bool (y.source == s && y.destination == n)) [
         | inl t ↦
-            (let p = and_parts (y.from == s) (y.to == n) t in
-            let e : y.to ≡ n = eqb-true _ _ p.1 in
-            let a : (if y.from == s && y.to == n then c else 0) ≡ c = cond-true _ _ _ t in
-            let b : (if y.from == s && nat_lt y.to n then c else 0) ≡ 0 = cond-false _ _ _ (and_right _ _ (false_from_ne_true _ (λ u. let l : y.to < n = ltb-true _ _ u in omega arith))) in
-            let d : (if y.from == s && nat_lt y.to (suc n) then c else 0) ≡ c = cond-true _ _ _ (and_from _ _ p.0 (lt-ltb y.to (suc n) (omega arith))) in
+            (let p = and_parts (y.source == s) (y.destination == n) t in
+            let e : y.destination ≡ n = eqb-true _ _ p.1 in
+            let a : (if y.source == s && y.destination == n then c else 0) ≡ c = cond-true _ _ _ t in
+            let b : (if y.source == s && nat_lt y.destination n then c else 0) ≡ 0 = cond-false _ _ _ (and_right _ _ (false_from_ne_true _ (λ u. let l : y.destination < n = ltb-true _ _ u in omega arith))) in
+            let d : (if y.source == s && nat_lt y.destination (suc n) then c else 0) ≡ c = cond-true _ _ _ (and_from _ _ p.0 (lt-ltb y.destination (suc n) (omega arith))) in
             omega arith)
         | inr t ↦
-            (let a : (if y.from == s && y.to == n then c else 0) ≡ 0 = cond-false _ _ _ t in
-            let b : (y.from == s && nat_lt y.to n) ≡ (y.from == s && nat_lt y.to (suc n)) = same s n t in
-            let d : (if y.from == s && nat_lt y.to n then c else 0) ≡ (if y.from == s && nat_lt y.to (suc n) then c else 0) = ap (λ (q : Bool). if q then c else 0) b in
+            (let a : (if y.source == s && y.destination == n then c else 0) ≡ 0 = cond-false _ _ _ t in
+            let b : (y.source == s && nat_lt y.destination n) ≡ (y.source == s && nat_lt y.destination (suc n)) = same s n t in
+            let d : (if y.source == s && nat_lt y.destination n then c else 0) ≡ (if y.source == s && nat_lt y.destination (suc n) then c else 0) = ap (λ (q : Bool). if q then c else 0) b in
             omega arith)
       ]
     where
-      same : (s n : ℕ) → (y.from == s && y.to == n) ≡ false → (y.from == s && nat_lt y.to n) ≡ (y.from == s && nat_lt y.to (suc n))
-      same s n t = elim (cases_Bool (y.from == s)) [
+      same : (s n : ℕ) → (y.source == s && y.destination == n) ≡ false → (y.source == s && nat_lt y.destination n) ≡ (y.source == s && nat_lt y.destination (suc n))
+      same s n t = elim (cases_Bool (y.source == s)) [
         | inr e ↦ and_left _ _ e ∙ sym (and_left _ _ e)
-        | inl e ↦ elim (cases_lt y.to n) [
-          | inl l ↦ and_from _ _ e (lt-ltb y.to n l) ∙ sym (and_from _ _ e (lt-ltb y.to (suc n) (omega arith)))
+        | inl e ↦ elim (cases_lt y.destination n) [
+          | inl l ↦ and_from _ _ e (lt-ltb y.destination n l) ∙ sym (and_from _ _ e (lt-ltb y.destination (suc n) (omega arith)))
           | inr l ↦
-              (let w : y.to ≢ n = λ q. both_ways _ t (and_from _ _ e (eq-eqb _ _ q)) in
-              and_right _ _ (false_from_ne_true _ (λ u. let k : y.to < n = ltb-true _ _ u in omega arith))
-              ∙ sym (and_right _ _ (false_from_ne_true _ (λ u. let k : y.to < suc n = ltb-true _ _ u in w (omega arith)))))
+              (let w : y.destination ≢ n = λ q. both_ways _ t (and_from _ _ e (eq-eqb _ _ q)) in
+              and_right _ _ (false_from_ne_true _ (λ u. let k : y.destination < n = ltb-true _ _ u in omega arith))
+              ∙ sym (and_right _ _ (false_from_ne_true _ (λ u. let k : y.destination < suc n = ltb-true _ _ u in w (omega arith)))))
         ]
       ]
 
-  over_pairs : y.to < 254 → (m : ℕ) → over (λ k. if is_this y k then c else 0) (pairs m) ≡ (if nat_lt y.from m then c else 0)
+  over_pairs : y.destination < 254 → (m : ℕ) → over (λ k. if is_this y k then c else 0) (pairs m) ≡ (if nat_lt y.source m then c else 0)
   unfolding pairs
-  over_pairs w zero = sym (cond-false _ _ _ (false_from_ne_true _ (λ t. let l : y.from < 0 = ltb-true _ _ t in omega arith)))
+  over_pairs w zero = sym (cond-false _ _ _ (false_from_ne_true _ (λ t. let l : y.source < 0 = ltb-true _ _ t in omega arith)))
   over_pairs w (suc m) =
-      let i : over (λ k. if is_this y k then c else 0) (pairs m) ≡ (if nat_lt y.from m then c else 0) = over_pairs w m in
-      let r : over (λ k. if is_this y k then c else 0) (row m 254) ≡ (if y.from == m && nat_lt y.to 254 then c else 0) = over_row m 254 in
+      let i : over (λ k. if is_this y k then c else 0) (pairs m) ≡ (if nat_lt y.source m then c else 0) = over_pairs w m in
+      let r : over (λ k. if is_this y k then c else 0) (row m 254) ≡ (if y.source == m && nat_lt y.destination 254 then c else 0) = over_row m 254 in
       let a : over (λ k. if is_this y k then c else 0) (row m 254 ++ pairs m) ≡ over (λ k. if is_this y k then c else 0) (row m 254) + over (λ k. if is_this y k then c else 0) (pairs m) = over_append (λ k. if is_this y k then c else 0) (row m 254) (pairs m) in
-      elim (cases_eq y.from m) [
+      elim (cases_eq y.source m) [
         | inl e ↦
-            (let x1 : (if y.from == m && nat_lt y.to 254 then c else 0) ≡ c = cond-true _ _ _ (and_from _ _ (eq-eqb _ _ e) (lt-ltb y.to 254 w)) in
-            let x2 : (if nat_lt y.from m then c else 0) ≡ 0 = cond-false _ _ _ (false_from_ne_true _ (λ u. let l : y.from < m = ltb-true _ _ u in omega arith)) in
-            let x3 : (if nat_lt y.from (suc m) then c else 0) ≡ c = cond-true _ _ _ (lt-ltb y.from (suc m) (omega arith)) in
+            (let x1 : (if y.source == m && nat_lt y.destination 254 then c else 0) ≡ c = cond-true _ _ _ (and_from _ _ (eq-eqb _ _ e) (lt-ltb y.destination 254 w)) in
+            let x2 : (if nat_lt y.source m then c else 0) ≡ 0 = cond-false _ _ _ (false_from_ne_true _ (λ u. let l : y.source < m = ltb-true _ _ u in omega arith)) in
+            let x3 : (if nat_lt y.source (suc m) then c else 0) ≡ c = cond-true _ _ _ (lt-ltb y.source (suc m) (omega arith)) in
             omega arith)
         | inr n ↦
-            (let x1 : (if y.from == m && nat_lt y.to 254 then c else 0) ≡ 0 = cond-false _ _ _ (and_left _ _ (ne_eqb _ _ n)) in
-            elim (cases_lt y.from m) [
-              | inl l ↦ (let x2 : (if nat_lt y.from m then c else 0) ≡ c = cond-true _ _ _ (lt-ltb y.from m l) in
-                  let x3 : (if nat_lt y.from (suc m) then c else 0) ≡ c = cond-true _ _ _ (lt-ltb y.from (suc m) (omega arith)) in omega arith)
-              | inr l ↦ (let x2 : (if nat_lt y.from m then c else 0) ≡ 0 = cond-false _ _ _ (false_from_ne_true _ (λ u. let k : y.from < m = ltb-true _ _ u in omega arith)) in
-                  let x3 : (if nat_lt y.from (suc m) then c else 0) ≡ 0 = cond-false _ _ _ (false_from_ne_true _ (λ u. let k : y.from < suc m = ltb-true _ _ u in n (omega arith))) in omega arith)
+            (let x1 : (if y.source == m && nat_lt y.destination 254 then c else 0) ≡ 0 = cond-false _ _ _ (and_left _ _ (ne_eqb _ _ n)) in
+            elim (cases_lt y.source m) [
+              | inl l ↦ (let x2 : (if nat_lt y.source m then c else 0) ≡ c = cond-true _ _ _ (lt-ltb y.source m l) in
+                  let x3 : (if nat_lt y.source (suc m) then c else 0) ≡ c = cond-true _ _ _ (lt-ltb y.source (suc m) (omega arith)) in omega arith)
+              | inr l ↦ (let x2 : (if nat_lt y.source m then c else 0) ≡ 0 = cond-false _ _ _ (false_from_ne_true _ (λ u. let k : y.source < m = ltb-true _ _ u in omega arith)) in
+                  let x3 : (if nat_lt y.source (suc m) then c else 0) ≡ 0 = cond-false _ _ _ (false_from_ne_true _ (λ u. let k : y.source < suc m = ltb-true _ _ u in n (omega arith))) in omega arith)
             ])
       ]
 
-directed_of : List (Option Entry) → Key → Option Session
+directed_of : Places → Key → Option SessionRecord
 directed_of L (Broadcast s) = None
 directed_of L (Directed s d) = lookup s d L
 
-module _ (f : Option Session → ℕ) (zero_none : f None ≡ 0) where
-  over_directed : (L : List (Option Entry)) → Apart L → over (λ k. f (directed_of L k)) (pairs 254) ≡ sum_by (λ p. f (session_at p)) L
+module _ (f : Option SessionRecord → ℕ) (zero_none : f None ≡ 0) where
+  over_directed : (L : Places) → Apart L → over (λ k. f (directed_of L k)) (pairs 254) ≡ sum_by f L
   unfolding directed_of lookup is_this
   over_directed [] h = over_same (λ k. f (directed_of [] k)) (λ k. 0) none (pairs 254) ∙ over_none (pairs 254)
     where
@@ -135,79 +134,72 @@ module _ (f : Option Session → ℕ) (zero_none : f None ≡ 0) where
       none (Broadcast s) = zero_none
       none (Directed s d) = zero_none
   over_directed (None ∷ L) h =
-      let i : over (λ k. f (directed_of L k)) (pairs 254) ≡ sum_by (λ p. f (session_at p)) L = over_directed L (apart_later None L h) in
+      let i : over (λ k. f (directed_of L k)) (pairs 254) ≡ sum_by f L = over_directed L (apart_later None L h) in
       let a : over (λ k. f (directed_of (None ∷ L) k)) (pairs 254) ≡ over (λ k. f (directed_of L k)) (pairs 254) = over_same (λ k. f (directed_of (None ∷ L) k)) (λ k. f (directed_of L k)) same (pairs 254) in
-      let b : sum_by (λ p. f (session_at p)) (None ∷ L) ≡ f None + sum_by (λ p. f (session_at p)) L = sum_by-cons (λ p. f (session_at p)) None L in
+      let b : sum_by f (None ∷ L) ≡ f None + sum_by f L = sum_by-cons f None L in
       omega (arith, zero_none)
     where
       same : (k : Key) → f (directed_of (None ∷ L) k) ≡ f (directed_of L k)
       same (Broadcast s) = refl
       same (Directed s d) = refl
   over_directed (Some y ∷ L) h =
-      let i : over (λ k. f (directed_of L k)) (pairs 254) ≡ sum_by (λ p. f (session_at p)) L = over_directed L (apart_later (Some y) L h) in
+      let i : over (λ k. f (directed_of L k)) (pairs 254) ≡ sum_by f L = over_directed L (apart_later (Some y) L h) in
       let w = h.within 0 y refl in
-      let c : ℕ = f (Some y.session) in
-      let a : over (λ k. f (directed_of (Some y ∷ L) k)) (pairs 254) ≡ over (λ k. f (directed_of L k) + (if is_this y k then f (Some y.session) else 0)) (pairs 254) =
-      over_same (λ k. f (directed_of (Some y ∷ L) k)) (λ k. f (directed_of L k) + (if is_this y k then f (Some y.session) else 0)) split (pairs 254) in
-      let b = over_add (λ k. f (directed_of L k)) (λ k. if is_this y k then f (Some y.session) else 0) (pairs 254) in
-      let d : over (λ k. if is_this y k then f (Some y.session) else 0) (pairs 254) ≡ f (Some y.session) = over_pairs (f (Some y.session)) y w.1 254 ∙ cond-true _ _ _ (lt-ltb y.from 254 w.0) in
-      let e : sum_by (λ p. f (session_at p)) (Some y ∷ L) ≡ f (Some y.session) + sum_by (λ p. f (session_at p)) L = sum_by-cons (λ p. f (session_at p)) (Some y) L in
+      let c : ℕ = f (Some y) in
+      let a : over (λ k. f (directed_of (Some y ∷ L) k)) (pairs 254) ≡ over (λ k. f (directed_of L k) + (if is_this y k then f (Some y) else 0)) (pairs 254) =
+      over_same (λ k. f (directed_of (Some y ∷ L) k)) (λ k. f (directed_of L k) + (if is_this y k then f (Some y) else 0)) split (pairs 254) in
+      let b = over_add (λ k. f (directed_of L k)) (λ k. if is_this y k then f (Some y) else 0) (pairs 254) in
+      let d : over (λ k. if is_this y k then f (Some y) else 0) (pairs 254) ≡ f (Some y) = over_pairs (f (Some y)) y w.1 254 ∙ cond-true _ _ _ (lt-ltb y.source 254 w.0) in
+      let e : sum_by f (Some y ∷ L) ≡ f (Some y) + sum_by f L = sum_by-cons f (Some y) L in
       omega arith
     where
-      absent : (s d : ℕ) → y.from ≡ s → y.to ≡ d → (o : Option Session) → Looked s d L o → f o ≡ 0
+      absent : (s d : ℕ) → y.source ≡ s → y.destination ≡ d → (o : Option SessionRecord) → Looked s d L o → f o ≡ 0
       absent s d u v None k = zero_none
-      absent s d u v (Some x) k = absurd (let z : 0 ≡ suc k.0 = h.one_place 0 (suc k.0) y (record { from = s; to = d; session = x }) refl k.2 u v in omega arith)
+      absent s d u v (Some x) k = absurd (let p = pair_is s d x k.3 in let z : 0 ≡ suc k.0 = h.one_place 0 (suc k.0) y x refl k.2 (u ∙ sym p.0) (v ∙ sym p.1) in omega arith)
 
-      split : (k : Key) → f (directed_of (Some y ∷ L) k) ≡ f (directed_of L k) + (if is_this y k then f (Some y.session) else 0)
+      split : (k : Key) → f (directed_of (Some y ∷ L) k) ≡ f (directed_of L k) + (if is_this y k then f (Some y) else 0)
       split (Broadcast s) = omega arith
-      split (Directed s d) = elim (cases_Bool (y.from == s && y.to == d)) [
+      split (Directed s d) = elim (cases_Bool (y.source == s && y.destination == d)) [
         | inl t ↦
-            (let p = and_parts (y.from == s) (y.to == d) t in
-            let x1 : f (if y.from == s && y.to == d then Some y.session else lookup s d L) ≡ f (Some y.session) = ap f (cond-true _ _ _ t) in
-            let x2 : (if y.from == s && y.to == d then f (Some y.session) else 0) ≡ f (Some y.session) = cond-true _ _ _ t in
+            (let p = and_parts (y.source == s) (y.destination == d) t in
+            let x1 : f (if y.source == s && y.destination == d then Some y else lookup s d L) ≡ f (Some y) = ap f (cond-true _ _ _ t) in
+            let x2 : (if y.source == s && y.destination == d then f (Some y) else 0) ≡ f (Some y) = cond-true _ _ _ t in
             let x3 : f (lookup s d L) ≡ 0 = absent s d (eqb-true _ _ p.0) (eqb-true _ _ p.1) (lookup s d L) (looked s d L) in
             omega arith)
         | inr t ↦
-            (let x1 : f (if y.from == s && y.to == d then Some y.session else lookup s d L) ≡ f (lookup s d L) = ap f (cond-false _ _ _ t) in
-            let x2 : (if y.from == s && y.to == d then f (Some y.session) else 0) ≡ 0 = cond-false _ _ _ t in
+            (let x1 : f (if y.source == s && y.destination == d then Some y else lookup s d L) ≡ f (lookup s d L) = ap f (cond-false _ _ _ t) in
+            let x2 : (if y.source == s && y.destination == d then f (Some y) else 0) ≡ 0 = cond-false _ _ _ t in
             omega arith)
       ]
 
 -- two sessions of one key are of one age
-one_age : (E : List Event) (k : Key) (x z : Session) → IsSession E k x → IsSession E k z → x.after ≡ z.after
-one_age E k x z h g =
-    let e : h.start ≡ g.start = (Open-unique E k x.group_due z.group_due h.start g.start h.places g.places h.open_by g.open_by).one_start in
-    let c = ap (λ (i : ℕ). count_below (rivals k) E (suc i)) e in
-    let a = h.after_is in
-    let b = g.after_is in
+one_age : (E : List Event) (k : Key) (i j : ℕ) (x z : SessionRecord) → IsAged E k i x → IsAged E k j z → i ≡ j
+one_age E k i j x z h g =
+    let u = Open-unique E k x.group z.group h.session.start g.session.start h.session.places g.session.places h.session.open_by g.session.open_by in
+    let c = ap (λ (n : ℕ). count_below (rivals k) E (suc n)) u.one_start in
+    let a : i + count_below (rivals k) E (suc h.session.start) ≡ count_below (rivals k) E (length E) = h.age_is in
+    let b : j + count_below (rivals k) E (suc g.session.start) ≡ count_below (rivals k) E (length E) = g.age_is in
     omega arith
 
-pub are_apart : (E : List Event) (L : List (Option Entry)) → AreDirected E L → Apart L
+pub are_apart : (E : List Event) (L : Places) → AreDirected E L → Apart L
 are_apart E L h = record {
-  one_place = λ i j y z a b u v.
-      (let p = h.each i y a in
-      let q = h.each j z b in
-      let e : y.session.after ≡ z.session.after = one_age E (Directed y.from y.to) y.session z.session p.0
-      (subst (λ (t : ℕ). IsSession E (Directed y.from t) z.session) (sym v) (subst (λ (t : ℕ). IsSession E (Directed t z.to) z.session) (sym u) q.0)) in
-      let p1 : y.session.after ≡ i = p.1 in
-      let q1 : z.session.after ≡ j = q.1 in
-      omega arith);
+  one_place = λ i j y z a b u v. one_age E (pair_of y) i j y z (h.each i y a) (subst (λ (k : Key). IsAged E k j z) (λ n. Directed (sym u n) (sym v n)) (h.each j z b));
   within = λ i y a.
-      (let k = announced_key (Directed y.from y.to) (at E (h.each i y a).0.start) (h.each i y a).0.open_by.announced in
-      let b = and_parts (nat_lt y.from 254) (nat_lt y.to 254) k in
+      (let k = announced_key (pair_of y) (at E (h.each i y a).session.start) (h.each i y a).session.open_by.announced in
+      let b = and_parts (nat_lt y.source 254) (nat_lt y.destination 254) k in
       (ltb-true _ _ b.0, ltb-true _ _ b.1));
 }
 
 -- what `open` and `held` answer
-abbrev pub total : (Option Session → ℕ) → Table → ℕ
-total f T = sum_by f T.broadcasts + sum_by (λ p. f (session_at p)) T.directed
+abbrev pub total : (Option SessionRecord → ℕ) → SessionsRecord → ℕ
+total f T = sum_by f T.broadcasts + sum_by f T.directed
 
-in_row : (f : Option Session → ℕ) (T : Table) (s m : ℕ) → over (λ k. f (session_of T k)) (row s m) ≡ over (λ k. f (directed_of T.directed k)) (row s m)
+in_row : (f : Option SessionRecord → ℕ) (T : SessionsRecord) (s m : ℕ) → over (λ k. f (session_of T k)) (row s m) ≡ over (λ k. f (directed_of T.directed k)) (row s m)
 unfolding directed_of row
 in_row f T s zero = refl
 in_row f T s (suc m) = let i : over (λ k. f (session_of T k)) (row s m) ≡ over (λ k. f (directed_of T.directed k)) (row s m) = in_row f T s m in omega arith
 
-directed_keys : (f : Option Session → ℕ) (T : Table) (m : ℕ) → over (λ k. f (session_of T k)) (pairs m) ≡ over (λ k. f (directed_of T.directed k)) (pairs m)
+directed_keys : (f : Option SessionRecord → ℕ) (T : SessionsRecord) (m : ℕ) → over (λ k. f (session_of T k)) (pairs m) ≡ over (λ k. f (directed_of T.directed k)) (pairs m)
 unfolding directed_of pairs
 directed_keys f T zero = refl
 directed_keys f T (suc m) =
@@ -217,21 +209,21 @@ directed_keys f T (suc m) =
     let b : over (λ k. f (directed_of T.directed k)) (row m 254 ++ pairs m) ≡ over (λ k. f (directed_of T.directed k)) (row m 254) + over (λ k. f (directed_of T.directed k)) (pairs m) = over_append (λ k. f (directed_of T.directed k)) (row m 254) (pairs m) in
     omega arith
 
-over_all : (f : Option Session → ℕ) → f None ≡ 0 → (E : List Event) (T : Table) → IsTable E T → over (λ k. f (session_of T k)) all_keys ≡ total f T
+over_all : (f : Option SessionRecord → ℕ) → f None ≡ 0 → (E : List Event) (T : SessionsRecord) → AreKept E T → over (λ k. f (session_of T k)) all_keys ≡ total f T
 unfolding all_keys
 over_all f n E T h =
     let z : length T.broadcasts ≡ 254 = h.broadcasts.size_is in
     let a : over (λ k. f (session_of T k)) (broadcast_keys 254) ≡ sum_by f T.broadcasts =
     over_broadcasts f T z 254 (omega arith) ∙ ap (sum_by f) (take_all 254 T.broadcasts (omega arith)) in
     let b : over (λ k. f (session_of T k)) (pairs 254) ≡ over (λ k. f (directed_of T.directed k)) (pairs 254) = directed_keys f T 254 in
-    let c : over (λ k. f (directed_of T.directed k)) (pairs 254) ≡ sum_by (λ p. f (session_at p)) T.directed = over_directed f n T.directed (are_apart E T.directed h.directed) in
+    let c : over (λ k. f (directed_of T.directed k)) (pairs 254) ≡ sum_by f T.directed = over_directed f n T.directed (are_apart E T.directed h.directed) in
     let d : over (λ k. f (session_of T k)) (broadcast_keys 254 ++ pairs 254) ≡ over (λ k. f (session_of T k)) (broadcast_keys 254) + over (λ k. f (session_of T k)) (pairs 254) = over_append (λ k. f (session_of T k)) (broadcast_keys 254) (pairs 254) in
     omega arith
 
-pub table_opens : (E : List Event) (T : Table) → IsTable E T → Opens E all_keys (total is_open T) (total holding T)
+pub table_opens : (E : List Event) (T : SessionsRecord) → AreKept E T → Opens E all_keys (messages_open T) (bytes_held T)
 table_opens E T h =
-    subst (λ (x : ℕ). Opens E all_keys x (total holding T)) (over_all is_open refl E T h)
-    (subst (λ (x : ℕ). Opens E all_keys (over (λ k. is_open (session_of T k)) all_keys) x) (over_all holding refl E T h) (opens_over E (session_of T) (table_stands E T h) all_keys))
+    subst (λ (x : ℕ). Opens E all_keys x (total bytes_in T)) (over_all open_in refl E T h)
+    (subst (λ (x : ℕ). Opens E all_keys (over (λ k. open_in (session_of T k)) all_keys) x) (over_all bytes_in refl E T h) (opens_over E (session_of T) (table_stands E T h) all_keys))
 
 sum_small : {A : Type 0} (f : A → ℕ) → ((x : A) → f x ≤ 1) → (xs : List A) → sum_by f xs ≤ length xs
 sum_small f h [] = omega arith
@@ -241,23 +233,23 @@ sum_small f h (x ∷ xs) =
     let e : sum_by f (x ∷ xs) ≡ f x + sum_by f xs = sum_by-cons f x xs in
     omega arith
 
-open_one : (o : Option Session) → is_open o ≤ 1
+open_one : (o : Option SessionRecord) → open_in o ≤ 1
 open_one None = omega arith
 open_one (Some x) = omega arith
 
 -- at most 254 broadcasts and sixteen directed messages
-pub table_few : (E : List Event) (T : Table) → IsTable E T → total is_open T ≤ 270
+pub table_few : (E : List Event) (T : SessionsRecord) → AreKept E T → total open_in T ≤ 270
 table_few E T h =
-    let a : sum_by is_open T.broadcasts ≤ length T.broadcasts = sum_small is_open open_one T.broadcasts in
-    let b : sum_by (λ p. is_open (session_at p)) T.directed ≤ length T.directed = sum_small (λ p. is_open (session_at p)) (λ p. open_one (session_at p)) T.directed in
+    let a : sum_by open_in T.broadcasts ≤ length T.broadcasts = sum_small open_in open_one T.broadcasts in
+    let b : sum_by open_in T.directed ≤ length T.directed = sum_small open_in open_one T.directed in
     let c : length T.broadcasts ≡ 254 = h.broadcasts.size_is in
     let d : length T.directed ≡ 16 = h.directed.size_is in
     omega arith
 
 pub opens_few : (E : List Event) (n held : ℕ) → Opens E all_keys n held → (n ≤ 270) × (held ≤ 1785 * n)
 opens_few E n held h =
-    let t = table_all [] E no_sessions table_new in
-    let u = opens_unique E all_keys n (total is_open (table_run E no_sessions)) held (total holding (table_run E no_sessions)) h (table_opens E (table_run E no_sessions) t) in
-    let f : total is_open (table_run E no_sessions) ≤ 270 = table_few E (table_run E no_sessions) t in
-    let e : n ≡ total is_open (table_run E no_sessions) = u.one_count in
+    let t = table_all [] E empty_state table_new in
+    let u = opens_unique E all_keys n (total open_in (table_run E empty_state)) held (total bytes_in (table_run E empty_state)) h (table_opens E (table_run E empty_state) t) in
+    let f : total open_in (table_run E empty_state) ≤ 270 = table_few E (table_run E empty_state) t in
+    let e : n ≡ total open_in (table_run E empty_state) = u.one_count in
     (omega arith, (opens_bounded E all_keys n held h).small)

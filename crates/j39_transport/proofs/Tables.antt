@@ -1,20 +1,22 @@
 -- The sessions of all keys: 254 places by source for broadcasts, and sixteen places for directed messages, by how many
 -- directed announcements came after their own.
-use Rattle.std.proofs.Common.{◌≡◌, ◌⊎◌, ℕ, zero, suc, ◌+◌, ◌*◌, ◌<◌, ◌≤◌, Bool, true, false, if◌then◌else◌, ◌&&◌, List, [], ◌∷◌, ◌++◌, map, length, get_or, take, replicate, Option, Some, None, refl, sym, ap, ◌∙◌, subst, inl, inr, arith, nat_lt, ◌==◌, eqb-true, eq-eqb, lt-ltb}
-use Rattle.std.proofs.lemmas.Bool.{cases_lt, cases_Bool, cond_both, cond-true, cond-false, and_parts, and_from, or_right, both_ways, false_from_ne_true}
+use Rattle.std.proofs.Common.{◌≡◌, ◌⊎◌, ℕ, zero, suc, ◌+◌, ◌*◌, ◌<◌, ◌≤◌, Bool, true, false, if◌then◌else◌, List, [], ◌∷◌, ◌++◌, map, length, get_or, take, replicate, Option, Some, None, refl, sym, ap, ◌∙◌, subst, inl, inr, arith, ◌==◌, eqb-true, eq-eqb}
+use Rattle.std.proofs.lemmas.Bool.{cases_lt, cases_Bool, cond_both, cond-true, cond-false, and_parts, and_from, both_ways, false_from_ne_true}
 use Rattle.std.proofs.lemmas.List.{get_or-replicate, length-replicate, get_or-take, get_or-map, length-map, length-take, get_or_past}
 use Rattle.j39_transport.specs.Key.{Key}
 use Rattle.j39_transport.specs.Frames.{destination_of, is_announcement, is_rival}
 use Rattle.j39_transport.specs.Key.Key.{Directed}
 use Rattle.j39_transport.specs.Events.{Event, at, announces, rivals, is_numbered, packets}
-use Rattle.j39_transport.specs.Assembly.{Open, OpenBy, Opens}
+use Rattle.j39_transport.specs.Assembly.{count_below, Open, OpenBy, Opens}
 use Rattle.j39_transport.specs.Events.Event.{Frame, Forget}
 use Rattle.j39_transport.proofs.Chains.{Open-unique}
 use Rattle.j39_transport.proofs.FrameFacts.{few_packets, announcement_facts}
-use Rattle.j39_transport.proofs.OneMore.{stands_new}
-use Rattle.j39_transport.proofs.Moving.{step_stands}
-use Rattle.j39_transport.specs.EventSteps.{Session, opened, after_after, touched, grown, is_crowded, is_over, moved, on_other, Entry, entry_of, moved_place, from_of, to_of, is_request_to_send, directed_step}
-use Rattle.j39_transport.specs.Stands.{IsSession, StandsFor, AreDirected}
+use Rattle.j39_transport.proofs.OneMore.{stands_new, began_before, shorter, count_new, count_old}
+use Rattle.j39_transport.proofs.Moving.{Young, other_stands, opened_aged, later_aged}
+use Rattle.j39_transport.specs.EventSteps.{opened, touched, grown, is_over, moved, pair_of, moved_place, from_of, to_of, is_request_to_send, directed_step}
+use Rattle.j39_transport.specs.Session.{SessionRecord}
+use Rattle.j39_transport.specs.Places.{Places, is_of, open_in, bytes_in}
+use Rattle.j39_transport.specs.Stands.{IsSession, IsAged, StandsFor, AreDirected}
 
 -- ---- one open message
 
@@ -66,61 +68,53 @@ opens_bounded E (k ∷ ks) n held h =
 
 -- ---- any assignment of sessions to keys that stands for E has the sums
 
-abbrev pub is_open : Option Session → ℕ
-is_open None = 0
-is_open (Some x) = 1
-
-abbrev pub holding : Option Session → ℕ
-holding None = 0
-holding (Some x) = 7 * x.count
-
-stands_open : (E : List Event) (k : Key) (o : Option Session) (a b : ℕ) → StandsFor E k o
-    → ((m : ℕ) × Open E k m × (is_open o + a ≡ suc a) × (holding o + b ≡ b + 7 * m)) ⊎ (((m : ℕ) → Open E k m → ⊥) × (is_open o + a ≡ a) × (holding o + b ≡ b))
+stands_open : (E : List Event) (k : Key) (o : Option SessionRecord) (a b : ℕ) → StandsFor E k o
+    → ((m : ℕ) × Open E k m × (open_in o + a ≡ suc a) × (bytes_in o + b ≡ b + 7 * m)) ⊎ (((m : ℕ) → Open E k m → ⊥) × (open_in o + a ≡ a) × (bytes_in o + b ≡ b))
 stands_open E k None a b h = inr ((λ m g. h g.0 g.1 g.2 g.3), omega arith, omega arith)
-stands_open E k (Some x) a b h = inl (x.count, (x.group_due, h.start, h.places, h.open_by, sym h.count_is), omega arith, omega arith)
+stands_open E k (Some x) a b h = inl (x.count, (x.group, h.start, h.places, h.open_by, sym h.count_is), omega arith, omega arith)
 
 -- the sum of a number over keys
 abbrev pub over : (Key → ℕ) → List Key → ℕ
 over f [] = 0
 over f (k ∷ ks) = f k + over f ks
 
-pub opens_over : (E : List Event) (state : Key → Option Session) → ((k : Key) → StandsFor E k (state k))
-    → (ks : List Key) → Opens E ks (over (λ k. is_open (state k)) ks) (over (λ k. holding (state k)) ks)
+pub opens_over : (E : List Event) (state : Key → Option SessionRecord) → ((k : Key) → StandsFor E k (state k))
+    → (ks : List Key) → Opens E ks (over (λ k. open_in (state k)) ks) (over (λ k. bytes_in (state k)) ks)
 opens_over E state h [] = (refl, refl)
 opens_over E state h (k ∷ ks) = (
-  over (λ j. is_open (state j)) ks,
-  over (λ j. holding (state j)) ks,
+  over (λ j. open_in (state j)) ks,
+  over (λ j. bytes_in (state j)) ks,
   opens_over E state h ks,
-  stands_open E k (state k) (over (λ j. is_open (state j)) ks) (over (λ j. holding (state j)) ks) (h k),
+  stands_open E k (state k) (over (λ j. open_in (state j)) ks) (over (λ j. bytes_in (state j)) ks) (h k),
 )
 
 -- ---- the directed sessions
 
-some_not_none : (y : Entry) → ◌≡◌ {A = Option Entry} None (Some y) → ⊥
-some_not_none y e = cc (e)
+some_not_none : (x : SessionRecord) → ◌≡◌ {A = Option SessionRecord} None (Some x) → ⊥
+some_not_none x e = cc (e)
 
-one_some : (x y : Entry) → ◌≡◌ {A = Option Entry} (Some x) (Some y) → x ≡ y
+one_some : (x y : SessionRecord) → ◌≡◌ {A = Option SessionRecord} (Some x) (Some y) → x ≡ y
 one_some x y e = cc (e)
 
 pub directed_new : AreDirected [] (replicate 16 None)
 directed_new = record {
-  size_is = length-replicate {A = Option Entry} 16 None;
-  each = λ i y h. absurd (elim (cases_lt i 16) [
-    | inl l ↦ some_not_none y (sym (get_or-replicate {A = Option Entry} 16 i None None l) ∙ h)
-    | inr l ↦ some_not_none y (sym (get_or_past (replicate {A = Option Entry} 16 None) i None (let e : length (replicate {A = Option Entry} 16 None) ≡ 16 = length-replicate {A = Option Entry} 16 None in omega arith)) ∙ h)
+  size_is = length-replicate {A = Option SessionRecord} 16 None;
+  each = λ i x h. absurd (elim (cases_lt i 16) [
+    | inl l ↦ some_not_none x (sym (get_or-replicate {A = Option SessionRecord} 16 i None None l) ∙ h)
+    | inr l ↦ some_not_none x (sym (get_or_past (replicate {A = Option SessionRecord} 16 None) i None (let e : length (replicate {A = Option SessionRecord} 16 None) ≡ 16 = length-replicate {A = Option SessionRecord} 16 None in omega arith)) ∙ h)
   ]);
   all = λ s d g p0 ps h. absurd (stands_new (Directed s d) g p0 ps h);
 }
 
--- a session that moves has the count that the event leaves
-moved_after : (k : Key) (e : Event) (x z : Session) → moved k e x ≡ Some z → z.after ≡ after_after k e x
-moved_after k e x z h = go (is_over k e x) (is_numbered k (suc x.count) e) (suc x.count == x.packets_due) h
+-- a session that moves keeps its pair
+moved_pair : (k : Key) (e : Event) (x z : SessionRecord) → moved k e x ≡ Some z → (z.source ≡ x.source) × (z.destination ≡ x.destination)
+moved_pair k e x z h = go (is_over k e x) (is_numbered k (suc x.count) e) (suc x.count == x.packets) h
   where
-    go : (a b c : Bool) → (if a then None else if b then (if c then None else Some (grown k e x)) else Some (touched k e x)) ≡ Some z → z.after ≡ after_after k e x
+    go : (a b c : Bool) → (if a then None else if b then (if c then None else Some (grown k e x)) else Some (touched k e x)) ≡ Some z → (z.source ≡ x.source) × (z.destination ≡ x.destination)
     go true b c h = absurd (cc (h))
     go false true true h = absurd (cc (h))
-    go false true false h = let i : grown k e x ≡ z = cc (h) in sym (ap (λ (y : Session). y.after) i)
-    go false false c h = let i : touched k e x ≡ z = cc (h) in sym (ap (λ (y : Session). y.after) i)
+    go false true false h = let i : grown k e x ≡ z = cc (h) in (sym (ap (λ (y : SessionRecord). y.source) i), sym (ap (λ (y : SessionRecord). y.destination) i))
+    go false false c h = let i : touched k e x ≡ z = cc (h) in (sym (ap (λ (y : SessionRecord). y.source) i), sym (ap (λ (y : SessionRecord). y.destination) i))
 
 -- a directed key's rivals are the directed announcements
 rivals_are : (s d : ℕ) (e : Event) → rivals (Directed s d) e ≡ is_request_to_send e
@@ -136,105 +130,120 @@ announces_rival s d (Frame f) h =
 announces_rival s d (Forget t) h = absurd (both_ways false refl h)
 
 -- the session of a key, looked up
-unfoldable pub lookup : ℕ → ℕ → List (Option Entry) → Option Session
+unfoldable pub lookup : ℕ → ℕ → Places → Option SessionRecord
 lookup s d [] = None
-lookup s d (None ∷ L) = lookup s d L
-lookup s d (Some y ∷ L) = if y.from == s && y.to == d then Some y.session else lookup s d L
+lookup s d (p ∷ L) = if is_of s d p then p else lookup s d L
 
-abbrev pub Looked : ℕ → ℕ → List (Option Entry) → Option Session → Type 0
-Looked s d L None = (i : ℕ) (x : Session) → get_or L i None ≡ Some (record { from = s; to = d; session = x }) → ⊥
-Looked s d L (Some x) = (i : ℕ) × (i < length L) × (get_or L i None ≡ Some (record { from = s; to = d; session = x }))
+abbrev pub Looked : ℕ → ℕ → Places → Option SessionRecord → Type 0
+Looked s d L None = (i : ℕ) (x : SessionRecord) → get_or L i None ≡ Some x → is_of s d (Some x) ≡ true → ⊥
+Looked s d L (Some x) = (i : ℕ) × (i < length L) × (get_or L i None ≡ Some x) × (is_of s d (Some x) ≡ true)
 
-looked_later : (s d : ℕ) (p : Option Entry) (L : List (Option Entry)) (o : Option Session) → ((x : Session) → p ≡ Some (record { from = s; to = d; session = x }) → ⊥) → Looked s d L o → Looked s d (p ∷ L) o
+looked_later : (s d : ℕ) (p : Option SessionRecord) (L : Places) (o : Option SessionRecord) → is_of s d p ≡ false → Looked s d L o → Looked s d (p ∷ L) o
 looked_later s d p L None n h = apart
   where
-    apart : (i : ℕ) (x : Session) → get_or (p ∷ L) i None ≡ Some (record { from = s; to = d; session = x }) → ⊥
-    apart zero x e = n x e
-    apart (suc i) x e = h i x e
-looked_later s d p L (Some x) n h = (suc h.0, (let l : h.0 < length L = h.1 in omega arith), h.2)
+    apart : (i : ℕ) (x : SessionRecord) → get_or (p ∷ L) i None ≡ Some x → is_of s d (Some x) ≡ true → ⊥
+    apart zero x e y = both_ways _ n (ap (is_of s d) e ∙ y)
+    apart (suc i) x e y = h i x e y
+looked_later s d p L (Some x) n h = (suc h.0, (let l : h.0 < length L = h.1 in omega arith), h.2, h.3)
 
-pub looked : (s d : ℕ) (L : List (Option Entry)) → Looked s d L (lookup s d L)
+looked_here : (s d : ℕ) (p : Option SessionRecord) (L : Places) → is_of s d p ≡ true → Looked s d (p ∷ L) p
+looked_here s d None L t = absurd (both_ways false refl t)
+looked_here s d (Some x) L t = (0, omega arith, refl, t)
+
+pub looked : (s d : ℕ) (L : Places) → Looked s d L (lookup s d L)
 unfolding lookup
-looked s d [] = λ i x e. some_not_none _ (sym (get_or_past [] i None (omega arith)) ∙ e)
-looked s d (None ∷ L) = looked_later s d None L (lookup s d L) (λ x e. some_not_none _ e) (looked s d L)
-looked s d (Some y ∷ L) = cond_both (y.from == s && y.to == d) _ _ (λ (o : Option Session). Looked s d (Some y ∷ L) o)
-    (λ t. (
-      0,
-      omega arith,
-      (let a = and_parts (y.from == s) (y.to == d) t in
-          ap (λ (q : ℕ). Some (record { from = q; to = y.to; session = y.session })) (eqb-true _ _ a.0) ∙ ap (λ (q : ℕ). Some (record { from = s; to = q; session = y.session })) (eqb-true _ _ a.1)),
-    ))
-    (λ t. looked_later s d (Some y) L (lookup s d L) (λ x e.
-    (let i : y ≡ record { from = s; to = d; session = x } = one_some _ _ e in
-    both_ways _ t (and_from _ _ (eq-eqb _ _ (ap (λ (q : Entry). q.from) i)) (eq-eqb _ _ (ap (λ (q : Entry). q.to) i))))) (looked s d L))
+looked s d [] = λ i x e y. some_not_none x (sym (get_or_past [] i None (omega arith)) ∙ e)
+looked s d (p ∷ L) = cond_both (is_of s d p) _ _ (λ (o : Option SessionRecord). Looked s d (p ∷ L) o)
+    (λ t. looked_here s d p L t)
+    (λ t. looked_later s d p L (lookup s d L) t (looked s d L))
+
+pub is_pair : (s d : ℕ) (x : SessionRecord) → x.source ≡ s → x.destination ≡ d → is_of s d (Some x) ≡ true
+is_pair s d x a b = and_from _ _ (eq-eqb _ _ a) (eq-eqb _ _ b)
+
+pub pair_is : (s d : ℕ) (x : SessionRecord) → is_of s d (Some x) ≡ true → (x.source ≡ s) × (x.destination ≡ d)
+pair_is s d x h = (let p = and_parts (x.source == s) (x.destination == d) h in (eqb-true _ _ p.0, eqb-true _ _ p.1))
+
+pub same_pair : (s d : ℕ) (x : SessionRecord) → (x.source ≡ s) × (x.destination ≡ d) → pair_of x ≡ Directed s d
+same_pair s d x h = λ i. Directed (h.0 i) (h.1 i)
 
 -- each directed key stands for its session
-pub directed_stands : (E : List Event) (L : List (Option Entry)) → AreDirected E L → (s d : ℕ) → StandsFor E (Directed s d) (lookup s d L)
+pub directed_stands : (E : List Event) (L : Places) → AreDirected E L → (s d : ℕ) → StandsFor E (Directed s d) (lookup s d L)
 directed_stands E L h s d = go (lookup s d L) (looked s d L)
   where
-    go : (o : Option Session) → Looked s d L o → StandsFor E (Directed s d) o
-    go None k = λ g p0 ps z. (let r = h.all s d g p0 ps z in k r.0 r.1 r.2)
-    go (Some x) k = (h.each k.0 (record { from = s; to = d; session = x }) k.2).0
+    go : (o : Option SessionRecord) → Looked s d L o → StandsFor E (Directed s d) o
+    go None k = λ g p0 ps z. (let r = h.all s d g p0 ps z in k r.0 r.1 r.2 (is_pair s d r.1 r.3 r.4))
+    go (Some x) k = subst (λ (q : Key). IsSession E q x) (same_pair s d x (pair_is s d x k.3)) (h.each k.0 x k.2).session
 
-module _ (E : List Event) (e : Event) (L : List (Option Entry)) (h : AreDirected E L) where
-  stands_by : (s d : ℕ) (o : Option Session) → StandsFor E (Directed s d) o → announces (Directed s d) e ≡ false → StandsFor (E ++ e ∷ []) (Directed s d) (on_other (Directed s d) e o)
-  stands_by s d o k a = subst (λ (q : Option Session). StandsFor (E ++ e ∷ []) (Directed s d) q) (cond-false _ _ _ a) (step_stands E e (Directed s d) o k)
-
-  -- what a place becomes
-  place_each : (i : ℕ) (y : Entry) → moved_place e (get_or L i None) ≡ Some y → IsSession (E ++ e ∷ []) (Directed y.from y.to) y.session × (y.session.after ≡ (if is_request_to_send e then suc i else i))
-  place_each i y m = go (get_or L i None) refl m
+module _ (E : List Event) (e : Event) (L : Places) (h : AreDirected E L) where
+  -- what a place becomes that isn't the last before a directed announcement
+  place_each : (i : ℕ) (y : SessionRecord) → moved_place e (get_or L i None) ≡ Some y → (is_request_to_send e ≡ true → i < 15)
+      → IsAged (E ++ e ∷ []) (pair_of y) (if is_request_to_send e then suc i else i) y
+  place_each i y m l = go (get_or L i None) refl m
     where
-      found : (z : Entry) → get_or L i None ≡ Some z → announces (Directed z.from z.to) e ≡ false → (o : Option Session) → moved (Directed z.from z.to) e z.session ≡ o → entry_of z.from z.to o ≡ Some y
-          → IsSession (E ++ e ∷ []) (Directed y.from y.to) y.session × (y.session.after ≡ (if is_request_to_send e then suc i else i))
-      found z p a None q r = absurd (some_not_none y r)
-      found z p a (Some x) q r =
-          let k = h.each i z p in
-          let n : record { from = z.from; to = z.to; session = x } ≡ y = one_some _ _ r in
-          let st : IsSession (E ++ e ∷ []) (Directed z.from z.to) x = subst (λ (w : Option Session). StandsFor (E ++ e ∷ []) (Directed z.from z.to) w) q (stands_by z.from z.to (Some z.session) k.0 a) in (
-            subst (λ (w : Entry). IsSession (E ++ e ∷ []) (Directed w.from w.to) w.session) n st,
-            ap (λ (w : Entry). w.session.after) (sym n) ∙ (moved_after (Directed z.from z.to) e z.session x q
-                ∙ (ap (λ (b : Bool). if b then suc z.session.after else z.session.after) (rivals_are z.from z.to e) ∙ ap (λ (t : ℕ). if is_request_to_send e then suc t else t) k.1)),
-          )
+      young : (z : SessionRecord) (k : IsAged E (pair_of z) i z) → Young E e (pair_of z) k.session.start
+      young z k r =
+          let c : i + count_below (rivals (pair_of z)) E (suc k.session.start) ≡ count_below (rivals (pair_of z)) E (length E) = k.age_is in
+          let b : i < 15 = l (sym (rivals_are z.source z.destination e) ∙ r) in
+          omega arith
 
-      go : (o : Option Entry) → get_or L i None ≡ o → moved_place e o ≡ Some y → IsSession (E ++ e ∷ []) (Directed y.from y.to) y.session × (y.session.after ≡ (if is_request_to_send e then suc i else i))
+      found : (z : SessionRecord) → get_or L i None ≡ Some z → announces (pair_of z) e ≡ false → moved (pair_of z) e z ≡ Some y → IsAged (E ++ e ∷ []) (pair_of y) (if is_request_to_send e then suc i else i) y
+      found z p a q =
+          let k = h.each i z p in
+          let st : IsSession (E ++ e ∷ []) (pair_of z) y = subst (λ (o : Option SessionRecord). StandsFor (E ++ e ∷ []) (pair_of z) o) q (other_stands E e (pair_of z) (Some z) k.session a (young z k)) in
+          subst (λ (b : Bool). IsAged (E ++ e ∷ []) (pair_of y) (if b then suc i else i) y) (rivals_are y.source y.destination e)
+          (subst (λ (n : Key). IsAged (E ++ e ∷ []) n (if rivals n e then suc i else i) y) (sym (same_pair z.source z.destination y (moved_pair (pair_of z) e z y q)))
+          (later_aged E e (pair_of z) i z y k a st))
+
+      go : (o : Option SessionRecord) → get_or L i None ≡ o → moved_place e o ≡ Some y → IsAged (E ++ e ∷ []) (pair_of y) (if is_request_to_send e then suc i else i) y
       go None p m = absurd (some_not_none y m)
-      go (Some z) p m = elim (cases_Bool (announces (Directed z.from z.to) e)) [
+      go (Some z) p m = elim (cases_Bool (announces (pair_of z) e)) [
         | inl a ↦ absurd (some_not_none y (sym (cond-true _ _ _ a) ∙ m))
-        | inr a ↦ found z p a (moved (Directed z.from z.to) e z.session) refl (sym (cond-false _ _ _ a) ∙ m)
+        | inr a ↦ found z p a (sym (cond-false _ _ _ a) ∙ m)
       ]
 
   abbrev HasPlace : ℕ → ℕ → Type 0
-  HasPlace s d = (i : ℕ) × (x : Session) × (i < 16) × (moved_place e (get_or L i None) ≡ Some (record { from = s; to = d; session = x })) × (is_request_to_send e ≡ true → i < 15)
+  HasPlace s d = (i : ℕ) × (x : SessionRecord) × (moved_place e (get_or L i None) ≡ Some x) × (x.source ≡ s) × (x.destination ≡ d) × (is_request_to_send e ≡ true → i < 15)
 
   -- an open message of the longer list that the event doesn't announce has its place
   place_all : (s d g p0 : ℕ) (ps : List ℕ) → announces (Directed s d) e ≡ false → OpenBy (E ++ e ∷ []) (Directed s d) g p0 ps
       → HasPlace s d
-  unfolding is_crowded
-  place_all s d g p0 ps a o = go (lookup s d L) (looked s d L) (directed_stands E L h s d)
+  place_all s d g p0 ps a o =
+      let b : p0 < length E = began_before E e (Directed s d) g p0 ps a o in
+      let c = shorter E e (Directed s d) g p0 ps b o in
+      let r = h.all s d g p0 c.before c.open_by in
+      let n : pair_of r.1 ≡ Directed s d = same_pair s d r.1 (r.3, r.4) in
+      go r.0 r.1 r.2 (r.3, r.4) (subst (λ (k : Key). IsAged E k r.0 r.1) n (h.each r.0 r.1 r.2)) b c.before c.open_by
     where
-      crowded : (x z : Session) (i : ℕ) → x.after ≡ i → i < 16 → moved (Directed s d) e x ≡ Some z → is_request_to_send e ≡ true → i < 15
-      crowded x z i q l m r = elim (cases_lt i 15) [
-        | inl k ↦ k
-        | inr k ↦ absurd (
-            let over : is_over (Directed s d) e x ≡ true = or_right _ _ (and_from (rivals (Directed s d) e) (nat_lt 14 x.after) (rivals_are s d e ∙ r) (lt-ltb 14 x.after (omega arith))) in
-            let n : ◌≡◌ {A = Option Session} None (Some z) = sym (cond-true _ _ _ over) ∙ m in
-            cc (n))
-      ]
+      go : (i : ℕ) (x : SessionRecord) → get_or L i None ≡ Some x → (x.source ≡ s) × (x.destination ≡ d) → IsAged E (Directed s d) i x → p0 < length E → (qs : List ℕ) → OpenBy E (Directed s d) g p0 qs → HasPlace s d
+      go i x p w k b qs q =
+          let u = Open-unique E (Directed s d) g x.group p0 k.session.start qs k.session.places q k.session.open_by in
+          let n : pair_of x ≡ Directed s d = same_pair s d x w in
+          end (moved (Directed s d) e x) refl (other_stands E e (Directed s d) (Some x) k.session a (young u.one_start))
+        where
+          young : p0 ≡ k.session.start → Young E e (Directed s d) k.session.start
+          young z r =
+              let c1 : count_below (rivals (Directed s d)) (E ++ e ∷ []) (length (E ++ e ∷ [])) < 16 + count_below (rivals (Directed s d)) (E ++ e ∷ []) (suc p0) = o.runs.young in
+              let c2 : count_below (rivals (Directed s d)) (E ++ e ∷ []) (suc p0) ≡ count_below (rivals (Directed s d)) E (suc p0) = count_old E e (Directed s d) (rivals (Directed s d)) (suc p0) b in
+              let c3 : count_below (rivals (Directed s d)) E (suc p0) ≡ count_below (rivals (Directed s d)) E (suc k.session.start) = ap (λ (j : ℕ). count_below (rivals (Directed s d)) E (suc j)) z in
+              let c4 : count_below (rivals (Directed s d)) (E ++ e ∷ []) (length (E ++ e ∷ [])) ≡ suc (count_below (rivals (Directed s d)) E (length E)) = count_new E e (Directed s d) (rivals (Directed s d)) ∙ cond-true _ _ _ r in
+              omega arith
 
-      found : (i : ℕ) (x : Session) → i < length L → get_or L i None ≡ Some (record { from = s; to = d; session = x }) → (q : Option Session) → moved (Directed s d) e x ≡ q → StandsFor (E ++ e ∷ []) (Directed s d) q → HasPlace s d
-      found i x l p None m k = absurd (k g p0 ps o)
-      found i x l p (Some z) m k =
-          let sz : length L ≡ 16 = h.size_is in (
-            i,
-            z,
-            omega arith,
-            ap (moved_place e) p ∙ (cond-false _ _ _ a ∙ ap (entry_of s d) m),
-            crowded x z i (h.each i (record { from = s; to = d; session = x }) p).1 (omega arith) m,
-          )
-
-      go : (q : Option Session) → Looked s d L q → StandsFor E (Directed s d) q → HasPlace s d
-      go None k w = absurd (stands_by s d None w a g p0 ps o)
-      go (Some x) k w = found k.0 x k.1 k.2 (moved (Directed s d) e x) refl (stands_by s d (Some x) w a)
+          end : (m : Option SessionRecord) → moved (Directed s d) e x ≡ m → StandsFor (E ++ e ∷ []) (Directed s d) m → HasPlace s d
+          end None m st = absurd (st g p0 ps o)
+          end (Some z) m st =
+              let u = Open-unique E (Directed s d) g x.group p0 k.session.start qs k.session.places q k.session.open_by in
+              let t = moved_pair (Directed s d) e x z m in
+              let n : pair_of x ≡ Directed s d = same_pair s d x w in (
+                i,
+                z,
+                ap (moved_place e) p ∙ (subst (λ (y : Key). (if announces y e then None else moved y e x) ≡ (if announces (Directed s d) e then None else moved (Directed s d) e x)) (sym n) refl ∙ (cond-false _ _ _ a ∙ m)),
+                t.0 ∙ w.0,
+                t.1 ∙ w.1,
+                (λ r.
+                    let c : i + count_below (rivals (Directed s d)) E (suc k.session.start) ≡ count_below (rivals (Directed s d)) E (length E) = k.age_is in
+                    let y : count_below (rivals (Directed s d)) E (length E) < 15 + count_below (rivals (Directed s d)) E (suc k.session.start) = young u.one_start (rivals_are s d e ∙ r) in
+                    omega arith),
+              )
 
   map_place : (i : ℕ) → get_or (map (moved_place e) L) i None ≡ moved_place e (get_or L i None)
   map_place i = elim (cases_lt i (length L)) [
@@ -248,42 +257,36 @@ module _ (E : List Event) (e : Event) (L : List (Option Entry)) (h : AreDirected
 
   pub directed_more : AreDirected (E ++ e ∷ []) (directed_step e L)
   directed_more = elim (cases_Bool (is_request_to_send e)) [
-    | inr r ↦ subst (λ (M : List (Option Entry)). AreDirected (E ++ e ∷ []) M) (sym (cond-false _ _ _ r)) (other r)
-    | inl r ↦ subst (λ (M : List (Option Entry)). AreDirected (E ++ e ∷ []) M) (sym (cond-true _ _ _ r)) (rival r)
+    | inr r ↦ subst (λ (M : Places). AreDirected (E ++ e ∷ []) M) (sym (cond-false _ _ _ r)) (other r)
+    | inl r ↦ subst (λ (M : Places). AreDirected (E ++ e ∷ []) M) (sym (cond-true _ _ _ r)) (rival r)
   ]
     where
       other : is_request_to_send e ≡ false → AreDirected (E ++ e ∷ []) (map (moved_place e) L)
       other r = record {
         size_is = map_size;
-        each = λ i y m. (let k = place_each i y (sym (map_place i) ∙ m) in (k.0, k.1 ∙ cond-false _ _ _ r));
+        each = λ i y m. subst (λ (n : ℕ). IsAged (E ++ e ∷ []) (pair_of y) n y) (cond-false _ _ _ r) (place_each i y (sym (map_place i) ∙ m) (λ t. absurd (both_ways _ r t)));
         all = λ s d g p0 ps o.
             (let a : announces (Directed s d) e ≡ false = false_from_ne_true _ (λ t. both_ways _ r (announces_rival s d e t).0) in
             let k = place_all s d g p0 ps a o in
-            (k.0, k.1, map_place k.0 ∙ k.3));
+            (k.0, k.1, map_place k.0 ∙ k.2, k.3, k.4));
       }
 
-      rival : is_request_to_send e ≡ true → AreDirected (E ++ e ∷ []) (Some (record { from = from_of e; to = to_of e; session = opened e }) ∷ take 15 (map (moved_place e) L))
+      rival : is_request_to_send e ≡ true → AreDirected (E ++ e ∷ []) (Some (opened (Directed (from_of e) (to_of e)) e) ∷ take 15 (map (moved_place e) L))
       rival r = record {
         size_is = (let z : length (map (moved_place e) L) ≡ 16 = map_size in let t : length (take 15 (map (moved_place e) L)) ≡ 15 = omega (arith, length-take 15 (map (moved_place e) L)) in omega arith);
         each = each;
         all = λ s d g p0 ps o. elim (cases_Bool (announces (Directed s d) e)) [
-          | inl a ↦
-              (let k = announces_rival s d e a in
-              (0, opened e, ap (λ (q : ℕ). Some (record { from = q; to = to_of e; session = opened e })) k.1 ∙ ap (λ (q : ℕ). Some (record { from = s; to = q; session = opened e })) k.2))
+          | inl a ↦ (let k = announces_rival s d e a in (0, opened (Directed (from_of e) (to_of e)) e, refl, k.1, k.2))
           | inr a ↦
               (let k = place_all s d g p0 ps a o in
-              (suc k.0, k.1, get_or-take 15 (map (moved_place e) L) k.0 None (k.4 r) ∙ (map_place k.0 ∙ k.3)))
+              (suc k.0, k.1, get_or-take 15 (map (moved_place e) L) k.0 None (k.5 r) ∙ (map_place k.0 ∙ k.2), k.3, k.4))
         ];
       }
         where
-          each : (i : ℕ) (y : Entry) → get_or (Some (record { from = from_of e; to = to_of e; session = opened e }) ∷ take 15 (map (moved_place e) L)) i None ≡ Some y → IsSession (E ++ e ∷ []) (Directed y.from y.to) y.session × (y.session.after ≡ i)
+          each : (i : ℕ) (y : SessionRecord) → get_or (Some (opened (Directed (from_of e) (to_of e)) e) ∷ take 15 (map (moved_place e) L)) i None ≡ Some y → IsAged (E ++ e ∷ []) (pair_of y) i y
           each zero y m =
-              let n : record { from = from_of e; to = to_of e; session = opened e } ≡ y = one_some _ _ m in
-              let st : IsSession (E ++ e ∷ []) (Directed (from_of e) (to_of e)) (opened e) =
-              subst (λ (q : Option Session). StandsFor (E ++ e ∷ []) (Directed (from_of e) (to_of e)) q) (cond-true _ _ _ r)
-              (step_stands E e (Directed (from_of e) (to_of e)) (lookup (from_of e) (to_of e) L) (directed_stands E L h (from_of e) (to_of e))) in
-              (subst (λ (w : Entry). IsSession (E ++ e ∷ []) (Directed w.from w.to) w.session) n st, ap (λ (w : Entry). w.session.after) (sym n))
+              subst (λ (w : SessionRecord). IsAged (E ++ e ∷ []) (pair_of w) 0 w) (one_some _ _ m) (opened_aged E e (Directed (from_of e) (to_of e)) r)
           each (suc i) y m = elim (cases_lt i 15) [
-            | inl l ↦ (let k = place_each i y (sym (map_place i) ∙ (sym (get_or-take 15 (map (moved_place e) L) i None l) ∙ m)) in (k.0, k.1 ∙ cond-true _ _ _ r))
+            | inl l ↦ subst (λ (n : ℕ). IsAged (E ++ e ∷ []) (pair_of y) n y) (cond-true _ _ _ r) (place_each i y (sym (map_place i) ∙ (sym (get_or-take 15 (map (moved_place e) L) i None l) ∙ m)) (λ t. l))
             | inr l ↦ absurd (some_not_none y (sym (get_or_past (take 15 (map (moved_place e) L)) i None (omega (arith, length-take 15 (map (moved_place e) L)))) ∙ m))
           ]

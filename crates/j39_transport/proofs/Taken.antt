@@ -12,7 +12,7 @@ use Rattle.j39_transport.proofs.Agreeing.{announced_within, at_before, at_new}
 use Rattle.j39_transport.proofs.FrameFacts.{announces-packets}
 use Rattle.j39_transport.proofs.Chains.{Links-from}
 use Rattle.j39_transport.proofs.Completing.{Continues, chain_new, chain_continued}
-use Rattle.j39_transport.specs.EventSteps.{Session}
+use Rattle.j39_transport.specs.Session.{SessionRecord}
 use Rattle.j39_transport.specs.Stands.{StandsFor}
 
 -- it ends with a packet, after its announcement
@@ -41,28 +41,28 @@ pub assembled_sent : (E : List Event) (f : FrameRecord) (s : Key) (g : ℕ) (b :
 assembled_sent E f s g b w = sym (sends_frame s f) ∙ (sym (ap (sends s) (at_new E (Frame f))) ∙ (whole_ends (E ++ Frame f ∷ []) (length E) s g b w).0)
 
 module _ (E : List Event) (e : Event) (s : Key) where
-  pub record Grows (o : Option Session) (g : ℕ) : Type 0 where
-    pub session : Session
+  pub record Grows (o : Option SessionRecord) (g : ℕ) : Type 0 where
+    pub session : SessionRecord
     pub was : o ≡ Some session
     pub continues : Continues E e s session
-    pub not_last : suc session.count ≢ session.packets_due
-    pub group_is : g ≡ session.group_due
+    pub not_last : suc session.count ≢ session.packets
+    pub group_is : g ≡ session.group
 
-  partial_from : (o : Option Session) → StandsFor E s o → (g : ℕ) → Grows o g → IsPartial (E ++ e ∷ []) (length E) s g
+  partial_from : (o : Option SessionRecord) → StandsFor E s o → (g : ℕ) → Grows o g → IsPartial (E ++ e ∷ []) (length E) s g
   partial_from None h g c = absurd (cc (c.was))
   partial_from (Some y) h g c =
       let was : Some y ≡ Some c.session = c.was in
       let x : c.session ≡ y = cc in
-      let c' : Continues E e s y = subst (λ (z : Session). Continues E e s z) x c.continues in
-      let d : suc y.count ≢ y.packets_due = subst (λ (z : Session). suc z.count ≢ z.packets_due) x c.not_last in
+      let c' : Continues E e s y = subst (λ (z : SessionRecord). Continues E e s z) x c.continues in
+      let d : suc y.count ≢ y.packets = subst (λ (z : SessionRecord). suc z.count ≢ z.packets) x c.not_last in
       let n : y.count ≡ length h.places = h.count_is in
-      let m : y.packets_due ≡ packets (at E h.start) = h.packets_are in
+      let m : y.packets ≡ packets (at E h.start) = h.packets_are in
       let l : h.start < length E = announced_within E s h.start h.open_by.announced in
       let i : packets (at (E ++ e ∷ []) h.start) ≡ packets (at E h.start) = ap packets (at_before E e h.start l) in
       let few : length h.places < packets (at E h.start) = h.open_by.few in
-      record { start = h.start; places = length E ∷ h.places; chain = subst (λ (q : ℕ). Chain (E ++ e ∷ []) s q h.start (length E ∷ h.places)) (sym (c.group_is ∙ ap (λ (z : Session). z.group_due) x)) (chain_new E e s y h c'); ends_at = refl; some = omega arith; lacks = omega arith }
+      record { start = h.start; places = length E ∷ h.places; chain = subst (λ (q : ℕ). Chain (E ++ e ∷ []) s q h.start (length E ∷ h.places)) (sym (c.group_is ∙ ap (λ (z : SessionRecord). z.group) x)) (chain_new E e s y h c'); ends_at = refl; some = omega arith; lacks = omega arith }
 
-  partial_only : (o : Option Session) → StandsFor E s o → (g : ℕ) → IsPartial (E ++ e ∷ []) (length E) s g → Grows o g
+  partial_only : (o : Option SessionRecord) → StandsFor E s o → (g : ℕ) → IsPartial (E ++ e ∷ []) (length E) s g → Grows o g
   partial_only o h g w = go w.places refl
     where
       go : (ps : List ℕ) → w.places ≡ ps → Grows o g
@@ -77,9 +77,9 @@ module _ (E : List Event) (e : Event) (s : Key) where
           let f2 : length ps ≡ length t.places = ap length c.places_are in
           let f3 : packets (at (E ++ e ∷ []) w.start) ≡ packets (at E t.start) = ap packets (ap (at (E ++ e ∷ [])) c.start_is ∙ at_before E e t.start l) in
           let f4 : c.session.count ≡ length t.places = t.count_is in
-          let f5 : c.session.packets_due ≡ packets (at E t.start) = t.packets_are in
+          let f5 : c.session.packets ≡ packets (at E t.start) = t.packets_are in
           let f6 : length w.places < packets (at (E ++ e ∷ []) w.start) = w.lacks in
           record { session = c.session; was = c.was; continues = c.continues; not_last = λ z. let o : ⊥ = omega arith in o; group_is = c.group_is }
 
-  pub partial_iff : (o : Option Session) → StandsFor E s o → (g : ℕ) → Grows o g ↔ IsPartial (E ++ e ∷ []) (length E) s g
+  pub partial_iff : (o : Option SessionRecord) → StandsFor E s o → (g : ℕ) → Grows o g ↔ IsPartial (E ++ e ∷ []) (length E) s g
   partial_iff o h g = (partial_from o h g, partial_only o h g)

@@ -1,19 +1,17 @@
 -- Frames of a third controller, beside a transfer between two others.
-use Rattle.std.proofs.Common.{◌≡◌, ℕ, ◌+◌, ◌<◌, ◌==◌, nat_lt, Bool, true, false, cond, not, ◌&&◌, List, ◌∷◌, Option, Some, None, refl, sym, ap, ◌∙◌, arith, ne_eqb, eq-eqb}
-use Rattle.std.proofs.lemmas.Bool.{cond_both, both_ways}
+use Rattle.std.proofs.Common.{◌≡◌, ℕ, ◌+◌, ◌<◌, ◌==◌, nat_lt, Bool, true, false, cond, not, ◌&&◌, List, ◌∷◌, Option, Some, None, refl, sym, ap, ◌∙◌, arith, ne_eqb, eq-eqb, eqb-true}
+use Rattle.std.proofs.lemmas.Bool.{cond_both, cond-false, and_parts, both_ways, false_from_ne_true}
 use Rattle.std.specs.Option.{option_map}
 use Rattle.j39_frame.specs.Frame.{FrameRecord}
-use Rattle.j39_frame.specs.Network.{transport_control_group, transport_data_group}
 use Rattle.j39_transport.specs.Cutting.{ToSend, at_moment}
-use Rattle.j39_transport.specs.Frames.{source_of, destination_of, goes}
+use Rattle.j39_transport.specs.Frames.{source_of, destination_of}
 use Rattle.j39_transport.specs.Key.{Key, sender}
 use Rattle.j39_transport.specs.Message.{MessageRecord}
 use Rattle.j39_transport.specs.Net.{with_delivery, handed_back, of_source}
 use Rattle.j39_transport.specs.Reception.{ReceptionRecord, Reaction, quiet, granted_at, grants, asks_again, begun, delivers_message, goes_on, takes_packet, is_from, is_taken, takes_request, takes_data, takes_abort, takes_signal, limit_of, takes_tick}
 use Rattle.j39_transport.specs.Sending.{SenderRecord, hears, send_step}
 use Rattle.j39_transport.specs.Session.{SessionRecord, opened, grown, touched}
-use Rattle.j39_transport.specs.Signals.{Signal, RequestToSend, ClearToSend, Acknowledgment, Abort, Packet, said_between, group_with, written}
-use Rattle.j39_transport.proofs.FrameFacts.{goes_parts}
+use Rattle.j39_transport.specs.Signals.{Signal, BroadcastAnnounce, RequestToSend, ClearToSend, Acknowledgment, Abort, Packet, said_between, said_by, group_with, written}
 use Rattle.j39_transport.proofs.FrameLemmas.{IsTransportGroup, is_control_group, is_data_group, ps_is}
 
 -- ---- whose session it is
@@ -82,6 +80,7 @@ pub keeps_signal : (P : ℕ → Type 0) (k : Key) (a : Option Signal) (now : ℕ
     → Keeps P (takes_signal k a now found o)
 unfolding takes_signal takes_data takes_abort
 keeps_signal P k None now found o p h = keeps_quiet P o h
+keeps_signal P k (Some (BroadcastAnnounce size packets pgn)) now found o p h = keeps_quiet P o h
 keeps_signal P k (Some (RequestToSend size packets most pgn)) now found o p h = keeps_request P (opened k pgn size packets now) most now found o p h
 keeps_signal P k (Some (ClearToSend count next pgn)) now found o p h = keeps_quiet P o h
 keeps_signal P k (Some (Acknowledgment size packets pgn)) now found o p h = keeps_quiet P o h
@@ -110,6 +109,7 @@ pub third_signal : (k : Key) (a : Option Signal) (now : ℕ) (found : Bool) (r :
     → Unmoved r (takes_signal k a now found (Some r))
 unfolding takes_signal takes_data takes_abort takes_request
 third_signal k None now found r n = record { session_is = refl; delivers_is = refl }
+third_signal k (Some (BroadcastAnnounce size packets pgn)) now found r n = record { session_is = refl; delivers_is = refl }
 third_signal k (Some (RequestToSend size packets most pgn)) now found r n = cond_both (is_taken (sender k) (Some r)) _ _ (Unmoved r)
     (λ t. record { session_is = refl; delivers_is = refl })
     (λ t. absurd (both_ways _ t (ap not (not_from (sender k) r n))))
@@ -124,11 +124,10 @@ third_signal k (Some (Packet number joined)) now found r n = cond_both (is_from 
 
 -- ---- what isn't for the sender
 
-says_nothing : (s d : ℕ) (f : FrameRecord) → ((group : ℕ) → goes group s d f ≡ true → ⊥) → said_between s d f ≡ None
+says_nothing : (s d : ℕ) (f : FrameRecord) → (source_of f.id ≡ s → destination_of f.id ≡ d → ⊥) → said_between s d f ≡ None
 unfolding said_between
-says_nothing s d f n = cond_both (goes transport_control_group s d f) _ _ (λ (a : Option Signal). a ≡ None)
-    (λ t. absurd (n transport_control_group t))
-    (λ t. cond_both (goes transport_data_group s d f) _ _ (λ (a : Option Signal). a ≡ None) (λ u. absurd (n transport_data_group u)) (λ u. refl))
+says_nothing s d f n = cond-false (source_of f.id == s && destination_of f.id == d) (said_by f) None
+    (false_from_ne_true _ (λ t. (let p = and_parts (source_of f.id == s) (destination_of f.id == d) t in n (eqb-true _ _ p.0) (eqb-true _ _ p.1))))
 
 -- a frame that says nothing from the destination to the source
 hears_nothing : (s : SenderRecord) (f : ToSend) (now : ℕ) (is_lost : Bool) → said_between s.destination s.message.source (at_moment now f) ≡ None
@@ -140,9 +139,10 @@ hears_nothing s f now false e = ap (λ (a : Option Signal). hears a now s) e
 -- a frame of a third
 pub third_unheard : (s : SenderRecord) (f : ToSend) (now : ℕ) (is_lost : Bool) → IsNot s.destination (source_of f.id) → handed_back (Some f) now is_lost s ≡ s
 third_unheard s f now is_lost n = hears_nothing s f now is_lost
-    (says_nothing s.destination s.message.source (at_moment now f) (λ group t. n (goes_parts group s.destination s.message.source (at_moment now f) t).1))
+    (says_nothing s.destination s.message.source (at_moment now f) (λ a b. n a))
 
 group_is : (a : Signal) → IsTransportGroup (group_with a)
+group_is (BroadcastAnnounce size packets pgn) = is_control_group
 group_is (RequestToSend size packets most pgn) = is_control_group
 group_is (ClearToSend count next pgn) = is_control_group
 group_is (Acknowledgment size packets pgn) = is_control_group
@@ -159,7 +159,7 @@ pub answer_unheard : (s : SenderRecord) (own third : ℕ) (o : Option Signal) (n
 answer_unheard s own third None now is_lost h k n = refl
 answer_unheard s own third (Some a) now is_lost h k n = hears_nothing s (written own third a) now is_lost
     (says_nothing s.destination s.message.source (at_moment now (written own third a))
-    (λ group t. n (sym (goes_to_it own third a h k) ∙ (goes_parts group s.destination s.message.source (at_moment now (written own third a)) t).2)))
+    (λ b c. n (sym (goes_to_it own third a h k) ∙ c)))
 
 -- ---- what was delivered of a source
 

@@ -8,7 +8,7 @@ use Rattle.j39_transport.specs.Events.Event.{Frame, Forget}
 use Rattle.j39_transport.specs.Laws.{OneMessageLaw, AtPacketLaw, CountsLaw}
 use Rattle.j39_transport.proofs.Chains.{Links-unique, start_unique}
 use Rattle.j39_transport.proofs.Taken.{whole_ends}
-use Rattle.j39_transport.proofs.Bridge.{packet_key}
+use Rattle.j39_transport.proofs.FramePlaces.{packet_key}
 use Rattle.j39_transport.proofs.Tables.{opens_unique}
 use Rattle.j39_transport.proofs.Sums.{opens_few}
 

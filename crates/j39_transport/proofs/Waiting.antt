@@ -6,9 +6,10 @@ use Rattle.j39_transport.specs.Key.{Key, sender}
 use Rattle.j39_transport.specs.Liveness.{SenderWaits, SenderWaitsLaw, ReceiverWaits, ReceiverWaitsLaw}
 use Rattle.j39_transport.specs.Net.{is_busy_with}
 use Rattle.j39_transport.specs.Reception.{ReceptionRecord, Reaction, quiet, answers, granted_at, grants, asks_again, begun, delivers_message, goes_on, takes_packet, is_from, is_taken, takes_request, takes_data, takes_abort, takes_signal, limit_of, takes_tick}
-use Rattle.j39_transport.specs.Sending.{SenderRecord, SendState, SendResult, Idle, Waiting, Sending, Done, Failed, is_waiting, silent, waits, sends_packet, ticks_in, cleared, hears, send_step, timer_t3, timer_t4}
+use Rattle.j39_transport.specs.Sending.{SenderRecord, SendState, SendResult, Idle, Waiting, Sending, Done, Failed, is_waiting, silent, waits, sends_packet, ticks_in, cleared, hears, send_step}
+use Rattle.j39_transport.specs.Protocol.{timer_t3, timer_t4}
 use Rattle.j39_transport.specs.Session.{SessionRecord, opened, grown, touched}
-use Rattle.j39_transport.specs.Signals.{Signal, RequestToSend, ClearToSend, Acknowledgment, Abort, Packet}
+use Rattle.j39_transport.specs.Signals.{Signal, BroadcastAnnounce, RequestToSend, ClearToSend, Acknowledgment, Abort, Packet}
 
 -- ---- the sender
 
@@ -93,6 +94,7 @@ receiver_waits fresh since o h =
 
 abbrev is_cts : Option Signal → Bool
 is_cts None = false
+is_cts (Some (BroadcastAnnounce size packets pgn)) = false
 is_cts (Some (RequestToSend size packets most pgn)) = false
 is_cts (Some (ClearToSend count next pgn)) = true
 is_cts (Some (Acknowledgment size packets pgn)) = false
@@ -129,6 +131,7 @@ cts_request x most now found o = cond_both (is_taken x.source o) _ _ (SetByCts n
 cts_signal : (k : Key) (a : Option Signal) (now : ℕ) (found : Bool) (o : Option ReceptionRecord) → SetByCts now (takes_signal k a now found o)
 unfolding takes_signal takes_data takes_abort
 cts_signal k None now found o = λ e. absurd (both_ways false refl e)
+cts_signal k (Some (BroadcastAnnounce size packets pgn)) now found o = λ e. absurd (both_ways false refl e)
 cts_signal k (Some (RequestToSend size packets most pgn)) now found o = cts_request (opened k pgn size packets now) most now found o
 cts_signal k (Some (ClearToSend count next pgn)) now found o = λ e. absurd (both_ways false refl e)
 cts_signal k (Some (Acknowledgment size packets pgn)) now found o = λ e. absurd (both_ways false refl e)

@@ -2,11 +2,8 @@
 use Rattle.std.specs.Prelude.{◌≡◌, ◌≤◌, ◌+◌, ℕ, List, [], ◌∷◌, ◌++◌, length, map, nat_lt, if◌then◌else◌}
 use Rattle.j39_frame.specs.Frame.{FrameRecord}
 use Rattle.j39_transport.specs.Message.{MessageRecord, packets_of, as_broadcast}
+use Rattle.j39_transport.specs.Protocol.{gap}
 use Rattle.j39_transport.specs.Cutting.{ToSend, without_stamp, at_moment, cut_frame, first_frames}
-
--- the least time between two successive frames, in microseconds (own)
-abbrev pub gap : ℕ
-gap = 50000
 
 -- from when on a frame may be sent after these: at any moment where there are none
 abbrev pub next_moment : List FrameRecord → ℕ
@@ -14,7 +11,7 @@ next_moment [] = 0
 next_moment (f ∷ []) = f.stamp + gap
 next_moment (f ∷ g ∷ fs) = next_moment (g ∷ fs)
 
--- each frame at least 50 ms after the one before
+-- each frame at least the gap after the one before
 abbrev pub AreSpaced : List FrameRecord → Type 0
 AreSpaced [] = Unit {0}
 AreSpaced (f ∷ []) = Unit {0}

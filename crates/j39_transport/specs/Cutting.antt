@@ -8,6 +8,7 @@ use Rattle.j39_frame.specs.Identifier.{id_raw}
 use Rattle.j39_frame.specs.declared.identifier.Id.{Id}
 use Rattle.j39_transport.specs.Key.{Key, sender, goes_to, opening}
 use Rattle.j39_transport.specs.Message.{MessageRecord, packets_of}
+use Rattle.j39_transport.specs.Protocol.{no_limit, filler}
 
 -- a frame that is to be sent: it has no moment yet
 pub record ToSend : Type 0 where
@@ -29,20 +30,20 @@ to_send f = record { id = id_raw f.0; bytes = f.1 }
 abbrev pub transport_id : ℕ → ℕ → ℕ → ℕ
 transport_id group source destination = 7 * 2 ^ 26 + group * 2 ^ 8 + destination * 2 ^ 8 + source
 
--- the announcement of a message: its kind, size, packets, the most packets for one CTS (FF: no limit, and in a
--- broadcast), and its group
+-- the announcement of a message: its kind, size, packets, the most packets for one CTS (no limit in a broadcast), and
+-- its group
 abbrev pub announcement_bytes : ℕ → ℕ → ℕ → ℕ → ℕ → List ℕ
 announcement_bytes kind size packets most pgn = (kind ∷ little_bytes 2 size) ++ (packets ∷ most ∷ little_bytes 3 pgn)
 
 unfoldable pub announcement_of : Key → MessageRecord → ToSend
 announcement_of k m = record {
   id = transport_id transport_control_group (sender k) (goes_to k);
-  bytes = announcement_bytes (opening k) (length m.bytes) (packets_of m) 0xFF m.pgn;
+  bytes = announcement_bytes (opening k) (length m.bytes) (packets_of m) no_limit m.pgn;
 }
 
--- the next seven bytes, filled up with FF
+-- the next seven bytes, filled up
 unfoldable pub packet_data : List ℕ → ℕ → List ℕ
-packet_data bytes number = take 7 (drop (7 * (number - 1)) bytes ++ replicate 7 0xFF)
+packet_data bytes number = take 7 (drop (7 * (number - 1)) bytes ++ replicate 7 filler)
 
 -- the packet of this number, from 1 on: the number and its data
 unfoldable pub packet_of : Key → MessageRecord → ℕ → ToSend

@@ -5,6 +5,7 @@ use Rattle.j39_frame.specs.Identifier as identifier
 use Rattle.j39_frame.specs.Network.{transport_control_group, transport_data_group}
 use Rattle.j39_transport.specs.Key.{Key, sender, goes_to, opening, is_key}
 use Rattle.j39_transport.specs.Key.Key.{Broadcast, Directed}
+use Rattle.j39_transport.specs.Protocol.{clear_to_send, acknowledgment, connection_abort}
 
 -- the group of an identifier, its source, and where it goes (PS, in the two groups of the transport protocol)
 unfoldable pub group_of : ℕ → ℕ
@@ -58,12 +59,13 @@ is_control first s d g f = goes transport_control_group s d f && slice_index f.b
 -- f lets the message of group g go on: a CTS of its receiver, also one that holds
 unfoldable pub is_clear_to_send : Key → ℕ → FrameRecord → Bool
 is_clear_to_send (Broadcast s) g f = false
-is_clear_to_send (Directed s d) g f = is_control 17 d s g f
+is_clear_to_send (Directed s d) g f = is_control clear_to_send d s g f
 
 -- f ends the message of group g: an end-of-message acknowledgment of its receiver, or an abort of either
 unfoldable pub is_end : Key → ℕ → FrameRecord → Bool
 is_end (Broadcast s) g f = false
-is_end (Directed s d) g f = is_control 19 d s g f || is_control 255 d s g f || is_control 255 s d g f
+is_end (Directed s d) g f =
+    is_control acknowledgment d s g f || is_control connection_abort d s g f || is_control connection_abort s d g f
 
 -- f is a directed announcement, of whatever pair; it counts against a directed message alone
 unfoldable pub is_rival : Key → FrameRecord → Bool

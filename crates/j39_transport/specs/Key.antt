@@ -1,6 +1,7 @@
 -- What a message of more than eight bytes goes under (J1939-21, 5.10).
-use Rattle.std.specs.Prelude.{ℕ, zero, suc, Bool, ◌&&◌, nat_lt, List, [], ◌∷◌, ◌++◌}
+use Rattle.std.specs.Prelude.{ℕ, zero, suc, Bool, ◌&&◌, ◌==◌, if◌then◌else◌, nat_lt, List, [], ◌∷◌, ◌++◌}
 use Rattle.j39_frame.specs.Address.{null_address, global_address}
+use Rattle.j39_transport.specs.Protocol.{request_to_send, broadcast_announce, broadcast_limit, directed_limit}
 
 -- broadcast by s, or sent by s to d
 pub data Key : Type 0 where
@@ -16,21 +17,24 @@ abbrev pub goes_to : Key → ℕ
 goes_to (Broadcast s) = global_address
 goes_to (Directed s d) = d
 
+-- the key of what goes from s to d: to all, where d is the global address
+unfoldable pub key_between : ℕ → ℕ → Key
+key_between s d = if d == global_address then Broadcast s else Directed s d
+
 -- the first byte of its announcement: a broadcast announce message (BAM), or a request to send (RTS)
 abbrev pub opening : Key → ℕ
-opening (Broadcast s) = 32
-opening (Directed s d) = 16
+opening (Broadcast s) = broadcast_announce
+opening (Directed s d) = request_to_send
 
 -- both are addresses that a controller can hold
 abbrev pub is_key : Key → Bool
 is_key (Broadcast s) = nat_lt s null_address
 is_key (Directed s d) = nat_lt s null_address && nat_lt d null_address
 
--- how much later than the frame of a message before it a frame of it may be, in microseconds: 750 ms of a broadcast
--- (J1939-21, 5.13.3), 1,250 ms of a directed message (own)
+-- how much later than the frame of a message before it a frame of it may be
 abbrev pub limit : Key → ℕ
-limit (Broadcast s) = 750000
-limit (Directed s d) = 1250000
+limit (Broadcast s) = broadcast_limit
+limit (Directed s d) = directed_limit
 
 -- all keys: the broadcasts of each of the 254 addresses, and each pair of them
 unfoldable pub broadcast_keys : ℕ → List Key

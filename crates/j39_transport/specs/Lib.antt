@@ -1,3 +1,4 @@
+pub mod Protocol
 pub mod Key
 pub mod Frames
 pub mod Events
@@ -7,11 +8,9 @@ pub mod Boxes
 pub mod EventSteps
 pub mod Session
 pub mod Places
-pub mod FrameSteps
 pub mod Steps
 pub mod Stands
 pub mod ShownSession
-pub mod ShownFrame
 pub mod Shown
 pub mod Laws
 pub mod Course

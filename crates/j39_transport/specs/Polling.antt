@@ -2,7 +2,8 @@
 use Rattle.std.specs.Prelude.{◌≡◌, ◌+◌, ℕ, nat_lt, if◌then◌else◌}
 use Rattle.j39_transport.specs.Message.{packets_of, as_broadcast}
 use Rattle.j39_transport.specs.Cutting.{cut_frame, to_send}
-use Rattle.j39_transport.specs.Broadcasting.{gap, Answer, BroadcastRecord}
+use Rattle.j39_transport.specs.Protocol.{gap}
+use Rattle.j39_transport.specs.Broadcasting.{Answer, BroadcastRecord}
 use Rattle.j39_transport.specs.Broadcasting as spec
 use Rattle.j39_transport.specs.declared.broadcast.Poll.{Poll}
 use Rattle.j39_transport.specs.declared.broadcast.Poll.TheVariants.{Send, WaitUntil, Done}

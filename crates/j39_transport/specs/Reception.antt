@@ -2,16 +2,9 @@
 use Rattle.std.specs.Prelude.{ℕ, ◌+◌, ◌-◌, min, take, nat_lt, ◌==◌, Bool, true, false, not, ◌&&◌, if◌then◌else◌, List, Option, Some, None}
 use Rattle.j39_transport.specs.Key.{Key, sender}
 use Rattle.j39_transport.specs.Message.{MessageRecord}
+use Rattle.j39_transport.specs.Protocol.{no_limit, busy, no_resources, timeout, timer_t1, timer_t2}
 use Rattle.j39_transport.specs.Session.{SessionRecord, opened, touched, grown}
-use Rattle.j39_transport.specs.Signals.{Signal, RequestToSend, ClearToSend, Acknowledgment, Abort, Packet}
-
--- the longest wait between two packets, in microseconds
-abbrev pub timer_t1 : ℕ
-timer_t1 = 750000
-
--- the longest wait from a CTS to its first packet
-abbrev pub timer_t2 : ℕ
-timer_t2 = 1250000
+use Rattle.j39_transport.specs.Signals.{Signal, BroadcastAnnounce, RequestToSend, ClearToSend, Acknowledgment, Abort, Packet}
 
 -- the message so far, whose last stamp is the time of the session; the most packets for one CTS; the last packet
 -- granted; how often it asked again; and fresh: no packet has come since its last CTS
@@ -36,7 +29,7 @@ answers o a = record { session = o; says = Some a; delivers = None }
 
 -- the most packets for one CTS, as an RTS names them: 0 sets no limit
 abbrev pub most_named : ℕ → ℕ
-most_named most = if most == 0 then 255 else most
+most_named most = if most == 0 then no_limit else most
 
 -- the session of an announced message
 unfoldable pub begun : SessionRecord → ℕ → ReceptionRecord
@@ -54,10 +47,10 @@ granted_at now r = record r { message = touched now r.message; granted = r.messa
 unfoldable pub grants : ℕ → ReceptionRecord → Reaction
 grants now r = answers (Some (granted_at now r)) (ClearToSend (window r) (r.message.count + 1) r.message.group)
 
--- a CTS again, at most twice for a message; in place of the third abort 3, which ends the session
+-- a CTS again, at most twice for a message; in place of the third an abort, which ends the session
 unfoldable pub asks_again : ℕ → ReceptionRecord → Reaction
 asks_again now r =
-    if r.asks == 2 then answers None (Abort 3 r.message.group)
+    if r.asks == 2 then answers None (Abort timeout r.message.group)
     else grants now (record r { asks = r.asks + 1 })
 
 -- ---- packets
@@ -95,9 +88,9 @@ is_taken source (Some r) = not (is_from source r)
 -- an RTS of the message x; found: there is memory for it
 unfoldable pub takes_request : SessionRecord → ℕ → ℕ → Bool → Option ReceptionRecord → Reaction
 takes_request x most now found o =
-    if is_taken x.source o then answers o (Abort 1 x.group)
+    if is_taken x.source o then answers o (Abort busy x.group)
     else if found then grants now (begun x most)
-    else answers o (Abort 2 x.group)
+    else answers o (Abort no_resources x.group)
 
 unfoldable pub takes_data : ℕ → ℕ → List ℕ → ℕ → Option ReceptionRecord → Reaction
 takes_data source number joined now None = quiet None
@@ -111,6 +104,7 @@ takes_abort source pgn (Some r) = if is_from source r && pgn == r.message.group 
 -- what is said under a key: from its source to the receiver
 unfoldable pub takes_signal : Key → Option Signal → ℕ → Bool → Option ReceptionRecord → Reaction
 takes_signal k None now found o = quiet o
+takes_signal k (Some (BroadcastAnnounce size packets pgn)) now found o = quiet o
 takes_signal k (Some (RequestToSend size packets most pgn)) now found o =
     takes_request (opened k pgn size packets now) most now found o
 takes_signal k (Some (ClearToSend count next pgn)) now found o = quiet o

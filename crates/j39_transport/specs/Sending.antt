@@ -5,15 +5,8 @@ use Rattle.j39_frame.specs.Frame.{FrameRecord}
 use Rattle.j39_transport.specs.Key.{Directed}
 use Rattle.j39_transport.specs.Message.{MessageRecord, packets_of}
 use Rattle.j39_transport.specs.Cutting.{ToSend, packet_data, cut_frame}
-use Rattle.j39_transport.specs.Signals.{Signal, RequestToSend, ClearToSend, Acknowledgment, Abort, Packet, said_between, written}
-
--- the longest wait for an answer to an RTS or to the last granted packet, in microseconds
-abbrev pub timer_t3 : ℕ
-timer_t3 = 1250000
-
--- the longest wait for the next CTS after one of 0 packets
-abbrev pub timer_t4 : ℕ
-timer_t4 = 1050000
+use Rattle.j39_transport.specs.Protocol.{no_limit, timeout, timer_t3, timer_t4}
+use Rattle.j39_transport.specs.Signals.{Signal, BroadcastAnnounce, RequestToSend, ClearToSend, Acknowledgment, Abort, Packet, said_between, written}
 
 -- nothing was sent; it waits, so long at most; packets from next to last are to be sent; acknowledged; aborted
 pub data SendState : Type 0 where
@@ -49,7 +42,7 @@ waits limit now s = record s { state = Waiting limit; since = now }
 
 -- the RTS sets no limit of packets for one CTS
 abbrev pub request_of : MessageRecord → Signal
-request_of m = RequestToSend (length m.bytes) (packets_of m) 255 m.pgn
+request_of m = RequestToSend (length m.bytes) (packets_of m) no_limit m.pgn
 
 -- packet k goes out, of those granted up to last; after the last granted one the sender waits
 unfoldable pub sends_packet : ℕ → ℕ → ℕ → SenderRecord → SendResult
@@ -69,7 +62,7 @@ unfoldable pub ticks_in : SendState → ℕ → SenderRecord → SendResult
 ticks_in Idle now s = record { after = waits timer_t3 now s; says = Some (request_of s.message) }
 ticks_in (Waiting limit) now s =
     if nat_lt (s.since + limit) now
-    then record { after = record s { state = Failed 3 }; says = Some (Abort 3 s.message.pgn) }
+    then record { after = record s { state = Failed timeout }; says = Some (Abort timeout s.message.pgn) }
     else silent s
 ticks_in (Sending next last) now s = sends_packet next last now s
 ticks_in Done now s = silent s
@@ -118,6 +111,7 @@ aborted reason s = if is_running s.state then record s { state = Failed reason }
 -- what the receiver says; only what names the message's group counts, and nothing is answered
 unfoldable pub hears : Option Signal → ℕ → SenderRecord → SenderRecord
 hears None now s = s
+hears (Some (BroadcastAnnounce size packets pgn)) now s = s
 hears (Some (RequestToSend size packets most pgn)) now s = s
 hears (Some (ClearToSend count next pgn)) now s = if pgn == s.message.pgn then cleared count next now s else s
 hears (Some (Acknowledgment size packets pgn)) now s = if pgn == s.message.pgn then acknowledged size packets s else s
@@ -145,8 +139,8 @@ pub record SendStep (old : SenderRecord) (event : SendEvent) (now : ℕ) (answer
 
 -- ---- its frames
 
--- what a sender may send: a frame of its message, cut for its destination, or abort 3
+-- what a sender may send: a frame of its message, cut for its destination, or an abort for time
 abbrev pub IsOwn : SenderRecord → ToSend → Type 0
 IsOwn s f =
     ((k : ℕ) × (k ≤ packets_of s.message) × (f ≡ cut_frame (Directed s.message.source s.destination) s.message k))
-    ⊎ (f ≡ written s.message.source s.destination (Abort 3 s.message.pgn))
+    ⊎ (f ≡ written s.message.source s.destination (Abort timeout s.message.pgn))

@@ -2,6 +2,7 @@
 use Rattle.std.specs.Prelude.{◌≤◌, ℕ}
 use Rattle.j39_frame.specs.Address.{IsAddress}
 use Rattle.j39_transport.specs.Message.{IsLong, packets_of}
+use Rattle.j39_transport.specs.Protocol.{timer_t3}
 use Rattle.j39_transport.specs.Sending as sending
 use Rattle.j39_transport.specs.declared.progress.Progress.{Progress}
 use Rattle.j39_transport.specs.declared.progress.Progress.TheVariants.{Idle, Waiting, Sending, Done, Failed}
@@ -32,7 +33,7 @@ event_of (event.Heard f) = sending.Heard f.now
 -- packets that are to be sent are of the message
 abbrev pub IsState : ℕ → sending.SendState → Type 0
 IsState packets sending.Idle = Unit {0}
-IsState packets (sending.Waiting limit) = limit ≤ 1250000
+IsState packets (sending.Waiting limit) = limit ≤ timer_t3
 IsState packets (sending.Sending next last) = (1 ≤ next) × (next ≤ last) × (last ≤ packets)
 IsState packets sending.Done = Unit {0}
 IsState packets (sending.Failed reason) = Unit {0}

@@ -1,10 +1,13 @@
 -- How an assembler moves with what a frame says: the steps of the code.
 use Rattle.std.specs.Prelude.{◌≡◌, ℕ, ◌+◌, ◌==◌, nat_lt, Bool, true, false, ◌||◌, if◌then◌else◌, List, sum_by, take, slice_set, replicate, Option, Some, None}
-use Rattle.j39_transport.specs.Key.{Key}
+use Rattle.j39_frame.specs.Frame.{FrameRecord}
+use Rattle.j39_transport.specs.Key.{Key, key_between}
 use Rattle.j39_transport.specs.Key.Key.{Broadcast, Directed}
-use Rattle.j39_transport.specs.FrameSteps.{TransportFrame, Announcement, Packet, ClearToSend, Acknowledgment, Abort, Other}
+use Rattle.j39_transport.specs.Frames.{source_of, destination_of}
+use Rattle.j39_transport.specs.Signals.{Signal, BroadcastAnnounce, RequestToSend, ClearToSend, Acknowledgment, Abort, Packet}
 use Rattle.j39_transport.specs.Answers.{Outcome, Whole, Taken, Ignored}
 use Rattle.j39_transport.specs.Session.{SessionRecord, opened, touched, grown}
+use Rattle.j39_transport.specs.Protocol.{broadcast_limit, directed_limit}
 use Rattle.j39_transport.specs.Places.{Places, at, find, pushed, forgotten, open_in, bytes_in}
 
 -- broadcasts by source, and directed messages by age
@@ -56,7 +59,7 @@ told source limit number joined stamp (Some s) = answer_by source stamp (moves l
 unfoldable pub granted : ℕ → ℕ → Option SessionRecord → Option SessionRecord
 granted group stamp None = None
 granted group stamp (Some s) =
-    if s.group == group then (if nat_lt (s.last + 1250000) stamp then None else Some (touched stamp s)) else Some s
+    if s.group == group then (if nat_lt (s.last + directed_limit) stamp then None else Some (touched stamp s)) else Some s
 
 unfoldable pub closed : ℕ → Option SessionRecord → Option SessionRecord
 closed group None = None
@@ -91,32 +94,42 @@ announced a (Directed s d) x = record a { directed = with_announced s d x a.dire
 -- the state after a packet, and the answer
 abbrev pub after_packet : SessionsRecord → ℕ → Key → ℕ → List ℕ → SessionsRecord
 after_packet a stamp (Broadcast s) number joined =
-    record a { broadcasts = slice_set a.broadcasts s (packed 750000 number joined stamp (at a.broadcasts s)) }
+    record a { broadcasts = slice_set a.broadcasts s (packed broadcast_limit number joined stamp (at a.broadcasts s)) }
 after_packet a stamp (Directed s d) number joined =
-    record a { directed = with_place (find s d a.directed) (packed 1250000 number joined stamp) a.directed }
+    record a { directed = with_place (find s d a.directed) (packed directed_limit number joined stamp) a.directed }
 
 abbrev pub answer_to_packet : SessionsRecord → ℕ → ℕ → Key → ℕ → List ℕ → Outcome
-answer_to_packet a source stamp (Broadcast s) number joined = told source 750000 number joined stamp (at a.broadcasts s)
-answer_to_packet a source stamp (Directed s d) number joined = told_at (find s d a.directed) (told source 1250000 number joined stamp) a.directed
+answer_to_packet a source stamp (Broadcast s) number joined = told source broadcast_limit number joined stamp (at a.broadcasts s)
+answer_to_packet a source stamp (Directed s d) number joined = told_at (find s d a.directed) (told source directed_limit number joined stamp) a.directed
+
+-- the key that f goes under, where it is a packet
+abbrev pub key_of : FrameRecord → Key
+key_of f = key_between (source_of f.id) (destination_of f.id)
 
 -- the state after a frame that says this, and the answer
-unfoldable pub state_after : SessionsRecord → ℕ → TransportFrame → SessionsRecord
-state_after a stamp (Announcement k group size packets) = announced a k (opened k group size packets stamp)
-state_after a stamp (Packet k number joined) = after_packet a stamp k number joined
-state_after a stamp (ClearToSend s d group) =
-    record a { directed = with_place (find s d a.directed) (granted group stamp) a.directed }
-state_after a stamp (Acknowledgment s d group) = record a { directed = finished s d group a.directed }
-state_after a stamp (Abort s d group) =
-    record a { directed = finished d s group (finished s d group a.directed) }
-state_after a stamp Other = a
+unfoldable pub state_after : SessionsRecord → FrameRecord → Option Signal → SessionsRecord
+state_after a f None = a
+state_after a f (Some (BroadcastAnnounce size packets pgn)) =
+    announced a (Broadcast (source_of f.id)) (opened (Broadcast (source_of f.id)) pgn size packets f.stamp)
+state_after a f (Some (RequestToSend size packets most pgn)) =
+    announced a (Directed (source_of f.id) (destination_of f.id))
+    (opened (Directed (source_of f.id) (destination_of f.id)) pgn size packets f.stamp)
+state_after a f (Some (ClearToSend count next pgn)) =
+    record a { directed = with_place (find (destination_of f.id) (source_of f.id) a.directed) (granted pgn f.stamp) a.directed }
+state_after a f (Some (Acknowledgment size packets pgn)) =
+    record a { directed = finished (destination_of f.id) (source_of f.id) pgn a.directed }
+state_after a f (Some (Abort reason pgn)) =
+    record a { directed = finished (source_of f.id) (destination_of f.id) pgn (finished (destination_of f.id) (source_of f.id) pgn a.directed) }
+state_after a f (Some (Packet number joined)) = after_packet a f.stamp (key_of f) number joined
 
-unfoldable pub answer : SessionsRecord → ℕ → ℕ → TransportFrame → Outcome
-answer a source stamp (Announcement k group size packets) = Taken
-answer a source stamp (Packet k number joined) = answer_to_packet a source stamp k number joined
-answer a source stamp (ClearToSend s d group) = Ignored
-answer a source stamp (Acknowledgment s d group) = Ignored
-answer a source stamp (Abort s d group) = Ignored
-answer a source stamp Other = Ignored
+unfoldable pub answer : SessionsRecord → FrameRecord → Option Signal → Outcome
+answer a f None = Ignored
+answer a f (Some (BroadcastAnnounce size packets pgn)) = Taken
+answer a f (Some (RequestToSend size packets most pgn)) = Taken
+answer a f (Some (ClearToSend count next pgn)) = Ignored
+answer a f (Some (Acknowledgment size packets pgn)) = Ignored
+answer a f (Some (Abort reason pgn)) = Ignored
+answer a f (Some (Packet number joined)) = answer_to_packet a (source_of f.id) f.stamp (key_of f) number joined
 
 -- without what is of a source
 unfoldable pub without_broadcast : ℕ → Places → Places
@@ -153,27 +166,32 @@ is_whole Taken = false
 is_whole Ignored = false
 
 -- whether a box lies unused after a frame that says this, where b says so before it
-unfoldable pub spare_after : SessionsRecord → Bool → ℕ → TransportFrame → Bool
-spare_after a b stamp (Announcement k group size packets) = spare_left (place_for a k) b
-spare_after a b stamp (Packet k number joined) = is_whole (answer_to_packet a 0 stamp k number joined) || b
-spare_after a b stamp (ClearToSend s d group) = b
-spare_after a b stamp (Acknowledgment s d group) = b
-spare_after a b stamp (Abort s d group) = b
-spare_after a b stamp Other = b
+unfoldable pub spare_after : SessionsRecord → Bool → FrameRecord → Option Signal → Bool
+spare_after a b f None = b
+spare_after a b f (Some (BroadcastAnnounce size packets pgn)) = spare_left (place_for a (Broadcast (source_of f.id))) b
+spare_after a b f (Some (RequestToSend size packets most pgn)) =
+    spare_left (place_for a (Directed (source_of f.id) (destination_of f.id))) b
+spare_after a b f (Some (ClearToSend count next pgn)) = b
+spare_after a b f (Some (Acknowledgment size packets pgn)) = b
+spare_after a b f (Some (Abort reason pgn)) = b
+spare_after a b f (Some (Packet number joined)) = is_whole (answer_to_packet a 0 f.stamp (key_of f) number joined) || b
 
 -- an announcement that finds no box, where b says whether one lies unused
-abbrev pub LacksBox : SessionsRecord → Bool → TransportFrame → Type 0
-LacksBox a b (Announcement k group size packets) = (place_for a k ≡ None) × (b ≡ false)
-LacksBox a b (Packet k number joined) = ⊥
-LacksBox a b (ClearToSend s d group) = ⊥
-LacksBox a b (Acknowledgment s d group) = ⊥
-LacksBox a b (Abort s d group) = ⊥
-LacksBox a b Other = ⊥
+abbrev pub LacksBox : SessionsRecord → Bool → FrameRecord → Option Signal → Type 0
+LacksBox a b f None = ⊥
+LacksBox a b f (Some (BroadcastAnnounce size packets pgn)) = (place_for a (Broadcast (source_of f.id)) ≡ None) × (b ≡ false)
+LacksBox a b f (Some (RequestToSend size packets most pgn)) =
+    (place_for a (Directed (source_of f.id) (destination_of f.id)) ≡ None) × (b ≡ false)
+LacksBox a b f (Some (ClearToSend count next pgn)) = ⊥
+LacksBox a b f (Some (Acknowledgment size packets pgn)) = ⊥
+LacksBox a b f (Some (Abort reason pgn)) = ⊥
+LacksBox a b f (Some (Packet number joined)) = ⊥
 
 -- ---- the assembler
 
-abbrev pub fed : AssemblerRecord → ℕ → TransportFrame → AssemblerRecord
-fed a stamp r = record { sessions = state_after a.sessions stamp r; has_spare = spare_after a.sessions a.has_spare stamp r }
+-- after a frame that says this
+abbrev pub fed : AssemblerRecord → FrameRecord → Option Signal → AssemblerRecord
+fed a f o = record { sessions = state_after a.sessions f o; has_spare = spare_after a.sessions a.has_spare f o }
 
 abbrev pub forgot : AssemblerRecord → ℕ → AssemblerRecord
 forgot a s = record { sessions = state_without a.sessions s; has_spare = a.has_spare }

@@ -1,6 +1,7 @@
 //! Announcements: the one place where memory is taken, before anything changes.
 ghost use Rattle.std.specs.Prelude.{◌≡◌, ◌<◌, false, None, Some, IfOk, OnErr, MatchResult, slice_set};
 ghost use Rattle.std.specs.Option.{is_some};
+ghost use Rattle.j39_frame.specs.Address.{global_address};
 ghost use Rattle.j39_frame.specs.Stamp.{stamp_micros};
 ghost use Rattle.j39_transport.specs.Places.{at, find, held_in};
 ghost use Rattle.j39_transport.specs.Steps.{room, spare_left, with_announced};
@@ -9,7 +10,7 @@ ghost use Rattle.j39_transport.specs.ShownSession.{opened_by};
 use crate::announcement::Announcement;
 use crate::session::Session;
 use crate::table::{PAIRS, Place, SOURCES, Table};
-use j39_frame::Stamp;
+use j39_frame::{GLOBAL_ADDRESS, Stamp};
 use std::alloc::{AllocError, Global};
 
 /// Takes out the session at a place, or else that last lent.
@@ -33,11 +34,13 @@ fn take_box<const N: usize>(
     place: usize,
     lent: &mut Place,
     alloc: Global,
+    source: u8,
+    destination: u8,
     announcement: Announcement,
     stamp: Stamp,
 ) -> Result<Box<Session>, AllocError>
     requires place { place < N }
-    ensures value { IfOk result (λ b. b.value ≡ opened_by announcement (stamp_micros stamp)) }
+    ensures value { IfOk result (λ b. b.value ≡ opened_by source destination announcement (stamp_micros stamp)) }
     ensures table { MatchResult result
         (λ _. table.new ≡ slice_set table.old place None)
         (λ _. table.new ≡ table.old) }
@@ -48,22 +51,27 @@ fn take_box<const N: usize>(
 {
     match take_used(table, place, lent) {
         Some(mut session) => {
-            session.restart(announcement, stamp);
+            session.restart(source, destination, announcement, stamp);
             Ok(session)
         }
-        None => boxed(alloc, announcement, stamp),
+        None => boxed(alloc, source, destination, announcement, stamp),
     }
 }
 
 /// A session in a box of its own. Only here a whole buffer is written.
 fn boxed(
     alloc: Global,
+    source: u8,
+    destination: u8,
     announcement: Announcement,
     stamp: Stamp,
 ) -> Result<Box<Session>, AllocError>
-    ensures { IfOk result (λ b. b.value ≡ opened_by announcement (stamp_micros stamp)) }
+    ensures { IfOk result (λ b. b.value ≡ opened_by source destination announcement (stamp_micros stamp)) }
 {
-    Ok(Box::new(alloc, Session::new(announcement, stamp))?)
+    Ok(Box::new(
+        alloc,
+        Session::new(source, destination, announcement, stamp),
+    )?)
 }
 
 /// Opens a broadcast, in place of that of its source.
@@ -79,7 +87,7 @@ pub(crate) fn announce_broadcast(
     requires { source < 254 }
     ensures table { MatchResult result
         (λ _. table.new
-        ≡ slice_set table.old source (Some (opened_by announcement (stamp_micros stamp))))
+        ≡ slice_set table.old source (Some (opened_by source global_address announcement (stamp_micros stamp))))
         (λ _. table.new ≡ table.old) }
     ensures spare { MatchResult result
         (λ _. is_some (held_in lent.new) ≡ spare_left (at table.old source) (is_some (held_in lent.old)))
@@ -87,7 +95,16 @@ pub(crate) fn announce_broadcast(
     ensures lacked { OnErr result ((at table.old source ≡ None) × (is_some (held_in lent.old) ≡ false)) }
 {
     let place = usize::from(source);
-    let session = take_box(table, place, lent, alloc, announcement, stamp)?;
+    let session = take_box(
+        table,
+        place,
+        lent,
+        alloc,
+        source,
+        GLOBAL_ADDRESS,
+        announcement,
+        stamp,
+    )?;
     table.put(place, session);
     Ok(())
 }
@@ -114,7 +131,7 @@ pub(crate) fn announce_directed(
 ) -> Result<(), AllocError>
     ensures table { MatchResult result
         (λ _. table.new
-        ≡ with_announced source destination (opened_by announcement (stamp_micros stamp)) table.old)
+        ≡ with_announced source destination (opened_by source destination announcement (stamp_micros stamp)) table.old)
         (λ _. table.new ≡ table.old) }
     ensures spare { MatchResult result
         (λ _. is_some (held_in lent.new)
@@ -124,7 +141,16 @@ pub(crate) fn announce_directed(
         × (is_some (held_in lent.old) ≡ false)) }
 {
     let place = room(table.find(source, destination));
-    let session = take_box(table, place, lent, alloc, announcement, stamp)?;
+    let session = take_box(
+        table,
+        place,
+        lent,
+        alloc,
+        source,
+        destination,
+        announcement,
+        stamp,
+    )?;
     table.push(session);
     Ok(())
 }

@@ -3,13 +3,11 @@ ghost use Rattle.std.specs.Prelude.{◌≡◌, ◌≤◌, ◌↔◌, IsTrue, IsS
 ghost use Rattle.j39_frame.specs.Pgn.{pgn_raw};
 ghost use Rattle.j39_transport.specs.Frames.{agree, packets_for};
 
-use crate::key::Key;
 use j39_frame::Pgn;
 
 /// What a BAM or an RTS announces: a message of 9 to 1,785 bytes, in as many packets as it takes.
 #[derive(Clone, Copy)]
 pub(crate) struct Announcement {
-    pub(crate) key: Key,
     pub(crate) group: Pgn,
     pub(crate) size: u16,
     pub(crate) packets: u8,
@@ -22,7 +20,6 @@ impl Announcement {
     /// What stands in a buffer before its first message.
     pub(crate) fn unused() -> Announcement {
         Announcement {
-            key: Key::Broadcast(0),
             group: Pgn::new(0).unwrap(),
             size: 9,
             packets: 2,
@@ -30,15 +27,14 @@ impl Announcement {
     }
 
     /// What is announced; `None` where size, packets and group don't agree.
-    pub(crate) fn new(key: Key, group: u32, size: u16, packets: u8) -> Option<Announcement>
+    pub(crate) fn new(group: u32, size: u16, packets: u8) -> Option<Announcement>
         ensures known { IsSome result ↔ IsTrue (agree size packets group) }
         ensures value { IfSome result (λ a.
-            (a.key ≡ key) × (pgn_raw a.group ≡ group) × (a.size ≡ size) × (a.packets ≡ packets)) }
+            (pgn_raw a.group ≡ group) × (a.size ≡ size) × (a.packets ≡ packets)) }
     {
         let group = Pgn::new(group)?;
         if size >= 9 && size <= 1785 && takes(size, packets) {
             Some(Announcement {
-                key,
                 group,
                 size,
                 packets,

@@ -9,7 +9,7 @@ ghost use Rattle.j39_transport.specs.Events.Event.{Frame as Came, Forget};
 ghost use Rattle.j39_transport.specs.Answers.{IsAnnouncement, AnswersAt, AreOpenAfter, AreHeldAfter};
 ghost use Rattle.j39_transport.specs.Boxes.{WantsMemory};
 ghost use Rattle.j39_transport.specs.Stands.{Stands};
-ghost use Rattle.j39_transport.specs.FrameSteps.{transport_frame_of};
+ghost use Rattle.j39_transport.specs.Signals.{said_by};
 ghost use Rattle.j39_transport.specs.Places.{held_in};
 ghost use Rattle.j39_transport.specs.Steps.{fed, answer, LacksBox, new_assembler, forgot, messages_open, bytes_held};
 ghost use Rattle.j39_transport.specs.Shown.{outcome_by, CanLend, outcome_of};
@@ -18,7 +18,6 @@ use crate::message::{Fed, Message};
 use crate::packet::Accepted;
 use crate::sessions::Sessions;
 use crate::table::Place;
-use crate::transport_frame::read;
 use j39_frame::{Frame, Stamp};
 use std::alloc::{AllocError, Global};
 use std::marker::Model;
@@ -80,13 +79,13 @@ impl Assembler {
     }
 
     /// Answers at once where a frame is of another group, which costs its identifier alone.
-    #[tactic(auto, unfolding(crate::specs::FrameSteps::transport_frame_of, crate::specs::Frames::group_of, crate::specs::Steps::state_after, crate::specs::Steps::answer, crate::specs::Steps::spare_after))]
+    #[tactic(auto, unfolding(crate::specs::Signals::said_by, crate::specs::Frames::group_of, crate::specs::Steps::state_after, crate::specs::Steps::answer, crate::specs::Steps::spare_after))]
     fn step(&mut self, frame: &Frame) -> Result<Fed<'_>, AllocError>
         ensures answer { IfOk result (λ taken. outcome_of taken
-            ≡ answer self.old.sessions (source_of frame.now.id) frame.now.stamp (transport_frame_of frame.now)) }
-        ensures lacked { OnErr result (LacksBox self.old.sessions self.old.has_spare (transport_frame_of frame.now)) }
+            ≡ answer self.old.sessions frame.now (said_by frame.now)) }
+        ensures lacked { OnErr result (LacksBox self.old.sessions self.old.has_spare frame.now (said_by frame.now)) }
         ensures* after { sem 𝓛 (Rests the_row self.entry (λ n. MatchResult result
-            (λ _. n ≡ fed self.old frame.now.stamp (transport_frame_of frame.now))
+            (λ _. n ≡ fed self.old frame.now (said_by frame.now))
             (λ _. n ≡ self.old))) }
     {
         if frame.id.is_transport_data() || frame.id.is_transport_control() {
@@ -102,15 +101,13 @@ impl Assembler {
     #[inline(never)]
     fn hand_on(&mut self, frame: &Frame) -> Result<Fed<'_>, AllocError>
         ensures answer { IfOk result (λ taken. outcome_of taken
-            ≡ answer self.old.sessions (source_of frame.now.id) frame.now.stamp (transport_frame_of frame.now)) }
-        ensures lacked { OnErr result (LacksBox self.old.sessions self.old.has_spare (transport_frame_of frame.now)) }
+            ≡ answer self.old.sessions frame.now (said_by frame.now)) }
+        ensures lacked { OnErr result (LacksBox self.old.sessions self.old.has_spare frame.now (said_by frame.now)) }
         ensures* after { sem 𝓛 (Rests the_row self.entry (λ n. MatchResult result
-            (λ _. n ≡ fed self.old frame.now.stamp (transport_frame_of frame.now))
+            (λ _. n ≡ fed self.old frame.now (said_by frame.now))
             (λ _. n ≡ self.old))) }
     {
-        let accepted = self
-            .sessions
-            .accept(&mut self.lent, self.alloc, read(frame), frame.stamp)?;
+        let accepted = self.sessions.accept(&mut self.lent, self.alloc, frame)?;
         Ok(lend(&self.lent, accepted, frame.id.source(), frame.stamp))
     }
 

@@ -6,11 +6,9 @@ ghost use Rattle.j39_transport.specs.Broadcasting.{HasSent, answer_after, with_a
 ghost use Rattle.j39_transport.specs.Polling.{PollStep, answer_of};
 
 use crate::Cut;
+use crate::protocol::GAP;
 use j39_frame::{Id, Stamp};
 use std::marker::Model;
-
-/// The least time between two frames of a broadcast, in microseconds (own).
-const GAP: u64 = 50_000;
 
 /// What a broadcast asks for.
 #[derive(Clone, Copy, Debug, PartialEq, Eq)]

@@ -4,7 +4,7 @@ ghost use Rattle.j39_frame.specs.Stamp.{stamp_micros};
 ghost use Rattle.j39_transport.specs.Places.{find};
 ghost use Rattle.j39_transport.specs.Steps.{granted, finished, with_place};
 
-use crate::packet::DIRECTED_LIMIT;
+use crate::protocol::DIRECTED_LIMIT;
 use crate::table::{PAIRS, Table};
 use j39_frame::Stamp;
 

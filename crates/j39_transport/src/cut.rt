@@ -6,16 +6,14 @@ ghost use Rattle.j39_frame.specs.Identifier.{id_raw, priority_of};
 ghost use Rattle.j39_frame.specs.Pgn.{pgn_raw};
 ghost use Rattle.j39_transport.specs.Message.{IsLong, as_broadcast, packets_of};
 ghost use Rattle.j39_transport.specs.Carries.{Carries, joined};
+ghost use Rattle.j39_transport.specs.Protocol.{filler};
 ghost use Rattle.j39_transport.specs.Cutting.{cut_frame, cut_frames, packet_data, to_send, without_stamp};
 
 use crate::announcement::Announcement;
-use crate::key::Key;
+use crate::protocol::{BROADCAST_ANNOUNCE, FILLER, NO_LIMIT};
 use crate::writing;
 use j39_frame::{GLOBAL_ADDRESS, Id, Pgn, is_address};
 use std::marker::Model;
-
-/// The first byte of a broadcast announce message (BAM).
-const BROADCAST: u8 = 32;
 
 /// A message of 9 to 1,785 bytes, to be sent in packets of seven bytes.
 #[derive(Drop)]
@@ -79,7 +77,13 @@ impl<'a> Cut<'a> {
         let packets = self.packets();
         if k == 0 {
             let group = self.pgn.raw();
-            let bytes = writing::announcement_bytes(BROADCAST, self.size(), packets, 0xFF, group);
+            let bytes = writing::announcement_bytes(
+                BROADCAST_ANNOUNCE,
+                self.size(),
+                packets,
+                NO_LIMIT,
+                group,
+            );
             Some((writing::control_id(self.source, GLOBAL_ADDRESS), bytes))
         } else if k <= u16::from(packets) {
             let bytes = writing::packet_bytes(k as u8, self.data(k as u8));
@@ -103,14 +107,13 @@ impl<'a> Cut<'a> {
         self.pgn
     }
 
-    /// What it announces under a key.
-    pub(crate) fn announcement(&self, key: Key) -> Announcement
+    /// What it announces.
+    pub(crate) fn announcement(&self) -> Announcement
         ensures size { result.size ≡ length self.now.bytes }
         ensures packets { result.packets ≡ packets_of self.now }
         ensures group { pgn_raw result.group ≡ self.now.pgn }
     {
         Announcement {
-            key,
             group: self.pgn,
             size: self.size(),
             packets: self.packets(),
@@ -125,7 +128,7 @@ impl<'a> Cut<'a> {
         self.payload.len() as u16
     }
 
-    /// The data of a packet: the next seven bytes, filled up with FF.
+    /// The data of a packet: the next seven bytes, filled up.
     #[tactic(auto, unfolding(crate::specs::Cutting::packet_data))]
     pub(crate) fn data(&self, number: u8) -> [u8; 7]
         requires first { 1 ≤ number }
@@ -137,12 +140,12 @@ impl<'a> Cut<'a> {
     }
 }
 
-/// The first seven bytes, filled up with FF.
+/// The first seven bytes, filled up.
 #[tactic(auto, using(crate::proofs::PacketLemmas::filled_up))]
 fn filled(bytes: &[u8]) -> [u8; 7]
-    ensures { result ≡ take 7 (bytes.now ++ replicate 7 0xFF) }
+    ensures { result ≡ take 7 (bytes.now ++ replicate 7 filler) }
 {
-    let mut data = [0xFF; 7];
+    let mut data = [FILLER; 7];
     let n = bytes.len().min(7);
     data[..n].copy_from_slice(&bytes[..n]);
     data

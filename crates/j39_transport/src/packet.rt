@@ -2,19 +2,15 @@
 ghost use Rattle.std.specs.Prelude.{◌≡◌, ◌<◌, ◌≤◌, ◌||◌, ℕ, length, slice_set};
 ghost use Rattle.std.specs.Option.{is_some};
 ghost use Rattle.j39_frame.specs.Stamp.{stamp_micros};
+ghost use Rattle.j39_transport.specs.Protocol.{directed_limit};
 ghost use Rattle.j39_transport.specs.Places.{at, held_in, find};
 ghost use Rattle.j39_transport.specs.Steps.{is_whole, moves, packed, told, told_at, with_place};
 ghost use Rattle.j39_transport.specs.Shown.{shown_move, IsMove, outcome_by, CanLend};
 
+use crate::protocol::DIRECTED_LIMIT;
 use crate::session::Session;
 use crate::table::{PAIRS, Place, Table};
 use j39_frame::Stamp;
-
-/// The most microseconds between two frames of a broadcast: 750 ms (J1939-21, 5.13.3).
-pub(crate) const BROADCAST_LIMIT: u64 = 750_000;
-
-/// The most microseconds between two frames of a directed message (own).
-pub(crate) const DIRECTED_LIMIT: u64 = 1_250_000;
 
 /// What a frame was to the open messages.
 #[derive(Clone, Copy)]
@@ -42,7 +38,7 @@ fn after_packet(
     bytes: &[u8],
     stamp: Stamp,
 ) -> Moved
-    requires limit { limit ≤ 1250000 }
+    requires limit { limit ≤ directed_limit }
     requires seven { length bytes.now ≡ 7 }
     requires open { session.value.count < session.value.packets }
     ensures value { shown_move result
@@ -77,7 +73,7 @@ pub(crate) fn pack<const N: usize>(
     stamp: Stamp,
 ) -> Accepted
     requires place { place < N }
-    requires limit { limit ≤ 1250000 }
+    requires limit { limit ≤ directed_limit }
     requires seven { length bytes.now ≡ 7 }
     ensures table { table.new ≡ slice_set table.old place
         (packed limit number bytes.now (stamp_micros stamp) (at table.old place)) }
@@ -120,15 +116,15 @@ pub(crate) fn pack_directed(
 ) -> Accepted
     requires { length bytes.now ≡ 7 }
     ensures table { table.new ≡ with_place (find source destination table.old)
-        (packed 1250000 number bytes.now (stamp_micros stamp)) table.old }
+        (packed directed_limit number bytes.now (stamp_micros stamp)) table.old }
     ensures lends { CanLend result (held_in lent.new) }
     ensures told { (from : ℕ)
         → outcome_by result from (stamp_micros stamp) (held_in lent.new)
         ≡ told_at (find source destination table.old)
-        (told from 1250000 number bytes.now (stamp_micros stamp)) table.old }
+        (told from directed_limit number bytes.now (stamp_micros stamp)) table.old }
     ensures spare { is_some (held_in lent.new)
         ≡ is_whole (told_at (find source destination table.old)
-        (told 0 1250000 number bytes.now (stamp_micros stamp)) table.old) || is_some (held_in lent.old) }
+        (told 0 directed_limit number bytes.now (stamp_micros stamp)) table.old) || is_some (held_in lent.old) }
 {
     match table.find(source, destination) {
         Some(place) => pack(table, place, lent, DIRECTED_LIMIT, number, bytes, stamp),

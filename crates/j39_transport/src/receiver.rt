@@ -11,10 +11,9 @@ ghost use Rattle.j39_transport.specs.Frames.{source_of};
 ghost use Rattle.j39_transport.specs.Key.Key.{Directed};
 ghost use Rattle.j39_transport.specs.Received.{StandsFor, WereHanded, HasHeard};
 ghost use Rattle.j39_transport.specs.Receiving.{said_to, RecvStep, HearStep, Tick, Heard, recv_step, answer_in, result_of, new_receiver, partner_of};
-ghost use Rattle.j39_transport.specs.ShownSignal.{said, HasKey};
+ghost use Rattle.j39_transport.specs.ShownSignal.{said};
 ghost use Rattle.j39_transport.specs.ShownReceiver.{held_in, reacted, CanLend, answer_of, IsStamped};
 
-use crate::key::Key;
 use crate::message::Message;
 use crate::receiving::{self, Move, Slot};
 use crate::signal::{self, Signal};
@@ -127,7 +126,8 @@ impl Receiver {
             &mut self.session,
             &mut self.lent,
             self.alloc,
-            Key::Directed(source, self.own),
+            source,
+            self.own,
             said_to(self.own, frame),
             now,
         );
@@ -171,12 +171,11 @@ impl Receiver {
 /// What a frame says to the controller at its own address.
 #[tactic(auto, unfolding(crate::specs::Receiving::said_to, crate::specs::Frames::source_of))]
 fn said_to(own: u8, frame: &Frame) -> Option<Signal>
-    ensures value { option_map said result ≡ said_to own frame.now }
-    ensures key { HasKey (Directed (source_of frame.now.id) own) result }
+    ensures { option_map said result ≡ said_to own frame.now }
 {
     let source = frame.id.source();
     if is_address(source) {
-        signal::read(frame, source, own)
+        signal::read_between(frame, source, own)
     } else {
         None
     }

@@ -2,13 +2,14 @@
 ghost use Rattle.std.specs.Prelude.{◌≡◌, ◌||◌, true, false, None, OnErr};
 ghost use Rattle.std.specs.Option.{is_some, option_map};
 ghost use Rattle.j39_frame.specs.Stamp.{stamp_micros};
+ghost use Rattle.j39_transport.specs.Key.Key.{Directed};
 ghost use Rattle.j39_transport.specs.Reception.{takes_request, takes_data, takes_abort, takes_signal, takes_tick, is_taken};
 ghost use Rattle.j39_transport.specs.ShownReceiver.{stepped, IsStep, held_in, IsOpen, has_box, reacted, found_in, CanLend};
-ghost use Rattle.j39_transport.specs.ShownSession.{key_in, opened_by};
-ghost use Rattle.j39_transport.specs.ShownSignal.{said, HasKey};
+ghost use Rattle.j39_transport.specs.ShownSession.{opened_by};
+ghost use Rattle.j39_transport.specs.ShownSignal.{said};
 
 use crate::announcement::Announcement;
-use crate::key::Key;
+use crate::protocol::{BUSY, NO_RESOURCES};
 use crate::reception::{Reception, Step};
 use crate::signal::Signal;
 use j39_frame::Stamp;
@@ -16,12 +17,6 @@ use std::alloc::{AllocError, Global};
 
 /// The session of a receiver with its buffer, or none.
 pub(crate) type Slot = Option<Box<Reception>>;
-
-/// The reason of an abort where another source's session is open (J1939-21, 5.10.3.4).
-const BUSY: u8 = 1;
-
-/// The reason of an abort where there is no memory (J1939-21, 5.10.3.4).
-const NO_RESOURCES: u8 = 2;
 
 /// What an event did.
 #[derive(Clone, Copy)]
@@ -156,13 +151,15 @@ fn take_request(
     slot: &mut Slot,
     lent: &mut Slot,
     alloc: Global,
+    source: u8,
+    own: u8,
     announcement: Announcement,
     most: u8,
     now: Stamp,
 ) -> Move
     requires { IsOpen (held_in slot.old) }
     ensures does { reacted result (held_in slot.new) (held_in lent.new)
-        ≡ takes_request (opened_by announcement (stamp_micros now)) most (stamp_micros now) (found_in result) (held_in slot.old) }
+        ≡ takes_request (opened_by source own announcement (stamp_micros now)) most (stamp_micros now) (found_in result) (held_in slot.old) }
     ensures finds { has_box (held_in slot.old) (held_in lent.old) ≡ true → found_in result ≡ true }
     ensures buffer { has_box (held_in slot.new) (held_in lent.new)
         ≡ is_some (held_in slot.new) || has_box (held_in slot.old) (held_in lent.old) }
@@ -170,33 +167,33 @@ fn take_request(
     ensures lends { CanLend result (held_in lent.new) }
 {
     let group = announcement.group.raw();
-    if is_taken(slot, announcement.key.source()) {
+    if is_taken(slot, source) {
         return Move::Says(Signal::Abort(BUSY, group));
     }
     let mut session = match take_box(slot, lent, alloc) {
         Ok(session) => session,
         Err(_) => return Move::Refused(Signal::Abort(NO_RESOURCES, group)),
     };
-    session.restart(announcement, most, now);
+    session.restart(source, own, announcement, most, now);
     let signal = session.grant(now);
     *slot = Some(session);
     Move::Says(signal)
 }
 
-/// What is said under a key: from its source to the receiver.
+/// What is said from a source to the receiver at its own address.
 #[tactic(auto, unfolding(crate::specs::Reception::takes_signal), using(crate::proofs::ReceptionLemmas::box_again))]
 pub(crate) fn take_signal(
     slot: &mut Slot,
     lent: &mut Slot,
     alloc: Global,
-    key: Key,
+    source: u8,
+    own: u8,
     signal: Option<Signal>,
     now: Stamp,
 ) -> Move
-    requires open { IsOpen (held_in slot.old) }
-    requires key { HasKey (key_in key) signal }
+    requires { IsOpen (held_in slot.old) }
     ensures does { reacted result (held_in slot.new) (held_in lent.new)
-        ≡ takes_signal (key_in key) (option_map said signal) (stamp_micros now) (found_in result) (held_in slot.old) }
+        ≡ takes_signal (Directed source own) (option_map said signal) (stamp_micros now) (found_in result) (held_in slot.old) }
     ensures finds { has_box (held_in slot.old) (held_in lent.old) ≡ true → found_in result ≡ true }
     ensures buffer { has_box (held_in slot.new) (held_in lent.new)
         ≡ is_some (held_in slot.new) || has_box (held_in slot.old) (held_in lent.old) }
@@ -205,15 +202,14 @@ pub(crate) fn take_signal(
 {
     match signal {
         None => Move::Quiet,
+        Some(Signal::BroadcastAnnounce(_)) => Move::Quiet,
         Some(Signal::RequestToSend(announcement, most)) => {
-            take_request(slot, lent, alloc, announcement, most, now)
+            take_request(slot, lent, alloc, source, own, announcement, most, now)
         }
         Some(Signal::ClearToSend(_, _, _)) => Move::Quiet,
         Some(Signal::Acknowledgment(_, _, _)) => Move::Quiet,
-        Some(Signal::Abort(_, pgn)) => take_abort(slot, lent, key.source(), pgn),
-        Some(Signal::Packet(number, joined)) => {
-            take_data(slot, lent, key.source(), number, &joined, now)
-        }
+        Some(Signal::Abort(_, pgn)) => take_abort(slot, lent, source, pgn),
+        Some(Signal::Packet(number, joined)) => take_data(slot, lent, source, number, &joined, now),
     }
 }
 

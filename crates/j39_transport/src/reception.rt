@@ -9,22 +9,14 @@ ghost use Rattle.j39_transport.specs.ShownSignal.{said};
 ghost use Rattle.j39_transport.specs.Signals.{ClearToSend};
 
 use crate::announcement::Announcement;
+use crate::protocol::{NO_LIMIT, TIMEOUT, TIMER_T1, TIMER_T2};
 use crate::session::Session;
 use crate::signal::Signal;
 use j39_frame::{Pgn, Stamp};
 use std::marker::Model;
 
-/// The longest wait between two packets, in microseconds: 750 ms (J1939-21, 5.10.2.4).
-const TIMER_T1: u64 = 750_000;
-
-/// The longest wait from a CTS to its first packet: 1,250 ms (J1939-21, 5.10.2.4).
-const TIMER_T2: u64 = 1_250_000;
-
 /// How often a receiver asks again for a message (own).
 const MOST_ASKS: u8 = 2;
-
-/// The reason of an abort where packets are late (J1939-21, 5.10.3.4).
-const TIMEOUT: u8 = 3;
 
 /// What an event did to a session.
 #[derive(Clone, Copy)]
@@ -64,7 +56,7 @@ impl Reception {
     /// A buffer in which no message was begun yet.
     pub(crate) fn unused() -> Reception {
         Reception {
-            message: Session::new(Announcement::unused(), Stamp::new(0).unwrap()),
+            message: Session::new(0, 0, Announcement::unused(), Stamp::new(0).unwrap()),
             most: 1,
             granted: 0,
             asks: 0,
@@ -74,10 +66,17 @@ impl Reception {
 
     /// Begins a message in this buffer.
     #[tactic(auto, unfolding(crate::specs::Reception::begun))]
-    pub(crate) fn restart(&mut self, announcement: Announcement, most: u8, now: Stamp)
-        ensures { self.new ≡ begun (opened_by announcement (stamp_micros now)) most }
+    pub(crate) fn restart(
+        &mut self,
+        source: u8,
+        own: u8,
+        announcement: Announcement,
+        most: u8,
+        now: Stamp,
+    )
+        ensures { self.new ≡ begun (opened_by source own announcement (stamp_micros now)) most }
     {
-        self.message.restart(announcement, now);
+        self.message.restart(source, own, announcement, now);
         self.most = most_packets(most);
         self.granted = 0;
         self.asks = 0;
@@ -190,5 +189,5 @@ impl Reception {
 fn most_packets(most: u8) -> u8
     ensures { result ≡ most_named most }
 {
-    if most == 0 { 255 } else { most }
+    if most == 0 { NO_LIMIT } else { most }
 }

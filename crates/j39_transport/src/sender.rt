@@ -5,25 +5,17 @@ ghost use Rattle.j39_frame.specs.Address.{IsAddress};
 ghost use Rattle.j39_frame.specs.Stamp.{stamp_micros};
 ghost use Rattle.j39_transport.specs.Cutting.{to_send};
 ghost use Rattle.j39_transport.specs.Message.{packets_of};
+ghost use Rattle.j39_transport.specs.Protocol.{timer_t3};
 ghost use Rattle.j39_transport.specs.Sending.{SendStep, IsOwn, new_sender, ticks_in, sends_packet, waits, hears, cleared, acknowledged, aborted};
 ghost use Rattle.j39_transport.specs.ShownSender.{event_of, state_of};
 ghost use Rattle.j39_transport.specs.ShownSignal.{said};
 
 use crate::Cut;
-use crate::key::Key;
 use crate::progress::{Progress, SendEvent, SendState};
+use crate::protocol::{NO_LIMIT, TIMEOUT, TIMER_T3, TIMER_T4};
 use crate::signal::{self, Signal};
 use j39_frame::{Id, Stamp, is_address};
 use std::marker::Model;
-
-/// The longest wait for an answer, in microseconds: 1,250 ms (J1939-21, 5.10.2.4).
-const TIMER_T3: u64 = 1_250_000;
-
-/// The longest wait after a CTS that holds: 1,050 ms (J1939-21, 5.10.2.4).
-const TIMER_T4: u64 = 1_050_000;
-
-/// The reason of an abort where an answer is late (J1939-21, 5.10.3.4).
-const TIMEOUT: u8 = 3;
 
 /// Sends one message to one controller, by request to send (RTS) and clear to send (CTS).
 #[derive(Drop)]
@@ -89,7 +81,7 @@ impl<'a> Sender<'a> {
                 Some(signal::write(signal, source, destination))
             }
             SendEvent::Heard(frame) => {
-                let signal = signal::read(frame, destination, source);
+                let signal = signal::read_between(frame, destination, source);
                 self.hear(signal, now);
                 None
             }
@@ -116,9 +108,8 @@ impl<'a> Sender<'a> {
     {
         match self.progress {
             Progress::Idle => {
-                let key = Key::Directed(self.cut.source(), self.destination);
                 self.wait(TIMER_T3, now);
-                Some(Signal::RequestToSend(self.cut.announcement(key), 0xFF))
+                Some(Signal::RequestToSend(self.cut.announcement(), NO_LIMIT))
             }
             Progress::Waiting(limit) => {
                 if now.micros() > self.since.micros() + limit {
@@ -135,7 +126,7 @@ impl<'a> Sender<'a> {
     }
 
     fn wait(&mut self, limit: u64, now: Stamp)
-        requires { limit ≤ 1250000 }
+        requires { limit ≤ timer_t3 }
         ensures { self.new ≡ waits limit (stamp_micros now) self.old }
     {
         self.progress = Progress::Waiting(limit);

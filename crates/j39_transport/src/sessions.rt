@@ -1,21 +1,22 @@
 //! All open messages.
-ghost use Rattle.std.specs.Prelude.{◌≡◌, ◌≤◌, ◌*◌, ◌+◌, ◌||◌, ℕ, false, None, length, sum_by, IfOk, OnErr, MatchResult};
+ghost use Rattle.std.specs.Prelude.{◌≡◌, ◌≤◌, ◌*◌, ◌+◌, ◌||◌, ℕ, length, IfOk, OnErr, MatchResult};
 ghost use Rattle.std.specs.Option.{is_some};
+ghost use Rattle.j39_frame.specs.Address.{IsAddress};
 ghost use Rattle.j39_frame.specs.Stamp.{stamp_micros};
+ghost use Rattle.j39_transport.specs.Frames.{source_of};
+ghost use Rattle.j39_transport.specs.Key.{key_between};
 ghost use Rattle.j39_transport.specs.Places.{held_in};
-ghost use Rattle.j39_transport.specs.Steps.{announced, after_packet, answer_to_packet, state_after, answer, state_without, without_broadcast, empty_state, place_for, spare_left, spare_after, is_whole, LacksBox, messages_open, bytes_held};
-ghost use Rattle.j39_transport.specs.ShownSession.{key_in, IsKey, opened_by};
-ghost use Rattle.j39_transport.specs.ShownFrame.{shown_frame, HasAddresses};
+ghost use Rattle.j39_transport.specs.Signals.{said_by};
+ghost use Rattle.j39_transport.specs.Steps.{after_packet, answer_to_packet, state_after, answer, state_without, without_broadcast, empty_state, spare_after, is_whole, LacksBox, messages_open, bytes_held};
 ghost use Rattle.j39_transport.specs.Shown.{outcome_by, CanLend};
 
 use crate::announce::{announce_broadcast, announce_directed};
-use crate::announcement::Announcement;
 use crate::control::{finish, grant};
-use crate::key::Key;
-use crate::packet::{Accepted, BROADCAST_LIMIT, pack, pack_directed};
+use crate::packet::{Accepted, pack, pack_directed};
+use crate::protocol::BROADCAST_LIMIT;
+use crate::signal::{self, Signal};
 use crate::table::{PAIRS, Place, SOURCES, Table};
-use crate::transport_frame::TransportFrame;
-use j39_frame::Stamp;
+use j39_frame::{Frame, GLOBAL_ADDRESS, Stamp};
 use std::alloc::{AllocError, Global};
 use std::marker::Model;
 
@@ -51,120 +52,96 @@ impl Sessions {
         &mut self,
         lent: &mut Place,
         alloc: Global,
-        frame: TransportFrame<'_>,
-        stamp: Stamp,
+        frame: &Frame,
     ) -> Result<Accepted, AllocError>
-        requires { HasAddresses frame }
-        ensures answer { IfOk result (λ a. (source : ℕ)
-            → outcome_by a source (stamp_micros stamp) (held_in lent.new)
-            ≡ answer self.old source (stamp_micros stamp) (shown_frame frame.entry)) }
+        ensures answer { IfOk result (λ a.
+            outcome_by a (source_of frame.now.id) frame.now.stamp (held_in lent.new)
+            ≡ answer self.old frame.now (said_by frame.now)) }
         ensures lends { IfOk result (λ a. CanLend a (held_in lent.new)) }
-        ensures lacked { OnErr result (LacksBox self.old (is_some (held_in lent.old)) (shown_frame frame.entry)) }
+        ensures lacked { OnErr result (LacksBox self.old (is_some (held_in lent.old)) frame.now (said_by frame.now)) }
         ensures after { MatchResult result
-            (λ _. self.new ≡ state_after self.old (stamp_micros stamp) (shown_frame frame.entry))
+            (λ _. self.new ≡ state_after self.old frame.now (said_by frame.now))
             (λ _. self.new ≡ self.old) }
         ensures spare { MatchResult result
             (λ _. is_some (held_in lent.new)
-            ≡ spare_after self.old (is_some (held_in lent.old)) (stamp_micros stamp) (shown_frame frame.entry))
+            ≡ spare_after self.old (is_some (held_in lent.old)) frame.now (said_by frame.now))
             (λ _. is_some (held_in lent.new) ≡ is_some (held_in lent.old)) }
     {
-        match frame {
-            TransportFrame::Announcement(announcement) => {
-                self.announce(lent, alloc, announcement, stamp)?;
+        let (s, d) = (signal::source_in(frame), signal::destination_in(frame));
+        let stamp = frame.stamp;
+        match signal::read(frame) {
+            None => Ok(Accepted::Ignored),
+            Some(Signal::BroadcastAnnounce(announcement)) => {
+                announce_broadcast(&mut self.broadcasts, s, lent, alloc, announcement, stamp)?;
                 Ok(Accepted::Taken)
             }
-            TransportFrame::Packet(key, number, bytes) => {
-                let accepted = self.pack(lent, key, number, bytes, stamp);
-                Ok(accepted)
+            Some(Signal::RequestToSend(announcement, _)) => {
+                announce_directed(&mut self.directed, s, d, lent, alloc, announcement, stamp)?;
+                Ok(Accepted::Taken)
             }
-            TransportFrame::ClearToSend(s, d, group) => {
-                grant(&mut self.directed, s, d, group, stamp);
+            Some(Signal::ClearToSend(_, _, group)) => {
+                grant(&mut self.directed, d, s, group, stamp);
                 Ok(Accepted::Ignored)
             }
-            TransportFrame::Acknowledgment(s, d, group) => {
-                finish(&mut self.directed, s, d, group);
-                Ok(Accepted::Ignored)
-            }
-            TransportFrame::Abort(s, d, group) => {
-                finish(&mut self.directed, s, d, group);
+            Some(Signal::Acknowledgment(_, _, group)) => {
                 finish(&mut self.directed, d, s, group);
                 Ok(Accepted::Ignored)
             }
-            TransportFrame::Other => Ok(Accepted::Ignored),
-        }
-    }
-
-    fn announce(
-        &mut self,
-        lent: &mut Place,
-        alloc: Global,
-        announcement: Announcement,
-        stamp: Stamp,
-    ) -> Result<(), AllocError>
-        requires { IsKey announcement.key }
-        ensures after { MatchResult result
-            (λ _. self.new ≡ announced self.old (key_in announcement.key)
-            (opened_by announcement (stamp_micros stamp)))
-            (λ _. self.new ≡ self.old) }
-        ensures spare { MatchResult result
-            (λ _. is_some (held_in lent.new)
-            ≡ spare_left (place_for self.old (key_in announcement.key)) (is_some (held_in lent.old)))
-            (λ _. is_some (held_in lent.new) ≡ is_some (held_in lent.old)) }
-        ensures lacked { OnErr result ((place_for self.old (key_in announcement.key) ≡ None)
-            × (is_some (held_in lent.old) ≡ false)) }
-    {
-        match announcement.key {
-            Key::Broadcast(s) => {
-                announce_broadcast(&mut self.broadcasts, s, lent, alloc, announcement, stamp)
+            Some(Signal::Abort(_, group)) => {
+                finish(&mut self.directed, d, s, group);
+                finish(&mut self.directed, s, d, group);
+                Ok(Accepted::Ignored)
             }
-            Key::Directed(s, d) => {
-                announce_directed(&mut self.directed, s, d, lent, alloc, announcement, stamp)
+            Some(Signal::Packet(number, joined)) => {
+                let accepted = self.pack(lent, s, d, number, &joined, stamp);
+                Ok(accepted)
             }
         }
     }
 
+    #[tactic(auto, unfolding(crate::specs::Key::key_between))]
     fn pack(
         &mut self,
         lent: &mut Place,
-        key: Key,
+        source: u8,
+        destination: u8,
         number: u8,
         bytes: &[u8],
         stamp: Stamp,
     ) -> Accepted
-        requires key { IsKey key }
+        requires address { IsAddress source }
         requires seven { length bytes.now ≡ 7 }
         ensures after { self.new
-            ≡ after_packet self.old (stamp_micros stamp) (key_in key) number bytes.now }
+            ≡ after_packet self.old (stamp_micros stamp) (key_between source destination) number bytes.now }
         ensures lends { CanLend result (held_in lent.new) }
-        ensures answer { (source : ℕ)
-            → outcome_by result source (stamp_micros stamp) (held_in lent.new)
-            ≡ answer_to_packet self.old source (stamp_micros stamp) (key_in key) number bytes.now }
+        ensures answer { (from : ℕ)
+            → outcome_by result from (stamp_micros stamp) (held_in lent.new)
+            ≡ answer_to_packet self.old from (stamp_micros stamp) (key_between source destination) number bytes.now }
         ensures spare { is_some (held_in lent.new)
-            ≡ is_whole (answer_to_packet self.old 0 (stamp_micros stamp) (key_in key) number bytes.now)
+            ≡ is_whole (answer_to_packet self.old 0 (stamp_micros stamp) (key_between source destination) number bytes.now)
             || is_some (held_in lent.old) }
     {
-        match key {
-            Key::Broadcast(s) => {
-                let place = usize::from(s);
-                pack(
-                    &mut self.broadcasts,
-                    place,
-                    lent,
-                    BROADCAST_LIMIT,
-                    number,
-                    bytes,
-                    stamp,
-                )
-            }
-            Key::Directed(s, d) => pack_directed(
+        if destination == GLOBAL_ADDRESS {
+            let place = usize::from(source);
+            pack(
+                &mut self.broadcasts,
+                place,
+                lent,
+                BROADCAST_LIMIT,
+                number,
+                bytes,
+                stamp,
+            )
+        } else {
+            pack_directed(
                 &mut self.directed,
-                s,
-                d,
+                source,
+                destination,
                 lent,
                 number,
                 bytes,
                 stamp,
-            ),
+            )
         }
     }
 

@@ -1,23 +1,26 @@
-//! What the frames of a directed transfer say (J1939-21, 5.10.3 and 5.10.4).
-ghost use Rattle.std.specs.Prelude.{◌≡◌, ◌∷◌, length, drop, IsTrue};
+//! What the frames of the transport protocol say (J1939-21, 5.10.3 and 5.10.4).
+ghost use Rattle.std.specs.Prelude.{◌≡◌, ◌∷◌, length, drop};
 ghost use Rattle.std.specs.Option.{option_map};
-ghost use Rattle.j39_frame.specs.Network.{transport_control_group, transport_data_group};
 ghost use Rattle.j39_transport.specs.Cutting.{to_send};
-ghost use Rattle.j39_transport.specs.Frames.{goes};
-ghost use Rattle.j39_transport.specs.Key.Key.{Directed};
-ghost use Rattle.j39_transport.specs.Signals.{said_between, said_in_control, bytes_with, written};
-ghost use Rattle.j39_transport.specs.ShownSession.{key_in};
-ghost use Rattle.j39_transport.specs.ShownSignal.{said, HasKey};
+ghost use Rattle.j39_transport.specs.Frames.{source_of, destination_of};
+ghost use Rattle.j39_transport.specs.Key.{is_key, key_between};
+ghost use Rattle.j39_transport.specs.Signals.{broadcast_in, request_in, packet_in, control_in, said_by, said_between, bytes_with, written};
+ghost use Rattle.j39_transport.specs.ShownSignal.{said, IsFromAddress};
 
 use crate::announcement::Announcement;
-use crate::key::Key;
+use crate::protocol::{
+    ACKNOWLEDGMENT, BROADCAST_ANNOUNCE, CLEAR_TO_SEND, CONNECTION_ABORT, FILLER, NO_LIMIT,
+    REQUEST_TO_SEND,
+};
 use crate::reading::{group_in, size_in};
 use crate::writing;
-use j39_frame::{Frame, Id};
+use j39_frame::{Frame, GLOBAL_ADDRESS, Id, is_address};
 
-/// What a frame of a directed transfer says.
+/// What a frame of the transport protocol says.
 #[derive(Clone, Copy)]
 pub(crate) enum Signal {
+    /// A BAM: what it announces.
+    BroadcastAnnounce(Announcement),
     /// An RTS: what it announces, and the most packets for one CTS.
     RequestToSend(Announcement, u8),
     /// A CTS: how many packets, the first of them, and the group.
@@ -30,42 +33,72 @@ pub(crate) enum Signal {
     Packet(u8, [u8; 7]),
 }
 
-/// What a frame says from one address to another; `None` for any other frame.
-#[tactic(auto, unfolding(crate::specs::Signals::said_between))]
-pub(crate) fn read(frame: &Frame, source: u8, destination: u8) -> Option<Signal>
-    ensures value { option_map said result ≡ said_between source destination frame.now }
-    ensures key { HasKey (Directed source destination) result }
+/// What a frame says, from its source to where it goes (PS); `None` where it says nothing. One of
+/// another group costs its identifier alone.
+#[tactic(auto, unfolding(crate::specs::Signals::said_by, crate::specs::Frames::group_of))]
+pub(crate) fn read(frame: &Frame) -> Option<Signal>
+    ensures value { option_map said result ≡ said_by frame.now }
+    ensures address { IsFromAddress (source_of frame.now.id) result }
 {
-    if is_control(frame, source, destination) {
-        read_control(frame, Key::Directed(source, destination))
-    } else if is_data(frame, source, destination) {
-        let bytes = frame.bytes.as_slice();
-        Some(Signal::Packet(bytes[0], packet(bytes)))
+    if frame.id.is_transport_data() && frame.bytes.len() == 8 {
+        read_packet(frame)
+    } else if frame.id.is_transport_control() && frame.bytes.len() == 8 {
+        read_control(frame)
     } else {
         None
     }
 }
 
-#[tactic(auto, unfolding(crate::specs::Frames::goes, crate::specs::Frames::group_of, crate::specs::Frames::source_of, crate::specs::Frames::destination_of))]
-fn is_control(frame: &Frame, source: u8, destination: u8) -> bool
-    ensures value { result ≡ goes transport_control_group source destination frame.now }
-    ensures eight { IsTrue result → length frame.now.bytes ≡ 8 }
+/// What a frame says from one address to another; `None` for any other frame.
+#[tactic(auto, unfolding(crate::specs::Signals::said_between))]
+pub(crate) fn read_between(frame: &Frame, source: u8, destination: u8) -> Option<Signal>
+    ensures { option_map said result ≡ said_between source destination frame.now }
 {
-    frame.id.is_transport_control()
-        && frame.id.ps() == destination
-        && frame.id.source() == source
-        && frame.bytes.len() == 8
+    if source_in(frame) == source && destination_in(frame) == destination {
+        read(frame)
+    } else {
+        None
+    }
 }
 
-#[tactic(auto, unfolding(crate::specs::Frames::goes, crate::specs::Frames::group_of, crate::specs::Frames::source_of, crate::specs::Frames::destination_of))]
-fn is_data(frame: &Frame, source: u8, destination: u8) -> bool
-    ensures value { result ≡ goes transport_data_group source destination frame.now }
-    ensures eight { IsTrue result → length frame.now.bytes ≡ 8 }
+#[tactic(auto, unfolding(crate::specs::Frames::source_of))]
+pub(crate) fn source_in(frame: &Frame) -> u8
+    ensures { result ≡ source_of frame.now.id }
 {
-    frame.id.is_transport_data()
-        && frame.id.ps() == destination
-        && frame.id.source() == source
-        && frame.bytes.len() == 8
+    frame.id.source()
+}
+
+#[tactic(auto, unfolding(crate::specs::Frames::destination_of))]
+pub(crate) fn destination_in(frame: &Frame) -> u8
+    ensures { result ≡ destination_of frame.now.id }
+{
+    frame.id.ps()
+}
+
+/// Whether packets go from one address to the other.
+#[tactic(auto, unfolding(crate::specs::Key::key_between))]
+fn goes_between(source: u8, destination: u8) -> bool
+    ensures { result ≡ is_key (key_between source destination) }
+{
+    if destination == GLOBAL_ADDRESS {
+        is_address(source)
+    } else {
+        is_address(source) && is_address(destination)
+    }
+}
+
+#[tactic(auto, unfolding(crate::specs::Signals::packet_in, crate::specs::Key::key_between))]
+fn read_packet(frame: &Frame) -> Option<Signal>
+    requires { length frame.now.bytes ≡ 8 }
+    ensures value { option_map said result ≡ packet_in frame.now }
+    ensures address { IsFromAddress (source_of frame.now.id) result }
+{
+    let bytes = frame.bytes.as_slice();
+    if goes_between(source_in(frame), destination_in(frame)) {
+        Some(Signal::Packet(bytes[0], packet(bytes)))
+    } else {
+        None
+    }
 }
 
 /// The data of a packet.
@@ -78,23 +111,50 @@ fn packet(bytes: &[u8]) -> [u8; 7]
     joined
 }
 
-#[tactic(auto, unfolding(crate::specs::Signals::said_in_control, crate::specs::Frames::names_message))]
-fn read_control(frame: &Frame, key: Key) -> Option<Signal>
+#[tactic(auto, unfolding(crate::specs::Signals::control_in))]
+fn read_control(frame: &Frame) -> Option<Signal>
     requires { length frame.now.bytes ≡ 8 }
-    ensures value { option_map said result ≡ said_in_control frame.now }
-    ensures key { HasKey (key_in key) result }
+    ensures value { option_map said result ≡ control_in frame.now }
+    ensures address { IsFromAddress (source_of frame.now.id) result }
 {
     let bytes = frame.bytes.as_slice();
-    let group = group_in(bytes);
     match bytes[0] {
-        16 => {
-            let announcement = Announcement::new(key, group, size_in(bytes), bytes[3])?;
-            Some(Signal::RequestToSend(announcement, bytes[4]))
-        }
-        17 => Some(Signal::ClearToSend(bytes[1], bytes[2], group)),
-        19 => Some(Signal::Acknowledgment(size_in(bytes), bytes[3], group)),
-        255 => Some(Signal::Abort(bytes[1], group)),
+        REQUEST_TO_SEND => read_request(frame),
+        BROADCAST_ANNOUNCE => read_broadcast(frame),
+        CLEAR_TO_SEND => Some(Signal::ClearToSend(bytes[1], bytes[2], group_in(bytes))),
+        ACKNOWLEDGMENT => Some(Signal::Acknowledgment(size_in(bytes), bytes[3], group_in(bytes))),
+        CONNECTION_ABORT => Some(Signal::Abort(bytes[1], group_in(bytes))),
         _ => None,
+    }
+}
+
+#[tactic(auto, unfolding(crate::specs::Signals::request_in, crate::specs::Frames::names_message))]
+fn read_request(frame: &Frame) -> Option<Signal>
+    requires { length frame.now.bytes ≡ 8 }
+    ensures value { option_map said result ≡ request_in frame.now }
+    ensures address { IsFromAddress (source_of frame.now.id) result }
+{
+    let bytes = frame.bytes.as_slice();
+    if is_address(source_in(frame)) && is_address(destination_in(frame)) {
+        let announcement = Announcement::new(group_in(bytes), size_in(bytes), bytes[3])?;
+        Some(Signal::RequestToSend(announcement, bytes[4]))
+    } else {
+        None
+    }
+}
+
+#[tactic(auto, unfolding(crate::specs::Signals::broadcast_in, crate::specs::Frames::names_message))]
+fn read_broadcast(frame: &Frame) -> Option<Signal>
+    requires { length frame.now.bytes ≡ 8 }
+    ensures value { option_map said result ≡ broadcast_in frame.now }
+    ensures address { IsFromAddress (source_of frame.now.id) result }
+{
+    let bytes = frame.bytes.as_slice();
+    if is_address(source_in(frame)) && destination_in(frame) == GLOBAL_ADDRESS {
+        let announcement = Announcement::new(group_in(bytes), size_in(bytes), bytes[3])?;
+        Some(Signal::BroadcastAnnounce(announcement))
+    } else {
+        None
     }
 }
 
@@ -114,12 +174,19 @@ fn bytes_with(signal: Signal) -> [u8; 8]
     ensures { result ≡ bytes_with (said signal) }
 {
     match signal {
+        Signal::BroadcastAnnounce(a) => writing::announcement_bytes(
+            BROADCAST_ANNOUNCE,
+            a.size,
+            a.packets,
+            NO_LIMIT,
+            a.group.raw(),
+        ),
         Signal::RequestToSend(a, most) => {
-            writing::announcement_bytes(16, a.size, a.packets, most, a.group.raw())
+            writing::announcement_bytes(REQUEST_TO_SEND, a.size, a.packets, most, a.group.raw())
         }
         Signal::ClearToSend(count, next, pgn) => writing::clear_to_send_bytes(count, next, pgn),
         Signal::Acknowledgment(size, packets, pgn) => {
-            writing::announcement_bytes(19, size, packets, 0xFF, pgn)
+            writing::announcement_bytes(ACKNOWLEDGMENT, size, packets, FILLER, pgn)
         }
         Signal::Abort(reason, pgn) => writing::abort_bytes(reason, pgn),
         Signal::Packet(number, joined) => writing::packet_bytes(number, joined),

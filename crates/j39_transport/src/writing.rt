@@ -3,15 +3,11 @@ ghost use Rattle.std.specs.Prelude.{◌≡◌, ◌∷◌, ◌<◌};
 ghost use Rattle.byteorder.specs.Endian.{little_bytes};
 ghost use Rattle.j39_frame.specs.Identifier.{id_raw};
 ghost use Rattle.j39_frame.specs.Network.{transport_control_group, transport_data_group};
+ghost use Rattle.j39_transport.specs.Protocol.{clear_to_send, connection_abort, filler};
 ghost use Rattle.j39_transport.specs.Cutting.{announcement_bytes, transport_id};
 
+use crate::protocol::{CLEAR_TO_SEND, CONNECTION_ABORT, FILLER, TRANSPORT_CONTROL, TRANSPORT_DATA};
 use j39_frame::Id;
-
-/// The group TP.CM.
-const TRANSPORT_CONTROL: u32 = 60_416;
-
-/// The group TP.DT.
-const TRANSPORT_DATA: u32 = 60_160;
 
 /// The identifier of a TP.CM frame.
 pub(crate) fn control_id(source: u8, destination: u8) -> Id
@@ -36,8 +32,8 @@ fn transport_id(group: u32, source: u8, destination: u8) -> Id
     Id::new(front + u32::from(destination) * 256 + u32::from(source)).unwrap()
 }
 
-/// The data of an announcement: its kind (32 a BAM, 16 an RTS), and the most packets for one CTS
-/// (FF: no limit, and in a BAM). An end-of-message acknowledgment has the same form, of kind 19.
+/// The data of an announcement: its kind, and the most packets for one CTS. An end-of-message
+/// acknowledgment has the same form.
 pub(crate) fn announcement_bytes(kind: u8, size: u16, packets: u8, most: u8, pgn: u32) -> [u8; 8]
     ensures { result ≡ announcement_bytes kind size packets most pgn }
 {
@@ -50,18 +46,36 @@ pub(crate) fn announcement_bytes(kind: u8, size: u16, packets: u8, most: u8, pgn
 
 /// The data of a CTS of so many packets, from this number on.
 pub(crate) fn clear_to_send_bytes(count: u8, next: u8, pgn: u32) -> [u8; 8]
-    ensures { result ≡ 17 ∷ count ∷ next ∷ 255 ∷ 255 ∷ little_bytes 3 pgn }
+    ensures { result ≡ clear_to_send ∷ count ∷ next ∷ filler ∷ filler ∷ little_bytes 3 pgn }
 {
     let [pgn_low, pgn_mid, pgn_high, _] = pgn.to_le_bytes();
-    [17, count, next, 0xFF, 0xFF, pgn_low, pgn_mid, pgn_high]
+    [
+        CLEAR_TO_SEND,
+        count,
+        next,
+        FILLER,
+        FILLER,
+        pgn_low,
+        pgn_mid,
+        pgn_high,
+    ]
 }
 
 /// The data of an abort for this reason.
 pub(crate) fn abort_bytes(reason: u8, pgn: u32) -> [u8; 8]
-    ensures { result ≡ 255 ∷ reason ∷ 255 ∷ 255 ∷ 255 ∷ little_bytes 3 pgn }
+    ensures { result ≡ connection_abort ∷ reason ∷ filler ∷ filler ∷ filler ∷ little_bytes 3 pgn }
 {
     let [pgn_low, pgn_mid, pgn_high, _] = pgn.to_le_bytes();
-    [255, reason, 0xFF, 0xFF, 0xFF, pgn_low, pgn_mid, pgn_high]
+    [
+        CONNECTION_ABORT,
+        reason,
+        FILLER,
+        FILLER,
+        FILLER,
+        pgn_low,
+        pgn_mid,
+        pgn_high,
+    ]
 }
 
 /// The data of a packet: its number, then seven bytes of the message.
