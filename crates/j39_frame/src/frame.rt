@@ -28,7 +28,8 @@ impl Model for Frame {
 
     ghost view = { λ f. record { stamp = stamp_micros f.stamp; id = id_raw f.id; bytes = f.bytes.items } };
 
-    ghost invariant = { λ f. IsFrame (record { stamp = stamp_micros f.stamp; id = id_raw f.id; bytes = f.bytes.items }) };
+    ghost invariant = { λ f. IsFrame (record
+        { stamp = stamp_micros f.stamp; id = id_raw f.id; bytes = f.bytes.items }) };
 }
 
 impl Frame {

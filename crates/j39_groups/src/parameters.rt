@@ -35,10 +35,10 @@ pub(crate) fn put_built_in<W: Sink>(sink: &mut W) -> Result<(), DeviceFault>
     ensures err { OnErr result (AppendsFront (W.held sink.old) (W.held sink.new) (rows_text the_table)) }
     ensures mark { Marks result (W.has_failed sink.old) (W.has_failed sink.new) }
 {
-    put_rows(rows(), sink)
+    put_parameters_of(rows(), sink)
 }
 
-fn put_rows<W: Sink>(rows: &[Row], sink: &mut W) -> Result<(), DeviceFault>
+fn put_parameters_of<W: Sink>(rows: &[Row], sink: &mut W) -> Result<(), DeviceFault>
     ensures ok { OnOk result (Appends (W.held sink.old) (W.held sink.new)
         (flat_map (λ row. row_text (row_record row)) rows.now)) }
     ensures err { OnErr result (AppendsFront (W.held sink.old) (W.held sink.new)

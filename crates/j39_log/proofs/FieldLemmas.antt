@@ -7,43 +7,43 @@ use Rattle.std.proofs.lemmas.List.Elements.{recursion_from_All, All-from_get_or}
 use Rattle.std.proofs.lemmas.List.Sums.{prefix_len_passes, prefix_len_stops, prefix_len-le-length}
 use Rattle.std.proofs.Math.Seq.{drop-cons}
 use Rattle.j39_text.specs.Chars.{is_space, is_not_space}
-use Rattle.j39_log.specs.Fields.{with_byte, fields_of, IsSpaces, IsField, IsAfterField, TakesField, IsSpaced}
+use Rattle.j39_log.specs.Fields.{with_byte, fields_in, IsSpaces, IsField, IsAfterField, TakesField, IsSpaced}
 
 -- spaces before a text change no field
-pub fields_of-spaces : (spaces text : List ℕ) → IsSpaces spaces → fields_of (spaces ++ text) ≡ fields_of text
-unfolding fields_of
-fields_of-spaces [] text h = refl
-fields_of-spaces (b ∷ bs) text h = rw h.0 (fields_of-spaces bs text h.1)
+pub fields_in-spaces : (spaces text : List ℕ) → IsSpaces spaces → fields_in (spaces ++ text) ≡ fields_in text
+unfolding fields_in
+fields_in-spaces [] text h = refl
+fields_in-spaces (b ∷ bs) text h = rw h.0 (fields_in-spaces bs text h.1)
 
 with_byte-space : (b : ℕ) (bs : List ℕ) (fs : List (List ℕ)) → with_byte b (32 ∷ bs) fs ≡ (b ∷ []) ∷ fs
 with_byte-space b bs [] = refl
 with_byte-space b bs (f ∷ fs) = refl
 
 -- a field before a space or the end
-pub fields_of-field : (field rest : List ℕ) → IsField field → IsAfterField rest → fields_of (field ++ rest) ≡ field ∷ fields_of rest
-unfolding fields_of
-fields_of-field [] rest h after = absurd (omega (arith, h.0))
-fields_of-field (b ∷ []) [] h after = rw h.1.0 refl
-fields_of-field (b ∷ []) (c ∷ rest) h after = rw (h.1.0, after) (with_byte-space b rest (fields_of rest))
-fields_of-field (b ∷ c ∷ bs) rest h after =
+pub fields_in-field : (field rest : List ℕ) → IsField field → IsAfterField rest → fields_in (field ++ rest) ≡ field ∷ fields_in rest
+unfolding fields_in
+fields_in-field [] rest h after = absurd (omega (arith, h.0))
+fields_in-field (b ∷ []) [] h after = rw h.1.0 refl
+fields_in-field (b ∷ []) (c ∷ rest) h after = rw (h.1.0, after) (with_byte-space b rest (fields_in rest))
+fields_in-field (b ∷ c ∷ bs) rest h after =
     let inner : IsField (c ∷ bs) = (omega arith, h.1.1) in
-    rw h.1.0 (ap (with_byte b (c ∷ (bs ++ rest))) (fields_of-field (c ∷ bs) rest inner after) ∙ rw h.1.1.0 refl)
+    rw h.1.0 (ap (with_byte b (c ∷ (bs ++ rest))) (fields_in-field (c ∷ bs) rest inner after) ∙ rw h.1.1.0 refl)
 
 -- a text begins with its first field
-pub fields_of-takes : (text field rest : List ℕ) → TakesField text field rest → fields_of text ≡ field ∷ fields_of rest
-fields_of-takes text field rest h =
-    ap fields_of h.text_is ∙ fields_of-spaces h.spaces (field ++ rest) h.spaces_are ∙ fields_of-field field rest h.field_is h.rest_is
+pub fields_in-takes : (text field rest : List ℕ) → TakesField text field rest → fields_in text ≡ field ∷ fields_in rest
+fields_in-takes text field rest h =
+    ap fields_in h.text_is ∙ fields_in-spaces h.spaces (field ++ rest) h.spaces_are ∙ fields_in-field field rest h.field_is h.rest_is
 
-fields_of-all_spaces : (text : List ℕ) → IsSpaces text → fields_of text ≡ []
-unfolding fields_of
-fields_of-all_spaces [] h = refl
-fields_of-all_spaces (b ∷ bs) h = rw h.0 (fields_of-all_spaces bs h.1)
+fields_in-all_spaces : (text : List ℕ) → IsSpaces text → fields_in text ≡ []
+unfolding fields_in
+fields_in-all_spaces [] h = refl
+fields_in-all_spaces (b ∷ bs) h = rw h.0 (fields_in-all_spaces bs h.1)
 
 -- a text has no other fields
-pub fields_of-spaced : (fs : List (List ℕ)) (text : List ℕ) → IsSpaced fs text → fields_of text ≡ fs
-fields_of-spaced [] text h = fields_of-all_spaces text h
-fields_of-spaced (f ∷ fs) text h =
-    fields_of-takes text f h.0 h.1 ∙ ap (λ gs. f ∷ gs) (fields_of-spaced fs h.0 h.2)
+pub fields_in-spaced : (fs : List (List ℕ)) (text : List ℕ) → IsSpaced fs text → fields_in text ≡ fs
+fields_in-spaced [] text h = fields_in-all_spaces text h
+fields_in-spaced (f ∷ fs) text h =
+    fields_in-takes text f h.0 h.1 ∙ ap (λ gs. f ∷ gs) (fields_in-spaced fs h.0 h.2)
 
 -- a space is not before a text that begins with another byte
 no_spaces : (c : ℕ) (cs spaces xs : List ℕ) → c == 32 ≡ false → c ∷ cs ≡ spaces ++ xs → IsSpaces spaces → spaces ≡ []
@@ -76,13 +76,13 @@ spaced_with_space b bs (f ∷ fs) h spaced =
     (spaced.0, record { spaces = b ∷ t.spaces; text_is = ap (λ xs. b ∷ xs) t.text_is; spaces_are = (h, t.spaces_are); field_is = t.field_is; rest_is = t.rest_is }, spaced.2)
 
 -- a text is its fields with spaces between
-pub IsSpaced-fields_of : (text : List ℕ) → IsSpaced (fields_of text) text
-unfolding fields_of
-IsSpaced-fields_of [] = tt
-IsSpaced-fields_of (b ∷ bs) =
-    cond_both (b == 32) (fields_of bs) (with_byte b bs (fields_of bs)) (λ fs. IsSpaced fs (b ∷ bs))
-    (λ e. spaced_with_space b bs (fields_of bs) (eqb-true b 32 e) (IsSpaced-fields_of bs))
-    (λ e. spaced_with_byte b bs (fields_of bs) e (IsSpaced-fields_of bs))
+pub IsSpaced-fields_in : (text : List ℕ) → IsSpaced (fields_in text) text
+unfolding fields_in
+IsSpaced-fields_in [] = tt
+IsSpaced-fields_in (b ∷ bs) =
+    cond_both (b == 32) (fields_in bs) (with_byte b bs (fields_in bs)) (λ fs. IsSpaced fs (b ∷ bs))
+    (λ e. spaced_with_space b bs (fields_in bs) (eqb-true b 32 e) (IsSpaced-fields_in bs))
+    (λ e. spaced_with_byte b bs (fields_in bs) e (IsSpaced-fields_in bs))
 
 -- ---- the first field by index
 
@@ -128,8 +128,8 @@ IsSpaces-all text n p past =
 
 -- what the first field leaves of the fields
 pub first_field : (text : List ℕ) (n m : ℕ) → n ≡ prefix_len is_space text → m ≡ prefix_len is_not_space (drop n text)
-    → n < length text → fields_of text ≡ take m (drop n text) ∷ fields_of (drop m (drop n text))
-first_field text n m p q below = fields_of-takes text _ _ (TakesField-cut text n m p q below)
+    → n < length text → fields_in text ≡ take m (drop n text) ∷ fields_in (drop m (drop n text))
+first_field text n m p q below = fields_in-takes text _ _ (TakesField-cut text n m p q below)
 
-pub no_field : (text : List ℕ) (n : ℕ) → n ≡ prefix_len is_space text → length text ≤ n → fields_of text ≡ []
-no_field text n p past = fields_of-all_spaces text (IsSpaces-all text n p past)
+pub no_field : (text : List ℕ) (n : ℕ) → n ≡ prefix_len is_space text → length text ≤ n → fields_in text ≡ []
+no_field text n p past = fields_in-all_spaces text (IsSpaces-all text n p past)

@@ -7,12 +7,12 @@ use Rattle.std.proofs.lemmas.Nat.{from_be_bytes-to_be_bytes_4}
 use Rattle.hex.proofs.HexLemmas.{decode_of-same}
 use Rattle.hex.specs.Hex.{decode_of}
 use Rattle.j39_frame.specs.Frame.{FrameRecord}
-use Rattle.j39_log.specs.Fields.{fields_of, IsSpaced}
+use Rattle.j39_log.specs.Fields.{fields_in, IsSpaced}
 use Rattle.j39_log.specs.Text.{IsStampText, IsFrameText}
 use Rattle.j39_log.specs.Line.{IsBody, HasParts, IsFrameLine, IsOtherLine, IsBlankLine, IsFlags}
 use Rattle.j39_log.specs.Bus.{IsBusName}
 use Rattle.j39_log.specs.Spelled.{Spelled, frame, other, unread, blank, Spells}
-use Rattle.j39_log.proofs.FieldLemmas.{fields_of-spaced, IsSpaced-fields_of}
+use Rattle.j39_log.proofs.FieldLemmas.{fields_in-spaced, IsSpaced-fields_in}
 use Rattle.j39_log.proofs.TextLemmas.{one_stamp, frame_only}
 
 snoc_front : (a b : List ℕ) → a ++ (13 ∷ []) ≡ b ++ (13 ∷ []) → a ≡ b
@@ -35,23 +35,23 @@ one_body line a b p q =
     ]
 
 -- the fields of a line's body are its parts
-pub fields_of-parts : (line body bus third : List ℕ) (stamp : ℕ) (h : HasParts line bus third stamp) → IsBody line body → fields_of body ≡ h.first ∷ bus ∷ third ∷ h.flags
-fields_of-parts line body bus third stamp h is =
-    ap fields_of (one_body line body h.body is h.body_is) ∙ fields_of-spaced (h.first ∷ bus ∷ third ∷ h.flags) h.body h.fields_are
+pub fields_in-parts : (line body bus third : List ℕ) (stamp : ℕ) (h : HasParts line bus third stamp) → IsBody line body → fields_in body ≡ h.first ∷ bus ∷ third ∷ h.flags
+fields_in-parts line body bus third stamp h is =
+    ap fields_in (one_body line body h.body is h.body_is) ∙ fields_in-spaced (h.first ∷ bus ∷ third ∷ h.flags) h.body h.fields_are
 
-pub fields_of-blank : (line body : List ℕ) → IsBlankLine line → IsBody line body → fields_of body ≡ []
-fields_of-blank line body h is = ap fields_of (one_body line body h.body is h.body_is) ∙ fields_of-spaced [] h.body h.fields_are
+pub fields_in-blank : (line body : List ℕ) → IsBlankLine line → IsBody line body → fields_in body ≡ []
+fields_in-blank line body h is = ap fields_in (one_body line body h.body is h.body_is) ∙ fields_in-spaced [] h.body h.fields_are
 
 pub blank_has_no_parts : (line bus third : List ℕ) (stamp : ℕ) → IsBlankLine line → HasParts line bus third stamp → ⊥
 blank_has_no_parts line bus third stamp h p =
-    let e = fields_of-blank line p.body h p.body_is in
-    let f = fields_of-parts line p.body bus third stamp p p.body_is in
+    let e = fields_in-blank line p.body h p.body_is in
+    let f = fields_in-parts line p.body bus third stamp p p.body_is in
     cc
 
 -- a line has one set of parts
 pub one_bus : (line b b' t t' : List ℕ) (m n : ℕ) → HasParts line b t m → HasParts line b' t' n → (b ≡ b') × (t ≡ t') × (m ≡ n)
 one_bus line b b' t t' m n p q =
-    let e = sym (fields_of-parts line p.body b t m p p.body_is) ∙ fields_of-parts line p.body b' t' n q p.body_is in
+    let e = sym (fields_in-parts line p.body b t m p p.body_is) ∙ fields_in-parts line p.body b' t' n q p.body_is in
     let first : p.first ≡ q.first = cc in
     (cc, cc, one_stamp q.first m n (subst (λ x. IsStampText x m) first p.stamp_is) q.stamp_is)
 
@@ -81,36 +81,36 @@ one_frame_line line b b' f g p q =
 
 -- ---- what the fields of the body say of the line
 
-pub is_blank : (line body : List ℕ) → length line ≤ 256 → IsBody line body → fields_of body ≡ [] → IsBlankLine line
+pub is_blank : (line body : List ℕ) → length line ≤ 256 → IsBody line body → fields_in body ≡ [] → IsBlankLine line
 is_blank line body short is e =
-    record { short = short; body = body; body_is = is; fields_are = subst (λ fs. IsSpaced fs body) e (IsSpaced-fields_of body) }
+    record { short = short; body = body; body_is = is; fields_are = subst (λ fs. IsSpaced fs body) e (IsSpaced-fields_in body) }
 
 pub has_parts : (line body first bus third : List ℕ) (flags : List (List ℕ)) (stamp : ℕ) → length line ≤ 256 → IsBody line body
-    → fields_of body ≡ first ∷ bus ∷ third ∷ flags → IsFlags flags → IsStampText first stamp → IsBusName bus → HasParts line bus third stamp
+    → fields_in body ≡ first ∷ bus ∷ third ∷ flags → IsFlags flags → IsStampText first stamp → IsBusName bus → HasParts line bus third stamp
 has_parts line body first bus third flags stamp short is e flag text name =
-    let spaced : IsSpaced (first ∷ bus ∷ third ∷ flags) body = subst (λ fs. IsSpaced fs body) e (IsSpaced-fields_of body) in
+    let spaced : IsSpaced (first ∷ bus ∷ third ∷ flags) body = subst (λ fs. IsSpaced fs body) e (IsSpaced-fields_in body) in
     record { short = short; body = body; body_is = is; first = first; flags = flags; fields_are = spaced; stamp_is = text; bus_is = name; flags_are = flag }
 
 -- the line is neither blank nor has a frame's parts
 abbrev pub HasNoParts : List ℕ → Type 0
 HasNoParts line = ((bus third : List ℕ) (stamp : ℕ) → HasParts line bus third stamp → ⊥) × (IsBlankLine line → ⊥)
 
-pub odd_has_no_parts : (line body : List ℕ) → IsBody line body → fields_of body ≢ []
-    → ((a b c : List ℕ) (flags : List (List ℕ)) → IsFlags flags → fields_of body ≢ a ∷ b ∷ c ∷ flags) → HasNoParts line
+pub odd_has_no_parts : (line body : List ℕ) → IsBody line body → fields_in body ≢ []
+    → ((a b c : List ℕ) (flags : List (List ℕ)) → IsFlags flags → fields_in body ≢ a ∷ b ∷ c ∷ flags) → HasNoParts line
 odd_has_no_parts line body is some h = (
-  λ bus third stamp p. h p.first bus third p.flags p.flags_are (fields_of-parts line body bus third stamp p is),
-  λ b. some (fields_of-blank line body b is),
+  λ bus third stamp p. h p.first bus third p.flags p.flags_are (fields_in-parts line body bus third stamp p is),
+  λ b. some (fields_in-blank line body b is),
 )
 
-pub three_has_no_parts : (line body first bus third : List ℕ) (flags : List (List ℕ)) → IsBody line body → fields_of body ≡ first ∷ bus ∷ third ∷ flags
+pub three_has_no_parts : (line body first bus third : List ℕ) (flags : List (List ℕ)) → IsBody line body → fields_in body ≡ first ∷ bus ∷ third ∷ flags
     → ((s : ℕ) → IsStampText first s → IsBusName bus → ⊥) → HasNoParts line
 three_has_no_parts line body first bus third flags is e h = (
   λ b t s p.
-      let same = sym (fields_of-parts line body b t s p is) ∙ e in
+      let same = sym (fields_in-parts line body b t s p is) ∙ e in
       let firsts : p.first ≡ first = cc in
       let buses : b ≡ bus = cc in
       h s (subst (λ x. IsStampText x s) firsts p.stamp_is) (subst IsBusName buses p.bus_is),
-  λ b. let none = sym (fields_of-blank line body b is) ∙ e in cc,
+  λ b. let none = sym (fields_in-blank line body b is) ∙ e in cc,
 )
 
 pub no_frame_from : (line bus third : List ℕ) (stamp : ℕ) → HasParts line bus third stamp → ((id : ℕ) (bytes : List ℕ) → IsFrameText third id bytes → ⊥)

@@ -37,6 +37,6 @@ with_byte b (c ∷ bs) [] = (b ∷ []) ∷ []
 with_byte b (c ∷ bs) (f ∷ fs) = if c == space then (b ∷ []) ∷ f ∷ fs else (b ∷ f) ∷ fs
 
 -- the longest runs of bytes other than spaces
-unfoldable pub fields_of : List ℕ → List (List ℕ)
-fields_of [] = []
-fields_of (b ∷ bs) = if b == space then fields_of bs else with_byte b bs (fields_of bs)
+unfoldable pub fields_in : List ℕ → List (List ℕ)
+fields_in [] = []
+fields_in (b ∷ bs) = if b == space then fields_in bs else with_byte b bs (fields_in bs)

@@ -9,4 +9,5 @@ use Rattle.j39_log.specs.declared.line.LineParts.TheVariants.{Blank, Three, Unre
 abbrev pub HasReadParts : LineParts → List ℕ → Type 0
 HasReadParts Blank line = IsBlankLine line
 HasReadParts (Three stamp bus third) line = HasParts line bus.now third.now (stamp_micros stamp)
-HasReadParts Unread line = ((bus third : List ℕ) (stamp : ℕ) → HasParts line bus third stamp → ⊥) × (IsBlankLine line → ⊥)
+HasReadParts Unread line = ((bus third : List ℕ) (stamp : ℕ) → HasParts line bus third stamp → ⊥)
+    × (IsBlankLine line → ⊥)

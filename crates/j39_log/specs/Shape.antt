@@ -8,4 +8,5 @@ use Rattle.j39_log.specs.Line.{IsFlags}
 abbrev pub HasShape : Shape → List (List ℕ) → Type 0
 HasShape Blank fields = fields ≡ []
 HasShape (Three a b c) fields = (flags : List (List ℕ)) × IsFlags flags × (fields ≡ a.now ∷ b.now ∷ c.now ∷ flags)
-HasShape Odd fields = (fields ≢ []) × ((a b c : List ℕ) (flags : List (List ℕ)) → IsFlags flags → fields ≢ a ∷ b ∷ c ∷ flags)
+HasShape Odd fields = (fields ≢ []) × ((a b c : List ℕ) (flags : List (List ℕ)) → IsFlags flags
+    → fields ≢ a ∷ b ∷ c ∷ flags)

@@ -4,4 +4,5 @@ use Rattle.j39_text.specs.Printing.{last_digits}
 
 -- `(`, seconds in ten digits, `.`, microseconds in six digits, `)`
 abbrev pub stamp_text : ℕ → List ℕ
-stamp_text stamp = codes "(" ++ last_digits 10 (stamp / 10 ^ 6) ++ codes "." ++ last_digits 6 (stamp % 10 ^ 6) ++ codes ")"
+stamp_text stamp = codes "(" ++ last_digits 10 (stamp / 10 ^ 6) ++ codes "." ++ last_digits 6 (stamp % 10 ^ 6)
+    ++ codes ")"

@@ -2,7 +2,7 @@
 ghost use Rattle.std.specs.Prelude.{◌≡◌, ◌≢◌, ℕ, List, [], ◌∷◌, ◌≤◌, ◌↔◌, ◌⊎◌, IsTrue, length, MatchOption, codes};
 ghost use Rattle.std.specs.List.{prefix_len};
 ghost use Rattle.j39_text.specs.Chars.{is_space, is_not_space};
-ghost use Rattle.j39_log.specs.Fields.{fields_of};
+ghost use Rattle.j39_log.specs.Fields.{fields_in};
 ghost use Rattle.j39_log.specs.Line.{IsFlags};
 ghost use Rattle.j39_log.specs.Shape.{HasShape};
 
@@ -15,7 +15,7 @@ pub(crate) enum Shape<'a> {
 
 /// The fields of a text: three, and after them at most an `R` or a `T`.
 pub(crate) fn shape_of(text: &[u8]) -> Shape<'_>
-    ensures { HasShape result (fields_of text.now) }
+    ensures { HasShape result (fields_in text.now) }
 {
     let Some((first, rest)) = next_field(text) else {
         return Shape::Blank;
@@ -35,7 +35,7 @@ pub(crate) fn shape_of(text: &[u8]) -> Shape<'_>
 
 /// Whether the fields of a text are at most an `R` or a `T`.
 fn has_flags(text: &[u8]) -> bool
-    ensures { IsTrue result ↔ IsFlags (fields_of text.now) }
+    ensures { IsTrue result ↔ IsFlags (fields_in text.now) }
 {
     match next_field(text) {
         None => true,
@@ -52,8 +52,8 @@ fn is_flag(field: &[u8]) -> bool
 /// The first field and what follows it.
 #[tactic(auto, using(crate::proofs::FieldLemmas::no_field))]
 fn next_field(text: &[u8]) -> Option<(&[u8], &[u8])>
-    ensures { MatchOption result (fields_of text.now ≡ [])
-        (λ found. fields_of text.now ≡ found.0.now ∷ fields_of found.1.now) }
+    ensures { MatchOption result (fields_in text.now ≡ [])
+        (λ found. fields_in text.now ≡ found.0.now ∷ fields_in found.1.now) }
 {
     let start = spaces_len(text);
     if start >= text.len() {

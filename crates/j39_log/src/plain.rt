@@ -45,7 +45,8 @@ pub(crate) fn read_plain(line: &[u8]) -> Line<'_>
 /// The stamp of a line, its bus and what follows the bus and a space.
 #[inline(always)]
 pub(crate) fn parts_of(line: &[u8]) -> Option<(Stamp, &[u8], &[u8])>
-    ensures { IfSome result (λ found. IsField found.2.now → HasParts line.now found.1.now found.2.now (stamp_micros found.0)) }
+    ensures { IfSome result (λ found. IsField found.2.now
+        → HasParts line.now found.1.now found.2.now (stamp_micros found.0)) }
 {
     if line.len() > LINE_LIMIT {
         return None;
@@ -83,7 +84,8 @@ fn stamp_of(front: &[u8; 18]) -> Option<Stamp>
 /// a zero, and three pairs.
 #[inline(always)]
 fn micros_of(first: u8, p: &[u8; 8]) -> u64
-    ensures { result ≡ first * 10 ^ 15 + get_or p.now 0 0 * 10 ^ 13 + get_or p.now 1 0 * 10 ^ 11 + get_or p.now 2 0 * 10 ^ 9
+    ensures { result
+        ≡ first * 10 ^ 15 + get_or p.now 0 0 * 10 ^ 13 + get_or p.now 1 0 * 10 ^ 11 + get_or p.now 2 0 * 10 ^ 9
         + get_or p.now 3 0 * 10 ^ 7 + get_or p.now 4 0 * 10 ^ 5 + get_or p.now 5 0 * 10 ^ 4 + get_or p.now 6 0 * 100 + get_or p.now 7 0 }
 {
     let front = ((u64::from(first) * 100 + u64::from(p[0])) * 100 + u64::from(p[1])) * 10_000;

@@ -86,7 +86,8 @@ impl Splitter {
     /// The last line, where bytes stand after the last newline. Afterwards the splitter is as new.
     pub fn finish(&mut self) -> Option<RawLine<'_>>
         ensures line { (begun : List ℕ) → HasBegun self.old begun → AnswersEnd begun result }
-        ensures* after { sem 𝓛 (Rests the_row self.entry (λ n. (begun : List ℕ) → HasBegun self.old begun → HasBegun n [])) }
+        ensures* after { sem 𝓛 (Rests the_row self.entry (λ n. (begun : List ℕ) → HasBegun self.old begun
+            → HasBegun n [])) }
     {
         let has_line = self.end();
         self.last(has_line)
@@ -149,7 +150,8 @@ impl Splitter {
         requires { StepFits step piece.now }
         ensures count { result.0 ≤ length piece.now }
         ensures some { 0 < length piece.now → 0 < result.0 }
-        ensures line { (begun : List ℕ) → Steps step.entry begun piece.now self.now → AnswersPiece begun piece.now result.0 result.1 }
+        ensures line { (begun : List ℕ) → Steps step.entry begun piece.now self.now
+            → AnswersPiece begun piece.now result.0 result.1 }
         ensures after { (begun : List ℕ) → Steps step.entry begun piece.now self.now
             → MatchOption result.1 (HasBegun self.now (begun ++ piece.now)) (λ _. HasBegun self.now []) }
     {

@@ -61,7 +61,8 @@ fn stamp_with(text: &[u8], cut: usize) -> Option<Stamp>
 
 pub(crate) fn stamp_of(text: &[u8]) -> Option<Stamp>
     ensures found { IfSome result (λ stamp. IsStampText text.now (stamp_micros stamp)) }
-    ensures only { (micros : ℕ) → IsStampText text.now micros → IsSomeAnd result (λ stamp. stamp_micros stamp ≡ micros) }
+    ensures only { (micros : ℕ) → IsStampText text.now micros
+        → IsSomeAnd result (λ stamp. stamp_micros stamp ≡ micros) }
 {
     match stamp_with(text, 0) {
         Some(stamp) => Some(stamp),
@@ -91,7 +92,8 @@ fn decode(pairs: &[u8], out: &mut [u8]) -> bool
 
 fn id_of(digits: &[u8]) -> Option<Id>
     requires { length digits.now ≡ 8 }
-    ensures found { IfSome result (λ id. (decode_of digits.now ≡ Ok (to_be_bytes w32 (id_raw id))) × (id_raw id < 2 ^ 29)) }
+    ensures found { IfSome result (λ id. (decode_of digits.now ≡ Ok (to_be_bytes w32 (id_raw id)))
+        × (id_raw id < 2 ^ 29)) }
     ensures only { (raw : ℕ) → decode_of digits.now ≡ Ok (to_be_bytes w32 raw) → raw < 2 ^ 29
         → IsSomeAnd result (λ id. id_raw id ≡ raw) }
 {

@@ -8,7 +8,8 @@ ghost use Rattle.std.specs.Str.Parse.{AllDigits, digits_value};
 pub fn number(digits: &[u8], radix: u32) -> Option<u64>
     requires some { 2 ≤ radix }
     requires known { radix ≤ 36 }
-    ensures { SomeIff result (AllDigits radix digits.now × (digits_value radix digits.now < 2 ^ 64)) (digits_value radix digits.now) }
+    ensures { SomeIff result (AllDigits radix digits.now × (digits_value radix digits.now < 2 ^ 64))
+        (digits_value radix digits.now) }
 {
     let mut value = 0u64;
     for &digit in digits {

@@ -3,7 +3,7 @@ use Rattle.std.proofs.Common.{◌≡◌, ℕ, ◌<◌, not, Bool, true, false, �
 use Rattle.std.proofs.lemmas.Bool.{cond_both}
 use Rattle.j39_transport.specs.Key.{Directed}
 use Rattle.j39_transport.specs.Message.{MessageRecord}
-use Rattle.j39_transport.specs.Net.{World, with_delivery, replied, carried, Event, SenderTick, ReceiverTick, Next, Third, is_over, is_busy_with, happens, run, start, of_source, AreBetween, AreAlone, TransfersAloneLaw}
+use Rattle.j39_transport.specs.Net.{World, with_delivery, replied, carried, NetEvent, SenderTick, ReceiverTick, Next, Third, is_over, is_busy_with, happens, run, start, of_source, AreBetween, AreAlone, TransfersAloneLaw}
 use Rattle.j39_transport.specs.Receiving.{RecvResult, partner_of, result_of, recv_step}
 use Rattle.j39_transport.specs.Reception.{Reaction, takes_signal, takes_tick}
 use Rattle.j39_transport.specs.Sending.{SenderRecord, SendResult, ticks_in, send_step, sent_by}
@@ -40,13 +40,13 @@ carried_all source to w r (Some a) now false answer_lost found f t st own h =
     (replied_all source source w r.after x now answer_lost
     (keeps_signal (Is source) (Directed w.sender.message.source w.receiver.own) (Some a) now found w.receiver.session n.source_is h.session_is) h)
 
-abbrev IsNoThird : Event → Type 0
+abbrev IsNoThird : NetEvent → Type 0
 IsNoThird (SenderTick now a b c) = Unit {0}
 IsNoThird (ReceiverTick now a) = Unit {0}
 IsNoThird (Next m) = Unit {0}
 IsNoThird (Third f now a b c d) = ⊥
 
-step_all : (source to : ℕ) (w : World) (e : Event) → source < 254 → to < 254 → Stands source to w → IsNoThird e → IsAll source w → IsAll source (happens w e)
+step_all : (source to : ℕ) (w : World) (e : NetEvent) → source < 254 → to < 254 → Stands source to w → IsNoThird e → IsAll source w → IsAll source (happens w e)
 unfolding happens send_step recv_step
 step_all source to w (SenderTick now is_lost answer_lost found) f t st a h =
     let k : Ticked w.sender (ticks_in w.sender.state now w.sender) = ticked w.sender w.sender.state now refl in
@@ -57,14 +57,14 @@ step_all source to w (Next m) f t st a h = cond_both (is_over w.sender.state && 
     (λ c. record { session_is = h.session_is; delivered_is = h.delivered_is }) (λ c. h)
 step_all source to w (Third x now b c d e) f t st a h = absurd a
 
-run_all : (source to : ℕ) (es : List Event) (w : World) → source < 254 → to < 254 → AreBetween source to es → AreAlone es → Stands source to w → IsAll source w → IsAll source (run es w)
+run_all : (source to : ℕ) (es : List NetEvent) (w : World) → source < 254 → to < 254 → AreBetween source to es → AreAlone es → Stands source to w → IsAll source w → IsAll source (run es w)
 unfolding run
 run_all source to [] w f t g a st h = h
 run_all source to (SenderTick now x y z ∷ es) w f t g a st h =
-    let e : Event = SenderTick now x y z in
+    let e : NetEvent = SenderTick now x y z in
     run_all source to es (happens w e) f t g a (step_stands source to w e f t tt st) (step_all source to w e f t st tt h)
 run_all source to (ReceiverTick now x ∷ es) w f t g a st h =
-    let e : Event = ReceiverTick now x in
+    let e : NetEvent = ReceiverTick now x in
     run_all source to es (happens w e) f t g a (step_stands source to w e f t tt st) (step_all source to w e f t st tt h)
 run_all source to (Next m ∷ es) w f t g a st h =
     run_all source to es (happens w (Next m)) f t g.1 a (step_stands source to w (Next m) f t g.0 st) (step_all source to w (Next m) f t st tt h)

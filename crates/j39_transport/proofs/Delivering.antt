@@ -6,7 +6,7 @@ use Rattle.j39_transport.specs.Cutting.{ToSend, at_moment}
 use Rattle.j39_transport.specs.Frames.{source_of}
 use Rattle.j39_transport.specs.Key.{Directed}
 use Rattle.j39_transport.specs.Message.{MessageRecord, IsLong}
-use Rattle.j39_transport.specs.Net.{World, with_delivery, handed_back, replied, carried, Event, SenderTick, ReceiverTick, Next, Third, is_done, is_over, is_busy_with, happens, run, start, of_source, Matches, IsFrom, IsThird, AreBetween, TransfersLaw}
+use Rattle.j39_transport.specs.Net.{World, with_delivery, handed_back, replied, carried, NetEvent, SenderTick, ReceiverTick, Next, Third, is_done, is_over, is_busy_with, happens, run, start, of_source, Matches, IsFrom, IsThird, AreBetween, TransfersLaw}
 use Rattle.j39_transport.specs.Receiving.{RecvResult, Heard, said_to, partner_of, result_of, recv_step}
 use Rattle.j39_transport.specs.Reception.{ReceptionRecord, Reaction, quiet, is_from, is_taken, takes_request, takes_data, takes_abort, takes_signal, takes_tick}
 use Rattle.j39_transport.specs.Sending.{SenderRecord, SendResult, ticks_in, send_step, sent_by, new_sender}
@@ -304,13 +304,13 @@ free : (source : ℕ) (o : Option ReceptionRecord) → not (is_busy_with source 
 free source None e = tt
 free source (Some r) e = λ k. absurd (both_ways _ (ap not (eq-eqb source r.message.source (sym k))) e)
 
-abbrev pub FromOf : ℕ → ℕ → Event → Type 0
+abbrev pub FromOf : ℕ → ℕ → NetEvent → Type 0
 FromOf source to (SenderTick now a b c) = Unit {0}
 FromOf source to (ReceiverTick now a) = Unit {0}
 FromOf source to (Next m) = IsFrom source m
 FromOf source to (Third f now a b c d) = IsThird source to f
 
-pub step_stands : (source to : ℕ) (w : World) (e : Event) → source < 254 → to < 254 → FromOf source to e → Stands source to w → Stands source to (happens w e)
+pub step_stands : (source to : ℕ) (w : World) (e : NetEvent) → source < 254 → to < 254 → FromOf source to e → Stands source to w → Stands source to (happens w e)
 unfolding happens send_step new_sender recv_step
 step_stands source to w (SenderTick now is_lost answer_lost found) f t g h =
     let k : Ticked w.sender (ticks_in w.sender.state now w.sender) = ticked w.sender w.sender.state now refl in
@@ -332,7 +332,7 @@ step_stands source to w (Third a now sender_loses receiver_loses answer_lost fou
     (sym (third_unheard w.sender a now sender_loses (λ e. g.not_to (e ∙ h.ends_are.destination_is))))
     (third_stands source to w a now receiver_loses answer_lost found t g h)
 
-run_stands : (source to : ℕ) (es : List Event) (w : World) → source < 254 → to < 254 → AreBetween source to es → Stands source to w → Stands source to (run es w)
+run_stands : (source to : ℕ) (es : List NetEvent) (w : World) → source < 254 → to < 254 → AreBetween source to es → Stands source to w → Stands source to (run es w)
 unfolding run
 run_stands source to [] w f t g h = h
 run_stands source to (SenderTick now a b c ∷ es) w f t g h = run_stands source to es (happens w (SenderTick now a b c)) f t g (step_stands source to w (SenderTick now a b c) f t tt h)

@@ -7,7 +7,7 @@ use Rattle.j39_transport.specs.Frames.{source_of}
 use Rattle.j39_transport.specs.Key.{Directed}
 use Rattle.j39_transport.specs.Liveness.{sender_ticks, IsPrompt, HasCompleted, CompletesLaw}
 use Rattle.j39_transport.specs.Message.{MessageRecord, IsLong, packets_of}
-use Rattle.j39_transport.specs.Net.{World, with_delivery, handed_back, replied, carried, Event, SenderTick, ReceiverTick, Next, Third, is_busy_with, happens, run, of_source, IsThird}
+use Rattle.j39_transport.specs.Net.{World, with_delivery, handed_back, replied, carried, NetEvent, SenderTick, ReceiverTick, Next, Third, is_busy_with, happens, run, of_source, IsThird}
 use Rattle.j39_transport.specs.Receiving.{RecvResult, Heard, said_to, partner_of, result_of, recv_step, new_receiver}
 use Rattle.j39_transport.specs.Reception.{ReceptionRecord, Reaction, quiet, answers, begun, granted_at, grants, asks_again, delivers_message, goes_on, takes_packet, is_from, takes_request, takes_data, takes_signal, limit_of, takes_tick}
 use Rattle.j39_transport.specs.Sending.{SenderRecord, SendState, SendResult, Waiting, Sending, Done, is_waiting, is_running, may_name, silent, waits, sends_packet, ticks_in, cleared, acknowledged, aborted, hears, send_step, sent_by, new_sender}
@@ -64,7 +64,7 @@ unfolding happens send_step ticks_in
 rests_tick source m mine w now a b c h =
     subst (λ (r : SendResult). Rests source m mine (carried w r.after (sent_by w.sender r.says) now a b c)) (ap (λ (st : SendState). ticks_in st now w.sender) (sym h.done)) h
 
-rests_after : (source to : ℕ) (m : MessageRecord) (mine : List MessageRecord) (es : List Event) (w : World) (last : ℕ) → IsPrompt source to last es → Rests source m mine w
+rests_after : (source to : ℕ) (m : MessageRecord) (mine : List MessageRecord) (es : List NetEvent) (w : World) (last : ℕ) → IsPrompt source to last es → Rests source m mine w
     → Rests source m mine (run es w)
 unfolding run happens recv_step
 rests_after source to m mine [] w last p h = h
@@ -288,7 +288,7 @@ not_busy source (Some r) n = not_from source r n
 completed : (source : ℕ) (m : MessageRecord) (old new : World) → Rests source m (of_source source old.delivered) new → HasCompleted source m old new
 completed source m old new h = record { done = h.done; delivered = h.delivered; free = not_busy source new.receiver.session h.others }
 
-goes_through : (to : ℕ) (m : MessageRecord) (mine : List MessageRecord) (es : List Event) (last count : ℕ) (w : World) → m.source < 254 → to < 254 → IsLong m → Sends to m mine last count w
+goes_through : (to : ℕ) (m : MessageRecord) (mine : List MessageRecord) (es : List NetEvent) (last count : ℕ) (w : World) → m.source < 254 → to < 254 → IsLong m → Sends to m mine last count w
     → IsPrompt m.source to last es → packets_of m ≤ count + sender_ticks es → Rests m.source m mine (run es w)
 unfolding run
 goes_through to m mine [] last count w f t l h p n =

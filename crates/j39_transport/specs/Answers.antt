@@ -30,7 +30,8 @@ pub record IsPartial (E : List Event) (i : ℕ) (k : Key) (g : ℕ) : Type 0 whe
 
 -- the frame f after E announces a message, or is a packet that a message takes and still lacks one
 abbrev pub IsTaken : List Event → FrameRecord → Type 0
-IsTaken E f = ((k : Key) × (is_announcement k f ≡ true)) ⊎ ((k : Key) × (g : ℕ) × IsPartial (E ++ Frame f ∷ []) (length E) k g)
+IsTaken E f = ((k : Key) × (is_announcement k f ≡ true))
+    ⊎ ((k : Key) × (g : ℕ) × IsPartial (E ++ Frame f ∷ []) (length E) k g)
 
 abbrev pub NoneWhole : List Event → FrameRecord → Type 0
 NoneWhole E f = (m : MessageRecord) → WholeBy E f m → ⊥

@@ -10,7 +10,8 @@ use Rattle.j39_transport.specs.Message.{MessageRecord, IsMessage}
 -- packets of k, numbered from this number on
 abbrev pub AreNumbered : Key → ℕ → List FrameRecord → Type 0
 AreNumbered k number [] = Unit {0}
-AreNumbered k number (f ∷ fs) = IsTrue (is_packet k f) × (slice_index f.bytes 0 ≡ number) × AreNumbered k (number + 1) fs
+AreNumbered k number (f ∷ fs) = IsTrue (is_packet k f) × (slice_index f.bytes 0 ≡ number)
+    × AreNumbered k (number + 1) fs
 
 -- what packets have behind their numbers, joined
 abbrev pub joined : List FrameRecord → List ℕ
@@ -26,7 +27,8 @@ pub record CarriesAlone (m : MessageRecord) (f : FrameRecord) (others : List Fra
 
 -- from 9 bytes on: an announcement of k that names the size and the group, then its packets numbered 1, 2, .. up to
 -- the announced number, whose joined data are the bytes and fewer than seven more
-pub record CarriesCut (k : Key) (m : MessageRecord) (announcement : FrameRecord) (packets : List FrameRecord) : Type 0 where
+pub record CarriesCut (k : Key) (m : MessageRecord) (announcement : FrameRecord)
+    (packets : List FrameRecord) : Type 0 where
   pub long : 9 ≤ length m.bytes
   pub source : sender k ≡ m.source
   pub announced : IsTrue (is_announcement k announcement)

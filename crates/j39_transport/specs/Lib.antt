@@ -1,32 +1,37 @@
+-- the numbers, frames and messages of the standard
 pub mod Protocol
 pub mod Key
 pub mod Frames
+pub mod Signals
+pub mod Message
+pub mod Cutting
+pub mod Carries
+-- messages put together: which places make one, and what is answered
 pub mod Events
 pub mod Assembly
 pub mod Answers
 pub mod Boxes
-pub mod EventSteps
-pub mod Session
-pub mod Places
-pub mod Steps
-pub mod Stands
-pub mod ShownSession
-pub mod Shown
-pub mod Laws
 pub mod Course
-pub mod Message
-pub mod Carries
-pub mod Cutting
+pub mod Laws
+-- messages that are sent and received
 pub mod Broadcasting
-pub mod Polling
 pub mod Broadcasts
-pub mod Signals
-pub mod ShownSignal
 pub mod Sending
-pub mod ShownSender
 pub mod Reception
 pub mod Receiving
 pub mod Received
-pub mod ShownReceiver
 pub mod Net
 pub mod Liveness
+-- what the code's values show
+pub mod Session
+pub mod Places
+pub mod Stands
+pub mod Shown
+pub mod ShownSession
+pub mod ShownSignal
+pub mod ShownSender
+pub mod ShownReceiver
+-- the code's steps, below the rules
+pub mod Steps
+pub mod EventSteps
+pub mod Polling

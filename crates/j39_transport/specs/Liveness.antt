@@ -5,7 +5,7 @@ use Rattle.j39_frame.specs.Frame.{FrameRecord}
 use Rattle.j39_transport.specs.Key.{Key}
 use Rattle.j39_transport.specs.Key as key
 use Rattle.j39_transport.specs.Message.{MessageRecord, IsLong, packets_of}
-use Rattle.j39_transport.specs.Net.{World, Event, SenderTick, ReceiverTick, Next, Third, is_over, is_busy_with, run, of_source, IsFrom, IsThird}
+use Rattle.j39_transport.specs.Net.{World, NetEvent, SenderTick, ReceiverTick, Next, Third, is_over, is_busy_with, run, of_source, IsFrom, IsThird}
 use Rattle.j39_transport.specs.Receiving.{ReceiverRecord, RecvEvent, recv_step, new_receiver}
 use Rattle.j39_transport.specs.Receiving as receiver
 use Rattle.j39_transport.specs.Reception.{ReceptionRecord, quiet, takes_signal, takes_tick}
@@ -16,7 +16,7 @@ use Rattle.j39_transport.specs.Signals.{Signal, ClearToSend, Abort, Packet, said
 -- ---- nothing is lost
 
 -- how often the sender is ticked
-abbrev pub sender_ticks : List Event → ℕ
+abbrev pub sender_ticks : List NetEvent → ℕ
 sender_ticks [] = 0
 sender_ticks (SenderTick now is_lost answer_lost found ∷ es) = sender_ticks es + 1
 sender_ticks (ReceiverTick now is_lost ∷ es) = sender_ticks es
@@ -25,7 +25,7 @@ sender_ticks (Third f now a b c d ∷ es) = sender_ticks es
 
 -- after a tick of the sender at the moment last: no frame of the sender is lost and no answer to one, a tick of the
 -- receiver is at most 750 ms (T1) after the last one of the sender, and thirds send what they like
-abbrev pub IsPrompt : ℕ → ℕ → ℕ → List Event → Type 0
+abbrev pub IsPrompt : ℕ → ℕ → ℕ → List NetEvent → Type 0
 IsPrompt source to last [] = Unit {0}
 IsPrompt source to last (SenderTick now is_lost answer_lost found ∷ es) =
     (is_lost ≡ false) × (answer_lost ≡ false) × IsPrompt source to now es
@@ -44,7 +44,7 @@ pub record HasCompleted (source : ℕ) (m : MessageRecord) (old new : World) : T
 abbrev pub CompletesLaw : Type 0
 CompletesLaw = (source to : ℕ) → IsAddress source → IsAddress to → (m : MessageRecord) → IsFrom source m
     → (w : World) → w.sender ≡ new_sender m to → w.receiver ≡ new_receiver to
-    → (now : ℕ) (es : List Event) → IsPrompt source to now es → packets_of m ≤ sender_ticks es
+    → (now : ℕ) (es : List NetEvent) → IsPrompt source to now es → packets_of m ≤ sender_ticks es
     → HasCompleted source m w (run (SenderTick now false false true ∷ es) w)
 
 -- ---- nothing more is heard

@@ -51,11 +51,11 @@ carried w s (Some f) now is_lost answer_lost found =
 -- a tick of the sender, whose frame is lost or not, as is the answer to it, for which there is memory or not; a tick of
 -- the receiver, whose frame is lost or not; the next message; and a frame of a third controller, which the sender loses
 -- or not, and the receiver, whose answer may be lost too
-pub data Event : Type 0 where
-  SenderTick : (now : ℕ) (is_lost answer_lost found : Bool) → Event
-  ReceiverTick : (now : ℕ) (is_lost : Bool) → Event
-  Next : MessageRecord → Event
-  Third : ToSend → (now : ℕ) (sender_loses receiver_loses answer_lost found : Bool) → Event
+pub data NetEvent : Type 0 where
+  SenderTick : (now : ℕ) (is_lost answer_lost found : Bool) → NetEvent
+  ReceiverTick : (now : ℕ) (is_lost : Bool) → NetEvent
+  Next : MessageRecord → NetEvent
+  Third : ToSend → (now : ℕ) (sender_loses receiver_loses answer_lost found : Bool) → NetEvent
 
 abbrev pub is_done : SendState → Bool
 is_done Idle = false
@@ -78,7 +78,7 @@ is_busy_with source (Some r) = is_from source r
 
 -- the rule of use: the next sender takes the place of one that is over, while the receiver has no session of its
 -- source. Each answer of the receiver is on the bus: the sender hears it, also where it goes to a third
-unfoldable pub happens : World → Event → World
+unfoldable pub happens : World → NetEvent → World
 happens w (SenderTick now is_lost answer_lost found) =
     let x : SendResult = send_step w.sender sender.Tick now in
     carried w x.after (sent_by w.sender x.says) now is_lost answer_lost found
@@ -95,7 +95,7 @@ happens w (Next m) =
 happens w (Third f now sender_loses receiver_loses answer_lost found) =
     carried w (handed_back (Some f) now sender_loses w.sender) (Some f) now receiver_loses answer_lost found
 
-unfoldable pub run : List Event → World → World
+unfoldable pub run : List NetEvent → World → World
 run [] w = w
 run (e ∷ es) w = run es (happens w e)
 
@@ -130,7 +130,7 @@ pub record IsThird (source to : ℕ) (f : ToSend) : Type 0 where
   pub not_to : source_of f.id ≢ to
 
 -- each next message is of the source, and each frame that comes from elsewhere is a third's
-abbrev pub AreBetween : ℕ → ℕ → List Event → Type 0
+abbrev pub AreBetween : ℕ → ℕ → List NetEvent → Type 0
 AreBetween source to [] = Unit {0}
 AreBetween source to (SenderTick now a b c ∷ es) = AreBetween source to es
 AreBetween source to (ReceiverTick now a ∷ es) = AreBetween source to es
@@ -138,7 +138,7 @@ AreBetween source to (Next m ∷ es) = IsFrom source m × AreBetween source to e
 AreBetween source to (Third f now a b c d ∷ es) = IsThird source to f × AreBetween source to es
 
 -- no third sends
-abbrev pub AreAlone : List Event → Type 0
+abbrev pub AreAlone : List NetEvent → Type 0
 AreAlone [] = Unit {0}
 AreAlone (SenderTick now a b c ∷ es) = AreAlone es
 AreAlone (ReceiverTick now a ∷ es) = AreAlone es
@@ -147,12 +147,12 @@ AreAlone (Third f now a b c d ∷ es) = ⊥
 
 -- from any address to any, with any messages of 9 to 1,785 bytes, whatever happens: what was delivered from this source
 abbrev pub TransfersLaw : Type 0
-TransfersLaw = (source to : ℕ) → IsAddress source → IsAddress to → (m : MessageRecord) (es : List Event)
+TransfersLaw = (source to : ℕ) → IsAddress source → IsAddress to → (m : MessageRecord) (es : List NetEvent)
     → IsFrom source m → AreBetween source to es
     → Matches (handed (run es (start to m))) (of_source source (run es (start to m)).delivered)
 
 -- where no third sends, that is all that was delivered
 abbrev pub TransfersAloneLaw : Type 0
-TransfersAloneLaw = (source to : ℕ) → IsAddress source → IsAddress to → (m : MessageRecord) (es : List Event)
+TransfersAloneLaw = (source to : ℕ) → IsAddress source → IsAddress to → (m : MessageRecord) (es : List NetEvent)
     → IsFrom source m → AreBetween source to es → AreAlone es
     → of_source source (run es (start to m)).delivered ≡ (run es (start to m)).delivered

@@ -46,6 +46,7 @@ abbrev pub StandsFor : List FrameRecord → ReceiverRecord → Type 0
 StandsFor E r = AreReceived r.own E r.session
 
 -- a receiver that was handed f: the step that it took, and that it stands for one frame more
-pub record HasHeard (old : BoxedReceiver) (f : FrameRecord) (now : ℕ) (answer : Answer) (new : BoxedReceiver) : Type 0 where
+pub record HasHeard (old : BoxedReceiver) (f : FrameRecord) (now : ℕ) (answer : Answer)
+    (new : BoxedReceiver) : Type 0 where
   pub takes : HearStep old f now answer new
   pub stands : (E : List FrameRecord) → StandsFor E old.state → StandsFor (E ++ f ∷ []) new.state

@@ -47,7 +47,8 @@ partner_of (Some r) = r.message.source
 unfoldable pub recv_step : ReceiverRecord → RecvEvent → ℕ → Bool → RecvResult
 recv_step r Tick now found = result_of r.own (partner_of r.session) (takes_tick now r.session)
 recv_step r (Heard f) now found =
-    result_of r.own (source_of f.id) (takes_signal (Directed (source_of f.id) r.own) (said_to r.own f) now found r.session)
+    result_of r.own (source_of f.id) (takes_signal (Directed (source_of f.id) r.own)
+    (said_to r.own f) now found r.session)
 
 -- what a call answers: a frame to send, and a message that is delivered
 pub record Answer : Type 0 where
@@ -58,7 +59,8 @@ abbrev pub answer_in : RecvResult → Answer
 answer_in x = record { sends = x.sends; delivers = x.delivers }
 
 -- the receiver takes the step of the event, and answers this
-pub record RecvStep (old : ReceiverRecord) (event : RecvEvent) (now : ℕ) (answer : Answer) (new : ReceiverRecord) : Type 0 where
+pub record RecvStep (old : ReceiverRecord) (event : RecvEvent) (now : ℕ) (answer : Answer)
+    (new : ReceiverRecord) : Type 0 where
   pub found : Bool
   pub after : new ≡ (recv_step old event now found).after
   pub answers : answer ≡ answer_in (recv_step old event now found)
@@ -71,7 +73,8 @@ pub record BoxedReceiver : Type 0 where
   pub has_box : Bool
 
 -- it takes the step of a frame: memory is found where it has a box; and it has one then, where it had one or has a session
-pub record HearStep (old : BoxedReceiver) (f : FrameRecord) (now : ℕ) (answer : Answer) (new : BoxedReceiver) : Type 0 where
+pub record HearStep (old : BoxedReceiver) (f : FrameRecord) (now : ℕ) (answer : Answer)
+    (new : BoxedReceiver) : Type 0 where
   pub step : RecvStep old.state (Heard f) now answer new.state
   pub finds : old.has_box ≡ true → step.found ≡ true
   pub box_is : new.has_box ≡ (is_some new.state.session || old.has_box)

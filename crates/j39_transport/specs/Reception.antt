@@ -59,7 +59,12 @@ abbrev pub message_of : SessionRecord → MessageRecord
 message_of x = record { source = x.source; pgn = x.group; bytes = take x.size x.bytes }
 
 unfoldable pub delivers_message : SessionRecord → Reaction
-delivers_message x = record { session = None; says = Some (Acknowledgment x.size x.packets x.group); delivers = Some (message_of x) }
+delivers_message x = record {
+  session = None;
+  says = Some (Acknowledgment x.size x.packets x.group);
+  delivers =
+      Some (message_of x);
+}
 
 -- the packet that comes next was appended
 unfoldable pub goes_on : ℕ → ReceptionRecord → Reaction

@@ -101,7 +101,8 @@ cleared count p now s =
 -- an acknowledgment of the message counts once its last packet was sent
 unfoldable pub acknowledged : ℕ → ℕ → SenderRecord → SenderRecord
 acknowledged size packets s =
-    if is_waiting s.state && size == length s.message.bytes && packets == packets_of s.message && s.highest == packets_of s.message
+    if is_waiting s.state && size == length s.message.bytes && packets == packets_of s.message
+    && s.highest == packets_of s.message
     then record s { state = Done }
     else s
 
@@ -133,7 +134,8 @@ abbrev pub sent_by : SenderRecord → Option Signal → Option ToSend
 sent_by s says = option_map (written s.message.source s.destination) says
 
 -- the sender takes the step of the event, and answers this frame
-pub record SendStep (old : SenderRecord) (event : SendEvent) (now : ℕ) (answer : Option ToSend) (new : SenderRecord) : Type 0 where
+pub record SendStep (old : SenderRecord) (event : SendEvent) (now : ℕ) (answer : Option ToSend)
+    (new : SenderRecord) : Type 0 where
   pub after : new ≡ (send_step old event now).after
   pub answers : answer ≡ sent_by old (send_step old event now).says
 

@@ -87,7 +87,8 @@ message_shown m = record { source = m.source; pgn = pgn_raw m.pgn; bytes = m.pay
 abbrev pub answer_of : Reply → Answer
 answer_of reply.Nothing = record { sends = None; delivers = None }
 answer_of (reply.Send id bytes) = record { sends = Some (to_send (id, bytes)); delivers = None }
-answer_of (reply.Delivered m id bytes) = record { sends = Some (to_send (id, bytes)); delivers = Some (message_shown m) }
+answer_of (reply.Delivered m id bytes) = record
+    { sends = Some (to_send (id, bytes)); delivers = Some (message_shown m) }
 
 -- a message that is delivered has this moment
 abbrev pub IsStamped : ℕ → Reply → Type 0

@@ -46,8 +46,10 @@ unfoldable pub control_in : FrameRecord → Option Signal
 control_in f =
     if slice_index f.bytes 0 == request_to_send then request_in f
     else if slice_index f.bytes 0 == broadcast_announce then broadcast_in f
-    else if slice_index f.bytes 0 == clear_to_send then Some (ClearToSend (slice_index f.bytes 1) (slice_index f.bytes 2) (pgn_named f))
-    else if slice_index f.bytes 0 == acknowledgment then Some (Acknowledgment (size_named f) (packets_named f) (pgn_named f))
+    else if slice_index f.bytes 0 == clear_to_send then Some
+    (ClearToSend (slice_index f.bytes 1) (slice_index f.bytes 2) (pgn_named f))
+    else if slice_index f.bytes 0 == acknowledgment then Some
+    (Acknowledgment (size_named f) (packets_named f) (pgn_named f))
     else if slice_index f.bytes 0 == connection_abort then Some (Abort (slice_index f.bytes 1) (pgn_named f))
     else None
 

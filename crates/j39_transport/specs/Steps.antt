@@ -59,7 +59,8 @@ told source limit number joined stamp (Some s) = answer_by source stamp (moves l
 unfoldable pub granted : ℕ → ℕ → Option SessionRecord → Option SessionRecord
 granted group stamp None = None
 granted group stamp (Some s) =
-    if s.group == group then (if nat_lt (s.last + directed_limit) stamp then None else Some (touched stamp s)) else Some s
+    if s.group == group then (if nat_lt (s.last + directed_limit) stamp then None else Some
+    (touched stamp s)) else Some s
 
 unfoldable pub closed : ℕ → Option SessionRecord → Option SessionRecord
 closed group None = None
@@ -99,8 +100,10 @@ after_packet a stamp (Directed s d) number joined =
     record a { directed = with_place (find s d a.directed) (packed directed_limit number joined stamp) a.directed }
 
 abbrev pub answer_to_packet : SessionsRecord → ℕ → ℕ → Key → ℕ → List ℕ → Outcome
-answer_to_packet a source stamp (Broadcast s) number joined = told source broadcast_limit number joined stamp (at a.broadcasts s)
-answer_to_packet a source stamp (Directed s d) number joined = told_at (find s d a.directed) (told source directed_limit number joined stamp) a.directed
+answer_to_packet a source stamp (Broadcast s) number joined =
+    told source broadcast_limit number joined stamp (at a.broadcasts s)
+answer_to_packet a source stamp (Directed s d) number joined =
+    told_at (find s d a.directed) (told source directed_limit number joined stamp) a.directed
 
 -- the key that f goes under, where it is a packet
 abbrev pub key_of : FrameRecord → Key
@@ -115,11 +118,17 @@ state_after a f (Some (RequestToSend size packets most pgn)) =
     announced a (Directed (source_of f.id) (destination_of f.id))
     (opened (Directed (source_of f.id) (destination_of f.id)) pgn size packets f.stamp)
 state_after a f (Some (ClearToSend count next pgn)) =
-    record a { directed = with_place (find (destination_of f.id) (source_of f.id) a.directed) (granted pgn f.stamp) a.directed }
+    record a {
+      directed = with_place (find (destination_of f.id) (source_of f.id) a.directed)
+          (granted pgn f.stamp) a.directed;
+    }
 state_after a f (Some (Acknowledgment size packets pgn)) =
     record a { directed = finished (destination_of f.id) (source_of f.id) pgn a.directed }
 state_after a f (Some (Abort reason pgn)) =
-    record a { directed = finished (source_of f.id) (destination_of f.id) pgn (finished (destination_of f.id) (source_of f.id) pgn a.directed) }
+    record a {
+      directed = finished (source_of f.id) (destination_of f.id) pgn
+          (finished (destination_of f.id) (source_of f.id) pgn a.directed);
+    }
 state_after a f (Some (Packet number joined)) = after_packet a f.stamp (key_of f) number joined
 
 unfoldable pub answer : SessionsRecord → FrameRecord → Option Signal → Outcome
@@ -179,7 +188,8 @@ spare_after a b f (Some (Packet number joined)) = is_whole (answer_to_packet a 0
 -- an announcement that finds no box, where b says whether one lies unused
 abbrev pub LacksBox : SessionsRecord → Bool → FrameRecord → Option Signal → Type 0
 LacksBox a b f None = ⊥
-LacksBox a b f (Some (BroadcastAnnounce size packets pgn)) = (place_for a (Broadcast (source_of f.id)) ≡ None) × (b ≡ false)
+LacksBox a b f (Some (BroadcastAnnounce size packets pgn)) = (place_for a (Broadcast (source_of f.id)) ≡ None)
+    × (b ≡ false)
 LacksBox a b f (Some (RequestToSend size packets most pgn)) =
     (place_for a (Directed (source_of f.id) (destination_of f.id)) ≡ None) × (b ≡ false)
 LacksBox a b f (Some (ClearToSend count next pgn)) = ⊥

@@ -69,9 +69,11 @@ impl<'a> Cut<'a> {
         ensures priority { IfSome result (λ frame. priority_of (id_raw frame.0) ≡ 7) }
 
         // At whatever moments, the frames carry the message as a broadcast.
-        ensures carries { (frames : List FrameRecord) → map without_stamp frames ≡ cut_frames (as_broadcast self.now) self.now
+        ensures carries { (frames : List FrameRecord)
+            → map without_stamp frames ≡ cut_frames (as_broadcast self.now) self.now
             → Carries (as_broadcast self.now) self.now frames }
-        ensures payload { (frames : List FrameRecord) → map without_stamp frames ≡ cut_frames (as_broadcast self.now) self.now
+        ensures payload { (frames : List FrameRecord)
+            → map without_stamp frames ≡ cut_frames (as_broadcast self.now) self.now
             → take (length self.now.bytes) (joined (drop 1 frames)) ≡ self.now.bytes }
     {
         let packets = self.packets();

@@ -15,7 +15,7 @@ ghost use Rattle.j39_transport.specs.ShownSignal.{said};
 ghost use Rattle.j39_transport.specs.ShownReceiver.{held_in, reacted, CanLend, answer_of, IsStamped};
 
 use crate::message::Message;
-use crate::receiving::{self, Move, Slot};
+use crate::receiving::{self, Move, ReceptionBox};
 use crate::signal::{self, Signal};
 use j39_frame::{Frame, Id, NULL_ADDRESS, Stamp, is_address};
 use std::alloc::{AllocError, Global};
@@ -37,10 +37,10 @@ pub enum Reply<'a> {
 pub struct Receiver {
     alloc: Global,
     own: u8,
-    session: Slot,
+    session: ReceptionBox,
     /// The session last over: its message is lent from it, and the next RTS uses its box again. Or a
     /// buffer in which no message was begun yet.
-    lent: Slot,
+    lent: ReceptionBox,
 }
 
 impl Model for Receiver {
@@ -182,7 +182,7 @@ fn said_to(own: u8, frame: &Frame) -> Option<Signal>
 }
 
 /// Where the answer of a tick goes: to the session's source.
-fn partner(slot: &Slot) -> u8
+fn partner(slot: &ReceptionBox) -> u8
     ensures { result ≡ partner_of (held_in slot.now) }
 {
     match slot {
@@ -192,7 +192,7 @@ fn partner(slot: &Slot) -> u8
 }
 
 /// The answer, with a message that is delivered lent out of its buffer.
-fn lend(slot: &Slot, done: Move, own: u8, to: u8, now: Stamp) -> Reply<'_>
+fn lend(slot: &ReceptionBox, done: Move, own: u8, to: u8, now: Stamp) -> Reply<'_>
     requires { CanLend done (held_in slot.now) }
     ensures answer { answer_of result ≡ answer_in (result_of own to (reacted done None (held_in slot.now))) }
     ensures stamp { IsStamped (stamp_micros now) result }

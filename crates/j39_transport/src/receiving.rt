@@ -16,7 +16,7 @@ use j39_frame::Stamp;
 use std::alloc::{AllocError, Global};
 
 /// The session of a receiver with its buffer, or none.
-pub(crate) type Slot = Option<Box<Reception>>;
+pub(crate) type ReceptionBox = Option<Box<Reception>>;
 
 /// What an event did.
 #[derive(Clone, Copy)]
@@ -30,7 +30,12 @@ pub(crate) enum Move {
 }
 
 /// Puts a session back, or where it is over aside.
-fn settle(slot: &mut Slot, lent: &mut Slot, session: Box<Reception>, step: Step) -> Move
+fn settle(
+    slot: &mut ReceptionBox,
+    lent: &mut ReceptionBox,
+    session: Box<Reception>,
+    step: Step,
+) -> Move
     requires empty { held_in slot.old ≡ None }
     requires step { IsStep step session.value }
     ensures does { reacted result (held_in slot.new) (held_in lent.new) ≡ stepped step session.value }
@@ -62,8 +67,8 @@ fn settle(slot: &mut Slot, lent: &mut Slot, session: Box<Reception>, step: Step)
 /// A packet of a source.
 #[tactic(auto, unfolding(crate::specs::Reception::takes_data))]
 fn take_data(
-    slot: &mut Slot,
-    lent: &mut Slot,
+    slot: &mut ReceptionBox,
+    lent: &mut ReceptionBox,
     source: u8,
     number: u8,
     joined: &[u8; 7],
@@ -93,7 +98,7 @@ fn take_data(
 
 /// An abort of a source.
 #[tactic(auto, unfolding(crate::specs::Reception::takes_abort))]
-fn take_abort(slot: &mut Slot, lent: &mut Slot, source: u8, pgn: u32) -> Move
+fn take_abort(slot: &mut ReceptionBox, lent: &mut ReceptionBox, source: u8, pgn: u32) -> Move
     requires { IsOpen (held_in slot.old) }
     ensures does { reacted result (held_in slot.new) (held_in lent.new)
         ≡ takes_abort source pgn (held_in slot.old) }
@@ -116,7 +121,7 @@ fn take_abort(slot: &mut Slot, lent: &mut Slot, source: u8, pgn: u32) -> Move
 }
 
 /// Whether the session of another source is open.
-fn is_taken(slot: &Slot, source: u8) -> bool
+fn is_taken(slot: &ReceptionBox, source: u8) -> bool
     ensures { result ≡ is_taken source (held_in slot.now) }
 {
     match slot {
@@ -131,7 +136,11 @@ pub(crate) fn boxed(alloc: Global) -> Result<Box<Reception>, AllocError> {
 }
 
 /// The buffer of the open session, or of the one last over, or memory for one.
-fn take_box(slot: &mut Slot, lent: &mut Slot, alloc: Global) -> Result<Box<Reception>, AllocError>
+fn take_box(
+    slot: &mut ReceptionBox,
+    lent: &mut ReceptionBox,
+    alloc: Global,
+) -> Result<Box<Reception>, AllocError>
     ensures open { OnErr result (held_in slot.new ≡ held_in slot.old) }
     ensures buffer { OnErr result (has_box (held_in slot.new) (held_in lent.new) ≡ false) }
     ensures lacked { OnErr result (has_box (held_in slot.old) (held_in lent.old) ≡ false) }
@@ -148,8 +157,8 @@ fn take_box(slot: &mut Slot, lent: &mut Slot, alloc: Global) -> Result<Box<Recep
 /// An RTS: with a buffer at hand, no memory is wanted.
 #[tactic(auto, unfolding(crate::specs::Reception::takes_request, crate::specs::Reception::grants, crate::specs::Reception::begun, crate::specs::Reception::granted_at))]
 fn take_request(
-    slot: &mut Slot,
-    lent: &mut Slot,
+    slot: &mut ReceptionBox,
+    lent: &mut ReceptionBox,
     alloc: Global,
     source: u8,
     own: u8,
@@ -183,8 +192,8 @@ fn take_request(
 /// What is said from a source to the receiver at its own address.
 #[tactic(auto, unfolding(crate::specs::Reception::takes_signal), using(crate::proofs::ReceptionLemmas::box_again))]
 pub(crate) fn take_signal(
-    slot: &mut Slot,
-    lent: &mut Slot,
+    slot: &mut ReceptionBox,
+    lent: &mut ReceptionBox,
     alloc: Global,
     source: u8,
     own: u8,
@@ -215,7 +224,7 @@ pub(crate) fn take_signal(
 
 /// Time that passes.
 #[tactic(auto, unfolding(crate::specs::Reception::takes_tick))]
-pub(crate) fn tick(slot: &mut Slot, lent: &mut Slot, now: Stamp) -> Move
+pub(crate) fn tick(slot: &mut ReceptionBox, lent: &mut ReceptionBox, now: Stamp) -> Move
     requires { IsOpen (held_in slot.old) }
     ensures does { reacted result (held_in slot.new) (held_in lent.new)
         ≡ takes_tick (stamp_micros now) (held_in slot.old) }

@@ -47,9 +47,17 @@ impl Model for Reception {
 
     ghost Value = { ReceptionRecord };
 
-    ghost view = { λ r. record { message = r.message; most = r.most; granted = r.granted; asks = r.asks; fresh = r.fresh } };
+    ghost view = { λ r. record {
+      message = r.message;
+      most = r.most;
+      granted = r.granted;
+      asks = r.asks;
+      fresh =
+          r.fresh;
+    } };
 
-    ghost invariant = { λ r. IsReception (record { message = r.message; most = r.most; granted = r.granted; asks = r.asks; fresh = r.fresh }) };
+    ghost invariant = { λ r. IsReception (record
+        { message = r.message; most = r.most; granted = r.granted; asks = r.asks; fresh = r.fresh }) };
 }
 
 impl Reception {

@@ -34,9 +34,23 @@ impl<'a> Model for Sender<'a> {
 
     ghost Value = { SenderRecord };
 
-    ghost view = { λ s. record { message = s.cut; destination = s.destination; state = progress_in s.progress; since = stamp_micros s.since; highest = s.highest } };
+    ghost view = { λ s. record {
+      message = s.cut;
+      destination = s.destination;
+      state =
+          progress_in s.progress;
+      since = stamp_micros s.since;
+      highest = s.highest;
+    } };
 
-    ghost invariant = { λ s. IsSender (record { message = s.cut; destination = s.destination; state = progress_in s.progress; since = stamp_micros s.since; highest = s.highest }) };
+    ghost invariant = { λ s. IsSender (record {
+      message = s.cut;
+      destination = s.destination;
+      state = progress_in s.progress;
+      since =
+          stamp_micros s.since;
+      highest = s.highest;
+    }) };
 }
 
 impl<'a> Sender<'a> {
@@ -62,7 +76,8 @@ impl<'a> Sender<'a> {
 
     /// Takes an event at a moment, and answers the frame to send, if there is one: at a tick alone.
     pub fn on(&mut self, event: SendEvent<'_>, now: Stamp) -> Option<(Id, [u8; 8])>
-        ensures step { SendStep self.old (event_of event.entry) (stamp_micros now) (option_map to_send result) self.new }
+        ensures step { SendStep self.old (event_of event.entry) (stamp_micros now)
+            (option_map to_send result) self.new }
         ensures own { IfSome (option_map to_send result) (IsOwn self.old) }
     {
         let _ = &self.cut;

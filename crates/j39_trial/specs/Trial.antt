@@ -37,13 +37,65 @@ pub record IsFresh (trial : Trial) : Type 0 where
   pub no_failing_flush : trial.fails_flush ≡ false
 
 abbrev pub in_pieces_of : ℕ → Trial → Trial
-in_pieces_of most trial = record { given = trial.given; next = trial.next; most = most; reads = trial.reads; failing_read = trial.failing_read; room = trial.room; held = trial.held; full = trial.full; flushes = trial.flushes; fails_flush = trial.fails_flush }
+in_pieces_of most trial = record {
+  given = trial.given;
+  next = trial.next;
+  most = most;
+  reads =
+      trial.reads;
+  failing_read = trial.failing_read;
+  room = trial.room;
+  held = trial.held;
+  full =
+      trial.full;
+  flushes = trial.flushes;
+  fails_flush = trial.fails_flush;
+}
 
 abbrev pub with_failing_read : ℕ → Trial → Trial
-with_failing_read nth trial = record { given = trial.given; next = trial.next; most = trial.most; reads = trial.reads; failing_read = nth; room = trial.room; held = trial.held; full = trial.full; flushes = trial.flushes; fails_flush = trial.fails_flush }
+with_failing_read nth trial = record {
+  given = trial.given;
+  next = trial.next;
+  most = trial.most;
+  reads =
+      trial.reads;
+  failing_read = nth;
+  room = trial.room;
+  held = trial.held;
+  full = trial.full;
+  flushes =
+      trial.flushes;
+  fails_flush = trial.fails_flush;
+}
 
 abbrev pub with_full : Full → Trial → Trial
-with_full full trial = record { given = trial.given; next = trial.next; most = trial.most; reads = trial.reads; failing_read = trial.failing_read; room = trial.room; held = trial.held; full = full; flushes = trial.flushes; fails_flush = trial.fails_flush }
+with_full full trial = record {
+  given = trial.given;
+  next = trial.next;
+  most = trial.most;
+  reads =
+      trial.reads;
+  failing_read = trial.failing_read;
+  room = trial.room;
+  held = trial.held;
+  full = full;
+  flushes =
+      trial.flushes;
+  fails_flush = trial.fails_flush;
+}
 
 abbrev pub with_failing_flush : Trial → Trial
-with_failing_flush trial = record { given = trial.given; next = trial.next; most = trial.most; reads = trial.reads; failing_read = trial.failing_read; room = trial.room; held = trial.held; full = trial.full; flushes = trial.flushes; fails_flush = true }
+with_failing_flush trial = record {
+  given = trial.given;
+  next = trial.next;
+  most = trial.most;
+  reads =
+      trial.reads;
+  failing_read = trial.failing_read;
+  room = trial.room;
+  held = trial.held;
+  full =
+      trial.full;
+  flushes = trial.flushes;
+  fails_flush = true;
+}

@@ -5,7 +5,7 @@ use Rattle.j39_groups.specs.Parameters.{row_text}
 use Rattle.j39_groups.proofs.parameters.put_built_in.Goals as goal
 
 pub returns-clause-ok : goal.returns-clause-ok
-returns-clause-ok g c = rw (← c.rows.ensures.table, flat_map-map row_text row_record c.rows.result.now) c.put_rows.ensures.ok
+returns-clause-ok g c = rw (← c.rows.ensures.table, flat_map-map row_text row_record c.rows.result.now) c.put_parameters_of.ensures.ok
 
 pub returns-clause-err : goal.returns-clause-err
-returns-clause-err g c = rw (← c.rows.ensures.table, flat_map-map row_text row_record c.rows.result.now) c.put_rows.ensures.err
+returns-clause-err g c = rw (← c.rows.ensures.table, flat_map-map row_text row_record c.rows.result.now) c.put_parameters_of.ensures.err
