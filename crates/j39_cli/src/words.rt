@@ -28,7 +28,8 @@ pub fn parse<'a, S: AsStr>(alloc: Global, words: &'a [S]) -> Result<Task<'a>, Pa
     // words spell.
     ensures spelled { (s : CommandWords) → takes line_app (map S.text words.entry.now) ≡ true
         → IsEntered (subcommand_of line_app (map S.text words.entry.now)) s → IsAnswer s result }
-    ensures task { IfOk result (λ _. (s : CommandWords) × IsSpelled (map S.text words.entry.now) s × IsAnswer s result) }
+    ensures task { IfOk result (λ _. (s : CommandWords)
+        × IsSpelled (map S.text words.entry.now) s × IsAnswer s result) }
 {
     match matched(alloc, words) {
         Ok(matches) => task_of(alloc, &matches),
@@ -73,7 +74,8 @@ fn task_of<'a>(alloc: Global, matches: &ArgMatches<'a>) -> Result<Task<'a>, Pars
     ensures answer { (s : CommandWords) (met : Text × List Row) → subcommand_rows_of matches.now ≡ Some met
         → HasTexts s met → IsAnswer s result }
     ensures memory { result ≡ Err ParseFault.Memory → subcommand_name_of matches.now ≡ Some (codes "cut") }
-    ensures met { IfOk result (λ _. (s : CommandWords) × IsEntered (subcommand_rows_of matches.now) s × IsAnswer s result) }
+    ensures met { IfOk result (λ _. (s : CommandWords)
+        × IsEntered (subcommand_rows_of matches.now) s × IsAnswer s result) }
     ensures in_range { IfOk result IsInRange }
 {
     let report = matches.subcommand_matches("report");
