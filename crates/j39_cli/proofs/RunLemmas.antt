@@ -1,5 +1,5 @@
 -- From what a run ensures to what its command promises.
-use Rattle.std.proofs.Common.{◌≡◌, ◌≢◌, ◌≤◌, ◌<◌, ℕ, true, List, Option, Some, None, ap, inl, inr, length, refl, subst}
+use Rattle.std.proofs.Common.{◌≡◌, ◌≢◌, ◌≤◌, ◌<◌, ℕ, true, List, Option, Some, None, ap, inl, inr, length, subst}
 use Rattle.std.specs.Prelude.{IfOk, IfSome, OnErr, OnOk, Result, Ok, Err}
 use Rattle.j39_listen.specs.Asking.{AsksWithin}
 use Rattle.j39_listen.specs.Run as run
@@ -36,7 +36,8 @@ same_fault x y e = cc
 
 -- a run that ended, and whose end was told, is one
 pub is_run : (asks : Asks) (makes : Makes) (bus : Option (List ℕ)) (r : Result Counts RunFault) (status : ℕ)
-    → (log out err : Turn) → Ends asks makes bus r log out → IsTold r status err → IsRun asks makes bus status log out err
+    → (log out err : Turn) → Ends asks makes bus r log out → IsTold r status err
+    → IsRun asks makes bus status log out err
 is_run asks makes bus (Ok counts) status log out err ends told = record {
   known = inl told.0;
   written = λ _. both _ _ (λ bytes. HasWritten makes bus bytes out err) log.old.bytes

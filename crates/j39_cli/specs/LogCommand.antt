@@ -1,8 +1,11 @@
--- The commands that read a log, `report`, `nodes` and `answer`: what they have in common, and what clap is told of the
--- first two.
-use Rattle.std.specs.Prelude.{◌≡◌, ◌≢◌, ◌⊎◌, ◌<◌, ◌≤◌, ℕ, true, false, ◌++◌, List, [], Option, Result, Ok, Err, IfSome, codes, decimal, length}
-use Rattle.clap.specs.Words.{App, new_app, with_rule}
+-- What the commands that read a log have in common.
+use Rattle.std.specs.Prelude.{◌≡◌, ◌≢◌, ◌⊎◌, ◌<◌, ◌≤◌, ℕ, true, false}
+use Rattle.std.specs.Prelude.{◌++◌, List, [], Option, None, Result, Ok, Err, IfSome, codes, decimal, length}
+use Rattle.std.specs.Option.{ForSome}
+use Rattle.clap.specs.Words.{App, with_rule}
+use Rattle.j39_frame.specs.Bus.{IsBusName}
 use Rattle.j39_frame.specs.Frame.{FrameRecord}
+use Rattle.j39_groups.specs.Row.{RowRecord}
 use Rattle.j39_listen.specs.Asking.{AsksWithin}
 use Rattle.j39_listen.specs.Output.{Output}
 use Rattle.j39_listen.specs.Run as run
@@ -10,6 +13,7 @@ use Rattle.j39_listen.specs.Fault.{fault_words}
 use Rattle.j39_listen.specs.declared.counts.Counts.{Counts}
 use Rattle.j39_listen.specs.declared.running.RunFault.{RunFault}
 use Rattle.j39_listen.specs.declared.running.RunFault.TheVariants.{Memory, Read, Write, TooLong}
+use Rattle.j39_cli.specs.Form.{Meaning}
 use Rattle.j39_cli.specs.Rules.{option_rule, value_rule}
 use Rattle.j39_cli.specs.Counted.{counts_text}
 use Rattle.j39_cli.specs.Refusal.{error_line}
@@ -18,13 +22,6 @@ use Rattle.j39_cli.specs.Turn.{IsUnmarked, Turn, Writes}
 -- a command that reads a log takes `--bus` and FILE
 abbrev pub with_log : App → App
 with_log command = with_rule (with_rule command (option_rule (codes "bus") false)) (value_rule (codes "file") false)
-
--- `report` takes `--table` too
-abbrev pub report_app : App
-report_app = with_log (with_rule (new_app (codes "report")) (option_rule (codes "table") false))
-
-abbrev pub nodes_app : App
-nodes_app = with_log (new_app (codes "nodes"))
 
 -- the most bytes of a log that the program reads, 16 GiB
 abbrev pub log_limit : ℕ
@@ -79,3 +76,13 @@ pub record IsRun (asks : Asks) (makes : Makes) (bus : Option (List ℕ)) (status
 abbrev pub IsTold : Result Counts RunFault → ℕ → Turn → Type 0
 IsTold (Ok counts) status err = (status ≡ 0) × Writes err (counts_text counts)
 IsTold (Err fault) status err = (status ≡ 1) × Writes err (error_line (fault_text fault) [])
+
+-- the task of a run: what it asks and makes may go by a table of parameters
+abbrev pub runs : (List RowRecord → Asks) → (List RowRecord → Makes) → Option (List ℕ) → Option (List ℕ) → Meaning
+runs asks makes bus file = record {
+  file = file;
+  table = None;
+  InRange = ForSome bus IsBusName;
+  reads_log = true;
+  Performs = λ rows status log out err. IsRun (asks rows) (makes rows) bus status log out err;
+}

@@ -9,9 +9,10 @@ ghost use Rattle.j39_listen.specs.Asking.{AsksForBoxes};
 ghost use Rattle.j39_listen.specs.Output.{MakesAnswers};
 ghost use Rattle.j39_cli.specs.AnswerCommand.{answer_app};
 ghost use Rattle.j39_cli.specs.CommandWords as written;
+ghost use Rattle.j39_cli.specs.CommandWords.{IsAnswer};
 ghost use Rattle.j39_cli.specs.CutCommand.{IsNumberBelow};
 ghost use Rattle.j39_cli.specs.LogCommand.{IsRun};
-ghost use Rattle.j39_cli.specs.Task.{IsAnswer, IsInRange};
+ghost use Rattle.j39_cli.specs.Task.{IsInRange};
 ghost use Rattle.j39_cli.specs.Turn.{turn};
 
 use crate::command::with_option;

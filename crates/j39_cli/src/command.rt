@@ -32,23 +32,19 @@ Exit status:
   2  the words are no command, or a value is wrong";
 
 /// The whole command line.
+#[tactic(auto, unfolding(crate::specs::Command::line_app))]
 pub(crate) fn line<'a>(alloc: Global) -> Result<Command<'a>, AllocError>
     ensures { IfOk result (λ c. app_of c ≡ line_app) }
 {
-    let report = report::command(alloc)?;
-    let id = id::command(alloc)?;
-    let name = name::command(alloc)?;
-    let cut = cut::command(alloc)?;
-    let nodes = nodes::command(alloc)?;
-    let answer = answer::command(alloc)?;
-    let line = with_command(bare(alloc), report)?;
-    let line = with_command(line, id)?;
-    let line = with_command(line, name)?;
-    let line = with_command(line, cut)?;
-    let line = with_command(line, nodes)?;
-    let line = with_command(line, answer)?;
-    let groups = groups::command(alloc)?;
-    with_command(line, groups)
+    let line = bare(alloc);
+    let line = with_command(line, report::command(alloc)?)?;
+    let line = with_command(line, id::command(alloc)?)?;
+    let line = with_command(line, name::command(alloc)?)?;
+    let line = with_command(line, cut::command(alloc)?)?;
+    let line = with_command(line, nodes::command(alloc)?)?;
+    let line = with_command(line, answer::command(alloc)?)?;
+    let line = with_command(line, groups::command(alloc)?)?;
+    Ok(line)
 }
 
 fn bare<'a>(alloc: Global) -> Command<'a>

@@ -3,9 +3,11 @@ ghost use Rattle.std.specs.Prelude.{◌≡◌, IfOk, Some, codes, false, true};
 ghost use Rattle.clap.specs.Words.{Text, app_of, first_value, found_of, new_app};
 ghost use Rattle.clap.specs.declared.builder.command.Command.TheViews.{out-Command as settings_of};
 ghost use Rattle.j39_cli.specs.CommandWords as written;
-ghost use Rattle.j39_cli.specs.CutCommand.{cut_app, cut_text};
+ghost use Rattle.j39_cli.specs.CommandWords.{IsAnswer};
+ghost use Rattle.j39_cli.specs.CutCommand.{cut_app};
+ghost use Rattle.j39_cli.specs.Outgoing.{cut_text};
 ghost use Rattle.j39_cli.specs.Shown.{IsShown};
-ghost use Rattle.j39_cli.specs.Task.{IsAnswer, IsInRange};
+ghost use Rattle.j39_cli.specs.Task.{IsInRange};
 ghost use Rattle.j39_cli.specs.Turn.{turn};
 
 use crate::command::{with_option, with_value};

@@ -6,9 +6,10 @@ ghost use Rattle.clap.specs.Words.{Text, app_of, first_value, found_of};
 ghost use Rattle.clap.specs.declared.builder.command.Command.TheViews.{out-Command as settings_of};
 ghost use Rattle.j39_address.specs.Name.{name_raw};
 ghost use Rattle.j39_cli.specs.CommandWords as written;
+ghost use Rattle.j39_cli.specs.CommandWords.{IsAnswer};
 ghost use Rattle.j39_cli.specs.NameCommand.{IsNameText, field_line, name_app, name_text};
 ghost use Rattle.j39_cli.specs.Shown.{IsShown};
-ghost use Rattle.j39_cli.specs.Task.{IsAnswer, IsInRange};
+ghost use Rattle.j39_cli.specs.Task.{IsInRange};
 ghost use Rattle.j39_cli.specs.Turn.{turn};
 
 use crate::command::with_value;

@@ -1,7 +1,7 @@
 //! Tasks over devices.
 ghost use Rattle.std.specs.Prelude.{◌≡◌, ◌⊎◌, false, true};
 ghost use Rattle.j39_groups.specs.Table.{the_table};
-ghost use Rattle.j39_cli.specs.Perform.{IsPerformed, reads_log};
+ghost use Rattle.j39_cli.specs.Task.{IsPerformed, reads_log};
 ghost use Rattle.j39_cli.specs.Turn.{turn};
 
 use crate::{Task, answer, cut, groups, id, name, nodes, report};
