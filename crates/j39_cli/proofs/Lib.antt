@@ -3,4 +3,12 @@ pub mod DigitLemmas
 pub mod PartLemmas
 pub mod TakenLemmas
 pub mod MetLemmas
+pub mod ReportLemmas
+pub mod NodesLemmas
+pub mod AnswerLemmas
+pub mod IdLemmas
+pub mod NameLemmas
+pub mod CutLemmas
+pub mod GroupsLemmas
+pub mod CommandLemmas
 pub mod RunLemmas

@@ -12,7 +12,7 @@ use Rattle.clap.specs.Words.{Rule, Shape, Text}
 use Rattle.clap.specs.Walk.{answers_to, finished, nothing_held, rows_after, Held, Names, Step, Waiting, Walk, idle, option, positional, value, after_step, plain_word, word_met, walked, walked_from, walk, walk_from}
 use Rattle.clap.specs.Takes.{built_takes, default_passes, entered_passes, is_valid, level_passes, settle_passes, step_passes, turn_passes, word_passes, walk_passes}
 use Rattle.clap.specs.Simple.{App, entered, label_of, names_of, rows_at}
-use Rattle.j39_cli.specs.CommandWords.{IsValue}
+use Rattle.j39_cli.specs.Form.{IsValue}
 
 -- ---- parts
 

@@ -1,6 +1,16 @@
--- The words of a command, and what clap then meets.
-use Rattle.std.specs.Prelude.{◌≡◌, ◌==◌, ℕ, false, List, [], ◌∷◌, ◌++◌, Option, Some, None, codes}
-use Rattle.clap.specs.Words.{Row, Text, first_of}
+-- The commands, each with the texts of its values.
+use Rattle.std.specs.Prelude.{◌≡◌, ◌∷◌, List, Option, IfOk}
+use Rattle.clap.specs.Words.{Row, Text, rows_of}
+use Rattle.clap.specs.declared.parser.matches.Found.{Found}
+use Rattle.j39_cli.specs.Answer.{Answer}
+use Rattle.j39_cli.specs.Form.{Form}
+use Rattle.j39_cli.specs.AnswerCommand.{answer_form}
+use Rattle.j39_cli.specs.CutCommand.{cut_form}
+use Rattle.j39_cli.specs.GroupsCommand.{groups_form}
+use Rattle.j39_cli.specs.IdCommand.{id_form}
+use Rattle.j39_cli.specs.NameCommand.{name_form}
+use Rattle.j39_cli.specs.NodesCommand.{nodes_form}
+use Rattle.j39_cli.specs.ReportCommand.{report_form}
 
 -- a command with the texts of its values, in the order of its spelling
 pub data CommandWords : Type 0 where
@@ -12,62 +22,31 @@ pub data CommandWords : Type 0 where
   cut : Text → Text → Text → Text → Text → CommandWords
   groups : Option Text → CommandWords
 
--- an option with its value, where it is given
-abbrev pub option_words : Text → Option Text → List Text
-option_words spelled None = []
-option_words spelled (Some value) = spelled ∷ value ∷ []
-
--- a value that stands alone, where it is given
-abbrev pub value_words : Option Text → List Text
-value_words None = []
-value_words (Some value) = value ∷ []
+abbrev pub form_of : CommandWords → Form
+form_of (report bus table file) = report_form bus table file
+form_of (nodes bus file) = nodes_form bus file
+form_of (answer node address bus file) = answer_form node address bus file
+form_of (id hex) = id_form hex
+form_of (name hex) = name_form hex
+form_of (cut source pgn at bus hex) = cut_form source pgn at bus hex
+form_of (groups table) = groups_form table
 
 -- the words after the program's name
 abbrev pub words_of : CommandWords → List Text
-words_of (report bus table file) =
-    codes "report" ∷ (option_words (codes "--bus") bus ++ (option_words (codes "--table") table ++ value_words file))
-words_of (nodes bus file) = codes "nodes" ∷ (option_words (codes "--bus") bus ++ value_words file)
-words_of (answer node address bus file) =
-    codes "answer" ∷ codes "--name" ∷ node ∷ codes "--address" ∷ address ∷ (option_words (codes "--bus") bus ++ value_words file)
-words_of (id hex) = codes "id" ∷ hex ∷ []
-words_of (name hex) = codes "name" ∷ hex ∷ []
-words_of (cut source pgn at bus hex) =
-    codes "cut" ∷ codes "--source" ∷ source ∷ codes "--pgn" ∷ pgn ∷ codes "--at" ∷ at ∷ codes "--bus" ∷ bus ∷ hex ∷ []
-words_of (groups table) = codes "groups" ∷ option_words (codes "--table") table
-
-abbrev pub hyphen : ℕ
-hyphen = 0x2D
-
--- a value stands in a word of its own: not empty, and with no `-` in front
-abbrev pub IsValue : Text → Type 0
-IsValue [] = ⊥
-IsValue (first ∷ rest) = (first == hyphen) ≡ false
-
-abbrev pub IsValueIfGiven : Option Text → Type 0
-IsValueIfGiven None = Unit {0}
-IsValueIfGiven (Some value) = IsValue value
+words_of s = (form_of s).called ∷ (form_of s).words
 
 abbrev pub HasValues : CommandWords → Type 0
-HasValues (report bus table file) = IsValueIfGiven bus × IsValueIfGiven table × IsValueIfGiven file
-HasValues (nodes bus file) = IsValueIfGiven bus × IsValueIfGiven file
-HasValues (answer node address bus file) = IsValue node × IsValue address × IsValueIfGiven bus × IsValueIfGiven file
-HasValues (id hex) = IsValue hex
-HasValues (name hex) = IsValue hex
-HasValues (cut source pgn at bus hex) = IsValue source × IsValue pgn × IsValue at × IsValue bus × IsValue hex
-HasValues (groups table) = IsValueIfGiven table
+HasValues s = (form_of s).HasValues
 
 -- the command that clap met, by its name and rows, has the texts of s
 abbrev pub HasTexts : CommandWords → Text × List Row → Type 0
-HasTexts (report bus table file) met =
-    (met.0 ≡ codes "report") × (first_of (codes "bus") met.1 ≡ bus) × (first_of (codes "table") met.1 ≡ table)
-    × (first_of (codes "file") met.1 ≡ file)
-HasTexts (nodes bus file) met = (met.0 ≡ codes "nodes") × (first_of (codes "bus") met.1 ≡ bus) × (first_of (codes "file") met.1 ≡ file)
-HasTexts (answer node address bus file) met =
-    (met.0 ≡ codes "answer") × (first_of (codes "name") met.1 ≡ Some node) × (first_of (codes "address") met.1 ≡ Some address)
-    × (first_of (codes "bus") met.1 ≡ bus) × (first_of (codes "file") met.1 ≡ file)
-HasTexts (id hex) met = (met.0 ≡ codes "id") × (first_of (codes "hex") met.1 ≡ Some hex)
-HasTexts (name hex) met = (met.0 ≡ codes "name") × (first_of (codes "hex") met.1 ≡ Some hex)
-HasTexts (cut source pgn at bus hex) met =
-    (met.0 ≡ codes "cut") × (first_of (codes "source") met.1 ≡ Some source) × (first_of (codes "pgn") met.1 ≡ Some pgn)
-    × (first_of (codes "at") met.1 ≡ Some at) × (first_of (codes "bus") met.1 ≡ Some bus) × (first_of (codes "hex") met.1 ≡ Some hex)
-HasTexts (groups table) met = (met.0 ≡ codes "groups") × (first_of (codes "table") met.1 ≡ table)
+HasTexts s met = (met.0 ≡ (form_of s).called) × (form_of s).HasTexts met.1
+
+-- the values are checked in the order of the words, and the first wrong one is the answer
+abbrev pub IsAnswer : CommandWords → Answer → Type 0
+IsAnswer s r = (form_of s).Answers r
+
+-- each command of this name that has these texts is answered, and each task is that of one
+pub record Tells (called : Text) (found : Found) (r : Answer) : Type 0 where
+  pub answer : (s : CommandWords) → HasTexts s (called, rows_of found) → IsAnswer s r
+  pub met : IfOk r (λ _. (s : CommandWords) × HasTexts s (called, rows_of found))

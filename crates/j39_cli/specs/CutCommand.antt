@@ -1,19 +1,24 @@
 -- The command `cut --source N --pgn N --at STAMP --bus B HEX`.
-use Rattle.std.specs.Prelude.{◌≡◌, ◌≤◌, ◌<◌, ◌+◌, ◌-◌, ◌*◌, ◌^◌, ◌∷◌, ◌++◌, ℕ, zero, suc, true, List, [], Result, Ok, Err, codes, drop, length, slice_index, take}
+use Rattle.std.specs.Prelude.{◌≡◌, ◌≤◌, ◌<◌, ◌+◌, ◌-◌, ◌*◌, ◌^◌, ◌∷◌, ℕ, true, List, [], Some}
+use Rattle.std.specs.Prelude.{Result, Ok, Err, codes, drop, length, slice_index, take}
 use Rattle.std.specs.Str.Parse.{AllDigits, IsNumeral, digits_value}
-use Rattle.clap.specs.Words.{App, new_app, with_rule}
+use Rattle.clap.specs.Words.{App, Text, first_of, new_app, with_rule}
 use Rattle.hex.specs.Hex.{decode_of}
 use Rattle.hex.specs.declared.error.FromHexError.{FromHexError}
 use Rattle.j39_log.specs.Bus.{IsBusName}
-use Rattle.j39_log.specs.Canonical.{line_text}
-use Rattle.j39_text.specs.Chars.{newline}
-use Rattle.j39_transport.specs.Cutting.{at_moment, cut_frame}
-use Rattle.j39_transport.specs.Message.{IsLong, MessageRecord, as_broadcast, packets_of}
+use Rattle.j39_cli.specs.Answer.{Answer, IsChecked, IsTask}
+use Rattle.j39_cli.specs.Form.{Form, IsValue, Meaning, shows}
+use Rattle.j39_cli.specs.Outgoing.{EndsInTime, IsOutgoing, OutgoingRecord, cut_text, outgoing}
 use Rattle.j39_cli.specs.Rules.{option_rule, value_rule}
+use Rattle.j39_cli.specs.declared.task.Argument.TheVariants.{At, Bus, Hex, Pgn, Source}
+use Rattle.j39_cli.specs.declared.task.Task.{Task}
+use Rattle.j39_cli.specs.declared.task.Task.TheVariants.{Cut}
 
 abbrev pub cut_app : App
-cut_app = with_rule (with_rule (with_rule (with_rule (with_rule (new_app (codes "cut")) (option_rule (codes "source") true)) (option_rule (codes "pgn") true))
-    (option_rule (codes "at") true)) (option_rule (codes "bus") true)) (value_rule (codes "hex") true)
+cut_app =
+    with_rule (with_rule (with_rule (with_rule (with_rule (new_app (codes "cut")) (option_rule (codes "source") true))
+    (option_rule (codes "pgn") true)) (option_rule (codes "at") true)) (option_rule (codes "bus") true))
+    (value_rule (codes "hex") true)
 
 -- ---- its values
 
@@ -53,44 +58,40 @@ payload_of text = decoded (decode_of text)
 
 -- 9 to 1,785 pairs of hex digits
 abbrev pub IsPayloadText : List ℕ → Type 0
-IsPayloadText text = (decode_of text ≡ Ok (payload_of text)) × (9 ≤ length (payload_of text)) × (length (payload_of text) ≤ 1785)
+IsPayloadText text =
+    (decode_of text ≡ Ok (payload_of text)) × (9 ≤ length (payload_of text)) × (length (payload_of text) ≤ 1785)
 
--- ---- what is to be sent
+-- ---- its answer
 
--- a message, the moment of its first frame in microseconds, and the bus
-pub record OutgoingRecord : Type 0 where
-  pub message : MessageRecord
-  pub at : ℕ
-  pub bus : List ℕ
+-- the message that its texts are of
+abbrev pub outgoing_of : Text → Text → Text → Text → Text → OutgoingRecord
+outgoing_of source pgn at bus hex =
+    outgoing (digits_value 10 source) (digits_value 10 pgn) (moment_value at) bus (payload_of hex)
 
-abbrev pub outgoing : ℕ → ℕ → ℕ → List ℕ → List ℕ → OutgoingRecord
-outgoing source pgn at bus payload =
-    record { message = record { source = source; pgn = pgn; bytes = payload }; at = at; bus = bus }
+abbrev pub IsCutTask : OutgoingRecord → Task → Type 0
+IsCutTask o (Cut o') = o' ≡ o
+IsCutTask o t = ⊥
 
--- the moment of frame k: each frame is 50 ms after the one before (own)
-abbrev pub moment_of : OutgoingRecord → ℕ → ℕ
-moment_of o k = o.at + 50000 * k
+-- the values are checked in the order of the words, and the end last
+abbrev pub IsCutAnswer : Text → Text → Text → Text → Text → Answer → Type 0
+IsCutAnswer source pgn at bus hex r =
+    IsChecked (IsNumberBelow 254 source) Source (IsChecked (IsNumberBelow (2 ^ 18) pgn) Pgn
+    (IsChecked (IsMomentText at) At (IsChecked (IsBusName bus) Bus (IsChecked (IsPayloadText hex) Hex
+    (IsChecked (EndsInTime (outgoing_of source pgn at bus hex)) At
+    (IsTask (IsCutTask (outgoing_of source pgn at bus hex)))))))) r
 
--- the last frame is below 10^10 seconds
-abbrev pub EndsInTime : OutgoingRecord → Type 0
-EndsInTime o = moment_of o (packets_of o.message) < 10 ^ 16
+-- ---- the command
 
-pub record IsOutgoing (o : OutgoingRecord) : Type 0 where
-  pub message : IsLong o.message
-  pub bus : IsBusName o.bus
-  pub ends : EndsInTime o
+abbrev pub cut_form : Text → Text → Text → Text → Text → Form
+cut_form source pgn at bus hex = record {
+  called = codes "cut";
+  words = codes "--source" ∷ source ∷ codes "--pgn" ∷ pgn ∷ codes "--at" ∷ at ∷ codes "--bus" ∷ bus ∷ hex ∷ [];
+  HasValues = IsValue source × IsValue pgn × IsValue at × IsValue bus × IsValue hex;
+  HasTexts = λ rows. (first_of (codes "source") rows ≡ Some source) × (first_of (codes "pgn") rows ≡ Some pgn)
+      × (first_of (codes "at") rows ≡ Some at) × (first_of (codes "bus") rows ≡ Some bus)
+      × (first_of (codes "hex") rows ≡ Some hex);
+  Answers = IsCutAnswer source pgn at bus hex;
+}
 
--- ---- its lines
-
--- the line of frame k: the announcement is frame 0, packet k is frame k
-abbrev pub frame_line : OutgoingRecord → ℕ → List ℕ
-frame_line o k = line_text (at_moment (moment_of o k) (cut_frame (as_broadcast o.message) o.message k)) o.bus
-
--- the lines of the first count frames
-unfoldable pub first_lines : OutgoingRecord → ℕ → List ℕ
-first_lines o zero = []
-first_lines o (suc k) = first_lines o k ++ (frame_line o k ++ newline ∷ [])
-
--- the lines of the announcement and of all packets
-abbrev pub cut_text : OutgoingRecord → List ℕ
-cut_text o = first_lines o (packets_of o.message + 1)
+abbrev pub cut_meaning : OutgoingRecord → Meaning
+cut_meaning o = shows (IsOutgoing o) (λ _. cut_text o)

@@ -1,7 +1,28 @@
 -- The command `groups [--table T]`.
-use Rattle.std.specs.Prelude.{false, codes}
-use Rattle.clap.specs.Words.{App, new_app, with_rule}
+use Rattle.std.specs.Prelude.{◌≡◌, ℕ, false, List, Option, codes}
+use Rattle.clap.specs.Words.{App, Text, first_of, new_app, with_rule}
+use Rattle.j39_groups.specs.Parameters.{rows_text}
+use Rattle.j39_cli.specs.Answer.{IsTask}
+use Rattle.j39_cli.specs.Form.{Form, IsValueIfGiven, Meaning, option_words, shows}
 use Rattle.j39_cli.specs.Rules.{option_rule}
+use Rattle.j39_cli.specs.declared.task.Task.{Task}
+use Rattle.j39_cli.specs.declared.task.Task.TheVariants.{Groups}
 
 abbrev pub groups_app : App
 groups_app = with_rule (new_app (codes "groups")) (option_rule (codes "table") false)
+
+abbrev pub IsGroupsTask : Option (List ℕ) → Task → Type 0
+IsGroupsTask table (Groups table') = table' ≡ table
+IsGroupsTask table t = ⊥
+
+abbrev pub groups_form : Option Text → Form
+groups_form table = record {
+  called = codes "groups";
+  words = option_words (codes "--table") table;
+  HasValues = IsValueIfGiven table;
+  HasTexts = λ rows. first_of (codes "table") rows ≡ table;
+  Answers = IsTask (IsGroupsTask table);
+}
+
+abbrev pub groups_meaning : Option (List ℕ) → Meaning
+groups_meaning table = record (shows (Unit {0}) rows_text) { table = table }

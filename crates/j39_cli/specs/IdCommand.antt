@@ -1,10 +1,15 @@
 -- The command `id HEX`.
-use Rattle.std.specs.Prelude.{◌≤◌, ◌<◌, ◌^◌, ◌∷◌, ◌++◌, ℕ, true, List, [], Option, Some, None, codes, decimal, length}
+use Rattle.std.specs.Prelude.{◌≡◌, ◌≤◌, ◌<◌, ◌^◌, ◌∷◌, ◌++◌, ℕ, true, List, [], Option, Some, None, codes, decimal, length}
 use Rattle.std.specs.Str.Parse.{IsNumeral, digits_value}
-use Rattle.clap.specs.Words.{App, new_app, with_rule}
+use Rattle.clap.specs.Words.{App, Text, first_of, new_app, with_rule}
 use Rattle.j39_text.specs.Chars.{newline}
-use Rattle.j39_frame.specs.Identifier.{destination_of, pgn_of, priority_of, source_of}
+use Rattle.j39_frame.specs.Identifier.{destination_of, id_raw, pgn_of, priority_of, source_of}
+use Rattle.j39_cli.specs.Answer.{IsChecked, IsTask}
+use Rattle.j39_cli.specs.Form.{Form, IsValue, Meaning, shows}
 use Rattle.j39_cli.specs.Rules.{value_rule}
+use Rattle.j39_cli.specs.declared.task.Argument.TheVariants.{Hex}
+use Rattle.j39_cli.specs.declared.task.Task.{Task}
+use Rattle.j39_cli.specs.declared.task.Task.TheVariants.{Id}
 
 abbrev pub id_app : App
 id_app = with_rule (new_app (codes "id")) (value_rule (codes "hex") true)
@@ -21,4 +26,21 @@ destination_text (Some address) = decimal address
 abbrev pub id_text : ℕ → List ℕ
 id_text raw =
     codes "priority " ++ decimal (priority_of raw) ++ codes " pgn " ++ decimal (pgn_of raw)
-    ++ codes " destination " ++ destination_text (destination_of raw) ++ codes " source " ++ decimal (source_of raw) ++ (newline ∷ [])
+    ++ codes " destination " ++ destination_text (destination_of raw) ++ codes " source " ++ decimal (source_of raw)
+    ++ (newline ∷ [])
+
+abbrev pub IsIdTask : ℕ → Task → Type 0
+IsIdTask raw (Id id) = id_raw id ≡ raw
+IsIdTask raw t = ⊥
+
+abbrev pub id_form : Text → Form
+id_form hex = record {
+  called = codes "id";
+  words = hex ∷ [];
+  HasValues = IsValue hex;
+  HasTexts = λ rows. first_of (codes "hex") rows ≡ Some hex;
+  Answers = IsChecked (IsIdText hex) Hex (IsTask (IsIdTask (digits_value 16 hex)));
+}
+
+abbrev pub id_meaning : ℕ → Meaning
+id_meaning raw = shows (raw < 2 ^ 29) (λ _. id_text raw)

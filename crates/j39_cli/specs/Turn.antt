@@ -2,7 +2,8 @@
 use Rattle.std.specs.Prelude.{◌≡◌, ℕ, Bool, false, List, Option}
 use Rattle.std.specs.Io.KnownBytes.{Appends}
 
--- a device at a moment: the bytes that are left in it or held by it, where its type tells them, and whether a fault has come
+-- a device at a moment: the bytes that are left in it or held by it, where its type tells them, and whether a fault
+-- has come
 pub record Device : Type 0 where
   pub bytes : Option (List ℕ)
   pub has_failed : Bool
@@ -12,9 +13,12 @@ pub record Turn : Type 0 where
   pub old : Device
   pub new : Device
 
-abbrev pub turn : Option (List ℕ) → Bool → Option (List ℕ) → Bool → Turn
-turn bytes has_failed bytes' has_failed' =
-    record { old = record { bytes = bytes; has_failed = has_failed }; new = record { bytes = bytes'; has_failed = has_failed' } }
+-- what a call made of a device, by what tells its bytes and its mark
+abbrev pub turn : {T : Type 0} → (T → Option (List ℕ)) → (T → Bool) → T → T → Turn
+turn bytes has_failed old new = record {
+  old = record { bytes = bytes old; has_failed = has_failed old };
+  new = record { bytes = bytes new; has_failed = has_failed new };
+}
 
 -- the call left the mark alone
 abbrev pub IsUnmarked : Turn → Type 0

@@ -1,7 +1,7 @@
 //! The command `answer`: its words, and how it is performed.
 ghost use Rattle.std.specs.Prelude.{◌≡◌, ◌≢◌, ◌↔◌, IfOk, IfSome, IsSome, Some, codes, false, true, Err};
 ghost use Rattle.std.specs.Str.Parse.{digits_value};
-ghost use Rattle.clap.specs.Words.{Text, app_of, first_value, found_of, new_app, rule_of};
+ghost use Rattle.clap.specs.Words.{Text, app_of, first_value, found_of, new_app};
 ghost use Rattle.clap.specs.declared.builder.command.Command.TheViews.{out-Command as settings_of};
 ghost use Rattle.j39_address.specs.Name.{name_raw};
 ghost use Rattle.j39_address.specs.Node.{idle_node};
@@ -9,19 +9,19 @@ ghost use Rattle.j39_listen.specs.Asking.{AsksForBoxes};
 ghost use Rattle.j39_listen.specs.Output.{MakesAnswers};
 ghost use Rattle.j39_cli.specs.AnswerCommand.{answer_app};
 ghost use Rattle.j39_cli.specs.CommandWords as written;
+ghost use Rattle.j39_cli.specs.CommandWords.{IsAnswer};
 ghost use Rattle.j39_cli.specs.CutCommand.{IsNumberBelow};
 ghost use Rattle.j39_cli.specs.LogCommand.{IsRun};
-ghost use Rattle.j39_cli.specs.Rules.{option_rule};
-ghost use Rattle.j39_cli.specs.Task.{IsAnswer, IsInRange};
+ghost use Rattle.j39_cli.specs.Task.{IsInRange};
 ghost use Rattle.j39_cli.specs.Turn.{turn};
 
-use crate::command::{option, with_arg};
+use crate::command::with_option;
 use crate::cut_values::source_of;
-use crate::log::{LOG_LIMIT, copy_of, tell_counts, tell_fault, with_log};
+use crate::log::{LOG_LIMIT, copy_of, tell_end, with_log};
 use crate::name::name_of;
 use crate::words::{bus_value, required};
 use crate::{Address, Argument, ParseFault, Task, WordText};
-use clap::{Arg, ArgMatches, Command};
+use clap::{ArgMatches, Command};
 use j39_address::Name;
 use j39_device::{Sink, Source};
 use j39_log::Bus;
@@ -54,8 +54,10 @@ pub(crate) fn command<'a>(alloc: Global) -> Result<Command<'a>, AllocError>
     ensures app { IfOk result (λ c. app_of c ≡ answer_app) }
     ensures local { IfOk result (λ c. (settings_of c).has_globals ≡ false) }
 {
-    let command = with_arg(bare(alloc), name(alloc))?;
-    let command = with_arg(command, address(alloc))?;
+    let help = "The NAME of the device, 16 hex digits (of either case, no 0x), the top bits first";
+    let command = with_option(alloc, bare(alloc), "name", "H", true, help)?;
+    let help = "The address that the device claims first, 0 to 253, in decimal";
+    let command = with_option(alloc, command, "address", "N", true, help)?;
     with_log(alloc, command)
 }
 
@@ -67,24 +69,6 @@ fn bare<'a>(alloc: Global) -> Command<'a>
         .about("Writes what a device of a NAME would have sent to get and keep an address")
         .long_about(ABOUT)
         .after_help(HELP)
-}
-
-fn name<'a>(alloc: Global) -> Arg<'a>
-    ensures rule { rule_of result ≡ option_rule (codes "name") true }
-    ensures local { result.global ≡ false }
-{
-    option(alloc, "name", "H", true).help(
-        "The NAME of the device, 16 hex digits (of either case, no 0x), the top bits first",
-    )
-}
-
-fn address<'a>(alloc: Global) -> Arg<'a>
-    ensures rule { rule_of result ≡ option_rule (codes "address") true }
-    ensures local { result.global ≡ false }
-{
-    option(alloc, "address", "N", true).help(
-        "The address that the device claims first, 0 to 253, in decimal",
-    )
 }
 
 /// The task that its words ask for.
@@ -150,22 +134,16 @@ pub(crate) fn perform<R: Source, W: Sink, E: Sink>(
     err: &mut E,
 ) -> u8
     ensures run { IsRun AsksForBoxes (MakesAnswers (idle_node (name_raw name) address.now)) bus.now result
-        (turn (R.remaining source.old) (R.has_failed source.old) (R.remaining source.new) (R.has_failed source.new))
-        (turn (W.held sink.old) (W.has_failed sink.old) (W.held sink.new) (W.has_failed sink.new))
-        (turn (E.held err.old) (E.has_failed err.old) (E.held err.new) (E.has_failed err.new)) }
+        (turn R.remaining R.has_failed source.old source.new)
+        (turn W.held W.has_failed sink.old sink.new)
+        (turn E.held E.has_failed err.old err.new) }
     ensures flushed { result ≡ 0 → W.is_flushed sink.new ≡ true }
 {
     let address = address.number();
     match j39_listen::answer(alloc, source, sink, copy_of(bus), name, address, LOG_LIMIT) {
-        Ok(Some(counts)) => {
-            tell_counts(counts, err);
-            0
-        }
+        Ok(Some(counts)) => tell_end(Ok(counts), err),
         // An address is 253 at most, so that nothing comes here.
         Ok(None) => 1,
-        Err(fault) => {
-            tell_fault(fault, err);
-            1
-        }
+        Err(fault) => tell_end(Err(fault), err),
     }
 }

@@ -32,23 +32,19 @@ Exit status:
   2  the words are no command, or a value is wrong";
 
 /// The whole command line.
+#[tactic(auto, unfolding(crate::specs::Command::line_app))]
 pub(crate) fn line<'a>(alloc: Global) -> Result<Command<'a>, AllocError>
     ensures { IfOk result (λ c. app_of c ≡ line_app) }
 {
-    let report = report::command(alloc)?;
-    let id = id::command(alloc)?;
-    let name = name::command(alloc)?;
-    let cut = cut::command(alloc)?;
-    let nodes = nodes::command(alloc)?;
-    let answer = answer::command(alloc)?;
-    let line = with_command(bare(alloc), report)?;
-    let line = with_command(line, id)?;
-    let line = with_command(line, name)?;
-    let line = with_command(line, cut)?;
-    let line = with_command(line, nodes)?;
-    let line = with_command(line, answer)?;
-    let groups = groups::command(alloc)?;
-    with_command(line, groups)
+    let line = bare(alloc);
+    let line = with_command(line, report::command(alloc)?)?;
+    let line = with_command(line, id::command(alloc)?)?;
+    let line = with_command(line, name::command(alloc)?)?;
+    let line = with_command(line, cut::command(alloc)?)?;
+    let line = with_command(line, nodes::command(alloc)?)?;
+    let line = with_command(line, answer::command(alloc)?)?;
+    let line = with_command(line, groups::command(alloc)?)?;
+    Ok(line)
 }
 
 fn bare<'a>(alloc: Global) -> Command<'a>
@@ -61,57 +57,57 @@ fn bare<'a>(alloc: Global) -> Command<'a>
         .subcommand_required(true)
 }
 
-/// `--bus B`, which each command takes that reads a log.
-pub(crate) fn bus<'a>(alloc: Global) -> Arg<'a>
-    ensures rule { rule_of result ≡ option_rule (codes "bus") false }
-    ensures local { result.global ≡ false }
+/// The command with `--table T`, which each takes that goes by a table of parameters.
+pub(crate) fn with_table<'a>(alloc: Global, command: Command<'a>) -> Result<Command<'a>, AllocError>
+    ensures app { IfOk result (λ c. app_of c ≡ with_rule (app_of command.entry) (option_rule (codes "table") false)) }
+    ensures local { IfOk result (λ c. (settings_of c).has_globals ≡ (settings_of command.entry).has_globals) }
 {
-    option(alloc, "bus", "B", false).help(
-        "The interface to read, as can0; without it, that of the first frame in the log",
-    )
+    let help = "The parameters to read: a file of lines as `groups` writes them, or trucks";
+    with_option(alloc, command, "table", "T", false, help)
 }
 
-/// FILE, which each command takes that reads a log.
-pub(crate) fn file<'a>(alloc: Global) -> Arg<'a>
-    ensures rule { rule_of result ≡ value_rule (codes "file") false }
-    ensures local { result.global ≡ false }
+/// The command with `--name VALUE` more.
+pub(crate) fn with_option<'a>(
+    alloc: Global,
+    command: Command<'a>,
+    name: &'a str,
+    value: &'a str,
+    is_required: bool,
+    help: &'a str,
+) -> Result<Command<'a>, AllocError>
+    ensures app { IfOk result (λ c.
+        app_of c ≡ with_rule (app_of command.entry) (option_rule name.entry.now is_required)) }
+    ensures local { IfOk result (λ c. (settings_of c).has_globals ≡ (settings_of command.entry).has_globals) }
 {
-    value(alloc, "file", "FILE", false).help("The log to read; without it, standard input")
-}
-
-/// `--table T`, which each command takes that goes by a table of parameters.
-pub(crate) fn table<'a>(alloc: Global) -> Arg<'a>
-    ensures rule { rule_of result ≡ option_rule (codes "table") false }
-    ensures local { result.global ≡ false }
-{
-    option(alloc, "table", "T", false).help(
-        "The parameters to read: a file of lines as `groups` writes them, or trucks",
-    )
-}
-
-/// `--name VALUE`
-pub(crate) fn option<'a>(alloc: Global, name: &'a str, value: &'a str, is_required: bool) -> Arg<'a>
-    ensures rule { rule_of result ≡ option_rule name.entry.now is_required }
-    ensures local { result.global ≡ false }
-{
-    Arg::new(alloc, name)
+    let arg = Arg::new(alloc, name)
         .long(name)
         .value_name(value)
         .required(is_required)
+        .help(help);
+    with_arg(command, arg)
 }
 
-/// A value that stands alone.
-pub(crate) fn value<'a>(alloc: Global, name: &'a str, value: &'a str, is_required: bool) -> Arg<'a>
-    ensures rule { rule_of result ≡ value_rule name.entry.now is_required }
-    ensures local { result.global ≡ false }
+/// The command with one more value that stands alone.
+pub(crate) fn with_value<'a>(
+    alloc: Global,
+    command: Command<'a>,
+    name: &'a str,
+    value: &'a str,
+    is_required: bool,
+    help: &'a str,
+) -> Result<Command<'a>, AllocError>
+    ensures app { IfOk result (λ c.
+        app_of c ≡ with_rule (app_of command.entry) (value_rule name.entry.now is_required)) }
+    ensures local { IfOk result (λ c. (settings_of c).has_globals ≡ (settings_of command.entry).has_globals) }
 {
-    Arg::new(alloc, name)
+    let arg = Arg::new(alloc, name)
         .value_name(value)
         .required(is_required)
+        .help(help);
+    with_arg(command, arg)
 }
 
-/// A command with one argument more.
-pub(crate) fn with_arg<'a>(command: Command<'a>, arg: Arg<'a>) -> Result<Command<'a>, AllocError>
+fn with_arg<'a>(command: Command<'a>, arg: Arg<'a>) -> Result<Command<'a>, AllocError>
     requires { arg.global ≡ false }
     ensures app { IfOk result (λ c. app_of c ≡ with_rule (app_of command.entry) (rule_of arg.entry)) }
     ensures local { IfOk result (λ c. (settings_of c).has_globals ≡ (settings_of command.entry).has_globals) }

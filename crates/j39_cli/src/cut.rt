@@ -1,20 +1,21 @@
 //! The command `cut`: its words, and how it is performed.
 ghost use Rattle.std.specs.Prelude.{◌≡◌, IfOk, Some, codes, false, true};
-ghost use Rattle.clap.specs.Words.{Text, app_of, first_value, found_of, new_app, rule_of};
+ghost use Rattle.clap.specs.Words.{Text, app_of, first_value, found_of, new_app};
 ghost use Rattle.clap.specs.declared.builder.command.Command.TheViews.{out-Command as settings_of};
 ghost use Rattle.j39_cli.specs.CommandWords as written;
-ghost use Rattle.j39_cli.specs.CutCommand.{cut_app, cut_text};
-ghost use Rattle.j39_cli.specs.Rules.{option_rule, value_rule};
+ghost use Rattle.j39_cli.specs.CommandWords.{IsAnswer};
+ghost use Rattle.j39_cli.specs.CutCommand.{cut_app};
+ghost use Rattle.j39_cli.specs.Outgoing.{cut_text};
 ghost use Rattle.j39_cli.specs.Shown.{IsShown};
-ghost use Rattle.j39_cli.specs.Task.{IsAnswer, IsInRange};
+ghost use Rattle.j39_cli.specs.Task.{IsInRange};
 ghost use Rattle.j39_cli.specs.Turn.{turn};
 
-use crate::command::{option, value, with_arg};
+use crate::command::{with_option, with_value};
 use crate::cut_values::{payload_of, pgn_of, source_of, stamp_of};
 use crate::shown::show_text;
 use crate::words::required;
 use crate::{Argument, Outgoing, ParseFault, Task};
-use clap::{Arg, ArgMatches, Command};
+use clap::{ArgMatches, Command};
 use j39_device::Sink;
 use j39_log::Bus;
 use std::alloc::{AllocError, Global};
@@ -36,11 +37,16 @@ pub(crate) fn command<'a>(alloc: Global) -> Result<Command<'a>, AllocError>
     ensures app { IfOk result (λ c. app_of c ≡ cut_app) }
     ensures local { IfOk result (λ c. (settings_of c).has_globals ≡ false) }
 {
-    let command = with_arg(bare(alloc), source(alloc))?;
-    let command = with_arg(command, pgn(alloc))?;
-    let command = with_arg(command, at(alloc))?;
-    let command = with_arg(command, bus(alloc))?;
-    with_arg(command, hex(alloc))
+    let help = "The address that the message is sent from, 0 to 253, in decimal";
+    let command = with_option(alloc, bare(alloc), "source", "N", true, help)?;
+    let help = "The PGN of the message, 0 to 262143, in decimal";
+    let command = with_option(alloc, command, "pgn", "N", true, help)?;
+    let help = "The time of the announcement: seconds, a point and six digits, as 2.000000";
+    let command = with_option(alloc, command, "at", "STAMP", true, help)?;
+    let help = "The interface that the lines name, as can0";
+    let command = with_option(alloc, command, "bus", "B", true, help)?;
+    let help = "The bytes of the message, 9 to 1,785 pairs of hex digits (of either case, no 0x)";
+    with_value(alloc, command, "hex", "HEX", true, help)
 }
 
 fn bare<'a>(alloc: Global) -> Command<'a>
@@ -51,47 +57,6 @@ fn bare<'a>(alloc: Global) -> Command<'a>
         .about("Writes the frames that broadcast a long message")
         .long_about(ABOUT)
         .after_help(HELP)
-}
-
-fn source<'a>(alloc: Global) -> Arg<'a>
-    ensures rule { rule_of result ≡ option_rule (codes "source") true }
-    ensures local { result.global ≡ false }
-{
-    option(alloc, "source", "N", true).help(
-        "The address that the message is sent from, 0 to 253, in decimal",
-    )
-}
-
-fn pgn<'a>(alloc: Global) -> Arg<'a>
-    ensures rule { rule_of result ≡ option_rule (codes "pgn") true }
-    ensures local { result.global ≡ false }
-{
-    option(alloc, "pgn", "N", true).help("The PGN of the message, 0 to 262143, in decimal")
-}
-
-fn at<'a>(alloc: Global) -> Arg<'a>
-    ensures rule { rule_of result ≡ option_rule (codes "at") true }
-    ensures local { result.global ≡ false }
-{
-    option(alloc, "at", "STAMP", true).help(
-        "The time of the announcement: seconds, a point and six digits, as 2.000000",
-    )
-}
-
-fn bus<'a>(alloc: Global) -> Arg<'a>
-    ensures rule { rule_of result ≡ option_rule (codes "bus") true }
-    ensures local { result.global ≡ false }
-{
-    option(alloc, "bus", "B", true).help("The interface that the lines name, as can0")
-}
-
-fn hex<'a>(alloc: Global) -> Arg<'a>
-    ensures rule { rule_of result ≡ value_rule (codes "hex") true }
-    ensures local { result.global ≡ false }
-{
-    value(alloc, "hex", "HEX", true).help(
-        "The bytes of the message, 9 to 1,785 pairs of hex digits (of either case, no 0x)",
-    )
 }
 
 /// The task that its words ask for.
@@ -156,8 +121,8 @@ fn task_of<'a>(
 /// Performs it: the lines go to `sink`, a fault to `err`.
 pub(crate) fn perform<W: Sink, E: Sink>(outgoing: &Outgoing, sink: &mut W, err: &mut E) -> u8
     ensures shown { IsShown (cut_text outgoing.now) result
-        (turn (W.held sink.old) (W.has_failed sink.old) (W.held sink.new) (W.has_failed sink.new))
-        (turn (E.held err.old) (E.has_failed err.old) (E.held err.new) (E.has_failed err.new)) }
+        (turn W.held W.has_failed sink.old sink.new)
+        (turn E.held E.has_failed err.old err.new) }
     ensures flushed { result ≡ 0 → W.is_flushed sink.new ≡ true }
     ensures silent { result ≡ 0 → err.new ≡ err.old }
 {

@@ -81,7 +81,8 @@ pub(crate) fn payload_of(alloc: Global, text: &str) -> Result<Vec<u8>, ParseFaul
 
 /// The bytes, where they are 9 to 1,785.
 fn sized(payload: Vec<u8>) -> Result<Vec<u8>, ParseFault>
-    ensures ok { IfOk result (λ sized. (sized.items ≡ payload.items) × (9 ≤ length payload.items) × (length payload.items ≤ 1785)) }
+    ensures ok { IfOk result (λ sized. (sized.items ≡ payload.items)
+        × (9 ≤ length payload.items) × (length payload.items ≤ 1785)) }
     ensures err { IfErr result (λ fault. (¬ ((9 ≤ length payload.items) × (length payload.items ≤ 1785)))
         × (fault ≡ ParseFault.BadValue Argument.Hex)) }
 {

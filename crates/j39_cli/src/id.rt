@@ -6,12 +6,13 @@ ghost use Rattle.clap.specs.Words.{Text, app_of, first_value, found_of};
 ghost use Rattle.clap.specs.declared.builder.command.Command.TheViews.{out-Command as settings_of};
 ghost use Rattle.j39_frame.specs.Identifier.{id_raw};
 ghost use Rattle.j39_cli.specs.CommandWords as written;
+ghost use Rattle.j39_cli.specs.CommandWords.{IsAnswer};
 ghost use Rattle.j39_cli.specs.IdCommand.{IsIdText, destination_text, id_app, id_text};
 ghost use Rattle.j39_cli.specs.Shown.{IsShown};
-ghost use Rattle.j39_cli.specs.Task.{IsAnswer, IsInRange};
+ghost use Rattle.j39_cli.specs.Task.{IsInRange};
 ghost use Rattle.j39_cli.specs.Turn.{turn};
 
-use crate::command::{value, with_arg};
+use crate::command::with_value;
 use crate::fields::push_field;
 use crate::shown::show_text;
 use crate::words::required;
@@ -44,10 +45,9 @@ pub(crate) fn command<'a>(alloc: Global) -> Result<Command<'a>, AllocError>
         .about("Writes the fields of a 29-bit identifier")
         .long_about(ABOUT)
         .after_help(HELP);
-    let hex = value(alloc, "hex", "HEX", true).help(
-        "The identifier, 1 to 8 hex digits (of either case, no 0x) of a number below 20000000",
-    );
-    with_arg(command, hex)
+    let help =
+        "The identifier, 1 to 8 hex digits (of either case, no 0x) of a number below 20000000";
+    with_value(alloc, command, "hex", "HEX", true, help)
 }
 
 /// The task that its words ask for.
@@ -86,8 +86,8 @@ fn id_of(text: &str) -> Option<Id>
 /// Performs it: the line goes to `sink`, a fault to `err`.
 pub(crate) fn perform<W: Sink, E: Sink>(id: Id, sink: &mut W, err: &mut E) -> u8
     ensures shown { IsShown (id_text (id_raw id)) result
-        (turn (W.held sink.old) (W.has_failed sink.old) (W.held sink.new) (W.has_failed sink.new))
-        (turn (E.held err.old) (E.has_failed err.old) (E.held err.new) (E.has_failed err.new)) }
+        (turn W.held W.has_failed sink.old sink.new)
+        (turn E.held E.has_failed err.old err.new) }
     ensures flushed { result ≡ 0 → W.is_flushed sink.new ≡ true }
     ensures silent { result ≡ 0 → err.new ≡ err.old }
 {

@@ -1,19 +1,19 @@
 //! What the commands that read a log have in common.
-ghost use Rattle.std.specs.Prelude.{◌≡◌, [], IfOk};
+ghost use Rattle.std.specs.Prelude.{◌≡◌, ◌≤◌, IfOk, codes, false, length};
 ghost use Rattle.clap.specs.Words.{app_of};
 ghost use Rattle.clap.specs.declared.builder.command.Command.TheViews.{out-Command as settings_of};
-ghost use Rattle.j39_cli.specs.Counted.{counts_text};
-ghost use Rattle.j39_cli.specs.LogCommand.{fault_text, with_log};
-ghost use Rattle.j39_cli.specs.Refusal.{error_line};
-ghost use Rattle.j39_cli.specs.Turn.{Writes, turn};
+ghost use Rattle.j39_cli.specs.LogCommand.{IsTold, fault_text, with_log};
+ghost use Rattle.j39_cli.specs.Turn.{turn};
 
-use crate::command::{bus, file, with_arg};
-use crate::fields::counts_line;
+use crate::command::{with_option, with_value};
+use crate::fields::{counts_line, push_field};
 use crate::refusal::{complain, show};
+use arrayvec::ArrayVec;
 use clap::Command;
 use j39_device::Sink;
 use j39_listen::{Counts, RunFault};
 use j39_log::Bus;
+use j39_text::printing::push_bytes;
 use std::alloc::{AllocError, Global};
 
 /// The most bytes of a log that the program reads.
@@ -24,8 +24,10 @@ pub(crate) fn with_log<'a>(alloc: Global, command: Command<'a>) -> Result<Comman
     ensures app { IfOk result (λ c. app_of c ≡ with_log (app_of command.entry)) }
     ensures local { IfOk result (λ c. (settings_of c).has_globals ≡ (settings_of command.entry).has_globals) }
 {
-    let command = with_arg(command, bus(alloc))?;
-    with_arg(command, file(alloc))
+    let help = "The interface to read, as can0; without it, that of the first frame in the log";
+    let command = with_option(alloc, command, "bus", "B", false, help)?;
+    let help = "The log to read; without it, standard input";
+    with_value(alloc, command, "file", "FILE", false, help)
 }
 
 pub(crate) fn copy_of(bus: &Option<Bus>) -> Option<Bus>
@@ -37,29 +39,35 @@ pub(crate) fn copy_of(bus: &Option<Bus>) -> Option<Bus>
     }
 }
 
-/// Says what a run counted.
-pub(crate) fn tell_counts<E: Sink>(counts: Counts, err: &mut E)
-    ensures { Writes (turn (E.held err.old) (E.has_failed err.old) (E.held err.new) (E.has_failed err.new)) (counts_text counts) }
+/// Says how a run ended, by its counts or its fault, and answers the exit status.
+pub(crate) fn tell_end<E: Sink>(end: Result<Counts, RunFault>, err: &mut E) -> u8
+    ensures { IsTold end result (turn E.held E.has_failed err.old err.new) }
 {
-    show(err, counts_line(counts).as_slice());
-}
-
-/// Says why a run was not finished.
-pub(crate) fn tell_fault<E: Sink>(fault: RunFault, err: &mut E)
-    ensures { Writes (turn (E.held err.old) (E.has_failed err.old) (E.held err.new) (E.has_failed err.new))
-        (error_line (fault_text fault) []) }
-{
-    complain(err, words_of(fault).as_bytes(), b"");
+    match end {
+        Ok(counts) => {
+            show(err, counts_line(counts).as_slice());
+            0
+        }
+        Err(fault) => {
+            complain(err, words_of(fault).as_slice(), b"");
+            1
+        }
+    }
 }
 
 /// What is said of a fault: the program alone knows its limit.
-fn words_of(fault: RunFault) -> &'static str
-    ensures { result.now ≡ fault_text fault }
+fn words_of(fault: RunFault) -> ArrayVec<u8, 64>
+    ensures { result.items ≡ fault_text fault }
 {
+    let mut words = ArrayVec::new();
     match fault {
-        RunFault::TooLong => "input longer than 17179869184 bytes",
-        RunFault::Memory => fault.words(),
-        RunFault::Read => fault.words(),
-        RunFault::Write => fault.words(),
+        RunFault::TooLong => {
+            push_field(&mut words, b"input longer than ", LOG_LIMIT);
+            push_bytes(&mut words, b" bytes");
+        }
+        RunFault::Memory => push_bytes(&mut words, fault.words().as_bytes()),
+        RunFault::Read => push_bytes(&mut words, fault.words().as_bytes()),
+        RunFault::Write => push_bytes(&mut words, fault.words().as_bytes()),
     }
+    words
 }

@@ -6,12 +6,13 @@ ghost use Rattle.clap.specs.Words.{Text, app_of, first_value, found_of};
 ghost use Rattle.clap.specs.declared.builder.command.Command.TheViews.{out-Command as settings_of};
 ghost use Rattle.j39_address.specs.Name.{name_raw};
 ghost use Rattle.j39_cli.specs.CommandWords as written;
+ghost use Rattle.j39_cli.specs.CommandWords.{IsAnswer};
 ghost use Rattle.j39_cli.specs.NameCommand.{IsNameText, field_line, name_app, name_text};
 ghost use Rattle.j39_cli.specs.Shown.{IsShown};
-ghost use Rattle.j39_cli.specs.Task.{IsAnswer, IsInRange};
+ghost use Rattle.j39_cli.specs.Task.{IsInRange};
 ghost use Rattle.j39_cli.specs.Turn.{turn};
 
-use crate::command::{value, with_arg};
+use crate::command::with_value;
 use crate::fields::push_field;
 use crate::shown::show_text;
 use crate::words::required;
@@ -45,10 +46,8 @@ pub(crate) fn command<'a>(alloc: Global) -> Result<Command<'a>, AllocError>
         .about("Writes the fields of a 64-bit NAME")
         .long_about(ABOUT)
         .after_help(HELP);
-    let hex = value(alloc, "hex", "HEX", true).help(
-        "The NAME, 16 hex digits (of either case, no 0x), the top bits first",
-    );
-    with_arg(command, hex)
+    let help = "The NAME, 16 hex digits (of either case, no 0x), the top bits first";
+    with_value(alloc, command, "hex", "HEX", true, help)
 }
 
 /// The task that its words ask for.
@@ -85,8 +84,8 @@ pub(crate) fn name_of(text: &str) -> Option<Name>
 /// Performs it: the lines go to `sink`, a fault to `err`.
 pub(crate) fn perform<W: Sink, E: Sink>(name: Name, sink: &mut W, err: &mut E) -> u8
     ensures shown { IsShown (name_text (name_raw name)) result
-        (turn (W.held sink.old) (W.has_failed sink.old) (W.held sink.new) (W.has_failed sink.new))
-        (turn (E.held err.old) (E.has_failed err.old) (E.held err.new) (E.has_failed err.new)) }
+        (turn W.held W.has_failed sink.old sink.new)
+        (turn E.held E.has_failed err.old err.new) }
     ensures flushed { result ≡ 0 → W.is_flushed sink.new ≡ true }
     ensures silent { result ≡ 0 → err.new ≡ err.old }
 {

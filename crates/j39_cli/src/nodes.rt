@@ -5,11 +5,13 @@ ghost use Rattle.clap.specs.declared.builder.command.Command.TheViews.{out-Comma
 ghost use Rattle.j39_listen.specs.Asking.{AsksNowhere};
 ghost use Rattle.j39_listen.specs.Output.{MakesNodes};
 ghost use Rattle.j39_cli.specs.CommandWords as written;
-ghost use Rattle.j39_cli.specs.LogCommand.{IsRun, nodes_app};
-ghost use Rattle.j39_cli.specs.Task.{IsAnswer, IsInRange};
+ghost use Rattle.j39_cli.specs.CommandWords.{IsAnswer};
+ghost use Rattle.j39_cli.specs.LogCommand.{IsRun};
+ghost use Rattle.j39_cli.specs.NodesCommand.{nodes_app};
+ghost use Rattle.j39_cli.specs.Task.{IsInRange};
 ghost use Rattle.j39_cli.specs.Turn.{turn};
 
-use crate::log::{LOG_LIMIT, copy_of, tell_counts, tell_fault, with_log};
+use crate::log::{LOG_LIMIT, copy_of, tell_end, with_log};
 use crate::words::bus_value;
 use crate::{ParseFault, Task, WordText};
 use clap::{ArgMatches, Command};
@@ -70,19 +72,11 @@ pub(crate) fn perform<R: Source, W: Sink, E: Sink>(
     err: &mut E,
 ) -> u8
     ensures run { IsRun AsksNowhere MakesNodes bus.now result
-        (turn (R.remaining source.old) (R.has_failed source.old) (R.remaining source.new) (R.has_failed source.new))
-        (turn (W.held sink.old) (W.has_failed sink.old) (W.held sink.new) (W.has_failed sink.new))
-        (turn (E.held err.old) (E.has_failed err.old) (E.held err.new) (E.has_failed err.new)) }
+        (turn R.remaining R.has_failed source.old source.new)
+        (turn W.held W.has_failed sink.old sink.new)
+        (turn E.held E.has_failed err.old err.new) }
     ensures flushed { result ≡ 0 → W.is_flushed sink.new ≡ true }
 {
-    match j39_listen::nodes(source, sink, copy_of(bus), LOG_LIMIT) {
-        Ok(counts) => {
-            tell_counts(counts, err);
-            0
-        }
-        Err(fault) => {
-            tell_fault(fault, err);
-            1
-        }
-    }
+    let end = j39_listen::nodes(source, sink, copy_of(bus), LOG_LIMIT);
+    tell_end(end, err)
 }

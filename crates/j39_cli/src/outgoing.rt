@@ -6,7 +6,7 @@ ghost use Rattle.j39_text.specs.Chars.{newline};
 ghost use Rattle.j39_frame.specs.Pgn.{pgn_raw};
 ghost use Rattle.j39_frame.specs.Stamp.{stamp_micros};
 ghost use Rattle.j39_transport.specs.Message.{packets_of};
-ghost use Rattle.j39_cli.specs.CutCommand.{EndsInTime, cut_text, frame_line, outgoing};
+ghost use Rattle.j39_cli.specs.Outgoing.{EndsInTime, cut_text, frame_line, outgoing};
 
 use arrayvec::ArrayVec;
 use j39_frame::{Frame, Pgn, Stamp};
@@ -32,7 +32,7 @@ pub struct Outgoing {
 impl Model for Outgoing {
     ghost use Rattle.j39_frame.specs.Pgn.{pgn_raw};
     ghost use Rattle.j39_frame.specs.Stamp.{stamp_micros};
-    ghost use Rattle.j39_cli.specs.CutCommand.{IsOutgoing, OutgoingRecord, outgoing};
+    ghost use Rattle.j39_cli.specs.Outgoing.{IsOutgoing, OutgoingRecord, outgoing};
 
     ghost Value = { OutgoingRecord };
 
@@ -66,7 +66,7 @@ impl Outgoing {
     }
 
     /// The canonical lines of its frames, each with a newline.
-    #[tactic(auto, unfolding(crate::specs::CutCommand::first_lines))]
+    #[tactic(auto, unfolding(crate::specs::Outgoing::first_lines))]
     pub(crate) fn lines(&self) -> ArrayVec<u8, 16_640>
         ensures { result.items ≡ cut_text self.now }
     {

@@ -13,7 +13,7 @@ use j39_text::printing::push_bytes;
 /// Says why this file is no table, and answers the exit status. A fault of the writer is passed over.
 pub fn wrong_table<E: Sink>(file: &str, fault: TableFault, err: &mut E) -> u8
     ensures status { result ≡ 1 }
-    ensures err { Writes (turn (E.held err.old) (E.has_failed err.old) (E.held err.new) (E.has_failed err.new))
+    ensures err { Writes (turn E.held E.has_failed err.old err.new)
         (table_line file.now fault) }
 {
     match fault {

@@ -1,7 +1,7 @@
 //! Tasks over devices.
 ghost use Rattle.std.specs.Prelude.{◌≡◌, ◌⊎◌, false, true};
 ghost use Rattle.j39_groups.specs.Table.{the_table};
-ghost use Rattle.j39_cli.specs.Perform.{IsPerformed, reads_log};
+ghost use Rattle.j39_cli.specs.Task.{IsPerformed, reads_log};
 ghost use Rattle.j39_cli.specs.Turn.{turn};
 
 use crate::{Task, answer, cut, groups, id, name, nodes, report};
@@ -21,9 +21,9 @@ pub fn perform<R: Source, W: Sink, E: Sink>(
 
     // What each command leaves of the reader, the writer and the error writer.
     ensures performed { IsPerformed the_table task.now result
-        (turn (R.remaining source.old) (R.has_failed source.old) (R.remaining source.new) (R.has_failed source.new))
-        (turn (W.held sink.old) (W.has_failed sink.old) (W.held sink.new) (W.has_failed sink.new))
-        (turn (E.held err.old) (E.has_failed err.old) (E.held err.new) (E.has_failed err.new)) }
+        (turn R.remaining R.has_failed source.old source.new)
+        (turn W.held W.has_failed sink.old sink.new)
+        (turn E.held E.has_failed err.old err.new) }
 
     // Status 0 says that what was written was passed on.
     ensures flushed { result ≡ 0 → W.is_flushed sink.new ≡ true }
@@ -35,9 +35,9 @@ pub fn perform<R: Source, W: Sink, E: Sink>(
     perform_with(alloc, &Groups::built_in(), task, source, sink, err)
 }
 
-/// Performs a task by a table of parameters: reads its log from `source` where it has one, writes its lines to `sink`, and
-/// says what happened on `err`. Answers the exit status: 0, or 1 for a fault of memory, of a
-/// device, or of the log's length. A fault of `err` is passed over.
+/// Performs a task by a table of parameters: reads its log from `source` where it has one, writes its
+/// lines to `sink`, and says what happened on `err`. Answers the exit status: 0, or 1 for a fault of
+/// memory, of a device, or of the log's length. A fault of `err` is passed over.
 pub fn perform_with<R: Source, W: Sink, E: Sink>(
     alloc: Global,
     groups: &Groups<'_>,
@@ -50,9 +50,9 @@ pub fn perform_with<R: Source, W: Sink, E: Sink>(
 
     // What each command leaves of the reader, the writer and the error writer.
     ensures performed { IsPerformed groups.now task.now result
-        (turn (R.remaining source.old) (R.has_failed source.old) (R.remaining source.new) (R.has_failed source.new))
-        (turn (W.held sink.old) (W.has_failed sink.old) (W.held sink.new) (W.has_failed sink.new))
-        (turn (E.held err.old) (E.has_failed err.old) (E.held err.new) (E.has_failed err.new)) }
+        (turn R.remaining R.has_failed source.old source.new)
+        (turn W.held W.has_failed sink.old sink.new)
+        (turn E.held E.has_failed err.old err.new) }
 
     // Status 0 says that what was written was passed on.
     ensures flushed { result ≡ 0 → W.is_flushed sink.new ≡ true }

@@ -5,12 +5,14 @@ ghost use Rattle.clap.specs.declared.builder.command.Command.TheViews.{out-Comma
 ghost use Rattle.j39_listen.specs.Asking.{AsksForBoxes};
 ghost use Rattle.j39_listen.specs.Output.{MakesReport};
 ghost use Rattle.j39_cli.specs.CommandWords as written;
-ghost use Rattle.j39_cli.specs.LogCommand.{IsRun, report_app};
-ghost use Rattle.j39_cli.specs.Task.{IsAnswer, IsInRange};
+ghost use Rattle.j39_cli.specs.CommandWords.{IsAnswer};
+ghost use Rattle.j39_cli.specs.LogCommand.{IsRun};
+ghost use Rattle.j39_cli.specs.ReportCommand.{report_app};
+ghost use Rattle.j39_cli.specs.Task.{IsInRange};
 ghost use Rattle.j39_cli.specs.Turn.{turn};
 
-use crate::command::{table, with_arg};
-use crate::log::{LOG_LIMIT, copy_of, tell_counts, tell_fault, with_log};
+use crate::command::with_table;
+use crate::log::{LOG_LIMIT, copy_of, tell_end, with_log};
 use crate::words::bus_value;
 use crate::{ParseFault, Task, WordText};
 use clap::{ArgMatches, Command};
@@ -54,8 +56,7 @@ pub(crate) fn command<'a>(alloc: Global) -> Result<Command<'a>, AllocError>
         .about("Writes the parameter values in a log")
         .long_about(ABOUT)
         .after_help(HELP);
-    let command = with_arg(command, table(alloc))?;
-    with_log(alloc, command)
+    with_log(alloc, with_table(alloc, command)?)
 }
 
 /// The task that its words ask for.
@@ -83,19 +84,11 @@ pub(crate) fn perform<R: Source, W: Sink, E: Sink>(
     err: &mut E,
 ) -> u8
     ensures run { IsRun AsksForBoxes (MakesReport groups.now) bus.now result
-        (turn (R.remaining source.old) (R.has_failed source.old) (R.remaining source.new) (R.has_failed source.new))
-        (turn (W.held sink.old) (W.has_failed sink.old) (W.held sink.new) (W.has_failed sink.new))
-        (turn (E.held err.old) (E.has_failed err.old) (E.held err.new) (E.has_failed err.new)) }
+        (turn R.remaining R.has_failed source.old source.new)
+        (turn W.held W.has_failed sink.old sink.new)
+        (turn E.held E.has_failed err.old err.new) }
     ensures flushed { result ≡ 0 → W.is_flushed sink.new ≡ true }
 {
-    match run_with(alloc, groups, source, sink, copy_of(bus), LOG_LIMIT) {
-        Ok(counts) => {
-            tell_counts(counts, err);
-            0
-        }
-        Err(fault) => {
-            tell_fault(fault, err);
-            1
-        }
-    }
+    let end = run_with(alloc, groups, source, sink, copy_of(bus), LOG_LIMIT);
+    tell_end(end, err)
 }

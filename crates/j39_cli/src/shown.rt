@@ -12,8 +12,8 @@ use j39_device::{DeviceFault, Sink, put_all};
 /// Writes all that a command has to say, and answers the status.
 pub(crate) fn show_text<W: Sink, E: Sink>(text: &[u8], sink: &mut W, err: &mut E) -> u8
     ensures shown { IsShown text.now result
-        (turn (W.held sink.old) (W.has_failed sink.old) (W.held sink.new) (W.has_failed sink.new))
-        (turn (E.held err.old) (E.has_failed err.old) (E.held err.new) (E.has_failed err.new)) }
+        (turn W.held W.has_failed sink.old sink.new)
+        (turn E.held E.has_failed err.old err.new) }
     ensures flushed { result ≡ 0 → W.is_flushed sink.new ≡ true }
     ensures silent { result ≡ 0 → err.new ≡ err.old }
 {
@@ -24,7 +24,7 @@ pub(crate) fn show_text<W: Sink, E: Sink>(text: &[u8], sink: &mut W, err: &mut E
 pub(crate) fn status_of<E: Sink>(put: Result<(), DeviceFault>, err: &mut E) -> u8
     ensures done { OnOk put ((result ≡ 0) × (err.new ≡ err.old)) }
     ensures failed { OnErr put ((result ≡ 1)
-        × Writes (turn (E.held err.old) (E.has_failed err.old) (E.held err.new) (E.has_failed err.new)) (error_line (codes "write failed") [])) }
+        × Writes (turn E.held E.has_failed err.old err.new) (error_line (codes "write failed") [])) }
 {
     match put {
         Ok(()) => 0,

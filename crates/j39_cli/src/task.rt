@@ -1,7 +1,8 @@
 //! What a command line asks for, and why it may ask for nothing.
 ghost use Rattle.std.specs.Prelude.{◌≡◌, ◌↔◌, IfSome, IsSome, Some, option_map};
 ghost use Rattle.j39_frame.specs.Address.{IsAddress};
-ghost use Rattle.j39_cli.specs.Task.{argument_text, file_of, table_of};
+ghost use Rattle.j39_cli.specs.Answer.{argument_text};
+ghost use Rattle.j39_cli.specs.Task.{file_of, table_of};
 
 use crate::Outgoing;
 use j39_address::Name;
@@ -83,8 +84,8 @@ impl Address {
 /// A command with its values.
 #[derive(Debug, Drop)]
 pub enum Task<'a> {
-    /// The report of a log: the bus to read, where one is named, the file of the table of parameters, where it isn't the
-    /// built-in one, and FILE, where it is given.
+    /// The report of a log: the bus to read, where one is named, the file of the table of parameters,
+    /// where it isn't the built-in one, and FILE, where it is given.
     Report(Option<Bus>, Option<WordText<'a>>, Option<WordText<'a>>),
     /// Who holds which address after a log: the bus to read, and FILE, as of a report.
     Nodes(Option<Bus>, Option<WordText<'a>>),
@@ -107,16 +108,10 @@ impl<'a> Task<'a> {
         ensures { option_map (λ text. text.now) result ≡ file_of self.now }
     {
         match self {
-            Task::Report(_, _, Some(file)) => Some(file.as_str()),
-            Task::Report(_, _, None) => None,
-            Task::Nodes(_, Some(file)) => Some(file.as_str()),
-            Task::Nodes(_, None) => None,
-            Task::Answer(_, _, _, Some(file)) => Some(file.as_str()),
-            Task::Answer(_, _, _, None) => None,
-            Task::Id(_) => None,
-            Task::Name(_) => None,
-            Task::Cut(_) => None,
-            Task::Groups(_) => None,
+            Task::Report(_, _, file) => text_of(file),
+            Task::Nodes(_, file) => text_of(file),
+            Task::Answer(_, _, _, file) => text_of(file),
+            _ => None,
         }
     }
 
@@ -125,16 +120,19 @@ impl<'a> Task<'a> {
         ensures { option_map (λ text. text.now) result ≡ table_of self.now }
     {
         match self {
-            Task::Report(_, Some(table), _) => Some(table.as_str()),
-            Task::Report(_, None, _) => None,
-            Task::Nodes(_, _) => None,
-            Task::Answer(_, _, _, _) => None,
-            Task::Id(_) => None,
-            Task::Name(_) => None,
-            Task::Cut(_) => None,
-            Task::Groups(Some(table)) => Some(table.as_str()),
-            Task::Groups(None) => None,
+            Task::Report(_, table, _) => text_of(table),
+            Task::Groups(table) => text_of(table),
+            _ => None,
         }
+    }
+}
+
+fn text_of<'a>(word: &Option<WordText<'a>>) -> Option<&'a str>
+    ensures { option_map (λ text. text.now) result ≡ word.now }
+{
+    match word {
+        Some(word) => Some(word.as_str()),
+        None => None,
     }
 }
 

@@ -4,9 +4,10 @@ ghost use Rattle.clap.specs.Words.{HasMatchesOf, Row, Text, first_value, found_o
 ghost use Rattle.clap.specs.Words.{fault_of, subcommand_name_of, subcommand_of, subcommand_rows_of, takes};
 ghost use Rattle.j39_log.specs.Bus.{IsBusName};
 ghost use Rattle.j39_cli.specs.Command.{line_app};
-ghost use Rattle.j39_cli.specs.CommandWords.{CommandWords, HasTexts, HasValues, words_of};
+ghost use Rattle.j39_cli.specs.CommandWords.{CommandWords, HasTexts, HasValues, IsAnswer, Tells, words_of};
 ghost use Rattle.j39_cli.specs.Spelling.{IsEntered, IsSpelled};
-ghost use Rattle.j39_cli.specs.Task.{IsAnswer, IsBusValue, IsInRange};
+ghost use Rattle.j39_cli.specs.Answer.{IsBusValue};
+ghost use Rattle.j39_cli.specs.Task.{IsInRange};
 
 use crate::command::line;
 use crate::{Argument, ParseFault, Task, answer, cut, groups, id, name, nodes, report};
@@ -28,7 +29,8 @@ pub fn parse<'a, S: AsStr>(alloc: Global, words: &'a [S]) -> Result<Task<'a>, Pa
     // words spell.
     ensures spelled { (s : CommandWords) → takes line_app (map S.text words.entry.now) ≡ true
         → IsEntered (subcommand_of line_app (map S.text words.entry.now)) s → IsAnswer s result }
-    ensures task { IfOk result (λ _. (s : CommandWords) × IsSpelled (map S.text words.entry.now) s × IsAnswer s result) }
+    ensures task { IfOk result (λ _. (s : CommandWords)
+        × IsSpelled (map S.text words.entry.now) s × IsAnswer s result) }
 {
     match matched(alloc, words) {
         Ok(matches) => task_of(alloc, &matches),
@@ -73,39 +75,34 @@ fn task_of<'a>(alloc: Global, matches: &ArgMatches<'a>) -> Result<Task<'a>, Pars
     ensures answer { (s : CommandWords) (met : Text × List Row) → subcommand_rows_of matches.now ≡ Some met
         → HasTexts s met → IsAnswer s result }
     ensures memory { result ≡ Err ParseFault.Memory → subcommand_name_of matches.now ≡ Some (codes "cut") }
-    ensures met { IfOk result (λ _. (s : CommandWords) × IsEntered (subcommand_rows_of matches.now) s × IsAnswer s result) }
+    ensures met { IfOk result (λ _. (s : CommandWords)
+        × IsEntered (subcommand_rows_of matches.now) s × IsAnswer s result) }
     ensures in_range { IfOk result IsInRange }
 {
-    let report = matches.subcommand_matches("report");
-    if let Some(given) = report {
-        return report::task(given);
+    match matches.subcommand() {
+        Some((name, given)) => task_named(alloc, name, given),
+        // clap requires a command, so that nothing comes here.
+        None => Err(ParseFault::Usage(String::new(alloc))),
     }
-    let id = matches.subcommand_matches("id");
-    if let Some(given) = id {
-        return id::task(alloc, given);
+}
+
+/// The task of the command of this name, with the values that clap met.
+fn task_named<'a>(alloc: Global, name: &str, given: &ArgMatches<'a>) -> Result<Task<'a>, ParseFault>
+    ensures tells { Tells name.now (found_of given.now) result }
+    ensures memory { result ≡ Err ParseFault.Memory → name.now ≡ codes "cut" }
+    ensures in_range { IfOk result IsInRange }
+{
+    match name {
+        "report" => report::task(given),
+        "id" => id::task(alloc, given),
+        "name" => name::task(alloc, given),
+        "cut" => cut::task(alloc, given),
+        "nodes" => nodes::task(given),
+        "answer" => answer::task(alloc, given),
+        "groups" => groups::task(given),
+        // clap knows no other, so that nothing comes here.
+        _ => Err(ParseFault::Usage(String::new(alloc))),
     }
-    let name = matches.subcommand_matches("name");
-    if let Some(given) = name {
-        return name::task(alloc, given);
-    }
-    let cut = matches.subcommand_matches("cut");
-    if let Some(given) = cut {
-        return cut::task(alloc, given);
-    }
-    let nodes = matches.subcommand_matches("nodes");
-    if let Some(given) = nodes {
-        return nodes::task(given);
-    }
-    let answer = matches.subcommand_matches("answer");
-    if let Some(given) = answer {
-        return answer::task(alloc, given);
-    }
-    let groups = matches.subcommand_matches("groups");
-    if let Some(given) = groups {
-        return groups::task(given);
-    }
-    // clap requires a command and knows no other, so that nothing comes here.
-    Err(ParseFault::Usage(String::new(alloc)))
 }
 
 /// The value of `--bus`, where it is given.

@@ -1,12 +1,13 @@
 -- The texts that are read are those that were given.
 use Rattle.std.proofs.Common.{◌≡◌, subst}
 use Rattle.clap.specs.Words.{Text}
-use Rattle.j39_cli.specs.CommandWords.{cut}
-use Rattle.j39_cli.specs.Task.{Answer, IsAnswer}
+use Rattle.j39_cli.specs.CommandWords.{IsAnswer, cut}
+use Rattle.j39_cli.specs.Answer.{Answer}
 use Rattle.j39_cli.proofs.MetLemmas.{same_text}
 use Rattle.j39_cli.proofs.cut.task.Goals as goal
 
-same_answer : (source pgn at bus hex source' pgn' at' bus' hex' : Text) (r : Answer) → source ≡ source' → pgn ≡ pgn' → at ≡ at'
+same_answer : (source pgn at bus hex source' pgn' at' bus' hex' : Text) (r : Answer) → source ≡ source'
+    → pgn ≡ pgn' → at ≡ at'
     → bus ≡ bus' → hex ≡ hex' → IsAnswer (cut source pgn at bus hex) r → IsAnswer (cut source' pgn' at' bus' hex') r
 same_answer source pgn at bus hex source' pgn' at' bus' hex' r e1 e2 e3 e4 e5 answer =
     subst (λ (x : Text). IsAnswer (cut source' pgn' at' bus' x) r) e5

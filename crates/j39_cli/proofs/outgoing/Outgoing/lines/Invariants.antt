@@ -1,6 +1,6 @@
 use Rattle.std.proofs.Common.{◌≡◌, ◌≤◌, ◌*◌}
 use Rattle.arrayvec.specs.ArrayVec.{array_vec_len}
-use Rattle.j39_cli.specs.CutCommand.{first_lines}
+use Rattle.j39_cli.specs.Outgoing.{first_lines}
 use Rattle.j39_cli.proofs.outgoing.Outgoing.lines.Given as goal
 
 abbrev pub invariant-loop-k : goal.invariant-loop-k
