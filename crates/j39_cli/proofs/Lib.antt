@@ -1,8 +1,11 @@
+-- numbers in words
 pub mod FieldLemmas
 pub mod DigitLemmas
+-- clap, from words to the command that it met: for `parse`
 pub mod PartLemmas
 pub mod TakenLemmas
 pub mod MetLemmas
+-- the commands, each by itself: for `parse`
 pub mod ReportLemmas
 pub mod NodesLemmas
 pub mod AnswerLemmas
@@ -11,4 +14,5 @@ pub mod NameLemmas
 pub mod CutLemmas
 pub mod GroupsLemmas
 pub mod CommandLemmas
+-- a run's faults: for `perform`
 pub mod RunLemmas

@@ -1,10 +1,14 @@
-pub mod Turn
-pub mod Answer
-pub mod Refusal
-pub mod Shown
+-- what clap is told, and what it meets
 pub mod Rules
 pub mod Form
-pub mod Counted
+pub mod Command
+pub mod CommandWords
+pub mod Spelling
+-- what a command line asks for
+pub mod Answer
+pub mod Task
+pub mod Refusal
+-- the commands, each with its words, its task and what it writes
 pub mod LogCommand
 pub mod ReportCommand
 pub mod NodesCommand
@@ -14,8 +18,8 @@ pub mod NameCommand
 pub mod Outgoing
 pub mod CutCommand
 pub mod GroupsCommand
-pub mod CommandWords
-pub mod Command
-pub mod Spelling
-pub mod Task
+-- what a call makes of a device, and what is written on it
+pub mod Turn
+pub mod Shown
+pub mod Counted
 pub mod OwnTable
