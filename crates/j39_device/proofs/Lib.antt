@@ -1,2 +1,2 @@
--- ---- calls one after another
+-- calls one after another
 pub mod DeviceLemmas

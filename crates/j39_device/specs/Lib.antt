@@ -1,4 +1,4 @@
--- ---- what a call leaves of a device
+-- what a call leaves of a device
 pub mod Device
--- ---- a device of std with its marks
+-- a device of std with its marks
 pub mod Told

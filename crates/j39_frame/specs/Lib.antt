@@ -1,8 +1,8 @@
--- ---- numbers of a bus: moments, groups, identifiers, addresses
+-- numbers of a bus: moments, groups, identifiers, addresses
 pub mod Stamp
 pub mod Pgn
 pub mod Network
 pub mod Identifier
 pub mod Address
--- ---- frames
+-- frames
 pub mod Frame

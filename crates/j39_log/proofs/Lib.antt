@@ -1,18 +1,18 @@
--- ---- a line and its parts
+-- a line and its parts
 pub mod FieldLemmas
 pub mod TextLemmas
 pub mod LineLemmas
--- ---- the quick reader
+-- the quick reader
 pub mod SpacedLemmas
 pub mod LaneLemmas
 pub mod StampLaneLemmas
 pub mod PlainLemmas
--- ---- lines of a log, and the frames of a run's bus
+-- lines of a log, and the frames of a run's bus
 pub mod LogLemmas
 pub mod BusLemmas
--- ---- where lines end
+-- where lines end
 pub mod NewlineLemmas
 pub mod BlockLemmas
 pub mod SplitterLemmas
--- ---- the line that is written
+-- the line that is written
 pub mod CanonicalLemmas

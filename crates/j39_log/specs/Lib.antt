@@ -1,19 +1,19 @@
--- ---- the parts of a line: buses, fields, and the texts of fields
+-- the parts of a line: buses, fields, and the texts of fields
 pub mod Bus
 pub mod Fields
 pub mod Text
--- ---- what a line is, what it spells, and what a log spells
+-- what a line is, what it spells, and what a log spells
 pub mod Line
 pub mod Spelled
 pub mod Log
--- ---- what is written
+-- what is written
 pub mod StampText
 pub mod Canonical
--- ---- a splitter, and seconds kept as text
+-- a splitter, and seconds kept as text
 pub mod Newline
 pub mod Splitter
 pub mod Seconds
--- ---- what private contracts alone see
+-- what private contracts alone see
 pub mod Shape
 pub mod LineParts
 pub mod LineRead

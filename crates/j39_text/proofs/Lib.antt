@@ -1,5 +1,5 @@
--- ---- digits that are read
+-- digits that are read
 pub mod DigitLemmas
--- ---- digits that are written, forwards and backwards
+-- digits that are written, forwards and backwards
 pub mod PrintingLemmas
 pub mod BackwardsLemmas

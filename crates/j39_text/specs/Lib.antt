@@ -1,5 +1,5 @@
--- ---- characters
+-- characters
 pub mod Chars
--- ---- numbers as text, and where a text stands that is written backwards
+-- numbers as text, and where a text stands that is written backwards
 pub mod Printing
 pub mod Backwards

@@ -1,2 +1,2 @@
--- ---- what the calls set and count
+-- what the calls set and count
 pub mod Trial
