@@ -14,15 +14,17 @@ use j39_log::Bus;
 
 /// Why a line was not finished.
 #[derive(Clone, Copy, Debug, PartialEq, Eq)]
-pub(crate) enum LineFault {
+pub enum LineFault {
     /// Memory was refused; nothing was written for the line.
     Memory,
     /// The writer failed.
     Write,
 }
 
-/// An account of the frames of a bus: it is written frame by frame, and at their end.
-pub(crate) trait Account: Drop {
+/// An account of the frames of a bus: it is written frame by frame, and at their end. `run_over` writes one of a whole
+/// log. What it is an account of, what it has met and what is made of the frames its ghost members say; the clauses of a
+/// run are in their words.
+pub trait Account: Drop {
     // What it is an account of, beside the frames.
     ghost Subject: { Type 0 };
 

@@ -39,10 +39,12 @@ impl Tally {
     }
 }
 
-/// What was made of the frames of a log.
+/// What was made of the frames of a log. A count that would pass 2^64 - 1 stays there (own).
 #[derive(Clone, Copy, Debug, Default, PartialEq, Eq)]
-pub(crate) struct Made {
+pub struct Made {
+    /// Messages that were heard.
     pub messages: u64,
+    /// Lines that were written.
     pub lines: u64,
 }
 

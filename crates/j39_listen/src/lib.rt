@@ -15,10 +15,11 @@ mod report;
 mod report_lines;
 mod running;
 
+pub use account::{Account, LineFault};
 pub use answers::answer;
-pub use counts::Counts;
+pub use counts::{Counts, Made};
 pub use heard::Heard;
 pub use listener::Listener;
 pub use node_list::nodes;
 pub use report::{run, run_with};
-pub use running::RunFault;
+pub use running::{RunFault, run_over};

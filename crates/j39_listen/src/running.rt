@@ -57,7 +57,7 @@ impl fmt::Display for RunFault {
 const PIECE: usize = 65_536;
 
 /// Writes an account of a log of at most `limit` bytes; the account has met no frame.
-pub(crate) fn run_over<A: Account, R: Source, W: Sink>(
+pub fn run_over<A: Account, R: Source, W: Sink>(
     account: A,
     source: &mut R,
     sink: &mut W,
