@@ -8,7 +8,7 @@ pub mod Slots
 pub mod Readings
 -- what is printed (own)
 pub mod ValueText
-pub mod Parameters
+pub mod Printed
 -- what the code's values show
 pub mod Shown
 pub mod ReadFields

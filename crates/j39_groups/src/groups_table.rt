@@ -5,7 +5,7 @@ ghost use Rattle.std.specs.List.{flat_map, prefix_len};
 ghost use Rattle.std.specs.List.Sorted.{IsNonDecreasingBy, IsPartitionPoint};
 ghost use Rattle.j39_frame.specs.Pgn.{pgn_raw};
 ghost use Rattle.j39_device.specs.Device.{AppendsFront, Marks};
-ghost use Rattle.j39_groups.specs.Parameters.{rows_text};
+ghost use Rattle.j39_groups.specs.Printed.{rows_text};
 ghost use Rattle.j39_groups.specs.Quick.{reading_line};
 ghost use Rattle.j39_groups.specs.ReadRows.{BeginsAt, read_row_record};
 ghost use Rattle.j39_groups.specs.Readings.{HaveSameGroups, is_reported_in, readings_in};
@@ -15,7 +15,7 @@ use crate::by_group::by_group;
 use crate::lines::put_found;
 use crate::listed::{Listed, ReadTable};
 use crate::marks::mark;
-use crate::parameters;
+use crate::printed;
 use crate::quick_lines::{HEAD, LINES, lines_before};
 use crate::read_lines::put_rows;
 use crate::read_parameters::put_read_table;
@@ -85,7 +85,7 @@ impl<'t> Groups<'t> {
         ensures mark { Marks result (W.has_failed sink.old) (W.has_failed sink.new) }
     {
         match &self.listed {
-            Listed::BuiltIn => parameters::put_built_in(sink),
+            Listed::BuiltIn => printed::put_built_in(sink),
             Listed::Read(table) => put_read_table(table.rows.as_slice(), sink),
         }
     }

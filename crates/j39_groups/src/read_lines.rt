@@ -10,7 +10,7 @@ ghost use Rattle.j39_groups.specs.ReadValues.{read_value_of};
 
 use crate::field::bytes_from;
 use crate::lines::put_found;
-use crate::parameters::{decimal_of, put_parts};
+use crate::printed::{decimal_of, put_parts};
 use crate::quick_lines::{HEAD, LINES};
 use crate::quick_value::quick_line;
 use crate::read_field::ReadField;

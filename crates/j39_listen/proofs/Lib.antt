@@ -40,6 +40,6 @@ pub mod Written
 -- its premises can be met
 pub mod CheckedItems
 pub mod Checked
-pub mod Example
-pub mod Examples
+pub mod TransferExample
+pub mod NoTransferExamples
 pub mod LossExample

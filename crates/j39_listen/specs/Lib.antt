@@ -10,8 +10,8 @@ pub mod Published
 pub mod Loss
 pub mod Values
 -- logs that meet the premises
-pub mod Example
-pub mod Examples
+pub mod TransferExample
+pub mod NoTransferExamples
 pub mod LossExample
 -- what a run promises
 pub mod Counting

@@ -4,7 +4,7 @@ use Rattle.std.specs.Prelude.{◌≡◌, ℕ, ℤ, pos, neg_ℤ, List, [], ◌�
 use Rattle.j39_frame.specs.Frame.{FrameRecord}
 use Rattle.j39_groups.specs.Table.{the_table}
 use Rattle.j39_groups.specs.Value.{ValueRecord, number, text}
-use Rattle.j39_listen.specs.Example.{engine, engine_claim, entry, frame, padding, vin_value}
+use Rattle.j39_listen.specs.TransferExample.{engine, engine_claim, entry, frame, padding, vin_value}
 use Rattle.j39_listen.specs.Published.{Item, Published, Publisher, Publishing}
 use Rattle.j39_listen.specs.Report.{Entry}
 use Rattle.j39_listen.specs.Values.{no_place, values}

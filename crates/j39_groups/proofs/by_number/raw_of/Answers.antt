@@ -7,7 +7,7 @@ use Rattle.std.proofs.lemmas.Int.{to_z-of_z}
 use Rattle.j39_groups.specs.Slots.{IsAt, IsRawIn}
 use Rattle.j39_groups.specs.Shown.{slot_record}
 use Rattle.j39_groups.proofs.SlotLemmas.{valid_fits, some_same}
-use Rattle.j39_groups.proofs.parameter.raw_of.Goals as goal
+use Rattle.j39_groups.proofs.by_number.raw_of.Goals as goal
 
 pub returns-in_err-raw-clause-only : goal.returns-in_err-raw-clause-only
 returns-in_err-raw-clause-only c = λ raw is.

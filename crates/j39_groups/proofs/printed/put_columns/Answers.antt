@@ -7,7 +7,7 @@ use Rattle.j39_device.proofs.DeviceLemmas.{on_err_from}
 use Rattle.j39_device.specs.Device.{AppendsFront}
 use Rattle.j39_groups.proofs.ReadLemmas.{on_ok_from}
 use Rattle.j39_groups.proofs.TextLemmas.{columns_joined}
-use Rattle.j39_groups.proofs.parameters.put_columns.Goals as goal
+use Rattle.j39_groups.proofs.printed.put_columns.Goals as goal
 
 pub returns-clause-ok : goal.returns-clause-ok
 returns-clause-ok g c =

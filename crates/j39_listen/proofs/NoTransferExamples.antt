@@ -4,7 +4,7 @@ use Rattle.j39_groups.specs.Readings as readings
 use Rattle.j39_groups.specs.Readings.{is_reported_in, readings_in}
 use Rattle.j39_groups.specs.Table.{the_table}
 use Rattle.j39_listen.proofs.Checked.{Passes, is_published}
-use Rattle.j39_listen.specs.Examples.{Publishes, early, early_frames, eec1, eec1_bytes, eec1_frame, eec1_frames, eec1_values, parts_announced, parts_first, parts_item, parts_second, speed_bytes, two, two_frames, two_values, vin, vin_announced, vin_first, vin_second, vin_third, vin_frames, vin_item, vin_values}
+use Rattle.j39_listen.specs.NoTransferExamples.{Publishes, early, early_frames, eec1, eec1_bytes, eec1_frame, eec1_frames, eec1_values, parts_announced, parts_first, parts_item, parts_second, speed_bytes, two, two_frames, two_values, vin, vin_announced, vin_first, vin_second, vin_third, vin_frames, vin_item, vin_values}
 use Rattle.j39_transport.specs.Carries.{Carries}
 use Rattle.j39_transport.specs.Frames as frames
 use Rattle.j39_transport.specs.Frames.{destination_of, goes, group_of, is_announcement, is_end, is_packet, names_message}

@@ -1,8 +1,8 @@
 -- The columns of the row.
 use Rattle.std.proofs.Common.{◌≡◌, rules}
 use Rattle.j39_groups.specs.CodeRows.{field_record}
-use Rattle.j39_groups.specs.Parameters.{place_text, row_text}
-use Rattle.j39_groups.proofs.parameters.put_row.Goals as goal
+use Rattle.j39_groups.specs.Printed.{place_text, row_text}
+use Rattle.j39_groups.proofs.printed.put_row.Goals as goal
 
 pub returns-clause-ok : goal.returns-clause-ok
 unfolding row_text

@@ -5,7 +5,7 @@ use Rattle.std.specs.List.{filter_map}
 use Rattle.j39_groups.specs.CodeRows.{row_record}
 use Rattle.j39_groups.specs.Slots.{slot_at, sized_slot_of_spn}
 use Rattle.j39_groups.proofs.TableLemmas.{filter_map-seen}
-use Rattle.j39_groups.proofs.parameter.sized_slot_of.Goals as goal
+use Rattle.j39_groups.proofs.by_number.sized_slot_of.Goals as goal
 
 pub returns-clause-value : goal.returns-clause-value
 unfolding sized_slot_of_spn

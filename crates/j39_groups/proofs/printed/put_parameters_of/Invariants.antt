@@ -2,8 +2,8 @@ use Rattle.std.proofs.Common.{◌≡◌, take}
 use Rattle.std.specs.Io.KnownBytes.{Appends}
 use Rattle.std.specs.List.{flat_map}
 use Rattle.j39_groups.specs.CodeRows.{row_record}
-use Rattle.j39_groups.specs.Parameters.{row_text}
-use Rattle.j39_groups.proofs.parameters.put_parameters_of.Given as goal
+use Rattle.j39_groups.specs.Printed.{row_text}
+use Rattle.j39_groups.proofs.printed.put_parameters_of.Given as goal
 
 -- the rows so far are written, and no fault came
 abbrev pub invariant-loop-row : goal.invariant-loop-row

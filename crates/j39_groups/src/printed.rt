@@ -5,7 +5,7 @@ ghost use Rattle.std.specs.List.{flat_map};
 ghost use Rattle.arrayvec.specs.ArrayVec.{array_vec_len};
 ghost use Rattle.j39_device.specs.Device.{AppendsFront, Marks};
 ghost use Rattle.j39_groups.specs.CodeRows.{field_record, row_record};
-ghost use Rattle.j39_groups.specs.Parameters.{line_of_columns, parameters_text, place_text, range_text, row_text, rows_text, scale_columns, scale_text, slot_text};
+ghost use Rattle.j39_groups.specs.Printed.{line_of_columns, parameters_text, place_text, range_text, row_text, rows_text, scale_columns, scale_text, slot_text};
 ghost use Rattle.j39_groups.specs.Shown.{slot_record};
 ghost use Rattle.j39_groups.specs.Table.{the_table};
 

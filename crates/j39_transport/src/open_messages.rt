@@ -10,7 +10,7 @@ ghost use Rattle.j39_transport.specs.Signals.{said_by};
 ghost use Rattle.j39_transport.specs.Steps.{after_packet, answer_to_packet, state_after, answer, state_without, without_broadcast, empty_state, spare_after, is_whole, LacksBox, messages_open, bytes_held};
 ghost use Rattle.j39_transport.specs.Shown.{outcome_by, CanLend};
 
-use crate::announce::{announce_broadcast, announce_directed};
+use crate::opening::{announce_broadcast, announce_directed};
 use crate::control::{finish, grant};
 use crate::packet::{Accepted, pack, pack_directed};
 use crate::protocol::BROADCAST_LIMIT;
@@ -23,24 +23,24 @@ use std::marker::Model;
 /// All open messages: broadcasts by their source, and directed messages by how many directed
 /// announcements came since their own.
 #[derive(Drop)]
-pub(crate) struct Sessions {
+pub(crate) struct OpenMessages {
     broadcasts: Table<SOURCES>,
     directed: Table<PAIRS>,
 }
 
-impl Model for Sessions {
-    ghost use Rattle.j39_transport.specs.Steps.{SessionsRecord};
+impl Model for OpenMessages {
+    ghost use Rattle.j39_transport.specs.Steps.{OpenMessagesRecord};
 
-    ghost Value = { SessionsRecord };
+    ghost Value = { OpenMessagesRecord };
 
     ghost view = { λ s. record { broadcasts = s.broadcasts; directed = s.directed } };
 }
 
-impl Sessions {
-    pub(crate) fn new() -> Sessions
+impl OpenMessages {
+    pub(crate) fn new() -> OpenMessages
         ensures { result ≡ empty_state }
     {
-        Sessions {
+        OpenMessages {
             broadcasts: Table::new(),
             directed: Table::new(),
         }
@@ -92,8 +92,8 @@ impl Sessions {
                 finish(&mut self.directed, s, d, group);
                 Ok(Accepted::Ignored)
             }
-            Some(Signal::Packet(number, joined)) => {
-                let accepted = self.pack(lent, s, d, number, &joined, stamp);
+            Some(Signal::Packet(number, part)) => {
+                let accepted = self.pack(lent, s, d, number, &part, stamp);
                 Ok(accepted)
             }
         }

@@ -3,7 +3,7 @@ use Rattle.std.proofs.Common.{Bor, ℕ, List, suc, take, drop}
 use Rattle.std.specs.List.{flat_map}
 use Rattle.j39_device.proofs.DeviceLemmas.{front_within, on_err}
 use Rattle.j39_groups.proofs.ListLemmas.{flat_map-at}
-use Rattle.j39_groups.proofs.parameters.put_parts.Goals as goal
+use Rattle.j39_groups.proofs.printed.put_parts.Goals as goal
 
 pub returns-in_err-put_all-clause-err : goal.returns-in_err-put_all-clause-err
 returns-in_err-put_all-clause-err g c =

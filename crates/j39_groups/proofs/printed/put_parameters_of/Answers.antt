@@ -4,9 +4,9 @@ use Rattle.std.specs.List.{flat_map}
 use Rattle.j39_device.proofs.DeviceLemmas.{front_within, on_err}
 use Rattle.j39_groups.specs.CodeRows.{row_record}
 use Rattle.j39_groups.specs.declared.table.Row.{Row}
-use Rattle.j39_groups.specs.Parameters.{row_text}
+use Rattle.j39_groups.specs.Printed.{row_text}
 use Rattle.j39_groups.proofs.ListLemmas.{flat_map-at}
-use Rattle.j39_groups.proofs.parameters.put_parameters_of.Goals as goal
+use Rattle.j39_groups.proofs.printed.put_parameters_of.Goals as goal
 
 pub returns-in_err-put_row-clause-err : goal.returns-in_err-put_row-clause-err
 returns-in_err-put_row-clause-err g c =

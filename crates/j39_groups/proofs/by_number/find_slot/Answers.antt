@@ -3,7 +3,7 @@ use Rattle.std.proofs.Common.{sym}
 use Rattle.j39_groups.specs.Slots.{slot_at}
 use Rattle.j39_groups.specs.CodeRows.{row_record}
 use Rattle.j39_groups.proofs.SlotLemmas.{first_found, none_more}
-use Rattle.j39_groups.proofs.parameter.find_slot.Goals as goal
+use Rattle.j39_groups.proofs.by_number.find_slot.Goals as goal
 
 pub returns-in-Some-clause-value : goal.returns-in-Some-clause-value
 returns-in-Some-clause-value c =

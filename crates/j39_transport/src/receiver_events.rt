@@ -71,12 +71,12 @@ fn take_data(
     lent: &mut ReceptionBox,
     source: u8,
     number: u8,
-    joined: &[u8; 7],
+    part: &[u8; 7],
     now: Stamp,
 ) -> Move
     requires { IsOpen (held_in slot.old) }
     ensures does { reacted result (held_in slot.new) (held_in lent.new)
-        ≡ takes_data source number joined.now (stamp_micros now) (held_in slot.old) }
+        ≡ takes_data source number part.now (stamp_micros now) (held_in slot.old) }
     ensures found { found_in result ≡ true }
     ensures buffer { has_box (held_in slot.new) (held_in lent.new) ≡ has_box (held_in slot.old) (held_in lent.old) }
     ensures open { IsOpen (held_in slot.new) }
@@ -86,7 +86,7 @@ fn take_data(
         None => Move::Quiet,
         Some(mut session) => {
             if source == session.source() {
-                let step = session.take_packet(number, joined, now);
+                let step = session.take_packet(number, part, now);
                 settle(slot, lent, session, step)
             } else {
                 *slot = Some(session);
@@ -110,7 +110,7 @@ fn take_abort(slot: &mut ReceptionBox, lent: &mut ReceptionBox, source: u8, pgn:
     match slot.take() {
         None => Move::Quiet,
         Some(session) => {
-            if source == session.source() && pgn == session.group().raw() {
+            if source == session.source() && pgn == session.pgn().raw() {
                 *lent = Some(session);
             } else {
                 *slot = Some(session);
@@ -218,7 +218,7 @@ pub(crate) fn take_signal(
         Some(Signal::ClearToSend(_, _, _)) => Move::Quiet,
         Some(Signal::Acknowledgment(_, _, _)) => Move::Quiet,
         Some(Signal::Abort(_, pgn)) => take_abort(slot, lent, source, pgn),
-        Some(Signal::Packet(number, joined)) => take_data(slot, lent, source, number, &joined, now),
+        Some(Signal::Packet(number, part)) => take_data(slot, lent, source, number, &part, now),
     }
 }
 

@@ -4,7 +4,7 @@ use Rattle.j39_frame.specs.Frame.{FrameRecord}
 use Rattle.j39_transport.specs.Frames.{packets_for}
 use Rattle.j39_transport.specs.Message.{MessageRecord}
 use Rattle.j39_transport.specs.Reception.{ReceptionRecord}
-use Rattle.j39_transport.specs.Receiving.{ReceiverRecord, BoxedReceiver, Answer, HearStep}
+use Rattle.j39_transport.specs.Receiving.{ReceiverRecord, BoxedReceiver, ReceiverAnswer, HearStep}
 use Rattle.j39_transport.specs.Signals.{RequestToSend, Packet, said_between}
 
 -- among these frames stand an RTS of the message, from its source to the own address, and after it its packets
@@ -42,11 +42,11 @@ AreReceived own E None = Unit {0}
 AreReceived own E (Some r) = IsReceived own E r
 
 -- the receiver stands for these frames
-abbrev pub StandsFor : List FrameRecord → ReceiverRecord → Type 0
-StandsFor E r = AreReceived r.own E r.session
+abbrev pub ReceiverStandsFor : List FrameRecord → ReceiverRecord → Type 0
+ReceiverStandsFor E r = AreReceived r.own E r.session
 
 -- a receiver that was handed f: the step that it took, and that it stands for one frame more
-pub record HasHeard (old : BoxedReceiver) (f : FrameRecord) (now : ℕ) (answer : Answer)
+pub record HasHeard (old : BoxedReceiver) (f : FrameRecord) (now : ℕ) (answer : ReceiverAnswer)
     (new : BoxedReceiver) : Type 0 where
   pub takes : HearStep old f now answer new
-  pub stands : (E : List FrameRecord) → StandsFor E old.state → StandsFor (E ++ f ∷ []) new.state
+  pub stands : (E : List FrameRecord) → ReceiverStandsFor E old.state → ReceiverStandsFor (E ++ f ∷ []) new.state

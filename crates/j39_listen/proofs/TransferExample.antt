@@ -5,7 +5,7 @@ use Rattle.j39_groups.specs.Readings.{is_reported_in, readings_in}
 use Rattle.j39_groups.specs.Table.{the_table}
 use Rattle.j39_listen.proofs.Checked as checked
 use Rattle.j39_listen.proofs.Checked.{Passes}
-use Rattle.j39_listen.specs.Example.{directed_item, example, example_frames, example_values}
+use Rattle.j39_listen.specs.TransferExample.{directed_item, example, example_frames, example_values}
 use Rattle.j39_listen.specs.Heard.{frame_at}
 use Rattle.j39_listen.specs.Published.{Published}
 use Rattle.j39_listen.specs.Values.{no_place, values}
