@@ -4,7 +4,7 @@
 -- at. Of a value it is known that it has a letter and that the first is no `-`: clap takes it as it
 -- stands. So here a command line is a list of parts, and each lemma turns clap's walk over the words
 -- into one over the parts, which looks at no letter of a value and so computes to its end.
-use Rattle.std.proofs.Common.{◌≡◌, ◌∙◌, ◌&&◌, ◌||◌, ℕ, Bool, List, [], ◌∷◌, ◌++◌, map, fold, refl, ap, ap₂, sym, true, false, Some, None, Option, is_some, if◌then◌else◌, append_assoc, append-nil}
+use Rattle.std.proofs.Common.{◌≡◌, ◌∙◌, ◌&&◌, ◌||◌, ◌==◌, ℕ, Bool, List, [], ◌∷◌, ◌++◌, map, fold, refl, ap, ap₂, sym, subst, eqb-true, true, false, Some, None, Option, is_some, if◌then◌else◌, append_assoc, append-nil}
 use Rattle.std.specs.Option.{option_map_or}
 use Rattle.std.specs.List.{list_all}
 use Rattle.std.specs.Prelude.{find, option_map}
@@ -12,7 +12,7 @@ use Rattle.clap.specs.Words.{Rule, Shape, Text}
 use Rattle.clap.specs.Walk.{answers_to, finished, nothing_held, rows_after, Held, Names, Step, Waiting, Walk, idle, option, positional, value, after_step, plain_word, word_met, walked, walked_from, walk, walk_from}
 use Rattle.clap.specs.Takes.{built_takes, default_passes, entered_passes, is_valid, level_passes, settle_passes, step_passes, turn_passes, word_passes, walk_passes}
 use Rattle.clap.specs.Simple.{App, entered, label_of, names_of, rows_at}
-use Rattle.j39_cli.specs.Form.{IsValue}
+use Rattle.j39_cli.specs.Form.{IsValue, hyphen}
 
 -- ---- parts
 
@@ -53,9 +53,27 @@ word_met-value : (rules : List Rule) (is_trailing : Bool) (waiting : Waiting) (p
     → word_met rules [] is_trailing waiting position word held ≡ value_met rules is_trailing waiting word held
 word_met-value rules t waiting position [] held is_value = absurd is_value
 word_met-value rules true waiting position (x ∷ xs) held is_value = refl
-word_met-value rules false idle position (x ∷ xs) held is_value = simp is_value
-word_met-value rules false (option id) position (x ∷ xs) held is_value = simp is_value
-word_met-value rules false positional position (x ∷ xs) held is_value = simp is_value
+word_met-value rules false waiting position (x ∷ []) held is_value = by_letter (x == hyphen) refl
+  where
+    Meets : ℕ → Type 0
+    Meets y = word_met rules [] false waiting position (y ∷ []) held ≡ value_met rules false waiting (y ∷ []) held
+
+    hyphen_met : (w : Waiting) → word_met rules [] false w position (hyphen ∷ []) held ≡ value_met rules false w (hyphen ∷ []) held
+    hyphen_met idle = refl
+    hyphen_met (option id) = refl
+    hyphen_met positional = refl
+
+    other_met : (w : Waiting) → (x == hyphen) ≡ false → word_met rules [] false w position (x ∷ []) held ≡ value_met rules false w (x ∷ []) held
+    other_met idle e = simp e
+    other_met (option id) e = simp e
+    other_met positional e = simp e
+
+    by_letter : (is_hyphen : Bool) → (x == hyphen) ≡ is_hyphen → Meets x
+    by_letter true e = subst Meets (sym (eqb-true x hyphen e)) (hyphen_met waiting)
+    by_letter false e = other_met waiting e
+word_met-value rules false idle position (x ∷ y ∷ ys) held is_value = simp is_value
+word_met-value rules false (option id) position (x ∷ y ∷ ys) held is_value = simp is_value
+word_met-value rules false positional position (x ∷ y ∷ ys) held is_value = simp is_value
 
 word_passes-value : (s : Shape) (is_trailing : Bool) (waiting : Waiting) (word : Text) (held : Held) → IsValue word
     → word_passes s [] is_trailing waiting word held ≡ true

@@ -20,7 +20,7 @@ use j39_text::printing::push_number;
 /// Writes the table (own): a line for each parameter that is read, in the table's order, with the
 /// PGN and the short name of its group, its SPN, where it stands in the payload, what a raw step is
 /// worth, the value of the raw number 0, the unit, and its name. After a fault a front was written.
-#[tactic(auto, unfolding(crate::specs::Parameters::parameters_text))]
+#[tactic(auto, unfolding(crate::specs::Printed::parameters_text))]
 pub fn put_parameters<W: Sink>(sink: &mut W) -> Result<(), DeviceFault>
     ensures ok { OnOk result (Appends (W.held sink.old) (W.held sink.new) parameters_text) }
     ensures err { OnErr result (AppendsFront (W.held sink.old) (W.held sink.new) parameters_text) }

@@ -92,7 +92,7 @@ impl Receiver {
         let Some(mut receiver) = Receiver::new(alloc, own) else {
             return Ok(None);
         };
-        receiver.lent = Some(receiving::boxed(alloc)?);
+        receiver.lent = Some(receiver_events::boxed(alloc)?);
         Ok(Some(receiver))
     }
 
@@ -122,7 +122,7 @@ impl Receiver {
             HearStep self.old frame.now (stamp_micros now) (answer_of result) n)) }
     {
         let source = frame.id.source();
-        let done = receiving::take_signal(
+        let done = receiver_events::take_signal(
             &mut self.session,
             &mut self.lent,
             self.alloc,
@@ -151,7 +151,7 @@ impl Receiver {
         ensures buffer { self.new.has_box ≡ self.old.has_box }
     {
         let to = partner(&self.session);
-        match receiving::tick(&mut self.session, &mut self.lent, now) {
+        match receiver_events::tick(&mut self.session, &mut self.lent, now) {
             Move::Quiet => None,
             Move::Says(signal) => Some(signal::write(signal, self.own, to)),
             Move::Refused(signal) => Some(signal::write(signal, self.own, to)),
