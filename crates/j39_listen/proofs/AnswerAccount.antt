@@ -16,6 +16,7 @@ use Rattle.j39_address.specs.Claim.{claim_frame}
 use Rattle.j39_address.specs.Node.{Node}
 use Rattle.j39_address.specs.declared.claimer.Claimer.{Claimer}
 use Rattle.j39_listen.proofs.AnswerLemmas.{answered_first, answered_more, answered_unique, called-append, sent_text-append, sent_text-none, sent_text-one}
+use Rattle.j39_groups.specs.Readings.{is_reported_in}
 use Rattle.j39_listen.proofs.Causal.{heard_more}
 use Rattle.j39_listen.proofs.LineLemmas.{capped-fits, capped-sum}
 use Rattle.j39_listen.proofs.ReportAccount.{same_made}
@@ -182,7 +183,7 @@ answers_meet a a' bus f noticed sent lines old new notices hears obeys begun cou
       after = answers_of bus heard all;
       met = record {
         heard = heard;
-        are_heard = heard_more the_table F f has.heard n.heard has.are_heard n.heard_at;
+        are_heard = heard_more (is_reported_in the_table) F f has.heard n.heard has.are_heard n.heard_at;
         sent = all;
         node = c.after;
         answered = answered_more start has.node c.after F f has.sent (all_sent sent) _ has.answered n.commanded c.called;

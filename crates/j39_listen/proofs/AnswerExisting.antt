@@ -10,6 +10,8 @@ use Rattle.j39_address.specs.Call.{Call}
 use Rattle.j39_address.specs.Command.{Command, commanded_of}
 use Rattle.j39_address.specs.Node.{Node}
 use Rattle.j39_listen.proofs.AnswerLemmas.{answered_unique, heard_command, silent_command}
+use Rattle.j39_groups.specs.Readings.{is_reported_in}
+use Rattle.j39_listen.proofs.Reported.{reported_leaves}
 use Rattle.j39_listen.proofs.Existing.{heard_exists}
 use Rattle.j39_listen.specs.Answers.{AnsweredBelow, AreAnswers, Called, CommandedAt, calls_at, sent_by}
 use Rattle.j39_listen.specs.Heard.{HeardAt, Hearing, IsHeard, frame_at}
@@ -37,7 +39,7 @@ command_of_heard F i None silent = (None, silent_command F i silent)
 command_of_heard F i (Some h) heard = command_by_destination F i h heard (destination_of (frame_at F i).id) refl
 
 pub command_exists : (F : List FrameRecord) (i : ℕ) → i < length F → (x : Option Command) × CommandedAt F i x
-command_exists F i l = let h = heard_exists the_table F i l in command_of_heard F i h.0 h.1
+command_exists F i l = let h = heard_exists (is_reported_in the_table) (reported_leaves the_table) F i l in command_of_heard F i h.0 h.1
 
 -- ---- the calls of a node
 

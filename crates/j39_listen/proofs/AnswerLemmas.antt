@@ -12,6 +12,8 @@ use Rattle.j39_address.specs.Call.{Call}
 use Rattle.j39_address.specs.Command.{Command, commanded_of}
 use Rattle.j39_address.specs.Node.{Node}
 use Rattle.j39_listen.proofs.Causal.{SameBelow, frame_new, heard_same, same_below_append, same_below_less, same_below_sym}
+use Rattle.j39_groups.specs.Readings.{is_reported_in}
+use Rattle.j39_listen.proofs.Reported.{reported_leaves}
 use Rattle.j39_listen.proofs.Unique.{heard_unique}
 use Rattle.j39_listen.specs.Answers.{AnsweredBelow, Called, CommandedAt, IsCommanded, calls_at, sent_by, sent_line, sent_text}
 use Rattle.j39_listen.specs.Heard.{Hearing, HeardAt, IsHeard, frame_at}
@@ -47,13 +49,13 @@ one_command F i None None h k = refl
 one_command F i None (Some d) h k = absurd (h d k)
 one_command F i (Some c) None h k = absurd (k c h)
 one_command F i (Some c) (Some d) h k =
-    let heard = heard_unique the_table F i h.heard k.heard h.is_heard k.is_heard in
+    let heard = heard_unique (is_reported_in the_table) (reported_leaves the_table) F i h.heard k.heard h.is_heard k.is_heard in
     ap (λ (z : Command). Some z) (same_command _ _ c d h.command_is k.command_is (ap (λ (x : Hearing). commanded_of x.message.pgn x.message.bytes) heard))
 
 command_same : (F G : List FrameRecord) (i : ℕ) (c : Command) → SameBelow F G (suc i) → IsCommanded F i c → IsCommanded G i c
 command_same F G i c h k = record {
   heard = k.heard;
-  is_heard = heard_same the_table F G i k.heard h k.is_heard;
+  is_heard = heard_same (is_reported_in the_table) F G i k.heard h k.is_heard;
   command_is = k.command_is;
   to_all = ap (λ (f : FrameRecord). destination_of f.id) (h.same i (omega arith)) ∙ k.to_all;
 }
@@ -71,7 +73,7 @@ pub heard_command : (F : List FrameRecord) (i : ℕ) (h : Hearing) (f : FrameRec
     → ((c : Command) → x ≡ Some c → destination_of f.id ≡ Some global_address)
     → (destination_of f.id ≡ Some global_address → x ≡ commanded_of h.message.pgn h.message.bytes) → CommandedAt F i x
 heard_command F i h f None heard at to_all command = λ c k.
-    let same = heard_unique the_table F i k.heard h k.is_heard heard in
+    let same = heard_unique (is_reported_in the_table) (reported_leaves the_table) F i k.heard h k.is_heard heard in
     let all = sym (ap (λ (g : FrameRecord). destination_of g.id) at) ∙ k.to_all in
     let none : None ≡ Some c = command all ∙ sym (ap (λ (z : Hearing). commanded_of z.message.pgn z.message.bytes) same) ∙ k.command_is in
     cc

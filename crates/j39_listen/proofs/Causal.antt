@@ -1,5 +1,5 @@
 -- What is heard at a place depends on the frames up to it alone.
-use Rattle.std.proofs.Common.{◌≡◌, ◌↔◌, ℕ, zero, suc, ◌<◌, ◌≤◌, List, [], ◌∷◌, ◌++◌, map, length, get_or, take, Option, Some, None, refl, sym, ap, ◌∙◌, subst, inl, inr, arith, flat_map, length-append}
+use Rattle.std.proofs.Common.{◌≡◌, ◌↔◌, ℕ, zero, suc, ◌<◌, ◌≤◌, Bool, List, [], ◌∷◌, ◌++◌, map, length, get_or, take, Option, Some, None, refl, sym, ap, ◌∙◌, subst, inl, inr, arith, flat_map, length-append}
 use Rattle.std.proofs.lemmas.List.{get_or_append_left, get_or_push, get_or-map, length_push}
 use Rattle.std.proofs.lemmas.Grind.{flat_map-append}
 use Rattle.j39_address.specs.Claim.{Claim, claim_of, claims_of}
@@ -10,7 +10,7 @@ use Rattle.j39_frame.specs.Identifier.{pgn_of, source_of}
 use Rattle.j39_groups.specs.Readings.{is_reported_in}
 use Rattle.j39_groups.specs.Row.{RowRecord}
 use Rattle.j39_listen.specs.Forgets.{Changed, WithForgets}
-use Rattle.j39_listen.specs.Heard.{AreHeard, HeardAt, HeardBelow, Hearing, IsAssembled, IsHeard, IsSingle, frame_at, frames_only, or_none}
+use Rattle.j39_listen.specs.Heard.{AreHeardWith, HeardAt, HeardAtWith, HeardBelowWith, Hearing, IsAssembled, IsHeardWith, IsSingleWith, frame_at, frames_only, or_none}
 use Rattle.j39_listen.specs.Report.{Entry, IsReport, entries_of}
 use Rattle.j39_transport.proofs.Agreeing.{Agree, Links-same, Runs-same, joined-same}
 use Rattle.j39_transport.proofs.Chains.{Links-from}
@@ -103,12 +103,12 @@ Whole-same E D i s g b a w =
 
 -- ---- what is heard
 
-pub single_same : (groups : List RowRecord) (F G : List FrameRecord) (i : ℕ) (m : MessageRecord) → SameBelow F G (suc i) → IsSingle groups F i m → IsSingle groups G i m
-single_same groups F G i m h k =
+pub single_same : (singles : ℕ → Bool) (F G : List FrameRecord) (i : ℕ) (m : MessageRecord) → SameBelow F G (suc i) → IsSingleWith singles F i m → IsSingleWith singles G i m
+single_same singles F G i m h k =
     let e : frame_at G i ≡ frame_at F i = h.same i (omega arith) in
     record {
       inside = h.in_G;
-      reported = ap (λ (f : FrameRecord). is_reported_in groups (pgn_of f.id)) e ∙ k.reported;
+      single = ap (λ (f : FrameRecord). singles (pgn_of f.id)) e ∙ k.single;
       address = k.address;
       source_is = ap (λ (f : FrameRecord). source_of f.id) e ∙ k.source_is;
       pgn_is = ap (λ (f : FrameRecord). pgn_of f.id) e ∙ k.pgn_is;
@@ -125,29 +125,29 @@ assembled_same F G i m name h k =
       same_holder = λ j u v. holder_same F G (suc i) j m.source name h (omega arith) (k.same_holder j (let e : w.whole.start ≡ k.whole.start = w.start_is in omega arith) v);
     }
 
-pub heard_same : (groups : List RowRecord) (F G : List FrameRecord) (i : ℕ) (x : Hearing) → SameBelow F G (suc i) → IsHeard groups F i x → IsHeard groups G i x
-heard_same groups F G i x h k = record {
-  carried = elim k.carried [ inl m ↦ inl (single_same groups F G i x.message h m) | inr b ↦ inr (assembled_same F G i x.message x.name h b) ];
+pub heard_same : (singles : ℕ → Bool) (F G : List FrameRecord) (i : ℕ) (x : Hearing) → SameBelow F G (suc i) → IsHeardWith singles F i x → IsHeardWith singles G i x
+heard_same singles F G i x h k = record {
+  carried = elim k.carried [ inl m ↦ inl (single_same singles F G i x.message h m) | inr b ↦ inr (assembled_same F G i x.message x.name h b) ];
   held_by = holder_same F G (suc i) i x.message.source x.name h (omega arith) k.held_by;
   stamp_is = k.stamp_is ∙ sym (ap (λ (f : FrameRecord). f.stamp) (h.same i (omega arith)));
 }
 
 -- what is heard at i depends on the first i + 1 frames alone
-pub heard_at_same : (groups : List RowRecord) (F G : List FrameRecord) (i : ℕ) (o : Option Hearing) → SameBelow F G (suc i) → HeardAt groups F i o → HeardAt groups G i o
-heard_at_same groups F G i None h k = λ x y. k x (heard_same groups G F i x (same_below_sym h) y)
-heard_at_same groups F G i (Some x) h k = heard_same groups F G i x h k
+pub heard_at_same : (singles : ℕ → Bool) (F G : List FrameRecord) (i : ℕ) (o : Option Hearing) → SameBelow F G (suc i) → HeardAtWith singles F i o → HeardAtWith singles G i o
+heard_at_same singles F G i None h k = λ x y. k x (heard_same singles G F i x (same_below_sym h) y)
+heard_at_same singles F G i (Some x) h k = heard_same singles F G i x h k
 
-pub heard_at_prefix : (groups : List RowRecord) (F G : List FrameRecord) (i : ℕ) (o : Option Hearing) → i < length F → HeardAt groups F i o ↔ HeardAt groups (F ++ G) i o
-heard_at_prefix groups F G i o l =
-    ((λ h. heard_at_same groups F (F ++ G) i o (same_below_append F G (suc i) l) h), (λ h. heard_at_same groups (F ++ G) F i o (same_below_sym (same_below_append F G (suc i) l)) h))
+pub heard_at_prefix : (singles : ℕ → Bool) (F G : List FrameRecord) (i : ℕ) (o : Option Hearing) → i < length F → HeardAtWith singles F i o ↔ HeardAtWith singles (F ++ G) i o
+heard_at_prefix singles F G i o l =
+    ((λ h. heard_at_same singles F (F ++ G) i o (same_below_append F G (suc i) l) h), (λ h. heard_at_same singles (F ++ G) F i o (same_below_sym (same_below_append F G (suc i) l)) h))
 
 pub holder_prefix : (F G : List FrameRecord) (i a : ℕ) (o : Option ℕ) → i ≤ length F → IsHolder (claims_of F) i a o ↔ IsHolder (claims_of (F ++ G)) i a o
 holder_prefix F G i a o l =
     ((λ h. holder_same F (F ++ G) i i a o (same_below_append F G i l) (omega arith) h), (λ h. holder_same (F ++ G) F i i a o (same_below_sym (same_below_append F G i l)) (omega arith) h))
 
-pub heard_below_same : (groups : List RowRecord) (F G : List FrameRecord) (n : ℕ) (hs : List Hearing) → SameBelow F G n → HeardBelow groups F n hs → HeardBelow groups G n hs
-heard_below_same groups F G zero hs h k = k
-heard_below_same groups F G (suc n) hs h k = (k.0, k.1, heard_below_same groups F G n k.0 (same_below_less n (omega arith) h) k.2, heard_at_same groups F G n k.1 h k.3, k.4)
+pub heard_below_same : (singles : ℕ → Bool) (F G : List FrameRecord) (n : ℕ) (hs : List Hearing) → SameBelow F G n → HeardBelowWith singles F n hs → HeardBelowWith singles G n hs
+heard_below_same singles F G zero hs h k = k
+heard_below_same singles F G (suc n) hs h k = (k.0, k.1, heard_below_same singles F G n k.0 (same_below_less n (omega arith) h) k.2, heard_at_same singles F G n k.1 h k.3, k.4)
 
 -- ---- what is forgotten
 
@@ -176,15 +176,15 @@ forgets_same F G (suc n) E h k = (
 pub frame_new : (F : List FrameRecord) (f : FrameRecord) → frame_at (F ++ f ∷ []) (length F) ≡ f
 frame_new F f = get_or_push F f (record { stamp = 0; id = 0; bytes = [] }) (length F) refl
 
-pub heard_more : (groups : List RowRecord) (F : List FrameRecord) (f : FrameRecord) (hs : List Hearing) (o : Option Hearing) → AreHeard groups F hs → HeardAt groups (F ++ f ∷ []) (length F) o → AreHeard groups (F ++ f ∷ []) (hs ++ or_none o)
-heard_more groups F f hs o h k =
-    let x : HeardBelow groups (F ++ f ∷ []) (suc (length F)) (hs ++ or_none o) = (hs, o, heard_below_same groups F (F ++ f ∷ []) (length F) hs (same_below_append F (f ∷ []) (length F) (omega arith)) h, k, refl) in
-    subst (λ (n : ℕ). HeardBelow groups (F ++ f ∷ []) n (hs ++ or_none o)) (let n : suc (length F) ≡ length (F ++ f ∷ []) = omega (arith, length_push F f) in n) x
+pub heard_more : (singles : ℕ → Bool) (F : List FrameRecord) (f : FrameRecord) (hs : List Hearing) (o : Option Hearing) → AreHeardWith singles F hs → HeardAtWith singles (F ++ f ∷ []) (length F) o → AreHeardWith singles (F ++ f ∷ []) (hs ++ or_none o)
+heard_more singles F f hs o h k =
+    let x : HeardBelowWith singles (F ++ f ∷ []) (suc (length F)) (hs ++ or_none o) = (hs, o, heard_below_same singles F (F ++ f ∷ []) (length F) hs (same_below_append F (f ∷ []) (length F) (omega arith)) h, k, refl) in
+    subst (λ (n : ℕ). HeardBelowWith singles (F ++ f ∷ []) n (hs ++ or_none o)) (let n : suc (length F) ≡ length (F ++ f ∷ []) = omega (arith, length_push F f) in n) x
 
 pub report_more : (groups : List RowRecord) (F : List FrameRecord) (f : FrameRecord) (es : List Entry) (o : Option Hearing) → IsReport groups F es → HeardAt groups (F ++ f ∷ []) (length F) o
     → IsReport groups (F ++ f ∷ []) (es ++ flat_map (entries_of groups) (or_none o))
 report_more groups F f es o h k =
-    (h.0 ++ or_none o, heard_more groups F f h.0 o h.1 k, ap (λ (xs : List Entry). xs ++ flat_map (entries_of groups) (or_none o)) h.2 ∙ sym (flat_map-append (entries_of groups) h.0 (or_none o)))
+    (h.0 ++ or_none o, heard_more (is_reported_in groups) F f h.0 o h.1 k, ap (λ (xs : List Entry). xs ++ flat_map (entries_of groups) (or_none o)) h.2 ∙ sym (flat_map-append (entries_of groups) h.0 (or_none o)))
 
 pub forgets_more : (F : List FrameRecord) (f : FrameRecord) (E : List Event) (gone : List ℕ) → WithForgets F (length F) E → Changed (claims_of (F ++ f ∷ [])) (length F) gone
     → WithForgets (F ++ f ∷ []) (length (F ++ f ∷ [])) ((E ++ Frame f ∷ []) ++ map (λ t. Forget t) gone)

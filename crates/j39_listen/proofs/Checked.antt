@@ -7,10 +7,10 @@ use Rattle.std.proofs.lemmas.List.Sums.{AllPass-from_list_all}
 use Rattle.std.proofs.lemmas.Option.{slice_get-get_or}
 use Rattle.j39_frame.specs.Frame.{FrameRecord}
 use Rattle.j39_frame.specs.Identifier.{pgn_of, source_of}
-use Rattle.j39_groups.specs.Readings.{is_reported_group}
+use Rattle.j39_groups.specs.Readings.{is_reported_group, is_reported_in}
 use Rattle.j39_groups.specs.Table.{the_table}
 use Rattle.j39_listen.proofs.Events.{announcement_within, packet_within}
-use Rattle.j39_listen.proofs.Reported.{not_reported, packet_group, packet_source}
+use Rattle.j39_listen.proofs.Reported.{not_single, packet_group, packet_source, reported_leaves}
 use Rattle.j39_listen.specs.Heard.{frame_at}
 use Rattle.j39_listen.specs.Published.{IsSpare, Item, NeverBack, Published, Publisher, Publishing, StandsInOne, is_publisher, number_at}
 use Rattle.j39_transport.proofs.FrameFacts.{announcement_facts, opening_is, packet_facts}
@@ -179,7 +179,7 @@ module _ (F : List FrameRecord) (P : Publishing) (h : Passes F P) where
     ]);
     reported = λ j l a r. elim (told j (source_of (frame_at F j).id) l a refl (or_left _ _ r)) [
       | inl o ↦ o
-      | inr o ↦ absurd (not_reported the_table _ r o.0)
+      | inr o ↦ absurd (not_single (is_reported_in the_table) (reported_leaves the_table) _ r o.0)
     ];
     announced = λ j k a b.
         let g = announcement_group k (frame_at F j) b in

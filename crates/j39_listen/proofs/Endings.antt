@@ -13,6 +13,7 @@ use Rattle.j39_listen.proofs.InTime.{any_from}
 use Rattle.j39_listen.proofs.Items.{AloneItem, CutItem, alone_last, count_is, item_kinds, meet, nth, nth_last, nth_le, nth_listed, nth_packet, packet_key}
 use Rattle.j39_listen.proofs.Masks.{Same, rank_once}
 use Rattle.j39_listen.proofs.Story.{Story}
+use Rattle.j39_listen.proofs.Reported.{reported_leaves}
 use Rattle.j39_listen.proofs.Unique.{heard_unique}
 use Rattle.j39_listen.specs.Heard.{Hearing, HeardAt, frame_at, or_none}
 use Rattle.j39_listen.specs.Published.{Item, Published, Publishing, is_publisher, last_place}
@@ -148,7 +149,7 @@ module _ (groups : List RowRecord) (F H : List FrameRecord) (P : Publishing) (X 
         ∙ sym (ap (flat_map (λ item. entries_of groups (hearing_of_item F item))) (one_ends f h c.n c.item s c.ends))))
     | inr a ↦
         kept_none groups P hr a ∙ sym (ap (flat_map (λ item. entries_of groups (hearing_of_item F item))) (none_ends f h s (λ n item e.
-        both_ways _ (ap (λ (x : Hearing). is_publisher P x.message.source) (heard_unique groups H h (hearing_of_item F item) hr (heard_from groups F H P X Y st h n item e) k) ∙ a)
+        both_ways _ (ap (λ (x : Hearing). is_publisher P x.message.source) (heard_unique (is_reported_in groups) (reported_leaves groups) H h (hearing_of_item F item) hr (heard_from groups F H P X Y st h n item e) k) ∙ a)
         (item_address groups F P item (st.published.sent n item e.at_n)))))
   ]
 

@@ -10,7 +10,8 @@ use Rattle.j39_groups.specs.Row.{RowRecord}
 use Rattle.j39_listen.proofs.Causal.{SameBelow, heard_at_same}
 use Rattle.j39_listen.proofs.Feeding.{forgets_exist, heard_next}
 use Rattle.j39_listen.proofs.Held.{held_is, holder_of}
-use Rattle.j39_listen.specs.Heard.{AreHeard, HeardAt, HeardBelow, Hearing, frame_at, or_none}
+use Rattle.j39_listen.proofs.Reported.{reported_leaves}
+use Rattle.j39_listen.specs.Heard.{AreHeardWith, HeardAtWith, HeardBelowWith, Hearing, LeavesNetwork, frame_at, or_none}
 use Rattle.j39_listen.specs.NextSteps.{Assembled, Next, NextBy, alone_of, heard_of}
 use Rattle.j39_listen.specs.Report.{Entry, IsReport, entries_of}
 use Rattle.j39_transport.proofs.Deciding.{whole_or_none}
@@ -22,24 +23,24 @@ use Rattle.j39_transport.specs.Message.{MessageRecord}
 assembled_exists : (E : List Event) (f : FrameRecord) → (c : Option MessageRecord) × Assembled E f c
 assembled_exists E f = elim (whole_or_none E f) [ inl w ↦ (Some w.0, w.1) | inr n ↦ (None, n) ]
 
-next_exists : (groups : List RowRecord) (E : List Event) (f : FrameRecord) → (c : Option MessageRecord) × Next groups E f c
-next_exists groups E f = by_tests (is_reported_in groups (pgn_of f.id)) (nat_lt (source_of f.id) 254)
+next_exists : (singles : ℕ → Bool) (E : List Event) (f : FrameRecord) → (c : Option MessageRecord) × Next singles E f c
+next_exists singles E f = by_tests (singles (pgn_of f.id)) (nat_lt (source_of f.id) 254)
   where
     by_tests : (reported below : Bool) → (c : Option MessageRecord) × NextBy reported below E f c
     by_tests true true = (Some (alone_of f), refl)
     by_tests true false = (None, refl)
     by_tests false below = assembled_exists E f
 
-heard_last : (groups : List RowRecord) (F : List FrameRecord) (f : FrameRecord) → (o : Option Hearing) × HeardAt groups (F ++ f ∷ []) (length F) o
-heard_last groups F f =
+heard_last : (singles : ℕ → Bool) → LeavesNetwork singles → (F : List FrameRecord) (f : FrameRecord) → (o : Option Hearing) × HeardAtWith singles (F ++ f ∷ []) (length F) o
+heard_last singles leaves F f =
     let e = forgets_exist F (length F) in
-    let n = next_exists groups e.0 f in
+    let n = next_exists singles e.0 f in
     let name = holder_of (claims_of F) (length F) (source_of f.id) in
-    (heard_of f name n.0, heard_next groups F e.0 f e.1 n.0 name n.1 (held_is (claims_of F) (length F) (source_of f.id)))
+    (heard_of f name n.0, heard_next singles leaves F e.0 f e.1 n.0 name n.1 (held_is (claims_of F) (length F) (source_of f.id)))
 
 -- ---- a frame within a list
 
-module _ (groups : List RowRecord) (F : List FrameRecord) (i : ℕ) (l : i < length F) where
+module _ (singles : ℕ → Bool) (leaves : LeavesNetwork singles) (F : List FrameRecord) (i : ℕ) (l : i < length F) where
   taken : length (take i F) ≡ i
   taken = omega (arith, length-take i F)
 
@@ -55,22 +56,22 @@ module _ (groups : List RowRecord) (F : List FrameRecord) (i : ℕ) (l : i < len
         ];
       }
 
-  pub heard_exists : (o : Option Hearing) × HeardAt groups F i o
+  pub heard_exists : (o : Option Hearing) × HeardAtWith singles F i o
   heard_exists =
-      let h = heard_last groups (take i F) (frame_at F i) in
-      (h.0, heard_at_same groups (take i F ++ frame_at F i ∷ []) F i h.0 same_first (subst (λ (n : ℕ). HeardAt groups (take i F ++ frame_at F i ∷ []) n h.0) taken h.1))
+      let h = heard_last singles leaves (take i F) (frame_at F i) in
+      (h.0, heard_at_same singles (take i F ++ frame_at F i ∷ []) F i h.0 same_first (subst (λ (n : ℕ). HeardAtWith singles (take i F ++ frame_at F i ∷ []) n h.0) taken h.1))
 
 -- ---- the whole list
 
-below_exists : (groups : List RowRecord) (F : List FrameRecord) (n : ℕ) → n ≤ length F → (heard : List Hearing) × HeardBelow groups F n heard
-below_exists groups F zero l = ([], refl)
-below_exists groups F (suc n) l =
-    let before = below_exists groups F n (omega arith) in
-    let here = heard_exists groups F n l in
+below_exists : (singles : ℕ → Bool) → LeavesNetwork singles → (F : List FrameRecord) (n : ℕ) → n ≤ length F → (heard : List Hearing) × HeardBelowWith singles F n heard
+below_exists singles leaves F zero l = ([], refl)
+below_exists singles leaves F (suc n) l =
+    let before = below_exists singles leaves F n (omega arith) in
+    let here = heard_exists singles leaves F n l in
     (before.0 ++ or_none here.0, (before.0, here.0, before.1, here.1, refl))
 
-pub all_heard : (groups : List RowRecord) (F : List FrameRecord) → (heard : List Hearing) × AreHeard groups F heard
-all_heard groups F = below_exists groups F (length F) (omega arith)
+pub all_heard : (singles : ℕ → Bool) → LeavesNetwork singles → (F : List FrameRecord) → (heard : List Hearing) × AreHeardWith singles F heard
+all_heard singles leaves F = below_exists singles leaves F (length F) (omega arith)
 
 pub report_exists : (groups : List RowRecord) (F : List FrameRecord) → (entries : List Entry) × IsReport groups F entries
-report_exists groups F = let h = all_heard groups F in (flat_map (entries_of groups) h.0, (h.0, h.1, refl))
+report_exists groups F = let h = all_heard (is_reported_in groups) (reported_leaves groups) F in (flat_map (entries_of groups) h.0, (h.0, h.1, refl))

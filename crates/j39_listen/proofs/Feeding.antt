@@ -13,13 +13,13 @@ use Rattle.j39_groups.specs.Row.{RowRecord}
 use Rattle.j39_listen.proofs.Between.{assembled_iff}
 use Rattle.j39_address.proofs.OrderLemmas.{cases_option}
 use Rattle.j39_listen.proofs.Rising.{Listed, Rises, changed_of}
-use Rattle.j39_listen.proofs.Reported.{not_reported, packet_group, packet_source}
+use Rattle.j39_listen.proofs.Reported.{not_single, packet_group, packet_source, reported_leaves}
 use Rattle.j39_transport.proofs.Taken.{assembled_sent}
 use Rattle.j39_listen.specs.NextSteps.{alone_of, NextBy, Next, heard_of}
 use Rattle.j39_listen.proofs.Causal.{Whole-same, forgets_more, forgets_same, frame_new, holder_prefix, report_more, same_below_append}
 use Rattle.j39_listen.proofs.Unique.{assembled_packet}
 use Rattle.j39_listen.specs.Forgets.{Changed, WithForgets}
-use Rattle.j39_listen.specs.Heard.{HeardAt, Hearing, IsAssembled, IsHeard, IsSingle, frame_at, or_none}
+use Rattle.j39_listen.specs.Heard.{HeardAt, HeardAtWith, Hearing, IsAssembled, IsHeardWith, IsSingleWith, LeavesNetwork, frame_at, or_none}
 use Rattle.j39_listen.specs.Report.{Entry, IsReport, entries_of}
 use Rattle.j39_transport.proofs.Agreeing.{Agree}
 use Rattle.j39_transport.specs.Answers.{WholeBy}
@@ -132,7 +132,7 @@ agree_append A B = record { same = λ i l. sym (get_or_append_left A B (Forget 2
 agree_onto : (A B : List Event) → Agree A (A ++ B) (length A)
 agree_onto A B = record { same = λ i l. get_or_append_left A B (Forget 255) i l }
 
-module _ (groups : List RowRecord) (F : List FrameRecord) (E : List Event) (f : FrameRecord) (h : WithForgets F (length F) E) where
+module _ (singles : ℕ → Bool) (leaves : LeavesNetwork singles) (F : List FrameRecord) (E : List Event) (f : FrameRecord) (h : WithForgets F (length F) E) where
   -- a message ends at f exactly where one is whole after E
   pub next_assembled : (m : MessageRecord) (name : Option ℕ) → IsHolder (claims_of F) (length F) m.source name
       → WholeBy E f m ↔ IsAssembled (F ++ f ∷ []) (length F) m name
@@ -153,54 +153,54 @@ module _ (groups : List RowRecord) (F : List FrameRecord) (E : List Event) (f : 
       )
 
   heard_from : (m : MessageRecord) (name : Option ℕ) → m.source ≡ source_of f.id → IsHolder (claims_of F) (length F) (source_of f.id) name
-      → IsSingle groups (F ++ f ∷ []) (length F) m ⊎ IsAssembled (F ++ f ∷ []) (length F) m name → IsHeard groups (F ++ f ∷ []) (length F) (record { message = m; stamp = f.stamp; name = name })
+      → IsSingleWith singles (F ++ f ∷ []) (length F) m ⊎ IsAssembled (F ++ f ∷ []) (length F) m name → IsHeardWith singles (F ++ f ∷ []) (length F) (record { message = m; stamp = f.stamp; name = name })
   heard_from m name s held c = record {
     carried = c;
     held_by = (holder_prefix F (f ∷ []) (length F) m.source name (omega arith)).0 (subst (λ (a : ℕ). IsHolder (claims_of F) (length F) a name) (sym s) held);
     stamp_is = ap (λ (x : FrameRecord). x.stamp) (sym (frame_new F f));
   }
 
-  single_new : is_reported_in groups (pgn_of f.id) ≡ true → nat_lt (source_of f.id) 254 ≡ true → IsSingle groups (F ++ f ∷ []) (length F) (alone_of f)
+  single_new : singles (pgn_of f.id) ≡ true → nat_lt (source_of f.id) 254 ≡ true → IsSingleWith singles (F ++ f ∷ []) (length F) (alone_of f)
   single_new r b =
       let e : frame_at (F ++ f ∷ []) (length F) ≡ f = frame_new F f in
       record {
         inside = omega (arith, length_push F f);
-        reported = ap (λ (x : FrameRecord). is_reported_in groups (pgn_of x.id)) e ∙ r;
+        single = ap (λ (x : FrameRecord). singles (pgn_of x.id)) e ∙ r;
         address = ltb-true _ _ b;
         source_is = ap (λ (x : FrameRecord). source_of x.id) e;
         pgn_is = ap (λ (x : FrameRecord). pgn_of x.id) e;
         bytes_are = ap (λ (x : FrameRecord). x.bytes) e;
       }
 
-  single_reported : (m : MessageRecord) → IsSingle groups (F ++ f ∷ []) (length F) m → (is_reported_in groups (pgn_of f.id) ≡ true) × (nat_lt (source_of f.id) 254 ≡ true)
-  single_reported m k =
+  single_is : (m : MessageRecord) → IsSingleWith singles (F ++ f ∷ []) (length F) m → (singles (pgn_of f.id) ≡ true) × (nat_lt (source_of f.id) 254 ≡ true)
+  single_is m k =
       let e : frame_at (F ++ f ∷ []) (length F) ≡ f = frame_new F f in
       let s : source_of f.id ≡ m.source = sym (ap (λ (x : FrameRecord). source_of x.id) e) ∙ k.source_is in
-      (sym (ap (λ (x : FrameRecord). is_reported_in groups (pgn_of x.id)) e) ∙ k.reported, lt-ltb (source_of f.id) 254 (let l : m.source < 254 = k.address in omega arith))
+      (sym (ap (λ (x : FrameRecord). singles (pgn_of x.id)) e) ∙ k.single, lt-ltb (source_of f.id) 254 (let l : m.source < 254 = k.address in omega arith))
 
-  assembled_unreported : (m : MessageRecord) (name : Option ℕ) → IsAssembled (F ++ f ∷ []) (length F) m name → is_reported_in groups (pgn_of f.id) ≡ false
-  assembled_unreported m name k =
+  assembled_other : (m : MessageRecord) (name : Option ℕ) → IsAssembled (F ++ f ∷ []) (length F) m name → singles (pgn_of f.id) ≡ false
+  assembled_other m name k =
       let p : is_packet k.key f ≡ true = sym (ap (is_packet k.key) (frame_new F f)) ∙ assembled_packet (F ++ f ∷ []) (length F) m name k in
-      false_from_ne_true _ (λ r. not_reported groups (pgn_of f.id) r (packet_group k.key f p))
+      false_from_ne_true _ (λ r. not_single singles leaves (pgn_of f.id) r (packet_group k.key f p))
 
   -- what is heard at f
-  pub heard_next : (c : Option MessageRecord) (name : Option ℕ) → Next groups E f c → IsHolder (claims_of F) (length F) (source_of f.id) name
-      → HeardAt groups (F ++ f ∷ []) (length F) (heard_of f name c)
-  heard_next c name n held = go (is_reported_in groups (pgn_of f.id)) (nat_lt (source_of f.id) 254) refl refl c n
+  pub heard_next : (c : Option MessageRecord) (name : Option ℕ) → Next singles E f c → IsHolder (claims_of F) (length F) (source_of f.id) name
+      → HeardAtWith singles (F ++ f ∷ []) (length F) (heard_of f name c)
+  heard_next c name n held = go (singles (pgn_of f.id)) (nat_lt (source_of f.id) 254) refl refl c n
     where
-      go : (r b : Bool) → is_reported_in groups (pgn_of f.id) ≡ r → nat_lt (source_of f.id) 254 ≡ b → (c : Option MessageRecord) → NextBy r b E f c → HeardAt groups (F ++ f ∷ []) (length F) (heard_of f name c)
-      go true true x y c k = subst (λ (o : Option MessageRecord). HeardAt groups (F ++ f ∷ []) (length F) (heard_of f name o)) (sym k) (heard_from (alone_of f) name refl held (inl (single_new x y)))
-      go true false x y c k = subst (λ (o : Option MessageRecord). HeardAt groups (F ++ f ∷ []) (length F) (heard_of f name o)) (sym k) (λ u v.
+      go : (r b : Bool) → singles (pgn_of f.id) ≡ r → nat_lt (source_of f.id) 254 ≡ b → (c : Option MessageRecord) → NextBy r b E f c → HeardAtWith singles (F ++ f ∷ []) (length F) (heard_of f name c)
+      go true true x y c k = subst (λ (o : Option MessageRecord). HeardAtWith singles (F ++ f ∷ []) (length F) (heard_of f name o)) (sym k) (heard_from (alone_of f) name refl held (inl (single_new x y)))
+      go true false x y c k = subst (λ (o : Option MessageRecord). HeardAtWith singles (F ++ f ∷ []) (length F) (heard_of f name o)) (sym k) (λ u v.
           elim v.carried [
-            | inl s ↦ both_ways _ y (single_reported u.message s).1
-            | inr t ↦ both_ways _ (assembled_unreported u.message u.name t) x
+            | inl s ↦ both_ways _ y (single_is u.message s).1
+            | inr t ↦ both_ways _ (assembled_other u.message u.name t) x
           ])
       go false b x y (Some m) k =
           let s : m.source ≡ source_of f.id = sym (assembled_source E f m k) in
           heard_from m name s held (inr ((next_assembled m name (subst (λ (a : ℕ). IsHolder (claims_of F) (length F) a name) (sym s) held)).0 k))
       go false b x y None k = λ u v.
           elim v.carried [
-            | inl s ↦ both_ways _ x (single_reported u.message s).0
+            | inl s ↦ both_ways _ x (single_is u.message s).0
             | inr t ↦ k u.message ((next_assembled u.message u.name ((holder_prefix F (f ∷ []) (length F) u.message.source u.name (omega arith)).1 v.held_by)).1 t)
           ]
 
@@ -211,10 +211,10 @@ pub record Fed (groups : List RowRecord) (F : List FrameRecord) (f : FrameRecord
   pub stands : WithForgets (F ++ f ∷ []) (length (F ++ f ∷ [])) D
 
 pub fed : (groups : List RowRecord) (F : List FrameRecord) (E : List Event) (f : FrameRecord) (c : Option MessageRecord) (name : Option ℕ) (gone : List ℕ)
-    → WithForgets F (length F) E → Next groups E f c → IsHolder (claims_of F) (length F) (source_of f.id) name → Changed (claims_of (F ++ f ∷ [])) (length F) gone
+    → WithForgets F (length F) E → Next (is_reported_in groups) E f c → IsHolder (claims_of F) (length F) (source_of f.id) name → Changed (claims_of (F ++ f ∷ [])) (length F) gone
     → Fed groups F f (heard_of f name c) ((E ++ Frame f ∷ []) ++ map (λ t. Forget t) gone)
 fed groups F E f c name gone h n held ch =
-    let k : HeardAt groups (F ++ f ∷ []) (length F) (heard_of f name c) = heard_next groups F E f h c name n held in
+    let k : HeardAt groups (F ++ f ∷ []) (length F) (heard_of f name c) = heard_next (is_reported_in groups) (reported_leaves groups) F E f h c name n held in
     record {
       heard = k;
       report = λ es r. report_more groups F f es (heard_of f name c) r k;

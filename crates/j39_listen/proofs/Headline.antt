@@ -8,7 +8,8 @@ use Rattle.j39_groups.specs.Row.{RowRecord}
 use Rattle.j39_listen.proofs.Endings.{copy_kept, gone_ends, place_kept}
 use Rattle.j39_listen.proofs.Masks.{length-without, order_to_F, place_in_F, rank, rank_gone, rank_kept, rank_mono, same_element, without_none}
 use Rattle.j39_listen.proofs.Story.{Story}
-use Rattle.j39_listen.specs.Heard.{Hearing, HeardBelow, frame_at, or_none}
+use Rattle.j39_groups.specs.Readings.{is_reported_in}
+use Rattle.j39_listen.specs.Heard.{Hearing, HeardBelowWith, frame_at, or_none}
 use Rattle.j39_listen.specs.Published.{Publishing, is_publisher}
 use Rattle.j39_listen.specs.Report.{Entry, IsReport, entries_of}
 use Rattle.j39_listen.specs.Values.{TellsPublished, TellsRepeated, TellsThinned, hearing_of_item, kept_to, values, values_below}
@@ -36,7 +37,7 @@ module _ (groups : List RowRecord) (F H : List FrameRecord) (P : Publishing) (X 
   kept_append xs o = ap (kept_to P) (flat_map-append (entries_of groups) xs (or_none o)) ∙ filter-append (λ e. is_publisher P e.address) (flat_map (entries_of groups) xs) (flat_map (entries_of groups) (or_none o))
 
   -- below corresponding places: what is heard in H, and what ended in F
-  kept_below : (n m : ℕ) (hs : List Hearing) → n ≤ length H → HeardBelow groups H n hs → rank X m ≡ rank Y n → kept_to P (flat_map (entries_of groups) hs) ≡ values_below groups F P X m
+  kept_below : (n m : ℕ) (hs : List Hearing) → n ≤ length H → HeardBelowWith (is_reported_in groups) H n hs → rank X m ≡ rank Y n → kept_to P (flat_map (entries_of groups) hs) ≡ values_below groups F P X m
   kept_below zero m hs l k e = ap (λ (xs : List Hearing). kept_to P (flat_map (entries_of groups) xs)) k ∙ values_same 0 m (sym e)
   kept_below (suc n) m hs l k e = ap (λ (xs : List Hearing). kept_to P (flat_map (entries_of groups) xs)) k.4 ∙ (kept_append k.0 k.1 ∙ elim (cases_Bool (Y n)) [
     | inl y ↦

@@ -77,7 +77,7 @@ module _ (groups : List RowRecord) (F H : List FrameRecord) (P : Publishing) (X 
       record {
         carried = inl (record {
           inside = s.h_below;
-          reported = ap (is_reported_in groups) g ∙ c.sent.reported c.alone.short;
+          single = ap (is_reported_in groups) g ∙ c.sent.reported c.alone.short;
           address = (message_of groups F P item c.sent).source;
           source_is = ap (λ (f : FrameRecord). source_of f.id) fr ∙ c.alone.source;
           pgn_is = g;
@@ -90,11 +90,11 @@ module _ (groups : List RowRecord) (F H : List FrameRecord) (P : Publishing) (X 
   pub alone_only : (h : ℕ) (hr : Hearing) → IsSingle groups H h hr.message → IsHolder (claims_of H) h hr.message.source hr.name
       → hr.stamp ≡ (frame_at H h).stamp → is_publisher P hr.message.source ≡ true → Comes h hr
   alone_only h hr m hb sp adr = elim (cases_Bool (Y h)) [
-    | inl y ↦ absurd (let r = copy_packet groups F H P X Y st h y in both_ways _ (unreported_packet groups _ _ r.1) m.reported)
+    | inl y ↦ absurd (let r = copy_packet groups F H P X Y st h y in both_ways _ (unreported_packet groups _ _ r.1) m.single)
     | inr y ↦
         (let r = place_in_F X Y F H st.one_rest h m.inside y in
         let fr = same_frame groups F H P X Y st r.1 in
-        let rep : is_reported_in groups (pgn_of (frame_at F r.0).id) ≡ true = ap (λ (f : FrameRecord). is_reported_in groups (pgn_of f.id)) (sym fr) ∙ m.reported in
+        let rep : is_reported_in groups (pgn_of (frame_at F r.0).id) ≡ true = ap (λ (f : FrameRecord). is_reported_in groups (pgn_of f.id)) (sym fr) ∙ m.single in
         let src : source_of (frame_at F r.0).id ≡ hr.message.source = ap (λ (f : FrameRecord). source_of f.id) (sym fr) ∙ m.source_is in
         let q = st.published.reported r.0 r.1.f_below (ap (is_publisher P) src ∙ adr) rep in
         elim (item_kinds groups F P q.0 q.1.0 st.published q.1.1) [

@@ -11,8 +11,7 @@ use Rattle.j39_address.specs.Holder.{IsHolder, IsHolderAfter}
 use Rattle.j39_address.proofs.NotingLemmas.{claims_of-push, quiet_changed, quiet_stands}
 use Rattle.j39_frame.specs.Frame.{FrameRecord}
 use Rattle.j39_frame.specs.Identifier.{pgn_of, source_of}
-use Rattle.j39_groups.specs.Readings.{is_reported_in}
-use Rattle.j39_groups.specs.Row.{RowRecord}
+use Rattle.j39_groups.specs.Readings.{is_network_group}
 use Rattle.j39_transport.specs.Answers.{AreHeldAfter, AreOpenAfter, NoneWhole, WholeBy}
 use Rattle.j39_transport.specs.Events.{Event}
 use Rattle.j39_transport.specs.Events.Event.{Frame, Forget}
@@ -21,7 +20,7 @@ use Rattle.j39_transport.specs.Message.{MessageRecord}
 use Rattle.j39_transport.specs.Stands.{Stands}
 use Rattle.j39_transport.specs.Steps.{AssemblerRecord, fed, spare_after, state_after}
 use Rattle.j39_listen.specs.Forgets.{Changed, WithForgets}
-use Rattle.j39_listen.specs.Heard.{HeardAt, Hearing, IsHeard}
+use Rattle.j39_listen.specs.Heard.{HeardAtWith, Hearing, IsHeardWith, LeavesNetwork}
 use Rattle.j39_listen.specs.Listening.{Hears}
 use Rattle.j39_listen.specs.NextSteps.{IsMany, Next, NextBy, alone_of, heard_alone, heard_of}
 use Rattle.j39_listen.specs.declared.listener.Listener.{Listener}
@@ -30,7 +29,7 @@ use Rattle.j39_listen.proofs.Feeding.{heard_next}
 use Rattle.j39_transport.proofs.BoxLemmas.{stands_after}
 use Rattle.j39_transport.proofs.Taken.{assembled_sent}
 use Rattle.j39_listen.proofs.Held.{held_is, holder_of}
-use Rattle.j39_listen.proofs.Reported.{claims_silent, packet_group, reported_other}
+use Rattle.j39_listen.proofs.Reported.{claims_silent, no_transport, packet_group}
 use Rattle.j39_listen.proofs.Unique.{forgets_unique}
 
 -- ---- holders after frames, and before a place
@@ -83,50 +82,49 @@ hears_quiet l F f a none h stands =
 
 -- ---- what is heard
 
-next_by : (groups : List RowRecord) (r : Bool) (E : List Event) (f : FrameRecord) (c : Option MessageRecord) → is_reported_in groups (pgn_of f.id) ≡ r
-    → NextBy r (nat_lt (source_of f.id) 254) E f c → Next groups E f c
-next_by groups r E f c e n = subst (λ (b : Bool). NextBy b (nat_lt (source_of f.id) 254) E f c) (sym e) n
+next_by : (singles : ℕ → Bool) (r : Bool) (E : List Event) (f : FrameRecord) (c : Option MessageRecord) → singles (pgn_of f.id) ≡ r
+    → NextBy r (nat_lt (source_of f.id) 254) E f c → Next singles E f c
+next_by singles r E f c e n = subst (λ (b : Bool). NextBy b (nat_lt (source_of f.id) 254) E f c) (sym e) n
 
-pub heard_many : (groups : List RowRecord) (l : Listener) (F : List FrameRecord) (f : FrameRecord) (m : MessageRecord) (t : ℕ) (name : Option ℕ) → IsMany groups f → (h : Hears l F)
+pub heard_many : (singles : ℕ → Bool) → LeavesNetwork singles → (l : Listener) (F : List FrameRecord) (f : FrameRecord) (m : MessageRecord) (t : ℕ) (name : Option ℕ) → IsMany singles f → (h : Hears l F)
     → IsHolderAfter (claims_of F) (source_of f.id) name → t ≡ f.stamp → WholeBy h.events f m
-    → IsHeard groups (F ++ f ∷ []) (length F) (record { message = m; stamp = t; name = name })
-heard_many groups l F f m t name many h held stamp whole =
-    subst (λ (s : ℕ). IsHeard groups (F ++ f ∷ []) (length F) (record { message = m; stamp = s; name = name })) (sym stamp)
-    (heard_next groups F h.events f h.with_forgets (Some m) name (next_by groups false h.events f (Some m) many.not_reported whole) (after_is F (source_of f.id) name held))
+    → IsHeardWith singles (F ++ f ∷ []) (length F) (record { message = m; stamp = t; name = name })
+heard_many singles leaves l F f m t name many h held stamp whole =
+    subst (λ (s : ℕ). IsHeardWith singles (F ++ f ∷ []) (length F) (record { message = m; stamp = s; name = name })) (sym stamp)
+    (heard_next singles leaves F h.events f h.with_forgets (Some m) name (next_by singles false h.events f (Some m) many.not_single whole) (after_is F (source_of f.id) name held))
 
--- one of a reported group is a message by itself, and leaves the assembler as it was
-pub hears_reported : (groups : List RowRecord) (l : Listener) (F : List FrameRecord) (f : FrameRecord) → is_reported_in groups (pgn_of f.id) ≡ true → claim_of f ≡ None
-    → Hears l F → Hears l (F ++ f ∷ [])
+-- a message by itself leaves the assembler as it was
+pub hears_single : (l : Listener) (F : List FrameRecord) (f : FrameRecord) → is_network_group (pgn_of f.id) ≡ false → claim_of f ≡ None → Hears l F → Hears l (F ++ f ∷ [])
 unfolding state_after spare_after
-hears_reported groups l F f reported none h =
-    let kept : fed l.assembler f (said_by f) ≡ l.assembler = ap (fed l.assembler f) (reported_other groups f reported) in
+hears_single l F f free none h =
+    let kept : fed l.assembler f (said_by f) ≡ l.assembler = ap (fed l.assembler f) (no_transport f free) in
     hears_quiet l F f l.assembler none h (subst (λ (a : AssemblerRecord). Stands (h.events ++ Frame f ∷ []) a) kept (stands_after h.events f l.assembler h.stands))
 
-pub silent_many : (groups : List RowRecord) (l : Listener) (F : List FrameRecord) (f : FrameRecord) → IsMany groups f → (h : Hears l F) → NoneWhole h.events f
-    → HeardAt groups (F ++ f ∷ []) (length F) None
-silent_many groups l F f many h none =
-    heard_next groups F h.events f h.with_forgets None (holder_of (claims_of F) (length F) (source_of f.id)) (next_by groups false h.events f None many.not_reported none)
+pub silent_many : (singles : ℕ → Bool) → LeavesNetwork singles → (l : Listener) (F : List FrameRecord) (f : FrameRecord) → IsMany singles f → (h : Hears l F) → NoneWhole h.events f
+    → HeardAtWith singles (F ++ f ∷ []) (length F) None
+silent_many singles leaves l F f many h none =
+    heard_next singles leaves F h.events f h.with_forgets None (holder_of (claims_of F) (length F) (source_of f.id)) (next_by singles false h.events f None many.not_single none)
     (held_is (claims_of F) (length F) (source_of f.id))
 
-pub heard_single : (groups : List RowRecord) (l : Listener) (F : List FrameRecord) (f : FrameRecord) (name : Option ℕ) → is_reported_in groups (pgn_of f.id) ≡ true → (h : Hears l F)
-    → IsHolderAfter (claims_of F) (source_of f.id) name → HeardAt groups (F ++ f ∷ []) (length F) (heard_alone f name)
-heard_single groups l F f name reported h held =
-    let hears : (c : Option MessageRecord) → NextBy true (nat_lt (source_of f.id) 254) h.events f c → HeardAt groups (F ++ f ∷ []) (length F) (heard_of f name c) =
-    λ c n. heard_next groups F h.events f h.with_forgets c name (next_by groups true h.events f c reported n) (after_is F (source_of f.id) name held) in
-    let by : (b : Bool) → nat_lt (source_of f.id) 254 ≡ b → (c : Option MessageRecord) → NextBy true b h.events f c → HeardAt groups (F ++ f ∷ []) (length F) (heard_of f name c) =
+pub heard_single : (singles : ℕ → Bool) → LeavesNetwork singles → (l : Listener) (F : List FrameRecord) (f : FrameRecord) (name : Option ℕ) → singles (pgn_of f.id) ≡ true → (h : Hears l F)
+    → IsHolderAfter (claims_of F) (source_of f.id) name → HeardAtWith singles (F ++ f ∷ []) (length F) (heard_alone f name)
+heard_single singles leaves l F f name single h held =
+    let hears : (c : Option MessageRecord) → NextBy true (nat_lt (source_of f.id) 254) h.events f c → HeardAtWith singles (F ++ f ∷ []) (length F) (heard_of f name c) =
+    λ c n. heard_next singles leaves F h.events f h.with_forgets c name (next_by singles true h.events f c single n) (after_is F (source_of f.id) name held) in
+    let by : (b : Bool) → nat_lt (source_of f.id) 254 ≡ b → (c : Option MessageRecord) → NextBy true b h.events f c → HeardAtWith singles (F ++ f ∷ []) (length F) (heard_of f name c) =
     λ b e c n. hears c (subst (λ (x : Bool). NextBy true x h.events f c) (sym e) n) in
-    cond_both (nat_lt (source_of f.id) 254) _ _ (λ (o : Option Hearing). HeardAt groups (F ++ f ∷ []) (length F) o)
+    cond_both (nat_lt (source_of f.id) 254) _ _ (λ (o : Option Hearing). HeardAtWith singles (F ++ f ∷ []) (length F) o)
     (λ below. by true below (Some (alone_of f)) refl) (λ above. by false above None refl)
 
 -- a frame of the group of claims is heard as nothing
-pub heard_claim : (groups : List RowRecord) (l : Listener) (F : List FrameRecord) (f : FrameRecord) → (pgn_of f.id == 60928) ≡ true → Hears l F → HeardAt groups (F ++ f ∷ []) (length F) None
-heard_claim groups l F f is h =
+pub heard_claim : (singles : ℕ → Bool) → LeavesNetwork singles → (l : Listener) (F : List FrameRecord) (f : FrameRecord) → (pgn_of f.id == 60928) ≡ true → Hears l F → HeardAtWith singles (F ++ f ∷ []) (length F) None
+heard_claim singles leaves l F f is h =
     let claims : pgn_of f.id ≡ 60928 = eqb-true _ _ is in
     let none : NoneWhole h.events f = λ m w.
     let packet = packet_group w.0 f (assembled_sent h.events f w.0 m.pgn m.bytes w.2) in
     let apart : 60160 ≡ 60928 = sym packet ∙ claims in
     absurd (omega arith) in
-    heard_next groups F h.events f h.with_forgets None (holder_of (claims_of F) (length F) (source_of f.id)) (next_by groups false h.events f None (claims_silent groups _ claims) none)
+    heard_next singles leaves F h.events f h.with_forgets None (holder_of (claims_of F) (length F) (source_of f.id)) (next_by singles false h.events f None (claims_silent singles leaves _ claims) none)
     (held_is (claims_of F) (length F) (source_of f.id))
 
 -- ---- what is open
@@ -165,10 +163,10 @@ hears_claim l F f a claims gone h changed knows stands = record {
   knows = knows;
 }
 
--- ---- a frame of a group that is reported claims nothing
+-- ---- a frame of another group than that of claims claims nothing
 
 pub no_claim : (f : FrameRecord) → (pgn_of f.id == 60928) ≡ false → claim_of f ≡ None
 no_claim f e = rw e refl
 
-pub is_many : (groups : List RowRecord) (f : FrameRecord) → (pgn_of f.id == 60928) ≡ false → is_reported_in groups (pgn_of f.id) ≡ false → IsMany groups f
-is_many groups f e r = record { no_claim = no_claim f e; not_reported = r }
+pub is_many : (singles : ℕ → Bool) (f : FrameRecord) → (pgn_of f.id == 60928) ≡ false → singles (pgn_of f.id) ≡ false → IsMany singles f
+is_many singles f e r = record { no_claim = no_claim f e; not_single = r }

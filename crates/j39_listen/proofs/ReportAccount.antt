@@ -5,10 +5,11 @@ use Rattle.std.proofs.KnownBytes.{Appends-nil}
 use Rattle.std.proofs.lemmas.Grind.{flat_map-append}
 use Rattle.j39_device.specs.Device.{AppendsFront}
 use Rattle.j39_frame.specs.Frame.{FrameRecord}
+use Rattle.j39_groups.specs.Readings.{is_reported_in}
 use Rattle.j39_groups.specs.Row.{RowRecord}
 use Rattle.j39_listen.specs.AccountSteps.{Begins, MakesOne, Meets, Stops}
 use Rattle.j39_listen.specs.Counting.{capped}
-use Rattle.j39_listen.specs.Heard.{AreHeard, HeardAt, HeardBelow, Hearing, or_none}
+use Rattle.j39_listen.specs.Heard.{AreHeard, HeardAt, Hearing, or_none}
 use Rattle.j39_listen.specs.Listening.{Hears}
 use Rattle.j39_listen.specs.Output.{MakesReport, Output, report_of}
 use Rattle.j39_listen.specs.Report.{Entry, entries_of, report_text, text_of}
@@ -16,10 +17,11 @@ use Rattle.j39_listen.specs.ReportSteps.{HasReported, MeetsFrame, StopsFrame, ma
 use Rattle.j39_listen.specs.declared.counts.Made.{Made}
 use Rattle.j39_listen.specs.declared.listener.Listener.{Listener}
 use Rattle.j39_listen.specs.declared.report.Report.{Report}
-use Rattle.j39_listen.proofs.Causal.{heard_below_same, heard_more, same_below_append}
+use Rattle.j39_listen.proofs.Causal.{heard_more}
 use Rattle.j39_listen.proofs.LineLemmas.{capped-fits, capped-sum}
 use Rattle.j39_listen.proofs.ReportLemmas.{text_of-append, text_of-none}
-use Rattle.j39_listen.proofs.Unique.{heard_below_unique}
+use Rattle.j39_listen.proofs.Reported.{reported_leaves}
+use Rattle.j39_listen.proofs.Unique.{heard_below_unique, heard_first}
 
 report_text-append : (groups : List RowRecord) (hs ks : List Hearing) → report_text groups (hs ++ ks) ≡ report_text groups hs ++ report_text groups ks
 report_text-append groups hs ks = ap text_of (flat_map-append (entries_of groups) hs ks) ∙ text_of-append (flat_map (entries_of groups) hs) (flat_map (entries_of groups) ks)
@@ -87,7 +89,7 @@ report_meets groups r r' kept f made old new meets sum = λ F before has.
       met = record {
         by = ap (λ (x : Bor (List RowRecord)). x.now) kept ∙ has.by;
         heard = has.heard ++ more;
-        are_heard = heard_more groups F f has.heard m.heard has.are_heard m.heard_at;
+        are_heard = heard_more (is_reported_in groups) F f has.heard m.heard has.are_heard m.heard_at;
         output_is = refl;
         hears = m.hears;
         made_is = sum ∙ ap (λ (x : Made). made_sum x made) (has.made_is ∙ ap made_of has.output_is) ∙ ap (made_sum (made_of (report_of groups has.heard))) m.made_is ∙ sym (made_of-append groups has.heard more);
@@ -99,27 +101,11 @@ report_meets groups r r' kept f made old new meets sum = λ F before has.
 
 -- ---- what is heard in the first frames comes first
 
-below : (groups : List RowRecord) (F : List FrameRecord) (k m : ℕ) (hs : List Hearing) → HeardBelow groups F (k + m) hs
-    → (before : List Hearing) × (rest : List Hearing) × HeardBelow groups F m before × (hs ≡ before ++ rest)
-below groups F zero m hs h = (hs, [], subst (λ (n : ℕ). HeardBelow groups F n hs) (omega arith) h, sym (append-nil hs))
-below groups F (suc k) m hs h =
-    let next : suc k + m ≡ suc (k + m) = omega arith in
-    let g = subst (λ (n : ℕ). HeardBelow groups F n hs) next h in
-    let b = below groups F k m g.0 g.2 in
-    (b.0, b.1 ++ or_none g.1, b.2, g.4 ∙ ap (λ (x : List Hearing). x ++ or_none g.1) b.3 ∙ append_assoc b.0 b.1 (or_none g.1))
-
-heard_first : (groups : List RowRecord) (F G : List FrameRecord) (all first : List Hearing) → AreHeard groups (F ++ G) all → AreHeard groups F first → (rest : List Hearing) × (all ≡ first ++ rest)
-heard_first groups F G all first whole part =
-    let len : length (F ++ G) ≡ length G + length F = length-append F G ∙ omega arith in
-    let b = below groups (F ++ G) (length G) (length F) all (subst (λ (n : ℕ). HeardBelow groups (F ++ G) n all) len whole) in
-    let same = heard_below_unique groups (F ++ G) (length F) b.0 first b.2 (heard_below_same groups F (F ++ G) (length F) first (same_below_append F G (length F) (omega arith)) part) in
-    (b.1, b.3 ∙ ap (λ (x : List Hearing). x ++ b.1) same)
-
 -- the texts of what comes first and of the rest
 texts : (groups : List RowRecord) (bus : List ℕ) (F G : List FrameRecord) (first : List Hearing) (before all : Output) → AreHeard groups F first → before ≡ report_of groups first → MakesReport groups bus (F ++ G) all
     → (rest : List Hearing) × (all.text ≡ before.text ++ report_text groups rest)
 texts groups bus F G first before all are is (heard, are_all, all_is) =
-    let split = heard_first groups F G heard first are_all are in (
+    let split = heard_first (is_reported_in groups) (reported_leaves groups) F G heard first are_all are in (
       split.0,
       ap (λ (o : Output). o.text) all_is ∙ ap (report_text groups) split.1 ∙ report_text-append groups first split.0 ∙ ap (λ t. t ++ report_text groups split.0) (sym (ap (λ (o : Output). o.text) is)),
     )
@@ -131,7 +117,7 @@ report_begins groups = λ bus r F G before all has made.
 
 pub report_one : (groups : List RowRecord) → MakesOne (MakesReport groups)
 report_one groups = λ bus F x y (hs, are_x, is_x) (ks, are_y, is_y).
-    ap (λ (o : Output). o.text) is_x ∙ ap (report_text groups) (heard_below_unique groups F (length F) hs ks are_x are_y) ∙ sym (ap (λ (o : Output). o.text) is_y)
+    ap (λ (o : Output). o.text) is_x ∙ ap (report_text groups) (heard_below_unique (is_reported_in groups) (reported_leaves groups) F (length F) hs ks are_x are_y) ∙ sym (ap (λ (o : Output). o.text) is_y)
 
 -- a fault of the writer at a frame
 pub report_stops : (groups : List RowRecord) (r : Report) (f : FrameRecord) (old new : Option (List ℕ))
@@ -141,7 +127,7 @@ report_stops groups r f old new stops bus = λ F G before all has made.
     let s = subst (λ (table : List RowRecord). StopsFrame table F f old new) has.by (stops F has.hears) in
     let more = or_none s.heard in
     let first = has.heard ++ more in
-    let t = texts groups bus (F ++ f ∷ []) G first (report_of groups first) all (heard_more groups F f has.heard s.heard has.are_heard s.heard_at) refl made in
+    let t = texts groups bus (F ++ f ∷ []) G first (report_of groups first) all (heard_more (is_reported_in groups) F f has.heard s.heard has.are_heard s.heard_at) refl made in
     let is : all.text ≡ before.text ++ (report_text groups more ++ report_text groups t.0) =
     t.1 ∙ ap (λ x. x ++ report_text groups t.0) (report_text-append groups has.heard more) ∙ append_assoc (report_text groups has.heard) (report_text groups more) (report_text groups t.0)
     ∙ ap (λ x. x ++ (report_text groups more ++ report_text groups t.0)) (sym (ap (λ (o : Output). o.text) has.output_is)) in

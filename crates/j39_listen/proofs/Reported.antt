@@ -1,12 +1,14 @@
--- Frames of reported groups, and frames of the transport protocol.
-use Rattle.std.specs.Prelude.{List}
-use Rattle.std.proofs.Common.{◌≡◌, ◌==◌, ℕ, true, false, None, refl, sym, ap, ◌∙◌, subst, eqb-true}
+-- Frames of groups that are heard in one frame, and frames of the transport protocol.
+use Rattle.std.specs.Prelude.{List, not, ◌&&◌}
+use Rattle.std.specs.List.{list_any}
+use Rattle.std.proofs.Common.{◌≡◌, ◌==◌, ℕ, Bool, true, false, None, refl, sym, ap, ◌∙◌, subst, eqb-true}
 use Rattle.std.proofs.lemmas.Bool.{both_ways, false_from_ne_true}
 use Rattle.j39_frame.specs.Frame.{FrameRecord}
 use Rattle.j39_frame.specs.Identifier.{pgn_of, source_of}
 use Rattle.j39_frame.specs.Network.{transport_control_group, transport_data_group}
-use Rattle.j39_groups.specs.Readings.{is_reported_in}
+use Rattle.j39_groups.specs.Readings.{is_network_group, is_reported_in}
 use Rattle.j39_groups.specs.Row.{RowRecord}
+use Rattle.j39_listen.specs.Heard.{LeavesNetwork}
 use Rattle.j39_transport.specs.Frames as transport
 use Rattle.j39_transport.specs.Frames.{group_of, is_announcement, is_packet}
 use Rattle.j39_transport.specs.Signals.{said_by}
@@ -27,36 +29,32 @@ packet_group k f p = sym (group_is f.id) ∙ (packet_facts k f p).pgn
 pub packet_source : (k : Key) (f : FrameRecord) → is_packet k f ≡ true → source_of f.id ≡ sender k
 packet_source k f p = sym (same_source f.id) ∙ (packet_facts k f p).source
 
-transport_data_silent : (groups : List RowRecord) → is_reported_in groups 60160 ≡ true → ⊥
+-- a table of parameters reports none of the network's groups
+pub reported_leaves : (groups : List RowRecord) → LeavesNetwork (is_reported_in groups)
 unfolding is_reported_in
-transport_data_silent groups e = both_ways _ refl e
+reported_leaves groups pgn network = ap (λ (b : Bool). not b && list_any (λ row. row.pgn == pgn) groups) network
 
-pub not_reported : (groups : List RowRecord) (g : ℕ) → is_reported_in groups g ≡ true → g ≡ 60160 → ⊥
-not_reported groups g r e = transport_data_silent groups (subst (λ (x : ℕ). is_reported_in groups x ≡ true) e r)
-
-silent_control : (groups : List RowRecord) → is_reported_in groups 60416 ≡ false
-unfolding is_reported_in
-silent_control groups = refl
+pub not_single : (singles : ℕ → Bool) → LeavesNetwork singles → (g : ℕ) → singles g ≡ true → g ≡ 60160 → ⊥
+not_single singles leaves g r e = both_ways _ (leaves 60160 refl) (subst (λ (x : ℕ). singles x ≡ true) e r)
 
 -- no frame of the transport protocol is of a reported group
 pub unreported_announcement : (groups : List RowRecord) (k : Key) (f : FrameRecord) → is_announcement k f ≡ true → is_reported_in groups (pgn_of f.id) ≡ false
-unreported_announcement groups k f h = ap (is_reported_in groups) (sym (group_is f.id) ∙ (announcement_facts k f h).pgn) ∙ silent_control groups
+unreported_announcement groups k f h = ap (is_reported_in groups) (sym (group_is f.id) ∙ (announcement_facts k f h).pgn) ∙ reported_leaves groups 60416 refl
 
 pub unreported_packet : (groups : List RowRecord) (k : Key) (f : FrameRecord) → is_packet k f ≡ true → is_reported_in groups (pgn_of f.id) ≡ false
-unreported_packet groups k f h = false_from_ne_true _ (λ r. not_reported groups _ r (packet_group k f h))
+unreported_packet groups k f h = ap (is_reported_in groups) (packet_group k f h) ∙ reported_leaves groups 60160 refl
 
--- nor is a frame of a reported group one of the transport protocol
-pub reported_other : (groups : List RowRecord) (f : FrameRecord) → is_reported_in groups (pgn_of f.id) ≡ true → said_by f ≡ None
+-- nor is a frame of a group that isn't the network's one of the transport protocol
+pub no_transport : (f : FrameRecord) → is_network_group (pgn_of f.id) ≡ false → said_by f ≡ None
 unfolding said_by
-reported_other groups f reported =
-    let no_data : (group_of f.id == transport_data_group) ≡ false = false_from_ne_true _ (λ e. not_reported groups _ reported (sym (group_is f.id) ∙ eqb-true _ _ e)) in
-    let no_control : (group_of f.id == transport_control_group) ≡ false =
-    false_from_ne_true _ (λ e. both_ways _ (ap (is_reported_in groups) (sym (group_is f.id) ∙ eqb-true _ _ e) ∙ silent_control groups) reported) in
+no_transport f free =
+    let no_data : (group_of f.id == transport_data_group) ≡ false = false_from_ne_true _ (λ e. both_ways _ free (ap is_network_group (sym (group_is f.id) ∙ eqb-true _ _ e))) in
+    let no_control : (group_of f.id == transport_control_group) ≡ false = false_from_ne_true _ (λ e. both_ways _ free (ap is_network_group (sym (group_is f.id) ∙ eqb-true _ _ e))) in
     rw (no_data, no_control) refl
 
-silent_claims : (groups : List RowRecord) → is_reported_in groups 60928 ≡ false
-unfolding is_reported_in
-silent_claims groups = refl
+-- so a group that a table reports isn't the network's
+pub reported_free : (groups : List RowRecord) (g : ℕ) → is_reported_in groups g ≡ true → is_network_group g ≡ false
+reported_free groups g reported = false_from_ne_true _ (λ network. both_ways _ (reported_leaves groups g network) reported)
 
-pub claims_silent : (groups : List RowRecord) (g : ℕ) → g ≡ 60928 → is_reported_in groups g ≡ false
-claims_silent groups g e = ap (is_reported_in groups) e ∙ silent_claims groups
+pub claims_silent : (singles : ℕ → Bool) → LeavesNetwork singles → (g : ℕ) → g ≡ 60928 → singles g ≡ false
+claims_silent singles leaves g e = ap singles e ∙ leaves 60928 refl

@@ -1,9 +1,10 @@
--- What a listener hears in the frames of a bus, in order, by a table of parameters (J1939-21, 5.10; J1939-81, 4.2).
-use Rattle.std.specs.Prelude.{◌≡◌, ◌⊎◌, ℕ, zero, suc, ◌<◌, ◌≤◌, true, List, [], ◌∷◌, ◌++◌, map, length, get_or, Option, Some, None}
+-- What is heard in the frames of a bus, in order (J1939-21, 5.10; J1939-81, 4.2): messages in packets of every group, and in
+-- one frame those of some groups, as those that a table of parameters reports.
+use Rattle.std.specs.Prelude.{◌≡◌, ◌⊎◌, ℕ, zero, suc, ◌<◌, ◌≤◌, Bool, true, false, List, [], ◌∷◌, ◌++◌, map, length, get_or, Option, Some, None}
 use Rattle.j39_frame.specs.Address.{IsAddress}
 use Rattle.j39_frame.specs.Frame.{FrameRecord}
 use Rattle.j39_frame.specs.Identifier.{source_of, pgn_of}
-use Rattle.j39_groups.specs.Readings.{is_reported_in}
+use Rattle.j39_groups.specs.Readings.{is_network_group, is_reported_in}
 use Rattle.j39_groups.specs.Row.{RowRecord}
 use Rattle.j39_transport.specs.Events.{Event}
 use Rattle.j39_transport.specs.Assembly.{Whole}
@@ -26,10 +27,14 @@ frame_at F i = get_or F i (record { stamp = 0; id = 0; bytes = [] })
 abbrev pub frames_only : List FrameRecord → List Event
 frames_only F = map (λ f. Frame f) F
 
--- F[i] is of a reported group, from an address that a controller can hold, and its data is the message
-pub record IsSingle (groups : List RowRecord) (F : List FrameRecord) (i : ℕ) (m : MessageRecord) : Type 0 where
+-- no group of the network's is heard in one frame: its frames are claims, announcements and packets
+abbrev pub LeavesNetwork : (ℕ → Bool) → Type 0
+LeavesNetwork singles = (pgn : ℕ) → is_network_group pgn ≡ true → singles pgn ≡ false
+
+-- F[i] is of a group that is heard in one frame, from an address that a controller can hold, and its data is the message
+pub record IsSingleWith (singles : ℕ → Bool) (F : List FrameRecord) (i : ℕ) (m : MessageRecord) : Type 0 where
   pub inside : i < length F
-  pub reported : is_reported_in groups (pgn_of (frame_at F i).id) ≡ true
+  pub single : singles (pgn_of (frame_at F i).id) ≡ true
   pub address : IsAddress m.source
   pub source_is : source_of (frame_at F i).id ≡ m.source
   pub pgn_is : pgn_of (frame_at F i).id ≡ m.pgn
@@ -42,28 +47,42 @@ pub record IsAssembled (F : List FrameRecord) (i : ℕ) (m : MessageRecord) (nam
   pub whole : Whole (frames_only F) i key m.pgn m.bytes
   pub same_holder : (j : ℕ) → whole.start ≤ j → j ≤ i → IsHolder (claims_of F) j m.source name
 
--- this is heard at F[i]
-pub record IsHeard (groups : List RowRecord) (F : List FrameRecord) (i : ℕ) (h : Hearing) : Type 0 where
-  pub carried : IsSingle groups F i h.message ⊎ IsAssembled F i h.message h.name
+-- this is heard at F[i], where these groups are heard in one frame
+pub record IsHeardWith (singles : ℕ → Bool) (F : List FrameRecord) (i : ℕ) (h : Hearing) : Type 0 where
+  pub carried : IsSingleWith singles F i h.message ⊎ IsAssembled F i h.message h.name
   pub held_by : IsHolder (claims_of F) i h.message.source h.name
   pub stamp_is : h.stamp ≡ (frame_at F i).stamp
 
 -- what is heard at F[i], or nothing
-abbrev pub HeardAt : List RowRecord → List FrameRecord → ℕ → Option Hearing → Type 0
-HeardAt groups F i (Some h) = IsHeard groups F i h
-HeardAt groups F i None = (h : Hearing) → IsHeard groups F i h → ⊥
+abbrev pub HeardAtWith : (ℕ → Bool) → List FrameRecord → ℕ → Option Hearing → Type 0
+HeardAtWith singles F i (Some h) = IsHeardWith singles F i h
+HeardAtWith singles F i None = (h : Hearing) → IsHeardWith singles F i h → ⊥
 
 abbrev pub or_none : Option Hearing → List Hearing
 or_none None = []
 or_none (Some h) = h ∷ []
 
 -- what is heard at the first n places of F, in order
-abbrev pub HeardBelow : List RowRecord → List FrameRecord → ℕ → List Hearing → Type 0
-HeardBelow groups F zero hs = hs ≡ []
-HeardBelow groups F (suc n) hs =
-    (before : List Hearing) × (o : Option Hearing) × HeardBelow groups F n before × HeardAt groups F n o
+abbrev pub HeardBelowWith : (ℕ → Bool) → List FrameRecord → ℕ → List Hearing → Type 0
+HeardBelowWith singles F zero hs = hs ≡ []
+HeardBelowWith singles F (suc n) hs =
+    (before : List Hearing) × (o : Option Hearing) × HeardBelowWith singles F n before × HeardAtWith singles F n o
     × (hs ≡ before ++ or_none o)
 
 -- what is heard in F, in order
+abbrev pub AreHeardWith : (ℕ → Bool) → List FrameRecord → List Hearing → Type 0
+AreHeardWith singles F hs = HeardBelowWith singles F (length F) hs
+
+-- ---- by a table of parameters: the groups that it reports are heard in one frame
+
+abbrev pub IsSingle : List RowRecord → List FrameRecord → ℕ → MessageRecord → Type 0
+IsSingle groups = IsSingleWith (is_reported_in groups)
+
+abbrev pub IsHeard : List RowRecord → List FrameRecord → ℕ → Hearing → Type 0
+IsHeard groups = IsHeardWith (is_reported_in groups)
+
+abbrev pub HeardAt : List RowRecord → List FrameRecord → ℕ → Option Hearing → Type 0
+HeardAt groups = HeardAtWith (is_reported_in groups)
+
 abbrev pub AreHeard : List RowRecord → List FrameRecord → List Hearing → Type 0
-AreHeard groups F hs = HeardBelow groups F (length F) hs
+AreHeard groups = AreHeardWith (is_reported_in groups)

@@ -1,5 +1,5 @@
 //! A listener on a bus (J1939-21, 5.10; J1939-81, 4.2).
-ghost use Rattle.std.specs.Prelude.{◌≡◌, ◌≤◌, ◌*◌, ◌++◌, ◌∷◌, [], List, Option, None, IfOk, OnOk, OnErr, MatchResult, length};
+ghost use Rattle.std.specs.Prelude.{◌≡◌, ◌≤◌, ◌*◌, ◌++◌, ◌∷◌, [], ℕ, Bool, true, false, List, Option, None, IfOk, OnOk, OnErr, MatchResult, length};
 ghost use Rattle.std.specs.Option.{option_map};
 ghost use Rattle.std.specs.Borrow.{sem};
 ghost use Rattle.std.specs.Io.BufRead.{Rests};
@@ -8,25 +8,24 @@ ghost use Rattle.j39_address.specs.Holder.{IsHolderAfter};
 ghost use Rattle.j39_address.specs.Name.{name_raw};
 ghost use Rattle.j39_frame.specs.Frame.{FrameRecord};
 ghost use Rattle.j39_frame.specs.Identifier.{pgn_of};
-ghost use Rattle.j39_frame.specs.Pgn.{pgn_raw};
-ghost use Rattle.j39_groups.specs.Row.{RowRecord};
+ghost use Rattle.j39_groups.specs.Readings.{is_network_group};
 ghost use Rattle.j39_groups.specs.Table.{the_table};
 ghost use Rattle.j39_transport.specs.Answers.{IsAnnouncement};
 ghost use Rattle.j39_transport.specs.Steps.{messages_open};
-ghost use Rattle.j39_listen.specs.Heard.{HeardAt};
+ghost use Rattle.j39_listen.specs.Heard.{HeardAt, HeardAtWith, LeavesNetwork};
 ghost use Rattle.j39_listen.specs.Listening.{AreHeld, AreOpen, Hears, WantsMemoryBehind};
 ghost use Rattle.j39_listen.specs.NextSteps.{IsMany, heard_alone};
 ghost use Rattle.j39_listen.specs.Shown.{hearing_of};
 
 use crate::Heard;
 use j39_address::{Claims, Name};
-use j39_frame::{Frame, Pgn, is_address};
+use j39_frame::{Frame, is_address};
 use j39_groups::Groups;
 use j39_transport::{Assembler, Fed, Message};
 use std::alloc::{AllocError, Global};
 
-/// Hears the messages of a bus: single frames of the groups that are reported, and messages in
-/// packets, broadcast or from one controller to another. It knows who holds each address, and
+/// Hears the messages of a bus: single frames of the groups that are heard so, as those that are reported, and
+/// messages in packets, broadcast or from one controller to another. It knows who holds each address, and
 /// forgets what a source had begun when its holder changes.
 #[derive(Drop)]
 pub struct Listener {
@@ -79,14 +78,35 @@ impl Listener {
             (λ _. (F : List FrameRecord) → Hears self.old F → Hears n (F ++ frame.now ∷ []))
             (λ _. n ≡ self.old))) }
     {
+        self.feed_as(groups.is_reported(frame.id.pgn()), frame)
+    }
+
+    /// Takes the next frame of the bus, and answers the message that is heard at it, where the caller says whether
+    /// messages of its group are heard in one frame: those of the network's groups never are. Memory is taken as by
+    /// `feed`; after an error nothing has changed.
+    #[inline(always)]
+    pub fn feed_as<'a>(
+        &'a mut self,
+        is_single: bool,
+        frame: &'a Frame,
+    ) -> Result<Option<Heard<'a>>, AllocError>
+        requires { is_single ≡ true → is_network_group (pgn_of frame.now.id) ≡ false }
+        ensures heard { IfOk result (λ heard. (singles : ℕ → Bool) → LeavesNetwork singles
+            → singles (pgn_of frame.now.id) ≡ is_single → (F : List FrameRecord) → Hears self.old F
+            → HeardAtWith singles (F ++ frame.now ∷ []) (length F) (option_map hearing_of heard)) }
+        ensures refused { OnErr result (IsAnnouncement frame.now) }
+        ensures wanted { OnErr result ((F : List FrameRecord) → Hears self.old F → WantsMemoryBehind F frame.now) }
+        ensures* after { sem 𝓛 (Rests the_row self.entry (λ n. MatchResult result
+            (λ _. (F : List FrameRecord) → Hears self.old F → Hears n (F ++ frame.now ∷ []))
+            (λ _. n ≡ self.old))) }
+    {
         if frame.id.is_address_claimed() {
             self.note(frame)?;
             return Ok(None);
         }
-        let pgn = frame.id.pgn();
-        // No table reports packets and announcements: the assembler would let the frame pass.
-        if groups.is_reported(pgn) {
-            return Ok(alone(frame, pgn, self.claims.holder(frame.id.source())));
+        // Packets and announcements are never single: the assembler would let the frame pass.
+        if is_single {
+            return Ok(alone(frame, self.claims.holder(frame.id.source())));
         }
         self.assemble(frame)
     }
@@ -110,9 +130,9 @@ impl Listener {
     /// Hands a frame that claims nothing and is no message by itself to the assembler.
     #[inline(always)]
     fn assemble(&mut self, frame: &Frame) -> Result<Option<Heard<'_>>, AllocError>
-        ensures heard { IfOk result (λ heard. (groups : List RowRecord) → IsMany groups frame.now
+        ensures heard { IfOk result (λ heard. (singles : ℕ → Bool) → LeavesNetwork singles → IsMany singles frame.now
             → (F : List FrameRecord) → Hears self.old F
-            → HeardAt groups (F ++ frame.now ∷ []) (length F) (option_map hearing_of heard)) }
+            → HeardAtWith singles (F ++ frame.now ∷ []) (length F) (option_map hearing_of heard)) }
         ensures refused { OnErr result (IsAnnouncement frame.now) }
         ensures wanted { OnErr result ((F : List FrameRecord) → Hears self.old F → WantsMemoryBehind F frame.now) }
         ensures* after { sem 𝓛 (Rests the_row self.entry (λ n. MatchResult result
@@ -153,9 +173,9 @@ impl Listener {
     }
 }
 
-/// A frame of a reported group as a message; `None` from the null and the global address.
-fn alone(frame: &Frame, pgn: Pgn, name: Option<Name>) -> Option<Heard<'_>>
-    requires { pgn_raw pgn ≡ pgn_of frame.now.id }
+/// A frame as a message by itself; `None` from the null and the global address.
+#[inline(always)]
+fn alone(frame: &Frame, name: Option<Name>) -> Option<Heard<'_>>
     ensures { option_map hearing_of result ≡ heard_alone frame.now (option_map name_raw name) }
 {
     let source = frame.id.source();
@@ -164,7 +184,7 @@ fn alone(frame: &Frame, pgn: Pgn, name: Option<Name>) -> Option<Heard<'_>>
     }
     let message = Message {
         source,
-        pgn,
+        pgn: frame.id.pgn(),
         payload: frame.bytes.as_slice(),
         stamp: frame.stamp,
     };

@@ -18,10 +18,10 @@ returns-in-Whole c = (
         hears_quiet c.args.self.now F c.args.frame.now _ none h (on_ok _ _ _ _ c.in_ok-message.was c.feed.follows.holds-at-none h.events h.stands)),
   ),
   record {
-    heard = λ table many F h.
+    heard = λ singles leaves many F h.
         let said = rw c.in-Whole.is at (c.in_ok-message.ensures.answer h.events h.stands) in
         let name = subst (λ a. IsHolderAfter (claims_of F) a (option_map name_raw c.holder-name.result)) (c.source.ensures ∙ ap (λ (x : FrameRecord). source_of x.id) c.frame.view_is) (c.holder-name.ensures.holder F h.knows) in
-        heard_many table c.args.self.now F c.args.frame.now _ _ _ many h name said.0 said.1;
+        heard_many singles leaves c.args.self.now F c.args.frame.now _ _ _ many h name said.0 said.1;
     refused = tt;
     wanted = tt;
     after = tt;
@@ -37,7 +37,7 @@ returns-in-Taken c = (
         hears_quiet c.args.self.now F c.args.frame.now _ none h (on_ok _ _ _ _ c.in_ok-message.was c.feed.follows.holds-at-none h.events h.stands)),
   ),
   record {
-    heard = λ table many F h. silent_many table c.args.self.now F c.args.frame.now many h (rw c.in-Taken.is at (c.in_ok-message.ensures.answer h.events h.stands)).1;
+    heard = λ singles leaves many F h. silent_many singles leaves c.args.self.now F c.args.frame.now many h (rw c.in-Taken.is at (c.in_ok-message.ensures.answer h.events h.stands)).1;
     refused = tt;
     wanted = tt;
     after = tt;
@@ -53,7 +53,7 @@ returns-in-Ignored c = (
         hears_quiet c.args.self.now F c.args.frame.now _ none h (on_ok _ _ _ _ c.in_ok-message.was c.feed.follows.holds-at-none h.events h.stands)),
   ),
   record {
-    heard = λ table many F h. silent_many table c.args.self.now F c.args.frame.now many h (rw c.in-Ignored.is at (c.in_ok-message.ensures.answer h.events h.stands)).1;
+    heard = λ singles leaves many F h. silent_many singles leaves c.args.self.now F c.args.frame.now many h (rw c.in-Ignored.is at (c.in_ok-message.ensures.answer h.events h.stands)).1;
     refused = tt;
     wanted = tt;
     after = tt;

@@ -1,60 +1,24 @@
--- A claim, a message by itself, or a frame that may be one of many.
-use Rattle.std.proofs.Common.{◌≡◌, ◌∙◌, ◌==◌, ◌++◌, ◌∷◌, [], List, None, length, refl, sym, ap, subst}
-use Rattle.std.specs.Option.{option_map}
-use Rattle.j39_address.specs.Name.{name_raw}
-use Rattle.j39_address.specs.Claim.{claim_of, claims_of}
-use Rattle.j39_address.specs.Holder.{IsHolderAfter}
+-- The groups that a table reports are heard in one frame.
+use Rattle.std.proofs.Common.{◌≡◌, ◌∙◌, ap, refl, sym}
 use Rattle.j39_frame.specs.Frame.{FrameRecord}
-use Rattle.j39_frame.specs.Identifier.{pgn_of, source_of}
+use Rattle.j39_frame.specs.Identifier.{pgn_of}
 use Rattle.j39_groups.specs.Readings.{is_reported_in}
-use Rattle.j39_listen.specs.Heard.{HeardAt}
-use Rattle.j39_listen.specs.Listening.{Hears}
-use Rattle.j39_listen.proofs.ListenerLemmas.{heard_claim, heard_single, hears_reported, is_many, no_claim, on_ok_given}
 use Rattle.j39_listen.proofs.PieceLemmas.{if_ok}
+use Rattle.j39_listen.proofs.Reported.{reported_free, reported_leaves}
 use Rattle.j39_listen.proofs.listener.Listener.feed_with.Goals as goal
 
-pub returns-then-is_address_claimed : goal.returns-then-is_address_claimed
-returns-then-is_address_claimed c = (
-  (refl, (λ _. tt), c.in_ok-note.ensures.noted),
+pub feed_as-requires : goal.feed_as-requires
+feed_as-requires c = λ reported. reported_free c.args.groups.now _
+    (ap (is_reported_in c.args.groups.now) (sym (c.pgn.ensures ∙ ap (λ (x : FrameRecord). pgn_of x.id) c.frame.view_is)) ∙ (sym c.is_reported.ensures ∙ reported))
+
+pub returns : goal.returns
+returns c = (
+  (refl, (λ _. tt), c.feed_as.follows.holds-at-none),
   record {
-    heard = λ F h. heard_claim c.args.groups.now c.args.self.now F c.args.frame.now (sym (c.is_address_claimed.ensures ∙ ap (λ (x : FrameRecord). pgn_of x.id == 60928) c.frame.view_is) ∙ c.if-is_address_claimed.true) h;
-    refused = tt;
-    wanted = tt;
+    heard = if_ok c.feed_as.result _ _ (λ heard said. said (is_reported_in c.args.groups.now) (reported_leaves c.args.groups.now)
+        (ap (is_reported_in c.args.groups.now) (sym (c.pgn.ensures ∙ ap (λ (x : FrameRecord). pgn_of x.id) c.frame.view_is)) ∙ sym c.is_reported.ensures)) c.feed_as.ensures.heard;
+    refused = c.feed_as.ensures.refused;
+    wanted = c.feed_as.ensures.wanted;
     after = tt;
   },
 )
-
-pub returns-then-is_reported : goal.returns-then-is_reported
-returns-then-is_reported c =
-    let reported = ap (is_reported_in c.args.groups.now) (sym (c.pgn-pgn.ensures ∙ ap (λ (x : FrameRecord). pgn_of x.id) c.frame.view_is)) ∙ (sym c.is_reported.ensures ∙ c.if-is_reported.true) in
-    let none = no_claim c.args.frame.now (sym (c.is_address_claimed.ensures ∙ ap (λ (x : FrameRecord). pgn_of x.id == 60928) c.frame.view_is) ∙ c.if-is_address_claimed.false) in (
-      (refl, (λ _. tt), (λ F h. hears_reported c.args.groups.now c.args.self.now F c.args.frame.now reported none h)),
-      record {
-        heard = λ F h.
-            let name = subst (λ a. IsHolderAfter (claims_of F) a (option_map name_raw c.holder.result)) (c.source.ensures ∙ ap (λ (x : FrameRecord). source_of x.id) c.frame.view_is) (c.holder.ensures.holder F h.knows) in
-            subst (HeardAt c.args.groups.now (F ++ c.args.frame.now ∷ []) (length F)) (sym c.alone.ensures)
-            (heard_single c.args.groups.now c.args.self.now F c.args.frame.now (option_map name_raw c.holder.result) reported h name);
-        refused = tt;
-        wanted = tt;
-        after = tt;
-      },
-    )
-
-pub returns : goal.returns
-returns c =
-    let other = sym (c.is_address_claimed.ensures ∙ ap (λ (x : FrameRecord). pgn_of x.id == 60928) c.frame.view_is) ∙ c.if-is_address_claimed.false in
-    let unreported = ap (is_reported_in c.args.groups.now) (sym (c.pgn-pgn.ensures ∙ ap (λ (x : FrameRecord). pgn_of x.id) c.frame.view_is)) ∙ (sym c.is_reported.ensures ∙ c.if-is_reported.false) in (
-      (
-        refl,
-        (λ _. tt),
-        on_ok_given c.assemble.result (claim_of c.args.frame.now ≡ None)
-            ((F : List FrameRecord) → Hears c.args.self.now F → Hears c.assemble.follows.lender-at-none (F ++ c.args.frame.now ∷ []))
-            (λ _. c.assemble.follows.lender-at-none ≡ c.args.self.now) (no_claim c.args.frame.now other) c.assemble.follows.holds-at-none,
-      ),
-      record {
-        heard = if_ok c.assemble.result _ _ (λ heard said. said c.args.groups.now (is_many c.args.groups.now c.args.frame.now other unreported)) c.assemble.ensures.heard;
-        refused = c.assemble.ensures.refused;
-        wanted = c.assemble.ensures.wanted;
-        after = tt;
-      },
-    )
