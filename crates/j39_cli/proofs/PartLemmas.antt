@@ -49,28 +49,24 @@ abbrev part_walked : List Rule → Walk → Part → Walk
 part_walked rules w (written word) = walked rules [] w word
 part_walked rules w (given word) = value_walked rules w.stopped w word
 
+-- a word of one letter: `-`, or another
+by_letter : (P : ℕ → Type 0) (x : ℕ) → P hyphen → ((x == hyphen) ≡ false → P x) → P x
+by_letter P x is_hyphen other = go (x == hyphen) refl
+  where
+    go : (b : Bool) → (x == hyphen) ≡ b → P x
+    go true e = subst P (sym (eqb-true x hyphen e)) is_hyphen
+    go false e = other e
+
 word_met-value : (rules : List Rule) (is_trailing : Bool) (waiting : Waiting) (position : ℕ) (word : Text) (held : Held) → IsValue word
     → word_met rules [] is_trailing waiting position word held ≡ value_met rules is_trailing waiting word held
 word_met-value rules t waiting position [] held is_value = absurd is_value
 word_met-value rules true waiting position (x ∷ xs) held is_value = refl
-word_met-value rules false waiting position (x ∷ []) held is_value = by_letter (x == hyphen) refl
-  where
-    Meets : ℕ → Type 0
-    Meets y = word_met rules [] false waiting position (y ∷ []) held ≡ value_met rules false waiting (y ∷ []) held
-
-    hyphen_met : (w : Waiting) → word_met rules [] false w position (hyphen ∷ []) held ≡ value_met rules false w (hyphen ∷ []) held
-    hyphen_met idle = refl
-    hyphen_met (option id) = refl
-    hyphen_met positional = refl
-
-    other_met : (w : Waiting) → (x == hyphen) ≡ false → word_met rules [] false w position (x ∷ []) held ≡ value_met rules false w (x ∷ []) held
-    other_met idle e = simp e
-    other_met (option id) e = simp e
-    other_met positional e = simp e
-
-    by_letter : (is_hyphen : Bool) → (x == hyphen) ≡ is_hyphen → Meets x
-    by_letter true e = subst Meets (sym (eqb-true x hyphen e)) (hyphen_met waiting)
-    by_letter false e = other_met waiting e
+word_met-value rules false idle position (x ∷ []) held is_value = by_letter (λ y. word_met rules [] false idle position (y ∷ []) held
+    ≡ value_met rules false idle (y ∷ []) held) x refl (λ e. simp e)
+word_met-value rules false (option id) position (x ∷ []) held is_value = by_letter (λ y. word_met rules [] false (option id) position (y ∷ []) held
+    ≡ value_met rules false (option id) (y ∷ []) held) x refl (λ e. simp e)
+word_met-value rules false positional position (x ∷ []) held is_value = by_letter (λ y. word_met rules [] false positional position (y ∷ []) held
+    ≡ value_met rules false positional (y ∷ []) held) x refl (λ e. simp e)
 word_met-value rules false idle position (x ∷ y ∷ ys) held is_value = simp is_value
 word_met-value rules false (option id) position (x ∷ y ∷ ys) held is_value = simp is_value
 word_met-value rules false positional position (x ∷ y ∷ ys) held is_value = simp is_value
@@ -79,9 +75,12 @@ word_passes-value : (s : Shape) (is_trailing : Bool) (waiting : Waiting) (word :
     → word_passes s [] is_trailing waiting word held ≡ true
 word_passes-value s t waiting [] held is_value = absurd is_value
 word_passes-value s true waiting (x ∷ xs) held is_value = refl
-word_passes-value s false idle (x ∷ xs) held is_value = simp is_value
-word_passes-value s false (option id) (x ∷ xs) held is_value = simp is_value
-word_passes-value s false positional (x ∷ xs) held is_value = simp is_value
+word_passes-value s false idle (x ∷ []) held is_value = by_letter (λ y. word_passes s [] false idle (y ∷ []) held ≡ true) x refl (λ e. simp e)
+word_passes-value s false (option id) (x ∷ []) held is_value = by_letter (λ y. word_passes s [] false (option id) (y ∷ []) held ≡ true) x refl (λ e. simp e)
+word_passes-value s false positional (x ∷ []) held is_value = by_letter (λ y. word_passes s [] false positional (y ∷ []) held ≡ true) x refl (λ e. simp e)
+word_passes-value s false idle (x ∷ y ∷ ys) held is_value = simp is_value
+word_passes-value s false (option id) (x ∷ y ∷ ys) held is_value = simp is_value
+word_passes-value s false positional (x ∷ y ∷ ys) held is_value = simp is_value
 
 walked-part : (rules : List Rule) (w : Walk) (x : Part) → IsPart x → walked rules [] w (text_of x) ≡ part_walked rules w x
 unfolding walked
