@@ -12,3 +12,4 @@ pub mod QuickLemmas
 pub mod SortLemmas
 pub mod MarkLemmas
 pub mod ReadLemmas
+pub mod VisitLemmas

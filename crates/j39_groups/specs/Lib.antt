@@ -14,6 +14,7 @@ pub mod Shown
 pub mod ReadFields
 pub mod ReadRows
 pub mod ReadValues
+pub mod Visits
 -- the code's steps, below the rules
 pub mod CodeRows
 pub mod Quick

@@ -27,6 +27,7 @@ mod slot;
 mod table;
 mod text;
 mod value;
+mod visiting;
 
 pub use groups_table::Groups;
 pub use listable::{is_heard_group, is_network_group};
@@ -35,8 +36,10 @@ pub use printed::{decimal_of, push_decimal, push_range, put_parameters};
 pub use quick_lines::{HEAD, LINES, lines_before};
 pub use read_field::ReadField;
 pub use read_row::ReadRow;
+pub use read_value::ReadValue;
 pub use reading::{is_reported, readings};
 pub use scale::Scale;
 pub use slot::Slot;
 pub use text::{Text, put_value, scaled_text};
 pub use value::{Reading, Value};
+pub use visiting::ReadingVisitor;

@@ -201,7 +201,7 @@ fn put_value_line<W: Sink>(
     head: &[u8; HEAD],
     from: usize,
     spn: u32,
-    value: ReadValue<'_>,
+    value: ReadValue<'_, '_>,
     sink: &mut W,
 ) -> Result<(), DeviceFault>
     requires { from ≤ 48 }
@@ -222,7 +222,7 @@ fn put_value_line<W: Sink>(
 fn put_parts_line<W: Sink>(
     head: &[u8],
     spn: u32,
-    value: ReadValue<'_>,
+    value: ReadValue<'_, '_>,
     sink: &mut W,
 ) -> Result<(), DeviceFault>
     requires { length head.now ≤ 48 }

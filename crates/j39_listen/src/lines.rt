@@ -34,7 +34,7 @@ impl<A: Account> Lines<A> {
         ensures memory { result ≡ Err Memory → W.held sink.new ≡ W.held sink.old }
         ensures unmarked { result ≢ Err Write → W.has_failed sink.new ≡ W.has_failed sink.old }
         ensures asked { result ≡ Err Memory → (subject : A.Subject) → IsSpelling (spelled_of line.entry)
-            → AsksLine (A.has_met subject) A.asks (spelled_of line.entry) self.old.bus self.old.account }
+            → AsksLine (A.has_met subject) (A.asks subject) (spelled_of line.entry) self.old.bus self.old.account }
     {
         let met = match meet(&mut self.bus, &mut self.account, line, sink) {
             Ok(met) => met,
@@ -63,7 +63,7 @@ fn meet<A: Account, W: Sink>(
     ensures memory { result ≡ Err Memory → W.held sink.new ≡ W.held sink.old }
     ensures unmarked { result ≢ Err Write → W.has_failed sink.new ≡ W.has_failed sink.old }
     ensures asked { result ≡ Err Memory → (subject : A.Subject) → IsSpelling (spelled_of line.entry)
-        → AsksLine (A.has_met subject) A.asks (spelled_of line.entry) bus.old account.old }
+        → AsksLine (A.has_met subject) (A.asks subject) (spelled_of line.entry) bus.old account.old }
 {
     match line {
         Line::Frame { bus: name, frame } => {

@@ -154,7 +154,7 @@ impl<'g, 't> Account for Report<'g, 't> {
 
     ghost makes = { λ subject. MakesReport subject };
 
-    ghost asks = { AsksForBoxes };
+    ghost asks = { λ subject. AsksForBoxes };
 
     #[inline(always)]
     fn meet<W: Sink>(&mut self, _: &Bus, frame: &Frame, sink: &mut W) -> Result<(), LineFault> {

@@ -39,6 +39,6 @@ returns-in-Blank-clause-met g c = λ subject. rw c.in-Blank.is (λ spelling. mee
 pub returns-in-Err-clause-asked : goal.returns-in-Err-clause-asked
 returns-in-Err-clause-asked g c = λ fails subject.
     rw c.in-Frame.is (λ spelling.
-    asks_frame (g.A.Account.has_met subject) g.A.Account.asks c.in-Frame.name.now c.in-Frame.frame _ c.in-Some.bus c.args.account.now
+    asks_frame (g.A.Account.has_met subject) (g.A.Account.asks subject) c.in-Frame.name.now c.in-Frame.frame _ c.in-Some.bus c.args.account.now
     (known_bus _ _ _ c.in-Some.is (c.know.ensures spelling.1.parts.bus_is)) (ap (bytes_eq c.in-Frame.name.now) (sym c.bytes.ensures.value) ∙ sym c.eq.ensures ∙ c.if-eq.true)
     (c.in-Err.ensures.asked (ap Err (same_fault _ _ fails)) subject))
