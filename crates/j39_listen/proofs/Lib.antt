@@ -25,6 +25,7 @@ pub mod RunLemmas
 pub mod StopLemmas
 pub mod PieceLemmas
 pub mod AskLemmas
+pub mod HeadedLemmas
 -- the headline: for the laws on what was published
 pub mod Items
 pub mod Sent

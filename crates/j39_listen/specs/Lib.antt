@@ -5,6 +5,7 @@ pub mod Report
 pub mod Nodes
 pub mod Answers
 pub mod Output
+pub mod Headed
 -- what was published, and what a report tells of it
 pub mod Published
 pub mod Loss
