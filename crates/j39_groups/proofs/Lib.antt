@@ -11,4 +11,5 @@ pub mod QuickLemmas
 -- tables that were read
 pub mod SortLemmas
 pub mod MarkLemmas
+pub mod NameLemmas
 pub mod ReadLemmas

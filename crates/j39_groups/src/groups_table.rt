@@ -1,10 +1,11 @@
 //! A table of parameters, as its callers see it.
-ghost use Rattle.std.specs.Prelude.{◌≡◌, ◌==◌, ◌<◌, ◌≤◌, IfOk, IsOk, IsTrue, OnOk, OnErr, drop, false, filter, length, map, nat_lt, true, vec_len};
+ghost use Rattle.std.specs.Prelude.{◌≡◌, ◌==◌, ◌<◌, ◌≤◌, IfOk, IsOk, IsTrue, OnOk, OnErr, drop, false, filter, length, map, option_map, nat_lt, true, vec_len};
 ghost use Rattle.std.specs.Io.KnownBytes.{Appends};
 ghost use Rattle.std.specs.List.{flat_map, prefix_len};
 ghost use Rattle.std.specs.List.Sorted.{IsNonDecreasingBy, IsPartitionPoint};
 ghost use Rattle.j39_frame.specs.Pgn.{pgn_raw};
 ghost use Rattle.j39_device.specs.Device.{AppendsFront, Marks};
+ghost use Rattle.j39_groups.specs.Names.{name_of};
 ghost use Rattle.j39_groups.specs.Parameters.{rows_text};
 ghost use Rattle.j39_groups.specs.Quick.{reading_line};
 ghost use Rattle.j39_groups.specs.ReadRows.{BeginsAt, read_row_record};
@@ -15,12 +16,13 @@ use crate::by_group::by_group;
 use crate::lines::put_found;
 use crate::listed::{Listed, ReadTable};
 use crate::marks::mark;
+use crate::names::{name_in, read_name_in};
 use crate::parameters;
 use crate::quick_lines::{HEAD, LINES, lines_before};
 use crate::read_lines::put_rows;
 use crate::read_parameters::put_read_table;
 use crate::read_row::ReadRow;
-use crate::reading::{is_reported, readings};
+use crate::reading::{is_reported, readings, rows};
 use j39_device::{DeviceFault, Sink, put_all};
 use j39_frame::Pgn;
 use std::alloc::AllocError;
@@ -73,6 +75,16 @@ impl<'t> Groups<'t> {
         match &self.listed {
             Listed::BuiltIn => is_reported(pgn),
             Listed::Read(table) => is_listed(table, pgn),
+        }
+    }
+
+    /// What the table calls a parameter (SPN): the name in its first row, of any bytes. `None` where it has no row.
+    pub fn name_of(&self, spn: u32) -> Option<&[u8]>
+        ensures { option_map (λ name. name.now) result ≡ name_of self.now spn }
+    {
+        match &self.listed {
+            Listed::BuiltIn => name_in(rows(), spn),
+            Listed::Read(table) => read_name_in(table.rows.as_slice(), spn),
         }
     }
 

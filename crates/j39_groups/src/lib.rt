@@ -9,6 +9,7 @@ mod lines;
 mod listable;
 mod listed;
 mod marks;
+mod names;
 mod parameter;
 mod parameters;
 mod quick_lines;
