@@ -6,4 +6,5 @@ pub mod Output
 pub mod Asking
 -- the code's steps, below the rules
 pub mod Said
+pub mod Remembered
 pub mod Steps

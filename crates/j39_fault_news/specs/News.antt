@@ -37,14 +37,15 @@ says_other (Some l) m = not (bytes_eq l.message.bytes m.message.bytes && is_same
 abbrev pub is_news : List Hearing → Hearing → Bool
 is_news before m = says_other (last_from m.message.pgn m.message.source before) m
 
-abbrev pub is_told : Telling → List Hearing → Hearing → Bool
-is_told News before m = is_news before m
-is_told All before m = true
+-- a message is told that is news, or each is
+abbrev pub is_told : Telling → Bool → Bool
+is_told News is_news = is_news
+is_told All is_news = true
 
 -- the message at a place, behind those before it, where it is told
 abbrev pub told_here : Telling → List Hearing → Option Hearing → List Hearing
 told_here which before None = []
-told_here which before (Some m) = if is_told which before m then m ∷ [] else []
+told_here which before (Some m) = if is_told which (is_news before m) then m ∷ [] else []
 
 -- those told of the messages at the first n places, in order
 unfoldable pub told_below : Telling → List Hearing → ℕ → List Hearing

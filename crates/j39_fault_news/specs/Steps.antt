@@ -1,5 +1,5 @@
 -- The steps of a run that tells faults, frame by frame.
-use Rattle.std.specs.Prelude.{◌≡◌, ◌≤◌, ◌++◌, ◌∷◌, [], ℕ, List, Option, if◌then◌else◌, length, None, Some}
+use Rattle.std.specs.Prelude.{◌≡◌, ◌≤◌, ◌++◌, ◌∷◌, [], ℕ, Bool, List, Option, if◌then◌else◌, length, None, Some}
 use Rattle.std.specs.Io.KnownBytes.{Appends}
 use Rattle.std.specs.List.{flat_map}
 use Rattle.j39_device.specs.Device.{AppendsFront}
@@ -16,10 +16,10 @@ use Rattle.j39_listen.specs.ReportSteps.{made_of}
 use Rattle.j39_listen.specs.declared.counts.Made.{Made}
 use Rattle.j39_listen.specs.declared.listener.Listener.{Listener}
 use Rattle.j39_text.specs.Chars.{newline}
-use Rattle.j39_fault_news.specs.Faults.{faults_in, faults_text, said_text}
+use Rattle.j39_fault_news.specs.Faults.{Fault, faults_in, faults_text, said_text}
 use Rattle.j39_fault_news.specs.News.{faults_among, is_fault_group, is_of_faults, told_here}
 use Rattle.j39_fault_news.specs.Output.{faults_of}
-use Rattle.j39_fault_news.specs.Said.{Remembers}
+use Rattle.j39_fault_news.specs.Remembered.{Remembers}
 use Rattle.j39_fault_news.specs.declared.account.FaultNews.{FaultNews}
 use Rattle.j39_fault_news.specs.declared.last_said.LastSaid.{LastSaid}
 use Rattle.j39_fault_news.specs.declared.telling.Telling.{Telling}
@@ -27,6 +27,10 @@ use Rattle.j39_fault_news.specs.declared.telling.Telling.{Telling}
 -- a line, of what stands before what is said in it
 abbrev pub line_of : List ℕ → List RowRecord → Kind → Lamps → Option Code → List ℕ
 line_of head rows kind lamps code = head ++ said_text rows kind lamps code ++ (newline ∷ [])
+
+-- what is told of a message, where it is told
+abbrev pub told_faults : Bool → List Fault → List Fault
+told_faults is_told faults = if is_told then faults else []
 
 -- what is told of what is heard next, or of nothing
 abbrev pub told_next : Telling → List Hearing → Option Hearing → List Hearing

@@ -1,11 +1,12 @@
 //! For each address and group what was said last.
 ghost use Rattle.std.specs.Prelude.{◌≡◌, [], IfOk, None, OnErr, OnOk, option_map};
 ghost use Rattle.j39_address.specs.Name.{name_raw};
-ghost use Rattle.j39_fault_news.specs.Said.{Notes, Remembers, differs, said_at, said_by};
+ghost use Rattle.j39_fault_news.specs.Remembered.{Notes, Remembers, said_at};
+ghost use Rattle.j39_fault_news.specs.Said.{differs, said_by};
 
 use crate::places::Places;
+use j39_address::Name;
 use j39_faults::Kind;
-use j39_listen::Heard;
 use std::alloc::{AllocError, Global};
 
 /// What was said last by each address of its active codes, and of its previous ones.
@@ -26,19 +27,24 @@ impl LastSaid {
         }
     }
 
-    /// Notes a message, and answers whether it is news.
-    pub(crate) fn note(&mut self, alloc: Global, kind: Kind, heard: &Heard<'_>) -> Result<bool, AllocError>
+    /// Notes what an address says, and answers whether it is news.
+    pub(crate) fn note(
+        &mut self,
+        alloc: Global,
+        kind: Kind,
+        source: u8,
+        payload: &[u8],
+        name: Option<Name>,
+    ) -> Result<bool, AllocError>
         ensures news { IfOk result (λ is_news. is_news
-            ≡ differs (said_at self.old kind heard.now.message.source) heard.now.message.payload.now
-            (option_map name_raw heard.now.name)) }
-        ensures after { OnOk result (Notes self.old kind heard.now.message.source
-            (said_by heard.now.message.payload.now (option_map name_raw heard.now.name)) self.new) }
-        ensures first { OnErr result (said_at self.old kind heard.now.message.source ≡ None) }
+            ≡ differs (said_at self.old kind source) payload.now (option_map name_raw name)) }
+        ensures after { OnOk result (Notes self.old kind source
+            (said_by payload.now (option_map name_raw name)) self.new) }
+        ensures first { OnErr result (said_at self.old kind source ≡ None) }
     {
-        let message = &heard.message;
         match kind {
-            Kind::Active => self.active.note(alloc, message.source, message.payload, heard.name),
-            Kind::Previous => self.previous.note(alloc, message.source, message.payload, heard.name),
+            Kind::Active => self.active.note(alloc, source, payload, name),
+            Kind::Previous => self.previous.note(alloc, source, payload, name),
         }
     }
 }

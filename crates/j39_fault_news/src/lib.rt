@@ -3,6 +3,7 @@
 
 mod account;
 mod last_said;
+pub mod laws;
 mod lines;
 mod places;
 mod run;

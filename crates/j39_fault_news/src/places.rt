@@ -1,7 +1,7 @@
 //! For each address what was said last.
 ghost use Rattle.std.specs.Prelude.{◌≡◌, IfOk, None, OnErr, OnOk, Some, option_map, replicate, slice_set};
 ghost use Rattle.j39_address.specs.Name.{name_raw};
-ghost use Rattle.j39_fault_news.specs.Said.{at, differs, said_by};
+ghost use Rattle.j39_fault_news.specs.Said.{at, differs, held_in, said_by};
 
 use crate::said::Said;
 use j39_address::Name;
@@ -49,9 +49,26 @@ impl Places {
         Places { places }
     }
 
+    /// Takes out what an address said last.
+    #[tactic(auto, using(crate::proofs::PlaceLemmas::left_empty, crate::proofs::PlaceLemmas::shown_at))]
+    fn take(&mut self, source: u8) -> Place
+        ensures after { self.new ≡ slice_set self.old source None }
+        ensures value { held_in result ≡ at self.old source }
+    {
+        self.places[usize::from(source)].take()
+    }
+
+    /// Puts in what an address says.
+    #[tactic(auto, using(crate::proofs::PlaceLemmas::put_in))]
+    fn put(&mut self, source: u8, said: Box<Said>)
+        ensures { self.new ≡ slice_set self.old source (Some said.value) }
+    {
+        self.places[usize::from(source)] = Some(said);
+    }
+
     /// Notes what an address says, and answers whether that is news. Memory is taken where the address said nothing
     /// before.
-    #[tactic(auto, using(crate::proofs::PlaceLemmas::shown_at, crate::proofs::PlaceLemmas::put_in))]
+    #[tactic(auto, using(crate::proofs::PlaceLemmas::set_again))]
     pub(crate) fn note(
         &mut self,
         alloc: Global,
@@ -65,14 +82,13 @@ impl Places {
             ≡ slice_set self.old source (Some (said_by payload.now (option_map name_raw name)))) }
         ensures first { OnErr result (at self.old source ≡ None) }
     {
-        let place = usize::from(source);
-        let Some(mut said) = self.places[place].take() else {
-            self.places[place] = Some(Box::new(alloc, Said::new(payload, name))?);
+        let Some(mut said) = self.take(source) else {
+            self.put(source, Box::new(alloc, Said::new(payload, name))?);
             return Ok(true);
         };
         let is_known = said.is(payload, name);
         said.replace(payload, name);
-        self.places[place] = Some(said);
+        self.put(source, said);
         Ok(!is_known)
     }
 }
