@@ -141,7 +141,7 @@ fn note(claims: &mut Claims, line: &str) -> Option<ArrayVec<u8, 2>> {
     }
 }
 
-fn held(claims: &Claims, address: u8) -> Option<u64> {
+fn holder(claims: &Claims, address: u8) -> Option<u64> {
     claims.holder(address).map(|name| name.raw())
 }
 
@@ -152,15 +152,15 @@ fn nodes_after_contests(rt: HostRuntime) -> Result<(), Fail> {
     assert_eq!(rt; first.as_slice(), [0].as_slice());
     let second = note(&mut claims, "(1.100000) can0 18EEFF00#7856400100000080").ok_or("line")?;
     assert!(rt; second.is_empty());
-    assert_eq!(rt; held(&claims, 0), Some(N1));
+    assert_eq!(rt; holder(&claims, 0), Some(N1));
     let moved = note(&mut claims, "(1.200000) can0 18EEFF80#3412400100000080").ok_or("line")?;
     assert_eq!(rt; moved.as_slice(), [0, 0x80].as_slice());
-    assert_eq!(rt; held(&claims, 0), None);
-    assert_eq!(rt; held(&claims, 0x80), Some(N1));
+    assert_eq!(rt; holder(&claims, 0), None);
+    assert_eq!(rt; holder(&claims, 0x80), Some(N1));
     let gone = note(&mut claims, "(1.300000) can0 18EEFFFE#3412400100000080").ok_or("line")?;
     assert_eq!(rt; gone.as_slice(), [0x80].as_slice());
     for address in 0..=255 {
-        assert_eq!(rt; held(&claims, address), None);
+        assert_eq!(rt; holder(&claims, address), None);
     }
     Ok(())
 }

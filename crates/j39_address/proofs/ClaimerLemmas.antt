@@ -31,7 +31,7 @@ says_step node m s new call now a frame e h says step = record {
     name = ap name_raw says.name ∙ h.name;
     preferred = says.preferred ∙ h.preferred;
     status = ap status_of says.status ∙ h.status;
-    moment = says.since ∙ h.moment;
+    moment = says.moment ∙ h.moment;
     claims = subst (λ (n : ℕ). StandsFor new.claims (with_claim m.claims n a)) h.name (says.noted m.claims h.claims);
   };
   frame_is = says.frame_is ∙ ap (λ (n : ℕ). Some (claim_frame now n a)) (h.name ∙ e);

@@ -90,7 +90,7 @@ pub begins_at_once : (idle started : Node) (t : ℕ) (answer : Option ℕ) → i
     → (answer ≡ Some idle.preferred) × (started.name ≡ idle.name) × ClaimsSince started idle.preferred t
 begins_at_once idle started t answer e s =
     let one = same_step idle Start t answer _ started _ s (starts refl e (refl, refl)) in
-    (one.0, ap (λ (x : Node). x.name) one.1, record { status = ap (λ (x : Node). x.status) one.1; since = ap (λ (x : Node). x.moment) one.1 })
+    (one.0, ap (λ (x : Node). x.name) one.1, record { status = ap (λ (x : Node). x.status) one.1; moment = ap (λ (x : Node). x.moment) one.1 })
 
 pub run_stays : (node later : Node) (a t : ℕ) (calls : List TimedCall) → ClaimsSince node a t → NoneDrivesAway node.name a calls → Runs node calls later
     → (later.status ≡ Claiming a) ⊎ (later.status ≡ Holding a)
@@ -100,7 +100,7 @@ pub run_holds : (node later last : Node) (a t now : ℕ) (calls : List TimedCall
     → Runs node calls later → NodeStep later Tick now answer last → t + 250000 ≤ now → last.status ≡ Holding a
 run_holds node later last a t now calls answer h safe run step l =
     let k : Keeps later node a = run_keeps node later a calls (ap address_of h.status) safe run in
-    let e : later.moment ≡ t = k.moment ∙ h.since in
+    let e : later.moment ≡ t = k.moment ∙ h.moment in
     ticked later last now answer a step (keeps_at later node a k (ap address_of h.status)) (omega arith)
 
 pub run_holds_on : (node later : Node) (a : ℕ) (calls : List TimedCall) → node.status ≡ Holding a → NoneDrivesAway node.name a calls → Runs node calls later
@@ -112,28 +112,28 @@ run_holds_on node later a calls e safe run = elim (run_keeps node later a calls 
 -- the node holds no address, and claims one since t at the earliest
 record IsEarly (n : Node) (t : ℕ) : Type 0 where
   holds_none : (b : ℕ) → n.status ≢ Holding b
-  since : (b : ℕ) → n.status ≡ Claiming b → t ≤ n.moment
+  moment : (b : ℕ) → n.status ≡ Claiming b → t ≤ n.moment
 
 early_as : (n r : Node) (t : ℕ) → n ≡ r → IsEarly r t → IsEarly n t
 early_as n r t e h = subst (λ (x : Node). IsEarly x t) (sym e) h
 
 early_kept : (m : Node) (t : ℕ) (C : List (Option Claim)) → IsEarly m t → IsEarly (record m { claims = C }) t
-early_kept m t C h = record { holds_none = h.holds_none; since = h.since }
+early_kept m t C h = record { holds_none = h.holds_none; moment = h.moment }
 
 early_begun : (m n : Node) (C : List (Option Claim)) (now b t : ℕ) (answer : Option ℕ) → t ≤ now → Begins m C now b answer n → IsEarly n t
-early_begun m n C now b t answer l h = early_as n _ t h.1 (record { holds_none = λ c e. absurd (cc); since = λ c e. l })
+early_begun m n C now b t answer l h = early_as n _ t h.1 (record { holds_none = λ c e. absurd (cc); moment = λ c e. l })
 
 early_step : (m : Node) (call : Call) (now : ℕ) (answer : Option ℕ) (n : Node) (t : ℕ) → NodeStep m call now answer n → t ≤ now → now < t + 250000 → IsEarly m t → IsEarly n t
 early_step m call now answer n t (starts e d h) l u g = early_begun m n m.claims now m.preferred t answer l h
 early_step m call now answer n t (is_started e d h) l u g = early_as n m t h.1 g
-early_step m call now answer n t (holds b e d p h k) l u g = let s : t ≤ m.moment = g.since b d in absurd (omega arith)
+early_step m call now answer n t (holds b e d p h k) l u g = let s : t ≤ m.moment = g.moment b d in absurd (omega arith)
 early_step m call now answer n t (waits b e d p h) l u g = early_as n m t h.1 g
 early_step m call now answer n t (ticks_on e d h) l u g = early_as n m t h.1 g
 early_step m call now answer n t (hears_itself b e h) l u g = early_as n m t h.1 g
 early_step m call now answer n t (notes x b e d f h) l u g = early_as n _ t h.1 (early_kept m t _ g)
 early_step m call now answer n t (wins x b e d p h) l u g = early_as n _ t h.1 (early_kept m t _ g)
 early_step m call now answer n t (moves x b c e d p q f h) l u g = early_begun m n _ now c t answer l h
-early_step m call now answer n t (gives_up x b e d p f h) l u g = early_as n _ t h.1 (record { holds_none = λ c i. absurd (cc); since = λ c i. absurd (cc) })
+early_step m call now answer n t (gives_up x b e d p f h) l u g = early_as n _ t h.1 (record { holds_none = λ c i. absurd (cc); moment = λ c i. absurd (cc) })
 early_step m call now answer n t (tells b to e d p h) l u g = early_as n _ t h.1 (early_kept m t _ g)
 early_step m call now answer n t (tells_of_none e d h) l u g = early_as n _ t h.1 (early_kept m t _ g)
 early_step m call now answer n t (is_not_asked to e d f h) l u g = early_as n m t h.1 g
@@ -153,7 +153,7 @@ pub not_early : (node later : Node) (a b t : ℕ) (calls : List TimedCall) → C
 not_early node later a b t calls h soon run =
     let early : IsEarly node t = record {
       holds_none = λ c e. absurd (let z : Claiming a ≡ Holding c = sym h.status ∙ e in cc);
-      since = λ c e. (let i : node.moment ≡ t = h.since in omega arith);
+      moment = λ c e. (let i : node.moment ≡ t = h.moment in omega arith);
     } in
     (early_run node later t calls early soon run).holds_none b
 
@@ -164,7 +164,7 @@ pub claims_another : (old new : Node) (n a now free : ℕ) (answer : Option ℕ)
     → (b : ℕ) × IsFree (with_claim old.claims n a) b × (answer ≡ Some b) × ClaimsSince new b now
 claims_another old new n a now free answer at l can f s = elim (least_free (with_claim old.claims n a)) [
   | inl b ↦ (let one = same_step old (Heard (record { name = n; address = a })) now answer _ new _ s (moves n a b.0 refl at l can b.1 (refl, refl)) in
-      (b.0, b.1.0, one.0, record { status = ap (λ (x : Node). x.status) one.1; since = ap (λ (x : Node). x.moment) one.1 }))
+      (b.0, b.1.0, one.0, record { status = ap (λ (x : Node). x.status) one.1; moment = ap (λ (x : Node). x.moment) one.1 }))
   | inr none ↦ absurd (none free f)
 ]
 

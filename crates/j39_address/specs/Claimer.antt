@@ -25,7 +25,7 @@ pub record IsNode (claimer : Claimer) (node : Node) : Type 0 where
   pub name : name_raw claimer.name ≡ node.name
   pub preferred : claimer.preferred ≡ node.preferred
   pub status : status_of claimer.status ≡ node.status
-  pub moment : claimer.since ≡ node.moment
+  pub moment : claimer.moment ≡ node.moment
   pub claims : StandsFor claimer.claims node.claims
 
 -- the node makes a step after which it is the claimer, and what it answers is this frame, or none

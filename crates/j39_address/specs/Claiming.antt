@@ -16,7 +16,7 @@ pub record Says (old new : Claimer) (a now : ℕ) (frame : Option FrameRecord) :
   pub name : new.name ≡ old.name
   pub preferred : new.preferred ≡ old.preferred
   pub status : new.status ≡ old.status
-  pub since : new.since ≡ old.since
+  pub moment : new.moment ≡ old.moment
 
 -- the least address of 128 to 247 that nobody holds in the table
 pub record IsLeastUnheld (claims : Claims) (a : ℕ) : Type 0 where

@@ -26,7 +26,7 @@ Runs first (c ∷ calls) last =
 -- the node has claimed a since the moment t, and a isn't its own yet
 pub record ClaimsSince (node : Node) (a t : ℕ) : Type 0 where
   pub status : node.status ≡ Claiming a
-  pub since : node.moment ≡ t
+  pub moment : node.moment ≡ t
 
 -- the call is a smaller NAME's claim of a, or a command to n
 abbrev pub DrivesAway : ℕ → ℕ → Call → Type 0

@@ -29,7 +29,7 @@ pub struct Claimer {
     name: Name,
     preferred: u8,
     status: Status,
-    since: u64,
+    moment: u64,
     claims: Claims,
 }
 
@@ -46,7 +46,7 @@ impl Claimer {
             name,
             preferred,
             status: Status::Idle,
-            since: 0,
+            moment: 0,
             claims: Claims::new(),
         })
     }
@@ -80,7 +80,7 @@ impl Claimer {
         ensures { Steps self.old Tick (stamp_micros now) None self.new }
     {
         if let Status::Claiming(address) = self.status {
-            if now.micros().saturating_sub(self.since) >= CLAIM_TIME {
+            if now.micros().saturating_sub(self.moment) >= CLAIM_TIME {
                 self.status = Status::Holding(address);
             }
         }
@@ -199,12 +199,12 @@ impl Claimer {
     fn claim(&mut self, address: u8, now: Stamp) -> Option<Frame>
         ensures { Says (record self.old {
           status = status.Claiming address;
-          since =
+          moment =
               stamp_micros now;
         }) self.new address (stamp_micros now) result }
     {
         self.status = Status::Claiming(address);
-        self.since = now.micros();
+        self.moment = now.micros();
         self.say(address, now)
     }
 

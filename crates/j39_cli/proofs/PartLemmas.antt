@@ -4,7 +4,7 @@
 -- at. Of a value it is known that it has a letter and that the first is no `-`: clap takes it as it
 -- stands. So here a command line is a list of parts, and each lemma turns clap's walk over the words
 -- into one over the parts, which looks at no letter of a value and so computes to its end.
-use Rattle.std.proofs.Common.{◌≡◌, ◌∙◌, ◌&&◌, ◌||◌, ℕ, Bool, List, [], ◌∷◌, ◌++◌, map, fold, refl, ap, ap₂, sym, true, false, Some, None, Option, is_some, if◌then◌else◌, append_assoc, append-nil}
+use Rattle.std.proofs.Common.{◌≡◌, ◌∙◌, ◌&&◌, ◌||◌, ◌==◌, ℕ, Bool, List, [], ◌∷◌, ◌++◌, map, fold, refl, ap, ap₂, sym, subst, eqb-true, true, false, Some, None, Option, is_some, if◌then◌else◌, append_assoc, append-nil}
 use Rattle.std.specs.Option.{option_map_or}
 use Rattle.std.specs.List.{list_all}
 use Rattle.std.specs.Prelude.{find, option_map}
@@ -12,7 +12,7 @@ use Rattle.clap.specs.Words.{Rule, Shape, Text}
 use Rattle.clap.specs.Walk.{answers_to, finished, nothing_held, rows_after, Held, Names, Step, Waiting, Walk, idle, option, positional, value, after_step, plain_word, word_met, walked, walked_from, walk, walk_from}
 use Rattle.clap.specs.Takes.{built_takes, default_passes, entered_passes, is_valid, level_passes, settle_passes, step_passes, turn_passes, word_passes, walk_passes}
 use Rattle.clap.specs.Simple.{App, entered, label_of, names_of, rows_at}
-use Rattle.j39_cli.specs.Form.{IsValue}
+use Rattle.j39_cli.specs.Form.{IsValue, hyphen}
 
 -- ---- parts
 
@@ -49,21 +49,38 @@ abbrev part_walked : List Rule → Walk → Part → Walk
 part_walked rules w (written word) = walked rules [] w word
 part_walked rules w (given word) = value_walked rules w.stopped w word
 
+-- a word of one letter: `-`, or another
+by_letter : (P : ℕ → Type 0) (x : ℕ) → P hyphen → ((x == hyphen) ≡ false → P x) → P x
+by_letter P x is_hyphen other = go (x == hyphen) refl
+  where
+    go : (b : Bool) → (x == hyphen) ≡ b → P x
+    go true e = subst P (sym (eqb-true x hyphen e)) is_hyphen
+    go false e = other e
+
 word_met-value : (rules : List Rule) (is_trailing : Bool) (waiting : Waiting) (position : ℕ) (word : Text) (held : Held) → IsValue word
     → word_met rules [] is_trailing waiting position word held ≡ value_met rules is_trailing waiting word held
 word_met-value rules t waiting position [] held is_value = absurd is_value
 word_met-value rules true waiting position (x ∷ xs) held is_value = refl
-word_met-value rules false idle position (x ∷ xs) held is_value = simp is_value
-word_met-value rules false (option id) position (x ∷ xs) held is_value = simp is_value
-word_met-value rules false positional position (x ∷ xs) held is_value = simp is_value
+word_met-value rules false idle position (x ∷ []) held is_value = by_letter (λ y. word_met rules [] false idle position (y ∷ []) held
+    ≡ value_met rules false idle (y ∷ []) held) x refl (λ e. simp e)
+word_met-value rules false (option id) position (x ∷ []) held is_value = by_letter (λ y. word_met rules [] false (option id) position (y ∷ []) held
+    ≡ value_met rules false (option id) (y ∷ []) held) x refl (λ e. simp e)
+word_met-value rules false positional position (x ∷ []) held is_value = by_letter (λ y. word_met rules [] false positional position (y ∷ []) held
+    ≡ value_met rules false positional (y ∷ []) held) x refl (λ e. simp e)
+word_met-value rules false idle position (x ∷ y ∷ ys) held is_value = simp is_value
+word_met-value rules false (option id) position (x ∷ y ∷ ys) held is_value = simp is_value
+word_met-value rules false positional position (x ∷ y ∷ ys) held is_value = simp is_value
 
 word_passes-value : (s : Shape) (is_trailing : Bool) (waiting : Waiting) (word : Text) (held : Held) → IsValue word
     → word_passes s [] is_trailing waiting word held ≡ true
 word_passes-value s t waiting [] held is_value = absurd is_value
 word_passes-value s true waiting (x ∷ xs) held is_value = refl
-word_passes-value s false idle (x ∷ xs) held is_value = simp is_value
-word_passes-value s false (option id) (x ∷ xs) held is_value = simp is_value
-word_passes-value s false positional (x ∷ xs) held is_value = simp is_value
+word_passes-value s false idle (x ∷ []) held is_value = by_letter (λ y. word_passes s [] false idle (y ∷ []) held ≡ true) x refl (λ e. simp e)
+word_passes-value s false (option id) (x ∷ []) held is_value = by_letter (λ y. word_passes s [] false (option id) (y ∷ []) held ≡ true) x refl (λ e. simp e)
+word_passes-value s false positional (x ∷ []) held is_value = by_letter (λ y. word_passes s [] false positional (y ∷ []) held ≡ true) x refl (λ e. simp e)
+word_passes-value s false idle (x ∷ y ∷ ys) held is_value = simp is_value
+word_passes-value s false (option id) (x ∷ y ∷ ys) held is_value = simp is_value
+word_passes-value s false positional (x ∷ y ∷ ys) held is_value = simp is_value
 
 walked-part : (rules : List Rule) (w : Walk) (x : Part) → IsPart x → walked rules [] w (text_of x) ≡ part_walked rules w x
 unfolding walked

@@ -21,10 +21,11 @@ value_words (Some value) = value ∷ []
 abbrev pub hyphen : ℕ
 hyphen = 0x2D
 
--- a value stands in a word of its own: not empty, and with no `-` in front
+-- a value stands in a word of its own: one letter, as `-`, or more with no `-` in front
 abbrev pub IsValue : Text → Type 0
 IsValue [] = ⊥
-IsValue (first ∷ rest) = (first == hyphen) ≡ false
+IsValue (letter ∷ []) = Unit {0}
+IsValue (first ∷ second ∷ rest) = (first == hyphen) ≡ false
 
 abbrev pub IsValueIfGiven : Option Text → Type 0
 IsValueIfGiven None = Unit {0}

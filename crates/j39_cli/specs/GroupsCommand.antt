@@ -1,7 +1,7 @@
 -- The command `groups [--table T]`.
 use Rattle.std.specs.Prelude.{◌≡◌, ℕ, false, List, Option, codes}
 use Rattle.clap.specs.Words.{App, Text, first_of, new_app, with_rule}
-use Rattle.j39_groups.specs.Parameters.{rows_text}
+use Rattle.j39_groups.specs.Printed.{rows_text}
 use Rattle.j39_cli.specs.Answer.{IsTask}
 use Rattle.j39_cli.specs.Form.{Form, IsValueIfGiven, Meaning, option_words, shows}
 use Rattle.j39_cli.specs.Rules.{option_rule}

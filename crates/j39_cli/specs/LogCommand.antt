@@ -1,6 +1,7 @@
 -- What the commands that read a log have in common.
 use Rattle.std.specs.Prelude.{◌≡◌, ◌≢◌, ◌⊎◌, ◌<◌, ◌≤◌, ℕ, true, false}
-use Rattle.std.specs.Prelude.{◌++◌, List, [], Option, None, Result, Ok, Err, IfSome, codes, decimal, length}
+use Rattle.std.specs.Prelude.{◌++◌, List, [], Option, None, Some, Result, Ok, Err, IfSome, if◌then◌else◌, codes, decimal, length}
+use Rattle.std.specs.Str.{bytes_eq}
 use Rattle.std.specs.Option.{ForSome}
 use Rattle.clap.specs.Words.{App, with_rule}
 use Rattle.j39_log.specs.Bus.{IsBusName}
@@ -22,6 +23,11 @@ use Rattle.j39_cli.specs.Turn.{IsUnmarked, Turn, Writes}
 -- a command that reads a log takes `--bus` and FILE
 abbrev pub with_log : App → App
 with_log command = with_rule (with_rule command (option_rule (codes "bus") false)) (value_rule (codes "file") false)
+
+-- the file that FILE names: none where it isn't given, or is `-`, which stands for standard input
+abbrev pub opened_of : Option (List ℕ) → Option (List ℕ)
+opened_of None = None
+opened_of (Some file) = if bytes_eq file (codes "-") then None else Some file
 
 -- the most bytes of a log that the program reads, 16 GiB
 abbrev pub log_limit : ℕ
@@ -80,7 +86,7 @@ IsTold (Err fault) status err = (status ≡ 1) × Writes err (error_line (fault_
 -- the task of a run: what it asks and makes may go by a table of parameters
 abbrev pub runs : (List RowRecord → Asks) → (List RowRecord → Makes) → Option (List ℕ) → Option (List ℕ) → Meaning
 runs asks makes bus file = record {
-  file = file;
+  file = opened_of file;
   table = None;
   InRange = ForSome bus IsBusName;
   reads_log = true;

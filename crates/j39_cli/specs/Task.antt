@@ -24,7 +24,7 @@ meaning_of (Name name) = name_meaning (name_raw name)
 meaning_of (Cut outgoing) = cut_meaning outgoing
 meaning_of (Groups table) = groups_meaning table
 
--- FILE, where the task has one
+-- the log that the task opens, where it opens one
 abbrev pub file_of : Task → Option (List ℕ)
 file_of t = (meaning_of t).file
 

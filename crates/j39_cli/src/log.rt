@@ -26,7 +26,7 @@ pub(crate) fn with_log<'a>(alloc: Global, command: Command<'a>) -> Result<Comman
 {
     let help = "The interface to read, as can0; without it, that of the first frame in the log";
     let command = with_option(alloc, command, "bus", "B", false, help)?;
-    let help = "The log to read; without it, standard input";
+    let help = "The log to read; without it, or where it is -, standard input";
     with_value(alloc, command, "file", "FILE", false, help)
 }
 

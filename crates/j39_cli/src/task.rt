@@ -2,6 +2,7 @@
 ghost use Rattle.std.specs.Prelude.{◌≡◌, ◌↔◌, IfSome, IsSome, Some, option_map};
 ghost use Rattle.j39_frame.specs.Address.{IsAddress};
 ghost use Rattle.j39_cli.specs.Answer.{argument_text};
+ghost use Rattle.j39_cli.specs.LogCommand.{opened_of};
 ghost use Rattle.j39_cli.specs.Task.{file_of, table_of};
 
 use crate::Outgoing;
@@ -103,14 +104,14 @@ pub enum Task<'a> {
 }
 
 impl<'a> Task<'a> {
-    /// FILE, the log to read; `None` where it isn't given, or the command reads none.
+    /// FILE, the log to open; `None` where it isn't given or is `-`, for standard input, or the command reads none.
     pub fn file(&self) -> Option<&'a str>
         ensures { option_map (λ text. text.now) result ≡ file_of self.now }
     {
         match self {
-            Task::Report(_, _, file) => text_of(file),
-            Task::Nodes(_, file) => text_of(file),
-            Task::Answer(_, _, _, file) => text_of(file),
+            Task::Report(_, _, file) => opened_of(file),
+            Task::Nodes(_, file) => opened_of(file),
+            Task::Answer(_, _, _, file) => opened_of(file),
             _ => None,
         }
     }
@@ -124,6 +125,16 @@ impl<'a> Task<'a> {
             Task::Groups(table) => text_of(table),
             _ => None,
         }
+    }
+}
+
+/// What FILE names: nothing where it is `-`, which stands for standard input.
+fn opened_of<'a>(file: &Option<WordText<'a>>) -> Option<&'a str>
+    ensures { option_map (λ text. text.now) result ≡ opened_of file.now }
+{
+    match text_of(file) {
+        Some("-") => None,
+        named => named,
     }
 }
 

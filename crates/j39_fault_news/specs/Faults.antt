@@ -10,7 +10,7 @@ use Rattle.j39_faults.specs.declared.code.Code.{Code}
 use Rattle.j39_faults.specs.declared.code.Code.TheVariants.{Known, Raw}
 use Rattle.j39_faults.specs.declared.kind.Kind.{Kind}
 use Rattle.j39_faults.specs.declared.lamps.Lamps.{Lamps}
-use Rattle.j39_groups.specs.Names.{name_of}
+use Rattle.j39_groups.specs.Names.{parameter_name}
 use Rattle.j39_groups.specs.Row.{RowRecord}
 use Rattle.j39_listen.specs.Heard.{Hearing}
 use Rattle.j39_listen.specs.Report.{name_text}
@@ -52,7 +52,7 @@ faults_in m = faults_by m (kind_of m.message.pgn) (lamps_of m.message.bytes)
 
 -- what a table calls the parameter of a code; a code of conversion method 1 has none
 abbrev pub name_in : List RowRecord → Code → Option (List ℕ)
-name_in rows (Known spn fmi count) = name_of rows spn
+name_in rows (Known spn fmi count) = parameter_name rows spn
 name_in rows (Raw bytes) = None
 
 -- the stamp, the address and the NAME, a space after each

@@ -66,7 +66,7 @@ impl<'g, 't> Account for FaultNews<'g, 't> {
 
     ghost makes = { λ subject. MakesFaults subject.rows subject.which };
 
-    ghost asks = { AsksForFaults };
+    ghost asks = { λ subject. AsksForFaults };
 
     fn meet<W: Sink>(&mut self, _: &Bus, frame: &Frame, sink: &mut W) -> Result<(), LineFault> {
         match put_frame(

@@ -121,7 +121,7 @@ fn name_in<'g>(groups: &'g Groups<'_>, code: Code) -> Option<&'g [u8]>
     ensures { option_map (λ name. name.now) result ≡ name_in groups.now code }
 {
     match code {
-        Code::Known { spn, .. } => groups.name_of(spn),
+        Code::Known { spn, .. } => groups.parameter_name(spn),
         Code::Raw(_) => None,
     }
 }

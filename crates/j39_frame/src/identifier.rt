@@ -111,13 +111,13 @@ impl Id {
         }
         let specific = if is_directed { destination } else { low };
         Some(Id {
-            raw: joined(priority, front, specific, source),
+            raw: composed(priority, front, specific, source),
         })
     }
 }
 
 /// The fields in one number; `front` is EDP, DP and PF.
-fn joined(priority: u8, front: u32, specific: u8, source: u8) -> u32
+fn composed(priority: u8, front: u32, specific: u8, source: u8) -> u32
     requires priority { priority < 8 }
     requires front { front < 1024 }
     ensures { result ≡ priority * 67108864 + front * 65536 + specific * 256 + source }

@@ -13,3 +13,4 @@ pub mod SortLemmas
 pub mod MarkLemmas
 pub mod NameLemmas
 pub mod ReadLemmas
+pub mod VisitLemmas

@@ -5,7 +5,7 @@ use Rattle.j39_groups.specs.declared.table.Field.{Field}
 use Rattle.j39_groups.specs.declared.table.Field.TheVariants.{Number, Switch, Text, Texts}
 use Rattle.j39_groups.specs.declared.table.Row.{Row}
 use Rattle.j39_groups.specs.declared.slot.Slot.{Slot}
-use Rattle.j39_groups.specs.declared.parameter.SizedSlot
+use Rattle.j39_groups.specs.declared.by_number.SizedSlot
 use Rattle.j39_groups.specs.Row.{FieldRecord, number_field, switch_field, text_field, texts_field, RowRecord}
 use Rattle.j39_groups.specs.Slots.{SizedSlotRecord}
 use Rattle.j39_groups.specs.Shown.{slot_record}

@@ -9,12 +9,13 @@ pub mod Readings
 pub mod Names
 -- what is printed (own)
 pub mod ValueText
-pub mod Parameters
+pub mod Printed
 -- what the code's values show
 pub mod Shown
 pub mod ReadFields
 pub mod ReadRows
 pub mod ReadValues
+pub mod Visits
 -- the code's steps, below the rules
 pub mod CodeRows
 pub mod Quick

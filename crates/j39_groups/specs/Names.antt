@@ -3,5 +3,5 @@ use Rattle.std.specs.Prelude.{◌==◌, ℕ, List, Option, find, option_map}
 use Rattle.j39_groups.specs.Row.{RowRecord}
 
 -- the name in its first row
-unfoldable pub name_of : List RowRecord → ℕ → Option (List ℕ)
-name_of rows spn = option_map (λ row. row.name) (find (λ row. row.spn == spn) rows)
+unfoldable pub parameter_name : List RowRecord → ℕ → Option (List ℕ)
+parameter_name rows spn = option_map (λ row. row.name) (find (λ row. row.spn == spn) rows)

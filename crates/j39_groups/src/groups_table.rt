@@ -1,28 +1,33 @@
 //! A table of parameters, as its callers see it.
-ghost use Rattle.std.specs.Prelude.{◌≡◌, ◌==◌, ◌<◌, ◌≤◌, IfOk, IsOk, IsTrue, OnOk, OnErr, drop, false, filter, length, map, option_map, nat_lt, true, vec_len};
+ghost use Rattle.std.specs.Prelude.{◌≡◌, ◌==◌, ◌<◌, ◌≤◌, IfOk, IsOk, IsTrue, OnOk, OnErr, drop, false, filter, length, map, nat_lt, slice_get, true, vec_len};
 ghost use Rattle.std.specs.Io.KnownBytes.{Appends};
-ghost use Rattle.std.specs.List.{flat_map, prefix_len};
+ghost use Rattle.std.specs.List.{filter_map, flat_map, prefix_len};
 ghost use Rattle.std.specs.List.Sorted.{IsNonDecreasingBy, IsPartitionPoint};
 ghost use Rattle.j39_frame.specs.Pgn.{pgn_raw};
 ghost use Rattle.j39_device.specs.Device.{AppendsFront, Marks};
-ghost use Rattle.j39_groups.specs.Names.{name_of};
-ghost use Rattle.j39_groups.specs.Parameters.{rows_text};
+ghost use Rattle.j39_groups.specs.Names.{parameter_name};
+ghost use Rattle.j39_groups.specs.Printed.{rows_text};
 ghost use Rattle.j39_groups.specs.Quick.{reading_line};
 ghost use Rattle.j39_groups.specs.ReadRows.{BeginsAt, read_row_record};
-ghost use Rattle.j39_groups.specs.Readings.{HaveSameGroups, is_reported_in, readings_in};
+ghost use Rattle.j39_groups.specs.CodeRows.{row_record};
+ghost use Rattle.j39_groups.specs.Readings.{HaveSameGroups, is_reported_in, name_at, name_in, readings_in};
 ghost use Rattle.j39_groups.specs.Table.{the_table};
+ghost use Rattle.j39_groups.specs.Visits.{StopsAmong, TakesMore};
+ghost use Rattle.std.specs.Option.{option_map};
 
 use crate::by_group::by_group;
 use crate::lines::put_found;
 use crate::listed::{Listed, ReadTable};
 use crate::marks::mark;
 use crate::names::{name_in, read_name_in};
-use crate::parameters;
+use crate::printed;
 use crate::quick_lines::{HEAD, LINES, lines_before};
 use crate::read_lines::put_rows;
 use crate::read_parameters::put_read_table;
 use crate::read_row::ReadRow;
 use crate::reading::{is_reported, readings, rows};
+use crate::table::Row;
+use crate::visiting::{ReadingVisitor, visit_built_in, visit_rows};
 use j39_device::{DeviceFault, Sink, put_all};
 use j39_frame::Pgn;
 use std::alloc::AllocError;
@@ -78,9 +83,10 @@ impl<'t> Groups<'t> {
         }
     }
 
-    /// What the table calls a parameter (SPN): the name in its first row, of any bytes. `None` where it has no row.
-    pub fn name_of(&self, spn: u32) -> Option<&[u8]>
-        ensures { option_map (λ name. name.now) result ≡ name_of self.now spn }
+    /// What the table calls a parameter (SPN), of whatever group: the name in its first row, of any bytes. `None`
+    /// where it has no row.
+    pub fn parameter_name(&self, spn: u32) -> Option<&[u8]>
+        ensures { option_map (λ name. name.now) result ≡ parameter_name self.now spn }
     {
         match &self.listed {
             Listed::BuiltIn => name_in(rows(), spn),
@@ -97,7 +103,7 @@ impl<'t> Groups<'t> {
         ensures mark { Marks result (W.has_failed sink.old) (W.has_failed sink.new) }
     {
         match &self.listed {
-            Listed::BuiltIn => parameters::put_built_in(sink),
+            Listed::BuiltIn => printed::put_built_in(sink),
             Listed::Read(table) => put_read_table(table.rows.as_slice(), sink),
         }
     }
@@ -128,6 +134,127 @@ impl<'t> Groups<'t> {
             Listed::Read(table) => put_read(block, table, head, from, pgn, bytes, sink),
         }
     }
+
+    /// Hands each reading of a payload to a visitor, in the table's order. It ends at the first that is refused.
+    #[inline(always)]
+    pub fn visit<V: ReadingVisitor<'t>>(
+        &self,
+        pgn: Pgn,
+        bytes: &[u8],
+        visitor: &mut V,
+    ) -> Result<(), AllocError>
+        ensures taken { OnOk result (TakesMore V.has_taken visitor.old visitor.new
+            (readings_in self.now (pgn_raw pgn) bytes.now)) }
+        ensures wanted { OnErr result (StopsAmong V.has_taken V.wants visitor.old
+            (readings_in self.now (pgn_raw pgn) bytes.now)) }
+    {
+        match &self.listed {
+            Listed::BuiltIn => visit_built_in(pgn, bytes, visitor),
+            Listed::Read(table) => visit_read(table, pgn, bytes, visitor),
+        }
+    }
+
+    /// What a parameter of a group is called: by the first row of the table that lists it.
+    pub fn name_of(&self, pgn: u32, spn: u32) -> Option<&[u8]>
+        ensures { option_map (λ name. name.now) result ≡ name_in self.now pgn spn }
+    {
+        match &self.listed {
+            Listed::BuiltIn => built_in_name_of(pgn, spn),
+            Listed::Read(table) => read_name_of(table, pgn, spn),
+        }
+    }
+}
+
+/// What a parameter of a group is called in the built-in table.
+fn built_in_name_of(pgn: u32, spn: u32) -> Option<&'static [u8]>
+    ensures { option_map (λ name. name.now) result ≡ name_in the_table pgn spn }
+{
+    built_in_name(rows(), pgn, spn)
+}
+
+fn built_in_name(rows: &'static [Row], pgn: u32, spn: u32) -> Option<&'static [u8]>
+    ensures { option_map (λ name. name.now) result
+        ≡ slice_get (filter_map (λ row. name_at pgn spn (row_record row)) rows.now) 0 }
+{
+    for row in rows {
+        if let Some(name) = built_in_name_at(row, pgn, spn) {
+            return Some(name);
+        }
+    }
+    None
+}
+
+fn built_in_name_at(row: &'static Row, pgn: u32, spn: u32) -> Option<&'static [u8]>
+    ensures { option_map (λ name. name.now) result ≡ name_at pgn spn (row_record row.now) }
+{
+    if row.pgn == pgn && row.spn == spn {
+        Some(row.name.as_bytes())
+    } else {
+        None
+    }
+}
+
+/// What a parameter of a group is called in a table that was built.
+fn read_name_of<'r, 't>(table: &'r ReadTable<'t>, pgn: u32, spn: u32) -> Option<&'r [u8]>
+    ensures { option_map (λ name. name.now) result ≡ name_in (map read_row_record table.now.rows.items) pgn spn }
+{
+    read_name(table.rows.as_slice(), pgn, spn)
+}
+
+fn read_name<'r, 't>(rows: &'r [ReadRow<'t>], pgn: u32, spn: u32) -> Option<&'r [u8]>
+    ensures { option_map (λ name. name.now) result
+        ≡ slice_get (filter_map (λ row. name_at pgn spn (read_row_record row)) rows.now) 0 }
+{
+    for row in rows {
+        if let Some(name) = read_name_at(row, pgn, spn) {
+            return Some(name);
+        }
+    }
+    None
+}
+
+fn read_name_at<'r, 't>(row: &'r ReadRow<'t>, pgn: u32, spn: u32) -> Option<&'r [u8]>
+    ensures { option_map (λ name. name.now) result ≡ name_at pgn spn (read_row_record row.now) }
+{
+    if row.pgn.raw() == pgn && row.spn == spn {
+        Some(row.name)
+    } else {
+        None
+    }
+}
+
+/// Hands the readings by a table that was built to a visitor.
+#[inline(never)]
+fn visit_read<'t, V: ReadingVisitor<'t>>(
+    table: &ReadTable<'t>,
+    pgn: Pgn,
+    bytes: &[u8],
+    visitor: &mut V,
+) -> Result<(), AllocError>
+    ensures taken { OnOk result (TakesMore V.has_taken visitor.old visitor.new
+        (readings_in (map read_row_record table.now.rows.items) (pgn_raw pgn) bytes.now)) }
+    ensures wanted { OnErr result (StopsAmong V.has_taken V.wants visitor.old
+        (readings_in (map read_row_record table.now.rows.items) (pgn_raw pgn) bytes.now)) }
+{
+    let hint = mark(&table.marks, pgn);
+    visit_group(table.rows.as_slice(), hint, pgn.raw(), bytes, visitor)
+}
+
+/// Hands the readings by the rows of a group among these to a visitor.
+fn visit_group<'t, V: ReadingVisitor<'t>>(
+    rows: &[ReadRow<'t>],
+    hint: usize,
+    pgn: u32,
+    bytes: &[u8],
+    visitor: &mut V,
+) -> Result<(), AllocError>
+    requires { IsNonDecreasingBy (λ row. pgn_raw row.pgn) rows.now }
+    ensures taken { OnOk result (TakesMore V.has_taken visitor.old visitor.new
+        (readings_in (map read_row_record rows.now) pgn bytes.now)) }
+    ensures wanted { OnErr result (StopsAmong V.has_taken V.wants visitor.old
+        (readings_in (map read_row_record rows.now) pgn bytes.now)) }
+{
+    visit_rows(group_of(rows, hint, pgn), bytes, visitor)
 }
 
 /// Whether a table that was built lists a group.

@@ -2,6 +2,7 @@
 #![tactic(auto)]
 
 mod by_group;
+mod by_number;
 mod field;
 mod groups_table;
 pub mod laws;
@@ -10,8 +11,7 @@ mod listable;
 mod listed;
 mod marks;
 mod names;
-mod parameter;
-mod parameters;
+mod printed;
 mod quick_lines;
 mod quick_rows;
 mod quick_value;
@@ -28,16 +28,19 @@ mod slot;
 mod table;
 mod text;
 mod value;
+mod visiting;
 
+pub use by_number::{raw_of, slot_of};
 pub use groups_table::Groups;
 pub use listable::{is_heard_group, is_network_group};
-pub use parameter::{raw_of, slot_of};
-pub use parameters::{decimal_of, push_decimal, push_range, put_parameters};
+pub use printed::{decimal_of, push_decimal, push_range, put_parameters};
 pub use quick_lines::{HEAD, LINES, lines_before};
 pub use read_field::ReadField;
 pub use read_row::ReadRow;
+pub use read_value::ReadValue;
 pub use reading::{is_reported, readings};
 pub use scale::Scale;
 pub use slot::Slot;
 pub use text::{Text, put_value, scaled_text};
 pub use value::{Reading, Value};
+pub use visiting::ReadingVisitor;

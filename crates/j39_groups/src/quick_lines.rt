@@ -63,7 +63,7 @@ pub fn lines_before(
 /// The value in a field that is a number or a switch.
 #[inline(always)]
 #[tactic(auto, unfolding(crate::specs::Readings::values_at))]
-fn value_at(bytes: &[u8], field: Field) -> Option<Value<'_>>
+pub(crate) fn value_at(bytes: &[u8], field: Field) -> Option<Value<'_>>
     requires { IsQuickField field }
     ensures value { option_to_list (option_map value_of result) ≡ values_at bytes.now (field_record field) }
     ensures short { IfSome result (λ value. IsShort (value_of value)) }

@@ -32,7 +32,7 @@ pub(crate) fn quick_line(
     head: &[u8; HEAD],
     from: usize,
     spn: u32,
-    value: ReadValue<'_>,
+    value: ReadValue<'_, '_>,
 ) -> Option<usize>
     requires from { from ≤ 48 }
     requires room { 107 ≤ end }
@@ -49,7 +49,7 @@ pub(crate) fn quick_line(
 /// Writes the text of a value and a newline.
 #[inline(always)]
 #[tactic(auto, unfolding(crate::specs::ValueText::value_text))]
-fn quick_value(out: &mut [u8], end: usize, value: ReadValue<'_>) -> Option<usize>
+fn quick_value(out: &mut [u8], end: usize, value: ReadValue<'_, '_>) -> Option<usize>
     requires room { 48 ≤ end }
     requires within { end ≤ length out.old }
     ensures written { IfSome result (λ start. WritesBefore out.old out.new end start

@@ -10,7 +10,7 @@ ghost use Rattle.j39_groups.specs.ReadValues.{read_value_of};
 
 use crate::field::bytes_from;
 use crate::lines::put_found;
-use crate::parameters::{decimal_of, put_parts};
+use crate::printed::{decimal_of, put_parts};
 use crate::quick_lines::{HEAD, LINES};
 use crate::quick_value::quick_line;
 use crate::read_field::ReadField;
@@ -201,7 +201,7 @@ fn put_value_line<W: Sink>(
     head: &[u8; HEAD],
     from: usize,
     spn: u32,
-    value: ReadValue<'_>,
+    value: ReadValue<'_, '_>,
     sink: &mut W,
 ) -> Result<(), DeviceFault>
     requires { from ≤ 48 }
@@ -222,7 +222,7 @@ fn put_value_line<W: Sink>(
 fn put_parts_line<W: Sink>(
     head: &[u8],
     spn: u32,
-    value: ReadValue<'_>,
+    value: ReadValue<'_, '_>,
     sink: &mut W,
 ) -> Result<(), DeviceFault>
     requires { length head.now ≤ 48 }

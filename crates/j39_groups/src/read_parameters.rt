@@ -4,11 +4,11 @@ ghost use Rattle.std.specs.Io.KnownBytes.{Appends};
 ghost use Rattle.std.specs.List.{flat_map};
 ghost use Rattle.arrayvec.specs.ArrayVec.{array_vec_len};
 ghost use Rattle.j39_device.specs.Device.{AppendsFront, Marks};
-ghost use Rattle.j39_groups.specs.Parameters.{bits_end, bits_text, place_text, row_text, rows_text, scale_columns, scale_text, slot_text};
+ghost use Rattle.j39_groups.specs.Printed.{bits_end, bits_text, place_text, row_text, rows_text, scale_columns, scale_text, slot_text};
 ghost use Rattle.j39_groups.specs.ReadFields.{IsSoundRead, read_field_record, scale_record};
 ghost use Rattle.j39_groups.specs.ReadRows.{read_row_record};
 
-use crate::parameters::{
+use crate::printed::{
     ScaleTexts, bytes_place, dashes, part_place, parts_place, put_columns, switch_place,
 };
 use crate::read_field::ReadField;

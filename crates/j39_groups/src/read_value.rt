@@ -13,18 +13,23 @@ use crate::scale::Scale;
 use crate::value::Value;
 use byteorder::{ByteOrder, LittleEndian};
 
-/// A value that a table gives.
+/// A value that a table gives: a number's scale is the table's, a text the payload's.
 #[derive(Clone, Copy)]
-pub(crate) enum ReadValue<'v> {
+pub enum ReadValue<'t, 'v> {
     /// A number, in units of the last printed place, and its scale.
-    Number(i64, Scale<'v>),
+    Number(i64, Scale<'t>),
     /// Any other value.
     Plain(Value<'v>),
 }
 
 /// The number in the bytes `first` to `last`.
 #[inline(always)]
-fn number_of<'v>(bytes: &'v [u8], first: u8, last: u8, scale: Scale<'v>) -> Option<ReadValue<'v>>
+fn number_of<'t, 'v>(
+    bytes: &'v [u8],
+    first: u8,
+    last: u8,
+    scale: Scale<'t>,
+) -> Option<ReadValue<'t, 'v>>
     requires { IsSoundBytes first last scale }
     ensures { option_map read_value_of result
         ≡ option_and_then (number_meaning (last - (first - 1)) (scale_record scale.entry)) (raw_number first last bytes.now) }
@@ -51,7 +56,7 @@ fn raw_in(bytes: &[u8], first: u8, last: u8) -> Option<u32>
 
 #[inline(always)]
 #[tactic(auto, unfolding(crate::specs::Readings::by_top_byte))]
-fn by_top_byte(top: u32, valid: ReadValue<'_>) -> Option<ReadValue<'_>>
+fn by_top_byte<'t, 'v>(top: u32, valid: ReadValue<'t, 'v>) -> Option<ReadValue<'t, 'v>>
     ensures { option_map read_value_of result ≡ by_top_byte top (read_value_of valid.entry) }
 {
     if is_valid(top) {
@@ -99,7 +104,7 @@ fn bits_in(part: &[u8], low: u8, count: u8) -> u32
 /// What a number of `count` bits means.
 #[inline(always)]
 #[tactic(auto, unfolding(crate::specs::Readings::bits_meaning))]
-fn bits_meaning<'v>(raw: u32, count: u8, scale: Scale<'v>) -> Option<ReadValue<'v>>
+fn bits_meaning<'t, 'v>(raw: u32, count: u8, scale: Scale<'t>) -> Option<ReadValue<'t, 'v>>
     requires few { count ≤ 32 }
     requires narrow { raw < 2 ^ count }
     requires fits { largest count scale < 2 ^ 63 }
@@ -116,13 +121,13 @@ fn bits_meaning<'v>(raw: u32, count: u8, scale: Scale<'v>) -> Option<ReadValue<'
 }
 
 #[inline(always)]
-fn bits_of<'v>(
+fn bits_of<'t, 'v>(
     bytes: &'v [u8],
     byte: u8,
     low: u8,
     count: u8,
-    scale: Scale<'v>,
-) -> Option<ReadValue<'v>>
+    scale: Scale<'t>,
+) -> Option<ReadValue<'t, 'v>>
     requires { IsSoundBits byte low count scale }
     ensures { option_map read_value_of result
         ≡ option_and_then (bits_meaning count (scale_record scale.entry)) (raw_bits byte low count bytes.now) }
@@ -132,7 +137,7 @@ fn bits_of<'v>(
 }
 
 #[inline(always)]
-fn plain(value: Option<Value<'_>>) -> Option<ReadValue<'_>>
+pub(crate) fn plain<'t, 'v>(value: Option<Value<'v>>) -> Option<ReadValue<'t, 'v>>
     ensures { option_map read_value_of result ≡ option_map value_of value.entry }
 {
     match value {
@@ -144,7 +149,7 @@ fn plain(value: Option<Value<'_>>) -> Option<ReadValue<'_>>
 /// The value in a field that has one at most; `None` for several texts.
 #[inline(always)]
 #[tactic(auto, unfolding(crate::specs::Readings::values_at))]
-pub(crate) fn value_in<'v>(bytes: &'v [u8], field: ReadField<'v>) -> Option<ReadValue<'v>>
+pub(crate) fn value_in<'t, 'v>(bytes: &'v [u8], field: ReadField<'t>) -> Option<ReadValue<'t, 'v>>
     requires { IsSoundRead field }
     ensures { HasOneValue field.entry
         → option_to_list (option_map read_value_of result) ≡ values_at bytes.now (read_field_record field.entry) }

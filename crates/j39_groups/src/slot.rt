@@ -1,7 +1,10 @@
 //! Slots: the scale, the places and the unit of a number (J1939-71).
 ghost use Rattle.std.specs.Prelude.{◌≡◌, ◌+ℤ◌, ◌*ℤ◌, ◌*◌, ◌<◌, ◌≤◌, ◌^◌, pos, length, ℕ, Some, IfSome};
+ghost use Rattle.j39_groups.specs.ReadFields.{scale_record};
 ghost use Rattle.j39_groups.specs.Shown.{slot_record, unit_text};
 ghost use Rattle.j39_groups.specs.Slots.{IsAt};
+
+use crate::scale::Scale;
 
 /// The units that values are printed in.
 #[derive(Clone, Copy, Debug, PartialEq, Eq)]
@@ -87,6 +90,19 @@ impl Slot {
             return None;
         }
         steps_in(value.abs_diff(offset), self.step)
+    }
+
+    /// The same, as a table that was built has it.
+    #[inline(always)]
+    pub fn scale(self) -> Scale<'static>
+        ensures { scale_record result ≡ slot_record self }
+    {
+        Scale {
+            step: u64::from(self.step),
+            offset: i64::from(self.offset),
+            places: self.places,
+            unit: self.unit.text().as_bytes(),
+        }
     }
 
     /// How many decimal places are printed.

@@ -79,7 +79,7 @@ asks_in has_met asks given taken begun bytes p old mid h whole k =
       spelled = h.spelled ++ (k.spelled ∷ []);
       is_log = record {
         lines = h.lines ++ (line ∷ []);
-        are_lines = record { whole = whole-more h.lines line h.whole line_whole; joined = inl refl };
+        are_lines = record { whole = whole-more h.lines line h.whole line_whole; bytes_are = inl refl };
         spell_each = spell-more h.lines h.spelled line k.spelled h.spell_each k.spells;
       };
       before = frames_of given h.spelled;

@@ -12,9 +12,9 @@ use Rattle.j39_groups.specs.Row.{RowRecord}
 use Rattle.j39_listen.specs.Forgets.{Changed, WithForgets}
 use Rattle.j39_listen.specs.Heard.{AreHeardWith, HeardAt, HeardAtWith, HeardBelowWith, Hearing, IsAssembled, IsHeardWith, IsSingleWith, frame_at, frames_only, or_none}
 use Rattle.j39_listen.specs.Report.{Entry, IsReport, entries_of}
-use Rattle.j39_transport.proofs.Agreeing.{Agree, Links-same, Runs-same, joined-same}
+use Rattle.j39_transport.proofs.Agreeing.{Agree, Links-same, Runs-same, joined_at-same}
 use Rattle.j39_transport.proofs.Chains.{Links-from}
-use Rattle.j39_transport.specs.Assembly.{Chain, Whole, joined, last_of}
+use Rattle.j39_transport.specs.Assembly.{Chain, Whole, joined_at, last_of}
 use Rattle.j39_transport.specs.Events.{Event, announces, group, packets, size}
 use Rattle.j39_transport.specs.Events.{at}
 use Rattle.j39_transport.specs.Events.Event.{Frame, Forget}
@@ -96,7 +96,7 @@ Whole-same E D i s g b a w =
         chain = Chain-same E D s g w.start w.places a' w.chain;
         full = w.full ∙ sym (ap packets e);
         ends_at = w.ends_at;
-        bytes_are = w.bytes_are ∙ (ap (λ (x : Event). take (size x) (joined E w.places)) (sym e) ∙ ap (take (size (at D w.start))) (sym (joined-same E D s w.start w.places w.chain.links a')));
+        bytes_are = w.bytes_are ∙ (ap (λ (x : Event). take (size x) (joined_at E w.places)) (sym e) ∙ ap (take (size (at D w.start))) (sym (joined_at-same E D s w.start w.places w.chain.links a')));
       };
       start_is = refl;
     }

@@ -134,7 +134,7 @@ module _ (groups : List RowRecord) (F H : List FrameRecord) (P : Publishing) (X 
   pub record Follows (ps : List ℕ) : Type 0 where
     pub same_last : Same X Y F H (nth c (length ps)) (last_of c0 ps)
     pub not_lost : (j : ℕ) → j ≤ length ps → X (nth c j) ≡ false
-    pub joined_is : assembly.joined (frames_only H) ps ≡ joined (map (frame_at F) (take (length ps) c.rest))
+    pub joined_is : assembly.joined_at (frames_only H) ps ≡ joined (map (frame_at F) (take (length ps) c.rest))
 
   pub follows : (ps : List ℕ) → length ps ≤ length c.rest → Links (frames_only H) item.key c0 ps → Undisturbed (frames_only H) item.key c0 (last_of c0 ps) → Follows ps
   unfolding kept
@@ -160,7 +160,7 @@ module _ (groups : List RowRecord) (F H : List FrameRecord) (P : Publishing) (X 
       same_last ps l k u = subst (λ (t : ℕ). Same X Y F H (nth c (length ps)) t) (sym (along ps l k u).0) (place_same (length ps) l (not_lost ps l k u (length ps) (omega arith)))
 
       bytes_are : (ps : List ℕ) → length ps ≤ length c.rest → Links (frames_only H) item.key c0 ps → Undisturbed (frames_only H) item.key c0 (last_of c0 ps)
-          → assembly.joined (frames_only H) ps ≡ joined (map (frame_at F) (take (length ps) c.rest))
+          → assembly.joined_at (frames_only H) ps ≡ joined (map (frame_at F) (take (length ps) c.rest))
       bytes_are [] l k u = refl
       bytes_are (p ∷ ps) l k u =
           let f : IsFirstAfter (frames_only H) item.key (last_of c0 ps) (suc (length ps)) p = k.0 in

@@ -18,7 +18,7 @@ use Rattle.j39_listen.proofs.Unique.{heard_unique}
 use Rattle.j39_listen.specs.Heard.{Hearing, HeardAt, frame_at, or_none}
 use Rattle.j39_listen.specs.Published.{Item, Published, Publishing, is_publisher, last_place}
 use Rattle.j39_listen.specs.Report.{Entry, entries_of, entry_of}
-use Rattle.j39_listen.specs.Values.{ending, hearing_of, kept_to}
+use Rattle.j39_listen.specs.Values.{ending, hearing_of_item, kept_to}
 use Rattle.j39_transport.proofs.FrameFacts.{announcement_facts}
 use Rattle.j39_transport.specs.Frames.{is_packet, packets_named, size_named}
 
@@ -138,18 +138,18 @@ module _ (groups : List RowRecord) (F H : List FrameRecord) (P : Publishing) (X 
   -- ---- what is heard at a place of H, and what ended at that frame of F
 
   abbrev pub added : ℕ → List Entry
-  added f = flat_map (λ item. entries_of groups (hearing_of F item)) (ending P X f)
+  added f = flat_map (λ item. entries_of groups (hearing_of_item F item)) (ending P X f)
 
   pub place_kept : (f h : ℕ) (o : Option Hearing) → Same X Y F H f h → HeardAt groups H h o → kept_to P (flat_map (entries_of groups) (or_none o)) ≡ added f
-  place_kept f h None s k = sym (ap (flat_map (λ item. entries_of groups (hearing_of F item))) (none_ends f h s (λ n item e. k (hearing_of F item) (heard_from groups F H P X Y st h n item e))))
+  place_kept f h None s k = sym (ap (flat_map (λ item. entries_of groups (hearing_of_item F item))) (none_ends f h s (λ n item e. k (hearing_of_item F item) (heard_from groups F H P X Y st h n item e))))
   place_kept f h (Some hr) s k = ap (kept_to P) (append-nil (entries_of groups hr)) ∙ elim (cases_Bool (is_publisher P hr.message.source)) [
     | inl a ↦
         let c = heard_only groups F H P X Y st h hr k a in
-        kept_all groups P hr a ∙ (ap (entries_of groups) c.hearing_is ∙ (sym (append-nil (entries_of groups (hearing_of F c.item)))
-        ∙ sym (ap (flat_map (λ item. entries_of groups (hearing_of F item))) (one_ends f h c.n c.item s c.ends))))
+        kept_all groups P hr a ∙ (ap (entries_of groups) c.hearing_is ∙ (sym (append-nil (entries_of groups (hearing_of_item F c.item)))
+        ∙ sym (ap (flat_map (λ item. entries_of groups (hearing_of_item F item))) (one_ends f h c.n c.item s c.ends))))
     | inr a ↦
-        kept_none groups P hr a ∙ sym (ap (flat_map (λ item. entries_of groups (hearing_of F item))) (none_ends f h s (λ n item e.
-        both_ways _ (ap (λ (x : Hearing). is_publisher P x.message.source) (heard_unique (is_reported_in groups) (reported_leaves groups) H h (hearing_of F item) hr (heard_from groups F H P X Y st h n item e) k) ∙ a)
+        kept_none groups P hr a ∙ sym (ap (flat_map (λ item. entries_of groups (hearing_of_item F item))) (none_ends f h s (λ n item e.
+        both_ways _ (ap (λ (x : Hearing). is_publisher P x.message.source) (heard_unique (is_reported_in groups) (reported_leaves groups) H h (hearing_of_item F item) hr (heard_from groups F H P X Y st h n item e) k) ∙ a)
         (item_address groups F P item (st.published.sent n item e.at_n)))))
   ]
 

@@ -4,7 +4,7 @@ use Rattle.std.proofs.lemmas.Bool.{cases_lt, cases_eq, cases_Bool, and_parts, or
 use Rattle.j39_listen.proofs.Masks.{Same, kept_at, one_in_H, order_to_F, order_to_H, place_in_F, place_in_H, rank, rank_gone, rank_kept, same_element}
 use Rattle.j39_listen.specs.Loss.{without}
 use Rattle.j39_transport.proofs.Chains.{belongs_within}
-use Rattle.j39_transport.specs.Assembly.{AreSuccessive, IsFirstAfter, Links, Runs, Whole, count_below, joined, last_of}
+use Rattle.j39_transport.specs.Assembly.{AreSuccessive, IsFirstAfter, Links, Runs, Whole, count_below, joined_at, last_of}
 use Rattle.j39_transport.specs.Events.{Event, announces, belongs, ends, group, is_numbered, number, packets, payload, rivals, sends, size, stamp}
 use Rattle.j39_transport.specs.Events.{at}
 use Rattle.j39_transport.specs.Events.Event.{Forget}
@@ -66,7 +66,7 @@ module _ (D E : List Event) (Z : ℕ → Bool) (one : without (λ i. false) D �
     pub links_E : Links E s c0 cs
     pub count : length ps ≡ length cs
     pub last_same : Same (λ i. false) Z D E (last_of p0 ps) (last_of c0 cs)
-    pub joined_is : joined E cs ≡ joined D ps
+    pub joined_is : joined_at E cs ≡ joined_at D ps
 
   -- one link more, on both sides
   link_more : (p0 c0 p c : ℕ) (ps cs : List ℕ) → Mapped p0 c0 ps cs → Same (λ i. false) Z D E p c
@@ -102,7 +102,7 @@ module _ (D E : List Event) (Z : ℕ → Bool) (one : without (λ i. false) D �
     );
     count = ap suc m.count;
     last_same = sm;
-    joined_is = ap (λ (bs : List ℕ). bs ++ payload (at E c)) m.joined_is ∙ ap (λ (x : Event). joined D ps ++ payload x) (same_event sm);
+    joined_is = ap (λ (bs : List ℕ). bs ++ payload (at E c)) m.joined_is ∙ ap (λ (x : Event). joined_at D ps ++ payload x) (same_event sm);
   }
 
   pub up : (p0 c0 : ℕ) → Same (λ i. false) Z D E p0 c0 → (ps : List ℕ) → Links D s p0 ps → (cs : List ℕ) × Mapped p0 c0 ps cs
@@ -239,7 +239,7 @@ module _ (D E : List Event) (Z : ℕ → Bool) (one : without (λ i. false) D �
               };
               full = n ∙ (w.full ∙ ap packets e);
               ends_at = same_down (last_of p0 ps) f h sl sf;
-              bytes_are = w.bytes_are ∙ (ap (λ (x : Event). take (size x) (joined E w.places)) e ∙ ap (take (size (at D p0))) m.joined_is);
+              bytes_are = w.bytes_are ∙ (ap (λ (x : Event). take (size x) (joined_at E w.places)) e ∙ ap (take (size (at D p0))) m.joined_is);
             };
             start_same = sm;
           }
@@ -269,5 +269,5 @@ module _ (D E : List Event) (Z : ℕ → Bool) (one : without (λ i. false) D �
             };
             full = sym n ∙ (w.full ∙ sym (ap packets e));
             ends_at = en;
-            bytes_are = w.bytes_are ∙ (ap (λ (x : Event). take (size x) (joined D w.places)) (sym e) ∙ ap (take (size (at E c0))) (sym m.joined_is));
+            bytes_are = w.bytes_are ∙ (ap (λ (x : Event). take (size x) (joined_at D w.places)) (sym e) ∙ ap (take (size (at E c0))) (sym m.joined_is));
           }

@@ -12,7 +12,7 @@ use Rattle.j39_groups.specs.Readings.{is_reported_in}
 use Rattle.j39_listen.specs.Heard.{Hearing, HeardBelowWith, frame_at, or_none}
 use Rattle.j39_listen.specs.Published.{Publishing, is_publisher}
 use Rattle.j39_listen.specs.Report.{Entry, IsReport, entries_of}
-use Rattle.j39_listen.specs.Values.{TellsPublished, TellsRepeated, TellsThinned, hearing_of, kept_to, values, values_below}
+use Rattle.j39_listen.specs.Values.{TellsPublished, TellsRepeated, TellsThinned, hearing_of_item, kept_to, values, values_below}
 
 module _ (groups : List RowRecord) (F H : List FrameRecord) (P : Publishing) (X Y : ℕ → Bool) (st : Story groups F H P X Y) where
   -- no value comes where a frame is lost
@@ -25,7 +25,7 @@ module _ (groups : List RowRecord) (F H : List FrameRecord) (P : Publishing) (X 
         let m2 : rank X b ≤ rank X (suc b) = rank_mono X b (suc b) (omega arith) in
         elim (cases_Bool (X b)) [
           | inl x ↦ values_up a b (omega arith) (omega arith) ∙ (sym (append-nil (values_below groups F P X b))
-              ∙ ap (λ (zs : List Entry). values_below groups F P X b ++ zs) (sym (ap (flat_map (λ item. entries_of groups (hearing_of F item))) (gone_ends groups F H P X Y st b x))))
+              ∙ ap (λ (zs : List Entry). values_below groups F P X b ++ zs) (sym (ap (flat_map (λ item. entries_of groups (hearing_of_item F item))) (gone_ends groups F H P X Y st b x))))
           | inr x ↦ absurd (let k : rank X (suc b) ≡ suc (rank X b) = rank_kept X b x in omega arith)
         ]
   ]

@@ -19,7 +19,7 @@ use Rattle.j39_listen.proofs.Unique.{hearing_same, message_same}
 use Rattle.j39_listen.proofs.Story.{Story, copy_packet, same_frame}
 use Rattle.j39_listen.specs.Heard.{Hearing, IsHeard, IsSingle, frame_at}
 use Rattle.j39_listen.specs.Published.{IsSent, Item, Publishing, first_place, is_publisher, last_place}
-use Rattle.j39_listen.specs.Values.{hearing_of}
+use Rattle.j39_listen.specs.Values.{hearing_of_item}
 use Rattle.j39_transport.specs.Carries.{Carries}
 use Rattle.j39_transport.specs.Frames.{is_announcement, is_packet}
 use Rattle.j39_transport.specs.Message.{IsMessage}
@@ -57,7 +57,7 @@ module _ (groups : List RowRecord) (F H : List FrameRecord) (P : Publishing) (X 
     pub n : ℕ
     pub item : Item
     pub ends : EndsAt h n item
-    pub hearing_is : hr ≡ hearing_of F item
+    pub hearing_is : hr ≡ hearing_of_item F item
 
   -- ---- an item of one frame
 
@@ -69,7 +69,7 @@ module _ (groups : List RowRecord) (F H : List FrameRecord) (P : Publishing) (X 
       (let x = s.f_below in omega arith) (let x = s.h_below in omega arith) s.ranks
       (subst (λ (a : ℕ). IsHolder (claims_of F) c.place a item.publisher.name) (sym c.sent.source_is) (c.sent.held c.place ((omega arith), (omega arith))))
 
-  pub alone_heard : (n : ℕ) (item : Item) (c : AloneItem groups F P n item) (h : ℕ) → EndsAt h n item → IsHeard groups H h (hearing_of F item)
+  pub alone_heard : (n : ℕ) (item : Item) (c : AloneItem groups F P n item) (h : ℕ) → EndsAt h n item → IsHeard groups H h (hearing_of_item F item)
   alone_heard n item c h e =
       let s : Same X Y F H c.place h = subst (λ (t : ℕ). Same X Y F H t h) (alone_last groups F P n item c) e.same in
       let fr = same_frame groups F H P X Y st s in
@@ -118,7 +118,7 @@ module _ (groups : List RowRecord) (F H : List FrameRecord) (P : Publishing) (X 
               same = se;
               not_lost = false_from_ne_true _ (λ t. let p = any_found X item.places t in both_ways _ s.f_kept (ap X (sym (alone_place groups F P n item c p.0 p.1)) ∙ p.2));
             };
-            hearing_is = hearing_same hr (hearing_of F item)
+            hearing_is = hearing_same hr (hearing_of_item F item)
                 (message_same hr.message item.message src
                 (sym m.pgn_is ∙ (ap (λ (g : FrameRecord). pgn_of g.id) fr ∙ c.alone.pgn))
                 (sym m.bytes_are ∙ (ap (λ (g : FrameRecord). g.bytes) fr ∙ c.alone.bytes)))

@@ -20,7 +20,7 @@ use Rattle.j39_listen.proofs.Unique.{hearing_same, message_same}
 use Rattle.j39_listen.specs.Heard.{Hearing, IsAssembled, IsHeard, frame_at, frames_only}
 use Rattle.j39_listen.specs.Loss.{without}
 use Rattle.j39_listen.specs.Published.{Item, Publishing, is_publisher, last_place}
-use Rattle.j39_listen.specs.Values.{hearing_of}
+use Rattle.j39_listen.specs.Values.{hearing_of_item}
 use Rattle.j39_transport.proofs.Chains.{Links-from}
 use Rattle.j39_transport.specs.Assembly as assembly
 use Rattle.j39_transport.specs.Assembly.{Links, Runs, Whole, last_of}
@@ -72,19 +72,19 @@ module _ (groups : List RowRecord) (F H : List FrameRecord) (P : Publishing) (X 
 
     -- the bytes of a chain through all its packets
     bytes_are : (c0 : ℕ) (s : Same X Y F H c.start c0) (ps : List ℕ) → Follows groups F H P X Y st n item c addressed c0 s ps → length ps ≡ length c.rest
-        → take (size (at (frames_only H) c0)) (assembly.joined (frames_only H) ps) ≡ item.message.bytes
+        → take (size (at (frames_only H) c0)) (assembly.joined_at (frames_only H) ps) ≡ item.message.bytes
     bytes_are c0 s ps f l =
-        let j : assembly.joined (frames_only H) ps ≡ item.message.bytes ++ c.cut.padding =
+        let j : assembly.joined_at (frames_only H) ps ≡ item.message.bytes ++ c.cut.padding =
         f.joined_is ∙ (ap (λ (m : ℕ). joined (map (frame_at F) (take m c.rest))) l ∙ all_joined) in
         ap (take (size (at (frames_only H) c0))) j ∙ take_at item.message.bytes c.cut.padding (size (at (frames_only H) c0)) (sym (announced_size c0 s))
 
     -- the item is heard at its last frame
-    cut_heard : (h : ℕ) → EndsAt groups F H P X Y st h n item → IsHeard groups H h (hearing_of F item)
+    cut_heard : (h : ℕ) → EndsAt groups F H P X Y st h n item → IsHeard groups H h (hearing_of_item F item)
     cut_heard h e =
         let not_lost : (j : ℕ) → j ≤ length c.rest → X (nth c j) ≡ false = λ j l. false_from_ne_true _ (λ x. both_ways _ e.not_lost (any_from X item.places (nth c j) (nth_listed groups F P n item c j l) x)) in
         go not_lost (place_in_H X Y F H st.one_rest c.start (nth_inside groups F P n item c 0 (omega arith)) (not_lost 0 (omega arith)))
       where
-        go : ((j : ℕ) → j ≤ length c.rest → X (nth c j) ≡ false) → (c0 : ℕ) × Same X Y F H c.start c0 → IsHeard groups H h (hearing_of F item)
+        go : ((j : ℕ) → j ≤ length c.rest → X (nth c j) ≡ false) → (c0 : ℕ) × Same X Y F H c.start c0 → IsHeard groups H h (hearing_of_item F item)
         go not_lost (c0, s) =
             let sb : Same X Y F H (nth c (length c.rest)) h = subst (λ (t : ℕ). Same X Y F H t h) (nth_last groups F P n item c) e.same in
             let quiet : (r : ℕ) → c0 < r → r ≤ h → announces item.key (at (frames_only H) r) ≡ false = λ r u v. ev_announces H item.key r ∙ quiet_H groups F H P X Y st n item c addressed c0 s h r sb u v in
@@ -154,7 +154,7 @@ module _ (groups : List RowRecord) (F H : List FrameRecord) (P : Publishing) (X 
                   let j = listed_nth groups F P n item c p.0 p.1 in
                   both_ways _ (fl.not_lost j.0 (let l : j.0 ≤ length c.rest = j.1 in omega arith)) (ap X (sym j.2) ∙ p.2));
             };
-            hearing_is = hearing_same hr (hearing_of F item)
+            hearing_is = hearing_same hr (hearing_of_item F item)
                 (message_same hr.message item.message (sym src) (w.chain.group_is ∙ announced_group n item c w.start sa)
                 (w.bytes_are ∙ bytes_are n item c w.start sa w.places fl full))
                 (sp ∙ ap (λ (g : FrameRecord). g.stamp) (same_frame groups F H P X Y st se))
@@ -163,7 +163,7 @@ module _ (groups : List RowRecord) (F H : List FrameRecord) (P : Publishing) (X 
 
   -- ---- both kinds
 
-  pub heard_from : (h n : ℕ) (item : Item) → EndsAt groups F H P X Y st h n item → IsHeard groups H h (hearing_of F item)
+  pub heard_from : (h n : ℕ) (item : Item) → EndsAt groups F H P X Y st h n item → IsHeard groups H h (hearing_of_item F item)
   heard_from h n item e = elim (item_kinds groups F P n item st.published e.at_n) [ inl c ↦ alone_heard groups F H P X Y st n item c h e | inr c ↦ cut_heard n item c h e ]
 
   pub heard_only : (h : ℕ) (hr : Hearing) → IsHeard groups H h hr → is_publisher P hr.message.source ≡ true → Comes groups F H P X Y st h hr

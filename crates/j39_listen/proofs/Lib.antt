@@ -25,6 +25,7 @@ pub mod RunLemmas
 pub mod StopLemmas
 pub mod PieceLemmas
 pub mod AskLemmas
+pub mod HeadedLemmas
 -- the headline: for the laws on what was published
 pub mod Items
 pub mod Sent
@@ -40,6 +41,6 @@ pub mod Written
 -- its premises can be met
 pub mod CheckedItems
 pub mod Checked
-pub mod Example
-pub mod Examples
+pub mod TransferExample
+pub mod NoTransferExamples
 pub mod LossExample

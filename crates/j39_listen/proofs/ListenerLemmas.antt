@@ -1,6 +1,6 @@
 -- What a listener stands for after one frame more, and what it hears at it.
 use Rattle.std.proofs.Common.{◌≡◌, ℕ, suc, Bool, true, false, List, [], ◌∷◌, ◌++◌, map, length, Option, Some, None, refl, sym, ap, ◌∙◌, subst, arith, eqb-true, append-nil, append_assoc, nat_lt, ◌==◌}
-use Rattle.std.proofs.lemmas.Bool.{cond_both}
+use Rattle.std.proofs.lemmas.Bool.{both_ways, cond_both, false_from_ne_true}
 use Rattle.std.proofs.lemmas.List.{length-map, length_push, map_push}
 use Rattle.std.specs.Prelude.{IfOk, Result, Ok, Err, MatchResult}
 use Rattle.j39_address.specs.Changes.{AreChanged}
@@ -80,6 +80,14 @@ hears_quiet l F f a none h stands =
       knows = quiet.1;
     }
 
+-- ---- a frame of another group than that of claims claims nothing
+
+pub no_claim : (f : FrameRecord) → (pgn_of f.id == 60928) ≡ false → claim_of f ≡ None
+no_claim f e = rw e refl
+
+pub is_many : (singles : ℕ → Bool) (f : FrameRecord) → (pgn_of f.id == 60928) ≡ false → singles (pgn_of f.id) ≡ false → IsMany singles f
+is_many singles f e r = record { no_claim = no_claim f e; not_single = r }
+
 -- ---- what is heard
 
 next_by : (singles : ℕ → Bool) (r : Bool) (E : List Event) (f : FrameRecord) (c : Option MessageRecord) → singles (pgn_of f.id) ≡ r
@@ -127,6 +135,17 @@ heard_claim singles leaves l F f is h =
     heard_next singles leaves F h.events f h.with_forgets None (holder_of (claims_of F) (length F) (source_of f.id)) (next_by singles false h.events f None (claims_silent singles leaves _ claims) none)
     (held_is (claims_of F) (length F) (source_of f.id))
 
+-- a frame of no group of the network's claims nothing
+pub outside_claims : (f : FrameRecord) → is_network_group (pgn_of f.id) ≡ false → claim_of f ≡ None
+outside_claims f free = no_claim f (false_from_ne_true _ (λ e. both_ways _ free (ap is_network_group (eqb-true _ _ e))))
+
+-- and where it isn't heard by itself, nothing is heard at it
+pub silent_outside : (singles : ℕ → Bool) → LeavesNetwork singles → (l : Listener) (F : List FrameRecord) (f : FrameRecord) → is_network_group (pgn_of f.id) ≡ false
+    → singles (pgn_of f.id) ≡ false → Hears l F → HeardAtWith singles (F ++ f ∷ []) (length F) None
+silent_outside singles leaves l F f free other h =
+    silent_many singles leaves l F f (record { no_claim = outside_claims f free; not_single = other }) h
+    (λ m w. both_ways _ free (ap is_network_group (packet_group w.0 f (assembled_sent h.events f w.0 m.pgn m.bytes w.2))))
+
 -- ---- what is open
 
 pub open_after : (l : Listener) (F : List FrameRecord) → Hears l F → (E : List Event) → WithForgets F (length F) E → (n : ℕ)
@@ -162,11 +181,3 @@ hears_claim l F f a claims gone h changed knows stands = record {
   stands = stands;
   knows = knows;
 }
-
--- ---- a frame of another group than that of claims claims nothing
-
-pub no_claim : (f : FrameRecord) → (pgn_of f.id == 60928) ≡ false → claim_of f ≡ None
-no_claim f e = rw e refl
-
-pub is_many : (singles : ℕ → Bool) (f : FrameRecord) → (pgn_of f.id == 60928) ≡ false → singles (pgn_of f.id) ≡ false → IsMany singles f
-is_many singles f e r = record { no_claim = no_claim f e; not_single = r }

@@ -9,8 +9,8 @@ use Rattle.j39_listen.proofs.Checked as checked
 use Rattle.j39_listen.proofs.Checked.{Passes, never_back}
 use Rattle.j39_listen.proofs.CheckedItems.{all_below, below_at, implied, implies}
 use Rattle.j39_listen.proofs.Events.{packet_within}
-use Rattle.j39_listen.proofs.Example.{directed_carried}
-use Rattle.j39_listen.proofs.Examples.{parts_carried}
+use Rattle.j39_listen.proofs.TransferExample.{directed_carried}
+use Rattle.j39_listen.proofs.NoTransferExamples.{parts_carried}
 use Rattle.j39_listen.proofs.Reported.{packet_group}
 use Rattle.j39_listen.specs.Heard.{frame_at}
 use Rattle.j39_listen.specs.Loss.{IsCopy, LostTogether, Repeated, Thinned}

@@ -114,7 +114,7 @@ pub ended_log : {A : Type 0} (has_met : Meeting A) (given : Option (List ℕ)) (
     → (h : HasRead has_met given log rest p old new) → rest ≡ [] → IsLog log h.spelled
 ended_log has_met given log rest p old new h none =
     let joined : log ≡ ended h.lines = h.taken_is ∙ ap (λ (x : List ℕ). ended h.lines ++ x) none ∙ append-nil (ended h.lines) in
-    record { lines = h.lines; are_lines = record { whole = h.whole; joined = inl joined }; spell_each = h.spell_each }
+    record { lines = h.lines; are_lines = record { whole = h.whole; bytes_are = inl joined }; spell_each = h.spell_each }
 
 -- a last line is not ended
 pub last_log : {A : Type 0} (has_met : Meeting A) (given : Option (List ℕ)) (log rest : List ℕ) (s : Spelled) (p : Lines A) (old new : Option (List ℕ))
@@ -123,7 +123,7 @@ last_log has_met given log rest s p old new h whole some spells = record {
   lines = h.lines ++ (rest ∷ []);
   are_lines = record {
     whole = whole-more h.lines rest h.whole whole;
-    joined = inr (record { front = h.lines; last = rest; lines_are = refl; last_is = some; bytes_are = h.taken_is });
+    bytes_are = inr (record { front = h.lines; last = rest; lines_are = refl; last_is = some; bytes_are = h.taken_is });
   };
   spell_each = spell-more h.lines h.spelled rest s h.spell_each spells;
 }

@@ -5,13 +5,14 @@ pub mod Report
 pub mod Nodes
 pub mod Answers
 pub mod Output
+pub mod Headed
 -- what was published, and what a report tells of it
 pub mod Published
 pub mod Loss
 pub mod Values
 -- logs that meet the premises
-pub mod Example
-pub mod Examples
+pub mod TransferExample
+pub mod NoTransferExamples
 pub mod LossExample
 -- what a run promises
 pub mod Counting

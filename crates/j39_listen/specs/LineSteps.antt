@@ -5,6 +5,8 @@ use Rattle.j39_log.specs.Spelled.{Spelled, Spells}
 use Rattle.j39_listen.specs.AccountSteps.{Meets, Stops}
 use Rattle.j39_listen.specs.Counting.{capped}
 use Rattle.j39_listen.specs.Output.{Making, Meeting}
+use Rattle.j39_listen.specs.declared.counts.Met.{Met}
+use Rattle.j39_listen.specs.declared.counts.Met.TheVariants.{Blank, Frame, Other, Unread}
 use Rattle.j39_listen.specs.declared.counts.Tally.{Tally}
 
 -- two tallies together
@@ -15,6 +17,13 @@ sum_of a b = record {
   unread =
       capped (a.unread + b.unread);
 }
+
+-- what a line counts for
+abbrev pub met_tally : Met → Tally
+met_tally Frame = record { frames = 1; other = 0; unread = 0 }
+met_tally Other = record { frames = 0; other = 1; unread = 0 }
+met_tally Unread = record { frames = 0; other = 0; unread = 1 }
+met_tally Blank = record { frames = 0; other = 0; unread = 0 }
 
 -- what the lines count for that spell this
 unfoldable pub tally_of : Option (List ℕ) → List Spelled → Tally

@@ -1,5 +1,5 @@
 -- The steps of a report, frame by frame.
-use Rattle.std.specs.Prelude.{◌≡◌, ◌+◌, ◌++◌, ◌∷◌, [], List, Option, length, ℕ}
+use Rattle.std.specs.Prelude.{◌≡◌, ◌+◌, ◌++◌, ◌∷◌, [], List, Option, None, Some, length, ℕ}
 use Rattle.std.specs.Io.KnownBytes.{Appends}
 use Rattle.j39_device.specs.Device.{AppendsFront}
 use Rattle.j39_frame.specs.Frame.{FrameRecord}
@@ -19,6 +19,11 @@ made_of output = record { messages = capped output.messages; lines = capped outp
 
 abbrev pub made_sum : Made → Made → Made
 made_sum a b = record { messages = capped (a.messages + b.messages); lines = capped (a.lines + b.lines) }
+
+-- the numbers of a message with so many lines, or of none
+abbrev pub made_by : Option ℕ → Made
+made_by None = record { messages = 0; lines = 0 }
+made_by (Some n) = record { messages = 1; lines = n }
 
 -- the report of F by this table was made, and its listener was fed F
 pub record HasReported (groups : List RowRecord) (report : Report) (F : List FrameRecord)

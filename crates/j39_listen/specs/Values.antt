@@ -9,8 +9,8 @@ use Rattle.j39_listen.specs.Published.{Item, Published, Publishing, is_publisher
 use Rattle.j39_listen.specs.Report.{Entry, entries_of}
 
 -- an item as it is heard at its last place, under its publisher's NAME
-abbrev pub hearing_of : List FrameRecord → Item → Hearing
-hearing_of F item = record {
+abbrev pub hearing_of_item : List FrameRecord → Item → Hearing
+hearing_of_item F item = record {
   message = item.message;
   stamp = (frame_at F (last_place item)).stamp;
   name =
@@ -25,7 +25,7 @@ ending P X i = filter (λ item. last_place item == i && not (list_any X item.pla
 abbrev pub values_below : List RowRecord → List FrameRecord → Publishing → (ℕ → Bool) → ℕ → List Entry
 values_below groups F P X zero = []
 values_below groups F P X (suc n) = values_below groups F P X n
-    ++ flat_map (λ item. entries_of groups (hearing_of F item)) (ending P X n)
+    ++ flat_map (λ item. entries_of groups (hearing_of_item F item)) (ending P X n)
 
 -- the values published in F, without the items that have a place in X
 abbrev pub values : List RowRecord → List FrameRecord → Publishing → (ℕ → Bool) → List Entry

@@ -35,7 +35,7 @@ pub trait Account: Drop {
     ghost makes: { Subject → Making };
 
     // Where it may want memory: behind these frames of the bus, at this frame.
-    ghost asks: { Wanting };
+    ghost asks: { Subject → Wanting };
 
     /// Takes the next frame of the bus, and writes what is to be written at it.
     fn meet<W: Sink>(&mut self, bus: &Bus, frame: &Frame, sink: &mut W) -> Result<(), LineFault>
@@ -48,7 +48,7 @@ pub trait Account: Drop {
             (W.held sink.new) }
         ensures memory { result ≡ Err Memory → W.held sink.new ≡ W.held sink.old }
         ensures asked { result ≡ Err Memory → (subject : Subject) (F : List FrameRecord) (output : Output)
-            → has_met subject bus.now self.old F output → asks F frame.now }
+            → has_met subject bus.now self.old F output → asks subject F frame.now }
         ensures unmarked { result ≢ Err Write → W.has_failed sink.new ≡ W.has_failed sink.old };
 
     /// Writes what is left to be written at the end, and answers the numbers of the whole.

@@ -125,7 +125,7 @@ impl Account for Answers {
 
     ghost makes = { MakesAnswers };
 
-    ghost asks = { AsksForBoxes };
+    ghost asks = { λ subject. AsksForBoxes };
 
     // The listener hears the log alone, so it may hear a frame before the node does: where memory is
     // refused nothing was sent at the frame.

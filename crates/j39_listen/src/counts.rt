@@ -24,8 +24,51 @@ pub(crate) struct Tally {
     pub unread: u64,
 }
 
+/// What a line counts as.
+#[derive(Clone, Copy, Debug, PartialEq, Eq)]
+pub(crate) enum Met {
+    Frame,
+    Other,
+    Unread,
+    Blank,
+}
+
+const NOTHING: Tally = Tally {
+    frames: 0,
+    other: 0,
+    unread: 0,
+};
+
+const FRAME: Tally = Tally {
+    frames: 1,
+    ..NOTHING
+};
+
+const OTHER: Tally = Tally {
+    other: 1,
+    ..NOTHING
+};
+
+const UNREAD: Tally = Tally {
+    unread: 1,
+    ..NOTHING
+};
+
 impl Tally {
-    ghost use Rattle.j39_listen.specs.LineSteps.{sum_of};
+    ghost use Rattle.j39_listen.specs.LineSteps.{met_tally, sum_of};
+
+    /// This and one line more: each kind has an arm of its own, so that only one count is added to.
+    #[inline(always)]
+    pub fn with(self, met: Met) -> Tally
+        ensures { result ≡ sum_of self (met_tally met) }
+    {
+        match met {
+            Met::Frame => self.and(FRAME),
+            Met::Other => self.and(OTHER),
+            Met::Unread => self.and(UNREAD),
+            Met::Blank => self.and(NOTHING),
+        }
+    }
 
     /// This and more, each at most 2^64 - 1.
     pub fn and(self, more: Tally) -> Tally

@@ -3,12 +3,12 @@ ghost use Rattle.std.specs.Prelude.{◌≡◌, ◌≢◌, Some, true, IfOk, OnOk
 ghost use Rattle.j39_log.specs.Bus.{IsBusName};
 ghost use Rattle.j39_log.specs.LineRead.{spelled_of};
 ghost use Rattle.j39_listen.specs.AskSteps.{AsksLine};
-ghost use Rattle.j39_listen.specs.LineSteps.{IsSpelling, MeetsLine, StopsLine};
+ghost use Rattle.j39_listen.specs.LineSteps.{IsSpelling, MeetsLine, StopsLine, met_tally};
 ghost use Rattle.j39_listen.specs.PieceSteps.{ReadsLine, StopsAt};
 ghost use Rattle.j39_listen.specs.declared.account.LineFault.TheVariants.{Memory, Write};
 
 use crate::account::{Account, LineFault};
-use crate::counts::Tally;
+use crate::counts::{Met, Tally};
 use j39_device::Sink;
 use j39_log::{Bus, Line};
 
@@ -34,13 +34,13 @@ impl<A: Account> Lines<A> {
         ensures memory { result ≡ Err Memory → W.held sink.new ≡ W.held sink.old }
         ensures unmarked { result ≢ Err Write → W.has_failed sink.new ≡ W.has_failed sink.old }
         ensures asked { result ≡ Err Memory → (subject : A.Subject) → IsSpelling (spelled_of line.entry)
-            → AsksLine (A.has_met subject) A.asks (spelled_of line.entry) self.old.bus self.old.account }
+            → AsksLine (A.has_met subject) (A.asks subject) (spelled_of line.entry) self.old.bus self.old.account }
     {
         let met = match meet(&mut self.bus, &mut self.account, line, sink) {
             Ok(met) => met,
             Err(fault) => return Err(fault),
         };
-        self.tally = self.tally.and(met);
+        self.tally = self.tally.with(met);
         Ok(())
     }
 }
@@ -52,10 +52,10 @@ fn meet<A: Account, W: Sink>(
     account: &mut A,
     line: Line<'_>,
     sink: &mut W,
-) -> Result<Tally, LineFault>
+) -> Result<Met, LineFault>
     ensures met { IfOk result (λ met. (subject : A.Subject) → IsSpelling (spelled_of line.entry)
-        → MeetsLine (A.has_met subject) (spelled_of line.entry) bus.old bus.new account.old account.new met
-        (W.held sink.old) (W.held sink.new)) }
+        → MeetsLine (A.has_met subject) (spelled_of line.entry) bus.old bus.new account.old account.new
+        (met_tally met) (W.held sink.old) (W.held sink.new)) }
     ensures write { result ≡ Err Write → W.has_failed sink.new ≡ true }
     ensures stops { result ≡ Err Write → (subject : A.Subject) → IsSpelling (spelled_of line.entry)
         → StopsLine (A.has_met subject) (A.makes subject) (spelled_of line.entry) bus.old account.old
@@ -63,51 +63,30 @@ fn meet<A: Account, W: Sink>(
     ensures memory { result ≡ Err Memory → W.held sink.new ≡ W.held sink.old }
     ensures unmarked { result ≢ Err Write → W.has_failed sink.new ≡ W.has_failed sink.old }
     ensures asked { result ≡ Err Memory → (subject : A.Subject) → IsSpelling (spelled_of line.entry)
-        → AsksLine (A.has_met subject) A.asks (spelled_of line.entry) bus.old account.old }
+        → AsksLine (A.has_met subject) (A.asks subject) (spelled_of line.entry) bus.old account.old }
 {
     match line {
         Line::Frame { bus: name, frame } => {
             know(bus, name);
             match bus {
-                None => Ok(OTHER),
+                None => Ok(Met::Other),
                 Some(bus) => {
-                    if name == bus.bytes() {
+                    if bus.is_named(name) {
                         match account.meet(bus, &frame, sink) {
-                            Ok(()) => Ok(FRAME),
+                            Ok(()) => Ok(Met::Frame),
                             Err(fault) => Err(fault),
                         }
                     } else {
-                        Ok(OTHER)
+                        Ok(Met::Other)
                     }
                 }
             }
         }
-        Line::Other => Ok(OTHER),
-        Line::Unread => Ok(UNREAD),
-        Line::Blank => Ok(NOTHING),
+        Line::Other => Ok(Met::Other),
+        Line::Unread => Ok(Met::Unread),
+        Line::Blank => Ok(Met::Blank),
     }
 }
-
-const NOTHING: Tally = Tally {
-    frames: 0,
-    other: 0,
-    unread: 0,
-};
-
-const FRAME: Tally = Tally {
-    frames: 1,
-    ..NOTHING
-};
-
-const OTHER: Tally = Tally {
-    other: 1,
-    ..NOTHING
-};
-
-const UNREAD: Tally = Tally {
-    unread: 1,
-    ..NOTHING
-};
 
 /// An interface becomes the bus of the run where there is none yet.
 #[inline(always)]

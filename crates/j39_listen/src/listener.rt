@@ -20,7 +20,7 @@ ghost use Rattle.j39_listen.specs.Shown.{hearing_of};
 use crate::Heard;
 use j39_address::{Claims, Name};
 use j39_frame::{Frame, is_address};
-use j39_groups::Groups;
+use j39_groups::{Groups, is_network_group};
 use j39_transport::{Assembler, Fed, Message};
 use std::alloc::{AllocError, Global};
 
@@ -100,13 +100,16 @@ impl Listener {
             (λ _. (F : List FrameRecord) → Hears self.old F → Hears n (F ++ frame.now ∷ []))
             (λ _. n ≡ self.old))) }
     {
+        if is_single {
+            return Ok(alone(frame, self.claims.holder(frame.id.source())));
+        }
+        // No frame of another group is a claim or a part of a message: most are done with here.
+        if !is_network_group(frame.id.pgn()) {
+            return Ok(None);
+        }
         if frame.id.is_address_claimed() {
             self.note(frame)?;
             return Ok(None);
-        }
-        // Packets and announcements are never single: the assembler would let the frame pass.
-        if is_single {
-            return Ok(alone(frame, self.claims.holder(frame.id.source())));
         }
         self.assemble(frame)
     }

@@ -91,7 +91,7 @@ impl Account for NodeList {
 
     ghost makes = { λ subject. MakesNodes };
 
-    ghost asks = { AsksNowhere };
+    ghost asks = { λ subject. AsksNowhere };
 
     fn meet<W: Sink>(&mut self, _: &Bus, frame: &Frame, _: &mut W) -> Result<(), LineFault> {
         self.claims.note(frame);

@@ -53,7 +53,7 @@ impl<A: Account> Pieces<A> {
         ensures flushed { OnOk result (W.is_flushed sink.new ≡ true) }
         ensures asked { result ≡ Err Memory → (subject : A.Subject)
             → Behind (A.has_met subject) self.old (W.held sink.old)
-            (λ given taken held. AsksAmong A.asks given (taken ++ piece.now)) }
+            (λ given taken held. AsksAmong (A.asks subject) given (taken ++ piece.now)) }
     {
         A::laws();
         match self.take_lines(piece, sink) {
@@ -76,7 +76,7 @@ impl<A: Account> Pieces<A> {
         ensures unmarked { result ≢ Err Write → W.has_failed sink.new ≡ W.has_failed sink.old }
         ensures asked { result ≡ Err Memory → (subject : A.Subject)
             → Behind (A.has_met subject) self.old (W.held sink.old)
-            (λ given taken held. AsksAmong A.asks given (taken ++ piece.now)) }
+            (λ given taken held. AsksAmong (A.asks subject) given (taken ++ piece.now)) }
     {
         A::laws();
         let mut rest = piece;
@@ -101,7 +101,7 @@ impl<A: Account> Pieces<A> {
         ensures unmarked { result ≢ Err Write → W.has_failed sink.new ≡ W.has_failed sink.old }
         ensures flushed { OnOk result (W.is_flushed sink.new ≡ true) }
         ensures asked { result ≡ Err Memory → (subject : A.Subject)
-            → Behind (A.has_met subject) self.old (W.held sink.old) (λ given taken held. AsksAmong A.asks given taken) }
+            → Behind (A.has_met subject) self.old (W.held sink.old) (λ given taken held. AsksAmong (A.asks subject) given taken) }
     {
         A::laws();
         match take_last(&mut self.splitter, &mut self.lines, sink) {
@@ -134,7 +134,7 @@ fn take_line<A: Account, W: Sink>(
     ensures memory { result ≡ Err Memory → W.held sink.new ≡ W.held sink.old }
     ensures unmarked { result ≢ Err Write → W.has_failed sink.new ≡ W.has_failed sink.old }
     ensures asked { result ≡ Err Memory → (subject : A.Subject) (begun : List ℕ) → HasBegun splitter.old begun
-        → AsksIn (A.has_met subject) A.asks begun bytes.now lines.old }
+        → AsksIn (A.has_met subject) (A.asks subject) begun bytes.now lines.old }
 {
     let (n, raw) = splitter.feed(bytes);
     match raw {
@@ -160,7 +160,7 @@ fn take_last<A: Account, W: Sink>(
     ensures memory { result ≡ Err Memory → W.held sink.new ≡ W.held sink.old }
     ensures unmarked { result ≢ Err Write → W.has_failed sink.new ≡ W.has_failed sink.old }
     ensures asked { result ≡ Err Memory → (subject : A.Subject) (begun : List ℕ) → HasBegun splitter.old begun
-        → AsksLast (A.has_met subject) A.asks begun lines.old }
+        → AsksLast (A.has_met subject) (A.asks subject) begun lines.old }
 {
     match splitter.finish() {
         None => Ok(()),

@@ -6,7 +6,7 @@ ghost use Rattle.j39_groups.specs.Table.{the_table};
 ghost use Rattle.j39_listen.specs.Asking.{AsksForBoxes, AsksWithin};
 ghost use Rattle.j39_listen.specs.Listening.{Hears};
 ghost use Rattle.j39_listen.specs.Output.{MakesReport, report_of};
-ghost use Rattle.j39_listen.specs.ReportSteps.{HasReported, MeetsFrame, StopsFrame};
+ghost use Rattle.j39_listen.specs.ReportSteps.{HasReported, MeetsFrame, StopsFrame, made_by};
 ghost use Rattle.j39_listen.specs.Run.{StopsAtLimit, StopsWithin, TakesWithin, Writes, WritesPublished};
 ghost use Rattle.j39_listen.specs.declared.account.LineFault.TheVariants as line_fault;
 ghost use Rattle.j39_listen.specs.declared.running.RunFault.TheVariants.{Memory, Read, Write, TooLong};
@@ -154,13 +154,20 @@ impl<'g, 't> Account for Report<'g, 't> {
 
     ghost makes = { λ subject. MakesReport subject };
 
-    ghost asks = { AsksForBoxes };
+    ghost asks = { λ subject. AsksForBoxes };
 
     #[inline(always)]
     fn meet<W: Sink>(&mut self, _: &Bus, frame: &Frame, sink: &mut W) -> Result<(), LineFault> {
         match put_frame(&mut self.listener, self.groups, &mut self.pen, frame, sink) {
-            Ok(made) => {
-                self.made = self.made.and(made);
+            Ok(None) => {
+                self.made = self.made.and(Made {
+                    messages: 0,
+                    lines: 0,
+                });
+                Ok(())
+            }
+            Ok(Some(lines)) => {
+                self.made = self.made.and(Made { messages: 1, lines });
                 Ok(())
             }
             Err(fault) => Err(fault),
@@ -177,7 +184,7 @@ impl<'g, 't> Account for Report<'g, 't> {
     {}
 }
 
-/// Writes the report of what is heard at a frame of the run's bus, and answers its numbers.
+/// Writes the report of what is heard at a frame of the run's bus, and answers how many lines, where something is.
 #[inline(always)]
 fn put_frame<W: Sink>(
     listener: &mut Listener,
@@ -185,9 +192,9 @@ fn put_frame<W: Sink>(
     pen: &mut Pen,
     frame: &Frame,
     sink: &mut W,
-) -> Result<Made, LineFault>
-    ensures met { IfOk result (λ made. (F : List FrameRecord) → Hears listener.old F
-        → MeetsFrame groups.now listener.new F frame.now made (W.held sink.old) (W.held sink.new)) }
+) -> Result<Option<u64>, LineFault>
+    ensures met { IfOk result (λ lines. (F : List FrameRecord) → Hears listener.old F
+        → MeetsFrame groups.now listener.new F frame.now (made_by lines) (W.held sink.old) (W.held sink.new)) }
     ensures write { result ≡ Err line_fault.Write → W.has_failed sink.new ≡ true }
     ensures stops { result ≡ Err line_fault.Write → (F : List FrameRecord) → Hears listener.old F
         → StopsFrame groups.now F frame.now (W.held sink.old) (W.held sink.new) }
@@ -197,9 +204,9 @@ fn put_frame<W: Sink>(
 {
     match listener.feed_with(groups, frame) {
         Err(AllocError) => Err(LineFault::Memory),
-        Ok(None) => Ok(Made::default()),
+        Ok(None) => Ok(None),
         Ok(Some(heard)) => match put_heard(&heard, groups, pen, sink) {
-            Ok(lines) => Ok(Made { messages: 1, lines }),
+            Ok(lines) => Ok(Some(lines)),
             Err(DeviceFault) => Err(LineFault::Write),
         },
     }

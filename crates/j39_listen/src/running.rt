@@ -73,7 +73,7 @@ pub fn run_over<A: Account, R: Source, W: Sink>(
     ensures write { result ≡ Err Write → W.has_failed sink.new ≡ true }
     ensures write_unmarked { result ≢ Err Write → W.has_failed sink.new ≡ W.has_failed sink.old }
     ensures asked { result ≡ Err Memory
-        → AtStart A.has_met account (λ subject. AsksWithin A.asks bus (R.remaining source.old)
+        → AtStart A.has_met account (λ subject. AsksWithin (A.asks subject) bus (R.remaining source.old)
         (R.remaining source.new)) }
     ensures within { result ≢ Err TooLong → TakesWithin limit (R.remaining source.old) (R.remaining source.new) }
     ensures at_limit { result ≡ Err TooLong
@@ -106,7 +106,7 @@ fn read_pieces<A: Account, R: Source, W: Sink>(
     ensures write { result ≡ Err Write → W.has_failed sink.new ≡ true }
     ensures write_unmarked { result ≢ Err Write → W.has_failed sink.new ≡ W.has_failed sink.old }
     ensures asked { result ≡ Err Memory → AtNothing A.has_met pieces.old (W.held sink.old)
-        (λ subject given. AsksWithin A.asks given (R.remaining source.old) (R.remaining source.new)) }
+        (λ subject given. AsksWithin (A.asks subject) given (R.remaining source.old) (R.remaining source.new)) }
     ensures within { result ≢ Err TooLong → TakesWithin limit (R.remaining source.old) (R.remaining source.new) }
     ensures at_limit { result ≡ Err TooLong → AtNothing A.has_met pieces.old (W.held sink.old)
         (λ subject given. StopsAtLimit (A.makes subject) limit given
@@ -156,7 +156,7 @@ fn take<A: Account, W: Sink>(
     ensures unmarked { result ≢ Err Write → W.has_failed sink.new ≡ W.has_failed sink.old }
     ensures asked { result ≡ Err Memory → (subject : A.Subject)
         → Behind (A.has_met subject) pieces.old (W.held sink.old)
-        (λ given taken held. AsksAmong A.asks given (taken ++ piece.now)) }
+        (λ given taken held. AsksAmong (A.asks subject) given (taken ++ piece.now)) }
     ensures flushed { OnOk result (W.is_flushed sink.new ≡ true) }
     ensures not_read { result ≢ Err Read }
     ensures not_long { result ≢ Err TooLong }
@@ -180,7 +180,7 @@ fn finish<A: Account, W: Sink>(pieces: &mut Pieces<A>, sink: &mut W) -> Result<C
     ensures unmarked { result ≢ Err Write → W.has_failed sink.new ≡ W.has_failed sink.old }
     ensures asked { result ≡ Err Memory → (subject : A.Subject)
         → Behind (A.has_met subject) pieces.old (W.held sink.old)
-        (λ given taken held. AsksAmong A.asks given taken) }
+        (λ given taken held. AsksAmong (A.asks subject) given taken) }
     ensures flushed { OnOk result (W.is_flushed sink.new ≡ true) }
     ensures not_read { result ≢ Err Read }
     ensures not_long { result ≢ Err TooLong }

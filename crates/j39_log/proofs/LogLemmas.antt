@@ -46,7 +46,7 @@ All-last (line ∷ front) last h = All-last front last h.1
 lines_of-lines : (bytes : List ℕ) (lines : List (List ℕ)) → AreLines bytes lines → lines_of bytes ≡ lines
 unfolding lines_of
 lines_of-lines bytes lines h =
-    elim h.joined [
+    elim h.bytes_are [
       | inl e ↦ ap lines_of (e ∙ sym (append-nil (ended lines))) ∙ lines_of-ended lines [] h.whole ∙ append-nil lines
       | inr k ↦
           let whole : AllByRecursion HasNoNewline (k.front ++ (k.last ∷ [])) = rw k.lines_are at h.whole in
@@ -161,4 +161,4 @@ joined_lines_of (b ∷ bs) =
 
 -- each log has its lines
 pub some_lines : (bytes : List ℕ) → (lines : List (List ℕ)) × AreLines bytes lines
-some_lines bytes = (lines_of bytes, record { whole = whole_lines_of bytes; joined = joined_lines_of bytes })
+some_lines bytes = (lines_of bytes, record { whole = whole_lines_of bytes; bytes_are = joined_lines_of bytes })

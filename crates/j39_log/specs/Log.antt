@@ -25,7 +25,7 @@ pub record LacksLastNewline (bytes : List ℕ) (lines : List (List ℕ)) : Type 
 -- the bytes are these lines
 pub record AreLines (bytes : List ℕ) (lines : List (List ℕ)) : Type 0 where
   pub whole : AllByRecursion HasNoNewline lines
-  pub joined : (bytes ≡ ended lines) ⊎ LacksLastNewline bytes lines
+  pub bytes_are : (bytes ≡ ended lines) ⊎ LacksLastNewline bytes lines
 
 -- each line spells its own
 abbrev pub SpellEach : List (List ℕ) → List Spelled → Type 0

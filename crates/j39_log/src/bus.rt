@@ -1,5 +1,6 @@
 //! Names of buses.
-ghost use Rattle.std.specs.Prelude.{◌≡◌, ◌↔◌, IsSome, IfSome, IsTrue};
+ghost use Rattle.std.specs.Prelude.{◌≡◌, ◌+◌, ◌*◌, ◌<◌, ◌↔◌, IsSome, IfSome, IsTrue};
+ghost use Rattle.std.specs.Str.{bytes_eq};
 ghost use Rattle.j39_log.specs.Bus.{IsBusName};
 
 use arrayvec::ArrayVec;
@@ -45,6 +46,34 @@ impl Bus {
     {
         self.name.as_slice()
     }
+
+    /// Whether it has this name.
+    #[inline(always)]
+    pub fn is_named(&self, name: &[u8]) -> bool
+        ensures { result ≡ bytes_eq name.now self.now }
+    {
+        are_same(name, self.bytes())
+    }
+}
+
+/// Whether two texts are the same. Those of four bytes, as `can0`, are compared at once.
+#[inline(always)]
+fn are_same(a: &[u8], b: &[u8]) -> bool
+    ensures { result ≡ bytes_eq a.now b.now }
+{
+    match (a, b) {
+        ([a, b, c, d], [e, f, g, h]) => word(*a, *b, *c, *d) == word(*e, *f, *g, *h),
+        _ => a == b,
+    }
+}
+
+/// Four bytes as one number.
+#[inline(always)]
+fn word(a: u8, b: u8, c: u8, d: u8) -> u32
+    ensures value { result ≡ a + b * 256 + c * 65536 + d * 16777216 }
+    ensures bytes { (a < 256) × (b < 256) × (c < 256) × (d < 256) }
+{
+    u32::from_le_bytes([a, b, c, d])
 }
 
 /// Whether the bytes can name a bus.

@@ -31,14 +31,27 @@ pub(crate) fn read_plain(line: &[u8]) -> Line<'_>
     ensures { Spells line.now (spelled_of result) }
 {
     let Some((stamp, bus, third)) = parts_of(line) else {
-        return read_any(line);
+        return general(line);
     };
     if let Some(frame) = frame_at(stamp, third) {
         return Line::Frame { bus, frame };
     }
     match frame_of(third) {
         None if is_field(third) && holds_hash(third) => Line::Other,
-        _ => read_any(line),
+        _ => general(line),
+    }
+}
+
+/// Reads a line of any form, and hands its parts on one by one: so those of the quick reader stay in registers.
+#[inline(always)]
+fn general(line: &[u8]) -> Line<'_>
+    ensures { Spells line.now (spelled_of result) }
+{
+    match read_any(line) {
+        Line::Frame { bus, frame } => Line::Frame { bus, frame },
+        Line::Other => Line::Other,
+        Line::Unread => Line::Unread,
+        Line::Blank => Line::Blank,
     }
 }
 
@@ -181,7 +194,10 @@ fn data_of(pairs: &[u8]) -> Option<ArrayVec<u8, 8>>
 {
     match pairs.as_array::<16>() {
         Some(all) => Some(ArrayVec::from_array_in((), eight(all)?)),
-        None => bytes_of(pairs),
+        None => match bytes_of(pairs) {
+            Some(bytes) => Some(bytes),
+            None => None,
+        },
     }
 }
 

@@ -104,6 +104,7 @@ fn id_of(digits: &[u8]) -> Option<Id>
     Id::new(u32::from_be_bytes(raw))
 }
 
+#[inline(never)]
 pub(crate) fn bytes_of(pairs: &[u8]) -> Option<ArrayVec<u8, 8>>
     ensures found { IfSome result (λ bytes. (decode_of pairs.now ≡ Ok bytes.items) × (length bytes.items ≤ 8)) }
     ensures only { (bytes : List ℕ) → decode_of pairs.now ≡ Ok bytes → length bytes ≤ 8

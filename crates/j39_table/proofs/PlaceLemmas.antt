@@ -6,7 +6,7 @@ use Rattle.std.specs.Str.Parse.{AllDigits, digits_value}
 use Rattle.std.proofs.lemmas.Bool.{cond_both, eqb-true, false≢true}
 use Rattle.std.proofs.lemmas.Fmt.{decimal_is_IsNumeral, decimal_nonempty, length-decimal-le}
 use Rattle.j39_table.proofs.ColumnLemmas.{drop_front, take_front}
-use Rattle.j39_groups.specs.Parameters.{bits_end, bits_text, range_text}
+use Rattle.j39_groups.specs.Printed.{bits_end, bits_text, range_text}
 use Rattle.j39_table.specs.declared.place.Place.{Place}
 use Rattle.j39_table.specs.declared.place.Place.TheVariants.{Bytes, Bits, Part, Texts}
 use Rattle.j39_table.specs.Places.{IsAfterDigits, IsGoodPlace, end_text, is_digit, text_of_place}

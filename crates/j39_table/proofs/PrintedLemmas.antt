@@ -14,7 +14,7 @@ use Rattle.std.proofs.lemmas.Fmt.{decimal_is_IsNumeral}
 use Rattle.std.proofs.lemmas.Grind.{common_steps}
 use Rattle.j39_text.proofs.PrintingLemmas.{AllDigits-last_digits}
 use Rattle.j39_text.specs.Chars.{is_not_space, is_space}
-use Rattle.j39_groups.specs.Parameters.{bits_text, place_text, range_text, row_text, scale_text}
+use Rattle.j39_groups.specs.Printed.{bits_text, place_text, range_text, row_text, scale_text}
 use Rattle.j39_groups.specs.Row.{FieldRecord, number_field, bits_field, switch_field, text_field, texts_field, RowRecord}
 use Rattle.j39_groups.specs.Value.{SlotRecord}
 use Rattle.j39_groups.specs.ValueText.{magnitude_text, places_text, scaled_text}

@@ -1,6 +1,6 @@
 -- The field that columns of a line say.
 use Rattle.std.specs.Prelude.{◌≡◌, ◌==◌, ◌+◌, ◌<◌, ◌&&◌, ℕ, List, Option, Some, None, Result, MatchResult, if◌then◌else◌, length, nat_lt}
-use Rattle.j39_groups.specs.Parameters.{place_text}
+use Rattle.j39_groups.specs.Printed.{place_text}
 use Rattle.j39_groups.specs.ReadFields.{read_field_record, scale_record}
 use Rattle.j39_groups.specs.declared.read_field.ReadField.{ReadField}
 use Rattle.j39_groups.specs.declared.scale.Scale.{Scale}

@@ -2,7 +2,7 @@
 use Rattle.std.specs.Prelude.{◌≡◌, ◌++◌, ◌∷◌, List, ℕ, []}
 use Rattle.std.specs.List.{AllByRecursion, flat_map}
 use Rattle.j39_text.specs.Chars.{newline}
-use Rattle.j39_groups.specs.Parameters.{row_text}
+use Rattle.j39_groups.specs.Printed.{row_text}
 use Rattle.j39_groups.specs.Row.{RowRecord}
 use Rattle.j39_table.specs.Rows.{IsGoodRow}
 use Rattle.j39_table.specs.Spelled.{SpellsRow}

@@ -1,7 +1,7 @@
 -- Where a parameter stands, as a line says it.
 use Rattle.std.specs.Prelude.{◌≡◌, ◌==◌, ◌+◌, ◌/◌, ◌%◌, ◌<◌, ◌≤◌, ◌++◌, ◌∷◌, ⊤, ℕ, List, [], Bool, false, if◌then◌else◌, codes, decimal}
 use Rattle.std.specs.Prelude.{◌&&◌, nat_le}
-use Rattle.j39_groups.specs.Parameters.{bits_end, bits_text, range_text}
+use Rattle.j39_groups.specs.Printed.{bits_end, bits_text, range_text}
 use Rattle.j39_table.specs.declared.place.Place.{Place}
 use Rattle.j39_table.specs.declared.place.Place.TheVariants.{Bytes, Bits, Part, Texts}
 

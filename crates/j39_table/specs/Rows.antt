@@ -1,6 +1,6 @@
 -- The rows that a line of a table may say.
 use Rattle.std.specs.Prelude.{◌≡◌, ◌+◌, ◌-◌, ◌*◌, ◌^◌, ◌<◌, ◌≤◌, ◌++◌, ◌∷◌, ℕ, List, [], true, false, codes, decimal, pos, unsigned_abs}
-use Rattle.j39_groups.specs.Parameters.{place_text}
+use Rattle.j39_groups.specs.Printed.{place_text}
 use Rattle.j39_groups.specs.Readings.{is_heard_group, is_network_group}
 use Rattle.j39_groups.specs.Row.{FieldRecord, number_field, bits_field, switch_field, text_field, texts_field, RowRecord}
 use Rattle.j39_groups.specs.Value.{SlotRecord}

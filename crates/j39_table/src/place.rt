@@ -2,7 +2,7 @@
 ghost use Rattle.std.specs.Prelude.{◌≡◌, ◌+◌, ◌/◌, ◌%◌, ◌<◌, ◌≤◌, ◌++◌, ◌∷◌, ◌↔◌, [], ℕ, List, Some, IfSome, IsSomeAnd, IsTrue, codes, decimal, length};
 ghost use Rattle.std.specs.List.{prefix_len};
 ghost use Rattle.arrayvec.specs.ArrayVec.{array_vec_len};
-ghost use Rattle.j39_groups.specs.Parameters.{bits_end, bits_text};
+ghost use Rattle.j39_groups.specs.Printed.{bits_end, bits_text};
 ghost use Rattle.j39_table.specs.declared.place.Place.{Place};
 ghost use Rattle.j39_table.specs.Places.{IsAfterDigits, IsGoodBits, IsGoodPlace, behind_first_byte, behind_low_bit, end_text, is_digit, text_of_place};
 

@@ -4,7 +4,7 @@ use Rattle.std.proofs.lemmas.List.{get_or_append_left, get_or_push, get_or_past}
 use Rattle.std.proofs.lemmas.Bool.{cases_lt, cases_eq, cases_Bool, both_ways, cond-true, cond-false}
 use Rattle.j39_transport.specs.Key.{Key, limit}
 use Rattle.j39_transport.specs.Events.{Event, at, announces, sends, ends, rivals, stamp, belongs, is_numbered}
-use Rattle.j39_transport.specs.Assembly.{IsFirstAfter, last_of, Links, AreSuccessive, count_below, Runs, joined}
+use Rattle.j39_transport.specs.Assembly.{IsFirstAfter, last_of, Links, AreSuccessive, count_below, Runs, joined_at}
 use Rattle.j39_transport.specs.Events.Event.{Forget}
 use Rattle.j39_transport.proofs.FrameFacts.{nothing}
 
@@ -113,10 +113,10 @@ Runs-less E s g p0 m n l h = record {
   young = (let a : count_below (rivals s) E m ≤ count_below (rivals s) E n = count_mono (rivals s) E m n l in let b : count_below (rivals s) E n < 16 + count_below (rivals s) E (suc p0) = h.young in omega arith);
 }
 
-pub joined-same : (E D : List Event) (s : Key) (p0 : ℕ) (ps : List ℕ) → Links E s p0 ps → Agree E D (suc (last_of p0 ps)) → joined D ps ≡ joined E ps
-joined-same E D s p0 [] h a = refl
-joined-same E D s p0 (p ∷ ps) h a =
+pub joined_at-same : (E D : List Event) (s : Key) (p0 : ℕ) (ps : List ℕ) → Links E s p0 ps → Agree E D (suc (last_of p0 ps)) → joined_at D ps ≡ joined_at E ps
+joined_at-same E D s p0 [] h a = refl
+joined_at-same E D s p0 (p ∷ ps) h a =
     let l : last_of p0 ps < p = h.0.later in
-    let x : joined D ps ≡ joined E ps = joined-same E D s p0 ps h.1 (agree_less _ (omega arith) a) in
+    let x : joined_at D ps ≡ joined_at E ps = joined_at-same E D s p0 ps h.1 (agree_less _ (omega arith) a) in
     let y : at D p ≡ at E p = a.same p (omega arith) in
     cc

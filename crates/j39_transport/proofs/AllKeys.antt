@@ -14,8 +14,8 @@ use Rattle.j39_transport.proofs.Tables.{directed_new, directed_more, directed_st
 use Rattle.j39_transport.specs.EventSteps.{step, from_of, broadcast_step, table_step}
 use Rattle.j39_transport.specs.Session.{SessionRecord}
 use Rattle.j39_transport.specs.Places.{Places}
-use Rattle.j39_transport.specs.Steps.{SessionsRecord, empty_state}
-use Rattle.j39_transport.specs.Stands.{StandsFor, AreBroadcasts, AreKept}
+use Rattle.j39_transport.specs.Steps.{OpenMessagesRecord, empty_state}
+use Rattle.j39_transport.specs.Stands.{IsOpenOrNone, AreBroadcasts, AreKept}
 use Rattle.j39_transport.proofs.MoveLemmas.{moved_none}
 
 -- ---- the state
@@ -24,7 +24,7 @@ pub table_new : AreKept [] empty_state
 table_new = record {
   broadcasts = record {
     size_is = length-replicate {A = Option SessionRecord} 254 None;
-    each = λ s l. subst (λ (o : Option SessionRecord). StandsFor [] (Broadcast s) o) (sym (get_or-replicate 254 s None None l)) (stands_new (Broadcast s));
+    each = λ s l. subst (λ (o : Option SessionRecord). IsOpenOrNone [] (Broadcast s) o) (sym (get_or-replicate 254 s None None l)) (stands_new (Broadcast s));
   };
   directed = directed_new;
 }
@@ -45,9 +45,9 @@ step_other : (s : ℕ) (e : Event) (o : Option SessionRecord) → s ≢ from_of 
 step_other s e o n = let t = others s e n in quiet_step e s o t.0 t.1 t.3 t.2
 
 -- nothing is a rival of a broadcast
-pub broadcast_stands : (E : List Event) (e : Event) (s : ℕ) (o : Option SessionRecord) → StandsFor E (Broadcast s) o → StandsFor (E ++ e ∷ []) (Broadcast s) (step (Broadcast s) e o)
+pub broadcast_stands : (E : List Event) (e : Event) (s : ℕ) (o : Option SessionRecord) → IsOpenOrNone E (Broadcast s) o → IsOpenOrNone (E ++ e ∷ []) (Broadcast s) (step (Broadcast s) e o)
 unfolding rivals is_rival
-broadcast_stands E e s o h = cond_both (announces (Broadcast s) e) _ _ (StandsFor (E ++ e ∷ []) (Broadcast s))
+broadcast_stands E e s o h = cond_both (announces (Broadcast s) e) _ _ (IsOpenOrNone (E ++ e ∷ []) (Broadcast s))
     (λ a. (opened_aged E e (Broadcast s) a).session)
     (λ a. other_stands E e (Broadcast s) o h a (young o h))
   where
@@ -55,7 +55,7 @@ broadcast_stands E e s o h = cond_both (announces (Broadcast s) e) _ _ (StandsFo
     none (Frame f) = refl
     none (Forget t) = refl
 
-    young : (o : Option SessionRecord) (h : StandsFor E (Broadcast s) o) → YoungIn E e (Broadcast s) o h
+    young : (o : Option SessionRecord) (h : IsOpenOrNone E (Broadcast s) o) → YoungIn E e (Broadcast s) o h
     young None h = tt
     young (Some x) h = λ r. absurd (both_ways _ (none e) r)
 
@@ -68,29 +68,29 @@ broadcasts_more E e T h = record {
         let w : from_of e < length T = omega arith in
         let r : get_or (broadcast_step e T) s None ≡ step (Broadcast s) e (get_or T s None) =
         ap (λ (x : ℕ). get_or (broadcast_step e T) x None) i ∙ (get_or-set_same T (from_of e) (step (Broadcast (from_of e)) e (get_or T (from_of e) None)) None w ∙ ap (λ (x : ℕ). step (Broadcast x) e (get_or T x None)) (sym i)) in
-        subst (λ (o : Option SessionRecord). StandsFor (E ++ e ∷ []) (Broadcast s) o) (sym r) (broadcast_stands E e s (get_or T s None) (h.each s l)))
+        subst (λ (o : Option SessionRecord). IsOpenOrNone (E ++ e ∷ []) (Broadcast s) o) (sym r) (broadcast_stands E e s (get_or T s None) (h.each s l)))
     | inr n ↦
         (let r : get_or (broadcast_step e T) s None ≡ step (Broadcast s) e (get_or T s None) =
         get_or-set_other T (from_of e) s (step (Broadcast (from_of e)) e (get_or T (from_of e) None)) None n ∙ sym (step_other s e (get_or T s None) n) in
-        subst (λ (o : Option SessionRecord). StandsFor (E ++ e ∷ []) (Broadcast s) o) (sym r) (broadcast_stands E e s (get_or T s None) (h.each s l)))
+        subst (λ (o : Option SessionRecord). IsOpenOrNone (E ++ e ∷ []) (Broadcast s) o) (sym r) (broadcast_stands E e s (get_or T s None) (h.each s l)))
   ];
 }
 
 -- one event more
-pub table_more : (E : List Event) (e : Event) (T : SessionsRecord) → AreKept E T → AreKept (E ++ e ∷ []) (table_step e T)
+pub table_more : (E : List Event) (e : Event) (T : OpenMessagesRecord) → AreKept E T → AreKept (E ++ e ∷ []) (table_step e T)
 table_more E e T h = record { broadcasts = broadcasts_more E e T.broadcasts h.broadcasts; directed = directed_more E e T.directed h.directed }
 
-abbrev pub table_run : List Event → SessionsRecord → SessionsRecord
+abbrev pub table_run : List Event → OpenMessagesRecord → OpenMessagesRecord
 table_run [] T = T
 table_run (e ∷ es) T = table_run es (table_step e T)
 
-pub table_all : (E es : List Event) (T : SessionsRecord) → AreKept E T → AreKept (E ++ es) (table_run es T)
+pub table_all : (E es : List Event) (T : OpenMessagesRecord) → AreKept E T → AreKept (E ++ es) (table_run es T)
 table_all E [] T h = subst (λ (x : List Event). AreKept x T) (sym (append-nil E)) h
 table_all E (e ∷ es) T h = subst (λ (x : List Event). AreKept x (table_run es (table_step e T))) (append_assoc E (e ∷ []) es) (table_all (E ++ e ∷ []) es (table_step e T) (table_more E e T h))
 
 -- ---- the session of a key
 
-abbrev pub session_of : SessionsRecord → Key → Option SessionRecord
+abbrev pub session_of : OpenMessagesRecord → Key → Option SessionRecord
 session_of T (Broadcast s) = if nat_lt s 254 then get_or T.broadcasts s None else None
 session_of T (Directed s d) = lookup s d T.directed
 
@@ -99,8 +99,8 @@ unfolding announces
 announced_key k (Frame f) h = (announcement_facts k f h).key
 announced_key k (Forget t) h = absurd (both_ways false refl h)
 
-pub table_stands : (E : List Event) (T : SessionsRecord) → AreKept E T → (k : Key) → StandsFor E k (session_of T k)
-table_stands E T h (Broadcast s) = cond_both (nat_lt s 254) _ _ (λ (o : Option SessionRecord). StandsFor E (Broadcast s) o)
+pub table_stands : (E : List Event) (T : OpenMessagesRecord) → AreKept E T → (k : Key) → IsOpenOrNone E k (session_of T k)
+table_stands E T h (Broadcast s) = cond_both (nat_lt s 254) _ _ (λ (o : Option SessionRecord). IsOpenOrNone E (Broadcast s) o)
     (λ t. h.broadcasts.each s (ltb-true _ _ t))
     (λ t g p0 ps o. both_ways _ t (announced_key (Broadcast s) (at E p0) o.announced))
 table_stands E T h (Directed s d) = directed_stands E T.directed h.directed s d

@@ -11,12 +11,12 @@ use Rattle.j39_transport.specs.EventSteps.{is_over}
 use Rattle.j39_transport.specs.Session.{SessionRecord}
 use Rattle.j39_transport.specs.Places.{Places, at, is_of, find, find_from}
 use Rattle.j39_transport.specs.Signals.{Signal, BroadcastAnnounce, RequestToSend, ClearToSend, Acknowledgment, Abort, Packet, said_by}
-use Rattle.j39_transport.specs.Steps.{SessionsRecord, moves, packed, granted, closed, finished, with_place, state_after, state_without, without_broadcast, room, empty_state, told, told_at, answer, answer_by, answer_to_packet, key_of}
+use Rattle.j39_transport.specs.Steps.{OpenMessagesRecord, moves, packed, granted, closed, finished, with_place, state_after, state_without, without_broadcast, room, empty_state, told, told_at, answer, answer_by, answer_to_packet, key_of}
 use Rattle.j39_transport.specs.Steps as steps
 use Rattle.j39_transport.specs.Answers as answers
 use Rattle.j39_transport.specs.Session as sessions
 use Rattle.j39_transport.specs.Protocol.{clear_to_send, acknowledgment, connection_abort, broadcast_limit, directed_limit}
-use Rattle.j39_transport.specs.Stands.{AreKept, StandsFor}
+use Rattle.j39_transport.specs.Stands.{AreKept, IsOpenOrNone}
 use Rattle.j39_transport.proofs.FrameFacts.{packet_facts, sends-others}
 use Rattle.j39_transport.proofs.ReadLemmas.{IsControl, IsPacking, Facts, read_is}
 use Rattle.j39_transport.proofs.MoveLemmas.{sent_over}
@@ -30,7 +30,7 @@ use Rattle.j39_transport.proofs.Tables.{lookup, directed_stands}
 use Rattle.j39_transport.proofs.AllKeys.{table_stands, session_of}
 use Rattle.j39_transport.proofs.StepLemmas.{packet_no_announcement}
 
-module _ (E : List Event) (f : FrameRecord) (a : SessionsRecord) (h : AreKept E a) where
+module _ (E : List Event) (f : FrameRecord) (a : OpenMessagesRecord) (h : AreKept E a) where
   -- a message that lacks a packet still takes packets alone
   partial_sent : (k : Key) (g : ℕ) → IsPartial (E ++ Frame f ∷ []) (length E) k g → is_packet k f ≡ true
   partial_sent k g p =
@@ -49,13 +49,13 @@ module _ (E : List Event) (f : FrameRecord) (a : SessionsRecord) (h : AreKept E 
     only_key : (j : Key) → is_packet j f ≡ true → j ≡ k
     only_key j q = packet_key j k f q p
 
-    none_grows : (o : Option SessionRecord) → StandsFor E k o → ((g : ℕ) → Grows E (Frame f) k o g → ⊥) → IsTaken E f → ⊥
+    none_grows : (o : Option SessionRecord) → IsOpenOrNone E k o → ((g : ℕ) → Grows E (Frame f) k o g → ⊥) → IsTaken E f → ⊥
     none_grows o s n (inl j) = both_ways _ (packet_no_announcement k j.0 f p) j.1
     none_grows o s n (inr j) =
         let e = only_key j.0 (partial_sent j.0 j.1 j.2) in
         n j.1 ((partial_iff E (Frame f) k o s j.1).1 (subst (λ (x : Key). IsPartial (E ++ Frame f ∷ []) (length E) x j.1) e j.2))
 
-    none_completes : (o : Option SessionRecord) → StandsFor E k o → ((g : ℕ) (b : List ℕ) → Completes E (Frame f) k o g b → ⊥) → NoneWhole E f
+    none_completes : (o : Option SessionRecord) → IsOpenOrNone E k o → ((g : ℕ) (b : List ℕ) → Completes E (Frame f) k o g b → ⊥) → NoneWhole E f
     none_completes o s n m w =
         let e = only_key w.0 (assembled_sent E f w.0 m.pgn m.bytes w.2) in
         n m.pgn m.bytes (whole_only E (Frame f) k o s m.pgn m.bytes (subst (λ (x : Key). Whole (E ++ Frame f ∷ []) (length E) x m.pgn m.bytes) e w.2))
@@ -65,7 +65,7 @@ module _ (E : List Event) (f : FrameRecord) (a : SessionsRecord) (h : AreKept E 
         let o = sends-others k k k x.group (Frame f) (ev_sends k f ∙ p) in
         sent_over k (Frame f) x o.no_announcement (ev_sends k f ∙ p) o.no_grant o.no_end ∙ ap (nat_lt (x.last + limit k)) (ev_stamp f)
 
-    told_is : (o : Option SessionRecord) → StandsFor E k o → AnswersAt E f (told (sender k) (limit k) (slice_index f.bytes 0) (drop 1 f.bytes) f.stamp o)
+    told_is : (o : Option SessionRecord) → IsOpenOrNone E k o → AnswersAt E f (told (sender k) (limit k) (slice_index f.bytes 0) (drop 1 f.bytes) f.stamp o)
     unfolding moves number payload stamp
     told_is None s = (none_grows None s (λ g c. cc (c.was)), none_completes None s (λ g b c. cc (c.was)))
     told_is (Some x) s =
@@ -120,7 +120,7 @@ looked_is s d k (p ∷ t) = cond_both (is_of s d p) _ _ (LookedIs s d k (p ∷ t
     (λ a. (0, omega arith, cond-true (is_of s d p) p (lookup s d t) a))
     (λ a. looked_later s d k p t (find_from s d (suc k) t) (cond-false (is_of s d p) p (lookup s d t) a) (looked_is s d (suc k) t))
 
-module _ (E : List Event) (f : FrameRecord) (a : SessionsRecord) (h : AreKept E a) where
+module _ (E : List Event) (f : FrameRecord) (a : OpenMessagesRecord) (h : AreKept E a) where
   packs_broadcast : (s : ℕ) → is_packet (Broadcast s) f ≡ true → AnswersAt E f (told s broadcast_limit (slice_index f.bytes 0) (drop 1 f.bytes) f.stamp (at a.broadcasts s))
   packs_broadcast s p = told_is E f a h (Broadcast s) p (at a.broadcasts s) (h.broadcasts.each s (ltb-true _ _ (packet_facts (Broadcast s) f p).key))
 
@@ -129,7 +129,7 @@ module _ (E : List Event) (f : FrameRecord) (a : SessionsRecord) (h : AreKept E 
   packs_directed s d p = go (find_from s d 0 a.directed) (looked_is s d 0 a.directed)
     where
       stood : (o : Option SessionRecord) → lookup s d a.directed ≡ o → AnswersAt E f (told s directed_limit (slice_index f.bytes 0) (drop 1 f.bytes) f.stamp o)
-      stood o e = told_is E f a h (Directed s d) p o (subst (λ (q : Option SessionRecord). StandsFor E (Directed s d) q) e (directed_stands E a.directed h.directed s d))
+      stood o e = told_is E f a h (Directed s d) p o (subst (λ (q : Option SessionRecord). IsOpenOrNone E (Directed s d) q) e (directed_stands E a.directed h.directed s d))
 
       go : (o : Option ℕ) → LookedIs s d 0 a.directed o → AnswersAt E f (told_at o (told s directed_limit (slice_index f.bytes 0) (drop 1 f.bytes) f.stamp) a.directed)
       go None e = stood None e

@@ -15,8 +15,8 @@ use Rattle.j39_transport.specs.Key.Key.{Broadcast, Directed}
 use Rattle.j39_transport.specs.Message.{MessageRecord}
 use Rattle.j39_transport.specs.Places.{Places, at, is_of, find, find_from}
 use Rattle.j39_transport.specs.Session.{SessionRecord, opened}
-use Rattle.j39_transport.specs.Stands.{IsSession, StandsFor, AreKept, Stands}
-use Rattle.j39_transport.specs.Steps.{AssemblerRecord, SessionsRecord, Moved, Ends, Grows, Stays, Late, announced, answer, answer_by, answer_to_packet, fed, forgot, key_of, is_whole, LacksBox, moves, new_assembler, place_for, room, spare_after, spare_left, state_after, told, told_at}
+use Rattle.j39_transport.specs.Stands.{IsSession, IsOpenOrNone, AreKept, Stands}
+use Rattle.j39_transport.specs.Steps.{AssemblerRecord, OpenMessagesRecord, Moved, Ends, Grows, Stays, Late, announced, answer, answer_by, answer_to_packet, fed, forgot, key_of, is_whole, LacksBox, moves, new_assembler, place_for, room, spare_after, spare_left, state_after, told, told_at}
 use Rattle.j39_transport.specs.Protocol.{broadcast_limit, directed_limit}
 use Rattle.j39_transport.proofs.AllKeys.{announced_key, table_new}
 use Rattle.j39_transport.proofs.AnswerLemmas.{answers_at}
@@ -29,7 +29,7 @@ use Rattle.j39_transport.proofs.Tables.{is_pair, pair_is, same_pair}
 
 -- ---- the keys that have a message open, and their places
 
-abbrev Keeps : SessionsRecord → Key → Type 0
+abbrev Keeps : OpenMessagesRecord → Key → Type 0
 Keeps a (Broadcast s) = (s < 254) × (x : SessionRecord) × (at a.broadcasts s ≡ Some x)
 Keeps a (Directed s d) = (i : ℕ) × (x : SessionRecord) × (at a.directed i ≡ Some x) × (is_of s d (Some x) ≡ true)
 
@@ -45,21 +45,21 @@ some_not_none x e = cc (e)
 has_open : (E : List Event) (k : Key) (x : SessionRecord) → IsSession E k x → HasOpen E k
 has_open E k x h = (x.count, (x.group, h.start, h.places, h.open_by, sym h.count_is))
 
-module _ (E : List Event) (a : SessionsRecord) (h : AreKept E a) where
+module _ (E : List Event) (a : OpenMessagesRecord) (h : AreKept E a) where
   keeps : (k : Key) → HasOpen E k → Keeps a k
   keeps (Broadcast s) o =
       let l : s < 254 = ltb-true _ _ (announced_key (Broadcast s) (event_at E o.1.1) o.1.3.announced) in
       go l (at a.broadcasts s) refl (h.broadcasts.each s l)
     where
-      go : s < 254 → (q : Option SessionRecord) → at a.broadcasts s ≡ q → StandsFor E (Broadcast s) (at a.broadcasts s) → Keeps a (Broadcast s)
-      go l None e w = absurd ((subst (λ (p : Option SessionRecord). StandsFor E (Broadcast s) p) e w) o.1.0 o.1.1 o.1.2 o.1.3)
+      go : s < 254 → (q : Option SessionRecord) → at a.broadcasts s ≡ q → IsOpenOrNone E (Broadcast s) (at a.broadcasts s) → Keeps a (Broadcast s)
+      go l None e w = absurd ((subst (λ (p : Option SessionRecord). IsOpenOrNone E (Broadcast s) p) e w) o.1.0 o.1.1 o.1.2 o.1.3)
       go l (Some x) e w = (l, x, e)
   keeps (Directed s d) o =
       let k = h.directed.all s d o.1.0 o.1.1 o.1.2 o.1.3 in
       (k.0, k.1, k.2, is_pair s d k.1 k.3 k.4)
 
   is_kept : (k : Key) → Keeps a k → HasOpen E k
-  is_kept (Broadcast s) w = has_open E (Broadcast s) w.1 (subst (λ (q : Option SessionRecord). StandsFor E (Broadcast s) q) w.2 (h.broadcasts.each s w.0))
+  is_kept (Broadcast s) w = has_open E (Broadcast s) w.1 (subst (λ (q : Option SessionRecord). IsOpenOrNone E (Broadcast s) q) w.2 (h.broadcasts.each s w.0))
   is_kept (Directed s d) w = subst (λ (k : Key). HasOpen E k) (same_pair s d w.1 (pair_is s d w.1 w.3)) (has_open E (pair_of w.1) w.1 (h.directed.each w.0 w.1 w.2).session)
 
   broadcasts_size : length a.broadcasts ≡ 254
@@ -71,7 +71,7 @@ module _ (E : List Event) (a : SessionsRecord) (h : AreKept E a) where
 -- ---- an announcement whose place is empty
 
 -- it is of a key with none open
-none_kept : (a : SessionsRecord) (k : Key) → place_for a k ≡ None → Keeps a k → ⊥
+none_kept : (a : OpenMessagesRecord) (k : Key) → place_for a k ≡ None → Keeps a k → ⊥
 unfolding find
 none_kept a (Broadcast s) e w = some_not_none w.1 (sym w.2 ∙ e)
 none_kept a (Directed s d) e w = go (find_from s d 0 a.directed) (found s d 0 a.directed) e
@@ -90,7 +90,7 @@ none_oldest s d t e = go (find_from s d 0 t) (found s d 0 t) e
     go (Some j) f e = absurd (both_ways false refl (sym (ap (is_of s d) (ap (at t) (let z : j ≡ 0 + f.0 = f.1 in let y : f.0 ≡ j = omega arith in y) ∙ e)) ∙ f.3))
 
 -- whatever is kept is kept on
-keeps_on : (a : SessionsRecord) (k : Key) (x : SessionRecord) (j : Key) → length a.directed ≡ 16 → length a.broadcasts ≡ 254 → place_for a k ≡ None → Keeps a j → Keeps (announced a k x) j
+keeps_on : (a : OpenMessagesRecord) (k : Key) (x : SessionRecord) (j : Key) → length a.directed ≡ 16 → length a.broadcasts ≡ 254 → place_for a k ≡ None → Keeps a j → Keeps (announced a k x) j
 keeps_on a (Broadcast s) x (Broadcast t) sized many e w = elim (cases_eq t s) [
   | inl i ↦ (w.0, x, ap (λ n. at (slice_set a.broadcasts s (Some x)) n) i ∙ get_or-set_same a.broadcasts s (Some x) None (let l : t < 254 = w.0 in omega arith))
   | inr n ↦ (w.0, w.1, get_or-set_other a.broadcasts s t (Some x) None n ∙ w.2)
@@ -181,17 +181,17 @@ whole_by s t stamp (Grows x) = refl
 whole_by s t stamp (Stays x) = refl
 whole_by s t stamp Late = refl
 
-whole_told : (s t limit number stamp : ℕ) (joined : List ℕ) (o : Option SessionRecord) → is_whole (told s limit number joined stamp o) ≡ is_whole (told t limit number joined stamp o)
-whole_told s t limit number stamp joined None = refl
-whole_told s t limit number stamp joined (Some x) = whole_by s t stamp (moves limit number joined stamp x)
+whole_told : (s t limit number stamp : ℕ) (part : List ℕ) (o : Option SessionRecord) → is_whole (told s limit number part stamp o) ≡ is_whole (told t limit number part stamp o)
+whole_told s t limit number stamp part None = refl
+whole_told s t limit number stamp part (Some x) = whole_by s t stamp (moves limit number part stamp x)
 
-whole_packet : (a : SessionsRecord) (s t stamp : ℕ) (k : Key) (number : ℕ) (joined : List ℕ) → is_whole (answer_to_packet a s stamp k number joined) ≡ is_whole (answer_to_packet a t stamp k number joined)
-whole_packet a s t stamp (Broadcast n) number joined = whole_told s t broadcast_limit number stamp joined (at a.broadcasts n)
-whole_packet a s t stamp (Directed n d) number joined = go (find n d a.directed)
+whole_packet : (a : OpenMessagesRecord) (s t stamp : ℕ) (k : Key) (number : ℕ) (part : List ℕ) → is_whole (answer_to_packet a s stamp k number part) ≡ is_whole (answer_to_packet a t stamp k number part)
+whole_packet a s t stamp (Broadcast n) number part = whole_told s t broadcast_limit number stamp part (at a.broadcasts n)
+whole_packet a s t stamp (Directed n d) number part = go (find n d a.directed)
   where
-    go : (o : Option ℕ) → is_whole (told_at o (told s directed_limit number joined stamp) a.directed) ≡ is_whole (told_at o (told t directed_limit number joined stamp) a.directed)
+    go : (o : Option ℕ) → is_whole (told_at o (told s directed_limit number part stamp) a.directed) ≡ is_whole (told_at o (told t directed_limit number part stamp) a.directed)
     go None = refl
-    go (Some i) = whole_told s t directed_limit number stamp joined (at a.directed i)
+    go (Some i) = whole_told s t directed_limit number stamp part (at a.directed i)
 
 whole_answered : (E : List Event) (f : FrameRecord) (m : MessageRecord) (o : Outcome) → AnswersAt E f o → WholeBy E f m → is_whole o ≡ true
 whole_answered E f m (Whole s g b t) h w = refl

@@ -3,13 +3,13 @@ use Rattle.std.proofs.Common.{◌≡◌, ℕ, suc, ◌<◌, ◌≤◌, true, fal
 use Rattle.std.proofs.lemmas.Bool.{cases_lt, and_parts, and_left, both_ways}
 use Rattle.j39_transport.specs.Key.{Key}
 use Rattle.j39_transport.specs.Events.{Event, at, announces, sends, number, payload, size, packets, group, is_numbered}
-use Rattle.j39_transport.specs.Assembly.{last_of, Runs, Chain, joined, Whole, OpenBy}
+use Rattle.j39_transport.specs.Assembly.{last_of, Runs, Chain, joined_at, Whole, OpenBy}
 use Rattle.j39_transport.proofs.FrameFacts.{announces-packets, sends-others}
 use Rattle.j39_transport.proofs.Chains.{Links-from, Open-unique}
 use Rattle.j39_transport.proofs.Agreeing.{at_before, announced_within, past_sends, agree_pop, agree_less, Links-same}
 use Rattle.j39_transport.specs.EventSteps.{is_over}
 use Rattle.j39_transport.specs.Session.{SessionRecord}
-use Rattle.j39_transport.specs.Stands.{IsSession, StandsFor}
+use Rattle.j39_transport.specs.Stands.{IsSession, IsOpenOrNone}
 use Rattle.j39_transport.proofs.OneMore.{new_test, old_test, grows, runs_before, group_before, runs_after, links_new}
 use Rattle.j39_transport.proofs.Moving.{over_not, fits, joined_new}
 
@@ -64,7 +64,7 @@ module _ (E : List Event) (e : Event) (s : Key) where
     pub start_is : p0 ≡ stood.start
     pub places_are : ps ≡ stood.places
 
-  pub chain_continued : (o : Option SessionRecord) → StandsFor E s o → (g p0 : ℕ) (ps : List ℕ) → Chain (E ++ e ∷ []) s g p0 (length E ∷ ps) → Continued o g p0 ps
+  pub chain_continued : (o : Option SessionRecord) → IsOpenOrNone E s o → (g p0 : ℕ) (ps : List ℕ) → Chain (E ++ e ∷ []) s g p0 (length E ∷ ps) → Continued o g p0 ps
   chain_continued None h g p0 ps k = absurd (h g p0 ps (chain_before g p0 ps k))
   chain_continued (Some x) h g p0 ps k =
       let c = chain_before g p0 ps k in
@@ -93,7 +93,7 @@ module _ (E : List Event) (e : Event) (s : Key) where
     pub group_is : g ≡ session.group
     pub bytes_are : b ≡ take session.size (session.bytes ++ payload e)
 
-  pub whole_from : (o : Option SessionRecord) → StandsFor E s o → (g : ℕ) (b : List ℕ) → Completes o g b → Whole (E ++ e ∷ []) (length E) s g b
+  pub whole_from : (o : Option SessionRecord) → IsOpenOrNone E s o → (g : ℕ) (b : List ℕ) → Completes o g b → Whole (E ++ e ∷ []) (length E) s g b
   whole_from None h g b c = absurd (cc (c.was))
   whole_from (Some y) h g b c =
       let was : Some y ≡ Some c.session = c.was in
@@ -114,11 +114,11 @@ module _ (E : List Event) (e : Event) (s : Key) where
         ends_at = refl;
         bytes_are = c.bytes_are ∙ (ap (λ (z : SessionRecord). take z.size (z.bytes ++ payload e)) x
             ∙ (ap (λ (bs : List ℕ). take y.size (bs ++ payload e)) h.bytes_are
-            ∙ (ap (λ (k : ℕ). take k (joined E h.places ++ payload e)) (h.size_is ∙ sym (ap size i))
+            ∙ (ap (λ (k : ℕ). take k (joined_at E h.places ++ payload e)) (h.size_is ∙ sym (ap size i))
             ∙ sym (ap (take (size (at (E ++ e ∷ []) h.start))) (joined_new E e s y.group h.start h.places h.open_by)))));
       }
 
-  pub whole_only : (o : Option SessionRecord) → StandsFor E s o → (g : ℕ) (b : List ℕ) → Whole (E ++ e ∷ []) (length E) s g b → Completes o g b
+  pub whole_only : (o : Option SessionRecord) → IsOpenOrNone E s o → (g : ℕ) (b : List ℕ) → Whole (E ++ e ∷ []) (length E) s g b → Completes o g b
   whole_only o h g b w = go w.places refl
     where
       go : (ps : List ℕ) → w.places ≡ ps → Completes o g b
@@ -141,8 +141,8 @@ module _ (E : List Event) (e : Event) (s : Key) where
           let f3 : packets (at (E ++ e ∷ []) w.start) ≡ packets (at E t.start) = ap packets sa in
           let f4 : c.session.count ≡ length t.places = t.count_is in
           let f5 : c.session.packets ≡ packets (at E t.start) = t.packets_are in
-          let jn : joined (E ++ e ∷ []) w.places ≡ c.session.bytes ++ payload e =
-          ap (joined (E ++ e ∷ [])) (k ∙ ap (λ (qs : List ℕ). length E ∷ qs) c.places_are) ∙ (joined_new E e s c.session.group t.start t.places t.open_by ∙ sym (ap (λ (bs : List ℕ). bs ++ payload e) t.bytes_are)) in
+          let jn : joined_at (E ++ e ∷ []) w.places ≡ c.session.bytes ++ payload e =
+          ap (joined_at (E ++ e ∷ [])) (k ∙ ap (λ (qs : List ℕ). length E ∷ qs) c.places_are) ∙ (joined_new E e s c.session.group t.start t.places t.open_by ∙ sym (ap (λ (bs : List ℕ). bs ++ payload e) t.bytes_are)) in
           let sz : size (at (E ++ e ∷ []) w.start) ≡ c.session.size = ap size sa ∙ sym t.size_is in
           record {
             session = c.session;
@@ -150,5 +150,5 @@ module _ (E : List Event) (e : Event) (s : Key) where
             continues = c.continues;
             is_last = omega arith;
             group_is = c.group_is;
-            bytes_are = w.bytes_are ∙ (ap (λ (n : ℕ). take n (joined (E ++ e ∷ []) w.places)) sz ∙ ap (take c.session.size) jn);
+            bytes_are = w.bytes_are ∙ (ap (λ (n : ℕ). take n (joined_at (E ++ e ∷ []) w.places)) sz ∙ ap (take c.session.size) jn);
           }

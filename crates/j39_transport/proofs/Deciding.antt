@@ -12,10 +12,10 @@ use Rattle.j39_transport.specs.Signals.{said_by}
 use Rattle.j39_transport.specs.Laws.{WholeOrNoneLaw}
 use Rattle.j39_transport.specs.Message.{MessageRecord}
 use Rattle.j39_transport.specs.Stands.{AreKept}
-use Rattle.j39_transport.specs.Steps.{SessionsRecord, answer, empty_state, state_after, state_without}
+use Rattle.j39_transport.specs.Steps.{OpenMessagesRecord, answer, empty_state, state_after, state_without}
 
 abbrev Stood : List Event → Type 0
-Stood E = (a : SessionsRecord) × AreKept E a
+Stood E = (a : OpenMessagesRecord) × AreKept E a
 
 -- a state that stands for E can be taken on by whatever events
 taken_on : (E es : List Event) → Stood E → Stood (E ++ es)

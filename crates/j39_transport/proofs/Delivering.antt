@@ -119,7 +119,7 @@ stays_closed m source own (RequestToSend size packets most pgn) now found h = ab
 stays_closed m source own (ClearToSend count next pgn) now found h = absurd h
 stays_closed m source own (Acknowledgment size packets pgn) now found h = absurd h
 stays_closed m source own (Abort reason pgn) now found h = refl
-stays_closed m source own (Packet k joined) now found h = refl
+stays_closed m source own (Packet k part) now found h = refl
 
 -- beside the session of a third
 record Aside (x : Reaction) : Type 0 where
@@ -137,7 +137,7 @@ says_aside m own idle (ClearToSend count next pgn) now found r l h n = absurd h
 says_aside m own idle (Acknowledgment size packets pgn) now found r l h n = absurd h
 says_aside m own idle (Abort reason pgn) now found r l h n = cond_both (is_from m.source r && pgn == r.message.group) _ _ Aside
     (λ t. record { no_ack = λ a. a; can_say = tt }) (λ t. record { no_ack = λ a. a; can_say = tt })
-says_aside m own idle (Packet k joined) now found r l h n = cond_both (is_from m.source r) _ _ Aside
+says_aside m own idle (Packet k part) now found r l h n = cond_both (is_from m.source r) _ _ Aside
     (λ t. absurd (both_ways _ (not_from m.source r n) t)) (λ t. record { no_ack = λ a. a; can_say = tt })
 
 record Replied (s : SenderRecord) (x : Reaction) (mine ds : List MessageRecord) : Type 0 where

@@ -28,7 +28,7 @@ unfolding hears cleared acknowledged aborted
 done_hears s None now e = e
 done_hears s (Some (BroadcastAnnounce size packets pgn)) now e = e
 done_hears s (Some (RequestToSend size packets most pgn)) now e = e
-done_hears s (Some (Packet k joined)) now e = e
+done_hears s (Some (Packet k part)) now e = e
 done_hears s (Some (ClearToSend count next pgn)) now e = cond_both (pgn == s.message.pgn) _ _ (λ (r : SenderRecord). r.state ≡ Done)
     (λ t. cond_both (is_waiting s.state) _ _ (λ (r : SenderRecord). r.state ≡ Done) (λ u. absurd (both_ways _ (ap is_waiting e) u)) (λ u. e))
     (λ t. e)
@@ -114,12 +114,12 @@ takes_next : (m : MessageRecord) (to last count now : ℕ) (found : Bool) (r : R
     ≡ goes_on now (record r { message = grown now (packet_data m.bytes (count + 1)) r.message; fresh = false })
 unfolding takes_signal takes_data takes_packet
 takes_next m to last count now found r h =
-    let joined : List ℕ = packet_data m.bytes (count + 1) in
+    let part : List ℕ = packet_data m.bytes (count + 1) in
     let a : is_from m.source r ≡ true = eq-eqb _ _ (sym h.part.is_of.source_is) in
     let c : r.message.count ≡ count = h.count_is in
     let n : (count + 1 == r.message.count + 1) ≡ true = eq-eqb _ _ (omega arith) in
-    ap (λ (b : Bool). cond b (takes_packet (count + 1) joined now r) (quiet (Some r))) a
-    ∙ ap (λ (b : Bool). cond b (goes_on now (record r { message = grown now joined r.message; fresh = false }))
+    ap (λ (b : Bool). cond b (takes_packet (count + 1) part now r) (quiet (Some r))) a
+    ∙ ap (λ (b : Bool). cond b (goes_on now (record r { message = grown now part r.message; fresh = false }))
     (cond (count + 1 == r.granted) (asks_again now r) (quiet (Some (record r { message = touched now r.message; fresh = false }))))) n
 
 more_of : (m : MessageRecord) (last count now : ℕ) (r : ReceptionRecord) → IsAt m last count r → IsOf m (grown now (packet_data m.bytes (count + 1)) r.message)

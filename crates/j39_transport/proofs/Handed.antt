@@ -8,8 +8,8 @@ use Rattle.j39_transport.specs.Frames.{group_of, source_of, destination_of, pack
 use Rattle.j39_transport.specs.Key.{Broadcast, Directed, is_key, key_between}
 use Rattle.j39_transport.specs.Protocol.{request_to_send, clear_to_send, acknowledgment, connection_abort, broadcast_announce}
 use Rattle.j39_transport.specs.Reception.{ReceptionRecord, Reaction, quiet, granted_at, grants, asks_again, begun, delivers_message, goes_on, takes_packet, is_from, is_taken, takes_request, takes_data, takes_abort, takes_signal, limit_of, takes_tick}
-use Rattle.j39_transport.specs.Receiving.{ReceiverRecord, BoxedReceiver, HearStep, Answer, Heard, Tick, answer_in, said_to, recv_step, RecvStep}
-use Rattle.j39_transport.specs.Received.{AreJoined, requested, passed, packed, IsReceived, AreReceived, StandsFor, WereHanded, HasHeard}
+use Rattle.j39_transport.specs.Receiving.{ReceiverRecord, BoxedReceiver, HearStep, ReceiverAnswer, Heard, Tick, answer_in, said_to, recv_step, RecvStep}
+use Rattle.j39_transport.specs.ReceiverStands.{AreJoined, requested, passed, packed, IsReceived, AreReceived, ReceiverStandsFor, WereHanded, HasHeard}
 use Rattle.j39_transport.specs.Session.{opened, grown}
 use Rattle.j39_transport.specs.Signals.{Signal, BroadcastAnnounce, RequestToSend, ClearToSend, Acknowledgment, Abort, Packet, said_between, said_by, packet_in, control_in, request_in, broadcast_in}
 use Rattle.j39_transport.proofs.FrameFacts.{message_facts}
@@ -23,7 +23,7 @@ Agrees (Some (RequestToSend size packets most pgn)) = packets ≡ packets_for si
 Agrees (Some (ClearToSend count next pgn)) = Unit {0}
 Agrees (Some (Acknowledgment size packets pgn)) = Unit {0}
 Agrees (Some (Abort reason pgn)) = Unit {0}
-Agrees (Some (Packet number joined)) = Unit {0}
+Agrees (Some (Packet number part)) = Unit {0}
 
 said_agrees : (s d : ℕ) (f : FrameRecord) → Agrees (said_between s d f)
 unfolding said_between said_by packet_in control_in request_in broadcast_in
@@ -133,7 +133,7 @@ fair_signal own E f (Some r) source (Some (Packet n more)) now found s h = cond_
     (λ t. fair_packet own E f r n more now h (ap (λ (k : ℕ). said_between k own f) (sym (eqb-true source r.message.source t)) ∙ s))
     (λ t. fair_quiet own _ (Some r) (received_on own E f (Some r) h))
 
-fair_frame : (E : List FrameRecord) (r : ReceiverRecord) (f : FrameRecord) (now : ℕ) (found : Bool) → StandsFor E r
+fair_frame : (E : List FrameRecord) (r : ReceiverRecord) (f : FrameRecord) (now : ℕ) (found : Bool) → ReceiverStandsFor E r
     → Fair r.own (E ++ f ∷ []) (takes_signal (Directed (source_of f.id) r.own) (said_to r.own f) now found r.session)
 unfolding said_to takes_signal
 fair_frame E r f now found h = cond_both (nat_lt (source_of f.id) null_address) _ _
@@ -149,22 +149,22 @@ fair_tick own E (Some r) now h = cond_both (nat_lt (r.message.last + limit_of r)
 -- ---- the receiver
 
 -- what a frame delivers was handed in
-pub were_handed : (E : List FrameRecord) (r : ReceiverRecord) (f : FrameRecord) (now : ℕ) (found : Bool) (answer : Answer)
-    → answer ≡ answer_in (recv_step r (Heard f) now found) → StandsFor E r → WereHanded r.own (E ++ f ∷ []) answer.delivers
+pub were_handed : (E : List FrameRecord) (r : ReceiverRecord) (f : FrameRecord) (now : ℕ) (found : Bool) (answer : ReceiverAnswer)
+    → answer ≡ answer_in (recv_step r (Heard f) now found) → ReceiverStandsFor E r → WereHanded r.own (E ++ f ∷ []) answer.delivers
 unfolding recv_step
-were_handed E r f now found answer e h = subst (λ (a : Answer). WereHanded r.own (E ++ f ∷ []) a.delivers) (sym e) (fair_frame E r f now found h).delivers
+were_handed E r f now found answer e h = subst (λ (a : ReceiverAnswer). WereHanded r.own (E ++ f ∷ []) a.delivers) (sym e) (fair_frame E r f now found h).delivers
 
 -- a receiver that was handed a frame stands for one frame more
-pub has_heard : (old : BoxedReceiver) (f : FrameRecord) (now : ℕ) (answer : Answer) (new : BoxedReceiver)
+pub has_heard : (old : BoxedReceiver) (f : FrameRecord) (now : ℕ) (answer : ReceiverAnswer) (new : BoxedReceiver)
     → HearStep old f now answer new → HasHeard old f now answer new
 unfolding recv_step
 has_heard old f now answer new s = record {
   takes = s;
-  stands = λ E h. subst (StandsFor (E ++ f ∷ [])) (sym s.step.after) (fair_frame E old.state f now s.step.found h).session;
+  stands = λ E h. subst (ReceiverStandsFor (E ++ f ∷ [])) (sym s.step.after) (fair_frame E old.state f now s.step.found h).session;
 }
 
 -- one that let time pass stands for the same frames
-pub stands_still : (E : List FrameRecord) (old : ReceiverRecord) (now : ℕ) (answer : Answer) (new : ReceiverRecord)
-    → RecvStep old Tick now answer new → StandsFor E old → StandsFor E new
+pub stands_still : (E : List FrameRecord) (old : ReceiverRecord) (now : ℕ) (answer : ReceiverAnswer) (new : ReceiverRecord)
+    → RecvStep old Tick now answer new → ReceiverStandsFor E old → ReceiverStandsFor E new
 unfolding recv_step
-stands_still E old now answer new s h = subst (StandsFor E) (sym s.after) (fair_tick old.own E old.session now h).session
+stands_still E old now answer new s h = subst (ReceiverStandsFor E) (sym s.after) (fair_tick old.own E old.session now h).session

@@ -5,11 +5,11 @@ use Rattle.j39_frame.specs.Frame.{FrameRecord}
 use Rattle.j39_transport.specs.Frames.{source_of}
 use Rattle.j39_transport.specs.Key.{Directed}
 use Rattle.j39_transport.specs.Reception.{ReceptionRecord, takes_signal}
-use Rattle.j39_transport.specs.Receiving.{BoxedReceiver, Answer, Heard, HearStep, RecvResult, answer_in, recv_step, result_of, said_to}
+use Rattle.j39_transport.specs.Receiving.{BoxedReceiver, ReceiverAnswer, Heard, HearStep, RecvResult, answer_in, recv_step, result_of, said_to}
 use Rattle.j39_transport.specs.ShownReceiver.{found_in, has_box, reacted}
 use Rattle.j39_transport.specs.Signals.{Signal}
-use Rattle.j39_transport.specs.declared.receiving.Move.{Move}
-use Rattle.j39_transport.specs.declared.receiving.Move.TheVariants.{Quiet, Says, Refused, Delivers}
+use Rattle.j39_transport.specs.declared.receiver_events.Move.{Move}
+use Rattle.j39_transport.specs.declared.receiver_events.Move.TheVariants.{Quiet, Says, Refused, Delivers}
 
 session_is : (done : Move) (o lent : Option ReceptionRecord) → o ≡ (reacted done o lent).session
 session_is Quiet o lent = refl
@@ -34,11 +34,11 @@ module _ (f : FrameRecord) (now own source : ℕ) (signal : Option Signal) (o le
   unfolding recv_step
   stepped = ap (result_of own source) does ∙ (λ i. result_of own (from i) (takes_signal (Directed (from i) own) (says i) now (found_in done) o))
 
-  answered : (answer : Answer) → answer ≡ answer_in (result_of own source (reacted done None left))
+  answered : (answer : ReceiverAnswer) → answer ≡ answer_in (result_of own source (reacted done None left))
       → answer ≡ answer_in (recv_step (record { own = own; session = o }) (Heard f) now (found_in done))
   answered answer e = e ∙ (answer_is own source done p left ∙ ap answer_in stepped)
 
-  pub hear_step : (answer : Answer) → answer ≡ answer_in (result_of own source (reacted done None left))
+  pub hear_step : (answer : ReceiverAnswer) → answer ≡ answer_in (result_of own source (reacted done None left))
       → (has_box o lent ≡ true → found_in done ≡ true) → has_box p left ≡ (is_some p || has_box o lent)
       → HearStep (boxed own o lent) f now answer (boxed own p left)
   hear_step answer e finds box = record {

@@ -3,12 +3,12 @@ use Rattle.std.proofs.Common.{◌≡◌, ℕ, suc, if◌then◌else◌, ◌+◌,
 use Rattle.std.proofs.lemmas.Bool.{cond_both, cond-true, cond-false, eqb-false, cases_lt, cases_order, cases_Bool, and_parts, or_parts, or_from, or_left, false_from_ne_true, both_ways, and_from}
 use Rattle.j39_transport.specs.Key.{Key, limit}
 use Rattle.j39_transport.specs.Events.{Event, at, announces, sends, grants, ends, rivals, payload, size, packets, group, stamp, belongs, is_numbered}
-use Rattle.j39_transport.specs.Assembly.{last_of, AreSuccessive, count_below, Runs, joined, OpenBy}
+use Rattle.j39_transport.specs.Assembly.{last_of, AreSuccessive, count_below, Runs, joined_at, OpenBy}
 use Rattle.j39_transport.proofs.Chains.{past_belongs, belongs_within, Links-within, Open-unique}
-use Rattle.j39_transport.proofs.Agreeing.{at_before, at_new, announced_within, agree_push, agree_less, joined-same}
+use Rattle.j39_transport.proofs.Agreeing.{at_before, at_new, announced_within, agree_push, agree_less, joined_at-same}
 use Rattle.j39_transport.specs.EventSteps.{opened, last_after, touched, grown, is_late, is_over, on_other}
 use Rattle.j39_transport.specs.Session.{SessionRecord}
-use Rattle.j39_transport.specs.Stands.{IsSession, IsAged, StandsFor}
+use Rattle.j39_transport.specs.Stands.{IsSession, IsAged, IsOpenOrNone}
 use Rattle.j39_transport.proofs.OneMore.{place_cases, new_test, old_test, grows, count_new, count_old, shorter, Fits, longer_same, longer_more, open_new, began_before}
 
 module _ (E : List Event) (e : Event) (s : Key) where
@@ -146,17 +146,17 @@ module _ (E : List Event) (e : Event) (s : Key) where
         packets_are = h.packets_are ∙ sym (ap packets (at_before E e h.start l));
         size_is = h.size_is ∙ sym (ap size (at_before E e h.start l));
         count_is = h.count_is;
-        bytes_are = h.bytes_are ∙ sym (joined-same E (E ++ e ∷ []) s h.start h.places h.open_by.links (agree_less _ w (agree_push E e)));
+        bytes_are = h.bytes_are ∙ sym (joined_at-same E (E ++ e ∷ []) s h.start h.places h.open_by.links (agree_less _ w (agree_push E e)));
         recent = m.recent;
         recent_stands = m.recent_stands;
         none_since = m.none_since;
         last_is = m.last_is;
       }
 
-  pub joined_new : (g p0 : ℕ) (ps : List ℕ) → OpenBy E s g p0 ps → joined (E ++ e ∷ []) (length E ∷ ps) ≡ joined E ps ++ payload e
+  pub joined_new : (g p0 : ℕ) (ps : List ℕ) → OpenBy E s g p0 ps → joined_at (E ++ e ∷ []) (length E ∷ ps) ≡ joined_at E ps ++ payload e
   joined_new g p0 ps h =
       let w : last_of p0 ps < length E = Links-within E s p0 ps h.announced h.links in
-      let i : joined (E ++ e ∷ []) ps ≡ joined E ps = joined-same E (E ++ e ∷ []) s p0 ps h.links (agree_less _ w (agree_push E e)) in
+      let i : joined_at (E ++ e ∷ []) ps ≡ joined_at E ps = joined_at-same E (E ++ e ∷ []) s p0 ps h.links (agree_less _ w (agree_push E e)) in
       let j : at (E ++ e ∷ []) (length E) ≡ e = at_new E e in
       cc
 
@@ -185,7 +185,7 @@ module _ (E : List Event) (e : Event) (s : Key) where
 
   -- after the last packet nothing is open
   completed_stands : (x : SessionRecord) → IsSession E s x → announces s e ≡ false
-      → is_numbered s (suc x.count) e ≡ true → (suc x.count == x.packets) ≡ true → StandsFor (E ++ e ∷ []) s None
+      → is_numbered s (suc x.count) e ≡ true → (suc x.count == x.packets) ≡ true → IsOpenOrNone (E ++ e ∷ []) s None
   completed_stands x h a n m g p0 ps k =
       let c = shorter E e s g p0 ps (began_before E e s g p0 ps a k) k in
       let u = Open-unique E s g x.group p0 h.start c.before h.places c.open_by h.open_by in
@@ -202,7 +202,7 @@ module _ (E : List Event) (e : Event) (s : Key) where
       ]
 
   -- nor after an event that ends it
-  over_stands : (x : SessionRecord) → IsSession E s x → announces s e ≡ false → is_over s e x ≡ true → StandsFor (E ++ e ∷ []) s None
+  over_stands : (x : SessionRecord) → IsSession E s x → announces s e ≡ false → is_over s e x ≡ true → IsOpenOrNone (E ++ e ∷ []) s None
   over_stands x h a o g p0 ps k =
       let c = shorter E e s g p0 ps (began_before E e s g p0 ps a k) k in
       let u = Open-unique E s g x.group p0 h.start c.before h.places c.open_by h.open_by in
@@ -210,17 +210,17 @@ module _ (E : List Event) (e : Event) (s : Key) where
       both_ways _ (over_not x h p0 u.one_start r) o
 
   -- (b) one event more
-  abbrev pub YoungIn : (o : Option SessionRecord) → StandsFor E s o → Type 0
+  abbrev pub YoungIn : (o : Option SessionRecord) → IsOpenOrNone E s o → Type 0
   YoungIn None h = Unit {0}
   YoungIn (Some x) h = Young h.start
 
-  pub other_stands : (o : Option SessionRecord) (h : StandsFor E s o) → announces s e ≡ false → YoungIn o h → StandsFor (E ++ e ∷ []) s (on_other s e o)
+  pub other_stands : (o : Option SessionRecord) (h : IsOpenOrNone E s o) → announces s e ≡ false → YoungIn o h → IsOpenOrNone (E ++ e ∷ []) s (on_other s e o)
   other_stands None h a y = λ g p0 ps k. h g p0 (shorter E e s g p0 ps (began_before E e s g p0 ps a k) k).before (shorter E e s g p0 ps (began_before E e s g p0 ps a k) k).open_by
   other_stands (Some x) h a y =
-      cond_both (is_over s e x) _ _ (StandsFor (E ++ e ∷ []) s)
+      cond_both (is_over s e x) _ _ (IsOpenOrNone (E ++ e ∷ []) s)
       (λ o. over_stands x h a o)
-      (λ o. cond_both (is_numbered s (suc x.count) e) _ _ (StandsFor (E ++ e ∷ []) s)
-      (λ n. cond_both (suc x.count == x.packets) _ _ (StandsFor (E ++ e ∷ []) s)
+      (λ o. cond_both (is_numbered s (suc x.count) e) _ _ (IsOpenOrNone (E ++ e ∷ []) s)
+      (λ n. cond_both (suc x.count == x.packets) _ _ (IsOpenOrNone (E ++ e ∷ []) s)
       (λ m. completed_stands x h a n m)
       (λ m. grown_stands x h a o n m y))
       (λ n. touched_stands x h a o n y))

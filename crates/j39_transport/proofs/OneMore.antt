@@ -8,10 +8,10 @@ use Rattle.j39_transport.specs.Assembly.{IsFirstAfter, last_of, Links, AreSucces
 use Rattle.j39_transport.proofs.FrameFacts.{announces-packets}
 use Rattle.j39_transport.proofs.Chains.{Links-within}
 use Rattle.j39_transport.proofs.Agreeing.{at_before, at_new, announced_within, past_sends, agree_push, agree_pop, agree_less, Links-same, Runs-same, Runs-less, count_same}
-use Rattle.j39_transport.specs.Stands.{StandsFor}
+use Rattle.j39_transport.specs.Stands.{IsOpenOrNone}
 
 -- (a) nothing is open at first
-pub stands_new : (s : Key) → StandsFor [] s None
+pub stands_new : (s : Key) → IsOpenOrNone [] s None
 stands_new s g p0 ps h = let l : p0 < 0 = announced_within [] s p0 h.announced in omega arith
 
 -- ---- one event more

@@ -7,7 +7,7 @@ use Rattle.j39_frame.specs.Frame.{FrameRecord}
 use Rattle.j39_transport.specs.Message.{MessageRecord, packets_of, as_broadcast}
 use Rattle.j39_transport.specs.Cutting.{without_stamp, at_moment, cut_frame, first_frames}
 use Rattle.j39_transport.specs.Protocol.{gap}
-use Rattle.j39_transport.specs.Broadcasting.{next_moment, AreSpaced, Answer, Send, WaitUntil, Done, answer_after, with_answer, BroadcastRecord, HasSent}
+use Rattle.j39_transport.specs.Broadcasting.{next_moment, AreSpaced, PollAnswer, Send, WaitUntil, Done, answer_after, with_answer, BroadcastRecord, HasSent}
 use Rattle.j39_transport.specs.Polling.{Polled, poll_step, PollStep}
 
 spaced_more : (sent : List FrameRecord) (f : FrameRecord) → AreSpaced sent → next_moment sent ≤ f.stamp → AreSpaced (sent ++ f ∷ [])
@@ -73,13 +73,13 @@ stays b now =
     cond_both (nat_lt (packets_of b.message) b.count) _ _ (λ (r : Polled). r.after.message ≡ b.message) (λ t. refl)
     (λ t. cond_both (nat_lt now b.due) _ _ (λ (r : Polled). r.after.message ≡ b.message) (λ u. refl) (λ u. refl))
 
-pub has_sent : (b new : BroadcastRecord) (now : ℕ) (answer : Answer) (sent : List FrameRecord) → PollStep b now answer new → HasSent b sent → HasSent new (with_answer sent now answer)
+pub has_sent : (b new : BroadcastRecord) (now : ℕ) (answer : PollAnswer) (sent : List FrameRecord) → PollStep b now answer new → HasSent b sent → HasSent new (with_answer sent now answer)
 has_sent b new now answer sent s h =
     subst (λ (n : BroadcastRecord). HasSent n (with_answer sent now answer)) (sym s.after)
-    (subst (λ (a : Answer). HasSent (poll_step b now).after (with_answer sent now a)) (sym s.answers) (goes b sent now h))
+    (subst (λ (a : PollAnswer). HasSent (poll_step b now).after (with_answer sent now a)) (sym s.answers) (goes b sent now h))
 
-pub is_answer : (b new : BroadcastRecord) (now : ℕ) (answer : Answer) (sent : List FrameRecord) → PollStep b now answer new → HasSent b sent → answer ≡ answer_after b.message sent now
+pub is_answer : (b new : BroadcastRecord) (now : ℕ) (answer : PollAnswer) (sent : List FrameRecord) → PollStep b now answer new → HasSent b sent → answer ≡ answer_after b.message sent now
 is_answer b new now answer sent s h = s.answers ∙ answers b sent now h
 
-pub same_message : (b new : BroadcastRecord) (now : ℕ) (answer : Answer) → PollStep b now answer new → new.message ≡ b.message
+pub same_message : (b new : BroadcastRecord) (now : ℕ) (answer : PollAnswer) → PollStep b now answer new → new.message ≡ b.message
 same_message b new now answer s = ap (λ (n : BroadcastRecord). n.message) s.after ∙ stays b now

@@ -44,7 +44,7 @@ Facts f (Some (RequestToSend size packets most pgn)) = IsAnnouncing (Directed (s
 Facts f (Some (ClearToSend count next pgn)) = IsControl clear_to_send (destination_of f.id) (source_of f.id) pgn f
 Facts f (Some (Acknowledgment size packets pgn)) = IsControl acknowledgment (destination_of f.id) (source_of f.id) pgn f
 Facts f (Some (Abort reason pgn)) = IsControl connection_abort (destination_of f.id) (source_of f.id) pgn f
-Facts f (Some (Packet number joined)) = IsPacking (key_of f) number joined f
+Facts f (Some (Packet number part)) = IsPacking (key_of f) number part f
 
 -- ---- by the group
 

@@ -68,8 +68,8 @@ open_asks m r now l h = cond_both (r.asks == 2) _ _ (Open m)
     (λ t. record { session_is = tt; delivers_is = refl; no_ack = λ a. a; can_say = pgn_fits m r.message.group l h.is_of.group_is })
     (λ t. open_grants m (record r { asks = r.asks + 1 }) now l h)
 
-pub one_more : (m : MessageRecord) (x : SessionRecord) (joined : List ℕ) (now : ℕ) → IsPart m x → joined ≡ packet_data m.bytes (x.count + 1) → IsOf m (grown now joined x)
-one_more m x joined now h e =
+pub one_more : (m : MessageRecord) (x : SessionRecord) (part : List ℕ) (now : ℕ) → IsPart m x → part ≡ packet_data m.bytes (x.count + 1) → IsOf m (grown now part x)
+one_more m x part now h e =
     let f : x.count < x.packets = h.lacks in
     let p : x.packets ≡ packets_of m = h.is_of.packets_is in
     let b : 7 * x.count ≤ length m.bytes = omega arith in
@@ -105,11 +105,11 @@ goes_on_case m r now l h = cond_both (r.message.count == r.message.packets) _ _ 
     let o : IsPart m r.message = record { is_of = h; lacks = f } in
     inl (cond_both (r.message.count == r.granted) _ _ (Open m) (λ u. open_grants m r now l o) (λ u. open_quiet m (Some r) o)))
 
-packet_case : (m : MessageRecord) (r : ReceptionRecord) (k : ℕ) (joined : List ℕ) (now : ℕ) → IsLong m → IsPart m r.message → joined ≡ packet_data m.bytes k
-    → Open m (takes_packet k joined now r) ⊎ Closed m (takes_packet k joined now r)
+packet_case : (m : MessageRecord) (r : ReceptionRecord) (k : ℕ) (part : List ℕ) (now : ℕ) → IsLong m → IsPart m r.message → part ≡ packet_data m.bytes k
+    → Open m (takes_packet k part now r) ⊎ Closed m (takes_packet k part now r)
 unfolding takes_packet
-packet_case m r k joined now l h s = cond_both (k == r.message.count + 1) _ _ (λ (x : Reaction). Open m x ⊎ Closed m x)
-    (λ t. goes_on_case m (record r { message = grown now joined r.message; fresh = false }) now l (one_more m r.message joined now h (s ∙ ap (packet_data m.bytes) (eqb-true _ _ t))))
+packet_case m r k part now l h s = cond_both (k == r.message.count + 1) _ _ (λ (x : Reaction). Open m x ⊎ Closed m x)
+    (λ t. goes_on_case m (record r { message = grown now part r.message; fresh = false }) now l (one_more m r.message part now h (s ∙ ap (packet_data m.bytes) (eqb-true _ _ t))))
     (λ t. inl (cond_both (k == r.granted) _ _ (Open m)
     (λ u. open_asks m r now l h)
     (λ u. open_quiet m (Some (record r { message = touched now r.message; fresh = false })) (touched_on m r.message now h))))
@@ -144,9 +144,9 @@ signal_case m own idle o (ClearToSend count next pgn) now found l h s = absurd s
 signal_case m own idle o (Acknowledgment size packets pgn) now found l h s = absurd s
 signal_case m own idle None (Abort reason pgn) now found l h s = inl (open_quiet m None tt)
 signal_case m own idle (Some r) (Abort reason pgn) now found l h s = inl (cond_both (is_from m.source r && pgn == r.message.group) _ _ (Open m) (λ t. open_quiet m None tt) (λ t. open_quiet m (Some r) h))
-signal_case m own idle None (Packet k joined) now found l h s = inl (open_quiet m None tt)
-signal_case m own idle (Some r) (Packet k joined) now found l h s = cond_both (is_from m.source r) _ _ (λ (x : Reaction). Open m x ⊎ Closed m x)
-    (λ t. packet_case m r k joined now l h s) (λ t. inl (open_quiet m (Some r) h))
+signal_case m own idle None (Packet k part) now found l h s = inl (open_quiet m None tt)
+signal_case m own idle (Some r) (Packet k part) now found l h s = cond_both (is_from m.source r) _ _ (λ (x : Reaction). Open m x ⊎ Closed m x)
+    (λ t. packet_case m r k part now l h s) (λ t. inl (open_quiet m (Some r) h))
 
 pub tick_case : (m : MessageRecord) (o : Option ReceptionRecord) (now : ℕ) → IsLong m → SessionOf m o → Open m (takes_tick now o)
 unfolding takes_tick

@@ -133,7 +133,7 @@ unfolding hears acknowledged aborted
 heard_sound m s None now h = h
 heard_sound m s (Some (BroadcastAnnounce size packets pgn)) now h = h
 heard_sound m s (Some (RequestToSend size packets most pgn)) now h = h
-heard_sound m s (Some (Packet k joined)) now h = h
+heard_sound m s (Some (Packet k part)) now h = h
 heard_sound m s (Some (ClearToSend count p pgn)) now h = cond_both (pgn == s.message.pgn) _ _ (IsSound m) (λ t. cleared_sound m s count p now h) (λ t. h)
 heard_sound m s (Some (Acknowledgment size packets pgn)) now h = cond_both (pgn == s.message.pgn) _ _ (IsSound m)
     (λ t. cond_both (is_waiting s.state && size == length s.message.bytes && packets == packets_of s.message && s.highest == packets_of s.message) _ _ (IsSound m)
@@ -187,10 +187,10 @@ unfolding goes_on delivers_message
 few_goes_on now r h = cond_both (r.message.count == r.message.packets) _ _ FewIn (λ t. tt)
     (λ t. cond_both (r.message.count == r.granted) _ _ FewIn (λ u. few_grants now r h) (λ u. h))
 
-few_packet : (number : ℕ) (joined : List ℕ) (now : ℕ) (r : ReceptionRecord) → r.asks ≤ 2 → FewIn (takes_packet number joined now r)
+few_packet : (number : ℕ) (part : List ℕ) (now : ℕ) (r : ReceptionRecord) → r.asks ≤ 2 → FewIn (takes_packet number part now r)
 unfolding takes_packet
-few_packet number joined now r h = cond_both (number == r.message.count + 1) _ _ FewIn
-    (λ t. few_goes_on now (record r { message = grown now joined r.message; fresh = false }) h)
+few_packet number part now r h = cond_both (number == r.message.count + 1) _ _ FewIn
+    (λ t. few_goes_on now (record r { message = grown now part r.message; fresh = false }) h)
     (λ t. cond_both (number == r.granted) _ _ FewIn (λ u. few_asks now r h) (λ u. h))
 
 few_request : (x : SessionRecord) (most now : ℕ) (found : Bool) (o : Option ReceptionRecord) → AsksFew o → FewIn (takes_request x most now found o)
@@ -207,8 +207,8 @@ few_signal k (Some (ClearToSend count next pgn)) now found o h = h
 few_signal k (Some (Acknowledgment size packets pgn)) now found o h = h
 few_signal k (Some (Abort reason pgn)) now found None h = h
 few_signal k (Some (Abort reason pgn)) now found (Some r) h = cond_both (is_from (sender k) r && pgn == r.message.group) _ _ FewIn (λ t. tt) (λ t. h)
-few_signal k (Some (Packet number joined)) now found None h = h
-few_signal k (Some (Packet number joined)) now found (Some r) h = cond_both (is_from (sender k) r) _ _ FewIn (λ t. few_packet number joined now r h) (λ t. h)
+few_signal k (Some (Packet number part)) now found None h = h
+few_signal k (Some (Packet number part)) now found (Some r) h = cond_both (is_from (sender k) r) _ _ FewIn (λ t. few_packet number part now r h) (λ t. h)
 
 few_tick : (now : ℕ) (o : Option ReceptionRecord) → AsksFew o → FewIn (takes_tick now o)
 unfolding takes_tick

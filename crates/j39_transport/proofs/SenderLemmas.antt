@@ -24,7 +24,7 @@ is_idle (Failed reason) = false
 abbrev pub IsOwn : MessageRecord → Bool → Signal → Type 0
 IsOwn m idle (BroadcastAnnounce size packets pgn) = ⊥
 IsOwn m idle (RequestToSend size packets most pgn) = (idle ≡ true) × (size ≡ length m.bytes) × (packets ≡ packets_of m) × (pgn ≡ m.pgn)
-IsOwn m idle (Packet k joined) = joined ≡ packet_data m.bytes k
+IsOwn m idle (Packet k part) = part ≡ packet_data m.bytes k
 IsOwn m idle (Abort reason pgn) = pgn ≡ m.pgn
 IsOwn m idle (ClearToSend count next pgn) = ⊥
 IsOwn m idle (Acknowledgment size packets pgn) = ⊥
@@ -77,7 +77,7 @@ own_can_say m idle (RequestToSend size packets most pgn) l h =
       pgn_fits = pgn_fits m pgn l h.3;
       agrees = (λ i. agree (h.1 i) (h.2 i) (h.3 i)) ∙ agrees m l;
     }
-own_can_say m idle (Packet k joined) l h = ap (λ (b : List ℕ). length b) h ∙ packet_length m.bytes k
+own_can_say m idle (Packet k part) l h = ap (λ (b : List ℕ). length b) h ∙ packet_length m.bytes k
 own_can_say m idle (Abort reason pgn) l h = pgn_fits m pgn l h
 own_can_say m idle (ClearToSend count next pgn) l h = absurd h
 own_can_say m idle (Acknowledgment size packets pgn) l h = absurd h
@@ -88,7 +88,7 @@ abbrev pub IsAck : Option Signal → Type 0
 IsAck None = ⊥
 IsAck (Some (BroadcastAnnounce size packets pgn)) = ⊥
 IsAck (Some (RequestToSend size packets most pgn)) = ⊥
-IsAck (Some (Packet k joined)) = ⊥
+IsAck (Some (Packet k part)) = ⊥
 IsAck (Some (Abort reason pgn)) = ⊥
 IsAck (Some (ClearToSend count next pgn)) = ⊥
 IsAck (Some (Acknowledgment size packets pgn)) = Unit {0}
@@ -129,7 +129,7 @@ hears_signal : (s : SenderRecord) (a : Signal) (now : ℕ) → Hears s (IsAck (S
 unfolding hears
 hears_signal s (BroadcastAnnounce size packets pgn) now = same s _
 hears_signal s (RequestToSend size packets most pgn) now = same s _
-hears_signal s (Packet k joined) now = same s _
+hears_signal s (Packet k part) now = same s _
 hears_signal s (ClearToSend count p pgn) now = cond_both (pgn == s.message.pgn) _ _ (Hears s ⊥) (λ t. hears_cts s count p now) (λ t. same s ⊥)
 hears_signal s (Acknowledgment size packets pgn) now = cond_both (pgn == s.message.pgn) _ _ (Hears s (Unit {0})) (λ t. hears_ack s size packets) (λ t. same s _)
 hears_signal s (Abort reason pgn) now = cond_both (pgn == s.message.pgn) _ _ (Hears s ⊥) (λ t. hears_abort s reason) (λ t. same s ⊥)

@@ -30,7 +30,7 @@ CanSay (RequestToSend size packets most pgn) = IsRequest size packets pgn
 CanSay (ClearToSend count next pgn) = pgn < 16777216
 CanSay (Acknowledgment size packets pgn) = (size < 65536) × (pgn < 16777216)
 CanSay (Abort reason pgn) = pgn < 16777216
-CanSay (Packet number joined) = length joined ≡ 7
+CanSay (Packet number part) = length part ≡ 7
 
 -- ---- where it goes
 
@@ -43,7 +43,7 @@ eight (RequestToSend size packets most pgn) c = refl
 eight (ClearToSend count next pgn) c = refl
 eight (Acknowledgment size packets pgn) c = refl
 eight (Abort reason pgn) c = refl
-eight (Packet number joined) c = ap suc c
+eight (Packet number part) c = ap suc c
 
 goes_out : (now s d : ℕ) (a : Signal) → s < 256 → d < 256 → CanSay a → goes (group_with a) s d (frame_of now s d a) ≡ true
 unfolding written
@@ -52,7 +52,7 @@ goes_out now s d (RequestToSend size packets most pgn) h k c = goes_there _ s d 
 goes_out now s d (ClearToSend count next pgn) h k c = goes_there _ s d now _ is_control_group h k refl
 goes_out now s d (Acknowledgment size packets pgn) h k c = goes_there _ s d now _ is_control_group h k refl
 goes_out now s d (Abort reason pgn) h k c = goes_there _ s d now _ is_control_group h k refl
-goes_out now s d (Packet number joined) h k c = goes_there _ s d now _ is_data_group h k (ap suc c)
+goes_out now s d (Packet number part) h k c = goes_there _ s d now _ is_data_group h k (ap suc c)
 
 -- ---- what it says
 
@@ -108,14 +108,14 @@ control_back now s d (ClearToSend count next pgn) g h k c = ap (λ (p : ℕ). So
 control_back now s d (Acknowledgment size packets pgn) g h k c =
     λ i. Some (Acknowledgment (size_back acknowledgment size packets filler pgn c.0 i) packets (pgn_back acknowledgment size packets filler pgn c.1 i))
 control_back now s d (Abort reason pgn) g h k c = ap (λ (p : ℕ). Some (Abort reason p)) (short_pgn_back connection_abort reason filler filler filler pgn c)
-control_back now s d (Packet number joined) g h k c = absurd (omega (arith, g))
+control_back now s d (Packet number part) g h k c = absurd (omega (arith, g))
 
-packet_back : (now s d number : ℕ) (joined : List ℕ) → s < 254 → d < 254 → CanSay (Packet number joined) → packet_in (frame_of now s d (Packet number joined)) ≡ Some (Packet number joined)
+packet_back : (now s d number : ℕ) (part : List ℕ) → s < 254 → d < 254 → CanSay (Packet number part) → packet_in (frame_of now s d (Packet number part)) ≡ Some (Packet number part)
 unfolding packet_in written
-packet_back now s d number joined h k c =
-    let f : FrameRecord = frame_of now s d (Packet number joined) in
-    let q : is_key (Directed (source_of f.id) (destination_of f.id)) ≡ true = pair_named transport_data_group s d f (goes_out now s d (Packet number joined) (omega arith) (omega arith) c) h k in
-    ap (λ (b : Bool). cond b (Some (Packet number joined)) None) (ap is_key (key_is (Directed (source_of f.id) (destination_of f.id)) q) ∙ q)
+packet_back now s d number part h k c =
+    let f : FrameRecord = frame_of now s d (Packet number part) in
+    let q : is_key (Directed (source_of f.id) (destination_of f.id)) ≡ true = pair_named transport_data_group s d f (goes_out now s d (Packet number part) (omega arith) (omega arith) c) h k in
+    ap (λ (b : Bool). cond b (Some (Packet number part)) None) (ap is_key (key_is (Directed (source_of f.id) (destination_of f.id)) q) ∙ q)
 
 read_back : (now s d : ℕ) (a : Signal) → s < 254 → d < 254 → CanSay a → said_between s d (frame_of now s d a) ≡ Some a
 read_back now s d a h k c = go a c (goes_out now s d a (omega arith) (omega arith) c)
@@ -126,7 +126,7 @@ read_back now s d a h k c = go a c (goes_out now s d a (omega arith) (omega arit
     go (ClearToSend count next pgn) c e = of_control s d _ e ∙ control_back now s d (ClearToSend count next pgn) refl h k c
     go (Acknowledgment size packets pgn) c e = of_control s d _ e ∙ control_back now s d (Acknowledgment size packets pgn) refl h k c
     go (Abort reason pgn) c e = of_control s d _ e ∙ control_back now s d (Abort reason pgn) refl h k c
-    go (Packet number joined) c e = of_data s d _ e ∙ packet_back now s d number joined h k c
+    go (Packet number part) c e = of_data s d _ e ∙ packet_back now s d number part h k c
 
 from_is : (now s d : ℕ) (a : Signal) → s < 256 → d < 256 → CanSay a → source_of (frame_of now s d a).id ≡ s
 from_is now s d a h k c = (goes_parts (group_with a) s d (frame_of now s d a) (goes_out now s d a h k c)).1

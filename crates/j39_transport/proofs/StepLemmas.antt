@@ -14,7 +14,7 @@ use Rattle.j39_transport.specs.Stands.{AreKept}
 use Rattle.j39_transport.specs.Session.{SessionRecord}
 use Rattle.j39_transport.specs.Places.{Places, at, is_of, find, forgotten, without}
 use Rattle.j39_transport.specs.Signals.{Signal, BroadcastAnnounce, RequestToSend, ClearToSend, Acknowledgment, Abort, Packet, said_by}
-use Rattle.j39_transport.specs.Steps.{SessionsRecord, after_packet, key_of, packed, granted, closed, finished, with_place, state_after, state_without, without_broadcast, room}
+use Rattle.j39_transport.specs.Steps.{OpenMessagesRecord, after_packet, key_of, packed, granted, closed, finished, with_place, state_after, state_without, without_broadcast, room}
 use Rattle.j39_transport.specs.Session as sessions
 use Rattle.j39_transport.proofs.FrameFacts.{announcement_facts, packet_facts, sends-others}
 use Rattle.j39_transport.proofs.ReadLemmas.{IsControl, IsPacking, Facts, read_is}
@@ -88,14 +88,14 @@ both_closed s d g t u =
     ∙ (with_once d s (closed g) (map (on_pair s d (closed g)) t) (once_closed d s s d g t (once_of t u d s)) ∙ map_twice (on_pair s d (closed g)) (on_pair d s (closed g)) t)
 
 -- the directed messages after a packet
-directed_packet : (f : FrameRecord) (k : Key) (n : ℕ) (bs : List ℕ) (a : SessionsRecord) → IsPacking k n bs f → Apart a.directed → (after_packet a f.stamp k n bs).directed ≡ directed_step (Frame f) a.directed
+directed_packet : (f : FrameRecord) (k : Key) (n : ℕ) (bs : List ℕ) (a : OpenMessagesRecord) → IsPacking k n bs f → Apart a.directed → (after_packet a f.stamp k n bs).directed ≡ directed_step (Frame f) a.directed
 directed_packet f (Broadcast s) n bs a h u = unchanged f a.directed (packet_no_announcement (Broadcast s) _ f h.packs_it) (packs_other s f h.packs_it)
 directed_packet f (Directed s d) n bs a h u =
     (λ i. with_place (find s d a.directed) (packed directed_limit (h.number_is i) (h.data_are i) f.stamp) a.directed)
     ∙ one_change f s d (packed directed_limit (slice_index f.bytes 0) (drop 1 f.bytes) f.stamp) a.directed u (packet_no_announcement (Directed s d) _ f h.packs_it) (packs_place s d f h.packs_it)
 
 -- the directed messages after a frame
-pub directed_after : (f : FrameRecord) (r : Option Signal) (a : SessionsRecord) → Facts f r → Apart a.directed → (state_after a f r).directed ≡ directed_step (Frame f) a.directed
+pub directed_after : (f : FrameRecord) (r : Option Signal) (a : OpenMessagesRecord) → Facts f r → Apart a.directed → (state_after a f r).directed ≡ directed_step (Frame f) a.directed
 unfolding state_after finished payload size packets group stamp
 directed_after f None a h u = unchanged f a.directed (h.no_announcement (Directed (source_of f.id) (destination_of f.id))) (other_place f h)
 directed_after f (Some (BroadcastAnnounce n p g)) a h u =
@@ -137,13 +137,13 @@ packed_step s f (Some x) h =
     let n = frame_none s f in
     sym (cond-false _ _ _ a ∙ moved_packet (Broadcast s) (Frame f) x a (ev_sends (Broadcast s) f ∙ h) (n.0 x.group) (n.1 x.group))
 
-control_broadcasts : (b s d g : ℕ) (f : FrameRecord) (a : SessionsRecord) → IsControl b s d g f → a.broadcasts ≡ broadcast_step (Frame f) a.broadcasts
+control_broadcasts : (b s d g : ℕ) (f : FrameRecord) (a : OpenMessagesRecord) → IsControl b s d g f → a.broadcasts ≡ broadcast_step (Frame f) a.broadcasts
 control_broadcasts b s d g f a c = quiet_broadcasts f a.broadcasts
     (sym (ev_announces (Broadcast (source_of f.id)) f) ∙ no_opening b s d g f c (Broadcast (source_of f.id)))
     (sym (ev_sends (Broadcast (source_of f.id)) f) ∙ no_pack b s d g f c (Broadcast (source_of f.id)))
 
 -- the broadcasts after a packet
-broadcasts_packet : (f : FrameRecord) (k : Key) (n : ℕ) (bs : List ℕ) (a : SessionsRecord) → IsPacking k n bs f → (after_packet a f.stamp k n bs).broadcasts ≡ broadcast_step (Frame f) a.broadcasts
+broadcasts_packet : (f : FrameRecord) (k : Key) (n : ℕ) (bs : List ℕ) (a : OpenMessagesRecord) → IsPacking k n bs f → (after_packet a f.stamp k n bs).broadcasts ≡ broadcast_step (Frame f) a.broadcasts
 broadcasts_packet f (Broadcast s) n bs a h =
     let q = packet_facts (Broadcast s) f h.packs_it in
     (λ i. set a.broadcasts s (packed broadcast_limit (h.number_is i) (h.data_are i) f.stamp (at a.broadcasts s)))
@@ -159,7 +159,7 @@ broadcasts_packet f (Directed s d) n bs a h = quiet_broadcasts f a.broadcasts
     let o : ⊥ = omega arith in o))
 
 -- the broadcasts after a frame
-pub broadcasts_after : (f : FrameRecord) (r : Option Signal) (a : SessionsRecord) → Facts f r → (state_after a f r).broadcasts ≡ broadcast_step (Frame f) a.broadcasts
+pub broadcasts_after : (f : FrameRecord) (r : Option Signal) (a : OpenMessagesRecord) → Facts f r → (state_after a f r).broadcasts ≡ broadcast_step (Frame f) a.broadcasts
 unfolding state_after payload size packets group stamp
 broadcasts_after f None a h = quiet_broadcasts f a.broadcasts (h.no_announcement (Broadcast (source_of f.id))) (h.no_packet (Broadcast (source_of f.id)))
 broadcasts_after f (Some (BroadcastAnnounce n p g)) a h =
@@ -177,11 +177,11 @@ broadcasts_after f (Some (Packet n bs)) a h = broadcasts_packet f (key_of f) n b
 
 -- ---- one event more
 
-pub kept_after : (E : List Event) (f : FrameRecord) (a : SessionsRecord) → AreKept E a → AreKept (E ++ Frame f ∷ []) (state_after a f (said_by f))
+pub kept_after : (E : List Event) (f : FrameRecord) (a : OpenMessagesRecord) → AreKept E a → AreKept (E ++ Frame f ∷ []) (state_after a f (said_by f))
 kept_after E f a h =
     let x = broadcasts_after f (said_by f) a (read_is f) in
     let y = directed_after f (said_by f) a (read_is f) (are_apart E a.directed h.directed) in
-    subst (λ (t : SessionsRecord). AreKept (E ++ Frame f ∷ []) t) (λ i. record { broadcasts = sym x i; directed = sym y i }) (table_more E (Frame f) a h)
+    subst (λ (t : OpenMessagesRecord). AreKept (E ++ Frame f ∷ []) t) (λ i. record { broadcasts = sym x i; directed = sym y i }) (table_more E (Frame f) a h)
 
 -- ---- a source forgotten
 
@@ -217,8 +217,8 @@ broadcasts_forgotten t B = elim (cases_Bool (nat_lt t 254)) [
     ended y None = refl
     ended y (Some x) = moved_end (Broadcast t) (Forget t) x refl (and_from _ _ (eq-eqb t t refl) y)
 
-pub kept_forgotten : (E : List Event) (t : ℕ) (a : SessionsRecord) → AreKept E a → AreKept (E ++ Forget t ∷ []) (state_without a t)
+pub kept_forgotten : (E : List Event) (t : ℕ) (a : OpenMessagesRecord) → AreKept E a → AreKept (E ++ Forget t ∷ []) (state_without a t)
 kept_forgotten E t a h =
     let x = broadcasts_forgotten t a.broadcasts in
     let y = directed_forgotten t a.directed (are_apart E a.directed h.directed) in
-    subst (λ (T : SessionsRecord). AreKept (E ++ Forget t ∷ []) T) (λ i. record { broadcasts = sym x i; directed = sym y i }) (table_more E (Forget t) a h)
+    subst (λ (T : OpenMessagesRecord). AreKept (E ++ Forget t ∷ []) T) (λ i. record { broadcasts = sym x i; directed = sym y i }) (table_more E (Forget t) a h)

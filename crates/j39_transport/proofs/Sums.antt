@@ -13,7 +13,7 @@ use Rattle.j39_transport.proofs.Tables.{opens_bounded, opens_unique, over, opens
 use Rattle.j39_transport.specs.EventSteps.{pair_of}
 use Rattle.j39_transport.specs.Session.{SessionRecord}
 use Rattle.j39_transport.specs.Places.{Places, open_in, bytes_in}
-use Rattle.j39_transport.specs.Steps.{SessionsRecord, empty_state, messages_open, bytes_held}
+use Rattle.j39_transport.specs.Steps.{OpenMessagesRecord, empty_state, messages_open, bytes_held}
 use Rattle.j39_transport.specs.Stands.{IsAged, AreDirected, AreKept}
 use Rattle.j39_transport.proofs.AllKeys.{table_new, table_run, table_all, session_of, announced_key, table_stands}
 
@@ -37,7 +37,7 @@ over_none (k ∷ ks) = let i : over (λ j. 0) ks ≡ 0 = over_none ks in omega a
 
 -- ---- of the broadcasts
 
-module _ (f : Option SessionRecord → ℕ) (T : SessionsRecord) where
+module _ (f : Option SessionRecord → ℕ) (T : OpenMessagesRecord) where
   over_broadcasts : length T.broadcasts ≡ 254 → (n : ℕ) → n ≤ 254 → over (λ k. f (session_of T k)) (broadcast_keys n) ≡ sum_by f (take n T.broadcasts)
   unfolding broadcast_keys
   over_broadcasts z zero l = refl
@@ -191,15 +191,15 @@ are_apart E L h = record {
 }
 
 -- what `open` and `held` answer
-abbrev pub total : (Option SessionRecord → ℕ) → SessionsRecord → ℕ
+abbrev pub total : (Option SessionRecord → ℕ) → OpenMessagesRecord → ℕ
 total f T = sum_by f T.broadcasts + sum_by f T.directed
 
-in_row : (f : Option SessionRecord → ℕ) (T : SessionsRecord) (s m : ℕ) → over (λ k. f (session_of T k)) (row s m) ≡ over (λ k. f (directed_of T.directed k)) (row s m)
+in_row : (f : Option SessionRecord → ℕ) (T : OpenMessagesRecord) (s m : ℕ) → over (λ k. f (session_of T k)) (row s m) ≡ over (λ k. f (directed_of T.directed k)) (row s m)
 unfolding directed_of row
 in_row f T s zero = refl
 in_row f T s (suc m) = let i : over (λ k. f (session_of T k)) (row s m) ≡ over (λ k. f (directed_of T.directed k)) (row s m) = in_row f T s m in omega arith
 
-directed_keys : (f : Option SessionRecord → ℕ) (T : SessionsRecord) (m : ℕ) → over (λ k. f (session_of T k)) (pairs m) ≡ over (λ k. f (directed_of T.directed k)) (pairs m)
+directed_keys : (f : Option SessionRecord → ℕ) (T : OpenMessagesRecord) (m : ℕ) → over (λ k. f (session_of T k)) (pairs m) ≡ over (λ k. f (directed_of T.directed k)) (pairs m)
 unfolding directed_of pairs
 directed_keys f T zero = refl
 directed_keys f T (suc m) =
@@ -209,7 +209,7 @@ directed_keys f T (suc m) =
     let b : over (λ k. f (directed_of T.directed k)) (row m 254 ++ pairs m) ≡ over (λ k. f (directed_of T.directed k)) (row m 254) + over (λ k. f (directed_of T.directed k)) (pairs m) = over_append (λ k. f (directed_of T.directed k)) (row m 254) (pairs m) in
     omega arith
 
-over_all : (f : Option SessionRecord → ℕ) → f None ≡ 0 → (E : List Event) (T : SessionsRecord) → AreKept E T → over (λ k. f (session_of T k)) all_keys ≡ total f T
+over_all : (f : Option SessionRecord → ℕ) → f None ≡ 0 → (E : List Event) (T : OpenMessagesRecord) → AreKept E T → over (λ k. f (session_of T k)) all_keys ≡ total f T
 unfolding all_keys
 over_all f n E T h =
     let z : length T.broadcasts ≡ 254 = h.broadcasts.size_is in
@@ -220,7 +220,7 @@ over_all f n E T h =
     let d : over (λ k. f (session_of T k)) (broadcast_keys 254 ++ pairs 254) ≡ over (λ k. f (session_of T k)) (broadcast_keys 254) + over (λ k. f (session_of T k)) (pairs 254) = over_append (λ k. f (session_of T k)) (broadcast_keys 254) (pairs 254) in
     omega arith
 
-pub table_opens : (E : List Event) (T : SessionsRecord) → AreKept E T → Opens E all_keys (messages_open T) (bytes_held T)
+pub table_opens : (E : List Event) (T : OpenMessagesRecord) → AreKept E T → Opens E all_keys (messages_open T) (bytes_held T)
 table_opens E T h =
     subst (λ (x : ℕ). Opens E all_keys x (total bytes_in T)) (over_all open_in refl E T h)
     (subst (λ (x : ℕ). Opens E all_keys (over (λ k. open_in (session_of T k)) all_keys) x) (over_all bytes_in refl E T h) (opens_over E (session_of T) (table_stands E T h) all_keys))
@@ -238,7 +238,7 @@ open_one None = omega arith
 open_one (Some x) = omega arith
 
 -- at most 254 broadcasts and sixteen directed messages
-pub table_few : (E : List Event) (T : SessionsRecord) → AreKept E T → total open_in T ≤ 270
+pub table_few : (E : List Event) (T : OpenMessagesRecord) → AreKept E T → total open_in T ≤ 270
 table_few E T h =
     let a : sum_by open_in T.broadcasts ≤ length T.broadcasts = sum_small open_in open_one T.broadcasts in
     let b : sum_by open_in T.directed ≤ length T.directed = sum_small open_in open_one T.directed in

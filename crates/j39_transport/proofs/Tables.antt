@@ -16,7 +16,7 @@ use Rattle.j39_transport.proofs.Moving.{Young, other_stands, opened_aged, later_
 use Rattle.j39_transport.specs.EventSteps.{opened, touched, grown, is_over, moved, pair_of, moved_place, from_of, to_of, is_request_to_send, directed_step}
 use Rattle.j39_transport.specs.Session.{SessionRecord}
 use Rattle.j39_transport.specs.Places.{Places, is_of, open_in, bytes_in}
-use Rattle.j39_transport.specs.Stands.{IsSession, IsAged, StandsFor, AreDirected}
+use Rattle.j39_transport.specs.Stands.{IsSession, IsAged, IsOpenOrNone, AreDirected}
 
 -- ---- one open message
 
@@ -68,7 +68,7 @@ opens_bounded E (k ∷ ks) n held h =
 
 -- ---- any assignment of sessions to keys that stands for E has the sums
 
-stands_open : (E : List Event) (k : Key) (o : Option SessionRecord) (a b : ℕ) → StandsFor E k o
+stands_open : (E : List Event) (k : Key) (o : Option SessionRecord) (a b : ℕ) → IsOpenOrNone E k o
     → ((m : ℕ) × Open E k m × (open_in o + a ≡ suc a) × (bytes_in o + b ≡ b + 7 * m)) ⊎ (((m : ℕ) → Open E k m → ⊥) × (open_in o + a ≡ a) × (bytes_in o + b ≡ b))
 stands_open E k None a b h = inr ((λ m g. h g.0 g.1 g.2 g.3), omega arith, omega arith)
 stands_open E k (Some x) a b h = inl (x.count, (x.group, h.start, h.places, h.open_by, sym h.count_is), omega arith, omega arith)
@@ -78,7 +78,7 @@ abbrev pub over : (Key → ℕ) → List Key → ℕ
 over f [] = 0
 over f (k ∷ ks) = f k + over f ks
 
-pub opens_over : (E : List Event) (state : Key → Option SessionRecord) → ((k : Key) → StandsFor E k (state k))
+pub opens_over : (E : List Event) (state : Key → Option SessionRecord) → ((k : Key) → IsOpenOrNone E k (state k))
     → (ks : List Key) → Opens E ks (over (λ k. open_in (state k)) ks) (over (λ k. bytes_in (state k)) ks)
 opens_over E state h [] = (refl, refl)
 opens_over E state h (k ∷ ks) = (
@@ -167,10 +167,10 @@ pub same_pair : (s d : ℕ) (x : SessionRecord) → (x.source ≡ s) × (x.desti
 same_pair s d x h = λ i. Directed (h.0 i) (h.1 i)
 
 -- each directed key stands for its session
-pub directed_stands : (E : List Event) (L : Places) → AreDirected E L → (s d : ℕ) → StandsFor E (Directed s d) (lookup s d L)
+pub directed_stands : (E : List Event) (L : Places) → AreDirected E L → (s d : ℕ) → IsOpenOrNone E (Directed s d) (lookup s d L)
 directed_stands E L h s d = go (lookup s d L) (looked s d L)
   where
-    go : (o : Option SessionRecord) → Looked s d L o → StandsFor E (Directed s d) o
+    go : (o : Option SessionRecord) → Looked s d L o → IsOpenOrNone E (Directed s d) o
     go None k = λ g p0 ps z. (let r = h.all s d g p0 ps z in k r.0 r.1 r.2 (is_pair s d r.1 r.3 r.4))
     go (Some x) k = subst (λ (q : Key). IsSession E q x) (same_pair s d x (pair_is s d x k.3)) (h.each k.0 x k.2).session
 
@@ -189,7 +189,7 @@ module _ (E : List Event) (e : Event) (L : Places) (h : AreDirected E L) where
       found : (z : SessionRecord) → get_or L i None ≡ Some z → announces (pair_of z) e ≡ false → moved (pair_of z) e z ≡ Some y → IsAged (E ++ e ∷ []) (pair_of y) (if is_request_to_send e then suc i else i) y
       found z p a q =
           let k = h.each i z p in
-          let st : IsSession (E ++ e ∷ []) (pair_of z) y = subst (λ (o : Option SessionRecord). StandsFor (E ++ e ∷ []) (pair_of z) o) q (other_stands E e (pair_of z) (Some z) k.session a (young z k)) in
+          let st : IsSession (E ++ e ∷ []) (pair_of z) y = subst (λ (o : Option SessionRecord). IsOpenOrNone (E ++ e ∷ []) (pair_of z) o) q (other_stands E e (pair_of z) (Some z) k.session a (young z k)) in
           subst (λ (b : Bool). IsAged (E ++ e ∷ []) (pair_of y) (if b then suc i else i) y) (rivals_are y.source y.destination e)
           (subst (λ (n : Key). IsAged (E ++ e ∷ []) n (if rivals n e then suc i else i) y) (sym (same_pair z.source z.destination y (moved_pair (pair_of z) e z y q)))
           (later_aged E e (pair_of z) i z y k a st))
@@ -228,7 +228,7 @@ module _ (E : List Event) (e : Event) (L : Places) (h : AreDirected E L) where
               let c4 : count_below (rivals (Directed s d)) (E ++ e ∷ []) (length (E ++ e ∷ [])) ≡ suc (count_below (rivals (Directed s d)) E (length E)) = count_new E e (Directed s d) (rivals (Directed s d)) ∙ cond-true _ _ _ r in
               omega arith
 
-          end : (m : Option SessionRecord) → moved (Directed s d) e x ≡ m → StandsFor (E ++ e ∷ []) (Directed s d) m → HasPlace s d
+          end : (m : Option SessionRecord) → moved (Directed s d) e x ≡ m → IsOpenOrNone (E ++ e ∷ []) (Directed s d) m → HasPlace s d
           end None m st = absurd (st g p0 ps o)
           end (Some z) m st =
               let u = Open-unique E (Directed s d) g x.group p0 k.session.start qs k.session.places q k.session.open_by in

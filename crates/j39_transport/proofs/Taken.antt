@@ -13,7 +13,7 @@ use Rattle.j39_transport.proofs.FrameFacts.{announces-packets}
 use Rattle.j39_transport.proofs.Chains.{Links-from}
 use Rattle.j39_transport.proofs.Completing.{Continues, chain_new, chain_continued}
 use Rattle.j39_transport.specs.Session.{SessionRecord}
-use Rattle.j39_transport.specs.Stands.{StandsFor}
+use Rattle.j39_transport.specs.Stands.{IsOpenOrNone}
 
 -- it ends with a packet, after its announcement
 pub whole_ends : (E : List Event) (i : ℕ) (s : Key) (g : ℕ) (b : List ℕ) (w : Whole E i s g b) → (sends s (at E i) ≡ true) × (w.start < i)
@@ -48,7 +48,7 @@ module _ (E : List Event) (e : Event) (s : Key) where
     pub not_last : suc session.count ≢ session.packets
     pub group_is : g ≡ session.group
 
-  partial_from : (o : Option SessionRecord) → StandsFor E s o → (g : ℕ) → Grows o g → IsPartial (E ++ e ∷ []) (length E) s g
+  partial_from : (o : Option SessionRecord) → IsOpenOrNone E s o → (g : ℕ) → Grows o g → IsPartial (E ++ e ∷ []) (length E) s g
   partial_from None h g c = absurd (cc (c.was))
   partial_from (Some y) h g c =
       let was : Some y ≡ Some c.session = c.was in
@@ -62,7 +62,7 @@ module _ (E : List Event) (e : Event) (s : Key) where
       let few : length h.places < packets (at E h.start) = h.open_by.few in
       record { start = h.start; places = length E ∷ h.places; chain = subst (λ (q : ℕ). Chain (E ++ e ∷ []) s q h.start (length E ∷ h.places)) (sym (c.group_is ∙ ap (λ (z : SessionRecord). z.group) x)) (chain_new E e s y h c'); ends_at = refl; some = omega arith; lacks = omega arith }
 
-  partial_only : (o : Option SessionRecord) → StandsFor E s o → (g : ℕ) → IsPartial (E ++ e ∷ []) (length E) s g → Grows o g
+  partial_only : (o : Option SessionRecord) → IsOpenOrNone E s o → (g : ℕ) → IsPartial (E ++ e ∷ []) (length E) s g → Grows o g
   partial_only o h g w = go w.places refl
     where
       go : (ps : List ℕ) → w.places ≡ ps → Grows o g
@@ -81,5 +81,5 @@ module _ (E : List Event) (e : Event) (s : Key) where
           let f6 : length w.places < packets (at (E ++ e ∷ []) w.start) = w.lacks in
           record { session = c.session; was = c.was; continues = c.continues; not_last = λ z. let o : ⊥ = omega arith in o; group_is = c.group_is }
 
-  pub partial_iff : (o : Option SessionRecord) → StandsFor E s o → (g : ℕ) → Grows o g ↔ IsPartial (E ++ e ∷ []) (length E) s g
+  pub partial_iff : (o : Option SessionRecord) → IsOpenOrNone E s o → (g : ℕ) → Grows o g ↔ IsPartial (E ++ e ∷ []) (length E) s g
   partial_iff o h g = (partial_from o h g, partial_only o h g)

@@ -59,10 +59,10 @@ keeps_goes_on P now r h = cond_both (r.message.count == r.message.packets) _ _ (
     (λ t. record { session_is = tt; delivers_is = h })
     (λ t. cond_both (r.message.count == r.granted) _ _ (Keeps P) (λ u. keeps_grants P now r h) (λ u. keeps_quiet P (Some r) h))
 
-keeps_packet : (P : ℕ → Type 0) (number : ℕ) (joined : List ℕ) (now : ℕ) (r : ReceptionRecord) → P r.message.source → Keeps P (takes_packet number joined now r)
+keeps_packet : (P : ℕ → Type 0) (number : ℕ) (part : List ℕ) (now : ℕ) (r : ReceptionRecord) → P r.message.source → Keeps P (takes_packet number part now r)
 unfolding takes_packet
-keeps_packet P number joined now r h = cond_both (number == r.message.count + 1) _ _ (Keeps P)
-    (λ t. keeps_goes_on P now (record r { message = grown now joined r.message; fresh = false }) h)
+keeps_packet P number part now r h = cond_both (number == r.message.count + 1) _ _ (Keeps P)
+    (λ t. keeps_goes_on P now (record r { message = grown now part r.message; fresh = false }) h)
     (λ t. cond_both (number == r.granted) _ _ (Keeps P)
     (λ u. keeps_asks P now r h)
     (λ u. keeps_quiet P (Some (record r { message = touched now r.message; fresh = false })) h))
@@ -87,9 +87,9 @@ keeps_signal P k (Some (Acknowledgment size packets pgn)) now found o p h = keep
 keeps_signal P k (Some (Abort reason pgn)) now found None p h = keeps_quiet P None h
 keeps_signal P k (Some (Abort reason pgn)) now found (Some r) p h = cond_both (is_from (sender k) r && pgn == r.message.group) _ _ (Keeps P)
     (λ t. keeps_quiet P None tt) (λ t. keeps_quiet P (Some r) h)
-keeps_signal P k (Some (Packet number joined)) now found None p h = keeps_quiet P None h
-keeps_signal P k (Some (Packet number joined)) now found (Some r) p h = cond_both (is_from (sender k) r) _ _ (Keeps P)
-    (λ t. keeps_packet P number joined now r h) (λ t. keeps_quiet P (Some r) h)
+keeps_signal P k (Some (Packet number part)) now found None p h = keeps_quiet P None h
+keeps_signal P k (Some (Packet number part)) now found (Some r) p h = cond_both (is_from (sender k) r) _ _ (Keeps P)
+    (λ t. keeps_packet P number part now r h) (λ t. keeps_quiet P (Some r) h)
 
 pub keeps_tick : (P : ℕ → Type 0) (now : ℕ) (o : Option ReceptionRecord) → IfOpen P o → Keeps P (takes_tick now o)
 unfolding takes_tick
@@ -118,7 +118,7 @@ third_signal k (Some (Acknowledgment size packets pgn)) now found r n = record {
 third_signal k (Some (Abort reason pgn)) now found r n = cond_both (is_from (sender k) r && pgn == r.message.group) _ _ (Unmoved r)
     (λ t. absurd (both_ways _ (ap (λ (b : Bool). b && pgn == r.message.group) (not_from (sender k) r n)) t))
     (λ t. record { session_is = refl; delivers_is = refl })
-third_signal k (Some (Packet number joined)) now found r n = cond_both (is_from (sender k) r) _ _ (Unmoved r)
+third_signal k (Some (Packet number part)) now found r n = cond_both (is_from (sender k) r) _ _ (Unmoved r)
     (λ t. absurd (both_ways _ (not_from (sender k) r n) t))
     (λ t. record { session_is = refl; delivers_is = refl })
 
@@ -147,7 +147,7 @@ group_is (RequestToSend size packets most pgn) = is_control_group
 group_is (ClearToSend count next pgn) = is_control_group
 group_is (Acknowledgment size packets pgn) = is_control_group
 group_is (Abort reason pgn) = is_control_group
-group_is (Packet number joined) = is_data_group
+group_is (Packet number part) = is_data_group
 
 goes_to_it : (own third : ℕ) (a : Signal) → own < 256 → third < 256 → destination_of (written own third a).id ≡ third
 unfolding destination_of written

@@ -3,7 +3,7 @@ use Rattle.std.proofs.Common.{◌≡◌, ℕ, suc, ◌<◌, true, List, length, 
 use Rattle.std.proofs.lemmas.Bool.{both_ways}
 use Rattle.j39_transport.specs.Key.{Key}
 use Rattle.j39_transport.specs.Events.{Event, at, sends, size, packets, group}
-use Rattle.j39_transport.specs.Assembly.{Links, Runs, joined, Whole}
+use Rattle.j39_transport.specs.Assembly.{Links, Runs, joined_at, Whole}
 use Rattle.j39_transport.specs.Events.Event.{Frame, Forget}
 use Rattle.j39_transport.specs.Laws.{OneMessageLaw, AtPacketLaw, CountsLaw}
 use Rattle.j39_transport.proofs.Chains.{Links-unique, start_unique}
@@ -25,7 +25,7 @@ one_of_key E i k g h b c w v =
     let n : length w.places ≡ length v.places = w.full ∙ (ap packets x ∙ sym v.full) in
     let p : w.places ≡ v.places = Links-unique E k w.start w.places v.places n w.chain.links (subst (λ (t : ℕ). Links E k t v.places) (sym e) v.chain.links) in (
       w.chain.group_is ∙ (ap group x ∙ sym v.chain.group_is),
-      w.bytes_are ∙ (ap (λ (z : Event). take (size z) (joined E w.places)) x ∙ (ap (λ (qs : List ℕ). take (size (at E v.start)) (joined E qs)) p ∙ sym v.bytes_are)),
+      w.bytes_are ∙ (ap (λ (z : Event). take (size z) (joined_at E w.places)) x ∙ (ap (λ (qs : List ℕ). take (size (at E v.start)) (joined_at E qs)) p ∙ sym v.bytes_are)),
     )
 
 pub one_message : OneMessageLaw

@@ -99,7 +99,7 @@ is_cts (Some (RequestToSend size packets most pgn)) = false
 is_cts (Some (ClearToSend count next pgn)) = true
 is_cts (Some (Acknowledgment size packets pgn)) = false
 is_cts (Some (Abort reason pgn)) = false
-is_cts (Some (Packet number joined)) = false
+is_cts (Some (Packet number part)) = false
 
 abbrev SetByCts : ℕ → Reaction → Type 0
 SetByCts now x = is_cts x.says ≡ true → IsSet true now x.session
@@ -117,10 +117,10 @@ unfolding goes_on delivers_message
 cts_goes_on now r = cond_both (r.message.count == r.message.packets) _ _ (SetByCts now) (λ t e. absurd (both_ways false refl e))
     (λ t. cond_both (r.message.count == r.granted) _ _ (SetByCts now) (λ u. cts_grants now r) (λ u e. absurd (both_ways false refl e)))
 
-cts_packet : (number : ℕ) (joined : List ℕ) (now : ℕ) (r : ReceptionRecord) → SetByCts now (takes_packet number joined now r)
+cts_packet : (number : ℕ) (part : List ℕ) (now : ℕ) (r : ReceptionRecord) → SetByCts now (takes_packet number part now r)
 unfolding takes_packet
-cts_packet number joined now r = cond_both (number == r.message.count + 1) _ _ (SetByCts now)
-    (λ t. cts_goes_on now (record r { message = grown now joined r.message; fresh = false }))
+cts_packet number part now r = cond_both (number == r.message.count + 1) _ _ (SetByCts now)
+    (λ t. cts_goes_on now (record r { message = grown now part r.message; fresh = false }))
     (λ t. cond_both (number == r.granted) _ _ (SetByCts now) (λ u. cts_asks now r) (λ u e. absurd (both_ways false refl e)))
 
 cts_request : (x : SessionRecord) (most now : ℕ) (found : Bool) (o : Option ReceptionRecord) → SetByCts now (takes_request x most now found o)
@@ -138,9 +138,9 @@ cts_signal k (Some (Acknowledgment size packets pgn)) now found o = λ e. absurd
 cts_signal k (Some (Abort reason pgn)) now found None = λ e. absurd (both_ways false refl e)
 cts_signal k (Some (Abort reason pgn)) now found (Some r) = cond_both (is_from (sender k) r && pgn == r.message.group) _ _ (SetByCts now)
     (λ t e. absurd (both_ways false refl e)) (λ t e. absurd (both_ways false refl e))
-cts_signal k (Some (Packet number joined)) now found None = λ e. absurd (both_ways false refl e)
-cts_signal k (Some (Packet number joined)) now found (Some r) = cond_both (is_from (sender k) r) _ _ (SetByCts now)
-    (λ t. cts_packet number joined now r) (λ t e. absurd (both_ways false refl e))
+cts_signal k (Some (Packet number part)) now found None = λ e. absurd (both_ways false refl e)
+cts_signal k (Some (Packet number part)) now found (Some r) = cond_both (is_from (sender k) r) _ _ (SetByCts now)
+    (λ t. cts_packet number part now r) (λ t e. absurd (both_ways false refl e))
 
 cts_tick : (now : ℕ) (o : Option ReceptionRecord) → SetByCts now (takes_tick now o)
 unfolding takes_tick
@@ -166,23 +166,23 @@ packet_goes_on now r l f = cond_both (r.message.count == r.message.packets) _ _ 
     (λ t. cond_both (r.message.count == r.granted) _ _ (SetByPacket now) (λ u e. absurd (both_ways false refl e))
     (λ u e. record { session = r; session_is = refl; last_is = l; fresh_is = f }))
 
-set_by_packet : (number : ℕ) (joined : List ℕ) (now : ℕ) (r : ReceptionRecord) → SetByPacket now (takes_packet number joined now r)
+set_by_packet : (number : ℕ) (part : List ℕ) (now : ℕ) (r : ReceptionRecord) → SetByPacket now (takes_packet number part now r)
 unfolding takes_packet
-set_by_packet number joined now r = cond_both (number == r.message.count + 1) _ _ (SetByPacket now)
-    (λ t. packet_goes_on now (record r { message = grown now joined r.message; fresh = false }) refl refl)
+set_by_packet number part now r = cond_both (number == r.message.count + 1) _ _ (SetByPacket now)
+    (λ t. packet_goes_on now (record r { message = grown now part r.message; fresh = false }) refl refl)
     (λ t. cond_both (number == r.granted) _ _ (SetByPacket now) (λ u. not_quiet_asks now r)
     (λ u e. record { session = record r { message = touched now r.message; fresh = false }; session_is = refl; last_is = refl; fresh_is = refl }))
 
-packet_sets : (k : Key) (number : ℕ) (joined : List ℕ) (now : ℕ) (found : Bool) (o : Option ReceptionRecord) → is_busy_with (sender k) o ≡ true
-    → SetByPacket now (takes_signal k (Some (Packet number joined)) now found o)
+packet_sets : (k : Key) (number : ℕ) (part : List ℕ) (now : ℕ) (found : Bool) (o : Option ReceptionRecord) → is_busy_with (sender k) o ≡ true
+    → SetByPacket now (takes_signal k (Some (Packet number part)) now found o)
 unfolding takes_signal takes_data
-packet_sets k number joined now found None b = absurd (both_ways false refl b)
-packet_sets k number joined now found (Some r) b = cond_both (is_from (sender k) r) _ _ (SetByPacket now)
-    (λ t. set_by_packet number joined now r) (λ t. absurd (both_ways _ t b))
+packet_sets k number part now found None b = absurd (both_ways false refl b)
+packet_sets k number part now found (Some r) b = cond_both (is_from (sender k) r) _ _ (SetByPacket now)
+    (λ t. set_by_packet number part now r) (λ t. absurd (both_ways _ t b))
 
 pub receiver_waits_so : ReceiverWaitsLaw
 receiver_waits_so k now found o = record {
   granted = λ a count next pgn e. receiver_waits true now (takes_signal k a now found o).session (cts_signal k a now found o (ap is_cts e));
   asked = λ count next pgn e. receiver_waits true now (takes_tick now o).session (cts_tick now o (ap is_cts e));
-  packed = λ number joined b e. receiver_waits false now (takes_signal k (Some (Packet number joined)) now found o).session (packet_sets k number joined now found o b (ap is_quiet e));
+  packed = λ number part b e. receiver_waits false now (takes_signal k (Some (Packet number part)) now found o).session (packet_sets k number part now found o b (ap is_quiet e));
 }

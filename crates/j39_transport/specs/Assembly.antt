@@ -47,9 +47,9 @@ pub record Chain (E : List Event) (k : Key) (g p0 : ℕ) (ps : List ℕ) : Type 
   pub runs : Runs E k g p0 (suc (last_of p0 ps))
 
 -- the data of the packets at these places, the last first, joined in order
-abbrev pub joined : List Event → List ℕ → List ℕ
-joined E [] = []
-joined E (p ∷ ps) = joined E ps ++ payload (at E p)
+abbrev pub joined_at : List Event → List ℕ → List ℕ
+joined_at E [] = []
+joined_at E (p ∷ ps) = joined_at E ps ++ payload (at E p)
 
 -- at place i the message of group g with the bytes b is whole
 pub record Whole (E : List Event) (i : ℕ) (k : Key) (g : ℕ) (b : List ℕ) : Type 0 where
@@ -58,7 +58,7 @@ pub record Whole (E : List Event) (i : ℕ) (k : Key) (g : ℕ) (b : List ℕ) :
   pub chain : Chain E k g start places
   pub full : length places ≡ packets (at E start)
   pub ends_at : last_of start places ≡ i
-  pub bytes_are : b ≡ take (size (at E start)) (joined E places)
+  pub bytes_are : b ≡ take (size (at E start)) (joined_at E places)
 
 -- a message of k, of the group g, is open, with the announcement at p0 and packets at ps
 pub record OpenBy (E : List Event) (k : Key) (g p0 : ℕ) (ps : List ℕ) : Type 0 where

@@ -18,20 +18,20 @@ AreSpaced (f ∷ []) = Unit {0}
 AreSpaced (f ∷ g ∷ fs) = (f.stamp + gap ≤ g.stamp) × AreSpaced (g ∷ fs)
 
 -- a frame to be sent now, the earliest moment for the next one, or that all were sent
-pub data Answer : Type 0 where
-  Send : ToSend → Answer
-  WaitUntil : ℕ → Answer
-  Done : Answer
+pub data PollAnswer : Type 0 where
+  Send : ToSend → PollAnswer
+  WaitUntil : ℕ → PollAnswer
+  Done : PollAnswer
 
 -- what a broadcast of m that has sent these frames answers at this moment
-abbrev pub answer_after : MessageRecord → List FrameRecord → ℕ → Answer
+abbrev pub answer_after : MessageRecord → List FrameRecord → ℕ → PollAnswer
 answer_after m sent now =
     if nat_lt (packets_of m) (length sent) then Done
     else if nat_lt now (next_moment sent) then WaitUntil (next_moment sent)
     else Send (cut_frame (as_broadcast m) m (length sent))
 
 -- the frames sent, with that of an answer at this moment, if it has one
-abbrev pub with_answer : List FrameRecord → ℕ → Answer → List FrameRecord
+abbrev pub with_answer : List FrameRecord → ℕ → PollAnswer → List FrameRecord
 with_answer sent now (Send f) = sent ++ at_moment now f ∷ []
 with_answer sent now (WaitUntil moment) = sent
 with_answer sent now Done = sent

@@ -8,7 +8,7 @@ use Rattle.j39_transport.specs.Events.Event.{Frame, Forget}
 use Rattle.j39_transport.specs.Places.{Places}
 use Rattle.j39_transport.specs.Session as sessions
 use Rattle.j39_transport.specs.Session.{SessionRecord}
-use Rattle.j39_transport.specs.Steps.{SessionsRecord}
+use Rattle.j39_transport.specs.Steps.{OpenMessagesRecord}
 
 -- ---- one key
 
@@ -82,5 +82,5 @@ directed_step e L =
 abbrev pub broadcast_step : Event → Places → Places
 broadcast_step e T = set T (from_of e) (step (Broadcast (from_of e)) e (get_or T (from_of e) None))
 
-abbrev pub table_step : Event → SessionsRecord → SessionsRecord
+abbrev pub table_step : Event → OpenMessagesRecord → OpenMessagesRecord
 table_step e a = record { broadcasts = broadcast_step e a.broadcasts; directed = directed_step e a.directed }

@@ -19,7 +19,7 @@ pub mod Broadcasts
 pub mod Sending
 pub mod Reception
 pub mod Receiving
-pub mod Received
+pub mod ReceiverStands
 pub mod Net
 pub mod Liveness
 -- what the code's values show

@@ -133,9 +133,9 @@ pub record IsReceiverTimed (k : Key) (now : ℕ) (found : Bool) (o : Option Rece
       → ReceiverWaits 1250000 now (takes_signal k a now found o).session
   pub asked : (count next pgn : ℕ) → (takes_tick now o).says ≡ Some (ClearToSend count next pgn)
       → ReceiverWaits 1250000 now (takes_tick now o).session
-  pub packed : (number : ℕ) (joined : List ℕ) → is_busy_with (key.sender k) o ≡ true
-      → (takes_signal k (Some (Packet number joined)) now found o).says ≡ None
-      → ReceiverWaits 750000 now (takes_signal k (Some (Packet number joined)) now found o).session
+  pub packed : (number : ℕ) (part : List ℕ) → is_busy_with (key.sender k) o ≡ true
+      → (takes_signal k (Some (Packet number part)) now found o).says ≡ None
+      → ReceiverWaits 750000 now (takes_signal k (Some (Packet number part)) now found o).session
 
 abbrev pub ReceiverWaitsLaw : Type 0
 ReceiverWaitsLaw = (k : Key) (now : ℕ) (found : Bool) (o : Option ReceptionRecord) → IsReceiverTimed k now found o

@@ -3,19 +3,19 @@ use Rattle.std.specs.Prelude.{◌≡◌, ◌+◌, ℕ, nat_lt, if◌then◌else�
 use Rattle.j39_transport.specs.Message.{packets_of, as_broadcast}
 use Rattle.j39_transport.specs.Cutting.{cut_frame, to_send}
 use Rattle.j39_transport.specs.Protocol.{gap}
-use Rattle.j39_transport.specs.Broadcasting.{Answer, BroadcastRecord}
+use Rattle.j39_transport.specs.Broadcasting.{PollAnswer, BroadcastRecord}
 use Rattle.j39_transport.specs.Broadcasting as spec
 use Rattle.j39_transport.specs.declared.broadcast.Poll.{Poll}
 use Rattle.j39_transport.specs.declared.broadcast.Poll.TheVariants.{Send, WaitUntil, Done}
 
 -- an answer as the calls give it
-abbrev pub answer_of : Poll → Answer
+abbrev pub answer_of : Poll → PollAnswer
 answer_of (Send id bytes) = spec.Send (to_send (id, bytes))
 answer_of (WaitUntil moment) = spec.WaitUntil moment
 answer_of Done = spec.Done
 
 pub record Polled : Type 0 where
-  pub answer : Answer
+  pub answer : PollAnswer
   pub after : BroadcastRecord
 
 unfoldable pub poll_step : BroadcastRecord → ℕ → Polled
@@ -28,6 +28,6 @@ poll_step b now =
     }
 
 -- the broadcast takes the step
-pub record PollStep (old : BroadcastRecord) (now : ℕ) (answer : Answer) (new : BroadcastRecord) : Type 0 where
+pub record PollStep (old : BroadcastRecord) (now : ℕ) (answer : PollAnswer) (new : BroadcastRecord) : Type 0 where
   pub answers : answer ≡ (poll_step old now).answer
   pub after : new ≡ (poll_step old now).after

@@ -51,15 +51,15 @@ recv_step r (Heard f) now found =
     (said_to r.own f) now found r.session)
 
 -- what a call answers: a frame to send, and a message that is delivered
-pub record Answer : Type 0 where
+pub record ReceiverAnswer : Type 0 where
   pub sends : Option ToSend
   pub delivers : Option MessageRecord
 
-abbrev pub answer_in : RecvResult → Answer
+abbrev pub answer_in : RecvResult → ReceiverAnswer
 answer_in x = record { sends = x.sends; delivers = x.delivers }
 
 -- the receiver takes the step of the event, and answers this
-pub record RecvStep (old : ReceiverRecord) (event : RecvEvent) (now : ℕ) (answer : Answer)
+pub record RecvStep (old : ReceiverRecord) (event : RecvEvent) (now : ℕ) (answer : ReceiverAnswer)
     (new : ReceiverRecord) : Type 0 where
   pub found : Bool
   pub after : new ≡ (recv_step old event now found).after
@@ -73,7 +73,7 @@ pub record BoxedReceiver : Type 0 where
   pub has_box : Bool
 
 -- it takes the step of a frame: memory is found where it has a box; and it has one then, where it had one or has a session
-pub record HearStep (old : BoxedReceiver) (f : FrameRecord) (now : ℕ) (answer : Answer)
+pub record HearStep (old : BoxedReceiver) (f : FrameRecord) (now : ℕ) (answer : ReceiverAnswer)
     (new : BoxedReceiver) : Type 0 where
   pub step : RecvStep old.state (Heard f) now answer new.state
   pub finds : old.has_box ≡ true → step.found ≡ true

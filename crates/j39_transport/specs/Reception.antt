@@ -75,8 +75,8 @@ goes_on now r =
 
 -- a packet of the session's source
 unfoldable pub takes_packet : ℕ → List ℕ → ℕ → ReceptionRecord → Reaction
-takes_packet number joined now r =
-    if number == r.message.count + 1 then goes_on now (record r { message = grown now joined r.message; fresh = false })
+takes_packet number part now r =
+    if number == r.message.count + 1 then goes_on now (record r { message = grown now part r.message; fresh = false })
     else if number == r.granted then asks_again now r
     else quiet (Some (record r { message = touched now r.message; fresh = false }))
 
@@ -98,9 +98,9 @@ takes_request x most now found o =
     else answers o (Abort no_resources x.group)
 
 unfoldable pub takes_data : ℕ → ℕ → List ℕ → ℕ → Option ReceptionRecord → Reaction
-takes_data source number joined now None = quiet None
-takes_data source number joined now (Some r) =
-    if is_from source r then takes_packet number joined now r else quiet (Some r)
+takes_data source number part now None = quiet None
+takes_data source number part now (Some r) =
+    if is_from source r then takes_packet number part now r else quiet (Some r)
 
 unfoldable pub takes_abort : ℕ → ℕ → Option ReceptionRecord → Reaction
 takes_abort source pgn None = quiet None
@@ -115,7 +115,7 @@ takes_signal k (Some (RequestToSend size packets most pgn)) now found o =
 takes_signal k (Some (ClearToSend count next pgn)) now found o = quiet o
 takes_signal k (Some (Acknowledgment size packets pgn)) now found o = quiet o
 takes_signal k (Some (Abort reason pgn)) now found o = takes_abort (sender k) pgn o
-takes_signal k (Some (Packet number joined)) now found o = takes_data (sender k) number joined now o
+takes_signal k (Some (Packet number part)) now found o = takes_data (sender k) number part now o
 
 -- ---- time
 

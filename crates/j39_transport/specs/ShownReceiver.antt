@@ -8,12 +8,12 @@ use Rattle.j39_frame.specs.Stamp.{stamp_micros}
 use Rattle.j39_transport.specs.Cutting.{to_send}
 use Rattle.j39_transport.specs.Message.{MessageRecord}
 use Rattle.j39_transport.specs.Reception.{ReceptionRecord, Reaction, quiet, answers, message_of}
-use Rattle.j39_transport.specs.Receiving.{Answer}
+use Rattle.j39_transport.specs.Receiving.{ReceiverAnswer}
 use Rattle.j39_transport.specs.ShownSignal.{said}
 use Rattle.j39_transport.specs.declared.reception.Step.{Step}
 use Rattle.j39_transport.specs.declared.reception.Step.TheVariants.{Stays, Says, Aborts, Delivers}
-use Rattle.j39_transport.specs.declared.receiving.Move.{Move}
-use Rattle.j39_transport.specs.declared.receiving.Move.TheVariants as move
+use Rattle.j39_transport.specs.declared.receiver_events.Move.{Move}
+use Rattle.j39_transport.specs.declared.receiver_events.Move.TheVariants as move
 use Rattle.j39_transport.specs.declared.message.Message.{Message}
 use Rattle.j39_transport.specs.declared.receiver.Reply.{Reply}
 use Rattle.j39_transport.specs.declared.receiver.Reply.TheVariants as reply
@@ -84,7 +84,7 @@ CanLend (move.Delivers a) (Some r) = r.message.count ≡ r.message.packets
 abbrev pub message_shown : Message → MessageRecord
 message_shown m = record { source = m.source; pgn = pgn_raw m.pgn; bytes = m.payload.now }
 
-abbrev pub answer_of : Reply → Answer
+abbrev pub answer_of : Reply → ReceiverAnswer
 answer_of reply.Nothing = record { sends = None; delivers = None }
 answer_of (reply.Send id bytes) = record { sends = Some (to_send (id, bytes)); delivers = None }
 answer_of (reply.Delivered m id bytes) = record

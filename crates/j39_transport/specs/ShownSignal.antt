@@ -12,7 +12,7 @@ said (RequestToSend a most) = signals.RequestToSend a.size a.packets most (pgn_r
 said (ClearToSend count next pgn) = signals.ClearToSend count next pgn
 said (Acknowledgment size packets pgn) = signals.Acknowledgment size packets pgn
 said (Abort reason pgn) = signals.Abort reason pgn
-said (Packet number joined) = signals.Packet number joined
+said (Packet number part) = signals.Packet number part
 
 -- what may be broadcast comes from an address
 abbrev pub IsFromAddress : ℕ → Option Signal → Type 0
@@ -22,4 +22,4 @@ IsFromAddress s (Some (RequestToSend a most)) = Unit {0}
 IsFromAddress s (Some (ClearToSend count next pgn)) = Unit {0}
 IsFromAddress s (Some (Acknowledgment size packets pgn)) = Unit {0}
 IsFromAddress s (Some (Abort reason pgn)) = Unit {0}
-IsFromAddress s (Some (Packet number joined)) = IsAddress s
+IsFromAddress s (Some (Packet number part)) = IsAddress s

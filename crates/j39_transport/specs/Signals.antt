@@ -17,7 +17,7 @@ pub data Signal : Type 0 where
   ClearToSend : (count next pgn : ℕ) → Signal
   Acknowledgment : (size packets pgn : ℕ) → Signal
   Abort : (reason pgn : ℕ) → Signal
-  Packet : (number : ℕ) (joined : List ℕ) → Signal
+  Packet : (number : ℕ) (part : List ℕ) → Signal
 
 -- ---- reading
 
@@ -72,7 +72,7 @@ group_with (RequestToSend size packets most pgn) = transport_control_group
 group_with (ClearToSend count next pgn) = transport_control_group
 group_with (Acknowledgment size packets pgn) = transport_control_group
 group_with (Abort reason pgn) = transport_control_group
-group_with (Packet number joined) = transport_data_group
+group_with (Packet number part) = transport_data_group
 
 abbrev pub bytes_with : Signal → List ℕ
 bytes_with (BroadcastAnnounce size packets pgn) = announcement_bytes broadcast_announce size packets no_limit pgn
@@ -80,7 +80,7 @@ bytes_with (RequestToSend size packets most pgn) = announcement_bytes request_to
 bytes_with (ClearToSend count next pgn) = clear_to_send ∷ count ∷ next ∷ filler ∷ filler ∷ little_bytes 3 pgn
 bytes_with (Acknowledgment size packets pgn) = announcement_bytes acknowledgment size packets filler pgn
 bytes_with (Abort reason pgn) = connection_abort ∷ reason ∷ filler ∷ filler ∷ filler ∷ little_bytes 3 pgn
-bytes_with (Packet number joined) = number ∷ joined
+bytes_with (Packet number part) = number ∷ part
 
 -- the frame that says it from s to d
 unfoldable pub written : ℕ → ℕ → Signal → ToSend

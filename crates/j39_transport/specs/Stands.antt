@@ -3,12 +3,12 @@ use Rattle.std.specs.Prelude.{◌≡◌, ℕ, suc, ◌+◌, ◌<◌, true, false
 use Rattle.j39_transport.specs.Key.{Key}
 use Rattle.j39_transport.specs.Key.Key.{Broadcast, Directed}
 use Rattle.j39_transport.specs.Events.{Event, at, rivals, size, packets, stamp, belongs}
-use Rattle.j39_transport.specs.Assembly.{count_below, joined, OpenBy}
+use Rattle.j39_transport.specs.Assembly.{count_below, joined_at, OpenBy}
 use Rattle.j39_transport.specs.Boxes.{HasSpare}
 use Rattle.j39_transport.specs.EventSteps.{pair_of}
 use Rattle.j39_transport.specs.Session.{SessionRecord}
 use Rattle.j39_transport.specs.Places.{Places}
-use Rattle.j39_transport.specs.Steps.{AssemblerRecord, SessionsRecord}
+use Rattle.j39_transport.specs.Steps.{AssemblerRecord, OpenMessagesRecord}
 
 -- ---- what a session stands for
 
@@ -20,16 +20,16 @@ pub record IsSession (E : List Event) (k : Key) (x : SessionRecord) : Type 0 whe
   pub packets_are : x.packets ≡ packets (at E start)
   pub size_is : x.size ≡ size (at E start)
   pub count_is : x.count ≡ length places
-  pub bytes_are : x.bytes ≡ joined E places
+  pub bytes_are : x.bytes ≡ joined_at E places
   pub recent : ℕ
   pub recent_stands : belongs k x.group (at E recent) ≡ true
   pub none_since : (q : ℕ) → recent < q → belongs k x.group (at E q) ≡ false
   pub last_is : x.last ≡ stamp (at E recent)
 
 -- no message of k is open after E, or x is
-abbrev pub StandsFor : List Event → Key → Option SessionRecord → Type 0
-StandsFor E k None = (g p0 : ℕ) (ps : List ℕ) → OpenBy E k g p0 ps → ⊥
-StandsFor E k (Some x) = IsSession E k x
+abbrev pub IsOpenOrNone : List Event → Key → Option SessionRecord → Type 0
+IsOpenOrNone E k None = (g p0 : ℕ) (ps : List ℕ) → OpenBy E k g p0 ps → ⊥
+IsOpenOrNone E k (Some x) = IsSession E k x
 
 -- and so many directed announcements came after its own
 pub record IsAged (E : List Event) (k : Key) (age : ℕ) (x : SessionRecord) : Type 0 where
@@ -48,10 +48,10 @@ pub record AreDirected (E : List Event) (L : Places) : Type 0 where
 -- each place of the 254 has the broadcast of its source that is open after E, if one is
 pub record AreBroadcasts (E : List Event) (T : Places) : Type 0 where
   pub size_is : length T ≡ 254
-  pub each : (s : ℕ) → s < 254 → StandsFor E (Broadcast s) (get_or T s None)
+  pub each : (s : ℕ) → s < 254 → IsOpenOrNone E (Broadcast s) (get_or T s None)
 
 -- the messages that are open after the events, and no others
-pub record AreKept (E : List Event) (a : SessionsRecord) : Type 0 where
+pub record AreKept (E : List Event) (a : OpenMessagesRecord) : Type 0 where
   pub broadcasts : AreBroadcasts E a.broadcasts
   pub directed : AreDirected E a.directed
 

@@ -11,13 +11,13 @@ use Rattle.j39_transport.specs.Protocol.{broadcast_limit, directed_limit}
 use Rattle.j39_transport.specs.Places.{Places, at, find, pushed, forgotten, open_in, bytes_in}
 
 -- broadcasts by source, and directed messages by age
-pub record SessionsRecord : Type 0 where
+pub record OpenMessagesRecord : Type 0 where
   pub broadcasts : Places
   pub directed : Places
 
 -- the open messages, and whether a box lies unused beside theirs
 pub record AssemblerRecord : Type 0 where
-  pub sessions : SessionsRecord
+  pub sessions : OpenMessagesRecord
   pub has_spare : Bool
 
 -- how a packet moves an open message
@@ -28,10 +28,10 @@ pub data Moved : Type 0 where
   Late : Moved
 
 unfoldable pub moves : ℕ → ℕ → List ℕ → ℕ → SessionRecord → Moved
-moves limit number joined stamp s =
+moves limit number part stamp s =
     if nat_lt (s.last + limit) stamp then Late
     else if number == s.count + 1
-    then (if s.count + 1 == s.packets then Ends (grown stamp joined s) else Grows (grown stamp joined s))
+    then (if s.count + 1 == s.packets then Ends (grown stamp part s) else Grows (grown stamp part s))
     else Stays (touched stamp s)
 
 abbrev pub left_by : Moved → Option SessionRecord
@@ -48,12 +48,12 @@ answer_by source stamp Late = Ignored
 
 -- a place after a packet, and the answer
 abbrev pub packed : ℕ → ℕ → List ℕ → ℕ → Option SessionRecord → Option SessionRecord
-packed limit number joined stamp None = None
-packed limit number joined stamp (Some s) = left_by (moves limit number joined stamp s)
+packed limit number part stamp None = None
+packed limit number part stamp (Some s) = left_by (moves limit number part stamp s)
 
 abbrev pub told : ℕ → ℕ → ℕ → List ℕ → ℕ → Option SessionRecord → Outcome
-told source limit number joined stamp None = Ignored
-told source limit number joined stamp (Some s) = answer_by source stamp (moves limit number joined stamp s)
+told source limit number part stamp None = Ignored
+told source limit number part stamp (Some s) = answer_by source stamp (moves limit number part stamp s)
 
 -- a place after a CTS, and after an acknowledgment or an abort
 unfoldable pub granted : ℕ → ℕ → Option SessionRecord → Option SessionRecord
@@ -88,29 +88,29 @@ abbrev pub with_announced : ℕ → ℕ → SessionRecord → Places → Places
 with_announced s d x t = pushed 15 x (slice_set t (room (find s d t)) None)
 
 -- the state after an announcement, whose session is x
-abbrev pub announced : SessionsRecord → Key → SessionRecord → SessionsRecord
+abbrev pub announced : OpenMessagesRecord → Key → SessionRecord → OpenMessagesRecord
 announced a (Broadcast s) x = record a { broadcasts = slice_set a.broadcasts s (Some x) }
 announced a (Directed s d) x = record a { directed = with_announced s d x a.directed }
 
 -- the state after a packet, and the answer
-abbrev pub after_packet : SessionsRecord → ℕ → Key → ℕ → List ℕ → SessionsRecord
-after_packet a stamp (Broadcast s) number joined =
-    record a { broadcasts = slice_set a.broadcasts s (packed broadcast_limit number joined stamp (at a.broadcasts s)) }
-after_packet a stamp (Directed s d) number joined =
-    record a { directed = with_place (find s d a.directed) (packed directed_limit number joined stamp) a.directed }
+abbrev pub after_packet : OpenMessagesRecord → ℕ → Key → ℕ → List ℕ → OpenMessagesRecord
+after_packet a stamp (Broadcast s) number part =
+    record a { broadcasts = slice_set a.broadcasts s (packed broadcast_limit number part stamp (at a.broadcasts s)) }
+after_packet a stamp (Directed s d) number part =
+    record a { directed = with_place (find s d a.directed) (packed directed_limit number part stamp) a.directed }
 
-abbrev pub answer_to_packet : SessionsRecord → ℕ → ℕ → Key → ℕ → List ℕ → Outcome
-answer_to_packet a source stamp (Broadcast s) number joined =
-    told source broadcast_limit number joined stamp (at a.broadcasts s)
-answer_to_packet a source stamp (Directed s d) number joined =
-    told_at (find s d a.directed) (told source directed_limit number joined stamp) a.directed
+abbrev pub answer_to_packet : OpenMessagesRecord → ℕ → ℕ → Key → ℕ → List ℕ → Outcome
+answer_to_packet a source stamp (Broadcast s) number part =
+    told source broadcast_limit number part stamp (at a.broadcasts s)
+answer_to_packet a source stamp (Directed s d) number part =
+    told_at (find s d a.directed) (told source directed_limit number part stamp) a.directed
 
 -- the key that f goes under, where it is a packet
 abbrev pub key_of : FrameRecord → Key
 key_of f = key_between (source_of f.id) (destination_of f.id)
 
 -- the state after a frame that says this, and the answer
-unfoldable pub state_after : SessionsRecord → FrameRecord → Option Signal → SessionsRecord
+unfoldable pub state_after : OpenMessagesRecord → FrameRecord → Option Signal → OpenMessagesRecord
 state_after a f None = a
 state_after a f (Some (BroadcastAnnounce size packets pgn)) =
     announced a (Broadcast (source_of f.id)) (opened (Broadcast (source_of f.id)) pgn size packets f.stamp)
@@ -129,38 +129,38 @@ state_after a f (Some (Abort reason pgn)) =
       directed = finished (source_of f.id) (destination_of f.id) pgn
           (finished (destination_of f.id) (source_of f.id) pgn a.directed);
     }
-state_after a f (Some (Packet number joined)) = after_packet a f.stamp (key_of f) number joined
+state_after a f (Some (Packet number part)) = after_packet a f.stamp (key_of f) number part
 
-unfoldable pub answer : SessionsRecord → FrameRecord → Option Signal → Outcome
+unfoldable pub answer : OpenMessagesRecord → FrameRecord → Option Signal → Outcome
 answer a f None = Ignored
 answer a f (Some (BroadcastAnnounce size packets pgn)) = Taken
 answer a f (Some (RequestToSend size packets most pgn)) = Taken
 answer a f (Some (ClearToSend count next pgn)) = Ignored
 answer a f (Some (Acknowledgment size packets pgn)) = Ignored
 answer a f (Some (Abort reason pgn)) = Ignored
-answer a f (Some (Packet number joined)) = answer_to_packet a (source_of f.id) f.stamp (key_of f) number joined
+answer a f (Some (Packet number part)) = answer_to_packet a (source_of f.id) f.stamp (key_of f) number part
 
 -- without what is of a source
 unfoldable pub without_broadcast : ℕ → Places → Places
 without_broadcast s t = if nat_lt s 254 then slice_set t s None else t
 
-abbrev pub state_without : SessionsRecord → ℕ → SessionsRecord
+abbrev pub state_without : OpenMessagesRecord → ℕ → OpenMessagesRecord
 state_without a s = record { broadcasts = without_broadcast s a.broadcasts; directed = forgotten s a.directed }
 
-abbrev pub empty_state : SessionsRecord
+abbrev pub empty_state : OpenMessagesRecord
 empty_state = record { broadcasts = replicate 254 None; directed = replicate 16 None }
 
 -- how many messages are open, and their bytes so far
-abbrev pub messages_open : SessionsRecord → ℕ
+abbrev pub messages_open : OpenMessagesRecord → ℕ
 messages_open a = sum_by open_in a.broadcasts + sum_by open_in a.directed
 
-abbrev pub bytes_held : SessionsRecord → ℕ
+abbrev pub bytes_held : OpenMessagesRecord → ℕ
 bytes_held a = sum_by bytes_in a.broadcasts + sum_by bytes_in a.directed
 
 -- ---- boxes
 
 -- the place whose box an announcement uses
-abbrev pub place_for : SessionsRecord → Key → Option SessionRecord
+abbrev pub place_for : OpenMessagesRecord → Key → Option SessionRecord
 place_for a (Broadcast s) = at a.broadcasts s
 place_for a (Directed s d) = at a.directed (room (find s d a.directed))
 
@@ -170,12 +170,12 @@ spare_left None b = false
 spare_left (Some s) b = b
 
 abbrev pub is_whole : Outcome → Bool
-is_whole (Whole source group joined stamp) = true
+is_whole (Whole source group part stamp) = true
 is_whole Taken = false
 is_whole Ignored = false
 
 -- whether a box lies unused after a frame that says this, where b says so before it
-unfoldable pub spare_after : SessionsRecord → Bool → FrameRecord → Option Signal → Bool
+unfoldable pub spare_after : OpenMessagesRecord → Bool → FrameRecord → Option Signal → Bool
 spare_after a b f None = b
 spare_after a b f (Some (BroadcastAnnounce size packets pgn)) = spare_left (place_for a (Broadcast (source_of f.id))) b
 spare_after a b f (Some (RequestToSend size packets most pgn)) =
@@ -183,10 +183,10 @@ spare_after a b f (Some (RequestToSend size packets most pgn)) =
 spare_after a b f (Some (ClearToSend count next pgn)) = b
 spare_after a b f (Some (Acknowledgment size packets pgn)) = b
 spare_after a b f (Some (Abort reason pgn)) = b
-spare_after a b f (Some (Packet number joined)) = is_whole (answer_to_packet a 0 f.stamp (key_of f) number joined) || b
+spare_after a b f (Some (Packet number part)) = is_whole (answer_to_packet a 0 f.stamp (key_of f) number part) || b
 
 -- an announcement that finds no box, where b says whether one lies unused
-abbrev pub LacksBox : SessionsRecord → Bool → FrameRecord → Option Signal → Type 0
+abbrev pub LacksBox : OpenMessagesRecord → Bool → FrameRecord → Option Signal → Type 0
 LacksBox a b f None = ⊥
 LacksBox a b f (Some (BroadcastAnnounce size packets pgn)) = (place_for a (Broadcast (source_of f.id)) ≡ None)
     × (b ≡ false)
@@ -195,7 +195,7 @@ LacksBox a b f (Some (RequestToSend size packets most pgn)) =
 LacksBox a b f (Some (ClearToSend count next pgn)) = ⊥
 LacksBox a b f (Some (Acknowledgment size packets pgn)) = ⊥
 LacksBox a b f (Some (Abort reason pgn)) = ⊥
-LacksBox a b f (Some (Packet number joined)) = ⊥
+LacksBox a b f (Some (Packet number part)) = ⊥
 
 -- ---- the assembler
 

@@ -16,7 +16,7 @@ ghost use Rattle.j39_transport.specs.Shown.{outcome_by, CanLend, outcome_of};
 
 use crate::message::{Fed, Message};
 use crate::packet::Accepted;
-use crate::sessions::Sessions;
+use crate::open_messages::OpenMessages;
 use crate::table::Place;
 use j39_frame::{Frame, Stamp};
 use std::alloc::{AllocError, Global};
@@ -28,7 +28,7 @@ use std::marker::Model;
 #[derive(Drop)]
 pub struct Assembler {
     alloc: Global,
-    sessions: Sessions,
+    sessions: OpenMessages,
     /// The message last lent; its box is used again.
     lent: Place,
 }
@@ -58,7 +58,7 @@ impl Assembler {
     {
         Assembler {
             alloc,
-            sessions: Sessions::new(),
+            sessions: OpenMessages::new(),
             lent: None,
         }
     }
@@ -152,7 +152,7 @@ fn lend(place: &Place, accepted: Accepted, source: u8, stamp: Stamp) -> Fed<'_>
         Accepted::Whole => match place {
             Some(session) => Fed::Whole(Message {
                 source,
-                pgn: session.group(),
+                pgn: session.pgn(),
                 payload: session.payload(),
                 stamp,
             }),

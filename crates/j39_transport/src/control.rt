@@ -20,7 +20,7 @@ pub(crate) fn grant(table: &mut Table<PAIRS>, source: u8, destination: u8, group
     let Some(mut session) = table.take(place) else {
         return;
     };
-    if session.group().raw() == group {
+    if session.pgn().raw() == group {
         if stamp.micros() > session.last().micros() + DIRECTED_LIMIT {
             return;
         }
@@ -40,7 +40,7 @@ pub(crate) fn finish(table: &mut Table<PAIRS>, source: u8, destination: u8, grou
     let Some(session) = table.take(place) else {
         return;
     };
-    if session.group().raw() != group {
+    if session.pgn().raw() != group {
         table.put(place, session);
     }
 }

@@ -103,7 +103,7 @@ impl<'a> Cut<'a> {
         self.source
     }
 
-    pub(crate) fn group(&self) -> Pgn
+    pub(crate) fn pgn(&self) -> Pgn
         ensures { pgn_raw result ≡ self.now.pgn }
     {
         self.pgn

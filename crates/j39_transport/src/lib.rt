@@ -1,7 +1,7 @@
 //! The transport protocol: messages of more than eight bytes, in packets (J1939-21, 5.10).
 #![tactic(auto)]
 
-mod announce;
+mod opening;
 mod announcement;
 mod assembler;
 mod broadcast;
@@ -14,11 +14,11 @@ mod progress;
 mod protocol;
 mod reading;
 mod receiver;
-mod receiving;
+mod receiver_events;
 mod reception;
 mod sender;
 mod session;
-mod sessions;
+mod open_messages;
 mod signal;
 mod table;
 mod writing;

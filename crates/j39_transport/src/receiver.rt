@@ -9,13 +9,13 @@ ghost use Rattle.j39_frame.specs.Stamp.{stamp_micros};
 ghost use Rattle.j39_transport.specs.Cutting.{to_send};
 ghost use Rattle.j39_transport.specs.Frames.{source_of};
 ghost use Rattle.j39_transport.specs.Key.Key.{Directed};
-ghost use Rattle.j39_transport.specs.Received.{StandsFor, WereHanded, HasHeard};
+ghost use Rattle.j39_transport.specs.ReceiverStands.{ReceiverStandsFor, WereHanded, HasHeard};
 ghost use Rattle.j39_transport.specs.Receiving.{said_to, RecvStep, HearStep, Tick, Heard, recv_step, answer_in, result_of, new_receiver, partner_of};
 ghost use Rattle.j39_transport.specs.ShownSignal.{said};
 ghost use Rattle.j39_transport.specs.ShownReceiver.{held_in, reacted, CanLend, answer_of, IsStamped};
 
 use crate::message::Message;
-use crate::receiving::{self, Move, ReceptionBox};
+use crate::receiver_events::{self, Move, ReceptionBox};
 use crate::signal::{self, Signal};
 use j39_frame::{Frame, Id, NULL_ADDRESS, Stamp, is_address};
 use std::alloc::{AllocError, Global};
@@ -66,7 +66,7 @@ impl Receiver {
     pub fn new(alloc: Global, own: u8) -> Option<Receiver>
         ensures known { IsSome result ↔ IsAddress own }
         ensures value { IfSome result (λ receiver. receiver ≡ record { state = new_receiver own; has_box = false }) }
-        ensures stands { IfSome result (λ receiver. StandsFor [] receiver.state) }
+        ensures stands { IfSome result (λ receiver. ReceiverStandsFor [] receiver.state) }
     {
         if !is_address(own) {
             return None;
@@ -86,13 +86,13 @@ impl Receiver {
         ensures known { IfOk result (λ found. IsSome found ↔ IsAddress own) }
         ensures value { IfOk result (λ found. IfSome found (λ receiver.
             receiver ≡ record { state = new_receiver own; has_box = true })) }
-        ensures stands { IfOk result (λ found. IfSome found (λ receiver. StandsFor [] receiver.state)) }
+        ensures stands { IfOk result (λ found. IfSome found (λ receiver. ReceiverStandsFor [] receiver.state)) }
         ensures refused { OnErr result (IsAddress own) }
     {
         let Some(mut receiver) = Receiver::new(alloc, own) else {
             return Ok(None);
         };
-        receiver.lent = Some(receiving::boxed(alloc)?);
+        receiver.lent = Some(receiver_events::boxed(alloc)?);
         Ok(Some(receiver))
     }
 
@@ -104,7 +104,7 @@ impl Receiver {
             × (answer_of result ≡ answer_in (recv_step self.old.state (Heard frame.now) (stamp_micros now) found)) }
         ensures boxed { self.old.has_box ≡ true
             → answer_of result ≡ answer_in (recv_step self.old.state (Heard frame.now) (stamp_micros now) true) }
-        ensures delivered { (E : List FrameRecord) → StandsFor E self.old.state
+        ensures delivered { (E : List FrameRecord) → ReceiverStandsFor E self.old.state
             → WereHanded self.old.state.own (E ++ frame.now ∷ []) (answer_of result).delivers }
         ensures stamp { IsStamped (stamp_micros now) result }
         ensures* after { sem 𝓛 (Rests the_row self.entry (λ n.
@@ -122,7 +122,7 @@ impl Receiver {
             HearStep self.old frame.now (stamp_micros now) (answer_of result) n)) }
     {
         let source = frame.id.source();
-        let done = receiving::take_signal(
+        let done = receiver_events::take_signal(
             &mut self.session,
             &mut self.lent,
             self.alloc,
@@ -139,7 +139,7 @@ impl Receiver {
         ensures step { RecvStep self.old.state Tick (stamp_micros now)
             (record { sends = option_map to_send result; delivers = None }) self.new.state }
         ensures buffer { self.new.has_box ≡ self.old.has_box }
-        ensures stands { (E : List FrameRecord) → StandsFor E self.old.state → StandsFor E self.new.state }
+        ensures stands { (E : List FrameRecord) → ReceiverStandsFor E self.old.state → ReceiverStandsFor E self.new.state }
     {
         self.wait(now)
     }
@@ -151,7 +151,7 @@ impl Receiver {
         ensures buffer { self.new.has_box ≡ self.old.has_box }
     {
         let to = partner(&self.session);
-        match receiving::tick(&mut self.session, &mut self.lent, now) {
+        match receiver_events::tick(&mut self.session, &mut self.lent, now) {
             Move::Quiet => None,
             Move::Says(signal) => Some(signal::write(signal, self.own, to)),
             Move::Refused(signal) => Some(signal::write(signal, self.own, to)),
@@ -212,7 +212,7 @@ fn lend(slot: &ReceptionBox, done: Move, own: u8, to: u8, now: Stamp) -> Reply<'
                 let (id, bytes) = signal::write(signal, own, to);
                 let message = Message {
                     source: session.source(),
-                    pgn: session.group(),
+                    pgn: session.pgn(),
                     payload: session.payload(),
                     stamp: now,
                 };

@@ -97,10 +97,10 @@ impl Reception {
         self.message.source()
     }
 
-    pub(crate) fn group(&self) -> Pgn
+    pub(crate) fn pgn(&self) -> Pgn
         ensures { pgn_raw result ≡ self.now.message.group }
     {
-        self.message.group()
+        self.message.pgn()
     }
 
     /// The bytes of a whole message, without padding.
@@ -123,7 +123,7 @@ impl Reception {
         self.granted = got + count;
         self.fresh = true;
         self.message.touch(now);
-        Signal::ClearToSend(count, got + 1, self.message.group().raw())
+        Signal::ClearToSend(count, got + 1, self.message.pgn().raw())
     }
 
     /// Asks for the packets from the number that comes next, at most twice for a message.
@@ -134,7 +134,7 @@ impl Reception {
         ensures open { IsStep result self.new }
     {
         if self.asks == MOST_ASKS {
-            Step::Aborts(Signal::Abort(TIMEOUT, self.message.group().raw()))
+            Step::Aborts(Signal::Abort(TIMEOUT, self.message.pgn().raw()))
         } else {
             self.asks += 1;
             Step::Says(self.grant(now))
@@ -158,14 +158,14 @@ impl Reception {
 
     /// Takes a packet of the session's source.
     #[tactic(auto, unfolding(crate::specs::Reception::takes_packet))]
-    pub(crate) fn take_packet(&mut self, number: u8, joined: &[u8], now: Stamp) -> Step
+    pub(crate) fn take_packet(&mut self, number: u8, part: &[u8], now: Stamp) -> Step
         requires lacks { self.old.message.count < self.old.message.packets }
-        requires seven { length joined.now ≡ 7 }
-        ensures step { stepped result self.new ≡ takes_packet number joined.now (stamp_micros now) self.old }
+        requires seven { length part.now ≡ 7 }
+        ensures step { stepped result self.new ≡ takes_packet number part.now (stamp_micros now) self.old }
         ensures open { IsStep result self.new }
     {
         if u16::from(number) == u16::from(self.message.count()) + 1 {
-            self.message.append(joined, now);
+            self.message.append(part, now);
             self.fresh = false;
             self.go_on(now)
         } else if number == self.granted {

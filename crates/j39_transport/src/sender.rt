@@ -129,7 +129,7 @@ impl<'a> Sender<'a> {
             Progress::Waiting(limit) => {
                 if now.micros() > self.since.micros() + limit {
                     self.progress = Progress::Failed(TIMEOUT);
-                    Some(Signal::Abort(TIMEOUT, self.cut.group().raw()))
+                    Some(Signal::Abort(TIMEOUT, self.cut.pgn().raw()))
                 } else {
                     None
                 }
@@ -172,7 +172,7 @@ impl<'a> Sender<'a> {
     fn hear(&mut self, signal: Option<Signal>, now: Stamp)
         ensures { self.new ≡ hears (option_map said signal) (stamp_micros now) self.old }
     {
-        let group = self.cut.group().raw();
+        let group = self.cut.pgn().raw();
         match signal {
             Some(Signal::ClearToSend(count, next, pgn)) if pgn == group => self.clear(
                 count, next, now,

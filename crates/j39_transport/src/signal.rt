@@ -106,9 +106,9 @@ fn packet(bytes: &[u8]) -> [u8; 7]
     requires { length bytes.now ≡ 8 }
     ensures { result ≡ drop 1 bytes.now }
 {
-    let mut joined = [0; 7];
-    joined.copy_from_slice(&bytes[1..]);
-    joined
+    let mut part = [0; 7];
+    part.copy_from_slice(&bytes[1..]);
+    part
 }
 
 #[tactic(auto, unfolding(crate::specs::Signals::control_in))]
@@ -189,6 +189,6 @@ fn bytes_with(signal: Signal) -> [u8; 8]
             writing::announcement_bytes(ACKNOWLEDGMENT, size, packets, FILLER, pgn)
         }
         Signal::Abort(reason, pgn) => writing::abort_bytes(reason, pgn),
-        Signal::Packet(number, joined) => writing::packet_bytes(number, joined),
+        Signal::Packet(number, part) => writing::packet_bytes(number, part),
     }
 }

@@ -1,6 +1,6 @@
 -- The columns of the row.
 use Rattle.std.proofs.Common.{◌≡◌, rules}
-use Rattle.j39_groups.specs.Parameters.{place_text, row_text}
+use Rattle.j39_groups.specs.Printed.{place_text, row_text}
 use Rattle.j39_groups.specs.ReadFields.{read_field_record}
 use Rattle.j39_groups.proofs.read_parameters.put_read_row.Goals as goal
 

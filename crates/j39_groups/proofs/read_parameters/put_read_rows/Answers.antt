@@ -4,7 +4,7 @@ use Rattle.std.specs.List.{flat_map}
 use Rattle.j39_device.specs.Device.{AppendsFront}
 use Rattle.j39_device.proofs.DeviceLemmas.{front_within, on_err}
 use Rattle.j39_groups.specs.declared.read_row.ReadRow.{ReadRow}
-use Rattle.j39_groups.specs.Parameters.{row_text}
+use Rattle.j39_groups.specs.Printed.{row_text}
 use Rattle.j39_groups.specs.ReadRows.{read_row_record}
 use Rattle.j39_groups.proofs.ListLemmas.{flat_map-at}
 use Rattle.j39_groups.proofs.read_parameters.put_read_rows.Goals as goal

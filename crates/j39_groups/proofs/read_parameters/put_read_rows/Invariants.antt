@@ -1,7 +1,7 @@
 use Rattle.std.proofs.Common.{◌≡◌, take}
 use Rattle.std.specs.Io.KnownBytes.{Appends}
 use Rattle.std.specs.List.{flat_map}
-use Rattle.j39_groups.specs.Parameters.{row_text}
+use Rattle.j39_groups.specs.Printed.{row_text}
 use Rattle.j39_groups.specs.ReadRows.{read_row_record}
 use Rattle.j39_groups.proofs.read_parameters.put_read_rows.Given as goal
 

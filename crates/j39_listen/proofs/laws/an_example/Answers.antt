@@ -1,4 +1,4 @@
-use Rattle.j39_listen.proofs.Example.{is_published, its_values}
+use Rattle.j39_listen.proofs.TransferExample.{is_published, its_values}
 use Rattle.j39_listen.proofs.laws.an_example.Goals as goal
 
 pub returns-clause-published : goal.returns-clause-published

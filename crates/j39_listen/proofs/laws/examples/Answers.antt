@@ -1,4 +1,4 @@
-use Rattle.j39_listen.proofs.Examples as examples
+use Rattle.j39_listen.proofs.NoTransferExamples as examples
 use Rattle.j39_listen.proofs.laws.examples.Goals as goal
 
 pub returns-clause-eec1_without_a_claim : goal.returns-clause-eec1_without_a_claim

@@ -12,4 +12,4 @@ returns-in-Some-clause-stops g c = λ fails subject.
 
 pub returns-in-Some-clause-asked : goal.returns-in-Some-clause-asked
 returns-in-Some-clause-asked g c = λ fails subject.
-    asks_last_line (g.A.Account.has_met subject) g.A.Account.asks c.args.splitter.now _ _ c.args.lines.now c.in-Some.ensures.line c.read.ensures (c.read-in-Some.ensures.asked fails subject)
+    asks_last_line (g.A.Account.has_met subject) (g.A.Account.asks subject) c.args.splitter.now _ _ c.args.lines.now c.in-Some.ensures.line c.read.ensures (c.read-in-Some.ensures.asked fails subject)

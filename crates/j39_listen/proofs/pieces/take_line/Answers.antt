@@ -11,5 +11,5 @@ returns-in-Err-clause-stops g c = λ fails subject begun h.
 
 pub returns-in-Err-clause-asked : goal.returns-in-Err-clause-asked
 returns-in-Err-clause-asked g c = λ fails subject begun h.
-    asks_line (g.A.Account.has_met subject) g.A.Account.asks begun c.args.bytes.now _ _ _ c.args.lines.now (rw c.in-Some.is at (c.feed.ensures.line begun h)) c.read.ensures
+    asks_line (g.A.Account.has_met subject) (g.A.Account.asks subject) begun c.args.bytes.now _ _ _ c.args.lines.now (rw c.in-Some.is at (c.feed.ensures.line begun h)) c.read.ensures
     (c.in-Err.ensures.asked (ap Err (same_fault _ _ fails)) subject)

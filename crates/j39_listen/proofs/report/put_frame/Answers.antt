@@ -1,5 +1,6 @@
 -- A message is heard at the frame or none.
-use Rattle.std.proofs.Common.{arith}
+use Rattle.std.proofs.Common.{None, arith, refl}
+use Rattle.j39_listen.specs.ReportSteps.{made_by}
 use Rattle.j39_listen.specs.Shown.{hearing_of}
 use Rattle.j39_listen.proofs.ListenerLemmas.{on_ok}
 use Rattle.j39_listen.proofs.ReportAccount.{meets_heard, meets_silent, stops_heard}
@@ -7,8 +8,8 @@ use Rattle.j39_listen.proofs.report.put_frame.Goals as goal
 
 pub returns-in-Ok-None-clause-met : goal.returns-in-Ok-None-clause-met
 returns-in-Ok-None-clause-met g c = λ F h.
-    meets_silent c.args.groups.now _ F c.args.frame.now c.default.result _ (rw c.in-Ok-None.field-0-is at (c.in-Ok-None.ensures.heard F h))
-    (on_ok _ _ _ _ c.in-Ok-None.is c.feed_with.follows.holds-at-none F h) c.default.ensures.0 c.default.ensures.1
+    meets_silent c.args.groups.now _ F c.args.frame.now (made_by None) _ (rw c.in-Ok-None.field-0-is at (c.in-Ok-None.ensures.heard F h))
+    (on_ok _ _ _ _ c.in-Ok-None.is c.feed_with.follows.holds-at-none F h) refl refl
 
 pub returns-in-Ok-clause-met : goal.returns-in-Ok-clause-met
 returns-in-Ok-clause-met g c = λ F h.

@@ -1,6 +1,6 @@
 -- Bits end in the same byte or in another.
 use Rattle.std.proofs.Common.{◌≡◌, ◌∙◌, ◌+◌, ◌/◌, ◌%◌, ◌∷◌, [], inl, inr, refl, decimal, length, get_or, ap, arith}
-use Rattle.j39_groups.specs.Parameters.{bits_end}
+use Rattle.j39_groups.specs.Printed.{bits_end}
 use Rattle.j39_table.proofs.PlaceLemmas.{alone, end_cases, tail_is}
 use Rattle.j39_table.proofs.place.bits_to.Goals as goal
 

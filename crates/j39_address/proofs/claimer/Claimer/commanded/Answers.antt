@@ -24,7 +24,7 @@ returns c = λ node h.
     let a = c.args.address in
     let now = stamp_micros c.args.now in
     let m = record node { status = Claiming a; moment = now } in
-    let s = record c.args.self.now { status = status.Claiming a; since = now } in
+    let s = record c.args.self.now { status = status.Claiming a; moment = now } in
     let named : name_raw c.args.name ≡ node.name = c.is_named.ensures.0 c.if-not-is_named.false ∙ h.name in
     says_step node m s _ _ _ a _ refl
     (record { name = h.name; preferred = h.preferred; status = refl; moment = refl; claims = h.claims })

@@ -54,7 +54,7 @@ returns-in-Some c = λ node h.
     let C = with_claim node.claims n a in
     let stands : StandsFor c.note_claim.new.self C = c.note_claim.ensures.stands node.claims h.claims in
     let m = record node { status = Claiming b; moment = now; claims = C } in
-    let s = record c.args.self.now { status = status.Claiming b; since = now; claims = c.note_claim.new.self } in
+    let s = record c.args.self.now { status = status.Claiming b; moment = now; claims = c.note_claim.new.self } in
     let at : IsAt node a = ap address_of (sym h.status) ∙ c.is_at.ensures.0 c.if-not-is_at.false in
     let named : name_raw c.args.self.now.name ≡ node.name = h.name in
     let other : n ≢ node.name = λ e. let z = c.if-is_named.ensures.1 (e ∙ sym h.name) in absurd (cc) in

@@ -13,7 +13,7 @@ returns-in-Idle c = λ node h.
     let p = c.args.self.now.preferred in
     let now = stamp_micros c.args.now in
     let m = record node { status = Claiming p; moment = now } in
-    let s = record c.args.self.now { status = status.Claiming p; since = now } in
+    let s = record c.args.self.now { status = status.Claiming p; moment = now } in
     let same : p ≡ node.preferred = h.preferred in
     says_step node m s _ _ _ p _ refl
     (record { name = h.name; preferred = h.preferred; status = refl; moment = refl; claims = h.claims })

@@ -7,7 +7,7 @@ use Rattle.j39_address.proofs.claimer.Claimer.tick.Goals as goal
 
 pub returns-then-saturating_sub-ge-CLAIM_TIME : goal.returns-then-saturating_sub-ge-CLAIM_TIME
 returns-then-saturating_sub-ge-CLAIM_TIME c = λ node h.
-    let moment : c.args.self.now.since ≡ node.moment = h.moment in
+    let moment : c.args.self.now.moment ≡ node.moment = h.moment in
     let due = c.if-saturating_sub-ge-CLAIM_TIME.true in
     let a = c.in-Claiming.address in
     record {
@@ -20,6 +20,6 @@ returns-then-saturating_sub-ge-CLAIM_TIME c = λ node h.
 
 pub returns-else-saturating_sub-ge-CLAIM_TIME : goal.returns-else-saturating_sub-ge-CLAIM_TIME
 returns-else-saturating_sub-ge-CLAIM_TIME c = λ node h.
-    let moment : c.args.self.now.since ≡ node.moment = h.moment in
+    let moment : c.args.self.now.moment ≡ node.moment = h.moment in
     let early = c.if-saturating_sub-ge-CLAIM_TIME.false in
     rests_step node _ _ _ h (waits c.in-Claiming.address refl (sym h.status ∙ ap status_of c.in-Claiming.is) (omega (arith, early, moment, c.micros.ensures.value)) (refl, refl))

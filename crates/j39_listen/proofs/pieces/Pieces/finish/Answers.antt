@@ -22,4 +22,4 @@ returns-in-Err-close-clause-front g c = λ subject.
 
 pub returns-in-Err-clause-asked : goal.returns-in-Err-clause-asked
 returns-in-Err-clause-asked g c = λ fails subject.
-    asks_at_end (g.A.Account.has_met subject) g.A.Account.asks c.args.self.now (g.W.Sink.held c.args.sink.now) (c.in-Err.ensures.asked (ap Err (same_fault _ _ fails)) subject)
+    asks_at_end (g.A.Account.has_met subject) (g.A.Account.asks subject) c.args.self.now (g.W.Sink.held c.args.sink.now) (c.in-Err.ensures.asked (ap Err (same_fault _ _ fails)) subject)

@@ -38,5 +38,5 @@ loop-rest-preserved g c =
 pub returns-in-Err-clause-asked : goal.returns-in-Err-clause-asked
 returns-in-Err-clause-asked g c = λ fails subject.
     let inv = c.loop-rest.invariant in
-    takes_then_asks (g.A.Account.has_met subject) g.A.Account.asks c.args.self.now c.loop-rest.self inv.0 c.loop-rest.rest.now c.args.piece.now (g.W.Sink.held c.args.sink.now) (g.W.Sink.held c.loop-rest.sink) inv.1 (inv.2 subject)
+    takes_then_asks (g.A.Account.has_met subject) (g.A.Account.asks subject) c.args.self.now c.loop-rest.self inv.0 c.loop-rest.rest.now c.args.piece.now (g.W.Sink.held c.args.sink.now) (g.W.Sink.held c.loop-rest.sink) inv.1 (inv.2 subject)
     (c.in-Err.ensures.asked (ap Err (same_fault _ _ fails)) subject)

@@ -1,0 +1,4 @@
+-- the calendar
+mod CalendarLemmas
+-- writing piece by piece
+mod FrontLemmas

@@ -1,0 +1,8 @@
+//! Records of comma-separated values (RFC 4180), and moments in UTC (ISO 8601) as they stand in them.
+#![tactic(auto)]
+
+mod record;
+mod utc;
+
+pub use record::put_record;
+pub use utc::{UtcText, utc_text};

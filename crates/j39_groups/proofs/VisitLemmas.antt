@@ -1,0 +1,82 @@
+-- A visitor takes reading after reading.
+use Rattle.std.proofs.Common.{◌≡◌, ◌<◌, ◌+◌, ◌==◌, ℕ, suc, List, [], ◌∷◌, ◌++◌, Bool, true, length, take, drop, get_or, map, sym, ap, ◌∙◌, subst, append-nil, append_assoc, drop-cons, take-append-drop, inl, inr, refl}
+use Rattle.std.specs.Prelude.{None, Option, Some, filter}
+use Rattle.std.specs.List.{filter_map, flat_map}
+use Rattle.std.proofs.lemmas.Bool.{both_ways, cases_Bool}
+use Rattle.std.proofs.lemmas.List.{map-append, take_more}
+use Rattle.std.proofs.lemmas.List.Concat.{flat_map-cons}
+use Rattle.std.proofs.lemmas.List.Folds.{flat_map-map, list_all_at}
+use Rattle.std.proofs.lemmas.Grind.{flat_map-append}
+use Rattle.j39_groups.specs.CodeRows.{row_record}
+use Rattle.j39_groups.specs.Quick.{IsQuick, are_quick, is_quick}
+use Rattle.j39_groups.specs.Readings.{readings_at, readings_in}
+use Rattle.j39_groups.specs.Row.{RowRecord}
+use Rattle.j39_groups.specs.Table.{the_table}
+use Rattle.j39_groups.specs.declared.table.LabelledRow.{LabelledRow}
+use Rattle.j39_groups.proofs.QuickLemmas.{last_quick}
+use Rattle.j39_groups.specs.Value.{ReadingRecord}
+use Rattle.j39_groups.specs.Visits.{StopsAmong, TakesMore, WantsAmong}
+
+pub takes_none : {S V : Type 0} (has_taken : S → V → List ReadingRecord → Type 0) (v : V) → TakesMore has_taken v v []
+takes_none has_taken v = λ s before h. subst (has_taken s v) (sym (append-nil before)) h
+
+pub takes_then : {S V : Type 0} (has_taken : S → V → List ReadingRecord → Type 0) (a b c : V) (xs ys zs : List ReadingRecord) → zs ≡ xs ++ ys
+    → TakesMore has_taken a b xs → TakesMore has_taken b c ys → TakesMore has_taken a c zs
+takes_then has_taken a b c xs ys zs is first then = λ s before h.
+    subst (has_taken s c) (append_assoc before xs ys ∙ ap (λ rs. before ++ rs) (sym is)) (then s (before ++ xs) (first s before h))
+
+pub stops_at : {S V : Type 0} (has_taken : S → V → List ReadingRecord → Type 0) (wants : S → List ReadingRecord → ReadingRecord → Type 0) (v : V) (r : ReadingRecord)
+    → ((s : S) (before : List ReadingRecord) → has_taken s v before → wants s before r) → StopsAmong has_taken wants v (r ∷ [])
+stops_at has_taken wants v r wanted = λ s before h. record {
+  taken = [];
+  at = r;
+  rest = [];
+  readings_are = refl;
+  wanted = subst (λ rs. wants s rs r) (sym (append-nil before)) (wanted s before h);
+}
+
+regroup : (done taken : List ReadingRecord) (r : ReadingRecord) (rest more : List ReadingRecord)
+    → done ++ ((taken ++ (r ∷ rest)) ++ more) ≡ (done ++ taken) ++ (r ∷ (rest ++ more))
+regroup done taken r rest more = ap (λ rs. done ++ rs) (append_assoc taken (r ∷ rest) more) ∙ sym (append_assoc done taken (r ∷ (rest ++ more)))
+
+-- it stops among these readings, which stand among others
+pub stops_within : {S V : Type 0} (has_taken : S → V → List ReadingRecord → Type 0) (wants : S → List ReadingRecord → ReadingRecord → Type 0) (a b : V)
+    (done here rest all : List ReadingRecord) → all ≡ done ++ (here ++ rest) → TakesMore has_taken a b done → StopsAmong has_taken wants b here
+    → StopsAmong has_taken wants a all
+stops_within has_taken wants a b done here rest all is takes stops = λ s before h.
+    let w = stops s (before ++ done) (takes s before h) in
+    record {
+      taken = done ++ w.taken;
+      at = w.at;
+      rest = w.rest ++ rest;
+      readings_are = is ∙ ap (λ rs. done ++ (rs ++ rest)) w.readings_are ∙ regroup done w.taken w.at w.rest rest;
+      wanted = subst (λ rs. wants s rs w.at) (append_assoc before done w.taken) w.wanted;
+    }
+
+-- ---- lists of rows
+
+pub map-at : {X Y : Type 0} (f : X → Y) (xs : List X) (i : ℕ) (d : X) → i < length xs
+    → map f xs ≡ map f (take i xs) ++ ((f (get_or xs i d) ∷ []) ++ map f (drop (suc i) xs))
+map-at f xs i d below =
+    let cut : xs ≡ take i xs ++ (get_or xs i d ∷ drop (suc i) xs) = sym (take-append-drop i xs) ∙ ap (λ ys. take i xs ++ ys) (drop-cons xs i d below) in
+    ap (map f) cut ∙ map-append f (take i xs) (get_or xs i d ∷ drop (suc i) xs)
+
+pub flat_map-next : {X Y : Type 0} (f : X → List Y) (xs : List X) (i : ℕ) (d : X) → i < length xs
+    → flat_map f (take (i + 1) xs) ≡ flat_map f (take i xs) ++ f (get_or xs i d)
+flat_map-next f xs i d below =
+    ap (flat_map f) (take_more xs i d below) ∙ flat_map-append f (take i xs) (get_or xs i d ∷ [])
+    ∙ ap (λ ys. flat_map f (take i xs) ++ ys) (flat_map-cons f (get_or xs i d) [] ∙ append-nil (f (get_or xs i d)))
+
+-- each of the quick rows is quick
+pub quick_at : (rows : List LabelledRow) (i : ℕ) (d : LabelledRow) → i < length rows → are_quick rows ≡ true → IsQuick (get_or rows i d)
+quick_at rows i d below all =
+    let row = get_or rows i d in
+    elim (cases_Bool (is_quick row)) [
+      | inl passes ↦ (last_quick (row ∷ []) [] row refl (rw passes refl)).1
+      | inr fails ↦ absurd (both_ways _ (list_all_at is_quick rows i d below fails) all)
+    ]
+
+pub quick_readings : (rows : List LabelledRow) (pgn : ℕ) (bytes : List ℕ) → map (λ quick. row_record quick.row) rows ≡ filter (λ row. row.pgn == pgn) the_table
+    → flat_map (λ quick. readings_at bytes (row_record quick.row)) rows ≡ readings_in the_table pgn bytes
+unfolding readings_in
+quick_readings rows pgn bytes is = sym (flat_map-map (readings_at bytes) (λ quick. row_record quick.row) rows) ∙ ap (flat_map (readings_at bytes)) is

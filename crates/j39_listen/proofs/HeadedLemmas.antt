@@ -1,0 +1,63 @@
+-- What was written behind a head, of a run that was finished and of one that stopped; for `run_headed`.
+use Rattle.std.proofs.Common.{◌≡◌, ◌++◌, ℕ, List, [], Option, sym, ap, ◌∙◌, append_assoc, refl}
+use Rattle.std.specs.Io.KnownBytes.{Appends, Consumes}
+use Rattle.std.proofs.KnownBytes.{Appends-trans, Consumes-nil}
+use Rattle.j39_device.specs.Device.{AppendsFront}
+use Rattle.j39_listen.specs.Headed.{Headed, headed}
+use Rattle.j39_listen.specs.Output.{Making, Output}
+use Rattle.j39_listen.specs.Run.{StopsAtLimit, StopsWithin, Writes, WritesFront}
+use Rattle.j39_listen.specs.declared.counts.Counts.{Counts}
+
+-- the whole behind the head
+pub writes_headed : (head : List ℕ) (makes : Making) (given : Option (List ℕ)) (log : List ℕ) (counts : Counts) (old mid new : Option (List ℕ))
+    → Appends old mid head → Writes makes given log counts mid new → Writes (Headed head makes) given log counts old new
+writes_headed head makes given log counts old mid new first w = record {
+  spelled = w.spelled;
+  is_log = w.is_log;
+  output = headed head w.output;
+  is_made = (w.output, w.is_made, refl);
+  counts_are = w.counts_are;
+  written = Appends-trans old mid new head w.output.text first w.written;
+}
+
+-- a front behind the head
+front_headed : (head : List ℕ) (makes : Making) (given : Option (List ℕ)) (taken : List ℕ) (old mid new : Option (List ℕ))
+    → Appends old mid head → WritesFront makes given taken mid new → WritesFront (Headed head makes) given taken old new
+front_headed head makes given taken old mid new first w = λ spelled output is_log (below, is_made, is).
+    let f = w spelled below is_log is_made in (
+      head ++ f.0,
+      f.1,
+      ap (λ (o : Output). o.text) is ∙ ap (λ t. head ++ t) f.2 ∙ sym (append_assoc head f.0 f.1),
+      Appends-trans old mid new head f.0 first f.3,
+    )
+
+pub stops_headed : (head : List ℕ) (makes : Making) (given remaining remaining' old mid new : Option (List ℕ))
+    → Appends old mid head → StopsWithin makes given remaining remaining' mid new → StopsWithin (Headed head makes) given remaining remaining' old new
+stops_headed head makes given remaining remaining' old mid new first s =
+    record { taken = s.taken; consumed = s.consumed; written = front_headed head makes given s.taken old mid new first s.written }
+
+pub limit_headed : (head : List ℕ) (makes : Making) (limit : ℕ) (given remaining remaining' old mid new : Option (List ℕ))
+    → Appends old mid head → StopsAtLimit makes limit given remaining remaining' mid new
+    → StopsAtLimit (Headed head makes) limit given remaining remaining' old new
+limit_headed head makes limit given remaining remaining' old mid new first s = record {
+  taken = s.taken;
+  read = s.read;
+  consumed = s.consumed;
+  fits = s.fits;
+  passes = s.passes;
+  written = front_headed head makes given s.taken old mid new first s.written;
+}
+
+-- a fault in the head itself: nothing was read
+pub stops_in_head : (head : List ℕ) (makes : Making) (given remaining old new : Option (List ℕ)) → AppendsFront old new head
+    → StopsWithin (Headed head makes) given remaining remaining old new
+stops_in_head head makes given remaining old new (front, rest, is_front, written) = record {
+  taken = [];
+  consumed = Consumes-nil remaining;
+  written = λ spelled output is_log (below, is_made, is). (
+    front,
+    rest ++ below.text,
+    ap (λ (o : Output). o.text) is ∙ ap (λ t. t ++ below.text) is_front ∙ append_assoc front rest below.text,
+    written,
+  );
+}

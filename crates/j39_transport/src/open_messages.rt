@@ -1,0 +1,182 @@
+//! All open messages.
+ghost use Rattle.std.specs.Prelude.{◌≡◌, ◌≤◌, ◌*◌, ◌+◌, ◌||◌, ℕ, length, IfOk, OnErr, MatchResult};
+ghost use Rattle.std.specs.Option.{is_some};
+ghost use Rattle.j39_frame.specs.Address.{IsAddress};
+ghost use Rattle.j39_frame.specs.Stamp.{stamp_micros};
+ghost use Rattle.j39_transport.specs.Frames.{source_of};
+ghost use Rattle.j39_transport.specs.Key.{key_between};
+ghost use Rattle.j39_transport.specs.Places.{held_in};
+ghost use Rattle.j39_transport.specs.Signals.{said_by};
+ghost use Rattle.j39_transport.specs.Steps.{after_packet, answer_to_packet, state_after, answer, state_without, without_broadcast, empty_state, spare_after, is_whole, LacksBox, messages_open, bytes_held};
+ghost use Rattle.j39_transport.specs.Shown.{outcome_by, CanLend};
+
+use crate::opening::{announce_broadcast, announce_directed};
+use crate::control::{finish, grant};
+use crate::packet::{Accepted, pack, pack_directed};
+use crate::protocol::BROADCAST_LIMIT;
+use crate::signal::{self, Signal};
+use crate::table::{PAIRS, Place, SOURCES, Table};
+use j39_frame::{Frame, GLOBAL_ADDRESS, Stamp};
+use std::alloc::{AllocError, Global};
+use std::marker::Model;
+
+/// All open messages: broadcasts by their source, and directed messages by how many directed
+/// announcements came since their own.
+#[derive(Drop)]
+pub(crate) struct OpenMessages {
+    broadcasts: Table<SOURCES>,
+    directed: Table<PAIRS>,
+}
+
+impl Model for OpenMessages {
+    ghost use Rattle.j39_transport.specs.Steps.{OpenMessagesRecord};
+
+    ghost Value = { OpenMessagesRecord };
+
+    ghost view = { λ s. record { broadcasts = s.broadcasts; directed = s.directed } };
+}
+
+impl OpenMessages {
+    pub(crate) fn new() -> OpenMessages
+        ensures { result ≡ empty_state }
+    {
+        OpenMessages {
+            broadcasts: Table::new(),
+            directed: Table::new(),
+        }
+    }
+
+    /// Takes what a frame says. A message that is whole stands in `lent` then.
+    #[tactic(auto, unfolding(crate::specs::Steps::state_after, crate::specs::Steps::answer, crate::specs::Steps::spare_after))]
+    pub(crate) fn accept(
+        &mut self,
+        lent: &mut Place,
+        alloc: Global,
+        frame: &Frame,
+    ) -> Result<Accepted, AllocError>
+        ensures answer { IfOk result (λ a.
+            outcome_by a (source_of frame.now.id) frame.now.stamp (held_in lent.new)
+            ≡ answer self.old frame.now (said_by frame.now)) }
+        ensures lends { IfOk result (λ a. CanLend a (held_in lent.new)) }
+        ensures lacked { OnErr result (LacksBox self.old (is_some (held_in lent.old)) frame.now (said_by frame.now)) }
+        ensures after { MatchResult result
+            (λ _. self.new ≡ state_after self.old frame.now (said_by frame.now))
+            (λ _. self.new ≡ self.old) }
+        ensures spare { MatchResult result
+            (λ _. is_some (held_in lent.new)
+            ≡ spare_after self.old (is_some (held_in lent.old)) frame.now (said_by frame.now))
+            (λ _. is_some (held_in lent.new) ≡ is_some (held_in lent.old)) }
+    {
+        let (s, d) = (signal::source_in(frame), signal::destination_in(frame));
+        let stamp = frame.stamp;
+        match signal::read(frame) {
+            None => Ok(Accepted::Ignored),
+            Some(Signal::BroadcastAnnounce(announcement)) => {
+                announce_broadcast(&mut self.broadcasts, s, lent, alloc, announcement, stamp)?;
+                Ok(Accepted::Taken)
+            }
+            Some(Signal::RequestToSend(announcement, _)) => {
+                announce_directed(&mut self.directed, s, d, lent, alloc, announcement, stamp)?;
+                Ok(Accepted::Taken)
+            }
+            Some(Signal::ClearToSend(_, _, group)) => {
+                grant(&mut self.directed, d, s, group, stamp);
+                Ok(Accepted::Ignored)
+            }
+            Some(Signal::Acknowledgment(_, _, group)) => {
+                finish(&mut self.directed, d, s, group);
+                Ok(Accepted::Ignored)
+            }
+            Some(Signal::Abort(_, group)) => {
+                finish(&mut self.directed, d, s, group);
+                finish(&mut self.directed, s, d, group);
+                Ok(Accepted::Ignored)
+            }
+            Some(Signal::Packet(number, part)) => {
+                let accepted = self.pack(lent, s, d, number, &part, stamp);
+                Ok(accepted)
+            }
+        }
+    }
+
+    #[tactic(auto, unfolding(crate::specs::Key::key_between))]
+    fn pack(
+        &mut self,
+        lent: &mut Place,
+        source: u8,
+        destination: u8,
+        number: u8,
+        bytes: &[u8],
+        stamp: Stamp,
+    ) -> Accepted
+        requires address { IsAddress source }
+        requires seven { length bytes.now ≡ 7 }
+        ensures after { self.new
+            ≡ after_packet self.old (stamp_micros stamp) (key_between source destination) number bytes.now }
+        ensures lends { CanLend result (held_in lent.new) }
+        ensures answer { (from : ℕ)
+            → outcome_by result from (stamp_micros stamp) (held_in lent.new)
+            ≡ answer_to_packet self.old from (stamp_micros stamp) (key_between source destination) number bytes.now }
+        ensures spare { is_some (held_in lent.new)
+            ≡ is_whole (answer_to_packet self.old 0 (stamp_micros stamp) (key_between source destination) number bytes.now)
+            || is_some (held_in lent.old) }
+    {
+        if destination == GLOBAL_ADDRESS {
+            let place = usize::from(source);
+            pack(
+                &mut self.broadcasts,
+                place,
+                lent,
+                BROADCAST_LIMIT,
+                number,
+                bytes,
+                stamp,
+            )
+        } else {
+            pack_directed(
+                &mut self.directed,
+                source,
+                destination,
+                lent,
+                number,
+                bytes,
+                stamp,
+            )
+        }
+    }
+
+    /// Ends all messages of a source.
+    pub(crate) fn forget(&mut self, source: u8)
+        ensures { self.new ≡ state_without self.old source }
+    {
+        forget_broadcast(&mut self.broadcasts, source);
+        self.directed.forget(source);
+    }
+
+    /// How many messages are open.
+    pub(crate) fn open(&self) -> usize
+        ensures value { result ≡ messages_open self.now }
+        ensures few { result ≤ 270 }
+    {
+        self.broadcasts.open() + self.directed.open()
+    }
+
+    /// Seven bytes for each packet appended in an open message.
+    pub(crate) fn held(&self) -> usize
+        ensures value { result ≡ bytes_held self.now }
+        ensures bounded { result ≤ 1785 * messages_open self.now }
+    {
+        self.broadcasts.held() + self.directed.held()
+    }
+}
+
+/// Ends the broadcast of a source.
+#[tactic(auto, unfolding(crate::specs::Steps::without_broadcast))]
+fn forget_broadcast(table: &mut Table<SOURCES>, source: u8)
+    ensures { table.new ≡ without_broadcast source table.old }
+{
+    let place = usize::from(source);
+    if place < SOURCES {
+        let _dropped = table.take(place);
+    }
+}
