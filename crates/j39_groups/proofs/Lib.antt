@@ -11,5 +11,6 @@ pub mod QuickLemmas
 -- tables that were read
 pub mod SortLemmas
 pub mod MarkLemmas
+pub mod NameLemmas
 pub mod ReadLemmas
 pub mod VisitLemmas

@@ -5,6 +5,7 @@ ghost use Rattle.std.specs.List.{filter_map, flat_map, prefix_len};
 ghost use Rattle.std.specs.List.Sorted.{IsNonDecreasingBy, IsPartitionPoint};
 ghost use Rattle.j39_frame.specs.Pgn.{pgn_raw};
 ghost use Rattle.j39_device.specs.Device.{AppendsFront, Marks};
+ghost use Rattle.j39_groups.specs.Names.{parameter_name};
 ghost use Rattle.j39_groups.specs.Printed.{rows_text};
 ghost use Rattle.j39_groups.specs.Quick.{reading_line};
 ghost use Rattle.j39_groups.specs.ReadRows.{BeginsAt, read_row_record};
@@ -18,6 +19,7 @@ use crate::by_group::by_group;
 use crate::lines::put_found;
 use crate::listed::{Listed, ReadTable};
 use crate::marks::mark;
+use crate::names::{name_in, read_name_in};
 use crate::printed;
 use crate::quick_lines::{HEAD, LINES, lines_before};
 use crate::read_lines::put_rows;
@@ -78,6 +80,17 @@ impl<'t> Groups<'t> {
         match &self.listed {
             Listed::BuiltIn => is_reported(pgn),
             Listed::Read(table) => is_listed(table, pgn),
+        }
+    }
+
+    /// What the table calls a parameter (SPN), of whatever group: the name in its first row, of any bytes. `None`
+    /// where it has no row.
+    pub fn parameter_name(&self, spn: u32) -> Option<&[u8]>
+        ensures { option_map (λ name. name.now) result ≡ parameter_name self.now spn }
+    {
+        match &self.listed {
+            Listed::BuiltIn => name_in(rows(), spn),
+            Listed::Read(table) => read_name_in(table.rows.as_slice(), spn),
         }
     }
 

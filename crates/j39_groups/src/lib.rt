@@ -2,6 +2,7 @@
 #![tactic(auto)]
 
 mod by_group;
+mod by_number;
 mod field;
 mod groups_table;
 pub mod laws;
@@ -9,7 +10,7 @@ mod lines;
 mod listable;
 mod listed;
 mod marks;
-mod by_number;
+mod names;
 mod printed;
 mod quick_lines;
 mod quick_rows;
@@ -29,9 +30,9 @@ mod text;
 mod value;
 mod visiting;
 
+pub use by_number::{raw_of, slot_of};
 pub use groups_table::Groups;
 pub use listable::{is_heard_group, is_network_group};
-pub use by_number::{raw_of, slot_of};
 pub use printed::{decimal_of, push_decimal, push_range, put_parameters};
 pub use quick_lines::{HEAD, LINES, lines_before};
 pub use read_field::ReadField;

@@ -1,0 +1,30 @@
+-- A message that is heard has 1,785 bytes at most.
+use Rattle.std.proofs.Common.{◌≡◌, ◌≤◌, ◌∙◌, ℕ, true, false, Bool, List, [], ◌∷◌, ◌++◌, Option, Some, ap, arith, inl, inr, length, length-take, refl, subst, sym, take}
+use Rattle.std.proofs.lemmas.Bool.{both_ways}
+use Rattle.j39_frame.specs.Frame.{FrameRecord}
+use Rattle.j39_transport.proofs.FrameFacts.{announcement_facts}
+use Rattle.j39_transport.specs.Assembly.{Whole, joined}
+use Rattle.j39_transport.specs.Events.{Event, announces, at, size}
+use Rattle.j39_transport.specs.Events.Event.{Frame, Forget}
+use Rattle.j39_transport.specs.Key.{Key}
+use Rattle.j39_listen.specs.Heard.{Hearing, IsHeardWith, frame_at, frames_only}
+use Rattle.j39_listen.proofs.Causal.{frame_new}
+
+small_announced : (k : Key) (e : Event) → announces k e ≡ true → size e ≤ 1785
+unfolding announces size
+small_announced k (Frame f) h = (announcement_facts k f h).small
+small_announced k (Forget t) h = absurd (both_ways false refl h)
+
+whole_short : (E : List Event) (i : ℕ) (k : Key) (g : ℕ) (b : List ℕ) → Whole E i k g b → length b ≤ 1785
+whole_short E i k g b w =
+    let l = length-take (size (at E w.start)) (joined E w.places) in
+    let s = small_announced k (at E w.start) w.chain.announced in
+    let n = ap length w.bytes_are in
+    omega arith
+
+pub short_heard : (singles : ℕ → Bool) (F : List FrameRecord) (f : FrameRecord) (h : Hearing) → length f.bytes ≤ 8
+    → IsHeardWith singles (F ++ f ∷ []) (length F) h → length h.message.bytes ≤ 1785
+short_heard singles F f h short heard = elim heard.carried [
+  | inl s ↦ (let n : length h.message.bytes ≡ length f.bytes = ap length (sym s.bytes_are ∙ ap (λ (x : FrameRecord). x.bytes) (frame_new F f)) in omega arith)
+  | inr a ↦ whole_short (frames_only (F ++ f ∷ [])) (length F) a.key h.message.pgn h.message.bytes a.whole
+]

@@ -1,0 +1,16 @@
+use Rattle.std.proofs.Common.{◌∙◌, [], refl}
+use Rattle.j39_listen.proofs.ReportAccount.{same_made}
+use Rattle.j39_fault_news.proofs.AccountLemmas.{none_made}
+use Rattle.j39_fault_news.proofs.account.FaultNews.new.Goals as goal
+
+pub returns : goal.returns
+returns c = record {
+  by = refl;
+  telling_is = refl;
+  heard = [];
+  are_heard = refl;
+  output_is = refl;
+  hears = c.new.ensures;
+  remembers = c.new-2.ensures;
+  made_is = same_made _ _ c.default.ensures.0 c.default.ensures.1 ∙ none_made c.args.groups.now c.args.telling;
+}

@@ -1,0 +1,22 @@
+use Rattle.std.proofs.Common.{ap, refl}
+use Rattle.std.specs.Prelude.{Err}
+use Rattle.j39_listen.proofs.PieceLemmas.{same_fault}
+use Rattle.j39_fault_news.specs.declared.account.FaultNews.{FaultNews}
+use Rattle.j39_fault_news.proofs.AccountLemmas.{news_meets, news_stops}
+use Rattle.j39_fault_news.proofs.account.FaultNewsAccount.meet.Goals as goal
+
+pub returns-in-Ok-clause-met : goal.returns-in-Ok-clause-met
+returns-in-Ok-clause-met g c =
+    let news : FaultNews = record {
+      alloc = c.args.self.now.alloc;
+      groups = c.args.self.now.groups;
+      telling = c.args.self.now.telling;
+      listener = c.put_frame.new.listener;
+      last = c.put_frame.new.last;
+      made = c.and-self.result;
+    } in
+    λ subject. news_meets subject c.args.self.now news refl refl c.args.frame.now c.in-Ok.made _ _ c.in-Ok.ensures.met c.and-self.ensures
+
+pub returns-in-Err-clause-stops : goal.returns-in-Err-clause-stops
+returns-in-Err-clause-stops g c = λ fails subject.
+    news_stops subject c.args.self.now c.args.frame.now _ _ (c.in-Err.ensures.stops (ap Err (same_fault _ _ fails))) c.args.arg2.now

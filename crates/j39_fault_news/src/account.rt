@@ -1,0 +1,204 @@
+//! The faults of a bus, as an account of its frames (J1939-73, 5.7.1 and 5.7.2).
+ghost use Rattle.std.specs.Prelude.{◌≡◌, ◌≢◌, ◌<◌, ◌≤◌, ◌^◌, [], List, None, length, true, IfOk, Some, OnErr, OnOk, Err};
+ghost use Rattle.std.specs.Io.KnownBytes.{Appends};
+ghost use Rattle.j39_device.specs.Device.{AppendsFront};
+ghost use Rattle.j39_frame.specs.Frame.{FrameRecord};
+ghost use Rattle.j39_frame.specs.Pgn.{pgn_raw};
+ghost use Rattle.j39_listen.specs.Heard.{AreHeardWith, Hearing};
+ghost use Rattle.j39_listen.specs.Listening.{Hears};
+ghost use Rattle.j39_listen.specs.Shown.{hearing_of};
+ghost use Rattle.j39_listen.specs.declared.account.LineFault.TheVariants as line_fault;
+ghost use Rattle.j39_fault_news.specs.Asking.{AsksForFaults};
+ghost use Rattle.j39_fault_news.specs.Faults.{faults_by, faults_text};
+ghost use Rattle.j39_fault_news.specs.News.{faults_among, is_fault_group, is_of_faults, is_told, last_from};
+ghost use Rattle.j39_fault_news.specs.Output.{faults_of};
+ghost use Rattle.j39_fault_news.specs.Remembered.{Remembers};
+ghost use Rattle.j39_fault_news.specs.Steps.{HasTold, MeetsFrame, StopsFrame, Tells, TellsFront, told_faults};
+
+use crate::last_said::LastSaid;
+use crate::lines::put_message;
+use crate::telling::Telling;
+use j39_device::{DeviceFault, Sink};
+use j39_faults::{Kind, Lamps, fault_group, lamps_of};
+use j39_frame::Frame;
+use j39_groups::Groups;
+use j39_listen::{Account, Heard, LineFault, Listener, Made};
+use j39_log::Bus;
+use std::alloc::{AllocError, Global};
+
+/// What is heard so far, what was said last, and the numbers of what was told.
+#[derive(Drop)]
+pub(crate) struct FaultNews<'g, 't> {
+    alloc: Global,
+    groups: &'g Groups<'t>,
+    telling: Telling,
+    listener: Listener,
+    last: LastSaid,
+    made: Made,
+}
+
+impl<'g, 't> FaultNews<'g, 't> {
+    /// The faults of no frames.
+    pub(crate) fn new(alloc: Global, groups: &'g Groups<'t>, telling: Telling) -> FaultNews<'g, 't>
+        ensures { HasTold (record { rows = groups.entry.now; which = telling }) result []
+            (faults_of groups.entry.now telling []) }
+    {
+        FaultNews {
+            alloc,
+            groups,
+            telling,
+            listener: Listener::new(alloc),
+            last: LastSaid::new(),
+            made: Made::default(),
+        }
+    }
+}
+
+impl<'g, 't> Account for FaultNews<'g, 't> {
+    ghost use Rattle.j39_listen.specs.AccountSteps.{Begins, MakesOne};
+    ghost use Rattle.j39_fault_news.specs.Asking.{AsksForFaults};
+    ghost use Rattle.j39_fault_news.specs.Output.{MakesFaults};
+    ghost use Rattle.j39_fault_news.specs.Steps.{HasTold, Subject};
+
+    ghost Subject = { Subject };
+
+    ghost has_met = { λ subject bus. HasTold subject };
+
+    ghost makes = { λ subject. MakesFaults subject.rows subject.which };
+
+    ghost asks = { λ subject. AsksForFaults };
+
+    fn meet<W: Sink>(&mut self, _: &Bus, frame: &Frame, sink: &mut W) -> Result<(), LineFault> {
+        match put_frame(
+            self.alloc,
+            &mut self.listener,
+            self.groups,
+            self.telling,
+            &mut self.last,
+            frame,
+            sink,
+        ) {
+            Ok(made) => {
+                self.made = self.made.and(made);
+                Ok(())
+            }
+            Err(fault) => Err(fault),
+        }
+    }
+
+    fn close<W: Sink>(&mut self, _: &mut W) -> Result<Made, DeviceFault> {
+        Ok(self.made)
+    }
+
+    fn laws()
+        ensures begins { (subject : Subject) → Begins (λ bus. HasTold subject) (MakesFaults subject.rows subject.which) }
+        ensures one { (subject : Subject) → MakesOne (MakesFaults subject.rows subject.which) }
+    {}
+}
+
+/// Tells the faults of what is heard at a frame of the run's bus, and answers its numbers.
+fn put_frame<W: Sink>(
+    alloc: Global,
+    listener: &mut Listener,
+    groups: &Groups<'_>,
+    telling: Telling,
+    last: &mut LastSaid,
+    frame: &Frame,
+    sink: &mut W,
+) -> Result<Made, LineFault>
+    ensures met { IfOk result (λ made. (F : List FrameRecord) (ms : List Hearing) → Hears listener.old F
+        → Remembers last.old ms → MeetsFrame groups.now telling listener.new last.new F frame.now ms made
+        (W.held sink.old) (W.held sink.new)) }
+    ensures write { result ≡ Err line_fault.Write → W.has_failed sink.new ≡ true }
+    ensures stops { result ≡ Err line_fault.Write → (F : List FrameRecord) (ms : List Hearing) → Hears listener.old F
+        → Remembers last.old ms → StopsFrame groups.now telling F frame.now ms (W.held sink.old) (W.held sink.new) }
+    ensures memory { result ≡ Err line_fault.Memory → W.held sink.new ≡ W.held sink.old }
+    ensures asked { result ≡ Err line_fault.Memory → (F : List FrameRecord) (heard : List Hearing)
+        → Hears listener.old F → AreHeardWith is_fault_group F heard → Remembers last.old (faults_among heard)
+        → AsksForFaults F frame.now }
+    ensures unmarked { result ≢ Err line_fault.Write → W.has_failed sink.new ≡ W.has_failed sink.old }
+{
+    let is_single = fault_group(frame.id.pgn()).is_some();
+    match listener.feed_as(is_single, frame) {
+        Err(AllocError) => Err(LineFault::Memory),
+        Ok(None) => Ok(Made::default()),
+        Ok(Some(heard)) => put_heard(alloc, &heard, groups, telling, last, sink),
+    }
+}
+
+/// Tells the faults of a message, where it is one of faults and is told, and answers its numbers.
+fn put_heard<W: Sink>(
+    alloc: Global,
+    heard: &Heard<'_>,
+    groups: &Groups<'_>,
+    telling: Telling,
+    last: &mut LastSaid,
+    sink: &mut W,
+) -> Result<Made, LineFault>
+    ensures met { IfOk result (λ made. (ms : List Hearing) → Remembers last.old ms
+        → length heard.now.message.payload.now ≤ 1785
+        → Tells groups.now telling last.new ms (Some (hearing_of heard.now)) made (W.held sink.old) (W.held sink.new)) }
+    ensures write { result ≡ Err line_fault.Write → W.has_failed sink.new ≡ true }
+    ensures stops { result ≡ Err line_fault.Write → (ms : List Hearing) → Remembers last.old ms
+        → length heard.now.message.payload.now ≤ 1785
+        → TellsFront groups.now telling ms (Some (hearing_of heard.now)) (W.held sink.old) (W.held sink.new) }
+    ensures memory { result ≡ Err line_fault.Memory → W.held sink.new ≡ W.held sink.old }
+    ensures of_faults { result ≡ Err line_fault.Memory → is_of_faults (hearing_of heard.now) ≡ true }
+    ensures first { result ≡ Err line_fault.Memory → (ms : List Hearing) → Remembers last.old ms
+        → last_from (pgn_raw heard.now.message.pgn) heard.now.message.source ms ≡ None }
+    ensures unmarked { result ≢ Err line_fault.Write → W.has_failed sink.new ≡ W.has_failed sink.old }
+{
+    let Some(kind) = fault_group(heard.message.pgn) else {
+        return Ok(Made::default());
+    };
+    let Some(lamps) = lamps_of(heard.message.payload) else {
+        return Ok(Made::default());
+    };
+    let source = heard.message.source;
+    match last.note(alloc, kind, source, heard.message.payload, heard.name) {
+        Err(AllocError) => Err(LineFault::Memory),
+        Ok(is_news) => put_told(heard, groups, is_told(telling, is_news), kind, lamps, sink),
+    }
+}
+
+/// Writes the lines of a message of faults where it is told, and answers its numbers.
+fn put_told<W: Sink>(
+    heard: &Heard<'_>,
+    groups: &Groups<'_>,
+    is_told: bool,
+    kind: Kind,
+    lamps: Lamps,
+    sink: &mut W,
+) -> Result<Made, LineFault>
+    ensures made { IfOk result (λ made. (made.messages ≡ 1)
+        × (made.lines ≡ length (told_faults is_told (faults_by (hearing_of heard.now) (Some kind) (Some lamps))))) }
+    ensures fits { IfOk result (λ made. made.lines < 2 ^ 64) }
+    ensures written { OnOk result (Appends (W.held sink.old) (W.held sink.new)
+        (faults_text groups.now (told_faults is_told (faults_by (hearing_of heard.now) (Some kind) (Some lamps))))) }
+    ensures write { OnErr result (W.has_failed sink.new ≡ true) }
+    ensures front { OnErr result (AppendsFront (W.held sink.old) (W.held sink.new)
+        (faults_text groups.now (told_faults is_told (faults_by (hearing_of heard.now) (Some kind) (Some lamps))))) }
+    ensures not_memory { result ≢ Err line_fault.Memory }
+    ensures unmarked { OnOk result (W.has_failed sink.new ≡ W.has_failed sink.old) }
+{
+    if !is_told {
+        return Ok(Made {
+            messages: 1,
+            lines: 0,
+        });
+    }
+    match put_message(heard, groups, kind, lamps, sink) {
+        Ok(lines) => Ok(Made { messages: 1, lines }),
+        Err(DeviceFault) => Err(LineFault::Write),
+    }
+}
+
+/// Whether a message is told.
+fn is_told(telling: Telling, is_news: bool) -> bool
+    ensures { result ≡ is_told telling is_news }
+{
+    match telling {
+        Telling::News => is_news,
+        Telling::All => true,
+    }
+}

@@ -1,0 +1,14 @@
+//! The fault codes in a log, as they become news (J1939-73).
+#![tactic(auto)]
+
+mod account;
+mod last_said;
+pub mod laws;
+mod lines;
+mod places;
+mod run;
+mod said;
+mod telling;
+
+pub use run::faults;
+pub use telling::Telling;

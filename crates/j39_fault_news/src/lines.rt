@@ -1,0 +1,145 @@
+//! The lines of a message of faults.
+ghost use Rattle.std.specs.Prelude.{◌≡◌, ◌++◌, ◌∷◌, [], IfOk, None, OnErr, OnOk, Option, Some, codes, length, option_map};
+ghost use Rattle.std.specs.Io.KnownBytes.{Appends};
+ghost use Rattle.std.specs.List.{flat_map};
+ghost use Rattle.j39_address.specs.Name.{name_raw};
+ghost use Rattle.j39_device.specs.Device.{AppendsFront, Marks};
+ghost use Rattle.j39_faults.specs.Codes.{codes_of};
+ghost use Rattle.j39_frame.specs.Stamp.{stamp_micros};
+ghost use Rattle.j39_listen.specs.Shown.{hearing_of};
+ghost use Rattle.j39_fault_news.specs.Faults.{faults_by, faults_text, head_text, name_in, said_text};
+ghost use Rattle.j39_fault_news.specs.Steps.{line_of};
+
+use arrayvec::ArrayVec;
+use j39_device::{DeviceFault, Sink, put_all};
+use j39_faults::{Code, Kind, Lamps, codes_of, put_code, put_no_code};
+use j39_groups::Groups;
+use j39_listen::Heard;
+use j39_log::push_stamp;
+use j39_text::printing::{push_bytes, push_hex};
+
+/// What the lines of a message begin with.
+type Head = ArrayVec<u8, 40>;
+
+/// Writes a line for each code of a message, or one that says that it has none, and answers how many.
+pub(crate) fn put_message<W: Sink>(
+    heard: &Heard<'_>,
+    groups: &Groups<'_>,
+    kind: Kind,
+    lamps: Lamps,
+    sink: &mut W,
+) -> Result<u64, DeviceFault>
+    ensures lines { IfOk result (λ n. n ≡ length (faults_by (hearing_of heard.now) (Some kind) (Some lamps))) }
+    ensures written { OnOk result (Appends (W.held sink.old) (W.held sink.new)
+        (faults_text groups.now (faults_by (hearing_of heard.now) (Some kind) (Some lamps)))) }
+    ensures front { OnErr result (AppendsFront (W.held sink.old) (W.held sink.new)
+        (faults_text groups.now (faults_by (hearing_of heard.now) (Some kind) (Some lamps)))) }
+    ensures mark { Marks result (W.has_failed sink.old) (W.has_failed sink.new) }
+{
+    let head = head_of(heard);
+    let lines = put_codes(
+        head.as_slice(),
+        groups,
+        kind,
+        lamps,
+        heard.message.payload,
+        sink,
+    )?;
+    if lines > 0 {
+        return Ok(lines);
+    }
+    put_line(head.as_slice(), groups, kind, lamps, None, sink)?;
+    Ok(1)
+}
+
+/// Writes a line for each code, and answers how many.
+fn put_codes<W: Sink>(
+    head: &[u8],
+    groups: &Groups<'_>,
+    kind: Kind,
+    lamps: Lamps,
+    payload: &[u8],
+    sink: &mut W,
+) -> Result<u64, DeviceFault>
+    ensures lines { IfOk result (λ n. n ≡ length (codes_of payload.now)) }
+    ensures written { OnOk result (Appends (W.held sink.old) (W.held sink.new)
+        (flat_map (λ code. line_of head.now groups.now kind lamps (Some code)) (codes_of payload.now))) }
+    ensures front { OnErr result (AppendsFront (W.held sink.old) (W.held sink.new)
+        (flat_map (λ code. line_of head.now groups.now kind lamps (Some code)) (codes_of payload.now))) }
+    ensures mark { Marks result (W.has_failed sink.old) (W.has_failed sink.new) }
+{
+    let mut lines = 0;
+    for code in codes_of(payload) {
+        put_line(head, groups, kind, lamps, Some(code), sink)?;
+        lines += 1;
+    }
+    Ok(lines)
+}
+
+/// Writes the line of a code, or of a message with none.
+fn put_line<W: Sink>(
+    head: &[u8],
+    groups: &Groups<'_>,
+    kind: Kind,
+    lamps: Lamps,
+    code: Option<Code>,
+    sink: &mut W,
+) -> Result<(), DeviceFault>
+    ensures written { OnOk result (Appends (W.held sink.old) (W.held sink.new)
+        (line_of head.now groups.now kind lamps code)) }
+    ensures front { OnErr result (AppendsFront (W.held sink.old) (W.held sink.new)
+        (line_of head.now groups.now kind lamps code)) }
+    ensures mark { Marks result (W.has_failed sink.old) (W.has_failed sink.new) }
+{
+    put_all(sink, head)?;
+    put_said(groups, kind, lamps, code, sink)?;
+    put_all(sink, b"\n")
+}
+
+/// Writes what a message says of a code, or that it has none.
+fn put_said<W: Sink>(
+    groups: &Groups<'_>,
+    kind: Kind,
+    lamps: Lamps,
+    code: Option<Code>,
+    sink: &mut W,
+) -> Result<(), DeviceFault>
+    ensures written { OnOk result (Appends (W.held sink.old) (W.held sink.new)
+        (said_text groups.now kind lamps code)) }
+    ensures front { OnErr result (AppendsFront (W.held sink.old) (W.held sink.new)
+        (said_text groups.now kind lamps code)) }
+    ensures mark { Marks result (W.has_failed sink.old) (W.has_failed sink.new) }
+{
+    match code {
+        Some(code) => put_code(kind, lamps, name_in(groups, code), code, sink),
+        None => put_no_code(kind, lamps, sink),
+    }
+}
+
+/// What the table calls the parameter of a code; a code of conversion method 1 has none.
+fn name_in<'g>(groups: &'g Groups<'_>, code: Code) -> Option<&'g [u8]>
+    ensures { option_map (λ name. name.now) result ≡ name_in groups.now code }
+{
+    match code {
+        Code::Known { spn, .. } => groups.parameter_name(spn),
+        Code::Raw(_) => None,
+    }
+}
+
+/// The stamp, the address and the NAME, a space after each.
+fn head_of(heard: &Heard<'_>) -> Head
+    ensures { result.items ≡ head_text (stamp_micros heard.now.message.stamp) heard.now.message.source
+        (option_map name_raw heard.now.name) }
+{
+    let mut head = ArrayVec::new();
+    push_stamp(&mut head, heard.message.stamp);
+    push_bytes(&mut head, b" ");
+    push_hex(&mut head, &[heard.message.source]);
+    push_bytes(&mut head, b" ");
+    match heard.name {
+        Some(name) => push_hex(&mut head, &name.raw().to_be_bytes()),
+        None => push_bytes(&mut head, b"----------------"),
+    }
+    push_bytes(&mut head, b" ");
+    head
+}
