@@ -7,6 +7,7 @@ pub mod TakenLemmas
 pub mod MetLemmas
 -- the commands, each by itself: for `parse`
 pub mod ReportLemmas
+pub mod SummaryLemmas
 pub mod FaultsLemmas
 pub mod NodesLemmas
 pub mod AnswerLemmas

@@ -10,6 +10,7 @@ use Rattle.j39_cli.specs.IdCommand.{id_app}
 use Rattle.j39_cli.specs.NameCommand.{name_app}
 use Rattle.j39_cli.specs.NodesCommand.{nodes_app}
 use Rattle.j39_cli.specs.ReportCommand.{report_app}
+use Rattle.j39_cli.specs.SummaryCommand.{summary_app}
 
 -- the program with no command, of which it asks for one; it tells its version
 abbrev pub bare_app : App
@@ -19,6 +20,7 @@ bare_app = on_top (λ s. record s { subcommand_required = true; has_version = tr
 abbrev pub command_apps : List App
 command_apps =
     report_app
+    ∷ summary_app
     ∷ id_app
     ∷ name_app
     ∷ cut_app

@@ -12,10 +12,12 @@ use Rattle.j39_cli.specs.IdCommand.{id_form}
 use Rattle.j39_cli.specs.NameCommand.{name_form}
 use Rattle.j39_cli.specs.NodesCommand.{nodes_form}
 use Rattle.j39_cli.specs.ReportCommand.{report_form}
+use Rattle.j39_cli.specs.SummaryCommand.{summary_form}
 
 -- a command with the texts of its values, in the order of its spelling
 pub data CommandWords : Type 0 where
   report : Option Text → Option Text → Option Text → CommandWords
+  summary : Option Text → Option Text → Option Text → CommandWords
   faults : Option Text → Option Text → Bool → Option Text → CommandWords
   nodes : Option Text → Option Text → CommandWords
   answer : Text → Text → Option Text → Option Text → CommandWords
@@ -26,6 +28,7 @@ pub data CommandWords : Type 0 where
 
 abbrev pub form_of : CommandWords → Form
 form_of (report bus table file) = report_form bus table file
+form_of (summary bus table file) = summary_form bus table file
 form_of (faults bus table all file) = faults_form bus table all file
 form_of (nodes bus file) = nodes_form bus file
 form_of (answer node address bus file) = answer_form node address bus file

@@ -11,6 +11,7 @@ pub mod Refusal
 -- the commands, each with its words, its task and what it writes
 pub mod LogCommand
 pub mod ReportCommand
+pub mod SummaryCommand
 pub mod FaultsCommand
 pub mod NodesCommand
 pub mod AnswerCommand

@@ -12,12 +12,14 @@ use Rattle.j39_cli.specs.IdCommand.{id_meaning}
 use Rattle.j39_cli.specs.NameCommand.{name_meaning}
 use Rattle.j39_cli.specs.NodesCommand.{nodes_meaning}
 use Rattle.j39_cli.specs.ReportCommand.{report_meaning}
+use Rattle.j39_cli.specs.SummaryCommand.{summary_meaning}
 use Rattle.j39_cli.specs.Turn.{Turn}
 use Rattle.j39_cli.specs.declared.task.Task.{Task}
-use Rattle.j39_cli.specs.declared.task.Task.TheVariants.{Report, Faults, Nodes, Answer, Id, Name, Cut, Groups}
+use Rattle.j39_cli.specs.declared.task.Task.TheVariants.{Report, Summary, Faults, Nodes, Answer, Id, Name, Cut, Groups}
 
 abbrev pub meaning_of : Task → Meaning
 meaning_of (Report bus table file) = report_meaning bus table file
+meaning_of (Summary bus table file) = summary_meaning bus table file
 meaning_of (Faults bus table all file) = faults_meaning bus table all file
 meaning_of (Nodes bus file) = nodes_meaning bus file
 meaning_of (Answer name address bus file) = answer_meaning (name_raw name) address bus file

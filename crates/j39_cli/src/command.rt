@@ -5,7 +5,7 @@ ghost use Rattle.clap.specs.declared.builder.command.Command.TheViews.{out-Comma
 ghost use Rattle.j39_cli.specs.Command.{bare_app, line_app};
 ghost use Rattle.j39_cli.specs.Rules.{option_rule, value_rule};
 
-use crate::{answer, cut, faults, groups, id, name, nodes, report};
+use crate::{answer, cut, faults, groups, id, name, nodes, report, summary};
 use clap::{Arg, Command};
 use std::alloc::{AllocError, Global};
 
@@ -17,6 +17,7 @@ Examples:
   j1939 report trip.log
   j1939 report --table my.table trip.log
   candump -L can0 | j1939 report
+  j1939 summary trip.log
   j1939 faults trip.log
   j1939 nodes trip.log
   j1939 answer --name 8000000001401234 --address 0 trip.log
@@ -39,6 +40,7 @@ pub(crate) fn line<'a>(alloc: Global) -> Result<Command<'a>, AllocError>
 {
     let line = bare(alloc);
     let line = with_command(line, report::command(alloc)?)?;
+    let line = with_command(line, summary::command(alloc)?)?;
     let line = with_command(line, id::command(alloc)?)?;
     let line = with_command(line, name::command(alloc)?)?;
     let line = with_command(line, cut::command(alloc)?)?;

@@ -18,6 +18,7 @@ mod performing;
 mod refusal;
 mod report;
 mod shown;
+mod summary;
 mod task;
 mod words;
 

@@ -10,7 +10,7 @@ ghost use Rattle.j39_cli.specs.Answer.{IsBusValue};
 ghost use Rattle.j39_cli.specs.Task.{IsInRange};
 
 use crate::command::line;
-use crate::{Argument, ParseFault, Task, answer, cut, faults, groups, id, name, nodes, report};
+use crate::{Argument, ParseFault, Task, answer, cut, faults, groups, id, name, nodes, report, summary};
 use clap::error::ErrorKind;
 use clap::{ArgMatches, Error};
 use j39_log::Bus;
@@ -94,6 +94,7 @@ fn task_named<'a>(alloc: Global, name: &str, given: &ArgMatches<'a>) -> Result<T
 {
     match name {
         "report" => report::task(given),
+        "summary" => summary::task(given),
         "id" => id::task(alloc, given),
         "name" => name::task(alloc, given),
         "cut" => cut::task(alloc, given),

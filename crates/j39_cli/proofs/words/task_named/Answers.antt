@@ -7,10 +7,14 @@ use Rattle.j39_cli.proofs.IdLemmas.{id_tells}
 use Rattle.j39_cli.proofs.NameLemmas.{name_tells}
 use Rattle.j39_cli.proofs.NodesLemmas.{nodes_tells}
 use Rattle.j39_cli.proofs.ReportLemmas.{report_tells}
+use Rattle.j39_cli.proofs.SummaryLemmas.{summary_tells}
 use Rattle.j39_cli.proofs.words.task_named.Goals as goal
 
 pub returns-in-report-clause-tells : goal.returns-in-report-clause-tells
 returns-in-report-clause-tells c = report_tells _ _ _ c.in-report.is c.task.ensures.answer
+
+pub returns-in-summary-clause-tells : goal.returns-in-summary-clause-tells
+returns-in-summary-clause-tells c = summary_tells _ _ _ c.in-summary.is c.task-in-summary.ensures.answer
 
 pub returns-in-id-clause-tells : goal.returns-in-id-clause-tells
 returns-in-id-clause-tells c = id_tells _ _ _ c.in-id.is c.task-in-id.ensures.answer c.task-in-id.ensures.given

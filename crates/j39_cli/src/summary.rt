@@ -1,0 +1,85 @@
+//! The command `summary`: its words, and how it is performed.
+ghost use Rattle.std.specs.Prelude.{◌≡◌, ◌≢◌, IfOk, codes, false, true, Err};
+ghost use Rattle.clap.specs.Words.{app_of, first_value, found_of};
+ghost use Rattle.clap.specs.declared.builder.command.Command.TheViews.{out-Command as settings_of};
+ghost use Rattle.j39_summary.specs.Summaries.{AsksForRows, MakesSummary};
+ghost use Rattle.j39_cli.specs.CommandWords as written;
+ghost use Rattle.j39_cli.specs.CommandWords.{IsAnswer};
+ghost use Rattle.j39_cli.specs.LogCommand.{IsRun};
+ghost use Rattle.j39_cli.specs.SummaryCommand.{summary_app};
+ghost use Rattle.j39_cli.specs.Task.{IsInRange};
+ghost use Rattle.j39_cli.specs.Turn.{turn};
+
+use crate::command::with_table;
+use crate::log::{LOG_LIMIT, copy_of, tell_end, with_log};
+use crate::words::bus_value;
+use crate::{ParseFault, Task, WordText};
+use clap::{ArgMatches, Command};
+use j39_device::{Sink, Source};
+use j39_groups::Groups;
+use j39_log::Bus;
+use std::alloc::{AllocError, Global};
+
+const ABOUT: &str = "\
+Writes one line for each parameter that a log has values of, by address, NAME, PGN
+and SPN, in the order of their first values: how many values there were, how many
+of them words (error, indicator or reserved), the times of the first and the last,
+the least and the most number with their unit, the first value, the last, and what
+the parameter is called. What is a value is said by `j1939 report --help`.";
+
+const HELP: &str = "\
+At the end the counts go to standard error, as those of `j1939 report`; lines are
+those of the summary.
+
+Example:
+  j1939 summary --bus can0 trip.log
+writes lines such as
+  00 8000000001401234 61444 190 3 0 (0000000001.010000) (0000000001.030000)
+     1499.875 1500.125 rpm 1500.000 1499.875 engine speed
+each in one line.";
+
+/// What clap is told of it.
+pub(crate) fn command<'a>(alloc: Global) -> Result<Command<'a>, AllocError>
+    ensures app { IfOk result (λ c. app_of c ≡ summary_app) }
+    ensures local { IfOk result (λ c. (settings_of c).has_globals ≡ false) }
+{
+    let command = Command::new(alloc, "summary")
+        .about("Writes what each parameter in a log did")
+        .long_about(ABOUT)
+        .after_help(HELP);
+    with_log(alloc, with_table(alloc, command)?)
+}
+
+/// The task that its words ask for.
+pub(crate) fn task<'a>(given: &ArgMatches<'a>) -> Result<Task<'a>, ParseFault>
+    ensures answer { IsAnswer (written.summary (first_value (found_of given.now) (codes "bus"))
+        (first_value (found_of given.now) (codes "table")) (first_value (found_of given.now) (codes "file"))) result }
+    ensures memory { result ≢ Err ParseFault.Memory }
+    ensures in_range { IfOk result IsInRange }
+{
+    let table = given.get_str("table").map(WordText::new);
+    let file = given.get_str("file").map(WordText::new);
+    match bus_value(given) {
+        Ok(bus) => Ok(Task::Summary(bus, table, file)),
+        Err(fault) => Err(fault),
+    }
+}
+
+/// Performs it by a table of parameters: the summary goes to `sink`, the counts or what failed to `err`.
+pub(crate) fn perform<R: Source, W: Sink, E: Sink>(
+    alloc: Global,
+    groups: &Groups<'_>,
+    bus: &Option<Bus>,
+    source: &mut R,
+    sink: &mut W,
+    err: &mut E,
+) -> u8
+    ensures run { IsRun (AsksForRows groups.now) (MakesSummary groups.now) bus.now result
+        (turn R.remaining R.has_failed source.old source.new)
+        (turn W.held W.has_failed sink.old sink.new)
+        (turn E.held E.has_failed err.old err.new) }
+    ensures flushed { result ≡ 0 → W.is_flushed sink.new ≡ true }
+{
+    let end = j39_summary::summary(alloc, groups, source, sink, copy_of(bus), LOG_LIMIT);
+    tell_end(end, err)
+}

@@ -1,0 +1,7 @@
+-- a summary, entry by entry
+pub mod OriginLemmas
+pub mod FirstLemmas
+pub mod RowLemmas
+pub mod MapLemmas
+pub mod LineLemmas
+pub mod AccountLemmas

@@ -1,0 +1,9 @@
+use Rattle.std.proofs.Common.{refl}
+use Rattle.j39_summary.specs.declared.account.SummaryAccount.{SummaryAccount}
+use Rattle.j39_summary.proofs.AccountLemmas.{summary_meets}
+use Rattle.j39_summary.proofs.account.SummaryAccountAccount.meet.Goals as goal
+
+pub returns-in-Ok-clause-met : goal.returns-in-Ok-clause-met
+returns-in-Ok-clause-met g c =
+    let after : SummaryAccount = record { groups = c.args.self.now.groups; listener = c.note.new.listener; rows = c.note.new.rows; messages = c.saturating_add-self.result } in
+    λ subject. summary_meets subject c.args.self.now after refl c.args.frame.now c.in-Ok.messages _ c.in-Ok.ensures.noted c.saturating_add-self.ensures

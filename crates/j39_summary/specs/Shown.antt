@@ -1,0 +1,58 @@
+-- What contracts see of the code's types.
+use Rattle.std.specs.Prelude.{ℕ, Bool, List, Option, map}
+use Rattle.std.specs.Option.{option_map}
+use Rattle.j39_frame.specs.Stamp.{stamp_micros}
+use Rattle.j39_groups.specs.ReadFields.{scale_record}
+use Rattle.j39_groups.specs.Value.{ValueRecord, number, on, off, error, reserved, indicator, text}
+use Rattle.j39_listen.specs.Report.{Entry}
+use Rattle.j39_summary.specs.Summary.{Number, Range, Row, have_one_origin}
+use Rattle.j39_summary.specs.declared.deeds.Deeds.{Deeds}
+use Rattle.j39_summary.specs.declared.deeds.Scaled.{Scaled}
+use Rattle.j39_summary.specs.declared.deeds.Seen.{Seen}
+use Rattle.j39_summary.specs.declared.deeds.Span.{Span}
+use Rattle.j39_summary.specs.declared.kept.Kept.{Kept}
+use Rattle.j39_summary.specs.declared.kept.Kept.TheVariants as kept
+use Rattle.j39_summary.specs.declared.kept.Kept.TheVariants.{On, Off, Error, Reserved, Indicator, Text}
+use Rattle.j39_summary.specs.declared.origin.Origin.{Origin}
+
+abbrev pub kept_value : Kept → ValueRecord
+kept_value (kept.Number n scale) = number n (scale_record scale)
+kept_value On = on
+kept_value Off = off
+kept_value Error = error
+kept_value Reserved = reserved
+kept_value Indicator = indicator
+kept_value (Text bytes) = text bytes.items
+
+abbrev pub entry_at : Origin → ℕ → ValueRecord → Entry
+entry_at origin stamp value = record {
+  stamp = stamp;
+  address = origin.address;
+  name = origin.name;
+  pgn = origin.pgn;
+  spn = origin.spn;
+  value = value;
+}
+
+-- two origins are the same
+abbrev pub is_same : Origin → Origin → Bool
+is_same a b = have_one_origin (entry_at a 0 on) (entry_at b 0 on)
+
+abbrev pub entry_seen : Origin → Seen → Entry
+entry_seen origin seen = entry_at origin (stamp_micros seen.stamp) (kept_value seen.value)
+
+abbrev pub range_of_span : Span → Range
+range_of_span span = record { slot = scale_record span.scale; least = span.least; most = span.most }
+
+-- the row of what was seen of an origin
+abbrev pub row_shown : Origin × Deeds → Row
+row_shown (origin, deeds) = record {
+  first = entry_seen origin deeds.first;
+  last = entry_seen origin deeds.last;
+  count = deeds.count;
+  words = deeds.words;
+  range = option_map range_of_span deeds.range;
+}
+
+abbrev pub number_shown : Scaled → Number
+number_shown n = record { value = n.number; slot = scale_record n.scale }

@@ -1,0 +1,156 @@
+//! The summary of the report of a log: the run that writes it, and the account of frames that it writes.
+ghost use Rattle.std.specs.Prelude.{◌≡◌, ◌≢◌, ◌<◌, ◌≤◌, ◌⊎◌, [], List, true, length};
+ghost use Rattle.std.specs.Prelude.{IfOk, IfSome, OnOk, OnErr, Err};
+ghost use Rattle.j39_frame.specs.Frame.{FrameRecord};
+ghost use Rattle.std.specs.List.{flat_map};
+ghost use Rattle.j39_listen.specs.Asking.{AsksWithin};
+ghost use Rattle.j39_listen.specs.Heard.{AreHeard, Hearing};
+ghost use Rattle.j39_listen.specs.Listening.{Hears};
+ghost use Rattle.j39_listen.specs.Report.{Entry, entries_of};
+ghost use Rattle.j39_listen.specs.Output.{nothing};
+ghost use Rattle.j39_listen.specs.Run.{StopsAtLimit, StopsWithin, TakesWithin, Writes};
+ghost use Rattle.j39_listen.specs.declared.running.RunFault.TheVariants.{Memory, Read, Write, TooLong};
+ghost use Rattle.j39_summary.specs.AccountSteps.{HasSummed, NotesFrame};
+ghost use Rattle.j39_summary.specs.RowSteps.{AreRowsOf};
+ghost use Rattle.j39_summary.specs.Summaries.{AsksForRows, MakesSummary};
+
+use crate::lines::put_rows;
+use crate::rows::Rows;
+use j39_device::{DeviceFault, Sink, Source};
+use j39_frame::Frame;
+use j39_groups::Groups;
+use j39_listen::{Account, Counts, LineFault, Listener, Made, RunFault, run_over};
+use j39_log::Bus;
+use std::alloc::{AllocError, Global};
+
+/// Writes the summary of a log of at most `limit` bytes by a table of parameters: a line for each parameter that a
+/// controller on the bus reported, in the order of their first values. Without a bus it is that of the first frame in
+/// the log.
+pub fn summary<R: Source, W: Sink>(
+    alloc: Global,
+    groups: &Groups<'_>,
+    source: &mut R,
+    sink: &mut W,
+    bus: Option<Bus>,
+    limit: u64,
+) -> Result<Counts, RunFault>
+    // What is written is the summary of the log's report, and nothing else.
+    ensures summary { IfOk result (λ counts. IfSome (R.remaining source.old)
+        (λ log. Writes (MakesSummary groups.now) bus log counts (W.held sink.old) (W.held sink.new))) }
+
+    // Each fault comes only where its device failed, or the log is longer than the limit.
+    ensures short { OnOk result (IfSome (R.remaining source.old) (λ log. length log ≤ limit)) }
+    ensures too_long { result ≡ Err TooLong → IfSome (R.remaining source.old) (λ log. limit < length log) }
+    ensures read { result ≡ Err Read → R.has_failed source.new ≡ true }
+    ensures read_unmarked { result ≢ Err Read → R.has_failed source.new ≡ R.has_failed source.old }
+    ensures write { result ≡ Err Write → W.has_failed sink.new ≡ true }
+    ensures write_unmarked { result ≢ Err Write → W.has_failed sink.new ≡ W.has_failed sink.old }
+
+    // Memory is wanted only at a frame that announces a message, and at one where a message is heard that has a value
+    // of a parameter without a row, or a text.
+    ensures memory { result ≡ Err Memory
+        → AsksWithin (AsksForRows groups.now) bus (R.remaining source.old) (R.remaining source.new) }
+
+    // The bytes that were taken pass the limit exactly where `TooLong` is answered, and those that pass it aren't handled.
+    ensures within { result ≢ Err TooLong → TakesWithin limit (R.remaining source.old) (R.remaining source.new) }
+    ensures at_limit { result ≡ Err TooLong → StopsAtLimit (MakesSummary groups.now) limit bus
+        (R.remaining source.old) (R.remaining source.new) (W.held sink.old) (W.held sink.new) }
+
+    // What was written is passed on at the end, and before each read.
+    ensures flushed { OnOk result (W.is_flushed sink.new ≡ true) }
+    ensures flushed_at_reads { (result ≡ Err Read) ⊎ (result ≡ Err TooLong)
+        → W.is_flushed sink.old ≡ true → W.is_flushed sink.new ≡ true }
+
+    // What was written before a fault is a front of the summary of the bytes that were read.
+    ensures prefix { OnErr result (StopsWithin (MakesSummary groups.now) bus
+        (R.remaining source.old) (R.remaining source.new) (W.held sink.old) (W.held sink.new)) }
+{
+    run_over(SummaryAccount::new(alloc, groups), source, sink, bus, limit)
+}
+
+/// What is heard so far, and the rows of its summary.
+#[derive(Drop)]
+pub(crate) struct SummaryAccount<'g, 't> {
+    groups: &'g Groups<'t>,
+    listener: Listener,
+    rows: Rows<'t>,
+    messages: u64,
+}
+
+impl<'g, 't> SummaryAccount<'g, 't> {
+    /// The summary of no frames.
+    pub fn new(alloc: Global, groups: &'g Groups<'t>) -> SummaryAccount<'g, 't>
+        ensures { HasSummed groups.entry.now result [] nothing }
+    {
+        SummaryAccount {
+            groups,
+            listener: Listener::new(alloc),
+            rows: Rows::new(alloc),
+            messages: 0,
+        }
+    }
+}
+
+impl<'g, 't> Account for SummaryAccount<'g, 't> {
+    ghost use Rattle.std.specs.Prelude.{List};
+    ghost use Rattle.j39_groups.specs.Row.{RowRecord};
+    ghost use Rattle.j39_summary.specs.AccountSteps.{HasSummed};
+    ghost use Rattle.j39_summary.specs.Summaries.{AsksForRows, MakesSummary};
+
+    ghost Subject = { List RowRecord };
+
+    ghost has_met = { λ subject bus. HasSummed subject };
+
+    ghost makes = { λ subject. MakesSummary subject };
+
+    ghost asks = { λ subject. AsksForRows subject };
+
+    #[inline(always)]
+    fn meet<W: Sink>(&mut self, _: &Bus, frame: &Frame, _: &mut W) -> Result<(), LineFault> {
+        match note(&mut self.listener, self.groups, &mut self.rows, frame) {
+            Ok(messages) => {
+                self.messages = self.messages.saturating_add(messages);
+                Ok(())
+            }
+            Err(AllocError) => Err(LineFault::Memory),
+        }
+    }
+
+    fn close<W: Sink>(&mut self, sink: &mut W) -> Result<Made, DeviceFault> {
+        put_rows(&self.rows.rows, self.groups, sink)?;
+        Ok(Made {
+            messages: self.messages,
+            lines: self.rows.rows.len() as u64,
+        })
+    }
+
+    fn laws() {}
+}
+
+/// Takes what is heard at a frame to its rows, and answers how many messages that is.
+#[inline(always)]
+fn note<'t>(
+    listener: &mut Listener,
+    groups: &Groups<'t>,
+    rows: &mut Rows<'t>,
+    frame: &Frame,
+) -> Result<u64, AllocError>
+    ensures noted { IfOk result (λ messages. (F : List FrameRecord) (before : List Entry) → Hears listener.old F
+        → AreRowsOf rows.old.rows.entries before
+        → NotesFrame groups.now F frame.now listener.new rows.new.rows.entries before messages) }
+    ensures asked { OnErr result ((F : List FrameRecord) (heard : List Hearing) → Hears listener.old F
+        → AreHeard groups.now F heard → AreRowsOf rows.old.rows.entries (flat_map (entries_of groups.now) heard)
+        → AsksForRows groups.now F frame.now) }
+{
+    match listener.feed_with(groups, frame) {
+        Err(AllocError) => Err(AllocError),
+        Ok(None) => Ok(0),
+        Ok(Some(heard)) => {
+            rows.begin(&heard);
+            match groups.visit(heard.message.pgn, heard.message.payload, rows) {
+                Ok(()) => Ok(1),
+                Err(AllocError) => Err(AllocError),
+            }
+        }
+    }
+}

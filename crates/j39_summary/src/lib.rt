@@ -1,0 +1,11 @@
+//! The summary of a report: what each parameter of each controller did.
+#![tactic(auto)]
+
+mod account;
+mod deeds;
+mod kept;
+mod lines;
+mod origin;
+mod rows;
+
+pub use account::summary;
