@@ -1,9 +1,10 @@
 -- What is proved of each command.
 use Rattle.clap.specs.Words.{Text}
-use Rattle.j39_cli.specs.CommandWords.{CommandWords, answer, cut, groups, id, name, nodes, report, summary}
+use Rattle.j39_cli.specs.CommandWords.{CommandWords, answer, cut, faults, groups, id, name, nodes, report, summary}
 use Rattle.j39_cli.proofs.TakenLemmas.{IsParsed}
 use Rattle.j39_cli.proofs.AnswerLemmas.{answer_parsed}
 use Rattle.j39_cli.proofs.CutLemmas.{cut_parsed}
+use Rattle.j39_cli.proofs.FaultsLemmas.{faults_parsed}
 use Rattle.j39_cli.proofs.GroupsLemmas.{groups_parsed}
 use Rattle.j39_cli.proofs.IdLemmas.{id_parsed}
 use Rattle.j39_cli.proofs.NameLemmas.{name_parsed}
@@ -14,6 +15,7 @@ use Rattle.j39_cli.proofs.SummaryLemmas.{summary_parsed}
 pub is_parsed : (program : Text) (s : CommandWords) → IsParsed program s
 is_parsed program (report bus table file) = report_parsed program bus table file
 is_parsed program (summary bus table file) = summary_parsed program bus table file
+is_parsed program (faults bus table all file) = faults_parsed program bus table all file
 is_parsed program (nodes bus file) = nodes_parsed program bus file
 is_parsed program (answer node address bus file) = answer_parsed program node address bus file
 is_parsed program (id hex) = id_parsed program hex

@@ -8,6 +8,7 @@ pub mod MetLemmas
 -- the commands, each by itself: for `parse`
 pub mod ReportLemmas
 pub mod SummaryLemmas
+pub mod FaultsLemmas
 pub mod NodesLemmas
 pub mod AnswerLemmas
 pub mod IdLemmas

@@ -4,6 +4,7 @@ use Rattle.clap.specs.Simple.{on_top}
 use Rattle.clap.specs.Words.{App, new_app, with_subcommand}
 use Rattle.j39_cli.specs.AnswerCommand.{answer_app}
 use Rattle.j39_cli.specs.CutCommand.{cut_app}
+use Rattle.j39_cli.specs.FaultsCommand.{faults_app}
 use Rattle.j39_cli.specs.GroupsCommand.{groups_app}
 use Rattle.j39_cli.specs.IdCommand.{id_app}
 use Rattle.j39_cli.specs.NameCommand.{name_app}
@@ -26,6 +27,7 @@ command_apps =
     ∷ nodes_app
     ∷ answer_app
     ∷ groups_app
+    ∷ faults_app
     ∷ []
 
 unfoldable pub line_app : App

@@ -1,11 +1,12 @@
 -- The commands, each with the texts of its values.
-use Rattle.std.specs.Prelude.{◌≡◌, ◌∷◌, List, Option, IfOk}
+use Rattle.std.specs.Prelude.{◌≡◌, ◌∷◌, Bool, List, Option, IfOk}
 use Rattle.clap.specs.Words.{Row, Text, rows_of}
 use Rattle.clap.specs.declared.parser.matches.Found.{Found}
 use Rattle.j39_cli.specs.Answer.{Answer}
 use Rattle.j39_cli.specs.Form.{Form}
 use Rattle.j39_cli.specs.AnswerCommand.{answer_form}
 use Rattle.j39_cli.specs.CutCommand.{cut_form}
+use Rattle.j39_cli.specs.FaultsCommand.{faults_form}
 use Rattle.j39_cli.specs.GroupsCommand.{groups_form}
 use Rattle.j39_cli.specs.IdCommand.{id_form}
 use Rattle.j39_cli.specs.NameCommand.{name_form}
@@ -17,6 +18,7 @@ use Rattle.j39_cli.specs.SummaryCommand.{summary_form}
 pub data CommandWords : Type 0 where
   report : Option Text → Option Text → Option Text → CommandWords
   summary : Option Text → Option Text → Option Text → CommandWords
+  faults : Option Text → Option Text → Bool → Option Text → CommandWords
   nodes : Option Text → Option Text → CommandWords
   answer : Text → Text → Option Text → Option Text → CommandWords
   id : Text → CommandWords
@@ -27,6 +29,7 @@ pub data CommandWords : Type 0 where
 abbrev pub form_of : CommandWords → Form
 form_of (report bus table file) = report_form bus table file
 form_of (summary bus table file) = summary_form bus table file
+form_of (faults bus table all file) = faults_form bus table all file
 form_of (nodes bus file) = nodes_form bus file
 form_of (answer node address bus file) = answer_form node address bus file
 form_of (id hex) = id_form hex

@@ -12,6 +12,7 @@ pub mod Refusal
 pub mod LogCommand
 pub mod ReportCommand
 pub mod SummaryCommand
+pub mod FaultsCommand
 pub mod NodesCommand
 pub mod AnswerCommand
 pub mod IdCommand

@@ -6,6 +6,7 @@ use Rattle.j39_groups.specs.Row.{RowRecord}
 use Rattle.j39_cli.specs.Form.{Meaning}
 use Rattle.j39_cli.specs.AnswerCommand.{answer_meaning}
 use Rattle.j39_cli.specs.CutCommand.{cut_meaning}
+use Rattle.j39_cli.specs.FaultsCommand.{faults_meaning}
 use Rattle.j39_cli.specs.GroupsCommand.{groups_meaning}
 use Rattle.j39_cli.specs.IdCommand.{id_meaning}
 use Rattle.j39_cli.specs.NameCommand.{name_meaning}
@@ -14,11 +15,12 @@ use Rattle.j39_cli.specs.ReportCommand.{report_meaning}
 use Rattle.j39_cli.specs.SummaryCommand.{summary_meaning}
 use Rattle.j39_cli.specs.Turn.{Turn}
 use Rattle.j39_cli.specs.declared.task.Task.{Task}
-use Rattle.j39_cli.specs.declared.task.Task.TheVariants.{Report, Summary, Nodes, Answer, Id, Name, Cut, Groups}
+use Rattle.j39_cli.specs.declared.task.Task.TheVariants.{Report, Summary, Faults, Nodes, Answer, Id, Name, Cut, Groups}
 
 abbrev pub meaning_of : Task → Meaning
 meaning_of (Report bus table file) = report_meaning bus table file
 meaning_of (Summary bus table file) = summary_meaning bus table file
+meaning_of (Faults bus table all file) = faults_meaning bus table all file
 meaning_of (Nodes bus file) = nodes_meaning bus file
 meaning_of (Answer name address bus file) = answer_meaning (name_raw name) address bus file
 meaning_of (Id id) = id_meaning (id_raw id)

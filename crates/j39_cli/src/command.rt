@@ -5,7 +5,7 @@ ghost use Rattle.clap.specs.declared.builder.command.Command.TheViews.{out-Comma
 ghost use Rattle.j39_cli.specs.Command.{bare_app, line_app};
 ghost use Rattle.j39_cli.specs.Rules.{option_rule, value_rule};
 
-use crate::{answer, cut, groups, id, name, nodes, report, summary};
+use crate::{answer, cut, faults, groups, id, name, nodes, report, summary};
 use clap::{Arg, Command};
 use std::alloc::{AllocError, Global};
 
@@ -18,6 +18,7 @@ Examples:
   j1939 report --table my.table trip.log
   candump -L can0 | j1939 report
   j1939 summary trip.log
+  j1939 faults trip.log
   j1939 nodes trip.log
   j1939 answer --name 8000000001401234 --address 0 trip.log
   j1939 id 18EEFF00
@@ -46,6 +47,7 @@ pub(crate) fn line<'a>(alloc: Global) -> Result<Command<'a>, AllocError>
     let line = with_command(line, nodes::command(alloc)?)?;
     let line = with_command(line, answer::command(alloc)?)?;
     let line = with_command(line, groups::command(alloc)?)?;
+    let line = with_command(line, faults::command(alloc)?)?;
     Ok(line)
 }
 

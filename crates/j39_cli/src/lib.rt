@@ -5,6 +5,7 @@ mod answer;
 mod command;
 mod cut;
 mod cut_values;
+mod faults;
 mod fields;
 mod groups;
 mod id;

@@ -4,7 +4,7 @@ ghost use Rattle.j39_groups.specs.Table.{the_table};
 ghost use Rattle.j39_cli.specs.Task.{IsPerformed, reads_log};
 ghost use Rattle.j39_cli.specs.Turn.{turn};
 
-use crate::{Task, answer, cut, groups, id, name, nodes, report, summary};
+use crate::{Task, answer, cut, faults, groups, id, name, nodes, report, summary};
 use j39_device::{Sink, Source};
 use j39_groups::Groups;
 use std::alloc::Global;
@@ -64,6 +64,9 @@ pub fn perform_with<R: Source, W: Sink, E: Sink>(
     match task {
         Task::Report(bus, _, _) => report::perform(alloc, groups, bus, source, sink, err),
         Task::Summary(bus, _, _) => summary::perform(alloc, groups, bus, source, sink, err),
+        Task::Faults(bus, _, is_all, _) => {
+            faults::perform(alloc, groups, bus, *is_all, source, sink, err)
+        }
         Task::Nodes(bus, _) => nodes::perform(bus, source, sink, err),
         Task::Answer(name, address, bus, _) => {
             answer::perform(alloc, *name, address, bus, source, sink, err)

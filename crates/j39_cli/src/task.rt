@@ -90,6 +90,9 @@ pub enum Task<'a> {
     Report(Option<Bus>, Option<WordText<'a>>, Option<WordText<'a>>),
     /// The summary of a log: the bus to read, the file of the table, and FILE, as of a report.
     Summary(Option<Bus>, Option<WordText<'a>>, Option<WordText<'a>>),
+    /// The fault codes in a log: the bus to read, where one is named, the file of the table of parameters, where it
+    /// isn't the built-in one, whether each message is told and not those alone that are news, and FILE, as of a report.
+    Faults(Option<Bus>, Option<WordText<'a>>, bool, Option<WordText<'a>>),
     /// Who holds which address after a log: the bus to read, and FILE, as of a report.
     Nodes(Option<Bus>, Option<WordText<'a>>),
     /// What a node of this NAME, which starts with this address, would send: with the bus to read, and FILE, as of
@@ -113,6 +116,7 @@ impl<'a> Task<'a> {
         match self {
             Task::Report(_, _, file) => opened_of(file),
             Task::Summary(_, _, file) => opened_of(file),
+            Task::Faults(_, _, _, file) => opened_of(file),
             Task::Nodes(_, file) => opened_of(file),
             Task::Answer(_, _, _, file) => opened_of(file),
             _ => None,
@@ -126,6 +130,7 @@ impl<'a> Task<'a> {
         match self {
             Task::Report(_, table, _) => text_of(table),
             Task::Summary(_, table, _) => text_of(table),
+            Task::Faults(_, table, _, _) => text_of(table),
             Task::Groups(table) => text_of(table),
             _ => None,
         }

@@ -1,9 +1,10 @@
 -- A message that is heard has 1,785 bytes at most.
-use Rattle.std.proofs.Common.{◌≡◌, ◌≤◌, ◌∙◌, ℕ, true, false, Bool, List, [], ◌∷◌, ◌++◌, Option, Some, ap, arith, inl, inr, length, length-take, refl, subst, sym, take}
+use Rattle.std.proofs.Common.{◌≡◌, ◌≤◌, ◌∙◌, ℕ, true, false, Bool, List, [], ◌∷◌, ◌++◌, Option, Some, ap, arith, inl}
+use Rattle.std.proofs.Common.{inr, length, length-take, refl, subst, sym, take}
 use Rattle.std.proofs.lemmas.Bool.{both_ways}
 use Rattle.j39_frame.specs.Frame.{FrameRecord}
 use Rattle.j39_transport.proofs.FrameFacts.{announcement_facts}
-use Rattle.j39_transport.specs.Assembly.{Whole, joined}
+use Rattle.j39_transport.specs.Assembly.{Whole, joined_at}
 use Rattle.j39_transport.specs.Events.{Event, announces, at, size}
 use Rattle.j39_transport.specs.Events.Event.{Frame, Forget}
 use Rattle.j39_transport.specs.Key.{Key}
@@ -17,7 +18,7 @@ small_announced k (Forget t) h = absurd (both_ways false refl h)
 
 whole_short : (E : List Event) (i : ℕ) (k : Key) (g : ℕ) (b : List ℕ) → Whole E i k g b → length b ≤ 1785
 whole_short E i k g b w =
-    let l = length-take (size (at E w.start)) (joined E w.places) in
+    let l = length-take (size (at E w.start)) (joined_at E w.places) in
     let s = small_announced k (at E w.start) w.chain.announced in
     let n = ap length w.bytes_are in
     omega arith

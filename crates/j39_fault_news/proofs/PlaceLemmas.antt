@@ -1,5 +1,6 @@
 -- The places that boxes hold.
-use Rattle.std.proofs.Common.{◌≡◌, ◌∙◌, ◌<◌, ℕ, zero, suc, List, ◌∷◌, Option, Some, None, refl, ap, map, slice_set, slice_index_or, length, replicate, set-set}
+use Rattle.std.proofs.Common.{◌≡◌, ◌∙◌, ◌<◌, ℕ, zero, suc, List, ◌∷◌, Option, Some, None, refl, ap, map, slice_set}
+use Rattle.std.proofs.Common.{slice_index_or, length, replicate, set-set}
 use Rattle.std.proofs.lemmas.List.{map-set, get_or-map}
 use Rattle.std.specs.declared.boxed.Box.{Box}
 use Rattle.std.specs.Global.{Global}

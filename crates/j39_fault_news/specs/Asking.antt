@@ -14,6 +14,6 @@ pub record IsFirstOfFaults (F : List FrameRecord) (frame : FrameRecord) : Type 0
   pub of_faults : is_of_faults message ≡ true
   pub first : last_from message.message.pgn message.message.source (faults_among before) ≡ None
 
--- where a message in packets is announced that needs a box, or a message of faults is the first that is kept in its place
+-- where a message in packets is announced that needs a box, or a message of faults is the first of its place
 abbrev pub AsksForFaults : Wanting
 AsksForFaults F frame = AsksForBoxes F frame ⊎ IsFirstOfFaults F frame

@@ -1,5 +1,6 @@
 -- What is kept of a message of faults, for each address.
-use Rattle.std.specs.Prelude.{◌&&◌, not, ℕ, Bool, List, Option, Some, None, bytes_eq, map, option_map, slice_index_or, take, true}
+use Rattle.std.specs.Prelude.{◌&&◌, not, ℕ, Bool, List, Option, Some, None, bytes_eq, map, option_map, slice_index_or}
+use Rattle.std.specs.Prelude.{take, true}
 use Rattle.std.specs.Global.{Global}
 use Rattle.std.specs.declared.boxed.Box.{Box}
 use Rattle.j39_fault_news.specs.News.{is_same_name}

@@ -46,18 +46,19 @@ added rows which ms heard = record {
 }
 
 -- behind these messages this was heard, and what is told of it was written
-pub record Tells (rows : List RowRecord) (which : Telling) (last' : LastSaid) (ms : List Hearing) (heard : Option Hearing)
-    (made : Made) (old new : Option (List ℕ)) : Type 0 where
+pub record Tells (rows : List RowRecord) (which : Telling) (last' : LastSaid) (ms : List Hearing)
+    (heard : Option Hearing) (made : Made) (old new : Option (List ℕ)) : Type 0 where
   pub remembers : Remembers last' (ms ++ faults_among (or_none heard))
   pub made_is : made ≡ made_of (added rows which ms heard)
   pub written : Appends old new (added rows which ms heard).text
 
-abbrev pub TellsFront : List RowRecord → Telling → List Hearing → Option Hearing → Option (List ℕ) → Option (List ℕ) → Type 0
+abbrev pub TellsFront : List RowRecord → Telling → List Hearing → Option Hearing → Option (List ℕ)
+    → Option (List ℕ) → Type 0
 TellsFront rows which ms heard old new = AppendsFront old new (added rows which ms heard).text
 
 -- behind the frames F, of which these messages were heard, this is heard at the frame f, and was told
-pub record MeetsFrame (rows : List RowRecord) (which : Telling) (l' : Listener) (last' : LastSaid) (F : List FrameRecord)
-    (f : FrameRecord) (ms : List Hearing) (made : Made) (old new : Option (List ℕ)) : Type 0 where
+pub record MeetsFrame (rows : List RowRecord) (which : Telling) (l' : Listener) (last' : LastSaid)
+    (F : List FrameRecord) (f : FrameRecord) (ms : List Hearing) (made : Made) (old new : Option (List ℕ)) : Type 0 where
   pub heard : Option Hearing
   pub heard_at : HeardAtWith is_fault_group (F ++ f ∷ []) (length F) heard
   pub hears : Hears l' (F ++ f ∷ [])

@@ -1,5 +1,6 @@
 //! The faults of a bus, as an account of its frames (J1939-73, 5.7.1 and 5.7.2).
-ghost use Rattle.std.specs.Prelude.{◌≡◌, ◌≢◌, ◌<◌, ◌≤◌, ◌^◌, [], List, None, length, true, IfOk, Some, OnErr, OnOk, Err};
+ghost use Rattle.std.specs.Prelude.{◌≡◌, ◌≢◌, ◌<◌, ◌≤◌, ◌^◌, [], List, None, length, true, IfOk, Some, OnErr, OnOk};
+ghost use Rattle.std.specs.Prelude.{Err};
 ghost use Rattle.std.specs.Io.KnownBytes.{Appends};
 ghost use Rattle.j39_device.specs.Device.{AppendsFront};
 ghost use Rattle.j39_frame.specs.Frame.{FrameRecord};
@@ -91,7 +92,8 @@ impl<'g, 't> Account for FaultNews<'g, 't> {
     }
 
     fn laws()
-        ensures begins { (subject : Subject) → Begins (λ bus. HasTold subject) (MakesFaults subject.rows subject.which) }
+        ensures begins { (subject : Subject)
+            → Begins (λ bus. HasTold subject) (MakesFaults subject.rows subject.which) }
         ensures one { (subject : Subject) → MakesOne (MakesFaults subject.rows subject.which) }
     {}
 }

@@ -43,7 +43,8 @@ pub fn faults<R: Source, W: Sink>(
     ensures memory { result ≡ Err Memory
         → AsksWithin AsksForFaults bus (R.remaining source.old) (R.remaining source.new) }
 
-    // The bytes that were taken pass the limit exactly where `TooLong` is answered, and those that pass it aren't handled.
+    // The bytes that were taken pass the limit exactly where `TooLong` is answered, and those that pass it aren't
+    // handled.
     ensures within { result ≢ Err TooLong → TakesWithin limit (R.remaining source.old) (R.remaining source.new) }
     ensures at_limit { result ≡ Err TooLong → StopsAtLimit (MakesFaults groups.now telling) limit bus
         (R.remaining source.old) (R.remaining source.new) (W.held sink.old) (W.held sink.new) }

@@ -1,6 +1,7 @@
 -- Each command answers what clap met under its name.
 use Rattle.j39_cli.proofs.AnswerLemmas.{answer_tells}
 use Rattle.j39_cli.proofs.CutLemmas.{cut_tells}
+use Rattle.j39_cli.proofs.FaultsLemmas.{faults_tells}
 use Rattle.j39_cli.proofs.GroupsLemmas.{groups_tells}
 use Rattle.j39_cli.proofs.IdLemmas.{id_tells}
 use Rattle.j39_cli.proofs.NameLemmas.{name_tells}
@@ -34,3 +35,6 @@ returns-in-answer-clause-tells c = answer_tells _ _ _ c.in-answer.is c.task-in-a
 
 pub returns-in-groups-clause-tells : goal.returns-in-groups-clause-tells
 returns-in-groups-clause-tells c = groups_tells _ _ _ c.in-groups.is c.task-in-groups.ensures.answer
+
+pub returns-in-faults-clause-tells : goal.returns-in-faults-clause-tells
+returns-in-faults-clause-tells c = faults_tells _ _ _ c.in-faults.is c.task-in-faults.ensures.answer

@@ -1,5 +1,6 @@
 -- A message is heard at the frame, or none.
-use Rattle.std.proofs.Common.{◌≡◌, ◌≤◌, ◌∙◌, ◌++◌, ◌∷◌, [], List, None, Some, ap, arith, inr, refl, is_some, length, subst, sym}
+use Rattle.std.proofs.Common.{◌≡◌, ◌≤◌, ◌∙◌, ◌++◌, ◌∷◌, [], List, None, Some, ap, arith, inr, refl, is_some, length}
+use Rattle.std.proofs.Common.{subst, sym}
 use Rattle.j39_frame.specs.Frame.{FrameRecord}
 use Rattle.j39_frame.specs.Identifier.{pgn_of}
 use Rattle.j39_listen.specs.Heard.{HeardAtWith}

@@ -1,0 +1,126 @@
+//! The command `faults`: its words, and how it is performed.
+ghost use Rattle.std.specs.Prelude.{◌≡◌, ◌≢◌, IfOk, codes, false, option_map, true, Err};
+ghost use Rattle.clap.specs.Words.{app_of, first_value, found_of, with_rule};
+ghost use Rattle.clap.specs.declared.builder.command.Command.TheViews.{out-Command as settings_of};
+ghost use Rattle.j39_fault_news.specs.Asking.{AsksForFaults};
+ghost use Rattle.j39_fault_news.specs.Output.{MakesFaults};
+ghost use Rattle.j39_cli.specs.CommandWords as written;
+ghost use Rattle.j39_cli.specs.CommandWords.{IsAnswer};
+ghost use Rattle.j39_cli.specs.FaultsCommand.{all_rule, faults_app, is_given, telling_of};
+ghost use Rattle.j39_cli.specs.LogCommand.{IsRun};
+ghost use Rattle.j39_cli.specs.Task.{IsInRange};
+ghost use Rattle.j39_cli.specs.Turn.{turn};
+
+use crate::command::with_table;
+use crate::log::{LOG_LIMIT, copy_of, tell_end, with_log};
+use crate::words::bus_value;
+use crate::{ParseFault, Task, WordText};
+use clap::{Arg, ArgAction, ArgMatches, Command};
+use j39_device::{Sink, Source};
+use j39_fault_news::Telling;
+use j39_groups::Groups;
+use j39_log::Bus;
+use std::alloc::{AllocError, Global};
+
+const ABOUT: &str = "\
+Writes the fault codes in a log, as they become news: one line for each code of
+each message of DM1 (active codes) and DM2 (previously active ones) that has other
+bytes or another NAME than the last message before of that group from that
+address, or that is the first. With --all, of each message. The line has the time,
+the source address (hex), the NAME of the device at that address (hex, or dashes
+where no claim before tells it), active or previous, the SPN, the FMI, how often it
+came (or -), the lamps that are on (a flashing one with *, or -), what the table
+calls the parameter, and what the FMI means. A message with no code writes none.";
+
+const HELP: &str = "\
+At the end the counts go to standard error:
+  frames    frames of the bus that is read
+  other     lines that hold no such frame: of another bus, standard or remote
+            frames, CAN FD, error frames
+  unread    lines of no form that candump -l or -L writes
+  messages  messages of faults that were heard, in one frame or in packets
+  lines     lines written
+
+Example:
+  j1939 faults --bus can0 trip.log
+writes lines such as
+  (1700000000.250000) 00 8000000001401234 active 110 0 3 red,amber coolant temperature: above normal, most severe";
+
+/// What clap is told of it.
+pub(crate) fn command<'a>(alloc: Global) -> Result<Command<'a>, AllocError>
+    ensures app { IfOk result (λ c. app_of c ≡ faults_app) }
+    ensures local { IfOk result (λ c. (settings_of c).has_globals ≡ false) }
+{
+    let command = Command::new(alloc, "faults")
+        .about("Writes the fault codes in a log")
+        .long_about(ABOUT)
+        .after_help(HELP);
+    with_log(alloc, with_all(alloc, with_table(alloc, command)?)?)
+}
+
+/// The command with `--all`.
+fn with_all<'a>(alloc: Global, command: Command<'a>) -> Result<Command<'a>, AllocError>
+    ensures app { IfOk result (λ c. app_of c ≡ with_rule (app_of command.entry) all_rule) }
+    ensures local { IfOk result (λ c. (settings_of c).has_globals ≡ (settings_of command.entry).has_globals) }
+{
+    let arg = Arg::new(alloc, "all")
+        .long("all")
+        .action(ArgAction::SetTrue)
+        .help("Each message of faults, whether it is news or not");
+    command.arg(arg)
+}
+
+/// The task that its words ask for.
+pub(crate) fn task<'a>(given: &ArgMatches<'a>) -> Result<Task<'a>, ParseFault>
+    ensures answer { IsAnswer (written.faults (first_value (found_of given.now) (codes "bus"))
+        (first_value (found_of given.now) (codes "table")) (is_given (first_value (found_of given.now) (codes "all")))
+        (first_value (found_of given.now) (codes "file"))) result }
+    ensures memory { result ≢ Err ParseFault.Memory }
+    ensures in_range { IfOk result IsInRange }
+{
+    let table = given.get_str("table").map(WordText::new);
+    let is_all = is_given(given.get_str("all"));
+    let file = given.get_str("file").map(WordText::new);
+    match bus_value(given) {
+        Ok(bus) => Ok(Task::Faults(bus, table, is_all, file)),
+        Err(fault) => Err(fault),
+    }
+}
+
+/// Whether clap met a flag.
+fn is_given(flag: Option<&str>) -> bool
+    ensures { result ≡ is_given (option_map (λ text. text.now) flag.entry) }
+{
+    match flag {
+        Some(text) => text == "true",
+        None => false,
+    }
+}
+
+/// Performs it by a table of parameters: the faults go to `sink`, the counts or what failed to `err`.
+pub(crate) fn perform<R: Source, W: Sink, E: Sink>(
+    alloc: Global,
+    groups: &Groups<'_>,
+    bus: &Option<Bus>,
+    is_all: bool,
+    source: &mut R,
+    sink: &mut W,
+    err: &mut E,
+) -> u8
+    ensures run { IsRun AsksForFaults (MakesFaults groups.now (telling_of is_all)) bus.now result
+        (turn R.remaining R.has_failed source.old source.new)
+        (turn W.held W.has_failed sink.old sink.new)
+        (turn E.held E.has_failed err.old err.new) }
+    ensures flushed { result ≡ 0 → W.is_flushed sink.new ≡ true }
+{
+    let telling = telling_of(is_all);
+    let end = j39_fault_news::faults(alloc, groups, telling, source, sink, copy_of(bus), LOG_LIMIT);
+    tell_end(end, err)
+}
+
+/// Which messages are told: those that are news, or each.
+fn telling_of(is_all: bool) -> Telling
+    ensures { result ≡ telling_of is_all }
+{
+    if is_all { Telling::All } else { Telling::News }
+}
