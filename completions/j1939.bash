@@ -10,7 +10,7 @@ _j1939_buses() {
 _j1939_options() {
   case $1 in
     '') echo --help -h --version -V ;;
-    report) echo --bus --table --help -h ;;
+    report | summary) echo --bus --table --help -h ;;
     faults) echo --bus --table --all --help -h ;;
     nodes) echo --bus --help -h ;;
     answer) echo --name --address --bus --help -h ;;
@@ -21,7 +21,7 @@ _j1939_options() {
 }
 
 _j1939() {
-  local commands='report faults nodes answer groups id name cut help'
+  local commands='report faults summary nodes answer groups id name cut help'
   local word=${COMP_WORDS[COMP_CWORD]} before=${COMP_WORDS[COMP_CWORD - 1]} command='' offered=''
   if [ "$COMP_CWORD" -gt 1 ]; then
     command=${COMP_WORDS[1]}
@@ -38,7 +38,7 @@ _j1939() {
     *:--name:* | *:--address:* | *:--source:* | *:--pgn:* | *:--at:*) ;;
     *:-*) offered=$(_j1939_options "$command") ;;
     :* | help:*) offered=$commands ;;
-    report:* | faults:* | nodes:* | answer:*) compopt -o default 2>/dev/null ;;
+    report:* | faults:* | summary:* | nodes:* | answer:*) compopt -o default 2>/dev/null ;;
   esac
   mapfile -t COMPREPLY < <(compgen -W "$offered" -- "$word")
 }

@@ -21,6 +21,11 @@ fn told(alloc: Global, task: &Task<'_>) -> Result<String, AllocError> {
             let command = format!(in alloc; "report by {}", table.as_str())?;
             told_of_log(alloc, command.as_str(), bus, file)
         }
+        Task::Summary(bus, None, file) => told_of_log(alloc, "summary", bus, file),
+        Task::Summary(bus, Some(table), file) => {
+            let command = format!(in alloc; "summary by {}", table.as_str())?;
+            told_of_log(alloc, command.as_str(), bus, file)
+        }
         Task::Nodes(bus, file) => told_of_log(alloc, "nodes", bus, file),
         Task::Answer(name, address, bus, file) => {
             let command = format!(in alloc; "answer {:016X} {}", name.raw(), address.number())?;
@@ -49,6 +54,24 @@ fn told_of_log(
         None => "-",
     };
     format!(in alloc; "{command} {} {file}", String::from_utf8_lossy(alloc, bus)?)
+}
+
+#[test]
+fn reads_summary(rt: HostRuntime) -> Result<(), Fail> {
+    let lines: [(&[&str], &str); 4] = [
+        (&["j1939", "summary"], "summary - -"),
+        (
+            &["j1939", "summary", "--bus", "can0", "--table", "trucks", "trip.log"],
+            "summary by trucks can0 trip.log",
+        ),
+        (&["j1939", "summary", "--bus", "can 0", "log"], "bad --bus"),
+        (&["j1939", "summary", "a", "b"], "usage"),
+    ];
+    for (words, want) in lines.iter() {
+        let told = answer(rt.alloc(), words)?;
+        assert_eq!(rt; told.as_str(), *want);
+    }
+    Ok(())
 }
 
 #[test]
