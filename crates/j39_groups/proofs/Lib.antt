@@ -6,6 +6,7 @@ pub mod PartsLemmas
 -- the built-in table, and its fast way
 pub mod TableLemmas
 pub mod SlotLemmas
+pub mod NameLemmas
 pub mod ReadBackLemmas
 pub mod QuickLemmas
 -- tables that were read

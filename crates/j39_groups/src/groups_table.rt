@@ -1,12 +1,15 @@
 //! A table of parameters, as its callers see it.
-ghost use Rattle.std.specs.Prelude.{◌≡◌, ◌==◌, ◌<◌, ◌≤◌, IfOk, IsOk, IsTrue, OnOk, OnErr, drop, false, filter, length, map, nat_lt, true, vec_len};
+ghost use Rattle.std.specs.Prelude.{◌≡◌, ◌==◌, ◌<◌, ◌≤◌, IfOk, IsOk, IsTrue, OnOk, OnErr, drop, false, filter, length, map, nat_lt, slice_get, true, vec_len};
 ghost use Rattle.std.specs.Io.KnownBytes.{Appends};
-ghost use Rattle.std.specs.List.{flat_map, prefix_len};
+ghost use Rattle.std.specs.List.{filter_map, flat_map, prefix_len};
 ghost use Rattle.std.specs.List.Sorted.{IsNonDecreasingBy, IsPartitionPoint};
 ghost use Rattle.j39_frame.specs.Pgn.{pgn_raw};
 ghost use Rattle.j39_device.specs.Device.{AppendsFront, Marks};
 ghost use Rattle.j39_groups.specs.Parameters.{rows_text};
 ghost use Rattle.j39_groups.specs.Quick.{reading_line};
+ghost use Rattle.std.specs.Option.{option_copied};
+ghost use Rattle.j39_groups.specs.CodeRows.{row_record};
+ghost use Rattle.j39_groups.specs.Names.{group_at, group_name_in};
 ghost use Rattle.j39_groups.specs.ReadRows.{BeginsAt, read_row_record};
 ghost use Rattle.j39_groups.specs.Readings.{HaveSameGroups, is_reported_in, readings_in};
 ghost use Rattle.j39_groups.specs.Table.{the_table};
@@ -20,7 +23,8 @@ use crate::quick_lines::{HEAD, LINES, lines_before};
 use crate::read_lines::put_rows;
 use crate::read_parameters::put_read_table;
 use crate::read_row::ReadRow;
-use crate::reading::{is_reported, readings};
+use crate::reading::{is_reported, readings, rows};
+use crate::table::Row;
 use j39_device::{DeviceFault, Sink, put_all};
 use j39_frame::Pgn;
 use std::alloc::AllocError;
@@ -76,6 +80,16 @@ impl<'t> Groups<'t> {
         }
     }
 
+    /// What the table calls a group, as its first row does; `None` where it lists none.
+    pub fn name_of(&self, pgn: Pgn) -> Option<&[u8]>
+        ensures { option_copied result ≡ group_name_in self.now (pgn_raw pgn) }
+    {
+        match &self.listed {
+            Listed::BuiltIn => name_in(rows(), pgn.raw()),
+            Listed::Read(table) => read_name_in(table.rows.as_slice(), pgn.raw()),
+        }
+    }
+
     /// Writes the table (own): a line for each row, in the table's order, with the PGN and the short name of its group,
     /// its SPN, where it stands in the payload, what a raw step is worth, the value of the raw number 0, the unit, and
     /// its name. After a fault a front was written.
@@ -116,6 +130,30 @@ impl<'t> Groups<'t> {
             Listed::Read(table) => put_read(block, table, head, from, pgn, bytes, sink),
         }
     }
+}
+
+/// What these rows call a group.
+fn name_in(rows: &[Row], pgn: u32) -> Option<&[u8]>
+    ensures { option_copied result ≡ slice_get (filter_map (λ row. group_at pgn (row_record row)) rows.now) 0 }
+{
+    for row in rows {
+        if row.pgn == pgn {
+            return Some(row.group.as_bytes());
+        }
+    }
+    None
+}
+
+/// What these rows of a table that was built call a group.
+fn read_name_in<'r>(rows: &'r [ReadRow<'_>], pgn: u32) -> Option<&'r [u8]>
+    ensures { option_copied result ≡ slice_get (filter_map (λ row. group_at pgn (read_row_record row)) rows.now) 0 }
+{
+    for row in rows {
+        if row.pgn.raw() == pgn {
+            return Some(row.group);
+        }
+    }
+    None
 }
 
 /// Whether a table that was built lists a group.
