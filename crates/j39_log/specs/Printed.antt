@@ -1,5 +1,5 @@
 -- Lines that `candump` prints where it is not asked for a log: `can0  18FEF100   [8]  01 02 03 04 05 06 07 08`.
-use Rattle.std.specs.Prelude.{◌==◌, ◌&&◌, ◌||◌, ℕ, List, [], ◌∷◌, Bool, true, false, length, nat_eq, nat_le, codes, if◌then◌else◌}
+use Rattle.std.specs.Prelude.{◌==◌, ◌&&◌, ◌||◌, ℕ, List, [], ◌∷◌, Bool, false, length, nat_eq, nat_le, codes, if◌then◌else◌}
 use Rattle.std.specs.Char.{is_ascii_digit, is_ascii_hexdigit}
 use Rattle.std.specs.List.{list_all, starts_with}
 use Rattle.j39_log.specs.Fields.{fields_in}

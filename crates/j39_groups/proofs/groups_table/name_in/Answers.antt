@@ -1,5 +1,5 @@
 -- The first row of the group gives its name.
-use Rattle.std.proofs.Common.{ap, ◌∙◌, List, ℕ, Some, Option}
+use Rattle.std.proofs.Common.{ap, ◌∙◌, List, ℕ, Some}
 use Rattle.j39_groups.specs.CodeRows.{row_record}
 use Rattle.j39_groups.proofs.NameLemmas.{first_name, no_name}
 use Rattle.j39_groups.proofs.groups_table.name_in.Goals as goal

@@ -1,5 +1,5 @@
 -- The first row of the group gives its name.
-use Rattle.std.proofs.Common.{ap, sym, subst, ◌∙◌, ◌≡◌, ◌≢◌, List, ℕ, Some, Option}
+use Rattle.std.proofs.Common.{ap, sym, subst, ◌∙◌, ◌≡◌, ◌≢◌, Some}
 use Rattle.j39_frame.specs.Pgn.{pgn_raw}
 use Rattle.j39_groups.specs.declared.read_row.ReadRow.{ReadRow}
 use Rattle.j39_groups.specs.ReadRows.{read_row_record}
