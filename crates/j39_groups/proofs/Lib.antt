@@ -11,6 +11,8 @@ pub mod QuickLemmas
 -- tables that were read
 pub mod SortLemmas
 pub mod MarkLemmas
-pub mod NameLemmas
 pub mod ReadLemmas
 pub mod VisitLemmas
+-- what a table calls its groups and parameters
+pub mod NameLemmas
+pub mod GroupNameLemmas

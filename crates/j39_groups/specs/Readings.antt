@@ -98,14 +98,6 @@ is_heard_group pgn = nat_le 240 (pgn / 256 % 256) || pgn % 256 == 0
 unfoldable pub is_reported_in : List RowRecord → ℕ → Bool
 is_reported_in table pgn = not (is_network_group pgn) && list_any (λ row. row.pgn == pgn) table
 
--- what a row calls its parameter, where it is this one of this group
-abbrev pub name_at : ℕ → ℕ → RowRecord → Option (List ℕ)
-name_at pgn spn row = if row.pgn == pgn && row.spn == spn then Some row.name else None
-
--- what a parameter of a group is called: by the first row that lists it
-abbrev pub name_in : List RowRecord → ℕ → ℕ → Option (List ℕ)
-name_in table pgn spn = slice_get (filter_map (name_at pgn spn) table) 0
-
 -- by the table that is built in
 abbrev pub readings_of : ℕ → List ℕ → List ReadingRecord
 readings_of pgn bytes = readings_in the_table pgn bytes

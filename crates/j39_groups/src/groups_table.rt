@@ -5,29 +5,28 @@ ghost use Rattle.std.specs.List.{filter_map, flat_map, prefix_len};
 ghost use Rattle.std.specs.List.Sorted.{IsNonDecreasingBy, IsPartitionPoint};
 ghost use Rattle.j39_frame.specs.Pgn.{pgn_raw};
 ghost use Rattle.j39_device.specs.Device.{AppendsFront, Marks};
-ghost use Rattle.j39_groups.specs.Names.{parameter_name};
+ghost use Rattle.j39_groups.specs.Names.{group_name_in, name_in, parameter_name};
 ghost use Rattle.j39_groups.specs.Printed.{rows_text};
 ghost use Rattle.j39_groups.specs.Quick.{reading_line};
 ghost use Rattle.j39_groups.specs.ReadRows.{BeginsAt, read_row_record};
-ghost use Rattle.j39_groups.specs.CodeRows.{row_record};
-ghost use Rattle.j39_groups.specs.Readings.{HaveSameGroups, is_reported_in, name_at, name_in, readings_in};
+ghost use Rattle.j39_groups.specs.Readings.{HaveSameGroups, is_reported_in, readings_in};
 ghost use Rattle.j39_groups.specs.Table.{the_table};
 ghost use Rattle.j39_groups.specs.Visits.{StopsAmong, TakesMore};
-ghost use Rattle.std.specs.Option.{option_map};
+ghost use Rattle.std.specs.Option.{option_copied, option_map};
 
 use crate::by_group::by_group;
 use crate::lines::put_found;
 use crate::listed::{Listed, ReadTable};
 use crate::marks::mark;
 use crate::names::{name_in, read_name_in};
-use crate::printed;
+use crate::names_in_group::{built_in_name_of, read_name_of};
 use crate::quick_lines::{HEAD, LINES, lines_before};
 use crate::read_lines::put_rows;
 use crate::read_parameters::put_read_table;
 use crate::read_row::ReadRow;
 use crate::reading::{is_reported, readings, rows};
-use crate::table::Row;
 use crate::visiting::{ReadingVisitor, visit_built_in, visit_rows};
+use crate::{group_names, printed};
 use j39_device::{DeviceFault, Sink, put_all};
 use j39_frame::Pgn;
 use std::alloc::AllocError;
@@ -80,6 +79,16 @@ impl<'t> Groups<'t> {
         match &self.listed {
             Listed::BuiltIn => is_reported(pgn),
             Listed::Read(table) => is_listed(table, pgn),
+        }
+    }
+
+    /// What the table calls a group, as its first row does; `None` where it lists none.
+    pub fn group_name(&self, pgn: Pgn) -> Option<&[u8]>
+        ensures { option_copied result ≡ group_name_in self.now (pgn_raw pgn) }
+    {
+        match &self.listed {
+            Listed::BuiltIn => group_names::name_in(rows(), pgn.raw()),
+            Listed::Read(table) => group_names::read_name_in(table.rows.as_slice(), pgn.raw()),
         }
     }
 
@@ -155,71 +164,13 @@ impl<'t> Groups<'t> {
     }
 
     /// What a parameter of a group is called: by the first row of the table that lists it.
-    pub fn name_of(&self, pgn: u32, spn: u32) -> Option<&[u8]>
+    pub fn parameter_name_in(&self, pgn: u32, spn: u32) -> Option<&[u8]>
         ensures { option_map (λ name. name.now) result ≡ name_in self.now pgn spn }
     {
         match &self.listed {
             Listed::BuiltIn => built_in_name_of(pgn, spn),
             Listed::Read(table) => read_name_of(table, pgn, spn),
         }
-    }
-}
-
-/// What a parameter of a group is called in the built-in table.
-fn built_in_name_of(pgn: u32, spn: u32) -> Option<&'static [u8]>
-    ensures { option_map (λ name. name.now) result ≡ name_in the_table pgn spn }
-{
-    built_in_name(rows(), pgn, spn)
-}
-
-fn built_in_name(rows: &'static [Row], pgn: u32, spn: u32) -> Option<&'static [u8]>
-    ensures { option_map (λ name. name.now) result
-        ≡ slice_get (filter_map (λ row. name_at pgn spn (row_record row)) rows.now) 0 }
-{
-    for row in rows {
-        if let Some(name) = built_in_name_at(row, pgn, spn) {
-            return Some(name);
-        }
-    }
-    None
-}
-
-fn built_in_name_at(row: &'static Row, pgn: u32, spn: u32) -> Option<&'static [u8]>
-    ensures { option_map (λ name. name.now) result ≡ name_at pgn spn (row_record row.now) }
-{
-    if row.pgn == pgn && row.spn == spn {
-        Some(row.name.as_bytes())
-    } else {
-        None
-    }
-}
-
-/// What a parameter of a group is called in a table that was built.
-fn read_name_of<'r, 't>(table: &'r ReadTable<'t>, pgn: u32, spn: u32) -> Option<&'r [u8]>
-    ensures { option_map (λ name. name.now) result ≡ name_in (map read_row_record table.now.rows.items) pgn spn }
-{
-    read_name(table.rows.as_slice(), pgn, spn)
-}
-
-fn read_name<'r, 't>(rows: &'r [ReadRow<'t>], pgn: u32, spn: u32) -> Option<&'r [u8]>
-    ensures { option_map (λ name. name.now) result
-        ≡ slice_get (filter_map (λ row. name_at pgn spn (read_row_record row)) rows.now) 0 }
-{
-    for row in rows {
-        if let Some(name) = read_name_at(row, pgn, spn) {
-            return Some(name);
-        }
-    }
-    None
-}
-
-fn read_name_at<'r, 't>(row: &'r ReadRow<'t>, pgn: u32, spn: u32) -> Option<&'r [u8]>
-    ensures { option_map (λ name. name.now) result ≡ name_at pgn spn (read_row_record row.now) }
-{
-    if row.pgn.raw() == pgn && row.spn == spn {
-        Some(row.name)
-    } else {
-        None
     }
 }
 

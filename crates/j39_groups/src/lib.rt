@@ -4,6 +4,7 @@
 mod by_group;
 mod by_number;
 mod field;
+mod group_names;
 mod groups_table;
 pub mod laws;
 mod lines;
@@ -11,6 +12,7 @@ mod listable;
 mod listed;
 mod marks;
 mod names;
+mod names_in_group;
 mod printed;
 mod quick_lines;
 mod quick_rows;

@@ -15,6 +15,10 @@ no_newline_append (x ∷ xs) ys p q = (p.0, no_newline_append xs ys p.1 q)
 pub whole_kept : (line kept : List ℕ) (more : Bool) → IsKept line kept more → more ≡ false → kept ≡ line
 whole_kept line kept more k e = k.kept_is ∙ take_all 256 line (ltb-false 256 (length line) (sym k.more_is ∙ e))
 
+-- a line that has more is longer than what is kept
+pub long_kept : (line kept : List ℕ) (more : Bool) → IsKept line kept more → more ≡ true → 256 < length line
+long_kept line kept more k e = ltb-true 256 (length line) (sym k.more_is ∙ e)
+
 take_min : (n : ℕ) (xs : List ℕ) → take (min n (length xs)) xs ≡ take n xs
 take_min n xs =
     elim (nat_lt n (length xs)) as (λ b. nat_lt n (length xs) ≡ b → take (min n (length xs)) xs ≡ take n xs) [

@@ -6,6 +6,9 @@ pub mod Text
 pub mod Line
 pub mod Spelled
 pub mod Log
+-- what other lines hold, and lines that `candump` prints
+pub mod Kind
+pub mod Printed
 -- what is written
 pub mod StampText
 pub mod Canonical

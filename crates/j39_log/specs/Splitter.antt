@@ -29,10 +29,10 @@ pub record EndsLine (begun piece line : List ℕ) (taken : ℕ) : Type 0 where
   pub taken_is : taken ≡ length front + 1
   pub line_is : line ≡ begun ++ front
 
--- what is handed out is this line, of which only its length is told above 256 bytes
+-- what is handed out is this line; where it was kept and has more than 256 bytes, the first 256
 abbrev pub IsRawLine : RawLine → List ℕ → Type 0
 IsRawLine (Whole bytes) line = bytes.now ≡ line
-IsRawLine Long line = 256 < length line
+IsRawLine (Long front) line = (256 < length line) × (front.now ≡ take 256 line)
 
 -- the answer to a piece, after these bytes of a line: none where the piece has no newline, else the line that it ends
 abbrev pub AnswersPiece : List ℕ → List ℕ → ℕ → Option RawLine → Type 0

@@ -51,7 +51,7 @@ fn is_flag(field: &[u8]) -> bool
 
 /// The first field and what follows it.
 #[tactic(auto, using(crate::proofs::FieldLemmas::no_field))]
-fn next_field(text: &[u8]) -> Option<(&[u8], &[u8])>
+pub(crate) fn next_field(text: &[u8]) -> Option<(&[u8], &[u8])>
     ensures { MatchOption result (fields_in text.now ≡ [])
         (λ found. fields_in text.now ≡ found.0.now ∷ fields_in found.1.now) }
 {

@@ -4,11 +4,13 @@
 mod bus;
 mod canonical;
 mod fields;
+mod kind;
 mod lanes;
 pub mod laws;
 mod line;
 mod newline;
 mod plain;
+mod printed;
 mod seconds;
 mod splitter;
 mod stamp_text;
@@ -16,7 +18,9 @@ mod text;
 
 pub use bus::Bus;
 pub use canonical::line_of;
+pub use kind::{OtherKind, kind_of};
 pub use line::{LINE_LIMIT, Line, read_line};
+pub use printed::is_printed;
 pub use seconds::Seconds;
 pub use splitter::{RawLine, Splitter};
 pub use stamp_text::push_stamp;

@@ -24,8 +24,8 @@ pub struct Splitter {
 pub enum RawLine<'a> {
     /// The line, of at most 256 bytes where it was kept.
     Whole(&'a [u8]),
-    /// It has more than 256 bytes.
-    Long,
+    /// The first 256 bytes of one that was kept and has more.
+    Long(&'a [u8]),
 }
 
 impl<'a> RawLine<'a> {
@@ -38,7 +38,7 @@ impl<'a> RawLine<'a> {
     {
         match self {
             RawLine::Whole(line) => read_line(line),
-            RawLine::Long => Line::Unread,
+            RawLine::Long(_) => Line::Unread,
         }
     }
 }
@@ -177,7 +177,7 @@ impl Splitter {
         ensures { (line : List ℕ) → IsKept line self.now.kept.items self.now.has_more → IsRawLine result line }
     {
         if self.has_more {
-            RawLine::Long
+            RawLine::Long(self.kept.as_slice())
         } else {
             RawLine::Whole(self.kept.as_slice())
         }

@@ -4,7 +4,7 @@ use Rattle.std.specs.List.{flat_map}
 use Rattle.hex.specs.Hex.{encode_upper}
 use Rattle.j39_text.specs.Chars.{newline}
 use Rattle.j39_log.specs.StampText.{stamp_text}
-use Rattle.j39_groups.specs.Readings.{name_in}
+use Rattle.j39_groups.specs.Names.{name_in}
 use Rattle.j39_groups.specs.Row.{RowRecord}
 use Rattle.j39_groups.specs.Value.{ValueRecord, number, on, off, error, reserved, indicator, text}
 use Rattle.j39_groups.specs.ValueText.{scaled_text, value_text}

@@ -253,7 +253,7 @@ fn put_name<W: Sink>(
 fn name_of<'r>(groups: &'r Groups<'_>, pgn: u32, spn: u32) -> &'r [u8]
     ensures { result.now ≡ called_in groups.now pgn spn }
 {
-    match groups.name_of(pgn, spn) {
+    match groups.parameter_name_in(pgn, spn) {
         Some(name) => name,
         None => b"-",
     }

@@ -1,0 +1,97 @@
+//! The survey of a log, piece by piece.
+ghost use Rattle.std.specs.Prelude.{◌≡◌, ◌≢◌, ◌<◌, ◌≤◌, [], true, length, IfSome, OnOk, OnErr, Err};
+ghost use Rattle.j39_listen.specs.Run.{TakesWithin};
+ghost use Rattle.j39_listen.specs.declared.running.RunFault.TheVariants.{Memory, Read, TooLong, Write};
+ghost use Rattle.j39_survey.specs.Run.{StopsWithin, WritesSurvey};
+ghost use Rattle.j39_survey.specs.Steps.{HasReadLog, HasTaken, TakesSome};
+
+use crate::pieces::Pieces;
+use crate::writing::put_survey;
+use j39_device::{DeviceFault, Sink, Source};
+use j39_groups::Groups;
+use j39_listen::RunFault;
+use std::alloc::Global;
+
+/// The bytes of one read.
+const PIECE: usize = 65_536;
+
+/// Writes what a log of at most `limit` bytes is: how many lines it has, its interfaces, its groups, by a table of
+/// parameters, its other lines by kind, and its unread lines. Nothing is written before the end of the log. It takes
+/// memory at the start alone.
+pub fn survey<R: Source, W: Sink>(
+    alloc: Global,
+    groups: &Groups<'_>,
+    source: &mut R,
+    sink: &mut W,
+    limit: u64,
+) -> Result<(), RunFault>
+    // What is written is the survey of the log's lines, and nothing else.
+    ensures survey { OnOk result (IfSome (R.remaining source.old)
+        (λ log. WritesSurvey groups.now log (W.held sink.old) (W.held sink.new))) }
+
+    // Each fault comes only where its device failed, or the log is longer than the limit.
+    ensures short { OnOk result (IfSome (R.remaining source.old) (λ log. length log ≤ limit)) }
+    ensures too_long { result ≡ Err TooLong → IfSome (R.remaining source.old) (λ log. limit < length log) }
+    ensures read { result ≡ Err Read → R.has_failed source.new ≡ true }
+    ensures read_unmarked { result ≢ Err Read → R.has_failed source.new ≡ R.has_failed source.old }
+    ensures write { result ≡ Err Write → W.has_failed sink.new ≡ true }
+    ensures write_unmarked { result ≢ Err Write → W.has_failed sink.new ≡ W.has_failed sink.old }
+
+    // Memory is wanted before the first read.
+    ensures memory { result ≡ Err Memory → R.remaining source.new ≡ R.remaining source.old }
+
+    // The bytes that were taken pass the limit only where `TooLong` is answered.
+    ensures within { result ≢ Err TooLong → TakesWithin limit (R.remaining source.old) (R.remaining source.new) }
+
+    // What was written is passed on at the end; before the end of the log nothing is written.
+    ensures flushed { OnOk result (W.is_flushed sink.new ≡ true) }
+    ensures silent { OnErr result (result ≢ Err Write
+        → (W.held sink.new ≡ W.held sink.old) × (W.is_flushed sink.new ≡ W.is_flushed sink.old)) }
+
+    // What was written before a fault is a front of the survey of the bytes that were read.
+    ensures prefix { OnErr result (StopsWithin groups.now (R.remaining source.old) (R.remaining source.new)
+        (W.held sink.old) (W.held sink.new)) }
+{
+    let mut pieces = match Pieces::new(alloc) {
+        Ok(pieces) => pieces,
+        Err(_) => return Err(RunFault::Memory),
+    };
+    match read_log(&mut pieces, source, limit) {
+        Ok(()) => {}
+        Err(fault) => return Err(fault),
+    }
+    match put_survey(groups, &pieces.survey, sink) {
+        Ok(()) => Ok(()),
+        Err(DeviceFault) => Err(RunFault::Write),
+    }
+}
+
+/// Reads a log to its end, piece by piece.
+fn read_log<R: Source>(pieces: &mut Pieces, source: &mut R, limit: u64) -> Result<(), RunFault>
+    ensures read_all { OnOk result (HasTaken pieces.old []
+        → HasReadLog limit pieces.new (R.remaining source.old) (R.remaining source.new)) }
+    ensures took { OnErr result (TakesSome (R.remaining source.old) (R.remaining source.new)) }
+    ensures too_long { result ≡ Err TooLong → IfSome (R.remaining source.old) (λ log. limit < length log) }
+    ensures read { result ≡ Err Read → R.has_failed source.new ≡ true }
+    ensures read_unmarked { result ≢ Err Read → R.has_failed source.new ≡ R.has_failed source.old }
+    ensures memory { result ≢ Err Memory }
+    ensures write { result ≢ Err Write }
+    ensures within { result ≢ Err TooLong → TakesWithin limit (R.remaining source.old) (R.remaining source.new) }
+{
+    let mut piece = [0u8; PIECE];
+    let mut room = limit;
+    'pieces: loop {
+        let Ok(n) = source.pull(&mut piece) else {
+            return Err(RunFault::Read);
+        };
+        if n == 0 {
+            pieces.finish();
+            return Ok(());
+        }
+        if n as u64 > room {
+            return Err(RunFault::TooLong);
+        }
+        room -= n as u64;
+        pieces.take(&piece[..n]);
+    }
+}
