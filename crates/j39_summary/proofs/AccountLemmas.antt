@@ -7,7 +7,7 @@ use Rattle.std.proofs.lemmas.Grind.{flat_map-append}
 use Rattle.std.proofs.lemmas.List.{length-map, map-append}
 use Rattle.j39_device.specs.Device.{AppendsFront}
 use Rattle.j39_frame.specs.Frame.{FrameRecord}
-use Rattle.j39_groups.specs.Readings.{readings_in}
+use Rattle.j39_groups.specs.Readings.{is_reported_in, readings_in}
 use Rattle.j39_groups.specs.Row.{RowRecord}
 use Rattle.j39_groups.specs.Visits.{StopsAmong, TakesMore}
 use Rattle.j39_listen.specs.AccountSteps.{Begins, Closes, MakesOne, Meets, StopsAtEnd}
@@ -19,6 +19,7 @@ use Rattle.j39_listen.specs.Report.{Entry, entries_of, entry_of}
 use Rattle.j39_listen.specs.declared.listener.Listener.{Listener}
 use Rattle.j39_listen.proofs.Causal.{heard_more}
 use Rattle.j39_listen.proofs.LineLemmas.{capped-fits, capped-sum}
+use Rattle.j39_listen.proofs.Reported.{reported_leaves}
 use Rattle.j39_listen.proofs.Unique.{heard_below_unique}
 use Rattle.j39_summary.specs.AccountSteps.{HasSummed, NotesFrame}
 use Rattle.j39_summary.specs.RowSteps.{AreRowsOf, HasTaken, Message, WantsAt}
@@ -38,7 +39,7 @@ summary_begins groups = λ bus a F G before all has made.
 
 pub summary_one : (groups : List RowRecord) → MakesOne (MakesSummary groups)
 summary_one groups = λ bus F x y (hs, are_x, is_x) (ks, are_y, is_y).
-    ap (λ (o : Output). o.text) is_x ∙ ap (λ (heard : List Hearing). (output_of groups heard).text) (heard_below_unique groups F (length F) hs ks are_x are_y)
+    ap (λ (o : Output). o.text) is_x ∙ ap (λ (heard : List Hearing). (output_of groups heard).text) (heard_below_unique (is_reported_in groups) (reported_leaves groups) F (length F) hs ks are_x are_y)
     ∙ sym (ap (λ (o : Output). o.text) is_y)
 
 -- ---- one frame
@@ -100,7 +101,7 @@ summary_meets groups a a' kept f messages old notes sum = λ F before has.
       met = record {
         by = ap (λ (x : Bor (List RowRecord)). x.now) kept ∙ has.by;
         heard = has.heard ++ more;
-        are_heard = heard_more groups F f has.heard n.heard has.are_heard n.heard_at;
+        are_heard = heard_more (is_reported_in groups) F f has.heard n.heard has.are_heard n.heard_at;
         hears = n.hears;
         are_rows = subst (AreRowsOf a'.rows.rows.entries) (sym (flat_map-append (entries_of groups) has.heard more)) n.are_rows;
         messages_are = count;
