@@ -6,7 +6,7 @@ use Rattle.std.proofs.lemmas.Bool.{both_ways, cases_Bool}
 use Rattle.std.proofs.lemmas.List.Elements.{filter-append}
 use Rattle.std.proofs.lemmas.Map.Views.{any-filter_same}
 use Rattle.j39_listen.specs.Report.{Entry}
-use Rattle.j39_summary.specs.Summary.{firsts, have_one_origin}
+use Rattle.j39_summary.specs.Summary.{AreApart, firsts, have_one_origin}
 use Rattle.j39_summary.proofs.OriginLemmas.{same_like, same_self, same_sym}
 
 -- the entry, where none is of its origin
@@ -65,11 +65,6 @@ firsts-more (x ∷ es) e = by (have_one_origin e x) refl (firsts-more es e)
         let cut = ap (filter (λ f. not (have_one_origin x f))) rest ∙ filter-append (λ f. not (have_one_origin x f)) (firsts es) (if_new e es)
         ∙ ap (λ fs. filter (λ f. not (have_one_origin x f)) (firsts es) ++ fs) (kept x e es other) in
         rw other (ap (λ fs. x ∷ fs) cut)
-
--- no two are of one origin
-abbrev pub AreApart : List Entry → Type 0
-AreApart [] = Unit {0}
-AreApart (x ∷ es) = (list_any (have_one_origin x) es ≡ false) × AreApart es
 
 fewer : (x : Entry) (p : Entry → Bool) (es : List Entry) → list_any (have_one_origin x) es ≡ false → list_any (have_one_origin x) (filter p es) ≡ false
 fewer x p [] h = refl

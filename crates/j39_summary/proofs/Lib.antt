@@ -5,3 +5,4 @@ pub mod RowLemmas
 pub mod MapLemmas
 pub mod LineLemmas
 pub mod AccountLemmas
+pub mod LawLemmas

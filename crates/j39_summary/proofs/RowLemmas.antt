@@ -11,9 +11,9 @@ use Rattle.std.proofs.lemmas.List.Sums.{fold-append, sum_by-append}
 use Rattle.j39_listen.specs.Counting.{capped}
 use Rattle.j39_listen.specs.Report.{Entry}
 use Rattle.j39_summary.specs.RowSteps.{begun, grown, one_if, widened}
-use Rattle.j39_summary.specs.Summary.{Number, Range, Row, are_comparable, comparable_with, firsts, have_one_origin, is_word, last_of, number_of, range_of, row_of, summary_of, values_like}
+use Rattle.j39_summary.specs.Summary.{AreApart, Number, Range, Row, are_comparable, comparable_with, firsts, have_one_origin, is_word, last_of, number_of, range_of, row_of, summary_of, values_like}
 use Rattle.j39_groups.proofs.TableLemmas.{filter_unlisted}
-use Rattle.j39_summary.proofs.FirstLemmas.{AreApart, first_of_each, firsts-more, firsts_apart, if_new}
+use Rattle.j39_summary.proofs.FirstLemmas.{first_of_each, firsts-more, firsts_apart, if_new}
 use Rattle.j39_summary.proofs.OriginLemmas.{same_like, same_self, same_sym}
 
 -- ---- one value more

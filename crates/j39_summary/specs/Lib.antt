@@ -2,6 +2,7 @@
 pub mod Summary
 pub mod RowText
 pub mod Summaries
+pub mod Bounds
 -- what the code's values show
 pub mod Shown
 -- the code's steps, below the rules

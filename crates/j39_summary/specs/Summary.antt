@@ -1,7 +1,7 @@
 -- The summary of a report: what each parameter of each controller did, said of the report's entries alone.
-use Rattle.std.specs.Prelude.{◌==◌, ◌&&◌, not, ℕ, ℤ, Bool, true, false, List, [], ◌∷◌, Option, Some, None, filter, fold, length, map, count_by, if◌then◌else◌}
+use Rattle.std.specs.Prelude.{◌≡◌, ◌==◌, ◌&&◌, not, ℕ, ℤ, Bool, true, false, List, [], ◌∷◌, Option, Some, None, filter, fold, length, map, count_by, if◌then◌else◌}
 use Rattle.std.specs.Int.{int_max, int_min}
-use Rattle.std.specs.List.{filter_map}
+use Rattle.std.specs.List.{filter_map, list_any}
 use Rattle.std.specs.Str.{bytes_eq}
 use Rattle.j39_groups.specs.Value.{SlotRecord, ValueRecord, number, on, off, error, reserved, indicator, text}
 use Rattle.j39_listen.specs.Counting.{capped}
@@ -21,6 +21,11 @@ have_one_origin e f = e.address == f.address && (is_same_name e.name f.name && (
 unfoldable pub firsts : List Entry → List Entry
 firsts [] = []
 firsts (e ∷ es) = e ∷ filter (λ f. not (have_one_origin e f)) (firsts es)
+
+-- no two of these are of one origin
+abbrev pub AreApart : List Entry → Type 0
+AreApart [] = Unit {0}
+AreApart (e ∷ es) = (list_any (have_one_origin e) es ≡ false) × AreApart es
 
 -- what stands in the place of a number: an error, a reserved value, an indicator
 abbrev pub is_word_value : ValueRecord → Bool

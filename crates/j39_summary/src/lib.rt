@@ -4,6 +4,7 @@
 mod account;
 mod deeds;
 mod kept;
+pub mod laws;
 mod lines;
 mod origin;
 mod rows;
