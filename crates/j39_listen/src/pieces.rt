@@ -101,7 +101,8 @@ impl<A: Account> Pieces<A> {
         ensures unmarked { result ≢ Err Write → W.has_failed sink.new ≡ W.has_failed sink.old }
         ensures flushed { OnOk result (W.is_flushed sink.new ≡ true) }
         ensures asked { result ≡ Err Memory → (subject : A.Subject)
-            → Behind (A.has_met subject) self.old (W.held sink.old) (λ given taken held. AsksAmong (A.asks subject) given taken) }
+            → Behind (A.has_met subject) self.old (W.held sink.old)
+                (λ given taken held. AsksAmong (A.asks subject) given taken) }
     {
         A::laws();
         match take_last(&mut self.splitter, &mut self.lines, sink) {

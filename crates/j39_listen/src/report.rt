@@ -199,7 +199,8 @@ fn put_frame<W: Sink>(
     ensures stops { result ≡ Err line_fault.Write → (F : List FrameRecord) → Hears listener.old F
         → StopsFrame groups.now F frame.now (W.held sink.old) (W.held sink.new) }
     ensures memory { result ≡ Err line_fault.Memory → W.held sink.new ≡ W.held sink.old }
-    ensures asked { result ≡ Err line_fault.Memory → (F : List FrameRecord) → Hears listener.old F → AsksForBoxes F frame.now }
+    ensures asked { result ≡ Err line_fault.Memory → (F : List FrameRecord) → Hears listener.old F
+        → AsksForBoxes F frame.now }
     ensures unmarked { result ≢ Err line_fault.Write → W.has_failed sink.new ≡ W.has_failed sink.old }
 {
     match listener.feed_with(groups, frame) {

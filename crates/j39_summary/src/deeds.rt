@@ -169,7 +169,8 @@ fn widened<'t>(range: Option<Span<'t>>, number: Option<Scaled<'t>>) -> Option<Sp
 
 #[inline(always)]
 fn widened_span<'t>(range: Span<'t>, number: Scaled<'t>) -> Span<'t>
-    ensures { Some (range_of_span result) ≡ widened (Some (range_of_span range.entry)) (Some (number_shown number.entry)) }
+    ensures { Some (range_of_span result)
+        ≡ widened (Some (range_of_span range.entry)) (Some (number_shown number.entry)) }
 {
     if !are_comparable(range.scale, number.scale) {
         return range;

@@ -24,7 +24,8 @@ pub fn one_summary()
 
 /// A summary has a row of an origin exactly where the report has a value of it, and no two rows of one origin.
 pub fn one_row_for_each_origin()
-    ensures some { (entries : List Entry) (e : Entry) → list_any (λ row. have_one_origin e row.first) (summary_of entries)
+    ensures some { (entries : List Entry) (e : Entry)
+        → list_any (λ row. have_one_origin e row.first) (summary_of entries)
         ≡ list_any (have_one_origin e) entries }
     ensures apart { (entries : List Entry) → AreApart (firsts entries) }
 {}

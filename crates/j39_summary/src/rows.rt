@@ -88,7 +88,8 @@ fn add<'t>(
     stamp: Stamp,
     value: ReadValue<'t, '_>,
 ) -> Result<(), AllocError>
-    ensures { OnOk result (get is_same rows.old origin ≡ None → (before : List Entry) → AreRowsOf rows.old.entries before
+    ensures { OnOk result (get is_same rows.old origin ≡ None
+        → (before : List Entry) → AreRowsOf rows.old.entries before
         → AreRowsOf rows.new.entries
         (before ++ entry_at origin (stamp_micros stamp) (read_value_of value.entry) ∷ [])) }
 {

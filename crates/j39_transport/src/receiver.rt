@@ -139,7 +139,8 @@ impl Receiver {
         ensures step { RecvStep self.old.state Tick (stamp_micros now)
             (record { sends = option_map to_send result; delivers = None }) self.new.state }
         ensures buffer { self.new.has_box ≡ self.old.has_box }
-        ensures stands { (E : List FrameRecord) → ReceiverStandsFor E self.old.state → ReceiverStandsFor E self.new.state }
+        ensures stands { (E : List FrameRecord) → ReceiverStandsFor E self.old.state
+            → ReceiverStandsFor E self.new.state }
     {
         self.wait(now)
     }
