@@ -61,7 +61,9 @@ fn reads_summary(rt: HostRuntime) -> Result<(), Fail> {
     let lines: [(&[&str], &str); 4] = [
         (&["j1939", "summary"], "summary - -"),
         (
-            &["j1939", "summary", "--bus", "can0", "--table", "trucks", "trip.log"],
+            &[
+                "j1939", "summary", "--bus", "can0", "--table", "trucks", "trip.log",
+            ],
             "summary by trucks can0 trip.log",
         ),
         (&["j1939", "summary", "--bus", "can 0", "log"], "bad --bus"),

@@ -114,7 +114,15 @@ pub(crate) fn perform<R: Source, W: Sink, E: Sink>(
     ensures flushed { result ≡ 0 → W.is_flushed sink.new ≡ true }
 {
     let telling = telling_of(is_all);
-    let end = j39_fault_news::faults(alloc, groups, telling, source, sink, copy_of(bus), LOG_LIMIT);
+    let end = j39_fault_news::faults(
+        alloc,
+        groups,
+        telling,
+        source,
+        sink,
+        copy_of(bus),
+        LOG_LIMIT,
+    );
     tell_end(end, err)
 }
 

@@ -102,7 +102,7 @@ impl<A: Account> Pieces<A> {
         ensures flushed { OnOk result (W.is_flushed sink.new ≡ true) }
         ensures asked { result ≡ Err Memory → (subject : A.Subject)
             → Behind (A.has_met subject) self.old (W.held sink.old)
-                (λ given taken held. AsksAmong (A.asks subject) given taken) }
+            (λ given taken held. AsksAmong (A.asks subject) given taken) }
     {
         A::laws();
         match take_last(&mut self.splitter, &mut self.lines, sink) {

@@ -15,8 +15,8 @@ ghost use Rattle.j39_transport.specs.Steps.{fed, answer, LacksBox, new_assembler
 ghost use Rattle.j39_transport.specs.Shown.{outcome_by, CanLend, outcome_of};
 
 use crate::message::{Fed, Message};
-use crate::packet::Accepted;
 use crate::open_messages::OpenMessages;
+use crate::packet::Accepted;
 use crate::table::Place;
 use j39_frame::{Frame, Stamp};
 use std::alloc::{AllocError, Global};

@@ -1,7 +1,6 @@
 //! The transport protocol: messages of more than eight bytes, in packets (J1939-21, 5.10).
 #![tactic(auto)]
 
-mod opening;
 mod announcement;
 mod assembler;
 mod broadcast;
@@ -9,6 +8,8 @@ mod control;
 mod cut;
 pub mod laws;
 mod message;
+mod open_messages;
+mod opening;
 mod packet;
 mod progress;
 mod protocol;
@@ -18,7 +19,6 @@ mod receiver_events;
 mod reception;
 mod sender;
 mod session;
-mod open_messages;
 mod signal;
 mod table;
 mod writing;

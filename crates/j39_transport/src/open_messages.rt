@@ -10,8 +10,8 @@ ghost use Rattle.j39_transport.specs.Signals.{said_by};
 ghost use Rattle.j39_transport.specs.Steps.{after_packet, answer_to_packet, state_after, answer, state_without, without_broadcast, empty_state, spare_after, is_whole, LacksBox, messages_open, bytes_held};
 ghost use Rattle.j39_transport.specs.Shown.{outcome_by, CanLend};
 
-use crate::opening::{announce_broadcast, announce_directed};
 use crate::control::{finish, grant};
+use crate::opening::{announce_broadcast, announce_directed};
 use crate::packet::{Accepted, pack, pack_directed};
 use crate::protocol::BROADCAST_LIMIT;
 use crate::signal::{self, Signal};
