@@ -3,3 +3,5 @@ pub mod DigitLemmas
 -- digits that are written, forwards and backwards
 pub mod PrintingLemmas
 pub mod BackwardsLemmas
+-- digits by vectors
+pub mod VectorLemmas

@@ -4,5 +4,6 @@
 pub mod backwards;
 mod digits;
 pub mod printing;
+pub mod vectors;
 
 pub use digits::number;
