@@ -13,6 +13,7 @@ use j39_frame::Pgn;
 use j39_groups::HEAD;
 use j39_log::Seconds;
 use j39_text::backwards::{byte_before, bytes_before, hex_before, number_before};
+use j39_text::vectors::hex_of_eight;
 
 /// Writes the head of a message's lines at the end of a block, and answers where it starts.
 #[inline(always)]
@@ -50,7 +51,7 @@ fn name_before(out: &mut [u8], end: usize, name: Option<Name>) -> usize
     ensures starts { result + 16 ≡ end }
 {
     match name {
-        Some(name) => hex_before(out, end, &name.raw().to_be_bytes()),
+        Some(name) => bytes_before(out, end, hex_of_eight(&name.raw().to_be_bytes())),
         None => bytes_before(out, end, *b"----------------"),
     }
 }
