@@ -10,7 +10,9 @@ ghost use Rattle.j39_cli.specs.Answer.{IsBusValue};
 ghost use Rattle.j39_cli.specs.Task.{IsInRange};
 
 use crate::command::line;
-use crate::{Argument, ParseFault, Task, answer, cut, faults, groups, id, name, nodes, report, summary};
+use crate::{
+    Argument, ParseFault, Task, answer, cut, faults, groups, id, name, nodes, report, summary,
+};
 use clap::error::ErrorKind;
 use clap::{ArgMatches, Error};
 use j39_log::Bus;
