@@ -33,8 +33,8 @@ abbrev pub telling_of : Bool → Telling
 telling_of all = if all then All else News
 
 abbrev pub IsFaultsTask : Option (List ℕ) → Option (List ℕ) → Bool → Option (List ℕ) → Task → Type 0
-IsFaultsTask bus table all file (Faults bus' table' all' file') =
-    (bus' ≡ bus) × (table' ≡ table) × (all' ≡ all) × (file' ≡ file)
+IsFaultsTask bus table all file (Faults bus' table' telling file') =
+    (bus' ≡ bus) × (table' ≡ table) × (telling ≡ telling_of all) × (file' ≡ file)
 IsFaultsTask bus table all file t = ⊥
 
 abbrev pub faults_form : Option Text → Option Text → Bool → Option Text → Form
@@ -48,6 +48,6 @@ faults_form bus table all file = record {
   Answers = IsBusChecked bus (IsTask (IsFaultsTask bus table all file));
 }
 
-abbrev pub faults_meaning : Option (List ℕ) → Option (List ℕ) → Bool → Option (List ℕ) → Meaning
-faults_meaning bus table all file =
-    record (runs (λ _. AsksForFaults) (λ rows. MakesFaults rows (telling_of all)) bus file) { table = table }
+abbrev pub faults_meaning : Option (List ℕ) → Option (List ℕ) → Telling → Option (List ℕ) → Meaning
+faults_meaning bus table telling file =
+    record (runs (λ _. AsksForFaults) (λ rows. MakesFaults rows telling) bus file) { table = table }

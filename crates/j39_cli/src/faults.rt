@@ -11,7 +11,7 @@ ghost use Rattle.j39_cli.specs.LogCommand.{IsRun};
 ghost use Rattle.j39_cli.specs.Task.{IsInRange};
 ghost use Rattle.j39_cli.specs.Turn.{turn};
 
-use crate::command::with_table;
+use crate::command::{with_arg, with_table};
 use crate::log::{LOG_LIMIT, copy_of, tell_end, with_log};
 use crate::words::bus_value;
 use crate::{ParseFault, Task, WordText};
@@ -67,7 +67,7 @@ fn with_all<'a>(alloc: Global, command: Command<'a>) -> Result<Command<'a>, Allo
         .long("all")
         .action(ArgAction::SetTrue)
         .help("Each message of faults, whether it is news or not");
-    command.arg(arg)
+    with_arg(command, arg)
 }
 
 /// The task that its words ask for.
@@ -79,21 +79,27 @@ pub(crate) fn task<'a>(given: &ArgMatches<'a>) -> Result<Task<'a>, ParseFault>
     ensures in_range { IfOk result IsInRange }
 {
     let table = given.get_str("table").map(WordText::new);
-    let is_all = is_given(given.get_str("all"));
+    let telling = telling_by(given.get_str("all"));
     let file = given.get_str("file").map(WordText::new);
     match bus_value(given) {
-        Ok(bus) => Ok(Task::Faults(bus, table, is_all, file)),
+        Ok(bus) => Ok(Task::Faults(bus, table, telling, file)),
         Err(fault) => Err(fault),
     }
 }
 
-/// Whether clap met a flag.
-fn is_given(flag: Option<&str>) -> bool
-    ensures { result ≡ is_given (option_map (λ text. text.now) flag.entry) }
+/// Which messages are told, by what clap says of `--all`: each, or those that are news.
+fn telling_by(flag: Option<&str>) -> Telling
+    ensures { result ≡ telling_of (is_given (option_map (λ text. text.now) flag.entry)) }
 {
     match flag {
-        Some(text) => text == "true",
-        None => false,
+        Some(text) => {
+            if text == "true" {
+                Telling::All
+            } else {
+                Telling::News
+            }
+        }
+        None => Telling::News,
     }
 }
 
@@ -102,18 +108,17 @@ pub(crate) fn perform<R: Source, W: Sink, E: Sink>(
     alloc: Global,
     groups: &Groups<'_>,
     bus: &Option<Bus>,
-    is_all: bool,
+    telling: Telling,
     source: &mut R,
     sink: &mut W,
     err: &mut E,
 ) -> u8
-    ensures run { IsRun AsksForFaults (MakesFaults groups.now (telling_of is_all)) bus.now result
+    ensures run { IsRun AsksForFaults (MakesFaults groups.now telling) bus.now result
         (turn R.remaining R.has_failed source.old source.new)
         (turn W.held W.has_failed sink.old sink.new)
         (turn E.held E.has_failed err.old err.new) }
     ensures flushed { result ≡ 0 → W.is_flushed sink.new ≡ true }
 {
-    let telling = telling_of(is_all);
     let end = j39_fault_news::faults(
         alloc,
         groups,
@@ -124,11 +129,4 @@ pub(crate) fn perform<R: Source, W: Sink, E: Sink>(
         LOG_LIMIT,
     );
     tell_end(end, err)
-}
-
-/// Which messages are told: those that are news, or each.
-fn telling_of(is_all: bool) -> Telling
-    ensures { result ≡ telling_of is_all }
-{
-    if is_all { Telling::All } else { Telling::News }
 }

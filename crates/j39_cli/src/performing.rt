@@ -64,8 +64,8 @@ pub fn perform_with<R: Source, W: Sink, E: Sink>(
     match task {
         Task::Report(bus, _, _) => report::perform(alloc, groups, bus, source, sink, err),
         Task::Summary(bus, _, _) => summary::perform(alloc, groups, bus, source, sink, err),
-        Task::Faults(bus, _, is_all, _) => {
-            faults::perform(alloc, groups, bus, *is_all, source, sink, err)
+        Task::Faults(bus, _, telling, _) => {
+            faults::perform(alloc, groups, bus, *telling, source, sink, err)
         }
         Task::Nodes(bus, _) => nodes::perform(bus, source, sink, err),
         Task::Answer(name, address, bus, _) => {

@@ -7,6 +7,7 @@ ghost use Rattle.j39_cli.specs.Task.{file_of, table_of};
 
 use crate::Outgoing;
 use j39_address::Name;
+use j39_fault_news::Telling;
 use j39_frame::{Id, is_address};
 use j39_log::Bus;
 use std::fmt;
@@ -91,8 +92,8 @@ pub enum Task<'a> {
     /// The summary of a log: the bus to read, the file of the table, and FILE, as of a report.
     Summary(Option<Bus>, Option<WordText<'a>>, Option<WordText<'a>>),
     /// The fault codes in a log: the bus to read, where one is named, the file of the table of parameters, where it
-    /// isn't the built-in one, whether each message is told and not those alone that are news, and FILE, as of a report.
-    Faults(Option<Bus>, Option<WordText<'a>>, bool, Option<WordText<'a>>),
+    /// isn't the built-in one, which messages are told, and FILE, as of a report.
+    Faults(Option<Bus>, Option<WordText<'a>>, Telling, Option<WordText<'a>>),
     /// Who holds which address after a log: the bus to read, and FILE, as of a report.
     Nodes(Option<Bus>, Option<WordText<'a>>),
     /// What a node of this NAME, which starts with this address, would send: with the bus to read, and FILE, as of
