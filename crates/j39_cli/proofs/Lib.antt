@@ -8,6 +8,7 @@ pub mod MetLemmas
 -- the commands, each by itself: for `parse`
 pub mod ReportLemmas
 pub mod NodesLemmas
+pub mod SurveyLemmas
 pub mod AnswerLemmas
 pub mod IdLemmas
 pub mod NameLemmas

@@ -9,6 +9,7 @@ use Rattle.j39_cli.specs.IdCommand.{id_app}
 use Rattle.j39_cli.specs.NameCommand.{name_app}
 use Rattle.j39_cli.specs.NodesCommand.{nodes_app}
 use Rattle.j39_cli.specs.ReportCommand.{report_app}
+use Rattle.j39_cli.specs.SurveyCommand.{survey_app}
 
 -- the program with no command, of which it asks for one; it tells its version
 abbrev pub bare_app : App
@@ -24,6 +25,7 @@ command_apps =
     ∷ nodes_app
     ∷ answer_app
     ∷ groups_app
+    ∷ survey_app
     ∷ []
 
 unfoldable pub line_app : App

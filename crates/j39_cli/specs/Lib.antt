@@ -12,6 +12,7 @@ pub mod Refusal
 pub mod LogCommand
 pub mod ReportCommand
 pub mod NodesCommand
+pub mod SurveyCommand
 pub mod AnswerCommand
 pub mod IdCommand
 pub mod NameCommand

@@ -17,6 +17,7 @@ mod performing;
 mod refusal;
 mod report;
 mod shown;
+mod survey;
 mod task;
 mod words;
 

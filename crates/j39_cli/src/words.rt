@@ -10,7 +10,7 @@ ghost use Rattle.j39_cli.specs.Answer.{IsBusValue};
 ghost use Rattle.j39_cli.specs.Task.{IsInRange};
 
 use crate::command::line;
-use crate::{Argument, ParseFault, Task, answer, cut, groups, id, name, nodes, report};
+use crate::{Argument, ParseFault, Task, answer, cut, groups, id, name, nodes, report, survey};
 use clap::error::ErrorKind;
 use clap::{ArgMatches, Error};
 use j39_log::Bus;
@@ -100,6 +100,7 @@ fn task_named<'a>(alloc: Global, name: &str, given: &ArgMatches<'a>) -> Result<T
         "nodes" => nodes::task(given),
         "answer" => answer::task(alloc, given),
         "groups" => groups::task(given),
+        "survey" => survey::task(given),
         // clap knows no other, so that nothing comes here.
         _ => Err(ParseFault::Usage(String::new(alloc))),
     }

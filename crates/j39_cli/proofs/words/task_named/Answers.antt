@@ -6,6 +6,7 @@ use Rattle.j39_cli.proofs.IdLemmas.{id_tells}
 use Rattle.j39_cli.proofs.NameLemmas.{name_tells}
 use Rattle.j39_cli.proofs.NodesLemmas.{nodes_tells}
 use Rattle.j39_cli.proofs.ReportLemmas.{report_tells}
+use Rattle.j39_cli.proofs.SurveyLemmas.{survey_tells}
 use Rattle.j39_cli.proofs.words.task_named.Goals as goal
 
 pub returns-in-report-clause-tells : goal.returns-in-report-clause-tells
@@ -30,3 +31,6 @@ returns-in-answer-clause-tells c = answer_tells _ _ _ c.in-answer.is c.task-in-a
 
 pub returns-in-groups-clause-tells : goal.returns-in-groups-clause-tells
 returns-in-groups-clause-tells c = groups_tells _ _ _ c.in-groups.is c.task-in-groups.ensures.answer
+
+pub returns-in-survey-clause-tells : goal.returns-in-survey-clause-tells
+returns-in-survey-clause-tells c = survey_tells _ _ _ c.in-survey.is c.task-in-survey.ensures.answer
