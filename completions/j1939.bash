@@ -15,13 +15,13 @@ _j1939_options() {
     nodes) echo --bus --help -h ;;
     answer) echo --name --address --bus --help -h ;;
     cut) echo --source --pgn --at --bus --help -h ;;
-    groups) echo --table --help -h ;;
+    groups | survey) echo --table --help -h ;;
     id | name) echo --help -h ;;
   esac
 }
 
 _j1939() {
-  local commands='report faults summary nodes answer groups id name cut help'
+  local commands='report faults summary nodes answer groups survey id name cut help'
   local word=${COMP_WORDS[COMP_CWORD]} before=${COMP_WORDS[COMP_CWORD - 1]} command='' offered=''
   if [ "$COMP_CWORD" -gt 1 ]; then
     command=${COMP_WORDS[1]}
@@ -38,7 +38,7 @@ _j1939() {
     *:--name:* | *:--address:* | *:--source:* | *:--pgn:* | *:--at:*) ;;
     *:-*) offered=$(_j1939_options "$command") ;;
     :* | help:*) offered=$commands ;;
-    report:* | faults:* | summary:* | nodes:* | answer:*) compopt -o default 2>/dev/null ;;
+    report:* | faults:* | summary:* | nodes:* | answer:* | survey:*) compopt -o default 2>/dev/null ;;
   esac
   mapfile -t COMPREPLY < <(compgen -W "$offered" -- "$word")
 }

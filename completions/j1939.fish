@@ -16,15 +16,16 @@ complete -c j1939 -n __fish_use_subcommand -a summary -d 'What each parameter in
 complete -c j1939 -n __fish_use_subcommand -a nodes -d 'Who holds which address after a log'
 complete -c j1939 -n __fish_use_subcommand -a answer -d 'What a device of a NAME would have sent to get and keep an address'
 complete -c j1939 -n __fish_use_subcommand -a groups -d 'The parameters that a report may hold'
+complete -c j1939 -n __fish_use_subcommand -a survey -d 'What a log is: its interfaces, groups and lines'
 complete -c j1939 -n __fish_use_subcommand -a id -d 'The fields of a 29-bit identifier'
 complete -c j1939 -n __fish_use_subcommand -a name -d 'The fields of a 64-bit NAME'
 complete -c j1939 -n __fish_use_subcommand -a cut -d 'The frames that broadcast a long message'
 complete -c j1939 -n __fish_use_subcommand -a help -d 'Help, or the help of a command'
-complete -c j1939 -n '__fish_seen_subcommand_from help' -a 'report faults summary nodes answer groups id name cut help'
+complete -c j1939 -n '__fish_seen_subcommand_from help' -a 'report faults summary nodes answer groups survey id name cut help'
 
-complete -c j1939 -n '__fish_seen_subcommand_from report faults summary nodes answer' -F
+complete -c j1939 -n '__fish_seen_subcommand_from report faults summary nodes answer survey' -F
 complete -c j1939 -n '__fish_seen_subcommand_from report faults summary nodes answer cut' -l bus -x -a '(__j1939_buses)' -d 'The interface'
-complete -c j1939 -n '__fish_seen_subcommand_from report faults summary groups' -l table -r -d 'The parameters to read'
+complete -c j1939 -n '__fish_seen_subcommand_from report faults summary groups survey' -l table -r -d 'The parameters to read'
 complete -c j1939 -n '__fish_seen_subcommand_from faults' -l all -d 'Each message of faults'
 complete -c j1939 -n '__fish_seen_subcommand_from answer' -l name -x -d 'The NAME of the device, 16 hex digits'
 complete -c j1939 -n '__fish_seen_subcommand_from answer' -l address -x -d 'The address that it claims first, 0 to 253'

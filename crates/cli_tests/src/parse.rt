@@ -36,6 +36,11 @@ fn told(alloc: Global, task: &Task<'_>) -> Result<String, AllocError> {
         Task::Cut(_) => format!(in alloc; "cut"),
         Task::Groups(None) => format!(in alloc; "groups"),
         Task::Groups(Some(table)) => format!(in alloc; "groups by {}", table.as_str()),
+        Task::Survey(None, file) => told_of_log(alloc, "survey", &None, file),
+        Task::Survey(Some(table), file) => {
+            let command = format!(in alloc; "survey by {}", table.as_str())?;
+            told_of_log(alloc, command.as_str(), &None, file)
+        }
     }
 }
 
@@ -86,6 +91,24 @@ fn reads_nodes(rt: HostRuntime) -> Result<(), Fail> {
         ),
         (&["j1939", "nodes", "--bus", "can 0", "log"], "bad --bus"),
         (&["j1939", "nodes", "a", "b"], "usage"),
+    ];
+    for (words, want) in lines.iter() {
+        let told = answer(rt.alloc(), words)?;
+        assert_eq!(rt; told.as_str(), *want);
+    }
+    Ok(())
+}
+
+#[test]
+fn reads_survey(rt: HostRuntime) -> Result<(), Fail> {
+    let lines: [(&[&str], &str); 4] = [
+        (&["j1939", "survey"], "survey - -"),
+        (
+            &["j1939", "survey", "--table", "my.table", "trip.log"],
+            "survey by my.table - trip.log",
+        ),
+        (&["j1939", "survey", "--bus", "can0"], "usage"),
+        (&["j1939", "survey", "a", "b"], "usage"),
     ];
     for (words, want) in lines.iter() {
         let told = answer(rt.alloc(), words)?;

@@ -10,6 +10,7 @@ pub mod ReportLemmas
 pub mod SummaryLemmas
 pub mod FaultsLemmas
 pub mod NodesLemmas
+pub mod SurveyLemmas
 pub mod AnswerLemmas
 pub mod IdLemmas
 pub mod NameLemmas

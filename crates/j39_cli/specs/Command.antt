@@ -11,6 +11,7 @@ use Rattle.j39_cli.specs.NameCommand.{name_app}
 use Rattle.j39_cli.specs.NodesCommand.{nodes_app}
 use Rattle.j39_cli.specs.ReportCommand.{report_app}
 use Rattle.j39_cli.specs.SummaryCommand.{summary_app}
+use Rattle.j39_cli.specs.SurveyCommand.{survey_app}
 
 -- the program with no command, of which it asks for one; it tells its version
 abbrev pub bare_app : App
@@ -28,6 +29,7 @@ command_apps =
     ∷ answer_app
     ∷ groups_app
     ∷ faults_app
+    ∷ survey_app
     ∷ []
 
 unfoldable pub line_app : App

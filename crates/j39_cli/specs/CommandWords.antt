@@ -13,6 +13,7 @@ use Rattle.j39_cli.specs.NameCommand.{name_form}
 use Rattle.j39_cli.specs.NodesCommand.{nodes_form}
 use Rattle.j39_cli.specs.ReportCommand.{report_form}
 use Rattle.j39_cli.specs.SummaryCommand.{summary_form}
+use Rattle.j39_cli.specs.SurveyCommand.{survey_form}
 
 -- a command with the texts of its values, in the order of its spelling
 pub data CommandWords : Type 0 where
@@ -25,6 +26,7 @@ pub data CommandWords : Type 0 where
   name : Text → CommandWords
   cut : Text → Text → Text → Text → Text → CommandWords
   groups : Option Text → CommandWords
+  survey : Option Text → Option Text → CommandWords
 
 abbrev pub form_of : CommandWords → Form
 form_of (report bus table file) = report_form bus table file
@@ -36,6 +38,7 @@ form_of (id hex) = id_form hex
 form_of (name hex) = name_form hex
 form_of (cut source pgn at bus hex) = cut_form source pgn at bus hex
 form_of (groups table) = groups_form table
+form_of (survey table file) = survey_form table file
 
 -- the words after the program's name
 abbrev pub words_of : CommandWords → List Text

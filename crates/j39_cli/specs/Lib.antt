@@ -14,6 +14,7 @@ pub mod ReportCommand
 pub mod SummaryCommand
 pub mod FaultsCommand
 pub mod NodesCommand
+pub mod SurveyCommand
 pub mod AnswerCommand
 pub mod IdCommand
 pub mod NameCommand

@@ -13,9 +13,10 @@ use Rattle.j39_cli.specs.NameCommand.{name_meaning}
 use Rattle.j39_cli.specs.NodesCommand.{nodes_meaning}
 use Rattle.j39_cli.specs.ReportCommand.{report_meaning}
 use Rattle.j39_cli.specs.SummaryCommand.{summary_meaning}
+use Rattle.j39_cli.specs.SurveyCommand.{survey_meaning}
 use Rattle.j39_cli.specs.Turn.{Turn}
 use Rattle.j39_cli.specs.declared.task.Task.{Task}
-use Rattle.j39_cli.specs.declared.task.Task.TheVariants.{Report, Summary, Faults, Nodes, Answer, Id, Name, Cut, Groups}
+use Rattle.j39_cli.specs.declared.task.Task.TheVariants.{Report, Summary, Faults, Nodes, Answer, Id, Name, Cut, Groups, Survey}
 
 abbrev pub meaning_of : Task → Meaning
 meaning_of (Report bus table file) = report_meaning bus table file
@@ -27,6 +28,7 @@ meaning_of (Id id) = id_meaning (id_raw id)
 meaning_of (Name name) = name_meaning (name_raw name)
 meaning_of (Cut outgoing) = cut_meaning outgoing
 meaning_of (Groups table) = groups_meaning table
+meaning_of (Survey table file) = survey_meaning table file
 
 -- the log that the task opens, where it opens one
 abbrev pub file_of : Task → Option (List ℕ)

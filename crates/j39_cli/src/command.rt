@@ -5,7 +5,7 @@ ghost use Rattle.clap.specs.declared.builder.command.Command.TheViews.{out-Comma
 ghost use Rattle.j39_cli.specs.Command.{bare_app, line_app};
 ghost use Rattle.j39_cli.specs.Rules.{option_rule, value_rule};
 
-use crate::{answer, cut, faults, groups, id, name, nodes, report, summary};
+use crate::{answer, cut, faults, groups, id, name, nodes, report, summary, survey};
 use clap::{Arg, Command};
 use std::alloc::{AllocError, Global};
 
@@ -26,6 +26,7 @@ Examples:
   j1939 cut --source 0 --pgn 65260 --at 2.000000 --bus can0 \\
     3146554A4136435631324C4B31323334352A
   j1939 groups
+  j1939 survey trip.log
 
 Exit status:
   0  done, or help was asked for
@@ -48,6 +49,7 @@ pub(crate) fn line<'a>(alloc: Global) -> Result<Command<'a>, AllocError>
     let line = with_command(line, answer::command(alloc)?)?;
     let line = with_command(line, groups::command(alloc)?)?;
     let line = with_command(line, faults::command(alloc)?)?;
+    let line = with_command(line, survey::command(alloc)?)?;
     Ok(line)
 }
 

@@ -19,6 +19,7 @@ mod refusal;
 mod report;
 mod shown;
 mod summary;
+mod survey;
 mod task;
 mod words;
 

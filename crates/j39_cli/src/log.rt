@@ -1,9 +1,10 @@
 //! What the commands that read a log have in common.
-ghost use Rattle.std.specs.Prelude.{◌≡◌, ◌≤◌, IfOk, codes, false, length};
+ghost use Rattle.std.specs.Prelude.{◌≡◌, ◌≤◌, [], IfOk, codes, false, length};
 ghost use Rattle.clap.specs.Words.{app_of};
 ghost use Rattle.clap.specs.declared.builder.command.Command.TheViews.{out-Command as settings_of};
 ghost use Rattle.j39_cli.specs.LogCommand.{IsTold, fault_text, with_log};
-ghost use Rattle.j39_cli.specs.Turn.{turn};
+ghost use Rattle.j39_cli.specs.Refusal.{error_line};
+ghost use Rattle.j39_cli.specs.Turn.{Writes, turn};
 
 use crate::command::{with_option, with_value};
 use crate::fields::{counts_line, push_field};
@@ -48,11 +49,17 @@ pub(crate) fn tell_end<E: Sink>(end: Result<Counts, RunFault>, err: &mut E) -> u
             show(err, counts_line(counts).as_slice());
             0
         }
-        Err(fault) => {
-            complain(err, words_of(fault).as_slice(), b"");
-            1
-        }
+        Err(fault) => tell_fault(fault, err),
     }
+}
+
+/// Says which fault came, and answers the exit status.
+pub(crate) fn tell_fault<E: Sink>(fault: RunFault, err: &mut E) -> u8
+    ensures status { result ≡ 1 }
+    ensures told { Writes (turn E.held E.has_failed err.old err.new) (error_line (fault_text fault) []) }
+{
+    complain(err, words_of(fault).as_slice(), b"");
+    1
 }
 
 /// What is said of a fault: the program alone knows its limit.

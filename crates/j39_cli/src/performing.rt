@@ -4,7 +4,7 @@ ghost use Rattle.j39_groups.specs.Table.{the_table};
 ghost use Rattle.j39_cli.specs.Task.{IsPerformed, reads_log};
 ghost use Rattle.j39_cli.specs.Turn.{turn};
 
-use crate::{Task, answer, cut, faults, groups, id, name, nodes, report, summary};
+use crate::{Task, answer, cut, faults, groups, id, name, nodes, report, summary, survey};
 use j39_device::{Sink, Source};
 use j39_groups::Groups;
 use std::alloc::Global;
@@ -75,5 +75,6 @@ pub fn perform_with<R: Source, W: Sink, E: Sink>(
         Task::Name(name) => name::perform(*name, sink, err),
         Task::Cut(outgoing) => cut::perform(outgoing, sink, err),
         Task::Groups(_) => groups::perform(groups, sink, err),
+        Task::Survey(_, _) => survey::perform(alloc, groups, source, sink, err),
     }
 }

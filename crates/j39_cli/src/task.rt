@@ -99,6 +99,8 @@ pub enum Task<'a> {
     /// What a node of this NAME, which starts with this address, would send: with the bus to read, and FILE, as of
     /// a report.
     Answer(Name, Address, Option<Bus>, Option<WordText<'a>>),
+    /// What a log is: the file of the table of parameters, and FILE, as of a report.
+    Survey(Option<WordText<'a>>, Option<WordText<'a>>),
     /// The fields of an identifier.
     Id(Id),
     /// The fields of a NAME.
@@ -120,6 +122,7 @@ impl<'a> Task<'a> {
             Task::Faults(_, _, _, file) => opened_of(file),
             Task::Nodes(_, file) => opened_of(file),
             Task::Answer(_, _, _, file) => opened_of(file),
+            Task::Survey(_, file) => opened_of(file),
             _ => None,
         }
     }
@@ -132,6 +135,7 @@ impl<'a> Task<'a> {
             Task::Report(_, table, _) => text_of(table),
             Task::Summary(_, table, _) => text_of(table),
             Task::Faults(_, table, _, _) => text_of(table),
+            Task::Survey(table, _) => text_of(table),
             Task::Groups(table) => text_of(table),
             _ => None,
         }

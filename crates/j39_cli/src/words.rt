@@ -12,6 +12,7 @@ ghost use Rattle.j39_cli.specs.Task.{IsInRange};
 use crate::command::line;
 use crate::{
     Argument, ParseFault, Task, answer, cut, faults, groups, id, name, nodes, report, summary,
+    survey,
 };
 use clap::error::ErrorKind;
 use clap::{ArgMatches, Error};
@@ -104,6 +105,7 @@ fn task_named<'a>(alloc: Global, name: &str, given: &ArgMatches<'a>) -> Result<T
         "answer" => answer::task(alloc, given),
         "groups" => groups::task(given),
         "faults" => faults::task(given),
+        "survey" => survey::task(given),
         // clap knows no other, so that nothing comes here.
         _ => Err(ParseFault::Usage(String::new(alloc))),
     }

@@ -8,6 +8,7 @@ use Rattle.j39_cli.proofs.NameLemmas.{name_tells}
 use Rattle.j39_cli.proofs.NodesLemmas.{nodes_tells}
 use Rattle.j39_cli.proofs.ReportLemmas.{report_tells}
 use Rattle.j39_cli.proofs.SummaryLemmas.{summary_tells}
+use Rattle.j39_cli.proofs.SurveyLemmas.{survey_tells}
 use Rattle.j39_cli.proofs.words.task_named.Goals as goal
 
 pub returns-in-report-clause-tells : goal.returns-in-report-clause-tells
@@ -38,3 +39,6 @@ returns-in-groups-clause-tells c = groups_tells _ _ _ c.in-groups.is c.task-in-g
 
 pub returns-in-faults-clause-tells : goal.returns-in-faults-clause-tells
 returns-in-faults-clause-tells c = faults_tells _ _ _ c.in-faults.is c.task-in-faults.ensures.answer
+
+pub returns-in-survey-clause-tells : goal.returns-in-survey-clause-tells
+returns-in-survey-clause-tells c = survey_tells _ _ _ c.in-survey.is c.task-in-survey.ensures.answer

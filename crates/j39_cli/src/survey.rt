@@ -1,0 +1,82 @@
+//! The command `survey`: its words, and how it is performed.
+ghost use Rattle.std.specs.Prelude.{◌≡◌, ◌≢◌, IfOk, codes, false, true, Err};
+ghost use Rattle.clap.specs.Words.{app_of, first_value, found_of};
+ghost use Rattle.clap.specs.declared.builder.command.Command.TheViews.{out-Command as settings_of};
+ghost use Rattle.j39_cli.specs.CommandWords as written;
+ghost use Rattle.j39_cli.specs.CommandWords.{IsAnswer};
+ghost use Rattle.j39_cli.specs.SurveyCommand.{IsSurvey, survey_app};
+ghost use Rattle.j39_cli.specs.Task.{IsInRange};
+ghost use Rattle.j39_cli.specs.Turn.{turn};
+
+use crate::command::{with_table, with_value};
+use crate::log::{LOG_LIMIT, tell_fault};
+use crate::{ParseFault, Task, WordText};
+use clap::{ArgMatches, Command};
+use j39_device::{Sink, Source};
+use j39_groups::Groups;
+use std::alloc::{AllocError, Global};
+
+const ABOUT: &str = "\
+Writes what a log is, before any bus is chosen: how many lines it has; for each
+interface its frames, its first and last stamp, and how often a stamp is below the
+one before (back); for each group (PGN) its frames and the addresses that sent it,
+whether a report reads it (read), the network needs it (network) or it is heard in
+packets alone (packets), and its name; the lines that hold no such frame, by kind;
+and the lines that are unread, of which the first five are shown. The first sixteen
+interfaces are told.";
+
+const HELP: &str = "\
+Example:
+  j1939 survey trip.log
+writes lines such as
+  lines 12000
+  interface can0 frames 12000 from (0000000001.010000) to (0000000061.000000) back 0
+  group 61444 frames 2400 addresses 1 read EEC1
+  other standard 0 remote 0 fd 0 error 0 odd 0
+  unread 0";
+
+/// What clap is told of it.
+pub(crate) fn command<'a>(alloc: Global) -> Result<Command<'a>, AllocError>
+    ensures app { IfOk result (λ c. app_of c ≡ survey_app) }
+    ensures local { IfOk result (λ c. (settings_of c).has_globals ≡ false) }
+{
+    let command = Command::new(alloc, "survey")
+        .about("Writes what a log is: its interfaces, groups and lines")
+        .long_about(ABOUT)
+        .after_help(HELP);
+    let command = with_table(alloc, command)?;
+    let help = "The log to read; without it, standard input";
+    with_value(alloc, command, "file", "FILE", false, help)
+}
+
+/// The task that its words ask for.
+pub(crate) fn task<'a>(given: &ArgMatches<'a>) -> Result<Task<'a>, ParseFault>
+    ensures answer { IsAnswer (written.survey (first_value (found_of given.now) (codes "table"))
+        (first_value (found_of given.now) (codes "file"))) result }
+    ensures memory { result ≢ Err ParseFault.Memory }
+    ensures in_range { IfOk result IsInRange }
+{
+    let table = given.get_str("table").map(WordText::new);
+    let file = given.get_str("file").map(WordText::new);
+    Ok(Task::Survey(table, file))
+}
+
+/// Performs it by a table of parameters: the survey goes to `sink`, what failed to `err`.
+pub(crate) fn perform<R: Source, W: Sink, E: Sink>(
+    alloc: Global,
+    groups: &Groups<'_>,
+    source: &mut R,
+    sink: &mut W,
+    err: &mut E,
+) -> u8
+    ensures survey { IsSurvey groups.now result
+        (turn R.remaining R.has_failed source.old source.new)
+        (turn W.held W.has_failed sink.old sink.new)
+        (turn E.held E.has_failed err.old err.new) }
+    ensures flushed { result ≡ 0 → W.is_flushed sink.new ≡ true }
+{
+    match j39_survey::survey(alloc, groups, source, sink, LOG_LIMIT) {
+        Ok(()) => 0,
+        Err(fault) => tell_fault(fault, err),
+    }
+}
