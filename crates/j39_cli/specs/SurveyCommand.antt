@@ -8,7 +8,7 @@ use Rattle.j39_listen.specs.declared.running.RunFault.TheVariants.{Memory, Read,
 use Rattle.j39_survey.specs.Run.{StopsWithin, WritesSurvey}
 use Rattle.j39_cli.specs.Answer.{IsTask}
 use Rattle.j39_cli.specs.Form.{Form, IsValueIfGiven, Meaning, option_words, value_words}
-use Rattle.j39_cli.specs.LogCommand.{fault_text, log_limit}
+use Rattle.j39_cli.specs.LogCommand.{fault_text, log_limit, opened_of}
 use Rattle.j39_cli.specs.Refusal.{error_line}
 use Rattle.j39_cli.specs.Rules.{option_rule, value_rule}
 use Rattle.j39_cli.specs.Turn.{IsUnmarked, Turn, Writes}
@@ -61,7 +61,7 @@ pub record IsSurvey (rows : List RowRecord) (status : ℕ) (log out err : Turn) 
 
 abbrev pub survey_meaning : Option (List ℕ) → Option (List ℕ) → Meaning
 survey_meaning table file = record {
-  file = file;
+  file = opened_of file;
   table = table;
   InRange = Unit {0};
   reads_log = true;
