@@ -22,24 +22,21 @@ is_stale() {
     -newer "$program" -print -quit)" ]
 }
 
-# Proves and builds the libraries below the program, those at the same time that don't stand on one another: in a
-# library that is being proved rt waits.
-prove_below() {
-  local crate
-  for crate in $crates; do
-    [ "$crate" = "$name" ] || (cd "$top/crates/$crate" && rt lib) &
-  done
-  wait
+# How many crates are built after this one, in the order of crates.txt.
+count_after() {
+  awk -F: -v at="$1" -v ours="$crates" 'BEGIN { split(ours, names, " "); for (i in names) ours_too[names[i]] }
+    seen && $1 in ours_too { n++ } $1 == at { seen = 1 } END { print n + 0 }' "$top/crates.txt"
 }
 
-# Shows, until the shell $$ ends, how many crates the log says are proved.
+# Shows, until the shell $$ ends, which crate the log is at and how many are left.
 show_progress() {
-  local log=$1 total proved
-  total=$(wc -w <<<"$crates")
+  local log=$1 crate
   while kill -0 $$ 2>/dev/null; do
-    proved=$(sed -n 's/^crate \([a-z0-9_]*\): modules loaded=.*/\1/p' "$log" | sort -u | wc -l)
-    printf '\r%s: %d of %d crates are proved; %d:%02d minutes\033[K' \
-      "$name" "$proved" "$total" $((SECONDS / 60)) $((SECONDS % 60)) >&2
+    crate=$(sed -n 's/^rt: chose --jobs .* for //p' "$log" | tail -n 1)
+    if [ -n "$crate" ]; then
+      printf '\r%s: %s is being proved, %d more to go; %d:%02d minutes\033[K' \
+        "$name" "$crate" "$(count_after "$crate")" $((SECONDS / 60)) $((SECONDS % 60)) >&2
+    fi
     sleep 1
   done
 }
@@ -58,11 +55,7 @@ build() {
     show_progress "$log" &
     teller=$!
   fi
-  (
-    trap 'kill 0' INT TERM
-    prove_below
-    cd "$top/crates/$name" && rt run -- --help
-  ) >"$log" 2>&1 </dev/null || status=$?
+  (cd "$top/crates/$name" && rt run -- --help) >"$log" 2>&1 </dev/null || status=$?
   if [ -n "$teller" ]; then
     kill "$teller" 2>/dev/null || true
     wait "$teller" 2>/dev/null || true

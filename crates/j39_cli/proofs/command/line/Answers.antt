@@ -20,4 +20,5 @@ returns c =
     let line7 = grown _ _ _ _ _ line6 c.in_ok-command-7.ensures.app c.in_ok-line-7.ensures in
     let line8 = grown _ _ _ _ _ line7 c.in_ok-command-8.ensures.app c.in_ok-line-8.ensures in
     let line9 = grown _ _ _ _ _ line8 c.in_ok-command-9.ensures.app c.in_ok-line-9.ensures in
-    line9
+    let line10 = grown _ _ _ _ _ line9 c.in_ok-command-10.ensures.app c.in_ok-line-10.ensures in
+    line10
