@@ -73,7 +73,7 @@ pub ends_whole : (a b : Pieces) → b.survey ≡ a.survey → ((begun : List ℕ
 ends_whole a b same none = λ taken h. (
   h.lines,
   record {
-    are_lines = record { whole = h.whole; joined = inl (h.taken_is ∙ ap (λ r. ended (texts h.lines) ++ r) (none h.begun h.begins) ∙ append-nil (ended (texts h.lines))) };
+    are_lines = record { whole = h.whole; bytes_are = inl (h.taken_is ∙ ap (λ r. ended (texts h.lines) ++ r) (none h.begun h.begins) ∙ append-nil (ended (texts h.lines))) };
     are_spelled = h.spelled;
   },
   rw same h.surveyed,
@@ -90,7 +90,7 @@ ends_line a b ends = λ taken h.
       record {
         are_lines = record {
           whole = rw (texts-more h.lines l) (whole-more (texts h.lines) h.begun h.whole h.begins.whole);
-          joined = inr (record { front = texts h.lines; last = h.begun; lines_are = texts-more h.lines l; last_is = step.0; bytes_are = h.taken_is });
+          bytes_are = inr (record { front = texts h.lines; last = h.begun; lines_are = texts-more h.lines l; last_is = step.0; bytes_are = h.taken_is });
         };
         are_spelled = spelled-more h.lines l h.spelled step.1.1;
       },
