@@ -1,4 +1,5 @@
 use j39_cli::{ParseFault, Task, WordText, parse};
+use j39_fault_news::Telling;
 use j39_log::Bus;
 use std::alloc::{AllocError, Global};
 use std::test::Fail;
@@ -24,6 +25,18 @@ fn told(alloc: Global, task: &Task<'_>) -> Result<String, AllocError> {
         Task::Summary(bus, None, file) => told_of_log(alloc, "summary", bus, file),
         Task::Summary(bus, Some(table), file) => {
             let command = format!(in alloc; "summary by {}", table.as_str())?;
+            told_of_log(alloc, command.as_str(), bus, file)
+        }
+        Task::Faults(bus, table, telling, file) => {
+            let which = match telling {
+                Telling::News => "news",
+                Telling::All => "all",
+            };
+            let by = match table {
+                Some(table) => table.as_str(),
+                None => "-",
+            };
+            let command = format!(in alloc; "faults {which} by {by}")?;
             told_of_log(alloc, command.as_str(), bus, file)
         }
         Task::Nodes(bus, file) => told_of_log(alloc, "nodes", bus, file),
@@ -73,6 +86,26 @@ fn reads_summary(rt: HostRuntime) -> Result<(), Fail> {
         ),
         (&["j1939", "summary", "--bus", "can 0", "log"], "bad --bus"),
         (&["j1939", "summary", "a", "b"], "usage"),
+    ];
+    for (words, want) in lines.iter() {
+        let told = answer(rt.alloc(), words)?;
+        assert_eq!(rt; told.as_str(), *want);
+    }
+    Ok(())
+}
+
+#[test]
+fn reads_faults(rt: HostRuntime) -> Result<(), Fail> {
+    let lines: [(&[&str], &str); 4] = [
+        (&["j1939", "faults"], "faults news by - - -"),
+        (
+            &[
+                "j1939", "faults", "--all", "--bus", "can0", "--table", "trucks", "trip.log",
+            ],
+            "faults all by trucks can0 trip.log",
+        ),
+        (&["j1939", "faults", "--bus", "can 0", "log"], "bad --bus"),
+        (&["j1939", "faults", "a", "b"], "usage"),
     ];
     for (words, want) in lines.iter() {
         let told = answer(rt.alloc(), words)?;
