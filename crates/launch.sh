@@ -50,7 +50,7 @@ build() {
   began=$(date +%s)
   log=$(mktemp)
   trap 'rm -f "$log"' EXIT
-  echo "$name: proving and building what has changed; all of it takes ten to fifteen minutes on 4 cores" >&2
+  echo "$name: proving and building what has changed; all of it takes some sixteen minutes on 4 cores" >&2
   if [ -t 2 ]; then
     show_progress "$log" &
     teller=$!
