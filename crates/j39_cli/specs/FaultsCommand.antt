@@ -10,7 +10,7 @@ use Rattle.j39_fault_news.specs.declared.telling.Telling.TheVariants.{News, All}
 use Rattle.j39_cli.specs.Answer.{IsBusChecked, IsTask}
 use Rattle.j39_cli.specs.Form.{Form, IsValueIfGiven, Meaning, option_words, value_words}
 use Rattle.j39_cli.specs.LogCommand.{runs, with_log}
-use Rattle.j39_cli.specs.Rules.{option_rule}
+use Rattle.j39_cli.specs.Rules.{with_table}
 use Rattle.j39_cli.specs.declared.task.Task.{Task}
 use Rattle.j39_cli.specs.declared.task.Task.TheVariants.{Faults}
 
@@ -19,7 +19,7 @@ abbrev pub all_rule : Rule
 all_rule = record (new_rule (codes "all")) { long = Some (codes "all"); action = Some SetTrue }
 
 abbrev pub faults_app : App
-faults_app = with_log (with_rule (with_rule (new_app (codes "faults")) (option_rule (codes "table") false)) all_rule)
+faults_app = with_log (with_rule (with_table (new_app (codes "faults"))) all_rule)
 
 abbrev pub all_words : Bool → List Text
 all_words all = if all then codes "--all" ∷ [] else []
