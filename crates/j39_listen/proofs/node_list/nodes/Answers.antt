@@ -15,3 +15,6 @@ returns-clause-memory g c = λ fails. (c.run_over.ensures.asked fails tt (nodes_
 
 pub returns-clause-at_limit : goal.returns-clause-at_limit
 returns-clause-at_limit g c = λ too_long. c.run_over.ensures.at_limit too_long tt (nodes_of []) (λ name. c.new.ensures) nodes_text-none
+
+pub returns-clause-cut_short : goal.returns-clause-cut_short
+returns-clause-cut_short g c = λ fails. c.run_over.ensures.cut_short fails tt (nodes_of []) (λ name. c.new.ensures) nodes_text-none
