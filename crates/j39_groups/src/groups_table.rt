@@ -9,7 +9,7 @@ ghost use Rattle.j39_groups.specs.Names.{group_name_in, name_in, parameter_name}
 ghost use Rattle.j39_groups.specs.Printed.{rows_text};
 ghost use Rattle.j39_groups.specs.Quick.{reading_line};
 ghost use Rattle.j39_groups.specs.ReadRows.{BeginsAt, read_row_record};
-ghost use Rattle.j39_groups.specs.Readings.{HaveSameGroups, is_reported_in, readings_in};
+ghost use Rattle.j39_groups.specs.Readings.{HaveSameGroups, is_reported_in, readings_in, rows_of_spns};
 ghost use Rattle.j39_groups.specs.Table.{the_table};
 ghost use Rattle.j39_groups.specs.Visits.{StopsAmong, TakesMore};
 ghost use Rattle.std.specs.Option.{option_copied, option_map};
@@ -25,11 +25,12 @@ use crate::read_lines::put_rows;
 use crate::read_parameters::put_read_table;
 use crate::read_row::ReadRow;
 use crate::reading::{is_reported, readings, rows};
+use crate::restricted::{built_in_rows_of, read_rows_of};
 use crate::visiting::{ReadingVisitor, visit_built_in, visit_rows};
 use crate::{group_names, printed};
 use j39_device::{DeviceFault, Sink, put_all};
 use j39_frame::Pgn;
-use std::alloc::AllocError;
+use std::alloc::{AllocError, Global};
 use std::marker::Model;
 
 /// A table of parameters.
@@ -69,6 +70,18 @@ impl<'t> Groups<'t> {
         Ok(Groups {
             listed: Listed::Read(table),
         })
+    }
+
+    /// The table with the rows of these parameters (SPN) alone; those of a group stay in their order. An `Err` comes
+    /// for want of memory alone.
+    pub fn restricted_to(&self, alloc: Global, spns: &[u32]) -> Result<Groups<'t>, AllocError>
+        ensures { IfOk result (λ groups. HaveSameGroups groups (rows_of_spns spns.now self.now)) }
+    {
+        let rows = match &self.listed {
+            Listed::BuiltIn => built_in_rows_of(alloc, spns)?,
+            Listed::Read(table) => read_rows_of(alloc, table.rows.as_slice(), spns)?,
+        };
+        Groups::from_rows(rows)
     }
 
     /// Whether parameters of this group are read.

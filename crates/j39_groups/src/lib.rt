@@ -23,6 +23,7 @@ mod read_parameters;
 mod read_row;
 mod read_value;
 mod reading;
+mod restricted;
 mod rows_before;
 mod scale;
 mod short_text;
