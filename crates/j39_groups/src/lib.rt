@@ -1,6 +1,7 @@
 //! Parameter groups and their readings (J1939-71).
 #![tactic(auto)]
 
+mod bare;
 mod by_group;
 mod by_number;
 mod field;
