@@ -4,5 +4,5 @@
 mod record;
 mod utc;
 
-pub use record::put_record;
+pub use record::{put_behind_comma, put_record};
 pub use utc::{UtcText, utc_text};

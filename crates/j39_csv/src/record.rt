@@ -35,7 +35,8 @@ fn put_later<W: Sink>(fields: &[&[u8]], sink: &mut W) -> Result<(), DeviceFault>
     Ok(())
 }
 
-fn put_behind_comma<W: Sink>(field: &[u8], sink: &mut W) -> Result<(), DeviceFault>
+/// Writes a comma and a field: one more of a record that has begun. After a fault a front of that was written.
+pub fn put_behind_comma<W: Sink>(field: &[u8], sink: &mut W) -> Result<(), DeviceFault>
     ensures ok { OnOk result (Appends (W.held sink.old) (W.held sink.new) (later_text field.now)) }
     ensures err { OnErr result (AppendsFront (W.held sink.old) (W.held sink.new) (later_text field.now)) }
     ensures mark { Marks result (W.has_failed sink.old) (W.has_failed sink.new) }

@@ -13,6 +13,7 @@ pub mod SortLemmas
 pub mod MarkLemmas
 pub mod ReadLemmas
 pub mod VisitLemmas
+pub mod RestrictedLemmas
 -- what a table calls its groups and parameters
 pub mod NameLemmas
 pub mod GroupNameLemmas

@@ -15,7 +15,7 @@ use Rattle.j39_groups.specs.Table.{the_table}
 use Rattle.j39_groups.specs.declared.table.LabelledRow.{LabelledRow}
 use Rattle.j39_groups.proofs.QuickLemmas.{last_quick}
 use Rattle.j39_groups.specs.Value.{ReadingRecord}
-use Rattle.j39_groups.specs.Visits.{StopsAmong, TakesMore, WantsAmong}
+use Rattle.j39_groups.specs.Visits.{StopsAmong, TakesMore, StopsAt}
 
 pub takes_none : {S V : Type 0} (has_taken : S → V → List ReadingRecord → Type 0) (v : V) → TakesMore has_taken v v []
 takes_none has_taken v = λ s before h. subst (has_taken s v) (sym (append-nil before)) h
@@ -32,7 +32,7 @@ stops_at has_taken wants v r wanted = λ s before h. record {
   at = r;
   rest = [];
   readings_are = refl;
-  wanted = subst (λ rs. wants s rs r) (sym (append-nil before)) (wanted s before h);
+  stopped = subst (λ rs. wants s rs r) (sym (append-nil before)) (wanted s before h);
 }
 
 regroup : (done taken : List ReadingRecord) (r : ReadingRecord) (rest more : List ReadingRecord)
@@ -50,7 +50,7 @@ stops_within has_taken wants a b done here rest all is takes stops = λ s before
       at = w.at;
       rest = w.rest ++ rest;
       readings_are = is ∙ ap (λ rs. done ++ (rs ++ rest)) w.readings_are ∙ regroup done w.taken w.at w.rest rest;
-      wanted = subst (λ rs. wants s rs w.at) (append_assoc before done w.taken) w.wanted;
+      stopped = subst (λ rs. wants s rs w.at) (append_assoc before done w.taken) w.stopped;
     }
 
 -- ---- lists of rows

@@ -1,11 +1,12 @@
 -- What private contracts see of the code's own table, and what its arithmetic needs of each row.
-use Rattle.std.specs.Prelude.{◌≡◌, ◌+◌, ◌^◌, ◌<◌, ◌≤◌, ◌==◌, ◌&&◌, ℕ, List, Bool, nat_lt, nat_le, if◌then◌else◌}
+use Rattle.std.specs.Prelude.{not, unsigned_abs, ◌*◌, ◌-◌, ◌≡◌, ◌+◌, ◌^◌, ◌<◌, ◌≤◌, ◌==◌, ◌&&◌, ℕ, List, Bool, nat_lt, nat_le, if◌then◌else◌}
 use Rattle.std.specs.List.{list_all, sum_by}
 use Rattle.j39_groups.specs.declared.table.Field.{Field}
 use Rattle.j39_groups.specs.declared.table.Field.TheVariants.{Number, Switch, Text, Texts}
 use Rattle.j39_groups.specs.declared.table.Row.{Row}
 use Rattle.j39_groups.specs.declared.slot.Slot.{Slot}
 use Rattle.j39_groups.specs.declared.by_number.SizedSlot
+use Rattle.j39_groups.specs.Readings.{is_heard_group, is_network_group}
 use Rattle.j39_groups.specs.Row.{FieldRecord, number_field, switch_field, text_field, texts_field, RowRecord}
 use Rattle.j39_groups.specs.Slots.{SizedSlotRecord}
 use Rattle.j39_groups.specs.Shown.{slot_record}
@@ -79,3 +80,18 @@ is_sound_row rows row = is_sound row.field && nat_le (most_values_of row.pgn row
 
 abbrev pub is_sound_table : List Row → Bool
 is_sound_table rows = list_all (is_sound_row rows) rows
+
+-- a field of a table that is built may stand so, and each of its values fits 64 bits
+abbrev pub is_listable_field : Field → Bool
+is_listable_field (Number first last slot) =
+    nat_lt 0 first && (nat_le first last && nat_lt last (first + 4))
+    && nat_lt (slot.step * (2 ^ (8 * (last - first + 1)) - 1) + unsigned_abs slot.offset) (2 ^ 63)
+is_listable_field (Switch byte low high) = nat_lt 0 byte && (nat_lt 0 low && (high == low + 1 && nat_le high 8))
+is_listable_field (Text part) = nat_lt 0 part
+is_listable_field (Texts byte count) = nat_lt 0 byte && nat_le count 31
+
+-- a row may stand in a table that is built
+abbrev pub is_listable : Row → Bool
+is_listable row =
+    is_listable_field row.field
+    && (nat_lt row.pgn (2 ^ 18) && (not (is_network_group row.pgn) && is_heard_group row.pgn))

@@ -82,6 +82,14 @@ group_rows pgn table = filter (λ row. row.pgn == pgn) table
 pub record HaveSameGroups (these those : List RowRecord) : Type 0 where
   pub same : (pgn : ℕ) → group_rows pgn these ≡ group_rows pgn those
 
+-- a parameter (SPN) is one of these
+abbrev pub is_among : List ℕ → ℕ → Bool
+is_among spns spn = list_any (λ listed. listed == spn) spns
+
+-- the rows of these parameters, in the table's order
+abbrev pub rows_of_spns : List ℕ → List RowRecord → List RowRecord
+rows_of_spns spns table = filter (λ row. is_among spns row.spn) table
+
 -- what each row of the group gives
 unfoldable pub readings_in : List RowRecord → ℕ → List ℕ → List ReadingRecord
 readings_in table pgn bytes = flat_map (readings_at bytes) (group_rows pgn table)

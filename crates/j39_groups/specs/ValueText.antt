@@ -46,3 +46,23 @@ value_text error = codes "error"
 value_text reserved = codes "reserved"
 value_text indicator = codes "indicator"
 value_text (text bytes) = quoted bytes
+
+-- a number without its unit, or what else there is
+unfoldable pub bare_text : ValueRecord → List ℕ
+bare_text (number n slot) = scaled_text slot.places n
+bare_text on = value_text on
+bare_text off = value_text off
+bare_text error = value_text error
+bare_text reserved = value_text reserved
+bare_text indicator = value_text indicator
+bare_text (text bytes) = value_text (text bytes)
+
+-- the unit of a number; nothing else has one
+unfoldable pub unit_of : ValueRecord → List ℕ
+unit_of (number n slot) = slot.unit
+unit_of on = []
+unit_of off = []
+unit_of error = []
+unit_of reserved = []
+unit_of indicator = []
+unit_of (text bytes) = []

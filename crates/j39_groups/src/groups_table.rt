@@ -9,9 +9,9 @@ ghost use Rattle.j39_groups.specs.Names.{group_name_in, name_in, parameter_name}
 ghost use Rattle.j39_groups.specs.Printed.{rows_text};
 ghost use Rattle.j39_groups.specs.Quick.{reading_line};
 ghost use Rattle.j39_groups.specs.ReadRows.{BeginsAt, read_row_record};
-ghost use Rattle.j39_groups.specs.Readings.{HaveSameGroups, is_reported_in, readings_in};
+ghost use Rattle.j39_groups.specs.Readings.{HaveSameGroups, is_reported_in, readings_in, rows_of_spns};
 ghost use Rattle.j39_groups.specs.Table.{the_table};
-ghost use Rattle.j39_groups.specs.Visits.{StopsAmong, TakesMore};
+ghost use Rattle.j39_groups.specs.Visits.{Stops, Takes};
 ghost use Rattle.std.specs.Option.{option_copied, option_map};
 
 use crate::by_group::by_group;
@@ -25,11 +25,12 @@ use crate::read_lines::put_rows;
 use crate::read_parameters::put_read_table;
 use crate::read_row::ReadRow;
 use crate::reading::{is_reported, readings, rows};
+use crate::restricted::{built_in_rows_of, read_rows_of};
 use crate::visiting::{ReadingVisitor, visit_built_in, visit_rows};
 use crate::{group_names, printed};
 use j39_device::{DeviceFault, Sink, put_all};
 use j39_frame::Pgn;
-use std::alloc::AllocError;
+use std::alloc::{AllocError, Global};
 use std::marker::Model;
 
 /// A table of parameters.
@@ -69,6 +70,18 @@ impl<'t> Groups<'t> {
         Ok(Groups {
             listed: Listed::Read(table),
         })
+    }
+
+    /// The table with the rows of these parameters (SPN) alone; those of a group stay in their order. An `Err` comes
+    /// for want of memory alone.
+    pub fn restricted_to(&self, alloc: Global, spns: &[u32]) -> Result<Groups<'t>, AllocError>
+        ensures { IfOk result (λ groups. HaveSameGroups groups (rows_of_spns spns.now self.now)) }
+    {
+        let rows = match &self.listed {
+            Listed::BuiltIn => built_in_rows_of(alloc, spns)?,
+            Listed::Read(table) => read_rows_of(alloc, table.rows.as_slice(), spns)?,
+        };
+        Groups::from_rows(rows)
     }
 
     /// Whether parameters of this group are read.
@@ -146,20 +159,21 @@ impl<'t> Groups<'t> {
 
     /// Hands each reading of a payload to a visitor, in the table's order. It ends at the first that is refused.
     #[inline(always)]
-    pub fn visit<V: ReadingVisitor<'t>>(
+    pub fn visit<M, V: ReadingVisitor<'t, M>>(
         &self,
         pgn: Pgn,
         bytes: &[u8],
         visitor: &mut V,
-    ) -> Result<(), AllocError>
-        ensures taken { OnOk result (TakesMore V.has_taken visitor.old visitor.new
+        medium: &mut M,
+    ) -> Result<(), V::Fault>
+        ensures taken { OnOk result (Takes V.has_taken visitor.old medium.old visitor.new medium.new
             (readings_in self.now (pgn_raw pgn) bytes.now)) }
-        ensures wanted { OnErr result (StopsAmong V.has_taken V.wants visitor.old
+        ensures stopped { OnErr result (Stops V.has_taken V.has_stopped visitor.old medium.old visitor.new medium.new
             (readings_in self.now (pgn_raw pgn) bytes.now)) }
     {
         match &self.listed {
-            Listed::BuiltIn => visit_built_in(pgn, bytes, visitor),
-            Listed::Read(table) => visit_read(table, pgn, bytes, visitor),
+            Listed::BuiltIn => visit_built_in(pgn, bytes, visitor, medium),
+            Listed::Read(table) => visit_read(table, pgn, bytes, visitor, medium),
         }
     }
 
@@ -176,36 +190,45 @@ impl<'t> Groups<'t> {
 
 /// Hands the readings by a table that was built to a visitor.
 #[inline(never)]
-fn visit_read<'t, V: ReadingVisitor<'t>>(
+fn visit_read<'t, M, V: ReadingVisitor<'t, M>>(
     table: &ReadTable<'t>,
     pgn: Pgn,
     bytes: &[u8],
     visitor: &mut V,
-) -> Result<(), AllocError>
-    ensures taken { OnOk result (TakesMore V.has_taken visitor.old visitor.new
+    medium: &mut M,
+) -> Result<(), V::Fault>
+    ensures taken { OnOk result (Takes V.has_taken visitor.old medium.old visitor.new medium.new
         (readings_in (map read_row_record table.now.rows.items) (pgn_raw pgn) bytes.now)) }
-    ensures wanted { OnErr result (StopsAmong V.has_taken V.wants visitor.old
+    ensures stopped { OnErr result (Stops V.has_taken V.has_stopped visitor.old medium.old visitor.new medium.new
         (readings_in (map read_row_record table.now.rows.items) (pgn_raw pgn) bytes.now)) }
 {
     let hint = mark(&table.marks, pgn);
-    visit_group(table.rows.as_slice(), hint, pgn.raw(), bytes, visitor)
+    visit_group(
+        table.rows.as_slice(),
+        hint,
+        pgn.raw(),
+        bytes,
+        visitor,
+        medium,
+    )
 }
 
 /// Hands the readings by the rows of a group among these to a visitor.
-fn visit_group<'t, V: ReadingVisitor<'t>>(
+fn visit_group<'t, M, V: ReadingVisitor<'t, M>>(
     rows: &[ReadRow<'t>],
     hint: usize,
     pgn: u32,
     bytes: &[u8],
     visitor: &mut V,
-) -> Result<(), AllocError>
+    medium: &mut M,
+) -> Result<(), V::Fault>
     requires { IsNonDecreasingBy (λ row. pgn_raw row.pgn) rows.now }
-    ensures taken { OnOk result (TakesMore V.has_taken visitor.old visitor.new
+    ensures taken { OnOk result (Takes V.has_taken visitor.old medium.old visitor.new medium.new
         (readings_in (map read_row_record rows.now) pgn bytes.now)) }
-    ensures wanted { OnErr result (StopsAmong V.has_taken V.wants visitor.old
+    ensures stopped { OnErr result (Stops V.has_taken V.has_stopped visitor.old medium.old visitor.new medium.new
         (readings_in (map read_row_record rows.now) pgn bytes.now)) }
 {
-    visit_rows(group_of(rows, hint, pgn), bytes, visitor)
+    visit_rows(group_of(rows, hint, pgn), bytes, visitor, medium)
 }
 
 /// Whether a table that was built lists a group.

@@ -1,9 +1,9 @@
 //! Laws about the definitions, each the contract of a function that does nothing.
-ghost use Rattle.std.specs.Prelude.{◌≡◌, ℕ, ℤ, List, [], false, IsSomeAnd};
+ghost use Rattle.std.specs.Prelude.{◌≡◌, ℕ, ℤ, List, [], false, filter, true, IsSomeAnd};
 ghost use Rattle.std.specs.List.{Contains};
 ghost use Rattle.j39_groups.specs.Value.{number, ReadingRecord};
 ghost use Rattle.j39_groups.specs.Parts.{AreParts, parts_of};
-ghost use Rattle.j39_groups.specs.Readings.{HaveSameGroups, readings_in, is_reported_in, readings_of, is_reported_group};
+ghost use Rattle.j39_groups.specs.Readings.{HaveSameGroups, is_among, is_reported_group, is_reported_in, readings_in, readings_of, rows_of_spns};
 ghost use Rattle.j39_groups.specs.Row.{RowRecord};
 ghost use Rattle.j39_groups.specs.Slots.{Holds, IsRawOf, slot_of_spn};
 
@@ -31,4 +31,14 @@ pub fn groups_alone_count()
         → (pgn : ℕ) (bytes : List ℕ) → readings_in these pgn bytes ≡ readings_in those pgn bytes }
     ensures reported { (these those : List RowRecord) → HaveSameGroups these those
         → (pgn : ℕ) → is_reported_in these pgn ≡ is_reported_in those pgn }
+{}
+
+/// What is read by the rows of some parameters is what is read of these parameters, and no group is reported by them
+/// alone.
+pub fn restricted_reads_less()
+    ensures readings { (spns : List ℕ) (table : List RowRecord) (pgn : ℕ) (bytes : List ℕ)
+        → readings_in (rows_of_spns spns table) pgn bytes
+        ≡ filter (λ reading. is_among spns reading.spn) (readings_in table pgn bytes) }
+    ensures reported { (spns : List ℕ) (table : List RowRecord) (pgn : ℕ)
+        → is_reported_in (rows_of_spns spns table) pgn ≡ true → is_reported_in table pgn ≡ true }
 {}

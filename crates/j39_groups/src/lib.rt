@@ -1,6 +1,7 @@
 //! Parameter groups and their readings (J1939-71).
 #![tactic(auto)]
 
+mod bare;
 mod by_group;
 mod by_number;
 mod field;
@@ -23,6 +24,7 @@ mod read_parameters;
 mod read_row;
 mod read_value;
 mod reading;
+mod restricted;
 mod rows_before;
 mod scale;
 mod short_text;

@@ -1,12 +1,12 @@
 //! What is read in the payload of a group (J1939-71).
 ghost use Rattle.std.specs.Prelude.{◌≡◌, ◌+◌, ◌≤◌, ◌<◌, ◌==◌, ◌++◌, [], false, map, filter, take, IsTrue};
-ghost use Rattle.std.specs.List.{list_any, filter_map, flat_map};
+ghost use Rattle.std.specs.List.{list_all, list_any, filter_map, flat_map};
 ghost use Rattle.std.specs.Bool.{OnFalse};
 ghost use Rattle.std.specs.Option.{option_map, option_to_list};
 ghost use Rattle.arrayvec.specs.ArrayVec.{array_vec_len};
 ghost use Rattle.j39_frame.specs.Pgn.{pgn_raw};
 ghost use Rattle.j39_groups.specs.Table.{the_table};
-ghost use Rattle.j39_groups.specs.CodeRows.{row_record, IsSound, most_values, is_sound_table};
+ghost use Rattle.j39_groups.specs.CodeRows.{row_record, IsSound, is_listable, most_values, is_sound_table};
 ghost use Rattle.j39_groups.specs.Readings.{is_reported_group, readings_of, readings_at, filled_text_meaning};
 ghost use Rattle.j39_groups.specs.Parts.{parts_of};
 ghost use Rattle.j39_groups.specs.Shown.{value_of, reading_of};
@@ -21,6 +21,7 @@ use j39_frame::Pgn;
 pub(crate) fn rows() -> &'static [Row]
     ensures table { map row_record result.now ≡ the_table }
     ensures sound { IsTrue (is_sound_table result.now) }
+    ensures listable { IsTrue (list_all is_listable result.now) }
 {
     TABLE
 }

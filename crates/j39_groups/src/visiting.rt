@@ -10,7 +10,7 @@ ghost use Rattle.j39_groups.specs.ReadValues.{read_value_of};
 ghost use Rattle.j39_groups.specs.Readings.{readings_of, values_at};
 ghost use Rattle.j39_groups.specs.Shown.{reading_of};
 ghost use Rattle.j39_groups.specs.Value.{ReadingRecord};
-ghost use Rattle.j39_groups.specs.Visits.{StopsAmong, TakesMore, visited};
+ghost use Rattle.j39_groups.specs.Visits.{Stops, Takes, visited};
 
 use crate::field::bytes_from;
 use crate::quick_lines::value_at;
@@ -23,164 +23,193 @@ use crate::table::Field;
 use crate::value::Reading;
 use arrayvec::ArrayVec;
 use j39_frame::Pgn;
-use std::alloc::AllocError;
 
-/// What takes the readings of payloads, one after another; `'t` is how long the table lives.
-pub trait ReadingVisitor<'t> {
+/// What takes the readings of payloads, one after another, with what it writes to; `'t` is how long the table lives.
+pub trait ReadingVisitor<'t, M> {
+    /// Why it takes no more.
+    type Fault;
+
     // What it takes the readings to, beside them.
     ghost Subject: { Type 0 };
 
-    // It has taken these readings to it.
-    ghost has_taken: { Subject → Self → List ReadingRecord → Type 0 };
+    // With its medium it has taken these readings to it.
+    ghost has_taken: { Subject → Self → M → List ReadingRecord → Type 0 };
 
-    // Behind these readings it may want memory at this one.
-    ghost wants: { Subject → List ReadingRecord → ReadingRecord → Type 0 };
+    // Behind these readings it has stopped at this one.
+    ghost has_stopped: { Subject → List ReadingRecord → ReadingRecord → Self → M → Type 0 };
 
-    /// Takes the next reading: a parameter's number (SPN) and its value. An `Err` comes for want of memory.
-    fn visit(&mut self, spn: u32, value: ReadValue<'t, '_>) -> Result<(), AllocError>
-        ensures taken { OnOk result (TakesMore has_taken self.old self.new (visited spn value.entry ∷ [])) }
-        ensures wanted { OnErr result ((subject : Subject) (before : List ReadingRecord)
-            → has_taken subject self.old before → wants subject before (visited spn value.entry)) };
+    /// Takes the next reading: a parameter's number (SPN) and its value. After an `Err` it is handed none.
+    fn visit(
+        &mut self,
+        spn: u32,
+        value: ReadValue<'t, '_>,
+        medium: &mut M,
+    ) -> Result<(), Self::Fault>
+        ensures taken { OnOk result (Takes has_taken self.old medium.old self.new medium.new
+            (visited spn value.entry ∷ [])) }
+        ensures stopped { OnErr result ((subject : Subject) (before : List ReadingRecord)
+            → has_taken subject self.old medium.old before
+            → has_stopped subject before (visited spn value.entry) self.new medium.new) };
 }
 
 /// Hands on the readings by the built-in table.
 #[inline(always)]
-pub(crate) fn visit_built_in<'t, V: ReadingVisitor<'t>>(
+pub(crate) fn visit_built_in<'t, M, V: ReadingVisitor<'t, M>>(
     pgn: Pgn,
     bytes: &[u8],
     visitor: &mut V,
-) -> Result<(), AllocError>
-    ensures taken { OnOk result (TakesMore V.has_taken visitor.old visitor.new
+    medium: &mut M,
+) -> Result<(), V::Fault>
+    ensures taken { OnOk result (Takes V.has_taken visitor.old medium.old visitor.new medium.new
         (readings_of (pgn_raw pgn) bytes.now)) }
-    ensures wanted { OnErr result (StopsAmong V.has_taken V.wants visitor.old
+    ensures stopped { OnErr result (Stops V.has_taken V.has_stopped visitor.old medium.old visitor.new medium.new
         (readings_of (pgn_raw pgn) bytes.now)) }
 {
     let Some(rows) = quick_rows(pgn.raw()) else {
-        return visit_each(pgn, bytes, visitor);
+        return visit_each(pgn, bytes, visitor, medium);
     };
     for quick in rows {
-        visit_field(quick.row.spn, quick.row.field, bytes, visitor)?;
+        visit_field(quick.row.spn, quick.row.field, bytes, visitor, medium)?;
     }
     Ok(())
 }
 
 /// Hands on the reading of a number or a switch of the built-in table, where there is one.
 #[inline(always)]
-fn visit_field<'t, V: ReadingVisitor<'t>>(
+fn visit_field<'t, M, V: ReadingVisitor<'t, M>>(
     spn: u32,
     field: Field,
     bytes: &[u8],
     visitor: &mut V,
-) -> Result<(), AllocError>
+    medium: &mut M,
+) -> Result<(), V::Fault>
     requires { IsQuickField field }
-    ensures taken { OnOk result (TakesMore V.has_taken visitor.old visitor.new
+    ensures taken { OnOk result (Takes V.has_taken visitor.old medium.old visitor.new medium.new
         (map (λ value. record { spn = spn; value = value }) (values_at bytes.now (field_record field)))) }
-    ensures wanted { OnErr result (StopsAmong V.has_taken V.wants visitor.old
+    ensures stopped { OnErr result (Stops V.has_taken V.has_stopped visitor.old medium.old visitor.new medium.new
         (map (λ value. record { spn = spn; value = value }) (values_at bytes.now (field_record field)))) }
 {
     let value = value_at(bytes, field);
-    visit_value(spn, plain(value), visitor)
+    visit_value(spn, plain(value), visitor, medium)
 }
 
 /// Hands on the readings by the built-in table, of any group.
 #[inline(never)]
-fn visit_each<'t, V: ReadingVisitor<'t>>(
+fn visit_each<'t, M, V: ReadingVisitor<'t, M>>(
     pgn: Pgn,
     bytes: &[u8],
     visitor: &mut V,
-) -> Result<(), AllocError>
-    ensures taken { OnOk result (TakesMore V.has_taken visitor.old visitor.new
+    medium: &mut M,
+) -> Result<(), V::Fault>
+    ensures taken { OnOk result (Takes V.has_taken visitor.old medium.old visitor.new medium.new
         (readings_of (pgn_raw pgn) bytes.now)) }
-    ensures wanted { OnErr result (StopsAmong V.has_taken V.wants visitor.old
+    ensures stopped { OnErr result (Stops V.has_taken V.has_stopped visitor.old medium.old visitor.new medium.new
         (readings_of (pgn_raw pgn) bytes.now)) }
 {
     let found = readings(pgn, bytes);
-    visit_found(found.as_slice(), visitor)
+    visit_found(found.as_slice(), visitor, medium)
 }
 
 /// Hands on these readings.
-fn visit_found<'t, V: ReadingVisitor<'t>>(
+fn visit_found<'t, M, V: ReadingVisitor<'t, M>>(
     found: &[Reading<'_>],
     visitor: &mut V,
-) -> Result<(), AllocError>
-    ensures taken { OnOk result (TakesMore V.has_taken visitor.old visitor.new (map reading_of found.now)) }
-    ensures wanted { OnErr result (StopsAmong V.has_taken V.wants visitor.old (map reading_of found.now)) }
+    medium: &mut M,
+) -> Result<(), V::Fault>
+    ensures taken { OnOk result (Takes V.has_taken visitor.old medium.old visitor.new medium.new (map reading_of found.now)) }
+    ensures stopped { OnErr result (Stops V.has_taken V.has_stopped visitor.old medium.old visitor.new medium.new
+        (map reading_of found.now)) }
 {
     for reading in found {
-        visitor.visit(reading.spn, ReadValue::Plain(reading.value))?;
+        visitor.visit(reading.spn, ReadValue::Plain(reading.value), medium)?;
     }
     Ok(())
 }
 
 /// Hands on the readings by these rows.
-pub(crate) fn visit_rows<'t, V: ReadingVisitor<'t>>(
+pub(crate) fn visit_rows<'t, M, V: ReadingVisitor<'t, M>>(
     rows: &[ReadRow<'t>],
     bytes: &[u8],
     visitor: &mut V,
-) -> Result<(), AllocError>
-    ensures taken { OnOk result (TakesMore V.has_taken visitor.old visitor.new
+    medium: &mut M,
+) -> Result<(), V::Fault>
+    ensures taken { OnOk result (Takes V.has_taken visitor.old medium.old visitor.new medium.new
         (flat_map (row_readings bytes.now) rows.now)) }
-    ensures wanted { OnErr result (StopsAmong V.has_taken V.wants visitor.old
+    ensures stopped { OnErr result (Stops V.has_taken V.has_stopped visitor.old medium.old visitor.new medium.new
         (flat_map (row_readings bytes.now) rows.now)) }
 {
     for row in rows {
-        visit_row(row, bytes, visitor)?;
+        visit_row(row, bytes, visitor, medium)?;
     }
     Ok(())
 }
 
 /// Hands on the readings by one row.
-fn visit_row<'t, V: ReadingVisitor<'t>>(
+fn visit_row<'t, M, V: ReadingVisitor<'t, M>>(
     row: &ReadRow<'t>,
     bytes: &[u8],
     visitor: &mut V,
-) -> Result<(), AllocError>
-    ensures taken { OnOk result (TakesMore V.has_taken visitor.old visitor.new (row_readings bytes.now row.now)) }
-    ensures wanted { OnErr result (StopsAmong V.has_taken V.wants visitor.old (row_readings bytes.now row.now)) }
+    medium: &mut M,
+) -> Result<(), V::Fault>
+    ensures taken { OnOk result (Takes V.has_taken visitor.old medium.old visitor.new medium.new (row_readings bytes.now row.now)) }
+    ensures stopped { OnErr result (Stops V.has_taken V.has_stopped visitor.old medium.old visitor.new medium.new
+        (row_readings bytes.now row.now)) }
 {
     match row.field {
-        ReadField::Number { .. } => visit_value(row.spn, value_in(bytes, row.field), visitor),
-        ReadField::Bits { .. } => visit_value(row.spn, value_in(bytes, row.field), visitor),
-        ReadField::Switch { .. } => visit_value(row.spn, value_in(bytes, row.field), visitor),
-        ReadField::Text { .. } => visit_value(row.spn, value_in(bytes, row.field), visitor),
+        ReadField::Number { .. } => visit_value(
+            row.spn,
+            value_in(bytes, row.field),
+            visitor,
+            medium,
+        ),
+        ReadField::Bits { .. } => visit_value(row.spn, value_in(bytes, row.field), visitor, medium),
+        ReadField::Switch { .. } => visit_value(
+            row.spn,
+            value_in(bytes, row.field),
+            visitor,
+            medium,
+        ),
+        ReadField::Text { .. } => visit_value(row.spn, value_in(bytes, row.field), visitor, medium),
         ReadField::Texts { byte, count } => {
-            visit_texts(row.spn, bytes_from(bytes, byte), count, visitor)
+            visit_texts(row.spn, bytes_from(bytes, byte), count, visitor, medium)
         }
     }
 }
 
 /// Hands on the reading of a value, where there is one.
-fn visit_value<'t, V: ReadingVisitor<'t>>(
+fn visit_value<'t, M, V: ReadingVisitor<'t, M>>(
     spn: u32,
     value: Option<ReadValue<'t, '_>>,
     visitor: &mut V,
-) -> Result<(), AllocError>
-    ensures taken { OnOk result (TakesMore V.has_taken visitor.old visitor.new
+    medium: &mut M,
+) -> Result<(), V::Fault>
+    ensures taken { OnOk result (Takes V.has_taken visitor.old medium.old visitor.new medium.new
         (map (λ value. record { spn = spn; value = value }) (option_to_list (option_map read_value_of value.entry)))) }
-    ensures wanted { OnErr result (StopsAmong V.has_taken V.wants visitor.old
+    ensures stopped { OnErr result (Stops V.has_taken V.has_stopped visitor.old medium.old visitor.new medium.new
         (map (λ value. record { spn = spn; value = value }) (option_to_list (option_map read_value_of value.entry)))) }
 {
     match value {
-        Some(value) => visitor.visit(spn, value),
+        Some(value) => visitor.visit(spn, value, medium),
         None => Ok(()),
     }
 }
 
 /// Hands on the readings of the first `count` texts of a payload.
 #[inline(never)]
-fn visit_texts<'t, V: ReadingVisitor<'t>>(
+fn visit_texts<'t, M, V: ReadingVisitor<'t, M>>(
     spn: u32,
     bytes: &[u8],
     count: u8,
     visitor: &mut V,
-) -> Result<(), AllocError>
+    medium: &mut M,
+) -> Result<(), V::Fault>
     requires { count ≤ 31 }
-    ensures taken { OnOk result (TakesMore V.has_taken visitor.old visitor.new
+    ensures taken { OnOk result (Takes V.has_taken visitor.old medium.old visitor.new medium.new
         (text_readings spn bytes.now count)) }
-    ensures wanted { OnErr result (StopsAmong V.has_taken V.wants visitor.old
+    ensures stopped { OnErr result (Stops V.has_taken V.has_stopped visitor.old medium.old visitor.new medium.new
         (text_readings spn bytes.now count)) }
 {
     let mut found = ArrayVec::new();
     push_texts(&mut found, spn, bytes, count);
-    visit_found(found.as_slice(), visitor)
+    visit_found(found.as_slice(), visitor, medium)
 }

@@ -4,6 +4,7 @@ pub mod Held
 pub mod Causal
 pub mod Events
 pub mod Reported
+pub mod Restricted
 pub mod Unique
 pub mod Masks
 pub mod Forgets

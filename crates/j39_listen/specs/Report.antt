@@ -1,12 +1,12 @@
 -- The report of a list of frames by a table of parameters, and its text.
-use Rattle.std.specs.Prelude.{◌≡◌, ℕ, List, [], ◌∷◌, ◌++◌, Option, Some, None, map, codes, decimal}
+use Rattle.std.specs.Prelude.{◌≡◌, ℕ, List, [], ◌∷◌, ◌++◌, Option, Some, None, filter, map, codes, decimal}
 use Rattle.std.specs.Int.{to_be_bytes, w64}
 use Rattle.std.specs.List.{flat_map}
 use Rattle.hex.specs.Hex.{encode_upper}
 use Rattle.j39_text.specs.Chars.{newline}
 use Rattle.j39_frame.specs.Frame.{FrameRecord}
 use Rattle.j39_log.specs.StampText.{stamp_text}
-use Rattle.j39_groups.specs.Readings.{readings_in}
+use Rattle.j39_groups.specs.Readings.{is_among, readings_in}
 use Rattle.j39_groups.specs.Row.{RowRecord}
 use Rattle.j39_groups.specs.Value.{ReadingRecord, ValueRecord}
 use Rattle.j39_groups.specs.ValueText.{value_text}
@@ -40,6 +40,10 @@ entries_of groups h = map (entry_of h) (readings_in groups h.message.pgn h.messa
 abbrev pub IsReport : List RowRecord → List FrameRecord → List Entry → Type 0
 IsReport groups F entries = (heard : List Hearing) × AreHeard groups F heard
     × (entries ≡ flat_map (entries_of groups) heard)
+
+-- the entries of these parameters (SPN)
+abbrev pub entries_among : List ℕ → List Entry → List Entry
+entries_among spns entries = filter (λ e. is_among spns e.spn) entries
 
 -- a NAME in sixteen upper-case hex digits, or sixteen `-`
 abbrev pub name_text : Option ℕ → List ℕ

@@ -3,13 +3,14 @@ ghost use Rattle.std.specs.Prelude.{◌≡◌, ◌<◌, ℕ, List, Option, lengt
 ghost use Rattle.j39_frame.specs.Frame.{FrameRecord};
 ghost use Rattle.j39_address.specs.Command.{Command};
 ghost use Rattle.j39_address.specs.Node.{Node};
+ghost use Rattle.j39_groups.specs.Readings.{HaveSameGroups, rows_of_spns};
 ghost use Rattle.j39_groups.specs.Row.{RowRecord};
 ghost use Rattle.j39_groups.specs.Table.{the_table};
 ghost use Rattle.j39_listen.specs.Answers.{AreAnswers, CommandedAt};
 ghost use Rattle.j39_listen.specs.TransferExample.{example, example_frames, example_values};
 ghost use Rattle.j39_listen.specs.NoTransferExamples.{Publishes, early, early_frames, eec1, eec1_frames, eec1_values, two, two_frames, two_values, vin, vin_frames, vin_values};
 ghost use Rattle.j39_listen.specs.Heard.{AreHeard, HeardAt, Hearing};
-ghost use Rattle.j39_listen.specs.Report.{Entry, IsReport};
+ghost use Rattle.j39_listen.specs.Report.{Entry, IsReport, entries_among};
 ghost use Rattle.j39_listen.specs.Loss.{LostTogether, Repeated, Thinned};
 ghost use Rattle.j39_listen.specs.LossExample.{heard_frames, left_frames, left_values, lost, sent, sent_frames, sent_values};
 ghost use Rattle.j39_listen.specs.Published.{Published};
@@ -32,6 +33,13 @@ pub fn some_report()
     ensures heard { (groups : List RowRecord) (F : List FrameRecord) → (hs : List Hearing) × AreHeard groups F hs }
     ensures report { (groups : List RowRecord) (F : List FrameRecord) → (entries : List Entry)
         × IsReport groups F entries }
+{}
+
+/// By the rows of some parameters alone the report has the entries of these parameters, in the same order, and no others.
+pub fn restricted_report()
+    ensures { (spns : List ℕ) (these those : List RowRecord) → HaveSameGroups these (rows_of_spns spns those)
+        → (F : List FrameRecord) (some all : List Entry) → IsReport these F some → IsReport those F all
+        → some ≡ entries_among spns all }
 {}
 
 /// With each list of frames a node sends some frames, and no others: at each frame it is commanded or not.

@@ -9,7 +9,7 @@ use Rattle.j39_device.specs.Device.{AppendsFront}
 use Rattle.j39_frame.specs.Frame.{FrameRecord}
 use Rattle.j39_groups.specs.Readings.{is_reported_in, readings_in}
 use Rattle.j39_groups.specs.Row.{RowRecord}
-use Rattle.j39_groups.specs.Visits.{StopsAmong, TakesMore}
+use Rattle.j39_groups.specs.Visits.{Stops, Takes}
 use Rattle.j39_listen.specs.AccountSteps.{Begins, Closes, MakesOne, Meets, StopsAtEnd}
 use Rattle.j39_listen.specs.Counting.{capped}
 use Rattle.j39_listen.specs.Heard.{AreHeard, HeardAt, Hearing, or_none}
@@ -56,7 +56,7 @@ notes_silent groups l' F f rows before silent hears are = record {
 
 pub notes_heard : (groups : List RowRecord) (l' : Listener) (F : List FrameRecord) (f : FrameRecord) (h : Hearing) (begun rows : Rows) (before : List Entry)
     → HeardAt groups (F ++ f ∷ []) (length F) (Some h) → Hears l' (F ++ f ∷ []) → HasTaken (record { before = before; hearing = h }) begun []
-    → TakesMore HasTaken begun rows (readings_in groups h.message.pgn h.message.bytes) → NotesFrame groups F f l' rows.rows.entries before 1
+    → Takes {M = Unit {0}} (λ message rows medium. HasTaken message rows) begun tt rows tt (readings_in groups h.message.pgn h.message.bytes) → NotesFrame groups F f l' rows.rows.entries before 1
 notes_heard groups l' F f h begun rows before at hears begins takes =
     let message : Message = record { before = before; hearing = h } in
     let taken = takes message [] begins in
@@ -68,11 +68,11 @@ notes_heard groups l' F f h begun rows before at hears begins takes =
       messages_are = refl;
     }
 
-pub asks_heard : (groups : List RowRecord) (F : List FrameRecord) (f : FrameRecord) (h : Hearing) (heard : List Hearing) (begun : Rows)
+pub asks_heard : (groups : List RowRecord) (F : List FrameRecord) (f : FrameRecord) (h : Hearing) (heard : List Hearing) (begun rows : Rows)
     → HeardAt groups (F ++ f ∷ []) (length F) (Some h) → AreHeard groups F heard
     → HasTaken (record { before = flat_map (entries_of groups) heard; hearing = h }) begun []
-    → StopsAmong HasTaken WantsAt begun (readings_in groups h.message.pgn h.message.bytes) → AsksForRows groups F f
-asks_heard groups F f h heard begun at are_heard begins stops =
+    → Stops {M = Unit {0}} (λ message rows medium. HasTaken message rows) (λ message before at rows medium. WantsAt message before at) begun tt rows tt (readings_in groups h.message.pgn h.message.bytes) → AsksForRows groups F f
+asks_heard groups F f h heard begun rows at are_heard begins stops =
     let message : Message = record { before = flat_map (entries_of groups) heard; hearing = h } in
     let w = stops message [] begins in
     inr (record {
@@ -84,7 +84,7 @@ asks_heard groups F f h heard begun at are_heard begins stops =
       entry = entry_of h w.at;
       rest = map (entry_of h) w.rest;
       entries_are = ap (map (entry_of h)) w.readings_are ∙ map-append (entry_of h) w.taken (w.at ∷ w.rest);
-      wanted = w.wanted;
+      wanted = w.stopped;
     })
 
 pub summary_meets : (groups : List RowRecord) (a a' : SummaryAccount) → a'.groups ≡ a.groups → (f : FrameRecord) (messages : ℕ) (old : Option (List ℕ))

@@ -6,20 +6,9 @@ use Rattle.j39_text.specs.Chars.{newline}
 use Rattle.j39_log.specs.StampText.{stamp_text}
 use Rattle.j39_groups.specs.Names.{name_in}
 use Rattle.j39_groups.specs.Row.{RowRecord}
-use Rattle.j39_groups.specs.Value.{ValueRecord, number, on, off, error, reserved, indicator, text}
-use Rattle.j39_groups.specs.ValueText.{scaled_text, value_text}
+use Rattle.j39_groups.specs.ValueText.{bare_text, scaled_text}
 use Rattle.j39_listen.specs.Report.{name_text}
 use Rattle.j39_summary.specs.Summary.{Range, Row}
-
--- a number without its unit, or what the report has
-unfoldable pub bare_text : ValueRecord → List ℕ
-bare_text (number n slot) = scaled_text slot.places n
-bare_text on = value_text on
-bare_text off = value_text off
-bare_text error = value_text error
-bare_text reserved = value_text reserved
-bare_text indicator = value_text indicator
-bare_text (text bytes) = value_text (text bytes)
 
 -- the least number, the most, and their unit; dashes where there is no number
 unfoldable pub range_text : Option Range → List ℕ

@@ -147,7 +147,7 @@ fn note<'t>(
         Ok(None) => Ok(0),
         Ok(Some(heard)) => {
             rows.begin(&heard);
-            match groups.visit(heard.message.pgn, heard.message.payload, rows) {
+            match groups.visit(heard.message.pgn, heard.message.payload, rows, &mut ()) {
                 Ok(()) => Ok(1),
                 Err(AllocError) => Err(AllocError),
             }

@@ -6,8 +6,9 @@ ghost use Rattle.std.specs.Io.KnownBytes.{Appends};
 ghost use Rattle.arrayvec.specs.ArrayVec.{array_vec_len};
 ghost use Rattle.j39_device.specs.Device.{AppendsFront, Marks};
 ghost use Rattle.j39_text.specs.Chars.{newline};
+ghost use Rattle.j39_groups.specs.ValueText.{bare_text};
 ghost use Rattle.j39_listen.specs.Report.{name_text};
-ghost use Rattle.j39_summary.specs.RowText.{bare_text, called_in, first_text, head_text, last_text, range_text, row_text, summary_text, values_text};
+ghost use Rattle.j39_summary.specs.RowText.{called_in, first_text, head_text, last_text, range_text, row_text, summary_text, values_text};
 ghost use Rattle.j39_summary.specs.Shown.{kept_value, range_of_span, row_shown};
 
 use crate::deeds::{Deeds, Span};
@@ -212,7 +213,7 @@ fn put_parts<W: Sink>(parts: &[&[u8]], sink: &mut W) -> Result<(), DeviceFault>
 }
 
 /// Writes a value: a number without its unit.
-#[tactic(auto, unfolding(crate::specs::RowText::bare_text))]
+#[tactic(auto, unfolding(j39_groups::specs::ValueText::bare_text))]
 fn put_kept<W: Sink>(kept: &Kept<'_>, sink: &mut W) -> Result<(), DeviceFault>
     ensures written { OnOk result (Appends (W.held sink.old) (W.held sink.new) (bare_text (kept_value kept.now))) }
     ensures front { OnErr result (AppendsFront (W.held sink.old) (W.held sink.new) (bare_text (kept_value kept.now))) }

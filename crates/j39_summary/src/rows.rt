@@ -100,17 +100,19 @@ fn add<'t>(
     }
 }
 
-impl<'t> ReadingVisitor<'t> for Rows<'t> {
+impl<'t> ReadingVisitor<'t, ()> for Rows<'t> {
     ghost use Rattle.j39_summary.specs.RowSteps.{HasTaken, Message, WantsAt};
+
+    type Fault = AllocError;
 
     ghost Subject = { Message };
 
-    ghost has_taken = { HasTaken };
+    ghost has_taken = { λ message rows medium. HasTaken message rows };
 
-    ghost wants = { WantsAt };
+    ghost has_stopped = { λ message before at rows medium. WantsAt message before at };
 
     #[inline(always)]
-    fn visit(&mut self, spn: u32, value: ReadValue<'t, '_>) -> Result<(), AllocError> {
+    fn visit(&mut self, spn: u32, value: ReadValue<'t, '_>, _: &mut ()) -> Result<(), AllocError> {
         let origin = Origin {
             address: self.address,
             name: self.name,

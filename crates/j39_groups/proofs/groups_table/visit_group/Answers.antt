@@ -6,6 +6,6 @@ pub returns-clause-taken : goal.returns-clause-taken
 returns-clause-taken g c =
     rw (← readings_of_group c.args.rows.now c.args.pgn c.args.bytes.now, ← c.group_of.ensures) c.visit_rows.ensures.taken
 
-pub returns-clause-wanted : goal.returns-clause-wanted
-returns-clause-wanted g c =
-    rw (← readings_of_group c.args.rows.now c.args.pgn c.args.bytes.now, ← c.group_of.ensures) c.visit_rows.ensures.wanted
+pub returns-clause-stopped : goal.returns-clause-stopped
+returns-clause-stopped g c =
+    rw (← readings_of_group c.args.rows.now c.args.pgn c.args.bytes.now, ← c.group_of.ensures) c.visit_rows.ensures.stopped

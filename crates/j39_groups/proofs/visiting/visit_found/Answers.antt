@@ -2,13 +2,14 @@
 use Rattle.std.proofs.Common.{ℕ, List, [], ◌∷◌, suc, take, drop, map}
 use Rattle.j39_device.proofs.DeviceLemmas.{on_err}
 use Rattle.j39_groups.specs.Shown.{reading_of}
+use Rattle.j39_groups.specs.Visits.{with_medium}
 use Rattle.j39_groups.proofs.VisitLemmas.{map-at, stops_at, stops_within}
 use Rattle.j39_groups.proofs.visiting.visit_found.Goals as goal
 
-pub returns-in_err-visit-clause-wanted : goal.returns-in_err-visit-clause-wanted
-returns-in_err-visit-clause-wanted g c =
+pub returns-in_err-visit-clause-stopped : goal.returns-in_err-visit-clause-stopped
+returns-in_err-visit-clause-stopped g c =
     let found = c.args.found.now in
     let i = c.loop-reading.reading-index in
-    on_err c.from_residual.result _ (stops_within g.V.ReadingVisitor.has_taken g.V.ReadingVisitor.wants _ _ (map reading_of (take i found)) _ (map reading_of (drop (suc i) found)) (map reading_of found)
+    on_err c.from_residual.result _ (stops_within (with_medium g.V.ReadingVisitor.has_taken) (λ s before at. g.V.ReadingVisitor.has_stopped s before at c.visit.new.self c.visit.new.medium) _ _ (map reading_of (take i found)) _ (map reading_of (drop (suc i) found)) (map reading_of found)
     (map-at reading_of found i _ c.loop-reading-test.true) c.loop-reading.invariant
-    (stops_at g.V.ReadingVisitor.has_taken g.V.ReadingVisitor.wants _ _ c.in_err-visit.ensures.wanted))
+    (stops_at (with_medium g.V.ReadingVisitor.has_taken) (λ s before at. g.V.ReadingVisitor.has_stopped s before at c.visit.new.self c.visit.new.medium) _ _ c.in_err-visit.ensures.stopped))

@@ -6,6 +6,6 @@ pub returns-in-Texts-clause-taken : goal.returns-in-Texts-clause-taken
 unfolding values_at
 returns-in-Texts-clause-taken g c = rw (c.in-Texts.is, ← c.bytes_from.ensures) c.visit_texts.ensures.taken
 
-pub returns-in-Texts-clause-wanted : goal.returns-in-Texts-clause-wanted
+pub returns-in-Texts-clause-stopped : goal.returns-in-Texts-clause-stopped
 unfolding values_at
-returns-in-Texts-clause-wanted g c = rw (c.in-Texts.is, ← c.bytes_from.ensures) c.visit_texts.ensures.wanted
+returns-in-Texts-clause-stopped g c = rw (c.in-Texts.is, ← c.bytes_from.ensures) c.visit_texts.ensures.stopped

@@ -19,6 +19,6 @@ returns-in-Ok-clause-noted c = λ F before h are.
 
 pub returns-in-Err-visit-clause-asked : goal.returns-in-Err-visit-clause-asked
 returns-in-Err-visit-clause-asked c = λ F heard h are_heard are.
-    asks_heard c.args.groups.now F c.args.frame.now (hearing_of c.in-Ok-Some.heard) heard c.begin.new.self
+    asks_heard c.args.groups.now F c.args.frame.now (hearing_of c.in-Ok-Some.heard) heard c.begin.new.self c.visit.new.visitor
     (rw c.in-Ok-Some.field-0-is at (c.in-Ok-Some.ensures.heard F h)) are_heard (c.begin.ensures (flat_map (entries_of c.args.groups.now) heard) are)
-    c.in-Err-visit.ensures.wanted
+    c.in-Err-visit.ensures.stopped

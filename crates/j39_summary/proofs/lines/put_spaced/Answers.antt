@@ -1,5 +1,5 @@
 use Rattle.std.proofs.Common.{◌∷◌, [], refl}
-use Rattle.j39_summary.specs.RowText.{bare_text}
+use Rattle.j39_groups.specs.ValueText.{bare_text}
 use Rattle.j39_summary.specs.Shown.{kept_value}
 use Rattle.j39_summary.proofs.LineLemmas.{front_of_both, front_of_first}
 use Rattle.j39_summary.proofs.lines.put_spaced.Goals as goal

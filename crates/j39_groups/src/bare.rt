@@ -1,0 +1,73 @@
+//! The text of a value without its unit, and the unit (own).
+ghost use Rattle.std.specs.Prelude.{◌≡◌, OnErr, OnOk};
+ghost use Rattle.std.specs.Io.KnownBytes.{Appends};
+ghost use Rattle.j39_device.specs.Device.{AppendsFront, Marks};
+ghost use Rattle.j39_groups.specs.ReadValues.{read_value_of};
+ghost use Rattle.j39_groups.specs.Shown.{value_of};
+ghost use Rattle.j39_groups.specs.ValueText.{bare_text, unit_of};
+
+use crate::read_value::ReadValue;
+use crate::text::{put_value, scaled_text};
+use crate::value::Value;
+use j39_device::{DeviceFault, Sink, put_all};
+
+impl<'t> ReadValue<'t, '_> {
+    /// Writes a number in decimal with its places, a word, or a text in quotes. After a fault a front of that was written.
+    #[tactic(auto, unfolding(crate::specs::ValueText::bare_text))]
+    pub fn put_bare<W: Sink>(self, sink: &mut W) -> Result<(), DeviceFault>
+        ensures ok { OnOk result (Appends (W.held sink.old) (W.held sink.new) (bare_text (read_value_of self.entry))) }
+        ensures err { OnErr result (AppendsFront (W.held sink.old) (W.held sink.new)
+            (bare_text (read_value_of self.entry))) }
+        ensures mark { Marks result (W.has_failed sink.old) (W.has_failed sink.new) }
+    {
+        match self {
+            ReadValue::Number(number, scale) => {
+                put_all(sink, scaled_text(number, scale.places).as_slice())
+            }
+            ReadValue::Plain(value) => put_bare_plain(&value, sink),
+        }
+    }
+
+    /// A number's unit, of any bytes; nothing for any other value.
+    #[tactic(auto, unfolding(crate::specs::ValueText::unit_of))]
+    pub fn unit(self) -> &'t [u8]
+        ensures { result.now ≡ unit_of (read_value_of self.entry) }
+    {
+        match self {
+            ReadValue::Number(_, scale) => scale.unit,
+            ReadValue::Plain(value) => unit_of_plain(value),
+        }
+    }
+}
+
+#[tactic(auto, unfolding(crate::specs::ValueText::bare_text))]
+fn put_bare_plain<W: Sink>(value: &Value<'_>, sink: &mut W) -> Result<(), DeviceFault>
+    ensures ok { OnOk result (Appends (W.held sink.old) (W.held sink.new) (bare_text (value_of value.now))) }
+    ensures err { OnErr result (AppendsFront (W.held sink.old) (W.held sink.new) (bare_text (value_of value.now))) }
+    ensures mark { Marks result (W.has_failed sink.old) (W.has_failed sink.new) }
+{
+    match *value {
+        Value::Number(number, slot) => put_all(sink, scaled_text(number, slot.places()).as_slice()),
+        Value::On => put_value(value, sink),
+        Value::Off => put_value(value, sink),
+        Value::Error => put_value(value, sink),
+        Value::Reserved => put_value(value, sink),
+        Value::Indicator => put_value(value, sink),
+        Value::Text(_) => put_value(value, sink),
+    }
+}
+
+#[tactic(auto, unfolding(crate::specs::ValueText::unit_of))]
+fn unit_of_plain(value: Value<'_>) -> &'static [u8]
+    ensures { result.now ≡ unit_of (value_of value.entry) }
+{
+    match value {
+        Value::Number(_, slot) => slot.unit().as_bytes(),
+        Value::On => b"",
+        Value::Off => b"",
+        Value::Error => b"",
+        Value::Reserved => b"",
+        Value::Indicator => b"",
+        Value::Text(_) => b"",
+    }
+}
