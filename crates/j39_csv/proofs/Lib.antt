@@ -1,4 +1,4 @@
 -- the calendar
 mod CalendarLemmas
 -- writing piece by piece
-mod FrontLemmas
+pub mod FrontLemmas

@@ -8,6 +8,8 @@ use Rattle.j39_frame.specs.Frame.{FrameRecord}
 use Rattle.j39_address.specs.Claim.{claims_of}
 use Rattle.j39_address.specs.Holder.{IsHolderAfter}
 use Rattle.j39_listen.specs.Report.{name_text}
+use Rattle.j39_listen.specs.declared.node_list.NodeForm.{NodeForm}
+use Rattle.j39_listen.specs.declared.node_list.NodeForm.TheVariants.{Line, Record}
 
 -- an address, and the NAME that holds it
 pub record Holding : Type 0 where
@@ -33,5 +35,18 @@ AreNodes F nodes = NodesBelow F null_address nodes
 abbrev pub node_text : Holding → List ℕ
 node_text node = encode_upper (node.address ∷ []) ++ codes " " ++ name_text (Some node.name) ++ (newline ∷ [])
 
-unfoldable pub nodes_text : List Holding → List ℕ
-nodes_text nodes = flat_map node_text nodes
+-- the same as a record of comma-separated values (RFC 4180)
+abbrev pub node_record : Holding → List ℕ
+node_record node = encode_upper (node.address ∷ []) ++ codes "," ++ name_text (Some node.name) ++ codes "\r\n"
+
+-- the names of its columns
+abbrev pub node_columns : List ℕ
+node_columns = codes "address,name\r\n"
+
+-- in either form
+abbrev pub node_in : NodeForm → Holding → List ℕ
+node_in Line node = node_text node
+node_in Record node = node_record node
+
+unfoldable pub nodes_text : NodeForm → List Holding → List ℕ
+nodes_text form nodes = flat_map (node_in form) nodes

@@ -8,6 +8,8 @@ use Rattle.j39_address.specs.Node.{Node}
 use Rattle.j39_listen.specs.Answers.{AreAnswers, sent_text}
 use Rattle.j39_listen.specs.Heard.{AreHeard, Hearing}
 use Rattle.j39_listen.specs.Nodes.{AreNodes, Holding, nodes_text}
+use Rattle.j39_listen.specs.declared.node_list.NodeForm.{NodeForm}
+use Rattle.j39_listen.specs.declared.node_list.NodeForm.TheVariants.{Line}
 use Rattle.j39_listen.specs.Report.{entries_of, report_text}
 
 -- a text, for so many messages, in so many lines
@@ -41,12 +43,16 @@ abbrev pub MakesReport : List RowRecord → Making
 MakesReport groups bus F output = (heard : List Hearing) × AreHeard groups F heard × (output ≡ report_of groups heard)
 
 -- no message counts
-abbrev pub nodes_of : List Holding → Output
-nodes_of held = record { text = nodes_text held; messages = 0; lines = length held }
+abbrev pub nodes_of : NodeForm → List Holding → Output
+nodes_of form held = record { text = nodes_text form held; messages = 0; lines = length held }
 
--- the nodes that hold an address after the frames, whatever their bus is called
+-- the nodes that hold an address after the frames, whatever their bus is called, in either form
+abbrev pub MakesNodesIn : NodeForm → Making
+MakesNodesIn form bus F output = (held : List Holding) × AreNodes F held × (output ≡ nodes_of form held)
+
+-- a line for each
 abbrev pub MakesNodes : Making
-MakesNodes bus F output = (held : List Holding) × AreNodes F held × (output ≡ nodes_of held)
+MakesNodes = MakesNodesIn Line
 
 -- a line for each frame that is sent
 abbrev pub answers_of : List ℕ → List Hearing → List FrameRecord → Output

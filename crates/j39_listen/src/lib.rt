@@ -22,6 +22,6 @@ pub use counts::{Counts, Made};
 pub use headed::run_headed;
 pub use heard::Heard;
 pub use listener::Listener;
-pub use node_list::nodes;
+pub use node_list::{nodes, nodes_csv};
 pub use report::{run, run_with};
 pub use running::{RunFault, run_over};

@@ -1,19 +1,23 @@
 //! Who holds which address, as an account of the frames of a bus (J1939-81, 4.2).
-ghost use Rattle.std.specs.Prelude.{◌≡◌, ◌≢◌, ◌<◌, ◌≤◌, ◌⊎◌, ◌++◌, ◌∷◌, [], ℕ, List, true, IfOk, IfSome, OnOk, OnErr, Err, Some, length};
+ghost use Rattle.std.specs.Prelude.{◌≡◌, ◌≢◌, ◌+◌, ◌<◌, ◌≤◌, ◌⊎◌, ◌++◌, ◌∷◌, [], ℕ, List, true, IfOk, IfSome, OnOk, OnErr, Err, Some, length};
 ghost use Rattle.std.specs.Io.KnownBytes.{Appends};
 ghost use Rattle.j39_address.specs.Name.{name_raw};
 ghost use Rattle.j39_device.specs.Device.{AppendsFront, Marks};
 ghost use Rattle.j39_frame.specs.Frame.{FrameRecord};
 ghost use Rattle.j39_address.specs.Claims.{Knows, holder_in};
 ghost use Rattle.j39_listen.specs.NodeSteps.{HasNoted};
-ghost use Rattle.j39_listen.specs.Nodes.{AreNodes, Holding, node_at, node_text, nodes_text};
+ghost use Rattle.j39_listen.specs.Nodes.{AreNodes, Holding, node_at, node_in, nodes_text};
+ghost use Rattle.j39_listen.specs.Headed.{MakesNodeRecords};
 ghost use Rattle.j39_listen.specs.Output.{MakesNodes, nodes_of};
+ghost use Rattle.j39_listen.specs.Report.{name_text};
+ghost use Rattle.hex.specs.Hex.{encode_upper};
 ghost use Rattle.j39_listen.specs.Run.{StopsAtLimit, StopsWithin, TakesWithin, Writes, WritesFront};
 ghost use Rattle.j39_listen.specs.declared.running.RunFault.TheVariants.{Memory, Read, Write, TooLong};
 
 use crate::Counts;
 use crate::account::{Account, LineFault};
 use crate::counts::Made;
+use crate::headed::run_headed;
 use crate::report_lines::push_name;
 use crate::running::{RunFault, run_over};
 use arrayvec::ArrayVec;
@@ -21,7 +25,7 @@ use j39_address::{Claims, Name};
 use j39_device::{DeviceFault, Sink, Source, put_all};
 use j39_frame::{Frame, NULL_ADDRESS};
 use j39_log::Bus;
-use j39_text::printing::push_hex;
+use j39_text::printing::{push_bytes, push_hex};
 
 /// Writes, after the whole log, a line for each address that is held, rising: the address and the NAME
 /// that holds it. The log has at most `limit` bytes; without a bus it is that of the first frame in it.
@@ -63,37 +67,96 @@ pub fn nodes<R: Source, W: Sink>(
     ensures prefix { OnErr result (StopsWithin MakesNodes bus (R.remaining source.old) (R.remaining source.new)
         (W.held sink.old) (W.held sink.new)) }
 {
-    run_over(NodeList::new(), source, sink, bus, limit)
+    run_over(NodeList::new(NodeForm::Line), source, sink, bus, limit)
 }
 
-/// The claims of the frames so far.
+/// Writes the same as comma-separated values (RFC 4180): the names of the columns, before the log is read, and after the
+/// whole log a record for each address that is held.
+pub fn nodes_csv<R: Source, W: Sink>(
+    source: &mut R,
+    sink: &mut W,
+    bus: Option<Bus>,
+    limit: u64,
+) -> Result<Counts, RunFault>
+    // What is written is the names of the columns and who holds an address after the frames of the log, and nothing else.
+    ensures nodes { IfOk result (λ counts. IfSome (R.remaining source.old)
+        (λ log. Writes MakesNodeRecords bus log counts (W.held sink.old) (W.held sink.new))) }
+
+    // Each fault comes only where its device failed, or the log is longer than the limit.
+    ensures short { OnOk result (IfSome (R.remaining source.old) (λ log. length log ≤ limit)) }
+    ensures too_long { result ≡ Err TooLong → IfSome (R.remaining source.old) (λ log. limit < length log) }
+    ensures read { result ≡ Err Read → R.has_failed source.new ≡ true }
+    ensures read_unmarked { result ≢ Err Read → R.has_failed source.new ≡ R.has_failed source.old }
+    ensures memory { result ≢ Err Memory }
+    ensures write { result ≡ Err Write → W.has_failed sink.new ≡ true }
+    ensures write_unmarked { result ≢ Err Write → W.has_failed sink.new ≡ W.has_failed sink.old }
+
+    // The bytes that were taken pass the limit exactly where `TooLong` is answered, and those that pass it aren't handled.
+    ensures within { result ≢ Err TooLong → TakesWithin limit (R.remaining source.old) (R.remaining source.new) }
+    ensures at_limit { result ≡ Err TooLong → StopsAtLimit MakesNodeRecords limit bus
+        (R.remaining source.old) (R.remaining source.new) (W.held sink.old) (W.held sink.new) }
+
+    // What was written is passed on at the end, and before each read.
+    ensures flushed { OnOk result (W.is_flushed sink.new ≡ true) }
+    ensures flushed_at_reads { (result ≡ Err Read) ⊎ (result ≡ Err TooLong)
+        → W.is_flushed sink.new ≡ true }
+
+    // What was written before a fault is a front of what is written for the bytes that were read.
+    ensures prefix { OnErr result (StopsWithin MakesNodeRecords bus (R.remaining source.old) (R.remaining source.new)
+        (W.held sink.old) (W.held sink.new)) }
+{
+    run_headed(
+        COLUMNS,
+        NodeList::new(NodeForm::Record),
+        source,
+        sink,
+        bus,
+        limit,
+    )
+}
+
+/// How a node is written.
+#[derive(Clone, Copy)]
+pub(crate) enum NodeForm {
+    /// As a line.
+    Line,
+    /// As a record of comma-separated values.
+    Record,
+}
+
+/// The names of the columns of such records.
+const COLUMNS: &[u8] = b"address,name\r\n";
+
+/// The claims of the frames so far, and how they are to be written.
 #[derive(Drop)]
 pub(crate) struct NodeList {
     claims: Claims,
+    form: NodeForm,
 }
 
 impl NodeList {
     /// The nodes of no frames.
-    fn new() -> NodeList
-        ensures { HasNoted result [] (nodes_of []) }
+    fn new(form: NodeForm) -> NodeList
+        ensures { HasNoted form result [] (nodes_of form []) }
     {
         NodeList {
             claims: Claims::new(),
+            form,
         }
     }
 }
 
 impl Account for NodeList {
-    ghost use Rattle.std.specs.Prelude.{⊤};
     ghost use Rattle.j39_listen.specs.Asking.{AsksNowhere};
     ghost use Rattle.j39_listen.specs.NodeSteps.{HasNoted};
-    ghost use Rattle.j39_listen.specs.Output.{MakesNodes};
+    ghost use Rattle.j39_listen.specs.Output.{MakesNodesIn};
+    ghost use Rattle.j39_listen.specs.declared.node_list.NodeForm.{NodeForm};
 
-    ghost Subject = { ⊤ };
+    ghost Subject = { NodeForm };
 
-    ghost has_met = { λ subject bus. HasNoted };
+    ghost has_met = { λ form bus. HasNoted form };
 
-    ghost makes = { λ subject. MakesNodes };
+    ghost makes = { MakesNodesIn };
 
     ghost asks = { λ subject. AsksNowhere };
 
@@ -103,7 +166,7 @@ impl Account for NodeList {
     }
 
     fn close<W: Sink>(&mut self, sink: &mut W) -> Result<Made, DeviceFault> {
-        let lines = put_nodes(&self.claims, sink)?;
+        let lines = put_nodes(&self.claims, self.form, sink)?;
         Ok(Made { messages: 0, lines })
     }
 
@@ -111,47 +174,63 @@ impl Account for NodeList {
 }
 
 /// Writes a line for each address that is held, and answers how many.
-fn put_nodes<W: Sink>(claims: &Claims, sink: &mut W) -> Result<u64, DeviceFault>
+fn put_nodes<W: Sink>(claims: &Claims, form: NodeForm, sink: &mut W) -> Result<u64, DeviceFault>
     ensures nodes { IfOk result (λ n. (F : List FrameRecord) → Knows claims.now F
         → (nodes : List Holding) × AreNodes F nodes × (n ≡ length nodes)
-        × Appends (W.held sink.old) (W.held sink.new) (nodes_text nodes)) }
+        × Appends (W.held sink.old) (W.held sink.new) (nodes_text form nodes)) }
     ensures front { OnErr result ((F : List FrameRecord) (nodes : List Holding) → Knows claims.now F → AreNodes F nodes
-        → AppendsFront (W.held sink.old) (W.held sink.new) (nodes_text nodes)) }
+        → AppendsFront (W.held sink.old) (W.held sink.new) (nodes_text form nodes)) }
     ensures mark { Marks result (W.has_failed sink.old) (W.has_failed sink.new) }
 {
     let mut lines = 0;
     for address in 0..NULL_ADDRESS {
-        lines += put_holder(claims, address, sink)?;
+        lines += put_holder(claims, form, address, sink)?;
     }
     Ok(lines)
 }
 
 /// Writes a line where the address is held, and answers how many lines that is.
-fn put_holder<W: Sink>(claims: &Claims, address: u8, sink: &mut W) -> Result<u64, DeviceFault>
+fn put_holder<W: Sink>(
+    claims: &Claims,
+    form: NodeForm,
+    address: u8,
+    sink: &mut W,
+) -> Result<u64, DeviceFault>
     ensures lines { IfOk result (λ n. n ≡ length (node_at address (holder_in claims.now address))) }
     ensures written { OnOk result (Appends (W.held sink.old) (W.held sink.new)
-        (nodes_text (node_at address (holder_in claims.now address)))) }
+        (nodes_text form (node_at address (holder_in claims.now address)))) }
     ensures front { OnErr result (AppendsFront (W.held sink.old) (W.held sink.new)
-        (nodes_text (node_at address (holder_in claims.now address)))) }
+        (nodes_text form (node_at address (holder_in claims.now address)))) }
     ensures mark { Marks result (W.has_failed sink.old) (W.has_failed sink.new) }
 {
     match claims.holder(address) {
         None => Ok(0),
         Some(name) => {
-            put_all(sink, line_of(address, name).as_slice())?;
+            put_all(sink, text_of(form, address, name).as_slice())?;
             Ok(1)
         }
     }
 }
 
-/// The line of a node.
-fn line_of(address: u8, name: Name) -> ArrayVec<u8, 20>
-    ensures { result.items ≡ node_text (record { address = address; name = name_raw name }) }
+/// The line of a node, or its record.
+fn text_of(form: NodeForm, address: u8, name: Name) -> ArrayVec<u8, 21>
+    ensures { result.items ≡ node_in form (record { address = address; name = name_raw name }) }
 {
-    let mut line = ArrayVec::new();
-    push_hex(&mut line, &[address]);
-    line.push(b' ');
-    push_name(&mut line, Some(name));
-    line.push(b'\n');
-    line
+    match form {
+        NodeForm::Line => joined(address, b" ", name, b"\n"),
+        NodeForm::Record => joined(address, b",", name, b"\r\n"),
+    }
+}
+
+/// An address and a NAME, with this between them and that behind them.
+fn joined(address: u8, between: &[u8], name: Name, end: &[u8]) -> ArrayVec<u8, 21>
+    requires { length between.now + length end.now ≤ 3 }
+    ensures { result.items ≡ encode_upper (address ∷ []) ++ between.now ++ name_text (Some (name_raw name)) ++ end.now }
+{
+    let mut text = ArrayVec::new();
+    push_hex(&mut text, &[address]);
+    push_bytes(&mut text, between);
+    push_name(&mut text, Some(name));
+    push_bytes(&mut text, end);
+    text
 }

@@ -3,9 +3,9 @@ use Rattle.std.proofs.KnownBytes.{Appends-nil}
 use Rattle.j39_listen.proofs.node_list.NodeListAccount.meet.Goals as goal
 
 pub returns-clause-met : goal.returns-clause-met
-returns-clause-met g c = λ subject F before has. record {
+returns-clause-met g c = λ form F before has. record {
   after = before;
-  met = record { knows = c.note.ensures.knows F has.knows; nothing = has.nothing };
+  met = record { knows = c.note.ensures.knows F has.knows; form_is = has.form_is; nothing = has.nothing };
   more = [];
   text_is = sym (append-nil before.text);
   written = Appends-nil _;

@@ -1,0 +1,3 @@
+-- a message's records, and the account
+pub mod RecordLemmas
+pub mod RecordsAccount
