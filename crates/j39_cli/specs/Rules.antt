@@ -1,6 +1,7 @@
 -- What clap is told of arguments.
-use Rattle.std.specs.Prelude.{Bool, Some}
+use Rattle.std.specs.Prelude.{Bool, false, Option, None, Some, bytes_eq, codes}
 use Rattle.clap.specs.Words.{Rule, Text, new_rule}
+use Rattle.clap.specs.declared.builder.action.ArgAction.TheVariants.{SetTrue}
 
 -- `--name VALUE`
 abbrev pub option_rule : Text → Bool → Rule
@@ -9,3 +10,12 @@ option_rule name is_required = record (new_rule name) { long = Some name; value_
 -- a value that stands alone
 abbrev pub value_rule : Text → Bool → Rule
 value_rule name is_required = record (new_rule name) { value_names = 1; required = is_required }
+
+-- `--name`, a flag
+abbrev pub flag_rule : Text → Rule
+flag_rule name = record (new_rule name) { long = Some name; action = Some SetTrue }
+
+-- whether a flag is given: clap says `true` of it
+abbrev pub is_given : Option Text → Bool
+is_given None = false
+is_given (Some text) = bytes_eq text (codes "true")
