@@ -1,4 +1,4 @@
-use j39_cli::{ParseFault, Task, WordText, parse};
+use j39_cli::{Format, ParseFault, Task, WordText, parse};
 use j39_fault_news::Telling;
 use j39_log::Bus;
 use std::alloc::{AllocError, Global};
@@ -17,9 +17,19 @@ fn answer(alloc: Global, words: &[&str]) -> Result<String, AllocError> {
 
 fn told(alloc: Global, task: &Task<'_>) -> Result<String, AllocError> {
     match task {
-        Task::Report(bus, None, file) => told_of_log(alloc, "report", bus, file),
-        Task::Report(bus, Some(table), file) => {
-            let command = format!(in alloc; "report by {}", table.as_str())?;
+        Task::Report(bus, table, spns, format, file) => {
+            let mut command = format!(in alloc; "report")?;
+            if let Some(table) = table {
+                command = format!(in alloc; "{command} by {}", table.as_str())?;
+            }
+            if let Some(spns) = spns {
+                for spn in spns.as_slice() {
+                    command = format!(in alloc; "{command} {spn}")?;
+                }
+            }
+            if *format == Format::Csv {
+                command = format!(in alloc; "{command} as csv")?;
+            }
             told_of_log(alloc, command.as_str(), bus, file)
         }
         Task::Summary(bus, None, file) => told_of_log(alloc, "summary", bus, file),
@@ -177,6 +187,56 @@ fn reads_report(rt: HostRuntime) -> Result<(), Fail> {
         ),
         (&["j1939", "report", "--bus", "can 0", "log"], "bad --bus"),
         (&["j1939", "report", "--bus", "can0", "a", "b"], "usage"),
+    ];
+    for (words, want) in lines.iter() {
+        let told = answer(rt.alloc(), words)?;
+        assert_eq!(rt; told.as_str(), *want);
+    }
+    Ok(())
+}
+
+#[test]
+fn reads_parameters_and_csv(rt: HostRuntime) -> Result<(), Fail> {
+    let most = "1,2,3,4,5,6,7,8,9,10,11,12,13,14,15,16,17,18,19,20,21,22,23,24,25,26,27,28,29,30,31,32";
+    let lines: [(&[&str], &str); 13] = [
+        (
+            &["j1939", "report", "--spn", "190,110", "trip.log"],
+            "report 190 110 - trip.log",
+        ),
+        (&["j1939", "report", "--csv"], "report as csv - -"),
+        (
+            &[
+                "j1939", "report", "--bus", "can0", "--table", "a", "--spn", "0524287", "--csv", "log",
+            ],
+            "report by a 524287 as csv can0 log",
+        ),
+        (
+            &["j1939", "report", "log", "--csv", "--spn=7"],
+            "report 7 as csv - log",
+        ),
+        (
+            &["j1939", "report", "--spn", most],
+            "report 1 2 3 4 5 6 7 8 9 10 11 12 13 14 15 16 17 18 19 20 21 22 23 24 25 26 27 28 29 30 31 32 - -",
+        ),
+        (
+            &[
+                "j1939",
+                "report",
+                "--spn",
+                "1,2,3,4,5,6,7,8,9,10,11,12,13,14,15,16,17,18,19,20,21,22,23,24,25,26,27,28,29,30,31,32,33",
+            ],
+            "bad --spn",
+        ),
+        (&["j1939", "report", "--spn", "524288"], "bad --spn"),
+        (&["j1939", "report", "--spn", "190,"], "bad --spn"),
+        (&["j1939", "report", "--spn", "190, 110"], "bad --spn"),
+        (&["j1939", "report", "--spn", ""], "bad --spn"),
+        (
+            &["j1939", "report", "--bus", "can 0", "--spn", "x"],
+            "bad --bus",
+        ),
+        (&["j1939", "report", "--spn"], "usage"),
+        (&["j1939", "report", "--csv=1"], "usage"),
     ];
     for (words, want) in lines.iter() {
         let told = answer(rt.alloc(), words)?;

@@ -14,7 +14,7 @@ use Rattle.j39_cli.proofs.SummaryLemmas.{summary_parsed}
 use Rattle.j39_cli.proofs.SurveyLemmas.{survey_parsed}
 
 pub is_parsed : (program : Text) (s : CommandWords) → IsParsed program s
-is_parsed program (report bus table file) = report_parsed program bus table file
+is_parsed program (report bus table spn csv file) = report_parsed program bus table spn csv file
 is_parsed program (summary bus table file) = summary_parsed program bus table file
 is_parsed program (faults bus table all file) = faults_parsed program bus table all file
 is_parsed program (nodes bus file) = nodes_parsed program bus file

@@ -7,7 +7,8 @@ use Rattle.clap.proofs.WalkLemmas.{first_value-rows}
 use Rattle.j39_cli.specs.Answer.{Answer}
 use Rattle.j39_cli.specs.Command.{line_app}
 use Rattle.j39_cli.specs.CommandWords.{CommandWords, HasTexts, HasValues, IsAnswer, Tells, faults, form_of}
-use Rattle.j39_cli.specs.FaultsCommand.{faults_app, is_given}
+use Rattle.j39_cli.specs.FaultsCommand.{faults_app}
+use Rattle.j39_cli.specs.Rules.{is_given}
 use Rattle.j39_cli.proofs.MetLemmas.{differ, if_ok_any}
 use Rattle.j39_cli.proofs.PartLemmas.{Enters, given, parts_pass, written}
 use Rattle.j39_cli.proofs.TakenLemmas.{IsParsed, IsRead, leaf_of, memory_of_bus, read}

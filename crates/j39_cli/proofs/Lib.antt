@@ -6,6 +6,7 @@ pub mod PartLemmas
 pub mod TakenLemmas
 pub mod MetLemmas
 -- the commands, each by itself: for `parse`
+pub mod SpnLemmas
 pub mod ReportLemmas
 pub mod SummaryLemmas
 pub mod FaultsLemmas

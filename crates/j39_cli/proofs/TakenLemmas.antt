@@ -1,16 +1,18 @@
 -- How clap takes a command as it is spelled, and meets it with its texts.
-use Rattle.std.proofs.Common.{◌≡◌, ◌∙◌, ap, List, ◌∷◌, refl, true, Option, Some, None, map}
-use Rattle.std.specs.Prelude.{Err}
+use Rattle.std.proofs.Common.{◌≡◌, ◌∙◌, ap, List, ℕ, ◌∷◌, refl, subst, sym, true, Option, Some, None, map}
+use Rattle.std.specs.Prelude.{Err, Ok, option_map}
 use Rattle.clap.specs.Words.{App, Row, Shape, Text, built, is_simple, is_simple_and_free, subcommand_of, takes}
 use Rattle.clap.specs.Simple.{built_leaf}
 use Rattle.clap.specs.Walk.{finished}
 use Rattle.clap.proofs.OnLiterals.{clap_on_literals}
 use Rattle.j39_log.specs.Bus.{IsBusName}
-use Rattle.j39_cli.specs.Answer.{Answer, IsBusChecked, IsChecked}
+use Rattle.j39_cli.specs.Answer.{Answer, IsBusChecked, IsBusValue, IsChecked, IsSpnChecked, IsSpnsValue, IsWrong}
 use Rattle.j39_cli.specs.Command.{line_app}
 use Rattle.j39_cli.specs.CommandWords.{CommandWords, HasTexts, HasValues, IsAnswer, words_of}
+use Rattle.j39_cli.specs.Spns.{IsSpnList, spns_in}
 use Rattle.j39_cli.specs.declared.task.Argument.{Argument}
-use Rattle.j39_cli.specs.declared.task.Argument.TheVariants.{Bus}
+use Rattle.j39_cli.specs.declared.task.Argument.TheVariants.{Bus, Spn}
+use Rattle.j39_cli.specs.declared.task.ParseFault.{ParseFault}
 use Rattle.j39_cli.specs.declared.task.ParseFault.TheVariants.{Memory}
 use Rattle.j39_cli.proofs.PartLemmas.{AreParts, Enters, Part, built_takes-enters, entered-enters, held_after}
 use Rattle.j39_cli.proofs.PartLemmas.{level_passes-parts, rows_after-parts, takes_parts, text_of}
@@ -64,6 +66,30 @@ pub memory_of_bus : (bus : Option Text) (Next : Answer → Type 0) → Next (Err
     → IsBusChecked bus Next (Err Memory)
 memory_of_bus None Next next = next
 memory_of_bus (Some bus) Next next = memory_checked (IsBusName bus) Bus Next next
+
+pub memory_of_spn : (spn : Option Text) (Next : Answer → Type 0) → Next (Err Memory)
+    → IsSpnChecked spn Next (Err Memory)
+memory_of_spn None Next next = next
+memory_of_spn (Some text) Next next = memory_checked (IsSpnList text) Spn Next next
+
+-- ---- values that were read
+
+pub bus_read : (text : Option Text) (bus : Option (List ℕ)) (Next : Answer → Type 0) (r : Answer) → IsBusValue text (Ok bus)
+    → (bus ≡ text → Next r) → IsBusChecked text Next r
+bus_read None bus Next r is next = next (cc)
+bus_read (Some name) bus Next r is next = record { in_range = λ _. next is.1; wrong = λ other. absurd (other is.0) }
+
+pub spns_read : (text : Option Text) (spns : Option (List ℕ)) (Next : Answer → Type 0) (r : Answer) → IsSpnsValue text (Ok spns)
+    → (spns ≡ option_map spns_in text → Next r) → IsSpnChecked text Next r
+spns_read None spns Next r is next = next (cc)
+spns_read (Some list) spns Next r is next = record { in_range = λ _. next is.1; wrong = λ other. absurd (other is.0) }
+
+pub spns_wrong : (text : Option Text) (e : ParseFault) (Next : Answer → Type 0) → IsSpnsValue text (Err e) → IsSpnChecked text Next (Err e)
+spns_wrong None e Next is = absurd (cc)
+spns_wrong (Some list) e Next is = record {
+  in_range = λ right. absurd (is.0 right);
+  wrong = λ _. subst (λ (f : ParseFault). IsWrong Spn (let r : Answer = Err f in r)) (sym is.1) refl;
+}
 
 -- ---- all that is proved of a command that is spelled
 

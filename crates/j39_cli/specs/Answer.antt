@@ -2,6 +2,7 @@
 use Rattle.std.specs.Prelude.{◌≡◌, ℕ, List, Option, Some, None, Result, Ok, Err, codes}
 use Rattle.clap.specs.Words.{Text}
 use Rattle.j39_log.specs.Bus.{IsBusName}
+use Rattle.j39_cli.specs.Spns.{IsSpnList, spns_in}
 use Rattle.j39_cli.specs.declared.task.Argument.{Argument}
 use Rattle.j39_cli.specs.declared.task.Argument.TheVariants as argument
 use Rattle.j39_cli.specs.declared.task.Task.{Task}
@@ -17,6 +18,7 @@ argument_text argument.Source = codes "--source"
 argument_text argument.Pgn = codes "--pgn"
 argument_text argument.At = codes "--at"
 argument_text argument.Hex = codes "HEX"
+argument_text argument.Spn = codes "--spn"
 
 -- ---- the answer to a command that is spelled
 
@@ -49,10 +51,21 @@ abbrev pub IsBusChecked : Option Text → (Answer → Type 0) → Answer → Typ
 IsBusChecked None Next r = Next r
 IsBusChecked (Some bus) Next r = IsChecked (IsBusName bus) argument.Bus Next r
 
--- ---- what is read of `--bus`
+-- the same of `--spn`
+abbrev pub IsSpnChecked : Option Text → (Answer → Type 0) → Answer → Type 0
+IsSpnChecked None Next r = Next r
+IsSpnChecked (Some text) Next r = IsChecked (IsSpnList text) argument.Spn Next r
+
+-- ---- what is read of `--bus` and `--spn`
 
 -- the name, where it is in range; else that it is wrong
 abbrev pub IsBusValue : Option Text → Result (Option (List ℕ)) ParseFault → Type 0
 IsBusValue None r = r ≡ Ok None
 IsBusValue (Some text) (Ok bus) = IsBusName text × (bus ≡ Some text)
 IsBusValue (Some text) (Err e) = (¬ IsBusName text) × (e ≡ fault.BadValue argument.Bus)
+
+-- the numbers, where they are in range; else that they are wrong
+abbrev pub IsSpnsValue : Option Text → Result (Option (List ℕ)) ParseFault → Type 0
+IsSpnsValue None r = r ≡ Ok None
+IsSpnsValue (Some text) (Ok spns) = IsSpnList text × (spns ≡ Some (spns_in text))
+IsSpnsValue (Some text) (Err e) = (¬ IsSpnList text) × (e ≡ fault.BadValue argument.Spn)

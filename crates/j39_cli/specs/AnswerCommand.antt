@@ -10,7 +10,7 @@ use Rattle.j39_log.specs.Bus.{IsBusName}
 use Rattle.j39_listen.specs.Asking.{AsksForBoxes}
 use Rattle.j39_listen.specs.Output.{MakesAnswers}
 use Rattle.j39_cli.specs.Answer.{IsBusChecked, IsChecked, IsTask}
-use Rattle.j39_cli.specs.CutCommand.{IsNumberBelow}
+use Rattle.j39_cli.specs.Numbers.{IsNumberBelow}
 use Rattle.j39_cli.specs.Form.{Form, IsValue, IsValueIfGiven, Meaning, option_words, value_words}
 use Rattle.j39_cli.specs.LogCommand.{runs, with_log}
 use Rattle.j39_cli.specs.NameCommand.{IsNameText}

@@ -1,13 +1,14 @@
 -- The command `cut --source N --pgn N --at STAMP --bus B HEX`.
 use Rattle.std.specs.Prelude.{◌≡◌, ◌≤◌, ◌<◌, ◌+◌, ◌-◌, ◌*◌, ◌^◌, ◌∷◌, ℕ, true, List, [], Some}
 use Rattle.std.specs.Prelude.{Result, Ok, Err, codes, drop, length, slice_index, take}
-use Rattle.std.specs.Str.Parse.{AllDigits, IsNumeral, digits_value}
+use Rattle.std.specs.Str.Parse.{AllDigits, digits_value}
 use Rattle.clap.specs.Words.{App, Text, first_of, new_app, with_rule}
 use Rattle.hex.specs.Hex.{decode_of}
 use Rattle.hex.specs.declared.error.FromHexError.{FromHexError}
 use Rattle.j39_log.specs.Bus.{IsBusName}
 use Rattle.j39_cli.specs.Answer.{Answer, IsChecked, IsTask}
 use Rattle.j39_cli.specs.Form.{Form, IsValue, Meaning, shows}
+use Rattle.j39_cli.specs.Numbers.{IsNumberBelow}
 use Rattle.j39_cli.specs.Outgoing.{EndsInTime, IsOutgoing, OutgoingRecord, cut_text, outgoing}
 use Rattle.j39_cli.specs.Rules.{option_rule, value_rule}
 use Rattle.j39_cli.specs.declared.task.Argument.TheVariants.{At, Bus, Hex, Pgn, Source}
@@ -21,10 +22,6 @@ cut_app =
     (value_rule (codes "hex") true)
 
 -- ---- its values
-
--- one or more decimal digits, leading zeros taken, of a number below the limit
-abbrev pub IsNumberBelow : ℕ → List ℕ → Type 0
-IsNumberBelow limit text = IsNumeral 10 text × (digits_value 10 text < limit)
 
 -- the six digits at the end of a moment, and the digits before its point
 abbrev pub micros_of : List ℕ → List ℕ

@@ -1,33 +1,21 @@
 -- The command `faults [--bus B] [--table T] [--all] [FILE]`.
-use Rattle.std.specs.Prelude.{◌≡◌, ◌++◌, ◌∷◌, ℕ, Bool, true, false, List, [], Option, Some, None, bytes_eq, codes}
+use Rattle.std.specs.Prelude.{◌≡◌, ◌++◌, ℕ, Bool, List, Option, codes}
 use Rattle.std.specs.Prelude.{if◌then◌else◌}
-use Rattle.clap.specs.Words.{App, Rule, Text, first_of, new_app, new_rule, with_rule}
-use Rattle.clap.specs.declared.builder.action.ArgAction.TheVariants.{SetTrue}
+use Rattle.clap.specs.Words.{App, Text, first_of, new_app, with_rule}
 use Rattle.j39_fault_news.specs.Asking.{AsksForFaults}
 use Rattle.j39_fault_news.specs.Output.{MakesFaults}
 use Rattle.j39_fault_news.specs.declared.telling.Telling.{Telling}
 use Rattle.j39_fault_news.specs.declared.telling.Telling.TheVariants.{News, All}
 use Rattle.j39_cli.specs.Answer.{IsBusChecked, IsTask}
-use Rattle.j39_cli.specs.Form.{Form, IsValueIfGiven, Meaning, option_words, value_words}
+use Rattle.j39_cli.specs.Form.{Form, IsValueIfGiven, Meaning, flag_words, option_words, value_words}
 use Rattle.j39_cli.specs.LogCommand.{runs, with_log}
-use Rattle.j39_cli.specs.Rules.{with_table}
+use Rattle.j39_cli.specs.Rules.{flag_rule, is_given, with_table}
 use Rattle.j39_cli.specs.declared.task.Task.{Task}
 use Rattle.j39_cli.specs.declared.task.Task.TheVariants.{Faults}
 
--- `--all`, a flag
-abbrev pub all_rule : Rule
-all_rule = record (new_rule (codes "all")) { long = Some (codes "all"); action = Some SetTrue }
-
 abbrev pub faults_app : App
-faults_app = with_log (with_rule (with_table (new_app (codes "faults"))) all_rule)
-
-abbrev pub all_words : Bool → List Text
-all_words all = if all then codes "--all" ∷ [] else []
-
--- whether a flag is given: clap says `true` of it
-abbrev pub is_given : Option Text → Bool
-is_given None = false
-is_given (Some text) = bytes_eq text (codes "true")
+faults_app =
+    with_log (with_rule (with_table (new_app (codes "faults"))) (flag_rule (codes "all")))
 
 abbrev pub telling_of : Bool → Telling
 telling_of all = if all then All else News
@@ -41,7 +29,7 @@ abbrev pub faults_form : Option Text → Option Text → Bool → Option Text �
 faults_form bus table all file = record {
   called = codes "faults";
   words = option_words (codes "--bus") bus
-      ++ (option_words (codes "--table") table ++ (all_words all ++ value_words file));
+      ++ (option_words (codes "--table") table ++ (flag_words (codes "--all") all ++ value_words file));
   HasValues = IsValueIfGiven bus × IsValueIfGiven table × IsValueIfGiven file;
   HasTexts = λ rows. (first_of (codes "bus") rows ≡ bus) × (first_of (codes "table") rows ≡ table)
       × (is_given (first_of (codes "all") rows) ≡ all) × (first_of (codes "file") rows ≡ file);

@@ -1,5 +1,5 @@
 -- What a command is: its words, and what a task comes to.
-use Rattle.std.specs.Prelude.{◌≡◌, ◌==◌, ◌∷◌, ℕ, Bool, false, List, [], Option, Some, None}
+use Rattle.std.specs.Prelude.{◌≡◌, ◌==◌, ◌∷◌, ℕ, Bool, false, List, [], Option, Some, None, if◌then◌else◌}
 use Rattle.clap.specs.Words.{Row, Text}
 use Rattle.j39_groups.specs.Row.{RowRecord}
 use Rattle.j39_cli.specs.Answer.{Answer}
@@ -17,6 +17,10 @@ option_words spelled (Some value) = spelled ∷ value ∷ []
 abbrev pub value_words : Option Text → List Text
 value_words None = []
 value_words (Some value) = value ∷ []
+
+-- a flag, where it is given
+abbrev pub flag_words : Text → Bool → List Text
+flag_words spelled given = if given then spelled ∷ [] else []
 
 abbrev pub hyphen : ℕ
 hyphen = 0x2D

@@ -1,5 +1,7 @@
 -- what clap is told, and what it meets
 pub mod Rules
+pub mod Numbers
+pub mod Spns
 pub mod Form
 pub mod Command
 pub mod CommandWords

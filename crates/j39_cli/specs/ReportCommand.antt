@@ -1,32 +1,82 @@
--- The command `report [--bus B] [--table T] [FILE]`.
-use Rattle.std.specs.Prelude.{◌≡◌, ◌++◌, ℕ, List, Option, codes}
-use Rattle.clap.specs.Words.{App, Text, first_of, new_app}
+-- The command `report [--bus B] [--table T] [--spn SPN,..] [--csv] [FILE]`.
+use Rattle.std.specs.Prelude.{◌≡◌, ◌⊎◌, ◌++◌, ℕ, Bool, true, false, List, [], Option, None, Some, codes, if◌then◌else◌, option_map}
+use Rattle.std.specs.Option.{ForSome}
+use Rattle.clap.specs.Words.{App, Text, first_of, new_app, with_rule}
+use Rattle.j39_groups.specs.Readings.{HaveSameGroups, rows_of_spns}
+use Rattle.j39_groups.specs.Row.{RowRecord}
 use Rattle.j39_listen.specs.Asking.{AsksForBoxes}
+use Rattle.j39_listen.specs.Headed.{Headed}
 use Rattle.j39_listen.specs.Output.{MakesReport}
-use Rattle.j39_cli.specs.Answer.{IsBusChecked, IsTask}
-use Rattle.j39_cli.specs.Form.{Form, IsValueIfGiven, Meaning, option_words, value_words}
-use Rattle.j39_cli.specs.LogCommand.{runs, with_log}
-use Rattle.j39_cli.specs.Rules.{with_table}
+use Rattle.j39_listen.specs.declared.running.RunFault.TheVariants.{Memory}
+use Rattle.j39_log.specs.Bus.{IsBusName}
+use Rattle.j39_report_csv.specs.Csv.{MakesRecords}
+use Rattle.j39_report_csv.specs.EntryText.{header_text}
+use Rattle.j39_cli.specs.Answer.{IsBusChecked, IsSpnChecked, IsTask}
+use Rattle.j39_cli.specs.Form.{Form, IsValueIfGiven, Meaning, flag_words, option_words, value_words}
+use Rattle.j39_cli.specs.LogCommand.{IsRun, Makes, fault_text, opened_of, with_log}
+use Rattle.j39_cli.specs.Refusal.{error_line}
+use Rattle.j39_cli.specs.Rules.{flag_rule, is_given, option_rule, with_table}
+use Rattle.j39_cli.specs.Spns.{spns_in}
+use Rattle.j39_cli.specs.Turn.{Turn, Writes}
+use Rattle.j39_cli.specs.declared.task.Format.{Format}
+use Rattle.j39_cli.specs.declared.task.Format.TheVariants.{Csv, Lines}
 use Rattle.j39_cli.specs.declared.task.Task.{Task}
 use Rattle.j39_cli.specs.declared.task.Task.TheVariants.{Report}
 
+-- ---- its words
+
 abbrev pub report_app : App
-report_app = with_log (with_table (new_app (codes "report")))
+report_app =
+    with_log (with_rule (with_rule (with_table (new_app (codes "report")))
+    (option_rule (codes "spn") false)) (flag_rule (codes "csv")))
 
-abbrev pub IsReportTask : Option (List ℕ) → Option (List ℕ) → Option (List ℕ) → Task → Type 0
-IsReportTask bus table file (Report bus' table' file') = (bus' ≡ bus) × (table' ≡ table) × (file' ≡ file)
-IsReportTask bus table file t = ⊥
+abbrev pub format_of : Bool → Format
+format_of csv = if csv then Csv else Lines
 
-abbrev pub report_form : Option Text → Option Text → Option Text → Form
-report_form bus table file = record {
+abbrev pub IsReportTask : Option (List ℕ) → Option (List ℕ) → Option (List ℕ) → Bool → Option (List ℕ) → Task → Type 0
+IsReportTask bus table spn csv file (Report bus' table' spns format file') =
+    (bus' ≡ bus) × (table' ≡ table) × (spns ≡ option_map spns_in spn) × (format ≡ format_of csv) × (file' ≡ file)
+IsReportTask bus table spn csv file t = ⊥
+
+abbrev pub report_form : Option Text → Option Text → Option Text → Bool → Option Text → Form
+report_form bus table spn csv file = record {
   called = codes "report";
-  words = option_words (codes "--bus") bus ++ (option_words (codes "--table") table ++ value_words file);
-  HasValues = IsValueIfGiven bus × IsValueIfGiven table × IsValueIfGiven file;
+  words = option_words (codes "--bus") bus
+      ++ (option_words (codes "--table") table
+      ++ (option_words (codes "--spn") spn ++ (flag_words (codes "--csv") csv ++ value_words file)));
+  HasValues = IsValueIfGiven bus × IsValueIfGiven table × IsValueIfGiven spn × IsValueIfGiven file;
   HasTexts = λ rows. (first_of (codes "bus") rows ≡ bus) × (first_of (codes "table") rows ≡ table)
+      × (first_of (codes "spn") rows ≡ spn) × (is_given (first_of (codes "csv") rows) ≡ csv)
       × (first_of (codes "file") rows ≡ file);
-  Answers = IsBusChecked bus (IsTask (IsReportTask bus table file));
+  Answers = IsBusChecked bus (IsSpnChecked spn (IsTask (IsReportTask bus table spn csv file)));
 }
 
-abbrev pub report_meaning : Option (List ℕ) → Option (List ℕ) → Option (List ℕ) → Meaning
-report_meaning bus table file =
-    record (runs (λ _. AsksForBoxes) (λ rows. MakesReport rows) bus file) { table = table }
+-- ---- its run
+
+-- what it makes of the frames by a table
+abbrev pub makes_in : Format → List RowRecord → Makes
+makes_in Lines rows = MakesReport rows
+makes_in Csv rows = Headed header_text (MakesRecords rows)
+
+-- memory was refused before the log was read: that is told, and nothing is written
+pub record IsNotBegun (status : ℕ) (log out err : Turn) : Type 0 where
+  pub status_is : status ≡ 1
+  pub unread : log.new ≡ log.old
+  pub unwritten : out.new ≡ out.old
+  pub told : Writes err (error_line (fault_text Memory) [])
+
+-- by the whole table, or by its rows of the parameters that are asked for
+abbrev pub IsReportRun : Option (List ℕ) → Format → List RowRecord → Option (List ℕ) → ℕ → Turn → Turn → Turn → Type 0
+IsReportRun None format rows bus status log out err = IsRun AsksForBoxes (makes_in format rows) bus status log out err
+IsReportRun (Some spns) format rows bus status log out err =
+    ((kept : List RowRecord) × HaveSameGroups kept (rows_of_spns spns rows)
+    × IsRun AsksForBoxes (makes_in format kept) bus status log out err) ⊎ IsNotBegun status log out err
+
+abbrev pub report_meaning : Option (List ℕ) → Option (List ℕ) → Option (List ℕ) → Format → Option (List ℕ) → Meaning
+report_meaning bus table spns format file = record {
+  file = opened_of file;
+  table = table;
+  InRange = ForSome bus IsBusName;
+  reads_log = true;
+  Performs = λ rows status log out err. IsReportRun spns format rows bus status log out err;
+}

@@ -1,15 +1,25 @@
 -- What clap is told of arguments.
-use Rattle.std.specs.Prelude.{Bool, Some, codes, false}
+use Rattle.std.specs.Prelude.{Bool, false, Option, None, Some, bytes_eq, codes}
 use Rattle.clap.specs.Words.{App, Rule, Text, new_rule, with_rule}
+use Rattle.clap.specs.declared.builder.action.ArgAction.TheVariants.{SetTrue}
 
 -- `--name VALUE`
 abbrev pub option_rule : Text → Bool → Rule
 option_rule name is_required = record (new_rule name) { long = Some name; value_names = 1; required = is_required }
 
+-- a command that goes by a table of parameters takes `--table`
+abbrev pub with_table : App → App
+with_table command = with_rule command (option_rule (codes "table") false)
+
 -- a value that stands alone
 abbrev pub value_rule : Text → Bool → Rule
 value_rule name is_required = record (new_rule name) { value_names = 1; required = is_required }
 
--- a command that goes by a table of parameters takes `--table`
-abbrev pub with_table : App → App
-with_table command = with_rule command (option_rule (codes "table") false)
+-- `--name`, a flag
+abbrev pub flag_rule : Text → Rule
+flag_rule name = record (new_rule name) { long = Some name; action = Some SetTrue }
+
+-- whether a flag is given: clap says `true` of it
+abbrev pub is_given : Option Text → Bool
+is_given None = false
+is_given (Some text) = bytes_eq text (codes "true")

@@ -19,7 +19,7 @@ use Rattle.j39_cli.specs.declared.task.Task.{Task}
 use Rattle.j39_cli.specs.declared.task.Task.TheVariants.{Report, Summary, Faults, Nodes, Answer, Id, Name, Cut, Groups, Survey}
 
 abbrev pub meaning_of : Task → Meaning
-meaning_of (Report bus table file) = report_meaning bus table file
+meaning_of (Report bus table spns format file) = report_meaning bus table spns format file
 meaning_of (Summary bus table file) = summary_meaning bus table file
 meaning_of (Faults bus table telling file) = faults_meaning bus table telling file
 meaning_of (Nodes bus file) = nodes_meaning bus file

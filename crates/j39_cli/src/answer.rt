@@ -10,7 +10,7 @@ ghost use Rattle.j39_listen.specs.Output.{MakesAnswers};
 ghost use Rattle.j39_cli.specs.AnswerCommand.{answer_app};
 ghost use Rattle.j39_cli.specs.CommandWords as written;
 ghost use Rattle.j39_cli.specs.CommandWords.{IsAnswer};
-ghost use Rattle.j39_cli.specs.CutCommand.{IsNumberBelow};
+ghost use Rattle.j39_cli.specs.Numbers.{IsNumberBelow};
 ghost use Rattle.j39_cli.specs.LogCommand.{IsRun};
 ghost use Rattle.j39_cli.specs.Task.{IsInRange};
 ghost use Rattle.j39_cli.specs.Turn.{turn};

@@ -3,10 +3,10 @@ ghost use Rattle.std.specs.Prelude.{◌≡◌, IfOk, false};
 ghost use Rattle.clap.specs.Words.{app_of, rule_of, with_rule, with_subcommand};
 ghost use Rattle.clap.specs.declared.builder.command.Command.TheViews.{out-Command as settings_of};
 ghost use Rattle.j39_cli.specs.Command.{bare_app, line_app};
-ghost use Rattle.j39_cli.specs.Rules.{option_rule, value_rule, with_table};
+ghost use Rattle.j39_cli.specs.Rules.{flag_rule, option_rule, value_rule, with_table};
 
 use crate::{answer, cut, faults, groups, id, name, nodes, report, summary, survey};
-use clap::{Arg, Command};
+use clap::{Arg, ArgAction, Command};
 use std::alloc::{AllocError, Global};
 
 /// What `--version` prints behind the program's name.
@@ -16,6 +16,7 @@ const LINE_HELP: &str = "\
 Examples:
   j1939 report trip.log
   j1939 report --table my.table trip.log
+  j1939 report --spn 190,110 --csv trip.log
   candump -L can0 | j1939 report
   j1939 summary trip.log
   j1939 faults trip.log
@@ -93,6 +94,23 @@ pub(crate) fn with_option<'a>(
     with_arg(command, arg)
 }
 
+/// The command with the flag `--name` more.
+pub(crate) fn with_flag<'a>(
+    alloc: Global,
+    command: Command<'a>,
+    name: &'a str,
+    help: &'a str,
+) -> Result<Command<'a>, AllocError>
+    ensures app { IfOk result (λ c. app_of c ≡ with_rule (app_of command.entry) (flag_rule name.entry.now)) }
+    ensures local { IfOk result (λ c. (settings_of c).has_globals ≡ (settings_of command.entry).has_globals) }
+{
+    let arg = Arg::new(alloc, name)
+        .long(name)
+        .action(ArgAction::SetTrue)
+        .help(help);
+    with_arg(command, arg)
+}
+
 /// The command with one more value that stands alone.
 pub(crate) fn with_value<'a>(
     alloc: Global,
@@ -114,7 +132,7 @@ pub(crate) fn with_value<'a>(
 }
 
 /// The command with one argument more.
-pub(crate) fn with_arg<'a>(command: Command<'a>, arg: Arg<'a>) -> Result<Command<'a>, AllocError>
+fn with_arg<'a>(command: Command<'a>, arg: Arg<'a>) -> Result<Command<'a>, AllocError>
     requires { arg.global ≡ false }
     ensures app { IfOk result (λ c. app_of c ≡ with_rule (app_of command.entry) (rule_of arg.entry)) }
     ensures local { IfOk result (λ c. (settings_of c).has_globals ≡ (settings_of command.entry).has_globals) }

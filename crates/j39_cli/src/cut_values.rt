@@ -4,8 +4,9 @@ ghost use Rattle.std.specs.Option.{SomeIff};
 ghost use Rattle.std.specs.Str.Parse.{AllDigits, digits_value};
 ghost use Rattle.j39_frame.specs.Pgn.{pgn_raw};
 ghost use Rattle.j39_frame.specs.Stamp.{stamp_micros};
-ghost use Rattle.j39_cli.specs.CutCommand.{IsMomentText, IsNumberBelow, IsPayloadText, moment_value};
+ghost use Rattle.j39_cli.specs.CutCommand.{IsMomentText, IsPayloadText, moment_value};
 ghost use Rattle.j39_cli.specs.CutCommand as cut;
+ghost use Rattle.j39_cli.specs.Numbers.{IsNumberBelow};
 
 use crate::{Argument, ParseFault};
 use hex::FromHexError;
@@ -14,13 +15,13 @@ use j39_text::number;
 use std::alloc::Global;
 
 /// The number of decimal digits, leading zeros taken; `None` for other text, and from the limit up.
-fn number_below(text: &str, limit: u64) -> Option<u64>
+pub(crate) fn number_below(text: &[u8], limit: u64) -> Option<u64>
     ensures { SomeIff result (IsNumberBelow limit text.now) (digits_value 10 text.now) }
 {
     if text.is_empty() {
         return None;
     }
-    let value = number(text.as_bytes(), 10)?;
+    let value = number(text, 10)?;
     if value < limit { Some(value) } else { None }
 }
 
@@ -28,7 +29,7 @@ fn number_below(text: &str, limit: u64) -> Option<u64>
 pub(crate) fn source_of(text: &str) -> Option<u8>
     ensures { SomeIff result (IsNumberBelow 254 text.now) (digits_value 10 text.now) }
 {
-    let source = number_below(text, 254)?;
+    let source = number_below(text.as_bytes(), 254)?;
     Some(source as u8)
 }
 
@@ -37,7 +38,7 @@ pub(crate) fn pgn_of(text: &str) -> Option<Pgn>
     ensures known { IsSome result ↔ IsNumberBelow (2 ^ 18) text.now }
     ensures value { IfSome result (λ pgn. pgn_raw pgn ≡ digits_value 10 text.now) }
 {
-    let raw = number_below(text, 1 << 18)?;
+    let raw = number_below(text.as_bytes(), 1 << 18)?;
     Pgn::new(raw as u32)
 }
 

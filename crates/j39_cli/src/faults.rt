@@ -1,21 +1,22 @@
 //! The command `faults`: its words, and how it is performed.
-ghost use Rattle.std.specs.Prelude.{◌≡◌, ◌≢◌, IfOk, codes, false, option_map, true, Err};
-ghost use Rattle.clap.specs.Words.{app_of, first_value, found_of, with_rule};
+ghost use Rattle.std.specs.Prelude.{◌≡◌, ◌≢◌, IfOk, codes, false, true, Err};
+ghost use Rattle.clap.specs.Words.{app_of, first_value, found_of};
 ghost use Rattle.clap.specs.declared.builder.command.Command.TheViews.{out-Command as settings_of};
 ghost use Rattle.j39_fault_news.specs.Asking.{AsksForFaults};
 ghost use Rattle.j39_fault_news.specs.Output.{MakesFaults};
 ghost use Rattle.j39_cli.specs.CommandWords as written;
 ghost use Rattle.j39_cli.specs.CommandWords.{IsAnswer};
-ghost use Rattle.j39_cli.specs.FaultsCommand.{all_rule, faults_app, is_given, telling_of};
+ghost use Rattle.j39_cli.specs.FaultsCommand.{faults_app, telling_of};
 ghost use Rattle.j39_cli.specs.LogCommand.{IsRun};
+ghost use Rattle.j39_cli.specs.Rules.{is_given};
 ghost use Rattle.j39_cli.specs.Task.{IsInRange};
 ghost use Rattle.j39_cli.specs.Turn.{turn};
 
-use crate::command::{with_arg, with_table};
+use crate::command::{with_flag, with_table};
 use crate::log::{LOG_LIMIT, copy_of, tell_end, with_log};
-use crate::words::bus_value;
+use crate::words::{bus_value, is_set};
 use crate::{ParseFault, Task, WordText};
-use clap::{Arg, ArgAction, ArgMatches, Command};
+use clap::{ArgMatches, Command};
 use j39_device::{Sink, Source};
 use j39_fault_news::Telling;
 use j39_groups::Groups;
@@ -55,19 +56,11 @@ pub(crate) fn command<'a>(alloc: Global) -> Result<Command<'a>, AllocError>
         .about("Writes the fault codes in a log")
         .long_about(ABOUT)
         .after_help(HELP);
-    with_log(alloc, with_all(alloc, with_table(alloc, command)?)?)
-}
-
-/// The command with `--all`.
-fn with_all<'a>(alloc: Global, command: Command<'a>) -> Result<Command<'a>, AllocError>
-    ensures app { IfOk result (λ c. app_of c ≡ with_rule (app_of command.entry) all_rule) }
-    ensures local { IfOk result (λ c. (settings_of c).has_globals ≡ (settings_of command.entry).has_globals) }
-{
-    let arg = Arg::new(alloc, "all")
-        .long("all")
-        .action(ArgAction::SetTrue)
-        .help("Each message of faults, whether it is news or not");
-    with_arg(command, arg)
+    let help = "Each message of faults, whether it is news or not";
+    with_log(
+        alloc,
+        with_flag(alloc, with_table(alloc, command)?, "all", help)?,
+    )
 }
 
 /// The task that its words ask for.
@@ -79,7 +72,7 @@ pub(crate) fn task<'a>(given: &ArgMatches<'a>) -> Result<Task<'a>, ParseFault>
     ensures in_range { IfOk result IsInRange }
 {
     let table = given.get_str("table").map(WordText::new);
-    let telling = telling_by(given.get_str("all"));
+    let telling = telling_by(is_set(given, "all"));
     let file = given.get_str("file").map(WordText::new);
     match bus_value(given) {
         Ok(bus) => Ok(Task::Faults(bus, table, telling, file)),
@@ -87,20 +80,11 @@ pub(crate) fn task<'a>(given: &ArgMatches<'a>) -> Result<Task<'a>, ParseFault>
     }
 }
 
-/// Which messages are told, by what clap says of `--all`: each, or those that are news.
-fn telling_by(flag: Option<&str>) -> Telling
-    ensures { result ≡ telling_of (is_given (option_map (λ text. text.now) flag.entry)) }
+/// Which messages are told: each, or those that are news.
+fn telling_by(all: bool) -> Telling
+    ensures { result ≡ telling_of all }
 {
-    match flag {
-        Some(text) => {
-            if text == "true" {
-                Telling::All
-            } else {
-                Telling::News
-            }
-        }
-        None => Telling::News,
-    }
+    if all { Telling::All } else { Telling::News }
 }
 
 /// Performs it by a table of parameters: the faults go to `sink`, the counts or what failed to `err`.

@@ -62,7 +62,9 @@ pub fn perform_with<R: Source, W: Sink, E: Sink>(
     ensures silent { reads_log task.now ≡ false → result ≡ 0 → err.new ≡ err.old }
 {
     match task {
-        Task::Report(bus, _, _) => report::perform(alloc, groups, bus, source, sink, err),
+        Task::Report(bus, _, spns, format, _) => {
+            report::perform(alloc, groups, bus, spns, *format, source, sink, err)
+        }
         Task::Summary(bus, _, _) => summary::perform(alloc, groups, bus, source, sink, err),
         Task::Faults(bus, _, telling, _) => {
             faults::perform(alloc, groups, bus, *telling, source, sink, err)

@@ -1,25 +1,27 @@
 //! The command `report`: its words, and how it is performed.
-ghost use Rattle.std.specs.Prelude.{◌≡◌, ◌≢◌, IfOk, codes, false, true, Err};
-ghost use Rattle.clap.specs.Words.{app_of, first_value, found_of};
+ghost use Rattle.std.specs.Prelude.{◌≡◌, ◌≢◌, ◌⊎◌, IfOk, codes, false, true, Err};
+ghost use Rattle.clap.specs.Words.{app_of, first_value, found_of, new_app};
 ghost use Rattle.clap.specs.declared.builder.command.Command.TheViews.{out-Command as settings_of};
 ghost use Rattle.j39_listen.specs.Asking.{AsksForBoxes};
-ghost use Rattle.j39_listen.specs.Output.{MakesReport};
 ghost use Rattle.j39_cli.specs.CommandWords as written;
 ghost use Rattle.j39_cli.specs.CommandWords.{IsAnswer};
 ghost use Rattle.j39_cli.specs.LogCommand.{IsRun};
-ghost use Rattle.j39_cli.specs.ReportCommand.{report_app};
+ghost use Rattle.j39_cli.specs.ReportCommand.{IsReportRun, format_of, makes_in, report_app};
+ghost use Rattle.j39_cli.specs.Rules.{is_given};
 ghost use Rattle.j39_cli.specs.Task.{IsInRange};
 ghost use Rattle.j39_cli.specs.Turn.{turn};
 
-use crate::command::with_table;
+use crate::command::{with_flag, with_option, with_table};
 use crate::log::{LOG_LIMIT, copy_of, tell_end, with_log};
-use crate::words::bus_value;
-use crate::{ParseFault, Task, WordText};
+use crate::refusal::complain;
+use crate::words::{bus_value, is_set, spns_value};
+use crate::{Format, ParseFault, Spns, Task, WordText};
 use clap::{ArgMatches, Command};
 use j39_device::{Sink, Source};
 use j39_groups::Groups;
 use j39_listen::run_with;
 use j39_log::Bus;
+use j39_report_csv::report_csv;
 use std::alloc::{AllocError, Global};
 
 const ABOUT: &str = "\
@@ -52,43 +54,105 @@ pub(crate) fn command<'a>(alloc: Global) -> Result<Command<'a>, AllocError>
     ensures app { IfOk result (λ c. app_of c ≡ report_app) }
     ensures local { IfOk result (λ c. (settings_of c).has_globals ≡ false) }
 {
-    let command = Command::new(alloc, "report")
+    let command = with_table(alloc, bare(alloc))?;
+    let help = "The parameters to write alone: 1 to 32 SPNs, with commas between them";
+    let command = with_option(alloc, command, "spn", "SPN,..", false, help)?;
+    let help = "As comma-separated values (RFC 4180), below the names of the columns";
+    with_log(alloc, with_flag(alloc, command, "csv", help)?)
+}
+
+fn bare<'a>(alloc: Global) -> Command<'a>
+    ensures app { app_of result ≡ new_app (codes "report") }
+    ensures local { (settings_of result).has_globals ≡ false }
+{
+    Command::new(alloc, "report")
         .about("Writes the parameter values in a log")
         .long_about(ABOUT)
-        .after_help(HELP);
-    with_log(alloc, with_table(alloc, command)?)
+        .after_help(HELP)
 }
 
 /// The task that its words ask for.
 pub(crate) fn task<'a>(given: &ArgMatches<'a>) -> Result<Task<'a>, ParseFault>
     ensures answer { IsAnswer (written.report (first_value (found_of given.now) (codes "bus"))
-        (first_value (found_of given.now) (codes "table")) (first_value (found_of given.now) (codes "file"))) result }
+        (first_value (found_of given.now) (codes "table")) (first_value (found_of given.now) (codes "spn"))
+        (is_given (first_value (found_of given.now) (codes "csv"))) (first_value (found_of given.now) (codes "file"))) result }
     ensures memory { result ≢ Err ParseFault.Memory }
     ensures in_range { IfOk result IsInRange }
 {
     let table = given.get_str("table").map(WordText::new);
+    let format = format_by(is_set(given, "csv"));
     let file = given.get_str("file").map(WordText::new);
-    match bus_value(given) {
-        Ok(bus) => Ok(Task::Report(bus, table, file)),
+    let bus = match bus_value(given) {
+        Ok(bus) => bus,
+        Err(fault) => return Err(fault),
+    };
+    match spns_value(given) {
+        Ok(spns) => Ok(Task::Report(bus, table, spns, format, file)),
         Err(fault) => Err(fault),
     }
 }
 
-/// Performs it by a table of parameters: the report goes to `sink`, the counts or what failed to `err`.
+fn format_by(csv: bool) -> Format
+    ensures { result ≡ format_of csv }
+{
+    if csv { Format::Csv } else { Format::Lines }
+}
+
+/// Performs it by a table of parameters, or by its rows of those that are asked for: the report goes to `sink`, the counts
+/// or what failed to `err`.
 pub(crate) fn perform<R: Source, W: Sink, E: Sink>(
     alloc: Global,
     groups: &Groups<'_>,
     bus: &Option<Bus>,
+    spns: &Option<Spns>,
+    format: Format,
     source: &mut R,
     sink: &mut W,
     err: &mut E,
 ) -> u8
-    ensures run { IsRun AsksForBoxes (MakesReport groups.now) bus.now result
+    ensures run { IsReportRun spns.now format groups.now bus.now result
         (turn R.remaining R.has_failed source.old source.new)
         (turn W.held W.has_failed sink.old sink.new)
         (turn E.held E.has_failed err.old err.new) }
+    ensures status { (result ≡ 0) ⊎ (result ≡ 1) }
     ensures flushed { result ≡ 0 → W.is_flushed sink.new ≡ true }
 {
-    let end = run_with(alloc, groups, source, sink, copy_of(bus), LOG_LIMIT);
-    tell_end(end, err)
+    let Some(spns) = spns else {
+        return run_by(alloc, groups, bus, format, source, sink, err);
+    };
+    match groups.restricted_to(alloc, spns.as_slice()) {
+        Ok(kept) => run_by(alloc, &kept, bus, format, source, sink, err),
+        Err(AllocError) => {
+            complain(err, b"out of memory", b"");
+            1
+        }
+    }
+}
+
+fn run_by<R: Source, W: Sink, E: Sink>(
+    alloc: Global,
+    groups: &Groups<'_>,
+    bus: &Option<Bus>,
+    format: Format,
+    source: &mut R,
+    sink: &mut W,
+    err: &mut E,
+) -> u8
+    ensures run { IsRun AsksForBoxes (makes_in format groups.now) bus.now result
+        (turn R.remaining R.has_failed source.old source.new)
+        (turn W.held W.has_failed sink.old sink.new)
+        (turn E.held E.has_failed err.old err.new) }
+    ensures status { (result ≡ 0) ⊎ (result ≡ 1) }
+    ensures flushed { result ≡ 0 → W.is_flushed sink.new ≡ true }
+{
+    match format {
+        Format::Lines => {
+            let end = run_with(alloc, groups, source, sink, copy_of(bus), LOG_LIMIT);
+            tell_end(end, err)
+        }
+        Format::Csv => {
+            let end = report_csv(alloc, groups, source, sink, copy_of(bus), LOG_LIMIT);
+            tell_end(end, err)
+        }
+    }
 }

@@ -5,7 +5,7 @@ ghost use Rattle.j39_cli.specs.Answer.{argument_text};
 ghost use Rattle.j39_cli.specs.LogCommand.{opened_of};
 ghost use Rattle.j39_cli.specs.Task.{file_of, table_of};
 
-use crate::Outgoing;
+use crate::{Outgoing, Spns};
 use j39_address::Name;
 use j39_fault_news::Telling;
 use j39_frame::{Id, is_address};
@@ -83,12 +83,22 @@ impl Address {
     }
 }
 
+/// How what a log has is written.
+#[derive(Clone, Copy, Debug, PartialEq, Eq)]
+pub enum Format {
+    /// In lines, with a space between fields.
+    Lines,
+    /// In records of comma-separated values, below the names of the columns.
+    Csv,
+}
+
 /// A command with its values.
 #[derive(Debug, Drop)]
 pub enum Task<'a> {
     /// The report of a log: the bus to read, where one is named, the file of the table of parameters,
-    /// where it isn't the built-in one, and FILE, where it is given.
-    Report(Option<Bus>, Option<WordText<'a>>, Option<WordText<'a>>),
+    /// where it isn't the built-in one, the parameters that are asked for, where not all are, how it is written,
+    /// and FILE, where it is given.
+    Report(Option<Bus>, Option<WordText<'a>>, Option<Spns>, Format, Option<WordText<'a>>),
     /// The summary of a log: the bus to read, the file of the table, and FILE, as of a report.
     Summary(Option<Bus>, Option<WordText<'a>>, Option<WordText<'a>>),
     /// The fault codes in a log: the bus to read, where one is named, the file of the table of parameters, where it
@@ -117,7 +127,7 @@ impl<'a> Task<'a> {
         ensures { option_map (λ text. text.now) result ≡ file_of self.now }
     {
         match self {
-            Task::Report(_, _, file) => opened_of(file),
+            Task::Report(_, _, _, _, file) => opened_of(file),
             Task::Summary(_, _, file) => opened_of(file),
             Task::Faults(_, _, _, file) => opened_of(file),
             Task::Nodes(_, file) => opened_of(file),
@@ -132,7 +142,7 @@ impl<'a> Task<'a> {
         ensures { option_map (λ text. text.now) result ≡ table_of self.now }
     {
         match self {
-            Task::Report(_, table, _) => text_of(table),
+            Task::Report(_, table, _, _, _) => text_of(table),
             Task::Summary(_, table, _) => text_of(table),
             Task::Faults(_, table, _, _) => text_of(table),
             Task::Survey(table, _) => text_of(table),
@@ -178,6 +188,8 @@ pub enum Argument {
     At,
     /// HEX, hex digits that stand alone.
     Hex,
+    /// `--spn`, the parameters that are asked for.
+    Spn,
 }
 
 impl Argument {
@@ -193,6 +205,7 @@ impl Argument {
             Argument::Pgn => "--pgn",
             Argument::At => "--at",
             Argument::Hex => "HEX",
+            Argument::Spn => "--spn",
         }
     }
 }

@@ -6,10 +6,12 @@ ghost use Rattle.j39_log.specs.Bus.{IsBusName};
 ghost use Rattle.j39_cli.specs.Command.{line_app};
 ghost use Rattle.j39_cli.specs.CommandWords.{CommandWords, HasTexts, HasValues, IsAnswer, Tells, words_of};
 ghost use Rattle.j39_cli.specs.Spelling.{IsEntered, IsSpelled};
-ghost use Rattle.j39_cli.specs.Answer.{IsBusValue};
+ghost use Rattle.j39_cli.specs.Answer.{IsBusValue, IsSpnsValue};
+ghost use Rattle.j39_cli.specs.Rules.{is_given};
 ghost use Rattle.j39_cli.specs.Task.{IsInRange};
 
 use crate::command::line;
+use crate::spns::{Spns, spns_of};
 use crate::{
     Argument, ParseFault, Task, answer, cut, faults, groups, id, name, nodes, report, summary,
     survey,
@@ -121,6 +123,29 @@ pub(crate) fn bus_value(given: &ArgMatches<'_>) -> Result<Option<Bus>, ParseFaul
             Some(bus) => Ok(Some(bus)),
             None => Err(ParseFault::BadValue(Argument::Bus)),
         },
+    }
+}
+
+/// The values of `--spn`, where it is given.
+pub(crate) fn spns_value(given: &ArgMatches<'_>) -> Result<Option<Spns>, ParseFault>
+    ensures { IsSpnsValue (first_value (found_of given.now) (codes "spn")) result }
+{
+    match given.get_str("spn") {
+        None => Ok(None),
+        Some(text) => match spns_of(text.as_bytes()) {
+            Some(spns) => Ok(Some(spns)),
+            None => Err(ParseFault::BadValue(Argument::Spn)),
+        },
+    }
+}
+
+/// Whether a flag is given.
+pub(crate) fn is_set(given: &ArgMatches<'_>, id: &str) -> bool
+    ensures { result ≡ is_given (first_value (found_of given.now) id.now) }
+{
+    match given.get_str(id) {
+        Some(text) => text == "true",
+        None => false,
     }
 }
 
