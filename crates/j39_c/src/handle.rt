@@ -1,5 +1,5 @@
 //! A part of the stack in the hands of C: a pointer to it, or null.
-ghost use Rattle.std.specs.Prelude.{◌≡◌, ◌↔◌, Option, Some, None, IsSome, IsTrue};
+ghost use Rattle.std.specs.Prelude.{◌≡◌, Option, Some, None};
 ghost use Rattle.std.specs.Option.{option_map};
 ghost use Rattle.j39_c.specs.Held.{held};
 ghost use Rattle.j39_c.specs.declared.part.Part.{Part};
@@ -90,19 +90,4 @@ pub extern "C" fn j39_close(alloc: Global, handle: &mut Handle)
     ensures { handle.new.part ≡ None }
 {
     let _part = handle.take(alloc);
-}
-
-/// Whether a handle holds a part.
-#[unsafe(no_mangle)]
-pub extern "C" fn j39_holds(alloc: Global, handle: &mut Handle) -> bool
-    ensures value { IsTrue result ↔ IsSome handle.old.part }
-    ensures same { handle.new.part ≡ handle.old.part }
-{
-    match handle.take(alloc) {
-        Some(part) => {
-            handle.put(alloc, part);
-            true
-        }
-        None => false,
-    }
 }

@@ -22,7 +22,7 @@ pub use cut::j39_cut_frame;
 pub use fields::{
     IdFields, NameParts, j39_id_compose, j39_id_split, j39_name_compose, j39_name_split,
 };
-pub use handle::{Handle, j39_close, j39_holds};
+pub use handle::{Handle, j39_close};
 pub use listener::{j39_listener_feed, j39_listener_holder, j39_listener_new};
 pub use message::WholeMessage;
 pub use node::{

@@ -1,0 +1,175 @@
+/* The calls of j1939.h: each tests its pointers for NULL, and calls the proved one. A frame that is read is copied first, so
+ * that it may be the one that is written. */
+#include "j1939.h"
+
+/* The proved calls, as the crate j39_c exports them. None of their pointers may be NULL. */
+int32_t j39_id_split(uint32_t id, j1939_id_fields *fields);
+int32_t j39_id_compose(const j1939_id_fields *fields, uint32_t *id);
+void j39_name_split(uint64_t name, j1939_name_fields *fields);
+int32_t j39_name_compose(const j1939_name_fields *fields, uint64_t *name);
+int32_t j39_reading(const j1939_message *message, size_t index, j1939_reading *reading);
+int32_t j39_reading_text(const j1939_message *message, size_t index, char *text, size_t room);
+int32_t j39_raw_of(uint32_t spn, int64_t value, uint32_t *raw);
+int32_t j39_cut_frame(uint8_t source, uint32_t pgn, const uint8_t *payload, size_t size, uint16_t k, uint64_t micros,
+                      j1939_frame *out);
+void j39_claims_init(j1939_claims *claims);
+int32_t j39_claims_note(j1939_claims *claims, const j1939_frame *frame, uint8_t *changed);
+int32_t j39_claims_holder(const j1939_claims *claims, uint8_t address, uint64_t *name);
+int32_t j39_node_init(j1939_node *node, uint64_t name, uint8_t preferred);
+int32_t j39_node_start(j1939_node *node, uint64_t micros, j1939_frame *out);
+int32_t j39_node_tick(j1939_node *node, uint64_t micros);
+int32_t j39_node_on(j1939_node *node, const j1939_frame *frame, j1939_frame *out);
+int32_t j39_node_commanded(j1939_node *node, uint64_t name, uint8_t address, uint64_t micros, j1939_frame *out);
+int32_t j39_node_status(const j1939_node *node, uint8_t *address);
+void j39_close(j1939_handle *handle);
+int32_t j39_listener_new(j1939_handle *listener);
+int32_t j39_listener_feed(j1939_handle *listener, const j1939_frame *frame, j1939_message *out);
+int32_t j39_listener_holder(j1939_handle *listener, uint8_t address, uint64_t *name);
+int32_t j39_receiver_new(j1939_handle *receiver, uint8_t own);
+int32_t j39_receiver_on(j1939_handle *receiver, const j1939_frame *frame, j1939_frame *out, j1939_message *message);
+int32_t j39_receiver_tick(j1939_handle *receiver, uint64_t micros, j1939_frame *out);
+int32_t j39_receiver_busy(j1939_handle *receiver);
+int32_t j39_sender_new(j1939_handle *sender, uint8_t source, uint8_t destination, uint32_t pgn, const uint8_t *payload,
+                       size_t size);
+int32_t j39_sender_tick(j1939_handle *sender, uint64_t micros, j1939_frame *out);
+int32_t j39_sender_on(j1939_handle *sender, const j1939_frame *frame);
+int32_t j39_sender_state(j1939_handle *sender, uint8_t *reason);
+
+int32_t j1939_id_split(uint32_t id, j1939_id_fields *fields) {
+    return fields ? j39_id_split(id, fields) : J1939_NULL;
+}
+
+int32_t j1939_id_compose(const j1939_id_fields *fields, uint32_t *id) {
+    return fields && id ? j39_id_compose(fields, id) : J1939_NULL;
+}
+
+int32_t j1939_name_split(uint64_t name, j1939_name_fields *fields) {
+    if (!fields) return J1939_NULL;
+    j39_name_split(name, fields);
+    return 0;
+}
+
+int32_t j1939_name_compose(const j1939_name_fields *fields, uint64_t *name) {
+    return fields && name ? j39_name_compose(fields, name) : J1939_NULL;
+}
+
+int32_t j1939_read(const j1939_message *message, size_t index, j1939_reading *reading) {
+    return message && reading ? j39_reading(message, index, reading) : J1939_NULL;
+}
+
+int32_t j1939_read_text(const j1939_message *message, size_t index, char *text, size_t room) {
+    return message && text ? j39_reading_text(message, index, text, room) : J1939_NULL;
+}
+
+int32_t j1939_raw_of(uint32_t spn, int64_t value, uint32_t *raw) {
+    return raw ? j39_raw_of(spn, value, raw) : J1939_NULL;
+}
+
+int32_t j1939_cut_frame(uint8_t source, uint32_t pgn, const uint8_t *payload, size_t size, uint16_t k, uint64_t micros,
+                        j1939_frame *out) {
+    return payload && out ? j39_cut_frame(source, pgn, payload, size, k, micros, out) : J1939_NULL;
+}
+
+int32_t j1939_claims_init(j1939_claims *claims) {
+    if (!claims) return J1939_NULL;
+    j39_claims_init(claims);
+    return 0;
+}
+
+int32_t j1939_claims_note(j1939_claims *claims, const j1939_frame *frame, uint8_t changed[2]) {
+    return claims && frame && changed ? j39_claims_note(claims, frame, changed) : J1939_NULL;
+}
+
+int32_t j1939_claims_holder(const j1939_claims *claims, uint8_t address, uint64_t *name) {
+    return claims && name ? j39_claims_holder(claims, address, name) : J1939_NULL;
+}
+
+int32_t j1939_node_init(j1939_node *node, uint64_t name, uint8_t preferred) {
+    return node ? j39_node_init(node, name, preferred) : J1939_NULL;
+}
+
+int32_t j1939_node_start(j1939_node *node, uint64_t micros, j1939_frame *out) {
+    return node && out ? j39_node_start(node, micros, out) : J1939_NULL;
+}
+
+int32_t j1939_node_tick(j1939_node *node, uint64_t micros) {
+    return node ? j39_node_tick(node, micros) : J1939_NULL;
+}
+
+int32_t j1939_node_on(j1939_node *node, const j1939_frame *frame, j1939_frame *out) {
+    if (!node || !frame || !out) return J1939_NULL;
+    j1939_frame heard = *frame;
+    return j39_node_on(node, &heard, out);
+}
+
+int32_t j1939_node_commanded(j1939_node *node, uint64_t name, uint8_t address, uint64_t micros, j1939_frame *out) {
+    return node && out ? j39_node_commanded(node, name, address, micros, out) : J1939_NULL;
+}
+
+int32_t j1939_node_status(const j1939_node *node, uint8_t *address) {
+    return node && address ? j39_node_status(node, address) : J1939_NULL;
+}
+
+static int32_t close_handle(j1939_handle *handle) {
+    j39_close(handle);
+    return 0;
+}
+
+int32_t j1939_listener_new(j1939_listener *listener) {
+    return listener ? j39_listener_new(&listener->handle) : J1939_NULL;
+}
+
+int32_t j1939_listener_feed(j1939_listener *listener, const j1939_frame *frame, j1939_message *out) {
+    return listener && frame && out ? j39_listener_feed(&listener->handle, frame, out) : J1939_NULL;
+}
+
+int32_t j1939_listener_holder(j1939_listener *listener, uint8_t address, uint64_t *name) {
+    return listener && name ? j39_listener_holder(&listener->handle, address, name) : J1939_NULL;
+}
+
+int32_t j1939_listener_close(j1939_listener *listener) {
+    return listener ? close_handle(&listener->handle) : J1939_NULL;
+}
+
+int32_t j1939_receiver_new(j1939_receiver *receiver, uint8_t own) {
+    return receiver ? j39_receiver_new(&receiver->handle, own) : J1939_NULL;
+}
+
+int32_t j1939_receiver_on(j1939_receiver *receiver, const j1939_frame *frame, j1939_frame *out, j1939_message *message) {
+    if (!receiver || !frame || !out || !message) return J1939_NULL;
+    j1939_frame heard = *frame;
+    return j39_receiver_on(&receiver->handle, &heard, out, message);
+}
+
+int32_t j1939_receiver_tick(j1939_receiver *receiver, uint64_t micros, j1939_frame *out) {
+    return receiver && out ? j39_receiver_tick(&receiver->handle, micros, out) : J1939_NULL;
+}
+
+int32_t j1939_receiver_busy(j1939_receiver *receiver) {
+    return receiver ? j39_receiver_busy(&receiver->handle) : J1939_NULL;
+}
+
+int32_t j1939_receiver_close(j1939_receiver *receiver) {
+    return receiver ? close_handle(&receiver->handle) : J1939_NULL;
+}
+
+int32_t j1939_sender_new(j1939_sender *sender, uint8_t source, uint8_t destination, uint32_t pgn, const uint8_t *payload,
+                         size_t size) {
+    return sender && payload ? j39_sender_new(&sender->handle, source, destination, pgn, payload, size) : J1939_NULL;
+}
+
+int32_t j1939_sender_tick(j1939_sender *sender, uint64_t micros, j1939_frame *out) {
+    return sender && out ? j39_sender_tick(&sender->handle, micros, out) : J1939_NULL;
+}
+
+int32_t j1939_sender_on(j1939_sender *sender, const j1939_frame *frame) {
+    return sender && frame ? j39_sender_on(&sender->handle, frame) : J1939_NULL;
+}
+
+int32_t j1939_sender_state(j1939_sender *sender, uint8_t *reason) {
+    return sender && reason ? j39_sender_state(&sender->handle, reason) : J1939_NULL;
+}
+
+int32_t j1939_sender_close(j1939_sender *sender) {
+    return sender ? close_handle(&sender->handle) : J1939_NULL;
+}

@@ -1,0 +1,291 @@
+/**
+ * @file j1939.h
+ * @brief The proved SAE J1939 stack, for programs in C11 and C++.
+ *
+ * What the calls promise is proved, for every input that keeps to the rules below; each call's contract is in the
+ * crate j39_c, and what it means in its README.
+ *
+ * Answers. A call answers below 0 where it did nothing, and why: one of the J1939_ codes. Then what it was handed is as
+ * it was. 0 says that there is no more to say, and 1 and above what stands in the parameters that it wrote to.
+ *
+ * Storage. j1939_node and j1939_claims are plain data in your own memory: make them by their .._init. They take no
+ * memory besides, need no close, and may be copied. A j1939_listener, a j1939_receiver and a j1939_sender are handles: set one to
+ * J1939_EMPTY, open it by its .._new, close it by its .._close. What it holds lies on the heap and is the library's.
+ * Frames, messages, readings and texts are your own, and are copied.
+ *
+ * What you owe, since no library can test it:
+ *  - a pointer that is not NULL points to memory of its type, or of the size that you say (NULL is tested);
+ *  - the memory of two parameters that are written to does not overlap;
+ *  - a handle was set to J1939_EMPTY, or written by the library last; an open one is not copied, and not written by you;
+ *  - one call at a time on the same handle, node or claims; none from a signal handler, while one may be running;
+ *  - malloc, realloc and free may be called by several threads at once, where you call from several.
+ *
+ * Times are microseconds from any moment on, below 10^16; a time that goes back counts as no time passed. Addresses
+ * are 0 to 253; 254 is the null address, 255 all. Sections are those of SAE J1939-21 (data link), -71 (application)
+ * and -81 (network management).
+ */
+#ifndef J1939_H
+#define J1939_H
+
+#include <stddef.h>
+#include <stdint.h>
+
+#ifdef __cplusplus
+extern "C" {
+#endif
+
+/** Why a call did nothing. */
+enum {
+    J1939_BAD_VALUE = -1, /**< a number is out of its range */
+    J1939_NO_PART = -2,   /**< the handle is empty, or holds another kind of part */
+    J1939_NO_MEMORY = -3, /**< memory is refused */
+    J1939_IN_USE = -4,    /**< the handle is open */
+    J1939_NO_ROOM = -5,   /**< the text does not fit */
+    J1939_END = -6,       /**< there are no more */
+    J1939_NULL = -7       /**< a pointer is NULL */
+};
+
+/** A frame (J1939-21, 5.2). */
+typedef struct {
+    uint64_t micros; /**< when it was seen or is sent, below 10^16 */
+    uint32_t id;     /**< its identifier, of 29 bits, with no flags */
+    uint8_t len;     /**< how many bytes of data it has, 0 to 8 */
+    uint8_t data[8]; /**< its data; what stands behind the first len bytes is not read */
+} j1939_frame;
+
+/** The most bytes of a message. */
+#define J1939_LONGEST 1785
+
+/** A message, of one frame or put together of packets (J1939-21, 5.10). */
+typedef struct {
+    uint64_t micros;             /**< the moment of its last frame */
+    uint64_t name;               /**< the NAME of its sender, where is_named is not 0 */
+    uint32_t pgn;                /**< its group, of 18 bits */
+    uint16_t len;                /**< how many bytes it has, 0 to 1785 */
+    uint8_t source;              /**< the address that sent it */
+    uint8_t is_named;            /**< 0 where no claim tells who sent it */
+    uint8_t data[J1939_LONGEST]; /**< its bytes */
+} j1939_message;
+
+/* ---- identifiers and NAMEs */
+
+/** The fields of an identifier (J1939-21, 5.2). */
+typedef struct {
+    uint32_t pgn;        /**< the group, of 18 bits */
+    uint8_t priority;    /**< 0 (the highest) to 7 */
+    uint8_t source;      /**< the source address */
+    uint8_t destination; /**< the destination; 255 for groups that have none */
+} j1939_id_fields;
+
+/** Reads the fields of an identifier: 0, or J1939_BAD_VALUE for one of 2^29 and above. */
+int32_t j1939_id_split(uint32_t id, j1939_id_fields *fields);
+
+/** Composes the identifier of these fields: 0. J1939_BAD_VALUE for a priority above 7, a group of 2^18 and above, and a
+ * group of PF below 240 whose low byte is not 0. For PF 240 and above the destination is not used. */
+int32_t j1939_id_compose(const j1939_id_fields *fields, uint32_t *id);
+
+/** The fields of a NAME (J1939-81, 4.1.1). */
+typedef struct {
+    uint32_t identity;         /**< the identity number, of 21 bits */
+    uint16_t manufacturer;     /**< the manufacturer code, of 11 bits */
+    uint8_t arbitrary;         /**< 1 where the controller may claim another address than its preferred one, else 0 */
+    uint8_t industry;          /**< the industry group, 0 to 7 */
+    uint8_t system_instance;   /**< the vehicle system instance, 0 to 15 */
+    uint8_t system;            /**< the vehicle system, 0 to 127 */
+    uint8_t reserved;          /**< the reserved bit */
+    uint8_t function;          /**< the function */
+    uint8_t function_instance; /**< the function instance, 0 to 31 */
+    uint8_t ecu_instance;      /**< the ECU instance, 0 to 7 */
+} j1939_name_fields;
+
+/** Reads the fields of a NAME: 0. */
+int32_t j1939_name_split(uint64_t name, j1939_name_fields *fields);
+
+/** Composes the NAME of these fields: 0, or J1939_BAD_VALUE where one is too large for its bits. */
+int32_t j1939_name_compose(const j1939_name_fields *fields, uint64_t *name);
+
+/* ---- readings (J1939-71) */
+
+/** What a reading is. */
+enum {
+    J1939_NUMBER = 0,    /**< a number */
+    J1939_ON = 1,        /**< a switch that is on */
+    J1939_OFF = 2,       /**< a switch that is off */
+    J1939_ERROR = 3,     /**< the sender reports an error */
+    J1939_RESERVED = 4,  /**< a raw value in the reserved range */
+    J1939_INDICATOR = 5, /**< a raw value in the range of indicators */
+    J1939_TEXT = 6       /**< a text */
+};
+
+/** A reading: a parameter and its value. */
+typedef struct {
+    int64_t number; /**< of a number: its value, in units of the last decimal place */
+    uint32_t spn;   /**< the parameter */
+    uint8_t kind;   /**< J1939_NUMBER and so on */
+    uint8_t places; /**< of a number: how many decimal places it has */
+    char unit[8];   /**< of a number: its unit, ended by a zero */
+} j1939_reading;
+
+/** Reads reading number index of a message, from 0 on, by the built-in table: 0. J1939_END behind the last, and for a
+ * group that the table lacks; J1939_BAD_VALUE for a group of 2^18 and above, or more than 1785 bytes. */
+int32_t j1939_read(const j1939_message *message, size_t index, j1939_reading *reading);
+
+/** Writes out the text of reading number index, as the command report prints it, with no zero at its end: its length.
+ * Beside the answers of j1939_read: J1939_NO_ROOM where the text is longer than room (7,142 bytes are always enough),
+ * J1939_NO_MEMORY. */
+int32_t j1939_read_text(const j1939_message *message, size_t index, char *text, size_t room);
+
+/** The raw number of a value of a parameter, in units of its last decimal place: 1 and the number, or 0 where there is
+ * none: the parameter is no number, or the value is off its steps or its valid range. */
+int32_t j1939_raw_of(uint32_t spn, int64_t value, uint32_t *raw);
+
+/* ---- broadcasts (J1939-21, 5.10.1 to 5.10.2) */
+
+/** Frame number k of the broadcast of these bytes, at a moment: 1 and the frame (0 is the announcement), 0 behind the
+ * last packet. J1939_BAD_VALUE outside 9 to 1785 bytes, for a source above 253, a group of 2^18 and above, or a moment
+ * of 10^16 and above. Leave 50 to 200 ms between two frames. */
+int32_t j1939_cut_frame(uint8_t source, uint32_t pgn, const uint8_t *payload, size_t size, uint16_t k, uint64_t micros,
+                        j1939_frame *out);
+
+/* ---- who holds which address (J1939-81, 4.2.2) */
+
+/** Who holds which address. What stands in it is the library's. */
+typedef struct {
+    struct {
+        uint8_t is_held;
+        uint64_t name;
+    } places[254];
+} j1939_claims;
+
+/** Nobody holds an address: 0. */
+int32_t j1939_claims_init(j1939_claims *claims);
+
+/** Notes a frame, of any group: how many addresses have another holder by it, 0 to 2, which stand in changed then,
+ * rising; or J1939_BAD_VALUE for a frame that is out of range. */
+int32_t j1939_claims_note(j1939_claims *claims, const j1939_frame *frame, uint8_t changed[2]);
+
+/** Who holds an address: 1 and the NAME, or 0 where no claim tells it, and for 254 and 255. */
+int32_t j1939_claims_holder(const j1939_claims *claims, uint8_t address, uint64_t *name);
+
+/* ---- a node's own address (J1939-81, 4.2 and 4.5) */
+
+/** A node that claims an address and keeps it. What stands in it is the library's. */
+typedef struct {
+    uint64_t name;
+    uint8_t preferred, kind, address;
+    uint64_t moment;
+    j1939_claims claims;
+} j1939_node;
+
+/** How far a node is. */
+enum { J1939_IDLE = 0, J1939_CLAIMING = 1, J1939_HOLDING = 2, J1939_CANNOT = 3 };
+
+/** An idle node of this NAME, to start with this address: 0, or J1939_BAD_VALUE for an address above 253. */
+int32_t j1939_node_init(j1939_node *node, uint64_t name, uint8_t preferred);
+
+/** Claims the preferred address, where the node is idle: 1 where *out is to be sent, else 0; or J1939_BAD_VALUE. */
+int32_t j1939_node_start(j1939_node *node, uint64_t micros, j1939_frame *out);
+
+/** Makes a claimed address the node's own, 250 ms or more after it began to claim it: 0, or J1939_BAD_VALUE. */
+int32_t j1939_node_tick(j1939_node *node, uint64_t micros);
+
+/** Hears a frame, of any group, at the frame's own moment: 1 where *out is to be sent, else 0; or J1939_BAD_VALUE. */
+int32_t j1939_node_on(j1939_node *node, const j1939_frame *frame, j1939_frame *out);
+
+/** Claims the address that the node of this NAME is commanded to take: 1 where *out is to be sent, else 0; or
+ * J1939_BAD_VALUE. A command to another NAME, of an address above 253 or to an idle node is ignored. */
+int32_t j1939_node_commanded(j1939_node *node, uint64_t name, uint8_t address, uint64_t micros, j1939_frame *out);
+
+/** J1939_IDLE and so on, and the address that is claimed or held, 254 where there is none. While it is not
+ * J1939_HOLDING, send nothing but what the node's calls say. */
+int32_t j1939_node_status(const j1939_node *node, uint8_t *address);
+
+/* ---- handles */
+
+/** What a handle points to is the library's. */
+typedef struct {
+    void *part;
+} j1939_handle;
+
+typedef struct {
+    j1939_handle handle;
+} j1939_listener;
+
+typedef struct {
+    j1939_handle handle;
+} j1939_receiver;
+
+typedef struct {
+    j1939_handle handle;
+} j1939_sender;
+
+/** A handle that holds nothing. */
+/* clang-format off */
+#define J1939_EMPTY {{NULL}}
+/* clang-format on */
+
+/* ---- a listener (J1939-21, 5.10; J1939-81, 4.2) */
+
+/** Opens a listener that has heard nothing: 0; J1939_IN_USE, J1939_NO_MEMORY. */
+int32_t j1939_listener_new(j1939_listener *listener);
+
+/** Feeds it the next frame of the bus: 1 where a message is heard at it, which stands in *out then, else 0.
+ * J1939_BAD_VALUE, J1939_NO_PART; J1939_NO_MEMORY at an announcement alone: feed the frame again, or drop it. */
+int32_t j1939_listener_feed(j1939_listener *listener, const j1939_frame *frame, j1939_message *out);
+
+/** Who holds an address, by the claims that it heard: 1 and the NAME, or 0; J1939_NO_PART. */
+int32_t j1939_listener_holder(j1939_listener *listener, uint8_t address, uint64_t *name);
+
+/** Closes it: 0. Closing an empty one does nothing. */
+int32_t j1939_listener_close(j1939_listener *listener);
+
+/* ---- the receiving end of directed transfers (J1939-21, 5.10.3) */
+
+/** Opens a receiver at an address, with its buffer of 1.8 kB: 0; J1939_IN_USE, J1939_BAD_VALUE, J1939_NO_MEMORY. */
+int32_t j1939_receiver_new(j1939_receiver *receiver, uint8_t own);
+
+/** Hands it a frame of the bus, of any group, at the frame's own moment: 0; 1 where *out is to be sent; 2 where *out is
+ * to be sent and *message is delivered. J1939_BAD_VALUE, J1939_NO_PART. */
+int32_t j1939_receiver_on(j1939_receiver *receiver, const j1939_frame *frame, j1939_frame *out, j1939_message *message);
+
+/** Lets time pass: 1 where *out is to be sent, else 0; J1939_BAD_VALUE, J1939_NO_PART. Call it each 10 ms or so. */
+int32_t j1939_receiver_tick(j1939_receiver *receiver, uint64_t micros, j1939_frame *out);
+
+/** Whether a session is open: 1 or 0; J1939_NO_PART. */
+int32_t j1939_receiver_busy(j1939_receiver *receiver);
+
+/** Closes it: 0. Closing an empty one does nothing. */
+int32_t j1939_receiver_close(j1939_receiver *receiver);
+
+/* ---- the sending end of directed transfers (J1939-21, 5.10.3) */
+
+/** How far a sender is. */
+enum {
+    J1939_SEND_IDLE = 0,    /**< it has sent nothing */
+    J1939_SEND_WAITING = 1, /**< it waits for an answer */
+    J1939_SEND_SENDING = 2, /**< it has packets to send, one a tick */
+    J1939_SEND_DONE = 3,    /**< the receiver acknowledged the message */
+    J1939_SEND_FAILED = 4   /**< the transfer was aborted, for 3 where the receiver was silent */
+};
+
+/** Opens a sender of these bytes from one address to another: 0; J1939_IN_USE; J1939_BAD_VALUE outside 9 to 1785 bytes,
+ * for an address above 253 or a group of 2^18 and above; J1939_NO_MEMORY. The bytes are copied. */
+int32_t j1939_sender_new(j1939_sender *sender, uint8_t source, uint8_t destination, uint32_t pgn, const uint8_t *payload,
+                         size_t size);
+
+/** Lets time pass: 1 where *out is to be sent, else 0; J1939_BAD_VALUE, J1939_NO_PART. A sender sends at ticks alone. */
+int32_t j1939_sender_tick(j1939_sender *sender, uint64_t micros, j1939_frame *out);
+
+/** Shows it a frame of the bus, of any group, at the frame's own moment: 0; J1939_BAD_VALUE, J1939_NO_PART. */
+int32_t j1939_sender_on(j1939_sender *sender, const j1939_frame *frame);
+
+/** J1939_SEND_IDLE and so on, and the reason where it is J1939_SEND_FAILED; J1939_NO_PART. */
+int32_t j1939_sender_state(j1939_sender *sender, uint8_t *reason);
+
+/** Closes it: 0. Closing an empty one does nothing. */
+int32_t j1939_sender_close(j1939_sender *sender);
+
+#ifdef __cplusplus
+}
+#endif
+#endif

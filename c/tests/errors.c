@@ -1,0 +1,263 @@
+/* What the calls answer to what is out of range, out of order, NULL or out of memory. Linked with --wrap=malloc. */
+#include "../j1939.h"
+#include "expect.h"
+
+#include <string.h>
+
+static long allowed = -1; /* how many times malloc grants; below 0: always */
+void *__real_malloc(size_t size);
+void *__wrap_malloc(size_t size);
+void *__wrap_malloc(size_t size) {
+    if (allowed == 0) return NULL;
+    if (allowed > 0) allowed--;
+    return __real_malloc(size);
+}
+
+static const uint64_t LATE = 10000000000000000u;
+static j1939_message message;
+static j1939_frame out;
+
+static void null_pointers(void) {
+    static j1939_node node;
+    static j1939_claims claims;
+    j1939_listener listener = J1939_EMPTY;
+    j1939_receiver receiver = J1939_EMPTY;
+    j1939_sender sender = J1939_EMPTY;
+    j1939_frame frame = {0};
+    uint8_t byte = 0, changed[2];
+    uint64_t name;
+    char text[8];
+    EXPECT(j1939_id_split(0, NULL) == J1939_NULL);
+    EXPECT(j1939_id_compose(NULL, NULL) == J1939_NULL);
+    EXPECT(j1939_name_split(0, NULL) == J1939_NULL);
+    EXPECT(j1939_name_compose(NULL, &name) == J1939_NULL);
+    EXPECT(j1939_read(NULL, 0, NULL) == J1939_NULL);
+    EXPECT(j1939_read_text(NULL, 0, text, sizeof text) == J1939_NULL);
+    EXPECT(j1939_read_text(&message, 0, NULL, 0) == J1939_NULL);
+    EXPECT(j1939_raw_of(190, 0, NULL) == J1939_NULL);
+    EXPECT(j1939_cut_frame(0, 0, NULL, 9, 0, 0, &out) == J1939_NULL);
+    EXPECT(j1939_claims_init(NULL) == J1939_NULL);
+    EXPECT(j1939_claims_note(&claims, NULL, changed) == J1939_NULL);
+    EXPECT(j1939_claims_holder(&claims, 0, NULL) == J1939_NULL);
+    EXPECT(j1939_node_init(NULL, 0, 0) == J1939_NULL);
+    EXPECT(j1939_node_start(&node, 0, NULL) == J1939_NULL);
+    EXPECT(j1939_node_tick(NULL, 0) == J1939_NULL);
+    EXPECT(j1939_node_on(&node, NULL, &out) == J1939_NULL);
+    EXPECT(j1939_node_commanded(&node, 0, 0, 0, NULL) == J1939_NULL);
+    EXPECT(j1939_node_status(&node, NULL) == J1939_NULL);
+    EXPECT(j1939_listener_new(NULL) == J1939_NULL);
+    EXPECT(j1939_listener_feed(&listener, &frame, NULL) == J1939_NULL);
+    EXPECT(j1939_listener_holder(NULL, 0, &name) == J1939_NULL);
+    EXPECT(j1939_listener_close(NULL) == J1939_NULL);
+    EXPECT(j1939_receiver_new(NULL, 0) == J1939_NULL);
+    EXPECT(j1939_receiver_on(&receiver, &frame, &out, NULL) == J1939_NULL);
+    EXPECT(j1939_receiver_tick(&receiver, 0, NULL) == J1939_NULL);
+    EXPECT(j1939_receiver_busy(NULL) == J1939_NULL);
+    EXPECT(j1939_receiver_close(NULL) == J1939_NULL);
+    EXPECT(j1939_sender_new(&sender, 0, 0, 0, NULL, 9) == J1939_NULL);
+    EXPECT(j1939_sender_tick(&sender, 0, NULL) == J1939_NULL);
+    EXPECT(j1939_sender_on(&sender, NULL) == J1939_NULL);
+    EXPECT(j1939_sender_state(NULL, &byte) == J1939_NULL);
+    EXPECT(j1939_sender_close(NULL) == J1939_NULL);
+}
+
+static void fields(void) {
+    j1939_id_fields id = {0};
+    j1939_name_fields parts;
+    uint32_t raw = 7;
+    uint64_t name = 7;
+    EXPECT(j1939_id_split(0x0CF00400, &id) == 0);
+    EXPECT(id.priority == 3 && id.pgn == 61444 && id.source == 0 && id.destination == 255);
+    EXPECT(j1939_id_compose(&id, &raw) == 0 && raw == 0x0CF00400);
+    EXPECT(j1939_id_split(0x18EA0BF9, &id) == 0 && id.pgn == 0xEA00 && id.destination == 0x0B && id.source == 0xF9);
+    EXPECT(j1939_id_split(1u << 29, &id) == J1939_BAD_VALUE && id.pgn == 0xEA00);
+    id.pgn = 0xEA01;
+    EXPECT(j1939_id_compose(&id, &raw) == J1939_BAD_VALUE && raw == 0x0CF00400);
+    id.pgn = 1u << 18;
+    EXPECT(j1939_id_compose(&id, &raw) == J1939_BAD_VALUE);
+    id.pgn = 0xEA00, id.priority = 8;
+    EXPECT(j1939_id_compose(&id, &raw) == J1939_BAD_VALUE);
+    EXPECT(j1939_name_split(0x8000000001401234, &parts) == 0);
+    EXPECT(parts.arbitrary == 1 && parts.manufacturer == 10 && parts.identity == 0x1234);
+    EXPECT(j1939_name_compose(&parts, &name) == 0 && name == 0x8000000001401234);
+    parts.manufacturer = 2048;
+    EXPECT(j1939_name_compose(&parts, &name) == J1939_BAD_VALUE && name == 0x8000000001401234);
+}
+
+static void nodes(void) {
+    static j1939_node node, before;
+    uint8_t address;
+    j1939_frame frame = {.micros = 1, .id = 0x18EEFF80, .len = 8};
+    EXPECT(j1939_node_init(&node, 1, 254) == J1939_BAD_VALUE);
+    EXPECT(j1939_node_init(&node, 1, 128) == 0);
+    EXPECT(j1939_node_status(&node, &address) == J1939_IDLE && address == 254);
+    EXPECT(j1939_node_start(&node, LATE, &out) == J1939_BAD_VALUE);
+    EXPECT(j1939_node_start(&node, 1000000, &out) == 1 && out.id == 0x18EEFF80 && out.len == 8 && out.data[0] == 1);
+    EXPECT(j1939_node_start(&node, 1000000, &out) == 0);
+    EXPECT(j1939_node_tick(&node, 1249999) == 0);
+    EXPECT(j1939_node_tick(&node, 3) == 0); /* a time that goes back counts as none */
+    EXPECT(j1939_node_status(&node, &address) == J1939_CLAIMING && address == 128);
+    EXPECT(j1939_node_tick(&node, 1250000) == 0);
+    EXPECT(j1939_node_tick(&node, LATE) == J1939_BAD_VALUE);
+    EXPECT(j1939_node_status(&node, &address) == J1939_HOLDING && address == 128);
+    EXPECT(j1939_node_commanded(&node, 1, 7, 2000000, &out) == 1 && out.id == 0x18EEFF07);
+    EXPECT(j1939_node_commanded(&node, 2, 9, 2000000, &out) == 0);
+    EXPECT(j1939_node_commanded(&node, 1, 9, LATE, &out) == J1939_BAD_VALUE);
+    before = node;
+    frame.len = 9;
+    EXPECT(j1939_node_on(&node, &frame, &out) == J1939_BAD_VALUE);
+    frame.len = 8, frame.id = 1u << 29;
+    EXPECT(j1939_node_on(&node, &frame, &out) == J1939_BAD_VALUE);
+    frame.id = 0x18EEFF07, frame.micros = LATE;
+    EXPECT(j1939_node_on(&node, &frame, &out) == J1939_BAD_VALUE);
+    EXPECT(memcmp(&node, &before, sizeof node) == 0);
+    frame.micros = 3000000; /* NAME 0 wins; NAME 1 can claim no other; the frame that is read is written */
+    EXPECT(j1939_node_on(&node, &frame, &frame) == 1 && frame.id == 0x18EEFFFE);
+    EXPECT(j1939_node_status(&node, &address) == J1939_CANNOT && address == 254);
+    memset(&node, 0xA5, sizeof node); /* any pattern of bits is a node */
+    EXPECT(j1939_node_status(&node, &address) == J1939_CANNOT && address == 254);
+}
+
+static void claims(void) {
+    static j1939_claims table;
+    uint8_t changed[2] = {9, 9};
+    uint64_t name = 5;
+    j1939_frame frame = {.micros = 1, .id = 0x18EEFF80, .len = 8, .data = {1}};
+    EXPECT(j1939_claims_init(&table) == 0);
+    EXPECT(j1939_claims_holder(&table, 0x80, &name) == 0 && name == 5);
+    EXPECT(j1939_claims_note(&table, &frame, changed) == 1 && changed[0] == 0x80);
+    EXPECT(j1939_claims_holder(&table, 0x80, &name) == 1 && name == 1);
+    frame.id = 0x18EEFF81;
+    EXPECT(j1939_claims_note(&table, &frame, changed) == 2 && changed[0] == 0x80 && changed[1] == 0x81);
+    EXPECT(j1939_claims_note(&table, &frame, changed) == 0);
+    EXPECT(j1939_claims_holder(&table, 255, &name) == 0);
+    frame.len = 9;
+    EXPECT(j1939_claims_note(&table, &frame, changed) == J1939_BAD_VALUE);
+}
+
+static const j1939_frame bam = {
+    .micros = 5, .id = 0x1CECFF80, .len = 8, .data = {0x20, 20, 0, 3, 0xFF, 0xEC, 0xFE, 0}};
+
+static j1939_frame packet(uint8_t k) {
+    j1939_frame frame = {.micros = 5 + 50000u * k, .id = 0x1CEBFF80, .len = 8, .data = {k, 'A', 'B', 'C', 'D', 'E', 'F', 'G'}};
+    return frame;
+}
+
+static void listeners(void) {
+    j1939_listener listener = J1939_EMPTY;
+    j1939_receiver foreign = J1939_EMPTY;
+    j1939_frame frame = {.micros = 1, .id = 0x18EEFF80, .len = 8, .data = {1, 1, 1, 1, 1, 1, 1, 1}};
+    uint64_t name = 0;
+    EXPECT(j1939_listener_feed(&listener, &frame, &message) == J1939_NO_PART);
+    EXPECT(j1939_listener_holder(&listener, 0, &name) == J1939_NO_PART);
+    for (long granted = 0; granted < 2; granted++) {
+        allowed = granted;
+        EXPECT(j1939_listener_new(&listener) == J1939_NO_MEMORY && !listener.handle.part);
+    }
+    allowed = -1;
+    EXPECT(j1939_receiver_new(&foreign, 3) == 0);
+    EXPECT(j1939_listener_feed((j1939_listener *)&foreign, &frame, &message) == J1939_NO_PART);
+    EXPECT(j1939_listener_new((j1939_listener *)&foreign) == J1939_IN_USE);
+    EXPECT(j1939_listener_new(&listener) == 0);
+    EXPECT(j1939_listener_new(&listener) == J1939_IN_USE);
+    EXPECT(j1939_listener_feed(&listener, &frame, &message) == 0);
+    EXPECT(j1939_listener_holder(&listener, 0x80, &name) == 1 && name == 0x0101010101010101);
+    EXPECT(j1939_listener_holder(&listener, 255, &name) == 0);
+    allowed = 0; /* at an announcement, after which the frame may be fed again */
+    EXPECT(j1939_listener_feed(&listener, &bam, &message) == J1939_NO_MEMORY);
+    allowed = -1;
+    EXPECT(j1939_listener_feed(&listener, &bam, &message) == 0);
+    for (uint8_t k = 1; k <= 3; k++) {
+        j1939_frame next = packet(k);
+        EXPECT(j1939_listener_feed(&listener, &next, &message) == (k == 3));
+    }
+    EXPECT(message.len == 20 && message.pgn == 65260 && message.is_named && message.source == 0x80);
+    EXPECT(j1939_listener_feed(&listener, &bam, &message) == 0);
+    EXPECT(j1939_listener_close(&listener) == 0); /* with a message open */
+    EXPECT(j1939_listener_close(&listener) == 0);
+    EXPECT(j1939_listener_feed(&listener, &bam, &message) == J1939_NO_PART);
+    EXPECT(j1939_receiver_close(&foreign) == 0);
+}
+
+static void readings(void) {
+    j1939_reading reading;
+    char text[64];
+    uint32_t raw = 5;
+    EXPECT(j1939_read(&message, 0, &reading) == 0 && reading.spn == 237 && reading.kind == J1939_TEXT);
+    int32_t size = j1939_read_text(&message, 0, text, sizeof text);
+    EXPECT(size == 22 && text[0] == '"' && text[21] == '"');
+    EXPECT(j1939_read_text(&message, 0, text, (size_t)size - 1) == J1939_NO_ROOM);
+    EXPECT(j1939_read_text(&message, 0, text, 0) == J1939_NO_ROOM);
+    EXPECT(j1939_read_text(&message, 1, text, sizeof text) == J1939_END);
+    EXPECT(j1939_read(&message, 1, &reading) == J1939_END);
+    allowed = 0;
+    EXPECT(j1939_read_text(&message, 0, text, sizeof text) == J1939_NO_MEMORY);
+    allowed = -1;
+    message.len = 1786;
+    EXPECT(j1939_read(&message, 0, &reading) == J1939_BAD_VALUE);
+    EXPECT(j1939_read_text(&message, 0, text, sizeof text) == J1939_BAD_VALUE);
+    message.len = 8, message.pgn = 1u << 18;
+    EXPECT(j1939_read(&message, 0, &reading) == J1939_BAD_VALUE);
+    message.pgn = 61444;
+    const uint8_t engine[8] = {0xFF, 0xFF, 0xFF, 0xE0, 0x2E, 0xFF, 0xFF, 0xFF};
+    memcpy(message.data, engine, 8);
+    EXPECT(j1939_read(&message, 0, &reading) == 0 && reading.spn == 190 && reading.kind == J1939_NUMBER);
+    EXPECT(reading.number == 1500000 && reading.places == 3 && strcmp(reading.unit, "rpm") == 0);
+    EXPECT(j1939_raw_of(190, 1500000, &raw) == 1 && raw == 12000);
+    EXPECT(j1939_raw_of(190, 1, &raw) == 0 && raw == 12000);
+}
+
+static void transfers(void) {
+    j1939_receiver receiver = J1939_EMPTY;
+    j1939_sender sender = J1939_EMPTY;
+    const uint8_t payload[1786] = {0};
+    j1939_frame frame = {.micros = LATE};
+    uint8_t reason = 9;
+    EXPECT(j1939_receiver_tick(&receiver, 0, &out) == J1939_NO_PART);
+    EXPECT(j1939_receiver_new(&receiver, 254) == J1939_BAD_VALUE);
+    for (long granted = 0; granted < 3; granted++) {
+        allowed = granted;
+        EXPECT(j1939_receiver_new(&receiver, 3) == J1939_NO_MEMORY && !receiver.handle.part);
+        allowed = granted;
+        EXPECT(j1939_sender_new(&sender, 1, 3, 65260, payload, 20) == J1939_NO_MEMORY && !sender.handle.part);
+    }
+    allowed = -1;
+    EXPECT(j1939_receiver_new(&receiver, 3) == 0);
+    EXPECT(j1939_receiver_new(&receiver, 3) == J1939_IN_USE);
+    EXPECT(j1939_receiver_on(&receiver, &frame, &out, &message) == J1939_BAD_VALUE);
+    EXPECT(j1939_receiver_tick(&receiver, LATE, &out) == J1939_BAD_VALUE);
+    EXPECT(j1939_receiver_busy(&receiver) == 0);
+    EXPECT(j1939_sender_tick((j1939_sender *)&receiver, 0, &out) == J1939_NO_PART);
+    EXPECT(j1939_sender_new(&sender, 1, 3, 65260, payload, 8) == J1939_BAD_VALUE);
+    EXPECT(j1939_sender_new(&sender, 1, 3, 65260, payload, 1786) == J1939_BAD_VALUE);
+    EXPECT(j1939_sender_new(&sender, 254, 3, 65260, payload, 20) == J1939_BAD_VALUE);
+    EXPECT(j1939_sender_new(&sender, 1, 254, 65260, payload, 20) == J1939_BAD_VALUE);
+    EXPECT(j1939_sender_new(&sender, 1, 3, 1u << 18, payload, 20) == J1939_BAD_VALUE);
+    EXPECT(j1939_sender_new(&sender, 1, 3, 65260, payload, 20) == 0);
+    EXPECT(j1939_sender_new(&sender, 1, 3, 65260, payload, 20) == J1939_IN_USE);
+    EXPECT(j1939_sender_state(&sender, &reason) == J1939_SEND_IDLE && reason == 9);
+    EXPECT(j1939_sender_on(&sender, &frame) == J1939_BAD_VALUE);
+    EXPECT(j1939_sender_tick(&sender, LATE, &out) == J1939_BAD_VALUE);
+    EXPECT(j1939_sender_tick(&sender, 0, &out) == 1 && out.id == 0x1CEC0301 && out.data[0] == 0x10);
+    EXPECT(j1939_receiver_on(&receiver, &out, &out, &message) == 1 && out.data[0] == 0x11);
+    EXPECT(j1939_receiver_busy(&receiver) == 1);
+    EXPECT(j1939_sender_tick(&sender, 1250001, &out) == 1 && out.data[0] == 0xFF);
+    EXPECT(j1939_sender_state(&sender, &reason) == J1939_SEND_FAILED && reason == 3);
+    EXPECT(j1939_cut_frame(1, 65260, payload, 8, 0, 0, &out) == J1939_BAD_VALUE);
+    EXPECT(j1939_cut_frame(254, 65260, payload, 9, 0, 0, &out) == J1939_BAD_VALUE);
+    EXPECT(j1939_cut_frame(1, 65260, payload, 9, 0, LATE, &out) == J1939_BAD_VALUE);
+    EXPECT(j1939_cut_frame(1, 65260, payload, 9, 2, 7, &out) == 1 && out.micros == 7 && out.data[3] == 0xFF);
+    EXPECT(j1939_cut_frame(1, 65260, payload, 9, 3, 7, &out) == 0);
+    EXPECT(j1939_sender_close(&sender) == 0 && j1939_receiver_close(&receiver) == 0);
+}
+
+int main(void) {
+    null_pointers();
+    fields();
+    nodes();
+    claims();
+    listeners();
+    readings();
+    transfers();
+    return 0;
+}

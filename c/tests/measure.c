@@ -1,0 +1,97 @@
+/* What docs/PORTING.md says of memory, stack and time. Linked with --wrap=malloc. */
+#define _XOPEN_SOURCE 700
+#include "../j1939.h"
+#include "expect.h"
+
+#include <string.h>
+#include <time.h>
+#include <ucontext.h>
+
+static size_t taken;
+void *__real_malloc(size_t size);
+void *__wrap_malloc(size_t size);
+void *__wrap_malloc(size_t size) {
+    taken += size;
+    return __real_malloc(size);
+}
+
+static j1939_listener listener = J1939_EMPTY;
+static j1939_receiver receiver = J1939_EMPTY;
+static j1939_sender sender = J1939_EMPTY;
+static j1939_node node;
+static j1939_frame out;
+static j1939_frame engine = {.micros = 1, .id = 0x0CF00400, .len = 8, .data = {0xFF, 0xFF, 0xFF, 0xE0, 0x2E, 0xFF, 0xFF, 0xFF}};
+static const j1939_frame other = {.micros = 1, .id = 0x18FF0100, .len = 8};
+static const j1939_frame claim = {.micros = 1, .id = 0x18EEFF05, .len = 8, .data = {5}};
+static j1939_message message;
+static j1939_reading reading;
+static const uint8_t payload[1785];
+
+static void open_listener(void) { EXPECT(j1939_listener_new(&listener) == 0); }
+static void open_receiver(void) { EXPECT(j1939_receiver_new(&receiver, 3) == 0); }
+static void open_sender(void) { EXPECT(j1939_sender_new(&sender, 1, 3, 65260, payload, sizeof payload) == 0); }
+static void hear(void) { EXPECT(j1939_listener_feed(&listener, &engine, &message) == 1); }
+static void hear_other(void) { EXPECT(j1939_listener_feed(&listener, &other, &message) == 0); }
+static void read_number(void) { EXPECT(j1939_read(&message, 0, &reading) == 0); }
+static char text[64];
+static void read_text(void) { EXPECT(j1939_read_text(&message, 0, text, sizeof text) > 0); }
+static void node_tick(void) { EXPECT(j1939_node_tick(&node, 5) == 0); }
+static void node_on(void) { EXPECT(j1939_node_on(&node, &claim, &out) == 0); }
+static void receiver_tick(void) { EXPECT(j1939_receiver_tick(&receiver, 5, &out) == 0); }
+static void sender_tick(void) { EXPECT(j1939_sender_tick(&sender, 5, &out) >= 0); }
+static void close_all(void) {
+    EXPECT(j1939_listener_close(&listener) == 0 && j1939_receiver_close(&receiver) == 0 && j1939_sender_close(&sender) == 0);
+}
+
+/* A call on a stack of its own, painted before: how many of its bytes it touches. */
+enum { STACK = 1 << 16 };
+static uint8_t stack[STACK];
+static void (*called)(void);
+
+static void enter(void) { called(); }
+
+static size_t stack_of(void (*call)(void)) {
+    static ucontext_t here, there;
+    size_t clean = 0;
+    memset(stack, 0xA5, sizeof stack);
+    called = call;
+    EXPECT(getcontext(&there) == 0);
+    there.uc_stack.ss_sp = stack;
+    there.uc_stack.ss_size = sizeof stack;
+    there.uc_link = &here;
+    makecontext(&there, enter, 0);
+    EXPECT(swapcontext(&here, &there) == 0);
+    while (clean < STACK && stack[clean] == 0xA5) clean++;
+    return STACK - clean;
+}
+
+static void measure(const char *name, void (*call)(void), long times) {
+    struct timespec from, to;
+    size_t before = taken;
+    size_t touched = stack_of(call);
+    printf("%-14s memory %5zu  stack %5zu", name, taken - before, touched);
+    clock_gettime(CLOCK_MONOTONIC, &from);
+    for (long i = 0; i < times; i++) call();
+    clock_gettime(CLOCK_MONOTONIC, &to);
+    double ns = (double)(to.tv_sec - from.tv_sec) * 1e9 + (double)(to.tv_nsec - from.tv_nsec);
+    if (times) printf("  %4.0f ns", ns / (double)times);
+    putchar('\n');
+}
+
+int main(void) {
+    printf("j1939_node %zu, j1939_claims %zu, j1939_message %zu bytes\n", sizeof node, sizeof node.claims, sizeof message);
+    EXPECT(j1939_node_init(&node, 1, 3) == 0);
+    measure("listener_new", open_listener, 0);
+    measure("receiver_new", open_receiver, 0);
+    measure("sender_new", open_sender, 0);
+    measure("listener_feed", hear, 1000000);
+    measure("  other group", hear_other, 1000000);
+    measure("read", read_number, 1000000);
+    measure("read_text", read_text, 1000000);
+    measure("node_tick", node_tick, 1000000);
+    measure("node_on", node_on, 1000000);
+    measure("receiver_tick", receiver_tick, 1000000);
+    measure("sender_tick", sender_tick, 1000000);
+    measure("close", close_all, 0);
+    return 0;
+}
