@@ -1,7 +1,7 @@
 -- The value that is stored.
 use Rattle.std.specs.Borrow.{Lends, Fml, RattleType, MutBor}
-use Rattle.j39_store.specs.declared.Stored.{Stored}
-use Rattle.j39_store.specs.contracts.Stored.{the_row}
+use Rattle.j39_place.specs.declared.Stored.{Stored}
+use Rattle.j39_place.specs.contracts.Stored.{the_row}
 
 abbrev pub value_of : {T : Type 0} → Stored T → T
 value_of s = s.place

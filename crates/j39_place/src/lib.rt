@@ -3,7 +3,7 @@
 
 ghost use Rattle.std.specs.Prelude.{◌≡◌, IfOk};
 ghost use Rattle.std.specs.Borrow.{sem};
-ghost use Rattle.j39_store.specs.Stored.{value_of, LendsValue};
+ghost use Rattle.j39_place.specs.Stored.{value_of, LendsValue};
 
 use std::alloc::{AllocError, Global};
 use std::ops::{Deref, DerefMut};

@@ -1,0 +1,2 @@
+-- texts that don't fit
+pub mod RoomLemmas

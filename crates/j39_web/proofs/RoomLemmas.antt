@@ -1,0 +1,63 @@
+-- A text that has no room.
+use Rattle.std.proofs.Common.{◌≡◌, ◌≢◌, ◌≤◌, ℕ, List, [], ◌∷◌, ◌++◌, Some, Option, refl, ap, sym, ◌∙◌, subst, append-nil, take, take_all, length, length-append, arith}
+use Rattle.std.specs.Prelude.{IfOk, MatchResult, Ok, Err, Result}
+use Rattle.j39_log.specs.Log.{frames_of}
+use Rattle.j39_log.proofs.LogLemmas.{same_log}
+use Rattle.j39_listen.specs.AccountSteps.{MakesOne}
+use Rattle.j39_listen.specs.Output.{Making}
+use Rattle.j39_listen.specs.Run.{Writes, WritesFront, run_bus}
+use Rattle.j39_listen.specs.declared.counts.Counts.{Counts}
+use Rattle.j39_listen.specs.declared.running.RunFault.{RunFault}
+use Rattle.j39_listen.specs.declared.running.RunFault.TheVariants.{Memory, Read, Write, TooLong}
+use Rattle.j39_web.specs.Text.{Overflows}
+
+first : ℕ → List ℕ → ℕ
+first d [] = d
+first d (x ∷ xs) = x
+
+rest : List ℕ → List ℕ
+rest [] = []
+rest (x ∷ xs) = xs
+
+-- a front of the text fills the room, which is the one that was lent
+fills : (n m k : ℕ) (ys room front left text : List ℕ) → (m ∷ take k ys) ≡ (n ∷ []) ++ front → text ≡ front ++ left → k ≡ length ys → (n ≡ m → ys ≡ room)
+    → length room ≤ length text
+unfolding first rest
+fills n m k ys room front left text written all full same =
+    let here : ys ≡ room = same (sym (ap (first n) written)) in
+    let stands : ys ≡ front = sym (take_all k ys (omega (arith, full))) ∙ ap rest written in
+    let long : length room ≡ length front = ap length (sym here ∙ stands) in
+    let sum = ap length all ∙ length-append front left in
+    omega (arith, long, sum)
+
+-- what is made of the log, in a room that has none left
+overflows_made : (makes : Making) → MakesOne makes → (given : Option (List ℕ)) (log : List ℕ) (counts : Counts) (n m k : ℕ) (ys room : List ℕ)
+    → Writes makes given log counts (Some (n ∷ [])) (Some (m ∷ take k ys)) → k ≡ length ys → (n ≡ m → ys ≡ room) → Overflows makes given log room
+overflows_made makes one given log counts n m k ys room w full same = λ spelled output is made.
+    let lines = same_log log w.spelled spelled w.is_log is in
+    let text = one (run_bus given spelled) (frames_of given spelled) w.output output (subst (λ ss. makes (run_bus given ss) (frames_of given ss) w.output) lines w.is_made) made in
+    fills n m k ys room w.output.text [] output.text w.written (sym text ∙ sym (append-nil w.output.text)) full same
+
+overflows_front : (makes : Making) (given : Option (List ℕ)) (log : List ℕ) (n m k : ℕ) (ys room : List ℕ)
+    → WritesFront makes given log (Some (n ∷ [])) (Some (m ∷ take k ys)) → k ≡ length ys → (n ≡ m → ys ≡ room) → Overflows makes given log room
+overflows_front makes given log n m k ys room h full same = λ spelled output is made.
+    let f = h spelled output is made in
+    fills n m k ys room f.0 f.1 output.text f.3 f.2 full same
+
+-- where a run has no room
+pub overflows : (makes : Making) → MakesOne makes → (given : Option (List ℕ)) (log log' : List ℕ) (ran : Result Counts RunFault) (z n m k : ℕ) (xs ys room : List ℕ)
+    → log' ≡ log → z ≡ 0
+    → IfOk ran (λ counts. Writes makes given log' counts (Some (n ∷ take z xs)) (Some (m ∷ take k ys)))
+    → (ran ≡ Err Write → WritesFront makes given log' (Some (n ∷ take z xs)) (Some (m ∷ take k ys)))
+    → (ran ≡ Err Read → ⊥) → (ran ≡ Err TooLong → ⊥) → (ran ≡ Err Write → k ≡ length ys)
+    → MatchResult ran (λ _. k ≡ length ys) (λ fault. fault ≢ Memory)
+    → (n ≡ m → ys ≡ room) → Overflows makes given log room
+overflows makes one given log log' (Ok counts) z n m k xs ys room l e made front read long full none same =
+    let w = subst (λ j. Writes makes given log' counts (Some (n ∷ take j xs)) (Some (m ∷ take k ys))) e made in
+    overflows_made makes one given log counts n m k ys room (subst (λ j. Writes makes given j counts (Some (n ∷ [])) (Some (m ∷ take k ys))) l w) none same
+overflows makes one given log log' (Err Write) z n m k xs ys room l e made front read long full none same =
+    let w = subst (λ j. WritesFront makes given log' (Some (n ∷ take j xs)) (Some (m ∷ take k ys))) e (front refl) in
+    overflows_front makes given log n m k ys room (subst (λ j. WritesFront makes given j (Some (n ∷ [])) (Some (m ∷ take k ys))) l w) (full refl) same
+overflows makes one given log log' (Err Memory) z n m k xs ys room l e made front read long full none same = absurd (none refl)
+overflows makes one given log log' (Err Read) z n m k xs ys room l e made front read long full none same = absurd (read refl)
+overflows makes one given log log' (Err TooLong) z n m k xs ys room l e made front read long full none same = absurd (long refl)

@@ -1,0 +1,8 @@
+-- a room, and how much of it is written
+pub mod Room
+-- what a text in it is
+pub mod Text
+-- what a call answers
+pub mod Answers
+-- the fields of a NAME that a page is told
+pub mod Fields

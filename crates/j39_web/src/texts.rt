@@ -1,0 +1,127 @@
+//! What is made of a log, in the room of a page.
+ghost use Rattle.std.specs.Prelude.{◌≡◌, ◌≢◌, ◌<◌, ◌≤◌, length, take, IfOk, Ok, Err};
+ghost use Rattle.j39_groups.specs.Printed.{parameters_text};
+ghost use Rattle.j39_groups.specs.Table.{the_table};
+ghost use Rattle.j39_listen.specs.Asking.{AsksForBoxes};
+ghost use Rattle.j39_listen.specs.Output.{MakesNodes, MakesReport};
+ghost use Rattle.j39_listen.specs.declared.running.RunFault.TheVariants as fault;
+ghost use Rattle.j39_web.specs.Room.{HasNoRoom, room_in, written_in};
+ghost use Rattle.j39_web.specs.Text.{AsksSomewhere, IsMade, IsPublished, Overflows, counts_in};
+ghost use Rattle.j39_web.specs.declared.texts.Refusal.TheVariants.{Memory, TooSmall};
+
+use crate::room::{LogBytes, Room};
+use j39_device::DeviceFault;
+use j39_groups::{Groups, put_parameters};
+use j39_listen::{Counts, RunFault, run_with};
+use j39_log::Bus;
+use std::alloc::Global;
+use std::mem;
+
+/// Why no text is in the room.
+#[derive(Clone, Copy, Debug, PartialEq, Eq)]
+pub enum Refusal {
+    /// Memory was refused.
+    Memory,
+    /// The room is no longer than the text.
+    TooSmall,
+}
+
+/// What was counted in a log, and the bytes of the text that was made of it.
+#[repr(C)]
+#[derive(Clone, Copy, Debug, PartialEq, Eq)]
+pub struct LogText {
+    /// Frames of the bus.
+    pub frames: u64,
+    /// Lines of candump's form that hold no such frame.
+    pub other: u64,
+    /// Lines of no such form.
+    pub unread: u64,
+    /// Messages that were heard.
+    pub messages: u64,
+    /// Lines of the text.
+    pub lines: u64,
+    /// Bytes of the text.
+    pub bytes: u64,
+}
+
+/// Writes the report of a log by the built-in table: a line for each value that a controller on the bus
+/// reported. Without a bus it is that of the first frame in the log.
+pub fn report(
+    alloc: Global,
+    log: &[u8],
+    bus: Option<Bus>,
+    room: &mut [u8],
+) -> Result<LogText, Refusal>
+    // What stands at the front of the room is the report of the log, and nothing else.
+    ensures report { IfOk result (λ text. IsMade (MakesReport the_table) bus log.now text room.new) }
+
+    // Of what publishers sent, its lines under their addresses are exactly the values published.
+    ensures published { IfOk result (λ text. IsPublished the_table bus log.now text room.new) }
+
+    // The room is too small exactly where the report has as many bytes, or more.
+    ensures fits { IfOk result (λ text. text.bytes < length room.new) }
+    ensures too_small { result ≡ Err TooSmall → Overflows (MakesReport the_table) bus log.now room.new }
+
+    // Memory is wanted only at a frame of the log that announces a message.
+    ensures memory { result ≡ Err Memory → AsksSomewhere AsksForBoxes bus log.now }
+{
+    let mut source = LogBytes::new(log);
+    let mut sink = Room::new(room);
+    let groups = Groups::built_in();
+    let limit = log.len() as u64;
+    let ran = run_with(alloc, &groups, &mut source, &mut sink, bus, limit);
+    // It holds no memory; a table that was read would, and a page has nothing that takes memory back.
+    mem::forget(groups);
+    told(ran, &sink)
+}
+
+/// Writes who holds which address at the end of a log.
+pub fn nodes(log: &[u8], bus: Option<Bus>, room: &mut [u8]) -> Result<LogText, Refusal>
+    ensures nodes { IfOk result (λ text. IsMade MakesNodes bus log.now text room.new) }
+    ensures fits { IfOk result (λ text. text.bytes < length room.new) }
+    ensures too_small { result ≡ Err TooSmall → Overflows MakesNodes bus log.now room.new }
+    ensures memory { result ≢ Err Memory }
+{
+    let mut source = LogBytes::new(log);
+    let mut sink = Room::new(room);
+    let ran = j39_listen::nodes(&mut source, &mut sink, bus, log.len() as u64);
+    told(ran, &sink)
+}
+
+/// What a run has counted, where its text has room.
+fn told(ran: Result<Counts, RunFault>, sink: &Room<'_>) -> Result<LogText, Refusal>
+    ensures counts { IfOk result (λ text. ran ≡ Ok (counts_in text)) }
+    ensures bytes { IfOk result (λ text. text.bytes ≡ written_in sink.now) }
+    ensures fits { IfOk result (λ text. text.bytes < room_in sink.now) }
+    ensures too_small { result ≡ Err TooSmall → HasNoRoom ran sink.now }
+    ensures memory { result ≡ Err Memory → ran ≡ Err fault.Memory }
+{
+    let bytes = sink.written();
+    match ran {
+        Ok(counts) if bytes < sink.room() => Ok(LogText {
+            frames: counts.frames,
+            other: counts.other,
+            unread: counts.unread,
+            messages: counts.messages,
+            lines: counts.lines,
+            bytes: bytes as u64,
+        }),
+        Err(RunFault::Memory) => Err(Refusal::Memory),
+        _ => Err(Refusal::TooSmall),
+    }
+}
+
+/// Writes the parameters that a report may hold.
+pub fn parameters(room: &mut [u8]) -> Result<LogText, Refusal>
+    ensures parameters { IfOk result (λ text. take text.bytes room.new ≡ parameters_text) }
+    ensures fits { IfOk result (λ text. text.bytes < length room.new) }
+    ensures too_small { result ≡ Err TooSmall → length room.new ≤ length parameters_text }
+    ensures memory { result ≢ Err Memory }
+{
+    let mut sink = Room::new(room);
+    let ran = match put_parameters(&mut sink) {
+        Ok(()) => Ok(Counts::default()),
+        Err(DeviceFault) => Err(RunFault::Write),
+    };
+    told(ran, &sink)
+}
