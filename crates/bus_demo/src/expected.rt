@@ -6,6 +6,17 @@ use std::alloc::{AllocError, Global};
 
 /// The report's lines: those of each message that became whole, in the order in which they did.
 pub(crate) fn expected_report(alloc: Global, book: &Book) -> Result<String, AllocError> {
+    let mut text = String::new(alloc);
+    for (micros, number) in whole_messages(alloc, book)?.iter() {
+        if let Some(message) = book.handed().get(*number) {
+            push_message(alloc, &mut text, *micros, message)?;
+        }
+    }
+    Ok(text)
+}
+
+/// The messages that became whole, in the order in which they did: the moment, in microseconds, and the number.
+pub(crate) fn whole_messages(alloc: Global, book: &Book) -> Result<Vec<(u64, usize)>, AllocError> {
     let mut order = Vec::new(alloc);
     for (number, message) in book.handed().iter().enumerate() {
         if let Fate::Whole(moment) = message.fate {
@@ -13,13 +24,7 @@ pub(crate) fn expected_report(alloc: Global, book: &Book) -> Result<String, Allo
         }
     }
     order.sort()?;
-    let mut text = String::new(alloc);
-    for (micros, number) in order.iter() {
-        if let Some(message) = book.handed().get(*number) {
-            push_message(alloc, &mut text, *micros, message)?;
-        }
-    }
-    Ok(text)
+    Ok(order)
 }
 
 /// The lines of the nodes: each controller that holds an address, by rising addresses.
@@ -37,6 +42,19 @@ pub(crate) fn expected_nodes(alloc: Global, bus: &Bus<'_>) -> Result<String, All
     Ok(text)
 }
 
+/// The stamp, the address and the NAME of a message, as a line begins.
+pub(crate) fn origin_text(
+    alloc: Global,
+    micros: u64,
+    message: &Handed,
+) -> Result<String, AllocError> {
+    let seconds = micros / 1_000_000;
+    let micros = micros % 1_000_000;
+    let address = message.address;
+    let name = message.name.raw();
+    format!(in alloc; "({seconds:010}.{micros:06}) {address:02X} {name:016X}")
+}
+
 /// The lines of one message.
 fn push_message(
     alloc: Global,
@@ -44,12 +62,9 @@ fn push_message(
     micros: u64,
     message: &Handed,
 ) -> Result<(), AllocError> {
-    let seconds = micros / 1_000_000;
-    let micros = micros % 1_000_000;
-    let address = message.address;
-    let name = message.name.raw();
     let pgn = message.pgn.raw();
-    let front = format!(in alloc; "({seconds:010}.{micros:06}) {address:02X} {name:016X} {pgn}")?;
+    let origin = origin_text(alloc, micros, message)?;
+    let front = format!(in alloc; "{origin} {pgn}")?;
     let mut lines = Lines {
         alloc,
         text,

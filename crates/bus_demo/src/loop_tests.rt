@@ -2,8 +2,11 @@
 use crate::book::{Book, Fate};
 use crate::bus::Bus;
 use crate::expected::{expected_nodes, expected_report};
+use crate::expected_faults::expected_faults;
 use crate::scenario::{COMPONENT, VIN, controllers};
 use j39_device::Told;
+use j39_fault_news::{Telling, faults};
+use j39_groups::Groups;
 use j39_listen::{nodes, run};
 use std::alloc::Global;
 use std::process::Abort;
@@ -46,8 +49,8 @@ fn played<'a>(alloc: Global, seed: u64, lose: &'a [u64]) -> Result<(Vec<u8>, Bus
     Ok((log, bus))
 }
 
-/// The report and the nodes of the log are those of the book, and what is done was delivered. Answers
-/// the outcome.
+/// The report, the nodes and the faults of the log are those of the book, and what is done was delivered.
+/// Answers the outcome.
 fn closes(rt: &(impl Abort + AllocGlobal), seed: u64, lose: &[u64]) -> Result<Outcome, Fail> {
     let alloc = rt.alloc();
     let (log, bus) = played(alloc, seed, lose)?;
@@ -77,6 +80,23 @@ fn closes(rt: &(impl Abort + AllocGlobal), seed: u64, lose: &[u64]) -> Result<Ou
     let want = expected_nodes(alloc, &bus)?;
     assert_eq!(rt;
         String::from_utf8_lossy(alloc, held.as_slice())?,
+        want,
+        "seed {seed}"
+    );
+    let mut told = Vec::new(alloc);
+    let ran = faults(
+        alloc,
+        &Groups::built_in(),
+        Telling::News,
+        &mut Told::new(log.as_slice()),
+        &mut Told::new(&mut told),
+        None,
+        LIMIT,
+    );
+    assert!(rt; ran.is_ok());
+    let want = expected_faults(alloc, bus.book())?;
+    assert_eq!(rt;
+        String::from_utf8_lossy(alloc, told.as_slice())?,
         want,
         "seed {seed}"
     );
@@ -159,6 +179,17 @@ fn ends(
 fn nothing_is_lost(rt: HostRuntime) -> Result<(), Fail> {
     for seed in SEEDS {
         assert_eq!(rt; closes(&rt, seed, &[])?, ALL_WELL, "seed {seed}");
+    }
+    Ok(())
+}
+
+/// The gearbox's faults are told: one, then three, then none.
+#[test]
+fn faults_become_news(rt: HostRuntime) -> Result<(), Fail> {
+    for seed in SEEDS {
+        let (_log, bus) = played(rt.alloc(), seed, &[])?;
+        let told = expected_faults(rt.alloc(), bus.book())?;
+        assert_eq!(rt; told.as_str().lines().count(), 5, "seed {seed}");
     }
     Ok(())
 }

@@ -7,6 +7,8 @@ mod bus;
 mod controller;
 #[cfg(test)]
 mod expected;
+#[cfg(test)]
+mod expected_faults;
 mod gauges;
 #[cfg(test)]
 mod loop_tests;

@@ -1,11 +1,11 @@
-//! What a controller sends: single frames again and again, and long messages.
+//! What a controller sends: single frames again and again, and planned messages, long ones among them.
 ghost use Rattle.std.specs.Prelude.{◌≡◌, ◌≢◌, ◌⊎◌, ◌+◌, ◌<◌, ◌≤◌, None, length};
 ghost use Rattle.std.specs.Result.{OnOk};
 ghost use Rattle.j39_frame.specs.Stamp.{stamp_micros};
 ghost use Rattle.bus_demo.specs.Silent.{IsIdle};
 
 use crate::book::{Book, Fate, Handed};
-use crate::gauges::Gauges;
+use crate::gauges::{Gauges, Group};
 use crate::outbox::{Outbox, Part};
 use crate::role::{Plan, Rate, Role};
 use j39_address::Name;
@@ -16,6 +16,9 @@ use std::alloc::{AllocError, Global};
 /// How long a transfer that failed is remembered, in microseconds. A receiver that hears nothing drops
 /// its session after three times 1,250 ms, and three of its turns.
 const QUIET: u64 = 4_000_000;
+
+/// The priority of a planned message of one frame, from 0 (first) to 7.
+const SLOW: u8 = 6;
 
 /// What sends a message that is on its way, and the message's number in the book.
 #[derive(Drop)]
@@ -31,11 +34,11 @@ pub(crate) struct Publisher {
     name: Name,
     gauges: Gauges,
     rates: [Rate; 3],
-    /// The long messages that are still to be begun.
+    /// The messages that are still to be begun.
     plans: &'static [Plan],
     broadcast: Option<Numbered<Broadcast<'static>>>,
     sender: Option<Numbered<Sender<'static>>>,
-    /// No long message begins before: a transfer that failed may have left its receiver with a session.
+    /// No planned message begins before: a transfer that failed may have left its receiver with a session.
     quiet_until: u64,
 }
 
@@ -63,7 +66,7 @@ impl Publisher {
         book: &mut Book,
     ) -> Result<(), AllocError> {
         self.measure(address, now, outbox, book)?;
-        self.begin(address, now, book)?;
+        self.begin(address, now, outbox, book)?;
         self.poll_broadcast(now, outbox)?;
         self.tick_sender(now, outbox, book)
     }
@@ -76,37 +79,60 @@ impl Publisher {
         outbox: &mut Outbox,
         book: &mut Book,
     ) -> Result<(), AllocError> {
-        for rate in self.rates.iter_mut() {
-            if now.micros() < rate.due {
+        for place in 0..self.rates.len() {
+            let Some(group) = self.due_group(place, now) else {
                 continue;
+            };
+            let Some(payload) = self.gauges.payload(group) else {
+                continue;
+            };
+            if let Some(frame) = frame_of(group.priority(), group.pgn(), address, &payload, now) {
+                self.send_single(frame, outbox, book)?;
             }
-            rate.due = now.micros().saturating_add(rate.period);
-            let Some(payload) = self.gauges.payload(rate.group) else {
-                continue;
-            };
-            let pgn = rate.group.pgn();
-            let Some(frame) = frame_of(rate.group.priority(), pgn, address, &payload, now) else {
-                continue;
-            };
-            let number = book.hand_in(Handed {
-                name: self.name,
-                address,
-                to: None,
-                pgn,
-                payload: Vec::from_slice(self.alloc, &payload)?,
-                fate: Fate::Open,
-            })?;
-            let part = Part {
-                number,
-                is_last: true,
-            };
-            outbox.push(frame, Some(part))?;
         }
         Ok(())
     }
 
-    /// Begins the next long message whose moment has come, one at a time.
-    fn begin(&mut self, address: u8, now: Stamp, book: &mut Book) -> Result<(), AllocError>
+    /// The group of this place, where it is due, and then not again before its period is over.
+    fn due_group(&mut self, place: usize, now: Stamp) -> Option<Group> {
+        let rate = self.rates.get_mut(place)?;
+        if now.micros() < rate.due {
+            return None;
+        }
+        rate.due = now.micros().saturating_add(rate.period);
+        Some(rate.group)
+    }
+
+    /// Hands in the message of one frame, and puts it into the outbox.
+    fn send_single(
+        &self,
+        frame: Frame,
+        outbox: &mut Outbox,
+        book: &mut Book,
+    ) -> Result<(), AllocError> {
+        let number = book.hand_in(Handed {
+            name: self.name,
+            address: frame.id.source(),
+            to: None,
+            pgn: frame.id.pgn(),
+            payload: Vec::from_slice(self.alloc, frame.bytes.as_slice())?,
+            fate: Fate::Open,
+        })?;
+        let part = Part {
+            number,
+            is_last: true,
+        };
+        outbox.push(frame, Some(part))
+    }
+
+    /// Begins the next planned message whose moment has come, one at a time.
+    fn begin(
+        &mut self,
+        address: u8,
+        now: Stamp,
+        outbox: &mut Outbox,
+        book: &mut Book,
+    ) -> Result<(), AllocError>
         ensures waits { stamp_micros now < self.old.quiet_until → self.new ≡ self.old }
         ensures one_at_a_time { (self.old.broadcast ≢ None) ⊎ (self.old.sender ≢ None) → self.new ≡ self.old }
     {
@@ -121,9 +147,24 @@ impl Publisher {
         let Some(pgn) = Pgn::new(plan.pgn) else {
             return Ok(());
         };
-        let Some(cut) = Cut::new(address, pgn, plan.payload) else {
-            return Ok(());
-        };
+        match Cut::new(address, pgn, plan.payload) {
+            Some(cut) => self.begin_long(cut, plan, pgn, address, book),
+            None => match frame_of(SLOW, pgn, address, plan.payload, now) {
+                Some(frame) => self.send_single(frame, outbox, book),
+                None => Ok(()),
+            },
+        }
+    }
+
+    /// Begins a message that is cut.
+    fn begin_long(
+        &mut self,
+        cut: Cut<'static>,
+        plan: &Plan,
+        pgn: Pgn,
+        address: u8,
+        book: &mut Book,
+    ) -> Result<(), AllocError> {
         let number = book.hand_in(Handed {
             name: self.name,
             address,

@@ -9,12 +9,12 @@ pub(crate) struct Rate {
     pub due: u64,
 }
 
-/// A message of 9 bytes or more that is to be sent at a moment, in microseconds, or as soon after it as
-/// the controller is free to.
+/// A message that is to be sent at a moment, in microseconds, or as soon after it as the controller is free
+/// to: in packets from 9 bytes on, and else in one frame to all.
 #[derive(Clone, Copy)]
 pub(crate) struct Plan {
     pub at: u64,
-    /// The address that it goes to; `None` for all.
+    /// The address that it goes to in packets; `None` for all.
     pub to: Option<u8>,
     pub pgn: u32,
     pub payload: &'static [u8],

@@ -3,7 +3,8 @@
 //! The engine takes address 00. A second later a rival with a smaller NAME claims it too, so that the
 //! engine moves to 80. The tool commands the gearbox to move from 03 to 05. Each of them sends engine
 //! speed, temperatures and distance. The engine broadcasts its vehicle's identification (VI), and the
-//! rival sends its component's (CI) to the tool.
+//! rival sends its component's (CI) to the tool. The gearbox says which of its fault codes are active
+//! (DM1): first one, then three, then none.
 use crate::controller::Controller;
 use crate::gauges::{Gauges, Group};
 use crate::role::{Plan, Rate, Role};
@@ -21,12 +22,26 @@ pub(crate) const COMMAND: &[u8] = &[0x03, 0x10, 0x40, 0x02, 0, 0, 0, 0x80, 0x05]
 /// The address of the tool.
 const TOOL: u8 = 0xF9;
 
-/// The groups of long messages: VI, CI and the commanded address.
+/// The groups of planned messages: VI, CI, the commanded address and DM1.
 const VEHICLE_IDENTIFICATION: u32 = 65_260;
 
 const COMPONENT_IDENTIFICATION: u32 = 65_259;
 
 const COMMANDED_ADDRESS: u32 = 65_240;
+
+const ACTIVE_FAULTS: u32 = 65_226;
+
+/// The amber lamp is on, and SPN 177 is above normal (FMI 0), for the first time.
+const ONE_FAULT: &[u8] = &[0x04, 0xFF, 177, 0, 0x00, 1, 0xFF, 0xFF];
+
+/// The red lamp flashes fast, and the amber one is on: SPN 177 is above normal for the second time, SPN 191 is
+/// erratic (FMI 2), and SPN 520201 is there (FMI 31), which isn't counted.
+const THREE_FAULTS: &[u8] = &[
+    0x14, 0xDF, 177, 0, 0x00, 2, 191, 0, 0x02, 1, 0x09, 0xF0, 0xFF, 0x7F,
+];
+
+/// All lamps are off, and no fault is there: SPN 0 and FMI 0 are none.
+const NO_FAULT: &[u8] = &[0x00, 0xFF, 0, 0, 0, 0, 0xFF, 0xFF];
 
 static ENGINE_PLANS: [Plan; 1] = [Plan {
     at: 1_600_000,
@@ -49,7 +64,26 @@ static TOOL_PLANS: [Plan; 1] = [Plan {
     payload: COMMAND,
 }];
 
-static NO_PLANS: [Plan; 0] = [];
+static GEARBOX_PLANS: [Plan; 3] = [
+    Plan {
+        at: 500_000,
+        to: None,
+        pgn: ACTIVE_FAULTS,
+        payload: ONE_FAULT,
+    },
+    Plan {
+        at: 1_200_000,
+        to: None,
+        pgn: ACTIVE_FAULTS,
+        payload: THREE_FAULTS,
+    },
+    Plan {
+        at: 1_900_000,
+        to: None,
+        pgn: ACTIVE_FAULTS,
+        payload: NO_FAULT,
+    },
+];
 
 /// The rates of the three groups, in microseconds.
 fn rates(engine: u64, temperatures: u64, distance: u64) -> [Rate; 3] {
@@ -91,7 +125,7 @@ fn gearbox() -> Role {
         preferred: 0x03,
         starts: 20_000,
         rates: rates(200_000, 1_000_000, 1_000_000),
-        plans: &NO_PLANS,
+        plans: &GEARBOX_PLANS,
     }
 }
 

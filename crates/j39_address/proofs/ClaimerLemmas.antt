@@ -12,7 +12,8 @@ use Rattle.j39_address.specs.Node.{Node, IsAt, IsFree, IsLeastFree, NoneFree, ad
 use Rattle.j39_address.specs.Node.NodeStatus.{Cannot}
 use Rattle.j39_address.specs.Call.{Call}
 use Rattle.j39_address.specs.NodeStep.{NodeStep}
-use Rattle.j39_address.specs.Claimer.{IsNode, MakesStep, status_of}
+use Rattle.j39_address.specs.Claimer.{IsNode, MakesStep, status_of, status_in}
+use Rattle.j39_address.specs.declared.status.State.{State}
 use Rattle.j39_address.specs.Claiming.{Says, IsLeastUnheld}
 use Rattle.j39_address.proofs.HolderLemmas.{same_holder}
 
@@ -30,7 +31,7 @@ says_step node m s new call now a frame e h says step = record {
   is_node = record {
     name = ap name_raw says.name ∙ h.name;
     preferred = says.preferred ∙ h.preferred;
-    status = ap status_of says.status ∙ h.status;
+    status = ap (λ (s : State). status_of (status_in s)) says.status ∙ h.status;
     moment = says.moment ∙ h.moment;
     claims = subst (λ (n : ℕ). StandsFor new.claims (with_claim m.claims n a)) h.name (says.noted m.claims h.claims);
   };

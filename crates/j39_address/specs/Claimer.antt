@@ -1,5 +1,6 @@
 -- The node that a claimer is, and what its calls are.
-use Rattle.std.specs.Prelude.{◌≡◌, ℕ, Option}
+use Rattle.std.specs.Prelude.{◌≡◌, ℕ, zero, suc, Option}
+use Rattle.j39_address.specs.declared.status.State.{State}
 use Rattle.std.specs.Option.{option_map}
 use Rattle.j39_frame.specs.Frame.{FrameRecord}
 use Rattle.j39_address.specs.declared.claimer.Claimer.{Claimer}
@@ -20,11 +21,27 @@ status_of (Claiming a) = node.Claiming a
 status_of (Holding a) = node.Holding a
 status_of Cannot = node.Cannot
 
+-- a status as two numbers
+abbrev pub status_by : ℕ → ℕ → Status
+status_by zero a = Idle
+status_by (suc zero) a = Claiming a
+status_by (suc (suc zero)) a = Holding a
+status_by (suc (suc (suc n))) a = Cannot
+
+abbrev pub status_in : State → Status
+status_in s = status_by s.kind s.address
+
+abbrev pub plain : Status → State
+plain Idle = record { kind = 0; address = 0 }
+plain (Claiming a) = record { kind = 1; address = a }
+plain (Holding a) = record { kind = 2; address = a }
+plain Cannot = record { kind = 3; address = 0 }
+
 -- the claimer is this node
 pub record IsNode (claimer : Claimer) (node : Node) : Type 0 where
   pub name : name_raw claimer.name ≡ node.name
   pub preferred : claimer.preferred ≡ node.preferred
-  pub status : status_of claimer.status ≡ node.status
+  pub status : status_of (status_in claimer.status) ≡ node.status
   pub moment : claimer.moment ≡ node.moment
   pub claims : StandsFor claimer.claims node.claims
 

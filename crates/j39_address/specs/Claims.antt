@@ -1,15 +1,28 @@
 -- What a table of holders stands for.
-use Rattle.std.specs.Prelude.{ℕ, List, get_or, Option, None}
+use Rattle.std.specs.Prelude.{ℕ, zero, suc, List, get_or, Option, None, Some}
 use Rattle.std.specs.Option.{option_map}
 use Rattle.j39_address.specs.declared.claims.Claims.{Claims}
+use Rattle.j39_address.specs.declared.claims.Place.{Place}
+use Rattle.j39_address.specs.declared.name.Name.{Name}
 use Rattle.j39_address.specs.Name.{name_raw}
 use Rattle.j39_frame.specs.Frame.{FrameRecord}
 use Rattle.j39_address.specs.Claim.{Claim, claims_of}
 use Rattle.j39_address.specs.Holder.{IsHolderAfter}
 
+-- the NAME at a place; 0 for none
+abbrev pub name_if : ℕ → Name → Option Name
+name_if zero n = None
+name_if (suc k) n = Some n
+
+abbrev pub name_at : Place → Option Name
+name_at p = name_if p.is_held p.name
+
+abbrev pub nobody : Place
+nobody = record { is_held = 0; name = record { bits = 0 } }
+
 -- the holder of a that the table has
 abbrev pub holder_in : Claims → ℕ → Option ℕ
-holder_in table a = option_map name_raw (get_or table.holders a None)
+holder_in table a = option_map name_raw (name_at (get_or table.holders a nobody))
 
 -- the table has, for each address, its holder after the claims
 abbrev pub StandsFor : Claims → List (Option Claim) → Type 0

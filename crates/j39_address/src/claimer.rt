@@ -10,12 +10,13 @@ ghost use Rattle.j39_address.specs.Node.{Node, IsCapable, address_of, idle_node}
 ghost use Rattle.j39_address.specs.Node.NodeStatus.{Idle, Cannot};
 ghost use Rattle.j39_address.specs.Call.{call_of};
 ghost use Rattle.j39_address.specs.Call.Call.{Start, Tick, Heard, Asked, Commanded};
-ghost use Rattle.j39_address.specs.Claimer.{IsNode, Steps, status_of};
+ghost use Rattle.j39_address.specs.Claimer.{IsNode, Steps, status_of, status_in, plain};
 ghost use Rattle.j39_address.specs.Claiming.{Says, IsLeastUnheld};
 ghost use Rattle.j39_address.specs.declared.status.Status.TheVariants as status;
 
 use crate::claim::claim_frame;
 use crate::request::request_of;
+use crate::status::State;
 use crate::{Claims, Name, Status, claim_of};
 use j39_frame::{Frame, GLOBAL_ADDRESS, NULL_ADDRESS, Stamp, is_address};
 
@@ -23,12 +24,14 @@ use j39_frame::{Frame, GLOBAL_ADDRESS, NULL_ADDRESS, Stamp, is_address};
 const CLAIM_TIME: u64 = 250_000;
 
 /// A node: a controller that claims an address and keeps it. Each of its calls is one step of the
-/// rules, and what a call answers is to be sent.
+/// rules, and what a call answers is to be sent. It is plain data, and each pattern of bits is one: so
+/// it may lie in memory that C hands in.
+#[repr(C)]
 #[derive(Drop)]
 pub struct Claimer {
     name: Name,
     preferred: u8,
-    status: Status,
+    status: State,
     moment: u64,
     claims: Claims,
 }
@@ -45,7 +48,7 @@ impl Claimer {
         Some(Claimer {
             name,
             preferred,
-            status: Status::Idle,
+            status: State::of(Status::Idle),
             moment: 0,
             claims: Claims::new(),
         })
@@ -62,14 +65,14 @@ impl Claimer {
     pub fn status(&self) -> Status
         ensures { (node : Node) → IsNode self.now node → status_of result ≡ node.status }
     {
-        self.status
+        self.status.status()
     }
 
     /// Claims the preferred address, where the node is idle; any other is started already.
     pub fn start(&mut self, now: Stamp) -> Option<Frame>
         ensures { Steps self.old Start (stamp_micros now) result self.new }
     {
-        match self.status {
+        match self.status.status() {
             Status::Idle => self.claim(self.preferred, now),
             _ => None,
         }
@@ -79,9 +82,9 @@ impl Claimer {
     pub fn tick(&mut self, now: Stamp)
         ensures { Steps self.old Tick (stamp_micros now) None self.new }
     {
-        if let Status::Claiming(address) = self.status {
+        if let Status::Claiming(address) = self.status.status() {
             if now.micros().saturating_sub(self.moment) >= CLAIM_TIME {
-                self.status = Status::Holding(address);
+                self.status = State::of(Status::Holding(address));
             }
         }
     }
@@ -157,7 +160,7 @@ impl Claimer {
     }
 
     fn is_at(&self, address: u8) -> bool
-        ensures { IsTrue result ↔ (address_of (status_of self.now.status) ≡ Some address) }
+        ensures { IsTrue result ↔ (address_of (status_of (status_in self.now.status)) ≡ Some address) }
     {
         match self.status.address() {
             Some(own) => own == address,
@@ -166,15 +169,15 @@ impl Claimer {
     }
 
     fn is_idle(&self) -> bool
-        ensures { IsTrue result ↔ (status_of self.now.status ≡ Idle) }
+        ensures { IsTrue result ↔ (status_of (status_in self.now.status) ≡ Idle) }
     {
-        matches!(self.status, Status::Idle)
+        matches!(self.status.status(), Status::Idle)
     }
 
     fn has_given_up(&self) -> bool
-        ensures { IsTrue result ↔ (status_of self.now.status ≡ Cannot) }
+        ensures { IsTrue result ↔ (status_of (status_in self.now.status) ≡ Cannot) }
     {
-        matches!(self.status, Status::Cannot)
+        matches!(self.status.status(), Status::Cannot)
     }
 
     /// The least address of 128 to 247 that nobody holds, where the NAME may claim another address
@@ -198,21 +201,21 @@ impl Claimer {
     /// Claims the address from now on.
     fn claim(&mut self, address: u8, now: Stamp) -> Option<Frame>
         ensures { Says (record self.old {
-          status = status.Claiming address;
+          status = plain (status.Claiming address);
           moment =
               stamp_micros now;
         }) self.new address (stamp_micros now) result }
     {
-        self.status = Status::Claiming(address);
+        self.status = State::of(Status::Claiming(address));
         self.moment = now.micros();
         self.say(address, now)
     }
 
     /// Has no address, and says so.
     fn give_up(&mut self, now: Stamp) -> Option<Frame>
-        ensures { Says (record self.old { status = status.Cannot }) self.new null_address (stamp_micros now) result }
+        ensures { Says (record self.old { status = plain status.Cannot }) self.new null_address (stamp_micros now) result }
     {
-        self.status = Status::Cannot;
+        self.status = State::of(Status::Cannot);
         self.say(NULL_ADDRESS, now)
     }
 

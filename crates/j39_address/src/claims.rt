@@ -7,7 +7,7 @@ ghost use Rattle.j39_address.specs.Name.{name_raw};
 ghost use Rattle.j39_address.specs.Claim.{Claim, claim_by, claims_of};
 ghost use Rattle.j39_address.specs.Holder.{IsHolderAfter};
 ghost use Rattle.j39_address.specs.Changes.{AreChanged};
-ghost use Rattle.j39_address.specs.Claims.{Knows, StandsFor, holder_in};
+ghost use Rattle.j39_address.specs.Claims.{Knows, StandsFor, holder_in, name_at, nobody};
 ghost use Rattle.j39_address.specs.Noting.{Leaves, Takes, in_order};
 
 use crate::{Name, claim_of};
@@ -17,10 +17,47 @@ use j39_frame::{Frame, NULL_ADDRESS, is_address};
 /// One place for each address that can be held.
 const PLACES: usize = 254;
 
-/// The holders of the addresses 0 to 253, by the claims so far.
+/// The holders of the addresses 0 to 253, by the claims so far. It is plain data, and each pattern of bits is one.
+#[repr(C)]
 #[derive(Drop)]
 pub struct Claims {
-    holders: [Option<Name>; PLACES],
+    holders: [Place; PLACES],
+}
+
+/// The holder of one address.
+#[repr(C)]
+#[derive(Clone, Copy)]
+struct Place {
+    /// 0 where nobody holds it.
+    is_held: u8,
+    name: Name,
+}
+
+impl Place {
+    fn of(name: Name) -> Place
+        ensures { name_at result ≡ Some name }
+    {
+        Place { is_held: 1, name }
+    }
+
+    fn nobody() -> Place
+        ensures { result ≡ nobody }
+    {
+        Place {
+            is_held: 0,
+            name: Name::new(0),
+        }
+    }
+
+    fn holder(self) -> Option<Name>
+        ensures { result ≡ name_at self }
+    {
+        if self.is_held == 0 {
+            None
+        } else {
+            Some(self.name)
+        }
+    }
 }
 
 impl Claims {
@@ -29,7 +66,7 @@ impl Claims {
         ensures { Knows result [] }
     {
         Claims {
-            holders: [None; PLACES],
+            holders: [Place::nobody(); PLACES],
         }
     }
 
@@ -41,7 +78,7 @@ impl Claims {
             → IsHolderAfter (claims_of F) address (option_map name_raw result) }
     {
         if is_address(address) {
-            self.holders[usize::from(address)]
+            self.holders[usize::from(address)].holder()
         } else {
             None
         }
@@ -82,7 +119,7 @@ impl Claims {
             return None;
         }
         let held = self.address_of(name)?;
-        self.holders[usize::from(held)] = None;
+        self.holders[usize::from(held)] = Place::nobody();
         Some(held)
     }
 
@@ -107,12 +144,12 @@ impl Claims {
             return None;
         }
         let place = usize::from(address);
-        if let Some(held) = self.holders[place] {
+        if let Some(held) = self.holders[place].holder() {
             if held.raw() <= name.raw() {
                 return None;
             }
         }
-        self.holders[place] = Some(name);
+        self.holders[place] = Place::of(name);
         Some(address)
     }
 }

@@ -6,6 +6,7 @@ ghost use Rattle.j39_address.specs.Name.{AreNameFields, fields_of, name_fields, 
 use byteorder::{ByteOrder, LittleEndian};
 
 /// The 64-bit NAME of a controller. The numerically smaller one wins a contest.
+#[repr(C)]
 #[derive(Clone, Copy, Debug, PartialEq, Eq, PartialOrd, Ord)]
 pub struct Name {
     bits: u64,

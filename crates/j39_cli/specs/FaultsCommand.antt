@@ -1,5 +1,5 @@
 -- The command `faults [--bus B] [--table T] [--all] [FILE]`.
-use Rattle.std.specs.Prelude.{◌≡◌, ◌++◌, ℕ, Bool, false, List, Option, codes}
+use Rattle.std.specs.Prelude.{◌≡◌, ◌++◌, ℕ, Bool, List, Option, codes}
 use Rattle.std.specs.Prelude.{if◌then◌else◌}
 use Rattle.clap.specs.Words.{App, Text, first_of, new_app, with_rule}
 use Rattle.j39_fault_news.specs.Asking.{AsksForFaults}
@@ -9,13 +9,12 @@ use Rattle.j39_fault_news.specs.declared.telling.Telling.TheVariants.{News, All}
 use Rattle.j39_cli.specs.Answer.{IsBusChecked, IsTask}
 use Rattle.j39_cli.specs.Form.{Form, IsValueIfGiven, Meaning, flag_words, option_words, value_words}
 use Rattle.j39_cli.specs.LogCommand.{runs, with_log}
-use Rattle.j39_cli.specs.Rules.{flag_rule, is_given, option_rule}
+use Rattle.j39_cli.specs.Rules.{flag_rule, is_given, with_table}
 use Rattle.j39_cli.specs.declared.task.Task.{Task}
 use Rattle.j39_cli.specs.declared.task.Task.TheVariants.{Faults}
 
 abbrev pub faults_app : App
-faults_app =
-    with_log (with_rule (with_rule (new_app (codes "faults")) (option_rule (codes "table") false)) (flag_rule (codes "all")))
+faults_app = with_log (with_rule (with_table (new_app (codes "faults"))) (flag_rule (codes "all")))
 
 abbrev pub telling_of : Bool → Telling
 telling_of all = if all then All else News

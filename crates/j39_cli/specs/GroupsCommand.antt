@@ -1,15 +1,15 @@
 -- The command `groups [--table T]`.
-use Rattle.std.specs.Prelude.{◌≡◌, ℕ, false, List, Option, codes}
-use Rattle.clap.specs.Words.{App, Text, first_of, new_app, with_rule}
+use Rattle.std.specs.Prelude.{◌≡◌, ℕ, List, Option, codes}
+use Rattle.clap.specs.Words.{App, Text, first_of, new_app}
 use Rattle.j39_groups.specs.Printed.{rows_text}
 use Rattle.j39_cli.specs.Answer.{IsTask}
 use Rattle.j39_cli.specs.Form.{Form, IsValueIfGiven, Meaning, option_words, shows}
-use Rattle.j39_cli.specs.Rules.{option_rule}
+use Rattle.j39_cli.specs.Rules.{with_table}
 use Rattle.j39_cli.specs.declared.task.Task.{Task}
 use Rattle.j39_cli.specs.declared.task.Task.TheVariants.{Groups}
 
 abbrev pub groups_app : App
-groups_app = with_rule (new_app (codes "groups")) (option_rule (codes "table") false)
+groups_app = with_table (new_app (codes "groups"))
 
 abbrev pub IsGroupsTask : Option (List ℕ) → Task → Type 0
 IsGroupsTask table (Groups table') = table' ≡ table

@@ -15,7 +15,7 @@ use Rattle.j39_cli.specs.Answer.{IsBusChecked, IsSpnChecked, IsTask}
 use Rattle.j39_cli.specs.Form.{Form, IsValueIfGiven, Meaning, flag_words, option_words, value_words}
 use Rattle.j39_cli.specs.LogCommand.{IsRun, Makes, fault_text, opened_of, with_log}
 use Rattle.j39_cli.specs.Refusal.{error_line}
-use Rattle.j39_cli.specs.Rules.{flag_rule, is_given, option_rule}
+use Rattle.j39_cli.specs.Rules.{flag_rule, is_given, option_rule, with_table}
 use Rattle.j39_cli.specs.Spns.{spns_in}
 use Rattle.j39_cli.specs.Turn.{Turn, Writes}
 use Rattle.j39_cli.specs.declared.task.Format.{Format}
@@ -27,8 +27,8 @@ use Rattle.j39_cli.specs.declared.task.Task.TheVariants.{Report}
 
 abbrev pub report_app : App
 report_app =
-    with_log (with_rule (with_rule (with_rule (new_app (codes "report")) (option_rule (codes "table") false))
-    (option_rule (codes "spn") false)) (flag_rule (codes "csv")))
+    with_log (with_rule (with_rule (with_table (new_app (codes "report"))) (option_rule (codes "spn") false))
+    (flag_rule (codes "csv")))
 
 abbrev pub format_of : Bool → Format
 format_of csv = if csv then Csv else Lines

@@ -1,6 +1,6 @@
 -- What clap is told of arguments.
 use Rattle.std.specs.Prelude.{Bool, false, Option, None, Some, bytes_eq, codes}
-use Rattle.clap.specs.Words.{Rule, Text, new_rule}
+use Rattle.clap.specs.Words.{App, Rule, Text, new_rule, with_rule}
 use Rattle.clap.specs.declared.builder.action.ArgAction.TheVariants.{SetTrue}
 
 -- `--name VALUE`
@@ -19,3 +19,7 @@ flag_rule name = record (new_rule name) { long = Some name; action = Some SetTru
 abbrev pub is_given : Option Text → Bool
 is_given None = false
 is_given (Some text) = bytes_eq text (codes "true")
+
+-- a command that goes by a table of parameters takes `--table`
+abbrev pub with_table : App → App
+with_table command = with_rule command (option_rule (codes "table") false)

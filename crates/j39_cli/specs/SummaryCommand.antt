@@ -1,16 +1,16 @@
 -- The command `summary [--bus B] [--table T] [FILE]`.
-use Rattle.std.specs.Prelude.{◌≡◌, ◌++◌, ℕ, false, List, Option, codes}
-use Rattle.clap.specs.Words.{App, Text, first_of, new_app, with_rule}
+use Rattle.std.specs.Prelude.{◌≡◌, ◌++◌, ℕ, List, Option, codes}
+use Rattle.clap.specs.Words.{App, Text, first_of, new_app}
 use Rattle.j39_summary.specs.Summaries.{AsksForRows, MakesSummary}
 use Rattle.j39_cli.specs.Answer.{IsBusChecked, IsTask}
 use Rattle.j39_cli.specs.Form.{Form, IsValueIfGiven, Meaning, option_words, value_words}
 use Rattle.j39_cli.specs.LogCommand.{runs, with_log}
-use Rattle.j39_cli.specs.Rules.{option_rule}
+use Rattle.j39_cli.specs.Rules.{with_table}
 use Rattle.j39_cli.specs.declared.task.Task.{Task}
 use Rattle.j39_cli.specs.declared.task.Task.TheVariants.{Summary}
 
 abbrev pub summary_app : App
-summary_app = with_log (with_rule (new_app (codes "summary")) (option_rule (codes "table") false))
+summary_app = with_log (with_table (new_app (codes "summary")))
 
 abbrev pub IsSummaryTask : Option (List ℕ) → Option (List ℕ) → Option (List ℕ) → Task → Type 0
 IsSummaryTask bus table file (Summary bus' table' file') = (bus' ≡ bus) × (table' ≡ table) × (file' ≡ file)

@@ -10,14 +10,14 @@ use Rattle.j39_cli.specs.Answer.{IsTask}
 use Rattle.j39_cli.specs.Form.{Form, IsValueIfGiven, Meaning, option_words, value_words}
 use Rattle.j39_cli.specs.LogCommand.{fault_text, log_limit, opened_of}
 use Rattle.j39_cli.specs.Refusal.{error_line}
-use Rattle.j39_cli.specs.Rules.{option_rule, value_rule}
+use Rattle.j39_cli.specs.Rules.{value_rule, with_table}
 use Rattle.j39_cli.specs.Turn.{IsUnmarked, Turn, Writes}
 use Rattle.j39_cli.specs.declared.task.Task.{Task}
 use Rattle.j39_cli.specs.declared.task.Task.TheVariants.{Survey}
 
 abbrev pub survey_app : App
 survey_app =
-    with_rule (with_rule (new_app (codes "survey")) (option_rule (codes "table") false)) (value_rule (codes "file") false)
+    with_rule (with_table (new_app (codes "survey"))) (value_rule (codes "file") false)
 
 abbrev pub IsSurveyTask : Option (List ℕ) → Option (List ℕ) → Task → Type 0
 IsSurveyTask table file (Survey table' file') = (table' ≡ table) × (file' ≡ file)

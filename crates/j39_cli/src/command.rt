@@ -1,9 +1,9 @@
 //! What clap is told of the whole command line; each command tells its own.
-ghost use Rattle.std.specs.Prelude.{◌≡◌, IfOk, codes, false};
+ghost use Rattle.std.specs.Prelude.{◌≡◌, IfOk, false};
 ghost use Rattle.clap.specs.Words.{app_of, rule_of, with_rule, with_subcommand};
 ghost use Rattle.clap.specs.declared.builder.command.Command.TheViews.{out-Command as settings_of};
 ghost use Rattle.j39_cli.specs.Command.{bare_app, line_app};
-ghost use Rattle.j39_cli.specs.Rules.{flag_rule, option_rule, value_rule};
+ghost use Rattle.j39_cli.specs.Rules.{flag_rule, option_rule, value_rule, with_table};
 
 use crate::{answer, cut, faults, groups, id, name, nodes, report, summary, survey};
 use clap::{Arg, ArgAction, Command};
@@ -66,7 +66,7 @@ fn bare<'a>(alloc: Global) -> Command<'a>
 
 /// The command with `--table T`, which each takes that goes by a table of parameters.
 pub(crate) fn with_table<'a>(alloc: Global, command: Command<'a>) -> Result<Command<'a>, AllocError>
-    ensures app { IfOk result (λ c. app_of c ≡ with_rule (app_of command.entry) (option_rule (codes "table") false)) }
+    ensures app { IfOk result (λ c. app_of c ≡ with_table (app_of command.entry)) }
     ensures local { IfOk result (λ c. (settings_of c).has_globals ≡ (settings_of command.entry).has_globals) }
 {
     let help = "The parameters to read: a file of lines as `groups` writes them, or trucks";

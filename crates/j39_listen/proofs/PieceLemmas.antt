@@ -1,10 +1,9 @@
 -- A run over pieces of a log.
 use Rattle.std.proofs.Common.{◌≡◌, ◌≢◌, ◌+◌, ℕ, List, [], ◌∷◌, ◌++◌, Option, length, take, sym, ap, ◌∙◌, subst, arith, append-nil, append_assoc, take_all, inl, inr, refl}
 use Rattle.std.proofs.Math.Seq.{take-append-add}
-use Rattle.std.specs.Io.KnownBytes.{Keeps}
-use Rattle.std.specs.Prelude.{IfOk, OnErr, OnOk, Result, Ok, Err}
+use Rattle.std.specs.Io.KnownBytes.{Consumes, IsAtEnd, Keeps}
+use Rattle.std.specs.Prelude.{IfOk, IfSome, None, OnErr, OnOk, Result, Ok, Err, Some}
 use Rattle.j39_text.specs.Chars.{newline}
-use Rattle.j39_frame.specs.Frame.{FrameRecord}
 use Rattle.j39_log.specs.Log.{HasNoNewline, IsLog}
 use Rattle.j39_log.specs.Spelled.{Spelled, Spells}
 use Rattle.j39_log.specs.Splitter.{EndsLine, HasBegun, IsRawLine}
@@ -14,9 +13,9 @@ use Rattle.j39_device.proofs.DeviceLemmas.{Appends-kept}
 use Rattle.j39_log.proofs.SplitterLemmas.{no_newline_append}
 use Rattle.j39_listen.specs.AccountSteps.{Begins}
 use Rattle.j39_listen.specs.LineSteps.{IsSpelling}
-use Rattle.j39_listen.specs.Output.{Output, Making, Meeting}
+use Rattle.j39_listen.specs.Output.{Making, Meeting}
 use Rattle.j39_listen.specs.PieceSteps.{HasMetAll, HasTaken, ReadsLast, ReadsLine, StepsOver, StopsAt, StopsIn, StopsLast, WritesAll, WritesSome}
-use Rattle.j39_listen.specs.Run.{Writes, WritesFront}
+use Rattle.j39_listen.specs.Run.{Writes, WritesFront, WritesFrontOfMore}
 use Rattle.j39_listen.specs.declared.account.LineFault.{LineFault}
 use Rattle.j39_listen.specs.declared.account.LineFault.TheVariants.{Memory, Write}
 use Rattle.j39_listen.specs.declared.counts.Counts.{Counts}
@@ -92,7 +91,7 @@ TakesBytes has_met run run' bytes old new =
 
 abbrev pub StopsBytes : {A : Type 0} → Meeting A → Making → Pieces A → List ℕ → Option (List ℕ) → Option (List ℕ) → Type 0
 StopsBytes has_met makes run bytes old new =
-    (given : Option (List ℕ)) (taken : List ℕ) (held : Option (List ℕ)) → HasTaken has_met given taken run held old → WritesFront makes given (taken ++ bytes) held new
+    (given : Option (List ℕ)) (taken : List ℕ) (held : Option (List ℕ)) → HasTaken has_met given taken run held old → WritesFrontOfMore makes given (taken ++ bytes) held new
 
 pub takes_then_takes : {A : Type 0} (has_met : Meeting A) (run run' run'' : Pieces A) (done rest : List ℕ) (n : ℕ) (a b c : Option (List ℕ)) → TakesBytes has_met run run' done a b
     → ((begun : List ℕ) → HasBegun run'.splitter begun → StepsOver has_met begun rest n run''.splitter run'.lines run''.lines b c)
@@ -101,26 +100,71 @@ takes_then_takes has_met run run' run'' done rest n a b c takes steps = λ given
     subst (λ t. HasTaken has_met given t run'' held c) (append_assoc taken done (take n rest))
     (takes_more has_met given (taken ++ done) rest n run' run'' held b c (takes given taken held h) steps)
 
+-- a line that is ended is so before more bytes
+stops_more : {A : Type 0} (has_met : Meeting A) (makes : Making) (begun bytes more : List ℕ) (p : Lines A) (a b : Option (List ℕ))
+    → StopsIn has_met makes begun bytes p a b → StopsIn has_met makes begun (bytes ++ more) p a b
+stops_more has_met makes begun bytes more p a b k =
+    let e = k.ends in
+    let is = ap (λ t. t ++ more) e.takes.bytes_are ∙ append_assoc e.front (newline ∷ e.rest) more in
+    record {
+      line = k.line;
+      n = k.n;
+      ends = record {
+        front = e.front;
+        rest = e.rest ++ more;
+        takes = record { bytes_are = is; whole = e.takes.whole };
+        taken_is = e.taken_is;
+        line_is = e.line_is;
+      };
+      spelled = k.spelled;
+      spells = k.spells;
+      stops = k.stops;
+    }
+
+-- the bytes before, those of the piece, and more
+joined : (taken done rest piece more : List ℕ) → piece ≡ done ++ rest → (taken ++ done) ++ (rest ++ more) ≡ (taken ++ piece) ++ more
+joined taken done rest piece more is =
+    sym (append_assoc (taken ++ done) rest more) ∙ ap (λ t. t ++ more) (append_assoc taken done rest ∙ ap (λ t. taken ++ t) (sym is))
+
 -- a fault of the writer
 pub takes_then_stops : {A : Type 0} (has_met : Meeting A) (makes : Making) (run run' : Pieces A) (done rest piece : List ℕ) (a b c : Option (List ℕ)) → piece ≡ done ++ rest
     → TakesBytes has_met run run' done a b → ((begun : List ℕ) → HasBegun run'.splitter begun → StopsIn has_met makes begun rest run'.lines b c)
     → StopsBytes has_met makes run piece a c
-takes_then_stops has_met makes run run' done rest piece a b c is takes stops = λ given taken held h.
+takes_then_stops has_met makes run run' done rest piece a b c is takes stops = λ given taken held h more.
     let t = takes given taken held h in
-    subst (λ t. WritesFront makes given t held c) (append_assoc taken done rest ∙ ap (λ t. taken ++ t) (sym is))
-    (stops_in has_met makes given (taken ++ done) t.begun rest _ held b c t.has_read t.begins.whole (stops t.begun t.begins))
+    subst (λ t. WritesFront makes given t held c) (joined taken done rest piece more is)
+    (stops_in has_met makes given (taken ++ done) t.begun (rest ++ more) _ held b c t.has_read t.begins.whole (stops_more has_met makes t.begun rest more _ b c (stops t.begun t.begins)))
 
 -- want of memory, which writes nothing
 pub takes_then_none : {A : Type 0} (has_met : Meeting A) (makes : Making) → Begins has_met makes → (run run' : Pieces A) (done rest piece : List ℕ) (a b c : Option (List ℕ)) → piece ≡ done ++ rest
     → TakesBytes has_met run run' done a b → c ≡ b → StopsBytes has_met makes run piece a c
-takes_then_none has_met makes begins run run' done rest piece a b c is takes none = λ given taken held h.
-    subst (λ t. WritesFront makes given t held c) (append_assoc taken done rest ∙ ap (λ t. taken ++ t) (sym is))
-    (subst (WritesFront makes given ((taken ++ done) ++ rest) held) (sym none) (front_of_more has_met makes begins given (taken ++ done) rest run' held b (takes given taken held h)))
+takes_then_none has_met makes begins run run' done rest piece a b c is takes none = λ given taken held h more.
+    subst (λ t. WritesFront makes given t held c) (joined taken done rest piece more is)
+    (subst (WritesFront makes given ((taken ++ done) ++ (rest ++ more)) held) (sym none) (front_of_more has_met makes begins given (taken ++ done) (rest ++ more) run' held b (takes given taken held h)))
 
 pub takes_then_keeps : {A : Type 0} (has_met : Meeting A) (makes : Making) → Begins has_met makes → (run run' : Pieces A) (piece : List ℕ) (a b c : Option (List ℕ))
     → TakesBytes has_met run run' piece a b → Keeps b c → StopsBytes has_met makes run piece a c
-takes_then_keeps has_met makes begins run run' piece a b c takes keeps = λ given taken held h.
-    front_kept makes given (taken ++ piece) held b c (front_of_taken has_met makes begins given (taken ++ piece) run' held b (takes given taken held h)) keeps
+takes_then_keeps has_met makes begins run run' piece a b c takes keeps = λ given taken held h more.
+    front_kept makes given ((taken ++ piece) ++ more) held b c (front_of_more has_met makes begins given (taken ++ piece) more run' held b (takes given taken held h)) keeps
+
+-- ---- of the whole log
+
+pub front_of_no_more : (makes : Making) (given : Option (List ℕ)) (taken : List ℕ) (old new : Option (List ℕ)) → WritesFrontOfMore makes given taken old new → WritesFront makes given taken old new
+front_of_no_more makes given taken old new h = subst (λ t. WritesFront makes given t old new) (append-nil taken) (h [])
+
+-- the bytes that were taken are all, with those that are left
+pub front_of_all : (makes : Making) (given remaining remaining' : Option (List ℕ)) (taken : List ℕ) (old new : Option (List ℕ))
+    → Consumes remaining remaining' taken → WritesFrontOfMore makes given taken old new → IfSome remaining (λ log. WritesFront makes given log old new)
+front_of_all makes given None remaining' taken old new consumed h = tt
+front_of_all makes given (Some log) None taken old new consumed h = absurd consumed
+front_of_all makes given (Some log) (Some rest) taken old new consumed h = subst (λ t. WritesFront makes given t old new) (sym consumed) (h rest)
+
+pub front_of_whole : (makes : Making) (given remaining remaining' : Option (List ℕ)) (taken : List ℕ) (old new : Option (List ℕ))
+    → Consumes remaining remaining' taken → IsAtEnd remaining' → WritesFront makes given taken old new → IfSome remaining (λ log. WritesFront makes given log old new)
+front_of_whole makes given None remaining' taken old new consumed end h = tt
+front_of_whole makes given (Some log) None taken old new consumed end h = absurd consumed
+front_of_whole makes given (Some log) (Some rest) taken old new consumed end h =
+    subst (λ t. WritesFront makes given t old new) (sym (consumed ∙ ap (λ t. taken ++ t) end ∙ append-nil taken)) h
 
 abbrev pub FrontAtEnd : {A : Type 0} → Meeting A → Making → Pieces A → Option (List ℕ) → Option (List ℕ) → Type 0
 FrontAtEnd has_met makes run old new =
@@ -195,6 +239,9 @@ if_ok (Err e) P R f p = tt
 pub on_err_from : {T E : Type 0} (r : Result T E) (P Q : Type 0) → (P → Q) → OnErr r P → OnErr r Q
 on_err_from (Ok x) P Q f h = tt
 on_err_from (Err e) P Q f h = f h
+
+pub at_fault : {T E : Type 0} {r : Result T E} {fault : E} {P : Type 0} → r ≡ Err fault → OnErr r P → P
+at_fault {P = P} is h = subst (λ r. OnErr r P) is h
 
 pub stops_line : {A : Type 0} (has_met : Meeting A) (makes : Making) (begun bytes : List ℕ) (n : ℕ) (raw : RawLine) (s : Spelled) (p : Lines A) (a b : Option (List ℕ))
     → (line : List ℕ) × EndsLine begun bytes line n × IsRawLine raw line → ((line : List ℕ) → IsRawLine raw line → Spells line s)

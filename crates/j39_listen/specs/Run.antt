@@ -31,6 +31,10 @@ WritesFront makes given taken old new =
     (spelled : List Spelled) (output : Output) → IsLog taken spelled
     → makes (run_bus given spelled) (frames_of given spelled) output → AppendsFront old new output.text
 
+-- and so of these bytes and whatever follows them
+abbrev pub WritesFrontOfMore : Making → Option (List ℕ) → List ℕ → Option (List ℕ) → Option (List ℕ) → Type 0
+WritesFrontOfMore makes given taken old new = (more : List ℕ) → WritesFront makes given (taken ++ more) old new
+
 -- a run that stopped took these bytes of its source, and wrote a front of what is made of them
 pub record StopsWithin (makes : Making) (given remaining remaining' old new : Option (List ℕ)) : Type 0 where
   pub taken : List ℕ

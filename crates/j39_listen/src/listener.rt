@@ -1,5 +1,5 @@
 //! A listener on a bus (J1939-21, 5.10; J1939-81, 4.2).
-ghost use Rattle.std.specs.Prelude.{◌≡◌, ◌≤◌, ◌*◌, ◌++◌, ◌∷◌, [], ℕ, Bool, true, false, List, Option, None, IfOk, OnOk, OnErr, MatchResult, length};
+ghost use Rattle.std.specs.Prelude.{◌≡◌, ◌≤◌, ◌*◌, ◌++◌, ◌∷◌, [], ℕ, Bool, true, false, List, Option, None, IfOk, IfSome, OnOk, OnErr, MatchResult, length};
 ghost use Rattle.std.specs.Option.{option_map};
 ghost use Rattle.std.specs.Borrow.{sem};
 ghost use Rattle.std.specs.Io.BufRead.{Rests};
@@ -53,6 +53,7 @@ impl Listener {
     pub fn feed<'a>(&'a mut self, frame: &'a Frame) -> Result<Option<Heard<'a>>, AllocError>
         ensures heard { IfOk result (λ heard. (F : List FrameRecord) → Hears self.old F
             → HeardAt the_table (F ++ frame.now ∷ []) (length F) (option_map hearing_of heard)) }
+        ensures short { IfOk result (λ heard. IfSome heard (λ h. length h.message.payload.now ≤ 1785)) }
         ensures refused { OnErr result (IsAnnouncement frame.now) }
         ensures wanted { OnErr result ((F : List FrameRecord) → Hears self.old F → WantsMemoryBehind F frame.now) }
         ensures* after { sem 𝓛 (Rests the_row self.entry (λ n. MatchResult result
@@ -72,6 +73,7 @@ impl Listener {
     ) -> Result<Option<Heard<'a>>, AllocError>
         ensures heard { IfOk result (λ heard. (F : List FrameRecord) → Hears self.old F
             → HeardAt groups.now (F ++ frame.now ∷ []) (length F) (option_map hearing_of heard)) }
+        ensures short { IfOk result (λ heard. IfSome heard (λ h. length h.message.payload.now ≤ 1785)) }
         ensures refused { OnErr result (IsAnnouncement frame.now) }
         ensures wanted { OnErr result ((F : List FrameRecord) → Hears self.old F → WantsMemoryBehind F frame.now) }
         ensures* after { sem 𝓛 (Rests the_row self.entry (λ n. MatchResult result
@@ -94,6 +96,7 @@ impl Listener {
         ensures heard { IfOk result (λ heard. (singles : ℕ → Bool) → LeavesNetwork singles
             → singles (pgn_of frame.now.id) ≡ is_single → (F : List FrameRecord) → Hears self.old F
             → HeardAtWith singles (F ++ frame.now ∷ []) (length F) (option_map hearing_of heard)) }
+        ensures short { IfOk result (λ heard. IfSome heard (λ h. length h.message.payload.now ≤ 1785)) }
         ensures refused { OnErr result (IsAnnouncement frame.now) }
         ensures wanted { OnErr result ((F : List FrameRecord) → Hears self.old F → WantsMemoryBehind F frame.now) }
         ensures* after { sem 𝓛 (Rests the_row self.entry (λ n. MatchResult result
@@ -136,6 +139,7 @@ impl Listener {
         ensures heard { IfOk result (λ heard. (singles : ℕ → Bool) → LeavesNetwork singles → IsMany singles frame.now
             → (F : List FrameRecord) → Hears self.old F
             → HeardAtWith singles (F ++ frame.now ∷ []) (length F) (option_map hearing_of heard)) }
+        ensures short { IfOk result (λ heard. IfSome heard (λ h. length h.message.payload.now ≤ 1785)) }
         ensures refused { OnErr result (IsAnnouncement frame.now) }
         ensures wanted { OnErr result ((F : List FrameRecord) → Hears self.old F → WantsMemoryBehind F frame.now) }
         ensures* after { sem 𝓛 (Rests the_row self.entry (λ n. MatchResult result
@@ -179,7 +183,8 @@ impl Listener {
 /// A frame as a message by itself; `None` from the null and the global address.
 #[inline(always)]
 fn alone(frame: &Frame, name: Option<Name>) -> Option<Heard<'_>>
-    ensures { option_map hearing_of result ≡ heard_alone frame.now (option_map name_raw name) }
+    ensures value { option_map hearing_of result ≡ heard_alone frame.now (option_map name_raw name) }
+    ensures short { IfSome result (λ h. length h.message.payload.now ≤ 1785) }
 {
     let source = frame.id.source();
     if !is_address(source) {

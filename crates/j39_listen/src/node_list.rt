@@ -11,7 +11,7 @@ ghost use Rattle.j39_listen.specs.Headed.{MakesNodeRecords};
 ghost use Rattle.j39_listen.specs.Output.{MakesNodes, nodes_of};
 ghost use Rattle.j39_listen.specs.Report.{name_text};
 ghost use Rattle.hex.specs.Hex.{encode_upper};
-ghost use Rattle.j39_listen.specs.Run.{StopsAtLimit, StopsWithin, TakesWithin, Writes};
+ghost use Rattle.j39_listen.specs.Run.{StopsAtLimit, StopsWithin, TakesWithin, Writes, WritesFront};
 ghost use Rattle.j39_listen.specs.declared.running.RunFault.TheVariants.{Memory, Read, Write, TooLong};
 
 use crate::Counts;
@@ -58,6 +58,10 @@ pub fn nodes<R: Source, W: Sink>(
     ensures flushed { OnOk result (W.is_flushed sink.new ≡ true) }
     ensures flushed_at_reads { (result ≡ Err Read) ⊎ (result ≡ Err TooLong)
         → W.is_flushed sink.old ≡ true → W.is_flushed sink.new ≡ true }
+
+    // What was written before a fault of the writer is a front of what is written for the whole log.
+    ensures cut_short { result ≡ Err Write → IfSome (R.remaining source.old)
+        (λ log. WritesFront MakesNodes bus log (W.held sink.old) (W.held sink.new)) }
 
     // What was written before a fault is a front of what is written for the bytes that were read.
     ensures prefix { OnErr result (StopsWithin MakesNodes bus (R.remaining source.old) (R.remaining source.new)

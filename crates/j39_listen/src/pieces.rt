@@ -7,7 +7,7 @@ ghost use Rattle.j39_listen.specs.Asking.{AsksAmong};
 ghost use Rattle.j39_listen.specs.AskSteps.{AsksIn, AsksLast};
 ghost use Rattle.j39_listen.specs.PieceSteps.{AtStart, Behind, HasMetAll, HasTaken, ReadsLast, StepsOver};
 ghost use Rattle.j39_listen.specs.PieceSteps.{StopsIn, StopsLast, WritesAll, WritesSome};
-ghost use Rattle.j39_listen.specs.Run.{Writes, WritesFront};
+ghost use Rattle.j39_listen.specs.Run.{Writes, WritesFront, WritesFrontOfMore};
 ghost use Rattle.j39_listen.specs.declared.account.LineFault.TheVariants.{Memory, Write};
 
 use crate::Counts;
@@ -47,7 +47,7 @@ impl<A: Account> Pieces<A> {
             (λ given taken held. HasTaken (A.has_met subject) given (taken ++ piece.now) self.new held
             (W.held sink.new))) }
         ensures front { OnErr result ((subject : A.Subject) → Behind (A.has_met subject) self.old (W.held sink.old)
-            (λ given taken held. WritesFront (A.makes subject) given (taken ++ piece.now) held (W.held sink.new))) }
+            (λ given taken held. WritesFrontOfMore (A.makes subject) given (taken ++ piece.now) held (W.held sink.new))) }
         ensures write { result ≡ Err Write → W.has_failed sink.new ≡ true }
         ensures unmarked { result ≢ Err Write → W.has_failed sink.new ≡ W.has_failed sink.old }
         ensures flushed { OnOk result (W.is_flushed sink.new ≡ true) }
@@ -71,7 +71,7 @@ impl<A: Account> Pieces<A> {
             (λ given taken held. HasTaken (A.has_met subject) given (taken ++ piece.now) self.new held
             (W.held sink.new))) }
         ensures front { OnErr result ((subject : A.Subject) → Behind (A.has_met subject) self.old (W.held sink.old)
-            (λ given taken held. WritesFront (A.makes subject) given (taken ++ piece.now) held (W.held sink.new))) }
+            (λ given taken held. WritesFrontOfMore (A.makes subject) given (taken ++ piece.now) held (W.held sink.new))) }
         ensures write { result ≡ Err Write → W.has_failed sink.new ≡ true }
         ensures unmarked { result ≢ Err Write → W.has_failed sink.new ≡ W.has_failed sink.old }
         ensures asked { result ≡ Err Memory → (subject : A.Subject)

@@ -7,7 +7,7 @@ ghost use Rattle.j39_listen.specs.Asking.{AsksForBoxes, AsksWithin};
 ghost use Rattle.j39_listen.specs.Listening.{Hears};
 ghost use Rattle.j39_listen.specs.Output.{MakesReport, report_of};
 ghost use Rattle.j39_listen.specs.ReportSteps.{HasReported, MeetsFrame, StopsFrame, made_by};
-ghost use Rattle.j39_listen.specs.Run.{StopsAtLimit, StopsWithin, TakesWithin, Writes, WritesPublished};
+ghost use Rattle.j39_listen.specs.Run.{StopsAtLimit, StopsWithin, TakesWithin, Writes, WritesFront, WritesPublished};
 ghost use Rattle.j39_listen.specs.declared.account.LineFault.TheVariants as line_fault;
 ghost use Rattle.j39_listen.specs.declared.running.RunFault.TheVariants.{Memory, Read, Write, TooLong};
 
@@ -62,6 +62,10 @@ pub fn run<R: Source, W: Sink>(
     ensures flushed_at_reads { (result ≡ Err Read) ⊎ (result ≡ Err TooLong)
         → W.is_flushed sink.old ≡ true → W.is_flushed sink.new ≡ true }
 
+    // What was written before a fault of the writer is a front of the report of the whole log.
+    ensures cut_short { result ≡ Err Write → IfSome (R.remaining source.old)
+        (λ log. WritesFront (MakesReport the_table) bus log (W.held sink.old) (W.held sink.new)) }
+
     // What was written before a fault is a front of the report of the bytes that were read.
     ensures prefix { OnErr result (StopsWithin (MakesReport the_table) bus
         (R.remaining source.old) (R.remaining source.new) (W.held sink.old) (W.held sink.new)) }
@@ -109,6 +113,10 @@ pub fn run_with<R: Source, W: Sink>(
     ensures flushed { OnOk result (W.is_flushed sink.new ≡ true) }
     ensures flushed_at_reads { (result ≡ Err Read) ⊎ (result ≡ Err TooLong)
         → W.is_flushed sink.old ≡ true → W.is_flushed sink.new ≡ true }
+
+    // What was written before a fault of the writer is a front of the report of the whole log.
+    ensures cut_short { result ≡ Err Write → IfSome (R.remaining source.old)
+        (λ log. WritesFront (MakesReport groups.now) bus log (W.held sink.old) (W.held sink.new)) }
 
     // What was written before a fault is a front of the report of the bytes that were read.
     ensures prefix { OnErr result (StopsWithin (MakesReport groups.now) bus

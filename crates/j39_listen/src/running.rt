@@ -2,7 +2,7 @@
 ghost use Rattle.std.specs.Prelude.{◌≡◌, ◌≢◌, ◌<◌, ◌≤◌, ◌⊎◌, ◌++◌, true, length, IfOk, OnOk, OnErr, IfSome, Err};
 ghost use Rattle.j39_listen.specs.Asking.{AsksAmong, AsksWithin};
 ghost use Rattle.j39_listen.specs.PieceSteps.{AtNothing, AtStart, Behind, HasTaken};
-ghost use Rattle.j39_listen.specs.Run.{StopsAtLimit, StopsWithin, TakesWithin, Writes, WritesFront};
+ghost use Rattle.j39_listen.specs.Run.{StopsAtLimit, StopsWithin, TakesWithin, Writes, WritesFront, WritesFrontOfMore};
 ghost use Rattle.j39_listen.specs.declared.running.RunFault.TheVariants.{Memory, Read, Write, TooLong};
 
 use crate::Counts;
@@ -84,6 +84,8 @@ pub fn run_over<A: Account, R: Source, W: Sink>(
         → W.is_flushed sink.old ≡ true → W.is_flushed sink.new ≡ true }
     ensures prefix { OnErr result (AtStart A.has_met account (λ subject. StopsWithin (A.makes subject) bus
         (R.remaining source.old) (R.remaining source.new) (W.held sink.old) (W.held sink.new))) }
+    ensures cut_short { result ≡ Err Write → AtStart A.has_met account (λ subject. IfSome (R.remaining source.old)
+        (λ log. WritesFront (A.makes subject) bus log (W.held sink.old) (W.held sink.new))) }
 {
     let mut pieces = Pieces::new(account, bus);
     read_pieces(&mut pieces, source, sink, limit)
@@ -117,6 +119,9 @@ fn read_pieces<A: Account, R: Source, W: Sink>(
     ensures prefix { OnErr result (AtNothing A.has_met pieces.old (W.held sink.old)
         (λ subject given. StopsWithin (A.makes subject) given
         (R.remaining source.old) (R.remaining source.new) (W.held sink.old) (W.held sink.new))) }
+    ensures cut_short { result ≡ Err Write → AtNothing A.has_met pieces.old (W.held sink.old)
+        (λ subject given. IfSome (R.remaining source.old)
+        (λ log. WritesFront (A.makes subject) given log (W.held sink.old) (W.held sink.new))) }
 {
     A::laws();
     let mut piece = [0u8; PIECE];
@@ -151,7 +156,7 @@ fn take<A: Account, W: Sink>(
         (W.held sink.new))) }
     ensures front { OnErr result ((subject : A.Subject)
         → Behind (A.has_met subject) pieces.old (W.held sink.old)
-        (λ given taken held. WritesFront (A.makes subject) given (taken ++ piece.now) held (W.held sink.new))) }
+        (λ given taken held. WritesFrontOfMore (A.makes subject) given (taken ++ piece.now) held (W.held sink.new))) }
     ensures write { result ≡ Err Write → W.has_failed sink.new ≡ true }
     ensures unmarked { result ≢ Err Write → W.has_failed sink.new ≡ W.has_failed sink.old }
     ensures asked { result ≡ Err Memory → (subject : A.Subject)

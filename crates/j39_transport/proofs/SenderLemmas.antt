@@ -125,7 +125,7 @@ hears_abort s reason = cond_both (is_running s.state) _ _ (Hears s ⊥)
     (λ t. record { message_is = refl; destination_is = refl; idle_is = λ h. refl; done_is = λ f h. refl })
     (λ t. same s ⊥)
 
-hears_signal : (s : SenderRecord) (a : Signal) (now : ℕ) → Hears s (IsAck (Some a)) (hears (Some a) now s)
+pub hears_signal : (s : SenderRecord) (a : Signal) (now : ℕ) → Hears s (IsAck (Some a)) (hears (Some a) now s)
 unfolding hears
 hears_signal s (BroadcastAnnounce size packets pgn) now = same s _
 hears_signal s (RequestToSend size packets most pgn) now = same s _

@@ -1,5 +1,5 @@
 -- What an assembler answers to a frame, by the events so far.
-use Rattle.std.specs.Prelude.{◌≡◌, ◌⊎◌, ℕ, ◌<◌, true, List, [], ◌∷◌, ◌++◌, length}
+use Rattle.std.specs.Prelude.{◌≡◌, ◌⊎◌, ℕ, ◌<◌, ◌≤◌, true, List, [], ◌∷◌, ◌++◌, length}
 use Rattle.j39_frame.specs.Frame.{FrameRecord}
 use Rattle.j39_transport.specs.Key.{Key, sender, all_keys}
 use Rattle.j39_transport.specs.Frames.{is_announcement}
@@ -14,6 +14,12 @@ pub data Outcome : Type 0 where
   Whole : ℕ → ℕ → List ℕ → ℕ → Outcome
   Taken : Outcome
   Ignored : Outcome
+
+-- a message that is answered has 1,785 bytes at most
+abbrev pub IsShort : Outcome → Type 0
+IsShort (Whole source group bytes stamp) = length bytes ≤ 1785
+IsShort Taken = Unit {0}
+IsShort Ignored = Unit {0}
 
 -- with the frame f after E the message m is whole
 abbrev pub WholeBy : List Event → FrameRecord → MessageRecord → Type 0

@@ -2,6 +2,7 @@
 use Rattle.std.specs.Prelude.{◌≡◌, ◌<◌, ℕ, take, Option, Some, None}
 use Rattle.j39_frame.specs.Pgn.{pgn_raw}
 use Rattle.j39_frame.specs.Stamp.{stamp_micros}
+use Rattle.j39_store.specs.Stored.{value_of}
 use Rattle.j39_transport.specs.Session.{SessionRecord}
 use Rattle.j39_transport.specs.Steps as steps
 use Rattle.j39_transport.specs.Answers as answers
@@ -13,16 +14,16 @@ use Rattle.j39_transport.specs.declared.message.Fed.{Fed}
 use Rattle.j39_transport.specs.declared.message.Fed.TheVariants.{Whole, Taken, Ignored}
 
 abbrev pub shown_move : Moved → steps.Moved
-shown_move (Ends b) = steps.Ends b.value
-shown_move (Grows b) = steps.Grows b.value
-shown_move (Stays b) = steps.Stays b.value
+shown_move (Ends b) = steps.Ends (value_of b)
+shown_move (Grows b) = steps.Grows (value_of b)
+shown_move (Stays b) = steps.Stays (value_of b)
 shown_move Late = steps.Late
 
 -- a session that ends has all its packets, and one that stays lacks one
 abbrev pub IsMove : Moved → Type 0
-IsMove (Ends b) = b.value.count ≡ b.value.packets
-IsMove (Grows b) = b.value.count < b.value.packets
-IsMove (Stays b) = b.value.count < b.value.packets
+IsMove (Ends b) = (value_of b).count ≡ (value_of b).packets
+IsMove (Grows b) = (value_of b).count < (value_of b).packets
+IsMove (Stays b) = (value_of b).count < (value_of b).packets
 IsMove Late = Unit {0}
 
 -- ---- answers

@@ -1,9 +1,11 @@
 -- What a sender of the code shows.
 use Rattle.std.specs.Prelude.{◌≤◌, ℕ}
 use Rattle.j39_frame.specs.Address.{IsAddress}
-use Rattle.j39_transport.specs.Message.{IsLong, packets_of}
+use Rattle.j39_frame.specs.Stamp.{stamp_micros}
+use Rattle.j39_transport.specs.Message.{MessageRecord, IsLong, packets_of}
 use Rattle.j39_transport.specs.Protocol.{timer_t3}
 use Rattle.j39_transport.specs.Sending as sending
+use Rattle.j39_transport.specs.declared.sender.Course.{Course}
 use Rattle.j39_transport.specs.declared.progress.Progress.{Progress}
 use Rattle.j39_transport.specs.declared.progress.Progress.TheVariants.{Idle, Waiting, Sending, Done, Failed}
 use Rattle.j39_transport.specs.declared.progress.SendState.{SendState}
@@ -17,6 +19,16 @@ progress_in (Waiting limit) = sending.Waiting limit
 progress_in (Sending next last) = sending.Sending next last
 progress_in Done = sending.Done
 progress_in (Failed reason) = sending.Failed reason
+
+-- the sender of a message that is so far with it
+abbrev pub sender_of : MessageRecord → Course → sending.SenderRecord
+sender_of m c = record {
+  message = m;
+  destination = c.destination;
+  state = progress_in c.progress;
+  since = stamp_micros c.since;
+  highest = c.highest;
+}
 
 -- the state without its limit, or the packets that are to be sent
 abbrev pub state_of : sending.SendState → SendState

@@ -6,7 +6,7 @@ ghost use Rattle.j39_frame.specs.Stamp.{stamp_micros};
 ghost use Rattle.j39_transport.specs.Frames.{source_of};
 ghost use Rattle.j39_transport.specs.Events.{Event};
 ghost use Rattle.j39_transport.specs.Events.Event.{Frame as Came, Forget};
-ghost use Rattle.j39_transport.specs.Answers.{IsAnnouncement, AnswersAt, AreOpenAfter, AreHeldAfter};
+ghost use Rattle.j39_transport.specs.Answers.{IsAnnouncement, IsShort, AnswersAt, AreOpenAfter, AreHeldAfter};
 ghost use Rattle.j39_transport.specs.Boxes.{WantsMemory};
 ghost use Rattle.j39_transport.specs.Stands.{Stands};
 ghost use Rattle.j39_transport.specs.Signals.{said_by};
@@ -69,6 +69,7 @@ impl Assembler {
     pub fn feed(&mut self, frame: &Frame) -> Result<Fed<'_>, AllocError>
         ensures answer { IfOk result (λ fed. (E : List Event) → Stands E self.old
             → AnswersAt E frame.now (outcome_of fed)) }
+        ensures short { IfOk result (λ fed. IsShort (outcome_of fed)) }
         ensures refused { OnErr result (IsAnnouncement frame.now) }
         ensures wanted { OnErr result ((E : List Event) → Stands E self.old → WantsMemory E frame.now) }
         ensures* after { sem 𝓛 (Rests the_row self.entry (λ n. MatchResult result
@@ -83,6 +84,7 @@ impl Assembler {
     fn step(&mut self, frame: &Frame) -> Result<Fed<'_>, AllocError>
         ensures answer { IfOk result (λ taken. outcome_of taken
             ≡ answer self.old.sessions frame.now (said_by frame.now)) }
+        ensures short { IfOk result (λ taken. IsShort (outcome_of taken)) }
         ensures lacked { OnErr result (LacksBox self.old.sessions self.old.has_spare frame.now (said_by frame.now)) }
         ensures* after { sem 𝓛 (Rests the_row self.entry (λ n. MatchResult result
             (λ _. n ≡ fed self.old frame.now (said_by frame.now))
@@ -102,6 +104,7 @@ impl Assembler {
     fn hand_on(&mut self, frame: &Frame) -> Result<Fed<'_>, AllocError>
         ensures answer { IfOk result (λ taken. outcome_of taken
             ≡ answer self.old.sessions frame.now (said_by frame.now)) }
+        ensures short { IfOk result (λ taken. IsShort (outcome_of taken)) }
         ensures lacked { OnErr result (LacksBox self.old.sessions self.old.has_spare frame.now (said_by frame.now)) }
         ensures* after { sem 𝓛 (Rests the_row self.entry (λ n. MatchResult result
             (λ _. n ≡ fed self.old frame.now (said_by frame.now))
@@ -146,7 +149,8 @@ impl Assembler {
 /// The answer, with a whole message lent out of its place.
 fn lend(place: &Place, accepted: Accepted, source: u8, stamp: Stamp) -> Fed<'_>
     requires { CanLend accepted (held_in place.now) }
-    ensures { outcome_of result ≡ outcome_by accepted source (stamp_micros stamp) (held_in place.now) }
+    ensures value { outcome_of result ≡ outcome_by accepted source (stamp_micros stamp) (held_in place.now) }
+    ensures short { IsShort (outcome_of result) }
 {
     match accepted {
         Accepted::Whole => match place {

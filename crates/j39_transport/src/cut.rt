@@ -52,6 +52,18 @@ impl<'a> Cut<'a> {
         })
     }
 
+    /// A message that is known to be long.
+    pub(crate) fn of(source: u8, pgn: Pgn, payload: &'a [u8]) -> Cut<'a>
+        requires { IsLong (record { source = source; pgn = pgn_raw pgn; bytes = payload.now }) }
+        ensures { result ≡ record { source = source; pgn = pgn_raw pgn; bytes = payload.now } }
+    {
+        Cut {
+            source,
+            pgn,
+            payload,
+        }
+    }
+
     /// How many packets the message takes, 2 to 255.
     pub fn packets(&self) -> u8
         ensures value { result ≡ packets_of self.now }

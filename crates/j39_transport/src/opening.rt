@@ -3,6 +3,7 @@ ghost use Rattle.std.specs.Prelude.{◌≡◌, ◌<◌, false, None, Some, IfOk,
 ghost use Rattle.std.specs.Option.{is_some};
 ghost use Rattle.j39_frame.specs.Address.{global_address};
 ghost use Rattle.j39_frame.specs.Stamp.{stamp_micros};
+ghost use Rattle.j39_store.specs.Stored.{value_of};
 ghost use Rattle.j39_transport.specs.Places.{at, find, held_in};
 ghost use Rattle.j39_transport.specs.Steps.{room, spare_left, with_announced};
 ghost use Rattle.j39_transport.specs.ShownSession.{opened_by};
@@ -11,6 +12,7 @@ use crate::announcement::Announcement;
 use crate::session::Session;
 use crate::table::{PAIRS, Place, SOURCES, Table};
 use j39_frame::{GLOBAL_ADDRESS, Stamp};
+use j39_store::Stored;
 use std::alloc::{AllocError, Global};
 
 /// Takes out the session at a place, or else that last lent.
@@ -38,9 +40,9 @@ fn take_box<const N: usize>(
     destination: u8,
     announcement: Announcement,
     stamp: Stamp,
-) -> Result<Box<Session>, AllocError>
+) -> Result<Stored<Session>, AllocError>
     requires place { place < N }
-    ensures value { IfOk result (λ b. b.value ≡ opened_by source destination announcement (stamp_micros stamp)) }
+    ensures value { IfOk result (λ b. value_of b ≡ opened_by source destination announcement (stamp_micros stamp)) }
     ensures table { MatchResult result
         (λ _. table.new ≡ slice_set table.old place None)
         (λ _. table.new ≡ table.old) }
@@ -58,17 +60,17 @@ fn take_box<const N: usize>(
     }
 }
 
-/// A session in a box of its own. Only here a whole buffer is written.
+/// A session that is stored. Only here a whole buffer is written.
 fn boxed(
     alloc: Global,
     source: u8,
     destination: u8,
     announcement: Announcement,
     stamp: Stamp,
-) -> Result<Box<Session>, AllocError>
-    ensures { IfOk result (λ b. b.value ≡ opened_by source destination announcement (stamp_micros stamp)) }
+) -> Result<Stored<Session>, AllocError>
+    ensures { IfOk result (λ b. value_of b ≡ opened_by source destination announcement (stamp_micros stamp)) }
 {
-    Ok(Box::new(
+    Ok(Stored::new(
         alloc,
         Session::new(source, destination, announcement, stamp),
     )?)

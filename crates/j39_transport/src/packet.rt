@@ -2,6 +2,7 @@
 ghost use Rattle.std.specs.Prelude.{◌≡◌, ◌<◌, ◌≤◌, ◌||◌, ℕ, length, slice_set};
 ghost use Rattle.std.specs.Option.{is_some};
 ghost use Rattle.j39_frame.specs.Stamp.{stamp_micros};
+ghost use Rattle.j39_store.specs.Stored.{value_of};
 ghost use Rattle.j39_transport.specs.Protocol.{directed_limit};
 ghost use Rattle.j39_transport.specs.Places.{at, held_in, find};
 ghost use Rattle.j39_transport.specs.Steps.{is_whole, moves, packed, told, told_at, with_place};
@@ -11,6 +12,7 @@ use crate::protocol::DIRECTED_LIMIT;
 use crate::session::Session;
 use crate::table::{PAIRS, Place, Table};
 use j39_frame::Stamp;
+use j39_store::Stored;
 
 /// What a frame was to the open messages.
 #[derive(Clone, Copy)]
@@ -23,16 +25,16 @@ pub(crate) enum Accepted {
 /// What a packet made of a session.
 #[derive(Drop)]
 pub(crate) enum Moved {
-    Ends(Box<Session>),
-    Grows(Box<Session>),
-    Stays(Box<Session>),
+    Ends(Stored<Session>),
+    Grows(Stored<Session>),
+    Stays(Stored<Session>),
     Late,
 }
 
 /// The session after the packet of this number and bytes.
 #[tactic(auto, unfolding(crate::specs::Steps::moves))]
 fn after_packet(
-    mut session: Box<Session>,
+    mut session: Stored<Session>,
     limit: u64,
     number: u8,
     bytes: &[u8],
@@ -40,9 +42,9 @@ fn after_packet(
 ) -> Moved
     requires limit { limit ≤ directed_limit }
     requires seven { length bytes.now ≡ 7 }
-    requires open { session.value.count < session.value.packets }
+    requires open { (value_of session).count < (value_of session).packets }
     ensures value { shown_move result
-        ≡ moves limit number bytes.now (stamp_micros stamp) session.value }
+        ≡ moves limit number bytes.now (stamp_micros stamp) (value_of session) }
     ensures moved { IsMove result }
 {
     if stamp.micros() > session.last().micros() + limit {

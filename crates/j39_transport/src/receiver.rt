@@ -1,5 +1,5 @@
 //! The receiving end of directed transfers (J1939-21, 5.10.3).
-ghost use Rattle.std.specs.Prelude.{◌≡◌, ◌↔◌, ◌∷◌, ◌++◌, [], IsTrue, IsSome, IfSome, IfOk, OnErr, Bool, true, false, List, None};
+ghost use Rattle.std.specs.Prelude.{◌≡◌, ◌≤◌, ◌↔◌, ◌∷◌, ◌++◌, [], IsTrue, IsSome, IfSome, IfOk, OnErr, Bool, true, false, List, None, length};
 ghost use Rattle.std.specs.Borrow.{sem};
 ghost use Rattle.std.specs.Io.BufRead.{Rests};
 ghost use Rattle.std.specs.Option.{is_some, option_map};
@@ -107,6 +107,7 @@ impl Receiver {
         ensures delivered { (E : List FrameRecord) → ReceiverStandsFor E self.old.state
             → WereHanded self.old.state.own (E ++ frame.now ∷ []) (answer_of result).delivers }
         ensures stamp { IsStamped (stamp_micros now) result }
+        ensures short { IfSome (answer_of result).delivers (λ message. length message.bytes ≤ 1785) }
         ensures* after { sem 𝓛 (Rests the_row self.entry (λ n.
             HasHeard self.old frame.now (stamp_micros now) (answer_of result) n)) }
     {
@@ -118,6 +119,7 @@ impl Receiver {
         ensures answer { (found : Bool) × (self.old.has_box ≡ true → found ≡ true)
             × (answer_of result ≡ answer_in (recv_step self.old.state (Heard frame.now) (stamp_micros now) found)) }
         ensures stamp { IsStamped (stamp_micros now) result }
+        ensures short { IfSome (answer_of result).delivers (λ message. length message.bytes ≤ 1785) }
         ensures* after { sem 𝓛 (Rests the_row self.entry (λ n.
             HearStep self.old frame.now (stamp_micros now) (answer_of result) n)) }
     {
@@ -197,6 +199,7 @@ fn lend(slot: &ReceptionBox, done: Move, own: u8, to: u8, now: Stamp) -> Reply<'
     requires { CanLend done (held_in slot.now) }
     ensures answer { answer_of result ≡ answer_in (result_of own to (reacted done None (held_in slot.now))) }
     ensures stamp { IsStamped (stamp_micros now) result }
+    ensures short { IfSome (answer_of result).delivers (λ message. length message.bytes ≤ 1785) }
 {
     match done {
         Move::Quiet => Reply::Nothing,

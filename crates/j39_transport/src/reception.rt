@@ -1,5 +1,5 @@
 //! One message that a receiver is receiving.
-ghost use Rattle.std.specs.Prelude.{◌≡◌, ◌<◌, ◌+◌, length, take, Some};
+ghost use Rattle.std.specs.Prelude.{◌≡◌, ◌<◌, ◌≤◌, ◌+◌, length, take, Some};
 ghost use Rattle.j39_frame.specs.Pgn.{pgn_raw};
 ghost use Rattle.j39_frame.specs.Stamp.{stamp_micros};
 ghost use Rattle.j39_transport.specs.Reception.{begun, most_named, granted_at, window, asks_again, goes_on, takes_packet, takes_tick};
@@ -106,7 +106,8 @@ impl Reception {
     /// The bytes of a whole message, without padding.
     pub(crate) fn payload(&self) -> &[u8]
         requires { self.now.message.count ≡ self.now.message.packets }
-        ensures { result.now ≡ take self.now.message.size self.now.message.bytes }
+        ensures value { result.now ≡ take self.now.message.size self.now.message.bytes }
+        ensures short { length result.now ≤ 1785 }
     {
         self.message.payload()
     }

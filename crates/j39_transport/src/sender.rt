@@ -7,7 +7,7 @@ ghost use Rattle.j39_transport.specs.Cutting.{to_send};
 ghost use Rattle.j39_transport.specs.Message.{packets_of};
 ghost use Rattle.j39_transport.specs.Protocol.{timer_t3};
 ghost use Rattle.j39_transport.specs.Sending.{SendStep, IsOwn, new_sender, ticks_in, sends_packet, waits, hears, cleared, acknowledged, aborted};
-ghost use Rattle.j39_transport.specs.ShownSender.{event_of, state_of};
+ghost use Rattle.j39_transport.specs.ShownSender.{IsSender, event_of, sender_of, state_of};
 ghost use Rattle.j39_transport.specs.ShownSignal.{said};
 
 use crate::Cut;
@@ -16,6 +16,15 @@ use crate::protocol::{NO_LIMIT, TIMEOUT, TIMER_T3, TIMER_T4};
 use crate::signal::{self, Signal};
 use j39_frame::{Id, Stamp, is_address};
 use std::marker::Model;
+
+/// How far a sender is, without its message.
+#[derive(Clone, Copy)]
+pub(crate) struct Course {
+    pub(crate) destination: u8,
+    pub(crate) progress: Progress,
+    pub(crate) since: Stamp,
+    pub(crate) highest: u8,
+}
 
 /// Sends one message to one controller, by request to send (RTS) and clear to send (CTS).
 #[derive(Drop)]
@@ -72,6 +81,39 @@ impl<'a> Sender<'a> {
             since: Stamp::new(0).unwrap(),
             highest: 0,
         })
+    }
+
+    /// A sender of a message that is so far with it.
+    pub(crate) fn resumed(cut: Cut<'a>, course: Course) -> Sender<'a>
+        requires { IsSender (sender_of cut course) }
+        ensures { result ≡ sender_of cut.entry course }
+    {
+        let Course {
+            destination,
+            progress,
+            since,
+            highest,
+        } = course;
+        Sender {
+            cut,
+            destination,
+            progress,
+            since,
+            highest,
+        }
+    }
+
+    /// How far it is with its message.
+    pub(crate) fn course(&self) -> Course
+        ensures course { sender_of self.now.message result ≡ self.now }
+        ensures sound { IsSender self.now }
+    {
+        Course {
+            destination: self.destination,
+            progress: self.progress,
+            since: self.since,
+            highest: self.highest,
+        }
     }
 
     /// Takes an event at a moment, and answers the frame to send, if there is one: at a tick alone.

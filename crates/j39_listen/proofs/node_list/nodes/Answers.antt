@@ -16,3 +16,6 @@ returns-clause-memory g c = λ fails. (c.run_over.ensures.asked fails Line (node
 
 pub returns-clause-at_limit : goal.returns-clause-at_limit
 returns-clause-at_limit g c = λ too_long. c.run_over.ensures.at_limit too_long Line (nodes_of Line []) (λ name. c.new.ensures) (nodes_text-none Line)
+
+pub returns-clause-cut_short : goal.returns-clause-cut_short
+returns-clause-cut_short g c = λ fails. c.run_over.ensures.cut_short fails Line (nodes_of Line []) (λ name. c.new.ensures) (nodes_text-none Line)

@@ -20,3 +20,6 @@ returns-clause-memory g c = λ fails. c.run_over.ensures.asked fails c.args.grou
 
 pub returns-clause-at_limit : goal.returns-clause-at_limit
 returns-clause-at_limit g c = λ too_long. c.run_over.ensures.at_limit too_long c.args.groups.now (report_of c.args.groups.now []) (λ name. c.new.ensures) (no_text c.args.groups.now)
+
+pub returns-clause-cut_short : goal.returns-clause-cut_short
+returns-clause-cut_short g c = λ fails. c.run_over.ensures.cut_short fails c.args.groups.now (report_of c.args.groups.now []) (λ name. c.new.ensures) (no_text c.args.groups.now)

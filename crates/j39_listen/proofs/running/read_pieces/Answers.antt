@@ -1,10 +1,10 @@
 -- The bytes that were taken, at each fault.
-use Rattle.std.proofs.Common.{ℕ, List, [], ◌++◌, ◌∙◌, ◌≡◌, ◌+◌, ◌-◌, subst, ap, append-nil, take, arith, length, length-append, length-take, refl}
+use Rattle.std.proofs.Common.{rules, ℕ, List, [], ◌++◌, ◌∙◌, ◌≡◌, ◌+◌, ◌-◌, subst, ap, append-nil, take, arith, length, length-append, length-take, refl}
 use Rattle.std.specs.Io.KnownBytes.{Consumes}
 use Rattle.std.proofs.KnownBytes.{Consumes-kept, Consumes-nil, Consumes-trans}
 use Rattle.std.specs.Prelude.{Err}
 use Rattle.j39_listen.proofs.AskLemmas.{same_run_fault}
-use Rattle.j39_listen.proofs.PieceLemmas.{front_of_more, front_of_taken, no_fault, on_err_from}
+use Rattle.j39_listen.proofs.PieceLemmas.{at_fault, front_of_all, front_of_more, front_of_no_more, front_of_taken, front_of_whole, no_fault, on_err_from}
 use Rattle.j39_listen.proofs.running.read_pieces.Goals as goal
 
 -- the read at the end gives nothing
@@ -46,7 +46,7 @@ returns-in-Err-clause-prefix g c = λ subject given h.
     record {
       taken = inv.0 ++ bytes;
       consumed = Consumes-trans _ _ _ inv.0 bytes inv.1 c.in-Ok.ensures.bytes.0;
-      written = c.in-Err.ensures.front subject given inv.0 _ (inv.2 subject given h);
+      written = front_of_no_more (g.A.Account.makes subject) given (inv.0 ++ bytes) _ _ (c.in-Err.ensures.front subject given inv.0 _ (inv.2 subject given h));
     }
 
 pub pieces-init : goal.pieces-init
@@ -126,3 +126,19 @@ returns-then-n-room-clause-at_limit g c = λ too_long subject given h.
       passes = omega (arith, length-append inv.0 bytes, length-take c.in-Ok.n c.pull.new.buf, c.in-Ok.ensures.bound);
       written = front_of_taken (g.A.Account.has_met subject) (g.A.Account.makes subject) (c.laws.ensures.begins subject) given inv.0 c.pieces.pieces _ _ (inv.2 subject given h);
     }
+
+-- ---- where the writer failed
+
+pub returns-then-n-eq0-clause-cut_short : goal.returns-then-n-eq0-clause-cut_short
+returns-then-n-eq0-clause-cut_short g c = λ fails subject given h.
+    let inv = c.pieces.invariant in
+    front_of_whole (g.A.Account.makes subject) given _ _ inv.0 _ _
+    (subst (Consumes _ _) (at_end inv.0 c.in-Ok.n c.pull.new.buf c.if-n-eq0.true) (Consumes-trans _ _ _ inv.0 _ inv.1 c.in-Ok.ensures.bytes.0))
+    (c.in-Ok.ensures.bytes.1 c.if-n-eq0.true (search rules)) (at_fault fails c.finish.ensures.front subject given inv.0 _ (inv.2 subject given h))
+
+pub returns-in-Err-clause-cut_short : goal.returns-in-Err-clause-cut_short
+returns-in-Err-clause-cut_short g c = λ fails subject given h.
+    let inv = c.pieces.invariant in
+    let bytes = take c.in-Ok.n c.pull.new.buf in
+    front_of_all (g.A.Account.makes subject) given _ _ (inv.0 ++ bytes) _ _ (Consumes-trans _ _ _ inv.0 bytes inv.1 c.in-Ok.ensures.bytes.0)
+    (c.in-Err.ensures.front subject given inv.0 _ (inv.2 subject given h))

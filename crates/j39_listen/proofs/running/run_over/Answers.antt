@@ -12,3 +12,6 @@ returns-clause-asked g c = λ fails subject output met none. c.read_pieces.ensur
 
 pub returns-clause-at_limit : goal.returns-clause-at_limit
 returns-clause-at_limit g c = λ too_long subject output met none. c.read_pieces.ensures.at_limit too_long subject c.args.bus (c.new-pieces.ensures _ subject output met none)
+
+pub returns-clause-cut_short : goal.returns-clause-cut_short
+returns-clause-cut_short g c = λ fails subject output met none. c.read_pieces.ensures.cut_short fails subject c.args.bus (c.new-pieces.ensures _ subject output met none)

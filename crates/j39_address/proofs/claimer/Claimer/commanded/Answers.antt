@@ -7,6 +7,7 @@ use Rattle.j39_address.specs.Node.NodeStatus.{Idle, Claiming}
 use Rattle.j39_address.specs.Call.Call.{Commanded}
 use Rattle.j39_address.specs.NodeStep.NodeStep.{obeys, ignores}
 use Rattle.j39_address.proofs.ClaimerLemmas.{says_step, rests_step}
+use Rattle.j39_address.specs.Claimer.{plain}
 use Rattle.j39_address.proofs.claimer.Claimer.commanded.Goals as goal
 use Rattle.j39_address.proofs.claimer.Claimer.commanded.Goals.{then-is_idle-via-then-is_idle, then-is_idle-via-else-is_idle+then-not-is_named, then-is_idle-via-else-is_idle+else-not-is_named+then-not-is_address}
 
@@ -24,7 +25,7 @@ returns c = λ node h.
     let a = c.args.address in
     let now = stamp_micros c.args.now in
     let m = record node { status = Claiming a; moment = now } in
-    let s = record c.args.self.now { status = status.Claiming a; moment = now } in
+    let s = record c.args.self.now { status = plain (status.Claiming a); moment = now } in
     let named : name_raw c.args.name ≡ node.name = c.is_named.ensures.0 c.if-not-is_named.false ∙ h.name in
     says_step node m s _ _ _ a _ refl
     (record { name = h.name; preferred = h.preferred; status = refl; moment = refl; claims = h.claims })

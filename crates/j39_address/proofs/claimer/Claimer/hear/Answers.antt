@@ -9,6 +9,7 @@ use Rattle.j39_address.specs.Node.NodeStatus.{Claiming, Cannot}
 use Rattle.j39_address.specs.Call.Call.{Heard}
 use Rattle.j39_address.specs.NodeStep.NodeStep.{hears_itself, notes, wins, moves, gives_up}
 use Rattle.j39_address.proofs.ClaimerLemmas.{says_step, rests_step, least_free_from, none_free_from}
+use Rattle.j39_address.specs.Claimer.{plain}
 use Rattle.j39_address.proofs.claimer.Claimer.hear.Goals as goal
 
 pub returns-then-is_named : goal.returns-then-is_named
@@ -54,7 +55,7 @@ returns-in-Some c = λ node h.
     let C = with_claim node.claims n a in
     let stands : StandsFor c.note_claim.new.self C = c.note_claim.ensures.stands node.claims h.claims in
     let m = record node { status = Claiming b; moment = now; claims = C } in
-    let s = record c.args.self.now { status = status.Claiming b; moment = now; claims = c.note_claim.new.self } in
+    let s = record c.args.self.now { status = plain (status.Claiming b); moment = now; claims = c.note_claim.new.self } in
     let at : IsAt node a = ap address_of (sym h.status) ∙ c.is_at.ensures.0 c.if-not-is_at.false in
     let named : name_raw c.args.self.now.name ≡ node.name = h.name in
     let other : n ≢ node.name = λ e. let z = c.if-is_named.ensures.1 (e ∙ sym h.name) in absurd (cc) in
@@ -72,7 +73,7 @@ returns-in-None c = λ node h.
     let C = with_claim node.claims n a in
     let stands : StandsFor c.note_claim.new.self C = c.note_claim.ensures.stands node.claims h.claims in
     let m = record node { status = Cannot; claims = C } in
-    let s = record c.args.self.now { status = status.Cannot; claims = c.note_claim.new.self } in
+    let s = record c.args.self.now { status = plain status.Cannot; claims = c.note_claim.new.self } in
     let at : IsAt node a = ap address_of (sym h.status) ∙ c.is_at.ensures.0 c.if-not-is_at.false in
     let named : name_raw c.args.self.now.name ≡ node.name = h.name in
     let other : n ≢ node.name = λ e. let z = c.if-is_named.ensures.1 (e ∙ sym h.name) in absurd (cc) in

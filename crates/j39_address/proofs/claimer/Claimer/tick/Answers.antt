@@ -1,6 +1,7 @@
 use Rattle.std.proofs.Common.{◌≡◌, None, refl, sym, ap, ◌∙◌, arith}
 use Rattle.j39_address.specs.Node.NodeStatus.{Holding}
-use Rattle.j39_address.specs.Claimer.{status_of}
+use Rattle.j39_address.specs.Claimer.{status_of, status_in}
+use Rattle.j39_address.specs.declared.status.State.{State}
 use Rattle.j39_address.specs.NodeStep.NodeStep.{holds, waits}
 use Rattle.j39_address.proofs.ClaimerLemmas.{rests_step}
 use Rattle.j39_address.proofs.claimer.Claimer.tick.Goals as goal
@@ -13,8 +14,8 @@ returns-then-saturating_sub-ge-CLAIM_TIME c = λ node h.
     record {
       answer = None;
       after = record node { status = Holding a };
-      step = holds a refl (sym h.status ∙ ap status_of c.in-Claiming.is) (omega (arith, due, moment, c.micros.ensures.value)) refl refl;
-      is_node = record { name = h.name; preferred = h.preferred; status = refl; moment = h.moment; claims = h.claims };
+      step = holds a refl (sym h.status ∙ ap status_of (sym c.status.ensures ∙ c.in-Claiming.is)) (omega (arith, due, moment, c.micros.ensures.value)) refl refl;
+      is_node = record { name = h.name; preferred = h.preferred; status = ap (λ (s : State). status_of (status_in s)) c.of-self.ensures; moment = h.moment; claims = h.claims };
       frame_is = refl;
     }
 
@@ -22,4 +23,4 @@ pub returns-else-saturating_sub-ge-CLAIM_TIME : goal.returns-else-saturating_sub
 returns-else-saturating_sub-ge-CLAIM_TIME c = λ node h.
     let moment : c.args.self.now.moment ≡ node.moment = h.moment in
     let early = c.if-saturating_sub-ge-CLAIM_TIME.false in
-    rests_step node _ _ _ h (waits c.in-Claiming.address refl (sym h.status ∙ ap status_of c.in-Claiming.is) (omega (arith, early, moment, c.micros.ensures.value)) (refl, refl))
+    rests_step node _ _ _ h (waits c.in-Claiming.address refl (sym h.status ∙ ap status_of (sym c.status.ensures ∙ c.in-Claiming.is)) (omega (arith, early, moment, c.micros.ensures.value)) (refl, refl))

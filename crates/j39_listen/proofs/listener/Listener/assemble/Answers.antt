@@ -22,6 +22,7 @@ returns-in-Whole c = (
         let said = rw c.in-Whole.is at (c.in_ok-message.ensures.answer h.events h.stands) in
         let name = subst (λ a. IsHolderAfter (claims_of F) a (option_map name_raw c.holder-name.result)) (c.source.ensures ∙ ap (λ (x : FrameRecord). source_of x.id) c.frame.view_is) (c.holder-name.ensures.holder F h.knows) in
         heard_many singles leaves c.args.self.now F c.args.frame.now _ _ _ many h name said.0 said.1;
+    short = rw c.in-Whole.is at c.in_ok-message.ensures.short;
     refused = tt;
     wanted = tt;
     after = tt;
@@ -38,6 +39,7 @@ returns-in-Taken c = (
   ),
   record {
     heard = λ singles leaves many F h. silent_many singles leaves c.args.self.now F c.args.frame.now many h (rw c.in-Taken.is at (c.in_ok-message.ensures.answer h.events h.stands)).1;
+    short = tt;
     refused = tt;
     wanted = tt;
     after = tt;
@@ -54,6 +56,7 @@ returns-in-Ignored c = (
   ),
   record {
     heard = λ singles leaves many F h. silent_many singles leaves c.args.self.now F c.args.frame.now many h (rw c.in-Ignored.is at (c.in_ok-message.ensures.answer h.events h.stands)).1;
+    short = tt;
     refused = tt;
     wanted = tt;
     after = tt;

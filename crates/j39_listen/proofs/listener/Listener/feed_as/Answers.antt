@@ -20,8 +20,9 @@ returns-then-is_single c =
       record {
         heard = λ singles leaves said F h.
             let name = subst (λ a. IsHolderAfter (claims_of F) a (option_map name_raw c.holder.result)) (c.source.ensures ∙ ap (λ (x : FrameRecord). source_of x.id) c.frame.view_is) (c.holder.ensures.holder F h.knows) in
-            subst (HeardAtWith singles (F ++ c.args.frame.now ∷ []) (length F)) (sym c.alone.ensures)
+            subst (HeardAtWith singles (F ++ c.args.frame.now ∷ []) (length F)) (sym c.alone.ensures.value)
             (heard_single singles leaves c.args.self.now F c.args.frame.now (option_map name_raw c.holder.result) (said ∙ c.if-is_single.true) h name);
+        short = c.alone.ensures.short;
         refused = tt;
         wanted = tt;
         after = tt;
@@ -34,6 +35,7 @@ returns-then-not-is_network_group c =
       (refl, (λ _. tt), (λ F h. hears_single c.args.self.now F c.args.frame.now free (outside_claims c.args.frame.now free) h)),
       record {
         heard = λ singles leaves said F h. silent_outside singles leaves c.args.self.now F c.args.frame.now free (said ∙ c.if-is_single.false) h;
+        short = tt;
         refused = tt;
         wanted = tt;
         after = tt;
@@ -45,6 +47,7 @@ returns-then-is_address_claimed c = (
   (refl, (λ _. tt), c.in_ok-note.ensures.noted),
   record {
     heard = λ singles leaves said F h. heard_claim singles leaves c.args.self.now F c.args.frame.now (sym (c.is_address_claimed.ensures ∙ ap (λ (x : FrameRecord). pgn_of x.id == 60928) c.frame.view_is) ∙ c.if-is_address_claimed.true) h;
+    short = tt;
     refused = tt;
     wanted = tt;
     after = tt;
@@ -63,6 +66,7 @@ returns c =
       ),
       record {
         heard = if_ok c.assemble.result _ _ (λ heard many singles leaves said. many singles leaves (is_many singles c.args.frame.now other (said ∙ c.if-is_single.false))) c.assemble.ensures.heard;
+        short = c.assemble.ensures.short;
         refused = c.assemble.ensures.refused;
         wanted = c.assemble.ensures.wanted;
         after = tt;

@@ -17,6 +17,7 @@ returns c = (
   record {
     heard = if_ok c.feed_as.result _ _ (λ heard said. said (is_reported_in c.args.groups.now) (reported_leaves c.args.groups.now)
         (ap (is_reported_in c.args.groups.now) (sym (c.pgn.ensures ∙ ap (λ (x : FrameRecord). pgn_of x.id) c.frame.view_is)) ∙ sym c.is_reported.ensures)) c.feed_as.ensures.heard;
+    short = c.feed_as.ensures.short;
     refused = c.feed_as.ensures.refused;
     wanted = c.feed_as.ensures.wanted;
     after = tt;

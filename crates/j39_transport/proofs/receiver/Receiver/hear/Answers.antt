@@ -21,5 +21,5 @@ returns c =
     let s : HearStep c.args.self.now c.args.frame.now now (answer_of c.lend.result) (boxed r.own (held_in t.new.slot) (held_in t.new.lent)) =
     subst (λ (old : BoxedReceiver). HearStep old c.args.frame.now now (answer_of c.lend.result) (boxed r.own (held_in t.new.slot) (held_in t.new.lent))) c.self.view_is h in (
       (refl, (λ _. tt), s),
-      record { answer = (s.step.found, s.finds, s.step.answers); stamp = c.lend.ensures.stamp; after = tt },
+      record { answer = (s.step.found, s.finds, s.step.answers); stamp = c.lend.ensures.stamp; short = c.lend.ensures.short; after = tt },
     )

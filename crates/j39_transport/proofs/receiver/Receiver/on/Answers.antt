@@ -13,6 +13,7 @@ returns c = (
     boxed = λ has. c.hear.ensures.answer.2 ∙ ap (λ (found : Bool). answer_in (recv_step c.args.self.now.state (Heard c.args.frame.now) (stamp_micros c.args.now) found)) (c.hear.ensures.answer.1 has);
     delivered = λ E. were_handed E c.args.self.now.state c.args.frame.now (stamp_micros c.args.now) c.hear.ensures.answer.0 (answer_of c.hear.result) c.hear.ensures.answer.2;
     stamp = c.hear.ensures.stamp;
+    short = c.hear.ensures.short;
     after = tt;
   },
 )

@@ -1,0 +1,55 @@
+-- What calls answer to C: below 0 that nothing was done, and why; 0 nothing more; above it that something was written out.
+use Rattle.std.specs.Prelude.{zero, suc, ℤ, pos, negsuc, Option, Some, None}
+use Rattle.j39_frame.specs.Frame.{FrameRecord}
+use Rattle.j39_transport.specs.Cutting.{ToSend, without_stamp}
+use Rattle.j39_c.specs.Can.{frame_of}
+use Rattle.j39_c.specs.declared.can.CanFrame.{CanFrame}
+use Rattle.j39_c.specs.declared.refusal.Refusal.{Refusal}
+use Rattle.j39_c.specs.declared.refusal.Refusal.TheVariants.{BadValue, NoPart, NoMemory, InUse, NoRoom, End}
+
+abbrev pub bad_value : ℤ
+bad_value = negsuc 0
+
+abbrev pub no_part : ℤ
+no_part = negsuc 1
+
+abbrev pub no_memory : ℤ
+no_memory = negsuc 2
+
+abbrev pub in_use : ℤ
+in_use = negsuc 3
+
+abbrev pub no_room : ℤ
+no_room = negsuc 4
+
+abbrev pub end : ℤ
+end = negsuc 5
+
+abbrev pub code_of : Refusal → ℤ
+code_of BadValue = bad_value
+code_of NoPart = no_part
+code_of NoMemory = no_memory
+code_of InUse = in_use
+code_of NoRoom = no_room
+code_of End = end
+
+-- the call was done; it did nothing
+abbrev pub IsDone : ℤ → Type 0
+IsDone (pos n) = Unit {0}
+IsDone (negsuc n) = ⊥
+
+abbrev pub IsRefused : ℤ → Type 0
+IsRefused (pos n) = ⊥
+IsRefused (negsuc n) = Unit {0}
+
+-- the frame that is to be sent, by what a call answered and wrote out
+abbrev pub sent : ℤ → CanFrame → Option FrameRecord
+sent (pos zero) can = None
+sent (pos (suc n)) can = Some (frame_of can)
+sent (negsuc n) can = None
+
+-- the frame of eight bytes that is to be sent
+abbrev pub sent_packet : ℤ → CanFrame → Option ToSend
+sent_packet (pos zero) can = None
+sent_packet (pos (suc n)) can = Some (without_stamp (frame_of can))
+sent_packet (negsuc n) can = None

@@ -1,0 +1,8 @@
+-- What can be cut.
+use Rattle.std.specs.Prelude.{◌<◌, ◌^◌, ℕ}
+use Rattle.j39_transport.specs.Message.{MessageRecord, IsLong}
+
+-- a message of 9 to 1,785 bytes, at a moment
+pub record CanBeCut (m : MessageRecord) (micros : ℕ) : Type 0 where
+  pub long : IsLong m
+  pub moment : micros < 10 ^ 16

@@ -1,0 +1,10 @@
+pub mod Can
+pub mod Codes
+pub mod Cut
+pub mod Fields
+pub mod Held
+pub mod Holders
+pub mod Messages
+pub mod Nodes
+pub mod Parts
+pub mod Readings

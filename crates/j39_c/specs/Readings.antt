@@ -1,0 +1,47 @@
+-- Readings as C has them.
+use Rattle.std.specs.Prelude.{◌≡◌, ◌<◌, ◌≤◌, ◌^◌, ◌++◌, ◌-◌, ◌⊎◌, ℕ, zero, suc, ℤ, pos, negsuc, List, Option, length, replicate, slice_get, take}
+use Rattle.j39_groups.specs.Readings.{readings_of}
+use Rattle.j39_groups.specs.Value.{ReadingRecord, ValueRecord, number, on, off, error, reserved, indicator, text}
+use Rattle.j39_c.specs.declared.message.WholeMessage.{WholeMessage}
+use Rattle.j39_c.specs.declared.reading.PlainReading.{PlainReading}
+
+-- its parts are in range
+pub record IsReadable (m : WholeMessage) : Type 0 where
+  pub pgn : m.pgn < 2 ^ 18
+  pub len : m.len ≤ 1785
+
+-- its reading of this number, from 0 on, by the built-in table
+abbrev pub reading_in : WholeMessage → ℕ → Option ReadingRecord
+reading_in m index = slice_get (readings_of m.pgn (take m.len m.data)) index
+
+-- a text, filled up with zeros to eight bytes
+abbrev pub IsFilled : List ℕ → List ℕ → Type 0
+IsFilled bytes word = bytes ≡ word ++ replicate (8 - length word) 0
+
+-- a value in plain numbers
+abbrev pub IsPlainValue : PlainReading → ValueRecord → Type 0
+IsPlainValue p (number n slot) = (p.kind ≡ 0) × (p.number ≡ n) × (p.places ≡ slot.places) × IsFilled p.unit slot.unit
+IsPlainValue p on = p.kind ≡ 1
+IsPlainValue p off = p.kind ≡ 2
+IsPlainValue p error = p.kind ≡ 3
+IsPlainValue p reserved = p.kind ≡ 4
+IsPlainValue p indicator = p.kind ≡ 5
+IsPlainValue p (text bytes) = p.kind ≡ 6
+
+abbrev pub IsPlain : PlainReading → ReadingRecord → Type 0
+IsPlain p reading = (p.spn ≡ reading.spn) × IsPlainValue p reading.value
+
+-- a text stands at the front of a buffer of so many bytes, and its length is answered; or memory was refused, or it has no
+-- room there
+pub record IsTold (wanted : List ℕ) (n : ℕ) (buffer : List ℕ) : Type 0 where
+  pub length_is : n ≡ length wanted
+  pub text_is : take n buffer ≡ wanted
+
+abbrev pub IsTextAnswer : ℕ → List ℕ → ℤ → List ℕ → Type 0
+IsTextAnswer room wanted (pos n) buffer = IsTold wanted n buffer
+IsTextAnswer room wanted (negsuc zero) buffer = ⊥
+IsTextAnswer room wanted (negsuc (suc zero)) buffer = ⊥
+IsTextAnswer room wanted (negsuc (suc (suc zero))) buffer = Unit {0}
+IsTextAnswer room wanted (negsuc (suc (suc (suc zero)))) buffer = ⊥
+IsTextAnswer room wanted (negsuc (suc (suc (suc (suc zero))))) buffer = (room < length wanted) ⊎ (2 ^ 31 ≤ length wanted)
+IsTextAnswer room wanted (negsuc (suc (suc (suc (suc (suc n)))))) buffer = ⊥

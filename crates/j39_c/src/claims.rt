@@ -1,0 +1,81 @@
+//! Who holds which address (J1939-81, 4.2.2). It lies in C's own memory.
+ghost use Rattle.std.specs.Prelude.{◌≡◌, ◌≤◌, [], List, None, length};
+ghost use Rattle.std.specs.Option.{option_map};
+ghost use Rattle.j39_address.specs.Claim.{claims_of};
+ghost use Rattle.j39_address.specs.Claims.{Knows};
+ghost use Rattle.j39_address.specs.Holder.{IsHolderAfter};
+ghost use Rattle.j39_address.specs.Name.{name_raw};
+ghost use Rattle.j39_frame.specs.Frame.{FrameRecord};
+ghost use Rattle.j39_c.specs.Can.{Fits, frame_of};
+ghost use Rattle.j39_c.specs.Codes.{IsDone, bad_value};
+ghost use Rattle.j39_c.specs.Holders.{Notes, addresses_in, told_name};
+
+use crate::can::{CanFrame, frame_in};
+use crate::refusal::Refusal;
+use j39_address::{Claims, Name};
+use j39_frame::Frame;
+
+/// Nobody holds an address.
+#[unsafe(no_mangle)]
+pub extern "C" fn j39_claims_init(claims: &mut Claims)
+    ensures { Knows claims.new [] }
+{
+    *claims = Claims::new();
+}
+
+/// Notes a frame: how many addresses have another holder by it, 0 to 2, which stand in `changed` then, rising; -1 for a
+/// frame that is out of range.
+#[unsafe(no_mangle)]
+pub extern "C" fn j39_claims_note(
+    claims: &mut Claims,
+    frame: &CanFrame,
+    changed: &mut [u8; 2],
+) -> i32
+    ensures notes { Fits frame.now
+        → Notes claims.old (frame_of frame.now) (addresses_in result changed.new) claims.new }
+    ensures bad { (Fits frame.now → ⊥) → (result ≡ bad_value) × (claims.new ≡ claims.old) }
+{
+    let Some(noted) = frame_in(frame) else {
+        return Refusal::BadValue.code();
+    };
+    note(claims, &noted, changed)
+}
+
+fn note(claims: &mut Claims, frame: &Frame, changed: &mut [u8; 2]) -> i32
+    ensures { Notes claims.old frame.now (addresses_in result changed.new) claims.new }
+{
+    let addresses = claims.note(frame);
+    put_addresses(addresses.as_slice(), changed)
+}
+
+/// Writes out at most two addresses, and answers how many.
+fn put_addresses(addresses: &[u8], changed: &mut [u8; 2]) -> i32
+    requires { length addresses.now ≤ 2 }
+    ensures { addresses_in result changed.new ≡ addresses.now }
+{
+    let n = addresses.len();
+    changed[..n].copy_from_slice(addresses);
+    n as i32
+}
+
+/// Who holds an address, by the frames noted so far: 1 and the NAME, or 0 where no claim tells it and for 254 and 255.
+#[unsafe(no_mangle)]
+pub extern "C" fn j39_claims_holder(claims: &Claims, address: u8, name: &mut u64) -> i32
+    ensures { (F : List FrameRecord) → Knows claims.now F
+        → IsHolderAfter (claims_of F) address (told_name result name.new) }
+{
+    put_name(claims.holder(address), name)
+}
+
+/// Writes out a NAME: 1, or 0 where there is none.
+pub(crate) fn put_name(holder: Option<Name>, name: &mut u64) -> i32
+    ensures value { told_name result name.new ≡ option_map name_raw holder }
+    ensures done { IsDone result }
+    ensures kept { holder ≡ None → name.new ≡ name.old }
+{
+    let Some(holder) = holder else {
+        return 0;
+    };
+    *name = holder.raw();
+    1
+}

@@ -1,0 +1,33 @@
+//! The stack, callable from C. `c/j1939.h` declares what a C program calls.
+#![tactic(auto)]
+
+mod can;
+mod claims;
+mod cut;
+mod fields;
+mod handle;
+mod listener;
+mod loose;
+mod message;
+mod node;
+mod part;
+mod reading;
+mod receiver;
+mod refusal;
+mod sender;
+
+pub use can::CanFrame;
+pub use claims::{j39_claims_holder, j39_claims_init, j39_claims_note};
+pub use cut::j39_cut_frame;
+pub use fields::{
+    IdFields, NameParts, j39_id_compose, j39_id_split, j39_name_compose, j39_name_split,
+};
+pub use handle::{Handle, j39_close, j39_holds};
+pub use listener::{j39_listener_feed, j39_listener_holder, j39_listener_new};
+pub use message::WholeMessage;
+pub use node::{
+    j39_node_commanded, j39_node_init, j39_node_on, j39_node_start, j39_node_status, j39_node_tick,
+};
+pub use reading::{PlainReading, j39_raw_of, j39_reading, j39_reading_text};
+pub use receiver::{j39_receiver_busy, j39_receiver_new, j39_receiver_on, j39_receiver_tick};
+pub use sender::{j39_sender_new, j39_sender_on, j39_sender_state, j39_sender_tick};

@@ -1,0 +1,142 @@
+//! The parts of the stack that a handle can hold, and what they answer to C.
+ghost use Rattle.std.specs.Prelude.{◌≡◌, Some, None, IfSome, IsSomeAnd, pos};
+ghost use Rattle.j39_frame.specs.Stamp.{stamp_micros};
+ghost use Rattle.j39_transport.specs.Sending.{Heard, SendStep, Tick};
+ghost use Rattle.j39_c.specs.Codes.{IsDone, IsRefused, no_memory, no_part, sent_packet};
+ghost use Rattle.j39_c.specs.Holders.{told_name};
+ghost use Rattle.j39_c.specs.Messages.{message_in};
+ghost use Rattle.j39_c.specs.Parts.{HearsMore, IsHolderBy, IsSendState, LacksMemory, LetsPass, ReceivesMore, busy_code, listener_in, receiver_in, sender_in};
+
+use crate::can::{CanFrame, put_packet};
+use crate::claims::put_name;
+use crate::listener::hear;
+use crate::message::WholeMessage;
+use crate::receiver::receive;
+use crate::refusal::Refusal;
+use crate::sender::{put_state, show};
+use j39_frame::{Frame, Stamp};
+use j39_listen::Listener;
+use j39_transport::{OwnedSender, Receiver, SendEvent};
+
+/// What a handle holds. Each kind lies in a box of its own size.
+#[derive(Drop)]
+pub(crate) enum Part {
+    Listening(Box<Listener>),
+    Receiving(Box<Receiver>),
+    Sending(Box<OwnedSender>),
+}
+
+impl Part {
+    /// Feeds a listener the next frame of the bus.
+    pub(crate) fn feed(&mut self, frame: &Frame, out: &mut WholeMessage) -> i32
+        ensures heard { IsDone result → IfSome (listener_in (Some self.old)) (λ old.
+            IsSomeAnd (listener_in (Some self.new)) (λ new. HearsMore old frame.now (message_in result out.new) new)) }
+        ensures wanted { IsRefused result → IfSome (listener_in (Some self.old)) (λ old.
+            (result ≡ no_memory) × LacksMemory old frame.now) }
+        ensures foreign { listener_in (Some self.old) ≡ None → result ≡ no_part }
+        ensures refused { IsRefused result → self.new ≡ self.old }
+    {
+        match self {
+            Part::Listening(listener) => hear(listener, frame, out),
+            Part::Receiving(_) => Refusal::NoPart.code(),
+            Part::Sending(_) => Refusal::NoPart.code(),
+        }
+    }
+
+    /// Who holds an address, by what a listener heard.
+    pub(crate) fn holder(&self, address: u8, name: &mut u64) -> i32
+        ensures done { IfSome (listener_in (Some self.now)) (λ listener. IsDone result
+            × IsHolderBy listener address (told_name result name.new)) }
+        ensures foreign { listener_in (Some self.now) ≡ None → result ≡ no_part }
+    {
+        match self {
+            Part::Listening(listener) => put_name(listener.holder(address), name),
+            Part::Receiving(_) => Refusal::NoPart.code(),
+            Part::Sending(_) => Refusal::NoPart.code(),
+        }
+    }
+
+    /// What a receiver answers to a frame.
+    pub(crate) fn receive(
+        &mut self,
+        frame: &Frame,
+        out: &mut CanFrame,
+        message: &mut WholeMessage,
+    ) -> i32
+        ensures done { IfSome (receiver_in (Some self.old)) (λ old. IsDone result
+            × IsSomeAnd (receiver_in (Some self.new)) (λ new. ReceivesMore old frame.now result out.new message.new new)) }
+        ensures foreign { receiver_in (Some self.old) ≡ None → (result ≡ no_part) × (self.new ≡ self.old) }
+    {
+        match self {
+            Part::Receiving(receiver) => receive(receiver, frame, out, message),
+            Part::Listening(_) => Refusal::NoPart.code(),
+            Part::Sending(_) => Refusal::NoPart.code(),
+        }
+    }
+
+    /// Lets time pass for a receiver.
+    pub(crate) fn receiver_tick(&mut self, now: Stamp, out: &mut CanFrame) -> i32
+        ensures done { IfSome (receiver_in (Some self.old)) (λ old. IsDone result
+            × IsSomeAnd (receiver_in (Some self.new)) (λ new. LetsPass old (stamp_micros now) (sent_packet result out.new) new)) }
+        ensures foreign { receiver_in (Some self.old) ≡ None → (result ≡ no_part) × (self.new ≡ self.old) }
+    {
+        match self {
+            Part::Receiving(receiver) => put_packet(receiver.tick(now), now, out),
+            Part::Listening(_) => Refusal::NoPart.code(),
+            Part::Sending(_) => Refusal::NoPart.code(),
+        }
+    }
+
+    /// Whether a receiver has a session open.
+    pub(crate) fn busy(&self) -> i32
+        ensures done { IfSome (receiver_in (Some self.now)) (λ receiver. result ≡ busy_code receiver.state.session) }
+        ensures foreign { receiver_in (Some self.now) ≡ None → result ≡ no_part }
+    {
+        match self {
+            Part::Receiving(receiver) => i32::from(receiver.busy()),
+            Part::Listening(_) => Refusal::NoPart.code(),
+            Part::Sending(_) => Refusal::NoPart.code(),
+        }
+    }
+
+    /// Lets time pass for a sender.
+    pub(crate) fn sender_tick(&mut self, now: Stamp, out: &mut CanFrame) -> i32
+        ensures done { IfSome (sender_in (Some self.old)) (λ old. IsDone result
+            × IsSomeAnd (sender_in (Some self.new)) (λ new. SendStep old Tick (stamp_micros now) (sent_packet result out.new) new)) }
+        ensures foreign { sender_in (Some self.old) ≡ None → (result ≡ no_part) × (self.new ≡ self.old) }
+    {
+        match self {
+            Part::Sending(sender) => put_packet(sender.on(SendEvent::Tick, now), now, out),
+            Part::Listening(_) => Refusal::NoPart.code(),
+            Part::Receiving(_) => Refusal::NoPart.code(),
+        }
+    }
+
+    /// Shows a sender a frame.
+    pub(crate) fn sender_hear(&mut self, frame: &Frame) -> i32
+        ensures done { IfSome (sender_in (Some self.old)) (λ old. (result ≡ pos 0)
+            × IsSomeAnd (sender_in (Some self.new)) (λ new. SendStep old (Heard frame.now) frame.now.stamp None new)) }
+        ensures foreign { sender_in (Some self.old) ≡ None → (result ≡ no_part) × (self.new ≡ self.old) }
+    {
+        match self {
+            Part::Sending(sender) => {
+                show(sender, frame);
+                0
+            }
+            Part::Listening(_) => Refusal::NoPart.code(),
+            Part::Receiving(_) => Refusal::NoPart.code(),
+        }
+    }
+
+    /// How far a sender is.
+    pub(crate) fn sender_state(&self, reason: &mut u8) -> i32
+        ensures done { IfSome (sender_in (Some self.now)) (λ sender. IsSendState sender.state result reason.new) }
+        ensures foreign { sender_in (Some self.now) ≡ None → result ≡ no_part }
+    {
+        match self {
+            Part::Sending(sender) => put_state(sender.state(), reason),
+            Part::Listening(_) => Refusal::NoPart.code(),
+            Part::Receiving(_) => Refusal::NoPart.code(),
+        }
+    }
+}

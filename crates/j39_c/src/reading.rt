@@ -1,0 +1,234 @@
+//! The readings of a message (J1939-71).
+ghost use Rattle.std.specs.Prelude.{◌≡◌, ◌≢◌, ◌≤◌, ◌↔◌, ℕ, Some, None, IfOk, IfErr, IfSome, IsSome, length, pos, replicate, slice_get, take};
+ghost use Rattle.std.specs.Option.{option_map};
+ghost use Rattle.j39_frame.specs.Pgn.{pgn_raw};
+ghost use Rattle.j39_groups.specs.Readings.{readings_of};
+ghost use Rattle.j39_groups.specs.Shown.{reading_of, slot_record, value_of};
+ghost use Rattle.j39_groups.specs.Slots.{IsRawOf};
+ghost use Rattle.j39_groups.specs.ValueText.{value_text};
+ghost use Rattle.j39_c.specs.Codes.{bad_value, end};
+ghost use Rattle.j39_c.specs.Readings.{IsFilled, IsPlain, IsReadable, IsTextAnswer, reading_in};
+ghost use Rattle.j39_c.specs.declared.refusal.Refusal.TheVariants.{NoMemory};
+
+use crate::message::WholeMessage;
+use crate::refusal::Refusal;
+use j39_device::{DeviceFault, Sink};
+use j39_frame::Pgn;
+use j39_groups::{Reading, Slot, Value, put_value, raw_of, readings};
+use std::alloc::Global;
+
+/// The longest text that a call can tell.
+const MOST: usize = 0x7FFF_FFFF;
+
+/// A reading, `j1939_reading` of the header.
+#[repr(C)]
+#[derive(Clone, Copy, Debug)]
+pub struct PlainReading {
+    /// Of a number: its value, in units of the last decimal place.
+    pub number: i64,
+    /// The parameter (SPN).
+    pub spn: u32,
+    /// 0 a number, 1 on, 2 off, 3 error, 4 reserved, 5 indicator, 6 a text.
+    pub kind: u8,
+    /// Of a number: how many decimal places it has.
+    pub places: u8,
+    /// Of a number: its unit, ended by a zero.
+    pub unit: [u8; 8],
+}
+
+/// Reads reading number `index` of a message, by the built-in table: 0; -1 for a message that is none, -6 behind the last
+/// reading.
+#[unsafe(no_mangle)]
+pub extern "C" fn j39_reading(message: &WholeMessage, index: usize, out: &mut PlainReading) -> i32
+    ensures read { IsReadable message.now → IfSome (reading_in message.now index) (λ reading.
+        (result ≡ pos 0) × IsPlain out.new reading) }
+    ensures behind { IsReadable message.now → reading_in message.now index ≡ None → result ≡ end }
+    ensures bad { (IsReadable message.now → ⊥) → result ≡ bad_value }
+{
+    let (Some(pgn), Some(payload)) = (Pgn::new(message.pgn), payload_of(message)) else {
+        return Refusal::BadValue.code();
+    };
+    let Some(reading) = reading_at(pgn, payload, index) else {
+        return Refusal::End.code();
+    };
+    *out = plain(&reading);
+    0
+}
+
+/// Writes out the text of reading number `index` of a message, as a report prints it, with no zero at its end: its length;
+/// -1 for a message that is none, -3 where memory is refused, -5 where it doesn't fit, -6 behind the last reading.
+#[unsafe(no_mangle)]
+pub extern "C" fn j39_reading_text(
+    alloc: Global,
+    message: &WholeMessage,
+    index: usize,
+    text: &mut [u8],
+) -> i32
+    ensures read { IsReadable message.now → IfSome (reading_in message.now index) (λ reading.
+        IsTextAnswer (length text.old) (value_text reading.value) result text.new) }
+    ensures behind { IsReadable message.now → reading_in message.now index ≡ None → result ≡ end }
+    ensures bad { (IsReadable message.now → ⊥) → result ≡ bad_value }
+{
+    let (Some(pgn), Some(payload)) = (Pgn::new(message.pgn), payload_of(message)) else {
+        return Refusal::BadValue.code();
+    };
+    let Some(reading) = reading_at(pgn, payload, index) else {
+        return Refusal::End.code();
+    };
+    put_text(alloc, &reading.value, text)
+}
+
+/// The bytes of a message; `None` for one that says too many.
+fn payload_of(message: &WholeMessage) -> Option<&[u8]>
+    ensures known { IsSome result ↔ (message.now.len ≤ 1785) }
+    ensures value { IfSome result (λ payload. payload.now ≡ take message.now.len message.now.data) }
+{
+    message.data.get(..usize::from(message.len))
+}
+
+/// Reading number `index` of a payload.
+fn reading_at(pgn: Pgn, payload: &[u8], index: usize) -> Option<Reading<'_>>
+    ensures { option_map reading_of result ≡ slice_get (readings_of (pgn_raw pgn) payload.now) index }
+{
+    let found = readings(pgn, payload);
+    if index < found.len() {
+        Some(found.as_slice()[index])
+    } else {
+        None
+    }
+}
+
+/// A reading in plain numbers.
+fn plain(reading: &Reading<'_>) -> PlainReading
+    ensures { IsPlain result (reading_of reading.now) }
+{
+    let spn = reading.spn;
+    match reading.value {
+        Value::Number(number, slot) => PlainReading {
+            number,
+            spn,
+            kind: 0,
+            places: slot.places(),
+            unit: unit_of(slot),
+        },
+        Value::On => of_kind(spn, 1),
+        Value::Off => of_kind(spn, 2),
+        Value::Error => of_kind(spn, 3),
+        Value::Reserved => of_kind(spn, 4),
+        Value::Indicator => of_kind(spn, 5),
+        Value::Text(_) => of_kind(spn, 6),
+    }
+}
+
+/// A reading that is no number.
+fn of_kind(spn: u32, kind: u8) -> PlainReading
+    ensures { result ≡ record { number = pos 0; spn = spn; kind = kind; places = 0; unit = replicate 8 0 } }
+{
+    PlainReading {
+        number: 0,
+        spn,
+        kind,
+        places: 0,
+        unit: [0; 8],
+    }
+}
+
+/// The unit of a slot, filled up with zeros.
+fn unit_of(slot: Slot) -> [u8; 8]
+    ensures { IsFilled result (slot_record slot).unit }
+{
+    let text = slot.unit().as_bytes();
+    let mut unit = [0; 8];
+    unit[..text.len()].copy_from_slice(text);
+    unit
+}
+
+/// Writes out a value's text, and answers its length.
+fn put_text(alloc: Global, value: &Value<'_>, text: &mut [u8]) -> i32
+    ensures { IsTextAnswer (length text.old) (value_text (value_of value.now)) result text.new }
+{
+    match text_of(alloc, value) {
+        Ok(made) => copy(made.as_slice(), text),
+        Err(refusal) => refusal.code(),
+    }
+}
+
+/// A value's text.
+fn text_of(alloc: Global, value: &Value<'_>) -> Result<Vec<u8>, Refusal>
+    ensures text { IfOk result (λ text. text.items ≡ value_text (value_of value.now)) }
+    ensures refused { IfErr result (λ refusal. refusal ≡ NoMemory) }
+{
+    let mut text = Text {
+        bytes: Vec::new(alloc),
+        has_failed: false,
+        is_flushed: false,
+    };
+    match put_value(value, &mut text) {
+        Ok(()) => Ok(text.bytes),
+        Err(_) => Err(Refusal::NoMemory),
+    }
+}
+
+/// Copies bytes to the front of a buffer, and answers how many.
+fn copy(from: &[u8], to: &mut [u8]) -> i32
+    ensures { IsTextAnswer (length to.old) from.now result to.new }
+{
+    let n = from.len();
+    if n > to.len() || n > MOST {
+        return Refusal::NoRoom.code();
+    }
+    to[..n].copy_from_slice(from);
+    n as i32
+}
+
+/// A text in memory, as a sink.
+#[derive(Drop)]
+struct Text {
+    bytes: Vec<u8>,
+    has_failed: bool,
+    is_flushed: bool,
+}
+
+impl Sink for Text {
+    ghost use Rattle.std.specs.Prelude.{Some, false};
+
+    ghost held = { λ text. Some text.bytes.items };
+
+    ghost has_failed = { λ text. text.has_failed };
+
+    ghost is_flushed = { λ text. text.is_flushed };
+
+    fn put(&mut self, bytes: &[u8]) -> Result<usize, DeviceFault> {
+        match self.bytes.extend_from_slice(bytes) {
+            Ok(()) => {
+                self.is_flushed = false;
+                Ok(bytes.len())
+            }
+            Err(_) => {
+                self.has_failed = true;
+                Err(DeviceFault)
+            }
+        }
+    }
+
+    fn flush(&mut self) -> Result<(), DeviceFault> {
+        self.is_flushed = true;
+        Ok(())
+    }
+}
+
+/// The raw number of a value of a parameter, in units of its last decimal place: 1 and the number, or 0 where there is none.
+#[unsafe(no_mangle)]
+pub extern "C" fn j39_raw_of(spn: u32, value: i64, raw: &mut u32) -> i32
+    ensures found { result ≡ pos 1 → IsRawOf spn value raw.new }
+    ensures only { (n : ℕ) → IsRawOf spn value n → (result ≡ pos 1) × (raw.new ≡ n) }
+    ensures none { result ≢ pos 1 → (result ≡ pos 0) × (raw.new ≡ raw.old) }
+{
+    match raw_of(spn, value) {
+        Some(found) => {
+            *raw = found;
+            1
+        }
+        None => 0,
+    }
+}

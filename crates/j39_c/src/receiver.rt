@@ -1,0 +1,142 @@
+//! The receiving end of directed transfers (J1939-21, 5.10.3).
+ghost use Rattle.std.specs.Prelude.{◌≡◌, ◌<◌, ◌^◌, Some, None, IfSome, IsSome, IsSomeAnd, pos, true};
+ghost use Rattle.j39_frame.specs.Address.{IsAddress};
+ghost use Rattle.j39_transport.specs.Receiving.{new_receiver};
+ghost use Rattle.j39_c.specs.Can.{Fits, frame_of};
+ghost use Rattle.j39_c.specs.Codes.{IsDone, IsRefused, bad_value, in_use, no_memory, no_part, sent_packet};
+ghost use Rattle.j39_c.specs.Parts.{LetsPass, ReceivesMore, busy_code, receiver_in};
+
+use crate::can::{CanFrame, frame_in, write_packet};
+use crate::handle::Handle;
+use crate::message::WholeMessage;
+use crate::part::Part;
+use crate::refusal::Refusal;
+use j39_frame::{Frame, Stamp, is_address};
+use j39_transport::{Receiver, Reply};
+use std::alloc::Global;
+
+/// Opens a receiver at an address, with its buffer: 0; -1 for an address above 253, -3 where memory is refused, -4 where
+/// the handle is open.
+#[unsafe(no_mangle)]
+pub extern "C" fn j39_receiver_new(alloc: Global, receiver: &mut Handle, own: u8) -> i32
+    ensures made { IsDone result → (result ≡ pos 0) × IsAddress own
+        × (receiver_in receiver.new.part ≡ Some (record { state = new_receiver own; has_box = true })) }
+    ensures open { IsSome receiver.old.part → result ≡ in_use }
+    ensures bad { receiver.old.part ≡ None → (IsAddress own → ⊥) → result ≡ bad_value }
+    ensures wanted { receiver.old.part ≡ None → IsAddress own → IsRefused result → result ≡ no_memory }
+    ensures refused { IsRefused result → receiver.new.part ≡ receiver.old.part }
+{
+    if let Some(part) = receiver.take(alloc) {
+        receiver.put(alloc, part);
+        return Refusal::InUse.code();
+    }
+    if !is_address(own) {
+        return Refusal::BadValue.code();
+    }
+    let Ok(Some(made)) = Receiver::with_buffer(alloc, own) else {
+        return Refusal::NoMemory.code();
+    };
+    let Ok(made) = Box::new(alloc, made) else {
+        return Refusal::NoMemory.code();
+    };
+    let Ok(part) = Box::new(alloc, Part::Receiving(made)) else {
+        return Refusal::NoMemory.code();
+    };
+    receiver.put(alloc, part);
+    0
+}
+
+/// Hands a frame of the bus to a receiver at its own moment: 0; 1 where `out` is to be sent; 2 where `out` is to be sent,
+/// and a message is delivered, which is in `message`. -1 for a frame that is out of range, -2 where the handle holds no
+/// receiver.
+#[unsafe(no_mangle)]
+pub extern "C" fn j39_receiver_on(
+    alloc: Global,
+    receiver: &mut Handle,
+    frame: &CanFrame,
+    out: &mut CanFrame,
+    message: &mut WholeMessage,
+) -> i32
+    ensures done { Fits frame.now → IfSome (receiver_in receiver.old.part) (λ old. IsDone result
+        × IsSomeAnd (receiver_in receiver.new.part) (λ new.
+        ReceivesMore old (frame_of frame.now) result out.new message.new new)) }
+    ensures foreign { Fits frame.now → receiver_in receiver.old.part ≡ None → result ≡ no_part }
+    ensures bad { (Fits frame.now → ⊥) → result ≡ bad_value }
+    ensures refused { IsRefused result → receiver.new.part ≡ receiver.old.part }
+{
+    let Some(heard) = frame_in(frame) else {
+        return Refusal::BadValue.code();
+    };
+    let Some(mut part) = receiver.take(alloc) else {
+        return Refusal::NoPart.code();
+    };
+    let code = part.receive(&heard, out, message);
+    receiver.put(alloc, part);
+    code
+}
+
+/// Lets time pass for a receiver: 1 where `out` is to be sent, else 0. -1 for a moment of 10^16 microseconds and above, -2
+/// where the handle holds no receiver.
+#[unsafe(no_mangle)]
+pub extern "C" fn j39_receiver_tick(
+    alloc: Global,
+    receiver: &mut Handle,
+    micros: u64,
+    out: &mut CanFrame,
+) -> i32
+    ensures done { micros < 10 ^ 16 → IfSome (receiver_in receiver.old.part) (λ old. IsDone result
+        × IsSomeAnd (receiver_in receiver.new.part) (λ new. LetsPass old micros (sent_packet result out.new) new)) }
+    ensures foreign { micros < 10 ^ 16 → receiver_in receiver.old.part ≡ None → result ≡ no_part }
+    ensures bad { (micros < 10 ^ 16 → ⊥) → result ≡ bad_value }
+    ensures refused { IsRefused result → receiver.new.part ≡ receiver.old.part }
+{
+    let Some(now) = Stamp::new(micros) else {
+        return Refusal::BadValue.code();
+    };
+    let Some(mut part) = receiver.take(alloc) else {
+        return Refusal::NoPart.code();
+    };
+    let code = part.receiver_tick(now, out);
+    receiver.put(alloc, part);
+    code
+}
+
+/// Whether a receiver has a session open: 1 or 0; -2 where the handle holds no receiver.
+#[unsafe(no_mangle)]
+pub extern "C" fn j39_receiver_busy(alloc: Global, receiver: &mut Handle) -> i32
+    ensures done { IfSome (receiver_in receiver.old.part) (λ receiver. result ≡ busy_code receiver.state.session) }
+    ensures foreign { receiver_in receiver.old.part ≡ None → result ≡ no_part }
+    ensures same { receiver.new.part ≡ receiver.old.part }
+{
+    let Some(part) = receiver.take(alloc) else {
+        return Refusal::NoPart.code();
+    };
+    let code = part.busy();
+    receiver.put(alloc, part);
+    code
+}
+
+/// What a receiver answers to a frame at its own moment.
+pub(crate) fn receive(
+    receiver: &mut Receiver,
+    frame: &Frame,
+    out: &mut CanFrame,
+    message: &mut WholeMessage,
+) -> i32
+    ensures done { IsDone result }
+    ensures receives { ReceivesMore receiver.old frame.now result out.new message.new receiver.new }
+{
+    let now = frame.stamp;
+    match receiver.on(frame, now) {
+        Reply::Nothing => 0,
+        Reply::Send(id, bytes) => {
+            write_packet(id, bytes, now, out);
+            1
+        }
+        Reply::Delivered(whole, id, bytes) => {
+            write_packet(id, bytes, now, out);
+            message.put_message(&whole, None);
+            2
+        }
+    }
+}
