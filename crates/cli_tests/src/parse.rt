@@ -197,7 +197,8 @@ fn reads_report(rt: HostRuntime) -> Result<(), Fail> {
 
 #[test]
 fn reads_parameters_and_csv(rt: HostRuntime) -> Result<(), Fail> {
-    let most = "1,2,3,4,5,6,7,8,9,10,11,12,13,14,15,16,17,18,19,20,21,22,23,24,25,26,27,28,29,30,31,32";
+    let most =
+        "1,2,3,4,5,6,7,8,9,10,11,12,13,14,15,16,17,18,19,20,21,22,23,24,25,26,27,28,29,30,31,32";
     let lines: [(&[&str], &str); 13] = [
         (
             &["j1939", "report", "--spn", "190,110", "trip.log"],
@@ -206,7 +207,8 @@ fn reads_parameters_and_csv(rt: HostRuntime) -> Result<(), Fail> {
         (&["j1939", "report", "--csv"], "report as csv - -"),
         (
             &[
-                "j1939", "report", "--bus", "can0", "--table", "a", "--spn", "0524287", "--csv", "log",
+                "j1939", "report", "--bus", "can0", "--table", "a", "--spn", "0524287", "--csv",
+                "log",
             ],
             "report by a 524287 as csv can0 log",
         ),

@@ -14,8 +14,7 @@ use Rattle.j39_cli.specs.declared.task.Task.{Task}
 use Rattle.j39_cli.specs.declared.task.Task.TheVariants.{Faults}
 
 abbrev pub faults_app : App
-faults_app =
-    with_log (with_rule (with_table (new_app (codes "faults"))) (flag_rule (codes "all")))
+faults_app = with_log (with_rule (with_table (new_app (codes "faults"))) (flag_rule (codes "all")))
 
 abbrev pub telling_of : Bool → Telling
 telling_of all = if all then All else News

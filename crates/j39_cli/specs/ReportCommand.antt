@@ -27,8 +27,8 @@ use Rattle.j39_cli.specs.declared.task.Task.TheVariants.{Report}
 
 abbrev pub report_app : App
 report_app =
-    with_log (with_rule (with_rule (with_table (new_app (codes "report")))
-    (option_rule (codes "spn") false)) (flag_rule (codes "csv")))
+    with_log (with_rule (with_rule (with_table (new_app (codes "report"))) (option_rule (codes "spn") false))
+    (flag_rule (codes "csv")))
 
 abbrev pub format_of : Bool → Format
 format_of csv = if csv then Csv else Lines

@@ -7,10 +7,6 @@ use Rattle.clap.specs.declared.builder.action.ArgAction.TheVariants.{SetTrue}
 abbrev pub option_rule : Text → Bool → Rule
 option_rule name is_required = record (new_rule name) { long = Some name; value_names = 1; required = is_required }
 
--- a command that goes by a table of parameters takes `--table`
-abbrev pub with_table : App → App
-with_table command = with_rule command (option_rule (codes "table") false)
-
 -- a value that stands alone
 abbrev pub value_rule : Text → Bool → Rule
 value_rule name is_required = record (new_rule name) { value_names = 1; required = is_required }
@@ -23,3 +19,7 @@ flag_rule name = record (new_rule name) { long = Some name; action = Some SetTru
 abbrev pub is_given : Option Text → Bool
 is_given None = false
 is_given (Some text) = bytes_eq text (codes "true")
+
+-- a command that goes by a table of parameters takes `--table`
+abbrev pub with_table : App → App
+with_table command = with_rule command (option_rule (codes "table") false)
