@@ -10,9 +10,10 @@ _j1939_buses() {
 _j1939_options() {
   case $1 in
     '') echo --help -h --version -V ;;
-    report | summary) echo --bus --table --help -h ;;
+    report) echo --bus --table --spn --csv --help -h ;;
+    summary) echo --bus --table --help -h ;;
     faults) echo --bus --table --all --help -h ;;
-    nodes) echo --bus --help -h ;;
+    nodes) echo --bus --csv --help -h ;;
     answer) echo --name --address --bus --help -h ;;
     cut) echo --source --pgn --at --bus --help -h ;;
     groups | survey) echo --table --help -h ;;
@@ -35,7 +36,7 @@ _j1939() {
   case $command:$before:$word in
     *:--bus:*) offered=$(_j1939_buses) ;;
     *:--table:*) compopt -o default 2>/dev/null ;;
-    *:--name:* | *:--address:* | *:--source:* | *:--pgn:* | *:--at:*) ;;
+    *:--name:* | *:--address:* | *:--source:* | *:--pgn:* | *:--at:* | *:--spn:*) ;;
     *:-*) offered=$(_j1939_options "$command") ;;
     :* | help:*) offered=$commands ;;
     report:* | faults:* | summary:* | nodes:* | answer:* | survey:*) compopt -o default 2>/dev/null ;;

@@ -49,7 +49,8 @@ fn told(alloc: Global, task: &Task<'_>) -> Result<String, AllocError> {
             let command = format!(in alloc; "faults {which} by {by}")?;
             told_of_log(alloc, command.as_str(), bus, file)
         }
-        Task::Nodes(bus, file) => told_of_log(alloc, "nodes", bus, file),
+        Task::Nodes(bus, Format::Lines, file) => told_of_log(alloc, "nodes", bus, file),
+        Task::Nodes(bus, Format::Csv, file) => told_of_log(alloc, "nodes as csv", bus, file),
         Task::Answer(name, address, bus, file) => {
             let command = format!(in alloc; "answer {:016X} {}", name.raw(), address.number())?;
             told_of_log(alloc, command.as_str(), bus, file)
@@ -126,13 +127,14 @@ fn reads_faults(rt: HostRuntime) -> Result<(), Fail> {
 
 #[test]
 fn reads_nodes(rt: HostRuntime) -> Result<(), Fail> {
-    let lines: [(&[&str], &str); 4] = [
+    let lines: [(&[&str], &str); 5] = [
         (&["j1939", "nodes"], "nodes - -"),
         (
             &["j1939", "nodes", "--bus", "can0", "trip.log"],
             "nodes can0 trip.log",
         ),
         (&["j1939", "nodes", "--bus", "can 0", "log"], "bad --bus"),
+        (&["j1939", "nodes", "log", "--csv"], "nodes as csv - log"),
         (&["j1939", "nodes", "a", "b"], "usage"),
     ];
     for (words, want) in lines.iter() {

@@ -1,5 +1,5 @@
 -- What the commands that read a log have in common.
-use Rattle.std.specs.Prelude.{◌≡◌, ◌≢◌, ◌⊎◌, ◌<◌, ◌≤◌, ℕ, true, false}
+use Rattle.std.specs.Prelude.{◌≡◌, ◌≢◌, ◌⊎◌, ◌<◌, ◌≤◌, ℕ, Bool, true, false}
 use Rattle.std.specs.Prelude.{◌++◌, List, [], Option, None, Some, Result, Ok, Err, IfSome, if◌then◌else◌, codes, decimal, length}
 use Rattle.std.specs.Str.{bytes_eq}
 use Rattle.std.specs.Option.{ForSome}
@@ -19,10 +19,16 @@ use Rattle.j39_cli.specs.Rules.{option_rule, value_rule}
 use Rattle.j39_cli.specs.Counted.{counts_text}
 use Rattle.j39_cli.specs.Refusal.{error_line}
 use Rattle.j39_cli.specs.Turn.{IsUnmarked, Turn, Writes}
+use Rattle.j39_cli.specs.declared.task.Format.{Format}
+use Rattle.j39_cli.specs.declared.task.Format.TheVariants.{Csv, Lines}
 
 -- a command that reads a log takes `--bus` and FILE
 abbrev pub with_log : App → App
 with_log command = with_rule (with_rule command (option_rule (codes "bus") false)) (value_rule (codes "file") false)
+
+-- how what the log has is written: `--csv` asks for comma-separated values
+abbrev pub format_of : Bool → Format
+format_of csv = if csv then Csv else Lines
 
 -- the file that FILE names: none where it isn't given, or is `-`, which stands for standard input
 abbrev pub opened_of : Option (List ℕ) → Option (List ℕ)

@@ -1,5 +1,5 @@
 -- The command `report [--bus B] [--table T] [--spn SPN,..] [--csv] [FILE]`.
-use Rattle.std.specs.Prelude.{◌≡◌, ◌⊎◌, ◌++◌, ℕ, Bool, true, false, List, [], Option, None, Some, codes, if◌then◌else◌, option_map}
+use Rattle.std.specs.Prelude.{◌≡◌, ◌⊎◌, ◌++◌, ℕ, Bool, true, false, List, [], Option, None, Some, codes, option_map}
 use Rattle.std.specs.Option.{ForSome}
 use Rattle.clap.specs.Words.{App, Text, first_of, new_app, with_rule}
 use Rattle.j39_groups.specs.Readings.{HaveSameGroups, rows_of_spns}
@@ -13,7 +13,7 @@ use Rattle.j39_report_csv.specs.Csv.{MakesRecords}
 use Rattle.j39_report_csv.specs.EntryText.{header_text}
 use Rattle.j39_cli.specs.Answer.{IsBusChecked, IsSpnChecked, IsTask}
 use Rattle.j39_cli.specs.Form.{Form, IsValueIfGiven, Meaning, flag_words, option_words, value_words}
-use Rattle.j39_cli.specs.LogCommand.{IsRun, Makes, fault_text, opened_of, with_log}
+use Rattle.j39_cli.specs.LogCommand.{IsRun, Makes, fault_text, format_of, opened_of, with_log}
 use Rattle.j39_cli.specs.Refusal.{error_line}
 use Rattle.j39_cli.specs.Rules.{flag_rule, is_given, option_rule, with_table}
 use Rattle.j39_cli.specs.Spns.{spns_in}
@@ -29,9 +29,6 @@ abbrev pub report_app : App
 report_app =
     with_log (with_rule (with_rule (with_table (new_app (codes "report"))) (option_rule (codes "spn") false))
     (flag_rule (codes "csv")))
-
-abbrev pub format_of : Bool → Format
-format_of csv = if csv then Csv else Lines
 
 abbrev pub IsReportTask : Option (List ℕ) → Option (List ℕ) → Option (List ℕ) → Bool → Option (List ℕ) → Task → Type 0
 IsReportTask bus table spn csv file (Report bus' table' spns format file') =

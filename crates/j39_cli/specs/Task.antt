@@ -22,7 +22,7 @@ abbrev pub meaning_of : Task → Meaning
 meaning_of (Report bus table spns format file) = report_meaning bus table spns format file
 meaning_of (Summary bus table file) = summary_meaning bus table file
 meaning_of (Faults bus table telling file) = faults_meaning bus table telling file
-meaning_of (Nodes bus file) = nodes_meaning bus file
+meaning_of (Nodes bus format file) = nodes_meaning bus format file
 meaning_of (Answer name address bus file) = answer_meaning (name_raw name) address bus file
 meaning_of (Id id) = id_meaning (id_raw id)
 meaning_of (Name name) = name_meaning (name_raw name)

@@ -1,12 +1,14 @@
 //! What the commands that read a log have in common.
 ghost use Rattle.std.specs.Prelude.{◌≡◌, ◌≤◌, [], IfOk, codes, false, length};
-ghost use Rattle.clap.specs.Words.{app_of};
+ghost use Rattle.clap.specs.Words.{app_of, with_rule};
 ghost use Rattle.clap.specs.declared.builder.command.Command.TheViews.{out-Command as settings_of};
-ghost use Rattle.j39_cli.specs.LogCommand.{IsTold, fault_text, with_log};
+ghost use Rattle.j39_cli.specs.LogCommand.{IsTold, fault_text, format_of, with_log};
 ghost use Rattle.j39_cli.specs.Refusal.{error_line};
+ghost use Rattle.j39_cli.specs.Rules.{flag_rule};
 ghost use Rattle.j39_cli.specs.Turn.{Writes, turn};
 
-use crate::command::{with_option, with_value};
+use crate::Format;
+use crate::command::{with_flag, with_option, with_value};
 use crate::fields::{counts_line, push_field};
 use crate::refusal::{complain, show};
 use arrayvec::ArrayVec;
@@ -19,6 +21,22 @@ use std::alloc::{AllocError, Global};
 
 /// The most bytes of a log that the program reads.
 pub(crate) const LOG_LIMIT: u64 = 17_179_869_184;
+
+/// The command with `--csv`, which each takes that writes comma-separated values too.
+pub(crate) fn with_csv<'a>(alloc: Global, command: Command<'a>) -> Result<Command<'a>, AllocError>
+    ensures app { IfOk result (λ c. app_of c ≡ with_rule (app_of command.entry) (flag_rule (codes "csv"))) }
+    ensures local { IfOk result (λ c. (settings_of c).has_globals ≡ (settings_of command.entry).has_globals) }
+{
+    let help = "As comma-separated values (RFC 4180), below the names of the columns";
+    with_flag(alloc, command, "csv", help)
+}
+
+/// How what a log has is written.
+pub(crate) fn format_by(csv: bool) -> Format
+    ensures { result ≡ format_of csv }
+{
+    if csv { Format::Csv } else { Format::Lines }
+}
 
 /// The command with the arguments of a log.
 pub(crate) fn with_log<'a>(alloc: Global, command: Command<'a>) -> Result<Command<'a>, AllocError>

@@ -3,19 +3,20 @@ ghost use Rattle.std.specs.Prelude.{◌≡◌, ◌≢◌, IfOk, codes, false, tr
 ghost use Rattle.clap.specs.Words.{app_of, first_value, found_of};
 ghost use Rattle.clap.specs.declared.builder.command.Command.TheViews.{out-Command as settings_of};
 ghost use Rattle.j39_listen.specs.Asking.{AsksNowhere};
-ghost use Rattle.j39_listen.specs.Output.{MakesNodes};
 ghost use Rattle.j39_cli.specs.CommandWords as written;
 ghost use Rattle.j39_cli.specs.CommandWords.{IsAnswer};
 ghost use Rattle.j39_cli.specs.LogCommand.{IsRun};
-ghost use Rattle.j39_cli.specs.NodesCommand.{nodes_app};
+ghost use Rattle.j39_cli.specs.NodesCommand.{nodes_app, nodes_in};
+ghost use Rattle.j39_cli.specs.Rules.{is_given};
 ghost use Rattle.j39_cli.specs.Task.{IsInRange};
 ghost use Rattle.j39_cli.specs.Turn.{turn};
 
-use crate::log::{LOG_LIMIT, copy_of, tell_end, with_log};
-use crate::words::bus_value;
-use crate::{ParseFault, Task, WordText};
+use crate::log::{LOG_LIMIT, copy_of, format_by, tell_end, with_csv, with_log};
+use crate::words::{bus_value, is_set};
+use crate::{Format, ParseFault, Task, WordText};
 use clap::{ArgMatches, Command};
 use j39_device::{Sink, Source};
+use j39_listen::nodes_csv;
 use j39_log::Bus;
 use std::alloc::{AllocError, Global};
 
@@ -47,19 +48,20 @@ pub(crate) fn command<'a>(alloc: Global) -> Result<Command<'a>, AllocError>
         .about("Writes who holds which address after a log")
         .long_about(ABOUT)
         .after_help(HELP);
-    with_log(alloc, command)
+    with_log(alloc, with_csv(alloc, command)?)
 }
 
 /// The task that its words ask for.
 pub(crate) fn task<'a>(given: &ArgMatches<'a>) -> Result<Task<'a>, ParseFault>
     ensures answer { IsAnswer (written.nodes (first_value (found_of given.now) (codes "bus"))
-        (first_value (found_of given.now) (codes "file"))) result }
+        (is_given (first_value (found_of given.now) (codes "csv"))) (first_value (found_of given.now) (codes "file"))) result }
     ensures memory { result ≢ Err ParseFault.Memory }
     ensures in_range { IfOk result IsInRange }
 {
     let file = given.get_str("file").map(WordText::new);
+    let format = format_by(is_set(given, "csv"));
     match bus_value(given) {
-        Ok(bus) => Ok(Task::Nodes(bus, file)),
+        Ok(bus) => Ok(Task::Nodes(bus, format, file)),
         Err(fault) => Err(fault),
     }
 }
@@ -67,16 +69,25 @@ pub(crate) fn task<'a>(given: &ArgMatches<'a>) -> Result<Task<'a>, ParseFault>
 /// Performs it: the lines go to `sink`, the counts or what failed to `err`.
 pub(crate) fn perform<R: Source, W: Sink, E: Sink>(
     bus: &Option<Bus>,
+    format: Format,
     source: &mut R,
     sink: &mut W,
     err: &mut E,
 ) -> u8
-    ensures run { IsRun AsksNowhere MakesNodes bus.now result
+    ensures run { IsRun AsksNowhere (nodes_in format) bus.now result
         (turn R.remaining R.has_failed source.old source.new)
         (turn W.held W.has_failed sink.old sink.new)
         (turn E.held E.has_failed err.old err.new) }
     ensures flushed { result ≡ 0 → W.is_flushed sink.new ≡ true }
 {
-    let end = j39_listen::nodes(source, sink, copy_of(bus), LOG_LIMIT);
-    tell_end(end, err)
+    match format {
+        Format::Lines => {
+            let end = j39_listen::nodes(source, sink, copy_of(bus), LOG_LIMIT);
+            tell_end(end, err)
+        }
+        Format::Csv => {
+            let end = nodes_csv(source, sink, copy_of(bus), LOG_LIMIT);
+            tell_end(end, err)
+        }
+    }
 }

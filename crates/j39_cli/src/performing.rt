@@ -69,7 +69,7 @@ pub fn perform_with<R: Source, W: Sink, E: Sink>(
         Task::Faults(bus, _, telling, _) => {
             faults::perform(alloc, groups, bus, *telling, source, sink, err)
         }
-        Task::Nodes(bus, _) => nodes::perform(bus, source, sink, err),
+        Task::Nodes(bus, format, _) => nodes::perform(bus, *format, source, sink, err),
         Task::Answer(name, address, bus, _) => {
             answer::perform(alloc, *name, address, bus, source, sink, err)
         }

@@ -6,13 +6,13 @@ ghost use Rattle.j39_listen.specs.Asking.{AsksForBoxes};
 ghost use Rattle.j39_cli.specs.CommandWords as written;
 ghost use Rattle.j39_cli.specs.CommandWords.{IsAnswer};
 ghost use Rattle.j39_cli.specs.LogCommand.{IsRun};
-ghost use Rattle.j39_cli.specs.ReportCommand.{IsReportRun, format_of, makes_in, report_app};
+ghost use Rattle.j39_cli.specs.ReportCommand.{IsReportRun, makes_in, report_app};
 ghost use Rattle.j39_cli.specs.Rules.{is_given};
 ghost use Rattle.j39_cli.specs.Task.{IsInRange};
 ghost use Rattle.j39_cli.specs.Turn.{turn};
 
-use crate::command::{with_flag, with_option, with_table};
-use crate::log::{LOG_LIMIT, copy_of, tell_end, with_log};
+use crate::command::{with_option, with_table};
+use crate::log::{LOG_LIMIT, copy_of, format_by, tell_end, with_csv, with_log};
 use crate::refusal::complain;
 use crate::words::{bus_value, is_set, spns_value};
 use crate::{Format, ParseFault, Spns, Task, WordText};
@@ -57,8 +57,7 @@ pub(crate) fn command<'a>(alloc: Global) -> Result<Command<'a>, AllocError>
     let command = with_table(alloc, bare(alloc))?;
     let help = "The parameters to write alone: 1 to 32 SPNs, with commas between them";
     let command = with_option(alloc, command, "spn", "SPN,..", false, help)?;
-    let help = "As comma-separated values (RFC 4180), below the names of the columns";
-    with_log(alloc, with_flag(alloc, command, "csv", help)?)
+    with_log(alloc, with_csv(alloc, command)?)
 }
 
 fn bare<'a>(alloc: Global) -> Command<'a>
@@ -90,12 +89,6 @@ pub(crate) fn task<'a>(given: &ArgMatches<'a>) -> Result<Task<'a>, ParseFault>
         Ok(spns) => Ok(Task::Report(bus, table, spns, format, file)),
         Err(fault) => Err(fault),
     }
-}
-
-fn format_by(csv: bool) -> Format
-    ensures { result ≡ format_of csv }
-{
-    if csv { Format::Csv } else { Format::Lines }
 }
 
 /// Performs it by a table of parameters, or by its rows of those that are asked for: the report goes to `sink`, the counts

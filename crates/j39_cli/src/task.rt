@@ -104,8 +104,8 @@ pub enum Task<'a> {
     /// The fault codes in a log: the bus to read, where one is named, the file of the table of parameters, where it
     /// isn't the built-in one, which messages are told, and FILE, as of a report.
     Faults(Option<Bus>, Option<WordText<'a>>, Telling, Option<WordText<'a>>),
-    /// Who holds which address after a log: the bus to read, and FILE, as of a report.
-    Nodes(Option<Bus>, Option<WordText<'a>>),
+    /// Who holds which address after a log: the bus to read, how it is written, and FILE, as of a report.
+    Nodes(Option<Bus>, Format, Option<WordText<'a>>),
     /// What a node of this NAME, which starts with this address, would send: with the bus to read, and FILE, as of
     /// a report.
     Answer(Name, Address, Option<Bus>, Option<WordText<'a>>),
@@ -130,7 +130,7 @@ impl<'a> Task<'a> {
             Task::Report(_, _, _, _, file) => opened_of(file),
             Task::Summary(_, _, file) => opened_of(file),
             Task::Faults(_, _, _, file) => opened_of(file),
-            Task::Nodes(_, file) => opened_of(file),
+            Task::Nodes(_, _, file) => opened_of(file),
             Task::Answer(_, _, _, file) => opened_of(file),
             Task::Survey(_, file) => opened_of(file),
             _ => None,

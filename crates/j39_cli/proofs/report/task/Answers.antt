@@ -1,7 +1,7 @@
 -- The bus is checked, and then the parameters.
 use Rattle.std.proofs.Common.{◌∙◌, ap, codes, rules}
 use Rattle.clap.specs.Words.{first_value, found_of}
-use Rattle.j39_cli.specs.ReportCommand.{format_of}
+use Rattle.j39_cli.specs.LogCommand.{format_of}
 use Rattle.j39_cli.proofs.TakenLemmas.{bus_read, spns_read, spns_wrong}
 use Rattle.j39_cli.proofs.report.task.Goals as goal
 
