@@ -22,6 +22,7 @@ static j1939_node node;
 static j1939_frame out;
 static j1939_frame engine = {.micros = 1, .id = 0x0CF00400, .len = 8, .data = {0xFF, 0xFF, 0xFF, 0xE0, 0x2E, 0xFF, 0xFF, 0xFF}};
 static const j1939_frame other = {.micros = 1, .id = 0x18FF0100, .len = 8};
+static const j1939_frame bam = {.micros = 1, .id = 0x1CECFF80, .len = 8, .data = {0x20, 20, 0, 3, 0xFF, 0xEC, 0xFE, 0}};
 static const j1939_frame claim = {.micros = 1, .id = 0x18EEFF05, .len = 8, .data = {5}};
 static j1939_message message;
 static j1939_reading reading;
@@ -35,6 +36,7 @@ static void hear_other(void) { EXPECT(j1939_listener_feed(&listener, &other, &me
 static void read_number(void) { EXPECT(j1939_read(&message, 0, &reading) == 0); }
 static char text[64];
 static void read_text(void) { EXPECT(j1939_read_text(&message, 0, text, sizeof text) > 0); }
+static void announce(void) { EXPECT(j1939_listener_feed(&listener, &bam, &message) == 0); }
 static void node_tick(void) { EXPECT(j1939_node_tick(&node, 5) == 0); }
 static void node_on(void) { EXPECT(j1939_node_on(&node, &claim, &out) == 0); }
 static void receiver_tick(void) { EXPECT(j1939_receiver_tick(&receiver, 5, &out) == 0); }
@@ -86,6 +88,7 @@ int main(void) {
     measure("sender_new", open_sender, 0);
     measure("listener_feed", hear, 1000000);
     measure("  other group", hear_other, 1000000);
+    measure("  announced", announce, 1000000);
     measure("read", read_number, 1000000);
     measure("read_text", read_text, 1000000);
     measure("node_tick", node_tick, 1000000);

@@ -1,5 +1,5 @@
 -- What calls answer to C: below 0 that nothing was done, and why; 0 nothing more; above it that something was written out.
-use Rattle.std.specs.Prelude.{zero, suc, ℤ, pos, negsuc, Option, Some, None}
+use Rattle.std.specs.Prelude.{◌≡◌, ℕ, zero, suc, ℤ, pos, negsuc, Option, Some, None}
 use Rattle.j39_frame.specs.Frame.{FrameRecord}
 use Rattle.j39_transport.specs.Cutting.{ToSend, without_stamp}
 use Rattle.j39_c.specs.Can.{frame_of}
@@ -47,6 +47,12 @@ abbrev pub sent : ℤ → CanFrame → Option FrameRecord
 sent (pos zero) can = None
 sent (pos (suc n)) can = Some (frame_of can)
 sent (negsuc n) can = None
+
+-- a frame that is written out has this moment
+abbrev pub IsSentAt : ℤ → CanFrame → ℕ → Type 0
+IsSentAt (pos zero) can now = Unit {0}
+IsSentAt (pos (suc n)) can now = can.micros ≡ now
+IsSentAt (negsuc n) can now = Unit {0}
 
 -- the frame of eight bytes that is to be sent
 abbrev pub sent_packet : ℤ → CanFrame → Option ToSend

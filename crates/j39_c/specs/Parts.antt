@@ -65,18 +65,23 @@ pub record IsHolderBy (listener : heard.Listener) (address : ℕ) (name : Option
 
 -- ---- receivers
 
--- what is answered in C: 0 nothing, 1 a frame to send, 2 that and a message that is delivered
-abbrev pub IsAnswer : ℤ → CanFrame → WholeMessage → ReceiverAnswer → Type 0
-IsAnswer (pos zero) can m a = a ≡ record { sends = None; delivers = None }
-IsAnswer (pos (suc zero)) can m a = a ≡ record { sends = Some (without_stamp (frame_of can)); delivers = None }
-IsAnswer (pos (suc (suc n))) can m a =
-    (a.sends ≡ Some (without_stamp (frame_of can))) × (a.delivers ≡ Some (hearing_in m).message)
-IsAnswer (negsuc n) can m a = ⊥
+-- a frame that is written out to be sent at a moment
+abbrev pub Sends : CanFrame → ℕ → Option ToSend → Type 0
+Sends can now sends = (can.micros ≡ now) × (sends ≡ Some (without_stamp (frame_of can)))
+
+-- what is answered in C at a moment: 0 nothing, 1 a frame to send, 2 that and a message that is delivered, of this moment
+abbrev pub IsAnswer : ℕ → ℤ → CanFrame → WholeMessage → ReceiverAnswer → Type 0
+IsAnswer now (pos zero) can m a = a ≡ record { sends = None; delivers = None }
+IsAnswer now (pos (suc zero)) can m a = Sends can now a.sends × (a.delivers ≡ None)
+IsAnswer now (pos (suc (suc n))) can m a = Sends can now a.sends
+    × (whole : MessageRecord) × (a.delivers ≡ Some whole)
+    × (hearing_in m ≡ record { message = whole; stamp = now; name = None })
+IsAnswer now (negsuc n) can m a = ⊥
 
 -- it takes the step of a frame at the frame's own moment, stands for it too, and answers so
 abbrev pub ReceivesMore : BoxedReceiver → FrameRecord → ℤ → CanFrame → WholeMessage → BoxedReceiver → Type 0
 ReceivesMore old frame code can m new =
-    (a : ReceiverAnswer) × HasHeard old frame frame.stamp a new × IsAnswer code can m a
+    (a : ReceiverAnswer) × HasHeard old frame frame.stamp a new × IsAnswer frame.stamp code can m a
 
 -- it takes the step of a tick, and keeps its buffer
 pub record LetsPass (old : BoxedReceiver) (now : ℕ) (sends : Option ToSend) (new : BoxedReceiver) : Type 0 where

@@ -1,10 +1,10 @@
 //! Frames as C has them.
-ghost use Rattle.std.specs.Prelude.{◌≡◌, ◌≢◌, ◌↔◌, None, IsSome, IfSome};
+ghost use Rattle.std.specs.Prelude.{◌≡◌, ◌↔◌, None, IsSome, IfSome};
 ghost use Rattle.std.specs.Option.{option_map};
 ghost use Rattle.j39_frame.specs.Stamp.{stamp_micros};
 ghost use Rattle.j39_transport.specs.Cutting.{to_send, without_stamp};
 ghost use Rattle.j39_c.specs.Can.{Fits, frame_of};
-ghost use Rattle.j39_c.specs.Codes.{IsDone, sent, sent_packet};
+ghost use Rattle.j39_c.specs.Codes.{IsDone, IsSentAt, sent, sent_packet};
 
 use j39_frame::{Frame, Id, Stamp};
 
@@ -60,7 +60,7 @@ pub(crate) fn put_frame(frame: Option<Frame>, can: &mut CanFrame) -> i32
 /// Writes out a frame of eight bytes that is to be sent at a moment: 1, or 0 where there is none.
 pub(crate) fn put_packet(packet: Option<(Id, [u8; 8])>, now: Stamp, can: &mut CanFrame) -> i32
     ensures value { sent_packet result can.new ≡ option_map to_send packet }
-    ensures moment { packet ≢ None → can.new.micros ≡ stamp_micros now }
+    ensures moment { IsSentAt result can.new (stamp_micros now) }
     ensures done { IsDone result }
     ensures kept { packet ≡ None → can.new ≡ can.old }
 {

@@ -25,7 +25,7 @@ pub extern "C" fn j39_cut_frame(
 ) -> i32
     ensures frame { CanBeCut (record { source = source; pgn = pgn; bytes = payload.now }) micros
         → k ≤ packets_of (record { source = source; pgn = pgn; bytes = payload.now })
-        → (result ≡ pos 1) × (without_stamp (frame_of out.new)
+        → (result ≡ pos 1) × (out.new.micros ≡ micros) × (without_stamp (frame_of out.new)
         ≡ cut_frame (as_broadcast (record { source = source; pgn = pgn; bytes = payload.now })) (record { source = source; pgn = pgn; bytes = payload.now }) k) }
     ensures behind { CanBeCut (record { source = source; pgn = pgn; bytes = payload.now }) micros
         → packets_of (record { source = source; pgn = pgn; bytes = payload.now }) < k → result ≡ pos 0 }

@@ -2,7 +2,7 @@
 ghost use Rattle.std.specs.Prelude.{◌≡◌, Some, None, IfSome, IsSomeAnd, pos};
 ghost use Rattle.j39_frame.specs.Stamp.{stamp_micros};
 ghost use Rattle.j39_transport.specs.Sending.{Heard, SendStep, Tick};
-ghost use Rattle.j39_c.specs.Codes.{IsDone, IsRefused, no_memory, no_part, sent_packet};
+ghost use Rattle.j39_c.specs.Codes.{IsDone, IsRefused, IsSentAt, no_memory, no_part, sent_packet};
 ghost use Rattle.j39_c.specs.Holders.{told_name};
 ghost use Rattle.j39_c.specs.Messages.{message_in};
 ghost use Rattle.j39_c.specs.Parts.{HearsMore, IsHolderBy, IsSendState, LacksMemory, LetsPass, ReceivesMore, busy_code, listener_in, receiver_in, sender_in};
@@ -78,6 +78,7 @@ impl Part {
     pub(crate) fn receiver_tick(&mut self, now: Stamp, out: &mut CanFrame) -> i32
         ensures done { IfSome (receiver_in (Some self.old)) (λ old. IsDone result
             × IsSomeAnd (receiver_in (Some self.new)) (λ new. LetsPass old (stamp_micros now) (sent_packet result out.new) new)) }
+        ensures moment { IsSentAt result out.new (stamp_micros now) }
         ensures foreign { receiver_in (Some self.old) ≡ None → (result ≡ no_part) × (self.new ≡ self.old) }
     {
         match self {
@@ -103,6 +104,7 @@ impl Part {
     pub(crate) fn sender_tick(&mut self, now: Stamp, out: &mut CanFrame) -> i32
         ensures done { IfSome (sender_in (Some self.old)) (λ old. IsDone result
             × IsSomeAnd (sender_in (Some self.new)) (λ new. SendStep old Tick (stamp_micros now) (sent_packet result out.new) new)) }
+        ensures moment { IsSentAt result out.new (stamp_micros now) }
         ensures foreign { sender_in (Some self.old) ≡ None → (result ≡ no_part) × (self.new ≡ self.old) }
     {
         match self {

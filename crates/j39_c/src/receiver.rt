@@ -3,7 +3,7 @@ ghost use Rattle.std.specs.Prelude.{◌≡◌, ◌<◌, ◌^◌, Some, None, IfS
 ghost use Rattle.j39_frame.specs.Address.{IsAddress};
 ghost use Rattle.j39_transport.specs.Receiving.{new_receiver};
 ghost use Rattle.j39_c.specs.Can.{Fits, frame_of};
-ghost use Rattle.j39_c.specs.Codes.{IsDone, IsRefused, bad_value, in_use, no_memory, no_part, sent_packet};
+ghost use Rattle.j39_c.specs.Codes.{IsDone, IsRefused, IsSentAt, bad_value, in_use, no_memory, no_part, sent_packet};
 ghost use Rattle.j39_c.specs.Parts.{LetsPass, ReceivesMore, busy_code, receiver_in};
 
 use crate::can::{CanFrame, frame_in, write_packet};
@@ -86,6 +86,7 @@ pub extern "C" fn j39_receiver_tick(
 ) -> i32
     ensures done { micros < 10 ^ 16 → IfSome (receiver_in receiver.old.part) (λ old. IsDone result
         × IsSomeAnd (receiver_in receiver.new.part) (λ new. LetsPass old micros (sent_packet result out.new) new)) }
+    ensures moment { IsSentAt result out.new micros }
     ensures foreign { micros < 10 ^ 16 → receiver_in receiver.old.part ≡ None → result ≡ no_part }
     ensures bad { (micros < 10 ^ 16 → ⊥) → result ≡ bad_value }
     ensures refused { IsRefused result → receiver.new.part ≡ receiver.old.part }

@@ -2,7 +2,7 @@
 ghost use Rattle.std.specs.Prelude.{◌≡◌, ◌<◌, ◌^◌, Some, None, IfSome, IfOk, IfErr, IsSome, IsSomeAnd, pos};
 ghost use Rattle.j39_transport.specs.Sending.{Heard, SendStep, Tick, new_sender};
 ghost use Rattle.j39_c.specs.Can.{Fits, frame_of};
-ghost use Rattle.j39_c.specs.Codes.{IsDone, IsRefused, bad_value, in_use, no_memory, no_part, sent_packet};
+ghost use Rattle.j39_c.specs.Codes.{IsDone, IsRefused, IsSentAt, bad_value, in_use, no_memory, no_part, sent_packet};
 ghost use Rattle.j39_c.specs.Parts.{CanSend, IsSendCode, IsSendRefusal, IsSendState, sender_in};
 
 use crate::can::{CanFrame, frame_in};
@@ -95,6 +95,7 @@ pub extern "C" fn j39_sender_tick(
 ) -> i32
     ensures done { micros < 10 ^ 16 → IfSome (sender_in sender.old.part) (λ old. IsDone result
         × IsSomeAnd (sender_in sender.new.part) (λ new. SendStep old Tick micros (sent_packet result out.new) new)) }
+    ensures moment { IsSentAt result out.new micros }
     ensures foreign { micros < 10 ^ 16 → sender_in sender.old.part ≡ None → result ≡ no_part }
     ensures bad { (micros < 10 ^ 16 → ⊥) → result ≡ bad_value }
     ensures refused { IsRefused result → sender.new.part ≡ sender.old.part }

@@ -18,7 +18,7 @@ pub(crate) const RTS: [u8; 8] = [0x10, 0x12, 0, 3, 0xFF, 0xEC, 0xFE, 0];
 
 pub(crate) const CTS: [u8; 8] = [0x11, 3, 1, 0xFF, 0xFF, 0xEC, 0xFE, 0];
 
-const ACKNOWLEDGMENT: [u8; 8] = [0x13, 0x12, 0, 3, 0xFF, 0xEC, 0xFE, 0];
+pub(crate) const ACKNOWLEDGMENT: [u8; 8] = [0x13, 0x12, 0, 3, 0xFF, 0xEC, 0xFE, 0];
 
 const TIMEOUT: [u8; 8] = [0xFF, 3, 0xFF, 0xFF, 0xFF, 0xEC, 0xFE, 0];
 
@@ -35,11 +35,11 @@ pub(crate) fn sender() -> Option<Sender<'static>> {
     Sender::new(Cut::new(0, Pgn::new(65260)?, &VIN)?, 0x0B)
 }
 
-fn frame(raw: u32, bytes: &[u8]) -> Option<Frame> {
+pub(crate) fn frame(raw: u32, bytes: &[u8]) -> Option<Frame> {
     Frame::new(Stamp::new(0)?, Id::new(raw)?, bytes)
 }
 
-fn shown(sent: Option<(Id, [u8; 8])>) -> Sent {
+pub(crate) fn shown(sent: Option<(Id, [u8; 8])>) -> Sent {
     let (id, bytes) = sent?;
     Some((id.raw(), bytes))
 }

@@ -12,6 +12,8 @@ mod directed;
 #[cfg(test)]
 mod losses;
 #[cfg(test)]
+mod owned;
+#[cfg(test)]
 mod receiver_memory;
 #[cfg(test)]
 mod transfers;
