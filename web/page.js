@@ -95,6 +95,7 @@ function showLog(it, all) {
     return pair;
   }));
   showHint(it.counts);
+  showFaults(it);
   showNodes(it.nodes);
   showHead();
   showRows();
@@ -112,16 +113,39 @@ function showHint({ frames, other, unread, lines }) {
   $('hint').hidden = !hints.length;
 }
 
-function showNodes(nodes) {
-  const columns = ['address', 'NAME', 'function', 'manufacturer code', 'industry group', 'vehicle system', 'function instance',
-    'ECU instance', 'system instance', 'identity number', 'may change address'];
+// A line is `(STAMP) AA NAME active|previous SPN FMI COUNT LAMPS WORDS`, `.. CODE - LAMPS` where the code's four bytes are of
+// an older form, or `.. none - LAMPS`.
+function faultCells(line) {
+  const [stamp, address, name, state, code, ...rest] = line.split(' ');
+  const isPlain = rest.length > 2;
+  const [fmi, times] = isPlain ? rest : ['', ''];
+  return [[clock(Number(stamp.slice(1, -1)), true)], [address], [name, 'code'], [state], [code, 'n'], [fmi, 'n'],
+    [times, 'n'], [rest[isPlain ? 2 : 1]], [isPlain ? rest.slice(3).join(' ') : '']];
+}
+
+function showFaults({ faults, faultLines }) {
+  $('faults-section').hidden = !faults.some(line => line.split(' ')[4] !== 'none');
+  headOf($('faults'), ['time', 'address', 'NAME', 'state', 'SPN', 'FMI', 'count', 'lamps', 'what']);
+  $('faults').tBodies[0].replaceChildren(...faults.map(line => rowOf(faultCells(line))));
+  $('faults-shown').textContent = faults.length < faultLines
+    ? `${count(faultLines, 'line')}, of which the first ${number(faults.length)} are shown`
+    : count(faultLines, 'line');
+}
+
+function headOf(table, columns) {
   const head = element('tr');
   for (const column of columns) {
     const cell = element('th', column);
     cell.scope = 'col';
     head.append(cell);
   }
-  $('nodes').tHead.replaceChildren(head);
+  table.tHead.replaceChildren(head);
+}
+
+function showNodes(nodes) {
+  const columns = ['address', 'NAME', 'function', 'manufacturer code', 'industry group', 'vehicle system', 'function instance',
+    'ECU instance', 'system instance', 'identity number', 'may change address'];
+  headOf($('nodes'), columns);
   $('nodes').tBodies[0].replaceChildren(...nodes.map(({ address, name, fields: f }) => {
     const industry = INDUSTRIES[f.industry] ? `${f.industry}, ${INDUSTRIES[f.industry]}` : f.industry;
     return rowOf([[`${parseInt(address, 16)} (${address})`], [name, 'code'], [f.function, 'n'], [f.manufacturer, 'n'], [industry],
@@ -312,6 +336,7 @@ function saveTable() {
 
 $('save-report').onclick = () => save(log.report, `${stem()}.report.txt`);
 $('save-table').onclick = saveTable;
+$('save-faults').onclick = () => save(log.faultText, `${stem()}.faults.txt`);
 $('save-values').onclick = () => worker.postMessage({ values: chosen });
 $('whole').onclick = showWhole;
 $('filter').oninput = showRows;
@@ -319,7 +344,10 @@ $('file').onchange = event => {
   read(event.target.files[0]);
   event.target.value = '';
 };
-for (const zone of document.querySelectorAll('input[name=zone]')) zone.onchange = () => showTime(shownFrom, shownTo);
+for (const zone of document.querySelectorAll('input[name=zone]')) zone.onchange = () => {
+  showTime(shownFrom, shownTo);
+  if (log) showFaults(log);
+};
 $('show-licence').onclick = () => {
   $('licence').textContent = $('licence-text').textContent;
   $('licence').hidden = !$('licence').hidden;

@@ -2,7 +2,7 @@
 // It is told {module} once, and then {file, bus}, {plot, from, to, points, ticket} or {values}.
 'use strict';
 const PAGE = 65536, STEP = 4 << 20, TOLD = 64;
-const DONE = 0, TOO_SMALL = 2;
+const DONE = 0, TOO_SMALL = 2, MOST_FAULTS = 1000;
 const REFUSALS = { 1: 'out of memory', 3: 'that is no name of an interface' };
 const NAME_FIELDS = ['arbitrary', 'industry', 'systemInstance', 'system', 'reserved', 'function',
   'functionInstance', 'ecuInstance', 'manufacturer', 'identity'];
@@ -92,7 +92,14 @@ function readLog(file, busName, tell) {
     const [address, nodeName] = line.split(' ');
     return { address, name: nodeName, fields: fieldsOf(place, nodeName) };
   });
-  return { name: file.name, size: file.size, counts: report.counts, nodes, report: saved };
+  const faults = textOf(place, 'j39_faults', log, bus, PAGE).bytes.slice();
+  return { name: file.name, size: file.size, counts: report.counts, nodes, report: saved, ...told(faults) };
+}
+
+// The lines of the fault codes, of which a page shows the first, and all to be saved.
+function told(bytes) {
+  const lines = latin(bytes).split('\n').filter(Boolean);
+  return { faults: lines.slice(0, MOST_FAULTS), faultLines: lines.length, faultText: new Blob([bytes], { type: 'text/plain' }) };
 }
 
 // ---- what the page shows, out of the lines of the report --------------------------------------
