@@ -1,8 +1,8 @@
 -- What is kept of a message of faults, for each address.
 use Rattle.std.specs.Prelude.{◌&&◌, not, ℕ, Bool, List, Option, Some, None, bytes_eq, map, option_map, slice_index_or}
 use Rattle.std.specs.Prelude.{take, true}
-use Rattle.std.specs.Global.{Global}
-use Rattle.std.specs.declared.boxed.Box.{Box}
+use Rattle.j39_store.specs.declared.Stored.{Stored}
+use Rattle.j39_store.specs.Stored.{value_of}
 use Rattle.j39_fault_news.specs.News.{is_same_name}
 
 -- the bytes of a message, and the NAME that it came under
@@ -27,9 +27,9 @@ Places = List (Option SaidRecord)
 abbrev pub at : Places → ℕ → Option SaidRecord
 at places a = slice_index_or places a None
 
--- what the boxes hold
-abbrev pub held_in : Option (Box SaidRecord Global) → Option SaidRecord
-held_in = option_map (λ b. b.value)
+-- what is stored there
+abbrev pub held_in : Option (Stored SaidRecord) → Option SaidRecord
+held_in = option_map value_of
 
-abbrev pub shown : List (Option (Box SaidRecord Global)) → Places
+abbrev pub shown : List (Option (Stored SaidRecord)) → Places
 shown = map held_in

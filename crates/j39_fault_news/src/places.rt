@@ -1,25 +1,30 @@
 //! For each address what was said last.
 ghost use Rattle.std.specs.Prelude.{◌≡◌, IfOk, None, OnErr, OnOk, Some, option_map, replicate, slice_set};
 ghost use Rattle.j39_address.specs.Name.{name_raw};
+ghost use Rattle.j39_store.specs.Stored.{value_of};
 ghost use Rattle.j39_fault_news.specs.Said.{at, differs, held_in, said_by};
 
 use crate::said::Said;
 use j39_address::Name;
+use j39_store::Stored;
 use std::alloc::{AllocError, Global};
+use std::array;
 use std::marker::Model;
 
-/// Nothing was said, or this, in a box.
-type Place = Option<Box<Said>>;
+/// Nothing was said, or this.
+type Place = Option<Stored<Said>>;
 
 /// As many places as a source byte has values; a message comes from 0 to 253 alone.
 const SOURCES: usize = 256;
 
-const EMPTY: Place = None;
-
 fn empty() -> [Place; SOURCES]
     ensures { result ≡ replicate 256 None }
 {
-    [EMPTY; SOURCES]
+    array::from_fn(
+        |_| -> Place
+            ensures { result ≡ None }
+        { None },
+    )
 }
 
 /// What was said last by each address, in messages of one group.
@@ -60,8 +65,8 @@ impl Places {
 
     /// Puts in what an address says.
     #[tactic(auto, using(crate::proofs::PlaceLemmas::put_in))]
-    fn put(&mut self, source: u8, said: Box<Said>)
-        ensures { self.new ≡ slice_set self.old source (Some said.value) }
+    fn put(&mut self, source: u8, said: Stored<Said>)
+        ensures { self.new ≡ slice_set self.old source (Some (value_of said)) }
     {
         self.places[usize::from(source)] = Some(said);
     }
@@ -83,7 +88,7 @@ impl Places {
         ensures first { OnErr result (at self.old source ≡ None) }
     {
         let Some(mut said) = self.take(source) else {
-            self.put(source, Box::new(alloc, Said::new(payload, name))?);
+            self.put(source, Stored::new(alloc, Said::new(payload, name))?);
             return Ok(true);
         };
         let is_known = said.is(payload, name);

@@ -1,7 +1,7 @@
 //! The run that tells the faults in a log.
 ghost use Rattle.std.specs.Prelude.{◌≡◌, ◌≢◌, ◌<◌, ◌≤◌, ◌⊎◌, IfOk, IfSome, OnOk, OnErr, Err, length, true};
 ghost use Rattle.j39_listen.specs.Asking.{AsksWithin};
-ghost use Rattle.j39_listen.specs.Run.{StopsAtLimit, StopsWithin, TakesWithin, Writes};
+ghost use Rattle.j39_listen.specs.Run.{StopsAtLimit, StopsWithin, TakesWithin, Writes, WritesFront};
 ghost use Rattle.j39_listen.specs.declared.running.RunFault.TheVariants.{Memory, Read, Write, TooLong};
 ghost use Rattle.j39_fault_news.specs.Asking.{AsksForFaults};
 ghost use Rattle.j39_fault_news.specs.Output.{MakesFaults};
@@ -53,6 +53,10 @@ pub fn faults<R: Source, W: Sink>(
     ensures flushed { OnOk result (W.is_flushed sink.new ≡ true) }
     ensures flushed_at_reads { (result ≡ Err Read) ⊎ (result ≡ Err TooLong)
         → W.is_flushed sink.old ≡ true → W.is_flushed sink.new ≡ true }
+
+    // What was written before a fault of the writer is a front of what is written for the whole log.
+    ensures cut_short { result ≡ Err Write → IfSome (R.remaining source.old)
+        (λ log. WritesFront (MakesFaults groups.now telling) bus log (W.held sink.old) (W.held sink.new)) }
 
     // What was written before a fault is a front of what is written for the bytes that were read.
     ensures prefix { OnErr result (StopsWithin (MakesFaults groups.now telling) bus

@@ -9,15 +9,25 @@ use j39_address::Name;
 #[repr(C)]
 #[derive(Clone, Copy, Debug, PartialEq, Eq)]
 pub struct NameFields {
+    /// Whether it may take another address: 0 or 1.
     pub arbitrary: u32,
+    /// The industry group, 0 to 7.
     pub industry: u32,
+    /// The vehicle system instance, 0 to 15.
     pub system_instance: u32,
+    /// The vehicle system, 0 to 127.
     pub system: u32,
+    /// The reserved bit, 0 or 1.
     pub reserved: u32,
+    /// The function, 0 to 255.
     pub function: u32,
+    /// The function instance, 0 to 31.
     pub function_instance: u32,
+    /// The ECU instance, 0 to 7.
     pub ecu_instance: u32,
+    /// The manufacturer code, 0 to 2,047.
     pub manufacturer: u32,
+    /// The identity number, 0 to 2,097,151.
     pub identity: u32,
 }
 

@@ -3,6 +3,9 @@
 
 ghost use Rattle.std.specs.Prelude.{◌≡◌, ◌≢◌, ◌<◌, ◌≤◌, ◌↔◌, ◌⊎◌, length, take};
 ghost use Rattle.j39_address.specs.Name.{fields_of};
+ghost use Rattle.j39_fault_news.specs.Asking.{AsksForFaults};
+ghost use Rattle.j39_fault_news.specs.Output.{MakesFaults};
+ghost use Rattle.j39_fault_news.specs.declared.telling.Telling.TheVariants.{News};
 ghost use Rattle.j39_groups.specs.Printed.{parameters_text};
 ghost use Rattle.j39_groups.specs.Table.{the_table};
 ghost use Rattle.j39_listen.specs.Asking.{AsksForBoxes};
@@ -53,6 +56,38 @@ pub extern "C" fn j39_report(
 {
     match bus_named(bus) {
         Some(bus) => answer(texts::report(alloc, log, bus, room), text),
+        None => WRONG_BUS,
+    }
+}
+
+/// Writes the fault codes in a log (DM1, DM2) into a room, as they become news: a line for each code, with the name that
+/// the built-in table has for its parameter. The bus and the answers are those of `j39_report`.
+#[unsafe(no_mangle)]
+pub extern "C" fn j39_faults(
+    alloc: Global,
+    log: &[u8],
+    bus: &[u8],
+    room: &mut [u8],
+    text: &mut LogText,
+) -> u32
+    // What stands at the front of the room is the faults that are told in the log's frames, and nothing else.
+    ensures faults { result ≡ done
+        → IsMade (MakesFaults the_table News) (given_bus bus.now) log.now text.new room.new }
+
+    // The room is too small exactly where that text has as many bytes, or more.
+    ensures fits { result ≡ done → text.new.bytes < length room.new }
+    ensures too_small { result ≡ too_small
+        → Overflows (MakesFaults the_table News) (given_bus bus.now) log.now room.new }
+
+    // Memory is wanted only at a frame that announces a message, or at which an address says its codes for the first
+    // time.
+    ensures memory { result ≡ no_memory → AsksSomewhere AsksForFaults (given_bus bus.now) log.now }
+
+    ensures bus { (result ≡ wrong_bus) ↔ IsWrongBus bus.now }
+    ensures answers { result ≤ wrong_bus }
+{
+    match bus_named(bus) {
+        Some(bus) => answer(texts::faults(alloc, log, bus, room), text),
         None => WRONG_BUS,
     }
 }

@@ -1,5 +1,8 @@
 //! What is made of a log, in the room of a page.
 ghost use Rattle.std.specs.Prelude.{◌≡◌, ◌≢◌, ◌<◌, ◌≤◌, length, take, IfOk, Ok, Err};
+ghost use Rattle.j39_fault_news.specs.Asking.{AsksForFaults};
+ghost use Rattle.j39_fault_news.specs.Output.{MakesFaults};
+ghost use Rattle.j39_fault_news.specs.declared.telling.Telling.TheVariants.{News};
 ghost use Rattle.j39_groups.specs.Printed.{parameters_text};
 ghost use Rattle.j39_groups.specs.Table.{the_table};
 ghost use Rattle.j39_listen.specs.Asking.{AsksForBoxes};
@@ -11,6 +14,7 @@ ghost use Rattle.j39_web.specs.declared.texts.Refusal.TheVariants.{Memory, TooSm
 
 use crate::room::{LogBytes, Room};
 use j39_device::DeviceFault;
+use j39_fault_news::Telling;
 use j39_groups::{Groups, put_parameters};
 use j39_listen::{Counts, RunFault, run_with};
 use j39_log::Bus;
@@ -109,6 +113,37 @@ fn told(ran: Result<Counts, RunFault>, sink: &Room<'_>) -> Result<LogText, Refus
         Err(RunFault::Memory) => Err(Refusal::Memory),
         _ => Err(Refusal::TooSmall),
     }
+}
+
+/// Writes the fault codes in a log, as they become news: a line for each code of each message of DM1 and DM2 that says
+/// something else than the last before, with the name that the built-in table has for its parameter.
+pub fn faults(
+    alloc: Global,
+    log: &[u8],
+    bus: Option<Bus>,
+    room: &mut [u8],
+) -> Result<LogText, Refusal>
+    ensures faults { IfOk result (λ text. IsMade (MakesFaults the_table News) bus log.now text room.new) }
+    ensures fits { IfOk result (λ text. text.bytes < length room.new) }
+    ensures too_small { result ≡ Err TooSmall → Overflows (MakesFaults the_table News) bus log.now room.new }
+    ensures memory { result ≡ Err Memory → AsksSomewhere AsksForFaults bus log.now }
+{
+    let mut source = LogBytes::new(log);
+    let mut sink = Room::new(room);
+    let groups = Groups::built_in();
+    let limit = log.len() as u64;
+    let ran = j39_fault_news::faults(
+        alloc,
+        &groups,
+        Telling::News,
+        &mut source,
+        &mut sink,
+        bus,
+        limit,
+    );
+    // As for the report.
+    mem::forget(groups);
+    told(ran, &sink)
 }
 
 /// Writes the parameters that a report may hold.

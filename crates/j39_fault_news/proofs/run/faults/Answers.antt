@@ -23,3 +23,8 @@ pub returns-clause-at_limit : goal.returns-clause-at_limit
 returns-clause-at_limit g c = λ too_long.
     c.run_over.ensures.at_limit too_long (record { rows = c.args.groups.now; which = c.args.telling }) (faults_of c.args.groups.now c.args.telling []) (λ name. c.new.ensures)
     (none_told c.args.groups.now c.args.telling)
+
+pub returns-clause-cut_short : goal.returns-clause-cut_short
+returns-clause-cut_short g c = λ fails.
+    c.run_over.ensures.cut_short fails (record { rows = c.args.groups.now; which = c.args.telling }) (faults_of c.args.groups.now c.args.telling []) (λ name. c.new.ensures)
+    (none_told c.args.groups.now c.args.telling)
