@@ -11,7 +11,7 @@ _j1939_options() {
   case $1 in
     '') echo --help -h --version -V ;;
     report) echo --bus --table --spn --csv --help -h ;;
-    summary) echo --bus --table --help -h ;;
+    summary) echo --bus --table --csv --help -h ;;
     faults) echo --bus --table --all --help -h ;;
     nodes) echo --bus --csv --help -h ;;
     answer) echo --name --address --bus --help -h ;;

@@ -32,8 +32,13 @@ fn told(alloc: Global, task: &Task<'_>) -> Result<String, AllocError> {
             }
             told_of_log(alloc, command.as_str(), bus, file)
         }
-        Task::Summary(bus, None, file) => told_of_log(alloc, "summary", bus, file),
-        Task::Summary(bus, Some(table), file) => {
+        Task::Summary(bus, None, Format::Lines, file) => {
+            told_of_log(alloc, "summary", bus, file)
+        }
+        Task::Summary(bus, None, Format::Csv, file) => {
+            told_of_log(alloc, "summary as csv", bus, file)
+        }
+        Task::Summary(bus, Some(table), _, file) => {
             let command = format!(in alloc; "summary by {}", table.as_str())?;
             told_of_log(alloc, command.as_str(), bus, file)
         }
@@ -87,8 +92,9 @@ fn told_of_log(
 
 #[test]
 fn reads_summary(rt: HostRuntime) -> Result<(), Fail> {
-    let lines: [(&[&str], &str); 4] = [
+    let lines: [(&[&str], &str); 5] = [
         (&["j1939", "summary"], "summary - -"),
+        (&["j1939", "summary", "--csv"], "summary as csv - -"),
         (
             &[
                 "j1939", "summary", "--bus", "can0", "--table", "trucks", "trip.log",

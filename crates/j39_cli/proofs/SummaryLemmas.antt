@@ -1,5 +1,5 @@
 -- The command `summary`: clap takes it as it is spelled, and what answers it.
-use Rattle.std.proofs.Common.{◌≡◌, ◌∙◌, ◌∷◌, [], Option, Some, None, codes, refl, subst, sym}
+use Rattle.std.proofs.Common.{◌≡◌, ◌∙◌, ◌∷◌, [], Bool, true, false, Option, Some, None, ap, codes, refl, subst, sym}
 use Rattle.clap.specs.Words.{Text, built, first_of, first_value, rows_of}
 use Rattle.clap.specs.declared.parser.matches.Found.{Found}
 use Rattle.clap.proofs.OnLiterals.{clap_on_literals}
@@ -8,6 +8,7 @@ use Rattle.j39_cli.specs.Answer.{Answer}
 use Rattle.j39_cli.specs.Command.{line_app}
 use Rattle.j39_cli.specs.CommandWords.{CommandWords, HasTexts, HasValues, IsAnswer, Tells, form_of, summary}
 use Rattle.j39_cli.specs.SummaryCommand.{summary_app}
+use Rattle.j39_cli.specs.Rules.{is_given}
 use Rattle.j39_cli.proofs.MetLemmas.{differ, if_ok_any}
 use Rattle.j39_cli.proofs.PartLemmas.{Enters, given, parts_pass, written}
 use Rattle.j39_cli.proofs.TakenLemmas.{IsParsed, IsRead, leaf_of, memory_of_bus, read}
@@ -16,51 +17,84 @@ enters : Enters (built line_app) (codes "summary") (leaf_of summary_app)
 unfolding clap_on_literals line_app
 enters = record { step = refl; passes = refl; found = refl; checks = refl }
 
-reads : (program : Text) (bus table file : Option Text) → HasValues (summary bus table file)
-    → IsRead program (summary bus table file)
+reads : (program : Text) (bus table : Option Text) (csv : Bool) (file : Option Text) → HasValues (summary bus table csv file)
+    → IsRead program (summary bus table csv file)
 unfolding clap_on_literals parts_pass
-reads program None None None values = read program (codes "summary") summary_app enters
-    ([]) _ tt refl refl (refl, (refl, refl, refl))
-reads program None None (Some file) values = read program (codes "summary") summary_app enters
-    (given file ∷ []) _ (values.2, tt) refl refl (refl, (refl, refl, refl))
-reads program None (Some table) None values = read program (codes "summary") summary_app enters
-    (written (codes "--table") ∷ given table ∷ []) _ (tt, (values.1, tt)) refl refl (refl, (refl, refl, refl))
-reads program None (Some table) (Some file) values = read program (codes "summary") summary_app enters
-    (written (codes "--table") ∷ given table ∷ given file ∷ []) _ (tt, (values.1, (values.2, tt)))
-    refl refl (refl, (refl, refl, refl))
-reads program (Some bus) None None values = read program (codes "summary") summary_app enters
-    (written (codes "--bus") ∷ given bus ∷ []) _ (tt, (values.0, tt)) refl refl (refl, (refl, refl, refl))
-reads program (Some bus) None (Some file) values = read program (codes "summary") summary_app enters
-    (written (codes "--bus") ∷ given bus ∷ given file ∷ []) _ (tt, (values.0, (values.2, tt)))
-    refl refl (refl, (refl, refl, refl))
-reads program (Some bus) (Some table) None values = read program (codes "summary") summary_app enters
+reads program None None false None values = read program (codes "summary") summary_app enters
+    ([])
+    _ tt refl refl (refl, (refl, refl, refl, refl))
+reads program None None false (Some file) values = read program (codes "summary") summary_app enters
+    (given file ∷ [])
+    _ (values.2, tt) refl refl (refl, (refl, refl, refl, refl))
+reads program None None true None values = read program (codes "summary") summary_app enters
+    (written (codes "--csv") ∷ [])
+    _ (tt, tt) refl refl (refl, (refl, refl, refl, refl))
+reads program None None true (Some file) values = read program (codes "summary") summary_app enters
+    (written (codes "--csv") ∷ given file ∷ [])
+    _ (tt, (values.2, tt)) refl refl (refl, (refl, refl, refl, refl))
+reads program None (Some table) false None values = read program (codes "summary") summary_app enters
+    (written (codes "--table") ∷ given table ∷ [])
+    _ (tt, (values.1, tt)) refl refl (refl, (refl, refl, refl, refl))
+reads program None (Some table) false (Some file) values = read program (codes "summary") summary_app enters
+    (written (codes "--table") ∷ given table ∷ given file ∷ [])
+    _ (tt, (values.1, (values.2, tt))) refl refl (refl, (refl, refl, refl, refl))
+reads program None (Some table) true None values = read program (codes "summary") summary_app enters
+    (written (codes "--table") ∷ given table ∷ written (codes "--csv") ∷ [])
+    _ (tt, (values.1, (tt, tt))) refl refl (refl, (refl, refl, refl, refl))
+reads program None (Some table) true (Some file) values = read program (codes "summary") summary_app enters
+    (written (codes "--table") ∷ given table ∷ written (codes "--csv") ∷ given file ∷ [])
+    _ (tt, (values.1, (tt, (values.2, tt)))) refl refl (refl, (refl, refl, refl, refl))
+reads program (Some bus) None false None values = read program (codes "summary") summary_app enters
+    (written (codes "--bus") ∷ given bus ∷ [])
+    _ (tt, (values.0, tt)) refl refl (refl, (refl, refl, refl, refl))
+reads program (Some bus) None false (Some file) values = read program (codes "summary") summary_app enters
+    (written (codes "--bus") ∷ given bus ∷ given file ∷ [])
+    _ (tt, (values.0, (values.2, tt))) refl refl (refl, (refl, refl, refl, refl))
+reads program (Some bus) None true None values = read program (codes "summary") summary_app enters
+    (written (codes "--bus") ∷ given bus ∷ written (codes "--csv") ∷ [])
+    _ (tt, (values.0, (tt, tt))) refl refl (refl, (refl, refl, refl, refl))
+reads program (Some bus) None true (Some file) values = read program (codes "summary") summary_app enters
+    (written (codes "--bus") ∷ given bus ∷ written (codes "--csv") ∷ given file ∷ [])
+    _ (tt, (values.0, (tt, (values.2, tt)))) refl refl (refl, (refl, refl, refl, refl))
+reads program (Some bus) (Some table) false None values = read program (codes "summary") summary_app enters
     (written (codes "--bus") ∷ given bus ∷ written (codes "--table") ∷ given table ∷ [])
-    _ (tt, (values.0, (tt, (values.1, tt)))) refl refl (refl, (refl, refl, refl))
-reads program (Some bus) (Some table) (Some file) values = read program (codes "summary") summary_app enters
+    _ (tt, (values.0, (tt, (values.1, tt)))) refl refl (refl, (refl, refl, refl, refl))
+reads program (Some bus) (Some table) false (Some file) values = read program (codes "summary") summary_app enters
     (written (codes "--bus") ∷ given bus ∷ written (codes "--table") ∷ given table ∷ given file ∷ [])
-    _ (tt, (values.0, (tt, (values.1, (values.2, tt))))) refl refl (refl, (refl, refl, refl))
+    _ (tt, (values.0, (tt, (values.1, (values.2, tt))))) refl refl (refl, (refl, refl, refl, refl))
+reads program (Some bus) (Some table) true None values = read program (codes "summary") summary_app enters
+    (written (codes "--bus") ∷ given bus ∷ written (codes "--table") ∷ given table ∷ written (codes "--csv") ∷ [])
+    _ (tt, (values.0, (tt, (values.1, (tt, tt))))) refl refl (refl, (refl, refl, refl, refl))
+reads program (Some bus) (Some table) true (Some file) values = read program (codes "summary") summary_app enters
+    (written (codes "--bus") ∷ given bus ∷ written (codes "--table") ∷ given table ∷ written (codes "--csv") ∷ given file ∷ [])
+    _ (tt, (values.0, (tt, (values.1, (tt, (values.2, tt)))))) refl refl (refl, (refl, refl, refl, refl))
 
-pub summary_parsed : (program : Text) (bus table file : Option Text) → IsParsed program (summary bus table file)
-summary_parsed program bus table file = record { read = reads program bus table file; memory = memory_of_bus bus _ tt }
+pub summary_parsed : (program : Text) (bus table : Option Text) (csv : Bool) (file : Option Text) → IsParsed program (summary bus table csv file)
+summary_parsed program bus table csv file = record { read = reads program bus table csv file; memory = memory_of_bus bus _ tt }
 
 pub summary_tells : (called : Text) (found : Found) (r : Answer) → called ≡ codes "summary"
-    → IsAnswer (summary (first_value found (codes "bus")) (first_value found (codes "table")) (first_value found (codes "file"))) r
+    → IsAnswer (summary (first_value found (codes "bus")) (first_value found (codes "table"))
+    (is_given (first_value found (codes "csv"))) (first_value found (codes "file"))) r
     → Tells called found r
 summary_tells called found r is answers = subst (λ (t : Text). Tells t found r) (sym is) (record {
   answer = by;
   met =
       let rows = rows_of found in
-      let s = summary (first_of (codes "bus") rows) (first_of (codes "table") rows) (first_of (codes "file") rows) in
-      if_ok_any r _ (s, (refl, (refl, refl, refl)));
+      let csv = is_given (first_of (codes "csv") rows) in
+      let s = summary (first_of (codes "bus") rows) (first_of (codes "table") rows) csv (first_of (codes "file") rows) in
+      if_ok_any r _ (s, (refl, (refl, refl, refl, refl)));
 })
   where
     by : (s : CommandWords) → HasTexts s (codes "summary", rows_of found) → IsAnswer s r
-    by (summary bus table file) (_, (is_bus, is_table, is_file)) =
+    by (summary bus table csv file) (_, (is_bus, is_table, is_csv, is_file)) =
         let met_file = first_value found (codes "file") in
+        let met_csv = is_given (first_value found (codes "csv")) in
         let met_table = first_value found (codes "table") in
-        subst (λ (f : Option Text). IsAnswer (summary bus table f) r) (first_value-rows found (codes "file") ∙ is_file)
-        (subst (λ (t : Option Text). IsAnswer (summary bus t met_file) r)
+        subst (λ (f : Option Text). IsAnswer (summary bus table csv f) r) (first_value-rows found (codes "file") ∙ is_file)
+        (subst (λ (c : Bool). IsAnswer (summary bus table c met_file) r)
+        (ap is_given (first_value-rows found (codes "csv")) ∙ is_csv)
+        (subst (λ (t : Option Text). IsAnswer (summary bus t met_csv met_file) r)
         (first_value-rows found (codes "table") ∙ is_table)
-        (subst (λ (b : Option Text). IsAnswer (summary b met_table met_file) r)
-        (first_value-rows found (codes "bus") ∙ is_bus) answers))
+        (subst (λ (b : Option Text). IsAnswer (summary b met_table met_csv met_file) r)
+        (first_value-rows found (codes "bus") ∙ is_bus) answers)))
     by s (called, _) = absurd (differ (codes "summary") (form_of s).called called refl refl)

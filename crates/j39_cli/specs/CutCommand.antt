@@ -1,5 +1,5 @@
 -- The command `cut --source N --pgn N --at STAMP --bus B HEX`.
-use Rattle.std.specs.Prelude.{◌≡◌, ◌≤◌, ◌<◌, ◌+◌, ◌-◌, ◌*◌, ◌^◌, ◌∷◌, ℕ, true, List, [], Some}
+use Rattle.std.specs.Prelude.{◌≡◌, ◌≤◌, ◌+◌, ◌-◌, ◌*◌, ◌^◌, ◌∷◌, ℕ, true, List, [], Some}
 use Rattle.std.specs.Prelude.{Result, Ok, Err, codes, drop, length, slice_index, take}
 use Rattle.std.specs.Str.Parse.{AllDigits, digits_value}
 use Rattle.clap.specs.Words.{App, Text, first_of, new_app, with_rule}

@@ -1,31 +1,41 @@
--- The command `summary [--bus B] [--table T] [FILE]`.
-use Rattle.std.specs.Prelude.{◌≡◌, ◌++◌, ℕ, List, Option, codes}
-use Rattle.clap.specs.Words.{App, Text, first_of, new_app}
-use Rattle.j39_summary.specs.Summaries.{AsksForRows, MakesSummary}
+-- The command `summary [--bus B] [--table T] [--csv] [FILE]`.
+use Rattle.std.specs.Prelude.{◌≡◌, ◌++◌, ℕ, Bool, List, Option, codes}
+use Rattle.clap.specs.Words.{App, Text, first_of, new_app, with_rule}
+use Rattle.j39_summary.specs.Summaries.{AsksForRows, MakesSummary, MakesSummaryRecords}
+use Rattle.j39_groups.specs.Row.{RowRecord}
 use Rattle.j39_cli.specs.Answer.{IsBusChecked, IsTask}
-use Rattle.j39_cli.specs.Form.{Form, IsValueIfGiven, Meaning, option_words, value_words}
-use Rattle.j39_cli.specs.LogCommand.{runs, with_log}
-use Rattle.j39_cli.specs.Rules.{with_table}
+use Rattle.j39_cli.specs.Form.{Form, IsValueIfGiven, Meaning, flag_words, option_words, value_words}
+use Rattle.j39_cli.specs.LogCommand.{Makes, format_of, runs, with_log}
+use Rattle.j39_cli.specs.Rules.{flag_rule, is_given, with_table}
+use Rattle.j39_cli.specs.declared.task.Format.{Format}
+use Rattle.j39_cli.specs.declared.task.Format.TheVariants.{Csv, Lines}
 use Rattle.j39_cli.specs.declared.task.Task.{Task}
 use Rattle.j39_cli.specs.declared.task.Task.TheVariants.{Summary}
 
 abbrev pub summary_app : App
-summary_app = with_log (with_table (new_app (codes "summary")))
+summary_app = with_log (with_rule (with_table (new_app (codes "summary"))) (flag_rule (codes "csv")))
 
-abbrev pub IsSummaryTask : Option (List ℕ) → Option (List ℕ) → Option (List ℕ) → Task → Type 0
-IsSummaryTask bus table file (Summary bus' table' file') = (bus' ≡ bus) × (table' ≡ table) × (file' ≡ file)
-IsSummaryTask bus table file t = ⊥
+abbrev pub IsSummaryTask : Option (List ℕ) → Option (List ℕ) → Bool → Option (List ℕ) → Task → Type 0
+IsSummaryTask bus table csv file (Summary bus' table' format file') =
+    (bus' ≡ bus) × (table' ≡ table) × (format ≡ format_of csv) × (file' ≡ file)
+IsSummaryTask bus table csv file t = ⊥
 
-abbrev pub summary_form : Option Text → Option Text → Option Text → Form
-summary_form bus table file = record {
+abbrev pub summary_form : Option Text → Option Text → Bool → Option Text → Form
+summary_form bus table csv file = record {
   called = codes "summary";
-  words = option_words (codes "--bus") bus ++ (option_words (codes "--table") table ++ value_words file);
+  words = option_words (codes "--bus") bus
+      ++ (option_words (codes "--table") table ++ (flag_words (codes "--csv") csv ++ value_words file));
   HasValues = IsValueIfGiven bus × IsValueIfGiven table × IsValueIfGiven file;
   HasTexts = λ rows. (first_of (codes "bus") rows ≡ bus) × (first_of (codes "table") rows ≡ table)
-      × (first_of (codes "file") rows ≡ file);
-  Answers = IsBusChecked bus (IsTask (IsSummaryTask bus table file));
+      × (is_given (first_of (codes "csv") rows) ≡ csv) × (first_of (codes "file") rows ≡ file);
+  Answers = IsBusChecked bus (IsTask (IsSummaryTask bus table csv file));
 }
 
-abbrev pub summary_meaning : Option (List ℕ) → Option (List ℕ) → Option (List ℕ) → Meaning
-summary_meaning bus table file =
-    record (runs (λ rows. AsksForRows rows) (λ rows. MakesSummary rows) bus file) { table = table }
+-- what it makes of the frames by a table
+abbrev pub summary_in : Format → List RowRecord → Makes
+summary_in Lines rows = MakesSummary rows
+summary_in Csv rows = MakesSummaryRecords rows
+
+abbrev pub summary_meaning : Option (List ℕ) → Option (List ℕ) → Format → Option (List ℕ) → Meaning
+summary_meaning bus table format file =
+    record (runs (λ rows. AsksForRows rows) (λ rows. summary_in format rows) bus file) { table = table }

@@ -65,7 +65,9 @@ pub fn perform_with<R: Source, W: Sink, E: Sink>(
         Task::Report(bus, _, spns, format, _) => {
             report::perform(alloc, groups, bus, spns, *format, source, sink, err)
         }
-        Task::Summary(bus, _, _) => summary::perform(alloc, groups, bus, source, sink, err),
+        Task::Summary(bus, _, format, _) => {
+            summary::perform(alloc, groups, bus, *format, source, sink, err)
+        }
         Task::Faults(bus, _, telling, _) => {
             faults::perform(alloc, groups, bus, *telling, source, sink, err)
         }

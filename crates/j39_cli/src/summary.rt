@@ -2,22 +2,24 @@
 ghost use Rattle.std.specs.Prelude.{◌≡◌, ◌≢◌, IfOk, codes, false, true, Err};
 ghost use Rattle.clap.specs.Words.{app_of, first_value, found_of};
 ghost use Rattle.clap.specs.declared.builder.command.Command.TheViews.{out-Command as settings_of};
-ghost use Rattle.j39_summary.specs.Summaries.{AsksForRows, MakesSummary};
+ghost use Rattle.j39_summary.specs.Summaries.{AsksForRows};
 ghost use Rattle.j39_cli.specs.CommandWords as written;
 ghost use Rattle.j39_cli.specs.CommandWords.{IsAnswer};
 ghost use Rattle.j39_cli.specs.LogCommand.{IsRun};
-ghost use Rattle.j39_cli.specs.SummaryCommand.{summary_app};
+ghost use Rattle.j39_cli.specs.SummaryCommand.{summary_app, summary_in};
+ghost use Rattle.j39_cli.specs.Rules.{is_given};
 ghost use Rattle.j39_cli.specs.Task.{IsInRange};
 ghost use Rattle.j39_cli.specs.Turn.{turn};
 
 use crate::command::with_table;
-use crate::log::{LOG_LIMIT, copy_of, tell_end, with_log};
-use crate::words::bus_value;
-use crate::{ParseFault, Task, WordText};
+use crate::log::{LOG_LIMIT, copy_of, format_by, tell_end, with_csv, with_log};
+use crate::words::{bus_value, is_set};
+use crate::{Format, ParseFault, Task, WordText};
 use clap::{ArgMatches, Command};
 use j39_device::{Sink, Source};
 use j39_groups::Groups;
 use j39_log::Bus;
+use j39_summary::summary_csv;
 use std::alloc::{AllocError, Global};
 
 const ABOUT: &str = "\
@@ -47,20 +49,22 @@ pub(crate) fn command<'a>(alloc: Global) -> Result<Command<'a>, AllocError>
         .about("Writes what each parameter in a log did")
         .long_about(ABOUT)
         .after_help(HELP);
-    with_log(alloc, with_table(alloc, command)?)
+    with_log(alloc, with_csv(alloc, with_table(alloc, command)?)?)
 }
 
 /// The task that its words ask for.
 pub(crate) fn task<'a>(given: &ArgMatches<'a>) -> Result<Task<'a>, ParseFault>
     ensures answer { IsAnswer (written.summary (first_value (found_of given.now) (codes "bus"))
-        (first_value (found_of given.now) (codes "table")) (first_value (found_of given.now) (codes "file"))) result }
+        (first_value (found_of given.now) (codes "table")) (is_given (first_value (found_of given.now) (codes "csv")))
+        (first_value (found_of given.now) (codes "file"))) result }
     ensures memory { result ≢ Err ParseFault.Memory }
     ensures in_range { IfOk result IsInRange }
 {
     let table = given.get_str("table").map(WordText::new);
     let file = given.get_str("file").map(WordText::new);
+    let format = format_by(is_set(given, "csv"));
     match bus_value(given) {
-        Ok(bus) => Ok(Task::Summary(bus, table, file)),
+        Ok(bus) => Ok(Task::Summary(bus, table, format, file)),
         Err(fault) => Err(fault),
     }
 }
@@ -70,16 +74,25 @@ pub(crate) fn perform<R: Source, W: Sink, E: Sink>(
     alloc: Global,
     groups: &Groups<'_>,
     bus: &Option<Bus>,
+    format: Format,
     source: &mut R,
     sink: &mut W,
     err: &mut E,
 ) -> u8
-    ensures run { IsRun (AsksForRows groups.now) (MakesSummary groups.now) bus.now result
+    ensures run { IsRun (AsksForRows groups.now) (summary_in format groups.now) bus.now result
         (turn R.remaining R.has_failed source.old source.new)
         (turn W.held W.has_failed sink.old sink.new)
         (turn E.held E.has_failed err.old err.new) }
     ensures flushed { result ≡ 0 → W.is_flushed sink.new ≡ true }
 {
-    let end = j39_summary::summary(alloc, groups, source, sink, copy_of(bus), LOG_LIMIT);
-    tell_end(end, err)
+    match format {
+        Format::Lines => {
+            let end = j39_summary::summary(alloc, groups, source, sink, copy_of(bus), LOG_LIMIT);
+            tell_end(end, err)
+        }
+        Format::Csv => {
+            let end = summary_csv(alloc, groups, source, sink, copy_of(bus), LOG_LIMIT);
+            tell_end(end, err)
+        }
+    }
 }

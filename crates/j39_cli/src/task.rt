@@ -99,8 +99,8 @@ pub enum Task<'a> {
     /// where it isn't the built-in one, the parameters that are asked for, where not all are, how it is written,
     /// and FILE, where it is given.
     Report(Option<Bus>, Option<WordText<'a>>, Option<Spns>, Format, Option<WordText<'a>>),
-    /// The summary of a log: the bus to read, the file of the table, and FILE, as of a report.
-    Summary(Option<Bus>, Option<WordText<'a>>, Option<WordText<'a>>),
+    /// The summary of a log: the bus to read, the file of the table, how it is written, and FILE, as of a report.
+    Summary(Option<Bus>, Option<WordText<'a>>, Format, Option<WordText<'a>>),
     /// The fault codes in a log: the bus to read, where one is named, the file of the table of parameters, where it
     /// isn't the built-in one, which messages are told, and FILE, as of a report.
     Faults(Option<Bus>, Option<WordText<'a>>, Telling, Option<WordText<'a>>),
@@ -128,7 +128,7 @@ impl<'a> Task<'a> {
     {
         match self {
             Task::Report(_, _, _, _, file) => opened_of(file),
-            Task::Summary(_, _, file) => opened_of(file),
+            Task::Summary(_, _, _, file) => opened_of(file),
             Task::Faults(_, _, _, file) => opened_of(file),
             Task::Nodes(_, _, file) => opened_of(file),
             Task::Answer(_, _, _, file) => opened_of(file),
@@ -143,7 +143,7 @@ impl<'a> Task<'a> {
     {
         match self {
             Task::Report(_, table, _, _, _) => text_of(table),
-            Task::Summary(_, table, _) => text_of(table),
+            Task::Summary(_, table, _, _) => text_of(table),
             Task::Faults(_, table, _, _) => text_of(table),
             Task::Survey(table, _) => text_of(table),
             Task::Groups(table) => text_of(table),

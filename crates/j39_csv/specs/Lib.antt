@@ -2,3 +2,4 @@
 pub mod Records
 pub mod Calendar
 pub mod Utc
+pub mod Fields

@@ -1,20 +1,18 @@
 -- The records of a message, reading by reading.
-use Rattle.std.proofs.Common.{◌≡◌, ◌+◌, ◌∙◌, ◌++◌, ◌∷◌, ℕ, Bool, true, List, [], Option, append_assoc, append-nil, arith, length, length-append, map, ap, refl, subst, sym}
+use Rattle.std.proofs.Common.{◌≡◌, ◌+◌, ◌∙◌, ◌++◌, ◌∷◌, ℕ, Bool, true, List, [], Option, append_assoc, append-nil, arith, length-append, map, ap, refl, subst, sym}
 use Rattle.std.specs.Io.KnownBytes.{Appends}
-use Rattle.std.specs.List.{flat_map}
 use Rattle.std.proofs.KnownBytes.{Appends-nil, Appends-trans}
 use Rattle.std.proofs.lemmas.Grind.{flat_map-append}
-use Rattle.std.proofs.lemmas.List.{length-map, map-append}
+use Rattle.std.proofs.lemmas.List.{map-append}
 use Rattle.j39_device.specs.Device.{AppendsFront}
 use Rattle.j39_device.proofs.DeviceLemmas.{front_within}
-use Rattle.j39_groups.specs.Readings.{readings_in}
 use Rattle.j39_groups.specs.Row.{RowRecord}
 use Rattle.j39_groups.specs.Value.{ReadingRecord, ValueRecord}
 use Rattle.j39_groups.specs.Visits.{Stops, Takes}
 use Rattle.j39_listen.specs.Counting.{capped}
 use Rattle.j39_listen.specs.Heard.{Hearing}
-use Rattle.j39_listen.specs.Report.{Entry, entries_of, entry_of}
-use Rattle.j39_report_csv.specs.EntryText.{begin_text, entries_text, entry_record, group_called, named_fields, parameter_called, value_fields}
+use Rattle.j39_listen.specs.Report.{entry_of}
+use Rattle.j39_report_csv.specs.EntryText.{entries_text, entry_record, group_called, named_fields, parameter_called, value_fields}
 use Rattle.j39_report_csv.specs.RecordSteps.{Begun, HasStopped, HasWritten, IsBegun, readings_text}
 use Rattle.j39_report_csv.specs.declared.records.Records.{Records}
 

@@ -4,6 +4,7 @@ use Rattle.std.specs.List.{flat_map}
 use Rattle.std.specs.Int.{to_be_bytes, w64}
 use Rattle.hex.specs.Hex.{encode_upper}
 use Rattle.j39_text.specs.Printing.{last_digits}
+use Rattle.j39_csv.specs.Fields.{name_field, seconds_text}
 use Rattle.j39_csv.specs.Records.{comma, later_text, line_end}
 use Rattle.j39_csv.specs.Utc.{utc_text}
 use Rattle.j39_groups.specs.Names.{group_name_in, name_in}
@@ -16,20 +17,11 @@ use Rattle.j39_listen.specs.Report.{Entry}
 abbrev pub header_text : List ℕ
 header_text = codes "stamp,utc,address,name,pgn,group,spn,parameter,value,unit\r\n"
 
--- the seconds of a stamp in ten digits, `.`, and six digits
-abbrev pub seconds_text : ℕ → List ℕ
-seconds_text micros = last_digits 10 (micros / 1_000_000) ++ codes "." ++ last_digits 6 (micros % 1_000_000)
-
--- a NAME in sixteen upper-case hex digits, or nothing
-abbrev pub holder_text : Option ℕ → List ℕ
-holder_text None = []
-holder_text (Some name) = encode_upper (to_be_bytes w64 name)
-
 -- the fields that the records of a message begin with: the stamp, the same in UTC, address, NAME and PGN
 unfoldable pub begin_text : ℕ → ℕ → Option ℕ → ℕ → List ℕ
 begin_text stamp address name pgn =
     seconds_text stamp ++ codes "," ++ utc_text stamp ++ codes "," ++ encode_upper (address ∷ []) ++ codes ","
-    ++ holder_text name ++ codes "," ++ decimal pgn
+    ++ name_field name ++ codes "," ++ decimal pgn
 
 -- what the table calls a group and a parameter of it; nothing where it lists none
 abbrev pub group_called : List RowRecord → ℕ → List ℕ

@@ -14,17 +14,17 @@ ghost use Rattle.j39_groups.specs.ValueText.{bare_text};
 ghost use Rattle.j39_listen.specs.Counting.{capped};
 ghost use Rattle.j39_listen.specs.Report.{entries_of};
 ghost use Rattle.j39_listen.specs.Shown.{hearing_of};
-ghost use Rattle.j39_report_csv.specs.EntryText.{begin_text, entries_text, group_called, holder_text, named_fields, parameter_called, seconds_text, value_fields};
+ghost use Rattle.j39_report_csv.specs.EntryText.{begin_text, entries_text, group_called, named_fields, parameter_called, value_fields};
 ghost use Rattle.j39_report_csv.specs.RecordSteps.{IsBegun};
 
 use arrayvec::ArrayVec;
 use j39_address::Name;
-use j39_csv::{put_behind_comma, utc_text};
+use j39_csv::{push_name, push_seconds, put_behind_comma, utc_text};
 use j39_device::{DeviceFault, Sink, put_all};
-use j39_frame::{Pgn, Stamp};
+use j39_frame::Pgn;
 use j39_groups::{Groups, ReadValue, ReadingVisitor, push_decimal};
 use j39_listen::Heard;
-use j39_text::printing::{push_bytes, push_hex, push_last_digits};
+use j39_text::printing::{push_bytes, push_hex};
 
 /// What the records of a message begin with: stamp, date and time of day, address, NAME and PGN.
 type Begin = ArrayVec<u8, 80>;
@@ -202,32 +202,8 @@ fn begin_of(heard: &Heard<'_>) -> Begin
     begin.push(b',');
     push_hex(&mut begin, &[heard.message.source]);
     begin.push(b',');
-    push_holder(&mut begin, heard.name);
+    push_name(&mut begin, heard.name.map(Name::raw));
     begin.push(b',');
     push_bytes(&mut begin, pgn.as_slice());
     begin
-}
-
-/// Appends the seconds of a stamp with six places.
-fn push_seconds(begin: &mut Begin, stamp: Stamp)
-    requires { array_vec_len begin.old + 17 ≤ 80 }
-    ensures items { begin.new.items ≡ begin.old.items ++ seconds_text (stamp_micros stamp) }
-    ensures len { array_vec_len begin.new ≡ array_vec_len begin.old + 17 }
-{
-    let micros = stamp.micros();
-    push_last_digits(begin, 10, micros / 1_000_000);
-    begin.push(b'.');
-    push_last_digits(begin, 6, micros % 1_000_000);
-}
-
-/// Appends a NAME in sixteen hex digits, or nothing.
-fn push_holder(begin: &mut Begin, name: Option<Name>)
-    requires { array_vec_len begin.old + 16 ≤ 80 }
-    ensures items { begin.new.items ≡ begin.old.items ++ holder_text (option_map name_raw name) }
-    ensures len { array_vec_len begin.new ≤ array_vec_len begin.old + 16 }
-{
-    match name {
-        Some(name) => push_hex(begin, &name.raw().to_be_bytes()),
-        None => {}
-    }
 }

@@ -14,32 +14,33 @@ use Rattle.j39_listen.specs.AccountSteps.{Begins, Closes, MakesOne, Meets, Stops
 use Rattle.j39_listen.specs.Counting.{capped}
 use Rattle.j39_listen.specs.Heard.{AreHeard, HeardAt, Hearing, or_none}
 use Rattle.j39_listen.specs.Listening.{Hears}
-use Rattle.j39_listen.specs.Output.{Output, nothing}
+use Rattle.j39_listen.specs.Output.{Output}
 use Rattle.j39_listen.specs.Report.{Entry, entries_of, entry_of}
 use Rattle.j39_listen.specs.declared.listener.Listener.{Listener}
 use Rattle.j39_listen.proofs.Causal.{heard_more}
-use Rattle.j39_listen.proofs.LineLemmas.{capped-fits, capped-sum}
+use Rattle.j39_listen.proofs.LineLemmas.{capped-fits}
 use Rattle.j39_listen.proofs.Reported.{reported_leaves}
 use Rattle.j39_listen.proofs.Unique.{heard_below_unique}
 use Rattle.j39_summary.specs.AccountSteps.{HasSummed, NotesFrame}
 use Rattle.j39_summary.specs.RowSteps.{AreRowsOf, HasTaken, Message, WantsAt}
 use Rattle.j39_summary.specs.RowText.{summary_text}
 use Rattle.j39_summary.specs.Shown.{row_shown}
-use Rattle.j39_summary.specs.Summaries.{AsksForRow, AsksForRows, MakesSummary, output_of}
+use Rattle.j39_summary.specs.Summaries.{AsksForRows, MakesSummaryIn, output_of}
 use Rattle.j39_summary.specs.declared.account.SummaryAccount.{SummaryAccount}
 use Rattle.j39_summary.specs.declared.deeds.Deeds.{Deeds}
 use Rattle.j39_summary.specs.declared.origin.Origin.{Origin}
+use Rattle.j39_summary.specs.declared.rows.RowForm.{RowForm}
 use Rattle.j39_summary.specs.declared.rows.Rows.{Rows}
 
 -- ---- laws
 
-pub summary_begins : (groups : List RowRecord) → Begins (λ bus. HasSummed groups) (MakesSummary groups)
-summary_begins groups = λ bus a F G before all has made.
+pub summary_begins : (form : RowForm) (groups : List RowRecord) → Begins (λ bus. HasSummed form groups) (MakesSummaryIn form groups)
+summary_begins form groups = λ bus a F G before all has made.
     (all.text, ap (λ t. t ++ all.text) (sym (ap (λ (o : Output). o.text) has.nothing_yet)))
 
-pub summary_one : (groups : List RowRecord) → MakesOne (MakesSummary groups)
-summary_one groups = λ bus F x y (hs, are_x, is_x) (ks, are_y, is_y).
-    ap (λ (o : Output). o.text) is_x ∙ ap (λ (heard : List Hearing). (output_of groups heard).text) (heard_below_unique (is_reported_in groups) (reported_leaves groups) F (length F) hs ks are_x are_y)
+pub summary_one : (form : RowForm) (groups : List RowRecord) → MakesOne (MakesSummaryIn form groups)
+summary_one form groups = λ bus F x y (hs, are_x, is_x) (ks, are_y, is_y).
+    ap (λ (o : Output). o.text) is_x ∙ ap (λ (heard : List Hearing). (output_of form groups heard).text) (heard_below_unique (is_reported_in groups) (reported_leaves groups) F (length F) hs ks are_x are_y)
     ∙ sym (ap (λ (o : Output). o.text) is_y)
 
 -- ---- one frame
@@ -87,10 +88,10 @@ asks_heard groups F f h heard begun rows at are_heard begins stops =
       wanted = w.stopped;
     })
 
-pub summary_meets : (groups : List RowRecord) (a a' : SummaryAccount) → a'.groups ≡ a.groups → (f : FrameRecord) (messages : ℕ) (old : Option (List ℕ))
+pub summary_meets : (form : RowForm) (groups : List RowRecord) (a a' : SummaryAccount) → a'.groups ≡ a.groups → a'.form ≡ a.form → (f : FrameRecord) (messages : ℕ) (old : Option (List ℕ))
     → ((F : List FrameRecord) (before : List Entry) → Hears a.listener F → AreRowsOf a.rows.rows.entries before → NotesFrame a.groups.now F f a'.listener a'.rows.rows.entries before messages)
-    → a'.messages ≡ capped (a.messages + messages) → Meets (HasSummed groups) a a' (f ∷ []) old old
-summary_meets groups a a' kept f messages old notes sum = λ F before has.
+    → a'.messages ≡ capped (a.messages + messages) → Meets (HasSummed form groups) a a' (f ∷ []) old old
+summary_meets form groups a a' kept same f messages old notes sum = λ F before has.
     let entries = flat_map (entries_of groups) has.heard in
     let n = subst (λ (table : List RowRecord). NotesFrame table F f a'.listener a'.rows.rows.entries entries messages) has.by (notes F entries has.hears has.are_rows) in
     let more = or_none n.heard in
@@ -100,6 +101,7 @@ summary_meets groups a a' kept f messages old notes sum = λ F before has.
       after = before;
       met = record {
         by = ap (λ (x : Bor (List RowRecord)). x.now) kept ∙ has.by;
+        form_is = same ∙ has.form_is;
         heard = has.heard ++ more;
         are_heard = heard_more (is_reported_in groups) F f has.heard n.heard has.are_heard n.heard_at;
         hears = n.hears;
@@ -114,16 +116,17 @@ summary_meets groups a a' kept f messages old notes sum = λ F before has.
 
 -- ---- the end
 
-all_text : (groups : List RowRecord) (a : SummaryAccount) (F : List FrameRecord) (before : Output) (has : HasSummed groups a F before)
-    → summary_text a.groups.now (map row_shown a.rows.rows.entries) ≡ (output_of groups has.heard).text
-all_text groups a F before has =
-    ap (λ (table : List RowRecord). summary_text table (map row_shown a.rows.rows.entries)) has.by ∙ ap (summary_text groups) has.are_rows
+all_text : (form : RowForm) (groups : List RowRecord) (a : SummaryAccount) (F : List FrameRecord) (before : Output) (has : HasSummed form groups a F before)
+    → summary_text a.form a.groups.now (map row_shown a.rows.rows.entries) ≡ (output_of form groups has.heard).text
+all_text form groups a F before has =
+    ap (λ (f : RowForm). summary_text f a.groups.now (map row_shown a.rows.rows.entries)) has.form_is
+    ∙ ap (λ (table : List RowRecord). summary_text form table (map row_shown a.rows.rows.entries)) has.by ∙ ap (summary_text form groups) has.are_rows
 
-pub summary_closes : (groups : List RowRecord) (a : SummaryAccount) (lines : ℕ) (old new : Option (List ℕ)) → lines ≡ length a.rows.rows.entries → lines < 2 ^ 64
-    → Appends old new (summary_text a.groups.now (map row_shown a.rows.rows.entries))
-    → Closes (λ bus. HasSummed groups) (MakesSummary groups) a (record { messages = a.messages; lines = lines }) old new
-summary_closes groups a lines old new count fits written = λ bus F before has.
-    let out = output_of groups has.heard in
+pub summary_closes : (form : RowForm) (groups : List RowRecord) (a : SummaryAccount) (lines : ℕ) (old new : Option (List ℕ)) → lines ≡ length a.rows.rows.entries → lines < 2 ^ 64
+    → Appends old new (summary_text a.form a.groups.now (map row_shown a.rows.rows.entries))
+    → Closes (λ bus. HasSummed form groups) (MakesSummaryIn form groups) a (record { messages = a.messages; lines = lines }) old new
+summary_closes form groups a lines old new count fits written = λ bus F before has.
+    let out = output_of form groups has.heard in
     let rows : lines ≡ out.lines = count ∙ sym (length-map a.rows.rows.entries row_shown) ∙ ap length has.are_rows in
     record {
       after = out;
@@ -132,16 +135,16 @@ summary_closes groups a lines old new count fits written = λ bus F before has.
       lines_are = sym (ap capped (sym rows) ∙ capped-fits lines fits);
       more = out.text;
       text_is = ap (λ t. t ++ out.text) (sym (ap (λ (o : Output). o.text) has.nothing_yet));
-      written = subst (Appends old new) (all_text groups a F before has) written;
+      written = subst (Appends old new) (all_text form groups a F before has) written;
     }
 
-pub summary_stops : (groups : List RowRecord) (a : SummaryAccount) (old new : Option (List ℕ))
-    → AppendsFront old new (summary_text a.groups.now (map row_shown a.rows.rows.entries)) → StopsAtEnd (λ bus. HasSummed groups) (MakesSummary groups) a old new
-summary_stops groups a old new front = λ bus F before all has made.
-    let is : all.text ≡ (output_of groups has.heard).text =
-    summary_one groups bus F all (output_of groups has.heard) made (has.heard, has.are_heard, refl) in
+pub summary_stops : (form : RowForm) (groups : List RowRecord) (a : SummaryAccount) (old new : Option (List ℕ))
+    → AppendsFront old new (summary_text a.form a.groups.now (map row_shown a.rows.rows.entries)) → StopsAtEnd (λ bus. HasSummed form groups) (MakesSummaryIn form groups) a old new
+summary_stops form groups a old new front = λ bus F before all has made.
+    let is : all.text ≡ (output_of form groups has.heard).text =
+    summary_one form groups bus F all (output_of form groups has.heard) made (has.heard, has.are_heard, refl) in
     record {
       rest = all.text;
       all_is = ap (λ t. t ++ all.text) (sym (ap (λ (o : Output). o.text) has.nothing_yet));
-      front = subst (AppendsFront old new) (all_text groups a F before has ∙ sym is) front;
+      front = subst (AppendsFront old new) (all_text form groups a F before has ∙ sym is) front;
     }

@@ -1,13 +1,13 @@
 -- The first entries of their origins, with one entry more.
-use Rattle.std.proofs.Common.{◌≡◌, ◌&&◌, ◌||◌, Bool, true, false, not, List, [], ◌∷◌, ◌++◌, refl, sym, ap, ◌∙◌, subst, inl, inr}
+use Rattle.std.proofs.Common.{◌≡◌, Bool, true, false, not, List, [], ◌∷◌, ◌++◌, refl, sym, ap, ◌∙◌}
 use Rattle.std.specs.Prelude.{filter, if◌then◌else◌}
 use Rattle.std.specs.List.{list_any}
-use Rattle.std.proofs.lemmas.Bool.{both_ways, cases_Bool}
+use Rattle.std.proofs.lemmas.Bool.{both_ways}
 use Rattle.std.proofs.lemmas.List.Elements.{filter-append}
 use Rattle.std.proofs.lemmas.Map.Views.{any-filter_same}
 use Rattle.j39_listen.specs.Report.{Entry}
 use Rattle.j39_summary.specs.Summary.{AreApart, firsts, have_one_origin}
-use Rattle.j39_summary.proofs.OriginLemmas.{same_like, same_self, same_sym}
+use Rattle.j39_summary.proofs.OriginLemmas.{same_like, same_sym}
 
 -- the entry, where none is of its origin
 abbrev pub if_new : Entry → List Entry → List Entry

@@ -1,5 +1,5 @@
 -- The rows as the code keeps them, with one value more.
-use Rattle.std.proofs.Common.{◌≡◌, ◌∷◌, ◌++◌, [], ℕ, Bool, true, false, List, Option, Some, None, length, map, arith, refl, sym, ap, ap₂, ◌∙◌, subst, inl, inr}
+use Rattle.std.proofs.Common.{◌≡◌, ◌∷◌, ◌++◌, [], ℕ, Bool, true, false, List, Option, Some, None, length, map, arith, refl, sym, ap, ap₂, ◌∙◌}
 use Rattle.std.specs.List.{list_any}
 use Rattle.std.specs.Map.{keys_of, lookup}
 use Rattle.std.specs.Prelude.{is_some, position}
@@ -13,7 +13,7 @@ use Rattle.j39_summary.specs.Shown.{entry_at, is_same, row_shown}
 use Rattle.j39_summary.specs.Summary.{firsts, have_one_origin}
 use Rattle.j39_summary.specs.declared.deeds.Deeds.{Deeds}
 use Rattle.j39_summary.specs.declared.origin.Origin.{Origin}
-use Rattle.j39_summary.proofs.OriginLemmas.{Key, key, same_key}
+use Rattle.j39_summary.proofs.OriginLemmas.{key, same_key}
 use Rattle.j39_summary.proofs.RowLemmas.{bumped, origins_listed, summary_of-more}
 
 same_origin : (a b : Origin) → is_same a b ≡ true → a ≡ b

@@ -1,5 +1,5 @@
 -- Entries of one origin.
-use Rattle.std.proofs.Common.{◌≡◌, ◌==◌, ◌&&◌, ℕ, Bool, true, false, Option, Some, None, refl, sym, ap, ap₂, ◌∙◌, subst, eqb-true, arith, inl, inr}
+use Rattle.std.proofs.Common.{◌≡◌, ◌==◌, ◌&&◌, ℕ, Bool, true, false, Option, Some, None, refl, sym, ap, ◌∙◌, eqb-true, arith, inl, inr}
 use Rattle.std.proofs.lemmas.Bool.{both_ways, cases_Bool, true≢false}
 use Rattle.j39_listen.specs.Report.{Entry}
 use Rattle.j39_summary.specs.Summary.{have_one_origin, is_same_name}

@@ -12,12 +12,14 @@ use Rattle.j39_summary.specs.RowSteps.{AreRowsOf}
 use Rattle.j39_listen.specs.declared.listener.Listener.{Listener}
 use Rattle.j39_summary.specs.declared.deeds.Deeds.{Deeds}
 use Rattle.j39_summary.specs.declared.origin.Origin.{Origin}
+use Rattle.j39_summary.specs.declared.rows.RowForm.{RowForm}
 use Rattle.j39_summary.specs.declared.account.SummaryAccount.{SummaryAccount}
 
 -- the rows are those of what is heard in F by this table, and the listener was fed F
-pub record HasSummed (groups : List RowRecord) (summary : SummaryAccount) (F : List FrameRecord)
+pub record HasSummed (form : RowForm) (groups : List RowRecord) (summary : SummaryAccount) (F : List FrameRecord)
     (output : Output) : Type 0 where
   pub by : summary.groups.now ≡ groups
+  pub form_is : summary.form ≡ form
   pub heard : List Hearing
   pub are_heard : AreHeard groups F heard
   pub hears : Hears summary.listener F

@@ -1,5 +1,5 @@
 -- What a run makes of the frames of its bus: the summary of their report. And where it may want memory.
-use Rattle.std.specs.Prelude.{◌≡◌, ◌⊎◌, ◌∷◌, ◌++◌, ℕ, false, true, List, [], Option, Some, length, map}
+use Rattle.std.specs.Prelude.{◌≡◌, ◌⊎◌, ◌∷◌, ◌++◌, false, List, [], Some, length}
 use Rattle.std.specs.List.{flat_map, list_any}
 use Rattle.j39_frame.specs.Frame.{FrameRecord}
 use Rattle.j39_groups.specs.Row.{RowRecord}
@@ -8,20 +8,32 @@ use Rattle.j39_listen.specs.Asking.{AsksForBoxes, Wanting}
 use Rattle.j39_listen.specs.Heard.{AreHeard, HeardAt, Hearing}
 use Rattle.j39_listen.specs.Output.{Making, Output}
 use Rattle.j39_listen.specs.Report.{Entry, entries_of}
-use Rattle.j39_summary.specs.RowText.{summary_text}
+use Rattle.j39_listen.specs.Headed.{Headed}
+use Rattle.j39_summary.specs.RowText.{summary_columns, summary_text}
+use Rattle.j39_summary.specs.declared.rows.RowForm.{RowForm}
+use Rattle.j39_summary.specs.declared.rows.RowForm.TheVariants.{Line, Record}
 use Rattle.j39_summary.specs.Summary.{have_one_origin, summary_of}
 
 -- the summary of the entries of what is heard; each message counts that is heard
-abbrev pub output_of : List RowRecord → List Hearing → Output
-output_of groups heard = record {
-  text = summary_text groups (summary_of (flat_map (entries_of groups) heard));
+abbrev pub output_of : RowForm → List RowRecord → List Hearing → Output
+output_of form groups heard = record {
+  text = summary_text form groups (summary_of (flat_map (entries_of groups) heard));
   messages = length heard;
   lines = length (summary_of (flat_map (entries_of groups) heard));
 }
 
--- the summary of the report of the frames, whatever their bus is called
+-- the summary of the report of the frames, whatever their bus is called, in either form
+abbrev pub MakesSummaryIn : RowForm → List RowRecord → Making
+MakesSummaryIn form groups bus F output =
+    (heard : List Hearing) × AreHeard groups F heard × (output ≡ output_of form groups heard)
+
+-- a line for each row
 abbrev pub MakesSummary : List RowRecord → Making
-MakesSummary groups bus F output = (heard : List Hearing) × AreHeard groups F heard × (output ≡ output_of groups heard)
+MakesSummary groups = MakesSummaryIn Line groups
+
+-- the names of the columns, and a record for each row
+abbrev pub MakesSummaryRecords : List RowRecord → Making
+MakesSummaryRecords groups = Headed summary_columns (MakesSummaryIn Record groups)
 
 abbrev pub IsText : ValueRecord → Type 0
 IsText (number n slot) = ⊥

@@ -1,5 +1,5 @@
 -- The summary of a report: what each parameter of each controller did, said of the report's entries alone.
-use Rattle.std.specs.Prelude.{◌≡◌, ◌==◌, ◌&&◌, not, ℕ, ℤ, Bool, true, false, List, [], ◌∷◌, Option, Some, None, filter, fold, length, map, count_by, if◌then◌else◌}
+use Rattle.std.specs.Prelude.{◌≡◌, ◌==◌, ◌&&◌, not, ℕ, ℤ, Bool, true, false, List, [], ◌∷◌, Option, Some, None, filter, fold, length, map, count_by}
 use Rattle.std.specs.Int.{int_max, int_min}
 use Rattle.std.specs.List.{filter_map, list_any}
 use Rattle.std.specs.Str.{bytes_eq}

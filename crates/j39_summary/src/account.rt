@@ -12,14 +12,14 @@ ghost use Rattle.j39_listen.specs.Run.{StopsAtLimit, StopsWithin, TakesWithin, W
 ghost use Rattle.j39_listen.specs.declared.running.RunFault.TheVariants.{Memory, Read, Write, TooLong};
 ghost use Rattle.j39_summary.specs.AccountSteps.{HasSummed, NotesFrame};
 ghost use Rattle.j39_summary.specs.RowSteps.{AreRowsOf};
-ghost use Rattle.j39_summary.specs.Summaries.{AsksForRows, MakesSummary};
+ghost use Rattle.j39_summary.specs.Summaries.{AsksForRows, MakesSummary, MakesSummaryRecords};
 
 use crate::lines::put_rows;
-use crate::rows::Rows;
+use crate::rows::{RowForm, Rows};
 use j39_device::{DeviceFault, Sink, Source};
 use j39_frame::Frame;
 use j39_groups::Groups;
-use j39_listen::{Account, Counts, LineFault, Listener, Made, RunFault, run_over};
+use j39_listen::{Account, Counts, LineFault, Listener, Made, RunFault, run_headed, run_over};
 use j39_log::Bus;
 use std::alloc::{AllocError, Global};
 
@@ -65,13 +65,75 @@ pub fn summary<R: Source, W: Sink>(
     ensures prefix { OnErr result (StopsWithin (MakesSummary groups.now) bus
         (R.remaining source.old) (R.remaining source.new) (W.held sink.old) (W.held sink.new)) }
 {
-    run_over(SummaryAccount::new(alloc, groups), source, sink, bus, limit)
+    run_over(
+        SummaryAccount::new(alloc, groups, RowForm::Line),
+        source,
+        sink,
+        bus,
+        limit,
+    )
 }
+
+/// Writes the same as comma-separated values (RFC 4180): the names of the columns, before the log is read, and after the
+/// whole log a record for each parameter.
+pub fn summary_csv<R: Source, W: Sink>(
+    alloc: Global,
+    groups: &Groups<'_>,
+    source: &mut R,
+    sink: &mut W,
+    bus: Option<Bus>,
+    limit: u64,
+) -> Result<Counts, RunFault>
+    // What is written is the summary of the log's report, and nothing else.
+    ensures summary { IfOk result (λ counts. IfSome (R.remaining source.old)
+        (λ log. Writes (MakesSummaryRecords groups.now) bus log counts (W.held sink.old) (W.held sink.new))) }
+
+    // Each fault comes only where its device failed, or the log is longer than the limit.
+    ensures short { OnOk result (IfSome (R.remaining source.old) (λ log. length log ≤ limit)) }
+    ensures too_long { result ≡ Err TooLong → IfSome (R.remaining source.old) (λ log. limit < length log) }
+    ensures read { result ≡ Err Read → R.has_failed source.new ≡ true }
+    ensures read_unmarked { result ≢ Err Read → R.has_failed source.new ≡ R.has_failed source.old }
+    ensures write { result ≡ Err Write → W.has_failed sink.new ≡ true }
+    ensures write_unmarked { result ≢ Err Write → W.has_failed sink.new ≡ W.has_failed sink.old }
+
+    // Memory is wanted only at a frame that announces a message, and at one where a message is heard that has a value
+    // of a parameter without a row, or a text.
+    ensures memory { result ≡ Err Memory
+        → AsksWithin (AsksForRows groups.now) bus (R.remaining source.old) (R.remaining source.new) }
+
+    // The bytes that were taken pass the limit exactly where `TooLong` is answered, and those that pass it aren't handled.
+    ensures within { result ≢ Err TooLong → TakesWithin limit (R.remaining source.old) (R.remaining source.new) }
+    ensures at_limit { result ≡ Err TooLong → StopsAtLimit (MakesSummaryRecords groups.now) limit bus
+        (R.remaining source.old) (R.remaining source.new) (W.held sink.old) (W.held sink.new) }
+
+    // What was written is passed on at the end, and before each read.
+    ensures flushed { OnOk result (W.is_flushed sink.new ≡ true) }
+    ensures flushed_at_reads { (result ≡ Err Read) ⊎ (result ≡ Err TooLong)
+        → W.is_flushed sink.new ≡ true }
+
+    // What was written before a fault is a front of the summary of the bytes that were read.
+    ensures prefix { OnErr result (StopsWithin (MakesSummaryRecords groups.now) bus
+        (R.remaining source.old) (R.remaining source.new) (W.held sink.old) (W.held sink.new)) }
+{
+    run_headed(
+        COLUMNS,
+        SummaryAccount::new(alloc, groups, RowForm::Record),
+        source,
+        sink,
+        bus,
+        limit,
+    )
+}
+
+/// The names of the columns of records.
+const COLUMNS: &[u8] =
+    b"address,name,pgn,spn,parameter,values,words,first_stamp,first_utc,last_stamp,last_utc,least,most,unit,first,last\r\n";
 
 /// What is heard so far, and the rows of its summary.
 #[derive(Drop)]
 pub(crate) struct SummaryAccount<'g, 't> {
     groups: &'g Groups<'t>,
+    form: RowForm,
     listener: Listener,
     rows: Rows<'t>,
     messages: u64,
@@ -79,11 +141,12 @@ pub(crate) struct SummaryAccount<'g, 't> {
 
 impl<'g, 't> SummaryAccount<'g, 't> {
     /// The summary of no frames.
-    pub fn new(alloc: Global, groups: &'g Groups<'t>) -> SummaryAccount<'g, 't>
-        ensures { HasSummed groups.entry.now result [] nothing }
+    pub fn new(alloc: Global, groups: &'g Groups<'t>, form: RowForm) -> SummaryAccount<'g, 't>
+        ensures { HasSummed form groups.entry.now result [] nothing }
     {
         SummaryAccount {
             groups,
+            form,
             listener: Listener::new(alloc),
             rows: Rows::new(alloc),
             messages: 0,
@@ -95,15 +158,16 @@ impl<'g, 't> Account for SummaryAccount<'g, 't> {
     ghost use Rattle.std.specs.Prelude.{List};
     ghost use Rattle.j39_groups.specs.Row.{RowRecord};
     ghost use Rattle.j39_summary.specs.AccountSteps.{HasSummed};
-    ghost use Rattle.j39_summary.specs.Summaries.{AsksForRows, MakesSummary};
+    ghost use Rattle.j39_summary.specs.Summaries.{AsksForRows, MakesSummaryIn};
+    ghost use Rattle.j39_summary.specs.declared.rows.RowForm.{RowForm};
 
-    ghost Subject = { List RowRecord };
+    ghost Subject = { RowForm × List RowRecord };
 
-    ghost has_met = { λ subject bus. HasSummed subject };
+    ghost has_met = { λ subject bus. HasSummed subject.0 subject.1 };
 
-    ghost makes = { λ subject. MakesSummary subject };
+    ghost makes = { λ subject. MakesSummaryIn subject.0 subject.1 };
 
-    ghost asks = { λ subject. AsksForRows subject };
+    ghost asks = { λ subject. AsksForRows subject.1 };
 
     #[inline(always)]
     fn meet<W: Sink>(&mut self, _: &Bus, frame: &Frame, _: &mut W) -> Result<(), LineFault> {
@@ -117,7 +181,7 @@ impl<'g, 't> Account for SummaryAccount<'g, 't> {
     }
 
     fn close<W: Sink>(&mut self, sink: &mut W) -> Result<Made, DeviceFault> {
-        put_rows(&self.rows.rows, self.groups, sink)?;
+        put_rows(&self.rows.rows, self.form, self.groups, sink)?;
         Ok(Made {
             messages: self.messages,
             lines: self.rows.rows.len() as u64,

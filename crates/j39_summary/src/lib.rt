@@ -7,6 +7,7 @@ mod kept;
 pub mod laws;
 mod lines;
 mod origin;
+mod records;
 mod rows;
 
-pub use account::summary;
+pub use account::{summary, summary_csv};

@@ -8,12 +8,14 @@ ghost use Rattle.j39_device.specs.Device.{AppendsFront, Marks};
 ghost use Rattle.j39_text.specs.Chars.{newline};
 ghost use Rattle.j39_groups.specs.ValueText.{bare_text};
 ghost use Rattle.j39_listen.specs.Report.{name_text};
-ghost use Rattle.j39_summary.specs.RowText.{called_in, first_text, head_text, last_text, range_text, row_text, summary_text, values_text};
+ghost use Rattle.j39_summary.specs.RowText.{called_in, first_text, head_text, last_text, range_text, row_in, row_text, summary_text, values_text};
 ghost use Rattle.j39_summary.specs.Shown.{kept_value, range_of_span, row_shown};
 
 use crate::deeds::{Deeds, Span};
 use crate::kept::Kept;
 use crate::origin::Origin;
+use crate::records::put_record;
+use crate::rows::RowForm;
 use arrayvec::ArrayVec;
 use indexmap::IndexMap;
 use j39_device::{DeviceFault, Sink, put_all};
@@ -21,23 +23,44 @@ use j39_groups::{Groups, Value, put_value, scaled_text};
 use j39_log::push_stamp;
 use j39_text::printing::{push_bytes, push_hex, push_number};
 
-/// Writes a line for each row, in their order.
+/// Writes a line for each row, or a record, in their order.
 pub(crate) fn put_rows<W: Sink>(
     rows: &IndexMap<Origin, Deeds<'_>>,
+    form: RowForm,
     groups: &Groups<'_>,
     sink: &mut W,
 ) -> Result<(), DeviceFault>
     ensures written { OnOk result (Appends (W.held sink.old) (W.held sink.new)
-        (summary_text groups.now (map row_shown rows.now.entries))) }
+        (summary_text form groups.now (map row_shown rows.now.entries))) }
     ensures front { OnErr result (AppendsFront (W.held sink.old) (W.held sink.new)
-        (summary_text groups.now (map row_shown rows.now.entries))) }
+        (summary_text form groups.now (map row_shown rows.now.entries))) }
     ensures mark { Marks result (W.has_failed sink.old) (W.has_failed sink.new) }
 {
     for at in 0..rows.len() {
         let (origin, deeds) = rows.get_index(at).unwrap();
-        put_row(*origin, deeds, groups, sink)?;
+        put_row_in(form, *origin, deeds, groups, sink)?;
     }
     Ok(())
+}
+
+/// Writes the line of a row, or its record.
+fn put_row_in<W: Sink>(
+    form: RowForm,
+    origin: Origin,
+    deeds: &Deeds<'_>,
+    groups: &Groups<'_>,
+    sink: &mut W,
+) -> Result<(), DeviceFault>
+    ensures written { OnOk result (Appends (W.held sink.old) (W.held sink.new)
+        (row_in form groups.now (row_shown (origin, deeds.now)))) }
+    ensures front { OnErr result (AppendsFront (W.held sink.old) (W.held sink.new)
+        (row_in form groups.now (row_shown (origin, deeds.now)))) }
+    ensures mark { Marks result (W.has_failed sink.old) (W.has_failed sink.new) }
+{
+    match form {
+        RowForm::Line => put_row(origin, deeds, groups, sink),
+        RowForm::Record => put_record(origin, deeds, groups, sink),
+    }
 }
 
 /// Writes the line of a row.
@@ -199,7 +222,7 @@ fn put_span<W: Sink>(span: &Span<'_>, sink: &mut W) -> Result<(), DeviceFault>
 }
 
 /// Writes these parts.
-fn put_parts<W: Sink>(parts: &[&[u8]], sink: &mut W) -> Result<(), DeviceFault>
+pub(crate) fn put_parts<W: Sink>(parts: &[&[u8]], sink: &mut W) -> Result<(), DeviceFault>
     ensures ok { OnOk result (Appends (W.held sink.old) (W.held sink.new)
         (flat_map (λ part. part.now) parts.now)) }
     ensures err { OnErr result (AppendsFront (W.held sink.old) (W.held sink.new)
@@ -214,7 +237,7 @@ fn put_parts<W: Sink>(parts: &[&[u8]], sink: &mut W) -> Result<(), DeviceFault>
 
 /// Writes a value: a number without its unit.
 #[tactic(auto, unfolding(j39_groups::specs::ValueText::bare_text))]
-fn put_kept<W: Sink>(kept: &Kept<'_>, sink: &mut W) -> Result<(), DeviceFault>
+pub(crate) fn put_kept<W: Sink>(kept: &Kept<'_>, sink: &mut W) -> Result<(), DeviceFault>
     ensures written { OnOk result (Appends (W.held sink.old) (W.held sink.new) (bare_text (kept_value kept.now))) }
     ensures front { OnErr result (AppendsFront (W.held sink.old) (W.held sink.new) (bare_text (kept_value kept.now))) }
     ensures mark { Marks result (W.has_failed sink.old) (W.has_failed sink.new) }

@@ -18,6 +18,15 @@ use j39_groups::{ReadValue, ReadingVisitor};
 use j39_listen::Heard;
 use std::alloc::{AllocError, Global};
 
+/// How a row is written.
+#[derive(Clone, Copy)]
+pub(crate) enum RowForm {
+    /// As a line.
+    Line,
+    /// As a record of comma-separated values.
+    Record,
+}
+
 /// The rows so far, by their origins in the order of their first values; and what the readings of a message have in
 /// common.
 #[derive(Drop)]

@@ -1,5 +1,5 @@
 -- Each word in turn is a number of 19 bits, or there is no list.
-use Rattle.std.proofs.Common.{◌≡◌, ◌≤◌, ◌∙◌, ◌∷◌, [], ◌++◌, ap, arith, eqb, eqb-true, length, rules, subst, sym}
+use Rattle.std.proofs.Common.{◌≡◌, ◌∙◌, ◌∷◌, [], ◌++◌, ap, arith, eqb, eqb-true, length, rules, subst, sym}
 use borrow.Author.Tests.{tests}
 use Rattle.std.proofs.lemmas.Bool.{eqb-false}
 use Rattle.std.proofs.lemmas.List.{length_push}

@@ -1,5 +1,5 @@
 -- A survey that was written, and a fault that is told.
-use Rattle.std.proofs.Common.{◌≡◌, ◌≢◌, ◌≤◌, ℕ, length, List, Option, Some, None, Result, Ok, Err, ap, refl, inl, inr, arith}
+use Rattle.std.proofs.Common.{◌≢◌, ◌≤◌, ℕ, length, List, Option, Some, None, Result, Ok, Err, ap, refl, inl, inr, arith}
 use Rattle.std.specs.Prelude.{IfSome}
 use Rattle.j39_listen.specs.declared.running.RunFault.{RunFault}
 use Rattle.j39_survey.specs.Run.{WritesSurvey}

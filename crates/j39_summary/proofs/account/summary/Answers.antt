@@ -1,16 +1,17 @@
 use Rattle.std.proofs.Common.{refl}
 use Rattle.j39_listen.specs.Output.{nothing}
+use Rattle.j39_summary.specs.declared.rows.RowForm.TheVariants.{Line}
 use Rattle.j39_listen.proofs.PieceLemmas.{if_ok, on_err_from}
 use Rattle.j39_summary.proofs.account.summary.Goals as goal
 
 pub returns-clause-summary : goal.returns-clause-summary
-returns-clause-summary g c = if_ok c.run_over.result _ _ (λ counts writes. writes c.args.groups.now nothing (λ name. c.new.ensures) refl) c.run_over.ensures.writes
+returns-clause-summary g c = if_ok c.run_over.result _ _ (λ counts writes. writes (Line, c.args.groups.now) nothing (λ name. c.new.ensures) refl) c.run_over.ensures.writes
 
 pub returns-clause-prefix : goal.returns-clause-prefix
-returns-clause-prefix g c = on_err_from c.run_over.result _ _ (λ stops. stops c.args.groups.now nothing (λ name. c.new.ensures) refl) c.run_over.ensures.prefix
+returns-clause-prefix g c = on_err_from c.run_over.result _ _ (λ stops. stops (Line, c.args.groups.now) nothing (λ name. c.new.ensures) refl) c.run_over.ensures.prefix
 
 pub returns-clause-memory : goal.returns-clause-memory
-returns-clause-memory g c = λ fails. c.run_over.ensures.asked fails c.args.groups.now nothing (λ name. c.new.ensures) refl
+returns-clause-memory g c = λ fails. c.run_over.ensures.asked fails (Line, c.args.groups.now) nothing (λ name. c.new.ensures) refl
 
 pub returns-clause-at_limit : goal.returns-clause-at_limit
-returns-clause-at_limit g c = λ too_long. c.run_over.ensures.at_limit too_long c.args.groups.now nothing (λ name. c.new.ensures) refl
+returns-clause-at_limit g c = λ too_long. c.run_over.ensures.at_limit too_long (Line, c.args.groups.now) nothing (λ name. c.new.ensures) refl

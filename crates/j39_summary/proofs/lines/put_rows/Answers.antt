@@ -1,9 +1,8 @@
 -- A row more; after a fault a front of the rows that are left was written.
-use Rattle.std.proofs.Common.{◌≡◌, ◌<◌, Some, length, sym, ap, ◌∙◌, subst, arith}
+use Rattle.std.proofs.Common.{◌<◌, length, sym, ap, ◌∙◌, subst, arith}
 use Rattle.std.specs.Io.KnownBytes.{Appends}
 use Rattle.std.specs.Map.Iter.{deref_pair}
 use Rattle.std.specs.Option.{option_map}
-use Rattle.std.specs.Prelude.{slice_get}
 use Rattle.std.proofs.KnownBytes.{Appends-trans}
 use Rattle.j39_device.proofs.DeviceLemmas.{front_within, on_err}
 use Rattle.j39_summary.proofs.LineLemmas.{lines_cut, lines_next}
@@ -15,14 +14,14 @@ loop-at-preserved g c =
     let at = c.loop-at.at in
     let inside : at < length rows = omega (arith, c.len-at-end.ensures.len) in
     let row = sym c.get_index.ensures.entry ∙ ap (option_map deref_pair) c.unwrap.ensures in (
-      subst (Appends _ _) (sym (lines_next c.args.groups.now rows at _ inside row)) (Appends-trans _ _ _ _ _ c.loop-at.invariant.0 c.in_ok-put_row.ensures.written),
-      c.in_ok-put_row.ensures.mark ∙ c.loop-at.invariant.1,
+      subst (Appends _ _) (sym (lines_next c.args.form c.args.groups.now rows at _ inside row)) (Appends-trans _ _ _ _ _ c.loop-at.invariant.0 c.in_ok-put_row_in.ensures.written),
+      c.in_ok-put_row_in.ensures.mark ∙ c.loop-at.invariant.1,
     )
 
-pub returns-in_err-put_row-clause-front : goal.returns-in_err-put_row-clause-front
-returns-in_err-put_row-clause-front g c =
+pub returns-in_err-put_row_in-clause-front : goal.returns-in_err-put_row_in-clause-front
+returns-in_err-put_row_in-clause-front g c =
     let rows = c.args.rows.now.entries in
     let at = c.loop-at.at in
     let inside : at < length rows = omega (arith, c.len-at-end.ensures.len) in
     let row = sym c.get_index.ensures.entry ∙ ap (option_map deref_pair) c.unwrap.ensures in
-    on_err c.from_residual.result _ (front_within _ _ _ _ _ _ _ (lines_cut c.args.groups.now rows at _ inside row) c.loop-at.invariant.0 c.in_err-put_row.ensures.front)
+    on_err c.from_residual.result _ (front_within _ _ _ _ _ _ _ (lines_cut c.args.form c.args.groups.now rows at _ inside row) c.loop-at.invariant.0 c.in_err-put_row_in.ensures.front)

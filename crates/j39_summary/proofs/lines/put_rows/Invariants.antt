@@ -7,5 +7,5 @@ use Rattle.j39_summary.proofs.lines.put_rows.Given as goal
 -- the lines of the rows so far are written, and no fault came
 abbrev pub invariant-loop-at : goal.invariant-loop-at
 invariant-loop-at g l =
-    Appends (g.W.Sink.held l.initial.sink) (g.W.Sink.held l.sink) (summary_text l.groups (map row_shown (take l.at l.rows.entries)))
+    Appends (g.W.Sink.held l.initial.sink) (g.W.Sink.held l.sink) (summary_text l.form l.groups (map row_shown (take l.at l.rows.entries)))
     × (g.W.Sink.has_failed l.sink ≡ g.W.Sink.has_failed l.initial.sink)

@@ -1,4 +1,4 @@
-use Rattle.std.proofs.Common.{◌++◌, ◌∙◌, ap, sym, refl}
+use Rattle.std.proofs.Common.{refl}
 use Rattle.j39_summary.specs.RowText.{values_text}
 use Rattle.j39_summary.specs.Shown.{row_shown}
 use Rattle.j39_summary.proofs.LineLemmas.{both, front_of_both, front_of_first}

@@ -5,5 +5,5 @@ use Rattle.j39_summary.proofs.account.SummaryAccountAccount.meet.Goals as goal
 
 pub returns-in-Ok-clause-met : goal.returns-in-Ok-clause-met
 returns-in-Ok-clause-met g c =
-    let after : SummaryAccount = record { groups = c.args.self.now.groups; listener = c.note.new.listener; rows = c.note.new.rows; messages = c.saturating_add-self.result } in
-    λ subject. summary_meets subject c.args.self.now after refl c.args.frame.now c.in-Ok.messages _ c.in-Ok.ensures.noted c.saturating_add-self.ensures
+    let after : SummaryAccount = record { groups = c.args.self.now.groups; form = c.args.self.now.form; listener = c.note.new.listener; rows = c.note.new.rows; messages = c.saturating_add-self.result } in
+    λ subject. summary_meets subject.0 subject.1 c.args.self.now after refl refl c.args.frame.now c.in-Ok.messages _ c.in-Ok.ensures.noted c.saturating_add-self.ensures
