@@ -1,5 +1,5 @@
-/* What the proved calls take memory by, over malloc, realloc and free: for machines that the kit has no such object for.
- * Define these three yourself to take memory from elsewhere. */
+/* What the proved calls take memory by, over malloc, realloc and free: for machines that the kit has no such object
+ * for. Define these three yourself to take memory from elsewhere. */
 #include <stddef.h>
 #include <stdint.h>
 

@@ -1,5 +1,5 @@
-/* The calls of j1939.h: each tests its pointers for NULL, and calls the proved one. A frame that is read is copied first, so
- * that it may be the one that is written. */
+/* The calls of j1939.h: each tests its pointers for NULL, and calls the proved one. A frame that is read is copied
+ * first, so that it may be the one that is written. */
 #include "j1939.h"
 
 /* The proved calls, as the crate j39_c exports them. None of their pointers may be NULL. */
@@ -135,7 +135,8 @@ int32_t j1939_receiver_new(j1939_receiver *receiver, uint8_t own) {
     return receiver ? j39_receiver_new(&receiver->handle, own) : J1939_NULL;
 }
 
-int32_t j1939_receiver_on(j1939_receiver *receiver, const j1939_frame *frame, j1939_frame *out, j1939_message *message) {
+int32_t j1939_receiver_on(j1939_receiver *receiver, const j1939_frame *frame, j1939_frame *out,
+                          j1939_message *message) {
     if (!receiver || !frame || !out || !message) return J1939_NULL;
     j1939_frame heard = *frame;
     return j39_receiver_on(&receiver->handle, &heard, out, message);
@@ -153,8 +154,8 @@ int32_t j1939_receiver_close(j1939_receiver *receiver) {
     return receiver ? close_handle(&receiver->handle) : J1939_NULL;
 }
 
-int32_t j1939_sender_new(j1939_sender *sender, uint8_t source, uint8_t destination, uint32_t pgn, const uint8_t *payload,
-                         size_t size) {
+int32_t j1939_sender_new(j1939_sender *sender, uint8_t source, uint8_t destination, uint32_t pgn,
+                         const uint8_t *payload, size_t size) {
     return sender && payload ? j39_sender_new(&sender->handle, source, destination, pgn, payload, size) : J1939_NULL;
 }
 

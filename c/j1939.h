@@ -5,18 +5,19 @@
  * What the calls promise is proved, for every input that keeps to the rules below; each call's contract is in the
  * crate j39_c, and what it means in its README.
  *
- * Answers. A call answers below 0 where it did nothing, and why: one of the J1939_ codes. Then what it was handed is as
- * it was. 0 says that there is no more to say, and 1 and above what stands in the parameters that it wrote to.
+ * Answers. A call answers below 0 where it did nothing, and why: one of the J1939_ codes. Then what it was handed is
+ * as it was. 0 says that there is no more to say, and 1 and above what stands in the parameters that it wrote to.
  *
  * Storage. j1939_node and j1939_claims are plain data in your own memory: make them by their .._init. They take no
- * memory besides, need no close, and may be copied. A j1939_listener, a j1939_receiver and a j1939_sender are handles: set one to
- * J1939_EMPTY, open it by its .._new, close it by its .._close. What it holds lies on the heap and is the library's.
- * Frames, messages, readings and texts are your own, and are copied.
+ * memory besides, need no close, and may be copied. A j1939_listener, a j1939_receiver and a j1939_sender are handles:
+ * set one to J1939_EMPTY, open it by its .._new, close it by its .._close. What it holds lies on the heap and is the
+ * library's. Frames, messages, readings and texts are your own, and are copied.
  *
  * What you owe, since no library can test it:
  *  - a pointer that is not NULL points to memory of its type, or of the size that you say (NULL is tested);
  *  - the memory of two parameters that are written to does not overlap;
- *  - a handle was set to J1939_EMPTY, or written by the library last; an open one is not copied, and not written by you;
+ *  - a handle was set to J1939_EMPTY, or written by the library last; an open one is neither copied nor written by
+ *    you;
  *  - one call at a time on the same handle, node or claims; none from a signal handler, while one may be running;
  *  - malloc, realloc and free may be called by several threads at once, where you call from several.
  *
@@ -80,8 +81,8 @@ typedef struct {
 /** Reads the fields of an identifier: 0, or J1939_BAD_VALUE for one of 2^29 and above. */
 int32_t j1939_id_split(uint32_t id, j1939_id_fields *fields);
 
-/** Composes the identifier of these fields: 0. J1939_BAD_VALUE for a priority above 7, a group of 2^18 and above, and a
- * group of PF below 240 whose low byte is not 0. For PF 240 and above the destination is not used. */
+/** Composes the identifier of these fields: 0. J1939_BAD_VALUE for a priority above 7, a group of 2^18 and above, and
+ * a group of PF below 240 whose low byte is not 0. For PF 240 and above the destination is not used. */
 int32_t j1939_id_compose(const j1939_id_fields *fields, uint32_t *id);
 
 /** The fields of a NAME (J1939-81, 4.1.1). */
@@ -244,9 +245,10 @@ int32_t j1939_listener_close(j1939_listener *listener);
 /** Opens a receiver at an address, with its buffer of 1.8 kB: 0; J1939_IN_USE, J1939_BAD_VALUE, J1939_NO_MEMORY. */
 int32_t j1939_receiver_new(j1939_receiver *receiver, uint8_t own);
 
-/** Hands it a frame of the bus, of any group, at the frame's own moment: 0; 1 where *out is to be sent; 2 where *out is
- * to be sent and *message is delivered. J1939_BAD_VALUE, J1939_NO_PART. */
-int32_t j1939_receiver_on(j1939_receiver *receiver, const j1939_frame *frame, j1939_frame *out, j1939_message *message);
+/** Hands it a frame of the bus, of any group, at the frame's own moment: 0; 1 where *out is to be sent; 2 where *out
+ * is to be sent and *message is delivered. J1939_BAD_VALUE, J1939_NO_PART. */
+int32_t j1939_receiver_on(j1939_receiver *receiver, const j1939_frame *frame, j1939_frame *out,
+                          j1939_message *message);
 
 /** Lets time pass: 1 where *out is to be sent, else 0; J1939_BAD_VALUE, J1939_NO_PART. Call it each 10 ms or so. */
 int32_t j1939_receiver_tick(j1939_receiver *receiver, uint64_t micros, j1939_frame *out);
@@ -268,12 +270,12 @@ enum {
     J1939_SEND_FAILED = 4   /**< the transfer was aborted, for 3 where the receiver was silent */
 };
 
-/** Opens a sender of these bytes from one address to another: 0; J1939_IN_USE; J1939_BAD_VALUE outside 9 to 1785 bytes,
- * for an address above 253 or a group of 2^18 and above; J1939_NO_MEMORY. The bytes are copied. */
-int32_t j1939_sender_new(j1939_sender *sender, uint8_t source, uint8_t destination, uint32_t pgn, const uint8_t *payload,
-                         size_t size);
+/** Opens a sender of these bytes from one address to another: 0; J1939_IN_USE; J1939_BAD_VALUE outside 9 to 1785
+ * bytes, for an address above 253 or a group of 2^18 and above; J1939_NO_MEMORY. The bytes are copied. */
+int32_t j1939_sender_new(j1939_sender *sender, uint8_t source, uint8_t destination, uint32_t pgn,
+                         const uint8_t *payload, size_t size);
 
-/** Lets time pass: 1 where *out is to be sent, else 0; J1939_BAD_VALUE, J1939_NO_PART. A sender sends at ticks alone. */
+/** Lets time pass: 1 where *out is to be sent, else 0; J1939_BAD_VALUE, J1939_NO_PART. It sends at ticks alone. */
 int32_t j1939_sender_tick(j1939_sender *sender, uint64_t micros, j1939_frame *out);
 
 /** Shows it a frame of the bus, of any group, at the frame's own moment: 0; J1939_BAD_VALUE, J1939_NO_PART. */

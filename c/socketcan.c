@@ -1,9 +1,9 @@
-/* A controller on a CAN interface of Linux: it claims an address and keeps it, receives what is sent to it, and sends one
- * message of its own. What it sends is printed as candump -L writes it.
+/* A controller on a CAN interface of Linux: it claims an address and keeps it, receives what is sent to it, and sends
+ * one message of its own. What it sends is printed as candump -L writes it.
  *
  *   socketcan INTERFACE NAME ADDRESS [DESTINATION]   on an interface, for ever: NAME and the addresses are hex
- *   socketcan --socketpair                           two of them in two processes, with a socketpair for a bus, for two
- *                                                    seconds: both claim address 80, and each sends the other a VIN
+ *   socketcan --socketpair                           two of them in two processes, for two seconds, with a socketpair
+ *                                                    for a bus: both claim address 80, and send one another a VIN
  */
 #define _DEFAULT_SOURCE
 #include "j1939.h"
@@ -62,9 +62,10 @@ static void say(const controller *c, int32_t answer, const j1939_frame *frame) {
     struct can_frame can = {.can_id = frame->id | CAN_EFF_FLAG, .can_dlc = frame->len};
     if (sure(answer) == 0) return;
     memcpy(can.data, frame->data, frame->len);
-    int size = snprintf(line, sizeof line, "(%010" PRIu64 ".%06" PRIu64 ") %.16s %08" PRIX32 "#", frame->micros / 1000000,
-                        frame->micros % 1000000, c->bus, frame->id);
-    for (int i = 0; i < frame->len; i++) size += snprintf(line + size, sizeof line - (size_t)size, "%02X", frame->data[i]);
+    int size = snprintf(line, sizeof line, "(%010" PRIu64 ".%06" PRIu64 ") %.16s %08" PRIX32 "#",
+                        frame->micros / 1000000, frame->micros % 1000000, c->bus, frame->id);
+    for (int i = 0; i < frame->len; i++)
+        size += snprintf(line + size, sizeof line - (size_t)size, "%02X", frame->data[i]);
     line[size++] = '\n';
     if (write(c->socket, &can, sizeof can) != sizeof can || write(STDOUT_FILENO, line, (size_t)size) != size) {
         perror("socketcan");
@@ -95,8 +96,8 @@ static void hear(controller *c, const j1939_frame *frame) {
         say(c, answer, &out);
         if (answer == 2) {
             c->received++;
-            fprintf(stderr, "from %02X: %u bytes of group %" PRIu32 "\n", (unsigned)message.source, (unsigned)message.len,
-                    message.pgn);
+            fprintf(stderr, "from %02X: %u bytes of group %" PRIu32 "\n", (unsigned)message.source,
+                    (unsigned)message.len, message.pgn);
         }
     }
     if (c->sender.handle.part) sure(j1939_sender_on(&c->sender, frame));

@@ -139,7 +139,8 @@ static const j1939_frame bam = {
     .micros = 5, .id = 0x1CECFF80, .len = 8, .data = {0x20, 20, 0, 3, 0xFF, 0xEC, 0xFE, 0}};
 
 static j1939_frame packet(uint8_t k) {
-    j1939_frame frame = {.micros = 5 + 50000u * k, .id = 0x1CEBFF80, .len = 8, .data = {k, 'A', 'B', 'C', 'D', 'E', 'F', 'G'}};
+    j1939_frame frame = {
+        .micros = 5 + 50000u * k, .id = 0x1CEBFF80, .len = 8, .data = {k, 'A', 'B', 'C', 'D', 'E', 'F', 'G'}};
     return frame;
 }
 

@@ -20,9 +20,11 @@ static j1939_receiver receiver = J1939_EMPTY;
 static j1939_sender sender = J1939_EMPTY;
 static j1939_node node;
 static j1939_frame out;
-static j1939_frame engine = {.micros = 1, .id = 0x0CF00400, .len = 8, .data = {0xFF, 0xFF, 0xFF, 0xE0, 0x2E, 0xFF, 0xFF, 0xFF}};
+static const j1939_frame engine = {
+    .micros = 1, .id = 0x0CF00400, .len = 8, .data = {0xFF, 0xFF, 0xFF, 0xE0, 0x2E, 0xFF, 0xFF, 0xFF}};
 static const j1939_frame other = {.micros = 1, .id = 0x18FF0100, .len = 8};
-static const j1939_frame bam = {.micros = 1, .id = 0x1CECFF80, .len = 8, .data = {0x20, 20, 0, 3, 0xFF, 0xEC, 0xFE, 0}};
+static const j1939_frame bam = {
+    .micros = 1, .id = 0x1CECFF80, .len = 8, .data = {0x20, 20, 0, 3, 0xFF, 0xEC, 0xFE, 0}};
 static const j1939_frame claim = {.micros = 1, .id = 0x18EEFF05, .len = 8, .data = {5}};
 static j1939_message message;
 static j1939_reading reading;
@@ -42,7 +44,8 @@ static void node_on(void) { EXPECT(j1939_node_on(&node, &claim, &out) == 0); }
 static void receiver_tick(void) { EXPECT(j1939_receiver_tick(&receiver, 5, &out) == 0); }
 static void sender_tick(void) { EXPECT(j1939_sender_tick(&sender, 5, &out) >= 0); }
 static void close_all(void) {
-    EXPECT(j1939_listener_close(&listener) == 0 && j1939_receiver_close(&receiver) == 0 && j1939_sender_close(&sender) == 0);
+    EXPECT(j1939_listener_close(&listener) == 0 && j1939_receiver_close(&receiver) == 0);
+    EXPECT(j1939_sender_close(&sender) == 0);
 }
 
 /* A call on a stack of its own, painted before: how many of its bytes it touches. */
@@ -81,7 +84,8 @@ static void measure(const char *name, void (*call)(void), long times) {
 }
 
 int main(void) {
-    printf("j1939_node %zu, j1939_claims %zu, j1939_message %zu bytes\n", sizeof node, sizeof node.claims, sizeof message);
+    printf("j1939_node %zu, j1939_claims %zu, j1939_message %zu bytes\n", sizeof node, sizeof node.claims,
+           sizeof message);
     EXPECT(j1939_node_init(&node, 1, 3) == 0);
     measure("listener_new", open_listener, 0);
     measure("receiver_new", open_receiver, 0);

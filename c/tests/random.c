@@ -84,7 +84,8 @@ static void call_handles(size_t i, uint8_t address) {
     case 12: answered(j1939_sender_on(&senders[i], next() % 2 ? &frame : &out), J1939_NO_PART, 0); break;
     case 13: answered(j1939_sender_state(&senders[i], &reason), J1939_NO_PART, J1939_SEND_FAILED); break;
     case 14: answered(j1939_listener_holder(&listeners[i], address, &name), J1939_NO_PART, 1); break;
-    default: answered(j1939_listener_feed((j1939_listener *)&receivers[i], &frame, &message), J1939_NO_PART, J1939_BAD_VALUE);
+    default: /* a handle of another kind */
+        answered(j1939_listener_feed((j1939_listener *)&receivers[i], &frame, &message), J1939_NO_PART, J1939_BAD_VALUE);
     }
 }
 

@@ -1,4 +1,4 @@
--- What calls answer to C: below 0 that nothing was done, and why; 0 nothing more; above it that something was written out.
+-- What calls answer to C: below 0 that nothing was done, and why; 0 nothing more; above it that something is written.
 use Rattle.std.specs.Prelude.{◌≡◌, ℕ, zero, suc, ℤ, pos, negsuc, Option, Some, None}
 use Rattle.j39_frame.specs.Frame.{FrameRecord}
 use Rattle.j39_transport.specs.Cutting.{ToSend, without_stamp}

@@ -69,7 +69,7 @@ pub record IsHolderBy (listener : heard.Listener) (address : ℕ) (name : Option
 abbrev pub Sends : CanFrame → ℕ → Option ToSend → Type 0
 Sends can now sends = (can.micros ≡ now) × (sends ≡ Some (without_stamp (frame_of can)))
 
--- what is answered in C at a moment: 0 nothing, 1 a frame to send, 2 that and a message that is delivered, of this moment
+-- what is answered in C at a moment: 0 nothing, 1 a frame to send, 2 that and a message of this moment, delivered
 abbrev pub IsAnswer : ℕ → ℤ → CanFrame → WholeMessage → ReceiverAnswer → Type 0
 IsAnswer now (pos zero) can m a = a ≡ record { sends = None; delivers = None }
 IsAnswer now (pos (suc zero)) can m a = Sends can now a.sends × (a.delivers ≡ None)

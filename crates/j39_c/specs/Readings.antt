@@ -31,8 +31,7 @@ IsPlainValue p (text bytes) = p.kind ≡ 6
 abbrev pub IsPlain : PlainReading → ReadingRecord → Type 0
 IsPlain p reading = (p.spn ≡ reading.spn) × IsPlainValue p reading.value
 
--- a text stands at the front of a buffer of so many bytes, and its length is answered; or memory was refused, or it has no
--- room there
+-- a text stands at the front of a buffer, and its length is answered; or memory was refused, or it has no room there
 pub record IsTold (wanted : List ℕ) (n : ℕ) (buffer : List ℕ) : Type 0 where
   pub length_is : n ≡ length wanted
   pub text_is : take n buffer ≡ wanted

@@ -23,8 +23,8 @@ pub extern "C" fn j39_claims_init(claims: &mut Claims)
     *claims = Claims::new();
 }
 
-/// Notes a frame: how many addresses have another holder by it, 0 to 2, which stand in `changed` then, rising; -1 for a
-/// frame that is out of range.
+/// Notes a frame: how many addresses have another holder by it, 0 to 2, which stand in `changed` then, rising; -1 for
+/// a frame that is out of range.
 #[unsafe(no_mangle)]
 pub extern "C" fn j39_claims_note(
     claims: &mut Claims,

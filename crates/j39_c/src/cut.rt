@@ -4,16 +4,16 @@ ghost use Rattle.j39_transport.specs.Cutting.{cut_frame, without_stamp};
 ghost use Rattle.j39_transport.specs.Message.{as_broadcast, packets_of};
 ghost use Rattle.j39_c.specs.Can.{frame_of};
 ghost use Rattle.j39_c.specs.Codes.{bad_value};
-ghost use Rattle.j39_c.specs.Cut.{CanBeCut};
+ghost use Rattle.j39_c.specs.Cut.{CanBeCut, message_by};
 
 use crate::can::{CanFrame, write_packet};
 use crate::refusal::Refusal;
 use j39_frame::{Pgn, Stamp};
 use j39_transport::Cut;
 
-/// Frame number `k` of the broadcast of these bytes, 0 the announcement: 1 and the frame, 0 behind the last packet; -1
-/// outside 9 to 1,785 bytes, for an address above 253, a group of 2^18 and above, or a moment of 10^16 microseconds and
-/// above.
+/// Frame number `k` of the broadcast of these bytes, 0 the announcement: 1 and the frame, 0 behind the last packet;
+/// -1 outside 9 to 1,785 bytes, for an address above 253, a group of 2^18 and above, or a moment of 10^16
+/// microseconds and above.
 #[unsafe(no_mangle)]
 pub extern "C" fn j39_cut_frame(
     source: u8,
@@ -23,13 +23,13 @@ pub extern "C" fn j39_cut_frame(
     micros: u64,
     out: &mut CanFrame,
 ) -> i32
-    ensures frame { CanBeCut (record { source = source; pgn = pgn; bytes = payload.now }) micros
-        → k ≤ packets_of (record { source = source; pgn = pgn; bytes = payload.now })
+    ensures frame { CanBeCut (message_by source pgn payload.now) micros
+        → k ≤ packets_of (message_by source pgn payload.now)
         → (result ≡ pos 1) × (out.new.micros ≡ micros) × (without_stamp (frame_of out.new)
-        ≡ cut_frame (as_broadcast (record { source = source; pgn = pgn; bytes = payload.now })) (record { source = source; pgn = pgn; bytes = payload.now }) k) }
-    ensures behind { CanBeCut (record { source = source; pgn = pgn; bytes = payload.now }) micros
-        → packets_of (record { source = source; pgn = pgn; bytes = payload.now }) < k → result ≡ pos 0 }
-    ensures bad { (CanBeCut (record { source = source; pgn = pgn; bytes = payload.now }) micros → ⊥)
+        ≡ cut_frame (as_broadcast (message_by source pgn payload.now)) (message_by source pgn payload.now) k) }
+    ensures behind { CanBeCut (message_by source pgn payload.now) micros
+        → packets_of (message_by source pgn payload.now) < k → result ≡ pos 0 }
+    ensures bad { (CanBeCut (message_by source pgn payload.now) micros → ⊥)
         → result ≡ bad_value }
 {
     let (Some(now), Some(group)) = (Stamp::new(micros), Pgn::new(pgn)) else {

@@ -40,8 +40,8 @@ pub extern "C" fn j39_id_split(id: u32, fields: &mut IdFields) -> i32
     0
 }
 
-/// Composes the identifier of these fields: 0; -1 for a priority above 7, a group of 2^18 and above, and a group of PF below
-/// 240 whose low byte is not 0. For PF 240 and up the destination is not used.
+/// Composes the identifier of these fields: 0; -1 for a priority above 7, a group of 2^18 and above, and a group of
+/// PF below 240 whose low byte is not 0. For PF 240 and up the destination is not used.
 #[unsafe(no_mangle)]
 pub extern "C" fn j39_id_compose(fields: &IdFields, id: &mut u32) -> i32
     ensures composed { CanBeComposed fields.now → (result ≡ pos 0) × IsComposed fields.now id.new }

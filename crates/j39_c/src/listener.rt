@@ -39,9 +39,9 @@ pub extern "C" fn j39_listener_new(alloc: Global, listener: &mut Handle) -> i32
     0
 }
 
-/// Feeds a listener the next frame of the bus: 1 where a message is heard at it, which is in `out` then, else 0. -1 for a
-/// frame that is out of range, -2 where the handle holds no listener; -3 where memory is refused, at an announcement
-/// alone. After one of these nothing has changed.
+/// Feeds a listener the next frame of the bus: 1 where a message is heard at it, which is in `out` then, else 0. -1
+/// for a frame that is out of range, -2 where the handle holds no listener; -3 where memory is refused, at an
+/// announcement alone. After one of these nothing has changed.
 #[unsafe(no_mangle)]
 pub extern "C" fn j39_listener_feed(
     alloc: Global,

@@ -103,8 +103,8 @@ pub extern "C" fn j39_node_commanded(
     put_frame(node.commanded(Name::new(name), address, now), out)
 }
 
-/// How far the node is: 0 idle, 1 claiming `address`, 2 holding it, 3 it can claim none. `address` is 254 where there is
-/// none.
+/// How far the node is: 0 idle, 1 claiming `address`, 2 holding it, 3 it can claim none. `address` is 254 where there
+/// is none.
 #[unsafe(no_mangle)]
 pub extern "C" fn j39_node_status(node: &Claimer, address: &mut u8) -> i32
     ensures { (s : NodeStatus) × ((n : Node) → IsNode node.now n → s ≡ n.status)

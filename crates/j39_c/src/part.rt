@@ -64,7 +64,8 @@ impl Part {
         message: &mut WholeMessage,
     ) -> i32
         ensures done { IfSome (receiver_in (Some self.old)) (λ old. IsDone result
-            × IsSomeAnd (receiver_in (Some self.new)) (λ new. ReceivesMore old frame.now result out.new message.new new)) }
+            × IsSomeAnd (receiver_in (Some self.new)) (λ new.
+            ReceivesMore old frame.now result out.new message.new new)) }
         ensures foreign { receiver_in (Some self.old) ≡ None → (result ≡ no_part) × (self.new ≡ self.old) }
     {
         match self {
@@ -77,7 +78,8 @@ impl Part {
     /// Lets time pass for a receiver.
     pub(crate) fn receiver_tick(&mut self, now: Stamp, out: &mut CanFrame) -> i32
         ensures done { IfSome (receiver_in (Some self.old)) (λ old. IsDone result
-            × IsSomeAnd (receiver_in (Some self.new)) (λ new. LetsPass old (stamp_micros now) (sent_packet result out.new) new)) }
+            × IsSomeAnd (receiver_in (Some self.new)) (λ new.
+            LetsPass old (stamp_micros now) (sent_packet result out.new) new)) }
         ensures moment { IsSentAt result out.new (stamp_micros now) }
         ensures foreign { receiver_in (Some self.old) ≡ None → (result ≡ no_part) × (self.new ≡ self.old) }
     {
@@ -103,7 +105,8 @@ impl Part {
     /// Lets time pass for a sender.
     pub(crate) fn sender_tick(&mut self, now: Stamp, out: &mut CanFrame) -> i32
         ensures done { IfSome (sender_in (Some self.old)) (λ old. IsDone result
-            × IsSomeAnd (sender_in (Some self.new)) (λ new. SendStep old Tick (stamp_micros now) (sent_packet result out.new) new)) }
+            × IsSomeAnd (sender_in (Some self.new)) (λ new.
+            SendStep old Tick (stamp_micros now) (sent_packet result out.new) new)) }
         ensures moment { IsSentAt result out.new (stamp_micros now) }
         ensures foreign { sender_in (Some self.old) ≡ None → (result ≡ no_part) × (self.new ≡ self.old) }
     {

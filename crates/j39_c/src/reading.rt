@@ -36,8 +36,8 @@ pub struct PlainReading {
     pub unit: [u8; 8],
 }
 
-/// Reads reading number `index` of a message, by the built-in table: 0; -1 for a message that is none, -6 behind the last
-/// reading.
+/// Reads reading number `index` of a message, by the built-in table: 0; -1 for a message that is none, -6 behind the
+/// last reading.
 #[unsafe(no_mangle)]
 pub extern "C" fn j39_reading(message: &WholeMessage, index: usize, out: &mut PlainReading) -> i32
     ensures read { IsReadable message.now → IfSome (reading_in message.now index) (λ reading.
@@ -55,8 +55,9 @@ pub extern "C" fn j39_reading(message: &WholeMessage, index: usize, out: &mut Pl
     0
 }
 
-/// Writes out the text of reading number `index` of a message, as a report prints it, with no zero at its end: its length;
-/// -1 for a message that is none, -3 where memory is refused, -5 where it doesn't fit, -6 behind the last reading.
+/// Writes out the text of reading number `index` of a message, as a report prints it, with no zero at its end: its
+/// length; -1 for a message that is none, -3 where memory is refused, -5 where it doesn't fit, -6 behind the last
+/// reading.
 #[unsafe(no_mangle)]
 pub extern "C" fn j39_reading_text(
     alloc: Global,
@@ -217,7 +218,8 @@ impl Sink for Text {
     }
 }
 
-/// The raw number of a value of a parameter, in units of its last decimal place: 1 and the number, or 0 where there is none.
+/// The raw number of a value of a parameter, in units of its last decimal place: 1 and the number, or 0 where there
+/// is none.
 #[unsafe(no_mangle)]
 pub extern "C" fn j39_raw_of(spn: u32, value: i64, raw: &mut u32) -> i32
     ensures found { result ≡ pos 1 → IsRawOf spn value raw.new }

@@ -15,8 +15,8 @@ use j39_frame::{Frame, Stamp, is_address};
 use j39_transport::{Receiver, Reply};
 use std::alloc::Global;
 
-/// Opens a receiver at an address, with its buffer: 0; -1 for an address above 253, -3 where memory is refused, -4 where
-/// the handle is open.
+/// Opens a receiver at an address, with its buffer: 0; -1 for an address above 253, -3 where memory is refused, -4
+/// where the handle is open.
 #[unsafe(no_mangle)]
 pub extern "C" fn j39_receiver_new(alloc: Global, receiver: &mut Handle, own: u8) -> i32
     ensures made { IsDone result → (result ≡ pos 0) × IsAddress own
@@ -46,9 +46,9 @@ pub extern "C" fn j39_receiver_new(alloc: Global, receiver: &mut Handle, own: u8
     0
 }
 
-/// Hands a frame of the bus to a receiver at its own moment: 0; 1 where `out` is to be sent; 2 where `out` is to be sent,
-/// and a message is delivered, which is in `message`. -1 for a frame that is out of range, -2 where the handle holds no
-/// receiver.
+/// Hands a frame of the bus to a receiver at its own moment: 0; 1 where `out` is to be sent; 2 where `out` is to be
+/// sent, and a message is delivered, which is in `message`. -1 for a frame that is out of range, -2 where the handle
+/// holds no receiver.
 #[unsafe(no_mangle)]
 pub extern "C" fn j39_receiver_on(
     alloc: Global,
@@ -75,8 +75,8 @@ pub extern "C" fn j39_receiver_on(
     code
 }
 
-/// Lets time pass for a receiver: 1 where `out` is to be sent, else 0. -1 for a moment of 10^16 microseconds and above, -2
-/// where the handle holds no receiver.
+/// Lets time pass for a receiver: 1 where `out` is to be sent, else 0. -1 for a moment of 10^16 microseconds and
+/// above, -2 where the handle holds no receiver.
 #[unsafe(no_mangle)]
 pub extern "C" fn j39_receiver_tick(
     alloc: Global,

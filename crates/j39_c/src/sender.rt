@@ -3,6 +3,7 @@ ghost use Rattle.std.specs.Prelude.{◌≡◌, ◌<◌, ◌^◌, Some, None, IfS
 ghost use Rattle.j39_transport.specs.Sending.{Heard, SendStep, Tick, new_sender};
 ghost use Rattle.j39_c.specs.Can.{Fits, frame_of};
 ghost use Rattle.j39_c.specs.Codes.{IsDone, IsRefused, IsSentAt, bad_value, in_use, no_memory, no_part, sent_packet};
+ghost use Rattle.j39_c.specs.Cut.{message_by};
 ghost use Rattle.j39_c.specs.Parts.{CanSend, IsSendCode, IsSendRefusal, IsSendState, sender_in};
 
 use crate::can::{CanFrame, frame_in};
@@ -13,8 +14,9 @@ use j39_frame::{Frame, Pgn, Stamp, is_address};
 use j39_transport::{Cut, OwnedSender, SendEvent, SendState};
 use std::alloc::Global;
 
-/// Opens a sender of these bytes, 9 to 1,785, from one address to another: 0; -1 for another number of bytes, an address
-/// above 253 or a group of 2^18 and above, -3 where memory is refused, -4 where the handle is open. The bytes are copied.
+/// Opens a sender of these bytes, 9 to 1,785, from one address to another: 0; -1 for another number of bytes, an
+/// address above 253 or a group of 2^18 and above, -3 where memory is refused, -4 where the handle is open. The bytes
+/// are copied.
 #[unsafe(no_mangle)]
 pub extern "C" fn j39_sender_new(
     alloc: Global,
@@ -25,14 +27,14 @@ pub extern "C" fn j39_sender_new(
     payload: &[u8],
 ) -> i32
     ensures made { IsDone result → (result ≡ pos 0)
-        × CanSend (record { source = source; pgn = pgn; bytes = payload.now }) destination
-        × (sender_in sender.new.part ≡ Some (new_sender (record { source = source; pgn = pgn; bytes = payload.now }) destination)) }
+        × CanSend (message_by source pgn payload.now) destination
+        × (sender_in sender.new.part ≡ Some (new_sender (message_by source pgn payload.now) destination)) }
     ensures open { IsSome sender.old.part → result ≡ in_use }
     ensures bad { sender.old.part ≡ None
-        → (CanSend (record { source = source; pgn = pgn; bytes = payload.now }) destination → ⊥)
+        → (CanSend (message_by source pgn payload.now) destination → ⊥)
         → result ≡ bad_value }
     ensures wanted { sender.old.part ≡ None
-        → CanSend (record { source = source; pgn = pgn; bytes = payload.now }) destination
+        → CanSend (message_by source pgn payload.now) destination
         → IsRefused result → result ≡ no_memory }
     ensures refused { IsRefused result → sender.new.part ≡ sender.old.part }
 {
@@ -58,10 +60,10 @@ fn made(
     payload: &[u8],
 ) -> Result<Box<Part>, Refusal>
     ensures made { IfOk result (λ part.
-        CanSend (record { source = source; pgn = pgn; bytes = payload.now }) destination
-        × (sender_in (Some part.value) ≡ Some (new_sender (record { source = source; pgn = pgn; bytes = payload.now }) destination))) }
+        CanSend (message_by source pgn payload.now) destination
+        × (sender_in (Some part.value) ≡ Some (new_sender (message_by source pgn payload.now) destination))) }
     ensures refused { IfErr result (λ refusal.
-        IsSendRefusal (record { source = source; pgn = pgn; bytes = payload.now }) destination refusal) }
+        IsSendRefusal (message_by source pgn payload.now) destination refusal) }
 {
     let Some(group) = Pgn::new(pgn) else {
         return Err(Refusal::BadValue);
@@ -84,8 +86,8 @@ fn made(
     Ok(part)
 }
 
-/// Lets time pass for a sender: 1 where `out` is to be sent, else 0. -1 for a moment of 10^16 microseconds and above, -2
-/// where the handle holds no sender.
+/// Lets time pass for a sender: 1 where `out` is to be sent, else 0. -1 for a moment of 10^16 microseconds and above,
+/// -2 where the handle holds no sender.
 #[unsafe(no_mangle)]
 pub extern "C" fn j39_sender_tick(
     alloc: Global,
@@ -111,8 +113,8 @@ pub extern "C" fn j39_sender_tick(
     code
 }
 
-/// Shows a sender a frame of the bus at its own moment: 0. -1 for a frame that is out of range, -2 where the handle holds
-/// no sender.
+/// Shows a sender a frame of the bus at its own moment: 0. -1 for a frame that is out of range, -2 where the handle
+/// holds no sender.
 #[unsafe(no_mangle)]
 pub extern "C" fn j39_sender_on(alloc: Global, sender: &mut Handle, frame: &CanFrame) -> i32
     ensures done { Fits frame.now → IfSome (sender_in sender.old.part) (λ old. (result ≡ pos 0)
@@ -133,7 +135,8 @@ pub extern "C" fn j39_sender_on(alloc: Global, sender: &mut Handle, frame: &CanF
     code
 }
 
-/// How far a sender is: 0 idle, 1 waiting, 2 sending, 3 done, 4 failed, for `reason`; -2 where the handle holds no sender.
+/// How far a sender is: 0 idle, 1 waiting, 2 sending, 3 done, 4 failed, for `reason`; -2 where the handle holds no
+/// sender.
 #[unsafe(no_mangle)]
 pub extern "C" fn j39_sender_state(alloc: Global, sender: &mut Handle, reason: &mut u8) -> i32
     ensures done { IfSome (sender_in sender.old.part) (λ sender. IsSendState sender.state result reason.new) }
