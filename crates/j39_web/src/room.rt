@@ -78,7 +78,7 @@ impl<'a> Room<'a> {
 impl<'a> Sink for Room<'a> {
     ghost use Rattle.std.specs.Prelude.{Some, ◌∷◌, take};
 
-    // The name of the room that was lent stands before what is written: so a run that keeps what was there keeps the room.
+    // The name of the room stands before what is written: so a run that keeps what was there keeps the room.
     ghost held = { λ room. Some (room.room.ghost_name ∷ take room.len room.room.now) };
 
     ghost has_failed = { λ room. room.is_full };
