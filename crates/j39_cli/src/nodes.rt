@@ -54,7 +54,8 @@ pub(crate) fn command<'a>(alloc: Global) -> Result<Command<'a>, AllocError>
 /// The task that its words ask for.
 pub(crate) fn task<'a>(given: &ArgMatches<'a>) -> Result<Task<'a>, ParseFault>
     ensures answer { IsAnswer (written.nodes (first_value (found_of given.now) (codes "bus"))
-        (is_given (first_value (found_of given.now) (codes "csv"))) (first_value (found_of given.now) (codes "file"))) result }
+        (is_given (first_value (found_of given.now) (codes "csv")))
+        (first_value (found_of given.now) (codes "file"))) result }
     ensures memory { result ≢ Err ParseFault.Memory }
     ensures in_range { IfOk result IsInRange }
 {

@@ -74,7 +74,8 @@ fn bare<'a>(alloc: Global) -> Command<'a>
 pub(crate) fn task<'a>(given: &ArgMatches<'a>) -> Result<Task<'a>, ParseFault>
     ensures answer { IsAnswer (written.report (first_value (found_of given.now) (codes "bus"))
         (first_value (found_of given.now) (codes "table")) (first_value (found_of given.now) (codes "spn"))
-        (is_given (first_value (found_of given.now) (codes "csv"))) (first_value (found_of given.now) (codes "file"))) result }
+        (is_given (first_value (found_of given.now) (codes "csv")))
+        (first_value (found_of given.now) (codes "file"))) result }
     ensures memory { result ≢ Err ParseFault.Memory }
     ensures in_range { IfOk result IsInRange }
 {

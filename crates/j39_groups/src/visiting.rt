@@ -116,7 +116,8 @@ fn visit_found<'t, M, V: ReadingVisitor<'t, M>>(
     visitor: &mut V,
     medium: &mut M,
 ) -> Result<(), V::Fault>
-    ensures taken { OnOk result (Takes V.has_taken visitor.old medium.old visitor.new medium.new (map reading_of found.now)) }
+    ensures taken { OnOk result (Takes V.has_taken visitor.old medium.old visitor.new medium.new
+        (map reading_of found.now)) }
     ensures stopped { OnErr result (Stops V.has_taken V.has_stopped visitor.old medium.old visitor.new medium.new
         (map reading_of found.now)) }
 {
@@ -151,7 +152,8 @@ fn visit_row<'t, M, V: ReadingVisitor<'t, M>>(
     visitor: &mut V,
     medium: &mut M,
 ) -> Result<(), V::Fault>
-    ensures taken { OnOk result (Takes V.has_taken visitor.old medium.old visitor.new medium.new (row_readings bytes.now row.now)) }
+    ensures taken { OnOk result (Takes V.has_taken visitor.old medium.old visitor.new medium.new
+        (row_readings bytes.now row.now)) }
     ensures stopped { OnErr result (Stops V.has_taken V.has_stopped visitor.old medium.old visitor.new medium.new
         (row_readings bytes.now row.now)) }
 {

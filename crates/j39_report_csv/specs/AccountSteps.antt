@@ -14,7 +14,8 @@ use Rattle.j39_report_csv.specs.Csv.{records_of}
 use Rattle.j39_report_csv.specs.declared.account.CsvReport.{CsvReport}
 
 -- the records of F by this table were made, and its listener was fed F
-pub record HasRecorded (groups : List RowRecord) (report : CsvReport) (F : List FrameRecord) (output : Output) : Type 0 where
+pub record HasRecorded (groups : List RowRecord) (report : CsvReport) (F : List FrameRecord)
+    (output : Output) : Type 0 where
   pub by : report.groups.now ≡ groups
   pub heard : List Hearing
   pub are_heard : AreHeard groups F heard

@@ -85,7 +85,8 @@ impl<'g, 't, W: Sink> ReadingVisitor<'t, W> for Records<'g, 't> {
 
     ghost has_taken = { λ subject records sink. HasWritten subject records (W.held sink) (W.has_failed sink) };
 
-    ghost has_stopped = { λ subject before at records sink. HasStopped subject before at (W.held sink) (W.has_failed sink) };
+    ghost has_stopped = { λ subject before at records sink.
+        HasStopped subject before at (W.held sink) (W.has_failed sink) };
 
     fn visit(
         &mut self,

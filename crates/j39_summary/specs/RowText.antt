@@ -65,8 +65,8 @@ origin_fields row =
 -- how many values, how many of them words, and the moments of the first and the last
 unfoldable pub count_fields : Row → List ℕ
 count_fields row =
-    codes "," ++ decimal row.count ++ codes "," ++ decimal row.words ++ codes "," ++ seconds_text row.first.stamp ++ codes ","
-    ++ utc_text row.first.stamp ++ codes "," ++ seconds_text row.last.stamp ++ codes "," ++ utc_text row.last.stamp
+    codes "," ++ decimal row.count ++ codes "," ++ decimal row.words ++ codes "," ++ seconds_text row.first.stamp
+    ++ codes "," ++ utc_text row.first.stamp ++ codes "," ++ seconds_text row.last.stamp ++ codes "," ++ utc_text row.last.stamp
 
 unfoldable pub bounds_fields : Range → List ℕ
 bounds_fields r = codes "," ++ scaled_text r.slot.places r.least ++ codes "," ++ scaled_text r.slot.places r.most
