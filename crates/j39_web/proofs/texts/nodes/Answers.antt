@@ -7,5 +7,5 @@ use Rattle.j39_web.proofs.texts.nodes.Goals as goal
 pub returns-clause-too_small : goal.returns-clause-too_small
 returns-clause-too_small c = λ fails.
     let ran = c.nodes-ran.ensures in
-    overflows MakesNodes nodes_one c.args.bus c.args.log.now c.new-source.result.rest.now c.nodes-ran.result _ _ _ _ _ _ _
+    overflows MakesNodes (nodes_one _) c.args.bus c.args.log.now c.new-source.result.rest.now c.nodes-ran.result _ _ _ _ _ _ _
     (search rules) (search rules) ran.nodes ran.cut_short (search rules) (search rules) (search rules) (c.told.ensures.too_small fails) (search rules)
