@@ -213,7 +213,8 @@ impl Claimer {
 
     /// Has no address, and says so.
     fn give_up(&mut self, now: Stamp) -> Option<Frame>
-        ensures { Says (record self.old { status = plain status.Cannot }) self.new null_address (stamp_micros now) result }
+        ensures { Says (record self.old { status = plain status.Cannot }) self.new null_address
+            (stamp_micros now) result }
     {
         self.status = State::of(Status::Cannot);
         self.say(NULL_ADDRESS, now)

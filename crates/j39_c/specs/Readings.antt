@@ -42,5 +42,6 @@ IsTextAnswer room wanted (negsuc zero) buffer = ⊥
 IsTextAnswer room wanted (negsuc (suc zero)) buffer = ⊥
 IsTextAnswer room wanted (negsuc (suc (suc zero))) buffer = Unit {0}
 IsTextAnswer room wanted (negsuc (suc (suc (suc zero)))) buffer = ⊥
-IsTextAnswer room wanted (negsuc (suc (suc (suc (suc zero))))) buffer = (room < length wanted) ⊎ (2 ^ 31 ≤ length wanted)
+IsTextAnswer room wanted (negsuc (suc (suc (suc (suc zero))))) buffer =
+    (room < length wanted) ⊎ (2 ^ 31 ≤ length wanted)
 IsTextAnswer room wanted (negsuc (suc (suc (suc (suc (suc n)))))) buffer = ⊥

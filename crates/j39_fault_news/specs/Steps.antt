@@ -58,7 +58,8 @@ TellsFront rows which ms heard old new = AppendsFront old new (added rows which 
 
 -- behind the frames F, of which these messages were heard, this is heard at the frame f, and was told
 pub record MeetsFrame (rows : List RowRecord) (which : Telling) (l' : Listener) (last' : LastSaid)
-    (F : List FrameRecord) (f : FrameRecord) (ms : List Hearing) (made : Made) (old new : Option (List ℕ)) : Type 0 where
+    (F : List FrameRecord) (f : FrameRecord) (ms : List Hearing) (made : Made)
+    (old new : Option (List ℕ)) : Type 0 where
   pub heard : Option Hearing
   pub heard_at : HeardAtWith is_fault_group (F ++ f ∷ []) (length F) heard
   pub hears : Hears l' (F ++ f ∷ [])

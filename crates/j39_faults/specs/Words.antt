@@ -5,8 +5,10 @@ use Rattle.std.specs.Prelude.{◌==◌, ℕ, List, [], ◌∷◌, slice_get, unw
 abbrev pub first_words : List (List ℕ)
 first_words =
     codes "above normal, most severe" ∷ codes "below normal, most severe" ∷ codes "erratic"
-    ∷ codes "voltage above normal" ∷ codes "voltage below normal" ∷ codes "current below normal" ∷ codes "current above normal"
-    ∷ codes "mechanical system not responding" ∷ codes "abnormal frequency" ∷ codes "abnormal update rate" ∷ codes "abnormal rate of change"
+    ∷ codes "voltage above normal" ∷ codes "voltage below normal"
+    ∷ codes "current below normal" ∷ codes "current above normal"
+    ∷ codes "mechanical system not responding" ∷ codes "abnormal frequency"
+    ∷ codes "abnormal update rate" ∷ codes "abnormal rate of change"
     ∷ codes "root cause not known" ∷ codes "bad device" ∷ codes "out of calibration" ∷ codes "special instructions"
     ∷ codes "above normal, least severe" ∷ codes "above normal, moderately severe"
     ∷ codes "below normal, least severe" ∷ codes "below normal, moderately severe"

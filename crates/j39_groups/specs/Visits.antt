@@ -45,4 +45,5 @@ Takes has_taken old medium new medium' readings =
 abbrev pub Stops : {S V M : Type 0} → (S → V → M → List ReadingRecord → Type 0)
     → (S → List ReadingRecord → ReadingRecord → V → M → Type 0) → V → M → V → M → List ReadingRecord → Type 0
 Stops has_taken has_stopped old medium new medium' readings =
-    StopsAmong (with_medium has_taken) (λ subject before at. has_stopped subject before at new medium') (old, medium) readings
+    StopsAmong (with_medium has_taken) (λ subject before at. has_stopped subject before at new medium')
+    (old, medium) readings

@@ -32,7 +32,8 @@ fn number_of<'t, 'v>(
 ) -> Option<ReadValue<'t, 'v>>
     requires { IsSoundBytes first last scale }
     ensures { option_map read_value_of result
-        ≡ option_and_then (number_meaning (last - (first - 1)) (scale_record scale.entry)) (raw_number first last bytes.now) }
+        ≡ option_and_then (number_meaning (last - (first - 1)) (scale_record scale.entry))
+        (raw_number first last bytes.now) }
 {
     let raw = raw_in(bytes, first, last)?;
     let top = top_byte(raw, last - (first - 1));

@@ -47,7 +47,8 @@ impl<A: Account> Pieces<A> {
             (λ given taken held. HasTaken (A.has_met subject) given (taken ++ piece.now) self.new held
             (W.held sink.new))) }
         ensures front { OnErr result ((subject : A.Subject) → Behind (A.has_met subject) self.old (W.held sink.old)
-            (λ given taken held. WritesFrontOfMore (A.makes subject) given (taken ++ piece.now) held (W.held sink.new))) }
+            (λ given taken held. WritesFrontOfMore (A.makes subject) given (taken ++ piece.now) held
+            (W.held sink.new))) }
         ensures write { result ≡ Err Write → W.has_failed sink.new ≡ true }
         ensures unmarked { result ≢ Err Write → W.has_failed sink.new ≡ W.has_failed sink.old }
         ensures flushed { OnOk result (W.is_flushed sink.new ≡ true) }
@@ -71,7 +72,8 @@ impl<A: Account> Pieces<A> {
             (λ given taken held. HasTaken (A.has_met subject) given (taken ++ piece.now) self.new held
             (W.held sink.new))) }
         ensures front { OnErr result ((subject : A.Subject) → Behind (A.has_met subject) self.old (W.held sink.old)
-            (λ given taken held. WritesFrontOfMore (A.makes subject) given (taken ++ piece.now) held (W.held sink.new))) }
+            (λ given taken held. WritesFrontOfMore (A.makes subject) given (taken ++ piece.now) held
+            (W.held sink.new))) }
         ensures write { result ≡ Err Write → W.has_failed sink.new ≡ true }
         ensures unmarked { result ≢ Err Write → W.has_failed sink.new ≡ W.has_failed sink.old }
         ensures asked { result ≡ Err Memory → (subject : A.Subject)

@@ -28,7 +28,8 @@ are_printed (bus ∷ id ∷ len ∷ fields) = is_identifier id && is_bracketed l
 -- behind a stamp in parentheses, or none
 abbrev pub are_printed_fields : List (List ℕ) → Bool
 are_printed_fields [] = false
-are_printed_fields (f ∷ fields) = if starts_with nat_eq f (codes "(") then are_printed fields else are_printed (f ∷ fields)
+are_printed_fields (f ∷ fields) =
+    if starts_with nat_eq f (codes "(") then are_printed fields else are_printed (f ∷ fields)
 
 unfoldable pub is_printed : List ℕ → Bool
 is_printed line = nat_le (length line) 256 && are_printed_fields (fields_in line)

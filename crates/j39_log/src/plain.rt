@@ -99,7 +99,8 @@ fn stamp_of(front: &[u8; 18]) -> Option<Stamp>
 fn micros_of(first: u8, p: &[u8; 8]) -> u64
     ensures { result
         ≡ first * 10 ^ 15 + get_or p.now 0 0 * 10 ^ 13 + get_or p.now 1 0 * 10 ^ 11 + get_or p.now 2 0 * 10 ^ 9
-        + get_or p.now 3 0 * 10 ^ 7 + get_or p.now 4 0 * 10 ^ 5 + get_or p.now 5 0 * 10 ^ 4 + get_or p.now 6 0 * 100 + get_or p.now 7 0 }
+        + get_or p.now 3 0 * 10 ^ 7 + get_or p.now 4 0 * 10 ^ 5 + get_or p.now 5 0 * 10 ^ 4
+        + get_or p.now 6 0 * 100 + get_or p.now 7 0 }
 {
     let front = ((u64::from(first) * 100 + u64::from(p[0])) * 100 + u64::from(p[1])) * 10_000;
     let seconds = front + u64::from(p[2]) * 100 + u64::from(p[3]);

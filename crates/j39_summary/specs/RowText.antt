@@ -59,14 +59,15 @@ summary_columns =
 -- address, NAME, PGN and SPN
 unfoldable pub origin_fields : Row → List ℕ
 origin_fields row =
-    encode_upper (row.first.address ∷ []) ++ codes "," ++ name_field row.first.name ++ codes "," ++ decimal row.first.pgn
-    ++ codes "," ++ decimal row.first.spn
+    encode_upper (row.first.address ∷ []) ++ codes "," ++ name_field row.first.name
+    ++ codes "," ++ decimal row.first.pgn ++ codes "," ++ decimal row.first.spn
 
 -- how many values, how many of them words, and the moments of the first and the last
 unfoldable pub count_fields : Row → List ℕ
 count_fields row =
-    codes "," ++ decimal row.count ++ codes "," ++ decimal row.words ++ codes "," ++ seconds_text row.first.stamp
-    ++ codes "," ++ utc_text row.first.stamp ++ codes "," ++ seconds_text row.last.stamp ++ codes "," ++ utc_text row.last.stamp
+    codes "," ++ decimal row.count ++ codes "," ++ decimal row.words
+    ++ codes "," ++ seconds_text row.first.stamp ++ codes "," ++ utc_text row.first.stamp
+    ++ codes "," ++ seconds_text row.last.stamp ++ codes "," ++ utc_text row.last.stamp
 
 unfoldable pub bounds_fields : Range → List ℕ
 bounds_fields r = codes "," ++ scaled_text r.slot.places r.least ++ codes "," ++ scaled_text r.slot.places r.most

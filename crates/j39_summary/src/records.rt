@@ -140,7 +140,8 @@ fn put_span<W: Sink>(span: &Span<'_>, sink: &mut W) -> Result<(), DeviceFault>
 }
 
 fn put_bounds<W: Sink>(span: &Span<'_>, sink: &mut W) -> Result<(), DeviceFault>
-    ensures written { OnOk result (Appends (W.held sink.old) (W.held sink.new) (bounds_fields (range_of_span span.now))) }
+    ensures written { OnOk result (Appends (W.held sink.old) (W.held sink.new)
+        (bounds_fields (range_of_span span.now))) }
     ensures front { OnErr result (AppendsFront (W.held sink.old) (W.held sink.new)
         (bounds_fields (range_of_span span.now))) }
     ensures mark { Marks result (W.has_failed sink.old) (W.has_failed sink.new) }

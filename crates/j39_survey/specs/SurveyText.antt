@@ -34,7 +34,8 @@ interfaces_text seen = flat_map interface_text (interfaces_of seen)
 -- read by a table, needed by the network, or heard in packets alone
 abbrev pub class_text : List RowRecord → ℕ → List ℕ
 class_text table pgn =
-    if is_reported_in table pgn then codes " read" else (if is_of_network pgn then codes " network" else codes " packets")
+    if is_reported_in table pgn then codes " read"
+    else (if is_of_network pgn then codes " network" else codes " packets")
 
 -- what the table calls the group, where it lists it
 abbrev pub name_text : Option (List ℕ) → List ℕ
@@ -92,6 +93,8 @@ printed_text is_printed =
 -- the lines, the interfaces, the groups, the other lines, the unread ones, and a word on plain output of candump
 unfoldable pub survey_text : List RowRecord → List LogLine → List ℕ
 survey_text table lines =
-    lines_text (capped (length lines)) ++ (interfaces_text (seen_in lines) ++ (untold_text (capped (untold_in (seen_in lines)))
+    lines_text (capped (length lines)) ++ (interfaces_text (seen_in lines)
+    ++ (untold_text (capped (untold_in (seen_in lines)))
     ++ (groups_text table (frames_of (seen_in lines)) ++ (others_text (others_of (others_in lines))
-    ++ (unread_text (capped (length (unread_in lines))) ++ (told_text (unread_in lines) ++ printed_text (is_printed_log lines)))))))
+    ++ (unread_text (capped (length (unread_in lines)))
+    ++ (told_text (unread_in lines) ++ printed_text (is_printed_log lines)))))))

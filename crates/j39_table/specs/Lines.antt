@@ -26,4 +26,5 @@ line_columns line = words_and_rest 7 line
 -- the texts of columns, in their order in a line
 abbrev pub column_texts : Columns → List (List ℕ)
 column_texts columns =
-    columns.pgn.now ∷ columns.group.now ∷ columns.spn.now ∷ columns.place.now ∷ columns.step.now ∷ columns.offset.now ∷ columns.unit.now ∷ columns.name.now ∷ []
+    columns.pgn.now ∷ columns.group.now ∷ columns.spn.now ∷ columns.place.now
+    ∷ columns.step.now ∷ columns.offset.now ∷ columns.unit.now ∷ columns.name.now ∷ []

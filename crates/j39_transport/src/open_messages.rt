@@ -118,7 +118,8 @@ impl OpenMessages {
             → outcome_by result from (stamp_micros stamp) (held_in lent.new)
             ≡ answer_to_packet self.old from (stamp_micros stamp) (key_between source destination) number bytes.now }
         ensures spare { is_some (held_in lent.new)
-            ≡ is_whole (answer_to_packet self.old 0 (stamp_micros stamp) (key_between source destination) number bytes.now)
+            ≡ is_whole (answer_to_packet self.old 0 (stamp_micros stamp) (key_between source destination)
+            number bytes.now)
             || is_some (held_in lent.old) }
     {
         if destination == GLOBAL_ADDRESS {

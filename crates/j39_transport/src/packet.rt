@@ -84,7 +84,8 @@ pub(crate) fn pack<const N: usize>(
         → outcome_by result source (stamp_micros stamp) (held_in lent.new)
         ≡ told source limit number bytes.now (stamp_micros stamp) (at table.old place) }
     ensures spare { is_some (held_in lent.new)
-        ≡ is_whole (told 0 limit number bytes.now (stamp_micros stamp) (at table.old place)) || is_some (held_in lent.old) }
+        ≡ is_whole (told 0 limit number bytes.now (stamp_micros stamp) (at table.old place))
+        || is_some (held_in lent.old) }
 {
     let Some(session) = table.take(place) else {
         return Accepted::Ignored;

@@ -168,7 +168,8 @@ fn take_request(
 ) -> Move
     requires { IsOpen (held_in slot.old) }
     ensures does { reacted result (held_in slot.new) (held_in lent.new)
-        ≡ takes_request (opened_by source own announcement (stamp_micros now)) most (stamp_micros now) (found_in result) (held_in slot.old) }
+        ≡ takes_request (opened_by source own announcement (stamp_micros now)) most (stamp_micros now)
+        (found_in result) (held_in slot.old) }
     ensures finds { has_box (held_in slot.old) (held_in lent.old) ≡ true → found_in result ≡ true }
     ensures buffer { has_box (held_in slot.new) (held_in lent.new)
         ≡ is_some (held_in slot.new) || has_box (held_in slot.old) (held_in lent.old) }
@@ -202,7 +203,8 @@ pub(crate) fn take_signal(
 ) -> Move
     requires { IsOpen (held_in slot.old) }
     ensures does { reacted result (held_in slot.new) (held_in lent.new)
-        ≡ takes_signal (Directed source own) (option_map said signal) (stamp_micros now) (found_in result) (held_in slot.old) }
+        ≡ takes_signal (Directed source own) (option_map said signal) (stamp_micros now)
+        (found_in result) (held_in slot.old) }
     ensures finds { has_box (held_in slot.old) (held_in lent.old) ≡ true → found_in result ≡ true }
     ensures buffer { has_box (held_in slot.new) (held_in lent.new)
         ≡ is_some (held_in slot.new) || has_box (held_in slot.old) (held_in lent.old) }
