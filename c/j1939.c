@@ -12,6 +12,9 @@ int32_t j39_reading_text(const j1939_message *message, size_t index, char *text,
 int32_t j39_raw_of(uint32_t spn, int64_t value, uint32_t *raw);
 int32_t j39_cut_frame(uint8_t source, uint32_t pgn, const uint8_t *payload, size_t size, uint16_t k, uint64_t micros,
                       j1939_frame *out);
+void j39_broadcast_init(j1939_broadcast *broadcast);
+int32_t j39_broadcast_poll(j1939_broadcast *broadcast, uint8_t source, uint32_t pgn, const uint8_t *payload,
+                           size_t size, uint64_t micros, j1939_frame *out, uint64_t *due);
 void j39_claims_init(j1939_claims *claims);
 int32_t j39_claims_note(j1939_claims *claims, const j1939_frame *frame, uint8_t *changed);
 int32_t j39_claims_holder(const j1939_claims *claims, uint8_t address, uint64_t *name);
@@ -68,6 +71,19 @@ int32_t j1939_raw_of(uint32_t spn, int64_t value, uint32_t *raw) {
 int32_t j1939_cut_frame(uint8_t source, uint32_t pgn, const uint8_t *payload, size_t size, uint16_t k, uint64_t micros,
                         j1939_frame *out) {
     return payload && out ? j39_cut_frame(source, pgn, payload, size, k, micros, out) : J1939_NULL;
+}
+
+int32_t j1939_broadcast_init(j1939_broadcast *broadcast) {
+    if (!broadcast) return J1939_NULL;
+    j39_broadcast_init(broadcast);
+    return 0;
+}
+
+int32_t j1939_broadcast_poll(j1939_broadcast *broadcast, uint8_t source, uint32_t pgn, const uint8_t *payload,
+                             size_t size, uint64_t micros, j1939_frame *out, uint64_t *due) {
+    return broadcast && payload && out && due
+               ? j39_broadcast_poll(broadcast, source, pgn, payload, size, micros, out, due)
+               : J1939_NULL;
 }
 
 int32_t j1939_claims_init(j1939_claims *claims) {

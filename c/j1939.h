@@ -8,8 +8,8 @@
  * Answers. A call answers below 0 where it did nothing, and why: one of the J1939_ codes. Then what it was handed is
  * as it was. 0 says that there is no more to say, and 1 and above what stands in the parameters that it wrote to.
  *
- * Storage. j1939_node and j1939_claims are plain data in your own memory: make them by their .._init. They take no
- * memory besides, need no close, and may be copied. A j1939_listener, a j1939_receiver and a j1939_sender are handles:
+ * Storage. j1939_node, j1939_claims and j1939_broadcast are plain data in your own memory: make them by their .._init.
+ * They take no memory besides, need no close, and may be copied. A j1939_listener, a j1939_receiver and a j1939_sender are handles:
  * set one to J1939_EMPTY, open it by its .._new, close it by its .._close. What it holds lies on the heap and is the
  * library's. Frames, messages, readings and texts are your own, and are copied.
  *
@@ -147,6 +147,20 @@ int32_t j1939_raw_of(uint32_t spn, int64_t value, uint32_t *raw);
  * of 10^16 and above. Leave 50 to 200 ms between two frames. */
 int32_t j1939_cut_frame(uint8_t source, uint32_t pgn, const uint8_t *payload, size_t size, uint16_t k, uint64_t micros,
                         j1939_frame *out);
+
+/** How far a broadcast is: plain data. */
+typedef struct {
+    uint64_t due;   /**< from when on its next frame may be sent */
+    uint16_t count; /**< how many of its frames were sent */
+} j1939_broadcast;
+
+/** Nothing of a broadcast was sent: 0. */
+int32_t j1939_broadcast_init(j1939_broadcast *broadcast);
+
+/** What to do at a moment for the broadcast of these bytes, the same at each call: 1 where out is to be sent now, 0 to ask
+ * again at due, 2 where all was sent. Two frames stand 50 ms apart or more. J1939_BAD_VALUE as from j1939_cut_frame. */
+int32_t j1939_broadcast_poll(j1939_broadcast *broadcast, uint8_t source, uint32_t pgn, const uint8_t *payload,
+                             size_t size, uint64_t micros, j1939_frame *out, uint64_t *due);
 
 /* ---- who holds which address (J1939-81, 4.2.2) */
 

@@ -18,6 +18,7 @@ static j1939_message message;
 static j1939_frame out;
 
 static void null_pointers(void) {
+    static j1939_broadcast broadcast;
     static j1939_node node;
     static j1939_claims claims;
     j1939_listener listener = J1939_EMPTY;
@@ -36,6 +37,8 @@ static void null_pointers(void) {
     EXPECT(j1939_read_text(&message, 0, NULL, 0) == J1939_NULL);
     EXPECT(j1939_raw_of(190, 0, NULL) == J1939_NULL);
     EXPECT(j1939_cut_frame(0, 0, NULL, 9, 0, 0, &out) == J1939_NULL);
+    EXPECT(j1939_broadcast_init(NULL) == J1939_NULL);
+    EXPECT(j1939_broadcast_poll(&broadcast, 0, 0, payload, 9, 0, &out, NULL) == J1939_NULL);
     EXPECT(j1939_claims_init(NULL) == J1939_NULL);
     EXPECT(j1939_claims_note(&claims, NULL, changed) == J1939_NULL);
     EXPECT(j1939_claims_holder(&claims, 0, NULL) == J1939_NULL);
@@ -252,6 +255,27 @@ static void transfers(void) {
     EXPECT(j1939_sender_close(&sender) == 0 && j1939_receiver_close(&receiver) == 0);
 }
 
+/* Nine bytes take an announcement and two packets, 50 ms apart or more. */
+static void broadcasts(void) {
+    j1939_broadcast broadcast = {.due = LATE, .count = 7};
+    uint64_t due = 9;
+    EXPECT(j1939_broadcast_init(&broadcast) == 0);
+    EXPECT(j1939_broadcast_poll(&broadcast, 1, 65260, payload, 8, 5, &out, &due) == J1939_BAD_VALUE);
+    EXPECT(j1939_broadcast_poll(&broadcast, 1, 65260, payload, 1786, 5, &out, &due) == J1939_BAD_VALUE);
+    EXPECT(j1939_broadcast_poll(&broadcast, 254, 65260, payload, 9, 5, &out, &due) == J1939_BAD_VALUE);
+    EXPECT(j1939_broadcast_poll(&broadcast, 1, 1u << 18, payload, 9, 5, &out, &due) == J1939_BAD_VALUE);
+    EXPECT(j1939_broadcast_poll(&broadcast, 1, 65260, payload, 9, LATE, &out, &due) == J1939_BAD_VALUE);
+    EXPECT(broadcast.count == 0 && due == 9);
+    EXPECT(j1939_broadcast_poll(&broadcast, 1, 65260, payload, 9, 5, &out, &due) == 1);
+    EXPECT(out.micros == 5 && out.id == 0x1CECFF01 && out.data[0] == 0x20);
+    EXPECT(j1939_broadcast_poll(&broadcast, 1, 65260, payload, 9, 50004, &out, &due) == 0 && due == 50005);
+    EXPECT(j1939_broadcast_poll(&broadcast, 1, 65260, payload, 9, 50005, &out, &due) == 1 && out.data[0] == 1);
+    EXPECT(j1939_broadcast_poll(&broadcast, 1, 65260, payload, 9, 200000, &out, &due) == 1 && out.data[0] == 2);
+    EXPECT(j1939_broadcast_poll(&broadcast, 1, 65260, payload, 9, 200000, &out, &due) == 2);
+    broadcast.count = UINT16_MAX;
+    EXPECT(j1939_broadcast_poll(&broadcast, 1, 65260, payload, 9, 900000, &out, &due) == 2);
+}
+
 int main(void) {
     null_pointers();
     fields();
@@ -260,5 +284,6 @@ int main(void) {
     listeners();
     readings();
     transfers();
+    broadcasts();
     return 0;
 }

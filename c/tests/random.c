@@ -29,6 +29,7 @@ static j1939_receiver receivers[PARTS];
 static j1939_sender senders[PARTS];
 static j1939_node nodes[PARTS];
 static j1939_claims claims[PARTS];
+static j1939_broadcast broadcasts[PARTS];
 static j1939_frame frame, out;
 static j1939_message message;
 static uint64_t now;
@@ -97,7 +98,11 @@ static void call_plain(size_t i, uint8_t address) {
     uint8_t changed[2];
     uint64_t name = next();
     uint32_t raw;
-    switch (next() % 12) {
+    switch (next() % 13) {
+    case 12:
+        answered(j1939_broadcast_poll(&broadcasts[i], address, 65260, message.data, next() % 1786, now, &out, &name),
+                 J1939_BAD_VALUE, 2);
+        break;
     case 0: answered(j1939_node_init(&nodes[i], name, address), J1939_BAD_VALUE, 0); break;
     case 1: answered(j1939_node_start(&nodes[i], now, &out), J1939_BAD_VALUE, 1); break;
     case 2: answered(j1939_node_tick(&nodes[i], now), J1939_BAD_VALUE, 0); break;

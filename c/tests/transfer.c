@@ -34,6 +34,19 @@ static unsigned transfer(unsigned lose) {
     return delivered;
 }
 
+/* A broadcast that is asked when it says: how often a listener hears a message. */
+static int32_t polled(j1939_listener *listener) {
+    j1939_broadcast broadcast;
+    j1939_frame frame;
+    int32_t answer, heard = 0;
+    uint64_t now = 2000000;
+    EXPECT(j1939_broadcast_init(&broadcast) == 0);
+    while ((answer = j1939_broadcast_poll(&broadcast, 0x34, 65260, payload, 1785, now, &frame, &now)) != 2)
+        if (answer == 1) heard += j1939_listener_feed(listener, &frame, &message);
+    EXPECT(now == 2000000 + 255 * 50000);
+    return heard;
+}
+
 static void broadcast(void) {
     j1939_listener listener = J1939_EMPTY;
     j1939_frame frame;
@@ -42,6 +55,8 @@ static void broadcast(void) {
     for (uint16_t k = 0; (cut = j1939_cut_frame(0x33, 65260, payload, 30, k, k * 50000u, &frame)) == 1; k++)
         heard += j1939_listener_feed(&listener, &frame, &message);
     EXPECT(cut == 0 && heard == 1 && message.len == 30 && !memcmp(message.data, payload, 30));
+    message.len = 0;
+    EXPECT(polled(&listener) == 1 && message.len == 1785 && !memcmp(message.data, payload, 1785));
     EXPECT(j1939_listener_close(&listener) == 0);
 }
 

@@ -1,6 +1,7 @@
 //! The stack, callable from C. `c/j1939.h` declares what a C program calls.
 #![tactic(auto)]
 
+mod broadcast;
 mod can;
 mod claims;
 mod cut;
@@ -16,6 +17,7 @@ mod receiver;
 mod refusal;
 mod sender;
 
+pub use broadcast::{j39_broadcast_init, j39_broadcast_poll};
 pub use can::CanFrame;
 pub use claims::{j39_claims_holder, j39_claims_init, j39_claims_note};
 pub use cut::j39_cut_frame;

@@ -1,5 +1,6 @@
 -- What was written behind a head, of a run that was finished and of one that stopped; for `run_headed`.
-use Rattle.std.proofs.Common.{◌≡◌, ◌++◌, ℕ, List, [], Option, sym, ap, ◌∙◌, append_assoc, refl}
+use Rattle.std.proofs.Common.{◌≡◌, ◌++◌, ℕ, List, [], Option, Some, None, sym, ap, ◌∙◌, append_assoc, refl}
+use Rattle.std.specs.Prelude.{IfSome}
 use Rattle.std.specs.Io.KnownBytes.{Appends, Consumes}
 use Rattle.std.proofs.KnownBytes.{Appends-trans, Consumes-nil}
 use Rattle.j39_device.specs.Device.{AppendsFront}
@@ -21,7 +22,7 @@ writes_headed head makes given log counts old mid new first w = record {
 }
 
 -- a front behind the head
-front_headed : (head : List ℕ) (makes : Making) (given : Option (List ℕ)) (taken : List ℕ) (old mid new : Option (List ℕ))
+pub front_headed : (head : List ℕ) (makes : Making) (given : Option (List ℕ)) (taken : List ℕ) (old mid new : Option (List ℕ))
     → Appends old mid head → WritesFront makes given taken mid new → WritesFront (Headed head makes) given taken old new
 front_headed head makes given taken old mid new first w = λ spelled output is_log (below, is_made, is).
     let f = w spelled below is_log is_made in (
@@ -48,16 +49,24 @@ limit_headed head makes limit given remaining remaining' old mid new first s = r
   written = front_headed head makes given s.taken old mid new first s.written;
 }
 
--- a fault in the head itself: nothing was read
+-- a fault in the head itself: of whatever log it comes, this is a front
+pub front_in_head : (head : List ℕ) (makes : Making) (given : Option (List ℕ)) (taken : List ℕ) (old new : Option (List ℕ)) → AppendsFront old new head
+    → WritesFront (Headed head makes) given taken old new
+front_in_head head makes given taken old new (front, rest, is_front, written) = λ spelled output is_log (below, is_made, is). (
+  front,
+  rest ++ below.text,
+  ap (λ (o : Output). o.text) is ∙ ap (λ t. t ++ below.text) is_front ∙ append_assoc front rest below.text,
+  written,
+)
+
+-- and nothing was read
 pub stops_in_head : (head : List ℕ) (makes : Making) (given remaining old new : Option (List ℕ)) → AppendsFront old new head
     → StopsWithin (Headed head makes) given remaining remaining old new
-stops_in_head head makes given remaining old new (front, rest, is_front, written) = record {
-  taken = [];
-  consumed = Consumes-nil remaining;
-  written = λ spelled output is_log (below, is_made, is). (
-    front,
-    rest ++ below.text,
-    ap (λ (o : Output). o.text) is ∙ ap (λ t. t ++ below.text) is_front ∙ append_assoc front rest below.text,
-    written,
-  );
-}
+stops_in_head head makes given remaining old new front =
+    record { taken = []; consumed = Consumes-nil remaining; written = front_in_head head makes given [] old new front }
+
+-- so of the whole log, where it is known
+pub cut_in_head : (head : List ℕ) (makes : Making) (given remaining old new : Option (List ℕ)) → AppendsFront old new head
+    → IfSome remaining (λ log. WritesFront (Headed head makes) given log old new)
+cut_in_head head makes given None old new front = tt
+cut_in_head head makes given (Some log) old new front = front_in_head head makes given log old new front

@@ -5,7 +5,7 @@ ghost use Rattle.j39_device.specs.Device.{AppendsFront, Marks};
 ghost use Rattle.j39_listen.specs.Asking.{AsksWithin};
 ghost use Rattle.j39_listen.specs.Headed.{Headed};
 ghost use Rattle.j39_listen.specs.PieceSteps.{AtStart};
-ghost use Rattle.j39_listen.specs.Run.{StopsAtLimit, StopsWithin, TakesWithin, Writes};
+ghost use Rattle.j39_listen.specs.Run.{StopsAtLimit, StopsWithin, TakesWithin, Writes, WritesFront};
 ghost use Rattle.j39_listen.specs.declared.running.RunFault.TheVariants.{Memory, Read, Write, TooLong};
 
 use crate::Counts;
@@ -43,6 +43,8 @@ pub fn run_headed<A: Account, R: Source, W: Sink>(
     ensures flushed_at_reads { (result ≡ Err Read) ⊎ (result ≡ Err TooLong) → W.is_flushed sink.new ≡ true }
     ensures prefix { OnErr result (AtStart A.has_met account (λ subject. StopsWithin (Headed head.now (A.makes subject))
         bus (R.remaining source.old) (R.remaining source.new) (W.held sink.old) (W.held sink.new))) }
+    ensures cut_short { result ≡ Err Write → AtStart A.has_met account (λ subject. IfSome (R.remaining source.old)
+        (λ log. WritesFront (Headed head.now (A.makes subject)) bus log (W.held sink.old) (W.held sink.new))) }
 {
     match put_head(head, sink) {
         Ok(()) => run_over(account, source, sink, bus, limit),

@@ -101,6 +101,10 @@ pub fn nodes_csv<R: Source, W: Sink>(
     ensures flushed_at_reads { (result ≡ Err Read) ⊎ (result ≡ Err TooLong)
         → W.is_flushed sink.new ≡ true }
 
+    // What was written before a fault of the writer is a front of what is written for the whole log.
+    ensures cut_short { result ≡ Err Write → IfSome (R.remaining source.old)
+        (λ log. WritesFront MakesNodeRecords bus log (W.held sink.old) (W.held sink.new)) }
+
     // What was written before a fault is a front of what is written for the bytes that were read.
     ensures prefix { OnErr result (StopsWithin MakesNodeRecords bus (R.remaining source.old) (R.remaining source.new)
         (W.held sink.old) (W.held sink.new)) }

@@ -6,7 +6,7 @@ ghost use Rattle.j39_listen.specs.Asking.{AsksForBoxes, AsksWithin};
 ghost use Rattle.j39_listen.specs.Headed.{Headed};
 ghost use Rattle.j39_listen.specs.Listening.{Hears};
 ghost use Rattle.j39_listen.specs.ReportSteps.{made_by};
-ghost use Rattle.j39_listen.specs.Run.{StopsAtLimit, StopsWithin, TakesWithin, Writes};
+ghost use Rattle.j39_listen.specs.Run.{StopsAtLimit, StopsWithin, TakesWithin, Writes, WritesFront};
 ghost use Rattle.j39_listen.specs.declared.account.LineFault.TheVariants as line_fault;
 ghost use Rattle.j39_listen.specs.declared.running.RunFault.TheVariants.{Memory, Read, Write, TooLong};
 ghost use Rattle.j39_report_csv.specs.AccountSteps.{HasRecorded, MeetsFrame, StopsFrame};
@@ -59,6 +59,11 @@ pub fn report_csv<R: Source, W: Sink>(
     // What was written is passed on at the end, and before each read.
     ensures flushed { OnOk result (W.is_flushed sink.new ≡ true) }
     ensures flushed_at_reads { (result ≡ Err Read) ⊎ (result ≡ Err TooLong) → W.is_flushed sink.new ≡ true }
+
+    // What was written before a fault of the writer is a front of the header and the records of the whole log.
+    ensures cut_short { result ≡ Err Write → IfSome (R.remaining source.old)
+        (λ log. WritesFront (Headed header_text (MakesRecords groups.now)) bus log
+        (W.held sink.old) (W.held sink.new)) }
 
     // What was written before a fault is a front of the header and the records of the bytes that were read.
     ensures prefix { OnErr result (StopsWithin (Headed header_text (MakesRecords groups.now)) bus

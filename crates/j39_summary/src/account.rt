@@ -8,7 +8,7 @@ ghost use Rattle.j39_listen.specs.Heard.{AreHeard, Hearing};
 ghost use Rattle.j39_listen.specs.Listening.{Hears};
 ghost use Rattle.j39_listen.specs.Report.{Entry, entries_of};
 ghost use Rattle.j39_listen.specs.Output.{nothing};
-ghost use Rattle.j39_listen.specs.Run.{StopsAtLimit, StopsWithin, TakesWithin, Writes};
+ghost use Rattle.j39_listen.specs.Run.{StopsAtLimit, StopsWithin, TakesWithin, Writes, WritesFront};
 ghost use Rattle.j39_listen.specs.declared.running.RunFault.TheVariants.{Memory, Read, Write, TooLong};
 ghost use Rattle.j39_summary.specs.AccountSteps.{HasSummed, NotesFrame};
 ghost use Rattle.j39_summary.specs.RowSteps.{AreRowsOf};
@@ -61,6 +61,10 @@ pub fn summary<R: Source, W: Sink>(
     ensures flushed_at_reads { (result ≡ Err Read) ⊎ (result ≡ Err TooLong)
         → W.is_flushed sink.old ≡ true → W.is_flushed sink.new ≡ true }
 
+    // What was written before a fault of the writer is a front of the summary of the whole log.
+    ensures cut_short { result ≡ Err Write → IfSome (R.remaining source.old)
+        (λ log. WritesFront (MakesSummary groups.now) bus log (W.held sink.old) (W.held sink.new)) }
+
     // What was written before a fault is a front of the summary of the bytes that were read.
     ensures prefix { OnErr result (StopsWithin (MakesSummary groups.now) bus
         (R.remaining source.old) (R.remaining source.new) (W.held sink.old) (W.held sink.new)) }
@@ -110,6 +114,10 @@ pub fn summary_csv<R: Source, W: Sink>(
     ensures flushed { OnOk result (W.is_flushed sink.new ≡ true) }
     ensures flushed_at_reads { (result ≡ Err Read) ⊎ (result ≡ Err TooLong)
         → W.is_flushed sink.new ≡ true }
+
+    // What was written before a fault of the writer is a front of the summary of the whole log.
+    ensures cut_short { result ≡ Err Write → IfSome (R.remaining source.old)
+        (λ log. WritesFront (MakesSummaryRecords groups.now) bus log (W.held sink.old) (W.held sink.new)) }
 
     // What was written before a fault is a front of the summary of the bytes that were read.
     ensures prefix { OnErr result (StopsWithin (MakesSummaryRecords groups.now) bus

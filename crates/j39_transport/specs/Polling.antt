@@ -1,10 +1,11 @@
 -- The step of a broadcast at a poll, below the definitions.
 use Rattle.std.specs.Prelude.{◌≡◌, ◌+◌, ℕ, nat_lt, if◌then◌else◌}
-use Rattle.j39_transport.specs.Message.{packets_of, as_broadcast}
+use Rattle.j39_transport.specs.Message.{MessageRecord, packets_of, as_broadcast}
 use Rattle.j39_transport.specs.Cutting.{cut_frame, to_send}
 use Rattle.j39_transport.specs.Protocol.{gap}
 use Rattle.j39_transport.specs.Broadcasting.{PollAnswer, BroadcastRecord}
 use Rattle.j39_transport.specs.Broadcasting as spec
+use Rattle.j39_transport.specs.declared.broadcast.BroadcastCourse.{BroadcastCourse}
 use Rattle.j39_transport.specs.declared.broadcast.Poll.{Poll}
 use Rattle.j39_transport.specs.declared.broadcast.Poll.TheVariants.{Send, WaitUntil, Done}
 
@@ -13,6 +14,10 @@ abbrev pub answer_of : Poll → PollAnswer
 answer_of (Send id bytes) = spec.Send (to_send (id, bytes))
 answer_of (WaitUntil moment) = spec.WaitUntil moment
 answer_of Done = spec.Done
+
+-- a broadcast of this message that is so far
+abbrev pub so_far : MessageRecord → BroadcastCourse → BroadcastRecord
+so_far m course = record { message = m; count = course.count; due = course.due }
 
 pub record Polled : Type 0 where
   pub answer : PollAnswer

@@ -1,9 +1,10 @@
 //! Broadcasts, sent frame by frame.
 ghost use Rattle.std.specs.Prelude.{◌≡◌, List, []};
-ghost use Rattle.j39_frame.specs.Stamp.{stamp_micros};
 ghost use Rattle.j39_frame.specs.Frame.{FrameRecord};
+ghost use Rattle.j39_frame.specs.Stamp.{stamp_micros};
 ghost use Rattle.j39_transport.specs.Broadcasting.{HasSent, answer_after, with_answer};
-ghost use Rattle.j39_transport.specs.Polling.{PollStep, answer_of};
+ghost use Rattle.j39_transport.specs.Message.{MessageRecord};
+ghost use Rattle.j39_transport.specs.Polling.{PollStep, answer_of, so_far};
 
 use crate::Cut;
 use crate::protocol::GAP;
@@ -21,57 +22,42 @@ pub enum Poll {
     Done,
 }
 
-/// A message that is broadcast, its frames at least 50 ms apart (own).
-#[derive(Drop)]
-pub struct Broadcast<'a> {
-    cut: Cut<'a>,
-    count: u16,
-    due: u64,
+/// How far a broadcast is, without its message: plain data, which its owner may keep anywhere. Each value is one.
+#[repr(C)]
+#[derive(Clone, Copy, Debug, Default, PartialEq, Eq)]
+pub struct BroadcastCourse {
+    /// From when on the next frame may be sent, in microseconds.
+    pub due: u64,
+    /// How many frames were sent.
+    pub count: u16,
 }
 
-impl<'a> Model for Broadcast<'a> {
-    ghost use Rattle.std.specs.Prelude.{◌≤◌, ◌+◌};
-    ghost use Rattle.j39_transport.specs.Message.{packets_of};
-    ghost use Rattle.j39_transport.specs.Broadcasting.{BroadcastRecord};
-
-    ghost Value = { BroadcastRecord };
-
-    ghost view = { λ b. record { message = b.cut; count = b.count; due = b.due } };
-
-    ghost invariant = { λ b. b.count ≤ packets_of b.cut + 1 };
-}
-
-impl<'a> Broadcast<'a> {
-    /// A broadcast that has sent nothing.
-    pub fn new(cut: Cut<'a>) -> Broadcast<'a>
-        ensures message { result.message ≡ cut.entry }
-        ensures sent { HasSent result [] }
+impl BroadcastCourse {
+    /// Nothing was sent.
+    pub fn new() -> BroadcastCourse
+        ensures { (m : MessageRecord) → HasSent (so_far m result) [] }
     {
-        Broadcast {
-            cut,
-            count: 0,
-            due: 0,
-        }
+        BroadcastCourse { due: 0, count: 0 }
     }
 
-    /// What to do at a moment. The first poll sends the announcement; a moment before that of the frame
-    /// sent last is too early.
-    pub fn poll(&mut self, now: Stamp) -> Poll
-        ensures message { self.new.message ≡ self.old.message }
-        ensures answer { (sent : List FrameRecord) → HasSent self.old sent
-            → answer_of result ≡ answer_after self.old.message sent (stamp_micros now) }
-        ensures sent { (sent : List FrameRecord) → HasSent self.old sent
-            → HasSent self.new (with_answer sent (stamp_micros now) (answer_of result)) }
+    /// What to do at a moment for this message, the same at each poll. The first poll sends the announcement; a moment
+    /// before that of the frame sent last is too early.
+    pub fn poll(&mut self, message: &Cut<'_>, now: Stamp) -> Poll
+        ensures answer { (sent : List FrameRecord) → HasSent (so_far message.now self.old) sent
+            → answer_of result ≡ answer_after message.now sent (stamp_micros now) }
+        ensures sent { (sent : List FrameRecord) → HasSent (so_far message.now self.old) sent
+            → HasSent (so_far message.now self.new) (with_answer sent (stamp_micros now) (answer_of result)) }
     {
-        self.step(now)
+        self.step(message, now)
     }
 
     #[tactic(auto, unfolding(crate::specs::Polling::poll_step))]
-    fn step(&mut self, now: Stamp) -> Poll
-        ensures { PollStep self.old (stamp_micros now) (answer_of result) self.new }
+    fn step(&mut self, message: &Cut<'_>, now: Stamp) -> Poll
+        ensures { PollStep (so_far message.now self.old) (stamp_micros now) (answer_of result)
+            (so_far message.now self.new) }
     {
-        let _packets = self.cut.packets();
-        match self.cut.frame(self.count) {
+        let _packets = message.packets();
+        match message.frame(self.count) {
             None => Poll::Done,
             Some(frame) => {
                 if now.micros() < self.due {
@@ -84,5 +70,46 @@ impl<'a> Broadcast<'a> {
                 }
             }
         }
+    }
+}
+
+/// A message that is broadcast, its frames at least 50 ms apart (own).
+#[derive(Drop)]
+pub struct Broadcast<'a> {
+    cut: Cut<'a>,
+    course: BroadcastCourse,
+}
+
+impl<'a> Model for Broadcast<'a> {
+    ghost use Rattle.j39_transport.specs.Broadcasting.{BroadcastRecord};
+    ghost use Rattle.j39_transport.specs.Polling.{so_far};
+
+    ghost Value = { BroadcastRecord };
+
+    ghost view = { λ b. so_far b.cut b.course };
+}
+
+impl<'a> Broadcast<'a> {
+    /// A broadcast that has sent nothing.
+    pub fn new(cut: Cut<'a>) -> Broadcast<'a>
+        ensures message { result.message ≡ cut.entry }
+        ensures sent { HasSent result [] }
+    {
+        Broadcast {
+            cut,
+            course: BroadcastCourse::new(),
+        }
+    }
+
+    /// What to do at a moment. The first poll sends the announcement; a moment before that of the frame
+    /// sent last is too early.
+    pub fn poll(&mut self, now: Stamp) -> Poll
+        ensures message { self.new.message ≡ self.old.message }
+        ensures answer { (sent : List FrameRecord) → HasSent self.old sent
+            → answer_of result ≡ answer_after self.old.message sent (stamp_micros now) }
+        ensures sent { (sent : List FrameRecord) → HasSent self.old sent
+            → HasSent self.new (with_answer sent (stamp_micros now) (answer_of result)) }
+    {
+        self.course.poll(&self.cut, now)
     }
 }

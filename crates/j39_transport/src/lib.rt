@@ -25,7 +25,7 @@ mod table;
 mod writing;
 
 pub use assembler::Assembler;
-pub use broadcast::{Broadcast, Poll};
+pub use broadcast::{Broadcast, BroadcastCourse, Poll};
 pub use cut::Cut;
 pub use message::{Fed, Message};
 pub use owned_sender::OwnedSender;

@@ -16,3 +16,6 @@ returns-clause-memory g c = λ fails. (c.run_headed.ensures.asked fails Record (
 
 pub returns-clause-at_limit : goal.returns-clause-at_limit
 returns-clause-at_limit g c = λ too_long. c.run_headed.ensures.at_limit too_long Record (nodes_of Record []) (λ name. c.new.ensures) (nodes_text-none Record)
+
+pub returns-clause-cut_short : goal.returns-clause-cut_short
+returns-clause-cut_short g c = λ fails. c.run_headed.ensures.cut_short fails Record (nodes_of Record []) (λ name. c.new.ensures) (nodes_text-none Record)

@@ -14,3 +14,6 @@ returns-clause-memory g c = λ fails. c.run_headed.ensures.asked fails c.args.gr
 
 pub returns-clause-at_limit : goal.returns-clause-at_limit
 returns-clause-at_limit g c = λ too_long. c.run_headed.ensures.at_limit too_long c.args.groups.now (records_of c.args.groups.now []) (λ name. c.new.ensures) refl
+
+pub returns-clause-cut_short : goal.returns-clause-cut_short
+returns-clause-cut_short g c = λ fails. c.run_headed.ensures.cut_short fails c.args.groups.now (records_of c.args.groups.now []) (λ name. c.new.ensures) refl

@@ -15,3 +15,6 @@ returns-clause-memory g c = λ fails. c.run_over.ensures.asked fails (Line, c.ar
 
 pub returns-clause-at_limit : goal.returns-clause-at_limit
 returns-clause-at_limit g c = λ too_long. c.run_over.ensures.at_limit too_long (Line, c.args.groups.now) nothing (λ name. c.new.ensures) refl
+
+pub returns-clause-cut_short : goal.returns-clause-cut_short
+returns-clause-cut_short g c = λ fails. c.run_over.ensures.cut_short fails (Line, c.args.groups.now) nothing (λ name. c.new.ensures) refl
