@@ -16,6 +16,7 @@ void *__wrap_malloc(size_t size) {
 static const uint64_t LATE = 10000000000000000u;
 static j1939_message message;
 static j1939_frame out;
+static const uint8_t payload[1786];
 
 static void null_pointers(void) {
     static j1939_broadcast broadcast;
@@ -214,7 +215,6 @@ static void readings(void) {
 static void transfers(void) {
     j1939_receiver receiver = J1939_EMPTY;
     j1939_sender sender = J1939_EMPTY;
-    const uint8_t payload[1786] = {0};
     j1939_frame frame = {.micros = LATE};
     uint8_t reason = 9;
     EXPECT(j1939_receiver_tick(&receiver, 0, &out) == J1939_NO_PART);
