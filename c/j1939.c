@@ -28,6 +28,9 @@ void j39_close(j1939_handle *handle);
 int32_t j39_listener_new(j1939_handle *listener);
 int32_t j39_listener_feed(j1939_handle *listener, const j1939_frame *frame, j1939_message *out);
 int32_t j39_listener_holder(j1939_handle *listener, uint8_t address, uint64_t *name);
+int32_t j39_assembler_new(j1939_handle *assembler);
+int32_t j39_assembler_feed(j1939_handle *assembler, const j1939_frame *frame, j1939_message *out);
+int32_t j39_assembler_forget(j1939_handle *assembler, uint8_t source);
 int32_t j39_receiver_new(j1939_handle *receiver, uint8_t own);
 int32_t j39_receiver_on(j1939_handle *receiver, const j1939_frame *frame, j1939_frame *out, j1939_message *message);
 int32_t j39_receiver_tick(j1939_handle *receiver, uint64_t micros, j1939_frame *out);
@@ -145,6 +148,22 @@ int32_t j1939_listener_holder(j1939_listener *listener, uint8_t address, uint64_
 
 int32_t j1939_listener_close(j1939_listener *listener) {
     return listener ? close_handle(&listener->handle) : J1939_NULL;
+}
+
+int32_t j1939_assembler_new(j1939_assembler *assembler) {
+    return assembler ? j39_assembler_new(&assembler->handle) : J1939_NULL;
+}
+
+int32_t j1939_assembler_feed(j1939_assembler *assembler, const j1939_frame *frame, j1939_message *out) {
+    return assembler && frame && out ? j39_assembler_feed(&assembler->handle, frame, out) : J1939_NULL;
+}
+
+int32_t j1939_assembler_forget(j1939_assembler *assembler, uint8_t source) {
+    return assembler ? j39_assembler_forget(&assembler->handle, source) : J1939_NULL;
+}
+
+int32_t j1939_assembler_close(j1939_assembler *assembler) {
+    return assembler ? close_handle(&assembler->handle) : J1939_NULL;
 }
 
 int32_t j1939_receiver_new(j1939_receiver *receiver, uint8_t own) {

@@ -9,9 +9,9 @@
  * as it was. 0 says that there is no more to say, and 1 and above what stands in the parameters that it wrote to.
  *
  * Storage. j1939_node, j1939_claims and j1939_broadcast are plain data in your own memory: make them by their .._init.
- * They take no memory besides, need no close, and may be copied. A j1939_listener, a j1939_receiver and a j1939_sender are handles:
- * set one to J1939_EMPTY, open it by its .._new, close it by its .._close. What it holds lies on the heap and is the
- * library's. Frames, messages, readings and texts are your own, and are copied.
+ * They take no memory besides, need no close, and may be copied. A j1939_listener, a j1939_assembler, a j1939_receiver
+ * and a j1939_sender are handles: set one to J1939_EMPTY, open it by its .._new, close it by its .._close. What it holds
+ * lies on the heap and is the library's. Frames, messages, readings and texts are your own, and are copied.
  *
  * What you owe, since no library can test it:
  *  - a pointer that is not NULL points to memory of its type, or of the size that you say (NULL is tested);
@@ -234,6 +234,10 @@ typedef struct {
     j1939_handle handle;
 } j1939_sender;
 
+typedef struct {
+    j1939_handle handle;
+} j1939_assembler;
+
 /** A handle that holds nothing. */
 /* clang-format off */
 #define J1939_EMPTY {{NULL}}
@@ -253,6 +257,21 @@ int32_t j1939_listener_holder(j1939_listener *listener, uint8_t address, uint64_
 
 /** Closes it: 0. Closing an empty one does nothing. */
 int32_t j1939_listener_close(j1939_listener *listener);
+
+/* ---- messages put together of packets, whoever holds an address (J1939-21, 5.10) */
+
+/** Opens an assembler with no message open: 0; J1939_IN_USE, J1939_NO_MEMORY. */
+int32_t j1939_assembler_new(j1939_assembler *assembler);
+
+/** Feeds it the next frame of the bus: 1 where a message is whole with it, which stands in *out then, of no NAME, else 0.
+ * J1939_BAD_VALUE, J1939_NO_PART; J1939_NO_MEMORY at an announcement alone: feed the frame again, or drop it. */
+int32_t j1939_assembler_feed(j1939_assembler *assembler, const j1939_frame *frame, j1939_message *out);
+
+/** Ends what a source has begun: call it for each address that j1939_claims_note writes out. 0; J1939_NO_PART. */
+int32_t j1939_assembler_forget(j1939_assembler *assembler, uint8_t source);
+
+/** Closes it: 0. Closing an empty one does nothing. */
+int32_t j1939_assembler_close(j1939_assembler *assembler);
 
 /* ---- the receiving end of directed transfers (J1939-21, 5.10.3) */
 

@@ -23,6 +23,7 @@ static void null_pointers(void) {
     static j1939_node node;
     static j1939_claims claims;
     j1939_listener listener = J1939_EMPTY;
+    j1939_assembler assembler = J1939_EMPTY;
     j1939_receiver receiver = J1939_EMPTY;
     j1939_sender sender = J1939_EMPTY;
     j1939_frame frame = {0};
@@ -53,6 +54,10 @@ static void null_pointers(void) {
     EXPECT(j1939_listener_feed(&listener, &frame, NULL) == J1939_NULL);
     EXPECT(j1939_listener_holder(NULL, 0, &name) == J1939_NULL);
     EXPECT(j1939_listener_close(NULL) == J1939_NULL);
+    EXPECT(j1939_assembler_new(NULL) == J1939_NULL);
+    EXPECT(j1939_assembler_feed(&assembler, NULL, &message) == J1939_NULL);
+    EXPECT(j1939_assembler_forget(NULL, 0) == J1939_NULL);
+    EXPECT(j1939_assembler_close(NULL) == J1939_NULL);
     EXPECT(j1939_receiver_new(NULL, 0) == J1939_NULL);
     EXPECT(j1939_receiver_on(&receiver, &frame, &out, NULL) == J1939_NULL);
     EXPECT(j1939_receiver_tick(&receiver, 0, NULL) == J1939_NULL);
@@ -184,6 +189,40 @@ static void listeners(void) {
     EXPECT(j1939_receiver_close(&foreign) == 0);
 }
 
+static void assemblers(void) {
+    j1939_assembler assembler = J1939_EMPTY;
+    j1939_listener foreign = J1939_EMPTY;
+    j1939_frame late = {.micros = LATE};
+    EXPECT(j1939_assembler_feed(&assembler, &bam, &message) == J1939_NO_PART);
+    EXPECT(j1939_assembler_forget(&assembler, 0x80) == J1939_NO_PART);
+    for (long granted = 0; granted < 2; granted++) {
+        allowed = granted;
+        EXPECT(j1939_assembler_new(&assembler) == J1939_NO_MEMORY && !assembler.handle.part);
+    }
+    allowed = -1;
+    EXPECT(j1939_assembler_new(&assembler) == 0);
+    EXPECT(j1939_assembler_new(&assembler) == J1939_IN_USE);
+    EXPECT(j1939_assembler_feed(&assembler, &late, &message) == J1939_BAD_VALUE);
+    allowed = 0; /* at an announcement, after which the frame may be fed again */
+    EXPECT(j1939_assembler_feed(&assembler, &bam, &message) == J1939_NO_MEMORY);
+    allowed = -1;
+    EXPECT(j1939_assembler_feed(&assembler, &bam, &message) == 0);
+    EXPECT(j1939_assembler_forget(&assembler, 0x80) == 0);
+    for (int again = 0; again < 2; again++) {
+        for (uint8_t k = 1; k <= 3; k++) { /* first of the message that was forgotten, and then of a new one */
+            j1939_frame next = packet(k);
+            EXPECT(j1939_assembler_feed(&assembler, &next, &message) == (again && k == 3));
+        }
+        EXPECT(j1939_assembler_feed(&assembler, &bam, &message) == 0);
+    }
+    EXPECT(message.len == 20 && message.pgn == 65260 && !message.is_named && message.source == 0x80);
+    EXPECT(j1939_listener_new(&foreign) == 0);
+    EXPECT(j1939_assembler_feed((j1939_assembler *)&foreign, &bam, &message) == J1939_NO_PART);
+    EXPECT(j1939_assembler_forget((j1939_assembler *)&foreign, 0) == J1939_NO_PART);
+    EXPECT(j1939_assembler_close(&assembler) == 0 && j1939_listener_close(&foreign) == 0); /* with a message open */
+    EXPECT(j1939_assembler_close(&assembler) == 0);
+}
+
 static void readings(void) {
     j1939_reading reading;
     char text[64];
@@ -283,6 +322,7 @@ int main(void) {
     claims();
     listeners();
     readings();
+    assemblers();
     transfers();
     broadcasts();
     return 0;

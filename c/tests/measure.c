@@ -16,6 +16,7 @@ void *__wrap_malloc(size_t size) {
 }
 
 static j1939_listener listener = J1939_EMPTY;
+static j1939_assembler assembler = J1939_EMPTY;
 static j1939_receiver receiver = J1939_EMPTY;
 static j1939_sender sender = J1939_EMPTY;
 static j1939_node node;
@@ -31,6 +32,7 @@ static j1939_reading reading;
 static const uint8_t payload[1785];
 
 static void open_listener(void) { EXPECT(j1939_listener_new(&listener) == 0); }
+static void open_assembler(void) { EXPECT(j1939_assembler_new(&assembler) == 0); }
 static void open_receiver(void) { EXPECT(j1939_receiver_new(&receiver, 3) == 0); }
 static void open_sender(void) { EXPECT(j1939_sender_new(&sender, 1, 3, 65260, payload, sizeof payload) == 0); }
 static void hear(void) { EXPECT(j1939_listener_feed(&listener, &engine, &message) == 1); }
@@ -45,7 +47,7 @@ static void receiver_tick(void) { EXPECT(j1939_receiver_tick(&receiver, 5, &out)
 static void sender_tick(void) { EXPECT(j1939_sender_tick(&sender, 5, &out) >= 0); }
 static void close_all(void) {
     EXPECT(j1939_listener_close(&listener) == 0 && j1939_receiver_close(&receiver) == 0);
-    EXPECT(j1939_sender_close(&sender) == 0);
+    EXPECT(j1939_assembler_close(&assembler) == 0 && j1939_sender_close(&sender) == 0);
 }
 
 /* A call on a stack of its own, painted before: how many of its bytes it touches. */
@@ -88,6 +90,7 @@ int main(void) {
            sizeof message);
     EXPECT(j1939_node_init(&node, 1, 3) == 0);
     measure("listener_new", open_listener, 0);
+    measure("assembler_new", open_assembler, 0);
     measure("receiver_new", open_receiver, 0);
     measure("sender_new", open_sender, 0);
     measure("listener_feed", hear, 1000000);

@@ -25,6 +25,7 @@ void *__wrap_malloc(size_t size) {
 
 enum { PARTS = 4 };
 static j1939_listener listeners[PARTS];
+static j1939_assembler assemblers[PARTS];
 static j1939_receiver receivers[PARTS];
 static j1939_sender senders[PARTS];
 static j1939_node nodes[PARTS];
@@ -63,7 +64,13 @@ static void answered(int32_t answer, int32_t least, int32_t most) {
 static void call_handles(size_t i, uint8_t address) {
     uint8_t payload[40], reason;
     uint64_t name;
-    switch (next() % 16) {
+    switch (next() % 18) {
+    case 16: answered(j1939_assembler_new(&assemblers[i]), J1939_IN_USE, 0); break;
+    case 17:
+        answered(j1939_assembler_feed(&assemblers[i], &frame, &message), J1939_NO_MEMORY, 1);
+        if (next() % 64 == 0) answered(j1939_assembler_forget(&assemblers[i], address), J1939_NO_PART, 0);
+        if (next() % 1024 == 0) answered(j1939_assembler_close(&assemblers[i]), 0, 0);
+        break;
     case 0: answered(j1939_listener_new(&listeners[i]), J1939_IN_USE, 0); break;
     case 1: answered(j1939_receiver_new(&receivers[i], address), J1939_IN_USE, 0); break;
     case 2:
@@ -142,6 +149,7 @@ int main(int argc, char **argv) {
     }
     for (size_t i = 0; i < PARTS; i++) {
         EXPECT(j1939_listener_close(&listeners[i]) == 0 && j1939_receiver_close(&receivers[i]) == 0);
+        EXPECT(j1939_assembler_close(&assemblers[i]) == 0);
         EXPECT(j1939_sender_close(&senders[i]) == 0);
     }
     return 0;

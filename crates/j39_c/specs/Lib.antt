@@ -1,3 +1,4 @@
+pub mod Assemblers
 pub mod Broadcasts
 pub mod Can
 pub mod Codes

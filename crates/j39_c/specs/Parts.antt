@@ -9,6 +9,7 @@ use Rattle.j39_transport.specs.Cutting.{ToSend, without_stamp}
 use Rattle.j39_transport.specs.ReceiverStands.{HasHeard}
 use Rattle.j39_transport.specs.Receiving.{BoxedReceiver, ReceiverAnswer, RecvStep, Tick}
 use Rattle.j39_transport.specs.Sending as sending
+use Rattle.j39_transport.specs.Steps.{AssemblerRecord}
 use Rattle.j39_transport.specs.Sending.{SenderRecord}
 use Rattle.j39_listen.specs.Heard.{Hearing, HeardAt}
 use Rattle.j39_listen.specs.Listening.{Hears, WantsMemoryBehind}
@@ -24,27 +25,37 @@ use Rattle.j39_c.specs.declared.message.WholeMessage.{WholeMessage}
 use Rattle.j39_c.specs.declared.part.Part.{Part}
 use Rattle.j39_c.specs.declared.refusal.Refusal.{Refusal}
 use Rattle.j39_c.specs.declared.refusal.Refusal.TheVariants.{BadValue, NoPart, NoMemory, InUse, NoRoom, End}
-use Rattle.j39_c.specs.declared.part.Part.TheVariants.{Listening, Receiving, Sending}
+use Rattle.j39_c.specs.declared.part.Part.TheVariants.{Listening, Receiving, Sending, Assembling}
 use Rattle.j39_listen.specs.declared.listener.Listener as heard
 
--- the listener that a handle holds; the receiver; the sender
+-- the listener that a handle holds; the receiver; the sender; the assembler
 abbrev pub listener_in : Option Part → Option heard.Listener
 listener_in None = None
 listener_in (Some (Listening b)) = Some b.value
 listener_in (Some (Receiving b)) = None
 listener_in (Some (Sending b)) = None
+listener_in (Some (Assembling b)) = None
 
 abbrev pub receiver_in : Option Part → Option BoxedReceiver
 receiver_in None = None
 receiver_in (Some (Listening b)) = None
 receiver_in (Some (Receiving b)) = Some b.value
 receiver_in (Some (Sending b)) = None
+receiver_in (Some (Assembling b)) = None
 
 abbrev pub sender_in : Option Part → Option SenderRecord
 sender_in None = None
 sender_in (Some (Listening b)) = None
 sender_in (Some (Receiving b)) = None
 sender_in (Some (Sending b)) = Some b.value
+sender_in (Some (Assembling b)) = None
+
+abbrev pub assembler_in : Option Part → Option AssemblerRecord
+assembler_in None = None
+assembler_in (Some (Listening b)) = None
+assembler_in (Some (Receiving b)) = None
+assembler_in (Some (Sending b)) = None
+assembler_in (Some (Assembling b)) = Some b.value
 
 -- ---- listeners
 

@@ -1,6 +1,7 @@
 //! The stack, callable from C. `c/j1939.h` declares what a C program calls.
 #![tactic(auto)]
 
+mod assembler;
 mod broadcast;
 mod can;
 mod claims;
@@ -17,6 +18,7 @@ mod receiver;
 mod refusal;
 mod sender;
 
+pub use assembler::{j39_assembler_feed, j39_assembler_forget, j39_assembler_new};
 pub use broadcast::{j39_broadcast_init, j39_broadcast_poll};
 pub use can::CanFrame;
 pub use claims::{j39_claims_holder, j39_claims_init, j39_claims_note};

@@ -2,11 +2,14 @@
 ghost use Rattle.std.specs.Prelude.{◌≡◌, Some, None, IfSome, IsSomeAnd, pos};
 ghost use Rattle.j39_frame.specs.Stamp.{stamp_micros};
 ghost use Rattle.j39_transport.specs.Sending.{Heard, SendStep, Tick};
+ghost use Rattle.j39_c.specs.Assemblers.{Forgets, LacksBox, PutsTogether};
 ghost use Rattle.j39_c.specs.Codes.{IsDone, IsRefused, IsSentAt, no_memory, no_part, sent_packet};
 ghost use Rattle.j39_c.specs.Holders.{told_name};
 ghost use Rattle.j39_c.specs.Messages.{message_in};
-ghost use Rattle.j39_c.specs.Parts.{HearsMore, IsHolderBy, IsSendState, LacksMemory, LetsPass, ReceivesMore, busy_code, listener_in, receiver_in, sender_in};
+ghost use Rattle.j39_c.specs.Parts.{HearsMore, IsHolderBy, IsSendState, LacksMemory, LetsPass, ReceivesMore};
+ghost use Rattle.j39_c.specs.Parts.{assembler_in, busy_code, listener_in, receiver_in, sender_in};
 
+use crate::assembler::{assemble, forget};
 use crate::can::{CanFrame, put_packet};
 use crate::claims::put_name;
 use crate::listener::hear;
@@ -16,7 +19,7 @@ use crate::refusal::Refusal;
 use crate::sender::{put_state, show};
 use j39_frame::{Frame, Stamp};
 use j39_listen::Listener;
-use j39_transport::{OwnedSender, Receiver, SendEvent};
+use j39_transport::{Assembler, OwnedSender, Receiver, SendEvent};
 
 /// What a handle holds. Each kind lies in a box of its own size.
 #[derive(Drop)]
@@ -24,6 +27,7 @@ pub(crate) enum Part {
     Listening(Box<Listener>),
     Receiving(Box<Receiver>),
     Sending(Box<OwnedSender>),
+    Assembling(Box<Assembler>),
 }
 
 impl Part {
@@ -40,6 +44,7 @@ impl Part {
             Part::Listening(listener) => hear(listener, frame, out),
             Part::Receiving(_) => Refusal::NoPart.code(),
             Part::Sending(_) => Refusal::NoPart.code(),
+            Part::Assembling(_) => Refusal::NoPart.code(),
         }
     }
 
@@ -53,6 +58,7 @@ impl Part {
             Part::Listening(listener) => put_name(listener.holder(address), name),
             Part::Receiving(_) => Refusal::NoPart.code(),
             Part::Sending(_) => Refusal::NoPart.code(),
+            Part::Assembling(_) => Refusal::NoPart.code(),
         }
     }
 
@@ -72,6 +78,7 @@ impl Part {
             Part::Receiving(receiver) => receive(receiver, frame, out, message),
             Part::Listening(_) => Refusal::NoPart.code(),
             Part::Sending(_) => Refusal::NoPart.code(),
+            Part::Assembling(_) => Refusal::NoPart.code(),
         }
     }
 
@@ -87,6 +94,7 @@ impl Part {
             Part::Receiving(receiver) => put_packet(receiver.tick(now), now, out),
             Part::Listening(_) => Refusal::NoPart.code(),
             Part::Sending(_) => Refusal::NoPart.code(),
+            Part::Assembling(_) => Refusal::NoPart.code(),
         }
     }
 
@@ -99,6 +107,7 @@ impl Part {
             Part::Receiving(receiver) => i32::from(receiver.busy()),
             Part::Listening(_) => Refusal::NoPart.code(),
             Part::Sending(_) => Refusal::NoPart.code(),
+            Part::Assembling(_) => Refusal::NoPart.code(),
         }
     }
 
@@ -114,6 +123,7 @@ impl Part {
             Part::Sending(sender) => put_packet(sender.on(SendEvent::Tick, now), now, out),
             Part::Listening(_) => Refusal::NoPart.code(),
             Part::Receiving(_) => Refusal::NoPart.code(),
+            Part::Assembling(_) => Refusal::NoPart.code(),
         }
     }
 
@@ -130,6 +140,7 @@ impl Part {
             }
             Part::Listening(_) => Refusal::NoPart.code(),
             Part::Receiving(_) => Refusal::NoPart.code(),
+            Part::Assembling(_) => Refusal::NoPart.code(),
         }
     }
 
@@ -142,6 +153,42 @@ impl Part {
             Part::Sending(sender) => put_state(sender.state(), reason),
             Part::Listening(_) => Refusal::NoPart.code(),
             Part::Receiving(_) => Refusal::NoPart.code(),
+            Part::Assembling(_) => Refusal::NoPart.code(),
+        }
+    }
+
+    /// Feeds an assembler the next frame of the bus.
+    pub(crate) fn assemble(&mut self, frame: &Frame, out: &mut WholeMessage) -> i32
+        ensures whole { IsDone result → IfSome (assembler_in (Some self.old)) (λ old.
+            IsSomeAnd (assembler_in (Some self.new)) (λ new.
+            PutsTogether old frame.now (message_in result out.new) new)) }
+        ensures wanted { IsRefused result → IfSome (assembler_in (Some self.old)) (λ old.
+            (result ≡ no_memory) × LacksBox old frame.now) }
+        ensures foreign { assembler_in (Some self.old) ≡ None → result ≡ no_part }
+        ensures refused { IsRefused result → self.new ≡ self.old }
+    {
+        match self {
+            Part::Assembling(assembler) => assemble(assembler, frame, out),
+            Part::Listening(_) => Refusal::NoPart.code(),
+            Part::Receiving(_) => Refusal::NoPart.code(),
+            Part::Sending(_) => Refusal::NoPart.code(),
+        }
+    }
+
+    /// Ends what a source has begun, in an assembler.
+    pub(crate) fn forget(&mut self, source: u8) -> i32
+        ensures done { IfSome (assembler_in (Some self.old)) (λ old. (result ≡ pos 0)
+            × IsSomeAnd (assembler_in (Some self.new)) (λ new. Forgets old source new)) }
+        ensures foreign { assembler_in (Some self.old) ≡ None → (result ≡ no_part) × (self.new ≡ self.old) }
+    {
+        match self {
+            Part::Assembling(assembler) => {
+                forget(assembler, source);
+                0
+            }
+            Part::Listening(_) => Refusal::NoPart.code(),
+            Part::Receiving(_) => Refusal::NoPart.code(),
+            Part::Sending(_) => Refusal::NoPart.code(),
         }
     }
 }

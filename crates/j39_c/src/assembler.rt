@@ -1,0 +1,112 @@
+//! Messages put together of packets, whoever holds their sources' addresses (J1939-21, 5.10).
+ghost use Rattle.std.specs.Prelude.{◌≡◌, [], Some, None, IfSome, IsSome, IsSomeAnd, pos};
+ghost use Rattle.j39_transport.specs.Stands.{Stands};
+ghost use Rattle.j39_c.specs.Assemblers.{Forgets, LacksBox, PutsTogether};
+ghost use Rattle.j39_c.specs.Can.{Fits, frame_of};
+ghost use Rattle.j39_c.specs.Codes.{IsDone, IsRefused, bad_value, in_use, no_memory, no_part};
+ghost use Rattle.j39_c.specs.Messages.{message_in};
+ghost use Rattle.j39_c.specs.Parts.{assembler_in};
+
+use crate::can::{CanFrame, frame_in};
+use crate::handle::Handle;
+use crate::message::WholeMessage;
+use crate::part::Part;
+use crate::refusal::Refusal;
+use j39_frame::Frame;
+use j39_transport::{Assembler, Fed};
+use std::alloc::Global;
+
+/// Opens an assembler with no message open: 0; -3 where memory is refused, -4 where the handle is open.
+#[unsafe(no_mangle)]
+pub extern "C" fn j39_assembler_new(alloc: Global, assembler: &mut Handle) -> i32
+    ensures made { IsDone result → (result ≡ pos 0)
+        × IsSomeAnd (assembler_in assembler.new.part) (λ made. Stands [] made) }
+    ensures open { IsSome assembler.old.part → result ≡ in_use }
+    ensures wanted { IsRefused result → assembler.old.part ≡ None → result ≡ no_memory }
+    ensures refused { IsRefused result → assembler.new.part ≡ assembler.old.part }
+{
+    if let Some(part) = assembler.take(alloc) {
+        assembler.put(alloc, part);
+        return Refusal::InUse.code();
+    }
+    let Ok(made) = Box::new(alloc, Assembler::new(alloc)) else {
+        return Refusal::NoMemory.code();
+    };
+    let Ok(part) = Box::new(alloc, Part::Assembling(made)) else {
+        return Refusal::NoMemory.code();
+    };
+    assembler.put(alloc, part);
+    0
+}
+
+/// Feeds an assembler the next frame of the bus: 1 where a message is whole with it, which is in `out` then, of no NAME,
+/// else 0. -1 for a frame that is out of range, -2 where the handle holds no assembler; -3 where memory is refused, at
+/// an announcement alone. After one of these nothing has changed.
+#[unsafe(no_mangle)]
+pub extern "C" fn j39_assembler_feed(
+    alloc: Global,
+    assembler: &mut Handle,
+    frame: &CanFrame,
+    out: &mut WholeMessage,
+) -> i32
+    ensures whole { Fits frame.now → IsDone result → IfSome (assembler_in assembler.old.part) (λ old.
+        IsSomeAnd (assembler_in assembler.new.part) (λ new.
+        PutsTogether old (frame_of frame.now) (message_in result out.new) new)) }
+    ensures wanted { Fits frame.now → IsRefused result → IfSome (assembler_in assembler.old.part) (λ old.
+        (result ≡ no_memory) × LacksBox old (frame_of frame.now)) }
+    ensures foreign { Fits frame.now → assembler_in assembler.old.part ≡ None → result ≡ no_part }
+    ensures bad { (Fits frame.now → ⊥) → result ≡ bad_value }
+    ensures refused { IsRefused result → assembler.new.part ≡ assembler.old.part }
+{
+    let Some(fed) = frame_in(frame) else {
+        return Refusal::BadValue.code();
+    };
+    let Some(mut part) = assembler.take(alloc) else {
+        return Refusal::NoPart.code();
+    };
+    let code = part.assemble(&fed, out);
+    assembler.put(alloc, part);
+    code
+}
+
+/// Ends all messages that a source has begun, as where its address has another holder: 0; -2 where the handle holds no
+/// assembler.
+#[unsafe(no_mangle)]
+pub extern "C" fn j39_assembler_forget(alloc: Global, assembler: &mut Handle, source: u8) -> i32
+    ensures done { IfSome (assembler_in assembler.old.part) (λ old. (result ≡ pos 0)
+        × IsSomeAnd (assembler_in assembler.new.part) (λ new. Forgets old source new)) }
+    ensures foreign { assembler_in assembler.old.part ≡ None → result ≡ no_part }
+    ensures refused { IsRefused result → assembler.new.part ≡ assembler.old.part }
+{
+    let Some(mut part) = assembler.take(alloc) else {
+        return Refusal::NoPart.code();
+    };
+    let code = part.forget(source);
+    assembler.put(alloc, part);
+    code
+}
+
+/// What is whole with the next frame: 1 where a message is.
+pub(crate) fn assemble(assembler: &mut Assembler, frame: &Frame, out: &mut WholeMessage) -> i32
+    ensures whole { IsDone result
+        → PutsTogether assembler.old frame.now (message_in result out.new) assembler.new }
+    ensures wanted { IsRefused result → (result ≡ no_memory) × LacksBox assembler.old frame.now }
+    ensures refused { IsRefused result → assembler.new ≡ assembler.old }
+{
+    match assembler.feed(frame) {
+        Ok(Fed::Whole(message)) => {
+            out.put_message(&message, None);
+            1
+        }
+        Ok(Fed::Taken) => 0,
+        Ok(Fed::Ignored) => 0,
+        Err(_) => Refusal::NoMemory.code(),
+    }
+}
+
+/// Ends all messages that a source has begun.
+pub(crate) fn forget(assembler: &mut Assembler, source: u8)
+    ensures { Forgets assembler.old source assembler.new }
+{
+    assembler.forget(source);
+}
