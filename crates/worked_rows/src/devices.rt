@@ -5,7 +5,6 @@ use j39_device::Told;
 use j39_listen::RunFault;
 use j39_trial::{Full, Trial};
 use std::alloc::Global;
-use std::fs;
 use std::test::Fail;
 
 const LOG: &[u8] = b"(0000000001.000000) can0 18EEFF00#3412400100000080\n\
@@ -35,7 +34,7 @@ const VIN_TEXT: &[u8] = b"(0000000002.010000) 00 8000000001401234 61444 190 1500
     (0000000002.150000) 00 8000000001401234 65260 237 \"1FUJA6CV12LK12345\"\n";
 
 /// Logs with their reports.
-pub(crate) fn logs() -> [(&'static [u8], &'static [u8]); 3] {
+fn logs() -> [(&'static [u8], &'static [u8]); 3] {
     [
         (&LOG[..TWO_LINES], &TEXT[..TEXT_OF_TWO]),
         (LOG, TEXT),
@@ -44,7 +43,7 @@ pub(crate) fn logs() -> [(&'static [u8], &'static [u8]); 3] {
 }
 
 /// A source of a log in pieces.
-pub(crate) fn source_of(alloc: Global, log: &[u8], most: usize) -> Result<Trial, Fail> {
+fn source_of(alloc: Global, log: &[u8], most: usize) -> Result<Trial, Fail> {
     Ok(Trial::new(alloc, log, 0)?.in_pieces(most))
 }
 
@@ -54,7 +53,7 @@ fn log_in(alloc: Global, most: usize) -> Result<Trial, Fail> {
 }
 
 /// A sink with room for so many bytes.
-pub(crate) fn room_for(alloc: Global, room: usize) -> Result<Trial, Fail> {
+fn room_for(alloc: Global, room: usize) -> Result<Trial, Fail> {
     Ok(Trial::new(alloc, b"", room)?)
 }
 
@@ -91,13 +90,7 @@ fn log_at_the_limit(rt: HostRuntime) -> Result<(), Fail> {
         );
         assert!(rt; text.starts_with(sink.written()));
     }
-    Ok(())
-}
-
-#[test]
-fn piece_that_passes_the_limit(rt: HostRuntime) -> Result<(), Fail> {
-    // It isn't handled.
-    let alloc = rt.alloc();
+    // A piece that passes the limit isn't handled.
     let limit = LOG.len() as u64;
     let (mut source, mut sink) = (log_in(alloc, 51)?, room_for(alloc, TEXT.len())?);
     assert_eq!(rt;
@@ -195,37 +188,10 @@ fn faults_of_writer_and_reader(rt: HostRuntime) -> Result<(), Fail> {
     let status = report_over(alloc, &mut log_in(alloc, 4096)?, &mut sink, &mut err)?;
     assert_eq!(rt; status, 1);
     assert_eq!(rt; err.written(), b"j1939: write failed\n".as_slice());
-    Ok(())
-}
-
-#[test]
-fn error_writer_that_fails(rt: HostRuntime) -> Result<(), Fail> {
-    let alloc = rt.alloc();
+    // Where the counts can't be told, the report is whole all the same.
     let (mut sink, mut err) = (room_for(alloc, 300)?, room_for(alloc, 0)?);
     let status = report_over(alloc, &mut log_in(alloc, 4096)?, &mut sink, &mut err)?;
     assert_eq!(rt; status, 0);
     assert_eq!(rt; sink.written(), TEXT);
-    Ok(())
-}
-
-#[test]
-fn report_of_a_file(rt: HostRuntime) -> Result<(), Fail> {
-    let alloc = rt.alloc();
-    let name = "eec1_with_a_claim.log";
-    fs::write(&rt, name, LOG)?;
-    let log = fs::open(&rt, name)?;
-    let words = ["j1939", "report", name];
-    let task = parse(alloc, &words)?;
-    let (mut sink, mut err) = (room_for(alloc, 300)?, room_for(alloc, 80)?);
-    let status = perform(
-        alloc,
-        &task,
-        &mut Told::new(log),
-        &mut Told::new(&mut sink),
-        &mut Told::new(&mut err),
-    );
-    assert_eq!(rt; status, 0);
-    assert_eq!(rt; sink.written(), TEXT);
-    fs::remove_file(&rt, name)?;
     Ok(())
 }

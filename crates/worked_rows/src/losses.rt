@@ -4,7 +4,7 @@ use std::process::Abort;
 use std::test::Fail;
 
 /// Two controllers that broadcast at once, 00 its vehicle's identification and 0B its own.
-pub(crate) const FRAMES: [(&str, &str); 9] = [
+const FRAMES: [(&str, &str); 9] = [
     ("1.000000", "18EEFF00#3412400100000080"),
     ("1.000100", "18EEFF0B#7856400100000080"),
     ("2.000000", "1CECFF00#20120003FFECFE00"),
@@ -20,7 +20,7 @@ pub(crate) const FRAMES: [(&str, &str); 9] = [
 const PACKETS: [usize; 5] = [4, 5, 6, 7, 8];
 
 /// The report of `FRAMES`.
-pub(crate) const LINES: [(&str, &str); 4] = [
+const LINES: [(&str, &str); 4] = [
     ("2.110000", "0B 8000000001405678 65259 586 \"ACME\""),
     ("2.110000", "0B 8000000001405678 65259 587 \"X1\""),
     ("2.110000", "0B 8000000001405678 65259 588 \"77\""),

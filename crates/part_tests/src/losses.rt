@@ -1,5 +1,5 @@
 //! A transfer with each frame lost, and with each two frames lost.
-use crate::directed::{Sent, heard, receiver, receiver_tick, sender, tick};
+use crate::transfers::{Sent, heard, receiver, receiver_tick, sender, tick};
 use j39_frame::{Frame, Id, Stamp};
 use j39_transport::{Receiver, SendEvent, SendState, Sender};
 use std::alloc::Global;

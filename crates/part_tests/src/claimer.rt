@@ -1,0 +1,166 @@
+//! When a node holds the address that it claims, and when it loses it.
+use j39_address::{Claimer, Name, Status};
+use j39_frame::{Frame, Stamp};
+use j39_log::{Bus, Line, line_of, read_line};
+use std::process::Abort;
+use std::test::Fail;
+
+const NAME: u64 = 0x8000000001401234;
+
+/// `NAME` without the bit of an arbitrary address capable NAME.
+const FIXED: u64 = 0x0000000001401234;
+
+/// What happens to a node; a frame that it sends is given as its line.
+enum Step {
+    /// It is started at this moment, and sends that.
+    Starts(u64, Option<&'static str>),
+    /// It hears the frame of a line, and sends that.
+    Hears(&'static str, Option<&'static str>),
+    /// It is commanded to take this address at this moment, and sends that.
+    IsCommanded(u8, u64, Option<&'static str>),
+    /// Time passes up to this moment.
+    Passes(u64),
+    /// It is so far.
+    Is(Status),
+}
+
+use Status::{Cannot, Claiming, Holding, Idle};
+use Step::{Hears, Is, IsCommanded, Passes, Starts};
+
+static NODES: &[(&str, u64, &[Step])] = &[
+    (
+        "250 ms after its claim it holds the address, and defends it",
+        NAME,
+        &[
+            Passes(0),
+            Is(Idle),
+            Starts(
+                0,
+                Some("(0000000000.000000) can0 18EEFF00#3412400100000080"),
+            ),
+            Passes(249_999),
+            Is(Claiming(0)),
+            Passes(250_000),
+            Is(Holding(0)),
+            Hears(
+                "(0.300000) can0 18EEFF00#7856400100000080",
+                Some("(0000000000.300000) can0 18EEFF00#3412400100000080"),
+            ),
+            Is(Holding(0)),
+            Starts(400_000, None),
+        ],
+    ),
+    (
+        "a time before the claim is no time passed",
+        NAME,
+        &[
+            Starts(
+                1_000_000,
+                Some("(0000000001.000000) can0 18EEFF00#3412400100000080"),
+            ),
+            Passes(0),
+            Is(Claiming(0)),
+            Passes(1_250_000),
+            Is(Holding(0)),
+        ],
+    ),
+    (
+        "the loser takes the least free address, and claims it for 250 ms anew",
+        NAME,
+        &[
+            Starts(
+                1_000_000,
+                Some("(0000000001.000000) can0 18EEFF00#3412400100000080"),
+            ),
+            Hears("(1.000000) can0 18EEFF80#7856400100000080", None),
+            Hears(
+                "(1.100000) can0 18EEFF00#0100400100000080",
+                Some("(0000000001.100000) can0 18EEFF81#3412400100000080"),
+            ),
+            Passes(1_349_999),
+            Is(Claiming(0x81)),
+            Passes(1_350_000),
+            Is(Holding(0x81)),
+        ],
+    ),
+    (
+        "a NAME that may not choose gives up, until it is commanded",
+        FIXED,
+        &[
+            Starts(
+                1_000_000,
+                Some("(0000000001.000000) can0 18EEFF00#3412400100000000"),
+            ),
+            Hears(
+                "(1.000000) can0 18EEFF00#0100400100000000",
+                Some("(0000000001.000000) can0 18EEFFFE#3412400100000000"),
+            ),
+            Is(Cannot),
+            IsCommanded(254, 2_000_000, None),
+            Is(Cannot),
+            IsCommanded(
+                5,
+                2_000_000,
+                Some("(0000000002.000000) can0 18EEFF05#3412400100000000"),
+            ),
+            Is(Claiming(5)),
+        ],
+    ),
+];
+
+fn frame(line: &str) -> Option<Frame> {
+    match read_line(line.as_bytes()) {
+        Line::Frame { frame, .. } => Some(frame),
+        _ => None,
+    }
+}
+
+/// What is sent is the frame of this line, or nothing where there is no line.
+fn sends(
+    rt: &impl Abort,
+    sent: Option<Frame>,
+    wanted: Option<&str>,
+    name: &str,
+) -> Result<(), Fail> {
+    let bus = Bus::new(b"can0").ok_or("bus")?;
+    let line = sent.map(|frame| line_of(&frame, &bus));
+    match (line, wanted) {
+        (Some(line), Some(wanted)) => {
+            assert_eq!(rt; line.as_slice(), wanted.as_bytes(), "{name}");
+        }
+        (line, wanted) => assert!(rt; line.is_none() && wanted.is_none(), "{name}"),
+    }
+    Ok(())
+}
+
+fn at(micros: u64) -> Result<Stamp, Fail> {
+    Ok(Stamp::new(micros).ok_or("stamp")?)
+}
+
+fn follows(rt: &impl Abort, name: &str, raw: u64, steps: &[Step]) -> Result<(), Fail> {
+    let mut node = Claimer::new(Name::new(raw), 0).ok_or("node")?;
+    for step in steps {
+        match step {
+            Starts(micros, wanted) => sends(rt, node.start(at(*micros)?), *wanted, name)?,
+            Hears(line, wanted) => {
+                let heard = frame(line).ok_or("line")?;
+                sends(rt, node.on(&heard, heard.stamp), *wanted, name)?;
+            }
+            IsCommanded(address, micros, wanted) => {
+                let sent = node.commanded(Name::new(raw), *address, at(*micros)?);
+                sends(rt, sent, *wanted, name)?;
+            }
+            Passes(micros) => node.tick(at(*micros)?),
+            Is(status) => assert_eq!(rt; node.status(), *status, "{name}"),
+        }
+    }
+    Ok(())
+}
+
+#[test]
+fn nodes(rt: HostRuntime) -> Result<(), Fail> {
+    for (name, raw, steps) in NODES.iter() {
+        follows(&rt, name, *raw, steps)?;
+    }
+    Ok(())
+}

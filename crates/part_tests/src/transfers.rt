@@ -1,0 +1,337 @@
+//! Both ends of a directed transfer, frame by frame: from 00 to 0B, of the group 65260.
+use j39_frame::{Frame, Id, Pgn, Stamp};
+use j39_transport::{Cut, Receiver, Reply, SendEvent, SendState, Sender};
+use std::alloc::Global;
+use std::process::Abort;
+use std::test::Fail;
+
+pub(crate) const VIN: [u8; 18] = *b"1FUJA6CV12LK12345*";
+
+/// The identifiers of a sender's TP.CM and TP.DT, and of a receiver's TP.CM.
+pub(crate) const CONTROL: u32 = 0x1CEC0B00;
+
+const DATA: u32 = 0x1CEB0B00;
+
+pub(crate) const BACK: u32 = 0x1CEC000B;
+
+pub(crate) const RTS: [u8; 8] = [0x10, 0x12, 0, 3, 0xFF, 0xEC, 0xFE, 0];
+
+pub(crate) const CTS: [u8; 8] = [0x11, 3, 1, 0xFF, 0xFF, 0xEC, 0xFE, 0];
+
+/// A CTS for the second packet and the third.
+const TWO_MORE: [u8; 8] = [0x11, 2, 2, 0xFF, 0xFF, 0xEC, 0xFE, 0];
+
+const HOLD: [u8; 8] = [0x11, 0, 0xFF, 0xFF, 0xFF, 0xEC, 0xFE, 0];
+
+const ACKNOWLEDGMENT: [u8; 8] = [0x13, 0x12, 0, 3, 0xFF, 0xEC, 0xFE, 0];
+
+const TIMEOUT: [u8; 8] = [0xFF, 3, 0xFF, 0xFF, 0xFF, 0xEC, 0xFE, 0];
+
+const P1: [u8; 8] = [1, 0x31, 0x46, 0x55, 0x4A, 0x41, 0x36, 0x43];
+
+const P2: [u8; 8] = [2, 0x56, 0x31, 0x32, 0x4C, 0x4B, 0x31, 0x32];
+
+const P3: [u8; 8] = [3, 0x33, 0x34, 0x35, 0x2A, 0xFF, 0xFF, 0xFF];
+
+/// An identifier and the data of a frame to send.
+pub(crate) type Sent = Option<(u32, [u8; 8])>;
+
+pub(crate) fn sender() -> Option<Sender<'static>> {
+    Sender::new(Cut::new(0, Pgn::new(65260)?, &VIN)?, 0x0B)
+}
+
+fn shown(sent: Option<(Id, [u8; 8])>) -> Sent {
+    let (id, bytes) = sent?;
+    Some((id.raw(), bytes))
+}
+
+/// What a sender sends at a tick.
+pub(crate) fn tick(sender: &mut Sender<'_>, micros: u64) -> Sent {
+    shown(sender.on(SendEvent::Tick, Stamp::new(micros)?))
+}
+
+/// How far a sender is after a frame of the receiver, which it doesn't answer.
+fn told(sender: &mut Sender<'_>, bytes: &[u8], micros: u64) -> Option<SendState> {
+    let frame = Frame::new(Stamp::new(0)?, Id::new(BACK)?, bytes)?;
+    match sender.on(SendEvent::Heard(&frame), Stamp::new(micros)?) {
+        Some(_) => None,
+        None => Some(sender.state()),
+    }
+}
+
+/// A receiver at 0B with its buffer. Where the tests are run with an allocation refused, the second call
+/// finds memory.
+pub(crate) fn receiver(alloc: Global) -> Option<Receiver> {
+    match Receiver::with_buffer(alloc, 0x0B) {
+        Ok(receiver) => receiver,
+        Err(_) => Receiver::with_buffer(alloc, 0x0B).ok()?,
+    }
+}
+
+/// What a receiver sends at a frame, and how many bytes it delivers.
+pub(crate) fn heard(
+    receiver: &mut Receiver,
+    raw: u32,
+    bytes: &[u8],
+    micros: u64,
+) -> Option<(Sent, usize)> {
+    let frame = Frame::new(Stamp::new(0)?, Id::new(raw)?, bytes)?;
+    Some(match receiver.on(&frame, Stamp::new(micros)?) {
+        Reply::Nothing => (None, 0),
+        Reply::Send(id, bytes) => (Some((id.raw(), bytes)), 0),
+        Reply::Delivered(message, id, bytes) => (Some((id.raw(), bytes)), message.payload.len()),
+    })
+}
+
+/// What a receiver sends at a tick.
+pub(crate) fn receiver_tick(receiver: &mut Receiver, micros: u64) -> Sent {
+    shown(receiver.tick(Stamp::new(micros)?))
+}
+
+/// What happens to a sender.
+enum SenderStep {
+    /// Time passes, and it sends this.
+    Tick(u64, Sent),
+    /// It hears these bytes of the receiver, sends nothing, and is so far.
+    Hears(&'static [u8], u64, SendState),
+}
+
+use SendState::{Done, Failed, Sending, Waiting};
+use SenderStep::{Hears, Tick};
+
+/// The steps of a sender, and how far it is behind the last.
+static SENDERS: &[(&str, &[SenderStep], SendState)] = &[
+    (
+        "the second packet is lost, and sent again with those behind it",
+        &[
+            Tick(0, Some((CONTROL, RTS))),
+            Hears(&CTS, 0, Sending),
+            Tick(1, Some((DATA, P1))),
+            Tick(2, Some((DATA, P2))),
+            Tick(3, Some((DATA, P3))),
+            Hears(&TWO_MORE, 3, Sending),
+            Tick(4, Some((DATA, P2))),
+            Tick(5, Some((DATA, P3))),
+            Hears(&ACKNOWLEDGMENT, 6, Done),
+        ],
+        Done,
+    ),
+    (
+        "the acknowledgment is lost: it fails, though the receiver has delivered",
+        &[
+            Tick(0, Some((CONTROL, RTS))),
+            Hears(&CTS, 0, Sending),
+            Tick(1, Some((DATA, P1))),
+            Tick(2, Some((DATA, P2))),
+            Tick(3, Some((DATA, P3))),
+            Tick(1_250_003, None),
+            Tick(1_250_004, Some((CONTROL, TIMEOUT))),
+        ],
+        Failed(3),
+    ),
+    (
+        "a CTS of packets it hasn't, of none, of another group, an acknowledgment before its time, and short frames",
+        &[
+            Tick(0, Some((CONTROL, RTS))),
+            Hears(&[0x11, 3, 2, 0xFF, 0xFF, 0xEC, 0xFE, 0], 0, Waiting),
+            Hears(&[0x11, 3, 0, 0xFF, 0xFF, 0xEC, 0xFE, 0], 0, Waiting),
+            Hears(&[0x11, 3, 1, 0xFF, 0xFF, 0xEB, 0xFE, 0], 0, Waiting),
+            Hears(&ACKNOWLEDGMENT, 0, Waiting),
+            Hears(&[], 0, Waiting),
+            Hears(&[0x11, 3, 1, 0xFF, 0xFF, 0xEC, 0xFE], 0, Waiting),
+        ],
+        Waiting,
+    ),
+    (
+        "a CTS of 255 packets grants all that there are",
+        &[
+            Tick(0, Some((CONTROL, RTS))),
+            Hears(&[0x11, 0xFF, 1, 0xFF, 0xFF, 0xEC, 0xFE, 0], 0, Sending),
+            Tick(1, Some((DATA, P1))),
+            Tick(1, Some((DATA, P2))),
+            Tick(1, Some((DATA, P3))),
+        ],
+        Waiting,
+    ),
+    (
+        "a hold that ends after 1,050 ms",
+        &[
+            Tick(0, Some((CONTROL, RTS))),
+            Hears(&HOLD, 7, Waiting),
+            Tick(1_050_007, None),
+            Tick(1_050_008, Some((CONTROL, TIMEOUT))),
+        ],
+        Failed(3),
+    ),
+];
+
+/// The sender does as each step says; the place of one where it doesn't is told.
+fn follows_sender(
+    rt: &impl Abort,
+    name: &str,
+    steps: &[SenderStep],
+    end: SendState,
+) -> Result<(), Fail> {
+    let mut sender = sender().ok_or("sender")?;
+    for (place, step) in steps.iter().enumerate() {
+        match step {
+            Tick(micros, sent) => {
+                assert_eq!(rt; tick(&mut sender, *micros), *sent, "{name}: step {place}");
+            }
+            Hears(bytes, micros, state) => {
+                let met = told(&mut sender, bytes, *micros);
+                assert_eq!(rt; met, Some(*state), "{name}: step {place}");
+            }
+        }
+    }
+    assert_eq!(rt; sender.state(), end, "{name}");
+    Ok(())
+}
+
+#[test]
+fn senders(rt: HostRuntime) -> Result<(), Fail> {
+    for (name, steps, end) in SENDERS.iter() {
+        follows_sender(&rt, name, steps, *end)?;
+    }
+    Ok(())
+}
+
+/// What happens to a receiver.
+enum ReceiverStep {
+    /// Time passes, and it sends this.
+    Passes(u64, Sent),
+    /// It hears this frame, sends that, and delivers so many bytes.
+    Receives(u32, [u8; 8], Sent, usize),
+}
+
+use ReceiverStep::{Passes, Receives};
+
+/// The steps of a receiver, and whether it is busy behind the last.
+static RECEIVERS: &[(&str, &[ReceiverStep], bool)] = &[
+    (
+        "the second packet is lost, and asked for again",
+        &[
+            Receives(CONTROL, RTS, Some((BACK, CTS)), 0),
+            Receives(DATA, P1, None, 0),
+            Receives(DATA, P3, Some((BACK, TWO_MORE)), 0),
+            Receives(DATA, P2, None, 0),
+            Receives(DATA, P3, Some((BACK, ACKNOWLEDGMENT)), 18),
+        ],
+        false,
+    ),
+    (
+        "nothing comes: it asks twice more, and gives up; another source is told that it is busy",
+        &[
+            Receives(CONTROL, RTS, Some((BACK, CTS)), 0),
+            Receives(
+                0x1CEC0B21,
+                RTS,
+                Some((0x1CEC210B, [0xFF, 1, 0xFF, 0xFF, 0xFF, 0xEC, 0xFE, 0])),
+                0,
+            ),
+            Passes(1_250_000, None),
+            Passes(1_250_001, Some((BACK, CTS))),
+            Passes(2_500_002, Some((BACK, CTS))),
+            Passes(3_750_003, Some((BACK, TIMEOUT))),
+        ],
+        false,
+    ),
+    (
+        "between two packets of a CTS the limit is 750 ms",
+        &[
+            Receives(CONTROL, RTS, Some((BACK, CTS)), 0),
+            Receives(DATA, P1, None, 0),
+            Passes(750_000, None),
+            Passes(750_001, Some((BACK, TWO_MORE))),
+        ],
+        true,
+    ),
+    (
+        "a request for 8 bytes, for 1,786, and for another number of packets than the size has",
+        &[
+            Receives(CONTROL, [0x10, 8, 0, 2, 0xFF, 0xEC, 0xFE, 0], None, 0),
+            Receives(CONTROL, [0x10, 0xFA, 6, 0xFF, 0xFF, 0xEC, 0xFE, 0], None, 0),
+            Receives(CONTROL, [0x10, 0x12, 0, 4, 0xFF, 0xEC, 0xFE, 0], None, 0),
+        ],
+        false,
+    ),
+    (
+        "no limit of packets for a CTS, and a limit of two; the second request takes the place of the first",
+        &[
+            Receives(
+                CONTROL,
+                [0x10, 0x12, 0, 3, 0, 0xEC, 0xFE, 0],
+                Some((BACK, CTS)),
+                0,
+            ),
+            Receives(
+                CONTROL,
+                [0x10, 0x12, 0, 3, 2, 0xEC, 0xFE, 0],
+                Some((BACK, [0x11, 2, 1, 0xFF, 0xFF, 0xEC, 0xFE, 0])),
+                0,
+            ),
+            Receives(DATA, P1, None, 0),
+            Receives(
+                DATA,
+                P2,
+                Some((BACK, [0x11, 1, 3, 0xFF, 0xFF, 0xEC, 0xFE, 0])),
+                0,
+            ),
+        ],
+        true,
+    ),
+    (
+        "an abort of another group is none",
+        &[
+            Receives(CONTROL, RTS, Some((BACK, CTS)), 0),
+            Receives(CONTROL, [0xFF, 3, 0xFF, 0xFF, 0xFF, 0xEB, 0xFE, 0], None, 0),
+        ],
+        true,
+    ),
+    (
+        "an abort of its own, for any reason",
+        &[
+            Receives(CONTROL, RTS, Some((BACK, CTS)), 0),
+            Receives(
+                CONTROL,
+                [0xFF, 0x63, 0xFF, 0xFF, 0xFF, 0xEC, 0xFE, 0],
+                None,
+                0,
+            ),
+        ],
+        false,
+    ),
+];
+
+/// The receiver does as each step says; the place of one where it doesn't is told.
+fn follows_receiver(
+    rt: &impl Abort,
+    alloc: Global,
+    name: &str,
+    steps: &[ReceiverStep],
+    is_busy: bool,
+) -> Result<(), Fail> {
+    let mut receiver = receiver(alloc).ok_or("receiver")?;
+    for (place, step) in steps.iter().enumerate() {
+        match step {
+            Passes(micros, sent) => {
+                let met = receiver_tick(&mut receiver, *micros);
+                assert_eq!(rt; met, *sent, "{name}: step {place}");
+            }
+            Receives(raw, bytes, sent, size) => {
+                let met = heard(&mut receiver, *raw, bytes, 0);
+                assert_eq!(rt; met, Some((*sent, *size)), "{name}: step {place}");
+            }
+        }
+    }
+    assert_eq!(rt; receiver.busy(), is_busy, "{name}");
+    Ok(())
+}
+
+#[test]
+fn receivers(rt: HostRuntime) -> Result<(), Fail> {
+    for (name, steps, is_busy) in RECEIVERS.iter() {
+        follows_receiver(&rt, rt.alloc(), name, steps, *is_busy)?;
+    }
+    Ok(())
+}
