@@ -1,6 +1,7 @@
 //! A broadcast's memory, and when its frames are sent.
 use j39_frame::{Frame, Id, Pgn, Stamp};
 use j39_transport::{Assembler, Broadcast, Cut, Fed, Poll};
+use std::process::Abort;
 use std::test::Fail;
 
 /// What a frame was to an assembler.
@@ -37,6 +38,20 @@ fn fed(assembler: &mut Assembler, micros: u64, id: u32, bytes: &[u8]) -> Option<
     }
 }
 
+/// A packet's moment and data, what it is, and how many messages are open behind it, with how many bytes.
+type Row = (u64, [u8; 8], Kind, (usize, usize));
+
+fn follows(rt: &impl Abort, assembler: &mut Assembler, rows: &[Row]) {
+    for (micros, bytes, kind, open) in rows.iter() {
+        assert_eq!(rt;
+            fed(assembler, *micros, DATA, bytes),
+            Some(*kind),
+            "{micros}"
+        );
+        assert_eq!(rt; (assembler.open(), assembler.held()), *open, "{micros}");
+    }
+}
+
 /// An announcement whose memory is refused opens nothing, and its repetition finds memory.
 #[test]
 fn assembler_without_memory(rt: HostRuntime) {
@@ -52,10 +67,7 @@ fn assembler_without_memory(rt: HostRuntime) {
         (2_100_000, P2, Taken, (1, 14)),
         (2_150_000, P3, Whole, (0, 0)),
     ];
-    for (micros, bytes, kind, open) in rows {
-        assert_eq!(rt; fed(&mut assembler, micros, DATA, &bytes), Some(kind));
-        assert_eq!(rt; (assembler.open(), assembler.held()), open);
-    }
+    follows(&rt, &mut assembler, &rows);
 }
 
 /// A frame to send, or the moment that is waited for.

@@ -28,8 +28,9 @@ use Status::{Cannot, Claiming, Holding, Idle};
 use Step::{Hears, Is, IsCommanded, Passes, Starts};
 
 static NODES: &[(&str, u64, &[Step])] = &[
+    // It holds the address 250 ms after its claim, and defends it.
     (
-        "250 ms after its claim it holds the address, and defends it",
+        "claimer_holds_after_250_ms",
         NAME,
         &[
             Passes(0),
@@ -50,8 +51,9 @@ static NODES: &[(&str, u64, &[Step])] = &[
             Starts(400_000, None),
         ],
     ),
+    // A time before the claim is no time passed.
     (
-        "a time before the claim is no time passed",
+        "time_that_goes_back",
         NAME,
         &[
             Starts(
@@ -64,8 +66,9 @@ static NODES: &[(&str, u64, &[Step])] = &[
             Is(Holding(0)),
         ],
     ),
+    // It takes the least free address, and claims it for 250 ms anew.
     (
-        "the loser takes the least free address, and claims it for 250 ms anew",
+        "loser_moves",
         NAME,
         &[
             Starts(
@@ -83,8 +86,9 @@ static NODES: &[(&str, u64, &[Step])] = &[
             Is(Holding(0x81)),
         ],
     ),
+    // A NAME that may not choose gives up, until it is commanded.
     (
-        "a NAME that may not choose gives up, until it is commanded",
+        "loser_without_a_choice",
         FIXED,
         &[
             Starts(

@@ -101,8 +101,9 @@ use SenderStep::{Hears, Tick};
 
 /// The steps of a sender, and how far it is behind the last.
 static SENDERS: &[(&str, &[SenderStep], SendState)] = &[
+    // The second packet is lost, and sent again with the one behind it.
     (
-        "the second packet is lost, and sent again with those behind it",
+        "transfer_with_a_loss",
         &[
             Tick(0, Some((CONTROL, RTS))),
             Hears(&CTS, 0, Sending),
@@ -116,8 +117,9 @@ static SENDERS: &[(&str, &[SenderStep], SendState)] = &[
         ],
         Done,
     ),
+    // The sender fails, though the receiver has delivered.
     (
-        "the acknowledgment is lost: it fails, though the receiver has delivered",
+        "acknowledgment_that_is_lost",
         &[
             Tick(0, Some((CONTROL, RTS))),
             Hears(&CTS, 0, Sending),
@@ -129,8 +131,9 @@ static SENDERS: &[(&str, &[SenderStep], SendState)] = &[
         ],
         Failed(3),
     ),
+    // A CTS of a packet that there isn't, of number 0, of another group, an acknowledgment too early, and short frames.
     (
-        "a CTS of packets it hasn't, of none, of another group, an acknowledgment before its time, and short frames",
+        "frames_that_a_sender_ignores",
         &[
             Tick(0, Some((CONTROL, RTS))),
             Hears(&[0x11, 3, 2, 0xFF, 0xFF, 0xEC, 0xFE, 0], 0, Waiting),
@@ -142,8 +145,9 @@ static SENDERS: &[(&str, &[SenderStep], SendState)] = &[
         ],
         Waiting,
     ),
+    // A CTS of 255 packets grants all that there are.
     (
-        "a CTS of 255 packets grants all that there are",
+        "all_packets_granted",
         &[
             Tick(0, Some((CONTROL, RTS))),
             Hears(&[0x11, 0xFF, 1, 0xFF, 0xFF, 0xEC, 0xFE, 0], 0, Sending),
@@ -153,8 +157,9 @@ static SENDERS: &[(&str, &[SenderStep], SendState)] = &[
         ],
         Waiting,
     ),
+    // After 1,050 ms.
     (
-        "a hold that ends after 1,050 ms",
+        "hold_that_ends",
         &[
             Tick(0, Some((CONTROL, RTS))),
             Hears(&HOLD, 7, Waiting),
@@ -208,8 +213,9 @@ use ReceiverStep::{Passes, Receives};
 
 /// The steps of a receiver, and whether it is busy behind the last.
 static RECEIVERS: &[(&str, &[ReceiverStep], bool)] = &[
+    // The second packet is lost, and asked for again.
     (
-        "the second packet is lost, and asked for again",
+        "transfer_with_a_loss",
         &[
             Receives(CONTROL, RTS, Some((BACK, CTS)), 0),
             Receives(DATA, P1, None, 0),
@@ -219,8 +225,9 @@ static RECEIVERS: &[(&str, &[ReceiverStep], bool)] = &[
         ],
         false,
     ),
+    // Another source is told that it is busy. Nothing comes: it asks twice more, and gives up.
     (
-        "nothing comes: it asks twice more, and gives up; another source is told that it is busy",
+        "receiver_refusals_and_timeouts",
         &[
             Receives(CONTROL, RTS, Some((BACK, CTS)), 0),
             Receives(
@@ -236,8 +243,9 @@ static RECEIVERS: &[(&str, &[ReceiverStep], bool)] = &[
         ],
         false,
     ),
+    // Between two packets of a CTS the limit is 750 ms.
     (
-        "between two packets of a CTS the limit is 750 ms",
+        "packet_that_is_late",
         &[
             Receives(CONTROL, RTS, Some((BACK, CTS)), 0),
             Receives(DATA, P1, None, 0),
@@ -246,8 +254,9 @@ static RECEIVERS: &[(&str, &[ReceiverStep], bool)] = &[
         ],
         true,
     ),
+    // For 8 bytes, for 1,786, and for another number of packets than the size has.
     (
-        "a request for 8 bytes, for 1,786, and for another number of packets than the size has",
+        "requests_that_a_receiver_ignores",
         &[
             Receives(CONTROL, [0x10, 8, 0, 2, 0xFF, 0xEC, 0xFE, 0], None, 0),
             Receives(CONTROL, [0x10, 0xFA, 6, 0xFF, 0xFF, 0xEC, 0xFE, 0], None, 0),
@@ -255,8 +264,9 @@ static RECEIVERS: &[(&str, &[ReceiverStep], bool)] = &[
         ],
         false,
     ),
+    // The most packets for one CTS: none, and two. The second RTS takes the place of the first.
     (
-        "no limit of packets for a CTS, and a limit of two; the second request takes the place of the first",
+        "limits_of_a_request",
         &[
             Receives(
                 CONTROL,
@@ -281,15 +291,16 @@ static RECEIVERS: &[(&str, &[ReceiverStep], bool)] = &[
         true,
     ),
     (
-        "an abort of another group is none",
+        "abort_of_another_group",
         &[
             Receives(CONTROL, RTS, Some((BACK, CTS)), 0),
             Receives(CONTROL, [0xFF, 3, 0xFF, 0xFF, 0xFF, 0xEB, 0xFE, 0], None, 0),
         ],
         true,
     ),
+    // For any reason.
     (
-        "an abort of its own, for any reason",
+        "abort_of_a_sender",
         &[
             Receives(CONTROL, RTS, Some((BACK, CTS)), 0),
             Receives(
