@@ -42,7 +42,7 @@ fn told(alloc: Global, task: &Task<'_>) -> Result<String, AllocError> {
             let command = format!(in alloc; "summary by {}", table.as_str())?;
             told_of_log(alloc, command.as_str(), bus, file)
         }
-        Task::Faults(bus, table, telling, file) => {
+        Task::Faults(bus, table, telling, format, file) => {
             let which = match telling {
                 Telling::News => "news",
                 Telling::All => "all",
@@ -51,7 +51,11 @@ fn told(alloc: Global, task: &Task<'_>) -> Result<String, AllocError> {
                 Some(table) => table.as_str(),
                 None => "-",
             };
-            let command = format!(in alloc; "faults {which} by {by}")?;
+            let as_what = match format {
+                Format::Lines => "",
+                Format::Csv => " as csv",
+            };
+            let command = format!(in alloc; "faults {which} by {by}{as_what}")?;
             told_of_log(alloc, command.as_str(), bus, file)
         }
         Task::Nodes(bus, Format::Lines, file) => told_of_log(alloc, "nodes", bus, file),
@@ -113,8 +117,9 @@ fn reads_summary(rt: HostRuntime) -> Result<(), Fail> {
 
 #[test]
 fn reads_faults(rt: HostRuntime) -> Result<(), Fail> {
-    let lines: [(&[&str], &str); 4] = [
+    let lines: [(&[&str], &str); 5] = [
         (&["j1939", "faults"], "faults news by - - -"),
+        (&["j1939", "faults", "--csv", "--all"], "faults all by - as csv - -"),
         (
             &[
                 "j1939", "faults", "--all", "--bus", "can0", "--table", "trucks", "trip.log",

@@ -23,7 +23,8 @@ faults_of form rows which ms = record {
 -- the faults that are told in the frames, whatever their bus is called, in either form
 abbrev pub MakesFaultsIn : FaultForm → List RowRecord → Telling → Making
 MakesFaultsIn form rows which bus F output =
-    (heard : List Hearing) × AreHeardWith is_fault_group F heard × (output ≡ faults_of form rows which (faults_among heard))
+    (heard : List Hearing) × AreHeardWith is_fault_group F heard
+    × (output ≡ faults_of form rows which (faults_among heard))
 
 -- a line for each
 abbrev pub MakesFaults : List RowRecord → Telling → Making

@@ -75,8 +75,8 @@ pub record MeetsFrame (form : FaultForm) (rows : List RowRecord) (which : Tellin
   pub hears : Hears l' (F ++ f ∷ [])
   pub tells : Tells form rows which last' ms heard made old new
 
-pub record StopsFrame (form : FaultForm) (rows : List RowRecord) (which : Telling) (F : List FrameRecord) (f : FrameRecord)
-    (ms : List Hearing) (old new : Option (List ℕ)) : Type 0 where
+pub record StopsFrame (form : FaultForm) (rows : List RowRecord) (which : Telling) (F : List FrameRecord)
+    (f : FrameRecord) (ms : List Hearing) (old new : Option (List ℕ)) : Type 0 where
   pub heard : Option Hearing
   pub heard_at : HeardAtWith is_fault_group (F ++ f ∷ []) (length F) heard
   pub front : TellsFront form rows which ms heard old new

@@ -79,8 +79,8 @@ pub fn faults<R: Source, W: Sink>(
 /// The names of the columns of records.
 const COLUMNS: &[u8] = b"stamp,utc,address,name,state,spn,fmi,count,lamps,parameter,meaning\r\n";
 
-/// Writes the same as comma-separated values (RFC 4180): the names of the columns, before the log is read, and a record for
-/// each code of each message that is told.
+/// Writes the same as comma-separated values (RFC 4180): the names of the columns, before the log is read, and a record
+/// for each code of each message that is told, or that has none.
 pub fn faults_csv<R: Source, W: Sink>(
     alloc: Global,
     groups: &Groups<'_>,
@@ -90,7 +90,8 @@ pub fn faults_csv<R: Source, W: Sink>(
     bus: Option<Bus>,
     limit: u64,
 ) -> Result<Counts, RunFault>
-    // What is written is the names of the columns and the faults that are told in the frames of the log, and nothing else.
+    // What is written is the names of the columns, and the faults that are told in the frames of the log, and nothing
+    // else.
     ensures faults { IfOk result (λ counts. IfSome (R.remaining source.old)
         (λ log. Writes (MakesFaultRecords groups.now telling) bus log counts (W.held sink.old) (W.held sink.new))) }
 
