@@ -57,13 +57,13 @@ meaning_field None = codes "no code"
 meaning_field (Some (Known spn fmi count)) = fmi_words fmi
 meaning_field (Some (Raw bytes)) = codes "conversion method 1"
 
--- the fields behind `active` or `previous`
-abbrev pub columns : Lamps → List ℕ → Option Code → List (List ℕ)
-columns lamps parameter code =
+-- the fields behind `active` or `previous`, with this one for the parameter
+abbrev pub fields_with : Lamps → List ℕ → Option Code → List (List ℕ)
+fields_with lamps parameter code =
     spn_field code ∷ fmi_field code ∷ count_field code ∷ lamps_on lamps ∷ parameter ∷ meaning_field code ∷ []
 
 abbrev pub said_fields : List RowRecord → Lamps → Option Code → List (List ℕ)
-said_fields rows lamps code = columns lamps (parameter_field rows code) code
+said_fields rows lamps code = fields_with lamps (parameter_field rows code) code
 
 -- the record of a fault
 unfoldable pub fault_record : List RowRecord → Fault → List ℕ

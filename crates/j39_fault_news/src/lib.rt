@@ -6,6 +6,7 @@ mod form;
 mod last_said;
 pub mod laws;
 mod lines;
+mod names;
 mod places;
 mod records;
 mod run;

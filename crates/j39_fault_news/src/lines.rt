@@ -8,12 +8,13 @@ ghost use Rattle.j39_device.specs.Device.{AppendsFront, Marks};
 ghost use Rattle.j39_faults.specs.Codes.{codes_of};
 ghost use Rattle.j39_frame.specs.Stamp.{stamp_micros};
 ghost use Rattle.j39_listen.specs.Shown.{hearing_of};
-ghost use Rattle.j39_fault_news.specs.Faults.{faults_by, head_text, name_in, said_text};
+ghost use Rattle.j39_fault_news.specs.Faults.{faults_by, head_text, said_text};
 ghost use Rattle.j39_fault_news.specs.Records.{faults_text, head_fields};
 ghost use Rattle.j39_fault_news.specs.Steps.{head_in, line_of};
 ghost use Rattle.j39_fault_news.specs.declared.form.FaultForm.TheVariants.{Line, Record};
 
 use crate::form::{FaultForm, Writing};
+use crate::names::name_in;
 use crate::records::put_fields;
 use arrayvec::ArrayVec;
 use j39_address::Name;
@@ -164,16 +165,6 @@ fn put_said<W: Sink>(
     match code {
         Some(code) => put_code(kind, lamps, name_in(groups, code), code, sink),
         None => put_no_code(kind, lamps, sink),
-    }
-}
-
-/// What the table calls the parameter of a code; a code of conversion method 1 has none.
-pub(crate) fn name_in<'g>(groups: &'g Groups<'_>, code: Code) -> Option<&'g [u8]>
-    ensures { option_map (λ name. name.now) result ≡ name_in groups.now code }
-{
-    match code {
-        Code::Known { spn, .. } => groups.parameter_name(spn),
-        Code::Raw(_) => None,
     }
 }
 

@@ -4,9 +4,9 @@ ghost use Rattle.std.specs.Io.KnownBytes.{Appends};
 ghost use Rattle.j39_csv.specs.Records.{record_text};
 ghost use Rattle.j39_device.specs.Device.{AppendsFront, Marks};
 ghost use Rattle.j39_faults.specs.Text.{kind_text};
-ghost use Rattle.j39_fault_news.specs.Records.{columns, count_field, fmi_field, meaning_field, parameter_field, said_fields, spn_field, unnamed};
+ghost use Rattle.j39_fault_news.specs.Records.{count_field, fields_with, fmi_field, meaning_field, parameter_field, said_fields, spn_field, unnamed};
 
-use crate::lines::name_in;
+use crate::names::name_in;
 use arrayvec::ArrayVec;
 use j39_csv::put_record;
 use j39_device::{DeviceFault, Sink};
@@ -33,11 +33,11 @@ pub(crate) fn put_fields<W: Sink>(
 {
     let words = unnamed(code);
     let parameter = parameter_field(groups, code, words.as_slice());
-    put_columns(kind, lamps, code, parameter, sink)
+    put_fields_with(kind, lamps, code, parameter, sink)
 }
 
 /// Writes them, with this field for the parameter.
-fn put_columns<W: Sink>(
+fn put_fields_with<W: Sink>(
     kind: Kind,
     lamps: Lamps,
     code: Option<Code>,
@@ -45,9 +45,9 @@ fn put_columns<W: Sink>(
     sink: &mut W,
 ) -> Result<(), DeviceFault>
     ensures written { OnOk result (Appends (W.held sink.old) (W.held sink.new)
-        (record_text (kind_text kind) (columns lamps parameter.now code))) }
+        (record_text (kind_text kind) (fields_with lamps parameter.now code))) }
     ensures front { OnErr result (AppendsFront (W.held sink.old) (W.held sink.new)
-        (record_text (kind_text kind) (columns lamps parameter.now code))) }
+        (record_text (kind_text kind) (fields_with lamps parameter.now code))) }
     ensures mark { Marks result (W.has_failed sink.old) (W.has_failed sink.new) }
 {
     let spn = spn_field(code);
