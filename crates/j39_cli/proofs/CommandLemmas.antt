@@ -16,7 +16,7 @@ use Rattle.j39_cli.proofs.SurveyLemmas.{survey_parsed}
 pub is_parsed : (program : Text) (s : CommandWords) → IsParsed program s
 is_parsed program (report bus table spn csv file) = report_parsed program bus table spn csv file
 is_parsed program (summary bus table csv file) = summary_parsed program bus table csv file
-is_parsed program (faults bus table all file) = faults_parsed program bus table all file
+is_parsed program (faults bus table all csv file) = faults_parsed program bus table all csv file
 is_parsed program (nodes bus csv file) = nodes_parsed program bus csv file
 is_parsed program (answer node address bus file) = answer_parsed program node address bus file
 is_parsed program (id hex) = id_parsed program hex

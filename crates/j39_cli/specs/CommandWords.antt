@@ -19,7 +19,7 @@ use Rattle.j39_cli.specs.SurveyCommand.{survey_form}
 pub data CommandWords : Type 0 where
   report : Option Text → Option Text → Option Text → Bool → Option Text → CommandWords
   summary : Option Text → Option Text → Bool → Option Text → CommandWords
-  faults : Option Text → Option Text → Bool → Option Text → CommandWords
+  faults : Option Text → Option Text → Bool → Bool → Option Text → CommandWords
   nodes : Option Text → Bool → Option Text → CommandWords
   answer : Text → Text → Option Text → Option Text → CommandWords
   id : Text → CommandWords
@@ -31,7 +31,7 @@ pub data CommandWords : Type 0 where
 abbrev pub form_of : CommandWords → Form
 form_of (report bus table spn csv file) = report_form bus table spn csv file
 form_of (summary bus table csv file) = summary_form bus table csv file
-form_of (faults bus table all file) = faults_form bus table all file
+form_of (faults bus table all csv file) = faults_form bus table all csv file
 form_of (nodes bus csv file) = nodes_form bus csv file
 form_of (answer node address bus file) = answer_form node address bus file
 form_of (id hex) = id_form hex

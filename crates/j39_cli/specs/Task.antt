@@ -21,7 +21,7 @@ use Rattle.j39_cli.specs.declared.task.Task.TheVariants.{Report, Summary, Faults
 abbrev pub meaning_of : Task → Meaning
 meaning_of (Report bus table spns format file) = report_meaning bus table spns format file
 meaning_of (Summary bus table format file) = summary_meaning bus table format file
-meaning_of (Faults bus table telling file) = faults_meaning bus table telling file
+meaning_of (Faults bus table telling format file) = faults_meaning bus table telling format file
 meaning_of (Nodes bus format file) = nodes_meaning bus format file
 meaning_of (Answer name address bus file) = answer_meaning (name_raw name) address bus file
 meaning_of (Id id) = id_meaning (id_raw id)

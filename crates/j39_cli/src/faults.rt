@@ -3,22 +3,21 @@ ghost use Rattle.std.specs.Prelude.{◌≡◌, ◌≢◌, IfOk, codes, false, tr
 ghost use Rattle.clap.specs.Words.{app_of, first_value, found_of};
 ghost use Rattle.clap.specs.declared.builder.command.Command.TheViews.{out-Command as settings_of};
 ghost use Rattle.j39_fault_news.specs.Asking.{AsksForFaults};
-ghost use Rattle.j39_fault_news.specs.Output.{MakesFaults};
 ghost use Rattle.j39_cli.specs.CommandWords as written;
 ghost use Rattle.j39_cli.specs.CommandWords.{IsAnswer};
-ghost use Rattle.j39_cli.specs.FaultsCommand.{faults_app, telling_of};
+ghost use Rattle.j39_cli.specs.FaultsCommand.{faults_app, faults_in, telling_of};
 ghost use Rattle.j39_cli.specs.LogCommand.{IsRun};
 ghost use Rattle.j39_cli.specs.Rules.{is_given};
 ghost use Rattle.j39_cli.specs.Task.{IsInRange};
 ghost use Rattle.j39_cli.specs.Turn.{turn};
 
 use crate::command::{with_flag, with_table};
-use crate::log::{LOG_LIMIT, copy_of, tell_end, with_log};
+use crate::log::{LOG_LIMIT, copy_of, format_by, tell_end, with_csv, with_log};
 use crate::words::{bus_value, is_set};
-use crate::{ParseFault, Task, WordText};
+use crate::{Format, ParseFault, Task, WordText};
 use clap::{ArgMatches, Command};
 use j39_device::{Sink, Source};
-use j39_fault_news::Telling;
+use j39_fault_news::{Telling, faults_csv};
 use j39_groups::Groups;
 use j39_log::Bus;
 use std::alloc::{AllocError, Global};
@@ -57,25 +56,25 @@ pub(crate) fn command<'a>(alloc: Global) -> Result<Command<'a>, AllocError>
         .long_about(ABOUT)
         .after_help(HELP);
     let help = "Each message of faults, whether it is news or not";
-    with_log(
-        alloc,
-        with_flag(alloc, with_table(alloc, command)?, "all", help)?,
-    )
+    let command = with_flag(alloc, with_table(alloc, command)?, "all", help)?;
+    with_log(alloc, with_csv(alloc, command)?)
 }
 
 /// The task that its words ask for.
 pub(crate) fn task<'a>(given: &ArgMatches<'a>) -> Result<Task<'a>, ParseFault>
     ensures answer { IsAnswer (written.faults (first_value (found_of given.now) (codes "bus"))
         (first_value (found_of given.now) (codes "table")) (is_given (first_value (found_of given.now) (codes "all")))
+        (is_given (first_value (found_of given.now) (codes "csv")))
         (first_value (found_of given.now) (codes "file"))) result }
     ensures memory { result ≢ Err ParseFault.Memory }
     ensures in_range { IfOk result IsInRange }
 {
     let table = given.get_str("table").map(WordText::new);
     let telling = telling_by(is_set(given, "all"));
+    let format = format_by(is_set(given, "csv"));
     let file = given.get_str("file").map(WordText::new);
     match bus_value(given) {
-        Ok(bus) => Ok(Task::Faults(bus, table, telling, file)),
+        Ok(bus) => Ok(Task::Faults(bus, table, telling, format, file)),
         Err(fault) => Err(fault),
     }
 }
@@ -93,24 +92,26 @@ pub(crate) fn perform<R: Source, W: Sink, E: Sink>(
     groups: &Groups<'_>,
     bus: &Option<Bus>,
     telling: Telling,
+    format: Format,
     source: &mut R,
     sink: &mut W,
     err: &mut E,
 ) -> u8
-    ensures run { IsRun AsksForFaults (MakesFaults groups.now telling) bus.now result
+    ensures run { IsRun AsksForFaults (faults_in format telling groups.now) bus.now result
         (turn R.remaining R.has_failed source.old source.new)
         (turn W.held W.has_failed sink.old sink.new)
         (turn E.held E.has_failed err.old err.new) }
     ensures flushed { result ≡ 0 → W.is_flushed sink.new ≡ true }
 {
-    let end = j39_fault_news::faults(
-        alloc,
-        groups,
-        telling,
-        source,
-        sink,
-        copy_of(bus),
-        LOG_LIMIT,
-    );
-    tell_end(end, err)
+    let bus = copy_of(bus);
+    match format {
+        Format::Lines => {
+            let end = j39_fault_news::faults(alloc, groups, telling, source, sink, bus, LOG_LIMIT);
+            tell_end(end, err)
+        }
+        Format::Csv => {
+            let end = faults_csv(alloc, groups, telling, source, sink, bus, LOG_LIMIT);
+            tell_end(end, err)
+        }
+    }
 }

@@ -68,8 +68,8 @@ pub fn perform_with<R: Source, W: Sink, E: Sink>(
         Task::Summary(bus, _, format, _) => {
             summary::perform(alloc, groups, bus, *format, source, sink, err)
         }
-        Task::Faults(bus, _, telling, _) => {
-            faults::perform(alloc, groups, bus, *telling, source, sink, err)
+        Task::Faults(bus, _, telling, format, _) => {
+            faults::perform(alloc, groups, bus, *telling, *format, source, sink, err)
         }
         Task::Nodes(bus, format, _) => nodes::perform(bus, *format, source, sink, err),
         Task::Answer(name, address, bus, _) => {

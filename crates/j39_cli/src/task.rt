@@ -102,8 +102,8 @@ pub enum Task<'a> {
     /// The summary of a log: the bus to read, the file of the table, how it is written, and FILE, as of a report.
     Summary(Option<Bus>, Option<WordText<'a>>, Format, Option<WordText<'a>>),
     /// The fault codes in a log: the bus to read, where one is named, the file of the table of parameters, where it
-    /// isn't the built-in one, which messages are told, and FILE, as of a report.
-    Faults(Option<Bus>, Option<WordText<'a>>, Telling, Option<WordText<'a>>),
+    /// isn't the built-in one, which messages are told, how it is written, and FILE, as of a report.
+    Faults(Option<Bus>, Option<WordText<'a>>, Telling, Format, Option<WordText<'a>>),
     /// Who holds which address after a log: the bus to read, how it is written, and FILE, as of a report.
     Nodes(Option<Bus>, Format, Option<WordText<'a>>),
     /// What a node of this NAME, which starts with this address, would send: with the bus to read, and FILE, as of
@@ -129,7 +129,7 @@ impl<'a> Task<'a> {
         match self {
             Task::Report(_, _, _, _, file) => opened_of(file),
             Task::Summary(_, _, _, file) => opened_of(file),
-            Task::Faults(_, _, _, file) => opened_of(file),
+            Task::Faults(_, _, _, _, file) => opened_of(file),
             Task::Nodes(_, _, file) => opened_of(file),
             Task::Answer(_, _, _, file) => opened_of(file),
             Task::Survey(_, file) => opened_of(file),
@@ -144,7 +144,7 @@ impl<'a> Task<'a> {
         match self {
             Task::Report(_, table, _, _, _) => text_of(table),
             Task::Summary(_, table, _, _) => text_of(table),
-            Task::Faults(_, table, _, _) => text_of(table),
+            Task::Faults(_, table, _, _, _) => text_of(table),
             Task::Survey(table, _) => text_of(table),
             Task::Groups(table) => text_of(table),
             _ => None,

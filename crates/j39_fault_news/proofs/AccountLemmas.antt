@@ -1,57 +1,58 @@
 -- What is told of more messages, and of more frames.
-use Rattle.std.proofs.Common.{Bor, ◌≡◌, ◌∙◌, ◌+◌, ◌<◌, ◌≤◌, ◌^◌, ℕ, zero, suc, Bool, true, false, List, [], ◌∷◌, ◌++◌}
-use Rattle.std.proofs.Common.{Option, Some, None, ap, append-nil, append_assoc, arith, filter, flat_map, if◌then◌else◌}
+use Rattle.std.proofs.Common.{◌≡◌, ◌∙◌, ◌+◌, ◌<◌, ◌≤◌, ℕ, zero, suc, true, false, List, [], ◌∷◌, ◌++◌}
+use Rattle.std.proofs.Common.{Option, Some, None, ap, append-nil, append_assoc, arith, flat_map}
 use Rattle.std.proofs.Common.{inl, inr, length, length-append, refl, slice_get, subst, sym, take}
 use Rattle.std.proofs.lemmas.Bool.{cases_Bool, cond-true, cond-false}
 use Rattle.std.proofs.lemmas.Grind.{flat_map-append}
-use Rattle.std.proofs.lemmas.List.{get_or_append_left, take-append-le}
+use Rattle.std.proofs.lemmas.List.{take-append-le}
 use Rattle.std.proofs.lemmas.List.Elements.{filter-append}
-use Rattle.std.proofs.lemmas.Option.{slice_get-get_or, slice_get_past}
 use Rattle.std.specs.Io.KnownBytes.{Appends}
 use Rattle.std.proofs.KnownBytes.{Appends-nil}
-use Rattle.j39_device.specs.Device.{AppendsFront}
 use Rattle.j39_frame.specs.Frame.{FrameRecord}
 use Rattle.j39_groups.specs.Row.{RowRecord}
 use Rattle.j39_listen.specs.AccountSteps.{Begins, MakesOne, Meets, Stops}
 use Rattle.j39_listen.specs.Counting.{capped}
-use Rattle.j39_listen.specs.Heard.{AreHeardWith, Hearing, HeardAtWith, LeavesNetwork, or_none}
+use Rattle.j39_listen.specs.Heard.{AreHeardWith, Hearing, LeavesNetwork, or_none}
 use Rattle.j39_listen.specs.Listening.{Hears}
 use Rattle.j39_listen.specs.Output.{Output}
 use Rattle.j39_listen.specs.ReportSteps.{made_of, made_sum}
 use Rattle.j39_listen.specs.declared.counts.Made.{Made}
-use Rattle.j39_listen.specs.declared.listener.Listener.{Listener}
 use Rattle.j39_listen.proofs.Causal.{heard_more}
-use Rattle.j39_listen.proofs.LineLemmas.{capped-fits, capped-sum}
+use Rattle.j39_listen.proofs.LineLemmas.{capped-sum}
 use Rattle.j39_listen.proofs.ReportAccount.{same_made}
 use Rattle.j39_listen.proofs.Unique.{heard_below_unique, heard_first}
-use Rattle.j39_fault_news.specs.Faults.{Fault, fault_line, faults_in, faults_text}
+use Rattle.j39_fault_news.specs.Faults.{Fault, faults_in}
 use Rattle.j39_fault_news.specs.News.{faults_among, is_fault_group, is_of_faults, told, told_below, told_here}
-use Rattle.j39_fault_news.specs.Output.{MakesFaults, faults_of}
+use Rattle.j39_fault_news.specs.Output.{MakesFaults, MakesFaultsIn, faults_of}
+use Rattle.j39_fault_news.specs.Records.{fault_in, faults_text}
 use Rattle.j39_fault_news.specs.Remembered.{Remembers}
-use Rattle.j39_fault_news.specs.Steps.{HasTold, MeetsFrame, StopsFrame, Subject, Tells, TellsFront, added, told_next}
+use Rattle.j39_fault_news.specs.Steps.{HasTold, MeetsFrame, StopsFrame, Subject, Tells, added, told_next}
 use Rattle.j39_fault_news.specs.declared.account.FaultNews.{FaultNews}
+use Rattle.j39_fault_news.specs.declared.form.FaultForm.{FaultForm}
+use Rattle.j39_fault_news.specs.declared.form.FaultForm.TheVariants.{Line}
+use Rattle.j39_fault_news.specs.declared.form.Writing.{Writing}
 use Rattle.j39_fault_news.specs.declared.last_said.LastSaid.{LastSaid}
 use Rattle.j39_fault_news.specs.declared.telling.Telling.{Telling}
 
 -- ---- the texts
 
-pub faults_text-append : (rows : List RowRecord) (xs ys : List Fault) → faults_text rows (xs ++ ys) ≡ faults_text rows xs ++ faults_text rows ys
+pub faults_text-append : (form : FaultForm) (rows : List RowRecord) (xs ys : List Fault) → faults_text form rows (xs ++ ys) ≡ faults_text form rows xs ++ faults_text form rows ys
 unfolding faults_text
-faults_text-append rows xs ys = flat_map-append (fault_line rows) xs ys
+faults_text-append form rows xs ys = flat_map-append (fault_in form rows) xs ys
 
-pub faults_text-none : (rows : List RowRecord) → faults_text rows [] ≡ []
+pub faults_text-none : (form : FaultForm) (rows : List RowRecord) → faults_text form rows [] ≡ []
 unfolding faults_text
-faults_text-none rows = refl
+faults_text-none form rows = refl
 
 told_none : (which : Telling) → told which [] ≡ []
 unfolding told_below
 told_none which = refl
 
-pub none_told : (rows : List RowRecord) (which : Telling) → (faults_of rows which []).text ≡ []
-none_told rows which = ap (λ ms. faults_text rows (flat_map faults_in ms)) (told_none which) ∙ faults_text-none rows
+pub none_told : (form : FaultForm) (rows : List RowRecord) (which : Telling) → (faults_of form rows which []).text ≡ []
+none_told form rows which = ap (λ ms. faults_text form rows (flat_map faults_in ms)) (told_none which) ∙ faults_text-none form rows
 
-pub none_made : (rows : List RowRecord) (which : Telling) → (record { messages = 0; lines = 0 }) ≡ made_of (faults_of rows which [])
-none_made rows which = same_made _ _ refl (sym (ap (λ (ms : List Hearing). capped (length (flat_map faults_in ms))) (told_none which)))
+pub none_made : (form : FaultForm) (rows : List RowRecord) (which : Telling) → (record { messages = 0; lines = 0 }) ≡ made_of (faults_of form rows which [])
+none_made form rows which = same_made _ _ refl (sym (ap (λ (ms : List Hearing). capped (length (flat_map faults_in ms))) (told_none which)))
 
 -- ---- the messages told: of the first messages first
 
@@ -124,27 +125,27 @@ told_more which ms (Some h) = elim (cases_Bool (is_of_faults h)) [
       ∙ ap (λ x. told which ms ++ x) (sym (next_no which ms h isnt))
 ]
 
-module _ (rows : List RowRecord) (which : Telling) (ms : List Hearing) (o : Option Hearing) where
+module _ (form : FaultForm) (rows : List RowRecord) (which : Telling) (ms : List Hearing) (o : Option Hearing) where
   faults_more : flat_map faults_in (told which (ms ++ faults_among (or_none o))) ≡ flat_map faults_in (told which ms) ++ flat_map faults_in (told_next which ms o)
   faults_more = ap (flat_map faults_in) (told_more which ms o) ∙ flat_map-append faults_in (told which ms) (told_next which ms o)
 
-  text_more : (faults_of rows which (ms ++ faults_among (or_none o))).text ≡ (faults_of rows which ms).text ++ (added rows which ms o).text
-  text_more = ap (faults_text rows) faults_more ∙ faults_text-append rows (flat_map faults_in (told which ms)) (flat_map faults_in (told_next which ms o))
+  text_more : (faults_of form rows which (ms ++ faults_among (or_none o))).text ≡ (faults_of form rows which ms).text ++ (added form rows which ms o).text
+  text_more = ap (faults_text form rows) faults_more ∙ faults_text-append form rows (flat_map faults_in (told which ms)) (flat_map faults_in (told_next which ms o))
 
-  made_more : made_of (faults_of rows which (ms ++ faults_among (or_none o))) ≡ made_sum (made_of (faults_of rows which ms)) (made_of (added rows which ms o))
+  made_more : made_of (faults_of form rows which (ms ++ faults_among (or_none o))) ≡ made_sum (made_of (faults_of form rows which ms)) (made_of (added form rows which ms o))
   made_more = same_made _ _
       (capped-sum _ _ _ (length-append ms (faults_among (or_none o))))
       (capped-sum _ _ _ (ap length faults_more ∙ length-append (flat_map faults_in (told which ms)) (flat_map faults_in (told_next which ms o))))
 
 -- ---- nothing is told
 
-pub tells_nothing : (rows : List RowRecord) (which : Telling) (last : LastSaid) (ms : List Hearing) (o : Option Hearing) (made : Made) (held : Option (List ℕ))
+pub tells_nothing : (form : FaultForm) (rows : List RowRecord) (which : Telling) (last : LastSaid) (ms : List Hearing) (o : Option Hearing) (made : Made) (held : Option (List ℕ))
     → faults_among (or_none o) ≡ [] → told_next which ms o ≡ [] → Remembers last ms → made.messages ≡ 0 → made.lines ≡ 0
-    → Tells rows which last ms o made held held
-tells_nothing rows which last ms o made held none untold remembers m l = record {
+    → Tells form rows which last ms o made held held
+tells_nothing form rows which last ms o made held none untold remembers m l = record {
   remembers = subst (Remembers last) (sym (ap (λ x. ms ++ x) none ∙ append-nil ms)) remembers;
   made_is = same_made _ _ (m ∙ sym (ap (λ (x : List Hearing). capped (length x)) none)) (l ∙ sym (ap (λ (x : List Hearing). capped (length (flat_map faults_in x))) untold));
-  written = subst (Appends held held) (sym (ap (λ (x : List Hearing). faults_text rows (flat_map faults_in x)) untold ∙ faults_text-none rows)) (Appends-nil held);
+  written = subst (Appends held held) (sym (ap (λ (x : List Hearing). faults_text form rows (flat_map faults_in x)) untold ∙ faults_text-none form rows)) (Appends-nil held);
 }
 
 -- ---- the groups of faults aren't the network's
@@ -157,71 +158,77 @@ faults_leave pgn network = grind arith
 sound : (F : List FrameRecord) (heard : List Hearing) (more : List Hearing) → faults_among (heard ++ more) ≡ faults_among heard ++ faults_among more
 sound F heard more = filter-append is_of_faults heard more
 
-pub news_meets : (s : Subject) (a a' : FaultNews) → a'.groups ≡ a.groups → a'.telling ≡ a.telling → (f : FrameRecord) (made : Made) (old new : Option (List ℕ))
-    → ((F : List FrameRecord) (ms : List Hearing) → Hears a.listener F → Remembers a.last ms → MeetsFrame a.groups.now a.telling a'.listener a'.last F f ms made old new)
-    → a'.made ≡ made_sum a.made made → Meets (HasTold s) a a' (f ∷ []) old new
-news_meets s a a' groups telling f made old new meets sum = λ F before has.
+pub news_meets : (form : FaultForm) (s : Subject) (a a' : FaultNews) → a'.writing ≡ a.writing → a'.telling ≡ a.telling → (f : FrameRecord) (made : Made) (old new : Option (List ℕ))
+    → ((F : List FrameRecord) (ms : List Hearing) → Hears a.listener F → Remembers a.last ms → MeetsFrame a.writing.form a.writing.groups.now a.telling a'.listener a'.last F f ms made old new)
+    → a'.made ≡ made_sum a.made made → Meets (HasTold form s) a a' (f ∷ []) old new
+news_meets form s a a' writing telling f made old new meets sum = λ F before has.
     let ms = faults_among has.heard in
-    let met = subst (λ (t : Telling). MeetsFrame s.rows t a'.listener a'.last F f ms made old new) has.telling_is
-    (subst (λ (rows : List RowRecord). MeetsFrame rows a.telling a'.listener a'.last F f ms made old new) has.by (meets F ms has.hears has.remembers)) in
+    let met = subst (λ (t : Telling). MeetsFrame form s.rows t a'.listener a'.last F f ms made old new) has.telling_is
+    (subst (λ (rows : List RowRecord). MeetsFrame form rows a.telling a'.listener a'.last F f ms made old new) has.by
+    (subst (λ (form : FaultForm). MeetsFrame form a.writing.groups.now a.telling a'.listener a'.last F f ms made old new) has.form_is (meets F ms has.hears has.remembers))) in
     let heard = has.heard ++ or_none met.heard in
     let are = sound F has.heard (or_none met.heard) in
     record {
-      after = faults_of s.rows s.which (faults_among heard);
+      after = faults_of form s.rows s.which (faults_among heard);
       met = record {
-        by = ap (λ (x : Bor (List RowRecord)). x.now) groups ∙ has.by;
+        form_is = ap (λ (x : Writing). x.form) writing ∙ has.form_is;
+        by = ap (λ (x : Writing). x.groups.now) writing ∙ has.by;
         telling_is = telling ∙ has.telling_is;
         heard = heard;
         are_heard = heard_more is_fault_group F f has.heard met.heard has.are_heard met.heard_at;
         output_is = refl;
         hears = met.hears;
         remembers = subst (Remembers a'.last) (sym are) met.tells.remembers;
-        made_is = sum ∙ ap (λ (x : Made). made_sum x made) (has.made_is ∙ ap made_of has.output_is) ∙ ap (made_sum (made_of (faults_of s.rows s.which ms))) met.tells.made_is
-            ∙ sym (made_more s.rows s.which ms met.heard) ∙ sym (ap (λ (x : List Hearing). made_of (faults_of s.rows s.which x)) are);
+        made_is = sum ∙ ap (λ (x : Made). made_sum x made) (has.made_is ∙ ap made_of has.output_is) ∙ ap (made_sum (made_of (faults_of form s.rows s.which ms))) met.tells.made_is
+            ∙ sym (made_more form s.rows s.which ms met.heard) ∙ sym (ap (λ (x : List Hearing). made_of (faults_of form s.rows s.which x)) are);
       };
-      more = (added s.rows s.which ms met.heard).text;
-      text_is = ap (λ (x : List Hearing). (faults_of s.rows s.which x).text) are ∙ text_more s.rows s.which ms met.heard
-          ∙ ap (λ t. t ++ (added s.rows s.which ms met.heard).text) (sym (ap (λ (o : Output). o.text) has.output_is));
+      more = (added form s.rows s.which ms met.heard).text;
+      text_is = ap (λ (x : List Hearing). (faults_of form s.rows s.which x).text) are ∙ text_more form s.rows s.which ms met.heard
+          ∙ ap (λ t. t ++ (added form s.rows s.which ms met.heard).text) (sym (ap (λ (o : Output). o.text) has.output_is));
       written = met.tells.written;
     }
 
 -- ---- what is told of the first frames comes first
 
-texts : (rows : List RowRecord) (which : Telling) (bus : List ℕ) (F G : List FrameRecord) (first : List Hearing) (before all : Output) → AreHeardWith is_fault_group F first
-    → before ≡ faults_of rows which (faults_among first) → MakesFaults rows which bus (F ++ G) all → (rest : List ℕ) × (all.text ≡ before.text ++ rest)
-texts rows which bus F G first before all are is (heard, are_all, all_is) =
+texts : (form : FaultForm) (rows : List RowRecord) (which : Telling) (bus : List ℕ) (F G : List FrameRecord) (first : List Hearing) (before all : Output) → AreHeardWith is_fault_group F first
+    → before ≡ faults_of form rows which (faults_among first) → MakesFaultsIn form rows which bus (F ++ G) all → (rest : List ℕ) × (all.text ≡ before.text ++ rest)
+texts form rows which bus F G first before all are is (heard, are_all, all_is) =
     let split = heard_first is_fault_group faults_leave F G heard first are_all are in
     let among = ap faults_among split.1 ∙ sound F first split.0 in
     let t = told_begins which (faults_among first) (faults_among split.0) in (
-      faults_text rows (flat_map faults_in t.0),
-      ap (λ (o : Output). o.text) all_is ∙ ap (λ (x : List Hearing). faults_text rows (flat_map faults_in (told which x))) among
-          ∙ ap (λ (x : List Hearing). faults_text rows (flat_map faults_in x)) t.1 ∙ ap (faults_text rows) (flat_map-append faults_in (told which (faults_among first)) t.0)
-          ∙ faults_text-append rows (flat_map faults_in (told which (faults_among first))) (flat_map faults_in t.0)
-          ∙ ap (λ x. x ++ faults_text rows (flat_map faults_in t.0)) (sym (ap (λ (o : Output). o.text) is)),
+      faults_text form rows (flat_map faults_in t.0),
+      ap (λ (o : Output). o.text) all_is ∙ ap (λ (x : List Hearing). faults_text form rows (flat_map faults_in (told which x))) among
+          ∙ ap (λ (x : List Hearing). faults_text form rows (flat_map faults_in x)) t.1 ∙ ap (faults_text form rows) (flat_map-append faults_in (told which (faults_among first)) t.0)
+          ∙ faults_text-append form rows (flat_map faults_in (told which (faults_among first))) (flat_map faults_in t.0)
+          ∙ ap (λ x. x ++ faults_text form rows (flat_map faults_in t.0)) (sym (ap (λ (o : Output). o.text) is)),
     )
 
-pub news_begins : (s : Subject) → Begins (λ bus. HasTold s) (MakesFaults s.rows s.which)
-news_begins s = λ bus a F G before all has made. texts s.rows s.which bus F G has.heard before all has.are_heard has.output_is made
+pub news_begins : (form : FaultForm) (s : Subject) → Begins (λ bus. HasTold form s) (MakesFaultsIn form s.rows s.which)
+news_begins form s = λ bus a F G before all has made. texts form s.rows s.which bus F G has.heard before all has.are_heard has.output_is made
 
-pub news_one : (s : Subject) → MakesOne (MakesFaults s.rows s.which)
-news_one s = λ bus F x y (hs, are_x, is_x) (ks, are_y, is_y).
-    ap (λ (o : Output). o.text) is_x ∙ ap (λ (ms : List Hearing). (faults_of s.rows s.which (faults_among ms)).text) (heard_below_unique is_fault_group faults_leave F (length F) hs ks are_x are_y)
+pub news_one_in : (form : FaultForm) (s : Subject) → MakesOne (MakesFaultsIn form s.rows s.which)
+news_one_in form s = λ bus F x y (hs, are_x, is_x) (ks, are_y, is_y).
+    ap (λ (o : Output). o.text) is_x ∙ ap (λ (ms : List Hearing). (faults_of form s.rows s.which (faults_among ms)).text) (heard_below_unique is_fault_group faults_leave F (length F) hs ks are_x are_y)
     ∙ sym (ap (λ (o : Output). o.text) is_y)
 
+pub news_one : (s : Subject) → MakesOne (MakesFaults s.rows s.which)
+news_one s = news_one_in Line s
+
 -- a fault of the writer at a frame
-pub news_stops : (s : Subject) (a : FaultNews) (f : FrameRecord) (old new : Option (List ℕ))
-    → ((F : List FrameRecord) (ms : List Hearing) → Hears a.listener F → Remembers a.last ms → StopsFrame a.groups.now a.telling F f ms old new)
-    → (bus : List ℕ) → Stops (HasTold s) (MakesFaults s.rows s.which bus) a (f ∷ []) old new
-news_stops s a f old new stops bus = λ F G before all has made.
+pub news_stops : (form : FaultForm) (s : Subject) (a : FaultNews) (f : FrameRecord) (old new : Option (List ℕ))
+    → ((F : List FrameRecord) (ms : List Hearing) → Hears a.listener F → Remembers a.last ms → StopsFrame a.writing.form a.writing.groups.now a.telling F f ms old new)
+    → (bus : List ℕ) → Stops (HasTold form s) (MakesFaultsIn form s.rows s.which bus) a (f ∷ []) old new
+news_stops form s a f old new stops bus = λ F G before all has made.
     let ms = faults_among has.heard in
-    let stop = subst (λ (t : Telling). StopsFrame s.rows t F f ms old new) has.telling_is
-    (subst (λ (rows : List RowRecord). StopsFrame rows a.telling F f ms old new) has.by (stops F ms has.hears has.remembers)) in
-    let here = (added s.rows s.which ms stop.heard).text in
+    let stop = subst (λ (t : Telling). StopsFrame form s.rows t F f ms old new) has.telling_is
+    (subst (λ (rows : List RowRecord). StopsFrame form rows a.telling F f ms old new) has.by
+    (subst (λ (form : FaultForm). StopsFrame form a.writing.groups.now a.telling F f ms old new) has.form_is (stops F ms has.hears has.remembers))) in
+    let here = (added form s.rows s.which ms stop.heard).text in
     let first = has.heard ++ or_none stop.heard in
-    let t = texts s.rows s.which bus (F ++ f ∷ []) G first (faults_of s.rows s.which (faults_among first)) all (heard_more is_fault_group F f has.heard stop.heard has.are_heard stop.heard_at) refl made in
+    let t = texts form s.rows s.which bus (F ++ f ∷ []) G first (faults_of form s.rows s.which (faults_among first)) all (heard_more is_fault_group F f has.heard stop.heard has.are_heard stop.heard_at) refl made in
     let is : all.text ≡ before.text ++ (here ++ t.0) =
-    t.1 ∙ ap (λ x. x ++ t.0) (ap (λ (x : List Hearing). (faults_of s.rows s.which x).text) (sound F has.heard (or_none stop.heard)) ∙ text_more s.rows s.which ms stop.heard)
-    ∙ append_assoc (faults_of s.rows s.which ms).text here t.0 ∙ ap (λ x. x ++ (here ++ t.0)) (sym (ap (λ (o : Output). o.text) has.output_is)) in
+    t.1 ∙ ap (λ x. x ++ t.0) (ap (λ (x : List Hearing). (faults_of form s.rows s.which x).text) (sound F has.heard (or_none stop.heard)) ∙ text_more form s.rows s.which ms stop.heard)
+    ∙ append_assoc (faults_of form s.rows s.which ms).text here t.0 ∙ ap (λ x. x ++ (here ++ t.0)) (sym (ap (λ (o : Output). o.text) has.output_is)) in
     record {
       rest = here ++ t.0;
       all_is = is;

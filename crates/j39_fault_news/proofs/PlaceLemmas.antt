@@ -1,5 +1,5 @@
 -- The places where what was said is stored.
-use Rattle.std.proofs.Common.{◌≡◌, ◌∙◌, ◌<◌, ℕ, zero, suc, List, ◌∷◌, Option, Some, None, refl, ap, map, slice_set}
+use Rattle.std.proofs.Common.{◌≡◌, ◌∙◌, ◌<◌, ℕ, zero, suc, List, ◌∷◌, Option, Some, None, refl, ap, slice_set}
 use Rattle.std.proofs.Common.{slice_index_or, length, replicate, set-set}
 use Rattle.std.proofs.lemmas.List.{map-set, get_or-map}
 use Rattle.j39_store.specs.declared.Stored.{Stored}

@@ -2,7 +2,7 @@
 use Rattle.std.proofs.Common.{◌≡◌, ◌∙◌, ◌<◌, ◌≤◌, ◌^◌, ◌&&◌, ℕ, Bool, true, false, List, [], ◌∷◌, ◌++◌, Option, Some}
 use Rattle.std.proofs.Common.{None, ap, append-nil, arith, flat_map, if◌then◌else◌, is_some, length, nat_le, refl}
 use Rattle.std.proofs.Common.{subst, sym}
-use Rattle.std.proofs.lemmas.Bool.{cases_Bool, cond-true, cond-false, le-leb}
+use Rattle.std.proofs.lemmas.Bool.{le-leb}
 use Rattle.std.specs.Io.KnownBytes.{Appends}
 use Rattle.j39_device.specs.Device.{AppendsFront}
 use Rattle.j39_faults.specs.Kinds.{kind_of}
@@ -12,15 +12,16 @@ use Rattle.j39_faults.specs.declared.lamps.Lamps.{Lamps}
 use Rattle.j39_groups.specs.Row.{RowRecord}
 use Rattle.j39_listen.specs.Counting.{capped}
 use Rattle.j39_listen.specs.Heard.{Hearing}
-use Rattle.j39_listen.specs.ReportSteps.{made_of}
 use Rattle.j39_listen.specs.declared.counts.Made.{Made}
 use Rattle.j39_listen.proofs.LineLemmas.{capped-fits}
 use Rattle.j39_listen.proofs.ReportAccount.{same_made}
-use Rattle.j39_fault_news.specs.Faults.{Fault, faults_by, faults_in, faults_text}
-use Rattle.j39_fault_news.specs.News.{faults_among, is_fault_group, is_news, is_of_faults, is_told}
+use Rattle.j39_fault_news.specs.Faults.{Fault, faults_by, faults_in}
+use Rattle.j39_fault_news.specs.News.{is_news, is_of_faults, is_told}
+use Rattle.j39_fault_news.specs.Records.{faults_text}
 use Rattle.j39_fault_news.specs.Remembered.{Notes, Remembers, said_at, said_in}
 use Rattle.j39_fault_news.specs.Said.{differs}
-use Rattle.j39_fault_news.specs.Steps.{Tells, TellsFront, added, told_faults, told_next}
+use Rattle.j39_fault_news.specs.Steps.{Tells, TellsFront, told_faults, told_next}
+use Rattle.j39_fault_news.specs.declared.form.FaultForm.{FaultForm}
 use Rattle.j39_fault_news.specs.declared.last_said.LastSaid.{LastSaid}
 use Rattle.j39_fault_news.specs.declared.telling.Telling.{Telling}
 use Rattle.j39_fault_news.proofs.AccountLemmas.{among_no, among_yes, next_no, next_yes, tells_nothing}
@@ -49,14 +50,14 @@ no_lamps h kind k l = ap (λ (o : Option Kind). is_some o && nat_le 2 (length h.
 
 -- ---- no message of faults
 
-pub tells_other : (rows : List RowRecord) (which : Telling) (last : LastSaid) (ms : List Hearing) (h : Hearing) (made : Made) (held : Option (List ℕ))
-    → is_of_faults h ≡ false → Remembers last ms → made.messages ≡ 0 → made.lines ≡ 0 → Tells rows which last ms (Some h) made held held
-tells_other rows which last ms h made held other remembers m l =
-    tells_nothing rows which last ms (Some h) made held (among_no h other) (next_no which ms h other) remembers m l
+pub tells_other : (form : FaultForm) (rows : List RowRecord) (which : Telling) (last : LastSaid) (ms : List Hearing) (h : Hearing) (made : Made) (held : Option (List ℕ))
+    → is_of_faults h ≡ false → Remembers last ms → made.messages ≡ 0 → made.lines ≡ 0 → Tells form rows which last ms (Some h) made held held
+tells_other form rows which last ms h made held other remembers m l =
+    tells_nothing form rows which last ms (Some h) made held (among_no h other) (next_no which ms h other) remembers m l
 
 -- ---- one that is told, or not
 
-module _ (rows : List RowRecord) (which : Telling) (last : LastSaid) (ms : List Hearing) (h : Hearing) (kind : Kind) (lamps : Lamps)
+module _ (form : FaultForm) (rows : List RowRecord) (which : Telling) (last : LastSaid) (ms : List Hearing) (h : Hearing) (kind : Kind) (lamps : Lamps)
     (k : kind_of h.message.pgn ≡ Some kind) (l : lamps_of h.message.bytes ≡ Some lamps) (below : h.message.source < 256) (remembers : Remembers last ms) where
   faults_are : faults_in h ≡ faults_by h (Some kind) (Some lamps)
   faults_are = ap (λ (o : Option Kind). faults_by h o (lamps_of h.message.bytes)) k ∙ ap (λ (o : Option Lamps). faults_by h (Some kind) o) l
@@ -76,7 +77,7 @@ module _ (rows : List RowRecord) (which : Telling) (last : LastSaid) (ms : List 
   pub tells_message : (last' : LastSaid) (t n : Bool) (made : Made) (old new : Option (List ℕ)) → n ≡ differs (said_at last kind h.message.source) h.message.bytes h.name
       → t ≡ is_told which n → length h.message.bytes ≤ 1785 → Notes last kind h.message.source (said_in h) last'
       → made.messages ≡ 1 → made.lines ≡ length (told_faults t (faults_by h (Some kind) (Some lamps))) → made.lines < 2 ^ 64
-      → Appends old new (faults_text rows (told_faults t (faults_by h (Some kind) (Some lamps)))) → Tells rows which last' ms (Some h) made old new
+      → Appends old new (faults_text form rows (told_faults t (faults_by h (Some kind) (Some lamps)))) → Tells form rows which last' ms (Some h) made old new
   tells_message last' t n made old new news is short notes messages lines fits written =
       let next = next_faults t n news is in
       let among = among_yes h (of_faults h kind lamps k l) in
@@ -84,9 +85,9 @@ module _ (rows : List RowRecord) (which : Telling) (last : LastSaid) (ms : List 
         remembers = subst (λ (x : List Hearing). Remembers last' (ms ++ x)) (sym among) (remembers_more last last' ms h kind k short notes remembers);
         made_is = same_made _ _ (messages ∙ sym (ap (λ (x : List Hearing). capped (length x)) among))
             (sym (ap (λ (x : List Fault). capped (length x)) next ∙ ap capped (sym lines) ∙ capped-fits made.lines fits));
-        written = subst (Appends old new) (sym (ap (faults_text rows) next)) written;
+        written = subst (Appends old new) (sym (ap (faults_text form rows) next)) written;
       }
 
   pub tells_front : (t n : Bool) (old new : Option (List ℕ)) → n ≡ differs (said_at last kind h.message.source) h.message.bytes h.name → t ≡ is_told which n
-      → AppendsFront old new (faults_text rows (told_faults t (faults_by h (Some kind) (Some lamps)))) → TellsFront rows which ms (Some h) old new
-  tells_front t n old new news is front = subst (AppendsFront old new) (sym (ap (faults_text rows) (next_faults t n news is))) front
+      → AppendsFront old new (faults_text form rows (told_faults t (faults_by h (Some kind) (Some lamps)))) → TellsFront form rows which ms (Some h) old new
+  tells_front t n old new news is front = subst (AppendsFront old new) (sym (ap (faults_text form rows) (next_faults t n news is))) front

@@ -1,7 +1,7 @@
 -- What was said last, and what of it is news.
 use Rattle.std.proofs.Common.{◌≡◌, ◌≢◌, ◌∙◌, ◌<◌, ◌≤◌, ◌==◌, ◌&&◌, not, ℕ, Bool, true, false, List, [], ◌∷◌, ◌++◌}
-use Rattle.std.proofs.Common.{Option, Some, None, ap, append-nil, arith, bytes_eq, filter, if◌then◌else◌, length}
-use Rattle.std.proofs.Common.{option_map, refl, replicate, length-set, inl, inr, slice_index_or, slice_set, subst, sym}
+use Rattle.std.proofs.Common.{Option, Some, None, ap, append-nil, arith, bytes_eq, filter, length}
+use Rattle.std.proofs.Common.{option_map, refl, replicate, length-set, inl, inr, slice_set, subst, sym}
 use Rattle.std.proofs.Common.{take, take_all}
 use Rattle.std.specs.Bool.{⊤}
 use Rattle.std.proofs.lemmas.Bool.{cases_Bool, cases_eq, cond-true, cond-false, eq-eqb, ne_eqb}

@@ -1,6 +1,5 @@
 -- What is told of a message of faults, and its text (own).
-use Rattle.std.specs.Prelude.{◌≡◌, ◌++◌, ℕ, List, [], ◌∷◌, Option, Some, None, codes, map}
-use Rattle.std.specs.List.{flat_map}
+use Rattle.std.specs.Prelude.{◌++◌, ℕ, List, [], ◌∷◌, Option, Some, None, codes, map}
 use Rattle.hex.specs.Hex.{encode_upper}
 use Rattle.j39_faults.specs.Codes.{codes_of}
 use Rattle.j39_faults.specs.Kinds.{kind_of}
@@ -67,6 +66,3 @@ said_text rows kind lamps (Some code) = code_text kind lamps (name_in rows code)
 -- the line of a fault, with its newline
 unfoldable pub fault_line : List RowRecord → Fault → List ℕ
 fault_line rows f = head_text f.stamp f.address f.name ++ said_text rows f.kind f.lamps f.code ++ (newline ∷ [])
-
-unfoldable pub faults_text : List RowRecord → List Fault → List ℕ
-faults_text rows faults = flat_map (fault_line rows) faults

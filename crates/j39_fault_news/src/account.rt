@@ -10,19 +10,20 @@ ghost use Rattle.j39_listen.specs.Listening.{Hears};
 ghost use Rattle.j39_listen.specs.Shown.{hearing_of};
 ghost use Rattle.j39_listen.specs.declared.account.LineFault.TheVariants as line_fault;
 ghost use Rattle.j39_fault_news.specs.Asking.{AsksForFaults};
-ghost use Rattle.j39_fault_news.specs.Faults.{faults_by, faults_text};
+ghost use Rattle.j39_fault_news.specs.Faults.{faults_by};
 ghost use Rattle.j39_fault_news.specs.News.{faults_among, is_fault_group, is_of_faults, is_told, last_from};
 ghost use Rattle.j39_fault_news.specs.Output.{faults_of};
+ghost use Rattle.j39_fault_news.specs.Records.{faults_text};
 ghost use Rattle.j39_fault_news.specs.Remembered.{Remembers};
 ghost use Rattle.j39_fault_news.specs.Steps.{HasTold, MeetsFrame, StopsFrame, Tells, TellsFront, told_faults};
 
+use crate::form::Writing;
 use crate::last_said::LastSaid;
 use crate::lines::put_message;
 use crate::telling::Telling;
 use j39_device::{DeviceFault, Sink};
 use j39_faults::{Kind, Lamps, fault_group, lamps_of};
 use j39_frame::Frame;
-use j39_groups::Groups;
 use j39_listen::{Account, Heard, LineFault, Listener, Made};
 use j39_log::Bus;
 use std::alloc::{AllocError, Global};
@@ -31,7 +32,7 @@ use std::alloc::{AllocError, Global};
 #[derive(Drop)]
 pub(crate) struct FaultNews<'g, 't> {
     alloc: Global,
-    groups: &'g Groups<'t>,
+    writing: Writing<'g, 't>,
     telling: Telling,
     listener: Listener,
     last: LastSaid,
@@ -40,13 +41,17 @@ pub(crate) struct FaultNews<'g, 't> {
 
 impl<'g, 't> FaultNews<'g, 't> {
     /// The faults of no frames.
-    pub(crate) fn new(alloc: Global, groups: &'g Groups<'t>, telling: Telling) -> FaultNews<'g, 't>
-        ensures { HasTold (record { rows = groups.entry.now; which = telling }) result []
-            (faults_of groups.entry.now telling []) }
+    pub(crate) fn new(
+        alloc: Global,
+        writing: Writing<'g, 't>,
+        telling: Telling,
+    ) -> FaultNews<'g, 't>
+        ensures { HasTold writing.entry.form (record { rows = writing.entry.groups.now; which = telling }) result []
+            (faults_of writing.entry.form writing.entry.groups.now telling []) }
     {
         FaultNews {
             alloc,
-            groups,
+            writing,
             telling,
             listener: Listener::new(alloc),
             last: LastSaid::new(),
@@ -58,14 +63,15 @@ impl<'g, 't> FaultNews<'g, 't> {
 impl<'g, 't> Account for FaultNews<'g, 't> {
     ghost use Rattle.j39_listen.specs.AccountSteps.{Begins, MakesOne};
     ghost use Rattle.j39_fault_news.specs.Asking.{AsksForFaults};
-    ghost use Rattle.j39_fault_news.specs.Output.{MakesFaults};
+    ghost use Rattle.j39_fault_news.specs.Output.{MakesFaultsIn};
     ghost use Rattle.j39_fault_news.specs.Steps.{HasTold, Subject};
+    ghost use Rattle.j39_fault_news.specs.declared.form.FaultForm.{FaultForm};
 
-    ghost Subject = { Subject };
+    ghost Subject = { FaultForm × Subject };
 
-    ghost has_met = { λ subject bus. HasTold subject };
+    ghost has_met = { λ subject bus. HasTold subject.0 subject.1 };
 
-    ghost makes = { λ subject. MakesFaults subject.rows subject.which };
+    ghost makes = { λ subject. MakesFaultsIn subject.0 subject.1.rows subject.1.which };
 
     ghost asks = { λ subject. AsksForFaults };
 
@@ -73,7 +79,7 @@ impl<'g, 't> Account for FaultNews<'g, 't> {
         match put_frame(
             self.alloc,
             &mut self.listener,
-            self.groups,
+            self.writing,
             self.telling,
             &mut self.last,
             frame,
@@ -92,9 +98,10 @@ impl<'g, 't> Account for FaultNews<'g, 't> {
     }
 
     fn laws()
-        ensures begins { (subject : Subject)
-            → Begins (λ bus. HasTold subject) (MakesFaults subject.rows subject.which) }
-        ensures one { (subject : Subject) → MakesOne (MakesFaults subject.rows subject.which) }
+        ensures begins { (subject : FaultForm × Subject)
+            → Begins (λ bus. HasTold subject.0 subject.1) (MakesFaultsIn subject.0 subject.1.rows subject.1.which) }
+        ensures one { (subject : FaultForm × Subject)
+            → MakesOne (MakesFaultsIn subject.0 subject.1.rows subject.1.which) }
     {}
 }
 
@@ -102,18 +109,19 @@ impl<'g, 't> Account for FaultNews<'g, 't> {
 fn put_frame<W: Sink>(
     alloc: Global,
     listener: &mut Listener,
-    groups: &Groups<'_>,
+    writing: Writing<'_, '_>,
     telling: Telling,
     last: &mut LastSaid,
     frame: &Frame,
     sink: &mut W,
 ) -> Result<Made, LineFault>
     ensures met { IfOk result (λ made. (F : List FrameRecord) (ms : List Hearing) → Hears listener.old F
-        → Remembers last.old ms → MeetsFrame groups.now telling listener.new last.new F frame.now ms made
-        (W.held sink.old) (W.held sink.new)) }
+        → Remembers last.old ms → MeetsFrame writing.entry.form writing.entry.groups.now telling listener.new last.new
+        F frame.now ms made (W.held sink.old) (W.held sink.new)) }
     ensures write { result ≡ Err line_fault.Write → W.has_failed sink.new ≡ true }
     ensures stops { result ≡ Err line_fault.Write → (F : List FrameRecord) (ms : List Hearing) → Hears listener.old F
-        → Remembers last.old ms → StopsFrame groups.now telling F frame.now ms (W.held sink.old) (W.held sink.new) }
+        → Remembers last.old ms → StopsFrame writing.entry.form writing.entry.groups.now telling F frame.now ms
+        (W.held sink.old) (W.held sink.new) }
     ensures memory { result ≡ Err line_fault.Memory → W.held sink.new ≡ W.held sink.old }
     ensures asked { result ≡ Err line_fault.Memory → (F : List FrameRecord) (heard : List Hearing)
         → Hears listener.old F → AreHeardWith is_fault_group F heard → Remembers last.old (faults_among heard)
@@ -124,7 +132,7 @@ fn put_frame<W: Sink>(
     match listener.feed_as(is_single, frame) {
         Err(AllocError) => Err(LineFault::Memory),
         Ok(None) => Ok(Made::default()),
-        Ok(Some(heard)) => put_heard(alloc, &heard, groups, telling, last, sink),
+        Ok(Some(heard)) => put_heard(alloc, &heard, writing, telling, last, sink),
     }
 }
 
@@ -132,18 +140,20 @@ fn put_frame<W: Sink>(
 fn put_heard<W: Sink>(
     alloc: Global,
     heard: &Heard<'_>,
-    groups: &Groups<'_>,
+    writing: Writing<'_, '_>,
     telling: Telling,
     last: &mut LastSaid,
     sink: &mut W,
 ) -> Result<Made, LineFault>
     ensures met { IfOk result (λ made. (ms : List Hearing) → Remembers last.old ms
         → length heard.now.message.payload.now ≤ 1785
-        → Tells groups.now telling last.new ms (Some (hearing_of heard.now)) made (W.held sink.old) (W.held sink.new)) }
+        → Tells writing.entry.form writing.entry.groups.now telling last.new ms (Some (hearing_of heard.now)) made
+        (W.held sink.old) (W.held sink.new)) }
     ensures write { result ≡ Err line_fault.Write → W.has_failed sink.new ≡ true }
     ensures stops { result ≡ Err line_fault.Write → (ms : List Hearing) → Remembers last.old ms
         → length heard.now.message.payload.now ≤ 1785
-        → TellsFront groups.now telling ms (Some (hearing_of heard.now)) (W.held sink.old) (W.held sink.new) }
+        → TellsFront writing.entry.form writing.entry.groups.now telling ms (Some (hearing_of heard.now))
+        (W.held sink.old) (W.held sink.new) }
     ensures memory { result ≡ Err line_fault.Memory → W.held sink.new ≡ W.held sink.old }
     ensures of_faults { result ≡ Err line_fault.Memory → is_of_faults (hearing_of heard.now) ≡ true }
     ensures first { result ≡ Err line_fault.Memory → (ms : List Hearing) → Remembers last.old ms
@@ -159,14 +169,14 @@ fn put_heard<W: Sink>(
     let source = heard.message.source;
     match last.note(alloc, kind, source, heard.message.payload, heard.name) {
         Err(AllocError) => Err(LineFault::Memory),
-        Ok(is_news) => put_told(heard, groups, is_told(telling, is_news), kind, lamps, sink),
+        Ok(is_news) => put_told(heard, writing, is_told(telling, is_news), kind, lamps, sink),
     }
 }
 
 /// Writes the lines of a message of faults where it is told, and answers its numbers.
 fn put_told<W: Sink>(
     heard: &Heard<'_>,
-    groups: &Groups<'_>,
+    writing: Writing<'_, '_>,
     is_told: bool,
     kind: Kind,
     lamps: Lamps,
@@ -176,10 +186,12 @@ fn put_told<W: Sink>(
         × (made.lines ≡ length (told_faults is_told (faults_by (hearing_of heard.now) (Some kind) (Some lamps))))) }
     ensures fits { IfOk result (λ made. made.lines < 2 ^ 64) }
     ensures written { OnOk result (Appends (W.held sink.old) (W.held sink.new)
-        (faults_text groups.now (told_faults is_told (faults_by (hearing_of heard.now) (Some kind) (Some lamps))))) }
+        (faults_text writing.entry.form writing.entry.groups.now
+        (told_faults is_told (faults_by (hearing_of heard.now) (Some kind) (Some lamps))))) }
     ensures write { OnErr result (W.has_failed sink.new ≡ true) }
     ensures front { OnErr result (AppendsFront (W.held sink.old) (W.held sink.new)
-        (faults_text groups.now (told_faults is_told (faults_by (hearing_of heard.now) (Some kind) (Some lamps))))) }
+        (faults_text writing.entry.form writing.entry.groups.now
+        (told_faults is_told (faults_by (hearing_of heard.now) (Some kind) (Some lamps))))) }
     ensures not_memory { result ≢ Err line_fault.Memory }
     ensures unmarked { OnOk result (W.has_failed sink.new ≡ W.has_failed sink.old) }
 {
@@ -189,7 +201,7 @@ fn put_told<W: Sink>(
             lines: 0,
         });
     }
-    match put_message(heard, groups, kind, lamps, sink) {
+    match put_message(heard, writing, kind, lamps, sink) {
         Ok(lines) => Ok(Made { messages: 1, lines }),
         Err(DeviceFault) => Err(LineFault::Write),
     }

@@ -3,13 +3,14 @@ ghost use Rattle.std.specs.Prelude.{◌≡◌, ℕ, List};
 ghost use Rattle.j39_frame.specs.Frame.{FrameRecord};
 ghost use Rattle.j39_groups.specs.Row.{RowRecord};
 ghost use Rattle.j39_listen.specs.Output.{Output};
-ghost use Rattle.j39_fault_news.specs.Output.{MakesFaults};
+ghost use Rattle.j39_fault_news.specs.Output.{MakesFaultsIn};
+ghost use Rattle.j39_fault_news.specs.declared.form.FaultForm.{FaultForm};
 ghost use Rattle.j39_fault_news.specs.declared.telling.Telling.{Telling};
 
-/// Of each list of frames one text of faults is made by each table, with its numbers, and no other.
+/// Of each list of frames one text of faults is made by each table, in each form, with its numbers, and no other.
 pub fn one_text()
-    ensures some { (rows : List RowRecord) (which : Telling) (bus : List ℕ) (F : List FrameRecord)
-        → (output : Output) × MakesFaults rows which bus F output }
-    ensures one { (rows : List RowRecord) (which : Telling) (bus : List ℕ) (F : List FrameRecord) (a b : Output)
-        → MakesFaults rows which bus F a → MakesFaults rows which bus F b → a ≡ b }
+    ensures some { (form : FaultForm) (rows : List RowRecord) (which : Telling) (bus : List ℕ) (F : List FrameRecord)
+        → (output : Output) × MakesFaultsIn form rows which bus F output }
+    ensures one { (form : FaultForm) (rows : List RowRecord) (which : Telling) (bus : List ℕ) (F : List FrameRecord)
+        (a b : Output) → MakesFaultsIn form rows which bus F a → MakesFaultsIn form rows which bus F b → a ≡ b }
 {}

@@ -2,13 +2,16 @@
 #![tactic(auto)]
 
 mod account;
+mod form;
 mod last_said;
 pub mod laws;
 mod lines;
+mod names;
 mod places;
+mod records;
 mod run;
 mod said;
 mod telling;
 
-pub use run::faults;
+pub use run::{faults, faults_csv};
 pub use telling::Telling;

@@ -1,4 +1,4 @@
-//! The lines of a message of faults.
+//! The lines of a message of faults, or its records.
 ghost use Rattle.std.specs.Prelude.{◌≡◌, ◌++◌, ◌∷◌, [], IfOk, None, OnErr, OnOk, Option, Some, codes, length};
 ghost use Rattle.std.specs.Prelude.{option_map};
 ghost use Rattle.std.specs.Io.KnownBytes.{Appends};
@@ -8,10 +8,17 @@ ghost use Rattle.j39_device.specs.Device.{AppendsFront, Marks};
 ghost use Rattle.j39_faults.specs.Codes.{codes_of};
 ghost use Rattle.j39_frame.specs.Stamp.{stamp_micros};
 ghost use Rattle.j39_listen.specs.Shown.{hearing_of};
-ghost use Rattle.j39_fault_news.specs.Faults.{faults_by, faults_text, head_text, name_in, said_text};
-ghost use Rattle.j39_fault_news.specs.Steps.{line_of};
+ghost use Rattle.j39_fault_news.specs.Faults.{faults_by, head_text, said_text};
+ghost use Rattle.j39_fault_news.specs.Records.{faults_text, head_fields};
+ghost use Rattle.j39_fault_news.specs.Steps.{head_in, line_of};
+ghost use Rattle.j39_fault_news.specs.declared.form.FaultForm.TheVariants.{Line, Record};
 
+use crate::form::{FaultForm, Writing};
+use crate::names::name_in;
+use crate::records::put_fields;
 use arrayvec::ArrayVec;
+use j39_address::Name;
+use j39_csv::{push_name, push_seconds, utc_text};
 use j39_device::{DeviceFault, Sink, put_all};
 use j39_faults::{Code, Kind, Lamps, codes_of, put_code, put_no_code};
 use j39_groups::Groups;
@@ -19,28 +26,30 @@ use j39_listen::Heard;
 use j39_log::push_stamp;
 use j39_text::printing::{push_bytes, push_hex};
 
-/// What the lines of a message begin with.
-type Head = ArrayVec<u8, 40>;
+/// What the lines of a message begin with, or its records.
+type Head = ArrayVec<u8, 72>;
 
 /// Writes a line for each code of a message, or one that says that it has none, and answers how many.
 pub(crate) fn put_message<W: Sink>(
     heard: &Heard<'_>,
-    groups: &Groups<'_>,
+    writing: Writing<'_, '_>,
     kind: Kind,
     lamps: Lamps,
     sink: &mut W,
 ) -> Result<u64, DeviceFault>
     ensures lines { IfOk result (λ n. n ≡ length (faults_by (hearing_of heard.now) (Some kind) (Some lamps))) }
     ensures written { OnOk result (Appends (W.held sink.old) (W.held sink.new)
-        (faults_text groups.now (faults_by (hearing_of heard.now) (Some kind) (Some lamps)))) }
+        (faults_text writing.entry.form writing.entry.groups.now
+        (faults_by (hearing_of heard.now) (Some kind) (Some lamps)))) }
     ensures front { OnErr result (AppendsFront (W.held sink.old) (W.held sink.new)
-        (faults_text groups.now (faults_by (hearing_of heard.now) (Some kind) (Some lamps)))) }
+        (faults_text writing.entry.form writing.entry.groups.now
+        (faults_by (hearing_of heard.now) (Some kind) (Some lamps)))) }
     ensures mark { Marks result (W.has_failed sink.old) (W.has_failed sink.new) }
 {
-    let head = head_of(heard);
+    let head = head_of(writing.form, heard);
     let lines = put_codes(
         head.as_slice(),
-        groups,
+        writing,
         kind,
         lamps,
         heard.message.payload,
@@ -49,14 +58,14 @@ pub(crate) fn put_message<W: Sink>(
     if lines > 0 {
         return Ok(lines);
     }
-    put_line(head.as_slice(), groups, kind, lamps, None, sink)?;
+    put_fault(head.as_slice(), writing, kind, lamps, None, sink)?;
     Ok(1)
 }
 
 /// Writes a line for each code, and answers how many.
 fn put_codes<W: Sink>(
     head: &[u8],
-    groups: &Groups<'_>,
+    writing: Writing<'_, '_>,
     kind: Kind,
     lamps: Lamps,
     payload: &[u8],
@@ -64,17 +73,40 @@ fn put_codes<W: Sink>(
 ) -> Result<u64, DeviceFault>
     ensures lines { IfOk result (λ n. n ≡ length (codes_of payload.now)) }
     ensures written { OnOk result (Appends (W.held sink.old) (W.held sink.new)
-        (flat_map (λ code. line_of head.now groups.now kind lamps (Some code)) (codes_of payload.now))) }
+        (flat_map (λ code. line_of writing.entry.form head.now writing.entry.groups.now kind lamps (Some code))
+        (codes_of payload.now))) }
     ensures front { OnErr result (AppendsFront (W.held sink.old) (W.held sink.new)
-        (flat_map (λ code. line_of head.now groups.now kind lamps (Some code)) (codes_of payload.now))) }
+        (flat_map (λ code. line_of writing.entry.form head.now writing.entry.groups.now kind lamps (Some code))
+        (codes_of payload.now))) }
     ensures mark { Marks result (W.has_failed sink.old) (W.has_failed sink.new) }
 {
     let mut lines = 0;
     for code in codes_of(payload) {
-        put_line(head, groups, kind, lamps, Some(code), sink)?;
+        put_fault(head, writing, kind, lamps, Some(code), sink)?;
         lines += 1;
     }
     Ok(lines)
+}
+
+/// Writes the line or the record of a code, or of a message with none.
+fn put_fault<W: Sink>(
+    head: &[u8],
+    writing: Writing<'_, '_>,
+    kind: Kind,
+    lamps: Lamps,
+    code: Option<Code>,
+    sink: &mut W,
+) -> Result<(), DeviceFault>
+    ensures written { OnOk result (Appends (W.held sink.old) (W.held sink.new)
+        (line_of writing.entry.form head.now writing.entry.groups.now kind lamps code)) }
+    ensures front { OnErr result (AppendsFront (W.held sink.old) (W.held sink.new)
+        (line_of writing.entry.form head.now writing.entry.groups.now kind lamps code)) }
+    ensures mark { Marks result (W.has_failed sink.old) (W.has_failed sink.new) }
+{
+    match writing.form {
+        FaultForm::Line => put_line(head, writing.groups, kind, lamps, code, sink),
+        FaultForm::Record => put_record(head, writing.groups, kind, lamps, code, sink),
+    }
 }
 
 /// Writes the line of a code, or of a message with none.
@@ -87,14 +119,33 @@ fn put_line<W: Sink>(
     sink: &mut W,
 ) -> Result<(), DeviceFault>
     ensures written { OnOk result (Appends (W.held sink.old) (W.held sink.new)
-        (line_of head.now groups.now kind lamps code)) }
+        (line_of Line head.now groups.now kind lamps code)) }
     ensures front { OnErr result (AppendsFront (W.held sink.old) (W.held sink.new)
-        (line_of head.now groups.now kind lamps code)) }
+        (line_of Line head.now groups.now kind lamps code)) }
     ensures mark { Marks result (W.has_failed sink.old) (W.has_failed sink.new) }
 {
     put_all(sink, head)?;
     put_said(groups, kind, lamps, code, sink)?;
     put_all(sink, b"\n")
+}
+
+/// Writes the record of a code, or of a message with none.
+fn put_record<W: Sink>(
+    head: &[u8],
+    groups: &Groups<'_>,
+    kind: Kind,
+    lamps: Lamps,
+    code: Option<Code>,
+    sink: &mut W,
+) -> Result<(), DeviceFault>
+    ensures written { OnOk result (Appends (W.held sink.old) (W.held sink.new)
+        (line_of Record head.now groups.now kind lamps code)) }
+    ensures front { OnErr result (AppendsFront (W.held sink.old) (W.held sink.new)
+        (line_of Record head.now groups.now kind lamps code)) }
+    ensures mark { Marks result (W.has_failed sink.old) (W.has_failed sink.new) }
+{
+    put_all(sink, head)?;
+    put_fields(groups, kind, lamps, code, sink)
 }
 
 /// Writes what a message says of a code, or that it has none.
@@ -117,18 +168,19 @@ fn put_said<W: Sink>(
     }
 }
 
-/// What the table calls the parameter of a code; a code of conversion method 1 has none.
-fn name_in<'g>(groups: &'g Groups<'_>, code: Code) -> Option<&'g [u8]>
-    ensures { option_map (λ name. name.now) result ≡ name_in groups.now code }
+/// What stands before what is said.
+fn head_of(form: FaultForm, heard: &Heard<'_>) -> Head
+    ensures { result.items ≡ head_in form (stamp_micros heard.now.message.stamp) heard.now.message.source
+        (option_map name_raw heard.now.name) }
 {
-    match code {
-        Code::Known { spn, .. } => groups.parameter_name(spn),
-        Code::Raw(_) => None,
+    match form {
+        FaultForm::Line => line_head(heard),
+        FaultForm::Record => record_head(heard),
     }
 }
 
 /// The stamp, the address and the NAME, a space after each.
-fn head_of(heard: &Heard<'_>) -> Head
+fn line_head(heard: &Heard<'_>) -> Head
     ensures { result.items ≡ head_text (stamp_micros heard.now.message.stamp) heard.now.message.source
         (option_map name_raw heard.now.name) }
 {
@@ -142,5 +194,23 @@ fn head_of(heard: &Heard<'_>) -> Head
         None => push_bytes(&mut head, b"----------------"),
     }
     push_bytes(&mut head, b" ");
+    head
+}
+
+/// The stamp, the same in UTC, the address and the NAME, a comma after each.
+#[tactic(auto, unfolding(crate::specs::Records::head_fields))]
+fn record_head(heard: &Heard<'_>) -> Head
+    ensures { result.items ≡ head_fields (stamp_micros heard.now.message.stamp) heard.now.message.source
+        (option_map name_raw heard.now.name) }
+{
+    let mut head = ArrayVec::new();
+    push_seconds(&mut head, heard.message.stamp);
+    head.push(b',');
+    push_bytes(&mut head, utc_text(heard.message.stamp).as_slice());
+    head.push(b',');
+    push_hex(&mut head, &[heard.message.source]);
+    head.push(b',');
+    push_name(&mut head, heard.name.map(Name::raw));
+    head.push(b',');
     head
 }

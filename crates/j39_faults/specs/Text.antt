@@ -46,8 +46,11 @@ or_dash [] = codes "-"
 or_dash (x ∷ xs) = x ∷ xs
 
 -- the lamps that are on, with a comma (44) between each two
+unfoldable pub lamps_on : Lamps → List ℕ
+lamps_on lamps = join_with_byte 44 (all_lamp_words lamps)
+
 unfoldable pub lamps_text : Lamps → List ℕ
-lamps_text lamps = or_dash (join_with_byte 44 (all_lamp_words lamps))
+lamps_text lamps = or_dash (lamps_on lamps)
 
 abbrev pub count_text : Option ℕ → List ℕ
 count_text None = codes "-"

@@ -2,7 +2,7 @@
 ghost use Rattle.std.specs.Prelude.{◌≡◌, ◌+◌, ◌≤◌, [], length};
 ghost use Rattle.arrayvec.specs.ArrayVec.{array_vec_len};
 ghost use Rattle.j39_faults.specs.LampSteps.{behind, with_words};
-ghost use Rattle.j39_faults.specs.Text.{is_flashing, is_on, lamp_words, lamps_text};
+ghost use Rattle.j39_faults.specs.Text.{is_flashing, is_on, lamp_words, lamps_on, lamps_text};
 
 use crate::lamps::{Flash, Lamp, LampState, Lamps};
 use arrayvec::ArrayVec;
@@ -11,10 +11,22 @@ use j39_text::printing::push_bytes;
 /// The names of four lamps fit, with stars, and commas between.
 pub type LampsText = ArrayVec<u8, 40>;
 
-/// The lamps that are on, with commas between: `malfunction`, `red`, `amber`, `protect`, each with
-/// a `*` where it flashes; `-` where none is on.
+/// The lamps that are on, as `lamps_on` has them; `-` where none is on.
 pub fn lamps_text(lamps: Lamps) -> LampsText
     ensures text { result.items ≡ lamps_text lamps }
+    ensures len { array_vec_len result ≤ 34 }
+{
+    let mut text = lamps_on(lamps);
+    if text.is_empty() {
+        text.push(b'-');
+    }
+    text
+}
+
+/// The lamps that are on, with commas between: `malfunction`, `red`, `amber`, `protect`, each with
+/// a `*` where it flashes; nothing where none is on.
+pub fn lamps_on(lamps: Lamps) -> LampsText
+    ensures text { result.items ≡ lamps_on lamps }
     ensures len { array_vec_len result ≤ 34 }
 {
     let mut text = ArrayVec::new();
@@ -22,9 +34,6 @@ pub fn lamps_text(lamps: Lamps) -> LampsText
     push_lamp(&mut text, b"red", lamps.red);
     push_lamp(&mut text, b"amber", lamps.amber);
     push_lamp(&mut text, b"protect", lamps.protect);
-    if text.is_empty() {
-        text.push(b'-');
-    }
     text
 }
 

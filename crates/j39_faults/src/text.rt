@@ -1,5 +1,5 @@
 //! The text of a code (own).
-ghost use Rattle.std.specs.Prelude.{◌≡◌, ◌+◌, ◌≤◌, ◌++◌, codes, decimal, OnOk, OnErr};
+ghost use Rattle.std.specs.Prelude.{◌≡◌, ◌+◌, ◌≤◌, ◌++◌, codes, decimal, length, OnOk, OnErr};
 ghost use Rattle.std.specs.Io.KnownBytes.{Appends};
 ghost use Rattle.std.specs.Option.{option_map};
 ghost use Rattle.arrayvec.specs.ArrayVec.{array_vec_len};
@@ -18,6 +18,9 @@ use j39_text::printing::{push_bytes, push_hex, push_number};
 
 /// Three numbers of ten digits, the kind, the lamps and what stands between fit.
 type Columns = ArrayVec<u8, 96>;
+
+/// Three letters, a space and a number of ten digits fit.
+pub type SpnWords = ArrayVec<u8, 14>;
 
 /// Writes what a message says of one code (own), with no newline: `active` or `previous`, the SPN,
 /// the FMI, the count or `-`, the lamps, then the parameter's name, or `SPN` and its number where
@@ -84,7 +87,7 @@ fn put_name<W: Sink>(spn: u32, name: Option<&[u8]>, sink: &mut W) -> Result<(), 
 {
     match name {
         Some(name) => put_all(sink, name),
-        None => put_all(sink, spn_text(spn).as_slice()),
+        None => put_all(sink, spn_words(spn).as_slice()),
     }
 }
 
@@ -97,7 +100,8 @@ fn put_meaning<W: Sink>(fmi: u8, sink: &mut W) -> Result<(), DeviceFault>
     put_all(sink, fmi_words(fmi).as_bytes())
 }
 
-fn spn_text(spn: u32) -> Columns
+/// What stands for the name of a parameter where there is none: `SPN` and its number.
+pub fn spn_words(spn: u32) -> SpnWords
     ensures { result.items ≡ codes "SPN " ++ decimal spn }
 {
     let mut text = ArrayVec::new();
@@ -151,9 +155,17 @@ fn push_kind(text: &mut Columns, kind: Kind)
     ensures items { text.new.items ≡ text.old.items ++ kind_text kind }
     ensures len { array_vec_len text.new ≤ array_vec_len text.old + 8 }
 {
+    push_bytes(text, kind_word(kind));
+}
+
+/// `active` or `previous`.
+pub fn kind_word(kind: Kind) -> &'static [u8]
+    ensures text { result.now ≡ kind_text kind }
+    ensures short { length result.now ≤ 8 }
+{
     match kind {
-        Kind::Active => push_bytes(text, b"active"),
-        Kind::Previous => push_bytes(text, b"previous"),
+        Kind::Active => b"active",
+        Kind::Previous => b"previous",
     }
 }
 
@@ -169,8 +181,8 @@ fn push_count(text: &mut Columns, count: Option<u8>)
 }
 
 #[tactic(auto, using(crate::proofs::NumberLemmas::decimal_ten))]
-fn push_decimal(text: &mut Columns, number: u32)
-    requires { array_vec_len text.old + 10 ≤ 96 }
+fn push_decimal<const N: usize>(text: &mut ArrayVec<u8, N>, number: u32)
+    requires { array_vec_len text.old + 10 ≤ N }
     ensures items { text.new.items ≡ text.old.items ++ decimal number }
     ensures len { array_vec_len text.new ≤ array_vec_len text.old + 10 }
 {

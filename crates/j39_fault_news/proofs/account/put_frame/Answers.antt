@@ -1,5 +1,5 @@
 -- A message is heard at the frame, or none.
-use Rattle.std.proofs.Common.{◌≡◌, ◌≤◌, ◌∙◌, ◌++◌, ◌∷◌, [], List, None, Some, ap, arith, inr, refl, is_some, length}
+use Rattle.std.proofs.Common.{◌≤◌, ◌∙◌, ◌++◌, ◌∷◌, [], None, Some, ap, inr, refl, is_some, length}
 use Rattle.std.proofs.Common.{subst, sym}
 use Rattle.j39_frame.specs.Frame.{FrameRecord}
 use Rattle.j39_frame.specs.Identifier.{pgn_of}
@@ -19,7 +19,7 @@ returns-in-Ok-None-clause-met g c = λ F ms h remembers.
       heard = None;
       heard_at = rw c.in-Ok-None.field-0-is at (c.in-Ok-None.ensures.heard is_fault_group faults_leave single F h);
       hears = on_ok _ _ _ _ c.in-Ok-None.is c.feed_as.follows.holds-at-none F h;
-      tells = tells_nothing c.args.groups.now c.args.telling c.args.last.now ms None c.default.result _ refl refl remembers c.default.ensures.0 c.default.ensures.1;
+      tells = tells_nothing c.args.writing.form c.args.writing.groups.now c.args.telling c.args.last.now ms None c.default.result _ refl refl remembers c.default.ensures.0 c.default.ensures.1;
     }
 
 pub returns-in-Ok-Some-clause-met : goal.returns-in-Ok-Some-clause-met

@@ -1,25 +1,25 @@
 -- One code after the other.
-use Rattle.std.proofs.Common.{◌∙◌, arith, refl}
+use Rattle.std.proofs.Common.{◌∙◌, arith}
 use Rattle.j39_device.proofs.DeviceLemmas.{on_err}
-use Rattle.j39_fault_news.proofs.LineLemmas.{few_put, puts_all, puts_count, puts_front, puts_more, puts_none}
+use Rattle.j39_fault_news.proofs.LineLemmas.{few_put, puts_front, puts_more}
 use Rattle.j39_fault_news.proofs.lines.put_codes.Goals as goal
 
 pub loop-code-preserved : goal.loop-code-preserved
 loop-code-preserved g c = (
-  puts_more c.args.head.now c.args.groups.now c.args.kind c.args.lamps c.args.payload.now c.in-Some.code _ _ c.loop-code.lines _ _ _ c.loop-code.invariant.0 c.in-Some.ensures.steps
-      c.in_ok-put_line.ensures.written,
-  c.in_ok-put_line.ensures.mark ∙ c.loop-code.invariant.1,
+  puts_more c.args.writing.form c.args.head.now c.args.writing.groups.now c.args.kind c.args.lamps c.args.payload.now c.in-Some.code _ _ c.loop-code.lines _ _ _ c.loop-code.invariant.0 c.in-Some.ensures.steps
+      c.in_ok-put_fault.ensures.written,
+  c.in_ok-put_fault.ensures.mark ∙ c.loop-code.invariant.1,
 )
 
-pub returns-in_err-put_line-clause-front : goal.returns-in_err-put_line-clause-front
-returns-in_err-put_line-clause-front g c =
-    on_err _ _ (puts_front c.args.head.now c.args.groups.now c.args.kind c.args.lamps c.args.payload.now c.in-Some.code _ _ c.loop-code.lines _ _ _ c.loop-code.invariant.0 c.in-Some.ensures.steps
-    c.in_err-put_line.ensures.front)
+pub returns-in_err-put_fault-clause-front : goal.returns-in_err-put_fault-clause-front
+returns-in_err-put_fault-clause-front g c =
+    on_err _ _ (puts_front c.args.writing.form c.args.head.now c.args.writing.groups.now c.args.kind c.args.lamps c.args.payload.now c.in-Some.code _ _ c.loop-code.lines _ _ _ c.loop-code.invariant.0 c.in-Some.ensures.steps
+    c.in_err-put_fault.ensures.front)
 
 pub overflow_add-lines : goal.overflow_add-lines
 overflow_add-lines g c =
-    let few = few_put c.args.head.now c.args.groups.now c.args.kind c.args.lamps c.args.payload.now _ _ _ _
-    (puts_more c.args.head.now c.args.groups.now c.args.kind c.args.lamps c.args.payload.now c.in-Some.code _ _ c.loop-code.lines _ _ _ c.loop-code.invariant.0 c.in-Some.ensures.steps
-    c.in_ok-put_line.ensures.written) in
+    let few = few_put c.args.writing.form c.args.head.now c.args.writing.groups.now c.args.kind c.args.lamps c.args.payload.now _ _ _ _
+    (puts_more c.args.writing.form c.args.head.now c.args.writing.groups.now c.args.kind c.args.lamps c.args.payload.now c.in-Some.code _ _ c.loop-code.lines _ _ _ c.loop-code.invariant.0 c.in-Some.ensures.steps
+    c.in_ok-put_fault.ensures.written) in
     let fits = c.type_inv.payload in
     omega arith

@@ -1,5 +1,5 @@
 -- The head, what is said and the newline, one behind the other.
-use Rattle.std.proofs.Common.{◌++◌, ◌∷◌, [], List, ℕ, append_assoc, refl}
+use Rattle.std.proofs.Common.{◌++◌, ◌∷◌, [], append_assoc}
 use Rattle.std.proofs.KnownBytes.{Appends-trans}
 use Rattle.j39_device.proofs.DeviceLemmas.{front_first, front_within, on_err, on_err_from}
 use Rattle.j39_faults.proofs.WriteLemmas.{front_last}

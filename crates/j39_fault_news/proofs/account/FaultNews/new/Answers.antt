@@ -5,6 +5,7 @@ use Rattle.j39_fault_news.proofs.account.FaultNews.new.Goals as goal
 
 pub returns : goal.returns
 returns c = record {
+  form_is = refl;
   by = refl;
   telling_is = refl;
   heard = [];
@@ -12,5 +13,5 @@ returns c = record {
   output_is = refl;
   hears = c.new.ensures;
   remembers = c.new-2.ensures;
-  made_is = same_made _ _ c.default.ensures.0 c.default.ensures.1 ∙ none_made c.args.groups.now c.args.telling;
+  made_is = same_made _ _ c.default.ensures.0 c.default.ensures.1 ∙ none_made c.args.writing.form c.args.writing.groups.now c.args.telling;
 }

@@ -9,14 +9,14 @@ pub returns-in-Ok-clause-met : goal.returns-in-Ok-clause-met
 returns-in-Ok-clause-met g c =
     let news : FaultNews = record {
       alloc = c.args.self.now.alloc;
-      groups = c.args.self.now.groups;
+      writing = c.args.self.now.writing;
       telling = c.args.self.now.telling;
       listener = c.put_frame.new.listener;
       last = c.put_frame.new.last;
       made = c.and-self.result;
     } in
-    λ subject. news_meets subject c.args.self.now news refl refl c.args.frame.now c.in-Ok.made _ _ c.in-Ok.ensures.met c.and-self.ensures
+    λ (form, subject). news_meets form subject c.args.self.now news refl refl c.args.frame.now c.in-Ok.made _ _ c.in-Ok.ensures.met c.and-self.ensures
 
 pub returns-in-Err-clause-stops : goal.returns-in-Err-clause-stops
-returns-in-Err-clause-stops g c = λ fails subject.
-    news_stops subject c.args.self.now c.args.frame.now _ _ (c.in-Err.ensures.stops (ap Err (same_fault _ _ fails))) c.args.arg2.now
+returns-in-Err-clause-stops g c = λ fails (form, subject).
+    news_stops form subject c.args.self.now c.args.frame.now _ _ (c.in-Err.ensures.stops (ap Err (same_fault _ _ fails))) c.args.arg2.now
