@@ -41,6 +41,13 @@ const ALL_WELL: Outcome = Outcome {
     held: [Some(0x80), Some(0x00), Some(0x05), Some(0xF9)],
 };
 
+/// Where the command to the gearbox is lost.
+const NOT_OBEYED: Outcome = Outcome {
+    lost: 1,
+    held: [Some(0x80), Some(0x00), Some(0x03), Some(0xF9)],
+    ..ALL_WELL
+};
+
 fn played<'a>(alloc: Global, seed: u64, lose: &'a [u64]) -> Result<(Vec<u8>, Bus<'a>), Fail> {
     let mut bus = Bus::new(alloc, controllers(alloc, seed)?, lose);
     let mut log = Vec::new(alloc);
@@ -159,41 +166,6 @@ fn frames_with(alloc: Global, seed: u64, text: &str) -> Result<Vec<u64>, Fail> {
     Ok(numbers)
 }
 
-/// Whichever one of the frames with this text is lost, so many of them in all, the outcome is this.
-fn ends(
-    rt: &(impl Abort + AllocGlobal),
-    seed: u64,
-    text: &str,
-    frames: usize,
-    want: &Outcome,
-) -> Result<(), Fail> {
-    let numbers = frames_with(rt.alloc(), seed, text)?;
-    assert_eq!(rt; numbers.len(), frames, "{text}");
-    for number in numbers.iter() {
-        assert_eq!(rt; closes(rt, seed, &[*number])?, *want, "{text} {number}");
-    }
-    Ok(())
-}
-
-#[test]
-fn nothing_is_lost(rt: HostRuntime) -> Result<(), Fail> {
-    for seed in SEEDS {
-        assert_eq!(rt; closes(&rt, seed, &[])?, ALL_WELL, "seed {seed}");
-    }
-    Ok(())
-}
-
-/// The gearbox's faults are told: one, then three, then none.
-#[test]
-fn faults_become_news(rt: HostRuntime) -> Result<(), Fail> {
-    for seed in SEEDS {
-        let (_log, bus) = played(rt.alloc(), seed, &[])?;
-        let told = expected_faults(rt.alloc(), bus.book())?;
-        assert_eq!(rt; told.as_str().lines().count(), 5, "seed {seed}");
-    }
-    Ok(())
-}
-
 /// A NAME, a group, and the least and the most messages that it sends in 5 seconds: one each period, or
 /// up to a turn of 10 ms later, while the address is held, which is 250 ms after each claim.
 const COUNTS: [(u64, u32, usize, usize); 12] = [
@@ -211,46 +183,101 @@ const COUNTS: [(u64, u32, usize, usize); 12] = [
     (0x8000_0000_0440_1004, 65_248, 4, 5),
 ];
 
-/// Each controller sends each of its groups as often as it is told to, and nothing is begun at the end.
+/// Each controller sent each of its groups as often as it is told to, and has nothing begun.
+fn sent_its_groups(rt: &impl Abort, bus: &Bus<'_>, seed: u64) {
+    for (name, pgn, least, most) in COUNTS {
+        let sent = bus.book().handed().iter().filter(|message| {
+            message.name.raw() == name
+                && message.pgn.raw() == pgn
+                && matches!(message.fate, Fate::Whole(_))
+        });
+        let count = sent.count();
+        assert!(rt;
+            least <= count && count <= most,
+            "seed {seed}: {name:016X} {pgn}: {count}"
+        );
+    }
+    for controller in bus.controllers() {
+        assert_eq!(rt; controller.begun(), 0, "seed {seed}");
+    }
+}
+
+/// The log tells what was sent; the gearbox's faults are news five times: one code, then three, then none.
 #[test]
-fn each_sends_its_groups(rt: HostRuntime) -> Result<(), Fail> {
+fn nothing_is_lost(rt: HostRuntime) -> Result<(), Fail> {
     for seed in SEEDS {
+        assert_eq!(rt; closes(&rt, seed, &[])?, ALL_WELL, "seed {seed}");
         let (_log, bus) = played(rt.alloc(), seed, &[])?;
-        for (name, pgn, least, most) in COUNTS {
-            let sent = bus.book().handed().iter().filter(|message| {
-                message.name.raw() == name
-                    && message.pgn.raw() == pgn
-                    && matches!(message.fate, Fate::Whole(_))
-            });
-            let count = sent.count();
-            assert!(rt;
-                least <= count && count <= most,
-                "seed {seed}: {name:016X} {pgn}: {count}"
-            );
-        }
-        for controller in bus.controllers() {
-            assert_eq!(rt; controller.begun(), 0, "seed {seed}");
-        }
+        let told = expected_faults(rt.alloc(), bus.book())?;
+        assert_eq!(rt; told.as_str().lines().count(), 5, "seed {seed}");
+        sent_its_groups(&rt, &bus, seed);
     }
     Ok(())
 }
 
-/// A broadcast that loses its announcement or a packet is missing, and nothing else.
-#[test]
-fn a_frame_of_a_broadcast_is_lost(rt: HostRuntime) -> Result<(), Fail> {
-    let want = Outcome {
-        lost: 1,
-        vin: false,
-        ..ALL_WELL
-    };
-    ends(&rt, 1, " 1CECFF80#20", 1, &want)?;
-    ends(&rt, 7, " 1CEBFF80#", 3, &want)
-}
+/// A text that frames have, so many of them, a seed, and the outcome where any one of them is lost.
+type Loss = (&'static str, usize, u64, Outcome);
 
-/// A packet of a transfer that is lost is sent again.
+static LOSSES: [Loss; 7] = [
+    // A broadcast that loses its announcement or a packet is missing, and nothing else.
+    (
+        " 1CECFF80#20",
+        1,
+        1,
+        Outcome {
+            lost: 1,
+            vin: false,
+            ..ALL_WELL
+        },
+    ),
+    (
+        " 1CEBFF80#",
+        3,
+        7,
+        Outcome {
+            lost: 1,
+            vin: false,
+            ..ALL_WELL
+        },
+    ),
+    // A packet of a transfer is sent again.
+    (" 1CEBF900#", 5, 1, ALL_WELL),
+    // A transfer whose request is lost fails; one whose acknowledgment is lost was delivered all the same.
+    (
+        " 1CECF900#10",
+        1,
+        1,
+        Outcome {
+            lost: 1,
+            delivered: 0,
+            done: 0,
+            ..ALL_WELL
+        },
+    ),
+    (
+        " 1CEC00F9#13",
+        1,
+        7,
+        Outcome {
+            done: 0,
+            ..ALL_WELL
+        },
+    ),
+    // A command that loses a frame isn't obeyed.
+    (" 1CECFFF9#20", 1, 2, NOT_OBEYED),
+    (" 1CEBFFF9#", 2, 1_000, NOT_OBEYED),
+];
+
 #[test]
-fn a_packet_of_a_transfer_is_lost(rt: HostRuntime) -> Result<(), Fail> {
-    ends(&rt, 1, " 1CEBF900#", 5, &ALL_WELL)
+fn one_frame_is_lost(rt: HostRuntime) -> Result<(), Fail> {
+    for (text, frames, seed, want) in LOSSES.iter() {
+        let numbers = frames_with(rt.alloc(), *seed, text)?;
+        assert_eq!(rt; numbers.len(), *frames, "{text}");
+        for number in numbers.iter() {
+            assert_eq!(rt; closes(&rt, *seed, &[*number])?, *want, "{text} {number}");
+        }
+    }
+    Ok(())
 }
 
 /// Where a clear to send is lost, both ends wait for 1,250 ms: whose limit comes first decides whether
@@ -274,35 +301,6 @@ fn a_clear_to_send_is_lost(rt: HostRuntime) -> Result<(), Fail> {
         assert_eq!(rt; met, want, "seed {seed}");
     }
     Ok(())
-}
-
-/// A transfer whose request is lost fails; one whose acknowledgment is lost was delivered all the same.
-#[test]
-fn a_transfer_fails(rt: HostRuntime) -> Result<(), Fail> {
-    let unasked = Outcome {
-        lost: 1,
-        delivered: 0,
-        done: 0,
-        ..ALL_WELL
-    };
-    ends(&rt, 1, " 1CECF900#10", 1, &unasked)?;
-    let unacknowledged = Outcome {
-        done: 0,
-        ..ALL_WELL
-    };
-    ends(&rt, 7, " 1CEC00F9#13", 1, &unacknowledged)
-}
-
-/// A command that loses a frame isn't obeyed.
-#[test]
-fn a_frame_of_the_command_is_lost(rt: HostRuntime) -> Result<(), Fail> {
-    let want = Outcome {
-        lost: 1,
-        held: [Some(0x80), Some(0x00), Some(0x03), Some(0xF9)],
-        ..ALL_WELL
-    };
-    ends(&rt, 2, " 1CECFFF9#20", 1, &want)?;
-    ends(&rt, 1_000, " 1CEBFFF9#", 2, &want)
 }
 
 /// Each single frame that is lost takes its own values along.
