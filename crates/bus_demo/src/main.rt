@@ -15,6 +15,8 @@ mod loop_tests;
 mod loss_tests;
 #[cfg(test)]
 mod memory_tests;
+#[cfg(test)]
+mod pair_tests;
 mod player;
 mod publisher;
 mod role;

@@ -5,7 +5,7 @@ use Rattle.j39_controller.specs.Controller.{GoesOn, GoesOnAt, IsDroppedAt, IsSil
 use Rattle.j39_controller.specs.declared.controller.Controller.{Controller}
 use Rattle.j39_controller.specs.declared.outbox.Wish.{Wish}
 
-pub goes_at : (o : Option ℕ) (claim : FrameRecord) (old mid new : Controller) → IsDroppedAt o old mid
+pub goes_at : (o : Option ℕ) (claim : FrameRecord) (old mid new : Controller) → IsDroppedAt o claim.stamp old mid
     → waiting_in new ≡ waiting_in mid ++ as_wish claim ∷ [] → new.sending ≡ mid.sending → new.listening ≡ mid.listening
     → told_in new ≡ told_in mid → GoesOnAt o claim old new
 goes_at (Some a) claim old mid new d w s l t = record {

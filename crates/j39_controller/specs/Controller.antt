@@ -16,6 +16,7 @@ use Rattle.j39_address.specs.Claims.{Knows}
 use Rattle.j39_address.specs.Command.{Command}
 use Rattle.j39_address.specs.Node.{Node, idle_node}
 use Rattle.j39_address.specs.declared.claimer.Claimer.{Claimer}
+use Rattle.j39_controller.specs.Asked.{AskedRecord, asked_by}
 use Rattle.j39_controller.specs.Inbox.{ReceivedRecord}
 use Rattle.j39_controller.specs.Listening.{HasForgotten, PutsTogether}
 use Rattle.j39_controller.specs.MaySend.{MaySend, held_in}
@@ -32,12 +33,15 @@ use Rattle.j39_controller.specs.declared.settled.Ending.TheVariants as ending
 
 -- ---- its queues, each with the oldest first
 
--- the frames that wait to be sent, the messages that were received, and how messages ended
+-- the frames that wait to be sent, the messages that were received, the requests, and how messages ended
 abbrev pub waiting_in : Controller → List Wish
 waiting_in c = c.outbox.wishes.items
 
 abbrev pub received_in : Controller → List ReceivedRecord
 received_in c = c.inbox.items
+
+abbrev pub asked_in : Controller → List AskedRecord
+asked_in c = c.asked.items
 
 abbrev pub told_in : Controller → List Settled
 told_in c = c.settled.items
@@ -57,6 +61,9 @@ KeepsButWaiting old new = new ≡ record old { outbox = new.outbox }
 abbrev pub KeepsButReceived : Controller → Controller → Type 0
 KeepsButReceived old new = new ≡ record old { inbox = new.inbox }
 
+abbrev pub KeepsButAsked : Controller → Controller → Type 0
+KeepsButAsked old new = new ≡ record old { asked = new.asked }
+
 abbrev pub KeepsButTold : Controller → Controller → Type 0
 KeepsButTold old new = new ≡ record old { settled = new.settled }
 
@@ -73,6 +80,7 @@ pub record IsNew (name preferred : ℕ) (c : Controller) : Type 0 where
   pub sending : c.sending ≡ new_sending
   pub waiting : waiting_in c ≡ []
   pub received : received_in c ≡ []
+  pub asked : asked_in c ≡ []
   pub told : told_in c ≡ []
 
 -- ---- a claim is sent
@@ -87,17 +95,17 @@ Keeps old new = new ≡ record old {
 }
 
 -- all that was on its way from the address, or to it, is dropped, and told as withdrawn
-pub record IsWithdrawn (old new : Controller) : Type 0 where
+pub record IsWithdrawn (now : ℕ) (old new : Controller) : Type 0 where
   pub waiting : waiting_in new ≡ []
-  pub sending : HasLost old.sending new.sending
+  pub sending : HasLost old.sending now new.sending
   pub listening : new.listening ≡ None
   pub told : told_in new ≡ (told_in old ++ withdrawn (waiting_in old)) ++ on_its_way old.sending
   pub rest : Keeps old new
 
 -- while an address is held, nothing is
-abbrev pub IsDroppedAt : Option ℕ → Controller → Controller → Type 0
-IsDroppedAt (Some address) old new = new ≡ old
-IsDroppedAt None old new = IsWithdrawn old new
+abbrev pub IsDroppedAt : Option ℕ → ℕ → Controller → Controller → Type 0
+IsDroppedAt (Some address) now old new = new ≡ old
+IsDroppedAt None now old new = IsWithdrawn now old new
 
 abbrev pub as_wish : FrameRecord → Wish
 as_wish claim = record { frame = claim; part = None }
@@ -112,7 +120,7 @@ pub record GoesOn (claim : FrameRecord) (old new : Controller) : Type 0 where
 -- while none is, nothing but the claim is left
 pub record IsSilent (claim : FrameRecord) (old new : Controller) : Type 0 where
   pub waiting : waiting_in new ≡ as_wish claim ∷ []
-  pub sending : HasLost old.sending new.sending
+  pub sending : HasLost old.sending claim.stamp new.sending
   pub listening : new.listening ≡ None
   pub told : told_in new ≡ (told_in old ++ withdrawn (waiting_in old)) ++ on_its_way old.sending
 
@@ -126,6 +134,7 @@ pub record SaysClaim (old : Controller) (claim : FrameRecord) (new : Controller)
       → HasForgotten F claim E new.messages
   pub node : new.node ≡ old.node
   pub received : received_in new ≡ received_in old
+  pub asked : asked_in new ≡ asked_in old
   pub goes : (node : Node) → IsNode old.node node → GoesOnAt (held_in node.status) claim old new
 
 -- a claim is sent, where one was answered; else nothing changes
@@ -145,7 +154,7 @@ pub record IsPutTogether (F : List FrameRecord) (f : FrameRecord) (E : List Even
   pub whole : PutsTogether (E ++ map (λ a. Forget a) gone) f delivered command (received_in new)
 
 -- every part but the node was shown the frame f: the table of holders, the assembler, the sender and the receiver. What
--- the receiver answers goes out
+-- the receiver answers goes out; a request to the controller, or to all, is kept behind the others
 pub record IsShown (old : Controller) (f : FrameRecord) (command : Option Command) (new : Controller) : Type 0 where
   pub holders : (F : List FrameRecord) → Knows old.holders F → Knows new.holders (F ++ f ∷ [])
   pub sender : new.sending ≡ hears f old.sending
@@ -155,6 +164,7 @@ pub record IsShown (old : Controller) (f : FrameRecord) (command : Option Comman
   pub waiting : waiting_in new ≡ waiting_in old ++ posted f.stamp sends
   pub messages : (F : List FrameRecord) (E : List Event) → Knows old.holders F → Stands E old.messages
       → IsPutTogether F f E delivered command new
+  pub asked : (node : Node) → IsNode old.node node → asked_in new ≡ asked_in old ++ asked_by (held_in node.status) f
   pub node : new.node ≡ old.node
   pub told : told_in new ≡ told_in old
 

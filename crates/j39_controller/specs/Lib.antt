@@ -1,3 +1,4 @@
+pub mod Asked
 pub mod Controller
 pub mod Cut
 pub mod Inbox

@@ -23,7 +23,7 @@ use Rattle.j39_controller.specs.declared.settled.Ending.TheVariants as ending
 abbrev pub message_of : ℕ → ℕ → List ℕ → MessageRecord
 message_of source pgn bytes = record { source = source; pgn = pgn; bytes = bytes }
 
--- how long nothing begins after a transfer that failed, in microseconds
+-- how long nothing begins after a transfer that failed or was withdrawn, in microseconds
 abbrev pub quiet : ℕ
 quiet = 4000000
 
@@ -147,5 +147,11 @@ told_one (Some t) = record { number = t.number; ending = ending.Withdrawn } ∷ 
 abbrev pub on_its_way : Sending → List Settled
 on_its_way s = told_all s.to_all ++ told_one s.to_one
 
-abbrev pub HasLost : Sending → Sending → Type 0
-HasLost old new = new ≡ record old { to_all = None; to_one = None }
+-- and 4 s of quiet follow a transfer
+abbrev pub quiet_after : Option ToOne → ℕ → ℕ → ℕ
+quiet_after None now until = until
+quiet_after (Some t) now until = now + quiet
+
+abbrev pub HasLost : Sending → ℕ → Sending → Type 0
+HasLost old now new =
+    new ≡ record { to_all = None; to_one = None; quiet_until = quiet_after old.to_one now old.quiet_until }

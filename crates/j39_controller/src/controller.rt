@@ -12,8 +12,9 @@ ghost use Rattle.j39_address.specs.Name.{name_raw};
 ghost use Rattle.j39_address.specs.Node.{Node};
 ghost use Rattle.j39_controller.specs.MaySend.{MaySend, held_in};
 ghost use Rattle.j39_controller.specs.Outbox.{first_id};
-ghost use Rattle.j39_controller.specs.Controller.{BroadcastsAt, HasNode, Hears, IsAnswered, IsDroppedAt, IsFreeAt, IsNew, IsSaid, IsSent, IsShown, IsWithdrawn, Keeps, KeepsButReceived, KeepsButSending, KeepsButTold, KeepsButWaiting, Obeys, ObeysIf, Passes, SaysClaim, TransfersAt, Turns, begun_in, received_in, told_in, waiting_in};
+ghost use Rattle.j39_controller.specs.Controller.{BroadcastsAt, HasNode, Hears, IsAnswered, IsDroppedAt, IsFreeAt, IsNew, IsSaid, IsSent, IsShown, IsWithdrawn, Keeps, KeepsButAsked, KeepsButReceived, KeepsButSending, KeepsButTold, KeepsButWaiting, Obeys, ObeysIf, Passes, SaysClaim, TransfersAt, Turns, asked_in, begun_in, received_in, told_in, waiting_in};
 
+use crate::asked::{Asked, keep_request};
 use crate::inbox::Received;
 use crate::listening::{note, put_together};
 use crate::may_send::{held_by, may_send};
@@ -44,6 +45,7 @@ pub struct Controller {
     sending: Sending,
     outbox: Outbox,
     inbox: VecDeque<Received>,
+    asked: VecDeque<Asked>,
     settled: VecDeque<Settled>,
 }
 
@@ -66,6 +68,7 @@ impl Controller {
             sending: Sending::new(),
             outbox: Outbox::new(alloc),
             inbox: VecDeque::new(alloc),
+            asked: VecDeque::new(alloc),
             settled: VecDeque::new(alloc),
         })
     }
@@ -124,6 +127,18 @@ impl Controller {
         self.inbox.pop_front()
     }
 
+    /// The request that was heard first of those that weren't taken yet: for a group other than claims, to this
+    /// controller at the address that it held, or to all. The answer is the caller's, by `send`, `broadcast` or
+    /// `transfer`.
+    pub fn take_asked(&mut self) -> Option<Asked>
+        ensures first { asked_in self.old ≡ option_to_list result ++ asked_in self.new }
+        ensures none { result ≡ None → asked_in self.old ≡ [] }
+        ensures fewer { IfSome result (λ _. length (asked_in self.new) < length (asked_in self.old)) }
+        ensures rest { KeepsButAsked self.old self.new }
+    {
+        self.asked.pop_front()
+    }
+
     /// What ended first of what wasn't taken yet.
     pub fn take_settled(&mut self) -> Option<Settled>
         ensures first { told_in self.old ≡ option_to_list result ++ told_in self.new }
@@ -135,7 +150,7 @@ impl Controller {
     }
 
     /// The address that a message may begin from: where one is held, no message is on its way, and no transfer
-    /// failed within 4 s.
+    /// failed or was withdrawn within 4 s.
     pub fn free_at(&self, now: Stamp) -> Option<u8>
         ensures { (node : Node) → HasNode self.now node → IsFreeAt self.now (stamp_micros now) node result }
     {
@@ -242,6 +257,7 @@ impl Controller {
     {
         note(&mut self.holders, &mut self.messages, frame);
         self.sending.hear(frame);
+        keep_request(self.held(), frame, &mut self.asked)?;
         let sent = receive_in(&mut self.listening, frame, self.alloc, &mut self.inbox)?;
         self.outbox.post_answer(sent, frame.stamp)?;
         put_together(&mut self.messages, frame, self.alloc, &mut self.inbox)
@@ -288,29 +304,29 @@ impl Controller {
     fn say_claim(&mut self, claim: Frame) -> Result<(), AllocError>
         ensures { OnOk result (SaysClaim self.old claim self.new) }
     {
-        self.drop_if_lost()?;
+        self.drop_if_lost(claim.stamp)?;
         note(&mut self.holders, &mut self.messages, &claim);
         self.outbox.push(claim, None)
     }
 
     /// Drops all that was to be sent or received, where no address is held.
-    fn drop_if_lost(&mut self) -> Result<(), AllocError>
+    fn drop_if_lost(&mut self, now: Stamp) -> Result<(), AllocError>
         ensures drops { OnOk result ((node : Node) → HasNode self.old node
-            → IsDroppedAt (held_in node.status) self.old self.new) }
+            → IsDroppedAt (held_in node.status) (stamp_micros now) self.old self.new) }
         ensures rest { OnOk result (Keeps self.old self.new) }
     {
         if self.held().is_some() {
             return Ok(());
         }
-        self.withdraw()
+        self.withdraw(now)
     }
 
     /// Drops all that was to be sent or received at an address that is lost, and tells so.
-    fn withdraw(&mut self) -> Result<(), AllocError>
-        ensures { OnOk result (IsWithdrawn self.old self.new) }
+    fn withdraw(&mut self, now: Stamp) -> Result<(), AllocError>
+        ensures { OnOk result (IsWithdrawn (stamp_micros now) self.old self.new) }
     {
         self.outbox.withdraw(&mut self.settled)?;
-        self.sending.withdraw(&mut self.settled)?;
+        self.sending.withdraw(now, &mut self.settled)?;
         self.listening = None;
         Ok(())
     }

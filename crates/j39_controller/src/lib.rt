@@ -1,6 +1,7 @@
 //! A controller: the stack's parts in one loop (J1939-21, J1939-81).
 #![tactic(auto)]
 
+mod asked;
 mod controller;
 mod inbox;
 mod listening;
@@ -11,6 +12,7 @@ mod receiving;
 mod sending;
 mod settled;
 
+pub use asked::Asked;
 pub use controller::Controller;
 pub use inbox::Received;
 pub use outbox::{Part, Wish};

@@ -16,7 +16,7 @@ use j39_transport::{OwnedSender, Poll, SendEvent, SendState};
 use std::alloc::AllocError;
 use std::collections::VecDeque;
 
-/// How long a transfer that failed is remembered, in microseconds. A receiver that hears nothing drops
+/// How long a transfer that failed or was withdrawn is remembered, in microseconds. A receiver that hears nothing drops
 /// its session after three times 1,250 ms, and three of its turns.
 const QUIET: u64 = 4_000_000;
 
@@ -39,7 +39,7 @@ pub(crate) struct ToOne {
 pub(crate) struct Sending {
     to_all: Option<ToAll>,
     to_one: Option<ToOne>,
-    /// No message begins before: a transfer that failed may have left its receiver with a session.
+    /// No message begins before: a transfer that isn't done may have left its receiver with a session.
     quiet_until: u64,
 }
 
@@ -55,7 +55,7 @@ impl Sending {
         }
     }
 
-    /// Whether a message may begin: none is on its way, and no transfer failed within 4 s.
+    /// Whether a message may begin: none is on its way, and no transfer failed or was withdrawn within 4 s.
     pub(crate) fn is_free(&self, now: Stamp) -> bool
         ensures { IsTrue result ↔ IsFree self.now (stamp_micros now) }
     {
@@ -176,15 +176,21 @@ impl Sending {
         Ok(sent)
     }
 
-    /// Drops the message that is on its way, since its address is lost, and tells so.
-    pub(crate) fn withdraw(&mut self, settled: &mut VecDeque<Settled>) -> Result<(), AllocError>
-        ensures { OnOk result (HasLost self.old self.new
-            × (settled.new.items ≡ settled.old.items ++ on_its_way self.old)) }
+    /// Drops the message that is on its way, since its address is lost, and tells so. A transfer may leave its
+    /// receiver with a session, as one that failed does.
+    pub(crate) fn withdraw(
+        &mut self,
+        now: Stamp,
+        settled: &mut VecDeque<Settled>,
+    ) -> Result<(), AllocError>
+        ensures lost { OnOk result (HasLost self.old (stamp_micros now) self.new) }
+        ensures told { OnOk result (settled.new.items ≡ settled.old.items ++ on_its_way self.old) }
     {
         if let Some(to_all) = self.to_all.take() {
             tell(settled, to_all.number, Ending::Withdrawn)?;
         }
         if let Some(to_one) = self.to_one.take() {
+            self.quiet_until = now.micros() + QUIET;
             tell(settled, to_one.number, Ending::Withdrawn)?;
         }
         Ok(())

@@ -1,8 +1,9 @@
 -- Each part was shown the frame by its own call.
-use Rattle.std.proofs.Common.{ℕ, ◌++◌, ap, sym, subst, ◌∙◌, refl}
+use Rattle.std.proofs.Common.{ℕ, Option, ◌++◌, ap, sym, subst, ◌∙◌, refl}
 use Rattle.std.specs.Option.{option_map}
 use Rattle.j39_frame.specs.Frame.{FrameRecord}
 use Rattle.j39_transport.specs.Cutting.{to_send}
+use Rattle.j39_controller.specs.Asked.{asked_by}
 use Rattle.j39_controller.specs.Outbox.{posted}
 use Rattle.j39_controller.proofs.ResultLemmas.{both_ok}
 use Rattle.j39_controller.proofs.controller.Controller.show.Goals as goal
@@ -23,6 +24,8 @@ returns c = both_ok c.put_together.result _ _ _ c.put_together.ensures.stands c.
         stands = fed _ h.stands;
         whole = whole _ h.stands;
       };
+  asked = λ node is. c.in_ok-keep_request.ensures
+      ∙ ap (λ (own : Option ℕ). c.args.self.now.asked.items ++ asked_by own c.args.frame.now) (c.held.ensures node is);
   node = refl;
   told = refl;
 })
