@@ -3,7 +3,6 @@ use j39_address::Name;
 use j39_controller::{Controller, Ending, Received, Settled};
 use j39_frame::{Frame, Id, Pgn, Stamp};
 use std::alloc::Global;
-use std::process::Abort;
 use std::test::Fail;
 
 /// Vehicle identification (VI).

@@ -1,7 +1,7 @@
 -- A claim is sent after all was dropped, or nothing was.
-use Rattle.std.proofs.Common.{◌≡◌, ℕ, List, [], ◌∷◌, ◌++◌, Option, Some, None, refl, ap, ◌∙◌}
+use Rattle.std.proofs.Common.{◌≡◌, ℕ, List, [], ◌∷◌, ◌++◌, Option, Some, None, ap, ◌∙◌}
 use Rattle.j39_frame.specs.Frame.{FrameRecord}
-use Rattle.j39_controller.specs.Controller.{GoesOn, GoesOnAt, IsDroppedAt, IsSilent, IsWithdrawn, as_wish, told_in, waiting_in}
+use Rattle.j39_controller.specs.Controller.{GoesOnAt, IsDroppedAt, as_wish, told_in, waiting_in}
 use Rattle.j39_controller.specs.declared.controller.Controller.{Controller}
 use Rattle.j39_controller.specs.declared.outbox.Wish.{Wish}
 

@@ -1,6 +1,5 @@
 -- The controller: what is shown to its parts, what its node answers, and what time makes of it.
 use Rattle.std.specs.Prelude.{◌≡◌, ◌+◌, ℕ, Bool, true, false, List, [], ◌∷◌, ◌++◌, map, Option, Some, None, if◌then◌else◌}
-use Rattle.std.specs.Option.{option_map}
 use Rattle.j39_frame.specs.Frame.{FrameRecord}
 use Rattle.j39_transport.specs.Cutting.{ToSend}
 use Rattle.j39_transport.specs.Events.{Event}

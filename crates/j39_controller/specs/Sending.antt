@@ -11,13 +11,11 @@ use Rattle.j39_transport.specs.Message.{MessageRecord, packets_of}
 use Rattle.j39_transport.specs.Sending as sender
 use Rattle.j39_transport.specs.Sending.{SenderRecord, SendResult, send_step, sent_by, new_sender}
 use Rattle.j39_controller.specs.Cut.{IsCut}
-use Rattle.j39_controller.specs.declared.outbox.Part.{Part}
 use Rattle.j39_controller.specs.declared.outbox.Wish.{Wish}
 use Rattle.j39_controller.specs.declared.sending.Sending.{Sending}
 use Rattle.j39_controller.specs.declared.sending.ToAll.{ToAll}
 use Rattle.j39_controller.specs.declared.sending.ToOne.{ToOne}
 use Rattle.j39_controller.specs.declared.settled.Settled.{Settled}
-use Rattle.j39_controller.specs.declared.settled.Ending.{Ending}
 use Rattle.j39_controller.specs.declared.settled.Ending.TheVariants as ending
 
 abbrev pub message_of : ℕ → ℕ → List ℕ → MessageRecord

@@ -1,5 +1,5 @@
 //! Requests for groups (J1939-21, 5.4.2).
-ghost use Rattle.std.specs.Prelude.{◌≡◌, ◌++◌, ◌<◌, ◌^◌};
+ghost use Rattle.std.specs.Prelude.{◌≡◌, ◌++◌};
 ghost use Rattle.std.specs.Option.{option_map};
 ghost use Rattle.std.specs.Result.{OnOk};
 ghost use Rattle.j39_frame.specs.Identifier.{destination_of};

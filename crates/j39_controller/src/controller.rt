@@ -1,9 +1,8 @@
 //! The controller: its parts, and the loop round them.
-ghost use Rattle.std.specs.Prelude.{◌≡◌, ◌≢◌, ◌≤◌, ◌↔◌, ◌∷◌, ◌++◌, [], IfSome, IsSome, IsTrue, IfOk, List, None, Some, Bool, false, length, drop, ◌<◌};
+ghost use Rattle.std.specs.Prelude.{◌≡◌, ◌↔◌, ◌∷◌, ◌++◌, [], IfSome, IsSome, IfOk, List, None, Some, false, length, drop, ◌<◌};
 ghost use Rattle.std.specs.Option.{option_map, option_to_list};
 ghost use Rattle.std.specs.Result.{OnOk};
 ghost use Rattle.j39_frame.specs.Address.{IsAddress};
-ghost use Rattle.j39_frame.specs.Frame.{FrameRecord};
 ghost use Rattle.j39_frame.specs.Identifier.{id_raw};
 ghost use Rattle.j39_frame.specs.Pgn.{pgn_raw};
 ghost use Rattle.j39_frame.specs.Stamp.{stamp_micros};
@@ -50,7 +49,6 @@ pub struct Controller {
 }
 
 impl Controller {
-    ghost use Rattle.j39_controller.specs.Inbox.{ReceivedRecord};
     ghost use Rattle.j39_controller.specs.declared.outbox.Wish.{Wish};
     ghost use Rattle.j39_controller.specs.declared.settled.Settled.{Settled};
 

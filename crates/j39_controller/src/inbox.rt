@@ -1,6 +1,6 @@
 //! Messages that were received.
 ghost use Rattle.std.specs.Prelude.{◌≡◌};
-ghost use Rattle.std.specs.Result.{OnOk, IfOk};
+ghost use Rattle.std.specs.Result.{IfOk};
 ghost use Rattle.j39_controller.specs.Inbox.{received_of};
 ghost use Rattle.j39_transport.specs.ShownReceiver.{message_shown};
 ghost use Rattle.j39_frame.specs.Stamp.{stamp_micros};

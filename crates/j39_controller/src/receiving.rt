@@ -1,8 +1,7 @@
 //! The receiving end of transfers to this controller (J1939-21, 5.10.3).
-ghost use Rattle.std.specs.Prelude.{◌≡◌, [], Some, None, IfOk, IsSome};
+ghost use Rattle.std.specs.Prelude.{◌≡◌, Some, None, IfOk};
 ghost use Rattle.std.specs.Option.{option_map};
 ghost use Rattle.std.specs.Result.{OnOk};
-ghost use Rattle.j39_frame.specs.Address.{IsAddress};
 ghost use Rattle.j39_frame.specs.Stamp.{stamp_micros};
 ghost use Rattle.j39_transport.specs.Cutting.{to_send};
 ghost use Rattle.j39_controller.specs.Receiving.{ListensAt, is_at, is_receiving, Receives, ReceivesIn, TicksLate};

@@ -1,5 +1,5 @@
 -- One address after the other is forgotten.
-use Rattle.std.proofs.Common.{◌≡◌, ◌∙◌, ◌++◌, ◌∷◌, [], List, ap, map, sym, subst, take, take_all, arith}
+use Rattle.std.proofs.Common.{◌≡◌, ◌∙◌, ◌++◌, List, ap, map, sym, subst, take, take_all, arith}
 use Rattle.std.proofs.lemmas.List.{take_more}
 use Rattle.j39_transport.specs.Events.{Event}
 use Rattle.j39_transport.specs.Events.Event.{Forget}

@@ -1,4 +1,4 @@
-use Rattle.std.proofs.Common.{◌≡◌, ◌++◌, List, map, take}
+use Rattle.std.proofs.Common.{◌++◌, List, map, take}
 use Rattle.j39_transport.specs.Events.{Event}
 use Rattle.j39_transport.specs.Events.Event.{Forget}
 use Rattle.j39_transport.specs.Stands.{Stands}

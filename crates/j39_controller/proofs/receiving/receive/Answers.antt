@@ -1,5 +1,5 @@
 -- The receiver takes the step of the frame at its moment, and what it delivers lies behind the others.
-use Rattle.std.proofs.Common.{ℕ, List, ◌∷◌, ◌++◌, [], ap, sym, subst, ◌∙◌, refl, append-nil}
+use Rattle.std.proofs.Common.{ℕ, ◌∷◌, ◌++◌, [], ap, sym, subst, ◌∙◌, refl, append-nil}
 use Rattle.j39_frame.specs.Frame.{FrameRecord}
 use Rattle.j39_transport.specs.ReceiverStands.{HasHeard}
 use Rattle.j39_transport.specs.ShownReceiver.{answer_of, message_shown}

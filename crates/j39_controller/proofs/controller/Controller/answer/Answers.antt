@@ -1,5 +1,5 @@
 -- The node's two steps, at the moment of the frame.
-use Rattle.std.proofs.Common.{◌≡◌, ℕ, None, ap, subst}
+use Rattle.std.proofs.Common.{ℕ, None, ap, subst}
 use Rattle.j39_frame.specs.Frame.{FrameRecord}
 use Rattle.j39_address.specs.Call as call
 use Rattle.j39_address.specs.Call.{call_of}

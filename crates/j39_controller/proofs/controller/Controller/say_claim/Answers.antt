@@ -1,5 +1,5 @@
 -- What isn't dropped stays, and the claim comes behind it.
-use Rattle.std.proofs.Common.{◌≡◌, ℕ, ◌++◌, ◌∷◌, [], List, refl, ap, sym, subst}
+use Rattle.std.proofs.Common.{ℕ, refl, ap, sym, subst}
 use Rattle.j39_transport.specs.Stands.{Stands}
 use Rattle.j39_transport.specs.Steps.{AssemblerRecord}
 use Rattle.j39_address.specs.Claims.{Knows}

@@ -1,5 +1,5 @@
 -- Each part was shown the frame by its own call.
-use Rattle.std.proofs.Common.{ℕ, Option, ◌++◌, ap, sym, subst, ◌∙◌, refl}
+use Rattle.std.proofs.Common.{ℕ, Option, ◌++◌, ap, ◌∙◌, refl}
 use Rattle.std.specs.Option.{option_map}
 use Rattle.j39_frame.specs.Frame.{FrameRecord}
 use Rattle.j39_transport.specs.Cutting.{to_send}

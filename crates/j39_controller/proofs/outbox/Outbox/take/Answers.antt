@@ -1,5 +1,5 @@
 -- The first wish is the one that is taken out.
-use Rattle.std.proofs.Common.{◌≡◌, ◌∷◌, List, sym, ap, ◌∙◌, subst, true, false}
+use Rattle.std.proofs.Common.{◌≡◌, ◌∷◌, List, sym, ◌∙◌, subst, true, false}
 use Rattle.j39_controller.specs.MaySend.{MaySend}
 use Rattle.j39_controller.specs.declared.outbox.Wish.{Wish}
 use Rattle.j39_controller.proofs.outbox.Outbox.take.Goals as goal

@@ -1,7 +1,6 @@
 -- The first wish is told, and then the others.
-use Rattle.std.proofs.Common.{◌≡◌, ◌++◌, ◌∷◌, [], List, None, sym, ap, ◌∙◌, append_assoc, append-nil, arith}
+use Rattle.std.proofs.Common.{◌≡◌, ◌++◌, ◌∷◌, [], List, sym, ap, ◌∙◌, append_assoc, append-nil, arith}
 use Rattle.std.proofs.lemmas.Grind.{common_steps}
-use Rattle.std.specs.Option.{option_to_list}
 use Rattle.j39_controller.specs.Outbox.{withdrawn, withdrawn_by}
 use Rattle.j39_controller.specs.declared.outbox.Wish.{Wish}
 use Rattle.j39_controller.specs.declared.settled.Settled.{Settled}
