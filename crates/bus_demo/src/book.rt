@@ -2,10 +2,9 @@
 ghost use Rattle.std.specs.Prelude.{◌≡◌, ◌∷◌, ◌++◌, []};
 ghost use Rattle.std.specs.Result.{OnOk};
 
-use crate::outbox::Part;
 use j39_address::Name;
+use j39_controller::{Part, Received};
 use j39_frame::{Pgn, Stamp};
-use j39_transport::Message;
 use std::alloc::{AllocError, Global};
 
 /// What became of a message.
@@ -34,20 +33,12 @@ pub(crate) struct Handed {
     pub fate: Fate,
 }
 
-/// A message that a receiver delivered.
-#[derive(Drop)]
-pub(crate) struct Delivery {
-    pub source: u8,
-    pub pgn: Pgn,
-    pub payload: Vec<u8>,
-}
-
 /// The book of a bus. It knows nothing of any log.
 #[derive(Drop)]
 pub(crate) struct Book {
     alloc: Global,
     handed: Vec<Handed>,
-    deliveries: Vec<Delivery>,
+    deliveries: Vec<Received>,
     done: Vec<usize>,
 }
 
@@ -87,19 +78,13 @@ impl Book {
 
     /// Notes what a receiver delivered: the message that was handed in last with this source, group and
     /// payload to one controller is whole.
-    pub(crate) fn deliver(&mut self, message: &Message<'_>) -> Result<(), AllocError> {
-        let payload = Vec::from_slice(self.alloc, message.payload)?;
-        self.deliveries.push(Delivery {
-            source: message.source,
-            pgn: message.pgn,
-            payload,
-        })?;
+    pub(crate) fn deliver(&mut self, message: Received) -> Result<(), AllocError> {
         let mut number = None;
         for (place, handed) in self.handed.iter().enumerate() {
             if handed.to.is_some()
                 && handed.address == message.source
                 && handed.pgn == message.pgn
-                && handed.payload.as_slice() == message.payload
+                && handed.payload.as_slice() == message.payload.as_slice()
             {
                 number = Some(place);
             }
@@ -107,6 +92,7 @@ impl Book {
         if let Some(number) = number {
             self.settle(number, Fate::Whole(message.stamp));
         }
+        self.deliveries.push(message)?;
         Ok(())
     }
 
@@ -132,7 +118,7 @@ impl Book {
     }
 
     /// What receivers delivered, in order.
-    pub(crate) fn deliveries(&self) -> &[Delivery] {
+    pub(crate) fn deliveries(&self) -> &[Received] {
         self.deliveries.as_slice()
     }
 

@@ -4,8 +4,8 @@ ghost use Rattle.j39_frame.specs.Stamp.{stamp_micros};
 
 use crate::arbitration::winner;
 use crate::book::{Book, Fate};
-use crate::controller::Controller;
-use crate::outbox::Wish;
+use crate::player::Player;
+use j39_controller::Wish;
 use j39_device::{DeviceFault, Sink, put_all};
 use j39_frame::{Frame, Id, Stamp};
 use j39_log::{Bus as Network, line_of};
@@ -52,7 +52,7 @@ impl From<DeviceFault> for BusFault {
 #[derive(Drop)]
 pub(crate) struct Bus<'a> {
     network: Network,
-    controllers: Vec<Controller>,
+    controllers: Vec<Player>,
     /// What each of them wishes to send.
     wishes: Vec<Option<Id>>,
     /// The numbers of the frames that are lost, counted from 1.
@@ -64,7 +64,7 @@ pub(crate) struct Bus<'a> {
 
 impl<'a> Bus<'a> {
     /// A bus at the moment 0, on which nothing was sent yet.
-    pub(crate) fn new(alloc: Global, controllers: Vec<Controller>, lose: &'a [u64]) -> Bus<'a> {
+    pub(crate) fn new(alloc: Global, controllers: Vec<Player>, lose: &'a [u64]) -> Bus<'a> {
         Bus {
             network: Network::new(NETWORK).unwrap(),
             controllers,
@@ -164,7 +164,7 @@ impl<'a> Bus<'a> {
     }
 
     /// The controllers, in the order in which they win where they wish to send one identifier.
-    pub(crate) fn controllers(&self) -> &[Controller] {
+    pub(crate) fn controllers(&self) -> &[Player] {
         self.controllers.as_slice()
     }
 }

@@ -1,8 +1,8 @@
 //! What a controller owes where its address is lost, or a transfer of it fails.
 use crate::book::{Book, Fate};
 use crate::bus::Bus;
-use crate::controller::Controller;
 use crate::gauges::{Gauges, Group};
+use crate::player::Player;
 use crate::role::{Plan, Rate, Role};
 use crate::scenario::COMMAND;
 use j39_device::Told;
@@ -98,7 +98,7 @@ fn four(
     seed: u64,
     engine: &'static [Plan],
     tool: &'static [Plan],
-) -> Result<Vec<Controller>, AllocError> {
+) -> Result<Vec<Player>, AllocError> {
     let roles = [
         role(0x8000_0000_0340_1001, ENGINE, 0, engine),
         role(0x8000_0000_0140_1002, ENGINE, 1_000_000, &NONE),
@@ -108,7 +108,7 @@ fn four(
     let mut controllers = Vec::new(alloc);
     for (place, role) in roles.iter().enumerate() {
         let gauges = Gauges::new(seed, place as u64);
-        if let Some(controller) = Controller::new(alloc, role, gauges) {
+        if let Some(controller) = Player::new(alloc, role, gauges) {
             controllers.push(controller)?;
         }
     }
@@ -163,7 +163,7 @@ fn outcome_of(bus: &Bus<'_>) -> Outcome {
 
 fn played<'a>(
     alloc: Global,
-    controllers: Vec<Controller>,
+    controllers: Vec<Player>,
     seconds: u64,
     lose: &'a [u64],
 ) -> Result<(Vec<u8>, Bus<'a>), Fail> {

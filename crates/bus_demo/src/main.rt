@@ -4,7 +4,6 @@
 mod arbitration;
 mod book;
 mod bus;
-mod controller;
 #[cfg(test)]
 mod expected;
 #[cfg(test)]
@@ -16,7 +15,9 @@ mod loop_tests;
 mod loss_tests;
 #[cfg(test)]
 mod memory_tests;
-mod outbox;
+#[cfg(test)]
+mod pair_tests;
+mod player;
 mod publisher;
 mod role;
 mod scenario;
@@ -26,8 +27,8 @@ mod words_tests;
 
 use book::Book;
 use bus::{Bus, BusFault};
-use controller::Controller;
 use j39_device::Told;
+use player::Player;
 use scenario::controllers;
 use std::io::BufWriter;
 use std::process::ExitCode;
@@ -82,7 +83,7 @@ fn tell_counts(rt: &HostRuntime, frames: u64, book: &Book) -> io::Result<()> {
 
 /// Says which address each controller holds by its own account, a line each, as `j1939 nodes` does by the
 /// log's.
-fn tell_addresses(rt: &HostRuntime, controllers: &[Controller]) -> io::Result<()> {
+fn tell_addresses(rt: &HostRuntime, controllers: &[Player]) -> io::Result<()> {
     for controller in controllers {
         if let Some(address) = controller.held() {
             let name = controller.name().raw();

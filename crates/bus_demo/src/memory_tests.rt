@@ -1,6 +1,7 @@
 //! The bytes of a controller's parts, as docs/CONTROLLER.md states them.
 use j39_address::{Claimer, Claims};
-use j39_transport::{Assembler, Broadcast, Receiver, Sender};
+use j39_controller::Controller;
+use j39_transport::{Assembler, Broadcast, OwnedSender, Receiver, Sender};
 use std::mem::size_of;
 
 #[test]
@@ -13,4 +14,7 @@ fn memory_of_the_parts(rt: HostRuntime) {
     let receiver = size_of::<Receiver>();
     assert_eq!(rt; [claimer, claims, assembler], [4_088, 4_064, 4_336]);
     assert_eq!(rt; [broadcast, sender, receiver], [40, 64, 40]);
+    let owned = size_of::<OwnedSender>();
+    let controller = size_of::<Controller>();
+    assert_eq!(rt; [owned, controller], [72, 12_864]);
 }

@@ -5,8 +5,8 @@
 //! speed, temperatures and distance. The engine broadcasts its vehicle's identification (VI), and the
 //! rival sends its component's (CI) to the tool. The gearbox says which of its fault codes are active
 //! (DM1): first one, then three, then none.
-use crate::controller::Controller;
 use crate::gauges::{Gauges, Group};
+use crate::player::Player;
 use crate::role::{Plan, Rate, Role};
 use std::alloc::{AllocError, Global};
 
@@ -141,12 +141,12 @@ fn tool() -> Role {
 
 /// The four controllers. The seed decides when in a time of 10 ms each one's loop turns, and what its
 /// gauges show.
-pub(crate) fn controllers(alloc: Global, seed: u64) -> Result<Vec<Controller>, AllocError> {
+pub(crate) fn controllers(alloc: Global, seed: u64) -> Result<Vec<Player>, AllocError> {
     let mut controllers = Vec::new(alloc);
     let roles = [engine(), rival(), gearbox(), tool()];
     for (place, role) in roles.iter().enumerate() {
         let gauges = Gauges::new(seed, place as u64);
-        if let Some(controller) = Controller::new(alloc, role, gauges) {
+        if let Some(controller) = Player::new(alloc, role, gauges) {
             controllers.push(controller)?;
         }
     }

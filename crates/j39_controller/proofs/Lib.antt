@@ -1,0 +1,4 @@
+mod ForgetLemmas
+mod GoesLemmas
+mod MaySendLemmas
+mod ResultLemmas
