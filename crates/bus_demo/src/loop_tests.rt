@@ -218,64 +218,78 @@ fn nothing_is_lost(rt: HostRuntime) -> Result<(), Fail> {
 /// A text that frames have, so many of them, a seed, and the outcome where any one of them is lost.
 type Loss = (&'static str, usize, u64, Outcome);
 
-static LOSSES: [Loss; 7] = [
-    // A broadcast that loses its announcement or a packet is missing, and nothing else.
-    (
-        " 1CECFF80#20",
-        1,
-        1,
-        Outcome {
-            lost: 1,
-            vin: false,
-            ..ALL_WELL
-        },
-    ),
-    (
-        " 1CEBFF80#",
-        3,
-        7,
-        Outcome {
-            lost: 1,
-            vin: false,
-            ..ALL_WELL
-        },
-    ),
-    // A packet of a transfer is sent again.
-    (" 1CEBF900#", 5, 1, ALL_WELL),
-    // A transfer whose request is lost fails; one whose acknowledgment is lost was delivered all the same.
-    (
-        " 1CECF900#10",
-        1,
-        1,
-        Outcome {
-            lost: 1,
-            delivered: 0,
-            done: 0,
-            ..ALL_WELL
-        },
-    ),
-    (
-        " 1CEC00F9#13",
-        1,
-        7,
-        Outcome {
-            done: 0,
-            ..ALL_WELL
-        },
-    ),
-    // A command that loses a frame isn't obeyed.
-    (" 1CECFFF9#20", 1, 2, NOT_OBEYED),
-    (" 1CEBFFF9#", 2, 1_000, NOT_OBEYED),
-];
+fn losses() -> [Loss; 7] {
+    [
+        // A broadcast that loses its announcement or a packet is missing, and nothing else.
+        (
+            " 1CECFF80#20",
+            1,
+            1,
+            Outcome {
+                lost: 1,
+                vin: false,
+                ..ALL_WELL
+            },
+        ),
+        (
+            " 1CEBFF80#",
+            3,
+            7,
+            Outcome {
+                lost: 1,
+                vin: false,
+                ..ALL_WELL
+            },
+        ),
+        // A packet of a transfer is sent again.
+        (" 1CEBF900#", 5, 1, ALL_WELL),
+        // A transfer whose request is lost fails; one whose acknowledgment is lost was delivered all the same.
+        (
+            " 1CECF900#10",
+            1,
+            1,
+            Outcome {
+                lost: 1,
+                delivered: 0,
+                done: 0,
+                ..ALL_WELL
+            },
+        ),
+        (
+            " 1CEC00F9#13",
+            1,
+            7,
+            Outcome {
+                done: 0,
+                ..ALL_WELL
+            },
+        ),
+        // A command that loses a frame isn't obeyed.
+        (" 1CECFFF9#20", 1, 2, NOT_OBEYED),
+        (" 1CEBFFF9#", 2, 1_000, NOT_OBEYED),
+    ]
+}
+
+/// Whichever one of the frames with this text is lost, so many of them in all, the outcome is this.
+fn ends(
+    rt: &(impl Abort + AllocGlobal),
+    seed: u64,
+    text: &str,
+    frames: usize,
+    want: &Outcome,
+) -> Result<(), Fail> {
+    let numbers = frames_with(rt.alloc(), seed, text)?;
+    assert_eq!(rt; numbers.len(), frames, "{text}");
+    for number in numbers.iter() {
+        assert_eq!(rt; closes(rt, seed, &[*number])?, *want, "{text} {number}");
+    }
+    Ok(())
+}
 
 #[test]
 fn one_frame_is_lost(rt: HostRuntime) -> Result<(), Fail> {
-    for (text, frames, seed, want) in LOSSES.iter() {
-        let numbers = frames_with(rt.alloc(), *seed, text)?;
-        assert_eq!(rt; numbers.len(), *frames, "{text}");
-        for number in numbers.iter() {
-            assert_eq!(rt; closes(&rt, *seed, &[*number])?, *want, "{text} {number}");
-        }
+    for (text, frames, seed, want) in losses().iter() {
+        ends(&rt, *seed, text, *frames, want)?;
     }
     Ok(())
 }
