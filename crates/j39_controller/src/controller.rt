@@ -289,7 +289,7 @@ impl Controller {
         self.say(claim)
     }
 
-    /// Sends a claim, where the node answered one. While the address isn't held, nothing else is sent.
+    /// Sends a claim, where the node answered one.
     fn say(&mut self, claim: Option<Frame>) -> Result<(), AllocError>
         ensures { OnOk result (IsSaid self.old claim self.new) }
     {
@@ -299,6 +299,7 @@ impl Controller {
         }
     }
 
+    /// Sends a claim. While the address isn't held, nothing else is sent.
     fn say_claim(&mut self, claim: Frame) -> Result<(), AllocError>
         ensures { OnOk result (SaysClaim self.old claim self.new) }
     {
