@@ -2,16 +2,22 @@
  * @file j1939.h
  * @brief The proved SAE J1939 stack, for programs in C11 and C++.
  *
- * What the calls promise is proved, for every input that keeps to the rules below; each call's contract is in the
- * crate j39_c, and what it means in its README.
+ * What the calls promise is proved, for every input that keeps to the rules below. Each call's contract is in the
+ * sources of the library, in the crate j39_c, whose README says it in words.
  *
  * Answers. A call answers below 0 where it did nothing, and why: one of the J1939_ codes. Then what it was handed is
- * as it was. 0 says that there is no more to say, and 1 and above what stands in the parameters that it wrote to.
+ * as it was; only a controller may have done some of a call where memory was refused. 0 says that there is no more to
+ * say, and 1 and above what stands in the parameters that it wrote to. J1939_NULL comes of each call with a pointer,
+ * and isn't named there again.
  *
  * Storage. j1939_node, j1939_claims and j1939_broadcast are plain data in your own memory: make them by their .._init.
- * They take no memory besides, need no close, and may be copied. A j1939_listener, a j1939_assembler, a j1939_receiver
- * and a j1939_sender are handles: set one to J1939_EMPTY, open it by its .._new, close it by its .._close. What it holds
- * lies on the heap and is the library's. Frames, messages, readings and texts are your own, and are copied.
+ * They take no memory besides, need no close, and may be copied. A j1939_controller, a j1939_listener, a
+ * j1939_assembler, a j1939_receiver and a j1939_sender are handles: set one to J1939_EMPTY, open it by its .._new,
+ * close it by its .._close. What it holds lies on the heap and is the library's. Frames, messages, readings and texts
+ * are your own, and are copied.
+ *
+ * A j1939_controller is a node, an assembler, a receiver, a sender and its broadcasts in one loop. Take the others
+ * where you write a loop of your own, or listen only.
  *
  * What you owe, since no library can test it:
  *  - a pointer that is not NULL points to memory of its type, or of the size that you say (NULL is tested);
@@ -137,7 +143,8 @@ int32_t j1939_read(const j1939_message *message, size_t index, j1939_reading *re
 int32_t j1939_read_text(const j1939_message *message, size_t index, char *text, size_t room);
 
 /** The raw number of a value of a parameter, in units of its last decimal place: 1 and the number, or 0 where there is
- * none: the parameter is no number, or the value is off its steps or its valid range. */
+ * none: the parameter is no number, or the value is off its steps or its valid range. A reading of the parameter tells
+ * its places: an engine speed (190) has three, so 1,500 rpm are 1500000. */
 int32_t j1939_raw_of(uint32_t spn, int64_t value, uint32_t *raw);
 
 /* ---- broadcasts (J1939-21, 5.10.1 to 5.10.2) */
@@ -238,6 +245,10 @@ typedef struct {
     j1939_handle handle;
 } j1939_assembler;
 
+typedef struct {
+    j1939_handle handle;
+} j1939_controller;
+
 /** A handle that holds nothing. */
 /* clang-format off */
 #define J1939_EMPTY {{NULL}}
@@ -319,6 +330,100 @@ int32_t j1939_sender_state(j1939_sender *sender, uint8_t *reason);
 
 /** Closes it: 0. Closing an empty one does nothing. */
 int32_t j1939_sender_close(j1939_sender *sender);
+
+/* ---- a controller: all of it in one loop (J1939-21, J1939-81)
+ *
+ * At each frame that another controller sent: j1939_controller_hear, and then .._take_received and .._take_asked until
+ * they answer 0. Each 10 to 100 ms: j1939_controller_pass; then hand in what is to be sent, by .._send, .._broadcast or
+ * .._transfer; then j1939_controller_turn; then .._take_settled until it answers 0, and, as the bus is free,
+ * .._take_frame. What is not taken is kept, without limit. Messages are handed in under a number of your own, by which
+ * their end is told.
+ *
+ * Where a smaller NAME claims its address it claims the least free one of 128 to 247, if its NAME is arbitrary and one
+ * is free. Else "cannot claim" is to be sent, from address 254, and it holds no address again but by a commanded one.
+ * J1939-81 has "cannot claim" wait a random time up to 153 ms: that is yours. What it was sending is withdrawn.
+ *
+ * A call with a handle that holds no controller answers J1939_NO_PART, but for .._new and .._close. After
+ * J1939_NO_MEMORY from .._pass, .._turn and .._hear some of the call may be done, and its claim may be lost, though it
+ * holds the address later: close it then, and open another one. */
+
+/** Opens a controller of this NAME, to start with this address: 0; J1939_IN_USE; J1939_BAD_VALUE for an address above
+ * 253; J1939_NO_MEMORY. */
+int32_t j1939_controller_new(j1939_controller *controller, uint64_t name, uint8_t preferred);
+
+/** Lets time pass for its address (J1939-81, 4.2): the first call claims the preferred one, and 250 ms later it is
+ * held: 0. J1939_BAD_VALUE, J1939_NO_MEMORY. */
+int32_t j1939_controller_pass(j1939_controller *controller, uint64_t micros);
+
+/** Lets time pass for its messages, where it holds an address: a frame of a broadcast, a frame of a transfer, and what
+ * its receiver asks for again are to be sent then: 0. J1939_BAD_VALUE, J1939_NO_MEMORY. */
+int32_t j1939_controller_turn(j1939_controller *controller, uint64_t micros);
+
+/** Shows it a frame that another controller sent, of any group, at the frame's own moment: 0. It answers claims,
+ * requests for claims, transfers to it, and a commanded address. J1939_BAD_VALUE, J1939_NO_MEMORY. */
+int32_t j1939_controller_hear(j1939_controller *controller, const j1939_frame *frame);
+
+/** The identifier of the frame that it wishes to send next, for arbitration: 1 and the identifier, or 0. Its frames go
+ * out in the order in which they came to wait. */
+int32_t j1939_controller_wish(j1939_controller *controller, uint32_t *id);
+
+/** Takes the frame that it wishes to send next, which counts as sent then; its moment says since when it waits, not
+ * when it goes out. 0 where none waits, or this one may not go out any more: it is dropped then, and the next call has
+ * what is behind it. Else *out goes out: 1 it is a claim or a frame of a transfer, and *number stays as it was; 2 it is
+ * a frame of message *number, 3 that message's last. While no address is held, claims alone go out. */
+int32_t j1939_controller_take_frame(j1939_controller *controller, j1939_frame *out, size_t *number);
+
+/** The address that it holds: 1 and the address, or 0: it did not claim yet, claims for less than 250 ms, or cannot. */
+int32_t j1939_controller_held(j1939_controller *controller, uint8_t *address);
+
+/** The address that a message may begin from: 1 and the address, or 0: it holds none, a message is on its way, or a
+ * transfer failed or was withdrawn within 4 s. J1939_BAD_VALUE. */
+int32_t j1939_controller_free_at(j1939_controller *controller, uint64_t micros, uint8_t *address);
+
+/** Hands in a frame that is a message by itself: 0. It goes out where its source is the address that is held and it is
+ * no claim; else it is told as J1939_ENDED_WITHDRAWN. J1939_BAD_VALUE for a frame that is out of range;
+ * J1939_NO_MEMORY. */
+int32_t j1939_controller_send(j1939_controller *controller, const j1939_frame *frame, size_t number);
+
+/** Begins to broadcast these bytes (J1939-21, 5.10.3.5): 1 where the message has begun, 0 where none may begin
+ * (j1939_controller_free_at). J1939_BAD_VALUE outside 9 to 1785 bytes, for a group of 2^18 and above or a moment of
+ * 10^16 and above; J1939_NO_MEMORY. The bytes are copied. */
+int32_t j1939_controller_broadcast(j1939_controller *controller, size_t number, uint32_t pgn, const uint8_t *payload,
+                                   size_t size, uint64_t micros);
+
+/** Begins to send these bytes to an address (J1939-21, 5.10.3): 1 where the message has begun, 0 where none may begin.
+ * J1939_BAD_VALUE for an address above 253 too; J1939_NO_MEMORY. The bytes are copied. */
+int32_t j1939_controller_transfer(j1939_controller *controller, size_t number, uint8_t to, uint32_t pgn,
+                                  const uint8_t *payload, size_t size, uint64_t micros);
+
+/** Takes the oldest message of 9 to 1785 bytes that it received, with no NAME: 1 where there is one, else 0. It went to
+ * *destination: 255 for a broadcast, else the controller's address. */
+int32_t j1939_controller_take_received(j1939_controller *controller, j1939_message *message, uint8_t *destination);
+
+/** A request for a group (J1939-21, 5.4.2). */
+typedef struct {
+    uint32_t pgn;        /**< the group that is asked for, of 18 bits */
+    uint8_t source;      /**< the address that asks */
+    uint8_t destination; /**< 255 where all are asked, else the controller's address */
+} j1939_request;
+
+/** Takes the oldest request, to it or to all, for a group other than claims: 1 where there is one, else 0. The answer
+ * is yours to send. */
+int32_t j1939_controller_take_asked(j1939_controller *controller, j1939_request *request);
+
+/** How a message ended. */
+enum {
+    J1939_ENDED_DONE = 1,     /**< the receiver of a transfer acknowledged it */
+    J1939_ENDED_FAILED = 2,   /**< a transfer was aborted, for 3 where the receiver was silent; it may be delivered */
+    J1939_ENDED_WITHDRAWN = 3 /**< the address was lost, or was not held, before all its frames went out */
+};
+
+/** Takes the oldest end of a message: J1939_ENDED_DONE and so on, and its number, with the reason where it is
+ * J1939_ENDED_FAILED; 0 where there is none. Broadcasts and single frames that went out are not told. */
+int32_t j1939_controller_take_settled(j1939_controller *controller, size_t *number, uint8_t *reason);
+
+/** Closes it: 0. Closing an empty one does nothing. */
+int32_t j1939_controller_close(j1939_controller *controller);
 
 #ifdef __cplusplus
 }

@@ -1,9 +1,11 @@
-/* A controller on a CAN interface of Linux: it claims an address and keeps it, receives what is sent to it, and sends
- * one message of its own. What it sends is printed as candump -L writes it.
+/* A controller on a CAN interface of Linux: it claims an address and keeps it, sends an engine speed, receives what is
+ * sent to it, and answers requests for its VIN. Where it has a destination it sends that its VIN once, and asks for the
+ * other's until one came. What it sends is printed as candump -L writes it.
  *
  *   socketcan INTERFACE NAME ADDRESS [DESTINATION]   on an interface, for ever: NAME and the addresses are hex
  *   socketcan --socketpair                           two of them in two processes, for two seconds, with a socketpair
- *                                                    for a bus: both claim address 80, and send one another a VIN
+ *                                                    for a bus: both claim address 80; one sends the other its VIN,
+ *                                                    and asks for the other's
  */
 #define _DEFAULT_SOURCE
 #include "j1939.h"
@@ -21,23 +23,29 @@
 #include <time.h>
 #include <unistd.h>
 
-/* The time between two turns of the loop, and the wait before a message is sent, in microseconds. */
-static const uint64_t TURN = 10000, PATIENCE = 1000000;
+/* The time between two turns of the loop, between two values, and between two requests, in microseconds; and how long it
+ * waits for others to come before it sends anything but claims. */
+static const uint64_t TURN = 10000, PERIOD = 100000, AGAIN = 500000, PATIENCE = 1000000;
 
-/* The group of vehicle identification. */
-enum { VIN_GROUP = 65260, VIN_SIZE = 17, NOBODY = 254 };
+/* The numbers of its messages: its own VIN, answers to requests, and what goes in one frame. */
+enum { OWN, ANSWER, SINGLE };
+
+/* The groups of vehicle identification and of the engine speed, and its parameter (J1939-71); that of requests (-21). */
+enum { VIN_GROUP = 65260, VIN_SIZE = 17, EEC1 = 61444, ENGINE_SPEED = 190, REQUEST = 59904 };
+enum { NOBODY = 254, EVERYBODY = 255 };
 
 typedef struct {
-    const char *bus;         /* what the bus is called where frames are printed */
+    const char *bus;        /* what the bus is called where frames are printed */
     int socket;
-    uint64_t start, begins;  /* when it came to the bus, and how long it waits before it claims */
-    uint8_t destination;     /* whom it sends its message to; NOBODY for nobody */
+    uint64_t start, begins; /* when it came to the bus, and how long it waits before it claims */
+    uint8_t destination;    /* whom it sends its message to; NOBODY for nobody */
     const char *vin;
-    j1939_node node;
-    j1939_receiver receiver; /* open while the address is held */
-    j1939_sender sender;     /* open from the message's first frame on */
-    unsigned received;       /* how many messages came */
-} controller;
+    j1939_controller controller;
+    uint64_t value_due;     /* when the next value is sent */
+    uint64_t request_due;   /* when the other's VIN is asked for */
+    int is_sent, is_done;   /* its VIN is on its way or over; it was acknowledged */
+    unsigned received;      /* how many messages came */
+} station;
 
 static uint64_t moment(void) {
     struct timespec t;
@@ -56,28 +64,28 @@ static int32_t sure(int32_t answer) {
 
 /* ---- the bus */
 
-/* Sends a frame where a call answered one, and prints it. */
-static void say(const controller *c, int32_t answer, const j1939_frame *frame) {
+/* Sends a frame, and prints it. */
+static void say(const station *s, const j1939_frame *frame) {
     char line[80];
+    uint64_t now = moment();
     struct can_frame can = {.can_id = frame->id | CAN_EFF_FLAG, .can_dlc = frame->len};
-    if (sure(answer) == 0) return;
     memcpy(can.data, frame->data, frame->len);
-    int size = snprintf(line, sizeof line, "(%010" PRIu64 ".%06" PRIu64 ") %.16s %08" PRIX32 "#",
-                        frame->micros / 1000000, frame->micros % 1000000, c->bus, frame->id);
+    int size = snprintf(line, sizeof line, "(%010" PRIu64 ".%06" PRIu64 ") %.16s %08" PRIX32 "#", now / 1000000,
+                        now % 1000000, s->bus, frame->id);
     for (int i = 0; i < frame->len; i++)
         size += snprintf(line + size, sizeof line - (size_t)size, "%02X", frame->data[i]);
     line[size++] = '\n';
-    if (write(c->socket, &can, sizeof can) != sizeof can || write(STDOUT_FILENO, line, (size_t)size) != size) {
+    if (write(s->socket, &can, sizeof can) != sizeof can || write(STDOUT_FILENO, line, (size_t)size) != size) {
         perror("socketcan");
         exit(1);
     }
 }
 
 /* Waits a millisecond for a frame; 0 where none came, or one that is none of J1939's. */
-static int next_frame(const controller *c, j1939_frame *frame) {
-    struct pollfd ready = {.fd = c->socket, .events = POLLIN};
+static int next_frame(const station *s, j1939_frame *frame) {
+    struct pollfd ready = {.fd = s->socket, .events = POLLIN};
     struct can_frame can;
-    if (poll(&ready, 1, 1) != 1 || read(c->socket, &can, sizeof can) != sizeof can) return 0;
+    if (poll(&ready, 1, 1) != 1 || read(s->socket, &can, sizeof can) != sizeof can) return 0;
     if (!(can.can_id & CAN_EFF_FLAG) || can.can_id & (CAN_RTR_FLAG | CAN_ERR_FLAG) || can.can_dlc > 8) return 0;
     *frame = (j1939_frame){.micros = moment(), .id = can.can_id & CAN_EFF_MASK, .len = can.can_dlc};
     memcpy(frame->data, can.data, can.can_dlc);
@@ -86,58 +94,95 @@ static int next_frame(const controller *c, j1939_frame *frame) {
 
 /* ---- the controller */
 
-/* Shows a frame to every part. */
-static void hear(controller *c, const j1939_frame *frame) {
-    j1939_frame out;
-    j1939_message message;
-    say(c, j1939_node_on(&c->node, frame, &out), &out);
-    if (c->receiver.handle.part) {
-        int32_t answer = j1939_receiver_on(&c->receiver, frame, &out, &message);
-        say(c, answer, &out);
-        if (answer == 2) {
-            c->received++;
-            fprintf(stderr, "from %02X: %u bytes of group %" PRIu32 "\n", (unsigned)message.source,
-                    (unsigned)message.len, message.pgn);
-        }
-    }
-    if (c->sender.handle.part) sure(j1939_sender_on(&c->sender, frame));
+/* Begins to send the VIN, to all or to one controller; 0 where no message may begin now. */
+static int send_vin(station *s, size_t number, uint8_t to, uint64_t now) {
+    const uint8_t *vin = (const uint8_t *)s->vin;
+    return sure(to == EVERYBODY
+                    ? j1939_controller_broadcast(&s->controller, number, VIN_GROUP, vin, VIN_SIZE, now)
+                    : j1939_controller_transfer(&s->controller, number, to, VIN_GROUP, vin, VIN_SIZE, now));
 }
 
-/* Drops what was begun at an address that is lost. */
-static void withdraw(controller *c) {
-    sure(j1939_receiver_close(&c->receiver));
-    sure(j1939_sender_close(&c->sender));
+/* Sends a frame of a group to all or to one controller, where it holds an address. */
+static void send_frame(station *s, j1939_frame *frame, uint32_t pgn, uint8_t priority, uint8_t to) {
+    j1939_id_fields id = {.pgn = pgn, .priority = priority, .destination = to};
+    if (!sure(j1939_controller_held(&s->controller, &id.source))) return;
+    sure(j1939_id_compose(&id, &frame->id));
+    sure(j1939_controller_send(&s->controller, frame, SINGLE));
 }
 
-/* A turn of the loop: time passes. */
-static void turn(controller *c, uint64_t now) {
-    j1939_frame out;
-    uint8_t own;
-    sure(j1939_node_tick(&c->node, now));
-    if (now - c->start >= c->begins) say(c, j1939_node_start(&c->node, now, &out), &out);
-    if (j1939_node_status(&c->node, &own) != J1939_HOLDING) {
-        withdraw(c);
-        return;
+/* Sends an engine speed, in thousandths of an rpm. */
+static void send_speed(station *s, int64_t speed, uint64_t now) {
+    j1939_frame frame = {.micros = now, .len = 8};
+    uint32_t raw;
+    if (!sure(j1939_raw_of(ENGINE_SPEED, speed, &raw))) return;
+    memset(frame.data, 0xFF, sizeof frame.data); /* what isn't measured */
+    frame.data[3] = (uint8_t)raw, frame.data[4] = (uint8_t)(raw >> 8); /* bytes 4 and 5, as J1939 counts them */
+    send_frame(s, &frame, EEC1, 3, EVERYBODY);
+}
+
+/* Asks for a VIN. */
+static void ask_for_vin(station *s, uint64_t now) {
+    j1939_frame frame = {.micros = now, .len = 3, .data = {VIN_GROUP & 0xFF, VIN_GROUP >> 8, 0}};
+    send_frame(s, &frame, REQUEST, 6, s->destination);
+}
+
+/* Hands in what it sends of its own: a value each 100 ms, its VIN once, and requests for the other's. */
+static void send_own(station *s, uint64_t now) {
+    if (now >= s->value_due) {
+        send_speed(s, 1500000, now);
+        s->value_due = now + PERIOD;
     }
-    if (!c->receiver.handle.part) sure(j1939_receiver_new(&c->receiver, own));
-    say(c, j1939_receiver_tick(&c->receiver, now, &out), &out);
-    if (now - c->start < PATIENCE || c->destination == NOBODY) return;
-    if (!c->sender.handle.part)
-        sure(j1939_sender_new(&c->sender, own, c->destination, VIN_GROUP, (const uint8_t *)c->vin, VIN_SIZE));
-    say(c, j1939_sender_tick(&c->sender, now, &out), &out);
+    if (s->destination == NOBODY) return;
+    if (!s->is_sent) s->is_sent = send_vin(s, OWN, s->destination, now);
+    if (!s->received && now >= s->request_due) {
+        ask_for_vin(s, now);
+        s->request_due = now + AGAIN;
+    }
+}
+
+/* Shows it a frame, and takes what came with it. */
+static void hear(station *s, const j1939_frame *frame) {
+    static j1939_message message;
+    j1939_request request;
+    uint8_t to;
+    sure(j1939_controller_hear(&s->controller, frame));
+    while (sure(j1939_controller_take_received(&s->controller, &message, &to))) {
+        s->received++;
+        fprintf(stderr, "from %02X: %u bytes of group %" PRIu32 "\n", (unsigned)message.source, (unsigned)message.len,
+                message.pgn);
+    }
+    while (sure(j1939_controller_take_asked(&s->controller, &request))) {
+        to = request.destination == EVERYBODY ? EVERYBODY : request.source;
+        if (request.pgn == VIN_GROUP) send_vin(s, ANSWER, to, frame->micros);
+    }
+}
+
+/* A turn of the loop: time passes, and what is to be sent goes out. */
+static void turn(station *s, uint64_t now) {
+    j1939_frame out;
+    size_t number;
+    uint8_t reason;
+    int32_t ended;
+    if (now - s->start >= s->begins) sure(j1939_controller_pass(&s->controller, now));
+    if (now - s->start >= PATIENCE) send_own(s, now);
+    sure(j1939_controller_turn(&s->controller, now));
+    while ((ended = sure(j1939_controller_take_settled(&s->controller, &number, &reason))) != 0) {
+        if (number != SINGLE) s->is_done = ended == J1939_ENDED_DONE;
+        if (number == OWN) s->is_sent = ended != J1939_ENDED_WITHDRAWN;
+    }
+    while (sure(j1939_controller_take_frame(&s->controller, &out, &number))) say(s, &out);
 }
 
 /* Runs a controller until a moment. */
-static void run(controller *c, uint64_t name, uint8_t preferred, uint64_t end) {
+static void run(station *s, uint64_t name, uint8_t preferred, uint64_t end) {
     j1939_frame frame;
-    c->receiver = (j1939_receiver)J1939_EMPTY;
-    c->sender = (j1939_sender)J1939_EMPTY;
-    c->start = moment();
-    sure(j1939_node_init(&c->node, name, preferred));
-    for (uint64_t due = c->start; moment() < end;) {
-        if (next_frame(c, &frame)) hear(c, &frame);
+    s->controller = (j1939_controller)J1939_EMPTY;
+    s->start = moment();
+    sure(j1939_controller_new(&s->controller, name, preferred));
+    for (uint64_t due = s->start; moment() < end;) {
+        if (next_frame(s, &frame)) hear(s, &frame);
         if (moment() >= due) {
-            turn(c, moment());
+            turn(s, moment());
             due += TURN;
         }
     }
@@ -156,18 +201,17 @@ static int open_interface(const char *name) {
     return bind(at, (const struct sockaddr *)&address, sizeof address) == 0 ? at : -1;
 }
 
-/* Plays one of two controllers; whether all went well. The second has the smaller NAME, and comes later. */
+/* Plays one of two controllers; whether all went well. The second has the smaller NAME, and comes later; it sends the first
+ * its VIN, and asks for the first's. */
 static int play(int socket, int is_second) {
-    static controller c;
-    uint8_t own, reason;
-    c = (controller){.bus = "can0", .socket = socket, .begins = is_second ? 400000 : 0};
-    c.destination = is_second ? 0x81 : 0x80;
-    c.vin = is_second ? "4V4NC9EH7EN165432" : "1FUJA6CV12LK12345";
-    run(&c, is_second ? 0x8000000001400001 : 0x8000000001400002, 0x80, moment() + 2000000);
-    int holds = j1939_node_status(&c.node, &own) == J1939_HOLDING && own == (is_second ? 0x80 : 0x81);
-    int is_done = j1939_sender_state(&c.sender, &reason) == J1939_SEND_DONE && c.received == 1;
-    withdraw(&c);
-    return holds && is_done;
+    static station s;
+    uint8_t own;
+    s = (station){.bus = "can0", .socket = socket, .begins = is_second ? 400000 : 0};
+    s.destination = is_second ? 0x81 : NOBODY;
+    s.vin = is_second ? "4V4NC9EH7EN165432" : "1FUJA6CV12LK12345";
+    run(&s, is_second ? 0x8000000001400001 : 0x8000000001400002, 0x80, moment() + 2000000);
+    int holds = j1939_controller_held(&s.controller, &own) == 1 && own == (is_second ? 0x80 : 0x81);
+    return j1939_controller_close(&s.controller) == 0 && holds && s.is_done && s.received == 1;
 }
 
 static int play_both(void) {
@@ -181,18 +225,18 @@ static int play_both(void) {
 }
 
 int main(int argc, char **argv) {
-    static controller c;
+    static station s;
     if (argc == 2 && strcmp(argv[1], "--socketpair") == 0) return play_both();
     if (argc < 4 || argc > 5) {
         fprintf(stderr, "socketcan INTERFACE NAME ADDRESS [DESTINATION] | --socketpair\n");
         return 2;
     }
-    c = (controller){.bus = argv[1], .socket = open_interface(argv[1]), .vin = "1FUJA6CV12LK12345"};
-    if (c.socket < 0) {
+    s = (station){.bus = argv[1], .socket = open_interface(argv[1]), .vin = "1FUJA6CV12LK12345"};
+    if (s.socket < 0) {
         perror("socketcan");
         return 1;
     }
-    c.destination = argc == 5 ? (uint8_t)strtoul(argv[4], NULL, 16) : NOBODY;
-    run(&c, strtoull(argv[2], NULL, 16), (uint8_t)strtoul(argv[3], NULL, 16), UINT64_MAX);
+    s.destination = argc == 5 ? (uint8_t)strtoul(argv[4], NULL, 16) : NOBODY;
+    run(&s, strtoull(argv[2], NULL, 16), (uint8_t)strtoul(argv[3], NULL, 16), UINT64_MAX);
     return 0;
 }

@@ -26,7 +26,10 @@ static void null_pointers(void) {
     j1939_assembler assembler = J1939_EMPTY;
     j1939_receiver receiver = J1939_EMPTY;
     j1939_sender sender = J1939_EMPTY;
+    j1939_controller controller = J1939_EMPTY;
+    j1939_request request;
     j1939_frame frame = {0};
+    size_t number;
     uint8_t byte = 0, changed[2];
     uint64_t name;
     char text[8];
@@ -68,6 +71,24 @@ static void null_pointers(void) {
     EXPECT(j1939_sender_on(&sender, NULL) == J1939_NULL);
     EXPECT(j1939_sender_state(NULL, &byte) == J1939_NULL);
     EXPECT(j1939_sender_close(NULL) == J1939_NULL);
+    EXPECT(j1939_controller_new(NULL, 0, 0) == J1939_NULL);
+    EXPECT(j1939_controller_pass(NULL, 0) == J1939_NULL);
+    EXPECT(j1939_controller_turn(NULL, 0) == J1939_NULL);
+    EXPECT(j1939_controller_hear(&controller, NULL) == J1939_NULL);
+    EXPECT(j1939_controller_wish(&controller, NULL) == J1939_NULL);
+    EXPECT(j1939_controller_take_frame(&controller, &out, NULL) == J1939_NULL);
+    EXPECT(j1939_controller_take_frame(&controller, NULL, &number) == J1939_NULL);
+    EXPECT(j1939_controller_held(&controller, NULL) == J1939_NULL);
+    EXPECT(j1939_controller_free_at(&controller, 0, NULL) == J1939_NULL);
+    EXPECT(j1939_controller_send(&controller, NULL, 0) == J1939_NULL);
+    EXPECT(j1939_controller_broadcast(&controller, 0, 0, NULL, 9, 0) == J1939_NULL);
+    EXPECT(j1939_controller_transfer(&controller, 0, 0, 0, NULL, 9, 0) == J1939_NULL);
+    EXPECT(j1939_controller_take_received(&controller, &message, NULL) == J1939_NULL);
+    EXPECT(j1939_controller_take_received(&controller, NULL, &byte) == J1939_NULL);
+    EXPECT(j1939_controller_take_asked(NULL, &request) == J1939_NULL);
+    EXPECT(j1939_controller_take_settled(&controller, &number, NULL) == J1939_NULL);
+    EXPECT(j1939_controller_take_settled(&controller, NULL, &byte) == J1939_NULL);
+    EXPECT(j1939_controller_close(NULL) == J1939_NULL);
 }
 
 static void fields(void) {
@@ -315,6 +336,169 @@ static void broadcasts(void) {
     EXPECT(j1939_broadcast_poll(&broadcast, 1, 65260, payload, 9, 900000, &out, &due) == 2);
 }
 
+/* Each call on a handle that holds no controller, and with numbers out of range. */
+static void no_controller(j1939_controller *controller) {
+    j1939_request request;
+    uint32_t id;
+    size_t number;
+    uint8_t byte;
+    EXPECT(j1939_controller_pass(controller, 0) == J1939_NO_PART);
+    EXPECT(j1939_controller_wish(controller, &id) == J1939_NO_PART);
+    EXPECT(j1939_controller_turn(controller, 0) == J1939_NO_PART);
+    EXPECT(j1939_controller_hear(controller, &bam) == J1939_NO_PART);
+    EXPECT(j1939_controller_take_frame(controller, &out, &number) == J1939_NO_PART);
+    EXPECT(j1939_controller_held(controller, &byte) == J1939_NO_PART);
+    EXPECT(j1939_controller_free_at(controller, 0, &byte) == J1939_NO_PART);
+    EXPECT(j1939_controller_send(controller, &bam, 0) == J1939_NO_PART);
+    EXPECT(j1939_controller_broadcast(controller, 0, 65260, payload, 9, 0) == J1939_NO_PART);
+    EXPECT(j1939_controller_transfer(controller, 0, 3, 65260, payload, 9, 0) == J1939_NO_PART);
+    EXPECT(j1939_controller_take_received(controller, &message, &byte) == J1939_NO_PART);
+    EXPECT(j1939_controller_take_asked(controller, &request) == J1939_NO_PART);
+    EXPECT(j1939_controller_take_settled(controller, &number, &byte) == J1939_NO_PART);
+}
+
+static void controller_in_range(j1939_controller *controller) {
+    j1939_frame late = {.micros = LATE}, long_one = {.len = 9};
+    uint8_t byte;
+    EXPECT(j1939_controller_pass(controller, LATE) == J1939_BAD_VALUE);
+    EXPECT(j1939_controller_turn(controller, LATE) == J1939_BAD_VALUE);
+    EXPECT(j1939_controller_hear(controller, &late) == J1939_BAD_VALUE);
+    EXPECT(j1939_controller_send(controller, &long_one, 0) == J1939_BAD_VALUE);
+    EXPECT(j1939_controller_free_at(controller, LATE, &byte) == J1939_BAD_VALUE);
+    EXPECT(j1939_controller_broadcast(controller, 0, 65260, payload, 8, 0) == J1939_BAD_VALUE);
+    EXPECT(j1939_controller_broadcast(controller, 0, 65260, payload, 1786, 0) == J1939_BAD_VALUE);
+    EXPECT(j1939_controller_broadcast(controller, 0, 1u << 18, payload, 9, 0) == J1939_BAD_VALUE);
+    EXPECT(j1939_controller_broadcast(controller, 0, 65260, payload, 9, LATE) == J1939_BAD_VALUE);
+    EXPECT(j1939_controller_transfer(controller, 0, 254, 65260, payload, 9, 0) == J1939_BAD_VALUE);
+    EXPECT(j1939_controller_transfer(controller, 0, 3, 65260, payload, 1786, 0) == J1939_BAD_VALUE);
+    EXPECT(j1939_controller_transfer(controller, 0, 3, 65260, payload, 9, LATE) == J1939_BAD_VALUE);
+}
+
+/* It claims address 80 at one second, and holds it 250 ms later. */
+static void claim_of(j1939_controller *controller) {
+    uint32_t id;
+    size_t number = 5;
+    uint8_t own = 9;
+    allowed = 0; /* the claim is lost: it is said again where it is asked for */
+    EXPECT(j1939_controller_pass(controller, 1000000) == J1939_NO_MEMORY);
+    allowed = -1;
+    EXPECT(j1939_controller_take_frame(controller, &out, &number) == 0);
+    j1939_frame asks = {.micros = 1000001, .id = 0x18EAFF81, .len = 3, .data = {0x00, 0xEE, 0x00}};
+    EXPECT(j1939_controller_hear(controller, &asks) == 0);
+    EXPECT(j1939_controller_wish(controller, &id) == 1 && id == 0x18EEFF80);
+    EXPECT(j1939_controller_take_frame(controller, &out, &number) == 1 && out.id == 0x18EEFF80 && number == 5);
+    EXPECT(j1939_controller_take_frame(controller, &out, &number) == 0 && j1939_controller_wish(controller, &id) == 0);
+    EXPECT(j1939_controller_held(controller, &own) == 0 && own == 9);
+    EXPECT(j1939_controller_broadcast(controller, 1, 65260, payload, 9, 1000001) == 0);
+    EXPECT(j1939_controller_pass(controller, 1250000) == 0);
+    EXPECT(j1939_controller_held(controller, &own) == 1 && own == 0x80);
+}
+
+/* A broadcast of nine bytes takes three frames; one message at a time is on its way. */
+static void broadcast_of(j1939_controller *controller) {
+    size_t number = 5;
+    uint8_t own = 9;
+    EXPECT(j1939_controller_free_at(controller, 1300000, &own) == 1 && own == 0x80);
+    allowed = 0;
+    EXPECT(j1939_controller_broadcast(controller, 7, 65260, payload, 9, 1300000) == J1939_NO_MEMORY);
+    EXPECT(j1939_controller_transfer(controller, 7, 3, 65260, payload, 9, 1300000) == J1939_NO_MEMORY);
+    EXPECT(j1939_controller_turn(controller, 1300000) == J1939_NO_MEMORY); /* a receiver wants its buffer */
+    allowed = -1;
+    EXPECT(j1939_controller_broadcast(controller, 7, 65260, payload, 9, 1300000) == 1);
+    EXPECT(j1939_controller_broadcast(controller, 8, 65260, payload, 9, 1300000) == 0);
+    EXPECT(j1939_controller_transfer(controller, 8, 3, 65260, payload, 9, 1300000) == 0);
+    EXPECT(j1939_controller_free_at(controller, 1300000, &own) == 0);
+    for (uint64_t k = 0; k < 3; k++) {
+        EXPECT(j1939_controller_turn(controller, 1300000 + k * 50000) == 0);
+        EXPECT(j1939_controller_take_frame(controller, &out, &number) == (k == 2 ? 3 : 2) && number == 7);
+        EXPECT(out.id == (k ? 0x1CEBFF80 : 0x1CECFF80) && out.micros == 1300000 + k * 50000);
+    }
+    EXPECT(j1939_controller_free_at(controller, 1500000, &own) == 1);
+}
+
+/* A single frame goes out from its own address alone; a transfer to nobody fails for 3. */
+static void ends_of(j1939_controller *controller) {
+    j1939_frame single = {.micros = 1500000, .id = 0x18FEEE80, .len = 8};
+    size_t number = 5;
+    uint8_t reason = 9, own;
+    EXPECT(j1939_controller_send(controller, &single, 11) == 0);
+    EXPECT(j1939_controller_take_frame(controller, &out, &number) == 3 && out.id == 0x18FEEE80 && number == 11);
+    single.id = 0x18FEEE81;
+    allowed = 0;
+    EXPECT(j1939_controller_send(controller, &single, 12) == J1939_NO_MEMORY);
+    allowed = -1;
+    EXPECT(j1939_controller_take_settled(controller, &number, &reason) == 0);
+    EXPECT(j1939_controller_send(controller, &single, 12) == 0);
+    EXPECT(j1939_controller_take_settled(controller, &number, &reason) == J1939_ENDED_WITHDRAWN && number == 12);
+    EXPECT(j1939_controller_take_settled(controller, &number, &reason) == 0 && reason == 9);
+    EXPECT(j1939_controller_transfer(controller, 13, 3, 65260, payload, 9, 1500000) == 1);
+    EXPECT(j1939_controller_turn(controller, 1500000) == 0);
+    EXPECT(j1939_controller_take_frame(controller, &out, &number) == 1 && out.id == 0x1CEC0380);
+    EXPECT(j1939_controller_turn(controller, 3000000) == 0);
+    EXPECT(j1939_controller_take_settled(controller, &number, &reason) == J1939_ENDED_FAILED);
+    EXPECT(number == 13 && reason == 3);
+    EXPECT(j1939_controller_free_at(controller, 6999999, &own) == 0);
+    EXPECT(j1939_controller_free_at(controller, 7000000, &own) == 1);
+}
+
+/* What it hears: a request, a broadcast, and a claim that its address is lost to. */
+static void hearing_of(j1939_controller *controller) {
+    j1939_frame asks = {.micros = 7000000, .id = 0x18EA8081, .len = 3, .data = {0xEC, 0xFE, 0x00}};
+    j1939_frame claim = {.micros = 7900000, .id = 0x18EEFF80, .len = 8};
+    j1939_frame announcement = bam;
+    j1939_request request;
+    size_t number = 5;
+    uint8_t to = 9;
+    announcement.id = 0x1CECFF81, announcement.micros = 7000001;
+    EXPECT(j1939_controller_hear(controller, &asks) == 0);
+    EXPECT(j1939_controller_take_asked(controller, &request) == 1);
+    EXPECT(request.pgn == 65260 && request.source == 0x81 && request.destination == 0x80);
+    EXPECT(j1939_controller_take_asked(controller, &request) == 0);
+    allowed = 0;
+    EXPECT(j1939_controller_hear(controller, &announcement) == J1939_NO_MEMORY);
+    allowed = -1;
+    EXPECT(j1939_controller_hear(controller, &announcement) == 0);
+    for (uint8_t k = 1; k <= 3; k++) {
+        j1939_frame next = packet(k);
+        next.id = 0x1CEBFF81, next.micros += 7000001;
+        EXPECT(j1939_controller_hear(controller, &next) == 0);
+    }
+    EXPECT(j1939_controller_take_received(controller, &message, &to) == 1 && to == 255);
+    EXPECT(message.source == 0x81 && message.pgn == 65260 && message.len == 20 && !message.is_named);
+    EXPECT(j1939_controller_take_received(controller, &message, &to) == 0);
+    EXPECT(j1939_controller_broadcast(controller, 14, 65260, payload, 9, 7800000) == 1);
+    EXPECT(j1939_controller_hear(controller, &claim) == 0);
+    EXPECT(j1939_controller_held(controller, &to) == 0);
+    EXPECT(j1939_controller_take_settled(controller, &number, &to) == J1939_ENDED_WITHDRAWN && number == 14);
+    while (j1939_controller_take_frame(controller, &out, &number) > 0) EXPECT((out.id & 0xFFFFFF00) == 0x18EEFF00);
+}
+
+static void controllers(void) {
+    j1939_controller controller = J1939_EMPTY;
+    j1939_listener foreign = J1939_EMPTY;
+    EXPECT(j1939_controller_new(&controller, 1, 254) == J1939_BAD_VALUE);
+    for (long granted = 0; granted < 2; granted++) {
+        allowed = granted;
+        EXPECT(j1939_controller_new(&controller, 1, 0x80) == J1939_NO_MEMORY && !controller.handle.part);
+    }
+    allowed = -1;
+    EXPECT(j1939_listener_new(&foreign) == 0);
+    no_controller(&controller);
+    no_controller((j1939_controller *)&foreign);
+    EXPECT(j1939_controller_new((j1939_controller *)&foreign, 1, 254) == J1939_IN_USE);
+    EXPECT(j1939_listener_close(&foreign) == 0);
+    EXPECT(j1939_controller_new(&controller, 1, 0x80) == 0);
+    EXPECT(j1939_controller_new(&controller, 1, 0x80) == J1939_IN_USE);
+    controller_in_range(&controller);
+    claim_of(&controller);
+    broadcast_of(&controller);
+    ends_of(&controller);
+    hearing_of(&controller);
+    EXPECT(j1939_controller_close(&controller) == 0 && j1939_controller_close(&controller) == 0);
+    controller_in_range(&controller);
+    no_controller(&controller);
+}
+
 int main(void) {
     null_pointers();
     fields();
@@ -325,5 +509,6 @@ int main(void) {
     assemblers();
     transfers();
     broadcasts();
+    controllers();
     return 0;
 }

@@ -19,6 +19,7 @@ static j1939_listener listener = J1939_EMPTY;
 static j1939_assembler assembler = J1939_EMPTY;
 static j1939_receiver receiver = J1939_EMPTY;
 static j1939_sender sender = J1939_EMPTY;
+static j1939_controller controller = J1939_EMPTY;
 static j1939_node node;
 static j1939_frame out;
 static const j1939_frame engine = {
@@ -35,6 +36,7 @@ static void open_listener(void) { EXPECT(j1939_listener_new(&listener) == 0); }
 static void open_assembler(void) { EXPECT(j1939_assembler_new(&assembler) == 0); }
 static void open_receiver(void) { EXPECT(j1939_receiver_new(&receiver, 3) == 0); }
 static void open_sender(void) { EXPECT(j1939_sender_new(&sender, 1, 3, 65260, payload, sizeof payload) == 0); }
+static void open_controller(void) { EXPECT(j1939_controller_new(&controller, 1, 3) == 0); }
 static void hear(void) { EXPECT(j1939_listener_feed(&listener, &engine, &message) == 1); }
 static void hear_other(void) { EXPECT(j1939_listener_feed(&listener, &other, &message) == 0); }
 static void read_number(void) { EXPECT(j1939_read(&message, 0, &reading) == 0); }
@@ -45,10 +47,20 @@ static void node_tick(void) { EXPECT(j1939_node_tick(&node, 5) == 0); }
 static void node_on(void) { EXPECT(j1939_node_on(&node, &claim, &out) == 0); }
 static void receiver_tick(void) { EXPECT(j1939_receiver_tick(&receiver, 5, &out) == 0); }
 static void sender_tick(void) { EXPECT(j1939_sender_tick(&sender, 5, &out) >= 0); }
-static void close_all(void) {
-    EXPECT(j1939_listener_close(&listener) == 0 && j1939_receiver_close(&receiver) == 0);
-    EXPECT(j1939_assembler_close(&assembler) == 0 && j1939_sender_close(&sender) == 0);
+static void controller_pass(void) { EXPECT(j1939_controller_pass(&controller, 5) == 0); }
+static void controller_late(void) { EXPECT(j1939_controller_pass(&controller, 300000) == 0); }
+static void controller_turn(void) { EXPECT(j1939_controller_turn(&controller, 300000) == 0); }
+static void controller_hear(void) { EXPECT(j1939_controller_hear(&controller, &claim) == 0); }
+static void controller_hear_other(void) { EXPECT(j1939_controller_hear(&controller, &other) == 0); }
+static void controller_frame(void) {
+    size_t number;
+    EXPECT(j1939_controller_take_frame(&controller, &out, &number) >= 0);
 }
+static void close_listener(void) { EXPECT(j1939_listener_close(&listener) == 0); }
+static void close_assembler(void) { EXPECT(j1939_assembler_close(&assembler) == 0); }
+static void close_receiver(void) { EXPECT(j1939_receiver_close(&receiver) == 0); }
+static void close_sender(void) { EXPECT(j1939_sender_close(&sender) == 0); }
+static void close_controller(void) { EXPECT(j1939_controller_close(&controller) == 0); }
 
 /* A call on a stack of its own, painted before: how many of its bytes it touches. */
 enum { STACK = 1 << 16 };
@@ -76,7 +88,7 @@ static void measure(const char *name, void (*call)(void), long times) {
     struct timespec from, to;
     size_t before = taken;
     size_t touched = stack_of(call);
-    printf("%-14s memory %5zu  stack %5zu", name, taken - before, touched);
+    printf("%-16s memory %5zu  stack %5zu", name, taken - before, touched);
     clock_gettime(CLOCK_MONOTONIC, &from);
     for (long i = 0; i < times; i++) call();
     clock_gettime(CLOCK_MONOTONIC, &to);
@@ -93,6 +105,7 @@ int main(void) {
     measure("assembler_new", open_assembler, 0);
     measure("receiver_new", open_receiver, 0);
     measure("sender_new", open_sender, 0);
+    measure("controller_new", open_controller, 0);
     measure("listener_feed", hear, 1000000);
     measure("  other group", hear_other, 1000000);
     measure("  announced", announce, 1000000);
@@ -102,6 +115,16 @@ int main(void) {
     measure("node_on", node_on, 1000000);
     measure("receiver_tick", receiver_tick, 1000000);
     measure("sender_tick", sender_tick, 1000000);
-    measure("close", close_all, 0);
+    measure("controller_pass", controller_pass, 1000000);
+    measure("  it claims", controller_late, 0);
+    measure("controller_turn", controller_turn, 1000000);
+    measure("controller_hear", controller_hear, 1000000);
+    measure("  other group", controller_hear_other, 1000000);
+    measure("  take_frame", controller_frame, 1000000);
+    measure("listener_close", close_listener, 0);
+    measure("assembler_close", close_assembler, 0);
+    measure("receiver_close", close_receiver, 0);
+    measure("sender_close", close_sender, 0);
+    measure("controller_close", close_controller, 0);
     return 0;
 }

@@ -28,6 +28,7 @@ static j1939_listener listeners[PARTS];
 static j1939_assembler assemblers[PARTS];
 static j1939_receiver receivers[PARTS];
 static j1939_sender senders[PARTS];
+static j1939_controller controllers[PARTS];
 static j1939_node nodes[PARTS];
 static j1939_claims claims[PARTS];
 static j1939_broadcast broadcasts[PARTS];
@@ -97,6 +98,65 @@ static void call_handles(size_t i, uint8_t address) {
     }
 }
 
+/* Hands the frame that a controller sent to the others. */
+static void tell_others(const j1939_controller *controller) {
+    for (size_t i = 0; i < PARTS; i++) {
+        if (&controllers[i] != controller) answered(j1939_controller_hear(&controllers[i], &out), J1939_NO_MEMORY, 0);
+    }
+}
+
+/* Takes all that a controller hands out. */
+static void empty_controller(j1939_controller *controller) {
+    j1939_request request;
+    size_t number;
+    uint8_t byte;
+    int32_t answer;
+    while ((answer = j1939_controller_take_frame(controller, &out, &number)) > 0) {
+        EXPECT(answer <= 3);
+        tell_others(controller);
+    }
+    answered(answer, J1939_NO_PART, 0);
+    while ((answer = j1939_controller_take_received(controller, &message, &byte)) > 0) {
+        EXPECT(answer == 1 && message.len >= 9 && message.len <= J1939_LONGEST && !message.is_named);
+    }
+    answered(answer, J1939_NO_PART, 0);
+    while ((answer = j1939_controller_take_asked(controller, &request)) > 0) {
+        EXPECT(answer == 1 && request.pgn < 1u << 18);
+    }
+    answered(answer, J1939_NO_PART, 0);
+    while ((answer = j1939_controller_take_settled(controller, &number, &byte)) > 0) EXPECT(answer <= 3);
+    answered(answer, J1939_NO_PART, 0);
+}
+
+static void call_controller(j1939_controller *controller, uint8_t address) {
+    static const uint8_t payload[1800];
+    uint32_t id;
+    uint8_t own;
+    size_t size = next() % 64 ? 9 + next() % 20 : next() % sizeof payload;
+    switch (next() % 12) {
+    case 0: answered(j1939_controller_new(controller, next() % 4, address), J1939_IN_USE, 0); break;
+    case 1:
+        if (next() % 256 == 0) answered(j1939_controller_close(controller), 0, 0);
+        break;
+    case 2: answered(j1939_controller_pass(controller, now), J1939_NO_MEMORY, 0); break;
+    case 3: answered(j1939_controller_turn(controller, now), J1939_NO_MEMORY, 0); break;
+    case 4:
+        answered(j1939_controller_held(controller, &own), J1939_NO_PART, 1);
+        answered(j1939_controller_wish(controller, &id), J1939_NO_PART, 1);
+        break;
+    case 5: answered(j1939_controller_free_at(controller, now, &own), J1939_NO_PART, 1); break;
+    case 6: answered(j1939_controller_send(controller, &frame, next()), J1939_NO_MEMORY, 0); break;
+    case 7:
+        answered(j1939_controller_broadcast(controller, next(), 65260, payload, size, now), J1939_NO_MEMORY, 1);
+        break;
+    case 8:
+        answered(j1939_controller_transfer(controller, next(), address, 65260, payload, size, now), J1939_NO_MEMORY, 1);
+        break;
+    case 9: empty_controller(controller); break;
+    default: answered(j1939_controller_hear(controller, &frame), J1939_NO_MEMORY, 0);
+    }
+}
+
 static void call_plain(size_t i, uint8_t address) {
     static char text[7200];
     j1939_reading reading;
@@ -144,13 +204,16 @@ int main(int argc, char **argv) {
         uint8_t address = next() % 8 ? (uint8_t)(next() % 3) : (uint8_t)next();
         if (next() % 2) make_frame();
         if (now > 9000000000000000u) now = 0;
-        if (next() % 4) call_handles(i, address);
-        else call_plain(i, address);
+        switch (next() % 8) {
+        case 0: call_plain(i, address); break;
+        case 1: case 2: call_controller(&controllers[i], address); break;
+        default: call_handles(i, address);
+        }
     }
     for (size_t i = 0; i < PARTS; i++) {
         EXPECT(j1939_listener_close(&listeners[i]) == 0 && j1939_receiver_close(&receivers[i]) == 0);
         EXPECT(j1939_assembler_close(&assemblers[i]) == 0);
-        EXPECT(j1939_sender_close(&senders[i]) == 0);
+        EXPECT(j1939_sender_close(&senders[i]) == 0 && j1939_controller_close(&controllers[i]) == 0);
     }
     return 0;
 }

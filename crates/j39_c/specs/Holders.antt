@@ -6,11 +6,11 @@ use Rattle.j39_address.specs.Claims.{Knows}
 use Rattle.j39_address.specs.declared.claims.Claims.{Claims}
 use Rattle.j39_frame.specs.Frame.{FrameRecord}
 
--- the NAME that is told, or none
-abbrev pub told_name : ℤ → ℕ → Option ℕ
-told_name (pos zero) name = None
-told_name (pos (suc n)) name = Some name
-told_name (negsuc n) name = None
+-- the number that is told, a NAME, an address or an identifier, or none
+abbrev pub told_number : ℤ → ℕ → Option ℕ
+told_number (pos zero) name = None
+told_number (pos (suc n)) name = Some name
+told_number (negsuc n) name = None
 
 -- so many addresses
 abbrev pub addresses_in : ℤ → List ℕ → List ℕ

@@ -2,6 +2,7 @@ pub mod Assemblers
 pub mod Broadcasts
 pub mod Can
 pub mod Codes
+pub mod Controllers
 pub mod Cut
 pub mod Fields
 pub mod Held

@@ -25,16 +25,18 @@ use Rattle.j39_c.specs.declared.message.WholeMessage.{WholeMessage}
 use Rattle.j39_c.specs.declared.part.Part.{Part}
 use Rattle.j39_c.specs.declared.refusal.Refusal.{Refusal}
 use Rattle.j39_c.specs.declared.refusal.Refusal.TheVariants.{BadValue, NoPart, NoMemory, InUse, NoRoom, End}
-use Rattle.j39_c.specs.declared.part.Part.TheVariants.{Listening, Receiving, Sending, Assembling}
+use Rattle.j39_c.specs.declared.part.Part.TheVariants.{Listening, Receiving, Sending, Assembling, Controlling}
 use Rattle.j39_listen.specs.declared.listener.Listener as heard
+use Rattle.j39_controller.specs.declared.controller.Controller.{Controller}
 
--- the listener that a handle holds; the receiver; the sender; the assembler
+-- the listener that a handle holds; the receiver; the sender; the assembler; the controller
 abbrev pub listener_in : Option Part → Option heard.Listener
 listener_in None = None
 listener_in (Some (Listening b)) = Some b.value
 listener_in (Some (Receiving b)) = None
 listener_in (Some (Sending b)) = None
 listener_in (Some (Assembling b)) = None
+listener_in (Some (Controlling b)) = None
 
 abbrev pub receiver_in : Option Part → Option BoxedReceiver
 receiver_in None = None
@@ -42,6 +44,7 @@ receiver_in (Some (Listening b)) = None
 receiver_in (Some (Receiving b)) = Some b.value
 receiver_in (Some (Sending b)) = None
 receiver_in (Some (Assembling b)) = None
+receiver_in (Some (Controlling b)) = None
 
 abbrev pub sender_in : Option Part → Option SenderRecord
 sender_in None = None
@@ -49,6 +52,7 @@ sender_in (Some (Listening b)) = None
 sender_in (Some (Receiving b)) = None
 sender_in (Some (Sending b)) = Some b.value
 sender_in (Some (Assembling b)) = None
+sender_in (Some (Controlling b)) = None
 
 abbrev pub assembler_in : Option Part → Option AssemblerRecord
 assembler_in None = None
@@ -56,6 +60,15 @@ assembler_in (Some (Listening b)) = None
 assembler_in (Some (Receiving b)) = None
 assembler_in (Some (Sending b)) = None
 assembler_in (Some (Assembling b)) = Some b.value
+assembler_in (Some (Controlling b)) = None
+
+abbrev pub controller_in : Option Part → Option Controller
+controller_in None = None
+controller_in (Some (Listening b)) = None
+controller_in (Some (Receiving b)) = None
+controller_in (Some (Sending b)) = None
+controller_in (Some (Assembling b)) = None
+controller_in (Some (Controlling b)) = Some b.value
 
 -- ---- listeners
 

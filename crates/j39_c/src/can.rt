@@ -45,6 +45,14 @@ pub(crate) fn put_frame(frame: Option<Frame>, can: &mut CanFrame) -> i32
     let Some(frame) = frame else {
         return 0;
     };
+    write_frame(&frame, can);
+    1
+}
+
+/// Writes out a frame.
+pub(crate) fn write_frame(frame: &Frame, can: &mut CanFrame)
+    ensures { frame_of can.new ≡ frame.now }
+{
     let bytes = frame.bytes.as_slice();
     let mut data = [FILLER; 8];
     data[..bytes.len()].copy_from_slice(bytes);
@@ -54,7 +62,6 @@ pub(crate) fn put_frame(frame: Option<Frame>, can: &mut CanFrame) -> i32
         len: bytes.len() as u8,
         data,
     };
-    1
 }
 
 /// Writes out a frame of eight bytes that is to be sent at a moment: 1, or 0 where there is none.

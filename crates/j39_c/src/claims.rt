@@ -8,7 +8,7 @@ ghost use Rattle.j39_address.specs.Name.{name_raw};
 ghost use Rattle.j39_frame.specs.Frame.{FrameRecord};
 ghost use Rattle.j39_c.specs.Can.{Fits, frame_of};
 ghost use Rattle.j39_c.specs.Codes.{IsDone, bad_value};
-ghost use Rattle.j39_c.specs.Holders.{Notes, addresses_in, told_name};
+ghost use Rattle.j39_c.specs.Holders.{Notes, addresses_in, told_number};
 
 use crate::can::{CanFrame, frame_in};
 use crate::refusal::Refusal;
@@ -62,14 +62,14 @@ fn put_addresses(addresses: &[u8], changed: &mut [u8; 2]) -> i32
 #[unsafe(no_mangle)]
 pub extern "C" fn j39_claims_holder(claims: &Claims, address: u8, name: &mut u64) -> i32
     ensures { (F : List FrameRecord) → Knows claims.now F
-        → IsHolderAfter (claims_of F) address (told_name result name.new) }
+        → IsHolderAfter (claims_of F) address (told_number result name.new) }
 {
     put_name(claims.holder(address), name)
 }
 
 /// Writes out a NAME: 1, or 0 where there is none.
 pub(crate) fn put_name(holder: Option<Name>, name: &mut u64) -> i32
-    ensures value { told_name result name.new ≡ option_map name_raw holder }
+    ensures value { told_number result name.new ≡ option_map name_raw holder }
     ensures done { IsDone result }
     ensures kept { holder ≡ None → name.new ≡ name.old }
 {

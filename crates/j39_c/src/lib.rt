@@ -5,8 +5,11 @@ mod assembler;
 mod broadcast;
 mod can;
 mod claims;
+mod controller;
+mod controlling;
 mod cut;
 mod fields;
+mod handed_out;
 mod handle;
 mod listener;
 mod loose;
@@ -22,10 +25,17 @@ pub use assembler::{j39_assembler_feed, j39_assembler_forget, j39_assembler_new}
 pub use broadcast::{j39_broadcast_init, j39_broadcast_poll};
 pub use can::CanFrame;
 pub use claims::{j39_claims_holder, j39_claims_init, j39_claims_note};
+pub use controller::{
+    j39_controller_broadcast, j39_controller_free_at, j39_controller_hear, j39_controller_held,
+    j39_controller_new, j39_controller_pass, j39_controller_send, j39_controller_take_asked,
+    j39_controller_take_frame, j39_controller_take_received, j39_controller_take_settled,
+    j39_controller_transfer, j39_controller_turn, j39_controller_wish,
+};
 pub use cut::j39_cut_frame;
 pub use fields::{
     IdFields, NameParts, j39_id_compose, j39_id_split, j39_name_compose, j39_name_split,
 };
+pub use handed_out::PlainRequest;
 pub use handle::{Handle, j39_close};
 pub use listener::{j39_listener_feed, j39_listener_holder, j39_listener_new};
 pub use message::WholeMessage;

@@ -3,7 +3,7 @@ ghost use Rattle.std.specs.Prelude.{◌≡◌, [], List, Some, None, IfSome, IsS
 ghost use Rattle.j39_listen.specs.Listening.{Hears};
 ghost use Rattle.j39_c.specs.Can.{Fits, frame_of};
 ghost use Rattle.j39_c.specs.Codes.{IsDone, IsRefused, bad_value, in_use, no_memory, no_part};
-ghost use Rattle.j39_c.specs.Holders.{told_name};
+ghost use Rattle.j39_c.specs.Holders.{told_number};
 ghost use Rattle.j39_c.specs.Messages.{message_in};
 ghost use Rattle.j39_c.specs.Parts.{HearsMore, IsHolderBy, LacksMemory, listener_in};
 
@@ -79,7 +79,7 @@ pub extern "C" fn j39_listener_holder(
     name: &mut u64,
 ) -> i32
     ensures holder { IfSome (listener_in listener.old.part) (λ heard. IsDone result
-        × IsHolderBy heard address (told_name result name.new)) }
+        × IsHolderBy heard address (told_number result name.new)) }
     ensures foreign { listener_in listener.old.part ≡ None → result ≡ no_part }
     ensures same { listener.new.part ≡ listener.old.part }
 {

@@ -11,7 +11,7 @@ use j39_listen::Heard;
 use j39_transport::Message;
 
 /// The most bytes of a message.
-const LONGEST: usize = 1785;
+pub(crate) const LONGEST: usize = 1785;
 
 /// A message, `j1939_message` of the header.
 #[repr(C)]

@@ -4,7 +4,7 @@ ghost use Rattle.j39_frame.specs.Stamp.{stamp_micros};
 ghost use Rattle.j39_transport.specs.Sending.{Heard, SendStep, Tick};
 ghost use Rattle.j39_c.specs.Assemblers.{Forgets, LacksBox, PutsTogether};
 ghost use Rattle.j39_c.specs.Codes.{IsDone, IsRefused, IsSentAt, no_memory, no_part, sent_packet};
-ghost use Rattle.j39_c.specs.Holders.{told_name};
+ghost use Rattle.j39_c.specs.Holders.{told_number};
 ghost use Rattle.j39_c.specs.Messages.{message_in};
 ghost use Rattle.j39_c.specs.Parts.{HearsMore, IsHolderBy, IsSendState, LacksMemory, LetsPass, ReceivesMore};
 ghost use Rattle.j39_c.specs.Parts.{assembler_in, busy_code, listener_in, receiver_in, sender_in};
@@ -17,6 +17,7 @@ use crate::message::WholeMessage;
 use crate::receiver::receive;
 use crate::refusal::Refusal;
 use crate::sender::{put_state, show};
+use j39_controller::Controller;
 use j39_frame::{Frame, Stamp};
 use j39_listen::Listener;
 use j39_transport::{Assembler, OwnedSender, Receiver, SendEvent};
@@ -28,6 +29,7 @@ pub(crate) enum Part {
     Receiving(Box<Receiver>),
     Sending(Box<OwnedSender>),
     Assembling(Box<Assembler>),
+    Controlling(Box<Controller>),
 }
 
 impl Part {
@@ -45,13 +47,14 @@ impl Part {
             Part::Receiving(_) => Refusal::NoPart.code(),
             Part::Sending(_) => Refusal::NoPart.code(),
             Part::Assembling(_) => Refusal::NoPart.code(),
+            Part::Controlling(_) => Refusal::NoPart.code(),
         }
     }
 
     /// Who holds an address, by what a listener heard.
     pub(crate) fn holder(&self, address: u8, name: &mut u64) -> i32
         ensures done { IfSome (listener_in (Some self.now)) (λ listener. IsDone result
-            × IsHolderBy listener address (told_name result name.new)) }
+            × IsHolderBy listener address (told_number result name.new)) }
         ensures foreign { listener_in (Some self.now) ≡ None → result ≡ no_part }
     {
         match self {
@@ -59,6 +62,7 @@ impl Part {
             Part::Receiving(_) => Refusal::NoPart.code(),
             Part::Sending(_) => Refusal::NoPart.code(),
             Part::Assembling(_) => Refusal::NoPart.code(),
+            Part::Controlling(_) => Refusal::NoPart.code(),
         }
     }
 
@@ -79,6 +83,7 @@ impl Part {
             Part::Listening(_) => Refusal::NoPart.code(),
             Part::Sending(_) => Refusal::NoPart.code(),
             Part::Assembling(_) => Refusal::NoPart.code(),
+            Part::Controlling(_) => Refusal::NoPart.code(),
         }
     }
 
@@ -95,6 +100,7 @@ impl Part {
             Part::Listening(_) => Refusal::NoPart.code(),
             Part::Sending(_) => Refusal::NoPart.code(),
             Part::Assembling(_) => Refusal::NoPart.code(),
+            Part::Controlling(_) => Refusal::NoPart.code(),
         }
     }
 
@@ -108,6 +114,7 @@ impl Part {
             Part::Listening(_) => Refusal::NoPart.code(),
             Part::Sending(_) => Refusal::NoPart.code(),
             Part::Assembling(_) => Refusal::NoPart.code(),
+            Part::Controlling(_) => Refusal::NoPart.code(),
         }
     }
 
@@ -124,6 +131,7 @@ impl Part {
             Part::Listening(_) => Refusal::NoPart.code(),
             Part::Receiving(_) => Refusal::NoPart.code(),
             Part::Assembling(_) => Refusal::NoPart.code(),
+            Part::Controlling(_) => Refusal::NoPart.code(),
         }
     }
 
@@ -141,6 +149,7 @@ impl Part {
             Part::Listening(_) => Refusal::NoPart.code(),
             Part::Receiving(_) => Refusal::NoPart.code(),
             Part::Assembling(_) => Refusal::NoPart.code(),
+            Part::Controlling(_) => Refusal::NoPart.code(),
         }
     }
 
@@ -154,6 +163,7 @@ impl Part {
             Part::Listening(_) => Refusal::NoPart.code(),
             Part::Receiving(_) => Refusal::NoPart.code(),
             Part::Assembling(_) => Refusal::NoPart.code(),
+            Part::Controlling(_) => Refusal::NoPart.code(),
         }
     }
 
@@ -172,6 +182,7 @@ impl Part {
             Part::Listening(_) => Refusal::NoPart.code(),
             Part::Receiving(_) => Refusal::NoPart.code(),
             Part::Sending(_) => Refusal::NoPart.code(),
+            Part::Controlling(_) => Refusal::NoPart.code(),
         }
     }
 
@@ -189,6 +200,7 @@ impl Part {
             Part::Listening(_) => Refusal::NoPart.code(),
             Part::Receiving(_) => Refusal::NoPart.code(),
             Part::Sending(_) => Refusal::NoPart.code(),
+            Part::Controlling(_) => Refusal::NoPart.code(),
         }
     }
 }

@@ -245,6 +245,12 @@ pub record IsSent (old : Controller) (node : Node) (f : FrameRecord) (number : �
       × (told_in new ≡ told_in old ++ record { number = number; ending = ending.Withdrawn } ∷ [])
   pub rest : new ≡ record old { outbox = new.outbox; settled = new.settled }
 
+-- it was not taken in: what waits and what was told stay
+pub record IsUnsent (old new : Controller) : Type 0 where
+  pub waiting : waiting_in new ≡ waiting_in old
+  pub told : told_in new ≡ told_in old
+  pub rest : new ≡ record old { outbox = new.outbox; settled = new.settled }
+
 -- a message of this group and these bytes begins from the address that is held, where it may and can be cut; where none
 -- is held it doesn't
 abbrev pub BroadcastsAt : Option ℕ → Controller → ℕ → ℕ → List ℕ → ℕ → Bool → Controller → Type 0

@@ -1,7 +1,7 @@
 //! The controller: its parts, and the loop round them.
 ghost use Rattle.std.specs.Prelude.{◌≡◌, ◌↔◌, ◌∷◌, ◌++◌, [], IfSome, IsSome, IfOk, List, None, Some, false, length, drop, ◌<◌};
 ghost use Rattle.std.specs.Option.{option_map, option_to_list};
-ghost use Rattle.std.specs.Result.{OnOk};
+ghost use Rattle.std.specs.Result.{OnErr, OnOk};
 ghost use Rattle.j39_frame.specs.Address.{IsAddress};
 ghost use Rattle.j39_frame.specs.Identifier.{id_raw};
 ghost use Rattle.j39_frame.specs.Pgn.{pgn_raw};
@@ -11,7 +11,7 @@ ghost use Rattle.j39_address.specs.Name.{name_raw};
 ghost use Rattle.j39_address.specs.Node.{Node};
 ghost use Rattle.j39_controller.specs.MaySend.{MaySend, held_in};
 ghost use Rattle.j39_controller.specs.Outbox.{first_id};
-ghost use Rattle.j39_controller.specs.Controller.{BroadcastsAt, HasNode, Hears, IsAnswered, IsDroppedAt, IsFreeAt, IsNew, IsSaid, IsSent, IsShown, IsWithdrawn, Keeps, KeepsButAsked, KeepsButReceived, KeepsButSending, KeepsButTold, KeepsButWaiting, Obeys, ObeysIf, Passes, SaysClaim, TransfersAt, Turns, asked_in, begun_in, received_in, told_in, waiting_in};
+ghost use Rattle.j39_controller.specs.Controller.{BroadcastsAt, HasNode, Hears, IsAnswered, IsDroppedAt, IsFreeAt, IsNew, IsSaid, IsSent, IsShown, IsUnsent, IsWithdrawn, Keeps, KeepsButAsked, KeepsButReceived, KeepsButSending, KeepsButTold, KeepsButWaiting, Obeys, ObeysIf, Passes, SaysClaim, TransfersAt, Turns, asked_in, begun_in, received_in, told_in, waiting_in};
 
 use crate::asked::{Asked, keep_request};
 use crate::inbox::Received;
@@ -160,9 +160,11 @@ impl Controller {
     }
 
     /// Sends a frame that is a message by itself, where it may go: from the address that is held, and no claim of
-    /// another. Else the message is withdrawn.
+    /// another. Else the message is withdrawn. After an error nothing that waits or was told has changed.
     pub fn send(&mut self, frame: Frame, number: usize) -> Result<(), AllocError>
-        ensures { OnOk result ((node : Node) → HasNode self.old node → IsSent self.old node frame number self.new) }
+        ensures sent { OnOk result ((node : Node) → HasNode self.old node
+            → IsSent self.old node frame number self.new) }
+        ensures refused { OnErr result (IsUnsent self.old self.new) }
     {
         if may_send(&self.node, &frame) {
             let part = Part {

@@ -1,5 +1,5 @@
 //! Messages that were received.
-ghost use Rattle.std.specs.Prelude.{◌≡◌};
+ghost use Rattle.std.specs.Prelude.{◌≡◌, ◌≤◌, length};
 ghost use Rattle.std.specs.Result.{IfOk};
 ghost use Rattle.j39_controller.specs.Inbox.{received_of};
 ghost use Rattle.j39_transport.specs.ShownReceiver.{message_shown};
@@ -24,6 +24,7 @@ pub struct Received {
 }
 
 impl Model for Received {
+    ghost use Rattle.std.specs.Prelude.{◌≤◌, length};
     ghost use Rattle.j39_frame.specs.Pgn.{pgn_raw};
     ghost use Rattle.j39_frame.specs.Stamp.{stamp_micros};
     ghost use Rattle.j39_controller.specs.Inbox.{ReceivedRecord};
@@ -37,6 +38,8 @@ impl Model for Received {
       bytes = r.payload.items;
       stamp = stamp_micros r.stamp;
     } };
+
+    ghost invariant = { λ r. length r.payload.items ≤ 1785 };
 }
 
 impl Received {
@@ -46,6 +49,7 @@ impl Received {
         message: &Message<'_>,
         destination: u8,
     ) -> Result<Received, AllocError>
+        requires { length message.now.payload.now ≤ 1785 }
         ensures { IfOk result (λ received. received
             ≡ received_of (message_shown message.now) destination (stamp_micros message.now.stamp)) }
     {

@@ -1,5 +1,5 @@
 //! What is heard of others: who holds which address, and what they broadcast.
-ghost use Rattle.std.specs.Prelude.{◌≡◌, ◌∷◌, ◌++◌, [], List, IfOk};
+ghost use Rattle.std.specs.Prelude.{◌≡◌, ◌≤◌, ◌∷◌, ◌++◌, [], List, IfOk, length};
 ghost use Rattle.std.specs.Option.{option_map};
 ghost use Rattle.std.specs.Result.{OnOk};
 ghost use Rattle.j39_frame.specs.Frame.{FrameRecord};
@@ -60,6 +60,7 @@ fn keep(
     alloc: Global,
     inbox: &mut VecDeque<Received>,
 ) -> Result<Option<(Name, u8)>, AllocError>
+    requires { length message.now.payload.now ≤ 1785 }
     ensures { IfOk result (λ command. IsKept (is_to_all (destination_of frame.now.id)) (message_shown message.now)
         (stamp_micros message.now.stamp) inbox.old.items (option_map command_by command) inbox.new.items) }
 {

@@ -1,7 +1,7 @@
 //! What a controller wishes to send.
 ghost use Rattle.std.specs.Prelude.{◌≡◌, ◌∷◌, ◌++◌, [], None, Some, IfSome};
 ghost use Rattle.std.specs.Option.{option_map};
-ghost use Rattle.std.specs.Result.{OnOk};
+ghost use Rattle.std.specs.Result.{OnErr, OnOk};
 ghost use Rattle.j39_frame.specs.Identifier.{id_raw};
 ghost use Rattle.j39_frame.specs.Stamp.{stamp_micros};
 ghost use Rattle.j39_transport.specs.Cutting.{at_moment, to_send};
@@ -54,8 +54,9 @@ impl Outbox {
 
     /// Puts a frame behind the others.
     pub(crate) fn push(&mut self, frame: Frame, part: Option<Part>) -> Result<(), AllocError>
-        ensures { OnOk result (self.new.wishes.items
+        ensures pushes { OnOk result (self.new.wishes.items
             ≡ self.old.wishes.items ++ record { frame = frame; part = part } ∷ []) }
+        ensures kept { OnErr result (self.new.wishes.items ≡ self.old.wishes.items) }
     {
         self.wishes.push_back(Wish { frame, part })?;
         Ok(())

@@ -1,5 +1,5 @@
 -- The first row of a parameter, row by row.
-use Rattle.std.proofs.Common.{◌≡◌, ◌≢◌, ◌∙◌, ◌==◌, ◌+◌, ◌<◌, ◌≤◌, ℕ, suc, true, false, List, [], ◌∷◌, Option, Some, None, ap, arith, drop, drop-cons, length, map, option_map, refl, slice_index_or, sym}
+use Rattle.std.proofs.Common.{◌≡◌, ◌≢◌, ◌∙◌, ◌==◌, ◌+◌, ◌<◌, ◌≤◌, ℕ, suc, List, ◌∷◌, Some, None, ap, arith, drop, drop-cons, length, map, option_map, slice_index_or}
 use Rattle.std.proofs.lemmas.Bool.{cond-true, cond-false, eq-eqb, ne_eqb}
 use Rattle.std.specs.List.{find}
 use Rattle.std.proofs.Math.ListN.{drop_of_length-le}

@@ -1,7 +1,7 @@
 -- A visitor takes reading after reading.
-use Rattle.std.proofs.Common.{◌≡◌, ◌<◌, ◌+◌, ◌==◌, ℕ, suc, List, [], ◌∷◌, ◌++◌, Bool, true, length, take, drop, get_or, map, sym, ap, ◌∙◌, subst, append-nil, append_assoc, drop-cons, take-append-drop, inl, inr, refl}
-use Rattle.std.specs.Prelude.{None, Option, Some, filter}
-use Rattle.std.specs.List.{filter_map, flat_map}
+use Rattle.std.proofs.Common.{◌≡◌, ◌<◌, ◌+◌, ◌==◌, ℕ, suc, List, [], ◌∷◌, ◌++◌, true, length, take, drop, get_or, map, sym, ap, ◌∙◌, subst, append-nil, append_assoc, drop-cons, take-append-drop, inl, inr, refl}
+use Rattle.std.specs.Prelude.{filter}
+use Rattle.std.specs.List.{flat_map}
 use Rattle.std.proofs.lemmas.Bool.{both_ways, cases_Bool}
 use Rattle.std.proofs.lemmas.List.{map-append, take_more}
 use Rattle.std.proofs.lemmas.List.Concat.{flat_map-cons}
@@ -10,12 +10,11 @@ use Rattle.std.proofs.lemmas.Grind.{flat_map-append}
 use Rattle.j39_groups.specs.CodeRows.{row_record}
 use Rattle.j39_groups.specs.Quick.{IsQuick, are_quick, is_quick}
 use Rattle.j39_groups.specs.Readings.{readings_at, readings_in}
-use Rattle.j39_groups.specs.Row.{RowRecord}
 use Rattle.j39_groups.specs.Table.{the_table}
 use Rattle.j39_groups.specs.declared.table.LabelledRow.{LabelledRow}
 use Rattle.j39_groups.proofs.QuickLemmas.{last_quick}
 use Rattle.j39_groups.specs.Value.{ReadingRecord}
-use Rattle.j39_groups.specs.Visits.{StopsAmong, TakesMore, StopsAt}
+use Rattle.j39_groups.specs.Visits.{StopsAmong, TakesMore}
 
 pub takes_none : {S V : Type 0} (has_taken : S → V → List ReadingRecord → Type 0) (v : V) → TakesMore has_taken v v []
 takes_none has_taken v = λ s before h. subst (has_taken s v) (sym (append-nil before)) h

@@ -138,7 +138,7 @@ fn bits_of<'t, 'v>(
 }
 
 #[inline(always)]
-pub(crate) fn plain<'t, 'v>(value: Option<Value<'v>>) -> Option<ReadValue<'t, 'v>>
+fn plain<'t, 'v>(value: Option<Value<'v>>) -> Option<ReadValue<'t, 'v>>
     ensures { option_map read_value_of result ≡ option_map value_of value.entry }
 {
     match value {

@@ -17,7 +17,7 @@ use crate::quick_lines::value_at;
 use crate::quick_rows::quick_rows;
 use crate::read_field::ReadField;
 use crate::read_row::ReadRow;
-use crate::read_value::{ReadValue, plain, value_in};
+use crate::read_value::{ReadValue, value_in};
 use crate::reading::{push_texts, readings};
 use crate::table::Field;
 use crate::value::Reading;
@@ -89,8 +89,10 @@ fn visit_field<'t, M, V: ReadingVisitor<'t, M>>(
     ensures stopped { OnErr result (Stops V.has_taken V.has_stopped visitor.old medium.old visitor.new medium.new
         (map (λ value. record { spn = spn; value = value }) (values_at bytes.now (field_record field)))) }
 {
-    let value = value_at(bytes, field);
-    visit_value(spn, plain(value), visitor, medium)
+    match value_at(bytes, field) {
+        Some(value) => visitor.visit(spn, ReadValue::Plain(value), medium),
+        None => Ok(()),
+    }
 }
 
 /// Hands on the readings by the built-in table, of any group.

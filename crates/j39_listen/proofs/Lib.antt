@@ -25,6 +25,7 @@ pub mod LineLemmas
 pub mod RunLemmas
 pub mod StopLemmas
 pub mod PieceLemmas
+pub mod DigitLemmas
 pub mod AskLemmas
 pub mod HeadedLemmas
 -- the headline: for the laws on what was published

@@ -22,7 +22,7 @@ use Rattle.j39_transport.specs.Steps.{AssemblerRecord, fed, spare_after, state_a
 use Rattle.j39_listen.specs.Forgets.{Changed, WithForgets}
 use Rattle.j39_listen.specs.Heard.{HeardAtWith, Hearing, IsHeardWith, LeavesNetwork}
 use Rattle.j39_listen.specs.Listening.{Hears}
-use Rattle.j39_listen.specs.NextSteps.{IsMany, Next, NextBy, alone_of, heard_alone, heard_of}
+use Rattle.j39_listen.specs.NextSteps.{IsMany, Next, NextBy, alone_of, heard_alone, hearing_alone}
 use Rattle.j39_listen.specs.declared.listener.Listener.{Listener}
 use Rattle.j39_listen.proofs.Causal.{forgets_more, holder_prefix}
 use Rattle.j39_listen.proofs.Feeding.{heard_next}
@@ -114,15 +114,27 @@ silent_many singles leaves l F f many h none =
     heard_next singles leaves F h.events f h.with_forgets None (holder_of (claims_of F) (length F) (source_of f.id)) (next_by singles false h.events f None many.not_single none)
     (held_is (claims_of F) (length F) (source_of f.id))
 
+-- a frame of a group that is heard in one frame, from an address that a controller can hold
+pub heard_itself : (singles : ℕ → Bool) → LeavesNetwork singles → (l : Listener) (F : List FrameRecord) (f : FrameRecord) (name : Option ℕ) → singles (pgn_of f.id) ≡ true
+    → nat_lt (source_of f.id) 254 ≡ true → (h : Hears l F) → IsHolderAfter (claims_of F) (source_of f.id) name → HeardAtWith singles (F ++ f ∷ []) (length F) (Some (hearing_alone f name))
+heard_itself singles leaves l F f name single below h held =
+    heard_next singles leaves F h.events f h.with_forgets (Some (alone_of f)) name
+    (next_by singles true h.events f (Some (alone_of f)) single (subst (λ (b : Bool). NextBy true b h.events f (Some (alone_of f))) (sym below) refl))
+    (after_is F (source_of f.id) name held)
+
+-- and from no such address
+pub silent_itself : (singles : ℕ → Bool) → LeavesNetwork singles → (l : Listener) (F : List FrameRecord) (f : FrameRecord) → singles (pgn_of f.id) ≡ true
+    → nat_lt (source_of f.id) 254 ≡ false → Hears l F → HeardAtWith singles (F ++ f ∷ []) (length F) None
+silent_itself singles leaves l F f single above h =
+    heard_next singles leaves F h.events f h.with_forgets None (holder_of (claims_of F) (length F) (source_of f.id))
+    (next_by singles true h.events f None single (subst (λ (b : Bool). NextBy true b h.events f None) (sym above) refl))
+    (held_is (claims_of F) (length F) (source_of f.id))
+
 pub heard_single : (singles : ℕ → Bool) → LeavesNetwork singles → (l : Listener) (F : List FrameRecord) (f : FrameRecord) (name : Option ℕ) → singles (pgn_of f.id) ≡ true → (h : Hears l F)
     → IsHolderAfter (claims_of F) (source_of f.id) name → HeardAtWith singles (F ++ f ∷ []) (length F) (heard_alone f name)
 heard_single singles leaves l F f name single h held =
-    let hears : (c : Option MessageRecord) → NextBy true (nat_lt (source_of f.id) 254) h.events f c → HeardAtWith singles (F ++ f ∷ []) (length F) (heard_of f name c) =
-    λ c n. heard_next singles leaves F h.events f h.with_forgets c name (next_by singles true h.events f c single n) (after_is F (source_of f.id) name held) in
-    let by : (b : Bool) → nat_lt (source_of f.id) 254 ≡ b → (c : Option MessageRecord) → NextBy true b h.events f c → HeardAtWith singles (F ++ f ∷ []) (length F) (heard_of f name c) =
-    λ b e c n. hears c (subst (λ (x : Bool). NextBy true x h.events f c) (sym e) n) in
     cond_both (nat_lt (source_of f.id) 254) _ _ (λ (o : Option Hearing). HeardAtWith singles (F ++ f ∷ []) (length F) o)
-    (λ below. by true below (Some (alone_of f)) refl) (λ above. by false above None refl)
+    (λ below. heard_itself singles leaves l F f name single below h held) (λ above. silent_itself singles leaves l F f single above h)
 
 -- a frame of the group of claims is heard as nothing
 pub heard_claim : (singles : ℕ → Bool) → LeavesNetwork singles → (l : Listener) (F : List FrameRecord) (f : FrameRecord) → (pgn_of f.id == 60928) ≡ true → Hears l F → HeardAtWith singles (F ++ f ∷ []) (length F) None

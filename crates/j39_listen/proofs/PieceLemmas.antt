@@ -243,6 +243,12 @@ on_err_from (Err e) P Q f h = f h
 pub at_fault : {T E : Type 0} {r : Result T E} {fault : E} {P : Type 0} → r ≡ Err fault → OnErr r P → P
 at_fault {P = P} is h = subst (λ r. OnErr r P) is h
 
+pub steps_line : {A : Type 0} (has_met : Meeting A) (begun bytes : List ℕ) (n : ℕ) (splitter : Splitter) (raw : RawLine) (s : Spelled) (p p' : Lines A) (a b : Option (List ℕ)) → HasBegun splitter []
+    → (line : List ℕ) × EndsLine begun bytes line n × IsRawLine raw line → ((line : List ℕ) → IsRawLine raw line → Spells line s)
+    → (IsSpelling s → ReadsLine has_met s p p' a b) → StepsOver has_met begun bytes n splitter p p' a b
+steps_line has_met begun bytes n splitter raw s p p' a b fresh (line, ends, cut) spells reads =
+    inr (record { line = line; ends = ends; begins = fresh; spelled = s; spells = spells line cut; reads = reads (line, spells line cut) })
+
 pub stops_line : {A : Type 0} (has_met : Meeting A) (makes : Making) (begun bytes : List ℕ) (n : ℕ) (raw : RawLine) (s : Spelled) (p : Lines A) (a b : Option (List ℕ))
     → (line : List ℕ) × EndsLine begun bytes line n × IsRawLine raw line → ((line : List ℕ) → IsRawLine raw line → Spells line s)
     → (IsSpelling s → StopsAt has_met makes s p a b) → StopsIn has_met makes begun bytes p a b

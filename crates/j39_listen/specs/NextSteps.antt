@@ -31,9 +31,13 @@ abbrev pub heard_of : FrameRecord → Option ℕ → Option MessageRecord → Op
 heard_of f name None = None
 heard_of f name (Some m) = Some (record { message = m; stamp = f.stamp; name = name })
 
--- a frame of a group that is heard in one frame, as it is heard
+-- a frame of a group that is heard in one frame, as it is heard under this name
+abbrev pub hearing_alone : FrameRecord → Option ℕ → Hearing
+hearing_alone f name = record { message = alone_of f; stamp = f.stamp; name = name }
+
+-- the same, or nothing where its source is no address
 abbrev pub heard_alone : FrameRecord → Option ℕ → Option Hearing
-heard_alone f name = if nat_lt (source_of f.id) null_address then heard_of f name (Some (alone_of f)) else None
+heard_alone f name = if nat_lt (source_of f.id) null_address then Some (hearing_alone f name) else None
 
 -- the frame claims nothing, and is of no group that is heard in one frame: it may be one of many of a message
 pub record IsMany (singles : ℕ → Bool) (f : FrameRecord) : Type 0 where

@@ -12,7 +12,9 @@ use j39_address::Name;
 use j39_frame::Pgn;
 use j39_groups::HEAD;
 use j39_log::Seconds;
-use j39_text::backwards::{byte_before, bytes_before, hex_before, number_before};
+use j39_text::backwards::{
+    byte_before, bytes_before, hex_before, last_digits_before, number_before,
+};
 use j39_text::vectors::hex_of_eight;
 
 /// Writes the head of a message's lines at the end of a block, and answers where it starts.
@@ -31,7 +33,7 @@ pub(crate) fn head_before(out: &mut [u8; HEAD], heard: &Heard<'_>, seconds: &mut
     seconds.stamp_before(out, first, heard.message.stamp)
 }
 
-/// Writes the number of a group (PGN): six digits at most.
+/// Writes the number of a group (PGN): six digits at most. Those of most groups have five, and are written with no loop.
 #[inline(always)]
 fn group_before(out: &mut [u8], end: usize, pgn: Pgn) -> usize
     requires room { 6 ≤ end }
@@ -39,7 +41,12 @@ fn group_before(out: &mut [u8], end: usize, pgn: Pgn) -> usize
     ensures written { WritesBefore out.old out.new end result (decimal (pgn_raw pgn)) }
     ensures short { end ≤ result + 6 }
 {
-    number_before(out, end, u64::from(pgn.raw()))
+    let raw = u64::from(pgn.raw());
+    if raw < 10_000 || 100_000 <= raw {
+        return number_before(out, end, raw);
+    }
+    let (start, _) = last_digits_before(out, end, 5, raw);
+    start
 }
 
 /// Writes a NAME in sixteen hex digits, or sixteen dashes.

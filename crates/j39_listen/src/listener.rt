@@ -14,7 +14,7 @@ ghost use Rattle.j39_transport.specs.Answers.{IsAnnouncement};
 ghost use Rattle.j39_transport.specs.Steps.{messages_open};
 ghost use Rattle.j39_listen.specs.Heard.{HeardAt, HeardAtWith, LeavesNetwork};
 ghost use Rattle.j39_listen.specs.Listening.{AreHeld, AreOpen, Hears, WantsMemoryBehind};
-ghost use Rattle.j39_listen.specs.NextSteps.{IsMany, heard_alone};
+ghost use Rattle.j39_listen.specs.NextSteps.{IsMany, heard_alone, hearing_alone};
 ghost use Rattle.j39_listen.specs.Shown.{hearing_of};
 
 use crate::Heard;
@@ -186,15 +186,24 @@ fn alone(frame: &Frame, name: Option<Name>) -> Option<Heard<'_>>
     ensures value { option_map hearing_of result ≡ heard_alone frame.now (option_map name_raw name) }
     ensures short { IfSome result (λ h. length h.message.payload.now ≤ 1785) }
 {
-    let source = frame.id.source();
-    if !is_address(source) {
-        return None;
+    if is_address(frame.id.source()) {
+        Some(by_itself(frame, name))
+    } else {
+        None
     }
+}
+
+/// A frame as a message by itself.
+#[inline(always)]
+pub(crate) fn by_itself(frame: &Frame, name: Option<Name>) -> Heard<'_>
+    ensures value { hearing_of result ≡ hearing_alone frame.now (option_map name_raw name) }
+    ensures short { length result.message.payload.now ≤ 1785 }
+{
     let message = Message {
-        source,
+        source: frame.id.source(),
         pgn: frame.id.pgn(),
         payload: frame.bytes.as_slice(),
         stamp: frame.stamp,
     };
-    Some(Heard { message, name })
+    Heard { message, name }
 }

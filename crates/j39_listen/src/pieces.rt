@@ -142,10 +142,13 @@ fn take_line<A: Account, W: Sink>(
     let (n, raw) = splitter.feed(bytes);
     match raw {
         None => Ok(n),
-        Some(raw) => match lines.read(raw.read(), sink) {
-            Ok(()) => Ok(n),
-            Err(fault) => Err(fault),
-        },
+        Some(raw) => {
+            let line = raw.read_on(&lines.bus);
+            match lines.read(line, sink) {
+                Ok(()) => Ok(n),
+                Err(fault) => Err(fault),
+            }
+        }
     }
 }
 

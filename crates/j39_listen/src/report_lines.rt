@@ -38,7 +38,7 @@ impl Pen {
 }
 
 /// Writes a line for each reading of a message by a table, and answers how many.
-#[inline(never)]
+#[inline(always)]
 pub(crate) fn put_heard<W: Sink>(
     heard: &Heard<'_>,
     groups: &Groups<'_>,

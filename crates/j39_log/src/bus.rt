@@ -58,7 +58,7 @@ impl Bus {
 
 /// Whether two texts are the same. Those of four bytes, as `can0`, are compared at once.
 #[inline(always)]
-fn are_same(a: &[u8], b: &[u8]) -> bool
+pub(crate) fn are_same(a: &[u8], b: &[u8]) -> bool
     ensures { result ≡ bytes_eq a.now b.now }
 {
     match (a, b) {

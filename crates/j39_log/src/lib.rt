@@ -11,6 +11,7 @@ mod line;
 mod newline;
 mod plain;
 mod printed;
+mod reader;
 mod seconds;
 mod splitter;
 mod stamp_text;

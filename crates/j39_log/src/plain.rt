@@ -78,7 +78,7 @@ const ZEROS: [u8; 16] = [
 
 /// The stamp that begins with `(`, ten digits, `.` and six digits.
 #[inline(always)]
-fn stamp_of(front: &[u8; 18]) -> Option<Stamp>
+pub(crate) fn stamp_of(front: &[u8; 18]) -> Option<Stamp>
     ensures { IfSome result (λ stamp. (cut : List ℕ) → AllDigits 10 cut → (length cut ≡ 0) ⊎ (length cut ≡ 3)
         → IsStampText (front.now ++ (cut ++ codes ")")) (stamp_micros stamp)) }
 {

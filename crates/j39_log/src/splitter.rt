@@ -6,7 +6,8 @@ ghost use Rattle.j39_log.specs.LineRead.{spelled_of};
 ghost use Rattle.j39_log.specs.Spelled.{Spells};
 
 use crate::newline::split_line;
-use crate::{LINE_LIMIT, Line, read_line};
+use crate::reader::read_on;
+use crate::{Bus, LINE_LIMIT, Line, read_line};
 use arrayvec::ArrayVec;
 
 /// Cuts the bytes of a log, which come in pieces, into its lines. It keeps the first 256 bytes of
@@ -39,6 +40,17 @@ impl<'a> RawLine<'a> {
         match self {
             RawLine::Whole(line) => read_line(line),
             RawLine::Long(_) => Line::Unread,
+        }
+    }
+
+    /// Reads the line, as `read` does: quickly where it is of this bus, as `candump` writes it.
+    #[inline(always)]
+    pub fn read_on(self, bus: &Option<Bus>) -> Line<'a>
+        ensures { (line : List ℕ) → IsRawLine self.entry line → Spells line (spelled_of result) }
+    {
+        match self {
+            RawLine::Whole(line) => read_on(line, bus),
+            RawLine::Long(_) => self.read(),
         }
     }
 }

@@ -1,11 +1,12 @@
 -- The rows as the code keeps them, with one value more.
-use Rattle.std.proofs.Common.{◌≡◌, ◌∷◌, ◌++◌, [], ℕ, Bool, true, false, List, Option, Some, None, length, map, arith, refl, sym, ap, ap₂, ◌∙◌}
-use Rattle.std.specs.List.{list_any}
-use Rattle.std.specs.Map.{keys_of, lookup}
-use Rattle.std.specs.Prelude.{is_some, position}
-use Rattle.std.proofs.lemmas.Bool.{true≢false}
+use Rattle.std.proofs.Common.{◌≡◌, ◌∷◌, ◌++◌, [], ℕ, Bool, true, false, List, Some, None, length, map, arith, refl, sym, ap, ap₂, ◌∙◌}
+use Rattle.std.specs.List.{IsDistinct, list_any}
+use Rattle.std.specs.Map.{keys_of, lookup, values_of}
+use Rattle.std.specs.Cmp.{IsEquivalence}
+use Rattle.std.specs.Prelude.{◌<◌, position, slice_get}
 use Rattle.indexmap.specs.IndexMap.{insert_entry, set_value_at}
-use Rattle.indexmap.proofs.MapLemmas.{Found-position, insert_entry-first}
+use Rattle.indexmap.proofs.MapLemmas.{Found-position, Missing-position, index-first, insert_entry-first}
+use Rattle.indexmap.proofs.RemoveLemmas.{own_first}
 use Rattle.j39_groups.specs.Value.{ValueRecord, on}
 use Rattle.j39_listen.specs.Report.{Entry}
 use Rattle.j39_summary.specs.RowSteps.{AreRowsOf, begun, grown}
@@ -13,7 +14,7 @@ use Rattle.j39_summary.specs.Shown.{entry_at, is_same, row_shown}
 use Rattle.j39_summary.specs.Summary.{firsts, have_one_origin}
 use Rattle.j39_summary.specs.declared.deeds.Deeds.{Deeds}
 use Rattle.j39_summary.specs.declared.origin.Origin.{Origin}
-use Rattle.j39_summary.proofs.OriginLemmas.{key, same_key}
+use Rattle.j39_summary.proofs.OriginLemmas.{key, same_key, same_like, same_self, same_sym}
 use Rattle.j39_summary.proofs.RowLemmas.{bumped, origins_listed, summary_of-more}
 
 same_origin : (a b : Origin) → is_same a b ≡ true → a ≡ b
@@ -98,11 +99,33 @@ unfolding firsts
 no_rows [] none = refl
 no_rows (p ∷ rows) none = absurd (omega arith)
 
-pub no_value : {A : Type 0} (o : Option A) → false ≡ is_some o → o ≡ None
-no_value None h = refl
-no_value (Some x) h = absurd (true≢false (sym h))
+-- ---- where a row stands
+
+pub no_row : (k : Origin) (rows : List (Origin × Deeds)) → None ≡ position (is_same k) (keys_of rows) → lookup (is_same k) rows ≡ None
+no_row k rows place = (Missing-position (is_same k) rows (sym place)).value
+
+pub within : (k : Origin) (rows : List (Origin × Deeds)) (at : ℕ) → Some at ≡ position (is_same k) (keys_of rows) → at < length rows
+within k rows at place = (Found-position (is_same k) rows at (sym place)).within
+
+pub value_there : (k : Origin) (rows : List (Origin × Deeds)) (at : ℕ) → Some at ≡ position (is_same k) (keys_of rows)
+    → lookup (is_same k) rows ≡ slice_get (values_of rows) at
+value_there k rows at place = (Found-position (is_same k) rows at (sym place)).value
 
 -- a write at the index of an origin
 pub written : (k : Origin) (rows : List (Origin × Deeds)) (at : ℕ) (new : Deeds) → Some at ≡ position (is_same k) (keys_of rows)
     → set_value_at rows at new ≡ insert_entry is_same rows k new
 written k rows at new index = sym (insert_entry-first is_same k new rows at (Found-position (is_same k) rows at (sym index)).first)
+
+same_equiv : IsEquivalence is_same
+same_equiv = record {
+  refl = λ a. same_self (entry_at a 0 on);
+  symm = λ a b. same_sym (entry_at a 0 on) (entry_at b 0 on);
+  congr = λ a b c h. same_like (entry_at a 0 on) (entry_at b 0 on) (entry_at c 0 on) h;
+}
+
+-- rows are of different origins, so what stands at a guess is the row of its origin
+pub guessed : (k : Origin) (row : Origin × Deeds) (rows : List (Origin × Deeds)) (at : ℕ) → IsDistinct is_same (keys_of rows)
+    → slice_get rows at ≡ Some row → is_same row.0 k ≡ true → position (is_same k) (keys_of rows) ≡ Some at
+guessed k row rows at distinct here same =
+    let is : row.0 ≡ k = same_origin row.0 k same in
+    index-first (is_same k) rows at (own_first is_same same_equiv rows at k row.1 distinct (here ∙ ap (λ o. Some (o, row.1)) is))

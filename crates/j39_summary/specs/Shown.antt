@@ -3,20 +3,26 @@ use Rattle.std.specs.Prelude.{ℕ, Bool}
 use Rattle.std.specs.Option.{option_map}
 use Rattle.j39_frame.specs.Stamp.{stamp_micros}
 use Rattle.j39_groups.specs.ReadFields.{scale_record}
-use Rattle.j39_groups.specs.Value.{ValueRecord, number, on, off, error, reserved, indicator, text}
+use Rattle.j39_groups.specs.Shown.{slot_record}
+use Rattle.j39_groups.specs.Value.{SlotRecord, ValueRecord, number, on, off, error, reserved, indicator, text}
 use Rattle.j39_listen.specs.Report.{Entry}
-use Rattle.j39_summary.specs.Summary.{Number, Range, Row, have_one_origin}
+use Rattle.j39_summary.specs.Summary.{Range, Row, have_one_origin}
 use Rattle.j39_summary.specs.declared.deeds.Deeds.{Deeds}
-use Rattle.j39_summary.specs.declared.deeds.Scaled.{Scaled}
 use Rattle.j39_summary.specs.declared.deeds.Seen.{Seen}
 use Rattle.j39_summary.specs.declared.deeds.Span.{Span}
 use Rattle.j39_summary.specs.declared.kept.Kept.{Kept}
 use Rattle.j39_summary.specs.declared.kept.Kept.TheVariants as kept
 use Rattle.j39_summary.specs.declared.kept.Kept.TheVariants.{On, Off, Error, Reserved, Indicator, Text}
+use Rattle.j39_summary.specs.declared.measure.Measure.{Measure}
+use Rattle.j39_summary.specs.declared.measure.Measure.TheVariants.{Slot, Scale}
 use Rattle.j39_summary.specs.declared.origin.Origin.{Origin}
 
+abbrev pub measure_record : Measure → SlotRecord
+measure_record (Slot slot) = slot_record slot
+measure_record (Scale scale) = scale_record scale
+
 abbrev pub kept_value : Kept → ValueRecord
-kept_value (kept.Number n scale) = number n (scale_record scale)
+kept_value (kept.Number n measure) = number n (measure_record measure)
 kept_value On = on
 kept_value Off = off
 kept_value Error = error
@@ -42,7 +48,7 @@ abbrev pub entry_seen : Origin → Seen → Entry
 entry_seen origin seen = entry_at origin (stamp_micros seen.stamp) (kept_value seen.value)
 
 abbrev pub range_of_span : Span → Range
-range_of_span span = record { slot = scale_record span.scale; least = span.least; most = span.most }
+range_of_span span = record { slot = measure_record span.measure; least = span.least; most = span.most }
 
 -- the row of what was seen of an origin
 abbrev pub row_shown : Origin × Deeds → Row
@@ -53,6 +59,3 @@ row_shown (origin, deeds) = record {
   words = deeds.words;
   range = option_map range_of_span deeds.range;
 }
-
-abbrev pub number_shown : Scaled → Number
-number_shown n = record { value = n.number; slot = scale_record n.scale }

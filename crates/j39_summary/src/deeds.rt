@@ -1,19 +1,21 @@
 //! What is kept of the values of one origin.
-ghost use Rattle.std.specs.Prelude.{◌≡◌, ◌+◌, ◌&&◌, ◌==◌, IsTrue, None, OnErr, OnOk, IfOk, Some};
+ghost use Rattle.std.specs.Prelude.{◌≡◌, ◌+◌, None, OnErr, OnOk, IfOk, Some};
 ghost use Rattle.std.specs.Option.{option_map};
 ghost use Rattle.j39_frame.specs.Stamp.{stamp_micros};
-ghost use Rattle.j39_groups.specs.ReadFields.{scale_record};
 ghost use Rattle.j39_groups.specs.ReadValues.{read_value_of};
 ghost use Rattle.j39_groups.specs.Shown.{value_of};
+ghost use Rattle.j39_groups.specs.Value.{number};
+ghost use Rattle.j39_listen.specs.Counting.{capped};
 ghost use Rattle.j39_summary.specs.RowSteps.{begun, grown, one_if, widened};
-ghost use Rattle.j39_summary.specs.Shown.{entry_at, number_shown, range_of_span, row_shown};
+ghost use Rattle.j39_summary.specs.Shown.{entry_at, measure_record, range_of_span, row_shown};
 ghost use Rattle.j39_summary.specs.Summaries.{IsText};
-ghost use Rattle.j39_summary.specs.Summary.{are_comparable, is_word_value, number_in};
+ghost use Rattle.j39_summary.specs.Summary.{is_word_value, number_in};
 ghost use Rattle.j39_summary.specs.declared.origin.Origin.{Origin};
 
 use crate::kept::Kept;
+use crate::measure::{Measure, are_comparable};
 use j39_frame::Stamp;
-use j39_groups::{ReadValue, Scale, Value};
+use j39_groups::{ReadValue, Value};
 use std::alloc::{AllocError, Global};
 
 /// A value with its moment.
@@ -23,10 +25,10 @@ pub(crate) struct Seen<'t> {
     pub value: Kept<'t>,
 }
 
-/// The least and the most number, in units of the last printed place, and the scale of the first.
+/// The least and the most number, in units of the last printed place, and the measure of the first.
 #[derive(Clone, Copy)]
 pub(crate) struct Span<'t> {
-    pub scale: Scale<'t>,
+    pub measure: Measure<'t>,
     pub least: i64,
     pub most: i64,
 }
@@ -61,7 +63,7 @@ impl<'t> Deeds<'t> {
                 value: first,
             },
             last: Seen { stamp, value: last },
-            range: widened(None, number_in(value)),
+            range: span_of(value),
         })
     }
 
@@ -77,12 +79,59 @@ impl<'t> Deeds<'t> {
             ≡ grown (row_shown (origin, self.old)) (entry_at origin (stamp_micros stamp) (read_value_of value.entry))) }
         ensures wanted { OnErr result (IsText (read_value_of value.entry)) }
     {
-        let last = Kept::of(alloc, value)?;
-        self.count = self.count.saturating_add(1);
-        self.words = self.words.saturating_add(u64::from(is_word(value)));
-        self.range = widened(self.range, number_in(value));
-        self.last = Seen { stamp, value: last };
+        match value {
+            ReadValue::Number(number, scale) => {
+                self.grow_by_number(stamp, number, Measure::Scale(scale));
+                Ok(())
+            }
+            ReadValue::Plain(value) => self.grow_by_plain(alloc, stamp, value),
+        }
+    }
+
+    /// One value of the built-in table more. The number comes first and has its way for itself, as most values are one.
+    #[inline(always)]
+    fn grow_by_plain(
+        &mut self,
+        alloc: Global,
+        stamp: Stamp,
+        value: Value<'_>,
+    ) -> Result<(), AllocError>
+        ensures grown { OnOk result ((origin : Origin) → row_shown (origin, self.new)
+            ≡ grown (row_shown (origin, self.old)) (entry_at origin (stamp_micros stamp) (value_of value.entry))) }
+        ensures wanted { OnErr result (IsText (value_of value.entry)) }
+    {
+        if let Value::Number(number, slot) = value {
+            self.grow_by_number(stamp, number, Measure::Slot(slot));
+            return Ok(());
+        }
+        let last = Kept::plain(alloc, value)?;
+        self.put(stamp, last, is_plain_word(value));
         Ok(())
+    }
+
+    /// One number more.
+    #[inline(always)]
+    fn grow_by_number(&mut self, stamp: Stamp, value: i64, measure: Measure<'t>)
+        ensures { (origin : Origin) → row_shown (origin, self.new)
+            ≡ grown (row_shown (origin, self.old))
+            (entry_at origin (stamp_micros stamp) (number value (measure_record measure.entry))) }
+    {
+        widen(&mut self.range, value, measure);
+        self.put(stamp, Kept::Number(value, measure), false);
+    }
+
+    /// The last value is another one, and counts.
+    #[inline(always)]
+    fn put(&mut self, stamp: Stamp, value: Kept<'t>, is_word: bool)
+        ensures count { self.new.count ≡ capped (self.old.count + 1) }
+        ensures words { self.new.words ≡ capped (self.old.words + one_if is_word) }
+        ensures first { self.new.first ≡ self.old.first }
+        ensures last { self.new.last ≡ record { stamp = stamp; value = value.entry } }
+        ensures range { self.new.range ≡ self.old.range }
+    {
+        self.count = self.count.saturating_add(1);
+        self.words = self.words.saturating_add(u64::from(is_word));
+        self.last = Seen { stamp, value };
     }
 }
 
@@ -112,33 +161,21 @@ fn is_plain_word(value: Value<'_>) -> bool
     }
 }
 
-/// A number, in units of the last printed place, and its scale.
-#[derive(Clone, Copy)]
-pub(crate) struct Scaled<'t> {
-    pub number: i64,
-    pub scale: Scale<'t>,
-}
-
-/// The number that a value is, where it is one.
-#[inline(always)]
-fn number_in<'t>(value: ReadValue<'t, '_>) -> Option<Scaled<'t>>
-    ensures { option_map number_shown result ≡ number_in (read_value_of value.entry) }
+/// The range of one value.
+fn span_of<'t>(value: ReadValue<'t, '_>) -> Option<Span<'t>>
+    ensures { option_map range_of_span result ≡ widened None (number_in (read_value_of value.entry)) }
 {
     match value {
-        ReadValue::Number(number, scale) => Some(Scaled { number, scale }),
-        ReadValue::Plain(value) => plain_number(value),
+        ReadValue::Number(number, scale) => Some(Span::of(number, Measure::Scale(scale))),
+        ReadValue::Plain(value) => plain_span(value),
     }
 }
 
-#[inline(always)]
-fn plain_number<'t>(value: Value<'_>) -> Option<Scaled<'t>>
-    ensures { option_map number_shown result ≡ number_in (value_of value.entry) }
+fn plain_span<'t>(value: Value<'_>) -> Option<Span<'t>>
+    ensures { option_map range_of_span result ≡ widened None (number_in (value_of value.entry)) }
 {
     match value {
-        Value::Number(number, slot) => Some(Scaled {
-            number,
-            scale: slot.scale(),
-        }),
+        Value::Number(number, slot) => Some(Span::of(number, Measure::Slot(slot))),
         Value::On => None,
         Value::Off => None,
         Value::Error => None,
@@ -148,44 +185,41 @@ fn plain_number<'t>(value: Value<'_>) -> Option<Scaled<'t>>
     }
 }
 
-/// The range with a number more.
+/// The range has a number more.
 #[inline(always)]
-fn widened<'t>(range: Option<Span<'t>>, number: Option<Scaled<'t>>) -> Option<Span<'t>>
-    ensures { option_map range_of_span result
-        ≡ widened (option_map range_of_span range.entry) (option_map number_shown number.entry) }
+fn widen<'t>(range: &mut Option<Span<'t>>, number: i64, measure: Measure<'t>)
+    ensures { option_map range_of_span range.new ≡ widened (option_map range_of_span range.old)
+        (Some (record { value = number; slot = measure_record measure.entry })) }
 {
-    match number {
-        None => range,
-        Some(number) => match range {
-            None => Some(Span {
-                scale: number.scale,
-                least: number.number,
-                most: number.number,
-            }),
-            Some(range) => Some(widened_span(range, number)),
-        },
+    match range {
+        None => *range = Some(Span::of(number, measure)),
+        Some(span) => span.widen(number, measure),
     }
 }
 
-#[inline(always)]
-fn widened_span<'t>(range: Span<'t>, number: Scaled<'t>) -> Span<'t>
-    ensures { Some (range_of_span result)
-        ≡ widened (Some (range_of_span range.entry)) (Some (number_shown number.entry)) }
-{
-    if !are_comparable(range.scale, number.scale) {
-        return range;
+impl<'t> Span<'t> {
+    /// That of one number.
+    #[inline(always)]
+    fn of(number: i64, measure: Measure<'t>) -> Span<'t>
+        ensures { Some (range_of_span result) ≡ widened None
+            (Some (record { value = number; slot = measure_record measure.entry })) }
+    {
+        Span {
+            measure,
+            least: number,
+            most: number,
+        }
     }
-    Span {
-        scale: range.scale,
-        least: range.least.min(number.number),
-        most: range.most.max(number.number),
-    }
-}
 
-/// Whether numbers of both scales can be compared: they have as many places, and one unit.
-#[inline(always)]
-fn are_comparable(a: Scale<'_>, b: Scale<'_>) -> bool
-    ensures { result ≡ are_comparable (scale_record a.entry) (scale_record b.entry) }
-{
-    a.places == b.places && a.unit == b.unit
+    /// It has a number more, where that can be compared with the first.
+    #[inline(always)]
+    fn widen(&mut self, number: i64, measure: Measure<'t>)
+        ensures { Some (range_of_span self.new) ≡ widened (Some (range_of_span self.old))
+            (Some (record { value = number; slot = measure_record measure.entry })) }
+    {
+        if are_comparable(self.measure, measure) {
+            self.least = self.least.min(number);
+            self.most = self.most.max(number);
+        }
+    }
 }

@@ -1,19 +1,19 @@
 //! Values that outlive their message.
 ghost use Rattle.std.specs.Prelude.{◌≡◌, IfOk, OnErr};
-ghost use Rattle.j39_groups.specs.ReadFields.{scale_record};
 ghost use Rattle.j39_groups.specs.ReadValues.{read_value_of};
 ghost use Rattle.j39_groups.specs.Shown.{value_of};
 ghost use Rattle.j39_summary.specs.Shown.{kept_value};
 ghost use Rattle.j39_summary.specs.Summaries.{IsText};
 
-use j39_groups::{ReadValue, Scale, Value};
+use crate::measure::Measure;
+use j39_groups::{ReadValue, Value};
 use std::alloc::{AllocError, Global};
 
 /// A value as a row keeps it; `'t` is how long the table lives.
 #[derive(Drop)]
 pub(crate) enum Kept<'t> {
-    /// A number, in units of the last printed place, and its scale.
-    Number(i64, Scale<'t>),
+    /// A number, in units of the last printed place, and its measure.
+    Number(i64, Measure<'t>),
     On,
     Off,
     Error,
@@ -31,18 +31,19 @@ impl<'t> Kept<'t> {
         ensures wanted { OnErr result (IsText (read_value_of value.entry)) }
     {
         match value {
-            ReadValue::Number(number, scale) => Ok(Kept::Number(number, scale)),
+            ReadValue::Number(number, scale) => Ok(Kept::Number(number, Measure::Scale(scale))),
             ReadValue::Plain(value) => Kept::plain(alloc, value),
         }
     }
 
+    /// The same, of a value of the built-in table.
     #[inline(always)]
-    fn plain(alloc: Global, value: Value<'_>) -> Result<Kept<'t>, AllocError>
+    pub fn plain(alloc: Global, value: Value<'_>) -> Result<Kept<'t>, AllocError>
         ensures kept { IfOk result (λ kept. kept_value kept ≡ value_of value.entry) }
         ensures wanted { OnErr result (IsText (value_of value.entry)) }
     {
         match value {
-            Value::Number(number, slot) => Ok(Kept::Number(number, slot.scale())),
+            Value::Number(number, slot) => Ok(Kept::Number(number, Measure::Slot(slot))),
             Value::On => Ok(Kept::On),
             Value::Off => Ok(Kept::Off),
             Value::Error => Ok(Kept::Error),

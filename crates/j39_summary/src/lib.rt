@@ -6,6 +6,7 @@ mod deeds;
 mod kept;
 pub mod laws;
 mod lines;
+mod measure;
 mod origin;
 mod records;
 mod rows;

@@ -209,14 +209,14 @@ fn put_span<W: Sink>(span: &Span<'_>, sink: &mut W) -> Result<(), DeviceFault>
         (range_text (Some (range_of_span span.now)))) }
     ensures mark { Marks result (W.has_failed sink.old) (W.has_failed sink.new) }
 {
-    let least = scaled_text(span.least, span.scale.places);
-    let most = scaled_text(span.most, span.scale.places);
+    let least = scaled_text(span.least, span.measure.places());
+    let most = scaled_text(span.most, span.measure.places());
     let parts: [&[u8]; 5] = [
         least.as_slice(),
         b" ",
         most.as_slice(),
         b" ",
-        span.scale.unit,
+        span.measure.unit(),
     ];
     put_parts(&parts, sink)
 }
@@ -243,8 +243,8 @@ pub(crate) fn put_kept<W: Sink>(kept: &Kept<'_>, sink: &mut W) -> Result<(), Dev
     ensures mark { Marks result (W.has_failed sink.old) (W.has_failed sink.new) }
 {
     match kept {
-        Kept::Number(number, scale) => {
-            put_all(sink, scaled_text(*number, scale.places).as_slice())
+        Kept::Number(number, measure) => {
+            put_all(sink, scaled_text(*number, measure.places()).as_slice())
         }
         Kept::On => put_value(&Value::On, sink),
         Kept::Off => put_value(&Value::Off, sink),

@@ -136,7 +136,7 @@ fn put_span<W: Sink>(span: &Span<'_>, sink: &mut W) -> Result<(), DeviceFault>
     ensures mark { Marks result (W.has_failed sink.old) (W.has_failed sink.new) }
 {
     put_bounds(span, sink)?;
-    put_behind_comma(span.scale.unit, sink)
+    put_behind_comma(span.measure.unit(), sink)
 }
 
 fn put_bounds<W: Sink>(span: &Span<'_>, sink: &mut W) -> Result<(), DeviceFault>
@@ -146,8 +146,8 @@ fn put_bounds<W: Sink>(span: &Span<'_>, sink: &mut W) -> Result<(), DeviceFault>
         (bounds_fields (range_of_span span.now))) }
     ensures mark { Marks result (W.has_failed sink.old) (W.has_failed sink.new) }
 {
-    let least = scaled_text(span.least, span.scale.places);
-    let most = scaled_text(span.most, span.scale.places);
+    let least = scaled_text(span.least, span.measure.places());
+    let most = scaled_text(span.most, span.measure.places());
     let parts: [&[u8]; 4] = [b",", least.as_slice(), b",", most.as_slice()];
     put_parts(&parts, sink)
 }

@@ -1,6 +1,6 @@
 //! The rows of a summary.
-ghost use Rattle.std.specs.Prelude.{◌≡◌, ◌++◌, ◌∷◌, [], List, OnOk, OnErr, IfOk, None};
-ghost use Rattle.indexmap.specs.IndexMap.{get};
+ghost use Rattle.std.specs.Prelude.{◌≡◌, ◌++◌, ◌∷◌, [], List, OnOk, OnErr, IfOk, IsTrue, None, Some};
+ghost use Rattle.indexmap.specs.IndexMap.{get, index_of};
 ghost use Rattle.j39_frame.specs.Stamp.{stamp_micros};
 ghost use Rattle.j39_groups.specs.ReadValues.{read_value_of};
 ghost use Rattle.j39_listen.specs.Report.{Entry};
@@ -27,11 +27,15 @@ pub(crate) enum RowForm {
     Record,
 }
 
-/// The rows so far, by their origins in the order of their first values; and what the readings of a message have in
-/// common.
+/// How many places of rows are remembered.
+const GUESSES: usize = 1024;
+
+/// The rows so far, by their origins in the order of their first values; where the rows of the last values stand, by
+/// address and parameter, as a look-up costs more than a value; and what the readings of a message have in common.
 #[derive(Drop)]
 pub(crate) struct Rows<'t> {
     pub rows: IndexMap<Origin, Deeds<'t>>,
+    guesses: [usize; GUESSES],
     alloc: Global,
     stamp: Stamp,
     address: u8,
@@ -46,6 +50,7 @@ impl<'t> Rows<'t> {
     {
         Rows {
             rows: IndexMap::new(alloc),
+            guesses: [0; GUESSES],
             alloc,
             stamp: Stamp::new(0).unwrap(),
             address: 0,
@@ -67,24 +72,46 @@ impl<'t> Rows<'t> {
     }
 }
 
-/// Takes a value to its row.
+/// Whether the row of an origin stands at this place.
+#[inline(always)]
+fn stands_at(rows: &IndexMap<Origin, Deeds<'_>>, place: usize, origin: Origin) -> bool
+    ensures { IsTrue result → index_of is_same rows.now origin ≡ Some place }
+{
+    if place >= rows.len() {
+        return false;
+    }
+    let (found, _) = rows.get_index(place).unwrap();
+    *found == origin
+}
+
+/// Where the row of an origin stands, if it has one.
+#[inline(never)]
+fn looked_up(rows: &IndexMap<Origin, Deeds<'_>>, origin: Origin) -> Option<usize>
+    ensures { result ≡ index_of is_same rows.now origin }
+{
+    rows.get_index_of(&origin)
+}
+
+/// Takes a value to its row, which stands at this place where there is one.
 #[inline(always)]
 fn take<'t>(
     rows: &mut IndexMap<Origin, Deeds<'t>>,
     alloc: Global,
+    place: Option<usize>,
     origin: Origin,
     stamp: Stamp,
     value: ReadValue<'t, '_>,
 ) -> Result<(), AllocError>
+    requires { place ≡ index_of is_same rows.old origin }
     ensures taken { OnOk result ((before : List Entry) → AreRowsOf rows.old.entries before
         → AreRowsOf rows.new.entries
         (before ++ entry_at origin (stamp_micros stamp) (read_value_of value.entry) ∷ [])) }
     ensures wanted { OnErr result ((before : List Entry) → AreRowsOf rows.old.entries before
         → WantsRow before (entry_at origin (stamp_micros stamp) (read_value_of value.entry))) }
 {
-    match rows.get_index_of(&origin) {
+    match place {
         Some(at) => rows[at].grow(alloc, stamp, value),
-        None => add(rows, alloc, origin, stamp, value),
+        None => add(rows, alloc, origin.again(), stamp, value),
     }
 }
 
@@ -128,6 +155,15 @@ impl<'t> ReadingVisitor<'t, ()> for Rows<'t> {
             pgn: self.pgn,
             spn,
         };
-        take(&mut self.rows, self.alloc, origin, self.stamp, value)
+        let at = origin.guess() % GUESSES;
+        let guess = self.guesses[at];
+        let place = if stands_at(&self.rows, guess, origin) {
+            Some(guess)
+        } else {
+            let place = looked_up(&self.rows, origin.again());
+            self.guesses[at] = place.unwrap_or(self.rows.len());
+            place
+        };
+        take(&mut self.rows, self.alloc, place, origin, self.stamp, value)
     }
 }

@@ -1,5 +1,5 @@
 -- The first row of the parameter has its name.
-use Rattle.std.proofs.Common.{◌∙◌, ap, arith, refl, sym, Some}
+use Rattle.std.proofs.Common.{arith, sym}
 use Rattle.j39_groups.specs.ReadRows.{read_row_record}
 use Rattle.j39_groups.proofs.NameLemmas.{named_here, named_later, named_nowhere}
 use Rattle.j39_groups.proofs.names.read_name_in.Goals as goal

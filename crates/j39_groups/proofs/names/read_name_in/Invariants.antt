@@ -1,4 +1,3 @@
-use Rattle.std.proofs.Common.{◌≡◌}
 use Rattle.j39_groups.specs.ReadRows.{read_row_record}
 use Rattle.j39_groups.proofs.NameLemmas.{IsNamedFrom}
 use Rattle.j39_groups.proofs.names.read_name_in.Given as goal

@@ -1,5 +1,5 @@
 -- Row by row of the group.
-use Rattle.std.proofs.Common.{◌≡◌, List, suc, take, drop, subst, ap, ◌∙◌, arith, refl}
+use Rattle.std.proofs.Common.{List, suc, take, drop, subst, ap, ◌∙◌, arith, refl}
 use Rattle.std.specs.List.{flat_map}
 use Rattle.std.proofs.lemmas.List.{take_all}
 use Rattle.j39_frame.specs.Pgn.{pgn_raw}

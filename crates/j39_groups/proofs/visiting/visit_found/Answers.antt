@@ -1,5 +1,5 @@
 -- It stops at one of the readings that are left.
-use Rattle.std.proofs.Common.{ℕ, List, [], ◌∷◌, suc, take, drop, map}
+use Rattle.std.proofs.Common.{suc, take, drop, map}
 use Rattle.j39_device.proofs.DeviceLemmas.{on_err}
 use Rattle.j39_groups.specs.Shown.{reading_of}
 use Rattle.j39_groups.specs.Visits.{with_medium}

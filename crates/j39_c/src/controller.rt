@@ -1,0 +1,395 @@
+//! A controller: the parts of the stack in one loop (J1939-21, J1939-81).
+ghost use Rattle.std.specs.Prelude.{◌≡◌, ◌<◌, ◌^◌, Some, None, IfSome, IsSome, IsSomeAnd, pos};
+ghost use Rattle.j39_frame.specs.Address.{IsAddress};
+ghost use Rattle.j39_controller.specs.Controller.{Hears, IsNew, IsUnsent, Passes, waiting_in};
+ghost use Rattle.j39_controller.specs.Outbox.{first_id};
+ghost use Rattle.j39_c.specs.Can.{Fits, frame_of};
+ghost use Rattle.j39_c.specs.Codes.{IsDone, IsRefused, bad_value, in_use, no_memory, no_part};
+ghost use Rattle.j39_c.specs.Controllers.{BeginsFrom, Broadcasts, CanBegin, CanTransfer, Holds, LetsTurn, TakesAsked};
+ghost use Rattle.j39_c.specs.Controllers.{TakesFrame, TakesIn, TakesReceived, TakesSettled, Transfers};
+ghost use Rattle.j39_c.specs.Controllers.{asked, begun, received, settled, wish_in};
+ghost use Rattle.j39_c.specs.Holders.{told_number};
+ghost use Rattle.j39_c.specs.Messages.{named};
+ghost use Rattle.j39_c.specs.Parts.{controller_in};
+
+use crate::can::{CanFrame, frame_in};
+use crate::controlling;
+use crate::handed_out::PlainRequest;
+use crate::handle::Handle;
+use crate::message::{LONGEST, WholeMessage};
+use crate::part::Part;
+use crate::refusal::Refusal;
+use j39_address::Name;
+use j39_controller::Controller;
+use j39_frame::{Pgn, Stamp, is_address};
+use std::alloc::Global;
+
+/// The fewest bytes of a message that goes in packets.
+const SHORTEST: usize = 9;
+
+/// Opens a controller of this NAME, to start with this address: 0; -1 for an address above 253, -3 where memory is
+/// refused, -4 where the handle is open.
+#[unsafe(no_mangle)]
+pub extern "C" fn j39_controller_new(
+    alloc: Global,
+    controller: &mut Handle,
+    name: u64,
+    preferred: u8,
+) -> i32
+    ensures made { IsDone result → (result ≡ pos 0) × IsAddress preferred
+        × IsSomeAnd (controller_in controller.new.part) (λ made. IsNew name preferred made) }
+    ensures open { IsSome controller.old.part → result ≡ in_use }
+    ensures bad { controller.old.part ≡ None → (IsAddress preferred → ⊥) → result ≡ bad_value }
+    ensures wanted { controller.old.part ≡ None → IsAddress preferred → IsRefused result → result ≡ no_memory }
+    ensures refused { IsRefused result → controller.new.part ≡ controller.old.part }
+{
+    if let Some(part) = controller.take(alloc) {
+        controller.put(alloc, part);
+        return Refusal::InUse.code();
+    }
+    let Some(made) = Controller::new(alloc, Name::new(name), preferred) else {
+        return Refusal::BadValue.code();
+    };
+    let Ok(made) = Box::new(alloc, made) else {
+        return Refusal::NoMemory.code();
+    };
+    let Ok(part) = Box::new(alloc, Part::Controlling(made)) else {
+        return Refusal::NoMemory.code();
+    };
+    controller.put(alloc, part);
+    0
+}
+
+/// Lets time pass for the address of a controller: it claims its preferred one, and holds it 250 ms later: 0. -1 for a
+/// moment of 10^16 microseconds and above, -2 where the handle holds no controller. -3 where memory is refused: some of
+/// the step may be done then.
+#[unsafe(no_mangle)]
+pub extern "C" fn j39_controller_pass(alloc: Global, controller: &mut Handle, micros: u64) -> i32
+    ensures done { micros < 10 ^ 16 → IsDone result → IfSome (controller_in controller.old.part) (λ old.
+        (result ≡ pos 0) × IsSomeAnd (controller_in controller.new.part) (λ new. Passes old micros new)) }
+    ensures wanted { micros < 10 ^ 16 → IsRefused result → IfSome (controller_in controller.old.part) (λ _.
+        (result ≡ no_memory) × IsSome (controller_in controller.new.part)) }
+    ensures foreign { micros < 10 ^ 16 → controller_in controller.old.part ≡ None
+        → (result ≡ no_part) × (controller.new.part ≡ controller.old.part) }
+    ensures bad { (micros < 10 ^ 16 → ⊥) → (result ≡ bad_value) × (controller.new.part ≡ controller.old.part) }
+{
+    let Some(now) = Stamp::new(micros) else {
+        return Refusal::BadValue.code();
+    };
+    let Some(mut part) = controller.take(alloc) else {
+        return Refusal::NoPart.code();
+    };
+    let code = controlling::pass(&mut part, now);
+    controller.put(alloc, part);
+    code
+}
+
+/// Lets time pass for the messages of a controller, where it holds an address: 0. -1 for a moment of 10^16
+/// microseconds and above, -2 where the handle holds no controller. -3 where memory is refused: some of the step may be
+/// done then.
+#[unsafe(no_mangle)]
+pub extern "C" fn j39_controller_turn(alloc: Global, controller: &mut Handle, micros: u64) -> i32
+    ensures done { micros < 10 ^ 16 → IsDone result → IfSome (controller_in controller.old.part) (λ old.
+        (result ≡ pos 0) × IsSomeAnd (controller_in controller.new.part) (λ new. LetsTurn old micros new)) }
+    ensures wanted { micros < 10 ^ 16 → IsRefused result → IfSome (controller_in controller.old.part) (λ _.
+        (result ≡ no_memory) × IsSome (controller_in controller.new.part)) }
+    ensures foreign { micros < 10 ^ 16 → controller_in controller.old.part ≡ None
+        → (result ≡ no_part) × (controller.new.part ≡ controller.old.part) }
+    ensures bad { (micros < 10 ^ 16 → ⊥) → (result ≡ bad_value) × (controller.new.part ≡ controller.old.part) }
+{
+    let Some(now) = Stamp::new(micros) else {
+        return Refusal::BadValue.code();
+    };
+    let Some(mut part) = controller.take(alloc) else {
+        return Refusal::NoPart.code();
+    };
+    let code = controlling::turn(&mut part, now);
+    controller.put(alloc, part);
+    code
+}
+
+/// Shows a controller a frame that another one sent, at its own moment: 0. -1 for a frame that is out of range, -2
+/// where the handle holds no controller. -3 where memory is refused: some of its parts may have heard the frame then.
+#[unsafe(no_mangle)]
+pub extern "C" fn j39_controller_hear(
+    alloc: Global,
+    controller: &mut Handle,
+    frame: &CanFrame,
+) -> i32
+    ensures done { Fits frame.now → IsDone result → IfSome (controller_in controller.old.part) (λ old.
+        (result ≡ pos 0) × IsSomeAnd (controller_in controller.new.part) (λ new. Hears old (frame_of frame.now) new)) }
+    ensures wanted { Fits frame.now → IsRefused result → IfSome (controller_in controller.old.part) (λ _.
+        (result ≡ no_memory) × IsSome (controller_in controller.new.part)) }
+    ensures foreign { Fits frame.now → controller_in controller.old.part ≡ None
+        → (result ≡ no_part) × (controller.new.part ≡ controller.old.part) }
+    ensures bad { (Fits frame.now → ⊥) → (result ≡ bad_value) × (controller.new.part ≡ controller.old.part) }
+{
+    let Some(heard) = frame_in(frame) else {
+        return Refusal::BadValue.code();
+    };
+    let Some(mut part) = controller.take(alloc) else {
+        return Refusal::NoPart.code();
+    };
+    let code = controlling::hear(&mut part, &heard);
+    controller.put(alloc, part);
+    code
+}
+
+/// Hands a controller a frame that is a message by itself, under a number of the caller's: it goes out from the address
+/// that is held, else it is told as withdrawn: 0. -1 for a frame that is out of range, -2 where the handle holds no
+/// controller. -3 where memory is refused: nothing that waits or was told has changed then.
+#[unsafe(no_mangle)]
+pub extern "C" fn j39_controller_send(
+    alloc: Global,
+    controller: &mut Handle,
+    frame: &CanFrame,
+    number: usize,
+) -> i32
+    ensures done { Fits frame.now → IsDone result → IfSome (controller_in controller.old.part) (λ old. (result ≡ pos 0)
+        × IsSomeAnd (controller_in controller.new.part) (λ new. TakesIn old (frame_of frame.now) number new)) }
+    ensures wanted { Fits frame.now → IsRefused result → IfSome (controller_in controller.old.part) (λ old.
+        (result ≡ no_memory) × IsSomeAnd (controller_in controller.new.part) (λ new. IsUnsent old new)) }
+    ensures foreign { Fits frame.now → controller_in controller.old.part ≡ None
+        → (result ≡ no_part) × (controller.new.part ≡ controller.old.part) }
+    ensures bad { (Fits frame.now → ⊥) → (result ≡ bad_value) × (controller.new.part ≡ controller.old.part) }
+{
+    let Some(sent) = frame_in(frame) else {
+        return Refusal::BadValue.code();
+    };
+    let Some(mut part) = controller.take(alloc) else {
+        return Refusal::NoPart.code();
+    };
+    let code = controlling::send(&mut part, sent, number);
+    controller.put(alloc, part);
+    code
+}
+
+/// Begins to broadcast these bytes, 9 to 1,785, under a number of the caller's, where a message may begin: 1 where it
+/// has begun, else 0. -1 for another number of bytes, a group of 2^18 and above or a moment of 10^16 microseconds and
+/// above, -2 where the handle holds no controller, -3 where memory is refused. The bytes are copied.
+#[unsafe(no_mangle)]
+pub extern "C" fn j39_controller_broadcast(
+    alloc: Global,
+    controller: &mut Handle,
+    number: usize,
+    pgn: u32,
+    payload: &[u8],
+    micros: u64,
+) -> i32
+    ensures begins { CanBegin pgn payload.now micros → IsDone result → IfSome (controller_in controller.old.part)
+        (λ old. IsSomeAnd (controller_in controller.new.part) (λ new.
+        Broadcasts old number pgn payload.now micros (begun result) new)) }
+    ensures wanted { CanBegin pgn payload.now micros → IsRefused result
+        → IfSome (controller_in controller.old.part) (λ _. result ≡ no_memory) }
+    ensures foreign { CanBegin pgn payload.now micros → controller_in controller.old.part ≡ None → result ≡ no_part }
+    ensures bad { (CanBegin pgn payload.now micros → ⊥) → result ≡ bad_value }
+    ensures refused { IsRefused result → controller.new.part ≡ controller.old.part }
+{
+    let (Some(now), Some(group)) = (Stamp::new(micros), Pgn::new(pgn)) else {
+        return Refusal::BadValue.code();
+    };
+    if payload.len() < SHORTEST || payload.len() > LONGEST {
+        return Refusal::BadValue.code();
+    }
+    let Some(mut part) = controller.take(alloc) else {
+        return Refusal::NoPart.code();
+    };
+    let code = controlling::broadcast(alloc, &mut part, number, group, payload, now);
+    controller.put(alloc, part);
+    code
+}
+
+/// Begins to send these bytes, 9 to 1,785, to an address under a number of the caller's, where a message may begin: 1
+/// where it has begun, else 0. -1 for another number of bytes, an address above 253, a group of 2^18 and above or a
+/// moment of 10^16 microseconds and above, -2 where the handle holds no controller, -3 where memory is refused. The
+/// bytes are copied.
+#[unsafe(no_mangle)]
+pub extern "C" fn j39_controller_transfer(
+    alloc: Global,
+    controller: &mut Handle,
+    number: usize,
+    to: u8,
+    pgn: u32,
+    payload: &[u8],
+    micros: u64,
+) -> i32
+    ensures begins { CanTransfer to pgn payload.now micros → IsDone result → IfSome (controller_in controller.old.part)
+        (λ old. IsSomeAnd (controller_in controller.new.part) (λ new.
+        Transfers old number to pgn payload.now micros (begun result) new)) }
+    ensures wanted { CanTransfer to pgn payload.now micros → IsRefused result
+        → IfSome (controller_in controller.old.part) (λ _. result ≡ no_memory) }
+    ensures foreign { CanTransfer to pgn payload.now micros
+        → controller_in controller.old.part ≡ None → result ≡ no_part }
+    ensures bad { (CanTransfer to pgn payload.now micros → ⊥) → result ≡ bad_value }
+    ensures refused { IsRefused result → controller.new.part ≡ controller.old.part }
+{
+    let (Some(now), Some(group)) = (Stamp::new(micros), Pgn::new(pgn)) else {
+        return Refusal::BadValue.code();
+    };
+    if payload.len() < SHORTEST || payload.len() > LONGEST || !is_address(to) {
+        return Refusal::BadValue.code();
+    }
+    let Some(mut part) = controller.take(alloc) else {
+        return Refusal::NoPart.code();
+    };
+    let code = controlling::transfer(alloc, &mut part, number, to, group, payload, now);
+    controller.put(alloc, part);
+    code
+}
+
+/// The address that a controller holds: 1 and the address, or 0; -2 where the handle holds no controller.
+#[unsafe(no_mangle)]
+pub extern "C" fn j39_controller_held(
+    alloc: Global,
+    controller: &mut Handle,
+    address: &mut u8,
+) -> i32
+    ensures done { IfSome (controller_in controller.old.part) (λ old. IsDone result
+        × Holds old (told_number result address.new)) }
+    ensures foreign { controller_in controller.old.part ≡ None → result ≡ no_part }
+    ensures same { controller.new.part ≡ controller.old.part }
+{
+    let Some(part) = controller.take(alloc) else {
+        return Refusal::NoPart.code();
+    };
+    let code = controlling::held(&part, address);
+    controller.put(alloc, part);
+    code
+}
+
+/// The address that a message of a controller may begin from at a moment: 1 and the address, or 0. -1 for a moment of
+/// 10^16 microseconds and above, -2 where the handle holds no controller.
+#[unsafe(no_mangle)]
+pub extern "C" fn j39_controller_free_at(
+    alloc: Global,
+    controller: &mut Handle,
+    micros: u64,
+    address: &mut u8,
+) -> i32
+    ensures done { micros < 10 ^ 16 → IfSome (controller_in controller.old.part) (λ old. IsDone result
+        × BeginsFrom old micros (told_number result address.new)) }
+    ensures foreign { micros < 10 ^ 16 → controller_in controller.old.part ≡ None → result ≡ no_part }
+    ensures bad { (micros < 10 ^ 16 → ⊥) → result ≡ bad_value }
+    ensures same { controller.new.part ≡ controller.old.part }
+{
+    let Some(now) = Stamp::new(micros) else {
+        return Refusal::BadValue.code();
+    };
+    let Some(part) = controller.take(alloc) else {
+        return Refusal::NoPart.code();
+    };
+    let code = controlling::free_at(&part, now, address);
+    controller.put(alloc, part);
+    code
+}
+
+/// The identifier of the frame that a controller wishes to send next, for arbitration: 1 and the identifier, or 0; -2
+/// where the handle holds no controller.
+#[unsafe(no_mangle)]
+pub extern "C" fn j39_controller_wish(alloc: Global, controller: &mut Handle, id: &mut u32) -> i32
+    ensures done { IfSome (controller_in controller.old.part) (λ old. IsDone result
+        × (told_number result id.new ≡ first_id (waiting_in old))) }
+    ensures foreign { controller_in controller.old.part ≡ None → result ≡ no_part }
+    ensures same { controller.new.part ≡ controller.old.part }
+{
+    let Some(part) = controller.take(alloc) else {
+        return Refusal::NoPart.code();
+    };
+    let code = controlling::wish(&part, id);
+    controller.put(alloc, part);
+    code
+}
+
+/// Takes the frame that a controller wishes to send next, which the bus now takes: 0 where none goes; else it is in
+/// `out`: 1 for a claim and the frames of transfers, 2 for a frame of message `number`, 3 for that message's last. -2
+/// where the handle holds no controller.
+#[unsafe(no_mangle)]
+pub extern "C" fn j39_controller_take_frame(
+    alloc: Global,
+    controller: &mut Handle,
+    out: &mut CanFrame,
+    number: &mut usize,
+) -> i32
+    ensures done { IfSome (controller_in controller.old.part) (λ old. IsDone result
+        × IsSomeAnd (controller_in controller.new.part) (λ new.
+        TakesFrame old (wish_in result out.new number.new) new)) }
+    ensures foreign { controller_in controller.old.part ≡ None → result ≡ no_part }
+    ensures refused { IsRefused result → controller.new.part ≡ controller.old.part }
+{
+    let Some(mut part) = controller.take(alloc) else {
+        return Refusal::NoPart.code();
+    };
+    let code = controlling::take_frame(&mut part, out, number);
+    controller.put(alloc, part);
+    code
+}
+
+/// Takes the message that a controller received first of those that weren't taken yet: 1 where there is one, which is
+/// in `out`, of no NAME, and went to `destination`, 255 for a broadcast; else 0. -2 where the handle holds no
+/// controller.
+#[unsafe(no_mangle)]
+pub extern "C" fn j39_controller_take_received(
+    alloc: Global,
+    controller: &mut Handle,
+    out: &mut WholeMessage,
+    destination: &mut u8,
+) -> i32
+    ensures done { IfSome (controller_in controller.old.part) (λ old. IsDone result
+        × IsSomeAnd (controller_in controller.new.part) (λ new.
+        TakesReceived old (received result out.new destination.new) new)) }
+    ensures unnamed { result ≡ pos 1 → named out.new.is_named out.new.name ≡ None }
+    ensures foreign { controller_in controller.old.part ≡ None → result ≡ no_part }
+    ensures refused { IsRefused result → controller.new.part ≡ controller.old.part }
+{
+    let Some(mut part) = controller.take(alloc) else {
+        return Refusal::NoPart.code();
+    };
+    let code = controlling::take_received(&mut part, out, destination);
+    controller.put(alloc, part);
+    code
+}
+
+/// Takes the request that a controller heard first of those that weren't taken yet, for a group other than claims: 1
+/// where there is one, which is in `out`, else 0. -2 where the handle holds no controller.
+#[unsafe(no_mangle)]
+pub extern "C" fn j39_controller_take_asked(
+    alloc: Global,
+    controller: &mut Handle,
+    out: &mut PlainRequest,
+) -> i32
+    ensures done { IfSome (controller_in controller.old.part) (λ old. IsDone result
+        × IsSomeAnd (controller_in controller.new.part) (λ new. TakesAsked old (asked result out.new) new)) }
+    ensures foreign { controller_in controller.old.part ≡ None → result ≡ no_part }
+    ensures refused { IsRefused result → controller.new.part ≡ controller.old.part }
+{
+    let Some(mut part) = controller.take(alloc) else {
+        return Refusal::NoPart.code();
+    };
+    let code = controlling::take_asked(&mut part, out);
+    controller.put(alloc, part);
+    code
+}
+
+/// Takes how the message `number` of a controller ended, the first of those that weren't taken yet: 0 where none has, 1
+/// where a transfer is acknowledged, 2 where it failed for `reason`, 3 where a message was withdrawn. -2 where the
+/// handle holds no controller.
+#[unsafe(no_mangle)]
+pub extern "C" fn j39_controller_take_settled(
+    alloc: Global,
+    controller: &mut Handle,
+    number: &mut usize,
+    reason: &mut u8,
+) -> i32
+    ensures done { IfSome (controller_in controller.old.part) (λ old. IsDone result
+        × IsSomeAnd (controller_in controller.new.part) (λ new.
+        TakesSettled old (settled result number.new reason.new) new)) }
+    ensures foreign { controller_in controller.old.part ≡ None → result ≡ no_part }
+    ensures refused { IsRefused result → controller.new.part ≡ controller.old.part }
+{
+    let Some(mut part) = controller.take(alloc) else {
+        return Refusal::NoPart.code();
+    };
+    let code = controlling::take_settled(&mut part, number, reason);
+    controller.put(alloc, part);
+    code
+}
