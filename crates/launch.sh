@@ -14,11 +14,11 @@ crates_below() {
   done
 }
 
-# Whether the program isn't built, or a source of it is newer. A page, a test or an edit is none.
+# Whether the program isn't built, or a source of it is newer. A page or an edit is none.
 is_stale() {
   # shellcheck disable=SC2086 # The crates are words.
   [ ! -x "$program" ] || [ -n "$(cd "$top/crates" && find "$top/crates.txt" $crates \
-    -name out -prune -o -type f \( -name '*.rt' -o -name '*.antt' -o -name crates.txt \) ! -name '*tests.rt' \
+    -name out -prune -o -type f \( -name '*.rt' -o -name '*.antt' -o -name crates.txt \) \
     -newer "$program" -print -quit)" ]
 }
 

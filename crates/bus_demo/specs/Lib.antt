@@ -1,3 +1,1 @@
-pub mod Arbitration
 pub mod Numerals
-pub mod Payloads

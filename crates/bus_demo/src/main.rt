@@ -1,35 +1,13 @@
 //! The program `bus_demo`: a bus of simulated controllers, whose log it writes as `candump -L` does.
 #![tactic(auto)]
 
-mod arbitration;
-mod book;
-mod bus;
-#[cfg(test)]
-mod expected;
-#[cfg(test)]
-mod expected_faults;
-mod gauges;
-#[cfg(test)]
-mod loop_tests;
-#[cfg(test)]
-mod loss_tests;
-#[cfg(test)]
-mod memory_tests;
-#[cfg(test)]
-mod pair_tests;
-mod player;
-mod publisher;
-mod role;
-mod scenario;
 mod words;
-#[cfg(test)]
-mod words_tests;
 
-use book::Book;
-use bus::{Bus, BusFault};
 use j39_device::Told;
-use player::Player;
-use scenario::controllers;
+use simulated_bus::book::Book;
+use simulated_bus::bus::{Bus, BusFault};
+use simulated_bus::player::Player;
+use simulated_bus::scenario::controllers;
 use std::io::BufWriter;
 use std::process::ExitCode;
 use std::{env, io};

@@ -14,8 +14,12 @@ mod losses;
 #[cfg(test)]
 mod names;
 #[cfg(test)]
+mod pairs;
+#[cfg(test)]
 mod raw_values;
 #[cfg(test)]
 mod receiver_memory;
+#[cfg(test)]
+mod sizes;
 #[cfg(test)]
 mod transfers;

@@ -1,7 +1,7 @@
 //! What the report and the nodes of a bus's log have to be, from the bus's own book alone: written from
 //! the standard's tables, with nothing of the crates that make the report.
-use crate::book::{Book, Fate, Handed};
-use crate::bus::Bus;
+use simulated_bus::book::{Book, Fate, Handed};
+use simulated_bus::bus::Bus;
 use std::alloc::{AllocError, Global};
 
 /// The report's lines: those of each message that became whole, in the order in which they did.

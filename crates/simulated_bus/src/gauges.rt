@@ -1,7 +1,7 @@
 //! What a controller measures, and the payloads that say it (J1939-71).
 ghost use Rattle.std.specs.Prelude.{◌≡◌, ◌<◌, ℕ, None, Some};
 ghost use Rattle.j39_groups.specs.Slots.{IsRawOf};
-ghost use Rattle.bus_demo.specs.Payloads.{distance_bytes, engine_bytes, temperature_bytes};
+ghost use Rattle.simulated_bus.specs.Payloads.{distance_bytes, engine_bytes, temperature_bytes};
 
 use j39_frame::Pgn;
 use j39_groups::raw_of;
@@ -10,7 +10,7 @@ use rand_pcg::Pcg32;
 
 /// A group that is sent again and again.
 #[derive(Clone, Copy)]
-pub(crate) enum Group {
+pub enum Group {
     /// EEC1, with the engine speed.
     Engine,
     /// ET1, with the temperatures of coolant and oil.
@@ -21,7 +21,7 @@ pub(crate) enum Group {
 
 impl Group {
     /// Its number.
-    pub(crate) fn pgn(self) -> Pgn {
+    pub fn pgn(self) -> Pgn {
         match self {
             Group::Engine => Pgn::new(61_444).unwrap(),
             Group::Temperatures => Pgn::new(65_262).unwrap(),
@@ -30,7 +30,7 @@ impl Group {
     }
 
     /// The priority that it is sent with.
-    pub(crate) fn priority(self) -> u8 {
+    pub fn priority(self) -> u8 {
         match self {
             Group::Engine => 3,
             Group::Temperatures => 6,
@@ -44,7 +44,7 @@ const NOTHING: u8 = 0xFF;
 
 /// The gauges of one controller. What they show hangs on the seed alone.
 #[derive(Drop)]
-pub(crate) struct Gauges {
+pub struct Gauges {
     random: Pcg32,
     /// The distance of this trip, in steps of 125 m.
     steps: u32,
@@ -52,7 +52,7 @@ pub(crate) struct Gauges {
 
 impl Gauges {
     /// The gauges of the controller with this number.
-    pub(crate) fn new(seed: u64, controller: u64) -> Gauges {
+    pub fn new(seed: u64, controller: u64) -> Gauges {
         Gauges {
             random: Pcg32::new(seed, controller),
             steps: 0,
@@ -60,7 +60,7 @@ impl Gauges {
     }
 
     /// A number below a limit, which is above 0.
-    pub(crate) fn below(&mut self, limit: u32) -> u32
+    pub fn below(&mut self, limit: u32) -> u32
         requires { 0 < limit }
         ensures { result < limit }
     {
@@ -68,7 +68,7 @@ impl Gauges {
     }
 
     /// What a group's frame says now.
-    pub(crate) fn payload(&mut self, group: Group) -> Option<[u8; 8]> {
+    pub fn payload(&mut self, group: Group) -> Option<[u8; 8]> {
         match group {
             Group::Engine => self.engine(),
             Group::Temperatures => self.temperatures(),

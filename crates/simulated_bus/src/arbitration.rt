@@ -1,12 +1,12 @@
 //! Who sends next: of the controllers that wish to, the one with the lowest identifier.
 ghost use Rattle.std.specs.Prelude.{◌≡◌, IfSome, None};
-ghost use Rattle.bus_demo.specs.Arbitration.{IsLowest, NoneWishes};
+ghost use Rattle.simulated_bus.specs.Arbitration.{IsLowest, NoneWishes};
 
 use j39_frame::Id;
 
 /// The place of the lowest of these identifiers, the first one where it stands more than once; `None`
 /// where nobody wishes to send.
-pub(crate) fn winner(wishes: &[Option<Id>]) -> Option<usize>
+pub fn winner(wishes: &[Option<Id>]) -> Option<usize>
     ensures lowest { IfSome result (IsLowest wishes.now) }
     ensures none { result ≡ None → NoneWishes wishes.now }
 {

@@ -12,7 +12,7 @@ const SLOW: u8 = 6;
 
 /// What a controller sends of its own accord.
 #[derive(Drop)]
-pub(crate) struct Publisher {
+pub struct Publisher {
     alloc: Global,
     name: Name,
     gauges: Gauges,
@@ -23,7 +23,7 @@ pub(crate) struct Publisher {
 
 impl Publisher {
     /// One that has sent nothing.
-    pub(crate) fn new(alloc: Global, role: &Role, gauges: Gauges) -> Publisher {
+    pub fn new(alloc: Global, role: &Role, gauges: Gauges) -> Publisher {
         Publisher {
             alloc,
             name: Name::new(role.name),
@@ -34,7 +34,7 @@ impl Publisher {
     }
 
     /// A turn while this address is held: what is due is handed to the controller.
-    pub(crate) fn turn(
+    pub fn turn(
         &mut self,
         address: u8,
         now: Stamp,

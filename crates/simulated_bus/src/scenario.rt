@@ -11,13 +11,13 @@ use crate::role::{Plan, Rate, Role};
 use std::alloc::{AllocError, Global};
 
 /// The vehicle identification number, with the `*` that ends it.
-pub(crate) const VIN: &[u8] = b"1FUJA6CV12LK12345*";
+pub const VIN: &[u8] = b"1FUJA6CV12LK12345*";
 
 /// Make, model, serial number and unit number.
-pub(crate) const COMPONENT: &[u8] = b"ACME*X1 RETARDER*77-1203*UNIT 9*";
+pub const COMPONENT: &[u8] = b"ACME*X1 RETARDER*77-1203*UNIT 9*";
 
 /// The gearbox's NAME, the low byte first, and the address that it is to take.
-pub(crate) const COMMAND: &[u8] = &[0x03, 0x10, 0x40, 0x02, 0, 0, 0, 0x80, 0x05];
+pub const COMMAND: &[u8] = &[0x03, 0x10, 0x40, 0x02, 0, 0, 0, 0x80, 0x05];
 
 /// The address of the tool.
 const TOOL: u8 = 0xF9;
@@ -141,7 +141,7 @@ fn tool() -> Role {
 
 /// The four controllers. The seed decides when in a time of 10 ms each one's loop turns, and what its
 /// gauges show.
-pub(crate) fn controllers(alloc: Global, seed: u64) -> Result<Vec<Player>, AllocError> {
+pub fn controllers(alloc: Global, seed: u64) -> Result<Vec<Player>, AllocError> {
     let mut controllers = Vec::new(alloc);
     let roles = [engine(), rival(), gearbox(), tool()];
     for (place, role) in roles.iter().enumerate() {

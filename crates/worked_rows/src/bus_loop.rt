@@ -1,9 +1,9 @@
 //! The loop closed: what the log of a bus tells is what its controllers were told to send.
-use crate::book::{Book, Fate};
-use crate::bus::Bus;
-use crate::expected::{expected_nodes, expected_report};
-use crate::expected_faults::expected_faults;
-use crate::scenario::{COMPONENT, VIN, controllers};
+use simulated_bus::book::{Book, Fate};
+use simulated_bus::bus::Bus;
+use crate::bus_report::{expected_nodes, expected_report};
+use crate::bus_faults::expected_faults;
+use simulated_bus::scenario::{COMPONENT, VIN, controllers};
 use j39_device::Told;
 use j39_fault_news::{Telling, faults};
 use j39_groups::Groups;

@@ -9,7 +9,7 @@ use std::alloc::{AllocError, Global};
 
 /// What became of a message.
 #[derive(Clone, Copy, PartialEq, Eq)]
-pub(crate) enum Fate {
+pub enum Fate {
     /// It is on its way.
     Open,
     /// Its last frame was seen on the bus, and none was lost that wasn't sent again.
@@ -22,7 +22,7 @@ pub(crate) enum Fate {
 
 /// A message that a controller was told to send.
 #[derive(Drop)]
-pub(crate) struct Handed {
+pub struct Handed {
     /// The NAME of the controller, and the address that it held.
     pub name: Name,
     pub address: u8,
@@ -35,7 +35,7 @@ pub(crate) struct Handed {
 
 /// The book of a bus. It knows nothing of any log.
 #[derive(Drop)]
-pub(crate) struct Book {
+pub struct Book {
     alloc: Global,
     handed: Vec<Handed>,
     deliveries: Vec<Received>,
@@ -44,7 +44,7 @@ pub(crate) struct Book {
 
 impl Book {
     /// An empty book.
-    pub(crate) fn new(alloc: Global) -> Book {
+    pub fn new(alloc: Global) -> Book {
         Book {
             alloc,
             handed: Vec::new(alloc),
@@ -54,21 +54,21 @@ impl Book {
     }
 
     /// Notes a message that is handed in now, and answers its number.
-    pub(crate) fn hand_in(&mut self, message: Handed) -> Result<usize, AllocError> {
+    pub fn hand_in(&mut self, message: Handed) -> Result<usize, AllocError> {
         let number = self.handed.len();
         self.handed.push(message)?;
         Ok(number)
     }
 
     /// Notes that a frame was seen on the bus.
-    pub(crate) fn seen(&mut self, part: Part, now: Stamp) {
+    pub fn seen(&mut self, part: Part, now: Stamp) {
         if part.is_last {
             self.settle(part.number, Fate::Whole(now));
         }
     }
 
     /// Notes what became of a message, where it was open.
-    pub(crate) fn settle(&mut self, number: usize, fate: Fate) {
+    pub fn settle(&mut self, number: usize, fate: Fate) {
         if let Some(message) = self.handed.get_mut(number) {
             if message.fate == Fate::Open {
                 message.fate = fate;
@@ -78,7 +78,7 @@ impl Book {
 
     /// Notes what a receiver delivered: the message that was handed in last with this source, group and
     /// payload to one controller is whole.
-    pub(crate) fn deliver(&mut self, message: Received) -> Result<(), AllocError> {
+    pub fn deliver(&mut self, message: Received) -> Result<(), AllocError> {
         let mut number = None;
         for (place, handed) in self.handed.iter().enumerate() {
             if handed.to.is_some()
@@ -97,7 +97,7 @@ impl Book {
     }
 
     /// Notes that a sender counts a message as done.
-    pub(crate) fn count_done(&mut self, number: usize) -> Result<(), AllocError>
+    pub fn count_done(&mut self, number: usize) -> Result<(), AllocError>
         ensures { OnOk result (self.new.done.items ≡ self.old.done.items ++ number ∷ []) }
     {
         self.done.push(number)?;
@@ -105,12 +105,12 @@ impl Book {
     }
 
     /// All messages that were handed in, in order; each one's number is its place.
-    pub(crate) fn handed(&self) -> &[Handed] {
+    pub fn handed(&self) -> &[Handed] {
         self.handed.as_slice()
     }
 
     /// How many of them are whole.
-    pub(crate) fn whole(&self) -> usize {
+    pub fn whole(&self) -> usize {
         self.handed
             .iter()
             .filter(|message| matches!(message.fate, Fate::Whole(_)))
@@ -118,12 +118,12 @@ impl Book {
     }
 
     /// What receivers delivered, in order.
-    pub(crate) fn deliveries(&self) -> &[Received] {
+    pub fn deliveries(&self) -> &[Received] {
         self.deliveries.as_slice()
     }
 
     /// The numbers of the messages that senders count as done, in order.
-    pub(crate) fn done(&self) -> &[usize] {
+    pub fn done(&self) -> &[usize] {
         self.done.as_slice()
     }
 }

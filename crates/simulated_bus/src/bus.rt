@@ -26,7 +26,7 @@ const NETWORK: &[u8; 4] = b"can0";
 
 /// Why a bus stops before its end.
 #[derive(Clone, Copy)]
-pub(crate) enum BusFault {
+pub enum BusFault {
     /// Memory was refused.
     Memory,
     /// The log couldn't be written.
@@ -50,7 +50,7 @@ impl From<DeviceFault> for BusFault {
 /// A frame that is lost takes its time on the bus and is seen by no one: neither the log nor another
 /// controller has it. Its sender knows nothing of that.
 #[derive(Drop)]
-pub(crate) struct Bus<'a> {
+pub struct Bus<'a> {
     network: Network,
     controllers: Vec<Player>,
     /// What each of them wishes to send.
@@ -64,7 +64,7 @@ pub(crate) struct Bus<'a> {
 
 impl<'a> Bus<'a> {
     /// A bus at the moment 0, on which nothing was sent yet.
-    pub(crate) fn new(alloc: Global, controllers: Vec<Player>, lose: &'a [u64]) -> Bus<'a> {
+    pub fn new(alloc: Global, controllers: Vec<Player>, lose: &'a [u64]) -> Bus<'a> {
         Bus {
             network: Network::new(NETWORK).unwrap(),
             controllers,
@@ -77,7 +77,7 @@ impl<'a> Bus<'a> {
     }
 
     /// Runs the bus to a moment in microseconds, and writes each frame that is seen as a line of a log.
-    pub(crate) fn run<W: Sink>(&mut self, end: u64, log: &mut W) -> Result<(), BusFault> {
+    pub fn run<W: Sink>(&mut self, end: u64, log: &mut W) -> Result<(), BusFault> {
         // A step takes 100 microseconds or more, but for one that drops a frame.
         for _step in 0..end {
             if self.now.micros() >= end {
@@ -154,17 +154,17 @@ impl<'a> Bus<'a> {
     }
 
     /// How many frames were sent, the lost ones among them.
-    pub(crate) fn frames(&self) -> u64 {
+    pub fn frames(&self) -> u64 {
         self.frames
     }
 
     /// The book of what was handed in.
-    pub(crate) fn book(&self) -> &Book {
+    pub fn book(&self) -> &Book {
         &self.book
     }
 
     /// The controllers, in the order in which they win where they wish to send one identifier.
-    pub(crate) fn controllers(&self) -> &[Player] {
+    pub fn controllers(&self) -> &[Player] {
         self.controllers.as_slice()
     }
 }

@@ -1,7 +1,7 @@
 //! What the faults of a bus's log have to be, from the bus's own book alone: written from the standard's layout of DM1
 //! (J1939-73, 5.7.1), with nothing of the crates that tell them.
-use crate::book::{Book, Handed};
-use crate::expected::{origin_text, whole_messages};
+use simulated_bus::book::{Book, Handed};
+use crate::bus_report::{origin_text, whole_messages};
 use std::alloc::{AllocError, Global};
 
 /// The group of DM1.

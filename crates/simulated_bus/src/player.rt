@@ -13,7 +13,7 @@ const TURN: u64 = 10_000;
 
 /// A controller on the bus, and what it sends of its own accord.
 #[derive(Drop)]
-pub(crate) struct Player {
+pub struct Player {
     controller: Controller,
     publisher: Publisher,
     /// When its loop turns next.
@@ -22,7 +22,7 @@ pub(crate) struct Player {
 
 impl Player {
     /// One that has claimed no address yet; `None` for a preferred address above 253.
-    pub(crate) fn new(alloc: Global, role: &Role, mut gauges: Gauges) -> Option<Player> {
+    pub fn new(alloc: Global, role: &Role, mut gauges: Gauges) -> Option<Player> {
         let phase = u64::from(gauges.below(10_000));
         Some(Player {
             controller: Controller::new(alloc, Name::new(role.name), role.preferred)?,
@@ -32,33 +32,32 @@ impl Player {
     }
 
     /// The address that it holds.
-    pub(crate) fn held(&self) -> Option<u8> {
+    pub fn held(&self) -> Option<u8> {
         self.controller.held()
     }
 
     /// Its NAME.
-    pub(crate) fn name(&self) -> Name {
+    pub fn name(&self) -> Name {
         self.controller.name()
     }
 
     /// How many messages it has begun to put together or to receive.
-    #[cfg(test)]
-    pub(crate) fn begun(&self) -> usize {
+    pub fn begun(&self) -> usize {
         self.controller.begun()
     }
 
     /// The identifier of the frame that it wishes to send next.
-    pub(crate) fn wish(&self) -> Option<Id> {
+    pub fn wish(&self) -> Option<Id> {
         self.controller.wish()
     }
 
     /// The frame that it wishes to send next, which the bus now takes.
-    pub(crate) fn take_wish(&mut self) -> Option<Wish> {
+    pub fn take_wish(&mut self) -> Option<Wish> {
         self.controller.take_wish()
     }
 
     /// Lets time pass: the loop turns every 10 ms.
-    pub(crate) fn pass(&mut self, now: Stamp, book: &mut Book) -> Result<(), AllocError> {
+    pub fn pass(&mut self, now: Stamp, book: &mut Book) -> Result<(), AllocError> {
         if now.micros() < self.due {
             return Ok(());
         }
@@ -73,7 +72,7 @@ impl Player {
     }
 
     /// Hears a frame that another controller sent.
-    pub(crate) fn hear(&mut self, frame: &Frame, book: &mut Book) -> Result<(), AllocError> {
+    pub fn hear(&mut self, frame: &Frame, book: &mut Book) -> Result<(), AllocError> {
         self.controller.hear(frame)?;
         self.deliver(book)?;
         self.settle(book)

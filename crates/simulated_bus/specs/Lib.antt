@@ -1,0 +1,2 @@
+pub mod Arbitration
+pub mod Payloads
