@@ -1,8 +1,10 @@
 //! The program `bus_demo`: a bus of simulated controllers, whose log it writes as `candump -L` does.
 #![tactic(auto)]
 
+mod book_lines;
 mod words;
 
+use book_lines::tell_book;
 use j39_device::Told;
 use simulated_bus::book::Book;
 use simulated_bus::bus::{Bus, BusFault};
@@ -28,7 +30,7 @@ fn main(rt: HostRuntime) -> io::Result<ExitCode> {
     Ok(ExitCode::from(status))
 }
 
-/// Plays the scenario, its log to standard output and its counts to standard error, and answers the
+/// Plays the scenario, its log to standard output and its counts or its book to standard error, and answers the
 /// exit status.
 fn play(rt: &HostRuntime, words: &Words) -> io::Result<u8> {
     let mut out = Told::new(BufWriter::with_capacity(rt.alloc(), OUT_BUFFER, rt.stdout())?);
@@ -36,8 +38,12 @@ fn play(rt: &HostRuntime, words: &Words) -> io::Result<u8> {
     let mut bus = Bus::new(rt.alloc(), controllers, words.lose.as_slice());
     match bus.run(words.seconds.saturating_mul(1_000_000), &mut out) {
         Ok(()) => {
-            tell_counts(rt, bus.frames(), bus.book())?;
-            tell_addresses(rt, bus.controllers())?;
+            if words.book {
+                tell_book(rt, &bus)?;
+            } else {
+                tell_counts(rt, bus.frames(), bus.book())?;
+                tell_addresses(rt, bus.controllers())?;
+            }
             Ok(0)
         }
         Err(BusFault::Memory) => {

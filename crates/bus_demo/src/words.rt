@@ -4,7 +4,7 @@ ghost use Rattle.std.specs.Str.Parse.{digits_value};
 ghost use Rattle.bus_demo.specs.Numerals.{IsNumberWithin};
 
 use clap::error::ErrorKind;
-use clap::{Arg, ArgMatches, Command, Error};
+use clap::{Arg, ArgAction, ArgMatches, Command, Error};
 use j39_text::number;
 use std::alloc::{AllocError, Global};
 use std::convert::AsStr;
@@ -13,6 +13,7 @@ const HELP: &str = "\
 Examples:
   bus_demo | j1939 report
   bus_demo --seed 7 --seconds 10 --lose 98,105
+  bus_demo --book 2> bus.book > bus.log
 
 Four controllers share the bus: two want one address, one is commanded to another,
 each sends engine speed, temperatures and distance, one broadcasts its vehicle's
@@ -36,6 +37,8 @@ pub(crate) struct Words {
     pub seconds: u64,
     /// The numbers of the frames that are lost, counted from 1.
     pub lose: Vec<u64>,
+    /// Whether the book is told in the place of the counts.
+    pub book: bool,
 }
 
 /// Why there is nothing to play.
@@ -68,6 +71,7 @@ pub(crate) fn read_words<S: AsStr>(alloc: Global, words: &[S]) -> Result<Words, 
         seed: value(&matches, "seed", 1, 0, u64::MAX).ok_or(Refusal::BadValue("--seed"))?,
         seconds: value(&matches, "seconds", 3, 1, LONGEST).ok_or(Refusal::BadValue("--seconds"))?,
         lose: numbers(alloc, matches.get_str("lose"))?,
+        book: matches.get_flag("book"),
     })
 }
 
@@ -93,7 +97,13 @@ fn command<'a>(alloc: Global) -> Result<Command<'a>, AllocError> {
             "lose",
             "N,N..",
             "The frames that are lost, counted from 1",
-        ))
+        ))?
+        .arg(
+            Arg::new(alloc, "book")
+                .long("book")
+                .action(ArgAction::SetTrue)
+                .help("Tell what was handed in, and what became of it, in the place of the counts"),
+        )
 }
 
 /// `--name VALUE`

@@ -4,6 +4,8 @@
 #[cfg(test)]
 mod broadcasts;
 #[cfg(test)]
+mod bus_losses;
+#[cfg(test)]
 mod calendar;
 #[cfg(test)]
 mod claimer;
