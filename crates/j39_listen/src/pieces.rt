@@ -15,7 +15,7 @@ use crate::account::{Account, LineFault};
 use crate::counts::Tally;
 use crate::lines::Lines;
 use j39_device::{DeviceFault, Sink};
-use j39_log::{Bus, RawLine, Splitter};
+use j39_log::{Bus, LastSecond, RawLine, Splitter};
 
 /// A log that is read in pieces, and the run over its lines.
 #[derive(Drop)]
@@ -36,6 +36,7 @@ impl<A: Account> Pieces<A> {
                 bus,
                 account,
                 tally: Tally::default(),
+                second: LastSecond::new(),
             },
         }
     }
@@ -143,7 +144,7 @@ fn take_line<A: Account, W: Sink>(
     let Some(raw) = raw else {
         return Ok(n);
     };
-    match raw.frame_on(&lines.bus) {
+    match raw.frame_on(&mut lines.second, &lines.bus) {
         Some(frame) => match lines.read_frame(&frame, sink) {
             Ok(()) => Ok(n),
             Err(fault) => Err(fault),

@@ -1,5 +1,6 @@
 -- Digits as vectors read them.
-use Rattle.std.specs.Prelude.{ℕ, ◌+◌, ◌*◌, ◌%◌, Bool, List, ◌++◌, get_or, bit_or, nat_le, nat_lt, if◌then◌else◌}
+use Rattle.std.specs.Prelude.{ℕ, ◌+◌, ◌-◌, ◌*◌, ◌%◌, Bool, List, [], ◌∷◌, ◌++◌, take, drop, get_or, bit_or, nat_le, nat_lt, if◌then◌else◌}
+use Rattle.std.specs.Simd.Lanes.{zip2}
 
 abbrev pub smaller : ℕ → ℕ → ℕ
 smaller a b = if nat_lt a b then a else b
@@ -22,6 +23,12 @@ hex_lane b = smaller (digit_lane b) (letter_lane b)
 -- the number of the k-th pair of digits
 abbrev pub pair_at : ℕ → List ℕ → ℕ → ℕ
 pair_at base v k = (get_or (v ++ v) (2 * k) 0 * base % 256 + get_or (v ++ v) (2 * k + 1) 0) % 256
+
+-- the third to the last byte of `(0123456789.012345`, each less the zero or the point that stands there
+abbrev pub stamp_lanes : List ℕ → List ℕ
+stamp_lanes front =
+    zip2 (λ a b. (a + (256 - b)) % 256) (take 16 (take 16 (drop 2 front)))
+    (48 ∷ 48 ∷ 48 ∷ 48 ∷ 48 ∷ 48 ∷ 48 ∷ 48 ∷ 48 ∷ 46 ∷ 48 ∷ 48 ∷ 48 ∷ 48 ∷ 48 ∷ 48 ∷ [])
 
 -- no visible character of ASCII, which are 0x21 to 0x7E
 abbrev pub is_gap : ℕ → Bool

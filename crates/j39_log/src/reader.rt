@@ -5,10 +5,10 @@ ghost use Rattle.j39_log.specs.Bus.{IsBusName};
 ghost use Rattle.j39_log.specs.Line.{IsFrameLine};
 ghost use Rattle.j39_text.specs.Chars.{space};
 
-use crate::Bus;
 use crate::bus::are_same;
 use crate::line::body_of;
-use crate::plain::{frame_at, stamp_of};
+use crate::plain::frame_at;
+use crate::{Bus, LastSecond};
 use j39_frame::Frame;
 
 /// The bytes of a line of a bus with a name of four bytes, with six decimals and eight bytes of data.
@@ -16,7 +16,7 @@ const LEN: usize = 50;
 
 /// The frame of this bus that a line spells, where its length is the common one. `None` says nothing of the line.
 #[inline(always)]
-pub(crate) fn frame_on(line: &[u8], bus: &Bus) -> Option<Frame>
+pub(crate) fn frame_on(line: &[u8], second: &mut LastSecond, bus: &Bus) -> Option<Frame>
     ensures { IfSome result (λ frame. IsFrameLine line.now bus.now frame) }
 {
     let body = body_of(line);
@@ -24,7 +24,7 @@ pub(crate) fn frame_on(line: &[u8], bus: &Bus) -> Option<Frame>
         return None;
     }
     let (front, rest) = body.split_first_chunk::<18>()?;
-    let stamp = stamp_of(front)?;
+    let stamp = second.stamp_of(front)?;
     let later = after_stamp(rest)?;
     let third = after_name(later, bus)?;
     frame_at(stamp, third)

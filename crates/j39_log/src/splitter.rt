@@ -8,7 +8,7 @@ ghost use Rattle.j39_log.specs.Spelled.{Spells};
 
 use crate::newline::split_line;
 use crate::reader::frame_on;
-use crate::{Bus, LINE_LIMIT, Line, read_line};
+use crate::{Bus, LINE_LIMIT, LastSecond, Line, read_line};
 use arrayvec::ArrayVec;
 use j39_frame::Frame;
 
@@ -46,14 +46,14 @@ impl<'a> RawLine<'a> {
     }
 
     /// The frame that the line spells, where it is one of this bus in the form and length of most lines. `None` says
-    /// nothing of the line: `read` reads it, whatever it is.
+    /// nothing of the line: `read` reads it, whatever it is. The second of the line is kept for the next one.
     #[inline(always)]
-    pub fn frame_on(self, bus: &Option<Bus>) -> Option<Frame>
+    pub fn frame_on(self, second: &mut LastSecond, bus: &Option<Bus>) -> Option<Frame>
         ensures { IfSome result (λ frame. (name : List ℕ) × (bus.now ≡ Some name)
             × ((line : List ℕ) → IsRawLine self.entry line → IsFrameLine line name frame)) }
     {
         match (self, bus) {
-            (RawLine::Whole(line), Some(bus)) => frame_on(line, bus),
+            (RawLine::Whole(line), Some(bus)) => frame_on(line, second, bus),
             _ => None,
         }
     }
