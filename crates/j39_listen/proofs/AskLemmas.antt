@@ -4,15 +4,15 @@ use Rattle.std.specs.Str.{bytes_eq}
 use Rattle.std.specs.Prelude.{Result, Err, true, unwrap_or}
 use Rattle.j39_frame.specs.Frame.{FrameRecord}
 use Rattle.j39_log.specs.Log.{HasNoNewline, bus_of, ended, frames_of}
-use Rattle.j39_log.specs.Spelled.{Spelled, Spells, frame}
+use Rattle.j39_log.specs.Spelled.{Spelled, frame}
 use Rattle.j39_log.specs.Splitter.{EndsLine, HasBegun, IsRawLine}
 use Rattle.j39_log.specs.declared.splitter.RawLine.{RawLine}
 use Rattle.j39_log.specs.declared.splitter.Splitter.{Splitter}
 use Rattle.j39_log.proofs.BusLemmas.{bus_of-append, ended-line, frames_of-append, spell-more, whole-more}
 use Rattle.j39_log.proofs.SplitterLemmas.{no_newline_append}
 use Rattle.j39_listen.specs.Asking.{AsksAmong, Wanting}
-use Rattle.j39_listen.specs.AskSteps.{AsksIn, AsksLast, AsksLine}
-use Rattle.j39_listen.specs.LineSteps.{IsNamed, IsSpelling}
+use Rattle.j39_listen.specs.AskSteps.{AsksAs, AsksIn, AsksLast, AsksLine}
+use Rattle.j39_listen.specs.LineSteps.{IsNamed}
 use Rattle.j39_listen.specs.Output.{Output, Meeting}
 use Rattle.j39_listen.specs.PieceSteps.{HasMetAll, HasRead, HasTaken}
 use Rattle.j39_listen.specs.Run.{run_bus}
@@ -34,18 +34,19 @@ asks_frame has_met asks name f bus own a is on asked = record {
   asked = λ given named F output met. asked F output (subst (λ (b : List ℕ). has_met b a F output) (sym (its_name name f bus own given is named)) met);
 }
 
-pub asks_line : {A : Type 0} (has_met : Meeting A) (asks : Wanting) (begun bytes : List ℕ) (n : ℕ) (raw : RawLine) (s : Spelled) (p : Lines A)
-    → (line : List ℕ) × EndsLine begun bytes line n × IsRawLine raw line → ((line : List ℕ) → IsRawLine raw line → Spells line s)
-    → (IsSpelling s → AsksLine has_met asks s p.bus p.account) → AsksIn has_met asks begun bytes p
-asks_line has_met asks begun bytes n raw s p (line, ends, cut) spells line_asks =
-    record { line = line; n = n; ends = ends; spelled = s; spells = spells line cut; line_asks = line_asks (line, spells line cut) }
+pub asks_line : {A : Type 0} (has_met : Meeting A) (asks : Wanting) (begun bytes : List ℕ) (n : ℕ) (raw : RawLine) (p : Lines A)
+    → (line : List ℕ) × EndsLine begun bytes line n × IsRawLine raw line → ((line : List ℕ) → IsRawLine raw line → AsksAs has_met asks line p) → AsksIn has_met asks begun bytes p
+asks_line has_met asks begun bytes n raw p (line, ends, cut) line_asks =
+    let k = line_asks line cut in
+    record { line = line; n = n; ends = ends; spelled = k.0; spells = k.1; line_asks = k.2 }
 
-pub asks_last_line : {A : Type 0} (has_met : Meeting A) (asks : Wanting) (splitter : Splitter) (raw : RawLine) (s : Spelled) (p : Lines A)
-    → ((begun : List ℕ) → HasBegun splitter begun → (begun ≢ []) × IsRawLine raw begun) → ((line : List ℕ) → IsRawLine raw line → Spells line s)
-    → (IsSpelling s → AsksLine has_met asks s p.bus p.account) → (begun : List ℕ) → HasBegun splitter begun → AsksLast has_met asks begun p
-asks_last_line has_met asks splitter raw s p cuts spells line_asks begun h =
+pub asks_last_line : {A : Type 0} (has_met : Meeting A) (asks : Wanting) (splitter : Splitter) (raw : RawLine) (p : Lines A)
+    → ((begun : List ℕ) → HasBegun splitter begun → (begun ≢ []) × IsRawLine raw begun) → ((line : List ℕ) → IsRawLine raw line → AsksAs has_met asks line p)
+    → (begun : List ℕ) → HasBegun splitter begun → AsksLast has_met asks begun p
+asks_last_line has_met asks splitter raw p cuts line_asks begun h =
     let line = cuts begun h in
-    record { some = line.0; spelled = s; spells = spells begun line.1; line_asks = line_asks (begun, spells begun line.1) }
+    let k = line_asks begun line.1 in
+    record { some = line.0; spelled = k.0; spells = k.1; line_asks = k.2 }
 
 -- ---- the lines before it
 

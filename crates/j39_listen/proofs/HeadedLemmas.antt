@@ -1,7 +1,7 @@
 -- What was written behind a head, of a run that was finished and of one that stopped; for `run_headed`.
-use Rattle.std.proofs.Common.{◌≡◌, ◌++◌, ℕ, List, [], Option, Some, None, sym, ap, ◌∙◌, append_assoc, refl}
+use Rattle.std.proofs.Common.{◌++◌, ℕ, List, [], Option, Some, None, sym, ap, ◌∙◌, append_assoc, refl}
 use Rattle.std.specs.Prelude.{IfSome}
-use Rattle.std.specs.Io.KnownBytes.{Appends, Consumes}
+use Rattle.std.specs.Io.KnownBytes.{Appends}
 use Rattle.std.proofs.KnownBytes.{Appends-trans, Consumes-nil}
 use Rattle.j39_device.specs.Device.{AppendsFront}
 use Rattle.j39_listen.specs.Headed.{Headed, headed}

@@ -4,6 +4,7 @@ use Rattle.std.specs.Prelude.{unwrap_or, count_by}
 use Rattle.std.specs.List.{filter_map}
 use Rattle.std.specs.Str.{bytes_eq}
 use Rattle.std.proofs.KnownBytes.{Appends-nil}
+use Rattle.std.proofs.lemmas.Slice.Eq.{bytes_eq-Decides}
 use Rattle.j39_frame.specs.Frame.{FrameRecord}
 use Rattle.j39_log.specs.Log.{bus_of, frame_on, frames_of, is_other_on, others_of, unread_of}
 use Rattle.j39_log.specs.Spelled.{Spelled, frame, other, unread, blank}
@@ -69,6 +70,19 @@ meets_frame has_met name f bus own a a' old new is on meets =
           subst (λ (b : List ℕ). Meets (has_met b) a a' (frames_of bus (frame name f ∷ [])) old new) (its_name name f bus own given is named)
           (subst (λ (fs : List FrameRecord). Meets (has_met own) a a' fs old new) (sym frames_are) meets);
     }
+
+-- the frame of a bus that is known by its name
+pub is_own : (bus : Option (List ℕ)) (own name : List ℕ) → bus ≡ Some own → bus ≡ Some name → (own ≡ unwrap_or bus name) × (bytes_eq name own ≡ true)
+is_own bus own name is named =
+    let same = known_bus bus own name is named in
+    (same ∙ sym (ap (λ (o : Option (List ℕ)). unwrap_or o name) named), (bytes_eq-Decides name own).1 (sym same))
+
+pub meets_own : {A : Type 0} (has_met : Meeting A) (name : List ℕ) (f : FrameRecord) (bus : Option (List ℕ)) (own : List ℕ) (a a' : A) (old new : Option (List ℕ))
+    → bus ≡ Some own → bus ≡ Some name → Meets (has_met own) a a' (f ∷ []) old new → MeetsLine has_met (frame name f) bus bus a a' (tally 1 0 0) old new
+meets_own has_met name f bus own a a' old new is named meets =
+    let own_is = is_own bus own name is named in
+    subst (λ (b : Option (List ℕ)). MeetsLine has_met (frame name f) bus b a a' (tally 1 0 0) old new) (sym is)
+    (meets_frame has_met name f bus own a a' old new own_is.0 own_is.1 meets)
 
 pub stops_frame : {A : Type 0} (has_met : Meeting A) (makes : Making) (name : List ℕ) (f : FrameRecord) (bus : Option (List ℕ))
     (own : List ℕ) (a : A) (old new : Option (List ℕ)) → own ≡ unwrap_or bus name → bytes_eq name own ≡ true → Stops (has_met own) (makes own) a (f ∷ []) old new

@@ -2,7 +2,7 @@
 use Rattle.std.proofs.Common.{◌≡◌, ℕ, suc, Bool, true, false, List, [], ◌∷◌, ◌++◌, map, length, Option, Some, None, refl, sym, ap, ◌∙◌, subst, arith, eqb-true, append-nil, append_assoc, nat_lt, ◌==◌}
 use Rattle.std.proofs.lemmas.Bool.{both_ways, cond_both, false_from_ne_true}
 use Rattle.std.proofs.lemmas.List.{length-map, length_push, map_push}
-use Rattle.std.specs.Prelude.{IfOk, Result, Ok, Err, MatchResult}
+use Rattle.std.specs.Prelude.{Result, Ok, Err, MatchResult}
 use Rattle.j39_address.specs.Changes.{AreChanged}
 use Rattle.j39_address.specs.Claim.{Claim, claim_of, claims_of}
 use Rattle.j39_address.specs.Claims.{Knows, StandsFor}

@@ -14,7 +14,7 @@ use Rattle.j39_log.proofs.SplitterLemmas.{no_newline_append}
 use Rattle.j39_listen.specs.AccountSteps.{Begins}
 use Rattle.j39_listen.specs.LineSteps.{IsSpelling}
 use Rattle.j39_listen.specs.Output.{Making, Meeting}
-use Rattle.j39_listen.specs.PieceSteps.{HasMetAll, HasTaken, ReadsLast, ReadsLine, StepsOver, StopsAt, StopsIn, StopsLast, WritesAll, WritesSome}
+use Rattle.j39_listen.specs.PieceSteps.{HasMetAll, HasTaken, ReadsAs, ReadsLast, ReadsLine, StepsOver, StopsAs, StopsIn, StopsLast, WritesAll, WritesSome}
 use Rattle.j39_listen.specs.Run.{Writes, WritesFront, WritesFrontOfMore}
 use Rattle.j39_listen.specs.declared.account.LineFault.{LineFault}
 use Rattle.j39_listen.specs.declared.account.LineFault.TheVariants.{Memory, Write}
@@ -201,27 +201,42 @@ end_writes has_met makes run p' counts a b c reads closes = λ given taken held 
 
 -- ---- a line, as it was cut
 
-reads_last : {A : Type 0} (has_met : Meeting A) (splitter : Splitter) (raw : RawLine) (s : Spelled) (p p' : Lines A) (a b : Option (List ℕ))
-    → ((begun : List ℕ) → HasBegun splitter begun → (begun ≢ []) × IsRawLine raw begun) → ((line : List ℕ) → IsRawLine raw line → Spells line s)
-    → (IsSpelling s → ReadsLine has_met s p p' a b) → (begun : List ℕ) → HasBegun splitter begun → ReadsLast has_met begun p p' a b
-reads_last has_met splitter raw s p p' a b cuts spells read begun h =
+-- the second that is kept tells nothing of the lines
+abbrev pub at_second : {A : Type 0} → Lines A → ℕ → Lines A
+at_second p second = record { bus = p.bus; account = p.account; tally = p.tally; second = second }
+
+pub reads_at : {A : Type 0} (has_met : Meeting A) (second : ℕ) (s : Spelled) (p p' : Lines A) (a b : Option (List ℕ)) → ReadsLine has_met s (at_second p second) p' a b → ReadsLine has_met s p p' a b
+reads_at has_met second s p p' a b r = record { met = r.met; meets = r.meets; tally_is = r.tally_is }
+
+pub each_reads : {A S T E : Type 0} (has_met : S → Meeting A) (raw : RawLine) (s : Spelled) (p p' : Lines A) (a b : Option (List ℕ)) (r : Result T E)
+    → ((line : List ℕ) → IsRawLine raw line → Spells line s) → OnOk r ((subject : S) → IsSpelling s → ReadsLine (has_met subject) s p p' a b)
+    → OnOk r ((subject : S) (line : List ℕ) → IsRawLine raw line → ReadsAs (has_met subject) line p p' a b)
+each_reads has_met raw s p p' a b (Ok x) spells read = λ subject line cut. (s, spells line cut, read subject (line, spells line cut))
+each_reads has_met raw s p p' a b (Err e) spells read = tt
+
+reads_last : {A : Type 0} (has_met : Meeting A) (splitter : Splitter) (raw : RawLine) (p p' : Lines A) (a b : Option (List ℕ))
+    → ((begun : List ℕ) → HasBegun splitter begun → (begun ≢ []) × IsRawLine raw begun) → ((line : List ℕ) → IsRawLine raw line → ReadsAs has_met line p p' a b)
+    → (begun : List ℕ) → HasBegun splitter begun → ReadsLast has_met begun p p' a b
+reads_last has_met splitter raw p p' a b cuts read begun h =
     let line = cuts begun h in
-    inr (record { some = line.0; spelled = s; spells = spells begun line.1; reads = read (begun, spells begun line.1) })
+    let k = read begun line.1 in
+    inr (record { some = line.0; spelled = k.0; spells = k.1; reads = k.2 })
 
 -- whatever the account is of
-pub each_reads_last : {A S T E : Type 0} (has_met : S → Meeting A) (splitter : Splitter) (raw : RawLine) (s : Spelled) (p p' : Lines A) (a b : Option (List ℕ)) (r : Result T E)
-    → ((begun : List ℕ) → HasBegun splitter begun → (begun ≢ []) × IsRawLine raw begun) → ((line : List ℕ) → IsRawLine raw line → Spells line s)
-    → OnOk r ((subject : S) → IsSpelling s → ReadsLine (has_met subject) s p p' a b)
+pub each_reads_last : {A S T E : Type 0} (has_met : S → Meeting A) (splitter : Splitter) (raw : RawLine) (p p' : Lines A) (a b : Option (List ℕ)) (r : Result T E)
+    → ((begun : List ℕ) → HasBegun splitter begun → (begun ≢ []) × IsRawLine raw begun)
+    → OnOk r ((subject : S) (line : List ℕ) → IsRawLine raw line → ReadsAs (has_met subject) line p p' a b)
     → OnOk r ((subject : S) (begun : List ℕ) → HasBegun splitter begun → ReadsLast (has_met subject) begun p p' a b)
-each_reads_last has_met splitter raw s p p' a b (Ok x) cuts spells read = λ subject. reads_last (has_met subject) splitter raw s p p' a b cuts spells (read subject)
-each_reads_last has_met splitter raw s p p' a b (Err e) cuts spells read = tt
+each_reads_last has_met splitter raw p p' a b (Ok x) cuts read = λ subject. reads_last (has_met subject) splitter raw p p' a b cuts (read subject)
+each_reads_last has_met splitter raw p p' a b (Err e) cuts read = tt
 
-pub stops_last_line : {A : Type 0} (has_met : Meeting A) (makes : Making) (splitter : Splitter) (raw : RawLine) (s : Spelled) (p : Lines A) (a b : Option (List ℕ))
-    → ((begun : List ℕ) → HasBegun splitter begun → (begun ≢ []) × IsRawLine raw begun) → ((line : List ℕ) → IsRawLine raw line → Spells line s)
-    → (IsSpelling s → StopsAt has_met makes s p a b) → (begun : List ℕ) → HasBegun splitter begun → StopsLast has_met makes begun p a b
-stops_last_line has_met makes splitter raw s p a b cuts spells stops begun h =
+pub stops_last_line : {A : Type 0} (has_met : Meeting A) (makes : Making) (splitter : Splitter) (raw : RawLine) (p : Lines A) (a b : Option (List ℕ))
+    → ((begun : List ℕ) → HasBegun splitter begun → (begun ≢ []) × IsRawLine raw begun) → ((line : List ℕ) → IsRawLine raw line → StopsAs has_met makes line p a b)
+    → (begun : List ℕ) → HasBegun splitter begun → StopsLast has_met makes begun p a b
+stops_last_line has_met makes splitter raw p a b cuts stops begun h =
     let line = cuts begun h in
-    record { some = line.0; spelled = s; spells = spells begun line.1; stops = stops (begun, spells begun line.1) }
+    let k = stops begun line.1 in
+    record { some = line.0; spelled = k.0; spells = k.1; stops = k.2 }
 
 -- ---- which fault it was
 
@@ -243,17 +258,19 @@ on_err_from (Err e) P Q f h = f h
 pub at_fault : {T E : Type 0} {r : Result T E} {fault : E} {P : Type 0} → r ≡ Err fault → OnErr r P → P
 at_fault {P = P} is h = subst (λ r. OnErr r P) is h
 
-pub steps_line : {A : Type 0} (has_met : Meeting A) (begun bytes : List ℕ) (n : ℕ) (splitter : Splitter) (raw : RawLine) (s : Spelled) (p p' : Lines A) (a b : Option (List ℕ)) → HasBegun splitter []
-    → (line : List ℕ) × EndsLine begun bytes line n × IsRawLine raw line → ((line : List ℕ) → IsRawLine raw line → Spells line s)
-    → (IsSpelling s → ReadsLine has_met s p p' a b) → StepsOver has_met begun bytes n splitter p p' a b
-steps_line has_met begun bytes n splitter raw s p p' a b fresh (line, ends, cut) spells reads =
-    inr (record { line = line; ends = ends; begins = fresh; spelled = s; spells = spells line cut; reads = reads (line, spells line cut) })
+pub steps_line : {A : Type 0} (has_met : Meeting A) (begun bytes : List ℕ) (n : ℕ) (splitter : Splitter) (raw : RawLine) (p p' : Lines A) (a b : Option (List ℕ)) → HasBegun splitter []
+    → (line : List ℕ) × EndsLine begun bytes line n × IsRawLine raw line → ((line : List ℕ) → IsRawLine raw line → ReadsAs has_met line p p' a b)
+    → StepsOver has_met begun bytes n splitter p p' a b
+steps_line has_met begun bytes n splitter raw p p' a b fresh (line, ends, cut) reads =
+    let k = reads line cut in
+    inr (record { line = line; ends = ends; begins = fresh; spelled = k.0; spells = k.1; reads = k.2 })
 
-pub stops_line : {A : Type 0} (has_met : Meeting A) (makes : Making) (begun bytes : List ℕ) (n : ℕ) (raw : RawLine) (s : Spelled) (p : Lines A) (a b : Option (List ℕ))
-    → (line : List ℕ) × EndsLine begun bytes line n × IsRawLine raw line → ((line : List ℕ) → IsRawLine raw line → Spells line s)
-    → (IsSpelling s → StopsAt has_met makes s p a b) → StopsIn has_met makes begun bytes p a b
-stops_line has_met makes begun bytes n raw s p a b (line, ends, cut) spells stops =
-    record { line = line; n = n; ends = ends; spelled = s; spells = spells line cut; stops = stops (line, spells line cut) }
+pub stops_line : {A : Type 0} (has_met : Meeting A) (makes : Making) (begun bytes : List ℕ) (n : ℕ) (raw : RawLine) (p : Lines A) (a b : Option (List ℕ))
+    → (line : List ℕ) × EndsLine begun bytes line n × IsRawLine raw line → ((line : List ℕ) → IsRawLine raw line → StopsAs has_met makes line p a b)
+    → StopsIn has_met makes begun bytes p a b
+stops_line has_met makes begun bytes n raw p a b (line, ends, cut) stops =
+    let k = stops line cut in
+    record { line = line; n = n; ends = ends; spelled = k.0; spells = k.1; stops = k.2 }
 
 pub same_fault : {T : Type 0} (x y : LineFault) → (let r : Result T LineFault = Err x in r) ≡ Err y → x ≡ y
 same_fault x y e = cc

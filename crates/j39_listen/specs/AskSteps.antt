@@ -17,6 +17,10 @@ pub record AsksLine {A : Type 0} (has_met : Meeting A) (asks : Wanting) (s : Spe
   pub asked : (name : List ℕ) → IsNamed (bus_of bus (s ∷ [])) name → (F : List FrameRecord) (output : Output)
       → has_met name a F output → asks F at
 
+-- so is some reading of a line
+abbrev pub AsksAs : {A : Type 0} → Meeting A → Wanting → List ℕ → Lines A → Type 0
+AsksAs has_met asks line p = (s : Spelled) × Spells line s × AsksLine has_met asks s p.bus p.account
+
 -- so is the line that the bytes end
 pub record AsksIn {A : Type 0} (has_met : Meeting A) (asks : Wanting) (begun bytes : List ℕ)
     (p : Lines A) : Type 0 where

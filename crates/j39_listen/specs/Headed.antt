@@ -1,6 +1,5 @@
 -- What a run writes whose text has a head, as the names of its columns.
 use Rattle.std.specs.Prelude.{◌≡◌, ◌++◌, ℕ, List}
-use Rattle.j39_frame.specs.Frame.{FrameRecord}
 use Rattle.j39_listen.specs.Nodes.{node_columns}
 use Rattle.j39_listen.specs.Output.{Making, MakesNodesIn, Output}
 use Rattle.j39_listen.specs.declared.node_list.NodeForm.TheVariants.{Record}

@@ -29,6 +29,15 @@ abbrev pub StopsAt : {A : Type 0} → Meeting A → Making → Spelled → Lines
     → Type 0
 StopsAt has_met makes s p old new = StopsLine has_met makes s p.bus p.account old new
 
+-- some reading of a line was met, or a fault of the writer came in it
+abbrev pub ReadsAs : {A : Type 0} → Meeting A → List ℕ → Lines A → Lines A → Option (List ℕ) → Option (List ℕ)
+    → Type 0
+ReadsAs has_met line p p' old new = (s : Spelled) × Spells line s × ReadsLine has_met s p p' old new
+
+abbrev pub StopsAs : {A : Type 0} → Meeting A → Making → List ℕ → Lines A → Option (List ℕ) → Option (List ℕ)
+    → Type 0
+StopsAs has_met makes line p old new = (s : Spelled) × Spells line s × StopsAt has_met makes s p old new
+
 -- so much is made of the frames so far, and was written
 pub record HasMade {A : Type 0} (has_met : A → List FrameRecord → Output → Type 0) (a : A) (F : List FrameRecord)
     (old new : Option (List ℕ)) : Type 0 where

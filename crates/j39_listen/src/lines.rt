@@ -1,7 +1,8 @@
 //! A run, line by line.
-ghost use Rattle.std.specs.Prelude.{◌≡◌, ◌≢◌, Some, true, IfOk, OnOk, Err, unwrap_or};
+ghost use Rattle.std.specs.Prelude.{◌≡◌, ◌≢◌, ℕ, List, Some, true, IfOk, OnOk, Err, unwrap_or};
 ghost use Rattle.j39_log.specs.Bus.{IsBusName};
 ghost use Rattle.j39_log.specs.LineRead.{spelled_of};
+ghost use Rattle.j39_log.specs.Spelled.{frame as spelled_frame};
 ghost use Rattle.j39_listen.specs.AskSteps.{AsksLine};
 ghost use Rattle.j39_listen.specs.LineSteps.{IsSpelling, MeetsLine, StopsLine, met_tally};
 ghost use Rattle.j39_listen.specs.PieceSteps.{ReadsLine, StopsAt};
@@ -10,7 +11,8 @@ ghost use Rattle.j39_listen.specs.declared.account.LineFault.TheVariants.{Memory
 use crate::account::{Account, LineFault};
 use crate::counts::{Met, Tally};
 use j39_device::Sink;
-use j39_log::{Bus, Line};
+use j39_frame::Frame;
+use j39_log::{Bus, LastSecond, Line};
 
 /// The bus of a run, once it is known, the account of its frames, and what was met so far.
 #[derive(Drop)]
@@ -18,6 +20,8 @@ pub(crate) struct Lines<A> {
     pub bus: Option<Bus>,
     pub account: A,
     pub tally: Tally,
+    /// The second of the last line that was read quickly: it tells nothing of the lines.
+    pub second: LastSecond,
 }
 
 impl<A: Account> Lines<A> {
@@ -41,6 +45,34 @@ impl<A: Account> Lines<A> {
             Err(fault) => return Err(fault),
         };
         self.tally = self.tally.with(met);
+        Ok(())
+    }
+
+    /// Takes the line of this frame, where the bus is known and the frame is one of it, as `read` does: no line goes by
+    /// memory, and no name is compared.
+    #[inline(always)]
+    pub fn read_frame<W: Sink>(&mut self, frame: &Frame, sink: &mut W) -> Result<(), LineFault>
+        ensures read { OnOk result ((subject : A.Subject) (name : List ℕ) → self.old.bus ≡ Some name
+            → ReadsLine (A.has_met subject) (spelled_frame name frame.now) self.old self.new (W.held sink.old)
+            (W.held sink.new)) }
+        ensures write { result ≡ Err Write → W.has_failed sink.new ≡ true }
+        ensures stops { result ≡ Err Write → (subject : A.Subject) (name : List ℕ) → self.old.bus ≡ Some name
+            → StopsAt (A.has_met subject) (A.makes subject) (spelled_frame name frame.now) self.old
+            (W.held sink.old) (W.held sink.new) }
+        ensures memory { result ≡ Err Memory → W.held sink.new ≡ W.held sink.old }
+        ensures unmarked { result ≢ Err Write → W.has_failed sink.new ≡ W.has_failed sink.old }
+        ensures asked { result ≡ Err Memory → (subject : A.Subject) (name : List ℕ) → self.old.bus ≡ Some name
+            → AsksLine (A.has_met subject) (A.asks subject) (spelled_frame name frame.now) self.old.bus
+            self.old.account }
+    {
+        let Some(bus) = &self.bus else {
+            return Ok(());
+        };
+        match self.account.meet(bus, frame, sink) {
+            Ok(()) => {}
+            Err(fault) => return Err(fault),
+        }
+        self.tally = self.tally.with(Met::Frame);
         Ok(())
     }
 }

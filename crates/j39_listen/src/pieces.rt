@@ -2,11 +2,11 @@
 ghost use Rattle.std.specs.Prelude.{◌≡◌, ◌≢◌, ◌<◌, ◌≤◌, ◌++◌, ℕ, List, [], Option, true, OnOk, OnErr, IfOk, Err, length};
 ghost use Rattle.j39_device.specs.Device.{Marks};
 ghost use Rattle.j39_log.specs.Spelled.{Spelled};
-ghost use Rattle.j39_log.specs.Splitter.{HasBegun};
+ghost use Rattle.j39_log.specs.Splitter.{HasBegun, IsRawLine};
 ghost use Rattle.j39_listen.specs.Asking.{AsksAmong};
-ghost use Rattle.j39_listen.specs.AskSteps.{AsksIn, AsksLast};
-ghost use Rattle.j39_listen.specs.PieceSteps.{AtStart, Behind, HasMetAll, HasTaken, ReadsLast, StepsOver};
-ghost use Rattle.j39_listen.specs.PieceSteps.{StopsIn, StopsLast, WritesAll, WritesSome};
+ghost use Rattle.j39_listen.specs.AskSteps.{AsksAs, AsksIn, AsksLast};
+ghost use Rattle.j39_listen.specs.PieceSteps.{AtStart, Behind, HasMetAll, HasTaken, ReadsAs, ReadsLast, StepsOver};
+ghost use Rattle.j39_listen.specs.PieceSteps.{StopsAs, StopsIn, StopsLast, WritesAll, WritesSome};
 ghost use Rattle.j39_listen.specs.Run.{Writes, WritesFront, WritesFrontOfMore};
 ghost use Rattle.j39_listen.specs.declared.account.LineFault.TheVariants.{Memory, Write};
 
@@ -15,7 +15,7 @@ use crate::account::{Account, LineFault};
 use crate::counts::Tally;
 use crate::lines::Lines;
 use j39_device::{DeviceFault, Sink};
-use j39_log::{Bus, Splitter};
+use j39_log::{Bus, LastSecond, RawLine, Splitter};
 
 /// A log that is read in pieces, and the run over its lines.
 #[derive(Drop)]
@@ -36,6 +36,7 @@ impl<A: Account> Pieces<A> {
                 bus,
                 account,
                 tally: Tally::default(),
+                second: LastSecond::new(),
             },
         }
     }
@@ -140,16 +141,39 @@ fn take_line<A: Account, W: Sink>(
         → AsksIn (A.has_met subject) (A.asks subject) begun bytes.now lines.old }
 {
     let (n, raw) = splitter.feed(bytes);
-    match raw {
-        None => Ok(n),
-        Some(raw) => {
-            let line = raw.read_on(&lines.bus);
-            match lines.read(line, sink) {
-                Ok(()) => Ok(n),
-                Err(fault) => Err(fault),
-            }
-        }
+    let Some(raw) = raw else {
+        return Ok(n);
+    };
+    match raw.frame_on(&mut lines.second, &lines.bus) {
+        Some(frame) => match lines.read_frame(&frame, sink) {
+            Ok(()) => Ok(n),
+            Err(fault) => Err(fault),
+        },
+        None => match read_line(raw, lines, sink) {
+            Ok(()) => Ok(n),
+            Err(fault) => Err(fault),
+        },
     }
+}
+
+/// Reads a line of any form. It is no part of its caller, whose way for most lines so needs no room for what this one reads.
+#[inline(never)]
+fn read_line<A: Account, W: Sink>(
+    raw: RawLine<'_>,
+    lines: &mut Lines<A>,
+    sink: &mut W,
+) -> Result<(), LineFault>
+    ensures read { OnOk result ((subject : A.Subject) (line : List ℕ) → IsRawLine raw.entry line
+        → ReadsAs (A.has_met subject) line lines.old lines.new (W.held sink.old) (W.held sink.new)) }
+    ensures write { result ≡ Err Write → W.has_failed sink.new ≡ true }
+    ensures stops { result ≡ Err Write → (subject : A.Subject) (line : List ℕ) → IsRawLine raw.entry line
+        → StopsAs (A.has_met subject) (A.makes subject) line lines.old (W.held sink.old) (W.held sink.new) }
+    ensures memory { result ≡ Err Memory → W.held sink.new ≡ W.held sink.old }
+    ensures unmarked { result ≢ Err Write → W.has_failed sink.new ≡ W.has_failed sink.old }
+    ensures asked { result ≡ Err Memory → (subject : A.Subject) (line : List ℕ) → IsRawLine raw.entry line
+        → AsksAs (A.has_met subject) (A.asks subject) line lines.old }
+{
+    lines.read(raw.read(), sink)
 }
 
 /// Reads the last line, where one is begun.
@@ -170,7 +194,7 @@ fn take_last<A: Account, W: Sink>(
 {
     match splitter.finish() {
         None => Ok(()),
-        Some(raw) => lines.read(raw.read(), sink),
+        Some(raw) => read_line(raw, lines, sink),
     }
 }
 

@@ -8,7 +8,7 @@ use Rattle.std.proofs.lemmas.List.{length-map}
 use Rattle.hex.specs.Hex.{hex_digit_value, digit_or_error, decode_pairs, decode_of, ◌>>=◌}
 use Rattle.hex.proofs.HexLemmas.{decode_of-even}
 use Rattle.hex.specs.declared.error.FromHexError.{FromHexError}
-use Rattle.j39_log.specs.Lanes.{hex_lane, pair_at}
+use Rattle.j39_log.specs.Lanes.{digit_lane, hex_lane, letter_lane, pair_at}
 
 -- ---- tests
 
@@ -34,17 +34,27 @@ same_test : (b : Bool) → leb 128 (cond b 255 0) ≡ b
 same_test true = refl
 same_test false = refl
 
-pub hex_lanes : (xs : List ℕ) (n : ℕ) → length xs ≡ n
-    → sel_l (map (top 7) (zip2 (λ a b. cond (ltb a b) 255 0) (zip2 (λ a b. (a + (256 - b)) % 256) xs (replicate n 48)) (replicate n 10)))
-    (zip2 (λ a b. (a + (256 - b)) % 256) xs (replicate n 48))
-    (sel_l (map (top 7) (zip2 (λ a b. cond (ltb a b) 255 0) (zip2 (λ a b. (a + (256 - b)) % 256) (zip2 bit_or xs (replicate n 32)) (replicate n 97)) (replicate n 6)))
-    (zip2 (λ a b. (a + b) % 256) (zip2 (λ a b. (a + (256 - b)) % 256) (zip2 bit_or xs (replicate n 32)) (replicate n 97)) (replicate n 10))
-    (replicate n 255))
-    ≡ map hex_lane xs
+-- whether each lane is below the one beside it
+abbrev below : List ℕ → List ℕ → List Bool
+below xs ys = map (top 7) (zip2 (λ a b. cond (ltb a b) 255 0) xs ys)
+
+abbrev more : List ℕ → ℕ → ℕ → List ℕ
+more xs n k = zip2 (λ a b. (a + b) % 256) xs (replicate n k)
+
+abbrev digit_lanes : List ℕ → ℕ → List ℕ
+digit_lanes xs n = more (sel_l (below (more xs n 198) (replicate n 6)) (replicate n 6) (more xs n 198)) n 10
+
+abbrev from_a : List ℕ → ℕ → List ℕ
+from_a xs n = zip2 (λ a b. (a + (256 - b)) % 256) (zip2 bit_or xs (replicate n 32)) (replicate n 97)
+
+abbrev letter_lanes : List ℕ → ℕ → List ℕ
+letter_lanes xs n = more (sel_l (below (from_a xs n) (replicate n 245)) (from_a xs n) (replicate n 245)) n 10
+
+pub hex_lanes : (xs : List ℕ) (n : ℕ) → length xs ≡ n → sel_l (below (digit_lanes xs n) (letter_lanes xs n)) (digit_lanes xs n) (letter_lanes xs n) ≡ map hex_lane xs
 hex_lanes [] n e = refl
 hex_lanes (x ∷ xs) zero e = absurd (omega arith)
 hex_lanes (x ∷ xs) (suc n) e =
-    rw (same_test (ltb ((x + 208) % 256) 10), same_test (ltb ((bit_or x 32 + 159) % 256) 6))
+    rw (same_test (ltb ((x + 198) % 256) 6), same_test (ltb ((bit_or x 32 + 159) % 256) 245), same_test (ltb (digit_lane x) (letter_lane x)))
     (ap (λ r. hex_lane x ∷ r) (hex_lanes xs n (omega arith)))
 
 some_is : (o : Option ℕ) (v : ℕ) → (nat_le 16 v || nat_eq (unwrap_or o 99) v) ≡ true → v < 16 → o ≡ Some v

@@ -1,11 +1,11 @@
 -- The digits of a stamp, as vectors read them.
-use Rattle.std.proofs.Common.{◌≡◌, ◌<◌, ◌+◌, ◌-◌, ◌*◌, ◌%◌, ◌^◌, ◌⊎◌, ℕ, List, [], ◌∷◌, ◌++◌, zero, suc, length, map, take, drop, get_or, refl, ap, ◌∙◌, arith, subst, sym, lit<}
+use Rattle.std.proofs.Common.{◌≡◌, ◌<◌, ◌+◌, ◌-◌, ◌*◌, ◌%◌, ◌^◌, ◌⊎◌, ℕ, List, [], ◌∷◌, ◌++◌, zero, suc, length, map, take, drop, get_or, refl, ap, ap₂, ◌∙◌, append_assoc, arith, subst, sym, take-append-drop, lit<}
 use Rattle.std.specs.List.{AllByRecursion, range_with_len}
 use Rattle.std.specs.Char.{digit_value}
-use Rattle.std.specs.Simd.Lanes.{zip2}
 use Rattle.std.specs.Str.Parse.{AllDigits, digits_value, digits_value_after}
 use Rattle.std.proofs.lemmas.Simd.{pick_l_whole}
-use Rattle.j39_log.specs.Lanes.{pair_at}
+use Rattle.j39_log.specs.Lanes.{pair_at, stamp_lanes}
+use Rattle.j39_log.specs.LastSecond.{AreDecimals, IsSecond}
 use Rattle.j39_log.specs.Text.{IsStampText}
 
 abbrev pub dec_lane : ℕ → ℕ
@@ -48,30 +48,38 @@ All-map : (t : ℕ → ℕ) (P : ℕ → Type 0) → ((i : ℕ) → P (t i)) →
 All-map t P h [] = tt
 All-map t P h (k ∷ ks) = (h k, All-map t P h ks)
 
--- the third to the last byte of 18 as vectors read them
-abbrev pub lanes : List ℕ → List ℕ
-lanes front = zip2 (λ a b. (a + (256 - b)) % 256) (take 16 (take 16 (drop 2 front))) (48 ∷ 48 ∷ 48 ∷ 48 ∷ 48 ∷ 48 ∷ 48 ∷ 48 ∷ 48 ∷ 46 ∷ 48 ∷ 48 ∷ 48 ∷ 48 ∷ 48 ∷ 48 ∷ [])
+-- the microseconds that a first value and pairs write, before the second and within it
+abbrev pub second_at : ℕ → List ℕ → ℕ
+second_at first p = first * 10 ^ 15 + get_or p 0 0 * 10 ^ 13 + get_or p 1 0 * 10 ^ 11 + get_or p 2 0 * 10 ^ 9 + get_or p 3 0 * 10 ^ 7 + get_or p 4 0 * 10 ^ 5
 
--- the microseconds that a first value and pairs write
-abbrev pub micros_at : ℕ → List ℕ → ℕ
-micros_at first p =
-    first * 10 ^ 15 + get_or p 0 0 * 10 ^ 13 + get_or p 1 0 * 10 ^ 11 + get_or p 2 0 * 10 ^ 9 + get_or p 3 0 * 10 ^ 7 + get_or p 4 0 * 10 ^ 5 + get_or p 5 0 * 10 ^ 4 + get_or p 6 0 * 100 + get_or p 7 0
+abbrev pub decimals_at : List ℕ → ℕ
+decimals_at p = get_or p 5 0 * 10 ^ 4 + get_or p 6 0 * 100 + get_or p 7 0
 
 pair_is : (a b : ℕ) → a < 10 → b < 10 → (a * 10 % 256 + b) % 256 ≡ a * 10 + b
 pair_is a b p q = omega arith
 
+abbrev pairs_of : (ℕ → ℕ) → (ℕ → ℕ) → List ℕ
+pairs_of a b = map (λ k. (a k * 10 % 256 + b k) % 256) (range_with_len 0 8)
+
 paired : (a b : ℕ → ℕ) (first : ℕ) → ((k : ℕ) → (a k < 10) × (b k < 10)) → b 4 ≡ 0
-    → micros_at first (map (λ k. (a k * 10 % 256 + b k) % 256) (range_with_len 0 8))
-    ≡ value_after first (a 0 ∷ b 0 ∷ a 1 ∷ b 1 ∷ a 2 ∷ b 2 ∷ a 3 ∷ b 3 ∷ a 4 ∷ []) * 10 ^ 6 + value_after (a 5) (b 5 ∷ a 6 ∷ b 6 ∷ a 7 ∷ b 7 ∷ [])
+    → second_at first (pairs_of a b) ≡ value_after first (a 0 ∷ b 0 ∷ a 1 ∷ b 1 ∷ a 2 ∷ b 2 ∷ a 3 ∷ b 3 ∷ a 4 ∷ []) * 10 ^ 6
 paired a b first small none =
     let e : (k : ℕ) → (a k * 10 % 256 + b k) % 256 ≡ a k * 10 + b k = λ k. pair_is (a k) (b k) (small k).0 (small k).1 in
-    (λ i. first * 10 ^ 15 + e 0 i * 10 ^ 13 + e 1 i * 10 ^ 11 + e 2 i * 10 ^ 9 + e 3 i * 10 ^ 7 + e 4 i * 10 ^ 5 + e 5 i * 10 ^ 4 + e 6 i * 100 + e 7 i)
-    ∙ total (a 0) (b 0) (a 1) (b 1) (a 2) (b 2) (a 3) (b 3) (a 4) (b 4) (a 5) (b 5) (a 6) (b 6) (a 7) (b 7) none
+    (λ i. first * 10 ^ 15 + e 0 i * 10 ^ 13 + e 1 i * 10 ^ 11 + e 2 i * 10 ^ 9 + e 3 i * 10 ^ 7 + e 4 i * 10 ^ 5)
+    ∙ total (a 0) (b 0) (a 1) (b 1) (a 2) (b 2) (a 3) (b 3) (a 4) (b 4) none
   where
-    total : (c d e f g h i j k l m n o p q r : ℕ) → l ≡ 0
-        → first * 10 ^ 15 + (c * 10 + d) * 10 ^ 13 + (e * 10 + f) * 10 ^ 11 + (g * 10 + h) * 10 ^ 9 + (i * 10 + j) * 10 ^ 7 + (k * 10 + l) * 10 ^ 5 + (m * 10 + n) * 10 ^ 4 + (o * 10 + p) * 100 + (q * 10 + r)
-        ≡ value_after first (c ∷ d ∷ e ∷ f ∷ g ∷ h ∷ i ∷ j ∷ k ∷ []) * 10 ^ 6 + value_after m (n ∷ o ∷ p ∷ q ∷ r ∷ [])
-    total c d e f g h i j k l m n o p q r none = omega (arith, none)
+    total : (c d e f g h i j k l : ℕ) → l ≡ 0
+        → first * 10 ^ 15 + (c * 10 + d) * 10 ^ 13 + (e * 10 + f) * 10 ^ 11 + (g * 10 + h) * 10 ^ 9 + (i * 10 + j) * 10 ^ 7 + (k * 10 + l) * 10 ^ 5
+        ≡ value_after first (c ∷ d ∷ e ∷ f ∷ g ∷ h ∷ i ∷ j ∷ k ∷ []) * 10 ^ 6
+    total c d e f g h i j k l none = omega (arith, none)
+
+paired_decimals : (a b : ℕ → ℕ) → ((k : ℕ) → (a k < 10) × (b k < 10)) → decimals_at (pairs_of a b) ≡ value_after (a 5) (b 5 ∷ a 6 ∷ b 6 ∷ a 7 ∷ b 7 ∷ [])
+paired_decimals a b small =
+    let e : (k : ℕ) → (a k * 10 % 256 + b k) % 256 ≡ a k * 10 + b k = λ k. pair_is (a k) (b k) (small k).0 (small k).1 in
+    (λ i. e 5 i * 10 ^ 4 + e 6 i * 100 + e 7 i) ∙ total (a 5) (b 5) (a 6) (b 6) (a 7) (b 7)
+  where
+    total : (m n o p q r : ℕ) → (m * 10 + n) * 10 ^ 4 + (o * 10 + p) * 100 + (q * 10 + r) ≡ value_after m (n ∷ o ∷ p ∷ q ∷ r ∷ [])
+    total m n o p q r = omega arith
 
 All-at : (xs : List ℕ) (i : ℕ) → AllByRecursion (λ d. d < 10) xs → get_or xs i 0 < 10
 All-at [] i h = lit< tt
@@ -82,34 +90,75 @@ All-append : (xs ys : List ℕ) → AllByRecursion (λ d. d < 10) xs → AllByRe
 All-append [] ys p q = q
 All-append (x ∷ xs) ys p q = (p.0, All-append xs ys p.1 q)
 
-abbrev twice : (ℕ → ℕ) → List ℕ
-twice t = lanes (map t (range_with_len 0 18)) ++ lanes (map t (range_with_len 0 18))
+abbrev front_of : (ℕ → ℕ) → List ℕ
+front_of t = map t (range_with_len 0 18)
 
-bytes_read : (t : ℕ → ℕ) (cut : List ℕ) → ((i : ℕ) → t i < 256) → t 0 ≡ 40 → t 11 ≡ 46 → dec_lane (t 1) < 10 → AllByRecursion (λ d. d < 10) (lanes (map t (range_with_len 0 18)))
-    → AllDigits 10 cut → (length cut ≡ 0) ⊎ (length cut ≡ 3) → IsStampText (map t (range_with_len 0 18) ++ (cut ++ (41 ∷ []))) (micros_at (dec_lane (t 1)) (map (pair_at 10 (lanes (map t (range_with_len 0 18)))) (range_with_len 0 8)))
-bytes_read t cut fits opened dot first small are short =
-    let seconds = map t (range_with_len 1 10) in
-    let micros = map t (range_with_len 12 6) in
+abbrev twice : (ℕ → ℕ) → List ℕ
+twice t = stamp_lanes (front_of t) ++ stamp_lanes (front_of t)
+
+twice-small : (t : ℕ → ℕ) → AllByRecursion (λ d. d < 10) (stamp_lanes (front_of t)) → (k : ℕ) → (get_or (twice t) (2 * k) 0 < 10) × (get_or (twice t) (2 * k + 1) 0 < 10)
+twice-small t small k =
+    let both = All-append (stamp_lanes (front_of t)) (stamp_lanes (front_of t)) small small in
+    (All-at (twice t) (2 * k) both, All-at (twice t) (2 * k + 1) both)
+
+second_read : (t : ℕ → ℕ) → ((i : ℕ) → t i < 256) → t 0 ≡ 40 → t 11 ≡ 46 → dec_lane (t 1) < 10 → AllByRecursion (λ d. d < 10) (stamp_lanes (front_of t))
+    → IsSecond (take 12 (front_of t)) (second_at (dec_lane (t 1)) (map (pair_at 10 (stamp_lanes (front_of t))) (range_with_len 0 8)))
+second_read t fits opened dot first small =
     let front : List ℕ = map dec_lane (map t (range_with_len 2 9)) in
-    let both = All-append (lanes (map t (range_with_len 0 18))) (lanes (map t (range_with_len 0 18))) small small in
-    let back : List ℕ = (t 11 + 210) % 256 ∷ map dec_lane micros in
+    let back : List ℕ = (t 11 + 210) % 256 ∷ map dec_lane (map t (range_with_len 12 6)) in
     let s = digits_from (t 1) (map t (range_with_len 2 9)) (All-map t (λ c. c < 256) fits (range_with_len 1 10)) (first, All-left front back (λ d. d < 10) small) in
-    let u = digits_from (t 12) (map t (range_with_len 13 5)) (All-map t (λ c. c < 256) fits (range_with_len 12 6)) (All-right front back (λ d. d < 10) small).1 in
     record {
-      seconds = seconds;
-      micros = micros;
-      cut = cut;
-      parts = record { text_is = rw (opened, dot) refl; some = lit< tt; seconds_fit = omega arith; micros_fit = refl; cut_fits = short };
+      seconds = map t (range_with_len 1 10);
+      text_is = rw (opened, dot) refl;
+      seconds_fit = refl;
       seconds_are = s.0;
-      micros_are = u.0;
-      cut_are = are;
-      stamp_is = rw (s.1, u.1) (paired (λ k. get_or (twice t) (2 * k) 0) (λ k. get_or (twice t) (2 * k + 1) 0) (dec_lane (t 1)) (λ k. (All-at (twice t) (2 * k) both, All-at (twice t) (2 * k + 1) both)) (ap (λ b. (b + 210) % 256) dot));
+      micros_are = rw s.1 (paired (λ k. get_or (twice t) (2 * k) 0) (λ k. get_or (twice t) (2 * k + 1) 0) (dec_lane (t 1)) (twice-small t small) (ap (λ b. (b + 210) % 256) dot));
     }
 
-pub stamp_read : (front cut : List ℕ) → length front ≡ 18 → ((i : ℕ) → get_or front i 0 < 256) → get_or front 0 0 ≡ 40 → get_or front 11 0 ≡ 46 → dec_lane (get_or front 1 0) < 10
-    → AllByRecursion (λ d. d < 10) (lanes front) → AllDigits 10 cut → (length cut ≡ 0) ⊎ (length cut ≡ 3)
-    → IsStampText (front ++ (cut ++ (41 ∷ []))) (micros_at (dec_lane (get_or front 1 0)) (map (pair_at 10 (lanes front)) (range_with_len 0 8)))
-stamp_read front cut long fits opened dot first small are short =
+decimals_read : (t : ℕ → ℕ) → ((i : ℕ) → t i < 256) → AllByRecursion (λ d. d < 10) (stamp_lanes (front_of t))
+    → AreDecimals (drop 12 (front_of t)) (decimals_at (map (pair_at 10 (stamp_lanes (front_of t))) (range_with_len 0 8)))
+decimals_read t fits small =
+    let front : List ℕ = map dec_lane (map t (range_with_len 2 9)) in
+    let back : List ℕ = (t 11 + 210) % 256 ∷ map dec_lane (map t (range_with_len 12 6)) in
+    let u = digits_from (t 12) (map t (range_with_len 13 5)) (All-map t (λ c. c < 256) fits (range_with_len 12 6)) (All-right front back (λ d. d < 10) small).1 in
+    record {
+      fit = refl;
+      are = u.0;
+      micros_are = rw u.1 (paired_decimals (λ k. get_or (twice t) (2 * k) 0) (λ k. get_or (twice t) (2 * k + 1) 0) (twice-small t small));
+    }
+
+pub second_lanes : (front : List ℕ) → length front ≡ 18 → ((i : ℕ) → get_or front i 0 < 256) → get_or front 0 0 ≡ 40 → get_or front 11 0 ≡ 46 → dec_lane (get_or front 1 0) < 10
+    → AllByRecursion (λ d. d < 10) (stamp_lanes front) → IsSecond (take 12 front) (second_at (dec_lane (get_or front 1 0)) (map (pair_at 10 (stamp_lanes front)) (range_with_len 0 8)))
+second_lanes front long fits opened dot first small =
     let whole = pick_l_whole 0 front 18 long in
-    subst (λ u. IsStampText (u ++ (cut ++ (41 ∷ []))) (micros_at (dec_lane (get_or front 1 0)) (map (pair_at 10 (lanes u)) (range_with_len 0 8)))) whole
-    (bytes_read (λ i. get_or front i 0) cut fits opened dot first (subst (λ u. AllByRecursion (λ d. d < 10) (lanes u)) (sym whole) small) are short)
+    subst (λ u. IsSecond (take 12 u) (second_at (dec_lane (get_or front 1 0)) (map (pair_at 10 (stamp_lanes u)) (range_with_len 0 8)))) whole
+    (second_read (λ i. get_or front i 0) fits opened dot first (subst (λ u. AllByRecursion (λ d. d < 10) (stamp_lanes u)) (sym whole) small))
+
+pub decimals_lanes : (front : List ℕ) → length front ≡ 18 → ((i : ℕ) → get_or front i 0 < 256) → AllByRecursion (λ d. d < 10) (stamp_lanes front)
+    → AreDecimals (drop 12 front) (decimals_at (map (pair_at 10 (stamp_lanes front)) (range_with_len 0 8)))
+decimals_lanes front long fits small =
+    let whole = pick_l_whole 0 front 18 long in
+    subst (λ u. AreDecimals (drop 12 u) (decimals_at (map (pair_at 10 (stamp_lanes u)) (range_with_len 0 8)))) whole
+    (decimals_read (λ i. get_or front i 0) fits (subst (λ u. AllByRecursion (λ d. d < 10) (stamp_lanes u)) (sym whole) small))
+
+-- a second and decimals are a stamp
+pub stamp_read : (front cut : List ℕ) (micros more : ℕ) → IsSecond (take 12 front) micros → AreDecimals (drop 12 front) more → AllDigits 10 cut → (length cut ≡ 0) ⊎ (length cut ≡ 3)
+    → IsStampText (front ++ (cut ++ (41 ∷ []))) (micros + more)
+stamp_read front cut micros more s d are short =
+    let some = s.seconds_fit in
+    record {
+      seconds = s.seconds;
+      micros = drop 12 front;
+      cut = cut;
+      parts = record {
+        text_is = ap (λ f. f ++ (cut ++ (41 ∷ []))) (sym (take-append-drop 12 front)) ∙ ap (λ f. (f ++ drop 12 front) ++ (cut ++ (41 ∷ []))) s.text_is ∙ simp append_assoc refl;
+        some = omega (arith, some);
+        seconds_fit = omega (arith, some);
+        micros_fit = d.fit;
+        cut_fits = short;
+      };
+      seconds_are = s.seconds_are;
+      micros_are = d.are;
+      cut_are = are;
+      stamp_is = ap₂ (λ a b. a + b) s.micros_are d.micros_are;
+    }

@@ -21,4 +21,5 @@ pub mod Shape
 pub mod LineParts
 pub mod LineRead
 pub mod Lanes
+pub mod LastSecond
 pub mod SplitterSteps

@@ -26,17 +26,15 @@ pub(crate) fn gaps_of(block: &[u8; 16]) -> u64
     from_first.simd_ge(u8x16::splat(94)).to_bitmask()
 }
 
-/// The value of each hex digit, and 255 for another byte.
+/// The value of each hex digit, and 16 or more for another byte: digits come to 246 and up, which wraps to 0 to 9, letters
+/// to 0 to 5, and what is neither is kept from wrapping.
 #[inline(always)]
 fn hex_values<const N: usize>(v: Simd<u8, N>) -> Simd<u8, N>
     ensures { result ≡ map hex_lane v.entry }
 {
-    let digit = v - Simd::splat(48);
-    let letter = (v | Simd::splat(32)) - Simd::splat(97);
-    let as_letter = letter
-        .simd_lt(Simd::splat(6))
-        .select(letter + Simd::splat(10), Simd::splat(255));
-    digit.simd_lt(Simd::splat(10)).select(digit, as_letter)
+    let digit = (v + Simd::splat(198)).simd_max(Simd::splat(6)) + Simd::splat(10);
+    let letter = ((v | Simd::splat(32)) - Simd::splat(97)).simd_min(Simd::splat(245));
+    digit.simd_min(letter + Simd::splat(10))
 }
 
 /// The bytes that 8 hex digits write; `None` where one is no digit.

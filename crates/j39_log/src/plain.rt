@@ -1,8 +1,8 @@
 //! A quick reader of the line as `candump` writes it: ten digits of seconds, six decimals or nine,
 //! one space between the fields, and none before or after them.
-ghost use Rattle.std.specs.Prelude.{◌≡◌, ◌<◌, ◌+◌, ◌*◌, ◌^◌, ◌++◌, ◌∷◌, ◌⊎◌, ◌≤◌, [], ℕ, List, length, get_or, not, IfSome, Ok, codes};
+ghost use Rattle.std.specs.Prelude.{◌≡◌, ◌<◌, ◌+◌, ◌*◌, ◌^◌, ◌++◌, ◌∷◌, ◌⊎◌, ◌≤◌, [], ℕ, List, length, take, drop, get_or, map, not, IfSome, Ok, codes};
 ghost use Rattle.std.specs.Bool.{OnTrue};
-ghost use Rattle.std.specs.List.{prefix_len};
+ghost use Rattle.std.specs.List.{AllByRecursion, prefix_len, range_with_len};
 ghost use Rattle.std.specs.Str.Parse.{AllDigits};
 ghost use Rattle.std.specs.Int.{to_be_bytes, w32};
 ghost use Rattle.hex.specs.Hex.{decode_of};
@@ -11,7 +11,8 @@ ghost use Rattle.j39_text.specs.Chars.{space};
 ghost use Rattle.j39_log.specs.Fields.{IsField};
 ghost use Rattle.j39_frame.specs.Identifier.{id_raw};
 ghost use Rattle.j39_log.specs.Line.{HasParts};
-ghost use Rattle.j39_log.specs.Lanes.{is_gap};
+ghost use Rattle.j39_log.specs.Lanes.{is_gap, pair_at, stamp_lanes};
+ghost use Rattle.j39_log.specs.LastSecond.{AreDecimals, IsSecond};
 ghost use Rattle.j39_log.specs.LineRead.{spelled_of};
 ghost use Rattle.j39_log.specs.Spelled.{Spells};
 ghost use Rattle.j39_frame.specs.Stamp.{stamp_micros};
@@ -82,30 +83,67 @@ pub(crate) fn stamp_of(front: &[u8; 18]) -> Option<Stamp>
     ensures { IfSome result (λ stamp. (cut : List ℕ) → AllDigits 10 cut → (length cut ≡ 0) ⊎ (length cut ≡ 3)
         → IsStampText (front.now ++ (cut ++ codes ")")) (stamp_micros stamp)) }
 {
+    let micros = second_of(front)?;
+    let more = decimals_of(front)?;
+    Stamp::new(micros + more)
+}
+
+/// The microseconds before the second of `(`, ten digits and `.`, where six digits follow.
+#[inline(always)]
+pub(crate) fn second_of(front: &[u8; 18]) -> Option<u64>
+    ensures value { IfSome result (λ micros. IsSecond (take 12 front.now) micros) }
+    ensures fits { IfSome result (λ micros. micros < 2 ^ 60) }
+{
     let first = front[1].wrapping_sub(48);
     if front[0] != b'(' || front[11] != b'.' || first > 9 {
         return None;
     }
+    let p = pairs_of(front)?;
+    Some(micros_before(first, &p))
+}
+
+/// The microseconds that the six digits at the end write.
+#[inline(always)]
+pub(crate) fn decimals_of(front: &[u8; 18]) -> Option<u64>
+    ensures value { IfSome result (λ more. AreDecimals (drop 12 front.now) more) }
+    ensures fits { IfSome result (λ more. more < 2 ^ 32) }
+{
+    let p = pairs_of(front)?;
+    Some(micros_within(&p))
+}
+
+/// The microseconds that a first digit of seconds and the first five pairs write.
+#[inline(always)]
+fn micros_before(first: u8, p: &[u8; 8]) -> u64
+    ensures value { result ≡ first * 10 ^ 15 + get_or p.now 0 0 * 10 ^ 13 + get_or p.now 1 0 * 10 ^ 11
+        + get_or p.now 2 0 * 10 ^ 9 + get_or p.now 3 0 * 10 ^ 7 + get_or p.now 4 0 * 10 ^ 5 }
+    ensures fits { result < 2 ^ 60 }
+{
+    let front = ((u64::from(first) * 100 + u64::from(p[0])) * 100 + u64::from(p[1])) * 10_000;
+    let seconds = front + u64::from(p[2]) * 100 + u64::from(p[3]);
+    seconds * 10_000_000 + u64::from(p[4]) * 100_000
+}
+
+/// The microseconds that the last three pairs write.
+#[inline(always)]
+fn micros_within(p: &[u8; 8]) -> u64
+    ensures value { result ≡ get_or p.now 5 0 * 10 ^ 4 + get_or p.now 6 0 * 100 + get_or p.now 7 0 }
+    ensures fits { result < 2 ^ 32 }
+{
+    (u64::from(p[5]) * 100 + u64::from(p[6])) * 100 + u64::from(p[7])
+}
+
+/// The pairs of the digits behind the first: four pairs, the last second with a zero, and three pairs.
+#[inline(always)]
+fn pairs_of(front: &[u8; 18]) -> Option<[u8; 8]>
+    ensures { IfSome result (λ p. AllByRecursion (λ d. d < 10) (stamp_lanes front.now)
+        × (p ≡ map (pair_at 10 (stamp_lanes front.now)) (range_with_len 0 8))) }
+{
     let digits = u8x16::from_slice(&front[2..]) - u8x16::from_array(ZEROS);
     if !are_below(digits, 10) {
         return None;
     }
-    Stamp::new(micros_of(first, &pairs(digits, 10)))
-}
-
-/// The microseconds of a first digit of seconds and pairs: four pairs, the last second with
-/// a zero, and three pairs.
-#[inline(always)]
-fn micros_of(first: u8, p: &[u8; 8]) -> u64
-    ensures { result
-        ≡ first * 10 ^ 15 + get_or p.now 0 0 * 10 ^ 13 + get_or p.now 1 0 * 10 ^ 11 + get_or p.now 2 0 * 10 ^ 9
-        + get_or p.now 3 0 * 10 ^ 7 + get_or p.now 4 0 * 10 ^ 5 + get_or p.now 5 0 * 10 ^ 4
-        + get_or p.now 6 0 * 100 + get_or p.now 7 0 }
-{
-    let front = ((u64::from(first) * 100 + u64::from(p[0])) * 100 + u64::from(p[1])) * 10_000;
-    let seconds = front + u64::from(p[2]) * 100 + u64::from(p[3]);
-    let micros = (u64::from(p[5]) * 100 + u64::from(p[6])) * 100 + u64::from(p[7]);
-    seconds * 10_000_000 + u64::from(p[4]) * 100_000 + micros
+    Some(pairs(digits, 10))
 }
 
 /// What follows the six decimals, three that are cut or none, `)` and a space.

@@ -2,54 +2,32 @@
 //! part's end has to be looked for.
 ghost use Rattle.std.specs.Prelude.{◌≡◌, ◌++◌, ◌∷◌, IfSome, codes};
 ghost use Rattle.j39_log.specs.Bus.{IsBusName};
-ghost use Rattle.j39_log.specs.LineRead.{spelled_of};
-ghost use Rattle.j39_log.specs.Spelled.{Spells};
+ghost use Rattle.j39_log.specs.Line.{IsFrameLine};
 ghost use Rattle.j39_text.specs.Chars.{space};
 
 use crate::bus::are_same;
 use crate::line::body_of;
-use crate::plain::{frame_at, read_plain, stamp_of};
-use crate::{Bus, Line};
+use crate::plain::frame_at;
+use crate::{Bus, LastSecond};
+use j39_frame::Frame;
 
 /// The bytes of a line of a bus with a name of four bytes, with six decimals and eight bytes of data.
 const LEN: usize = 50;
 
-/// Reads a line, quickly where it is of this bus.
+/// The frame of this bus that a line spells, where its length is the common one. `None` says nothing of the line.
 #[inline(always)]
-pub(crate) fn read_on<'a>(line: &'a [u8], bus: &Option<Bus>) -> Line<'a>
-    ensures { Spells line.now (spelled_of result) }
-{
-    if let Some(bus) = bus {
-        if let Some(read) = frame_on(line, bus) {
-            return read;
-        }
-    }
-    other(line)
-}
-
-/// Reads a line of any form. It is no part of its caller, whose quick way so needs no room for what this one answers.
-#[inline(never)]
-fn other(line: &[u8]) -> Line<'_>
-    ensures { Spells line.now (spelled_of result) }
-{
-    read_plain(line)
-}
-
-/// Reads the line of a frame of this bus, where its length is the common one.
-#[inline(always)]
-fn frame_on<'a>(line: &'a [u8], bus: &Bus) -> Option<Line<'a>>
-    ensures { IfSome result (λ read. Spells line.now (spelled_of read)) }
+pub(crate) fn frame_on(line: &[u8], second: &mut LastSecond, bus: &Bus) -> Option<Frame>
+    ensures { IfSome result (λ frame. IsFrameLine line.now bus.now frame) }
 {
     let body = body_of(line);
     if body.len() != LEN {
         return None;
     }
     let (front, rest) = body.split_first_chunk::<18>()?;
-    let stamp = stamp_of(front)?;
+    let stamp = second.stamp_of(front)?;
     let later = after_stamp(rest)?;
-    let (name, third) = bus_at(later, bus)?;
-    let frame = frame_at(stamp, third)?;
-    Some(Line::Frame { bus: name, frame })
+    let third = after_name(later, bus)?;
+    frame_at(stamp, third)
 }
 
 /// What follows `)` and a space.
@@ -63,10 +41,10 @@ fn after_stamp(text: &[u8]) -> Option<&[u8]>
     }
 }
 
-/// The name of this bus, where a text begins with it and it has four bytes, and what follows it and a space.
+/// What follows the name of this bus and a space, where a text begins with them and the name has four bytes.
 #[inline(always)]
-fn bus_at<'a>(text: &'a [u8], bus: &Bus) -> Option<(&'a [u8], &'a [u8])>
-    ensures { IfSome result (λ found. IsBusName found.0.now × (text.now ≡ found.0.now ++ (space ∷ found.1.now))) }
+fn after_name<'a>(text: &'a [u8], bus: &Bus) -> Option<&'a [u8]>
+    ensures { IfSome result (λ third. IsBusName bus.now × (text.now ≡ bus.now ++ (space ∷ third.now))) }
 {
     if text.len() < 4 {
         return None;
@@ -76,7 +54,7 @@ fn bus_at<'a>(text: &'a [u8], bus: &Bus) -> Option<(&'a [u8], &'a [u8])>
         return None;
     }
     match later.split_first() {
-        Some((b' ', third)) => Some((name, third)),
+        Some((b' ', third)) => Some(third),
         _ => None,
     }
 }

@@ -1,14 +1,16 @@
 //! A log's lines, out of its bytes in pieces.
-ghost use Rattle.std.specs.Prelude.{◌≡◌, ◌<◌, ◌≤◌, ◌++◌, ℕ, List, [], length, MatchOption, false};
+ghost use Rattle.std.specs.Prelude.{◌≡◌, ◌<◌, ◌≤◌, ◌++◌, ℕ, List, [], length, IfSome, MatchOption, Some, false};
 ghost use Rattle.std.specs.Borrow.{sem};
 ghost use Rattle.std.specs.Io.BufRead.{Rests};
+ghost use Rattle.j39_log.specs.Line.{IsFrameLine};
 ghost use Rattle.j39_log.specs.LineRead.{spelled_of};
 ghost use Rattle.j39_log.specs.Spelled.{Spells};
 
 use crate::newline::split_line;
-use crate::reader::read_on;
-use crate::{Bus, LINE_LIMIT, Line, read_line};
+use crate::reader::frame_on;
+use crate::{Bus, LINE_LIMIT, LastSecond, Line, read_line};
 use arrayvec::ArrayVec;
+use j39_frame::Frame;
 
 /// Cuts the bytes of a log, which come in pieces, into its lines. It keeps the first 256 bytes of
 /// the line that a piece breaks off, and whether the line has more.
@@ -43,14 +45,16 @@ impl<'a> RawLine<'a> {
         }
     }
 
-    /// Reads the line, as `read` does: quickly where it is of this bus, as `candump` writes it.
+    /// The frame that the line spells, where it is one of this bus in the form and length of most lines. `None` says
+    /// nothing of the line: `read` reads it, whatever it is. The second of the line is kept for the next one.
     #[inline(always)]
-    pub fn read_on(self, bus: &Option<Bus>) -> Line<'a>
-        ensures { (line : List ℕ) → IsRawLine self.entry line → Spells line (spelled_of result) }
+    pub fn frame_on(self, second: &mut LastSecond, bus: &Option<Bus>) -> Option<Frame>
+        ensures { IfSome result (λ frame. (name : List ℕ) × (bus.now ≡ Some name)
+            × ((line : List ℕ) → IsRawLine self.entry line → IsFrameLine line name frame)) }
     {
-        match self {
-            RawLine::Whole(line) => read_on(line, bus),
-            RawLine::Long(_) => self.read(),
+        match (self, bus) {
+            (RawLine::Whole(line), Some(bus)) => frame_on(line, second, bus),
+            _ => None,
         }
     }
 }

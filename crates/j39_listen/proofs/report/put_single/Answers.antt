@@ -1,5 +1,5 @@
 -- The frame is heard under the holder of its source.
-use Rattle.std.proofs.Common.{◌∙◌, ◌++◌, ◌∷◌, [], List, Some, length, ap, arith, rules, subst, sym}
+use Rattle.std.proofs.Common.{◌∙◌, ◌++◌, ◌∷◌, [], Some, length, ap, arith, rules, subst, sym}
 use Rattle.std.specs.Option.{option_map}
 use Rattle.j39_address.specs.Claim.{claims_of}
 use Rattle.j39_address.specs.Holder.{IsHolderAfter}
