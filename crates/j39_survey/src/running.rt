@@ -2,7 +2,7 @@
 ghost use Rattle.std.specs.Prelude.{◌≡◌, ◌≢◌, ◌<◌, ◌≤◌, [], true, length, IfSome, OnOk, OnErr, Err};
 ghost use Rattle.j39_listen.specs.Run.{TakesWithin};
 ghost use Rattle.j39_listen.specs.declared.running.RunFault.TheVariants.{Memory, Read, TooLong, Write};
-ghost use Rattle.j39_survey.specs.Run.{StopsWithin, WritesSurvey};
+ghost use Rattle.j39_survey.specs.Run.{StopsWithin, WritesFront, WritesSurvey};
 ghost use Rattle.j39_survey.specs.Steps.{HasReadLog, HasTaken, TakesSome};
 
 use crate::pieces::Pieces;
@@ -47,6 +47,10 @@ pub fn survey<R: Source, W: Sink>(
     ensures flushed { OnOk result (W.is_flushed sink.new ≡ true) }
     ensures silent { OnErr result (result ≢ Err Write
         → (W.held sink.new ≡ W.held sink.old) × (W.is_flushed sink.new ≡ W.is_flushed sink.old)) }
+
+    // What was written before a fault of the writer is a front of the survey of the whole log.
+    ensures cut_short { result ≡ Err Write → IfSome (R.remaining source.old)
+        (λ log. WritesFront groups.now log (W.held sink.old) (W.held sink.new)) }
 
     // What was written before a fault is a front of the survey of the bytes that were read.
     ensures prefix { OnErr result (StopsWithin groups.now (R.remaining source.old) (R.remaining source.new)

@@ -1,20 +1,31 @@
--- What was written is a front of the survey of what was read.
-use Rattle.std.proofs.Common.{List, subst}
+-- What was written is a front of the survey of what was read, which at a fault of the writer is the whole log.
+use Rattle.std.proofs.Common.{ℕ, List, Option, subst}
 use Rattle.j39_device.specs.Device.{AppendsFront}
-use Rattle.j39_survey.specs.LogLines.{LogLine}
+use Rattle.std.proofs.lemmas.Option.{IfSome_then}
+use Rattle.j39_survey.specs.LogLines.{AreLogLines, LogLine}
+use Rattle.j39_survey.specs.Run.{WritesFront}
 use Rattle.j39_survey.specs.SurveyText.{survey_text}
+use Rattle.j39_groups.specs.Row.{RowRecord}
 use Rattle.j39_survey.proofs.SurveyLemmas.{same_log_lines}
 use Rattle.j39_survey.proofs.running.survey.Goals as goal
+
+-- of the bytes that were read
+front : (table : List RowRecord) (taken : List ℕ) (lines : List LogLine) (old new : Option (List ℕ)) → AreLogLines taken lines
+    → AppendsFront old new (survey_text table lines) → WritesFront table taken old new
+front table taken lines old new here h = λ others are. subst (λ ls. AppendsFront old new (survey_text table ls)) (same_log_lines taken lines others here are) h
+
+pub returns-clause-cut_short : goal.returns-clause-cut_short
+returns-clause-cut_short g c = λ fails.
+    let h = c.in-Ok-read_log.ensures.read_all c.in-Ok.ensures in
+    IfSome_then (g.R.Source.remaining c.args.source.now) h.whole (λ (log : List ℕ) same.
+        subst (λ taken. WritesFront c.args.groups.now taken (g.W.Sink.held c.args.sink.now) (g.W.Sink.held c.put_survey.new.sink)) same
+        (front c.args.groups.now h.taken h.lines _ _ h.are_lines (c.in-Err-put_survey.ensures.err h.lines h.surveyed)))
 
 pub returns-clause-prefix : goal.returns-clause-prefix
 returns-clause-prefix g c =
     let h = c.in-Ok-read_log.ensures.read_all c.in-Ok.ensures in
-    let old = g.W.Sink.held c.args.sink.now in
-    let new = g.W.Sink.held c.put_survey.new.sink in
     record {
       taken = h.taken;
       consumed = h.consumed;
-      written = λ lines are.
-          subst (λ (ls : List LogLine). AppendsFront old new (survey_text c.args.groups.now ls)) (same_log_lines h.taken h.lines lines h.are_lines are)
-          (c.in-Err-put_survey.ensures.err h.lines h.surveyed);
+      written = front c.args.groups.now h.taken h.lines _ _ h.are_lines (c.in-Err-put_survey.ensures.err h.lines h.surveyed);
     }
