@@ -8,6 +8,16 @@ use std::alloc::{AllocError, Global};
 /// How many parameter groups there are, of 18 bits (J1939-21, 5.2).
 const GROUPS: usize = 262_144;
 
+/// What is done to a value.
+pub trait Change<T> {
+    /// From which value to which.
+    ghost changes: { Self → T → T → Type 0 };
+
+    /// Does it.
+    fn make(self, value: &mut T)
+        ensures { changes self value.old value.new };
+}
+
 /// A value for each parameter group.
 #[derive(Drop)]
 pub struct ByGroup<T: Copy> {
@@ -31,19 +41,21 @@ impl<T: Copy> ByGroup<T> {
 
     /// The value of a group.
     #[inline]
-    pub fn get(&self, pgn: usize) -> T
+    pub fn get(&self, pgn: usize) -> &T
         requires { pgn < 262144 }
-        ensures { (other : T) → result ≡ get_or (values_of self.now) pgn other }
+        ensures { (other : T) → result.now ≡ get_or (values_of self.now) pgn other }
     {
-        self.values[pgn]
+        &self.values[pgn]
     }
 
-    /// Gives a group another value.
+    /// Changes the value of a group.
     #[inline]
-    pub fn set(&mut self, pgn: usize, value: T)
+    pub fn change<C: Change<T>>(&mut self, pgn: usize, change: C)
         requires { pgn < 262144 }
-        ensures { values_of self.new ≡ set (values_of self.old) pgn value }
+        ensures { (value : T) × C.changes change (get_or (values_of self.old) pgn value) value
+            × (values_of self.new ≡ set (values_of self.old) pgn value) }
     {
-        self.values[pgn] = value;
+        let values = &mut self.values[..];
+        change.make(&mut values[pgn]);
     }
 }

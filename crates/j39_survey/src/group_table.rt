@@ -5,7 +5,7 @@ ghost use Rattle.j39_frame.specs.Identifier.{id_raw, pgn_of, source_of};
 ghost use Rattle.j39_survey.specs.Groups.{group_of};
 
 use crate::addresses::Addresses;
-use j39_by_group::ByGroup;
+use j39_by_group::{ByGroup, Change};
 use j39_frame::Id;
 use std::alloc::{AllocError, Global};
 
@@ -44,6 +44,23 @@ impl GroupCount {
     }
 }
 
+/// A frame that an address sent.
+#[derive(Clone, Copy)]
+struct FrameFrom {
+    source: u8,
+}
+
+impl Change<GroupCount> for FrameFrom {
+    ghost use Rattle.j39_survey.specs.Shown.{HasCounted};
+
+    ghost changes = { λ frame old new. (sources : List ℕ) → HasCounted old sources
+        → HasCounted new (sources ++ frame.source ∷ []) };
+
+    fn make(self, count: &mut GroupCount) {
+        count.add(self.source);
+    }
+}
+
 /// What was counted of each group.
 #[derive(Drop)]
 pub(crate) struct GroupTable {
@@ -68,9 +85,10 @@ impl GroupTable {
             → HaveCounted self.new (F ++ f ∷ []) }
     {
         let at = id.pgn().raw() as usize;
-        let mut count = self.counts.get(at);
-        count.add(id.source());
-        self.counts.set(at, count);
+        let frame = FrameFrom {
+            source: id.source(),
+        };
+        self.counts.change(at, frame);
     }
 
     /// What was counted of a group.

@@ -1,5 +1,6 @@
 -- A text that has no room.
 use Rattle.std.proofs.Common.{◌≡◌, ◌≢◌, ◌≤◌, ℕ, List, [], ◌∷◌, ◌++◌, Some, Option, refl, ap, sym, ◌∙◌, subst, append-nil, take, take_all, length, length-append, arith}
+use Rattle.std.proofs.lemmas.Bool.{false≢true}
 use Rattle.std.specs.Prelude.{IfErr, IfOk, IsOk, MatchResult, OnOk, Ok, Err, Result}
 use Rattle.j39_log.specs.Log.{frames_of}
 use Rattle.j39_log.proofs.LogLemmas.{same_log}
@@ -93,7 +94,7 @@ pub survey_overflows : {U : Type 0} (table : List RowRecord) (log log' : List �
 survey_overflows table log log' (Ok u) (Ok counts) z n m k xs ys room l e made front read long full ok err none same =
     let w = subst (λ j. WritesSurvey table log' (Some (n ∷ take j xs)) (Some (m ∷ take k ys))) e made in
     surveyed_made table log n m k ys room (subst (λ j. WritesSurvey table j (Some (n ∷ [])) (Some (m ∷ take k ys))) l w) none same
-survey_overflows table log log' (Ok u) (Err fault) z n m k xs ys room l e made front read long full ok err none same = absurd ok
+survey_overflows table log log' (Ok u) (Err fault) z n m k xs ys room l e made front read long full ok err none same = absurd (false≢true ok)
 survey_overflows table log log' (Err Write) counted z n m k xs ys room l e made front read long full ok err none same =
     let w = subst (λ j. WritesSurveyFront table log' (Some (n ∷ take j xs)) (Some (m ∷ take k ys))) e (front refl) in
     surveyed_front table log n m k ys room (subst (λ j. WritesSurveyFront table j (Some (n ∷ [])) (Some (m ∷ take k ys))) l w) (full refl) same

@@ -117,12 +117,7 @@ pub extern "C" fn j39_nodes(log: &[u8], bus: &[u8], room: &mut [u8], text: &mut 
 /// built-in table, its other lines by kind, and its unread lines. The answers are those of `j39_report`, but that no bus
 /// is named, and of what is told only the bytes count.
 #[unsafe(no_mangle)]
-pub extern "C" fn j39_survey(
-    alloc: Global,
-    log: &[u8],
-    room: &mut [u8],
-    text: &mut LogText,
-) -> u32
+pub extern "C" fn j39_survey(alloc: Global, log: &[u8], room: &mut [u8], text: &mut LogText) -> u32
     // What stands at the front of the room is the survey of the log's lines, and nothing else.
     ensures survey { result ≡ done → IsSurveyed the_table log.now text.new room.new }
 

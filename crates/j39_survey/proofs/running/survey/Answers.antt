@@ -18,8 +18,8 @@ pub returns-clause-cut_short : goal.returns-clause-cut_short
 returns-clause-cut_short g c = λ fails.
     let h = c.in-Ok-read_log.ensures.read_all c.in-Ok.ensures in
     IfSome_then (g.R.Source.remaining c.args.source.now) h.whole (λ (log : List ℕ) same.
-        subst (λ taken. WritesFront c.args.groups.now taken (g.W.Sink.held c.args.sink.now) (g.W.Sink.held c.put_survey.new.sink)) same
-        (front c.args.groups.now h.taken h.lines _ _ h.are_lines (c.in-Err-put_survey.ensures.err h.lines h.surveyed)))
+    subst (λ taken. WritesFront c.args.groups.now taken (g.W.Sink.held c.args.sink.now) (g.W.Sink.held c.put_survey.new.sink)) same
+    (front c.args.groups.now h.taken h.lines _ _ h.are_lines (c.in-Err-put_survey.ensures.err h.lines h.surveyed)))
 
 pub returns-clause-prefix : goal.returns-clause-prefix
 returns-clause-prefix g c =

@@ -5,7 +5,6 @@ use Rattle.j39_by_group.specs.ByGroup.{values_of}
 use Rattle.j39_frame.specs.Identifier.{pgn_of, source_of}
 use Rattle.j39_survey.specs.Groups.{sources_of}
 use Rattle.j39_survey.specs.Shown.{HasCounted}
-use Rattle.j39_survey.specs.declared.group_table.GroupCount.{GroupCount}
 use Rattle.j39_survey.proofs.GroupLemmas.{counted_more}
 use Rattle.j39_survey.proofs.group_table.GroupTable.add.Goals as goal
 
@@ -16,10 +15,13 @@ returns c = λ F f is h.
     let at_is : at ≡ pgn_of f.id = c.raw-at.ensures.value ∙ c.pgn.ensures ∙ ap pgn_of (sym is) in
     let source : c.source.result ≡ source_of f.id = c.source.ensures ∙ ap source_of (sym is) in
     let within : at < length items = omega (arith, h.all, c.raw-at.ensures.fits) in
-    let before = subst (λ (count : GroupCount). HasCounted count (sources_of at F)) (sym (c.get-count.ensures _)) (h.each at c.get-count.result c.raw-at.ensures.fits) in
-    let here = subst (λ (x : ℕ). HasCounted c.add.new.self (sources_of at F ++ x ∷ [])) source (c.add.ensures (sources_of at F) before) in
+    let count = c.change.ensures.0 in
+    let counted = c.change.ensures.1 in
+    let changed = c.change.ensures.2 in
+    let before = h.each at count c.raw-at.ensures.fits in
+    let here = subst (λ (x : ℕ). HasCounted count (sources_of at F ++ x ∷ [])) source (counted (sources_of at F) before) in
     record {
-      all = ap length c.set.ensures ∙ length-set items at c.add.new.self ∙ h.all;
-      each = λ pgn d below. subst (λ xs. HasCounted (get_or xs pgn d) (sources_of pgn (F ++ f ∷ []))) (sym c.set.ensures)
-          (counted_more items c.add.new.self at F f at_is within h.each here pgn d below);
+      all = ap length changed ∙ length-set items at count ∙ h.all;
+      each = λ pgn d below. subst (λ xs. HasCounted (get_or xs pgn d) (sources_of pgn (F ++ f ∷ []))) (sym changed)
+          (counted_more items count at F f at_is within h.each here pgn d below);
     }

@@ -8,5 +8,5 @@ use Rattle.j39_survey.proofs.group_table.GroupTable.count.Goals as goal
 pub returns : goal.returns
 unfolding group_of
 returns c = λ F h.
-    let count = c.get-count.result in
+    let count = c.get-count.result.now in
     ap (λ (count : GroupCount). group_record count) (c.get-count.ensures count) ∙ (h.each c.args.pgn count c.requires).counts_are
