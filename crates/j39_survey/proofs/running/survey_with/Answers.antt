@@ -7,23 +7,23 @@ use Rattle.j39_survey.specs.Run.{WritesFront}
 use Rattle.j39_survey.specs.SurveyText.{survey_text}
 use Rattle.j39_groups.specs.Row.{RowRecord}
 use Rattle.j39_survey.proofs.SurveyLemmas.{same_log_lines}
-use Rattle.j39_survey.proofs.running.survey.Goals as goal
+use Rattle.j39_survey.proofs.running.survey_with.Goals as goal
 
 -- of the bytes that were read
 front : (table : List RowRecord) (taken : List ℕ) (lines : List LogLine) (old new : Option (List ℕ)) → AreLogLines taken lines
     → AppendsFront old new (survey_text table lines) → WritesFront table taken old new
 front table taken lines old new here h = λ others are. subst (λ ls. AppendsFront old new (survey_text table ls)) (same_log_lines taken lines others here are) h
 
-pub returns-clause-cut_short : goal.returns-clause-cut_short
-returns-clause-cut_short g c = λ fails.
-    let h = c.in-Ok-read_log.ensures.read_all c.in-Ok.ensures in
+pub returns-in-Err-put_survey-clause-cut_short : goal.returns-in-Err-put_survey-clause-cut_short
+returns-in-Err-put_survey-clause-cut_short g c = λ start fails.
+    let h = c.in-Ok.ensures.read_all start in
     IfSome_then (g.R.Source.remaining c.args.source.now) h.whole (λ (log : List ℕ) same.
     subst (λ taken. WritesFront c.args.groups.now taken (g.W.Sink.held c.args.sink.now) (g.W.Sink.held c.put_survey.new.sink)) same
     (front c.args.groups.now h.taken h.lines _ _ h.are_lines (c.in-Err-put_survey.ensures.err h.lines h.surveyed)))
 
-pub returns-clause-prefix : goal.returns-clause-prefix
-returns-clause-prefix g c =
-    let h = c.in-Ok-read_log.ensures.read_all c.in-Ok.ensures in
+pub returns-in-Err-put_survey-clause-prefix : goal.returns-in-Err-put_survey-clause-prefix
+returns-in-Err-put_survey-clause-prefix g c = λ start.
+    let h = c.in-Ok.ensures.read_all start in
     record {
       taken = h.taken;
       consumed = h.consumed;
