@@ -95,6 +95,7 @@ function showLog(it, all) {
     return pair;
   }));
   showHint(it.counts);
+  showSurvey(it);
   showFaults(it);
   showNodes(it.nodes);
   showHead();
@@ -111,6 +112,12 @@ function showHint({ frames, other, unread, lines }) {
   if (frames && !lines) hints.push('Its frames hold none of the parameters that are read.');
   $('hint').textContent = hints.join(' ');
   $('hint').hidden = !hints.length;
+}
+
+// What the file is, open where it has no frame of the interface.
+function showSurvey({ survey, counts }) {
+  $('survey').textContent = survey;
+  $('survey-box').open = !counts.frames;
 }
 
 // A line is `(STAMP) AA NAME active|previous SPN FMI COUNT LAMPS WORDS`, `.. CODE - LAMPS` where the code's four bytes are of

@@ -60,13 +60,13 @@ function load(file, at, memory, tell) {
   }
 }
 
-// Calls with a room behind the log, a longer one where it is too small.
-function textOf(place, call, log, bus, room) {
-  const { it, told } = place;
-  const text = bus.at + PAGE;
+// Calls with what was put into the memory, and a room behind it, a longer one where it is too small.
+function textOf(place, call, slices, room) {
+  const { it, told, text } = place;
+  const words = slices.flatMap(({ at, size }) => [BigInt(at), BigInt(size)]);
   for (let most = room; ; most *= 2) {
     grow(it.memory, text + most);
-    const answer = it[call](BigInt(log.at), BigInt(log.size), BigInt(bus.at), BigInt(bus.size), BigInt(text), BigInt(most), BigInt(told));
+    const answer = it[call](...words, BigInt(text), BigInt(most), BigInt(told));
     if (answer === DONE) {
       const made = counts(it, told);
       return { counts: made, bytes: new Uint8Array(it.memory.buffer, text, made.bytes) };
@@ -80,20 +80,22 @@ function readLog(file, busName, tell) {
   const log = { at: place.free, size: file.size };
   const name = new TextEncoder().encode(busName);
   const bus = { at: log.at + log.size, size: name.length };
-  grow(place.it.memory, bus.at + PAGE);
+  place.text = bus.at + PAGE;
+  grow(place.it.memory, place.text);
   load(file, log.at, place.it.memory, tell);
   new Uint8Array(place.it.memory.buffer, bus.at, name.length).set(name);
   tell(0, 0);
-  const report = textOf(place, 'j39_report', log, bus, 2 * file.size + PAGE);
+  const report = textOf(place, 'j39_report', [log, bus], 2 * file.size + PAGE);
   index(report.bytes);
   const saved = new Blob([report.bytes], { type: 'text/plain' });
-  const holders = latin(textOf(place, 'j39_nodes', log, bus, PAGE).bytes).split('\n').filter(Boolean);
+  const holders = latin(textOf(place, 'j39_nodes', [log, bus], PAGE).bytes).split('\n').filter(Boolean);
   const nodes = holders.map(line => {
     const [address, nodeName] = line.split(' ');
     return { address, name: nodeName, fields: fieldsOf(place, nodeName) };
   });
-  const faults = textOf(place, 'j39_faults', log, bus, PAGE).bytes.slice();
-  return { name: file.name, size: file.size, counts: report.counts, nodes, report: saved, ...told(faults) };
+  const faults = textOf(place, 'j39_faults', [log, bus], PAGE).bytes.slice();
+  const survey = latin(textOf(place, 'j39_survey', [log], PAGE).bytes);
+  return { name: file.name, size: file.size, counts: report.counts, nodes, report: saved, survey, ...told(faults) };
 }
 
 // The lines of the fault codes, of which a page shows the first, and all to be saved.

@@ -2,6 +2,7 @@
 use Rattle.std.specs.Prelude.{◌≡◌, ◌==◌, ◌<◌, ◌/◌, ◌%◌, ℕ, List, Bool, length, map, get_or}
 use Rattle.std.specs.Int.{bit_at}
 use Rattle.std.specs.List.{list_any}
+use Rattle.j39_by_group.specs.ByGroup.{values_of}
 use Rattle.j39_frame.specs.Frame.{FrameRecord}
 use Rattle.j39_listen.specs.Counting.{capped}
 use Rattle.j39_survey.specs.Groups.{GroupRecord, of_sources, sources_of}
@@ -39,8 +40,8 @@ pub record HasCounted (count : GroupCount) (sources : List ℕ) : Type 0 where
 
 -- each group of these frames was counted
 pub record HaveCounted (table : GroupTable) (F : List FrameRecord) : Type 0 where
-  pub all : length table.counts.items ≡ 262144
-  pub each : (pgn : ℕ) (d : GroupCount) → pgn < 262144 → HasCounted (get_or table.counts.items pgn d) (sources_of pgn F)
+  pub all : length (values_of table.counts) ≡ 262144
+  pub each : (pgn : ℕ) (d : GroupCount) → pgn < 262144 → HasCounted (get_or (values_of table.counts) pgn d) (sources_of pgn F)
 
 -- ---- interfaces
 

@@ -5,6 +5,7 @@ ghost use Rattle.j39_frame.specs.Identifier.{id_raw, pgn_of, source_of};
 ghost use Rattle.j39_survey.specs.Groups.{group_of};
 
 use crate::addresses::Addresses;
+use j39_by_group::{ByGroup, Change};
 use j39_frame::Id;
 use std::alloc::{AllocError, Global};
 
@@ -43,13 +44,27 @@ impl GroupCount {
     }
 }
 
-/// How many groups there are.
-pub(crate) const GROUPS: usize = 262_144;
+/// A frame that an address sent.
+#[derive(Clone, Copy)]
+struct FrameFrom {
+    source: u8,
+}
+
+impl Change<GroupCount> for FrameFrom {
+    ghost use Rattle.j39_survey.specs.Shown.{HasCounted};
+
+    ghost changes = { λ frame old new. (sources : List ℕ) → HasCounted old sources
+        → HasCounted new (sources ++ frame.source ∷ []) };
+
+    fn make(self, count: &mut GroupCount) {
+        count.add(self.source);
+    }
+}
 
 /// What was counted of each group.
 #[derive(Drop)]
 pub(crate) struct GroupTable {
-    counts: Vec<GroupCount>,
+    counts: ByGroup<GroupCount>,
 }
 
 impl GroupTable {
@@ -60,7 +75,7 @@ impl GroupTable {
     pub fn new(alloc: Global) -> Result<GroupTable, AllocError>
         ensures { IfOk result (λ table. HaveCounted table []) }
     {
-        let counts = vec![in alloc; GroupCount::new(); GROUPS]?;
+        let counts = ByGroup::new(alloc, GroupCount::new())?;
         Ok(GroupTable { counts })
     }
 
@@ -70,9 +85,10 @@ impl GroupTable {
             → HaveCounted self.new (F ++ f ∷ []) }
     {
         let at = id.pgn().raw() as usize;
-        if at < self.counts.len() {
-            self.counts[at].add(id.source());
-        }
+        let frame = FrameFrom {
+            source: id.source(),
+        };
+        self.counts.change(at, frame);
     }
 
     /// What was counted of a group.
@@ -81,9 +97,7 @@ impl GroupTable {
         ensures { (F : List FrameRecord) → HaveCounted self.now F
             → record { frames = result.0; addresses = result.1 } ≡ group_of F pgn }
     {
-        match self.counts.get(pgn as usize) {
-            None => (0, 0),
-            Some(count) => (count.frames, count.addresses),
-        }
+        let count = self.counts.get(pgn as usize);
+        (count.frames, count.addresses)
     }
 }

@@ -2,7 +2,7 @@
 ghost use Rattle.std.specs.Prelude.{◌≡◌, ◌≢◌, ◌<◌, ◌≤◌, [], true, length, IfSome, OnOk, OnErr, Err};
 ghost use Rattle.j39_listen.specs.Run.{TakesWithin};
 ghost use Rattle.j39_listen.specs.declared.running.RunFault.TheVariants.{Memory, Read, TooLong, Write};
-ghost use Rattle.j39_survey.specs.Run.{StopsWithin, WritesSurvey};
+ghost use Rattle.j39_survey.specs.Run.{StopsWithin, WritesFront, WritesSurvey};
 ghost use Rattle.j39_survey.specs.Steps.{HasReadLog, HasTaken, TakesSome};
 
 use crate::pieces::Pieces;
@@ -48,15 +48,48 @@ pub fn survey<R: Source, W: Sink>(
     ensures silent { OnErr result (result ≢ Err Write
         → (W.held sink.new ≡ W.held sink.old) × (W.is_flushed sink.new ≡ W.is_flushed sink.old)) }
 
+    // What was written before a fault of the writer is a front of the survey of the whole log.
+    ensures cut_short { result ≡ Err Write → IfSome (R.remaining source.old)
+        (λ log. WritesFront groups.now log (W.held sink.old) (W.held sink.new)) }
+
     // What was written before a fault is a front of the survey of the bytes that were read.
     ensures prefix { OnErr result (StopsWithin groups.now (R.remaining source.old) (R.remaining source.new)
         (W.held sink.old) (W.held sink.new)) }
 {
-    let mut pieces = match Pieces::new(alloc) {
-        Ok(pieces) => pieces,
-        Err(_) => return Err(RunFault::Memory),
-    };
-    match read_log(&mut pieces, source, limit) {
+    match Pieces::new(alloc) {
+        Ok(mut pieces) => survey_with(&mut pieces, groups, source, sink, limit),
+        Err(_) => Err(RunFault::Memory),
+    }
+}
+
+/// Reads a log to its end, and writes its survey, with the pieces at the start of a log.
+fn survey_with<R: Source, W: Sink>(
+    pieces: &mut Pieces,
+    groups: &Groups<'_>,
+    source: &mut R,
+    sink: &mut W,
+    limit: u64,
+) -> Result<(), RunFault>
+    ensures survey { HasTaken pieces.old [] → OnOk result (IfSome (R.remaining source.old)
+        (λ log. WritesSurvey groups.now log (W.held sink.old) (W.held sink.new))) }
+    ensures short { HasTaken pieces.old [] → OnOk result (IfSome (R.remaining source.old)
+        (λ log. length log ≤ limit)) }
+    ensures too_long { result ≡ Err TooLong → IfSome (R.remaining source.old) (λ log. limit < length log) }
+    ensures read { result ≡ Err Read → R.has_failed source.new ≡ true }
+    ensures read_unmarked { result ≢ Err Read → R.has_failed source.new ≡ R.has_failed source.old }
+    ensures write { result ≡ Err Write → W.has_failed sink.new ≡ true }
+    ensures write_unmarked { result ≢ Err Write → W.has_failed sink.new ≡ W.has_failed sink.old }
+    ensures memory { result ≢ Err Memory }
+    ensures within { result ≢ Err TooLong → TakesWithin limit (R.remaining source.old) (R.remaining source.new) }
+    ensures flushed { OnOk result (W.is_flushed sink.new ≡ true) }
+    ensures silent { OnErr result (result ≢ Err Write
+        → (W.held sink.new ≡ W.held sink.old) × (W.is_flushed sink.new ≡ W.is_flushed sink.old)) }
+    ensures cut_short { HasTaken pieces.old [] → result ≡ Err Write → IfSome (R.remaining source.old)
+        (λ log. WritesFront groups.now log (W.held sink.old) (W.held sink.new)) }
+    ensures prefix { HasTaken pieces.old [] → OnErr result (StopsWithin groups.now (R.remaining source.old)
+        (R.remaining source.new) (W.held sink.old) (W.held sink.new)) }
+{
+    match read_log(pieces, source, limit) {
         Ok(()) => {}
         Err(fault) => return Err(fault),
     }

@@ -1,6 +1,7 @@
 -- A text that has no room.
 use Rattle.std.proofs.Common.{◌≡◌, ◌≢◌, ◌≤◌, ℕ, List, [], ◌∷◌, ◌++◌, Some, Option, refl, ap, sym, ◌∙◌, subst, append-nil, take, take_all, length, length-append, arith}
-use Rattle.std.specs.Prelude.{IfOk, MatchResult, Ok, Err, Result}
+use Rattle.std.proofs.lemmas.Bool.{false≢true}
+use Rattle.std.specs.Prelude.{IfErr, IfOk, IsOk, MatchResult, OnOk, Ok, Err, Result}
 use Rattle.j39_log.specs.Log.{frames_of}
 use Rattle.j39_log.proofs.LogLemmas.{same_log}
 use Rattle.j39_listen.specs.AccountSteps.{MakesOne}
@@ -9,7 +10,12 @@ use Rattle.j39_listen.specs.Run.{Writes, WritesFront, run_bus}
 use Rattle.j39_listen.specs.declared.counts.Counts.{Counts}
 use Rattle.j39_listen.specs.declared.running.RunFault.{RunFault}
 use Rattle.j39_listen.specs.declared.running.RunFault.TheVariants.{Memory, Read, Write, TooLong}
-use Rattle.j39_web.specs.Text.{Overflows}
+use Rattle.j39_groups.specs.Row.{RowRecord}
+use Rattle.j39_survey.specs.Run.{WritesSurvey}
+use Rattle.j39_survey.specs.Run.{WritesFront as WritesSurveyFront}
+use Rattle.j39_survey.specs.SurveyText.{survey_text}
+use Rattle.j39_survey.proofs.SurveyLemmas.{same_log_lines}
+use Rattle.j39_web.specs.Text.{Overflows, SurveyOverflows}
 
 first : ℕ → List ℕ → ℕ
 first d [] = d
@@ -61,3 +67,38 @@ overflows makes one given log log' (Err Write) z n m k xs ys room l e made front
 overflows makes one given log log' (Err Memory) z n m k xs ys room l e made front read long full none same = absurd (none refl)
 overflows makes one given log log' (Err Read) z n m k xs ys room l e made front read long full none same = absurd (read refl)
 overflows makes one given log log' (Err TooLong) z n m k xs ys room l e made front read long full none same = absurd (long refl)
+
+-- the survey of the log, in a room that has none left
+surveyed_made : (table : List RowRecord) (log : List ℕ) (n m k : ℕ) (ys room : List ℕ)
+    → WritesSurvey table log (Some (n ∷ [])) (Some (m ∷ take k ys)) → k ≡ length ys → (n ≡ m → ys ≡ room) → SurveyOverflows table log room
+surveyed_made table log n m k ys room w full same = λ lines are.
+    let text = ap (survey_text table) (same_log_lines log w.lines lines w.are_lines are) in
+    fills n m k ys room (survey_text table w.lines) [] (survey_text table lines) w.written (sym text ∙ sym (append-nil (survey_text table w.lines))) full same
+
+surveyed_front : (table : List RowRecord) (log : List ℕ) (n m k : ℕ) (ys room : List ℕ)
+    → WritesSurveyFront table log (Some (n ∷ [])) (Some (m ∷ take k ys)) → k ≡ length ys → (n ≡ m → ys ≡ room) → SurveyOverflows table log room
+surveyed_front table log n m k ys room h full same = λ lines are.
+    let f = h lines are in
+    fills n m k ys room f.0 f.1 (survey_text table lines) f.3 f.2 full same
+
+-- where a survey has no room
+pub survey_overflows : {U : Type 0} (table : List RowRecord) (log log' : List ℕ) (ran : Result U RunFault) (counted : Result Counts RunFault)
+    (z n m k : ℕ) (xs ys room : List ℕ)
+    → log' ≡ log → z ≡ 0
+    → OnOk ran (WritesSurvey table log' (Some (n ∷ take z xs)) (Some (m ∷ take k ys)))
+    → (ran ≡ Err Write → WritesSurveyFront table log' (Some (n ∷ take z xs)) (Some (m ∷ take k ys)))
+    → (ran ≡ Err Read → ⊥) → (ran ≡ Err TooLong → ⊥) → (ran ≡ Err Write → k ≡ length ys)
+    → OnOk ran (IsOk counted) → IfErr ran (λ fault. counted ≡ Err fault)
+    → MatchResult counted (λ _. k ≡ length ys) (λ fault. fault ≢ Memory)
+    → (n ≡ m → ys ≡ room) → SurveyOverflows table log room
+survey_overflows table log log' (Ok u) (Ok counts) z n m k xs ys room l e made front read long full ok err none same =
+    let w = subst (λ j. WritesSurvey table log' (Some (n ∷ take j xs)) (Some (m ∷ take k ys))) e made in
+    surveyed_made table log n m k ys room (subst (λ j. WritesSurvey table j (Some (n ∷ [])) (Some (m ∷ take k ys))) l w) none same
+survey_overflows table log log' (Ok u) (Err fault) z n m k xs ys room l e made front read long full ok err none same = absurd (false≢true ok)
+survey_overflows table log log' (Err Write) counted z n m k xs ys room l e made front read long full ok err none same =
+    let w = subst (λ j. WritesSurveyFront table log' (Some (n ∷ take j xs)) (Some (m ∷ take k ys))) e (front refl) in
+    surveyed_front table log n m k ys room (subst (λ j. WritesSurveyFront table j (Some (n ∷ [])) (Some (m ∷ take k ys))) l w) (full refl) same
+survey_overflows table log log' (Err Memory) counted z n m k xs ys room l e made front read long full ok err none same =
+    absurd (subst (λ r. MatchResult r (λ _. k ≡ length ys) (λ fault. fault ≢ Memory)) err none refl)
+survey_overflows table log log' (Err Read) counted z n m k xs ys room l e made front read long full ok err none same = absurd (read refl)
+survey_overflows table log log' (Err TooLong) counted z n m k xs ys room l e made front read long full ok err none same = absurd (long refl)

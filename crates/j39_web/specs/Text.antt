@@ -7,6 +7,9 @@ use Rattle.j39_listen.specs.Asking.{AsksAmong, Wanting}
 use Rattle.j39_listen.specs.Output.{Making, Output}
 use Rattle.j39_listen.specs.Run.{Writes, WritesPublished, run_bus}
 use Rattle.j39_listen.specs.declared.counts.Counts.{Counts}
+use Rattle.j39_survey.specs.LogLines.{AreLogLines, LogLine}
+use Rattle.j39_survey.specs.Run.{WritesSurvey}
+use Rattle.j39_survey.specs.SurveyText.{survey_text}
 use Rattle.j39_web.specs.declared.texts.LogText.{LogText}
 
 -- what was counted
@@ -35,3 +38,12 @@ Overflows makes given log room = (spelled : List Spelled) (output : Output) → 
 -- a frame of the log asks for memory
 abbrev pub AsksSomewhere : Wanting → Option (List ℕ) → List ℕ → Type 0
 AsksSomewhere asks given log = (front rest : List ℕ) × (log ≡ front ++ rest) × AsksAmong asks given front
+
+-- the bytes at the front of the room are the survey of the log, and nothing else
+abbrev pub IsSurveyed : List RowRecord → List ℕ → LogText → List ℕ → Type 0
+IsSurveyed table log text room = WritesSurvey table log (Some []) (Some (take text.bytes room))
+
+-- the survey of the log has as many bytes as the room, or more
+abbrev pub SurveyOverflows : List RowRecord → List ℕ → List ℕ → Type 0
+SurveyOverflows table log room = (lines : List LogLine) → AreLogLines log lines
+    → length room ≤ length (survey_text table lines)

@@ -12,7 +12,7 @@ ghost use Rattle.j39_listen.specs.Asking.{AsksForBoxes};
 ghost use Rattle.j39_listen.specs.Output.{MakesNodes, MakesReport};
 ghost use Rattle.j39_web.specs.Answers.{IsWrongBus, done, given_bus, no_memory, too_small, wrong_bus};
 ghost use Rattle.j39_web.specs.Fields.{fields_in};
-ghost use Rattle.j39_web.specs.Text.{AsksSomewhere, IsMade, IsPublished, Overflows};
+ghost use Rattle.j39_web.specs.Text.{AsksSomewhere, IsMade, IsPublished, IsSurveyed, Overflows, SurveyOverflows};
 
 mod answers;
 mod fields;
@@ -111,6 +111,23 @@ pub extern "C" fn j39_nodes(log: &[u8], bus: &[u8], room: &mut [u8], text: &mut 
         Some(bus) => answer(texts::nodes(log, bus, room), text),
         None => WRONG_BUS,
     }
+}
+
+/// Writes what a log is into a room, before any bus is chosen: how many lines it has, its interfaces, its groups, by the
+/// built-in table, its other lines by kind, and its unread lines. The answers are those of `j39_report`, but that no bus
+/// is named, and of what is told only the bytes count.
+#[unsafe(no_mangle)]
+pub extern "C" fn j39_survey(alloc: Global, log: &[u8], room: &mut [u8], text: &mut LogText) -> u32
+    // What stands at the front of the room is the survey of the log's lines, and nothing else.
+    ensures survey { result ≡ done → IsSurveyed the_table log.now text.new room.new }
+
+    // The room is too small exactly where the survey has as many bytes, or more.
+    ensures fits { result ≡ done → text.new.bytes < length room.new }
+    ensures too_small { result ≡ too_small → SurveyOverflows the_table log.now room.new }
+
+    ensures answers { result < wrong_bus }
+{
+    answer(texts::survey(alloc, log, room), text)
 }
 
 /// Writes the parameters that a report may hold into a room, a line for each. The answers are those of `j39_nodes`, and

@@ -1,5 +1,5 @@
 //! What is made of a log, in the room of a page.
-ghost use Rattle.std.specs.Prelude.{◌≡◌, ◌≢◌, ◌<◌, ◌≤◌, length, take, IfOk, Ok, Err};
+ghost use Rattle.std.specs.Prelude.{◌≡◌, ◌≢◌, ◌<◌, ◌≤◌, length, take, IfErr, IfOk, IsOk, OnOk, Ok, Err};
 ghost use Rattle.j39_fault_news.specs.Asking.{AsksForFaults};
 ghost use Rattle.j39_fault_news.specs.Output.{MakesFaults};
 ghost use Rattle.j39_fault_news.specs.declared.telling.Telling.TheVariants.{News};
@@ -9,7 +9,7 @@ ghost use Rattle.j39_listen.specs.Asking.{AsksForBoxes};
 ghost use Rattle.j39_listen.specs.Output.{MakesNodes, MakesReport};
 ghost use Rattle.j39_listen.specs.declared.running.RunFault.TheVariants as fault;
 ghost use Rattle.j39_web.specs.Room.{HasNoRoom, room_in, written_in};
-ghost use Rattle.j39_web.specs.Text.{AsksSomewhere, IsMade, IsPublished, Overflows, counts_in};
+ghost use Rattle.j39_web.specs.Text.{AsksSomewhere, IsMade, IsPublished, IsSurveyed, Overflows, SurveyOverflows, counts_in};
 ghost use Rattle.j39_web.specs.declared.texts.Refusal.TheVariants.{Memory, TooSmall};
 
 use crate::room::{LogBytes, Room};
@@ -144,6 +144,34 @@ pub fn faults(
     // As for the report.
     mem::forget(groups);
     told(ran, &sink)
+}
+
+/// Writes what a log is, before any bus is chosen: how many lines it has, its interfaces, its groups, by the built-in
+/// table, its other lines by kind, and its unread lines.
+pub fn survey(alloc: Global, log: &[u8], room: &mut [u8]) -> Result<LogText, Refusal>
+    ensures survey { IfOk result (λ text. IsSurveyed the_table log.now text room.new) }
+    ensures fits { IfOk result (λ text. text.bytes < length room.new) }
+    ensures too_small { result ≡ Err TooSmall → SurveyOverflows the_table log.now room.new }
+{
+    let mut source = LogBytes::new(log);
+    let mut sink = Room::new(room);
+    let groups = Groups::built_in();
+    let limit = log.len() as u64;
+    let ran = j39_survey::survey(alloc, &groups, &mut source, &mut sink, limit);
+    // As for the report.
+    mem::forget(groups);
+    told(uncounted(ran), &sink)
+}
+
+/// A run that counts nothing.
+fn uncounted(ran: Result<(), RunFault>) -> Result<Counts, RunFault>
+    ensures ok { OnOk ran (IsOk result) }
+    ensures err { IfErr ran (λ fault. result ≡ Err fault) }
+{
+    match ran {
+        Ok(()) => Ok(Counts::default()),
+        Err(fault) => Err(fault),
+    }
 }
 
 /// Writes the parameters that a report may hold.

@@ -1,11 +1,12 @@
 -- Each group is one of no frames.
+use Rattle.j39_by_group.specs.ByGroup.{values_of}
 use Rattle.j39_survey.proofs.GroupLemmas.{counted_start, length_start}
 use Rattle.j39_survey.proofs.group_table.GroupTable.new.Goals as goal
 
 pub returns : goal.returns
 returns c =
-    let same = c.in_ok-counts.ensures.items_if_clones_equal (λ y is. is) in
+    let same = c.in_ok-counts.ensures (λ y is. is) in
     record {
-      all = length_start c.in_ok-counts.counts.items 262144 c.new.result same;
-      each = counted_start c.in_ok-counts.counts.items 262144 c.new.result same c.new.ensures;
+      all = length_start (values_of c.in_ok-counts.counts) 262144 c.new.result same;
+      each = counted_start (values_of c.in_ok-counts.counts) 262144 c.new.result same c.new.ensures;
     }
