@@ -180,6 +180,11 @@ impl<'g, 't> Account for SummaryAccount<'g, 't> {
     #[inline(always)]
     fn meet<W: Sink>(&mut self, _: &Bus, frame: &Frame, _: &mut W) -> Result<(), LineFault> {
         match note(&mut self.listener, self.groups, &mut self.rows, frame) {
+            // Most frames are no message: their arm adds nothing.
+            Ok(0) => {
+                self.messages = self.messages.saturating_add(0);
+                Ok(())
+            }
             Ok(messages) => {
                 self.messages = self.messages.saturating_add(messages);
                 Ok(())
