@@ -10,7 +10,7 @@ use crate::group_table::GroupTable;
 use crate::interfaces::Interfaces;
 use crate::others::Others;
 use crate::unread::UnreadLines;
-use j39_log::{Line, OtherKind, RawLine, kind_of};
+use j39_log::{Bus, LastSecond, Line, OtherKind, RawLine, kind_of};
 use std::alloc::{AllocError, Global};
 
 /// What the lines so far are.
@@ -23,6 +23,9 @@ pub(crate) struct Survey {
     pub unread: UnreadLines,
     /// Whether a line had the form that `candump -L` writes.
     pub has_log_line: bool,
+    /// The interface that was read last, and the second: by them most lines are read.
+    bus: Option<Bus>,
+    second: LastSecond,
 }
 
 impl Survey {
@@ -40,6 +43,8 @@ impl Survey {
             others: Others::new(),
             unread: UnreadLines::new(),
             has_log_line: false,
+            bus: None,
+            second: LastSecond::new(),
         })
     }
 
@@ -50,11 +55,21 @@ impl Survey {
             → HasSurveyed self.old lines → HasSurveyed self.new (lines ++ line ∷ []) }
     {
         self.lines = self.lines.saturating_add(1);
+        // Most lines are of one interface and have the common form: of those no part's end is looked for.
+        if let Some(frame) = raw.frame_on(&mut self.second, &self.bus) {
+            if let Some(bus) = &self.bus {
+                self.interfaces.add(bus.bytes(), frame.stamp);
+                self.groups.add(frame.id);
+                self.has_log_line = true;
+            }
+            return;
+        }
         match raw.read() {
             Line::Frame { bus, frame } => {
                 self.interfaces.add(bus, frame.stamp);
                 self.groups.add(frame.id);
                 self.has_log_line = true;
+                self.bus = Bus::new(bus);
             }
             Line::Other => {
                 self.others.add(kind_in(raw));
