@@ -1,6 +1,6 @@
 //! What was handed in to send, and what became of it.
-ghost use Rattle.std.specs.Prelude.{◌≡◌, ◌∷◌, ◌++◌, []};
-ghost use Rattle.std.specs.Result.{OnOk};
+ghost use Rattle.std.specs.Prelude.{◌≡◌, ◌∷◌, ◌++◌, [], length, false};
+ghost use Rattle.std.specs.Result.{IfOk, OnOk};
 
 use j39_address::Name;
 use j39_controller::{Part, Received};
@@ -44,7 +44,11 @@ pub struct Book {
 
 impl Book {
     /// An empty book.
-    pub fn new(alloc: Global) -> Book {
+    pub fn new(alloc: Global) -> Book
+        ensures handed { result.handed.items ≡ [] }
+        ensures delivered { result.deliveries.items ≡ [] }
+        ensures done { result.done.items ≡ [] }
+    {
         Book {
             alloc,
             handed: Vec::new(alloc),
@@ -54,21 +58,31 @@ impl Book {
     }
 
     /// Notes a message that is handed in now, and answers its number.
-    pub fn hand_in(&mut self, message: Handed) -> Result<usize, AllocError> {
+    pub fn hand_in(&mut self, message: Handed) -> Result<usize, AllocError>
+        ensures number { IfOk result (λ number. number ≡ length self.old.handed.items) }
+        ensures last { OnOk result (self.new.handed.items ≡ self.old.handed.items ++ message ∷ []) }
+        ensures rest { self.new ≡ record self.old { handed = self.new.handed } }
+    {
         let number = self.handed.len();
         self.handed.push(message)?;
         Ok(number)
     }
 
     /// Notes that a frame was seen on the bus.
-    pub fn seen(&mut self, part: Part, now: Stamp) {
+    pub fn seen(&mut self, part: Part, now: Stamp)
+        ensures open { part.is_last ≡ false → self.new ≡ self.old }
+        ensures rest { self.new ≡ record self.old { handed = self.new.handed } }
+    {
         if part.is_last {
             self.settle(part.number, Fate::Whole(now));
         }
     }
 
     /// Notes what became of a message, where it was open.
-    pub fn settle(&mut self, number: usize, fate: Fate) {
+    pub fn settle(&mut self, number: usize, fate: Fate)
+        ensures count { length self.new.handed.items ≡ length self.old.handed.items }
+        ensures rest { self.new ≡ record self.old { handed = self.new.handed } }
+    {
         if let Some(message) = self.handed.get_mut(number) {
             if message.fate == Fate::Open {
                 message.fate = fate;
@@ -105,7 +119,9 @@ impl Book {
     }
 
     /// All messages that were handed in, in order; each one's number is its place.
-    pub fn handed(&self) -> &[Handed] {
+    pub fn handed(&self) -> &[Handed]
+        ensures { result.now ≡ self.now.handed.items }
+    {
         self.handed.as_slice()
     }
 
@@ -118,12 +134,16 @@ impl Book {
     }
 
     /// What receivers delivered, in order.
-    pub fn deliveries(&self) -> &[Received] {
+    pub fn deliveries(&self) -> &[Received]
+        ensures { result.now ≡ self.now.deliveries.items }
+    {
         self.deliveries.as_slice()
     }
 
     /// The numbers of the messages that senders count as done, in order.
-    pub fn done(&self) -> &[usize] {
+    pub fn done(&self) -> &[usize]
+        ensures { result.now ≡ self.now.done.items }
+    {
         self.done.as_slice()
     }
 }
