@@ -43,6 +43,10 @@ pub struct Book {
 }
 
 impl Book {
+    ghost use Rattle.std.specs.Prelude.{◌≡◌, ℕ, Some, slice_get};
+    ghost use Rattle.simulated_bus.specs.declared.book.Handed.{Handed};
+    ghost use Rattle.simulated_bus.specs.declared.book.Fate.TheVariants.{Open};
+
     /// An empty book.
     pub fn new(alloc: Global) -> Book
         ensures handed { result.handed.items ≡ [] }
@@ -81,6 +85,10 @@ impl Book {
     /// Notes what became of a message, where it was open.
     pub fn settle(&mut self, number: usize, fate: Fate)
         ensures count { length self.new.handed.items ≡ length self.old.handed.items }
+        ensures others { (k : ℕ) → (k ≡ number → ⊥)
+            → slice_get self.new.handed.items k ≡ slice_get self.old.handed.items k }
+        ensures open { (message : Handed) → slice_get self.old.handed.items number ≡ Some message → message.fate ≡ Open
+            → slice_get self.new.handed.items number ≡ Some (record message { fate = fate }) }
         ensures rest { self.new ≡ record self.old { handed = self.new.handed } }
     {
         if let Some(message) = self.handed.get_mut(number) {
