@@ -11,7 +11,7 @@ const MEMORY64 = new Uint8Array([0, 97, 115, 109, 1, 0, 0, 0, 5, 3, 1, 4, 1]);
 const $ = id => document.getElementById(id);
 const number = n => n.toLocaleString('en');
 const count = (n, word) => `${number(n)} ${word}${n === 1 ? '' : 's'}`;
-let worker = null, log = null, rows = [], chosen = [], order = { by: null, falls: false };
+let worker = null, file = null, log = null, rows = [], chosen = [], order = { by: null, falls: false };
 let plots = [], ticket = 0, shownFrom = 0, shownTo = 0;
 
 function say(text, isFault) {
@@ -41,15 +41,16 @@ function start() {
   worker.postMessage({ module }, [module.buffer]);
 }
 
-function read(file) {
-  if (!worker || !file) return;
+function read(chosenFile) {
+  if (!worker || !chosenFile) return;
+  file = chosenFile;
   $('result').hidden = true;
   delete document.body.dataset.done;
   forgetPlots();
   log = null;
   if (file.size === 0) return say(`${file.name} is empty.`, true);
   say(`Reading ${file.name}`);
-  worker.postMessage({ file, bus: $('bus').value.trim() });
+  worker.postMessage({ file, bus: $('bus').value.trim(), table: $('table').files[0] });
 }
 
 function fail(words) {
@@ -64,6 +65,7 @@ function hear({ data }) {
   else if (data.log) showLog(data.log, data.rows);
   else if (data.plotted) draw(data.plotted, data.ticket);
   else if (data.values) save(data.values, `${stem()}-values.csv`);
+  else if (data.report) saveReport(data.report);
 }
 
 function showProgress({ done, all }) {
@@ -74,8 +76,14 @@ function showProgress({ done, all }) {
     bar.value = done;
   } else {
     bar.removeAttribute('value');
-    say('Making the report');
+    say(log ? 'Making the report' : 'Reading its values');
   }
+}
+
+const isDrawn = row => row.isPlotted && row.count > 1;
+
+function sayRead() {
+  say(`${log.name}: ${count(log.counts.values, 'value')} of ${count(rows.length, 'parameter')}`);
 }
 
 // ---- the log and its nodes ----------------------------------------------------------------------
@@ -85,10 +93,11 @@ function showLog(it, all) {
   order = { by: null, falls: false };
   $('progress').hidden = true;
   $('filter').value = '';
-  const { frames, other, unread, messages, lines } = it.counts;
-  say(`${it.name}: ${count(lines, 'value')} of ${count(rows.length, 'parameter')}`);
+  const { frames, other, unread, messages, values } = it.counts;
+  sayRead();
   const facts = { log: it.name, size: `${(it.size / 1e6).toFixed(1)} MB`, frames: number(frames), 'other lines': number(other),
-    'unread lines': number(unread), messages: number(messages), values: number(lines) };
+    'unread lines': number(unread), messages: number(messages), values: number(values) };
+  if (it.table) facts.table = it.table;
   $('facts').replaceChildren(...Object.entries(facts).map(([name, value]) => {
     const pair = element('div');
     pair.append(element('dt', name), element('dd', value));
@@ -100,16 +109,16 @@ function showLog(it, all) {
   showNodes(it.nodes);
   showHead();
   showRows();
-  choose(rows.find(row => row.spn === '190' && row.n > 1) || rows.find(row => row.n > 1));
+  choose(rows.find(row => row.spn === '190' && isDrawn(row)) || rows.find(isDrawn));
   $('result').hidden = false;
   document.body.dataset.done = JSON.stringify(it.counts);
 }
 
-function showHint({ frames, other, unread, lines }) {
+function showHint({ frames, other, unread, values }) {
   const hints = [];
   if (!frames && unread) hints.push('None of its lines was read: this page reads what candump -l or candump -L writes.');
   if (!frames && other) hints.push('It has no frame of this interface: leave the interface empty, or name another one.');
-  if (frames && !lines) hints.push('Its frames hold none of the parameters that are read.');
+  if (frames && !values) hints.push('Its frames hold none of the parameters that are read.');
   $('hint').textContent = hints.join(' ');
   $('hint').hidden = !hints.length;
 }
@@ -175,12 +184,10 @@ function rowOf(cells) {
 
 // ---- the parameters -----------------------------------------------------------------------------
 
-const bare = (text, unit) => unit && text.endsWith(` ${unit}`) ? text.slice(0, -unit.length - 1) : text;
 const COLUMNS = [
   ['address', row => row.address, ''], ['NAME', row => row.name, 'code'], ['PGN', row => row.pgn, 'n'], ['group', row => row.group, ''],
   ['SPN', row => row.spn, 'n'], ['name', row => row.title, ''], ['unit', row => row.unit, ''], ['values', row => row.count, 'n'],
-  ['least', row => bare(row.least, row.unit), 'n'], ['most', row => bare(row.most, row.unit), 'n'],
-  ['first', row => bare(row.first, row.unit), 'n long'], ['last', row => bare(row.last, row.unit), 'n long'],
+  ['least', row => row.least, 'n'], ['most', row => row.most, 'n'], ['first', row => row.first, 'n long'], ['last', row => row.last, 'n long'],
 ];
 
 function showHead() {
@@ -233,7 +240,7 @@ function showRows() {
     const tick = element('input');
     tick.type = 'checkbox';
     tick.checked = chosen.includes(row.i);
-    tick.disabled = !row.n || (!tick.checked && chosen.length >= MOST_PLOTS);
+    tick.disabled = !row.isPlotted || (!tick.checked && chosen.length >= MOST_PLOTS);
     tick.setAttribute('aria-label', `Plot ${titleOf(row)}`);
     tick.onchange = () => choose(row);
     const cell = element('td');
@@ -341,12 +348,23 @@ function saveTable() {
   save(new Blob([lines.map(cells => cells.map(field).join(',') + '\n').join('')], { type: 'text/csv' }), `${stem()}.csv`);
 }
 
-$('save-report').onclick = () => save(log.report, `${stem()}.report.txt`);
+function saveReport(report) {
+  $('progress').hidden = true;
+  sayRead();
+  save(report, `${stem()}.report.txt`);
+}
+
+$('save-report').onclick = () => worker.postMessage({ report: true });
 $('save-table').onclick = saveTable;
 $('save-faults').onclick = () => save(log.faultText, `${stem()}.faults.txt`);
 $('save-values').onclick = () => worker.postMessage({ values: chosen });
 $('whole').onclick = showWhole;
 $('filter').oninput = showRows;
+$('table').onchange = () => read(file);
+$('no-table').onclick = () => {
+  $('table').value = '';
+  read(file);
+};
 $('file').onchange = event => {
   read(event.target.files[0]);
   event.target.value = '';

@@ -1,16 +1,19 @@
-// Reads a log with the proved module, and keeps what the page asks for.
-// It is told {module} once, and then {file, bus}, {plot, from, to, points, ticket} or {values}.
+// Reads a log with the proved module, and keeps the log for what the page asks for later: values to plot, and the report.
+// It is told {module} once, and then {file, bus, table}, {plot, from, to, points, ticket}, {values} or {report}.
 'use strict';
-const PAGE = 65536, STEP = 4 << 20, TOLD = 64;
-const DONE = 0, TOO_SMALL = 2, MOST_FAULTS = 1000;
+const PAGE = 65536, STEP = 4 << 20, TOLD = 64, ROOM = 1 << 20;
+const DONE = 0, TOO_SMALL = 2, WRONG_TABLE = 4, MOST_FAULTS = 1000;
+const MOST_TABLE = 1 << 20; // bytes of a table; the module refuses more
+const MOST_KEPT = 4; // how many parameters' values are kept: as many as are plotted at once
 const REFUSALS = { 1: 'out of memory', 3: 'that is no name of an interface' };
 const NAME_FIELDS = ['arbitrary', 'industry', 'systemInstance', 'system', 'reserved', 'function',
   'functionInstance', 'ecuInstance', 'manufacturer', 'identity'];
 
 let compiled = null;
-let table = null; // 'PGN SPN' -> {group, unit, title}
-let series = []; // one for each parameter of each controller
 let start = null; // that the module is there: a file may come before
+let asked = null; // the log that is shown: {file, bus, table, names, rows}
+let place = null; // where it lies in a module's memory; none once its report was made, until it is wanted again
+let kept = new Map(); // a parameter (SPN) -> its values in the log, by place of their row
 
 function grow(memory, bytes) {
   const pages = Math.ceil((bytes - memory.buffer.byteLength) / PAGE);
@@ -32,18 +35,6 @@ function counts(it, told) {
   return { frames, other, unread, messages, lines, bytes };
 }
 
-function readTable() {
-  const { it, told, free } = instance();
-  if (it.j39_groups(BigInt(free), BigInt(PAGE), BigInt(told)) !== DONE) throw new Error('the table has no room');
-  const rows = new Map();
-  for (const line of latin(new Uint8Array(it.memory.buffer, free, counts(it, told).bytes)).split('\n')) {
-    if (!line) continue;
-    const [pgn, group, spn, , , , unit, ...title] = line.split(' ');
-    rows.set(pgn + ' ' + spn, { group, unit: unit === '-' ? '' : unit, title: title.join(' ') });
-  }
-  return rows;
-}
-
 function fieldsOf({ it, told }, name) {
   it.j39_name(BigInt.asIntN(64, BigInt('0x' + name)), BigInt(told));
   const words = new Uint32Array(it.memory.buffer, told, NAME_FIELDS.length);
@@ -60,42 +51,94 @@ function load(file, at, memory, tell) {
   }
 }
 
-// Calls with what was put into the memory, and a room behind it, a longer one where it is too small.
-function textOf(place, call, slices, room) {
-  const { it, told, text } = place;
+// Puts bytes into the module's memory behind what is there.
+function put(place, bytes) {
+  const slice = { at: place.free, size: bytes.length };
+  place.free += (bytes.length + 7) & ~7;
+  grow(place.it.memory, place.free);
+  new Uint8Array(place.it.memory.buffer, slice.at, slice.size).set(bytes);
+  return slice;
+}
+
+// Calls with what was put into the memory, and a room behind it, a longer one where it is too small. The text is in the
+// module's memory, and stays there until the next call.
+function textOf({ it, told, free }, call, slices, room, besides = DONE) {
   const words = slices.flatMap(({ at, size }) => [BigInt(at), BigInt(size)]);
   for (let most = room; ; most *= 2) {
-    grow(it.memory, text + most);
-    const answer = it[call](...words, BigInt(text), BigInt(most), BigInt(told));
-    if (answer === DONE) {
+    grow(it.memory, free + most);
+    const answer = it[call](...words, BigInt(free), BigInt(most), BigInt(told));
+    if (answer === DONE || answer === besides) {
       const made = counts(it, told);
-      return { counts: made, bytes: new Uint8Array(it.memory.buffer, text, made.bytes) };
+      return { answer, counts: made, bytes: new Uint8Array(it.memory.buffer, free, made.bytes) };
     }
     if (answer !== TOO_SMALL) throw new Error(REFUSALS[answer] || 'answer ' + answer);
   }
 }
 
-function readLog(file, busName, tell) {
-  const place = instance();
-  const log = { at: place.free, size: file.size };
-  const name = new TextEncoder().encode(busName);
-  const bus = { at: log.at + log.size, size: name.length };
-  place.text = bus.at + PAGE;
-  grow(place.it.memory, place.text);
-  load(file, log.at, place.it.memory, tell);
-  new Uint8Array(place.it.memory.buffer, bus.at, name.length).set(name);
+// The log that is shown in an instance's memory, with its interface's name and its table; read once more where need be.
+function logPlace(tell) {
+  if (place) return place;
+  const it = instance();
+  const log = { at: it.free, size: asked.file.size };
+  it.free += (log.size + 7) & ~7;
+  grow(it.it.memory, it.free);
+  load(asked.file, log.at, it.it.memory, tell);
+  it.given = [log, put(it, asked.bus), put(it, asked.table)];
+  place = it;
+  return it;
+}
+
+// The groups' names by the table, 'PGN SPN' -> name; and the words for a table that is none.
+function groupNames(given) {
+  const it = instance();
+  const table = put(it, given.bytes);
+  const { answer, bytes } = textOf(it, 'j39_groups', [table], ROOM, WRONG_TABLE);
+  const text = latin(bytes);
+  if (answer === WRONG_TABLE) throw new Error(given.name + text);
+  const names = new Map();
+  for (const line of text.split('\n')) {
+    const [pgn, group, spn] = line.split(' ');
+    if (line) names.set(pgn + ' ' + spn, group);
+  }
+  return names;
+}
+
+// The bytes of the user's table; none without one.
+function tableOf(file) {
+  if (!file) return { name: '', bytes: new Uint8Array(0) };
+  if (file.size === 0) throw new Error(`${file.name} is empty`);
+  const front = file.slice(0, MOST_TABLE + 1);
+  return { name: file.name, bytes: new Uint8Array(new FileReaderSync().readAsArrayBuffer(front)) };
+}
+
+function readLog({ file, bus, table }, tell) {
+  const given = tableOf(table);
+  place = null;
+  kept = new Map();
+  asked = { file, bus: new TextEncoder().encode(bus), table: given.bytes, names: groupNames(given), rows: [] };
+  const it = logPlace(tell);
+  const [log, named, rows] = it.given;
   tell(0, 0);
-  const report = textOf(place, 'j39_report', [log, bus], 2 * file.size + PAGE);
-  index(report.bytes);
-  const saved = new Blob([report.bytes], { type: 'text/plain' });
-  const holders = latin(textOf(place, 'j39_nodes', [log, bus], PAGE).bytes).split('\n').filter(Boolean);
-  const nodes = holders.map(line => {
-    const [address, nodeName] = line.split(' ');
-    return { address, name: nodeName, fields: fieldsOf(place, nodeName) };
+  const summary = textOf(it, 'j39_summary', it.given, 4 * ROOM);
+  asked.rows = rowsOf(latin(summary.bytes), asked.names);
+  const nodes = latin(textOf(it, 'j39_nodes', [log, named], PAGE).bytes).split('\n').filter(Boolean).map(line => {
+    const [address, name] = line.split(' ');
+    return { address, name, fields: fieldsOf(it, name) };
   });
-  const faults = textOf(place, 'j39_faults', [log, bus], PAGE).bytes.slice();
-  const survey = latin(textOf(place, 'j39_survey', [log], PAGE).bytes);
-  return { name: file.name, size: file.size, counts: report.counts, nodes, report: saved, survey, ...told(faults) };
+  const faults = told(textOf(it, 'j39_faults', it.given, ROOM).bytes.slice());
+  const survey = latin(textOf(it, 'j39_survey', [log, rows], ROOM).bytes);
+  const { frames, other, unread, messages } = summary.counts;
+  const values = asked.rows.reduce((sum, row) => sum + row.count, 0);
+  return { name: file.name, size: file.size, table: given.name, counts: { frames, other, unread, messages, values },
+    nodes, survey, ...faults };
+}
+
+// The report of the whole log. Its room is as much memory again, and more, and goes with the instance.
+function report(tell) {
+  const it = logPlace(tell);
+  tell(0, 0);
+  place = null;
+  return new Blob([textOf(it, 'j39_report', it.given, 2 * asked.file.size + PAGE).bytes], { type: 'text/plain' });
 }
 
 // The lines of the fault codes, of which a page shows the first, and all to be saved.
@@ -104,39 +147,52 @@ function told(bytes) {
   return { faults: lines.slice(0, MOST_FAULTS), faultLines: lines.length, faultText: new Blob([bytes], { type: 'text/plain' }) };
 }
 
-// ---- what the page shows, out of the lines of the report --------------------------------------
+// ---- the rows of the summary --------------------------------------------------------------------
 
-class Series {
-  constructor(key, words) {
-    [this.address, this.name, this.pgn, this.spn] = words.split(' ');
-    this.key = key;
-    this.count = 0;
-    this.n = 0;
-    this.at = new Float64Array(64);
-    this.value = new Float64Array(64);
-    this.low = this.high = -1; // which numbers are the least and the most
-  }
-
-  put(at, value, from, to) {
-    if (this.n === this.at.length) {
-      this.at = twice(this.at);
-      this.value = twice(this.value);
+// The fields of each record of comma-separated values (RFC 4180), but of the first; one in quotes keeps them.
+function recordsOf(text) {
+  const records = [];
+  let fields = [];
+  for (let i = 0; i < text.length; i++) {
+    let end = i;
+    if (text[i] === '"') {
+      do end = text.indexOf('"', end + 1) + 1; while (text[end] === '"');
+      fields.push(`"${text.slice(i + 1, end - 1).replaceAll('""', '"')}"`);
+    } else {
+      while (text[end] !== ',' && text[end] !== '\r') end++;
+      fields.push(text.slice(i, end));
     }
-    if (this.low < 0 || value < this.value[this.low]) [this.low, this.leastAt] = [this.n, [from, to]];
-    if (this.high < 0 || value > this.value[this.high]) [this.high, this.mostAt] = [this.n, [from, to]];
-    this.at[this.n] = at;
-    this.value[this.n++] = value;
+    i = end;
+    if (text[i] === '\r') {
+      records.push(fields);
+      fields = [];
+      i++;
+    }
   }
+  return records.slice(1);
 }
 
-function twice(numbers) {
-  const longer = new Float64Array(2 * numbers.length);
-  longer.set(numbers);
-  return longer;
+const isQuoted = field => field.startsWith('"');
+const bare = field => isQuoted(field) ? field.slice(1, -1) : field;
+
+// What the page shows of each parameter of a controller, in the module's words. A text is in quotes; it isn't plotted, nor is
+// what has words alone, as `error`.
+function rowsOf(text, names) {
+  const rows = recordsOf(text).map(fields => {
+    const [address, name, pgn, spn, title, count, words, begin, , end, , least, most, unit, first, last] = fields;
+    return {
+      address, name: name || '-'.repeat(16), pgn, group: names.get(pgn + ' ' + spn) || '', spn, title: bare(title), unit: bare(unit), count: Number(count),
+      first, last, least, most, isPlotted: count !== words && !isQuoted(first) && !isQuoted(last), begin: Number(begin), end: Number(end),
+    };
+  });
+  rows.sort((x, y) => x.address.localeCompare(y.address) || x.pgn - y.pgn || x.spn - y.spn || x.name.localeCompare(y.name));
+  rows.forEach((row, i) => { row.i = i; });
+  return rows;
 }
+
+// ---- the values of a parameter, out of the lines of its report ------------------------------------
 
 const SPACE = 32, NEWLINE = 10, DOT = 46, MINUS = 45, ZERO = 48, NINE = 57, CLOSE = 41, LETTER_N = 110, LETTER_O = 111;
-const KEY = 20; // AA, a space, a NAME of 16 letters, and a space
 
 const isDigit = byte => byte >= ZERO && byte <= NINE;
 
@@ -156,53 +212,48 @@ function numberAt(b, i) {
 
 function same(key, b, from) {
   for (let i = 0; i < key.length; i++) if (key[i] !== b[from + i]) return false;
-  return true;
+  return b[from + key.length] === SPACE;
 }
 
-// Lines are `(SECONDS.MICROS) AA NAME PGN SPN VALUE[ UNIT]`.
-function index(b) {
-  const known = new Map(); // a sum of the key -> its series
-  series = [];
+// Takes each value to its row. Lines are `(SECONDS.MICROS) AA NAME PGN SPN VALUE[ UNIT]`; each is of one of these rows.
+function index(b, rows) {
+  const all = rows.map(({ i, address, name, pgn, spn, count }) => ({
+    i, key: new TextEncoder().encode(`${address} ${name} ${pgn} ${spn}`), n: 0, at: new Float64Array(count), value: new Float64Array(count),
+  }));
+  let it = all[0];
   for (let i = 0; i < b.length;) {
     let seconds = 0, micros = 0, p = i + 1;
     for (; b[p] !== DOT; p++) seconds = seconds * 10 + (b[p] - ZERO);
     for (p++; b[p] !== CLOSE; p++) micros = micros * 10 + (b[p] - ZERO);
     const key = p + 2;
-    let sum = 2166136261;
-    for (p = key; p < key + KEY; p++) sum = Math.imul(sum ^ b[p], 16777619);
-    for (let spaces = 0; b[p] !== SPACE || ++spaces < 2; p++) sum = Math.imul(sum ^ b[p], 16777619);
-    const from = p + 1;
-    const end = b.indexOf(NEWLINE, from);
-    const alike = known.get(sum) || known.set(sum, []).get(sum);
-    let it = alike.find(one => one.key.length === p - key && same(one.key, b, key));
-    if (!it) {
-      it = new Series(b.slice(key, p), latin(b.slice(key, p)));
-      it.firstAt = [from, end];
-      alike.push(it);
-      series.push(it);
-    }
-    it.count++;
-    it.lastAt = [from, end];
+    if (!same(it.key, b, key)) it = all.find(one => same(one.key, b, key));
+    const from = key + it.key.length + 1;
     const value = numberAt(b, from);
-    if (value !== undefined) it.put(seconds + micros / 1e6, value, from, end);
-    i = end + 1;
+    if (value !== undefined) {
+      it.at[it.n] = seconds + micros / 1e6;
+      it.value[it.n++] = value;
+    }
+    i = b.indexOf(NEWLINE, from) + 1;
   }
-  for (const it of series) settle(it, b);
-  series.sort((x, y) => x.address.localeCompare(y.address) || x.pgn - y.pgn || x.spn - y.spn || x.name.localeCompare(y.name));
+  return new Map(all.map(one => [one.i, one]));
 }
 
-// The words of a parameter; what is shown of its values are the report's own words.
-function settle(it, b) {
-  const about = table.get(it.pgn + ' ' + it.spn) || { group: '', unit: '', title: '' };
-  const words = place => place ? latin(b.slice(...place)) : '';
-  Object.assign(it, about, { first: words(it.firstAt), last: words(it.lastAt), least: words(it.leastAt), most: words(it.mostAt) });
+// The values of a row: of all rows of its parameter, in one report of that parameter alone.
+function seriesOf(i, tell) {
+  const spn = asked.rows[i].spn;
+  if (!kept.has(spn)) {
+    const rows = asked.rows.filter(row => row.spn === spn);
+    const it = logPlace(tell);
+    const free = it.free;
+    const spns = put(it, new Uint8Array(Uint32Array.of(Number(spn)).buffer));
+    const lines = rows.reduce((sum, row) => sum + row.count * (80 + row.unit.length), 0);
+    const bytes = textOf(it, 'j39_values', [...it.given, { at: spns.at, size: 1 }], lines + PAGE).bytes;
+    if (kept.size >= MOST_KEPT) kept.delete(kept.keys().next().value);
+    kept.set(spn, index(bytes, rows));
+    it.free = free;
+  }
+  return kept.get(spn).get(i);
 }
-
-const rows = () => series.map((it, i) => ({
-  i, address: it.address, name: it.name, pgn: it.pgn, group: it.group, spn: it.spn, title: it.title, unit: it.unit,
-  count: it.count, first: it.first, last: it.last, least: it.least, most: it.most, n: it.n,
-  begin: it.at[0], end: it.at[it.n - 1],
-}));
 
 function placeOf(at, n, x) {
   let low = 0, high = n;
@@ -215,8 +266,8 @@ function placeOf(at, n, x) {
 }
 
 // At most so many points of a stretch of time: the least and the most of each slice, so that no peak is lost.
-function plot(i, from, to, points) {
-  const { at, value, n } = series[i];
+function plot(i, from, to, points, tell) {
+  const { at, value, n } = seriesOf(i, tell);
   const first = Math.max(0, placeOf(at, n, from) - 1);
   const last = Math.min(n, placeOf(at, n, to) + 1);
   const out = [];
@@ -240,10 +291,11 @@ function plot(i, from, to, points) {
 }
 
 // The values of some parameters as lines of comma-separated values, in parts that are no longer than a text may be.
-function values(chosen) {
+function values(chosen, tell) {
   const parts = ['address,NAME,PGN,SPN,seconds,value\n'];
   for (const i of chosen) {
-    const { address, name, pgn, spn, at, value, n } = series[i];
+    const { address, name, pgn, spn } = asked.rows[i];
+    const { at, value, n } = seriesOf(i, tell);
     for (let k = 0; k < n; k += 20000) {
       let text = '';
       for (let j = k; j < Math.min(n, k + 20000); j++) text += `${address},${name},${pgn},${spn},${at[j].toFixed(6)},${value[j]}\n`;
@@ -255,8 +307,7 @@ function values(chosen) {
 
 async function begin(bytes) {
   compiled = await WebAssembly.compile(bytes);
-  table = readTable();
-  postMessage({ ready: table.size });
+  postMessage({ ready: groupNames(tableOf(null)).size });
 }
 
 let spoke = 0;
@@ -274,12 +325,14 @@ async function hear(data) {
   }
   await start;
   if (data.file) {
-    const log = readLog(data.file, data.bus, tellProgress);
-    postMessage({ log, rows: rows() });
+    const log = readLog(data, tellProgress);
+    postMessage({ log, rows: asked.rows });
   } else if (data.plot !== undefined) {
-    postMessage({ plotted: plot(data.plot, data.from, data.to, data.points), ticket: data.ticket });
+    postMessage({ plotted: plot(data.plot, data.from, data.to, data.points, tellProgress), ticket: data.ticket });
   } else if (data.values) {
-    postMessage({ values: values(data.values) });
+    postMessage({ values: values(data.values, tellProgress) });
+  } else if (data.report) {
+    postMessage({ report: report(tellProgress) });
   }
 }
 

@@ -3,6 +3,7 @@
 
 mod columns;
 mod fault;
+mod fault_text;
 mod field;
 pub mod laws;
 mod line;

@@ -14,6 +14,9 @@ too_small = 2
 abbrev pub wrong_bus : ℕ
 wrong_bus = 3
 
+abbrev pub wrong_table : ℕ
+wrong_table = 4
+
 -- no bytes give no bus
 abbrev pub given_bus : List ℕ → Option (List ℕ)
 given_bus [] = None

@@ -6,3 +6,5 @@ pub mod Text
 pub mod Answers
 -- the fields of a NAME that a page is told
 pub mod Fields
+-- the table that a page gives
+pub mod Tables

@@ -6,12 +6,15 @@ ghost use Rattle.j39_address.specs.Name.{fields_of};
 ghost use Rattle.j39_fault_news.specs.Asking.{AsksForFaults};
 ghost use Rattle.j39_fault_news.specs.Output.{MakesFaults};
 ghost use Rattle.j39_fault_news.specs.declared.telling.Telling.TheVariants.{News};
-ghost use Rattle.j39_groups.specs.Printed.{parameters_text};
-ghost use Rattle.j39_groups.specs.Table.{the_table};
+ghost use Rattle.j39_groups.specs.Printed.{rows_text};
 ghost use Rattle.j39_listen.specs.Asking.{AsksForBoxes};
 ghost use Rattle.j39_listen.specs.Output.{MakesNodes, MakesReport};
-ghost use Rattle.j39_web.specs.Answers.{IsWrongBus, done, given_bus, no_memory, too_small, wrong_bus};
+ghost use Rattle.j39_summary.specs.Summaries.{AsksForRows, MakesSummaryRecords};
+ghost use Rattle.j39_table.specs.FaultWords.{fault_text};
+ghost use Rattle.j39_table.specs.declared.fault.TableFault.{TableFault};
+ghost use Rattle.j39_web.specs.Answers.{IsWrongBus, done, given_bus, no_memory, too_small, wrong_bus, wrong_table};
 ghost use Rattle.j39_web.specs.Fields.{fields_in};
+ghost use Rattle.j39_web.specs.Tables.{ByRowsOf, ByTable, IsNoTable, IsWrongTable, TableOverflows, WantsRows};
 ghost use Rattle.j39_web.specs.Text.{AsksSomewhere, IsMade, IsPublished, IsSurveyed, Overflows, SurveyOverflows};
 
 mod answers;
@@ -19,81 +22,166 @@ mod fields;
 mod room;
 mod texts;
 
-use answers::{WRONG_BUS, answer, bus_named};
+use answers::{NO_MEMORY, WRONG_BUS, answer, bus_named, refused, table_said, why};
 use fields::NameFields;
+use j39_table::TableFault;
 use std::alloc::Global;
 use texts::LogText;
 
-/// Writes the report of a log by the built-in table into a room: a line for each value that a controller on the
-/// bus reported. A bus of no bytes is that of the first frame in the log. The answer is 0 where the report stands
-/// at the front of the room, and is told; 1 where memory is refused, 2 where the room has no more bytes than the
-/// report, and 3 where the bus's bytes are no name.
+/// Writes the report of a log by a table into a room: a line for each value that a controller on the bus reported. A bus
+/// of no bytes is that of the first frame in the log, and a table of no bytes the one that is built in. The answer is 0
+/// where the report stands at the front of the room, and is told; 1 where memory is refused, 2 where the room has no more
+/// bytes than the report, 3 where the bus's bytes are no name, and 4 where the table's say no table.
 #[unsafe(no_mangle)]
 pub extern "C" fn j39_report(
     alloc: Global,
     log: &[u8],
     bus: &[u8],
+    table: &[u8],
     room: &mut [u8],
     text: &mut LogText,
 ) -> u32
     // What stands at the front of the room is the report of the log, and nothing else.
-    ensures report { result ≡ done
-        → IsMade (MakesReport the_table) (given_bus bus.now) log.now text.new room.new }
+    ensures report { result ≡ done → ByTable table.now
+        (λ rows. IsMade (MakesReport rows) (given_bus bus.now) log.now text.new room.new) }
 
     // Of what publishers sent, its lines under their addresses are exactly the values published.
-    ensures published { result ≡ done → IsPublished the_table (given_bus bus.now) log.now text.new room.new }
+    ensures published { result ≡ done → ByTable table.now
+        (λ rows. IsPublished rows (given_bus bus.now) log.now text.new room.new) }
 
     // The room is too small exactly where the report has as many bytes, or more.
     ensures fits { result ≡ done → text.new.bytes < length room.new }
-    ensures too_small { result ≡ too_small
-        → Overflows (MakesReport the_table) (given_bus bus.now) log.now room.new }
+    ensures too_small { result ≡ too_small → ByTable table.now
+        (λ rows. Overflows (MakesReport rows) (given_bus bus.now) log.now room.new) }
 
-    // Memory is wanted only at a frame of the log that announces a message.
-    ensures memory { result ≡ no_memory → AsksSomewhere AsksForBoxes (given_bus bus.now) log.now }
+    // Memory is wanted only for the rows of a table, and at a frame of the log that announces a message.
+    ensures memory { result ≡ no_memory
+        → WantsRows table.now ⊎ AsksSomewhere AsksForBoxes (given_bus bus.now) log.now }
 
     ensures bus { (result ≡ wrong_bus) ↔ IsWrongBus bus.now }
-    ensures answers { result ≤ wrong_bus }
+    ensures table { result ≡ wrong_table → IsWrongTable table.now }
+    ensures answers { result ≤ wrong_table }
 {
-    match bus_named(bus) {
-        Some(bus) => answer(texts::report(alloc, log, bus, room), text),
-        None => WRONG_BUS,
+    let Some(bus) = bus_named(bus) else {
+        return WRONG_BUS;
+    };
+    match table_said(alloc, table) {
+        Ok(groups) => answer(texts::report(alloc, log, bus, &groups, room), text),
+        Err(fault) => refused(fault),
+    }
+}
+
+/// Writes the report of some parameters (SPN) alone, as `j39_report` writes that of all. The answers are the same.
+#[unsafe(no_mangle)]
+pub extern "C" fn j39_values(
+    alloc: Global,
+    log: &[u8],
+    bus: &[u8],
+    table: &[u8],
+    spns: &[u32],
+    room: &mut [u8],
+    text: &mut LogText,
+) -> u32
+    // What stands at the front of the room is the report by the rows of these parameters, and nothing else.
+    ensures values { result ≡ done → ByRowsOf spns.now table.now
+        (λ rows. IsMade (MakesReport rows) (given_bus bus.now) log.now text.new room.new) }
+
+    // The room is too small exactly where that report has as many bytes, or more.
+    ensures fits { result ≡ done → text.new.bytes < length room.new }
+    ensures too_small { result ≡ too_small → ByRowsOf spns.now table.now
+        (λ rows. Overflows (MakesReport rows) (given_bus bus.now) log.now room.new) }
+
+    ensures bus { (result ≡ wrong_bus) ↔ IsWrongBus bus.now }
+    ensures table { result ≡ wrong_table → IsWrongTable table.now }
+    ensures answers { result ≤ wrong_table }
+{
+    let Some(bus) = bus_named(bus) else {
+        return WRONG_BUS;
+    };
+    match table_said(alloc, table) {
+        Ok(groups) => answer(texts::values(alloc, log, bus, &groups, spns, room), text),
+        Err(fault) => refused(fault),
+    }
+}
+
+/// Writes what each parameter of a log did by a table, as comma-separated values: how many values there were, the least,
+/// the most, the first and the last. The bus, the table and the answers are those of `j39_report`.
+#[unsafe(no_mangle)]
+pub extern "C" fn j39_summary(
+    alloc: Global,
+    log: &[u8],
+    bus: &[u8],
+    table: &[u8],
+    room: &mut [u8],
+    text: &mut LogText,
+) -> u32
+    // What stands at the front of the room is the summary of the log's report, and nothing else.
+    ensures summary { result ≡ done → ByTable table.now
+        (λ rows. IsMade (MakesSummaryRecords rows) (given_bus bus.now) log.now text.new room.new) }
+
+    // The room is too small exactly where that text has as many bytes, or more.
+    ensures fits { result ≡ done → text.new.bytes < length room.new }
+    ensures too_small { result ≡ too_small → ByTable table.now
+        (λ rows. Overflows (MakesSummaryRecords rows) (given_bus bus.now) log.now room.new) }
+
+    // Memory is wanted only for the rows of a table, at a frame that announces a message, and where a value is the first
+    // of its parameter, or a text.
+    ensures memory { result ≡ no_memory → WantsRows table.now
+        ⊎ ByTable table.now (λ rows. AsksSomewhere (AsksForRows rows) (given_bus bus.now) log.now) }
+
+    ensures bus { (result ≡ wrong_bus) ↔ IsWrongBus bus.now }
+    ensures table { result ≡ wrong_table → IsWrongTable table.now }
+    ensures answers { result ≤ wrong_table }
+{
+    let Some(bus) = bus_named(bus) else {
+        return WRONG_BUS;
+    };
+    match table_said(alloc, table) {
+        Ok(groups) => answer(texts::summary(alloc, log, bus, &groups, room), text),
+        Err(fault) => refused(fault),
     }
 }
 
 /// Writes the fault codes in a log (DM1, DM2) into a room, as they become news: a line for each code, with the name that
-/// the built-in table has for its parameter. The bus and the answers are those of `j39_report`.
+/// the table has for its parameter. The bus, the table and the answers are those of `j39_report`.
 #[unsafe(no_mangle)]
 pub extern "C" fn j39_faults(
     alloc: Global,
     log: &[u8],
     bus: &[u8],
+    table: &[u8],
     room: &mut [u8],
     text: &mut LogText,
 ) -> u32
     // What stands at the front of the room is the faults that are told in the log's frames, and nothing else.
-    ensures faults { result ≡ done
-        → IsMade (MakesFaults the_table News) (given_bus bus.now) log.now text.new room.new }
+    ensures faults { result ≡ done → ByTable table.now
+        (λ rows. IsMade (MakesFaults rows News) (given_bus bus.now) log.now text.new room.new) }
 
     // The room is too small exactly where that text has as many bytes, or more.
     ensures fits { result ≡ done → text.new.bytes < length room.new }
-    ensures too_small { result ≡ too_small
-        → Overflows (MakesFaults the_table News) (given_bus bus.now) log.now room.new }
+    ensures too_small { result ≡ too_small → ByTable table.now
+        (λ rows. Overflows (MakesFaults rows News) (given_bus bus.now) log.now room.new) }
 
-    // Memory is wanted only at a frame that announces a message, or at which an address says its codes for the first
-    // time.
-    ensures memory { result ≡ no_memory → AsksSomewhere AsksForFaults (given_bus bus.now) log.now }
+    // Memory is wanted only for the rows of a table, at a frame that announces a message, and at one at which an address
+    // says its codes for the first time.
+    ensures memory { result ≡ no_memory
+        → WantsRows table.now ⊎ AsksSomewhere AsksForFaults (given_bus bus.now) log.now }
 
     ensures bus { (result ≡ wrong_bus) ↔ IsWrongBus bus.now }
-    ensures answers { result ≤ wrong_bus }
+    ensures table { result ≡ wrong_table → IsWrongTable table.now }
+    ensures answers { result ≤ wrong_table }
 {
-    match bus_named(bus) {
-        Some(bus) => answer(texts::faults(alloc, log, bus, room), text),
-        None => WRONG_BUS,
+    let Some(bus) = bus_named(bus) else {
+        return WRONG_BUS;
+    };
+    match table_said(alloc, table) {
+        Ok(groups) => answer(texts::faults(alloc, log, bus, &groups, room), text),
+        Err(fault) => refused(fault),
     }
 }
 
 /// Writes who holds which address at the end of a log into a room, a line for each address. The bus and the answers
-/// are those of `j39_report`, but that no memory is wanted.
+/// are those of `j39_report`, but that no memory is wanted, and no table.
 #[unsafe(no_mangle)]
 pub extern "C" fn j39_nodes(log: &[u8], bus: &[u8], room: &mut [u8], text: &mut LogText) -> u32
     // What stands at the front of the room is who holds an address after the log's frames, and nothing else.
@@ -114,32 +202,57 @@ pub extern "C" fn j39_nodes(log: &[u8], bus: &[u8], room: &mut [u8], text: &mut 
 }
 
 /// Writes what a log is into a room, before any bus is chosen: how many lines it has, its interfaces, its groups, by the
-/// built-in table, its other lines by kind, and its unread lines. The answers are those of `j39_report`, but that no bus
-/// is named, and of what is told only the bytes count.
+/// table, its other lines by kind, and its unread lines. The table and the answers are those of `j39_report`, but that no
+/// bus is named, and of what is told only the bytes count.
 #[unsafe(no_mangle)]
-pub extern "C" fn j39_survey(alloc: Global, log: &[u8], room: &mut [u8], text: &mut LogText) -> u32
+pub extern "C" fn j39_survey(
+    alloc: Global,
+    log: &[u8],
+    table: &[u8],
+    room: &mut [u8],
+    text: &mut LogText,
+) -> u32
     // What stands at the front of the room is the survey of the log's lines, and nothing else.
-    ensures survey { result ≡ done → IsSurveyed the_table log.now text.new room.new }
+    ensures survey { result ≡ done → ByTable table.now (λ rows. IsSurveyed rows log.now text.new room.new) }
 
     // The room is too small exactly where the survey has as many bytes, or more.
     ensures fits { result ≡ done → text.new.bytes < length room.new }
-    ensures too_small { result ≡ too_small → SurveyOverflows the_table log.now room.new }
+    ensures too_small { result ≡ too_small → ByTable table.now (λ rows. SurveyOverflows rows log.now room.new) }
 
-    ensures answers { result < wrong_bus }
+    ensures bus { result ≢ wrong_bus }
+    ensures table { result ≡ wrong_table → IsWrongTable table.now }
+    ensures answers { result ≤ wrong_table }
 {
-    answer(texts::survey(alloc, log, room), text)
+    match table_said(alloc, table) {
+        Ok(groups) => answer(texts::survey(alloc, log, &groups, room), text),
+        Err(fault) => refused(fault),
+    }
 }
 
-/// Writes the parameters that a report may hold into a room, a line for each. The answers are those of `j39_nodes`, and
-/// of what is told only the bytes count.
+/// Writes the parameters that a report by a table may hold into a room, a line for each; at 4 what is said of the
+/// table's bytes behind the name of their file, as ` line 12: no step`. Of what is told only the bytes count.
 #[unsafe(no_mangle)]
-pub extern "C" fn j39_groups(room: &mut [u8], text: &mut LogText) -> u32
-    ensures parameters { result ≡ done → take text.new.bytes room.new ≡ parameters_text }
-    ensures fits { result ≡ done → text.new.bytes < length room.new }
-    ensures too_small { result ≡ too_small → length room.new ≤ length parameters_text }
-    ensures answers { (result ≡ done) ⊎ (result ≡ too_small) }
+pub extern "C" fn j39_groups(
+    alloc: Global,
+    table: &[u8],
+    room: &mut [u8],
+    text: &mut LogText,
+) -> u32
+    ensures parameters { result ≡ done
+        → ByTable table.now (λ rows. take text.new.bytes room.new ≡ rows_text rows) }
+    ensures wrong { result ≡ wrong_table → (fault : TableFault) × IsNoTable table.now fault
+        × (take text.new.bytes room.new ≡ fault_text fault) }
+    ensures fits { (result ≡ done) ⊎ (result ≡ wrong_table) → text.new.bytes < length room.new }
+    ensures too_small { result ≡ too_small → TableOverflows table.now room.new }
+    ensures memory { result ≡ no_memory → WantsRows table.now }
+    ensures bus { result ≢ wrong_bus }
+    ensures answers { result ≤ wrong_table }
 {
-    answer(texts::parameters(room), text)
+    match table_said(alloc, table) {
+        Ok(groups) => answer(texts::parameters(&groups, room), text),
+        Err(TableFault::Memory) => NO_MEMORY,
+        Err(fault) => why(texts::fault_words(fault, room), text),
+    }
 }
 
 /// Tells the ten fields of a NAME (J1939-81, 4.1.1).

@@ -1,25 +1,28 @@
 //! What is made of a log, in the room of a page.
-ghost use Rattle.std.specs.Prelude.{◌≡◌, ◌≢◌, ◌<◌, ◌≤◌, length, take, IfErr, IfOk, IsOk, OnOk, Ok, Err};
+ghost use Rattle.std.specs.Prelude.{◌≡◌, ◌≢◌, ◌<◌, ◌≤◌, length, take, IfErr, IfOk, IsOk, OnErr, OnOk, Ok, Err};
 ghost use Rattle.j39_fault_news.specs.Asking.{AsksForFaults};
 ghost use Rattle.j39_fault_news.specs.Output.{MakesFaults};
 ghost use Rattle.j39_fault_news.specs.declared.telling.Telling.TheVariants.{News};
-ghost use Rattle.j39_groups.specs.Printed.{parameters_text};
-ghost use Rattle.j39_groups.specs.Table.{the_table};
+ghost use Rattle.j39_groups.specs.Printed.{rows_text};
 ghost use Rattle.j39_listen.specs.Asking.{AsksForBoxes};
 ghost use Rattle.j39_listen.specs.Output.{MakesNodes, MakesReport};
 ghost use Rattle.j39_listen.specs.declared.running.RunFault.TheVariants as fault;
+ghost use Rattle.j39_summary.specs.Summaries.{AsksForRows, MakesSummaryRecords};
+ghost use Rattle.j39_table.specs.FaultWords.{fault_text};
 ghost use Rattle.j39_web.specs.Room.{HasNoRoom, room_in, written_in};
+ghost use Rattle.j39_web.specs.Tables.{ByRows};
 ghost use Rattle.j39_web.specs.Text.{AsksSomewhere, IsMade, IsPublished, IsSurveyed, Overflows, SurveyOverflows, counts_in};
 ghost use Rattle.j39_web.specs.declared.texts.Refusal.TheVariants.{Memory, TooSmall};
 
 use crate::room::{LogBytes, Room};
-use j39_device::DeviceFault;
+use j39_device::{DeviceFault, put_all};
 use j39_fault_news::Telling;
-use j39_groups::{Groups, put_parameters};
+use j39_groups::Groups;
 use j39_listen::{Counts, RunFault, run_with};
 use j39_log::Bus;
-use std::alloc::Global;
-use std::mem;
+use j39_summary::summary_csv;
+use j39_table::TableFault;
+use std::alloc::{AllocError, Global};
 
 /// Why no text is in the room.
 #[derive(Clone, Copy, Debug, PartialEq, Eq)]
@@ -48,34 +51,73 @@ pub struct LogText {
     pub bytes: u64,
 }
 
-/// Writes the report of a log by the built-in table: a line for each value that a controller on the bus
-/// reported. Without a bus it is that of the first frame in the log.
+/// Writes the report of a log by a table: a line for each value that a controller on the bus reported. Without a bus it
+/// is that of the first frame in the log.
 pub fn report(
     alloc: Global,
     log: &[u8],
     bus: Option<Bus>,
+    groups: &Groups<'_>,
     room: &mut [u8],
 ) -> Result<LogText, Refusal>
     // What stands at the front of the room is the report of the log, and nothing else.
-    ensures report { IfOk result (λ text. IsMade (MakesReport the_table) bus log.now text room.new) }
+    ensures report { IfOk result (λ text. IsMade (MakesReport groups.now) bus log.now text room.new) }
 
     // Of what publishers sent, its lines under their addresses are exactly the values published.
-    ensures published { IfOk result (λ text. IsPublished the_table bus log.now text room.new) }
+    ensures published { IfOk result (λ text. IsPublished groups.now bus log.now text room.new) }
 
     // The room is too small exactly where the report has as many bytes, or more.
     ensures fits { IfOk result (λ text. text.bytes < length room.new) }
-    ensures too_small { result ≡ Err TooSmall → Overflows (MakesReport the_table) bus log.now room.new }
+    ensures too_small { result ≡ Err TooSmall → Overflows (MakesReport groups.now) bus log.now room.new }
 
     // Memory is wanted only at a frame of the log that announces a message.
     ensures memory { result ≡ Err Memory → AsksSomewhere AsksForBoxes bus log.now }
 {
     let mut source = LogBytes::new(log);
     let mut sink = Room::new(room);
-    let groups = Groups::built_in();
     let limit = log.len() as u64;
-    let ran = run_with(alloc, &groups, &mut source, &mut sink, bus, limit);
-    // It holds no memory; a table that was read would, and a page has nothing that takes memory back.
-    mem::forget(groups);
+    let ran = run_with(alloc, groups, &mut source, &mut sink, bus, limit);
+    told(ran, &sink)
+}
+
+/// Writes the report of some parameters (SPN) alone.
+pub fn values(
+    alloc: Global,
+    log: &[u8],
+    bus: Option<Bus>,
+    groups: &Groups<'_>,
+    spns: &[u32],
+    room: &mut [u8],
+) -> Result<LogText, Refusal>
+    ensures values { IfOk result (λ text. ByRows spns.now groups.now
+        (λ rows. IsMade (MakesReport rows) bus log.now text room.new)) }
+    ensures fits { IfOk result (λ text. text.bytes < length room.new) }
+    ensures too_small { result ≡ Err TooSmall → ByRows spns.now groups.now
+        (λ rows. Overflows (MakesReport rows) bus log.now room.new) }
+{
+    match groups.restricted_to(alloc, spns) {
+        Ok(rows) => report(alloc, log, bus, &rows, room),
+        Err(AllocError) => Err(Refusal::Memory),
+    }
+}
+
+/// Writes what each parameter of a log did by a table, as comma-separated values.
+pub fn summary(
+    alloc: Global,
+    log: &[u8],
+    bus: Option<Bus>,
+    groups: &Groups<'_>,
+    room: &mut [u8],
+) -> Result<LogText, Refusal>
+    ensures summary { IfOk result (λ text. IsMade (MakesSummaryRecords groups.now) bus log.now text room.new) }
+    ensures fits { IfOk result (λ text. text.bytes < length room.new) }
+    ensures too_small { result ≡ Err TooSmall → Overflows (MakesSummaryRecords groups.now) bus log.now room.new }
+    ensures memory { result ≡ Err Memory → AsksSomewhere (AsksForRows groups.now) bus log.now }
+{
+    let mut source = LogBytes::new(log);
+    let mut sink = Room::new(room);
+    let limit = log.len() as u64;
+    let ran = summary_csv(alloc, groups, &mut source, &mut sink, bus, limit);
     told(ran, &sink)
 }
 
@@ -116,50 +158,50 @@ fn told(ran: Result<Counts, RunFault>, sink: &Room<'_>) -> Result<LogText, Refus
 }
 
 /// Writes the fault codes in a log, as they become news: a line for each code of each message of DM1 and DM2 that says
-/// something else than the last before, with the name that the built-in table has for its parameter.
+/// something else than the last before, with the name that the table has for its parameter.
 pub fn faults(
     alloc: Global,
     log: &[u8],
     bus: Option<Bus>,
+    groups: &Groups<'_>,
     room: &mut [u8],
 ) -> Result<LogText, Refusal>
-    ensures faults { IfOk result (λ text. IsMade (MakesFaults the_table News) bus log.now text room.new) }
+    ensures faults { IfOk result (λ text. IsMade (MakesFaults groups.now News) bus log.now text room.new) }
     ensures fits { IfOk result (λ text. text.bytes < length room.new) }
-    ensures too_small { result ≡ Err TooSmall → Overflows (MakesFaults the_table News) bus log.now room.new }
+    ensures too_small { result ≡ Err TooSmall → Overflows (MakesFaults groups.now News) bus log.now room.new }
     ensures memory { result ≡ Err Memory → AsksSomewhere AsksForFaults bus log.now }
 {
     let mut source = LogBytes::new(log);
     let mut sink = Room::new(room);
-    let groups = Groups::built_in();
     let limit = log.len() as u64;
     let ran = j39_fault_news::faults(
         alloc,
-        &groups,
+        groups,
         Telling::News,
         &mut source,
         &mut sink,
         bus,
         limit,
     );
-    // As for the report.
-    mem::forget(groups);
     told(ran, &sink)
 }
 
-/// Writes what a log is, before any bus is chosen: how many lines it has, its interfaces, its groups, by the built-in
-/// table, its other lines by kind, and its unread lines.
-pub fn survey(alloc: Global, log: &[u8], room: &mut [u8]) -> Result<LogText, Refusal>
-    ensures survey { IfOk result (λ text. IsSurveyed the_table log.now text room.new) }
+/// Writes what a log is, before any bus is chosen: how many lines it has, its interfaces, its groups, by the table, its
+/// other lines by kind, and its unread lines.
+pub fn survey(
+    alloc: Global,
+    log: &[u8],
+    groups: &Groups<'_>,
+    room: &mut [u8],
+) -> Result<LogText, Refusal>
+    ensures survey { IfOk result (λ text. IsSurveyed groups.now log.now text room.new) }
     ensures fits { IfOk result (λ text. text.bytes < length room.new) }
-    ensures too_small { result ≡ Err TooSmall → SurveyOverflows the_table log.now room.new }
+    ensures too_small { result ≡ Err TooSmall → SurveyOverflows groups.now log.now room.new }
 {
     let mut source = LogBytes::new(log);
     let mut sink = Room::new(room);
-    let groups = Groups::built_in();
     let limit = log.len() as u64;
-    let ran = j39_survey::survey(alloc, &groups, &mut source, &mut sink, limit);
-    // As for the report.
-    mem::forget(groups);
+    let ran = j39_survey::survey(alloc, groups, &mut source, &mut sink, limit);
     told(uncounted(ran), &sink)
 }
 
@@ -174,17 +216,37 @@ fn uncounted(ran: Result<(), RunFault>) -> Result<Counts, RunFault>
     }
 }
 
-/// Writes the parameters that a report may hold.
-pub fn parameters(room: &mut [u8]) -> Result<LogText, Refusal>
-    ensures parameters { IfOk result (λ text. take text.bytes room.new ≡ parameters_text) }
+/// Writes the parameters that a report by a table may hold.
+pub fn parameters(groups: &Groups<'_>, room: &mut [u8]) -> Result<LogText, Refusal>
+    ensures parameters { IfOk result (λ text. take text.bytes room.new ≡ rows_text groups.now) }
     ensures fits { IfOk result (λ text. text.bytes < length room.new) }
-    ensures too_small { result ≡ Err TooSmall → length room.new ≤ length parameters_text }
+    ensures too_small { result ≡ Err TooSmall → length room.new ≤ length (rows_text groups.now) }
     ensures memory { result ≢ Err Memory }
 {
     let mut sink = Room::new(room);
-    let ran = match put_parameters(&mut sink) {
+    let ran = groups.put(&mut sink);
+    told(written(ran), &sink)
+}
+
+/// Writes what is said of bytes that are no table.
+pub fn fault_words(fault: TableFault, room: &mut [u8]) -> Result<LogText, Refusal>
+    ensures words { IfOk result (λ text. take text.bytes room.new ≡ fault_text fault) }
+    ensures fits { IfOk result (λ text. text.bytes < length room.new) }
+    ensures too_small { result ≡ Err TooSmall → length room.new ≤ length (fault_text fault) }
+    ensures memory { result ≢ Err Memory }
+{
+    let mut sink = Room::new(room);
+    let ran = put_all(&mut sink, fault.text().as_slice());
+    told(written(ran), &sink)
+}
+
+/// Writing that counts nothing.
+fn written(ran: Result<(), DeviceFault>) -> Result<Counts, RunFault>
+    ensures ok { OnOk ran (IsOk result) }
+    ensures err { OnErr ran (result ≡ Err fault.Write) }
+{
+    match ran {
         Ok(()) => Ok(Counts::default()),
         Err(DeviceFault) => Err(RunFault::Write),
-    };
-    told(ran, &sink)
+    }
 }
