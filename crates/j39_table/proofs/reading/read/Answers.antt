@@ -1,5 +1,5 @@
 -- A table without rows needs no memory.
-use Rattle.std.proofs.Common.{◌≡◌, ◌≤◌, length, map, rules, arith}
+use Rattle.std.proofs.Common.{map}
 use Rattle.j39_groups.specs.ReadRows.{read_row_record}
 use Rattle.j39_list.specs.Items.{items_of}
 use Rattle.j39_table.specs.Tables.{lines_of}
