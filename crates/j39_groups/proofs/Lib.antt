@@ -9,7 +9,6 @@ pub mod SlotLemmas
 pub mod ReadBackLemmas
 pub mod QuickLemmas
 -- tables that were read
-pub mod SortLemmas
 pub mod MarkLemmas
 pub mod ReadLemmas
 pub mod VisitLemmas

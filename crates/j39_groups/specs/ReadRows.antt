@@ -7,6 +7,7 @@ use Rattle.j39_groups.specs.declared.read_row.ReadRow.{ReadRow}
 use Rattle.j39_groups.specs.ReadFields.{read_field_record}
 use Rattle.j39_groups.specs.Row.{RowRecord}
 use Rattle.j39_groups.specs.Table.{the_table}
+use Rattle.j39_list.specs.Items.{items_of}
 
 abbrev pub read_row_record : ReadRow → RowRecord
 read_row_record row = record {
@@ -20,7 +21,7 @@ read_row_record row = record {
 
 abbrev pub rows_in : Listed → List RowRecord
 rows_in BuiltIn = the_table
-rows_in (Read table) = map read_row_record table.rows.items
+rows_in (Read table) = map read_row_record (items_of table.rows)
 
 abbrev pub rows_of_group : ℕ → List ReadRow → List ReadRow
 rows_of_group pgn rows = filter (λ row. pgn_raw row.pgn == pgn) rows

@@ -1,5 +1,5 @@
 //! A table of parameters, as its callers see it.
-ghost use Rattle.std.specs.Prelude.{◌≡◌, ◌==◌, ◌<◌, ◌≤◌, IfOk, IsOk, IsTrue, OnOk, OnErr, drop, false, filter, length, map, nat_lt, slice_get, true, vec_len};
+ghost use Rattle.std.specs.Prelude.{◌≡◌, ◌==◌, ◌<◌, ◌≤◌, IfOk, IsOk, IsTrue, OnOk, OnErr, drop, false, filter, length, map, nat_lt, slice_get, true};
 ghost use Rattle.std.specs.Io.KnownBytes.{Appends};
 ghost use Rattle.std.specs.List.{filter_map, flat_map, prefix_len};
 ghost use Rattle.std.specs.List.Sorted.{IsNonDecreasingBy, IsPartitionPoint};
@@ -12,6 +12,7 @@ ghost use Rattle.j39_groups.specs.ReadRows.{BeginsAt, read_row_record};
 ghost use Rattle.j39_groups.specs.Readings.{HaveSameGroups, is_reported_in, readings_in, rows_of_spns};
 ghost use Rattle.j39_groups.specs.Table.{the_table};
 ghost use Rattle.j39_groups.specs.Visits.{Stops, Takes};
+ghost use Rattle.j39_list.specs.Items.{items_of};
 ghost use Rattle.std.specs.Option.{option_copied, option_map};
 
 use crate::by_group::by_group;
@@ -30,6 +31,7 @@ use crate::visiting::{ReadingVisitor, visit_built_in, visit_rows};
 use crate::{group_names, printed};
 use j39_device::{DeviceFault, Sink, put_all};
 use j39_frame::Pgn;
+use j39_list::List;
 use std::alloc::{AllocError, Global};
 use std::marker::Model;
 
@@ -59,12 +61,11 @@ impl<'t> Groups<'t> {
         }
     }
 
-    /// The table of these rows, 65,536 at most. The rows of a group stay in their order; groups may be mixed. An
+    /// The table of these rows. The rows of a group stay in their order; groups may be mixed. An
     /// `Err` comes for want of memory alone, and of 20 rows none does.
-    pub fn from_rows(rows: Vec<ReadRow<'t>>) -> Result<Groups<'t>, AllocError>
-        requires { vec_len rows ≤ 65536 }
-        ensures kept { IfOk result (λ groups. HaveSameGroups groups (map read_row_record rows.entry.items)) }
-        ensures made { vec_len rows.entry ≤ 20 → IsOk result }
+    pub fn from_rows(rows: List<ReadRow<'t>>) -> Result<Groups<'t>, AllocError>
+        ensures kept { IfOk result (λ groups. HaveSameGroups groups (map read_row_record (items_of rows.entry))) }
+        ensures made { length (items_of rows.entry) ≤ 20 → IsOk result }
     {
         let table = by_group(rows)?;
         Ok(Groups {
@@ -198,9 +199,9 @@ fn visit_read<'t, M, V: ReadingVisitor<'t, M>>(
     medium: &mut M,
 ) -> Result<(), V::Fault>
     ensures taken { OnOk result (Takes V.has_taken visitor.old medium.old visitor.new medium.new
-        (readings_in (map read_row_record table.now.rows.items) (pgn_raw pgn) bytes.now)) }
+        (readings_in (map read_row_record (items_of table.now.rows)) (pgn_raw pgn) bytes.now)) }
     ensures stopped { OnErr result (Stops V.has_taken V.has_stopped visitor.old medium.old visitor.new medium.new
-        (readings_in (map read_row_record table.now.rows.items) (pgn_raw pgn) bytes.now)) }
+        (readings_in (map read_row_record (items_of table.now.rows)) (pgn_raw pgn) bytes.now)) }
 {
     let hint = mark(&table.marks, pgn);
     visit_group(
@@ -234,7 +235,7 @@ fn visit_group<'t, M, V: ReadingVisitor<'t, M>>(
 /// Whether a table that was built lists a group.
 #[inline(always)]
 fn is_listed(table: &ReadTable<'_>, pgn: Pgn) -> bool
-    ensures { result ≡ is_reported_in (map read_row_record table.now.rows.items) (pgn_raw pgn) }
+    ensures { result ≡ is_reported_in (map read_row_record (items_of table.now.rows)) (pgn_raw pgn) }
 {
     let hint = mark(&table.marks, pgn);
     0 < hint && has_group(table.rows.as_slice(), hint, pgn.raw())
@@ -350,13 +351,13 @@ fn put_read<W: Sink>(
 ) -> Result<u64, DeviceFault>
     requires { from ≤ 48 }
     ensures lines { IfOk result (λ n.
-        n ≡ length (readings_in (map read_row_record table.now.rows.items) (pgn_raw pgn) bytes.now)) }
+        n ≡ length (readings_in (map read_row_record (items_of table.now.rows)) (pgn_raw pgn) bytes.now)) }
     ensures written { OnOk result (Appends (W.held sink.old) (W.held sink.new)
         (flat_map (reading_line (drop from head.now))
-        (readings_in (map read_row_record table.now.rows.items) (pgn_raw pgn) bytes.now))) }
+        (readings_in (map read_row_record (items_of table.now.rows)) (pgn_raw pgn) bytes.now))) }
     ensures front { OnErr result (AppendsFront (W.held sink.old) (W.held sink.new)
         (flat_map (reading_line (drop from head.now))
-        (readings_in (map read_row_record table.now.rows.items) (pgn_raw pgn) bytes.now))) }
+        (readings_in (map read_row_record (items_of table.now.rows)) (pgn_raw pgn) bytes.now))) }
     ensures mark { Marks result (W.has_failed sink.old) (W.has_failed sink.new) }
 {
     let hint = mark(&table.marks, pgn);

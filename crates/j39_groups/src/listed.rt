@@ -1,21 +1,22 @@
 //! A table of parameters: the one that is built in, or one that was built.
-ghost use Rattle.std.specs.Prelude.{◌≡◌, ◌≤◌, length, true};
+ghost use Rattle.std.specs.Prelude.{◌≡◌, true};
 ghost use Rattle.std.specs.List.Sorted.{IsNonDecreasingBy};
 ghost use Rattle.std.proofs.Props.{props};
 ghost use Rattle.j39_frame.specs.Pgn.{pgn_raw};
+ghost use Rattle.j39_list.specs.Items.{items_of};
 ghost use Rattle.j39_groups.specs.Marks.{are_marked};
 
 use crate::read_row::ReadRow;
+use j39_list::List;
 
 /// The rows of a table that was built, by rising groups; those of one group in the order in which they were given.
 #[derive(Drop)]
 pub(crate) struct ReadTable<'t> {
-    pub rows: Vec<ReadRow<'t>>,
+    pub rows: List<ReadRow<'t>>,
     /// What is known of a group without a look at the rows.
     pub marks: [usize; 256],
-    pub ghost sorted: { IsNonDecreasingBy (λ row. pgn_raw row.pgn) rows.items } by { Prim.hlevel props },
-    pub ghost few: { length rows.items ≤ 65536 },
-    pub ghost marked: { are_marked marks rows.items ≡ true },
+    pub ghost sorted: { IsNonDecreasingBy (λ row. pgn_raw row.pgn) (items_of rows) } by { Prim.hlevel props },
+    pub ghost marked: { are_marked marks (items_of rows) ≡ true },
 }
 
 /// Where the rows of a table are.

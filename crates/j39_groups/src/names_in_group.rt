@@ -6,6 +6,7 @@ ghost use Rattle.j39_groups.specs.CodeRows.{row_record};
 ghost use Rattle.j39_groups.specs.Names.{name_at, name_in};
 ghost use Rattle.j39_groups.specs.ReadRows.{read_row_record};
 ghost use Rattle.j39_groups.specs.Table.{the_table};
+ghost use Rattle.j39_list.specs.Items.{items_of};
 
 use crate::listed::ReadTable;
 use crate::read_row::ReadRow;
@@ -43,7 +44,7 @@ fn built_in_name_at(row: &'static Row, pgn: u32, spn: u32) -> Option<&'static [u
 
 /// What a parameter of a group is called in a table that was built.
 pub(crate) fn read_name_of<'r, 't>(table: &'r ReadTable<'t>, pgn: u32, spn: u32) -> Option<&'r [u8]>
-    ensures { option_map (λ name. name.now) result ≡ name_in (map read_row_record table.now.rows.items) pgn spn }
+    ensures { option_map (λ name. name.now) result ≡ name_in (map read_row_record (items_of table.now.rows)) pgn spn }
 {
     read_name(table.rows.as_slice(), pgn, spn)
 }

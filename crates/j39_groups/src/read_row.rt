@@ -6,6 +6,7 @@ ghost use Rattle.j39_groups.specs.Readings.{is_heard_group, is_network_group};
 
 use crate::read_field::ReadField;
 use j39_frame::Pgn;
+use j39_list::Keyed;
 
 /// One parameter of a group, with its texts out of the table's.
 #[derive(Clone, Copy)]
@@ -23,4 +24,27 @@ pub struct ReadRow<'t> {
     pub ghost sound: { is_sound_read field ≡ true },
     pub ghost free: { is_network_group (pgn_raw pgn) ≡ false },
     pub ghost heard: { is_heard_group (pgn_raw pgn) ≡ true },
+}
+
+impl Keyed for ReadRow<'_> {
+    ghost use Rattle.j39_frame.specs.Pgn.{pgn_raw};
+
+    ghost key_of = { λ row. pgn_raw row.pgn };
+
+    fn key(&self) -> u32 {
+        self.pgn.raw()
+    }
+}
+
+impl Default for ReadRow<'_> {
+    /// A row of no table, with no name: what stands in a place that holds none.
+    fn default() -> Self {
+        ReadRow {
+            pgn: Pgn::new(0).unwrap(),
+            group: b"",
+            spn: 0,
+            name: b"",
+            field: ReadField::Text { part: 1 },
+        }
+    }
 }

@@ -1,26 +1,27 @@
 //! The rows of some parameters, out of a table.
-ghost use Rattle.std.specs.Prelude.{◌≡◌, ◌≤◌, IfOk, IsTrue, length, map, true, vec_len};
+ghost use Rattle.std.specs.Prelude.{◌≡◌, ◌≤◌, IfOk, IsTrue, length, map, true};
 ghost use Rattle.std.specs.List.{list_all};
 ghost use Rattle.j39_groups.specs.CodeRows.{field_record, is_listable, is_listable_field, row_record};
 ghost use Rattle.j39_groups.specs.ReadFields.{is_sound_read, read_field_record};
 ghost use Rattle.j39_groups.specs.ReadRows.{read_row_record};
 ghost use Rattle.j39_groups.specs.Readings.{is_among, rows_of_spns};
 ghost use Rattle.j39_groups.specs.Table.{the_table};
+ghost use Rattle.j39_list.specs.Items.{items_of};
 
 use crate::read_field::ReadField;
 use crate::read_row::ReadRow;
 use crate::reading::rows;
 use crate::table::{Field, Row};
 use j39_frame::Pgn;
+use j39_list::List;
 use std::alloc::{AllocError, Global};
 
 /// The rows of these parameters (SPN) of the built-in table.
 pub(crate) fn built_in_rows_of<'t>(
     alloc: Global,
     spns: &[u32],
-) -> Result<Vec<ReadRow<'t>>, AllocError>
-    ensures kept { IfOk result (λ kept. map read_row_record kept.items ≡ rows_of_spns spns.now the_table) }
-    ensures few { IfOk result (λ kept. vec_len kept ≤ 65536) }
+) -> Result<List<ReadRow<'t>>, AllocError>
+    ensures { IfOk result (λ kept. map read_row_record (items_of kept) ≡ rows_of_spns spns.now the_table) }
 {
     rows_of(alloc, rows(), spns)
 }
@@ -29,14 +30,13 @@ fn rows_of<'t>(
     alloc: Global,
     rows: &'static [Row],
     spns: &[u32],
-) -> Result<Vec<ReadRow<'t>>, AllocError>
+) -> Result<List<ReadRow<'t>>, AllocError>
     requires listable { IsTrue (list_all is_listable rows.now) }
     requires few { length rows.now ≤ 65536 }
-    ensures kept { IfOk result (λ kept.
-        map read_row_record kept.items ≡ rows_of_spns spns.now (map row_record rows.now)) }
-    ensures few { IfOk result (λ kept. vec_len kept ≤ 65536) }
+    ensures { IfOk result (λ kept.
+        map read_row_record (items_of kept) ≡ rows_of_spns spns.now (map row_record rows.now)) }
 {
-    let mut kept = Vec::new(alloc);
+    let mut kept = List::new(alloc);
     for row in rows {
         if is_among(spns, row.spn) {
             kept.push(as_read(row))?;
@@ -50,13 +50,12 @@ pub(crate) fn read_rows_of<'t>(
     alloc: Global,
     rows: &[ReadRow<'t>],
     spns: &[u32],
-) -> Result<Vec<ReadRow<'t>>, AllocError>
+) -> Result<List<ReadRow<'t>>, AllocError>
     requires { length rows.now ≤ 65536 }
-    ensures kept { IfOk result (λ kept.
-        map read_row_record kept.items ≡ rows_of_spns spns.now (map read_row_record rows.now)) }
-    ensures few { IfOk result (λ kept. vec_len kept ≤ 65536) }
+    ensures { IfOk result (λ kept.
+        map read_row_record (items_of kept) ≡ rows_of_spns spns.now (map read_row_record rows.now)) }
 {
-    let mut kept = Vec::new(alloc);
+    let mut kept = List::new(alloc);
     for row in rows {
         if is_among(spns, row.spn) {
             kept.push(*row)?;

@@ -1,6 +1,7 @@
 //! A whole table.
-ghost use Rattle.std.specs.Prelude.{Err, ◌≡◌, ◌≤◌, ◌<◌, ◌++◌, ◌∷◌, [], IfOk, IfErr, MatchResult, OnOk, length, map, vec_len};
+ghost use Rattle.std.specs.Prelude.{Err, ◌≡◌, ◌≤◌, ◌<◌, ◌++◌, ◌∷◌, [], IfOk, IfErr, MatchResult, OnOk, length, map};
 ghost use Rattle.j39_groups.specs.ReadRows.{read_row_record};
+ghost use Rattle.j39_list.specs.Items.{items_of};
 ghost use Rattle.j39_table.specs.Tables.{IsFaultOf, IsTableOf, SpellRows, bare_line, is_row_line, lines_of, row_lines};
 ghost use Rattle.j39_table.specs.TableSteps.{IsLineRead};
 ghost use Rattle.j39_table.specs.declared.fault.TableFault.TheVariants.{TooLong};
@@ -9,6 +10,7 @@ use crate::TableFault;
 use crate::line::without_spaces;
 use crate::row::read_row;
 use j39_groups::{Groups, ReadRow};
+use j39_list::{List, MOST};
 use std::alloc::Global;
 
 /// The bytes that the text of a table may have, 1 MiB.
@@ -35,13 +37,12 @@ pub fn read(alloc: Global, text: &[u8]) -> Result<Groups<'_>, TableFault>
     }
 }
 
-fn rows_in(alloc: Global, text: &[u8]) -> Result<Vec<ReadRow<'_>>, TableFault>
+fn rows_in(alloc: Global, text: &[u8]) -> Result<List<ReadRow<'_>>, TableFault>
     requires { length text.now ≤ 1048576 }
-    ensures few { IfOk result (λ rows. vec_len rows ≤ 65536) }
-    ensures rows { IfOk result (λ rows. SpellRows (row_lines (lines_of text.now)) (map read_row_record rows.items)) }
+    ensures rows { IfOk result (λ rows. SpellRows (row_lines (lines_of text.now)) (map read_row_record (items_of rows))) }
     ensures wrong { IfErr result (λ fault. IsFaultOf text.now fault) }
 {
-    let mut rows = Vec::new(alloc);
+    let mut rows = List::new(alloc);
     let mut number = 0;
     for whole in text.split(|b| *b == b'\n') {
         number += 1;
@@ -57,11 +58,11 @@ fn rows_in(alloc: Global, text: &[u8]) -> Result<Vec<ReadRow<'_>>, TableFault>
 }
 
 /// Appends the row that a line spells.
-fn push_row<'t>(rows: &mut Vec<ReadRow<'t>>, number: u32, line: &'t [u8]) -> Result<(), TableFault>
-    ensures { IsLineRead (map read_row_record rows.old.items)
-        (map read_row_record rows.new.items) number line.entry.now result }
+fn push_row<'t>(rows: &mut List<ReadRow<'t>>, number: u32, line: &'t [u8]) -> Result<(), TableFault>
+    ensures { IsLineRead (map read_row_record (items_of rows.old))
+        (map read_row_record (items_of rows.new)) number line.entry.now result }
 {
-    if rows.len() >= 65536 {
+    if rows.len() >= MOST {
         return Err(TableFault::TooManyRows(number));
     }
     match read_row(line) {

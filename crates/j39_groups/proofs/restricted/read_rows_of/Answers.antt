@@ -1,10 +1,11 @@
 -- A row is kept or left out.
-use Rattle.std.proofs.Common.{◌∙◌, ◌++◌, ◌∷◌, [], Bool, ap, sym, arith, map, take}
-use Rattle.std.proofs.lemmas.List.{map-append}
+use Rattle.std.proofs.Common.{◌∙◌, ◌++◌, ◌∷◌, [], Bool, ap, sym, arith, length, map, take}
+use Rattle.std.proofs.lemmas.List.{length_push, map-append}
 use Rattle.j39_groups.specs.ReadRows.{read_row_record}
 use Rattle.j39_groups.specs.Readings.{is_among, rows_of_spns}
 use Rattle.j39_groups.specs.Row.{RowRecord}
 use Rattle.j39_groups.specs.declared.read_row.ReadRow.{ReadRow}
+use Rattle.j39_list.specs.Items.{items_of}
 use Rattle.j39_groups.proofs.RestrictedLemmas.{row_kept, row_left_out}
 use Rattle.j39_groups.proofs.restricted.read_rows_of.Goals as goal
 use Rattle.j39_groups.proofs.restricted.read_rows_of.Goals.{then-is_among+in_ok-push, else-is_among}
@@ -18,14 +19,16 @@ loop-row-preserved c =
     let same = ap (λ (row : ReadRow). p (read_row_record row)) (sym c.row-item.is) ∙ sym c.is_among.ensures in
     elim c.if-is_among.branch [
       | then-is_among+in_ok-push w ↦ (
-        ap (λ kept. map read_row_record kept.items) w.kept-is ∙ ap (map read_row_record) w.in_ok-push.ensures.items
-            ∙ map-append read_row_record c.loop-row.kept.items (d ∷ []) ∙ ap (λ kept. kept ++ (read_row_record d ∷ [])) c.loop-row.invariant.0
+        ap (λ kept. map read_row_record (items_of kept)) w.kept-is ∙ ap (map read_row_record) w.in_ok-push.ensures.ok
+            ∙ map-append read_row_record (items_of c.loop-row.kept) (d ∷ []) ∙ ap (λ kept. kept ++ (read_row_record d ∷ [])) c.loop-row.invariant.0
             ∙ ap (λ row. rows_of_spns c.args.spns.now (map read_row_record (take i rows)) ++ (read_row_record row ∷ [])) c.row-item.is
             ∙ sym (row_kept read_row_record p rows i d c.loop-row-test.true (same ∙ w.if-is_among.true)),
-        rw w.kept-is (omega (arith, w.in_ok-push.ensures.len, c.loop-row.invariant.1)),
+        (let grown = ap length w.in_ok-push.ensures.ok ∙ length_push (items_of c.loop-row.kept) d in
+            let before = c.loop-row.invariant.1 in
+            rw w.kept-is (omega (arith, grown, before))),
       )
       | else-is_among w ↦ (
-        ap (λ kept. map read_row_record kept.items) w.kept-is ∙ c.loop-row.invariant.0
+        ap (λ kept. map read_row_record (items_of kept)) w.kept-is ∙ c.loop-row.invariant.0
             ∙ sym (row_left_out read_row_record p rows i d c.loop-row-test.true (same ∙ w.if-is_among.false)),
         rw w.kept-is (omega (arith, c.loop-row.invariant.1)),
       )

@@ -1,10 +1,11 @@
-use Rattle.std.proofs.Common.{◌≡◌, ◌≤◌, map, take, vec_len}
+use Rattle.std.proofs.Common.{◌≡◌, ◌≤◌, length, map, take}
 use Rattle.j39_groups.specs.ReadRows.{read_row_record}
 use Rattle.j39_groups.specs.Readings.{rows_of_spns}
+use Rattle.j39_list.specs.Items.{items_of}
 use Rattle.j39_groups.proofs.restricted.read_rows_of.Given as goal
 
 -- those of the rows so far are kept
 abbrev pub invariant-loop-row : goal.invariant-loop-row
 invariant-loop-row l =
-    (map read_row_record l.kept.items ≡ rows_of_spns l.spns (map read_row_record (take l.row-index l.rows)))
-    × (vec_len l.kept ≤ l.row-index)
+    (map read_row_record (items_of l.kept) ≡ rows_of_spns l.spns (map read_row_record (take l.row-index l.rows)))
+    × (length (items_of l.kept) ≤ l.row-index)

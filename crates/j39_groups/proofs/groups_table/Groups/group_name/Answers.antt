@@ -7,6 +7,7 @@ use Rattle.j39_groups.specs.CodeRows.{row_record}
 use Rattle.j39_groups.specs.Names.{group_at, group_name_in}
 use Rattle.j39_groups.specs.ReadRows.{read_row_record}
 use Rattle.j39_groups.proofs.TableLemmas.{filter_map-seen}
+use Rattle.j39_list.specs.Items.{items_of}
 use Rattle.j39_groups.proofs.groups_table.Groups.group_name.Goals as goal
 
 pub returns-in-BuiltIn : goal.returns-in-BuiltIn
@@ -20,4 +21,4 @@ pub returns-in-Read : goal.returns-in-Read
 unfolding group_name_in
 returns-in-Read c = rw (← c.self.view_is, c.in-Read.is)
     (c.read_name_in.ensures ∙ rw (c.raw-in-Read.ensures.value, c.as_slice.ensures.value) (ap (λ names. slice_get names 0)
-    (sym (filter_map-seen read_row_record (group_at (pgn_raw c.args.pgn)) c.in-Read.table.rows.items))))
+    (sym (filter_map-seen read_row_record (group_at (pgn_raw c.args.pgn)) (items_of c.in-Read.table.rows)))))

@@ -1,0 +1,2 @@
+-- a stable sort keeps the items of each number
+pub mod SortLemmas

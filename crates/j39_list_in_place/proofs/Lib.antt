@@ -1,0 +1,2 @@
+-- a sort that takes no memory
+pub mod SettlingLemmas

@@ -1,0 +1,3 @@
+pub mod Items
+-- the sort's steps
+pub mod Settling
