@@ -1,15 +1,13 @@
-use Rattle.std.proofs.Common.{rules, subst}
+use Rattle.std.proofs.Common.{rules}
 use Rattle.j39_fault_news.specs.Output.{MakesFaults}
 use Rattle.j39_fault_news.specs.declared.telling.Telling.TheVariants.{News}
 use Rattle.j39_fault_news.proofs.AccountLemmas.{news_one}
-use Rattle.j39_web.specs.Text.{Overflows}
 use Rattle.j39_web.proofs.RoomLemmas.{overflows}
 use Rattle.j39_web.proofs.texts.faults.Goals as goal
 
 pub returns-clause-too_small : goal.returns-clause-too_small
 returns-clause-too_small c = λ fails.
     let ran = c.faults-ran.ensures in
-    let table = c.built_in-groups.result in
-    subst (λ groups. Overflows (MakesFaults groups News) c.args.bus c.args.log.now c.room-1.given.0) c.built_in-groups.ensures
-    (overflows (MakesFaults table News) (news_one (record { rows = table; which = News })) c.args.bus c.args.log.now c.new-source.result.rest.now c.faults-ran.result _ _ _ _ _ _ _
-    (search rules) (search rules) ran.faults ran.cut_short (search rules) (search rules) (search rules) (c.told.ensures.too_small fails) (search rules))
+    let table = c.args.groups.now in
+    overflows (MakesFaults table News) (news_one (record { rows = table; which = News })) c.args.bus c.args.log.now c.new-source.result.rest.now c.faults-ran.result _ _ _ _ _ _ _
+    (search rules) (search rules) ran.faults ran.cut_short (search rules) (search rules) (search rules) (c.told.ensures.too_small fails) (search rules)
