@@ -1,5 +1,5 @@
 -- The values of origins.
-use Rattle.std.specs.Prelude.{List, [], ◌∷◌, Option, Some, None, take}
+use Rattle.std.specs.Prelude.{List, take}
 use Rattle.j39_by_origin_in_place.specs.Paired.{paired}
 use Rattle.j39_by_origin_in_place.specs.declared.origin.Origin.{Origin}
 use Rattle.j39_by_origin_in_place.specs.declared.by_origin.ByOrigin.{ByOrigin}

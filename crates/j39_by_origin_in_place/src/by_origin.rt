@@ -7,8 +7,8 @@ ghost use Rattle.std.specs.declared.alloc.AllocError.{AllocError};
 ghost use Rattle.j39_by_origin_in_place.specs.Origin.{is_same, place_in};
 ghost use Rattle.j39_by_origin_in_place.specs.Paired.{paired};
 
-use crate::origin::Origin;
 use crate::hints::{Hints, NEIGHBOURS};
+use crate::origin::Origin;
 use std::alloc::{AllocError, Global};
 use std::array;
 
@@ -33,6 +33,8 @@ pub struct ByOrigin<T: Drop> {
     hints: Hints,
     count: usize,
     ghost fits: { count ≤ 4096 },
+    ghost origins_fit: { length origins ≡ 4096 },
+    ghost values_fit: { length values ≡ 4096 },
     ghost held: { keys_of (paired (take count origins) values) ≡ take count origins },
     ghost apart: { IsDistinct is_same (take count origins) } by { Prim.hlevel props },
 }

@@ -50,7 +50,10 @@ impl Hints {
 fn hint_at(origin: Origin, step: usize) -> usize
     ensures { result < HINTS }
 {
-    let controller = origin.name.unwrap_or(0).wrapping_add(u64::from(origin.address));
+    let controller = origin
+        .name
+        .unwrap_or(0)
+        .wrapping_add(u64::from(origin.address));
     let parameter = (u64::from(origin.pgn) << 32) | u64::from(origin.spn);
     let mixed = (controller.rotate_left(24) ^ parameter).wrapping_mul(0x9E37_79B9_7F4A_7C15);
     ((mixed >> 50) as usize).wrapping_add(step) % HINTS
