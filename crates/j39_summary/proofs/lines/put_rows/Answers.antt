@@ -1,5 +1,5 @@
 -- A row more; after a fault a front of the rows that are left was written.
-use Rattle.std.proofs.Common.{◌<◌, length, sym, ap, ◌∙◌, subst, arith}
+use Rattle.std.proofs.Common.{◌<◌, length, sym, ◌∙◌, subst, arith}
 use Rattle.std.specs.Io.KnownBytes.{Appends}
 use Rattle.std.proofs.KnownBytes.{Appends-trans}
 use Rattle.j39_by_origin.specs.ByOrigin.{pairs_of}

@@ -1,5 +1,5 @@
 -- The row of the origin grows, or a row begins.
-use Rattle.std.proofs.Common.{ap, sym, ◌∙◌, inl, inr}
+use Rattle.std.proofs.Common.{◌<◌, ◌∙◌, ap, inl, inr, length, rules, sym}
 use Rattle.j39_by_origin.specs.ByOrigin.{pairs_of}
 use Rattle.j39_by_origin.specs.Origin.{place_in}
 use Rattle.j39_by_origin.proofs.PlaceLemmas.{stands_within}
@@ -10,8 +10,11 @@ use Rattle.j39_groups.specs.ReadValues.{read_value_of}
 use Rattle.j39_summary.proofs.HeldLemmas.{grows, is_new}
 use Rattle.j39_summary.proofs.rows.take.Goals as goal
 
+-- The search finds what else a body of the call asks for: that a value with places of its own is not too large.
 pub change-requires : goal.change-requires
-change-requires c = stands_within (pairs_of c.args.rows.now) c.in-Some.at c.args.origin (sym c.requires ∙ c.in-Some.is)
+change-requires c =
+    let within : c.in-Some.at < length (pairs_of c.args.rows.now) = stands_within (pairs_of c.args.rows.now) c.in-Some.at c.args.origin (sym c.requires ∙ c.in-Some.is) in
+    search rules
 
 pub add-requires : goal.add-requires
 add-requires c = ap (place_in (pairs_of c.args.rows.now)) c.again.ensures ∙ sym c.requires ∙ c.in-None.is
