@@ -5,6 +5,7 @@ use Rattle.std.specs.Io.KnownBytes.{Appends}
 use Rattle.std.proofs.KnownBytes.{Appends-nil}
 use Rattle.std.proofs.lemmas.Grind.{flat_map-append}
 use Rattle.std.proofs.lemmas.List.{length-map, map-append}
+use Rattle.j39_by_origin.specs.ByOrigin.{pairs_of}
 use Rattle.j39_device.specs.Device.{AppendsFront}
 use Rattle.j39_frame.specs.Frame.{FrameRecord}
 use Rattle.j39_groups.specs.Readings.{is_reported_in, readings_in}
@@ -28,7 +29,7 @@ use Rattle.j39_summary.specs.Shown.{row_shown}
 use Rattle.j39_summary.specs.Summaries.{AsksForRows, MakesSummaryIn, output_of}
 use Rattle.j39_summary.specs.declared.account.SummaryAccount.{SummaryAccount}
 use Rattle.j39_summary.specs.declared.deeds.Deeds.{Deeds}
-use Rattle.j39_summary.specs.declared.origin.Origin.{Origin}
+use Rattle.j39_by_origin.specs.declared.origin.Origin.{Origin}
 use Rattle.j39_summary.specs.declared.rows.RowForm.{RowForm}
 use Rattle.j39_summary.specs.declared.rows.Rows.{Rows}
 
@@ -57,7 +58,7 @@ notes_silent groups l' F f rows before silent hears are = record {
 
 pub notes_heard : (groups : List RowRecord) (l' : Listener) (F : List FrameRecord) (f : FrameRecord) (h : Hearing) (begun rows : Rows) (before : List Entry)
     → HeardAt groups (F ++ f ∷ []) (length F) (Some h) → Hears l' (F ++ f ∷ []) → HasTaken (record { before = before; hearing = h }) begun []
-    → Takes {M = Unit {0}} (λ message rows medium. HasTaken message rows) begun tt rows tt (readings_in groups h.message.pgn h.message.bytes) → NotesFrame groups F f l' rows.rows.entries before 1
+    → Takes {M = Unit {0}} (λ message rows medium. HasTaken message rows) begun tt rows tt (readings_in groups h.message.pgn h.message.bytes) → NotesFrame groups F f l' (pairs_of rows.rows) before 1
 notes_heard groups l' F f h begun rows before at hears begins takes =
     let message : Message = record { before = before; hearing = h } in
     let taken = takes message [] begins in
@@ -65,7 +66,7 @@ notes_heard groups l' F f h begun rows before at hears begins takes =
       heard = Some h;
       heard_at = at;
       hears = hears;
-      are_rows = subst (λ es. AreRowsOf rows.rows.entries (before ++ es)) (sym (append-nil (entries_of groups h))) taken.are_rows;
+      are_rows = subst (λ es. AreRowsOf (pairs_of rows.rows) (before ++ es)) (sym (append-nil (entries_of groups h))) taken.are_rows;
       messages_are = refl;
     }
 
@@ -89,11 +90,11 @@ asks_heard groups F f h heard begun rows at are_heard begins stops =
     })
 
 pub summary_meets : (form : RowForm) (groups : List RowRecord) (a a' : SummaryAccount) → a'.groups ≡ a.groups → a'.form ≡ a.form → (f : FrameRecord) (messages : ℕ) (old : Option (List ℕ))
-    → ((F : List FrameRecord) (before : List Entry) → Hears a.listener F → AreRowsOf a.rows.rows.entries before → NotesFrame a.groups.now F f a'.listener a'.rows.rows.entries before messages)
+    → ((F : List FrameRecord) (before : List Entry) → Hears a.listener F → AreRowsOf (pairs_of a.rows.rows) before → NotesFrame a.groups.now F f a'.listener (pairs_of a'.rows.rows) before messages)
     → a'.messages ≡ capped (a.messages + messages) → Meets (HasSummed form groups) a a' (f ∷ []) old old
 summary_meets form groups a a' kept same f messages old notes sum = λ F before has.
     let entries = flat_map (entries_of groups) has.heard in
-    let n = subst (λ (table : List RowRecord). NotesFrame table F f a'.listener a'.rows.rows.entries entries messages) has.by (notes F entries has.hears has.are_rows) in
+    let n = subst (λ (table : List RowRecord). NotesFrame table F f a'.listener (pairs_of a'.rows.rows) entries messages) has.by (notes F entries has.hears has.are_rows) in
     let more = or_none n.heard in
     let count : a'.messages ≡ capped (length (has.heard ++ more)) =
     sum ∙ (let len = length-append has.heard more in let m = n.messages_are in let b = has.messages_are in omega (arith, len, m, b)) in
@@ -105,7 +106,7 @@ summary_meets form groups a a' kept same f messages old notes sum = λ F before 
         heard = has.heard ++ more;
         are_heard = heard_more (is_reported_in groups) F f has.heard n.heard has.are_heard n.heard_at;
         hears = n.hears;
-        are_rows = subst (AreRowsOf a'.rows.rows.entries) (sym (flat_map-append (entries_of groups) has.heard more)) n.are_rows;
+        are_rows = subst (AreRowsOf (pairs_of a'.rows.rows)) (sym (flat_map-append (entries_of groups) has.heard more)) n.are_rows;
         messages_are = count;
         nothing_yet = has.nothing_yet;
       };
@@ -117,17 +118,17 @@ summary_meets form groups a a' kept same f messages old notes sum = λ F before 
 -- ---- the end
 
 all_text : (form : RowForm) (groups : List RowRecord) (a : SummaryAccount) (F : List FrameRecord) (before : Output) (has : HasSummed form groups a F before)
-    → summary_text a.form a.groups.now (map row_shown a.rows.rows.entries) ≡ (output_of form groups has.heard).text
+    → summary_text a.form a.groups.now (map row_shown (pairs_of a.rows.rows)) ≡ (output_of form groups has.heard).text
 all_text form groups a F before has =
-    ap (λ (f : RowForm). summary_text f a.groups.now (map row_shown a.rows.rows.entries)) has.form_is
-    ∙ ap (λ (table : List RowRecord). summary_text form table (map row_shown a.rows.rows.entries)) has.by ∙ ap (summary_text form groups) has.are_rows
+    ap (λ (f : RowForm). summary_text f a.groups.now (map row_shown (pairs_of a.rows.rows))) has.form_is
+    ∙ ap (λ (table : List RowRecord). summary_text form table (map row_shown (pairs_of a.rows.rows))) has.by ∙ ap (summary_text form groups) has.are_rows
 
-pub summary_closes : (form : RowForm) (groups : List RowRecord) (a : SummaryAccount) (lines : ℕ) (old new : Option (List ℕ)) → lines ≡ length a.rows.rows.entries → lines < 2 ^ 64
-    → Appends old new (summary_text a.form a.groups.now (map row_shown a.rows.rows.entries))
+pub summary_closes : (form : RowForm) (groups : List RowRecord) (a : SummaryAccount) (lines : ℕ) (old new : Option (List ℕ)) → lines ≡ length (pairs_of a.rows.rows) → lines < 2 ^ 64
+    → Appends old new (summary_text a.form a.groups.now (map row_shown (pairs_of a.rows.rows)))
     → Closes (λ bus. HasSummed form groups) (MakesSummaryIn form groups) a (record { messages = a.messages; lines = lines }) old new
 summary_closes form groups a lines old new count fits written = λ bus F before has.
     let out = output_of form groups has.heard in
-    let rows : lines ≡ out.lines = count ∙ sym (length-map a.rows.rows.entries row_shown) ∙ ap length has.are_rows in
+    let rows : lines ≡ out.lines = count ∙ sym (length-map (pairs_of a.rows.rows) row_shown) ∙ ap length has.are_rows in
     record {
       after = out;
       is_made = (has.heard, has.are_heard, refl);
@@ -139,7 +140,7 @@ summary_closes form groups a lines old new count fits written = λ bus F before 
     }
 
 pub summary_stops : (form : RowForm) (groups : List RowRecord) (a : SummaryAccount) (old new : Option (List ℕ))
-    → AppendsFront old new (summary_text a.form a.groups.now (map row_shown a.rows.rows.entries)) → StopsAtEnd (λ bus. HasSummed form groups) (MakesSummaryIn form groups) a old new
+    → AppendsFront old new (summary_text a.form a.groups.now (map row_shown (pairs_of a.rows.rows))) → StopsAtEnd (λ bus. HasSummed form groups) (MakesSummaryIn form groups) a old new
 summary_stops form groups a old new front = λ bus F before all has made.
     let is : all.text ≡ (output_of form groups has.heard).text =
     summary_one form groups bus F all (output_of form groups has.heard) made (has.heard, has.are_heard, refl) in

@@ -2,7 +2,7 @@
 pub mod OriginLemmas
 pub mod FirstLemmas
 pub mod RowLemmas
-pub mod MapLemmas
+pub mod HeldLemmas
 pub mod LineLemmas
 pub mod AccountLemmas
 pub mod LawLemmas

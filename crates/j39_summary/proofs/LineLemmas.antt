@@ -17,7 +17,7 @@ use Rattle.j39_groups.specs.Row.{RowRecord}
 use Rattle.j39_summary.specs.RowText.{row_in, summary_text}
 use Rattle.j39_summary.specs.Shown.{row_shown}
 use Rattle.j39_summary.specs.declared.deeds.Deeds.{Deeds}
-use Rattle.j39_summary.specs.declared.origin.Origin.{Origin}
+use Rattle.j39_by_origin.specs.declared.origin.Origin.{Origin}
 use Rattle.j39_summary.specs.declared.rows.RowForm.{RowForm}
 
 pub short_decimal : (n : ℕ) → n < 2 ^ 64 → length (decimal n) ≤ 20

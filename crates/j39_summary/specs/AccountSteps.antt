@@ -1,6 +1,7 @@
 -- The steps of a summary, frame by frame: nothing is written before its end.
 use Rattle.std.specs.Prelude.{◌≡◌, ◌++◌, ◌∷◌, [], ℕ, List, Option, length}
 use Rattle.std.specs.List.{flat_map}
+use Rattle.j39_by_origin.specs.ByOrigin.{pairs_of}
 use Rattle.j39_frame.specs.Frame.{FrameRecord}
 use Rattle.j39_groups.specs.Row.{RowRecord}
 use Rattle.j39_listen.specs.Counting.{capped}
@@ -11,7 +12,7 @@ use Rattle.j39_listen.specs.Report.{Entry, entries_of}
 use Rattle.j39_summary.specs.RowSteps.{AreRowsOf}
 use Rattle.j39_listen.specs.declared.listener.Listener.{Listener}
 use Rattle.j39_summary.specs.declared.deeds.Deeds.{Deeds}
-use Rattle.j39_summary.specs.declared.origin.Origin.{Origin}
+use Rattle.j39_by_origin.specs.declared.origin.Origin.{Origin}
 use Rattle.j39_summary.specs.declared.rows.RowForm.{RowForm}
 use Rattle.j39_summary.specs.declared.account.SummaryAccount.{SummaryAccount}
 
@@ -23,7 +24,7 @@ pub record HasSummed (form : RowForm) (groups : List RowRecord) (summary : Summa
   pub heard : List Hearing
   pub are_heard : AreHeard groups F heard
   pub hears : Hears summary.listener F
-  pub are_rows : AreRowsOf summary.rows.rows.entries (flat_map (entries_of groups) heard)
+  pub are_rows : AreRowsOf (pairs_of summary.rows.rows) (flat_map (entries_of groups) heard)
   pub messages_are : summary.messages ≡ capped (length heard)
   pub nothing_yet : output ≡ nothing
 

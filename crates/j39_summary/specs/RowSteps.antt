@@ -1,16 +1,17 @@
 -- The steps of a summary, entry by entry.
 use Rattle.std.specs.Prelude.{◌≡◌, ◌+◌, ◌++◌, ℕ, Bool, List, Option, None, Some, if◌then◌else◌, map}
 use Rattle.std.specs.Int.{int_max, int_min}
+use Rattle.j39_by_origin.specs.ByOrigin.{pairs_of}
 use Rattle.j39_frame.specs.Stamp.{stamp_micros}
-use Rattle.j39_groups.specs.Value.{ReadingRecord}
+use Rattle.j39_groups.specs.Value.{ReadingRecord, ValueRecord}
 use Rattle.j39_listen.specs.Counting.{capped}
 use Rattle.j39_listen.specs.Heard.{Hearing}
 use Rattle.j39_listen.specs.Report.{Entry, entry_of}
-use Rattle.j39_summary.specs.Shown.{row_shown}
+use Rattle.j39_summary.specs.Shown.{entry_at, row_shown}
 use Rattle.j39_summary.specs.Summaries.{WantsRow}
 use Rattle.j39_summary.specs.Summary.{Number, Range, Row, are_comparable, is_word, number_of, summary_of}
 use Rattle.j39_summary.specs.declared.deeds.Deeds.{Deeds}
-use Rattle.j39_summary.specs.declared.origin.Origin.{Origin}
+use Rattle.j39_by_origin.specs.declared.origin.Origin.{Origin}
 use Rattle.j39_summary.specs.declared.rows.Rows.{Rows}
 
 -- the range with one number more
@@ -45,6 +46,11 @@ begun e = record {
   range = widened None (number_of e);
 }
 
+-- the row of these deeds has one value more, whatever its origin
+abbrev pub HasGrown : Deeds → ℕ → ValueRecord → Deeds → Type 0
+HasGrown old stamp value new =
+    (origin : Origin) → row_shown (origin, new) ≡ grown (row_shown (origin, old)) (entry_at origin stamp value)
+
 -- the rows are the summary of these entries
 abbrev pub AreRowsOf : List (Origin × Deeds) → List Entry → Type 0
 AreRowsOf rows entries = map row_shown rows ≡ summary_of entries
@@ -56,7 +62,7 @@ pub record Message : Type 0 where
 
 -- the rows are those of the entries before the message and of these readings of it
 pub record HasTaken (message : Message) (rows : Rows) (readings : List ReadingRecord) : Type 0 where
-  pub are_rows : AreRowsOf rows.rows.entries (message.before ++ map (entry_of message.hearing) readings)
+  pub are_rows : AreRowsOf (pairs_of rows.rows) (message.before ++ map (entry_of message.hearing) readings)
   pub stamp_is : stamp_micros rows.stamp ≡ message.hearing.stamp
   pub address_is : rows.address ≡ message.hearing.message.source
   pub name_is : rows.name ≡ message.hearing.name

@@ -1,12 +1,13 @@
 -- What contracts see of the code's types.
-use Rattle.std.specs.Prelude.{ℕ, Bool}
+use Rattle.std.specs.Prelude.{ℕ}
 use Rattle.std.specs.Option.{option_map}
 use Rattle.j39_frame.specs.Stamp.{stamp_micros}
 use Rattle.j39_groups.specs.ReadFields.{scale_record}
 use Rattle.j39_groups.specs.Shown.{slot_record}
 use Rattle.j39_groups.specs.Value.{SlotRecord, ValueRecord, number, on, off, error, reserved, indicator, text}
+use Rattle.j39_store.specs.Stored.{value_of}
 use Rattle.j39_listen.specs.Report.{Entry}
-use Rattle.j39_summary.specs.Summary.{Range, Row, have_one_origin}
+use Rattle.j39_summary.specs.Summary.{Range, Row}
 use Rattle.j39_summary.specs.declared.deeds.Deeds.{Deeds}
 use Rattle.j39_summary.specs.declared.deeds.Seen.{Seen}
 use Rattle.j39_summary.specs.declared.deeds.Span.{Span}
@@ -15,7 +16,7 @@ use Rattle.j39_summary.specs.declared.kept.Kept.TheVariants as kept
 use Rattle.j39_summary.specs.declared.kept.Kept.TheVariants.{On, Off, Error, Reserved, Indicator, Text}
 use Rattle.j39_summary.specs.declared.measure.Measure.{Measure}
 use Rattle.j39_summary.specs.declared.measure.Measure.TheVariants.{Slot, Scale}
-use Rattle.j39_summary.specs.declared.origin.Origin.{Origin}
+use Rattle.j39_by_origin.specs.declared.origin.Origin.{Origin}
 
 abbrev pub measure_record : Measure → SlotRecord
 measure_record (Slot slot) = slot_record slot
@@ -28,7 +29,7 @@ kept_value Off = off
 kept_value Error = error
 kept_value Reserved = reserved
 kept_value Indicator = indicator
-kept_value (Text bytes) = text bytes.items
+kept_value (Text copy) = text (value_of copy).items
 
 abbrev pub entry_at : Origin → ℕ → ValueRecord → Entry
 entry_at origin stamp value = record {
@@ -39,10 +40,6 @@ entry_at origin stamp value = record {
   spn = origin.spn;
   value = value;
 }
-
--- two origins are the same
-abbrev pub is_same : Origin → Origin → Bool
-is_same a b = have_one_origin (entry_at a 0 on) (entry_at b 0 on)
 
 abbrev pub entry_seen : Origin → Seen → Entry
 entry_seen origin seen = entry_at origin (stamp_micros seen.stamp) (kept_value seen.value)

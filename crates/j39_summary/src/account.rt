@@ -1,6 +1,7 @@
 //! The summary of the report of a log: the run that writes it, and the account of frames that it writes.
 ghost use Rattle.std.specs.Prelude.{◌≡◌, ◌≢◌, ◌<◌, ◌≤◌, ◌⊎◌, [], List, true, length};
 ghost use Rattle.std.specs.Prelude.{IfOk, IfSome, OnOk, OnErr, Err};
+ghost use Rattle.j39_by_origin.specs.ByOrigin.{pairs_of};
 ghost use Rattle.j39_frame.specs.Frame.{FrameRecord};
 ghost use Rattle.std.specs.List.{flat_map};
 ghost use Rattle.j39_listen.specs.Asking.{AsksWithin};
@@ -213,10 +214,10 @@ fn note<'t>(
     frame: &Frame,
 ) -> Result<u64, AllocError>
     ensures noted { IfOk result (λ messages. (F : List FrameRecord) (before : List Entry) → Hears listener.old F
-        → AreRowsOf rows.old.rows.entries before
-        → NotesFrame groups.now F frame.now listener.new rows.new.rows.entries before messages) }
+        → AreRowsOf (pairs_of rows.old.rows) before
+        → NotesFrame groups.now F frame.now listener.new (pairs_of rows.new.rows) before messages) }
     ensures asked { OnErr result ((F : List FrameRecord) (heard : List Hearing) → Hears listener.old F
-        → AreHeard groups.now F heard → AreRowsOf rows.old.rows.entries (flat_map (entries_of groups.now) heard)
+        → AreHeard groups.now F heard → AreRowsOf (pairs_of rows.old.rows) (flat_map (entries_of groups.now) heard)
         → AsksForRows groups.now F frame.now) }
 {
     match listener.feed_with(groups, frame) {

@@ -10,10 +10,11 @@ ghost use Rattle.j39_summary.specs.RowSteps.{begun, grown, one_if, widened};
 ghost use Rattle.j39_summary.specs.Shown.{entry_at, measure_record, range_of_span, row_shown};
 ghost use Rattle.j39_summary.specs.Summaries.{IsText};
 ghost use Rattle.j39_summary.specs.Summary.{is_word_value, number_in};
-ghost use Rattle.j39_summary.specs.declared.origin.Origin.{Origin};
+ghost use Rattle.j39_by_origin.specs.declared.origin.Origin.{Origin};
 
 use crate::kept::Kept;
 use crate::measure::{Measure, are_comparable};
+use j39_by_origin::Change;
 use j39_frame::Stamp;
 use j39_groups::{ReadValue, Value};
 use std::alloc::{AllocError, Global};
@@ -132,6 +133,29 @@ impl<'t> Deeds<'t> {
         self.count = self.count.saturating_add(1);
         self.words = self.words.saturating_add(u64::from(is_word));
         self.last = Seen { stamp, value };
+    }
+}
+
+/// One value more of an origin that has a row.
+#[derive(Clone, Copy)]
+pub(crate) struct OneMore<'t, 'v> {
+    pub alloc: Global,
+    pub stamp: Stamp,
+    pub value: ReadValue<'t, 'v>,
+}
+
+impl<'t, 'v> Change<Deeds<'t>> for OneMore<'t, 'v> {
+    ghost use Rattle.std.specs.Prelude.{OnErr, OnOk};
+    ghost use Rattle.j39_groups.specs.ReadValues.{read_value_of};
+    ghost use Rattle.j39_summary.specs.RowSteps.{HasGrown};
+    ghost use Rattle.j39_summary.specs.Summaries.{IsText};
+
+    ghost changes = { λ more old result new. OnOk result (HasGrown old (stamp_micros more.stamp)
+        (read_value_of more.value) new) × OnErr result (IsText (read_value_of more.value)) };
+
+    #[inline(always)]
+    fn make(self, deeds: &mut Deeds<'t>) -> Result<(), AllocError> {
+        deeds.grow(self.alloc, self.stamp, self.value)
     }
 }
 

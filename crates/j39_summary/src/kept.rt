@@ -2,12 +2,19 @@
 ghost use Rattle.std.specs.Prelude.{◌≡◌, IfOk, OnErr};
 ghost use Rattle.j39_groups.specs.ReadValues.{read_value_of};
 ghost use Rattle.j39_groups.specs.Shown.{value_of};
+ghost use Rattle.j39_store.specs.Stored.{value_of as stored_value};
 ghost use Rattle.j39_summary.specs.Shown.{kept_value};
 ghost use Rattle.j39_summary.specs.Summaries.{IsText};
 
 use crate::measure::Measure;
+use arrayvec::ArrayVec;
 use j39_groups::{ReadValue, Value};
+use j39_store::Stored;
+use j39_text::printing::push_bytes;
 use std::alloc::{AllocError, Global};
+
+/// How many bytes a text has at most, as the longest message (J1939-21, 5.10.1).
+const LONGEST: usize = 1785;
 
 /// A value as a row keeps it; `'t` is how long the table lives.
 #[derive(Drop)]
@@ -20,7 +27,7 @@ pub(crate) enum Kept<'t> {
     Reserved,
     Indicator,
     /// A copy of the text.
-    Text(Vec<u8>),
+    Text(Stored<ArrayVec<u8, LONGEST>>),
 }
 
 impl<'t> Kept<'t> {
@@ -49,10 +56,23 @@ impl<'t> Kept<'t> {
             Value::Error => Ok(Kept::Error),
             Value::Reserved => Ok(Kept::Reserved),
             Value::Indicator => Ok(Kept::Indicator),
-            Value::Text(text) => match Vec::from_slice(alloc, text) {
-                Ok(text) => Ok(Kept::Text(text)),
+            Value::Text(text) => match copy_of(alloc, text) {
+                Ok(copy) => Ok(Kept::Text(copy)),
                 Err(AllocError) => Err(AllocError),
             },
         }
     }
+}
+
+/// A copy of a text. An error comes where memory is refused, and for a text that is longer than any message.
+#[inline(never)]
+fn copy_of(alloc: Global, text: &[u8]) -> Result<Stored<ArrayVec<u8, LONGEST>>, AllocError>
+    ensures { IfOk result (λ copy. (stored_value copy).items ≡ text.now) }
+{
+    if text.len() > LONGEST {
+        return Err(AllocError);
+    }
+    let mut copy = ArrayVec::new();
+    push_bytes(&mut copy, text);
+    Stored::new(alloc, copy)
 }

@@ -7,7 +7,6 @@ mod kept;
 pub mod laws;
 mod lines;
 mod measure;
-mod origin;
 mod records;
 mod rows;
 

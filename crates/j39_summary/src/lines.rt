@@ -4,6 +4,7 @@ ghost use Rattle.std.specs.Option.{option_map};
 ghost use Rattle.std.specs.List.{flat_map};
 ghost use Rattle.std.specs.Io.KnownBytes.{Appends};
 ghost use Rattle.arrayvec.specs.ArrayVec.{array_vec_len};
+ghost use Rattle.j39_by_origin.specs.ByOrigin.{pairs_of};
 ghost use Rattle.j39_device.specs.Device.{AppendsFront, Marks};
 ghost use Rattle.j39_text.specs.Chars.{newline};
 ghost use Rattle.j39_groups.specs.ValueText.{bare_text};
@@ -13,11 +14,10 @@ ghost use Rattle.j39_summary.specs.Shown.{kept_value, range_of_span, row_shown};
 
 use crate::deeds::{Deeds, Span};
 use crate::kept::Kept;
-use crate::origin::Origin;
 use crate::records::put_record;
 use crate::rows::RowForm;
 use arrayvec::ArrayVec;
-use indexmap::IndexMap;
+use j39_by_origin::{ByOrigin, Origin};
 use j39_device::{DeviceFault, Sink, put_all};
 use j39_groups::{Groups, Value, put_value, scaled_text};
 use j39_log::push_stamp;
@@ -25,20 +25,20 @@ use j39_text::printing::{push_bytes, push_hex, push_number};
 
 /// Writes a line for each row, or a record, in their order.
 pub(crate) fn put_rows<W: Sink>(
-    rows: &IndexMap<Origin, Deeds<'_>>,
+    rows: &ByOrigin<Deeds<'_>>,
     form: RowForm,
     groups: &Groups<'_>,
     sink: &mut W,
 ) -> Result<(), DeviceFault>
     ensures written { OnOk result (Appends (W.held sink.old) (W.held sink.new)
-        (summary_text form groups.now (map row_shown rows.now.entries))) }
+        (summary_text form groups.now (map row_shown (pairs_of rows.now)))) }
     ensures front { OnErr result (AppendsFront (W.held sink.old) (W.held sink.new)
-        (summary_text form groups.now (map row_shown rows.now.entries))) }
+        (summary_text form groups.now (map row_shown (pairs_of rows.now)))) }
     ensures mark { Marks result (W.has_failed sink.old) (W.has_failed sink.new) }
 {
     for at in 0..rows.len() {
-        let (origin, deeds) = rows.get_index(at).unwrap();
-        put_row_in(form, *origin, deeds, groups, sink)?;
+        let (origin, deeds) = rows.pair_at(at);
+        put_row_in(form, origin, deeds, groups, sink)?;
     }
     Ok(())
 }

@@ -1,18 +1,18 @@
 //! The rows of a summary.
-ghost use Rattle.std.specs.Prelude.{◌≡◌, ◌++◌, ◌∷◌, [], List, OnOk, OnErr, IfOk, IsTrue, None, Some};
-ghost use Rattle.indexmap.specs.IndexMap.{get, index_of};
+ghost use Rattle.std.specs.Prelude.{◌≡◌, ◌<◌, ◌++◌, ◌∷◌, [], List, OnOk, OnErr, IfOk, None};
+ghost use Rattle.j39_by_origin.specs.ByOrigin.{pairs_of};
+ghost use Rattle.j39_by_origin.specs.Origin.{place_in};
 ghost use Rattle.j39_frame.specs.Stamp.{stamp_micros};
 ghost use Rattle.j39_groups.specs.ReadValues.{read_value_of};
 ghost use Rattle.j39_listen.specs.Report.{Entry};
 ghost use Rattle.j39_listen.specs.Shown.{hearing_of};
 ghost use Rattle.j39_summary.specs.RowSteps.{AreRowsOf, HasTaken};
-ghost use Rattle.j39_summary.specs.Shown.{entry_at, is_same};
+ghost use Rattle.j39_summary.specs.Shown.{entry_at};
 ghost use Rattle.j39_summary.specs.Summaries.{WantsRow};
 
-use crate::deeds::Deeds;
-use crate::origin::Origin;
-use indexmap::IndexMap;
+use crate::deeds::{Deeds, OneMore};
 use j39_address::Name;
+use j39_by_origin::{ByOrigin, Origin};
 use j39_frame::{Pgn, Stamp};
 use j39_groups::{ReadValue, ReadingVisitor};
 use j39_listen::Heard;
@@ -34,7 +34,7 @@ const GUESSES: usize = 1024;
 /// address and parameter, as a look-up costs more than a value; and what the readings of a message have in common.
 #[derive(Drop)]
 pub(crate) struct Rows<'t> {
-    pub rows: IndexMap<Origin, Deeds<'t>>,
+    pub rows: ByOrigin<Deeds<'t>>,
     guesses: [usize; GUESSES],
     alloc: Global,
     stamp: Stamp,
@@ -46,10 +46,10 @@ pub(crate) struct Rows<'t> {
 impl<'t> Rows<'t> {
     /// No rows.
     pub fn new(alloc: Global) -> Rows<'t>
-        ensures { AreRowsOf result.rows.entries [] }
+        ensures { AreRowsOf (pairs_of result.rows) [] }
     {
         Rows {
-            rows: IndexMap::new(alloc),
+            rows: ByOrigin::new(alloc),
             guesses: [0; GUESSES],
             alloc,
             stamp: Stamp::new(0).unwrap(),
@@ -62,7 +62,7 @@ impl<'t> Rows<'t> {
     /// Takes what the readings of a message have in common.
     #[inline(always)]
     pub fn begin(&mut self, heard: &Heard<'_>)
-        ensures { (before : List Entry) → AreRowsOf self.old.rows.entries before
+        ensures { (before : List Entry) → AreRowsOf (pairs_of self.old.rows) before
             → HasTaken (record { before = before; hearing = hearing_of heard.now }) self.new [] }
     {
         self.stamp = heard.message.stamp;
@@ -72,68 +72,82 @@ impl<'t> Rows<'t> {
     }
 }
 
-/// Whether the row of an origin stands at this place.
+/// Where the guess of an origin's row stands. Few origins of one bus have one place.
 #[inline(always)]
-fn stands_at(rows: &IndexMap<Origin, Deeds<'_>>, place: usize, origin: Origin) -> bool
-    ensures { IsTrue result → index_of is_same rows.now origin ≡ Some place }
+fn guess_at(origin: Origin) -> usize
+    ensures { result < GUESSES }
 {
-    if place >= rows.len() {
-        return false;
+    (usize::from(origin.address) * 37 + origin.spn as usize) % GUESSES
+}
+
+/// The same origin, in a place of its own: what a slow call is handed lies in memory, and the origin that is compared on
+/// the quick path need not.
+#[inline(always)]
+fn again(origin: Origin) -> Origin
+    ensures { result ≡ origin }
+{
+    Origin {
+        address: origin.address,
+        name: origin.name,
+        pgn: origin.pgn,
+        spn: origin.spn,
     }
-    let (found, _) = rows.get_index(place).unwrap();
-    *found == origin
 }
 
 /// Where the row of an origin stands, if it has one.
 #[inline(never)]
-fn looked_up(rows: &IndexMap<Origin, Deeds<'_>>, origin: Origin) -> Option<usize>
-    ensures { result ≡ index_of is_same rows.now origin }
+fn looked_up(rows: &ByOrigin<Deeds<'_>>, origin: Origin) -> Option<usize>
+    ensures { result ≡ place_in (pairs_of rows.now) origin }
 {
-    rows.get_index_of(&origin)
+    rows.place_of(origin)
 }
 
 /// Takes a value to its row, which stands at this place where there is one.
 #[inline(always)]
 fn take<'t>(
-    rows: &mut IndexMap<Origin, Deeds<'t>>,
+    rows: &mut ByOrigin<Deeds<'t>>,
     alloc: Global,
     place: Option<usize>,
     origin: Origin,
     stamp: Stamp,
     value: ReadValue<'t, '_>,
 ) -> Result<(), AllocError>
-    requires { place ≡ index_of is_same rows.old origin }
-    ensures taken { OnOk result ((before : List Entry) → AreRowsOf rows.old.entries before
-        → AreRowsOf rows.new.entries
+    requires { place ≡ place_in (pairs_of rows.old) origin }
+    ensures taken { OnOk result ((before : List Entry) → AreRowsOf (pairs_of rows.old) before
+        → AreRowsOf (pairs_of rows.new)
         (before ++ entry_at origin (stamp_micros stamp) (read_value_of value.entry) ∷ [])) }
-    ensures wanted { OnErr result ((before : List Entry) → AreRowsOf rows.old.entries before
+    ensures wanted { OnErr result ((before : List Entry) → AreRowsOf (pairs_of rows.old) before
         → WantsRow before (entry_at origin (stamp_micros stamp) (read_value_of value.entry))) }
 {
     match place {
-        Some(at) => rows[at].grow(alloc, stamp, value),
-        None => add(rows, alloc, origin.again(), stamp, value),
+        Some(at) => rows.change(
+            at,
+            OneMore {
+                alloc,
+                stamp,
+                value,
+            },
+        ),
+        None => add(rows, alloc, again(origin), stamp, value),
     }
 }
 
 /// Begins a row.
 #[inline(never)]
 fn add<'t>(
-    rows: &mut IndexMap<Origin, Deeds<'t>>,
+    rows: &mut ByOrigin<Deeds<'t>>,
     alloc: Global,
     origin: Origin,
     stamp: Stamp,
     value: ReadValue<'t, '_>,
 ) -> Result<(), AllocError>
-    ensures { OnOk result (get is_same rows.old origin ≡ None
-        → (before : List Entry) → AreRowsOf rows.old.entries before
-        → AreRowsOf rows.new.entries
+    requires { place_in (pairs_of rows.old) origin ≡ None }
+    ensures { OnOk result ((before : List Entry) → AreRowsOf (pairs_of rows.old) before
+        → AreRowsOf (pairs_of rows.new)
         (before ++ entry_at origin (stamp_micros stamp) (read_value_of value.entry) ∷ [])) }
 {
     let deeds = Deeds::begin(alloc, stamp, value)?;
-    match rows.insert(origin, deeds) {
-        Ok(_) => Ok(()),
-        Err(_) => Err(AllocError),
-    }
+    rows.add(origin, deeds)
 }
 
 impl<'t> ReadingVisitor<'t, ()> for Rows<'t> {
@@ -155,12 +169,12 @@ impl<'t> ReadingVisitor<'t, ()> for Rows<'t> {
             pgn: self.pgn,
             spn,
         };
-        let at = origin.guess() % GUESSES;
+        let at = guess_at(origin);
         let guess = self.guesses[at];
-        let place = if stands_at(&self.rows, guess, origin) {
+        let place = if self.rows.stands_at(guess, origin) {
             Some(guess)
         } else {
-            let place = looked_up(&self.rows, origin.again());
+            let place = looked_up(&self.rows, again(origin));
             self.guesses[at] = place.unwrap_or(self.rows.len());
             place
         };

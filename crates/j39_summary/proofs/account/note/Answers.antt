@@ -1,5 +1,6 @@
 -- A message is heard at the frame or none.
 use Rattle.std.specs.List.{flat_map}
+use Rattle.j39_by_origin.specs.ByOrigin.{pairs_of}
 use Rattle.j39_listen.specs.Report.{entries_of}
 use Rattle.j39_listen.specs.Shown.{hearing_of}
 use Rattle.j39_listen.proofs.ListenerLemmas.{on_ok}
@@ -8,7 +9,7 @@ use Rattle.j39_summary.proofs.account.note.Goals as goal
 
 pub returns-in-Ok-None-clause-noted : goal.returns-in-Ok-None-clause-noted
 returns-in-Ok-None-clause-noted c = λ F before h are.
-    notes_silent c.args.groups.now _ F c.args.frame.now c.args.rows.now.rows.entries before (rw c.in-Ok-None.field-0-is at (c.in-Ok-None.ensures.heard F h))
+    notes_silent c.args.groups.now _ F c.args.frame.now (pairs_of c.args.rows.now.rows) before (rw c.in-Ok-None.field-0-is at (c.in-Ok-None.ensures.heard F h))
     (on_ok _ _ _ _ c.in-Ok-None.is c.feed_with.follows.holds-at-none F h) are
 
 pub returns-in-Ok-clause-noted : goal.returns-in-Ok-clause-noted

@@ -1,28 +1,38 @@
 -- The row of the origin grows, or a row begins.
-use Rattle.std.proofs.Common.{sym, ◌∙◌, inl}
-use Rattle.j39_device.proofs.DeviceLemmas.{on_err}
+use Rattle.std.proofs.Common.{◌<◌, ◌∙◌, ap, inl, inr, length, rules, sym}
+use Rattle.j39_by_origin.specs.ByOrigin.{pairs_of}
+use Rattle.j39_by_origin.specs.Origin.{place_in}
+use Rattle.j39_by_origin.proofs.PlaceLemmas.{stands_within}
+use Rattle.j39_device.proofs.DeviceLemmas.{on_err, on_err_from}
 use Rattle.j39_frame.specs.Stamp.{stamp_micros}
 use Rattle.j39_groups.proofs.ReadLemmas.{on_ok_from}
 use Rattle.j39_groups.specs.ReadValues.{read_value_of}
-use Rattle.j39_summary.proofs.MapLemmas.{grows, is_new, no_row, value_there, within, written}
+use Rattle.j39_summary.proofs.HeldLemmas.{grows, is_new}
 use Rattle.j39_summary.proofs.rows.take.Goals as goal
 
-pub index_mut-requires : goal.index_mut-requires
-index_mut-requires c = within c.args.origin c.args.rows.now.entries c.in-Some.at (sym c.in-Some.is ∙ c.requires)
+-- The search finds what else a body of the call asks for: that a value with places of its own is not too large.
+pub change-requires : goal.change-requires
+change-requires c =
+    let within : c.in-Some.at < length (pairs_of c.args.rows.now) = stands_within (pairs_of c.args.rows.now) c.in-Some.at c.args.origin (sym c.requires ∙ c.in-Some.is) in
+    search rules
+
+pub add-requires : goal.add-requires
+add-requires c = ap (place_in (pairs_of c.args.rows.now)) c.again.ensures ∙ sym c.requires ∙ c.in-None.is
 
 pub returns-in-None-clause-wanted : goal.returns-in-None-clause-wanted
 returns-in-None-clause-wanted c =
-    let absent = no_row c.args.origin c.args.rows.now.entries (sym c.in-None.is ∙ c.requires) in
-    on_err c.add.result _ (λ before are. inl (is_new c.args.origin (stamp_micros c.args.stamp) (read_value_of c.args.value) c.args.rows.now.entries before absent are))
+    on_err c.add.result _ (λ before are. inl (is_new c.args.origin (stamp_micros c.args.stamp) (read_value_of c.args.value) (pairs_of c.args.rows.now) before
+    (sym c.requires ∙ c.in-None.is) are))
 
 pub returns-in-None-clause-taken : goal.returns-in-None-clause-taken
-returns-in-None-clause-taken c =
-    on_ok_from c.add.result _ _ (λ added. added (no_row c.args.origin c.args.rows.now.entries (sym c.in-None.is ∙ c.requires))) (rw c.again.ensures at c.add.ensures)
+returns-in-None-clause-taken c = rw c.again.ensures at c.add.ensures
+
+pub returns-in-Some-clause-wanted : goal.returns-in-Some-clause-wanted
+returns-in-Some-clause-wanted c = on_err_from c.change.result _ _ (λ text before are. inr text) c.change.ensures.3.1
 
 pub returns-in-Some-clause-taken : goal.returns-in-Some-clause-taken
 returns-in-Some-clause-taken c =
-    let rows = c.args.rows.now.entries in
-    let value = read_value_of c.args.value in
-    on_ok_from c.grow.result _ _ (λ grown before are.
-    grows c.args.origin c.index_mut.result.now c.grow.new.self (stamp_micros c.args.stamp) value rows _ before grown
-    (value_there c.args.origin rows c.in-Some.at (sym c.in-Some.is ∙ c.requires) ∙ c.index_mut.ensures.value) (written c.args.origin rows c.in-Some.at c.grow.new.self (sym c.in-Some.is ∙ c.requires)) are) c.grow.ensures.grown
+    let change = c.change.ensures in
+    on_ok_from c.change.result _ _ (λ grown before are.
+    grows c.args.origin change.0 change.1 change.2 (stamp_micros c.args.stamp) (read_value_of c.args.value) (pairs_of c.args.rows.now) _ c.in-Some.at before
+    grown (sym c.requires ∙ c.in-Some.is) change.4 change.5 are) change.3.0

@@ -7,4 +7,4 @@ pub returns-in_err-put_rows-clause-stops : goal.returns-in_err-put_rows-clause-s
 returns-in_err-put_rows-clause-stops g c = on_err c.from_residual.result _ (λ subject. summary_stops subject.0 subject.1 c.args.self.now _ _ c.in_err-put_rows.ensures.front)
 
 pub returns-clause-closes : goal.returns-clause-closes
-returns-clause-closes g c = λ subject. summary_closes subject.0 subject.1 c.args.self.now c.len.result _ _ c.len.ensures.len (omega arith) c.in_ok-put_rows.ensures.written
+returns-clause-closes g c = λ subject. summary_closes subject.0 subject.1 c.args.self.now c.len.result _ _ c.len.ensures (omega arith) c.in_ok-put_rows.ensures.written

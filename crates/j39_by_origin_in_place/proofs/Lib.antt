@@ -1,0 +1,3 @@
+pub mod OriginLemmas
+pub mod PlaceLemmas
+pub mod PairLemmas
