@@ -3,6 +3,7 @@ use Rattle.std.specs.Prelude.{◌≡◌, ◌==◌, ◌<◌, ◌-◌, ℕ, List, 
 use Rattle.j39_frame.specs.Pgn.{pgn_raw}
 use Rattle.j39_groups.specs.declared.listed.Listed.{Listed}
 use Rattle.j39_groups.specs.declared.listed.Listed.TheVariants.{BuiltIn, Read}
+use Rattle.j39_groups.specs.declared.listed.ReadTable.{ReadTable}
 use Rattle.j39_groups.specs.declared.read_row.ReadRow.{ReadRow}
 use Rattle.j39_groups.specs.ReadFields.{read_field_record}
 use Rattle.j39_groups.specs.Row.{RowRecord}
@@ -19,7 +20,7 @@ read_row_record row = record {
   field = read_field_record row.field;
 }
 
-abbrev pub rows_in : Listed → List RowRecord
+abbrev pub rows_in : Listed ReadTable → List RowRecord
 rows_in BuiltIn = the_table
 rows_in (Read table) = map read_row_record (items_of table.rows)
 

@@ -38,7 +38,7 @@ use std::marker::Model;
 /// A table of parameters.
 #[derive(Drop)]
 pub struct Groups<'t> {
-    listed: Listed<'t>,
+    listed: Listed<ReadTable<'t>>,
 }
 
 impl<'t> Model for Groups<'t> {

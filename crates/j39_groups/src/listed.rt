@@ -19,11 +19,12 @@ pub(crate) struct ReadTable<'t> {
     pub ghost marked: { are_marked marks (items_of rows) ≡ true },
 }
 
-/// Where the rows of a table are.
+/// Where the rows of a table are. What was built is a parameter: a variant that names a lifetime may hold no array, as
+/// the rows of a page's build stand in.
 #[derive(Drop)]
-pub(crate) enum Listed<'t> {
+pub(crate) enum Listed<R: Drop> {
     /// In the program.
     BuiltIn,
     /// In what was built.
-    Read(ReadTable<'t>),
+    Read(R),
 }
