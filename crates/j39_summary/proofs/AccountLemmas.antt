@@ -24,13 +24,14 @@ use Rattle.j39_listen.proofs.Reported.{reported_leaves}
 use Rattle.j39_listen.proofs.Unique.{heard_below_unique}
 use Rattle.j39_summary.specs.AccountSteps.{HasSummed, NotesFrame}
 use Rattle.j39_summary.specs.RowSteps.{AreRowsOf, HasTaken, Message, WantsAt}
-use Rattle.j39_summary.specs.RowText.{summary_text}
+use Rattle.j39_summary.specs.RowText.{summary_columns, summary_text}
 use Rattle.j39_summary.specs.Shown.{row_shown}
-use Rattle.j39_summary.specs.Summaries.{AsksForRows, MakesSummaryIn, output_of}
+use Rattle.j39_summary.specs.Summaries.{AsksForRows, MakesSummaryIn, MakesSummaryRecords, output_of}
 use Rattle.j39_summary.specs.declared.account.SummaryAccount.{SummaryAccount}
 use Rattle.j39_summary.specs.declared.deeds.Deeds.{Deeds}
 use Rattle.j39_by_origin.specs.declared.origin.Origin.{Origin}
 use Rattle.j39_summary.specs.declared.rows.RowForm.{RowForm}
+use Rattle.j39_summary.specs.declared.rows.RowForm.TheVariants.{Record}
 use Rattle.j39_summary.specs.declared.rows.Rows.{Rows}
 
 -- ---- laws
@@ -43,6 +44,12 @@ pub summary_one : (form : RowForm) (groups : List RowRecord) → MakesOne (Makes
 summary_one form groups = λ bus F x y (hs, are_x, is_x) (ks, are_y, is_y).
     ap (λ (o : Output). o.text) is_x ∙ ap (λ (heard : List Hearing). (output_of form groups heard).text) (heard_below_unique (is_reported_in groups) (reported_leaves groups) F (length F) hs ks are_x are_y)
     ∙ sym (ap (λ (o : Output). o.text) is_y)
+
+-- and behind the names of the columns
+pub records_one : (groups : List RowRecord) → MakesOne (MakesSummaryRecords groups)
+records_one groups = λ bus F x y (a, made_a, is_a) (b, made_b, is_b).
+    ap (λ (o : Output). o.text) is_a ∙ ap (λ t. summary_columns ++ t) (summary_one Record groups bus F a b made_a made_b)
+    ∙ sym (ap (λ (o : Output). o.text) is_b)
 
 -- ---- one frame
 

@@ -5,15 +5,12 @@ use Rattle.std.specs.Prelude.{IfErr, IfOk, IsOk, MatchResult, OnOk, Ok, Err, Res
 use Rattle.j39_log.specs.Log.{frames_of}
 use Rattle.j39_log.proofs.LogLemmas.{same_log}
 use Rattle.j39_listen.specs.AccountSteps.{MakesOne}
-use Rattle.j39_listen.specs.Output.{Making, Output}
+use Rattle.j39_listen.specs.Output.{Making}
 use Rattle.j39_listen.specs.Run.{Writes, WritesFront, run_bus}
 use Rattle.j39_listen.specs.declared.counts.Counts.{Counts}
 use Rattle.j39_listen.specs.declared.running.RunFault.{RunFault}
 use Rattle.j39_listen.specs.declared.running.RunFault.TheVariants.{Memory, Read, Write, TooLong}
 use Rattle.j39_groups.specs.Row.{RowRecord}
-use Rattle.j39_summary.specs.RowText.{summary_columns}
-use Rattle.j39_summary.specs.Summaries.{MakesSummaryRecords}
-use Rattle.j39_summary.proofs.AccountLemmas.{summary_one}
 use Rattle.j39_survey.specs.Run.{WritesSurvey}
 use Rattle.j39_survey.specs.Run.{WritesFront as WritesSurveyFront}
 use Rattle.j39_survey.specs.SurveyText.{survey_text}
@@ -52,12 +49,6 @@ overflows_front : (makes : Making) (given : Option (List ℕ)) (log : List ℕ) 
 overflows_front makes given log n m k ys room h full same = λ spelled output is made.
     let f = h spelled output is made in
     fills n m k ys room f.0 f.1 output.text f.3 f.2 full same
-
--- the summary of a log is one
-pub records_one : (table : List RowRecord) → MakesOne (MakesSummaryRecords table)
-records_one table = λ bus F x y (a, made_a, is_a) (b, made_b, is_b).
-    ap (λ (o : Output). o.text) is_a ∙ ap (λ t. summary_columns ++ t) (summary_one _ table bus F a b made_a made_b)
-    ∙ sym (ap (λ (o : Output). o.text) is_b)
 
 -- where a run has no room
 pub overflows : (makes : Making) → MakesOne makes → (given : Option (List ℕ)) (log log' : List ℕ) (ran : Result Counts RunFault) (z n m k : ℕ) (xs ys room : List ℕ)

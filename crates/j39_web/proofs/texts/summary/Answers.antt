@@ -1,6 +1,7 @@
 use Rattle.std.proofs.Common.{rules}
 use Rattle.j39_summary.specs.Summaries.{MakesSummaryRecords}
-use Rattle.j39_web.proofs.RoomLemmas.{overflows, records_one}
+use Rattle.j39_summary.proofs.AccountLemmas.{records_one}
+use Rattle.j39_web.proofs.RoomLemmas.{overflows}
 use Rattle.j39_web.proofs.texts.summary.Goals as goal
 
 pub returns-clause-too_small : goal.returns-clause-too_small
