@@ -7,3 +7,4 @@ pub mod RowLemmas
 -- the lines of a table, and what is printed
 pub mod TableLemmas
 pub mod PrintedLemmas
+pub mod FaultLemmas
