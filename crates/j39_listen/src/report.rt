@@ -74,7 +74,10 @@ pub fn run<R: Source, W: Sink>(
     ensures prefix { OnErr result (StopsWithin (MakesReport the_table) bus
         (R.remaining source.old) (R.remaining source.new) (W.held sink.old) (W.held sink.new)) }
 {
-    run_with(alloc, &Groups::built_in(), source, sink, bus, limit)
+    let groups = Groups::built_in();
+    // Named, so that its proof is one whether a table that was read would own memory or not.
+    let ran = run_with(alloc, &groups, source, sink, bus, limit);
+    ran
 }
 
 /// Writes the report of a log of at most `limit` bytes by a table of parameters: a line for each value of it that
