@@ -63,8 +63,11 @@ function hear({ data }) {
   else if (data.progress) showProgress(data.progress);
   else if (data.fault) fail(data.fault);
   else if (data.log) showLog(data.log, data.rows);
+  else if (data.faults) showFaults(data.faults);
+  else if (data.nodes) showNodes(data.nodes);
+  else if (data.survey !== undefined) finish(data.survey);
   else if (data.plotted) draw(data.plotted, data.ticket);
-  else if (data.values) save(data.values, `${stem()}-values.csv`);
+  else if (data.values) saveValues(data.values);
   else if (data.report) saveReport(data.report);
 }
 
@@ -91,7 +94,6 @@ function sayRead() {
 function showLog(it, all) {
   [log, rows, chosen] = [it, all, []];
   order = { by: null, falls: false };
-  $('progress').hidden = true;
   $('filter').value = '';
   const { frames, other, unread, messages, values } = it.counts;
   sayRead();
@@ -104,14 +106,20 @@ function showLog(it, all) {
     return pair;
   }));
   showHint(it.counts);
-  showSurvey(it);
-  showFaults(it);
-  showNodes(it.nodes);
+  for (const part of ['faults-section', 'nodes-box', 'nobody']) $(part).hidden = true;
+  $('survey').textContent = '';
   showHead();
   showRows();
   choose(rows.find(row => row.spn === '190' && isDrawn(row)) || rows.find(isDrawn));
   $('result').hidden = false;
-  document.body.dataset.done = JSON.stringify(it.counts);
+}
+
+// What the file is, open where it has no frame of the interface; it comes last.
+function finish(survey) {
+  $('survey').textContent = survey;
+  $('survey-box').open = !log.counts.frames;
+  $('progress').hidden = true;
+  document.body.dataset.done = JSON.stringify(log.counts);
 }
 
 function showHint({ frames, other, unread, values }) {
@@ -121,12 +129,6 @@ function showHint({ frames, other, unread, values }) {
   if (frames && !values) hints.push('Its frames hold none of the parameters that are read.');
   $('hint').textContent = hints.join(' ');
   $('hint').hidden = !hints.length;
-}
-
-// What the file is, open where it has no frame of the interface.
-function showSurvey({ survey, counts }) {
-  $('survey').textContent = survey;
-  $('survey-box').open = !counts.frames;
 }
 
 // A line is `(STAMP) AA NAME active|previous SPN FMI COUNT LAMPS WORDS`, `.. CODE - LAMPS` where the code's four bytes are of
@@ -139,13 +141,14 @@ function faultCells(line) {
     [times, 'n'], [rest[isPlain ? 2 : 1]], [isPlain ? rest.slice(3).join(' ') : '']];
 }
 
-function showFaults({ faults, faultLines }) {
-  $('faults-section').hidden = !faults.some(line => line.split(' ')[4] !== 'none');
+function showFaults(faults) {
+  log.faults = faults;
+  $('faults-section').hidden = !faults.lines.some(line => line.split(' ')[4] !== 'none');
   headOf($('faults'), ['time', 'address', 'NAME', 'state', 'SPN', 'FMI', 'count', 'lamps', 'what']);
-  $('faults').tBodies[0].replaceChildren(...faults.map(line => rowOf(faultCells(line))));
-  $('faults-shown').textContent = faults.length < faultLines
-    ? `${count(faultLines, 'line')}, of which the first ${number(faults.length)} are shown`
-    : count(faultLines, 'line');
+  $('faults').tBodies[0].replaceChildren(...faults.lines.map(line => rowOf(faultCells(line))));
+  $('faults-shown').textContent = faults.lines.length < faults.count
+    ? `${count(faults.count, 'line')}, of which the first ${number(faults.lines.length)} are shown`
+    : count(faults.count, 'line');
 }
 
 function headOf(table, columns) {
@@ -310,6 +313,7 @@ function clock(seconds, isLong) {
 }
 
 function draw({ i, points, of }, itsTicket) {
+  $('progress').hidden = true;
   const plot = plots.find(one => one.i === i);
   if (itsTicket !== ticket || !plot) return;
   const row = rows[i];
@@ -348,6 +352,11 @@ function saveTable() {
   save(new Blob([lines.map(cells => cells.map(field).join(',') + '\n').join('')], { type: 'text/csv' }), `${stem()}.csv`);
 }
 
+function saveValues(values) {
+  $('progress').hidden = true;
+  save(values, `${stem()}-values.csv`);
+}
+
 function saveReport(report) {
   $('progress').hidden = true;
   sayRead();
@@ -356,7 +365,7 @@ function saveReport(report) {
 
 $('save-report').onclick = () => worker.postMessage({ report: true });
 $('save-table').onclick = saveTable;
-$('save-faults').onclick = () => save(log.faultText, `${stem()}.faults.txt`);
+$('save-faults').onclick = () => save(log.faults.text, `${stem()}.faults.txt`);
 $('save-values').onclick = () => worker.postMessage({ values: chosen });
 $('whole').onclick = showWhole;
 $('filter').oninput = showRows;
@@ -371,7 +380,7 @@ $('file').onchange = event => {
 };
 for (const zone of document.querySelectorAll('input[name=zone]')) zone.onchange = () => {
   showTime(shownFrom, shownTo);
-  if (log) showFaults(log);
+  if (log && log.faults) showFaults(log.faults);
 };
 $('show-licence').onclick = () => {
   $('licence').textContent = $('licence-text').textContent;

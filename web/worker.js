@@ -111,7 +111,8 @@ function tableOf(file) {
   return { name: file.name, bytes: new Uint8Array(new FileReaderSync().readAsArrayBuffer(front)) };
 }
 
-function readLog({ file, bus, table }, tell) {
+// Posts the parameters of a log first, and then the rest as it is made.
+function readLog({ file, bus, table }, tell, post) {
   const given = tableOf(table);
   place = null;
   kept = new Map();
@@ -121,16 +122,17 @@ function readLog({ file, bus, table }, tell) {
   tell(0, 0);
   const summary = textOf(it, 'j39_summary', it.given, 4 * ROOM);
   asked.rows = rowsOf(latin(summary.bytes), asked.names);
-  const nodes = latin(textOf(it, 'j39_nodes', [log, named], PAGE).bytes).split('\n').filter(Boolean).map(line => {
-    const [address, name] = line.split(' ');
-    return { address, name, fields: fieldsOf(it, name) };
-  });
-  const faults = told(textOf(it, 'j39_faults', it.given, ROOM).bytes.slice());
-  const survey = latin(textOf(it, 'j39_survey', [log, rows], ROOM).bytes);
   const { frames, other, unread, messages } = summary.counts;
   const values = asked.rows.reduce((sum, row) => sum + row.count, 0);
-  return { name: file.name, size: file.size, table: given.name, counts: { frames, other, unread, messages, values },
-    nodes, survey, ...faults };
+  const told = { name: file.name, size: file.size, table: given.name, counts: { frames, other, unread, messages, values } };
+  post({ log: told, rows: asked.rows });
+  post({ faults: faultsOf(textOf(it, 'j39_faults', it.given, ROOM).bytes.slice()) });
+  const holders = latin(textOf(it, 'j39_nodes', [log, named], PAGE).bytes).split('\n').filter(Boolean);
+  post({ nodes: holders.map(line => {
+    const [address, name] = line.split(' ');
+    return { address, name, fields: fieldsOf(it, name) };
+  }) });
+  post({ survey: latin(textOf(it, 'j39_survey', [log, rows], ROOM).bytes) });
 }
 
 // The report of the whole log. Its room is as much memory again, and more, and goes with the instance.
@@ -142,9 +144,9 @@ function report(tell) {
 }
 
 // The lines of the fault codes, of which a page shows the first, and all to be saved.
-function told(bytes) {
+function faultsOf(bytes) {
   const lines = latin(bytes).split('\n').filter(Boolean);
-  return { faults: lines.slice(0, MOST_FAULTS), faultLines: lines.length, faultText: new Blob([bytes], { type: 'text/plain' }) };
+  return { lines: lines.slice(0, MOST_FAULTS), count: lines.length, text: new Blob([bytes], { type: 'text/plain' }) };
 }
 
 // ---- the rows of the summary --------------------------------------------------------------------
@@ -325,8 +327,7 @@ async function hear(data) {
   }
   await start;
   if (data.file) {
-    const log = readLog(data, tellProgress);
-    postMessage({ log, rows: asked.rows });
+    readLog(data, tellProgress, postMessage);
   } else if (data.plot !== undefined) {
     postMessage({ plotted: plot(data.plot, data.from, data.to, data.points, tellProgress), ticket: data.ticket });
   } else if (data.values) {
