@@ -99,7 +99,7 @@ function showLog(it, all) {
   sayRead();
   const facts = { log: it.name, size: `${(it.size / 1e6).toFixed(1)} MB`, frames: number(frames), 'other lines': number(other),
     'unread lines': number(unread), messages: number(messages), values: number(values) };
-  if (it.table) facts.table = it.table;
+  facts.table = it.table || 'built-in';
   $('facts').replaceChildren(...Object.entries(facts).map(([name, value]) => {
     const pair = element('div');
     pair.append(element('dt', name), element('dd', value));
@@ -188,9 +188,9 @@ function rowOf(cells) {
 // ---- the parameters -----------------------------------------------------------------------------
 
 const COLUMNS = [
-  ['address', row => row.address, ''], ['NAME', row => row.name, 'code'], ['PGN', row => row.pgn, 'n'], ['group', row => row.group, ''],
-  ['SPN', row => row.spn, 'n'], ['name', row => row.title, ''], ['unit', row => row.unit, ''], ['values', row => row.count, 'n'],
+  ['address', row => row.address, ''], ['name', row => row.title, ''], ['unit', row => row.unit, ''], ['values', row => row.count, 'n'],
   ['least', row => row.least, 'n'], ['most', row => row.most, 'n'], ['first', row => row.first, 'n long'], ['last', row => row.last, 'n long'],
+  ['SPN', row => row.spn, 'n'], ['group', row => row.group, ''], ['PGN', row => row.pgn, 'n'], ['NAME', row => row.name, 'code'],
 ];
 
 function showHead() {
@@ -253,6 +253,7 @@ function showRows() {
     return line;
   }));
   const cut = found.length > MOST_ROWS ? `, of which the first ${number(MOST_ROWS)} are shown` : '';
+  $('ticks').textContent = chosen.length < MOST_PLOTS ? `Tick up to ${MOST_PLOTS} to plot them.` : `${MOST_PLOTS} are plotted: untick one to plot another.`;
   $('shown').textContent = `${number(found.length)} of ${number(rows.length)}${cut}`;
 }
 
