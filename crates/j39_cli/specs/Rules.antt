@@ -1,6 +1,8 @@
 -- What clap is told of arguments.
-use Rattle.std.specs.Prelude.{Bool, false, Option, None, Some, bytes_eq, codes}
-use Rattle.clap.specs.Words.{App, Rule, Text, new_rule, with_rule}
+use Rattle.std.specs.Prelude.{◌≡◌, Bool, false, IfOk, Option, None, Result, Some, bytes_eq, codes}
+use Rattle.clap.specs.Words.{App, Rule, Text, app_of, new_rule, with_rule}
+use Rattle.clap.specs.declared.builder.command.Command.{Command}
+use Rattle.clap.specs.declared.builder.command.Command.TheViews.{out-Command as settings_of}
 use Rattle.clap.specs.declared.builder.action.ArgAction.TheVariants.{SetTrue}
 
 -- `--name VALUE`
@@ -23,3 +25,7 @@ is_given (Some text) = bytes_eq text (codes "true")
 -- a command that goes by a table of parameters takes `--table`
 abbrev pub with_table : App → App
 with_table command = with_rule command (option_rule (codes "table") false)
+
+-- the command, where memory was found for it, is told as this, and none of its arguments goes for the commands below it
+abbrev pub IsMade : {E : Type 0} → Result Command E → App → Type 0
+IsMade made told = IfOk made (λ c. (app_of c ≡ told) × ((settings_of c).has_globals ≡ false))

@@ -1,8 +1,7 @@
 //! The command `answer`: its words, and how it is performed.
-ghost use Rattle.std.specs.Prelude.{◌≡◌, ◌≢◌, ◌↔◌, IfOk, IfSome, IsSome, Some, codes, false, true, Err};
+ghost use Rattle.std.specs.Prelude.{◌≡◌, ◌≢◌, ◌↔◌, IfOk, IfSome, IsSome, Some, codes, true, Err};
 ghost use Rattle.std.specs.Str.Parse.{digits_value};
-ghost use Rattle.clap.specs.Words.{Text, app_of, first_value, found_of, new_app};
-ghost use Rattle.clap.specs.declared.builder.command.Command.TheViews.{out-Command as settings_of};
+ghost use Rattle.clap.specs.Words.{Text, first_value, found_of};
 ghost use Rattle.j39_address.specs.Name.{name_raw};
 ghost use Rattle.j39_address.specs.Node.{idle_node};
 ghost use Rattle.j39_listen.specs.Asking.{AsksForBoxes};
@@ -14,8 +13,9 @@ ghost use Rattle.j39_cli.specs.Numbers.{IsNumberBelow};
 ghost use Rattle.j39_cli.specs.LogCommand.{IsRun};
 ghost use Rattle.j39_cli.specs.Task.{IsInRange};
 ghost use Rattle.j39_cli.specs.Turn.{turn};
+ghost use Rattle.j39_cli.specs.Rules.{IsMade};
 
-use crate::command::with_option;
+use crate::command::{new_command, with_option};
 use crate::cut_values::source_of;
 use crate::log::{LOG_LIMIT, copy_of, tell_end, with_log};
 use crate::name::name_of;
@@ -51,24 +51,17 @@ writes lines such as
 
 /// What clap is told of it.
 pub(crate) fn command<'a>(alloc: Global) -> Result<Command<'a>, AllocError>
-    ensures app { IfOk result (λ c. app_of c ≡ answer_app) }
-    ensures local { IfOk result (λ c. (settings_of c).has_globals ≡ false) }
+    ensures { IsMade result answer_app }
 {
+    let about = "Writes what a device of a NAME would have sent to get and keep an address";
+    let command = new_command(alloc, "answer", about, ABOUT, HELP);
     let help = "The NAME of the device, 16 hex digits (of either case, no 0x), the top bits first";
-    let command = with_option(alloc, bare(alloc), "name", "H", true, help)?;
+    let command = with_option(alloc, command, "name", "H", true, help);
     let help = "The address that the device claims first, 0 to 253, in decimal";
-    let command = with_option(alloc, command, "address", "N", true, help)?;
-    with_log(alloc, command)
-}
-
-fn bare<'a>(alloc: Global) -> Command<'a>
-    ensures app { app_of result ≡ new_app (codes "answer") }
-    ensures local { (settings_of result).has_globals ≡ false }
-{
-    Command::new(alloc, "answer")
-        .about("Writes what a device of a NAME would have sent to get and keep an address")
-        .long_about(ABOUT)
-        .after_help(HELP)
+    with_log(
+        alloc,
+        with_option(alloc, command, "address", "N", true, help),
+    )
 }
 
 /// The task that its words ask for.

@@ -1,9 +1,8 @@
 //! What clap is told of the whole command line; each command tells its own.
 ghost use Rattle.std.specs.Prelude.{◌≡◌, IfOk, false};
-ghost use Rattle.clap.specs.Words.{app_of, rule_of, with_rule, with_subcommand};
-ghost use Rattle.clap.specs.declared.builder.command.Command.TheViews.{out-Command as settings_of};
+ghost use Rattle.clap.specs.Words.{App, app_of, new_app, rule_of, with_rule, with_subcommand};
 ghost use Rattle.j39_cli.specs.Command.{bare_app, line_app};
-ghost use Rattle.j39_cli.specs.Rules.{flag_rule, option_rule, value_rule, with_table};
+ghost use Rattle.j39_cli.specs.Rules.{IsMade, flag_rule, option_rule, value_rule, with_table};
 
 use crate::{answer, cut, faults, groups, id, name, nodes, report, summary, survey};
 use clap::{Arg, ArgAction, Command};
@@ -35,39 +34,59 @@ Exit status:
      opened or is too long, or a line of the table is wrong
   2  the words are no command, or a value is wrong";
 
-/// The whole command line.
+/// The whole command line. What makes it, and each command, takes a result and hands on its error, since a `?` at each step
+/// would be an exit that drops a whole command, and the proof of ten such exits takes minutes.
 #[tactic(auto, unfolding(crate::specs::Command::line_app))]
 pub(crate) fn line<'a>(alloc: Global) -> Result<Command<'a>, AllocError>
     ensures { IfOk result (λ c. app_of c ≡ line_app) }
 {
     let line = bare(alloc);
-    let line = with_command(line, report::command(alloc)?)?;
-    let line = with_command(line, summary::command(alloc)?)?;
-    let line = with_command(line, id::command(alloc)?)?;
-    let line = with_command(line, name::command(alloc)?)?;
-    let line = with_command(line, cut::command(alloc)?)?;
-    let line = with_command(line, nodes::command(alloc)?)?;
-    let line = with_command(line, answer::command(alloc)?)?;
-    let line = with_command(line, groups::command(alloc)?)?;
-    let line = with_command(line, faults::command(alloc)?)?;
-    let line = with_command(line, survey::command(alloc)?)?;
-    Ok(line)
+    let line = with_command(line, report::command(alloc));
+    let line = with_command(line, summary::command(alloc));
+    let line = with_command(line, id::command(alloc));
+    let line = with_command(line, name::command(alloc));
+    let line = with_command(line, cut::command(alloc));
+    let line = with_command(line, nodes::command(alloc));
+    let line = with_command(line, answer::command(alloc));
+    let line = with_command(line, groups::command(alloc));
+    let line = with_command(line, faults::command(alloc));
+    with_command(line, survey::command(alloc))
 }
 
-fn bare<'a>(alloc: Global) -> Command<'a>
-    ensures { app_of result ≡ bare_app }
+fn bare<'a>(alloc: Global) -> Result<Command<'a>, AllocError>
+    ensures { IsMade result bare_app }
 {
-    Command::new(alloc, "j1939")
+    let line = Command::new(alloc, "j1939")
         .version(VERSION)
         .about("Reads and writes logs of a J1939 bus, in the form of candump -l.")
         .after_help(LINE_HELP)
-        .subcommand_required(true)
+        .subcommand_required(true);
+    Ok(line)
+}
+
+/// A command with no arguments yet, and its texts of help.
+pub(crate) fn new_command<'a>(
+    alloc: Global,
+    name: &'a str,
+    about: &'a str,
+    long_about: &'a str,
+    help: &'a str,
+) -> Result<Command<'a>, AllocError>
+    ensures { IsMade result (new_app name.entry.now) }
+{
+    let command = Command::new(alloc, name)
+        .about(about)
+        .long_about(long_about)
+        .after_help(help);
+    Ok(command)
 }
 
 /// The command with `--table T`, which each takes that goes by a table of parameters.
-pub(crate) fn with_table<'a>(alloc: Global, command: Command<'a>) -> Result<Command<'a>, AllocError>
-    ensures app { IfOk result (λ c. app_of c ≡ with_table (app_of command.entry)) }
-    ensures local { IfOk result (λ c. (settings_of c).has_globals ≡ (settings_of command.entry).has_globals) }
+pub(crate) fn with_table<'a>(
+    alloc: Global,
+    command: Result<Command<'a>, AllocError>,
+) -> Result<Command<'a>, AllocError>
+    ensures { (told : App) → IsMade command.entry told → IsMade result (with_table told) }
 {
     let help = "The parameters to read: a file of lines as `groups` writes them, or trucks";
     with_option(alloc, command, "table", "T", false, help)
@@ -76,15 +95,14 @@ pub(crate) fn with_table<'a>(alloc: Global, command: Command<'a>) -> Result<Comm
 /// The command with `--name VALUE` more.
 pub(crate) fn with_option<'a>(
     alloc: Global,
-    command: Command<'a>,
+    command: Result<Command<'a>, AllocError>,
     name: &'a str,
     value: &'a str,
     is_required: bool,
     help: &'a str,
 ) -> Result<Command<'a>, AllocError>
-    ensures app { IfOk result (λ c.
-        app_of c ≡ with_rule (app_of command.entry) (option_rule name.entry.now is_required)) }
-    ensures local { IfOk result (λ c. (settings_of c).has_globals ≡ (settings_of command.entry).has_globals) }
+    ensures { (told : App) → IsMade command.entry told
+        → IsMade result (with_rule told (option_rule name.entry.now is_required)) }
 {
     let arg = Arg::new(alloc, name)
         .long(name)
@@ -97,12 +115,11 @@ pub(crate) fn with_option<'a>(
 /// The command with the flag `--name` more.
 pub(crate) fn with_flag<'a>(
     alloc: Global,
-    command: Command<'a>,
+    command: Result<Command<'a>, AllocError>,
     name: &'a str,
     help: &'a str,
 ) -> Result<Command<'a>, AllocError>
-    ensures app { IfOk result (λ c. app_of c ≡ with_rule (app_of command.entry) (flag_rule name.entry.now)) }
-    ensures local { IfOk result (λ c. (settings_of c).has_globals ≡ (settings_of command.entry).has_globals) }
+    ensures { (told : App) → IsMade command.entry told → IsMade result (with_rule told (flag_rule name.entry.now)) }
 {
     let arg = Arg::new(alloc, name)
         .long(name)
@@ -114,15 +131,14 @@ pub(crate) fn with_flag<'a>(
 /// The command with one more value that stands alone.
 pub(crate) fn with_value<'a>(
     alloc: Global,
-    command: Command<'a>,
+    command: Result<Command<'a>, AllocError>,
     name: &'a str,
     value: &'a str,
     is_required: bool,
     help: &'a str,
 ) -> Result<Command<'a>, AllocError>
-    ensures app { IfOk result (λ c.
-        app_of c ≡ with_rule (app_of command.entry) (value_rule name.entry.now is_required)) }
-    ensures local { IfOk result (λ c. (settings_of c).has_globals ≡ (settings_of command.entry).has_globals) }
+    ensures { (told : App) → IsMade command.entry told
+        → IsMade result (with_rule told (value_rule name.entry.now is_required)) }
 {
     let arg = Arg::new(alloc, name)
         .value_name(value)
@@ -132,18 +148,24 @@ pub(crate) fn with_value<'a>(
 }
 
 /// The command with one argument more.
-fn with_arg<'a>(command: Command<'a>, arg: Arg<'a>) -> Result<Command<'a>, AllocError>
+fn with_arg<'a>(
+    command: Result<Command<'a>, AllocError>,
+    arg: Arg<'a>,
+) -> Result<Command<'a>, AllocError>
     requires { arg.global ≡ false }
-    ensures app { IfOk result (λ c. app_of c ≡ with_rule (app_of command.entry) (rule_of arg.entry)) }
-    ensures local { IfOk result (λ c. (settings_of c).has_globals ≡ (settings_of command.entry).has_globals) }
+    ensures { (told : App) → IsMade command.entry told → IsMade result (with_rule told (rule_of arg.entry)) }
 {
-    command.arg(arg)
+    command?.arg(arg)
 }
 
 /// The line with one command more.
-fn with_command<'a>(line: Command<'a>, command: Command<'a>) -> Result<Command<'a>, AllocError>
-    requires { (settings_of command).has_globals ≡ false }
-    ensures { IfOk result (λ c. app_of c ≡ with_subcommand (app_of line.entry) (app_of command.entry).top) }
+fn with_command<'a>(
+    line: Result<Command<'a>, AllocError>,
+    command: Result<Command<'a>, AllocError>,
+) -> Result<Command<'a>, AllocError>
+    ensures { (line_told told : App) → IsMade line.entry line_told → IsMade command.entry told
+        → IsMade result (with_subcommand line_told told.top) }
 {
-    line.subcommand(command)
+    let line = line?;
+    line.subcommand(command?)
 }

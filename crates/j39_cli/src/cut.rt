@@ -1,7 +1,6 @@
 //! The command `cut`: its words, and how it is performed.
-ghost use Rattle.std.specs.Prelude.{◌≡◌, IfOk, Some, codes, false, true};
-ghost use Rattle.clap.specs.Words.{Text, app_of, first_value, found_of, new_app};
-ghost use Rattle.clap.specs.declared.builder.command.Command.TheViews.{out-Command as settings_of};
+ghost use Rattle.std.specs.Prelude.{◌≡◌, IfOk, Some, codes, true};
+ghost use Rattle.clap.specs.Words.{Text, first_value, found_of};
 ghost use Rattle.j39_cli.specs.CommandWords as written;
 ghost use Rattle.j39_cli.specs.CommandWords.{IsAnswer};
 ghost use Rattle.j39_cli.specs.CutCommand.{cut_app};
@@ -9,8 +8,9 @@ ghost use Rattle.j39_cli.specs.Outgoing.{cut_text};
 ghost use Rattle.j39_cli.specs.Shown.{IsShown};
 ghost use Rattle.j39_cli.specs.Task.{IsInRange};
 ghost use Rattle.j39_cli.specs.Turn.{turn};
+ghost use Rattle.j39_cli.specs.Rules.{IsMade};
 
-use crate::command::{with_option, with_value};
+use crate::command::{new_command, with_option, with_value};
 use crate::cut_values::{payload_of, pgn_of, source_of, stamp_of};
 use crate::shown::show_text;
 use crate::words::required;
@@ -34,29 +34,20 @@ writes four lines, of which the first is
 
 /// What clap is told of it.
 pub(crate) fn command<'a>(alloc: Global) -> Result<Command<'a>, AllocError>
-    ensures app { IfOk result (λ c. app_of c ≡ cut_app) }
-    ensures local { IfOk result (λ c. (settings_of c).has_globals ≡ false) }
+    ensures { IsMade result cut_app }
 {
+    let about = "Writes the frames that broadcast a long message";
+    let command = new_command(alloc, "cut", about, ABOUT, HELP);
     let help = "The address that the message is sent from, 0 to 253, in decimal";
-    let command = with_option(alloc, bare(alloc), "source", "N", true, help)?;
+    let command = with_option(alloc, command, "source", "N", true, help);
     let help = "The PGN of the message, 0 to 262143, in decimal";
-    let command = with_option(alloc, command, "pgn", "N", true, help)?;
+    let command = with_option(alloc, command, "pgn", "N", true, help);
     let help = "The time of the announcement: seconds, a point and six digits, as 2.000000";
-    let command = with_option(alloc, command, "at", "STAMP", true, help)?;
+    let command = with_option(alloc, command, "at", "STAMP", true, help);
     let help = "The interface that the lines name, as can0";
-    let command = with_option(alloc, command, "bus", "B", true, help)?;
+    let command = with_option(alloc, command, "bus", "B", true, help);
     let help = "The bytes of the message, 9 to 1,785 pairs of hex digits (of either case, no 0x)";
     with_value(alloc, command, "hex", "HEX", true, help)
-}
-
-fn bare<'a>(alloc: Global) -> Command<'a>
-    ensures app { app_of result ≡ new_app (codes "cut") }
-    ensures local { (settings_of result).has_globals ≡ false }
-{
-    Command::new(alloc, "cut")
-        .about("Writes the frames that broadcast a long message")
-        .long_about(ABOUT)
-        .after_help(HELP)
 }
 
 /// The task that its words ask for.

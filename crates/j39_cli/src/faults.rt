@@ -1,17 +1,16 @@
 //! The command `faults`: its words, and how it is performed.
-ghost use Rattle.std.specs.Prelude.{◌≡◌, ◌≢◌, IfOk, codes, false, true, Err};
-ghost use Rattle.clap.specs.Words.{app_of, first_value, found_of};
-ghost use Rattle.clap.specs.declared.builder.command.Command.TheViews.{out-Command as settings_of};
+ghost use Rattle.std.specs.Prelude.{◌≡◌, ◌≢◌, IfOk, codes, true, Err};
+ghost use Rattle.clap.specs.Words.{first_value, found_of};
 ghost use Rattle.j39_fault_news.specs.Asking.{AsksForFaults};
 ghost use Rattle.j39_cli.specs.CommandWords as written;
 ghost use Rattle.j39_cli.specs.CommandWords.{IsAnswer};
 ghost use Rattle.j39_cli.specs.FaultsCommand.{faults_app, faults_in, telling_of};
 ghost use Rattle.j39_cli.specs.LogCommand.{IsRun};
-ghost use Rattle.j39_cli.specs.Rules.{is_given};
+ghost use Rattle.j39_cli.specs.Rules.{IsMade, is_given};
 ghost use Rattle.j39_cli.specs.Task.{IsInRange};
 ghost use Rattle.j39_cli.specs.Turn.{turn};
 
-use crate::command::{with_flag, with_table};
+use crate::command::{new_command, with_flag, with_table};
 use crate::log::{LOG_LIMIT, copy_of, format_by, tell_end, with_csv, with_log};
 use crate::words::{bus_value, is_set};
 use crate::{Format, ParseFault, Task, WordText};
@@ -48,16 +47,13 @@ writes lines such as
 
 /// What clap is told of it.
 pub(crate) fn command<'a>(alloc: Global) -> Result<Command<'a>, AllocError>
-    ensures app { IfOk result (λ c. app_of c ≡ faults_app) }
-    ensures local { IfOk result (λ c. (settings_of c).has_globals ≡ false) }
+    ensures { IsMade result faults_app }
 {
-    let command = Command::new(alloc, "faults")
-        .about("Writes the fault codes in a log")
-        .long_about(ABOUT)
-        .after_help(HELP);
+    let about = "Writes the fault codes in a log";
+    let command = with_table(alloc, new_command(alloc, "faults", about, ABOUT, HELP));
     let help = "Each message of faults, whether it is news or not";
-    let command = with_flag(alloc, with_table(alloc, command)?, "all", help)?;
-    with_log(alloc, with_csv(alloc, command)?)
+    let command = with_flag(alloc, command, "all", help);
+    with_log(alloc, with_csv(alloc, command))
 }
 
 /// The task that its words ask for.

@@ -1,8 +1,7 @@
 //! The command `groups`: its words, and how it is performed.
-ghost use Rattle.std.specs.Prelude.{◌≡◌, ◌≢◌, IfOk, OnErr, OnOk, codes, false, true, Err};
+ghost use Rattle.std.specs.Prelude.{◌≡◌, ◌≢◌, IfOk, OnErr, OnOk, codes, true, Err};
 ghost use Rattle.std.specs.Io.KnownBytes.{Appends};
-ghost use Rattle.clap.specs.Words.{app_of, first_value, found_of};
-ghost use Rattle.clap.specs.declared.builder.command.Command.TheViews.{out-Command as settings_of};
+ghost use Rattle.clap.specs.Words.{first_value, found_of};
 ghost use Rattle.j39_device.specs.Device.{AppendsFront, Marks};
 ghost use Rattle.j39_groups.specs.Printed.{rows_text};
 ghost use Rattle.j39_cli.specs.CommandWords as written;
@@ -11,8 +10,9 @@ ghost use Rattle.j39_cli.specs.GroupsCommand.{groups_app};
 ghost use Rattle.j39_cli.specs.Shown.{IsShown};
 ghost use Rattle.j39_cli.specs.Task.{IsInRange};
 ghost use Rattle.j39_cli.specs.Turn.{turn};
+ghost use Rattle.j39_cli.specs.Rules.{IsMade};
 
-use crate::command::with_table;
+use crate::command::{new_command, with_table};
 use crate::shown::status_of;
 use crate::{ParseFault, Task, WordText};
 use clap::{ArgMatches, Command};
@@ -44,14 +44,10 @@ makes a table to edit; lines that begin with # are comments.";
 
 /// What clap is told of it.
 pub(crate) fn command<'a>(alloc: Global) -> Result<Command<'a>, AllocError>
-    ensures app { IfOk result (λ c. app_of c ≡ groups_app) }
-    ensures local { IfOk result (λ c. (settings_of c).has_globals ≡ false) }
+    ensures { IsMade result groups_app }
 {
-    let command = Command::new(alloc, "groups")
-        .about("Writes the parameters that a report may hold")
-        .long_about(ABOUT)
-        .after_help(HELP);
-    with_table(alloc, command)
+    let about = "Writes the parameters that a report may hold";
+    with_table(alloc, new_command(alloc, "groups", about, ABOUT, HELP))
 }
 
 /// The task that its words ask for.

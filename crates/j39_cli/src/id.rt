@@ -1,9 +1,8 @@
 //! The command `id`: its words, and how it is performed.
-ghost use Rattle.std.specs.Prelude.{◌≡◌, ◌≢◌, ◌↔◌, ◌++◌, ◌≤◌, ◌+◌, IfOk, IfSome, IsSome, Some, codes, false, length, true, Err};
+ghost use Rattle.std.specs.Prelude.{◌≡◌, ◌≢◌, ◌↔◌, ◌++◌, ◌≤◌, ◌+◌, IfOk, IfSome, IsSome, Some, codes, length, true, Err};
 ghost use Rattle.std.specs.Str.Parse.{digits_value};
 ghost use Rattle.arrayvec.specs.ArrayVec.{array_vec_len};
-ghost use Rattle.clap.specs.Words.{Text, app_of, first_value, found_of};
-ghost use Rattle.clap.specs.declared.builder.command.Command.TheViews.{out-Command as settings_of};
+ghost use Rattle.clap.specs.Words.{Text, first_value, found_of};
 ghost use Rattle.j39_frame.specs.Identifier.{id_raw};
 ghost use Rattle.j39_cli.specs.CommandWords as written;
 ghost use Rattle.j39_cli.specs.CommandWords.{IsAnswer};
@@ -11,8 +10,9 @@ ghost use Rattle.j39_cli.specs.IdCommand.{IsIdText, destination_text, id_app, id
 ghost use Rattle.j39_cli.specs.Shown.{IsShown};
 ghost use Rattle.j39_cli.specs.Task.{IsInRange};
 ghost use Rattle.j39_cli.specs.Turn.{turn};
+ghost use Rattle.j39_cli.specs.Rules.{IsMade};
 
-use crate::command::with_value;
+use crate::command::{new_command, with_value};
 use crate::fields::push_field;
 use crate::shown::show_text;
 use crate::words::required;
@@ -38,13 +38,10 @@ writes
 
 /// What clap is told of it.
 pub(crate) fn command<'a>(alloc: Global) -> Result<Command<'a>, AllocError>
-    ensures app { IfOk result (λ c. app_of c ≡ id_app) }
-    ensures local { IfOk result (λ c. (settings_of c).has_globals ≡ false) }
+    ensures { IsMade result id_app }
 {
-    let command = Command::new(alloc, "id")
-        .about("Writes the fields of a 29-bit identifier")
-        .long_about(ABOUT)
-        .after_help(HELP);
+    let about = "Writes the fields of a 29-bit identifier";
+    let command = new_command(alloc, "id", about, ABOUT, HELP);
     let help =
         "The identifier, 1 to 8 hex digits (of either case, no 0x) of a number below 20000000";
     with_value(alloc, command, "hex", "HEX", true, help)

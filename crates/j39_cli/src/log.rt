@@ -1,10 +1,10 @@
 //! What the commands that read a log have in common.
-ghost use Rattle.std.specs.Prelude.{◌≡◌, ◌≤◌, [], IfOk, codes, false, length};
-ghost use Rattle.clap.specs.Words.{app_of, with_rule};
+ghost use Rattle.std.specs.Prelude.{◌≡◌, ◌≤◌, [], codes, false, length};
+ghost use Rattle.clap.specs.Words.{App, with_rule};
 ghost use Rattle.clap.specs.declared.builder.command.Command.TheViews.{out-Command as settings_of};
 ghost use Rattle.j39_cli.specs.LogCommand.{IsTold, fault_text, format_of, with_log};
 ghost use Rattle.j39_cli.specs.Refusal.{error_line};
-ghost use Rattle.j39_cli.specs.Rules.{flag_rule};
+ghost use Rattle.j39_cli.specs.Rules.{IsMade, flag_rule};
 ghost use Rattle.j39_cli.specs.Turn.{Writes, turn};
 
 use crate::Format;
@@ -23,9 +23,11 @@ use std::alloc::{AllocError, Global};
 pub(crate) const LOG_LIMIT: u64 = 17_179_869_184;
 
 /// The command with `--csv`, which each takes that writes comma-separated values too.
-pub(crate) fn with_csv<'a>(alloc: Global, command: Command<'a>) -> Result<Command<'a>, AllocError>
-    ensures app { IfOk result (λ c. app_of c ≡ with_rule (app_of command.entry) (flag_rule (codes "csv"))) }
-    ensures local { IfOk result (λ c. (settings_of c).has_globals ≡ (settings_of command.entry).has_globals) }
+pub(crate) fn with_csv<'a>(
+    alloc: Global,
+    command: Result<Command<'a>, AllocError>,
+) -> Result<Command<'a>, AllocError>
+    ensures { (told : App) → IsMade command.entry told → IsMade result (with_rule told (flag_rule (codes "csv"))) }
 {
     let help = "As comma-separated values (RFC 4180), below the names of the columns";
     with_flag(alloc, command, "csv", help)
@@ -39,12 +41,14 @@ pub(crate) fn format_by(csv: bool) -> Format
 }
 
 /// The command with the arguments of a log.
-pub(crate) fn with_log<'a>(alloc: Global, command: Command<'a>) -> Result<Command<'a>, AllocError>
-    ensures app { IfOk result (λ c. app_of c ≡ with_log (app_of command.entry)) }
-    ensures local { IfOk result (λ c. (settings_of c).has_globals ≡ (settings_of command.entry).has_globals) }
+pub(crate) fn with_log<'a>(
+    alloc: Global,
+    command: Result<Command<'a>, AllocError>,
+) -> Result<Command<'a>, AllocError>
+    ensures { (told : App) → IsMade command.entry told → IsMade result (with_log told) }
 {
     let help = "The interface to read, as can0; without it, that of the first frame in the log";
-    let command = with_option(alloc, command, "bus", "B", false, help)?;
+    let command = with_option(alloc, command, "bus", "B", false, help);
     let help = "The log to read; without it, or where it is -, standard input";
     with_value(alloc, command, "file", "FILE", false, help)
 }

@@ -1,17 +1,16 @@
 //! The command `report`: its words, and how it is performed.
 ghost use Rattle.std.specs.Prelude.{◌≡◌, ◌≢◌, ◌⊎◌, IfOk, codes, false, true, Err};
-ghost use Rattle.clap.specs.Words.{app_of, first_value, found_of, new_app};
-ghost use Rattle.clap.specs.declared.builder.command.Command.TheViews.{out-Command as settings_of};
+ghost use Rattle.clap.specs.Words.{first_value, found_of};
 ghost use Rattle.j39_listen.specs.Asking.{AsksForBoxes};
 ghost use Rattle.j39_cli.specs.CommandWords as written;
 ghost use Rattle.j39_cli.specs.CommandWords.{IsAnswer};
 ghost use Rattle.j39_cli.specs.LogCommand.{IsRun};
 ghost use Rattle.j39_cli.specs.ReportCommand.{IsReportRun, makes_in, report_app};
-ghost use Rattle.j39_cli.specs.Rules.{is_given};
+ghost use Rattle.j39_cli.specs.Rules.{IsMade, is_given};
 ghost use Rattle.j39_cli.specs.Task.{IsInRange};
 ghost use Rattle.j39_cli.specs.Turn.{turn};
 
-use crate::command::{with_option, with_table};
+use crate::command::{new_command, with_option, with_table};
 use crate::log::{LOG_LIMIT, copy_of, format_by, tell_end, with_csv, with_log};
 use crate::refusal::complain;
 use crate::words::{bus_value, is_set, spns_value};
@@ -51,23 +50,13 @@ writes lines such as
 
 /// What clap is told of it.
 pub(crate) fn command<'a>(alloc: Global) -> Result<Command<'a>, AllocError>
-    ensures app { IfOk result (λ c. app_of c ≡ report_app) }
-    ensures local { IfOk result (λ c. (settings_of c).has_globals ≡ false) }
+    ensures { IsMade result report_app }
 {
-    let command = with_table(alloc, bare(alloc))?;
+    let about = "Writes the parameter values in a log";
+    let command = with_table(alloc, new_command(alloc, "report", about, ABOUT, HELP));
     let help = "The parameters to write alone: 1 to 32 SPNs, with commas between them";
-    let command = with_option(alloc, command, "spn", "SPN,..", false, help)?;
-    with_log(alloc, with_csv(alloc, command)?)
-}
-
-fn bare<'a>(alloc: Global) -> Command<'a>
-    ensures app { app_of result ≡ new_app (codes "report") }
-    ensures local { (settings_of result).has_globals ≡ false }
-{
-    Command::new(alloc, "report")
-        .about("Writes the parameter values in a log")
-        .long_about(ABOUT)
-        .after_help(HELP)
+    let command = with_option(alloc, command, "spn", "SPN,..", false, help);
+    with_log(alloc, with_csv(alloc, command))
 }
 
 /// The task that its words ask for.

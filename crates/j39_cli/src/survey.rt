@@ -1,14 +1,14 @@
 //! The command `survey`: its words, and how it is performed.
 ghost use Rattle.std.specs.Prelude.{◌≡◌, ◌≢◌, IfOk, codes, false, true, Err};
-ghost use Rattle.clap.specs.Words.{app_of, first_value, found_of};
-ghost use Rattle.clap.specs.declared.builder.command.Command.TheViews.{out-Command as settings_of};
+ghost use Rattle.clap.specs.Words.{first_value, found_of};
 ghost use Rattle.j39_cli.specs.CommandWords as written;
 ghost use Rattle.j39_cli.specs.CommandWords.{IsAnswer};
 ghost use Rattle.j39_cli.specs.SurveyCommand.{IsSurvey, survey_app};
 ghost use Rattle.j39_cli.specs.Task.{IsInRange};
 ghost use Rattle.j39_cli.specs.Turn.{turn};
+ghost use Rattle.j39_cli.specs.Rules.{IsMade};
 
-use crate::command::{with_table, with_value};
+use crate::command::{new_command, with_table, with_value};
 use crate::log::{LOG_LIMIT, tell_fault};
 use crate::{ParseFault, Task, WordText};
 use clap::{ArgMatches, Command};
@@ -37,14 +37,10 @@ writes lines such as
 
 /// What clap is told of it.
 pub(crate) fn command<'a>(alloc: Global) -> Result<Command<'a>, AllocError>
-    ensures app { IfOk result (λ c. app_of c ≡ survey_app) }
-    ensures local { IfOk result (λ c. (settings_of c).has_globals ≡ false) }
+    ensures { IsMade result survey_app }
 {
-    let command = Command::new(alloc, "survey")
-        .about("Writes what a log is: its interfaces, groups and lines")
-        .long_about(ABOUT)
-        .after_help(HELP);
-    let command = with_table(alloc, command)?;
+    let about = "Writes what a log is: its interfaces, groups and lines";
+    let command = with_table(alloc, new_command(alloc, "survey", about, ABOUT, HELP));
     let help = "The log to read; without it, standard input";
     with_value(alloc, command, "file", "FILE", false, help)
 }

@@ -50,7 +50,8 @@ flat_map-at f xs i d below =
     ap (flat_map f) cut ∙ flat_map-append f (take i xs) (get_or xs i d ∷ drop (suc i) xs)
     ∙ ap (λ ys. flat_map f (take i xs) ++ ys) (flat_map-cons f (get_or xs i d) (drop (suc i) xs))
 
-part_of : {X : Type 0} (xs : List X) (i n : ℕ) → take (i + n) xs ≡ take i xs ++ take n (drop i xs)
+-- the front of a list, cut in two
+pub part_of : {X : Type 0} (xs : List X) (i n : ℕ) → take (i + n) xs ≡ take i xs ++ take n (drop i xs)
 part_of xs zero n = let none : 0 + n ≡ n = omega arith in rw none refl
 part_of [] (suc i) n = rw (take-nil (suc i + n), take-nil n) refl
 part_of (x ∷ xs) (suc i) n = let next : suc i + n ≡ suc (i + n) = omega arith in rw next (ap (λ ys. x ∷ ys) (part_of xs i n))

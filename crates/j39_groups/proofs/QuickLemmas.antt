@@ -1,5 +1,5 @@
 -- What the fast way writes.
-use Rattle.std.proofs.Common.{◌≡◌, ◌<◌, ◌≤◌, ◌+◌, ◌*◌, ℕ, List, [], ◌∷◌, ◌++◌, Bool, true, false, length, refl, sym, ap, ◌∙◌, subst, arith, append_assoc, append-nil, length-append, map}
+use Rattle.std.proofs.Common.{◌≡◌, ◌<◌, ◌≤◌, ◌+◌, ◌*◌, ℕ, List, [], ◌∷◌, ◌++◌, Bool, true, false, length, take, drop, ◌-◌, refl, sym, ap, ◌∙◌, subst, arith, append_assoc, append-nil, length-append, map}
 use Rattle.std.specs.Prelude.{◌==◌, nat_le, Option, Some, None, IfSome, if◌then◌else◌, filter}
 use Rattle.std.specs.Option.{option_map, option_and_then}
 use Rattle.std.specs.List.{flat_map}
@@ -19,6 +19,7 @@ use Rattle.j39_groups.specs.CodeRows.{field_record, row_record}
 use Rattle.j39_groups.specs.Quick.{IsPlainField, IsQuick, IsShort, are_quick, is_plain_field, is_quick, reading_line, short_text}
 use Rattle.j39_groups.specs.Table.{the_table}
 use Rattle.j39_groups.specs.ValueText.{value_text}
+use Rattle.j39_groups.proofs.ListLemmas.{part_of}
 use Rattle.j39_groups.proofs.TableLemmas.{field_sound}
 use Rattle.j39_groups.specs.Ranges.{is_valid}
 use Rattle.j39_groups.specs.Readings.{by_top_byte, number_meaning, readings_at, readings_in, readings_of, switch_meaning, values_at}
@@ -82,6 +83,16 @@ row_quick quick h =
     }
 
 -- the last of some rows, and the others
+-- a part of rows that pass
+pub quick_part : (rows : List LabelledRow) (i j n : ℕ) → i ≤ j → j ≤ n → are_quick (take n rows) ≡ true → are_quick (take (j - i) (drop i rows)) ≡ true
+quick_part rows i j n ordered below all =
+    let from_i : i + (n - i) ≡ n = omega arith in
+    let to_j : (j - i) + (n - j) ≡ n - i = omega arith in
+    let behind = and_parts _ _ (sym (list_all-append is_quick (take i rows) (take (n - i) (drop i rows)))
+    ∙ ap are_quick (sym (part_of rows i (n - i)) ∙ ap (λ m. take m rows) from_i) ∙ all) in
+    (and_parts _ _ (sym (list_all-append is_quick (take (j - i) (drop i rows)) (take (n - j) (drop (j - i) (drop i rows))))
+    ∙ ap are_quick (sym (part_of (drop i rows) (j - i) (n - j)) ∙ ap (λ m. take m (drop i rows)) to_j) ∙ behind.1)).0
+
 pub last_quick : (left rest : List LabelledRow) (quick : LabelledRow) → left ≡ rest ++ (quick ∷ []) → are_quick left ≡ true → (are_quick rest ≡ true) × IsQuick quick
 last_quick left rest quick cut h =
     let both = and_parts _ _ (sym (list_all-append is_quick rest (quick ∷ [])) ∙ ap are_quick (sym cut) ∙ h) in

@@ -1,7 +1,6 @@
 //! A broadcast's memory, and when its frames are sent.
 use j39_frame::{Frame, Id, Pgn, Stamp};
 use j39_transport::{Assembler, Broadcast, Cut, Fed, Poll};
-use std::process::Abort;
 use std::test::Fail;
 
 /// What a frame was to an assembler.
@@ -38,66 +37,77 @@ fn fed(assembler: &mut Assembler, micros: u64, id: u32, bytes: &[u8]) -> Option<
     }
 }
 
-/// A packet's moment and data, what it is, and how many messages are open behind it, with how many bytes.
-type Row = (u64, [u8; 8], Kind, (usize, usize));
+/// A frame's moment, identifier and data, what it is, and how many messages are open behind it, with how many bytes.
+type Row = (u64, u32, [u8; 8], Kind, (usize, usize));
 
-fn follows(rt: &impl Abort, assembler: &mut Assembler, rows: &[Row]) {
-    for (micros, bytes, kind, open) in rows.iter() {
-        assert_eq!(rt;
-            fed(assembler, *micros, DATA, bytes),
-            Some(*kind),
-            "{micros}"
-        );
-        assert_eq!(rt; (assembler.open(), assembler.held()), *open, "{micros}");
-    }
+static ROWS: &[Row] = &[
+    (2_000_000, BAM, ANNOUNCEMENT, Taken, (1, 0)),
+    (2_050_000, DATA, P1, Taken, (1, 7)),
+    (2_060_000, DATA, P1, Ignored, (1, 7)),
+    (2_100_000, DATA, P2, Taken, (1, 14)),
+    (2_150_000, DATA, P3, Whole, (0, 0)),
+];
+
+fn open_in(assembler: &Assembler) -> (usize, usize) {
+    (assembler.open(), assembler.held())
 }
 
-/// An announcement whose memory is refused opens nothing, and its repetition finds memory.
+/// Whether the frame is what the row says. Where its memory is refused nothing changes, and it is fed again.
+fn is_fed(assembler: &mut Assembler, row: &Row) -> bool {
+    let (micros, id, bytes, kind, open) = row;
+    let before = open_in(assembler);
+    let mut met = fed(assembler, *micros, *id, bytes);
+    if met.is_none() && open_in(assembler) == before {
+        met = fed(assembler, *micros, *id, bytes);
+    }
+    met == Some(*kind) && open_in(assembler) == *open
+}
+
+/// The test holds with any one allocation refused, which the tool does in turn.
 #[test]
 fn assembler_without_memory(rt: HostRuntime) {
     let mut assembler = Assembler::new(rt.alloc());
-    if fed(&mut assembler, 2_000_000, BAM, &ANNOUNCEMENT).is_none() {
-        assert_eq!(rt; (assembler.open(), assembler.held()), (0, 0));
-        let again = fed(&mut assembler, 2_000_000, BAM, &ANNOUNCEMENT);
-        assert_eq!(rt; again, Some(Taken));
+    for row in ROWS {
+        assert!(rt; is_fed(&mut assembler, row), "{}", row.0);
     }
-    let rows = [
-        (2_050_000, P1, Taken, (1, 7)),
-        (2_060_000, P1, Ignored, (1, 7)),
-        (2_100_000, P2, Taken, (1, 14)),
-        (2_150_000, P3, Whole, (0, 0)),
-    ];
-    follows(&rt, &mut assembler, &rows);
 }
 
-/// A frame to send, or the moment that is waited for.
-type Polled = Option<Result<(u32, [u8; 8]), u64>>;
+/// A moment, and the frame that is sent then, or the moment that is waited for, or none where all is sent.
+type Polled = (u64, Option<Result<(u32, [u8; 8]), u64>>);
 
-fn polled(broadcast: &mut Broadcast<'_>, micros: u64) -> Polled {
-    match broadcast.poll(Stamp::new(micros)?) {
+/// 50 ms between two frames, and a moment that goes back is no time passed.
+static PACE: &[Polled] = &[
+    (0, Some(Ok((BAM, ANNOUNCEMENT)))),
+    (49_999, Some(Err(50_000))),
+    (50_000, Some(Ok((DATA, P1)))),
+    (100_000, Some(Ok((DATA, P2)))),
+    (0, Some(Err(150_000))),
+    (150_000, Some(Ok((DATA, P3)))),
+    (150_000, None),
+];
+
+fn is_polled(broadcast: &mut Broadcast<'_>, polled: &Polled) -> Option<bool> {
+    let (micros, wanted) = polled;
+    let met = match broadcast.poll(Stamp::new(*micros)?) {
         Poll::Send(id, bytes) => Some(Ok((id.raw(), bytes))),
         Poll::WaitUntil(moment) => Some(Err(moment)),
         Poll::Done => None,
-    }
+    };
+    Some(met == *wanted)
 }
 
-/// 50 ms between two frames, and a moment that goes back is no time passed.
 #[test]
-fn pace_of_a_broadcast(rt: HostRuntime) -> Result<(), Fail> {
+fn broadcast_pacing(rt: HostRuntime) -> Result<(), Fail> {
     let pgn = Pgn::new(65260).ok_or("group")?;
     let cut = Cut::new(0, pgn, b"1FUJA6CV12LK12345*").ok_or("cut")?;
     let mut broadcast = Broadcast::new(cut);
-    let rows: [(u64, Polled); 7] = [
-        (0, Some(Ok((BAM, ANNOUNCEMENT)))),
-        (49_999, Some(Err(50_000))),
-        (50_000, Some(Ok((DATA, P1)))),
-        (100_000, Some(Ok((DATA, P2)))),
-        (0, Some(Err(150_000))),
-        (150_000, Some(Ok((DATA, P3)))),
-        (150_000, None),
-    ];
-    for (micros, wanted) in rows {
-        assert_eq!(rt; polled(&mut broadcast, micros), wanted, "{micros}");
+    for polled in PACE {
+        assert_eq!(rt;
+            is_polled(&mut broadcast, polled),
+            Some(true),
+            "{}",
+            polled.0
+        );
     }
     Ok(())
 }

@@ -27,30 +27,30 @@ const GEARBOX: u8 = 0x03;
 
 const TOOL: u8 = 0xF9;
 
-static NONE: [Plan; 0] = [];
+const NONE: &[Plan] = &[];
 
-static LONG_TO_ALL: [Plan; 1] = [Plan {
+const LONG_TO_ALL: &[Plan] = &[Plan {
     at: 700_000,
     to: None,
     pgn: SOFTWARE,
     payload: LONG,
 }];
 
-static LONG_TO_TOOL: [Plan; 1] = [Plan {
+const LONG_TO_TOOL: &[Plan] = &[Plan {
     at: 900_000,
     to: Some(TOOL),
     pgn: SOFTWARE,
     payload: LONG,
 }];
 
-static LONG_TO_ENGINE: [Plan; 1] = [Plan {
+const LONG_TO_ENGINE: &[Plan] = &[Plan {
     at: 900_000,
     to: Some(ENGINE),
     pgn: SOFTWARE,
     payload: LONG,
 }];
 
-static TWO_TO_GEARBOX: [Plan; 2] = [
+const TWO_TO_GEARBOX: &[Plan] = &[
     Plan {
         at: 500_000,
         to: Some(GEARBOX),
@@ -65,7 +65,7 @@ static TWO_TO_GEARBOX: [Plan; 2] = [
     },
 ];
 
-static COMMAND_TO_GEARBOX: [Plan; 1] = [Plan {
+const COMMAND_TO_GEARBOX: &[Plan] = &[Plan {
     at: 500_000,
     to: Some(GEARBOX),
     pgn: COMMANDED_ADDRESS,
@@ -101,8 +101,8 @@ fn four(
 ) -> Result<Vec<Player>, AllocError> {
     let roles = [
         role(0x8000_0000_0340_1001, ENGINE, 0, engine),
-        role(0x8000_0000_0140_1002, ENGINE, 1_000_000, &NONE),
-        role(0x8000_0000_0240_1003, GEARBOX, 0, &NONE),
+        role(0x8000_0000_0140_1002, ENGINE, 1_000_000, NONE),
+        role(0x8000_0000_0240_1003, GEARBOX, 0, NONE),
         role(0x8000_0000_0440_1004, TOOL, 0, tool),
     ];
     let mut controllers = Vec::new(alloc);
@@ -116,7 +116,7 @@ fn four(
 }
 
 /// What became of the long messages, each in turn, and what the controllers have open at the end.
-#[derive(Clone, Copy, Debug, PartialEq, Eq)]
+#[derive(Clone, Copy, PartialEq, Eq)]
 struct Outcome {
     whole: usize,
     withdrawn: usize,
@@ -161,130 +161,157 @@ fn outcome_of(bus: &Bus<'_>) -> Outcome {
     met
 }
 
-fn played<'a>(
-    alloc: Global,
-    controllers: Vec<Player>,
+/// What engine and tool are to send, for how many seconds, and what comes of it.
+struct Case {
+    name: &'static str,
+    engine: &'static [Plan],
+    tool: &'static [Plan],
     seconds: u64,
-    lose: &'a [u64],
-) -> Result<(Vec<u8>, Bus<'a>), Fail> {
-    let mut bus = Bus::new(alloc, controllers, lose);
-    let mut log = Vec::new(alloc);
-    let ended = bus.run(seconds.saturating_mul(1_000_000), &mut Told::new(&mut log));
-    ended.map_err(|_| "bus")?;
-    Ok((log, bus))
+    /// A text that lines of the log have, and the least and the most of them.
+    lines: (&'static str, usize, usize),
+    /// The frame of the first line with the text is lost, and the first that is left has a stamp between these, in seconds.
+    lost: Option<(&'static str, &'static str)>,
+    outcome: Outcome,
 }
 
-/// The line numbers, from 1, with this text.
-fn lines_with(alloc: Global, log: &[u8], text: &str) -> Result<Vec<u64>, Fail> {
-    let log = String::from_utf8_lossy(alloc, log)?;
-    let mut numbers = Vec::new(alloc);
-    for (place, line) in log.as_str().lines().enumerate() {
-        if line.contains(text) {
-            numbers.push((place as u64).saturating_add(1))?;
-        }
-    }
-    Ok(numbers)
-}
-
-const SEEDS: [u64; 4] = [1, 2, 7, 1_000];
-
-/// The rest of the broadcast is withdrawn, and all others forget what they had of it.
-#[test]
-fn an_address_is_lost_in_a_broadcast(rt: HostRuntime) -> Result<(), Fail> {
-    for seed in SEEDS {
-        let controllers = four(rt.alloc(), seed, &LONG_TO_ALL, &NONE)?;
-        let (log, bus) = played(rt.alloc(), controllers, 3, &[])?;
-        let sent = lines_with(rt.alloc(), log.as_slice(), " 1CEBFF00#")?.len();
-        assert!(rt; 0 < sent && sent < 12, "seed {seed}: {sent}");
-        let want = Outcome {
+static CASES: &[Case] = &[
+    // The rest of the broadcast is withdrawn, and all others forget what they had of it.
+    Case {
+        name: "an_address_is_lost_in_a_broadcast",
+        engine: LONG_TO_ALL,
+        tool: NONE,
+        seconds: 3,
+        lines: (" 1CEBFF00#", 1, 11),
+        lost: None,
+        outcome: Outcome {
             withdrawn: 1,
             ..NOTHING
-        };
-        assert_eq!(rt; outcome_of(&bus), want, "seed {seed}");
-    }
-    Ok(())
-}
-
-/// The sender's address is lost: the transfer is withdrawn, and its receiver lets it go.
-#[test]
-fn an_address_is_lost_in_a_transfer(rt: HostRuntime) -> Result<(), Fail> {
-    for seed in SEEDS {
-        let controllers = four(rt.alloc(), seed, &LONG_TO_TOOL, &NONE)?;
-        let (log, bus) = played(rt.alloc(), controllers, 8, &[])?;
-        let sent = lines_with(rt.alloc(), log.as_slice(), " 1CEBF900#")?.len();
-        assert!(rt; 0 < sent && sent < 12, "seed {seed}: {sent}");
-        let want = Outcome {
+        },
+    },
+    // The sender's address is lost: the transfer is withdrawn, and its receiver lets it go.
+    Case {
+        name: "an_address_is_lost_in_a_transfer",
+        engine: LONG_TO_TOOL,
+        tool: NONE,
+        seconds: 8,
+        lines: (" 1CEBF900#", 1, 11),
+        lost: None,
+        outcome: Outcome {
             withdrawn: 1,
             ..NOTHING
-        };
-        assert_eq!(rt; outcome_of(&bus), want, "seed {seed}");
-    }
-    Ok(())
-}
-
-/// The receiver's address is lost: it delivers nothing more, and the transfer fails.
-#[test]
-fn an_address_is_lost_with_a_session_open(rt: HostRuntime) -> Result<(), Fail> {
-    for seed in SEEDS {
-        let controllers = four(rt.alloc(), seed, &NONE, &LONG_TO_ENGINE)?;
-        let (log, bus) = played(rt.alloc(), controllers, 8, &[])?;
-        let asked = lines_with(rt.alloc(), log.as_slice(), " 1CECF900#11")?.len();
-        assert!(rt; 0 < asked, "seed {seed}");
-        let want = Outcome { lost: 1, ..NOTHING };
-        assert_eq!(rt; outcome_of(&bus), want, "seed {seed}");
-    }
-    Ok(())
-}
-
-/// A transfer whose request is lost fails after 1,250 ms, and the next one begins 4 s later.
-#[test]
-fn a_transfer_follows_a_failed_one(rt: HostRuntime) -> Result<(), Fail> {
-    for seed in SEEDS {
-        let controllers = four(rt.alloc(), seed, &NONE, &TWO_TO_GEARBOX)?;
-        let (log, _bus) = played(rt.alloc(), controllers, 2, &[])?;
-        let asked = lines_with(rt.alloc(), log.as_slice(), " 1CEC03F9#10")?;
-        let controllers = four(rt.alloc(), seed, &NONE, &TWO_TO_GEARBOX)?;
-        let lose = asked.get(..1).ok_or("no request")?;
-        let (log, bus) = played(rt.alloc(), controllers, 9, lose)?;
-        let want = Outcome {
+        },
+    },
+    // The receiver's address is lost: it delivers nothing more, and the transfer fails.
+    Case {
+        name: "an_address_is_lost_with_a_session_open",
+        engine: NONE,
+        tool: LONG_TO_ENGINE,
+        seconds: 8,
+        lines: (" 1CECF900#11", 1, 100),
+        lost: None,
+        outcome: Outcome { lost: 1, ..NOTHING },
+    },
+    // A transfer whose request is lost fails after 1,250 ms, and the next one begins 4 s later.
+    Case {
+        name: "a_transfer_follows_a_failed_one",
+        engine: NONE,
+        tool: TWO_TO_GEARBOX,
+        seconds: 9,
+        lines: (" 1CEC03F9#10", 1, 1),
+        lost: Some(("0000000005.7", "0000000006.0")),
+        outcome: Outcome {
             whole: 1,
             lost: 1,
             delivered: 1,
             done: 1,
             ..NOTHING
-        };
-        assert_eq!(rt; outcome_of(&bus), want, "seed {seed}");
-        let log = String::from_utf8_lossy(rt.alloc(), log.as_slice())?;
-        let next = log
-            .as_str()
-            .lines()
-            .find(|line| line.contains(" 1CEC03F9#10"));
-        let at = next
-            .and_then(|line| line.get(1..13))
-            .ok_or("no second request")?;
-        assert!(rt;
-            "0000000005.7" <= at && at <= "0000000006.0",
-            "seed {seed}: {at}"
-        );
-    }
-    Ok(())
-}
-
-/// A command in a directed transfer is delivered, and obeyed by nobody.
-#[test]
-fn a_command_in_a_transfer_is_not_obeyed(rt: HostRuntime) -> Result<(), Fail> {
-    for seed in SEEDS {
-        let controllers = four(rt.alloc(), seed, &NONE, &COMMAND_TO_GEARBOX)?;
-        let (_log, bus) = played(rt.alloc(), controllers, 3, &[])?;
-        let want = Outcome {
+        },
+    },
+    // A command in a directed transfer is delivered, and obeyed by nobody: the gearbox keeps its address.
+    Case {
+        name: "a_command_in_a_transfer_is_not_obeyed",
+        engine: NONE,
+        tool: COMMAND_TO_GEARBOX,
+        seconds: 3,
+        lines: (" 18EEFF05#", 0, 0),
+        lost: None,
+        outcome: Outcome {
             whole: 1,
             delivered: 1,
             done: 1,
             ..NOTHING
-        };
-        assert_eq!(rt; outcome_of(&bus), want, "seed {seed}");
-        let held = bus.controllers().get(2).and_then(|gearbox| gearbox.held());
-        assert_eq!(rt; held, Some(GEARBOX), "seed {seed}");
+        },
+    },
+];
+
+/// The log of a case, played without the lines of these numbers, and what became of its messages.
+fn played(alloc: Global, case: &Case, seed: u64, lose: &[u64]) -> Result<(Vec<u8>, Outcome), Fail> {
+    let controllers = four(alloc, seed, case.engine, case.tool)?;
+    let mut bus = Bus::new(alloc, controllers, lose);
+    let mut log = Vec::new(alloc);
+    let micros = case.seconds.saturating_mul(1_000_000);
+    let ended = bus.run(micros, &mut Told::new(&mut log));
+    ended.map_err(|_| "bus")?;
+    let outcome = outcome_of(&bus);
+    Ok((log, outcome))
+}
+
+/// How many lines have this text, and the first of them with its number, from 1.
+fn lines_with<'a>(log: &'a str, text: &str) -> (usize, Option<(u64, &'a str)>) {
+    let (mut count, mut first) = (0usize, None);
+    for (place, line) in log.lines().enumerate() {
+        if line.contains(text) {
+            count = count.saturating_add(1);
+            if first.is_none() {
+                first = Some(((place as u64).saturating_add(1), line));
+            }
+        }
+    }
+    (count, first)
+}
+
+/// The frames that are lost in a case.
+fn lost_in(alloc: Global, case: &Case, seed: u64) -> Result<Vec<u64>, Fail> {
+    let mut lose = Vec::new(alloc);
+    if case.lost.is_some() {
+        let (log, _outcome) = played(alloc, case, seed, &[])?;
+        let log = String::from_utf8_lossy(alloc, log.as_slice())?;
+        let (_count, first) = lines_with(log.as_str(), case.lines.0);
+        let (number, _line) = first.ok_or("no frame to lose")?;
+        lose.push(number)?;
+    }
+    Ok(lose)
+}
+
+/// Whether the line's stamp is between these.
+fn is_between(line: Option<(u64, &str)>, bounds: Option<(&str, &str)>) -> bool {
+    let Some((least, most)) = bounds else {
+        return true;
+    };
+    let stamp = line.and_then(|(_, line)| line.get(1..13));
+    stamp.is_some_and(|stamp| least <= stamp && stamp <= most)
+}
+
+/// Whether the case comes out as it says.
+fn comes_out(alloc: Global, case: &Case, seed: u64) -> Result<bool, Fail> {
+    let lose = lost_in(alloc, case, seed)?;
+    let (log, outcome) = played(alloc, case, seed, lose.as_slice())?;
+    let log = String::from_utf8_lossy(alloc, log.as_slice())?;
+    let (text, least, most) = case.lines;
+    let (count, first) = lines_with(log.as_str(), text);
+    let is_counted = least <= count && count <= most;
+    Ok(outcome == case.outcome && is_counted && is_between(first, case.lost))
+}
+
+const SEEDS: &[u64] = &[1, 2, 7, 1_000];
+
+#[test]
+fn losses_of_an_address(rt: HostRuntime) -> Result<(), Fail> {
+    for case in CASES {
+        for seed in SEEDS {
+            let is_met = comes_out(rt.alloc(), case, *seed)?;
+            assert!(rt; is_met, "{}, seed {seed}", case.name);
+        }
     }
     Ok(())
 }

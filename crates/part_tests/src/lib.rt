@@ -6,15 +6,11 @@ mod broadcasts;
 #[cfg(test)]
 mod bus_losses;
 #[cfg(test)]
-mod calendar;
-#[cfg(test)]
 mod claimer;
 #[cfg(test)]
 mod devices;
 #[cfg(test)]
 mod losses;
-#[cfg(test)]
-mod names;
 #[cfg(test)]
 mod pairs;
 #[cfg(test)]

@@ -2,7 +2,6 @@
 use j39_frame::{Frame, Id, Pgn, Stamp};
 use j39_transport::{Cut, Receiver, Reply, SendEvent, SendState, Sender};
 use std::alloc::Global;
-use std::process::Abort;
 use std::test::Fail;
 
 pub(crate) const VIN: [u8; 18] = *b"1FUJA6CV12LK12345*";
@@ -170,33 +169,30 @@ static SENDERS: &[(&str, &[SenderStep], SendState)] = &[
     ),
 ];
 
-/// The sender does as each step says; the place of one where it doesn't is told.
-fn follows_sender(
-    rt: &impl Abort,
-    name: &str,
-    steps: &[SenderStep],
-    end: SendState,
-) -> Result<(), Fail> {
-    let mut sender = sender().ok_or("sender")?;
+/// Whether the sender does as the step says.
+fn does(sender: &mut Sender<'_>, step: &SenderStep) -> bool {
+    match step {
+        Tick(micros, sent) => tick(sender, *micros) == *sent,
+        Hears(bytes, micros, state) => told(sender, bytes, *micros) == Some(*state),
+    }
+}
+
+/// The place of the first step that the sender doesn't take as it says.
+fn wrong_step(sender: &mut Sender<'_>, steps: &[SenderStep]) -> Option<usize> {
     for (place, step) in steps.iter().enumerate() {
-        match step {
-            Tick(micros, sent) => {
-                assert_eq!(rt; tick(&mut sender, *micros), *sent, "{name}: step {place}");
-            }
-            Hears(bytes, micros, state) => {
-                let met = told(&mut sender, bytes, *micros);
-                assert_eq!(rt; met, Some(*state), "{name}: step {place}");
-            }
+        if !does(sender, step) {
+            return Some(place);
         }
     }
-    assert_eq!(rt; sender.state(), end, "{name}");
-    Ok(())
+    None
 }
 
 #[test]
 fn senders(rt: HostRuntime) -> Result<(), Fail> {
     for (name, steps, end) in SENDERS.iter() {
-        follows_sender(&rt, name, steps, *end)?;
+        let mut sender = sender().ok_or("sender")?;
+        assert_eq!(rt; wrong_step(&mut sender, steps), None, "{name}");
+        assert_eq!(rt; sender.state(), *end, "{name}");
     }
     Ok(())
 }
@@ -314,35 +310,33 @@ static RECEIVERS: &[(&str, &[ReceiverStep], bool)] = &[
     ),
 ];
 
-/// The receiver does as each step says; the place of one where it doesn't is told.
-fn follows_receiver(
-    rt: &impl Abort,
-    alloc: Global,
-    name: &str,
-    steps: &[ReceiverStep],
-    is_busy: bool,
-) -> Result<(), Fail> {
-    let mut receiver = receiver(alloc).ok_or("receiver")?;
-    for (place, step) in steps.iter().enumerate() {
-        match step {
-            Passes(micros, sent) => {
-                let met = receiver_tick(&mut receiver, *micros);
-                assert_eq!(rt; met, *sent, "{name}: step {place}");
-            }
-            Receives(raw, bytes, sent, size) => {
-                let met = heard(&mut receiver, *raw, bytes, 0);
-                assert_eq!(rt; met, Some((*sent, *size)), "{name}: step {place}");
-            }
+/// Whether the receiver does as the step says.
+fn receives(receiver: &mut Receiver, step: &ReceiverStep) -> bool {
+    match step {
+        Passes(micros, sent) => receiver_tick(receiver, *micros) == *sent,
+        Receives(raw, bytes, sent, size) => {
+            heard(receiver, *raw, bytes, 0) == Some((*sent, *size))
         }
     }
-    assert_eq!(rt; receiver.busy(), is_busy, "{name}");
-    Ok(())
+}
+
+/// The place of the first step that the receiver doesn't take as it says.
+fn wrong_step_of_a_receiver(receiver: &mut Receiver, steps: &[ReceiverStep]) -> Option<usize> {
+    for (place, step) in steps.iter().enumerate() {
+        if !receives(receiver, step) {
+            return Some(place);
+        }
+    }
+    None
 }
 
 #[test]
 fn receivers(rt: HostRuntime) -> Result<(), Fail> {
     for (name, steps, is_busy) in RECEIVERS.iter() {
-        follows_receiver(&rt, rt.alloc(), name, steps, *is_busy)?;
+        let mut receiver = receiver(rt.alloc()).ok_or("receiver")?;
+        let wrong = wrong_step_of_a_receiver(&mut receiver, steps);
+        assert_eq!(rt; wrong, None, "{name}");
+        assert_eq!(rt; receiver.busy(), *is_busy, "{name}");
     }
     Ok(())
 }

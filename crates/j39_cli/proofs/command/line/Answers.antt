@@ -1,24 +1,26 @@
 -- One command after the other.
-use Rattle.std.proofs.Common.{◌≡◌, ◌∙◌, ap₂}
-use Rattle.clap.specs.Words.{App, with_subcommand}
+use Rattle.std.proofs.Common.{◌≡◌}
+use Rattle.std.specs.Prelude.{Err, IfOk, Ok, Result}
+use Rattle.clap.specs.Words.{App, app_of}
+use Rattle.clap.specs.declared.builder.command.Command.{Command}
 use Rattle.j39_cli.specs.Command.{line_app}
+use Rattle.j39_cli.specs.Rules.{IsMade}
 use Rattle.j39_cli.proofs.command.line.Goals as goal
 
-grown : (next line command line_is command_is : App) → line ≡ line_is → command ≡ command_is
-    → next ≡ with_subcommand line command.top → next ≡ with_subcommand line_is command_is.top
-grown next line command line_is command_is l c e = e ∙ ap₂ (λ (x y : App). with_subcommand x y.top) l c
+told : {E : Type 0} (line : Result Command E) (app : App) → IsMade line app → IfOk line (λ c. app_of c ≡ app)
+told (Ok line) app made = made.0
+told (Err e) app made = tt
 
 pub returns : goal.returns
 unfolding line_app
 returns c =
-    let line1 = grown _ _ _ _ _ c.bare-line.ensures c.in_ok-command.ensures.app c.in_ok-line.ensures in
-    let line2 = grown _ _ _ _ _ line1 c.in_ok-command-2.ensures.app c.in_ok-line-2.ensures in
-    let line3 = grown _ _ _ _ _ line2 c.in_ok-command-3.ensures.app c.in_ok-line-3.ensures in
-    let line4 = grown _ _ _ _ _ line3 c.in_ok-command-4.ensures.app c.in_ok-line-4.ensures in
-    let line5 = grown _ _ _ _ _ line4 c.in_ok-command-5.ensures.app c.in_ok-line-5.ensures in
-    let line6 = grown _ _ _ _ _ line5 c.in_ok-command-6.ensures.app c.in_ok-line-6.ensures in
-    let line7 = grown _ _ _ _ _ line6 c.in_ok-command-7.ensures.app c.in_ok-line-7.ensures in
-    let line8 = grown _ _ _ _ _ line7 c.in_ok-command-8.ensures.app c.in_ok-line-8.ensures in
-    let line9 = grown _ _ _ _ _ line8 c.in_ok-command-9.ensures.app c.in_ok-line-9.ensures in
-    let line10 = grown _ _ _ _ _ line9 c.in_ok-command-10.ensures.app c.in_ok-line-10.ensures in
-    line10
+    let line1 = c.with_command-line.ensures _ _ c.bare-line.ensures c.command.ensures in
+    let line2 = c.with_command-line-2.ensures _ _ line1 c.command-2.ensures in
+    let line3 = c.with_command-line-3.ensures _ _ line2 c.command-3.ensures in
+    let line4 = c.with_command-line-4.ensures _ _ line3 c.command-4.ensures in
+    let line5 = c.with_command-line-5.ensures _ _ line4 c.command-5.ensures in
+    let line6 = c.with_command-line-6.ensures _ _ line5 c.command-6.ensures in
+    let line7 = c.with_command-line-7.ensures _ _ line6 c.command-7.ensures in
+    let line8 = c.with_command-line-8.ensures _ _ line7 c.command-8.ensures in
+    let line9 = c.with_command-line-9.ensures _ _ line8 c.command-9.ensures in
+    told _ line_app (c.with_command.ensures _ _ line9 c.command-10.ensures)
