@@ -77,33 +77,28 @@ pub(crate) fn read_words<S: AsStr>(alloc: Global, words: &[S]) -> Result<Words, 
 
 /// What clap is told.
 fn command<'a>(alloc: Global) -> Result<Command<'a>, AllocError> {
-    Command::new(alloc, "bus_demo")
+    let command = Command::new(alloc, "bus_demo")
         .about("Plays a J1939 bus of simulated controllers, and writes its log as candump -L does.")
-        .after_help(HELP)
-        .arg(option(
-            alloc,
-            "seed",
-            "N",
-            "Any number: one seed gives one log; without it 1",
-        ))?
-        .arg(option(
-            alloc,
-            "seconds",
-            "N",
-            "How long it goes, 1 to 3600; without it 3",
-        ))?
-        .arg(option(
-            alloc,
-            "lose",
-            "N,N..",
-            "The frames that are lost, counted from 1",
-        ))?
-        .arg(
-            Arg::new(alloc, "book")
-                .long("book")
-                .action(ArgAction::SetTrue)
-                .help("Tell what was handed in, and what became of it, in the place of the counts"),
-        )
+        .after_help(HELP);
+    let help = "Any number: one seed gives one log; without it 1";
+    let command = with_arg(Ok(command), option(alloc, "seed", "N", help));
+    let help = "How long it goes, 1 to 3600; without it 3";
+    let command = with_arg(command, option(alloc, "seconds", "N", help));
+    let help = "The frames that are lost, counted from 1";
+    let command = with_arg(command, option(alloc, "lose", "N,N..", help));
+    let book = Arg::new(alloc, "book")
+        .long("book")
+        .action(ArgAction::SetTrue)
+        .help("Tell what was handed in, and what became of it, in the place of the counts");
+    with_arg(command, book)
+}
+
+/// The command with one argument more. It takes a result, so that no exit of `command` drops a whole command.
+fn with_arg<'a>(
+    command: Result<Command<'a>, AllocError>,
+    arg: Arg<'a>,
+) -> Result<Command<'a>, AllocError> {
+    command?.arg(arg)
 }
 
 /// `--name VALUE`

@@ -23,17 +23,13 @@ struct Pair {
 }
 
 impl Pair {
-    /// Both hold their addresses.
-    fn new(alloc: Global) -> Result<Pair, Fail> {
-        let engine = Controller::new(alloc, Name::new(0x8000_0000_0340_1001), ENGINE);
-        let tool = Controller::new(alloc, Name::new(0x8000_0000_0440_1004), TOOL);
-        let mut pair = Pair {
-            engine: engine.ok_or("engine")?,
-            tool: tool.ok_or("tool")?,
+    /// Both have claimed no address yet.
+    fn new(alloc: Global) -> Option<Pair> {
+        Some(Pair {
+            engine: Controller::new(alloc, Name::new(0x8000_0000_0340_1001), ENGINE)?,
+            tool: Controller::new(alloc, Name::new(0x8000_0000_0440_1004), TOOL)?,
             now: 0,
-        };
-        pair.run(30)?;
-        Ok(pair)
+        })
     }
 
     fn moment(&self) -> Result<Stamp, Fail> {
@@ -95,7 +91,9 @@ fn broadcasts(alloc: Global, pair: &mut Pair) -> Result<[bool; 3], Fail> {
 
 #[test]
 fn a_broadcast_is_received(rt: HostRuntime) -> Result<(), Fail> {
-    let mut pair = Pair::new(rt.alloc())?;
+    let mut pair = Pair::new(rt.alloc()).ok_or("no pair")?;
+    // Both claim their addresses, and hold them 250 ms later.
+    pair.run(30)?;
     let met = broadcasts(rt.alloc(), &mut pair)?;
     assert_eq!(rt; met, [true, true, false]);
     let received = pair.tool.take_received().ok_or("nothing")?;
@@ -130,7 +128,9 @@ fn answers(alloc: Global, pair: &mut Pair) -> Result<Option<Ending>, Fail> {
 
 #[test]
 fn a_request_is_answered(rt: HostRuntime) -> Result<(), Fail> {
-    let mut pair = Pair::new(rt.alloc())?;
+    let mut pair = Pair::new(rt.alloc()).ok_or("no pair")?;
+    // Both claim their addresses, and hold them 250 ms later.
+    pair.run(30)?;
     assert_eq!(rt; asks(&mut pair)?, (TOOL, ENGINE, VEHICLE));
     let ending = answers(rt.alloc(), &mut pair)?;
     assert_eq!(rt; ending, Some(Ending::Done));

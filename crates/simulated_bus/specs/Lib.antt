@@ -1,2 +1,3 @@
 pub mod Arbitration
+pub mod Groups
 pub mod Payloads

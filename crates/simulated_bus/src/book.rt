@@ -100,7 +100,11 @@ impl Book {
 
     /// Notes what a receiver delivered: the message that was handed in last with this source, group and
     /// payload to one controller is whole.
-    pub fn deliver(&mut self, message: Received) -> Result<(), AllocError> {
+    pub fn deliver(&mut self, message: Received) -> Result<(), AllocError>
+        ensures last { OnOk result (self.new.deliveries.items ≡ self.old.deliveries.items ++ message ∷ []) }
+        ensures count { length self.new.handed.items ≡ length self.old.handed.items }
+        ensures done { self.new.done ≡ self.old.done }
+    {
         let mut number = None;
         for (place, handed) in self.handed.iter().enumerate() {
             if handed.to.is_some()

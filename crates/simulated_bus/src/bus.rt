@@ -1,5 +1,5 @@
 //! The bus: one frame at a time, and a clock in microseconds.
-ghost use Rattle.std.specs.Prelude.{◌≡◌, ◌≤◌, ◌<◌, ◌+◌, ◌*◌, ◌^◌};
+ghost use Rattle.std.specs.Prelude.{◌≡◌, ◌≤◌, ◌<◌, ◌+◌, ◌*◌, ◌^◌, []};
 ghost use Rattle.j39_frame.specs.Stamp.{stamp_micros};
 
 use crate::arbitration::winner;
@@ -64,7 +64,11 @@ pub struct Bus<'a> {
 
 impl<'a> Bus<'a> {
     /// A bus at the moment 0, on which nothing was sent yet.
-    pub fn new(alloc: Global, controllers: Vec<Player>, lose: &'a [u64]) -> Bus<'a> {
+    pub fn new(alloc: Global, controllers: Vec<Player>, lose: &'a [u64]) -> Bus<'a>
+        ensures controllers { result.controllers.items ≡ controllers.items }
+        ensures lose { result.lose.now ≡ lose.now }
+        ensures fresh { (result.frames ≡ 0) × (stamp_micros result.now ≡ 0) × (result.book.handed.items ≡ []) }
+    {
         Bus {
             network: Network::new(NETWORK).unwrap(),
             controllers,
@@ -154,17 +158,23 @@ impl<'a> Bus<'a> {
     }
 
     /// How many frames were sent, the lost ones among them.
-    pub fn frames(&self) -> u64 {
+    pub fn frames(&self) -> u64
+        ensures { result ≡ self.entry.now.frames }
+    {
         self.frames
     }
 
     /// The book of what was handed in.
-    pub fn book(&self) -> &Book {
+    pub fn book(&self) -> &Book
+        ensures { result.now ≡ self.entry.now.book }
+    {
         &self.book
     }
 
     /// The controllers, in the order in which they win where they wish to send one identifier.
-    pub fn controllers(&self) -> &[Player] {
+    pub fn controllers(&self) -> &[Player]
+        ensures { result.now ≡ self.entry.now.controllers.items }
+    {
         self.controllers.as_slice()
     }
 }

@@ -1,6 +1,8 @@
 //! What a controller measures, and the payloads that say it (J1939-71).
 ghost use Rattle.std.specs.Prelude.{◌≡◌, ◌<◌, ℕ, None, Some};
+ghost use Rattle.j39_frame.specs.Pgn.{pgn_raw};
 ghost use Rattle.j39_groups.specs.Slots.{IsRawOf};
+ghost use Rattle.simulated_bus.specs.Groups.{number_of, priority_of};
 ghost use Rattle.simulated_bus.specs.Payloads.{distance_bytes, engine_bytes, temperature_bytes};
 
 use j39_frame::Pgn;
@@ -21,7 +23,9 @@ pub enum Group {
 
 impl Group {
     /// Its number.
-    pub fn pgn(self) -> Pgn {
+    pub fn pgn(self) -> Pgn
+        ensures { pgn_raw result ≡ number_of self }
+    {
         match self {
             Group::Engine => Pgn::new(61_444).unwrap(),
             Group::Temperatures => Pgn::new(65_262).unwrap(),
@@ -30,7 +34,9 @@ impl Group {
     }
 
     /// The priority that it is sent with.
-    pub fn priority(self) -> u8 {
+    pub fn priority(self) -> u8
+        ensures { result ≡ priority_of self }
+    {
         match self {
             Group::Engine => 3,
             Group::Temperatures => 6,
