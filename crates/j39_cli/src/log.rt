@@ -1,7 +1,6 @@
 //! What the commands that read a log have in common.
 ghost use Rattle.std.specs.Prelude.{◌≡◌, ◌≤◌, [], codes, false, length};
 ghost use Rattle.clap.specs.Words.{App, with_rule};
-ghost use Rattle.clap.specs.declared.builder.command.Command.TheViews.{out-Command as settings_of};
 ghost use Rattle.j39_cli.specs.LogCommand.{IsTold, fault_text, format_of, with_log};
 ghost use Rattle.j39_cli.specs.Refusal.{error_line};
 ghost use Rattle.j39_cli.specs.Rules.{IsMade, flag_rule};
