@@ -25,9 +25,12 @@ struct Pair {
 impl Pair {
     /// Both have claimed no address yet.
     fn new(alloc: Global) -> Option<Pair> {
+        let engine = Controller::new(alloc, Name::new(0x8000_0000_0340_1001), ENGINE);
+        let tool = Controller::new(alloc, Name::new(0x8000_0000_0440_1004), TOOL);
+        let (engine, tool) = engine.zip(tool)?;
         Some(Pair {
-            engine: Controller::new(alloc, Name::new(0x8000_0000_0340_1001), ENGINE)?,
-            tool: Controller::new(alloc, Name::new(0x8000_0000_0440_1004), TOOL)?,
+            engine,
+            tool,
             now: 0,
         })
     }
@@ -77,64 +80,58 @@ fn request(now: Stamp) -> Result<Frame, Fail> {
     Ok(Frame::new(now, id, &[0xEC, 0xFE, 0x00]).ok_or("frame")?)
 }
 
-/// The engine broadcasts its VIN: whether it was free before, begins, and isn't free behind that.
-fn broadcasts(alloc: Global, pair: &mut Pair) -> Result<[bool; 3], Fail> {
+/// Whether the engine, which is free, broadcasts its VIN, isn't free meanwhile, and is heard.
+fn broadcasts(alloc: Global, pair: &mut Pair) -> Result<bool, Fail> {
+    pair.run(30)?;
     let group = Pgn::new(VEHICLE).ok_or("group")?;
     let now = pair.moment()?;
-    let vin = payload(alloc)?;
     let was_free = pair.engine.free_at(now) == Some(ENGINE);
-    let begins = pair.engine.broadcast(7, group, vin, now);
+    let begins = pair.engine.broadcast(7, group, payload(alloc)?, now);
     let is_free = pair.engine.free_at(now).is_some();
     pair.run(20)?;
-    Ok([was_free, begins, is_free])
+    let received = pair.tool.take_received().ok_or("nothing")?;
+    let is_untold = pair.engine.take_settled().is_none();
+    Ok(was_free && begins && !is_free && is_vin(&received, 255) && is_untold)
 }
 
 #[test]
 fn a_broadcast_is_received(rt: HostRuntime) -> Result<(), Fail> {
     let mut pair = Pair::new(rt.alloc()).ok_or("no pair")?;
-    // Both claim their addresses, and hold them 250 ms later.
-    pair.run(30)?;
-    let met = broadcasts(rt.alloc(), &mut pair)?;
-    assert_eq!(rt; met, [true, true, false]);
-    let received = pair.tool.take_received().ok_or("nothing")?;
-    assert!(rt; is_vin(&received, 255));
-    assert!(rt; pair.engine.take_settled().is_none());
+    let is_heard = broadcasts(rt.alloc(), &mut pair)?;
+    assert!(rt; is_heard);
     Ok(())
 }
 
-/// The tool asks the engine for its VIN: the request that the engine keeps, by source, destination and group.
-fn asks(pair: &mut Pair) -> Result<(u8, u8, u32), Fail> {
+/// The tool asks the engine for its VIN: whether the engine keeps the request.
+fn asks(pair: &mut Pair) -> Result<bool, Fail> {
+    pair.run(30)?;
     let now = pair.moment()?;
     pair.tool.send(request(now)?, 1)?;
     pair.run(1)?;
     let asked = pair.engine.take_asked().ok_or("nothing")?;
-    Ok((asked.source, asked.destination, asked.pgn.raw()))
+    Ok(asked.source == TOOL && asked.destination == ENGINE && asked.pgn.raw() == VEHICLE)
 }
 
-/// The engine sends its VIN to the tool: how its message 8 ended.
-fn answers(alloc: Global, pair: &mut Pair) -> Result<Option<Ending>, Fail> {
+/// The engine sends its VIN to the tool: whether it is done, and the tool has it.
+fn answers(alloc: Global, pair: &mut Pair) -> Result<bool, Fail> {
     let group = Pgn::new(VEHICLE).ok_or("group")?;
     let now = pair.moment()?;
-    let vin = payload(alloc)?;
-    let _begins = pair.engine.transfer(8, TOOL, group, vin, now);
+    let begins = pair.engine.transfer(8, TOOL, group, payload(alloc)?, now);
     pair.run(20)?;
     let settled = pair.engine.take_settled().ok_or("not settled")?;
-    Ok(if settled.number == 8 {
-        Some(settled.ending)
-    } else {
-        None
-    })
+    let received = pair.tool.take_received().ok_or("nothing")?;
+    let is_done = settled.number == 8 && settled.ending == Ending::Done;
+    Ok(begins && is_done && is_vin(&received, TOOL))
+}
+
+fn asks_and_answers(alloc: Global, pair: &mut Pair) -> Result<bool, Fail> {
+    Ok(asks(pair)? && answers(alloc, pair)?)
 }
 
 #[test]
 fn a_request_is_answered(rt: HostRuntime) -> Result<(), Fail> {
     let mut pair = Pair::new(rt.alloc()).ok_or("no pair")?;
-    // Both claim their addresses, and hold them 250 ms later.
-    pair.run(30)?;
-    assert_eq!(rt; asks(&mut pair)?, (TOOL, ENGINE, VEHICLE));
-    let ending = answers(rt.alloc(), &mut pair)?;
-    assert_eq!(rt; ending, Some(Ending::Done));
-    let received = pair.tool.take_received().ok_or("nothing")?;
-    assert!(rt; is_vin(&received, TOOL));
+    let is_done = asks_and_answers(rt.alloc(), &mut pair)?;
+    assert!(rt; is_done);
     Ok(())
 }
