@@ -1,5 +1,6 @@
 -- The bytes that were taken, at each fault.
 use Rattle.std.proofs.Common.{rules, ℕ, List, [], ◌++◌, ◌∙◌, ◌≡◌, ◌+◌, ◌-◌, subst, ap, append-nil, take, arith, length, length-append, length-take, refl}
+use Rattle.std.proofs.lemmas.Grind.{common_steps}
 use Rattle.std.specs.Io.KnownBytes.{Consumes}
 use Rattle.std.proofs.KnownBytes.{Consumes-kept, Consumes-nil, Consumes-trans}
 use Rattle.std.specs.Prelude.{Err}
@@ -142,3 +143,6 @@ returns-in-Err-clause-cut_short g c = λ fails subject given h.
     let bytes = take c.in-Ok.n c.pull.new.buf in
     front_of_all (g.A.Account.makes subject) given _ _ (inv.0 ++ bytes) _ _ (Consumes-trans _ _ _ inv.0 bytes inv.1 c.in-Ok.ensures.bytes.0)
     (c.in-Err.ensures.front subject given inv.0 _ (inv.2 subject given h))
+
+pub returns-then-n-room-clause-too_long : goal.returns-then-n-room-clause-too_long
+returns-then-n-room-clause-too_long g c = grind (arith, common_steps)

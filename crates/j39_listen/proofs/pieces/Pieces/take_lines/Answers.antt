@@ -1,5 +1,6 @@
 -- One line after the other.
-use Rattle.std.proofs.Common.{◌∙◌, ◌++◌, [], sym, ap, subst, refl, take, drop, append_assoc, append-nil, take-append-drop}
+use Rattle.std.proofs.Common.{◌∙◌, ◌++◌, [], sym, ap, subst, refl, take, drop, append_assoc, append-nil, arith, take-append-drop}
+use Rattle.std.proofs.lemmas.Grind.{common_steps}
 use Rattle.std.specs.Prelude.{Err}
 use Rattle.j39_listen.specs.PieceSteps.{HasTaken}
 use Rattle.j39_listen.specs.declared.pieces.Pieces.{Pieces}
@@ -40,3 +41,6 @@ returns-in-Err-clause-asked g c = λ fails subject.
     let inv = c.loop-rest.invariant in
     takes_then_asks (g.A.Account.has_met subject) (g.A.Account.asks subject) c.args.self.now c.loop-rest.self inv.0 c.loop-rest.rest.now c.args.piece.now (g.W.Sink.held c.args.sink.now) (g.W.Sink.held c.loop-rest.sink) inv.1 (inv.2 subject)
     (c.in-Err.ensures.asked (ap Err (same_fault _ _ fails)) subject)
+
+pub returns-clause-taken : goal.returns-clause-taken
+returns-clause-taken g c = grind (arith, common_steps)
