@@ -22,6 +22,23 @@ pair_there (o ∷ os) (None ∷ vs) i inside = let no : ⊥ = omega arith in abs
 pair_there (o ∷ os) (Some v ∷ vs) zero inside = (o, v, refl, refl, refl)
 pair_there (o ∷ os) (Some v ∷ vs) (suc i) inside = pair_there os vs i (omega arith)
 
+paired_short : {T : Type 0} (os : List Origin) (vs : List (Option T)) → length (paired os vs) ≤ length os
+paired_short [] vs = omega arith
+paired_short (o ∷ os) [] = omega arith
+paired_short (o ∷ os) (None ∷ vs) = omega arith
+paired_short (o ∷ os) (Some v ∷ vs) = let rest = paired_short os vs in omega arith
+
+-- what has a value is among the places
+pub within : {T : Type 0} (xs : List Origin) (vs : List (Option T)) (n room i : ℕ) → n ≤ room → i < length (paired (take n xs) vs) → i < room
+within xs vs n room i fits inside =
+    let short = paired_short (take n xs) vs in
+    omega (arith, length-take n xs)
+
+pub within_or_at : {T : Type 0} (xs : List Origin) (vs : List (Option T)) (n room i : ℕ) → n ≤ room → i < length (paired (take n xs) vs) → i ≤ room
+within_or_at xs vs n room i fits inside =
+    let below = within xs vs n room i fits inside in
+    omega arith
+
 same_some : {A : Type 0} (x y : A) → Some x ≡ Some y → x ≡ y
 same_some x y e = ap (λ r. unwrap_or r x) e
 
@@ -52,7 +69,8 @@ pair_here xs vs n i o d value inside here =
 
 -- ---- where an origin stands
 
-count_is : {T : Type 0} (xs : List Origin) (vs : List (Option T)) (n : ℕ) → n ≤ length xs → keys_of (paired (take n xs) vs) ≡ take n xs → length (paired (take n xs) vs) ≡ n
+-- there are as many pairs as places that are taken
+pub count_is : {T : Type 0} (xs : List Origin) (vs : List (Option T)) (n : ℕ) → n ≤ length xs → keys_of (paired (take n xs) vs) ≡ take n xs → length (paired (take n xs) vs) ≡ n
 count_is xs vs n inside held =
     let same = ap length held in
     omega (arith, same, length-keys_of (paired (take n xs) vs), length-take n xs)
@@ -113,6 +131,12 @@ paired_beyond (o ∷ os) (None ∷ vs) (suc n) x past = refl
 paired_beyond (o ∷ os) (Some v ∷ vs) (suc n) x past = ap (λ es. (o, v) ∷ es) (paired_beyond os vs n x (omega arith))
 
 -- a write behind the places that are taken changes none
+pub kept_keys : {T : Type 0} (xs : List Origin) (vs : List (Option T)) (n : ℕ) (k : Origin) → keys_of (paired (take n xs) vs) ≡ take n xs
+    → keys_of (paired (take n (slice_set xs n k)) vs) ≡ take n (slice_set xs n k)
+kept_keys xs vs n k held =
+    let e : take n (slice_set xs n k) ≡ take n xs = take-set xs n k in
+    ap (λ os. keys_of (paired os vs)) e ∙ held ∙ sym e
+
 pub kept_held : {T : Type 0} (xs : List Origin) (vs : List (Option T)) (n : ℕ) (k : Origin) (x : Option T) → keys_of (paired (take n xs) vs) ≡ take n xs
     → keys_of (paired (take n (slice_set xs n k)) (slice_set vs n x)) ≡ take n (slice_set xs n k)
 kept_held xs vs n k x held =
