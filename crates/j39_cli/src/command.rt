@@ -166,6 +166,6 @@ fn with_command<'a>(
     ensures { (line_told told : App) → IsMade line.entry line_told → IsMade command.entry told
         → IsMade result (with_subcommand line_told told.top) }
 {
-    let line = line?;
-    line.subcommand(command?)
+    let (line, command) = line.ok().zip(command.ok()).ok_or(AllocError)?;
+    line.subcommand(command)
 }
