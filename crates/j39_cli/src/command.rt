@@ -158,7 +158,7 @@ fn with_arg<'a>(
     command?.arg(arg)
 }
 
-/// The line with one command more.
+/// The line with one command more. Both are unpacked at once, so that the exit drops neither.
 fn with_command<'a>(
     line: Result<Command<'a>, AllocError>,
     command: Result<Command<'a>, AllocError>,

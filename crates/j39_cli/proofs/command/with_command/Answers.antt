@@ -17,7 +17,8 @@ both_ok (Err e) command l k zipped = cc
 
 pub returns : goal.returns
 returns c line_told told made_line made_command =
-    let zipped : option_zip (result_ok c.args.line) (result_ok c.args.command) ≡ Some (c.in_ok-line.line, c.in_ok-line.command) = search rules in
+    let zipped : option_zip (result_ok c.args.line) (result_ok c.args.command) ≡ Some (c.in_ok-line.line, c.in_ok-line.command) =
+    cc (c.zip.ensures, c.ok.ensures.value, c.ok-2.ensures.value, c.in_ok-line.ensures.ok_part) in
     let both = both_ok c.args.line c.args.command _ _ zipped in
     let line : IsMade {E = AllocError} (Ok c.in_ok-line.line) line_told = subst (λ (r : Result Command AllocError). IsMade r line_told) both.0 made_line in
     let command : IsMade {E = AllocError} (Ok c.in_ok-line.command) told = subst (λ (r : Result Command AllocError). IsMade r told) both.1 made_command in
