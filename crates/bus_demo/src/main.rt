@@ -37,24 +37,30 @@ fn play(rt: &HostRuntime, words: &Words) -> io::Result<u8> {
     let controllers = controllers(rt.alloc(), words.seed)?;
     let mut bus = Bus::new(rt.alloc(), controllers, words.lose.as_slice());
     match bus.run(words.seconds.saturating_mul(1_000_000), &mut out) {
-        Ok(()) => {
-            if words.book {
-                tell_book(rt, &bus)?;
-            } else {
-                tell_counts(rt, bus.frames(), bus.book())?;
-                tell_addresses(rt, bus.controllers())?;
-            }
-            Ok(0)
-        }
-        Err(BusFault::Memory) => {
-            eprintln!(rt; "bus_demo: out of memory")?;
-            Ok(1)
-        }
-        Err(BusFault::Write) => {
-            eprintln!(rt; "bus_demo: write failed")?;
-            Ok(1)
-        }
+        Ok(()) => tell(rt, &bus, words.book),
+        Err(fault) => complain(rt, fault),
     }
+}
+
+/// Tells the counts of a bus, or its book, and answers the exit status.
+fn tell(rt: &HostRuntime, bus: &Bus<'_>, book: bool) -> io::Result<u8> {
+    if book {
+        tell_book(rt, bus)?;
+    } else {
+        tell_counts(rt, bus.frames(), bus.book())?;
+        tell_addresses(rt, bus.controllers())?;
+    }
+    Ok(0)
+}
+
+/// Says why the bus stopped before its end, and answers the exit status.
+fn complain(rt: &HostRuntime, fault: BusFault) -> io::Result<u8> {
+    let why = match fault {
+        BusFault::Memory => "out of memory",
+        BusFault::Write => "write failed",
+    };
+    eprintln!(rt; "bus_demo: {why}")?;
+    Ok(1)
 }
 
 fn tell_counts(rt: &HostRuntime, frames: u64, book: &Book) -> io::Result<()> {

@@ -63,13 +63,17 @@ impl From<AllocError> for Refusal {
 /// What the words ask for. They begin with the program's name.
 pub(crate) fn read_words<S: AsStr>(alloc: Global, words: &[S]) -> Result<Words, Refusal> {
     let command = command(alloc)?;
-    let matches = match command.try_get_matches_from(words) {
-        Ok(matches) => matches,
-        Err(error) => return Err(refusal_of(alloc, &error)),
-    };
+    match command.try_get_matches_from(words) {
+        Ok(matches) => words_of(alloc, &matches),
+        Err(error) => Err(refusal_of(alloc, &error)),
+    }
+}
+
+/// The values that clap met.
+fn words_of(alloc: Global, matches: &ArgMatches<'_>) -> Result<Words, Refusal> {
     Ok(Words {
-        seed: value(&matches, "seed", 1, 0, u64::MAX).ok_or(Refusal::BadValue("--seed"))?,
-        seconds: value(&matches, "seconds", 3, 1, LONGEST).ok_or(Refusal::BadValue("--seconds"))?,
+        seed: value(matches, "seed", 1, 0, u64::MAX).ok_or(Refusal::BadValue("--seed"))?,
+        seconds: value(matches, "seconds", 3, 1, LONGEST).ok_or(Refusal::BadValue("--seconds"))?,
         lose: numbers(alloc, matches.get_str("lose"))?,
         book: matches.get_flag("book"),
     })
@@ -77,28 +81,24 @@ pub(crate) fn read_words<S: AsStr>(alloc: Global, words: &[S]) -> Result<Words, 
 
 /// What clap is told.
 fn command<'a>(alloc: Global) -> Result<Command<'a>, AllocError> {
-    let command = Command::new(alloc, "bus_demo")
+    let seed = "Any number: one seed gives one log; without it 1";
+    let seconds = "How long it goes, 1 to 3600; without it 3";
+    let lose = "The frames that are lost, counted from 1";
+    let book = "Tell what was handed in, and what became of it, in the place of the counts";
+    let args = [
+        option(alloc, "seed", "N", seed),
+        option(alloc, "seconds", "N", seconds),
+        option(alloc, "lose", "N,N..", lose),
+        Arg::new(alloc, "book")
+            .long("book")
+            .action(ArgAction::SetTrue)
+            .help(book),
+    ];
+    let args = Vec::from_array(alloc, args)?;
+    Command::new(alloc, "bus_demo")
         .about("Plays a J1939 bus of simulated controllers, and writes its log as candump -L does.")
-        .after_help(HELP);
-    let help = "Any number: one seed gives one log; without it 1";
-    let command = with_arg(Ok(command), option(alloc, "seed", "N", help));
-    let help = "How long it goes, 1 to 3600; without it 3";
-    let command = with_arg(command, option(alloc, "seconds", "N", help));
-    let help = "The frames that are lost, counted from 1";
-    let command = with_arg(command, option(alloc, "lose", "N,N..", help));
-    let book = Arg::new(alloc, "book")
-        .long("book")
-        .action(ArgAction::SetTrue)
-        .help("Tell what was handed in, and what became of it, in the place of the counts");
-    with_arg(command, book)
-}
-
-/// The command with one argument more. It takes a result, so that no exit of `command` drops a whole command.
-fn with_arg<'a>(
-    command: Result<Command<'a>, AllocError>,
-    arg: Arg<'a>,
-) -> Result<Command<'a>, AllocError> {
-    command?.arg(arg)
+        .after_help(HELP)
+        .args(args)
 }
 
 /// `--name VALUE`

@@ -158,7 +158,7 @@ fn with_arg<'a>(
     command?.arg(arg)
 }
 
-/// The line with one command more.
+/// The line with one command more. Both are unpacked at once, so that the exit drops neither.
 fn with_command<'a>(
     line: Result<Command<'a>, AllocError>,
     command: Result<Command<'a>, AllocError>,
@@ -166,6 +166,6 @@ fn with_command<'a>(
     ensures { (line_told told : App) → IsMade line.entry line_told → IsMade command.entry told
         → IsMade result (with_subcommand line_told told.top) }
 {
-    let line = line?;
-    line.subcommand(command?)
+    let (line, command) = line.ok().zip(command.ok()).ok_or(AllocError)?;
+    line.subcommand(command)
 }

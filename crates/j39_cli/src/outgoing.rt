@@ -20,7 +20,7 @@ const DISTANCE: u64 = 50_000;
 
 /// A message of 9 to 1,785 bytes that is to be broadcast on a bus from a moment on, a frame each
 /// 50 ms.
-#[derive(Debug, Drop)]
+#[derive(Drop)]
 pub struct Outgoing {
     source: u8,
     pgn: Pgn,

@@ -11,7 +11,7 @@ use std::marker::Model;
 const SPN_LIMIT: u64 = 1 << 19;
 
 /// At most 32 parameters (SPN), in the order in which they were asked for.
-#[derive(Debug, Drop)]
+#[derive(Drop)]
 pub struct Spns {
     numbers: ArrayVec<u32, 32>,
 }

@@ -15,7 +15,7 @@ use std::marker::Model;
 use thiserror::Error;
 
 /// A text that stands among the words.
-#[derive(Debug, Drop)]
+#[derive(Drop)]
 pub struct WordText<'a> {
     text: &'a str,
 }
@@ -45,7 +45,7 @@ impl<'a> WordText<'a> {
 }
 
 /// An address of a controller, 0 to 253.
-#[derive(Debug, Drop)]
+#[derive(Drop)]
 pub struct Address {
     number: u8,
 }
@@ -93,7 +93,7 @@ pub enum Format {
 }
 
 /// A command with its values.
-#[derive(Debug, Drop)]
+#[derive(Drop)]
 pub enum Task<'a> {
     /// The report of a log: the bus to read, where one is named, the file of the table of parameters,
     /// where it isn't the built-in one, the parameters that are asked for, where not all are, how it is written,
