@@ -43,21 +43,24 @@ pub extern "C" fn j39_controller_new(
     ensures wanted { controller.old.part ≡ None → IsAddress preferred → IsRefused result → result ≡ no_memory }
     ensures refused { IsRefused result → controller.new.part ≡ controller.old.part }
 {
-    if let Some(part) = controller.take(alloc) {
-        controller.put(alloc, part);
+    if controller.is_open(alloc) {
         return Refusal::InUse.code();
     }
-    let Some(made) = Controller::new(alloc, Name::new(name), preferred) else {
-        return Refusal::BadValue.code();
-    };
-    let Ok(made) = Box::new(alloc, made) else {
-        return Refusal::NoMemory.code();
-    };
-    let Ok(part) = Box::new(alloc, Part::Controlling(made)) else {
-        return Refusal::NoMemory.code();
-    };
-    controller.put(alloc, part);
-    0
+    match Controller::new(alloc, Name::new(name), preferred) {
+        Some(made) => put_controller(alloc, controller, made),
+        None => Refusal::BadValue.code(),
+    }
+}
+
+/// Puts a new controller into a handle: 0, or -3 where memory is refused.
+fn put_controller(alloc: Global, handle: &mut Handle, made: Controller) -> i32
+    ensures made { IsDone result → (result ≡ pos 0) × (controller_in handle.new.part ≡ Some made) }
+    ensures refused { IsRefused result → (result ≡ no_memory) × (handle.new.part ≡ handle.old.part) }
+{
+    match Box::new(alloc, made) {
+        Ok(made) => handle.put_new(alloc, Part::Controlling(made)),
+        Err(_) => Refusal::NoMemory.code(),
+    }
 }
 
 /// Lets time pass for the address of a controller: it claims its preferred one, and holds it 250 ms later: 0. -1 for a
