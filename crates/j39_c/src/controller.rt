@@ -1,6 +1,8 @@
 //! A controller: the parts of the stack in one loop (J1939-21, J1939-81).
-ghost use Rattle.std.specs.Prelude.{◌≡◌, ◌<◌, ◌^◌, Some, None, IfSome, IsSome, IsSomeAnd, pos};
+ghost use Rattle.std.specs.Prelude.{◌≡◌, ◌↔◌, ◌<◌, ◌^◌, Some, None, IfSome, IsSome, IsSomeAnd, pos};
 ghost use Rattle.j39_frame.specs.Address.{IsAddress};
+ghost use Rattle.j39_frame.specs.Pgn.{pgn_raw};
+ghost use Rattle.j39_frame.specs.Stamp.{stamp_micros};
 ghost use Rattle.j39_controller.specs.Controller.{Hears, IsNew, IsUnsent, Passes, waiting_in};
 ghost use Rattle.j39_controller.specs.Outbox.{first_id};
 ghost use Rattle.j39_c.specs.Can.{Fits, frame_of};
@@ -188,12 +190,9 @@ pub extern "C" fn j39_controller_broadcast(
     ensures bad { (CanBegin pgn payload.now micros → ⊥) → result ≡ bad_value }
     ensures refused { IsRefused result → controller.new.part ≡ controller.old.part }
 {
-    let (Some(now), Some(group)) = (Stamp::new(micros), Pgn::new(pgn)) else {
+    let Some((group, now)) = group_and_moment(pgn, payload, micros) else {
         return Refusal::BadValue.code();
     };
-    if payload.len() < SHORTEST || payload.len() > LONGEST {
-        return Refusal::BadValue.code();
-    }
     let Some(mut part) = controller.take(alloc) else {
         return Refusal::NoPart.code();
     };
@@ -226,18 +225,29 @@ pub extern "C" fn j39_controller_transfer(
     ensures bad { (CanTransfer to pgn payload.now micros → ⊥) → result ≡ bad_value }
     ensures refused { IsRefused result → controller.new.part ≡ controller.old.part }
 {
-    let (Some(now), Some(group)) = (Stamp::new(micros), Pgn::new(pgn)) else {
-        return Refusal::BadValue.code();
-    };
-    if payload.len() < SHORTEST || payload.len() > LONGEST || !is_address(to) {
+    if !is_address(to) {
         return Refusal::BadValue.code();
     }
+    let Some((group, now)) = group_and_moment(pgn, payload, micros) else {
+        return Refusal::BadValue.code();
+    };
     let Some(mut part) = controller.take(alloc) else {
         return Refusal::NoPart.code();
     };
     let code = controlling::transfer(alloc, &mut part, number, to, group, payload, now);
     controller.put(alloc, part);
     code
+}
+
+/// The group and the moment of a message that may begin: where it has 9 to 1,785 bytes, and both are in their range.
+fn group_and_moment(pgn: u32, payload: &[u8], micros: u64) -> Option<(Pgn, Stamp)>
+    ensures known { IsSome result ↔ CanBegin pgn payload.now micros }
+    ensures value { IfSome result (λ found. (pgn_raw found.0 ≡ pgn) × (stamp_micros found.1 ≡ micros)) }
+{
+    if payload.len() < SHORTEST || payload.len() > LONGEST {
+        return None;
+    }
+    Some((Pgn::new(pgn)?, Stamp::new(micros)?))
 }
 
 /// The address that a controller holds: 1 and the address, or 0; -2 where the handle holds no controller.
