@@ -25,18 +25,13 @@ pub extern "C" fn j39_assembler_new(alloc: Global, assembler: &mut Handle) -> i3
     ensures wanted { IsRefused result → assembler.old.part ≡ None → result ≡ no_memory }
     ensures refused { IsRefused result → assembler.new.part ≡ assembler.old.part }
 {
-    if let Some(part) = assembler.take(alloc) {
-        assembler.put(alloc, part);
+    if assembler.is_open(alloc) {
         return Refusal::InUse.code();
     }
     let Ok(made) = Box::new(alloc, Assembler::new(alloc)) else {
         return Refusal::NoMemory.code();
     };
-    let Ok(part) = Box::new(alloc, Part::Assembling(made)) else {
-        return Refusal::NoMemory.code();
-    };
-    assembler.put(alloc, part);
-    0
+    assembler.put_new(alloc, Part::Assembling(made))
 }
 
 /// Feeds an assembler the next frame of the bus: 1 where a message is whole with it, which is in `out` then, of no NAME,

@@ -1,6 +1,8 @@
 //! A controller: the parts of the stack in one loop (J1939-21, J1939-81).
-ghost use Rattle.std.specs.Prelude.{◌≡◌, ◌<◌, ◌^◌, Some, None, IfSome, IsSome, IsSomeAnd, pos};
+ghost use Rattle.std.specs.Prelude.{◌≡◌, ◌↔◌, ◌<◌, ◌^◌, Some, None, IfSome, IsSome, IsSomeAnd, pos};
 ghost use Rattle.j39_frame.specs.Address.{IsAddress};
+ghost use Rattle.j39_frame.specs.Pgn.{pgn_raw};
+ghost use Rattle.j39_frame.specs.Stamp.{stamp_micros};
 ghost use Rattle.j39_controller.specs.Controller.{Hears, IsNew, IsUnsent, Passes, waiting_in};
 ghost use Rattle.j39_controller.specs.Outbox.{first_id};
 ghost use Rattle.j39_c.specs.Can.{Fits, frame_of};
@@ -43,21 +45,24 @@ pub extern "C" fn j39_controller_new(
     ensures wanted { controller.old.part ≡ None → IsAddress preferred → IsRefused result → result ≡ no_memory }
     ensures refused { IsRefused result → controller.new.part ≡ controller.old.part }
 {
-    if let Some(part) = controller.take(alloc) {
-        controller.put(alloc, part);
+    if controller.is_open(alloc) {
         return Refusal::InUse.code();
     }
-    let Some(made) = Controller::new(alloc, Name::new(name), preferred) else {
-        return Refusal::BadValue.code();
-    };
-    let Ok(made) = Box::new(alloc, made) else {
-        return Refusal::NoMemory.code();
-    };
-    let Ok(part) = Box::new(alloc, Part::Controlling(made)) else {
-        return Refusal::NoMemory.code();
-    };
-    controller.put(alloc, part);
-    0
+    match Controller::new(alloc, Name::new(name), preferred) {
+        Some(made) => put_controller(alloc, controller, made),
+        None => Refusal::BadValue.code(),
+    }
+}
+
+/// Puts a new controller into a handle: 0, or -3 where memory is refused.
+fn put_controller(alloc: Global, handle: &mut Handle, made: Controller) -> i32
+    ensures made { IsDone result → (result ≡ pos 0) × (controller_in handle.new.part ≡ Some made) }
+    ensures refused { IsRefused result → (result ≡ no_memory) × (handle.new.part ≡ handle.old.part) }
+{
+    match Box::new(alloc, made) {
+        Ok(made) => handle.put_new(alloc, Part::Controlling(made)),
+        Err(_) => Refusal::NoMemory.code(),
+    }
 }
 
 /// Lets time pass for the address of a controller: it claims its preferred one, and holds it 250 ms later: 0. -1 for a
@@ -185,12 +190,9 @@ pub extern "C" fn j39_controller_broadcast(
     ensures bad { (CanBegin pgn payload.now micros → ⊥) → result ≡ bad_value }
     ensures refused { IsRefused result → controller.new.part ≡ controller.old.part }
 {
-    let (Some(now), Some(group)) = (Stamp::new(micros), Pgn::new(pgn)) else {
+    let Some((group, now)) = group_and_moment(pgn, payload, micros) else {
         return Refusal::BadValue.code();
     };
-    if payload.len() < SHORTEST || payload.len() > LONGEST {
-        return Refusal::BadValue.code();
-    }
     let Some(mut part) = controller.take(alloc) else {
         return Refusal::NoPart.code();
     };
@@ -223,18 +225,29 @@ pub extern "C" fn j39_controller_transfer(
     ensures bad { (CanTransfer to pgn payload.now micros → ⊥) → result ≡ bad_value }
     ensures refused { IsRefused result → controller.new.part ≡ controller.old.part }
 {
-    let (Some(now), Some(group)) = (Stamp::new(micros), Pgn::new(pgn)) else {
-        return Refusal::BadValue.code();
-    };
-    if payload.len() < SHORTEST || payload.len() > LONGEST || !is_address(to) {
+    if !is_address(to) {
         return Refusal::BadValue.code();
     }
+    let Some((group, now)) = group_and_moment(pgn, payload, micros) else {
+        return Refusal::BadValue.code();
+    };
     let Some(mut part) = controller.take(alloc) else {
         return Refusal::NoPart.code();
     };
     let code = controlling::transfer(alloc, &mut part, number, to, group, payload, now);
     controller.put(alloc, part);
     code
+}
+
+/// The group and the moment of a message that may begin: where it has 9 to 1,785 bytes, and both are in their range.
+fn group_and_moment(pgn: u32, payload: &[u8], micros: u64) -> Option<(Pgn, Stamp)>
+    ensures known { IsSome result ↔ CanBegin pgn payload.now micros }
+    ensures value { IfSome result (λ found. (pgn_raw found.0 ≡ pgn) × (stamp_micros found.1 ≡ micros)) }
+{
+    if payload.len() < SHORTEST || payload.len() > LONGEST {
+        return None;
+    }
+    Some((Pgn::new(pgn)?, Stamp::new(micros)?))
 }
 
 /// The address that a controller holds: 1 and the address, or 0; -2 where the handle holds no controller.

@@ -1,11 +1,13 @@
 //! A part of the stack in the hands of C: a pointer to it, or null.
-ghost use Rattle.std.specs.Prelude.{◌≡◌, Option, Some, None};
-ghost use Rattle.std.specs.Option.{option_map};
+ghost use Rattle.std.specs.Prelude.{◌≡◌, Option, Some, None, pos};
+ghost use Rattle.std.specs.Option.{is_some, option_map};
+ghost use Rattle.j39_c.specs.Codes.{IsDone, IsRefused, no_memory};
 ghost use Rattle.j39_c.specs.Held.{held};
 ghost use Rattle.j39_c.specs.declared.part.Part.{Part};
 
 use crate::loose::Loose;
 use crate::part::Part;
+use crate::refusal::Refusal;
 use std::alloc::Global;
 use std::marker::Model;
 use std::mem::replace;
@@ -81,6 +83,32 @@ impl Handle {
         ensures { self.new.part ≡ Some part.value }
     {
         let _before = replace(self, Handle::of(part)).into_part(alloc);
+    }
+
+    /// Whether it holds a part.
+    pub(crate) fn is_open(&mut self, alloc: Global) -> bool
+        ensures open { result ≡ is_some self.old.part }
+        ensures same { self.new.part ≡ self.old.part }
+    {
+        match self.take(alloc) {
+            Some(part) => {
+                self.put(alloc, part);
+                true
+            }
+            None => false,
+        }
+    }
+
+    /// Puts a new part in, in the place of what was there: 0, or -3 where memory is refused.
+    pub(crate) fn put_new(&mut self, alloc: Global, part: Part) -> i32
+        ensures made { IsDone result → (result ≡ pos 0) × (self.new.part ≡ Some part) }
+        ensures refused { IsRefused result → (result ≡ no_memory) × (self.new.part ≡ self.old.part) }
+    {
+        let Ok(part) = Box::new(alloc, part) else {
+            return Refusal::NoMemory.code();
+        };
+        self.put(alloc, part);
+        0
     }
 }
 

@@ -25,18 +25,13 @@ pub extern "C" fn j39_listener_new(alloc: Global, listener: &mut Handle) -> i32
     ensures wanted { IsRefused result → listener.old.part ≡ None → result ≡ no_memory }
     ensures refused { IsRefused result → listener.new.part ≡ listener.old.part }
 {
-    if let Some(part) = listener.take(alloc) {
-        listener.put(alloc, part);
+    if listener.is_open(alloc) {
         return Refusal::InUse.code();
     }
     let Ok(made) = Box::new(alloc, Listener::new(alloc)) else {
         return Refusal::NoMemory.code();
     };
-    let Ok(part) = Box::new(alloc, Part::Listening(made)) else {
-        return Refusal::NoMemory.code();
-    };
-    listener.put(alloc, part);
-    0
+    listener.put_new(alloc, Part::Listening(made))
 }
 
 /// Feeds a listener the next frame of the bus: 1 where a message is heard at it, which is in `out` then, else 0. -1

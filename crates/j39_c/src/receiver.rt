@@ -26,8 +26,7 @@ pub extern "C" fn j39_receiver_new(alloc: Global, receiver: &mut Handle, own: u8
     ensures wanted { receiver.old.part ≡ None → IsAddress own → IsRefused result → result ≡ no_memory }
     ensures refused { IsRefused result → receiver.new.part ≡ receiver.old.part }
 {
-    if let Some(part) = receiver.take(alloc) {
-        receiver.put(alloc, part);
+    if receiver.is_open(alloc) {
         return Refusal::InUse.code();
     }
     if !is_address(own) {
@@ -39,11 +38,7 @@ pub extern "C" fn j39_receiver_new(alloc: Global, receiver: &mut Handle, own: u8
     let Ok(made) = Box::new(alloc, made) else {
         return Refusal::NoMemory.code();
     };
-    let Ok(part) = Box::new(alloc, Part::Receiving(made)) else {
-        return Refusal::NoMemory.code();
-    };
-    receiver.put(alloc, part);
-    0
+    receiver.put_new(alloc, Part::Receiving(made))
 }
 
 /// Hands a frame of the bus to a receiver at its own moment: 0; 1 where `out` is to be sent; 2 where `out` is to be

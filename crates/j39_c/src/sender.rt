@@ -38,15 +38,11 @@ pub extern "C" fn j39_sender_new(
         → IsRefused result → result ≡ no_memory }
     ensures refused { IsRefused result → sender.new.part ≡ sender.old.part }
 {
-    if let Some(part) = sender.take(alloc) {
-        sender.put(alloc, part);
+    if sender.is_open(alloc) {
         return Refusal::InUse.code();
     }
     match made(alloc, source, destination, pgn, payload) {
-        Ok(part) => {
-            sender.put(alloc, part);
-            0
-        }
+        Ok(part) => sender.put_new(alloc, part),
         Err(refusal) => refusal.code(),
     }
 }
@@ -58,10 +54,10 @@ fn made(
     destination: u8,
     pgn: u32,
     payload: &[u8],
-) -> Result<Box<Part>, Refusal>
+) -> Result<Part, Refusal>
     ensures made { IfOk result (λ part.
         CanSend (message_by source pgn payload.now) destination
-        × (sender_in (Some part.value) ≡ Some (new_sender (message_by source pgn payload.now) destination))) }
+        × (sender_in (Some part) ≡ Some (new_sender (message_by source pgn payload.now) destination))) }
     ensures refused { IfErr result (λ refusal.
         IsSendRefusal (message_by source pgn payload.now) destination refusal) }
 {
@@ -80,10 +76,7 @@ fn made(
     let Ok(made) = Box::new(alloc, made) else {
         return Err(Refusal::NoMemory);
     };
-    let Ok(part) = Box::new(alloc, Part::Sending(made)) else {
-        return Err(Refusal::NoMemory);
-    };
-    Ok(part)
+    Ok(Part::Sending(made))
 }
 
 /// Lets time pass for a sender: 1 where `out` is to be sent, else 0. -1 for a moment of 10^16 microseconds and above,
