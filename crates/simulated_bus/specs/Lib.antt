@@ -1,3 +1,4 @@
 pub mod Arbitration
+pub mod Fates
 pub mod Groups
 pub mod Payloads

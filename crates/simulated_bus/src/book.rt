@@ -1,6 +1,8 @@
 //! What was handed in to send, and what became of it.
 ghost use Rattle.std.specs.Prelude.{◌≡◌, ◌∷◌, ◌++◌, [], length, false};
+ghost use Rattle.std.specs.List.{count_by};
 ghost use Rattle.std.specs.Result.{IfOk, OnOk};
+ghost use Rattle.simulated_bus.specs.Fates.{is_whole};
 
 use j39_address::Name;
 use j39_controller::{Part, Received};
@@ -138,7 +140,9 @@ impl Book {
     }
 
     /// How many of them are whole.
-    pub fn whole(&self) -> usize {
+    pub fn whole(&self) -> usize
+        ensures { result ≡ count_by is_whole self.now.handed.items }
+    {
         self.handed
             .iter()
             .filter(|message| matches!(message.fate, Fate::Whole(_)))

@@ -58,7 +58,9 @@ pub struct Gauges {
 
 impl Gauges {
     /// The gauges of the controller with this number.
-    pub fn new(seed: u64, controller: u64) -> Gauges {
+    pub fn new(seed: u64, controller: u64) -> Gauges
+        ensures { result.steps ≡ 0 }
+    {
         Gauges {
             random: Pcg32::new(seed, controller),
             steps: 0,

@@ -1,4 +1,15 @@
 //! A controller of the demo: the stack's own, with what it sends of its own accord.
+ghost use Rattle.std.specs.Prelude.{◌≡◌, ◌↔◌, ◌∷◌, IfSome, IsSome, List, Some, drop};
+ghost use Rattle.std.specs.Option.{option_map};
+ghost use Rattle.j39_frame.specs.Address.{IsAddress};
+ghost use Rattle.j39_frame.specs.Identifier.{id_raw};
+ghost use Rattle.j39_address.specs.Name.{name_raw};
+ghost use Rattle.j39_address.specs.Node.{Node};
+ghost use Rattle.j39_controller.specs.Controller.{HasNode, IsNew, KeepsButWaiting, begun_in, waiting_in};
+ghost use Rattle.j39_controller.specs.MaySend.{MaySend, held_in};
+ghost use Rattle.j39_controller.specs.Outbox.{first_id};
+ghost use Rattle.j39_controller.specs.declared.outbox.Wish.{Wish};
+
 use crate::book::{Book, Fate};
 use crate::gauges::Gauges;
 use crate::publisher::Publisher;
@@ -22,7 +33,10 @@ pub struct Player {
 
 impl Player {
     /// One that has claimed no address yet; `None` for a preferred address above 253.
-    pub fn new(alloc: Global, role: &Role, mut gauges: Gauges) -> Option<Player> {
+    pub fn new(alloc: Global, role: &Role, mut gauges: Gauges) -> Option<Player>
+        ensures known { IsSome result ↔ IsAddress role.now.preferred }
+        ensures fresh { IfSome result (λ player. IsNew role.now.name role.now.preferred player.controller) }
+    {
         let phase = u64::from(gauges.below(10_000));
         Some(Player {
             controller: Controller::new(alloc, Name::new(role.name), role.preferred)?,
@@ -32,27 +46,43 @@ impl Player {
     }
 
     /// The address that it holds.
-    pub fn held(&self) -> Option<u8> {
+    pub fn held(&self) -> Option<u8>
+        ensures { (node : Node) → HasNode self.now.controller node → result ≡ held_in node.status }
+    {
         self.controller.held()
     }
 
     /// Its NAME.
-    pub fn name(&self) -> Name {
+    pub fn name(&self) -> Name
+        ensures { (node : Node) → HasNode self.now.controller node → name_raw result ≡ node.name }
+    {
         self.controller.name()
     }
 
     /// How many messages it has begun to put together or to receive.
-    pub fn begun(&self) -> usize {
+    pub fn begun(&self) -> usize
+        ensures { result ≡ begun_in self.now.controller }
+    {
         self.controller.begun()
     }
 
     /// The identifier of the frame that it wishes to send next.
-    pub fn wish(&self) -> Option<Id> {
+    pub fn wish(&self) -> Option<Id>
+        ensures { option_map id_raw result ≡ first_id (waiting_in self.now.controller) }
+    {
         self.controller.wish()
     }
 
     /// The frame that it wishes to send next, which the bus now takes.
-    pub fn take_wish(&mut self) -> Option<Wish> {
+    pub fn take_wish(&mut self) -> Option<Wish>
+        ensures may { (node : Node) → HasNode self.old.controller node
+            → IfSome result (λ wish. MaySend node wish.frame) }
+        ensures goes { (node : Node) (first : Wish) (others : List Wish) → HasNode self.old.controller node
+            → waiting_in self.old.controller ≡ first ∷ others → MaySend node first.frame → result ≡ Some first }
+        ensures next { waiting_in self.new.controller ≡ drop 1 (waiting_in self.old.controller) }
+        ensures rest { KeepsButWaiting self.old.controller self.new.controller
+            × (self.new ≡ record self.old { controller = self.new.controller }) }
+    {
         self.controller.take_wish()
     }
 
