@@ -1,0 +1,253 @@
+# shellcheck shell=bash
+# Where the program, the library and the page are that were made of these sources. A script that uses one of them sources this
+# file, with the repository's top in `top`, and calls find_program, find_library or find_page.
+#
+# What was built here of these sources comes first; then what lies in prebuilt/, where prebuilt/SUMS says that it was made of
+# them; else it is proved and built by the Rattle kit. No time of a file decides that, only the sums of what stands in them.
+: "${top:?}"
+
+# What the library and the page are made of beside their crates.
+library_files='c/archive c/j1939.c c/j1939.h'
+page_files='web/build web/page.css web/page.html web/page.js web/put_together web/worker.js'
+
+# Sets what a product is made of, and where it lies where it is built here.
+describe() {
+  case $1 in
+    j1939) crate=j1939 files='' made=$top/crates/j1939/out/j1939 ;;
+    libj1939.a) crate=j39_c files=$library_files made=$top/c/out/libj1939.a ;;
+    j1939.html) crate=j39_web files=$page_files made=$top/web/out/j1939.html ;;
+    bus_demo) crate=bus_demo files='' made=$top/crates/bus_demo/out/bus_demo ;;
+  esac
+}
+
+# Prints the crate and all crates of ours below it, as crates.txt has them, each behind those that it stands on.
+crates_of() {
+  awk -F: -v crate="$1" '
+    function walk(name,  i, n, below) {
+      if (!(name in uses) || name in seen) return
+      seen[name]
+      n = split(uses[name], below, " ")
+      for (i = 1; i <= n; i++) walk(below[i])
+      print name
+    }
+    !/^#/ { name = $1; sub(/ .*/, "", name); uses[name] = $2 }
+    END { walk(crate) }' "$top/crates.txt"
+}
+
+# The crate that stands in the page for this one: it holds where it stands what this one holds in memory that is asked for.
+in_place() {
+  case $1 in
+    j39_store) echo j39_place ;;
+    j39_by_group | j39_list | j39_by_origin) echo "$1_in_place" ;;
+    *) echo "$1" ;;
+  esac
+}
+
+# Prints of each source of the three products what find is told to.
+find_sources() {
+  # shellcheck disable=SC2086 # The files are words.
+  (cd "$top" && find crates/*/src crates/*/specs crates/*/proofs $library_files $page_files -type f "$@")
+}
+
+# Prints a line for each of these sources, its sum and its name, and for each crate its line of crates.txt.
+list_sources() {
+  find_sources -print0 | LC_ALL=C sort -z | (cd "$top" && xargs -0 sha256sum)
+  sed 's/ /+/g; s/^\([a-z0-9_]*\).*/&  crates.txt:\1/' "$top/crates.txt"
+}
+
+# Keeps of such a list the lines of a product.
+sources_of() {
+  local crate files made name names='' folders=''
+  describe "$1"
+  for name in $(crates_of "$crate"); do
+    names+=" $name"
+    if [ "$1" = j1939.html ]; then name=$(in_place "$name"); fi
+    folders+=" $name"
+  done
+  awk -v names="$names " -v folders="$folders " -v files=" $files " '
+    { split($2, part, "[/:]") }
+    part[1] == "crates.txt" && index(names, " " part[2] " ") { print; next }
+    part[1] == "crates" && index(folders, " " part[2] " ") || index(files, " " $2 " ")'
+}
+
+sum_of() {
+  local sum
+  sum=$(sha256sum "$@") && echo "${sum%% *}"
+}
+
+# Sets `sources`, the sum of a product's sources. Such sums are kept in out/, where that can be written, until a file of
+# theirs is another, by its place, its size or its times.
+sum_sources() {
+  local key list product line kept=()
+  key=$({ find_sources -printf '%p %i %s %T@ %C@\n' && cat "$top/crates.txt"; } | sum_of)
+  mapfile -t kept 2>/dev/null <"$top/out/sources" || true
+  if [ "${kept[0]-}" != "$key" ]; then
+    list=$(list_sources)
+    kept=("$key")
+    for product in j1939 libj1939.a j1939.html bus_demo; do
+      kept+=("$product $(sources_of "$product" <<<"$list" | sum_of)")
+    done
+    keep_sums
+  fi
+  for line in "${kept[@]}"; do
+    [ "${line% *}" != "$1" ] || sources=${line#* }
+  done
+}
+
+# A file that was changed a moment ago may change once more without another time.
+keep_sums() {
+  [ -z "$(find_sources -newerct '2 seconds ago' -print -quit)" ] || return 0
+  {
+    mkdir -p "$top/out" && printf '%s\n' "${kept[@]}" >"$top/out/sources.$$" && mv "$top/out/sources.$$" "$top/out/sources"
+  } 2>/dev/null || rm -f "$top/out/sources.$$" 2>/dev/null || true
+}
+
+# Whether what was built here was made of these sources: a build notes its sum and theirs beside it.
+is_made() {
+  local noted=''
+  { read -r noted <"$made.sums"; } 2>/dev/null && [ "$noted" = "$(sum_of "$made" 2>/dev/null) $sources" ]
+}
+
+# Sets `why`, for what lies in prebuilt/, to a line that says why it isn't to be used; empty where it is.
+look_at_prebuilt() {
+  local sums=$top/prebuilt/SUMS wanted='' of='' word name
+  why=''
+  if [ "$1" = bus_demo ]; then
+    why="isn't in prebuilt/"
+    return
+  fi
+  if [ ! -r "$sums" ]; then
+    why="prebuilt/SUMS can't be read" is_damaged=yes
+    return
+  fi
+  while read -r word name wanted of; do
+    [ "$word $name" != "made $1" ] || break
+  done <"$sums"
+  if [[ ! $wanted =~ ^[0-9a-f]{64}$ || ! $of =~ ^[0-9a-f]{64}$ ]]; then
+    why="prebuilt/SUMS has no line of $1" is_damaged=yes
+  elif [ "$of" != "$sources" ]; then
+    why="prebuilt/$1 was made of other sources: $(first_other "$1") differs"
+  elif [ "$wanted" != "$(sum_of "$top/prebuilt/$1" 2>/dev/null)" ]; then
+    why="prebuilt/$1 isn't what prebuilt/SUMS says: it was cut short or changed"
+  else
+    why=$(lacking "$1")
+  fi
+}
+
+# The first source of a product that isn't as it was when prebuilt/ was made.
+first_other() {
+  local other=''
+  if [ -r "$top/prebuilt/SOURCES" ]; then
+    other=$(list_sources | cat - "$top/prebuilt/SOURCES" | sources_of "$1" | LC_ALL=C sort -k 2 | uniq -u | sed -n 1p)
+  fi
+  other=${other##* }
+  echo "${other:-prebuilt/SOURCES}"
+}
+
+# What this machine lacks to run or link it; nothing where it lacks nothing.
+lacking() {
+  local needs="prebuilt/$1 is for Linux on x86-64-v2" word='' flags='' glibc flag
+  case $1 in
+    j1939) needs+=' with glibc 2.34 or later' ;;
+    *.html) return ;;
+  esac
+  if [ "$(uname -sm)" != 'Linux x86_64' ]; then
+    echo "$needs, and this is $(uname -sm)"
+    return
+  fi
+  while read -r word flags && [ "$word" != flags ]; do :; done </proc/cpuinfo
+  for flag in cx16 lahf_lm popcnt sse4_1 sse4_2 ssse3; do
+    if [[ " $flags " != *" $flag "* ]]; then
+      echo "$needs, and this processor has no $flag"
+      return
+    fi
+  done
+  [ "$1" = j1939 ] || return 0
+  glibc=$(getconf GNU_LIBC_VERSION 2>/dev/null) || glibc=''
+  if [ "$(printf 'glibc 2.34\n%s\n' "$glibc" | sort -V | head -n 1)" != 'glibc 2.34' ]; then
+    echo "$needs, and this machine has ${glibc:-none}"
+  fi
+}
+
+# Builds a product by the kit, and notes of which sources. What is said of it goes to out/PRODUCT.log.
+build() {
+  local product=$1 log=$top/out/$1.log status=0 before=$sources
+  mkdir -p "$top/out" && : >"$log" || return 1
+  echo "$product: proving and building what has changed (out/$product.log); from nothing that takes half an hour on 4 cores" >&2
+  case $product in
+    j1939 | bus_demo) (cd "$top/crates/$product" && rt run -- --help) ;;
+    libj1939.a) "$top/c/archive" ;;
+    j1939.html) "$top/web/build" ;;
+  esac >"$log" 2>&1 </dev/null || status=$?
+  if [ "$status" -ne 0 ]; then
+    tail -n 20 "$log" >&2
+    echo "$product: not built" >&2
+    return "$status"
+  fi
+  note_made "$product" "$before"
+}
+
+# Notes that what lies here was made of sources of this sum, unless they have changed since.
+note_made() {
+  sum_sources "$1"
+  [ "$sources" != "$2" ] || echo "$(sum_of "$made") $sources" >"$made.sums"
+}
+
+# Sets `found` to a product that was made of these sources, or says why there is none.
+find_product() {
+  local sources crate files made why is_damaged=''
+  describe "$1"
+  sum_sources "$1"
+  found=$made
+  if is_made; then return; fi
+  look_at_prebuilt "$1"
+  found=$top/prebuilt/$1
+  if [ -z "$why" ]; then return; fi
+  if [ -n "$is_damaged" ]; then
+    echo "$1: $why (prebuilt/make writes it, git checkout prebuilt brings it back)" >&2
+    return 1
+  fi
+  if ! command -v rt >/dev/null; then
+    echo "$1: $why; to prove and build it here wants the Rattle kit, whose command rt is not on the path (README.md, Start)" >&2
+    return 1
+  fi
+  echo "$1: $why" >&2
+  found=$made
+  # Two builds in one tree spoil one another: the second of a pipe waits for the first.
+  {
+    flock 9
+    sum_sources "$1"
+    is_made || build "$1" 9<&-
+  } 9<"$top/crates.txt"
+}
+
+find_program() {
+  program=${J1939_PROGRAM-}
+  [ -n "$program" ] || { find_product j1939 && program=$found; }
+}
+
+find_library() {
+  library=${J1939_LIBRARY-}
+  [ -n "$library" ] || { find_product libj1939.a && library=$found; }
+}
+
+find_page() {
+  page=${J1939_PAGE-}
+  [ -n "$page" ] || { find_product j1939.html && page=$found; }
+}
+
+# Sets `demo` to the program bus_demo, which isn't shipped, where it was built here of these sources; it isn't built for that.
+find_demo() {
+  local crate files made sources
+  describe bus_demo
+  sum_sources bus_demo
+  # shellcheck disable=SC2034 # Who calls this uses it.
+  demo=$made
+  is_made
+}
+
+# Copies the tree into a folder that isn't there yet, without what was built in it.
+copy_tree() {
+  mkdir -p "$1" && tar -C "$top" --exclude-vcs --no-wildcards-match-slash --anchored \
+    --exclude='./crates/*/out' --exclude='./*/out' --exclude=./out --exclude=./c/build --exclude=./dist -cf - . | tar -C "$1" -xf -
+}
