@@ -2,6 +2,8 @@
  * @file j1939.h
  * @brief The proved SAE J1939 stack, for programs in C11 and C++.
  *
+ * SPDX-License-Identifier: MIT OR Apache-2.0
+ *
  * What the calls promise is proved, for every input that keeps to the rules below. Each call's contract is in the
  * sources of the library, in the crate j39_c, whose README says it in words.
  *

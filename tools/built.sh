@@ -8,7 +8,7 @@
 
 # What the library and the page are made of beside their crates.
 library_files='c/archive c/j1939.c c/j1939.h'
-page_files='web/build web/page.css web/page.html web/page.js web/put_together web/worker.js'
+page_files='NOTICES web/build web/page.css web/page.html web/page.js web/put_together web/worker.js'
 
 # Sets what a product is made of, and where it lies where it is built here.
 describe() {
@@ -170,7 +170,7 @@ lacking() {
 }
 
 # Builds a product by the kit, and notes of which sources. What is said of it goes to out/PRODUCT.log.
-build() {
+build_product() {
   local product=$1 log=$top/out/$1.log status=0 before=$sources
   mkdir -p "$top/out" && : >"$log" || return 1
   echo "$product: proving and building what has changed (out/$product.log); from nothing that takes half an hour on 4 cores" >&2
@@ -217,7 +217,7 @@ find_product() {
   {
     flock 9
     sum_sources "$1"
-    is_made || build "$1" 9<&-
+    is_made || build_product "$1" 9<&-
   } 9<"$top/crates.txt"
 }
 

@@ -383,10 +383,10 @@ for (const zone of document.querySelectorAll('input[name=zone]')) zone.onchange 
   showTime(shownFrom, shownTo);
   if (log && log.faults) showFaults(log.faults);
 };
-$('show-licence').onclick = () => {
-  $('licence').textContent = $('licence-text').textContent;
-  $('licence').hidden = !$('licence').hidden;
-  $('show-licence').setAttribute('aria-expanded', String(!$('licence').hidden));
+for (const what of ['licence', 'notices']) $(`show-${what}`).onclick = () => {
+  $(what).textContent = $(`${what}-text`).textContent;
+  $(what).hidden = !$(what).hidden;
+  $(`show-${what}`).setAttribute('aria-expanded', String(!$(what).hidden));
 };
 for (const kind of ['dragover', 'dragleave', 'drop']) document.addEventListener(kind, event => {
   event.preventDefault();
