@@ -43,15 +43,15 @@ in_place() {
   esac
 }
 
-# Prints of each source of the three products what find is told to.
+# Prints of each source of the three products, and of crates.txt, what find is told to.
 find_sources() {
   # shellcheck disable=SC2086 # The files are words.
-  (cd "$top" && find crates/*/src crates/*/specs crates/*/proofs $library_files $page_files -type f "$@")
+  (cd "$top" && find crates/*/src crates/*/specs crates/*/proofs $library_files $page_files crates.txt -type f "$@")
 }
 
 # Prints a line for each of these sources, its sum and its name, and for each crate its line of crates.txt.
 list_sources() {
-  find_sources -print0 | LC_ALL=C sort -z | (cd "$top" && xargs -0 sha256sum)
+  find_sources ! -name crates.txt -print0 | LC_ALL=C sort -z | (cd "$top" && xargs -0 sha256sum)
   sed 's/ /+/g; s/^\([a-z0-9_]*\).*/&  crates.txt:\1/' "$top/crates.txt"
 }
 
@@ -79,7 +79,7 @@ sum_of() {
 # theirs is another, by its place, its size or its times.
 sum_sources() {
   local key list product line kept=()
-  key=$({ find_sources -printf '%p %i %s %T@ %C@\n' && cat "$top/crates.txt"; } | sum_of)
+  key=$(find_sources -printf '%p %i %s %T@ %C@\n' | sum_of)
   mapfile -t kept 2>/dev/null <"$top/out/sources" || true
   if [ "${kept[0]-}" != "$key" ]; then
     list=$(list_sources)
@@ -146,13 +146,14 @@ first_other() {
 
 # What this machine lacks to run or link it; nothing where it lacks nothing.
 lacking() {
-  local needs="prebuilt/$1 is for Linux on x86-64-v2" word='' flags='' glibc flag
+  local needs="prebuilt/$1 is for Linux on x86-64-v2" word='' flags='' flag glibc
   case $1 in
     j1939) needs+=' with glibc 2.34 or later' ;;
     *.html) return ;;
   esac
-  if [ "$(uname -sm)" != 'Linux x86_64' ]; then
-    echo "$needs, and this is $(uname -sm)"
+  # As bash was told, which starts no other program.
+  if [ "$OSTYPE $HOSTTYPE" != 'linux-gnu x86_64' ]; then
+    echo "$needs, and this is $OSTYPE $HOSTTYPE"
     return
   fi
   while read -r word flags && [ "$word" != flags ]; do :; done </proc/cpuinfo
@@ -163,9 +164,9 @@ lacking() {
     fi
   done
   [ "$1" = j1939 ] || return 0
-  glibc=$(getconf GNU_LIBC_VERSION 2>/dev/null) || glibc=''
-  if [ "$(printf 'glibc 2.34\n%s\n' "$glibc" | sort -V | head -n 1)" != 'glibc 2.34' ]; then
-    echo "$needs, and this machine has ${glibc:-none}"
+  glibc=$(getconf GNU_LIBC_VERSION 2>/dev/null) || glibc=none
+  if [[ ! $glibc =~ ^glibc\ ([0-9]+)\.([0-9]+) ]] || [ $((BASH_REMATCH[1] * 1000 + BASH_REMATCH[2])) -lt 2034 ]; then
+    echo "$needs, and this machine has $glibc"
   fi
 }
 
