@@ -4,8 +4,6 @@
 #[cfg(test)]
 mod broadcasts;
 #[cfg(test)]
-mod bus_losses;
-#[cfg(test)]
 mod claimer;
 #[cfg(test)]
 mod devices;

@@ -2,8 +2,8 @@
 ghost use Rattle.std.specs.Prelude.{◌≡◌, ◌<◌, ℕ, None, Some};
 ghost use Rattle.j39_frame.specs.Pgn.{pgn_raw};
 ghost use Rattle.j39_groups.specs.Slots.{IsRawOf};
-ghost use Rattle.simulated_bus.specs.Groups.{number_of, priority_of};
-ghost use Rattle.simulated_bus.specs.Payloads.{distance_bytes, engine_bytes, temperature_bytes};
+ghost use Rattle.bus_demo.specs.Groups.{number_of, priority_of};
+ghost use Rattle.bus_demo.specs.Payloads.{distance_bytes, engine_bytes, temperature_bytes};
 
 use j39_frame::Pgn;
 use j39_groups::raw_of;

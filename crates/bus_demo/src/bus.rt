@@ -2,13 +2,21 @@
 ghost use Rattle.std.specs.Prelude.{◌≡◌, ◌≤◌, ◌<◌, ◌+◌, ◌*◌, ◌^◌, []};
 ghost use Rattle.j39_frame.specs.Stamp.{stamp_micros};
 
-use crate::arbitration::winner;
-use crate::book::{Book, Fate};
-use crate::player::Player;
+mod arbitration;
+pub(crate) mod book;
+pub(crate) mod gauges;
+pub(crate) mod player;
+mod publisher;
+pub(crate) mod role;
+pub(crate) mod scenario;
+
+use arbitration::winner;
+use book::{Book, Fate};
 use j39_controller::Wish;
 use j39_device::{DeviceFault, Sink, put_all};
 use j39_frame::{Frame, Id, Stamp};
 use j39_log::{Bus as Network, line_of};
+use player::Player;
 use std::alloc::{AllocError, Global};
 
 /// The microseconds of a bit at 250 kbit/s.

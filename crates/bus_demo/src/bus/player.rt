@@ -10,10 +10,10 @@ ghost use Rattle.j39_controller.specs.MaySend.{MaySend, held_in};
 ghost use Rattle.j39_controller.specs.Outbox.{first_id};
 ghost use Rattle.j39_controller.specs.declared.outbox.Wish.{Wish};
 
-use crate::book::{Book, Fate};
-use crate::gauges::Gauges;
-use crate::publisher::Publisher;
-use crate::role::Role;
+use crate::bus::book::{Book, Fate};
+use crate::bus::gauges::Gauges;
+use crate::bus::publisher::Publisher;
+use crate::bus::role::Role;
 use j39_address::Name;
 use j39_controller::{Controller, Ending, Wish};
 use j39_frame::{Frame, GLOBAL_ADDRESS, Id, Stamp};

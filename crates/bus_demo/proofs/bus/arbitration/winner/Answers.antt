@@ -1,8 +1,8 @@
 -- At the end the best of the wishes so far is the best of all.
 use Rattle.std.proofs.Common.{◌≡◌, length, subst, arith, Some}
 use Rattle.std.specs.Option.{MatchOption}
-use Rattle.simulated_bus.specs.Arbitration.{IsLowestOf, NoneOf}
-use Rattle.simulated_bus.proofs.arbitration.winner.Goals as goal
+use Rattle.bus_demo.specs.Arbitration.{IsLowestOf, NoneOf}
+use Rattle.bus_demo.proofs.bus.arbitration.winner.Goals as goal
 
 pub returns-clause-lowest : goal.returns-clause-lowest
 returns-clause-lowest c =

@@ -1,6 +1,6 @@
 //! Who sends next: of the controllers that wish to, the one with the lowest identifier.
 ghost use Rattle.std.specs.Prelude.{◌≡◌, IfSome, None};
-ghost use Rattle.simulated_bus.specs.Arbitration.{IsLowest, NoneWishes};
+ghost use Rattle.bus_demo.specs.Arbitration.{IsLowest, NoneWishes};
 
 use j39_frame::Id;
 

@@ -1,8 +1,8 @@
 -- What became of a message that was handed in.
 use Rattle.std.specs.Prelude.{Bool, true, false}
-use Rattle.simulated_bus.specs.declared.book.Fate.{Fate}
-use Rattle.simulated_bus.specs.declared.book.Fate.TheVariants.{Open, Whole, Lost, Withdrawn}
-use Rattle.simulated_bus.specs.declared.book.Handed.{Handed}
+use Rattle.bus_demo.specs.declared.bus.book.Fate.{Fate}
+use Rattle.bus_demo.specs.declared.bus.book.Fate.TheVariants.{Open, Whole, Lost, Withdrawn}
+use Rattle.bus_demo.specs.declared.bus.book.Handed.{Handed}
 
 abbrev pub is_whole_fate : Fate → Bool
 is_whole_fate Open = false

@@ -1,6 +1,6 @@
 use Rattle.std.specs.Option.{MatchOption}
-use Rattle.simulated_bus.specs.Arbitration.{IsLowestOf, NoneOf}
-use Rattle.simulated_bus.proofs.arbitration.winner.Given as goal
+use Rattle.bus_demo.specs.Arbitration.{IsLowestOf, NoneOf}
+use Rattle.bus_demo.proofs.bus.arbitration.winner.Given as goal
 
 -- the best of the wishes so far
 abbrev pub invariant-loop-place : goal.invariant-loop-place

@@ -1,7 +1,7 @@
 -- The groups that are sent again and again: their numbers, and the priorities that they are sent with (J1939-71, 5.3).
 use Rattle.std.specs.Prelude.{ℕ}
-use Rattle.simulated_bus.specs.declared.gauges.Group.{Group}
-use Rattle.simulated_bus.specs.declared.gauges.Group.TheVariants.{Distance, Engine, Temperatures}
+use Rattle.bus_demo.specs.declared.bus.gauges.Group.{Group}
+use Rattle.bus_demo.specs.declared.bus.gauges.Group.TheVariants.{Distance, Engine, Temperatures}
 
 abbrev pub number_of : Group → ℕ
 number_of Engine = 61444

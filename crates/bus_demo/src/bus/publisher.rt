@@ -1,7 +1,7 @@
 //! What a controller sends: single frames again and again, and planned messages, long ones among them.
-use crate::book::{Book, Fate, Handed};
-use crate::gauges::{Gauges, Group};
-use crate::role::{Plan, Rate, Role};
+use crate::bus::book::{Book, Fate, Handed};
+use crate::bus::gauges::{Gauges, Group};
+use crate::bus::role::{Plan, Rate, Role};
 use j39_address::Name;
 use j39_controller::Controller;
 use j39_frame::{Frame, GLOBAL_ADDRESS, Id, Pgn, Stamp};

@@ -2,7 +2,7 @@
 ghost use Rattle.std.specs.Prelude.{◌≡◌, ◌∷◌, ◌++◌, [], length, false};
 ghost use Rattle.std.specs.List.{count_by};
 ghost use Rattle.std.specs.Result.{IfOk, OnOk};
-ghost use Rattle.simulated_bus.specs.Fates.{is_whole};
+ghost use Rattle.bus_demo.specs.Fates.{is_whole};
 
 use j39_address::Name;
 use j39_controller::{Part, Received};
@@ -46,8 +46,8 @@ pub struct Book {
 
 impl Book {
     ghost use Rattle.std.specs.Prelude.{◌≡◌, ℕ, Some, slice_get};
-    ghost use Rattle.simulated_bus.specs.declared.book.Handed.{Handed};
-    ghost use Rattle.simulated_bus.specs.declared.book.Fate.TheVariants.{Open};
+    ghost use Rattle.bus_demo.specs.declared.bus.book.Handed.{Handed};
+    ghost use Rattle.bus_demo.specs.declared.bus.book.Fate.TheVariants.{Open};
 
     /// An empty book.
     pub fn new(alloc: Global) -> Book

@@ -1,11 +1,11 @@
 //! What a controller owes where its address is lost, or a transfer of it fails.
+use crate::bus::Bus;
+use crate::bus::book::Fate;
+use crate::bus::gauges::{Gauges, Group};
+use crate::bus::player::Player;
+use crate::bus::role::{Plan, Rate, Role};
+use crate::bus::scenario::COMMAND;
 use j39_device::Told;
-use simulated_bus::book::{Book, Fate};
-use simulated_bus::bus::Bus;
-use simulated_bus::gauges::{Gauges, Group};
-use simulated_bus::player::Player;
-use simulated_bus::role::{Plan, Rate, Role};
-use simulated_bus::scenario::COMMAND;
 use std::alloc::{AllocError, Global};
 use std::test::Fail;
 

@@ -1,5 +1,5 @@
 //! What a controller is told to do.
-use crate::gauges::Group;
+use crate::bus::gauges::Group;
 
 /// A group that is sent every so many microseconds, and when it is due next.
 #[derive(Clone, Copy)]

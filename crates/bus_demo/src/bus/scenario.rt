@@ -5,9 +5,9 @@
 //! speed, temperatures and distance. The engine broadcasts its vehicle's identification (VI), and the
 //! rival sends its component's (CI) to the tool. The gearbox says which of its fault codes are active
 //! (DM1): first one, then three, then none.
-use crate::gauges::{Gauges, Group};
-use crate::player::Player;
-use crate::role::{Plan, Rate, Role};
+use crate::bus::gauges::{Gauges, Group};
+use crate::bus::player::Player;
+use crate::bus::role::{Plan, Rate, Role};
 use std::alloc::{AllocError, Global};
 
 /// The vehicle identification number, with the `*` that ends it.
