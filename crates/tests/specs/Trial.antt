@@ -1,8 +1,8 @@
 -- The device for tests: what its calls set, and what it counts.
 use Rattle.std.specs.Prelude.{◌≡◌, ◌+◌, ◌^◌, ℕ, List, true, false, take, length}
-use Rattle.j39_trial.specs.declared.trial.Trial.{Trial}
-use Rattle.j39_trial.specs.declared.trial.Full.{Full}
-use Rattle.j39_trial.specs.declared.trial.Full.TheVariants.{Fails}
+use Rattle.tests.specs.declared.trial.Trial.{Trial}
+use Rattle.tests.specs.declared.trial.Full.{Full}
+use Rattle.tests.specs.declared.trial.Full.TheVariants.{Fails}
 
 -- the bytes that it gives
 abbrev pub trial_given : Trial → List ℕ

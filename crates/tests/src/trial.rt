@@ -31,8 +31,8 @@ pub struct Trial {
 }
 
 impl Trial {
-    ghost use Rattle.j39_trial.specs.Trial.{IsFresh, trial_given, trial_room, trial_reads, trial_flushes, trial_held, trial_written};
-    ghost use Rattle.j39_trial.specs.Trial.{in_pieces_of, with_failing_read, with_full, with_failing_flush};
+    ghost use Rattle.tests.specs.Trial.{IsFresh, trial_given, trial_room, trial_reads, trial_flushes, trial_held, trial_written};
+    ghost use Rattle.tests.specs.Trial.{in_pieces_of, with_failing_read, with_full, with_failing_flush};
 
     /// A device that gives these bytes, as many at once as are asked for, and takes `room` bytes.
     pub fn new(alloc: Global, bytes: &[u8], room: usize) -> Result<Trial, AllocError>

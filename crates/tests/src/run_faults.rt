@@ -1,8 +1,8 @@
 //! Devices that fail, and logs that are too long.
+use crate::trial::{Full, Trial};
 use j39_cli::{parse, perform};
 use j39_device::Told;
 use j39_listen::{RunFault, run};
-use j39_trial::{Full, Trial};
 use std::alloc::Global;
 use std::test::Fail;
 
