@@ -1,1 +1,5 @@
+pub mod Arbitration
+pub mod Fates
+pub mod Groups
 pub mod Numerals
+pub mod Payloads

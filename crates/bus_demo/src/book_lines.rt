@@ -1,9 +1,9 @@
 //! The book of a bus, in lines.
+use crate::bus::Bus;
+use crate::bus::book::{Fate, Handed};
+use crate::bus::player::Player;
 use j39_controller::Received;
 use j39_frame::GLOBAL_ADDRESS;
-use simulated_bus::book::{Fate, Handed};
-use simulated_bus::bus::Bus;
-use simulated_bus::player::Player;
 use std::io;
 
 /// Writes to standard error what was handed in and what became of it, what was delivered, what senders count as done,

@@ -2,14 +2,17 @@
 #![tactic(auto)]
 
 mod book_lines;
+mod bus;
+#[cfg(test)]
+mod bus_losses;
 mod words;
 
 use book_lines::tell_book;
+use bus::book::Book;
+use bus::player::Player;
+use bus::scenario::controllers;
+use bus::{Bus, BusFault};
 use j39_device::Told;
-use simulated_bus::book::Book;
-use simulated_bus::bus::{Bus, BusFault};
-use simulated_bus::player::Player;
-use simulated_bus::scenario::controllers;
 use std::io::BufWriter;
 use std::process::ExitCode;
 use std::{env, io};
@@ -63,6 +66,8 @@ fn complain(rt: &HostRuntime, fault: BusFault) -> io::Result<u8> {
     Ok(1)
 }
 
+/// How many frames were sent, messages handed in and whole, transfers that receivers delivered, and messages that their senders
+/// count as done.
 fn tell_counts(rt: &HostRuntime, frames: u64, book: &Book) -> io::Result<()> {
     let handed = book.handed().len();
     let whole = book.whole();

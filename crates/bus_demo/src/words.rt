@@ -35,7 +35,7 @@ pub(crate) struct Words {
     pub seed: u64,
     /// How long it goes, 1 to 3,600 seconds.
     pub seconds: u64,
-    /// The numbers of the frames that are lost, counted from 1.
+    /// The numbers of the frames that are lost, counted from 1: with nothing lost, a frame's number is its line in the log.
     pub lose: Vec<u64>,
     /// Whether the book is told in the place of the counts.
     pub book: bool,

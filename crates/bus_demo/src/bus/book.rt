@@ -1,0 +1,165 @@
+//! What was handed in to send, and what became of it.
+ghost use Rattle.std.specs.Prelude.{◌≡◌, ◌∷◌, ◌++◌, [], length, false};
+ghost use Rattle.std.specs.List.{count_by};
+ghost use Rattle.std.specs.Result.{IfOk, OnOk};
+ghost use Rattle.bus_demo.specs.Fates.{is_whole};
+
+use j39_address::Name;
+use j39_controller::{Part, Received};
+use j39_frame::{Pgn, Stamp};
+use std::alloc::{AllocError, Global};
+
+/// What became of a message.
+#[derive(Clone, Copy, PartialEq, Eq)]
+pub enum Fate {
+    /// It is on its way.
+    Open,
+    /// Its last frame was seen on the bus, and none was lost that wasn't sent again.
+    Whole(Stamp),
+    /// A frame of it was lost, or its transfer failed.
+    Lost,
+    /// Its sender lost its address before it was whole.
+    Withdrawn,
+}
+
+/// A message that a controller was told to send.
+#[derive(Drop)]
+pub struct Handed {
+    /// The NAME of the controller, and the address that it held.
+    pub name: Name,
+    pub address: u8,
+    /// Where it goes; `None` for all.
+    pub to: Option<u8>,
+    pub pgn: Pgn,
+    pub payload: Vec<u8>,
+    pub fate: Fate,
+}
+
+/// The book of a bus. It knows nothing of any log.
+#[derive(Drop)]
+pub struct Book {
+    alloc: Global,
+    handed: Vec<Handed>,
+    deliveries: Vec<Received>,
+    done: Vec<usize>,
+}
+
+impl Book {
+    ghost use Rattle.std.specs.Prelude.{◌≡◌, ℕ, Some, slice_get};
+    ghost use Rattle.bus_demo.specs.declared.bus.book.Handed.{Handed};
+    ghost use Rattle.bus_demo.specs.declared.bus.book.Fate.TheVariants.{Open};
+
+    /// An empty book.
+    pub fn new(alloc: Global) -> Book
+        ensures handed { result.handed.items ≡ [] }
+        ensures delivered { result.deliveries.items ≡ [] }
+        ensures done { result.done.items ≡ [] }
+    {
+        Book {
+            alloc,
+            handed: Vec::new(alloc),
+            deliveries: Vec::new(alloc),
+            done: Vec::new(alloc),
+        }
+    }
+
+    /// Notes a message that is handed in now, and answers its number.
+    pub fn hand_in(&mut self, message: Handed) -> Result<usize, AllocError>
+        ensures number { IfOk result (λ number. number ≡ length self.old.handed.items) }
+        ensures last { OnOk result (self.new.handed.items ≡ self.old.handed.items ++ message ∷ []) }
+        ensures rest { self.new ≡ record self.old { handed = self.new.handed } }
+    {
+        let number = self.handed.len();
+        self.handed.push(message)?;
+        Ok(number)
+    }
+
+    /// Notes that a frame was seen on the bus.
+    pub fn seen(&mut self, part: Part, now: Stamp)
+        ensures open { part.is_last ≡ false → self.new ≡ self.old }
+        ensures rest { self.new ≡ record self.old { handed = self.new.handed } }
+    {
+        if part.is_last {
+            self.settle(part.number, Fate::Whole(now));
+        }
+    }
+
+    /// Notes what became of a message, where it was open.
+    pub fn settle(&mut self, number: usize, fate: Fate)
+        ensures count { length self.new.handed.items ≡ length self.old.handed.items }
+        ensures others { (k : ℕ) → (k ≡ number → ⊥)
+            → slice_get self.new.handed.items k ≡ slice_get self.old.handed.items k }
+        ensures open { (message : Handed) → slice_get self.old.handed.items number ≡ Some message → message.fate ≡ Open
+            → slice_get self.new.handed.items number ≡ Some (record message { fate = fate }) }
+        ensures rest { self.new ≡ record self.old { handed = self.new.handed } }
+    {
+        if let Some(message) = self.handed.get_mut(number) {
+            if message.fate == Fate::Open {
+                message.fate = fate;
+            }
+        }
+    }
+
+    /// Notes what a receiver delivered: the message that was handed in last with this source, group and
+    /// payload to one controller is whole.
+    pub fn deliver(&mut self, message: Received) -> Result<(), AllocError>
+        ensures last { OnOk result (self.new.deliveries.items ≡ self.old.deliveries.items ++ message ∷ []) }
+        ensures count { length self.new.handed.items ≡ length self.old.handed.items }
+        ensures done { self.new.done ≡ self.old.done }
+    {
+        let mut number = None;
+        for (place, handed) in self.handed.iter().enumerate() {
+            if handed.to.is_some()
+                && handed.address == message.source
+                && handed.pgn == message.pgn
+                && handed.payload.as_slice() == message.payload.as_slice()
+            {
+                number = Some(place);
+            }
+        }
+        if let Some(number) = number {
+            self.settle(number, Fate::Whole(message.stamp));
+        }
+        self.deliveries.push(message)?;
+        Ok(())
+    }
+
+    /// Notes that a sender counts a message as done.
+    pub fn count_done(&mut self, number: usize) -> Result<(), AllocError>
+        ensures { OnOk result (self.new.done.items ≡ self.old.done.items ++ number ∷ []) }
+    {
+        self.done.push(number)?;
+        Ok(())
+    }
+
+    /// All messages that were handed in, in order; each one's number is its place.
+    pub fn handed(&self) -> &[Handed]
+        ensures { result.now ≡ self.now.handed.items }
+    {
+        self.handed.as_slice()
+    }
+
+    /// How many of them are whole.
+    pub fn whole(&self) -> usize
+        ensures { result ≡ count_by is_whole self.now.handed.items }
+    {
+        self.handed
+            .iter()
+            .filter(|message| matches!(message.fate, Fate::Whole(_)))
+            .count()
+    }
+
+    /// What receivers delivered, in order.
+    pub fn deliveries(&self) -> &[Received]
+        ensures { result.now ≡ self.now.deliveries.items }
+    {
+        self.deliveries.as_slice()
+    }
+
+    /// The numbers of the messages that senders count as done, in order.
+    pub fn done(&self) -> &[usize]
+        ensures { result.now ≡ self.now.done.items }
+    {
+        self.done.as_slice()
+    }
+}

@@ -1,0 +1,132 @@
+//! A controller of the demo: the stack's own, with what it sends of its own accord.
+ghost use Rattle.std.specs.Prelude.{◌≡◌, ◌↔◌, ◌∷◌, IfSome, IsSome, List, Some, drop};
+ghost use Rattle.std.specs.Option.{option_map};
+ghost use Rattle.j39_frame.specs.Address.{IsAddress};
+ghost use Rattle.j39_frame.specs.Identifier.{id_raw};
+ghost use Rattle.j39_address.specs.Name.{name_raw};
+ghost use Rattle.j39_address.specs.Node.{Node};
+ghost use Rattle.j39_controller.specs.Controller.{HasNode, IsNew, KeepsButWaiting, begun_in, waiting_in};
+ghost use Rattle.j39_controller.specs.MaySend.{MaySend, held_in};
+ghost use Rattle.j39_controller.specs.Outbox.{first_id};
+ghost use Rattle.j39_controller.specs.declared.outbox.Wish.{Wish};
+
+use crate::bus::book::{Book, Fate};
+use crate::bus::gauges::Gauges;
+use crate::bus::publisher::Publisher;
+use crate::bus::role::Role;
+use j39_address::Name;
+use j39_controller::{Controller, Ending, Wish};
+use j39_frame::{Frame, GLOBAL_ADDRESS, Id, Stamp};
+use std::alloc::{AllocError, Global};
+
+/// The time between two turns of a controller's loop, in microseconds.
+const TURN: u64 = 10_000;
+
+/// A controller on the bus, and what it sends of its own accord.
+#[derive(Drop)]
+pub struct Player {
+    controller: Controller,
+    publisher: Publisher,
+    /// When its loop turns next.
+    due: u64,
+}
+
+impl Player {
+    /// One that has claimed no address yet; `None` for a preferred address above 253.
+    pub fn new(alloc: Global, role: &Role, mut gauges: Gauges) -> Option<Player>
+        ensures known { IsSome result ↔ IsAddress role.now.preferred }
+        ensures fresh { IfSome result (λ player. IsNew role.now.name role.now.preferred player.controller) }
+    {
+        let phase = u64::from(gauges.below(10_000));
+        Some(Player {
+            controller: Controller::new(alloc, Name::new(role.name), role.preferred)?,
+            publisher: Publisher::new(alloc, role, gauges),
+            due: role.starts.saturating_add(phase),
+        })
+    }
+
+    /// The address that it holds.
+    pub fn held(&self) -> Option<u8>
+        ensures { (node : Node) → HasNode self.now.controller node → result ≡ held_in node.status }
+    {
+        self.controller.held()
+    }
+
+    /// Its NAME.
+    pub fn name(&self) -> Name
+        ensures { (node : Node) → HasNode self.now.controller node → name_raw result ≡ node.name }
+    {
+        self.controller.name()
+    }
+
+    /// How many messages it has begun to put together or to receive.
+    pub fn begun(&self) -> usize
+        ensures { result ≡ begun_in self.now.controller }
+    {
+        self.controller.begun()
+    }
+
+    /// The identifier of the frame that it wishes to send next.
+    pub fn wish(&self) -> Option<Id>
+        ensures { option_map id_raw result ≡ first_id (waiting_in self.now.controller) }
+    {
+        self.controller.wish()
+    }
+
+    /// The frame that it wishes to send next, which the bus now takes.
+    pub fn take_wish(&mut self) -> Option<Wish>
+        ensures may { (node : Node) → HasNode self.old.controller node
+            → IfSome result (λ wish. MaySend node wish.frame) }
+        ensures goes { (node : Node) (first : Wish) (others : List Wish) → HasNode self.old.controller node
+            → waiting_in self.old.controller ≡ first ∷ others → MaySend node first.frame → result ≡ Some first }
+        ensures next { waiting_in self.new.controller ≡ drop 1 (waiting_in self.old.controller) }
+        ensures rest { KeepsButWaiting self.old.controller self.new.controller
+            × (self.new ≡ record self.old { controller = self.new.controller }) }
+    {
+        self.controller.take_wish()
+    }
+
+    /// Lets time pass: the loop turns every 10 ms.
+    pub fn pass(&mut self, now: Stamp, book: &mut Book) -> Result<(), AllocError> {
+        if now.micros() < self.due {
+            return Ok(());
+        }
+        self.due = self.due.saturating_add(TURN);
+        self.controller.pass(now)?;
+        if let Some(address) = self.controller.held() {
+            self.publisher
+                .turn(address, now, &mut self.controller, book)?;
+        }
+        self.controller.turn(now)?;
+        self.settle(book)
+    }
+
+    /// Hears a frame that another controller sent.
+    pub fn hear(&mut self, frame: &Frame, book: &mut Book) -> Result<(), AllocError> {
+        self.controller.hear(frame)?;
+        self.deliver(book)?;
+        self.settle(book)
+    }
+
+    /// Notes the transfers that were received.
+    fn deliver(&mut self, book: &mut Book) -> Result<(), AllocError> {
+        while let Some(received) = self.controller.take_received() {
+            if received.destination != GLOBAL_ADDRESS {
+                book.deliver(received)?;
+            }
+        }
+        Ok(())
+    }
+
+    /// Notes how messages ended.
+    fn settle(&mut self, book: &mut Book) -> Result<(), AllocError> {
+        while let Some(settled) = self.controller.take_settled() {
+            match settled.ending {
+                Ending::Done => book.count_done(settled.number)?,
+                Ending::Failed(_) => book.settle(settled.number, Fate::Lost),
+                Ending::Withdrawn => book.settle(settled.number, Fate::Withdrawn),
+            }
+        }
+        Ok(())
+    }
+}

@@ -1,4 +1,0 @@
-pub mod Arbitration
-pub mod Fates
-pub mod Groups
-pub mod Payloads

@@ -1,0 +1,26 @@
+//! Tests of the crates by their public calls, of what the built program doesn't show, and the device that they fail with.
+#![tactic(auto)]
+
+#[cfg(test)]
+mod broadcasts;
+#[cfg(test)]
+mod claimer;
+#[cfg(test)]
+mod controller_pairs;
+#[cfg(test)]
+mod listener_memory;
+#[cfg(test)]
+mod raw_values;
+#[cfg(test)]
+mod receiver_memory;
+#[cfg(test)]
+mod run_faults;
+#[cfg(test)]
+mod sizes;
+#[cfg(test)]
+mod told;
+#[cfg(test)]
+mod transfer_losses;
+#[cfg(test)]
+mod transfers;
+pub mod trial;
