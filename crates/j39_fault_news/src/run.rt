@@ -26,9 +26,9 @@ pub fn faults<R: Source, W: Sink>(
     bus: Option<Bus>,
     limit: u64,
 ) -> Result<Counts, RunFault>
-    // What is written is the faults that are told in the frames of the log, and nothing else; memory is wanted only
-    // at a frame of the log that announces a message, or at which an address says for the first time which codes are
-    // active, or which were.
+    // What the run promises is `Ran`: what is written is the faults that are told in the frames of the log, and nothing
+    // else. Memory is wanted only at a frame of the log that announces a message, or at which an address says for the
+    // first time which codes are active, or which were.
     ensures ran { Ran (MakesFaults groups.now telling) AsksForFaults bus limit result
         (turn R.remaining R.has_failed source.old source.new) (turn W.held W.has_failed sink.old sink.new) }
 
@@ -62,9 +62,8 @@ pub fn faults_csv<R: Source, W: Sink>(
     bus: Option<Bus>,
     limit: u64,
 ) -> Result<Counts, RunFault>
-    // What is written is the names of the columns, and the faults that are told, and nothing else; memory is wanted only
-    // at a frame of the log that announces a message, or at which an address says for the first time which codes are
-    // active, or which were.
+    // What the run promises is `Ran`: what is written is the names of the columns and the faults that are told in the
+    // frames of the log, and nothing else. Memory is wanted as for `faults`.
     ensures ran { Ran (MakesFaultRecords groups.now telling) AsksForFaults bus limit result
         (turn R.remaining R.has_failed source.old source.new) (turn W.held W.has_failed sink.old sink.new) }
 

@@ -46,8 +46,8 @@ pub fn answer<R: Source, W: Sink>(
     preferred: u8,
     limit: u64,
 ) -> Result<Option<Counts>, RunFault>
-    // What is written is what the node sends with the frames of the log, and nothing else; memory is wanted only at a
-    // frame of the log that announces a message.
+    // What the run promises, where a node may start with the address, is `Ran`: what is written is what the node sends
+    // with the frames of the log, and nothing else. Memory is wanted only at a frame of the log that announces a message.
     ensures ran { preferred < null_address → (ended : Result Counts RunFault)
         × (result ≡ result_map_both Some (λ fault. fault) ended)
         × Ran (MakesAnswers (idle_node (name_raw name) preferred)) AsksForBoxes bus limit ended

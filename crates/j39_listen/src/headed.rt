@@ -23,13 +23,15 @@ pub fn run_headed<A: Account, R: Source, W: Sink>(
     bus: Option<Bus>,
     limit: u64,
 ) -> Result<Counts, RunFault>
-    // How it ended, whatever the account has met.
+    // It ended as every run does, whatever the account had met.
     ensures ended { Ended limit result
         (turn R.remaining R.has_failed source.old source.new) (turn W.held W.has_failed sink.old sink.new) }
 
-    // What was written is the head and what the account makes of the log.
-    ensures ran { AtStart A.has_met account (λ subject. Ran (Headed head.now (A.makes subject)) (A.asks subject) bus limit result
-        (turn R.remaining R.has_failed source.old source.new) (turn W.held W.has_failed sink.old sink.new)) }
+    // What the run promises is `Ran`: what is written is the head and what the account makes of the log's frames, and
+    // nothing else. Memory is wanted where the account asks for some.
+    ensures ran { AtStart A.has_met account (λ subject. Ran (Headed head.now (A.makes subject)) (A.asks subject) bus
+        limit result (turn R.remaining R.has_failed source.old source.new)
+        (turn W.held W.has_failed sink.old sink.new)) }
 
     // What was written is passed on at the end, and before each read, the head before the first.
     ensures flushed { PassesOn result true (W.is_flushed sink.new) }

@@ -38,7 +38,8 @@ pub fn nodes<R: Source, W: Sink>(
     bus: Option<Bus>,
     limit: u64,
 ) -> Result<Counts, RunFault>
-    // What is written is who holds an address after the frames of the log, and nothing else.
+    // What the run promises is `Ran`: what is written is who holds an address after the frames of the log, and nothing
+    // else. Memory is wanted nowhere.
     ensures ran { Ran MakesNodes AsksNowhere bus limit result
         (turn R.remaining R.has_failed source.old source.new) (turn W.held W.has_failed sink.old sink.new) }
     ensures memory { result ≢ Err Memory }
@@ -57,7 +58,8 @@ pub fn nodes_csv<R: Source, W: Sink>(
     bus: Option<Bus>,
     limit: u64,
 ) -> Result<Counts, RunFault>
-    // What is written is the names of the columns and who holds an address after the frames of the log, and nothing else.
+    // What the run promises is `Ran`: what is written is the names of the columns and who holds an address after the
+    // frames of the log, and nothing else. Memory is wanted nowhere.
     ensures ran { Ran MakesNodeRecords AsksNowhere bus limit result
         (turn R.remaining R.has_failed source.old source.new) (turn W.held W.has_failed sink.old sink.new) }
     ensures memory { result ≢ Err Memory }

@@ -37,8 +37,8 @@ pub fn run<R: Source, W: Sink>(
     bus: Option<Bus>,
     limit: u64,
 ) -> Result<Counts, RunFault>
-    // The report promise: what is written is the report of the log, and nothing else; memory is wanted only at a frame
-    // of the log that announces a message.
+    // What the run promises is `Ran`. The report promise: what is written is the report of the log, and nothing else.
+    // Memory is wanted only at a frame of the log that announces a message.
     ensures ran { Ran (MakesReport the_table) AsksForBoxes bus limit result
         (turn R.remaining R.has_failed source.old source.new) (turn W.held W.has_failed sink.old sink.new) }
 
@@ -66,8 +66,8 @@ pub fn run_with<R: Source, W: Sink>(
     bus: Option<Bus>,
     limit: u64,
 ) -> Result<Counts, RunFault>
-    // The report promise: what is written is the report of the log, and nothing else; memory is wanted only at a frame
-    // of the log that announces a message.
+    // What the run promises is `Ran`. The report promise: what is written is the report of the log, and nothing else.
+    // Memory is wanted only at a frame of the log that announces a message.
     ensures ran { Ran (MakesReport groups.now) AsksForBoxes bus limit result
         (turn R.remaining R.has_failed source.old source.new) (turn W.held W.has_failed sink.old sink.new) }
 

@@ -66,11 +66,12 @@ pub fn run_over<A: Account, R: Source, W: Sink>(
     bus: Option<Bus>,
     limit: u64,
 ) -> Result<Counts, RunFault>
-    // How it ended, whatever the account has met.
+    // It ended as every run does, whatever the account had met.
     ensures ended { Ended limit result
         (turn R.remaining R.has_failed source.old source.new) (turn W.held W.has_failed sink.old sink.new) }
 
-    // What was written is what the account makes of the log.
+    // What the run promises is `Ran`: what is written is what the account makes of the log's frames, and nothing else.
+    // Memory is wanted where the account asks for some.
     ensures ran { AtStart A.has_met account (λ subject. Ran (A.makes subject) (A.asks subject) bus limit result
         (turn R.remaining R.has_failed source.old source.new) (turn W.held W.has_failed sink.old sink.new)) }
 

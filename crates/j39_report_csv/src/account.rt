@@ -35,8 +35,8 @@ pub fn report_csv<R: Source, W: Sink>(
     bus: Option<Bus>,
     limit: u64,
 ) -> Result<Counts, RunFault>
-    // What is written is the header and the records of the log's report, and nothing else. Memory is wanted only at a
-    // frame of the log that announces a message.
+    // What the run promises is `Ran`: what is written is the header and the records of the log's report, and nothing
+    // else. Memory is wanted only at a frame of the log that announces a message.
     ensures ran { Ran (Headed header_text (MakesRecords groups.now)) AsksForBoxes bus limit result
         (turn R.remaining R.has_failed source.old source.new) (turn W.held W.has_failed sink.old sink.new) }
 

@@ -34,8 +34,9 @@ pub fn summary<R: Source, W: Sink>(
     bus: Option<Bus>,
     limit: u64,
 ) -> Result<Counts, RunFault>
-    // What is written is the summary of the log's report, and nothing else. Memory is wanted only at a frame that
-    // announces a message, and at one where a message is heard that has a value of a parameter without a row, or a text.
+    // What the run promises is `Ran`: what is written is the summary of the log's report, and nothing else. Memory is
+    // wanted only at a frame that announces a message, and at one where a message is heard that has a value of a
+    // parameter without a row, or a text.
     ensures ran { Ran (MakesSummary groups.now) (AsksForRows groups.now) bus limit result
         (turn R.remaining R.has_failed source.old source.new) (turn W.held W.has_failed sink.old sink.new) }
 
@@ -61,8 +62,8 @@ pub fn summary_csv<R: Source, W: Sink>(
     bus: Option<Bus>,
     limit: u64,
 ) -> Result<Counts, RunFault>
-    // What is written is the names of the columns and the records of the summary of the log's report, and nothing else.
-    // Memory is wanted as for `summary`.
+    // What the run promises is `Ran`: what is written is the names of the columns and the summary of the log's report in
+    // records, and nothing else. Memory is wanted as for `summary`.
     ensures ran { Ran (MakesSummaryRecords groups.now) (AsksForRows groups.now) bus limit result
         (turn R.remaining R.has_failed source.old source.new) (turn W.held W.has_failed sink.old sink.new) }
 

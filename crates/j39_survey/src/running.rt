@@ -27,8 +27,8 @@ pub fn survey<R: Source, W: Sink>(
     sink: &mut W,
     limit: u64,
 ) -> Result<(), RunFault>
-    // What is written is the survey of the log's lines, and nothing else, at the end of the log; memory is wanted before
-    // the first read.
+    // What the run promises is `Surveyed`: what is written is the survey of the log's lines, and nothing else, at the end
+    // of the log. Memory is wanted before the first read.
     ensures ran { Surveyed groups.now limit result
         (turn R.remaining R.has_failed source.old source.new) (turn W.held W.has_failed sink.old sink.new) }
 
@@ -50,7 +50,7 @@ fn survey_with<R: Source, W: Sink>(
     sink: &mut W,
     limit: u64,
 ) -> Result<(), RunFault>
-    // It ended as every run does, whatever was taken before.
+    // It ended as every run does, whatever the pieces had taken.
     ensures ended { Ended limit result
         (turn R.remaining R.has_failed source.old source.new) (turn W.held W.has_failed sink.old sink.new) }
     ensures writes { HasTaken pieces.old [] → OnOk result (IfSome (R.remaining source.old)
