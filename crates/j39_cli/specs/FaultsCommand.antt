@@ -7,9 +7,10 @@ use Rattle.j39_fault_news.specs.Output.{MakesFaultRecords, MakesFaults}
 use Rattle.j39_fault_news.specs.declared.telling.Telling.{Telling}
 use Rattle.j39_fault_news.specs.declared.telling.Telling.TheVariants.{News, All}
 use Rattle.j39_groups.specs.Row.{RowRecord}
+use Rattle.j39_listen.specs.Output.{Making}
 use Rattle.j39_cli.specs.Answer.{IsBusChecked, IsTask}
 use Rattle.j39_cli.specs.Form.{Form, IsValueIfGiven, Meaning, flag_words, option_words, value_words}
-use Rattle.j39_cli.specs.LogCommand.{Makes, format_of, runs, with_log}
+use Rattle.j39_cli.specs.LogCommand.{format_of, runs, with_log}
 use Rattle.j39_cli.specs.Rules.{flag_rule, is_given, with_table}
 use Rattle.j39_cli.specs.declared.task.Format.{Format}
 use Rattle.j39_cli.specs.declared.task.Format.TheVariants.{Csv, Lines}
@@ -43,7 +44,7 @@ faults_form bus table all csv file = record {
 }
 
 -- what it makes of the frames by a table
-abbrev pub faults_in : Format → Telling → List RowRecord → Makes
+abbrev pub faults_in : Format → Telling → List RowRecord → Making
 faults_in Lines telling rows = MakesFaults rows telling
 faults_in Csv telling rows = MakesFaultRecords rows telling
 

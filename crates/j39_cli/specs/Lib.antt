@@ -23,8 +23,7 @@ pub mod NameCommand
 pub mod Outgoing
 pub mod CutCommand
 pub mod GroupsCommand
--- what a call makes of a device, and what is written on it
-pub mod Turn
+-- what is written on a device
 pub mod Shown
 pub mod Counted
 pub mod OwnTable

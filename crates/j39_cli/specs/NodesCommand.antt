@@ -3,10 +3,10 @@ use Rattle.std.specs.Prelude.{◌≡◌, ◌++◌, ℕ, Bool, List, Option, code
 use Rattle.clap.specs.Words.{App, Text, first_of, new_app, with_rule}
 use Rattle.j39_listen.specs.Asking.{AsksNowhere}
 use Rattle.j39_listen.specs.Headed.{MakesNodeRecords}
-use Rattle.j39_listen.specs.Output.{MakesNodes}
+use Rattle.j39_listen.specs.Output.{Making, MakesNodes}
 use Rattle.j39_cli.specs.Answer.{IsBusChecked, IsTask}
 use Rattle.j39_cli.specs.Form.{Form, IsValueIfGiven, Meaning, flag_words, option_words, value_words}
-use Rattle.j39_cli.specs.LogCommand.{Makes, format_of, runs, with_log}
+use Rattle.j39_cli.specs.LogCommand.{format_of, runs, with_log}
 use Rattle.j39_cli.specs.Rules.{flag_rule, is_given}
 use Rattle.j39_cli.specs.declared.task.Format.{Format}
 use Rattle.j39_cli.specs.declared.task.Format.TheVariants.{Csv, Lines}
@@ -31,7 +31,7 @@ nodes_form bus csv file = record {
 }
 
 -- what it makes of the frames
-abbrev pub nodes_in : Format → Makes
+abbrev pub nodes_in : Format → Making
 nodes_in Lines = MakesNodes
 nodes_in Csv = MakesNodeRecords
 

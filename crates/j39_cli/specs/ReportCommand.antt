@@ -1,23 +1,23 @@
 -- The command `report [--bus B] [--table T] [--spn SPN,..] [--csv] [FILE]`.
 use Rattle.std.specs.Prelude.{◌≡◌, ◌⊎◌, ◌++◌, ℕ, Bool, true, false, List, [], Option, None, Some, codes, option_map}
 use Rattle.std.specs.Option.{ForSome}
+use Rattle.j39_device.specs.Turn.{Turn, Writes}
 use Rattle.clap.specs.Words.{App, Text, first_of, new_app, with_rule}
 use Rattle.j39_groups.specs.Readings.{HaveSameGroups, rows_of_spns}
 use Rattle.j39_groups.specs.Row.{RowRecord}
 use Rattle.j39_listen.specs.Asking.{AsksForBoxes}
 use Rattle.j39_listen.specs.Headed.{Headed}
-use Rattle.j39_listen.specs.Output.{MakesReport}
+use Rattle.j39_listen.specs.Output.{Making, MakesReport}
 use Rattle.j39_listen.specs.declared.running.RunFault.TheVariants.{Memory}
 use Rattle.j39_log.specs.Bus.{IsBusName}
 use Rattle.j39_report_csv.specs.Csv.{MakesRecords}
 use Rattle.j39_report_csv.specs.EntryText.{header_text}
 use Rattle.j39_cli.specs.Answer.{IsBusChecked, IsSpnChecked, IsTask}
 use Rattle.j39_cli.specs.Form.{Form, IsValueIfGiven, Meaning, flag_words, option_words, value_words}
-use Rattle.j39_cli.specs.LogCommand.{IsRun, Makes, fault_text, format_of, opened_of, with_log}
+use Rattle.j39_cli.specs.LogCommand.{IsRun, fault_text, format_of, opened_of, with_log}
 use Rattle.j39_cli.specs.Refusal.{error_line}
 use Rattle.j39_cli.specs.Rules.{flag_rule, is_given, option_rule, with_table}
 use Rattle.j39_cli.specs.Spns.{spns_in}
-use Rattle.j39_cli.specs.Turn.{Turn, Writes}
 use Rattle.j39_cli.specs.declared.task.Format.{Format}
 use Rattle.j39_cli.specs.declared.task.Format.TheVariants.{Csv, Lines}
 use Rattle.j39_cli.specs.declared.task.Task.{Task}
@@ -51,7 +51,7 @@ report_form bus table spn csv file = record {
 -- ---- its run
 
 -- what it makes of the frames by a table
-abbrev pub makes_in : Format → List RowRecord → Makes
+abbrev pub makes_in : Format → List RowRecord → Making
 makes_in Lines rows = MakesReport rows
 makes_in Csv rows = Headed header_text (MakesRecords rows)
 

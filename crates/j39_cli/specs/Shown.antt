@@ -2,8 +2,8 @@
 use Rattle.std.specs.Prelude.{◌≡◌, ◌⊎◌, ℕ, true, List, [], codes}
 use Rattle.std.specs.Io.KnownBytes.{Appends}
 use Rattle.j39_device.specs.Device.{AppendsFront}
+use Rattle.j39_device.specs.Turn.{IsUnmarked, Turn, Writes}
 use Rattle.j39_cli.specs.Refusal.{error_line}
-use Rattle.j39_cli.specs.Turn.{IsUnmarked, Turn, Writes}
 
 -- status 0: all of the text was written, and no fault came
 abbrev pub IsWhole : List ℕ → ℕ → Turn → Type 0

@@ -3,9 +3,10 @@ use Rattle.std.specs.Prelude.{◌≡◌, ◌++◌, ℕ, Bool, List, Option, code
 use Rattle.clap.specs.Words.{App, Text, first_of, new_app, with_rule}
 use Rattle.j39_summary.specs.Summaries.{AsksForRows, MakesSummary, MakesSummaryRecords}
 use Rattle.j39_groups.specs.Row.{RowRecord}
+use Rattle.j39_listen.specs.Output.{Making}
 use Rattle.j39_cli.specs.Answer.{IsBusChecked, IsTask}
 use Rattle.j39_cli.specs.Form.{Form, IsValueIfGiven, Meaning, flag_words, option_words, value_words}
-use Rattle.j39_cli.specs.LogCommand.{Makes, format_of, runs, with_log}
+use Rattle.j39_cli.specs.LogCommand.{format_of, runs, with_log}
 use Rattle.j39_cli.specs.Rules.{flag_rule, is_given, with_table}
 use Rattle.j39_cli.specs.declared.task.Format.{Format}
 use Rattle.j39_cli.specs.declared.task.Format.TheVariants.{Csv, Lines}
@@ -32,7 +33,7 @@ summary_form bus table csv file = record {
 }
 
 -- what it makes of the frames by a table
-abbrev pub summary_in : Format → List RowRecord → Makes
+abbrev pub summary_in : Format → List RowRecord → Making
 summary_in Lines rows = MakesSummary rows
 summary_in Csv rows = MakesSummaryRecords rows
 

@@ -1,17 +1,15 @@
 -- The command `survey [--table T] [FILE]`.
-use Rattle.std.specs.Prelude.{◌≡◌, ◌≢◌, ◌⊎◌, ◌<◌, ◌≤◌, ◌++◌, ℕ, List, [], Option, IfSome, codes, false, true, length}
+use Rattle.std.specs.Prelude.{◌≡◌, ◌⊎◌, ◌++◌, ℕ, List, [], Option, Result, Ok, Err, codes, false, true}
+use Rattle.j39_device.specs.Turn.{Turn, Writes}
 use Rattle.clap.specs.Words.{App, Text, first_of, new_app, with_rule}
 use Rattle.j39_groups.specs.Row.{RowRecord}
-use Rattle.j39_listen.specs.Run.{TakesWithin}
 use Rattle.j39_listen.specs.declared.running.RunFault.{RunFault}
-use Rattle.j39_listen.specs.declared.running.RunFault.TheVariants.{Memory, Read, TooLong, Write}
-use Rattle.j39_survey.specs.Run.{StopsWithin, WritesSurvey}
+use Rattle.j39_survey.specs.Run.{Surveyed}
 use Rattle.j39_cli.specs.Answer.{IsTask}
 use Rattle.j39_cli.specs.Form.{Form, IsValueIfGiven, Meaning, option_words, value_words}
 use Rattle.j39_cli.specs.LogCommand.{fault_text, log_limit, opened_of}
 use Rattle.j39_cli.specs.Refusal.{error_line}
 use Rattle.j39_cli.specs.Rules.{value_rule, with_table}
-use Rattle.j39_cli.specs.Turn.{IsUnmarked, Turn, Writes}
 use Rattle.j39_cli.specs.declared.task.Task.{Task}
 use Rattle.j39_cli.specs.declared.task.Task.TheVariants.{Survey}
 
@@ -32,32 +30,17 @@ survey_form table file = record {
   Answers = IsTask (IsSurveyTask table file);
 }
 
--- the survey of this log was written
-pub record HasSurveyed (rows : List RowRecord) (log : List ℕ) (out : Turn) : Type 0 where
-  pub short : length log ≤ log_limit
-  pub writes : WritesSurvey rows log out.old.bytes out.new.bytes
+-- the end of a survey: nothing is said of one that was written, with status 0, and a fault is told, with status 1
+abbrev pub IsSurveyTold : Result (Unit {0}) RunFault → ℕ → Turn → Type 0
+IsSurveyTold (Ok none) status err = (status ≡ 0) × (err.new ≡ err.old)
+IsSurveyTold (Err fault) status err = (status ≡ 1) × Writes err (error_line (fault_text fault) [])
 
--- this fault came: its own mark stands, and it alone changed one; a front was written, and nothing before the log's end;
--- and it is told
-pub record HasFailed (rows : List RowRecord) (fault : RunFault) (log out err : Turn) : Type 0 where
-  pub memory : fault ≡ Memory → log.new.bytes ≡ log.old.bytes
-  pub within : fault ≢ TooLong → TakesWithin log_limit log.old.bytes log.new.bytes
-  pub too_long : fault ≡ TooLong → IfSome log.old.bytes (λ bytes. log_limit < length bytes)
-  pub read : fault ≡ Read → log.new.has_failed ≡ true
-  pub read_alone : fault ≢ Read → IsUnmarked log
-  pub write : fault ≡ Write → out.new.has_failed ≡ true
-  pub write_alone : fault ≢ Write → IsUnmarked out
-  pub silent : fault ≢ Write → out.new.bytes ≡ out.old.bytes
-  pub stops : StopsWithin rows log.old.bytes log.new.bytes out.old.bytes out.new.bytes
-  pub told : Writes err (error_line (fault_text fault) [])
-
--- status 0: it was written whole, no device failed, and nothing is said; status 1: a fault came
+-- a survey of the log ended so, as that of `j39_survey` may, and its end is told
 pub record IsSurvey (rows : List RowRecord) (status : ℕ) (log out err : Turn) : Type 0 where
   pub known : (status ≡ 0) ⊎ (status ≡ 1)
-  pub written : status ≡ 0 → IfSome log.old.bytes (λ bytes. HasSurveyed rows bytes out)
-  pub unmarked : status ≡ 0 → IsUnmarked log × IsUnmarked out
-  pub silent : status ≡ 0 → err.new ≡ err.old
-  pub fault : status ≡ 1 → (fault : RunFault) × HasFailed rows fault log out err
+  pub result : Result (Unit {0}) RunFault
+  pub ran : Surveyed rows log_limit result log out
+  pub told : IsSurveyTold result status err
 
 abbrev pub survey_meaning : Option (List ℕ) → Option (List ℕ) → Meaning
 survey_meaning table file = record {

@@ -1,5 +1,6 @@
 -- What a task comes to.
 use Rattle.std.specs.Prelude.{ℕ, Bool, List, Option}
+use Rattle.j39_device.specs.Turn.{Turn}
 use Rattle.j39_address.specs.Name.{name_raw}
 use Rattle.j39_frame.specs.Identifier.{id_raw}
 use Rattle.j39_groups.specs.Row.{RowRecord}
@@ -14,7 +15,6 @@ use Rattle.j39_cli.specs.NodesCommand.{nodes_meaning}
 use Rattle.j39_cli.specs.ReportCommand.{report_meaning}
 use Rattle.j39_cli.specs.SummaryCommand.{summary_meaning}
 use Rattle.j39_cli.specs.SurveyCommand.{survey_meaning}
-use Rattle.j39_cli.specs.Turn.{Turn}
 use Rattle.j39_cli.specs.declared.task.Task.{Task}
 use Rattle.j39_cli.specs.declared.task.Task.TheVariants.{Report, Summary, Faults, Nodes, Answer, Id, Name, Cut, Groups, Survey}
 

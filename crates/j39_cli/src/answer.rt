@@ -1,6 +1,7 @@
 //! The command `answer`: its words, and how it is performed.
 ghost use Rattle.std.specs.Prelude.{◌≡◌, ◌≢◌, ◌↔◌, IfOk, IfSome, IsSome, Some, codes, true, Err};
 ghost use Rattle.std.specs.Str.Parse.{digits_value};
+ghost use Rattle.j39_device.specs.Turn.{turn};
 ghost use Rattle.clap.specs.Words.{Text, first_value, found_of};
 ghost use Rattle.j39_address.specs.Name.{name_raw};
 ghost use Rattle.j39_address.specs.Node.{idle_node};
@@ -12,7 +13,6 @@ ghost use Rattle.j39_cli.specs.CommandWords.{IsAnswer};
 ghost use Rattle.j39_cli.specs.Numbers.{IsNumberBelow};
 ghost use Rattle.j39_cli.specs.LogCommand.{IsRun};
 ghost use Rattle.j39_cli.specs.Task.{IsInRange};
-ghost use Rattle.j39_cli.specs.Turn.{turn};
 ghost use Rattle.j39_cli.specs.Rules.{IsMade};
 
 use crate::command::{new_command, with_option};

@@ -1,5 +1,6 @@
 //! The command `cut`: its words, and how it is performed.
 ghost use Rattle.std.specs.Prelude.{◌≡◌, IfOk, Some, codes, true};
+ghost use Rattle.j39_device.specs.Turn.{turn};
 ghost use Rattle.clap.specs.Words.{Text, first_value, found_of};
 ghost use Rattle.j39_cli.specs.CommandWords as written;
 ghost use Rattle.j39_cli.specs.CommandWords.{IsAnswer};
@@ -7,7 +8,6 @@ ghost use Rattle.j39_cli.specs.CutCommand.{cut_app};
 ghost use Rattle.j39_cli.specs.Outgoing.{cut_text};
 ghost use Rattle.j39_cli.specs.Shown.{IsShown};
 ghost use Rattle.j39_cli.specs.Task.{IsInRange};
-ghost use Rattle.j39_cli.specs.Turn.{turn};
 ghost use Rattle.j39_cli.specs.Rules.{IsMade};
 
 use crate::command::{new_command, with_option, with_value};

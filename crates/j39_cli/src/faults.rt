@@ -1,5 +1,6 @@
 //! The command `faults`: its words, and how it is performed.
 ghost use Rattle.std.specs.Prelude.{◌≡◌, ◌≢◌, IfOk, codes, true, Err};
+ghost use Rattle.j39_device.specs.Turn.{turn};
 ghost use Rattle.clap.specs.Words.{first_value, found_of};
 ghost use Rattle.j39_fault_news.specs.Asking.{AsksForFaults};
 ghost use Rattle.j39_cli.specs.CommandWords as written;
@@ -8,7 +9,6 @@ ghost use Rattle.j39_cli.specs.FaultsCommand.{faults_app, faults_in, telling_of}
 ghost use Rattle.j39_cli.specs.LogCommand.{IsRun};
 ghost use Rattle.j39_cli.specs.Rules.{IsMade, is_given};
 ghost use Rattle.j39_cli.specs.Task.{IsInRange};
-ghost use Rattle.j39_cli.specs.Turn.{turn};
 
 use crate::command::{new_command, with_flag, with_table};
 use crate::log::{LOG_LIMIT, copy_of, format_by, tell_end, with_csv, with_log};

@@ -1,10 +1,10 @@
 //! What the commands that read a log have in common.
 ghost use Rattle.std.specs.Prelude.{◌≡◌, ◌≤◌, [], codes, false, length};
+ghost use Rattle.j39_device.specs.Turn.{Writes, turn};
 ghost use Rattle.clap.specs.Words.{App, with_rule};
 ghost use Rattle.j39_cli.specs.LogCommand.{IsTold, fault_text, format_of, with_log};
 ghost use Rattle.j39_cli.specs.Refusal.{error_line};
 ghost use Rattle.j39_cli.specs.Rules.{IsMade, flag_rule};
-ghost use Rattle.j39_cli.specs.Turn.{Writes, turn};
 
 use crate::Format;
 use crate::command::{with_flag, with_option, with_value};

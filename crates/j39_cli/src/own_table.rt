@@ -1,7 +1,7 @@
 //! What the program says of a file that is no table of parameters.
 ghost use Rattle.std.specs.Prelude.{◌≡◌};
+ghost use Rattle.j39_device.specs.Turn.{Writes, turn};
 ghost use Rattle.j39_cli.specs.OwnTable.{table_line};
-ghost use Rattle.j39_cli.specs.Turn.{Writes, turn};
 
 use crate::refusal::complain;
 use j39_device::Sink;

@@ -1,8 +1,8 @@
 //! Tasks over devices.
 ghost use Rattle.std.specs.Prelude.{◌≡◌, ◌⊎◌, false, true};
+ghost use Rattle.j39_device.specs.Turn.{turn};
 ghost use Rattle.j39_groups.specs.Table.{the_table};
 ghost use Rattle.j39_cli.specs.Task.{IsPerformed, reads_log};
-ghost use Rattle.j39_cli.specs.Turn.{turn};
 
 use crate::{Task, answer, cut, faults, groups, id, name, nodes, report, summary, survey};
 use j39_device::{Sink, Source};

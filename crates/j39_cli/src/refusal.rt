@@ -2,8 +2,8 @@
 ghost use Rattle.std.specs.Prelude.{◌≡◌, ◌↔◌, OnOk, codes};
 ghost use Rattle.std.specs.Io.KnownBytes.{Appends};
 ghost use Rattle.j39_device.specs.Device.{Marks};
+ghost use Rattle.j39_device.specs.Turn.{Writes, turn};
 ghost use Rattle.j39_cli.specs.Refusal.{IsHelp, IsWrongLine, error_line, error_words, out_words};
-ghost use Rattle.j39_cli.specs.Turn.{Writes, turn};
 
 use crate::ParseFault;
 use j39_device::{DeviceFault, Sink, put_all};

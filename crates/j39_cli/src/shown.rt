@@ -2,9 +2,9 @@
 ghost use Rattle.std.specs.Prelude.{◌≡◌, [], OnOk, OnErr, codes, true};
 ghost use Rattle.std.specs.Io.KnownBytes.{Appends};
 ghost use Rattle.j39_device.specs.Device.{AppendsFront, Marks};
+ghost use Rattle.j39_device.specs.Turn.{Writes, turn};
 ghost use Rattle.j39_cli.specs.Shown.{IsShown};
 ghost use Rattle.j39_cli.specs.Refusal.{error_line};
-ghost use Rattle.j39_cli.specs.Turn.{Writes, turn};
 
 use crate::refusal::complain;
 use j39_device::{DeviceFault, Sink, put_all};

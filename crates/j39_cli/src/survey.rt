@@ -1,11 +1,11 @@
 //! The command `survey`: its words, and how it is performed.
 ghost use Rattle.std.specs.Prelude.{◌≡◌, ◌≢◌, IfOk, codes, false, true, Err};
+ghost use Rattle.j39_device.specs.Turn.{turn};
 ghost use Rattle.clap.specs.Words.{first_value, found_of};
 ghost use Rattle.j39_cli.specs.CommandWords as written;
 ghost use Rattle.j39_cli.specs.CommandWords.{IsAnswer};
 ghost use Rattle.j39_cli.specs.SurveyCommand.{IsSurvey, survey_app};
 ghost use Rattle.j39_cli.specs.Task.{IsInRange};
-ghost use Rattle.j39_cli.specs.Turn.{turn};
 ghost use Rattle.j39_cli.specs.Rules.{IsMade};
 
 use crate::command::{new_command, with_table, with_value};

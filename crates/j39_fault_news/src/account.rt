@@ -3,8 +3,10 @@ ghost use Rattle.std.specs.Prelude.{◌≡◌, ◌≢◌, ◌<◌, ◌≤◌, �
 ghost use Rattle.std.specs.Prelude.{Err};
 ghost use Rattle.std.specs.Io.KnownBytes.{Appends};
 ghost use Rattle.j39_device.specs.Device.{AppendsFront};
+ghost use Rattle.j39_device.specs.Turn.{turn};
 ghost use Rattle.j39_frame.specs.Frame.{FrameRecord};
 ghost use Rattle.j39_frame.specs.Pgn.{pgn_raw};
+ghost use Rattle.j39_listen.specs.AccountSteps.{LeavesWriter};
 ghost use Rattle.j39_listen.specs.Heard.{AreHeardWith, Hearing};
 ghost use Rattle.j39_listen.specs.Listening.{Hears};
 ghost use Rattle.j39_listen.specs.Shown.{hearing_of};
@@ -118,15 +120,13 @@ fn put_frame<W: Sink>(
     ensures met { IfOk result (λ made. (F : List FrameRecord) (ms : List Hearing) → Hears listener.old F
         → Remembers last.old ms → MeetsFrame writing.entry.form writing.entry.groups.now telling listener.new last.new
         F frame.now ms made (W.held sink.old) (W.held sink.new)) }
-    ensures write { result ≡ Err line_fault.Write → W.has_failed sink.new ≡ true }
+    ensures writer { LeavesWriter result (turn W.held W.has_failed sink.old sink.new) }
     ensures stops { result ≡ Err line_fault.Write → (F : List FrameRecord) (ms : List Hearing) → Hears listener.old F
         → Remembers last.old ms → StopsFrame writing.entry.form writing.entry.groups.now telling F frame.now ms
         (W.held sink.old) (W.held sink.new) }
-    ensures memory { result ≡ Err line_fault.Memory → W.held sink.new ≡ W.held sink.old }
     ensures asked { result ≡ Err line_fault.Memory → (F : List FrameRecord) (heard : List Hearing)
         → Hears listener.old F → AreHeardWith is_fault_group F heard → Remembers last.old (faults_among heard)
         → AsksForFaults F frame.now }
-    ensures unmarked { result ≢ Err line_fault.Write → W.has_failed sink.new ≡ W.has_failed sink.old }
 {
     let is_single = fault_group(frame.id.pgn()).is_some();
     match listener.feed_as(is_single, frame) {
@@ -149,16 +149,14 @@ fn put_heard<W: Sink>(
         → length heard.now.message.payload.now ≤ 1785
         → Tells writing.entry.form writing.entry.groups.now telling last.new ms (Some (hearing_of heard.now)) made
         (W.held sink.old) (W.held sink.new)) }
-    ensures write { result ≡ Err line_fault.Write → W.has_failed sink.new ≡ true }
+    ensures writer { LeavesWriter result (turn W.held W.has_failed sink.old sink.new) }
     ensures stops { result ≡ Err line_fault.Write → (ms : List Hearing) → Remembers last.old ms
         → length heard.now.message.payload.now ≤ 1785
         → TellsFront writing.entry.form writing.entry.groups.now telling ms (Some (hearing_of heard.now))
         (W.held sink.old) (W.held sink.new) }
-    ensures memory { result ≡ Err line_fault.Memory → W.held sink.new ≡ W.held sink.old }
     ensures of_faults { result ≡ Err line_fault.Memory → is_of_faults (hearing_of heard.now) ≡ true }
     ensures first { result ≡ Err line_fault.Memory → (ms : List Hearing) → Remembers last.old ms
         → last_from (pgn_raw heard.now.message.pgn) heard.now.message.source ms ≡ None }
-    ensures unmarked { result ≢ Err line_fault.Write → W.has_failed sink.new ≡ W.has_failed sink.old }
 {
     let Some(kind) = fault_group(heard.message.pgn) else {
         return Ok(Made::default());

@@ -1,8 +1,7 @@
 //! The runs that tell the faults in a log.
-ghost use Rattle.std.specs.Prelude.{◌≡◌, ◌≢◌, ◌<◌, ◌≤◌, ◌⊎◌, IfOk, IfSome, OnOk, OnErr, Err, length, true};
-ghost use Rattle.j39_listen.specs.Asking.{AsksWithin};
-ghost use Rattle.j39_listen.specs.Run.{StopsAtLimit, StopsWithin, TakesWithin, Writes, WritesFront};
-ghost use Rattle.j39_listen.specs.declared.running.RunFault.TheVariants.{Memory, Read, Write, TooLong};
+ghost use Rattle.std.specs.Prelude.{true};
+ghost use Rattle.j39_device.specs.Turn.{turn};
+ghost use Rattle.j39_listen.specs.Ran.{PassesOn, Ran};
 ghost use Rattle.j39_fault_news.specs.Asking.{AsksForFaults};
 ghost use Rattle.j39_fault_news.specs.Output.{MakesFaultRecords, MakesFaults};
 
@@ -27,41 +26,14 @@ pub fn faults<R: Source, W: Sink>(
     bus: Option<Bus>,
     limit: u64,
 ) -> Result<Counts, RunFault>
-    // What is written is the faults that are told in the frames of the log, and nothing else.
-    ensures faults { IfOk result (λ counts. IfSome (R.remaining source.old)
-        (λ log. Writes (MakesFaults groups.now telling) bus log counts (W.held sink.old) (W.held sink.new))) }
-
-    // Each fault comes only where its device failed, or the log is longer than the limit.
-    ensures short { OnOk result (IfSome (R.remaining source.old) (λ log. length log ≤ limit)) }
-    ensures too_long { result ≡ Err TooLong → IfSome (R.remaining source.old) (λ log. limit < length log) }
-    ensures read { result ≡ Err Read → R.has_failed source.new ≡ true }
-    ensures read_unmarked { result ≢ Err Read → R.has_failed source.new ≡ R.has_failed source.old }
-    ensures write { result ≡ Err Write → W.has_failed sink.new ≡ true }
-    ensures write_unmarked { result ≢ Err Write → W.has_failed sink.new ≡ W.has_failed sink.old }
-
-    // Memory is wanted only at a frame of the log that announces a message, or at which an address says for the first
-    // time which codes are active, or which were.
-    ensures memory { result ≡ Err Memory
-        → AsksWithin AsksForFaults bus (R.remaining source.old) (R.remaining source.new) }
-
-    // The bytes that were taken pass the limit exactly where `TooLong` is answered, and those that pass it aren't
-    // handled.
-    ensures within { result ≢ Err TooLong → TakesWithin limit (R.remaining source.old) (R.remaining source.new) }
-    ensures at_limit { result ≡ Err TooLong → StopsAtLimit (MakesFaults groups.now telling) limit bus
-        (R.remaining source.old) (R.remaining source.new) (W.held sink.old) (W.held sink.new) }
+    // What the run promises is `Ran`: what is written is the faults that are told in the frames of the log, and nothing
+    // else. Memory is wanted only at a frame of the log that announces a message, or at which an address says for the
+    // first time which codes are active, or which were.
+    ensures ran { Ran (MakesFaults groups.now telling) AsksForFaults bus limit result
+        (turn R.remaining R.has_failed source.old source.new) (turn W.held W.has_failed sink.old sink.new) }
 
     // What was written is passed on at the end, and before each read.
-    ensures flushed { OnOk result (W.is_flushed sink.new ≡ true) }
-    ensures flushed_at_reads { (result ≡ Err Read) ⊎ (result ≡ Err TooLong)
-        → W.is_flushed sink.old ≡ true → W.is_flushed sink.new ≡ true }
-
-    // What was written before a fault of the writer is a front of what is written for the whole log.
-    ensures cut_short { result ≡ Err Write → IfSome (R.remaining source.old)
-        (λ log. WritesFront (MakesFaults groups.now telling) bus log (W.held sink.old) (W.held sink.new)) }
-
-    // What was written before a fault is a front of what is written for the bytes that were read.
-    ensures prefix { OnErr result (StopsWithin (MakesFaults groups.now telling) bus
-        (R.remaining source.old) (R.remaining source.new) (W.held sink.old) (W.held sink.new)) }
+    ensures flushed { PassesOn result (W.is_flushed sink.old) (W.is_flushed sink.new) }
 {
     let writing = Writing {
         form: FaultForm::Line,
@@ -90,41 +62,13 @@ pub fn faults_csv<R: Source, W: Sink>(
     bus: Option<Bus>,
     limit: u64,
 ) -> Result<Counts, RunFault>
-    // What is written is the names of the columns, and the faults that are told in the frames of the log, and nothing
-    // else.
-    ensures faults { IfOk result (λ counts. IfSome (R.remaining source.old)
-        (λ log. Writes (MakesFaultRecords groups.now telling) bus log counts (W.held sink.old) (W.held sink.new))) }
+    // What the run promises is `Ran`: what is written is the names of the columns and the faults that are told in the
+    // frames of the log, and nothing else. Memory is wanted as for `faults`.
+    ensures ran { Ran (MakesFaultRecords groups.now telling) AsksForFaults bus limit result
+        (turn R.remaining R.has_failed source.old source.new) (turn W.held W.has_failed sink.old sink.new) }
 
-    // Each fault comes only where its device failed, or the log is longer than the limit.
-    ensures short { OnOk result (IfSome (R.remaining source.old) (λ log. length log ≤ limit)) }
-    ensures too_long { result ≡ Err TooLong → IfSome (R.remaining source.old) (λ log. limit < length log) }
-    ensures read { result ≡ Err Read → R.has_failed source.new ≡ true }
-    ensures read_unmarked { result ≢ Err Read → R.has_failed source.new ≡ R.has_failed source.old }
-    ensures write { result ≡ Err Write → W.has_failed sink.new ≡ true }
-    ensures write_unmarked { result ≢ Err Write → W.has_failed sink.new ≡ W.has_failed sink.old }
-
-    // Memory is wanted only at a frame of the log that announces a message, or at which an address says for the first
-    // time which codes are active, or which were.
-    ensures memory { result ≡ Err Memory
-        → AsksWithin AsksForFaults bus (R.remaining source.old) (R.remaining source.new) }
-
-    // The bytes that were taken pass the limit exactly where `TooLong` is answered, and those that pass it aren't
-    // handled.
-    ensures within { result ≢ Err TooLong → TakesWithin limit (R.remaining source.old) (R.remaining source.new) }
-    ensures at_limit { result ≡ Err TooLong → StopsAtLimit (MakesFaultRecords groups.now telling) limit bus
-        (R.remaining source.old) (R.remaining source.new) (W.held sink.old) (W.held sink.new) }
-
-    // What was written is passed on at the end, and before each read.
-    ensures flushed { OnOk result (W.is_flushed sink.new ≡ true) }
-    ensures flushed_at_reads { (result ≡ Err Read) ⊎ (result ≡ Err TooLong) → W.is_flushed sink.new ≡ true }
-
-    // What was written before a fault of the writer is a front of what is written for the whole log.
-    ensures cut_short { result ≡ Err Write → IfSome (R.remaining source.old)
-        (λ log. WritesFront (MakesFaultRecords groups.now telling) bus log (W.held sink.old) (W.held sink.new)) }
-
-    // What was written before a fault is a front of what is written for the bytes that were read.
-    ensures prefix { OnErr result (StopsWithin (MakesFaultRecords groups.now telling) bus
-        (R.remaining source.old) (R.remaining source.new) (W.held sink.old) (W.held sink.new)) }
+    // What was written is passed on at the end, and before each read, the names of the columns before the first.
+    ensures flushed { PassesOn result true (W.is_flushed sink.new) }
 {
     let writing = Writing {
         form: FaultForm::Record,

@@ -1,13 +1,19 @@
 -- What was written behind a head, of a run that was finished and of one that stopped; for `run_headed`.
-use Rattle.std.proofs.Common.{◌++◌, ℕ, List, [], Option, Some, None, sym, ap, ◌∙◌, append_assoc, refl}
-use Rattle.std.specs.Prelude.{IfSome}
+use Rattle.std.proofs.Common.{◌≡◌, ◌++◌, ℕ, List, [], Option, Some, None, sym, ap, ◌∙◌, append_assoc, refl}
+use Rattle.std.specs.Prelude.{IfSome, Result}
+use Rattle.std.proofs.lemmas.Option.{IfSome_then}
 use Rattle.std.specs.Io.KnownBytes.{Appends}
 use Rattle.std.proofs.KnownBytes.{Appends-trans, Consumes-nil}
 use Rattle.j39_device.specs.Device.{AppendsFront}
+use Rattle.j39_device.specs.Turn.{Device, Turn}
+use Rattle.j39_listen.specs.Asking.{Wanting}
 use Rattle.j39_listen.specs.Headed.{Headed, headed}
 use Rattle.j39_listen.specs.Output.{Making, Output}
 use Rattle.j39_listen.specs.Run.{StopsAtLimit, StopsWithin, Writes, WritesFront}
+use Rattle.j39_listen.specs.Ran.{Ended, Ran}
 use Rattle.j39_listen.specs.declared.counts.Counts.{Counts}
+use Rattle.j39_listen.specs.declared.running.RunFault.{RunFault}
+use Rattle.j39_listen.proofs.PieceLemmas.{if_ok, on_err_from}
 
 -- the whole behind the head
 pub writes_headed : (head : List ℕ) (makes : Making) (given : Option (List ℕ)) (log : List ℕ) (counts : Counts) (old mid new : Option (List ℕ))
@@ -70,3 +76,31 @@ pub cut_in_head : (head : List ℕ) (makes : Making) (given remaining old new : 
     → IfSome remaining (λ log. WritesFront (Headed head makes) given log old new)
 cut_in_head head makes given None old new front = tt
 cut_in_head head makes given (Some log) old new front = front_in_head head makes given log old new front
+
+-- a run behind the head: how it ended, and what it wrote with the head
+pub ended_headed : {T : Type 0} (limit : ℕ) (result : Result T RunFault) (log : Turn) (old mid new : Device)
+    → mid.has_failed ≡ old.has_failed → Ended limit result log (record { old = mid; new = new })
+    → Ended limit result log (record { old = old; new = new })
+ended_headed limit result log old mid new unmarked e = record {
+  short = e.short;
+  too_long = e.too_long;
+  read = e.read;
+  read_unmarked = e.read_unmarked;
+  write = e.write;
+  write_unmarked = λ other. e.write_unmarked other ∙ unmarked;
+  within = e.within;
+}
+
+pub ran_headed : (head : List ℕ) (makes : Making) (asks : Wanting) (given : Option (List ℕ)) (limit : ℕ) (result : Result Counts RunFault)
+    → (log : Turn) (old mid new : Device) → Appends old.bytes mid.bytes head → mid.has_failed ≡ old.has_failed
+    → Ran makes asks given limit result log (record { old = mid; new = new })
+    → Ran (Headed head makes) asks given limit result log (record { old = old; new = new })
+ran_headed head makes asks given limit result log old mid new first unmarked r = record {
+  ended = ended_headed limit result log old mid new unmarked r.ended;
+  writes = if_ok result _ _ (λ counts written. IfSome_then log.old.bytes written (λ (bytes : List ℕ) w.
+      writes_headed head makes given bytes counts old.bytes mid.bytes new.bytes first w)) r.writes;
+  memory = r.memory;
+  at_limit = λ e. limit_headed head makes limit given log.old.bytes log.new.bytes old.bytes mid.bytes new.bytes first (r.at_limit e);
+  cut_short = λ e. IfSome_then log.old.bytes (r.cut_short e) (λ (bytes : List ℕ) w. front_headed head makes given bytes old.bytes mid.bytes new.bytes first w);
+  prefix = on_err_from result _ _ (stops_headed head makes given log.old.bytes log.new.bytes old.bytes mid.bytes new.bytes first) r.prefix;
+}

@@ -1,11 +1,23 @@
 -- What the calls of an account make of it. An account has met some frames, of which it has made an output so far.
-use Rattle.std.specs.Prelude.{◌≡◌, ◌++◌, ℕ, List, Option}
+use Rattle.std.specs.Prelude.{◌≡◌, ◌≢◌, ◌++◌, ℕ, List, Option, Result, Err, true}
 use Rattle.std.specs.Io.KnownBytes.{Appends}
 use Rattle.j39_device.specs.Device.{AppendsFront}
+use Rattle.j39_device.specs.Turn.{IsUnmarked, Turn}
 use Rattle.j39_frame.specs.Frame.{FrameRecord}
 use Rattle.j39_listen.specs.Counting.{capped}
 use Rattle.j39_listen.specs.Output.{Output, Making, Meeting}
+use Rattle.j39_listen.specs.declared.account.LineFault.{LineFault}
+use Rattle.j39_listen.specs.declared.account.LineFault.TheVariants.{Memory, Write}
 use Rattle.j39_listen.specs.declared.counts.Made.{Made}
+
+-- what a call at a line leaves of the writer
+pub record LeavesWriter {T : Type 0} (result : Result T LineFault) (out : Turn) : Type 0 where
+  -- a fault of the writer sets its mark
+  pub write : result ≡ Err Write → out.new.has_failed ≡ true
+  -- and nothing else changes it
+  pub unmarked : result ≢ Err Write → IsUnmarked out
+  -- where memory was refused nothing was written for the line
+  pub memory : result ≡ Err Memory → out.new.bytes ≡ out.old.bytes
 
 -- with the frames F it has made more than before, and wrote that
 pub record MeetsMore {A : Type 0} (has_met : A → List FrameRecord → Output → Type 0) (a' : A)

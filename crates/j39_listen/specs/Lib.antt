@@ -18,6 +18,7 @@ pub mod LossExample
 pub mod Counting
 pub mod Run
 pub mod Asking
+pub mod Ran
 pub mod Fault
 -- what the code's values show
 pub mod Listening

@@ -1,8 +1,9 @@
 //! What a run makes of the frames of its bus.
-ghost use Rattle.std.specs.Prelude.{◌≡◌, ◌≢◌, ◌∷◌, [], List, true, OnOk, OnErr, IfOk, Err};
+ghost use Rattle.std.specs.Prelude.{◌≡◌, ◌∷◌, [], List, OnOk, OnErr, IfOk, Err};
 ghost use Rattle.j39_device.specs.Device.{Marks};
+ghost use Rattle.j39_device.specs.Turn.{turn};
 ghost use Rattle.j39_frame.specs.Frame.{FrameRecord};
-ghost use Rattle.j39_listen.specs.AccountSteps.{Begins, Closes, MakesOne, Meets, Stops, StopsAtEnd};
+ghost use Rattle.j39_listen.specs.AccountSteps.{Begins, Closes, LeavesWriter, MakesOne, Meets, Stops, StopsAtEnd};
 ghost use Rattle.j39_listen.specs.Output.{Output, Making, Meeting};
 ghost use Rattle.j39_listen.specs.declared.account.LineFault.TheVariants.{Memory, Write};
 ghost use Rattle.j39_listen.specs.Asking.{Wanting};
@@ -42,14 +43,12 @@ pub trait Account: Drop {
         ensures met { OnOk result ((subject : Subject)
             → Meets (has_met subject bus.now) self.old self.new (frame.now ∷ []) (W.held sink.old)
             (W.held sink.new)) }
-        ensures write { result ≡ Err Write → W.has_failed sink.new ≡ true }
+        ensures writer { LeavesWriter result (turn W.held W.has_failed sink.old sink.new) }
         ensures stops { result ≡ Err Write → (subject : Subject)
             → Stops (has_met subject bus.now) (makes subject bus.now) self.old (frame.now ∷ []) (W.held sink.old)
             (W.held sink.new) }
-        ensures memory { result ≡ Err Memory → W.held sink.new ≡ W.held sink.old }
         ensures asked { result ≡ Err Memory → (subject : Subject) (F : List FrameRecord) (output : Output)
-            → has_met subject bus.now self.old F output → asks subject F frame.now }
-        ensures unmarked { result ≢ Err Write → W.has_failed sink.new ≡ W.has_failed sink.old };
+            → has_met subject bus.now self.old F output → asks subject F frame.now };
 
     /// Writes what is left to be written at the end, and answers the numbers of the whole.
     fn close<W: Sink>(&mut self, sink: &mut W) -> Result<Made, DeviceFault>

@@ -1,6 +1,7 @@
 //! What a node sends on a bus, as an account of its frames (J1939-81, 4.2 and 4.5).
-ghost use Rattle.std.specs.Prelude.{◌≡◌, ◌≢◌, ◌<◌, ◌≤◌, ◌⊎◌, ◌++◌, ◌∷◌, ◌↔◌, [], ℕ, List, Option, Result, true, length, option_map, IfOk, IfSome, OnOk, OnErr, Ok, Err, None, Some};
+ghost use Rattle.std.specs.Prelude.{◌≡◌, ◌≢◌, ◌<◌, ◌≤◌, ◌++◌, ◌∷◌, ◌↔◌, [], ℕ, List, Option, Result, true, length, option_map, IfOk, OnOk, OnErr, Ok, Err, None, Some};
 ghost use Rattle.std.specs.Option.{option_to_list};
+ghost use Rattle.std.specs.Result.{result_map_both};
 ghost use Rattle.std.specs.Io.KnownBytes.{Appends};
 ghost use Rattle.j39_address.specs.Claimer.{IsNode};
 ghost use Rattle.j39_address.specs.Command.{command_by, commanded_of};
@@ -8,17 +9,19 @@ ghost use Rattle.j39_address.specs.Name.{name_raw};
 ghost use Rattle.j39_address.specs.Node.{Node, idle_node};
 ghost use Rattle.j39_frame.specs.Address.{global_address, null_address};
 ghost use Rattle.j39_device.specs.Device.{AppendsFront, Marks};
+ghost use Rattle.j39_device.specs.Turn.{turn};
 ghost use Rattle.j39_frame.specs.Frame.{FrameRecord};
 ghost use Rattle.j39_frame.specs.Identifier.{destination_of};
 ghost use Rattle.j39_frame.specs.Pgn.{pgn_raw};
 ghost use Rattle.j39_frame.specs.Stamp.{stamp_micros};
-ghost use Rattle.j39_listen.specs.Asking.{AsksForBoxes, AsksWithin};
+ghost use Rattle.j39_listen.specs.Asking.{AsksForBoxes};
 ghost use Rattle.j39_listen.specs.Answers.{calls_with, commands, sent_text};
 ghost use Rattle.j39_listen.specs.AnswerSteps.{HasAnswered, Notices, Obeys, all_sent, hears, starts};
 ghost use Rattle.j39_listen.specs.Listening.{Hears};
 ghost use Rattle.j39_listen.specs.Output.{MakesAnswers, nothing};
-ghost use Rattle.j39_listen.specs.Run.{StopsAtLimit, StopsWithin, TakesWithin, Writes};
-ghost use Rattle.j39_listen.specs.declared.running.RunFault.TheVariants.{Memory, Read, Write, TooLong};
+ghost use Rattle.j39_listen.specs.Ran.{PassesOn, Ran};
+ghost use Rattle.j39_listen.specs.declared.counts.Counts.{Counts};
+ghost use Rattle.j39_listen.specs.declared.running.RunFault.{RunFault};
 
 use crate::account::{Account, LineFault};
 use crate::counts::Made;
@@ -43,42 +46,19 @@ pub fn answer<R: Source, W: Sink>(
     preferred: u8,
     limit: u64,
 ) -> Result<Option<Counts>, RunFault>
-    // What is written is what the node sends with the frames of the log, and nothing else.
-    ensures answers { IfOk result (λ answered. IfSome answered (λ counts. IfSome (R.remaining source.old)
-        (λ log. Writes (MakesAnswers (idle_node (name_raw name) preferred)) bus log counts (W.held sink.old)
-        (W.held sink.new)))) }
+    // What the run promises, where a node may start with the address, is `Ran`: what is written is what the node sends
+    // with the frames of the log, and nothing else. Memory is wanted only at a frame of the log that announces a message.
+    ensures ran { preferred < null_address → (ended : Result Counts RunFault)
+        × (result ≡ result_map_both Some (λ fault. fault) ended)
+        × Ran (MakesAnswers (idle_node (name_raw name) preferred)) AsksForBoxes bus limit ended
+        (turn R.remaining R.has_failed source.old source.new) (turn W.held W.has_failed sink.old sink.new) }
+
+    // What was written is passed on at the end, and before each read.
+    ensures flushed { preferred < null_address → PassesOn result (W.is_flushed sink.old) (W.is_flushed sink.new) }
 
     // No node starts with an address above 253, and then nothing is read or written.
     ensures none { result ≡ Ok None ↔ null_address ≤ preferred }
     ensures untouched { null_address ≤ preferred → (source.new ≡ source.old) × (sink.new ≡ sink.old) }
-
-    // Each fault comes only where its device failed, or the log is longer than the limit.
-    ensures short { IfOk result (λ answered. IfSome answered
-        (λ _. IfSome (R.remaining source.old) (λ log. length log ≤ limit))) }
-    ensures too_long { result ≡ Err TooLong → IfSome (R.remaining source.old) (λ log. limit < length log) }
-    ensures read { result ≡ Err Read → R.has_failed source.new ≡ true }
-    ensures read_unmarked { result ≢ Err Read → R.has_failed source.new ≡ R.has_failed source.old }
-    ensures write { result ≡ Err Write → W.has_failed sink.new ≡ true }
-    ensures write_unmarked { result ≢ Err Write → W.has_failed sink.new ≡ W.has_failed sink.old }
-
-    // Memory is wanted only at a frame of the log that announces a message.
-    ensures memory { result ≡ Err Memory → AsksWithin AsksForBoxes bus (R.remaining source.old)
-        (R.remaining source.new) }
-
-    // The bytes that were taken pass the limit exactly where `TooLong` is answered, and those that pass it aren't handled.
-    ensures within { result ≢ Err TooLong → TakesWithin limit (R.remaining source.old) (R.remaining source.new) }
-    ensures at_limit { result ≡ Err TooLong
-        → StopsAtLimit (MakesAnswers (idle_node (name_raw name) preferred)) limit bus
-        (R.remaining source.old) (R.remaining source.new) (W.held sink.old) (W.held sink.new) }
-
-    // What was written is passed on at the end, and before each read.
-    ensures flushed { IfOk result (λ answered. IfSome answered (λ _. W.is_flushed sink.new ≡ true)) }
-    ensures flushed_at_reads { (result ≡ Err Read) ⊎ (result ≡ Err TooLong)
-        → W.is_flushed sink.old ≡ true → W.is_flushed sink.new ≡ true }
-
-    // What was written before a fault is a front of what is written for the bytes that were read.
-    ensures prefix { OnErr result (StopsWithin (MakesAnswers (idle_node (name_raw name) preferred)) bus
-        (R.remaining source.old) (R.remaining source.new) (W.held sink.old) (W.held sink.new)) }
 {
     let Some(claimer) = Claimer::new(name, preferred) else {
         return Ok(None);

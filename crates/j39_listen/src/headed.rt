@@ -1,12 +1,11 @@
 //! A run that writes a head before its lines, as the names of the columns.
-ghost use Rattle.std.specs.Prelude.{◌≡◌, ◌≢◌, ◌<◌, ◌≤◌, ◌⊎◌, true, length, IfOk, OnOk, OnErr, IfSome, Err};
+ghost use Rattle.std.specs.Prelude.{◌≡◌, true, OnOk, OnErr};
 ghost use Rattle.std.specs.Io.KnownBytes.{Appends};
 ghost use Rattle.j39_device.specs.Device.{AppendsFront, Marks};
-ghost use Rattle.j39_listen.specs.Asking.{AsksWithin};
+ghost use Rattle.j39_device.specs.Turn.{turn};
 ghost use Rattle.j39_listen.specs.Headed.{Headed};
 ghost use Rattle.j39_listen.specs.PieceSteps.{AtStart};
-ghost use Rattle.j39_listen.specs.Run.{StopsAtLimit, StopsWithin, TakesWithin, Writes, WritesFront};
-ghost use Rattle.j39_listen.specs.declared.running.RunFault.TheVariants.{Memory, Read, Write, TooLong};
+ghost use Rattle.j39_listen.specs.Ran.{Ended, PassesOn, Ran};
 
 use crate::Counts;
 use crate::account::Account;
@@ -24,27 +23,18 @@ pub fn run_headed<A: Account, R: Source, W: Sink>(
     bus: Option<Bus>,
     limit: u64,
 ) -> Result<Counts, RunFault>
-    ensures writes { IfOk result (λ counts. AtStart A.has_met account (λ subject. IfSome (R.remaining source.old)
-        (λ log. Writes (Headed head.now (A.makes subject)) bus log counts (W.held sink.old) (W.held sink.new)))) }
-    ensures short { OnOk result (IfSome (R.remaining source.old) (λ log. length log ≤ limit)) }
-    ensures too_long { result ≡ Err TooLong → IfSome (R.remaining source.old) (λ log. limit < length log) }
-    ensures read { result ≡ Err Read → R.has_failed source.new ≡ true }
-    ensures read_unmarked { result ≢ Err Read → R.has_failed source.new ≡ R.has_failed source.old }
-    ensures write { result ≡ Err Write → W.has_failed sink.new ≡ true }
-    ensures write_unmarked { result ≢ Err Write → W.has_failed sink.new ≡ W.has_failed sink.old }
-    ensures asked { result ≡ Err Memory
-        → AtStart A.has_met account (λ subject. AsksWithin (A.asks subject) bus (R.remaining source.old)
-        (R.remaining source.new)) }
-    ensures within { result ≢ Err TooLong → TakesWithin limit (R.remaining source.old) (R.remaining source.new) }
-    ensures at_limit { result ≡ Err TooLong
-        → AtStart A.has_met account (λ subject. StopsAtLimit (Headed head.now (A.makes subject)) limit bus
-        (R.remaining source.old) (R.remaining source.new) (W.held sink.old) (W.held sink.new)) }
-    ensures flushed { OnOk result (W.is_flushed sink.new ≡ true) }
-    ensures flushed_at_reads { (result ≡ Err Read) ⊎ (result ≡ Err TooLong) → W.is_flushed sink.new ≡ true }
-    ensures prefix { OnErr result (AtStart A.has_met account (λ subject. StopsWithin (Headed head.now (A.makes subject))
-        bus (R.remaining source.old) (R.remaining source.new) (W.held sink.old) (W.held sink.new))) }
-    ensures cut_short { result ≡ Err Write → AtStart A.has_met account (λ subject. IfSome (R.remaining source.old)
-        (λ log. WritesFront (Headed head.now (A.makes subject)) bus log (W.held sink.old) (W.held sink.new))) }
+    // It ended as every run does, whatever the account had met.
+    ensures ended { Ended limit result
+        (turn R.remaining R.has_failed source.old source.new) (turn W.held W.has_failed sink.old sink.new) }
+
+    // What the run promises is `Ran`: what is written is the head and what the account makes of the log's frames, and
+    // nothing else. Memory is wanted where the account asks for some.
+    ensures ran { AtStart A.has_met account (λ subject. Ran (Headed head.now (A.makes subject)) (A.asks subject) bus
+        limit result (turn R.remaining R.has_failed source.old source.new)
+        (turn W.held W.has_failed sink.old sink.new)) }
+
+    // What was written is passed on at the end, and before each read, the head before the first.
+    ensures flushed { PassesOn result true (W.is_flushed sink.new) }
 {
     match put_head(head, sink) {
         Ok(()) => run_over(account, source, sink, bus, limit),

@@ -1,8 +1,10 @@
 //! A run, line by line.
-ghost use Rattle.std.specs.Prelude.{◌≡◌, ◌≢◌, ℕ, List, Some, true, IfOk, OnOk, Err, unwrap_or};
+ghost use Rattle.std.specs.Prelude.{◌≡◌, ℕ, List, Some, IfOk, OnOk, Err, unwrap_or};
+ghost use Rattle.j39_device.specs.Turn.{turn};
 ghost use Rattle.j39_log.specs.Bus.{IsBusName};
 ghost use Rattle.j39_log.specs.LineRead.{spelled_of};
 ghost use Rattle.j39_log.specs.Spelled.{frame as spelled_frame};
+ghost use Rattle.j39_listen.specs.AccountSteps.{LeavesWriter};
 ghost use Rattle.j39_listen.specs.AskSteps.{AsksLine};
 ghost use Rattle.j39_listen.specs.LineSteps.{IsSpelling, MeetsLine, StopsLine, met_tally};
 ghost use Rattle.j39_listen.specs.PieceSteps.{ReadsLine, StopsAt};
@@ -31,12 +33,10 @@ impl<A: Account> Lines<A> {
         ensures read { OnOk result ((subject : A.Subject) → IsSpelling (spelled_of line.entry)
             → ReadsLine (A.has_met subject) (spelled_of line.entry) self.old self.new (W.held sink.old)
             (W.held sink.new)) }
-        ensures write { result ≡ Err Write → W.has_failed sink.new ≡ true }
+        ensures writer { LeavesWriter result (turn W.held W.has_failed sink.old sink.new) }
         ensures stops { result ≡ Err Write → (subject : A.Subject) → IsSpelling (spelled_of line.entry)
             → StopsAt (A.has_met subject) (A.makes subject) (spelled_of line.entry) self.old (W.held sink.old)
             (W.held sink.new) }
-        ensures memory { result ≡ Err Memory → W.held sink.new ≡ W.held sink.old }
-        ensures unmarked { result ≢ Err Write → W.has_failed sink.new ≡ W.has_failed sink.old }
         ensures asked { result ≡ Err Memory → (subject : A.Subject) → IsSpelling (spelled_of line.entry)
             → AsksLine (A.has_met subject) (A.asks subject) (spelled_of line.entry) self.old.bus self.old.account }
     {
@@ -55,12 +55,10 @@ impl<A: Account> Lines<A> {
         ensures read { OnOk result ((subject : A.Subject) (name : List ℕ) → self.old.bus ≡ Some name
             → ReadsLine (A.has_met subject) (spelled_frame name frame.now) self.old self.new (W.held sink.old)
             (W.held sink.new)) }
-        ensures write { result ≡ Err Write → W.has_failed sink.new ≡ true }
+        ensures writer { LeavesWriter result (turn W.held W.has_failed sink.old sink.new) }
         ensures stops { result ≡ Err Write → (subject : A.Subject) (name : List ℕ) → self.old.bus ≡ Some name
             → StopsAt (A.has_met subject) (A.makes subject) (spelled_frame name frame.now) self.old
             (W.held sink.old) (W.held sink.new) }
-        ensures memory { result ≡ Err Memory → W.held sink.new ≡ W.held sink.old }
-        ensures unmarked { result ≢ Err Write → W.has_failed sink.new ≡ W.has_failed sink.old }
         ensures asked { result ≡ Err Memory → (subject : A.Subject) (name : List ℕ) → self.old.bus ≡ Some name
             → AsksLine (A.has_met subject) (A.asks subject) (spelled_frame name frame.now) self.old.bus
             self.old.account }
@@ -88,12 +86,10 @@ fn meet<A: Account, W: Sink>(
     ensures met { IfOk result (λ met. (subject : A.Subject) → IsSpelling (spelled_of line.entry)
         → MeetsLine (A.has_met subject) (spelled_of line.entry) bus.old bus.new account.old account.new
         (met_tally met) (W.held sink.old) (W.held sink.new)) }
-    ensures write { result ≡ Err Write → W.has_failed sink.new ≡ true }
+    ensures writer { LeavesWriter result (turn W.held W.has_failed sink.old sink.new) }
     ensures stops { result ≡ Err Write → (subject : A.Subject) → IsSpelling (spelled_of line.entry)
         → StopsLine (A.has_met subject) (A.makes subject) (spelled_of line.entry) bus.old account.old
         (W.held sink.old) (W.held sink.new) }
-    ensures memory { result ≡ Err Memory → W.held sink.new ≡ W.held sink.old }
-    ensures unmarked { result ≢ Err Write → W.has_failed sink.new ≡ W.has_failed sink.old }
     ensures asked { result ≡ Err Memory → (subject : A.Subject) → IsSpelling (spelled_of line.entry)
         → AsksLine (A.has_met subject) (A.asks subject) (spelled_of line.entry) bus.old account.old }
 {

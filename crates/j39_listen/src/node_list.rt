@@ -1,8 +1,9 @@
 //! Who holds which address, as an account of the frames of a bus (J1939-81, 4.2).
-ghost use Rattle.std.specs.Prelude.{◌≡◌, ◌≢◌, ◌+◌, ◌<◌, ◌≤◌, ◌⊎◌, ◌++◌, ◌∷◌, [], ℕ, List, true, IfOk, IfSome, OnOk, OnErr, Err, Some, length};
+ghost use Rattle.std.specs.Prelude.{◌≡◌, ◌≢◌, ◌+◌, ◌<◌, ◌≤◌, ◌++◌, ◌∷◌, [], List, true, IfOk, OnOk, OnErr, Err, Some, length};
 ghost use Rattle.std.specs.Io.KnownBytes.{Appends};
 ghost use Rattle.j39_address.specs.Name.{name_raw};
 ghost use Rattle.j39_device.specs.Device.{AppendsFront, Marks};
+ghost use Rattle.j39_device.specs.Turn.{turn};
 ghost use Rattle.j39_frame.specs.Frame.{FrameRecord};
 ghost use Rattle.j39_address.specs.Claims.{Knows, holder_in};
 ghost use Rattle.j39_listen.specs.NodeSteps.{HasNoted};
@@ -11,8 +12,9 @@ ghost use Rattle.j39_listen.specs.Headed.{MakesNodeRecords};
 ghost use Rattle.j39_listen.specs.Output.{MakesNodes, nodes_of};
 ghost use Rattle.j39_listen.specs.Report.{name_text};
 ghost use Rattle.hex.specs.Hex.{encode_upper};
-ghost use Rattle.j39_listen.specs.Run.{StopsAtLimit, StopsWithin, TakesWithin, Writes, WritesFront};
-ghost use Rattle.j39_listen.specs.declared.running.RunFault.TheVariants.{Memory, Read, Write, TooLong};
+ghost use Rattle.j39_listen.specs.Asking.{AsksNowhere};
+ghost use Rattle.j39_listen.specs.Ran.{PassesOn, Ran};
+ghost use Rattle.j39_listen.specs.declared.running.RunFault.TheVariants.{Memory};
 
 use crate::Counts;
 use crate::account::{Account, LineFault};
@@ -36,36 +38,14 @@ pub fn nodes<R: Source, W: Sink>(
     bus: Option<Bus>,
     limit: u64,
 ) -> Result<Counts, RunFault>
-    // What is written is who holds an address after the frames of the log, and nothing else.
-    ensures nodes { IfOk result (λ counts. IfSome (R.remaining source.old)
-        (λ log. Writes MakesNodes bus log counts (W.held sink.old) (W.held sink.new))) }
-
-    // Each fault comes only where its device failed, or the log is longer than the limit.
-    ensures short { OnOk result (IfSome (R.remaining source.old) (λ log. length log ≤ limit)) }
-    ensures too_long { result ≡ Err TooLong → IfSome (R.remaining source.old) (λ log. limit < length log) }
-    ensures read { result ≡ Err Read → R.has_failed source.new ≡ true }
-    ensures read_unmarked { result ≢ Err Read → R.has_failed source.new ≡ R.has_failed source.old }
+    // What the run promises is `Ran`: what is written is who holds an address after the frames of the log, and nothing
+    // else. Memory is wanted nowhere.
+    ensures ran { Ran MakesNodes AsksNowhere bus limit result
+        (turn R.remaining R.has_failed source.old source.new) (turn W.held W.has_failed sink.old sink.new) }
     ensures memory { result ≢ Err Memory }
-    ensures write { result ≡ Err Write → W.has_failed sink.new ≡ true }
-    ensures write_unmarked { result ≢ Err Write → W.has_failed sink.new ≡ W.has_failed sink.old }
-
-    // The bytes that were taken pass the limit exactly where `TooLong` is answered, and those that pass it aren't handled.
-    ensures within { result ≢ Err TooLong → TakesWithin limit (R.remaining source.old) (R.remaining source.new) }
-    ensures at_limit { result ≡ Err TooLong → StopsAtLimit MakesNodes limit bus
-        (R.remaining source.old) (R.remaining source.new) (W.held sink.old) (W.held sink.new) }
 
     // What was written is passed on at the end, and before each read.
-    ensures flushed { OnOk result (W.is_flushed sink.new ≡ true) }
-    ensures flushed_at_reads { (result ≡ Err Read) ⊎ (result ≡ Err TooLong)
-        → W.is_flushed sink.old ≡ true → W.is_flushed sink.new ≡ true }
-
-    // What was written before a fault of the writer is a front of what is written for the whole log.
-    ensures cut_short { result ≡ Err Write → IfSome (R.remaining source.old)
-        (λ log. WritesFront MakesNodes bus log (W.held sink.old) (W.held sink.new)) }
-
-    // What was written before a fault is a front of what is written for the bytes that were read.
-    ensures prefix { OnErr result (StopsWithin MakesNodes bus (R.remaining source.old) (R.remaining source.new)
-        (W.held sink.old) (W.held sink.new)) }
+    ensures flushed { PassesOn result (W.is_flushed sink.old) (W.is_flushed sink.new) }
 {
     run_over(NodeList::new(NodeForm::Line), source, sink, bus, limit)
 }
@@ -78,36 +58,14 @@ pub fn nodes_csv<R: Source, W: Sink>(
     bus: Option<Bus>,
     limit: u64,
 ) -> Result<Counts, RunFault>
-    // What is written is the names of the columns and who holds an address after the frames of the log, and nothing else.
-    ensures nodes { IfOk result (λ counts. IfSome (R.remaining source.old)
-        (λ log. Writes MakesNodeRecords bus log counts (W.held sink.old) (W.held sink.new))) }
-
-    // Each fault comes only where its device failed, or the log is longer than the limit.
-    ensures short { OnOk result (IfSome (R.remaining source.old) (λ log. length log ≤ limit)) }
-    ensures too_long { result ≡ Err TooLong → IfSome (R.remaining source.old) (λ log. limit < length log) }
-    ensures read { result ≡ Err Read → R.has_failed source.new ≡ true }
-    ensures read_unmarked { result ≢ Err Read → R.has_failed source.new ≡ R.has_failed source.old }
+    // What the run promises is `Ran`: what is written is the names of the columns and who holds an address after the
+    // frames of the log, and nothing else. Memory is wanted nowhere.
+    ensures ran { Ran MakesNodeRecords AsksNowhere bus limit result
+        (turn R.remaining R.has_failed source.old source.new) (turn W.held W.has_failed sink.old sink.new) }
     ensures memory { result ≢ Err Memory }
-    ensures write { result ≡ Err Write → W.has_failed sink.new ≡ true }
-    ensures write_unmarked { result ≢ Err Write → W.has_failed sink.new ≡ W.has_failed sink.old }
 
-    // The bytes that were taken pass the limit exactly where `TooLong` is answered, and those that pass it aren't handled.
-    ensures within { result ≢ Err TooLong → TakesWithin limit (R.remaining source.old) (R.remaining source.new) }
-    ensures at_limit { result ≡ Err TooLong → StopsAtLimit MakesNodeRecords limit bus
-        (R.remaining source.old) (R.remaining source.new) (W.held sink.old) (W.held sink.new) }
-
-    // What was written is passed on at the end, and before each read.
-    ensures flushed { OnOk result (W.is_flushed sink.new ≡ true) }
-    ensures flushed_at_reads { (result ≡ Err Read) ⊎ (result ≡ Err TooLong)
-        → W.is_flushed sink.new ≡ true }
-
-    // What was written before a fault of the writer is a front of what is written for the whole log.
-    ensures cut_short { result ≡ Err Write → IfSome (R.remaining source.old)
-        (λ log. WritesFront MakesNodeRecords bus log (W.held sink.old) (W.held sink.new)) }
-
-    // What was written before a fault is a front of what is written for the bytes that were read.
-    ensures prefix { OnErr result (StopsWithin MakesNodeRecords bus (R.remaining source.old) (R.remaining source.new)
-        (W.held sink.old) (W.held sink.new)) }
+    // What was written is passed on at the end, and before each read, the names of the columns before the first.
+    ensures flushed { PassesOn result true (W.is_flushed sink.new) }
 {
     run_headed(
         COLUMNS,

@@ -1,8 +1,10 @@
 //! A run over pieces of a log.
 ghost use Rattle.std.specs.Prelude.{◌≡◌, ◌≢◌, ◌<◌, ◌≤◌, ◌++◌, ℕ, List, [], Option, true, OnOk, OnErr, IfOk, Err, length};
 ghost use Rattle.j39_device.specs.Device.{Marks};
+ghost use Rattle.j39_device.specs.Turn.{turn};
 ghost use Rattle.j39_log.specs.Spelled.{Spelled};
 ghost use Rattle.j39_log.specs.Splitter.{HasBegun, IsRawLine};
+ghost use Rattle.j39_listen.specs.AccountSteps.{LeavesWriter};
 ghost use Rattle.j39_listen.specs.Asking.{AsksAmong};
 ghost use Rattle.j39_listen.specs.AskSteps.{AsksAs, AsksIn, AsksLast};
 ghost use Rattle.j39_listen.specs.PieceSteps.{AtStart, Behind, HasMetAll, HasTaken, ReadsAs, ReadsLast, StepsOver};
@@ -131,12 +133,10 @@ fn take_line<A: Account, W: Sink>(
     ensures steps { IfOk result (λ n. (subject : A.Subject) (begun : List ℕ) → HasBegun splitter.old begun
         → StepsOver (A.has_met subject) begun bytes.now n splitter.new lines.old lines.new
         (W.held sink.old) (W.held sink.new)) }
-    ensures write { result ≡ Err Write → W.has_failed sink.new ≡ true }
+    ensures writer { LeavesWriter result (turn W.held W.has_failed sink.old sink.new) }
     ensures stops { result ≡ Err Write → (subject : A.Subject) (begun : List ℕ) → HasBegun splitter.old begun
         → StopsIn (A.has_met subject) (A.makes subject) begun bytes.now lines.old (W.held sink.old)
         (W.held sink.new) }
-    ensures memory { result ≡ Err Memory → W.held sink.new ≡ W.held sink.old }
-    ensures unmarked { result ≢ Err Write → W.has_failed sink.new ≡ W.has_failed sink.old }
     ensures asked { result ≡ Err Memory → (subject : A.Subject) (begun : List ℕ) → HasBegun splitter.old begun
         → AsksIn (A.has_met subject) (A.asks subject) begun bytes.now lines.old }
 {
@@ -165,11 +165,9 @@ fn read_line<A: Account, W: Sink>(
 ) -> Result<(), LineFault>
     ensures read { OnOk result ((subject : A.Subject) (line : List ℕ) → IsRawLine raw.entry line
         → ReadsAs (A.has_met subject) line lines.old lines.new (W.held sink.old) (W.held sink.new)) }
-    ensures write { result ≡ Err Write → W.has_failed sink.new ≡ true }
+    ensures writer { LeavesWriter result (turn W.held W.has_failed sink.old sink.new) }
     ensures stops { result ≡ Err Write → (subject : A.Subject) (line : List ℕ) → IsRawLine raw.entry line
         → StopsAs (A.has_met subject) (A.makes subject) line lines.old (W.held sink.old) (W.held sink.new) }
-    ensures memory { result ≡ Err Memory → W.held sink.new ≡ W.held sink.old }
-    ensures unmarked { result ≢ Err Write → W.has_failed sink.new ≡ W.has_failed sink.old }
     ensures asked { result ≡ Err Memory → (subject : A.Subject) (line : List ℕ) → IsRawLine raw.entry line
         → AsksAs (A.has_met subject) (A.asks subject) line lines.old }
 {
@@ -184,11 +182,9 @@ fn take_last<A: Account, W: Sink>(
 ) -> Result<(), LineFault>
     ensures reads { OnOk result ((subject : A.Subject) (begun : List ℕ) → HasBegun splitter.old begun
         → ReadsLast (A.has_met subject) begun lines.old lines.new (W.held sink.old) (W.held sink.new)) }
-    ensures write { result ≡ Err Write → W.has_failed sink.new ≡ true }
+    ensures writer { LeavesWriter result (turn W.held W.has_failed sink.old sink.new) }
     ensures stops { result ≡ Err Write → (subject : A.Subject) (begun : List ℕ) → HasBegun splitter.old begun
         → StopsLast (A.has_met subject) (A.makes subject) begun lines.old (W.held sink.old) (W.held sink.new) }
-    ensures memory { result ≡ Err Memory → W.held sink.new ≡ W.held sink.old }
-    ensures unmarked { result ≢ Err Write → W.has_failed sink.new ≡ W.has_failed sink.old }
     ensures asked { result ≡ Err Memory → (subject : A.Subject) (begun : List ℕ) → HasBegun splitter.old begun
         → AsksLast (A.has_met subject) (A.asks subject) begun lines.old }
 {

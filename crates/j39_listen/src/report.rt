@@ -1,18 +1,20 @@
 //! The report of what is heard on a bus: the runs that write it, and the account of frames that they write.
-ghost use Rattle.std.specs.Prelude.{◌≡◌, ◌≢◌, ◌<◌, ◌≤◌, ◌⊎◌, [], List, true, length};
+ghost use Rattle.std.specs.Prelude.{◌≡◌, ◌<◌, [], List, true};
 ghost use Rattle.std.specs.Prelude.{IfOk, IfSome, OnOk, OnErr, Err, Some};
 ghost use Rattle.j39_device.specs.Device.{Marks};
+ghost use Rattle.j39_device.specs.Turn.{turn};
 ghost use Rattle.j39_frame.specs.Frame.{FrameRecord};
 ghost use Rattle.j39_frame.specs.Identifier.{pgn_of, source_of};
 ghost use Rattle.j39_groups.specs.Readings.{is_reported_in};
 ghost use Rattle.j39_groups.specs.Table.{the_table};
-ghost use Rattle.j39_listen.specs.Asking.{AsksForBoxes, AsksWithin};
+ghost use Rattle.j39_listen.specs.AccountSteps.{LeavesWriter};
+ghost use Rattle.j39_listen.specs.Asking.{AsksForBoxes};
 ghost use Rattle.j39_listen.specs.Listening.{Hears};
 ghost use Rattle.j39_listen.specs.Output.{MakesReport, report_of};
 ghost use Rattle.j39_listen.specs.ReportSteps.{HasReported, MeetsFrame, StopsFrame, made_by};
-ghost use Rattle.j39_listen.specs.Run.{StopsAtLimit, StopsWithin, TakesWithin, Writes, WritesFront, WritesPublished};
+ghost use Rattle.j39_listen.specs.Ran.{PassesOn, Ran};
+ghost use Rattle.j39_listen.specs.Run.{WritesPublished};
 ghost use Rattle.j39_listen.specs.declared.account.LineFault.TheVariants as line_fault;
-ghost use Rattle.j39_listen.specs.declared.running.RunFault.TheVariants.{Memory, Read, Write, TooLong};
 
 use crate::account::{Account, LineFault};
 use crate::counts::Made;
@@ -35,44 +37,18 @@ pub fn run<R: Source, W: Sink>(
     bus: Option<Bus>,
     limit: u64,
 ) -> Result<Counts, RunFault>
-    // The report promise: what is written is the report of the log, and nothing else.
-    ensures report { IfOk result (λ counts. IfSome (R.remaining source.old)
-        (λ log. Writes (MakesReport the_table) bus log counts (W.held sink.old) (W.held sink.new))) }
+    // What the run promises is `Ran`. The report promise: what is written is the report of the log, and nothing else.
+    // Memory is wanted only at a frame of the log that announces a message.
+    ensures ran { Ran (MakesReport the_table) AsksForBoxes bus limit result
+        (turn R.remaining R.has_failed source.old source.new) (turn W.held W.has_failed sink.old sink.new) }
 
     // The headline: of what publishers sent, its lines under their addresses are exactly the values
     // published, but for the messages that lost a packet.
     ensures published { OnOk result (IfSome (R.remaining source.old)
         (λ log. WritesPublished the_table bus log (W.held sink.old) (W.held sink.new))) }
 
-    // Each fault comes only where its device failed, or the log is longer than the limit.
-    ensures short { OnOk result (IfSome (R.remaining source.old) (λ log. length log ≤ limit)) }
-    ensures too_long { result ≡ Err TooLong → IfSome (R.remaining source.old) (λ log. limit < length log) }
-    ensures read { result ≡ Err Read → R.has_failed source.new ≡ true }
-    ensures read_unmarked { result ≢ Err Read → R.has_failed source.new ≡ R.has_failed source.old }
-    ensures write { result ≡ Err Write → W.has_failed sink.new ≡ true }
-    ensures write_unmarked { result ≢ Err Write → W.has_failed sink.new ≡ W.has_failed sink.old }
-
-    // Memory is wanted only at a frame of the log that announces a message.
-    ensures memory { result ≡ Err Memory
-        → AsksWithin AsksForBoxes bus (R.remaining source.old) (R.remaining source.new) }
-
-    // The bytes that were taken pass the limit exactly where `TooLong` is answered, and those that pass it aren't handled.
-    ensures within { result ≢ Err TooLong → TakesWithin limit (R.remaining source.old) (R.remaining source.new) }
-    ensures at_limit { result ≡ Err TooLong → StopsAtLimit (MakesReport the_table) limit bus
-        (R.remaining source.old) (R.remaining source.new) (W.held sink.old) (W.held sink.new) }
-
     // What was written is passed on at the end, and before each read.
-    ensures flushed { OnOk result (W.is_flushed sink.new ≡ true) }
-    ensures flushed_at_reads { (result ≡ Err Read) ⊎ (result ≡ Err TooLong)
-        → W.is_flushed sink.old ≡ true → W.is_flushed sink.new ≡ true }
-
-    // What was written before a fault of the writer is a front of the report of the whole log.
-    ensures cut_short { result ≡ Err Write → IfSome (R.remaining source.old)
-        (λ log. WritesFront (MakesReport the_table) bus log (W.held sink.old) (W.held sink.new)) }
-
-    // What was written before a fault is a front of the report of the bytes that were read.
-    ensures prefix { OnErr result (StopsWithin (MakesReport the_table) bus
-        (R.remaining source.old) (R.remaining source.new) (W.held sink.old) (W.held sink.new)) }
+    ensures flushed { PassesOn result (W.is_flushed sink.old) (W.is_flushed sink.new) }
 {
     let groups = Groups::built_in();
     // Named, so that its proof is one whether a table that was read would own memory or not.
@@ -90,44 +66,18 @@ pub fn run_with<R: Source, W: Sink>(
     bus: Option<Bus>,
     limit: u64,
 ) -> Result<Counts, RunFault>
-    // The report promise: what is written is the report of the log, and nothing else.
-    ensures report { IfOk result (λ counts. IfSome (R.remaining source.old)
-        (λ log. Writes (MakesReport groups.now) bus log counts (W.held sink.old) (W.held sink.new))) }
+    // What the run promises is `Ran`. The report promise: what is written is the report of the log, and nothing else.
+    // Memory is wanted only at a frame of the log that announces a message.
+    ensures ran { Ran (MakesReport groups.now) AsksForBoxes bus limit result
+        (turn R.remaining R.has_failed source.old source.new) (turn W.held W.has_failed sink.old sink.new) }
 
     // The headline: of what publishers sent, its lines under their addresses are exactly the values
     // published, but for the messages that lost a packet.
     ensures published { OnOk result (IfSome (R.remaining source.old)
         (λ log. WritesPublished groups.now bus log (W.held sink.old) (W.held sink.new))) }
 
-    // Each fault comes only where its device failed, or the log is longer than the limit.
-    ensures short { OnOk result (IfSome (R.remaining source.old) (λ log. length log ≤ limit)) }
-    ensures too_long { result ≡ Err TooLong → IfSome (R.remaining source.old) (λ log. limit < length log) }
-    ensures read { result ≡ Err Read → R.has_failed source.new ≡ true }
-    ensures read_unmarked { result ≢ Err Read → R.has_failed source.new ≡ R.has_failed source.old }
-    ensures write { result ≡ Err Write → W.has_failed sink.new ≡ true }
-    ensures write_unmarked { result ≢ Err Write → W.has_failed sink.new ≡ W.has_failed sink.old }
-
-    // Memory is wanted only at a frame of the log that announces a message.
-    ensures memory { result ≡ Err Memory
-        → AsksWithin AsksForBoxes bus (R.remaining source.old) (R.remaining source.new) }
-
-    // The bytes that were taken pass the limit exactly where `TooLong` is answered, and those that pass it aren't handled.
-    ensures within { result ≢ Err TooLong → TakesWithin limit (R.remaining source.old) (R.remaining source.new) }
-    ensures at_limit { result ≡ Err TooLong → StopsAtLimit (MakesReport groups.now) limit bus
-        (R.remaining source.old) (R.remaining source.new) (W.held sink.old) (W.held sink.new) }
-
     // What was written is passed on at the end, and before each read.
-    ensures flushed { OnOk result (W.is_flushed sink.new ≡ true) }
-    ensures flushed_at_reads { (result ≡ Err Read) ⊎ (result ≡ Err TooLong)
-        → W.is_flushed sink.old ≡ true → W.is_flushed sink.new ≡ true }
-
-    // What was written before a fault of the writer is a front of the report of the whole log.
-    ensures cut_short { result ≡ Err Write → IfSome (R.remaining source.old)
-        (λ log. WritesFront (MakesReport groups.now) bus log (W.held sink.old) (W.held sink.new)) }
-
-    // What was written before a fault is a front of the report of the bytes that were read.
-    ensures prefix { OnErr result (StopsWithin (MakesReport groups.now) bus
-        (R.remaining source.old) (R.remaining source.new) (W.held sink.old) (W.held sink.new)) }
+    ensures flushed { PassesOn result (W.is_flushed sink.old) (W.is_flushed sink.new) }
 {
     run_over(Report::new(alloc, groups), source, sink, bus, limit)
 }
@@ -211,13 +161,11 @@ fn put_frame<W: Sink>(
 ) -> Result<Option<u64>, LineFault>
     ensures met { IfOk result (λ lines. (F : List FrameRecord) → Hears listener.old F
         → MeetsFrame groups.now listener.new F frame.now (made_by lines) (W.held sink.old) (W.held sink.new)) }
-    ensures write { result ≡ Err line_fault.Write → W.has_failed sink.new ≡ true }
+    ensures writer { LeavesWriter result (turn W.held W.has_failed sink.old sink.new) }
     ensures stops { result ≡ Err line_fault.Write → (F : List FrameRecord) → Hears listener.old F
         → StopsFrame groups.now F frame.now (W.held sink.old) (W.held sink.new) }
-    ensures memory { result ≡ Err line_fault.Memory → W.held sink.new ≡ W.held sink.old }
     ensures asked { result ≡ Err line_fault.Memory → (F : List FrameRecord) → Hears listener.old F
         → AsksForBoxes F frame.now }
-    ensures unmarked { result ≢ Err line_fault.Write → W.has_failed sink.new ≡ W.has_failed sink.old }
 {
     let pgn = frame.id.pgn();
     if groups.is_reported(pgn) {
@@ -270,13 +218,11 @@ fn put_part<W: Sink>(
 ) -> Result<Option<u64>, LineFault>
     ensures met { IfOk result (λ lines. (F : List FrameRecord) → Hears listener.old F
         → MeetsFrame groups.now listener.new F frame.now (made_by lines) (W.held sink.old) (W.held sink.new)) }
-    ensures write { result ≡ Err line_fault.Write → W.has_failed sink.new ≡ true }
+    ensures writer { LeavesWriter result (turn W.held W.has_failed sink.old sink.new) }
     ensures stops { result ≡ Err line_fault.Write → (F : List FrameRecord) → Hears listener.old F
         → StopsFrame groups.now F frame.now (W.held sink.old) (W.held sink.new) }
-    ensures memory { result ≡ Err line_fault.Memory → W.held sink.new ≡ W.held sink.old }
     ensures asked { result ≡ Err line_fault.Memory → (F : List FrameRecord) → Hears listener.old F
         → AsksForBoxes F frame.now }
-    ensures unmarked { result ≢ Err line_fault.Write → W.has_failed sink.new ≡ W.has_failed sink.old }
 {
     match listener.feed_with(groups, frame) {
         Err(AllocError) => Err(LineFault::Memory),

@@ -1,8 +1,10 @@
 //! A run over a log, piece by piece, whatever account of it is written.
-ghost use Rattle.std.specs.Prelude.{◌≡◌, ◌≢◌, ◌<◌, ◌≤◌, ◌⊎◌, ◌++◌, true, length, IfOk, OnOk, OnErr, IfSome, Err};
-ghost use Rattle.j39_listen.specs.Asking.{AsksAmong, AsksWithin};
+ghost use Rattle.std.specs.Prelude.{◌≡◌, ◌≢◌, ◌<◌, ◌++◌, true, IfOk, OnOk, OnErr, Err};
+ghost use Rattle.j39_device.specs.Turn.{turn};
+ghost use Rattle.j39_listen.specs.Asking.{AsksAmong};
 ghost use Rattle.j39_listen.specs.PieceSteps.{AtNothing, AtStart, Behind, HasTaken};
-ghost use Rattle.j39_listen.specs.Run.{StopsAtLimit, StopsWithin, TakesWithin, Writes, WritesFront, WritesFrontOfMore};
+ghost use Rattle.j39_listen.specs.Ran.{Ended, PassesOn, Ran};
+ghost use Rattle.j39_listen.specs.Run.{Writes, WritesFront, WritesFrontOfMore};
 ghost use Rattle.j39_listen.specs.declared.running.RunFault.TheVariants.{Memory, Read, Write, TooLong};
 
 use crate::Counts;
@@ -64,28 +66,17 @@ pub fn run_over<A: Account, R: Source, W: Sink>(
     bus: Option<Bus>,
     limit: u64,
 ) -> Result<Counts, RunFault>
-    ensures writes { IfOk result (λ counts. AtStart A.has_met account (λ subject. IfSome (R.remaining source.old)
-        (λ log. Writes (A.makes subject) bus log counts (W.held sink.old) (W.held sink.new)))) }
-    ensures short { OnOk result (IfSome (R.remaining source.old) (λ log. length log ≤ limit)) }
-    ensures too_long { result ≡ Err TooLong → IfSome (R.remaining source.old) (λ log. limit < length log) }
-    ensures read { result ≡ Err Read → R.has_failed source.new ≡ true }
-    ensures read_unmarked { result ≢ Err Read → R.has_failed source.new ≡ R.has_failed source.old }
-    ensures write { result ≡ Err Write → W.has_failed sink.new ≡ true }
-    ensures write_unmarked { result ≢ Err Write → W.has_failed sink.new ≡ W.has_failed sink.old }
-    ensures asked { result ≡ Err Memory
-        → AtStart A.has_met account (λ subject. AsksWithin (A.asks subject) bus (R.remaining source.old)
-        (R.remaining source.new)) }
-    ensures within { result ≢ Err TooLong → TakesWithin limit (R.remaining source.old) (R.remaining source.new) }
-    ensures at_limit { result ≡ Err TooLong
-        → AtStart A.has_met account (λ subject. StopsAtLimit (A.makes subject) limit bus
-        (R.remaining source.old) (R.remaining source.new) (W.held sink.old) (W.held sink.new)) }
-    ensures flushed { OnOk result (W.is_flushed sink.new ≡ true) }
-    ensures flushed_at_reads { (result ≡ Err Read) ⊎ (result ≡ Err TooLong)
-        → W.is_flushed sink.old ≡ true → W.is_flushed sink.new ≡ true }
-    ensures prefix { OnErr result (AtStart A.has_met account (λ subject. StopsWithin (A.makes subject) bus
-        (R.remaining source.old) (R.remaining source.new) (W.held sink.old) (W.held sink.new))) }
-    ensures cut_short { result ≡ Err Write → AtStart A.has_met account (λ subject. IfSome (R.remaining source.old)
-        (λ log. WritesFront (A.makes subject) bus log (W.held sink.old) (W.held sink.new))) }
+    // It ended as every run does, whatever the account had met.
+    ensures ended { Ended limit result
+        (turn R.remaining R.has_failed source.old source.new) (turn W.held W.has_failed sink.old sink.new) }
+
+    // What the run promises is `Ran`: what is written is what the account makes of the log's frames, and nothing else.
+    // Memory is wanted where the account asks for some.
+    ensures ran { AtStart A.has_met account (λ subject. Ran (A.makes subject) (A.asks subject) bus limit result
+        (turn R.remaining R.has_failed source.old source.new) (turn W.held W.has_failed sink.old sink.new)) }
+
+    // What was written is passed on at the end, and before each read.
+    ensures flushed { PassesOn result (W.is_flushed sink.old) (W.is_flushed sink.new) }
 {
     let mut pieces = Pieces::new(account, bus);
     read_pieces(&mut pieces, source, sink, limit)
@@ -98,30 +89,12 @@ fn read_pieces<A: Account, R: Source, W: Sink>(
     sink: &mut W,
     limit: u64,
 ) -> Result<Counts, RunFault>
-    ensures report { IfOk result (λ counts. AtNothing A.has_met pieces.old (W.held sink.old)
-        (λ subject given. IfSome (R.remaining source.old)
-        (λ log. Writes (A.makes subject) given log counts (W.held sink.old) (W.held sink.new)))) }
-    ensures short { OnOk result (IfSome (R.remaining source.old) (λ log. length log ≤ limit)) }
-    ensures too_long { result ≡ Err TooLong → IfSome (R.remaining source.old) (λ log. limit < length log) }
-    ensures read { result ≡ Err Read → R.has_failed source.new ≡ true }
-    ensures read_unmarked { result ≢ Err Read → R.has_failed source.new ≡ R.has_failed source.old }
-    ensures write { result ≡ Err Write → W.has_failed sink.new ≡ true }
-    ensures write_unmarked { result ≢ Err Write → W.has_failed sink.new ≡ W.has_failed sink.old }
-    ensures asked { result ≡ Err Memory → AtNothing A.has_met pieces.old (W.held sink.old)
-        (λ subject given. AsksWithin (A.asks subject) given (R.remaining source.old) (R.remaining source.new)) }
-    ensures within { result ≢ Err TooLong → TakesWithin limit (R.remaining source.old) (R.remaining source.new) }
-    ensures at_limit { result ≡ Err TooLong → AtNothing A.has_met pieces.old (W.held sink.old)
-        (λ subject given. StopsAtLimit (A.makes subject) limit given
-        (R.remaining source.old) (R.remaining source.new) (W.held sink.old) (W.held sink.new)) }
-    ensures flushed { OnOk result (W.is_flushed sink.new ≡ true) }
-    ensures flushed_at_reads { (result ≡ Err Read) ⊎ (result ≡ Err TooLong)
-        → W.is_flushed sink.old ≡ true → W.is_flushed sink.new ≡ true }
-    ensures prefix { OnErr result (AtNothing A.has_met pieces.old (W.held sink.old)
-        (λ subject given. StopsWithin (A.makes subject) given
-        (R.remaining source.old) (R.remaining source.new) (W.held sink.old) (W.held sink.new))) }
-    ensures cut_short { result ≡ Err Write → AtNothing A.has_met pieces.old (W.held sink.old)
-        (λ subject given. IfSome (R.remaining source.old)
-        (λ log. WritesFront (A.makes subject) given log (W.held sink.old) (W.held sink.new))) }
+    ensures ended { Ended limit result
+        (turn R.remaining R.has_failed source.old source.new) (turn W.held W.has_failed sink.old sink.new) }
+    ensures ran { AtNothing A.has_met pieces.old (W.held sink.old)
+        (λ subject given. Ran (A.makes subject) (A.asks subject) given limit result
+        (turn R.remaining R.has_failed source.old source.new) (turn W.held W.has_failed sink.old sink.new)) }
+    ensures flushed { PassesOn result (W.is_flushed sink.old) (W.is_flushed sink.new) }
 {
     A::laws();
     let mut piece = [0u8; PIECE];

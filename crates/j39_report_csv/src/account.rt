@@ -1,14 +1,15 @@
 //! The report as records of comma-separated values: the run that writes it, and the account of frames that it writes.
-ghost use Rattle.std.specs.Prelude.{◌≡◌, ◌≢◌, ◌<◌, ◌≤◌, ◌⊎◌, [], List, true, length};
-ghost use Rattle.std.specs.Prelude.{IfOk, IfSome, OnOk, OnErr, Err};
+ghost use Rattle.std.specs.Prelude.{◌≡◌, ◌<◌, [], List, true};
+ghost use Rattle.std.specs.Prelude.{IfOk, Err};
+ghost use Rattle.j39_device.specs.Turn.{turn};
 ghost use Rattle.j39_frame.specs.Frame.{FrameRecord};
-ghost use Rattle.j39_listen.specs.Asking.{AsksForBoxes, AsksWithin};
+ghost use Rattle.j39_listen.specs.AccountSteps.{LeavesWriter};
+ghost use Rattle.j39_listen.specs.Asking.{AsksForBoxes};
 ghost use Rattle.j39_listen.specs.Headed.{Headed};
 ghost use Rattle.j39_listen.specs.Listening.{Hears};
 ghost use Rattle.j39_listen.specs.ReportSteps.{made_by};
-ghost use Rattle.j39_listen.specs.Run.{StopsAtLimit, StopsWithin, TakesWithin, Writes, WritesFront};
+ghost use Rattle.j39_listen.specs.Ran.{PassesOn, Ran};
 ghost use Rattle.j39_listen.specs.declared.account.LineFault.TheVariants as line_fault;
-ghost use Rattle.j39_listen.specs.declared.running.RunFault.TheVariants.{Memory, Read, Write, TooLong};
 ghost use Rattle.j39_report_csv.specs.AccountSteps.{HasRecorded, MeetsFrame, StopsFrame};
 ghost use Rattle.j39_report_csv.specs.Csv.{MakesRecords, records_of};
 ghost use Rattle.j39_report_csv.specs.EntryText.{header_text};
@@ -34,40 +35,13 @@ pub fn report_csv<R: Source, W: Sink>(
     bus: Option<Bus>,
     limit: u64,
 ) -> Result<Counts, RunFault>
-    // What is written is the header and the records of the log's report, and nothing else.
-    ensures report { IfOk result (λ counts. IfSome (R.remaining source.old)
-        (λ log. Writes (Headed header_text (MakesRecords groups.now)) bus log counts
-        (W.held sink.old) (W.held sink.new))) }
+    // What the run promises is `Ran`: what is written is the header and the records of the log's report, and nothing
+    // else. Memory is wanted only at a frame of the log that announces a message.
+    ensures ran { Ran (Headed header_text (MakesRecords groups.now)) AsksForBoxes bus limit result
+        (turn R.remaining R.has_failed source.old source.new) (turn W.held W.has_failed sink.old sink.new) }
 
-    // Each fault comes only where its device failed, or the log is longer than the limit.
-    ensures short { OnOk result (IfSome (R.remaining source.old) (λ log. length log ≤ limit)) }
-    ensures too_long { result ≡ Err TooLong → IfSome (R.remaining source.old) (λ log. limit < length log) }
-    ensures read { result ≡ Err Read → R.has_failed source.new ≡ true }
-    ensures read_unmarked { result ≢ Err Read → R.has_failed source.new ≡ R.has_failed source.old }
-    ensures write { result ≡ Err Write → W.has_failed sink.new ≡ true }
-    ensures write_unmarked { result ≢ Err Write → W.has_failed sink.new ≡ W.has_failed sink.old }
-
-    // Memory is wanted only at a frame of the log that announces a message.
-    ensures memory { result ≡ Err Memory
-        → AsksWithin AsksForBoxes bus (R.remaining source.old) (R.remaining source.new) }
-
-    // The bytes that were taken pass the limit exactly where `TooLong` is answered, and those that pass it aren't handled.
-    ensures within { result ≢ Err TooLong → TakesWithin limit (R.remaining source.old) (R.remaining source.new) }
-    ensures at_limit { result ≡ Err TooLong → StopsAtLimit (Headed header_text (MakesRecords groups.now)) limit bus
-        (R.remaining source.old) (R.remaining source.new) (W.held sink.old) (W.held sink.new) }
-
-    // What was written is passed on at the end, and before each read.
-    ensures flushed { OnOk result (W.is_flushed sink.new ≡ true) }
-    ensures flushed_at_reads { (result ≡ Err Read) ⊎ (result ≡ Err TooLong) → W.is_flushed sink.new ≡ true }
-
-    // What was written before a fault of the writer is a front of the header and the records of the whole log.
-    ensures cut_short { result ≡ Err Write → IfSome (R.remaining source.old)
-        (λ log. WritesFront (Headed header_text (MakesRecords groups.now)) bus log
-        (W.held sink.old) (W.held sink.new)) }
-
-    // What was written before a fault is a front of the header and the records of the bytes that were read.
-    ensures prefix { OnErr result (StopsWithin (Headed header_text (MakesRecords groups.now)) bus
-        (R.remaining source.old) (R.remaining source.new) (W.held sink.old) (W.held sink.new)) }
+    // What was written is passed on at the end, and before each read, the header before the first.
+    ensures flushed { PassesOn result true (W.is_flushed sink.new) }
 {
     run_headed(
         HEADER,
@@ -148,13 +122,11 @@ fn put_frame<W: Sink>(
 ) -> Result<Option<u64>, LineFault>
     ensures met { IfOk result (λ lines. (F : List FrameRecord) → Hears listener.old F
         → MeetsFrame groups.now listener.new F frame.now (made_by lines) (W.held sink.old) (W.held sink.new)) }
-    ensures write { result ≡ Err line_fault.Write → W.has_failed sink.new ≡ true }
+    ensures writer { LeavesWriter result (turn W.held W.has_failed sink.old sink.new) }
     ensures stops { result ≡ Err line_fault.Write → (F : List FrameRecord) → Hears listener.old F
         → StopsFrame groups.now F frame.now (W.held sink.old) (W.held sink.new) }
-    ensures memory { result ≡ Err line_fault.Memory → W.held sink.new ≡ W.held sink.old }
     ensures asked { result ≡ Err line_fault.Memory → (F : List FrameRecord) → Hears listener.old F
         → AsksForBoxes F frame.now }
-    ensures unmarked { result ≢ Err line_fault.Write → W.has_failed sink.new ≡ W.has_failed sink.old }
 {
     match listener.feed_with(groups, frame) {
         Err(AllocError) => Err(LineFault::Memory),

@@ -1,16 +1,15 @@
 //! The summary of the report of a log: the run that writes it, and the account of frames that it writes.
-ghost use Rattle.std.specs.Prelude.{◌≡◌, ◌≢◌, ◌<◌, ◌≤◌, ◌⊎◌, [], List, true, length};
-ghost use Rattle.std.specs.Prelude.{IfOk, IfSome, OnOk, OnErr, Err};
+ghost use Rattle.std.specs.Prelude.{◌<◌, [], List, true};
+ghost use Rattle.std.specs.Prelude.{IfOk, OnErr, Err};
 ghost use Rattle.j39_by_origin.specs.ByOrigin.{pairs_of};
 ghost use Rattle.j39_frame.specs.Frame.{FrameRecord};
 ghost use Rattle.std.specs.List.{flat_map};
-ghost use Rattle.j39_listen.specs.Asking.{AsksWithin};
+ghost use Rattle.j39_device.specs.Turn.{turn};
 ghost use Rattle.j39_listen.specs.Heard.{AreHeard, Hearing};
 ghost use Rattle.j39_listen.specs.Listening.{Hears};
 ghost use Rattle.j39_listen.specs.Report.{Entry, entries_of};
 ghost use Rattle.j39_listen.specs.Output.{nothing};
-ghost use Rattle.j39_listen.specs.Run.{StopsAtLimit, StopsWithin, TakesWithin, Writes, WritesFront};
-ghost use Rattle.j39_listen.specs.declared.running.RunFault.TheVariants.{Memory, Read, Write, TooLong};
+ghost use Rattle.j39_listen.specs.Ran.{PassesOn, Ran};
 ghost use Rattle.j39_summary.specs.AccountSteps.{HasSummed, NotesFrame};
 ghost use Rattle.j39_summary.specs.RowSteps.{AreRowsOf};
 ghost use Rattle.j39_summary.specs.Summaries.{AsksForRows, MakesSummary, MakesSummaryRecords};
@@ -35,40 +34,14 @@ pub fn summary<R: Source, W: Sink>(
     bus: Option<Bus>,
     limit: u64,
 ) -> Result<Counts, RunFault>
-    // What is written is the summary of the log's report, and nothing else.
-    ensures summary { IfOk result (λ counts. IfSome (R.remaining source.old)
-        (λ log. Writes (MakesSummary groups.now) bus log counts (W.held sink.old) (W.held sink.new))) }
-
-    // Each fault comes only where its device failed, or the log is longer than the limit.
-    ensures short { OnOk result (IfSome (R.remaining source.old) (λ log. length log ≤ limit)) }
-    ensures too_long { result ≡ Err TooLong → IfSome (R.remaining source.old) (λ log. limit < length log) }
-    ensures read { result ≡ Err Read → R.has_failed source.new ≡ true }
-    ensures read_unmarked { result ≢ Err Read → R.has_failed source.new ≡ R.has_failed source.old }
-    ensures write { result ≡ Err Write → W.has_failed sink.new ≡ true }
-    ensures write_unmarked { result ≢ Err Write → W.has_failed sink.new ≡ W.has_failed sink.old }
-
-    // Memory is wanted only at a frame that announces a message, and at one where a message is heard that has a value
-    // of a parameter without a row, or a text.
-    ensures memory { result ≡ Err Memory
-        → AsksWithin (AsksForRows groups.now) bus (R.remaining source.old) (R.remaining source.new) }
-
-    // The bytes that were taken pass the limit exactly where `TooLong` is answered, and those that pass it aren't handled.
-    ensures within { result ≢ Err TooLong → TakesWithin limit (R.remaining source.old) (R.remaining source.new) }
-    ensures at_limit { result ≡ Err TooLong → StopsAtLimit (MakesSummary groups.now) limit bus
-        (R.remaining source.old) (R.remaining source.new) (W.held sink.old) (W.held sink.new) }
+    // What the run promises is `Ran`: what is written is the summary of the log's report, and nothing else. Memory is
+    // wanted only at a frame that announces a message, and at one where a message is heard that has a value of a
+    // parameter without a row, or a text.
+    ensures ran { Ran (MakesSummary groups.now) (AsksForRows groups.now) bus limit result
+        (turn R.remaining R.has_failed source.old source.new) (turn W.held W.has_failed sink.old sink.new) }
 
     // What was written is passed on at the end, and before each read.
-    ensures flushed { OnOk result (W.is_flushed sink.new ≡ true) }
-    ensures flushed_at_reads { (result ≡ Err Read) ⊎ (result ≡ Err TooLong)
-        → W.is_flushed sink.old ≡ true → W.is_flushed sink.new ≡ true }
-
-    // What was written before a fault of the writer is a front of the summary of the whole log.
-    ensures cut_short { result ≡ Err Write → IfSome (R.remaining source.old)
-        (λ log. WritesFront (MakesSummary groups.now) bus log (W.held sink.old) (W.held sink.new)) }
-
-    // What was written before a fault is a front of the summary of the bytes that were read.
-    ensures prefix { OnErr result (StopsWithin (MakesSummary groups.now) bus
-        (R.remaining source.old) (R.remaining source.new) (W.held sink.old) (W.held sink.new)) }
+    ensures flushed { PassesOn result (W.is_flushed sink.old) (W.is_flushed sink.new) }
 {
     run_over(
         SummaryAccount::new(alloc, groups, RowForm::Line),
@@ -89,40 +62,13 @@ pub fn summary_csv<R: Source, W: Sink>(
     bus: Option<Bus>,
     limit: u64,
 ) -> Result<Counts, RunFault>
-    // What is written is the summary of the log's report, and nothing else.
-    ensures summary { IfOk result (λ counts. IfSome (R.remaining source.old)
-        (λ log. Writes (MakesSummaryRecords groups.now) bus log counts (W.held sink.old) (W.held sink.new))) }
+    // What the run promises is `Ran`: what is written is the names of the columns and the summary of the log's report in
+    // records, and nothing else. Memory is wanted as for `summary`.
+    ensures ran { Ran (MakesSummaryRecords groups.now) (AsksForRows groups.now) bus limit result
+        (turn R.remaining R.has_failed source.old source.new) (turn W.held W.has_failed sink.old sink.new) }
 
-    // Each fault comes only where its device failed, or the log is longer than the limit.
-    ensures short { OnOk result (IfSome (R.remaining source.old) (λ log. length log ≤ limit)) }
-    ensures too_long { result ≡ Err TooLong → IfSome (R.remaining source.old) (λ log. limit < length log) }
-    ensures read { result ≡ Err Read → R.has_failed source.new ≡ true }
-    ensures read_unmarked { result ≢ Err Read → R.has_failed source.new ≡ R.has_failed source.old }
-    ensures write { result ≡ Err Write → W.has_failed sink.new ≡ true }
-    ensures write_unmarked { result ≢ Err Write → W.has_failed sink.new ≡ W.has_failed sink.old }
-
-    // Memory is wanted only at a frame that announces a message, and at one where a message is heard that has a value
-    // of a parameter without a row, or a text.
-    ensures memory { result ≡ Err Memory
-        → AsksWithin (AsksForRows groups.now) bus (R.remaining source.old) (R.remaining source.new) }
-
-    // The bytes that were taken pass the limit exactly where `TooLong` is answered, and those that pass it aren't handled.
-    ensures within { result ≢ Err TooLong → TakesWithin limit (R.remaining source.old) (R.remaining source.new) }
-    ensures at_limit { result ≡ Err TooLong → StopsAtLimit (MakesSummaryRecords groups.now) limit bus
-        (R.remaining source.old) (R.remaining source.new) (W.held sink.old) (W.held sink.new) }
-
-    // What was written is passed on at the end, and before each read.
-    ensures flushed { OnOk result (W.is_flushed sink.new ≡ true) }
-    ensures flushed_at_reads { (result ≡ Err Read) ⊎ (result ≡ Err TooLong)
-        → W.is_flushed sink.new ≡ true }
-
-    // What was written before a fault of the writer is a front of the summary of the whole log.
-    ensures cut_short { result ≡ Err Write → IfSome (R.remaining source.old)
-        (λ log. WritesFront (MakesSummaryRecords groups.now) bus log (W.held sink.old) (W.held sink.new)) }
-
-    // What was written before a fault is a front of the summary of the bytes that were read.
-    ensures prefix { OnErr result (StopsWithin (MakesSummaryRecords groups.now) bus
-        (R.remaining source.old) (R.remaining source.new) (W.held sink.old) (W.held sink.new)) }
+    // What was written is passed on at the end, and before each read, the names of the columns before the first.
+    ensures flushed { PassesOn result true (W.is_flushed sink.new) }
 {
     run_headed(
         COLUMNS,

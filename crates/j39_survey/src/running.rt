@@ -1,8 +1,10 @@
 //! The survey of a log, piece by piece.
 ghost use Rattle.std.specs.Prelude.{◌≡◌, ◌≢◌, ◌<◌, ◌≤◌, [], true, length, IfSome, OnOk, OnErr, Err};
+ghost use Rattle.j39_device.specs.Turn.{turn};
+ghost use Rattle.j39_listen.specs.Ran.{Ended, PassesOn};
 ghost use Rattle.j39_listen.specs.Run.{TakesWithin};
 ghost use Rattle.j39_listen.specs.declared.running.RunFault.TheVariants.{Memory, Read, TooLong, Write};
-ghost use Rattle.j39_survey.specs.Run.{StopsWithin, WritesFront, WritesSurvey};
+ghost use Rattle.j39_survey.specs.Run.{StopsWithin, Surveyed, WritesFront, WritesSurvey};
 ghost use Rattle.j39_survey.specs.Steps.{HasReadLog, HasTaken, TakesSome};
 
 use crate::pieces::Pieces;
@@ -25,36 +27,14 @@ pub fn survey<R: Source, W: Sink>(
     sink: &mut W,
     limit: u64,
 ) -> Result<(), RunFault>
-    // What is written is the survey of the log's lines, and nothing else.
-    ensures survey { OnOk result (IfSome (R.remaining source.old)
-        (λ log. WritesSurvey groups.now log (W.held sink.old) (W.held sink.new))) }
+    // What the run promises is `Surveyed`: what is written is the survey of the log's lines, and nothing else, at the end
+    // of the log. Memory is wanted before the first read.
+    ensures ran { Surveyed groups.now limit result
+        (turn R.remaining R.has_failed source.old source.new) (turn W.held W.has_failed sink.old sink.new) }
 
-    // Each fault comes only where its device failed, or the log is longer than the limit.
-    ensures short { OnOk result (IfSome (R.remaining source.old) (λ log. length log ≤ limit)) }
-    ensures too_long { result ≡ Err TooLong → IfSome (R.remaining source.old) (λ log. limit < length log) }
-    ensures read { result ≡ Err Read → R.has_failed source.new ≡ true }
-    ensures read_unmarked { result ≢ Err Read → R.has_failed source.new ≡ R.has_failed source.old }
-    ensures write { result ≡ Err Write → W.has_failed sink.new ≡ true }
-    ensures write_unmarked { result ≢ Err Write → W.has_failed sink.new ≡ W.has_failed sink.old }
-
-    // Memory is wanted before the first read.
-    ensures memory { result ≡ Err Memory → R.remaining source.new ≡ R.remaining source.old }
-
-    // The bytes that were taken pass the limit only where `TooLong` is answered.
-    ensures within { result ≢ Err TooLong → TakesWithin limit (R.remaining source.old) (R.remaining source.new) }
-
-    // What was written is passed on at the end; before the end of the log nothing is written.
-    ensures flushed { OnOk result (W.is_flushed sink.new ≡ true) }
-    ensures silent { OnErr result (result ≢ Err Write
-        → (W.held sink.new ≡ W.held sink.old) × (W.is_flushed sink.new ≡ W.is_flushed sink.old)) }
-
-    // What was written before a fault of the writer is a front of the survey of the whole log.
-    ensures cut_short { result ≡ Err Write → IfSome (R.remaining source.old)
-        (λ log. WritesFront groups.now log (W.held sink.old) (W.held sink.new)) }
-
-    // What was written before a fault is a front of the survey of the bytes that were read.
-    ensures prefix { OnErr result (StopsWithin groups.now (R.remaining source.old) (R.remaining source.new)
-        (W.held sink.old) (W.held sink.new)) }
+    // What was written is passed on at the end; before the end of the log nothing is.
+    ensures flushed { PassesOn result (W.is_flushed sink.old) (W.is_flushed sink.new) }
+    ensures unflushed { OnErr result (result ≢ Err Write → W.is_flushed sink.new ≡ W.is_flushed sink.old) }
 {
     match Pieces::new(alloc) {
         Ok(mut pieces) => survey_with(&mut pieces, groups, source, sink, limit),
@@ -70,24 +50,19 @@ fn survey_with<R: Source, W: Sink>(
     sink: &mut W,
     limit: u64,
 ) -> Result<(), RunFault>
-    ensures survey { HasTaken pieces.old [] → OnOk result (IfSome (R.remaining source.old)
+    // It ended as every run does, whatever the pieces had taken.
+    ensures ended { Ended limit result
+        (turn R.remaining R.has_failed source.old source.new) (turn W.held W.has_failed sink.old sink.new) }
+    ensures writes { HasTaken pieces.old [] → OnOk result (IfSome (R.remaining source.old)
         (λ log. WritesSurvey groups.now log (W.held sink.old) (W.held sink.new))) }
-    ensures short { HasTaken pieces.old [] → OnOk result (IfSome (R.remaining source.old)
-        (λ log. length log ≤ limit)) }
-    ensures too_long { result ≡ Err TooLong → IfSome (R.remaining source.old) (λ log. limit < length log) }
-    ensures read { result ≡ Err Read → R.has_failed source.new ≡ true }
-    ensures read_unmarked { result ≢ Err Read → R.has_failed source.new ≡ R.has_failed source.old }
-    ensures write { result ≡ Err Write → W.has_failed sink.new ≡ true }
-    ensures write_unmarked { result ≢ Err Write → W.has_failed sink.new ≡ W.has_failed sink.old }
     ensures memory { result ≢ Err Memory }
-    ensures within { result ≢ Err TooLong → TakesWithin limit (R.remaining source.old) (R.remaining source.new) }
-    ensures flushed { OnOk result (W.is_flushed sink.new ≡ true) }
-    ensures silent { OnErr result (result ≢ Err Write
-        → (W.held sink.new ≡ W.held sink.old) × (W.is_flushed sink.new ≡ W.is_flushed sink.old)) }
+    ensures silent { OnErr result (result ≢ Err Write → W.held sink.new ≡ W.held sink.old) }
     ensures cut_short { HasTaken pieces.old [] → result ≡ Err Write → IfSome (R.remaining source.old)
         (λ log. WritesFront groups.now log (W.held sink.old) (W.held sink.new)) }
     ensures prefix { HasTaken pieces.old [] → OnErr result (StopsWithin groups.now (R.remaining source.old)
         (R.remaining source.new) (W.held sink.old) (W.held sink.new)) }
+    ensures flushed { OnOk result (W.is_flushed sink.new ≡ true) }
+    ensures unflushed { OnErr result (result ≢ Err Write → W.is_flushed sink.new ≡ W.is_flushed sink.old) }
 {
     match read_log(pieces, source, limit) {
         Ok(()) => {}
@@ -103,6 +78,7 @@ fn survey_with<R: Source, W: Sink>(
 fn read_log<R: Source>(pieces: &mut Pieces, source: &mut R, limit: u64) -> Result<(), RunFault>
     ensures read_all { OnOk result (HasTaken pieces.old []
         → HasReadLog limit pieces.new (R.remaining source.old) (R.remaining source.new)) }
+    ensures short { OnOk result (IfSome (R.remaining source.old) (λ log. length log ≤ limit)) }
     ensures took { OnErr result (TakesSome (R.remaining source.old) (R.remaining source.new)) }
     ensures too_long { result ≡ Err TooLong → IfSome (R.remaining source.old) (λ log. limit < length log) }
     ensures read { result ≡ Err Read → R.has_failed source.new ≡ true }

@@ -1,13 +1,12 @@
 -- The run is on the task's own bus, for its own address, and its fault is told.
-use Rattle.std.proofs.Common.{◌≡◌, ℕ, List, Option, ap, subst}
-use Rattle.std.specs.Prelude.{Err}
+use Rattle.std.proofs.Common.{◌≡◌, ◌<◌, ℕ, List, Option, subst, arith}
+use Rattle.j39_device.specs.Turn.{Turn}
 use Rattle.j39_address.specs.Name.{name_raw}
 use Rattle.j39_address.specs.Node.{idle_node}
 use Rattle.j39_listen.specs.Asking.{AsksForBoxes}
 use Rattle.j39_listen.specs.Output.{MakesAnswers}
 use Rattle.j39_cli.specs.LogCommand.{IsRun}
-use Rattle.j39_cli.specs.Turn.{Turn}
-use Rattle.j39_cli.proofs.RunLemmas.{is_run, on_bus, same_fault}
+use Rattle.j39_cli.proofs.RunLemmas.{ended_err, ended_some, is_run, told_as}
 use Rattle.j39_cli.proofs.answer.perform.Goals as goal
 
 of_address : (name address address' : ℕ) (bus : Option (List ℕ)) (status : ℕ) (log out err : Turn) → address ≡ address'
@@ -16,25 +15,22 @@ of_address : (name address address' : ℕ) (bus : Option (List ℕ)) (status : �
 of_address name address address' bus status log out err is h =
     subst (λ (a : ℕ). IsRun AsksForBoxes (MakesAnswers (idle_node name a)) bus status log out err) is h
 
+pub returns-in-Ok-Some-clause-run : goal.returns-in-Ok-Some-clause-run
+returns-in-Ok-Some-clause-run g c =
+    let name = name_raw c.args.name in
+    let number = c.number-address.result in
+    let below : number < 254 = omega (arith, c.number-address.ensures.value, c.number-address.ensures.is_address) in
+    let h = rw c.in-Ok-Some.field-0-is at (c.in-Ok-Some.ensures.ran below) in
+    of_address name number c.args.address.now c.args.bus.now c.tell_end.result _ _ _ c.number-address.ensures.value
+    (is_run AsksForBoxes (MakesAnswers (idle_node name number)) _ c.args.bus.now h.0 c.tell_end.result _ _ _ c.copy_of.ensures h.2
+    (told_as h.0 _ _ _ (ended_some h.0 c.in-Ok-Some.counts h.1) c.tell_end.ensures))
+
 pub returns-in-Err-clause-run : goal.returns-in-Err-clause-run
 returns-in-Err-clause-run g c =
     let name = name_raw c.args.name in
-    let fault = c.in-Err.fault in
-    of_address name c.number-address.result c.args.address.now c.args.bus.now c.tell_end-in-Err.result _ _ _
-    c.number-address.ensures.value
-    (on_bus AsksForBoxes (MakesAnswers (idle_node name c.number-address.result)) c.copy_of.result c.args.bus.now
-    c.tell_end-in-Err.result _ _ _ c.copy_of.ensures
-    (is_run AsksForBoxes (MakesAnswers (idle_node name c.number-address.result)) c.copy_of.result (Err fault)
-    c.tell_end-in-Err.result _ _ _ (record {
-      written = tt;
-      short = tt;
-      too_long = λ e. c.in-Err.ensures.too_long (ap Err (same_fault _ _ e));
-      read = λ e. c.in-Err.ensures.read (ap Err (same_fault _ _ e));
-      read_unmarked = λ other. c.in-Err.ensures.read_unmarked (λ e. other (ap Err (same_fault _ _ e)));
-      write = λ e. c.in-Err.ensures.write (ap Err (same_fault _ _ e));
-      write_unmarked = λ other. c.in-Err.ensures.write_unmarked (λ e. other (ap Err (same_fault _ _ e)));
-      memory = λ e. c.in-Err.ensures.memory (ap Err (same_fault _ _ e));
-      within = λ other. c.in-Err.ensures.within (λ e. other (ap Err (same_fault _ _ e)));
-      at_limit = λ e. c.in-Err.ensures.at_limit (ap Err (same_fault _ _ e));
-      prefix = c.in-Err.ensures.prefix;
-    }) c.tell_end-in-Err.ensures))
+    let number = c.number-address.result in
+    let below : number < 254 = omega (arith, c.number-address.ensures.value, c.number-address.ensures.is_address) in
+    let h = c.in-Err.ensures.ran below in
+    of_address name number c.args.address.now c.args.bus.now c.tell_end-in-Err.result _ _ _ c.number-address.ensures.value
+    (is_run AsksForBoxes (MakesAnswers (idle_node name number)) _ c.args.bus.now h.0 c.tell_end-in-Err.result _ _ _ c.copy_of.ensures h.2
+    (told_as h.0 _ _ _ (ended_err h.0 c.in-Err.fault h.1) c.tell_end-in-Err.ensures))

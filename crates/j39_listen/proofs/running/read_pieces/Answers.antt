@@ -1,5 +1,5 @@
 -- The bytes that were taken, at each fault.
-use Rattle.std.proofs.Common.{rules, ℕ, List, [], ◌++◌, ◌∙◌, ◌≡◌, ◌+◌, ◌-◌, subst, ap, append-nil, take, arith, length, length-append, length-take, refl}
+use Rattle.std.proofs.Common.{rules, ℕ, List, Option, [], ◌++◌, ◌∙◌, ◌≡◌, ◌+◌, ◌-◌, subst, ap, append-nil, take, arith, length, length-append, length-take, refl}
 use Rattle.std.proofs.lemmas.Grind.{common_steps}
 use Rattle.std.specs.Io.KnownBytes.{Consumes}
 use Rattle.std.proofs.KnownBytes.{Consumes-kept, Consumes-nil, Consumes-trans}
@@ -8,47 +8,11 @@ use Rattle.j39_listen.proofs.AskLemmas.{same_run_fault}
 use Rattle.j39_listen.proofs.PieceLemmas.{at_fault, front_of_all, front_of_more, front_of_no_more, front_of_taken, front_of_whole, no_fault, on_err_from}
 use Rattle.j39_listen.proofs.running.read_pieces.Goals as goal
 
--- the read at the end gives nothing
-at_end : (taken : List ℕ) (n : ℕ) (buf : List ℕ) → n ≡ 0 → taken ++ take n buf ≡ taken
-at_end taken n buf none = ap (λ n. taken ++ take n buf) none ∙ append-nil taken
-
-pub returns-in_default-clause-prefix : goal.returns-in_default-clause-prefix
-returns-in_default-clause-prefix g c = λ subject given h.
-    let inv = c.pieces.invariant in
-    record {
-      taken = inv.0;
-      consumed = Consumes-kept _ _ _ inv.0 inv.1 c.in_default.ensures.bytes;
-      written = front_of_taken (g.A.Account.has_met subject) (g.A.Account.makes subject) (c.laws.ensures.begins subject) given inv.0 c.pieces.pieces _ _ (inv.2 subject given h);
-    }
-
-pub returns-then-n-eq0-clause-prefix : goal.returns-then-n-eq0-clause-prefix
-returns-then-n-eq0-clause-prefix g c =
-    let inv = c.pieces.invariant in
-    on_err_from c.finish.result _ _ (λ front subject given h. record {
-      taken = inv.0;
-      consumed = subst (Consumes _ _) (at_end inv.0 c.in-Ok.n c.pull.new.buf c.if-n-eq0.true) (Consumes-trans _ _ _ inv.0 _ inv.1 c.in-Ok.ensures.bytes.0);
-      written = front subject given inv.0 _ (inv.2 subject given h);
-    }) c.finish.ensures.front
-
-pub returns-then-n-room-clause-prefix : goal.returns-then-n-room-clause-prefix
-returns-then-n-room-clause-prefix g c = λ subject given h.
-    let inv = c.pieces.invariant in
-    let bytes = take c.in-Ok.n c.pull.new.buf in
-    record {
-      taken = inv.0 ++ bytes;
-      consumed = Consumes-trans _ _ _ inv.0 bytes inv.1 c.in-Ok.ensures.bytes.0;
-      written = front_of_more (g.A.Account.has_met subject) (g.A.Account.makes subject) (c.laws.ensures.begins subject) given inv.0 bytes c.pieces.pieces _ _ (inv.2 subject given h);
-    }
-
-pub returns-in-Err-clause-prefix : goal.returns-in-Err-clause-prefix
-returns-in-Err-clause-prefix g c = λ subject given h.
-    let inv = c.pieces.invariant in
-    let bytes = take c.in-Ok.n c.pull.new.buf in
-    record {
-      taken = inv.0 ++ bytes;
-      consumed = Consumes-trans _ _ _ inv.0 bytes inv.1 c.in-Ok.ensures.bytes.0;
-      written = front_of_no_more (g.A.Account.makes subject) given (inv.0 ++ bytes) _ _ (c.in-Err.ensures.front subject given inv.0 _ (inv.2 subject given h));
-    }
+-- the read at the end gives nothing, so all that was taken was taken before it
+at_end : (a b d : Option (List ℕ)) (taken : List ℕ) (n : ℕ) (buf : List ℕ) → n ≡ 0 → Consumes a b taken → Consumes b d (take n buf)
+    → Consumes a d taken
+at_end a b d taken n buf none first last =
+    subst (Consumes a d) (ap (λ n. taken ++ take n buf) none ∙ append-nil taken) (Consumes-trans a b d taken (take n buf) first last)
 
 pub pieces-init : goal.pieces-init
 pieces-init g c = ([], Consumes-nil (g.R.Source.remaining c.args.source.now), (λ subject given h. h), omega arith, refl, refl, (λ flushed. flushed))
@@ -68,81 +32,146 @@ pieces-preserved g c =
       (λ _. c.in-Ok-take.ensures.flushed),
     )
 
--- ---- where memory is wanted
+-- ---- the reader failed
 
-pub returns-in-Err-clause-asked : goal.returns-in-Err-clause-asked
-returns-in-Err-clause-asked g c = λ fails subject given h.
+pub returns-in_default-clause-ended : goal.returns-in_default-clause-ended
+returns-in_default-clause-ended g c =
+    let inv = c.pieces.invariant in
+    record {
+      short = tt;
+      too_long = λ e. absurd (cc);
+      read = search rules;
+      read_unmarked = search rules;
+      write = λ e. absurd (cc);
+      write_unmarked = search rules;
+      within = λ other. record { taken = inv.0; consumed = Consumes-kept _ _ _ inv.0 inv.1 c.in_default.ensures.bytes; fits = omega arith };
+    }
+
+pub returns-in_default-clause-ran : goal.returns-in_default-clause-ran
+returns-in_default-clause-ran g c = λ subject given h.
+    let inv = c.pieces.invariant in
+    record {
+      ended = returns-in_default-clause-ended g c;
+      writes = tt;
+      memory = λ e. absurd (cc);
+      at_limit = λ e. absurd (cc);
+      cut_short = λ e. absurd (cc);
+      prefix = record {
+        taken = inv.0;
+        consumed = Consumes-kept _ _ _ inv.0 inv.1 c.in_default.ensures.bytes;
+        written = front_of_taken (g.A.Account.has_met subject) (g.A.Account.makes subject) (c.laws.ensures.begins subject) given inv.0 c.pieces.pieces _ _ (inv.2 subject given h);
+      };
+    }
+
+-- ---- the log is at its end
+
+pub returns-then-n-eq0-clause-ended : goal.returns-then-n-eq0-clause-ended
+returns-then-n-eq0-clause-ended g c =
+    let inv = c.pieces.invariant in
+    let consumed = at_end _ _ _ inv.0 c.in-Ok.n c.pull.new.buf c.if-n-eq0.true inv.1 c.in-Ok.ensures.bytes.0 in
+    record {
+      short = search rules;
+      too_long = search rules;
+      read = search rules;
+      read_unmarked = search rules;
+      write = search rules;
+      write_unmarked = search rules;
+      within = λ other. record { taken = inv.0; consumed = consumed; fits = omega arith };
+    }
+
+pub returns-then-n-eq0-clause-ran : goal.returns-then-n-eq0-clause-ran
+returns-then-n-eq0-clause-ran g c = λ subject given h.
+    let inv = c.pieces.invariant in
+    let consumed = at_end _ _ _ inv.0 c.in-Ok.n c.pull.new.buf c.if-n-eq0.true inv.1 c.in-Ok.ensures.bytes.0 in
+    record {
+      ended = returns-then-n-eq0-clause-ended g c;
+      writes = search rules;
+      memory = λ fails. record { taken = inv.0; consumed = consumed; among = c.finish.ensures.asked fails subject given inv.0 _ (inv.2 subject given h) };
+      at_limit = λ e. absurd (c.finish.ensures.not_long e);
+      cut_short = λ fails. front_of_whole (g.A.Account.makes subject) given _ _ inv.0 _ _ consumed
+          (c.in-Ok.ensures.bytes.1 c.if-n-eq0.true (search rules)) (at_fault fails c.finish.ensures.front subject given inv.0 _ (inv.2 subject given h));
+      prefix = on_err_from c.finish.result _ _ (λ front. record { taken = inv.0; consumed = consumed; written = front subject given inv.0 _ (inv.2 subject given h) })
+          c.finish.ensures.front;
+    }
+
+-- ---- the log is too long
+
+pub returns-then-n-room-clause-ended : goal.returns-then-n-room-clause-ended
+returns-then-n-room-clause-ended g c = record {
+  short = tt;
+  too_long = grind (arith, common_steps);
+  read = λ e. absurd (cc);
+  read_unmarked = search rules;
+  write = λ e. absurd (cc);
+  write_unmarked = search rules;
+  within = λ other. absurd (other refl);
+}
+
+pub returns-then-n-room-clause-ran : goal.returns-then-n-room-clause-ran
+returns-then-n-room-clause-ran g c = λ subject given h.
     let inv = c.pieces.invariant in
     let bytes = take c.in-Ok.n c.pull.new.buf in
+    let consumed = Consumes-trans _ _ _ inv.0 bytes inv.1 c.in-Ok.ensures.bytes.0 in
     record {
-      taken = inv.0 ++ bytes;
-      consumed = Consumes-trans _ _ _ inv.0 bytes inv.1 c.in-Ok.ensures.bytes.0;
-      among = c.in-Err.ensures.asked (ap Err (same_run_fault _ _ fails)) subject given inv.0 _ (inv.2 subject given h);
+      ended = returns-then-n-room-clause-ended g c;
+      writes = tt;
+      memory = λ e. absurd (cc);
+      at_limit = λ too_long. record {
+        taken = inv.0;
+        read = bytes;
+        consumed = consumed;
+        fits = omega arith;
+        passes = omega (arith, length-append inv.0 bytes, length-take c.in-Ok.n c.pull.new.buf, c.in-Ok.ensures.bound);
+        written = front_of_taken (g.A.Account.has_met subject) (g.A.Account.makes subject) (c.laws.ensures.begins subject) given inv.0 c.pieces.pieces _ _ (inv.2 subject given h);
+      };
+      cut_short = λ e. absurd (cc);
+      prefix = record {
+        taken = inv.0 ++ bytes;
+        consumed = consumed;
+        written = front_of_more (g.A.Account.has_met subject) (g.A.Account.makes subject) (c.laws.ensures.begins subject) given inv.0 bytes c.pieces.pieces _ _ (inv.2 subject given h);
+      };
     }
 
-pub returns-then-n-eq0-clause-asked : goal.returns-then-n-eq0-clause-asked
-returns-then-n-eq0-clause-asked g c = λ fails subject given h.
-    let inv = c.pieces.invariant in
-    record {
-      taken = inv.0;
-      consumed = subst (Consumes _ _) (at_end inv.0 c.in-Ok.n c.pull.new.buf c.if-n-eq0.true) (Consumes-trans _ _ _ inv.0 _ inv.1 c.in-Ok.ensures.bytes.0);
-      among = c.finish.ensures.asked fails subject given inv.0 _ (inv.2 subject given h);
-    }
+-- ---- a fault in a piece
 
--- ---- how much was taken
-
-pub returns-in_default-clause-within : goal.returns-in_default-clause-within
-returns-in_default-clause-within g c = λ other.
-    let inv = c.pieces.invariant in
-    record { taken = inv.0; consumed = Consumes-kept _ _ _ inv.0 inv.1 c.in_default.ensures.bytes; fits = omega arith }
-
-pub returns-then-n-eq0-clause-within : goal.returns-then-n-eq0-clause-within
-returns-then-n-eq0-clause-within g c = λ other.
-    let inv = c.pieces.invariant in
-    record {
-      taken = inv.0;
-      consumed = subst (Consumes _ _) (at_end inv.0 c.in-Ok.n c.pull.new.buf c.if-n-eq0.true) (Consumes-trans _ _ _ inv.0 _ inv.1 c.in-Ok.ensures.bytes.0);
-      fits = omega arith;
-    }
-
-pub returns-in-Err-clause-within : goal.returns-in-Err-clause-within
-returns-in-Err-clause-within g c = λ other.
+pub returns-in-Err-clause-ended : goal.returns-in-Err-clause-ended
+returns-in-Err-clause-ended g c =
     let inv = c.pieces.invariant in
     let bytes = take c.in-Ok.n c.pull.new.buf in
+    let consumed = Consumes-trans _ _ _ inv.0 bytes inv.1 c.in-Ok.ensures.bytes.0 in
     record {
-      taken = inv.0 ++ bytes;
-      consumed = Consumes-trans _ _ _ inv.0 bytes inv.1 c.in-Ok.ensures.bytes.0;
-      fits = omega (arith, length-append inv.0 bytes, length-take c.in-Ok.n c.pull.new.buf, c.in-Ok.ensures.bound);
+      short = tt;
+      too_long = search rules;
+      read = search rules;
+      read_unmarked = search rules;
+      write = search rules;
+      write_unmarked = search rules;
+      within = λ other. record {
+        taken = inv.0 ++ bytes;
+        consumed = consumed;
+        fits = omega (arith, length-append inv.0 bytes, length-take c.in-Ok.n c.pull.new.buf, c.in-Ok.ensures.bound);
+      };
     }
 
-pub returns-then-n-room-clause-at_limit : goal.returns-then-n-room-clause-at_limit
-returns-then-n-room-clause-at_limit g c = λ too_long subject given h.
+pub returns-in-Err-clause-ran : goal.returns-in-Err-clause-ran
+returns-in-Err-clause-ran g c = λ subject given h.
     let inv = c.pieces.invariant in
     let bytes = take c.in-Ok.n c.pull.new.buf in
+    let consumed = Consumes-trans _ _ _ inv.0 bytes inv.1 c.in-Ok.ensures.bytes.0 in
     record {
-      taken = inv.0;
-      read = bytes;
-      consumed = Consumes-trans _ _ _ inv.0 bytes inv.1 c.in-Ok.ensures.bytes.0;
-      fits = omega arith;
-      passes = omega (arith, length-append inv.0 bytes, length-take c.in-Ok.n c.pull.new.buf, c.in-Ok.ensures.bound);
-      written = front_of_taken (g.A.Account.has_met subject) (g.A.Account.makes subject) (c.laws.ensures.begins subject) given inv.0 c.pieces.pieces _ _ (inv.2 subject given h);
+      ended = returns-in-Err-clause-ended g c;
+      writes = tt;
+      memory = λ fails. record {
+        taken = inv.0 ++ bytes;
+        consumed = consumed;
+        among = c.in-Err.ensures.asked (ap Err (same_run_fault _ _ fails)) subject given inv.0 _ (inv.2 subject given h);
+      };
+      at_limit = λ too_long. absurd (c.in-Err.ensures.not_long (ap Err (same_run_fault _ _ too_long)));
+      cut_short = λ fails. front_of_all (g.A.Account.makes subject) given _ _ (inv.0 ++ bytes) _ _ consumed
+          (c.in-Err.ensures.front subject given inv.0 _ (inv.2 subject given h));
+      prefix = record {
+        taken = inv.0 ++ bytes;
+        consumed = consumed;
+        written = front_of_no_more (g.A.Account.makes subject) given (inv.0 ++ bytes) _ _ (c.in-Err.ensures.front subject given inv.0 _ (inv.2 subject given h));
+      };
     }
-
--- ---- where the writer failed
-
-pub returns-then-n-eq0-clause-cut_short : goal.returns-then-n-eq0-clause-cut_short
-returns-then-n-eq0-clause-cut_short g c = λ fails subject given h.
-    let inv = c.pieces.invariant in
-    front_of_whole (g.A.Account.makes subject) given _ _ inv.0 _ _
-    (subst (Consumes _ _) (at_end inv.0 c.in-Ok.n c.pull.new.buf c.if-n-eq0.true) (Consumes-trans _ _ _ inv.0 _ inv.1 c.in-Ok.ensures.bytes.0))
-    (c.in-Ok.ensures.bytes.1 c.if-n-eq0.true (search rules)) (at_fault fails c.finish.ensures.front subject given inv.0 _ (inv.2 subject given h))
-
-pub returns-in-Err-clause-cut_short : goal.returns-in-Err-clause-cut_short
-returns-in-Err-clause-cut_short g c = λ fails subject given h.
-    let inv = c.pieces.invariant in
-    let bytes = take c.in-Ok.n c.pull.new.buf in
-    front_of_all (g.A.Account.makes subject) given _ _ (inv.0 ++ bytes) _ _ (Consumes-trans _ _ _ inv.0 bytes inv.1 c.in-Ok.ensures.bytes.0)
-    (c.in-Err.ensures.front subject given inv.0 _ (inv.2 subject given h))
-
-pub returns-then-n-room-clause-too_long : goal.returns-then-n-room-clause-too_long
-returns-then-n-room-clause-too_long g c = grind (arith, common_steps)

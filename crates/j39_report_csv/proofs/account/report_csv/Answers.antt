@@ -1,19 +1,6 @@
 use Rattle.std.proofs.Common.{[], refl}
 use Rattle.j39_report_csv.specs.Csv.{records_of}
-use Rattle.j39_listen.proofs.PieceLemmas.{if_ok, on_err_from}
 use Rattle.j39_report_csv.proofs.account.report_csv.Goals as goal
 
-pub returns-clause-report : goal.returns-clause-report
-returns-clause-report g c = if_ok c.run_headed.result _ _ (λ counts writes. writes c.args.groups.now (records_of c.args.groups.now []) (λ name. c.new.ensures) refl) c.run_headed.ensures.writes
-
-pub returns-clause-prefix : goal.returns-clause-prefix
-returns-clause-prefix g c = on_err_from c.run_headed.result _ _ (λ stops. stops c.args.groups.now (records_of c.args.groups.now []) (λ name. c.new.ensures) refl) c.run_headed.ensures.prefix
-
-pub returns-clause-memory : goal.returns-clause-memory
-returns-clause-memory g c = λ fails. c.run_headed.ensures.asked fails c.args.groups.now (records_of c.args.groups.now []) (λ name. c.new.ensures) refl
-
-pub returns-clause-at_limit : goal.returns-clause-at_limit
-returns-clause-at_limit g c = λ too_long. c.run_headed.ensures.at_limit too_long c.args.groups.now (records_of c.args.groups.now []) (λ name. c.new.ensures) refl
-
-pub returns-clause-cut_short : goal.returns-clause-cut_short
-returns-clause-cut_short g c = λ fails. c.run_headed.ensures.cut_short fails c.args.groups.now (records_of c.args.groups.now []) (λ name. c.new.ensures) refl
+pub returns-clause-ran : goal.returns-clause-ran
+returns-clause-ran g c = c.run_headed.ensures.ran c.args.groups.now (records_of c.args.groups.now []) (λ name. c.new.ensures) refl

@@ -1,12 +1,15 @@
 -- The bytes that were taken, at the end and at each fault.
-use Rattle.std.proofs.Common.{ℕ, List, [], ◌++◌, ◌∙◌, ◌≡◌, ◌+◌, ◌-◌, subst, ap, append-nil, take, arith, length, length-append, length-take, refl}
+use Rattle.std.proofs.Common.{ℕ, List, Option, [], ◌++◌, ◌∙◌, ◌≡◌, ◌≤◌, ◌+◌, ◌-◌, subst, ap, append-nil, take, arith, length, length-append, length-take, refl}
 use Rattle.std.specs.Io.KnownBytes.{Consumes}
 use Rattle.std.proofs.KnownBytes.{Consumes-all, Consumes-kept, Consumes-nil, Consumes-trans}
+use Rattle.std.proofs.lemmas.Option.{IfSome_then}
 use Rattle.j39_survey.proofs.running.read_log.Goals as goal
 
--- the read at the end gives nothing
-at_end : (taken : List ℕ) (n : ℕ) (buf : List ℕ) → n ≡ 0 → taken ++ take n buf ≡ taken
-at_end taken n buf none = ap (λ n. taken ++ take n buf) none ∙ append-nil taken
+-- the read at the end gives nothing, so all that was taken was taken before it
+at_end : (a b d : Option (List ℕ)) (taken : List ℕ) (n : ℕ) (buf : List ℕ) → n ≡ 0 → Consumes a b taken → Consumes b d (take n buf)
+    → Consumes a d taken
+at_end a b d taken n buf none first last =
+    subst (Consumes a d) (ap (λ n. taken ++ take n buf) none ∙ append-nil taken) (Consumes-trans a b d taken (take n buf) first last)
 
 pub pieces-init : goal.pieces-init
 pieces-init g c = ([], Consumes-nil (g.R.Source.remaining c.args.source.now), (λ h. h), omega arith, refl)
@@ -37,16 +40,24 @@ returns-then-n-eq0-clause-within g c = λ other.
     let inv = c.pieces.invariant in
     record {
       taken = inv.0;
-      consumed = subst (Consumes _ _) (at_end inv.0 c.in-Ok.n c.pull.new.buf c.if-n-eq0.true) (Consumes-trans _ _ _ inv.0 _ inv.1 c.in-Ok.ensures.bytes.0);
+      consumed = at_end _ _ _ inv.0 c.in-Ok.n c.pull.new.buf c.if-n-eq0.true inv.1 c.in-Ok.ensures.bytes.0;
       fits = omega arith;
     }
+
+pub returns-then-n-eq0-clause-short : goal.returns-then-n-eq0-clause-short
+returns-then-n-eq0-clause-short g c =
+    let inv = c.pieces.invariant in
+    let consumed = at_end _ _ _ inv.0 c.in-Ok.n c.pull.new.buf c.if-n-eq0.true inv.1 c.in-Ok.ensures.bytes.0 in
+    let fits : length inv.0 ≤ c.args.limit = omega arith in
+    IfSome_then (g.R.Source.remaining c.args.source.now)
+    (Consumes-all _ _ inv.0 [] inv.0 consumed (c.in-Ok.ensures.bytes.1 c.if-n-eq0.true (omega arith)) refl)
+    (λ (log : List ℕ) same. subst (λ (taken : List ℕ). length taken ≤ c.args.limit) same fits)
 
 pub returns-then-n-eq0-clause-read_all : goal.returns-then-n-eq0-clause-read_all
 returns-then-n-eq0-clause-read_all g c = λ h.
     let inv = c.pieces.invariant in
     let lines = c.finish.ensures inv.0 (inv.2 h) in
-    let consumed : Consumes (g.R.Source.remaining c.args.source.now) (g.R.Source.remaining c.pull.new.self) inv.0 =
-    subst (Consumes _ _) (at_end inv.0 c.in-Ok.n c.pull.new.buf c.if-n-eq0.true) (Consumes-trans _ _ _ inv.0 _ inv.1 c.in-Ok.ensures.bytes.0) in
+    let consumed = at_end _ _ _ inv.0 c.in-Ok.n c.pull.new.buf c.if-n-eq0.true inv.1 c.in-Ok.ensures.bytes.0 in
     record {
       taken = inv.0;
       consumed = consumed;

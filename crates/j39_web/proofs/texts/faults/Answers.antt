@@ -10,4 +10,4 @@ returns-clause-too_small c = λ fails.
     let ran = c.faults-ran.ensures in
     let table = c.args.groups.now in
     overflows (MakesFaults table News) (news_one (record { rows = table; which = News })) c.args.bus c.args.log.now c.new-source.result.rest.now c.faults-ran.result _ _ _ _ _ _ _
-    (search rules) (search rules) ran.faults ran.cut_short (search rules) (search rules) (search rules) (c.told.ensures.too_small fails) (search rules)
+    (search rules) (search rules) ran.ran.writes ran.ran.cut_short (search rules) (search rules) (search rules) (c.told.ensures.too_small fails) (search rules)

@@ -8,4 +8,4 @@ pub returns-clause-too_small : goal.returns-clause-too_small
 returns-clause-too_small c = λ fails.
     let ran = c.nodes-ran.ensures in
     overflows MakesNodes (nodes_one _) c.args.bus c.args.log.now c.new-source.result.rest.now c.nodes-ran.result _ _ _ _ _ _ _
-    (search rules) (search rules) ran.nodes ran.cut_short (search rules) (search rules) (search rules) (c.told.ensures.too_small fails) (search rules)
+    (search rules) (search rules) ran.ran.writes ran.ran.cut_short (search rules) (search rules) (search rules) (c.told.ensures.too_small fails) (search rules)

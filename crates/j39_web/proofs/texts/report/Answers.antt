@@ -12,7 +12,7 @@ returns-clause-too_small c = λ fails.
     let ran = c.run_with-ran.ensures in
     let table = c.args.groups.now in
     overflows (MakesReport table) (report_one table) c.args.bus c.args.log.now c.new-source.result.rest.now c.run_with-ran.result _ _ _ _ _ _ _
-    (search rules) (search rules) ran.report ran.cut_short (search rules) (search rules) (search rules) (c.told.ensures.too_small fails) (search rules)
+    (search rules) (search rules) ran.ran.writes ran.ran.cut_short (search rules) (search rules) (search rules) (c.told.ensures.too_small fails) (search rules)
 
 pub returns-clause-published : goal.returns-clause-published
 returns-clause-published c = if_ok c.told.result (λ text. IsMade (MakesReport c.args.groups.now) c.args.bus c.args.log.now text _) _

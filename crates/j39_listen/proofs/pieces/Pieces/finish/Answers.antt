@@ -10,7 +10,7 @@ returns-in-Err-clause-front g c = λ subject.
     let new = g.W.Sink.held c.take_last.new.sink in
     by_fault c.in-Err.fault (FrontAtEnd (g.A.Account.has_met subject) (g.A.Account.makes subject) c.args.self.now old new)
     (λ e. end_stops (g.A.Account.has_met subject) (g.A.Account.makes subject) c.args.self.now old new (c.in-Err.ensures.stops (ap Err e) subject))
-    (λ e. end_none (g.A.Account.has_met subject) (g.A.Account.makes subject) (c.laws.ensures.begins subject) c.args.self.now old new (c.in-Err.ensures.memory (ap Err e)))
+    (λ e. end_none (g.A.Account.has_met subject) (g.A.Account.makes subject) (c.laws.ensures.begins subject) c.args.self.now old new (c.in-Err.ensures.writer.memory (ap Err e)))
 
 pub returns-in-Ok-close-clause-report : goal.returns-in-Ok-close-clause-report
 returns-in-Ok-close-clause-report g c = λ subject.

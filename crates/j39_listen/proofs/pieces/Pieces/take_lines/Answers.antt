@@ -20,7 +20,7 @@ returns-in-Err-clause-front g c = λ subject.
     let new = g.W.Sink.held c.take_line.new.sink in
     by_fault c.in-Err.fault (StopsBytes (g.A.Account.has_met subject) (g.A.Account.makes subject) c.args.self.now c.args.piece.now start new)
     (λ e. takes_then_stops (g.A.Account.has_met subject) (g.A.Account.makes subject) c.args.self.now c.loop-rest.self inv.0 c.loop-rest.rest.now c.args.piece.now start old new inv.1 (inv.2 subject) (c.in-Err.ensures.stops (ap Err e) subject))
-    (λ e. takes_then_none (g.A.Account.has_met subject) (g.A.Account.makes subject) (c.laws.ensures.begins subject) c.args.self.now c.loop-rest.self inv.0 c.loop-rest.rest.now c.args.piece.now start old new inv.1 (inv.2 subject) (c.in-Err.ensures.memory (ap Err e)))
+    (λ e. takes_then_none (g.A.Account.has_met subject) (g.A.Account.makes subject) (c.laws.ensures.begins subject) c.args.self.now c.loop-rest.self inv.0 c.loop-rest.rest.now c.args.piece.now start old new inv.1 (inv.2 subject) (c.in-Err.ensures.writer.memory (ap Err e)))
 
 pub loop-rest-preserved : goal.loop-rest-preserved
 loop-rest-preserved g c =
@@ -33,7 +33,7 @@ loop-rest-preserved g c =
       inv.0 ++ take n rest,
       inv.1 ∙ (cut ∙ left),
       (λ subject. takes_then_takes (g.A.Account.has_met subject) c.args.self.now c.loop-rest.self run inv.0 rest n _ _ _ (inv.2 subject) (c.in-Ok.ensures.steps subject)),
-      c.in-Ok.ensures.unmarked no_fault ∙ inv.3,
+      c.in-Ok.ensures.writer.unmarked no_fault ∙ inv.3,
     )
 
 pub returns-in-Err-clause-asked : goal.returns-in-Err-clause-asked
