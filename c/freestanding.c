@@ -1,7 +1,6 @@
 /* A node and a listener with no C library: memory comes from a pool of 16 kB, and memcpy and its like are written out.
  * It runs on x86-64 Linux; all that is the system's stands at the end. Build:
- *   cc -std=c11 -O2 -ffreestanding -fno-builtin -fno-stack-protector -nostdlib -static freestanding.c j1939.c
- *   ../crates/j39_c/out/libj39_c.a */
+ *   cc -std=c11 -O2 -ffreestanding -fno-builtin -fno-stack-protector -nostdlib -static freestanding.c libj1939.a */
 #include "j1939.h"
 
 /* What the archive asks for in place of malloc: a block of a size and an alignment of 1 to 16, and whether there is
