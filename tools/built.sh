@@ -43,10 +43,10 @@ in_place() {
   esac
 }
 
-# Prints of each source of the three products, and of crates.txt, what find is told to.
+# Prints of each source of the three products that is there, and of crates.txt, what find is told to.
 find_sources() {
   # shellcheck disable=SC2086 # The files are words.
-  (cd "$top" && find crates/*/src crates/*/specs crates/*/proofs $library_files $page_files crates.txt -type f "$@")
+  (cd "$top" && find crates/*/src crates/*/specs crates/*/proofs $library_files $page_files crates.txt -type f "$@" 2>/dev/null) || true
 }
 
 # Prints a line for each of these sources, its sum and its name, and for each crate its line of crates.txt.
@@ -85,7 +85,8 @@ sum_sources() {
     list=$(list_sources)
     kept=("$key")
     for product in j1939 libj1939.a j1939.html bus_demo; do
-      kept+=("$product $(sources_of "$product" <<<"$list" | sum_of)")
+      # By a pipe, which wants no room for temporary files.
+      kept+=("$product $(printf '%s\n' "$list" | sources_of "$product" | sum_of)")
     done
     keep_sums
   fi
@@ -123,7 +124,7 @@ look_at_prebuilt() {
   while read -r word name wanted of; do
     [ "$word $name" != "made $1" ] || break
   done <"$sums"
-  if [[ ! $wanted =~ ^[0-9a-f]{64}$ || ! $of =~ ^[0-9a-f]{64}$ ]]; then
+  if [[ "$word $name" != "made $1" || ! $wanted =~ ^[0-9a-f]{64}$ || ! $of =~ ^[0-9a-f]{64}$ ]]; then
     why="prebuilt/SUMS has no line of $1" is_damaged=yes
   elif [ "$of" != "$sources" ]; then
     why="prebuilt/$1 was made of other sources: $(first_other "$1") differs"
