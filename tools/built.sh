@@ -43,15 +43,15 @@ in_place() {
   esac
 }
 
-# Prints of each source of the three products that is there, and of crates.txt, what find is told to.
+# Prints of each source of the three products that is there, and of the files that are named first, what find is told to.
 find_sources() {
   # shellcheck disable=SC2086 # The files are words.
-  (cd "$top" && find crates/*/src crates/*/specs crates/*/proofs $library_files $page_files crates.txt -type f "$@" 2>/dev/null) || true
+  (cd "$top" && find crates/*/src crates/*/specs crates/*/proofs $library_files $page_files $1 -type f "${@:2}" 2>/dev/null) || true
 }
 
 # Prints a line for each of these sources, its sum and its name, and for each crate its line of crates.txt.
 list_sources() {
-  find_sources ! -name crates.txt -print0 | LC_ALL=C sort -z | (cd "$top" && xargs -0 sha256sum)
+  find_sources '' -print0 | LC_ALL=C sort -z | (cd "$top" && xargs -0 sha256sum)
   sed 's/ /+/g; s/^\([a-z0-9_]*\).*/&  crates.txt:\1/' "$top/crates.txt"
 }
 
@@ -75,29 +75,34 @@ sum_of() {
   sum=$(sha256sum "$@") && echo "${sum%% *}"
 }
 
-# Sets `sources`, the sum of a product's sources. Such sums are kept in out/, where that can be written, until a file of
-# theirs is another, by its place, its size or its times.
+# Sets `sources`, the sum of a product's sources, and `shipped`, that of what lies in prebuilt/. They are kept in out/, where
+# that can be written, until one of all these files is another, by its place, its size or its times.
 sum_sources() {
-  local key list product line kept=()
-  key=$(find_sources -printf '%p %i %s %T@ %C@\n' | sum_of)
+  local key list product was kept=()
+  key=$(find_sources 'crates.txt prebuilt' -printf '%p %i %s %T@ %C@\n' | sum_of)
   mapfile -t kept 2>/dev/null <"$top/out/sources" || true
   if [ "${kept[0]-}" != "$key" ]; then
     list=$(list_sources)
     kept=("$key")
     for product in j1939 libj1939.a j1939.html bus_demo; do
       # By a pipe, which wants no room for temporary files.
-      kept+=("$product $(printf '%s\n' "$list" | sources_of "$product" | sum_of)")
+      sources=$(printf '%s\n' "$list" | sources_of "$product" | sum_of)
+      shipped=$(sum_of "$top/prebuilt/$product" 2>/dev/null) || shipped=none
+      kept+=("$product $sources $shipped")
     done
     keep_sums
   fi
-  for line in "${kept[@]}"; do
-    [ "${line% *}" != "$1" ] || sources=${line#* }
+  for was in "${kept[@]:1}"; do
+    if [ "${was%% *}" = "$1" ]; then
+      was=${was#* }
+      sources=${was% *} shipped=${was#* }
+    fi
   done
 }
 
 # A file that was changed a moment ago may change once more without another time.
 keep_sums() {
-  [ -z "$(find_sources -newerct '2 seconds ago' -print -quit)" ] || return 0
+  [ -z "$(find_sources 'crates.txt prebuilt' -newerct '2 seconds ago' -print -quit)" ] || return 0
   {
     mkdir -p "$top/out" && printf '%s\n' "${kept[@]}" >"$top/out/sources.$$" && mv "$top/out/sources.$$" "$top/out/sources"
   } 2>/dev/null || rm -f "$top/out/sources.$$" 2>/dev/null || true
@@ -128,7 +133,7 @@ look_at_prebuilt() {
     why="prebuilt/SUMS has no line of $1" is_damaged=yes
   elif [ "$of" != "$sources" ]; then
     why="prebuilt/$1 was made of other sources: $(first_other "$1") differs"
-  elif [ "$wanted" != "$(sum_of "$top/prebuilt/$1" 2>/dev/null)" ]; then
+  elif [ "$wanted" != "$shipped" ]; then
     why="prebuilt/$1 isn't what prebuilt/SUMS says: it was cut short or changed"
   else
     why=$(lacking "$1")
@@ -197,7 +202,7 @@ note_made() {
 
 # Sets `found` to a product that was made of these sources, or says why there is none.
 find_product() {
-  local sources crate files made why is_damaged=''
+  local sources shipped crate files made why is_damaged=''
   describe "$1"
   sum_sources "$1"
   found=$made
@@ -240,7 +245,7 @@ find_page() {
 
 # Sets `demo` to the program bus_demo, which isn't shipped, where it was built here of these sources; it isn't built for that.
 find_demo() {
-  local crate files made sources
+  local crate files made sources shipped
   describe bus_demo
   sum_sources bus_demo
   # shellcheck disable=SC2034 # Who calls this uses it.
