@@ -36,11 +36,11 @@ crates_of() {
 
 # The crate that stands in the page for this one: it holds where it stands what this one holds in memory that is asked for.
 in_place() {
-  case $1 in
-    j39_store) echo j39_place ;;
-    j39_by_group | j39_list | j39_by_origin) echo "$1_in_place" ;;
-    *) echo "$1" ;;
-  esac
+  if [ "$1" = j39_memory ]; then
+    echo j39_memory_in_place
+  else
+    echo "$1"
+  fi
 }
 
 # Prints of each source of the three products that is there, and of the files that are named first, what find is told to.

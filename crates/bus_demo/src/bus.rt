@@ -13,7 +13,7 @@ pub(crate) mod scenario;
 use arbitration::winner;
 use book::{Book, Fate};
 use j39_controller::Wish;
-use j39_device::{DeviceFault, Sink, put_all};
+use j39_io::{DeviceFault, Sink, put_all};
 use j39_frame::{Frame, Id, Stamp};
 use j39_log::{Bus as Network, line_of};
 use player::Player;

@@ -5,7 +5,7 @@ use crate::bus::gauges::{Gauges, Group};
 use crate::bus::player::Player;
 use crate::bus::role::{Plan, Rate, Role};
 use crate::bus::scenario::COMMAND;
-use j39_device::Told;
+use j39_io::Told;
 use std::alloc::{AllocError, Global};
 use std::test::Fail;
 

@@ -12,7 +12,7 @@ use bus::book::Book;
 use bus::player::Player;
 use bus::scenario::controllers;
 use bus::{Bus, BusFault};
-use j39_device::Told;
+use j39_io::Told;
 use std::io::BufWriter;
 use std::process::ExitCode;
 use std::{env, io};

@@ -5,7 +5,7 @@ ghost use Rattle.bus_demo.specs.Numerals.{IsNumberWithin};
 
 use clap::error::ErrorKind;
 use clap::{Arg, ArgAction, ArgMatches, Command, Error};
-use j39_text::number;
+use j39_io::number;
 use std::alloc::{AllocError, Global};
 use std::convert::AsStr;
 

@@ -4,7 +4,7 @@
 mod table;
 
 use j39_cli::{ParseFault, Task, parse, perform_with, refuse, unopened, wrong_table};
-use j39_device::Told;
+use j39_io::Told;
 use j39_groups::Groups;
 use j39_table::{TableFault, read};
 use std::io::{BufWriter, ErrorKind};

@@ -2,7 +2,7 @@
 use Rattle.std.proofs.Common.{◌≡◌, ◌⊎◌, ℕ, List, Option, Some, inl, inr, subst, sym}
 use Rattle.std.specs.Prelude.{Result, Ok, Err}
 use Rattle.std.specs.Result.{result_map_both}
-use Rattle.j39_device.specs.Turn.{Turn}
+use Rattle.j39_io.specs.Turn.{Turn}
 use Rattle.j39_listen.specs.Asking.{Wanting}
 use Rattle.j39_listen.specs.Output.{Making}
 use Rattle.j39_listen.specs.Ran.{Ran}

@@ -1,6 +1,6 @@
 -- The counts of a run, as they are printed.
 use Rattle.std.specs.Prelude.{ℕ, List, [], ◌∷◌, ◌++◌, codes, decimal}
-use Rattle.j39_text.specs.Chars.{newline}
+use Rattle.j39_io.specs.Chars.{newline}
 use Rattle.j39_listen.specs.declared.counts.Counts.{Counts}
 
 -- the line of a run's counts

@@ -2,10 +2,10 @@
 use Rattle.std.specs.Prelude.{◌≡◌, ◌++◌, ℕ, Bool, List, Option, codes}
 use Rattle.std.specs.Prelude.{if◌then◌else◌}
 use Rattle.clap.specs.Words.{App, Text, first_of, new_app, with_rule}
-use Rattle.j39_fault_news.specs.Asking.{AsksForFaults}
-use Rattle.j39_fault_news.specs.Output.{MakesFaultRecords, MakesFaults}
-use Rattle.j39_fault_news.specs.declared.telling.Telling.{Telling}
-use Rattle.j39_fault_news.specs.declared.telling.Telling.TheVariants.{News, All}
+use Rattle.j39_reports.specs.FaultAsking.{AsksForFaults}
+use Rattle.j39_reports.specs.FaultRun.{MakesFaultRecords, MakesFaults}
+use Rattle.j39_reports.specs.declared.fault_news.telling.Telling.{Telling}
+use Rattle.j39_reports.specs.declared.fault_news.telling.Telling.TheVariants.{News, All}
 use Rattle.j39_groups.specs.Row.{RowRecord}
 use Rattle.j39_listen.specs.Output.{Making}
 use Rattle.j39_cli.specs.Answer.{IsBusChecked, IsTask}

@@ -1,6 +1,6 @@
 -- What a command is: its words, and what a task comes to.
 use Rattle.std.specs.Prelude.{◌≡◌, ◌==◌, ◌∷◌, ℕ, Bool, false, List, [], Option, Some, None, if◌then◌else◌}
-use Rattle.j39_device.specs.Turn.{Turn}
+use Rattle.j39_io.specs.Turn.{Turn}
 use Rattle.clap.specs.Words.{Row, Text}
 use Rattle.j39_groups.specs.Row.{RowRecord}
 use Rattle.j39_cli.specs.Answer.{Answer}

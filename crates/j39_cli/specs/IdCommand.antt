@@ -2,7 +2,7 @@
 use Rattle.std.specs.Prelude.{◌≡◌, ◌≤◌, ◌<◌, ◌^◌, ◌∷◌, ◌++◌, ℕ, true, List, [], Option, Some, None, codes, decimal, length}
 use Rattle.std.specs.Str.Parse.{IsNumeral, digits_value}
 use Rattle.clap.specs.Words.{App, Text, first_of, new_app, with_rule}
-use Rattle.j39_text.specs.Chars.{newline}
+use Rattle.j39_io.specs.Chars.{newline}
 use Rattle.j39_frame.specs.Identifier.{destination_of, id_raw, pgn_of, priority_of, source_of}
 use Rattle.j39_cli.specs.Answer.{IsChecked, IsTask}
 use Rattle.j39_cli.specs.Form.{Form, IsValue, Meaning, shows}

@@ -3,7 +3,7 @@ use Rattle.std.specs.Prelude.{◌≡◌, ◌⊎◌, ℕ, Bool, true, false}
 use Rattle.std.specs.Prelude.{◌++◌, List, [], Option, None, Some, Result, Ok, Err, if◌then◌else◌, codes, decimal}
 use Rattle.std.specs.Str.{bytes_eq}
 use Rattle.std.specs.Option.{ForSome}
-use Rattle.j39_device.specs.Turn.{Turn, Writes}
+use Rattle.j39_io.specs.Turn.{Turn, Writes}
 use Rattle.clap.specs.Words.{App, with_rule}
 use Rattle.j39_log.specs.Bus.{IsBusName}
 use Rattle.j39_groups.specs.Row.{RowRecord}

@@ -3,7 +3,7 @@ use Rattle.std.specs.Prelude.{◌≡◌, ◌<◌, ◌^◌, ◌∷◌, ◌++◌, 
 use Rattle.std.specs.Str.Parse.{AllDigits, digits_value}
 use Rattle.clap.specs.Words.{App, Text, first_of, new_app, with_rule}
 use Rattle.j39_address.specs.Name.{NameFields, fields_of, name_raw}
-use Rattle.j39_text.specs.Chars.{newline}
+use Rattle.j39_io.specs.Chars.{newline}
 use Rattle.j39_cli.specs.Answer.{IsChecked, IsTask}
 use Rattle.j39_cli.specs.Form.{Form, IsValue, Meaning, shows}
 use Rattle.j39_cli.specs.Rules.{value_rule}

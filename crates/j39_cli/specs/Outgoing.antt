@@ -2,7 +2,7 @@
 use Rattle.std.specs.Prelude.{◌<◌, ◌+◌, ◌*◌, ◌^◌, ◌∷◌, ◌++◌, ℕ, zero, suc, List, []}
 use Rattle.j39_log.specs.Bus.{IsBusName}
 use Rattle.j39_log.specs.Canonical.{line_text}
-use Rattle.j39_text.specs.Chars.{newline}
+use Rattle.j39_io.specs.Chars.{newline}
 use Rattle.j39_transport.specs.Cutting.{at_moment, cut_frame}
 use Rattle.j39_transport.specs.Message.{IsLong, MessageRecord, as_broadcast, packets_of}
 

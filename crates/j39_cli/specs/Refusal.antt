@@ -1,6 +1,6 @@
 -- What the program says where it has no task.
 use Rattle.std.specs.Prelude.{◌++◌, ◌∷◌, ℕ, List, [], codes, string_bytes}
-use Rattle.j39_text.specs.Chars.{newline}
+use Rattle.j39_io.specs.Chars.{newline}
 use Rattle.j39_cli.specs.Answer.{argument_text}
 use Rattle.j39_cli.specs.declared.task.ParseFault.{ParseFault}
 use Rattle.j39_cli.specs.declared.task.ParseFault.TheVariants.{Memory, Usage, BadValue, Help}

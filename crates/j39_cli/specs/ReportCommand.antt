@@ -1,7 +1,7 @@
 -- The command `report [--bus B] [--table T] [--spn SPN,..] [--csv] [FILE]`.
 use Rattle.std.specs.Prelude.{◌≡◌, ◌⊎◌, ◌++◌, ℕ, Bool, true, false, List, [], Option, None, Some, codes, option_map}
 use Rattle.std.specs.Option.{ForSome}
-use Rattle.j39_device.specs.Turn.{Turn, Writes}
+use Rattle.j39_io.specs.Turn.{Turn, Writes}
 use Rattle.clap.specs.Words.{App, Text, first_of, new_app, with_rule}
 use Rattle.j39_groups.specs.Readings.{HaveSameGroups, rows_of_spns}
 use Rattle.j39_groups.specs.Row.{RowRecord}
@@ -10,8 +10,8 @@ use Rattle.j39_listen.specs.Headed.{Headed}
 use Rattle.j39_listen.specs.Output.{Making, MakesReport}
 use Rattle.j39_listen.specs.declared.running.RunFault.TheVariants.{Memory}
 use Rattle.j39_log.specs.Bus.{IsBusName}
-use Rattle.j39_report_csv.specs.Csv.{MakesRecords}
-use Rattle.j39_report_csv.specs.EntryText.{header_text}
+use Rattle.j39_reports.specs.ReportRecords.{MakesRecords}
+use Rattle.j39_reports.specs.EntryText.{header_text}
 use Rattle.j39_cli.specs.Answer.{IsBusChecked, IsSpnChecked, IsTask}
 use Rattle.j39_cli.specs.Form.{Form, IsValueIfGiven, Meaning, flag_words, option_words, value_words}
 use Rattle.j39_cli.specs.LogCommand.{IsRun, fault_text, format_of, opened_of, with_log}

@@ -1,8 +1,8 @@
 -- A text that a command writes whole.
 use Rattle.std.specs.Prelude.{◌≡◌, ◌⊎◌, ℕ, true, List, [], codes}
 use Rattle.std.specs.Io.KnownBytes.{Appends}
-use Rattle.j39_device.specs.Device.{AppendsFront}
-use Rattle.j39_device.specs.Turn.{IsUnmarked, Turn, Writes}
+use Rattle.j39_io.specs.Device.{AppendsFront}
+use Rattle.j39_io.specs.Turn.{IsUnmarked, Turn, Writes}
 use Rattle.j39_cli.specs.Refusal.{error_line}
 
 -- status 0: all of the text was written, and no fault came

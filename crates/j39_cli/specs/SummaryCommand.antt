@@ -1,7 +1,7 @@
 -- The command `summary [--bus B] [--table T] [--csv] [FILE]`.
 use Rattle.std.specs.Prelude.{◌≡◌, ◌++◌, ℕ, Bool, List, Option, codes}
 use Rattle.clap.specs.Words.{App, Text, first_of, new_app, with_rule}
-use Rattle.j39_summary.specs.Summaries.{AsksForRows, MakesSummary, MakesSummaryRecords}
+use Rattle.j39_reports.specs.SummaryRun.{AsksForRows, MakesSummary, MakesSummaryRecords}
 use Rattle.j39_groups.specs.Row.{RowRecord}
 use Rattle.j39_listen.specs.Output.{Making}
 use Rattle.j39_cli.specs.Answer.{IsBusChecked, IsTask}

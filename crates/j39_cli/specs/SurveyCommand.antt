@@ -1,10 +1,10 @@
 -- The command `survey [--table T] [FILE]`.
 use Rattle.std.specs.Prelude.{◌≡◌, ◌⊎◌, ◌++◌, ℕ, List, [], Option, Result, Ok, Err, codes, false, true}
-use Rattle.j39_device.specs.Turn.{Turn, Writes}
+use Rattle.j39_io.specs.Turn.{Turn, Writes}
 use Rattle.clap.specs.Words.{App, Text, first_of, new_app, with_rule}
 use Rattle.j39_groups.specs.Row.{RowRecord}
 use Rattle.j39_listen.specs.declared.running.RunFault.{RunFault}
-use Rattle.j39_survey.specs.Run.{Surveyed}
+use Rattle.j39_reports.specs.SurveyRun.{Surveyed}
 use Rattle.j39_cli.specs.Answer.{IsTask}
 use Rattle.j39_cli.specs.Form.{Form, IsValueIfGiven, Meaning, option_words, value_words}
 use Rattle.j39_cli.specs.LogCommand.{fault_text, log_limit, opened_of}
@@ -35,7 +35,7 @@ abbrev pub IsSurveyTold : Result (Unit {0}) RunFault → ℕ → Turn → Type 0
 IsSurveyTold (Ok none) status err = (status ≡ 0) × (err.new ≡ err.old)
 IsSurveyTold (Err fault) status err = (status ≡ 1) × Writes err (error_line (fault_text fault) [])
 
--- a survey of the log ended so, as that of `j39_survey` may, and its end is told
+-- a survey of the log ended so, as `survey` of `j39_reports` may, and its end is told
 pub record IsSurvey (rows : List RowRecord) (status : ℕ) (log out err : Turn) : Type 0 where
   pub known : (status ≡ 0) ⊎ (status ≡ 1)
   pub result : Result (Unit {0}) RunFault

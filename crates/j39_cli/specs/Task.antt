@@ -1,6 +1,6 @@
 -- What a task comes to.
 use Rattle.std.specs.Prelude.{ℕ, Bool, List, Option}
-use Rattle.j39_device.specs.Turn.{Turn}
+use Rattle.j39_io.specs.Turn.{Turn}
 use Rattle.j39_address.specs.Name.{name_raw}
 use Rattle.j39_frame.specs.Identifier.{id_raw}
 use Rattle.j39_groups.specs.Row.{RowRecord}

@@ -1,7 +1,7 @@
 //! The command `answer`: its words, and how it is performed.
 ghost use Rattle.std.specs.Prelude.{◌≡◌, ◌≢◌, ◌↔◌, IfOk, IfSome, IsSome, Some, codes, true, Err};
 ghost use Rattle.std.specs.Str.Parse.{digits_value};
-ghost use Rattle.j39_device.specs.Turn.{turn};
+ghost use Rattle.j39_io.specs.Turn.{turn};
 ghost use Rattle.clap.specs.Words.{Text, first_value, found_of};
 ghost use Rattle.j39_address.specs.Name.{name_raw};
 ghost use Rattle.j39_address.specs.Node.{idle_node};
@@ -23,7 +23,7 @@ use crate::words::{bus_value, required};
 use crate::{Address, Argument, ParseFault, Task, WordText};
 use clap::{ArgMatches, Command};
 use j39_address::Name;
-use j39_device::{Sink, Source};
+use j39_io::{Sink, Source};
 use j39_log::Bus;
 use std::alloc::{AllocError, Global};
 

@@ -1,6 +1,6 @@
 //! The command `cut`: its words, and how it is performed.
 ghost use Rattle.std.specs.Prelude.{◌≡◌, IfOk, Some, codes, true};
-ghost use Rattle.j39_device.specs.Turn.{turn};
+ghost use Rattle.j39_io.specs.Turn.{turn};
 ghost use Rattle.clap.specs.Words.{Text, first_value, found_of};
 ghost use Rattle.j39_cli.specs.CommandWords as written;
 ghost use Rattle.j39_cli.specs.CommandWords.{IsAnswer};
@@ -16,7 +16,7 @@ use crate::shown::show_text;
 use crate::words::required;
 use crate::{Argument, Outgoing, ParseFault, Task};
 use clap::{ArgMatches, Command};
-use j39_device::Sink;
+use j39_io::Sink;
 use j39_log::Bus;
 use std::alloc::{AllocError, Global};
 

@@ -11,7 +11,7 @@ ghost use Rattle.j39_cli.specs.Numbers.{IsNumberBelow};
 use crate::{Argument, ParseFault};
 use hex::FromHexError;
 use j39_frame::{Pgn, Stamp};
-use j39_text::number;
+use j39_io::number;
 use std::alloc::Global;
 
 /// The number of decimal digits, leading zeros taken; `None` for other text, and from the limit up.

@@ -1,8 +1,8 @@
 //! The command `faults`: its words, and how it is performed.
 ghost use Rattle.std.specs.Prelude.{◌≡◌, ◌≢◌, IfOk, codes, true, Err};
-ghost use Rattle.j39_device.specs.Turn.{turn};
+ghost use Rattle.j39_io.specs.Turn.{turn};
 ghost use Rattle.clap.specs.Words.{first_value, found_of};
-ghost use Rattle.j39_fault_news.specs.Asking.{AsksForFaults};
+ghost use Rattle.j39_reports.specs.FaultAsking.{AsksForFaults};
 ghost use Rattle.j39_cli.specs.CommandWords as written;
 ghost use Rattle.j39_cli.specs.CommandWords.{IsAnswer};
 ghost use Rattle.j39_cli.specs.FaultsCommand.{faults_app, faults_in, telling_of};
@@ -15,8 +15,8 @@ use crate::log::{LOG_LIMIT, copy_of, format_by, tell_end, with_csv, with_log};
 use crate::words::{bus_value, is_set};
 use crate::{Format, ParseFault, Task, WordText};
 use clap::{ArgMatches, Command};
-use j39_device::{Sink, Source};
-use j39_fault_news::{Telling, faults_csv};
+use j39_io::{Sink, Source};
+use j39_reports::{Telling, faults_csv};
 use j39_groups::Groups;
 use j39_log::Bus;
 use std::alloc::{AllocError, Global};
@@ -102,7 +102,7 @@ pub(crate) fn perform<R: Source, W: Sink, E: Sink>(
     let bus = copy_of(bus);
     match format {
         Format::Lines => {
-            let end = j39_fault_news::faults(alloc, groups, telling, source, sink, bus, LOG_LIMIT);
+            let end = j39_reports::faults(alloc, groups, telling, source, sink, bus, LOG_LIMIT);
             tell_end(end, err)
         }
         Format::Csv => {

@@ -2,8 +2,8 @@
 ghost use Rattle.std.specs.Prelude.{◌≡◌, ◌≢◌, IfOk, OnErr, OnOk, codes, true, Err};
 ghost use Rattle.std.specs.Io.KnownBytes.{Appends};
 ghost use Rattle.clap.specs.Words.{first_value, found_of};
-ghost use Rattle.j39_device.specs.Device.{AppendsFront, Marks};
-ghost use Rattle.j39_device.specs.Turn.{turn};
+ghost use Rattle.j39_io.specs.Device.{AppendsFront, Marks};
+ghost use Rattle.j39_io.specs.Turn.{turn};
 ghost use Rattle.j39_groups.specs.Printed.{rows_text};
 ghost use Rattle.j39_cli.specs.CommandWords as written;
 ghost use Rattle.j39_cli.specs.CommandWords.{IsAnswer};
@@ -16,7 +16,7 @@ use crate::command::{new_command, with_table};
 use crate::shown::status_of;
 use crate::{ParseFault, Task, WordText};
 use clap::{ArgMatches, Command};
-use j39_device::{DeviceFault, Sink};
+use j39_io::{DeviceFault, Sink};
 use j39_groups::Groups;
 use std::alloc::{AllocError, Global};
 

@@ -1,6 +1,6 @@
 //! What the commands that read a log have in common.
 ghost use Rattle.std.specs.Prelude.{◌≡◌, ◌≤◌, [], codes, false, length};
-ghost use Rattle.j39_device.specs.Turn.{Writes, turn};
+ghost use Rattle.j39_io.specs.Turn.{Writes, turn};
 ghost use Rattle.clap.specs.Words.{App, with_rule};
 ghost use Rattle.j39_cli.specs.LogCommand.{IsTold, fault_text, format_of, with_log};
 ghost use Rattle.j39_cli.specs.Refusal.{error_line};
@@ -12,10 +12,10 @@ use crate::fields::{counts_line, push_field};
 use crate::refusal::{complain, show};
 use arrayvec::ArrayVec;
 use clap::Command;
-use j39_device::Sink;
+use j39_io::Sink;
 use j39_listen::{Counts, RunFault};
 use j39_log::Bus;
-use j39_text::printing::push_bytes;
+use j39_io::printing::push_bytes;
 use std::alloc::{AllocError, Global};
 
 /// The most bytes of a log that the program reads.

@@ -2,7 +2,7 @@
 ghost use Rattle.std.specs.Prelude.{◌≡◌, ◌≢◌, ◌↔◌, ◌++◌, ◌≤◌, ◌+◌, IfOk, IfSome, IsSome, Some, codes, length, true, Err};
 ghost use Rattle.std.specs.Str.Parse.{digits_value};
 ghost use Rattle.arrayvec.specs.ArrayVec.{array_vec_len};
-ghost use Rattle.j39_device.specs.Turn.{turn};
+ghost use Rattle.j39_io.specs.Turn.{turn};
 ghost use Rattle.clap.specs.Words.{Text, first_value, found_of};
 ghost use Rattle.j39_address.specs.Name.{name_raw};
 ghost use Rattle.j39_cli.specs.CommandWords as written;
@@ -20,9 +20,9 @@ use crate::{Argument, ParseFault, Task};
 use arrayvec::ArrayVec;
 use clap::{ArgMatches, Command};
 use j39_address::Name;
-use j39_device::Sink;
-use j39_text::number;
-use j39_text::printing::push_bytes;
+use j39_io::Sink;
+use j39_io::number;
+use j39_io::printing::push_bytes;
 use std::alloc::{AllocError, Global};
 
 const ABOUT: &str = "\

@@ -1,6 +1,6 @@
 //! The command `nodes`: its words, and how it is performed.
 ghost use Rattle.std.specs.Prelude.{◌≡◌, ◌≢◌, IfOk, codes, true, Err};
-ghost use Rattle.j39_device.specs.Turn.{turn};
+ghost use Rattle.j39_io.specs.Turn.{turn};
 ghost use Rattle.clap.specs.Words.{first_value, found_of};
 ghost use Rattle.j39_listen.specs.Asking.{AsksNowhere};
 ghost use Rattle.j39_cli.specs.CommandWords as written;
@@ -15,7 +15,7 @@ use crate::log::{LOG_LIMIT, copy_of, format_by, tell_end, with_csv, with_log};
 use crate::words::{bus_value, is_set};
 use crate::{Format, ParseFault, Task, WordText};
 use clap::{ArgMatches, Command};
-use j39_device::{Sink, Source};
+use j39_io::{Sink, Source};
 use j39_listen::nodes_csv;
 use j39_log::Bus;
 use std::alloc::{AllocError, Global};

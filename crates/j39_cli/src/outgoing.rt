@@ -2,7 +2,7 @@
 ghost use Rattle.std.specs.Prelude.{◌≡◌, ◌≤◌, ◌↔◌, ◌+◌, ◌*◌, ◌++◌, ◌∷◌, [], IfSome, IsSome, length};
 ghost use Rattle.arrayvec.specs.ArrayVec.{array_vec_len};
 ghost use Rattle.j39_frame.specs.Address.{IsAddress};
-ghost use Rattle.j39_text.specs.Chars.{newline};
+ghost use Rattle.j39_io.specs.Chars.{newline};
 ghost use Rattle.j39_frame.specs.Pgn.{pgn_raw};
 ghost use Rattle.j39_frame.specs.Stamp.{stamp_micros};
 ghost use Rattle.j39_transport.specs.Message.{packets_of};
@@ -11,7 +11,7 @@ ghost use Rattle.j39_cli.specs.Outgoing.{EndsInTime, cut_text, frame_line, outgo
 use arrayvec::ArrayVec;
 use j39_frame::{Frame, Pgn, Stamp};
 use j39_log::{Bus, line_of};
-use j39_text::printing::push_bytes;
+use j39_io::printing::push_bytes;
 use j39_transport::Cut;
 use std::marker::Model;
 

@@ -1,10 +1,10 @@
 //! What the program says of a file that is no table of parameters.
 ghost use Rattle.std.specs.Prelude.{◌≡◌};
-ghost use Rattle.j39_device.specs.Turn.{Writes, turn};
+ghost use Rattle.j39_io.specs.Turn.{Writes, turn};
 ghost use Rattle.j39_cli.specs.OwnTable.{table_line};
 
 use crate::refusal::complain;
-use j39_device::Sink;
+use j39_io::Sink;
 use j39_table::TableFault;
 
 /// Says why this file is no table, and answers the exit status. A fault of the writer is passed over.

@@ -1,11 +1,11 @@
 //! Tasks over devices.
 ghost use Rattle.std.specs.Prelude.{◌≡◌, ◌⊎◌, false, true};
-ghost use Rattle.j39_device.specs.Turn.{turn};
+ghost use Rattle.j39_io.specs.Turn.{turn};
 ghost use Rattle.j39_groups.specs.Table.{the_table};
 ghost use Rattle.j39_cli.specs.Task.{IsPerformed, reads_log};
 
 use crate::{Task, answer, cut, faults, groups, id, name, nodes, report, summary, survey};
-use j39_device::{Sink, Source};
+use j39_io::{Sink, Source};
 use j39_groups::Groups;
 use std::alloc::Global;
 

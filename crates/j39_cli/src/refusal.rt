@@ -1,12 +1,12 @@
 //! What the program says where it has no task, or can't open the log.
 ghost use Rattle.std.specs.Prelude.{◌≡◌, ◌↔◌, OnOk, codes};
 ghost use Rattle.std.specs.Io.KnownBytes.{Appends};
-ghost use Rattle.j39_device.specs.Device.{Marks};
-ghost use Rattle.j39_device.specs.Turn.{Writes, turn};
+ghost use Rattle.j39_io.specs.Device.{Marks};
+ghost use Rattle.j39_io.specs.Turn.{Writes, turn};
 ghost use Rattle.j39_cli.specs.Refusal.{IsHelp, IsWrongLine, error_line, error_words, out_words};
 
 use crate::ParseFault;
-use j39_device::{DeviceFault, Sink, put_all};
+use j39_io::{DeviceFault, Sink, put_all};
 
 /// Says why there is no task, and answers the exit status: 0 for help, which goes to `out`, 1 for
 /// memory and 2 for a wrong command line, both on `err`. A fault of either writer is passed over.

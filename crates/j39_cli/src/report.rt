@@ -1,6 +1,6 @@
 //! The command `report`: its words, and how it is performed.
 ghost use Rattle.std.specs.Prelude.{◌≡◌, ◌≢◌, ◌⊎◌, IfOk, codes, false, true, Err};
-ghost use Rattle.j39_device.specs.Turn.{turn};
+ghost use Rattle.j39_io.specs.Turn.{turn};
 ghost use Rattle.clap.specs.Words.{first_value, found_of};
 ghost use Rattle.j39_listen.specs.Asking.{AsksForBoxes};
 ghost use Rattle.j39_cli.specs.CommandWords as written;
@@ -16,11 +16,11 @@ use crate::refusal::complain;
 use crate::words::{bus_value, is_set, spns_value};
 use crate::{Format, ParseFault, Spns, Task, WordText};
 use clap::{ArgMatches, Command};
-use j39_device::{Sink, Source};
+use j39_io::{Sink, Source};
 use j39_groups::Groups;
 use j39_listen::run_with;
 use j39_log::Bus;
-use j39_report_csv::report_csv;
+use j39_reports::report_csv;
 use std::alloc::{AllocError, Global};
 
 const ABOUT: &str = "\

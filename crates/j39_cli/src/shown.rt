@@ -1,13 +1,13 @@
 //! What a command writes whole, where it reads no log.
 ghost use Rattle.std.specs.Prelude.{◌≡◌, [], OnOk, OnErr, codes, true};
 ghost use Rattle.std.specs.Io.KnownBytes.{Appends};
-ghost use Rattle.j39_device.specs.Device.{AppendsFront, Marks};
-ghost use Rattle.j39_device.specs.Turn.{Writes, turn};
+ghost use Rattle.j39_io.specs.Device.{AppendsFront, Marks};
+ghost use Rattle.j39_io.specs.Turn.{Writes, turn};
 ghost use Rattle.j39_cli.specs.Shown.{IsShown};
 ghost use Rattle.j39_cli.specs.Refusal.{error_line};
 
 use crate::refusal::complain;
-use j39_device::{DeviceFault, Sink, put_all};
+use j39_io::{DeviceFault, Sink, put_all};
 
 /// Writes all that a command has to say, and answers the status.
 pub(crate) fn show_text<W: Sink, E: Sink>(text: &[u8], sink: &mut W, err: &mut E) -> u8

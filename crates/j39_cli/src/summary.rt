@@ -1,8 +1,8 @@
 //! The command `summary`: its words, and how it is performed.
 ghost use Rattle.std.specs.Prelude.{◌≡◌, ◌≢◌, IfOk, codes, true, Err};
-ghost use Rattle.j39_device.specs.Turn.{turn};
+ghost use Rattle.j39_io.specs.Turn.{turn};
 ghost use Rattle.clap.specs.Words.{first_value, found_of};
-ghost use Rattle.j39_summary.specs.Summaries.{AsksForRows};
+ghost use Rattle.j39_reports.specs.SummaryRun.{AsksForRows};
 ghost use Rattle.j39_cli.specs.CommandWords as written;
 ghost use Rattle.j39_cli.specs.CommandWords.{IsAnswer};
 ghost use Rattle.j39_cli.specs.LogCommand.{IsRun};
@@ -15,10 +15,10 @@ use crate::log::{LOG_LIMIT, copy_of, format_by, tell_end, with_csv, with_log};
 use crate::words::{bus_value, is_set};
 use crate::{Format, ParseFault, Task, WordText};
 use clap::{ArgMatches, Command};
-use j39_device::{Sink, Source};
+use j39_io::{Sink, Source};
 use j39_groups::Groups;
 use j39_log::Bus;
-use j39_summary::summary_csv;
+use j39_reports::summary_csv;
 use std::alloc::{AllocError, Global};
 
 const ABOUT: &str = "\
@@ -83,7 +83,7 @@ pub(crate) fn perform<R: Source, W: Sink, E: Sink>(
 {
     match format {
         Format::Lines => {
-            let end = j39_summary::summary(alloc, groups, source, sink, copy_of(bus), LOG_LIMIT);
+            let end = j39_reports::summary(alloc, groups, source, sink, copy_of(bus), LOG_LIMIT);
             tell_end(end, err)
         }
         Format::Csv => {

@@ -1,6 +1,6 @@
 //! The command `survey`: its words, and how it is performed.
 ghost use Rattle.std.specs.Prelude.{◌≡◌, ◌≢◌, IfOk, codes, false, true, Err};
-ghost use Rattle.j39_device.specs.Turn.{turn};
+ghost use Rattle.j39_io.specs.Turn.{turn};
 ghost use Rattle.clap.specs.Words.{first_value, found_of};
 ghost use Rattle.j39_cli.specs.CommandWords as written;
 ghost use Rattle.j39_cli.specs.CommandWords.{IsAnswer};
@@ -12,7 +12,7 @@ use crate::command::{new_command, with_table, with_value};
 use crate::log::{LOG_LIMIT, tell_fault};
 use crate::{ParseFault, Task, WordText};
 use clap::{ArgMatches, Command};
-use j39_device::{Sink, Source};
+use j39_io::{Sink, Source};
 use j39_groups::Groups;
 use std::alloc::{AllocError, Global};
 
@@ -71,7 +71,7 @@ pub(crate) fn perform<R: Source, W: Sink, E: Sink>(
         (turn E.held E.has_failed err.old err.new) }
     ensures flushed { result ≡ 0 → W.is_flushed sink.new ≡ true }
 {
-    match j39_survey::survey(alloc, groups, source, sink, LOG_LIMIT) {
+    match j39_reports::survey(alloc, groups, source, sink, LOG_LIMIT) {
         Ok(()) => 0,
         Err(fault) => tell_fault(fault, err),
     }

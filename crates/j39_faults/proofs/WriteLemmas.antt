@@ -1,8 +1,8 @@
 -- A fault at the last of several writes.
 use Rattle.std.proofs.Common.{ℕ, List, [], ◌++◌, Option, ap, sym, append-nil}
 use Rattle.std.specs.Io.KnownBytes.{Appends}
-use Rattle.j39_device.specs.Device.{AppendsFront}
-use Rattle.j39_device.proofs.DeviceLemmas.{front_within}
+use Rattle.j39_io.specs.Device.{AppendsFront}
+use Rattle.j39_io.proofs.DeviceLemmas.{front_within}
 
 pub front_last : (old mid new : Option (List ℕ)) (a b : List ℕ) → Appends old mid a → AppendsFront mid new b → AppendsFront old new (a ++ b)
 front_last old mid new a b first second =

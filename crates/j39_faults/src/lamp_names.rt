@@ -6,7 +6,7 @@ ghost use Rattle.j39_faults.specs.Text.{is_flashing, is_on, lamp_words, lamps_on
 
 use crate::lamps::{Flash, Lamp, LampState, Lamps};
 use arrayvec::ArrayVec;
-use j39_text::printing::push_bytes;
+use j39_io::printing::push_bytes;
 
 /// The names of four lamps fit, with stars, and commas between.
 pub type LampsText = ArrayVec<u8, 40>;

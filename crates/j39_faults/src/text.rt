@@ -4,7 +4,7 @@ ghost use Rattle.std.specs.Io.KnownBytes.{Appends};
 ghost use Rattle.std.specs.Option.{option_map};
 ghost use Rattle.arrayvec.specs.ArrayVec.{array_vec_len};
 ghost use Rattle.hex.specs.Hex.{encode_upper};
-ghost use Rattle.j39_device.specs.Device.{AppendsFront, Marks};
+ghost use Rattle.j39_io.specs.Device.{AppendsFront, Marks};
 ghost use Rattle.j39_faults.specs.Text.{code_text, columns_text, count_text, kind_text, lamps_text, meaning_text, name_text, no_code_text};
 
 use crate::code::Code;
@@ -13,8 +13,8 @@ use crate::lamp_names::lamps_text;
 use crate::lamps::Lamps;
 use crate::words::fmi_words;
 use arrayvec::ArrayVec;
-use j39_device::{DeviceFault, Sink, put_all};
-use j39_text::printing::{push_bytes, push_hex, push_number};
+use j39_io::{DeviceFault, Sink, put_all};
+use j39_io::printing::{push_bytes, push_hex, push_number};
 
 /// Three numbers of ten digits, the kind, the lamps and what stands between fit.
 type Columns = ArrayVec<u8, 96>;

@@ -6,3 +6,5 @@ pub mod Identifier
 pub mod Address
 -- frames
 pub mod Frame
+-- where a value comes from
+pub mod Origin

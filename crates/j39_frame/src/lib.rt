@@ -5,11 +5,13 @@ mod address;
 mod frame;
 mod identifier;
 mod network;
+mod origin;
 mod pgn;
 mod stamp;
 
 pub use address::{GLOBAL_ADDRESS, NULL_ADDRESS, is_address};
 pub use frame::Frame;
 pub use identifier::Id;
+pub use origin::Origin;
 pub use pgn::Pgn;
 pub use stamp::Stamp;

@@ -9,8 +9,8 @@ use Rattle.std.proofs.lemmas.List.{nil_from_length}
 use Rattle.std.proofs.lemmas.List.Concat.{flat_map-cons}
 use Rattle.std.proofs.lemmas.List.Folds.{flat_map-map, list_all-append}
 use Rattle.std.proofs.lemmas.Slice.Eq.{bytes_eq-Decides}
-use Rattle.j39_text.specs.Backwards.{WritesBefore}
-use Rattle.j39_text.proofs.BackwardsLemmas.{before_none, before_then}
+use Rattle.j39_io.specs.Backwards.{WritesBefore}
+use Rattle.j39_io.proofs.BackwardsLemmas.{before_none, before_then}
 use Rattle.j39_groups.specs.declared.table.Field.{Field}
 use Rattle.j39_groups.specs.declared.table.Field.TheVariants.{Number, Switch, Text, Texts}
 use Rattle.j39_groups.specs.declared.value.Value.{Value}

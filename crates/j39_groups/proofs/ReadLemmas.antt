@@ -10,9 +10,9 @@ use Rattle.std.proofs.lemmas.List.Elements.{filter-append}
 use Rattle.std.proofs.lemmas.List.Concat.{flat_map-cons}
 use Rattle.std.proofs.lemmas.Grind.{flat_map-append}
 use Rattle.std.proofs.lemmas.List.Folds.{flat_map-map}
-use Rattle.j39_text.specs.Backwards.{WritesBefore}
+use Rattle.j39_io.specs.Backwards.{WritesBefore}
 use Rattle.j39_frame.specs.Pgn.{pgn_raw}
-use Rattle.j39_text.proofs.BackwardsLemmas.{before_none, before_then}
+use Rattle.j39_io.proofs.BackwardsLemmas.{before_none, before_then}
 use Rattle.j39_groups.specs.declared.read_row.ReadRow.{ReadRow}
 use Rattle.j39_groups.specs.Readings.{is_network_group, readings_at, readings_in}
 use Rattle.j39_groups.specs.Quick.{reading_line}

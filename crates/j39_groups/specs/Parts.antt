@@ -1,7 +1,7 @@
 -- The parts of a payload between the bytes `*`.
 use Rattle.std.specs.Prelude.{◌≡◌, ◌≢◌, ◌<◌, ◌==◌, ℕ, List, All, length}
 use Rattle.std.specs.List.{slice_split, join_with_byte}
-use Rattle.j39_text.specs.Chars.{star}
+use Rattle.j39_io.specs.Chars.{star}
 
 -- these parts hold no `*` and, joined by it, are the payload
 pub record AreParts (bytes : List ℕ) (parts : List (List ℕ)) : Type 0 where

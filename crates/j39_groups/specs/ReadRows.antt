@@ -8,7 +8,7 @@ use Rattle.j39_groups.specs.declared.read_row.ReadRow.{ReadRow}
 use Rattle.j39_groups.specs.ReadFields.{read_field_record}
 use Rattle.j39_groups.specs.Row.{RowRecord}
 use Rattle.j39_groups.specs.Table.{the_table}
-use Rattle.j39_list.specs.Items.{items_of}
+use Rattle.j39_memory.specs.Items.{items_of}
 
 abbrev pub read_row_record : ReadRow → RowRecord
 read_row_record row = record {

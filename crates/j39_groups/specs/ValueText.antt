@@ -3,8 +3,8 @@ use Rattle.std.specs.Prelude.{◌/◌, ◌^◌, ◌%◌, ◌==◌, ◌&&◌, not
 use Rattle.std.specs.Int.{is_negative}
 use Rattle.std.specs.List.{flat_map}
 use Rattle.std.specs.Fmt.{decimal, digit_glyph, sign_text}
-use Rattle.j39_text.specs.Chars.{space, delete, quote, backslash}
-use Rattle.j39_text.specs.Printing.{last_digits}
+use Rattle.j39_io.specs.Chars.{space, delete, quote, backslash}
+use Rattle.j39_io.specs.Printing.{last_digits}
 use Rattle.j39_groups.specs.Value.{SlotRecord, ValueRecord, number, on, off, error, reserved, indicator, text}
 
 -- nothing where there are no places, else `.` and the last digits

@@ -1,7 +1,7 @@
 //! The text of a value without its unit, and the unit (own).
 ghost use Rattle.std.specs.Prelude.{◌≡◌, OnErr, OnOk};
 ghost use Rattle.std.specs.Io.KnownBytes.{Appends};
-ghost use Rattle.j39_device.specs.Device.{AppendsFront, Marks};
+ghost use Rattle.j39_io.specs.Device.{AppendsFront, Marks};
 ghost use Rattle.j39_groups.specs.ReadValues.{read_value_of};
 ghost use Rattle.j39_groups.specs.Shown.{value_of};
 ghost use Rattle.j39_groups.specs.ValueText.{bare_text, unit_of};
@@ -9,7 +9,7 @@ ghost use Rattle.j39_groups.specs.ValueText.{bare_text, unit_of};
 use crate::read_value::ReadValue;
 use crate::text::{put_value, scaled_text};
 use crate::value::Value;
-use j39_device::{DeviceFault, Sink, put_all};
+use j39_io::{DeviceFault, Sink, put_all};
 
 impl<'t> ReadValue<'t, '_> {
     /// Writes a number in decimal with its places, a word, or a text in quotes. After a fault a front of that was written.

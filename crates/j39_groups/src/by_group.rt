@@ -1,12 +1,12 @@
 //! Rows, put in the order of their groups.
 ghost use Rattle.std.specs.Prelude.{◌≡◌, ◌≤◌, ℕ, IfOk, IsOk, length};
 ghost use Rattle.j39_groups.specs.ReadRows.{rows_of_group};
-ghost use Rattle.j39_list.specs.Items.{items_of};
+ghost use Rattle.j39_memory.specs.Items.{items_of};
 
 use crate::listed::ReadTable;
 use crate::marks::marks_of;
 use crate::read_row::ReadRow;
-use j39_list::List;
+use j39_memory::List;
 use std::alloc::AllocError;
 
 /// The table of these rows: those of one group stay in their order.

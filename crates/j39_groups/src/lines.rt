@@ -2,15 +2,15 @@
 ghost use Rattle.std.specs.Prelude.{◌≡◌, ◌≤◌, OnOk, OnErr, length};
 ghost use Rattle.std.specs.Io.KnownBytes.{Appends};
 ghost use Rattle.std.specs.List.{flat_map};
-ghost use Rattle.j39_device.specs.Device.{AppendsFront, Marks};
+ghost use Rattle.j39_io.specs.Device.{AppendsFront, Marks};
 ghost use Rattle.j39_groups.specs.Quick.{reading_line};
 ghost use Rattle.j39_groups.specs.Shown.{reading_of};
 
 use crate::text::put_value;
 use crate::value::Reading;
 use arrayvec::ArrayVec;
-use j39_device::{DeviceFault, Sink, put_all};
-use j39_text::printing::{push_bytes, push_number};
+use j39_io::{DeviceFault, Sink, put_all};
+use j39_io::printing::{push_bytes, push_number};
 
 /// Writes a line for each reading; `head` is what each begins with.
 pub(crate) fn put_found<W: Sink>(

@@ -3,11 +3,11 @@ ghost use Rattle.std.specs.Prelude.{◌≡◌, true};
 ghost use Rattle.std.specs.List.Sorted.{IsNonDecreasingBy};
 ghost use Rattle.std.proofs.Props.{props};
 ghost use Rattle.j39_frame.specs.Pgn.{pgn_raw};
-ghost use Rattle.j39_list.specs.Items.{items_of};
+ghost use Rattle.j39_memory.specs.Items.{items_of};
 ghost use Rattle.j39_groups.specs.Marks.{are_marked};
 
 use crate::read_row::ReadRow;
-use j39_list::List;
+use j39_memory::List;
 
 /// The rows of a table that was built, by rising groups; those of one group in the order in which they were given.
 #[derive(Drop)]

@@ -6,7 +6,7 @@ ghost use Rattle.j39_groups.specs.CodeRows.{row_record};
 ghost use Rattle.j39_groups.specs.Names.{name_at, name_in};
 ghost use Rattle.j39_groups.specs.ReadRows.{read_row_record};
 ghost use Rattle.j39_groups.specs.Table.{the_table};
-ghost use Rattle.j39_list.specs.Items.{items_of};
+ghost use Rattle.j39_memory.specs.Items.{items_of};
 
 use crate::listed::ReadTable;
 use crate::read_row::ReadRow;

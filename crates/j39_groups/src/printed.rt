@@ -3,7 +3,7 @@ ghost use Rattle.std.specs.Prelude.{◌≡◌, ◌+◌, ◌≤◌, ◌++◌, cod
 ghost use Rattle.std.specs.Io.KnownBytes.{Appends};
 ghost use Rattle.std.specs.List.{flat_map};
 ghost use Rattle.arrayvec.specs.ArrayVec.{array_vec_len};
-ghost use Rattle.j39_device.specs.Device.{AppendsFront, Marks};
+ghost use Rattle.j39_io.specs.Device.{AppendsFront, Marks};
 ghost use Rattle.j39_groups.specs.CodeRows.{field_record, row_record};
 ghost use Rattle.j39_groups.specs.Printed.{line_of_columns, parameters_text, place_text, range_text, row_text, rows_text, scale_columns, scale_text, slot_text};
 ghost use Rattle.j39_groups.specs.Shown.{slot_record};
@@ -14,8 +14,8 @@ use crate::slot::Slot;
 use crate::table::{Field, Row};
 use crate::text::{Text, scaled_text};
 use arrayvec::ArrayVec;
-use j39_device::{DeviceFault, Sink, put_all};
-use j39_text::printing::push_number;
+use j39_io::{DeviceFault, Sink, put_all};
+use j39_io::printing::push_number;
 
 /// Writes the table (own): a line for each parameter that is read, in the table's order, with the
 /// PGN and the short name of its group, its SPN, where it stands in the payload, what a raw step is

@@ -2,8 +2,8 @@
 ghost use Rattle.std.specs.Prelude.{◌≡◌, ◌+◌, ◌≤◌, ◌++◌, ◌∷◌, [], IfSome, drop, is_some, length};
 ghost use Rattle.std.specs.List.{flat_map};
 ghost use Rattle.std.specs.Option.{option_map, option_to_list};
-ghost use Rattle.j39_text.specs.Backwards.{WritesBefore};
-ghost use Rattle.j39_text.specs.Chars.{newline};
+ghost use Rattle.j39_io.specs.Backwards.{WritesBefore};
+ghost use Rattle.j39_io.specs.Chars.{newline};
 ghost use Rattle.j39_frame.specs.Pgn.{pgn_raw};
 ghost use Rattle.j39_groups.specs.CodeRows.{field_record};
 ghost use Rattle.j39_groups.specs.Quick.{IsQuick, IsQuickField, IsShort, is_quick_group, reading_line, short_text};
@@ -17,7 +17,7 @@ use crate::short_text::{ShortText, short_before, value_before};
 use crate::table::Field;
 use crate::value::Value;
 use j39_frame::Pgn;
-use j39_text::backwards::tail_before;
+use j39_io::backwards::tail_before;
 
 /// The most bytes that the lines of a message begin with.
 pub const HEAD: usize = 48;

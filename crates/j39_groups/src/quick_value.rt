@@ -1,8 +1,8 @@
 //! The line of one number or word in a block, the last byte first.
 ghost use Rattle.std.specs.Prelude.{◌≡◌, ◌+◌, ◌≤◌, ◌++◌, ◌∷◌, [], IfSome, IsTrue, drop, length};
 ghost use Rattle.std.specs.Fmt.{sign_text};
-ghost use Rattle.j39_text.specs.Backwards.{WritesBefore};
-ghost use Rattle.j39_text.specs.Chars.{newline};
+ghost use Rattle.j39_io.specs.Backwards.{WritesBefore};
+ghost use Rattle.j39_io.specs.Chars.{newline};
 ghost use Rattle.j39_groups.specs.Quick.{IsShort, reading_line};
 ghost use Rattle.j39_groups.specs.ReadFields.{scale_record};
 ghost use Rattle.j39_groups.specs.ReadValues.{read_value_of};
@@ -14,7 +14,7 @@ use crate::read_value::ReadValue;
 use crate::scale::Scale;
 use crate::short_text::{magnitude_before, value_before};
 use crate::value::Value;
-use j39_text::backwards::{byte_before, bytes_before, number_before, tail_before};
+use j39_io::backwards::{byte_before, bytes_before, number_before, tail_before};
 
 /// The most bytes of a line that is written here: its head, a number of ten digits and a space, and a value.
 pub(crate) const ROOM: usize = HEAD + 11 + VALUE;

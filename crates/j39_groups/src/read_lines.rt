@@ -2,7 +2,7 @@
 ghost use Rattle.std.specs.Prelude.{◌≡◌, ◌≤◌, ◌*◌, IfOk, OnOk, OnErr, drop, length};
 ghost use Rattle.std.specs.Io.KnownBytes.{Appends};
 ghost use Rattle.std.specs.List.{flat_map};
-ghost use Rattle.j39_device.specs.Device.{AppendsFront, Marks};
+ghost use Rattle.j39_io.specs.Device.{AppendsFront, Marks};
 ghost use Rattle.j39_groups.specs.Quick.{reading_line};
 ghost use Rattle.j39_groups.specs.ReadFields.{HasOneValue};
 ghost use Rattle.j39_groups.specs.ReadLines.{number_line, row_lines, row_readings, text_readings};
@@ -21,7 +21,7 @@ use crate::rows_before::rows_before;
 use crate::text::scaled_text;
 use crate::value::Reading;
 use arrayvec::ArrayVec;
-use j39_device::{DeviceFault, Sink, put_all};
+use j39_io::{DeviceFault, Sink, put_all};
 
 /// The most rows that are written in one block: more do not fit as a rule.
 const PART: usize = 8;

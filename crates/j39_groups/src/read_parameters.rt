@@ -3,7 +3,7 @@ ghost use Rattle.std.specs.Prelude.{◌≡◌, ◌+◌, ◌*◌, ◌≤◌, ◌<
 ghost use Rattle.std.specs.Io.KnownBytes.{Appends};
 ghost use Rattle.std.specs.List.{flat_map};
 ghost use Rattle.arrayvec.specs.ArrayVec.{array_vec_len};
-ghost use Rattle.j39_device.specs.Device.{AppendsFront, Marks};
+ghost use Rattle.j39_io.specs.Device.{AppendsFront, Marks};
 ghost use Rattle.j39_groups.specs.Printed.{bits_end, bits_text, place_text, row_text, rows_text, scale_columns, scale_text, slot_text};
 ghost use Rattle.j39_groups.specs.ReadFields.{IsSoundRead, read_field_record, scale_record};
 ghost use Rattle.j39_groups.specs.ReadRows.{read_row_record};
@@ -16,8 +16,8 @@ use crate::read_row::ReadRow;
 use crate::scale::Scale;
 use crate::text::scaled_text;
 use arrayvec::ArrayVec;
-use j39_device::{DeviceFault, Sink};
-use j39_text::printing::push_number;
+use j39_io::{DeviceFault, Sink};
+use j39_io::printing::push_number;
 
 /// Writes a table of these rows.
 pub(crate) fn put_read_table<W: Sink>(rows: &[ReadRow<'_>], sink: &mut W) -> Result<(), DeviceFault>

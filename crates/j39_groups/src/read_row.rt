@@ -6,7 +6,7 @@ ghost use Rattle.j39_groups.specs.Readings.{is_heard_group, is_network_group};
 
 use crate::read_field::ReadField;
 use j39_frame::Pgn;
-use j39_list::Keyed;
+use j39_memory::Keyed;
 
 /// One parameter of a group, with its texts out of the table's.
 #[derive(Clone, Copy)]

@@ -6,14 +6,14 @@ ghost use Rattle.j39_groups.specs.ReadFields.{is_sound_read, read_field_record};
 ghost use Rattle.j39_groups.specs.ReadRows.{read_row_record};
 ghost use Rattle.j39_groups.specs.Readings.{is_among, rows_of_spns};
 ghost use Rattle.j39_groups.specs.Table.{the_table};
-ghost use Rattle.j39_list.specs.Items.{items_of};
+ghost use Rattle.j39_memory.specs.Items.{items_of};
 
 use crate::read_field::ReadField;
 use crate::read_row::ReadRow;
 use crate::reading::rows;
 use crate::table::{Field, Row};
 use j39_frame::Pgn;
-use j39_list::List;
+use j39_memory::List;
 use std::alloc::{AllocError, Global};
 
 /// The rows of these parameters (SPN) of the built-in table.

@@ -1,7 +1,7 @@
 //! The lines of the readings by a group's rows of a table that was built, in one block, the last line first.
 ghost use Rattle.std.specs.Prelude.{◌≡◌, ◌≤◌, IfSome, IsTrue, drop, length};
 ghost use Rattle.std.specs.List.{flat_map};
-ghost use Rattle.j39_text.specs.Backwards.{WritesBefore};
+ghost use Rattle.j39_io.specs.Backwards.{WritesBefore};
 ghost use Rattle.j39_groups.specs.ReadFields.{HasOneValue};
 ghost use Rattle.j39_groups.specs.ReadLines.{row_lines, row_readings};
 

@@ -1,14 +1,14 @@
 //! Short texts, and the text of a value that is short, written backwards.
 ghost use Rattle.std.specs.Prelude.{◌≡◌, ◌+◌, ◌≤◌, ◌++◌, ◌∷◌, [], drop, length, codes};
-ghost use Rattle.j39_text.specs.Backwards.{WritesBefore};
-ghost use Rattle.j39_text.specs.Chars.{newline};
+ghost use Rattle.j39_io.specs.Backwards.{WritesBefore};
+ghost use Rattle.j39_io.specs.Chars.{newline};
 ghost use Rattle.j39_groups.specs.Quick.{IsShort, short_text};
 ghost use Rattle.j39_groups.specs.Shown.{slot_record, unit_text, value_of};
 ghost use Rattle.j39_groups.specs.ValueText.{magnitude_text, number_text, value_text};
 
 use crate::slot::{Slot, Unit};
 use crate::value::Value;
-use j39_text::backwards::{
+use j39_io::backwards::{
     byte_before, bytes_before, last_digits_before, number_before, tail_before,
 };
 

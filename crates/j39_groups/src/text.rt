@@ -4,15 +4,15 @@ ghost use Rattle.std.specs.Io.KnownBytes.{Appends};
 ghost use Rattle.std.specs.List.{flat_map};
 ghost use Rattle.std.specs.Fmt.{decimal, digit_glyph};
 ghost use Rattle.arrayvec.specs.ArrayVec.{array_vec_len};
-ghost use Rattle.j39_device.specs.Device.{Marks, AppendsFront};
+ghost use Rattle.j39_io.specs.Device.{Marks, AppendsFront};
 ghost use Rattle.j39_groups.specs.Shown.{value_of, slot_record};
 ghost use Rattle.j39_groups.specs.ValueText.{value_text, number_text, scaled_text, magnitude_text, byte_text, is_plain, quoted};
 
 use crate::slot::Slot;
 use crate::value::Value;
 use arrayvec::ArrayVec;
-use j39_device::{DeviceFault, Sink, put_all};
-use j39_text::printing::{push_bytes, push_number};
+use j39_io::{DeviceFault, Sink, put_all};
+use j39_io::printing::{push_bytes, push_number};
 
 /// A sign, 20 digits, a point, 255 places, a space and a unit fit.
 pub type Text = ArrayVec<u8, 288>;

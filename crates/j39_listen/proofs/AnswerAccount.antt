@@ -4,9 +4,9 @@ use Rattle.std.specs.Io.KnownBytes.{Appends}
 use Rattle.std.specs.Option.{option_map, option_to_list}
 use Rattle.std.proofs.KnownBytes.{Appends-nil, Appends-trans}
 use Rattle.j39_log.specs.Canonical.{line_text}
-use Rattle.j39_text.specs.Chars.{newline}
-use Rattle.j39_device.specs.Device.{AppendsFront}
-use Rattle.j39_device.proofs.DeviceLemmas.{front_first, front_within}
+use Rattle.j39_io.specs.Chars.{newline}
+use Rattle.j39_io.specs.Device.{AppendsFront}
+use Rattle.j39_io.proofs.DeviceLemmas.{front_first, front_within}
 use Rattle.j39_frame.specs.Frame.{FrameRecord}
 use Rattle.j39_groups.specs.Table.{the_table}
 use Rattle.j39_address.specs.Call.{Call}

@@ -2,8 +2,8 @@
 use Rattle.std.proofs.Common.{◌≡◌, ◌<◌, ◌≤◌, ◌+◌, ◌-◌, ◌/◌, ◌%◌, ◌^◌, ℕ, [], ◌∷◌, ◌++◌, ap, arith, sym, ◌∙◌}
 use Rattle.std.specs.Fmt.{decimal}
 use Rattle.std.proofs.lemmas.Fmt.{decimal_digit, decimal_step}
-use Rattle.j39_text.specs.Printing.{last_digits}
-use Rattle.j39_text.proofs.PrintingLemmas.{last_digits_none, last_digits_step}
+use Rattle.j39_io.specs.Printing.{last_digits}
+use Rattle.j39_io.proofs.PrintingLemmas.{last_digits_none, last_digits_step}
 
 one : (n : ℕ) → n < 10 → decimal n ≡ last_digits 1 n
 one n small =

@@ -4,8 +4,8 @@ use Rattle.std.specs.Prelude.{IfSome, Result}
 use Rattle.std.proofs.lemmas.Option.{IfSome_then}
 use Rattle.std.specs.Io.KnownBytes.{Appends}
 use Rattle.std.proofs.KnownBytes.{Appends-trans, Consumes-nil}
-use Rattle.j39_device.specs.Device.{AppendsFront}
-use Rattle.j39_device.specs.Turn.{Device, Turn}
+use Rattle.j39_io.specs.Device.{AppendsFront}
+use Rattle.j39_io.specs.Turn.{Device, Turn}
 use Rattle.j39_listen.specs.Asking.{Wanting}
 use Rattle.j39_listen.specs.Headed.{Headed, headed}
 use Rattle.j39_listen.specs.Output.{Making, Output}

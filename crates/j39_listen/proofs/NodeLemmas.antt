@@ -4,9 +4,9 @@ use Rattle.std.specs.Io.KnownBytes.{Appends}
 use Rattle.std.proofs.KnownBytes.{Appends-nil, Appends-trans}
 use Rattle.std.proofs.lemmas.Grind.{flat_map-append}
 use Rattle.j39_frame.specs.Address.{null_address}
-use Rattle.j39_device.specs.Device.{AppendsFront}
+use Rattle.j39_io.specs.Device.{AppendsFront}
 use Rattle.j39_frame.specs.Frame.{FrameRecord}
-use Rattle.j39_device.proofs.DeviceLemmas.{front_within}
+use Rattle.j39_io.proofs.DeviceLemmas.{front_within}
 use Rattle.j39_address.specs.Claim.{claims_of}
 use Rattle.j39_address.specs.Claims.{Knows, holder_in}
 use Rattle.j39_address.specs.declared.claims.Claims.{Claims}

@@ -3,13 +3,13 @@ use Rattle.std.proofs.Common.{◌≡◌, ◌≢◌, ◌+◌, ℕ, List, [], ◌�
 use Rattle.std.proofs.Math.Seq.{take-append-add}
 use Rattle.std.specs.Io.KnownBytes.{Consumes, IsAtEnd, Keeps}
 use Rattle.std.specs.Prelude.{IfOk, IfSome, None, OnErr, OnOk, Result, Ok, Err, Some}
-use Rattle.j39_text.specs.Chars.{newline}
+use Rattle.j39_io.specs.Chars.{newline}
 use Rattle.j39_log.specs.Log.{HasNoNewline, IsLog}
 use Rattle.j39_log.specs.Spelled.{Spelled, Spells}
 use Rattle.j39_log.specs.Splitter.{EndsLine, HasBegun, IsRawLine}
 use Rattle.j39_log.specs.declared.splitter.RawLine.{RawLine}
 use Rattle.j39_log.specs.declared.splitter.Splitter.{Splitter}
-use Rattle.j39_device.proofs.DeviceLemmas.{Appends-kept}
+use Rattle.j39_io.proofs.DeviceLemmas.{Appends-kept}
 use Rattle.j39_log.proofs.SplitterLemmas.{no_newline_append}
 use Rattle.j39_listen.specs.AccountSteps.{Begins}
 use Rattle.j39_listen.specs.LineSteps.{IsSpelling}

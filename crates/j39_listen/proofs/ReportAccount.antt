@@ -3,7 +3,7 @@ use Rattle.std.proofs.Common.{Bor, ◌≡◌, ◌<◌, ◌^◌, ℕ, List, [], �
 use Rattle.std.specs.Io.KnownBytes.{Appends}
 use Rattle.std.proofs.KnownBytes.{Appends-nil}
 use Rattle.std.proofs.lemmas.Grind.{flat_map-append}
-use Rattle.j39_device.specs.Device.{AppendsFront}
+use Rattle.j39_io.specs.Device.{AppendsFront}
 use Rattle.j39_frame.specs.Frame.{FrameRecord}
 use Rattle.j39_groups.specs.Readings.{is_reported_in}
 use Rattle.j39_groups.specs.Row.{RowRecord}

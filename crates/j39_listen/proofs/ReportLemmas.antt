@@ -1,8 +1,8 @@
 -- The text of a report, entry by entry.
 use Rattle.std.proofs.Common.{◌≡◌, ◌<◌, ◌+◌, ℕ, List, [], ◌∷◌, ◌++◌, Option, length, take, get_or, map, refl, sym, ap, ◌∙◌, subst, append-nil, append_assoc, drop, take-append-drop}
 use Rattle.std.specs.Fmt.{decimal}
-use Rattle.j39_device.specs.Device.{AppendsFront}
-use Rattle.j39_device.proofs.DeviceLemmas.{front_within}
+use Rattle.j39_io.specs.Device.{AppendsFront}
+use Rattle.j39_io.proofs.DeviceLemmas.{front_within}
 use Rattle.std.specs.Io.KnownBytes.{Appends}
 use Rattle.std.proofs.KnownBytes.{Appends-trans}
 use Rattle.std.proofs.lemmas.List.{take_more, map-append}

@@ -3,12 +3,12 @@ use Rattle.std.proofs.Common.{◌≡◌, ◌≢◌, ℕ, List, [], ◌∷◌, �
 use Rattle.std.specs.Io.KnownBytes.{Appends, Keeps}
 use Rattle.std.specs.Prelude.{unwrap_or}
 use Rattle.std.proofs.KnownBytes.{Appends-nil, Appends-trans}
-use Rattle.j39_text.specs.Chars.{newline}
+use Rattle.j39_io.specs.Chars.{newline}
 use Rattle.j39_frame.specs.Frame.{FrameRecord}
 use Rattle.j39_log.specs.Log.{HasNoNewline, IsLog, ended, bus_of, frames_of, is_unread}
 use Rattle.j39_log.specs.Spelled.{Spelled, Spells}
 use Rattle.j39_log.proofs.BusLemmas.{bus_of-append, count_by-append, ended-line, frames_of-append, others_of-append, spell-more, whole-more}
-use Rattle.j39_device.proofs.DeviceLemmas.{Appends-kept}
+use Rattle.j39_io.proofs.DeviceLemmas.{Appends-kept}
 use Rattle.j39_listen.specs.AccountSteps.{Closes, MeetsMore}
 use Rattle.j39_listen.specs.Counting.{counts_of}
 use Rattle.j39_listen.specs.LineSteps.{IsNamed, sum_of, tally_of}

@@ -1,12 +1,12 @@
 -- A run that stops: what it wrote is a front of what is made of the bytes that it took.
 use Rattle.std.proofs.Common.{◌≡◌, ℕ, List, [], ◌∷◌, ◌++◌, Option, sym, ap, ◌∙◌, subst, append-nil, append_assoc}
 use Rattle.std.specs.Io.KnownBytes.{Appends, Keeps}
-use Rattle.j39_device.specs.Device.{AppendsFront}
+use Rattle.j39_io.specs.Device.{AppendsFront}
 use Rattle.j39_frame.specs.Frame.{FrameRecord}
 use Rattle.j39_log.specs.Log.{HasNoNewline, IsLog, ended, bus_of, frames_of}
 use Rattle.j39_log.specs.Spelled.{Spelled}
 use Rattle.j39_log.proofs.BusLemmas.{bus_of-append, ended-line, frames_of-append, spell-more, whole-more}
-use Rattle.j39_device.proofs.DeviceLemmas.{front_of_all, front_within}
+use Rattle.j39_io.proofs.DeviceLemmas.{front_of_all, front_within}
 use Rattle.j39_log.proofs.LogLemmas.{first_spelled, same_log}
 use Rattle.j39_log.proofs.SplitterLemmas.{no_newline_append}
 use Rattle.j39_listen.specs.AccountSteps.{Begins, MakesOne, Stops, StopsAtEnd, WritesOn}

@@ -1,8 +1,8 @@
 -- What the calls of an account make of it. An account has met some frames, of which it has made an output so far.
 use Rattle.std.specs.Prelude.{◌≡◌, ◌≢◌, ◌++◌, ℕ, List, Option, Result, Err, true}
 use Rattle.std.specs.Io.KnownBytes.{Appends}
-use Rattle.j39_device.specs.Device.{AppendsFront}
-use Rattle.j39_device.specs.Turn.{IsUnmarked, Turn}
+use Rattle.j39_io.specs.Device.{AppendsFront}
+use Rattle.j39_io.specs.Turn.{IsUnmarked, Turn}
 use Rattle.j39_frame.specs.Frame.{FrameRecord}
 use Rattle.j39_listen.specs.Counting.{capped}
 use Rattle.j39_listen.specs.Output.{Output, Making, Meeting}

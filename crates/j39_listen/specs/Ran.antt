@@ -1,6 +1,6 @@
 -- What every run over a log promises: how it ended, what it took of the log, and what it wrote.
 use Rattle.std.specs.Prelude.{◌≡◌, ◌≢◌, ◌<◌, ◌≤◌, ◌⊎◌, ℕ, Bool, true, List, Option, Result, Err, IfOk, IfSome, OnErr, OnOk, length}
-use Rattle.j39_device.specs.Turn.{IsUnmarked, Turn}
+use Rattle.j39_io.specs.Turn.{IsUnmarked, Turn}
 use Rattle.j39_listen.specs.Asking.{AsksWithin, Wanting}
 use Rattle.j39_listen.specs.Output.{Making}
 use Rattle.j39_listen.specs.Run.{StopsAtLimit, StopsWithin, TakesWithin, Writes, WritesFront}

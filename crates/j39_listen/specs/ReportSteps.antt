@@ -1,7 +1,7 @@
 -- The steps of a report, frame by frame.
 use Rattle.std.specs.Prelude.{◌≡◌, ◌+◌, ◌++◌, ◌∷◌, [], List, Option, None, Some, length, ℕ}
 use Rattle.std.specs.Io.KnownBytes.{Appends}
-use Rattle.j39_device.specs.Device.{AppendsFront}
+use Rattle.j39_io.specs.Device.{AppendsFront}
 use Rattle.j39_frame.specs.Frame.{FrameRecord}
 use Rattle.j39_groups.specs.Row.{RowRecord}
 use Rattle.j39_listen.specs.Counting.{capped}

@@ -1,7 +1,7 @@
 -- What a run over a log writes and counts, whatever it makes of the frames.
 use Rattle.std.specs.Prelude.{◌≡◌, ◌<◌, ◌≤◌, ◌++◌, ℕ, List, [], Option, length, unwrap_or}
 use Rattle.std.specs.Io.KnownBytes.{Appends, Consumes}
-use Rattle.j39_device.specs.Device.{AppendsFront}
+use Rattle.j39_io.specs.Device.{AppendsFront}
 use Rattle.j39_log.specs.Log.{IsLog, bus_of, frames_of}
 use Rattle.j39_log.specs.Spelled.{Spelled}
 use Rattle.j39_groups.specs.Row.{RowRecord}

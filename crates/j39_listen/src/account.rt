@@ -1,7 +1,7 @@
 //! What a run makes of the frames of its bus.
 ghost use Rattle.std.specs.Prelude.{◌≡◌, ◌∷◌, [], List, OnOk, OnErr, IfOk, Err};
-ghost use Rattle.j39_device.specs.Device.{Marks};
-ghost use Rattle.j39_device.specs.Turn.{turn};
+ghost use Rattle.j39_io.specs.Device.{Marks};
+ghost use Rattle.j39_io.specs.Turn.{turn};
 ghost use Rattle.j39_frame.specs.Frame.{FrameRecord};
 ghost use Rattle.j39_listen.specs.AccountSteps.{Begins, Closes, LeavesWriter, MakesOne, Meets, Stops, StopsAtEnd};
 ghost use Rattle.j39_listen.specs.Output.{Output, Making, Meeting};
@@ -9,7 +9,7 @@ ghost use Rattle.j39_listen.specs.declared.account.LineFault.TheVariants.{Memory
 ghost use Rattle.j39_listen.specs.Asking.{Wanting};
 
 use crate::counts::Made;
-use j39_device::{DeviceFault, Sink};
+use j39_io::{DeviceFault, Sink};
 use j39_frame::Frame;
 use j39_log::Bus;
 

@@ -2,7 +2,7 @@
 ghost use Rattle.std.specs.Prelude.{◌≡◌, ◌+◌, ◌≤◌, decimal, drop, length};
 ghost use Rattle.std.specs.Option.{option_map};
 ghost use Rattle.j39_address.specs.Name.{name_raw};
-ghost use Rattle.j39_text.specs.Backwards.{WritesBefore};
+ghost use Rattle.j39_io.specs.Backwards.{WritesBefore};
 ghost use Rattle.j39_frame.specs.Pgn.{pgn_raw};
 ghost use Rattle.j39_listen.specs.Report.{hearing_head, name_text};
 ghost use Rattle.j39_listen.specs.Shown.{hearing_of};
@@ -12,10 +12,10 @@ use j39_address::Name;
 use j39_frame::Pgn;
 use j39_groups::HEAD;
 use j39_log::Seconds;
-use j39_text::backwards::{
+use j39_io::backwards::{
     byte_before, bytes_before, hex_before, last_digits_before, number_before,
 };
-use j39_text::vectors::hex_of_eight;
+use j39_io::vectors::hex_of_eight;
 
 /// Writes the head of a message's lines at the end of a block, and answers where it starts.
 #[inline(always)]

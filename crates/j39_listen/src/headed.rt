@@ -1,8 +1,8 @@
 //! A run that writes a head before its lines, as the names of the columns.
 ghost use Rattle.std.specs.Prelude.{◌≡◌, true, OnOk, OnErr};
 ghost use Rattle.std.specs.Io.KnownBytes.{Appends};
-ghost use Rattle.j39_device.specs.Device.{AppendsFront, Marks};
-ghost use Rattle.j39_device.specs.Turn.{turn};
+ghost use Rattle.j39_io.specs.Device.{AppendsFront, Marks};
+ghost use Rattle.j39_io.specs.Turn.{turn};
 ghost use Rattle.j39_listen.specs.Headed.{Headed};
 ghost use Rattle.j39_listen.specs.PieceSteps.{AtStart};
 ghost use Rattle.j39_listen.specs.Ran.{Ended, PassesOn, Ran};
@@ -10,7 +10,7 @@ ghost use Rattle.j39_listen.specs.Ran.{Ended, PassesOn, Ran};
 use crate::Counts;
 use crate::account::Account;
 use crate::running::{RunFault, run_over};
-use j39_device::{DeviceFault, Sink, Source, put_all};
+use j39_io::{DeviceFault, Sink, Source, put_all};
 use j39_log::Bus;
 
 /// Writes a head and an account of a log of at most `limit` bytes; the account has met no frame. The head is passed on

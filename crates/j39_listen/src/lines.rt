@@ -1,6 +1,6 @@
 //! A run, line by line.
 ghost use Rattle.std.specs.Prelude.{◌≡◌, ℕ, List, Some, IfOk, OnOk, Err, unwrap_or};
-ghost use Rattle.j39_device.specs.Turn.{turn};
+ghost use Rattle.j39_io.specs.Turn.{turn};
 ghost use Rattle.j39_log.specs.Bus.{IsBusName};
 ghost use Rattle.j39_log.specs.LineRead.{spelled_of};
 ghost use Rattle.j39_log.specs.Spelled.{frame as spelled_frame};
@@ -12,7 +12,7 @@ ghost use Rattle.j39_listen.specs.declared.account.LineFault.TheVariants.{Memory
 
 use crate::account::{Account, LineFault};
 use crate::counts::{Met, Tally};
-use j39_device::Sink;
+use j39_io::Sink;
 use j39_frame::Frame;
 use j39_log::{Bus, LastSecond, Line};
 

@@ -2,8 +2,8 @@
 ghost use Rattle.std.specs.Prelude.{◌≡◌, ◌≢◌, ◌+◌, ◌<◌, ◌≤◌, ◌++◌, ◌∷◌, [], List, true, IfOk, OnOk, OnErr, Err, Some, length};
 ghost use Rattle.std.specs.Io.KnownBytes.{Appends};
 ghost use Rattle.j39_address.specs.Name.{name_raw};
-ghost use Rattle.j39_device.specs.Device.{AppendsFront, Marks};
-ghost use Rattle.j39_device.specs.Turn.{turn};
+ghost use Rattle.j39_io.specs.Device.{AppendsFront, Marks};
+ghost use Rattle.j39_io.specs.Turn.{turn};
 ghost use Rattle.j39_frame.specs.Frame.{FrameRecord};
 ghost use Rattle.j39_address.specs.Claims.{Knows, holder_in};
 ghost use Rattle.j39_listen.specs.NodeSteps.{HasNoted};
@@ -24,10 +24,10 @@ use crate::report_lines::push_name;
 use crate::running::{RunFault, run_over};
 use arrayvec::ArrayVec;
 use j39_address::{Claims, Name};
-use j39_device::{DeviceFault, Sink, Source, put_all};
+use j39_io::{DeviceFault, Sink, Source, put_all};
 use j39_frame::{Frame, NULL_ADDRESS};
 use j39_log::Bus;
-use j39_text::printing::{push_bytes, push_hex};
+use j39_io::printing::{push_bytes, push_hex};
 
 /// Writes, after the whole log, a line for each address that is held, rising: the address and the NAME
 /// that holds it. The log has at most `limit` bytes; without a bus it is that of the first frame in it.

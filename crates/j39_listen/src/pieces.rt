@@ -1,7 +1,7 @@
 //! A run over pieces of a log.
 ghost use Rattle.std.specs.Prelude.{◌≡◌, ◌≢◌, ◌<◌, ◌≤◌, ◌++◌, ℕ, List, [], Option, true, OnOk, OnErr, IfOk, Err, length};
-ghost use Rattle.j39_device.specs.Device.{Marks};
-ghost use Rattle.j39_device.specs.Turn.{turn};
+ghost use Rattle.j39_io.specs.Device.{Marks};
+ghost use Rattle.j39_io.specs.Turn.{turn};
 ghost use Rattle.j39_log.specs.Spelled.{Spelled};
 ghost use Rattle.j39_log.specs.Splitter.{HasBegun, IsRawLine};
 ghost use Rattle.j39_listen.specs.AccountSteps.{LeavesWriter};
@@ -16,7 +16,7 @@ use crate::Counts;
 use crate::account::{Account, LineFault};
 use crate::counts::Tally;
 use crate::lines::Lines;
-use j39_device::{DeviceFault, Sink};
+use j39_io::{DeviceFault, Sink};
 use j39_log::{Bus, LastSecond, RawLine, Splitter};
 
 /// A log that is read in pieces, and the run over its lines.

@@ -1,8 +1,8 @@
 //! The report of what is heard on a bus: the runs that write it, and the account of frames that they write.
 ghost use Rattle.std.specs.Prelude.{◌≡◌, ◌<◌, [], List, true};
 ghost use Rattle.std.specs.Prelude.{IfOk, IfSome, OnOk, OnErr, Err, Some};
-ghost use Rattle.j39_device.specs.Device.{Marks};
-ghost use Rattle.j39_device.specs.Turn.{turn};
+ghost use Rattle.j39_io.specs.Device.{Marks};
+ghost use Rattle.j39_io.specs.Turn.{turn};
 ghost use Rattle.j39_frame.specs.Frame.{FrameRecord};
 ghost use Rattle.j39_frame.specs.Identifier.{pgn_of, source_of};
 ghost use Rattle.j39_groups.specs.Readings.{is_reported_in};
@@ -22,7 +22,7 @@ use crate::listener::by_itself;
 use crate::report_lines::{Pen, put_heard};
 use crate::running::{RunFault, run_over};
 use crate::{Counts, Listener};
-use j39_device::{DeviceFault, Sink, Source};
+use j39_io::{DeviceFault, Sink, Source};
 use j39_frame::{Frame, is_address};
 use j39_groups::{Groups, is_network_group};
 use j39_log::Bus;

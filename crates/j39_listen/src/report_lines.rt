@@ -4,7 +4,7 @@ ghost use Rattle.std.specs.Option.{option_map};
 ghost use Rattle.std.specs.Io.KnownBytes.{Appends};
 ghost use Rattle.arrayvec.specs.ArrayVec.{array_vec_len};
 ghost use Rattle.j39_address.specs.Name.{name_raw};
-ghost use Rattle.j39_device.specs.Device.{AppendsFront, Marks};
+ghost use Rattle.j39_io.specs.Device.{AppendsFront, Marks};
 ghost use Rattle.j39_log.specs.Seconds.{seconds_value};
 ghost use Rattle.j39_listen.specs.Report.{entries_of, name_text, text_of};
 ghost use Rattle.j39_listen.specs.Shown.{hearing_of};
@@ -13,10 +13,10 @@ use crate::Heard;
 use crate::head::head_before;
 use arrayvec::ArrayVec;
 use j39_address::Name;
-use j39_device::{DeviceFault, Sink};
+use j39_io::{DeviceFault, Sink};
 use j39_groups::{Groups, HEAD, LINES};
 use j39_log::Seconds;
-use j39_text::printing::{push_bytes, push_hex};
+use j39_io::printing::{push_bytes, push_hex};
 
 /// What the lines of a message are made with, kept from message to message.
 #[derive(Debug, Drop)]

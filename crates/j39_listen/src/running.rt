@@ -1,6 +1,6 @@
 //! A run over a log, piece by piece, whatever account of it is written.
 ghost use Rattle.std.specs.Prelude.{◌≡◌, ◌≢◌, ◌<◌, ◌++◌, true, IfOk, OnOk, OnErr, Err};
-ghost use Rattle.j39_device.specs.Turn.{turn};
+ghost use Rattle.j39_io.specs.Turn.{turn};
 ghost use Rattle.j39_listen.specs.Asking.{AsksAmong};
 ghost use Rattle.j39_listen.specs.PieceSteps.{AtNothing, AtStart, Behind, HasTaken};
 ghost use Rattle.j39_listen.specs.Ran.{Ended, PassesOn, Ran};
@@ -10,7 +10,7 @@ ghost use Rattle.j39_listen.specs.declared.running.RunFault.TheVariants.{Memory,
 use crate::Counts;
 use crate::account::{Account, LineFault};
 use crate::pieces::Pieces;
-use j39_device::{Sink, Source};
+use j39_io::{Sink, Source};
 use j39_log::Bus;
 use std::fmt;
 use thiserror::Error;

@@ -10,10 +10,10 @@ use Rattle.j39_log.specs.Bus.{IsBusName}
 use Rattle.j39_log.specs.Text.{IsStampText, IsFrameText}
 use Rattle.j39_log.specs.Line.{IsFrameLine}
 use Rattle.j39_log.specs.StampText.{stamp_text}
-use Rattle.j39_text.specs.Printing.{last_digits}
+use Rattle.j39_io.specs.Printing.{last_digits}
 use Rattle.j39_log.specs.Canonical.{frame_text, line_text}
 use Rattle.j39_log.proofs.SpacedLemmas.{AreAbove, AreAbove-frame, IsField-frame, spaced_parts}
-use Rattle.j39_text.proofs.PrintingLemmas.{length-last_digits, AllDigits-last_digits, digits_value-last_digits}
+use Rattle.j39_io.proofs.PrintingLemmas.{length-last_digits, AllDigits-last_digits, digits_value-last_digits}
 
 no_cr : (xs front : List ℕ) → AreAbove xs → xs ≡ front ++ (13 ∷ []) → ⊥
 no_cr [] [] h e = cc

@@ -6,7 +6,7 @@ use Rattle.std.proofs.lemmas.Bool.{cond_both, eqb-true, eqb-false, cases_lt, not
 use Rattle.std.proofs.lemmas.List.Elements.{recursion_from_All, All-from_get_or}
 use Rattle.std.proofs.lemmas.List.Sums.{prefix_len_passes, prefix_len_stops, prefix_len-le-length}
 use Rattle.std.proofs.Math.Seq.{drop-cons}
-use Rattle.j39_text.specs.Chars.{is_space, is_not_space}
+use Rattle.j39_io.specs.Chars.{is_space, is_not_space}
 use Rattle.j39_log.specs.Fields.{with_byte, fields_in, IsSpaces, IsField, IsAfterField, TakesField, IsSpaced}
 
 -- spaces before a text change no field

@@ -1,6 +1,6 @@
 -- Names of buses.
 use Rattle.std.specs.Prelude.{◌≤◌, ◌<◌, ◌≢◌, ℕ, List, length, All}
-use Rattle.j39_text.specs.Chars.{delete, space}
+use Rattle.j39_io.specs.Chars.{delete, space}
 
 -- 1 to 15 bytes, each above the space and no delete
 abbrev pub IsBusName : List ℕ → Type 0

@@ -1,6 +1,6 @@
 -- The fields of a line: first the grammar, then the function that computes them.
 use Rattle.std.specs.Prelude.{◌≡◌, ◌<◌, ◌==◌, ℕ, List, [], ◌∷◌, ◌++◌, length, if◌then◌else◌, false}
-use Rattle.j39_text.specs.Chars.{space}
+use Rattle.j39_io.specs.Chars.{space}
 use Rattle.std.specs.List.{AllByRecursion}
 
 abbrev pub IsSpaces : List ℕ → Type 0

@@ -2,7 +2,7 @@
 use Rattle.std.specs.Prelude.{◌==◌, ◌&&◌, ◌||◌, ℕ, List, [], ◌∷◌, Bool, not, length, take, drop, nat_eq, codes, if◌then◌else◌}
 use Rattle.std.specs.Char.{is_ascii_hexdigit}
 use Rattle.std.specs.List.{list_all, prefix_len, starts_with}
-use Rattle.j39_text.specs.Chars.{hash}
+use Rattle.j39_io.specs.Chars.{hash}
 use Rattle.j39_log.specs.Fields.{fields_in}
 use Rattle.j39_log.specs.declared.kind.OtherKind.{OtherKind}
 use Rattle.j39_log.specs.declared.kind.OtherKind.TheVariants.{Standard, Remote, Flexible, Error, Odd}

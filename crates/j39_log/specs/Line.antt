@@ -1,6 +1,6 @@
 -- Lines of a log.
 use Rattle.std.specs.Prelude.{◌≡◌, ◌≢◌, ◌≤◌, ◌⊎◌, ℕ, List, [], ◌∷◌, ◌++◌, length, Contains, codes}
-use Rattle.j39_text.specs.Chars.{carriage_return, hash}
+use Rattle.j39_io.specs.Chars.{carriage_return, hash}
 use Rattle.j39_frame.specs.Frame.{FrameRecord}
 use Rattle.j39_log.specs.Bus.{IsBusName}
 use Rattle.j39_log.specs.Fields.{IsSpaced}

@@ -1,6 +1,6 @@
 -- The first line of bytes.
 use Rattle.std.specs.Prelude.{◌≡◌, ◌==◌, ℕ, List, ◌∷◌, ◌++◌, Bool, not}
-use Rattle.j39_text.specs.Chars.{newline}
+use Rattle.j39_io.specs.Chars.{newline}
 use Rattle.j39_log.specs.Log.{HasNoNewline}
 
 abbrev pub is_no_newline : ℕ → Bool

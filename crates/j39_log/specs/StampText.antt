@@ -1,6 +1,6 @@
 -- The text of a stamp that is written.
 use Rattle.std.specs.Prelude.{◌/◌, ◌%◌, ◌^◌, ℕ, List, ◌++◌, codes}
-use Rattle.j39_text.specs.Printing.{last_digits}
+use Rattle.j39_io.specs.Printing.{last_digits}
 
 -- `(`, seconds in ten digits, `.`, microseconds in six digits, `)`
 abbrev pub stamp_text : ℕ → List ℕ

@@ -8,7 +8,7 @@ ghost use Rattle.j39_log.specs.Line.{IsFrameLine};
 use crate::{Bus, push_stamp};
 use arrayvec::ArrayVec;
 use j39_frame::Frame;
-use j39_text::printing::{push_bytes, push_hex};
+use j39_io::printing::{push_bytes, push_hex};
 
 /// The line of a frame of a bus as `candump -l` writes it, without a newline: 31 to 61 bytes.
 pub fn line_of(frame: &Frame, bus: &Bus) -> ArrayVec<u8, 64>

@@ -1,7 +1,7 @@
 //! The fields of a line.
 ghost use Rattle.std.specs.Prelude.{◌≡◌, ◌≢◌, ℕ, List, [], ◌∷◌, ◌≤◌, ◌↔◌, ◌⊎◌, IsTrue, length, MatchOption, codes};
 ghost use Rattle.std.specs.List.{prefix_len};
-ghost use Rattle.j39_text.specs.Chars.{is_space, is_not_space};
+ghost use Rattle.j39_io.specs.Chars.{is_space, is_not_space};
 ghost use Rattle.j39_log.specs.Fields.{fields_in};
 ghost use Rattle.j39_log.specs.Line.{IsFlags};
 ghost use Rattle.j39_log.specs.Shape.{HasShape};

@@ -1,6 +1,6 @@
 //! Lines of a log.
 ghost use Rattle.std.specs.Prelude.{◌≡◌, ◌≢◌, ℕ, List, [], ◌∷◌, ◌++◌, ◌↔◌, length, IsTrue, Contains};
-ghost use Rattle.j39_text.specs.Chars.{hash};
+ghost use Rattle.j39_io.specs.Chars.{hash};
 ghost use Rattle.j39_log.specs.Line.{IsBody};
 ghost use Rattle.j39_log.specs.LineParts.{HasReadParts};
 ghost use Rattle.j39_log.specs.Spelled.{Spelled, Spells};

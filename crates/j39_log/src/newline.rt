@@ -2,7 +2,7 @@
 ghost use Rattle.std.specs.Prelude.{◌≡◌, ◌++◌, ◌∷◌, ◌≤◌, length, map, MatchOption, ◌==◌};
 ghost use Rattle.std.specs.List.{prefix_len};
 ghost use Rattle.std.specs.Simd.Lanes.{mask_l};
-ghost use Rattle.j39_text.specs.Chars.{newline};
+ghost use Rattle.j39_io.specs.Chars.{newline};
 ghost use Rattle.j39_log.specs.Log.{HasNoNewline};
 ghost use Rattle.j39_log.specs.Newline.{TakesLine, is_no_newline};
 

@@ -7,7 +7,7 @@ ghost use Rattle.std.specs.Str.Parse.{AllDigits};
 ghost use Rattle.std.specs.Int.{to_be_bytes, w32};
 ghost use Rattle.hex.specs.Hex.{decode_of};
 ghost use Rattle.j39_log.specs.Bus.{IsBusName};
-ghost use Rattle.j39_text.specs.Chars.{space};
+ghost use Rattle.j39_io.specs.Chars.{space};
 ghost use Rattle.j39_log.specs.Fields.{IsField};
 ghost use Rattle.j39_frame.specs.Identifier.{id_raw};
 ghost use Rattle.j39_log.specs.Line.{HasParts};

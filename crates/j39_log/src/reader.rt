@@ -3,7 +3,7 @@
 ghost use Rattle.std.specs.Prelude.{◌≡◌, ◌++◌, ◌∷◌, IfSome, codes};
 ghost use Rattle.j39_log.specs.Bus.{IsBusName};
 ghost use Rattle.j39_log.specs.Line.{IsFrameLine};
-ghost use Rattle.j39_text.specs.Chars.{space};
+ghost use Rattle.j39_io.specs.Chars.{space};
 
 use crate::bus::are_same;
 use crate::line::body_of;

@@ -1,9 +1,9 @@
 //! Stamps as text, backwards.
 ghost use Rattle.std.specs.Prelude.{◌≡◌, ◌≤◌, length};
-ghost use Rattle.j39_text.specs.Printing.{last_digits};
+ghost use Rattle.j39_io.specs.Printing.{last_digits};
 
 use j39_frame::Stamp;
-use j39_text::backwards::{byte_before, last_digits_before, tail_before};
+use j39_io::backwards::{byte_before, last_digits_before, tail_before};
 
 /// A number of seconds and its ten digits, kept from stamp to stamp: most frames come within the second
 /// of the frame before.
@@ -15,7 +15,7 @@ pub struct Seconds {
 }
 
 impl Seconds {
-    ghost use Rattle.j39_text.specs.Backwards.{WritesBefore};
+    ghost use Rattle.j39_io.specs.Backwards.{WritesBefore};
     ghost use Rattle.j39_log.specs.StampText.{stamp_text};
     ghost use Rattle.j39_log.specs.Seconds.{seconds_value};
     ghost use Rattle.j39_frame.specs.Stamp.{stamp_micros};

@@ -6,7 +6,7 @@ ghost use Rattle.j39_log.specs.StampText.{stamp_text};
 
 use arrayvec::ArrayVec;
 use j39_frame::Stamp;
-use j39_text::printing::push_last_digits;
+use j39_io::printing::push_last_digits;
 
 /// Appends a stamp, as `(0000000001.010000)`: the seconds in ten digits, the microseconds in six.
 pub fn push_stamp<const N: usize>(out: &mut ArrayVec<u8, N>, stamp: Stamp)

@@ -10,10 +10,10 @@ use Rattle.std.proofs.lemmas.List.Elements.{recursion_from_All, All-from_get_or}
 use Rattle.std.proofs.lemmas.List.Sums.{prefix_len_passes}
 use Rattle.std.proofs.Common.{mul_assoc, div-le_self}
 use Rattle.std.proofs.lemmas.Int.Digits.{digits_value_push}
-use Rattle.j39_text.specs.Printing.{last_digits}
+use Rattle.j39_io.specs.Printing.{last_digits}
 use Rattle.j39_groups.proofs.TextLemmas.{fewer, magnitude_pointed, magnitude_whole}
 use Rattle.j39_groups.specs.ValueText.{magnitude_text, places_text}
-use Rattle.j39_text.proofs.PrintingLemmas.{AllDigits-last_digits, length-last_digits}
+use Rattle.j39_io.proofs.PrintingLemmas.{AllDigits-last_digits, length-last_digits}
 use Rattle.j39_table.specs.Columns.{IsUnsigned, is_not_point}
 
 -- what passes before what does not

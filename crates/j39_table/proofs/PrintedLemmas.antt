@@ -12,8 +12,8 @@ use Rattle.std.specs.Str.Parse.{AllDigits}
 use Rattle.std.proofs.lemmas.Bool.{cond_both}
 use Rattle.std.proofs.lemmas.Fmt.{decimal_is_IsNumeral}
 use Rattle.std.proofs.lemmas.Grind.{common_steps}
-use Rattle.j39_text.proofs.PrintingLemmas.{AllDigits-last_digits}
-use Rattle.j39_text.specs.Chars.{is_not_space, is_space}
+use Rattle.j39_io.proofs.PrintingLemmas.{AllDigits-last_digits}
+use Rattle.j39_io.specs.Chars.{is_not_space, is_space}
 use Rattle.j39_groups.specs.Printed.{bits_text, place_text, range_text, row_text, scale_text}
 use Rattle.j39_groups.specs.Row.{FieldRecord, number_field, bits_field, switch_field, text_field, texts_field, RowRecord}
 use Rattle.j39_groups.specs.Value.{SlotRecord}

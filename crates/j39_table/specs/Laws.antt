@@ -1,7 +1,7 @@
 -- What is printed is read back.
 use Rattle.std.specs.Prelude.{◌≡◌, ◌++◌, ◌∷◌, List, ℕ, []}
 use Rattle.std.specs.List.{AllByRecursion, flat_map}
-use Rattle.j39_text.specs.Chars.{newline}
+use Rattle.j39_io.specs.Chars.{newline}
 use Rattle.j39_groups.specs.Printed.{row_text}
 use Rattle.j39_groups.specs.Row.{RowRecord}
 use Rattle.j39_table.specs.Rows.{IsGoodRow}

@@ -1,7 +1,7 @@
 -- The columns of a line of a table: seven words, and the name to the line's end.
 use Rattle.std.specs.Prelude.{ℕ, zero, suc, List, [], ◌∷◌, drop, take}
 use Rattle.std.specs.List.{prefix_len}
-use Rattle.j39_text.specs.Chars.{is_space, is_not_space}
+use Rattle.j39_io.specs.Chars.{is_space, is_not_space}
 use Rattle.j39_table.specs.declared.line.Columns.{Columns}
 
 unfoldable pub without_spaces : List ℕ → List ℕ

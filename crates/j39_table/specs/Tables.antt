@@ -1,7 +1,7 @@
 -- What the text of a table says.
 use Rattle.std.specs.Prelude.{◌≡◌, ◌==◌, ◌+◌, ◌<◌, ◌∷◌, ⊤, ℕ, List, [], Bool, true, false, not, Some, filter, if◌then◌else◌, length, map, slice_get, take}
 use Rattle.std.specs.List.{slice_split}
-use Rattle.j39_text.specs.Chars.{carriage_return, hash, newline}
+use Rattle.j39_io.specs.Chars.{carriage_return, hash, newline}
 use Rattle.j39_groups.specs.Readings.{HaveSameGroups}
 use Rattle.j39_groups.specs.Row.{RowRecord}
 use Rattle.j39_table.specs.Faults.{column_of}

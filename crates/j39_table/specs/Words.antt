@@ -1,6 +1,6 @@
 -- The words and the names of a table.
 use Rattle.std.specs.Prelude.{◌≢◌, ◌<◌, ◌≤◌, ℕ, List, All, length, slice_index}
-use Rattle.j39_text.specs.Chars.{space, delete}
+use Rattle.j39_io.specs.Chars.{space, delete}
 
 -- one byte or more, each above the space and no delete
 abbrev pub IsWord : List ℕ → Type 0

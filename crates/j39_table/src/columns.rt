@@ -6,7 +6,7 @@ ghost use Rattle.j39_table.specs.Columns.{IsUnsigned, is_negative_number, is_not
 ghost use Rattle.j39_groups.specs.ValueText.{magnitude_text, scaled_text};
 
 use j39_groups::{decimal_of, scaled_text};
-use j39_text::number;
+use j39_io::number;
 
 /// The number that a text is in decimal, as it is printed: with no leading zero.
 pub(crate) fn decimal_in(text: &[u8]) -> Option<u32>

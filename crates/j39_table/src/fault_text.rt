@@ -5,7 +5,7 @@ ghost use Rattle.j39_table.specs.FaultWords.{fault_text, line_text};
 
 use crate::TableFault;
 use arrayvec::ArrayVec;
-use j39_text::printing::{push_bytes, push_number};
+use j39_io::printing::{push_bytes, push_number};
 
 impl TableFault {
     /// What is said of it behind the file's name, as ` line 12: no step`; nothing where memory was refused.

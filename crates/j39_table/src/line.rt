@@ -1,7 +1,7 @@
 //! The columns of a line of a table.
 ghost use Rattle.std.specs.Prelude.{◌≡◌, ◌≤◌, length};
 ghost use Rattle.std.specs.List.{prefix_len};
-ghost use Rattle.j39_text.specs.Chars.{is_space, is_not_space};
+ghost use Rattle.j39_io.specs.Chars.{is_space, is_not_space};
 ghost use Rattle.j39_table.specs.Lines.{behind_word, column_texts, first_word, line_columns, without_spaces};
 
 /// The columns of a line; one that is not there is empty.

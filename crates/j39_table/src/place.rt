@@ -8,7 +8,7 @@ ghost use Rattle.j39_table.specs.Places.{IsAfterDigits, IsGoodBits, IsGoodPlace,
 
 use arrayvec::ArrayVec;
 use j39_groups::{push_decimal, push_range};
-use j39_text::{number, printing};
+use j39_io::{number, printing};
 
 /// Where a parameter stands in the payload. Bytes, bits and parts count from 1.
 #[derive(Clone, Copy, Debug, PartialEq, Eq)]

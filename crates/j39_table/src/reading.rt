@@ -1,7 +1,7 @@
 //! A whole table.
 ghost use Rattle.std.specs.Prelude.{Err, ◌≡◌, ◌≤◌, ◌<◌, ◌++◌, ◌∷◌, [], IfOk, IfErr, MatchResult, OnOk, length, map};
 ghost use Rattle.j39_groups.specs.ReadRows.{read_row_record};
-ghost use Rattle.j39_list.specs.Items.{items_of};
+ghost use Rattle.j39_memory.specs.Items.{items_of};
 ghost use Rattle.j39_table.specs.Tables.{IsFaultOf, IsTableOf, SpellRows, bare_line, is_row_line, lines_of, row_lines};
 ghost use Rattle.j39_table.specs.TableSteps.{IsLineRead};
 ghost use Rattle.j39_table.specs.declared.fault.TableFault.TheVariants.{TooLong};
@@ -10,7 +10,7 @@ use crate::TableFault;
 use crate::line::without_spaces;
 use crate::row::read_row;
 use j39_groups::{Groups, ReadRow};
-use j39_list::{List, MOST};
+use j39_memory::{List, MOST};
 use std::alloc::Global;
 
 /// The bytes that the text of a table may have, 1 MiB.

@@ -2,7 +2,7 @@
 use Rattle.std.specs.Prelude.{◌≡◌, ◌<◌, ℕ, take, Option, Some, None}
 use Rattle.j39_frame.specs.Pgn.{pgn_raw}
 use Rattle.j39_frame.specs.Stamp.{stamp_micros}
-use Rattle.j39_store.specs.Stored.{value_of}
+use Rattle.j39_memory.specs.Stored.{value_of}
 use Rattle.j39_transport.specs.Session.{SessionRecord}
 use Rattle.j39_transport.specs.Steps as steps
 use Rattle.j39_transport.specs.Answers as answers

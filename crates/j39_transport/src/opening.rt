@@ -3,7 +3,7 @@ ghost use Rattle.std.specs.Prelude.{◌≡◌, ◌<◌, false, None, Some, IfOk,
 ghost use Rattle.std.specs.Option.{is_some};
 ghost use Rattle.j39_frame.specs.Address.{global_address};
 ghost use Rattle.j39_frame.specs.Stamp.{stamp_micros};
-ghost use Rattle.j39_store.specs.Stored.{value_of};
+ghost use Rattle.j39_memory.specs.Stored.{value_of};
 ghost use Rattle.j39_transport.specs.Places.{at, find, held_in};
 ghost use Rattle.j39_transport.specs.Steps.{room, spare_left, with_announced};
 ghost use Rattle.j39_transport.specs.ShownSession.{opened_by};
@@ -12,7 +12,7 @@ use crate::announcement::Announcement;
 use crate::session::Session;
 use crate::table::{PAIRS, Place, SOURCES, Table};
 use j39_frame::{GLOBAL_ADDRESS, Stamp};
-use j39_store::Stored;
+use j39_memory::Stored;
 use std::alloc::{AllocError, Global};
 
 /// Takes out the session at a place, or else that last lent.

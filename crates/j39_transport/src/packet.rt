@@ -2,7 +2,7 @@
 ghost use Rattle.std.specs.Prelude.{◌≡◌, ◌<◌, ◌≤◌, ◌||◌, ℕ, length, slice_set};
 ghost use Rattle.std.specs.Option.{is_some};
 ghost use Rattle.j39_frame.specs.Stamp.{stamp_micros};
-ghost use Rattle.j39_store.specs.Stored.{value_of};
+ghost use Rattle.j39_memory.specs.Stored.{value_of};
 ghost use Rattle.j39_transport.specs.Protocol.{directed_limit};
 ghost use Rattle.j39_transport.specs.Places.{at, held_in, find};
 ghost use Rattle.j39_transport.specs.Steps.{is_whole, moves, packed, told, told_at, with_place};
@@ -12,7 +12,7 @@ use crate::protocol::DIRECTED_LIMIT;
 use crate::session::Session;
 use crate::table::{PAIRS, Place, Table};
 use j39_frame::Stamp;
-use j39_store::Stored;
+use j39_memory::Stored;
 
 /// What a frame was to the open messages.
 #[derive(Clone, Copy)]

@@ -11,10 +11,10 @@ use Rattle.j39_listen.specs.declared.counts.Counts.{Counts}
 use Rattle.j39_listen.specs.declared.running.RunFault.{RunFault}
 use Rattle.j39_listen.specs.declared.running.RunFault.TheVariants.{Memory, Read, Write, TooLong}
 use Rattle.j39_groups.specs.Row.{RowRecord}
-use Rattle.j39_survey.specs.Run.{WritesSurvey}
-use Rattle.j39_survey.specs.Run.{WritesFront as WritesSurveyFront}
-use Rattle.j39_survey.specs.SurveyText.{survey_text}
-use Rattle.j39_survey.proofs.SurveyLemmas.{same_log_lines}
+use Rattle.j39_reports.specs.SurveyRun.{WritesSurvey}
+use Rattle.j39_reports.specs.SurveyRun.{WritesFront as WritesSurveyFront}
+use Rattle.j39_reports.specs.SurveyText.{survey_text}
+use Rattle.j39_reports.proofs.SurveyLemmas.{same_log_lines}
 use Rattle.j39_web.specs.Text.{Overflows, SurveyOverflows}
 
 first : ℕ → List ℕ → ℕ

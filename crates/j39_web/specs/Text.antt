@@ -7,9 +7,9 @@ use Rattle.j39_listen.specs.Asking.{AsksAmong, Wanting}
 use Rattle.j39_listen.specs.Output.{Making, Output}
 use Rattle.j39_listen.specs.Run.{Writes, WritesPublished, run_bus}
 use Rattle.j39_listen.specs.declared.counts.Counts.{Counts}
-use Rattle.j39_survey.specs.LogLines.{AreLogLines, LogLine}
-use Rattle.j39_survey.specs.Run.{WritesSurvey}
-use Rattle.j39_survey.specs.SurveyText.{survey_text}
+use Rattle.j39_reports.specs.LogLines.{AreLogLines, LogLine}
+use Rattle.j39_reports.specs.SurveyRun.{WritesSurvey}
+use Rattle.j39_reports.specs.SurveyText.{survey_text}
 use Rattle.j39_web.specs.declared.texts.LogText.{LogText}
 
 -- what was counted

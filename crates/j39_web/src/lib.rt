@@ -3,13 +3,13 @@
 
 ghost use Rattle.std.specs.Prelude.{◌≡◌, ◌≢◌, ◌<◌, ◌≤◌, ◌↔◌, ◌⊎◌, length, take};
 ghost use Rattle.j39_address.specs.Name.{fields_of};
-ghost use Rattle.j39_fault_news.specs.Asking.{AsksForFaults};
-ghost use Rattle.j39_fault_news.specs.Output.{MakesFaults};
-ghost use Rattle.j39_fault_news.specs.declared.telling.Telling.TheVariants.{News};
+ghost use Rattle.j39_reports.specs.FaultAsking.{AsksForFaults};
+ghost use Rattle.j39_reports.specs.FaultRun.{MakesFaults};
+ghost use Rattle.j39_reports.specs.declared.fault_news.telling.Telling.TheVariants.{News};
 ghost use Rattle.j39_groups.specs.Printed.{rows_text};
 ghost use Rattle.j39_listen.specs.Asking.{AsksForBoxes};
 ghost use Rattle.j39_listen.specs.Output.{MakesNodes, MakesReport};
-ghost use Rattle.j39_summary.specs.Summaries.{AsksForRows, MakesSummaryRecords};
+ghost use Rattle.j39_reports.specs.SummaryRun.{AsksForRows, MakesSummaryRecords};
 ghost use Rattle.j39_table.specs.FaultWords.{fault_text};
 ghost use Rattle.j39_table.specs.declared.fault.TableFault.{TableFault};
 ghost use Rattle.j39_web.specs.Answers.{IsWrongBus, done, given_bus, no_memory, too_small, wrong_bus, wrong_table};

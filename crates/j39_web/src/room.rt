@@ -1,7 +1,7 @@
 //! Where a log is read from, and room for a text: memory that a page lends.
 ghost use Rattle.std.specs.Prelude.{◌≡◌, ◌≤◌, true, false, length};
 
-use j39_device::{DeviceFault, Sink, Source};
+use j39_io::{DeviceFault, Sink, Source};
 
 /// The bytes of a log that are left.
 #[derive(Drop)]

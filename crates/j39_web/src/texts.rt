@@ -1,13 +1,13 @@
 //! What is made of a log, in the room of a page.
 ghost use Rattle.std.specs.Prelude.{◌≡◌, ◌≢◌, ◌<◌, ◌≤◌, length, take, IfErr, IfOk, IsOk, OnErr, OnOk, Ok, Err};
-ghost use Rattle.j39_fault_news.specs.Asking.{AsksForFaults};
-ghost use Rattle.j39_fault_news.specs.Output.{MakesFaults};
-ghost use Rattle.j39_fault_news.specs.declared.telling.Telling.TheVariants.{News};
+ghost use Rattle.j39_reports.specs.FaultAsking.{AsksForFaults};
+ghost use Rattle.j39_reports.specs.FaultRun.{MakesFaults};
+ghost use Rattle.j39_reports.specs.declared.fault_news.telling.Telling.TheVariants.{News};
 ghost use Rattle.j39_groups.specs.Printed.{rows_text};
 ghost use Rattle.j39_listen.specs.Asking.{AsksForBoxes};
 ghost use Rattle.j39_listen.specs.Output.{MakesNodes, MakesReport};
 ghost use Rattle.j39_listen.specs.declared.running.RunFault.TheVariants as fault;
-ghost use Rattle.j39_summary.specs.Summaries.{AsksForRows, MakesSummaryRecords};
+ghost use Rattle.j39_reports.specs.SummaryRun.{AsksForRows, MakesSummaryRecords};
 ghost use Rattle.j39_table.specs.FaultWords.{fault_text};
 ghost use Rattle.j39_web.specs.Room.{HasNoRoom, room_in, written_in};
 ghost use Rattle.j39_web.specs.Tables.{ByRows};
@@ -15,12 +15,12 @@ ghost use Rattle.j39_web.specs.Text.{AsksSomewhere, IsMade, IsPublished, IsSurve
 ghost use Rattle.j39_web.specs.declared.texts.Refusal.TheVariants.{Memory, TooSmall};
 
 use crate::room::{LogBytes, Room};
-use j39_device::{DeviceFault, put_all};
-use j39_fault_news::Telling;
+use j39_io::{DeviceFault, put_all};
+use j39_reports::Telling;
 use j39_groups::Groups;
 use j39_listen::{Counts, RunFault, run_with};
 use j39_log::Bus;
-use j39_summary::summary_csv;
+use j39_reports::summary_csv;
 use j39_table::TableFault;
 use std::alloc::{AllocError, Global};
 
@@ -174,7 +174,7 @@ pub fn faults(
     let mut source = LogBytes::new(log);
     let mut sink = Room::new(room);
     let limit = log.len() as u64;
-    let ran = j39_fault_news::faults(
+    let ran = j39_reports::faults(
         alloc,
         groups,
         Telling::News,
@@ -201,7 +201,7 @@ pub fn survey(
     let mut source = LogBytes::new(log);
     let mut sink = Room::new(room);
     let limit = log.len() as u64;
-    let ran = j39_survey::survey(alloc, groups, &mut source, &mut sink, limit);
+    let ran = j39_reports::survey(alloc, groups, &mut source, &mut sink, limit);
     told(uncounted(ran), &sink)
 }
 

@@ -1,7 +1,7 @@
 //! Devices that fail, and logs that are too long.
 use crate::trial::{Full, Trial};
 use j39_cli::{parse, perform};
-use j39_device::Told;
+use j39_io::Told;
 use j39_listen::{RunFault, run};
 use std::alloc::Global;
 use std::test::Fail;

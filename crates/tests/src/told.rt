@@ -1,6 +1,6 @@
 //! Devices that do as they are told to, and what a `Told` tells of them.
 use crate::trial::{Full, Trial};
-use j39_device::{Sink, Source, Told, put_all};
+use j39_io::{Sink, Source, Told, put_all};
 use std::alloc::{AllocError, Global};
 use std::io::{Read, Write};
 use std::test::Fail;

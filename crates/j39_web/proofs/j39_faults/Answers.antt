@@ -1,7 +1,7 @@
 use Rattle.std.proofs.Common.{inr, subst}
-use Rattle.j39_fault_news.specs.Asking.{AsksForFaults}
-use Rattle.j39_fault_news.specs.Output.{MakesFaults}
-use Rattle.j39_fault_news.specs.declared.telling.Telling.TheVariants.{News}
+use Rattle.j39_reports.specs.FaultAsking.{AsksForFaults}
+use Rattle.j39_reports.specs.FaultRun.{MakesFaults}
+use Rattle.j39_reports.specs.declared.fault_news.telling.Telling.TheVariants.{News}
 use Rattle.j39_web.specs.Text.{AsksSomewhere, Overflows}
 use Rattle.j39_web.proofs.j39_faults.Goals as goal
 

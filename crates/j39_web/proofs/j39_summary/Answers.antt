@@ -1,5 +1,5 @@
 use Rattle.std.proofs.Common.{inr, subst}
-use Rattle.j39_summary.specs.Summaries.{AsksForRows, MakesSummaryRecords}
+use Rattle.j39_reports.specs.SummaryRun.{AsksForRows, MakesSummaryRecords}
 use Rattle.j39_web.specs.Text.{AsksSomewhere, Overflows}
 use Rattle.j39_web.proofs.j39_summary.Goals as goal
 

@@ -1,6 +1,6 @@
 -- The run is on the task's own bus, for its own address, and its fault is told.
 use Rattle.std.proofs.Common.{◌≡◌, ◌<◌, ℕ, List, Option, subst, arith}
-use Rattle.j39_device.specs.Turn.{Turn}
+use Rattle.j39_io.specs.Turn.{Turn}
 use Rattle.j39_address.specs.Name.{name_raw}
 use Rattle.j39_address.specs.Node.{idle_node}
 use Rattle.j39_listen.specs.Asking.{AsksForBoxes}

@@ -1,6 +1,6 @@
 -- The run is on the task's own bus, and its end is told.
 use Rattle.j39_cli.specs.declared.task.Format.TheVariants.{Csv, Lines}
-use Rattle.j39_fault_news.specs.Asking.{AsksForFaults}
+use Rattle.j39_reports.specs.FaultAsking.{AsksForFaults}
 use Rattle.j39_cli.specs.FaultsCommand.{faults_in}
 use Rattle.j39_cli.proofs.RunLemmas.{is_run}
 use Rattle.j39_cli.proofs.faults.perform.Goals as goal

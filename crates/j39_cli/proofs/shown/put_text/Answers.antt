@@ -1,5 +1,5 @@
 -- The text is whole before the flush.
-use Rattle.j39_device.proofs.DeviceLemmas.{front_of_all, on_err}
+use Rattle.j39_io.proofs.DeviceLemmas.{front_of_all, on_err}
 use Rattle.j39_cli.proofs.shown.put_text.Goals as goal
 
 pub returns-clause-err : goal.returns-clause-err

@@ -1,5 +1,5 @@
 -- The run is on the task's own bus, and its end is told.
-use Rattle.j39_summary.specs.Summaries.{AsksForRows}
+use Rattle.j39_reports.specs.SummaryRun.{AsksForRows}
 use Rattle.j39_cli.specs.SummaryCommand.{summary_in}
 use Rattle.j39_cli.specs.declared.task.Format.TheVariants.{Csv, Lines}
 use Rattle.j39_cli.proofs.RunLemmas.{is_run}

@@ -3,7 +3,7 @@ use Rattle.std.proofs.Common.{◌++◌, Bor, List, ℕ, append_assoc}
 use Rattle.std.specs.Option.{option_map}
 use Rattle.std.proofs.KnownBytes.{Appends-trans}
 use Rattle.j39_faults.specs.Text.{meaning_text, name_text}
-use Rattle.j39_device.proofs.DeviceLemmas.{front_first, front_within, on_err, on_err_from}
+use Rattle.j39_io.proofs.DeviceLemmas.{front_first, front_within, on_err, on_err_from}
 use Rattle.j39_faults.proofs.WriteLemmas.{front_last}
 use Rattle.j39_faults.proofs.text.put_known.Goals as goal
 

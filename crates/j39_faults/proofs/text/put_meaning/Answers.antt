@@ -2,7 +2,7 @@
 use Rattle.std.proofs.Common.{refl, ◌∙◌}
 use Rattle.std.specs.Prelude.{codes}
 use Rattle.j39_faults.specs.Words.{fmi_words}
-use Rattle.j39_device.proofs.DeviceLemmas.{front_first, on_err, on_err_from}
+use Rattle.j39_io.proofs.DeviceLemmas.{front_first, on_err, on_err_from}
 use Rattle.j39_faults.proofs.WriteLemmas.{front_last}
 use Rattle.j39_faults.proofs.text.put_meaning.Goals as goal
 

@@ -3,7 +3,7 @@ use Rattle.std.proofs.Common.{◌≡◌, ◌∙◌, false, sym}
 use Rattle.std.proofs.lemmas.Bool.{le-ltb}
 use Rattle.j39_frame.specs.Pgn.{pgn_raw}
 use Rattle.j39_groups.specs.Marks.{is_marked}
-use Rattle.j39_list.specs.Items.{items_of}
+use Rattle.j39_memory.specs.Items.{items_of}
 use Rattle.j39_groups.proofs.MarkLemmas.{unmarked_is_silent}
 use Rattle.j39_groups.proofs.groups_table.is_listed.Goals as goal
 

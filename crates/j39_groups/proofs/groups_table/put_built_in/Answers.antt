@@ -2,9 +2,9 @@
 use Rattle.std.proofs.Common.{subst, ◌∙◌, arith}
 use Rattle.std.specs.Io.KnownBytes.{Appends}
 use Rattle.std.proofs.lemmas.Slice.{between_to_end}
-use Rattle.j39_device.specs.Device.{AppendsFront}
-use Rattle.j39_text.proofs.BackwardsLemmas.{before_end}
-use Rattle.j39_device.proofs.DeviceLemmas.{on_err}
+use Rattle.j39_io.specs.Device.{AppendsFront}
+use Rattle.j39_io.proofs.BackwardsLemmas.{before_end}
+use Rattle.j39_io.proofs.DeviceLemmas.{on_err}
 use Rattle.j39_groups.proofs.groups_table.put_built_in.Goals as goal
 
 pub returns-in_err-put_all-in-Some-clause-front : goal.returns-in_err-put_all-in-Some-clause-front

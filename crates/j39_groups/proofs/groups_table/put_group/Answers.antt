@@ -1,9 +1,9 @@
 -- The rows of the group.
 use Rattle.std.proofs.Common.{◌==◌, ap, subst, drop, length, arith}
 use Rattle.std.specs.Io.KnownBytes.{Appends}
-use Rattle.j39_device.specs.Device.{AppendsFront}
+use Rattle.j39_io.specs.Device.{AppendsFront}
 use Rattle.j39_frame.specs.Pgn.{pgn_raw}
-use Rattle.j39_device.proofs.DeviceLemmas.{on_err_from}
+use Rattle.j39_io.proofs.DeviceLemmas.{on_err_from}
 use Rattle.j39_groups.proofs.ReadLemmas.{fewer_kept, lines_of_group, on_ok_from, readings_of_group}
 use Rattle.j39_groups.proofs.groups_table.put_group.Goals as goal
 

@@ -1,7 +1,7 @@
 -- After a fault a front of the rows that are left was written.
 use Rattle.std.proofs.Common.{ℕ, List, suc, take, drop}
 use Rattle.std.specs.List.{flat_map}
-use Rattle.j39_device.proofs.DeviceLemmas.{front_within, on_err}
+use Rattle.j39_io.proofs.DeviceLemmas.{front_within, on_err}
 use Rattle.j39_groups.specs.Quick.{reading_line}
 use Rattle.j39_groups.specs.declared.value.Reading.{Reading}
 use Rattle.j39_groups.specs.Shown.{reading_of}

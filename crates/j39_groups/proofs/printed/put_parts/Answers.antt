@@ -1,7 +1,7 @@
 -- After a fault a front of the parts that are left was written.
 use Rattle.std.proofs.Common.{Bor, ℕ, List, suc, take, drop}
 use Rattle.std.specs.List.{flat_map}
-use Rattle.j39_device.proofs.DeviceLemmas.{front_within, on_err}
+use Rattle.j39_io.proofs.DeviceLemmas.{front_within, on_err}
 use Rattle.j39_groups.proofs.ListLemmas.{flat_map-at}
 use Rattle.j39_groups.proofs.printed.put_parts.Goals as goal
 

@@ -1,6 +1,6 @@
 -- Each turn writes the line of the last row that is left, where it has a value.
 use Rattle.std.proofs.Common.{arith, drop, length, subst, ap, ◌∙◌}
-use Rattle.j39_text.specs.Backwards.{WritesBefore}
+use Rattle.j39_io.specs.Backwards.{WritesBefore}
 use Rattle.std.specs.List.{flat_map}
 use Rattle.j39_groups.specs.Quick.{reading_line}
 use Rattle.j39_groups.specs.Shown.{value_of}

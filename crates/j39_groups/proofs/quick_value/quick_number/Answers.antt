@@ -3,9 +3,9 @@ use Rattle.std.proofs.Common.{◌≡◌, ◌∷◌, [], rules, subst}
 use Rattle.std.specs.Fmt.{sign_text}
 use Rattle.std.specs.Int.{is_negative}
 use Rattle.std.specs.Prelude.{codes, unsigned_abs}
-use Rattle.j39_text.specs.Backwards.{WritesBefore}
-use Rattle.j39_text.specs.Chars.{newline}
-use Rattle.j39_text.proofs.BackwardsLemmas.{before_then}
+use Rattle.j39_io.specs.Backwards.{WritesBefore}
+use Rattle.j39_io.specs.Chars.{newline}
+use Rattle.j39_io.proofs.BackwardsLemmas.{before_then}
 use Rattle.j39_groups.specs.ValueText.{magnitude_text}
 use Rattle.j39_groups.proofs.TextLemmas.{number_parts}
 use Rattle.j39_groups.proofs.quick_value.quick_number.Goals as goal

@@ -1,6 +1,6 @@
 -- The bytes are written in the place of a part.
 use Rattle.std.proofs.Common.{◌≡◌, ◌+◌, ◌-◌, arith, length, refl}
-use Rattle.j39_text.proofs.BackwardsLemmas.{drop_part}
+use Rattle.j39_io.proofs.BackwardsLemmas.{drop_part}
 use Rattle.j39_groups.proofs.quick_value.slice_before.Goals as goal
 
 pub returns : goal.returns

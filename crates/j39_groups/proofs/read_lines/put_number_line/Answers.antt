@@ -2,9 +2,9 @@
 use Rattle.std.proofs.Common.{◌≡◌, ◌∷◌, [], decimal, sym, subst, rules}
 use Rattle.std.specs.Io.KnownBytes.{Appends}
 use Rattle.std.specs.Prelude.{codes}
-use Rattle.j39_text.specs.Chars.{newline}
-use Rattle.j39_device.specs.Device.{AppendsFront}
-use Rattle.j39_device.proofs.DeviceLemmas.{on_err_from}
+use Rattle.j39_io.specs.Chars.{newline}
+use Rattle.j39_io.specs.Device.{AppendsFront}
+use Rattle.j39_io.proofs.DeviceLemmas.{on_err_from}
 use Rattle.j39_groups.proofs.ReadLemmas.{number_joined, on_ok_from}
 use Rattle.j39_groups.proofs.read_lines.put_number_line.Goals as goal
 

@@ -1,8 +1,8 @@
 -- The one value's line.
 use Rattle.std.proofs.Common.{ap, sym, ◌∙◌, subst, append-nil, drop, map}
 use Rattle.std.specs.List.{flat_map}
-use Rattle.j39_device.specs.Device.{AppendsFront}
-use Rattle.j39_device.proofs.DeviceLemmas.{on_err}
+use Rattle.j39_io.specs.Device.{AppendsFront}
+use Rattle.j39_io.proofs.DeviceLemmas.{on_err}
 use Rattle.j39_groups.specs.Quick.{reading_line}
 use Rattle.j39_groups.specs.Value.{ReadingRecord}
 use Rattle.j39_groups.proofs.read_lines.put_one.Goals as goal

@@ -1,7 +1,7 @@
 -- The line of a number, or of one reading.
 use Rattle.std.proofs.Common.{◌≡◌, append-nil, subst, rules}
-use Rattle.j39_device.specs.Device.{AppendsFront}
-use Rattle.j39_device.proofs.DeviceLemmas.{on_err_from}
+use Rattle.j39_io.specs.Device.{AppendsFront}
+use Rattle.j39_io.proofs.DeviceLemmas.{on_err_from}
 use Rattle.j39_groups.specs.ValueText.{scaled_text, value_text}
 use Rattle.j39_groups.proofs.read_lines.put_parts_line.Goals as goal
 

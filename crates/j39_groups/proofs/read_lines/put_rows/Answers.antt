@@ -4,7 +4,7 @@ use Rattle.std.specs.Io.KnownBytes.{Appends}
 use Rattle.std.specs.List.{flat_map}
 use Rattle.std.proofs.lemmas.List.{length-take}
 use Rattle.std.proofs.KnownBytes.{Appends-trans}
-use Rattle.j39_device.proofs.DeviceLemmas.{front_within, on_err}
+use Rattle.j39_io.proofs.DeviceLemmas.{front_within, on_err}
 use Rattle.j39_groups.specs.declared.read_row.ReadRow.{ReadRow}
 use Rattle.j39_groups.specs.ReadLines.{row_lines, row_readings}
 use Rattle.j39_groups.specs.Value.{ReadingRecord}

@@ -1,9 +1,9 @@
 -- What stands in the block from the start on is the line.
 use Rattle.std.proofs.Common.{◌∙◌, subst, arith}
 use Rattle.std.proofs.lemmas.Slice.{between_to_end}
-use Rattle.j39_device.specs.Device.{AppendsFront}
-use Rattle.j39_text.proofs.BackwardsLemmas.{before_end}
-use Rattle.j39_device.proofs.DeviceLemmas.{on_err_from}
+use Rattle.j39_io.specs.Device.{AppendsFront}
+use Rattle.j39_io.proofs.BackwardsLemmas.{before_end}
+use Rattle.j39_io.proofs.DeviceLemmas.{on_err_from}
 use Rattle.j39_groups.specs.Quick.{reading_line}
 use Rattle.j39_groups.specs.ReadValues.{read_value_of}
 use Rattle.j39_groups.proofs.read_lines.put_value_line.Goals as goal

@@ -1,8 +1,8 @@
 -- After a fault a front of the rows that are left was written.
 use Rattle.std.proofs.Common.{ℕ, List, suc, take, drop, subst}
 use Rattle.std.specs.List.{flat_map}
-use Rattle.j39_device.specs.Device.{AppendsFront}
-use Rattle.j39_device.proofs.DeviceLemmas.{front_within, on_err}
+use Rattle.j39_io.specs.Device.{AppendsFront}
+use Rattle.j39_io.proofs.DeviceLemmas.{front_within, on_err}
 use Rattle.j39_groups.specs.declared.read_row.ReadRow.{ReadRow}
 use Rattle.j39_groups.specs.Printed.{row_text}
 use Rattle.j39_groups.specs.ReadRows.{read_row_record}

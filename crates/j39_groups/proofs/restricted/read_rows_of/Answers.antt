@@ -5,7 +5,7 @@ use Rattle.j39_groups.specs.ReadRows.{read_row_record}
 use Rattle.j39_groups.specs.Readings.{is_among, rows_of_spns}
 use Rattle.j39_groups.specs.Row.{RowRecord}
 use Rattle.j39_groups.specs.declared.read_row.ReadRow.{ReadRow}
-use Rattle.j39_list.specs.Items.{items_of}
+use Rattle.j39_memory.specs.Items.{items_of}
 use Rattle.j39_groups.proofs.RestrictedLemmas.{row_kept, row_left_out}
 use Rattle.j39_groups.proofs.restricted.read_rows_of.Goals as goal
 use Rattle.j39_groups.proofs.restricted.read_rows_of.Goals.{then-is_among+in_ok-push, else-is_among}

@@ -1,7 +1,7 @@
 -- The places, the point and the whole part.
 use Rattle.std.proofs.Common.{sym, subst, arith}
-use Rattle.j39_text.specs.Backwards.{WritesBefore}
-use Rattle.j39_text.proofs.BackwardsLemmas.{before_then}
+use Rattle.j39_io.specs.Backwards.{WritesBefore}
+use Rattle.j39_io.proofs.BackwardsLemmas.{before_then}
 use Rattle.j39_groups.proofs.TextLemmas.{decimal_short, less_by_places, magnitude_whole, magnitude_pointed}
 use Rattle.j39_groups.proofs.short_text.magnitude_before.Goals as goal
 

@@ -3,7 +3,7 @@ use Rattle.std.proofs.Common.{◌++◌, suc, take, drop, ap, ◌∙◌, sym, ari
 use Rattle.std.proofs.lemmas.Grind.{common_steps}
 use Rattle.std.specs.List.{flat_map}
 use Rattle.j39_groups.specs.ValueText.{byte_text}
-use Rattle.j39_device.proofs.DeviceLemmas.{front_within, on_err}
+use Rattle.j39_io.proofs.DeviceLemmas.{front_within, on_err}
 use Rattle.j39_groups.proofs.ListLemmas.{flat_map-at}
 use Rattle.j39_groups.proofs.text.put_escaped.Goals as goal
 

@@ -3,7 +3,7 @@ use Rattle.std.proofs.Common.{◌++◌, ◌∷◌, [], refl}
 use Rattle.std.proofs.KnownBytes.{Appends-trans}
 use Rattle.std.specs.List.{flat_map}
 use Rattle.j39_groups.specs.ValueText.{byte_text}
-use Rattle.j39_device.proofs.DeviceLemmas.{front_first, front_within, on_err, on_err_from}
+use Rattle.j39_io.proofs.DeviceLemmas.{front_first, front_within, on_err, on_err_from}
 use Rattle.j39_groups.proofs.text.put_quoted.Goals as goal
 
 pub returns-in_err-put_all-clause-err : goal.returns-in_err-put_all-clause-err

@@ -1,5 +1,5 @@
 -- It stops at the one reading of the field.
-use Rattle.j39_device.proofs.DeviceLemmas.{on_err_from}
+use Rattle.j39_io.proofs.DeviceLemmas.{on_err_from}
 use Rattle.j39_groups.specs.Visits.{with_medium}
 use Rattle.j39_groups.proofs.VisitLemmas.{stops_at}
 use Rattle.j39_groups.proofs.visiting.visit_field.Goals as goal

@@ -1,7 +1,7 @@
 -- It stops in one of the rows that are left.
 use Rattle.std.proofs.Common.{List, suc, take, drop, subst}
 use Rattle.std.specs.List.{flat_map}
-use Rattle.j39_device.proofs.DeviceLemmas.{on_err}
+use Rattle.j39_io.proofs.DeviceLemmas.{on_err}
 use Rattle.j39_groups.specs.ReadLines.{row_readings}
 use Rattle.j39_groups.specs.Value.{ReadingRecord}
 use Rattle.j39_groups.specs.Visits.{StopsAmong, with_medium}

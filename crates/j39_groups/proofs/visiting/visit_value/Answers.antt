@@ -1,4 +1,4 @@
-use Rattle.j39_device.proofs.DeviceLemmas.{on_err_from}
+use Rattle.j39_io.proofs.DeviceLemmas.{on_err_from}
 use Rattle.j39_groups.specs.Visits.{with_medium}
 use Rattle.j39_groups.proofs.VisitLemmas.{stops_at}
 use Rattle.j39_groups.proofs.visiting.visit_value.Goals as goal

@@ -1,6 +1,6 @@
 -- The line of a frame, and its newline.
 use Rattle.std.proofs.Common.{◌∙◌}
-use Rattle.j39_device.proofs.DeviceLemmas.{on_err}
+use Rattle.j39_io.proofs.DeviceLemmas.{on_err}
 use Rattle.j39_listen.proofs.AnswerAccount.{front_of_line, front_of_newline, nothing_sent, whole_line}
 use Rattle.j39_listen.proofs.answers.put_answer.Goals as goal
 

@@ -1,5 +1,5 @@
 -- One frame after the other.
-use Rattle.j39_device.proofs.DeviceLemmas.{on_err}
+use Rattle.j39_io.proofs.DeviceLemmas.{on_err}
 use Rattle.j39_listen.proofs.AnswerAccount.{all_three, front_of_first, front_of_second, front_of_third}
 use Rattle.j39_listen.proofs.answers.put_sent.Goals as goal
 

@@ -3,7 +3,7 @@ use Rattle.std.proofs.Common.{◌≡◌, ◌≤◌, ◌∙◌, length, ap, arith
 use Rattle.std.specs.Fmt.{decimal}
 use Rattle.std.proofs.lemmas.Fmt.{length-decimal-le}
 use Rattle.j39_frame.specs.Pgn.{pgn_raw}
-use Rattle.j39_text.specs.Backwards.{WritesBefore}
+use Rattle.j39_io.specs.Backwards.{WritesBefore}
 use Rattle.j39_listen.proofs.DigitLemmas.{five_digits}
 use Rattle.j39_listen.proofs.head.group_before.Goals as goal
 

@@ -1,6 +1,6 @@
 -- The parts, one before the other.
 use Rattle.std.proofs.Common.{ℕ, List, ◌≡◌, ◌++◌, ◌∷◌, [], refl, ◌∙◌, append_assoc, arith}
-use Rattle.j39_text.proofs.BackwardsLemmas.{before_end, before_then}
+use Rattle.j39_io.proofs.BackwardsLemmas.{before_end, before_then}
 use Rattle.std.specs.Fmt.{decimal}
 use Rattle.std.specs.Option.{option_map}
 use Rattle.hex.specs.Hex.{encode_upper}

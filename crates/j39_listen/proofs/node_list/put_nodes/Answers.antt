@@ -1,6 +1,6 @@
 -- A line for each address that is held.
 use Rattle.std.proofs.Common.{◌∙◌, arith, refl}
-use Rattle.j39_device.proofs.DeviceLemmas.{on_err}
+use Rattle.j39_io.proofs.DeviceLemmas.{on_err}
 use Rattle.j39_listen.proofs.NodeLemmas.{front_in_nodes, puts_all, puts_more, puts_none}
 use Rattle.j39_listen.proofs.node_list.put_nodes.Goals as goal
 

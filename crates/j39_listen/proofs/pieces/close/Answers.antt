@@ -1,5 +1,5 @@
 -- The account is closed, and what it wrote is passed on.
-use Rattle.j39_device.proofs.DeviceLemmas.{on_err}
+use Rattle.j39_io.proofs.DeviceLemmas.{on_err}
 use Rattle.j39_listen.proofs.RunLemmas.{closes_all, writes_kept}
 use Rattle.j39_listen.proofs.StopLemmas.{some_of_all, stops_closing}
 use Rattle.j39_listen.proofs.pieces.close.Goals as goal

@@ -1,5 +1,5 @@
 use Rattle.std.proofs.Common.{subst}
-use Rattle.j39_device.specs.Turn.{turn}
+use Rattle.j39_io.specs.Turn.{turn}
 use Rattle.j39_listen.specs.Asking.{AsksForBoxes}
 use Rattle.j39_listen.specs.Output.{MakesReport}
 use Rattle.j39_listen.specs.Ran.{Ran}

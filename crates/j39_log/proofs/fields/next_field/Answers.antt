@@ -1,7 +1,7 @@
 -- The fields of the text begin with what `split_at` cuts off.
 use Rattle.std.proofs.Common.{◌∙◌, ap, arith}
 use Rattle.std.specs.List.{prefix_len}
-use Rattle.j39_text.specs.Chars.{is_not_space}
+use Rattle.j39_io.specs.Chars.{is_not_space}
 use Rattle.j39_log.proofs.FieldLemmas.{first_field}
 use Rattle.j39_log.proofs.fields.next_field.Goals as goal
 

@@ -1,7 +1,7 @@
 -- A table without rows needs no memory.
 use Rattle.std.proofs.Common.{map}
 use Rattle.j39_groups.specs.ReadRows.{read_row_record}
-use Rattle.j39_list.specs.Items.{items_of}
+use Rattle.j39_memory.specs.Items.{items_of}
 use Rattle.j39_table.specs.Tables.{lines_of}
 use Rattle.j39_table.proofs.TableLemmas.{row_line_of, some_row}
 use Rattle.j39_table.proofs.reading.read.Goals as goal

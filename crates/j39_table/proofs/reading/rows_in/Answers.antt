@@ -6,7 +6,7 @@ use Rattle.std.proofs.lemmas.List.{length-map, length_push}
 use Rattle.std.proofs.lemmas.Iterator.Splits.{YieldsList-from_slice_split}
 use Rattle.std.proofs.lemmas.Iterator.Consumers.{YieldsList-at, YieldsList-turn, YieldsList-end}
 use Rattle.j39_groups.specs.ReadRows.{read_row_record}
-use Rattle.j39_list.specs.Items.{items_of}
+use Rattle.j39_memory.specs.Items.{items_of}
 use Rattle.j39_table.proofs.TableLemmas.{all_lines, fault_here, line_at, passed_line, spelled_line}
 use Rattle.j39_table.proofs.reading.rows_in.Goals as goal
 

@@ -1,6 +1,6 @@
 use Rattle.std.proofs.Common.{◌≡◌, ◌≤◌, length, map, take}
 use Rattle.j39_groups.specs.ReadRows.{read_row_record}
-use Rattle.j39_list.specs.Items.{items_of}
+use Rattle.j39_memory.specs.Items.{items_of}
 use Rattle.j39_table.specs.Tables.{SpellRows, lines_of, row_lines}
 use Rattle.j39_table.proofs.reading.rows_in.Given as goal
 

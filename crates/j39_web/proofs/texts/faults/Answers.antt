@@ -1,7 +1,7 @@
 use Rattle.std.proofs.Common.{rules}
-use Rattle.j39_fault_news.specs.Output.{MakesFaults}
-use Rattle.j39_fault_news.specs.declared.telling.Telling.TheVariants.{News}
-use Rattle.j39_fault_news.proofs.AccountLemmas.{news_one}
+use Rattle.j39_reports.specs.FaultRun.{MakesFaults}
+use Rattle.j39_reports.specs.declared.fault_news.telling.Telling.TheVariants.{News}
+use Rattle.j39_reports.proofs.FaultAccountLemmas.{news_one}
 use Rattle.j39_web.proofs.RoomLemmas.{overflows}
 use Rattle.j39_web.proofs.texts.faults.Goals as goal
 

@@ -1,6 +1,6 @@
 use Rattle.std.proofs.Common.{rules}
-use Rattle.j39_summary.specs.Summaries.{MakesSummaryRecords}
-use Rattle.j39_summary.proofs.AccountLemmas.{records_one}
+use Rattle.j39_reports.specs.SummaryRun.{MakesSummaryRecords}
+use Rattle.j39_reports.proofs.SummaryAccountLemmas.{records_one}
 use Rattle.j39_web.proofs.RoomLemmas.{overflows}
 use Rattle.j39_web.proofs.texts.summary.Goals as goal
 

@@ -1,7 +1,7 @@
 -- The rows of each group, as contracts see them.
 use Rattle.std.proofs.Common.{◌==◌, ◌∙◌, ap, sym, map}
 use Rattle.j39_groups.specs.ReadRows.{read_row_record}
-use Rattle.j39_list.specs.Items.{items_of}
+use Rattle.j39_memory.specs.Items.{items_of}
 use Rattle.j39_groups.proofs.TableLemmas.{filter-seen}
 use Rattle.j39_groups.proofs.groups_table.Groups.from_rows.Goals as goal
 

@@ -7,7 +7,7 @@ use Rattle.j39_groups.specs.CodeRows.{row_record}
 use Rattle.j39_groups.specs.Names.{group_at, group_name_in}
 use Rattle.j39_groups.specs.ReadRows.{read_row_record}
 use Rattle.j39_groups.proofs.TableLemmas.{filter_map-seen}
-use Rattle.j39_list.specs.Items.{items_of}
+use Rattle.j39_memory.specs.Items.{items_of}
 use Rattle.j39_groups.proofs.groups_table.Groups.group_name.Goals as goal
 
 pub returns-in-BuiltIn : goal.returns-in-BuiltIn

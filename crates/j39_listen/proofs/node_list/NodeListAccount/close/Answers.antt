@@ -1,5 +1,5 @@
 use Rattle.std.proofs.Common.{arith}
-use Rattle.j39_device.proofs.DeviceLemmas.{on_err}
+use Rattle.j39_io.proofs.DeviceLemmas.{on_err}
 use Rattle.j39_listen.proofs.NodeLemmas.{nodes_close, nodes_stop}
 use Rattle.j39_listen.proofs.node_list.NodeListAccount.close.Goals as goal
 

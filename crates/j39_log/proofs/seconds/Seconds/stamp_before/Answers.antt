@@ -1,10 +1,10 @@
 -- The parts, one before the other.
 use Rattle.std.proofs.Common.{◌≡◌, ◌++◌, ◌∷◌, [], ◌/◌, ◌%◌, ◌^◌, subst, append_assoc, ap, ◌∙◌, refl}
-use Rattle.j39_text.specs.Backwards.{WritesBefore}
+use Rattle.j39_io.specs.Backwards.{WritesBefore}
 use Rattle.j39_log.specs.StampText.{stamp_text}
-use Rattle.j39_text.specs.Printing.{last_digits}
+use Rattle.j39_io.specs.Printing.{last_digits}
 use Rattle.j39_frame.specs.Stamp.{stamp_micros}
-use Rattle.j39_text.proofs.BackwardsLemmas.{before_then}
+use Rattle.j39_io.proofs.BackwardsLemmas.{before_then}
 use Rattle.j39_log.proofs.seconds.Seconds.stamp_before.Goals as goal
 
 pub returns : goal.returns

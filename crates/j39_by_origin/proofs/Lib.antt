@@ -1,2 +1,0 @@
-pub mod OriginLemmas
-pub mod PlaceLemmas

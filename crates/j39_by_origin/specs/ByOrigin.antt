@@ -1,8 +1,0 @@
--- The values of origins.
-use Rattle.std.specs.Prelude.{List}
-use Rattle.j39_by_origin.specs.declared.origin.Origin.{Origin}
-use Rattle.j39_by_origin.specs.declared.by_origin.ByOrigin.{ByOrigin}
-
--- each with its origin, in the order in which the origins came
-abbrev pub pairs_of : {T : Type 0} → ByOrigin T → List (Origin × T)
-pairs_of all = all.values.entries

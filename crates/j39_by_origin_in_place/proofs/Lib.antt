@@ -1,3 +1,0 @@
-pub mod OriginLemmas
-pub mod PlaceLemmas
-pub mod PairLemmas

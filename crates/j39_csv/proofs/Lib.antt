@@ -1,4 +1,0 @@
--- the calendar
-mod CalendarLemmas
--- writing piece by piece
-pub mod FrontLemmas

@@ -1,2 +1,0 @@
--- calls one after another
-pub mod DeviceLemmas

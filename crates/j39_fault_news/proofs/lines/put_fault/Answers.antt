@@ -1,4 +1,0 @@
-use Rattle.j39_fault_news.proofs.lines.put_fault.Goals as goal
-
-pub returns-in-Record-clause-front : goal.returns-in-Record-clause-front
-returns-in-Record-clause-front g c = rw c.in-Record.is c.put_record.ensures.front

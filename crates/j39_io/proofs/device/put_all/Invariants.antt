@@ -1,0 +1,13 @@
+use Rattle.std.proofs.Common.{◌≡◌, ◌++◌, ℕ, List, length}
+use Rattle.std.specs.Io.KnownBytes.{Appends}
+use Rattle.j39_io.proofs.device.put_all.Given as goal
+
+-- the bytes before the rest were taken, and no fault came
+abbrev pub invariant-loop-rest : goal.invariant-loop-rest
+invariant-loop-rest g l =
+    (done : List ℕ) × (l.bytes ≡ done ++ l.rest)
+    × Appends (g.S.Sink.held l.initial.sink) (g.S.Sink.held l.sink) done
+    × (g.S.Sink.has_failed l.sink ≡ g.S.Sink.has_failed l.initial.sink)
+
+abbrev pub decreases-loop-rest : goal.decreases-loop-rest
+decreases-loop-rest g l = length l.rest

@@ -1,2 +1,0 @@
--- a stable sort keeps the items of each number
-pub mod SortLemmas

@@ -1,2 +1,0 @@
--- a sort that takes no memory
-pub mod SettlingLemmas

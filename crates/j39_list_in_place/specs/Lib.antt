@@ -1,3 +1,0 @@
-pub mod Items
--- the sort's steps
-pub mod Settling

@@ -1,0 +1,2 @@
+-- a list sorted by the numbers of its items
+mod SortLemmas

@@ -1,0 +1,7 @@
+-- a value in a box
+pub mod Stored
+-- a list that grows
+pub mod Items
+-- a value for each group, and for each origin
+pub mod ByGroup
+pub mod ByOrigin

@@ -1,0 +1,7 @@
+-- The values of the groups.
+use Rattle.std.specs.Prelude.{List}
+use Rattle.j39_memory_in_place.specs.declared.by_group.ByGroup.{ByGroup}
+
+-- each at the place of its group's number
+abbrev pub values_of : {T : Type 0} → ByGroup T → List T
+values_of all = all.values

@@ -1,7 +1,0 @@
-//! The report of a log as records of comma-separated values (RFC 4180).
-#![tactic(auto)]
-
-mod account;
-mod records;
-
-pub use account::report_csv;

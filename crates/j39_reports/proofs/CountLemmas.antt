@@ -1,0 +1,59 @@
+-- Counts that stay at 2^64 - 1, one more.
+use Rattle.std.proofs.Common.{◌≡◌, ◌+◌, ◌++◌, ◌==◌, ℕ, List, [], ◌∷◌, Bool, true, false, length, refl, sym, ap, ◌∙◌, arith, length-append, subst}
+use Rattle.std.specs.Prelude.{count_by}
+use Rattle.std.proofs.lemmas.Grind.{common_steps}
+use Rattle.j39_listen.specs.Counting.{capped}
+use Rattle.j39_log.specs.Kind.{kind_of}
+use Rattle.j39_log.specs.declared.kind.OtherKind.{OtherKind}
+use Rattle.j39_reports.specs.OtherLines.{OthersRecord, is_error, is_flexible, is_odd, is_remote, is_standard, kinds_in, others_of}
+
+pub capped_more : (a n : ℕ) → a ≡ capped n → capped (a + 1) ≡ capped (n + 1)
+capped_more a n e = omega arith
+
+pub capped_sum : (a n k : ℕ) → a ≡ capped n → capped (a + k) ≡ capped (n + k)
+capped_sum a n k e = omega arith
+
+pub capped_zero : (n : ℕ) → (capped n == 0) ≡ (n == 0)
+capped_zero n = grind (arith, common_steps)
+
+pub length_more : {X : Type 0} (xs : List X) (x : X) → length (xs ++ x ∷ []) ≡ length xs + 1
+length_more xs x = length-append xs (x ∷ [])
+
+pub count_by-append : {X : Type 0} (p : X → Bool) (xs ys : List X) → count_by p (xs ++ ys) ≡ count_by p xs + count_by p ys
+count_by-append p xs ys = grind (arith, common_steps)
+
+-- ---- other lines
+
+-- one more where it counts
+abbrev pub count_one : Bool → ℕ → ℕ
+count_one true n = capped (n + 1)
+count_one false n = n
+
+pub kinds_more : (is_kind : OtherKind → Bool) (texts : List (List ℕ)) (text : List ℕ) → kinds_in is_kind (texts ++ text ∷ []) ≡ count_one (is_kind (kind_of text)) (kinds_in is_kind texts)
+kinds_more is_kind texts text =
+    elim (is_kind (kind_of text)) as (λ b. is_kind (kind_of text) ≡ b → kinds_in is_kind (texts ++ text ∷ []) ≡ count_one b (kinds_in is_kind texts)) [
+      | true ↦ λ e. ap capped (count_by-append (λ (t : List ℕ). is_kind (kind_of t)) texts (text ∷ [])) ∙ rw e (sym (capped_more (kinds_in is_kind texts) (count_by (λ (t : List ℕ). is_kind (kind_of t)) texts) refl))
+      | false ↦ λ e. ap capped (count_by-append (λ (t : List ℕ). is_kind (kind_of t)) texts (text ∷ [])) ∙ rw e (omega arith)
+    ] refl
+
+abbrev pub with_kind : OtherKind → OthersRecord → OthersRecord
+with_kind kind o = record {
+  standard = count_one (is_standard kind) o.standard;
+  remote = count_one (is_remote kind) o.remote;
+  flexible = count_one (is_flexible kind) o.flexible;
+  error = count_one (is_error kind) o.error;
+  odd = count_one (is_odd kind) o.odd;
+}
+
+pub others_more : (texts : List (List ℕ)) (text : List ℕ) (kind : OtherKind) (o o' : OthersRecord) → o ≡ others_of texts → kind_of text ≡ kind → o' ≡ with_kind kind o → o' ≡ others_of (texts ++ text ∷ [])
+unfolding others_of
+others_more texts text kind o o' h is more =
+    let all : with_kind kind (others_of texts) ≡ others_of (texts ++ text ∷ []) =
+    subst (λ (k : OtherKind). with_kind k (others_of texts) ≡ others_of (texts ++ text ∷ [])) is (λ i. record {
+      standard = sym (kinds_more is_standard texts text) i;
+      remote = sym (kinds_more is_remote texts text) i;
+      flexible = sym (kinds_more is_flexible texts text) i;
+      error = sym (kinds_more is_error texts text) i;
+      odd = sym (kinds_more is_odd texts text) i;
+    }) in
+    more ∙ ap (with_kind kind) h ∙ all

@@ -1,0 +1,81 @@
+-- The groups of some frames, and of one more.
+use Rattle.std.proofs.Common.{◌≡◌, ◌≢◌, ◌==◌, ◌||◌, ◌+◌, ◌++◌, ◌<◌, ℕ, List, [], ◌∷◌, Bool, true, false, length, refl, sym, ap, ◌∙◌, append-nil, get_or, subst, inl, inr, replicate}
+use Rattle.std.specs.Prelude.{nat_eq}
+use Rattle.std.specs.List.{list_any}
+use Rattle.std.proofs.lemmas.Bool.{cases_eq, eq-eqb, ne_eqb}
+use Rattle.std.proofs.Math.ListN.{set}
+use Rattle.std.proofs.lemmas.List.{get_or-replicate, get_or-set_same, get_or-set_other, length-replicate}
+use Rattle.std.proofs.lemmas.List.Elements.{filter_map-append}
+use Rattle.std.proofs.lemmas.List.Folds.{list_any-append}
+use Rattle.j39_frame.specs.Frame.{FrameRecord}
+use Rattle.j39_frame.specs.Identifier.{pgn_of, source_of}
+use Rattle.j39_listen.specs.Counting.{capped}
+use Rattle.j39_reports.specs.Firsts.{firsts}
+use Rattle.j39_reports.specs.GroupCounts.{GroupRecord, of_sources, source_in, sources_of}
+use Rattle.j39_reports.specs.SurveyModels.{HasCounted, group_record, has_address}
+use Rattle.j39_reports.specs.declared.surveys.group_table.GroupCount.{GroupCount}
+use Rattle.j39_reports.proofs.CountLemmas.{capped_more, length_more}
+use Rattle.j39_reports.proofs.FirstsLemmas.{firsts-new, firsts-old}
+
+-- a frame of the group
+pub sources_of-here : (pgn : ℕ) (F : List FrameRecord) (f : FrameRecord) → pgn_of f.id ≡ pgn → sources_of pgn (F ++ f ∷ []) ≡ sources_of pgn F ++ source_of f.id ∷ []
+sources_of-here pgn F f is = filter_map-append (source_in pgn) F (f ∷ []) ∙ rw (eq-eqb (pgn_of f.id) pgn is) refl
+
+-- a frame of another
+pub sources_of-other : (pgn : ℕ) (F : List FrameRecord) (f : FrameRecord) → pgn_of f.id ≢ pgn → sources_of pgn (F ++ f ∷ []) ≡ sources_of pgn F
+sources_of-other pgn F f other = filter_map-append (source_in pgn) F (f ∷ []) ∙ rw (ne_eqb (pgn_of f.id) pgn other) (append-nil (sources_of pgn F))
+
+-- one frame more, of an address that is new, or of one that is not
+pub counts-new : (sources : List ℕ) (x : ℕ) (g : GroupRecord) (frames addresses : ℕ) → g ≡ of_sources sources → list_any (λ y. x == y) sources ≡ false
+    → frames ≡ capped (g.frames + 1) → addresses ≡ capped (g.addresses + 1)
+    → (let r : GroupRecord = record { frames = frames; addresses = addresses } in r) ≡ of_sources (sources ++ x ∷ [])
+counts-new sources x g frames addresses is new f a =
+    let f' = f ∙ capped_more g.frames (length sources) (ap (λ (r : GroupRecord). r.frames) is) ∙ ap capped (sym (length_more sources x)) in
+    let a' = a ∙ capped_more g.addresses (length (firsts nat_eq sources)) (ap (λ (r : GroupRecord). r.addresses) is)
+    ∙ ap capped (sym (ap length (firsts-new nat_eq sources x new) ∙ length_more (firsts nat_eq sources) x)) in
+    λ i. record { frames = f' i; addresses = a' i }
+
+pub counts-old : (sources : List ℕ) (x : ℕ) (g : GroupRecord) (frames : ℕ) → g ≡ of_sources sources → list_any (λ y. x == y) sources ≡ true
+    → frames ≡ capped (g.frames + 1)
+    → (let r : GroupRecord = record { frames = frames; addresses = g.addresses } in r) ≡ of_sources (sources ++ x ∷ [])
+counts-old sources x g frames is old f =
+    let f' = f ∙ capped_more g.frames (length sources) (ap (λ (r : GroupRecord). r.frames) is) ∙ ap capped (sym (length_more sources x)) in
+    let a' = ap (λ (r : GroupRecord). r.addresses) is ∙ ap capped (sym (ap length (firsts-old nat_eq sources x old))) in
+    λ i. record { frames = f' i; addresses = a' i }
+
+or_swap : (p q : Bool) → (p || q) ≡ (q || (p || false))
+or_swap true true = refl
+or_swap true false = refl
+or_swap false true = refl
+or_swap false false = refl
+
+pub heard-more : (sources : List ℕ) (x a : ℕ) → (a == x || list_any (λ y. a == y) sources) ≡ list_any (λ y. a == y) (sources ++ x ∷ [])
+heard-more sources x a = or_swap (a == x) (list_any (λ y. a == y) sources) ∙ sym (list_any-append (λ y. a == y) sources (x ∷ []))
+
+-- the table, with a frame more of one group
+pub counted_more : (items : List GroupCount) (count : GroupCount) (at : ℕ) (F : List FrameRecord) (f : FrameRecord) → at ≡ pgn_of f.id → at < length items
+    → ((pgn : ℕ) (d : GroupCount) → pgn < 262144 → HasCounted (get_or items pgn d) (sources_of pgn F))
+    → HasCounted count (sources_of at F ++ source_of f.id ∷ [])
+    → (pgn : ℕ) (d : GroupCount) → pgn < 262144 → HasCounted (get_or (set items at count) pgn d) (sources_of pgn (F ++ f ∷ []))
+counted_more items count at F f is within before here = λ pgn d below.
+    elim (cases_eq pgn at) [
+      | inl same ↦
+          subst (λ n. HasCounted (get_or (set items at count) n d) (sources_of n (F ++ f ∷ []))) (sym same)
+          (rw (get_or-set_same items at count d within, sources_of-here at F f (sym is)) here)
+      | inr other ↦
+          rw (get_or-set_other items at pgn count d other, sources_of-other pgn F f (λ e. other (sym (is ∙ e)))) (before pgn d below)
+    ]
+
+-- nothing was counted of no frames
+pub counted_none : (count : GroupCount) → group_record count ≡ record { frames = 0; addresses = 0 } → ((a : ℕ) → has_address count.heard a ≡ false) → HasCounted count []
+unfolding firsts
+counted_none count zero none = record { counts_are = zero; heard_are = none }
+
+-- so it is of each group at the start
+pub counted_start : (items : List GroupCount) (n : ℕ) (count : GroupCount) → items ≡ replicate n count → HasCounted count []
+    → (pgn : ℕ) (d : GroupCount) → pgn < n → HasCounted (get_or items pgn d) []
+counted_start items n count is none = λ pgn d below.
+    subst (λ x. HasCounted x []) (sym (ap (λ xs. get_or xs pgn d) is ∙ get_or-replicate n pgn count d below)) none
+
+pub length_start : (items : List GroupCount) (n : ℕ) (count : GroupCount) → items ≡ replicate n count → length items ≡ n
+length_start items n count is = ap length is ∙ length-replicate n count

@@ -1,0 +1,36 @@
+-- the calendar
+mod CalendarLemmas
+-- the report as records: a message's records, and the account
+pub mod RecordLemmas
+pub mod RecordsAccount
+-- summaries: a summary, entry by entry
+pub mod OriginLemmas
+pub mod FirstLemmas
+pub mod RowLemmas
+pub mod HeldLemmas
+pub mod SummaryLineLemmas
+pub mod SummaryAccountLemmas
+pub mod LawLemmas
+-- the news of faults: what is kept
+pub mod PlaceLemmas
+pub mod TellLemmas
+-- the news of faults: the lines of a message
+pub mod FaultLineLemmas
+-- the news of faults: the account
+pub mod HeardLemmas
+pub mod FaultAccountLemmas
+pub mod PutLemmas
+-- surveys: lists and numbers
+pub mod SurveyTextLemmas
+pub mod FirstsLemmas
+pub mod CountLemmas
+-- surveys: the parts of a survey, a line or a frame more
+pub mod AddressLemmas
+pub mod GroupLemmas
+pub mod InterfaceLemmas
+pub mod UnreadLemmas
+pub mod SurveyLemmas
+-- surveys: pieces of a log
+pub mod SurveyPieceLemmas
+-- surveys: what is written
+pub mod SurveyWritingLemmas

@@ -1,0 +1,93 @@
+-- What is told of one message.
+use Rattle.std.proofs.Common.{◌≡◌, ◌∙◌, ◌<◌, ◌≤◌, ◌^◌, ◌&&◌, ℕ, Bool, true, false, List, [], ◌∷◌, ◌++◌, Option, Some}
+use Rattle.std.proofs.Common.{None, ap, append-nil, arith, flat_map, if◌then◌else◌, is_some, length, nat_le, refl}
+use Rattle.std.proofs.Common.{subst, sym}
+use Rattle.std.proofs.lemmas.Bool.{le-leb}
+use Rattle.std.specs.Io.KnownBytes.{Appends}
+use Rattle.j39_io.specs.Device.{AppendsFront}
+use Rattle.j39_faults.specs.Kinds.{kind_of}
+use Rattle.j39_faults.specs.LampBits.{lamps_of}
+use Rattle.j39_faults.specs.declared.kind.Kind.{Kind}
+use Rattle.j39_faults.specs.declared.lamps.Lamps.{Lamps}
+use Rattle.j39_groups.specs.Row.{RowRecord}
+use Rattle.j39_listen.specs.Counting.{capped}
+use Rattle.j39_listen.specs.Heard.{Hearing}
+use Rattle.j39_listen.specs.declared.counts.Made.{Made}
+use Rattle.j39_listen.proofs.LineLemmas.{capped-fits}
+use Rattle.j39_listen.proofs.ReportAccount.{same_made}
+use Rattle.j39_reports.specs.Faults.{Fault, faults_by, faults_in}
+use Rattle.j39_reports.specs.News.{is_news, is_of_faults, is_told}
+use Rattle.j39_reports.specs.FaultRecords.{faults_text}
+use Rattle.j39_reports.specs.Remembered.{Notes, Remembers, said_at, said_in}
+use Rattle.j39_reports.specs.LastMessages.{differs}
+use Rattle.j39_reports.specs.FaultsSoFar.{Tells, TellsFront, told_faults, told_next}
+use Rattle.j39_reports.specs.declared.fault_news.form.FaultForm.{FaultForm}
+use Rattle.j39_reports.specs.declared.fault_news.last_said.LastSaid.{LastSaid}
+use Rattle.j39_reports.specs.declared.fault_news.telling.Telling.{Telling}
+use Rattle.j39_reports.proofs.FaultAccountLemmas.{among_no, among_yes, next_no, next_yes, tells_nothing}
+use Rattle.j39_reports.proofs.TellLemmas.{news_is, remembers_more}
+
+-- ---- which messages are of faults
+
+long_enough : (bytes : List ℕ) (lamps : Lamps) → lamps_of bytes ≡ Some lamps → nat_le 2 (length bytes) ≡ true
+long_enough [] lamps e = cc
+long_enough (x ∷ []) lamps e = cc
+long_enough (x ∷ y ∷ rest) lamps e = le-leb 2 (length (x ∷ y ∷ rest)) (omega arith)
+
+too_short : (bytes : List ℕ) → lamps_of bytes ≡ None → nat_le 2 (length bytes) ≡ false
+too_short [] e = refl
+too_short (x ∷ []) e = refl
+too_short (x ∷ y ∷ rest) e = cc
+
+pub of_faults : (h : Hearing) (kind : Kind) (lamps : Lamps) → kind_of h.message.pgn ≡ Some kind → lamps_of h.message.bytes ≡ Some lamps → is_of_faults h ≡ true
+of_faults h kind lamps k l = ap (λ (o : Option Kind). is_some o && nat_le 2 (length h.message.bytes)) k ∙ long_enough h.message.bytes lamps l
+
+pub no_group : (h : Hearing) → kind_of h.message.pgn ≡ None → is_of_faults h ≡ false
+no_group h k = ap (λ (o : Option Kind). is_some o && nat_le 2 (length h.message.bytes)) k
+
+pub no_lamps : (h : Hearing) (kind : Kind) → kind_of h.message.pgn ≡ Some kind → lamps_of h.message.bytes ≡ None → is_of_faults h ≡ false
+no_lamps h kind k l = ap (λ (o : Option Kind). is_some o && nat_le 2 (length h.message.bytes)) k ∙ too_short h.message.bytes l
+
+-- ---- no message of faults
+
+pub tells_other : (form : FaultForm) (rows : List RowRecord) (which : Telling) (last : LastSaid) (ms : List Hearing) (h : Hearing) (made : Made) (held : Option (List ℕ))
+    → is_of_faults h ≡ false → Remembers last ms → made.messages ≡ 0 → made.lines ≡ 0 → Tells form rows which last ms (Some h) made held held
+tells_other form rows which last ms h made held other remembers m l =
+    tells_nothing form rows which last ms (Some h) made held (among_no h other) (next_no which ms h other) remembers m l
+
+-- ---- one that is told, or not
+
+module _ (form : FaultForm) (rows : List RowRecord) (which : Telling) (last : LastSaid) (ms : List Hearing) (h : Hearing) (kind : Kind) (lamps : Lamps)
+    (k : kind_of h.message.pgn ≡ Some kind) (l : lamps_of h.message.bytes ≡ Some lamps) (below : h.message.source < 256) (remembers : Remembers last ms) where
+  faults_are : faults_in h ≡ faults_by h (Some kind) (Some lamps)
+  faults_are = ap (λ (o : Option Kind). faults_by h o (lamps_of h.message.bytes)) k ∙ ap (λ (o : Option Lamps). faults_by h (Some kind) o) l
+
+  by_told : (t : Bool) → flat_map faults_in (if t then h ∷ [] else []) ≡ told_faults t (faults_in h)
+  by_told true = append-nil (faults_in h)
+  by_told false = refl
+
+  -- what is added is what is told of it
+  next_faults : (t n : Bool) → n ≡ differs (said_at last kind h.message.source) h.message.bytes h.name → t ≡ is_told which n
+      → flat_map faults_in (told_next which ms (Some h)) ≡ told_faults t (faults_by h (Some kind) (Some lamps))
+  next_faults t n news is =
+      let t_is : t ≡ is_told which (is_news ms h) = is ∙ ap (is_told which) (news ∙ news_is last ms h kind remembers k below) in
+      ap (flat_map faults_in) (next_yes which ms h (of_faults h kind lamps k l)) ∙ ap (λ (b : Bool). flat_map faults_in (if b then h ∷ [] else [])) (sym t_is) ∙ by_told t
+      ∙ ap (told_faults t) faults_are
+
+  pub tells_message : (last' : LastSaid) (t n : Bool) (made : Made) (old new : Option (List ℕ)) → n ≡ differs (said_at last kind h.message.source) h.message.bytes h.name
+      → t ≡ is_told which n → length h.message.bytes ≤ 1785 → Notes last kind h.message.source (said_in h) last'
+      → made.messages ≡ 1 → made.lines ≡ length (told_faults t (faults_by h (Some kind) (Some lamps))) → made.lines < 2 ^ 64
+      → Appends old new (faults_text form rows (told_faults t (faults_by h (Some kind) (Some lamps)))) → Tells form rows which last' ms (Some h) made old new
+  tells_message last' t n made old new news is short notes messages lines fits written =
+      let next = next_faults t n news is in
+      let among = among_yes h (of_faults h kind lamps k l) in
+      record {
+        remembers = subst (λ (x : List Hearing). Remembers last' (ms ++ x)) (sym among) (remembers_more last last' ms h kind k short notes remembers);
+        made_is = same_made _ _ (messages ∙ sym (ap (λ (x : List Hearing). capped (length x)) among))
+            (sym (ap (λ (x : List Fault). capped (length x)) next ∙ ap capped (sym lines) ∙ capped-fits made.lines fits));
+        written = subst (Appends old new) (sym (ap (faults_text form rows) next)) written;
+      }
+
+  pub tells_front : (t n : Bool) (old new : Option (List ℕ)) → n ≡ differs (said_at last kind h.message.source) h.message.bytes h.name → t ≡ is_told which n
+      → AppendsFront old new (faults_text form rows (told_faults t (faults_by h (Some kind) (Some lamps)))) → TellsFront form rows which ms (Some h) old new
+  tells_front t n old new news is front = subst (AppendsFront old new) (sym (ap (faults_text form rows) (next_faults t n news is))) front

@@ -1,0 +1,158 @@
+-- The summary as an account: what is heard at one frame more, and its end.
+use Rattle.std.proofs.Common.{Bor, ◌≡◌, ◌<◌, ◌+◌, ◌^◌, ℕ, List, [], ◌∷◌, ◌++◌, Option, Some, None, length, map, sym, ap, ◌∙◌, subst, arith, append-nil, length-append, inr, refl}
+use Rattle.std.specs.List.{flat_map}
+use Rattle.std.specs.Io.KnownBytes.{Appends}
+use Rattle.std.proofs.KnownBytes.{Appends-nil}
+use Rattle.std.proofs.lemmas.Grind.{flat_map-append}
+use Rattle.std.proofs.lemmas.List.{length-map, map-append}
+use Rattle.j39_memory.specs.ByOrigin.{pairs_of}
+use Rattle.j39_io.specs.Device.{AppendsFront}
+use Rattle.j39_frame.specs.Frame.{FrameRecord}
+use Rattle.j39_groups.specs.Readings.{is_reported_in, readings_in}
+use Rattle.j39_groups.specs.Row.{RowRecord}
+use Rattle.j39_groups.specs.Visits.{Stops, Takes}
+use Rattle.j39_listen.specs.AccountSteps.{Begins, Closes, MakesOne, Meets, StopsAtEnd}
+use Rattle.j39_listen.specs.Counting.{capped}
+use Rattle.j39_listen.specs.Heard.{AreHeard, HeardAt, Hearing, or_none}
+use Rattle.j39_listen.specs.Listening.{Hears}
+use Rattle.j39_listen.specs.Output.{Output}
+use Rattle.j39_listen.specs.Report.{Entry, entries_of, entry_of}
+use Rattle.j39_listen.specs.declared.listener.Listener.{Listener}
+use Rattle.j39_listen.proofs.Causal.{heard_more}
+use Rattle.j39_listen.proofs.LineLemmas.{capped-fits}
+use Rattle.j39_listen.proofs.Reported.{reported_leaves}
+use Rattle.j39_listen.proofs.Unique.{heard_below_unique}
+use Rattle.j39_reports.specs.SummarySoFar.{HasSummed, NotesFrame}
+use Rattle.j39_reports.specs.RowsSoFar.{AreRowsOf, HasTaken, Message, WantsAt}
+use Rattle.j39_reports.specs.RowText.{summary_columns, summary_text}
+use Rattle.j39_reports.specs.RowModels.{row_shown}
+use Rattle.j39_reports.specs.SummaryRun.{AsksForRows, MakesSummaryIn, MakesSummaryRecords, output_of}
+use Rattle.j39_reports.specs.declared.summaries.account.SummaryAccount.{SummaryAccount}
+use Rattle.j39_reports.specs.declared.summaries.deeds.Deeds.{Deeds}
+use Rattle.j39_frame.specs.declared.origin.Origin.{Origin}
+use Rattle.j39_reports.specs.declared.summaries.rows.RowForm.{RowForm}
+use Rattle.j39_reports.specs.declared.summaries.rows.RowForm.TheVariants.{Record}
+use Rattle.j39_reports.specs.declared.summaries.rows.Rows.{Rows}
+
+-- ---- laws
+
+pub summary_begins : (form : RowForm) (groups : List RowRecord) → Begins (λ bus. HasSummed form groups) (MakesSummaryIn form groups)
+summary_begins form groups = λ bus a F G before all has made.
+    (all.text, ap (λ t. t ++ all.text) (sym (ap (λ (o : Output). o.text) has.nothing_yet)))
+
+pub summary_one : (form : RowForm) (groups : List RowRecord) → MakesOne (MakesSummaryIn form groups)
+summary_one form groups = λ bus F x y (hs, are_x, is_x) (ks, are_y, is_y).
+    ap (λ (o : Output). o.text) is_x ∙ ap (λ (heard : List Hearing). (output_of form groups heard).text) (heard_below_unique (is_reported_in groups) (reported_leaves groups) F (length F) hs ks are_x are_y)
+    ∙ sym (ap (λ (o : Output). o.text) is_y)
+
+-- and behind the names of the columns
+pub records_one : (groups : List RowRecord) → MakesOne (MakesSummaryRecords groups)
+records_one groups = λ bus F x y (a, made_a, is_a) (b, made_b, is_b).
+    ap (λ (o : Output). o.text) is_a ∙ ap (λ t. summary_columns ++ t) (summary_one Record groups bus F a b made_a made_b)
+    ∙ sym (ap (λ (o : Output). o.text) is_b)
+
+-- ---- one frame
+
+pub notes_silent : (groups : List RowRecord) (l' : Listener) (F : List FrameRecord) (f : FrameRecord) (rows : List (Origin × Deeds)) (before : List Entry)
+    → HeardAt groups (F ++ f ∷ []) (length F) None → Hears l' (F ++ f ∷ []) → AreRowsOf rows before → NotesFrame groups F f l' rows before 0
+notes_silent groups l' F f rows before silent hears are = record {
+  heard = None;
+  heard_at = silent;
+  hears = hears;
+  are_rows = subst (AreRowsOf rows) (sym (append-nil before)) are;
+  messages_are = refl;
+}
+
+pub notes_heard : (groups : List RowRecord) (l' : Listener) (F : List FrameRecord) (f : FrameRecord) (h : Hearing) (begun rows : Rows) (before : List Entry)
+    → HeardAt groups (F ++ f ∷ []) (length F) (Some h) → Hears l' (F ++ f ∷ []) → HasTaken (record { before = before; hearing = h }) begun []
+    → Takes {M = Unit {0}} (λ message rows medium. HasTaken message rows) begun tt rows tt (readings_in groups h.message.pgn h.message.bytes) → NotesFrame groups F f l' (pairs_of rows.rows) before 1
+notes_heard groups l' F f h begun rows before at hears begins takes =
+    let message : Message = record { before = before; hearing = h } in
+    let taken = takes message [] begins in
+    record {
+      heard = Some h;
+      heard_at = at;
+      hears = hears;
+      are_rows = subst (λ es. AreRowsOf (pairs_of rows.rows) (before ++ es)) (sym (append-nil (entries_of groups h))) taken.are_rows;
+      messages_are = refl;
+    }
+
+pub asks_heard : (groups : List RowRecord) (F : List FrameRecord) (f : FrameRecord) (h : Hearing) (heard : List Hearing) (begun rows : Rows)
+    → HeardAt groups (F ++ f ∷ []) (length F) (Some h) → AreHeard groups F heard
+    → HasTaken (record { before = flat_map (entries_of groups) heard; hearing = h }) begun []
+    → Stops {M = Unit {0}} (λ message rows medium. HasTaken message rows) (λ message before at rows medium. WantsAt message before at) begun tt rows tt (readings_in groups h.message.pgn h.message.bytes) → AsksForRows groups F f
+asks_heard groups F f h heard begun rows at are_heard begins stops =
+    let message : Message = record { before = flat_map (entries_of groups) heard; hearing = h } in
+    let w = stops message [] begins in
+    inr (record {
+      heard = heard;
+      are_heard = are_heard;
+      now_heard = h;
+      heard_now = at;
+      taken = map (entry_of h) w.taken;
+      entry = entry_of h w.at;
+      rest = map (entry_of h) w.rest;
+      entries_are = ap (map (entry_of h)) w.readings_are ∙ map-append (entry_of h) w.taken (w.at ∷ w.rest);
+      wanted = w.stopped;
+    })
+
+pub summary_meets : (form : RowForm) (groups : List RowRecord) (a a' : SummaryAccount) → a'.groups ≡ a.groups → a'.form ≡ a.form → (f : FrameRecord) (messages : ℕ) (old : Option (List ℕ))
+    → ((F : List FrameRecord) (before : List Entry) → Hears a.listener F → AreRowsOf (pairs_of a.rows.rows) before → NotesFrame a.groups.now F f a'.listener (pairs_of a'.rows.rows) before messages)
+    → a'.messages ≡ capped (a.messages + messages) → Meets (HasSummed form groups) a a' (f ∷ []) old old
+summary_meets form groups a a' kept same f messages old notes sum = λ F before has.
+    let entries = flat_map (entries_of groups) has.heard in
+    let n = subst (λ (table : List RowRecord). NotesFrame table F f a'.listener (pairs_of a'.rows.rows) entries messages) has.by (notes F entries has.hears has.are_rows) in
+    let more = or_none n.heard in
+    let count : a'.messages ≡ capped (length (has.heard ++ more)) =
+    sum ∙ (let len = length-append has.heard more in let m = n.messages_are in let b = has.messages_are in omega (arith, len, m, b)) in
+    record {
+      after = before;
+      met = record {
+        by = ap (λ (x : Bor (List RowRecord)). x.now) kept ∙ has.by;
+        form_is = same ∙ has.form_is;
+        heard = has.heard ++ more;
+        are_heard = heard_more (is_reported_in groups) F f has.heard n.heard has.are_heard n.heard_at;
+        hears = n.hears;
+        are_rows = subst (AreRowsOf (pairs_of a'.rows.rows)) (sym (flat_map-append (entries_of groups) has.heard more)) n.are_rows;
+        messages_are = count;
+        nothing_yet = has.nothing_yet;
+      };
+      more = [];
+      text_is = sym (append-nil before.text);
+      written = Appends-nil old;
+    }
+
+-- ---- the end
+
+all_text : (form : RowForm) (groups : List RowRecord) (a : SummaryAccount) (F : List FrameRecord) (before : Output) (has : HasSummed form groups a F before)
+    → summary_text a.form a.groups.now (map row_shown (pairs_of a.rows.rows)) ≡ (output_of form groups has.heard).text
+all_text form groups a F before has =
+    ap (λ (f : RowForm). summary_text f a.groups.now (map row_shown (pairs_of a.rows.rows))) has.form_is
+    ∙ ap (λ (table : List RowRecord). summary_text form table (map row_shown (pairs_of a.rows.rows))) has.by ∙ ap (summary_text form groups) has.are_rows
+
+pub summary_closes : (form : RowForm) (groups : List RowRecord) (a : SummaryAccount) (lines : ℕ) (old new : Option (List ℕ)) → lines ≡ length (pairs_of a.rows.rows) → lines < 2 ^ 64
+    → Appends old new (summary_text a.form a.groups.now (map row_shown (pairs_of a.rows.rows)))
+    → Closes (λ bus. HasSummed form groups) (MakesSummaryIn form groups) a (record { messages = a.messages; lines = lines }) old new
+summary_closes form groups a lines old new count fits written = λ bus F before has.
+    let out = output_of form groups has.heard in
+    let rows : lines ≡ out.lines = count ∙ sym (length-map (pairs_of a.rows.rows) row_shown) ∙ ap length has.are_rows in
+    record {
+      after = out;
+      is_made = (has.heard, has.are_heard, refl);
+      messages_are = has.messages_are;
+      lines_are = sym (ap capped (sym rows) ∙ capped-fits lines fits);
+      more = out.text;
+      text_is = ap (λ t. t ++ out.text) (sym (ap (λ (o : Output). o.text) has.nothing_yet));
+      written = subst (Appends old new) (all_text form groups a F before has) written;
+    }
+
+pub summary_stops : (form : RowForm) (groups : List RowRecord) (a : SummaryAccount) (old new : Option (List ℕ))
+    → AppendsFront old new (summary_text a.form a.groups.now (map row_shown (pairs_of a.rows.rows))) → StopsAtEnd (λ bus. HasSummed form groups) (MakesSummaryIn form groups) a old new
+summary_stops form groups a old new front = λ bus F before all has made.
+    let is : all.text ≡ (output_of form groups has.heard).text =
+    summary_one form groups bus F all (output_of form groups has.heard) made (has.heard, has.are_heard, refl) in
+    record {
+      rest = all.text;
+      all_is = ap (λ t. t ++ all.text) (sym (ap (λ (o : Output). o.text) has.nothing_yet));
+      front = subst (AppendsFront old new) (all_text form groups a F before has ∙ sym is) front;
+    }

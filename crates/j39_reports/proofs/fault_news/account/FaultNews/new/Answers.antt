@@ -1,0 +1,17 @@
+use Rattle.std.proofs.Common.{◌∙◌, [], refl}
+use Rattle.j39_listen.proofs.ReportAccount.{same_made}
+use Rattle.j39_reports.proofs.FaultAccountLemmas.{none_made}
+use Rattle.j39_reports.proofs.fault_news.account.FaultNews.new.Goals as goal
+
+pub returns : goal.returns
+returns c = record {
+  form_is = refl;
+  by = refl;
+  telling_is = refl;
+  heard = [];
+  are_heard = refl;
+  output_is = refl;
+  hears = c.new.ensures;
+  remembers = c.new-2.ensures;
+  made_is = same_made _ _ c.default.ensures.0 c.default.ensures.1 ∙ none_made c.args.writing.form c.args.writing.groups.now c.args.telling;
+}

@@ -1,0 +1,56 @@
+-- A message of another kind, or one of faults that is told or not.
+use Rattle.std.proofs.Common.{◌≡◌, ◌∙◌, ◌<◌, ◌≤◌, ◌^◌, List, Result, Ok, Err, Some, arith, length, subst, sym}
+use Rattle.std.specs.Prelude.{IfOk, OnErr, OnOk}
+use Rattle.std.specs.Io.KnownBytes.{Appends}
+use Rattle.j39_listen.specs.Heard.{Hearing}
+use Rattle.j39_listen.specs.Shown.{hearing_of}
+use Rattle.j39_listen.specs.declared.account.LineFault.{LineFault}
+use Rattle.j39_listen.specs.declared.counts.Made.{Made}
+use Rattle.j39_reports.specs.Faults.{faults_by}
+use Rattle.j39_reports.specs.FaultRecords.{faults_text}
+use Rattle.j39_reports.specs.Remembered.{Remembers}
+use Rattle.j39_reports.specs.FaultsSoFar.{Tells, told_faults}
+use Rattle.j39_reports.proofs.PutLemmas.{no_group, no_lamps, of_faults, tells_front, tells_message, tells_other}
+use Rattle.j39_reports.proofs.TellLemmas.{first_is}
+use Rattle.j39_reports.proofs.fault_news.account.put_heard.Goals as goal
+
+pub returns-in_default-clause-met : goal.returns-in_default-clause-met
+returns-in_default-clause-met g c = λ ms h short.
+    tells_other c.args.writing.form c.args.writing.groups.now c.args.telling c.args.last.now ms (hearing_of c.args.heard.now) c.default.result _ (no_group (hearing_of c.args.heard.now) (sym c.fault_group.ensures ∙ c.in_default.is)) h
+    c.default.ensures.0 c.default.ensures.1
+
+pub returns-in_default-lamps_of-clause-met : goal.returns-in_default-lamps_of-clause-met
+returns-in_default-lamps_of-clause-met g c = λ ms h short.
+    tells_other c.args.writing.form c.args.writing.groups.now c.args.telling c.args.last.now ms (hearing_of c.args.heard.now) c.default-in_default-lamps_of.result _
+    (no_lamps (hearing_of c.args.heard.now) c.in-Some.kind (sym c.fault_group.ensures ∙ c.in-Some.is) (sym c.lamps_of.ensures ∙ c.in_default-lamps_of.is)) h c.default-in_default-lamps_of.ensures.0 c.default-in_default-lamps_of.ensures.1
+
+pub returns-in-Err-clause-first : goal.returns-in-Err-clause-first
+returns-in-Err-clause-first g c = λ fails ms h.
+    first_is c.args.last.now ms _ _ c.in-Some.kind h (sym c.fault_group.ensures ∙ c.in-Some.is) (omega arith) c.in-Err.ensures.first
+
+pub returns-in-Err-clause-of_faults : goal.returns-in-Err-clause-of_faults
+returns-in-Err-clause-of_faults g c = λ fails.
+    of_faults (hearing_of c.args.heard.now) c.in-Some.kind c.in-Some-lamps_of.lamps (sym c.fault_group.ensures ∙ c.in-Some.is) (sym c.lamps_of.ensures ∙ c.in-Some-lamps_of.is)
+
+pub returns-in-Ok-clause-met : goal.returns-in-Ok-clause-met
+returns-in-Ok-clause-met g c = met c.put_told.result c.put_told.ensures.made c.put_told.ensures.fits c.put_told.ensures.written
+  where
+    met : (r : Result Made LineFault)
+        → IfOk r (λ made. (made.messages ≡ 1) × (made.lines ≡ length (told_faults c.is_told.result (faults_by (hearing_of c.args.heard.now) (Some c.in-Some.kind) (Some c.in-Some-lamps_of.lamps)))))
+        → IfOk r (λ made. made.lines < 2 ^ 64)
+        → OnOk r (Appends (g.W.Sink.held c.args.sink.now) (g.W.Sink.held c.put_told.new.sink) (faults_text c.args.writing.form c.args.writing.groups.now (told_faults c.is_told.result (faults_by (hearing_of c.args.heard.now) (Some c.in-Some.kind) (Some c.in-Some-lamps_of.lamps)))))
+        → IfOk r (λ made. (ms : List Hearing) → Remembers c.args.last.now ms → length c.args.heard.now.message.payload.now ≤ 1785
+        → Tells c.args.writing.form c.args.writing.groups.now c.args.telling c.note.new.self ms (Some (hearing_of c.args.heard.now)) made (g.W.Sink.held c.args.sink.now) (g.W.Sink.held c.put_told.new.sink))
+    met (Err e) made fits written = tt
+    met (Ok made) (messages, lines) fits written = λ ms h short.
+        tells_message c.args.writing.form c.args.writing.groups.now c.args.telling c.args.last.now ms (hearing_of c.args.heard.now) c.in-Some.kind c.in-Some-lamps_of.lamps (sym c.fault_group.ensures ∙ c.in-Some.is)
+        (sym c.lamps_of.ensures ∙ c.in-Some-lamps_of.is) (omega arith) h c.note.new.self c.is_told.result c.in-Ok.is_news made _ _ c.in-Ok.ensures.news c.is_told.ensures short
+        c.in-Ok.ensures.after messages lines fits written
+
+pub returns-in-Ok-clause-stops : goal.returns-in-Ok-clause-stops
+returns-in-Ok-clause-stops g c = λ fails ms h short.
+    tells_front c.args.writing.form c.args.writing.groups.now c.args.telling c.args.last.now ms (hearing_of c.args.heard.now) c.in-Some.kind c.in-Some-lamps_of.lamps (sym c.fault_group.ensures ∙ c.in-Some.is)
+    (sym c.lamps_of.ensures ∙ c.in-Some-lamps_of.is) (omega arith) h c.is_told.result c.in-Ok.is_news _ _ c.in-Ok.ensures.news c.is_told.ensures (on_err_at _ _ _ fails c.put_told.ensures.front)
+  where
+    on_err_at : (r : Result Made LineFault) (e : LineFault) (P : Type 0) → r ≡ Err e → OnErr r P → P
+    on_err_at r e P is front = subst (λ (x : Result Made LineFault). OnErr x P) is front

@@ -1,0 +1,13 @@
+use Rattle.std.proofs.Common.{ap, sym, ◌∙◌, refl}
+use Rattle.j39_reports.specs.SummaryRun.{output_of}
+use Rattle.j39_reports.specs.declared.summaries.rows.RowForm.TheVariants.{Line}
+use Rattle.j39_reports.proofs.summaries.laws.one_summary.Goals as goal
+
+pub returns-clause-at_most : goal.returns-clause-at_most
+returns-clause-at_most c = λ groups bus F x y (hs, are_x, is_x) (ks, are_y, is_y).
+    is_x ∙ ap (output_of Line groups) (c.one_report.ensures.heard groups F hs ks are_x are_y) ∙ sym is_y
+
+pub returns-clause-at_least : goal.returns-clause-at_least
+returns-clause-at_least c = λ groups bus F.
+    let h = c.some_report.ensures.heard groups F in
+    (output_of Line groups h.0, (h.0, h.1, refl))

@@ -1,0 +1,17 @@
+use Rattle.std.proofs.Common.{◌++◌, ◌∙◌, ap, sym}
+use Rattle.j39_reports.specs.RowText.{counted_fields, values_fields}
+use Rattle.j39_reports.specs.RowModels.{row_shown}
+use Rattle.j39_reports.proofs.SummaryLineLemmas.{both, front_of_both, front_of_first}
+use Rattle.j39_reports.proofs.summaries.records.put_counted.Goals as goal
+
+pub returns-clause-written : goal.returns-clause-written
+unfolding counted_fields
+returns-clause-written g c = both c.put_values.result _ _ _ c.as_slice.result.now _ _ (ap (λ t. t ++ values_fields (row_shown (c.args.origin, c.args.deeds.now))) (sym (c.as_slice.ensures.value ∙ c.counts_of.ensures))) c.in_ok-put_all.ensures.ok c.put_values.ensures.written
+
+pub returns-clause-front : goal.returns-clause-front
+unfolding counted_fields
+returns-clause-front g c = front_of_both c.put_values.result _ _ _ c.as_slice.result.now _ _ (ap (λ t. t ++ values_fields (row_shown (c.args.origin, c.args.deeds.now))) (sym (c.as_slice.ensures.value ∙ c.counts_of.ensures))) c.in_ok-put_all.ensures.ok c.put_values.ensures.front
+
+pub returns-in_err-put_all-clause-front : goal.returns-in_err-put_all-clause-front
+unfolding counted_fields
+returns-in_err-put_all-clause-front g c = front_of_first c.from_residual.result _ _ c.as_slice.result.now _ _ (ap (λ t. t ++ values_fields (row_shown (c.args.origin, c.args.deeds.now))) (sym (c.as_slice.ensures.value ∙ c.counts_of.ensures))) c.in_err-put_all.ensures.err

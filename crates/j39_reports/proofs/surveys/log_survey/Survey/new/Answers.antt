@@ -1,0 +1,12 @@
+use Rattle.std.proofs.Common.{refl}
+use Rattle.j39_reports.proofs.surveys.log_survey.Survey.new.Goals as goal
+
+pub returns : goal.returns
+returns c = record {
+  lines_are = refl;
+  interfaces_are = c.new-2.ensures;
+  groups_are = c.in_ok-groups.ensures;
+  others_are = c.new-3.ensures;
+  unread_are = c.new-4.ensures;
+  has_form = refl;
+}

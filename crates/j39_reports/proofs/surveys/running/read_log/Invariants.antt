@@ -1,0 +1,15 @@
+use Rattle.std.proofs.Common.{◌≡◌, ◌+◌, ℕ, List, [], length}
+use Rattle.std.specs.Io.KnownBytes.{Consumes}
+use Rattle.j39_reports.specs.SurveySoFar.{HasTaken}
+use Rattle.j39_reports.proofs.surveys.running.read_log.Given as goal
+
+-- these bytes were taken, which are as long as the room that was used; no fault came
+abbrev pub invariant-pieces : goal.invariant-pieces
+invariant-pieces g l =
+    (taken : List ℕ) × Consumes (g.R.Source.remaining l.initial.source) (g.R.Source.remaining l.source) taken
+    × (HasTaken l.initial.pieces [] → HasTaken l.pieces taken)
+    × (length taken + l.room ≡ l.limit)
+    × (g.R.Source.has_failed l.source ≡ g.R.Source.has_failed l.initial.source)
+
+abbrev pub decreases-pieces : goal.decreases-pieces
+decreases-pieces g l = l.room

@@ -1,0 +1,11 @@
+use Rattle.std.proofs.Common.{◌≡◌, ◌≤◌, ◌+◌, ◌*◌, ◌++◌, take}
+use Rattle.std.specs.List.{flat_map}
+use Rattle.arrayvec.specs.ArrayVec.{array_vec_len}
+use Rattle.j39_reports.specs.SurveyText.{byte_text}
+use Rattle.j39_reports.proofs.surveys.survey_text.push_shown.Given as goal
+
+-- the bytes so far have their texts
+abbrev pub invariant-loop-byte : goal.invariant-loop-byte
+invariant-loop-byte l =
+    (l.line.items ≡ l.initial.line.items ++ flat_map byte_text (take l.byte-index l.bytes))
+    × (array_vec_len l.line ≤ array_vec_len l.initial.line + 4 * l.byte-index)

@@ -1,0 +1,48 @@
+-- The record of an entry of a report (RFC 4180; own).
+use Rattle.std.specs.Prelude.{◌/◌, ◌%◌, ◌++◌, ◌∷◌, ℕ, List, [], Option, Some, None, codes, decimal, unwrap_or}
+use Rattle.std.specs.List.{flat_map}
+use Rattle.std.specs.Int.{to_be_bytes, w64}
+use Rattle.hex.specs.Hex.{encode_upper}
+use Rattle.j39_io.specs.Printing.{last_digits}
+use Rattle.j39_reports.specs.Columns.{name_field, seconds_text}
+use Rattle.j39_io.specs.Records.{comma, later_text, line_end}
+use Rattle.j39_reports.specs.Utc.{utc_text}
+use Rattle.j39_groups.specs.Names.{group_name_in, name_in}
+use Rattle.j39_groups.specs.Row.{RowRecord}
+use Rattle.j39_groups.specs.Value.{ValueRecord}
+use Rattle.j39_groups.specs.ValueText.{bare_text, unit_of}
+use Rattle.j39_listen.specs.Report.{Entry}
+
+-- the names of the columns
+abbrev pub header_text : List ℕ
+header_text = codes "stamp,utc,address,name,pgn,group,spn,parameter,value,unit\r\n"
+
+-- the fields that the records of a message begin with: the stamp, the same in UTC, address, NAME and PGN
+unfoldable pub begin_text : ℕ → ℕ → Option ℕ → ℕ → List ℕ
+begin_text stamp address name pgn =
+    seconds_text stamp ++ codes "," ++ utc_text stamp ++ codes "," ++ encode_upper (address ∷ []) ++ codes ","
+    ++ name_field name ++ codes "," ++ decimal pgn
+
+-- what the table calls a group and a parameter of it; nothing where it lists none
+abbrev pub group_called : List RowRecord → ℕ → List ℕ
+group_called groups pgn = unwrap_or (group_name_in groups pgn) []
+
+abbrev pub parameter_called : List RowRecord → ℕ → ℕ → List ℕ
+parameter_called groups pgn spn = unwrap_or (name_in groups pgn spn) []
+
+-- the fields up to the value: those, what the group is called, the parameter (SPN), and what it is called
+unfoldable pub named_fields : List ℕ → List ℕ → ℕ → List ℕ → List ℕ
+named_fields begin group spn parameter = begin ++ later_text group ++ (comma ∷ decimal spn) ++ later_text parameter
+
+-- the value, its unit, and the end of the line
+unfoldable pub value_fields : ValueRecord → List ℕ
+value_fields value = (comma ∷ bare_text value) ++ (later_text (unit_of value) ++ line_end)
+
+-- the record of an entry
+abbrev pub entry_record : List RowRecord → Entry → List ℕ
+entry_record groups e =
+    named_fields (begin_text e.stamp e.address e.name e.pgn) (group_called groups e.pgn) e.spn
+    (parameter_called groups e.pgn e.spn) ++ value_fields e.value
+
+abbrev pub entries_text : List RowRecord → List Entry → List ℕ
+entries_text groups entries = flat_map (entry_record groups) entries

@@ -1,0 +1,80 @@
+-- The record of a fault (RFC 4180; own).
+use Rattle.std.specs.Prelude.{◌++◌, ◌∷◌, ℕ, List, [], Option, Some, None, codes, decimal, unwrap_or}
+use Rattle.std.specs.List.{flat_map}
+use Rattle.hex.specs.Hex.{encode_upper}
+use Rattle.j39_reports.specs.Columns.{name_field, seconds_text}
+use Rattle.j39_io.specs.Records.{record_text}
+use Rattle.j39_reports.specs.Utc.{utc_text}
+use Rattle.j39_faults.specs.Text.{kind_text, lamps_on}
+use Rattle.j39_faults.specs.Words.{fmi_words}
+use Rattle.j39_faults.specs.declared.code.Code.{Code}
+use Rattle.j39_faults.specs.declared.code.Code.TheVariants.{Known, Raw}
+use Rattle.j39_faults.specs.declared.lamps.Lamps.{Lamps}
+use Rattle.j39_groups.specs.Row.{RowRecord}
+use Rattle.j39_reports.specs.Faults.{Fault, fault_line, name_in}
+use Rattle.j39_reports.specs.declared.fault_news.form.FaultForm.{FaultForm}
+use Rattle.j39_reports.specs.declared.fault_news.form.FaultForm.TheVariants.{Line, Record}
+
+-- the names of the columns
+abbrev pub fault_columns : List ℕ
+fault_columns = codes "stamp,utc,address,name,state,spn,fmi,count,lamps,parameter,meaning\r\n"
+
+-- the stamp, the same in UTC, the address and the NAME, a comma after each
+unfoldable pub head_fields : ℕ → ℕ → Option ℕ → List ℕ
+head_fields stamp address name =
+    seconds_text stamp ++ codes "," ++ utc_text stamp ++ codes "," ++ encode_upper (address ∷ []) ++ codes ","
+    ++ name_field name ++ codes ","
+
+-- numbers alone: nothing where a message has no code, or the code's bytes don't tell them
+abbrev pub spn_field : Option Code → List ℕ
+spn_field None = []
+spn_field (Some (Known spn fmi count)) = decimal spn
+spn_field (Some (Raw bytes)) = []
+
+abbrev pub fmi_field : Option Code → List ℕ
+fmi_field None = []
+fmi_field (Some (Known spn fmi count)) = decimal fmi
+fmi_field (Some (Raw bytes)) = []
+
+abbrev pub count_field : Option Code → List ℕ
+count_field None = []
+count_field (Some (Known spn fmi None)) = []
+count_field (Some (Known spn fmi (Some count))) = decimal count
+count_field (Some (Raw bytes)) = []
+
+-- what the table calls the parameter; where it has no name a word and its number, or a word and the code's bytes
+abbrev pub unnamed : Option Code → List ℕ
+unnamed None = []
+unnamed (Some (Known spn fmi count)) = codes "SPN " ++ decimal spn
+unnamed (Some (Raw bytes)) = codes "code " ++ encode_upper bytes
+
+abbrev pub parameter_field : List RowRecord → Option Code → List ℕ
+parameter_field rows None = []
+parameter_field rows (Some code) = unwrap_or (name_in rows code) (unnamed (Some code))
+
+abbrev pub meaning_field : Option Code → List ℕ
+meaning_field None = codes "no code"
+meaning_field (Some (Known spn fmi count)) = fmi_words fmi
+meaning_field (Some (Raw bytes)) = codes "conversion method 1"
+
+-- the fields behind `active` or `previous`, with this one for the parameter
+abbrev pub fields_with : Lamps → List ℕ → Option Code → List (List ℕ)
+fields_with lamps parameter code =
+    spn_field code ∷ fmi_field code ∷ count_field code ∷ lamps_on lamps ∷ parameter ∷ meaning_field code ∷ []
+
+abbrev pub said_fields : List RowRecord → Lamps → Option Code → List (List ℕ)
+said_fields rows lamps code = fields_with lamps (parameter_field rows code) code
+
+-- the record of a fault
+unfoldable pub fault_record : List RowRecord → Fault → List ℕ
+fault_record rows f =
+    head_fields f.stamp f.address f.name ++ record_text (kind_text f.kind) (said_fields rows f.lamps f.code)
+
+-- ---- in either form
+
+abbrev pub fault_in : FaultForm → List RowRecord → Fault → List ℕ
+fault_in Line rows f = fault_line rows f
+fault_in Record rows f = fault_record rows f
+
+unfoldable pub faults_text : FaultForm → List RowRecord → List Fault → List ℕ
+faults_text form rows faults = flat_map (fault_in form rows) faults

@@ -1,0 +1,35 @@
+-- What is made of the frames of a log.
+use Rattle.std.specs.Prelude.{◌≡◌, List, length}
+use Rattle.std.specs.List.{flat_map}
+use Rattle.j39_groups.specs.Row.{RowRecord}
+use Rattle.j39_listen.specs.Heard.{AreHeardWith, Hearing}
+use Rattle.j39_listen.specs.Headed.{Headed}
+use Rattle.j39_listen.specs.Output.{Making, Output}
+use Rattle.j39_reports.specs.Faults.{faults_in}
+use Rattle.j39_reports.specs.News.{faults_among, is_fault_group, told}
+use Rattle.j39_reports.specs.FaultRecords.{fault_columns, faults_text}
+use Rattle.j39_reports.specs.declared.fault_news.form.FaultForm.{FaultForm}
+use Rattle.j39_reports.specs.declared.fault_news.form.FaultForm.TheVariants.{Line, Record}
+use Rattle.j39_reports.specs.declared.fault_news.telling.Telling.{Telling}
+
+-- the text of each fault of each message of faults that is told; each message of faults counts
+abbrev pub faults_of : FaultForm → List RowRecord → Telling → List Hearing → Output
+faults_of form rows which ms = record {
+  text = faults_text form rows (flat_map faults_in (told which ms));
+  messages = length ms;
+  lines = length (flat_map faults_in (told which ms));
+}
+
+-- the faults that are told in the frames, whatever their bus is called, in either form
+abbrev pub MakesFaultsIn : FaultForm → List RowRecord → Telling → Making
+MakesFaultsIn form rows which bus F output =
+    (heard : List Hearing) × AreHeardWith is_fault_group F heard
+    × (output ≡ faults_of form rows which (faults_among heard))
+
+-- a line for each
+abbrev pub MakesFaults : List RowRecord → Telling → Making
+MakesFaults rows which = MakesFaultsIn Line rows which
+
+-- the names of the columns, and a record for each
+abbrev pub MakesFaultRecords : List RowRecord → Telling → Making
+MakesFaultRecords rows which = Headed fault_columns (MakesFaultsIn Record rows which)

@@ -1,0 +1,100 @@
+-- The steps of a run that tells faults, frame by frame.
+use Rattle.std.specs.Prelude.{◌≡◌, ◌++◌, ◌∷◌, [], ℕ, Bool, List, Option, if◌then◌else◌, length, None, Some}
+use Rattle.std.specs.Io.KnownBytes.{Appends}
+use Rattle.std.specs.List.{flat_map}
+use Rattle.j39_io.specs.Device.{AppendsFront}
+use Rattle.j39_faults.specs.declared.code.Code.{Code}
+use Rattle.j39_faults.specs.declared.kind.Kind.{Kind}
+use Rattle.j39_faults.specs.declared.lamps.Lamps.{Lamps}
+use Rattle.j39_frame.specs.Frame.{FrameRecord}
+use Rattle.j39_groups.specs.Row.{RowRecord}
+use Rattle.j39_listen.specs.Heard.{AreHeardWith, Hearing, HeardAtWith, or_none}
+use Rattle.j39_listen.specs.Listening.{Hears}
+use Rattle.j39_listen.specs.Output.{Output}
+use Rattle.j39_listen.specs.ReportSteps.{made_of}
+use Rattle.j39_listen.specs.declared.counts.Made.{Made}
+use Rattle.j39_listen.specs.declared.listener.Listener.{Listener}
+use Rattle.j39_io.specs.Records.{record_text}
+use Rattle.j39_faults.specs.Text.{kind_text}
+use Rattle.j39_io.specs.Chars.{newline}
+use Rattle.j39_reports.specs.Faults.{Fault, faults_in, head_text, said_text}
+use Rattle.j39_reports.specs.News.{faults_among, is_fault_group, is_of_faults, told_here}
+use Rattle.j39_reports.specs.FaultRun.{faults_of}
+use Rattle.j39_reports.specs.FaultRecords.{faults_text, head_fields, said_fields}
+use Rattle.j39_reports.specs.Remembered.{Remembers}
+use Rattle.j39_reports.specs.declared.fault_news.account.FaultNews.{FaultNews}
+use Rattle.j39_reports.specs.declared.fault_news.form.FaultForm.{FaultForm}
+use Rattle.j39_reports.specs.declared.fault_news.form.FaultForm.TheVariants.{Line, Record}
+use Rattle.j39_reports.specs.declared.fault_news.last_said.LastSaid.{LastSaid}
+use Rattle.j39_reports.specs.declared.fault_news.telling.Telling.{Telling}
+
+-- what stands before what is said
+abbrev pub head_in : FaultForm → ℕ → ℕ → Option ℕ → List ℕ
+head_in Line stamp address name = head_text stamp address name
+head_in Record stamp address name = head_fields stamp address name
+
+-- a line or a record, of what stands before what is said in it
+abbrev pub line_of : FaultForm → List ℕ → List RowRecord → Kind → Lamps → Option Code → List ℕ
+line_of Line head rows kind lamps code = head ++ said_text rows kind lamps code ++ (newline ∷ [])
+line_of Record head rows kind lamps code = head ++ record_text (kind_text kind) (said_fields rows lamps code)
+
+-- what is told of a message, where it is told
+abbrev pub told_faults : Bool → List Fault → List Fault
+told_faults is_told faults = if is_told then faults else []
+
+-- what is told of what is heard next, or of nothing
+abbrev pub told_next : Telling → List Hearing → Option Hearing → List Hearing
+told_next which ms None = []
+told_next which ms (Some h) = if is_of_faults h then told_here which ms (Some h) else []
+
+-- what it adds
+abbrev pub added : FaultForm → List RowRecord → Telling → List Hearing → Option Hearing → Output
+added form rows which ms heard = record {
+  text = faults_text form rows (flat_map faults_in (told_next which ms heard));
+  messages = length (faults_among (or_none heard));
+  lines = length (flat_map faults_in (told_next which ms heard));
+}
+
+-- behind these messages this was heard, and what is told of it was written
+pub record Tells (form : FaultForm) (rows : List RowRecord) (which : Telling) (last' : LastSaid) (ms : List Hearing)
+    (heard : Option Hearing) (made : Made) (old new : Option (List ℕ)) : Type 0 where
+  pub remembers : Remembers last' (ms ++ faults_among (or_none heard))
+  pub made_is : made ≡ made_of (added form rows which ms heard)
+  pub written : Appends old new (added form rows which ms heard).text
+
+abbrev pub TellsFront : FaultForm → List RowRecord → Telling → List Hearing → Option Hearing → Option (List ℕ)
+    → Option (List ℕ) → Type 0
+TellsFront form rows which ms heard old new = AppendsFront old new (added form rows which ms heard).text
+
+-- behind the frames F, of which these messages were heard, this is heard at the frame f, and was told
+pub record MeetsFrame (form : FaultForm) (rows : List RowRecord) (which : Telling) (l' : Listener) (last' : LastSaid)
+    (F : List FrameRecord) (f : FrameRecord) (ms : List Hearing) (made : Made)
+    (old new : Option (List ℕ)) : Type 0 where
+  pub heard : Option Hearing
+  pub heard_at : HeardAtWith is_fault_group (F ++ f ∷ []) (length F) heard
+  pub hears : Hears l' (F ++ f ∷ [])
+  pub tells : Tells form rows which last' ms heard made old new
+
+pub record StopsFrame (form : FaultForm) (rows : List RowRecord) (which : Telling) (F : List FrameRecord)
+    (f : FrameRecord) (ms : List Hearing) (old new : Option (List ℕ)) : Type 0 where
+  pub heard : Option Hearing
+  pub heard_at : HeardAtWith is_fault_group (F ++ f ∷ []) (length F) heard
+  pub front : TellsFront form rows which ms heard old new
+
+-- the table of parameters, and which messages are told
+pub record Subject : Type 0 where
+  pub rows : List RowRecord
+  pub which : Telling
+
+-- the faults in F were told in this form, by this table
+pub record HasTold (form : FaultForm) (s : Subject) (news : FaultNews) (F : List FrameRecord) (output : Output)
+    : Type 0 where
+  pub form_is : news.writing.form ≡ form
+  pub by : news.writing.groups.now ≡ s.rows
+  pub telling_is : news.telling ≡ s.which
+  pub heard : List Hearing
+  pub are_heard : AreHeardWith is_fault_group F heard
+  pub output_is : output ≡ faults_of form s.rows s.which (faults_among heard)
+  pub hears : Hears news.listener F
+  pub remembers : Remembers news.last (faults_among heard)
+  pub made_is : news.made ≡ made_of output

@@ -1,0 +1,44 @@
+-- moments in UTC (ISO 8601), and columns that several records have
+pub mod Calendar
+pub mod Utc
+pub mod Columns
+-- the report as records: the record of an entry, and what a run makes of the frames
+pub mod EntryText
+pub mod ReportRecords
+-- the report as records: the code's steps
+pub mod MessageRecords
+pub mod RecordsSoFar
+-- summaries: what a report's values did, and its text
+pub mod Summary
+pub mod RowText
+pub mod SummaryRun
+pub mod Bounds
+-- summaries: what the code's values show
+pub mod RowModels
+-- summaries: the code's steps, below the rules
+pub mod RowsSoFar
+pub mod SummarySoFar
+-- the news of faults: which messages are told, and what of them
+pub mod News
+pub mod Faults
+pub mod FaultRecords
+-- the news of faults: what a run makes of the frames, and where it may want memory
+pub mod FaultRun
+pub mod FaultAsking
+-- the news of faults: the code's steps, below the rules
+pub mod LastMessages
+pub mod Remembered
+pub mod FaultsSoFar
+-- surveys: the lines of a log, and what is in them
+pub mod LogLines
+pub mod Firsts
+pub mod Interfaces
+pub mod GroupCounts
+pub mod OtherLines
+pub mod UnreadLines
+-- surveys: what is written, and what a run promises
+pub mod SurveyText
+pub mod SurveyRun
+-- surveys: the code's steps, below the rules
+pub mod SurveyModels
+pub mod SurveySoFar

@@ -1,0 +1,43 @@
+-- The steps of a message's records, reading by reading.
+use Rattle.std.specs.Prelude.{◌≡◌, ◌∷◌, ◌++◌, ℕ, Bool, true, List, [], Option, length, map}
+use Rattle.std.specs.Io.KnownBytes.{Appends}
+use Rattle.j39_io.specs.Device.{AppendsFront}
+use Rattle.j39_groups.specs.Row.{RowRecord}
+use Rattle.j39_groups.specs.Value.{ReadingRecord}
+use Rattle.j39_listen.specs.Counting.{capped}
+use Rattle.j39_listen.specs.Heard.{Hearing}
+use Rattle.j39_listen.specs.Report.{entry_of}
+use Rattle.j39_reports.specs.EntryText.{begin_text, entries_text, group_called}
+use Rattle.j39_reports.specs.declared.report_records.records.Records.{Records}
+
+-- the records are those of this message by this table
+pub record IsBegun (groups : List RowRecord) (h : Hearing) (records : Records) : Type 0 where
+  pub by : records.groups.now ≡ groups
+  pub begin_is : records.begin.items ≡ begin_text h.stamp h.message.source h.name h.message.pgn
+  pub group_is : records.group.now ≡ group_called groups h.message.pgn
+  pub pgn_is : records.pgn ≡ h.message.pgn
+
+-- a message by a table, and the writer before its records
+pub record Begun : Type 0 where
+  pub groups : List RowRecord
+  pub hearing : Hearing
+  pub held : Option (List ℕ)
+  pub has_failed : Bool
+
+-- the text of these readings of the message
+abbrev pub readings_text : Begun → List ReadingRecord → List ℕ
+readings_text begun readings = entries_text begun.groups (map (entry_of begun.hearing) readings)
+
+-- the records of these readings were written, and no fault came
+pub record HasWritten (begun : Begun) (records : Records) (held : Option (List ℕ)) (has_failed : Bool)
+    (readings : List ReadingRecord) : Type 0 where
+  pub is_begun : IsBegun begun.groups begun.hearing records
+  pub written : Appends begun.held held (readings_text begun readings)
+  pub unmarked : has_failed ≡ begun.has_failed
+  pub lines_are : records.lines ≡ capped (length readings)
+
+-- a fault came in the record of a reading behind others
+pub record HasStopped (begun : Begun) (before : List ReadingRecord) (at : ReadingRecord) (held : Option (List ℕ))
+    (has_failed : Bool) : Type 0 where
+  pub front : AppendsFront begun.held held (readings_text begun (before ++ (at ∷ [])))
+  pub marked : has_failed ≡ true

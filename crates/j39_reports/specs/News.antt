@@ -1,0 +1,58 @@
+-- Which messages of faults are told (J1939-73, 5.7.1 and 5.7.2: DM1, DM2).
+use Rattle.std.specs.Prelude.{◌==◌, ◌&&◌, not, ℕ, zero, suc, Bool, true, false, List, [], ◌∷◌, ◌++◌, Option, Some, None}
+use Rattle.std.specs.Prelude.{bytes_eq, filter, if◌then◌else◌, is_some, length, nat_le, slice_get, take}
+use Rattle.std.specs.List.{last_or}
+use Rattle.j39_faults.specs.Kinds.{kind_of}
+use Rattle.j39_listen.specs.Heard.{Hearing}
+use Rattle.j39_reports.specs.declared.fault_news.telling.Telling.{Telling}
+use Rattle.j39_reports.specs.declared.fault_news.telling.Telling.TheVariants.{News, All}
+
+-- the groups of faults are heard in one frame, too
+abbrev pub is_fault_group : ℕ → Bool
+is_fault_group pgn = is_some (kind_of pgn)
+
+-- a message of faults is of such a group, and has the two bytes of the lamps (own)
+abbrev pub is_of_faults : Hearing → Bool
+is_of_faults h = is_fault_group h.message.pgn && nat_le 2 (length h.message.bytes)
+
+abbrev pub faults_among : List Hearing → List Hearing
+faults_among hs = filter is_of_faults hs
+
+-- the last of these messages that is of this group, from this address
+unfoldable pub last_from : ℕ → ℕ → List Hearing → Option Hearing
+last_from pgn source ms =
+    last_or None (filter (λ h. h.message.pgn == pgn && h.message.source == source) ms)
+
+abbrev pub is_same_name : Option ℕ → Option ℕ → Bool
+is_same_name None None = true
+is_same_name None (Some b) = false
+is_same_name (Some a) None = false
+is_same_name (Some a) (Some b) = a == b
+
+-- it has other bytes or another NAME than what was said before, or nothing was
+abbrev pub says_other : Option Hearing → Hearing → Bool
+says_other None m = true
+says_other (Some l) m = not (bytes_eq l.message.bytes m.message.bytes && is_same_name l.name m.name)
+
+-- behind these messages it is news
+abbrev pub is_news : List Hearing → Hearing → Bool
+is_news before m = says_other (last_from m.message.pgn m.message.source before) m
+
+-- a message is told that is news, or each is
+abbrev pub is_told : Telling → Bool → Bool
+is_told News is_news = is_news
+is_told All is_news = true
+
+-- the message at a place, behind those before it, where it is told
+abbrev pub told_here : Telling → List Hearing → Option Hearing → List Hearing
+told_here which before None = []
+told_here which before (Some m) = if is_told which (is_news before m) then m ∷ [] else []
+
+-- those told of the messages at the first n places, in order
+unfoldable pub told_below : Telling → List Hearing → ℕ → List Hearing
+told_below which ms zero = []
+told_below which ms (suc n) = told_below which ms n ++ told_here which (take n ms) (slice_get ms n)
+
+-- of all
+abbrev pub told : Telling → List Hearing → List Hearing
+told which ms = told_below which ms (length ms)

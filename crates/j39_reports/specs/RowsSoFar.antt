@@ -1,0 +1,74 @@
+-- The steps of a summary, entry by entry.
+use Rattle.std.specs.Prelude.{◌≡◌, ◌+◌, ◌++◌, ℕ, Bool, List, Option, None, Some, if◌then◌else◌, map}
+use Rattle.std.specs.Int.{int_max, int_min}
+use Rattle.j39_memory.specs.ByOrigin.{pairs_of}
+use Rattle.j39_frame.specs.Stamp.{stamp_micros}
+use Rattle.j39_groups.specs.Value.{ReadingRecord, ValueRecord}
+use Rattle.j39_listen.specs.Counting.{capped}
+use Rattle.j39_listen.specs.Heard.{Hearing}
+use Rattle.j39_listen.specs.Report.{Entry, entry_of}
+use Rattle.j39_reports.specs.RowModels.{entry_at, row_shown}
+use Rattle.j39_reports.specs.SummaryRun.{WantsRow}
+use Rattle.j39_reports.specs.Summary.{Number, Range, Row, are_comparable, is_word, number_of, summary_of}
+use Rattle.j39_reports.specs.declared.summaries.deeds.Deeds.{Deeds}
+use Rattle.j39_frame.specs.declared.origin.Origin.{Origin}
+use Rattle.j39_reports.specs.declared.summaries.rows.Rows.{Rows}
+
+-- the range with one number more
+abbrev pub widened : Option Range → Option Number → Option Range
+widened range None = range
+widened None (Some n) = Some (record { slot = n.slot; least = n.value; most = n.value })
+widened (Some r) (Some n) =
+    if are_comparable r.slot n.slot
+    then Some (record { slot = r.slot; least = int_min r.least n.value; most = int_max r.most n.value })
+    else Some r
+
+abbrev pub one_if : Bool → ℕ
+one_if b = if b then 1 else 0
+
+-- the row with one entry more
+abbrev pub grown : Row → Entry → Row
+grown row e = record {
+  first = row.first;
+  last = e;
+  count = capped (row.count + 1);
+  words = capped (row.words + one_if (is_word e));
+  range = widened row.range (number_of e);
+}
+
+-- the row of one entry
+abbrev pub begun : Entry → Row
+begun e = record {
+  first = e;
+  last = e;
+  count = 1;
+  words = one_if (is_word e);
+  range = widened None (number_of e);
+}
+
+-- the row of these deeds has one value more, whatever its origin
+abbrev pub HasGrown : Deeds → ℕ → ValueRecord → Deeds → Type 0
+HasGrown old stamp value new =
+    (origin : Origin) → row_shown (origin, new) ≡ grown (row_shown (origin, old)) (entry_at origin stamp value)
+
+-- the rows are the summary of these entries
+abbrev pub AreRowsOf : List (Origin × Deeds) → List Entry → Type 0
+AreRowsOf rows entries = map row_shown rows ≡ summary_of entries
+
+-- the entries before a message, and the message
+pub record Message : Type 0 where
+  pub before : List Entry
+  pub hearing : Hearing
+
+-- the rows are those of the entries before the message and of these readings of it
+pub record HasTaken (message : Message) (rows : Rows) (readings : List ReadingRecord) : Type 0 where
+  pub are_rows : AreRowsOf (pairs_of rows.rows) (message.before ++ map (entry_of message.hearing) readings)
+  pub stamp_is : stamp_micros rows.stamp ≡ message.hearing.stamp
+  pub address_is : rows.address ≡ message.hearing.message.source
+  pub name_is : rows.name ≡ message.hearing.name
+  pub pgn_is : rows.pgn ≡ message.hearing.message.pgn
+
+-- where they want memory
+abbrev pub WantsAt : Message → List ReadingRecord → ReadingRecord → Type 0
+WantsAt message before reading =
+    WantsRow (message.before ++ map (entry_of message.hearing) before) (entry_of message.hearing reading)

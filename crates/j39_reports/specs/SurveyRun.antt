@@ -1,0 +1,45 @@
+-- What a run of the survey promises.
+use Rattle.std.specs.Prelude.{◌≡◌, ◌≢◌, ℕ, List, Option, Result, Err, IfSome, OnErr, OnOk}
+use Rattle.std.specs.Io.KnownBytes.{Appends, Consumes}
+use Rattle.j39_io.specs.Device.{AppendsFront}
+use Rattle.j39_io.specs.Turn.{Turn}
+use Rattle.j39_groups.specs.Row.{RowRecord}
+use Rattle.j39_listen.specs.Ran.{Ended}
+use Rattle.j39_listen.specs.declared.running.RunFault.{RunFault}
+use Rattle.j39_listen.specs.declared.running.RunFault.TheVariants.{Memory, Write}
+use Rattle.j39_reports.specs.LogLines.{AreLogLines, LogLine}
+use Rattle.j39_reports.specs.SurveyText.{survey_text}
+
+-- the survey of the log was written, and nothing else
+pub record WritesSurvey (table : List RowRecord) (log : List ℕ) (old new : Option (List ℕ)) : Type 0 where
+  pub lines : List LogLine
+  pub are_lines : AreLogLines log lines
+  pub written : Appends old new (survey_text table lines)
+
+-- a front of the survey of these bytes was written
+abbrev pub WritesFront : List RowRecord → List ℕ → Option (List ℕ) → Option (List ℕ) → Type 0
+WritesFront table taken old new =
+    (lines : List LogLine) → AreLogLines taken lines → AppendsFront old new (survey_text table lines)
+
+-- a run that stopped took these bytes of its source, and wrote a front of their survey
+pub record StopsWithin (table : List RowRecord) (remaining remaining' old new : Option (List ℕ)) : Type 0 where
+  pub taken : List ℕ
+  pub consumed : Consumes remaining remaining' taken
+  pub written : WritesFront table taken old new
+
+-- a survey of a log of at most `limit` bytes, by a table
+pub record Surveyed {T : Type 0} (table : List RowRecord) (limit : ℕ) (result : Result T RunFault) (log out : Turn)
+    : Type 0 where
+  -- it ended as every run does
+  pub ended : Ended limit result log out
+  -- a run that ended well wrote the survey of the log's lines, and nothing else
+  pub writes : OnOk result (IfSome log.old.bytes (λ bytes. WritesSurvey table bytes out.old.bytes out.new.bytes))
+  -- memory is wanted before the first read
+  pub memory : result ≡ Err Memory → log.new.bytes ≡ log.old.bytes
+  -- before the end of the log nothing is written
+  pub silent : OnErr result (result ≢ Err Write → out.new.bytes ≡ out.old.bytes)
+  -- before a fault of the writer it wrote a front of the survey of the whole log
+  pub cut_short : result ≡ Err Write → IfSome log.old.bytes
+      (λ bytes. WritesFront table bytes out.old.bytes out.new.bytes)
+  -- before any fault it wrote a front of the survey of the bytes that were read
+  pub prefix : OnErr result (StopsWithin table log.old.bytes log.new.bytes out.old.bytes out.new.bytes)

@@ -1,0 +1,100 @@
+-- The text of a survey (own).
+use Rattle.std.specs.Prelude.{◌==◌, ◌&&◌, ℕ, zero, suc, List, [], ◌∷◌, ◌++◌, Bool, Option, Some, None, codes, decimal, length, nat_le, if◌then◌else◌}
+use Rattle.std.specs.List.{flat_map}
+use Rattle.hex.specs.Hex.{encode_upper}
+use Rattle.j39_frame.specs.Frame.{FrameRecord}
+use Rattle.j39_groups.specs.Names.{group_name_in}
+use Rattle.j39_groups.specs.Readings.{is_reported_in}
+use Rattle.j39_groups.specs.Row.{RowRecord}
+use Rattle.j39_listen.specs.Counting.{capped}
+use Rattle.j39_log.specs.StampText.{stamp_text}
+use Rattle.j39_reports.specs.GroupCounts.{GroupRecord, group_of, is_of_network}
+use Rattle.j39_reports.specs.Interfaces.{InterfaceRecord, interfaces_of, untold_in}
+use Rattle.j39_reports.specs.LogLines.{LogLine, Seen, UnreadRecord, frames_of, others_in, seen_in, unread_in}
+use Rattle.j39_reports.specs.OtherLines.{OthersRecord, others_of}
+use Rattle.j39_reports.specs.UnreadLines.{ShownRecord, is_printed_log, shown_in}
+use Rattle.j39_io.specs.Chars.{backslash, newline}
+
+-- how many lines there are
+abbrev pub lines_text : ℕ → List ℕ
+lines_text n = codes "lines " ++ decimal n ++ (newline ∷ [])
+
+unfoldable pub interface_text : InterfaceRecord → List ℕ
+interface_text i =
+    codes "interface " ++ i.name ++ codes " frames " ++ decimal i.frames ++ codes " from " ++ stamp_text i.first
+    ++ codes " to " ++ stamp_text i.last ++ codes " back " ++ decimal i.back ++ (newline ∷ [])
+
+-- the frames of the interfaces that are not told, where there are some
+abbrev pub untold_text : ℕ → List ℕ
+untold_text n = if n == 0 then [] else codes "elsewhere frames " ++ decimal n ++ (newline ∷ [])
+
+abbrev pub interfaces_text : List Seen → List ℕ
+interfaces_text seen = flat_map interface_text (interfaces_of seen)
+
+-- read by a table, needed by the network, or heard in packets alone
+abbrev pub class_text : List RowRecord → ℕ → List ℕ
+class_text table pgn =
+    if is_reported_in table pgn then codes " read"
+    else (if is_of_network pgn then codes " network" else codes " packets")
+
+-- what the table calls the group, where it lists it
+abbrev pub name_text : Option (List ℕ) → List ℕ
+name_text None = []
+name_text (Some name) = codes " " ++ name
+
+abbrev pub group_line : List RowRecord → ℕ → GroupRecord → List ℕ
+group_line table pgn group =
+    codes "group " ++ decimal pgn ++ codes " frames " ++ decimal group.frames ++ codes " addresses "
+    ++ decimal group.addresses ++ (class_text table pgn ++ (name_text (group_name_in table pgn) ++ (newline ∷ [])))
+
+-- a group without frames has no line
+unfoldable pub group_text : List RowRecord → ℕ → GroupRecord → List ℕ
+group_text table pgn group = if group.frames == 0 then [] else group_line table pgn group
+
+-- the groups below n, rising
+unfoldable pub groups_below : List RowRecord → List FrameRecord → ℕ → List ℕ
+groups_below table frames zero = []
+groups_below table frames (suc n) = groups_below table frames n ++ group_text table n (group_of frames n)
+
+-- how many groups there are, of 18 bits
+unfoldable pub groups_end : ℕ
+groups_end = 262144
+
+abbrev pub groups_text : List RowRecord → List FrameRecord → List ℕ
+groups_text table frames = groups_below table frames groups_end
+
+unfoldable pub others_text : OthersRecord → List ℕ
+others_text o =
+    codes "other standard " ++ decimal o.standard ++ codes " remote " ++ decimal o.remote ++ codes " fd "
+    ++ decimal o.flexible ++ codes " error " ++ decimal o.error ++ codes " odd " ++ decimal o.odd ++ (newline ∷ [])
+
+-- a printable character of ASCII stands for itself, but for the backslash, which is doubled
+unfoldable pub byte_text : ℕ → List ℕ
+byte_text b =
+    if b == backslash then backslash ∷ backslash ∷ []
+    else if nat_le 0x20 b && nat_le b 0x7E then b ∷ []
+    else backslash ∷ 0x78 ∷ encode_upper (b ∷ [])
+
+abbrev pub shown_text : ShownRecord → List ℕ
+shown_text line =
+    codes "line " ++ decimal line.number ++ codes " " ++ flat_map byte_text line.front
+    ++ ((if line.is_cut then codes ".." else []) ++ (newline ∷ []))
+
+abbrev pub unread_text : ℕ → List ℕ
+unread_text n = codes "unread " ++ decimal n ++ (newline ∷ [])
+
+abbrev pub told_text : List UnreadRecord → List ℕ
+told_text unread = flat_map shown_text (shown_in unread)
+
+abbrev pub printed_text : Bool → List ℕ
+printed_text is_printed =
+    if is_printed then codes "this is plain candump output, not candump -L" ++ (newline ∷ []) else []
+
+-- the lines, the interfaces, the groups, the other lines, the unread ones, and a word on plain output of candump
+unfoldable pub survey_text : List RowRecord → List LogLine → List ℕ
+survey_text table lines =
+    lines_text (capped (length lines)) ++ (interfaces_text (seen_in lines)
+    ++ (untold_text (capped (untold_in (seen_in lines)))
+    ++ (groups_text table (frames_of (seen_in lines)) ++ (others_text (others_of (others_in lines))
+    ++ (unread_text (capped (length (unread_in lines)))
+    ++ (told_text (unread_in lines) ++ printed_text (is_printed_log lines)))))))

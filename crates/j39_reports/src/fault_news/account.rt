@@ -1,0 +1,216 @@
+//! The faults of a bus, as an account of its frames (J1939-73, 5.7.1 and 5.7.2).
+ghost use Rattle.std.specs.Prelude.{◌≡◌, ◌≢◌, ◌<◌, ◌≤◌, ◌^◌, [], List, None, length, true, IfOk, Some, OnErr, OnOk};
+ghost use Rattle.std.specs.Prelude.{Err};
+ghost use Rattle.std.specs.Io.KnownBytes.{Appends};
+ghost use Rattle.j39_io.specs.Device.{AppendsFront};
+ghost use Rattle.j39_io.specs.Turn.{turn};
+ghost use Rattle.j39_frame.specs.Frame.{FrameRecord};
+ghost use Rattle.j39_frame.specs.Pgn.{pgn_raw};
+ghost use Rattle.j39_listen.specs.AccountSteps.{LeavesWriter};
+ghost use Rattle.j39_listen.specs.Heard.{AreHeardWith, Hearing};
+ghost use Rattle.j39_listen.specs.Listening.{Hears};
+ghost use Rattle.j39_listen.specs.Shown.{hearing_of};
+ghost use Rattle.j39_listen.specs.declared.account.LineFault.TheVariants as line_fault;
+ghost use Rattle.j39_reports.specs.FaultAsking.{AsksForFaults};
+ghost use Rattle.j39_reports.specs.Faults.{faults_by};
+ghost use Rattle.j39_reports.specs.News.{faults_among, is_fault_group, is_of_faults, is_told, last_from};
+ghost use Rattle.j39_reports.specs.FaultRun.{faults_of};
+ghost use Rattle.j39_reports.specs.FaultRecords.{faults_text};
+ghost use Rattle.j39_reports.specs.Remembered.{Remembers};
+ghost use Rattle.j39_reports.specs.FaultsSoFar.{HasTold, MeetsFrame, StopsFrame, Tells, TellsFront, told_faults};
+
+use crate::fault_news::form::Writing;
+use crate::fault_news::last_said::LastSaid;
+use crate::fault_news::lines::put_message;
+use crate::fault_news::telling::Telling;
+use j39_io::{DeviceFault, Sink};
+use j39_faults::{Kind, Lamps, fault_group, lamps_of};
+use j39_frame::Frame;
+use j39_listen::{Account, Heard, LineFault, Listener, Made};
+use j39_log::Bus;
+use std::alloc::{AllocError, Global};
+
+/// What is heard so far, what was said last, and the numbers of what was told.
+#[derive(Drop)]
+pub(crate) struct FaultNews<'g, 't> {
+    alloc: Global,
+    writing: Writing<'g, 't>,
+    telling: Telling,
+    listener: Listener,
+    last: LastSaid,
+    made: Made,
+}
+
+impl<'g, 't> FaultNews<'g, 't> {
+    /// The faults of no frames.
+    pub(crate) fn new(
+        alloc: Global,
+        writing: Writing<'g, 't>,
+        telling: Telling,
+    ) -> FaultNews<'g, 't>
+        ensures { HasTold writing.entry.form (record { rows = writing.entry.groups.now; which = telling }) result []
+            (faults_of writing.entry.form writing.entry.groups.now telling []) }
+    {
+        FaultNews {
+            alloc,
+            writing,
+            telling,
+            listener: Listener::new(alloc),
+            last: LastSaid::new(),
+            made: Made::default(),
+        }
+    }
+}
+
+impl<'g, 't> Account for FaultNews<'g, 't> {
+    ghost use Rattle.j39_listen.specs.AccountSteps.{Begins, MakesOne};
+    ghost use Rattle.j39_reports.specs.FaultAsking.{AsksForFaults};
+    ghost use Rattle.j39_reports.specs.FaultRun.{MakesFaultsIn};
+    ghost use Rattle.j39_reports.specs.FaultsSoFar.{HasTold, Subject};
+    ghost use Rattle.j39_reports.specs.declared.fault_news.form.FaultForm.{FaultForm};
+
+    ghost Subject = { FaultForm × Subject };
+
+    ghost has_met = { λ subject bus. HasTold subject.0 subject.1 };
+
+    ghost makes = { λ subject. MakesFaultsIn subject.0 subject.1.rows subject.1.which };
+
+    ghost asks = { λ subject. AsksForFaults };
+
+    fn meet<W: Sink>(&mut self, _: &Bus, frame: &Frame, sink: &mut W) -> Result<(), LineFault> {
+        match put_frame(
+            self.alloc,
+            &mut self.listener,
+            self.writing,
+            self.telling,
+            &mut self.last,
+            frame,
+            sink,
+        ) {
+            Ok(made) => {
+                self.made = self.made.and(made);
+                Ok(())
+            }
+            Err(fault) => Err(fault),
+        }
+    }
+
+    fn close<W: Sink>(&mut self, _: &mut W) -> Result<Made, DeviceFault> {
+        Ok(self.made)
+    }
+
+    fn laws()
+        ensures begins { (subject : FaultForm × Subject)
+            → Begins (λ bus. HasTold subject.0 subject.1) (MakesFaultsIn subject.0 subject.1.rows subject.1.which) }
+        ensures one { (subject : FaultForm × Subject)
+            → MakesOne (MakesFaultsIn subject.0 subject.1.rows subject.1.which) }
+    {}
+}
+
+/// Tells the faults of what is heard at a frame of the run's bus, and answers its numbers.
+fn put_frame<W: Sink>(
+    alloc: Global,
+    listener: &mut Listener,
+    writing: Writing<'_, '_>,
+    telling: Telling,
+    last: &mut LastSaid,
+    frame: &Frame,
+    sink: &mut W,
+) -> Result<Made, LineFault>
+    ensures met { IfOk result (λ made. (F : List FrameRecord) (ms : List Hearing) → Hears listener.old F
+        → Remembers last.old ms → MeetsFrame writing.entry.form writing.entry.groups.now telling listener.new last.new
+        F frame.now ms made (W.held sink.old) (W.held sink.new)) }
+    ensures writer { LeavesWriter result (turn W.held W.has_failed sink.old sink.new) }
+    ensures stops { result ≡ Err line_fault.Write → (F : List FrameRecord) (ms : List Hearing) → Hears listener.old F
+        → Remembers last.old ms → StopsFrame writing.entry.form writing.entry.groups.now telling F frame.now ms
+        (W.held sink.old) (W.held sink.new) }
+    ensures asked { result ≡ Err line_fault.Memory → (F : List FrameRecord) (heard : List Hearing)
+        → Hears listener.old F → AreHeardWith is_fault_group F heard → Remembers last.old (faults_among heard)
+        → AsksForFaults F frame.now }
+{
+    let is_single = fault_group(frame.id.pgn()).is_some();
+    match listener.feed_as(is_single, frame) {
+        Err(AllocError) => Err(LineFault::Memory),
+        Ok(None) => Ok(Made::default()),
+        Ok(Some(heard)) => put_heard(alloc, &heard, writing, telling, last, sink),
+    }
+}
+
+/// Tells the faults of a message, where it is one of faults and is told, and answers its numbers.
+fn put_heard<W: Sink>(
+    alloc: Global,
+    heard: &Heard<'_>,
+    writing: Writing<'_, '_>,
+    telling: Telling,
+    last: &mut LastSaid,
+    sink: &mut W,
+) -> Result<Made, LineFault>
+    ensures met { IfOk result (λ made. (ms : List Hearing) → Remembers last.old ms
+        → length heard.now.message.payload.now ≤ 1785
+        → Tells writing.entry.form writing.entry.groups.now telling last.new ms (Some (hearing_of heard.now)) made
+        (W.held sink.old) (W.held sink.new)) }
+    ensures writer { LeavesWriter result (turn W.held W.has_failed sink.old sink.new) }
+    ensures stops { result ≡ Err line_fault.Write → (ms : List Hearing) → Remembers last.old ms
+        → length heard.now.message.payload.now ≤ 1785
+        → TellsFront writing.entry.form writing.entry.groups.now telling ms (Some (hearing_of heard.now))
+        (W.held sink.old) (W.held sink.new) }
+    ensures of_faults { result ≡ Err line_fault.Memory → is_of_faults (hearing_of heard.now) ≡ true }
+    ensures first { result ≡ Err line_fault.Memory → (ms : List Hearing) → Remembers last.old ms
+        → last_from (pgn_raw heard.now.message.pgn) heard.now.message.source ms ≡ None }
+{
+    let Some(kind) = fault_group(heard.message.pgn) else {
+        return Ok(Made::default());
+    };
+    let Some(lamps) = lamps_of(heard.message.payload) else {
+        return Ok(Made::default());
+    };
+    let source = heard.message.source;
+    match last.note(alloc, kind, source, heard.message.payload, heard.name) {
+        Err(AllocError) => Err(LineFault::Memory),
+        Ok(is_news) => put_told(heard, writing, is_told(telling, is_news), kind, lamps, sink),
+    }
+}
+
+/// Writes the lines of a message of faults where it is told, and answers its numbers.
+fn put_told<W: Sink>(
+    heard: &Heard<'_>,
+    writing: Writing<'_, '_>,
+    is_told: bool,
+    kind: Kind,
+    lamps: Lamps,
+    sink: &mut W,
+) -> Result<Made, LineFault>
+    ensures made { IfOk result (λ made. (made.messages ≡ 1)
+        × (made.lines ≡ length (told_faults is_told (faults_by (hearing_of heard.now) (Some kind) (Some lamps))))) }
+    ensures fits { IfOk result (λ made. made.lines < 2 ^ 64) }
+    ensures written { OnOk result (Appends (W.held sink.old) (W.held sink.new)
+        (faults_text writing.entry.form writing.entry.groups.now
+        (told_faults is_told (faults_by (hearing_of heard.now) (Some kind) (Some lamps))))) }
+    ensures write { OnErr result (W.has_failed sink.new ≡ true) }
+    ensures front { OnErr result (AppendsFront (W.held sink.old) (W.held sink.new)
+        (faults_text writing.entry.form writing.entry.groups.now
+        (told_faults is_told (faults_by (hearing_of heard.now) (Some kind) (Some lamps))))) }
+    ensures not_memory { result ≢ Err line_fault.Memory }
+    ensures unmarked { OnOk result (W.has_failed sink.new ≡ W.has_failed sink.old) }
+{
+    if !is_told {
+        return Ok(Made {
+            messages: 1,
+            lines: 0,
+        });
+    }
+    match put_message(heard, writing, kind, lamps, sink) {
+        Ok(lines) => Ok(Made { messages: 1, lines }),
+        Err(DeviceFault) => Err(LineFault::Write),
+    }
+}
+
+/// Whether a message is told.
+fn is_told(telling: Telling, is_news: bool) -> bool
+    ensures { result ≡ is_told telling is_news }
+{
+    match telling {
+        Telling::News => is_news,
+        Telling::All => true,
+    }
+}

@@ -1,0 +1,147 @@
+//! The record of a fault, behind its head (RFC 4180).
+ghost use Rattle.std.specs.Prelude.{◌≡◌, OnErr, OnOk};
+ghost use Rattle.std.specs.Io.KnownBytes.{Appends};
+ghost use Rattle.j39_io.specs.Records.{record_text};
+ghost use Rattle.j39_io.specs.Device.{AppendsFront, Marks};
+ghost use Rattle.j39_faults.specs.Text.{kind_text};
+ghost use Rattle.j39_reports.specs.FaultRecords.{count_field, fields_with, fmi_field, meaning_field, parameter_field, said_fields, spn_field, unnamed};
+
+use crate::fault_news::names::name_in;
+use arrayvec::ArrayVec;
+use j39_io::put_record;
+use j39_io::{DeviceFault, Sink};
+use j39_faults::{Code, Kind, Lamps, fmi_words, kind_word, lamps_on, spn_words};
+use j39_groups::{Groups, decimal_of};
+use j39_io::printing::{push_bytes, push_hex};
+
+/// A number, or what stands for a name.
+type Field = ArrayVec<u8, 32>;
+
+/// Writes what a message says of a code, or that it has none, as the fields of a record from `active` or `previous` on.
+pub(crate) fn put_fields<W: Sink>(
+    groups: &Groups<'_>,
+    kind: Kind,
+    lamps: Lamps,
+    code: Option<Code>,
+    sink: &mut W,
+) -> Result<(), DeviceFault>
+    ensures written { OnOk result (Appends (W.held sink.old) (W.held sink.new)
+        (record_text (kind_text kind) (said_fields groups.now lamps code))) }
+    ensures front { OnErr result (AppendsFront (W.held sink.old) (W.held sink.new)
+        (record_text (kind_text kind) (said_fields groups.now lamps code))) }
+    ensures mark { Marks result (W.has_failed sink.old) (W.has_failed sink.new) }
+{
+    let words = unnamed(code);
+    let parameter = parameter_field(groups, code, words.as_slice());
+    put_fields_with(kind, lamps, code, parameter, sink)
+}
+
+/// Writes them, with this field for the parameter.
+fn put_fields_with<W: Sink>(
+    kind: Kind,
+    lamps: Lamps,
+    code: Option<Code>,
+    parameter: &[u8],
+    sink: &mut W,
+) -> Result<(), DeviceFault>
+    ensures written { OnOk result (Appends (W.held sink.old) (W.held sink.new)
+        (record_text (kind_text kind) (fields_with lamps parameter.now code))) }
+    ensures front { OnErr result (AppendsFront (W.held sink.old) (W.held sink.new)
+        (record_text (kind_text kind) (fields_with lamps parameter.now code))) }
+    ensures mark { Marks result (W.has_failed sink.old) (W.has_failed sink.new) }
+{
+    let spn = spn_field(code);
+    let fmi = fmi_field(code);
+    let count = count_field(code);
+    let shown = lamps_on(lamps);
+    let fields: [&[u8]; 6] = [
+        spn.as_slice(),
+        fmi.as_slice(),
+        count.as_slice(),
+        shown.as_slice(),
+        parameter,
+        meaning_field(&code),
+    ];
+    put_record(kind_word(kind), &fields, sink)
+}
+
+/// The parameter's number, where it is known.
+fn spn_field(code: Option<Code>) -> Field
+    ensures { result.items ≡ spn_field code }
+{
+    match code {
+        Some(Code::Known { spn, .. }) => decimal_of(spn),
+        Some(Code::Raw(_)) => Field::new(),
+        None => Field::new(),
+    }
+}
+
+/// What is wrong, by its number.
+fn fmi_field(code: Option<Code>) -> Field
+    ensures { result.items ≡ fmi_field code }
+{
+    match code {
+        Some(Code::Known { fmi, .. }) => decimal_of(u32::from(fmi)),
+        Some(Code::Raw(_)) => Field::new(),
+        None => Field::new(),
+    }
+}
+
+/// How often it came, where that is available.
+fn count_field(code: Option<Code>) -> Field
+    ensures { result.items ≡ count_field code }
+{
+    match code {
+        Some(
+            Code::Known {
+                count: Some(count),
+                ..
+            },
+        ) => decimal_of(u32::from(count)),
+        Some(Code::Known { count: None, .. }) => Field::new(),
+        Some(Code::Raw(_)) => Field::new(),
+        None => Field::new(),
+    }
+}
+
+/// What the table calls the parameter, or else the words for it.
+fn parameter_field<'r>(groups: &'r Groups<'_>, code: Option<Code>, words: &'r [u8]) -> &'r [u8]
+    requires { words.now ≡ unnamed code }
+    ensures { result.now ≡ parameter_field groups.now code }
+{
+    let Some(code) = code else {
+        return words;
+    };
+    match name_in(groups, code) {
+        Some(name) => name,
+        None => words,
+    }
+}
+
+/// What stands for a name: a word and the parameter's number, or a word and the code's bytes. A spreadsheet would take
+/// some of the bytes alone for a number.
+fn unnamed(code: Option<Code>) -> Field
+    ensures { result.items ≡ unnamed code }
+{
+    let mut words = Field::new();
+    match code {
+        Some(Code::Known { spn, .. }) => push_bytes(&mut words, spn_words(spn).as_slice()),
+        Some(Code::Raw(bytes)) => {
+            push_bytes(&mut words, b"code ");
+            push_hex(&mut words, &bytes);
+        }
+        None => {}
+    }
+    words
+}
+
+/// What it means, or that there is none.
+fn meaning_field(code: &Option<Code>) -> &[u8]
+    ensures { result.now ≡ meaning_field code.now }
+{
+    match code {
+        Some(Code::Known { fmi, .. }) => fmi_words(*fmi).as_bytes(),
+        Some(Code::Raw(_)) => b"conversion method 1",
+        None => b"no code",
+    }
+}

@@ -1,0 +1,15 @@
+//! What a log is made into, beside its report in lines: records, a summary, the news of faults and a survey.
+#![tactic(auto)]
+
+mod columns;
+pub mod fault_news;
+mod report_records;
+pub mod summaries;
+pub mod surveys;
+mod utc;
+
+pub use fault_news::Telling;
+pub use fault_news::{faults, faults_csv};
+pub use report_records::report_csv;
+pub use summaries::{summary, summary_csv};
+pub use surveys::survey;

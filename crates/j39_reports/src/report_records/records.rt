@@ -1,0 +1,212 @@
+//! The records of a message.
+ghost use Rattle.std.specs.Prelude.{◌≡◌, ◌+◌, ◌≤◌, ◌++◌, ◌∷◌, [], OnErr, OnOk, IfOk, decimal, false, length};
+ghost use Rattle.std.specs.Io.KnownBytes.{Appends};
+ghost use Rattle.std.specs.List.{flat_map};
+ghost use Rattle.std.specs.Option.{option_map};
+ghost use Rattle.arrayvec.specs.ArrayVec.{array_vec_len};
+ghost use Rattle.j39_address.specs.Name.{name_raw};
+ghost use Rattle.j39_io.specs.Records.{comma, later_text, line_end};
+ghost use Rattle.j39_io.specs.Device.{AppendsFront, Marks};
+ghost use Rattle.j39_frame.specs.Pgn.{pgn_raw};
+ghost use Rattle.j39_frame.specs.Stamp.{stamp_micros};
+ghost use Rattle.j39_groups.specs.ReadValues.{read_value_of};
+ghost use Rattle.j39_groups.specs.ValueText.{bare_text};
+ghost use Rattle.j39_listen.specs.Counting.{capped};
+ghost use Rattle.j39_listen.specs.Report.{entries_of};
+ghost use Rattle.j39_listen.specs.Shown.{hearing_of};
+ghost use Rattle.j39_reports.specs.EntryText.{begin_text, entries_text, group_called, named_fields, parameter_called, value_fields};
+ghost use Rattle.j39_reports.specs.MessageRecords.{IsBegun};
+
+use arrayvec::ArrayVec;
+use j39_address::Name;
+use crate::columns::{push_name, push_seconds};
+use crate::utc::utc_text;
+use j39_io::put_behind_comma;
+use j39_io::{DeviceFault, Sink, put_all};
+use j39_frame::Pgn;
+use j39_groups::{Groups, ReadValue, ReadingVisitor, push_decimal};
+use j39_listen::Heard;
+use j39_io::printing::{push_bytes, push_hex};
+
+/// What the records of a message begin with: stamp, date and time of day, address, NAME and PGN.
+type Begin = ArrayVec<u8, 80>;
+
+/// The records of a message so far.
+#[derive(Drop)]
+pub(crate) struct Records<'g, 't> {
+    groups: &'g Groups<'t>,
+    begin: Begin,
+    group: &'g [u8],
+    pgn: u32,
+    lines: u64,
+}
+
+impl<'g, 't> Records<'g, 't> {
+    /// None so far.
+    fn new(groups: &'g Groups<'t>, heard: &Heard<'_>) -> Records<'g, 't>
+        ensures begun { IsBegun groups.entry.now (hearing_of heard.now) result }
+        ensures none { result.lines ≡ 0 }
+    {
+        let pgn = heard.message.pgn;
+        Records {
+            groups,
+            begin: begin_of(heard),
+            group: group_of(groups, pgn),
+            pgn: pgn.raw(),
+            lines: 0,
+        }
+    }
+}
+
+/// Writes a record for each reading of a message by a table, and answers how many.
+pub(crate) fn put_heard<W: Sink>(
+    heard: &Heard<'_>,
+    groups: &Groups<'_>,
+    sink: &mut W,
+) -> Result<u64, DeviceFault>
+    ensures lines { IfOk result (λ n. n ≡ capped (length (entries_of groups.now (hearing_of heard.now)))) }
+    ensures written { OnOk result (Appends (W.held sink.old) (W.held sink.new)
+        (entries_text groups.now (entries_of groups.now (hearing_of heard.now)))) }
+    ensures front { OnErr result (AppendsFront (W.held sink.old) (W.held sink.new)
+        (entries_text groups.now (entries_of groups.now (hearing_of heard.now)))) }
+    ensures mark { Marks result (W.has_failed sink.old) (W.has_failed sink.new) }
+{
+    let mut records = Records::new(groups, heard);
+    match groups.visit(heard.message.pgn, heard.message.payload, &mut records, sink) {
+        Ok(()) => Ok(records.lines),
+        Err(DeviceFault) => Err(DeviceFault),
+    }
+}
+
+impl<'g, 't, W: Sink> ReadingVisitor<'t, W> for Records<'g, 't> {
+    ghost use Rattle.j39_reports.specs.MessageRecords.{Begun, HasStopped, HasWritten};
+
+    type Fault = DeviceFault;
+
+    ghost Subject = { Begun };
+
+    ghost has_taken = { λ subject records sink. HasWritten subject records (W.held sink) (W.has_failed sink) };
+
+    ghost has_stopped = { λ subject before at records sink.
+        HasStopped subject before at (W.held sink) (W.has_failed sink) };
+
+    fn visit(
+        &mut self,
+        spn: u32,
+        value: ReadValue<'t, '_>,
+        sink: &mut W,
+    ) -> Result<(), DeviceFault> {
+        let parameter = parameter_of(self.groups, self.pgn, spn);
+        put_named(self.begin.as_slice(), self.group, spn, parameter, sink)?;
+        put_value_and_unit(value, sink)?;
+        self.lines = self.lines.saturating_add(1);
+        Ok(())
+    }
+}
+
+/// Writes the record of a reading, from its value on.
+fn put_value_and_unit<W: Sink>(value: ReadValue<'_, '_>, sink: &mut W) -> Result<(), DeviceFault>
+    ensures ok { OnOk result (Appends (W.held sink.old) (W.held sink.new)
+        (value_fields (read_value_of value.entry))) }
+    ensures err { OnErr result (AppendsFront (W.held sink.old) (W.held sink.new)
+        (value_fields (read_value_of value.entry))) }
+    ensures mark { Marks result (W.has_failed sink.old) (W.has_failed sink.new) }
+{
+    put_value(value, sink)?;
+    let unit = value.unit();
+    put_unit(unit, sink)
+}
+
+/// Writes a comma and a value without its unit.
+fn put_value<W: Sink>(value: ReadValue<'_, '_>, sink: &mut W) -> Result<(), DeviceFault>
+    ensures ok { OnOk result (Appends (W.held sink.old) (W.held sink.new)
+        (comma ∷ bare_text (read_value_of value.entry))) }
+    ensures err { OnErr result (AppendsFront (W.held sink.old) (W.held sink.new)
+        (comma ∷ bare_text (read_value_of value.entry))) }
+    ensures mark { Marks result (W.has_failed sink.old) (W.has_failed sink.new) }
+{
+    put_all(sink, b",")?;
+    value.put_bare(sink)
+}
+
+/// Writes the unit and the end of the line.
+fn put_unit<W: Sink>(unit: &[u8], sink: &mut W) -> Result<(), DeviceFault>
+    ensures ok { OnOk result (Appends (W.held sink.old) (W.held sink.new) (later_text unit.now ++ line_end)) }
+    ensures err { OnErr result (AppendsFront (W.held sink.old) (W.held sink.new) (later_text unit.now ++ line_end)) }
+    ensures mark { Marks result (W.has_failed sink.old) (W.has_failed sink.new) }
+{
+    put_behind_comma(unit, sink)?;
+    put_all(sink, b"\r\n")
+}
+
+/// Writes the record of a reading up to its value.
+fn put_named<W: Sink>(
+    begin: &[u8],
+    group: &[u8],
+    spn: u32,
+    parameter: &[u8],
+    sink: &mut W,
+) -> Result<(), DeviceFault>
+    ensures ok { OnOk result (Appends (W.held sink.old) (W.held sink.new)
+        (named_fields begin.now group.now spn parameter.now)) }
+    ensures err { OnErr result (AppendsFront (W.held sink.old) (W.held sink.new)
+        (named_fields begin.now group.now spn parameter.now)) }
+    ensures mark { Marks result (W.has_failed sink.old) (W.has_failed sink.new) }
+{
+    put_all(sink, begin)?;
+    put_behind_comma(group, sink)?;
+    let number = spn_field(spn);
+    put_all(sink, number.as_slice())?;
+    put_behind_comma(parameter, sink)
+}
+
+/// A comma and the number of a parameter.
+fn spn_field(spn: u32) -> ArrayVec<u8, 32>
+    ensures { result.items ≡ comma ∷ decimal spn }
+{
+    let mut field = ArrayVec::new();
+    field.push(b',');
+    push_decimal(&mut field, spn);
+    field
+}
+
+/// What the table calls a parameter of a group; nothing where it lists none.
+fn parameter_of<'r>(groups: &'r Groups<'_>, pgn: u32, spn: u32) -> &'r [u8]
+    ensures { result.now ≡ parameter_called groups.now pgn spn }
+{
+    match groups.parameter_name_in(pgn, spn) {
+        Some(name) => name,
+        None => b"",
+    }
+}
+
+/// What the table calls a group; nothing where it lists none.
+fn group_of<'r>(groups: &'r Groups<'_>, pgn: Pgn) -> &'r [u8]
+    ensures { result.now ≡ group_called groups.now (pgn_raw pgn) }
+{
+    match groups.group_name(pgn) {
+        Some(name) => name,
+        None => b"",
+    }
+}
+
+/// What the records of a message begin with.
+#[tactic(auto, unfolding(crate::specs::EntryText::begin_text))]
+fn begin_of(heard: &Heard<'_>) -> Begin
+    ensures { result.items ≡ begin_text (stamp_micros heard.now.message.stamp) heard.now.message.source
+        (option_map name_raw heard.now.name) (pgn_raw heard.now.message.pgn) }
+{
+    let mut pgn = ArrayVec::new();
+    push_decimal(&mut pgn, heard.message.pgn.raw());
+    let mut begin = ArrayVec::new();
+    push_seconds(&mut begin, heard.message.stamp);
+    begin.push(b',');
+    push_bytes(&mut begin, utc_text(heard.message.stamp).as_slice());
+    begin.push(b',');
+    push_hex(&mut begin, &[heard.message.source]);
+    begin.push(b',');
+    push_name(&mut begin, heard.name.map(Name::raw));
+    begin.push(b',');
+    push_bytes(&mut begin, pgn.as_slice());
+    begin
+}

@@ -1,0 +1,12 @@
+//! The summary of a report: what each parameter of each controller did.
+
+mod account;
+mod deeds;
+mod kept;
+pub mod laws;
+mod lines;
+mod measure;
+mod records;
+mod rows;
+
+pub use account::{summary, summary_csv};

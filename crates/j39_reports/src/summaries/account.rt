@@ -1,0 +1,180 @@
+//! The summary of the report of a log: the run that writes it, and the account of frames that it writes.
+ghost use Rattle.std.specs.Prelude.{◌<◌, [], List, true};
+ghost use Rattle.std.specs.Prelude.{IfOk, OnErr, Err};
+ghost use Rattle.j39_memory.specs.ByOrigin.{pairs_of};
+ghost use Rattle.j39_frame.specs.Frame.{FrameRecord};
+ghost use Rattle.std.specs.List.{flat_map};
+ghost use Rattle.j39_io.specs.Turn.{turn};
+ghost use Rattle.j39_listen.specs.Heard.{AreHeard, Hearing};
+ghost use Rattle.j39_listen.specs.Listening.{Hears};
+ghost use Rattle.j39_listen.specs.Report.{Entry, entries_of};
+ghost use Rattle.j39_listen.specs.Output.{nothing};
+ghost use Rattle.j39_listen.specs.Ran.{PassesOn, Ran};
+ghost use Rattle.j39_reports.specs.SummarySoFar.{HasSummed, NotesFrame};
+ghost use Rattle.j39_reports.specs.RowsSoFar.{AreRowsOf};
+ghost use Rattle.j39_reports.specs.SummaryRun.{AsksForRows, MakesSummary, MakesSummaryRecords};
+
+use crate::summaries::lines::put_rows;
+use crate::summaries::rows::{RowForm, Rows};
+use j39_io::{DeviceFault, Sink, Source};
+use j39_frame::Frame;
+use j39_groups::Groups;
+use j39_listen::{Account, Counts, LineFault, Listener, Made, RunFault, run_headed, run_over};
+use j39_log::Bus;
+use std::alloc::{AllocError, Global};
+
+/// Writes the summary of a log of at most `limit` bytes by a table of parameters: a line for each parameter that a
+/// controller on the bus reported, in the order of their first values. Without a bus it is that of the first frame in
+/// the log.
+pub fn summary<R: Source, W: Sink>(
+    alloc: Global,
+    groups: &Groups<'_>,
+    source: &mut R,
+    sink: &mut W,
+    bus: Option<Bus>,
+    limit: u64,
+) -> Result<Counts, RunFault>
+    // What the run promises is `Ran`: what is written is the summary of the log's report, and nothing else. Memory is
+    // wanted only at a frame that announces a message, and at one where a message is heard that has a value of a
+    // parameter without a row, or a text.
+    ensures ran { Ran (MakesSummary groups.now) (AsksForRows groups.now) bus limit result
+        (turn R.remaining R.has_failed source.old source.new) (turn W.held W.has_failed sink.old sink.new) }
+
+    // What was written is passed on at the end, and before each read.
+    ensures flushed { PassesOn result (W.is_flushed sink.old) (W.is_flushed sink.new) }
+{
+    run_over(
+        SummaryAccount::new(alloc, groups, RowForm::Line),
+        source,
+        sink,
+        bus,
+        limit,
+    )
+}
+
+/// Writes the same as comma-separated values (RFC 4180): the names of the columns, before the log is read, and after the
+/// whole log a record for each parameter.
+pub fn summary_csv<R: Source, W: Sink>(
+    alloc: Global,
+    groups: &Groups<'_>,
+    source: &mut R,
+    sink: &mut W,
+    bus: Option<Bus>,
+    limit: u64,
+) -> Result<Counts, RunFault>
+    // What the run promises is `Ran`: what is written is the names of the columns and the summary of the log's report in
+    // records, and nothing else. Memory is wanted as for `summary`.
+    ensures ran { Ran (MakesSummaryRecords groups.now) (AsksForRows groups.now) bus limit result
+        (turn R.remaining R.has_failed source.old source.new) (turn W.held W.has_failed sink.old sink.new) }
+
+    // What was written is passed on at the end, and before each read, the names of the columns before the first.
+    ensures flushed { PassesOn result true (W.is_flushed sink.new) }
+{
+    run_headed(
+        COLUMNS,
+        SummaryAccount::new(alloc, groups, RowForm::Record),
+        source,
+        sink,
+        bus,
+        limit,
+    )
+}
+
+/// The names of the columns of records.
+const COLUMNS: &[u8] =
+    b"address,name,pgn,spn,parameter,values,words,first_stamp,first_utc,last_stamp,last_utc,least,most,unit,first,last\r\n";
+
+/// What is heard so far, and the rows of its summary.
+#[derive(Drop)]
+pub(crate) struct SummaryAccount<'g, 't> {
+    groups: &'g Groups<'t>,
+    form: RowForm,
+    listener: Listener,
+    rows: Rows<'t>,
+    messages: u64,
+}
+
+impl<'g, 't> SummaryAccount<'g, 't> {
+    /// The summary of no frames.
+    pub fn new(alloc: Global, groups: &'g Groups<'t>, form: RowForm) -> SummaryAccount<'g, 't>
+        ensures { HasSummed form groups.entry.now result [] nothing }
+    {
+        SummaryAccount {
+            groups,
+            form,
+            listener: Listener::new(alloc),
+            rows: Rows::new(alloc),
+            messages: 0,
+        }
+    }
+}
+
+impl<'g, 't> Account for SummaryAccount<'g, 't> {
+    ghost use Rattle.std.specs.Prelude.{List};
+    ghost use Rattle.j39_groups.specs.Row.{RowRecord};
+    ghost use Rattle.j39_reports.specs.SummarySoFar.{HasSummed};
+    ghost use Rattle.j39_reports.specs.SummaryRun.{AsksForRows, MakesSummaryIn};
+    ghost use Rattle.j39_reports.specs.declared.summaries.rows.RowForm.{RowForm};
+
+    ghost Subject = { RowForm × List RowRecord };
+
+    ghost has_met = { λ subject bus. HasSummed subject.0 subject.1 };
+
+    ghost makes = { λ subject. MakesSummaryIn subject.0 subject.1 };
+
+    ghost asks = { λ subject. AsksForRows subject.1 };
+
+    #[inline(always)]
+    fn meet<W: Sink>(&mut self, _: &Bus, frame: &Frame, _: &mut W) -> Result<(), LineFault> {
+        match note(&mut self.listener, self.groups, &mut self.rows, frame) {
+            // Most frames are no message: their arm adds nothing.
+            Ok(0) => {
+                self.messages = self.messages.saturating_add(0);
+                Ok(())
+            }
+            Ok(messages) => {
+                self.messages = self.messages.saturating_add(messages);
+                Ok(())
+            }
+            Err(AllocError) => Err(LineFault::Memory),
+        }
+    }
+
+    fn close<W: Sink>(&mut self, sink: &mut W) -> Result<Made, DeviceFault> {
+        put_rows(&self.rows.rows, self.form, self.groups, sink)?;
+        Ok(Made {
+            messages: self.messages,
+            lines: self.rows.rows.len() as u64,
+        })
+    }
+
+    fn laws() {}
+}
+
+/// Takes what is heard at a frame to its rows, and answers how many messages that is.
+#[inline(always)]
+fn note<'t>(
+    listener: &mut Listener,
+    groups: &Groups<'t>,
+    rows: &mut Rows<'t>,
+    frame: &Frame,
+) -> Result<u64, AllocError>
+    ensures noted { IfOk result (λ messages. (F : List FrameRecord) (before : List Entry) → Hears listener.old F
+        → AreRowsOf (pairs_of rows.old.rows) before
+        → NotesFrame groups.now F frame.now listener.new (pairs_of rows.new.rows) before messages) }
+    ensures asked { OnErr result ((F : List FrameRecord) (heard : List Hearing) → Hears listener.old F
+        → AreHeard groups.now F heard → AreRowsOf (pairs_of rows.old.rows) (flat_map (entries_of groups.now) heard)
+        → AsksForRows groups.now F frame.now) }
+{
+    match listener.feed_with(groups, frame) {
+        Err(AllocError) => Err(AllocError),
+        Ok(None) => Ok(0),
+        Ok(Some(heard)) => {
+            rows.begin(&heard);
+            match groups.visit(heard.message.pgn, heard.message.payload, rows, &mut ()) {
+                Ok(()) => Ok(1),
+                Err(AllocError) => Err(AllocError),
+            }
+        }
+    }
+}

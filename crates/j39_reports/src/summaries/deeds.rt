@@ -1,0 +1,249 @@
+//! What is kept of the values of one origin.
+ghost use Rattle.std.specs.Prelude.{◌≡◌, ◌+◌, None, OnErr, OnOk, IfOk, Some};
+ghost use Rattle.std.specs.Option.{option_map};
+ghost use Rattle.j39_frame.specs.Stamp.{stamp_micros};
+ghost use Rattle.j39_groups.specs.ReadValues.{read_value_of};
+ghost use Rattle.j39_groups.specs.Shown.{value_of};
+ghost use Rattle.j39_groups.specs.Value.{number};
+ghost use Rattle.j39_listen.specs.Counting.{capped};
+ghost use Rattle.j39_reports.specs.RowsSoFar.{begun, grown, one_if, widened};
+ghost use Rattle.j39_reports.specs.RowModels.{entry_at, measure_record, range_of_span, row_shown};
+ghost use Rattle.j39_reports.specs.SummaryRun.{IsText};
+ghost use Rattle.j39_reports.specs.Summary.{is_word_value, number_in};
+ghost use Rattle.j39_frame.specs.declared.origin.Origin.{Origin};
+
+use crate::summaries::kept::Kept;
+use crate::summaries::measure::{Measure, are_comparable};
+use j39_memory::OriginChange;
+use j39_frame::Stamp;
+use j39_groups::{ReadValue, Value};
+use std::alloc::{AllocError, Global};
+
+/// A value with its moment.
+#[derive(Drop)]
+pub(crate) struct Seen<'t> {
+    pub stamp: Stamp,
+    pub value: Kept<'t>,
+}
+
+/// The least and the most number, in units of the last printed place, and the measure of the first.
+#[derive(Clone, Copy)]
+pub(crate) struct Span<'t> {
+    pub measure: Measure<'t>,
+    pub least: i64,
+    pub most: i64,
+}
+
+/// What the values of one origin did. A count that would pass 2^64 - 1 stays there (own).
+#[derive(Drop)]
+pub(crate) struct Deeds<'t> {
+    pub count: u64,
+    pub words: u64,
+    pub first: Seen<'t>,
+    pub last: Seen<'t>,
+    pub range: Option<Span<'t>>,
+}
+
+impl<'t> Deeds<'t> {
+    /// Those of one value. Only a text takes memory.
+    pub fn begin(
+        alloc: Global,
+        stamp: Stamp,
+        value: ReadValue<'t, '_>,
+    ) -> Result<Deeds<'t>, AllocError>
+        ensures begun { IfOk result (λ deeds. (origin : Origin)
+            → row_shown (origin, deeds) ≡ begun (entry_at origin (stamp_micros stamp) (read_value_of value.entry))) }
+    {
+        let first = Kept::of(alloc, value)?;
+        let last = Kept::of(alloc, value)?;
+        Ok(Deeds {
+            count: 1,
+            words: u64::from(is_word(value)),
+            first: Seen {
+                stamp,
+                value: first,
+            },
+            last: Seen { stamp, value: last },
+            range: span_of(value),
+        })
+    }
+
+    /// One value more. Only a text takes memory.
+    #[inline(always)]
+    pub fn grow(
+        &mut self,
+        alloc: Global,
+        stamp: Stamp,
+        value: ReadValue<'t, '_>,
+    ) -> Result<(), AllocError>
+        ensures grown { OnOk result ((origin : Origin) → row_shown (origin, self.new)
+            ≡ grown (row_shown (origin, self.old)) (entry_at origin (stamp_micros stamp) (read_value_of value.entry))) }
+        ensures wanted { OnErr result (IsText (read_value_of value.entry)) }
+    {
+        match value {
+            ReadValue::Number(number, scale) => {
+                self.grow_by_number(stamp, number, Measure::Scale(scale));
+                Ok(())
+            }
+            ReadValue::Plain(value) => self.grow_by_plain(alloc, stamp, value),
+        }
+    }
+
+    /// One value of the built-in table more. The number comes first and has its way for itself, as most values are one.
+    #[inline(always)]
+    fn grow_by_plain(
+        &mut self,
+        alloc: Global,
+        stamp: Stamp,
+        value: Value<'_>,
+    ) -> Result<(), AllocError>
+        ensures grown { OnOk result ((origin : Origin) → row_shown (origin, self.new)
+            ≡ grown (row_shown (origin, self.old)) (entry_at origin (stamp_micros stamp) (value_of value.entry))) }
+        ensures wanted { OnErr result (IsText (value_of value.entry)) }
+    {
+        if let Value::Number(number, slot) = value {
+            self.grow_by_number(stamp, number, Measure::Slot(slot));
+            return Ok(());
+        }
+        let last = Kept::plain(alloc, value)?;
+        self.put(stamp, last, is_plain_word(value));
+        Ok(())
+    }
+
+    /// One number more.
+    #[inline(always)]
+    fn grow_by_number(&mut self, stamp: Stamp, value: i64, measure: Measure<'t>)
+        ensures { (origin : Origin) → row_shown (origin, self.new)
+            ≡ grown (row_shown (origin, self.old))
+            (entry_at origin (stamp_micros stamp) (number value (measure_record measure.entry))) }
+    {
+        widen(&mut self.range, value, measure);
+        self.put(stamp, Kept::Number(value, measure), false);
+    }
+
+    /// The last value is another one, and counts.
+    #[inline(always)]
+    fn put(&mut self, stamp: Stamp, value: Kept<'t>, is_word: bool)
+        ensures count { self.new.count ≡ capped (self.old.count + 1) }
+        ensures words { self.new.words ≡ capped (self.old.words + one_if is_word) }
+        ensures first { self.new.first ≡ self.old.first }
+        ensures last { self.new.last ≡ record { stamp = stamp; value = value.entry } }
+        ensures range { self.new.range ≡ self.old.range }
+    {
+        self.count = self.count.saturating_add(1);
+        self.words = self.words.saturating_add(u64::from(is_word));
+        self.last = Seen { stamp, value };
+    }
+}
+
+/// One value more of an origin that has a row.
+#[derive(Clone, Copy)]
+pub(crate) struct OneMore<'t, 'v> {
+    pub alloc: Global,
+    pub stamp: Stamp,
+    pub value: ReadValue<'t, 'v>,
+}
+
+impl<'t, 'v> Change<Deeds<'t>> for OneMore<'t, 'v> {
+    ghost use Rattle.std.specs.Prelude.{OnErr, OnOk};
+    ghost use Rattle.j39_groups.specs.ReadValues.{read_value_of};
+    ghost use Rattle.j39_reports.specs.RowsSoFar.{HasGrown};
+    ghost use Rattle.j39_reports.specs.SummaryRun.{IsText};
+
+    ghost changes = { λ more old result new. OnOk result (HasGrown old (stamp_micros more.stamp)
+        (read_value_of more.value) new) × OnErr result (IsText (read_value_of more.value)) };
+
+    #[inline(always)]
+    fn make(self, deeds: &mut Deeds<'t>) -> Result<(), AllocError> {
+        deeds.grow(self.alloc, self.stamp, self.value)
+    }
+}
+
+/// Whether a value is a word that stands in the place of a number.
+#[inline(always)]
+fn is_word(value: ReadValue<'_, '_>) -> bool
+    ensures { result ≡ is_word_value (read_value_of value.entry) }
+{
+    match value {
+        ReadValue::Number(_, _) => false,
+        ReadValue::Plain(value) => is_plain_word(value),
+    }
+}
+
+#[inline(always)]
+fn is_plain_word(value: Value<'_>) -> bool
+    ensures { result ≡ is_word_value (value_of value.entry) }
+{
+    match value {
+        Value::Number(_, _) => false,
+        Value::On => false,
+        Value::Off => false,
+        Value::Error => true,
+        Value::Reserved => true,
+        Value::Indicator => true,
+        Value::Text(_) => false,
+    }
+}
+
+/// The range of one value.
+fn span_of<'t>(value: ReadValue<'t, '_>) -> Option<Span<'t>>
+    ensures { option_map range_of_span result ≡ widened None (number_in (read_value_of value.entry)) }
+{
+    match value {
+        ReadValue::Number(number, scale) => Some(Span::of(number, Measure::Scale(scale))),
+        ReadValue::Plain(value) => plain_span(value),
+    }
+}
+
+fn plain_span<'t>(value: Value<'_>) -> Option<Span<'t>>
+    ensures { option_map range_of_span result ≡ widened None (number_in (value_of value.entry)) }
+{
+    match value {
+        Value::Number(number, slot) => Some(Span::of(number, Measure::Slot(slot))),
+        Value::On => None,
+        Value::Off => None,
+        Value::Error => None,
+        Value::Reserved => None,
+        Value::Indicator => None,
+        Value::Text(_) => None,
+    }
+}
+
+/// The range has a number more.
+#[inline(always)]
+fn widen<'t>(range: &mut Option<Span<'t>>, number: i64, measure: Measure<'t>)
+    ensures { option_map range_of_span range.new ≡ widened (option_map range_of_span range.old)
+        (Some (record { value = number; slot = measure_record measure.entry })) }
+{
+    match range {
+        None => *range = Some(Span::of(number, measure)),
+        Some(span) => span.widen(number, measure),
+    }
+}
+
+impl<'t> Span<'t> {
+    /// That of one number.
+    #[inline(always)]
+    fn of(number: i64, measure: Measure<'t>) -> Span<'t>
+        ensures { Some (range_of_span result) ≡ widened None
+            (Some (record { value = number; slot = measure_record measure.entry })) }
+    {
+        Span {
+            measure,
+            least: number,
+            most: number,
+        }
+    }
+
+    /// It has a number more, where that can be compared with the first.
+    #[inline(always)]
+    fn widen(&mut self, number: i64, measure: Measure<'t>)
+        ensures { Some (range_of_span self.new) ≡ widened (Some (range_of_span self.old))
+            (Some (record { value = number; slot = measure_record measure.entry })) }
+    {
+        if are_comparable(self.measure, measure) {
+            self.least = self.least.min(number);
+            self.most = self.most.max(number);
+        }
+    }
+}

@@ -1,0 +1,78 @@
+//! Values that outlive their message.
+ghost use Rattle.std.specs.Prelude.{◌≡◌, IfOk, OnErr};
+ghost use Rattle.j39_groups.specs.ReadValues.{read_value_of};
+ghost use Rattle.j39_groups.specs.Shown.{value_of};
+ghost use Rattle.j39_memory.specs.Stored.{value_of as stored_value};
+ghost use Rattle.j39_reports.specs.RowModels.{kept_value};
+ghost use Rattle.j39_reports.specs.SummaryRun.{IsText};
+
+use crate::summaries::measure::Measure;
+use arrayvec::ArrayVec;
+use j39_groups::{ReadValue, Value};
+use j39_memory::Stored;
+use j39_io::printing::push_bytes;
+use std::alloc::{AllocError, Global};
+
+/// How many bytes a text has at most, as the longest message (J1939-21, 5.10.1).
+const LONGEST: usize = 1785;
+
+/// A value as a row keeps it; `'t` is how long the table lives.
+#[derive(Drop)]
+pub(crate) enum Kept<'t> {
+    /// A number, in units of the last printed place, and its measure.
+    Number(i64, Measure<'t>),
+    On,
+    Off,
+    Error,
+    Reserved,
+    Indicator,
+    /// A copy of the text.
+    Text(Stored<ArrayVec<u8, LONGEST>>),
+}
+
+impl<'t> Kept<'t> {
+    /// The same value. Only a text takes memory.
+    #[inline(always)]
+    pub fn of(alloc: Global, value: ReadValue<'t, '_>) -> Result<Kept<'t>, AllocError>
+        ensures kept { IfOk result (λ kept. kept_value kept ≡ read_value_of value.entry) }
+        ensures wanted { OnErr result (IsText (read_value_of value.entry)) }
+    {
+        match value {
+            ReadValue::Number(number, scale) => Ok(Kept::Number(number, Measure::Scale(scale))),
+            ReadValue::Plain(value) => Kept::plain(alloc, value),
+        }
+    }
+
+    /// The same, of a value of the built-in table.
+    #[inline(always)]
+    pub fn plain(alloc: Global, value: Value<'_>) -> Result<Kept<'t>, AllocError>
+        ensures kept { IfOk result (λ kept. kept_value kept ≡ value_of value.entry) }
+        ensures wanted { OnErr result (IsText (value_of value.entry)) }
+    {
+        match value {
+            Value::Number(number, slot) => Ok(Kept::Number(number, Measure::Slot(slot))),
+            Value::On => Ok(Kept::On),
+            Value::Off => Ok(Kept::Off),
+            Value::Error => Ok(Kept::Error),
+            Value::Reserved => Ok(Kept::Reserved),
+            Value::Indicator => Ok(Kept::Indicator),
+            Value::Text(text) => match copy_of(alloc, text) {
+                Ok(copy) => Ok(Kept::Text(copy)),
+                Err(AllocError) => Err(AllocError),
+            },
+        }
+    }
+}
+
+/// A copy of a text. An error comes where memory is refused, and for a text that is longer than any message.
+#[inline(never)]
+fn copy_of(alloc: Global, text: &[u8]) -> Result<Stored<ArrayVec<u8, LONGEST>>, AllocError>
+    ensures { IfOk result (λ copy. (stored_value copy).items ≡ text.now) }
+{
+    if text.len() > LONGEST {
+        return Err(AllocError);
+    }
+    let mut copy = ArrayVec::new();
+    push_bytes(&mut copy, text);
+    Stored::new(alloc, copy)
+}

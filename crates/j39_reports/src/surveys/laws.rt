@@ -1,0 +1,8 @@
+//! Laws about the definitions, each the contract of a function that does nothing.
+ghost use Rattle.std.specs.Prelude.{◌≡◌, ℕ, List};
+ghost use Rattle.j39_reports.specs.LogLines.{AreLogLines, LogLine};
+
+/// The bytes of a log have one list of lines with what each spells: so they have one survey.
+pub fn one_survey()
+    ensures same { (bytes : List ℕ) (a b : List LogLine) → AreLogLines bytes a → AreLogLines bytes b → a ≡ b }
+{}

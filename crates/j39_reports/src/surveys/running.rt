@@ -1,0 +1,106 @@
+//! The survey of a log, piece by piece.
+ghost use Rattle.std.specs.Prelude.{◌≡◌, ◌≢◌, ◌<◌, ◌≤◌, [], true, length, IfSome, OnOk, OnErr, Err};
+ghost use Rattle.j39_io.specs.Turn.{turn};
+ghost use Rattle.j39_listen.specs.Ran.{Ended, PassesOn};
+ghost use Rattle.j39_listen.specs.Run.{TakesWithin};
+ghost use Rattle.j39_listen.specs.declared.running.RunFault.TheVariants.{Memory, Read, TooLong, Write};
+ghost use Rattle.j39_reports.specs.SurveyRun.{StopsWithin, Surveyed, WritesFront, WritesSurvey};
+ghost use Rattle.j39_reports.specs.SurveySoFar.{HasReadLog, HasTaken, TakesSome};
+
+use crate::surveys::pieces::Pieces;
+use crate::surveys::writing::put_survey;
+use j39_io::{DeviceFault, Sink, Source};
+use j39_groups::Groups;
+use j39_listen::RunFault;
+use std::alloc::Global;
+
+/// The bytes of one read.
+const PIECE: usize = 65_536;
+
+/// Writes what a log of at most `limit` bytes is: how many lines it has, its interfaces, its groups, by a table of
+/// parameters, its other lines by kind, and its unread lines. Nothing is written before the end of the log. It takes
+/// memory at the start alone.
+pub fn survey<R: Source, W: Sink>(
+    alloc: Global,
+    groups: &Groups<'_>,
+    source: &mut R,
+    sink: &mut W,
+    limit: u64,
+) -> Result<(), RunFault>
+    // What the run promises is `Surveyed`: what is written is the survey of the log's lines, and nothing else, at the end
+    // of the log. Memory is wanted before the first read.
+    ensures ran { Surveyed groups.now limit result
+        (turn R.remaining R.has_failed source.old source.new) (turn W.held W.has_failed sink.old sink.new) }
+
+    // What was written is passed on at the end; before the end of the log nothing is.
+    ensures flushed { PassesOn result (W.is_flushed sink.old) (W.is_flushed sink.new) }
+    ensures unflushed { OnErr result (result ≢ Err Write → W.is_flushed sink.new ≡ W.is_flushed sink.old) }
+{
+    match Pieces::new(alloc) {
+        Ok(mut pieces) => survey_with(&mut pieces, groups, source, sink, limit),
+        Err(_) => Err(RunFault::Memory),
+    }
+}
+
+/// Reads a log to its end, and writes its survey, with the pieces at the start of a log.
+fn survey_with<R: Source, W: Sink>(
+    pieces: &mut Pieces,
+    groups: &Groups<'_>,
+    source: &mut R,
+    sink: &mut W,
+    limit: u64,
+) -> Result<(), RunFault>
+    // It ended as every run does, whatever the pieces had taken.
+    ensures ended { Ended limit result
+        (turn R.remaining R.has_failed source.old source.new) (turn W.held W.has_failed sink.old sink.new) }
+    ensures writes { HasTaken pieces.old [] → OnOk result (IfSome (R.remaining source.old)
+        (λ log. WritesSurvey groups.now log (W.held sink.old) (W.held sink.new))) }
+    ensures memory { result ≢ Err Memory }
+    ensures silent { OnErr result (result ≢ Err Write → W.held sink.new ≡ W.held sink.old) }
+    ensures cut_short { HasTaken pieces.old [] → result ≡ Err Write → IfSome (R.remaining source.old)
+        (λ log. WritesFront groups.now log (W.held sink.old) (W.held sink.new)) }
+    ensures prefix { HasTaken pieces.old [] → OnErr result (StopsWithin groups.now (R.remaining source.old)
+        (R.remaining source.new) (W.held sink.old) (W.held sink.new)) }
+    ensures flushed { OnOk result (W.is_flushed sink.new ≡ true) }
+    ensures unflushed { OnErr result (result ≢ Err Write → W.is_flushed sink.new ≡ W.is_flushed sink.old) }
+{
+    match read_log(pieces, source, limit) {
+        Ok(()) => {}
+        Err(fault) => return Err(fault),
+    }
+    match put_survey(groups, &pieces.survey, sink) {
+        Ok(()) => Ok(()),
+        Err(DeviceFault) => Err(RunFault::Write),
+    }
+}
+
+/// Reads a log to its end, piece by piece.
+fn read_log<R: Source>(pieces: &mut Pieces, source: &mut R, limit: u64) -> Result<(), RunFault>
+    ensures read_all { OnOk result (HasTaken pieces.old []
+        → HasReadLog limit pieces.new (R.remaining source.old) (R.remaining source.new)) }
+    ensures short { OnOk result (IfSome (R.remaining source.old) (λ log. length log ≤ limit)) }
+    ensures took { OnErr result (TakesSome (R.remaining source.old) (R.remaining source.new)) }
+    ensures too_long { result ≡ Err TooLong → IfSome (R.remaining source.old) (λ log. limit < length log) }
+    ensures read { result ≡ Err Read → R.has_failed source.new ≡ true }
+    ensures read_unmarked { result ≢ Err Read → R.has_failed source.new ≡ R.has_failed source.old }
+    ensures memory { result ≢ Err Memory }
+    ensures write { result ≢ Err Write }
+    ensures within { result ≢ Err TooLong → TakesWithin limit (R.remaining source.old) (R.remaining source.new) }
+{
+    let mut piece = [0u8; PIECE];
+    let mut room = limit;
+    'pieces: loop {
+        let Ok(n) = source.pull(&mut piece) else {
+            return Err(RunFault::Read);
+        };
+        if n == 0 {
+            pieces.finish();
+            return Ok(());
+        }
+        if n as u64 > room {
+            return Err(RunFault::TooLong);
+        }
+        room -= n as u64;
+        pieces.take(&piece[..n]);
+    }
+}

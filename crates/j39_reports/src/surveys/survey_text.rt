@@ -1,0 +1,137 @@
+//! The lines of a survey's text (own).
+ghost use Rattle.std.specs.Prelude.{◌≡◌, ◌+◌, ◌*◌, ◌≤◌, ◌++◌, ◌∷◌, [], codes, decimal, length};
+ghost use Rattle.std.specs.List.{flat_map};
+ghost use Rattle.arrayvec.specs.ArrayVec.{array_vec_len};
+ghost use Rattle.j39_log.specs.StampText.{stamp_text};
+ghost use Rattle.j39_io.specs.Chars.{newline};
+ghost use Rattle.j39_reports.specs.SurveyModels.{interface_record, others_record, shown_record};
+ghost use Rattle.j39_reports.specs.SurveyText.{byte_text, interface_text, others_text, shown_text};
+
+use crate::surveys::interfaces::Interface;
+use crate::surveys::others::Others;
+use crate::surveys::unread::UnreadLine;
+use arrayvec::ArrayVec;
+use j39_io::printing::{push_bytes, push_hex, push_last_digits, push_number};
+
+/// Appends a name and a number, of 20 digits at most.
+#[tactic(auto, using(crate::proofs::SurveyTextLemmas::short_decimal))]
+fn push_field<const N: usize>(line: &mut ArrayVec<u8, N>, name: &[u8], value: u64)
+    requires { array_vec_len line.old + length name.now + 20 ≤ N }
+    ensures items { line.new.items ≡ line.old.items ++ name.now ++ decimal value }
+    ensures len { array_vec_len line.new ≤ array_vec_len line.old + length name.now + 20 }
+{
+    push_bytes(line, name);
+    push_number(line, value);
+}
+
+/// Appends a stamp, as `(0000000001.010000)`.
+fn push_micros(line: &mut ArrayVec<u8, 144>, micros: u64)
+    requires { array_vec_len line.old + 19 ≤ 144 }
+    ensures items { line.new.items ≡ line.old.items ++ stamp_text micros }
+    ensures len { array_vec_len line.new ≡ array_vec_len line.old + 19 }
+{
+    line.push(b'(');
+    push_last_digits(line, 10, micros / 1_000_000);
+    line.push(b'.');
+    push_last_digits(line, 6, micros % 1_000_000);
+    line.push(b')');
+}
+
+/// A line of one number.
+pub(crate) fn number_line(name: &[u8], value: u64) -> ArrayVec<u8, 64>
+    requires { length name.now ≤ 32 }
+    ensures { result.items ≡ name.now ++ decimal value ++ (newline ∷ []) }
+{
+    let mut line = ArrayVec::new();
+    push_field(&mut line, name, value);
+    line.push(b'\n');
+    line
+}
+
+/// The line of an interface.
+#[tactic(auto, unfolding(crate::specs::SurveyText::interface_text))]
+pub(crate) fn interface_line(interface: &Interface) -> ArrayVec<u8, 144>
+    ensures { result.items ≡ interface_text (interface_record interface.now) }
+{
+    let mut line = ArrayVec::new();
+    push_bytes(&mut line, b"interface ");
+    push_bytes(&mut line, interface.name.as_slice());
+    push_field(&mut line, b" frames ", interface.frames);
+    push_bytes(&mut line, b" from ");
+    push_micros(&mut line, interface.first);
+    push_bytes(&mut line, b" to ");
+    push_micros(&mut line, interface.last);
+    push_field(&mut line, b" back ", interface.back);
+    line.push(b'\n');
+    line
+}
+
+/// The line of the other lines, by kind.
+#[tactic(auto, unfolding(crate::specs::SurveyText::others_text))]
+pub(crate) fn others_line(others: &Others) -> ArrayVec<u8, 144>
+    ensures { result.items ≡ others_text (others_record others.now) }
+{
+    let mut line = ArrayVec::new();
+    push_field(&mut line, b"other standard ", others.standard);
+    push_field(&mut line, b" remote ", others.remote);
+    push_field(&mut line, b" fd ", others.flexible);
+    push_field(&mut line, b" error ", others.error);
+    push_field(&mut line, b" odd ", others.odd);
+    line.push(b'\n');
+    line
+}
+
+/// What the line of a group begins with: its number, its frames and the addresses that sent them.
+pub(crate) fn group_head(pgn: u32, frames: u64, addresses: u64) -> ArrayVec<u8, 96>
+    ensures { result.items ≡ codes "group " ++ decimal pgn ++ codes " frames " ++ decimal frames ++ codes " addresses "
+        ++ decimal addresses }
+{
+    let mut line = ArrayVec::new();
+    push_field(&mut line, b"group ", u64::from(pgn));
+    push_field(&mut line, b" frames ", frames);
+    push_field(&mut line, b" addresses ", addresses);
+    line
+}
+
+/// The line of an unread line.
+pub(crate) fn shown_line(shown: &UnreadLine) -> ArrayVec<u8, 272>
+    ensures { result.items ≡ shown_text (shown_record shown.now) }
+{
+    let mut line = ArrayVec::new();
+    push_field(&mut line, b"line ", shown.number);
+    line.push(b' ');
+    push_shown(&mut line, shown.front.as_slice());
+    if shown.is_cut {
+        push_bytes(&mut line, b"..");
+    }
+    line.push(b'\n');
+    line
+}
+
+/// Appends the text of bytes, of which at most sixty are there.
+fn push_shown(line: &mut ArrayVec<u8, 272>, bytes: &[u8])
+    requires { array_vec_len line.old + 4 * length bytes.now ≤ 272 }
+    ensures items { line.new.items ≡ line.old.items ++ flat_map byte_text bytes.now }
+    ensures len { array_vec_len line.new ≤ array_vec_len line.old + 4 * length bytes.now }
+{
+    for &byte in bytes {
+        push_byte(line, byte);
+    }
+}
+
+/// Appends the text of a byte.
+#[tactic(auto, unfolding(crate::specs::SurveyText::byte_text))]
+fn push_byte(line: &mut ArrayVec<u8, 272>, byte: u8)
+    requires { array_vec_len line.old + 4 ≤ 272 }
+    ensures items { line.new.items ≡ line.old.items ++ byte_text byte }
+    ensures len { array_vec_len line.new ≤ array_vec_len line.old + 4 }
+{
+    if byte == b'\\' {
+        push_bytes(line, b"\\\\");
+    } else if 0x20 <= byte && byte <= 0x7E {
+        line.push(byte);
+    } else {
+        push_bytes(line, b"\\x");
+        push_hex(line, &[byte]);
+    }
+}

@@ -1,0 +1,201 @@
+//! A survey, written.
+ghost use Rattle.std.specs.Prelude.{◌≡◌, ◌<◌, List, true, OnOk, OnErr};
+ghost use Rattle.std.specs.Io.KnownBytes.{Appends};
+ghost use Rattle.std.specs.List.{flat_map};
+ghost use Rattle.std.specs.Option.{option_copied};
+ghost use Rattle.j39_io.specs.Device.{AppendsFront, Marks};
+ghost use Rattle.j39_frame.specs.Frame.{FrameRecord};
+ghost use Rattle.j39_frame.specs.Pgn.{pgn_raw};
+ghost use Rattle.j39_reports.specs.LogLines.{LogLine};
+ghost use Rattle.j39_reports.specs.SurveyModels.{HasSurveyed, HaveCounted, interface_record, shown_record};
+ghost use Rattle.j39_reports.specs.UnreadLines.{is_printed_log};
+ghost use Rattle.j39_reports.specs.SurveyText.{class_text, group_text, groups_text, interface_text, name_text, printed_text, shown_text, survey_text, untold_text};
+
+use crate::surveys::group_table::GroupTable;
+use crate::surveys::interfaces::Interface;
+use crate::surveys::log_survey::Survey;
+use crate::surveys::survey_text::{group_head, interface_line, number_line, others_line, shown_line};
+use crate::surveys::unread::UnreadLine;
+use j39_io::{DeviceFault, Sink, put_all};
+use j39_frame::Pgn;
+use j39_groups::{Groups, is_network_group};
+
+/// Writes the survey of all lines, and passes it on. After a fault a front was written.
+pub(crate) fn put_survey<W: Sink>(
+    groups: &Groups<'_>,
+    survey: &Survey,
+    sink: &mut W,
+) -> Result<(), DeviceFault>
+    ensures ok { OnOk result ((lines : List LogLine) → HasSurveyed survey.now lines
+        → Appends (W.held sink.old) (W.held sink.new) (survey_text groups.now lines)) }
+    ensures err { OnErr result ((lines : List LogLine) → HasSurveyed survey.now lines
+        → AppendsFront (W.held sink.old) (W.held sink.new) (survey_text groups.now lines)) }
+    ensures flushed { OnOk result (W.is_flushed sink.new ≡ true) }
+    ensures mark { Marks result (W.has_failed sink.old) (W.has_failed sink.new) }
+{
+    put_all(sink, number_line(b"lines ", survey.lines).as_slice())?;
+    put_interfaces(survey.interfaces.told.as_slice(), sink)?;
+    put_untold(survey.interfaces.untold, sink)?;
+    put_groups(groups, &survey.groups, sink)?;
+    put_all(sink, others_line(&survey.others).as_slice())?;
+    put_all(
+        sink,
+        number_line(b"unread ", survey.unread.count).as_slice(),
+    )?;
+    put_unread(survey.unread.first.as_slice(), sink)?;
+    put_printed(is_printed(survey), sink)?;
+    sink.flush()
+}
+
+/// Whether the log is what `candump` prints where it is not asked for a log.
+fn is_printed(survey: &Survey) -> bool
+    ensures { (lines : List LogLine) → HasSurveyed survey.now lines → result ≡ is_printed_log lines }
+{
+    0 < survey.unread.count && !survey.has_log_line && survey.unread.are_printed
+}
+
+/// Writes a line for each interface.
+fn put_interfaces<W: Sink>(told: &[Interface], sink: &mut W) -> Result<(), DeviceFault>
+    ensures ok { OnOk result (Appends (W.held sink.old) (W.held sink.new)
+        (flat_map (λ i. interface_text (interface_record i)) told.now)) }
+    ensures err { OnErr result (AppendsFront (W.held sink.old) (W.held sink.new)
+        (flat_map (λ i. interface_text (interface_record i)) told.now)) }
+    ensures mark { Marks result (W.has_failed sink.old) (W.has_failed sink.new) }
+{
+    for interface in told {
+        put_all(sink, interface_line(interface).as_slice())?;
+    }
+    Ok(())
+}
+
+/// Writes how many frames are of none of these, where there are some.
+fn put_untold<W: Sink>(frames: u64, sink: &mut W) -> Result<(), DeviceFault>
+    ensures ok { OnOk result (Appends (W.held sink.old) (W.held sink.new) (untold_text frames)) }
+    ensures err { OnErr result (AppendsFront (W.held sink.old) (W.held sink.new) (untold_text frames)) }
+    ensures mark { Marks result (W.has_failed sink.old) (W.has_failed sink.new) }
+{
+    if frames == 0 {
+        return Ok(());
+    }
+    put_all(sink, number_line(b"elsewhere frames ", frames).as_slice())
+}
+
+/// Writes a line for each group that has frames, rising.
+fn put_groups<W: Sink>(
+    groups: &Groups<'_>,
+    table: &GroupTable,
+    sink: &mut W,
+) -> Result<(), DeviceFault>
+    ensures ok { OnOk result ((F : List FrameRecord) → HaveCounted table.now F
+        → Appends (W.held sink.old) (W.held sink.new) (groups_text groups.now F)) }
+    ensures err { OnErr result ((F : List FrameRecord) → HaveCounted table.now F
+        → AppendsFront (W.held sink.old) (W.held sink.new) (groups_text groups.now F)) }
+    ensures mark { Marks result (W.has_failed sink.old) (W.has_failed sink.new) }
+{
+    for raw in 0..262_144 {
+        let (frames, addresses) = table.count(raw);
+        put_at(groups, raw, frames, addresses, sink)?;
+    }
+    Ok(())
+}
+
+/// Writes the line of the group of this number, where it has frames.
+fn put_at<W: Sink>(
+    groups: &Groups<'_>,
+    raw: u32,
+    frames: u64,
+    addresses: u64,
+    sink: &mut W,
+) -> Result<(), DeviceFault>
+    requires { raw < 262144 }
+    ensures ok { OnOk result (Appends (W.held sink.old) (W.held sink.new)
+        (group_text groups.now raw (record { frames = frames; addresses = addresses }))) }
+    ensures err { OnErr result (AppendsFront (W.held sink.old) (W.held sink.new)
+        (group_text groups.now raw (record { frames = frames; addresses = addresses }))) }
+    ensures mark { Marks result (W.has_failed sink.old) (W.has_failed sink.new) }
+{
+    match Pgn::new(raw) {
+        None => Ok(()),
+        Some(pgn) => put_group(groups, pgn, frames, addresses, sink),
+    }
+}
+
+/// Writes the line of a group, where it has frames.
+#[tactic(auto, unfolding(crate::specs::SurveyText::group_text))]
+fn put_group<W: Sink>(
+    groups: &Groups<'_>,
+    pgn: Pgn,
+    frames: u64,
+    addresses: u64,
+    sink: &mut W,
+) -> Result<(), DeviceFault>
+    ensures ok { OnOk result (Appends (W.held sink.old) (W.held sink.new)
+        (group_text groups.now (pgn_raw pgn) (record { frames = frames; addresses = addresses }))) }
+    ensures err { OnErr result (AppendsFront (W.held sink.old) (W.held sink.new)
+        (group_text groups.now (pgn_raw pgn) (record { frames = frames; addresses = addresses }))) }
+    ensures mark { Marks result (W.has_failed sink.old) (W.has_failed sink.new) }
+{
+    if frames == 0 {
+        return Ok(());
+    }
+    put_all(sink, group_head(pgn.raw(), frames, addresses).as_slice())?;
+    put_all(sink, class_of(groups, pgn))?;
+    put_name(groups.group_name(pgn), sink)?;
+    put_all(sink, b"\n")
+}
+
+/// Whether the table reads a group, or the network needs it, or it is heard in packets alone.
+fn class_of(groups: &Groups<'_>, pgn: Pgn) -> &'static [u8]
+    ensures { result.now ≡ class_text groups.now (pgn_raw pgn) }
+{
+    if groups.is_reported(pgn) {
+        b" read"
+    } else if is_network_group(pgn) || pgn.raw() == 59904 {
+        b" network"
+    } else {
+        b" packets"
+    }
+}
+
+/// Writes what the table calls a group, where it lists it.
+fn put_name<W: Sink>(name: Option<&[u8]>, sink: &mut W) -> Result<(), DeviceFault>
+    ensures ok { OnOk result (Appends (W.held sink.old) (W.held sink.new) (name_text (option_copied name.entry))) }
+    ensures err { OnErr result (AppendsFront (W.held sink.old) (W.held sink.new)
+        (name_text (option_copied name.entry))) }
+    ensures mark { Marks result (W.has_failed sink.old) (W.has_failed sink.new) }
+{
+    match name {
+        None => Ok(()),
+        Some(name) => {
+            put_all(sink, b" ")?;
+            put_all(sink, name)
+        }
+    }
+}
+
+/// Writes a line for each of these unread lines.
+fn put_unread<W: Sink>(first: &[UnreadLine], sink: &mut W) -> Result<(), DeviceFault>
+    ensures ok { OnOk result (Appends (W.held sink.old) (W.held sink.new)
+        (flat_map (λ line. shown_text (shown_record line)) first.now)) }
+    ensures err { OnErr result (AppendsFront (W.held sink.old) (W.held sink.new)
+        (flat_map (λ line. shown_text (shown_record line)) first.now)) }
+    ensures mark { Marks result (W.has_failed sink.old) (W.has_failed sink.new) }
+{
+    for line in first {
+        put_all(sink, shown_line(line).as_slice())?;
+    }
+    Ok(())
+}
+
+/// Says that a log is plain output of `candump`, where it is.
+fn put_printed<W: Sink>(is_printed: bool, sink: &mut W) -> Result<(), DeviceFault>
+    ensures ok { OnOk result (Appends (W.held sink.old) (W.held sink.new) (printed_text is_printed)) }
+    ensures err { OnErr result (AppendsFront (W.held sink.old) (W.held sink.new) (printed_text is_printed)) }
+    ensures mark { Marks result (W.has_failed sink.old) (W.has_failed sink.new) }
+{
+    if is_printed {
+        put_all(sink, b"this is plain candump output, not candump -L\n")
+    } else {
+        Ok(())
+    }
+}

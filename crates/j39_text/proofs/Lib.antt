@@ -1,7 +1,0 @@
--- digits that are read
-pub mod DigitLemmas
--- digits that are written, forwards and backwards
-pub mod PrintingLemmas
-pub mod BackwardsLemmas
--- digits by vectors
-pub mod VectorLemmas

@@ -1,4 +1,0 @@
-use Rattle.j39_text.proofs.printing.+push_last_digits.Given as goal
-
-abbrev pub decreases-push_last_digits : goal.decreases-push_last_digits
-decreases-push_last_digits g l = l.count
