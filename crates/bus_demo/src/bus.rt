@@ -15,7 +15,7 @@ use book::{Book, Fate};
 use j39_controller::Wish;
 use j39_io::{DeviceFault, Sink, put_all};
 use j39_frame::{Frame, Id, Stamp};
-use j39_log::{Bus as Network, line_of};
+use j39_log::{Bus as Interface, line_of};
 use player::Player;
 use std::alloc::{AllocError, Global};
 
@@ -30,7 +30,7 @@ const FRAME_BITS: u64 = 67;
 const IDLE: u64 = 100;
 
 /// The name of the bus in the log.
-const NETWORK: &[u8; 4] = b"can0";
+const INTERFACE: &[u8; 4] = b"can0";
 
 /// Why a bus stops before its end.
 #[derive(Clone, Copy)]
@@ -59,7 +59,7 @@ impl From<DeviceFault> for BusFault {
 /// controller has it. Its sender knows nothing of that.
 #[derive(Drop)]
 pub struct Bus<'a> {
-    network: Network,
+    interface: Interface,
     controllers: Vec<Player>,
     /// What each of them wishes to send.
     wishes: Vec<Option<Id>>,
@@ -78,7 +78,7 @@ impl<'a> Bus<'a> {
         ensures fresh { (result.frames ≡ 0) × (stamp_micros result.now ≡ 0) × (result.book.handed.items ≡ []) }
     {
         Bus {
-            network: Network::new(NETWORK).unwrap(),
+            interface: Interface::new(INTERFACE).unwrap(),
             controllers,
             wishes: Vec::new(alloc),
             lose,
@@ -128,7 +128,7 @@ impl<'a> Bus<'a> {
         let Some(controller) = self.controllers.get_mut(sender) else {
             return Ok(());
         };
-        let Some(Wish { frame, part }) = controller.take_wish() else {
+        let Some(Wish { frame, part }) = controller.take_frame() else {
             return Ok(());
         };
         self.now = later(self.now, frame_time(frame.bytes.len()));
@@ -149,7 +149,7 @@ impl<'a> Bus<'a> {
         if is_lost {
             return Ok(());
         }
-        put_all(log, line_of(&seen, &self.network).as_slice())?;
+        put_all(log, line_of(&seen, &self.interface).as_slice())?;
         put_all(log, b"\n")?;
         self.tell(sender, &seen)?;
         Ok(())

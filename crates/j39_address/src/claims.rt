@@ -21,29 +21,29 @@ const PLACES: usize = 254;
 #[repr(C)]
 #[derive(Drop)]
 pub struct Claims {
-    holders: [Place; PLACES],
+    holders: [Holder; PLACES],
 }
 
 /// The holder of one address.
 #[repr(C)]
 #[derive(Clone, Copy)]
-struct Place {
+struct Holder {
     /// 0 where nobody holds it.
     is_held: u8,
     name: Name,
 }
 
-impl Place {
-    fn of(name: Name) -> Place
+impl Holder {
+    fn of(name: Name) -> Holder
         ensures { name_at result ≡ Some name }
     {
-        Place { is_held: 1, name }
+        Holder { is_held: 1, name }
     }
 
-    fn nobody() -> Place
+    fn nobody() -> Holder
         ensures { result ≡ nobody }
     {
-        Place {
+        Holder {
             is_held: 0,
             name: Name::new(0),
         }
@@ -66,7 +66,7 @@ impl Claims {
         ensures { Knows result [] }
     {
         Claims {
-            holders: [Place::nobody(); PLACES],
+            holders: [Holder::nobody(); PLACES],
         }
     }
 
@@ -119,7 +119,7 @@ impl Claims {
             return None;
         }
         let held = self.address_of(name)?;
-        self.holders[usize::from(held)] = Place::nobody();
+        self.holders[usize::from(held)] = Holder::nobody();
         Some(held)
     }
 
@@ -149,7 +149,7 @@ impl Claims {
                 return None;
             }
         }
-        self.holders[place] = Place::of(name);
+        self.holders[place] = Holder::of(name);
         Some(address)
     }
 }

@@ -6,7 +6,7 @@ use Rattle.j39_transport.specs.Boxes.{WantsMemory}
 use Rattle.j39_transport.specs.Events.{Event}
 use Rattle.j39_transport.specs.Events.Event.{Frame, Forget}
 use Rattle.j39_transport.specs.Stands.{Stands}
-use Rattle.j39_transport.specs.Steps.{AssemblerRecord}
+use Rattle.j39_transport.specs.AssemblerStep.{AssemblerRecord}
 use Rattle.j39_listen.specs.Heard.{Hearing}
 
 -- with the frame f after E this message is whole, of no NAME, or none is

@@ -5,7 +5,7 @@ pub mod Codes
 pub mod Controllers
 pub mod Cut
 pub mod Fields
-pub mod Held
+pub mod HandleOwns
 pub mod Holders
 pub mod Messages
 pub mod Nodes

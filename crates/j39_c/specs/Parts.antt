@@ -9,13 +9,13 @@ use Rattle.j39_transport.specs.Cutting.{ToSend, without_stamp}
 use Rattle.j39_transport.specs.ReceiverStands.{HasHeard}
 use Rattle.j39_transport.specs.Receiving.{BoxedReceiver, ReceiverAnswer, RecvStep, Tick}
 use Rattle.j39_transport.specs.Sending as sending
-use Rattle.j39_transport.specs.Steps.{AssemblerRecord}
+use Rattle.j39_transport.specs.AssemblerStep.{AssemblerRecord}
 use Rattle.j39_transport.specs.Sending.{SenderRecord}
 use Rattle.j39_listen.specs.Heard.{Hearing, HeardAt}
 use Rattle.j39_listen.specs.Listening.{Hears, WantsMemoryBehind}
 use Rattle.j39_frame.specs.Address.{IsAddress}
 use Rattle.j39_transport.specs.Message.{MessageRecord, IsLong}
-use Rattle.j39_transport.specs.ShownSender.{state_of}
+use Rattle.j39_transport.specs.SenderModel.{state_of}
 use Rattle.j39_transport.specs.declared.progress.SendState.{SendState}
 use Rattle.j39_transport.specs.declared.progress.SendState.TheVariants.{Idle, Waiting, Sending as Busy, Done, Failed}
 use Rattle.j39_c.specs.Can.{frame_of}

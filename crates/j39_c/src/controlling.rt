@@ -212,7 +212,7 @@ pub(crate) fn take_frame(part: &mut Part, out: &mut CanFrame, number: &mut usize
     ensures foreign { controller_in (Some part.old) ≡ None → (result ≡ no_part) × (part.new ≡ part.old) }
 {
     match part {
-        Part::Controlling(controller) => put_wish(controller.take_wish(), out, number),
+        Part::Controlling(controller) => put_wish(controller.take_frame(), out, number),
         Part::Listening(_) => Refusal::NoPart.code(),
         Part::Receiving(_) => Refusal::NoPart.code(),
         Part::Sending(_) => Refusal::NoPart.code(),

@@ -2,7 +2,7 @@
 ghost use Rattle.std.specs.Prelude.{◌≡◌, Option, Some, None, pos};
 ghost use Rattle.std.specs.Option.{is_some, option_map};
 ghost use Rattle.j39_c.specs.Codes.{IsDone, IsRefused, no_memory};
-ghost use Rattle.j39_c.specs.Held.{held};
+ghost use Rattle.j39_c.specs.HandleOwns.{held};
 ghost use Rattle.j39_c.specs.declared.part.Part.{Part};
 
 use crate::loose::Loose;

@@ -3,7 +3,7 @@ ghost use Rattle.std.specs.Prelude.{◌≡◌, ◌≤◌, None, length};
 ghost use Rattle.std.specs.Option.{option_map};
 ghost use Rattle.j39_address.specs.Name.{name_raw};
 ghost use Rattle.j39_frame.specs.Stamp.{stamp_micros};
-ghost use Rattle.j39_listen.specs.Shown.{hearing_of, message_of};
+ghost use Rattle.j39_listen.specs.HeardModel.{hearing_of, message_of};
 ghost use Rattle.j39_c.specs.Messages.{hearing_in};
 
 use j39_address::Name;

@@ -3,7 +3,7 @@ ghost use Rattle.std.specs.Prelude.{◌≡◌, ◌≢◌, ◌≤◌, ◌↔◌, 
 ghost use Rattle.std.specs.Option.{option_map};
 ghost use Rattle.j39_frame.specs.Pgn.{pgn_raw};
 ghost use Rattle.j39_groups.specs.Readings.{readings_of};
-ghost use Rattle.j39_groups.specs.Shown.{reading_of, slot_record, value_of};
+ghost use Rattle.j39_groups.specs.Models.{reading_of, slot_record, value_of};
 ghost use Rattle.j39_groups.specs.Slots.{IsRawOf};
 ghost use Rattle.j39_groups.specs.ValueText.{value_text};
 ghost use Rattle.j39_c.specs.Codes.{bad_value, end};
@@ -193,7 +193,7 @@ struct Text {
 impl Sink for Text {
     ghost use Rattle.std.specs.Prelude.{Some, false};
 
-    ghost held = { λ text. Some text.bytes.items };
+    ghost written = { λ text. Some text.bytes.items };
 
     ghost has_failed = { λ text. text.has_failed };
 

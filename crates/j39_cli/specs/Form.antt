@@ -4,7 +4,7 @@ use Rattle.j39_io.specs.Turn.{Turn}
 use Rattle.clap.specs.Words.{Row, Text}
 use Rattle.j39_groups.specs.Row.{RowRecord}
 use Rattle.j39_cli.specs.Answer.{Answer}
-use Rattle.j39_cli.specs.Shown.{IsShown}
+use Rattle.j39_cli.specs.WholeText.{IsShown}
 
 -- ---- words
 

@@ -24,6 +24,6 @@ pub mod Outgoing
 pub mod CutCommand
 pub mod GroupsCommand
 -- what is written on a device
-pub mod Shown
+pub mod WholeText
 pub mod Counted
 pub mod OwnTable

@@ -128,8 +128,8 @@ pub(crate) fn perform<R: Source, W: Sink, E: Sink>(
 ) -> u8
     ensures run { IsRun AsksForBoxes (MakesAnswers (idle_node (name_raw name) address.now)) bus.now result
         (turn R.remaining R.has_failed source.old source.new)
-        (turn W.held W.has_failed sink.old sink.new)
-        (turn E.held E.has_failed err.old err.new) }
+        (turn W.written W.has_failed sink.old sink.new)
+        (turn E.written E.has_failed err.old err.new) }
     ensures flushed { result ≡ 0 → W.is_flushed sink.new ≡ true }
 {
     let address = address.number();

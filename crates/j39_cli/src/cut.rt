@@ -6,7 +6,7 @@ ghost use Rattle.j39_cli.specs.CommandWords as written;
 ghost use Rattle.j39_cli.specs.CommandWords.{IsAnswer};
 ghost use Rattle.j39_cli.specs.CutCommand.{cut_app};
 ghost use Rattle.j39_cli.specs.Outgoing.{cut_text};
-ghost use Rattle.j39_cli.specs.Shown.{IsShown};
+ghost use Rattle.j39_cli.specs.WholeText.{IsShown};
 ghost use Rattle.j39_cli.specs.Task.{IsInRange};
 ghost use Rattle.j39_cli.specs.Rules.{IsMade};
 
@@ -112,8 +112,8 @@ fn task_of<'a>(
 /// Performs it: the lines go to `sink`, a fault to `err`.
 pub(crate) fn perform<W: Sink, E: Sink>(outgoing: &Outgoing, sink: &mut W, err: &mut E) -> u8
     ensures shown { IsShown (cut_text outgoing.now) result
-        (turn W.held W.has_failed sink.old sink.new)
-        (turn E.held E.has_failed err.old err.new) }
+        (turn W.written W.has_failed sink.old sink.new)
+        (turn E.written E.has_failed err.old err.new) }
     ensures flushed { result ≡ 0 → W.is_flushed sink.new ≡ true }
     ensures silent { result ≡ 0 → err.new ≡ err.old }
 {

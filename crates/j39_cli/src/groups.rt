@@ -8,7 +8,7 @@ ghost use Rattle.j39_groups.specs.Printed.{rows_text};
 ghost use Rattle.j39_cli.specs.CommandWords as written;
 ghost use Rattle.j39_cli.specs.CommandWords.{IsAnswer};
 ghost use Rattle.j39_cli.specs.GroupsCommand.{groups_app};
-ghost use Rattle.j39_cli.specs.Shown.{IsShown};
+ghost use Rattle.j39_cli.specs.WholeText.{IsShown};
 ghost use Rattle.j39_cli.specs.Task.{IsInRange};
 ghost use Rattle.j39_cli.specs.Rules.{IsMade};
 
@@ -62,8 +62,8 @@ pub(crate) fn task<'a>(given: &ArgMatches<'a>) -> Result<Task<'a>, ParseFault>
 /// Performs it: the table's lines go to `sink`, a fault to `err`.
 pub(crate) fn perform<W: Sink, E: Sink>(groups: &Groups<'_>, sink: &mut W, err: &mut E) -> u8
     ensures shown { IsShown (rows_text groups.now) result
-        (turn W.held W.has_failed sink.old sink.new)
-        (turn E.held E.has_failed err.old err.new) }
+        (turn W.written W.has_failed sink.old sink.new)
+        (turn E.written E.has_failed err.old err.new) }
     ensures flushed { result ≡ 0 → W.is_flushed sink.new ≡ true }
     ensures silent { result ≡ 0 → err.new ≡ err.old }
 {
@@ -72,8 +72,8 @@ pub(crate) fn perform<W: Sink, E: Sink>(groups: &Groups<'_>, sink: &mut W, err: 
 
 /// Writes the lines and passes them on.
 fn put_lines<W: Sink>(groups: &Groups<'_>, sink: &mut W) -> Result<(), DeviceFault>
-    ensures ok { OnOk result (Appends (W.held sink.old) (W.held sink.new) (rows_text groups.now)) }
-    ensures err { OnErr result (AppendsFront (W.held sink.old) (W.held sink.new) (rows_text groups.now)) }
+    ensures ok { OnOk result (Appends (W.written sink.old) (W.written sink.new) (rows_text groups.now)) }
+    ensures err { OnErr result (AppendsFront (W.written sink.old) (W.written sink.new) (rows_text groups.now)) }
     ensures flushed { OnOk result (W.is_flushed sink.new ≡ true) }
     ensures mark { Marks result (W.has_failed sink.old) (W.has_failed sink.new) }
 {

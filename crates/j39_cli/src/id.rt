@@ -8,7 +8,7 @@ ghost use Rattle.j39_frame.specs.Identifier.{id_raw};
 ghost use Rattle.j39_cli.specs.CommandWords as written;
 ghost use Rattle.j39_cli.specs.CommandWords.{IsAnswer};
 ghost use Rattle.j39_cli.specs.IdCommand.{IsIdText, destination_text, id_app, id_text};
-ghost use Rattle.j39_cli.specs.Shown.{IsShown};
+ghost use Rattle.j39_cli.specs.WholeText.{IsShown};
 ghost use Rattle.j39_cli.specs.Task.{IsInRange};
 ghost use Rattle.j39_cli.specs.Rules.{IsMade};
 
@@ -83,8 +83,8 @@ fn id_of(text: &str) -> Option<Id>
 /// Performs it: the line goes to `sink`, a fault to `err`.
 pub(crate) fn perform<W: Sink, E: Sink>(id: Id, sink: &mut W, err: &mut E) -> u8
     ensures shown { IsShown (id_text (id_raw id)) result
-        (turn W.held W.has_failed sink.old sink.new)
-        (turn E.held E.has_failed err.old err.new) }
+        (turn W.written W.has_failed sink.old sink.new)
+        (turn E.written E.has_failed err.old err.new) }
     ensures flushed { result ≡ 0 → W.is_flushed sink.new ≡ true }
     ensures silent { result ≡ 0 → err.new ≡ err.old }
 {

@@ -63,7 +63,7 @@ pub(crate) fn copy_of(bus: &Option<Bus>) -> Option<Bus>
 
 /// Says how a run ended, by its counts or its fault, and answers the exit status.
 pub(crate) fn tell_end<E: Sink>(end: Result<Counts, RunFault>, err: &mut E) -> u8
-    ensures { IsTold end result (turn E.held E.has_failed err.old err.new) }
+    ensures { IsTold end result (turn E.written E.has_failed err.old err.new) }
 {
     match end {
         Ok(counts) => {
@@ -77,7 +77,7 @@ pub(crate) fn tell_end<E: Sink>(end: Result<Counts, RunFault>, err: &mut E) -> u
 /// Says which fault came, and answers the exit status.
 pub(crate) fn tell_fault<E: Sink>(fault: RunFault, err: &mut E) -> u8
     ensures status { result ≡ 1 }
-    ensures told { Writes (turn E.held E.has_failed err.old err.new) (error_line (fault_text fault) []) }
+    ensures told { Writes (turn E.written E.has_failed err.old err.new) (error_line (fault_text fault) []) }
 {
     complain(err, words_of(fault).as_slice(), b"");
     1

@@ -8,7 +8,7 @@ ghost use Rattle.j39_address.specs.Name.{name_raw};
 ghost use Rattle.j39_cli.specs.CommandWords as written;
 ghost use Rattle.j39_cli.specs.CommandWords.{IsAnswer};
 ghost use Rattle.j39_cli.specs.NameCommand.{IsNameText, field_line, name_app, name_text};
-ghost use Rattle.j39_cli.specs.Shown.{IsShown};
+ghost use Rattle.j39_cli.specs.WholeText.{IsShown};
 ghost use Rattle.j39_cli.specs.Task.{IsInRange};
 ghost use Rattle.j39_cli.specs.Rules.{IsMade};
 
@@ -81,8 +81,8 @@ pub(crate) fn name_of(text: &str) -> Option<Name>
 /// Performs it: the lines go to `sink`, a fault to `err`.
 pub(crate) fn perform<W: Sink, E: Sink>(name: Name, sink: &mut W, err: &mut E) -> u8
     ensures shown { IsShown (name_text (name_raw name)) result
-        (turn W.held W.has_failed sink.old sink.new)
-        (turn E.held E.has_failed err.old err.new) }
+        (turn W.written W.has_failed sink.old sink.new)
+        (turn E.written E.has_failed err.old err.new) }
     ensures flushed { result ≡ 0 → W.is_flushed sink.new ≡ true }
     ensures silent { result ≡ 0 → err.new ≡ err.old }
 {

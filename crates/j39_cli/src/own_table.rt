@@ -10,7 +10,7 @@ use j39_table::TableFault;
 /// Says why this file is no table, and answers the exit status. A fault of the writer is passed over.
 pub fn wrong_table<E: Sink>(file: &str, fault: TableFault, err: &mut E) -> u8
     ensures status { result ≡ 1 }
-    ensures err { Writes (turn E.held E.has_failed err.old err.new)
+    ensures err { Writes (turn E.written E.has_failed err.old err.new)
         (table_line file.now fault) }
 {
     match fault {

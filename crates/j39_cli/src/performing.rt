@@ -22,8 +22,8 @@ pub fn perform<R: Source, W: Sink, E: Sink>(
     // What each command leaves of the reader, the writer and the error writer.
     ensures performed { IsPerformed the_table task.now result
         (turn R.remaining R.has_failed source.old source.new)
-        (turn W.held W.has_failed sink.old sink.new)
-        (turn E.held E.has_failed err.old err.new) }
+        (turn W.written W.has_failed sink.old sink.new)
+        (turn E.written E.has_failed err.old err.new) }
 
     // Status 0 says that what was written was passed on.
     ensures flushed { result ≡ 0 → W.is_flushed sink.new ≡ true }
@@ -51,8 +51,8 @@ pub fn perform_with<R: Source, W: Sink, E: Sink>(
     // What each command leaves of the reader, the writer and the error writer.
     ensures performed { IsPerformed groups.now task.now result
         (turn R.remaining R.has_failed source.old source.new)
-        (turn W.held W.has_failed sink.old sink.new)
-        (turn E.held E.has_failed err.old err.new) }
+        (turn W.written W.has_failed sink.old sink.new)
+        (turn E.written E.has_failed err.old err.new) }
 
     // Status 0 says that what was written was passed on.
     ensures flushed { result ≡ 0 → W.is_flushed sink.new ≡ true }

@@ -16,8 +16,8 @@ pub fn refuse<W: Sink, E: Sink>(fault: &ParseFault, out: &mut W, err: &mut E) ->
     ensures wrong { (result ≡ 2) ↔ IsWrongLine fault.now }
 
     // Each writer holds its own words, where no fault came, and the other one isn't touched.
-    ensures out { Writes (turn W.held W.has_failed out.old out.new) (out_words fault.now) }
-    ensures err { Writes (turn E.held E.has_failed err.old err.new) (error_words fault.now) }
+    ensures out { Writes (turn W.written W.has_failed out.old out.new) (out_words fault.now) }
+    ensures err { Writes (turn E.written E.has_failed err.old err.new) (error_words fault.now) }
     ensures silent_out { ¬ (IsHelp fault.now) → out.new ≡ out.old }
     ensures silent_err { IsHelp fault.now → err.new ≡ err.old }
 {
@@ -45,7 +45,7 @@ pub fn refuse<W: Sink, E: Sink>(fault: &ParseFault, out: &mut W, err: &mut E) ->
 /// passed over.
 pub fn unopened<E: Sink>(file: &str, err: &mut E) -> u8
     ensures status { result ≡ 1 }
-    ensures err { Writes (turn E.held E.has_failed err.old err.new)
+    ensures err { Writes (turn E.written E.has_failed err.old err.new)
         (error_line (codes "cannot open ") file.now) }
 {
     complain(err, b"cannot open ", file.as_bytes());
@@ -54,7 +54,7 @@ pub fn unopened<E: Sink>(file: &str, err: &mut E) -> u8
 
 /// Writes the text, and passes it on. A fault shows in the mark alone.
 pub(crate) fn show<S: Sink>(sink: &mut S, text: &[u8])
-    ensures { Writes (turn S.held S.has_failed sink.old sink.new) text.now }
+    ensures { Writes (turn S.written S.has_failed sink.old sink.new) text.now }
 {
     if put_all(sink, text).is_ok() {
         let _ = sink.flush();
@@ -63,7 +63,7 @@ pub(crate) fn show<S: Sink>(sink: &mut S, text: &[u8])
 
 /// Writes a line of the program's own, and passes it on. A fault shows in the mark alone.
 pub(crate) fn complain<E: Sink>(err: &mut E, words: &[u8], name: &[u8])
-    ensures { Writes (turn E.held E.has_failed err.old err.new) (error_line words.now name.now) }
+    ensures { Writes (turn E.written E.has_failed err.old err.new) (error_line words.now name.now) }
 {
     if put_line(err, words, name).is_ok() {
         let _ = err.flush();
@@ -71,7 +71,7 @@ pub(crate) fn complain<E: Sink>(err: &mut E, words: &[u8], name: &[u8])
 }
 
 fn put_line<E: Sink>(err: &mut E, words: &[u8], name: &[u8]) -> Result<(), DeviceFault>
-    ensures ok { OnOk result (Appends (E.held err.old) (E.held err.new) (error_line words.now name.now)) }
+    ensures ok { OnOk result (Appends (E.written err.old) (E.written err.new) (error_line words.now name.now)) }
     ensures mark { Marks result (E.has_failed err.old) (E.has_failed err.new) }
 {
     put_all(err, b"j1939: ")?;

@@ -95,8 +95,8 @@ pub(crate) fn perform<R: Source, W: Sink, E: Sink>(
 ) -> u8
     ensures run { IsReportRun spns.now format groups.now bus.now result
         (turn R.remaining R.has_failed source.old source.new)
-        (turn W.held W.has_failed sink.old sink.new)
-        (turn E.held E.has_failed err.old err.new) }
+        (turn W.written W.has_failed sink.old sink.new)
+        (turn E.written E.has_failed err.old err.new) }
     ensures status { (result ≡ 0) ⊎ (result ≡ 1) }
     ensures flushed { result ≡ 0 → W.is_flushed sink.new ≡ true }
 {
@@ -123,8 +123,8 @@ fn run_by<R: Source, W: Sink, E: Sink>(
 ) -> u8
     ensures run { IsRun AsksForBoxes (makes_in format groups.now) bus.now result
         (turn R.remaining R.has_failed source.old source.new)
-        (turn W.held W.has_failed sink.old sink.new)
-        (turn E.held E.has_failed err.old err.new) }
+        (turn W.written W.has_failed sink.old sink.new)
+        (turn E.written E.has_failed err.old err.new) }
     ensures status { (result ≡ 0) ⊎ (result ≡ 1) }
     ensures flushed { result ≡ 0 → W.is_flushed sink.new ≡ true }
 {

@@ -3,7 +3,7 @@ ghost use Rattle.std.specs.Prelude.{◌≡◌, [], OnOk, OnErr, codes, true};
 ghost use Rattle.std.specs.Io.KnownBytes.{Appends};
 ghost use Rattle.j39_io.specs.Device.{AppendsFront, Marks};
 ghost use Rattle.j39_io.specs.Turn.{Writes, turn};
-ghost use Rattle.j39_cli.specs.Shown.{IsShown};
+ghost use Rattle.j39_cli.specs.WholeText.{IsShown};
 ghost use Rattle.j39_cli.specs.Refusal.{error_line};
 
 use crate::refusal::complain;
@@ -12,8 +12,8 @@ use j39_io::{DeviceFault, Sink, put_all};
 /// Writes all that a command has to say, and answers the status.
 pub(crate) fn show_text<W: Sink, E: Sink>(text: &[u8], sink: &mut W, err: &mut E) -> u8
     ensures shown { IsShown text.now result
-        (turn W.held W.has_failed sink.old sink.new)
-        (turn E.held E.has_failed err.old err.new) }
+        (turn W.written W.has_failed sink.old sink.new)
+        (turn E.written E.has_failed err.old err.new) }
     ensures flushed { result ≡ 0 → W.is_flushed sink.new ≡ true }
     ensures silent { result ≡ 0 → err.new ≡ err.old }
 {
@@ -24,7 +24,7 @@ pub(crate) fn show_text<W: Sink, E: Sink>(text: &[u8], sink: &mut W, err: &mut E
 pub(crate) fn status_of<E: Sink>(put: Result<(), DeviceFault>, err: &mut E) -> u8
     ensures done { OnOk put ((result ≡ 0) × (err.new ≡ err.old)) }
     ensures failed { OnErr put ((result ≡ 1)
-        × Writes (turn E.held E.has_failed err.old err.new) (error_line (codes "write failed") [])) }
+        × Writes (turn E.written E.has_failed err.old err.new) (error_line (codes "write failed") [])) }
 {
     match put {
         Ok(()) => 0,
@@ -37,8 +37,8 @@ pub(crate) fn status_of<E: Sink>(put: Result<(), DeviceFault>, err: &mut E) -> u
 
 /// Writes the text and passes it on.
 fn put_text<W: Sink>(text: &[u8], sink: &mut W) -> Result<(), DeviceFault>
-    ensures ok { OnOk result (Appends (W.held sink.old) (W.held sink.new) text.now) }
-    ensures err { OnErr result (AppendsFront (W.held sink.old) (W.held sink.new) text.now) }
+    ensures ok { OnOk result (Appends (W.written sink.old) (W.written sink.new) text.now) }
+    ensures err { OnErr result (AppendsFront (W.written sink.old) (W.written sink.new) text.now) }
     ensures flushed { OnOk result (W.is_flushed sink.new ≡ true) }
     ensures mark { Marks result (W.has_failed sink.old) (W.has_failed sink.new) }
 {

@@ -5,7 +5,7 @@ use Rattle.j39_transport.specs.Cutting.{ToSend}
 use Rattle.j39_transport.specs.Events.{Event}
 use Rattle.j39_transport.specs.Events.Event.{Frame as Came, Forget}
 use Rattle.j39_transport.specs.Stands.{Stands}
-use Rattle.j39_transport.specs.Steps.{messages_open}
+use Rattle.j39_transport.specs.AssemblerStep.{messages_open}
 use Rattle.j39_address.specs.Call as call
 use Rattle.j39_address.specs.Call.{call_of}
 use Rattle.j39_address.specs.Changes.{AreChanged}
@@ -23,7 +23,7 @@ use Rattle.j39_controller.specs.Outbox.{posted, withdrawn}
 use Rattle.j39_controller.specs.Receiving.{ListensAt, ReceivesIn, TicksLate, is_receiving}
 use Rattle.j39_controller.specs.Sending.{BeginsBroadcast, BeginsTransfer, HasLost, IsFree, Polls, Ticks, hears, new_sending, on_its_way}
 use Rattle.j39_controller.specs.declared.controller.Controller.{Controller}
-use Rattle.j39_controller.specs.declared.outbox.Part.{Part}
+use Rattle.j39_controller.specs.declared.outbox.MessageFrame.{MessageFrame}
 use Rattle.j39_controller.specs.declared.outbox.Wish.{Wish}
 use Rattle.j39_controller.specs.declared.receiving.Listening.{Listening}
 use Rattle.j39_controller.specs.declared.sending.Sending.{Sending}
@@ -234,7 +234,7 @@ pub record IsFreeAt (c : Controller) (now : ℕ) (node : Node) (address : Option
   pub busy : (IsFree c.sending now → ⊥) → address ≡ None
 
 -- the only frame of a message
-abbrev pub single : ℕ → Option Part
+abbrev pub single : ℕ → Option MessageFrame
 single number = Some (record { number = number; is_last = true })
 
 -- a frame that may go waits behind the others, else the message is withdrawn

@@ -8,7 +8,7 @@ use Rattle.j39_transport.specs.Events.{Event}
 use Rattle.j39_transport.specs.Events.Event.{Forget}
 use Rattle.j39_transport.specs.Message.{MessageRecord}
 use Rattle.j39_transport.specs.Stands.{Stands}
-use Rattle.j39_transport.specs.Steps.{AssemblerRecord}
+use Rattle.j39_transport.specs.AssemblerStep.{AssemblerRecord}
 use Rattle.j39_address.specs.Changes.{AreChanged}
 use Rattle.j39_address.specs.Claim.{claims_of}
 use Rattle.j39_address.specs.Command.{Command, commanded_of}

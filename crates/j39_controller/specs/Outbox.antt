@@ -1,7 +1,7 @@
 -- The frames that a controller wishes to send.
 use Rattle.std.specs.Prelude.{ℕ, Bool, true, false, List, [], ◌∷◌, ◌++◌, Option, Some, None}
 use Rattle.j39_transport.specs.Cutting.{ToSend, at_moment}
-use Rattle.j39_controller.specs.declared.outbox.Part.{Part}
+use Rattle.j39_controller.specs.declared.outbox.MessageFrame.{MessageFrame}
 use Rattle.j39_controller.specs.declared.outbox.Wish.{Wish}
 use Rattle.j39_controller.specs.declared.settled.Settled.{Settled}
 use Rattle.j39_controller.specs.declared.settled.Ending.TheVariants.{Withdrawn}
@@ -21,7 +21,7 @@ withdrawn_if true number = record { number = number; ending = Withdrawn } ∷ []
 withdrawn_if false number = []
 
 -- a message whose last frame this is can't go out as a whole any more
-abbrev pub withdrawn_by : Option Part → List Settled
+abbrev pub withdrawn_by : Option MessageFrame → List Settled
 withdrawn_by None = []
 withdrawn_by (Some p) = withdrawn_if p.is_last p.number
 

@@ -17,7 +17,7 @@ use crate::asked::{Asked, keep_request};
 use crate::inbox::Received;
 use crate::listening::{note, put_together};
 use crate::may_send::{held_by, may_send};
-use crate::outbox::{Outbox, Part, Wish};
+use crate::outbox::{Outbox, MessageFrame, Wish};
 use crate::receiving::{Listening, is_receiving, listen_at, receive_in, tick_late};
 use crate::sending::Sending;
 use crate::settled::{Ending, Settled};
@@ -105,7 +105,7 @@ impl Controller {
 
     /// The frame that it wishes to send next, which the bus now takes: from the address that it holds, or
     /// a claim of its own.
-    pub fn take_wish(&mut self) -> Option<Wish>
+    pub fn take_frame(&mut self) -> Option<Wish>
         ensures may { (node : Node) → HasNode self.old node → IfSome result (λ wish. MaySend node wish.frame) }
         ensures goes { (node : Node) (first : Wish) (others : List Wish) → HasNode self.old node
             → waiting_in self.old ≡ first ∷ others → MaySend node first.frame → result ≡ Some first }
@@ -167,7 +167,7 @@ impl Controller {
         ensures refused { OnErr result (IsUnsent self.old self.new) }
     {
         if may_send(&self.node, &frame) {
-            let part = Part {
+            let part = MessageFrame {
                 number,
                 is_last: true,
             };

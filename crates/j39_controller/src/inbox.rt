@@ -2,7 +2,7 @@
 ghost use Rattle.std.specs.Prelude.{◌≡◌, ◌≤◌, length};
 ghost use Rattle.std.specs.Result.{IfOk};
 ghost use Rattle.j39_controller.specs.Inbox.{received_of};
-ghost use Rattle.j39_transport.specs.ShownReceiver.{message_shown};
+ghost use Rattle.j39_transport.specs.ReceiverModel.{message_shown};
 ghost use Rattle.j39_frame.specs.Stamp.{stamp_micros};
 
 use j39_frame::{Pgn, Stamp};

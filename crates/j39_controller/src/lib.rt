@@ -15,5 +15,5 @@ mod settled;
 pub use asked::Asked;
 pub use controller::Controller;
 pub use inbox::Received;
-pub use outbox::{Part, Wish};
+pub use outbox::{MessageFrame, Wish};
 pub use settled::{Ending, Settled};

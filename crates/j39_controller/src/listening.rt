@@ -6,7 +6,7 @@ ghost use Rattle.j39_frame.specs.Frame.{FrameRecord};
 ghost use Rattle.j39_frame.specs.Identifier.{destination_of};
 ghost use Rattle.j39_transport.specs.Events.{Event};
 ghost use Rattle.j39_transport.specs.Events.Event.{Frame as Came};
-ghost use Rattle.j39_transport.specs.ShownReceiver.{message_shown};
+ghost use Rattle.j39_transport.specs.ReceiverModel.{message_shown};
 ghost use Rattle.j39_transport.specs.Stands.{Stands};
 ghost use Rattle.j39_address.specs.Claims.{Knows};
 ghost use Rattle.j39_address.specs.Command.{command_by};

@@ -19,7 +19,7 @@ use std::collections::VecDeque;
 
 /// A frame of a message that was handed in: the message's number, and whether this is its last frame.
 #[derive(Clone, Copy)]
-pub struct Part {
+pub struct MessageFrame {
     pub number: usize,
     pub is_last: bool,
 }
@@ -30,7 +30,7 @@ pub struct Wish {
     pub frame: Frame,
     /// What it is a part of; `None` for claims, and for the frames of directed transfers, which may be
     /// sent again.
-    pub part: Option<Part>,
+    pub part: Option<MessageFrame>,
 }
 
 /// The frames that a controller wishes to send, in order.
@@ -53,7 +53,7 @@ impl Outbox {
     }
 
     /// Puts a frame behind the others.
-    pub(crate) fn push(&mut self, frame: Frame, part: Option<Part>) -> Result<(), AllocError>
+    pub(crate) fn push(&mut self, frame: Frame, part: Option<MessageFrame>) -> Result<(), AllocError>
         ensures pushes { OnOk result (self.new.wishes.items
             ≡ self.old.wishes.items ++ record { frame = frame; part = part } ∷ []) }
         ensures kept { OnErr result (self.new.wishes.items ≡ self.old.wishes.items) }
@@ -67,7 +67,7 @@ impl Outbox {
         &mut self,
         id: Id,
         bytes: [u8; 8],
-        part: Option<Part>,
+        part: Option<MessageFrame>,
         now: Stamp,
     ) -> Result<(), AllocError>
         ensures { OnOk result (self.new.wishes.items ≡ self.old.wishes.items
@@ -132,7 +132,7 @@ impl Outbox {
 }
 
 /// Tells that a message is withdrawn whose last frame this is.
-fn tell_if_last(part: Option<Part>, settled: &mut VecDeque<Settled>) -> Result<(), AllocError>
+fn tell_if_last(part: Option<MessageFrame>, settled: &mut VecDeque<Settled>) -> Result<(), AllocError>
     ensures { OnOk result (settled.new.items ≡ settled.old.items ++ withdrawn_by part) }
 {
     let Some(part) = part else {

@@ -4,7 +4,7 @@ use Rattle.std.specs.List.{cons_option, range_with_len}
 use Rattle.j39_faults.specs.declared.code.Code.{Code}
 use Rattle.j39_faults.specs.declared.codes.Codes.{Codes}
 use Rattle.j39_faults.specs.Codes.{code_at, codes_of, places_of}
-use Rattle.j39_faults.specs.Left.{codes_left}
+use Rattle.j39_faults.specs.CodesLeft.{codes_left}
 
 -- numbers from a place on, of which there is one
 range_first : (place end : ℕ) → place < end → range_with_len place (end - place) ≡ place ∷ range_with_len (place + 1) (end - (place + 1))

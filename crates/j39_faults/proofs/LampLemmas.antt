@@ -3,7 +3,7 @@ use Rattle.std.proofs.Common.{◌≡◌, ℕ, ◌<◌, List, [], ◌∷◌, ◌+
 use Rattle.std.specs.Prelude.{codes, if◌then◌else◌}
 use Rattle.std.specs.List.{join_with_byte}
 use Rattle.j39_faults.specs.declared.lamps.Lamps.{Lamps}
-use Rattle.j39_faults.specs.LampSteps.{with_words}
+use Rattle.j39_faults.specs.LampText.{with_words}
 use Rattle.j39_faults.specs.Text.{is_on, lamp_words, lamps_on, lamps_text, or_dash}
 
 abbrev word_if : Bool → List ℕ → List (List ℕ)

@@ -1,10 +1,10 @@
 -- the rules of the standard
-pub mod Kinds
+pub mod FaultGroups
 pub mod LampBits
 pub mod Codes
 pub mod Words
 -- what is printed (own)
 pub mod Text
 -- the code's steps, below the rules
-pub mod Left
-pub mod LampSteps
+pub mod CodesLeft
+pub mod LampText

@@ -2,7 +2,7 @@
 ghost use Rattle.std.specs.Prelude.{◌≡◌, ◌+◌, ◌*◌, ◌<◌, length};
 ghost use Rattle.std.specs.Iterator.{YieldsFirst, item_count};
 ghost use Rattle.j39_faults.specs.Codes.{code_at, codes_of, places_of};
-ghost use Rattle.j39_faults.specs.Left.{codes_left};
+ghost use Rattle.j39_faults.specs.CodesLeft.{codes_left};
 
 use crate::code::{Code, code_of};
 

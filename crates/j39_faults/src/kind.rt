@@ -1,7 +1,7 @@
 //! Which groups tell faults (J1939-73, 5.7.1 and 5.7.2).
 ghost use Rattle.std.specs.Prelude.{◌≡◌};
 ghost use Rattle.j39_frame.specs.Pgn.{pgn_raw};
-ghost use Rattle.j39_faults.specs.Kinds.{kind_of};
+ghost use Rattle.j39_faults.specs.FaultGroups.{kind_of};
 
 use j39_frame::Pgn;
 

@@ -1,7 +1,7 @@
 //! The text of the lamps (own).
 ghost use Rattle.std.specs.Prelude.{◌≡◌, ◌+◌, ◌≤◌, [], length};
 ghost use Rattle.arrayvec.specs.ArrayVec.{array_vec_len};
-ghost use Rattle.j39_faults.specs.LampSteps.{behind, with_words};
+ghost use Rattle.j39_faults.specs.LampText.{behind, with_words};
 ghost use Rattle.j39_faults.specs.Text.{is_flashing, is_on, lamp_words, lamps_on, lamps_text};
 
 use crate::lamps::{Flash, Lamp, LampState, Lamps};

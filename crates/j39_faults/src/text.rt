@@ -34,9 +34,9 @@ pub fn put_code<W: Sink>(
     code: Code,
     sink: &mut W,
 ) -> Result<(), DeviceFault>
-    ensures ok { OnOk result (Appends (W.held sink.old) (W.held sink.new)
+    ensures ok { OnOk result (Appends (W.written sink.old) (W.written sink.new)
         (code_text kind lamps (option_map (λ text. text.now) name.entry) code)) }
-    ensures err { OnErr result (AppendsFront (W.held sink.old) (W.held sink.new)
+    ensures err { OnErr result (AppendsFront (W.written sink.old) (W.written sink.new)
         (code_text kind lamps (option_map (λ text. text.now) name.entry) code)) }
     ensures mark { Marks result (W.has_failed sink.old) (W.has_failed sink.new) }
 {
@@ -52,8 +52,8 @@ pub fn put_code<W: Sink>(
 /// Writes that a message has no code (own), with no newline: `active none - -`, with the lamps that
 /// are on in the place of the last dash. After a fault a front of the text was written.
 pub fn put_no_code<W: Sink>(kind: Kind, lamps: Lamps, sink: &mut W) -> Result<(), DeviceFault>
-    ensures ok { OnOk result (Appends (W.held sink.old) (W.held sink.new) (no_code_text kind lamps)) }
-    ensures err { OnErr result (AppendsFront (W.held sink.old) (W.held sink.new) (no_code_text kind lamps)) }
+    ensures ok { OnOk result (Appends (W.written sink.old) (W.written sink.new) (no_code_text kind lamps)) }
+    ensures err { OnErr result (AppendsFront (W.written sink.old) (W.written sink.new) (no_code_text kind lamps)) }
     ensures mark { Marks result (W.has_failed sink.old) (W.has_failed sink.new) }
 {
     put_all(sink, no_code_text(kind, lamps).as_slice())
@@ -67,9 +67,9 @@ fn put_known<W: Sink>(
     fmi: u8,
     sink: &mut W,
 ) -> Result<(), DeviceFault>
-    ensures ok { OnOk result (Appends (W.held sink.old) (W.held sink.new) (columns.now
+    ensures ok { OnOk result (Appends (W.written sink.old) (W.written sink.new) (columns.now
         ++ name_text spn (option_map (λ text. text.now) name.entry) ++ meaning_text fmi)) }
-    ensures err { OnErr result (AppendsFront (W.held sink.old) (W.held sink.new) (columns.now
+    ensures err { OnErr result (AppendsFront (W.written sink.old) (W.written sink.new) (columns.now
         ++ name_text spn (option_map (λ text. text.now) name.entry) ++ meaning_text fmi)) }
     ensures mark { Marks result (W.has_failed sink.old) (W.has_failed sink.new) }
 {
@@ -79,9 +79,9 @@ fn put_known<W: Sink>(
 }
 
 fn put_name<W: Sink>(spn: u32, name: Option<&[u8]>, sink: &mut W) -> Result<(), DeviceFault>
-    ensures ok { OnOk result (Appends (W.held sink.old) (W.held sink.new)
+    ensures ok { OnOk result (Appends (W.written sink.old) (W.written sink.new)
         (name_text spn (option_map (λ text. text.now) name.entry))) }
-    ensures err { OnErr result (AppendsFront (W.held sink.old) (W.held sink.new)
+    ensures err { OnErr result (AppendsFront (W.written sink.old) (W.written sink.new)
         (name_text spn (option_map (λ text. text.now) name.entry))) }
     ensures mark { Marks result (W.has_failed sink.old) (W.has_failed sink.new) }
 {
@@ -92,8 +92,8 @@ fn put_name<W: Sink>(spn: u32, name: Option<&[u8]>, sink: &mut W) -> Result<(), 
 }
 
 fn put_meaning<W: Sink>(fmi: u8, sink: &mut W) -> Result<(), DeviceFault>
-    ensures ok { OnOk result (Appends (W.held sink.old) (W.held sink.new) (meaning_text fmi)) }
-    ensures err { OnErr result (AppendsFront (W.held sink.old) (W.held sink.new) (meaning_text fmi)) }
+    ensures ok { OnOk result (Appends (W.written sink.old) (W.written sink.new) (meaning_text fmi)) }
+    ensures err { OnErr result (AppendsFront (W.written sink.old) (W.written sink.new) (meaning_text fmi)) }
     ensures mark { Marks result (W.has_failed sink.old) (W.has_failed sink.new) }
 {
     put_all(sink, b": ")?;

@@ -15,7 +15,7 @@ use Rattle.j39_groups.specs.declared.table.Field.{Field}
 use Rattle.j39_groups.specs.declared.table.Field.TheVariants.{Number, Switch, Text, Texts}
 use Rattle.j39_groups.specs.declared.value.Value.{Value}
 use Rattle.j39_groups.specs.declared.table.LabelledRow.{LabelledRow}
-use Rattle.j39_groups.specs.CodeRows.{field_record, row_record}
+use Rattle.j39_groups.specs.TableChecks.{field_record, row_record}
 use Rattle.j39_groups.specs.Quick.{IsPlainField, IsQuick, IsShort, are_quick, is_plain_field, is_quick, reading_line, short_text}
 use Rattle.j39_groups.specs.Table.{the_table}
 use Rattle.j39_groups.specs.ValueText.{value_text}
@@ -23,7 +23,7 @@ use Rattle.j39_groups.proofs.ListLemmas.{part_of}
 use Rattle.j39_groups.proofs.TableLemmas.{field_sound}
 use Rattle.j39_groups.specs.Ranges.{is_valid}
 use Rattle.j39_groups.specs.Readings.{by_top_byte, number_meaning, readings_at, readings_in, readings_of, switch_meaning, values_at}
-use Rattle.j39_groups.specs.Shown.{value_of}
+use Rattle.j39_groups.specs.Models.{value_of}
 use Rattle.j39_groups.specs.Value.{ReadingRecord, SlotRecord, ValueRecord, on, off, error, reserved, indicator}
 
 pub short_if : (result : Option Value) (o : Option ValueRecord) → option_map value_of result ≡ o → IfSome o IsShort → IfSome result (λ v. IsShort (value_of v))

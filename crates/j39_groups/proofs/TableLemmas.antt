@@ -15,7 +15,7 @@ use Rattle.j39_groups.specs.declared.table.Row.{Row}
 use Rattle.j39_groups.specs.declared.table.TheConstants.{LOW_BYTES}
 use Rattle.j39_groups.specs.Row.{RowRecord}
 use Rattle.j39_groups.specs.Table.{the_table}
-use Rattle.j39_groups.specs.CodeRows.{is_sound_table, is_sound, IsSound, most_values, most_values_of}
+use Rattle.j39_groups.specs.TableChecks.{is_sound_table, is_sound, IsSound, most_values, most_values_of}
 use Rattle.j39_groups.specs.Readings.{is_network_group, is_reported_in}
 use Rattle.j39_groups.specs.Slots.{SizedSlotRecord, slot_at}
 use Rattle.j39_groups.proofs.ListLemmas.{lone, contains_filter_map}

@@ -7,7 +7,7 @@ use Rattle.std.proofs.lemmas.List.{map-append, take_more}
 use Rattle.std.proofs.lemmas.List.Concat.{flat_map-cons}
 use Rattle.std.proofs.lemmas.List.Folds.{flat_map-map, list_all_at}
 use Rattle.std.proofs.lemmas.Grind.{flat_map-append}
-use Rattle.j39_groups.specs.CodeRows.{row_record}
+use Rattle.j39_groups.specs.TableChecks.{row_record}
 use Rattle.j39_groups.specs.Quick.{IsQuick, are_quick, is_quick}
 use Rattle.j39_groups.specs.Readings.{readings_at, readings_in}
 use Rattle.j39_groups.specs.Table.{the_table}

@@ -11,13 +11,13 @@ pub mod Names
 pub mod ValueText
 pub mod Printed
 -- what the code's values show
-pub mod Shown
+pub mod Models
 pub mod ReadFields
 pub mod ReadRows
 pub mod ReadValues
 pub mod Visits
 -- the code's steps, below the rules
-pub mod CodeRows
+pub mod TableChecks
 pub mod Quick
 pub mod Marks
 pub mod ReadLines

@@ -8,7 +8,7 @@ use Rattle.j39_groups.specs.declared.short_text.ShortText.{ShortText}
 use Rattle.j39_groups.specs.declared.table.Field.{Field}
 use Rattle.j39_groups.specs.declared.table.Field.TheVariants.{Number, Switch, Text, Texts}
 use Rattle.j39_groups.specs.declared.table.LabelledRow.{LabelledRow}
-use Rattle.j39_groups.specs.CodeRows.{is_sound, IsSound}
+use Rattle.j39_groups.specs.TableChecks.{is_sound, IsSound}
 use Rattle.j39_groups.specs.Value.{ReadingRecord, ValueRecord, number, on, off, error, reserved, indicator, text}
 use Rattle.j39_groups.specs.ValueText.{value_text}
 

@@ -2,7 +2,7 @@
 use Rattle.j39_groups.specs.declared.read_value.ReadValue.{ReadValue}
 use Rattle.j39_groups.specs.declared.read_value.ReadValue.TheVariants.{Number, Plain}
 use Rattle.j39_groups.specs.ReadFields.{scale_record}
-use Rattle.j39_groups.specs.Shown.{value_of}
+use Rattle.j39_groups.specs.Models.{value_of}
 use Rattle.j39_groups.specs.Value.{ValueRecord, number}
 
 abbrev pub read_value_of : ReadValue → ValueRecord

@@ -2,8 +2,8 @@
 ghost use Rattle.std.specs.Prelude.{◌≡◌, ◌+◌, ◌-◌, ◌^◌, ◌<◌, ℕ, Some, IsTrue, IfSome, slice_get};
 ghost use Rattle.std.specs.Option.{option_map};
 ghost use Rattle.std.specs.List.{filter_map};
-ghost use Rattle.j39_groups.specs.CodeRows.{row_record, sized_slot_record, is_sound_table, IsSound, IsSoundCount};
-ghost use Rattle.j39_groups.specs.Shown.{slot_record};
+ghost use Rattle.j39_groups.specs.TableChecks.{row_record, sized_slot_record, is_sound_table, IsSound, IsSoundCount};
+ghost use Rattle.j39_groups.specs.Models.{slot_record};
 ghost use Rattle.j39_groups.specs.Slots.{slot_at, sized_slot_of_spn, slot_of_spn, IsAt, IsRawOf};
 
 use crate::field::{is_valid, top_byte};

@@ -3,9 +3,9 @@ ghost use Rattle.std.specs.Prelude.{◌≡◌, ◌+◌, ◌-◌, ◌/◌, ◌%�
 ghost use Rattle.std.specs.List.{list_all};
 ghost use Rattle.std.specs.Option.{option_map, option_and_then};
 ghost use Rattle.byteorder.specs.Endian.{little_number};
-ghost use Rattle.j39_groups.specs.CodeRows.{IsSoundNumber};
+ghost use Rattle.j39_groups.specs.TableChecks.{IsSoundNumber};
 ghost use Rattle.j39_groups.specs.Parts.{parts_of};
-ghost use Rattle.j39_groups.specs.Shown.{value_of, slot_record};
+ghost use Rattle.j39_groups.specs.Models.{value_of, slot_record};
 ghost use Rattle.j39_groups.specs.Ranges.{is_valid};
 ghost use Rattle.j39_groups.specs.Readings.{raw_number, number_meaning, by_top_byte, switch_meaning, text_meaning, filled_text_meaning};
 

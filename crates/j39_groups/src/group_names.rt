@@ -2,7 +2,7 @@
 ghost use Rattle.std.specs.Prelude.{◌≡◌, slice_get};
 ghost use Rattle.std.specs.List.{filter_map};
 ghost use Rattle.std.specs.Option.{option_copied};
-ghost use Rattle.j39_groups.specs.CodeRows.{row_record};
+ghost use Rattle.j39_groups.specs.TableChecks.{row_record};
 ghost use Rattle.j39_groups.specs.Names.{group_at};
 ghost use Rattle.j39_groups.specs.ReadRows.{read_row_record};
 

@@ -121,8 +121,8 @@ impl<'t> Groups<'t> {
     /// its SPN, where it stands in the payload, what a raw step is worth, the value of the raw number 0, the unit, and
     /// its name. After a fault a front was written.
     pub fn put<W: Sink>(&self, sink: &mut W) -> Result<(), DeviceFault>
-        ensures ok { OnOk result (Appends (W.held sink.old) (W.held sink.new) (rows_text self.now)) }
-        ensures err { OnErr result (AppendsFront (W.held sink.old) (W.held sink.new) (rows_text self.now)) }
+        ensures ok { OnOk result (Appends (W.written sink.old) (W.written sink.new) (rows_text self.now)) }
+        ensures err { OnErr result (AppendsFront (W.written sink.old) (W.written sink.new) (rows_text self.now)) }
         ensures mark { Marks result (W.has_failed sink.old) (W.has_failed sink.new) }
     {
         match &self.listed {
@@ -146,9 +146,9 @@ impl<'t> Groups<'t> {
     ) -> Result<u64, DeviceFault>
         requires { from ≤ 48 }
         ensures lines { IfOk result (λ n. n ≡ length (readings_in self.now (pgn_raw pgn) bytes.now)) }
-        ensures written { OnOk result (Appends (W.held sink.old) (W.held sink.new)
+        ensures written { OnOk result (Appends (W.written sink.old) (W.written sink.new)
             (flat_map (reading_line (drop from head.now)) (readings_in self.now (pgn_raw pgn) bytes.now))) }
-        ensures front { OnErr result (AppendsFront (W.held sink.old) (W.held sink.new)
+        ensures front { OnErr result (AppendsFront (W.written sink.old) (W.written sink.new)
             (flat_map (reading_line (drop from head.now)) (readings_in self.now (pgn_raw pgn) bytes.now))) }
         ensures mark { Marks result (W.has_failed sink.old) (W.has_failed sink.new) }
     {
@@ -307,9 +307,9 @@ fn put_built_in<W: Sink>(
 ) -> Result<u64, DeviceFault>
     requires { from ≤ 48 }
     ensures lines { IfOk result (λ n. n ≡ length (readings_in the_table (pgn_raw pgn) bytes.now)) }
-    ensures written { OnOk result (Appends (W.held sink.old) (W.held sink.new)
+    ensures written { OnOk result (Appends (W.written sink.old) (W.written sink.new)
         (flat_map (reading_line (drop from head.now)) (readings_in the_table (pgn_raw pgn) bytes.now))) }
-    ensures front { OnErr result (AppendsFront (W.held sink.old) (W.held sink.new)
+    ensures front { OnErr result (AppendsFront (W.written sink.old) (W.written sink.new)
         (flat_map (reading_line (drop from head.now)) (readings_in the_table (pgn_raw pgn) bytes.now))) }
     ensures mark { Marks result (W.has_failed sink.old) (W.has_failed sink.new) }
 {
@@ -327,9 +327,9 @@ fn put_built_in<W: Sink>(
 fn put_each<W: Sink>(head: &[u8], pgn: Pgn, bytes: &[u8], sink: &mut W) -> Result<u64, DeviceFault>
     requires { length head.now ≤ 48 }
     ensures lines { IfOk result (λ n. n ≡ length (readings_in the_table (pgn_raw pgn) bytes.now)) }
-    ensures written { OnOk result (Appends (W.held sink.old) (W.held sink.new)
+    ensures written { OnOk result (Appends (W.written sink.old) (W.written sink.new)
         (flat_map (reading_line head.now) (readings_in the_table (pgn_raw pgn) bytes.now))) }
-    ensures front { OnErr result (AppendsFront (W.held sink.old) (W.held sink.new)
+    ensures front { OnErr result (AppendsFront (W.written sink.old) (W.written sink.new)
         (flat_map (reading_line head.now) (readings_in the_table (pgn_raw pgn) bytes.now))) }
     ensures mark { Marks result (W.has_failed sink.old) (W.has_failed sink.new) }
 {
@@ -352,10 +352,10 @@ fn put_read<W: Sink>(
     requires { from ≤ 48 }
     ensures lines { IfOk result (λ n.
         n ≡ length (readings_in (map read_row_record (items_of table.now.rows)) (pgn_raw pgn) bytes.now)) }
-    ensures written { OnOk result (Appends (W.held sink.old) (W.held sink.new)
+    ensures written { OnOk result (Appends (W.written sink.old) (W.written sink.new)
         (flat_map (reading_line (drop from head.now))
         (readings_in (map read_row_record (items_of table.now.rows)) (pgn_raw pgn) bytes.now))) }
-    ensures front { OnErr result (AppendsFront (W.held sink.old) (W.held sink.new)
+    ensures front { OnErr result (AppendsFront (W.written sink.old) (W.written sink.new)
         (flat_map (reading_line (drop from head.now))
         (readings_in (map read_row_record (items_of table.now.rows)) (pgn_raw pgn) bytes.now))) }
     ensures mark { Marks result (W.has_failed sink.old) (W.has_failed sink.new) }
@@ -388,9 +388,9 @@ fn put_group<W: Sink>(
     requires few { length rows.now ≤ 65536 }
     requires from { from ≤ 48 }
     ensures lines { IfOk result (λ n. n ≡ length (readings_in (map read_row_record rows.now) pgn bytes.now)) }
-    ensures written { OnOk result (Appends (W.held sink.old) (W.held sink.new)
+    ensures written { OnOk result (Appends (W.written sink.old) (W.written sink.new)
         (flat_map (reading_line (drop from head.now)) (readings_in (map read_row_record rows.now) pgn bytes.now))) }
-    ensures front { OnErr result (AppendsFront (W.held sink.old) (W.held sink.new)
+    ensures front { OnErr result (AppendsFront (W.written sink.old) (W.written sink.new)
         (flat_map (reading_line (drop from head.now)) (readings_in (map read_row_record rows.now) pgn bytes.now))) }
     ensures mark { Marks result (W.has_failed sink.old) (W.has_failed sink.new) }
 {

@@ -4,7 +4,7 @@ ghost use Rattle.std.specs.Io.KnownBytes.{Appends};
 ghost use Rattle.std.specs.List.{flat_map};
 ghost use Rattle.j39_io.specs.Device.{AppendsFront, Marks};
 ghost use Rattle.j39_groups.specs.Quick.{reading_line};
-ghost use Rattle.j39_groups.specs.Shown.{reading_of};
+ghost use Rattle.j39_groups.specs.Models.{reading_of};
 
 use crate::text::put_value;
 use crate::value::Reading;
@@ -19,9 +19,9 @@ pub(crate) fn put_found<W: Sink>(
     sink: &mut W,
 ) -> Result<(), DeviceFault>
     requires { length head.now ≤ 48 }
-    ensures written { OnOk result (Appends (W.held sink.old) (W.held sink.new)
+    ensures written { OnOk result (Appends (W.written sink.old) (W.written sink.new)
         (flat_map (λ r. reading_line head.now (reading_of r)) found.now)) }
-    ensures front { OnErr result (AppendsFront (W.held sink.old) (W.held sink.new)
+    ensures front { OnErr result (AppendsFront (W.written sink.old) (W.written sink.new)
         (flat_map (λ r. reading_line head.now (reading_of r)) found.now)) }
     ensures mark { Marks result (W.has_failed sink.old) (W.has_failed sink.new) }
 {
@@ -34,9 +34,9 @@ pub(crate) fn put_found<W: Sink>(
 /// Writes the line of one reading.
 fn put_reading<W: Sink>(head: &[u8], reading: &Reading<'_>, sink: &mut W) -> Result<(), DeviceFault>
     requires { length head.now ≤ 48 }
-    ensures written { OnOk result (Appends (W.held sink.old) (W.held sink.new)
+    ensures written { OnOk result (Appends (W.written sink.old) (W.written sink.new)
         (reading_line head.now (reading_of reading.now))) }
-    ensures front { OnErr result (AppendsFront (W.held sink.old) (W.held sink.new)
+    ensures front { OnErr result (AppendsFront (W.written sink.old) (W.written sink.new)
         (reading_line head.now (reading_of reading.now))) }
     ensures mark { Marks result (W.has_failed sink.old) (W.has_failed sink.new) }
 {

@@ -1,6 +1,6 @@
 //! What parameters are called.
 ghost use Rattle.std.specs.Prelude.{◌≡◌, map, option_map};
-ghost use Rattle.j39_groups.specs.CodeRows.{row_record};
+ghost use Rattle.j39_groups.specs.TableChecks.{row_record};
 ghost use Rattle.j39_groups.specs.Names.{parameter_name};
 ghost use Rattle.j39_groups.specs.ReadRows.{read_row_record};
 

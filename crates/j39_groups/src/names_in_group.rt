@@ -2,7 +2,7 @@
 ghost use Rattle.std.specs.Prelude.{◌≡◌, map, slice_get};
 ghost use Rattle.std.specs.List.{filter_map};
 ghost use Rattle.std.specs.Option.{option_map};
-ghost use Rattle.j39_groups.specs.CodeRows.{row_record};
+ghost use Rattle.j39_groups.specs.TableChecks.{row_record};
 ghost use Rattle.j39_groups.specs.Names.{name_at, name_in};
 ghost use Rattle.j39_groups.specs.ReadRows.{read_row_record};
 ghost use Rattle.j39_groups.specs.Table.{the_table};

@@ -5,10 +5,10 @@ ghost use Rattle.std.specs.Option.{option_map, option_to_list};
 ghost use Rattle.j39_io.specs.Backwards.{WritesBefore};
 ghost use Rattle.j39_io.specs.Chars.{newline};
 ghost use Rattle.j39_frame.specs.Pgn.{pgn_raw};
-ghost use Rattle.j39_groups.specs.CodeRows.{field_record};
+ghost use Rattle.j39_groups.specs.TableChecks.{field_record};
 ghost use Rattle.j39_groups.specs.Quick.{IsQuick, IsQuickField, IsShort, is_quick_group, reading_line, short_text};
 ghost use Rattle.j39_groups.specs.Readings.{readings_of, values_at};
-ghost use Rattle.j39_groups.specs.Shown.{value_of};
+ghost use Rattle.j39_groups.specs.Models.{value_of};
 ghost use Rattle.j39_groups.specs.ValueText.{value_text};
 
 use crate::field::{number_at, switch_at};

@@ -1,6 +1,6 @@
 //! The rows of the groups whose lines are made in one block, found by a `match`.
 ghost use Rattle.std.specs.Prelude.{◌≡◌, ◌≤◌, ◌-◌, ◌==◌, IfSome, IsTrue, drop, filter, is_some, length, map, take};
-ghost use Rattle.j39_groups.specs.CodeRows.{row_record};
+ghost use Rattle.j39_groups.specs.TableChecks.{row_record};
 ghost use Rattle.j39_groups.specs.Quick.{are_quick, is_quick_group};
 ghost use Rattle.j39_groups.specs.Table.{the_table};
 

@@ -6,7 +6,7 @@ ghost use Rattle.j39_io.specs.Chars.{newline};
 ghost use Rattle.j39_groups.specs.Quick.{IsShort, reading_line};
 ghost use Rattle.j39_groups.specs.ReadFields.{scale_record};
 ghost use Rattle.j39_groups.specs.ReadValues.{read_value_of};
-ghost use Rattle.j39_groups.specs.Shown.{value_of};
+ghost use Rattle.j39_groups.specs.Models.{value_of};
 ghost use Rattle.j39_groups.specs.ValueText.{number_text, value_text};
 
 use crate::quick_lines::HEAD;

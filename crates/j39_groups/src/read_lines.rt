@@ -24,7 +24,7 @@ use arrayvec::ArrayVec;
 use j39_io::{DeviceFault, Sink, put_all};
 
 /// The most rows that are written in one block: more do not fit as a rule.
-const PART: usize = 8;
+const CHUNK: usize = 8;
 
 /// Writes a line for each reading of a payload by these rows, and answers how many.
 pub(crate) fn put_rows<W: Sink>(
@@ -38,17 +38,17 @@ pub(crate) fn put_rows<W: Sink>(
     requires from { from ≤ 48 }
     requires few { length rows.now ≤ 65536 }
     ensures lines { IfOk result (λ n. n ≡ length (flat_map (row_readings bytes.now) rows.now)) }
-    ensures written { OnOk result (Appends (W.held sink.old) (W.held sink.new)
+    ensures written { OnOk result (Appends (W.written sink.old) (W.written sink.new)
         (flat_map (row_lines (drop from head.now) bytes.now) rows.now)) }
-    ensures front { OnErr result (AppendsFront (W.held sink.old) (W.held sink.new)
+    ensures front { OnErr result (AppendsFront (W.written sink.old) (W.written sink.new)
         (flat_map (row_lines (drop from head.now) bytes.now) rows.now)) }
     ensures mark { Marks result (W.has_failed sink.old) (W.has_failed sink.new) }
 {
     let mut lines = 0u64;
     let mut at = 0;
     'parts: while at < rows.len() {
-        let end = rows.len().min(at + PART);
-        let more = put_part(block, &rows[at..end], head, from, bytes, sink)?;
+        let end = rows.len().min(at + CHUNK);
+        let more = put_chunk(block, &rows[at..end], head, from, bytes, sink)?;
         lines += more;
         at = end;
     }
@@ -58,7 +58,7 @@ pub(crate) fn put_rows<W: Sink>(
 /// Writes a line for each reading of a payload by these rows, and answers how many: in one piece where each line is
 /// short and they fit.
 #[inline(always)]
-fn put_part<W: Sink>(
+fn put_chunk<W: Sink>(
     block: &mut [u8; LINES],
     rows: &[ReadRow<'_>],
     head: &[u8; HEAD],
@@ -70,9 +70,9 @@ fn put_part<W: Sink>(
     requires few { length rows.now ≤ 65536 }
     ensures lines { IfOk result (λ n. n ≡ length (flat_map (row_readings bytes.now) rows.now)) }
     ensures few { IfOk result (λ n. n ≤ 32 * length rows.now) }
-    ensures written { OnOk result (Appends (W.held sink.old) (W.held sink.new)
+    ensures written { OnOk result (Appends (W.written sink.old) (W.written sink.new)
         (flat_map (row_lines (drop from head.now) bytes.now) rows.now)) }
-    ensures front { OnErr result (AppendsFront (W.held sink.old) (W.held sink.new)
+    ensures front { OnErr result (AppendsFront (W.written sink.old) (W.written sink.new)
         (flat_map (row_lines (drop from head.now) bytes.now) rows.now)) }
     ensures mark { Marks result (W.has_failed sink.old) (W.has_failed sink.new) }
 {
@@ -99,9 +99,9 @@ fn put_each_row<W: Sink>(
     requires few { length rows.now ≤ 65536 }
     ensures lines { IfOk result (λ n. n ≡ length (flat_map (row_readings bytes.now) rows.now)) }
     ensures few { IfOk result (λ n. n ≤ 32 * length rows.now) }
-    ensures written { OnOk result (Appends (W.held sink.old) (W.held sink.new)
+    ensures written { OnOk result (Appends (W.written sink.old) (W.written sink.new)
         (flat_map (row_lines (drop from head.now) bytes.now) rows.now)) }
-    ensures front { OnErr result (AppendsFront (W.held sink.old) (W.held sink.new)
+    ensures front { OnErr result (AppendsFront (W.written sink.old) (W.written sink.new)
         (flat_map (row_lines (drop from head.now) bytes.now) rows.now)) }
     ensures mark { Marks result (W.has_failed sink.old) (W.has_failed sink.new) }
 {
@@ -125,9 +125,9 @@ fn put_row<W: Sink>(
     requires { from ≤ 48 }
     ensures lines { IfOk result (λ n. n ≡ length (row_readings bytes.now row.now)) }
     ensures few { IfOk result (λ n. n ≤ 32) }
-    ensures written { OnOk result (Appends (W.held sink.old) (W.held sink.new)
+    ensures written { OnOk result (Appends (W.written sink.old) (W.written sink.new)
         (row_lines (drop from head.now) bytes.now row.now)) }
-    ensures front { OnErr result (AppendsFront (W.held sink.old) (W.held sink.new)
+    ensures front { OnErr result (AppendsFront (W.written sink.old) (W.written sink.new)
         (row_lines (drop from head.now) bytes.now row.now)) }
     ensures mark { Marks result (W.has_failed sink.old) (W.has_failed sink.new) }
 {
@@ -154,9 +154,9 @@ fn put_texts<W: Sink>(
     requires few { count ≤ 31 }
     ensures lines { IfOk result (λ n. n ≡ length (text_readings spn bytes.now count)) }
     ensures few { IfOk result (λ n. n ≤ 32) }
-    ensures written { OnOk result (Appends (W.held sink.old) (W.held sink.new)
+    ensures written { OnOk result (Appends (W.written sink.old) (W.written sink.new)
         (flat_map (reading_line head.now) (text_readings spn bytes.now count))) }
-    ensures front { OnErr result (AppendsFront (W.held sink.old) (W.held sink.new)
+    ensures front { OnErr result (AppendsFront (W.written sink.old) (W.written sink.new)
         (flat_map (reading_line head.now) (text_readings spn bytes.now count))) }
     ensures mark { Marks result (W.has_failed sink.old) (W.has_failed sink.new) }
 {
@@ -180,9 +180,9 @@ fn put_one<W: Sink>(
     requires one { HasOneValue row.now.field }
     ensures lines { IfOk result (λ n. n ≡ length (row_readings bytes.now row.now)) }
     ensures few { IfOk result (λ n. n ≤ 32) }
-    ensures written { OnOk result (Appends (W.held sink.old) (W.held sink.new)
+    ensures written { OnOk result (Appends (W.written sink.old) (W.written sink.new)
         (row_lines (drop from head.now) bytes.now row.now)) }
-    ensures front { OnErr result (AppendsFront (W.held sink.old) (W.held sink.new)
+    ensures front { OnErr result (AppendsFront (W.written sink.old) (W.written sink.new)
         (row_lines (drop from head.now) bytes.now row.now)) }
     ensures mark { Marks result (W.has_failed sink.old) (W.has_failed sink.new) }
 {
@@ -205,9 +205,9 @@ fn put_value_line<W: Sink>(
     sink: &mut W,
 ) -> Result<(), DeviceFault>
     requires { from ≤ 48 }
-    ensures written { OnOk result (Appends (W.held sink.old) (W.held sink.new)
+    ensures written { OnOk result (Appends (W.written sink.old) (W.written sink.new)
         (reading_line (drop from head.now) (record { spn = spn; value = read_value_of value.entry }))) }
-    ensures front { OnErr result (AppendsFront (W.held sink.old) (W.held sink.new)
+    ensures front { OnErr result (AppendsFront (W.written sink.old) (W.written sink.new)
         (reading_line (drop from head.now) (record { spn = spn; value = read_value_of value.entry }))) }
     ensures mark { Marks result (W.has_failed sink.old) (W.has_failed sink.new) }
 {
@@ -226,9 +226,9 @@ fn put_parts_line<W: Sink>(
     sink: &mut W,
 ) -> Result<(), DeviceFault>
     requires { length head.now ≤ 48 }
-    ensures written { OnOk result (Appends (W.held sink.old) (W.held sink.new)
+    ensures written { OnOk result (Appends (W.written sink.old) (W.written sink.new)
         (reading_line head.now (record { spn = spn; value = read_value_of value.entry }))) }
-    ensures front { OnErr result (AppendsFront (W.held sink.old) (W.held sink.new)
+    ensures front { OnErr result (AppendsFront (W.written sink.old) (W.written sink.new)
         (reading_line head.now (record { spn = spn; value = read_value_of value.entry }))) }
     ensures mark { Marks result (W.has_failed sink.old) (W.has_failed sink.new) }
 {
@@ -249,9 +249,9 @@ fn put_number_line<'x, W: Sink>(
     unit: &'x [u8],
     sink: &mut W,
 ) -> Result<(), DeviceFault>
-    ensures written { OnOk result (Appends (W.held sink.old) (W.held sink.new)
+    ensures written { OnOk result (Appends (W.written sink.old) (W.written sink.new)
         (number_line head.now spn text.now unit.now)) }
-    ensures front { OnErr result (AppendsFront (W.held sink.old) (W.held sink.new)
+    ensures front { OnErr result (AppendsFront (W.written sink.old) (W.written sink.new)
         (number_line head.now spn text.now unit.now)) }
     ensures mark { Marks result (W.has_failed sink.old) (W.has_failed sink.new) }
 {

@@ -21,9 +21,9 @@ use j39_io::printing::push_number;
 
 /// Writes a table of these rows.
 pub(crate) fn put_read_table<W: Sink>(rows: &[ReadRow<'_>], sink: &mut W) -> Result<(), DeviceFault>
-    ensures ok { OnOk result (Appends (W.held sink.old) (W.held sink.new)
+    ensures ok { OnOk result (Appends (W.written sink.old) (W.written sink.new)
         (rows_text (map read_row_record rows.now))) }
-    ensures err { OnErr result (AppendsFront (W.held sink.old) (W.held sink.new)
+    ensures err { OnErr result (AppendsFront (W.written sink.old) (W.written sink.new)
         (rows_text (map read_row_record rows.now))) }
     ensures mark { Marks result (W.has_failed sink.old) (W.has_failed sink.new) }
 {
@@ -32,9 +32,9 @@ pub(crate) fn put_read_table<W: Sink>(rows: &[ReadRow<'_>], sink: &mut W) -> Res
 
 /// Writes a line for each row.
 fn put_read_rows<W: Sink>(rows: &[ReadRow<'_>], sink: &mut W) -> Result<(), DeviceFault>
-    ensures ok { OnOk result (Appends (W.held sink.old) (W.held sink.new)
+    ensures ok { OnOk result (Appends (W.written sink.old) (W.written sink.new)
         (flat_map (λ row. row_text (read_row_record row)) rows.now)) }
-    ensures err { OnErr result (AppendsFront (W.held sink.old) (W.held sink.new)
+    ensures err { OnErr result (AppendsFront (W.written sink.old) (W.written sink.new)
         (flat_map (λ row. row_text (read_row_record row)) rows.now)) }
     ensures mark { Marks result (W.has_failed sink.old) (W.has_failed sink.new) }
 {
@@ -46,9 +46,9 @@ fn put_read_rows<W: Sink>(rows: &[ReadRow<'_>], sink: &mut W) -> Result<(), Devi
 
 /// Writes a row's line.
 fn put_read_row<W: Sink>(row: &ReadRow<'_>, sink: &mut W) -> Result<(), DeviceFault>
-    ensures ok { OnOk result (Appends (W.held sink.old) (W.held sink.new)
+    ensures ok { OnOk result (Appends (W.written sink.old) (W.written sink.new)
         (row_text (read_row_record row.now))) }
-    ensures err { OnErr result (AppendsFront (W.held sink.old) (W.held sink.new)
+    ensures err { OnErr result (AppendsFront (W.written sink.old) (W.written sink.new)
         (row_text (read_row_record row.now))) }
     ensures mark { Marks result (W.has_failed sink.old) (W.has_failed sink.new) }
 {

@@ -5,7 +5,7 @@ ghost use Rattle.byteorder.specs.Endian.{little_number};
 ghost use Rattle.j39_groups.specs.ReadFields.{IsSoundRead, IsSoundBytes, IsSoundBits, HasOneValue, largest, read_field_record, scale_record};
 ghost use Rattle.j39_groups.specs.ReadValues.{read_value_of};
 ghost use Rattle.j39_groups.specs.Readings.{bits_meaning, by_top_byte, number_meaning, raw_bits, raw_number, values_at};
-ghost use Rattle.j39_groups.specs.Shown.{value_of};
+ghost use Rattle.j39_groups.specs.Models.{value_of};
 
 use crate::field::{is_valid, raw_number, raw_of, switch_at, text_at, top_byte};
 use crate::read_field::ReadField;

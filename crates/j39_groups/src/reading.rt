@@ -6,10 +6,10 @@ ghost use Rattle.std.specs.Option.{option_map, option_to_list};
 ghost use Rattle.arrayvec.specs.ArrayVec.{array_vec_len};
 ghost use Rattle.j39_frame.specs.Pgn.{pgn_raw};
 ghost use Rattle.j39_groups.specs.Table.{the_table};
-ghost use Rattle.j39_groups.specs.CodeRows.{row_record, IsSound, is_listable, most_values, is_sound_table};
+ghost use Rattle.j39_groups.specs.TableChecks.{row_record, IsSound, is_listable, most_values, is_sound_table};
 ghost use Rattle.j39_groups.specs.Readings.{is_reported_group, readings_of, readings_at, filled_text_meaning};
 ghost use Rattle.j39_groups.specs.Parts.{parts_of};
-ghost use Rattle.j39_groups.specs.Shown.{value_of, reading_of};
+ghost use Rattle.j39_groups.specs.Models.{value_of, reading_of};
 
 use crate::field::{bytes_from, filled_text_of, number_at, switch_at, text_at};
 use crate::table::{Field, LOW_BYTES, Row, TABLE};

@@ -1,7 +1,7 @@
 //! The rows of some parameters, out of a table.
 ghost use Rattle.std.specs.Prelude.{◌≡◌, ◌≤◌, IfOk, IsTrue, length, map, true};
 ghost use Rattle.std.specs.List.{list_all};
-ghost use Rattle.j39_groups.specs.CodeRows.{field_record, is_listable, is_listable_field, row_record};
+ghost use Rattle.j39_groups.specs.TableChecks.{field_record, is_listable, is_listable_field, row_record};
 ghost use Rattle.j39_groups.specs.ReadFields.{is_sound_read, read_field_record};
 ghost use Rattle.j39_groups.specs.ReadRows.{read_row_record};
 ghost use Rattle.j39_groups.specs.Readings.{is_among, rows_of_spns};

@@ -3,7 +3,7 @@ ghost use Rattle.std.specs.Prelude.{◌≡◌, ◌+◌, ◌≤◌, ◌++◌, ◌
 ghost use Rattle.j39_io.specs.Backwards.{WritesBefore};
 ghost use Rattle.j39_io.specs.Chars.{newline};
 ghost use Rattle.j39_groups.specs.Quick.{IsShort, short_text};
-ghost use Rattle.j39_groups.specs.Shown.{slot_record, unit_text, value_of};
+ghost use Rattle.j39_groups.specs.Models.{slot_record, unit_text, value_of};
 ghost use Rattle.j39_groups.specs.ValueText.{magnitude_text, number_text, value_text};
 
 use crate::slot::{Slot, Unit};

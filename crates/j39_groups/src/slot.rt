@@ -1,7 +1,7 @@
 //! Slots: the scale, the places and the unit of a number (J1939-71).
 ghost use Rattle.std.specs.Prelude.{◌≡◌, ◌+ℤ◌, ◌*ℤ◌, ◌*◌, ◌<◌, ◌≤◌, ◌^◌, pos, length, ℕ, Some, IfSome};
 ghost use Rattle.j39_groups.specs.ReadFields.{scale_record};
-ghost use Rattle.j39_groups.specs.Shown.{slot_record, unit_text};
+ghost use Rattle.j39_groups.specs.Models.{slot_record, unit_text};
 ghost use Rattle.j39_groups.specs.Slots.{IsAt};
 
 use crate::scale::Scale;

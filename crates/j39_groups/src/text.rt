@@ -5,7 +5,7 @@ ghost use Rattle.std.specs.List.{flat_map};
 ghost use Rattle.std.specs.Fmt.{decimal, digit_glyph};
 ghost use Rattle.arrayvec.specs.ArrayVec.{array_vec_len};
 ghost use Rattle.j39_io.specs.Device.{Marks, AppendsFront};
-ghost use Rattle.j39_groups.specs.Shown.{value_of, slot_record};
+ghost use Rattle.j39_groups.specs.Models.{value_of, slot_record};
 ghost use Rattle.j39_groups.specs.ValueText.{value_text, number_text, scaled_text, magnitude_text, byte_text, is_plain, quoted};
 
 use crate::slot::Slot;
@@ -21,8 +21,8 @@ pub type Text = ArrayVec<u8, 288>;
 /// quotes. After a fault a front of the text was written.
 #[tactic(auto, unfolding(crate::specs::ValueText::value_text))]
 pub fn put_value<W: Sink>(value: &Value<'_>, sink: &mut W) -> Result<(), DeviceFault>
-    ensures ok { OnOk result (Appends (W.held sink.old) (W.held sink.new) (value_text (value_of value.now))) }
-    ensures err { OnErr result (AppendsFront (W.held sink.old) (W.held sink.new) (value_text (value_of value.now))) }
+    ensures ok { OnOk result (Appends (W.written sink.old) (W.written sink.new) (value_text (value_of value.now))) }
+    ensures err { OnErr result (AppendsFront (W.written sink.old) (W.written sink.new) (value_text (value_of value.now))) }
     ensures mark { Marks result (W.has_failed sink.old) (W.has_failed sink.new) }
 {
     match *value {
@@ -88,8 +88,8 @@ fn push_digit(out: &mut Text, digit: u64)
 
 /// Writes a text in quotes.
 fn put_quoted<W: Sink>(text: &[u8], sink: &mut W) -> Result<(), DeviceFault>
-    ensures ok { OnOk result (Appends (W.held sink.old) (W.held sink.new) (quoted text.now)) }
-    ensures err { OnErr result (AppendsFront (W.held sink.old) (W.held sink.new) (quoted text.now)) }
+    ensures ok { OnOk result (Appends (W.written sink.old) (W.written sink.new) (quoted text.now)) }
+    ensures err { OnErr result (AppendsFront (W.written sink.old) (W.written sink.new) (quoted text.now)) }
     ensures mark { Marks result (W.has_failed sink.old) (W.has_failed sink.new) }
 {
     put_all(sink, b"\"")?;
@@ -99,8 +99,8 @@ fn put_quoted<W: Sink>(text: &[u8], sink: &mut W) -> Result<(), DeviceFault>
 
 /// Writes each byte as it is or escaped.
 fn put_escaped<W: Sink>(text: &[u8], sink: &mut W) -> Result<(), DeviceFault>
-    ensures ok { OnOk result (Appends (W.held sink.old) (W.held sink.new) (flat_map byte_text text.now)) }
-    ensures err { OnErr result (AppendsFront (W.held sink.old) (W.held sink.new) (flat_map byte_text text.now)) }
+    ensures ok { OnOk result (Appends (W.written sink.old) (W.written sink.new) (flat_map byte_text text.now)) }
+    ensures err { OnErr result (AppendsFront (W.written sink.old) (W.written sink.new) (flat_map byte_text text.now)) }
     ensures mark { Marks result (W.has_failed sink.old) (W.has_failed sink.new) }
 {
     for &byte in text {

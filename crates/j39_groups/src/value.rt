@@ -34,7 +34,7 @@ pub struct Reading<'a> {
 impl Default for Reading<'_> {
     ghost use Rattle.std.specs.Prelude.{◌≡◌};
     ghost use Rattle.j39_groups.specs.Value.{ReadingRecord, reserved};
-    ghost use Rattle.j39_groups.specs.Shown.{reading_of};
+    ghost use Rattle.j39_groups.specs.Models.{reading_of};
 
     ghost is_default = { λ reading. reading_of reading ≡ record { spn = 0; value = reserved } };
 

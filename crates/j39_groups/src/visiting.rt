@@ -3,12 +3,12 @@ ghost use Rattle.std.specs.Prelude.{◌≡◌, ◌∷◌, [], ℕ, List, ◌≤�
 ghost use Rattle.std.specs.List.{flat_map};
 ghost use Rattle.std.specs.Option.{option_map, option_to_list};
 ghost use Rattle.j39_frame.specs.Pgn.{pgn_raw};
-ghost use Rattle.j39_groups.specs.CodeRows.{field_record};
+ghost use Rattle.j39_groups.specs.TableChecks.{field_record};
 ghost use Rattle.j39_groups.specs.Quick.{IsQuickField};
 ghost use Rattle.j39_groups.specs.ReadLines.{row_readings, text_readings};
 ghost use Rattle.j39_groups.specs.ReadValues.{read_value_of};
 ghost use Rattle.j39_groups.specs.Readings.{readings_of, values_at};
-ghost use Rattle.j39_groups.specs.Shown.{reading_of};
+ghost use Rattle.j39_groups.specs.Models.{reading_of};
 ghost use Rattle.j39_groups.specs.Value.{ReadingRecord};
 ghost use Rattle.j39_groups.specs.Visits.{Stops, Takes, visited};
 

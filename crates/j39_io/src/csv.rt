@@ -10,9 +10,9 @@ use crate::device::{DeviceFault, Sink, put_all};
 /// Writes a record: the first field and those behind it, with a comma between each two, one in quotes where it has a
 /// comma, a quote or an end of line, and an end of line behind them (RFC 4180, 2). After a fault a front of it was written.
 pub fn put_record<W: Sink>(first: &[u8], later: &[&[u8]], sink: &mut W) -> Result<(), DeviceFault>
-    ensures ok { OnOk result (Appends (W.held sink.old) (W.held sink.new)
+    ensures ok { OnOk result (Appends (W.written sink.old) (W.written sink.new)
         (record_text first.now (map (λ field. field.now) later.now))) }
-    ensures err { OnErr result (AppendsFront (W.held sink.old) (W.held sink.new)
+    ensures err { OnErr result (AppendsFront (W.written sink.old) (W.written sink.new)
         (record_text first.now (map (λ field. field.now) later.now))) }
     ensures mark { Marks result (W.has_failed sink.old) (W.has_failed sink.new) }
 {
@@ -23,9 +23,9 @@ pub fn put_record<W: Sink>(first: &[u8], later: &[&[u8]], sink: &mut W) -> Resul
 
 /// Writes the fields behind the first.
 fn put_later<W: Sink>(fields: &[&[u8]], sink: &mut W) -> Result<(), DeviceFault>
-    ensures ok { OnOk result (Appends (W.held sink.old) (W.held sink.new)
+    ensures ok { OnOk result (Appends (W.written sink.old) (W.written sink.new)
         (flat_map (λ field. later_text field.now) fields.now)) }
-    ensures err { OnErr result (AppendsFront (W.held sink.old) (W.held sink.new)
+    ensures err { OnErr result (AppendsFront (W.written sink.old) (W.written sink.new)
         (flat_map (λ field. later_text field.now) fields.now)) }
     ensures mark { Marks result (W.has_failed sink.old) (W.has_failed sink.new) }
 {
@@ -37,8 +37,8 @@ fn put_later<W: Sink>(fields: &[&[u8]], sink: &mut W) -> Result<(), DeviceFault>
 
 /// Writes a comma and a field: one more of a record that has begun. After a fault a front of that was written.
 pub fn put_behind_comma<W: Sink>(field: &[u8], sink: &mut W) -> Result<(), DeviceFault>
-    ensures ok { OnOk result (Appends (W.held sink.old) (W.held sink.new) (later_text field.now)) }
-    ensures err { OnErr result (AppendsFront (W.held sink.old) (W.held sink.new) (later_text field.now)) }
+    ensures ok { OnOk result (Appends (W.written sink.old) (W.written sink.new) (later_text field.now)) }
+    ensures err { OnErr result (AppendsFront (W.written sink.old) (W.written sink.new) (later_text field.now)) }
     ensures mark { Marks result (W.has_failed sink.old) (W.has_failed sink.new) }
 {
     put_all(sink, b",")?;
@@ -47,8 +47,8 @@ pub fn put_behind_comma<W: Sink>(field: &[u8], sink: &mut W) -> Result<(), Devic
 
 #[tactic(auto, unfolding(crate::specs::Records::field_text))]
 fn put_field<W: Sink>(field: &[u8], sink: &mut W) -> Result<(), DeviceFault>
-    ensures ok { OnOk result (Appends (W.held sink.old) (W.held sink.new) (field_text field.now)) }
-    ensures err { OnErr result (AppendsFront (W.held sink.old) (W.held sink.new) (field_text field.now)) }
+    ensures ok { OnOk result (Appends (W.written sink.old) (W.written sink.new) (field_text field.now)) }
+    ensures err { OnErr result (AppendsFront (W.written sink.old) (W.written sink.new) (field_text field.now)) }
     ensures mark { Marks result (W.has_failed sink.old) (W.has_failed sink.new) }
 {
     if has_special(field) {
@@ -66,8 +66,8 @@ fn has_special(field: &[u8]) -> bool
 }
 
 fn put_quoted<W: Sink>(field: &[u8], sink: &mut W) -> Result<(), DeviceFault>
-    ensures ok { OnOk result (Appends (W.held sink.old) (W.held sink.new) (in_quotes field.now)) }
-    ensures err { OnErr result (AppendsFront (W.held sink.old) (W.held sink.new) (in_quotes field.now)) }
+    ensures ok { OnOk result (Appends (W.written sink.old) (W.written sink.new) (in_quotes field.now)) }
+    ensures err { OnErr result (AppendsFront (W.written sink.old) (W.written sink.new) (in_quotes field.now)) }
     ensures mark { Marks result (W.has_failed sink.old) (W.has_failed sink.new) }
 {
     put_all(sink, b"\"")?;
@@ -77,8 +77,8 @@ fn put_quoted<W: Sink>(field: &[u8], sink: &mut W) -> Result<(), DeviceFault>
 
 /// Writes the bytes with each quote twice.
 fn put_doubled<W: Sink>(field: &[u8], sink: &mut W) -> Result<(), DeviceFault>
-    ensures ok { OnOk result (Appends (W.held sink.old) (W.held sink.new) (flat_map quoted_byte field.now)) }
-    ensures err { OnErr result (AppendsFront (W.held sink.old) (W.held sink.new)
+    ensures ok { OnOk result (Appends (W.written sink.old) (W.written sink.new) (flat_map quoted_byte field.now)) }
+    ensures err { OnErr result (AppendsFront (W.written sink.old) (W.written sink.new)
         (flat_map quoted_byte field.now)) }
     ensures mark { Marks result (W.has_failed sink.old) (W.has_failed sink.new) }
 {

@@ -29,8 +29,8 @@ pub trait Source {
 
 /// What takes bytes, one write or flush at a time.
 pub trait Sink {
-    // The bytes that are held, where the type tells them.
-    ghost held: { Self → Option (List ℕ) };
+    // The bytes that were written, where the type tells them.
+    ghost written: { Self → Option (List ℕ) };
 
     // Whether a fault has come.
     ghost has_failed: { Self → Bool };
@@ -43,13 +43,13 @@ pub trait Sink {
     fn put(&mut self, bytes: &[u8]) -> Result<usize, DeviceFault>
         ensures bound { WritesAtMost result bytes.now }
         ensures some { IfOk result (λ n. 0 < length bytes.now → 0 < n) }
-        ensures bytes { WriteAppends (held self.old) (held self.new) result bytes.now }
+        ensures bytes { WriteAppends (written self.old) (written self.new) result bytes.now }
         ensures waits { OnOk result (is_flushed self.new ≡ false) }
         ensures mark { Marks result (has_failed self.old) (has_failed self.new) };
 
     /// Passes on what is buffered. Adds no byte, fault or none.
     fn flush(&mut self) -> Result<(), DeviceFault>
-        ensures bytes { Keeps (held self.old) (held self.new) }
+        ensures bytes { Keeps (written self.old) (written self.new) }
         ensures flushed { OnOk result (is_flushed self.new ≡ true) }
         ensures mark { Marks result (has_failed self.old) (has_failed self.new) };
 }
@@ -109,7 +109,7 @@ impl<T: Read> Source for Told<T> {
 impl<T: Write> Sink for Told<T> {
     ghost use Rattle.j39_io.specs.Told.{told_device, is_marked, is_passed_on};
 
-    ghost held = { λ told. T.contents (told_device told) };
+    ghost written = { λ told. T.contents (told_device told) };
 
     ghost has_failed = { λ told. is_marked told };
 
@@ -134,8 +134,8 @@ impl<T: Write> Sink for Told<T> {
 
 /// Writes all of the bytes, by as many writes as it takes. After a fault a front of them was written.
 pub fn put_all<S: Sink>(sink: &mut S, bytes: &[u8]) -> Result<(), DeviceFault>
-    ensures ok { OnOk result (Appends (S.held sink.old) (S.held sink.new) bytes.now) }
-    ensures err { OnErr result (AppendsFront (S.held sink.old) (S.held sink.new) bytes.now) }
+    ensures ok { OnOk result (Appends (S.written sink.old) (S.written sink.new) bytes.now) }
+    ensures err { OnErr result (AppendsFront (S.written sink.old) (S.written sink.new) bytes.now) }
     ensures mark { Marks result (S.has_failed sink.old) (S.has_failed sink.new) }
 {
     let mut rest = bytes;

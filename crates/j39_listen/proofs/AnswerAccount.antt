@@ -20,13 +20,13 @@ use Rattle.j39_groups.specs.Readings.{is_reported_in}
 use Rattle.j39_listen.proofs.Causal.{heard_more}
 use Rattle.j39_listen.proofs.LineLemmas.{capped-fits, capped-sum}
 use Rattle.j39_listen.proofs.ReportAccount.{same_made}
-use Rattle.j39_listen.specs.AccountSteps.{Begins, MakesOne, Meets, Stops}
-use Rattle.j39_listen.specs.AnswerSteps.{Calls, HasAnswered, Notices, Obeys, all_sent, is_empty, starts}
+use Rattle.j39_listen.specs.AccountCalls.{Begins, MakesOne, Meets, Stops}
+use Rattle.j39_listen.specs.AnswersSoFar.{Calls, HasAnswered, Notices, Obeys, all_sent, is_empty, starts}
 use Rattle.j39_listen.specs.Answers.{AnsweredBelow, calls_at, calls_with, sent_by, sent_text}
 use Rattle.j39_listen.specs.Heard.{Hearing, or_none}
 use Rattle.j39_listen.specs.Listening.{Hears}
 use Rattle.j39_listen.specs.Output.{MakesAnswers, Output, answers_of, nothing}
-use Rattle.j39_listen.specs.ReportSteps.{made_of, made_sum}
+use Rattle.j39_listen.specs.ReportSoFar.{made_of, made_sum}
 use Rattle.j39_listen.specs.declared.answers.Answers.{Answers}
 use Rattle.j39_listen.specs.declared.answers.Noticed.{Noticed}
 use Rattle.j39_listen.specs.declared.answers.Sent.{Sent}

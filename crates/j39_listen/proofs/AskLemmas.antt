@@ -11,10 +11,10 @@ use Rattle.j39_log.specs.declared.splitter.Splitter.{Splitter}
 use Rattle.j39_log.proofs.BusLemmas.{bus_of-append, ended-line, frames_of-append, spell-more, whole-more}
 use Rattle.j39_log.proofs.SplitterLemmas.{no_newline_append}
 use Rattle.j39_listen.specs.Asking.{AsksAmong, Wanting}
-use Rattle.j39_listen.specs.AskSteps.{AsksAs, AsksIn, AsksLast, AsksLine}
-use Rattle.j39_listen.specs.LineSteps.{IsNamed}
+use Rattle.j39_listen.specs.WantsMemory.{AsksAs, AsksIn, AsksLast, AsksLine}
+use Rattle.j39_listen.specs.LinesSoFar.{IsNamed}
 use Rattle.j39_listen.specs.Output.{Output, Meeting}
-use Rattle.j39_listen.specs.PieceSteps.{HasMetAll, HasRead, HasTaken}
+use Rattle.j39_listen.specs.PiecesSoFar.{HasMetAll, HasRead, HasTaken}
 use Rattle.j39_listen.specs.Run.{run_bus}
 use Rattle.j39_listen.specs.declared.pieces.Pieces.{Pieces}
 use Rattle.j39_listen.specs.declared.lines.Lines.{Lines}

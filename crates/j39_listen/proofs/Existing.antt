@@ -12,7 +12,7 @@ use Rattle.j39_listen.proofs.Feeding.{forgets_exist, heard_next}
 use Rattle.j39_listen.proofs.Held.{held_is, holder_of}
 use Rattle.j39_listen.proofs.Reported.{reported_leaves}
 use Rattle.j39_listen.specs.Heard.{AreHeardWith, HeardAtWith, HeardBelowWith, Hearing, LeavesNetwork, frame_at, or_none}
-use Rattle.j39_listen.specs.NextSteps.{Assembled, Next, NextBy, alone_of, heard_of}
+use Rattle.j39_listen.specs.OneFrameMore.{Assembled, Next, NextBy, alone_of, heard_of}
 use Rattle.j39_listen.specs.Report.{Entry, IsReport, entries_of}
 use Rattle.j39_transport.proofs.Deciding.{whole_or_none}
 use Rattle.j39_transport.specs.Events.{Event}

@@ -15,7 +15,7 @@ use Rattle.j39_address.proofs.OrderLemmas.{cases_option}
 use Rattle.j39_listen.proofs.Rising.{Listed, Rises, changed_of}
 use Rattle.j39_listen.proofs.Reported.{not_single, packet_group, packet_source, reported_leaves}
 use Rattle.j39_transport.proofs.Taken.{assembled_sent}
-use Rattle.j39_listen.specs.NextSteps.{alone_of, NextBy, Next, heard_of}
+use Rattle.j39_listen.specs.OneFrameMore.{alone_of, NextBy, Next, heard_of}
 use Rattle.j39_listen.proofs.Causal.{Whole-same, forgets_more, forgets_same, frame_new, holder_prefix, report_more, same_below_append}
 use Rattle.j39_listen.proofs.Unique.{assembled_packet}
 use Rattle.j39_listen.specs.Forgets.{Changed, WithForgets}

@@ -9,9 +9,9 @@ use Rattle.j39_frame.specs.Frame.{FrameRecord}
 use Rattle.j39_log.specs.Log.{bus_of, frame_on, frames_of, is_other_on, others_of, unread_of}
 use Rattle.j39_log.specs.Spelled.{Spelled, frame, other, unread, blank}
 use Rattle.j39_log.proofs.BusLemmas.{bus_of-frame, bus_of-kept}
-use Rattle.j39_listen.specs.AccountSteps.{Meets, Stops}
+use Rattle.j39_listen.specs.AccountCalls.{Meets, Stops}
 use Rattle.j39_listen.specs.Counting.{capped}
-use Rattle.j39_listen.specs.LineSteps.{IsNamed, MeetsLine, StopsLine, tally_of}
+use Rattle.j39_listen.specs.LinesSoFar.{IsNamed, MeetsLine, StopsLine, tally_of}
 use Rattle.j39_listen.specs.Output.{Output, Making, Meeting}
 use Rattle.j39_listen.specs.declared.counts.Tally.{Tally}
 

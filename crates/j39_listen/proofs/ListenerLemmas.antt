@@ -18,11 +18,11 @@ use Rattle.j39_transport.specs.Events.Event.{Frame, Forget}
 use Rattle.j39_transport.specs.Signals.{said_by}
 use Rattle.j39_transport.specs.Message.{MessageRecord}
 use Rattle.j39_transport.specs.Stands.{Stands}
-use Rattle.j39_transport.specs.Steps.{AssemblerRecord, fed, spare_after, state_after}
+use Rattle.j39_transport.specs.AssemblerStep.{AssemblerRecord, fed, spare_after, state_after}
 use Rattle.j39_listen.specs.Forgets.{Changed, WithForgets}
 use Rattle.j39_listen.specs.Heard.{HeardAtWith, Hearing, IsHeardWith, LeavesNetwork}
 use Rattle.j39_listen.specs.Listening.{Hears}
-use Rattle.j39_listen.specs.NextSteps.{IsMany, Next, NextBy, alone_of, heard_alone, hearing_alone}
+use Rattle.j39_listen.specs.OneFrameMore.{IsMany, Next, NextBy, alone_of, heard_alone, hearing_alone}
 use Rattle.j39_listen.specs.declared.listener.Listener.{Listener}
 use Rattle.j39_listen.proofs.Causal.{forgets_more, holder_prefix}
 use Rattle.j39_listen.proofs.Feeding.{heard_next}

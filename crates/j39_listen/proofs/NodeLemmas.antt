@@ -10,9 +10,9 @@ use Rattle.j39_io.proofs.DeviceLemmas.{front_within}
 use Rattle.j39_address.specs.Claim.{claims_of}
 use Rattle.j39_address.specs.Claims.{Knows, holder_in}
 use Rattle.j39_address.specs.declared.claims.Claims.{Claims}
-use Rattle.j39_listen.specs.AccountSteps.{Begins, Closes, MakesOne, StopsAtEnd}
+use Rattle.j39_listen.specs.AccountCalls.{Begins, Closes, MakesOne, StopsAtEnd}
 use Rattle.j39_listen.specs.Counting.{capped}
-use Rattle.j39_listen.specs.NodeSteps.{HasNoted}
+use Rattle.j39_listen.specs.NodesSoFar.{HasNoted}
 use Rattle.j39_listen.specs.Nodes.{AreNodes, Holding, NodesBelow, node_at, node_in, nodes_text}
 use Rattle.j39_listen.specs.Output.{MakesNodesIn, Output, nodes_of}
 use Rattle.j39_listen.specs.declared.node_list.NodeForm.{NodeForm}

@@ -11,10 +11,10 @@ use Rattle.j39_log.specs.declared.splitter.RawLine.{RawLine}
 use Rattle.j39_log.specs.declared.splitter.Splitter.{Splitter}
 use Rattle.j39_io.proofs.DeviceLemmas.{Appends-kept}
 use Rattle.j39_log.proofs.SplitterLemmas.{no_newline_append}
-use Rattle.j39_listen.specs.AccountSteps.{Begins}
-use Rattle.j39_listen.specs.LineSteps.{IsSpelling}
+use Rattle.j39_listen.specs.AccountCalls.{Begins}
+use Rattle.j39_listen.specs.LinesSoFar.{IsSpelling}
 use Rattle.j39_listen.specs.Output.{Making, Meeting}
-use Rattle.j39_listen.specs.PieceSteps.{HasMetAll, HasTaken, ReadsAs, ReadsLast, ReadsLine, StepsOver, StopsAs, StopsIn, StopsLast, WritesAll, WritesSome}
+use Rattle.j39_listen.specs.PiecesSoFar.{HasMetAll, HasTaken, ReadsAs, ReadsLast, ReadsLine, StepsOver, StopsAs, StopsIn, StopsLast, WritesAll, WritesSome}
 use Rattle.j39_listen.specs.Run.{Writes, WritesFront, WritesFrontOfMore}
 use Rattle.j39_listen.specs.declared.account.LineFault.{LineFault}
 use Rattle.j39_listen.specs.declared.account.LineFault.TheVariants.{Memory, Write}

@@ -13,7 +13,7 @@ use Rattle.j39_groups.specs.Quick.{reading_line}
 use Rattle.j39_groups.specs.Readings.{readings_in}
 use Rattle.j39_groups.specs.Row.{RowRecord}
 use Rattle.j39_groups.specs.declared.Reading.{Reading}
-use Rattle.j39_groups.specs.Shown.{reading_of, value_of}
+use Rattle.j39_groups.specs.Models.{reading_of, value_of}
 use Rattle.j39_groups.specs.ValueText.{value_text}
 use Rattle.j39_listen.specs.Heard.{Hearing}
 use Rattle.j39_listen.specs.Report.{Entry, entries_of, entry_of, hearing_head, entry_text, text_of}

@@ -9,11 +9,11 @@ use Rattle.j39_log.specs.Log.{HasNoNewline, IsLog, ended, bus_of, frames_of, is_
 use Rattle.j39_log.specs.Spelled.{Spelled, Spells}
 use Rattle.j39_log.proofs.BusLemmas.{bus_of-append, count_by-append, ended-line, frames_of-append, others_of-append, spell-more, whole-more}
 use Rattle.j39_io.proofs.DeviceLemmas.{Appends-kept}
-use Rattle.j39_listen.specs.AccountSteps.{Closes, MeetsMore}
+use Rattle.j39_listen.specs.AccountCalls.{Closes, MeetsMore}
 use Rattle.j39_listen.specs.Counting.{counts_of}
-use Rattle.j39_listen.specs.LineSteps.{IsNamed, sum_of, tally_of}
+use Rattle.j39_listen.specs.LinesSoFar.{IsNamed, sum_of, tally_of}
 use Rattle.j39_listen.specs.Output.{Output, Making, Meeting}
-use Rattle.j39_listen.specs.PieceSteps.{HasMetAll, HasRead, ReadsLine, WritesAll}
+use Rattle.j39_listen.specs.PiecesSoFar.{HasMetAll, HasRead, ReadsLine, WritesAll}
 use Rattle.j39_listen.specs.Run.{Writes, run_bus}
 use Rattle.j39_listen.specs.declared.counts.Counts.{Counts}
 use Rattle.j39_listen.specs.declared.counts.Made.{Made}

@@ -9,10 +9,10 @@ use Rattle.j39_log.proofs.BusLemmas.{bus_of-append, ended-line, frames_of-append
 use Rattle.j39_io.proofs.DeviceLemmas.{front_of_all, front_within}
 use Rattle.j39_log.proofs.LogLemmas.{first_spelled, same_log}
 use Rattle.j39_log.proofs.SplitterLemmas.{no_newline_append}
-use Rattle.j39_listen.specs.AccountSteps.{Begins, MakesOne, Stops, StopsAtEnd, WritesOn}
+use Rattle.j39_listen.specs.AccountCalls.{Begins, MakesOne, Stops, StopsAtEnd, WritesOn}
 use Rattle.j39_listen.specs.Output.{Output, Making, Meeting}
-use Rattle.j39_listen.specs.PieceSteps.{HasMetAll, HasRead, StopsAt, StopsIn, StopsLast, WritesAll, WritesSome}
-use Rattle.j39_listen.specs.LineSteps.{IsNamed}
+use Rattle.j39_listen.specs.PiecesSoFar.{HasMetAll, HasRead, StopsAt, StopsIn, StopsLast, WritesAll, WritesSome}
+use Rattle.j39_listen.specs.LinesSoFar.{IsNamed}
 use Rattle.j39_listen.specs.Run.{WritesFront, run_bus}
 use Rattle.j39_listen.specs.declared.counts.Counts.{Counts}
 use Rattle.j39_listen.specs.declared.lines.Lines.{Lines}

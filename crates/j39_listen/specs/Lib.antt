@@ -22,13 +22,13 @@ pub mod Ran
 pub mod Fault
 -- what the code's values show
 pub mod Listening
-pub mod Shown
+pub mod HeardModel
 -- the code's steps, below the rules
-pub mod NextSteps
-pub mod AccountSteps
-pub mod ReportSteps
-pub mod NodeSteps
-pub mod AnswerSteps
-pub mod LineSteps
-pub mod PieceSteps
-pub mod AskSteps
+pub mod OneFrameMore
+pub mod AccountCalls
+pub mod ReportSoFar
+pub mod NodesSoFar
+pub mod AnswersSoFar
+pub mod LinesSoFar
+pub mod PiecesSoFar
+pub mod WantsMemory

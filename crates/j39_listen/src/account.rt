@@ -3,7 +3,7 @@ ghost use Rattle.std.specs.Prelude.{◌≡◌, ◌∷◌, [], List, OnOk, OnErr,
 ghost use Rattle.j39_io.specs.Device.{Marks};
 ghost use Rattle.j39_io.specs.Turn.{turn};
 ghost use Rattle.j39_frame.specs.Frame.{FrameRecord};
-ghost use Rattle.j39_listen.specs.AccountSteps.{Begins, Closes, LeavesWriter, MakesOne, Meets, Stops, StopsAtEnd};
+ghost use Rattle.j39_listen.specs.AccountCalls.{Begins, Closes, LeavesWriter, MakesOne, Meets, Stops, StopsAtEnd};
 ghost use Rattle.j39_listen.specs.Output.{Output, Making, Meeting};
 ghost use Rattle.j39_listen.specs.declared.account.LineFault.TheVariants.{Memory, Write};
 ghost use Rattle.j39_listen.specs.Asking.{Wanting};
@@ -39,23 +39,23 @@ pub trait Account: Drop {
     ghost asks: { Subject → Wanting };
 
     /// Takes the next frame of the bus, and writes what is to be written at it.
-    fn meet<W: Sink>(&mut self, bus: &Bus, frame: &Frame, sink: &mut W) -> Result<(), LineFault>
+    fn feed<W: Sink>(&mut self, bus: &Bus, frame: &Frame, sink: &mut W) -> Result<(), LineFault>
         ensures met { OnOk result ((subject : Subject)
-            → Meets (has_met subject bus.now) self.old self.new (frame.now ∷ []) (W.held sink.old)
-            (W.held sink.new)) }
-        ensures writer { LeavesWriter result (turn W.held W.has_failed sink.old sink.new) }
+            → Meets (has_met subject bus.now) self.old self.new (frame.now ∷ []) (W.written sink.old)
+            (W.written sink.new)) }
+        ensures writer { LeavesWriter result (turn W.written W.has_failed sink.old sink.new) }
         ensures stops { result ≡ Err Write → (subject : Subject)
-            → Stops (has_met subject bus.now) (makes subject bus.now) self.old (frame.now ∷ []) (W.held sink.old)
-            (W.held sink.new) }
+            → Stops (has_met subject bus.now) (makes subject bus.now) self.old (frame.now ∷ []) (W.written sink.old)
+            (W.written sink.new) }
         ensures asked { result ≡ Err Memory → (subject : Subject) (F : List FrameRecord) (output : Output)
             → has_met subject bus.now self.old F output → asks subject F frame.now };
 
     /// Writes what is left to be written at the end, and answers the numbers of the whole.
     fn close<W: Sink>(&mut self, sink: &mut W) -> Result<Made, DeviceFault>
         ensures closes { IfOk result (λ made. (subject : Subject)
-            → Closes (has_met subject) (makes subject) self.old made (W.held sink.old) (W.held sink.new)) }
+            → Closes (has_met subject) (makes subject) self.old made (W.written sink.old) (W.written sink.new)) }
         ensures stops { OnErr result ((subject : Subject)
-            → StopsAtEnd (has_met subject) (makes subject) self.old (W.held sink.old) (W.held sink.new)) }
+            → StopsAtEnd (has_met subject) (makes subject) self.old (W.written sink.old) (W.written sink.new)) }
         ensures mark { Marks result (W.has_failed sink.old) (W.has_failed sink.new) };
 
     /// Does nothing: laws of what was met and of what is made.

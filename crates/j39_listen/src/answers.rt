@@ -16,7 +16,7 @@ ghost use Rattle.j39_frame.specs.Pgn.{pgn_raw};
 ghost use Rattle.j39_frame.specs.Stamp.{stamp_micros};
 ghost use Rattle.j39_listen.specs.Asking.{AsksForBoxes};
 ghost use Rattle.j39_listen.specs.Answers.{calls_with, commands, sent_text};
-ghost use Rattle.j39_listen.specs.AnswerSteps.{HasAnswered, Notices, Obeys, all_sent, hears, starts};
+ghost use Rattle.j39_listen.specs.AnswersSoFar.{HasAnswered, Notices, Obeys, all_sent, hears, starts};
 ghost use Rattle.j39_listen.specs.Listening.{Hears};
 ghost use Rattle.j39_listen.specs.Output.{MakesAnswers, nothing};
 ghost use Rattle.j39_listen.specs.Ran.{PassesOn, Ran};
@@ -51,7 +51,7 @@ pub fn answer<R: Source, W: Sink>(
     ensures ran { preferred < null_address → (ended : Result Counts RunFault)
         × (result ≡ result_map_both Some (λ fault. fault) ended)
         × Ran (MakesAnswers (idle_node (name_raw name) preferred)) AsksForBoxes bus limit ended
-        (turn R.remaining R.has_failed source.old source.new) (turn W.held W.has_failed sink.old sink.new) }
+        (turn R.remaining R.has_failed source.old source.new) (turn W.written W.has_failed sink.old sink.new) }
 
     // What was written is passed on at the end, and before each read.
     ensures flushed { preferred < null_address → PassesOn result (W.is_flushed sink.old) (W.is_flushed sink.new) }
@@ -95,7 +95,7 @@ impl Answers {
 impl Account for Answers {
     ghost use Rattle.std.specs.Prelude.{⊤};
     ghost use Rattle.j39_address.specs.Node.{Node};
-    ghost use Rattle.j39_listen.specs.AnswerSteps.{HasAnswered};
+    ghost use Rattle.j39_listen.specs.AnswersSoFar.{HasAnswered};
     ghost use Rattle.j39_listen.specs.Asking.{AsksForBoxes};
     ghost use Rattle.j39_listen.specs.Output.{MakesAnswers};
 
@@ -109,7 +109,7 @@ impl Account for Answers {
 
     // The listener hears the log alone, so it may hear a frame before the node does: where memory is
     // refused nothing was sent at the frame.
-    fn meet<W: Sink>(&mut self, bus: &Bus, frame: &Frame, sink: &mut W) -> Result<(), LineFault> {
+    fn feed<W: Sink>(&mut self, bus: &Bus, frame: &Frame, sink: &mut W) -> Result<(), LineFault> {
         let noticed = match notice(&mut self.listener, frame) {
             Ok(noticed) => noticed,
             Err(AllocError) => return Err(LineFault::Memory),
@@ -220,9 +220,9 @@ fn obey(claimer: &mut Claimer, command: Option<(Name, u8)>, now: Stamp) -> Optio
 /// Writes a line for each frame that is sent, and answers how many.
 fn put_sent<W: Sink>(sent: &Sent, bus: &Bus, sink: &mut W) -> Result<u64, DeviceFault>
     ensures lines { IfOk result (λ n. n ≡ length (all_sent sent.now)) }
-    ensures written { OnOk result (Appends (W.held sink.old) (W.held sink.new)
+    ensures written { OnOk result (Appends (W.written sink.old) (W.written sink.new)
         (sent_text bus.now (all_sent sent.now))) }
-    ensures front { OnErr result (AppendsFront (W.held sink.old) (W.held sink.new)
+    ensures front { OnErr result (AppendsFront (W.written sink.old) (W.written sink.new)
         (sent_text bus.now (all_sent sent.now))) }
     ensures mark { Marks result (W.has_failed sink.old) (W.has_failed sink.new) }
 {
@@ -236,9 +236,9 @@ fn put_sent<W: Sink>(sent: &Sent, bus: &Bus, sink: &mut W) -> Result<u64, Device
 fn put_answer<W: Sink>(answer: &Option<Frame>, bus: &Bus, sink: &mut W) -> Result<u64, DeviceFault>
     ensures one { IfOk result (λ n. n ≤ 1) }
     ensures lines { IfOk result (λ n. n ≡ length (option_to_list answer.now)) }
-    ensures written { OnOk result (Appends (W.held sink.old) (W.held sink.new)
+    ensures written { OnOk result (Appends (W.written sink.old) (W.written sink.new)
         (sent_text bus.now (option_to_list answer.now))) }
-    ensures front { OnErr result (AppendsFront (W.held sink.old) (W.held sink.new)
+    ensures front { OnErr result (AppendsFront (W.written sink.old) (W.written sink.new)
         (sent_text bus.now (option_to_list answer.now))) }
     ensures mark { Marks result (W.has_failed sink.old) (W.has_failed sink.new) }
 {

@@ -55,7 +55,7 @@ const UNREAD: Tally = Tally {
 };
 
 impl Tally {
-    ghost use Rattle.j39_listen.specs.LineSteps.{met_tally, sum_of};
+    ghost use Rattle.j39_listen.specs.LinesSoFar.{met_tally, sum_of};
 
     /// This and one line more: each kind has an arm of its own, so that only one count is added to.
     #[inline(always)]
@@ -92,7 +92,7 @@ pub struct Made {
 }
 
 impl Made {
-    ghost use Rattle.j39_listen.specs.ReportSteps.{made_sum};
+    ghost use Rattle.j39_listen.specs.ReportSoFar.{made_sum};
 
     /// This and more, each at most 2^64 - 1.
     pub fn and(self, more: Made) -> Made

@@ -5,7 +5,7 @@ ghost use Rattle.j39_address.specs.Name.{name_raw};
 ghost use Rattle.j39_io.specs.Backwards.{WritesBefore};
 ghost use Rattle.j39_frame.specs.Pgn.{pgn_raw};
 ghost use Rattle.j39_listen.specs.Report.{hearing_head, name_text};
-ghost use Rattle.j39_listen.specs.Shown.{hearing_of};
+ghost use Rattle.j39_listen.specs.HeardModel.{hearing_of};
 
 use crate::Heard;
 use j39_address::Name;

@@ -4,7 +4,7 @@ ghost use Rattle.std.specs.Io.KnownBytes.{Appends};
 ghost use Rattle.j39_io.specs.Device.{AppendsFront, Marks};
 ghost use Rattle.j39_io.specs.Turn.{turn};
 ghost use Rattle.j39_listen.specs.Headed.{Headed};
-ghost use Rattle.j39_listen.specs.PieceSteps.{AtStart};
+ghost use Rattle.j39_listen.specs.PiecesSoFar.{AtStart};
 ghost use Rattle.j39_listen.specs.Ran.{Ended, PassesOn, Ran};
 
 use crate::Counts;
@@ -25,13 +25,13 @@ pub fn run_headed<A: Account, R: Source, W: Sink>(
 ) -> Result<Counts, RunFault>
     // It ended as every run does, whatever the account had met.
     ensures ended { Ended limit result
-        (turn R.remaining R.has_failed source.old source.new) (turn W.held W.has_failed sink.old sink.new) }
+        (turn R.remaining R.has_failed source.old source.new) (turn W.written W.has_failed sink.old sink.new) }
 
     // What the run promises is `Ran`: what is written is the head and what the account makes of the log's frames, and
     // nothing else. Memory is wanted where the account asks for some.
     ensures ran { AtStart A.has_met account (λ subject. Ran (Headed head.now (A.makes subject)) (A.asks subject) bus
         limit result (turn R.remaining R.has_failed source.old source.new)
-        (turn W.held W.has_failed sink.old sink.new)) }
+        (turn W.written W.has_failed sink.old sink.new)) }
 
     // What was written is passed on at the end, and before each read, the head before the first.
     ensures flushed { PassesOn result true (W.is_flushed sink.new) }
@@ -44,9 +44,9 @@ pub fn run_headed<A: Account, R: Source, W: Sink>(
 
 /// Writes the head, and passes it on.
 fn put_head<W: Sink>(head: &[u8], sink: &mut W) -> Result<(), DeviceFault>
-    ensures ok { OnOk result (Appends (W.held sink.old) (W.held sink.new) head.now) }
+    ensures ok { OnOk result (Appends (W.written sink.old) (W.written sink.new) head.now) }
     ensures flushed { OnOk result (W.is_flushed sink.new ≡ true) }
-    ensures err { OnErr result (AppendsFront (W.held sink.old) (W.held sink.new) head.now) }
+    ensures err { OnErr result (AppendsFront (W.written sink.old) (W.written sink.new) head.now) }
     ensures mark { Marks result (W.has_failed sink.old) (W.has_failed sink.new) }
 {
     put_all(sink, head)?;

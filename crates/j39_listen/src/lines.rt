@@ -4,10 +4,10 @@ ghost use Rattle.j39_io.specs.Turn.{turn};
 ghost use Rattle.j39_log.specs.Bus.{IsBusName};
 ghost use Rattle.j39_log.specs.LineRead.{spelled_of};
 ghost use Rattle.j39_log.specs.Spelled.{frame as spelled_frame};
-ghost use Rattle.j39_listen.specs.AccountSteps.{LeavesWriter};
-ghost use Rattle.j39_listen.specs.AskSteps.{AsksLine};
-ghost use Rattle.j39_listen.specs.LineSteps.{IsSpelling, MeetsLine, StopsLine, met_tally};
-ghost use Rattle.j39_listen.specs.PieceSteps.{ReadsLine, StopsAt};
+ghost use Rattle.j39_listen.specs.AccountCalls.{LeavesWriter};
+ghost use Rattle.j39_listen.specs.WantsMemory.{AsksLine};
+ghost use Rattle.j39_listen.specs.LinesSoFar.{IsSpelling, MeetsLine, StopsLine, met_tally};
+ghost use Rattle.j39_listen.specs.PiecesSoFar.{ReadsLine, StopsAt};
 ghost use Rattle.j39_listen.specs.declared.account.LineFault.TheVariants.{Memory, Write};
 
 use crate::account::{Account, LineFault};
@@ -31,16 +31,16 @@ impl<A: Account> Lines<A> {
     #[inline(always)]
     pub fn read<W: Sink>(&mut self, line: Line<'_>, sink: &mut W) -> Result<(), LineFault>
         ensures read { OnOk result ((subject : A.Subject) → IsSpelling (spelled_of line.entry)
-            → ReadsLine (A.has_met subject) (spelled_of line.entry) self.old self.new (W.held sink.old)
-            (W.held sink.new)) }
-        ensures writer { LeavesWriter result (turn W.held W.has_failed sink.old sink.new) }
+            → ReadsLine (A.has_met subject) (spelled_of line.entry) self.old self.new (W.written sink.old)
+            (W.written sink.new)) }
+        ensures writer { LeavesWriter result (turn W.written W.has_failed sink.old sink.new) }
         ensures stops { result ≡ Err Write → (subject : A.Subject) → IsSpelling (spelled_of line.entry)
-            → StopsAt (A.has_met subject) (A.makes subject) (spelled_of line.entry) self.old (W.held sink.old)
-            (W.held sink.new) }
+            → StopsAt (A.has_met subject) (A.makes subject) (spelled_of line.entry) self.old (W.written sink.old)
+            (W.written sink.new) }
         ensures asked { result ≡ Err Memory → (subject : A.Subject) → IsSpelling (spelled_of line.entry)
             → AsksLine (A.has_met subject) (A.asks subject) (spelled_of line.entry) self.old.bus self.old.account }
     {
-        let met = match meet(&mut self.bus, &mut self.account, line, sink) {
+        let met = match feed_line(&mut self.bus, &mut self.account, line, sink) {
             Ok(met) => met,
             Err(fault) => return Err(fault),
         };
@@ -53,12 +53,12 @@ impl<A: Account> Lines<A> {
     #[inline(always)]
     pub fn read_frame<W: Sink>(&mut self, frame: &Frame, sink: &mut W) -> Result<(), LineFault>
         ensures read { OnOk result ((subject : A.Subject) (name : List ℕ) → self.old.bus ≡ Some name
-            → ReadsLine (A.has_met subject) (spelled_frame name frame.now) self.old self.new (W.held sink.old)
-            (W.held sink.new)) }
-        ensures writer { LeavesWriter result (turn W.held W.has_failed sink.old sink.new) }
+            → ReadsLine (A.has_met subject) (spelled_frame name frame.now) self.old self.new (W.written sink.old)
+            (W.written sink.new)) }
+        ensures writer { LeavesWriter result (turn W.written W.has_failed sink.old sink.new) }
         ensures stops { result ≡ Err Write → (subject : A.Subject) (name : List ℕ) → self.old.bus ≡ Some name
             → StopsAt (A.has_met subject) (A.makes subject) (spelled_frame name frame.now) self.old
-            (W.held sink.old) (W.held sink.new) }
+            (W.written sink.old) (W.written sink.new) }
         ensures asked { result ≡ Err Memory → (subject : A.Subject) (name : List ℕ) → self.old.bus ≡ Some name
             → AsksLine (A.has_met subject) (A.asks subject) (spelled_frame name frame.now) self.old.bus
             self.old.account }
@@ -66,7 +66,7 @@ impl<A: Account> Lines<A> {
         let Some(bus) = &self.bus else {
             return Ok(());
         };
-        match self.account.meet(bus, frame, sink) {
+        match self.account.feed(bus, frame, sink) {
             Ok(()) => {}
             Err(fault) => return Err(fault),
         }
@@ -77,7 +77,7 @@ impl<A: Account> Lines<A> {
 
 /// Writes what is to be written at a line, and answers what the line counts for.
 #[inline(always)]
-fn meet<A: Account, W: Sink>(
+fn feed_line<A: Account, W: Sink>(
     bus: &mut Option<Bus>,
     account: &mut A,
     line: Line<'_>,
@@ -85,11 +85,11 @@ fn meet<A: Account, W: Sink>(
 ) -> Result<Met, LineFault>
     ensures met { IfOk result (λ met. (subject : A.Subject) → IsSpelling (spelled_of line.entry)
         → MeetsLine (A.has_met subject) (spelled_of line.entry) bus.old bus.new account.old account.new
-        (met_tally met) (W.held sink.old) (W.held sink.new)) }
-    ensures writer { LeavesWriter result (turn W.held W.has_failed sink.old sink.new) }
+        (met_tally met) (W.written sink.old) (W.written sink.new)) }
+    ensures writer { LeavesWriter result (turn W.written W.has_failed sink.old sink.new) }
     ensures stops { result ≡ Err Write → (subject : A.Subject) → IsSpelling (spelled_of line.entry)
         → StopsLine (A.has_met subject) (A.makes subject) (spelled_of line.entry) bus.old account.old
-        (W.held sink.old) (W.held sink.new) }
+        (W.written sink.old) (W.written sink.new) }
     ensures asked { result ≡ Err Memory → (subject : A.Subject) → IsSpelling (spelled_of line.entry)
         → AsksLine (A.has_met subject) (A.asks subject) (spelled_of line.entry) bus.old account.old }
 {
@@ -100,7 +100,7 @@ fn meet<A: Account, W: Sink>(
                 None => Ok(Met::Other),
                 Some(bus) => {
                     if bus.is_named(name) {
-                        match account.meet(bus, &frame, sink) {
+                        match account.feed(bus, &frame, sink) {
                             Ok(()) => Ok(Met::Frame),
                             Err(fault) => Err(fault),
                         }

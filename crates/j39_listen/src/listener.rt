@@ -11,11 +11,11 @@ ghost use Rattle.j39_frame.specs.Identifier.{pgn_of};
 ghost use Rattle.j39_groups.specs.Readings.{is_network_group};
 ghost use Rattle.j39_groups.specs.Table.{the_table};
 ghost use Rattle.j39_transport.specs.Answers.{IsAnnouncement};
-ghost use Rattle.j39_transport.specs.Steps.{messages_open};
+ghost use Rattle.j39_transport.specs.AssemblerStep.{messages_open};
 ghost use Rattle.j39_listen.specs.Heard.{HeardAt, HeardAtWith, LeavesNetwork};
 ghost use Rattle.j39_listen.specs.Listening.{AreHeld, AreOpen, Hears, WantsMemoryBehind};
-ghost use Rattle.j39_listen.specs.NextSteps.{IsMany, heard_alone, hearing_alone};
-ghost use Rattle.j39_listen.specs.Shown.{hearing_of};
+ghost use Rattle.j39_listen.specs.OneFrameMore.{IsMany, heard_alone, hearing_alone};
+ghost use Rattle.j39_listen.specs.HeardModel.{hearing_of};
 
 use crate::Heard;
 use j39_address::{Claims, Name};

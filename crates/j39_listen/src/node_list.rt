@@ -6,7 +6,7 @@ ghost use Rattle.j39_io.specs.Device.{AppendsFront, Marks};
 ghost use Rattle.j39_io.specs.Turn.{turn};
 ghost use Rattle.j39_frame.specs.Frame.{FrameRecord};
 ghost use Rattle.j39_address.specs.Claims.{Knows, holder_in};
-ghost use Rattle.j39_listen.specs.NodeSteps.{HasNoted};
+ghost use Rattle.j39_listen.specs.NodesSoFar.{HasNoted};
 ghost use Rattle.j39_listen.specs.Nodes.{AreNodes, Holding, node_at, node_in, nodes_text};
 ghost use Rattle.j39_listen.specs.Headed.{MakesNodeRecords};
 ghost use Rattle.j39_listen.specs.Output.{MakesNodes, nodes_of};
@@ -41,7 +41,7 @@ pub fn nodes<R: Source, W: Sink>(
     // What the run promises is `Ran`: what is written is who holds an address after the frames of the log, and nothing
     // else. Memory is wanted nowhere.
     ensures ran { Ran MakesNodes AsksNowhere bus limit result
-        (turn R.remaining R.has_failed source.old source.new) (turn W.held W.has_failed sink.old sink.new) }
+        (turn R.remaining R.has_failed source.old source.new) (turn W.written W.has_failed sink.old sink.new) }
     ensures memory { result ≢ Err Memory }
 
     // What was written is passed on at the end, and before each read.
@@ -61,7 +61,7 @@ pub fn nodes_csv<R: Source, W: Sink>(
     // What the run promises is `Ran`: what is written is the names of the columns and who holds an address after the
     // frames of the log, and nothing else. Memory is wanted nowhere.
     ensures ran { Ran MakesNodeRecords AsksNowhere bus limit result
-        (turn R.remaining R.has_failed source.old source.new) (turn W.held W.has_failed sink.old sink.new) }
+        (turn R.remaining R.has_failed source.old source.new) (turn W.written W.has_failed sink.old sink.new) }
     ensures memory { result ≢ Err Memory }
 
     // What was written is passed on at the end, and before each read, the names of the columns before the first.
@@ -110,7 +110,7 @@ impl NodeList {
 
 impl Account for NodeList {
     ghost use Rattle.j39_listen.specs.Asking.{AsksNowhere};
-    ghost use Rattle.j39_listen.specs.NodeSteps.{HasNoted};
+    ghost use Rattle.j39_listen.specs.NodesSoFar.{HasNoted};
     ghost use Rattle.j39_listen.specs.Output.{MakesNodesIn};
     ghost use Rattle.j39_listen.specs.declared.node_list.NodeForm.{NodeForm};
 
@@ -122,7 +122,7 @@ impl Account for NodeList {
 
     ghost asks = { λ subject. AsksNowhere };
 
-    fn meet<W: Sink>(&mut self, _: &Bus, frame: &Frame, _: &mut W) -> Result<(), LineFault> {
+    fn feed<W: Sink>(&mut self, _: &Bus, frame: &Frame, _: &mut W) -> Result<(), LineFault> {
         self.claims.note(frame);
         Ok(())
     }
@@ -139,9 +139,9 @@ impl Account for NodeList {
 fn put_nodes<W: Sink>(claims: &Claims, form: NodeForm, sink: &mut W) -> Result<u64, DeviceFault>
     ensures nodes { IfOk result (λ n. (F : List FrameRecord) → Knows claims.now F
         → (nodes : List Holding) × AreNodes F nodes × (n ≡ length nodes)
-        × Appends (W.held sink.old) (W.held sink.new) (nodes_text form nodes)) }
+        × Appends (W.written sink.old) (W.written sink.new) (nodes_text form nodes)) }
     ensures front { OnErr result ((F : List FrameRecord) (nodes : List Holding) → Knows claims.now F → AreNodes F nodes
-        → AppendsFront (W.held sink.old) (W.held sink.new) (nodes_text form nodes)) }
+        → AppendsFront (W.written sink.old) (W.written sink.new) (nodes_text form nodes)) }
     ensures mark { Marks result (W.has_failed sink.old) (W.has_failed sink.new) }
 {
     let mut lines = 0;
@@ -159,9 +159,9 @@ fn put_holder<W: Sink>(
     sink: &mut W,
 ) -> Result<u64, DeviceFault>
     ensures lines { IfOk result (λ n. n ≡ length (node_at address (holder_in claims.now address))) }
-    ensures written { OnOk result (Appends (W.held sink.old) (W.held sink.new)
+    ensures written { OnOk result (Appends (W.written sink.old) (W.written sink.new)
         (nodes_text form (node_at address (holder_in claims.now address)))) }
-    ensures front { OnErr result (AppendsFront (W.held sink.old) (W.held sink.new)
+    ensures front { OnErr result (AppendsFront (W.written sink.old) (W.written sink.new)
         (nodes_text form (node_at address (holder_in claims.now address)))) }
     ensures mark { Marks result (W.has_failed sink.old) (W.has_failed sink.new) }
 {

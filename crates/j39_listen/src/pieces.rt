@@ -4,11 +4,11 @@ ghost use Rattle.j39_io.specs.Device.{Marks};
 ghost use Rattle.j39_io.specs.Turn.{turn};
 ghost use Rattle.j39_log.specs.Spelled.{Spelled};
 ghost use Rattle.j39_log.specs.Splitter.{HasBegun, IsRawLine};
-ghost use Rattle.j39_listen.specs.AccountSteps.{LeavesWriter};
+ghost use Rattle.j39_listen.specs.AccountCalls.{LeavesWriter};
 ghost use Rattle.j39_listen.specs.Asking.{AsksAmong};
-ghost use Rattle.j39_listen.specs.AskSteps.{AsksAs, AsksIn, AsksLast};
-ghost use Rattle.j39_listen.specs.PieceSteps.{AtStart, Behind, HasMetAll, HasTaken, ReadsAs, ReadsLast, StepsOver};
-ghost use Rattle.j39_listen.specs.PieceSteps.{StopsAs, StopsIn, StopsLast, WritesAll, WritesSome};
+ghost use Rattle.j39_listen.specs.WantsMemory.{AsksAs, AsksIn, AsksLast};
+ghost use Rattle.j39_listen.specs.PiecesSoFar.{AtStart, Behind, HasMetAll, HasTaken, ReadsAs, ReadsLast, StepsOver};
+ghost use Rattle.j39_listen.specs.PiecesSoFar.{StopsAs, StopsIn, StopsLast, WritesAll, WritesSome};
 ghost use Rattle.j39_listen.specs.Run.{Writes, WritesFront, WritesFrontOfMore};
 ghost use Rattle.j39_listen.specs.declared.account.LineFault.TheVariants.{Memory, Write};
 
@@ -46,17 +46,17 @@ impl<A: Account> Pieces<A> {
     /// Takes a piece of the log, writes what is to be written at the lines that it ends, and passes it on: so
     /// a reader of a live bus sees each value before the next read.
     pub fn take<W: Sink>(&mut self, piece: &[u8], sink: &mut W) -> Result<(), LineFault>
-        ensures taken { OnOk result ((subject : A.Subject) → Behind (A.has_met subject) self.old (W.held sink.old)
+        ensures taken { OnOk result ((subject : A.Subject) → Behind (A.has_met subject) self.old (W.written sink.old)
             (λ given taken held. HasTaken (A.has_met subject) given (taken ++ piece.now) self.new held
-            (W.held sink.new))) }
-        ensures front { OnErr result ((subject : A.Subject) → Behind (A.has_met subject) self.old (W.held sink.old)
+            (W.written sink.new))) }
+        ensures front { OnErr result ((subject : A.Subject) → Behind (A.has_met subject) self.old (W.written sink.old)
             (λ given taken held. WritesFrontOfMore (A.makes subject) given (taken ++ piece.now) held
-            (W.held sink.new))) }
+            (W.written sink.new))) }
         ensures write { result ≡ Err Write → W.has_failed sink.new ≡ true }
         ensures unmarked { result ≢ Err Write → W.has_failed sink.new ≡ W.has_failed sink.old }
         ensures flushed { OnOk result (W.is_flushed sink.new ≡ true) }
         ensures asked { result ≡ Err Memory → (subject : A.Subject)
-            → Behind (A.has_met subject) self.old (W.held sink.old)
+            → Behind (A.has_met subject) self.old (W.written sink.old)
             (λ given taken held. AsksAmong (A.asks subject) given (taken ++ piece.now)) }
     {
         A::laws();
@@ -71,16 +71,16 @@ impl<A: Account> Pieces<A> {
     }
 
     fn take_lines<W: Sink>(&mut self, piece: &[u8], sink: &mut W) -> Result<(), LineFault>
-        ensures taken { OnOk result ((subject : A.Subject) → Behind (A.has_met subject) self.old (W.held sink.old)
+        ensures taken { OnOk result ((subject : A.Subject) → Behind (A.has_met subject) self.old (W.written sink.old)
             (λ given taken held. HasTaken (A.has_met subject) given (taken ++ piece.now) self.new held
-            (W.held sink.new))) }
-        ensures front { OnErr result ((subject : A.Subject) → Behind (A.has_met subject) self.old (W.held sink.old)
+            (W.written sink.new))) }
+        ensures front { OnErr result ((subject : A.Subject) → Behind (A.has_met subject) self.old (W.written sink.old)
             (λ given taken held. WritesFrontOfMore (A.makes subject) given (taken ++ piece.now) held
-            (W.held sink.new))) }
+            (W.written sink.new))) }
         ensures write { result ≡ Err Write → W.has_failed sink.new ≡ true }
         ensures unmarked { result ≢ Err Write → W.has_failed sink.new ≡ W.has_failed sink.old }
         ensures asked { result ≡ Err Memory → (subject : A.Subject)
-            → Behind (A.has_met subject) self.old (W.held sink.old)
+            → Behind (A.has_met subject) self.old (W.written sink.old)
             (λ given taken held. AsksAmong (A.asks subject) given (taken ++ piece.now)) }
     {
         A::laws();
@@ -98,15 +98,15 @@ impl<A: Account> Pieces<A> {
     /// Reads the last line where it is not ended, closes the account, and passes on what was written.
     pub fn finish<W: Sink>(&mut self, sink: &mut W) -> Result<Counts, LineFault>
         ensures report { IfOk result (λ counts. (subject : A.Subject)
-            → Behind (A.has_met subject) self.old (W.held sink.old)
-            (λ given taken held. Writes (A.makes subject) given taken counts held (W.held sink.new))) }
-        ensures front { OnErr result ((subject : A.Subject) → Behind (A.has_met subject) self.old (W.held sink.old)
-            (λ given taken held. WritesFront (A.makes subject) given taken held (W.held sink.new))) }
+            → Behind (A.has_met subject) self.old (W.written sink.old)
+            (λ given taken held. Writes (A.makes subject) given taken counts held (W.written sink.new))) }
+        ensures front { OnErr result ((subject : A.Subject) → Behind (A.has_met subject) self.old (W.written sink.old)
+            (λ given taken held. WritesFront (A.makes subject) given taken held (W.written sink.new))) }
         ensures write { result ≡ Err Write → W.has_failed sink.new ≡ true }
         ensures unmarked { result ≢ Err Write → W.has_failed sink.new ≡ W.has_failed sink.old }
         ensures flushed { OnOk result (W.is_flushed sink.new ≡ true) }
         ensures asked { result ≡ Err Memory → (subject : A.Subject)
-            → Behind (A.has_met subject) self.old (W.held sink.old)
+            → Behind (A.has_met subject) self.old (W.written sink.old)
             (λ given taken held. AsksAmong (A.asks subject) given taken) }
     {
         A::laws();
@@ -132,11 +132,11 @@ fn take_line<A: Account, W: Sink>(
     ensures some { IfOk result (λ n. 0 < length bytes.now → 0 < n) }
     ensures steps { IfOk result (λ n. (subject : A.Subject) (begun : List ℕ) → HasBegun splitter.old begun
         → StepsOver (A.has_met subject) begun bytes.now n splitter.new lines.old lines.new
-        (W.held sink.old) (W.held sink.new)) }
-    ensures writer { LeavesWriter result (turn W.held W.has_failed sink.old sink.new) }
+        (W.written sink.old) (W.written sink.new)) }
+    ensures writer { LeavesWriter result (turn W.written W.has_failed sink.old sink.new) }
     ensures stops { result ≡ Err Write → (subject : A.Subject) (begun : List ℕ) → HasBegun splitter.old begun
-        → StopsIn (A.has_met subject) (A.makes subject) begun bytes.now lines.old (W.held sink.old)
-        (W.held sink.new) }
+        → StopsIn (A.has_met subject) (A.makes subject) begun bytes.now lines.old (W.written sink.old)
+        (W.written sink.new) }
     ensures asked { result ≡ Err Memory → (subject : A.Subject) (begun : List ℕ) → HasBegun splitter.old begun
         → AsksIn (A.has_met subject) (A.asks subject) begun bytes.now lines.old }
 {
@@ -164,10 +164,10 @@ fn read_line<A: Account, W: Sink>(
     sink: &mut W,
 ) -> Result<(), LineFault>
     ensures read { OnOk result ((subject : A.Subject) (line : List ℕ) → IsRawLine raw.entry line
-        → ReadsAs (A.has_met subject) line lines.old lines.new (W.held sink.old) (W.held sink.new)) }
-    ensures writer { LeavesWriter result (turn W.held W.has_failed sink.old sink.new) }
+        → ReadsAs (A.has_met subject) line lines.old lines.new (W.written sink.old) (W.written sink.new)) }
+    ensures writer { LeavesWriter result (turn W.written W.has_failed sink.old sink.new) }
     ensures stops { result ≡ Err Write → (subject : A.Subject) (line : List ℕ) → IsRawLine raw.entry line
-        → StopsAs (A.has_met subject) (A.makes subject) line lines.old (W.held sink.old) (W.held sink.new) }
+        → StopsAs (A.has_met subject) (A.makes subject) line lines.old (W.written sink.old) (W.written sink.new) }
     ensures asked { result ≡ Err Memory → (subject : A.Subject) (line : List ℕ) → IsRawLine raw.entry line
         → AsksAs (A.has_met subject) (A.asks subject) line lines.old }
 {
@@ -181,10 +181,10 @@ fn take_last<A: Account, W: Sink>(
     sink: &mut W,
 ) -> Result<(), LineFault>
     ensures reads { OnOk result ((subject : A.Subject) (begun : List ℕ) → HasBegun splitter.old begun
-        → ReadsLast (A.has_met subject) begun lines.old lines.new (W.held sink.old) (W.held sink.new)) }
-    ensures writer { LeavesWriter result (turn W.held W.has_failed sink.old sink.new) }
+        → ReadsLast (A.has_met subject) begun lines.old lines.new (W.written sink.old) (W.written sink.new)) }
+    ensures writer { LeavesWriter result (turn W.written W.has_failed sink.old sink.new) }
     ensures stops { result ≡ Err Write → (subject : A.Subject) (begun : List ℕ) → HasBegun splitter.old begun
-        → StopsLast (A.has_met subject) (A.makes subject) begun lines.old (W.held sink.old) (W.held sink.new) }
+        → StopsLast (A.has_met subject) (A.makes subject) begun lines.old (W.written sink.old) (W.written sink.new) }
     ensures asked { result ≡ Err Memory → (subject : A.Subject) (begun : List ℕ) → HasBegun splitter.old begun
         → AsksLast (A.has_met subject) (A.asks subject) begun lines.old }
 {
@@ -198,12 +198,12 @@ fn take_last<A: Account, W: Sink>(
 fn close<A: Account, W: Sink>(lines: &mut Lines<A>, sink: &mut W) -> Result<Counts, DeviceFault>
     ensures closes { IfOk result (λ counts.
         (subject : A.Subject) (given : Option (List ℕ)) (spelled : List Spelled) (held : Option (List ℕ))
-        → HasMetAll (A.has_met subject) given spelled lines.old held (W.held sink.old)
-        → WritesAll (A.makes subject) given spelled counts held (W.held sink.new)) }
+        → HasMetAll (A.has_met subject) given spelled lines.old held (W.written sink.old)
+        → WritesAll (A.makes subject) given spelled counts held (W.written sink.new)) }
     ensures stops { OnErr result (
         (subject : A.Subject) (given : Option (List ℕ)) (spelled : List Spelled) (held : Option (List ℕ))
-        → HasMetAll (A.has_met subject) given spelled lines.old held (W.held sink.old)
-        → WritesSome (A.makes subject) given spelled held (W.held sink.new)) }
+        → HasMetAll (A.has_met subject) given spelled lines.old held (W.written sink.old)
+        → WritesSome (A.makes subject) given spelled held (W.written sink.new)) }
     ensures flushed { OnOk result (W.is_flushed sink.new ≡ true) }
     ensures mark { Marks result (W.has_failed sink.old) (W.has_failed sink.new) }
 {

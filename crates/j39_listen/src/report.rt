@@ -7,11 +7,11 @@ ghost use Rattle.j39_frame.specs.Frame.{FrameRecord};
 ghost use Rattle.j39_frame.specs.Identifier.{pgn_of, source_of};
 ghost use Rattle.j39_groups.specs.Readings.{is_reported_in};
 ghost use Rattle.j39_groups.specs.Table.{the_table};
-ghost use Rattle.j39_listen.specs.AccountSteps.{LeavesWriter};
+ghost use Rattle.j39_listen.specs.AccountCalls.{LeavesWriter};
 ghost use Rattle.j39_listen.specs.Asking.{AsksForBoxes};
 ghost use Rattle.j39_listen.specs.Listening.{Hears};
 ghost use Rattle.j39_listen.specs.Output.{MakesReport, report_of};
-ghost use Rattle.j39_listen.specs.ReportSteps.{HasReported, MeetsFrame, StopsFrame, made_by};
+ghost use Rattle.j39_listen.specs.ReportSoFar.{HasReported, MeetsFrame, StopsFrame, made_by};
 ghost use Rattle.j39_listen.specs.Ran.{PassesOn, Ran};
 ghost use Rattle.j39_listen.specs.Run.{WritesPublished};
 ghost use Rattle.j39_listen.specs.declared.account.LineFault.TheVariants as line_fault;
@@ -40,12 +40,12 @@ pub fn run<R: Source, W: Sink>(
     // What the run promises is `Ran`. The report promise: what is written is the report of the log, and nothing else.
     // Memory is wanted only at a frame of the log that announces a message.
     ensures ran { Ran (MakesReport the_table) AsksForBoxes bus limit result
-        (turn R.remaining R.has_failed source.old source.new) (turn W.held W.has_failed sink.old sink.new) }
+        (turn R.remaining R.has_failed source.old source.new) (turn W.written W.has_failed sink.old sink.new) }
 
     // The headline: of what publishers sent, its lines under their addresses are exactly the values
     // published, but for the messages that lost a packet.
     ensures published { OnOk result (IfSome (R.remaining source.old)
-        (λ log. WritesPublished the_table bus log (W.held sink.old) (W.held sink.new))) }
+        (λ log. WritesPublished the_table bus log (W.written sink.old) (W.written sink.new))) }
 
     // What was written is passed on at the end, and before each read.
     ensures flushed { PassesOn result (W.is_flushed sink.old) (W.is_flushed sink.new) }
@@ -69,12 +69,12 @@ pub fn run_with<R: Source, W: Sink>(
     // What the run promises is `Ran`. The report promise: what is written is the report of the log, and nothing else.
     // Memory is wanted only at a frame of the log that announces a message.
     ensures ran { Ran (MakesReport groups.now) AsksForBoxes bus limit result
-        (turn R.remaining R.has_failed source.old source.new) (turn W.held W.has_failed sink.old sink.new) }
+        (turn R.remaining R.has_failed source.old source.new) (turn W.written W.has_failed sink.old sink.new) }
 
     // The headline: of what publishers sent, its lines under their addresses are exactly the values
     // published, but for the messages that lost a packet.
     ensures published { OnOk result (IfSome (R.remaining source.old)
-        (λ log. WritesPublished groups.now bus log (W.held sink.old) (W.held sink.new))) }
+        (λ log. WritesPublished groups.now bus log (W.written sink.old) (W.written sink.new))) }
 
     // What was written is passed on at the end, and before each read.
     ensures flushed { PassesOn result (W.is_flushed sink.old) (W.is_flushed sink.new) }
@@ -108,10 +108,10 @@ impl<'g, 't> Report<'g, 't> {
 impl<'g, 't> Account for Report<'g, 't> {
     ghost use Rattle.std.specs.Prelude.{List};
     ghost use Rattle.j39_groups.specs.Row.{RowRecord};
-    ghost use Rattle.j39_listen.specs.AccountSteps.{Begins, MakesOne};
+    ghost use Rattle.j39_listen.specs.AccountCalls.{Begins, MakesOne};
     ghost use Rattle.j39_listen.specs.Asking.{AsksForBoxes};
     ghost use Rattle.j39_listen.specs.Output.{MakesReport};
-    ghost use Rattle.j39_listen.specs.ReportSteps.{HasReported};
+    ghost use Rattle.j39_listen.specs.ReportSoFar.{HasReported};
 
     ghost Subject = { List RowRecord };
 
@@ -122,7 +122,7 @@ impl<'g, 't> Account for Report<'g, 't> {
     ghost asks = { λ subject. AsksForBoxes };
 
     #[inline(always)]
-    fn meet<W: Sink>(&mut self, _: &Bus, frame: &Frame, sink: &mut W) -> Result<(), LineFault> {
+    fn feed<W: Sink>(&mut self, _: &Bus, frame: &Frame, sink: &mut W) -> Result<(), LineFault> {
         match put_frame(&mut self.listener, self.groups, &mut self.pen, frame, sink) {
             Ok(None) => {
                 self.made = self.made.and(Made {
@@ -160,10 +160,10 @@ fn put_frame<W: Sink>(
     sink: &mut W,
 ) -> Result<Option<u64>, LineFault>
     ensures met { IfOk result (λ lines. (F : List FrameRecord) → Hears listener.old F
-        → MeetsFrame groups.now listener.new F frame.now (made_by lines) (W.held sink.old) (W.held sink.new)) }
-    ensures writer { LeavesWriter result (turn W.held W.has_failed sink.old sink.new) }
+        → MeetsFrame groups.now listener.new F frame.now (made_by lines) (W.written sink.old) (W.written sink.new)) }
+    ensures writer { LeavesWriter result (turn W.written W.has_failed sink.old sink.new) }
     ensures stops { result ≡ Err line_fault.Write → (F : List FrameRecord) → Hears listener.old F
-        → StopsFrame groups.now F frame.now (W.held sink.old) (W.held sink.new) }
+        → StopsFrame groups.now F frame.now (W.written sink.old) (W.written sink.new) }
     ensures asked { result ≡ Err line_fault.Memory → (F : List FrameRecord) → Hears listener.old F
         → AsksForBoxes F frame.now }
 {
@@ -180,7 +180,7 @@ fn put_frame<W: Sink>(
     if !is_network_group(pgn) {
         return Ok(None);
     }
-    put_part(listener, groups, pen, frame, sink)
+    put_packet(listener, groups, pen, frame, sink)
 }
 
 /// Writes the report of a frame that is heard by itself, and answers how many lines.
@@ -195,9 +195,9 @@ fn put_single<W: Sink>(
     requires reported { is_reported_in groups.now (pgn_of frame.now.id) ≡ true }
     requires address { source_of frame.now.id < 254 }
     ensures met { IfOk result (λ lines. (F : List FrameRecord) → Hears listener.now F
-        → MeetsFrame groups.now listener.now F frame.now (made_by (Some lines)) (W.held sink.old) (W.held sink.new)) }
+        → MeetsFrame groups.now listener.now F frame.now (made_by (Some lines)) (W.written sink.old) (W.written sink.new)) }
     ensures stops { OnErr result ((F : List FrameRecord) → Hears listener.now F
-        → StopsFrame groups.now F frame.now (W.held sink.old) (W.held sink.new)) }
+        → StopsFrame groups.now F frame.now (W.written sink.old) (W.written sink.new)) }
     ensures mark { Marks result (W.has_failed sink.old) (W.has_failed sink.new) }
 {
     let heard = by_itself(frame, listener.holder(frame.id.source()));
@@ -209,7 +209,7 @@ fn put_single<W: Sink>(
 
 /// Writes the report of what is heard at a frame of the network's, and answers how many lines, where something is.
 #[inline(never)]
-fn put_part<W: Sink>(
+fn put_packet<W: Sink>(
     listener: &mut Listener,
     groups: &Groups<'_>,
     pen: &mut Pen,
@@ -217,10 +217,10 @@ fn put_part<W: Sink>(
     sink: &mut W,
 ) -> Result<Option<u64>, LineFault>
     ensures met { IfOk result (λ lines. (F : List FrameRecord) → Hears listener.old F
-        → MeetsFrame groups.now listener.new F frame.now (made_by lines) (W.held sink.old) (W.held sink.new)) }
-    ensures writer { LeavesWriter result (turn W.held W.has_failed sink.old sink.new) }
+        → MeetsFrame groups.now listener.new F frame.now (made_by lines) (W.written sink.old) (W.written sink.new)) }
+    ensures writer { LeavesWriter result (turn W.written W.has_failed sink.old sink.new) }
     ensures stops { result ≡ Err line_fault.Write → (F : List FrameRecord) → Hears listener.old F
-        → StopsFrame groups.now F frame.now (W.held sink.old) (W.held sink.new) }
+        → StopsFrame groups.now F frame.now (W.written sink.old) (W.written sink.new) }
     ensures asked { result ≡ Err line_fault.Memory → (F : List FrameRecord) → Hears listener.old F
         → AsksForBoxes F frame.now }
 {

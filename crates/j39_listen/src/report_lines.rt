@@ -7,7 +7,7 @@ ghost use Rattle.j39_address.specs.Name.{name_raw};
 ghost use Rattle.j39_io.specs.Device.{AppendsFront, Marks};
 ghost use Rattle.j39_log.specs.Seconds.{seconds_value};
 ghost use Rattle.j39_listen.specs.Report.{entries_of, name_text, text_of};
-ghost use Rattle.j39_listen.specs.Shown.{hearing_of};
+ghost use Rattle.j39_listen.specs.HeardModel.{hearing_of};
 
 use crate::Heard;
 use crate::head::head_before;
@@ -46,9 +46,9 @@ pub(crate) fn put_heard<W: Sink>(
     sink: &mut W,
 ) -> Result<u64, DeviceFault>
     ensures lines { IfOk result (λ n. n ≡ length (entries_of groups.now (hearing_of heard.now))) }
-    ensures written { OnOk result (Appends (W.held sink.old) (W.held sink.new)
+    ensures written { OnOk result (Appends (W.written sink.old) (W.written sink.new)
         (text_of (entries_of groups.now (hearing_of heard.now)))) }
-    ensures front { OnErr result (AppendsFront (W.held sink.old) (W.held sink.new)
+    ensures front { OnErr result (AppendsFront (W.written sink.old) (W.written sink.new)
         (text_of (entries_of groups.now (hearing_of heard.now)))) }
     ensures mark { Marks result (W.has_failed sink.old) (W.has_failed sink.new) }
 {

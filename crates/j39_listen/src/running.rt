@@ -2,7 +2,7 @@
 ghost use Rattle.std.specs.Prelude.{◌≡◌, ◌≢◌, ◌<◌, ◌++◌, true, IfOk, OnOk, OnErr, Err};
 ghost use Rattle.j39_io.specs.Turn.{turn};
 ghost use Rattle.j39_listen.specs.Asking.{AsksAmong};
-ghost use Rattle.j39_listen.specs.PieceSteps.{AtNothing, AtStart, Behind, HasTaken};
+ghost use Rattle.j39_listen.specs.PiecesSoFar.{AtNothing, AtStart, Behind, HasTaken};
 ghost use Rattle.j39_listen.specs.Ran.{Ended, PassesOn, Ran};
 ghost use Rattle.j39_listen.specs.Run.{Writes, WritesFront, WritesFrontOfMore};
 ghost use Rattle.j39_listen.specs.declared.running.RunFault.TheVariants.{Memory, Read, Write, TooLong};
@@ -68,12 +68,12 @@ pub fn run_over<A: Account, R: Source, W: Sink>(
 ) -> Result<Counts, RunFault>
     // It ended as every run does, whatever the account had met.
     ensures ended { Ended limit result
-        (turn R.remaining R.has_failed source.old source.new) (turn W.held W.has_failed sink.old sink.new) }
+        (turn R.remaining R.has_failed source.old source.new) (turn W.written W.has_failed sink.old sink.new) }
 
     // What the run promises is `Ran`: what is written is what the account makes of the log's frames, and nothing else.
     // Memory is wanted where the account asks for some.
     ensures ran { AtStart A.has_met account (λ subject. Ran (A.makes subject) (A.asks subject) bus limit result
-        (turn R.remaining R.has_failed source.old source.new) (turn W.held W.has_failed sink.old sink.new)) }
+        (turn R.remaining R.has_failed source.old source.new) (turn W.written W.has_failed sink.old sink.new)) }
 
     // What was written is passed on at the end, and before each read.
     ensures flushed { PassesOn result (W.is_flushed sink.old) (W.is_flushed sink.new) }
@@ -90,10 +90,10 @@ fn read_pieces<A: Account, R: Source, W: Sink>(
     limit: u64,
 ) -> Result<Counts, RunFault>
     ensures ended { Ended limit result
-        (turn R.remaining R.has_failed source.old source.new) (turn W.held W.has_failed sink.old sink.new) }
-    ensures ran { AtNothing A.has_met pieces.old (W.held sink.old)
+        (turn R.remaining R.has_failed source.old source.new) (turn W.written W.has_failed sink.old sink.new) }
+    ensures ran { AtNothing A.has_met pieces.old (W.written sink.old)
         (λ subject given. Ran (A.makes subject) (A.asks subject) given limit result
-        (turn R.remaining R.has_failed source.old source.new) (turn W.held W.has_failed sink.old sink.new)) }
+        (turn R.remaining R.has_failed source.old source.new) (turn W.written W.has_failed sink.old sink.new)) }
     ensures flushed { PassesOn result (W.is_flushed sink.old) (W.is_flushed sink.new) }
 {
     A::laws();
@@ -124,16 +124,16 @@ fn take<A: Account, W: Sink>(
     sink: &mut W,
 ) -> Result<(), RunFault>
     ensures taken { OnOk result ((subject : A.Subject)
-        → Behind (A.has_met subject) pieces.old (W.held sink.old)
+        → Behind (A.has_met subject) pieces.old (W.written sink.old)
         (λ given taken held. HasTaken (A.has_met subject) given (taken ++ piece.now) pieces.new held
-        (W.held sink.new))) }
+        (W.written sink.new))) }
     ensures front { OnErr result ((subject : A.Subject)
-        → Behind (A.has_met subject) pieces.old (W.held sink.old)
-        (λ given taken held. WritesFrontOfMore (A.makes subject) given (taken ++ piece.now) held (W.held sink.new))) }
+        → Behind (A.has_met subject) pieces.old (W.written sink.old)
+        (λ given taken held. WritesFrontOfMore (A.makes subject) given (taken ++ piece.now) held (W.written sink.new))) }
     ensures write { result ≡ Err Write → W.has_failed sink.new ≡ true }
     ensures unmarked { result ≢ Err Write → W.has_failed sink.new ≡ W.has_failed sink.old }
     ensures asked { result ≡ Err Memory → (subject : A.Subject)
-        → Behind (A.has_met subject) pieces.old (W.held sink.old)
+        → Behind (A.has_met subject) pieces.old (W.written sink.old)
         (λ given taken held. AsksAmong (A.asks subject) given (taken ++ piece.now)) }
     ensures flushed { OnOk result (W.is_flushed sink.new ≡ true) }
     ensures not_read { result ≢ Err Read }
@@ -149,15 +149,15 @@ fn take<A: Account, W: Sink>(
 /// Finishes the log, and tells the faults as those of a run.
 fn finish<A: Account, W: Sink>(pieces: &mut Pieces<A>, sink: &mut W) -> Result<Counts, RunFault>
     ensures report { IfOk result (λ counts. (subject : A.Subject)
-        → Behind (A.has_met subject) pieces.old (W.held sink.old)
-        (λ given taken held. Writes (A.makes subject) given taken counts held (W.held sink.new))) }
+        → Behind (A.has_met subject) pieces.old (W.written sink.old)
+        (λ given taken held. Writes (A.makes subject) given taken counts held (W.written sink.new))) }
     ensures front { OnErr result ((subject : A.Subject)
-        → Behind (A.has_met subject) pieces.old (W.held sink.old)
-        (λ given taken held. WritesFront (A.makes subject) given taken held (W.held sink.new))) }
+        → Behind (A.has_met subject) pieces.old (W.written sink.old)
+        (λ given taken held. WritesFront (A.makes subject) given taken held (W.written sink.new))) }
     ensures write { result ≡ Err Write → W.has_failed sink.new ≡ true }
     ensures unmarked { result ≢ Err Write → W.has_failed sink.new ≡ W.has_failed sink.old }
     ensures asked { result ≡ Err Memory → (subject : A.Subject)
-        → Behind (A.has_met subject) pieces.old (W.held sink.old)
+        → Behind (A.has_met subject) pieces.old (W.written sink.old)
         (λ given taken held. AsksAmong (A.asks subject) given taken) }
     ensures flushed { OnOk result (W.is_flushed sink.new ≡ true) }
     ensures not_read { result ≢ Err Read }

@@ -22,4 +22,4 @@ pub mod LineParts
 pub mod LineRead
 pub mod Lanes
 pub mod LastSecond
-pub mod SplitterSteps
+pub mod SplitterChanges

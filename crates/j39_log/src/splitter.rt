@@ -71,7 +71,7 @@ enum PieceStep<'a> {
 
 impl Splitter {
     ghost use Rattle.j39_log.specs.Splitter.{AnswersEnd, AnswersPiece, HasBegun, IsKept, IsRawLine};
-    ghost use Rattle.j39_log.specs.SplitterSteps.{Finishes, StepFits, Steps};
+    ghost use Rattle.j39_log.specs.SplitterChanges.{Finishes, StepFits, Steps};
     ghost use Rattle.j39_log.specs.contracts.splitter.Splitter.{the_row};
 
     /// At the start of a log.

@@ -10,12 +10,12 @@ use Rattle.std.specs.Io.KnownBytes.{Appends}
 use Rattle.std.proofs.KnownBytes.{Appends-nil}
 use Rattle.j39_frame.specs.Frame.{FrameRecord}
 use Rattle.j39_groups.specs.Row.{RowRecord}
-use Rattle.j39_listen.specs.AccountSteps.{Begins, MakesOne, Meets, Stops}
+use Rattle.j39_listen.specs.AccountCalls.{Begins, MakesOne, Meets, Stops}
 use Rattle.j39_listen.specs.Counting.{capped}
 use Rattle.j39_listen.specs.Heard.{AreHeardWith, Hearing, LeavesNetwork, or_none}
 use Rattle.j39_listen.specs.Listening.{Hears}
 use Rattle.j39_listen.specs.Output.{Output}
-use Rattle.j39_listen.specs.ReportSteps.{made_of, made_sum}
+use Rattle.j39_listen.specs.ReportSoFar.{made_of, made_sum}
 use Rattle.j39_listen.specs.declared.counts.Made.{Made}
 use Rattle.j39_listen.proofs.Causal.{heard_more}
 use Rattle.j39_listen.proofs.LineLemmas.{capped-sum}
@@ -31,7 +31,7 @@ use Rattle.j39_reports.specs.declared.fault_news.account.FaultNews.{FaultNews}
 use Rattle.j39_reports.specs.declared.fault_news.form.FaultForm.{FaultForm}
 use Rattle.j39_reports.specs.declared.fault_news.form.FaultForm.TheVariants.{Line}
 use Rattle.j39_reports.specs.declared.fault_news.form.Writing.{Writing}
-use Rattle.j39_reports.specs.declared.fault_news.last_said.LastSaid.{LastSaid}
+use Rattle.j39_reports.specs.declared.fault_news.last_faults.LastFaults.{LastFaults}
 use Rattle.j39_reports.specs.declared.fault_news.telling.Telling.{Telling}
 
 -- ---- the texts
@@ -139,7 +139,7 @@ module _ (form : FaultForm) (rows : List RowRecord) (which : Telling) (ms : List
 
 -- ---- nothing is told
 
-pub tells_nothing : (form : FaultForm) (rows : List RowRecord) (which : Telling) (last : LastSaid) (ms : List Hearing) (o : Option Hearing) (made : Made) (held : Option (List ℕ))
+pub tells_nothing : (form : FaultForm) (rows : List RowRecord) (which : Telling) (last : LastFaults) (ms : List Hearing) (o : Option Hearing) (made : Made) (held : Option (List ℕ))
     → faults_among (or_none o) ≡ [] → told_next which ms o ≡ [] → Remembers last ms → made.messages ≡ 0 → made.lines ≡ 0
     → Tells form rows which last ms o made held held
 tells_nothing form rows which last ms o made held none untold remembers m l = record {

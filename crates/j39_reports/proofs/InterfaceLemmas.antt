@@ -14,7 +14,7 @@ use Rattle.j39_reports.specs.Interfaces.{InterfaceRecord, elsewhere, falls_behin
 use Rattle.j39_reports.specs.LogLines.{Seen}
 use Rattle.j39_reports.specs.SurveySoFar.{met_on, no_frames, with_stamp}
 use Rattle.j39_reports.specs.SurveyModels.{HaveMet, interface_record}
-use Rattle.j39_reports.specs.declared.surveys.interfaces.Interface.{Interface}
+use Rattle.j39_reports.specs.declared.surveys.interfaces.InterfaceCounts.{InterfaceCounts}
 use Rattle.j39_reports.specs.declared.surveys.interfaces.Interfaces.{Interfaces}
 use Rattle.j39_reports.proofs.CountLemmas.{capped_more, capped_sum, count_by-append, length_more}
 use Rattle.j39_reports.proofs.FirstsLemmas.{any_firsts, bytes_refl, bytes_same, firsts-new, firsts-old, firsts_any}
@@ -205,8 +205,8 @@ new_of seen s none =
     filter_map-append (stamp_on s.bus) seen (s ∷ []) ∙ rw (none, bytes_refl s.bus) refl in
     sym (ap (of_stamps s.bus) stamps ∙ of_stamps-more s.bus [] s.content.stamp)
 
-pub add_new : (a b : Interfaces) (i : Interface) (seen : List Seen) (s : Seen) → HaveMet a seen
-    → (items : List Interface) → map interface_record items ≡ map (met_on s.bus s.content.stamp) (map interface_record a.told.items)
+pub add_new : (a b : Interfaces) (i : InterfaceCounts) (seen : List Seen) (s : Seen) → HaveMet a seen
+    → (items : List InterfaceCounts) → map interface_record items ≡ map (met_on s.bus s.content.stamp) (map interface_record a.told.items)
     → b.told.items ≡ items ++ i ∷ [] → interface_record i ≡ with_stamp s.content.stamp (no_frames s.bus) → b.untold ≡ a.untold
     → list_any (λ i. bytes_eq s.bus i.name) (map interface_record a.told.items) ≡ false → length a.told.items < 16 → HaveMet b (seen ++ s ∷ [])
 add_new a b i seen s h items met pushed is untold none room =
@@ -261,12 +261,12 @@ any_more view p init i d below =
 -- ---- what the calls made of the interfaces
 
 -- the interfaces were looked at one by one, for a frame on this one
-pub record HasLooked (a : Interfaces) (items : List Interface) (name : List ℕ) (stamp : ℕ) (is_told : Bool) : Type 0 where
+pub record HasLooked (a : Interfaces) (items : List InterfaceCounts) (name : List ℕ) (stamp : ℕ) (is_told : Bool) : Type 0 where
   pub met : map interface_record items ≡ map (met_on name stamp) (map interface_record a.told.items)
   pub found : is_told ≡ list_any (λ i. bytes_eq name i.name) (map interface_record a.told.items)
   pub len : length items ≡ length a.told.items
 
-pub looked : (a : Interfaces) (now items : List Interface) (name : List ℕ) (stamp : ℕ) (is_told : Bool) → now ≡ a.told.items
+pub looked : (a : Interfaces) (now items : List InterfaceCounts) (name : List ℕ) (stamp : ℕ) (is_told : Bool) → now ≡ a.told.items
     → map interface_record items ≡ map (met_on name stamp) (map interface_record now)
     → is_told ≡ list_any (λ i. bytes_eq name i.name) (map interface_record now) → length items ≡ length now → HasLooked a items name stamp is_told
 looked a now items name stamp is_told same met found len = record {
@@ -275,11 +275,11 @@ looked a now items name stamp is_told same met found len = record {
   len = len ∙ ap length same;
 }
 
-pub refill_all : (a : Interfaces) (items : List Interface) → length items ≡ length a.told.items → refill (length a.told.items) a.told.items items ≡ items
+pub refill_all : (a : Interfaces) (items : List InterfaceCounts) → length items ≡ length a.told.items → refill (length a.told.items) a.told.items items ≡ items
 refill_all a items len =
     take-append-le (length a.told.items) items (drop (length items) a.told.items) (omega arith) ∙ take_all (length a.told.items) items (omega arith)
 
-module _ (a b : Interfaces) (items : List Interface) (seen : List Seen) (s : Seen) (name : List ℕ) (stamp : ℕ) (is_told : Bool) (l : HasLooked a items name stamp is_told)
+module _ (a b : Interfaces) (items : List InterfaceCounts) (seen : List Seen) (s : Seen) (name : List ℕ) (stamp : ℕ) (is_told : Bool) (l : HasLooked a items name stamp is_told)
     (is : s.bus ≡ name) (at : s.content.stamp ≡ stamp) (h : HaveMet a seen) where
   met_here : map interface_record items ≡ map (met_on s.bus s.content.stamp) (map interface_record a.told.items)
   met_here = l.met ∙ ap₂ (λ (n : List ℕ) (x : ℕ). map (met_on n x) (map interface_record a.told.items)) (sym is) (sym at)
@@ -296,10 +296,10 @@ module _ (a b : Interfaces) (items : List Interface) (seen : List Seen) (s : See
       add_full a b seen s h (ap (map interface_record) (same ∙ refill_all a items l.len) ∙ met_here) untold (found_here ∙ none)
       (sym l.len ∙ ap length (sym (refill_all a items l.len)) ∙ full)
 
-  pub looked_new : (i : Interface) → b.told.items ≡ refill (length a.told.items) a.told.items items ++ i ∷ [] → interface_record i ≡ with_stamp stamp (no_frames name)
+  pub looked_new : (i : InterfaceCounts) → b.told.items ≡ refill (length a.told.items) a.told.items items ++ i ∷ [] → interface_record i ≡ with_stamp stamp (no_frames name)
       → b.untold ≡ a.untold → is_told ≡ false → length (refill (length a.told.items) a.told.items items) < 16 → HaveMet b (seen ++ s ∷ [])
   looked_new i pushed made untold none room =
       let all = refill_all a items l.len in
       let len : length a.told.items ≡ length (refill (length a.told.items) a.told.items items) = sym l.len ∙ ap length (sym all) in
-      add_new a b i seen s h items met_here (pushed ∙ ap (λ (xs : List Interface). xs ++ i ∷ []) all)
+      add_new a b i seen s h items met_here (pushed ∙ ap (λ (xs : List InterfaceCounts). xs ++ i ∷ []) all)
       (made ∙ ap₂ (λ (x : ℕ) (n : List ℕ). with_stamp x (no_frames n)) (sym at) (sym is)) untold (found_here ∙ none) (omega arith)

@@ -4,29 +4,29 @@ use Rattle.std.proofs.Common.{slice_index_or, length, replicate, set-set}
 use Rattle.std.proofs.lemmas.List.{map-set, get_or-map}
 use Rattle.j39_memory.specs.declared.stored.Stored.{Stored}
 use Rattle.j39_memory.specs.Stored.{value_of}
-use Rattle.j39_reports.specs.LastMessages.{Places, SaidRecord, at, held_in, shown}
+use Rattle.j39_reports.specs.LastMessages.{LastMessages, LastRecord, at, stored_in, shown}
 
 abbrev pub SaidPlace : Type 0
-SaidPlace = Stored SaidRecord
+SaidPlace = Stored LastRecord
 
 abbrev pub SaidPlaces : Type 0
 SaidPlaces = List (Option SaidPlace)
 
 -- a place filled
-pub put_in : (ps : SaidPlaces) (i s : ℕ) (b : SaidPlace) (v : SaidRecord) → i ≡ s → value_of b ≡ v → shown (slice_set ps i (Some b)) ≡ slice_set (shown ps) s (Some v)
-put_in ps i s b v e f = map-set held_in ps i (Some b) ∙ (λ k. slice_set (shown ps) (e k) (Some (f k)))
+pub put_in : (ps : SaidPlaces) (i s : ℕ) (b : SaidPlace) (v : LastRecord) → i ≡ s → value_of b ≡ v → shown (slice_set ps i (Some b)) ≡ slice_set (shown ps) s (Some v)
+put_in ps i s b v e f = map-set stored_in ps i (Some b) ∙ (λ k. slice_set (shown ps) (e k) (Some (f k)))
 
 -- a place left empty
 pub left_empty : (ps : SaidPlaces) (i s : ℕ) → i ≡ s → shown (slice_set ps i None) ≡ slice_set (shown ps) s None
-left_empty ps i s e = map-set held_in ps i None ∙ ap (λ k. slice_set (shown ps) k None) e
+left_empty ps i s e = map-set stored_in ps i None ∙ ap (λ k. slice_set (shown ps) k None) e
 
 -- a place that was taken is filled
-pub set_again : (t : Places) (s : ℕ) (x o : Option SaidRecord) → slice_set (slice_set t s x) s o ≡ slice_set t s o
+pub set_again : (t : LastMessages) (s : ℕ) (x o : Option LastRecord) → slice_set (slice_set t s x) s o ≡ slice_set t s o
 set_again t s x o = set-set t s x o
 
 -- what stands at a place
-pub shown_at : (ps : SaidPlaces) (i : ℕ) (d : Option SaidPlace) → i < length ps → at (shown ps) i ≡ held_in (slice_index_or ps i d)
-shown_at ps i d l = get_or-map held_in ps i d None l
+pub shown_at : (ps : SaidPlaces) (i : ℕ) (d : Option SaidPlace) → i < length ps → at (shown ps) i ≡ stored_in (slice_index_or ps i d)
+shown_at ps i d l = get_or-map stored_in ps i d None l
 
 none_shown : (n : ℕ) → shown (replicate n None) ≡ replicate n None
 none_shown zero = refl

@@ -5,7 +5,7 @@ use Rattle.std.proofs.Common.{subst, sym}
 use Rattle.std.proofs.lemmas.Bool.{le-leb}
 use Rattle.std.specs.Io.KnownBytes.{Appends}
 use Rattle.j39_io.specs.Device.{AppendsFront}
-use Rattle.j39_faults.specs.Kinds.{kind_of}
+use Rattle.j39_faults.specs.FaultGroups.{kind_of}
 use Rattle.j39_faults.specs.LampBits.{lamps_of}
 use Rattle.j39_faults.specs.declared.kind.Kind.{Kind}
 use Rattle.j39_faults.specs.declared.lamps.Lamps.{Lamps}
@@ -22,7 +22,7 @@ use Rattle.j39_reports.specs.Remembered.{Notes, Remembers, said_at, said_in}
 use Rattle.j39_reports.specs.LastMessages.{differs}
 use Rattle.j39_reports.specs.FaultsSoFar.{Tells, TellsFront, told_faults, told_next}
 use Rattle.j39_reports.specs.declared.fault_news.form.FaultForm.{FaultForm}
-use Rattle.j39_reports.specs.declared.fault_news.last_said.LastSaid.{LastSaid}
+use Rattle.j39_reports.specs.declared.fault_news.last_faults.LastFaults.{LastFaults}
 use Rattle.j39_reports.specs.declared.fault_news.telling.Telling.{Telling}
 use Rattle.j39_reports.proofs.FaultAccountLemmas.{among_no, among_yes, next_no, next_yes, tells_nothing}
 use Rattle.j39_reports.proofs.TellLemmas.{news_is, remembers_more}
@@ -50,14 +50,14 @@ no_lamps h kind k l = ap (λ (o : Option Kind). is_some o && nat_le 2 (length h.
 
 -- ---- no message of faults
 
-pub tells_other : (form : FaultForm) (rows : List RowRecord) (which : Telling) (last : LastSaid) (ms : List Hearing) (h : Hearing) (made : Made) (held : Option (List ℕ))
+pub tells_other : (form : FaultForm) (rows : List RowRecord) (which : Telling) (last : LastFaults) (ms : List Hearing) (h : Hearing) (made : Made) (held : Option (List ℕ))
     → is_of_faults h ≡ false → Remembers last ms → made.messages ≡ 0 → made.lines ≡ 0 → Tells form rows which last ms (Some h) made held held
 tells_other form rows which last ms h made held other remembers m l =
     tells_nothing form rows which last ms (Some h) made held (among_no h other) (next_no which ms h other) remembers m l
 
 -- ---- one that is told, or not
 
-module _ (form : FaultForm) (rows : List RowRecord) (which : Telling) (last : LastSaid) (ms : List Hearing) (h : Hearing) (kind : Kind) (lamps : Lamps)
+module _ (form : FaultForm) (rows : List RowRecord) (which : Telling) (last : LastFaults) (ms : List Hearing) (h : Hearing) (kind : Kind) (lamps : Lamps)
     (k : kind_of h.message.pgn ≡ Some kind) (l : lamps_of h.message.bytes ≡ Some lamps) (below : h.message.source < 256) (remembers : Remembers last ms) where
   faults_are : faults_in h ≡ faults_by h (Some kind) (Some lamps)
   faults_are = ap (λ (o : Option Kind). faults_by h o (lamps_of h.message.bytes)) k ∙ ap (λ (o : Option Lamps). faults_by h (Some kind) o) l
@@ -74,7 +74,7 @@ module _ (form : FaultForm) (rows : List RowRecord) (which : Telling) (last : La
       ap (flat_map faults_in) (next_yes which ms h (of_faults h kind lamps k l)) ∙ ap (λ (b : Bool). flat_map faults_in (if b then h ∷ [] else [])) (sym t_is) ∙ by_told t
       ∙ ap (told_faults t) faults_are
 
-  pub tells_message : (last' : LastSaid) (t n : Bool) (made : Made) (old new : Option (List ℕ)) → n ≡ differs (said_at last kind h.message.source) h.message.bytes h.name
+  pub tells_message : (last' : LastFaults) (t n : Bool) (made : Made) (old new : Option (List ℕ)) → n ≡ differs (said_at last kind h.message.source) h.message.bytes h.name
       → t ≡ is_told which n → length h.message.bytes ≤ 1785 → Notes last kind h.message.source (said_in h) last'
       → made.messages ≡ 1 → made.lines ≡ length (told_faults t (faults_by h (Some kind) (Some lamps))) → made.lines < 2 ^ 64
       → Appends old new (faults_text form rows (told_faults t (faults_by h (Some kind) (Some lamps)))) → Tells form rows which last' ms (Some h) made old new

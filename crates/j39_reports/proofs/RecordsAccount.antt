@@ -7,13 +7,13 @@ use Rattle.j39_io.specs.Device.{AppendsFront}
 use Rattle.j39_frame.specs.Frame.{FrameRecord}
 use Rattle.j39_groups.specs.Readings.{is_reported_in}
 use Rattle.j39_groups.specs.Row.{RowRecord}
-use Rattle.j39_listen.specs.AccountSteps.{Begins, MakesOne, Meets, Stops}
+use Rattle.j39_listen.specs.AccountCalls.{Begins, MakesOne, Meets, Stops}
 use Rattle.j39_listen.specs.Counting.{capped}
 use Rattle.j39_listen.specs.Heard.{AreHeard, HeardAt, Hearing, or_none}
 use Rattle.j39_listen.specs.Listening.{Hears}
 use Rattle.j39_listen.specs.Output.{Output}
 use Rattle.j39_listen.specs.Report.{Entry, entries_of}
-use Rattle.j39_listen.specs.ReportSteps.{made_of, made_sum}
+use Rattle.j39_listen.specs.ReportSoFar.{made_of, made_sum}
 use Rattle.j39_reports.specs.RecordsSoFar.{HasRecorded, MeetsFrame, StopsFrame}
 use Rattle.j39_reports.specs.ReportRecords.{MakesRecords, records_of}
 use Rattle.j39_reports.specs.EntryText.{entries_text, entry_record}

@@ -11,7 +11,7 @@ use Rattle.j39_frame.specs.Frame.{FrameRecord}
 use Rattle.j39_groups.specs.Readings.{is_reported_in, readings_in}
 use Rattle.j39_groups.specs.Row.{RowRecord}
 use Rattle.j39_groups.specs.Visits.{Stops, Takes}
-use Rattle.j39_listen.specs.AccountSteps.{Begins, Closes, MakesOne, Meets, StopsAtEnd}
+use Rattle.j39_listen.specs.AccountCalls.{Begins, Closes, MakesOne, Meets, StopsAtEnd}
 use Rattle.j39_listen.specs.Counting.{capped}
 use Rattle.j39_listen.specs.Heard.{AreHeard, HeardAt, Hearing, or_none}
 use Rattle.j39_listen.specs.Listening.{Hears}

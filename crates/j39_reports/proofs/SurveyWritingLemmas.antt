@@ -20,7 +20,7 @@ use Rattle.j39_reports.specs.SurveyText.{class_text, group_text, groups_below, g
 use Rattle.j39_listen.specs.Counting.{capped}
 use Rattle.j39_reports.specs.Interfaces.{untold_in}
 use Rattle.j39_reports.specs.OtherLines.{others_of}
-use Rattle.j39_reports.specs.declared.surveys.interfaces.Interface.{Interface}
+use Rattle.j39_reports.specs.declared.surveys.interfaces.InterfaceCounts.{InterfaceCounts}
 use Rattle.j39_reports.specs.declared.surveys.unread.UnreadLine.{UnreadLine}
 use Rattle.j39_reports.specs.declared.surveys.log_survey.Survey.{Survey}
 
@@ -195,7 +195,7 @@ pub survey_begins : (table : List RowRecord) (lines : List LogLine) (held : Opti
 unfolding survey_text
 survey_begins table lines held = begins (rest0 table lines) held
 
-pub interfaces_is : (told : List Interface) (survey : Survey) (lines : List LogLine) → HasSurveyed survey lines → told ≡ survey.interfaces.told.items
+pub interfaces_is : (told : List InterfaceCounts) (survey : Survey) (lines : List LogLine) → HasSurveyed survey lines → told ≡ survey.interfaces.told.items
     → flat_map (λ i. interface_text (interface_record i)) told ≡ interfaces_text (seen_in lines)
 interfaces_is told survey lines h is =
     ap (flat_map (λ i. interface_text (interface_record i))) is ∙ sym (flat_map-map interface_text interface_record survey.interfaces.told.items)

@@ -8,14 +8,14 @@ use Rattle.std.proofs.lemmas.Bool.{cases_Bool, cases_eq, cond-true, cond-false, 
 use Rattle.std.proofs.lemmas.List.{get_or-replicate, length-replicate, get_or-set_other, get_or-set_same}
 use Rattle.std.proofs.lemmas.List.Elements.{filter-append}
 use Rattle.std.specs.List.{last_or}
-use Rattle.j39_faults.specs.Kinds.{kind_of}
+use Rattle.j39_faults.specs.FaultGroups.{kind_of}
 use Rattle.j39_faults.specs.declared.kind.Kind.{Kind}
 use Rattle.j39_faults.specs.declared.kind.Kind.TheVariants.{Active, Previous}
 use Rattle.j39_listen.specs.Heard.{Hearing}
 use Rattle.j39_reports.specs.News.{is_news, is_same_name, last_from, says_other}
 use Rattle.j39_reports.specs.Remembered.{Notes, Remembers, said_at, said_in}
-use Rattle.j39_reports.specs.LastMessages.{Places, SaidRecord, at, differs}
-use Rattle.j39_reports.specs.declared.fault_news.last_said.LastSaid.{LastSaid}
+use Rattle.j39_reports.specs.LastMessages.{LastMessages, LastRecord, at, differs}
+use Rattle.j39_reports.specs.declared.fault_news.last_faults.LastFaults.{LastFaults}
 
 -- ---- the last message of a group from an address
 
@@ -51,10 +51,10 @@ pub last_from_none : (pgn a : ℕ) → last_from pgn a [] ≡ None
 unfolding last_from
 last_from_none pgn a = refl
 
-none_at : (places : Places) (pgn a : ℕ) → places ≡ replicate 256 None → a < 256 → at places a ≡ option_map said_in (last_from pgn a [])
-none_at places pgn a is l = ap (λ (t : Places). at t a) is ∙ get_or-replicate 256 a None None l ∙ ap (option_map said_in) (sym (last_from_none pgn a))
+none_at : (places : LastMessages) (pgn a : ℕ) → places ≡ replicate 256 None → a < 256 → at places a ≡ option_map said_in (last_from pgn a [])
+none_at places pgn a is l = ap (λ (t : LastMessages). at t a) is ∙ get_or-replicate 256 a None None l ∙ ap (option_map said_in) (sym (last_from_none pgn a))
 
-abbrev none_said : Option SaidRecord
+abbrev none_said : Option LastRecord
 none_said = None
 
 none_some : (m : Hearing) → None ≡ Some m → ⊥
@@ -64,7 +64,7 @@ none_some m e = subst is_none_type e tt
     is_none_type None = ⊤
     is_none_type (Some x) = ⊥
 
-pub remembers_none : (l : LastSaid) → l.active ≡ replicate 256 None → l.previous ≡ replicate 256 None → Remembers l []
+pub remembers_none : (l : LastFaults) → l.active ≡ replicate 256 None → l.previous ≡ replicate 256 None → Remembers l []
 remembers_none l active previous = record {
   actives = ap length active ∙ length-replicate 256 none_said;
   previouses = ap length previous ∙ length-replicate 256 none_said;
@@ -95,14 +95,14 @@ group_is pgn kind is = elim (cases_eq pgn 65226) [
     none_is e = cc
 
 -- what is kept for an address is what it said last in these messages
-pub said_is : (l : LastSaid) (ms : List Hearing) (pgn a : ℕ) (kind : Kind) → Remembers l ms → kind_of pgn ≡ Some kind → a < 256
+pub said_is : (l : LastFaults) (ms : List Hearing) (pgn a : ℕ) (kind : Kind) → Remembers l ms → kind_of pgn ≡ Some kind → a < 256
     → said_at l kind a ≡ option_map said_in (last_from pgn a ms)
 said_is l ms pgn a Active h is k = h.active a k ∙ ap (λ (g : ℕ). option_map said_in (last_from g a ms)) (sym (group_is pgn Active is))
 said_is l ms pgn a Previous h is k = h.previous a k ∙ ap (λ (g : ℕ). option_map said_in (last_from g a ms)) (sym (group_is pgn Previous is))
 
 -- ---- one message more
 
-set_at : (places : Places) (pgn : ℕ) (ms : List Hearing) (m : Hearing) → length places ≡ 256 → m.message.pgn ≡ pgn
+set_at : (places : LastMessages) (pgn : ℕ) (ms : List Hearing) (m : Hearing) → length places ≡ 256 → m.message.pgn ≡ pgn
     → ((a : ℕ) → a < 256 → at places a ≡ option_map said_in (last_from pgn a ms))
     → (a : ℕ) → a < 256 → at (slice_set places m.message.source (Some (said_in m))) a ≡ option_map said_in (last_from pgn a (ms ++ m ∷ []))
 set_at places pgn ms m len is has a l = elim (cases_eq m.message.source a) [
@@ -112,7 +112,7 @@ set_at places pgn ms m len is has a l = elim (cases_eq m.message.source a) [
       ∙ ap (option_map said_in) (sym (last_from_other pgn a ms m (is_of_other pgn a m is n)))
 ]
 
-else_at : (places : Places) (pgn : ℕ) (ms : List Hearing) (m : Hearing) → m.message.pgn ≢ pgn
+else_at : (places : LastMessages) (pgn : ℕ) (ms : List Hearing) (m : Hearing) → m.message.pgn ≢ pgn
     → ((a : ℕ) → a < 256 → at places a ≡ option_map said_in (last_from pgn a ms))
     → (a : ℕ) → a < 256 → at places a ≡ option_map said_in (last_from pgn a (ms ++ m ∷ []))
 else_at places pgn ms m other has a l = has a l ∙ ap (option_map said_in) (sym (last_from_other pgn a ms m (is_of_else pgn a m other)))
@@ -129,15 +129,15 @@ whole_more ms m short whole x pgn a e = elim (cases_Bool (is_of pgn a m)) [
     some_is : {x y : Hearing} → Some x ≡ Some y → x ≡ y
     some_is e = cc
 
-pub remembers_more : (l l' : LastSaid) (ms : List Hearing) (m : Hearing) (kind : Kind) → kind_of m.message.pgn ≡ Some kind → length m.message.bytes ≤ 1785
+pub remembers_more : (l l' : LastFaults) (ms : List Hearing) (m : Hearing) (kind : Kind) → kind_of m.message.pgn ≡ Some kind → length m.message.bytes ≤ 1785
     → Notes l kind m.message.source (said_in m) l' → Remembers l ms → Remembers l' (ms ++ m ∷ [])
 remembers_more l l' ms m Active is short (active, previous) h =
     let group = group_is m.message.pgn Active is in
     record {
       actives = ap length active ∙ length-set l.active m.message.source (Some (said_in m)) ∙ h.actives;
       previouses = ap length previous ∙ h.previouses;
-      active = λ a k. ap (λ (t : Places). at t a) active ∙ set_at l.active 65226 ms m h.actives group h.active a k;
-      previous = λ a k. ap (λ (t : Places). at t a) previous ∙ else_at l.previous 65227 ms m (λ e. (let x : 65226 ≡ 65227 = sym group ∙ e in absurd (omega arith))) h.previous a k;
+      active = λ a k. ap (λ (t : LastMessages). at t a) active ∙ set_at l.active 65226 ms m h.actives group h.active a k;
+      previous = λ a k. ap (λ (t : LastMessages). at t a) previous ∙ else_at l.previous 65227 ms m (λ e. (let x : 65226 ≡ 65227 = sym group ∙ e in absurd (omega arith))) h.previous a k;
       whole = whole_more ms m short h.whole;
     }
 remembers_more l l' ms m Previous is short (previous, active) h =
@@ -145,8 +145,8 @@ remembers_more l l' ms m Previous is short (previous, active) h =
     record {
       actives = ap length active ∙ h.actives;
       previouses = ap length previous ∙ length-set l.previous m.message.source (Some (said_in m)) ∙ h.previouses;
-      active = λ a k. ap (λ (t : Places). at t a) active ∙ else_at l.active 65226 ms m (λ e. (let x : 65227 ≡ 65226 = sym group ∙ e in absurd (omega arith))) h.active a k;
-      previous = λ a k. ap (λ (t : Places). at t a) previous ∙ set_at l.previous 65227 ms m h.previouses group h.previous a k;
+      active = λ a k. ap (λ (t : LastMessages). at t a) active ∙ else_at l.active 65226 ms m (λ e. (let x : 65227 ≡ 65226 = sym group ∙ e in absurd (omega arith))) h.active a k;
+      previous = λ a k. ap (λ (t : LastMessages). at t a) previous ∙ set_at l.previous 65227 ms m h.previouses group h.previous a k;
       whole = whole_more ms m short h.whole;
     }
 
@@ -157,14 +157,14 @@ differs_by : (o : Option Hearing) (m : Hearing) → ((x : Hearing) → o ≡ Som
 differs_by None m whole = refl
 differs_by (Some x) m whole = ap (λ bs. not (bytes_eq bs m.message.bytes && is_same_name x.name m.name)) (whole x refl)
 
-pub news_is : (l : LastSaid) (ms : List Hearing) (m : Hearing) (kind : Kind) → Remembers l ms → kind_of m.message.pgn ≡ Some kind → m.message.source < 256
+pub news_is : (l : LastFaults) (ms : List Hearing) (m : Hearing) (kind : Kind) → Remembers l ms → kind_of m.message.pgn ≡ Some kind → m.message.source < 256
     → differs (said_at l kind m.message.source) m.message.bytes m.name ≡ is_news ms m
 news_is l ms m kind h is k =
     ap (λ o. differs o m.message.bytes m.name) (said_is l ms m.message.pgn m.message.source kind h is k)
     ∙ differs_by (last_from m.message.pgn m.message.source ms) m (λ x e. h.whole x m.message.pgn m.message.source e)
 
 -- nothing is kept for an address where it said nothing
-pub first_is : (l : LastSaid) (ms : List Hearing) (pgn a : ℕ) (kind : Kind) → Remembers l ms → kind_of pgn ≡ Some kind → a < 256 → said_at l kind a ≡ None
+pub first_is : (l : LastFaults) (ms : List Hearing) (pgn a : ℕ) (kind : Kind) → Remembers l ms → kind_of pgn ≡ Some kind → a < 256 → said_at l kind a ≡ None
     → last_from pgn a ms ≡ None
 first_is l ms pgn a kind h is k none = go (last_from pgn a ms) (sym (said_is l ms pgn a kind h is k) ∙ none)
   where

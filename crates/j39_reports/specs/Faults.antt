@@ -2,7 +2,7 @@
 use Rattle.std.specs.Prelude.{◌++◌, ℕ, List, [], ◌∷◌, Option, Some, None, codes, map}
 use Rattle.hex.specs.Hex.{encode_upper}
 use Rattle.j39_faults.specs.Codes.{codes_of}
-use Rattle.j39_faults.specs.Kinds.{kind_of}
+use Rattle.j39_faults.specs.FaultGroups.{kind_of}
 use Rattle.j39_faults.specs.LampBits.{lamps_of}
 use Rattle.j39_faults.specs.Text.{code_text, no_code_text}
 use Rattle.j39_faults.specs.declared.code.Code.{Code}

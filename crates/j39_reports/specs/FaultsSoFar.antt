@@ -11,7 +11,7 @@ use Rattle.j39_groups.specs.Row.{RowRecord}
 use Rattle.j39_listen.specs.Heard.{AreHeardWith, Hearing, HeardAtWith, or_none}
 use Rattle.j39_listen.specs.Listening.{Hears}
 use Rattle.j39_listen.specs.Output.{Output}
-use Rattle.j39_listen.specs.ReportSteps.{made_of}
+use Rattle.j39_listen.specs.ReportSoFar.{made_of}
 use Rattle.j39_listen.specs.declared.counts.Made.{Made}
 use Rattle.j39_listen.specs.declared.listener.Listener.{Listener}
 use Rattle.j39_io.specs.Records.{record_text}
@@ -25,7 +25,7 @@ use Rattle.j39_reports.specs.Remembered.{Remembers}
 use Rattle.j39_reports.specs.declared.fault_news.account.FaultNews.{FaultNews}
 use Rattle.j39_reports.specs.declared.fault_news.form.FaultForm.{FaultForm}
 use Rattle.j39_reports.specs.declared.fault_news.form.FaultForm.TheVariants.{Line, Record}
-use Rattle.j39_reports.specs.declared.fault_news.last_said.LastSaid.{LastSaid}
+use Rattle.j39_reports.specs.declared.fault_news.last_faults.LastFaults.{LastFaults}
 use Rattle.j39_reports.specs.declared.fault_news.telling.Telling.{Telling}
 
 -- what stands before what is said
@@ -56,7 +56,7 @@ added form rows which ms heard = record {
 }
 
 -- behind these messages this was heard, and what is told of it was written
-pub record Tells (form : FaultForm) (rows : List RowRecord) (which : Telling) (last' : LastSaid) (ms : List Hearing)
+pub record Tells (form : FaultForm) (rows : List RowRecord) (which : Telling) (last' : LastFaults) (ms : List Hearing)
     (heard : Option Hearing) (made : Made) (old new : Option (List ℕ)) : Type 0 where
   pub remembers : Remembers last' (ms ++ faults_among (or_none heard))
   pub made_is : made ≡ made_of (added form rows which ms heard)
@@ -67,7 +67,7 @@ abbrev pub TellsFront : FaultForm → List RowRecord → Telling → List Hearin
 TellsFront form rows which ms heard old new = AppendsFront old new (added form rows which ms heard).text
 
 -- behind the frames F, of which these messages were heard, this is heard at the frame f, and was told
-pub record MeetsFrame (form : FaultForm) (rows : List RowRecord) (which : Telling) (l' : Listener) (last' : LastSaid)
+pub record MeetsFrame (form : FaultForm) (rows : List RowRecord) (which : Telling) (l' : Listener) (last' : LastFaults)
     (F : List FrameRecord) (f : FrameRecord) (ms : List Hearing) (made : Made)
     (old new : Option (List ℕ)) : Type 0 where
   pub heard : Option Hearing

@@ -6,30 +6,30 @@ use Rattle.j39_memory.specs.Stored.{value_of}
 use Rattle.j39_reports.specs.News.{is_same_name}
 
 -- the bytes of a message, and the NAME that it came under
-pub record SaidRecord : Type 0 where
+pub record LastRecord : Type 0 where
   pub bytes : List ℕ
   pub name : Option ℕ
 
 -- no message has more bytes
-abbrev pub said_by : List ℕ → Option ℕ → SaidRecord
+abbrev pub said_by : List ℕ → Option ℕ → LastRecord
 said_by bytes name = record { bytes = take 1785 bytes; name = name }
 
-abbrev pub is_said : SaidRecord → List ℕ → Option ℕ → Bool
+abbrev pub is_said : LastRecord → List ℕ → Option ℕ → Bool
 is_said s bytes name = bytes_eq s.bytes bytes && is_same_name s.name name
 
-abbrev pub differs : Option SaidRecord → List ℕ → Option ℕ → Bool
+abbrev pub differs : Option LastRecord → List ℕ → Option ℕ → Bool
 differs None bytes name = true
 differs (Some s) bytes name = not (is_said s bytes name)
 
-abbrev pub Places : Type 0
-Places = List (Option SaidRecord)
+abbrev pub LastMessages : Type 0
+LastMessages = List (Option LastRecord)
 
-abbrev pub at : Places → ℕ → Option SaidRecord
+abbrev pub at : LastMessages → ℕ → Option LastRecord
 at places a = slice_index_or places a None
 
 -- what is stored there
-abbrev pub held_in : Option (Stored SaidRecord) → Option SaidRecord
-held_in = option_map value_of
+abbrev pub stored_in : Option (Stored LastRecord) → Option LastRecord
+stored_in = option_map value_of
 
-abbrev pub shown : List (Option (Stored SaidRecord)) → Places
-shown = map held_in
+abbrev pub shown : List (Option (Stored LastRecord)) → LastMessages
+shown = map stored_in

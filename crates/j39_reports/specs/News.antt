@@ -2,7 +2,7 @@
 use Rattle.std.specs.Prelude.{◌==◌, ◌&&◌, not, ℕ, zero, suc, Bool, true, false, List, [], ◌∷◌, ◌++◌, Option, Some, None}
 use Rattle.std.specs.Prelude.{bytes_eq, filter, if◌then◌else◌, is_some, length, nat_le, slice_get, take}
 use Rattle.std.specs.List.{last_or}
-use Rattle.j39_faults.specs.Kinds.{kind_of}
+use Rattle.j39_faults.specs.FaultGroups.{kind_of}
 use Rattle.j39_listen.specs.Heard.{Hearing}
 use Rattle.j39_reports.specs.declared.fault_news.telling.Telling.{Telling}
 use Rattle.j39_reports.specs.declared.fault_news.telling.Telling.TheVariants.{News, All}

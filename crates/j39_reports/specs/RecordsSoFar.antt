@@ -7,7 +7,7 @@ use Rattle.j39_groups.specs.Row.{RowRecord}
 use Rattle.j39_listen.specs.Heard.{AreHeard, HeardAt, Hearing, or_none}
 use Rattle.j39_listen.specs.Listening.{Hears}
 use Rattle.j39_listen.specs.Output.{Output}
-use Rattle.j39_listen.specs.ReportSteps.{made_of}
+use Rattle.j39_listen.specs.ReportSoFar.{made_of}
 use Rattle.j39_listen.specs.declared.counts.Made.{Made}
 use Rattle.j39_listen.specs.declared.listener.Listener.{Listener}
 use Rattle.j39_reports.specs.ReportRecords.{records_of}

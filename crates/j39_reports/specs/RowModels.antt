@@ -3,7 +3,7 @@ use Rattle.std.specs.Prelude.{ℕ}
 use Rattle.std.specs.Option.{option_map}
 use Rattle.j39_frame.specs.Stamp.{stamp_micros}
 use Rattle.j39_groups.specs.ReadFields.{scale_record}
-use Rattle.j39_groups.specs.Shown.{slot_record}
+use Rattle.j39_groups.specs.Models.{slot_record}
 use Rattle.j39_groups.specs.Value.{SlotRecord, ValueRecord, number, on, off, error, reserved, indicator, text}
 use Rattle.j39_memory.specs.Stored.{value_of}
 use Rattle.j39_listen.specs.Report.{Entry}

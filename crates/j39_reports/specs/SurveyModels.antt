@@ -13,7 +13,7 @@ use Rattle.j39_reports.specs.UnreadLines.{ShownRecord, are_printed, shown_in}
 use Rattle.j39_reports.specs.declared.surveys.addresses.Addresses.{Addresses}
 use Rattle.j39_reports.specs.declared.surveys.group_table.GroupCount.{GroupCount}
 use Rattle.j39_reports.specs.declared.surveys.group_table.GroupTable.{GroupTable}
-use Rattle.j39_reports.specs.declared.surveys.interfaces.Interface.{Interface}
+use Rattle.j39_reports.specs.declared.surveys.interfaces.InterfaceCounts.{InterfaceCounts}
 use Rattle.j39_reports.specs.declared.surveys.interfaces.Interfaces.{Interfaces}
 use Rattle.j39_reports.specs.declared.surveys.others.Others.{Others}
 use Rattle.j39_reports.specs.declared.surveys.log_survey.Survey.{Survey}
@@ -45,7 +45,7 @@ pub record HaveCounted (table : GroupTable) (F : List FrameRecord) : Type 0 wher
 
 -- ---- interfaces
 
-abbrev pub interface_record : Interface → InterfaceRecord
+abbrev pub interface_record : InterfaceCounts → InterfaceRecord
 interface_record i = record {
   name = i.name.items;
   frames = i.frames;

@@ -2,14 +2,14 @@
 
 mod account;
 mod form;
-mod last_said;
+mod last_faults;
 pub mod laws;
 mod lines;
 mod names;
-mod places;
+mod last_messages;
 mod records;
 mod run;
-mod said;
+mod last_message;
 mod telling;
 
 pub use run::{faults, faults_csv};

@@ -13,11 +13,11 @@ use Rattle.j39_table.proofs.ScaleLemmas.{first_of, its_step, second_of, step_bel
 use Rattle.j39_table.specs.Agreement.{AreColumnsOf, IsWrongAfter}
 use Rattle.j39_table.specs.Columns.{IsUnsigned}
 use Rattle.j39_table.specs.Fields.{IsAlone, IsFaultFrom, place_of, unscaled_of}
-use Rattle.j39_table.specs.Places.{IsGoodBits, IsGoodPlace, text_of_place}
+use Rattle.j39_table.specs.Positions.{IsGoodBits, IsGoodPlace, text_of_place}
 use Rattle.j39_table.specs.Rows.{IsGoodField, IsGoodScale, field_columns, no_scale, scale_columns, slot_columns}
 use Rattle.j39_table.specs.declared.fault.RowFault.{RowFault}
-use Rattle.j39_table.specs.declared.place.Place.{Place}
-use Rattle.j39_table.specs.declared.place.Place.TheVariants.{Bytes, Bits, Part, Texts}
+use Rattle.j39_table.specs.declared.position.Position.{Position}
+use Rattle.j39_table.specs.declared.position.Position.TheVariants.{Bytes, Bits, Part, Texts}
 
 -- ---- where a field stands
 
@@ -48,12 +48,12 @@ place_of-text (switch_field byte low high) good =
 place_of-text (text_field part) good = refl
 place_of-text (texts_field byte count) good = refl
 
-pub alone_place : (place : Place) (text : List ℕ) → text ≡ text_of_place place
-    → ((other : Place) → IsGoodPlace other → text ≡ text_of_place other → Some place ≡ Some other) → IsAlone place
+pub alone_place : (place : Position) (text : List ℕ) → text ≡ text_of_place place
+    → ((other : Position) → IsGoodPlace other → text ≡ text_of_place other → Some place ≡ Some other) → IsAlone place
 alone_place place text is only = λ field good same.
     let found = only (place_of field) (place_of-good field good) (is ∙ sym same ∙ place_of-text field good) in cc
 
-pub wrong_place : (p s o u : List ℕ) → ((place : Place) → IsGoodPlace place → p ≡ text_of_place place → ⊥)
+pub wrong_place : (p s o u : List ℕ) → ((place : Position) → IsGoodPlace place → p ≡ text_of_place place → ⊥)
     → IsWrongAfter IsGoodField field_columns (p ∷ s ∷ o ∷ u ∷ []) 0
 wrong_place p s o u never = record {
   example = text_field 1;
@@ -73,7 +73,7 @@ pub data Made (bits : ℕ) (make : SlotRecord → FieldRecord) (field : FieldRec
   dashed : scale_columns field ≡ no_scale → Made bits make field
 
 -- how a place's fields are made of scales
-pub record Makes (place : Place) (bits : ℕ) (make : SlotRecord → FieldRecord) : Type 0 where
+pub record Makes (place : Position) (bits : ℕ) (make : SlotRecord → FieldRecord) : Type 0 where
   pub place_is : (slot : SlotRecord) → place_text (make slot) ≡ text_of_place place
   pub scale_is : (slot : SlotRecord) → scale_columns (make slot) ≡ slot_columns slot
   pub good : (slot : SlotRecord) → IsGoodScale bits slot → IsGoodField (make slot)
@@ -101,7 +101,7 @@ bits_only byte low count (switch_field b w high) good is = dashed refl
 bits_only byte low count (text_field part) good is = absurd (cc)
 bits_only byte low count (texts_field b c) good is = absurd (cc)
 
-pub makes_number : (place : Place) (first last : ℕ) → place ≡ Bytes first last → IsGoodPlace place → IsAlone place
+pub makes_number : (place : Position) (first last : ℕ) → place ≡ Bytes first last → IsGoodPlace place → IsAlone place
     → Makes place (8 * (last - first + 1)) (number_field first last)
 makes_number place first last is good alone = record {
   place_is = λ slot. sym (ap text_of_place is);
@@ -110,7 +110,7 @@ makes_number place first last is good alone = record {
   only = λ field its same. bytes_only first last field its (alone field its same ∙ is);
 }
 
-pub makes_bits : (place : Place) (byte low count : ℕ) → place ≡ Bits byte low count → IsGoodPlace place → IsAlone place
+pub makes_bits : (place : Position) (byte low count : ℕ) → place ≡ Bits byte low count → IsGoodPlace place → IsAlone place
     → Makes place count (bits_field byte low count)
 makes_bits place byte low count is good alone = record {
   place_is = λ slot. sym (ap text_of_place is);
@@ -119,7 +119,7 @@ makes_bits place byte low count is good alone = record {
   only = λ field its same. bits_only byte low count field its (alone field its same ∙ is);
 }
 
-made_wrong : (bits : ℕ) (make : SlotRecord → FieldRecord) (place : Place) (field : FieldRecord) (s o u : List ℕ) (k : ℕ) → Makes place bits make
+made_wrong : (bits : ℕ) (make : SlotRecord → FieldRecord) (place : Position) (field : FieldRecord) (s o u : List ℕ) (k : ℕ) → Makes place bits make
     → s ≢ codes "-" → IsWrongAfter (IsGoodScale bits) slot_columns (s ∷ o ∷ u ∷ []) k
     → take (suc k) (s ∷ o ∷ u ∷ []) ≡ take (suc k) (scale_columns field) → Made bits make field → ⊥
 made_wrong bits make place field s o u k makes number wrong e (made slot good is) =
@@ -128,7 +128,7 @@ made_wrong bits make place field s o u k makes number wrong e (dashed is) =
     let both : take (suc k) (s ∷ o ∷ u ∷ []) ≡ take (suc k) no_scale = e ∙ ap (take (suc k)) is in
     number (first_of _ _ _ _ both)
 
-wrong_after : (place : Place) (bits : ℕ) (make : SlotRecord → FieldRecord) (s o u : List ℕ) (k : ℕ) → Makes place bits make → s ≢ codes "-"
+wrong_after : (place : Position) (bits : ℕ) (make : SlotRecord → FieldRecord) (s o u : List ℕ) (k : ℕ) → Makes place bits make → s ≢ codes "-"
     → IsWrongAfter (IsGoodScale bits) slot_columns (s ∷ o ∷ u ∷ []) k → IsWrongAfter IsGoodField field_columns (text_of_place place ∷ s ∷ o ∷ u ∷ []) (suc k)
 wrong_after place bits make s o u k makes number wrong = record {
   example = make wrong.example;
@@ -140,7 +140,7 @@ wrong_after place bits make s o u k makes number wrong = record {
       made_wrong bits make place field s o u k makes number wrong (rest_of _ _ _ _ e) (makes.only field good (sym (first_of _ _ _ _ e)));
 }
 
-pub wrong_scale : (place : Place) (bits : ℕ) (make : SlotRecord → FieldRecord) (s o u : List ℕ) (fault : RowFault) → Makes place bits make → s ≢ codes "-"
+pub wrong_scale : (place : Position) (bits : ℕ) (make : SlotRecord → FieldRecord) (s o u : List ℕ) (fault : RowFault) → Makes place bits make → s ≢ codes "-"
     → IsFaultFrom (IsGoodScale bits) slot_columns 4 (s ∷ o ∷ u ∷ []) fault → IsFaultFrom IsGoodField field_columns 3 (text_of_place place ∷ s ∷ o ∷ u ∷ []) fault
 wrong_scale place bits make s o u fault makes number wrong = record {
   count = suc wrong.count;
@@ -149,14 +149,14 @@ wrong_scale place bits make s o u fault makes number wrong = record {
   wrong = wrong_after place bits make s o u wrong.count makes number wrong.wrong;
 }
 
-made_same : (bits : ℕ) (make : SlotRecord → FieldRecord) (place : Place) (field : FieldRecord) (s o u : List ℕ) (slot : SlotRecord) → Makes place bits make
+made_same : (bits : ℕ) (make : SlotRecord → FieldRecord) (place : Position) (field : FieldRecord) (s o u : List ℕ) (slot : SlotRecord) → Makes place bits make
     → s ≢ codes "-" → AreColumnsOf (IsGoodScale bits) slot_columns (s ∷ o ∷ u ∷ []) slot → (s ∷ o ∷ u ∷ []) ≡ scale_columns field
     → Made bits make field → field ≡ make slot
 made_same bits make place field s o u slot makes number says e (made other good is) =
     is ∙ ap make (says.only other good (e ∙ ap scale_columns is ∙ makes.scale_is other))
 made_same bits make place field s o u slot makes number says e (dashed is) = absurd (number (first_of _ _ _ _ (e ∙ is)))
 
-pub good_field : (place : Place) (bits : ℕ) (make : SlotRecord → FieldRecord) (s o u : List ℕ) (slot : SlotRecord) → Makes place bits make → s ≢ codes "-"
+pub good_field : (place : Position) (bits : ℕ) (make : SlotRecord → FieldRecord) (s o u : List ℕ) (slot : SlotRecord) → Makes place bits make → s ≢ codes "-"
     → AreColumnsOf (IsGoodScale bits) slot_columns (s ∷ o ∷ u ∷ []) slot
     → AreColumnsOf IsGoodField field_columns (text_of_place place ∷ s ∷ o ∷ u ∷ []) (make slot)
 good_field place bits make s o u slot makes number says = record {
@@ -198,7 +198,7 @@ dash_first (text_field part) k xs good e = record { unscaled = refl; dashes = re
 dash_first (texts_field byte count) k xs good e = record { unscaled = ap (λ c. Some (texts_field byte c)) (sym good.2); dashes = refl }
 
 -- the field of a place without a scale
-record IsUnscaledOf (place : Place) (field : FieldRecord) : Type 0 where
+record IsUnscaledOf (place : Position) (field : FieldRecord) : Type 0 where
   good : IsGoodField field
   place_is : place_text field ≡ text_of_place place
   dashes : scale_columns field ≡ no_scale
@@ -222,7 +222,7 @@ switch_found byte low count field true e good is =
     }
 switch_found byte low count field false e good is = absurd (cc)
 
-unscaled_found : (place : Place) (field : FieldRecord) → IsGoodPlace place → unscaled_of place ≡ Some field → IsUnscaledOf place field
+unscaled_found : (place : Position) (field : FieldRecord) → IsGoodPlace place → unscaled_of place ≡ Some field → IsUnscaledOf place field
 unscaled_found (Bytes first last) field good is = absurd (cc)
 unscaled_found (Bits byte low count) field good is = switch_found byte low count field (count == 2 && nat_lt low 8) refl good is
 unscaled_found (Part part) field good is =
@@ -234,7 +234,7 @@ unscaled_found (Texts byte) field good is =
     record { good = subst IsGoodField same its; place_is = ap place_text (sym same); dashes = ap scale_columns (sym same) }
 
 -- a good field of the place, whatever its scale
-record StandsAt (place : Place) : Type 0 where
+record StandsAt (place : Position) : Type 0 where
   field : FieldRecord
   good : IsGoodField field
   place_is : text_of_place place ≡ place_text field
@@ -242,7 +242,7 @@ record StandsAt (place : Place) : Type 0 where
 x_slot : SlotRecord
 x_slot = record { step = pos 1; offset = pos 0; places = 0; unit = codes "x" }
 
-stands : (place : Place) → IsGoodPlace place → StandsAt place
+stands : (place : Position) → IsGoodPlace place → StandsAt place
 unfolding x_slot
 stands (Bytes first last) good =
     let narrow = good.narrow in let ordered = good.ordered in
@@ -251,7 +251,7 @@ stands (Bits byte low count) good = record { field = bits_field byte low count x
 stands (Part part) good = record { field = text_field part; good = good; place_is = refl }
 stands (Texts byte) good = record { field = texts_field byte 31; good = (good.0, good.1, refl); place_is = refl }
 
-pub no_unscaled : (place : Place) (o u : List ℕ) → IsGoodPlace place → IsAlone place → unscaled_of place ≡ None
+pub no_unscaled : (place : Position) (o u : List ℕ) → IsGoodPlace place → IsAlone place → unscaled_of place ≡ None
     → IsWrongAfter IsGoodField field_columns (text_of_place place ∷ codes "-" ∷ o ∷ u ∷ []) 1
 no_unscaled place o u good alone none_is =
     let at = stands place good in
@@ -266,7 +266,7 @@ no_unscaled place o u good alone none_is =
           let both = sym none_is ∙ some in cc;
     }
 
-pub no_offset : (place : Place) (field : FieldRecord) (o u : List ℕ) → IsGoodPlace place → unscaled_of place ≡ Some field → o ≢ codes "-"
+pub no_offset : (place : Position) (field : FieldRecord) (o u : List ℕ) → IsGoodPlace place → unscaled_of place ≡ Some field → o ≢ codes "-"
     → IsWrongAfter IsGoodField field_columns (text_of_place place ∷ codes "-" ∷ o ∷ u ∷ []) 2
 no_offset place field o u good is other =
     let found = unscaled_found place field good is in
@@ -279,7 +279,7 @@ no_offset place field o u good is other =
           other (second_of _ _ _ _ _ _ (rest_of _ _ _ _ e ∙ ap (take 2) un.dashes));
     }
 
-pub no_unit : (place : Place) (field : FieldRecord) (o u : List ℕ) → IsGoodPlace place → unscaled_of place ≡ Some field → o ≡ codes "-" → u ≢ codes "-"
+pub no_unit : (place : Position) (field : FieldRecord) (o u : List ℕ) → IsGoodPlace place → unscaled_of place ≡ Some field → o ≡ codes "-" → u ≢ codes "-"
     → IsWrongAfter IsGoodField field_columns (text_of_place place ∷ codes "-" ∷ o ∷ u ∷ []) 3
 no_unit place field o u good is same other =
     let found = unscaled_found place field good is in
@@ -294,7 +294,7 @@ no_unit place field o u good is same other =
           other (third_of _ _ _ _ _ _ _ _ (rest_of _ _ _ _ e ∙ ap (take 3) un.dashes));
     }
 
-pub good_unscaled : (place : Place) (field : FieldRecord) (o u : List ℕ) → IsGoodPlace place → IsAlone place → unscaled_of place ≡ Some field
+pub good_unscaled : (place : Position) (field : FieldRecord) (o u : List ℕ) → IsGoodPlace place → IsAlone place → unscaled_of place ≡ Some field
     → o ≡ codes "-" → u ≡ codes "-" → AreColumnsOf IsGoodField field_columns (text_of_place place ∷ codes "-" ∷ o ∷ u ∷ []) field
 good_unscaled place field o u good alone is offset unit =
     let found = unscaled_found place field good is in
@@ -325,7 +325,7 @@ texts_dashes byte (switch_field b w h) is = refl
 texts_dashes byte (text_field p) is = refl
 texts_dashes byte (texts_field b c) is = refl
 
-no_scale_at : (place : Place) (s o u : List ℕ) → IsGoodPlace place → IsAlone place → s ≢ codes "-"
+no_scale_at : (place : Position) (s o u : List ℕ) → IsGoodPlace place → IsAlone place → s ≢ codes "-"
     → ((field : FieldRecord) → place_of field ≡ place → scale_columns field ≡ no_scale)
     → IsWrongAfter IsGoodField field_columns (text_of_place place ∷ s ∷ o ∷ u ∷ []) 1
 no_scale_at place s o u good alone number dashes =
@@ -339,10 +339,10 @@ no_scale_at place s o u good alone number dashes =
           number (first_of _ _ _ _ (rest_of _ _ _ _ e ∙ ap (take 1) (dashes field here)));
     }
 
-pub no_scale_of_part : (place : Place) (part : ℕ) (s o u : List ℕ) → place ≡ Part part → IsGoodPlace place → IsAlone place → s ≢ codes "-"
+pub no_scale_of_part : (place : Position) (part : ℕ) (s o u : List ℕ) → place ≡ Part part → IsGoodPlace place → IsAlone place → s ≢ codes "-"
     → IsWrongAfter IsGoodField field_columns (text_of_place place ∷ s ∷ o ∷ u ∷ []) 1
 no_scale_of_part place part s o u is good alone number = no_scale_at place s o u good alone number (λ field here. part_dashes part field (here ∙ is))
 
-pub no_scale_of_texts : (place : Place) (byte : ℕ) (s o u : List ℕ) → place ≡ Texts byte → IsGoodPlace place → IsAlone place → s ≢ codes "-"
+pub no_scale_of_texts : (place : Position) (byte : ℕ) (s o u : List ℕ) → place ≡ Texts byte → IsGoodPlace place → IsAlone place → s ≢ codes "-"
     → IsWrongAfter IsGoodField field_columns (text_of_place place ∷ s ∷ o ∷ u ∷ []) 1
 no_scale_of_texts place byte s o u is good alone number = no_scale_at place s o u good alone number (λ field here. texts_dashes byte field (here ∙ is))

@@ -7,9 +7,9 @@ use Rattle.std.proofs.lemmas.Bool.{cond_both, eqb-true, false≢true}
 use Rattle.std.proofs.lemmas.Fmt.{decimal_is_IsNumeral, decimal_nonempty, length-decimal-le}
 use Rattle.j39_table.proofs.ColumnLemmas.{drop_front, take_front}
 use Rattle.j39_groups.specs.Printed.{bits_end, bits_text, range_text}
-use Rattle.j39_table.specs.declared.place.Place.{Place}
-use Rattle.j39_table.specs.declared.place.Place.TheVariants.{Bytes, Bits, Part, Texts}
-use Rattle.j39_table.specs.Places.{IsAfterDigits, IsGoodPlace, end_text, is_digit, text_of_place}
+use Rattle.j39_table.specs.declared.position.Position.{Position}
+use Rattle.j39_table.specs.declared.position.Position.TheVariants.{Bytes, Bits, Part, Texts}
+use Rattle.j39_table.specs.Positions.{IsAfterDigits, IsGoodPlace, end_text, is_digit, text_of_place}
 
 digit_is : (c : ℕ) → digit_value c < 10 → is_digit c ≡ true
 digit_is c h = grind arith
@@ -92,13 +92,13 @@ Starts-bits byte low last few =
     (λ e. Starts-append (decimal byte ++ codes ".") (range_text low (last + 1)) point)
     (λ e. Starts-append _ (decimal (last % 8 + 1)) (Starts-append _ (codes ".") (Starts-append _ (decimal (byte + last / 8)) (Starts-append _ (codes "-") (Starts-append _ (decimal low) point)))))
 
-pub record IsPart (place : Place) (text : List ℕ) : Type 0 where
+pub record IsPart (place : Position) (text : List ℕ) : Type 0 where
   pub part : ℕ
   pub few : part ≤ 255
   pub place_is : place ≡ Part part
   pub digits : take (length text - 1) (drop 1 text) ≡ decimal part
 
-pub star_place : (place : Place) (text : List ℕ) → IsGoodPlace place → text ≡ text_of_place place → get_or text 0 0 ≡ 42 → IsPart place text
+pub star_place : (place : Position) (text : List ℕ) → IsGoodPlace place → text ≡ text_of_place place → get_or text 0 0 ≡ 42 → IsPart place text
 star_place (Bytes first last) text good is star =
     let narrow : first ≤ 255 = (let o = good.ordered in let e = good.ends in omega (arith, o, e)) in
     absurd (Starts-no_star text (range_text first last) (Starts-append (decimal first) _ (Starts-decimal first narrow)) is star)

@@ -20,7 +20,7 @@ use Rattle.j39_groups.specs.Value.{SlotRecord}
 use Rattle.j39_groups.specs.ValueText.{magnitude_text, places_text, scaled_text}
 use Rattle.j39_table.proofs.ColumnLemmas.{drop_front, prefix_of, take_front}
 use Rattle.j39_table.proofs.ScaleLemmas.{its_step, step_below}
-use Rattle.j39_table.specs.Laws.{PrintedLinesSpell, PrintedTablesSpell}
+use Rattle.j39_table.specs.ReadsBack.{PrintedLinesSpell, PrintedTablesSpell}
 use Rattle.j39_table.specs.Lines.{behind_word, first_word, line_columns, without_spaces, words_and_rest}
 use Rattle.j39_table.specs.Rows.{IsGoodField, IsGoodScale, field_columns, IsGoodRow}
 use Rattle.j39_table.specs.Words.{IsName, IsWord}

@@ -5,7 +5,7 @@ use Rattle.std.proofs.lemmas.List.{length-map, map-append, take_more}
 use Rattle.std.proofs.lemmas.List.Elements.{filter-append}
 use Rattle.j39_groups.specs.Row.{RowRecord}
 use Rattle.j39_table.specs.Spelled.{SpellsRow}
-use Rattle.j39_table.specs.TableSteps.{AddsRow, IsLineFault}
+use Rattle.j39_table.specs.RowsSoFar.{AddsRow, IsLineFault}
 use Rattle.j39_table.specs.Tables.{HasRowLine, IsFaultOf, SpellRows, bare_line, is_row_line, lines_of, row_lines}
 use Rattle.j39_table.specs.declared.fault.TableFault.{TableFault}
 use Rattle.j39_table.specs.declared.fault.TableFault.TheVariants.{Line, TooManyRows, TooLong, Memory}

@@ -7,14 +7,14 @@ use Rattle.j39_groups.specs.declared.scale.Scale.{Scale}
 use Rattle.j39_groups.specs.Row.{FieldRecord, number_field, bits_field, switch_field, text_field, texts_field}
 use Rattle.j39_table.specs.Agreement.{AreColumnsOf, IsWrongAfter}
 use Rattle.j39_table.specs.Faults.{column_of}
-use Rattle.j39_table.specs.Places.{text_of_place}
+use Rattle.j39_table.specs.Positions.{text_of_place}
 use Rattle.j39_table.specs.Rows.{IsGoodField, IsGoodScale, field_columns, slot_columns}
 use Rattle.j39_table.specs.declared.fault.RowFault.{RowFault}
-use Rattle.j39_table.specs.declared.place.Place.{Place}
-use Rattle.j39_table.specs.declared.place.Place.TheVariants.{Bytes, Bits, Part, Texts}
+use Rattle.j39_table.specs.declared.position.Position.{Position}
+use Rattle.j39_table.specs.declared.position.Position.TheVariants.{Bytes, Bits, Part, Texts}
 
 -- where a field stands
-abbrev pub place_of : FieldRecord → Place
+abbrev pub place_of : FieldRecord → Position
 place_of (number_field first last slot) = Bytes first last
 place_of (bits_field byte low count slot) = Bits byte low count
 place_of (switch_field byte low high) = Bits byte low 2
@@ -22,14 +22,14 @@ place_of (text_field part) = Part part
 place_of (texts_field byte count) = Texts byte
 
 -- the field of a place without a scale
-abbrev pub unscaled_of : Place → Option FieldRecord
+abbrev pub unscaled_of : Position → Option FieldRecord
 unscaled_of (Bytes first last) = None
 unscaled_of (Bits byte low count) = if count == 2 && nat_lt low 8 then Some (switch_field byte low (low + 1)) else None
 unscaled_of (Part part) = Some (text_field part)
 unscaled_of (Texts byte) = Some (texts_field byte 31)
 
 -- no good field has the text of this place and another place
-abbrev pub IsAlone : Place → Type 0
+abbrev pub IsAlone : Position → Type 0
 IsAlone place = (field : FieldRecord) → IsGoodField field → place_text field ≡ text_of_place place
     → place_of field ≡ place
 

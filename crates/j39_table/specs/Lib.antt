@@ -1,6 +1,6 @@
 -- the rules: what a line and a text say, and what is wrong with them (own)
 pub mod Words
-pub mod Places
+pub mod Positions
 pub mod Columns
 pub mod Scales
 pub mod Fields
@@ -10,7 +10,7 @@ pub mod Spelled
 pub mod Faults
 pub mod FaultWords
 pub mod Tables
-pub mod Laws
+pub mod ReadsBack
 -- the code's steps, below the rules
 pub mod Agreement
-pub mod TableSteps
+pub mod RowsSoFar

@@ -5,7 +5,7 @@ use Rattle.j39_groups.specs.Readings.{is_heard_group, is_network_group}
 use Rattle.j39_groups.specs.Row.{FieldRecord, number_field, bits_field, switch_field, text_field, texts_field, RowRecord}
 use Rattle.j39_groups.specs.Value.{SlotRecord}
 use Rattle.j39_groups.specs.ValueText.{scaled_text}
-use Rattle.j39_table.specs.Places.{IsGoodBits, IsGoodBytes}
+use Rattle.j39_table.specs.Positions.{IsGoodBits, IsGoodBytes}
 use Rattle.j39_table.specs.Words.{IsName, IsWord}
 
 -- a number of 18 bits, of a group that can be heard and that is none of the network's

@@ -2,10 +2,10 @@
 ghost use Rattle.std.specs.Prelude.{◌≡◌, ◌≢◌, ◌↔◌, IsTrue, ◌∷◌, [], IfSome, IfNone, Some, None, codes};
 ghost use Rattle.j39_groups.specs.ReadFields.{read_field_record};
 ghost use Rattle.j39_table.specs.Fields.{HasField, IsAlone, unscaled_of};
-ghost use Rattle.j39_table.specs.Places.{IsGoodPlace, text_of_place};
+ghost use Rattle.j39_table.specs.Positions.{IsGoodPlace, text_of_place};
 
 use crate::RowFault;
-use crate::place::{Place, place_in};
+use crate::position::{Position, place_in};
 use crate::scale::scale_in;
 use j39_groups::ReadField;
 
@@ -29,7 +29,7 @@ pub(crate) fn field_in<'t>(
 }
 
 /// The field of a place without a scale, where dashes stand for the offset and the unit too.
-fn unscaled_field<'t>(place: Place, offset: &[u8], unit: &[u8]) -> Result<ReadField<'t>, RowFault>
+fn unscaled_field<'t>(place: Position, offset: &[u8], unit: &[u8]) -> Result<ReadField<'t>, RowFault>
     requires good { IsGoodPlace place }
     requires alone { IsAlone place }
     ensures { HasField (text_of_place place ∷ codes "-" ∷ offset.now ∷ unit.now ∷ []) result }
@@ -52,22 +52,22 @@ fn is_dash(text: &[u8]) -> bool
     matches!(text, [b'-'])
 }
 
-fn unscaled<'t>(place: Place) -> Option<ReadField<'t>>
+fn unscaled<'t>(place: Position) -> Option<ReadField<'t>>
     ensures found { IfSome result (λ field. unscaled_of place ≡ Some (read_field_record field)) }
     ensures only { IfNone result (unscaled_of place ≡ None) }
 {
     match place {
-        Place::Bytes { .. } => None,
-        Place::Bits { byte, low, count } => switch_of(byte, low, count),
-        Place::Part { part } => Some(ReadField::Text { part }),
-        Place::Texts { byte } => Some(ReadField::Texts { byte, count: 31 }),
+        Position::Bytes { .. } => None,
+        Position::Bits { byte, low, count } => switch_of(byte, low, count),
+        Position::Part { part } => Some(ReadField::Text { part }),
+        Position::Texts { byte } => Some(ReadField::Texts { byte, count: 31 }),
     }
 }
 
 /// The switch in two bits of one byte.
 fn switch_of<'t>(byte: u8, low: u8, count: u8) -> Option<ReadField<'t>>
-    ensures found { IfSome result (λ field. unscaled_of (Place.Bits byte low count) ≡ Some (read_field_record field)) }
-    ensures only { IfNone result (unscaled_of (Place.Bits byte low count) ≡ None) }
+    ensures found { IfSome result (λ field. unscaled_of (Position.Bits byte low count) ≡ Some (read_field_record field)) }
+    ensures only { IfNone result (unscaled_of (Position.Bits byte low count) ≡ None) }
 {
     if count == 2 && low < 8 {
         Some(ReadField::Switch {
@@ -82,7 +82,7 @@ fn switch_of<'t>(byte: u8, low: u8, count: u8) -> Option<ReadField<'t>>
 
 /// The field of a place with a scale.
 fn scaled_field<'t>(
-    place: Place,
+    place: Position,
     step: &[u8],
     offset: &[u8],
     unit: &'t [u8],
@@ -93,13 +93,13 @@ fn scaled_field<'t>(
     ensures { HasField (text_of_place place ∷ step.now ∷ offset.now ∷ unit.entry.now ∷ []) result }
 {
     match place {
-        Place::Bytes { first, last } => {
+        Position::Bytes { first, last } => {
             match scale_in(8 * (last - first + 1), step, offset, unit) {
                 Ok(scale) => Ok(ReadField::Number { first, last, scale }),
                 Err(fault) => Err(fault),
             }
         }
-        Place::Bits { byte, low, count } => match scale_in(count, step, offset, unit) {
+        Position::Bits { byte, low, count } => match scale_in(count, step, offset, unit) {
             Ok(scale) => Ok(ReadField::Bits {
                 byte,
                 low,
@@ -108,7 +108,7 @@ fn scaled_field<'t>(
             }),
             Err(fault) => Err(fault),
         },
-        Place::Part { .. } => Err(RowFault::Step),
-        Place::Texts { .. } => Err(RowFault::Step),
+        Position::Part { .. } => Err(RowFault::Step),
+        Position::Texts { .. } => Err(RowFault::Step),
     }
 }

@@ -1,5 +1,5 @@
 //! What holds of every table.
-ghost use Rattle.j39_table.specs.Laws.{PrintedLinesSpell, PrintedTablesSpell};
+ghost use Rattle.j39_table.specs.ReadsBack.{PrintedLinesSpell, PrintedTablesSpell};
 
 /// The line that `j1939 groups` prints for a good row spells that row.
 pub fn printed_lines_spell()

@@ -7,7 +7,7 @@ mod fault_text;
 mod field;
 pub mod laws;
 mod line;
-mod place;
+mod position;
 mod reading;
 mod row;
 mod scale;

@@ -3,7 +3,7 @@ ghost use Rattle.std.specs.Prelude.{Err, ◌≡◌, ◌≤◌, ◌<◌, ◌++◌
 ghost use Rattle.j39_groups.specs.ReadRows.{read_row_record};
 ghost use Rattle.j39_memory.specs.Items.{items_of};
 ghost use Rattle.j39_table.specs.Tables.{IsFaultOf, IsTableOf, SpellRows, bare_line, is_row_line, lines_of, row_lines};
-ghost use Rattle.j39_table.specs.TableSteps.{IsLineRead};
+ghost use Rattle.j39_table.specs.RowsSoFar.{IsLineRead};
 ghost use Rattle.j39_table.specs.declared.fault.TableFault.TheVariants.{TooLong};
 
 use crate::TableFault;

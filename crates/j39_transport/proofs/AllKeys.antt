@@ -11,10 +11,10 @@ use Rattle.j39_transport.proofs.FrameFacts.{packet_facts, announcement_facts}
 use Rattle.j39_transport.proofs.OneMore.{stands_new}
 use Rattle.j39_transport.proofs.Moving.{YoungIn, other_stands, opened_aged}
 use Rattle.j39_transport.proofs.Tables.{directed_new, directed_more, directed_stands, lookup}
-use Rattle.j39_transport.specs.EventSteps.{step, from_of, broadcast_step, table_step}
+use Rattle.j39_transport.specs.OpenAtEvent.{step, from_of, broadcast_step, table_step}
 use Rattle.j39_transport.specs.Session.{SessionRecord}
-use Rattle.j39_transport.specs.Places.{Places}
-use Rattle.j39_transport.specs.Steps.{OpenMessagesRecord, empty_state}
+use Rattle.j39_transport.specs.Sessions.{Sessions}
+use Rattle.j39_transport.specs.AssemblerStep.{OpenMessagesRecord, empty_state}
 use Rattle.j39_transport.specs.Stands.{IsOpenOrNone, AreBroadcasts, AreKept}
 use Rattle.j39_transport.proofs.MoveLemmas.{moved_none}
 
@@ -59,7 +59,7 @@ broadcast_stands E e s o h = cond_both (announces (Broadcast s) e) _ _ (IsOpenOr
     young None h = tt
     young (Some x) h = λ r. absurd (both_ways _ (none e) r)
 
-broadcasts_more : (E : List Event) (e : Event) (T : Places) → AreBroadcasts E T → AreBroadcasts (E ++ e ∷ []) (broadcast_step e T)
+broadcasts_more : (E : List Event) (e : Event) (T : Sessions) → AreBroadcasts E T → AreBroadcasts (E ++ e ∷ []) (broadcast_step e T)
 broadcasts_more E e T h = record {
   size_is = length-set T (from_of e) (step (Broadcast (from_of e)) e (get_or T (from_of e) None)) ∙ h.size_is;
   each = λ s l. elim (cases_eq s (from_of e)) [

@@ -7,12 +7,12 @@ use Rattle.j39_transport.specs.Frames.{source_of, destination_of, is_announcemen
 use Rattle.j39_transport.specs.Key.Key.{Broadcast, Directed}
 use Rattle.j39_transport.specs.Events.{Event, sends, number, payload, stamp}
 use Rattle.j39_transport.specs.Events.Event.{Frame}
-use Rattle.j39_transport.specs.EventSteps.{is_over}
+use Rattle.j39_transport.specs.OpenAtEvent.{is_over}
 use Rattle.j39_transport.specs.Session.{SessionRecord}
-use Rattle.j39_transport.specs.Places.{Places, at, is_of, find, find_from}
+use Rattle.j39_transport.specs.Sessions.{Sessions, at, is_of, find, find_from}
 use Rattle.j39_transport.specs.Signals.{Signal, BroadcastAnnounce, RequestToSend, ClearToSend, Acknowledgment, Abort, Packet, said_by}
-use Rattle.j39_transport.specs.Steps.{OpenMessagesRecord, moves, packed, granted, closed, finished, with_place, state_after, state_without, without_broadcast, room, empty_state, told, told_at, answer, answer_by, answer_to_packet, key_of}
-use Rattle.j39_transport.specs.Steps as steps
+use Rattle.j39_transport.specs.AssemblerStep.{OpenMessagesRecord, moves, packed, granted, closed, finished, with_place, state_after, state_without, without_broadcast, room, empty_state, told, told_at, answer, answer_by, answer_to_packet, key_of}
+use Rattle.j39_transport.specs.AssemblerStep as steps
 use Rattle.j39_transport.specs.Answers as answers
 use Rattle.j39_transport.specs.Session as sessions
 use Rattle.j39_transport.specs.Protocol.{clear_to_send, acknowledgment, connection_abort, broadcast_limit, directed_limit}
@@ -105,15 +105,15 @@ module _ (E : List Event) (f : FrameRecord) (a : OpenMessagesRecord) (h : AreKep
 
 -- ---- the session of a pair
 
-abbrev LookedIs : ℕ → ℕ → ℕ → Places → Option ℕ → Type 0
+abbrev LookedIs : ℕ → ℕ → ℕ → Sessions → Option ℕ → Type 0
 LookedIs s d k t None = lookup s d t ≡ None
 LookedIs s d k t (Some j) = (i : ℕ) × (j ≡ k + i) × (lookup s d t ≡ at t i)
 
-looked_later : (s d k : ℕ) (p : Option SessionRecord) (t : Places) (o : Option ℕ) → lookup s d (p ∷ t) ≡ lookup s d t → LookedIs s d (suc k) t o → LookedIs s d k (p ∷ t) o
+looked_later : (s d k : ℕ) (p : Option SessionRecord) (t : Sessions) (o : Option ℕ) → lookup s d (p ∷ t) ≡ lookup s d t → LookedIs s d (suc k) t o → LookedIs s d k (p ∷ t) o
 looked_later s d k p t None e h = e ∙ h
 looked_later s d k p t (Some j) e h = (suc h.0, (let l : j ≡ suc k + h.0 = h.1 in omega arith), e ∙ h.2)
 
-looked_is : (s d k : ℕ) (t : Places) → LookedIs s d k t (find_from s d k t)
+looked_is : (s d k : ℕ) (t : Sessions) → LookedIs s d k t (find_from s d k t)
 unfolding find_from lookup
 looked_is s d k [] = refl
 looked_is s d k (p ∷ t) = cond_both (is_of s d p) _ _ (LookedIs s d k (p ∷ t))

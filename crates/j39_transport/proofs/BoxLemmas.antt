@@ -5,7 +5,7 @@ use Rattle.std.proofs.lemmas.List.{get_or-set_same, get_or-set_other, get_or-tak
 use Rattle.j39_frame.specs.Frame.{FrameRecord}
 use Rattle.j39_transport.specs.Answers.{Outcome, Whole, Taken, Ignored, AnswersAt, WholeBy}
 use Rattle.j39_transport.specs.Boxes.{HasOpen, NeedsBox, HasSpare, freed, kept, WantsMemory}
-use Rattle.j39_transport.specs.EventSteps.{pair_of}
+use Rattle.j39_transport.specs.OpenAtEvent.{pair_of}
 use Rattle.j39_transport.specs.Events.{Event, at as event_at}
 use Rattle.j39_transport.specs.Events.Event.{Frame, Forget}
 use Rattle.j39_transport.specs.Frames.{source_of, destination_of, is_announcement}
@@ -13,10 +13,10 @@ use Rattle.j39_transport.specs.Signals.{Signal, BroadcastAnnounce, RequestToSend
 use Rattle.j39_transport.specs.Key.{Key}
 use Rattle.j39_transport.specs.Key.Key.{Broadcast, Directed}
 use Rattle.j39_transport.specs.Message.{MessageRecord}
-use Rattle.j39_transport.specs.Places.{Places, at, is_of, find, find_from}
+use Rattle.j39_transport.specs.Sessions.{Sessions, at, is_of, find, find_from}
 use Rattle.j39_transport.specs.Session.{SessionRecord, opened}
 use Rattle.j39_transport.specs.Stands.{IsSession, IsOpenOrNone, AreKept, Stands}
-use Rattle.j39_transport.specs.Steps.{AssemblerRecord, OpenMessagesRecord, Moved, Ends, Grows, Stays, Late, announced, answer, answer_by, answer_to_packet, fed, forgot, key_of, is_whole, LacksBox, moves, new_assembler, place_for, room, spare_after, spare_left, state_after, told, told_at}
+use Rattle.j39_transport.specs.AssemblerStep.{AssemblerRecord, OpenMessagesRecord, Moved, Ends, Grows, Stays, Late, announced, answer, answer_by, answer_to_packet, fed, forgot, key_of, is_whole, LacksBox, moves, new_assembler, place_for, room, spare_after, spare_left, state_after, told, told_at}
 use Rattle.j39_transport.specs.Protocol.{broadcast_limit, directed_limit}
 use Rattle.j39_transport.proofs.AllKeys.{announced_key, table_new}
 use Rattle.j39_transport.proofs.AnswerLemmas.{answers_at}
@@ -81,7 +81,7 @@ none_kept a (Directed s d) e w = go (find_from s d 0 a.directed) (found s d 0 a.
     go (Some j) f e = both_ways false refl (sym (ap (is_of s d) (ap (at a.directed) (let z : j ≡ 0 + f.0 = f.1 in let y : f.0 ≡ j = omega arith in y) ∙ e)) ∙ f.3)
 
 -- and the oldest place is empty too
-none_oldest : (s d : ℕ) (t : Places) → at t (room (find s d t)) ≡ None → find s d t ≡ None
+none_oldest : (s d : ℕ) (t : Sessions) → at t (room (find s d t)) ≡ None → find s d t ≡ None
 unfolding find
 none_oldest s d t e = go (find_from s d 0 t) (found s d 0 t) e
   where
@@ -108,7 +108,7 @@ keeps_on a (Directed s d) x (Directed t u) sized many e w =
       w.3,
     )
   where
-    below_oldest : (t : Places) (i : ℕ) (y : SessionRecord) → length t ≡ 16 → at t 15 ≡ None → at t i ≡ Some y → i < 15
+    below_oldest : (t : Sessions) (i : ℕ) (y : SessionRecord) → length t ≡ 16 → at t 15 ≡ None → at t i ≡ Some y → i < 15
     below_oldest t i y n o p = elim (cases_lt i 15) [
       | inl l ↦ l
       | inr g ↦ absurd (elim (cases_eq i 15) [

@@ -7,7 +7,7 @@ use Rattle.j39_transport.specs.Assembly.{last_of, Runs, Chain, joined_at, Whole,
 use Rattle.j39_transport.proofs.FrameFacts.{announces-packets, sends-others}
 use Rattle.j39_transport.proofs.Chains.{Links-from, Open-unique}
 use Rattle.j39_transport.proofs.Agreeing.{at_before, announced_within, past_sends, agree_pop, agree_less, Links-same}
-use Rattle.j39_transport.specs.EventSteps.{is_over}
+use Rattle.j39_transport.specs.OpenAtEvent.{is_over}
 use Rattle.j39_transport.specs.Session.{SessionRecord}
 use Rattle.j39_transport.specs.Stands.{IsSession, IsOpenOrNone}
 use Rattle.j39_transport.proofs.OneMore.{new_test, old_test, grows, runs_before, group_before, runs_after, links_new}

@@ -8,11 +8,11 @@ use Rattle.j39_transport.specs.Frames.{goes, group_of, pgn_named, is_control, is
 use Rattle.j39_transport.specs.Key.Key.{Broadcast, Directed}
 use Rattle.j39_transport.specs.Events.{announces, sends, grants, ends, stamp}
 use Rattle.j39_transport.specs.Events.Event.{Frame}
-use Rattle.j39_transport.specs.EventSteps.{pair_of, moved_place}
+use Rattle.j39_transport.specs.OpenAtEvent.{pair_of, moved_place}
 use Rattle.j39_transport.specs.Protocol.{clear_to_send, acknowledgment, connection_abort}
 use Rattle.j39_transport.specs.Session.{SessionRecord}
-use Rattle.j39_transport.specs.Places.{is_of}
-use Rattle.j39_transport.specs.Steps.{granted, closed}
+use Rattle.j39_transport.specs.Sessions.{is_of}
+use Rattle.j39_transport.specs.AssemblerStep.{granted, closed}
 use Rattle.j39_transport.proofs.FrameFacts.{announcement_facts, packet_facts, closing_facts, allowing_facts, goes_parts}
 use Rattle.j39_transport.proofs.ReadLemmas.{IsNoFrame, IsControl}
 use Rattle.j39_transport.proofs.MoveLemmas.{moved_end, moved_grant}

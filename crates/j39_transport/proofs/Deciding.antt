@@ -9,10 +9,10 @@ use Rattle.j39_transport.specs.Answers.Outcome.{Ignored, Taken, Whole}
 use Rattle.j39_transport.specs.Events.{Event}
 use Rattle.j39_transport.specs.Events.Event.{Forget, Frame}
 use Rattle.j39_transport.specs.Signals.{said_by}
-use Rattle.j39_transport.specs.Laws.{WholeOrNoneLaw}
+use Rattle.j39_transport.specs.AssemblerLaws.{WholeOrNoneLaw}
 use Rattle.j39_transport.specs.Message.{MessageRecord}
 use Rattle.j39_transport.specs.Stands.{AreKept}
-use Rattle.j39_transport.specs.Steps.{OpenMessagesRecord, answer, empty_state, state_after, state_without}
+use Rattle.j39_transport.specs.AssemblerStep.{OpenMessagesRecord, answer, empty_state, state_after, state_without}
 
 abbrev Stood : List Event → Type 0
 Stood E = (a : OpenMessagesRecord) × AreKept E a

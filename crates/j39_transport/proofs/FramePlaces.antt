@@ -8,11 +8,11 @@ use Rattle.j39_transport.specs.Frames.{group_of, destination_of, is_announcement
 use Rattle.j39_transport.specs.Key.Key.{Broadcast, Directed}
 use Rattle.j39_transport.specs.Events.{Event, announces, sends, grants, ends, number, payload, stamp}
 use Rattle.j39_transport.specs.Events.Event.{Frame}
-use Rattle.j39_transport.specs.EventSteps.{moved, pair_of, moved_place}
+use Rattle.j39_transport.specs.OpenAtEvent.{moved, pair_of, moved_place}
 use Rattle.j39_transport.specs.Protocol.{directed_limit, request_to_send, clear_to_send, broadcast_announce}
 use Rattle.j39_transport.specs.Session.{SessionRecord}
-use Rattle.j39_transport.specs.Places.{is_of}
-use Rattle.j39_transport.specs.Steps.{packed}
+use Rattle.j39_transport.specs.Sessions.{is_of}
+use Rattle.j39_transport.specs.AssemblerStep.{packed}
 use Rattle.j39_transport.proofs.FrameFacts.{announcement_facts, packet_facts, allowing_facts, one_key, sends-others, announces-ends}
 use Rattle.j39_transport.proofs.MoveLemmas.{moved_none, moved_packet}
 use Rattle.j39_transport.proofs.PlaceLemmas.{on_pair}

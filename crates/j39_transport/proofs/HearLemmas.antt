@@ -6,7 +6,7 @@ use Rattle.j39_transport.specs.Frames.{source_of}
 use Rattle.j39_transport.specs.Key.{Directed}
 use Rattle.j39_transport.specs.Reception.{ReceptionRecord, takes_signal}
 use Rattle.j39_transport.specs.Receiving.{BoxedReceiver, ReceiverAnswer, Heard, HearStep, RecvResult, answer_in, recv_step, result_of, said_to}
-use Rattle.j39_transport.specs.ShownReceiver.{found_in, has_box, reacted}
+use Rattle.j39_transport.specs.ReceiverModel.{found_in, has_box, reacted}
 use Rattle.j39_transport.specs.Signals.{Signal}
 use Rattle.j39_transport.specs.declared.receiver_events.Move.{Move}
 use Rattle.j39_transport.specs.declared.receiver_events.Move.TheVariants.{Quiet, Says, Refused, Delivers}

@@ -12,7 +12,7 @@ use Rattle.j39_transport.specs.Broadcasts.{poll_moment, polled, frames_apart, Se
 use Rattle.j39_transport.specs.Cutting.{at_moment, packet_data, packet_of, cut_frame}
 use Rattle.j39_transport.specs.Events.{Event, announces, sends, grants, ends, rivals, number, payload, size, packets, group, stamp, belongs, is_numbered}
 use Rattle.j39_transport.specs.Events.Event.{Frame, Forget}
-use Rattle.j39_transport.specs.EventSteps.{opened, touched, grown, is_late, is_over}
+use Rattle.j39_transport.specs.OpenAtEvent.{opened, touched, grown, is_late, is_over}
 use Rattle.j39_transport.specs.Frames.{is_clear_to_send, is_end, is_rival}
 use Rattle.j39_transport.specs.Key.{Key, Broadcast, is_key}
 use Rattle.j39_transport.specs.Message.{MessageRecord, IsLong, packets_of, as_broadcast}

@@ -2,10 +2,10 @@
 use Rattle.std.proofs.Common.{◌≡◌, ℕ, suc, ◌+◌, Bool, true, false, if◌then◌else◌, ◌&&◌, ◌||◌, List, Option, Some, None, refl, ap, ◌∙◌, arith, nat_lt, ◌==◌}
 use Rattle.j39_transport.specs.Key.{Key, limit}
 use Rattle.j39_transport.specs.Events.{Event, announces, sends, grants, ends, number, payload, stamp}
-use Rattle.j39_transport.specs.EventSteps.{is_over, moved, is_late}
+use Rattle.j39_transport.specs.OpenAtEvent.{is_over, moved, is_late}
 use Rattle.j39_transport.specs.Session.{SessionRecord, touched, grown}
-use Rattle.j39_transport.specs.Steps as step
-use Rattle.j39_transport.specs.Steps.{moves, left_by, packed}
+use Rattle.j39_transport.specs.AssemblerStep as step
+use Rattle.j39_transport.specs.AssemblerStep.{moves, left_by, packed}
 
 abbrev pub moved_by : (A S G N : Bool) → (lim num st : ℕ) → List ℕ → SessionRecord → Option SessionRecord
 moved_by A S G N lim num st d x =

@@ -6,7 +6,7 @@ use Rattle.j39_transport.specs.Events.{Event, at, announces, sends, grants, ends
 use Rattle.j39_transport.specs.Assembly.{last_of, AreSuccessive, count_below, Runs, joined_at, OpenBy}
 use Rattle.j39_transport.proofs.Chains.{past_belongs, belongs_within, Links-within, Open-unique}
 use Rattle.j39_transport.proofs.Agreeing.{at_before, at_new, announced_within, agree_push, agree_less, joined_at-same}
-use Rattle.j39_transport.specs.EventSteps.{opened, last_after, touched, grown, is_late, is_over, on_other}
+use Rattle.j39_transport.specs.OpenAtEvent.{opened, last_after, touched, grown, is_late, is_over, on_other}
 use Rattle.j39_transport.specs.Session.{SessionRecord}
 use Rattle.j39_transport.specs.Stands.{IsSession, IsAged, IsOpenOrNone}
 use Rattle.j39_transport.proofs.OneMore.{place_cases, new_test, old_test, grows, count_new, count_old, shorter, Fits, longer_same, longer_more, open_new, began_before}

@@ -5,7 +5,7 @@ use Rattle.j39_transport.specs.Cutting.{ToSend, announcement_of, packet_of, cut_
 use Rattle.j39_transport.specs.Key.{Directed}
 use Rattle.j39_transport.specs.Message.{packets_of}
 use Rattle.j39_transport.specs.Sending.{SenderRecord, SendState, SendResult, SendEvent, Tick, Heard, Idle, Waiting, Sending, Done, Failed, sends_packet, ticks_in, send_step, sent_by, SendStep, IsOwn}
-use Rattle.j39_transport.specs.ShownSender.{IsState, IsSender}
+use Rattle.j39_transport.specs.SenderModel.{IsState, IsSender}
 use Rattle.j39_transport.specs.Signals.{written}
 use Rattle.j39_transport.proofs.CuttingLemmas.{cut_packet}
 

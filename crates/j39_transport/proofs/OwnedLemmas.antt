@@ -3,7 +3,7 @@ use Rattle.std.proofs.Common.{◌≡◌, ℕ, Option, None, Some, refl, sym, ap,
 use Rattle.j39_transport.specs.Cutting.{ToSend}
 use Rattle.j39_transport.specs.Message.{MessageRecord}
 use Rattle.j39_transport.specs.Sending.{SenderRecord, SendEvent, Tick, Heard, send_step, hears, SendStep}
-use Rattle.j39_transport.specs.ShownSender.{sender_of}
+use Rattle.j39_transport.specs.SenderModel.{sender_of}
 use Rattle.j39_transport.specs.Signals.{Signal, said_between}
 use Rattle.j39_transport.specs.declared.sender.Course.{Course}
 use Rattle.j39_transport.proofs.SenderLemmas.{ticked, hears_signal}

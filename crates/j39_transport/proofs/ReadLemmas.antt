@@ -9,7 +9,7 @@ use Rattle.j39_transport.specs.Frames.{goes, group_of, source_of, destination_of
 use Rattle.j39_transport.specs.Key.Key.{Broadcast, Directed}
 use Rattle.j39_transport.specs.Protocol.{request_to_send, clear_to_send, acknowledgment, connection_abort, broadcast_announce}
 use Rattle.j39_transport.specs.Signals.{Signal, BroadcastAnnounce, RequestToSend, ClearToSend, Acknowledgment, Abort, Packet, broadcast_in, request_in, packet_in, control_in, said_by}
-use Rattle.j39_transport.specs.Steps.{key_of}
+use Rattle.j39_transport.specs.AssemblerStep.{key_of}
 use Rattle.j39_transport.proofs.FrameFacts.{announcement_facts, packet_facts, closing_facts, allowing_facts}
 
 -- the frame is nothing of any message

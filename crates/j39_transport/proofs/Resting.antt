@@ -14,7 +14,7 @@ use Rattle.j39_transport.specs.Reception.{ReceptionRecord, Reaction, quiet, answ
 use Rattle.j39_transport.specs.Sending.{SenderRecord, SendEvent, SendState, SendResult, Idle, Waiting, Sending, Done, Failed, Tick, Heard, waits, sends_packet, ticks_in, is_waiting, is_running, may_name, cleared, acknowledged, aborted, hears, send_step, new_sender}
 use Rattle.j39_transport.specs.Protocol.{timer_t3}
 use Rattle.j39_transport.specs.Session.{SessionRecord, opened, grown}
-use Rattle.j39_transport.specs.ShownSender.{IsState}
+use Rattle.j39_transport.specs.SenderModel.{IsState}
 use Rattle.j39_transport.specs.Signals.{Signal, BroadcastAnnounce, RequestToSend, ClearToSend, Acknowledgment, Abort, Packet, said_between, written}
 use Rattle.j39_transport.proofs.Finishing.{cts_heard}
 use Rattle.j39_transport.proofs.SenderLemmas.{pgn_fits}

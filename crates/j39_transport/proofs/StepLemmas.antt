@@ -8,13 +8,13 @@ use Rattle.j39_transport.specs.Frames.{source_of, destination_of, is_announcemen
 use Rattle.j39_transport.specs.Key.Key.{Broadcast, Directed}
 use Rattle.j39_transport.specs.Events.{Event, announces, sends, grants, ends, number, payload, size, packets, group, stamp}
 use Rattle.j39_transport.specs.Events.Event.{Frame, Forget}
-use Rattle.j39_transport.specs.EventSteps.{pair_of, moved_place, is_request_to_send, directed_step, step, broadcast_step}
+use Rattle.j39_transport.specs.OpenAtEvent.{pair_of, moved_place, is_request_to_send, directed_step, step, broadcast_step}
 use Rattle.j39_transport.specs.Protocol.{clear_to_send, acknowledgment, connection_abort, broadcast_limit, directed_limit, request_to_send, broadcast_announce}
 use Rattle.j39_transport.specs.Stands.{AreKept}
 use Rattle.j39_transport.specs.Session.{SessionRecord}
-use Rattle.j39_transport.specs.Places.{Places, at, is_of, find, forgotten, without}
+use Rattle.j39_transport.specs.Sessions.{Sessions, at, is_of, find, forgotten, without}
 use Rattle.j39_transport.specs.Signals.{Signal, BroadcastAnnounce, RequestToSend, ClearToSend, Acknowledgment, Abort, Packet, said_by}
-use Rattle.j39_transport.specs.Steps.{OpenMessagesRecord, after_packet, key_of, packed, granted, closed, finished, with_place, state_after, state_without, without_broadcast, room}
+use Rattle.j39_transport.specs.AssemblerStep.{OpenMessagesRecord, after_packet, key_of, packed, granted, closed, finished, with_place, state_after, state_without, without_broadcast, room}
 use Rattle.j39_transport.specs.Session as sessions
 use Rattle.j39_transport.proofs.FrameFacts.{announcement_facts, packet_facts, sends-others}
 use Rattle.j39_transport.proofs.ReadLemmas.{IsControl, IsPacking, Facts, read_is}
@@ -30,27 +30,27 @@ use Rattle.j39_transport.proofs.AllKeys.{quiet_step, table_more}
 not_rival : (f : FrameRecord) → is_announcement (Directed (source_of f.id) (destination_of f.id)) f ≡ false → is_request_to_send (Frame f) ≡ false
 not_rival f h = ev_announces (Directed (source_of f.id) (destination_of f.id)) f ∙ h
 
-moves_by : (e : Event) (g : Change) (t : Places) → ((p : Option SessionRecord) → moved_place e p ≡ g p) → map (moved_place e) t ≡ map g t
+moves_by : (e : Event) (g : Change) (t : Sessions) → ((p : Option SessionRecord) → moved_place e p ≡ g p) → map (moved_place e) t ≡ map g t
 moves_by e g [] h = refl
 moves_by e g (p ∷ t) h = (λ i. h p i ∷ moves_by e g t h i)
 
-quietly : (f : FrameRecord) (g : Change) (t : Places) → is_announcement (Directed (source_of f.id) (destination_of f.id)) f ≡ false → ((p : Option SessionRecord) → moved_place (Frame f) p ≡ g p)
+quietly : (f : FrameRecord) (g : Change) (t : Sessions) → is_announcement (Directed (source_of f.id) (destination_of f.id)) f ≡ false → ((p : Option SessionRecord) → moved_place (Frame f) p ≡ g p)
     → directed_step (Frame f) t ≡ map g t
 quietly f g t n h = cond-false _ _ _ (not_rival f n) ∙ moves_by (Frame f) g t h
 
-map_same : (t : Places) → map (λ p. p) t ≡ t
+map_same : (t : Sessions) → map (λ p. p) t ≡ t
 map_same [] = refl
 map_same (p ∷ t) = ap (λ x. p ∷ x) (map_same t)
 
-map_twice : (g h : Change) (t : Places) → map h (map g t) ≡ map (λ p. h (g p)) t
+map_twice : (g h : Change) (t : Sessions) → map h (map g t) ≡ map (λ p. h (g p)) t
 map_twice g h [] = refl
 map_twice g h (p ∷ t) = ap (λ x. h (g p) ∷ x) (map_twice g h t)
 
-unchanged : (f : FrameRecord) (t : Places) → is_announcement (Directed (source_of f.id) (destination_of f.id)) f ≡ false → ((p : Option SessionRecord) → moved_place (Frame f) p ≡ p)
+unchanged : (f : FrameRecord) (t : Sessions) → is_announcement (Directed (source_of f.id) (destination_of f.id)) f ≡ false → ((p : Option SessionRecord) → moved_place (Frame f) p ≡ p)
     → t ≡ directed_step (Frame f) t
 unchanged f t n h = sym (quietly f (λ p. p) t n h ∙ map_same t)
 
-one_change : (f : FrameRecord) (s d : ℕ) (g : Change) (t : Places) → Apart t → is_announcement (Directed (source_of f.id) (destination_of f.id)) f ≡ false → ((p : Option SessionRecord) → moved_place (Frame f) p ≡ on_pair s d g p)
+one_change : (f : FrameRecord) (s d : ℕ) (g : Change) (t : Sessions) → Apart t → is_announcement (Directed (source_of f.id) (destination_of f.id)) f ≡ false → ((p : Option SessionRecord) → moved_place (Frame f) p ≡ on_pair s d g p)
     → with_place (find s d t) g t ≡ directed_step (Frame f) t
 one_change f s d g t u n h = sym (quietly f (on_pair s d g) t n h ∙ sym (with_once s d g t (once_of t u s d)))
 
@@ -71,20 +71,20 @@ kept_closed s d s' d' g (Some x) h = go (is_of s' d' (Some x)) (x.group == g) h
     go true false h = h
     go false b h = h
 
-was_closed : (s d s' d' g i : ℕ) (t : Places) → is_of s d (at (map (on_pair s' d' (closed g)) t) i) ≡ true → is_of s d (at t i) ≡ true
+was_closed : (s d s' d' g i : ℕ) (t : Sessions) → is_of s d (at (map (on_pair s' d' (closed g)) t) i) ≡ true → is_of s d (at t i) ≡ true
 was_closed s d s' d' g zero [] h = h
 was_closed s d s' d' g (suc i) [] h = h
 was_closed s d s' d' g zero (p ∷ t) h = kept_closed s d s' d' g p h
 was_closed s d s' d' g (suc i) (p ∷ t) h = was_closed s d s' d' g i t h
 
-once_closed : (s d s' d' g : ℕ) (t : Places) → Once s d t → Once s d (map (on_pair s' d' (closed g)) t)
+once_closed : (s d s' d' g : ℕ) (t : Sessions) → Once s d t → Once s d (map (on_pair s' d' (closed g)) t)
 once_closed s d s' d' g t u = record { each = λ i j a b. u.each i j (was_closed s d s' d' g i t a) (was_closed s d s' d' g j t b) }
 
-both_closed : (s d g : ℕ) (t : Places) → Apart t → finished d s g (finished s d g t) ≡ map (λ p. on_pair d s (closed g) (on_pair s d (closed g) p)) t
+both_closed : (s d g : ℕ) (t : Sessions) → Apart t → finished d s g (finished s d g t) ≡ map (λ p. on_pair d s (closed g) (on_pair s d (closed g) p)) t
 unfolding finished
 both_closed s d g t u =
     let e : with_place (find s d t) (closed g) t ≡ map (on_pair s d (closed g)) t = with_once s d (closed g) t (once_of t u s d) in
-    ap (λ (x : Places). with_place (find d s x) (closed g) x) e
+    ap (λ (x : Sessions). with_place (find d s x) (closed g) x) e
     ∙ (with_once d s (closed g) (map (on_pair s d (closed g)) t) (once_closed d s s d g t (once_of t u d s)) ∙ map_twice (on_pair s d (closed g)) (on_pair d s (closed g)) t)
 
 -- the directed messages after a packet
@@ -124,7 +124,7 @@ frame_none : (s : ℕ) (f : FrameRecord) → ((g : ℕ) → grants (Broadcast s)
 unfolding grants ends is_clear_to_send is_end
 frame_none s f = ((λ g. refl), (λ g. refl))
 
-quiet_broadcasts : (f : FrameRecord) (T : Places) → is_announcement (Broadcast (source_of f.id)) f ≡ false → is_packet (Broadcast (source_of f.id)) f ≡ false → T ≡ broadcast_step (Frame f) T
+quiet_broadcasts : (f : FrameRecord) (T : Sessions) → is_announcement (Broadcast (source_of f.id)) f ≡ false → is_packet (Broadcast (source_of f.id)) f ≡ false → T ≡ broadcast_step (Frame f) T
 quiet_broadcasts f T a b =
     let n = frame_none (source_of f.id) f in
     sym (ap (set T (source_of f.id)) (quiet_step (Frame f) (source_of f.id) (get_or T (source_of f.id) None) (ev_announces (Broadcast (source_of f.id)) f ∙ a) (ev_sends (Broadcast (source_of f.id)) f ∙ b) n.0 n.1) ∙ set-get_or T (source_of f.id) None)
@@ -196,15 +196,15 @@ forget_place t x l m = elim (cases_Bool (x.source == t)) [
       ∙ sym (cond-false (x.source == t) None (Some x) y))
 ]
 
-directed_forgotten : (t : ℕ) (L : Places) → Apart L → forgotten t L ≡ directed_step (Forget t) L
+directed_forgotten : (t : ℕ) (L : Sessions) → Apart L → forgotten t L ≡ directed_step (Forget t) L
 unfolding announces forgotten
 directed_forgotten t [] u = refl
-directed_forgotten t (None ∷ L) u = ap (λ (r : Places). None ∷ r) (directed_forgotten t L (apart_later None L u))
+directed_forgotten t (None ∷ L) u = ap (λ (r : Sessions). None ∷ r) (directed_forgotten t L (apart_later None L u))
 directed_forgotten t (Some x ∷ L) u =
     let w = u.within 0 x refl in
     (λ i. sym (forget_place t x w.0 w.1) i ∷ directed_forgotten t L (apart_later (Some x) L u) i)
 
-broadcasts_forgotten : (t : ℕ) (B : Places) → without_broadcast t B ≡ broadcast_step (Forget t) B
+broadcasts_forgotten : (t : ℕ) (B : Sessions) → without_broadcast t B ≡ broadcast_step (Forget t) B
 unfolding announces sends grants ends without_broadcast
 broadcasts_forgotten t B = elim (cases_Bool (nat_lt t 254)) [
   | inl y ↦ cond-true (nat_lt t 254) _ B y ∙ ap (set B t) (sym (ended y (get_or B t None)))

@@ -10,10 +10,10 @@ use Rattle.j39_transport.specs.Events.{Event, at, rivals}
 use Rattle.j39_transport.specs.Assembly.{count_below, Opens}
 use Rattle.j39_transport.proofs.Chains.{Open-unique}
 use Rattle.j39_transport.proofs.Tables.{opens_bounded, opens_unique, over, opens_over, lookup, Looked, looked, pair_is}
-use Rattle.j39_transport.specs.EventSteps.{pair_of}
+use Rattle.j39_transport.specs.OpenAtEvent.{pair_of}
 use Rattle.j39_transport.specs.Session.{SessionRecord}
-use Rattle.j39_transport.specs.Places.{Places, open_in, bytes_in}
-use Rattle.j39_transport.specs.Steps.{OpenMessagesRecord, empty_state, messages_open, bytes_held}
+use Rattle.j39_transport.specs.Sessions.{Sessions, open_in, bytes_in}
+use Rattle.j39_transport.specs.AssemblerStep.{OpenMessagesRecord, empty_state, messages_open, bytes_held}
 use Rattle.j39_transport.specs.Stands.{IsAged, AreDirected, AreKept}
 use Rattle.j39_transport.proofs.AllKeys.{table_new, table_run, table_all, session_of, announced_key, table_stands}
 
@@ -55,11 +55,11 @@ is_this : SessionRecord → Key → Bool
 is_this y (Broadcast s) = false
 is_this y (Directed s d) = y.source == s && y.destination == d
 
-pub record Apart (L : Places) : Type 0 where
+pub record Apart (L : Sessions) : Type 0 where
   pub one_place : (i j : ℕ) (y z : SessionRecord) → get_or L i None ≡ Some y → get_or L j None ≡ Some z → y.source ≡ z.source → y.destination ≡ z.destination → i ≡ j
   pub within : (i : ℕ) (y : SessionRecord) → get_or L i None ≡ Some y → (y.source < 254) × (y.destination < 254)
 
-pub apart_later : (p : Option SessionRecord) (L : Places) → Apart (p ∷ L) → Apart L
+pub apart_later : (p : Option SessionRecord) (L : Sessions) → Apart (p ∷ L) → Apart L
 apart_later p L h = record {
   one_place = λ i j y z a b u v. (let e : suc i ≡ suc j = h.one_place (suc i) (suc j) y z a b u v in omega arith);
   within = λ i y a. h.within (suc i) y a;
@@ -121,12 +121,12 @@ module _ (c : ℕ) (y : SessionRecord) where
             ])
       ]
 
-directed_of : Places → Key → Option SessionRecord
+directed_of : Sessions → Key → Option SessionRecord
 directed_of L (Broadcast s) = None
 directed_of L (Directed s d) = lookup s d L
 
 module _ (f : Option SessionRecord → ℕ) (zero_none : f None ≡ 0) where
-  over_directed : (L : Places) → Apart L → over (λ k. f (directed_of L k)) (pairs 254) ≡ sum_by f L
+  over_directed : (L : Sessions) → Apart L → over (λ k. f (directed_of L k)) (pairs 254) ≡ sum_by f L
   unfolding directed_of lookup is_this
   over_directed [] h = over_same (λ k. f (directed_of [] k)) (λ k. 0) none (pairs 254) ∙ over_none (pairs 254)
     where
@@ -181,7 +181,7 @@ one_age E k i j x z h g =
     let b : j + count_below (rivals k) E (suc g.session.start) ≡ count_below (rivals k) E (length E) = g.age_is in
     omega arith
 
-pub are_apart : (E : List Event) (L : Places) → AreDirected E L → Apart L
+pub are_apart : (E : List Event) (L : Sessions) → AreDirected E L → Apart L
 are_apart E L h = record {
   one_place = λ i j y z a b u v. one_age E (pair_of y) i j y z (h.each i y a) (subst (λ (k : Key). IsAged E k j z) (λ n. Directed (sym u n) (sym v n)) (h.each j z b));
   within = λ i y a.

@@ -13,9 +13,9 @@ use Rattle.j39_transport.proofs.Chains.{Open-unique}
 use Rattle.j39_transport.proofs.FrameFacts.{few_packets, announcement_facts}
 use Rattle.j39_transport.proofs.OneMore.{stands_new, began_before, shorter, count_new, count_old}
 use Rattle.j39_transport.proofs.Moving.{Young, other_stands, opened_aged, later_aged}
-use Rattle.j39_transport.specs.EventSteps.{opened, touched, grown, is_over, moved, pair_of, moved_place, from_of, to_of, is_request_to_send, directed_step}
+use Rattle.j39_transport.specs.OpenAtEvent.{opened, touched, grown, is_over, moved, pair_of, moved_place, from_of, to_of, is_request_to_send, directed_step}
 use Rattle.j39_transport.specs.Session.{SessionRecord}
-use Rattle.j39_transport.specs.Places.{Places, is_of, open_in, bytes_in}
+use Rattle.j39_transport.specs.Sessions.{Sessions, is_of, open_in, bytes_in}
 use Rattle.j39_transport.specs.Stands.{IsSession, IsAged, IsOpenOrNone, AreDirected}
 
 -- ---- one open message
@@ -130,15 +130,15 @@ announces_rival s d (Frame f) h =
 announces_rival s d (Forget t) h = absurd (both_ways false refl h)
 
 -- the session of a key, looked up
-unfoldable pub lookup : ℕ → ℕ → Places → Option SessionRecord
+unfoldable pub lookup : ℕ → ℕ → Sessions → Option SessionRecord
 lookup s d [] = None
 lookup s d (p ∷ L) = if is_of s d p then p else lookup s d L
 
-abbrev pub Looked : ℕ → ℕ → Places → Option SessionRecord → Type 0
+abbrev pub Looked : ℕ → ℕ → Sessions → Option SessionRecord → Type 0
 Looked s d L None = (i : ℕ) (x : SessionRecord) → get_or L i None ≡ Some x → is_of s d (Some x) ≡ true → ⊥
 Looked s d L (Some x) = (i : ℕ) × (i < length L) × (get_or L i None ≡ Some x) × (is_of s d (Some x) ≡ true)
 
-looked_later : (s d : ℕ) (p : Option SessionRecord) (L : Places) (o : Option SessionRecord) → is_of s d p ≡ false → Looked s d L o → Looked s d (p ∷ L) o
+looked_later : (s d : ℕ) (p : Option SessionRecord) (L : Sessions) (o : Option SessionRecord) → is_of s d p ≡ false → Looked s d L o → Looked s d (p ∷ L) o
 looked_later s d p L None n h = apart
   where
     apart : (i : ℕ) (x : SessionRecord) → get_or (p ∷ L) i None ≡ Some x → is_of s d (Some x) ≡ true → ⊥
@@ -146,11 +146,11 @@ looked_later s d p L None n h = apart
     apart (suc i) x e y = h i x e y
 looked_later s d p L (Some x) n h = (suc h.0, (let l : h.0 < length L = h.1 in omega arith), h.2, h.3)
 
-looked_here : (s d : ℕ) (p : Option SessionRecord) (L : Places) → is_of s d p ≡ true → Looked s d (p ∷ L) p
+looked_here : (s d : ℕ) (p : Option SessionRecord) (L : Sessions) → is_of s d p ≡ true → Looked s d (p ∷ L) p
 looked_here s d None L t = absurd (both_ways false refl t)
 looked_here s d (Some x) L t = (0, omega arith, refl, t)
 
-pub looked : (s d : ℕ) (L : Places) → Looked s d L (lookup s d L)
+pub looked : (s d : ℕ) (L : Sessions) → Looked s d L (lookup s d L)
 unfolding lookup
 looked s d [] = λ i x e y. some_not_none x (sym (get_or_past [] i None (omega arith)) ∙ e)
 looked s d (p ∷ L) = cond_both (is_of s d p) _ _ (λ (o : Option SessionRecord). Looked s d (p ∷ L) o)
@@ -167,14 +167,14 @@ pub same_pair : (s d : ℕ) (x : SessionRecord) → (x.source ≡ s) × (x.desti
 same_pair s d x h = λ i. Directed (h.0 i) (h.1 i)
 
 -- each directed key stands for its session
-pub directed_stands : (E : List Event) (L : Places) → AreDirected E L → (s d : ℕ) → IsOpenOrNone E (Directed s d) (lookup s d L)
+pub directed_stands : (E : List Event) (L : Sessions) → AreDirected E L → (s d : ℕ) → IsOpenOrNone E (Directed s d) (lookup s d L)
 directed_stands E L h s d = go (lookup s d L) (looked s d L)
   where
     go : (o : Option SessionRecord) → Looked s d L o → IsOpenOrNone E (Directed s d) o
     go None k = λ g p0 ps z. (let r = h.all s d g p0 ps z in k r.0 r.1 r.2 (is_pair s d r.1 r.3 r.4))
     go (Some x) k = subst (λ (q : Key). IsSession E q x) (same_pair s d x (pair_is s d x k.3)) (h.each k.0 x k.2).session
 
-module _ (E : List Event) (e : Event) (L : Places) (h : AreDirected E L) where
+module _ (E : List Event) (e : Event) (L : Sessions) (h : AreDirected E L) where
   -- what a place becomes that isn't the last before a directed announcement
   place_each : (i : ℕ) (y : SessionRecord) → moved_place e (get_or L i None) ≡ Some y → (is_request_to_send e ≡ true → i < 15)
       → IsAged (E ++ e ∷ []) (pair_of y) (if is_request_to_send e then suc i else i) y
@@ -257,8 +257,8 @@ module _ (E : List Event) (e : Event) (L : Places) (h : AreDirected E L) where
 
   pub directed_more : AreDirected (E ++ e ∷ []) (directed_step e L)
   directed_more = elim (cases_Bool (is_request_to_send e)) [
-    | inr r ↦ subst (λ (M : Places). AreDirected (E ++ e ∷ []) M) (sym (cond-false _ _ _ r)) (other r)
-    | inl r ↦ subst (λ (M : Places). AreDirected (E ++ e ∷ []) M) (sym (cond-true _ _ _ r)) (rival r)
+    | inr r ↦ subst (λ (M : Sessions). AreDirected (E ++ e ∷ []) M) (sym (cond-false _ _ _ r)) (other r)
+    | inl r ↦ subst (λ (M : Sessions). AreDirected (E ++ e ∷ []) M) (sym (cond-true _ _ _ r)) (rival r)
   ]
     where
       other : is_request_to_send e ≡ false → AreDirected (E ++ e ∷ []) (map (moved_place e) L)

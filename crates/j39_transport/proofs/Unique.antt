@@ -5,7 +5,7 @@ use Rattle.j39_transport.specs.Key.{Key}
 use Rattle.j39_transport.specs.Events.{Event, at, sends, size, packets, group}
 use Rattle.j39_transport.specs.Assembly.{Links, Runs, joined_at, Whole}
 use Rattle.j39_transport.specs.Events.Event.{Frame, Forget}
-use Rattle.j39_transport.specs.Laws.{OneMessageLaw, AtPacketLaw, CountsLaw}
+use Rattle.j39_transport.specs.AssemblerLaws.{OneMessageLaw, AtPacketLaw, CountsLaw}
 use Rattle.j39_transport.proofs.Chains.{Links-unique, start_unique}
 use Rattle.j39_transport.proofs.Taken.{whole_ends}
 use Rattle.j39_transport.proofs.FramePlaces.{packet_key}

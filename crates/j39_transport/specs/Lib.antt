@@ -12,7 +12,7 @@ pub mod Assembly
 pub mod Answers
 pub mod Boxes
 pub mod Course
-pub mod Laws
+pub mod AssemblerLaws
 -- messages that are sent and received
 pub mod Broadcasting
 pub mod Broadcasts
@@ -24,14 +24,14 @@ pub mod Net
 pub mod Liveness
 -- what the code's values show
 pub mod Session
-pub mod Places
+pub mod Sessions
 pub mod Stands
-pub mod Shown
-pub mod ShownSession
-pub mod ShownSignal
-pub mod ShownSender
-pub mod ShownReceiver
+pub mod AssemblerModel
+pub mod SessionModel
+pub mod SignalModel
+pub mod SenderModel
+pub mod ReceiverModel
 -- the code's steps, below the rules
-pub mod Steps
-pub mod EventSteps
+pub mod AssemblerStep
+pub mod OpenAtEvent
 pub mod Polling

@@ -5,10 +5,10 @@ use Rattle.j39_transport.specs.Key.Key.{Broadcast, Directed}
 use Rattle.j39_transport.specs.Events.{Event, at, rivals, size, packets, stamp, belongs}
 use Rattle.j39_transport.specs.Assembly.{count_below, joined_at, OpenBy}
 use Rattle.j39_transport.specs.Boxes.{HasSpare}
-use Rattle.j39_transport.specs.EventSteps.{pair_of}
+use Rattle.j39_transport.specs.OpenAtEvent.{pair_of}
 use Rattle.j39_transport.specs.Session.{SessionRecord}
-use Rattle.j39_transport.specs.Places.{Places}
-use Rattle.j39_transport.specs.Steps.{AssemblerRecord, OpenMessagesRecord}
+use Rattle.j39_transport.specs.Sessions.{Sessions}
+use Rattle.j39_transport.specs.AssemblerStep.{AssemblerRecord, OpenMessagesRecord}
 
 -- ---- what a session stands for
 
@@ -39,14 +39,14 @@ pub record IsAged (E : List Event) (k : Key) (age : ℕ) (x : SessionRecord) : T
 -- ---- the state of an assembler
 
 -- the directed messages that are open after E, and no others, each at the place of its age
-pub record AreDirected (E : List Event) (L : Places) : Type 0 where
+pub record AreDirected (E : List Event) (L : Sessions) : Type 0 where
   pub size_is : length L ≡ 16
   pub each : (i : ℕ) (x : SessionRecord) → get_or L i None ≡ Some x → IsAged E (pair_of x) i x
   pub all : (s d g p0 : ℕ) (ps : List ℕ) → OpenBy E (Directed s d) g p0 ps
       → (i : ℕ) × (x : SessionRecord) × (get_or L i None ≡ Some x) × (x.source ≡ s) × (x.destination ≡ d)
 
 -- each place of the 254 has the broadcast of its source that is open after E, if one is
-pub record AreBroadcasts (E : List Event) (T : Places) : Type 0 where
+pub record AreBroadcasts (E : List Event) (T : Sessions) : Type 0 where
   pub size_is : length T ≡ 254
   pub each : (s : ℕ) → s < 254 → IsOpenOrNone E (Broadcast s) (get_or T s None)
 

@@ -10,14 +10,14 @@ ghost use Rattle.j39_transport.specs.Answers.{IsAnnouncement, IsShort, AnswersAt
 ghost use Rattle.j39_transport.specs.Boxes.{WantsMemory};
 ghost use Rattle.j39_transport.specs.Stands.{Stands};
 ghost use Rattle.j39_transport.specs.Signals.{said_by};
-ghost use Rattle.j39_transport.specs.Places.{held_in};
-ghost use Rattle.j39_transport.specs.Steps.{fed, answer, LacksBox, new_assembler, forgot, messages_open, bytes_held};
-ghost use Rattle.j39_transport.specs.Shown.{outcome_by, CanLend, outcome_of};
+ghost use Rattle.j39_transport.specs.Sessions.{stored_in};
+ghost use Rattle.j39_transport.specs.AssemblerStep.{fed, answer, LacksBox, new_assembler, forgot, messages_open, bytes_held};
+ghost use Rattle.j39_transport.specs.AssemblerModel.{outcome_by, CanLend, outcome_of};
 
 use crate::message::{Fed, Message};
 use crate::open_messages::OpenMessages;
 use crate::packet::Accepted;
-use crate::table::Place;
+use crate::table::SessionBox;
 use j39_frame::{Frame, Stamp};
 use std::alloc::{AllocError, Global};
 use std::marker::Model;
@@ -30,17 +30,17 @@ pub struct Assembler {
     alloc: Global,
     sessions: OpenMessages,
     /// The message last lent; its box is used again.
-    lent: Place,
+    lent: SessionBox,
 }
 
 impl Model for Assembler {
     ghost use Rattle.std.specs.Option.{is_some};
-    ghost use Rattle.j39_transport.specs.Places.{held_in};
-    ghost use Rattle.j39_transport.specs.Steps.{AssemblerRecord};
+    ghost use Rattle.j39_transport.specs.Sessions.{stored_in};
+    ghost use Rattle.j39_transport.specs.AssemblerStep.{AssemblerRecord};
 
     ghost Value = { AssemblerRecord };
 
-    ghost view = { λ a. record { sessions = a.sessions; has_spare = is_some (held_in a.lent) } };
+    ghost view = { λ a. record { sessions = a.sessions; has_spare = is_some (stored_in a.lent) } };
 }
 
 impl Assembler {
@@ -80,7 +80,7 @@ impl Assembler {
     }
 
     /// Answers at once where a frame is of another group, which costs its identifier alone.
-    #[tactic(auto, unfolding(crate::specs::Signals::said_by, crate::specs::Frames::group_of, crate::specs::Steps::state_after, crate::specs::Steps::answer, crate::specs::Steps::spare_after))]
+    #[tactic(auto, unfolding(crate::specs::Signals::said_by, crate::specs::Frames::group_of, crate::specs::AssemblerStep::state_after, crate::specs::AssemblerStep::answer, crate::specs::AssemblerStep::spare_after))]
     fn step(&mut self, frame: &Frame) -> Result<Fed<'_>, AllocError>
         ensures answer { IfOk result (λ taken. outcome_of taken
             ≡ answer self.old.sessions frame.now (said_by frame.now)) }
@@ -147,9 +147,9 @@ impl Assembler {
 }
 
 /// The answer, with a whole message lent out of its place.
-fn lend(place: &Place, accepted: Accepted, source: u8, stamp: Stamp) -> Fed<'_>
-    requires { CanLend accepted (held_in place.now) }
-    ensures value { outcome_of result ≡ outcome_by accepted source (stamp_micros stamp) (held_in place.now) }
+fn lend(place: &SessionBox, accepted: Accepted, source: u8, stamp: Stamp) -> Fed<'_>
+    requires { CanLend accepted (stored_in place.now) }
+    ensures value { outcome_of result ≡ outcome_by accepted source (stamp_micros stamp) (stored_in place.now) }
     ensures short { IsShort (outcome_of result) }
 {
     match accepted {

@@ -1,15 +1,15 @@
 //! What a receiver says to an open message, and aborts.
 ghost use Rattle.std.specs.Prelude.{◌≡◌};
 ghost use Rattle.j39_frame.specs.Stamp.{stamp_micros};
-ghost use Rattle.j39_transport.specs.Places.{find};
-ghost use Rattle.j39_transport.specs.Steps.{granted, finished, with_place};
+ghost use Rattle.j39_transport.specs.Sessions.{find};
+ghost use Rattle.j39_transport.specs.AssemblerStep.{granted, finished, with_place};
 
 use crate::protocol::DIRECTED_LIMIT;
 use crate::table::{PAIRS, Table};
 use j39_frame::Stamp;
 
 /// Hands a CTS to the session that it lets go on.
-#[tactic(auto, unfolding(crate::specs::Steps::granted), using(crate::proofs::TableLemmas::set_again, crate::proofs::TableLemmas::set_same))]
+#[tactic(auto, unfolding(crate::specs::AssemblerStep::granted), using(crate::proofs::TableLemmas::set_again, crate::proofs::TableLemmas::set_same))]
 pub(crate) fn grant(table: &mut Table<PAIRS>, source: u8, destination: u8, group: u32, stamp: Stamp)
     ensures { table.new
         ≡ with_place (find source destination table.old) (granted group (stamp_micros stamp)) table.old }
@@ -30,7 +30,7 @@ pub(crate) fn grant(table: &mut Table<PAIRS>, source: u8, destination: u8, group
 }
 
 /// Ends the session of this group from one address to another.
-#[tactic(auto, unfolding(crate::specs::Steps::finished, crate::specs::Steps::closed), using(crate::proofs::TableLemmas::set_again, crate::proofs::TableLemmas::set_same))]
+#[tactic(auto, unfolding(crate::specs::AssemblerStep::finished, crate::specs::AssemblerStep::closed), using(crate::proofs::TableLemmas::set_again, crate::proofs::TableLemmas::set_same))]
 pub(crate) fn finish(table: &mut Table<PAIRS>, source: u8, destination: u8, group: u32)
     ensures { table.new ≡ finished source destination group table.old }
 {

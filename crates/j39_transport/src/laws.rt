@@ -3,7 +3,7 @@ ghost use Rattle.j39_transport.specs.Liveness.{CompletesLaw, SenderWaitsLaw, Rec
 ghost use Rattle.j39_transport.specs.Liveness.{SenderRestsLaw, ReceiverRestsLaw, SenderLastsLaw, ReceiverLastsLaw};
 ghost use Rattle.j39_transport.specs.Broadcasts.{SendsAllLaw, IsHeardLaw};
 ghost use Rattle.j39_transport.specs.Net.{TransfersLaw, TransfersAloneLaw};
-ghost use Rattle.j39_transport.specs.Laws.{OneMessageLaw, AtPacketLaw, WholeOrNoneLaw, CountsLaw};
+ghost use Rattle.j39_transport.specs.AssemblerLaws.{OneMessageLaw, AtPacketLaw, WholeOrNoneLaw, CountsLaw};
 ghost use Rattle.j39_transport.specs.Course.{GoesLaw, ReachesLaw, RunsLaw};
 
 /// At a place at most one message is whole.

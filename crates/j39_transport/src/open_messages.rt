@@ -5,17 +5,17 @@ ghost use Rattle.j39_frame.specs.Address.{IsAddress};
 ghost use Rattle.j39_frame.specs.Stamp.{stamp_micros};
 ghost use Rattle.j39_transport.specs.Frames.{source_of};
 ghost use Rattle.j39_transport.specs.Key.{key_between};
-ghost use Rattle.j39_transport.specs.Places.{held_in};
+ghost use Rattle.j39_transport.specs.Sessions.{stored_in};
 ghost use Rattle.j39_transport.specs.Signals.{said_by};
-ghost use Rattle.j39_transport.specs.Steps.{after_packet, answer_to_packet, state_after, answer, state_without, without_broadcast, empty_state, spare_after, is_whole, LacksBox, messages_open, bytes_held};
-ghost use Rattle.j39_transport.specs.Shown.{outcome_by, CanLend};
+ghost use Rattle.j39_transport.specs.AssemblerStep.{after_packet, answer_to_packet, state_after, answer, state_without, without_broadcast, empty_state, spare_after, is_whole, LacksBox, messages_open, bytes_held};
+ghost use Rattle.j39_transport.specs.AssemblerModel.{outcome_by, CanLend};
 
 use crate::control::{finish, grant};
 use crate::opening::{announce_broadcast, announce_directed};
 use crate::packet::{Accepted, pack, pack_directed};
 use crate::protocol::BROADCAST_LIMIT;
 use crate::signal::{self, Signal};
-use crate::table::{PAIRS, Place, SOURCES, Table};
+use crate::table::{PAIRS, SessionBox, SOURCES, Table};
 use j39_frame::{Frame, GLOBAL_ADDRESS, Stamp};
 use std::alloc::{AllocError, Global};
 use std::marker::Model;
@@ -29,7 +29,7 @@ pub(crate) struct OpenMessages {
 }
 
 impl Model for OpenMessages {
-    ghost use Rattle.j39_transport.specs.Steps.{OpenMessagesRecord};
+    ghost use Rattle.j39_transport.specs.AssemblerStep.{OpenMessagesRecord};
 
     ghost Value = { OpenMessagesRecord };
 
@@ -47,25 +47,25 @@ impl OpenMessages {
     }
 
     /// Takes what a frame says. A message that is whole stands in `lent` then.
-    #[tactic(auto, unfolding(crate::specs::Steps::state_after, crate::specs::Steps::answer, crate::specs::Steps::spare_after))]
+    #[tactic(auto, unfolding(crate::specs::AssemblerStep::state_after, crate::specs::AssemblerStep::answer, crate::specs::AssemblerStep::spare_after))]
     pub(crate) fn accept(
         &mut self,
-        lent: &mut Place,
+        lent: &mut SessionBox,
         alloc: Global,
         frame: &Frame,
     ) -> Result<Accepted, AllocError>
         ensures answer { IfOk result (λ a.
-            outcome_by a (source_of frame.now.id) frame.now.stamp (held_in lent.new)
+            outcome_by a (source_of frame.now.id) frame.now.stamp (stored_in lent.new)
             ≡ answer self.old frame.now (said_by frame.now)) }
-        ensures lends { IfOk result (λ a. CanLend a (held_in lent.new)) }
-        ensures lacked { OnErr result (LacksBox self.old (is_some (held_in lent.old)) frame.now (said_by frame.now)) }
+        ensures lends { IfOk result (λ a. CanLend a (stored_in lent.new)) }
+        ensures lacked { OnErr result (LacksBox self.old (is_some (stored_in lent.old)) frame.now (said_by frame.now)) }
         ensures after { MatchResult result
             (λ _. self.new ≡ state_after self.old frame.now (said_by frame.now))
             (λ _. self.new ≡ self.old) }
         ensures spare { MatchResult result
-            (λ _. is_some (held_in lent.new)
-            ≡ spare_after self.old (is_some (held_in lent.old)) frame.now (said_by frame.now))
-            (λ _. is_some (held_in lent.new) ≡ is_some (held_in lent.old)) }
+            (λ _. is_some (stored_in lent.new)
+            ≡ spare_after self.old (is_some (stored_in lent.old)) frame.now (said_by frame.now))
+            (λ _. is_some (stored_in lent.new) ≡ is_some (stored_in lent.old)) }
     {
         let (s, d) = (signal::source_in(frame), signal::destination_in(frame));
         let stamp = frame.stamp;
@@ -102,7 +102,7 @@ impl OpenMessages {
     #[tactic(auto, unfolding(crate::specs::Key::key_between))]
     fn pack(
         &mut self,
-        lent: &mut Place,
+        lent: &mut SessionBox,
         source: u8,
         destination: u8,
         number: u8,
@@ -113,14 +113,14 @@ impl OpenMessages {
         requires seven { length bytes.now ≡ 7 }
         ensures after { self.new
             ≡ after_packet self.old (stamp_micros stamp) (key_between source destination) number bytes.now }
-        ensures lends { CanLend result (held_in lent.new) }
+        ensures lends { CanLend result (stored_in lent.new) }
         ensures answer { (from : ℕ)
-            → outcome_by result from (stamp_micros stamp) (held_in lent.new)
+            → outcome_by result from (stamp_micros stamp) (stored_in lent.new)
             ≡ answer_to_packet self.old from (stamp_micros stamp) (key_between source destination) number bytes.now }
-        ensures spare { is_some (held_in lent.new)
+        ensures spare { is_some (stored_in lent.new)
             ≡ is_whole (answer_to_packet self.old 0 (stamp_micros stamp) (key_between source destination)
             number bytes.now)
-            || is_some (held_in lent.old) }
+            || is_some (stored_in lent.old) }
     {
         if destination == GLOBAL_ADDRESS {
             let place = usize::from(source);
@@ -172,7 +172,7 @@ impl OpenMessages {
 }
 
 /// Ends the broadcast of a source.
-#[tactic(auto, unfolding(crate::specs::Steps::without_broadcast))]
+#[tactic(auto, unfolding(crate::specs::AssemblerStep::without_broadcast))]
 fn forget_broadcast(table: &mut Table<SOURCES>, source: u8)
     ensures { table.new ≡ without_broadcast source table.old }
 {

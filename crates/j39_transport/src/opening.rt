@@ -4,24 +4,24 @@ ghost use Rattle.std.specs.Option.{is_some};
 ghost use Rattle.j39_frame.specs.Address.{global_address};
 ghost use Rattle.j39_frame.specs.Stamp.{stamp_micros};
 ghost use Rattle.j39_memory.specs.Stored.{value_of};
-ghost use Rattle.j39_transport.specs.Places.{at, find, held_in};
-ghost use Rattle.j39_transport.specs.Steps.{room, spare_left, with_announced};
-ghost use Rattle.j39_transport.specs.ShownSession.{opened_by};
+ghost use Rattle.j39_transport.specs.Sessions.{at, find, stored_in};
+ghost use Rattle.j39_transport.specs.AssemblerStep.{room, spare_left, with_announced};
+ghost use Rattle.j39_transport.specs.SessionModel.{opened_by};
 
 use crate::announcement::Announcement;
 use crate::session::Session;
-use crate::table::{PAIRS, Place, SOURCES, Table};
+use crate::table::{PAIRS, SessionBox, SOURCES, Table};
 use j39_frame::{GLOBAL_ADDRESS, Stamp};
 use j39_memory::Stored;
 use std::alloc::{AllocError, Global};
 
 /// Takes out the session at a place, or else that last lent.
-fn take_used<const N: usize>(table: &mut Table<N>, place: usize, lent: &mut Place) -> Place
+fn take_used<const N: usize>(table: &mut Table<N>, place: usize, lent: &mut SessionBox) -> SessionBox
     requires place { place < N }
     ensures table { table.new ≡ slice_set table.old place None }
-    ensures spare { is_some (held_in lent.new) ≡ spare_left (at table.old place) (is_some (held_in lent.old)) }
-    ensures none { held_in result ≡ None
-        → (at table.old place ≡ None) × (is_some (held_in lent.old) ≡ false) }
+    ensures spare { is_some (stored_in lent.new) ≡ spare_left (at table.old place) (is_some (stored_in lent.old)) }
+    ensures none { stored_in result ≡ None
+        → (at table.old place ≡ None) × (is_some (stored_in lent.old) ≡ false) }
 {
     match table.take(place) {
         Some(session) => Some(session),
@@ -34,7 +34,7 @@ fn take_used<const N: usize>(table: &mut Table<N>, place: usize, lent: &mut Plac
 fn take_box<const N: usize>(
     table: &mut Table<N>,
     place: usize,
-    lent: &mut Place,
+    lent: &mut SessionBox,
     alloc: Global,
     source: u8,
     destination: u8,
@@ -47,9 +47,9 @@ fn take_box<const N: usize>(
         (λ _. table.new ≡ slice_set table.old place None)
         (λ _. table.new ≡ table.old) }
     ensures spare { MatchResult result
-        (λ _. is_some (held_in lent.new) ≡ spare_left (at table.old place) (is_some (held_in lent.old)))
-        (λ _. is_some (held_in lent.new) ≡ is_some (held_in lent.old)) }
-    ensures lacked { OnErr result ((at table.old place ≡ None) × (is_some (held_in lent.old) ≡ false)) }
+        (λ _. is_some (stored_in lent.new) ≡ spare_left (at table.old place) (is_some (stored_in lent.old)))
+        (λ _. is_some (stored_in lent.new) ≡ is_some (stored_in lent.old)) }
+    ensures lacked { OnErr result ((at table.old place ≡ None) × (is_some (stored_in lent.old) ≡ false)) }
 {
     match take_used(table, place, lent) {
         Some(mut session) => {
@@ -81,7 +81,7 @@ fn boxed(
 pub(crate) fn announce_broadcast(
     table: &mut Table<SOURCES>,
     source: u8,
-    lent: &mut Place,
+    lent: &mut SessionBox,
     alloc: Global,
     announcement: Announcement,
     stamp: Stamp,
@@ -92,9 +92,9 @@ pub(crate) fn announce_broadcast(
         ≡ slice_set table.old source (Some (opened_by source global_address announcement (stamp_micros stamp))))
         (λ _. table.new ≡ table.old) }
     ensures spare { MatchResult result
-        (λ _. is_some (held_in lent.new) ≡ spare_left (at table.old source) (is_some (held_in lent.old)))
-        (λ _. is_some (held_in lent.new) ≡ is_some (held_in lent.old)) }
-    ensures lacked { OnErr result ((at table.old source ≡ None) × (is_some (held_in lent.old) ≡ false)) }
+        (λ _. is_some (stored_in lent.new) ≡ spare_left (at table.old source) (is_some (stored_in lent.old)))
+        (λ _. is_some (stored_in lent.new) ≡ is_some (stored_in lent.old)) }
+    ensures lacked { OnErr result ((at table.old source ≡ None) × (is_some (stored_in lent.old) ≡ false)) }
 {
     let place = usize::from(source);
     let session = take_box(
@@ -126,7 +126,7 @@ pub(crate) fn announce_directed(
     table: &mut Table<PAIRS>,
     source: u8,
     destination: u8,
-    lent: &mut Place,
+    lent: &mut SessionBox,
     alloc: Global,
     announcement: Announcement,
     stamp: Stamp,
@@ -136,11 +136,11 @@ pub(crate) fn announce_directed(
         ≡ with_announced source destination (opened_by source destination announcement (stamp_micros stamp)) table.old)
         (λ _. table.new ≡ table.old) }
     ensures spare { MatchResult result
-        (λ _. is_some (held_in lent.new)
-        ≡ spare_left (at table.old (room (find source destination table.old))) (is_some (held_in lent.old)))
-        (λ _. is_some (held_in lent.new) ≡ is_some (held_in lent.old)) }
+        (λ _. is_some (stored_in lent.new)
+        ≡ spare_left (at table.old (room (find source destination table.old))) (is_some (stored_in lent.old)))
+        (λ _. is_some (stored_in lent.new) ≡ is_some (stored_in lent.old)) }
     ensures lacked { OnErr result ((at table.old (room (find source destination table.old)) ≡ None)
-        × (is_some (held_in lent.old) ≡ false)) }
+        × (is_some (stored_in lent.old) ≡ false)) }
 {
     let place = room(table.find(source, destination));
     let session = take_box(

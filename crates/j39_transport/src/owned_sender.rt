@@ -6,7 +6,7 @@ ghost use Rattle.j39_frame.specs.Pgn.{pgn_raw};
 ghost use Rattle.j39_frame.specs.Stamp.{stamp_micros};
 ghost use Rattle.j39_transport.specs.Cutting.{to_send};
 ghost use Rattle.j39_transport.specs.Sending.{IsOwn, SendStep, new_sender};
-ghost use Rattle.j39_transport.specs.ShownSender.{event_of, state_of};
+ghost use Rattle.j39_transport.specs.SenderModel.{event_of, state_of};
 
 use crate::Cut;
 use crate::progress::{Progress, SendEvent, SendState};
@@ -26,7 +26,7 @@ pub struct OwnedSender {
 impl Model for OwnedSender {
     ghost use Rattle.j39_frame.specs.Pgn.{pgn_raw};
     ghost use Rattle.j39_transport.specs.Sending.{SenderRecord};
-    ghost use Rattle.j39_transport.specs.ShownSender.{IsSender, sender_of};
+    ghost use Rattle.j39_transport.specs.SenderModel.{IsSender, sender_of};
 
     ghost Value = { SenderRecord };
 

@@ -4,13 +4,13 @@ ghost use Rattle.std.specs.Option.{is_some};
 ghost use Rattle.j39_frame.specs.Stamp.{stamp_micros};
 ghost use Rattle.j39_memory.specs.Stored.{value_of};
 ghost use Rattle.j39_transport.specs.Protocol.{directed_limit};
-ghost use Rattle.j39_transport.specs.Places.{at, held_in, find};
-ghost use Rattle.j39_transport.specs.Steps.{is_whole, moves, packed, told, told_at, with_place};
-ghost use Rattle.j39_transport.specs.Shown.{shown_move, IsMove, outcome_by, CanLend};
+ghost use Rattle.j39_transport.specs.Sessions.{at, stored_in, find};
+ghost use Rattle.j39_transport.specs.AssemblerStep.{is_whole, moves, packed, told, told_at, with_place};
+ghost use Rattle.j39_transport.specs.AssemblerModel.{shown_move, IsMove, outcome_by, CanLend};
 
 use crate::protocol::DIRECTED_LIMIT;
 use crate::session::Session;
-use crate::table::{PAIRS, Place, Table};
+use crate::table::{PAIRS, SessionBox, Table};
 use j39_frame::Stamp;
 use j39_memory::Stored;
 
@@ -32,7 +32,7 @@ pub(crate) enum Moved {
 }
 
 /// The session after the packet of this number and bytes.
-#[tactic(auto, unfolding(crate::specs::Steps::moves))]
+#[tactic(auto, unfolding(crate::specs::AssemblerStep::moves))]
 fn after_packet(
     mut session: Stored<Session>,
     limit: u64,
@@ -68,7 +68,7 @@ fn after_packet(
 pub(crate) fn pack<const N: usize>(
     table: &mut Table<N>,
     place: usize,
-    lent: &mut Place,
+    lent: &mut SessionBox,
     limit: u64,
     number: u8,
     bytes: &[u8],
@@ -79,13 +79,13 @@ pub(crate) fn pack<const N: usize>(
     requires seven { length bytes.now ≡ 7 }
     ensures table { table.new ≡ slice_set table.old place
         (packed limit number bytes.now (stamp_micros stamp) (at table.old place)) }
-    ensures lends { CanLend result (held_in lent.new) }
+    ensures lends { CanLend result (stored_in lent.new) }
     ensures told { (source : ℕ)
-        → outcome_by result source (stamp_micros stamp) (held_in lent.new)
+        → outcome_by result source (stamp_micros stamp) (stored_in lent.new)
         ≡ told source limit number bytes.now (stamp_micros stamp) (at table.old place) }
-    ensures spare { is_some (held_in lent.new)
+    ensures spare { is_some (stored_in lent.new)
         ≡ is_whole (told 0 limit number bytes.now (stamp_micros stamp) (at table.old place))
-        || is_some (held_in lent.old) }
+        || is_some (stored_in lent.old) }
 {
     let Some(session) = table.take(place) else {
         return Accepted::Ignored;
@@ -112,7 +112,7 @@ pub(crate) fn pack_directed(
     table: &mut Table<PAIRS>,
     source: u8,
     destination: u8,
-    lent: &mut Place,
+    lent: &mut SessionBox,
     number: u8,
     bytes: &[u8],
     stamp: Stamp,
@@ -120,14 +120,14 @@ pub(crate) fn pack_directed(
     requires { length bytes.now ≡ 7 }
     ensures table { table.new ≡ with_place (find source destination table.old)
         (packed directed_limit number bytes.now (stamp_micros stamp)) table.old }
-    ensures lends { CanLend result (held_in lent.new) }
+    ensures lends { CanLend result (stored_in lent.new) }
     ensures told { (from : ℕ)
-        → outcome_by result from (stamp_micros stamp) (held_in lent.new)
+        → outcome_by result from (stamp_micros stamp) (stored_in lent.new)
         ≡ told_at (find source destination table.old)
         (told from directed_limit number bytes.now (stamp_micros stamp)) table.old }
-    ensures spare { is_some (held_in lent.new)
+    ensures spare { is_some (stored_in lent.new)
         ≡ is_whole (told_at (find source destination table.old)
-        (told 0 directed_limit number bytes.now (stamp_micros stamp)) table.old) || is_some (held_in lent.old) }
+        (told 0 directed_limit number bytes.now (stamp_micros stamp)) table.old) || is_some (stored_in lent.old) }
 {
     match table.find(source, destination) {
         Some(place) => pack(table, place, lent, DIRECTED_LIMIT, number, bytes, stamp),

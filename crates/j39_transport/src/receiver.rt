@@ -11,8 +11,8 @@ ghost use Rattle.j39_transport.specs.Frames.{source_of};
 ghost use Rattle.j39_transport.specs.Key.Key.{Directed};
 ghost use Rattle.j39_transport.specs.ReceiverStands.{ReceiverStandsFor, WereHanded, HasHeard};
 ghost use Rattle.j39_transport.specs.Receiving.{said_to, RecvStep, HearStep, Tick, Heard, recv_step, answer_in, result_of, new_receiver, partner_of};
-ghost use Rattle.j39_transport.specs.ShownSignal.{said};
-ghost use Rattle.j39_transport.specs.ShownReceiver.{held_in, reacted, CanLend, answer_of, IsStamped};
+ghost use Rattle.j39_transport.specs.SignalModel.{said};
+ghost use Rattle.j39_transport.specs.ReceiverModel.{stored_in, reacted, CanLend, answer_of, IsStamped};
 
 use crate::message::Message;
 use crate::receiver_events::{self, Move, ReceptionBox};
@@ -46,16 +46,16 @@ pub struct Receiver {
 impl Model for Receiver {
     ghost use Rattle.j39_frame.specs.Address.{IsAddress};
     ghost use Rattle.j39_transport.specs.Receiving.{BoxedReceiver};
-    ghost use Rattle.j39_transport.specs.ShownReceiver.{has_box, held_in, IsOpen};
+    ghost use Rattle.j39_transport.specs.ReceiverModel.{has_box, stored_in, IsOpen};
 
     ghost Value = { BoxedReceiver };
 
     ghost view = { λ r. record {
-      state = record { own = r.own; session = held_in r.session };
-      has_box = has_box (held_in r.session) (held_in r.lent);
+      state = record { own = r.own; session = stored_in r.session };
+      has_box = has_box (stored_in r.session) (stored_in r.lent);
     } };
 
-    ghost invariant = { λ r. IsAddress r.own × IsOpen (held_in r.session) };
+    ghost invariant = { λ r. IsAddress r.own × IsOpen (stored_in r.session) };
 }
 
 impl Receiver {
@@ -186,7 +186,7 @@ fn said_to(own: u8, frame: &Frame) -> Option<Signal>
 
 /// Where the answer of a tick goes: to the session's source.
 fn partner(slot: &ReceptionBox) -> u8
-    ensures { result ≡ partner_of (held_in slot.now) }
+    ensures { result ≡ partner_of (stored_in slot.now) }
 {
     match slot {
         Some(session) => session.source(),
@@ -196,8 +196,8 @@ fn partner(slot: &ReceptionBox) -> u8
 
 /// The answer, with a message that is delivered lent out of its buffer.
 fn lend(slot: &ReceptionBox, done: Move, own: u8, to: u8, now: Stamp) -> Reply<'_>
-    requires { CanLend done (held_in slot.now) }
-    ensures answer { answer_of result ≡ answer_in (result_of own to (reacted done None (held_in slot.now))) }
+    requires { CanLend done (stored_in slot.now) }
+    ensures answer { answer_of result ≡ answer_in (result_of own to (reacted done None (stored_in slot.now))) }
     ensures stamp { IsStamped (stamp_micros now) result }
     ensures short { IfSome (answer_of result).delivers (λ message. length message.bytes ≤ 1785) }
 {

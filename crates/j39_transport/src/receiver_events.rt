@@ -4,9 +4,9 @@ ghost use Rattle.std.specs.Option.{is_some, option_map};
 ghost use Rattle.j39_frame.specs.Stamp.{stamp_micros};
 ghost use Rattle.j39_transport.specs.Key.Key.{Directed};
 ghost use Rattle.j39_transport.specs.Reception.{takes_request, takes_data, takes_abort, takes_signal, takes_tick, is_taken};
-ghost use Rattle.j39_transport.specs.ShownReceiver.{stepped, IsStep, held_in, IsOpen, has_box, reacted, found_in, CanLend};
-ghost use Rattle.j39_transport.specs.ShownSession.{opened_by};
-ghost use Rattle.j39_transport.specs.ShownSignal.{said};
+ghost use Rattle.j39_transport.specs.ReceiverModel.{stepped, IsStep, stored_in, IsOpen, has_box, reacted, found_in, CanLend};
+ghost use Rattle.j39_transport.specs.SessionModel.{opened_by};
+ghost use Rattle.j39_transport.specs.SignalModel.{said};
 
 use crate::announcement::Announcement;
 use crate::protocol::{BUSY, NO_RESOURCES};
@@ -36,13 +36,13 @@ fn settle(
     session: Box<Reception>,
     step: Step,
 ) -> Move
-    requires empty { held_in slot.old ≡ None }
+    requires empty { stored_in slot.old ≡ None }
     requires step { IsStep step session.value }
-    ensures does { reacted result (held_in slot.new) (held_in lent.new) ≡ stepped step session.value }
+    ensures does { reacted result (stored_in slot.new) (stored_in lent.new) ≡ stepped step session.value }
     ensures found { found_in result ≡ true }
-    ensures buffer { has_box (held_in slot.new) (held_in lent.new) ≡ true }
-    ensures open { IsOpen (held_in slot.new) }
-    ensures lends { CanLend result (held_in lent.new) }
+    ensures buffer { has_box (stored_in slot.new) (stored_in lent.new) ≡ true }
+    ensures open { IsOpen (stored_in slot.new) }
+    ensures lends { CanLend result (stored_in lent.new) }
 {
     match step {
         Step::Stays => {
@@ -74,13 +74,13 @@ fn take_data(
     part: &[u8; 7],
     now: Stamp,
 ) -> Move
-    requires { IsOpen (held_in slot.old) }
-    ensures does { reacted result (held_in slot.new) (held_in lent.new)
-        ≡ takes_data source number part.now (stamp_micros now) (held_in slot.old) }
+    requires { IsOpen (stored_in slot.old) }
+    ensures does { reacted result (stored_in slot.new) (stored_in lent.new)
+        ≡ takes_data source number part.now (stamp_micros now) (stored_in slot.old) }
     ensures found { found_in result ≡ true }
-    ensures buffer { has_box (held_in slot.new) (held_in lent.new) ≡ has_box (held_in slot.old) (held_in lent.old) }
-    ensures open { IsOpen (held_in slot.new) }
-    ensures lends { CanLend result (held_in lent.new) }
+    ensures buffer { has_box (stored_in slot.new) (stored_in lent.new) ≡ has_box (stored_in slot.old) (stored_in lent.old) }
+    ensures open { IsOpen (stored_in slot.new) }
+    ensures lends { CanLend result (stored_in lent.new) }
 {
     match slot.take() {
         None => Move::Quiet,
@@ -99,13 +99,13 @@ fn take_data(
 /// An abort of a source.
 #[tactic(auto, unfolding(crate::specs::Reception::takes_abort))]
 fn take_abort(slot: &mut ReceptionBox, lent: &mut ReceptionBox, source: u8, pgn: u32) -> Move
-    requires { IsOpen (held_in slot.old) }
-    ensures does { reacted result (held_in slot.new) (held_in lent.new)
-        ≡ takes_abort source pgn (held_in slot.old) }
+    requires { IsOpen (stored_in slot.old) }
+    ensures does { reacted result (stored_in slot.new) (stored_in lent.new)
+        ≡ takes_abort source pgn (stored_in slot.old) }
     ensures found { found_in result ≡ true }
-    ensures buffer { has_box (held_in slot.new) (held_in lent.new) ≡ has_box (held_in slot.old) (held_in lent.old) }
-    ensures open { IsOpen (held_in slot.new) }
-    ensures lends { CanLend result (held_in lent.new) }
+    ensures buffer { has_box (stored_in slot.new) (stored_in lent.new) ≡ has_box (stored_in slot.old) (stored_in lent.old) }
+    ensures open { IsOpen (stored_in slot.new) }
+    ensures lends { CanLend result (stored_in lent.new) }
 {
     match slot.take() {
         None => Move::Quiet,
@@ -122,7 +122,7 @@ fn take_abort(slot: &mut ReceptionBox, lent: &mut ReceptionBox, source: u8, pgn:
 
 /// Whether the session of another source is open.
 fn is_taken(slot: &ReceptionBox, source: u8) -> bool
-    ensures { result ≡ is_taken source (held_in slot.now) }
+    ensures { result ≡ is_taken source (stored_in slot.now) }
 {
     match slot {
         None => false,
@@ -141,9 +141,9 @@ fn take_box(
     lent: &mut ReceptionBox,
     alloc: Global,
 ) -> Result<Box<Reception>, AllocError>
-    ensures open { OnErr result (held_in slot.new ≡ held_in slot.old) }
-    ensures buffer { OnErr result (has_box (held_in slot.new) (held_in lent.new) ≡ false) }
-    ensures lacked { OnErr result (has_box (held_in slot.old) (held_in lent.old) ≡ false) }
+    ensures open { OnErr result (stored_in slot.new ≡ stored_in slot.old) }
+    ensures buffer { OnErr result (has_box (stored_in slot.new) (stored_in lent.new) ≡ false) }
+    ensures lacked { OnErr result (has_box (stored_in slot.old) (stored_in lent.old) ≡ false) }
 {
     match slot.take() {
         Some(session) => Ok(session),
@@ -166,15 +166,15 @@ fn take_request(
     most: u8,
     now: Stamp,
 ) -> Move
-    requires { IsOpen (held_in slot.old) }
-    ensures does { reacted result (held_in slot.new) (held_in lent.new)
+    requires { IsOpen (stored_in slot.old) }
+    ensures does { reacted result (stored_in slot.new) (stored_in lent.new)
         ≡ takes_request (opened_by source own announcement (stamp_micros now)) most (stamp_micros now)
-        (found_in result) (held_in slot.old) }
-    ensures finds { has_box (held_in slot.old) (held_in lent.old) ≡ true → found_in result ≡ true }
-    ensures buffer { has_box (held_in slot.new) (held_in lent.new)
-        ≡ is_some (held_in slot.new) || has_box (held_in slot.old) (held_in lent.old) }
-    ensures open { IsOpen (held_in slot.new) }
-    ensures lends { CanLend result (held_in lent.new) }
+        (found_in result) (stored_in slot.old) }
+    ensures finds { has_box (stored_in slot.old) (stored_in lent.old) ≡ true → found_in result ≡ true }
+    ensures buffer { has_box (stored_in slot.new) (stored_in lent.new)
+        ≡ is_some (stored_in slot.new) || has_box (stored_in slot.old) (stored_in lent.old) }
+    ensures open { IsOpen (stored_in slot.new) }
+    ensures lends { CanLend result (stored_in lent.new) }
 {
     let group = announcement.group.raw();
     if is_taken(slot, source) {
@@ -201,15 +201,15 @@ pub(crate) fn take_signal(
     signal: Option<Signal>,
     now: Stamp,
 ) -> Move
-    requires { IsOpen (held_in slot.old) }
-    ensures does { reacted result (held_in slot.new) (held_in lent.new)
+    requires { IsOpen (stored_in slot.old) }
+    ensures does { reacted result (stored_in slot.new) (stored_in lent.new)
         ≡ takes_signal (Directed source own) (option_map said signal) (stamp_micros now)
-        (found_in result) (held_in slot.old) }
-    ensures finds { has_box (held_in slot.old) (held_in lent.old) ≡ true → found_in result ≡ true }
-    ensures buffer { has_box (held_in slot.new) (held_in lent.new)
-        ≡ is_some (held_in slot.new) || has_box (held_in slot.old) (held_in lent.old) }
-    ensures open { IsOpen (held_in slot.new) }
-    ensures lends { CanLend result (held_in lent.new) }
+        (found_in result) (stored_in slot.old) }
+    ensures finds { has_box (stored_in slot.old) (stored_in lent.old) ≡ true → found_in result ≡ true }
+    ensures buffer { has_box (stored_in slot.new) (stored_in lent.new)
+        ≡ is_some (stored_in slot.new) || has_box (stored_in slot.old) (stored_in lent.old) }
+    ensures open { IsOpen (stored_in slot.new) }
+    ensures lends { CanLend result (stored_in lent.new) }
 {
     match signal {
         None => Move::Quiet,
@@ -227,12 +227,12 @@ pub(crate) fn take_signal(
 /// Time that passes.
 #[tactic(auto, unfolding(crate::specs::Reception::takes_tick))]
 pub(crate) fn tick(slot: &mut ReceptionBox, lent: &mut ReceptionBox, now: Stamp) -> Move
-    requires { IsOpen (held_in slot.old) }
-    ensures does { reacted result (held_in slot.new) (held_in lent.new)
-        ≡ takes_tick (stamp_micros now) (held_in slot.old) }
-    ensures buffer { has_box (held_in slot.new) (held_in lent.new) ≡ has_box (held_in slot.old) (held_in lent.old) }
-    ensures open { IsOpen (held_in slot.new) }
-    ensures lends { CanLend result (held_in lent.new) }
+    requires { IsOpen (stored_in slot.old) }
+    ensures does { reacted result (stored_in slot.new) (stored_in lent.new)
+        ≡ takes_tick (stamp_micros now) (stored_in slot.old) }
+    ensures buffer { has_box (stored_in slot.new) (stored_in lent.new) ≡ has_box (stored_in slot.old) (stored_in lent.old) }
+    ensures open { IsOpen (stored_in slot.new) }
+    ensures lends { CanLend result (stored_in lent.new) }
 {
     match slot.take() {
         None => Move::Quiet,

@@ -3,9 +3,9 @@ ghost use Rattle.std.specs.Prelude.{◌≡◌, ◌<◌, ◌≤◌, ◌+◌, leng
 ghost use Rattle.j39_frame.specs.Pgn.{pgn_raw};
 ghost use Rattle.j39_frame.specs.Stamp.{stamp_micros};
 ghost use Rattle.j39_transport.specs.Reception.{begun, most_named, granted_at, window, asks_again, goes_on, takes_packet, takes_tick};
-ghost use Rattle.j39_transport.specs.ShownReceiver.{stepped, IsStep};
-ghost use Rattle.j39_transport.specs.ShownSession.{opened_by};
-ghost use Rattle.j39_transport.specs.ShownSignal.{said};
+ghost use Rattle.j39_transport.specs.ReceiverModel.{stepped, IsStep};
+ghost use Rattle.j39_transport.specs.SessionModel.{opened_by};
+ghost use Rattle.j39_transport.specs.SignalModel.{said};
 ghost use Rattle.j39_transport.specs.Signals.{ClearToSend};
 
 use crate::announcement::Announcement;
@@ -43,7 +43,7 @@ pub(crate) struct Reception {
 
 impl Model for Reception {
     ghost use Rattle.j39_transport.specs.Reception.{ReceptionRecord};
-    ghost use Rattle.j39_transport.specs.ShownReceiver.{IsReception};
+    ghost use Rattle.j39_transport.specs.ReceiverModel.{IsReception};
 
     ghost Value = { ReceptionRecord };
 

@@ -7,8 +7,8 @@ ghost use Rattle.j39_transport.specs.Cutting.{to_send};
 ghost use Rattle.j39_transport.specs.Message.{packets_of};
 ghost use Rattle.j39_transport.specs.Protocol.{timer_t3};
 ghost use Rattle.j39_transport.specs.Sending.{SendStep, IsOwn, new_sender, ticks_in, sends_packet, waits, hears, cleared, acknowledged, aborted};
-ghost use Rattle.j39_transport.specs.ShownSender.{IsSender, event_of, sender_of, state_of};
-ghost use Rattle.j39_transport.specs.ShownSignal.{said};
+ghost use Rattle.j39_transport.specs.SenderModel.{IsSender, event_of, sender_of, state_of};
+ghost use Rattle.j39_transport.specs.SignalModel.{said};
 
 use crate::Cut;
 use crate::progress::{Progress, SendEvent, SendState};
@@ -39,7 +39,7 @@ pub struct Sender<'a> {
 impl<'a> Model for Sender<'a> {
     ghost use Rattle.j39_frame.specs.Stamp.{stamp_micros};
     ghost use Rattle.j39_transport.specs.Sending.{SenderRecord};
-    ghost use Rattle.j39_transport.specs.ShownSender.{progress_in, IsSender};
+    ghost use Rattle.j39_transport.specs.SenderModel.{progress_in, IsSender};
 
     ghost Value = { SenderRecord };
 

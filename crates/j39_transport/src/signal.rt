@@ -5,7 +5,7 @@ ghost use Rattle.j39_transport.specs.Cutting.{to_send};
 ghost use Rattle.j39_transport.specs.Frames.{source_of, destination_of};
 ghost use Rattle.j39_transport.specs.Key.{is_key, key_between};
 ghost use Rattle.j39_transport.specs.Signals.{broadcast_in, request_in, packet_in, control_in, said_by, said_between, bytes_with, written};
-ghost use Rattle.j39_transport.specs.ShownSignal.{said, IsFromAddress};
+ghost use Rattle.j39_transport.specs.SignalModel.{said, IsFromAddress};
 
 use crate::announcement::Announcement;
 use crate::protocol::{

@@ -4,7 +4,7 @@ use Rattle.std.proofs.lemmas.Bool.{false≢true}
 use Rattle.std.specs.Prelude.{IfErr, IfOk, IsOk, MatchResult, OnOk, Ok, Err, Result}
 use Rattle.j39_log.specs.Log.{frames_of}
 use Rattle.j39_log.proofs.LogLemmas.{same_log}
-use Rattle.j39_listen.specs.AccountSteps.{MakesOne}
+use Rattle.j39_listen.specs.AccountCalls.{MakesOne}
 use Rattle.j39_listen.specs.Output.{Making}
 use Rattle.j39_listen.specs.Run.{Writes, WritesFront, run_bus}
 use Rattle.j39_listen.specs.declared.counts.Counts.{Counts}

@@ -79,7 +79,7 @@ impl<'a> Sink for Room<'a> {
     ghost use Rattle.std.specs.Prelude.{Some, ◌∷◌, take};
 
     // The name of the room stands before what is written: so a run that keeps what was there keeps the room.
-    ghost held = { λ room. Some (room.room.ghost_name ∷ take room.len room.room.now) };
+    ghost written = { λ room. Some (room.room.ghost_name ∷ take room.len room.room.now) };
 
     ghost has_failed = { λ room. room.is_full };
 

@@ -49,10 +49,10 @@ impl Pair {
             self.tool.pass(now)?;
             self.tool.turn(now)?;
             for _turn in 0..10 {
-                if let Some(wish) = self.engine.take_wish() {
+                if let Some(wish) = self.engine.take_frame() {
                     self.tool.hear(&wish.frame)?;
                 }
-                if let Some(wish) = self.tool.take_wish() {
+                if let Some(wish) = self.tool.take_frame() {
                     self.engine.hear(&wish.frame)?;
                 }
             }

@@ -5,7 +5,7 @@ ghost use Rattle.std.specs.Result.{IfOk, OnOk};
 ghost use Rattle.bus_demo.specs.Fates.{is_whole};
 
 use j39_address::Name;
-use j39_controller::{Part, Received};
+use j39_controller::{MessageFrame, Received};
 use j39_frame::{Pgn, Stamp};
 use std::alloc::{AllocError, Global};
 
@@ -75,7 +75,7 @@ impl Book {
     }
 
     /// Notes that a frame was seen on the bus.
-    pub fn seen(&mut self, part: Part, now: Stamp)
+    pub fn seen(&mut self, part: MessageFrame, now: Stamp)
         ensures open { part.is_last ≡ false → self.new ≡ self.old }
         ensures rest { self.new ≡ record self.old { handed = self.new.handed } }
     {

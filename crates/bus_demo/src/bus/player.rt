@@ -74,7 +74,7 @@ impl Player {
     }
 
     /// The frame that it wishes to send next, which the bus now takes.
-    pub fn take_wish(&mut self) -> Option<Wish>
+    pub fn take_frame(&mut self) -> Option<Wish>
         ensures may { (node : Node) → HasNode self.old.controller node
             → IfSome result (λ wish. MaySend node wish.frame) }
         ensures goes { (node : Node) (first : Wish) (others : List Wish) → HasNode self.old.controller node
@@ -83,7 +83,7 @@ impl Player {
         ensures rest { KeepsButWaiting self.old.controller self.new.controller
             × (self.new ≡ record self.old { controller = self.new.controller }) }
     {
-        self.controller.take_wish()
+        self.controller.take_frame()
     }
 
     /// Lets time pass: the loop turns every 10 ms.

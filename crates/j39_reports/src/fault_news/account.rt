@@ -6,10 +6,10 @@ ghost use Rattle.j39_io.specs.Device.{AppendsFront};
 ghost use Rattle.j39_io.specs.Turn.{turn};
 ghost use Rattle.j39_frame.specs.Frame.{FrameRecord};
 ghost use Rattle.j39_frame.specs.Pgn.{pgn_raw};
-ghost use Rattle.j39_listen.specs.AccountSteps.{LeavesWriter};
+ghost use Rattle.j39_listen.specs.AccountCalls.{LeavesWriter};
 ghost use Rattle.j39_listen.specs.Heard.{AreHeardWith, Hearing};
 ghost use Rattle.j39_listen.specs.Listening.{Hears};
-ghost use Rattle.j39_listen.specs.Shown.{hearing_of};
+ghost use Rattle.j39_listen.specs.HeardModel.{hearing_of};
 ghost use Rattle.j39_listen.specs.declared.account.LineFault.TheVariants as line_fault;
 ghost use Rattle.j39_reports.specs.FaultAsking.{AsksForFaults};
 ghost use Rattle.j39_reports.specs.Faults.{faults_by};
@@ -20,7 +20,7 @@ ghost use Rattle.j39_reports.specs.Remembered.{Remembers};
 ghost use Rattle.j39_reports.specs.FaultsSoFar.{HasTold, MeetsFrame, StopsFrame, Tells, TellsFront, told_faults};
 
 use crate::fault_news::form::Writing;
-use crate::fault_news::last_said::LastSaid;
+use crate::fault_news::last_faults::LastFaults;
 use crate::fault_news::lines::put_message;
 use crate::fault_news::telling::Telling;
 use j39_io::{DeviceFault, Sink};
@@ -37,7 +37,7 @@ pub(crate) struct FaultNews<'g, 't> {
     writing: Writing<'g, 't>,
     telling: Telling,
     listener: Listener,
-    last: LastSaid,
+    last: LastFaults,
     made: Made,
 }
 
@@ -56,14 +56,14 @@ impl<'g, 't> FaultNews<'g, 't> {
             writing,
             telling,
             listener: Listener::new(alloc),
-            last: LastSaid::new(),
+            last: LastFaults::new(),
             made: Made::default(),
         }
     }
 }
 
 impl<'g, 't> Account for FaultNews<'g, 't> {
-    ghost use Rattle.j39_listen.specs.AccountSteps.{Begins, MakesOne};
+    ghost use Rattle.j39_listen.specs.AccountCalls.{Begins, MakesOne};
     ghost use Rattle.j39_reports.specs.FaultAsking.{AsksForFaults};
     ghost use Rattle.j39_reports.specs.FaultRun.{MakesFaultsIn};
     ghost use Rattle.j39_reports.specs.FaultsSoFar.{HasTold, Subject};
@@ -77,7 +77,7 @@ impl<'g, 't> Account for FaultNews<'g, 't> {
 
     ghost asks = { λ subject. AsksForFaults };
 
-    fn meet<W: Sink>(&mut self, _: &Bus, frame: &Frame, sink: &mut W) -> Result<(), LineFault> {
+    fn feed<W: Sink>(&mut self, _: &Bus, frame: &Frame, sink: &mut W) -> Result<(), LineFault> {
         match put_frame(
             self.alloc,
             &mut self.listener,
@@ -113,17 +113,17 @@ fn put_frame<W: Sink>(
     listener: &mut Listener,
     writing: Writing<'_, '_>,
     telling: Telling,
-    last: &mut LastSaid,
+    last: &mut LastFaults,
     frame: &Frame,
     sink: &mut W,
 ) -> Result<Made, LineFault>
     ensures met { IfOk result (λ made. (F : List FrameRecord) (ms : List Hearing) → Hears listener.old F
         → Remembers last.old ms → MeetsFrame writing.entry.form writing.entry.groups.now telling listener.new last.new
-        F frame.now ms made (W.held sink.old) (W.held sink.new)) }
-    ensures writer { LeavesWriter result (turn W.held W.has_failed sink.old sink.new) }
+        F frame.now ms made (W.written sink.old) (W.written sink.new)) }
+    ensures writer { LeavesWriter result (turn W.written W.has_failed sink.old sink.new) }
     ensures stops { result ≡ Err line_fault.Write → (F : List FrameRecord) (ms : List Hearing) → Hears listener.old F
         → Remembers last.old ms → StopsFrame writing.entry.form writing.entry.groups.now telling F frame.now ms
-        (W.held sink.old) (W.held sink.new) }
+        (W.written sink.old) (W.written sink.new) }
     ensures asked { result ≡ Err line_fault.Memory → (F : List FrameRecord) (heard : List Hearing)
         → Hears listener.old F → AreHeardWith is_fault_group F heard → Remembers last.old (faults_among heard)
         → AsksForFaults F frame.now }
@@ -142,18 +142,18 @@ fn put_heard<W: Sink>(
     heard: &Heard<'_>,
     writing: Writing<'_, '_>,
     telling: Telling,
-    last: &mut LastSaid,
+    last: &mut LastFaults,
     sink: &mut W,
 ) -> Result<Made, LineFault>
     ensures met { IfOk result (λ made. (ms : List Hearing) → Remembers last.old ms
         → length heard.now.message.payload.now ≤ 1785
         → Tells writing.entry.form writing.entry.groups.now telling last.new ms (Some (hearing_of heard.now)) made
-        (W.held sink.old) (W.held sink.new)) }
-    ensures writer { LeavesWriter result (turn W.held W.has_failed sink.old sink.new) }
+        (W.written sink.old) (W.written sink.new)) }
+    ensures writer { LeavesWriter result (turn W.written W.has_failed sink.old sink.new) }
     ensures stops { result ≡ Err line_fault.Write → (ms : List Hearing) → Remembers last.old ms
         → length heard.now.message.payload.now ≤ 1785
         → TellsFront writing.entry.form writing.entry.groups.now telling ms (Some (hearing_of heard.now))
-        (W.held sink.old) (W.held sink.new) }
+        (W.written sink.old) (W.written sink.new) }
     ensures of_faults { result ≡ Err line_fault.Memory → is_of_faults (hearing_of heard.now) ≡ true }
     ensures first { result ≡ Err line_fault.Memory → (ms : List Hearing) → Remembers last.old ms
         → last_from (pgn_raw heard.now.message.pgn) heard.now.message.source ms ≡ None }
@@ -183,11 +183,11 @@ fn put_told<W: Sink>(
     ensures made { IfOk result (λ made. (made.messages ≡ 1)
         × (made.lines ≡ length (told_faults is_told (faults_by (hearing_of heard.now) (Some kind) (Some lamps))))) }
     ensures fits { IfOk result (λ made. made.lines < 2 ^ 64) }
-    ensures written { OnOk result (Appends (W.held sink.old) (W.held sink.new)
+    ensures written { OnOk result (Appends (W.written sink.old) (W.written sink.new)
         (faults_text writing.entry.form writing.entry.groups.now
         (told_faults is_told (faults_by (hearing_of heard.now) (Some kind) (Some lamps))))) }
     ensures write { OnErr result (W.has_failed sink.new ≡ true) }
-    ensures front { OnErr result (AppendsFront (W.held sink.old) (W.held sink.new)
+    ensures front { OnErr result (AppendsFront (W.written sink.old) (W.written sink.new)
         (faults_text writing.entry.form writing.entry.groups.now
         (told_faults is_told (faults_by (hearing_of heard.now) (Some kind) (Some lamps))))) }
     ensures not_memory { result ≢ Err line_fault.Memory }

@@ -7,7 +7,7 @@ ghost use Rattle.j39_address.specs.Name.{name_raw};
 ghost use Rattle.j39_io.specs.Device.{AppendsFront, Marks};
 ghost use Rattle.j39_faults.specs.Codes.{codes_of};
 ghost use Rattle.j39_frame.specs.Stamp.{stamp_micros};
-ghost use Rattle.j39_listen.specs.Shown.{hearing_of};
+ghost use Rattle.j39_listen.specs.HeardModel.{hearing_of};
 ghost use Rattle.j39_reports.specs.Faults.{faults_by, head_text, said_text};
 ghost use Rattle.j39_reports.specs.FaultRecords.{faults_text, head_fields};
 ghost use Rattle.j39_reports.specs.FaultsSoFar.{head_in, line_of};
@@ -39,10 +39,10 @@ pub(crate) fn put_message<W: Sink>(
     sink: &mut W,
 ) -> Result<u64, DeviceFault>
     ensures lines { IfOk result (λ n. n ≡ length (faults_by (hearing_of heard.now) (Some kind) (Some lamps))) }
-    ensures written { OnOk result (Appends (W.held sink.old) (W.held sink.new)
+    ensures written { OnOk result (Appends (W.written sink.old) (W.written sink.new)
         (faults_text writing.entry.form writing.entry.groups.now
         (faults_by (hearing_of heard.now) (Some kind) (Some lamps)))) }
-    ensures front { OnErr result (AppendsFront (W.held sink.old) (W.held sink.new)
+    ensures front { OnErr result (AppendsFront (W.written sink.old) (W.written sink.new)
         (faults_text writing.entry.form writing.entry.groups.now
         (faults_by (hearing_of heard.now) (Some kind) (Some lamps)))) }
     ensures mark { Marks result (W.has_failed sink.old) (W.has_failed sink.new) }
@@ -73,10 +73,10 @@ fn put_codes<W: Sink>(
     sink: &mut W,
 ) -> Result<u64, DeviceFault>
     ensures lines { IfOk result (λ n. n ≡ length (codes_of payload.now)) }
-    ensures written { OnOk result (Appends (W.held sink.old) (W.held sink.new)
+    ensures written { OnOk result (Appends (W.written sink.old) (W.written sink.new)
         (flat_map (λ code. line_of writing.entry.form head.now writing.entry.groups.now kind lamps (Some code))
         (codes_of payload.now))) }
-    ensures front { OnErr result (AppendsFront (W.held sink.old) (W.held sink.new)
+    ensures front { OnErr result (AppendsFront (W.written sink.old) (W.written sink.new)
         (flat_map (λ code. line_of writing.entry.form head.now writing.entry.groups.now kind lamps (Some code))
         (codes_of payload.now))) }
     ensures mark { Marks result (W.has_failed sink.old) (W.has_failed sink.new) }
@@ -98,9 +98,9 @@ fn put_fault<W: Sink>(
     code: Option<Code>,
     sink: &mut W,
 ) -> Result<(), DeviceFault>
-    ensures written { OnOk result (Appends (W.held sink.old) (W.held sink.new)
+    ensures written { OnOk result (Appends (W.written sink.old) (W.written sink.new)
         (line_of writing.entry.form head.now writing.entry.groups.now kind lamps code)) }
-    ensures front { OnErr result (AppendsFront (W.held sink.old) (W.held sink.new)
+    ensures front { OnErr result (AppendsFront (W.written sink.old) (W.written sink.new)
         (line_of writing.entry.form head.now writing.entry.groups.now kind lamps code)) }
     ensures mark { Marks result (W.has_failed sink.old) (W.has_failed sink.new) }
 {
@@ -119,9 +119,9 @@ fn put_line<W: Sink>(
     code: Option<Code>,
     sink: &mut W,
 ) -> Result<(), DeviceFault>
-    ensures written { OnOk result (Appends (W.held sink.old) (W.held sink.new)
+    ensures written { OnOk result (Appends (W.written sink.old) (W.written sink.new)
         (line_of Line head.now groups.now kind lamps code)) }
-    ensures front { OnErr result (AppendsFront (W.held sink.old) (W.held sink.new)
+    ensures front { OnErr result (AppendsFront (W.written sink.old) (W.written sink.new)
         (line_of Line head.now groups.now kind lamps code)) }
     ensures mark { Marks result (W.has_failed sink.old) (W.has_failed sink.new) }
 {
@@ -139,9 +139,9 @@ fn put_record<W: Sink>(
     code: Option<Code>,
     sink: &mut W,
 ) -> Result<(), DeviceFault>
-    ensures written { OnOk result (Appends (W.held sink.old) (W.held sink.new)
+    ensures written { OnOk result (Appends (W.written sink.old) (W.written sink.new)
         (line_of Record head.now groups.now kind lamps code)) }
-    ensures front { OnErr result (AppendsFront (W.held sink.old) (W.held sink.new)
+    ensures front { OnErr result (AppendsFront (W.written sink.old) (W.written sink.new)
         (line_of Record head.now groups.now kind lamps code)) }
     ensures mark { Marks result (W.has_failed sink.old) (W.has_failed sink.new) }
 {
@@ -157,9 +157,9 @@ fn put_said<W: Sink>(
     code: Option<Code>,
     sink: &mut W,
 ) -> Result<(), DeviceFault>
-    ensures written { OnOk result (Appends (W.held sink.old) (W.held sink.new)
+    ensures written { OnOk result (Appends (W.written sink.old) (W.written sink.new)
         (said_text groups.now kind lamps code)) }
-    ensures front { OnErr result (AppendsFront (W.held sink.old) (W.held sink.new)
+    ensures front { OnErr result (AppendsFront (W.written sink.old) (W.written sink.new)
         (said_text groups.now kind lamps code)) }
     ensures mark { Marks result (W.has_failed sink.old) (W.has_failed sink.new) }
 {

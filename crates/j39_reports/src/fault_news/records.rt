@@ -25,9 +25,9 @@ pub(crate) fn put_fields<W: Sink>(
     code: Option<Code>,
     sink: &mut W,
 ) -> Result<(), DeviceFault>
-    ensures written { OnOk result (Appends (W.held sink.old) (W.held sink.new)
+    ensures written { OnOk result (Appends (W.written sink.old) (W.written sink.new)
         (record_text (kind_text kind) (said_fields groups.now lamps code))) }
-    ensures front { OnErr result (AppendsFront (W.held sink.old) (W.held sink.new)
+    ensures front { OnErr result (AppendsFront (W.written sink.old) (W.written sink.new)
         (record_text (kind_text kind) (said_fields groups.now lamps code))) }
     ensures mark { Marks result (W.has_failed sink.old) (W.has_failed sink.new) }
 {
@@ -44,9 +44,9 @@ fn put_fields_with<W: Sink>(
     parameter: &[u8],
     sink: &mut W,
 ) -> Result<(), DeviceFault>
-    ensures written { OnOk result (Appends (W.held sink.old) (W.held sink.new)
+    ensures written { OnOk result (Appends (W.written sink.old) (W.written sink.new)
         (record_text (kind_text kind) (fields_with lamps parameter.now code))) }
-    ensures front { OnErr result (AppendsFront (W.held sink.old) (W.held sink.new)
+    ensures front { OnErr result (AppendsFront (W.written sink.old) (W.written sink.new)
         (record_text (kind_text kind) (fields_with lamps parameter.now code))) }
     ensures mark { Marks result (W.has_failed sink.old) (W.has_failed sink.new) }
 {

@@ -30,7 +30,7 @@ pub fn faults<R: Source, W: Sink>(
     // else. Memory is wanted only at a frame of the log that announces a message, or at which an address says for the
     // first time which codes are active, or which were.
     ensures ran { Ran (MakesFaults groups.now telling) AsksForFaults bus limit result
-        (turn R.remaining R.has_failed source.old source.new) (turn W.held W.has_failed sink.old sink.new) }
+        (turn R.remaining R.has_failed source.old source.new) (turn W.written W.has_failed sink.old sink.new) }
 
     // What was written is passed on at the end, and before each read.
     ensures flushed { PassesOn result (W.is_flushed sink.old) (W.is_flushed sink.new) }
@@ -65,7 +65,7 @@ pub fn faults_csv<R: Source, W: Sink>(
     // What the run promises is `Ran`: what is written is the names of the columns and the faults that are told in the
     // frames of the log, and nothing else. Memory is wanted as for `faults`.
     ensures ran { Ran (MakesFaultRecords groups.now telling) AsksForFaults bus limit result
-        (turn R.remaining R.has_failed source.old source.new) (turn W.held W.has_failed sink.old sink.new) }
+        (turn R.remaining R.has_failed source.old source.new) (turn W.written W.has_failed sink.old sink.new) }
 
     // What was written is passed on at the end, and before each read, the names of the columns before the first.
     ensures flushed { PassesOn result true (W.is_flushed sink.new) }

@@ -3,11 +3,11 @@ ghost use Rattle.std.specs.Prelude.{◌≡◌, ◌<◌, [], List, true};
 ghost use Rattle.std.specs.Prelude.{IfOk, Err};
 ghost use Rattle.j39_io.specs.Turn.{turn};
 ghost use Rattle.j39_frame.specs.Frame.{FrameRecord};
-ghost use Rattle.j39_listen.specs.AccountSteps.{LeavesWriter};
+ghost use Rattle.j39_listen.specs.AccountCalls.{LeavesWriter};
 ghost use Rattle.j39_listen.specs.Asking.{AsksForBoxes};
 ghost use Rattle.j39_listen.specs.Headed.{Headed};
 ghost use Rattle.j39_listen.specs.Listening.{Hears};
-ghost use Rattle.j39_listen.specs.ReportSteps.{made_by};
+ghost use Rattle.j39_listen.specs.ReportSoFar.{made_by};
 ghost use Rattle.j39_listen.specs.Ran.{PassesOn, Ran};
 ghost use Rattle.j39_listen.specs.declared.account.LineFault.TheVariants as line_fault;
 ghost use Rattle.j39_reports.specs.RecordsSoFar.{HasRecorded, MeetsFrame, StopsFrame};
@@ -38,7 +38,7 @@ pub fn report_csv<R: Source, W: Sink>(
     // What the run promises is `Ran`: what is written is the header and the records of the log's report, and nothing
     // else. Memory is wanted only at a frame of the log that announces a message.
     ensures ran { Ran (Headed header_text (MakesRecords groups.now)) AsksForBoxes bus limit result
-        (turn R.remaining R.has_failed source.old source.new) (turn W.held W.has_failed sink.old sink.new) }
+        (turn R.remaining R.has_failed source.old source.new) (turn W.written W.has_failed sink.old sink.new) }
 
     // What was written is passed on at the end, and before each read, the header before the first.
     ensures flushed { PassesOn result true (W.is_flushed sink.new) }
@@ -89,7 +89,7 @@ impl<'g, 't> Account for CsvReport<'g, 't> {
 
     ghost asks = { λ subject. AsksForBoxes };
 
-    fn meet<W: Sink>(&mut self, _: &Bus, frame: &Frame, sink: &mut W) -> Result<(), LineFault> {
+    fn feed<W: Sink>(&mut self, _: &Bus, frame: &Frame, sink: &mut W) -> Result<(), LineFault> {
         match put_frame(&mut self.listener, self.groups, frame, sink) {
             Ok(None) => {
                 self.made = self.made.and(Made {
@@ -121,10 +121,10 @@ fn put_frame<W: Sink>(
     sink: &mut W,
 ) -> Result<Option<u64>, LineFault>
     ensures met { IfOk result (λ lines. (F : List FrameRecord) → Hears listener.old F
-        → MeetsFrame groups.now listener.new F frame.now (made_by lines) (W.held sink.old) (W.held sink.new)) }
-    ensures writer { LeavesWriter result (turn W.held W.has_failed sink.old sink.new) }
+        → MeetsFrame groups.now listener.new F frame.now (made_by lines) (W.written sink.old) (W.written sink.new)) }
+    ensures writer { LeavesWriter result (turn W.written W.has_failed sink.old sink.new) }
     ensures stops { result ≡ Err line_fault.Write → (F : List FrameRecord) → Hears listener.old F
-        → StopsFrame groups.now F frame.now (W.held sink.old) (W.held sink.new) }
+        → StopsFrame groups.now F frame.now (W.written sink.old) (W.written sink.new) }
     ensures asked { result ≡ Err line_fault.Memory → (F : List FrameRecord) → Hears listener.old F
         → AsksForBoxes F frame.now }
 {

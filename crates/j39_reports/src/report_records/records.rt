@@ -13,7 +13,7 @@ ghost use Rattle.j39_groups.specs.ReadValues.{read_value_of};
 ghost use Rattle.j39_groups.specs.ValueText.{bare_text};
 ghost use Rattle.j39_listen.specs.Counting.{capped};
 ghost use Rattle.j39_listen.specs.Report.{entries_of};
-ghost use Rattle.j39_listen.specs.Shown.{hearing_of};
+ghost use Rattle.j39_listen.specs.HeardModel.{hearing_of};
 ghost use Rattle.j39_reports.specs.EntryText.{begin_text, entries_text, group_called, named_fields, parameter_called, value_fields};
 ghost use Rattle.j39_reports.specs.MessageRecords.{IsBegun};
 
@@ -65,9 +65,9 @@ pub(crate) fn put_heard<W: Sink>(
     sink: &mut W,
 ) -> Result<u64, DeviceFault>
     ensures lines { IfOk result (λ n. n ≡ capped (length (entries_of groups.now (hearing_of heard.now)))) }
-    ensures written { OnOk result (Appends (W.held sink.old) (W.held sink.new)
+    ensures written { OnOk result (Appends (W.written sink.old) (W.written sink.new)
         (entries_text groups.now (entries_of groups.now (hearing_of heard.now)))) }
-    ensures front { OnErr result (AppendsFront (W.held sink.old) (W.held sink.new)
+    ensures front { OnErr result (AppendsFront (W.written sink.old) (W.written sink.new)
         (entries_text groups.now (entries_of groups.now (hearing_of heard.now)))) }
     ensures mark { Marks result (W.has_failed sink.old) (W.has_failed sink.new) }
 {
@@ -85,10 +85,10 @@ impl<'g, 't, W: Sink> ReadingVisitor<'t, W> for Records<'g, 't> {
 
     ghost Subject = { Begun };
 
-    ghost has_taken = { λ subject records sink. HasWritten subject records (W.held sink) (W.has_failed sink) };
+    ghost has_taken = { λ subject records sink. HasWritten subject records (W.written sink) (W.has_failed sink) };
 
     ghost has_stopped = { λ subject before at records sink.
-        HasStopped subject before at (W.held sink) (W.has_failed sink) };
+        HasStopped subject before at (W.written sink) (W.has_failed sink) };
 
     fn visit(
         &mut self,
@@ -106,9 +106,9 @@ impl<'g, 't, W: Sink> ReadingVisitor<'t, W> for Records<'g, 't> {
 
 /// Writes the record of a reading, from its value on.
 fn put_value_and_unit<W: Sink>(value: ReadValue<'_, '_>, sink: &mut W) -> Result<(), DeviceFault>
-    ensures ok { OnOk result (Appends (W.held sink.old) (W.held sink.new)
+    ensures ok { OnOk result (Appends (W.written sink.old) (W.written sink.new)
         (value_fields (read_value_of value.entry))) }
-    ensures err { OnErr result (AppendsFront (W.held sink.old) (W.held sink.new)
+    ensures err { OnErr result (AppendsFront (W.written sink.old) (W.written sink.new)
         (value_fields (read_value_of value.entry))) }
     ensures mark { Marks result (W.has_failed sink.old) (W.has_failed sink.new) }
 {
@@ -119,9 +119,9 @@ fn put_value_and_unit<W: Sink>(value: ReadValue<'_, '_>, sink: &mut W) -> Result
 
 /// Writes a comma and a value without its unit.
 fn put_value<W: Sink>(value: ReadValue<'_, '_>, sink: &mut W) -> Result<(), DeviceFault>
-    ensures ok { OnOk result (Appends (W.held sink.old) (W.held sink.new)
+    ensures ok { OnOk result (Appends (W.written sink.old) (W.written sink.new)
         (comma ∷ bare_text (read_value_of value.entry))) }
-    ensures err { OnErr result (AppendsFront (W.held sink.old) (W.held sink.new)
+    ensures err { OnErr result (AppendsFront (W.written sink.old) (W.written sink.new)
         (comma ∷ bare_text (read_value_of value.entry))) }
     ensures mark { Marks result (W.has_failed sink.old) (W.has_failed sink.new) }
 {
@@ -131,8 +131,8 @@ fn put_value<W: Sink>(value: ReadValue<'_, '_>, sink: &mut W) -> Result<(), Devi
 
 /// Writes the unit and the end of the line.
 fn put_unit<W: Sink>(unit: &[u8], sink: &mut W) -> Result<(), DeviceFault>
-    ensures ok { OnOk result (Appends (W.held sink.old) (W.held sink.new) (later_text unit.now ++ line_end)) }
-    ensures err { OnErr result (AppendsFront (W.held sink.old) (W.held sink.new) (later_text unit.now ++ line_end)) }
+    ensures ok { OnOk result (Appends (W.written sink.old) (W.written sink.new) (later_text unit.now ++ line_end)) }
+    ensures err { OnErr result (AppendsFront (W.written sink.old) (W.written sink.new) (later_text unit.now ++ line_end)) }
     ensures mark { Marks result (W.has_failed sink.old) (W.has_failed sink.new) }
 {
     put_behind_comma(unit, sink)?;
@@ -147,9 +147,9 @@ fn put_named<W: Sink>(
     parameter: &[u8],
     sink: &mut W,
 ) -> Result<(), DeviceFault>
-    ensures ok { OnOk result (Appends (W.held sink.old) (W.held sink.new)
+    ensures ok { OnOk result (Appends (W.written sink.old) (W.written sink.new)
         (named_fields begin.now group.now spn parameter.now)) }
-    ensures err { OnErr result (AppendsFront (W.held sink.old) (W.held sink.new)
+    ensures err { OnErr result (AppendsFront (W.written sink.old) (W.written sink.new)
         (named_fields begin.now group.now spn parameter.now)) }
     ensures mark { Marks result (W.has_failed sink.old) (W.has_failed sink.new) }
 {

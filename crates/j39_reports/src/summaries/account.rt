@@ -38,7 +38,7 @@ pub fn summary<R: Source, W: Sink>(
     // wanted only at a frame that announces a message, and at one where a message is heard that has a value of a
     // parameter without a row, or a text.
     ensures ran { Ran (MakesSummary groups.now) (AsksForRows groups.now) bus limit result
-        (turn R.remaining R.has_failed source.old source.new) (turn W.held W.has_failed sink.old sink.new) }
+        (turn R.remaining R.has_failed source.old source.new) (turn W.written W.has_failed sink.old sink.new) }
 
     // What was written is passed on at the end, and before each read.
     ensures flushed { PassesOn result (W.is_flushed sink.old) (W.is_flushed sink.new) }
@@ -65,7 +65,7 @@ pub fn summary_csv<R: Source, W: Sink>(
     // What the run promises is `Ran`: what is written is the names of the columns and the summary of the log's report in
     // records, and nothing else. Memory is wanted as for `summary`.
     ensures ran { Ran (MakesSummaryRecords groups.now) (AsksForRows groups.now) bus limit result
-        (turn R.remaining R.has_failed source.old source.new) (turn W.held W.has_failed sink.old sink.new) }
+        (turn R.remaining R.has_failed source.old source.new) (turn W.written W.has_failed sink.old sink.new) }
 
     // What was written is passed on at the end, and before each read, the names of the columns before the first.
     ensures flushed { PassesOn result true (W.is_flushed sink.new) }
@@ -125,7 +125,7 @@ impl<'g, 't> Account for SummaryAccount<'g, 't> {
     ghost asks = { λ subject. AsksForRows subject.1 };
 
     #[inline(always)]
-    fn meet<W: Sink>(&mut self, _: &Bus, frame: &Frame, _: &mut W) -> Result<(), LineFault> {
+    fn feed<W: Sink>(&mut self, _: &Bus, frame: &Frame, _: &mut W) -> Result<(), LineFault> {
         match note(&mut self.listener, self.groups, &mut self.rows, frame) {
             // Most frames are no message: their arm adds nothing.
             Ok(0) => {

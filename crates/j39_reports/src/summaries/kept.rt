@@ -1,7 +1,7 @@
 //! Values that outlive their message.
 ghost use Rattle.std.specs.Prelude.{◌≡◌, IfOk, OnErr};
 ghost use Rattle.j39_groups.specs.ReadValues.{read_value_of};
-ghost use Rattle.j39_groups.specs.Shown.{value_of};
+ghost use Rattle.j39_groups.specs.Models.{value_of};
 ghost use Rattle.j39_memory.specs.Stored.{value_of as stored_value};
 ghost use Rattle.j39_reports.specs.RowModels.{kept_value};
 ghost use Rattle.j39_reports.specs.SummaryRun.{IsText};

@@ -31,9 +31,9 @@ pub(crate) fn put_rows<W: Sink>(
     groups: &Groups<'_>,
     sink: &mut W,
 ) -> Result<(), DeviceFault>
-    ensures written { OnOk result (Appends (W.held sink.old) (W.held sink.new)
+    ensures written { OnOk result (Appends (W.written sink.old) (W.written sink.new)
         (summary_text form groups.now (map row_shown (pairs_of rows.now)))) }
-    ensures front { OnErr result (AppendsFront (W.held sink.old) (W.held sink.new)
+    ensures front { OnErr result (AppendsFront (W.written sink.old) (W.written sink.new)
         (summary_text form groups.now (map row_shown (pairs_of rows.now)))) }
     ensures mark { Marks result (W.has_failed sink.old) (W.has_failed sink.new) }
 {
@@ -52,9 +52,9 @@ fn put_row_in<W: Sink>(
     groups: &Groups<'_>,
     sink: &mut W,
 ) -> Result<(), DeviceFault>
-    ensures written { OnOk result (Appends (W.held sink.old) (W.held sink.new)
+    ensures written { OnOk result (Appends (W.written sink.old) (W.written sink.new)
         (row_in form groups.now (row_shown (origin, deeds.now)))) }
-    ensures front { OnErr result (AppendsFront (W.held sink.old) (W.held sink.new)
+    ensures front { OnErr result (AppendsFront (W.written sink.old) (W.written sink.new)
         (row_in form groups.now (row_shown (origin, deeds.now)))) }
     ensures mark { Marks result (W.has_failed sink.old) (W.has_failed sink.new) }
 {
@@ -71,9 +71,9 @@ fn put_row<W: Sink>(
     groups: &Groups<'_>,
     sink: &mut W,
 ) -> Result<(), DeviceFault>
-    ensures written { OnOk result (Appends (W.held sink.old) (W.held sink.new)
+    ensures written { OnOk result (Appends (W.written sink.old) (W.written sink.new)
         (row_text groups.now (row_shown (origin, deeds.now)))) }
-    ensures front { OnErr result (AppendsFront (W.held sink.old) (W.held sink.new)
+    ensures front { OnErr result (AppendsFront (W.written sink.old) (W.written sink.new)
         (row_text groups.now (row_shown (origin, deeds.now)))) }
     ensures mark { Marks result (W.has_failed sink.old) (W.has_failed sink.new) }
 {
@@ -88,9 +88,9 @@ fn put_values<W: Sink>(
     groups: &Groups<'_>,
     sink: &mut W,
 ) -> Result<(), DeviceFault>
-    ensures written { OnOk result (Appends (W.held sink.old) (W.held sink.new)
+    ensures written { OnOk result (Appends (W.written sink.old) (W.written sink.new)
         (values_text groups.now (row_shown (origin, deeds.now)))) }
-    ensures front { OnErr result (AppendsFront (W.held sink.old) (W.held sink.new)
+    ensures front { OnErr result (AppendsFront (W.written sink.old) (W.written sink.new)
         (values_text groups.now (row_shown (origin, deeds.now)))) }
     ensures mark { Marks result (W.has_failed sink.old) (W.has_failed sink.new) }
 {
@@ -105,9 +105,9 @@ fn put_first<W: Sink>(
     groups: &Groups<'_>,
     sink: &mut W,
 ) -> Result<(), DeviceFault>
-    ensures written { OnOk result (Appends (W.held sink.old) (W.held sink.new)
+    ensures written { OnOk result (Appends (W.written sink.old) (W.written sink.new)
         (first_text groups.now (row_shown (origin, deeds.now)))) }
-    ensures front { OnErr result (AppendsFront (W.held sink.old) (W.held sink.new)
+    ensures front { OnErr result (AppendsFront (W.written sink.old) (W.written sink.new)
         (first_text groups.now (row_shown (origin, deeds.now)))) }
     ensures mark { Marks result (W.has_failed sink.old) (W.has_failed sink.new) }
 {
@@ -122,9 +122,9 @@ fn put_last<W: Sink>(
     groups: &Groups<'_>,
     sink: &mut W,
 ) -> Result<(), DeviceFault>
-    ensures written { OnOk result (Appends (W.held sink.old) (W.held sink.new)
+    ensures written { OnOk result (Appends (W.written sink.old) (W.written sink.new)
         (last_text groups.now (row_shown (origin, deeds.now)))) }
-    ensures front { OnErr result (AppendsFront (W.held sink.old) (W.held sink.new)
+    ensures front { OnErr result (AppendsFront (W.written sink.old) (W.written sink.new)
         (last_text groups.now (row_shown (origin, deeds.now)))) }
     ensures mark { Marks result (W.has_failed sink.old) (W.has_failed sink.new) }
 {
@@ -134,9 +134,9 @@ fn put_last<W: Sink>(
 
 /// Writes a space and a value.
 fn put_spaced<W: Sink>(kept: &Kept<'_>, sink: &mut W) -> Result<(), DeviceFault>
-    ensures written { OnOk result (Appends (W.held sink.old) (W.held sink.new)
+    ensures written { OnOk result (Appends (W.written sink.old) (W.written sink.new)
         (codes " " ++ bare_text (kept_value kept.now))) }
-    ensures front { OnErr result (AppendsFront (W.held sink.old) (W.held sink.new)
+    ensures front { OnErr result (AppendsFront (W.written sink.old) (W.written sink.new)
         (codes " " ++ bare_text (kept_value kept.now))) }
     ensures mark { Marks result (W.has_failed sink.old) (W.has_failed sink.new) }
 {
@@ -191,9 +191,9 @@ fn push_spaced<const N: usize>(line: &mut ArrayVec<u8, N>, number: u64)
 /// Writes the least number, the most and their unit, or dashes.
 #[tactic(auto, unfolding(crate::specs::RowText::range_text))]
 fn put_range<W: Sink>(range: &Option<Span<'_>>, sink: &mut W) -> Result<(), DeviceFault>
-    ensures written { OnOk result (Appends (W.held sink.old) (W.held sink.new)
+    ensures written { OnOk result (Appends (W.written sink.old) (W.written sink.new)
         (range_text (option_map range_of_span range.now))) }
-    ensures front { OnErr result (AppendsFront (W.held sink.old) (W.held sink.new)
+    ensures front { OnErr result (AppendsFront (W.written sink.old) (W.written sink.new)
         (range_text (option_map range_of_span range.now))) }
     ensures mark { Marks result (W.has_failed sink.old) (W.has_failed sink.new) }
 {
@@ -204,9 +204,9 @@ fn put_range<W: Sink>(range: &Option<Span<'_>>, sink: &mut W) -> Result<(), Devi
 }
 
 fn put_span<W: Sink>(span: &Span<'_>, sink: &mut W) -> Result<(), DeviceFault>
-    ensures written { OnOk result (Appends (W.held sink.old) (W.held sink.new)
+    ensures written { OnOk result (Appends (W.written sink.old) (W.written sink.new)
         (range_text (Some (range_of_span span.now)))) }
-    ensures front { OnErr result (AppendsFront (W.held sink.old) (W.held sink.new)
+    ensures front { OnErr result (AppendsFront (W.written sink.old) (W.written sink.new)
         (range_text (Some (range_of_span span.now)))) }
     ensures mark { Marks result (W.has_failed sink.old) (W.has_failed sink.new) }
 {
@@ -224,9 +224,9 @@ fn put_span<W: Sink>(span: &Span<'_>, sink: &mut W) -> Result<(), DeviceFault>
 
 /// Writes these parts.
 pub(crate) fn put_parts<W: Sink>(parts: &[&[u8]], sink: &mut W) -> Result<(), DeviceFault>
-    ensures ok { OnOk result (Appends (W.held sink.old) (W.held sink.new)
+    ensures ok { OnOk result (Appends (W.written sink.old) (W.written sink.new)
         (flat_map (λ part. part.now) parts.now)) }
-    ensures err { OnErr result (AppendsFront (W.held sink.old) (W.held sink.new)
+    ensures err { OnErr result (AppendsFront (W.written sink.old) (W.written sink.new)
         (flat_map (λ part. part.now) parts.now)) }
     ensures mark { Marks result (W.has_failed sink.old) (W.has_failed sink.new) }
 {
@@ -239,8 +239,8 @@ pub(crate) fn put_parts<W: Sink>(parts: &[&[u8]], sink: &mut W) -> Result<(), De
 /// Writes a value: a number without its unit.
 #[tactic(auto, unfolding(j39_groups::specs::ValueText::bare_text))]
 pub(crate) fn put_kept<W: Sink>(kept: &Kept<'_>, sink: &mut W) -> Result<(), DeviceFault>
-    ensures written { OnOk result (Appends (W.held sink.old) (W.held sink.new) (bare_text (kept_value kept.now))) }
-    ensures front { OnErr result (AppendsFront (W.held sink.old) (W.held sink.new) (bare_text (kept_value kept.now))) }
+    ensures written { OnOk result (Appends (W.written sink.old) (W.written sink.new) (bare_text (kept_value kept.now))) }
+    ensures front { OnErr result (AppendsFront (W.written sink.old) (W.written sink.new) (bare_text (kept_value kept.now))) }
     ensures mark { Marks result (W.has_failed sink.old) (W.has_failed sink.new) }
 {
     match kept {
@@ -263,9 +263,9 @@ fn put_name<W: Sink>(
     spn: u32,
     sink: &mut W,
 ) -> Result<(), DeviceFault>
-    ensures written { OnOk result (Appends (W.held sink.old) (W.held sink.new)
+    ensures written { OnOk result (Appends (W.written sink.old) (W.written sink.new)
         (codes " " ++ (called_in groups.now pgn spn ++ (newline ∷ [])))) }
-    ensures front { OnErr result (AppendsFront (W.held sink.old) (W.held sink.new)
+    ensures front { OnErr result (AppendsFront (W.written sink.old) (W.written sink.new)
         (codes " " ++ (called_in groups.now pgn spn ++ (newline ∷ [])))) }
     ensures mark { Marks result (W.has_failed sink.old) (W.has_failed sink.new) }
 {

@@ -28,9 +28,9 @@ pub(crate) fn put_record<W: Sink>(
     groups: &Groups<'_>,
     sink: &mut W,
 ) -> Result<(), DeviceFault>
-    ensures written { OnOk result (Appends (W.held sink.old) (W.held sink.new)
+    ensures written { OnOk result (Appends (W.written sink.old) (W.written sink.new)
         (row_record groups.now (row_shown (origin, deeds.now)))) }
-    ensures front { OnErr result (AppendsFront (W.held sink.old) (W.held sink.new)
+    ensures front { OnErr result (AppendsFront (W.written sink.old) (W.written sink.new)
         (row_record groups.now (row_shown (origin, deeds.now)))) }
     ensures mark { Marks result (W.has_failed sink.old) (W.has_failed sink.new) }
 {
@@ -45,9 +45,9 @@ fn put_named<W: Sink>(
     groups: &Groups<'_>,
     sink: &mut W,
 ) -> Result<(), DeviceFault>
-    ensures written { OnOk result (Appends (W.held sink.old) (W.held sink.new)
+    ensures written { OnOk result (Appends (W.written sink.old) (W.written sink.new)
         (named_fields groups.now (row_shown (origin, deeds.now)))) }
-    ensures front { OnErr result (AppendsFront (W.held sink.old) (W.held sink.new)
+    ensures front { OnErr result (AppendsFront (W.written sink.old) (W.written sink.new)
         (named_fields groups.now (row_shown (origin, deeds.now)))) }
     ensures mark { Marks result (W.has_failed sink.old) (W.has_failed sink.new) }
 {
@@ -57,9 +57,9 @@ fn put_named<W: Sink>(
 
 /// Writes the record of a row from the counts on.
 fn put_counted<W: Sink>(origin: Origin, deeds: &Deeds<'_>, sink: &mut W) -> Result<(), DeviceFault>
-    ensures written { OnOk result (Appends (W.held sink.old) (W.held sink.new)
+    ensures written { OnOk result (Appends (W.written sink.old) (W.written sink.new)
         (counted_fields (row_shown (origin, deeds.now)))) }
-    ensures front { OnErr result (AppendsFront (W.held sink.old) (W.held sink.new)
+    ensures front { OnErr result (AppendsFront (W.written sink.old) (W.written sink.new)
         (counted_fields (row_shown (origin, deeds.now)))) }
     ensures mark { Marks result (W.has_failed sink.old) (W.has_failed sink.new) }
 {
@@ -69,9 +69,9 @@ fn put_counted<W: Sink>(origin: Origin, deeds: &Deeds<'_>, sink: &mut W) -> Resu
 
 /// Writes the record of a row from the range on.
 fn put_values<W: Sink>(origin: Origin, deeds: &Deeds<'_>, sink: &mut W) -> Result<(), DeviceFault>
-    ensures written { OnOk result (Appends (W.held sink.old) (W.held sink.new)
+    ensures written { OnOk result (Appends (W.written sink.old) (W.written sink.new)
         (values_fields (row_shown (origin, deeds.now)))) }
-    ensures front { OnErr result (AppendsFront (W.held sink.old) (W.held sink.new)
+    ensures front { OnErr result (AppendsFront (W.written sink.old) (W.written sink.new)
         (values_fields (row_shown (origin, deeds.now)))) }
     ensures mark { Marks result (W.has_failed sink.old) (W.has_failed sink.new) }
 {
@@ -81,9 +81,9 @@ fn put_values<W: Sink>(origin: Origin, deeds: &Deeds<'_>, sink: &mut W) -> Resul
 
 /// Writes the record of a row from the first value on.
 fn put_first<W: Sink>(origin: Origin, deeds: &Deeds<'_>, sink: &mut W) -> Result<(), DeviceFault>
-    ensures written { OnOk result (Appends (W.held sink.old) (W.held sink.new)
+    ensures written { OnOk result (Appends (W.written sink.old) (W.written sink.new)
         (first_fields (row_shown (origin, deeds.now)))) }
-    ensures front { OnErr result (AppendsFront (W.held sink.old) (W.held sink.new)
+    ensures front { OnErr result (AppendsFront (W.written sink.old) (W.written sink.new)
         (first_fields (row_shown (origin, deeds.now)))) }
     ensures mark { Marks result (W.has_failed sink.old) (W.has_failed sink.new) }
 {
@@ -93,9 +93,9 @@ fn put_first<W: Sink>(origin: Origin, deeds: &Deeds<'_>, sink: &mut W) -> Result
 
 /// Writes the record of a row from the last value on.
 fn put_last<W: Sink>(origin: Origin, deeds: &Deeds<'_>, sink: &mut W) -> Result<(), DeviceFault>
-    ensures written { OnOk result (Appends (W.held sink.old) (W.held sink.new)
+    ensures written { OnOk result (Appends (W.written sink.old) (W.written sink.new)
         (last_fields (row_shown (origin, deeds.now)))) }
-    ensures front { OnErr result (AppendsFront (W.held sink.old) (W.held sink.new)
+    ensures front { OnErr result (AppendsFront (W.written sink.old) (W.written sink.new)
         (last_fields (row_shown (origin, deeds.now)))) }
     ensures mark { Marks result (W.has_failed sink.old) (W.has_failed sink.new) }
 {
@@ -105,9 +105,9 @@ fn put_last<W: Sink>(origin: Origin, deeds: &Deeds<'_>, sink: &mut W) -> Result<
 
 /// Writes a comma and a value.
 fn put_value<W: Sink>(kept: &Kept<'_>, sink: &mut W) -> Result<(), DeviceFault>
-    ensures written { OnOk result (Appends (W.held sink.old) (W.held sink.new)
+    ensures written { OnOk result (Appends (W.written sink.old) (W.written sink.new)
         (codes "," ++ bare_text (kept_value kept.now))) }
-    ensures front { OnErr result (AppendsFront (W.held sink.old) (W.held sink.new)
+    ensures front { OnErr result (AppendsFront (W.written sink.old) (W.written sink.new)
         (codes "," ++ bare_text (kept_value kept.now))) }
     ensures mark { Marks result (W.has_failed sink.old) (W.has_failed sink.new) }
 {
@@ -118,9 +118,9 @@ fn put_value<W: Sink>(kept: &Kept<'_>, sink: &mut W) -> Result<(), DeviceFault>
 /// Writes the least number, the most and their unit, or empty fields.
 #[tactic(auto, unfolding(crate::specs::RowText::range_fields))]
 fn put_range<W: Sink>(range: &Option<Span<'_>>, sink: &mut W) -> Result<(), DeviceFault>
-    ensures written { OnOk result (Appends (W.held sink.old) (W.held sink.new)
+    ensures written { OnOk result (Appends (W.written sink.old) (W.written sink.new)
         (range_fields (option_map range_of_span range.now))) }
-    ensures front { OnErr result (AppendsFront (W.held sink.old) (W.held sink.new)
+    ensures front { OnErr result (AppendsFront (W.written sink.old) (W.written sink.new)
         (range_fields (option_map range_of_span range.now))) }
     ensures mark { Marks result (W.has_failed sink.old) (W.has_failed sink.new) }
 {
@@ -131,9 +131,9 @@ fn put_range<W: Sink>(range: &Option<Span<'_>>, sink: &mut W) -> Result<(), Devi
 }
 
 fn put_span<W: Sink>(span: &Span<'_>, sink: &mut W) -> Result<(), DeviceFault>
-    ensures written { OnOk result (Appends (W.held sink.old) (W.held sink.new)
+    ensures written { OnOk result (Appends (W.written sink.old) (W.written sink.new)
         (range_fields (Some (range_of_span span.now)))) }
-    ensures front { OnErr result (AppendsFront (W.held sink.old) (W.held sink.new)
+    ensures front { OnErr result (AppendsFront (W.written sink.old) (W.written sink.new)
         (range_fields (Some (range_of_span span.now)))) }
     ensures mark { Marks result (W.has_failed sink.old) (W.has_failed sink.new) }
 {
@@ -142,9 +142,9 @@ fn put_span<W: Sink>(span: &Span<'_>, sink: &mut W) -> Result<(), DeviceFault>
 }
 
 fn put_bounds<W: Sink>(span: &Span<'_>, sink: &mut W) -> Result<(), DeviceFault>
-    ensures written { OnOk result (Appends (W.held sink.old) (W.held sink.new)
+    ensures written { OnOk result (Appends (W.written sink.old) (W.written sink.new)
         (bounds_fields (range_of_span span.now))) }
-    ensures front { OnErr result (AppendsFront (W.held sink.old) (W.held sink.new)
+    ensures front { OnErr result (AppendsFront (W.written sink.old) (W.written sink.new)
         (bounds_fields (range_of_span span.now))) }
     ensures mark { Marks result (W.has_failed sink.old) (W.has_failed sink.new) }
 {

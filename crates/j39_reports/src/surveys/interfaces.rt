@@ -17,7 +17,7 @@ const NAME: usize = 15;
 
 /// An interface: its frames so far, and their stamps, in microseconds.
 #[derive(Default, Drop)]
-pub(crate) struct Interface {
+pub(crate) struct InterfaceCounts {
     pub name: ArrayVec<u8, NAME>,
     pub frames: u64,
     pub first: u64,
@@ -26,7 +26,7 @@ pub(crate) struct Interface {
     pub back: u64,
 }
 
-impl Interface {
+impl InterfaceCounts {
     /// One frame more.
     fn add(&mut self, stamp: u64)
         ensures { interface_record self.new ≡ with_stamp stamp (interface_record self.old) }
@@ -68,7 +68,7 @@ fn falls(last: u64, stamp: u64) -> u64
 /// The first sixteen interfaces, and the frames of the others.
 #[derive(Drop)]
 pub(crate) struct Interfaces {
-    pub told: ArrayVec<Interface, 16>,
+    pub told: ArrayVec<InterfaceCounts, 16>,
     pub untold: u64,
 }
 
@@ -105,12 +105,12 @@ impl Interfaces {
 }
 
 /// The interface of this name, with no frames.
-fn named(name: &[u8]) -> Interface
+fn named(name: &[u8]) -> InterfaceCounts
     ensures { IsBusName name.now → interface_record result ≡ no_frames name.now }
 {
     let mut kept = ArrayVec::new();
     let _fits = kept.try_extend_from_slice(name);
-    Interface {
+    InterfaceCounts {
         name: kept,
         frames: 0,
         first: 0,
@@ -120,7 +120,7 @@ fn named(name: &[u8]) -> Interface
 }
 
 /// Adds a frame where one of these has this name, and says whether one has.
-fn meet(told: &mut [Interface], name: &[u8], stamp: u64) -> bool
+fn meet(told: &mut [InterfaceCounts], name: &[u8], stamp: u64) -> bool
     ensures found { result ≡ list_any (λ i. bytes_eq name.now i.name) (map interface_record told.old) }
     ensures met { map interface_record told.new
         ≡ map (met_on name.now stamp) (map interface_record told.old) }

@@ -30,7 +30,7 @@ pub fn survey<R: Source, W: Sink>(
     // What the run promises is `Surveyed`: what is written is the survey of the log's lines, and nothing else, at the end
     // of the log. Memory is wanted before the first read.
     ensures ran { Surveyed groups.now limit result
-        (turn R.remaining R.has_failed source.old source.new) (turn W.held W.has_failed sink.old sink.new) }
+        (turn R.remaining R.has_failed source.old source.new) (turn W.written W.has_failed sink.old sink.new) }
 
     // What was written is passed on at the end; before the end of the log nothing is.
     ensures flushed { PassesOn result (W.is_flushed sink.old) (W.is_flushed sink.new) }
@@ -52,15 +52,15 @@ fn survey_with<R: Source, W: Sink>(
 ) -> Result<(), RunFault>
     // It ended as every run does, whatever the pieces had taken.
     ensures ended { Ended limit result
-        (turn R.remaining R.has_failed source.old source.new) (turn W.held W.has_failed sink.old sink.new) }
+        (turn R.remaining R.has_failed source.old source.new) (turn W.written W.has_failed sink.old sink.new) }
     ensures writes { HasTaken pieces.old [] → OnOk result (IfSome (R.remaining source.old)
-        (λ log. WritesSurvey groups.now log (W.held sink.old) (W.held sink.new))) }
+        (λ log. WritesSurvey groups.now log (W.written sink.old) (W.written sink.new))) }
     ensures memory { result ≢ Err Memory }
-    ensures silent { OnErr result (result ≢ Err Write → W.held sink.new ≡ W.held sink.old) }
+    ensures silent { OnErr result (result ≢ Err Write → W.written sink.new ≡ W.written sink.old) }
     ensures cut_short { HasTaken pieces.old [] → result ≡ Err Write → IfSome (R.remaining source.old)
-        (λ log. WritesFront groups.now log (W.held sink.old) (W.held sink.new)) }
+        (λ log. WritesFront groups.now log (W.written sink.old) (W.written sink.new)) }
     ensures prefix { HasTaken pieces.old [] → OnErr result (StopsWithin groups.now (R.remaining source.old)
-        (R.remaining source.new) (W.held sink.old) (W.held sink.new)) }
+        (R.remaining source.new) (W.written sink.old) (W.written sink.new)) }
     ensures flushed { OnOk result (W.is_flushed sink.new ≡ true) }
     ensures unflushed { OnErr result (result ≢ Err Write → W.is_flushed sink.new ≡ W.is_flushed sink.old) }
 {

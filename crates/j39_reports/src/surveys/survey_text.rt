@@ -7,7 +7,7 @@ ghost use Rattle.j39_io.specs.Chars.{newline};
 ghost use Rattle.j39_reports.specs.SurveyModels.{interface_record, others_record, shown_record};
 ghost use Rattle.j39_reports.specs.SurveyText.{byte_text, interface_text, others_text, shown_text};
 
-use crate::surveys::interfaces::Interface;
+use crate::surveys::interfaces::InterfaceCounts;
 use crate::surveys::others::Others;
 use crate::surveys::unread::UnreadLine;
 use arrayvec::ArrayVec;
@@ -50,7 +50,7 @@ pub(crate) fn number_line(name: &[u8], value: u64) -> ArrayVec<u8, 64>
 
 /// The line of an interface.
 #[tactic(auto, unfolding(crate::specs::SurveyText::interface_text))]
-pub(crate) fn interface_line(interface: &Interface) -> ArrayVec<u8, 144>
+pub(crate) fn interface_line(interface: &InterfaceCounts) -> ArrayVec<u8, 144>
     ensures { result.items ≡ interface_text (interface_record interface.now) }
 {
     let mut line = ArrayVec::new();

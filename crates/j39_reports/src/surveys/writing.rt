@@ -12,7 +12,7 @@ ghost use Rattle.j39_reports.specs.UnreadLines.{is_printed_log};
 ghost use Rattle.j39_reports.specs.SurveyText.{class_text, group_text, groups_text, interface_text, name_text, printed_text, shown_text, survey_text, untold_text};
 
 use crate::surveys::group_table::GroupTable;
-use crate::surveys::interfaces::Interface;
+use crate::surveys::interfaces::InterfaceCounts;
 use crate::surveys::log_survey::Survey;
 use crate::surveys::survey_text::{group_head, interface_line, number_line, others_line, shown_line};
 use crate::surveys::unread::UnreadLine;
@@ -27,9 +27,9 @@ pub(crate) fn put_survey<W: Sink>(
     sink: &mut W,
 ) -> Result<(), DeviceFault>
     ensures ok { OnOk result ((lines : List LogLine) → HasSurveyed survey.now lines
-        → Appends (W.held sink.old) (W.held sink.new) (survey_text groups.now lines)) }
+        → Appends (W.written sink.old) (W.written sink.new) (survey_text groups.now lines)) }
     ensures err { OnErr result ((lines : List LogLine) → HasSurveyed survey.now lines
-        → AppendsFront (W.held sink.old) (W.held sink.new) (survey_text groups.now lines)) }
+        → AppendsFront (W.written sink.old) (W.written sink.new) (survey_text groups.now lines)) }
     ensures flushed { OnOk result (W.is_flushed sink.new ≡ true) }
     ensures mark { Marks result (W.has_failed sink.old) (W.has_failed sink.new) }
 {
@@ -55,10 +55,10 @@ fn is_printed(survey: &Survey) -> bool
 }
 
 /// Writes a line for each interface.
-fn put_interfaces<W: Sink>(told: &[Interface], sink: &mut W) -> Result<(), DeviceFault>
-    ensures ok { OnOk result (Appends (W.held sink.old) (W.held sink.new)
+fn put_interfaces<W: Sink>(told: &[InterfaceCounts], sink: &mut W) -> Result<(), DeviceFault>
+    ensures ok { OnOk result (Appends (W.written sink.old) (W.written sink.new)
         (flat_map (λ i. interface_text (interface_record i)) told.now)) }
-    ensures err { OnErr result (AppendsFront (W.held sink.old) (W.held sink.new)
+    ensures err { OnErr result (AppendsFront (W.written sink.old) (W.written sink.new)
         (flat_map (λ i. interface_text (interface_record i)) told.now)) }
     ensures mark { Marks result (W.has_failed sink.old) (W.has_failed sink.new) }
 {
@@ -70,8 +70,8 @@ fn put_interfaces<W: Sink>(told: &[Interface], sink: &mut W) -> Result<(), Devic
 
 /// Writes how many frames are of none of these, where there are some.
 fn put_untold<W: Sink>(frames: u64, sink: &mut W) -> Result<(), DeviceFault>
-    ensures ok { OnOk result (Appends (W.held sink.old) (W.held sink.new) (untold_text frames)) }
-    ensures err { OnErr result (AppendsFront (W.held sink.old) (W.held sink.new) (untold_text frames)) }
+    ensures ok { OnOk result (Appends (W.written sink.old) (W.written sink.new) (untold_text frames)) }
+    ensures err { OnErr result (AppendsFront (W.written sink.old) (W.written sink.new) (untold_text frames)) }
     ensures mark { Marks result (W.has_failed sink.old) (W.has_failed sink.new) }
 {
     if frames == 0 {
@@ -87,9 +87,9 @@ fn put_groups<W: Sink>(
     sink: &mut W,
 ) -> Result<(), DeviceFault>
     ensures ok { OnOk result ((F : List FrameRecord) → HaveCounted table.now F
-        → Appends (W.held sink.old) (W.held sink.new) (groups_text groups.now F)) }
+        → Appends (W.written sink.old) (W.written sink.new) (groups_text groups.now F)) }
     ensures err { OnErr result ((F : List FrameRecord) → HaveCounted table.now F
-        → AppendsFront (W.held sink.old) (W.held sink.new) (groups_text groups.now F)) }
+        → AppendsFront (W.written sink.old) (W.written sink.new) (groups_text groups.now F)) }
     ensures mark { Marks result (W.has_failed sink.old) (W.has_failed sink.new) }
 {
     for raw in 0..262_144 {
@@ -108,9 +108,9 @@ fn put_at<W: Sink>(
     sink: &mut W,
 ) -> Result<(), DeviceFault>
     requires { raw < 262144 }
-    ensures ok { OnOk result (Appends (W.held sink.old) (W.held sink.new)
+    ensures ok { OnOk result (Appends (W.written sink.old) (W.written sink.new)
         (group_text groups.now raw (record { frames = frames; addresses = addresses }))) }
-    ensures err { OnErr result (AppendsFront (W.held sink.old) (W.held sink.new)
+    ensures err { OnErr result (AppendsFront (W.written sink.old) (W.written sink.new)
         (group_text groups.now raw (record { frames = frames; addresses = addresses }))) }
     ensures mark { Marks result (W.has_failed sink.old) (W.has_failed sink.new) }
 {
@@ -129,9 +129,9 @@ fn put_group<W: Sink>(
     addresses: u64,
     sink: &mut W,
 ) -> Result<(), DeviceFault>
-    ensures ok { OnOk result (Appends (W.held sink.old) (W.held sink.new)
+    ensures ok { OnOk result (Appends (W.written sink.old) (W.written sink.new)
         (group_text groups.now (pgn_raw pgn) (record { frames = frames; addresses = addresses }))) }
-    ensures err { OnErr result (AppendsFront (W.held sink.old) (W.held sink.new)
+    ensures err { OnErr result (AppendsFront (W.written sink.old) (W.written sink.new)
         (group_text groups.now (pgn_raw pgn) (record { frames = frames; addresses = addresses }))) }
     ensures mark { Marks result (W.has_failed sink.old) (W.has_failed sink.new) }
 {
@@ -159,8 +159,8 @@ fn class_of(groups: &Groups<'_>, pgn: Pgn) -> &'static [u8]
 
 /// Writes what the table calls a group, where it lists it.
 fn put_name<W: Sink>(name: Option<&[u8]>, sink: &mut W) -> Result<(), DeviceFault>
-    ensures ok { OnOk result (Appends (W.held sink.old) (W.held sink.new) (name_text (option_copied name.entry))) }
-    ensures err { OnErr result (AppendsFront (W.held sink.old) (W.held sink.new)
+    ensures ok { OnOk result (Appends (W.written sink.old) (W.written sink.new) (name_text (option_copied name.entry))) }
+    ensures err { OnErr result (AppendsFront (W.written sink.old) (W.written sink.new)
         (name_text (option_copied name.entry))) }
     ensures mark { Marks result (W.has_failed sink.old) (W.has_failed sink.new) }
 {
@@ -175,9 +175,9 @@ fn put_name<W: Sink>(name: Option<&[u8]>, sink: &mut W) -> Result<(), DeviceFaul
 
 /// Writes a line for each of these unread lines.
 fn put_unread<W: Sink>(first: &[UnreadLine], sink: &mut W) -> Result<(), DeviceFault>
-    ensures ok { OnOk result (Appends (W.held sink.old) (W.held sink.new)
+    ensures ok { OnOk result (Appends (W.written sink.old) (W.written sink.new)
         (flat_map (λ line. shown_text (shown_record line)) first.now)) }
-    ensures err { OnErr result (AppendsFront (W.held sink.old) (W.held sink.new)
+    ensures err { OnErr result (AppendsFront (W.written sink.old) (W.written sink.new)
         (flat_map (λ line. shown_text (shown_record line)) first.now)) }
     ensures mark { Marks result (W.has_failed sink.old) (W.has_failed sink.new) }
 {
@@ -189,8 +189,8 @@ fn put_unread<W: Sink>(first: &[UnreadLine], sink: &mut W) -> Result<(), DeviceF
 
 /// Says that a log is plain output of `candump`, where it is.
 fn put_printed<W: Sink>(is_printed: bool, sink: &mut W) -> Result<(), DeviceFault>
-    ensures ok { OnOk result (Appends (W.held sink.old) (W.held sink.new) (printed_text is_printed)) }
-    ensures err { OnErr result (AppendsFront (W.held sink.old) (W.held sink.new) (printed_text is_printed)) }
+    ensures ok { OnOk result (Appends (W.written sink.old) (W.written sink.new) (printed_text is_printed)) }
+    ensures err { OnErr result (AppendsFront (W.written sink.old) (W.written sink.new) (printed_text is_printed)) }
     ensures mark { Marks result (W.has_failed sink.old) (W.has_failed sink.new) }
 {
     if is_printed {

@@ -1,9 +1,9 @@
 -- A message that is delivered is told as it stands, with its acknowledgment, at the moment of the frame.
 use Rattle.std.proofs.Common.{ℕ, None, Some, ap, subst, sym, ◌∙◌}
 use Rattle.j39_frame.specs.Frame.{FrameRecord}
-use Rattle.j39_listen.specs.Shown.{message_of}
+use Rattle.j39_listen.specs.HeardModel.{message_of}
 use Rattle.j39_transport.specs.ReceiverStands.{HasHeard}
-use Rattle.j39_transport.specs.ShownReceiver.{answer_of}
+use Rattle.j39_transport.specs.ReceiverModel.{answer_of}
 use Rattle.j39_c.proofs.receiver.receive.Goals as goal
 
 pub returns-in-Delivered-clause-receives : goal.returns-in-Delivered-clause-receives

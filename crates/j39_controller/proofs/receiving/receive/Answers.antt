@@ -2,7 +2,7 @@
 use Rattle.std.proofs.Common.{ℕ, ◌∷◌, ◌++◌, [], ap, sym, subst, ◌∙◌, refl, append-nil}
 use Rattle.j39_frame.specs.Frame.{FrameRecord}
 use Rattle.j39_transport.specs.ReceiverStands.{HasHeard}
-use Rattle.j39_transport.specs.ShownReceiver.{answer_of, message_shown}
+use Rattle.j39_transport.specs.ReceiverModel.{answer_of, message_shown}
 use Rattle.j39_transport.specs.declared.receiver.Reply.{Reply}
 use Rattle.j39_controller.specs.Inbox.{ReceivedRecord, received_of}
 use Rattle.j39_controller.proofs.receiving.receive.Goals as goal

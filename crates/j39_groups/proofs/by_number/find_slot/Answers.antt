@@ -1,7 +1,7 @@
 -- The first row of the parameter gives its slot.
 use Rattle.std.proofs.Common.{sym}
 use Rattle.j39_groups.specs.Slots.{slot_at}
-use Rattle.j39_groups.specs.CodeRows.{row_record}
+use Rattle.j39_groups.specs.TableChecks.{row_record}
 use Rattle.j39_groups.proofs.SlotLemmas.{first_found, none_more}
 use Rattle.j39_groups.proofs.by_number.find_slot.Goals as goal
 

@@ -1,7 +1,7 @@
 use Rattle.std.proofs.Common.{◌≡◌, take, []}
 use Rattle.std.specs.List.{filter_map}
 use Rattle.j39_groups.specs.Slots.{slot_at}
-use Rattle.j39_groups.specs.CodeRows.{row_record}
+use Rattle.j39_groups.specs.TableChecks.{row_record}
 use Rattle.j39_groups.proofs.by_number.find_slot.Given as goal
 
 -- no row so far is the parameter's

@@ -5,7 +5,7 @@ use Rattle.j39_groups.specs.Ranges.{top_byte, is_valid}
 use Rattle.std.specs.Prelude.{IsSomeAnd}
 use Rattle.std.proofs.lemmas.Int.{to_z-of_z}
 use Rattle.j39_groups.specs.Slots.{IsAt, IsRawIn}
-use Rattle.j39_groups.specs.Shown.{slot_record}
+use Rattle.j39_groups.specs.Models.{slot_record}
 use Rattle.j39_groups.proofs.SlotLemmas.{valid_fits, some_same}
 use Rattle.j39_groups.proofs.by_number.raw_of.Goals as goal
 

@@ -2,7 +2,7 @@
 use Rattle.std.proofs.Common.{ap, sym, ◌∙◌}
 use Rattle.std.specs.Prelude.{slice_get}
 use Rattle.std.specs.List.{filter_map}
-use Rattle.j39_groups.specs.CodeRows.{row_record}
+use Rattle.j39_groups.specs.TableChecks.{row_record}
 use Rattle.j39_groups.specs.Slots.{slot_at, sized_slot_of_spn}
 use Rattle.j39_groups.proofs.TableLemmas.{filter_map-seen}
 use Rattle.j39_groups.proofs.by_number.sized_slot_of.Goals as goal

@@ -1,6 +1,6 @@
 -- The first row of the group gives its name.
 use Rattle.std.proofs.Common.{ap, ◌∙◌, List, ℕ, Some}
-use Rattle.j39_groups.specs.CodeRows.{row_record}
+use Rattle.j39_groups.specs.TableChecks.{row_record}
 use Rattle.j39_groups.proofs.GroupNameLemmas.{first_name, no_name}
 use Rattle.j39_groups.proofs.group_names.name_in.Goals as goal
 

@@ -1,7 +1,7 @@
 use Rattle.std.proofs.Common.{◌≡◌, take, []}
 use Rattle.std.specs.List.{filter_map}
 use Rattle.j39_groups.specs.Names.{group_at}
-use Rattle.j39_groups.specs.CodeRows.{row_record}
+use Rattle.j39_groups.specs.TableChecks.{row_record}
 use Rattle.j39_groups.proofs.group_names.name_in.Given as goal
 
 -- no row so far is the group's

@@ -10,9 +10,9 @@ use Rattle.j39_groups.proofs.groups_table.put_built_in.Goals as goal
 pub returns-in_err-put_all-in-Some-clause-front : goal.returns-in_err-put_all-in-Some-clause-front
 returns-in_err-put_all-in-Some-clause-front g c =
     let whole = between_to_end c.lines_before.new.out c.in-Some.start 768 (omega arith) ∙ before_end _ _ 768 _ _ (omega arith) c.in-Some.ensures.written in
-    on_err _ _ (subst (AppendsFront (g.W.Sink.held c.args.sink.now) (g.W.Sink.held c.put_all.new.sink)) whole c.in_err-put_all-in-Some.ensures.err)
+    on_err _ _ (subst (AppendsFront (g.W.Sink.written c.args.sink.now) (g.W.Sink.written c.put_all.new.sink)) whole c.in_err-put_all-in-Some.ensures.err)
 
 pub returns-in_ok-put_all-in-Some-clause-written : goal.returns-in_ok-put_all-in-Some-clause-written
 returns-in_ok-put_all-in-Some-clause-written g c =
     let whole = between_to_end c.lines_before.new.out c.in-Some.start 768 (omega arith) ∙ before_end _ _ 768 _ _ (omega arith) c.in-Some.ensures.written in
-    subst (Appends (g.W.Sink.held c.args.sink.now) (g.W.Sink.held c.put_all.new.sink)) whole c.in_ok-put_all-in-Some.ensures.ok
+    subst (Appends (g.W.Sink.written c.args.sink.now) (g.W.Sink.written c.put_all.new.sink)) whole c.in_ok-put_all-in-Some.ensures.ok

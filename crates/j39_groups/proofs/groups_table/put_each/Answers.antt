@@ -6,19 +6,19 @@ use Rattle.std.proofs.lemmas.List.Folds.{flat_map-map}
 use Rattle.j39_io.specs.Device.{AppendsFront}
 use Rattle.j39_io.proofs.DeviceLemmas.{on_err}
 use Rattle.j39_groups.specs.Quick.{reading_line}
-use Rattle.j39_groups.specs.Shown.{reading_of}
+use Rattle.j39_groups.specs.Models.{reading_of}
 use Rattle.j39_groups.proofs.groups_table.put_each.Goals as goal
 
 pub returns-in_err-put_found-clause-front : goal.returns-in_err-put_found-clause-front
 returns-in_err-put_found-clause-front g c =
-    on_err _ _ (subst (AppendsFront (g.W.Sink.held c.args.sink.now) (g.W.Sink.held c.put_found.new.sink))
+    on_err _ _ (subst (AppendsFront (g.W.Sink.written c.args.sink.now) (g.W.Sink.written c.put_found.new.sink))
     (ap (flat_map (λ r. reading_line c.args.head.now (reading_of r))) c.as_slice.ensures.value
     ∙ sym (flat_map-map (reading_line c.args.head.now) reading_of _) ∙ ap (flat_map (reading_line c.args.head.now)) c.readings-found.ensures)
     c.in_err-put_found.ensures.front)
 
 pub returns-clause-written : goal.returns-clause-written
 returns-clause-written g c =
-    subst (Appends (g.W.Sink.held c.args.sink.now) (g.W.Sink.held c.put_found.new.sink))
+    subst (Appends (g.W.Sink.written c.args.sink.now) (g.W.Sink.written c.put_found.new.sink))
     (ap (flat_map (λ r. reading_line c.args.head.now (reading_of r))) c.as_slice.ensures.value
     ∙ sym (flat_map-map (reading_line c.args.head.now) reading_of _) ∙ ap (flat_map (reading_line c.args.head.now)) c.readings-found.ensures)
     c.in_ok-put_found.ensures.written

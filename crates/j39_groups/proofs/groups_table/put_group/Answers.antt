@@ -19,10 +19,10 @@ returns-clause-lines g c =
 
 pub returns-clause-written : goal.returns-clause-written
 returns-clause-written g c =
-    on_ok_from _ _ _ (subst (Appends (g.W.Sink.held c.args.sink.now) (g.W.Sink.held c.put_rows.new.sink))
+    on_ok_from _ _ _ (subst (Appends (g.W.Sink.written c.args.sink.now) (g.W.Sink.written c.put_rows.new.sink))
     (lines_of_group c.args.rows.now c.group_of.result.now c.args.pgn (drop c.args.from c.args.head.now) c.args.bytes.now c.group_of.ensures)) c.put_rows.ensures.written
 
 pub returns-clause-front : goal.returns-clause-front
 returns-clause-front g c =
-    on_err_from _ _ _ (subst (AppendsFront (g.W.Sink.held c.args.sink.now) (g.W.Sink.held c.put_rows.new.sink))
+    on_err_from _ _ _ (subst (AppendsFront (g.W.Sink.written c.args.sink.now) (g.W.Sink.written c.put_rows.new.sink))
     (lines_of_group c.args.rows.now c.group_of.result.now c.args.pgn (drop c.args.from c.args.head.now) c.args.bytes.now c.group_of.ensures)) c.put_rows.ensures.front

@@ -4,7 +4,7 @@ use Rattle.std.specs.List.{flat_map}
 use Rattle.j39_io.proofs.DeviceLemmas.{front_within, on_err}
 use Rattle.j39_groups.specs.Quick.{reading_line}
 use Rattle.j39_groups.specs.declared.value.Reading.{Reading}
-use Rattle.j39_groups.specs.Shown.{reading_of}
+use Rattle.j39_groups.specs.Models.{reading_of}
 use Rattle.j39_groups.proofs.ListLemmas.{flat_map-at}
 use Rattle.j39_groups.proofs.lines.put_found.Goals as goal
 

@@ -2,7 +2,7 @@
 use Rattle.std.proofs.Common.{◌≡◌, ◌≤◌, ◌∷◌, ◌++◌, [], ◌∙◌, sym, ap, append_assoc, arith, rules, length}
 use Rattle.std.proofs.KnownBytes.{Appends-trans}
 use Rattle.j39_io.proofs.DeviceLemmas.{front_first, front_within, on_err, on_err_from}
-use Rattle.j39_groups.specs.Shown.{value_of}
+use Rattle.j39_groups.specs.Models.{value_of}
 use Rattle.j39_groups.specs.ValueText.{value_text}
 use Rattle.std.specs.Fmt.{decimal}
 use Rattle.std.proofs.lemmas.Fmt.{length-decimal-le}

@@ -1,6 +1,6 @@
 -- The first row of the parameter gives its name.
 use Rattle.std.proofs.Common.{sym}
-use Rattle.j39_groups.specs.CodeRows.{row_record}
+use Rattle.j39_groups.specs.TableChecks.{row_record}
 use Rattle.j39_groups.specs.Names.{name_at}
 use Rattle.j39_groups.proofs.SlotLemmas.{first_found, none_more}
 use Rattle.j39_groups.proofs.names_in_group.built_in_name.Goals as goal

@@ -18,7 +18,7 @@ returns-clause-ok g c =
     let line = columns_joined c.as_slice.result.now c.args.group.now c.as_slice-2.result.now c.args.place.now c.as_slice-3.result.now c.as_slice-4.result.now
     c.args.scale.now.unit.now c.args.name.now (codes " ") (newline ∷ []) in
     rw (← pgn, ← spn, ← step, ← offset)
-    (on_ok_from _ _ _ (subst (λ text. Appends (g.W.Sink.held c.args.sink.now) (g.W.Sink.held c.put_parts.new.sink) text) (sym line)) c.put_parts.ensures.ok)
+    (on_ok_from _ _ _ (subst (λ text. Appends (g.W.Sink.written c.args.sink.now) (g.W.Sink.written c.put_parts.new.sink) text) (sym line)) c.put_parts.ensures.ok)
 
 pub returns-clause-err : goal.returns-clause-err
 returns-clause-err g c =
@@ -29,4 +29,4 @@ returns-clause-err g c =
     let line = columns_joined c.as_slice.result.now c.args.group.now c.as_slice-2.result.now c.args.place.now c.as_slice-3.result.now c.as_slice-4.result.now
     c.args.scale.now.unit.now c.args.name.now (codes " ") (newline ∷ []) in
     rw (← pgn, ← spn, ← step, ← offset)
-    (on_err_from _ _ _ (subst (λ text. AppendsFront (g.W.Sink.held c.args.sink.now) (g.W.Sink.held c.put_parts.new.sink) text) (sym line)) c.put_parts.ensures.err)
+    (on_err_from _ _ _ (subst (λ text. AppendsFront (g.W.Sink.written c.args.sink.now) (g.W.Sink.written c.put_parts.new.sink) text) (sym line)) c.put_parts.ensures.err)

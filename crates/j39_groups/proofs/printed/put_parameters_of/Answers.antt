@@ -2,7 +2,7 @@
 use Rattle.std.proofs.Common.{ℕ, List, suc, take, drop}
 use Rattle.std.specs.List.{flat_map}
 use Rattle.j39_io.proofs.DeviceLemmas.{front_within, on_err}
-use Rattle.j39_groups.specs.CodeRows.{row_record}
+use Rattle.j39_groups.specs.TableChecks.{row_record}
 use Rattle.j39_groups.specs.declared.table.Row.{Row}
 use Rattle.j39_groups.specs.Printed.{row_text}
 use Rattle.j39_groups.proofs.ListLemmas.{flat_map-at}

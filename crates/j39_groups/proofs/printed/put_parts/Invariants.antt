@@ -6,5 +6,5 @@ use Rattle.j39_groups.proofs.printed.put_parts.Given as goal
 -- the parts so far are written, and no fault came
 abbrev pub invariant-loop-part : goal.invariant-loop-part
 invariant-loop-part g l =
-    Appends (g.W.Sink.held l.initial.sink) (g.W.Sink.held l.sink) (flat_map (λ part. part.now) (take l.part-index l.parts))
+    Appends (g.W.Sink.written l.initial.sink) (g.W.Sink.written l.sink) (flat_map (λ part. part.now) (take l.part-index l.parts))
     × (g.W.Sink.has_failed l.sink ≡ g.W.Sink.has_failed l.initial.sink)

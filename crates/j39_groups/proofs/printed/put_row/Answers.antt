@@ -1,6 +1,6 @@
 -- The columns of the row.
 use Rattle.std.proofs.Common.{◌≡◌, rules}
-use Rattle.j39_groups.specs.CodeRows.{field_record}
+use Rattle.j39_groups.specs.TableChecks.{field_record}
 use Rattle.j39_groups.specs.Printed.{place_text, row_text}
 use Rattle.j39_groups.proofs.printed.put_row.Goals as goal
 

@@ -3,7 +3,7 @@ use Rattle.std.proofs.Common.{arith, drop, length, subst, ap, ◌∙◌}
 use Rattle.j39_io.specs.Backwards.{WritesBefore}
 use Rattle.std.specs.List.{flat_map}
 use Rattle.j39_groups.specs.Quick.{reading_line}
-use Rattle.j39_groups.specs.Shown.{value_of}
+use Rattle.j39_groups.specs.Models.{value_of}
 use Rattle.j39_groups.proofs.QuickLemmas.{all_found, last_quick, line_more, line_none, none_written, room_for_line}
 use Rattle.j39_groups.proofs.quick_lines.lines_before.Goals as goal
 

@@ -1,6 +1,6 @@
 -- A number has the places of its slot; a switch is a word.
 use Rattle.std.proofs.Common.{◌≤◌, ◌-◌, ◌/◌, ◌%◌, ◌^◌}
-use Rattle.j39_groups.specs.Shown.{slot_record}
+use Rattle.j39_groups.specs.Models.{slot_record}
 use Rattle.j39_groups.proofs.QuickLemmas.{short_if, short_number, short_switch}
 use Rattle.j39_groups.proofs.quick_lines.value_at.Goals as goal
 

@@ -1,7 +1,7 @@
 -- A part of the table's rows.
 use Rattle.std.proofs.Common.{◌-◌, drop, take, ap, sym, ◌∙◌}
 use Rattle.std.proofs.lemmas.List.{drop-map, take-map}
-use Rattle.j39_groups.specs.CodeRows.{row_record}
+use Rattle.j39_groups.specs.TableChecks.{row_record}
 use Rattle.j39_groups.specs.declared.table.LabelledRow.{LabelledRow}
 use Rattle.j39_groups.specs.Row.{RowRecord}
 use Rattle.j39_groups.proofs.QuickLemmas.{quick_part}

@@ -13,6 +13,6 @@ returns-in_err-more-clause-front g c =
     let text : ReadRow → List ℕ = row_lines (drop c.args.from c.args.head.now) c.args.bytes.now in
     let rows = c.args.rows.now in
     let i = c.loop-row.row-index in
-    let here = subst (λ (row : ReadRow). AppendsFront (g.W.Sink.held c.loop-row.sink) (g.W.Sink.held c.put_row.new.sink) (text row)) c.row-item.is c.in_err-more.ensures.front in
+    let here = subst (λ (row : ReadRow). AppendsFront (g.W.Sink.written c.loop-row.sink) (g.W.Sink.written c.put_row.new.sink) (text row)) c.row-item.is c.in_err-more.ensures.front in
     on_err _ _ (front_within _ _ _ (flat_map text (take i rows)) _ (flat_map text (drop (suc i) rows)) (flat_map text rows)
     (flat_map-at text rows i c.row-item.result c.loop-row-test.true) c.loop-row.invariant.0 here)

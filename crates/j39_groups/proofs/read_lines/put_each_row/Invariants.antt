@@ -7,7 +7,7 @@ use Rattle.j39_groups.proofs.read_lines.put_each_row.Given as goal
 -- the lines of the rows so far are written, and no fault came
 abbrev pub invariant-loop-row : goal.invariant-loop-row
 invariant-loop-row g l =
-    Appends (g.W.Sink.held l.initial.sink) (g.W.Sink.held l.sink) (flat_map (row_lines (drop l.from l.head) l.bytes) (take l.row-index l.rows))
+    Appends (g.W.Sink.written l.initial.sink) (g.W.Sink.written l.sink) (flat_map (row_lines (drop l.from l.head) l.bytes) (take l.row-index l.rows))
     × (g.W.Sink.has_failed l.sink ≡ g.W.Sink.has_failed l.initial.sink)
     × (l.lines ≡ length (flat_map (row_readings l.bytes) (take l.row-index l.rows)))
     × (l.lines ≤ 32 * l.row-index)

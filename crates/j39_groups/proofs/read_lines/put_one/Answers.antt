@@ -9,6 +9,6 @@ use Rattle.j39_groups.proofs.read_lines.put_one.Goals as goal
 
 pub returns-in_err-put_value_line-in-Some-clause-front : goal.returns-in_err-put_value_line-in-Some-clause-front
 returns-in_err-put_value_line-in-Some-clause-front g c =
-    on_err _ _ (subst (AppendsFront (g.W.Sink.held c.args.sink.now) (g.W.Sink.held c.put_value_line.new.sink))
+    on_err _ _ (subst (AppendsFront (g.W.Sink.written c.args.sink.now) (g.W.Sink.written c.put_value_line.new.sink))
     (sym (append-nil _) ∙ ap (λ vs. flat_map (reading_line (drop c.args.from c.args.head.now)) (map (λ value. let r : ReadingRecord = record { spn = c.args.row.now.spn; value = value } in r) vs)) (c.in-Some.ensures c.requires.one))
     c.in_err-put_value_line-in-Some.ensures.front)

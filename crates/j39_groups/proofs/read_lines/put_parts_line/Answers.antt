@@ -19,4 +19,4 @@ returns-in-Number-clause-front g c =
 
 pub returns-in-Plain-clause-front : goal.returns-in-Plain-clause-front
 returns-in-Plain-clause-front g c =
-    rw c.in-Plain.is (on_err_from _ _ _ (subst (AppendsFront (g.W.Sink.held c.args.sink.now) (g.W.Sink.held c.put_found.new.sink)) (append-nil _)) c.put_found.ensures.front)
+    rw c.in-Plain.is (on_err_from _ _ _ (subst (AppendsFront (g.W.Sink.written c.args.sink.now) (g.W.Sink.written c.put_found.new.sink)) (append-nil _)) c.put_found.ensures.front)

@@ -39,7 +39,7 @@ parts-preserved g c =
     let before = c.parts.invariant.3 in
     let fewer = c.parts.invariant.4 in (
       inside,
-      subst (Appends (g.W.Sink.held c.args.sink.now) (g.W.Sink.held c.put_part.new.sink)) (sym (flat_map-part text rows i j up))
+      subst (Appends (g.W.Sink.written c.args.sink.now) (g.W.Sink.written c.put_chunk.new.sink)) (sym (flat_map-part text rows i j up))
           (Appends-trans _ _ _ _ _ c.parts.invariant.1 c.in_ok-more.ensures.written),
       c.in_ok-more.ensures.mark ∙ c.parts.invariant.2,
       omega (arith, counts, both, before, more),

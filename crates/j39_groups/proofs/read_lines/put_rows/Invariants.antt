@@ -8,7 +8,7 @@ use Rattle.j39_groups.proofs.read_lines.put_rows.Given as goal
 abbrev pub invariant-parts : goal.invariant-parts
 invariant-parts g l =
     (l.at ≤ length l.rows)
-    × Appends (g.W.Sink.held l.fn.sink) (g.W.Sink.held l.sink) (flat_map (row_lines (drop l.from l.head) l.bytes) (take l.at l.rows))
+    × Appends (g.W.Sink.written l.fn.sink) (g.W.Sink.written l.sink) (flat_map (row_lines (drop l.from l.head) l.bytes) (take l.at l.rows))
     × (g.W.Sink.has_failed l.sink ≡ g.W.Sink.has_failed l.fn.sink)
     × (l.lines ≡ length (flat_map (row_readings l.bytes) (take l.at l.rows)))
     × (l.lines ≤ 32 * l.at)

@@ -14,6 +14,6 @@ returns-in_err-put_read_row-clause-err g c =
     let text : ReadRow → List ℕ = λ row. row_text (read_row_record row) in
     let rows = c.args.rows.now in
     let i = c.loop-row.row-index in
-    let here = subst (λ (row : ReadRow). AppendsFront (g.W.Sink.held c.loop-row.sink) (g.W.Sink.held c.put_read_row.new.sink) (text row)) c.row-item.is c.in_err-put_read_row.ensures.err in
+    let here = subst (λ (row : ReadRow). AppendsFront (g.W.Sink.written c.loop-row.sink) (g.W.Sink.written c.put_read_row.new.sink) (text row)) c.row-item.is c.in_err-put_read_row.ensures.err in
     on_err _ _ (front_within _ _ _ (flat_map text (take i rows)) _ (flat_map text (drop (suc i) rows)) (flat_map text rows)
     (flat_map-at text rows i c.row-item.result c.loop-row-test.true) c.loop-row.invariant.0 here)

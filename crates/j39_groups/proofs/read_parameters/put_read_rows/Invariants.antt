@@ -8,5 +8,5 @@ use Rattle.j39_groups.proofs.read_parameters.put_read_rows.Given as goal
 -- the rows so far are written, and no fault came
 abbrev pub invariant-loop-row : goal.invariant-loop-row
 invariant-loop-row g l =
-    Appends (g.W.Sink.held l.initial.sink) (g.W.Sink.held l.sink) (flat_map (λ row. row_text (read_row_record row)) (take l.row-index l.rows))
+    Appends (g.W.Sink.written l.initial.sink) (g.W.Sink.written l.sink) (flat_map (λ row. row_text (read_row_record row)) (take l.row-index l.rows))
     × (g.W.Sink.has_failed l.sink ≡ g.W.Sink.has_failed l.initial.sink)

@@ -2,7 +2,7 @@
 use Rattle.std.proofs.Common.{◌==◌, ap, sym, ◌∙◌}
 use Rattle.std.specs.List.{list_any}
 use Rattle.j39_frame.specs.Pgn.{pgn_raw}
-use Rattle.j39_groups.specs.CodeRows.{row_record}
+use Rattle.j39_groups.specs.TableChecks.{row_record}
 use Rattle.j39_groups.proofs.TableLemmas.{list_any-seen, listed_is_reported_built_in}
 use Rattle.j39_groups.proofs.reading.is_reported.Goals as goal
 

@@ -9,7 +9,7 @@ use Rattle.std.proofs.lemmas.Iterator.Consumers.{YieldsList-at, YieldsList-turn,
 use Rattle.j39_groups.specs.Parts.{parts_of}
 use Rattle.j39_groups.specs.Value.{ReadingRecord}
 use Rattle.j39_groups.specs.Readings.{filled_text_meaning}
-use Rattle.j39_groups.specs.Shown.{reading_of}
+use Rattle.j39_groups.specs.Models.{reading_of}
 use Rattle.j39_groups.proofs.ListLemmas.{given_more}
 use Rattle.j39_groups.proofs.reading.push_texts.Goals as goal
 

@@ -4,7 +4,7 @@ use Rattle.arrayvec.specs.ArrayVec.{array_vec_len}
 use Rattle.j39_groups.specs.Parts.{parts_of}
 use Rattle.j39_groups.specs.Readings.{filled_text_meaning}
 use Rattle.j39_groups.specs.Value.{ReadingRecord}
-use Rattle.j39_groups.specs.Shown.{reading_of}
+use Rattle.j39_groups.specs.Models.{reading_of}
 use Rattle.j39_groups.proofs.reading.push_texts.Given as goal
 
 -- the parts so far are read, and each took one place at most

@@ -1,7 +1,7 @@
 -- The built-in table is short.
 use Rattle.std.proofs.Common.{◌≡◌, ◌∙◌, sym, ap, length, arith}
 use Rattle.std.proofs.lemmas.List.{length-map}
-use Rattle.j39_groups.specs.CodeRows.{row_record}
+use Rattle.j39_groups.specs.TableChecks.{row_record}
 use Rattle.j39_groups.specs.Table.{the_table}
 use Rattle.j39_groups.proofs.restricted.built_in_rows_of.Goals as goal
 

@@ -1,5 +1,5 @@
 use Rattle.std.proofs.Common.{◌≡◌, ◌≤◌, length, map, take}
-use Rattle.j39_groups.specs.CodeRows.{row_record}
+use Rattle.j39_groups.specs.TableChecks.{row_record}
 use Rattle.j39_groups.specs.ReadRows.{read_row_record}
 use Rattle.j39_groups.specs.Readings.{rows_of_spns}
 use Rattle.j39_memory.specs.Items.{items_of}

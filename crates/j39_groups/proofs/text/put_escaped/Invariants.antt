@@ -7,5 +7,5 @@ use Rattle.j39_groups.proofs.text.put_escaped.Given as goal
 -- the bytes so far are written, and no fault came
 abbrev pub invariant-loop-byte : goal.invariant-loop-byte
 invariant-loop-byte g l =
-    Appends (g.W.Sink.held l.initial.sink) (g.W.Sink.held l.sink) (flat_map byte_text (take l.byte-index l.text))
+    Appends (g.W.Sink.written l.initial.sink) (g.W.Sink.written l.sink) (flat_map byte_text (take l.byte-index l.text))
     × (g.W.Sink.has_failed l.sink ≡ g.W.Sink.has_failed l.initial.sink)

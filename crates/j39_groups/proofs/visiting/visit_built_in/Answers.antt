@@ -4,7 +4,7 @@ use Rattle.std.specs.List.{flat_map}
 use Rattle.std.proofs.lemmas.List.{take_all}
 use Rattle.j39_frame.specs.Pgn.{pgn_raw}
 use Rattle.j39_io.proofs.DeviceLemmas.{on_err}
-use Rattle.j39_groups.specs.CodeRows.{row_record}
+use Rattle.j39_groups.specs.TableChecks.{row_record}
 use Rattle.j39_groups.specs.Readings.{readings_at}
 use Rattle.j39_groups.specs.Value.{ReadingRecord}
 use Rattle.j39_groups.specs.Visits.{StopsAmong, Takes, with_medium}

@@ -1,6 +1,6 @@
 use Rattle.std.proofs.Common.{take}
 use Rattle.std.specs.List.{flat_map}
-use Rattle.j39_groups.specs.CodeRows.{row_record}
+use Rattle.j39_groups.specs.TableChecks.{row_record}
 use Rattle.j39_groups.specs.Readings.{readings_at}
 use Rattle.j39_groups.specs.Visits.{Takes}
 use Rattle.j39_groups.proofs.visiting.visit_built_in.Given as goal

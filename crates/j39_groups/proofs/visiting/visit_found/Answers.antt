@@ -1,7 +1,7 @@
 -- It stops at one of the readings that are left.
 use Rattle.std.proofs.Common.{suc, take, drop, map}
 use Rattle.j39_io.proofs.DeviceLemmas.{on_err}
-use Rattle.j39_groups.specs.Shown.{reading_of}
+use Rattle.j39_groups.specs.Models.{reading_of}
 use Rattle.j39_groups.specs.Visits.{with_medium}
 use Rattle.j39_groups.proofs.VisitLemmas.{map-at, stops_at, stops_within}
 use Rattle.j39_groups.proofs.visiting.visit_found.Goals as goal

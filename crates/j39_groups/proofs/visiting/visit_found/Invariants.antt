@@ -1,5 +1,5 @@
 use Rattle.std.proofs.Common.{map, take}
-use Rattle.j39_groups.specs.Shown.{reading_of}
+use Rattle.j39_groups.specs.Models.{reading_of}
 use Rattle.j39_groups.specs.Visits.{Takes}
 use Rattle.j39_groups.proofs.visiting.visit_found.Given as goal
 

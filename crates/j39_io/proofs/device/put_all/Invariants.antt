@@ -6,7 +6,7 @@ use Rattle.j39_io.proofs.device.put_all.Given as goal
 abbrev pub invariant-loop-rest : goal.invariant-loop-rest
 invariant-loop-rest g l =
     (done : List ℕ) × (l.bytes ≡ done ++ l.rest)
-    × Appends (g.S.Sink.held l.initial.sink) (g.S.Sink.held l.sink) done
+    × Appends (g.S.Sink.written l.initial.sink) (g.S.Sink.written l.sink) done
     × (g.S.Sink.has_failed l.sink ≡ g.S.Sink.has_failed l.initial.sink)
 
 abbrev pub decreases-loop-rest : goal.decreases-loop-rest

@@ -4,7 +4,7 @@ use Rattle.std.proofs.Common.{◌++◌, ℕ, ap, subst}
 use Rattle.j39_address.specs.Command.{command_by}
 use Rattle.j39_frame.specs.Frame.{FrameRecord}
 use Rattle.j39_frame.specs.Stamp.{stamp_micros}
-use Rattle.j39_listen.specs.AnswerSteps.{Obeys, all_sent, hears, starts}
+use Rattle.j39_listen.specs.AnswersSoFar.{Obeys, all_sent, hears, starts}
 use Rattle.j39_listen.specs.Answers.{commands}
 use Rattle.j39_listen.proofs.AnswerAccount.{obeys-append}
 use Rattle.j39_listen.proofs.answers.call.Goals as goal

@@ -2,7 +2,7 @@
 use Rattle.std.proofs.Common.{◌∷◌, ◌++◌, [], length, refl, None, Some}
 use Rattle.std.specs.Option.{option_map}
 use Rattle.j39_address.specs.Command.{command_by}
-use Rattle.j39_listen.specs.Shown.{hearing_of}
+use Rattle.j39_listen.specs.HeardModel.{hearing_of}
 use Rattle.j39_listen.proofs.AnswerLemmas.{heard_command, not_none, silent_command}
 use Rattle.j39_listen.proofs.Causal.{frame_new}
 use Rattle.j39_listen.proofs.answers.notice.Goals as goal

@@ -3,7 +3,7 @@ use Rattle.std.proofs.Common.{◌≡◌, ◌∙◌, None, ap, false, refl, rules
 use Rattle.j39_frame.specs.Frame.{FrameRecord}
 use Rattle.j39_frame.specs.Identifier.{pgn_of}
 use Rattle.j39_groups.specs.Readings.{is_network_group, is_reported_in}
-use Rattle.j39_listen.specs.ReportSteps.{made_by}
+use Rattle.j39_listen.specs.ReportSoFar.{made_by}
 use Rattle.j39_listen.proofs.ListenerLemmas.{hears_single, outside_claims, silent_itself, silent_outside}
 use Rattle.j39_listen.proofs.ReportAccount.{meets_silent}
 use Rattle.j39_listen.proofs.Reported.{reported_free, reported_leaves}

@@ -8,7 +8,7 @@ use Rattle.j39_frame.specs.Frame.{FrameRecord}
 use Rattle.j39_frame.specs.Identifier.{source_of}
 use Rattle.j39_groups.specs.Readings.{is_reported_in}
 use Rattle.j39_listen.specs.Heard.{HeardAt, Hearing}
-use Rattle.j39_listen.specs.Shown.{hearing_of}
+use Rattle.j39_listen.specs.HeardModel.{hearing_of}
 use Rattle.j39_listen.proofs.ListenerLemmas.{heard_itself, hears_single, outside_claims}
 use Rattle.j39_listen.proofs.ReportAccount.{meets_heard, stops_heard}
 use Rattle.j39_listen.proofs.Reported.{reported_free, reported_leaves}

@@ -10,5 +10,5 @@ pub returns-clause-ran : goal.returns-clause-ran
 returns-clause-ran g c = subst
     (λ groups. Ran (MakesReport groups) AsksForBoxes c.args.bus c.args.limit c.run_with-ran.result
     (turn g.R.Source.remaining g.R.Source.has_failed c.args.source.now c.run_with-ran.new.source)
-    (turn g.W.Sink.held g.W.Sink.has_failed c.args.sink.now c.run_with-ran.new.sink))
+    (turn g.W.Sink.written g.W.Sink.has_failed c.args.sink.now c.run_with-ran.new.sink))
     c.built_in-groups.ensures c.run_with-ran.ensures.ran

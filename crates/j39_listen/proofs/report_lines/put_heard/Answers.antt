@@ -7,7 +7,7 @@ use Rattle.j39_io.proofs.DeviceLemmas.{on_err_from}
 use Rattle.j39_groups.proofs.ReadLemmas.{on_ok_from}
 use Rattle.j39_groups.specs.Quick.{reading_line}
 use Rattle.j39_groups.specs.Readings.{readings_in}
-use Rattle.j39_listen.specs.Shown.{hearing_of}
+use Rattle.j39_listen.specs.HeardModel.{hearing_of}
 use Rattle.j39_listen.proofs.ReportLemmas.{text_of-lines}
 use Rattle.j39_listen.proofs.report_lines.put_heard.Goals as goal
 
@@ -15,10 +15,10 @@ pub returns-clause-written : goal.returns-clause-written
 returns-clause-written g c =
     let h = hearing_of c.args.heard.now in
     let lines = ap (λ head. flat_map (reading_line head) (readings_in c.args.groups.now h.message.pgn h.message.bytes)) c.head_before-from.ensures.head ∙ text_of-lines c.args.groups.now h in
-    on_ok_from _ _ _ (subst (Appends (g.W.Sink.held c.args.sink.now) (g.W.Sink.held c.put_lines.new.sink)) lines) c.put_lines.ensures.written
+    on_ok_from _ _ _ (subst (Appends (g.W.Sink.written c.args.sink.now) (g.W.Sink.written c.put_lines.new.sink)) lines) c.put_lines.ensures.written
 
 pub returns-clause-front : goal.returns-clause-front
 returns-clause-front g c =
     let h = hearing_of c.args.heard.now in
     let lines = ap (λ head. flat_map (reading_line head) (readings_in c.args.groups.now h.message.pgn h.message.bytes)) c.head_before-from.ensures.head ∙ text_of-lines c.args.groups.now h in
-    on_err_from _ _ _ (subst (AppendsFront (g.W.Sink.held c.args.sink.now) (g.W.Sink.held c.put_lines.new.sink)) lines) c.put_lines.ensures.front
+    on_err_from _ _ _ (subst (AppendsFront (g.W.Sink.written c.args.sink.now) (g.W.Sink.written c.put_lines.new.sink)) lines) c.put_lines.ensures.front

@@ -26,7 +26,7 @@ use Rattle.std.specs.declared.option.Option.{Option}
 use Rattle.std.specs.declared.option.Option.TheVariants.{Some}
 use Rattle.j39_c.specs.declared.part.Part.{Part}
 use Rattle.j39_c.specs.contracts.part.Part as part
-use Rattle.j39_c.specs.Held.{boxed}
+use Rattle.j39_c.specs.HandleOwns.{boxed}
 use Rattle.j39_c.proofs.Values.{both, lone_word, Loose, loose_good, loose_out, handle_in}
 use Rattle.j39_c.specs.contracts.handle.Handle.of_loose.{ended, clauses}
 use Rattle.j39_c.specs.contracts.handle.Handle.of_loose.Key.{name as #self}

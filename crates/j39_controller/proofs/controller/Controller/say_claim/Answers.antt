@@ -1,7 +1,7 @@
 -- What isn't dropped stays, and the claim comes behind it.
 use Rattle.std.proofs.Common.{ℕ, refl, ap, sym, subst}
 use Rattle.j39_transport.specs.Stands.{Stands}
-use Rattle.j39_transport.specs.Steps.{AssemblerRecord}
+use Rattle.j39_transport.specs.AssemblerStep.{AssemblerRecord}
 use Rattle.j39_address.specs.Claims.{Knows}
 use Rattle.j39_address.specs.declared.claims.Claims.{Claims}
 use Rattle.j39_frame.specs.Frame.{FrameRecord}

@@ -1,6 +1,6 @@
 use Rattle.std.proofs.Common.{◌≡◌, ◌-◌}
 use Rattle.j39_faults.specs.Codes.{places_of}
-use Rattle.j39_faults.specs.Left.{codes_left}
+use Rattle.j39_faults.specs.CodesLeft.{codes_left}
 use Rattle.j39_faults.proofs.codes.CodesIterator.next.Given as goal
 
 -- the places so far have no code

@@ -1,5 +1,5 @@
 -- What a line counts for goes to the tally.
-use Rattle.j39_listen.specs.LineSteps.{met_tally}
+use Rattle.j39_listen.specs.LinesSoFar.{met_tally}
 use Rattle.j39_listen.proofs.lines.Lines.read.Goals as goal
 
 pub returns-clause-read : goal.returns-clause-read

@@ -8,7 +8,7 @@ use Rattle.j39_listen.proofs.lines.Lines.read_frame.Goals as goal
 pub returns-clause-read : goal.returns-clause-read
 returns-clause-read g c = λ subject name named. record {
   met = tally 1 0 0;
-  meets = meets_own (g.A.Account.has_met subject) name c.args.frame.now _ c.in-Some.bus c.args.self.now.account c.meet.new.self _ _ c.in-Some.is named (c.in-Ok.ensures.met subject);
+  meets = meets_own (g.A.Account.has_met subject) name c.args.frame.now _ c.in-Some.bus c.args.self.now.account c.feed.new.self _ _ c.in-Some.is named (c.in-Ok.ensures.met subject);
   tally_is = c.with-self.ensures;
 }
 

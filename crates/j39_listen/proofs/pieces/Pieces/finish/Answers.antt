@@ -6,8 +6,8 @@ use Rattle.j39_listen.proofs.pieces.Pieces.finish.Goals as goal
 
 pub returns-in-Err-clause-front : goal.returns-in-Err-clause-front
 returns-in-Err-clause-front g c = λ subject.
-    let old = g.W.Sink.held c.args.sink.now in
-    let new = g.W.Sink.held c.take_last.new.sink in
+    let old = g.W.Sink.written c.args.sink.now in
+    let new = g.W.Sink.written c.take_last.new.sink in
     by_fault c.in-Err.fault (FrontAtEnd (g.A.Account.has_met subject) (g.A.Account.makes subject) c.args.self.now old new)
     (λ e. end_stops (g.A.Account.has_met subject) (g.A.Account.makes subject) c.args.self.now old new (c.in-Err.ensures.stops (ap Err e) subject))
     (λ e. end_none (g.A.Account.has_met subject) (g.A.Account.makes subject) (c.laws.ensures.begins subject) c.args.self.now old new (c.in-Err.ensures.writer.memory (ap Err e)))
@@ -22,4 +22,4 @@ returns-in-Err-close-clause-front g c = λ subject.
 
 pub returns-in-Err-clause-asked : goal.returns-in-Err-clause-asked
 returns-in-Err-clause-asked g c = λ fails subject.
-    asks_at_end (g.A.Account.has_met subject) (g.A.Account.asks subject) c.args.self.now (g.W.Sink.held c.args.sink.now) (c.in-Err.ensures.asked (ap Err (same_fault _ _ fails)) subject)
+    asks_at_end (g.A.Account.has_met subject) (g.A.Account.asks subject) c.args.self.now (g.W.Sink.written c.args.sink.now) (c.in-Err.ensures.asked (ap Err (same_fault _ _ fails)) subject)

@@ -2,7 +2,7 @@
 use Rattle.std.proofs.Common.{◌∙◌, ◌++◌, [], sym, ap, subst, refl, take, drop, append_assoc, append-nil, arith, take-append-drop}
 use Rattle.std.proofs.lemmas.Grind.{common_steps}
 use Rattle.std.specs.Prelude.{Err}
-use Rattle.j39_listen.specs.PieceSteps.{HasTaken}
+use Rattle.j39_listen.specs.PiecesSoFar.{HasTaken}
 use Rattle.j39_listen.specs.declared.pieces.Pieces.{Pieces}
 use Rattle.j39_listen.proofs.AskLemmas.{takes_then_asks}
 use Rattle.j39_listen.proofs.PieceLemmas.{StopsBytes, by_fault, no_fault, same_fault, takes_then_none, takes_then_stops, takes_then_takes}
@@ -10,14 +10,14 @@ use Rattle.j39_listen.proofs.pieces.Pieces.take_lines.Goals as goal
 
 pub loop-rest-init : goal.loop-rest-init
 loop-rest-init g c =
-    ([], refl, (λ subject given taken held h. subst (λ t. HasTaken (g.A.Account.has_met subject) given t c.args.self.now held (g.W.Sink.held c.args.sink.now)) (sym (append-nil taken)) h), refl)
+    ([], refl, (λ subject given taken held h. subst (λ t. HasTaken (g.A.Account.has_met subject) given t c.args.self.now held (g.W.Sink.written c.args.sink.now)) (sym (append-nil taken)) h), refl)
 
 pub returns-in-Err-clause-front : goal.returns-in-Err-clause-front
 returns-in-Err-clause-front g c = λ subject.
     let inv = c.loop-rest.invariant in
-    let start = g.W.Sink.held c.args.sink.now in
-    let old = g.W.Sink.held c.loop-rest.sink in
-    let new = g.W.Sink.held c.take_line.new.sink in
+    let start = g.W.Sink.written c.args.sink.now in
+    let old = g.W.Sink.written c.loop-rest.sink in
+    let new = g.W.Sink.written c.take_line.new.sink in
     by_fault c.in-Err.fault (StopsBytes (g.A.Account.has_met subject) (g.A.Account.makes subject) c.args.self.now c.args.piece.now start new)
     (λ e. takes_then_stops (g.A.Account.has_met subject) (g.A.Account.makes subject) c.args.self.now c.loop-rest.self inv.0 c.loop-rest.rest.now c.args.piece.now start old new inv.1 (inv.2 subject) (c.in-Err.ensures.stops (ap Err e) subject))
     (λ e. takes_then_none (g.A.Account.has_met subject) (g.A.Account.makes subject) (c.laws.ensures.begins subject) c.args.self.now c.loop-rest.self inv.0 c.loop-rest.rest.now c.args.piece.now start old new inv.1 (inv.2 subject) (c.in-Err.ensures.writer.memory (ap Err e)))
@@ -39,7 +39,7 @@ loop-rest-preserved g c =
 pub returns-in-Err-clause-asked : goal.returns-in-Err-clause-asked
 returns-in-Err-clause-asked g c = λ fails subject.
     let inv = c.loop-rest.invariant in
-    takes_then_asks (g.A.Account.has_met subject) (g.A.Account.asks subject) c.args.self.now c.loop-rest.self inv.0 c.loop-rest.rest.now c.args.piece.now (g.W.Sink.held c.args.sink.now) (g.W.Sink.held c.loop-rest.sink) inv.1 (inv.2 subject)
+    takes_then_asks (g.A.Account.has_met subject) (g.A.Account.asks subject) c.args.self.now c.loop-rest.self inv.0 c.loop-rest.rest.now c.args.piece.now (g.W.Sink.written c.args.sink.now) (g.W.Sink.written c.loop-rest.sink) inv.1 (inv.2 subject)
     (c.in-Err.ensures.asked (ap Err (same_fault _ _ fails)) subject)
 
 pub returns-clause-taken : goal.returns-clause-taken

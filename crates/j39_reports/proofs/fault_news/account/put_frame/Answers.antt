@@ -4,7 +4,7 @@ use Rattle.std.proofs.Common.{subst, sym}
 use Rattle.j39_frame.specs.Frame.{FrameRecord}
 use Rattle.j39_frame.specs.Identifier.{pgn_of}
 use Rattle.j39_listen.specs.Heard.{HeardAtWith}
-use Rattle.j39_listen.specs.Shown.{hearing_of}
+use Rattle.j39_listen.specs.HeardModel.{hearing_of}
 use Rattle.j39_listen.proofs.ListenerLemmas.{on_ok}
 use Rattle.j39_listen.proofs.PieceLemmas.{if_ok}
 use Rattle.j39_reports.specs.News.{faults_among, is_fault_group}

@@ -3,7 +3,7 @@ use Rattle.std.proofs.Common.{◌≡◌, ◌∙◌, ◌<◌, ◌≤◌, ◌^◌,
 use Rattle.std.specs.Prelude.{IfOk, OnErr, OnOk}
 use Rattle.std.specs.Io.KnownBytes.{Appends}
 use Rattle.j39_listen.specs.Heard.{Hearing}
-use Rattle.j39_listen.specs.Shown.{hearing_of}
+use Rattle.j39_listen.specs.HeardModel.{hearing_of}
 use Rattle.j39_listen.specs.declared.account.LineFault.{LineFault}
 use Rattle.j39_listen.specs.declared.counts.Made.{Made}
 use Rattle.j39_reports.specs.Faults.{faults_by}
@@ -38,9 +38,9 @@ returns-in-Ok-clause-met g c = met c.put_told.result c.put_told.ensures.made c.p
     met : (r : Result Made LineFault)
         → IfOk r (λ made. (made.messages ≡ 1) × (made.lines ≡ length (told_faults c.is_told.result (faults_by (hearing_of c.args.heard.now) (Some c.in-Some.kind) (Some c.in-Some-lamps_of.lamps)))))
         → IfOk r (λ made. made.lines < 2 ^ 64)
-        → OnOk r (Appends (g.W.Sink.held c.args.sink.now) (g.W.Sink.held c.put_told.new.sink) (faults_text c.args.writing.form c.args.writing.groups.now (told_faults c.is_told.result (faults_by (hearing_of c.args.heard.now) (Some c.in-Some.kind) (Some c.in-Some-lamps_of.lamps)))))
+        → OnOk r (Appends (g.W.Sink.written c.args.sink.now) (g.W.Sink.written c.put_told.new.sink) (faults_text c.args.writing.form c.args.writing.groups.now (told_faults c.is_told.result (faults_by (hearing_of c.args.heard.now) (Some c.in-Some.kind) (Some c.in-Some-lamps_of.lamps)))))
         → IfOk r (λ made. (ms : List Hearing) → Remembers c.args.last.now ms → length c.args.heard.now.message.payload.now ≤ 1785
-        → Tells c.args.writing.form c.args.writing.groups.now c.args.telling c.note.new.self ms (Some (hearing_of c.args.heard.now)) made (g.W.Sink.held c.args.sink.now) (g.W.Sink.held c.put_told.new.sink))
+        → Tells c.args.writing.form c.args.writing.groups.now c.args.telling c.note.new.self ms (Some (hearing_of c.args.heard.now)) made (g.W.Sink.written c.args.sink.now) (g.W.Sink.written c.put_told.new.sink))
     met (Err e) made fits written = tt
     met (Ok made) (messages, lines) fits written = λ ms h short.
         tells_message c.args.writing.form c.args.writing.groups.now c.args.telling c.args.last.now ms (hearing_of c.args.heard.now) c.in-Some.kind c.in-Some-lamps_of.lamps (sym c.fault_group.ensures ∙ c.in-Some.is)

@@ -6,7 +6,7 @@ use Rattle.j39_io.specs.Device.{AppendsFront}
 use Rattle.j39_io.proofs.DeviceLemmas.{front_first, on_err}
 use Rattle.j39_faults.proofs.WriteLemmas.{front_last}
 use Rattle.j39_faults.specs.Codes.{codes_of}
-use Rattle.j39_listen.specs.Shown.{hearing_of}
+use Rattle.j39_listen.specs.HeardModel.{hearing_of}
 use Rattle.j39_reports.specs.FaultsSoFar.{line_of}
 use Rattle.j39_reports.proofs.FaultLineLemmas.{count_none, count_some, lines_of, text_first, text_none, text_some}
 use Rattle.j39_reports.proofs.fault_news.lines.put_message.Goals as goal
@@ -16,7 +16,7 @@ returns-in_err-lines-clause-front g c =
     let cs = codes_of c.args.heard.now.message.payload.now in
     let first = text_first c.args.writing.form c.args.writing.groups.now (hearing_of c.args.heard.now) c.args.kind c.args.lamps cs in
     let head = c.as_slice.ensures.value ∙ c.head_of-head.ensures in
-    on_err _ _ (front_first _ _ _ first.0 _ first.1 (subst (λ h. AppendsFront (g.W.Sink.held c.args.sink.now) (g.W.Sink.held c.put_codes.new.sink) (lines_of c.args.writing.form h c.args.writing.groups.now c.args.kind c.args.lamps cs)) head c.in_err-lines.ensures.front))
+    on_err _ _ (front_first _ _ _ first.0 _ first.1 (subst (λ h. AppendsFront (g.W.Sink.written c.args.sink.now) (g.W.Sink.written c.put_codes.new.sink) (lines_of c.args.writing.form h c.args.writing.groups.now c.args.kind c.args.lamps cs)) head c.in_err-lines.ensures.front))
 
 pub returns-then-lines-gt0-clause-written : goal.returns-then-lines-gt0-clause-written
 returns-then-lines-gt0-clause-written g c =

@@ -1,7 +1,7 @@
 -- A message is heard at the frame or none.
 use Rattle.std.proofs.Common.{None, refl}
-use Rattle.j39_listen.specs.ReportSteps.{made_by}
-use Rattle.j39_listen.specs.Shown.{hearing_of}
+use Rattle.j39_listen.specs.ReportSoFar.{made_by}
+use Rattle.j39_listen.specs.HeardModel.{hearing_of}
 use Rattle.j39_listen.proofs.ListenerLemmas.{on_ok}
 use Rattle.j39_reports.proofs.RecordsAccount.{meets_heard, meets_silent, stops_heard}
 use Rattle.j39_reports.proofs.report_records.account.put_frame.Goals as goal

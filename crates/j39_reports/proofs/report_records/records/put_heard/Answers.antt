@@ -4,7 +4,7 @@ use Rattle.std.proofs.lemmas.List.{length-map}
 use Rattle.j39_groups.specs.Readings.{readings_in}
 use Rattle.j39_listen.specs.Counting.{capped}
 use Rattle.j39_listen.specs.Report.{entry_of}
-use Rattle.j39_listen.specs.Shown.{hearing_of}
+use Rattle.j39_listen.specs.HeardModel.{hearing_of}
 use Rattle.j39_reports.proofs.RecordLemmas.{puts_all, stops_among}
 use Rattle.j39_reports.proofs.report_records.records.put_heard.Goals as goal
 

@@ -22,12 +22,12 @@ pub returns-clause-ok : goal.returns-clause-ok
 unfolding value_fields
 returns-clause-ok g c =
     let value = read_value_of c.args.value in
-    on_ok_weaker c.put_unit.result (λ (last : Appends (g.W.Sink.held c.put_value.new.sink) (g.W.Sink.held c.put_unit.new.sink) (later_text c.unit-unit.result.now ++ line_end)). Appends-trans _ _ _ (comma ∷ bare_text value) (later_text (unit_of value) ++ line_end) c.in_ok-put_value.ensures.ok
-    (subst (λ (unit : List ℕ). Appends (g.W.Sink.held c.put_value.new.sink) (g.W.Sink.held c.put_unit.new.sink) (later_text unit ++ line_end)) c.unit-unit.ensures last)) c.put_unit.ensures.ok
+    on_ok_weaker c.put_unit.result (λ (last : Appends (g.W.Sink.written c.put_value.new.sink) (g.W.Sink.written c.put_unit.new.sink) (later_text c.unit-unit.result.now ++ line_end)). Appends-trans _ _ _ (comma ∷ bare_text value) (later_text (unit_of value) ++ line_end) c.in_ok-put_value.ensures.ok
+    (subst (λ (unit : List ℕ). Appends (g.W.Sink.written c.put_value.new.sink) (g.W.Sink.written c.put_unit.new.sink) (later_text unit ++ line_end)) c.unit-unit.ensures last)) c.put_unit.ensures.ok
 
 pub returns-clause-err : goal.returns-clause-err
 unfolding value_fields
 returns-clause-err g c =
     let value = read_value_of c.args.value in
-    on_err_from c.put_unit.result _ _ (λ (last : AppendsFront (g.W.Sink.held c.put_value.new.sink) (g.W.Sink.held c.put_unit.new.sink) (later_text c.unit-unit.result.now ++ line_end)). front_last _ _ _ (comma ∷ bare_text value) (later_text (unit_of value) ++ line_end) c.in_ok-put_value.ensures.ok
-    (subst (λ (unit : List ℕ). AppendsFront (g.W.Sink.held c.put_value.new.sink) (g.W.Sink.held c.put_unit.new.sink) (later_text unit ++ line_end)) c.unit-unit.ensures last)) c.put_unit.ensures.err
+    on_err_from c.put_unit.result _ _ (λ (last : AppendsFront (g.W.Sink.written c.put_value.new.sink) (g.W.Sink.written c.put_unit.new.sink) (later_text c.unit-unit.result.now ++ line_end)). front_last _ _ _ (comma ∷ bare_text value) (later_text (unit_of value) ++ line_end) c.in_ok-put_value.ensures.ok
+    (subst (λ (unit : List ℕ). AppendsFront (g.W.Sink.written c.put_value.new.sink) (g.W.Sink.written c.put_unit.new.sink) (later_text unit ++ line_end)) c.unit-unit.ensures last)) c.put_unit.ensures.err

@@ -2,7 +2,7 @@
 use Rattle.std.specs.List.{flat_map}
 use Rattle.j39_memory.specs.ByOrigin.{pairs_of}
 use Rattle.j39_listen.specs.Report.{entries_of}
-use Rattle.j39_listen.specs.Shown.{hearing_of}
+use Rattle.j39_listen.specs.HeardModel.{hearing_of}
 use Rattle.j39_listen.proofs.ListenerLemmas.{on_ok}
 use Rattle.j39_reports.proofs.SummaryAccountLemmas.{asks_heard, notes_heard, notes_silent}
 use Rattle.j39_reports.proofs.summaries.account.note.Goals as goal

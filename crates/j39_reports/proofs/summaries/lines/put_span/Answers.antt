@@ -19,7 +19,7 @@ returns-clause-written g c =
     let most : c.as_slice-2.result.now ≡ scaled_text (measure_record span.measure).places span.most = search rules in
     let unit : c.unit.result.now ≡ (measure_record span.measure).unit = search rules in
     let joined = range_joined c.as_slice.result.now (codes " ") c.as_slice-2.result.now c.unit.result.now in
-    rw (← least, ← most, ← unit) (on_ok_from _ _ _ (subst (λ t. Appends (g.W.Sink.held c.args.sink.now) (g.W.Sink.held c.put_parts.new.sink) t) (sym joined)) c.put_parts.ensures.ok)
+    rw (← least, ← most, ← unit) (on_ok_from _ _ _ (subst (λ t. Appends (g.W.Sink.written c.args.sink.now) (g.W.Sink.written c.put_parts.new.sink) t) (sym joined)) c.put_parts.ensures.ok)
 
 pub returns-clause-front : goal.returns-clause-front
 unfolding range_text
@@ -29,4 +29,4 @@ returns-clause-front g c =
     let most : c.as_slice-2.result.now ≡ scaled_text (measure_record span.measure).places span.most = search rules in
     let unit : c.unit.result.now ≡ (measure_record span.measure).unit = search rules in
     let joined = range_joined c.as_slice.result.now (codes " ") c.as_slice-2.result.now c.unit.result.now in
-    rw (← least, ← most, ← unit) (on_err_from _ _ _ (subst (λ t. AppendsFront (g.W.Sink.held c.args.sink.now) (g.W.Sink.held c.put_parts.new.sink) t) (sym joined)) c.put_parts.ensures.err)
+    rw (← least, ← most, ← unit) (on_err_from _ _ _ (subst (λ t. AppendsFront (g.W.Sink.written c.args.sink.now) (g.W.Sink.written c.put_parts.new.sink) t) (sym joined)) c.put_parts.ensures.err)

@@ -18,7 +18,7 @@ returns-clause-written g c =
     let least : c.as_slice.result.now ≡ scaled_text (measure_record span.measure).places span.least = search rules in
     let most : c.as_slice-2.result.now ≡ scaled_text (measure_record span.measure).places span.most = search rules in
     let joined = bounds_joined (codes ",") c.as_slice.result.now c.as_slice-2.result.now in
-    rw (← least, ← most) (on_ok_from _ _ _ (subst (λ t. Appends (g.W.Sink.held c.args.sink.now) (g.W.Sink.held c.put_parts.new.sink) t) (sym joined)) c.put_parts.ensures.ok)
+    rw (← least, ← most) (on_ok_from _ _ _ (subst (λ t. Appends (g.W.Sink.written c.args.sink.now) (g.W.Sink.written c.put_parts.new.sink) t) (sym joined)) c.put_parts.ensures.ok)
 
 pub returns-clause-front : goal.returns-clause-front
 unfolding bounds_fields
@@ -27,4 +27,4 @@ returns-clause-front g c =
     let least : c.as_slice.result.now ≡ scaled_text (measure_record span.measure).places span.least = search rules in
     let most : c.as_slice-2.result.now ≡ scaled_text (measure_record span.measure).places span.most = search rules in
     let joined = bounds_joined (codes ",") c.as_slice.result.now c.as_slice-2.result.now in
-    rw (← least, ← most) (on_err_from _ _ _ (subst (λ t. AppendsFront (g.W.Sink.held c.args.sink.now) (g.W.Sink.held c.put_parts.new.sink) t) (sym joined)) c.put_parts.ensures.err)
+    rw (← least, ← most) (on_err_from _ _ _ (subst (λ t. AppendsFront (g.W.Sink.written c.args.sink.now) (g.W.Sink.written c.put_parts.new.sink) t) (sym joined)) c.put_parts.ensures.err)

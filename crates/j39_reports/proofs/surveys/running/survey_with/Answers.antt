@@ -18,7 +18,7 @@ pub returns-in-Err-put_survey-clause-cut_short : goal.returns-in-Err-put_survey-
 returns-in-Err-put_survey-clause-cut_short g c = λ start fails.
     let h = c.in-Ok.ensures.read_all start in
     IfSome_then (g.R.Source.remaining c.args.source.now) h.whole (λ (log : List ℕ) same.
-    subst (λ taken. WritesFront c.args.groups.now taken (g.W.Sink.held c.args.sink.now) (g.W.Sink.held c.put_survey.new.sink)) same
+    subst (λ taken. WritesFront c.args.groups.now taken (g.W.Sink.written c.args.sink.now) (g.W.Sink.written c.put_survey.new.sink)) same
     (front c.args.groups.now h.taken h.lines _ _ h.are_lines (c.in-Err-put_survey.ensures.err h.lines h.surveyed)))
 
 pub returns-in-Err-put_survey-clause-prefix : goal.returns-in-Err-put_survey-clause-prefix

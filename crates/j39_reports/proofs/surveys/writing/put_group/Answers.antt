@@ -19,8 +19,8 @@ returns-in_err-put_all-clause-err g c =
     let class = class_text table pgn in
     let name = name_text (group_name_in table pgn) in
     let head_is = c.as_slice.ensures.value ∙ c.group_head.ensures ∙ ap (λ n. head_text n c.args.frames c.args.addresses) c.raw.ensures.value in
-    let h0 = g.W.Sink.held c.args.sink.now in
-    let h1 = g.W.Sink.held c.put_all.new.sink in
+    let h0 = g.W.Sink.written c.args.sink.now in
+    let h1 = g.W.Sink.written c.put_all.new.sink in
     rw (group_is table pgn c.args.frames c.args.addresses c.if-frames-eq0.false) (on_err c.from_residual.result _
     (stops all [] head (class ++ (name ++ (newline ∷ []))) h0 h0 h1 (begins all h0) (subst (AppendsFront h0 h1) head_is c.in_err-put_all.ensures.err)))
 
@@ -33,9 +33,9 @@ returns-in_err-put_all-2-clause-err g c =
     let class = class_text table pgn in
     let name = name_text (group_name_in table pgn) in
     let head_is = c.as_slice.ensures.value ∙ c.group_head.ensures ∙ ap (λ n. head_text n c.args.frames c.args.addresses) c.raw.ensures.value in
-    let h0 = g.W.Sink.held c.args.sink.now in
-    let h1 = g.W.Sink.held c.put_all.new.sink in
-    let h2 = g.W.Sink.held c.put_all-2.new.sink in
+    let h0 = g.W.Sink.written c.args.sink.now in
+    let h1 = g.W.Sink.written c.put_all.new.sink in
+    let h2 = g.W.Sink.written c.put_all-2.new.sink in
     let one : HasWritten all head (class ++ (name ++ (newline ∷ []))) h0 h1 = goes_on all [] head (class ++ (name ++ (newline ∷ []))) h0 h0 h1 (begins all h0) (subst (Appends h0 h1) head_is c.in_ok-put_all.ensures.ok) in
     rw (group_is table pgn c.args.frames c.args.addresses c.if-frames-eq0.false) (on_err c.from_residual-in_err-put_all-2.result _
     (stops all head class (name ++ (newline ∷ [])) h0 h1 h2 one (subst (AppendsFront h1 h2) c.class_of.ensures c.in_err-put_all-2.ensures.err)))
@@ -49,10 +49,10 @@ returns-in_err-put_name-clause-err g c =
     let class = class_text table pgn in
     let name = name_text (group_name_in table pgn) in
     let head_is = c.as_slice.ensures.value ∙ c.group_head.ensures ∙ ap (λ n. head_text n c.args.frames c.args.addresses) c.raw.ensures.value in
-    let h0 = g.W.Sink.held c.args.sink.now in
-    let h1 = g.W.Sink.held c.put_all.new.sink in
-    let h2 = g.W.Sink.held c.put_all-2.new.sink in
-    let h3 = g.W.Sink.held c.put_name.new.sink in
+    let h0 = g.W.Sink.written c.args.sink.now in
+    let h1 = g.W.Sink.written c.put_all.new.sink in
+    let h2 = g.W.Sink.written c.put_all-2.new.sink in
+    let h3 = g.W.Sink.written c.put_name.new.sink in
     let one : HasWritten all head (class ++ (name ++ (newline ∷ []))) h0 h1 = goes_on all [] head (class ++ (name ++ (newline ∷ []))) h0 h0 h1 (begins all h0) (subst (Appends h0 h1) head_is c.in_ok-put_all.ensures.ok) in
     let two = goes_on all head class (name ++ (newline ∷ [])) h0 h1 h2 one (subst (Appends h1 h2) c.class_of.ensures c.in_ok-put_all-2.ensures.ok) in
     rw (group_is table pgn c.args.frames c.args.addresses c.if-frames-eq0.false) (on_err c.from_residual-in_err-put_name.result _
@@ -67,11 +67,11 @@ returns-clause-err g c =
     let class = class_text table pgn in
     let name = name_text (group_name_in table pgn) in
     let head_is = c.as_slice.ensures.value ∙ c.group_head.ensures ∙ ap (λ n. head_text n c.args.frames c.args.addresses) c.raw.ensures.value in
-    let h0 = g.W.Sink.held c.args.sink.now in
-    let h1 = g.W.Sink.held c.put_all.new.sink in
-    let h2 = g.W.Sink.held c.put_all-2.new.sink in
-    let h3 = g.W.Sink.held c.put_name.new.sink in
-    let h4 = g.W.Sink.held c.put_all-3.new.sink in
+    let h0 = g.W.Sink.written c.args.sink.now in
+    let h1 = g.W.Sink.written c.put_all.new.sink in
+    let h2 = g.W.Sink.written c.put_all-2.new.sink in
+    let h3 = g.W.Sink.written c.put_name.new.sink in
+    let h4 = g.W.Sink.written c.put_all-3.new.sink in
     let one : HasWritten all head (class ++ (name ++ (newline ∷ []))) h0 h1 = goes_on all [] head (class ++ (name ++ (newline ∷ []))) h0 h0 h1 (begins all h0) (subst (Appends h0 h1) head_is c.in_ok-put_all.ensures.ok) in
     let two = goes_on all head class (name ++ (newline ∷ [])) h0 h1 h2 one (subst (Appends h1 h2) c.class_of.ensures c.in_ok-put_all-2.ensures.ok) in
     let three = goes_on all (head ++ class) name (newline ∷ []) h0 h2 h3 two (subst (Appends h2 h3) (ap name_text c.group_name.ensures) c.in_ok-put_name.ensures.ok) in

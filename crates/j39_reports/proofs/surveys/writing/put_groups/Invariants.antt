@@ -8,5 +8,5 @@ use Rattle.j39_reports.proofs.surveys.writing.put_groups.Given as goal
 -- the lines of the groups so far are written, and no fault came
 abbrev pub invariant-loop-raw : goal.invariant-loop-raw
 invariant-loop-raw g l =
-    ((F : List FrameRecord) → HaveCounted l.table F → Appends (g.W.Sink.held l.initial.sink) (g.W.Sink.held l.sink) (groups_below l.groups F l.raw))
+    ((F : List FrameRecord) → HaveCounted l.table F → Appends (g.W.Sink.written l.initial.sink) (g.W.Sink.written l.sink) (groups_below l.groups F l.raw))
     × (g.W.Sink.has_failed l.sink ≡ g.W.Sink.has_failed l.initial.sink)

@@ -6,12 +6,12 @@ use Rattle.j39_io.proofs.DeviceLemmas.{front_within, on_err}
 use Rattle.j39_groups.proofs.ListLemmas.{flat_map-at}
 use Rattle.j39_reports.specs.SurveyModels.{interface_record}
 use Rattle.j39_reports.specs.SurveyText.{interface_text}
-use Rattle.j39_reports.specs.declared.surveys.interfaces.Interface.{Interface}
+use Rattle.j39_reports.specs.declared.surveys.interfaces.InterfaceCounts.{InterfaceCounts}
 use Rattle.j39_reports.proofs.surveys.writing.put_interfaces.Goals as goal
 
 pub returns-in_err-put_all-clause-err : goal.returns-in_err-put_all-clause-err
 returns-in_err-put_all-clause-err g c =
-    let shown : Interface → List ℕ = λ i. interface_text (interface_record i) in
+    let shown : InterfaceCounts → List ℕ = λ i. interface_text (interface_record i) in
     let told = c.args.told.now in
     let i = c.loop-interface.interface-index in
     let line = c.as_slice.ensures.value ∙ c.interface_line.ensures ∙ ap shown c.interface-item.is in

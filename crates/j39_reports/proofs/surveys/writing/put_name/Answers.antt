@@ -12,9 +12,9 @@ returns-in_err-put_all-in-Some-clause-err g c = rw c.in-Some.is
 pub returns-in_ok-put_all-in-Some-clause-err : goal.returns-in_ok-put_all-in-Some-clause-err
 returns-in_ok-put_all-in-Some-clause-err g c =
     let name = c.in-Some.name.now in
-    let h0 = g.W.Sink.held c.args.sink.now in
-    let h1 = g.W.Sink.held c.put_all.new.sink in
-    let h2 = g.W.Sink.held c.put_all-in-Some.new.sink in
+    let h0 = g.W.Sink.written c.args.sink.now in
+    let h1 = g.W.Sink.written c.put_all.new.sink in
+    let h2 = g.W.Sink.written c.put_all-in-Some.new.sink in
     rw c.in-Some.is (on_err_from c.put_all-in-Some.result (AppendsFront h1 h2 name) (AppendsFront h0 h2 ((32 ∷ []) ++ name))
     (λ err. stops_last ((32 ∷ []) ++ name) (32 ∷ []) name h0 h1 h2 (goes_on ((32 ∷ []) ++ name) [] (32 ∷ []) name h0 h0 h1 (begins _ h0) c.in_ok-put_all-in-Some.ensures.ok) err)
     c.put_all-in-Some.ensures.err)

@@ -8,5 +8,5 @@ use Rattle.j39_reports.proofs.surveys.writing.put_unread.Given as goal
 -- the lines so far are written, and no fault came
 abbrev pub invariant-loop-line : goal.invariant-loop-line
 invariant-loop-line g l =
-    Appends (g.W.Sink.held l.initial.sink) (g.W.Sink.held l.sink) (flat_map (λ line. shown_text (shown_record line)) (take l.line-index l.first))
+    Appends (g.W.Sink.written l.initial.sink) (g.W.Sink.written l.sink) (flat_map (λ line. shown_text (shown_record line)) (take l.line-index l.first))
     × (g.W.Sink.has_failed l.sink ≡ g.W.Sink.has_failed l.initial.sink)

@@ -14,16 +14,16 @@ untold_some n some = rw (ne_eqb n 0 some) refl
 
 pub returns-then-frames-eq0-clause-ok : goal.returns-then-frames-eq0-clause-ok
 returns-then-frames-eq0-clause-ok g c =
-    let held = g.W.Sink.held c.args.sink.now in
+    let held = g.W.Sink.written c.args.sink.now in
     subst (Appends held held) (sym (ap untold_text c.if-frames-eq0.true)) (Appends-nil held)
 
 pub returns-then-frames-eq0-clause-mark : goal.returns-then-frames-eq0-clause-mark
 returns-then-frames-eq0-clause-mark g c = refl
 
 pub returns-clause-ok : goal.returns-clause-ok
-returns-clause-ok g c = subst (λ text. OnOk c.put_all.result (Appends (g.W.Sink.held c.args.sink.now) (g.W.Sink.held c.put_all.new.sink) text))
+returns-clause-ok g c = subst (λ text. OnOk c.put_all.result (Appends (g.W.Sink.written c.args.sink.now) (g.W.Sink.written c.put_all.new.sink) text))
     (c.as_slice.ensures.value ∙ c.number_line.ensures ∙ sym (untold_some c.args.frames c.if-frames-eq0.false)) c.put_all.ensures.ok
 
 pub returns-clause-err : goal.returns-clause-err
-returns-clause-err g c = subst (λ text. OnErr c.put_all.result (AppendsFront (g.W.Sink.held c.args.sink.now) (g.W.Sink.held c.put_all.new.sink) text))
+returns-clause-err g c = subst (λ text. OnErr c.put_all.result (AppendsFront (g.W.Sink.written c.args.sink.now) (g.W.Sink.written c.put_all.new.sink) text))
     (c.as_slice.ensures.value ∙ c.number_line.ensures ∙ sym (untold_some c.args.frames c.if-frames-eq0.false)) c.put_all.ensures.err

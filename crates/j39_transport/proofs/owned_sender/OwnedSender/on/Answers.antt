@@ -4,7 +4,7 @@ use Rattle.std.specs.Option.{option_map}
 use Rattle.j39_frame.specs.Stamp.{stamp_micros}
 use Rattle.j39_transport.specs.Cutting.{to_send}
 use Rattle.j39_transport.specs.Sending.{SenderRecord, SendStep}
-use Rattle.j39_transport.specs.ShownSender.{IsSender, event_of}
+use Rattle.j39_transport.specs.SenderModel.{IsSender, event_of}
 use Rattle.j39_transport.proofs.OwnedLemmas.{again, goes_on}
 use Rattle.j39_transport.proofs.owned_sender.OwnedSender.on.Goals as goal
 

@@ -1,7 +1,7 @@
 use Rattle.std.proofs.Common.{Bool, ap, refl, ◌∙◌}
 use Rattle.j39_frame.specs.Stamp.{stamp_micros}
 use Rattle.j39_transport.specs.Receiving.{Heard, answer_in, recv_step}
-use Rattle.j39_transport.specs.ShownReceiver.{answer_of}
+use Rattle.j39_transport.specs.ReceiverModel.{answer_of}
 use Rattle.j39_transport.proofs.Handed.{were_handed, has_heard}
 use Rattle.j39_transport.proofs.receiver.Receiver.on.Goals as goal
 

@@ -2,7 +2,7 @@ use Rattle.std.proofs.Common.{subst}
 use Rattle.std.specs.Option.{option_map}
 use Rattle.j39_frame.specs.Stamp.{stamp_micros}
 use Rattle.j39_transport.specs.Cutting.{to_send}
-use Rattle.j39_transport.specs.ShownSender.{event_of, IsSender}
+use Rattle.j39_transport.specs.SenderModel.{event_of, IsSender}
 use Rattle.j39_transport.proofs.OwnFrames.{sends_own}
 use Rattle.j39_transport.proofs.sender.Sender.on.Goals as goal
 

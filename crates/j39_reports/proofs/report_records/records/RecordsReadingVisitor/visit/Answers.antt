@@ -11,7 +11,7 @@ use Rattle.j39_reports.proofs.report_records.records.RecordsReadingVisitor.visit
 pub returns-in_err-put_named-clause-stopped : goal.returns-in_err-put_named-clause-stopped
 returns-in_err-put_named-clause-stopped g c =
     let called = c.parameter_of-parameter in
-    let front = subst (λ (begin : List ℕ). AppendsFront (g.W.Sink.held c.args.sink.now) (g.W.Sink.held c.put_named.new.sink) (named_fields begin c.args.self.now.group.now c.args.spn called.result.now))
+    let front = subst (λ (begin : List ℕ). AppendsFront (g.W.Sink.written c.args.sink.now) (g.W.Sink.written c.put_named.new.sink) (named_fields begin c.args.self.now.group.now c.args.spn called.result.now))
     c.as_slice.ensures.value c.in_err-put_named.ensures.err in
     on_err c.from_residual.result _ (λ subject before has.
     stops_named subject c.args.self.now _ _ before has c.args.spn (read_value_of c.args.value) called.result.now called.ensures _ _ front c.in_err-put_named.ensures.mark)
@@ -19,7 +19,7 @@ returns-in_err-put_named-clause-stopped g c =
 pub returns-in_err-put_value_and_unit-clause-stopped : goal.returns-in_err-put_value_and_unit-clause-stopped
 returns-in_err-put_value_and_unit-clause-stopped g c =
     let called = c.parameter_of-parameter in
-    let named = subst (λ (begin : List ℕ). Appends (g.W.Sink.held c.args.sink.now) (g.W.Sink.held c.put_named.new.sink) (named_fields begin c.args.self.now.group.now c.args.spn called.result.now))
+    let named = subst (λ (begin : List ℕ). Appends (g.W.Sink.written c.args.sink.now) (g.W.Sink.written c.put_named.new.sink) (named_fields begin c.args.self.now.group.now c.args.spn called.result.now))
     c.as_slice.ensures.value c.in_ok-put_named.ensures.ok in
     on_err c.from_residual-in_err-put_value_and_unit.result _ (λ subject before has.
     stops_valued subject c.args.self.now _ _ before has c.args.spn (read_value_of c.args.value) called.result.now called.ensures _ _ _ named c.in_err-put_value_and_unit.ensures.err c.in_err-put_value_and_unit.ensures.mark)

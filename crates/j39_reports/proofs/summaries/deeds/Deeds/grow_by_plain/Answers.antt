@@ -1,7 +1,7 @@
 -- A number of the built-in table.
 use Rattle.std.proofs.Common.{◌≡◌, ap, ◌∙◌, rules, to_z, of_z, w64}
 use Rattle.j39_frame.specs.Stamp.{stamp_micros}
-use Rattle.j39_groups.specs.Shown.{slot_record}
+use Rattle.j39_groups.specs.Models.{slot_record}
 use Rattle.j39_groups.specs.Value.{number}
 use Rattle.j39_reports.specs.RowsSoFar.{grown}
 use Rattle.j39_reports.specs.RowModels.{entry_at, row_shown}

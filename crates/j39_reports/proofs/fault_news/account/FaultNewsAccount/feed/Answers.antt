@@ -1,0 +1,22 @@
+use Rattle.std.proofs.Common.{ap, refl}
+use Rattle.std.specs.Prelude.{Err}
+use Rattle.j39_listen.proofs.PieceLemmas.{same_fault}
+use Rattle.j39_reports.specs.declared.fault_news.account.FaultNews.{FaultNews}
+use Rattle.j39_reports.proofs.FaultAccountLemmas.{news_meets, news_stops}
+use Rattle.j39_reports.proofs.fault_news.account.FaultNewsAccount.feed.Goals as goal
+
+pub returns-in-Ok-clause-met : goal.returns-in-Ok-clause-met
+returns-in-Ok-clause-met g c =
+    let news : FaultNews = record {
+      alloc = c.args.self.now.alloc;
+      writing = c.args.self.now.writing;
+      telling = c.args.self.now.telling;
+      listener = c.put_frame.new.listener;
+      last = c.put_frame.new.last;
+      made = c.and-self.result;
+    } in
+    λ (form, subject). news_meets form subject c.args.self.now news refl refl c.args.frame.now c.in-Ok.made _ _ c.in-Ok.ensures.met c.and-self.ensures
+
+pub returns-in-Err-clause-stops : goal.returns-in-Err-clause-stops
+returns-in-Err-clause-stops g c = λ fails (form, subject).
+    news_stops form subject c.args.self.now c.args.frame.now _ _ (c.in-Err.ensures.stops (ap Err (same_fault _ _ fails))) c.args.arg2.now

@@ -1,0 +1,50 @@
+//! For each address and group what was said last.
+ghost use Rattle.std.specs.Prelude.{◌≡◌, [], IfOk, None, OnErr, OnOk, option_map};
+ghost use Rattle.j39_address.specs.Name.{name_raw};
+ghost use Rattle.j39_reports.specs.Remembered.{Notes, Remembers, said_at};
+ghost use Rattle.j39_reports.specs.LastMessages.{differs, said_by};
+
+use crate::fault_news::last_messages::LastMessages;
+use j39_address::Name;
+use j39_faults::Kind;
+use std::alloc::{AllocError, Global};
+
+/// What was said last by each address of its active codes, and of its previous ones.
+#[derive(Drop)]
+pub(crate) struct LastFaults {
+    pub active: LastMessages,
+    pub previous: LastMessages,
+}
+
+impl LastFaults {
+    /// Nobody said anything.
+    pub(crate) fn new() -> LastFaults
+        ensures { Remembers result [] }
+    {
+        LastFaults {
+            active: LastMessages::new(),
+            previous: LastMessages::new(),
+        }
+    }
+
+    /// Notes what an address says, and answers whether it is news.
+    pub(crate) fn note(
+        &mut self,
+        alloc: Global,
+        kind: Kind,
+        source: u8,
+        payload: &[u8],
+        name: Option<Name>,
+    ) -> Result<bool, AllocError>
+        ensures news { IfOk result (λ is_news. is_news
+            ≡ differs (said_at self.old kind source) payload.now (option_map name_raw name)) }
+        ensures after { OnOk result (Notes self.old kind source
+            (said_by payload.now (option_map name_raw name)) self.new) }
+        ensures first { OnErr result (said_at self.old kind source ≡ None) }
+    {
+        match kind {
+            Kind::Active => self.active.note(alloc, source, payload, name),
+            Kind::Previous => self.previous.note(alloc, source, payload, name),
+        }
+    }
+}

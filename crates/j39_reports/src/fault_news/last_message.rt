@@ -1,0 +1,81 @@
+//! What was said last in a message of faults.
+ghost use Rattle.std.specs.Prelude.{◌≡◌, ◌≤◌, length, option_map, take};
+ghost use Rattle.j39_address.specs.Name.{name_raw};
+ghost use Rattle.j39_reports.specs.News.{is_same_name};
+ghost use Rattle.j39_reports.specs.LastMessages.{is_said, said_by};
+
+use arrayvec::ArrayVec;
+use j39_address::Name;
+use j39_io::printing::push_bytes;
+use std::marker::Model;
+
+/// The bytes of the longest message (J1939-21, 5.10).
+const LONGEST: usize = 1785;
+
+/// The bytes of a message, and the NAME that it came under.
+#[derive(Drop)]
+pub(crate) struct LastMessage {
+    bytes: ArrayVec<u8, LONGEST>,
+    name: Option<Name>,
+}
+
+impl Model for LastMessage {
+    ghost use Rattle.std.specs.Option.{option_map};
+    ghost use Rattle.j39_address.specs.Name.{name_raw};
+    ghost use Rattle.j39_reports.specs.LastMessages.{LastRecord};
+
+    ghost Value = { LastRecord };
+
+    ghost view = { λ said. record { bytes = said.bytes.items; name = option_map name_raw said.name } };
+}
+
+impl LastMessage {
+    /// What a payload says, at most 1,785 bytes of it.
+    pub(crate) fn new(payload: &[u8], name: Option<Name>) -> LastMessage
+        ensures { result ≡ said_by payload.now (option_map name_raw name) }
+    {
+        let mut bytes = ArrayVec::new();
+        push_bytes(&mut bytes, front_of(payload));
+        LastMessage { bytes, name }
+    }
+
+    /// Says this in place of what was said, in the same buffer.
+    pub(crate) fn replace(&mut self, payload: &[u8], name: Option<Name>)
+        ensures { self.new ≡ said_by payload.now (option_map name_raw name) }
+    {
+        self.bytes.clear();
+        push_bytes(&mut self.bytes, front_of(payload));
+        self.name = name;
+    }
+
+    /// Whether it is what a payload says under a NAME, or under none.
+    pub(crate) fn is(&self, payload: &[u8], name: Option<Name>) -> bool
+        ensures { result ≡ is_said self.now payload.now (option_map name_raw name) }
+    {
+        self.bytes.as_slice() == payload && is_same_name(self.name, name)
+    }
+}
+
+/// At most the first 1,785 bytes.
+fn front_of(payload: &[u8]) -> &[u8]
+    ensures value { result.now ≡ take 1785 payload.now }
+    ensures short { length result.now ≤ 1785 }
+{
+    if payload.len() <= LONGEST {
+        payload
+    } else {
+        let (front, _) = payload.split_at(LONGEST);
+        front
+    }
+}
+
+fn is_same_name(one: Option<Name>, other: Option<Name>) -> bool
+    ensures { result ≡ is_same_name (option_map name_raw one) (option_map name_raw other) }
+{
+    match (one, other) {
+        (None, None) => true,
+        (None, Some(_)) => false,
+        (Some(_), None) => false,
+        (Some(one), Some(other)) => one.raw() == other.raw(),
+    }
+}
