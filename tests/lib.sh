@@ -56,7 +56,7 @@ needs() {
       export "J1939_${product^^}=${!product}"
       continue
     elif [ "$product" = demo ]; then
-      skips 'bus_demo is not built (./bus_demo --help builds it)'
+      skips 'bus_demo is not built (tools/bus_demo --help builds it)'
     else
       fails "it wants the $product"
     fi

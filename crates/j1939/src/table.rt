@@ -4,9 +4,9 @@ use std::env;
 use std::fs::{self, File};
 use std::io::{self, Read};
 
-/// Where the tables that come with the program are, from its own folder on: installed, and in the project, as it is shipped
-/// and where it is built.
-const SHIPPED: [&str; 3] = ["../share/j1939", "../tables", "../../../tables"];
+/// Where the tables that come with the program are, from its own folder on: installed, and in the project, where it is built
+/// and as it is shipped.
+const SHIPPED: [&str; 3] = ["../share/j1939", "../tables", "../crates/j1939/tables"];
 
 /// The text of the table of this name: of a file, or else of the table that comes with the program under it. Of a longer
 /// text than a table has, one byte too many.
