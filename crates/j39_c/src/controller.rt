@@ -18,16 +18,14 @@ use crate::can::{CanFrame, frame_in};
 use crate::controlling;
 use crate::handed_out::PlainRequest;
 use crate::handle::Handle;
-use crate::message::{LONGEST, WholeMessage};
+use crate::message::WholeMessage;
 use crate::part::Part;
 use crate::refusal::Refusal;
 use j39_address::Name;
 use j39_controller::Controller;
 use j39_frame::{Pgn, Stamp, is_address};
+use j39_transport::{LONGEST, SHORTEST};
 use std::alloc::Global;
-
-/// The fewest bytes of a message that goes in packets.
-const SHORTEST: usize = 9;
 
 /// Opens a controller of this NAME, to start with this address: 0; -1 for an address above 253, -3 where memory is
 /// refused, -4 where the handle is open.

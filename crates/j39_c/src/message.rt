@@ -8,10 +8,7 @@ ghost use Rattle.j39_c.specs.Messages.{hearing_in};
 
 use j39_address::Name;
 use j39_listen::Heard;
-use j39_transport::Message;
-
-/// The most bytes of a message.
-pub(crate) const LONGEST: usize = 1785;
+use j39_transport::{LONGEST, Message};
 
 /// A message, `j1939_message` of the header.
 #[repr(C)]

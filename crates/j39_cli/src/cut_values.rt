@@ -12,6 +12,7 @@ use crate::{Argument, ParseFault};
 use hex::FromHexError;
 use j39_frame::{Pgn, Stamp};
 use j39_io::number;
+use j39_transport::{LONGEST, SHORTEST};
 use std::alloc::Global;
 
 /// The number of decimal digits, leading zeros taken; `None` for other text, and from the limit up.
@@ -87,7 +88,7 @@ fn sized(payload: Vec<u8>) -> Result<Vec<u8>, ParseFault>
     ensures err { IfErr result (λ fault. (¬ ((9 ≤ length payload.items) × (length payload.items ≤ 1785)))
         × (fault ≡ ParseFault.BadValue Argument.Hex)) }
 {
-    if payload.len() < 9 || payload.len() > 1785 {
+    if payload.len() < SHORTEST || payload.len() > LONGEST {
         return Err(ParseFault::BadValue(Argument::Hex));
     }
     Ok(payload)

@@ -3,6 +3,7 @@ ghost use Rattle.std.specs.Prelude.{◌≡◌, ◌≤◌, ◌↔◌, IsTrue, IsS
 ghost use Rattle.j39_frame.specs.Pgn.{pgn_raw};
 ghost use Rattle.j39_transport.specs.Frames.{agree, packets_for};
 
+use crate::protocol::{LONGEST, SHORTEST};
 use j39_frame::Pgn;
 
 /// What a BAM or an RTS announces: a message of 9 to 1,785 bytes, in as many packets as it takes.
@@ -33,7 +34,8 @@ impl Announcement {
             (pgn_raw a.group ≡ group) × (a.size ≡ size) × (a.packets ≡ packets)) }
     {
         let group = Pgn::new(group)?;
-        if size >= 9 && size <= 1785 && takes(size, packets) {
+        let bytes = usize::from(size);
+        if bytes >= SHORTEST && bytes <= LONGEST && takes(size, packets) {
             Some(Announcement {
                 group,
                 size,

@@ -10,7 +10,7 @@ ghost use Rattle.j39_transport.specs.Protocol.{filler};
 ghost use Rattle.j39_transport.specs.Cutting.{cut_frame, cut_frames, packet_data, to_send, without_stamp};
 
 use crate::announcement::Announcement;
-use crate::protocol::{BROADCAST_ANNOUNCE, FILLER, NO_LIMIT};
+use crate::protocol::{BROADCAST_ANNOUNCE, FILLER, LONGEST, NO_LIMIT, SHORTEST};
 use crate::writing;
 use j39_frame::{GLOBAL_ADDRESS, Id, Pgn, is_address};
 use std::marker::Model;
@@ -41,7 +41,7 @@ impl<'a> Cut<'a> {
         ensures value { IfSome result (λ cut.
             cut ≡ record { source = source; pgn = pgn_raw pgn; bytes = payload.now }) }
     {
-        if !is_address(source) || payload.len() < 9 || payload.len() > 1785 {
+        if !is_address(source) || payload.len() < SHORTEST || payload.len() > LONGEST {
             return None;
         }
         let _fits = pgn.raw();

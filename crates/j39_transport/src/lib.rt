@@ -30,5 +30,6 @@ pub use cut::Cut;
 pub use message::{Fed, Message};
 pub use owned_sender::OwnedSender;
 pub use progress::{SendEvent, SendState};
+pub use protocol::{LONGEST, SHORTEST};
 pub use receiver::{Receiver, Reply};
 pub use sender::Sender;

@@ -1,5 +1,11 @@
 //! The numbers of the transport protocol (J1939-21, 5.10); times in microseconds.
 
+/// The shortest message in packets, in bytes: a shorter one goes in one frame (5.10.1.1).
+pub const SHORTEST: usize = 9;
+
+/// The longest message, in bytes: 255 packets of seven (5.10.1.1).
+pub const LONGEST: usize = 1785;
+
 /// The group TP.CM.
 pub(crate) const TRANSPORT_CONTROL: u32 = 60_416;
 

@@ -7,10 +7,8 @@ ghost use Rattle.j39_reports.specs.LastMessages.{is_said, said_by};
 use arrayvec::ArrayVec;
 use j39_address::Name;
 use j39_io::printing::push_bytes;
+use j39_transport::LONGEST;
 use std::marker::Model;
-
-/// The bytes of the longest message (J1939-21, 5.10).
-const LONGEST: usize = 1785;
 
 /// The bytes of a message, and the NAME that it came under.
 #[derive(Drop)]

@@ -9,12 +9,10 @@ ghost use Rattle.j39_reports.specs.SummaryRun.{IsText};
 use crate::summaries::measure::Measure;
 use arrayvec::ArrayVec;
 use j39_groups::{ReadValue, Value};
-use j39_memory::Stored;
 use j39_io::printing::push_bytes;
+use j39_memory::Stored;
+use j39_transport::LONGEST;
 use std::alloc::{AllocError, Global};
-
-/// How many bytes a text has at most, as the longest message (J1939-21, 5.10.1).
-const LONGEST: usize = 1785;
 
 /// A value as a row keeps it; `'t` is how long the table lives.
 #[derive(Drop)]
