@@ -20,7 +20,6 @@ use crate::Counts;
 use crate::account::{Account, LineFault};
 use crate::counts::Made;
 use crate::headed::run_headed;
-use crate::report_lines::push_name;
 use crate::running::{RunFault, run_over};
 use arrayvec::ArrayVec;
 use j39_address::{Claims, Name};
@@ -192,7 +191,7 @@ fn joined(address: u8, between: &[u8], name: Name, end: &[u8]) -> ArrayVec<u8, 2
     let mut text = ArrayVec::new();
     push_hex(&mut text, &[address]);
     push_bytes(&mut text, between);
-    push_name(&mut text, Some(name));
+    push_hex(&mut text, &name.raw().to_be_bytes());
     push_bytes(&mut text, end);
     text
 }

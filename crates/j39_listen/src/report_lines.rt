@@ -1,22 +1,16 @@
 //! The lines of a report.
-ghost use Rattle.std.specs.Prelude.{◌≡◌, ◌+◌, ◌≤◌, ◌++◌, OnOk, OnErr, IfOk, length};
-ghost use Rattle.std.specs.Option.{option_map};
+ghost use Rattle.std.specs.Prelude.{◌≡◌, OnOk, OnErr, IfOk, length};
 ghost use Rattle.std.specs.Io.KnownBytes.{Appends};
-ghost use Rattle.arrayvec.specs.ArrayVec.{array_vec_len};
-ghost use Rattle.j39_address.specs.Name.{name_raw};
 ghost use Rattle.j39_io.specs.Device.{AppendsFront, Marks};
 ghost use Rattle.j39_log.specs.Seconds.{seconds_value};
-ghost use Rattle.j39_listen.specs.Report.{entries_of, name_text, text_of};
+ghost use Rattle.j39_listen.specs.Report.{entries_of, text_of};
 ghost use Rattle.j39_listen.specs.HeardModel.{hearing_of};
 
 use crate::Heard;
 use crate::head::head_before;
-use arrayvec::ArrayVec;
-use j39_address::Name;
-use j39_io::{DeviceFault, Sink};
 use j39_groups::{Groups, HEAD, LINES};
+use j39_io::{DeviceFault, Sink};
 use j39_log::Seconds;
-use j39_io::printing::{push_bytes, push_hex};
 
 /// What the lines of a message are made with, kept from message to message.
 #[derive(Debug, Drop)]
@@ -62,16 +56,4 @@ pub(crate) fn put_heard<W: Sink>(
         heard.message.payload,
         sink,
     )
-}
-
-/// Appends a NAME in sixteen hex digits, or sixteen dashes.
-pub(crate) fn push_name<const N: usize>(line: &mut ArrayVec<u8, N>, name: Option<Name>)
-    requires { array_vec_len line.old + 16 ≤ N }
-    ensures items { line.new.items ≡ line.old.items ++ name_text (option_map name_raw name) }
-    ensures len { array_vec_len line.new ≡ array_vec_len line.old + 16 }
-{
-    match name {
-        Some(name) => push_hex(line, &name.raw().to_be_bytes()),
-        None => push_bytes(line, b"----------------"),
-    }
 }

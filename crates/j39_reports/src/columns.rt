@@ -1,12 +1,13 @@
-//! Fields that several records have (own).
+//! What several lines and records have (own).
 ghost use Rattle.std.specs.Prelude.{◌≡◌, ◌+◌, ◌≤◌, ◌++◌};
 ghost use Rattle.arrayvec.specs.ArrayVec.{array_vec_len};
+ghost use Rattle.j39_listen.specs.Report.{name_text};
 ghost use Rattle.j39_reports.specs.Columns.{name_field, seconds_text};
 ghost use Rattle.j39_frame.specs.Stamp.{stamp_micros};
 
 use arrayvec::ArrayVec;
 use j39_frame::Stamp;
-use j39_io::printing::{push_hex, push_last_digits};
+use j39_io::printing::{push_bytes, push_hex, push_last_digits};
 
 /// Appends the seconds of a stamp with six places.
 pub fn push_seconds<const N: usize>(text: &mut ArrayVec<u8, N>, stamp: Stamp)
@@ -20,7 +21,19 @@ pub fn push_seconds<const N: usize>(text: &mut ArrayVec<u8, N>, stamp: Stamp)
     push_last_digits(text, 6, micros % 1_000_000);
 }
 
-/// Appends a NAME in sixteen hex digits, or nothing.
+/// Appends a NAME in sixteen hex digits, or sixteen dashes, as lines have it.
+pub fn push_name_or_dashes<const N: usize>(text: &mut ArrayVec<u8, N>, name: Option<u64>)
+    requires { array_vec_len text.old + 16 ≤ N }
+    ensures items { text.new.items ≡ text.old.items ++ name_text name }
+    ensures len { array_vec_len text.new ≡ array_vec_len text.old + 16 }
+{
+    match name {
+        Some(name) => push_hex(text, &name.to_be_bytes()),
+        None => push_bytes(text, b"----------------"),
+    }
+}
+
+/// Appends a NAME in sixteen hex digits, or nothing, as records have it.
 pub fn push_name<const N: usize>(text: &mut ArrayVec<u8, N>, name: Option<u64>)
     requires { array_vec_len text.old + 16 ≤ N }
     ensures items { text.new.items ≡ text.old.items ++ name_field name }

@@ -18,7 +18,7 @@ use crate::fault_news::names::name_in;
 use crate::fault_news::records::put_fields;
 use arrayvec::ArrayVec;
 use j39_address::Name;
-use crate::columns::{push_name, push_seconds};
+use crate::columns::{push_name, push_name_or_dashes, push_seconds};
 use crate::utc::utc_text;
 use j39_io::{DeviceFault, Sink, put_all};
 use j39_faults::{Code, Kind, Lamps, codes_of, put_code, put_no_code};
@@ -190,10 +190,7 @@ fn line_head(heard: &Heard<'_>) -> Head
     push_bytes(&mut head, b" ");
     push_hex(&mut head, &[heard.message.source]);
     push_bytes(&mut head, b" ");
-    match heard.name {
-        Some(name) => push_hex(&mut head, &name.raw().to_be_bytes()),
-        None => push_bytes(&mut head, b"----------------"),
-    }
+    push_name_or_dashes(&mut head, heard.name.map(Name::raw));
     push_bytes(&mut head, b" ");
     head
 }

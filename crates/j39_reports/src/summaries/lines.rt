@@ -8,10 +8,10 @@ ghost use Rattle.j39_memory.specs.ByOrigin.{pairs_of};
 ghost use Rattle.j39_io.specs.Device.{AppendsFront, Marks};
 ghost use Rattle.j39_io.specs.Chars.{newline};
 ghost use Rattle.j39_groups.specs.ValueText.{bare_text};
-ghost use Rattle.j39_listen.specs.Report.{name_text};
 ghost use Rattle.j39_reports.specs.RowText.{called_in, first_text, head_text, last_text, range_text, row_in, row_text, summary_text, values_text};
 ghost use Rattle.j39_reports.specs.RowModels.{kept_value, range_of_span, row_shown};
 
+use crate::columns::push_name_or_dashes;
 use crate::summaries::deeds::{Deeds, Span};
 use crate::summaries::kept::Kept;
 use crate::summaries::records::put_record;
@@ -22,7 +22,7 @@ use j39_memory::ByOrigin;
 use j39_io::{DeviceFault, Sink, put_all};
 use j39_groups::{Groups, Value, put_value, scaled_text};
 use j39_log::push_stamp;
-use j39_io::printing::{push_bytes, push_hex, push_number};
+use j39_io::printing::{push_hex, push_number};
 
 /// Writes a line for each row, or a record, in their order.
 pub(crate) fn put_rows<W: Sink>(
@@ -152,7 +152,7 @@ fn head_of(origin: Origin, deeds: &Deeds<'_>) -> ArrayVec<u8, 160>
     let mut head = ArrayVec::new();
     push_hex(&mut head, &[origin.address]);
     head.push(b' ');
-    push_name(&mut head, origin.name);
+    push_name_or_dashes(&mut head, origin.name);
     push_spaced(&mut head, u64::from(origin.pgn));
     push_spaced(&mut head, u64::from(origin.spn));
     push_spaced(&mut head, deeds.count);
@@ -163,18 +163,6 @@ fn head_of(origin: Origin, deeds: &Deeds<'_>) -> ArrayVec<u8, 160>
     push_stamp(&mut head, deeds.last.stamp);
     head.push(b' ');
     head
-}
-
-/// Appends a NAME in sixteen hex digits, or sixteen dashes.
-fn push_name<const N: usize>(line: &mut ArrayVec<u8, N>, name: Option<u64>)
-    requires { array_vec_len line.old + 16 ≤ N }
-    ensures items { line.new.items ≡ line.old.items ++ name_text name }
-    ensures len { array_vec_len line.new ≡ array_vec_len line.old + 16 }
-{
-    match name {
-        Some(name) => push_hex(line, &name.to_be_bytes()),
-        None => push_bytes(line, b"----------------"),
-    }
 }
 
 /// Appends a space and a number, of 20 digits at most.
