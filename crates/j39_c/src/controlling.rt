@@ -17,7 +17,7 @@ use crate::handed_out::{
     PlainRequest, put_address, put_id, put_received, put_request, put_settled, put_wish,
 };
 use crate::message::WholeMessage;
-use crate::part::Part;
+use crate::part::{Part, ask};
 use crate::refusal::Refusal;
 use j39_frame::{Frame, Pgn, Stamp};
 use std::alloc::Global;
@@ -30,16 +30,10 @@ pub(crate) fn pass(part: &mut Part, now: Stamp) -> i32
         × IsSome (controller_in (Some part.new))) }
     ensures foreign { controller_in (Some part.old) ≡ None → (result ≡ no_part) × (part.new ≡ part.old) }
 {
-    match part {
-        Part::Controlling(controller) => match controller.pass(now) {
-            Ok(()) => 0,
-            Err(_) => Refusal::NoMemory.code(),
-        },
-        Part::Listening(_) => Refusal::NoPart.code(),
-        Part::Receiving(_) => Refusal::NoPart.code(),
-        Part::Sending(_) => Refusal::NoPart.code(),
-        Part::Assembling(_) => Refusal::NoPart.code(),
-    }
+    ask!(part, Controlling(controller) => match controller.pass(now) {
+        Ok(()) => 0,
+        Err(_) => Refusal::NoMemory.code(),
+    })
 }
 
 /// Lets time pass for the messages of a controller.
@@ -50,16 +44,10 @@ pub(crate) fn turn(part: &mut Part, now: Stamp) -> i32
         × IsSome (controller_in (Some part.new))) }
     ensures foreign { controller_in (Some part.old) ≡ None → (result ≡ no_part) × (part.new ≡ part.old) }
 {
-    match part {
-        Part::Controlling(controller) => match controller.turn(now) {
-            Ok(()) => 0,
-            Err(_) => Refusal::NoMemory.code(),
-        },
-        Part::Listening(_) => Refusal::NoPart.code(),
-        Part::Receiving(_) => Refusal::NoPart.code(),
-        Part::Sending(_) => Refusal::NoPart.code(),
-        Part::Assembling(_) => Refusal::NoPart.code(),
-    }
+    ask!(part, Controlling(controller) => match controller.turn(now) {
+        Ok(()) => 0,
+        Err(_) => Refusal::NoMemory.code(),
+    })
 }
 
 /// Shows a controller a frame.
@@ -70,16 +58,10 @@ pub(crate) fn hear(part: &mut Part, frame: &Frame) -> i32
         × IsSome (controller_in (Some part.new))) }
     ensures foreign { controller_in (Some part.old) ≡ None → (result ≡ no_part) × (part.new ≡ part.old) }
 {
-    match part {
-        Part::Controlling(controller) => match controller.hear(frame) {
-            Ok(()) => 0,
-            Err(_) => Refusal::NoMemory.code(),
-        },
-        Part::Listening(_) => Refusal::NoPart.code(),
-        Part::Receiving(_) => Refusal::NoPart.code(),
-        Part::Sending(_) => Refusal::NoPart.code(),
-        Part::Assembling(_) => Refusal::NoPart.code(),
-    }
+    ask!(part, Controlling(controller) => match controller.hear(frame) {
+        Ok(()) => 0,
+        Err(_) => Refusal::NoMemory.code(),
+    })
 }
 
 /// Hands a controller a frame that is a message by itself.
@@ -90,16 +72,10 @@ pub(crate) fn send(part: &mut Part, frame: Frame, number: usize) -> i32
         × IsSomeAnd (controller_in (Some part.new)) (λ new. IsUnsent old new)) }
     ensures foreign { controller_in (Some part.old) ≡ None → (result ≡ no_part) × (part.new ≡ part.old) }
 {
-    match part {
-        Part::Controlling(controller) => match controller.send(frame, number) {
-            Ok(()) => 0,
-            Err(_) => Refusal::NoMemory.code(),
-        },
-        Part::Listening(_) => Refusal::NoPart.code(),
-        Part::Receiving(_) => Refusal::NoPart.code(),
-        Part::Sending(_) => Refusal::NoPart.code(),
-        Part::Assembling(_) => Refusal::NoPart.code(),
-    }
+    ask!(part, Controlling(controller) => match controller.send(frame, number) {
+        Ok(()) => 0,
+        Err(_) => Refusal::NoMemory.code(),
+    })
 }
 
 /// Begins to broadcast a message of a controller's.
@@ -118,16 +94,10 @@ pub(crate) fn broadcast(
     ensures foreign { controller_in (Some part.old) ≡ None → result ≡ no_part }
     ensures refused { IsRefused result → part.new ≡ part.old }
 {
-    match part {
-        Part::Controlling(controller) => match payload.to_vec(alloc) {
-            Ok(bytes) => i32::from(controller.broadcast(number, pgn, bytes, now)),
-            Err(_) => Refusal::NoMemory.code(),
-        },
-        Part::Listening(_) => Refusal::NoPart.code(),
-        Part::Receiving(_) => Refusal::NoPart.code(),
-        Part::Sending(_) => Refusal::NoPart.code(),
-        Part::Assembling(_) => Refusal::NoPart.code(),
-    }
+    ask!(part, Controlling(controller) => match payload.to_vec(alloc) {
+        Ok(bytes) => i32::from(controller.broadcast(number, pgn, bytes, now)),
+        Err(_) => Refusal::NoMemory.code(),
+    })
 }
 
 /// Begins to send a message of a controller's to an address.
@@ -147,16 +117,10 @@ pub(crate) fn transfer(
     ensures foreign { controller_in (Some part.old) ≡ None → result ≡ no_part }
     ensures refused { IsRefused result → part.new ≡ part.old }
 {
-    match part {
-        Part::Controlling(controller) => match payload.to_vec(alloc) {
-            Ok(bytes) => i32::from(controller.transfer(number, to, pgn, bytes, now)),
-            Err(_) => Refusal::NoMemory.code(),
-        },
-        Part::Listening(_) => Refusal::NoPart.code(),
-        Part::Receiving(_) => Refusal::NoPart.code(),
-        Part::Sending(_) => Refusal::NoPart.code(),
-        Part::Assembling(_) => Refusal::NoPart.code(),
-    }
+    ask!(part, Controlling(controller) => match payload.to_vec(alloc) {
+        Ok(bytes) => i32::from(controller.transfer(number, to, pgn, bytes, now)),
+        Err(_) => Refusal::NoMemory.code(),
+    })
 }
 
 /// The address that a controller holds.
@@ -165,13 +129,7 @@ pub(crate) fn held(part: &Part, address: &mut u8) -> i32
         × Holds controller (told_number result address.new)) }
     ensures foreign { controller_in (Some part.now) ≡ None → result ≡ no_part }
 {
-    match part {
-        Part::Controlling(controller) => put_address(controller.held(), address),
-        Part::Listening(_) => Refusal::NoPart.code(),
-        Part::Receiving(_) => Refusal::NoPart.code(),
-        Part::Sending(_) => Refusal::NoPart.code(),
-        Part::Assembling(_) => Refusal::NoPart.code(),
-    }
+    ask!(part, Controlling(controller) => put_address(controller.held(), address))
 }
 
 /// The address that a message of a controller may begin from.
@@ -180,13 +138,7 @@ pub(crate) fn free_at(part: &Part, now: Stamp, address: &mut u8) -> i32
         × BeginsFrom controller (stamp_micros now) (told_number result address.new)) }
     ensures foreign { controller_in (Some part.now) ≡ None → result ≡ no_part }
 {
-    match part {
-        Part::Controlling(controller) => put_address(controller.free_at(now), address),
-        Part::Listening(_) => Refusal::NoPart.code(),
-        Part::Receiving(_) => Refusal::NoPart.code(),
-        Part::Sending(_) => Refusal::NoPart.code(),
-        Part::Assembling(_) => Refusal::NoPart.code(),
-    }
+    ask!(part, Controlling(controller) => put_address(controller.free_at(now), address))
 }
 
 /// The identifier of the frame that a controller wishes to send next.
@@ -195,13 +147,7 @@ pub(crate) fn wish(part: &Part, id: &mut u32) -> i32
         × (told_number result id.new ≡ first_id (waiting_in controller))) }
     ensures foreign { controller_in (Some part.now) ≡ None → result ≡ no_part }
 {
-    match part {
-        Part::Controlling(controller) => put_id(controller.wish(), id),
-        Part::Listening(_) => Refusal::NoPart.code(),
-        Part::Receiving(_) => Refusal::NoPart.code(),
-        Part::Sending(_) => Refusal::NoPart.code(),
-        Part::Assembling(_) => Refusal::NoPart.code(),
-    }
+    ask!(part, Controlling(controller) => put_id(controller.wish(), id))
 }
 
 /// Takes the next frame that a controller sends.
@@ -211,13 +157,7 @@ pub(crate) fn take_frame(part: &mut Part, out: &mut CanFrame, number: &mut usize
         TakesFrame old (wish_in result out.new number.new) new)) }
     ensures foreign { controller_in (Some part.old) ≡ None → (result ≡ no_part) × (part.new ≡ part.old) }
 {
-    match part {
-        Part::Controlling(controller) => put_wish(controller.take_frame(), out, number),
-        Part::Listening(_) => Refusal::NoPart.code(),
-        Part::Receiving(_) => Refusal::NoPart.code(),
-        Part::Sending(_) => Refusal::NoPart.code(),
-        Part::Assembling(_) => Refusal::NoPart.code(),
-    }
+    ask!(part, Controlling(controller) => put_wish(controller.take_frame(), out, number))
 }
 
 /// Takes the next message that a controller received.
@@ -228,13 +168,7 @@ pub(crate) fn take_received(part: &mut Part, out: &mut WholeMessage, destination
     ensures unnamed { result ≡ pos 1 → named out.new.is_named out.new.name ≡ None }
     ensures foreign { controller_in (Some part.old) ≡ None → (result ≡ no_part) × (part.new ≡ part.old) }
 {
-    match part {
-        Part::Controlling(controller) => put_received(controller.take_received(), out, destination),
-        Part::Listening(_) => Refusal::NoPart.code(),
-        Part::Receiving(_) => Refusal::NoPart.code(),
-        Part::Sending(_) => Refusal::NoPart.code(),
-        Part::Assembling(_) => Refusal::NoPart.code(),
-    }
+    ask!(part, Controlling(controller) => put_received(controller.take_received(), out, destination))
 }
 
 /// Takes the next request that a controller heard.
@@ -243,13 +177,7 @@ pub(crate) fn take_asked(part: &mut Part, out: &mut PlainRequest) -> i32
         × IsSomeAnd (controller_in (Some part.new)) (λ new. TakesAsked old (asked result out.new) new)) }
     ensures foreign { controller_in (Some part.old) ≡ None → (result ≡ no_part) × (part.new ≡ part.old) }
 {
-    match part {
-        Part::Controlling(controller) => put_request(controller.take_asked(), out),
-        Part::Listening(_) => Refusal::NoPart.code(),
-        Part::Receiving(_) => Refusal::NoPart.code(),
-        Part::Sending(_) => Refusal::NoPart.code(),
-        Part::Assembling(_) => Refusal::NoPart.code(),
-    }
+    ask!(part, Controlling(controller) => put_request(controller.take_asked(), out))
 }
 
 /// Takes how the next message of a controller ended.
@@ -259,11 +187,5 @@ pub(crate) fn take_settled(part: &mut Part, number: &mut usize, reason: &mut u8)
         TakesSettled old (settled result number.new reason.new) new)) }
     ensures foreign { controller_in (Some part.old) ≡ None → (result ≡ no_part) × (part.new ≡ part.old) }
 {
-    match part {
-        Part::Controlling(controller) => put_settled(controller.take_settled(), number, reason),
-        Part::Listening(_) => Refusal::NoPart.code(),
-        Part::Receiving(_) => Refusal::NoPart.code(),
-        Part::Sending(_) => Refusal::NoPart.code(),
-        Part::Assembling(_) => Refusal::NoPart.code(),
-    }
+    ask!(part, Controlling(controller) => put_settled(controller.take_settled(), number, reason))
 }

@@ -32,6 +32,32 @@ pub(crate) enum Part {
     Controlling(Box<Controller>),
 }
 
+/// What a part of this kind answers, or that it is none.
+macro_rules! ask {
+    (@$part:expr, $kind:ident($held:ident) => $answer:expr, $($other:ident)*) => {
+        match $part {
+            Part::$kind($held) => $answer,
+            $(Part::$other(_) => Refusal::NoPart.code(),)*
+        }
+    };
+    ($part:expr, Listening($held:ident) => $answer:expr) => {
+        ask!(@$part, Listening($held) => $answer, Receiving Sending Assembling Controlling)
+    };
+    ($part:expr, Receiving($held:ident) => $answer:expr) => {
+        ask!(@$part, Receiving($held) => $answer, Listening Sending Assembling Controlling)
+    };
+    ($part:expr, Sending($held:ident) => $answer:expr) => {
+        ask!(@$part, Sending($held) => $answer, Listening Receiving Assembling Controlling)
+    };
+    ($part:expr, Assembling($held:ident) => $answer:expr) => {
+        ask!(@$part, Assembling($held) => $answer, Listening Receiving Sending Controlling)
+    };
+    ($part:expr, Controlling($held:ident) => $answer:expr) => {
+        ask!(@$part, Controlling($held) => $answer, Listening Receiving Sending Assembling)
+    };
+}
+pub(crate) use ask;
+
 impl Part {
     /// Feeds a listener the next frame of the bus.
     pub(crate) fn feed(&mut self, frame: &Frame, out: &mut WholeMessage) -> i32
@@ -42,13 +68,7 @@ impl Part {
         ensures foreign { listener_in (Some self.old) ≡ None → result ≡ no_part }
         ensures refused { IsRefused result → self.new ≡ self.old }
     {
-        match self {
-            Part::Listening(listener) => hear(listener, frame, out),
-            Part::Receiving(_) => Refusal::NoPart.code(),
-            Part::Sending(_) => Refusal::NoPart.code(),
-            Part::Assembling(_) => Refusal::NoPart.code(),
-            Part::Controlling(_) => Refusal::NoPart.code(),
-        }
+        ask!(self, Listening(listener) => hear(listener, frame, out))
     }
 
     /// Who holds an address, by what a listener heard.
@@ -57,13 +77,7 @@ impl Part {
             × IsHolderBy listener address (told_number result name.new)) }
         ensures foreign { listener_in (Some self.now) ≡ None → result ≡ no_part }
     {
-        match self {
-            Part::Listening(listener) => put_name(listener.holder(address), name),
-            Part::Receiving(_) => Refusal::NoPart.code(),
-            Part::Sending(_) => Refusal::NoPart.code(),
-            Part::Assembling(_) => Refusal::NoPart.code(),
-            Part::Controlling(_) => Refusal::NoPart.code(),
-        }
+        ask!(self, Listening(listener) => put_name(listener.holder(address), name))
     }
 
     /// What a receiver answers to a frame.
@@ -78,13 +92,7 @@ impl Part {
             ReceivesMore old frame.now result out.new message.new new)) }
         ensures foreign { receiver_in (Some self.old) ≡ None → (result ≡ no_part) × (self.new ≡ self.old) }
     {
-        match self {
-            Part::Receiving(receiver) => receive(receiver, frame, out, message),
-            Part::Listening(_) => Refusal::NoPart.code(),
-            Part::Sending(_) => Refusal::NoPart.code(),
-            Part::Assembling(_) => Refusal::NoPart.code(),
-            Part::Controlling(_) => Refusal::NoPart.code(),
-        }
+        ask!(self, Receiving(receiver) => receive(receiver, frame, out, message))
     }
 
     /// Lets time pass for a receiver.
@@ -95,13 +103,7 @@ impl Part {
         ensures moment { IsSentAt result out.new (stamp_micros now) }
         ensures foreign { receiver_in (Some self.old) ≡ None → (result ≡ no_part) × (self.new ≡ self.old) }
     {
-        match self {
-            Part::Receiving(receiver) => put_packet(receiver.tick(now), now, out),
-            Part::Listening(_) => Refusal::NoPart.code(),
-            Part::Sending(_) => Refusal::NoPart.code(),
-            Part::Assembling(_) => Refusal::NoPart.code(),
-            Part::Controlling(_) => Refusal::NoPart.code(),
-        }
+        ask!(self, Receiving(receiver) => put_packet(receiver.tick(now), now, out))
     }
 
     /// Whether a receiver has a session open.
@@ -109,13 +111,7 @@ impl Part {
         ensures done { IfSome (receiver_in (Some self.now)) (λ receiver. result ≡ busy_code receiver.state.session) }
         ensures foreign { receiver_in (Some self.now) ≡ None → result ≡ no_part }
     {
-        match self {
-            Part::Receiving(receiver) => i32::from(receiver.busy()),
-            Part::Listening(_) => Refusal::NoPart.code(),
-            Part::Sending(_) => Refusal::NoPart.code(),
-            Part::Assembling(_) => Refusal::NoPart.code(),
-            Part::Controlling(_) => Refusal::NoPart.code(),
-        }
+        ask!(self, Receiving(receiver) => i32::from(receiver.busy()))
     }
 
     /// Lets time pass for a sender.
@@ -126,13 +122,7 @@ impl Part {
         ensures moment { IsSentAt result out.new (stamp_micros now) }
         ensures foreign { sender_in (Some self.old) ≡ None → (result ≡ no_part) × (self.new ≡ self.old) }
     {
-        match self {
-            Part::Sending(sender) => put_packet(sender.on(SendEvent::Tick, now), now, out),
-            Part::Listening(_) => Refusal::NoPart.code(),
-            Part::Receiving(_) => Refusal::NoPart.code(),
-            Part::Assembling(_) => Refusal::NoPart.code(),
-            Part::Controlling(_) => Refusal::NoPart.code(),
-        }
+        ask!(self, Sending(sender) => put_packet(sender.on(SendEvent::Tick, now), now, out))
     }
 
     /// Shows a sender a frame.
@@ -141,16 +131,10 @@ impl Part {
             × IsSomeAnd (sender_in (Some self.new)) (λ new. SendStep old (Heard frame.now) frame.now.stamp None new)) }
         ensures foreign { sender_in (Some self.old) ≡ None → (result ≡ no_part) × (self.new ≡ self.old) }
     {
-        match self {
-            Part::Sending(sender) => {
-                show(sender, frame);
-                0
-            }
-            Part::Listening(_) => Refusal::NoPart.code(),
-            Part::Receiving(_) => Refusal::NoPart.code(),
-            Part::Assembling(_) => Refusal::NoPart.code(),
-            Part::Controlling(_) => Refusal::NoPart.code(),
-        }
+        ask!(self, Sending(sender) => {
+            show(sender, frame);
+            0
+        })
     }
 
     /// How far a sender is.
@@ -158,13 +142,7 @@ impl Part {
         ensures done { IfSome (sender_in (Some self.now)) (λ sender. IsSendState sender.state result reason.new) }
         ensures foreign { sender_in (Some self.now) ≡ None → result ≡ no_part }
     {
-        match self {
-            Part::Sending(sender) => put_state(sender.state(), reason),
-            Part::Listening(_) => Refusal::NoPart.code(),
-            Part::Receiving(_) => Refusal::NoPart.code(),
-            Part::Assembling(_) => Refusal::NoPart.code(),
-            Part::Controlling(_) => Refusal::NoPart.code(),
-        }
+        ask!(self, Sending(sender) => put_state(sender.state(), reason))
     }
 
     /// Feeds an assembler the next frame of the bus.
@@ -177,13 +155,7 @@ impl Part {
         ensures foreign { assembler_in (Some self.old) ≡ None → result ≡ no_part }
         ensures refused { IsRefused result → self.new ≡ self.old }
     {
-        match self {
-            Part::Assembling(assembler) => assemble(assembler, frame, out),
-            Part::Listening(_) => Refusal::NoPart.code(),
-            Part::Receiving(_) => Refusal::NoPart.code(),
-            Part::Sending(_) => Refusal::NoPart.code(),
-            Part::Controlling(_) => Refusal::NoPart.code(),
-        }
+        ask!(self, Assembling(assembler) => assemble(assembler, frame, out))
     }
 
     /// Ends what a source has begun, in an assembler.
@@ -192,15 +164,9 @@ impl Part {
             × IsSomeAnd (assembler_in (Some self.new)) (λ new. Forgets old source new)) }
         ensures foreign { assembler_in (Some self.old) ≡ None → (result ≡ no_part) × (self.new ≡ self.old) }
     {
-        match self {
-            Part::Assembling(assembler) => {
-                forget(assembler, source);
-                0
-            }
-            Part::Listening(_) => Refusal::NoPart.code(),
-            Part::Receiving(_) => Refusal::NoPart.code(),
-            Part::Sending(_) => Refusal::NoPart.code(),
-            Part::Controlling(_) => Refusal::NoPart.code(),
-        }
+        ask!(self, Assembling(assembler) => {
+            forget(assembler, source);
+            0
+        })
     }
 }
