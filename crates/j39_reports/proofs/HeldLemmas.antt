@@ -5,7 +5,7 @@ use Rattle.std.specs.Map.{keys_of}
 use Rattle.std.specs.Prelude.{◌<◌, slice_get, slice_set}
 use Rattle.std.proofs.lemmas.List.Quantifiers.{position-Some}
 use Rattle.j39_frame.specs.Origin.{is_same, place_in}
-use Rattle.j39_memory.specs.Origin as held
+use Rattle.j39_frame.specs.Origin as held
 use Rattle.j39_frame.specs.declared.origin.Origin.{Origin}
 use Rattle.j39_frame.proofs.OriginLemmas.{same_self, same_true}
 use Rattle.j39_frame.proofs.PlaceLemmas.{absent, stands}
