@@ -4,8 +4,7 @@ use Rattle.std.specs.List.{list_any}
 use Rattle.std.specs.Map.{keys_of}
 use Rattle.std.specs.Prelude.{◌<◌, slice_get, slice_set}
 use Rattle.std.proofs.lemmas.List.Quantifiers.{position-Some}
-use Rattle.j39_frame.specs.Origin.{is_same, place_in}
-use Rattle.j39_frame.specs.Origin as held
+use Rattle.j39_frame.specs.Origin.{is_same, is_same_name, place_in}
 use Rattle.j39_frame.specs.declared.origin.Origin.{Origin}
 use Rattle.j39_frame.proofs.OriginLemmas.{same_self, same_true}
 use Rattle.j39_frame.proofs.PlaceLemmas.{absent, stands}
@@ -13,19 +12,13 @@ use Rattle.j39_groups.specs.Value.{ValueRecord}
 use Rattle.j39_listen.specs.Report.{Entry}
 use Rattle.j39_reports.specs.RowsSoFar.{AreRowsOf, HasGrown, begun, grown}
 use Rattle.j39_reports.specs.RowModels.{entry_at, row_shown}
-use Rattle.j39_reports.specs.Summary.{firsts, have_one_origin, is_same_name}
+use Rattle.j39_reports.specs.Summary.{firsts, have_one_origin}
 use Rattle.j39_reports.specs.declared.summaries.deeds.Deeds.{Deeds}
 use Rattle.j39_reports.proofs.RowLemmas.{bumped, origins_listed, summary_of-more}
 
 -- origins are the same exactly where their entries have one
-alike : (a b : Option ℕ) → held.is_same_name a b ≡ is_same_name a b
-alike None None = refl
-alike None (Some b) = refl
-alike (Some a) None = refl
-alike (Some a) (Some b) = refl
-
 one_origin : (a b : Origin) → is_same a b ≡ (a.address == b.address && (is_same_name a.name b.name && (a.pgn == b.pgn && a.spn == b.spn)))
-one_origin a b = ap (λ n. a.address == b.address && (n && (a.pgn == b.pgn && a.spn == b.spn))) (alike a.name b.name)
+one_origin a b = refl
 
 -- the value goes to the row of its origin
 found_bumped : (k o : Origin) (old new : Deeds) (stamp : ℕ) (value : ValueRecord) → HasGrown old stamp value new → o ≡ k → (rows : List (Origin × Deeds)) (at : ℕ)

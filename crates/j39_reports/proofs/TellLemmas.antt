@@ -12,7 +12,8 @@ use Rattle.j39_faults.specs.FaultGroups.{kind_of}
 use Rattle.j39_faults.specs.declared.kind.Kind.{Kind}
 use Rattle.j39_faults.specs.declared.kind.Kind.TheVariants.{Active, Previous}
 use Rattle.j39_listen.specs.Heard.{Hearing}
-use Rattle.j39_reports.specs.News.{is_news, is_same_name, last_from, says_other}
+use Rattle.j39_frame.specs.Origin.{is_same_name}
+use Rattle.j39_reports.specs.News.{is_news, last_from, says_other}
 use Rattle.j39_reports.specs.Remembered.{Notes, Remembers, said_at, said_in}
 use Rattle.j39_reports.specs.LastMessages.{LastMessages, LastRecord, at, differs}
 use Rattle.j39_reports.specs.declared.fault_news.last_faults.LastFaults.{LastFaults}

@@ -3,7 +3,7 @@ use Rattle.std.specs.Prelude.{◌&&◌, not, ℕ, Bool, List, Option, Some, None
 use Rattle.std.specs.Prelude.{take, true}
 use Rattle.j39_memory.specs.declared.stored.Stored.{Stored}
 use Rattle.j39_memory.specs.Stored.{value_of}
-use Rattle.j39_reports.specs.News.{is_same_name}
+use Rattle.j39_frame.specs.Origin.{is_same_name}
 
 -- the bytes of a message, and the NAME that it came under
 pub record LastRecord : Type 0 where

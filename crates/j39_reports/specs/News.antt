@@ -3,6 +3,7 @@ use Rattle.std.specs.Prelude.{◌==◌, ◌&&◌, not, ℕ, zero, suc, Bool, tru
 use Rattle.std.specs.Prelude.{bytes_eq, filter, if◌then◌else◌, is_some, length, nat_le, slice_get, take}
 use Rattle.std.specs.List.{last_or}
 use Rattle.j39_faults.specs.FaultGroups.{kind_of}
+use Rattle.j39_frame.specs.Origin.{is_same_name}
 use Rattle.j39_listen.specs.Heard.{Hearing}
 use Rattle.j39_reports.specs.declared.fault_news.telling.Telling.{Telling}
 use Rattle.j39_reports.specs.declared.fault_news.telling.Telling.TheVariants.{News, All}
@@ -22,12 +23,6 @@ faults_among hs = filter is_of_faults hs
 unfoldable pub last_from : ℕ → ℕ → List Hearing → Option Hearing
 last_from pgn source ms =
     last_or None (filter (λ h. h.message.pgn == pgn && h.message.source == source) ms)
-
-abbrev pub is_same_name : Option ℕ → Option ℕ → Bool
-is_same_name None None = true
-is_same_name None (Some b) = false
-is_same_name (Some a) None = false
-is_same_name (Some a) (Some b) = a == b
 
 -- it has other bytes or another NAME than what was said before, or nothing was
 abbrev pub says_other : Option Hearing → Hearing → Bool

@@ -3,15 +3,10 @@ use Rattle.std.specs.Prelude.{◌≡◌, ◌==◌, ◌&&◌, not, ℕ, ℤ, Bool
 use Rattle.std.specs.Int.{int_max, int_min}
 use Rattle.std.specs.List.{filter_map, list_any}
 use Rattle.std.specs.Str.{bytes_eq}
+use Rattle.j39_frame.specs.Origin.{is_same_name}
 use Rattle.j39_groups.specs.Value.{SlotRecord, ValueRecord, number, on, off, error, reserved, indicator, text}
 use Rattle.j39_listen.specs.Counting.{capped}
 use Rattle.j39_listen.specs.Report.{Entry}
-
-abbrev pub is_same_name : Option ℕ → Option ℕ → Bool
-is_same_name None None = true
-is_same_name None (Some b) = false
-is_same_name (Some a) None = false
-is_same_name (Some a) (Some b) = a == b
 
 -- two values are of one parameter of one controller: address, NAME, PGN and SPN are the same
 abbrev pub have_one_origin : Entry → Entry → Bool

@@ -1,7 +1,7 @@
 //! What was said last in a message of faults.
 ghost use Rattle.std.specs.Prelude.{◌≡◌, ◌≤◌, length, option_map, take};
 ghost use Rattle.j39_address.specs.Name.{name_raw};
-ghost use Rattle.j39_reports.specs.News.{is_same_name};
+ghost use Rattle.j39_frame.specs.Origin.{is_same_name};
 ghost use Rattle.j39_reports.specs.LastMessages.{is_said, said_by};
 
 use arrayvec::ArrayVec;
