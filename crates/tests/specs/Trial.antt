@@ -1,5 +1,5 @@
 -- The device for tests: what its calls set, and what it counts.
-use Rattle.std.specs.Prelude.{◌≡◌, ◌+◌, ◌^◌, ℕ, List, true, false, take, length}
+use Rattle.std.specs.Prelude.{◌≡◌, ◌+◌, ◌^◌, ℕ, Bool, List, true, false, take, length}
 use Rattle.tests.specs.declared.trial.Trial.{Trial}
 use Rattle.tests.specs.declared.trial.Full.{Full}
 use Rattle.tests.specs.declared.trial.Full.TheVariants.{Fails}
@@ -36,66 +36,29 @@ pub record IsFresh (trial : Trial) : Type 0 where
   pub fails_when_full : trial.full ≡ Fails
   pub no_failing_flush : trial.fails_flush ≡ false
 
-abbrev pub in_pieces_of : ℕ → Trial → Trial
-in_pieces_of most trial = record {
+-- the device with what calls set
+abbrev set : ℕ → ℕ → Full → Bool → Trial → Trial
+set most failing_read full fails_flush trial = record {
   given = trial.given;
   next = trial.next;
   most = most;
-  reads =
-      trial.reads;
-  failing_read = trial.failing_read;
-  room = trial.room;
-  held = trial.held;
-  full =
-      trial.full;
-  flushes = trial.flushes;
-  fails_flush = trial.fails_flush;
-}
-
-abbrev pub with_failing_read : ℕ → Trial → Trial
-with_failing_read nth trial = record {
-  given = trial.given;
-  next = trial.next;
-  most = trial.most;
-  reads =
-      trial.reads;
-  failing_read = nth;
-  room = trial.room;
-  held = trial.held;
-  full = trial.full;
-  flushes =
-      trial.flushes;
-  fails_flush = trial.fails_flush;
-}
-
-abbrev pub with_full : Full → Trial → Trial
-with_full full trial = record {
-  given = trial.given;
-  next = trial.next;
-  most = trial.most;
-  reads =
-      trial.reads;
-  failing_read = trial.failing_read;
+  reads = trial.reads;
+  failing_read = failing_read;
   room = trial.room;
   held = trial.held;
   full = full;
-  flushes =
-      trial.flushes;
-  fails_flush = trial.fails_flush;
+  flushes = trial.flushes;
+  fails_flush = fails_flush;
 }
 
+abbrev pub in_pieces_of : ℕ → Trial → Trial
+in_pieces_of most trial = set most trial.failing_read trial.full trial.fails_flush trial
+
+abbrev pub with_failing_read : ℕ → Trial → Trial
+with_failing_read nth trial = set trial.most nth trial.full trial.fails_flush trial
+
+abbrev pub with_full : Full → Trial → Trial
+with_full full trial = set trial.most trial.failing_read full trial.fails_flush trial
+
 abbrev pub with_failing_flush : Trial → Trial
-with_failing_flush trial = record {
-  given = trial.given;
-  next = trial.next;
-  most = trial.most;
-  reads =
-      trial.reads;
-  failing_read = trial.failing_read;
-  room = trial.room;
-  held = trial.held;
-  full =
-      trial.full;
-  flushes = trial.flushes;
-  fails_flush = true;
-}
+with_failing_flush trial = set trial.most trial.failing_read trial.full true trial
