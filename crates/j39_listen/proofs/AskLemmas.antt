@@ -6,7 +6,7 @@ use Rattle.j39_frame.specs.Frame.{FrameRecord}
 use Rattle.j39_log.specs.Log.{HasNoNewline, bus_of, ended, frames_of}
 use Rattle.j39_log.specs.Spelled.{Spelled, frame}
 use Rattle.j39_log.specs.Splitter.{EndsLine, HasBegun, IsRawLine}
-use Rattle.j39_log.specs.declared.splitter.RawLine.{RawLine}
+use Rattle.j39_log.specs.declared.reading.RawLine.{RawLine}
 use Rattle.j39_log.specs.declared.splitter.Splitter.{Splitter}
 use Rattle.j39_log.proofs.BusLemmas.{bus_of-append, ended-line, frames_of-append, spell-more, whole-more}
 use Rattle.j39_log.proofs.SplitterLemmas.{no_newline_append}

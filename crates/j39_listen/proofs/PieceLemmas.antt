@@ -7,7 +7,7 @@ use Rattle.j39_io.specs.Chars.{newline}
 use Rattle.j39_log.specs.Log.{HasNoNewline, IsLog}
 use Rattle.j39_log.specs.Spelled.{Spelled, Spells}
 use Rattle.j39_log.specs.Splitter.{EndsLine, HasBegun, IsRawLine}
-use Rattle.j39_log.specs.declared.splitter.RawLine.{RawLine}
+use Rattle.j39_log.specs.declared.reading.RawLine.{RawLine}
 use Rattle.j39_log.specs.declared.splitter.Splitter.{Splitter}
 use Rattle.j39_io.proofs.DeviceLemmas.{Appends-kept}
 use Rattle.j39_log.proofs.SplitterLemmas.{no_newline_append}

@@ -2,8 +2,8 @@
 use Rattle.std.specs.Prelude.{◌≡◌, ◌≢◌, ◌<◌, ◌+◌, ℕ, List, [], ◌++◌, Bool, true, false, Option, Some, None, length, take, nat_lt}
 use Rattle.j39_log.specs.Log.{HasNoNewline}
 use Rattle.j39_log.specs.Newline.{TakesLine}
-use Rattle.j39_log.specs.declared.splitter.RawLine.{RawLine}
-use Rattle.j39_log.specs.declared.splitter.RawLine.TheVariants.{Whole, Long}
+use Rattle.j39_log.specs.declared.reading.RawLine.{RawLine}
+use Rattle.j39_log.specs.declared.reading.RawLine.TheVariants.{Whole, Long}
 use Rattle.j39_log.specs.declared.splitter.Splitter.{Splitter}
 
 -- what is kept of a line: its first 256 bytes, and whether it has more

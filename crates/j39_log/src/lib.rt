@@ -3,16 +3,14 @@
 
 mod bus;
 mod canonical;
+mod fast;
 mod fields;
 mod kind;
-mod lanes;
-mod last_second;
 pub mod laws;
 mod line;
 mod newline;
-mod plain;
 mod printed;
-mod reader;
+mod reading;
 mod seconds;
 mod splitter;
 mod stamp_text;
@@ -20,10 +18,11 @@ mod text;
 
 pub use bus::Bus;
 pub use canonical::line_of;
+pub use fast::LastSecond;
 pub use kind::{OtherKind, kind_of};
-pub use last_second::LastSecond;
-pub use line::{LINE_LIMIT, Line, read_line};
+pub use line::{LINE_LIMIT, Line};
 pub use printed::is_printed;
+pub use reading::{RawLine, read_line};
 pub use seconds::Seconds;
-pub use splitter::{RawLine, Splitter};
+pub use splitter::Splitter;
 pub use stamp_text::push_stamp;

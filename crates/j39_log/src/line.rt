@@ -3,12 +3,11 @@ ghost use Rattle.std.specs.Prelude.{◌≡◌, ◌≢◌, ℕ, List, [], ◌∷�
 ghost use Rattle.j39_io.specs.Chars.{hash};
 ghost use Rattle.j39_log.specs.Line.{IsBody};
 ghost use Rattle.j39_log.specs.LineParts.{HasReadParts};
-ghost use Rattle.j39_log.specs.Spelled.{Spelled, Spells};
+ghost use Rattle.j39_log.specs.Spelled.{Spells};
 ghost use Rattle.j39_log.specs.LineRead.{spelled_of};
 
 use crate::bus::is_bus_name;
 use crate::fields::{Shape, shape_of};
-use crate::plain::read_plain;
 use crate::text::{frame_of, stamp_of};
 use j39_frame::{Frame, Stamp};
 
@@ -92,13 +91,4 @@ pub(crate) fn read_any(line: &[u8]) -> Line<'_>
             None => Line::Unread,
         },
     }
-}
-
-/// Reads a line of a log, which is given without its newline. A frame of any bus is a `Frame` here.
-#[inline(always)]
-pub fn read_line(line: &[u8]) -> Line<'_>
-    ensures reads { Spells line.now (spelled_of result) }
-    ensures only { (s : Spelled) → Spells line.now s → spelled_of result ≡ s }
-{
-    read_plain(line)
 }

@@ -1,16 +1,11 @@
 //! A log's lines, out of its bytes in pieces.
-ghost use Rattle.std.specs.Prelude.{◌≡◌, ◌<◌, ◌≤◌, ◌++◌, ℕ, List, [], length, IfSome, MatchOption, Some, false};
+ghost use Rattle.std.specs.Prelude.{◌≡◌, ◌<◌, ◌≤◌, ◌++◌, ℕ, List, [], length, MatchOption, false};
 ghost use Rattle.std.specs.Borrow.{sem};
 ghost use Rattle.std.specs.Io.BufRead.{Rests};
-ghost use Rattle.j39_log.specs.Line.{IsFrameLine};
-ghost use Rattle.j39_log.specs.LineRead.{spelled_of};
-ghost use Rattle.j39_log.specs.Spelled.{Spells};
 
 use crate::newline::split_line;
-use crate::reader::frame_on;
-use crate::{Bus, LINE_LIMIT, LastSecond, Line, read_line};
+use crate::{LINE_LIMIT, RawLine};
 use arrayvec::ArrayVec;
-use j39_frame::Frame;
 
 /// Cuts the bytes of a log, which come in pieces, into its lines. It keeps the first 256 bytes of
 /// the line that a piece breaks off, and whether the line has more.
@@ -20,43 +15,6 @@ pub struct Splitter {
     has_more: bool,
     // What is kept is a line that was handed out.
     has_ended: bool,
-}
-
-/// A line that was cut, out of its piece or out of what was kept.
-#[derive(Clone, Copy, Debug)]
-pub enum RawLine<'a> {
-    /// The line, of at most 256 bytes where it was kept.
-    Whole(&'a [u8]),
-    /// The first 256 bytes of one that was kept and has more.
-    Long(&'a [u8]),
-}
-
-impl<'a> RawLine<'a> {
-    ghost use Rattle.j39_log.specs.Splitter.{IsRawLine};
-
-    /// Reads the line.
-    #[inline(always)]
-    pub fn read(self) -> Line<'a>
-        ensures { (line : List ℕ) → IsRawLine self.entry line → Spells line (spelled_of result) }
-    {
-        match self {
-            RawLine::Whole(line) => read_line(line),
-            RawLine::Long(_) => Line::Unread,
-        }
-    }
-
-    /// The frame that the line spells, where it is one of this bus in the form and length of most lines. `None` says
-    /// nothing of the line: `read` reads it, whatever it is. The second of the line is kept for the next one.
-    #[inline(always)]
-    pub fn frame_on(self, second: &mut LastSecond, bus: &Option<Bus>) -> Option<Frame>
-        ensures { IfSome result (λ frame. (name : List ℕ) × (bus.now ≡ Some name)
-            × ((line : List ℕ) → IsRawLine self.entry line → IsFrameLine line name frame)) }
-    {
-        match (self, bus) {
-            (RawLine::Whole(line), Some(bus)) => frame_on(line, second, bus),
-            _ => None,
-        }
-    }
 }
 
 /// What a piece was to a splitter.

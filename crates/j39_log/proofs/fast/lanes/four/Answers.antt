@@ -1,0 +1,7 @@
+use Rattle.std.proofs.lemmas.Bool.{OnTrue_at}
+use Rattle.j39_log.proofs.LaneLemmas.{decoded_8}
+use Rattle.j39_log.proofs.fast.lanes.four.Goals as goal
+
+pub returns : goal.returns
+returns c =
+    decoded_8 c.args.digits.now c.hex_values-value.result c.told-digits c.fits-digits c.hex_values-value.ensures (OnTrue_at c.if-not-are_below.false c.are_below.ensures)

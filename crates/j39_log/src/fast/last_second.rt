@@ -1,0 +1,81 @@
+//! The second of the line before, which most lines share.
+ghost use Rattle.std.specs.Prelude.{◌≡◌, ◌++◌, ◌⊎◌, ℕ, List, length, take, IfSome, codes};
+ghost use Rattle.std.specs.Str.Parse.{AllDigits};
+ghost use Rattle.j39_frame.specs.Stamp.{stamp_micros};
+ghost use Rattle.j39_log.specs.LastSecond.{kept_text};
+ghost use Rattle.j39_log.specs.Text.{IsStampText};
+
+use crate::fast::plain::{decimals_of, second_of};
+use j39_frame::Stamp;
+use std::marker::Model;
+
+/// The second of the stamp that was read last, by the twelve bytes that each stamp within it begins with: most lines
+/// come within the second of the line before, and of theirs the decimals alone are read.
+#[derive(Debug, Drop)]
+pub struct LastSecond {
+    head: u64,
+    tail: u32,
+    micros: u64,
+}
+
+// A clause sees the microseconds before the second.
+impl Model for LastSecond {
+    ghost use Rattle.std.specs.Prelude.{ℕ, ◌<◌, ◌^◌};
+    ghost use Rattle.j39_log.specs.LastSecond.{IsSecond, kept_text};
+
+    ghost Value = { ℕ };
+
+    ghost view = { λ s. s.micros };
+
+    ghost invariant = { λ s. IsSecond (kept_text s.head s.tail) s.micros × (s.micros < 2 ^ 60) };
+}
+
+impl LastSecond {
+    /// The second 0.
+    pub fn new() -> LastSecond
+        ensures { result ≡ 0 }
+    {
+        LastSecond {
+            head: u64::from_le_bytes(*b"(0000000"),
+            tail: u32::from_le_bytes(*b"000."),
+            micros: 0,
+        }
+    }
+
+    /// The stamp that begins with `(`, ten digits, `.` and six digits, as `plain::stamp_of` reads it.
+    #[inline(always)]
+    pub(crate) fn stamp_of(&mut self, front: &[u8; 18]) -> Option<Stamp>
+        ensures { IfSome result (λ stamp. (cut : List ℕ) → AllDigits 10 cut → (length cut ≡ 0) ⊎ (length cut ≡ 3)
+            → IsStampText (front.now ++ (cut ++ codes ")")) (stamp_micros stamp)) }
+    {
+        let (head, tail) = words_of(front)?;
+        if head != self.head || tail != self.tail {
+            return self.turn_to(front);
+        }
+        let more = decimals_of(front)?;
+        Stamp::new(self.micros + more)
+    }
+
+    /// Reads a stamp whole, and turns to its second.
+    #[inline(never)]
+    fn turn_to(&mut self, front: &[u8; 18]) -> Option<Stamp>
+        ensures { IfSome result (λ stamp. (cut : List ℕ) → AllDigits 10 cut → (length cut ≡ 0) ⊎ (length cut ≡ 3)
+            → IsStampText (front.now ++ (cut ++ codes ")")) (stamp_micros stamp)) }
+    {
+        let micros = second_of(front)?;
+        let more = decimals_of(front)?;
+        let (head, tail) = words_of(front)?;
+        *self = LastSecond { head, tail, micros };
+        Stamp::new(micros + more)
+    }
+}
+
+/// The first twelve bytes as two numbers, which are compared at once.
+#[inline(always)]
+fn words_of(front: &[u8; 18]) -> Option<(u64, u32)>
+    ensures { IfSome result (λ words. kept_text words.0 words.1 ≡ take 12 front.now) }
+{
+    let (head, rest) = front.as_slice().split_first_chunk::<8>()?;
+    let (tail, _) = rest.split_first_chunk::<4>()?;
+    Some((u64::from_le_bytes(*head), u32::from_le_bytes(*tail)))
+}
