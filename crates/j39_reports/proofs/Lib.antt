@@ -1,5 +1,7 @@
 -- the calendar
 mod CalendarLemmas
+-- parts that stand one behind the other
+pub mod PartLemmas
 -- the report as records: a message's records, and the account
 pub mod RecordLemmas
 pub mod RecordsAccount

@@ -1,15 +1,10 @@
 -- The line of a row, part by part.
-use Rattle.std.proofs.Common.{◌≡◌, ◌≤◌, ◌<◌, ◌+◌, ◌^◌, ◌++◌, ◌∷◌, ℕ, suc, List, [], Option, Some, length, take, drop, map, append-nil, append_assoc, ap, sym, ◌∙◌, subst, refl}
+use Rattle.std.proofs.Common.{◌≡◌, ◌≤◌, ◌<◌, ◌+◌, ◌^◌, ◌++◌, ◌∷◌, ℕ, suc, List, [], Some, length, take, drop, map, append-nil, append_assoc, ap, sym, ◌∙◌, refl}
 use Rattle.std.specs.Fmt.{decimal}
-use Rattle.std.specs.Prelude.{Result, OnErr, OnOk, slice_get}
+use Rattle.std.specs.Prelude.{slice_get}
 use Rattle.std.specs.List.{flat_map}
 use Rattle.std.proofs.lemmas.List.Folds.{flat_map-map}
 use Rattle.std.proofs.lemmas.Option.{get_or_from_slice_get}
-use Rattle.std.specs.Io.KnownBytes.{Appends}
-use Rattle.std.proofs.KnownBytes.{Appends-trans}
-use Rattle.j39_io.specs.Device.{AppendsFront}
-use Rattle.j39_io.proofs.DeviceLemmas.{front_first, front_within, on_err, on_err_from}
-use Rattle.j39_groups.proofs.ReadLemmas.{on_ok_from}
 use Rattle.j39_groups.proofs.ListLemmas.{flat_map-at}
 use Rattle.j39_groups.proofs.TextLemmas.{decimal_short}
 use Rattle.j39_groups.proofs.VisitLemmas.{flat_map-next}
@@ -22,16 +17,6 @@ use Rattle.j39_reports.specs.declared.summaries.rows.RowForm.{RowForm}
 
 pub short_decimal : (n : ℕ) → n < 2 ^ 64 → length (decimal n) ≤ 20
 short_decimal n fits = decimal_short n fits
-
--- two parts, one behind the other
-pub both : {T E : Type 0} (r : Result T E) (a b c : Option (List ℕ)) (x y all : List ℕ) → all ≡ x ++ y → Appends a b x → OnOk r (Appends b c y) → OnOk r (Appends a c all)
-both r a b c x y all is first = on_ok_from r _ _ (λ then. subst (Appends a c) (sym is) (Appends-trans a b c x y first then))
-
-pub front_of_both : {T E : Type 0} (r : Result T E) (a b c : Option (List ℕ)) (x y all : List ℕ) → all ≡ x ++ y → Appends a b x → OnErr r (AppendsFront b c y) → OnErr r (AppendsFront a c all)
-front_of_both r a b c x y all is first = on_err_from r _ _ (λ then. front_within a b c x y [] all (is ∙ ap (λ t. x ++ t) (sym (append-nil y))) first then)
-
-pub front_of_first : {T E : Type 0} (r : Result T E) (a b : Option (List ℕ)) (x y all : List ℕ) → all ≡ x ++ y → AppendsFront a b x → OnErr r (AppendsFront a b all)
-front_of_first r a b x y all is front = on_err r _ (front_first a b x y all is front)
 
 -- the parts of a range, joined
 pub range_joined : (least space most unit : List ℕ) → least ++ space ++ most ++ space ++ unit ≡ flat_map (λ (part : List ℕ). part) (least ∷ space ∷ most ∷ space ∷ unit ∷ [])

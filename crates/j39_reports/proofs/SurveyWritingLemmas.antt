@@ -1,5 +1,5 @@
 -- A survey, written.
-use Rattle.std.proofs.Common.{◌≡◌, ◌+◌, ◌++◌, ◌<◌, ◌-◌, ℕ, zero, suc, List, [], ◌∷◌, Option, length, refl, sym, ap, ◌∙◌, append-nil, append_assoc, arith, subst, ◌≢◌}
+use Rattle.std.proofs.Common.{◌≡◌, ◌+◌, ◌++◌, ◌<◌, ◌-◌, ℕ, zero, suc, Bool, List, [], ◌∷◌, Option, length, map, refl, sym, ap, ◌∙◌, append-nil, append_assoc, arith, subst, ◌≢◌}
 use Rattle.std.specs.Prelude.{codes, decimal, OnOk, Result, Ok, Err}
 use Rattle.std.specs.List.{flat_map}
 use Rattle.std.specs.Io.KnownBytes.{Appends}
@@ -13,45 +13,14 @@ use Rattle.j39_groups.specs.Row.{RowRecord}
 use Rattle.j39_reports.specs.GroupCounts.{GroupRecord, group_of}
 use Rattle.j39_groups.specs.Names.{group_name_in}
 use Rattle.j39_io.specs.Chars.{newline}
-use Rattle.j39_reports.specs.LogLines.{LogLine, frames_of, others_in, seen_in, unread_in}
-use Rattle.j39_reports.specs.SurveyModels.{HasSurveyed, interface_record, shown_record}
-use Rattle.j39_reports.specs.UnreadLines.{is_printed_log}
-use Rattle.j39_reports.specs.SurveyText.{class_text, group_text, groups_below, groups_end, groups_text, interface_text, interfaces_text, lines_text, name_text, others_text, printed_text, shown_text, survey_text, told_text, unread_text, untold_text}
+use Rattle.j39_reports.specs.LogLines.{LogLine, others_in, seen_in, unread_in}
+use Rattle.j39_reports.specs.SurveyModels.{HasSurveyed, interface_record, others_record, shown_record}
+use Rattle.j39_reports.specs.UnreadLines.{is_printed_log, shown_in}
+use Rattle.j39_reports.specs.SurveyText.{class_text, group_text, groups_below, groups_end, groups_text, name_text, survey_end, survey_head}
 use Rattle.j39_listen.specs.Counting.{capped}
-use Rattle.j39_reports.specs.Interfaces.{untold_in}
+use Rattle.j39_reports.specs.Interfaces.{interfaces_of, untold_in}
 use Rattle.j39_reports.specs.OtherLines.{others_of}
-use Rattle.j39_reports.specs.declared.surveys.interfaces.InterfaceCounts.{InterfaceCounts}
-use Rattle.j39_reports.specs.declared.surveys.unread.UnreadLine.{UnreadLine}
 use Rattle.j39_reports.specs.declared.surveys.log_survey.Survey.{Survey}
-
--- ---- a text in parts, one after the other
-
--- of the whole text these bytes are written, and the rest is left
-pub record HasWritten (all done rest : List ℕ) (old new : Option (List ℕ)) : Type 0 where
-  pub cut : all ≡ done ++ rest
-  pub written : Appends old new done
-
-pub begins : (all : List ℕ) (held : Option (List ℕ)) → HasWritten all [] all held held
-begins all held = record { cut = refl; written = Appends-nil held }
-
-pub goes_on : (all done part rest : List ℕ) (old mid new : Option (List ℕ)) → HasWritten all done (part ++ rest) old mid → Appends mid new part → HasWritten all (done ++ part) rest old new
-goes_on all done part rest old mid new h here = record {
-  cut = h.cut ∙ sym (append_assoc done part rest);
-  written = Appends-trans old mid new done part h.written here;
-}
-
-pub stops : (all done part rest : List ℕ) (old mid new : Option (List ℕ)) → HasWritten all done (part ++ rest) old mid → AppendsFront mid new part → AppendsFront old new all
-stops all done part rest old mid new h here = front_within old mid new done part rest all h.cut h.written here
-
-pub stops_last : (all done part : List ℕ) (old mid new : Option (List ℕ)) → HasWritten all done part old mid → AppendsFront mid new part → AppendsFront old new all
-stops_last all done part old mid new h here = front_within old mid new done part [] all (h.cut ∙ ap (λ t. done ++ t) (sym (append-nil part))) h.written here
-
-pub ends : (all done part : List ℕ) (old mid new : Option (List ℕ)) → HasWritten all done part old mid → Appends mid new part → Appends old new all
-ends all done part old mid new h here = subst (Appends old new) (sym h.cut) (Appends-trans old mid new done part h.written here)
-
--- nothing of a text
-pub front_none : (held : Option (List ℕ)) (text : List ℕ) → AppendsFront held held text
-front_none held text = ([], text, refl, Appends-nil held)
 
 -- ---- the groups
 
@@ -114,95 +83,39 @@ pub group_is : (table : List RowRecord) (pgn frames addresses : ℕ) → frames 
 unfolding group_text
 group_is table pgn frames addresses some = rw (ne_eqb frames 0 some) refl
 
+-- the parts that are joined
+pub group_joined : (table : List RowRecord) (pgn frames addresses : ℕ) (head class space name : List ℕ) → frames ≢ 0 → head ≡ head_text pgn frames addresses
+    → class ≡ class_text table pgn → space ++ name ≡ name_text (group_name_in table pgn)
+    → head ++ (class ++ (space ++ (name ++ (newline ∷ [])))) ≡ group_text table pgn (record { frames = frames; addresses = addresses })
+group_joined table pgn frames addresses head class space name some head_is class_is name_is =
+    ap (λ t. t ++ (class ++ (space ++ (name ++ (newline ∷ []))))) head_is
+    ∙ ap (λ t. head_text pgn frames addresses ++ (t ++ (space ++ (name ++ (newline ∷ []))))) class_is
+    ∙ ap (λ t. head_text pgn frames addresses ++ (class_text table pgn ++ t)) (sym (append_assoc space name (newline ∷ [])) ∙ ap (λ t. t ++ (newline ∷ [])) name_is)
+    ∙ sym (group_is table pgn frames addresses some)
+
 -- ---- the whole
 
 pub on_ok : {T E : Type 0} (r : Result T E) (P : Type 0) → P → OnOk r P
 on_ok (Ok x) P p = p
 on_ok (Err e) P p = tt
 
-abbrev pub part1 : List RowRecord → List LogLine → List ℕ
-part1 table lines = lines_text (capped (length lines))
+-- a line for each item of a slice is one for what each of them shows
+pub each_line : {X Y : Type 0} (line : Y → List ℕ) (shown : X → Y) (slice items : List X) → slice ≡ items → flat_map (λ x. line (shown x)) slice ≡ flat_map line (map shown items)
+each_line line shown slice items is = ap (flat_map (λ x. line (shown x))) is ∙ sym (flat_map-map line shown items)
 
-abbrev pub part2 : List RowRecord → List LogLine → List ℕ
-part2 table lines = interfaces_text (seen_in lines)
+pub head_is : (survey : Survey) (lines : List LogLine) → HasSurveyed survey lines
+    → survey_head survey.lines (map interface_record survey.interfaces.told.items) survey.interfaces.untold
+    ≡ survey_head (capped (length lines)) (interfaces_of (seen_in lines)) (capped (untold_in (seen_in lines)))
+head_is survey lines h =
+    ap (λ n. survey_head n (map interface_record survey.interfaces.told.items) survey.interfaces.untold) h.lines_are
+    ∙ ap (λ told. survey_head (capped (length lines)) told survey.interfaces.untold) h.interfaces_are.told_are
+    ∙ ap (survey_head (capped (length lines)) (interfaces_of (seen_in lines))) h.interfaces_are.untold_is
 
-abbrev pub part3 : List RowRecord → List LogLine → List ℕ
-part3 table lines = untold_text (capped (untold_in (seen_in lines)))
-
-abbrev pub part4 : List RowRecord → List LogLine → List ℕ
-part4 table lines = groups_text table (frames_of (seen_in lines))
-
-abbrev pub part5 : List RowRecord → List LogLine → List ℕ
-part5 table lines = others_text (others_of (others_in lines))
-
-abbrev pub part6 : List RowRecord → List LogLine → List ℕ
-part6 table lines = unread_text (capped (length (unread_in lines)))
-
-abbrev pub part7 : List RowRecord → List LogLine → List ℕ
-part7 table lines = told_text (unread_in lines)
-
-abbrev pub part8 : List RowRecord → List LogLine → List ℕ
-part8 table lines = printed_text (is_printed_log lines)
-
--- what follows each part
-abbrev pub rest7 : List RowRecord → List LogLine → List ℕ
-rest7 table lines = part8 table lines
-
-abbrev pub rest6 : List RowRecord → List LogLine → List ℕ
-rest6 table lines = part7 table lines ++ rest7 table lines
-
-abbrev pub rest5 : List RowRecord → List LogLine → List ℕ
-rest5 table lines = part6 table lines ++ rest6 table lines
-
-abbrev pub rest4 : List RowRecord → List LogLine → List ℕ
-rest4 table lines = part5 table lines ++ rest5 table lines
-
-abbrev pub rest3 : List RowRecord → List LogLine → List ℕ
-rest3 table lines = part4 table lines ++ rest4 table lines
-
-abbrev pub rest2 : List RowRecord → List LogLine → List ℕ
-rest2 table lines = part3 table lines ++ rest3 table lines
-
-abbrev pub rest1 : List RowRecord → List LogLine → List ℕ
-rest1 table lines = part2 table lines ++ rest2 table lines
-
-abbrev pub rest0 : List RowRecord → List LogLine → List ℕ
-rest0 table lines = part1 table lines ++ rest1 table lines
-
--- what stands before it
-abbrev pub done1 : List RowRecord → List LogLine → List ℕ
-done1 table lines = [] ++ part1 table lines
-
-abbrev pub done2 : List RowRecord → List LogLine → List ℕ
-done2 table lines = done1 table lines ++ part2 table lines
-
-abbrev pub done3 : List RowRecord → List LogLine → List ℕ
-done3 table lines = done2 table lines ++ part3 table lines
-
-abbrev pub done4 : List RowRecord → List LogLine → List ℕ
-done4 table lines = done3 table lines ++ part4 table lines
-
-abbrev pub done5 : List RowRecord → List LogLine → List ℕ
-done5 table lines = done4 table lines ++ part5 table lines
-
-abbrev pub done6 : List RowRecord → List LogLine → List ℕ
-done6 table lines = done5 table lines ++ part6 table lines
-
-abbrev pub done7 : List RowRecord → List LogLine → List ℕ
-done7 table lines = done6 table lines ++ part7 table lines
-
-pub survey_begins : (table : List RowRecord) (lines : List LogLine) (held : Option (List ℕ)) → HasWritten (survey_text table lines) [] (rest0 table lines) held held
-unfolding survey_text
-survey_begins table lines held = begins (rest0 table lines) held
-
-pub interfaces_is : (told : List InterfaceCounts) (survey : Survey) (lines : List LogLine) → HasSurveyed survey lines → told ≡ survey.interfaces.told.items
-    → flat_map (λ i. interface_text (interface_record i)) told ≡ interfaces_text (seen_in lines)
-interfaces_is told survey lines h is =
-    ap (flat_map (λ i. interface_text (interface_record i))) is ∙ sym (flat_map-map interface_text interface_record survey.interfaces.told.items)
-    ∙ ap (flat_map interface_text) h.interfaces_are.told_are
-
-pub told_is : (first : List UnreadLine) (survey : Survey) (lines : List LogLine) → HasSurveyed survey lines → first ≡ survey.unread.first.items
-    → flat_map (λ line. shown_text (shown_record line)) first ≡ told_text (unread_in lines)
-told_is first survey lines h is =
-    ap (flat_map (λ line. shown_text (shown_record line))) is ∙ sym (flat_map-map shown_text shown_record survey.unread.first.items)
-    ∙ ap (flat_map shown_text) h.unread_are.first_are
+pub end_is : (survey : Survey) (lines : List LogLine) (is_printed : Bool) → HasSurveyed survey lines → is_printed ≡ is_printed_log lines
+    → survey_end (others_record survey.others) survey.unread.count (map shown_record survey.unread.first.items) is_printed
+    ≡ survey_end (others_of (others_in lines)) (capped (length (unread_in lines))) (shown_in (unread_in lines)) (is_printed_log lines)
+end_is survey lines is_printed h printed =
+    ap (λ others. survey_end others survey.unread.count (map shown_record survey.unread.first.items) is_printed) h.others_are
+    ∙ ap (λ n. survey_end (others_of (others_in lines)) n (map shown_record survey.unread.first.items) is_printed) h.unread_are.count_is
+    ∙ ap (λ first. survey_end (others_of (others_in lines)) (capped (length (unread_in lines))) first is_printed) h.unread_are.first_are
+    ∙ ap (survey_end (others_of (others_in lines)) (capped (length (unread_in lines))) (shown_in (unread_in lines))) printed

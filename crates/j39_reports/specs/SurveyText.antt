@@ -10,7 +10,7 @@ use Rattle.j39_listen.specs.Counting.{capped}
 use Rattle.j39_log.specs.StampText.{stamp_text}
 use Rattle.j39_reports.specs.GroupCounts.{GroupRecord, group_of, is_of_network}
 use Rattle.j39_reports.specs.Interfaces.{InterfaceRecord, interfaces_of, untold_in}
-use Rattle.j39_reports.specs.LogLines.{LogLine, Seen, UnreadRecord, frames_of, others_in, seen_in, unread_in}
+use Rattle.j39_reports.specs.LogLines.{LogLine, frames_of, others_in, seen_in, unread_in}
 use Rattle.j39_reports.specs.OtherLines.{OthersRecord, others_of}
 use Rattle.j39_reports.specs.UnreadLines.{ShownRecord, is_printed_log, shown_in}
 use Rattle.j39_io.specs.Chars.{backslash, newline}
@@ -28,8 +28,9 @@ interface_text i =
 abbrev pub untold_text : ℕ → List ℕ
 untold_text n = if n == 0 then [] else codes "elsewhere frames " ++ decimal n ++ (newline ∷ [])
 
-abbrev pub interfaces_text : List Seen → List ℕ
-interfaces_text seen = flat_map interface_text (interfaces_of seen)
+-- how many lines there are, the interfaces, and the frames of those that are not told
+unfoldable pub survey_head : ℕ → List InterfaceRecord → ℕ → List ℕ
+survey_head lines told untold = lines_text lines ++ flat_map interface_text told ++ untold_text untold
 
 -- read by a table, needed by the network, or heard in packets alone
 abbrev pub class_text : List RowRecord → ℕ → List ℕ
@@ -83,18 +84,19 @@ shown_text line =
 abbrev pub unread_text : ℕ → List ℕ
 unread_text n = codes "unread " ++ decimal n ++ (newline ∷ [])
 
-abbrev pub told_text : List UnreadRecord → List ℕ
-told_text unread = flat_map shown_text (shown_in unread)
-
 abbrev pub printed_text : Bool → List ℕ
 printed_text is_printed =
     if is_printed then codes "this is plain candump output, not candump -L" ++ (newline ∷ []) else []
 
--- the lines, the interfaces, the groups, the other lines, the unread ones, and a word on plain output of candump
+-- the other lines, how many are unread, the first of them, and a word on plain output of candump
+unfoldable pub survey_end : OthersRecord → ℕ → List ShownRecord → Bool → List ℕ
+survey_end others unread first is_printed =
+    others_text others ++ unread_text unread ++ flat_map shown_text first ++ printed_text is_printed
+
+-- the lines and the interfaces, the groups, and what is not of a frame
 unfoldable pub survey_text : List RowRecord → List LogLine → List ℕ
 survey_text table lines =
-    lines_text (capped (length lines)) ++ (interfaces_text (seen_in lines)
-    ++ (untold_text (capped (untold_in (seen_in lines)))
-    ++ (groups_text table (frames_of (seen_in lines)) ++ (others_text (others_of (others_in lines))
-    ++ (unread_text (capped (length (unread_in lines)))
-    ++ (told_text (unread_in lines) ++ printed_text (is_printed_log lines)))))))
+    survey_head (capped (length lines)) (interfaces_of (seen_in lines)) (capped (untold_in (seen_in lines)))
+    ++ groups_text table (frames_of (seen_in lines))
+    ++ survey_end (others_of (others_in lines)) (capped (length (unread_in lines))) (shown_in (unread_in lines))
+    (is_printed_log lines)

@@ -3,6 +3,7 @@
 
 mod columns;
 pub mod fault_news;
+mod parts;
 mod report_records;
 pub mod summaries;
 pub mod surveys;

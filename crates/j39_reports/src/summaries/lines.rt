@@ -1,7 +1,6 @@
 //! The lines of a summary.
 ghost use Rattle.std.specs.Prelude.{◌≡◌, ◌+◌, ◌≤◌, ◌++◌, ◌∷◌, [], OnOk, OnErr, Some, codes, decimal, map};
 ghost use Rattle.std.specs.Option.{option_map};
-ghost use Rattle.std.specs.List.{flat_map};
 ghost use Rattle.std.specs.Io.KnownBytes.{Appends};
 ghost use Rattle.arrayvec.specs.ArrayVec.{array_vec_len};
 ghost use Rattle.j39_memory.specs.ByOrigin.{pairs_of};
@@ -12,6 +11,7 @@ ghost use Rattle.j39_reports.specs.RowText.{called_in, first_text, head_text, la
 ghost use Rattle.j39_reports.specs.RowModels.{kept_value, range_of_span, row_shown};
 
 use crate::columns::push_name_or_dashes;
+use crate::parts::put_parts;
 use crate::summaries::deeds::{Deeds, Span};
 use crate::summaries::kept::Kept;
 use crate::summaries::records::put_record;
@@ -208,20 +208,6 @@ fn put_span<W: Sink>(span: &Span<'_>, sink: &mut W) -> Result<(), DeviceFault>
         span.measure.unit(),
     ];
     put_parts(&parts, sink)
-}
-
-/// Writes these parts.
-pub(crate) fn put_parts<W: Sink>(parts: &[&[u8]], sink: &mut W) -> Result<(), DeviceFault>
-    ensures ok { OnOk result (Appends (W.written sink.old) (W.written sink.new)
-        (flat_map (λ part. part.now) parts.now)) }
-    ensures err { OnErr result (AppendsFront (W.written sink.old) (W.written sink.new)
-        (flat_map (λ part. part.now) parts.now)) }
-    ensures mark { Marks result (W.has_failed sink.old) (W.has_failed sink.new) }
-{
-    for part in parts {
-        put_all(sink, part)?;
-    }
-    Ok(())
 }
 
 /// Writes a value: a number without its unit.

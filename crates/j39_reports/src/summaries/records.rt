@@ -9,9 +9,10 @@ ghost use Rattle.j39_groups.specs.ValueText.{bare_text};
 ghost use Rattle.j39_reports.specs.RowText.{bounds_fields, count_fields, counted_fields, first_fields, last_fields, named_fields, origin_fields, range_fields, row_record, values_fields};
 ghost use Rattle.j39_reports.specs.RowModels.{kept_value, range_of_span, row_shown};
 
+use crate::parts::put_parts;
 use crate::summaries::deeds::{Deeds, Span};
 use crate::summaries::kept::Kept;
-use crate::summaries::lines::{put_kept, put_parts};
+use crate::summaries::lines::put_kept;
 use arrayvec::ArrayVec;
 use j39_frame::Origin;
 use crate::columns::{push_name, push_seconds};

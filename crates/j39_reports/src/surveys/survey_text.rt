@@ -5,7 +5,7 @@ ghost use Rattle.arrayvec.specs.ArrayVec.{array_vec_len};
 ghost use Rattle.j39_log.specs.StampText.{stamp_text};
 ghost use Rattle.j39_io.specs.Chars.{newline};
 ghost use Rattle.j39_reports.specs.SurveyModels.{interface_record, others_record, shown_record};
-ghost use Rattle.j39_reports.specs.SurveyText.{byte_text, interface_text, others_text, shown_text};
+ghost use Rattle.j39_reports.specs.SurveyText.{byte_text, interface_text, others_text, shown_text, unread_text, untold_text};
 
 use crate::surveys::interfaces::InterfaceCounts;
 use crate::surveys::others::Others;
@@ -66,19 +66,32 @@ pub(crate) fn interface_line(interface: &InterfaceCounts) -> ArrayVec<u8, 144>
     line
 }
 
-/// The line of the other lines, by kind.
-#[tactic(auto, unfolding(crate::specs::SurveyText::others_text))]
-pub(crate) fn others_line(others: &Others) -> ArrayVec<u8, 144>
-    ensures { result.items ≡ others_text (others_record others.now) }
+/// The line of the frames of the interfaces that are not told, where there are some.
+pub(crate) fn untold_line(frames: u64) -> ArrayVec<u8, 64>
+    ensures { result.items ≡ untold_text frames }
 {
-    let mut line = ArrayVec::new();
-    push_field(&mut line, b"other standard ", others.standard);
-    push_field(&mut line, b" remote ", others.remote);
-    push_field(&mut line, b" fd ", others.flexible);
-    push_field(&mut line, b" error ", others.error);
-    push_field(&mut line, b" odd ", others.odd);
-    line.push(b'\n');
-    line
+    if frames == 0 {
+        ArrayVec::new()
+    } else {
+        number_line(b"elsewhere frames ", frames)
+    }
+}
+
+/// The line of the other lines, by kind, and the line that says how many are unread.
+#[tactic(auto, unfolding(crate::specs::SurveyText::others_text))]
+pub(crate) fn counts_lines(others: &Others, unread: u64) -> ArrayVec<u8, 176>
+    ensures { result.items ≡ others_text (others_record others.now) ++ unread_text unread }
+{
+    let mut lines = ArrayVec::new();
+    push_field(&mut lines, b"other standard ", others.standard);
+    push_field(&mut lines, b" remote ", others.remote);
+    push_field(&mut lines, b" fd ", others.flexible);
+    push_field(&mut lines, b" error ", others.error);
+    push_field(&mut lines, b" odd ", others.odd);
+    lines.push(b'\n');
+    push_field(&mut lines, b"unread ", unread);
+    lines.push(b'\n');
+    lines
 }
 
 /// What the line of a group begins with: its number, its frames and the addresses that sent them.

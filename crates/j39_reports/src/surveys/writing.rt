@@ -1,24 +1,28 @@
 //! A survey, written.
-ghost use Rattle.std.specs.Prelude.{◌≡◌, ◌<◌, List, true, OnOk, OnErr};
+ghost use Rattle.std.specs.Prelude.{◌≡◌, ◌<◌, ◌++◌, List, true, map, OnOk, OnErr};
 ghost use Rattle.std.specs.Io.KnownBytes.{Appends};
 ghost use Rattle.std.specs.List.{flat_map};
-ghost use Rattle.std.specs.Option.{option_copied};
 ghost use Rattle.j39_io.specs.Device.{AppendsFront, Marks};
 ghost use Rattle.j39_frame.specs.Frame.{FrameRecord};
 ghost use Rattle.j39_frame.specs.Pgn.{pgn_raw};
+ghost use Rattle.j39_groups.specs.Names.{group_name_in};
 ghost use Rattle.j39_reports.specs.LogLines.{LogLine};
-ghost use Rattle.j39_reports.specs.SurveyModels.{HasSurveyed, HaveCounted, interface_record, shown_record};
+ghost use Rattle.j39_reports.specs.SurveyModels.{HasSurveyed, HaveCounted, interface_record, others_record, shown_record};
 ghost use Rattle.j39_reports.specs.UnreadLines.{is_printed_log};
-ghost use Rattle.j39_reports.specs.SurveyText.{class_text, group_text, groups_text, interface_text, name_text, printed_text, shown_text, survey_text, untold_text};
+ghost use Rattle.j39_reports.specs.SurveyText.{class_text, group_text, groups_text, interface_text, name_text, printed_text, shown_text, survey_end, survey_head, survey_text};
 
+use crate::parts::put_parts;
 use crate::surveys::group_table::GroupTable;
-use crate::surveys::interfaces::InterfaceCounts;
+use crate::surveys::interfaces::{InterfaceCounts, Interfaces};
 use crate::surveys::log_survey::Survey;
-use crate::surveys::survey_text::{group_head, interface_line, number_line, others_line, shown_line};
-use crate::surveys::unread::UnreadLine;
-use j39_io::{DeviceFault, Sink, put_all};
+use crate::surveys::others::Others;
+use crate::surveys::survey_text::{
+    counts_lines, group_head, interface_line, number_line, shown_line, untold_line,
+};
+use crate::surveys::unread::{UnreadLine, UnreadLines};
 use j39_frame::Pgn;
 use j39_groups::{Groups, is_network_group};
+use j39_io::{DeviceFault, Sink, put_all};
 
 /// Writes the survey of all lines, and passes it on. After a fault a front was written.
 pub(crate) fn put_survey<W: Sink>(
@@ -33,17 +37,9 @@ pub(crate) fn put_survey<W: Sink>(
     ensures flushed { OnOk result (W.is_flushed sink.new ≡ true) }
     ensures mark { Marks result (W.has_failed sink.old) (W.has_failed sink.new) }
 {
-    put_all(sink, number_line(b"lines ", survey.lines).as_slice())?;
-    put_interfaces(survey.interfaces.told.as_slice(), sink)?;
-    put_untold(survey.interfaces.untold, sink)?;
+    put_head(survey.lines, &survey.interfaces, sink)?;
     put_groups(groups, &survey.groups, sink)?;
-    put_all(sink, others_line(&survey.others).as_slice())?;
-    put_all(
-        sink,
-        number_line(b"unread ", survey.unread.count).as_slice(),
-    )?;
-    put_unread(survey.unread.first.as_slice(), sink)?;
-    put_printed(is_printed(survey), sink)?;
+    put_end(&survey.others, &survey.unread, is_printed(survey), sink)?;
     sink.flush()
 }
 
@@ -52,6 +48,19 @@ fn is_printed(survey: &Survey) -> bool
     ensures { (lines : List LogLine) → HasSurveyed survey.now lines → result ≡ is_printed_log lines }
 {
     0 < survey.unread.count && !survey.has_log_line && survey.unread.are_printed
+}
+
+/// Writes how many lines there are, the interfaces, and how many frames are of none of these.
+fn put_head<W: Sink>(lines: u64, interfaces: &Interfaces, sink: &mut W) -> Result<(), DeviceFault>
+    ensures ok { OnOk result (Appends (W.written sink.old) (W.written sink.new)
+        (survey_head lines (map interface_record interfaces.now.told.items) interfaces.now.untold)) }
+    ensures err { OnErr result (AppendsFront (W.written sink.old) (W.written sink.new)
+        (survey_head lines (map interface_record interfaces.now.told.items) interfaces.now.untold)) }
+    ensures mark { Marks result (W.has_failed sink.old) (W.has_failed sink.new) }
+{
+    put_all(sink, number_line(b"lines ", lines).as_slice())?;
+    put_interfaces(interfaces.told.as_slice(), sink)?;
+    put_all(sink, untold_line(interfaces.untold).as_slice())
 }
 
 /// Writes a line for each interface.
@@ -66,18 +75,6 @@ fn put_interfaces<W: Sink>(told: &[InterfaceCounts], sink: &mut W) -> Result<(),
         put_all(sink, interface_line(interface).as_slice())?;
     }
     Ok(())
-}
-
-/// Writes how many frames are of none of these, where there are some.
-fn put_untold<W: Sink>(frames: u64, sink: &mut W) -> Result<(), DeviceFault>
-    ensures ok { OnOk result (Appends (W.written sink.old) (W.written sink.new) (untold_text frames)) }
-    ensures err { OnErr result (AppendsFront (W.written sink.old) (W.written sink.new) (untold_text frames)) }
-    ensures mark { Marks result (W.has_failed sink.old) (W.has_failed sink.new) }
-{
-    if frames == 0 {
-        return Ok(());
-    }
-    put_all(sink, number_line(b"elsewhere frames ", frames).as_slice())
 }
 
 /// Writes a line for each group that has frames, rising.
@@ -138,14 +135,14 @@ fn put_group<W: Sink>(
     if frames == 0 {
         return Ok(());
     }
-    put_all(sink, group_head(pgn.raw(), frames, addresses).as_slice())?;
-    put_all(sink, class_of(groups, pgn))?;
-    put_name(groups.group_name(pgn), sink)?;
-    put_all(sink, b"\n")
+    let head = group_head(pgn.raw(), frames, addresses);
+    let (space, name) = name_of(groups, pgn);
+    let parts: [&[u8]; 5] = [head.as_slice(), class_of(groups, pgn), space, name, b"\n"];
+    put_parts(&parts, sink)
 }
 
 /// Whether the table reads a group, or the network needs it, or it is heard in packets alone.
-fn class_of(groups: &Groups<'_>, pgn: Pgn) -> &'static [u8]
+fn class_of<'r>(groups: &'r Groups<'_>, pgn: Pgn) -> &'r [u8]
     ensures { result.now ≡ class_text groups.now (pgn_raw pgn) }
 {
     if groups.is_reported(pgn) {
@@ -157,20 +154,34 @@ fn class_of(groups: &Groups<'_>, pgn: Pgn) -> &'static [u8]
     }
 }
 
-/// Writes what the table calls a group, where it lists it.
-fn put_name<W: Sink>(name: Option<&[u8]>, sink: &mut W) -> Result<(), DeviceFault>
-    ensures ok { OnOk result (Appends (W.written sink.old) (W.written sink.new) (name_text (option_copied name.entry))) }
+/// What the table calls a group, behind a space; both are empty where it lists none.
+fn name_of<'r>(groups: &'r Groups<'_>, pgn: Pgn) -> (&'r [u8], &'r [u8])
+    ensures { result.0.now ++ result.1.now ≡ name_text (group_name_in groups.now (pgn_raw pgn)) }
+{
+    let nothing: &[u8] = b"";
+    let space: &[u8] = b" ";
+    match groups.group_name(pgn) {
+        None => (nothing, nothing),
+        Some(name) => (space, name),
+    }
+}
+
+/// Writes the other lines, how many lines are unread, the first of them, and whether all is plain output of `candump`.
+fn put_end<W: Sink>(
+    others: &Others,
+    unread: &UnreadLines,
+    is_printed: bool,
+    sink: &mut W,
+) -> Result<(), DeviceFault>
+    ensures ok { OnOk result (Appends (W.written sink.old) (W.written sink.new)
+        (survey_end (others_record others.now) unread.now.count (map shown_record unread.now.first.items) is_printed)) }
     ensures err { OnErr result (AppendsFront (W.written sink.old) (W.written sink.new)
-        (name_text (option_copied name.entry))) }
+        (survey_end (others_record others.now) unread.now.count (map shown_record unread.now.first.items) is_printed)) }
     ensures mark { Marks result (W.has_failed sink.old) (W.has_failed sink.new) }
 {
-    match name {
-        None => Ok(()),
-        Some(name) => {
-            put_all(sink, b" ")?;
-            put_all(sink, name)
-        }
-    }
+    put_all(sink, counts_lines(others, unread.count).as_slice())?;
+    put_unread(unread.first.as_slice(), sink)?;
+    put_all(sink, printed_line(is_printed))
 }
 
 /// Writes a line for each of these unread lines.
@@ -187,15 +198,13 @@ fn put_unread<W: Sink>(first: &[UnreadLine], sink: &mut W) -> Result<(), DeviceF
     Ok(())
 }
 
-/// Says that a log is plain output of `candump`, where it is.
-fn put_printed<W: Sink>(is_printed: bool, sink: &mut W) -> Result<(), DeviceFault>
-    ensures ok { OnOk result (Appends (W.written sink.old) (W.written sink.new) (printed_text is_printed)) }
-    ensures err { OnErr result (AppendsFront (W.written sink.old) (W.written sink.new) (printed_text is_printed)) }
-    ensures mark { Marks result (W.has_failed sink.old) (W.has_failed sink.new) }
+/// What says that a log is plain output of `candump`, where it is.
+fn printed_line(is_printed: bool) -> &'static [u8]
+    ensures { result.now ≡ printed_text is_printed }
 {
     if is_printed {
-        put_all(sink, b"this is plain candump output, not candump -L\n")
+        b"this is plain candump output, not candump -L\n"
     } else {
-        Ok(())
+        b""
     }
 }

@@ -1,7 +1,7 @@
 use Rattle.std.proofs.Common.{◌++◌, ◌∙◌, ap, sym}
 use Rattle.j39_reports.specs.RowText.{row_text, values_text}
 use Rattle.j39_reports.specs.RowModels.{row_shown}
-use Rattle.j39_reports.proofs.SummaryLineLemmas.{both, front_of_both, front_of_first}
+use Rattle.j39_reports.proofs.PartLemmas.{both, front_of_both, front_of_first}
 use Rattle.j39_reports.proofs.summaries.lines.put_row.Goals as goal
 
 pub returns-clause-written : goal.returns-clause-written

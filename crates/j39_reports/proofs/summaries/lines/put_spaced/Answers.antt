@@ -1,7 +1,7 @@
 use Rattle.std.proofs.Common.{◌∷◌, [], refl}
 use Rattle.j39_groups.specs.ValueText.{bare_text}
 use Rattle.j39_reports.specs.RowModels.{kept_value}
-use Rattle.j39_reports.proofs.SummaryLineLemmas.{front_of_both, front_of_first}
+use Rattle.j39_reports.proofs.PartLemmas.{front_of_both, front_of_first}
 use Rattle.j39_reports.proofs.summaries.lines.put_spaced.Goals as goal
 
 pub returns-clause-front : goal.returns-clause-front

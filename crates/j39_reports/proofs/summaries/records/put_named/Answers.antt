@@ -2,7 +2,7 @@ use Rattle.std.proofs.Common.{◌++◌, ap, sym}
 use Rattle.j39_reports.specs.RowText.{counted_fields, named_fields}
 use Rattle.j39_io.specs.Records.{later_text}
 use Rattle.j39_reports.specs.RowModels.{row_shown}
-use Rattle.j39_reports.proofs.SummaryLineLemmas.{both, front_of_both, front_of_first}
+use Rattle.j39_reports.proofs.PartLemmas.{both, front_of_both, front_of_first}
 use Rattle.j39_reports.proofs.summaries.records.put_named.Goals as goal
 
 pub returns-clause-written : goal.returns-clause-written

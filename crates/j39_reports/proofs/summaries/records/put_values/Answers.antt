@@ -1,6 +1,6 @@
 use Rattle.std.proofs.Common.{refl}
 use Rattle.j39_reports.specs.RowText.{values_fields}
-use Rattle.j39_reports.proofs.SummaryLineLemmas.{both, front_of_both, front_of_first}
+use Rattle.j39_reports.proofs.PartLemmas.{both, front_of_both, front_of_first}
 use Rattle.j39_reports.proofs.summaries.records.put_values.Goals as goal
 
 pub returns-clause-written : goal.returns-clause-written

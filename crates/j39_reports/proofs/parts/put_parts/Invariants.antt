@@ -1,7 +1,7 @@
 use Rattle.std.proofs.Common.{◌≡◌, take}
 use Rattle.std.specs.Io.KnownBytes.{Appends}
 use Rattle.std.specs.List.{flat_map}
-use Rattle.j39_reports.proofs.summaries.lines.put_parts.Given as goal
+use Rattle.j39_reports.proofs.parts.put_parts.Given as goal
 
 -- the parts so far are written, and no fault came
 abbrev pub invariant-loop-part : goal.invariant-loop-part
