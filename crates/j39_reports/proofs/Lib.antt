@@ -1,7 +1,8 @@
 -- the calendar
 mod CalendarLemmas
--- parts that stand one behind the other
+-- parts that stand one behind the other, and how long numbers are
 pub mod PartLemmas
+pub mod NumberLemmas
 -- the report as records: a message's records, and the account
 pub mod RecordLemmas
 pub mod RecordsAccount
@@ -22,8 +23,7 @@ pub mod FaultLineLemmas
 pub mod HeardLemmas
 pub mod FaultAccountLemmas
 pub mod PutLemmas
--- surveys: lists and numbers
-pub mod SurveyTextLemmas
+-- surveys: lists
 pub mod FirstsLemmas
 pub mod CountLemmas
 -- surveys: the parts of a survey, a line or a frame more

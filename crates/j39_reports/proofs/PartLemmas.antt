@@ -1,16 +1,12 @@
 -- What was written of two or three parts that stand one behind the other: all of them, or a front.
 use Rattle.std.proofs.Common.{◌≡◌, ◌++◌, ℕ, List, [], Option, append-nil, append_assoc, ap, sym, ◌∙◌, subst}
-use Rattle.std.specs.Prelude.{Result, OnErr, OnOk}
+use Rattle.std.specs.Prelude.{Result, OnErr}
 use Rattle.std.specs.Io.KnownBytes.{Appends}
 use Rattle.std.proofs.KnownBytes.{Appends-trans}
 use Rattle.j39_io.specs.Device.{AppendsFront}
 use Rattle.j39_io.proofs.DeviceLemmas.{front_first, front_within, on_err, on_err_from}
-use Rattle.j39_groups.proofs.ReadLemmas.{on_ok_from}
 
 -- ---- two parts, of which a call wrote the second
-
-pub both : {T E : Type 0} (r : Result T E) (a b c : Option (List ℕ)) (x y all : List ℕ) → all ≡ x ++ y → Appends a b x → OnOk r (Appends b c y) → OnOk r (Appends a c all)
-both r a b c x y all is first = on_ok_from r _ _ (λ then. subst (Appends a c) (sym is) (Appends-trans a b c x y first then))
 
 pub front_of_both : {T E : Type 0} (r : Result T E) (a b c : Option (List ℕ)) (x y all : List ℕ) → all ≡ x ++ y → Appends a b x → OnErr r (AppendsFront b c y) → OnErr r (AppendsFront a c all)
 front_of_both r a b c x y all is first = on_err_from r _ _ (λ then. front_within a b c x y [] all (is ∙ ap (λ t. x ++ t) (sym (append-nil y))) first then)

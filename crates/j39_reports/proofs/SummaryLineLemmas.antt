@@ -1,12 +1,10 @@
--- The line of a row, part by part.
-use Rattle.std.proofs.Common.{◌≡◌, ◌≤◌, ◌<◌, ◌+◌, ◌^◌, ◌++◌, ◌∷◌, ℕ, suc, List, [], Some, length, take, drop, map, append-nil, append_assoc, ap, sym, ◌∙◌, refl}
-use Rattle.std.specs.Fmt.{decimal}
+-- The rows of a summary, one after the other.
+use Rattle.std.proofs.Common.{◌≡◌, ◌<◌, ◌+◌, ◌++◌, ℕ, suc, List, Some, length, take, drop, map, ap, sym, ◌∙◌}
 use Rattle.std.specs.Prelude.{slice_get}
 use Rattle.std.specs.List.{flat_map}
 use Rattle.std.proofs.lemmas.List.Folds.{flat_map-map}
 use Rattle.std.proofs.lemmas.Option.{get_or_from_slice_get}
 use Rattle.j39_groups.proofs.ListLemmas.{flat_map-at}
-use Rattle.j39_groups.proofs.TextLemmas.{decimal_short}
 use Rattle.j39_groups.proofs.VisitLemmas.{flat_map-next}
 use Rattle.j39_groups.specs.Row.{RowRecord}
 use Rattle.j39_reports.specs.RowText.{row_in, summary_text}
@@ -14,19 +12,6 @@ use Rattle.j39_reports.specs.RowModels.{row_shown}
 use Rattle.j39_reports.specs.declared.summaries.deeds.Deeds.{Deeds}
 use Rattle.j39_frame.specs.declared.origin.Origin.{Origin}
 use Rattle.j39_reports.specs.declared.summaries.rows.RowForm.{RowForm}
-
-pub short_decimal : (n : ℕ) → n < 2 ^ 64 → length (decimal n) ≤ 20
-short_decimal n fits = decimal_short n fits
-
--- the parts of a range, joined
-pub range_joined : (least space most unit : List ℕ) → least ++ space ++ most ++ space ++ unit ≡ flat_map (λ (part : List ℕ). part) (least ∷ space ∷ most ∷ space ∷ unit ∷ [])
-range_joined least space most unit = simp (append_assoc, append-nil) refl
-
--- the parts of the bounds, joined
-pub bounds_joined : (comma least most : List ℕ) → comma ++ least ++ comma ++ most ≡ flat_map (λ (part : List ℕ). part) (comma ∷ least ∷ comma ∷ most ∷ [])
-bounds_joined comma least most = simp (append_assoc, append-nil) refl
-
--- ---- row by row
 
 abbrev line : RowForm → List RowRecord → Origin × Deeds → List ℕ
 line form groups row = row_in form groups (row_shown row)

@@ -1,11 +1,12 @@
--- The text of a summary (own).
+-- The text of a summary (own): each row as a line, or as a record of comma-separated values (RFC 4180).
 use Rattle.std.specs.Prelude.{◌++◌, ◌∷◌, ℕ, List, [], Option, None, Some, codes, decimal, unwrap_or}
-use Rattle.std.specs.List.{flat_map}
+use Rattle.std.specs.List.{concat, flat_map}
 use Rattle.hex.specs.Hex.{encode_upper}
 use Rattle.j39_io.specs.Chars.{newline}
 use Rattle.j39_log.specs.StampText.{stamp_text}
 use Rattle.j39_groups.specs.Names.{name_in}
 use Rattle.j39_groups.specs.Row.{RowRecord}
+use Rattle.j39_groups.specs.Value.{ValueRecord}
 use Rattle.j39_groups.specs.ValueText.{bare_text, scaled_text}
 use Rattle.j39_reports.specs.Columns.{name_field, seconds_text}
 use Rattle.j39_io.specs.Records.{later_text, line_end}
@@ -15,43 +16,16 @@ use Rattle.j39_reports.specs.Summary.{Range, Row}
 use Rattle.j39_reports.specs.declared.summaries.rows.RowForm.{RowForm}
 use Rattle.j39_reports.specs.declared.summaries.rows.RowForm.TheVariants.{Line, Record}
 
--- the least number, the most, and their unit; dashes where there is no number
-unfoldable pub range_text : Option Range → List ℕ
-range_text None = codes "- - -"
-range_text (Some r) =
-    scaled_text r.slot.places r.least ++ codes " " ++ scaled_text r.slot.places r.most ++ codes " " ++ r.slot.unit
+-- ---- what a row begins with
 
--- address, NAME, PGN, SPN, how many values, how many of them words, the stamps of the first and the last
-unfoldable pub head_text : Row → List ℕ
-head_text row =
+-- of a line: address, NAME, PGN, SPN, how many values, how many of them words, the stamps of the first and the last
+unfoldable pub line_head : Row → List ℕ
+line_head row =
     encode_upper (row.first.address ∷ []) ++ codes " " ++ name_text row.first.name ++ codes " " ++ decimal row.first.pgn
     ++ codes " " ++ decimal row.first.spn ++ codes " " ++ decimal row.count ++ codes " " ++ decimal row.words
-    ++ codes " " ++ stamp_text row.first.stamp ++ codes " " ++ stamp_text row.last.stamp ++ codes " "
+    ++ codes " " ++ stamp_text row.first.stamp ++ codes " " ++ stamp_text row.last.stamp
 
--- what the table calls a parameter, or a dash
-abbrev pub called_in : List RowRecord → ℕ → ℕ → List ℕ
-called_in groups pgn spn = unwrap_or (name_in groups pgn spn) (codes "-")
-
--- from the last value on
-unfoldable pub last_text : List RowRecord → Row → List ℕ
-last_text groups row = (codes " " ++ bare_text row.last.value)
-    ++ (codes " " ++ (called_in groups row.first.pgn row.first.spn ++ (newline ∷ [])))
-
--- from the first value on
-unfoldable pub first_text : List RowRecord → Row → List ℕ
-first_text groups row = (codes " " ++ bare_text row.first.value) ++ last_text groups row
-
--- from the range on
-unfoldable pub values_text : List RowRecord → Row → List ℕ
-values_text groups row = range_text row.range ++ first_text groups row
-
--- the line of a row, with its newline: the head, the range, the first value, the last, and what the parameter is called
-unfoldable pub row_text : List RowRecord → Row → List ℕ
-row_text groups row = head_text row ++ values_text groups row
-
--- ---- the same as a record of comma-separated values (RFC 4180)
-
--- the names of its columns
+-- the names of a record's columns
 abbrev pub summary_columns : List ℕ
 summary_columns =
     codes "address,name,pgn,spn,parameter,values,words,first_stamp,first_utc,last_stamp,last_utc,least,most,unit,first,last\r\n"
@@ -69,43 +43,65 @@ count_fields row =
     ++ codes "," ++ seconds_text row.first.stamp ++ codes "," ++ utc_text row.first.stamp
     ++ codes "," ++ seconds_text row.last.stamp ++ codes "," ++ utc_text row.last.stamp
 
-unfoldable pub bounds_fields : Range → List ℕ
-bounds_fields r = codes "," ++ scaled_text r.slot.places r.least ++ codes "," ++ scaled_text r.slot.places r.most
+-- of a record: the origin, what the parameter is called, nothing where the table lists none, and the counts
+unfoldable pub record_head : List RowRecord → Row → List ℕ
+record_head groups row =
+    origin_fields row ++ later_text (unwrap_or (name_in groups row.first.pgn row.first.spn) []) ++ count_fields row
 
--- the least number, the most, and their unit; empty where there is no number
-unfoldable pub range_fields : Option Range → List ℕ
-range_fields None = codes ",,,"
-range_fields (Some r) = bounds_fields r ++ later_text r.slot.unit
+unfoldable pub head_in : RowForm → List RowRecord → Row → List ℕ
+head_in Line groups row = line_head row
+head_in Record groups row = record_head groups row
 
--- from the last value on
-unfoldable pub last_fields : Row → List ℕ
-last_fields row = (codes "," ++ bare_text row.last.value) ++ line_end
+-- ---- the numbers and the values
 
--- from the first value on
-unfoldable pub first_fields : Row → List ℕ
-first_fields row = (codes "," ++ bare_text row.first.value) ++ last_fields row
+-- what stands before a column
+unfoldable pub separator_of : RowForm → List ℕ
+separator_of Line = codes " "
+separator_of Record = codes ","
 
--- from the range on
-unfoldable pub values_fields : Row → List ℕ
-values_fields row = range_fields row.range ++ first_fields row
+-- where there is no number
+unfoldable pub no_range : RowForm → List ℕ
+no_range Line = codes " - - -"
+no_range Record = codes ",,,"
 
--- from the counts on
-unfoldable pub counted_fields : Row → List ℕ
-counted_fields row = count_fields row ++ values_fields row
+-- the least number and the most
+unfoldable pub bounds_in : RowForm → Range → List ℕ
+bounds_in form r =
+    concat (separator_of form ∷ scaled_text r.slot.places r.least
+    ∷ separator_of form ∷ scaled_text r.slot.places r.most ∷ [])
 
--- from what the parameter is called on; nothing where the table lists none
-unfoldable pub named_fields : List RowRecord → Row → List ℕ
-named_fields groups row = later_text (unwrap_or (name_in groups row.first.pgn row.first.spn) []) ++ counted_fields row
+-- their unit
+unfoldable pub unit_in : RowForm → List ℕ → List ℕ
+unit_in Line unit = codes " " ++ unit
+unit_in Record unit = later_text unit
 
--- the record of a row
-unfoldable pub row_record : List RowRecord → Row → List ℕ
-row_record groups row = origin_fields row ++ named_fields groups row
+unfoldable pub range_in : RowForm → Option Range → List ℕ
+range_in form None = no_range form
+range_in form (Some r) = bounds_in form r ++ unit_in form r.slot.unit
 
--- ---- in either form
+unfoldable pub value_in : RowForm → ValueRecord → List ℕ
+value_in form value = separator_of form ++ bare_text value
 
-abbrev pub row_in : RowForm → List RowRecord → Row → List ℕ
-row_in Line groups row = row_text groups row
-row_in Record groups row = row_record groups row
+-- the range, the first value and the last
+unfoldable pub values_in : RowForm → Option Range → ValueRecord → ValueRecord → List ℕ
+values_in form range first last = range_in form range ++ value_in form first ++ value_in form last
+
+-- ---- what a row ends with
+
+-- what the table calls a parameter, or a dash
+abbrev pub called_in : List RowRecord → ℕ → ℕ → List ℕ
+called_in groups pgn spn = unwrap_or (name_in groups pgn spn) (codes "-")
+
+unfoldable pub end_in : RowForm → List RowRecord → ℕ → ℕ → List ℕ
+end_in Line groups pgn spn = codes " " ++ (called_in groups pgn spn ++ (newline ∷ []))
+end_in Record groups pgn spn = line_end
+
+-- ---- the whole
+
+unfoldable pub row_in : RowForm → List RowRecord → Row → List ℕ
+row_in form groups row =
+    head_in form groups row ++ values_in form row.range row.first.value row.last.value
+    ++ end_in form groups row.first.pgn row.first.spn
 
 abbrev pub summary_text : RowForm → List RowRecord → List Row → List ℕ
 summary_text form groups rows = flat_map (row_in form groups) rows

@@ -1,28 +1,27 @@
-//! The lines of a summary.
-ghost use Rattle.std.specs.Prelude.{◌≡◌, ◌+◌, ◌≤◌, ◌++◌, ◌∷◌, [], OnOk, OnErr, Some, codes, decimal, map};
+//! The rows of a summary, as lines or as records.
+ghost use Rattle.std.specs.Prelude.{◌≡◌, ◌++◌, ◌∷◌, [], OnOk, OnErr, Some, codes, map};
 ghost use Rattle.std.specs.Option.{option_map};
 ghost use Rattle.std.specs.Io.KnownBytes.{Appends};
-ghost use Rattle.arrayvec.specs.ArrayVec.{array_vec_len};
 ghost use Rattle.j39_memory.specs.ByOrigin.{pairs_of};
 ghost use Rattle.j39_io.specs.Device.{AppendsFront, Marks};
 ghost use Rattle.j39_io.specs.Chars.{newline};
 ghost use Rattle.j39_groups.specs.ValueText.{bare_text};
-ghost use Rattle.j39_reports.specs.RowText.{called_in, first_text, head_text, last_text, range_text, row_in, row_text, summary_text, values_text};
+ghost use Rattle.j39_reports.specs.RowText.{bounds_in, called_in, end_in, head_in, line_head, no_range, range_in, row_in, separator_of, summary_text, unit_in, value_in, values_in};
 ghost use Rattle.j39_reports.specs.RowModels.{kept_value, range_of_span, row_shown};
 
-use crate::columns::push_name_or_dashes;
+use crate::columns::{push_behind, push_name_or_dashes};
 use crate::parts::put_parts;
 use crate::summaries::deeds::{Deeds, Span};
 use crate::summaries::kept::Kept;
-use crate::summaries::records::put_record;
+use crate::summaries::records::put_record_head;
 use crate::summaries::rows::RowForm;
 use arrayvec::ArrayVec;
 use j39_frame::Origin;
-use j39_memory::ByOrigin;
-use j39_io::{DeviceFault, Sink, put_all};
 use j39_groups::{Groups, Value, put_value, scaled_text};
+use j39_io::printing::push_hex;
+use j39_io::{DeviceFault, Sink, put_all, put_behind_comma};
 use j39_log::push_stamp;
-use j39_io::printing::{push_hex, push_number};
+use j39_memory::ByOrigin;
 
 /// Writes a line for each row, or a record, in their order.
 pub(crate) fn put_rows<W: Sink>(
@@ -39,13 +38,14 @@ pub(crate) fn put_rows<W: Sink>(
 {
     for at in 0..rows.len() {
         let (origin, deeds) = rows.pair_at(at);
-        put_row_in(form, origin, deeds, groups, sink)?;
+        put_row(form, origin, deeds, groups, sink)?;
     }
     Ok(())
 }
 
-/// Writes the line of a row, or its record.
-fn put_row_in<W: Sink>(
+/// Writes a row: what it begins with, the range and the values, and what it ends with.
+#[tactic(auto, unfolding(crate::specs::RowText::row_in))]
+fn put_row<W: Sink>(
     form: RowForm,
     origin: Origin,
     deeds: &Deeds<'_>,
@@ -58,161 +58,171 @@ fn put_row_in<W: Sink>(
         (row_in form groups.now (row_shown (origin, deeds.now)))) }
     ensures mark { Marks result (W.has_failed sink.old) (W.has_failed sink.new) }
 {
+    put_head(form, origin, deeds, groups, sink)?;
+    put_values(form, deeds, sink)?;
+    put_end(form, groups, origin, sink)
+}
+
+/// Writes what a row begins with.
+#[tactic(auto, unfolding(crate::specs::RowText::head_in))]
+fn put_head<W: Sink>(
+    form: RowForm,
+    origin: Origin,
+    deeds: &Deeds<'_>,
+    groups: &Groups<'_>,
+    sink: &mut W,
+) -> Result<(), DeviceFault>
+    ensures written { OnOk result (Appends (W.written sink.old) (W.written sink.new)
+        (head_in form groups.now (row_shown (origin, deeds.now)))) }
+    ensures front { OnErr result (AppendsFront (W.written sink.old) (W.written sink.new)
+        (head_in form groups.now (row_shown (origin, deeds.now)))) }
+    ensures mark { Marks result (W.has_failed sink.old) (W.has_failed sink.new) }
+{
     match form {
-        RowForm::Line => put_row(origin, deeds, groups, sink),
-        RowForm::Record => put_record(origin, deeds, groups, sink),
+        RowForm::Line => put_all(sink, line_head_of(origin, deeds).as_slice()),
+        RowForm::Record => put_record_head(origin, deeds, groups, sink),
     }
 }
 
-/// Writes the line of a row.
-fn put_row<W: Sink>(
-    origin: Origin,
-    deeds: &Deeds<'_>,
-    groups: &Groups<'_>,
-    sink: &mut W,
-) -> Result<(), DeviceFault>
-    ensures written { OnOk result (Appends (W.written sink.old) (W.written sink.new)
-        (row_text groups.now (row_shown (origin, deeds.now)))) }
-    ensures front { OnErr result (AppendsFront (W.written sink.old) (W.written sink.new)
-        (row_text groups.now (row_shown (origin, deeds.now)))) }
-    ensures mark { Marks result (W.has_failed sink.old) (W.has_failed sink.new) }
-{
-    put_all(sink, head_of(origin, deeds).as_slice())?;
-    put_values(origin, deeds, groups, sink)
-}
-
-/// Writes the line of a row from the range on.
-fn put_values<W: Sink>(
-    origin: Origin,
-    deeds: &Deeds<'_>,
-    groups: &Groups<'_>,
-    sink: &mut W,
-) -> Result<(), DeviceFault>
-    ensures written { OnOk result (Appends (W.written sink.old) (W.written sink.new)
-        (values_text groups.now (row_shown (origin, deeds.now)))) }
-    ensures front { OnErr result (AppendsFront (W.written sink.old) (W.written sink.new)
-        (values_text groups.now (row_shown (origin, deeds.now)))) }
-    ensures mark { Marks result (W.has_failed sink.old) (W.has_failed sink.new) }
-{
-    put_range(&deeds.range, sink)?;
-    put_first(origin, deeds, groups, sink)
-}
-
-/// Writes the line of a row from the first value on.
-fn put_first<W: Sink>(
-    origin: Origin,
-    deeds: &Deeds<'_>,
-    groups: &Groups<'_>,
-    sink: &mut W,
-) -> Result<(), DeviceFault>
-    ensures written { OnOk result (Appends (W.written sink.old) (W.written sink.new)
-        (first_text groups.now (row_shown (origin, deeds.now)))) }
-    ensures front { OnErr result (AppendsFront (W.written sink.old) (W.written sink.new)
-        (first_text groups.now (row_shown (origin, deeds.now)))) }
-    ensures mark { Marks result (W.has_failed sink.old) (W.has_failed sink.new) }
-{
-    put_spaced(&deeds.first.value, sink)?;
-    put_last(origin, deeds, groups, sink)
-}
-
-/// Writes the line of a row from the last value on.
-fn put_last<W: Sink>(
-    origin: Origin,
-    deeds: &Deeds<'_>,
-    groups: &Groups<'_>,
-    sink: &mut W,
-) -> Result<(), DeviceFault>
-    ensures written { OnOk result (Appends (W.written sink.old) (W.written sink.new)
-        (last_text groups.now (row_shown (origin, deeds.now)))) }
-    ensures front { OnErr result (AppendsFront (W.written sink.old) (W.written sink.new)
-        (last_text groups.now (row_shown (origin, deeds.now)))) }
-    ensures mark { Marks result (W.has_failed sink.old) (W.has_failed sink.new) }
-{
-    put_spaced(&deeds.last.value, sink)?;
-    put_name(groups, origin.pgn, origin.spn, sink)
-}
-
-/// Writes a space and a value.
-fn put_spaced<W: Sink>(kept: &Kept<'_>, sink: &mut W) -> Result<(), DeviceFault>
-    ensures written { OnOk result (Appends (W.written sink.old) (W.written sink.new)
-        (codes " " ++ bare_text (kept_value kept.now))) }
-    ensures front { OnErr result (AppendsFront (W.written sink.old) (W.written sink.new)
-        (codes " " ++ bare_text (kept_value kept.now))) }
-    ensures mark { Marks result (W.has_failed sink.old) (W.has_failed sink.new) }
-{
-    put_all(sink, b" ")?;
-    put_kept(kept, sink)
-}
-
 /// What the line of a row begins with.
-#[tactic(auto, unfolding(crate::specs::RowText::head_text))]
-fn head_of(origin: Origin, deeds: &Deeds<'_>) -> ArrayVec<u8, 160>
-    ensures { result.items ≡ head_text (row_shown (origin, deeds.now)) }
+#[tactic(auto, unfolding(crate::specs::RowText::line_head))]
+fn line_head_of(origin: Origin, deeds: &Deeds<'_>) -> ArrayVec<u8, 160>
+    ensures { result.items ≡ line_head (row_shown (origin, deeds.now)) }
 {
     let mut head = ArrayVec::new();
     push_hex(&mut head, &[origin.address]);
     head.push(b' ');
     push_name_or_dashes(&mut head, origin.name);
-    push_spaced(&mut head, u64::from(origin.pgn));
-    push_spaced(&mut head, u64::from(origin.spn));
-    push_spaced(&mut head, deeds.count);
-    push_spaced(&mut head, deeds.words);
+    push_behind(&mut head, b' ', u64::from(origin.pgn));
+    push_behind(&mut head, b' ', u64::from(origin.spn));
+    push_behind(&mut head, b' ', deeds.count);
+    push_behind(&mut head, b' ', deeds.words);
     head.push(b' ');
     push_stamp(&mut head, deeds.first.stamp);
     head.push(b' ');
     push_stamp(&mut head, deeds.last.stamp);
-    head.push(b' ');
     head
 }
 
-/// Appends a space and a number, of 20 digits at most.
-#[tactic(auto, using(crate::proofs::SummaryLineLemmas::short_decimal))]
-fn push_spaced<const N: usize>(line: &mut ArrayVec<u8, N>, number: u64)
-    requires { array_vec_len line.old + 21 ≤ N }
-    ensures items { line.new.items ≡ line.old.items ++ 32 ∷ [] ++ decimal number }
-    ensures len { array_vec_len line.new ≤ array_vec_len line.old + 21 }
+/// Writes the least number, the most and their unit, the first value and the last.
+#[tactic(auto, unfolding(crate::specs::RowText::values_in))]
+fn put_values<W: Sink>(form: RowForm, deeds: &Deeds<'_>, sink: &mut W) -> Result<(), DeviceFault>
+    ensures written { OnOk result (Appends (W.written sink.old) (W.written sink.new)
+        (values_in form (option_map range_of_span deeds.now.range) (kept_value deeds.now.first.value)
+        (kept_value deeds.now.last.value))) }
+    ensures front { OnErr result (AppendsFront (W.written sink.old) (W.written sink.new)
+        (values_in form (option_map range_of_span deeds.now.range) (kept_value deeds.now.first.value)
+        (kept_value deeds.now.last.value))) }
+    ensures mark { Marks result (W.has_failed sink.old) (W.has_failed sink.new) }
 {
-    line.push(b' ');
-    push_number(line, number);
+    put_range(form, &deeds.range, sink)?;
+    put_column(form, &deeds.first.value, sink)?;
+    put_column(form, &deeds.last.value, sink)
 }
 
-/// Writes the least number, the most and their unit, or dashes.
-#[tactic(auto, unfolding(crate::specs::RowText::range_text))]
-fn put_range<W: Sink>(range: &Option<Span<'_>>, sink: &mut W) -> Result<(), DeviceFault>
+/// Writes the least number, the most and their unit, or what stands where there is no number.
+#[tactic(auto, unfolding(crate::specs::RowText::range_in))]
+fn put_range<W: Sink>(
+    form: RowForm,
+    range: &Option<Span<'_>>,
+    sink: &mut W,
+) -> Result<(), DeviceFault>
     ensures written { OnOk result (Appends (W.written sink.old) (W.written sink.new)
-        (range_text (option_map range_of_span range.now))) }
+        (range_in form (option_map range_of_span range.now))) }
     ensures front { OnErr result (AppendsFront (W.written sink.old) (W.written sink.new)
-        (range_text (option_map range_of_span range.now))) }
+        (range_in form (option_map range_of_span range.now))) }
     ensures mark { Marks result (W.has_failed sink.old) (W.has_failed sink.new) }
 {
     match range {
-        None => put_all(sink, b"- - -"),
-        Some(span) => put_span(span, sink),
+        None => put_all(sink, no_range(form)),
+        Some(span) => put_span(form, span, sink),
     }
 }
 
-fn put_span<W: Sink>(span: &Span<'_>, sink: &mut W) -> Result<(), DeviceFault>
+/// What stands where there is no number.
+#[tactic(auto, unfolding(crate::specs::RowText::no_range))]
+fn no_range(form: RowForm) -> &'static [u8]
+    ensures { result.now ≡ no_range form }
+{
+    match form {
+        RowForm::Line => b" - - -",
+        RowForm::Record => b",,,",
+    }
+}
+
+#[tactic(auto, unfolding(crate::specs::RowText::range_in))]
+fn put_span<W: Sink>(form: RowForm, span: &Span<'_>, sink: &mut W) -> Result<(), DeviceFault>
     ensures written { OnOk result (Appends (W.written sink.old) (W.written sink.new)
-        (range_text (Some (range_of_span span.now)))) }
+        (range_in form (Some (range_of_span span.now)))) }
     ensures front { OnErr result (AppendsFront (W.written sink.old) (W.written sink.new)
-        (range_text (Some (range_of_span span.now)))) }
+        (range_in form (Some (range_of_span span.now)))) }
     ensures mark { Marks result (W.has_failed sink.old) (W.has_failed sink.new) }
 {
+    put_bounds(form, span, sink)?;
+    put_unit(form, span.measure.unit(), sink)
+}
+
+/// Writes the least number and the most.
+#[tactic(auto, unfolding(crate::specs::RowText::bounds_in))]
+fn put_bounds<W: Sink>(form: RowForm, span: &Span<'_>, sink: &mut W) -> Result<(), DeviceFault>
+    ensures written { OnOk result (Appends (W.written sink.old) (W.written sink.new)
+        (bounds_in form (range_of_span span.now))) }
+    ensures front { OnErr result (AppendsFront (W.written sink.old) (W.written sink.new)
+        (bounds_in form (range_of_span span.now))) }
+    ensures mark { Marks result (W.has_failed sink.old) (W.has_failed sink.new) }
+{
+    let between = separator(form);
     let least = scaled_text(span.least, span.measure.places());
     let most = scaled_text(span.most, span.measure.places());
-    let parts: [&[u8]; 5] = [
-        least.as_slice(),
-        b" ",
-        most.as_slice(),
-        b" ",
-        span.measure.unit(),
-    ];
+    let parts: [&[u8]; 4] = [between, least.as_slice(), between, most.as_slice()];
     put_parts(&parts, sink)
+}
+
+/// Writes the unit of the numbers, in a record in quotes where it must be.
+#[tactic(auto, unfolding(crate::specs::RowText::unit_in))]
+fn put_unit<W: Sink>(form: RowForm, unit: &[u8], sink: &mut W) -> Result<(), DeviceFault>
+    ensures written { OnOk result (Appends (W.written sink.old) (W.written sink.new)
+        (unit_in form unit.now)) }
+    ensures front { OnErr result (AppendsFront (W.written sink.old) (W.written sink.new)
+        (unit_in form unit.now)) }
+    ensures mark { Marks result (W.has_failed sink.old) (W.has_failed sink.new) }
+{
+    match form {
+        RowForm::Line => {
+            let parts: [&[u8]; 2] = [b" ", unit];
+            put_parts(&parts, sink)
+        }
+        RowForm::Record => put_behind_comma(unit, sink),
+    }
+}
+
+/// Writes a value, behind what stands before a column.
+#[tactic(auto, unfolding(crate::specs::RowText::value_in))]
+fn put_column<W: Sink>(form: RowForm, kept: &Kept<'_>, sink: &mut W) -> Result<(), DeviceFault>
+    ensures written { OnOk result (Appends (W.written sink.old) (W.written sink.new)
+        (value_in form (kept_value kept.now))) }
+    ensures front { OnErr result (AppendsFront (W.written sink.old) (W.written sink.new)
+        (value_in form (kept_value kept.now))) }
+    ensures mark { Marks result (W.has_failed sink.old) (W.has_failed sink.new) }
+{
+    put_all(sink, separator(form))?;
+    put_kept(kept, sink)
+}
+
+/// What stands before a column.
+#[tactic(auto, unfolding(crate::specs::RowText::separator_of))]
+fn separator(form: RowForm) -> &'static [u8]
+    ensures { result.now ≡ separator_of form }
+{
+    match form {
+        RowForm::Line => b" ",
+        RowForm::Record => b",",
+    }
 }
 
 /// Writes a value: a number without its unit.
 #[tactic(auto, unfolding(j39_groups::specs::ValueText::bare_text))]
-pub(crate) fn put_kept<W: Sink>(kept: &Kept<'_>, sink: &mut W) -> Result<(), DeviceFault>
+fn put_kept<W: Sink>(kept: &Kept<'_>, sink: &mut W) -> Result<(), DeviceFault>
     ensures written { OnOk result (Appends (W.written sink.old) (W.written sink.new) (bare_text (kept_value kept.now))) }
     ensures front { OnErr result (AppendsFront (W.written sink.old) (W.written sink.new) (bare_text (kept_value kept.now))) }
     ensures mark { Marks result (W.has_failed sink.old) (W.has_failed sink.new) }
@@ -227,6 +237,26 @@ pub(crate) fn put_kept<W: Sink>(kept: &Kept<'_>, sink: &mut W) -> Result<(), Dev
         Kept::Reserved => put_value(&Value::Reserved, sink),
         Kept::Indicator => put_value(&Value::Indicator, sink),
         Kept::Text(text) => put_value(&Value::Text(text.as_slice()), sink),
+    }
+}
+
+/// Writes what a row ends with: a line with what the table calls the parameter.
+#[tactic(auto, unfolding(crate::specs::RowText::end_in))]
+fn put_end<W: Sink>(
+    form: RowForm,
+    groups: &Groups<'_>,
+    origin: Origin,
+    sink: &mut W,
+) -> Result<(), DeviceFault>
+    ensures written { OnOk result (Appends (W.written sink.old) (W.written sink.new)
+        (end_in form groups.now origin.pgn origin.spn)) }
+    ensures front { OnErr result (AppendsFront (W.written sink.old) (W.written sink.new)
+        (end_in form groups.now origin.pgn origin.spn)) }
+    ensures mark { Marks result (W.has_failed sink.old) (W.has_failed sink.new) }
+{
+    match form {
+        RowForm::Line => put_name(groups, origin.pgn, origin.spn, sink),
+        RowForm::Record => put_all(sink, b"\r\n"),
     }
 }
 

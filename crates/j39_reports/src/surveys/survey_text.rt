@@ -14,7 +14,7 @@ use arrayvec::ArrayVec;
 use j39_io::printing::{push_bytes, push_hex, push_last_digits, push_number};
 
 /// Appends a name and a number, of 20 digits at most.
-#[tactic(auto, using(crate::proofs::SurveyTextLemmas::short_decimal))]
+#[tactic(auto, using(crate::proofs::NumberLemmas::short_decimal))]
 fn push_field<const N: usize>(line: &mut ArrayVec<u8, N>, name: &[u8], value: u64)
     requires { array_vec_len line.old + length name.now + 20 ≤ N }
     ensures items { line.new.items ≡ line.old.items ++ name.now ++ decimal value }

@@ -13,14 +13,14 @@ loop-at-preserved g c =
     let at = c.loop-at.at in
     let inside : at < length rows = omega (arith, c.len-at-end.ensures) in
     let row = c.pair_at.ensures in (
-      subst (Appends _ _) (sym (lines_next c.args.form c.args.groups.now rows at _ inside row)) (Appends-trans _ _ _ _ _ c.loop-at.invariant.0 c.in_ok-put_row_in.ensures.written),
-      c.in_ok-put_row_in.ensures.mark ∙ c.loop-at.invariant.1,
+      subst (Appends _ _) (sym (lines_next c.args.form c.args.groups.now rows at _ inside row)) (Appends-trans _ _ _ _ _ c.loop-at.invariant.0 c.in_ok-put_row.ensures.written),
+      c.in_ok-put_row.ensures.mark ∙ c.loop-at.invariant.1,
     )
 
-pub returns-in_err-put_row_in-clause-front : goal.returns-in_err-put_row_in-clause-front
-returns-in_err-put_row_in-clause-front g c =
+pub returns-in_err-put_row-clause-front : goal.returns-in_err-put_row-clause-front
+returns-in_err-put_row-clause-front g c =
     let rows = pairs_of c.args.rows.now in
     let at = c.loop-at.at in
     let inside : at < length rows = omega (arith, c.len-at-end.ensures) in
     let row = c.pair_at.ensures in
-    on_err c.from_residual.result _ (front_within _ _ _ _ _ _ _ (lines_cut c.args.form c.args.groups.now rows at _ inside row) c.loop-at.invariant.0 c.in_err-put_row_in.ensures.front)
+    on_err c.from_residual.result _ (front_within _ _ _ _ _ _ _ (lines_cut c.args.form c.args.groups.now rows at _ inside row) c.loop-at.invariant.0 c.in_err-put_row.ensures.front)
