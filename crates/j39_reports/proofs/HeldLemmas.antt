@@ -1,5 +1,5 @@
 -- The rows as the code keeps them, with one value more.
-use Rattle.std.proofs.Common.{◌≡◌, ◌==◌, ◌&&◌, ◌∷◌, ◌++◌, [], ℕ, zero, suc, Bool, true, false, List, Option, Some, None, arith, get_or, is_some, map, refl, sym, ap, ap₂, ◌∙◌, true≢false, unwrap_or}
+use Rattle.std.proofs.Common.{◌≡◌, ◌==◌, ◌&&◌, ◌∷◌, ◌++◌, [], ℕ, zero, suc, Bool, true, false, List, Some, None, arith, get_or, is_some, map, refl, sym, ap, ap₂, ◌∙◌, true≢false, unwrap_or}
 use Rattle.std.specs.List.{list_any}
 use Rattle.std.specs.Map.{keys_of}
 use Rattle.std.specs.Prelude.{◌<◌, slice_get, slice_set}

@@ -1,9 +1,7 @@
 -- The record of an entry of a report (RFC 4180; own).
-use Rattle.std.specs.Prelude.{◌/◌, ◌%◌, ◌++◌, ◌∷◌, ℕ, List, [], Option, Some, None, codes, decimal, unwrap_or}
+use Rattle.std.specs.Prelude.{◌++◌, ◌∷◌, ℕ, List, [], Option, codes, decimal, unwrap_or}
 use Rattle.std.specs.List.{flat_map}
-use Rattle.std.specs.Int.{to_be_bytes, w64}
 use Rattle.hex.specs.Hex.{encode_upper}
-use Rattle.j39_io.specs.Printing.{last_digits}
 use Rattle.j39_reports.specs.Columns.{name_field, seconds_text}
 use Rattle.j39_io.specs.Records.{comma, later_text, line_end}
 use Rattle.j39_reports.specs.Utc.{utc_text}

@@ -1,5 +1,5 @@
 -- Which messages of faults are told (J1939-73, 5.7.1 and 5.7.2: DM1, DM2).
-use Rattle.std.specs.Prelude.{◌==◌, ◌&&◌, not, ℕ, zero, suc, Bool, true, false, List, [], ◌∷◌, ◌++◌, Option, Some, None}
+use Rattle.std.specs.Prelude.{◌==◌, ◌&&◌, not, ℕ, zero, suc, Bool, true, List, [], ◌∷◌, ◌++◌, Option, Some, None}
 use Rattle.std.specs.Prelude.{bytes_eq, filter, if◌then◌else◌, is_some, length, nat_le, slice_get, take}
 use Rattle.std.specs.List.{last_or}
 use Rattle.j39_faults.specs.FaultGroups.{kind_of}
