@@ -15,7 +15,7 @@ use crate::opening::{announce_broadcast, announce_directed};
 use crate::packet::{Accepted, pack, pack_directed};
 use crate::protocol::BROADCAST_LIMIT;
 use crate::signal::{self, Signal};
-use crate::table::{PAIRS, SessionBox, SOURCES, Table};
+use crate::table::{PAIRS, SOURCES, SessionBox, Table};
 use j39_frame::{Frame, GLOBAL_ADDRESS, Stamp};
 use std::alloc::{AllocError, Global};
 use std::marker::Model;

@@ -10,13 +10,17 @@ ghost use Rattle.j39_transport.specs.SessionModel.{opened_by};
 
 use crate::announcement::Announcement;
 use crate::session::Session;
-use crate::table::{PAIRS, SessionBox, SOURCES, Table};
+use crate::table::{PAIRS, SOURCES, SessionBox, Table};
 use j39_frame::{GLOBAL_ADDRESS, Stamp};
 use j39_memory::Stored;
 use std::alloc::{AllocError, Global};
 
 /// Takes out the session at a place, or else that last lent.
-fn take_used<const N: usize>(table: &mut Table<N>, place: usize, lent: &mut SessionBox) -> SessionBox
+fn take_used<const N: usize>(
+    table: &mut Table<N>,
+    place: usize,
+    lent: &mut SessionBox,
+) -> SessionBox
     requires place { place < N }
     ensures table { table.new ≡ slice_set table.old place None }
     ensures spare { is_some (stored_in lent.new) ≡ spare_left (at table.old place) (is_some (stored_in lent.old)) }

@@ -18,16 +18,17 @@ use std::marker::Model;
 /// How often a receiver asks again for a message (own).
 const MOST_ASKS: u8 = 2;
 
-/// What an event did to a session.
+/// What an event does. A session that answers it with nothing or a CTS is open still, and one that
+/// answers with an abort or delivers is over.
 #[derive(Clone, Copy)]
 pub(crate) enum Step {
-    /// It is open still.
-    Stays,
-    /// It is open still, and this is said.
+    /// Nothing is said.
+    Quiet,
+    /// This CTS is said.
     Says(Signal),
-    /// It is over.
+    /// This abort is said.
     Aborts(Signal),
-    /// It is over, and its message is whole.
+    /// The message is whole, and this acknowledgment is said.
     Delivers(Signal),
 }
 
@@ -153,7 +154,7 @@ impl Reception {
         } else if self.message.count() == self.granted {
             Step::Says(self.grant(now))
         } else {
-            Step::Stays
+            Step::Quiet
         }
     }
 
@@ -174,7 +175,7 @@ impl Reception {
         } else {
             self.message.touch(now);
             self.fresh = false;
-            Step::Stays
+            Step::Quiet
         }
     }
 
@@ -189,7 +190,7 @@ impl Reception {
         if now.micros() > self.message.last().micros() + limit {
             self.ask_again(now)
         } else {
-            Step::Stays
+            Step::Quiet
         }
     }
 }
