@@ -20,7 +20,7 @@ use crate::announcement::Announcement;
 use crate::message::Message;
 use crate::protocol::{BUSY, NO_RESOURCES};
 use crate::reception::{Reception, Step};
-use crate::signal::{self, Signal};
+use crate::signal::{self, Pair, Signal};
 use j39_frame::{Frame, Id, NULL_ADDRESS, Stamp, is_address};
 use std::alloc::{AllocError, Global};
 use std::marker::Model;
@@ -133,8 +133,12 @@ impl Receiver {
             HearStep self.old frame.now (stamp_micros now) (answer_of result) n)) }
     {
         let source = signal::source_in(frame);
+        let pair = Pair {
+            from: source,
+            to: self.own,
+        };
         let signal = said_to(self.own, frame);
-        let step = self.buffers.take_signal(source, self.own, signal, now);
+        let step = self.buffers.take_signal(pair, signal, now);
         self.buffers.lend(step, self.own, source, now)
     }
 
@@ -311,29 +315,22 @@ impl Buffers {
 
     /// An RTS: with a buffer at hand, no memory is wanted.
     #[tactic(auto, unfolding(crate::specs::Reception::takes_request, crate::specs::Reception::grants, crate::specs::Reception::begun, crate::specs::Reception::granted_at))]
-    fn take_request(
-        &mut self,
-        source: u8,
-        own: u8,
-        announcement: Announcement,
-        most: u8,
-        now: Stamp,
-    ) -> Step
+    fn take_request(&mut self, pair: Pair, announcement: Announcement, most: u8, now: Stamp) -> Step
         ensures does { reacted result self.new
-            ≡ takes_request (opened_by source own announcement (stamp_micros now)) most (stamp_micros now)
+            ≡ takes_request (opened_by pair.from pair.to announcement (stamp_micros now)) most (stamp_micros now)
             (has_box self.new) self.old.session }
         ensures buffer { has_box self.new ≡ is_some self.new.session || has_box self.old }
         ensures lends { CanLend result self.new.spare }
     {
         let group = announcement.group.raw();
-        if self.is_taken(source) {
+        if self.is_taken(pair.from) {
             return Step::Aborts(Signal::Abort(BUSY, group));
         }
         let mut session = match self.take_box() {
             Ok(session) => session,
             Err(_) => return Step::Aborts(Signal::Abort(NO_RESOURCES, group)),
         };
-        session.restart(source, own, announcement, most, now);
+        session.restart(pair, announcement, most, now);
         let signal = session.grant(now);
         self.session = Some(session);
         Step::Says(signal)
@@ -342,9 +339,9 @@ impl Buffers {
     /// What is said from a source to the receiver at its own address. Memory was found for an RTS
     /// where there is a buffer afterwards: so no answer needs to tell that it was refused.
     #[tactic(auto, unfolding(crate::specs::Reception::takes_signal), using(crate::proofs::ReceptionLemmas::box_again))]
-    fn take_signal(&mut self, source: u8, own: u8, signal: Option<Signal>, now: Stamp) -> Step
+    fn take_signal(&mut self, pair: Pair, signal: Option<Signal>, now: Stamp) -> Step
         ensures does { reacted result self.new
-            ≡ takes_signal (Directed source own) (option_map said signal) (stamp_micros now)
+            ≡ takes_signal (Directed pair.from pair.to) (option_map said signal) (stamp_micros now)
             (has_box self.new) self.old.session }
         ensures buffer { has_box self.new ≡ is_some self.new.session || has_box self.old }
         ensures lends { CanLend result self.new.spare }
@@ -353,12 +350,12 @@ impl Buffers {
             None => Step::Quiet,
             Some(Signal::BroadcastAnnounce(_)) => Step::Quiet,
             Some(Signal::RequestToSend(announcement, most)) => {
-                self.take_request(source, own, announcement, most, now)
+                self.take_request(pair, announcement, most, now)
             }
             Some(Signal::ClearToSend(_, _, _)) => Step::Quiet,
             Some(Signal::Acknowledgment(_, _, _)) => Step::Quiet,
-            Some(Signal::Abort(_, pgn)) => self.take_abort(source, pgn),
-            Some(Signal::Packet(number, part)) => self.take_data(source, number, &part, now),
+            Some(Signal::Abort(_, pgn)) => self.take_abort(pair.from, pgn),
+            Some(Signal::Packet(number, part)) => self.take_data(pair.from, number, &part, now),
         }
     }
 

@@ -11,7 +11,7 @@ ghost use Rattle.j39_transport.specs.Signals.{ClearToSend};
 use crate::announcement::Announcement;
 use crate::protocol::{NO_LIMIT, TIMEOUT, TIMER_T1, TIMER_T2};
 use crate::session::Session;
-use crate::signal::Signal;
+use crate::signal::{Pair, Signal};
 use j39_frame::{Pgn, Stamp};
 use std::marker::Model;
 
@@ -65,7 +65,11 @@ impl Reception {
     /// A buffer in which no message was begun yet.
     pub(crate) fn unused() -> Reception {
         Reception {
-            message: Session::new(0, 0, Announcement::unused(), Stamp::new(0).unwrap()),
+            message: Session::new(
+                Pair { from: 0, to: 0 },
+                Announcement::unused(),
+                Stamp::new(0).unwrap(),
+            ),
             most: 1,
             granted: 0,
             asks: 0,
@@ -75,17 +79,10 @@ impl Reception {
 
     /// Begins a message in this buffer.
     #[tactic(auto, unfolding(crate::specs::Reception::begun))]
-    pub(crate) fn restart(
-        &mut self,
-        source: u8,
-        own: u8,
-        announcement: Announcement,
-        most: u8,
-        now: Stamp,
-    )
-        ensures { self.new ≡ begun (opened_by source own announcement (stamp_micros now)) most }
+    pub(crate) fn restart(&mut self, pair: Pair, announcement: Announcement, most: u8, now: Stamp)
+        ensures { self.new ≡ begun (opened_by pair.from pair.to announcement (stamp_micros now)) most }
     {
-        self.message.restart(source, own, announcement, now);
+        self.message.restart(pair, announcement, now);
         self.most = most_packets(most);
         self.granted = 0;
         self.asks = 0;
