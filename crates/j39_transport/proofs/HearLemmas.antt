@@ -1,52 +1,45 @@
 -- A receiver that was handed a frame took the step of it.
-use Rattle.std.proofs.Common.{◌≡◌, ℕ, true, ◌||◌, Option, None, refl, ap, ◌∙◌}
+use Rattle.std.proofs.Common.{◌≡◌, ℕ, Bool, true, false, ◌||◌, Option, refl, ap, ◌∙◌}
 use Rattle.std.specs.Option.{is_some}
 use Rattle.j39_frame.specs.Frame.{FrameRecord}
 use Rattle.j39_transport.specs.Frames.{source_of}
 use Rattle.j39_transport.specs.Key.{Directed}
 use Rattle.j39_transport.specs.Reception.{ReceptionRecord, takes_signal}
 use Rattle.j39_transport.specs.Receiving.{BoxedReceiver, ReceiverAnswer, Heard, HearStep, RecvResult, answer_in, recv_step, result_of, said_to}
-use Rattle.j39_transport.specs.ReceiverModel.{found_in, has_box, reacted}
+use Rattle.j39_transport.specs.ReceiverModel.{BuffersRecord, has_box, reacted}
 use Rattle.j39_transport.specs.Signals.{Signal}
-use Rattle.j39_transport.specs.declared.receiver_events.Move.{Move}
-use Rattle.j39_transport.specs.declared.receiver_events.Move.TheVariants.{Quiet, Says, Refused, Delivers}
+use Rattle.j39_transport.specs.declared.reception.Step.{Step}
+use Rattle.j39_transport.specs.declared.reception.Step.TheVariants.{Quiet, Says, Aborts, Delivers}
 
-session_is : (done : Move) (o lent : Option ReceptionRecord) → o ≡ (reacted done o lent).session
-session_is Quiet o lent = refl
-session_is (Says a) o lent = refl
-session_is (Refused a) o lent = refl
-session_is (Delivers a) o lent = refl
+session_is : (step : Step) (b : BuffersRecord) → b.session ≡ (reacted step b).session
+session_is Quiet b = refl
+session_is (Says a) b = refl
+session_is (Aborts a) b = refl
+session_is (Delivers a) b = refl
 
--- what is answered doesn't hang on the session
-answer_is : (own to : ℕ) (done : Move) (o lent : Option ReceptionRecord) → answer_in (result_of own to (reacted done None lent)) ≡ answer_in (result_of own to (reacted done o lent))
-answer_is own to Quiet o lent = refl
-answer_is own to (Says a) o lent = refl
-answer_is own to (Refused a) o lent = refl
-answer_is own to (Delivers a) o lent = refl
+-- where there was a box, there is one
+box_kept : (a b : Bool) → b ≡ true → (a || b) ≡ true
+box_kept true b e = refl
+box_kept false b e = e
 
-abbrev pub boxed : ℕ → Option ReceptionRecord → Option ReceptionRecord → BoxedReceiver
-boxed own o lent = record { state = record { own = own; session = o }; has_box = has_box o lent }
+abbrev pub boxed : ℕ → BuffersRecord → BoxedReceiver
+boxed own b = record { state = record { own = own; session = b.session }; has_box = has_box b }
 
-module _ (f : FrameRecord) (now own source : ℕ) (signal : Option Signal) (o lent p left : Option ReceptionRecord) (done : Move)
+module _ (f : FrameRecord) (now own source : ℕ) (signal : Option Signal) (old new : BuffersRecord) (step : Step)
     (from : source ≡ source_of f.id) (says : signal ≡ said_to own f)
-    (does : reacted done p left ≡ takes_signal (Directed source own) signal now (found_in done) o) where
-  stepped : result_of own source (reacted done p left) ≡ (recv_step (record { own = own; session = o }) (Heard f) now (found_in done))
+    (does : reacted step new ≡ takes_signal (Directed source own) signal now (has_box new) old.session) where
+  stepped : result_of own source (reacted step new) ≡ (recv_step (record { own = own; session = old.session }) (Heard f) now (has_box new))
   unfolding recv_step
-  stepped = ap (result_of own source) does ∙ (λ i. result_of own (from i) (takes_signal (Directed (from i) own) (says i) now (found_in done) o))
+  stepped = ap (result_of own source) does ∙ (λ i. result_of own (from i) (takes_signal (Directed (from i) own) (says i) now (has_box new) old.session))
 
-  answered : (answer : ReceiverAnswer) → answer ≡ answer_in (result_of own source (reacted done None left))
-      → answer ≡ answer_in (recv_step (record { own = own; session = o }) (Heard f) now (found_in done))
-  answered answer e = e ∙ (answer_is own source done p left ∙ ap answer_in stepped)
-
-  pub hear_step : (answer : ReceiverAnswer) → answer ≡ answer_in (result_of own source (reacted done None left))
-      → (has_box o lent ≡ true → found_in done ≡ true) → has_box p left ≡ (is_some p || has_box o lent)
-      → HearStep (boxed own o lent) f now answer (boxed own p left)
-  hear_step answer e finds box = record {
+  pub hear_step : (answer : ReceiverAnswer) → answer ≡ answer_in (result_of own source (reacted step new))
+      → has_box new ≡ (is_some new.session || has_box old) → HearStep (boxed own old) f now answer (boxed own new)
+  hear_step answer e box = record {
     step = record {
-      found = found_in done;
-      after = ap (λ (s : Option ReceptionRecord). record { own = own; session = s }) (session_is done p left) ∙ ap (λ (x : RecvResult). x.after) stepped;
-      answers = answered answer e;
+      found = has_box new;
+      after = ap (λ (s : Option ReceptionRecord). record { own = own; session = s }) (session_is step new) ∙ ap (λ (x : RecvResult). x.after) stepped;
+      answers = e ∙ ap answer_in stepped;
     };
-    finds = finds;
+    finds = λ had. box ∙ box_kept (is_some new.session) (has_box old) had;
     box_is = box;
   }

@@ -1,5 +1,5 @@
 -- What a receiver of the code shows.
-use Rattle.std.specs.Prelude.{◌≡◌, ◌<◌, ◌≤◌, ℕ, Bool, true, false, ◌||◌, Option, Some, None}
+use Rattle.std.specs.Prelude.{◌≡◌, ◌<◌, ◌≤◌, ℕ, Bool, ◌||◌, Option, Some, None}
 use Rattle.std.specs.Option.{is_some, option_map}
 use Rattle.std.specs.declared.boxed.Box.{Box}
 use Rattle.std.specs.Global.{Global}
@@ -11,9 +11,7 @@ use Rattle.j39_transport.specs.Reception.{ReceptionRecord, Reaction, quiet, answ
 use Rattle.j39_transport.specs.Receiving.{ReceiverAnswer}
 use Rattle.j39_transport.specs.SignalModel.{said}
 use Rattle.j39_transport.specs.declared.reception.Step.{Step}
-use Rattle.j39_transport.specs.declared.reception.Step.TheVariants.{Stays, Says, Aborts, Delivers}
-use Rattle.j39_transport.specs.declared.receiver_events.Move.{Move}
-use Rattle.j39_transport.specs.declared.receiver_events.Move.TheVariants as move
+use Rattle.j39_transport.specs.declared.reception.Step.TheVariants.{Quiet, Says, Aborts, Delivers}
 use Rattle.j39_transport.specs.declared.message.Message.{Message}
 use Rattle.j39_transport.specs.declared.receiver.Reply.{Reply}
 use Rattle.j39_transport.specs.declared.receiver.Reply.TheVariants as reply
@@ -28,19 +26,24 @@ pub record IsReception (r : ReceptionRecord) : Type 0 where
 
 -- what an event did to a session that is r afterwards
 abbrev pub stepped : Step → ReceptionRecord → Reaction
-stepped Stays r = quiet (Some r)
+stepped Quiet r = quiet (Some r)
 stepped (Says a) r = answers (Some r) (said a)
 stepped (Aborts a) r = answers None (said a)
 stepped (Delivers a) r = record { session = None; says = Some (said a); delivers = Some (message_of r.message) }
 
 -- a session that stays lacks a packet, and one that delivers has all
 abbrev pub IsStep : Step → ReceptionRecord → Type 0
-IsStep Stays r = r.message.count < r.message.packets
+IsStep Quiet r = r.message.count < r.message.packets
 IsStep (Says a) r = r.message.count < r.message.packets
 IsStep (Aborts a) r = Unit {0}
 IsStep (Delivers a) r = r.message.count ≡ r.message.packets
 
--- ---- the place of the session, and that of the session last over
+-- ---- the buffers
+
+-- the open session, and the buffer that no session uses: that of the session last over, or a new one
+pub record BuffersRecord : Type 0 where
+  pub session : Option ReceptionRecord
+  pub spare : Option ReceptionRecord
 
 abbrev pub stored_in : Option (Box ReceptionRecord Global) → Option ReceptionRecord
 stored_in o = option_map (λ b. b.value) o
@@ -50,34 +53,25 @@ abbrev pub IsOpen : Option ReceptionRecord → Type 0
 IsOpen None = Unit {0}
 IsOpen (Some r) = r.message.count < r.message.packets
 
--- whether there is a box: with the open session, or with the one last over
-abbrev pub has_box : Option ReceptionRecord → Option ReceptionRecord → Bool
-has_box o lent = is_some o || is_some lent
+-- whether there is a box, in use by the session or not
+abbrev pub has_box : BuffersRecord → Bool
+has_box b = is_some b.session || is_some b.spare
 
-abbrev pub message_in : Option ReceptionRecord → Option MessageRecord
-message_in o = option_map (λ r. message_of r.message) o
-
--- what an event did, where the session and the one last over are these afterwards
-abbrev pub reacted : Move → Option ReceptionRecord → Option ReceptionRecord → Reaction
-reacted move.Quiet o lent = quiet o
-reacted (move.Says a) o lent = answers o (said a)
-reacted (move.Refused a) o lent = answers o (said a)
-reacted (move.Delivers a) o lent = record { session = o; says = Some (said a); delivers = message_in lent }
-
--- there was memory, where an RTS asked for it
-abbrev pub found_in : Move → Bool
-found_in move.Quiet = true
-found_in (move.Says a) = true
-found_in (move.Refused a) = false
-found_in (move.Delivers a) = true
+-- what an event did, where the buffers are these afterwards
+abbrev pub reacted : Step → BuffersRecord → Reaction
+reacted Quiet b = quiet b.session
+reacted (Says a) b = answers b.session (said a)
+reacted (Aborts a) b = answers b.session (said a)
+reacted (Delivers a) b = record
+    { session = b.session; says = Some (said a); delivers = option_map (λ r. message_of r.message) b.spare }
 
 -- a message that is delivered stands in the session last over
-abbrev pub CanLend : Move → Option ReceptionRecord → Type 0
-CanLend move.Quiet lent = Unit {0}
-CanLend (move.Says a) lent = Unit {0}
-CanLend (move.Refused a) lent = Unit {0}
-CanLend (move.Delivers a) None = ⊥
-CanLend (move.Delivers a) (Some r) = r.message.count ≡ r.message.packets
+abbrev pub CanLend : Step → Option ReceptionRecord → Type 0
+CanLend Quiet spare = Unit {0}
+CanLend (Says a) spare = Unit {0}
+CanLend (Aborts a) spare = Unit {0}
+CanLend (Delivers a) None = ⊥
+CanLend (Delivers a) (Some r) = r.message.count ≡ r.message.packets
 
 -- ---- answers
 

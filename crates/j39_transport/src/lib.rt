@@ -16,7 +16,6 @@ mod progress;
 mod protocol;
 mod reading;
 mod receiver;
-mod receiver_events;
 mod reception;
 mod sender;
 mod session;

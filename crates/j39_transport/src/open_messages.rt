@@ -14,8 +14,8 @@ use crate::control::{finish, grant};
 use crate::opening::{announce_broadcast, announce_directed};
 use crate::packet::{Accepted, pack, pack_directed};
 use crate::protocol::BROADCAST_LIMIT;
-use crate::signal::{self, Signal};
-use crate::table::{PAIRS, SessionBox, SOURCES, Table};
+use crate::signal::{self, Pair, Signal};
+use crate::table::{PAIRS, SOURCES, SessionBox, Table};
 use j39_frame::{Frame, GLOBAL_ADDRESS, Stamp};
 use std::alloc::{AllocError, Global};
 use std::marker::Model;
@@ -67,33 +67,40 @@ impl OpenMessages {
             ≡ spare_after self.old (is_some (stored_in lent.old)) frame.now (said_by frame.now))
             (λ _. is_some (stored_in lent.new) ≡ is_some (stored_in lent.old)) }
     {
-        let (s, d) = (signal::source_in(frame), signal::destination_in(frame));
+        let pair = Pair::of(frame);
         let stamp = frame.stamp;
         match signal::read(frame) {
             None => Ok(Accepted::Ignored),
             Some(Signal::BroadcastAnnounce(announcement)) => {
-                announce_broadcast(&mut self.broadcasts, s, lent, alloc, announcement, stamp)?;
+                announce_broadcast(
+                    &mut self.broadcasts,
+                    pair.from,
+                    lent,
+                    alloc,
+                    announcement,
+                    stamp,
+                )?;
                 Ok(Accepted::Taken)
             }
             Some(Signal::RequestToSend(announcement, _)) => {
-                announce_directed(&mut self.directed, s, d, lent, alloc, announcement, stamp)?;
+                announce_directed(&mut self.directed, pair, lent, alloc, announcement, stamp)?;
                 Ok(Accepted::Taken)
             }
             Some(Signal::ClearToSend(_, _, group)) => {
-                grant(&mut self.directed, d, s, group, stamp);
+                grant(&mut self.directed, pair.back(), group, stamp);
                 Ok(Accepted::Ignored)
             }
             Some(Signal::Acknowledgment(_, _, group)) => {
-                finish(&mut self.directed, d, s, group);
+                finish(&mut self.directed, pair.back(), group);
                 Ok(Accepted::Ignored)
             }
             Some(Signal::Abort(_, group)) => {
-                finish(&mut self.directed, d, s, group);
-                finish(&mut self.directed, s, d, group);
+                finish(&mut self.directed, pair.back(), group);
+                finish(&mut self.directed, pair, group);
                 Ok(Accepted::Ignored)
             }
             Some(Signal::Packet(number, part)) => {
-                let accepted = self.pack(lent, s, d, number, &part, stamp);
+                let accepted = self.pack(lent, pair, number, &part, stamp);
                 Ok(accepted)
             }
         }
@@ -103,27 +110,26 @@ impl OpenMessages {
     fn pack(
         &mut self,
         lent: &mut SessionBox,
-        source: u8,
-        destination: u8,
+        pair: Pair,
         number: u8,
         bytes: &[u8],
         stamp: Stamp,
     ) -> Accepted
-        requires address { IsAddress source }
+        requires address { IsAddress pair.from }
         requires seven { length bytes.now ≡ 7 }
         ensures after { self.new
-            ≡ after_packet self.old (stamp_micros stamp) (key_between source destination) number bytes.now }
+            ≡ after_packet self.old (stamp_micros stamp) (key_between pair.from pair.to) number bytes.now }
         ensures lends { CanLend result (stored_in lent.new) }
         ensures answer { (from : ℕ)
             → outcome_by result from (stamp_micros stamp) (stored_in lent.new)
-            ≡ answer_to_packet self.old from (stamp_micros stamp) (key_between source destination) number bytes.now }
+            ≡ answer_to_packet self.old from (stamp_micros stamp) (key_between pair.from pair.to) number bytes.now }
         ensures spare { is_some (stored_in lent.new)
-            ≡ is_whole (answer_to_packet self.old 0 (stamp_micros stamp) (key_between source destination)
+            ≡ is_whole (answer_to_packet self.old 0 (stamp_micros stamp) (key_between pair.from pair.to)
             number bytes.now)
             || is_some (stored_in lent.old) }
     {
-        if destination == GLOBAL_ADDRESS {
-            let place = usize::from(source);
+        if pair.to == GLOBAL_ADDRESS {
+            let place = usize::from(pair.from);
             pack(
                 &mut self.broadcasts,
                 place,
@@ -134,15 +140,7 @@ impl OpenMessages {
                 stamp,
             )
         } else {
-            pack_directed(
-                &mut self.directed,
-                source,
-                destination,
-                lent,
-                number,
-                bytes,
-                stamp,
-            )
+            pack_directed(&mut self.directed, pair, lent, number, bytes, stamp)
         }
     }
 

@@ -10,13 +10,18 @@ ghost use Rattle.j39_transport.specs.SessionModel.{opened_by};
 
 use crate::announcement::Announcement;
 use crate::session::Session;
-use crate::table::{PAIRS, SessionBox, SOURCES, Table};
+use crate::signal::Pair;
+use crate::table::{PAIRS, SOURCES, SessionBox, Table};
 use j39_frame::{GLOBAL_ADDRESS, Stamp};
 use j39_memory::Stored;
 use std::alloc::{AllocError, Global};
 
 /// Takes out the session at a place, or else that last lent.
-fn take_used<const N: usize>(table: &mut Table<N>, place: usize, lent: &mut SessionBox) -> SessionBox
+fn take_used<const N: usize>(
+    table: &mut Table<N>,
+    place: usize,
+    lent: &mut SessionBox,
+) -> SessionBox
     requires place { place < N }
     ensures table { table.new ≡ slice_set table.old place None }
     ensures spare { is_some (stored_in lent.new) ≡ spare_left (at table.old place) (is_some (stored_in lent.old)) }
@@ -36,13 +41,12 @@ fn take_box<const N: usize>(
     place: usize,
     lent: &mut SessionBox,
     alloc: Global,
-    source: u8,
-    destination: u8,
+    pair: Pair,
     announcement: Announcement,
     stamp: Stamp,
 ) -> Result<Stored<Session>, AllocError>
     requires place { place < N }
-    ensures value { IfOk result (λ b. value_of b ≡ opened_by source destination announcement (stamp_micros stamp)) }
+    ensures value { IfOk result (λ b. value_of b ≡ opened_by pair.from pair.to announcement (stamp_micros stamp)) }
     ensures table { MatchResult result
         (λ _. table.new ≡ slice_set table.old place None)
         (λ _. table.new ≡ table.old) }
@@ -53,27 +57,23 @@ fn take_box<const N: usize>(
 {
     match take_used(table, place, lent) {
         Some(mut session) => {
-            session.restart(source, destination, announcement, stamp);
+            session.restart(pair, announcement, stamp);
             Ok(session)
         }
-        None => boxed(alloc, source, destination, announcement, stamp),
+        None => boxed(alloc, pair, announcement, stamp),
     }
 }
 
 /// A session that is stored. Only here a whole buffer is written.
 fn boxed(
     alloc: Global,
-    source: u8,
-    destination: u8,
+    pair: Pair,
     announcement: Announcement,
     stamp: Stamp,
 ) -> Result<Stored<Session>, AllocError>
-    ensures { IfOk result (λ b. value_of b ≡ opened_by source destination announcement (stamp_micros stamp)) }
+    ensures { IfOk result (λ b. value_of b ≡ opened_by pair.from pair.to announcement (stamp_micros stamp)) }
 {
-    Ok(Stored::new(
-        alloc,
-        Session::new(source, destination, announcement, stamp),
-    )?)
+    Ok(Stored::new(alloc, Session::new(pair, announcement, stamp))?)
 }
 
 /// Opens a broadcast, in place of that of its source.
@@ -97,16 +97,11 @@ pub(crate) fn announce_broadcast(
     ensures lacked { OnErr result ((at table.old source ≡ None) × (is_some (stored_in lent.old) ≡ false)) }
 {
     let place = usize::from(source);
-    let session = take_box(
-        table,
-        place,
-        lent,
-        alloc,
-        source,
-        GLOBAL_ADDRESS,
-        announcement,
-        stamp,
-    )?;
+    let pair = Pair {
+        from: source,
+        to: GLOBAL_ADDRESS,
+    };
+    let session = take_box(table, place, lent, alloc, pair, announcement, stamp)?;
     table.put(place, session);
     Ok(())
 }
@@ -124,8 +119,7 @@ fn room(found: Option<usize>) -> usize
 /// Opens a directed message, in place of that of its pair; the sixteenth oldest is left out.
 pub(crate) fn announce_directed(
     table: &mut Table<PAIRS>,
-    source: u8,
-    destination: u8,
+    pair: Pair,
     lent: &mut SessionBox,
     alloc: Global,
     announcement: Announcement,
@@ -133,26 +127,17 @@ pub(crate) fn announce_directed(
 ) -> Result<(), AllocError>
     ensures table { MatchResult result
         (λ _. table.new
-        ≡ with_announced source destination (opened_by source destination announcement (stamp_micros stamp)) table.old)
+        ≡ with_announced pair.from pair.to (opened_by pair.from pair.to announcement (stamp_micros stamp)) table.old)
         (λ _. table.new ≡ table.old) }
     ensures spare { MatchResult result
         (λ _. is_some (stored_in lent.new)
-        ≡ spare_left (at table.old (room (find source destination table.old))) (is_some (stored_in lent.old)))
+        ≡ spare_left (at table.old (room (find pair.from pair.to table.old))) (is_some (stored_in lent.old)))
         (λ _. is_some (stored_in lent.new) ≡ is_some (stored_in lent.old)) }
-    ensures lacked { OnErr result ((at table.old (room (find source destination table.old)) ≡ None)
+    ensures lacked { OnErr result ((at table.old (room (find pair.from pair.to table.old)) ≡ None)
         × (is_some (stored_in lent.old) ≡ false)) }
 {
-    let place = room(table.find(source, destination));
-    let session = take_box(
-        table,
-        place,
-        lent,
-        alloc,
-        source,
-        destination,
-        announcement,
-        stamp,
-    )?;
+    let place = room(table.find(pair.from, pair.to));
+    let session = take_box(table, place, lent, alloc, pair, announcement, stamp)?;
     table.push(session);
     Ok(())
 }

@@ -10,6 +10,7 @@ ghost use Rattle.j39_transport.specs.AssemblerModel.{shown_move, IsMove, outcome
 
 use crate::protocol::DIRECTED_LIMIT;
 use crate::session::Session;
+use crate::signal::Pair;
 use crate::table::{PAIRS, SessionBox, Table};
 use j39_frame::Stamp;
 use j39_memory::Stored;
@@ -110,26 +111,25 @@ pub(crate) fn pack<const N: usize>(
 /// Hands a packet to the session from one address to another.
 pub(crate) fn pack_directed(
     table: &mut Table<PAIRS>,
-    source: u8,
-    destination: u8,
+    pair: Pair,
     lent: &mut SessionBox,
     number: u8,
     bytes: &[u8],
     stamp: Stamp,
 ) -> Accepted
     requires { length bytes.now ≡ 7 }
-    ensures table { table.new ≡ with_place (find source destination table.old)
+    ensures table { table.new ≡ with_place (find pair.from pair.to table.old)
         (packed directed_limit number bytes.now (stamp_micros stamp)) table.old }
     ensures lends { CanLend result (stored_in lent.new) }
     ensures told { (from : ℕ)
         → outcome_by result from (stamp_micros stamp) (stored_in lent.new)
-        ≡ told_at (find source destination table.old)
+        ≡ told_at (find pair.from pair.to table.old)
         (told from directed_limit number bytes.now (stamp_micros stamp)) table.old }
     ensures spare { is_some (stored_in lent.new)
-        ≡ is_whole (told_at (find source destination table.old)
+        ≡ is_whole (told_at (find pair.from pair.to table.old)
         (told 0 directed_limit number bytes.now (stamp_micros stamp)) table.old) || is_some (stored_in lent.old) }
 {
-    match table.find(source, destination) {
+    match table.find(pair.from, pair.to) {
         Some(place) => pack(table, place, lent, DIRECTED_LIMIT, number, bytes, stamp),
         None => Accepted::Ignored,
     }

@@ -1,5 +1,5 @@
 //! The receiving end of directed transfers (J1939-21, 5.10.3).
-ghost use Rattle.std.specs.Prelude.{◌≡◌, ◌≤◌, ◌↔◌, ◌∷◌, ◌++◌, [], IsTrue, IsSome, IfSome, IfOk, OnErr, Bool, true, false, List, None, length};
+ghost use Rattle.std.specs.Prelude.{◌≡◌, ◌≤◌, ◌↔◌, ◌||◌, ◌∷◌, ◌++◌, [], IsTrue, IsSome, IfSome, IfOk, OnErr, Bool, true, false, List, None, length};
 ghost use Rattle.std.specs.Borrow.{sem};
 ghost use Rattle.std.specs.Io.BufRead.{Rests};
 ghost use Rattle.std.specs.Option.{is_some, option_map};
@@ -10,13 +10,17 @@ ghost use Rattle.j39_transport.specs.Cutting.{to_send};
 ghost use Rattle.j39_transport.specs.Frames.{source_of};
 ghost use Rattle.j39_transport.specs.Key.Key.{Directed};
 ghost use Rattle.j39_transport.specs.ReceiverStands.{ReceiverStandsFor, WereHanded, HasHeard};
+ghost use Rattle.j39_transport.specs.Reception.{takes_request, takes_data, takes_abort, takes_signal, takes_tick, is_taken};
 ghost use Rattle.j39_transport.specs.Receiving.{said_to, RecvStep, HearStep, Tick, Heard, recv_step, answer_in, result_of, new_receiver, partner_of};
+ghost use Rattle.j39_transport.specs.SessionModel.{opened_by};
 ghost use Rattle.j39_transport.specs.SignalModel.{said};
-ghost use Rattle.j39_transport.specs.ReceiverModel.{stored_in, reacted, CanLend, answer_of, IsStamped};
+ghost use Rattle.j39_transport.specs.ReceiverModel.{stepped, reacted, has_box, IsStep, CanLend, answer_of, IsStamped};
 
+use crate::announcement::Announcement;
 use crate::message::Message;
-use crate::receiver_events::{self, Move, ReceptionBox};
-use crate::signal::{self, Signal};
+use crate::protocol::{BUSY, NO_RESOURCES};
+use crate::reception::{Reception, Step};
+use crate::signal::{self, Pair, Signal};
 use j39_frame::{Frame, Id, NULL_ADDRESS, Stamp, is_address};
 use std::alloc::{AllocError, Global};
 use std::marker::Model;
@@ -35,27 +39,23 @@ pub enum Reply<'a> {
 /// Receives the messages that are sent to one address, one at a time.
 #[derive(Drop)]
 pub struct Receiver {
-    alloc: Global,
     own: u8,
-    session: ReceptionBox,
-    /// The session last over: its message is lent from it, and the next RTS uses its box again. Or a
-    /// buffer in which no message was begun yet.
-    lent: ReceptionBox,
+    buffers: Buffers,
 }
 
 impl Model for Receiver {
     ghost use Rattle.j39_frame.specs.Address.{IsAddress};
     ghost use Rattle.j39_transport.specs.Receiving.{BoxedReceiver};
-    ghost use Rattle.j39_transport.specs.ReceiverModel.{has_box, stored_in, IsOpen};
+    ghost use Rattle.j39_transport.specs.ReceiverModel.{has_box};
 
     ghost Value = { BoxedReceiver };
 
     ghost view = { λ r. record {
-      state = record { own = r.own; session = stored_in r.session };
-      has_box = has_box (stored_in r.session) (stored_in r.lent);
+      state = record { own = r.own; session = r.buffers.session };
+      has_box = has_box r.buffers;
     } };
 
-    ghost invariant = { λ r. IsAddress r.own × IsOpen (stored_in r.session) };
+    ghost invariant = { λ r. IsAddress r.own };
 }
 
 impl Receiver {
@@ -72,10 +72,12 @@ impl Receiver {
             return None;
         }
         Some(Receiver {
-            alloc,
             own,
-            session: None,
-            lent: None,
+            buffers: Buffers {
+                alloc,
+                session: None,
+                spare: None,
+            },
         })
     }
 
@@ -89,11 +91,19 @@ impl Receiver {
         ensures stands { IfOk result (λ found. IfSome found (λ receiver. ReceiverStandsFor [] receiver.state)) }
         ensures refused { OnErr result (IsAddress own) }
     {
-        let Some(mut receiver) = Receiver::new(alloc, own) else {
-            return Ok(None);
-        };
-        receiver.lent = Some(receiver_events::boxed(alloc)?);
-        Ok(Some(receiver))
+        if is_address(own) {
+            let spare = Some(boxed(alloc)?);
+            Ok(Some(Receiver {
+                own,
+                buffers: Buffers {
+                    alloc,
+                    session: None,
+                    spare,
+                },
+            }))
+        } else {
+            Ok(None)
+        }
     }
 
     /// Takes a frame of the bus, of whatever group, at a moment. Memory is taken at an RTS alone, and
@@ -114,7 +124,6 @@ impl Receiver {
         self.hear(frame, now)
     }
 
-    #[tactic(auto, unfolding(crate::specs::Receiving::recv_step, crate::specs::Receiving::said_to, crate::specs::Frames::source_of))]
     fn hear(&mut self, frame: &Frame, now: Stamp) -> Reply<'_>
         ensures answer { (found : Bool) × (self.old.has_box ≡ true → found ≡ true)
             × (answer_of result ≡ answer_in (recv_step self.old.state (Heard frame.now) (stamp_micros now) found)) }
@@ -123,17 +132,14 @@ impl Receiver {
         ensures* after { sem 𝓛 (Rests the_row self.entry (λ n.
             HearStep self.old frame.now (stamp_micros now) (answer_of result) n)) }
     {
-        let source = frame.id.source();
-        let done = receiver_events::take_signal(
-            &mut self.session,
-            &mut self.lent,
-            self.alloc,
-            source,
-            self.own,
-            said_to(self.own, frame),
-            now,
-        );
-        lend(&self.lent, done, self.own, source, now)
+        let source = signal::source_in(frame);
+        let pair = Pair {
+            from: source,
+            to: self.own,
+        };
+        let signal = said_to(self.own, frame);
+        let step = self.buffers.take_signal(pair, signal, now);
+        self.buffers.lend(step, self.own, source, now)
     }
 
     /// Lets time pass, and answers the frame to send, if there is one: a CTS again, or abort 3.
@@ -153,12 +159,12 @@ impl Receiver {
             (record { sends = option_map to_send result; delivers = None }) self.new.state }
         ensures buffer { self.new.has_box ≡ self.old.has_box }
     {
-        let to = partner(&self.session);
-        match receiver_events::tick(&mut self.session, &mut self.lent, now) {
-            Move::Quiet => None,
-            Move::Says(signal) => Some(signal::write(signal, self.own, to)),
-            Move::Refused(signal) => Some(signal::write(signal, self.own, to)),
-            Move::Delivers(signal) => Some(signal::write(signal, self.own, to)),
+        let to = self.buffers.partner();
+        match self.buffers.tick(now) {
+            Step::Quiet => None,
+            Step::Says(signal) => Some(signal::write(signal, self.own, to)),
+            Step::Aborts(signal) => Some(signal::write(signal, self.own, to)),
+            Step::Delivers(signal) => Some(signal::write(signal, self.own, to)),
         }
     }
 
@@ -167,7 +173,7 @@ impl Receiver {
     pub fn busy(&self) -> bool
         ensures value { IsTrue result ↔ IsSome self.now.state.session }
     {
-        self.session.is_some()
+        self.buffers.session.is_some()
     }
 }
 
@@ -184,45 +190,221 @@ fn said_to(own: u8, frame: &Frame) -> Option<Signal>
     }
 }
 
-/// Where the answer of a tick goes: to the session's source.
-fn partner(slot: &ReceptionBox) -> u8
-    ensures { result ≡ partner_of (stored_in slot.now) }
-{
-    match slot {
-        Some(session) => session.source(),
-        None => NULL_ADDRESS,
-    }
+/// A session with its buffer, or none.
+type ReceptionBox = Option<Box<Reception>>;
+
+/// A buffer for a message: the one place where memory is taken.
+fn boxed(alloc: Global) -> Result<Box<Reception>, AllocError> {
+    Ok(Box::new(alloc, Reception::unused())?)
 }
 
-/// The answer, with a message that is delivered lent out of its buffer.
-fn lend(slot: &ReceptionBox, done: Move, own: u8, to: u8, now: Stamp) -> Reply<'_>
-    requires { CanLend done (stored_in slot.now) }
-    ensures answer { answer_of result ≡ answer_in (result_of own to (reacted done None (stored_in slot.now))) }
-    ensures stamp { IsStamped (stamp_micros now) result }
-    ensures short { IfSome (answer_of result).delivers (λ message. length message.bytes ≤ 1785) }
-{
-    match done {
-        Move::Quiet => Reply::Nothing,
-        Move::Says(signal) => {
-            let (id, bytes) = signal::write(signal, own, to);
-            Reply::Send(id, bytes)
+/// The session of a receiver with its buffer, and the buffer that no session uses.
+#[derive(Drop)]
+struct Buffers {
+    alloc: Global,
+    session: ReceptionBox,
+    /// The session last over: its message is lent from it, and the next RTS uses its box again. Or a
+    /// buffer in which no message was begun yet.
+    spare: ReceptionBox,
+}
+
+impl Model for Buffers {
+    ghost use Rattle.j39_transport.specs.ReceiverModel.{BuffersRecord, IsOpen, stored_in};
+
+    ghost Value = { BuffersRecord };
+
+    ghost view = { λ b. record { session = stored_in b.session; spare = stored_in b.spare } };
+
+    ghost invariant = { λ b. IsOpen (stored_in b.session) };
+}
+
+impl Buffers {
+    /// Where the answer of a tick goes: to the session's source.
+    fn partner(&self) -> u8
+        ensures { result ≡ partner_of self.now.session }
+    {
+        match &self.session {
+            Some(session) => session.source(),
+            None => NULL_ADDRESS,
         }
-        Move::Refused(signal) => {
-            let (id, bytes) = signal::write(signal, own, to);
-            Reply::Send(id, bytes)
+    }
+
+    /// Whether the session of another source is open.
+    fn is_taken(&self, source: u8) -> bool
+        ensures { result ≡ is_taken source self.now.session }
+    {
+        match &self.session {
+            None => false,
+            Some(session) => source != session.source(),
         }
-        Move::Delivers(signal) => match slot {
-            Some(session) => {
-                let (id, bytes) = signal::write(signal, own, to);
-                let message = Message {
-                    source: session.source(),
-                    pgn: session.pgn(),
-                    payload: session.payload(),
-                    stamp: now,
-                };
-                Reply::Delivered(message, id, bytes)
+    }
+
+    /// Puts a session back, or where it is over aside.
+    fn settle(&mut self, session: Box<Reception>, step: Step)
+        requires empty { self.old.session ≡ None }
+        requires step { IsStep step session.value }
+        ensures does { reacted step self.new ≡ stepped step session.value }
+        ensures buffer { has_box self.new ≡ true }
+        ensures lends { CanLend step self.new.spare }
+    {
+        match step {
+            Step::Quiet => self.session = Some(session),
+            Step::Says(_) => self.session = Some(session),
+            Step::Aborts(_) => self.spare = Some(session),
+            Step::Delivers(_) => self.spare = Some(session),
+        }
+    }
+
+    /// A packet of a source.
+    #[tactic(auto, unfolding(crate::specs::Reception::takes_data))]
+    fn take_data(&mut self, source: u8, number: u8, part: &[u8; 7], now: Stamp) -> Step
+        ensures does { reacted result self.new
+            ≡ takes_data source number part.now (stamp_micros now) self.old.session }
+        ensures buffer { has_box self.new ≡ has_box self.old }
+        ensures lends { CanLend result self.new.spare }
+    {
+        match self.session.take() {
+            None => Step::Quiet,
+            Some(mut session) => {
+                if source == session.source() {
+                    let step = session.take_packet(number, part, now);
+                    self.settle(session, step);
+                    step
+                } else {
+                    self.session = Some(session);
+                    Step::Quiet
+                }
             }
-            None => Reply::Nothing,
-        },
+        }
+    }
+
+    /// An abort of a source.
+    #[tactic(auto, unfolding(crate::specs::Reception::takes_abort))]
+    fn take_abort(&mut self, source: u8, pgn: u32) -> Step
+        ensures does { reacted result self.new ≡ takes_abort source pgn self.old.session }
+        ensures buffer { has_box self.new ≡ has_box self.old }
+        ensures lends { CanLend result self.new.spare }
+    {
+        match self.session.take() {
+            None => Step::Quiet,
+            Some(session) => {
+                if source == session.source() && pgn == session.pgn().raw() {
+                    self.spare = Some(session);
+                } else {
+                    self.session = Some(session);
+                }
+                Step::Quiet
+            }
+        }
+    }
+
+    /// The buffer of the open session, or the spare one, or memory for one.
+    fn take_box(&mut self) -> Result<Box<Reception>, AllocError>
+        ensures session { OnErr result (self.new.session ≡ self.old.session) }
+        ensures buffer { OnErr result (has_box self.new ≡ false) }
+        ensures lacked { OnErr result (has_box self.old ≡ false) }
+    {
+        match self.session.take() {
+            Some(session) => Ok(session),
+            None => match self.spare.take() {
+                Some(session) => Ok(session),
+                None => boxed(self.alloc),
+            },
+        }
+    }
+
+    /// An RTS: with a buffer at hand, no memory is wanted.
+    #[tactic(auto, unfolding(crate::specs::Reception::takes_request, crate::specs::Reception::grants, crate::specs::Reception::begun, crate::specs::Reception::granted_at))]
+    fn take_request(&mut self, pair: Pair, announcement: Announcement, most: u8, now: Stamp) -> Step
+        ensures does { reacted result self.new
+            ≡ takes_request (opened_by pair.from pair.to announcement (stamp_micros now)) most (stamp_micros now)
+            (has_box self.new) self.old.session }
+        ensures buffer { has_box self.new ≡ is_some self.new.session || has_box self.old }
+        ensures lends { CanLend result self.new.spare }
+    {
+        let group = announcement.group.raw();
+        if self.is_taken(pair.from) {
+            return Step::Aborts(Signal::Abort(BUSY, group));
+        }
+        let mut session = match self.take_box() {
+            Ok(session) => session,
+            Err(_) => return Step::Aborts(Signal::Abort(NO_RESOURCES, group)),
+        };
+        session.restart(pair, announcement, most, now);
+        let signal = session.grant(now);
+        self.session = Some(session);
+        Step::Says(signal)
+    }
+
+    /// What is said from a source to the receiver at its own address. Memory was found for an RTS
+    /// where there is a buffer afterwards: so no answer needs to tell that it was refused.
+    #[tactic(auto, unfolding(crate::specs::Reception::takes_signal), using(crate::proofs::ReceptionLemmas::box_again))]
+    fn take_signal(&mut self, pair: Pair, signal: Option<Signal>, now: Stamp) -> Step
+        ensures does { reacted result self.new
+            ≡ takes_signal (Directed pair.from pair.to) (option_map said signal) (stamp_micros now)
+            (has_box self.new) self.old.session }
+        ensures buffer { has_box self.new ≡ is_some self.new.session || has_box self.old }
+        ensures lends { CanLend result self.new.spare }
+    {
+        match signal {
+            None => Step::Quiet,
+            Some(Signal::BroadcastAnnounce(_)) => Step::Quiet,
+            Some(Signal::RequestToSend(announcement, most)) => {
+                self.take_request(pair, announcement, most, now)
+            }
+            Some(Signal::ClearToSend(_, _, _)) => Step::Quiet,
+            Some(Signal::Acknowledgment(_, _, _)) => Step::Quiet,
+            Some(Signal::Abort(_, pgn)) => self.take_abort(pair.from, pgn),
+            Some(Signal::Packet(number, part)) => self.take_data(pair.from, number, &part, now),
+        }
+    }
+
+    /// Time that passes.
+    #[tactic(auto, unfolding(crate::specs::Reception::takes_tick))]
+    fn tick(&mut self, now: Stamp) -> Step
+        ensures does { reacted result self.new ≡ takes_tick (stamp_micros now) self.old.session }
+        ensures buffer { has_box self.new ≡ has_box self.old }
+    {
+        match self.session.take() {
+            None => Step::Quiet,
+            Some(mut session) => {
+                let step = session.tick(now);
+                self.settle(session, step);
+                step
+            }
+        }
+    }
+
+    /// The answer, with a message that is delivered lent out of its buffer.
+    fn lend(&self, step: Step, own: u8, to: u8, now: Stamp) -> Reply<'_>
+        requires { CanLend step self.now.spare }
+        ensures answer { answer_of result ≡ answer_in (result_of own to (reacted step self.now)) }
+        ensures stamp { IsStamped (stamp_micros now) result }
+        ensures short { IfSome (answer_of result).delivers (λ message. length message.bytes ≤ 1785) }
+    {
+        match step {
+            Step::Quiet => Reply::Nothing,
+            Step::Says(signal) => {
+                let (id, bytes) = signal::write(signal, own, to);
+                Reply::Send(id, bytes)
+            }
+            Step::Aborts(signal) => {
+                let (id, bytes) = signal::write(signal, own, to);
+                Reply::Send(id, bytes)
+            }
+            Step::Delivers(signal) => match &self.spare {
+                Some(session) => {
+                    let (id, bytes) = signal::write(signal, own, to);
+                    let message = Message {
+                        source: session.source(),
+                        pgn: session.pgn(),
+                        payload: session.payload(),
+                        stamp: now,
+                    };
+                    Reply::Delivered(message, id, bytes)
+                }
+                None => Reply::Nothing,
+            },
+        }
     }
 }

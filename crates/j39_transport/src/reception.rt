@@ -11,23 +11,24 @@ ghost use Rattle.j39_transport.specs.Signals.{ClearToSend};
 use crate::announcement::Announcement;
 use crate::protocol::{NO_LIMIT, TIMEOUT, TIMER_T1, TIMER_T2};
 use crate::session::Session;
-use crate::signal::Signal;
+use crate::signal::{Pair, Signal};
 use j39_frame::{Pgn, Stamp};
 use std::marker::Model;
 
 /// How often a receiver asks again for a message (own).
 const MOST_ASKS: u8 = 2;
 
-/// What an event did to a session.
+/// What an event does. A session that answers it with nothing or a CTS is open still, and one that
+/// answers with an abort or delivers is over.
 #[derive(Clone, Copy)]
 pub(crate) enum Step {
-    /// It is open still.
-    Stays,
-    /// It is open still, and this is said.
+    /// Nothing is said.
+    Quiet,
+    /// This CTS is said.
     Says(Signal),
-    /// It is over.
+    /// This abort is said.
     Aborts(Signal),
-    /// It is over, and its message is whole.
+    /// The message is whole, and this acknowledgment is said.
     Delivers(Signal),
 }
 
@@ -64,7 +65,11 @@ impl Reception {
     /// A buffer in which no message was begun yet.
     pub(crate) fn unused() -> Reception {
         Reception {
-            message: Session::new(0, 0, Announcement::unused(), Stamp::new(0).unwrap()),
+            message: Session::new(
+                Pair { from: 0, to: 0 },
+                Announcement::unused(),
+                Stamp::new(0).unwrap(),
+            ),
             most: 1,
             granted: 0,
             asks: 0,
@@ -74,17 +79,10 @@ impl Reception {
 
     /// Begins a message in this buffer.
     #[tactic(auto, unfolding(crate::specs::Reception::begun))]
-    pub(crate) fn restart(
-        &mut self,
-        source: u8,
-        own: u8,
-        announcement: Announcement,
-        most: u8,
-        now: Stamp,
-    )
-        ensures { self.new ≡ begun (opened_by source own announcement (stamp_micros now)) most }
+    pub(crate) fn restart(&mut self, pair: Pair, announcement: Announcement, most: u8, now: Stamp)
+        ensures { self.new ≡ begun (opened_by pair.from pair.to announcement (stamp_micros now)) most }
     {
-        self.message.restart(source, own, announcement, now);
+        self.message.restart(pair, announcement, now);
         self.most = most_packets(most);
         self.granted = 0;
         self.asks = 0;
@@ -153,7 +151,7 @@ impl Reception {
         } else if self.message.count() == self.granted {
             Step::Says(self.grant(now))
         } else {
-            Step::Stays
+            Step::Quiet
         }
     }
 
@@ -174,7 +172,7 @@ impl Reception {
         } else {
             self.message.touch(now);
             self.fresh = false;
-            Step::Stays
+            Step::Quiet
         }
     }
 
@@ -189,7 +187,7 @@ impl Reception {
         if now.micros() > self.message.last().micros() + limit {
             self.ask_again(now)
         } else {
-            Step::Stays
+            Step::Quiet
         }
     }
 }

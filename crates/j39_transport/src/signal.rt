@@ -61,6 +61,37 @@ pub(crate) fn read_between(frame: &Frame, source: u8, destination: u8) -> Option
     }
 }
 
+/// From which address to which one something goes.
+#[derive(Clone, Copy)]
+pub(crate) struct Pair {
+    pub(crate) from: u8,
+    pub(crate) to: u8,
+}
+
+impl Pair {
+    /// From a frame's source to where it goes.
+    pub(crate) fn of(frame: &Frame) -> Pair
+        ensures from { result.from ≡ source_of frame.now.id }
+        ensures to { result.to ≡ destination_of frame.now.id }
+    {
+        Pair {
+            from: source_in(frame),
+            to: destination_in(frame),
+        }
+    }
+
+    /// The way back.
+    pub(crate) fn back(self) -> Pair
+        ensures from { result.from ≡ self.to }
+        ensures to { result.to ≡ self.from }
+    {
+        Pair {
+            from: self.to,
+            to: self.from,
+        }
+    }
+}
+
 #[tactic(auto, unfolding(crate::specs::Frames::source_of))]
 pub(crate) fn source_in(frame: &Frame) -> u8
     ensures { result ≡ source_of frame.now.id }
@@ -69,7 +100,7 @@ pub(crate) fn source_in(frame: &Frame) -> u8
 }
 
 #[tactic(auto, unfolding(crate::specs::Frames::destination_of))]
-pub(crate) fn destination_in(frame: &Frame) -> u8
+fn destination_in(frame: &Frame) -> u8
     ensures { result ≡ destination_of frame.now.id }
 {
     frame.id.ps()
