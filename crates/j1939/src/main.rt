@@ -4,8 +4,8 @@
 mod table;
 
 use j39_cli::{ParseFault, Task, parse, perform_with, refuse, unopened, wrong_table};
-use j39_io::Told;
 use j39_groups::Groups;
+use j39_io::Told;
 use j39_table::{TableFault, read};
 use std::io::{BufWriter, ErrorKind};
 use std::process::ExitCode;

@@ -56,6 +56,7 @@ macro_rules! ask {
         ask!(@$part, Controlling($held) => $answer, Listening Receiving Sending Assembling)
     };
 }
+
 pub(crate) use ask;
 
 impl Part {

@@ -12,9 +12,9 @@ ghost use Rattle.j39_c.specs.declared.refusal.Refusal.TheVariants.{NoMemory};
 
 use crate::message::WholeMessage;
 use crate::refusal::Refusal;
-use j39_io::{DeviceFault, Sink};
 use j39_frame::Pgn;
 use j39_groups::{Reading, Slot, Value, put_value, raw_of, readings};
+use j39_io::{DeviceFault, Sink};
 use std::alloc::Global;
 
 /// The longest text that a call can tell.

@@ -15,10 +15,10 @@ use crate::log::{LOG_LIMIT, copy_of, format_by, tell_end, with_csv, with_log};
 use crate::words::{bus_value, is_set};
 use crate::{Format, ParseFault, Task, WordText};
 use clap::{ArgMatches, Command};
-use j39_io::{Sink, Source};
-use j39_reports::{Telling, faults_csv};
 use j39_groups::Groups;
+use j39_io::{Sink, Source};
 use j39_log::Bus;
+use j39_reports::{Telling, faults_csv};
 use std::alloc::{AllocError, Global};
 
 const ABOUT: &str = "\

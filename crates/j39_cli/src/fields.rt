@@ -4,8 +4,8 @@ ghost use Rattle.arrayvec.specs.ArrayVec.{array_vec_len};
 ghost use Rattle.j39_cli.specs.Counted.{counts_text};
 
 use arrayvec::ArrayVec;
-use j39_listen::Counts;
 use j39_io::printing::{push_bytes, push_number};
+use j39_listen::Counts;
 
 /// The line of a run's counts, with its newline.
 pub(crate) fn counts_line(counts: Counts) -> ArrayVec<u8, 144>

@@ -16,8 +16,8 @@ use crate::command::{new_command, with_table};
 use crate::shown::status_of;
 use crate::{ParseFault, Task, WordText};
 use clap::{ArgMatches, Command};
-use j39_io::{DeviceFault, Sink};
 use j39_groups::Groups;
+use j39_io::{DeviceFault, Sink};
 use std::alloc::{AllocError, Global};
 
 const ABOUT: &str = "\

@@ -19,10 +19,9 @@ use crate::words::required;
 use crate::{Argument, ParseFault, Task};
 use arrayvec::ArrayVec;
 use clap::{ArgMatches, Command};
-use j39_io::Sink;
 use j39_frame::Id;
-use j39_io::number;
 use j39_io::printing::push_bytes;
+use j39_io::{Sink, number};
 use std::alloc::{AllocError, Global};
 
 const ABOUT: &str = "\

@@ -13,9 +13,9 @@ use crate::refusal::{complain, show};
 use arrayvec::ArrayVec;
 use clap::Command;
 use j39_io::Sink;
+use j39_io::printing::push_bytes;
 use j39_listen::{Counts, RunFault};
 use j39_log::Bus;
-use j39_io::printing::push_bytes;
 use std::alloc::{AllocError, Global};
 
 /// The most bytes of a log that the program reads.

@@ -20,9 +20,8 @@ use crate::{Argument, ParseFault, Task};
 use arrayvec::ArrayVec;
 use clap::{ArgMatches, Command};
 use j39_address::Name;
-use j39_io::Sink;
-use j39_io::number;
 use j39_io::printing::push_bytes;
+use j39_io::{Sink, number};
 use std::alloc::{AllocError, Global};
 
 const ABOUT: &str = "\

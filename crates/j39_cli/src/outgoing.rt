@@ -10,8 +10,8 @@ ghost use Rattle.j39_cli.specs.Outgoing.{EndsInTime, cut_text, frame_line, outgo
 
 use arrayvec::ArrayVec;
 use j39_frame::{Frame, Pgn, Stamp};
-use j39_log::{Bus, line_of};
 use j39_io::printing::push_bytes;
+use j39_log::{Bus, line_of};
 use j39_transport::Cut;
 use std::marker::Model;
 

@@ -5,8 +5,8 @@ ghost use Rattle.j39_groups.specs.Table.{the_table};
 ghost use Rattle.j39_cli.specs.Task.{IsPerformed, reads_log};
 
 use crate::{Task, answer, cut, faults, groups, id, name, nodes, report, summary, survey};
-use j39_io::{Sink, Source};
 use j39_groups::Groups;
+use j39_io::{Sink, Source};
 use std::alloc::Global;
 
 /// Performs a task by the built-in table of parameters.

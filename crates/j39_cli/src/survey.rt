@@ -12,8 +12,8 @@ use crate::command::{new_command, with_table, with_value};
 use crate::log::{LOG_LIMIT, tell_fault};
 use crate::{ParseFault, Task, WordText};
 use clap::{ArgMatches, Command};
-use j39_io::{Sink, Source};
 use j39_groups::Groups;
+use j39_io::{Sink, Source};
 use std::alloc::{AllocError, Global};
 
 const ABOUT: &str = "\

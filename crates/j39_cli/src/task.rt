@@ -7,9 +7,9 @@ ghost use Rattle.j39_cli.specs.Task.{file_of, table_of};
 
 use crate::{Outgoing, Spns};
 use j39_address::Name;
-use j39_reports::Telling;
 use j39_frame::{Id, is_address};
 use j39_log::Bus;
+use j39_reports::Telling;
 use std::fmt;
 use std::marker::Model;
 use thiserror::Error;

@@ -17,7 +17,7 @@ use crate::asked::{Asked, keep_request};
 use crate::inbox::Received;
 use crate::listening::{note, put_together};
 use crate::may_send::{held_by, may_send};
-use crate::outbox::{Outbox, MessageFrame, Wish};
+use crate::outbox::{MessageFrame, Outbox, Wish};
 use crate::receiving::{Listening, is_receiving, listen_at, receive_in, tick_late};
 use crate::sending::Sending;
 use crate::settled::{Ending, Settled};

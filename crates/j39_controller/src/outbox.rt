@@ -53,7 +53,11 @@ impl Outbox {
     }
 
     /// Puts a frame behind the others.
-    pub(crate) fn push(&mut self, frame: Frame, part: Option<MessageFrame>) -> Result<(), AllocError>
+    pub(crate) fn push(
+        &mut self,
+        frame: Frame,
+        part: Option<MessageFrame>,
+    ) -> Result<(), AllocError>
         ensures pushes { OnOk result (self.new.wishes.items
             ≡ self.old.wishes.items ++ record { frame = frame; part = part } ∷ []) }
         ensures kept { OnErr result (self.new.wishes.items ≡ self.old.wishes.items) }
@@ -132,7 +136,10 @@ impl Outbox {
 }
 
 /// Tells that a message is withdrawn whose last frame this is.
-fn tell_if_last(part: Option<MessageFrame>, settled: &mut VecDeque<Settled>) -> Result<(), AllocError>
+fn tell_if_last(
+    part: Option<MessageFrame>,
+    settled: &mut VecDeque<Settled>,
+) -> Result<(), AllocError>
     ensures { OnOk result (settled.new.items ≡ settled.old.items ++ withdrawn_by part) }
 {
     let Some(part) = part else {

@@ -7,7 +7,7 @@ ghost use Rattle.j39_frame.specs.Stamp.{stamp_micros};
 ghost use Rattle.j39_transport.specs.Cutting.{to_send};
 ghost use Rattle.j39_controller.specs.Sending.{BeginsBroadcast, BeginsTransfer, HasLost, IsFree, Polls, Ticks, hears, message_of, new_sending, on_its_way};
 
-use crate::outbox::{Outbox, MessageFrame};
+use crate::outbox::{MessageFrame, Outbox};
 use crate::owned_broadcast::OwnedBroadcast;
 use crate::settled::{Ending, Settled};
 use j39_frame::{Frame, Id, Pgn, Stamp};

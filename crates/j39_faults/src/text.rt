@@ -13,8 +13,8 @@ use crate::lamp_names::lamps_text;
 use crate::lamps::Lamps;
 use crate::words::fmi_words;
 use arrayvec::ArrayVec;
-use j39_io::{DeviceFault, Sink, put_all};
 use j39_io::printing::{push_bytes, push_hex, push_number};
+use j39_io::{DeviceFault, Sink, put_all};
 
 /// Three numbers of ten digits, the kind, the lamps and what stands between fit.
 type Columns = ArrayVec<u8, 96>;

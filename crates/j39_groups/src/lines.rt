@@ -9,8 +9,8 @@ ghost use Rattle.j39_groups.specs.Models.{reading_of};
 use crate::text::put_value;
 use crate::value::Reading;
 use arrayvec::ArrayVec;
-use j39_io::{DeviceFault, Sink, put_all};
 use j39_io::printing::{push_bytes, push_number};
+use j39_io::{DeviceFault, Sink, put_all};
 
 /// Writes a line for each reading; `head` is what each begins with.
 pub(crate) fn put_found<W: Sink>(

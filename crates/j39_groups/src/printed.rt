@@ -14,8 +14,8 @@ use crate::slot::Slot;
 use crate::table::{Field, Row};
 use crate::text::{Text, scaled_text};
 use arrayvec::ArrayVec;
-use j39_io::{DeviceFault, Sink, put_all};
 use j39_io::printing::push_number;
+use j39_io::{DeviceFault, Sink, put_all};
 
 /// Writes the table (own): a line for each parameter that is read, in the table's order, with the
 /// PGN and the short name of its group, its SPN, where it stands in the payload, what a raw step is

@@ -16,8 +16,8 @@ use crate::read_row::ReadRow;
 use crate::scale::Scale;
 use crate::text::scaled_text;
 use arrayvec::ArrayVec;
-use j39_io::{DeviceFault, Sink};
 use j39_io::printing::push_number;
+use j39_io::{DeviceFault, Sink};
 
 /// Writes a table of these rows.
 pub(crate) fn put_read_table<W: Sink>(rows: &[ReadRow<'_>], sink: &mut W) -> Result<(), DeviceFault>

@@ -11,8 +11,8 @@ ghost use Rattle.j39_groups.specs.ValueText.{value_text, number_text, scaled_tex
 use crate::slot::Slot;
 use crate::value::Value;
 use arrayvec::ArrayVec;
-use j39_io::{DeviceFault, Sink, put_all};
 use j39_io::printing::{push_bytes, push_number};
+use j39_io::{DeviceFault, Sink, put_all};
 
 /// A sign, 20 digits, a point, 255 places, a space and a unit fit.
 pub type Text = ArrayVec<u8, 288>;

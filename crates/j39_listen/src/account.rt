@@ -9,8 +9,8 @@ ghost use Rattle.j39_listen.specs.declared.account.LineFault.TheVariants.{Memory
 ghost use Rattle.j39_listen.specs.Asking.{Wanting};
 
 use crate::counts::Made;
-use j39_io::{DeviceFault, Sink};
 use j39_frame::Frame;
+use j39_io::{DeviceFault, Sink};
 use j39_log::Bus;
 
 /// Why a line was not finished.

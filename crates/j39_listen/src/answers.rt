@@ -28,8 +28,8 @@ use crate::counts::Made;
 use crate::running::{RunFault, run_over};
 use crate::{Counts, Heard, Listener};
 use j39_address::{Claimer, Name, commanded_of};
-use j39_io::{DeviceFault, Sink, Source, put_all};
 use j39_frame::{Frame, GLOBAL_ADDRESS, Stamp};
+use j39_io::{DeviceFault, Sink, Source, put_all};
 use j39_log::{Bus, line_of};
 use std::alloc::{AllocError, Global};
 

@@ -11,11 +11,9 @@ use crate::Heard;
 use j39_address::Name;
 use j39_frame::Pgn;
 use j39_groups::HEAD;
-use j39_log::Seconds;
-use j39_io::backwards::{
-    byte_before, bytes_before, hex_before, last_digits_before, number_before,
-};
+use j39_io::backwards::{byte_before, bytes_before, hex_before, last_digits_before, number_before};
 use j39_io::vectors::hex_of_eight;
+use j39_log::Seconds;
 
 /// Writes the head of a message's lines at the end of a block, and answers where it starts.
 #[inline(always)]

@@ -12,8 +12,8 @@ ghost use Rattle.j39_listen.specs.declared.account.LineFault.TheVariants.{Memory
 
 use crate::account::{Account, LineFault};
 use crate::counts::{Met, Tally};
-use j39_io::Sink;
 use j39_frame::Frame;
+use j39_io::Sink;
 use j39_log::{Bus, LastSecond, Line};
 
 /// The bus of a run, once it is known, the account of its frames, and what was met so far.

@@ -23,10 +23,10 @@ use crate::headed::run_headed;
 use crate::running::{RunFault, run_over};
 use arrayvec::ArrayVec;
 use j39_address::{Claims, Name};
-use j39_io::{DeviceFault, Sink, Source, put_all};
 use j39_frame::{Frame, NULL_ADDRESS};
-use j39_log::Bus;
 use j39_io::printing::{push_bytes, push_hex};
+use j39_io::{DeviceFault, Sink, Source, put_all};
+use j39_log::Bus;
 
 /// Writes, after the whole log, a line for each address that is held, rising: the address and the NAME
 /// that holds it. The log has at most `limit` bytes; without a bus it is that of the first frame in it.

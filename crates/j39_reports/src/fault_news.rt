@@ -3,13 +3,13 @@
 mod account;
 mod form;
 mod last_faults;
+mod last_message;
+mod last_messages;
 pub mod laws;
 mod lines;
 mod names;
-mod last_messages;
 mod records;
 mod run;
-mod last_message;
 mod telling;
 
 pub use run::{faults, faults_csv};

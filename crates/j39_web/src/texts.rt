@@ -15,12 +15,11 @@ ghost use Rattle.j39_web.specs.Text.{AsksSomewhere, IsMade, IsPublished, IsSurve
 ghost use Rattle.j39_web.specs.declared.texts.Refusal.TheVariants.{Memory, TooSmall};
 
 use crate::room::{LogBytes, Room};
-use j39_io::{DeviceFault, put_all};
-use j39_reports::Telling;
 use j39_groups::Groups;
+use j39_io::{DeviceFault, put_all};
 use j39_listen::{Counts, RunFault, run_with};
 use j39_log::Bus;
-use j39_reports::summary_csv;
+use j39_reports::{Telling, summary_csv};
 use j39_table::TableFault;
 use std::alloc::{AllocError, Global};
 

@@ -6,8 +6,8 @@ ghost use Rattle.j39_log.specs.Line.{IsFrameLine};
 ghost use Rattle.j39_io.specs.Chars.{space};
 
 use crate::bus::are_same;
-use crate::line::body_of;
 use crate::fast::plain::frame_at;
+use crate::line::body_of;
 use crate::{Bus, LastSecond};
 use j39_frame::Frame;
 

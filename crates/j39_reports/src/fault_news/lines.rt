@@ -13,19 +13,19 @@ ghost use Rattle.j39_reports.specs.FaultRecords.{faults_text, head_fields};
 ghost use Rattle.j39_reports.specs.FaultsSoFar.{head_in, line_of};
 ghost use Rattle.j39_reports.specs.declared.fault_news.form.FaultForm.TheVariants.{Line, Record};
 
+use crate::columns::{push_name, push_name_or_dashes, push_seconds};
 use crate::fault_news::form::{FaultForm, Writing};
 use crate::fault_news::names::name_in;
 use crate::fault_news::records::put_fields;
+use crate::utc::utc_text;
 use arrayvec::ArrayVec;
 use j39_address::Name;
-use crate::columns::{push_name, push_name_or_dashes, push_seconds};
-use crate::utc::utc_text;
-use j39_io::{DeviceFault, Sink, put_all};
 use j39_faults::{Code, Kind, Lamps, codes_of, put_code, put_no_code};
 use j39_groups::Groups;
+use j39_io::printing::{push_bytes, push_hex};
+use j39_io::{DeviceFault, Sink, put_all};
 use j39_listen::Heard;
 use j39_log::push_stamp;
-use j39_io::printing::{push_bytes, push_hex};
 
 /// What the lines of a message begin with, or its records.
 type Head = ArrayVec<u8, 72>;

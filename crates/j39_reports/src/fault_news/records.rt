@@ -8,11 +8,10 @@ ghost use Rattle.j39_reports.specs.FaultRecords.{count_field, fields_with, fmi_f
 
 use crate::fault_news::names::name_in;
 use arrayvec::ArrayVec;
-use j39_io::put_record;
-use j39_io::{DeviceFault, Sink};
 use j39_faults::{Code, Kind, Lamps, fmi_words, kind_word, lamps_on, spn_words};
 use j39_groups::{Groups, decimal_of};
 use j39_io::printing::{push_bytes, push_hex};
+use j39_io::{DeviceFault, Sink, put_record};
 
 /// A number, or what stands for a name.
 type Field = ArrayVec<u8, 32>;

@@ -15,9 +15,9 @@ ghost use Rattle.j39_reports.specs.ReportRecords.{MakesRecords, records_of};
 ghost use Rattle.j39_reports.specs.EntryText.{header_text};
 
 use crate::report_records::records::put_heard;
-use j39_io::{DeviceFault, Sink, Source};
 use j39_frame::Frame;
 use j39_groups::Groups;
+use j39_io::{DeviceFault, Sink, Source};
 use j39_listen::{Account, Counts, LineFault, Listener, Made, RunFault, run_headed};
 use j39_log::Bus;
 use std::alloc::{AllocError, Global};

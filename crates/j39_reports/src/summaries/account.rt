@@ -16,9 +16,9 @@ ghost use Rattle.j39_reports.specs.SummaryRun.{AsksForRows, MakesSummary, MakesS
 
 use crate::summaries::lines::put_rows;
 use crate::summaries::rows::{RowForm, Rows};
-use j39_io::{DeviceFault, Sink, Source};
 use j39_frame::Frame;
 use j39_groups::Groups;
+use j39_io::{DeviceFault, Sink, Source};
 use j39_listen::{Account, Counts, LineFault, Listener, Made, RunFault, run_headed, run_over};
 use j39_log::Bus;
 use std::alloc::{AllocError, Global};

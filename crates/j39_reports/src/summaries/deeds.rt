@@ -14,9 +14,9 @@ ghost use Rattle.j39_frame.specs.declared.origin.Origin.{Origin};
 
 use crate::summaries::kept::Kept;
 use crate::summaries::measure::{Measure, are_comparable};
-use j39_memory::OriginChange;
 use j39_frame::Stamp;
 use j39_groups::{ReadValue, Value};
+use j39_memory::OriginChange;
 use std::alloc::{AllocError, Global};
 
 /// A value with its moment.

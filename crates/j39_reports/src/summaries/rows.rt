@@ -12,11 +12,10 @@ ghost use Rattle.j39_reports.specs.SummaryRun.{WantsRow};
 
 use crate::summaries::deeds::{Deeds, OneMore};
 use j39_address::Name;
-use j39_frame::Origin;
-use j39_memory::ByOrigin;
-use j39_frame::{Pgn, Stamp};
+use j39_frame::{Origin, Pgn, Stamp};
 use j39_groups::{ReadValue, ReadingVisitor};
 use j39_listen::Heard;
+use j39_memory::ByOrigin;
 use std::alloc::{AllocError, Global};
 
 /// How a row is written.

@@ -5,8 +5,8 @@ ghost use Rattle.j39_frame.specs.Identifier.{id_raw, pgn_of, source_of};
 ghost use Rattle.j39_reports.specs.GroupCounts.{group_of};
 
 use crate::surveys::addresses::Addresses;
-use j39_memory::{ByGroup, GroupChange};
 use j39_frame::Id;
+use j39_memory::{ByGroup, GroupChange};
 use std::alloc::{AllocError, Global};
 
 /// The frames of a group so far.

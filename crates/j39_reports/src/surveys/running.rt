@@ -9,8 +9,8 @@ ghost use Rattle.j39_reports.specs.SurveySoFar.{HasReadLog, HasTaken, TakesSome}
 
 use crate::surveys::pieces::Pieces;
 use crate::surveys::writing::put_survey;
-use j39_io::{DeviceFault, Sink, Source};
 use j39_groups::Groups;
+use j39_io::{DeviceFault, Sink, Source};
 use j39_listen::RunFault;
 use std::alloc::Global;
 

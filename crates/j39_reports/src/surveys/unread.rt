@@ -8,8 +8,8 @@ ghost use Rattle.j39_reports.specs.SurveyModels.{shown_record};
 ghost use Rattle.j39_reports.specs.UnreadLines.{shown_of};
 
 use arrayvec::ArrayVec;
-use j39_log::{RawLine, is_printed};
 use j39_io::printing::push_bytes;
+use j39_log::{RawLine, is_printed};
 
 /// How many bytes of an unread line are told.
 const FRONT: usize = 60;
