@@ -1,8 +1,7 @@
 -- the calendar
 mod CalendarLemmas
--- the report as records: a message's records, and the account
+-- the report as records: a message's records
 pub mod RecordLemmas
-pub mod RecordsAccount
 -- summaries: a summary, entry by entry
 pub mod OriginLemmas
 pub mod FirstLemmas
