@@ -99,8 +99,8 @@ module _ (form : Form) (groups : List RowRecord) where
         ap (λ (o : Output). o.text) all_is ∙ ap (report_text form groups) split.1 ∙ report_text-append first split.0 ∙ ap (λ t. t ++ report_text form groups split.0) (sym (ap (λ (o : Output). o.text) is)),
       )
 
-  pub report_begins : {E : Type 0} → Begins {Report E} (λ bus. HasReported form groups) (MakesReportIn form groups)
-  report_begins = λ bus r F G before all has made.
+  pub report_begins : (E : Type 0) → Begins {A = Report E} (λ bus. HasReported form groups) (MakesReportIn form groups)
+  report_begins E = λ bus r F G before all has made.
       let t = texts bus F G has.heard before all has.are_heard has.output_is made in
       (report_text form groups t.0, t.1)
 
