@@ -144,7 +144,7 @@ pub(crate) struct OneMore<'t, 'v> {
     pub value: ReadValue<'t, 'v>,
 }
 
-impl<'t, 'v> Change<Deeds<'t>> for OneMore<'t, 'v> {
+impl<'t, 'v> OriginChange<Deeds<'t>> for OneMore<'t, 'v> {
     ghost use Rattle.std.specs.Prelude.{OnErr, OnOk};
     ghost use Rattle.j39_groups.specs.ReadValues.{read_value_of};
     ghost use Rattle.j39_reports.specs.RowsSoFar.{HasGrown};
