@@ -9,7 +9,7 @@ use Rattle.j39_controller.specs.Controller.{BroadcastsAt, HasNode, IsFreeAt, IsS
 use Rattle.j39_controller.specs.Inbox.{ReceivedRecord, received_of}
 use Rattle.j39_controller.specs.MaySend.{MaySend, held_in}
 use Rattle.j39_controller.specs.declared.controller.Controller.{Controller}
-use Rattle.j39_controller.specs.declared.outbox.Part.{Part}
+use Rattle.j39_controller.specs.declared.outbox.MessageFrame.{MessageFrame}
 use Rattle.j39_controller.specs.declared.outbox.Wish.{Wish}
 use Rattle.j39_controller.specs.declared.settled.Ending.TheVariants as ending
 use Rattle.j39_controller.specs.declared.settled.Settled.{Settled}
@@ -70,7 +70,7 @@ pub record Transfers (old : Controller) (number to pgn : ℕ) (bytes : List ℕ)
 
 -- ---- a frame is taken
 
-abbrev pub part_of : ℕ → Bool → Option Part
+abbrev pub part_of : ℕ → Bool → Option MessageFrame
 part_of number is_last = Some (record { number = number; is_last = is_last })
 
 -- the frame that goes out, by what a call answered and wrote out: 0 none, 1 one that is no part of a message that was
