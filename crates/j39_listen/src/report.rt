@@ -23,9 +23,9 @@ use crate::listener::by_itself;
 use crate::report_lines::Pen;
 use crate::running::{RunFault, run_over};
 use crate::{Counts, Listener};
-use j39_io::{DeviceFault, Sink, Source};
 use j39_frame::{Frame, is_address};
 use j39_groups::{Groups, is_network_group};
+use j39_io::{DeviceFault, Sink, Source};
 use j39_log::Bus;
 use std::alloc::{AllocError, Global};
 

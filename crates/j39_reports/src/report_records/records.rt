@@ -15,16 +15,15 @@ ghost use Rattle.j39_listen.specs.HeardModel.{hearing_of};
 ghost use Rattle.j39_reports.specs.EntryText.{begin_text, group_called, named_fields, parameter_called, value_fields};
 ghost use Rattle.j39_reports.specs.MessageRecords.{IsBegun};
 
-use arrayvec::ArrayVec;
-use j39_address::Name;
 use crate::columns::{push_name, push_seconds};
 use crate::utc::utc_text;
-use j39_io::put_behind_comma;
-use j39_io::{DeviceFault, Sink, put_all};
+use arrayvec::ArrayVec;
+use j39_address::Name;
 use j39_frame::Pgn;
 use j39_groups::{Groups, ReadValue, ReadingVisitor, push_decimal};
-use j39_listen::{EntryForm, Heard};
 use j39_io::printing::{push_bytes, push_hex};
+use j39_io::{DeviceFault, Sink, put_all, put_behind_comma};
+use j39_listen::{EntryForm, Heard};
 
 /// What the records of a message begin with: stamp, date and time of day, address, NAME and PGN.
 type Begin = ArrayVec<u8, 80>;

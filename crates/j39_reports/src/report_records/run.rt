@@ -8,8 +8,8 @@ ghost use Rattle.j39_reports.specs.EntryText.{header_text};
 ghost use Rattle.j39_reports.specs.ReportRecords.{MakesRecords};
 
 use crate::report_records::records::RecordForm;
-use j39_io::{Sink, Source};
 use j39_groups::Groups;
+use j39_io::{Sink, Source};
 use j39_listen::{Counts, Report, RunFault, run_headed};
 use j39_log::Bus;
 use std::alloc::Global;
