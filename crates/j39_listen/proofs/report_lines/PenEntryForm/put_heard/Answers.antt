@@ -1,18 +1,15 @@
 -- What the table's lines are is the text of the entries.
-use Rattle.std.proofs.Common.{◌≡◌, ◌∙◌, List, ℕ, ap, arith, subst, sym}
+use Rattle.std.proofs.Common.{◌≡◌, ◌∙◌, List, ℕ, ap, subst, sym}
 use Rattle.std.specs.Io.KnownBytes.{Appends}
 use Rattle.std.specs.List.{flat_map}
-use Rattle.std.proofs.lemmas.List.{length-map}
 use Rattle.std.proofs.lemmas.List.Folds.{flat_map-map}
 use Rattle.j39_io.specs.Device.{AppendsFront}
 use Rattle.j39_groups.specs.Quick.{reading_line}
 use Rattle.j39_groups.specs.Readings.{readings_in}
 use Rattle.j39_groups.specs.Row.{RowRecord}
-use Rattle.j39_listen.specs.Counting.{capped}
 use Rattle.j39_listen.specs.Heard.{Hearing}
 use Rattle.j39_listen.specs.HeardModel.{hearing_of}
 use Rattle.j39_listen.specs.Report.{entries_of, entry_of, entry_text, hearing_head}
-use Rattle.j39_listen.proofs.LineLemmas.{capped-fits}
 use Rattle.j39_listen.proofs.report_lines.PenEntryForm.put_heard.Goals as goal
 
 lines_are : (groups : List RowRecord) (h : Hearing) (head : List ℕ) → head ≡ hearing_head h
@@ -21,12 +18,6 @@ unfolding entry_text
 lines_are groups h head is =
     ap (λ x. flat_map (reading_line x) (readings_in groups h.message.pgn h.message.bytes)) is
     ∙ sym (flat_map-map entry_text (entry_of h) (readings_in groups h.message.pgn h.message.bytes))
-
-pub returns-in-Ok-clause-lines : goal.returns-in-Ok-clause-lines
-returns-in-Ok-clause-lines g c =
-    let h = hearing_of c.args.heard.now in
-    sym (capped-fits c.in-Ok.lines (omega arith))
-    ∙ ap capped (c.in-Ok.ensures.lines ∙ sym (length-map (readings_in c.args.groups.now h.message.pgn h.message.bytes) (entry_of h)))
 
 pub returns-in-Ok-clause-written : goal.returns-in-Ok-clause-written
 returns-in-Ok-clause-written g c =
