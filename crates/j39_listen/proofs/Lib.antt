@@ -14,7 +14,6 @@ pub mod Feeding
 pub mod Existing
 pub mod ListenerLemmas
 -- the accounts: for those of `report`, `nodes` and `answer`
-pub mod ReportLemmas
 pub mod ReportAccount
 pub mod NodeLemmas
 pub mod AnswerLemmas

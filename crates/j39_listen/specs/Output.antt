@@ -10,7 +10,7 @@ use Rattle.j39_listen.specs.Heard.{AreHeard, Hearing}
 use Rattle.j39_listen.specs.Nodes.{AreNodes, Holding, nodes_text}
 use Rattle.j39_listen.specs.declared.node_list.NodeForm.{NodeForm}
 use Rattle.j39_listen.specs.declared.node_list.NodeForm.TheVariants.{Line}
-use Rattle.j39_listen.specs.Report.{entries_of, report_text}
+use Rattle.j39_listen.specs.Report.{Form, entries_of, entry_text, report_text}
 
 -- a text, for so many messages, in so many lines
 pub record Output : Type 0 where
@@ -30,17 +30,22 @@ Meeting A = List ℕ → A → List FrameRecord → Output → Type 0
 abbrev pub nothing : Output
 nothing = record { text = []; messages = 0; lines = 0 }
 
-abbrev pub report_of : List RowRecord → List Hearing → Output
-report_of groups heard = record {
-  text = report_text groups heard;
+abbrev pub report_of : Form → List RowRecord → List Hearing → Output
+report_of form groups heard = record {
+  text = report_text form groups heard;
   messages = length heard;
   lines =
       length (flat_map (entries_of groups) heard);
 }
 
--- the report of what is heard in the frames, whatever their bus is called
+-- the report of what is heard in the frames, whatever their bus is called, in a form
+abbrev pub MakesReportIn : Form → List RowRecord → Making
+MakesReportIn form groups bus F output =
+    (heard : List Hearing) × AreHeard groups F heard × (output ≡ report_of form groups heard)
+
+-- a line for each entry
 abbrev pub MakesReport : List RowRecord → Making
-MakesReport groups bus F output = (heard : List Hearing) × AreHeard groups F heard × (output ≡ report_of groups heard)
+MakesReport = MakesReportIn (λ groups. entry_text)
 
 -- no message counts
 abbrev pub nodes_of : NodeForm → List Holding → Output

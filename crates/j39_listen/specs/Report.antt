@@ -64,9 +64,13 @@ unfoldable pub entry_text : Entry → List ℕ
 entry_text e = head_text e.stamp e.address e.name e.pgn ++ decimal e.spn ++ codes " " ++ value_text e.value
     ++ (newline ∷ [])
 
-unfoldable pub text_of : List Entry → List ℕ
+abbrev pub text_of : List Entry → List ℕ
 text_of entries = flat_map entry_text entries
 
+-- how an entry is written by a table of parameters: in a line, or otherwise
+abbrev pub Form : Type 0
+Form = List RowRecord → Entry → List ℕ
+
 -- the text of the report of these messages
-abbrev pub report_text : List RowRecord → List Hearing → List ℕ
-report_text groups heard = text_of (flat_map (entries_of groups) heard)
+abbrev pub report_text : Form → List RowRecord → List Hearing → List ℕ
+report_text form groups heard = flat_map (form groups) (flat_map (entries_of groups) heard)

@@ -18,8 +18,9 @@ ghost use Rattle.j39_listen.specs.declared.account.LineFault.TheVariants as line
 
 use crate::account::{Account, LineFault};
 use crate::counts::Made;
+use crate::entry_form::EntryForm;
 use crate::listener::by_itself;
-use crate::report_lines::{Pen, put_heard};
+use crate::report_lines::Pen;
 use crate::running::{RunFault, run_over};
 use crate::{Counts, Listener};
 use j39_frame::{Frame, is_address};
@@ -79,51 +80,51 @@ pub fn run_with<R: Source, W: Sink>(
     // What was written is passed on at the end, and before each read.
     ensures flushed { PassesOn result (W.is_flushed sink.old) (W.is_flushed sink.new) }
 {
-    run_over(Report::new(alloc, groups), source, sink, bus, limit)
+    let pen = Pen::new();
+    run_over(Report::new(alloc, groups, pen), source, sink, bus, limit)
 }
 
-/// What is heard so far, and the numbers of its report.
+/// What is heard so far, and the numbers of its report in a form.
 #[derive(Drop)]
-pub(crate) struct Report<'g, 't> {
+pub struct Report<'g, 't, E> {
     groups: &'g Groups<'t>,
     listener: Listener,
     made: Made,
-    pen: Pen,
+    form: E,
 }
 
-impl<'g, 't> Report<'g, 't> {
+impl<'g, 't, E: EntryForm> Report<'g, 't, E> {
     /// The report of no frames.
-    pub fn new(alloc: Global, groups: &'g Groups<'t>) -> Report<'g, 't>
-        ensures { HasReported groups.entry.now result [] (report_of groups.entry.now []) }
+    pub fn new(alloc: Global, groups: &'g Groups<'t>, form: E) -> Report<'g, 't, E>
+        ensures { HasReported E.text_by groups.entry.now result [] (report_of E.text_by groups.entry.now []) }
     {
         Report {
             groups,
             listener: Listener::new(alloc),
             made: Made::default(),
-            pen: Pen::new(),
+            form,
         }
     }
 }
 
-impl<'g, 't> Account for Report<'g, 't> {
+impl<'g, 't, E: EntryForm> Account for Report<'g, 't, E> {
     ghost use Rattle.std.specs.Prelude.{List};
     ghost use Rattle.j39_groups.specs.Row.{RowRecord};
-    ghost use Rattle.j39_listen.specs.AccountCalls.{Begins, MakesOne};
     ghost use Rattle.j39_listen.specs.Asking.{AsksForBoxes};
-    ghost use Rattle.j39_listen.specs.Output.{MakesReport};
+    ghost use Rattle.j39_listen.specs.Output.{MakesReportIn};
     ghost use Rattle.j39_listen.specs.ReportSoFar.{HasReported};
 
     ghost Subject = { List RowRecord };
 
-    ghost has_met = { λ subject bus. HasReported subject };
+    ghost has_met = { λ subject bus. HasReported E.text_by subject };
 
-    ghost makes = { λ subject. MakesReport subject };
+    ghost makes = { λ subject. MakesReportIn E.text_by subject };
 
     ghost asks = { λ subject. AsksForBoxes };
 
     #[inline(always)]
     fn feed<W: Sink>(&mut self, _: &Bus, frame: &Frame, sink: &mut W) -> Result<(), LineFault> {
-        match put_frame(&mut self.listener, self.groups, &mut self.pen, frame, sink) {
+        match put_frame(&mut self.listener, self.groups, &mut self.form, frame, sink) {
             Ok(None) => {
                 self.made = self.made.and(Made {
                     messages: 0,
@@ -143,27 +144,25 @@ impl<'g, 't> Account for Report<'g, 't> {
         Ok(self.made)
     }
 
-    fn laws()
-        ensures begins { (subject : List RowRecord) → Begins (λ bus. HasReported subject) (MakesReport subject) }
-        ensures one { (subject : List RowRecord) → MakesOne (MakesReport subject) }
-    {}
+    fn laws() {}
 }
 
 /// Writes the report of what is heard at a frame of the run's bus, and answers how many lines, where something is.
 /// Most frames are heard by themselves, or not at all: those are done with here, and no `Option` is built of them.
 #[inline(always)]
-fn put_frame<W: Sink>(
+fn put_frame<E: EntryForm, W: Sink>(
     listener: &mut Listener,
     groups: &Groups<'_>,
-    pen: &mut Pen,
+    form: &mut E,
     frame: &Frame,
     sink: &mut W,
 ) -> Result<Option<u64>, LineFault>
     ensures met { IfOk result (λ lines. (F : List FrameRecord) → Hears listener.old F
-        → MeetsFrame groups.now listener.new F frame.now (made_by lines) (W.written sink.old) (W.written sink.new)) }
+        → MeetsFrame E.text_by groups.now listener.new F frame.now (made_by lines) (W.written sink.old)
+        (W.written sink.new)) }
     ensures writer { LeavesWriter result (turn W.written W.has_failed sink.old sink.new) }
     ensures stops { result ≡ Err line_fault.Write → (F : List FrameRecord) → Hears listener.old F
-        → StopsFrame groups.now F frame.now (W.written sink.old) (W.written sink.new) }
+        → StopsFrame E.text_by groups.now F frame.now (W.written sink.old) (W.written sink.new) }
     ensures asked { result ≡ Err line_fault.Memory → (F : List FrameRecord) → Hears listener.old F
         → AsksForBoxes F frame.now }
 {
@@ -172,7 +171,7 @@ fn put_frame<W: Sink>(
         if !is_address(frame.id.source()) {
             return Ok(None);
         }
-        return match put_single(listener, groups, pen, frame, sink) {
+        return match put_single(listener, groups, form, frame, sink) {
             Ok(lines) => Ok(Some(lines)),
             Err(DeviceFault) => Err(LineFault::Write),
         };
@@ -180,28 +179,29 @@ fn put_frame<W: Sink>(
     if !is_network_group(pgn) {
         return Ok(None);
     }
-    put_packet(listener, groups, pen, frame, sink)
+    put_packet(listener, groups, form, frame, sink)
 }
 
 /// Writes the report of a frame that is heard by itself, and answers how many lines.
 #[inline(never)]
-fn put_single<W: Sink>(
+fn put_single<E: EntryForm, W: Sink>(
     listener: &Listener,
     groups: &Groups<'_>,
-    pen: &mut Pen,
+    form: &mut E,
     frame: &Frame,
     sink: &mut W,
 ) -> Result<u64, DeviceFault>
     requires reported { is_reported_in groups.now (pgn_of frame.now.id) ≡ true }
     requires address { source_of frame.now.id < 254 }
     ensures met { IfOk result (λ lines. (F : List FrameRecord) → Hears listener.now F
-        → MeetsFrame groups.now listener.now F frame.now (made_by (Some lines)) (W.written sink.old) (W.written sink.new)) }
+        → MeetsFrame E.text_by groups.now listener.now F frame.now (made_by (Some lines)) (W.written sink.old)
+        (W.written sink.new)) }
     ensures stops { OnErr result ((F : List FrameRecord) → Hears listener.now F
-        → StopsFrame groups.now F frame.now (W.written sink.old) (W.written sink.new)) }
+        → StopsFrame E.text_by groups.now F frame.now (W.written sink.old) (W.written sink.new)) }
     ensures mark { Marks result (W.has_failed sink.old) (W.has_failed sink.new) }
 {
     let heard = by_itself(frame, listener.holder(frame.id.source()));
-    match put_heard(&heard, groups, pen, sink) {
+    match form.put_heard(&heard, groups, sink) {
         Ok(lines) => Ok(lines),
         Err(DeviceFault) => Err(DeviceFault),
     }
@@ -209,25 +209,26 @@ fn put_single<W: Sink>(
 
 /// Writes the report of what is heard at a frame of the network's, and answers how many lines, where something is.
 #[inline(never)]
-fn put_packet<W: Sink>(
+fn put_packet<E: EntryForm, W: Sink>(
     listener: &mut Listener,
     groups: &Groups<'_>,
-    pen: &mut Pen,
+    form: &mut E,
     frame: &Frame,
     sink: &mut W,
 ) -> Result<Option<u64>, LineFault>
     ensures met { IfOk result (λ lines. (F : List FrameRecord) → Hears listener.old F
-        → MeetsFrame groups.now listener.new F frame.now (made_by lines) (W.written sink.old) (W.written sink.new)) }
+        → MeetsFrame E.text_by groups.now listener.new F frame.now (made_by lines) (W.written sink.old)
+        (W.written sink.new)) }
     ensures writer { LeavesWriter result (turn W.written W.has_failed sink.old sink.new) }
     ensures stops { result ≡ Err line_fault.Write → (F : List FrameRecord) → Hears listener.old F
-        → StopsFrame groups.now F frame.now (W.written sink.old) (W.written sink.new) }
+        → StopsFrame E.text_by groups.now F frame.now (W.written sink.old) (W.written sink.new) }
     ensures asked { result ≡ Err line_fault.Memory → (F : List FrameRecord) → Hears listener.old F
         → AsksForBoxes F frame.now }
 {
     match listener.feed_with(groups, frame) {
         Err(AllocError) => Err(LineFault::Memory),
         Ok(None) => Ok(None),
-        Ok(Some(heard)) => match put_heard(&heard, groups, pen, sink) {
+        Ok(Some(heard)) => match form.put_heard(&heard, groups, sink) {
             Ok(lines) => Ok(Some(lines)),
             Err(DeviceFault) => Err(LineFault::Write),
         },

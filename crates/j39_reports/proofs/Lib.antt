@@ -3,9 +3,8 @@ mod CalendarLemmas
 -- parts that stand one behind the other, and how long numbers are
 pub mod PartLemmas
 pub mod NumberLemmas
--- the report as records: a message's records, and the account
+-- the report as records: a message's records
 pub mod RecordLemmas
-pub mod RecordsAccount
 -- summaries: a summary, entry by entry
 pub mod OriginLemmas
 pub mod FirstLemmas

@@ -7,7 +7,6 @@ pub mod EntryText
 pub mod ReportRecords
 -- the report as records: the code's steps
 pub mod MessageRecords
-pub mod RecordsSoFar
 -- summaries: what a report's values did, and its text
 pub mod Summary
 pub mod RowText

@@ -1,6 +1,6 @@
 //! The report of a log as records of comma-separated values (RFC 4180).
 
-mod account;
 mod records;
+mod run;
 
-pub use account::report_csv;
+pub use run::report_csv;

@@ -1,5 +1,5 @@
 //! The records of a message.
-ghost use Rattle.std.specs.Prelude.{◌≡◌, ◌+◌, ◌≤◌, ◌++◌, ◌∷◌, [], OnErr, OnOk, IfOk, decimal, false, length};
+ghost use Rattle.std.specs.Prelude.{◌≡◌, ◌+◌, ◌≤◌, ◌++◌, ◌∷◌, [], OnErr, OnOk, decimal, false};
 ghost use Rattle.std.specs.Io.KnownBytes.{Appends};
 ghost use Rattle.std.specs.List.{flat_map};
 ghost use Rattle.std.specs.Option.{option_map};
@@ -11,10 +11,8 @@ ghost use Rattle.j39_frame.specs.Pgn.{pgn_raw};
 ghost use Rattle.j39_frame.specs.Stamp.{stamp_micros};
 ghost use Rattle.j39_groups.specs.ReadValues.{read_value_of};
 ghost use Rattle.j39_groups.specs.ValueText.{bare_text};
-ghost use Rattle.j39_listen.specs.Counting.{capped};
-ghost use Rattle.j39_listen.specs.Report.{entries_of};
 ghost use Rattle.j39_listen.specs.HeardModel.{hearing_of};
-ghost use Rattle.j39_reports.specs.EntryText.{begin_text, entries_text, group_called, named_fields, parameter_called, value_fields};
+ghost use Rattle.j39_reports.specs.EntryText.{begin_text, group_called, named_fields, parameter_called, value_fields};
 ghost use Rattle.j39_reports.specs.MessageRecords.{IsBegun};
 
 use crate::columns::{push_name, push_seconds};
@@ -25,7 +23,7 @@ use j39_frame::Pgn;
 use j39_groups::{Groups, ReadValue, ReadingVisitor, push_decimal};
 use j39_io::printing::{push_bytes, push_hex};
 use j39_io::{DeviceFault, Sink, put_all, put_behind_comma};
-use j39_listen::Heard;
+use j39_listen::{EntryForm, Heard};
 
 /// What the records of a message begin with: stamp, date and time of day, address, NAME and PGN.
 type Begin = ArrayVec<u8, 80>;
@@ -57,23 +55,26 @@ impl<'g, 't> Records<'g, 't> {
     }
 }
 
-/// Writes a record for each reading of a message by a table, and answers how many.
-pub(crate) fn put_heard<W: Sink>(
-    heard: &Heard<'_>,
-    groups: &Groups<'_>,
-    sink: &mut W,
-) -> Result<u64, DeviceFault>
-    ensures lines { IfOk result (λ n. n ≡ capped (length (entries_of groups.now (hearing_of heard.now)))) }
-    ensures written { OnOk result (Appends (W.written sink.old) (W.written sink.new)
-        (entries_text groups.now (entries_of groups.now (hearing_of heard.now)))) }
-    ensures front { OnErr result (AppendsFront (W.written sink.old) (W.written sink.new)
-        (entries_text groups.now (entries_of groups.now (hearing_of heard.now)))) }
-    ensures mark { Marks result (W.has_failed sink.old) (W.has_failed sink.new) }
-{
-    let mut records = Records::new(groups, heard);
-    match groups.visit(heard.message.pgn, heard.message.payload, &mut records, sink) {
-        Ok(()) => Ok(records.lines),
-        Err(DeviceFault) => Err(DeviceFault),
+/// The form of records: one for each entry.
+#[derive(Drop)]
+pub(crate) struct RecordForm;
+
+impl EntryForm for RecordForm {
+    ghost use Rattle.j39_reports.specs.EntryText.{entry_record};
+
+    ghost text_by = { entry_record };
+
+    fn put_heard<W: Sink>(
+        &mut self,
+        heard: &Heard<'_>,
+        groups: &Groups<'_>,
+        sink: &mut W,
+    ) -> Result<u64, DeviceFault> {
+        let mut records = Records::new(groups, heard);
+        match groups.visit(heard.message.pgn, heard.message.payload, &mut records, sink) {
+            Ok(()) => Ok(records.lines),
+            Err(DeviceFault) => Err(DeviceFault),
+        }
     }
 }
 

@@ -6,7 +6,7 @@ use Rattle.j39_listen.specs.Counting.{capped}
 use Rattle.j39_listen.specs.Report.{entry_of}
 use Rattle.j39_listen.specs.HeardModel.{hearing_of}
 use Rattle.j39_reports.proofs.RecordLemmas.{puts_all, stops_among}
-use Rattle.j39_reports.proofs.report_records.records.put_heard.Goals as goal
+use Rattle.j39_reports.proofs.report_records.records.RecordFormEntryForm.put_heard.Goals as goal
 
 pub returns-in-Ok-clause-lines : goal.returns-in-Ok-clause-lines
 returns-in-Ok-clause-lines g c =
