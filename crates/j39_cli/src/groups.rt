@@ -1,8 +1,7 @@
 //! The command `groups`: its words, and how it is performed.
-ghost use Rattle.std.specs.Prelude.{◌≡◌, ◌≢◌, IfOk, OnErr, OnOk, codes, true, Err};
-ghost use Rattle.std.specs.Io.KnownBytes.{Appends};
+ghost use Rattle.std.specs.Prelude.{◌≡◌, ◌≢◌, IfOk, OnOk, codes, true, Err};
+ghost use Rattle.j39_io.specs.Puts.{Puts};
 ghost use Rattle.clap.specs.Words.{first_value, found_of};
-ghost use Rattle.j39_io.specs.Device.{AppendsFront, Marks};
 ghost use Rattle.j39_io.specs.Turn.{turn};
 ghost use Rattle.j39_groups.specs.Printed.{rows_text};
 ghost use Rattle.j39_cli.specs.CommandWords as written;
@@ -72,10 +71,8 @@ pub(crate) fn perform<W: Sink, E: Sink>(groups: &Groups<'_>, sink: &mut W, err: 
 
 /// Writes the lines and passes them on.
 fn put_lines<W: Sink>(groups: &Groups<'_>, sink: &mut W) -> Result<(), DeviceFault>
-    ensures ok { OnOk result (Appends (W.written sink.old) (W.written sink.new) (rows_text groups.now)) }
-    ensures err { OnErr result (AppendsFront (W.written sink.old) (W.written sink.new) (rows_text groups.now)) }
+    ensures puts { Puts (rows_text groups.now) result (turn W.written W.has_failed sink.old sink.new) }
     ensures flushed { OnOk result (W.is_flushed sink.new ≡ true) }
-    ensures mark { Marks result (W.has_failed sink.old) (W.has_failed sink.new) }
 {
     groups.put(sink)?;
     sink.flush()

@@ -1,7 +1,6 @@
 //! What the program says where it has no task, or can't open the log.
-ghost use Rattle.std.specs.Prelude.{◌≡◌, ◌↔◌, OnOk, codes};
-ghost use Rattle.std.specs.Io.KnownBytes.{Appends};
-ghost use Rattle.j39_io.specs.Device.{Marks};
+ghost use Rattle.std.specs.Prelude.{◌≡◌, ◌↔◌, codes};
+ghost use Rattle.j39_io.specs.Puts.{Puts};
 ghost use Rattle.j39_io.specs.Turn.{Writes, turn};
 ghost use Rattle.j39_cli.specs.Refusal.{IsHelp, IsWrongLine, error_line, error_words, out_words};
 
@@ -71,8 +70,7 @@ pub(crate) fn complain<E: Sink>(err: &mut E, words: &[u8], name: &[u8])
 }
 
 fn put_line<E: Sink>(err: &mut E, words: &[u8], name: &[u8]) -> Result<(), DeviceFault>
-    ensures ok { OnOk result (Appends (E.written err.old) (E.written err.new) (error_line words.now name.now)) }
-    ensures mark { Marks result (E.has_failed err.old) (E.has_failed err.new) }
+    ensures { Puts (error_line words.now name.now) result (turn E.written E.has_failed err.old err.new) }
 {
     put_all(err, b"j1939: ")?;
     put_all(err, words)?;

@@ -1,10 +1,10 @@
 //! The text of a code (own).
-ghost use Rattle.std.specs.Prelude.{◌≡◌, ◌+◌, ◌≤◌, ◌++◌, codes, decimal, length, OnOk, OnErr};
-ghost use Rattle.std.specs.Io.KnownBytes.{Appends};
+ghost use Rattle.std.specs.Prelude.{◌≡◌, ◌+◌, ◌≤◌, ◌++◌, codes, decimal, length};
 ghost use Rattle.std.specs.Option.{option_map};
 ghost use Rattle.arrayvec.specs.ArrayVec.{array_vec_len};
 ghost use Rattle.hex.specs.Hex.{encode_upper};
-ghost use Rattle.j39_io.specs.Device.{AppendsFront, Marks};
+ghost use Rattle.j39_io.specs.Puts.{Puts};
+ghost use Rattle.j39_io.specs.Turn.{turn};
 ghost use Rattle.j39_faults.specs.Text.{code_text, columns_text, count_text, kind_text, lamps_text, meaning_text, name_text, no_code_text};
 
 use crate::code::Code;
@@ -34,11 +34,8 @@ pub fn put_code<W: Sink>(
     code: Code,
     sink: &mut W,
 ) -> Result<(), DeviceFault>
-    ensures ok { OnOk result (Appends (W.written sink.old) (W.written sink.new)
-        (code_text kind lamps (option_map (λ text. text.now) name.entry) code)) }
-    ensures err { OnErr result (AppendsFront (W.written sink.old) (W.written sink.new)
-        (code_text kind lamps (option_map (λ text. text.now) name.entry) code)) }
-    ensures mark { Marks result (W.has_failed sink.old) (W.has_failed sink.new) }
+    ensures { Puts (code_text kind lamps (option_map (λ text. text.now) name.entry) code)
+        result (turn W.written W.has_failed sink.old sink.new) }
 {
     match code {
         Code::Known { spn, fmi, count } => {
@@ -52,9 +49,7 @@ pub fn put_code<W: Sink>(
 /// Writes that a message has no code (own), with no newline: `active none - -`, with the lamps that
 /// are on in the place of the last dash. After a fault a front of the text was written.
 pub fn put_no_code<W: Sink>(kind: Kind, lamps: Lamps, sink: &mut W) -> Result<(), DeviceFault>
-    ensures ok { OnOk result (Appends (W.written sink.old) (W.written sink.new) (no_code_text kind lamps)) }
-    ensures err { OnErr result (AppendsFront (W.written sink.old) (W.written sink.new) (no_code_text kind lamps)) }
-    ensures mark { Marks result (W.has_failed sink.old) (W.has_failed sink.new) }
+    ensures { Puts (no_code_text kind lamps) result (turn W.written W.has_failed sink.old sink.new) }
 {
     put_all(sink, no_code_text(kind, lamps).as_slice())
 }
@@ -67,11 +62,8 @@ fn put_known<W: Sink>(
     fmi: u8,
     sink: &mut W,
 ) -> Result<(), DeviceFault>
-    ensures ok { OnOk result (Appends (W.written sink.old) (W.written sink.new) (columns.now
-        ++ name_text spn (option_map (λ text. text.now) name.entry) ++ meaning_text fmi)) }
-    ensures err { OnErr result (AppendsFront (W.written sink.old) (W.written sink.new) (columns.now
-        ++ name_text spn (option_map (λ text. text.now) name.entry) ++ meaning_text fmi)) }
-    ensures mark { Marks result (W.has_failed sink.old) (W.has_failed sink.new) }
+    ensures { Puts (columns.now ++ name_text spn (option_map (λ text. text.now) name.entry) ++ meaning_text fmi)
+        result (turn W.written W.has_failed sink.old sink.new) }
 {
     put_all(sink, columns)?;
     put_name(spn, name, sink)?;
@@ -79,11 +71,8 @@ fn put_known<W: Sink>(
 }
 
 fn put_name<W: Sink>(spn: u32, name: Option<&[u8]>, sink: &mut W) -> Result<(), DeviceFault>
-    ensures ok { OnOk result (Appends (W.written sink.old) (W.written sink.new)
-        (name_text spn (option_map (λ text. text.now) name.entry))) }
-    ensures err { OnErr result (AppendsFront (W.written sink.old) (W.written sink.new)
-        (name_text spn (option_map (λ text. text.now) name.entry))) }
-    ensures mark { Marks result (W.has_failed sink.old) (W.has_failed sink.new) }
+    ensures { Puts (name_text spn (option_map (λ text. text.now) name.entry))
+        result (turn W.written W.has_failed sink.old sink.new) }
 {
     match name {
         Some(name) => put_all(sink, name),
@@ -92,9 +81,7 @@ fn put_name<W: Sink>(spn: u32, name: Option<&[u8]>, sink: &mut W) -> Result<(), 
 }
 
 fn put_meaning<W: Sink>(fmi: u8, sink: &mut W) -> Result<(), DeviceFault>
-    ensures ok { OnOk result (Appends (W.written sink.old) (W.written sink.new) (meaning_text fmi)) }
-    ensures err { OnErr result (AppendsFront (W.written sink.old) (W.written sink.new) (meaning_text fmi)) }
-    ensures mark { Marks result (W.has_failed sink.old) (W.has_failed sink.new) }
+    ensures { Puts (meaning_text fmi) result (turn W.written W.has_failed sink.old sink.new) }
 {
     put_all(sink, b": ")?;
     put_all(sink, fmi_words(fmi).as_bytes())

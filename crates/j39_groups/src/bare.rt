@@ -1,7 +1,7 @@
 //! The text of a value without its unit, and the unit (own).
-ghost use Rattle.std.specs.Prelude.{◌≡◌, OnErr, OnOk};
-ghost use Rattle.std.specs.Io.KnownBytes.{Appends};
-ghost use Rattle.j39_io.specs.Device.{AppendsFront, Marks};
+ghost use Rattle.std.specs.Prelude.{◌≡◌};
+ghost use Rattle.j39_io.specs.Puts.{Puts};
+ghost use Rattle.j39_io.specs.Turn.{turn};
 ghost use Rattle.j39_groups.specs.ReadValues.{read_value_of};
 ghost use Rattle.j39_groups.specs.Models.{value_of};
 ghost use Rattle.j39_groups.specs.ValueText.{bare_text, unit_of};
@@ -15,10 +15,7 @@ impl<'t> ReadValue<'t, '_> {
     /// Writes a number in decimal with its places, a word, or a text in quotes. After a fault a front of that was written.
     #[tactic(auto, unfolding(crate::specs::ValueText::bare_text))]
     pub fn put_bare<W: Sink>(self, sink: &mut W) -> Result<(), DeviceFault>
-        ensures ok { OnOk result (Appends (W.written sink.old) (W.written sink.new) (bare_text (read_value_of self.entry))) }
-        ensures err { OnErr result (AppendsFront (W.written sink.old) (W.written sink.new)
-            (bare_text (read_value_of self.entry))) }
-        ensures mark { Marks result (W.has_failed sink.old) (W.has_failed sink.new) }
+        ensures { Puts (bare_text (read_value_of self.entry)) result (turn W.written W.has_failed sink.old sink.new) }
     {
         match self {
             ReadValue::Number(number, scale) => {
@@ -42,9 +39,7 @@ impl<'t> ReadValue<'t, '_> {
 
 #[tactic(auto, unfolding(crate::specs::ValueText::bare_text))]
 fn put_bare_plain<W: Sink>(value: &Value<'_>, sink: &mut W) -> Result<(), DeviceFault>
-    ensures ok { OnOk result (Appends (W.written sink.old) (W.written sink.new) (bare_text (value_of value.now))) }
-    ensures err { OnErr result (AppendsFront (W.written sink.old) (W.written sink.new) (bare_text (value_of value.now))) }
-    ensures mark { Marks result (W.has_failed sink.old) (W.has_failed sink.new) }
+    ensures { Puts (bare_text (value_of value.now)) result (turn W.written W.has_failed sink.old sink.new) }
 {
     match *value {
         Value::Number(number, slot) => put_all(sink, scaled_text(number, slot.places()).as_slice()),

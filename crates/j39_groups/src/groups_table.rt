@@ -1,10 +1,8 @@
 //! A table of parameters, as its callers see it.
-ghost use Rattle.std.specs.Prelude.{◌≡◌, ◌==◌, ◌<◌, ◌≤◌, IfOk, IsOk, IsTrue, OnOk, OnErr, drop, false, filter, length, map, nat_lt, slice_get, true};
-ghost use Rattle.std.specs.Io.KnownBytes.{Appends};
+ghost use Rattle.std.specs.Prelude.{◌≡◌, ◌==◌, ◌<◌, ◌≤◌, IfOk, IsOk, IsTrue, OnOk, OnErr, drop, false, filter, length, map, nat_lt, true};
 ghost use Rattle.std.specs.List.{filter_map, flat_map, prefix_len};
 ghost use Rattle.std.specs.List.Sorted.{IsNonDecreasingBy, IsPartitionPoint};
 ghost use Rattle.j39_frame.specs.Pgn.{pgn_raw};
-ghost use Rattle.j39_io.specs.Device.{AppendsFront, Marks};
 ghost use Rattle.j39_groups.specs.Names.{group_name_in, name_in, parameter_name};
 ghost use Rattle.j39_groups.specs.Printed.{rows_text};
 ghost use Rattle.j39_groups.specs.Quick.{reading_line};
@@ -14,6 +12,8 @@ ghost use Rattle.j39_groups.specs.Table.{the_table};
 ghost use Rattle.j39_groups.specs.Visits.{Stops, Takes};
 ghost use Rattle.j39_memory.specs.Items.{items_of};
 ghost use Rattle.std.specs.Option.{option_copied, option_map};
+ghost use Rattle.j39_io.specs.Puts.{Puts};
+ghost use Rattle.j39_io.specs.Turn.{turn};
 
 use crate::by_group::by_group;
 use crate::lines::put_found;
@@ -121,9 +121,7 @@ impl<'t> Groups<'t> {
     /// its SPN, where it stands in the payload, what a raw step is worth, the value of the raw number 0, the unit, and
     /// its name. After a fault a front was written.
     pub fn put<W: Sink>(&self, sink: &mut W) -> Result<(), DeviceFault>
-        ensures ok { OnOk result (Appends (W.written sink.old) (W.written sink.new) (rows_text self.now)) }
-        ensures err { OnErr result (AppendsFront (W.written sink.old) (W.written sink.new) (rows_text self.now)) }
-        ensures mark { Marks result (W.has_failed sink.old) (W.has_failed sink.new) }
+        ensures { Puts (rows_text self.now) result (turn W.written W.has_failed sink.old sink.new) }
     {
         match &self.listed {
             Listed::BuiltIn => printed::put_built_in(sink),
@@ -146,11 +144,8 @@ impl<'t> Groups<'t> {
     ) -> Result<u64, DeviceFault>
         requires { from ≤ 48 }
         ensures lines { IfOk result (λ n. n ≡ length (readings_in self.now (pgn_raw pgn) bytes.now)) }
-        ensures written { OnOk result (Appends (W.written sink.old) (W.written sink.new)
-            (flat_map (reading_line (drop from head.now)) (readings_in self.now (pgn_raw pgn) bytes.now))) }
-        ensures front { OnErr result (AppendsFront (W.written sink.old) (W.written sink.new)
-            (flat_map (reading_line (drop from head.now)) (readings_in self.now (pgn_raw pgn) bytes.now))) }
-        ensures mark { Marks result (W.has_failed sink.old) (W.has_failed sink.new) }
+        ensures puts { Puts (flat_map (reading_line (drop from head.now)) (readings_in self.now (pgn_raw pgn) bytes.now))
+            result (turn W.written W.has_failed sink.old sink.new) }
     {
         match &self.listed {
             Listed::BuiltIn => put_built_in(block, head, from, pgn, bytes, sink),
@@ -307,11 +302,8 @@ fn put_built_in<W: Sink>(
 ) -> Result<u64, DeviceFault>
     requires { from ≤ 48 }
     ensures lines { IfOk result (λ n. n ≡ length (readings_in the_table (pgn_raw pgn) bytes.now)) }
-    ensures written { OnOk result (Appends (W.written sink.old) (W.written sink.new)
-        (flat_map (reading_line (drop from head.now)) (readings_in the_table (pgn_raw pgn) bytes.now))) }
-    ensures front { OnErr result (AppendsFront (W.written sink.old) (W.written sink.new)
-        (flat_map (reading_line (drop from head.now)) (readings_in the_table (pgn_raw pgn) bytes.now))) }
-    ensures mark { Marks result (W.has_failed sink.old) (W.has_failed sink.new) }
+    ensures puts { Puts (flat_map (reading_line (drop from head.now)) (readings_in the_table (pgn_raw pgn) bytes.now))
+        result (turn W.written W.has_failed sink.old sink.new) }
 {
     match lines_before(block, head, from, pgn, bytes) {
         Some((start, lines)) => {
@@ -327,11 +319,8 @@ fn put_built_in<W: Sink>(
 fn put_each<W: Sink>(head: &[u8], pgn: Pgn, bytes: &[u8], sink: &mut W) -> Result<u64, DeviceFault>
     requires { length head.now ≤ 48 }
     ensures lines { IfOk result (λ n. n ≡ length (readings_in the_table (pgn_raw pgn) bytes.now)) }
-    ensures written { OnOk result (Appends (W.written sink.old) (W.written sink.new)
-        (flat_map (reading_line head.now) (readings_in the_table (pgn_raw pgn) bytes.now))) }
-    ensures front { OnErr result (AppendsFront (W.written sink.old) (W.written sink.new)
-        (flat_map (reading_line head.now) (readings_in the_table (pgn_raw pgn) bytes.now))) }
-    ensures mark { Marks result (W.has_failed sink.old) (W.has_failed sink.new) }
+    ensures puts { Puts (flat_map (reading_line head.now) (readings_in the_table (pgn_raw pgn) bytes.now))
+        result (turn W.written W.has_failed sink.old sink.new) }
 {
     let found = readings(pgn, bytes);
     put_found(head, found.as_slice(), sink)?;
@@ -352,13 +341,8 @@ fn put_read<W: Sink>(
     requires { from ≤ 48 }
     ensures lines { IfOk result (λ n.
         n ≡ length (readings_in (map read_row_record (items_of table.now.rows)) (pgn_raw pgn) bytes.now)) }
-    ensures written { OnOk result (Appends (W.written sink.old) (W.written sink.new)
-        (flat_map (reading_line (drop from head.now))
-        (readings_in (map read_row_record (items_of table.now.rows)) (pgn_raw pgn) bytes.now))) }
-    ensures front { OnErr result (AppendsFront (W.written sink.old) (W.written sink.new)
-        (flat_map (reading_line (drop from head.now))
-        (readings_in (map read_row_record (items_of table.now.rows)) (pgn_raw pgn) bytes.now))) }
-    ensures mark { Marks result (W.has_failed sink.old) (W.has_failed sink.new) }
+    ensures puts { Puts (flat_map (reading_line (drop from head.now)) (readings_in (map read_row_record (items_of table.now.rows)) (pgn_raw pgn) bytes.now))
+        result (turn W.written W.has_failed sink.old sink.new) }
 {
     let hint = mark(&table.marks, pgn);
     put_group(
@@ -388,11 +372,8 @@ fn put_group<W: Sink>(
     requires few { length rows.now ≤ 65536 }
     requires from { from ≤ 48 }
     ensures lines { IfOk result (λ n. n ≡ length (readings_in (map read_row_record rows.now) pgn bytes.now)) }
-    ensures written { OnOk result (Appends (W.written sink.old) (W.written sink.new)
-        (flat_map (reading_line (drop from head.now)) (readings_in (map read_row_record rows.now) pgn bytes.now))) }
-    ensures front { OnErr result (AppendsFront (W.written sink.old) (W.written sink.new)
-        (flat_map (reading_line (drop from head.now)) (readings_in (map read_row_record rows.now) pgn bytes.now))) }
-    ensures mark { Marks result (W.has_failed sink.old) (W.has_failed sink.new) }
+    ensures puts { Puts (flat_map (reading_line (drop from head.now)) (readings_in (map read_row_record rows.now) pgn bytes.now))
+        result (turn W.written W.has_failed sink.old sink.new) }
 {
     put_rows(block, group_of(rows, hint, pgn), head, from, bytes, sink)
 }

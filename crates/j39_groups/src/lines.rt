@@ -1,8 +1,8 @@
 //! The lines of readings, one by one.
-ghost use Rattle.std.specs.Prelude.{◌≡◌, ◌≤◌, OnOk, OnErr, length};
-ghost use Rattle.std.specs.Io.KnownBytes.{Appends};
+ghost use Rattle.std.specs.Prelude.{◌≡◌, ◌≤◌, length};
 ghost use Rattle.std.specs.List.{flat_map};
-ghost use Rattle.j39_io.specs.Device.{AppendsFront, Marks};
+ghost use Rattle.j39_io.specs.Puts.{Puts};
+ghost use Rattle.j39_io.specs.Turn.{turn};
 ghost use Rattle.j39_groups.specs.Quick.{reading_line};
 ghost use Rattle.j39_groups.specs.Models.{reading_of};
 
@@ -19,11 +19,8 @@ pub(crate) fn put_found<W: Sink>(
     sink: &mut W,
 ) -> Result<(), DeviceFault>
     requires { length head.now ≤ 48 }
-    ensures written { OnOk result (Appends (W.written sink.old) (W.written sink.new)
-        (flat_map (λ r. reading_line head.now (reading_of r)) found.now)) }
-    ensures front { OnErr result (AppendsFront (W.written sink.old) (W.written sink.new)
-        (flat_map (λ r. reading_line head.now (reading_of r)) found.now)) }
-    ensures mark { Marks result (W.has_failed sink.old) (W.has_failed sink.new) }
+    ensures { Puts (flat_map (λ r. reading_line head.now (reading_of r)) found.now)
+        result (turn W.written W.has_failed sink.old sink.new) }
 {
     for reading in found {
         put_reading(head, reading, sink)?;
@@ -34,11 +31,7 @@ pub(crate) fn put_found<W: Sink>(
 /// Writes the line of one reading.
 fn put_reading<W: Sink>(head: &[u8], reading: &Reading<'_>, sink: &mut W) -> Result<(), DeviceFault>
     requires { length head.now ≤ 48 }
-    ensures written { OnOk result (Appends (W.written sink.old) (W.written sink.new)
-        (reading_line head.now (reading_of reading.now))) }
-    ensures front { OnErr result (AppendsFront (W.written sink.old) (W.written sink.new)
-        (reading_line head.now (reading_of reading.now))) }
-    ensures mark { Marks result (W.has_failed sink.old) (W.has_failed sink.new) }
+    ensures { Puts (reading_line head.now (reading_of reading.now)) result (turn W.written W.has_failed sink.old sink.new) }
 {
     let mut line = ArrayVec::<u8, 64>::new();
     push_bytes(&mut line, head);

@@ -1,9 +1,10 @@
 //! The table of parameters, as it is printed (own).
-ghost use Rattle.std.specs.Prelude.{◌≡◌, ◌+◌, ◌≤◌, ◌++◌, codes, decimal, map, OnOk, OnErr};
+ghost use Rattle.std.specs.Prelude.{◌≡◌, ◌+◌, ◌≤◌, ◌++◌, codes, decimal};
 ghost use Rattle.std.specs.Io.KnownBytes.{Appends};
 ghost use Rattle.std.specs.List.{flat_map};
 ghost use Rattle.arrayvec.specs.ArrayVec.{array_vec_len};
-ghost use Rattle.j39_io.specs.Device.{AppendsFront, Marks};
+ghost use Rattle.j39_io.specs.Puts.{Puts};
+ghost use Rattle.j39_io.specs.Turn.{turn};
 ghost use Rattle.j39_groups.specs.TableChecks.{field_record, row_record};
 ghost use Rattle.j39_groups.specs.Printed.{line_of_columns, parameters_text, place_text, range_text, row_text, rows_text, scale_columns, scale_text, slot_text};
 ghost use Rattle.j39_groups.specs.Models.{slot_record};
@@ -22,28 +23,21 @@ use j39_io::{DeviceFault, Sink, put_all};
 /// worth, the value of the raw number 0, the unit, and its name. After a fault a front was written.
 #[tactic(auto, unfolding(crate::specs::Printed::parameters_text))]
 pub fn put_parameters<W: Sink>(sink: &mut W) -> Result<(), DeviceFault>
-    ensures ok { OnOk result (Appends (W.written sink.old) (W.written sink.new) parameters_text) }
-    ensures err { OnErr result (AppendsFront (W.written sink.old) (W.written sink.new) parameters_text) }
-    ensures mark { Marks result (W.has_failed sink.old) (W.has_failed sink.new) }
+    ensures { Puts parameters_text result (turn W.written W.has_failed sink.old sink.new) }
 {
     put_built_in(sink)
 }
 
 /// Writes the table that is built in.
 pub(crate) fn put_built_in<W: Sink>(sink: &mut W) -> Result<(), DeviceFault>
-    ensures ok { OnOk result (Appends (W.written sink.old) (W.written sink.new) (rows_text the_table)) }
-    ensures err { OnErr result (AppendsFront (W.written sink.old) (W.written sink.new) (rows_text the_table)) }
-    ensures mark { Marks result (W.has_failed sink.old) (W.has_failed sink.new) }
+    ensures { Puts (rows_text the_table) result (turn W.written W.has_failed sink.old sink.new) }
 {
     put_parameters_of(rows(), sink)
 }
 
 fn put_parameters_of<W: Sink>(rows: &[Row], sink: &mut W) -> Result<(), DeviceFault>
-    ensures ok { OnOk result (Appends (W.written sink.old) (W.written sink.new)
-        (flat_map (λ row. row_text (row_record row)) rows.now)) }
-    ensures err { OnErr result (AppendsFront (W.written sink.old) (W.written sink.new)
-        (flat_map (λ row. row_text (row_record row)) rows.now)) }
-    ensures mark { Marks result (W.has_failed sink.old) (W.has_failed sink.new) }
+    ensures { Puts (flat_map (λ row. row_text (row_record row)) rows.now)
+        result (turn W.written W.has_failed sink.old sink.new) }
 {
     for row in rows {
         put_row(row, sink)?;
@@ -53,10 +47,7 @@ fn put_parameters_of<W: Sink>(rows: &[Row], sink: &mut W) -> Result<(), DeviceFa
 
 /// Writes a parameter's line.
 fn put_row<W: Sink>(row: &Row, sink: &mut W) -> Result<(), DeviceFault>
-    ensures ok { OnOk result (Appends (W.written sink.old) (W.written sink.new) (row_text (row_record row.now))) }
-    ensures err { OnErr result (AppendsFront (W.written sink.old) (W.written sink.new)
-        (row_text (row_record row.now))) }
-    ensures mark { Marks result (W.has_failed sink.old) (W.has_failed sink.new) }
+    ensures { Puts (row_text (row_record row.now)) result (turn W.written W.has_failed sink.old sink.new) }
 {
     let place = place_of(row.field);
     let scale = scale_of(row.field);
@@ -91,13 +82,8 @@ pub(crate) fn put_columns<'x, W: Sink>(
     name: &'x [u8],
     sink: &mut W,
 ) -> Result<(), DeviceFault>
-    ensures ok { OnOk result (Appends (W.written sink.old) (W.written sink.new)
-        (line_of_columns pgn group.now spn place.now
-        (scale_columns scale.now.step.items scale.now.offset.items scale.now.unit.now) name.now)) }
-    ensures err { OnErr result (AppendsFront (W.written sink.old) (W.written sink.new)
-        (line_of_columns pgn group.now spn place.now
-        (scale_columns scale.now.step.items scale.now.offset.items scale.now.unit.now) name.now)) }
-    ensures mark { Marks result (W.has_failed sink.old) (W.has_failed sink.new) }
+    ensures { Puts (line_of_columns pgn group.now spn place.now (scale_columns scale.now.step.items scale.now.offset.items scale.now.unit.now) name.now)
+        result (turn W.written W.has_failed sink.old sink.new) }
 {
     let pgn = decimal_of(pgn);
     let spn = decimal_of(spn);
@@ -123,11 +109,7 @@ pub(crate) fn put_columns<'x, W: Sink>(
 }
 
 pub(crate) fn put_parts<W: Sink>(parts: &[&[u8]], sink: &mut W) -> Result<(), DeviceFault>
-    ensures ok { OnOk result (Appends (W.written sink.old) (W.written sink.new)
-        (flat_map (λ part. part.now) parts.now)) }
-    ensures err { OnErr result (AppendsFront (W.written sink.old) (W.written sink.new)
-        (flat_map (λ part. part.now) parts.now)) }
-    ensures mark { Marks result (W.has_failed sink.old) (W.has_failed sink.new) }
+    ensures { Puts (flat_map (λ part. part.now) parts.now) result (turn W.written W.has_failed sink.old sink.new) }
 {
     for part in parts {
         put_all(sink, part)?;

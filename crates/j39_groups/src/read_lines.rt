@@ -1,8 +1,8 @@
 //! The lines of the readings by a table that was read.
-ghost use Rattle.std.specs.Prelude.{◌≡◌, ◌≤◌, ◌*◌, IfOk, OnOk, OnErr, drop, length};
-ghost use Rattle.std.specs.Io.KnownBytes.{Appends};
+ghost use Rattle.std.specs.Prelude.{◌≡◌, ◌≤◌, ◌*◌, IfOk, drop, length};
 ghost use Rattle.std.specs.List.{flat_map};
-ghost use Rattle.j39_io.specs.Device.{AppendsFront, Marks};
+ghost use Rattle.j39_io.specs.Puts.{Puts};
+ghost use Rattle.j39_io.specs.Turn.{turn};
 ghost use Rattle.j39_groups.specs.Quick.{reading_line};
 ghost use Rattle.j39_groups.specs.ReadFields.{HasOneValue};
 ghost use Rattle.j39_groups.specs.ReadLines.{number_line, row_lines, row_readings, text_readings};
@@ -38,11 +38,8 @@ pub(crate) fn put_rows<W: Sink>(
     requires from { from ≤ 48 }
     requires few { length rows.now ≤ 65536 }
     ensures lines { IfOk result (λ n. n ≡ length (flat_map (row_readings bytes.now) rows.now)) }
-    ensures written { OnOk result (Appends (W.written sink.old) (W.written sink.new)
-        (flat_map (row_lines (drop from head.now) bytes.now) rows.now)) }
-    ensures front { OnErr result (AppendsFront (W.written sink.old) (W.written sink.new)
-        (flat_map (row_lines (drop from head.now) bytes.now) rows.now)) }
-    ensures mark { Marks result (W.has_failed sink.old) (W.has_failed sink.new) }
+    ensures puts { Puts (flat_map (row_lines (drop from head.now) bytes.now) rows.now)
+        result (turn W.written W.has_failed sink.old sink.new) }
 {
     let mut lines = 0u64;
     let mut at = 0;
@@ -70,11 +67,8 @@ fn put_chunk<W: Sink>(
     requires few { length rows.now ≤ 65536 }
     ensures lines { IfOk result (λ n. n ≡ length (flat_map (row_readings bytes.now) rows.now)) }
     ensures few { IfOk result (λ n. n ≤ 32 * length rows.now) }
-    ensures written { OnOk result (Appends (W.written sink.old) (W.written sink.new)
-        (flat_map (row_lines (drop from head.now) bytes.now) rows.now)) }
-    ensures front { OnErr result (AppendsFront (W.written sink.old) (W.written sink.new)
-        (flat_map (row_lines (drop from head.now) bytes.now) rows.now)) }
-    ensures mark { Marks result (W.has_failed sink.old) (W.has_failed sink.new) }
+    ensures puts { Puts (flat_map (row_lines (drop from head.now) bytes.now) rows.now)
+        result (turn W.written W.has_failed sink.old sink.new) }
 {
     match rows_before(block, head, from, rows, bytes) {
         Some((start, lines)) => {
@@ -99,11 +93,8 @@ fn put_each_row<W: Sink>(
     requires few { length rows.now ≤ 65536 }
     ensures lines { IfOk result (λ n. n ≡ length (flat_map (row_readings bytes.now) rows.now)) }
     ensures few { IfOk result (λ n. n ≤ 32 * length rows.now) }
-    ensures written { OnOk result (Appends (W.written sink.old) (W.written sink.new)
-        (flat_map (row_lines (drop from head.now) bytes.now) rows.now)) }
-    ensures front { OnErr result (AppendsFront (W.written sink.old) (W.written sink.new)
-        (flat_map (row_lines (drop from head.now) bytes.now) rows.now)) }
-    ensures mark { Marks result (W.has_failed sink.old) (W.has_failed sink.new) }
+    ensures puts { Puts (flat_map (row_lines (drop from head.now) bytes.now) rows.now)
+        result (turn W.written W.has_failed sink.old sink.new) }
 {
     let mut lines = 0u64;
     for row in rows {
@@ -125,11 +116,8 @@ fn put_row<W: Sink>(
     requires { from ≤ 48 }
     ensures lines { IfOk result (λ n. n ≡ length (row_readings bytes.now row.now)) }
     ensures few { IfOk result (λ n. n ≤ 32) }
-    ensures written { OnOk result (Appends (W.written sink.old) (W.written sink.new)
-        (row_lines (drop from head.now) bytes.now row.now)) }
-    ensures front { OnErr result (AppendsFront (W.written sink.old) (W.written sink.new)
-        (row_lines (drop from head.now) bytes.now row.now)) }
-    ensures mark { Marks result (W.has_failed sink.old) (W.has_failed sink.new) }
+    ensures puts { Puts (row_lines (drop from head.now) bytes.now row.now)
+        result (turn W.written W.has_failed sink.old sink.new) }
 {
     match row.field {
         ReadField::Number { .. } => put_one(block, row, head, from, bytes, sink),
@@ -154,11 +142,8 @@ fn put_texts<W: Sink>(
     requires few { count ≤ 31 }
     ensures lines { IfOk result (λ n. n ≡ length (text_readings spn bytes.now count)) }
     ensures few { IfOk result (λ n. n ≤ 32) }
-    ensures written { OnOk result (Appends (W.written sink.old) (W.written sink.new)
-        (flat_map (reading_line head.now) (text_readings spn bytes.now count))) }
-    ensures front { OnErr result (AppendsFront (W.written sink.old) (W.written sink.new)
-        (flat_map (reading_line head.now) (text_readings spn bytes.now count))) }
-    ensures mark { Marks result (W.has_failed sink.old) (W.has_failed sink.new) }
+    ensures puts { Puts (flat_map (reading_line head.now) (text_readings spn bytes.now count))
+        result (turn W.written W.has_failed sink.old sink.new) }
 {
     let mut found = ArrayVec::new();
     push_texts(&mut found, spn, bytes, count);
@@ -180,11 +165,8 @@ fn put_one<W: Sink>(
     requires one { HasOneValue row.now.field }
     ensures lines { IfOk result (λ n. n ≡ length (row_readings bytes.now row.now)) }
     ensures few { IfOk result (λ n. n ≤ 32) }
-    ensures written { OnOk result (Appends (W.written sink.old) (W.written sink.new)
-        (row_lines (drop from head.now) bytes.now row.now)) }
-    ensures front { OnErr result (AppendsFront (W.written sink.old) (W.written sink.new)
-        (row_lines (drop from head.now) bytes.now row.now)) }
-    ensures mark { Marks result (W.has_failed sink.old) (W.has_failed sink.new) }
+    ensures puts { Puts (row_lines (drop from head.now) bytes.now row.now)
+        result (turn W.written W.has_failed sink.old sink.new) }
 {
     match value_in(bytes, row.field) {
         Some(value) => {
@@ -205,11 +187,8 @@ fn put_value_line<W: Sink>(
     sink: &mut W,
 ) -> Result<(), DeviceFault>
     requires { from ≤ 48 }
-    ensures written { OnOk result (Appends (W.written sink.old) (W.written sink.new)
-        (reading_line (drop from head.now) (record { spn = spn; value = read_value_of value.entry }))) }
-    ensures front { OnErr result (AppendsFront (W.written sink.old) (W.written sink.new)
-        (reading_line (drop from head.now) (record { spn = spn; value = read_value_of value.entry }))) }
-    ensures mark { Marks result (W.has_failed sink.old) (W.has_failed sink.new) }
+    ensures { Puts (reading_line (drop from head.now) (record { spn = spn; value = read_value_of value.entry }))
+        result (turn W.written W.has_failed sink.old sink.new) }
 {
     match quick_line(block, LINES, head, from, spn, value) {
         Some(start) => put_all(sink, &block[start..]),
@@ -226,11 +205,8 @@ fn put_parts_line<W: Sink>(
     sink: &mut W,
 ) -> Result<(), DeviceFault>
     requires { length head.now ≤ 48 }
-    ensures written { OnOk result (Appends (W.written sink.old) (W.written sink.new)
-        (reading_line head.now (record { spn = spn; value = read_value_of value.entry }))) }
-    ensures front { OnErr result (AppendsFront (W.written sink.old) (W.written sink.new)
-        (reading_line head.now (record { spn = spn; value = read_value_of value.entry }))) }
-    ensures mark { Marks result (W.has_failed sink.old) (W.has_failed sink.new) }
+    ensures { Puts (reading_line head.now (record { spn = spn; value = read_value_of value.entry }))
+        result (turn W.written W.has_failed sink.old sink.new) }
 {
     match value {
         ReadValue::Number(number, scale) => {
@@ -249,11 +225,7 @@ fn put_number_line<'x, W: Sink>(
     unit: &'x [u8],
     sink: &mut W,
 ) -> Result<(), DeviceFault>
-    ensures written { OnOk result (Appends (W.written sink.old) (W.written sink.new)
-        (number_line head.now spn text.now unit.now)) }
-    ensures front { OnErr result (AppendsFront (W.written sink.old) (W.written sink.new)
-        (number_line head.now spn text.now unit.now)) }
-    ensures mark { Marks result (W.has_failed sink.old) (W.has_failed sink.new) }
+    ensures { Puts (number_line head.now spn text.now unit.now) result (turn W.written W.has_failed sink.old sink.new) }
 {
     let spn = decimal_of(spn);
     let parts: [&[u8]; 7] = [head, spn.as_slice(), b" ", text, b" ", unit, b"\n"];

@@ -1,9 +1,10 @@
 //! A table that was built, as it is printed (own).
-ghost use Rattle.std.specs.Prelude.{◌≡◌, ◌+◌, ◌*◌, ◌≤◌, ◌<◌, ◌^◌, ◌++◌, OnOk, OnErr, decimal, length, map};
+ghost use Rattle.std.specs.Prelude.{◌≡◌, ◌+◌, ◌*◌, ◌≤◌, ◌<◌, ◌^◌, ◌++◌, decimal, map};
 ghost use Rattle.std.specs.Io.KnownBytes.{Appends};
 ghost use Rattle.std.specs.List.{flat_map};
 ghost use Rattle.arrayvec.specs.ArrayVec.{array_vec_len};
-ghost use Rattle.j39_io.specs.Device.{AppendsFront, Marks};
+ghost use Rattle.j39_io.specs.Puts.{Puts};
+ghost use Rattle.j39_io.specs.Turn.{turn};
 ghost use Rattle.j39_groups.specs.Printed.{bits_end, bits_text, place_text, row_text, rows_text, scale_columns, scale_text, slot_text};
 ghost use Rattle.j39_groups.specs.ReadFields.{IsSoundRead, read_field_record, scale_record};
 ghost use Rattle.j39_groups.specs.ReadRows.{read_row_record};
@@ -21,22 +22,15 @@ use j39_io::{DeviceFault, Sink};
 
 /// Writes a table of these rows.
 pub(crate) fn put_read_table<W: Sink>(rows: &[ReadRow<'_>], sink: &mut W) -> Result<(), DeviceFault>
-    ensures ok { OnOk result (Appends (W.written sink.old) (W.written sink.new)
-        (rows_text (map read_row_record rows.now))) }
-    ensures err { OnErr result (AppendsFront (W.written sink.old) (W.written sink.new)
-        (rows_text (map read_row_record rows.now))) }
-    ensures mark { Marks result (W.has_failed sink.old) (W.has_failed sink.new) }
+    ensures { Puts (rows_text (map read_row_record rows.now)) result (turn W.written W.has_failed sink.old sink.new) }
 {
     put_read_rows(rows, sink)
 }
 
 /// Writes a line for each row.
 fn put_read_rows<W: Sink>(rows: &[ReadRow<'_>], sink: &mut W) -> Result<(), DeviceFault>
-    ensures ok { OnOk result (Appends (W.written sink.old) (W.written sink.new)
-        (flat_map (λ row. row_text (read_row_record row)) rows.now)) }
-    ensures err { OnErr result (AppendsFront (W.written sink.old) (W.written sink.new)
-        (flat_map (λ row. row_text (read_row_record row)) rows.now)) }
-    ensures mark { Marks result (W.has_failed sink.old) (W.has_failed sink.new) }
+    ensures { Puts (flat_map (λ row. row_text (read_row_record row)) rows.now)
+        result (turn W.written W.has_failed sink.old sink.new) }
 {
     for row in rows {
         put_read_row(row, sink)?;
@@ -46,11 +40,7 @@ fn put_read_rows<W: Sink>(rows: &[ReadRow<'_>], sink: &mut W) -> Result<(), Devi
 
 /// Writes a row's line.
 fn put_read_row<W: Sink>(row: &ReadRow<'_>, sink: &mut W) -> Result<(), DeviceFault>
-    ensures ok { OnOk result (Appends (W.written sink.old) (W.written sink.new)
-        (row_text (read_row_record row.now))) }
-    ensures err { OnErr result (AppendsFront (W.written sink.old) (W.written sink.new)
-        (row_text (read_row_record row.now))) }
-    ensures mark { Marks result (W.has_failed sink.old) (W.has_failed sink.new) }
+    ensures { Puts (row_text (read_row_record row.now)) result (turn W.written W.has_failed sink.old sink.new) }
 {
     let place = place_of(row.field);
     let scale = scale_of(row.field);

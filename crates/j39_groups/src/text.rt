@@ -1,10 +1,11 @@
 //! The text of a value (own).
-ghost use Rattle.std.specs.Prelude.{◌≡◌, ◌+◌, ◌*◌, ◌/◌, ◌%◌, ◌^◌, ◌<◌, ◌≤◌, ◌++◌, ◌∷◌, [], length, true, OnOk, OnErr};
+ghost use Rattle.std.specs.Prelude.{◌≡◌, ◌+◌, ◌*◌, ◌/◌, ◌%◌, ◌^◌, ◌<◌, ◌≤◌, ◌++◌, ◌∷◌, [], true};
 ghost use Rattle.std.specs.Io.KnownBytes.{Appends};
 ghost use Rattle.std.specs.List.{flat_map};
 ghost use Rattle.std.specs.Fmt.{decimal, digit_glyph};
 ghost use Rattle.arrayvec.specs.ArrayVec.{array_vec_len};
-ghost use Rattle.j39_io.specs.Device.{Marks, AppendsFront};
+ghost use Rattle.j39_io.specs.Puts.{Puts};
+ghost use Rattle.j39_io.specs.Turn.{turn};
 ghost use Rattle.j39_groups.specs.Models.{value_of, slot_record};
 ghost use Rattle.j39_groups.specs.ValueText.{value_text, number_text, scaled_text, magnitude_text, byte_text, is_plain, quoted};
 
@@ -21,9 +22,7 @@ pub type Text = ArrayVec<u8, 288>;
 /// quotes. After a fault a front of the text was written.
 #[tactic(auto, unfolding(crate::specs::ValueText::value_text))]
 pub fn put_value<W: Sink>(value: &Value<'_>, sink: &mut W) -> Result<(), DeviceFault>
-    ensures ok { OnOk result (Appends (W.written sink.old) (W.written sink.new) (value_text (value_of value.now))) }
-    ensures err { OnErr result (AppendsFront (W.written sink.old) (W.written sink.new) (value_text (value_of value.now))) }
-    ensures mark { Marks result (W.has_failed sink.old) (W.has_failed sink.new) }
+    ensures { Puts (value_text (value_of value.now)) result (turn W.written W.has_failed sink.old sink.new) }
 {
     match *value {
         Value::Number(number, slot) => put_all(sink, number_text(number, slot).as_slice()),
@@ -88,9 +87,7 @@ fn push_digit(out: &mut Text, digit: u64)
 
 /// Writes a text in quotes.
 fn put_quoted<W: Sink>(text: &[u8], sink: &mut W) -> Result<(), DeviceFault>
-    ensures ok { OnOk result (Appends (W.written sink.old) (W.written sink.new) (quoted text.now)) }
-    ensures err { OnErr result (AppendsFront (W.written sink.old) (W.written sink.new) (quoted text.now)) }
-    ensures mark { Marks result (W.has_failed sink.old) (W.has_failed sink.new) }
+    ensures { Puts (quoted text.now) result (turn W.written W.has_failed sink.old sink.new) }
 {
     put_all(sink, b"\"")?;
     put_escaped(text, sink)?;
@@ -99,9 +96,7 @@ fn put_quoted<W: Sink>(text: &[u8], sink: &mut W) -> Result<(), DeviceFault>
 
 /// Writes each byte as it is or escaped.
 fn put_escaped<W: Sink>(text: &[u8], sink: &mut W) -> Result<(), DeviceFault>
-    ensures ok { OnOk result (Appends (W.written sink.old) (W.written sink.new) (flat_map byte_text text.now)) }
-    ensures err { OnErr result (AppendsFront (W.written sink.old) (W.written sink.new) (flat_map byte_text text.now)) }
-    ensures mark { Marks result (W.has_failed sink.old) (W.has_failed sink.new) }
+    ensures { Puts (flat_map byte_text text.now) result (turn W.written W.has_failed sink.old sink.new) }
 {
     for &byte in text {
         put_all(sink, byte_text(byte).as_slice())?;

@@ -1,7 +1,7 @@
 -- calls one after another
 pub mod DeviceLemmas
--- writing piece by piece
-pub mod FrontLemmas
+-- texts written one after another
+pub mod PutsLemmas
 -- digits that are read
 pub mod DigitLemmas
 -- digits that are written, forwards and backwards

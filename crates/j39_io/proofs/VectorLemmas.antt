@@ -1,6 +1,5 @@
 -- Digits by vectors, lane by lane; for the functions of `vectors.rt`.
-use Rattle.std.proofs.Common.{◌≡◌, ◌<◌, ◌+◌, ◌/◌, ◌%◌, ◌∙◌, ℕ, zero, suc, Bool, true, false, cond, leb, ltb, nat_eq, ◌&&◌, List, [], ◌∷◌, ◌++◌, length, map, replicate, get_or, slice_index, slice_index_or, refl, sym, ap, ap₂, arith, subst}
-use Rattle.std.specs.List.{range_with_len}
+use Rattle.std.proofs.Common.{◌≡◌, ◌<◌, ◌+◌, ◌/◌, ◌%◌, ◌∙◌, ℕ, zero, suc, Bool, true, false, cond, leb, ltb, nat_eq, ◌&&◌, List, [], ◌∷◌, ◌++◌, length, map, replicate, get_or, slice_index, slice_index_or, refl, ap, ap₂, arith, subst}
 use Rattle.std.specs.Simd.Lanes.{sel_l, top, zip2}
 use Rattle.std.proofs.lemmas.Simd.{pick_l_whole}
 use Rattle.std.proofs.lemmas.Bool.{agree_below, agree_below_at, and_parts, eqb-true}

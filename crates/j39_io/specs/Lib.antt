@@ -2,6 +2,8 @@
 pub mod Device
 -- what a call makes of a device, from before it to after it
 pub mod Turn
+-- what a call that writes a text leaves of the writer
+pub mod Puts
 -- a device of std with its marks
 pub mod Told
 -- characters

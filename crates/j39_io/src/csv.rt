@@ -1,8 +1,8 @@
 //! A record, field by field (RFC 4180).
-ghost use Rattle.std.specs.Prelude.{◌≡◌, map, IsTrue, OnOk, OnErr};
-ghost use Rattle.std.specs.Io.KnownBytes.{Appends};
+ghost use Rattle.std.specs.Prelude.{◌≡◌, map};
 ghost use Rattle.std.specs.List.{flat_map, list_any};
-ghost use Rattle.j39_io.specs.Device.{AppendsFront, Marks};
+ghost use Rattle.j39_io.specs.Puts.{Puts};
+ghost use Rattle.j39_io.specs.Turn.{turn};
 ghost use Rattle.j39_io.specs.Records.{field_text, in_quotes, is_special, later_text, quoted_byte, record_text};
 
 use crate::device::{DeviceFault, Sink, put_all};
@@ -10,11 +10,8 @@ use crate::device::{DeviceFault, Sink, put_all};
 /// Writes a record: the first field and those behind it, with a comma between each two, one in quotes where it has a
 /// comma, a quote or an end of line, and an end of line behind them (RFC 4180, 2). After a fault a front of it was written.
 pub fn put_record<W: Sink>(first: &[u8], later: &[&[u8]], sink: &mut W) -> Result<(), DeviceFault>
-    ensures ok { OnOk result (Appends (W.written sink.old) (W.written sink.new)
-        (record_text first.now (map (λ field. field.now) later.now))) }
-    ensures err { OnErr result (AppendsFront (W.written sink.old) (W.written sink.new)
-        (record_text first.now (map (λ field. field.now) later.now))) }
-    ensures mark { Marks result (W.has_failed sink.old) (W.has_failed sink.new) }
+    ensures { Puts (record_text first.now (map (λ field. field.now) later.now))
+        result (turn W.written W.has_failed sink.old sink.new) }
 {
     put_field(first, sink)?;
     put_later(later, sink)?;
@@ -23,11 +20,8 @@ pub fn put_record<W: Sink>(first: &[u8], later: &[&[u8]], sink: &mut W) -> Resul
 
 /// Writes the fields behind the first.
 fn put_later<W: Sink>(fields: &[&[u8]], sink: &mut W) -> Result<(), DeviceFault>
-    ensures ok { OnOk result (Appends (W.written sink.old) (W.written sink.new)
-        (flat_map (λ field. later_text field.now) fields.now)) }
-    ensures err { OnErr result (AppendsFront (W.written sink.old) (W.written sink.new)
-        (flat_map (λ field. later_text field.now) fields.now)) }
-    ensures mark { Marks result (W.has_failed sink.old) (W.has_failed sink.new) }
+    ensures { Puts (flat_map (λ field. later_text field.now) fields.now)
+        result (turn W.written W.has_failed sink.old sink.new) }
 {
     for field in fields {
         put_behind_comma(field, sink)?;
@@ -37,9 +31,7 @@ fn put_later<W: Sink>(fields: &[&[u8]], sink: &mut W) -> Result<(), DeviceFault>
 
 /// Writes a comma and a field: one more of a record that has begun. After a fault a front of that was written.
 pub fn put_behind_comma<W: Sink>(field: &[u8], sink: &mut W) -> Result<(), DeviceFault>
-    ensures ok { OnOk result (Appends (W.written sink.old) (W.written sink.new) (later_text field.now)) }
-    ensures err { OnErr result (AppendsFront (W.written sink.old) (W.written sink.new) (later_text field.now)) }
-    ensures mark { Marks result (W.has_failed sink.old) (W.has_failed sink.new) }
+    ensures { Puts (later_text field.now) result (turn W.written W.has_failed sink.old sink.new) }
 {
     put_all(sink, b",")?;
     put_field(field, sink)
@@ -47,9 +39,7 @@ pub fn put_behind_comma<W: Sink>(field: &[u8], sink: &mut W) -> Result<(), Devic
 
 #[tactic(auto, unfolding(crate::specs::Records::field_text))]
 fn put_field<W: Sink>(field: &[u8], sink: &mut W) -> Result<(), DeviceFault>
-    ensures ok { OnOk result (Appends (W.written sink.old) (W.written sink.new) (field_text field.now)) }
-    ensures err { OnErr result (AppendsFront (W.written sink.old) (W.written sink.new) (field_text field.now)) }
-    ensures mark { Marks result (W.has_failed sink.old) (W.has_failed sink.new) }
+    ensures { Puts (field_text field.now) result (turn W.written W.has_failed sink.old sink.new) }
 {
     if has_special(field) {
         put_quoted(field, sink)
@@ -66,9 +56,7 @@ fn has_special(field: &[u8]) -> bool
 }
 
 fn put_quoted<W: Sink>(field: &[u8], sink: &mut W) -> Result<(), DeviceFault>
-    ensures ok { OnOk result (Appends (W.written sink.old) (W.written sink.new) (in_quotes field.now)) }
-    ensures err { OnErr result (AppendsFront (W.written sink.old) (W.written sink.new) (in_quotes field.now)) }
-    ensures mark { Marks result (W.has_failed sink.old) (W.has_failed sink.new) }
+    ensures { Puts (in_quotes field.now) result (turn W.written W.has_failed sink.old sink.new) }
 {
     put_all(sink, b"\"")?;
     put_doubled(field, sink)?;
@@ -77,10 +65,7 @@ fn put_quoted<W: Sink>(field: &[u8], sink: &mut W) -> Result<(), DeviceFault>
 
 /// Writes the bytes with each quote twice.
 fn put_doubled<W: Sink>(field: &[u8], sink: &mut W) -> Result<(), DeviceFault>
-    ensures ok { OnOk result (Appends (W.written sink.old) (W.written sink.new) (flat_map quoted_byte field.now)) }
-    ensures err { OnErr result (AppendsFront (W.written sink.old) (W.written sink.new)
-        (flat_map quoted_byte field.now)) }
-    ensures mark { Marks result (W.has_failed sink.old) (W.has_failed sink.new) }
+    ensures { Puts (flat_map quoted_byte field.now) result (turn W.written W.has_failed sink.old sink.new) }
 {
     for byte in field {
         put_all(sink, quoted(byte))?;

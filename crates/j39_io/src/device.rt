@@ -1,8 +1,10 @@
 //! What a log is read from and a report is written to.
 ghost use Rattle.std.specs.Prelude.{◌≡◌, ◌<◌, ℕ, List, Bool, true, false, Option, Ok, IsErr, length, OnOk, OnErr, IfOk};
 ghost use Rattle.std.specs.Io.{ReadsAtMost, WritesAtMost};
-ghost use Rattle.std.specs.Io.KnownBytes.{ReadConsumes, WriteAppends, Keeps, Appends};
-ghost use Rattle.j39_io.specs.Device.{Marks, AppendsFront};
+ghost use Rattle.std.specs.Io.KnownBytes.{ReadConsumes, WriteAppends, Keeps};
+ghost use Rattle.j39_io.specs.Device.{Marks};
+ghost use Rattle.j39_io.specs.Puts.{Puts};
+ghost use Rattle.j39_io.specs.Turn.{turn};
 
 use std::io::{self, Read, Write};
 use thiserror::Error;
@@ -134,9 +136,7 @@ impl<T: Write> Sink for Told<T> {
 
 /// Writes all of the bytes, by as many writes as it takes. After a fault a front of them was written.
 pub fn put_all<S: Sink>(sink: &mut S, bytes: &[u8]) -> Result<(), DeviceFault>
-    ensures ok { OnOk result (Appends (S.written sink.old) (S.written sink.new) bytes.now) }
-    ensures err { OnErr result (AppendsFront (S.written sink.old) (S.written sink.new) bytes.now) }
-    ensures mark { Marks result (S.has_failed sink.old) (S.has_failed sink.new) }
+    ensures { Puts bytes.now result (turn S.written S.has_failed sink.old sink.new) }
 {
     let mut rest = bytes;
     while !rest.is_empty() {

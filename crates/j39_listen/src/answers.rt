@@ -2,13 +2,12 @@
 ghost use Rattle.std.specs.Prelude.{◌≡◌, ◌≢◌, ◌<◌, ◌≤◌, ◌++◌, ◌∷◌, ◌↔◌, [], ℕ, List, Option, Result, true, length, option_map, IfOk, OnOk, OnErr, Ok, Err, None, Some};
 ghost use Rattle.std.specs.Option.{option_to_list};
 ghost use Rattle.std.specs.Result.{result_map_both};
-ghost use Rattle.std.specs.Io.KnownBytes.{Appends};
+ghost use Rattle.j39_io.specs.Puts.{Puts};
 ghost use Rattle.j39_address.specs.Claimer.{IsNode};
 ghost use Rattle.j39_address.specs.Command.{command_by, commanded_of};
 ghost use Rattle.j39_address.specs.Name.{name_raw};
 ghost use Rattle.j39_address.specs.Node.{Node, idle_node};
 ghost use Rattle.j39_frame.specs.Address.{global_address, null_address};
-ghost use Rattle.j39_io.specs.Device.{AppendsFront, Marks};
 ghost use Rattle.j39_io.specs.Turn.{turn};
 ghost use Rattle.j39_frame.specs.Frame.{FrameRecord};
 ghost use Rattle.j39_frame.specs.Identifier.{destination_of};
@@ -220,11 +219,7 @@ fn obey(claimer: &mut Claimer, command: Option<(Name, u8)>, now: Stamp) -> Optio
 /// Writes a line for each frame that is sent, and answers how many.
 fn put_sent<W: Sink>(sent: &Sent, bus: &Bus, sink: &mut W) -> Result<u64, DeviceFault>
     ensures lines { IfOk result (λ n. n ≡ length (all_sent sent.now)) }
-    ensures written { OnOk result (Appends (W.written sink.old) (W.written sink.new)
-        (sent_text bus.now (all_sent sent.now))) }
-    ensures front { OnErr result (AppendsFront (W.written sink.old) (W.written sink.new)
-        (sent_text bus.now (all_sent sent.now))) }
-    ensures mark { Marks result (W.has_failed sink.old) (W.has_failed sink.new) }
+    ensures puts { Puts (sent_text bus.now (all_sent sent.now)) result (turn W.written W.has_failed sink.old sink.new) }
 {
     let started = put_answer(&sent.started, bus, sink)?;
     let answered = put_answer(&sent.answered, bus, sink)?;
@@ -236,11 +231,8 @@ fn put_sent<W: Sink>(sent: &Sent, bus: &Bus, sink: &mut W) -> Result<u64, Device
 fn put_answer<W: Sink>(answer: &Option<Frame>, bus: &Bus, sink: &mut W) -> Result<u64, DeviceFault>
     ensures one { IfOk result (λ n. n ≤ 1) }
     ensures lines { IfOk result (λ n. n ≡ length (option_to_list answer.now)) }
-    ensures written { OnOk result (Appends (W.written sink.old) (W.written sink.new)
-        (sent_text bus.now (option_to_list answer.now))) }
-    ensures front { OnErr result (AppendsFront (W.written sink.old) (W.written sink.new)
-        (sent_text bus.now (option_to_list answer.now))) }
-    ensures mark { Marks result (W.has_failed sink.old) (W.has_failed sink.new) }
+    ensures puts { Puts (sent_text bus.now (option_to_list answer.now))
+        result (turn W.written W.has_failed sink.old sink.new) }
 {
     match answer {
         None => Ok(0),

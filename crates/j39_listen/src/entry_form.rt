@@ -1,8 +1,8 @@
 //! In which form the entries of a report are written.
-ghost use Rattle.std.specs.Prelude.{◌≡◌, OnOk, OnErr, IfOk, length};
-ghost use Rattle.std.specs.Io.KnownBytes.{Appends};
+ghost use Rattle.std.specs.Prelude.{◌≡◌, IfOk, length};
 ghost use Rattle.std.specs.List.{flat_map};
-ghost use Rattle.j39_io.specs.Device.{AppendsFront, Marks};
+ghost use Rattle.j39_io.specs.Puts.{Puts};
+ghost use Rattle.j39_io.specs.Turn.{turn};
 ghost use Rattle.j39_listen.specs.Counting.{capped};
 ghost use Rattle.j39_listen.specs.HeardModel.{hearing_of};
 ghost use Rattle.j39_listen.specs.Report.{Form, entries_of};
@@ -24,9 +24,6 @@ pub trait EntryForm: Drop {
         sink: &mut W,
     ) -> Result<u64, DeviceFault>
         ensures lines { IfOk result (λ n. n ≡ capped (length (entries_of groups.now (hearing_of heard.now)))) }
-        ensures written { OnOk result (Appends (W.written sink.old) (W.written sink.new)
-            (flat_map (text_by groups.now) (entries_of groups.now (hearing_of heard.now)))) }
-        ensures front { OnErr result (AppendsFront (W.written sink.old) (W.written sink.new)
-            (flat_map (text_by groups.now) (entries_of groups.now (hearing_of heard.now)))) }
-        ensures mark { Marks result (W.has_failed sink.old) (W.has_failed sink.new) };
+        ensures puts { Puts (flat_map (text_by groups.now) (entries_of groups.now (hearing_of heard.now)))
+            result (turn W.written W.has_failed sink.old sink.new) };
 }

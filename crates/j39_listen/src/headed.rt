@@ -1,7 +1,6 @@
 //! A run that writes a head before its lines, as the names of the columns.
-ghost use Rattle.std.specs.Prelude.{◌≡◌, true, OnOk, OnErr};
-ghost use Rattle.std.specs.Io.KnownBytes.{Appends};
-ghost use Rattle.j39_io.specs.Device.{AppendsFront, Marks};
+ghost use Rattle.std.specs.Prelude.{◌≡◌, true, OnOk};
+ghost use Rattle.j39_io.specs.Puts.{Puts};
 ghost use Rattle.j39_io.specs.Turn.{turn};
 ghost use Rattle.j39_listen.specs.Headed.{Headed};
 ghost use Rattle.j39_listen.specs.PiecesSoFar.{AtStart};
@@ -44,10 +43,8 @@ pub fn run_headed<A: Account, R: Source, W: Sink>(
 
 /// Writes the head, and passes it on.
 fn put_head<W: Sink>(head: &[u8], sink: &mut W) -> Result<(), DeviceFault>
-    ensures ok { OnOk result (Appends (W.written sink.old) (W.written sink.new) head.now) }
+    ensures puts { Puts head.now result (turn W.written W.has_failed sink.old sink.new) }
     ensures flushed { OnOk result (W.is_flushed sink.new ≡ true) }
-    ensures err { OnErr result (AppendsFront (W.written sink.old) (W.written sink.new) head.now) }
-    ensures mark { Marks result (W.has_failed sink.old) (W.has_failed sink.new) }
 {
     put_all(sink, head)?;
     sink.flush()

@@ -1,5 +1,5 @@
 //! Who holds which address, as an account of the frames of a bus (J1939-81, 4.2).
-ghost use Rattle.std.specs.Prelude.{◌≡◌, ◌≢◌, ◌+◌, ◌<◌, ◌≤◌, ◌++◌, ◌∷◌, [], List, true, IfOk, OnOk, OnErr, Err, Some, length};
+ghost use Rattle.std.specs.Prelude.{◌≡◌, ◌≢◌, ◌+◌, ◌<◌, ◌≤◌, ◌++◌, ◌∷◌, [], List, true, IfOk, OnErr, Err, Some, length};
 ghost use Rattle.std.specs.Io.KnownBytes.{Appends};
 ghost use Rattle.j39_address.specs.Name.{name_raw};
 ghost use Rattle.j39_io.specs.Device.{AppendsFront, Marks};
@@ -12,6 +12,7 @@ ghost use Rattle.j39_listen.specs.Headed.{MakesNodeRecords};
 ghost use Rattle.j39_listen.specs.Output.{MakesNodes, nodes_of};
 ghost use Rattle.j39_listen.specs.Report.{name_text};
 ghost use Rattle.hex.specs.Hex.{encode_upper};
+ghost use Rattle.j39_io.specs.Puts.{Puts};
 ghost use Rattle.j39_listen.specs.Asking.{AsksNowhere};
 ghost use Rattle.j39_listen.specs.Ran.{PassesOn, Ran};
 ghost use Rattle.j39_listen.specs.declared.running.RunFault.TheVariants.{Memory};
@@ -158,11 +159,8 @@ fn put_holder<W: Sink>(
     sink: &mut W,
 ) -> Result<u64, DeviceFault>
     ensures lines { IfOk result (λ n. n ≡ length (node_at address (holder_in claims.now address))) }
-    ensures written { OnOk result (Appends (W.written sink.old) (W.written sink.new)
-        (nodes_text form (node_at address (holder_in claims.now address)))) }
-    ensures front { OnErr result (AppendsFront (W.written sink.old) (W.written sink.new)
-        (nodes_text form (node_at address (holder_in claims.now address)))) }
-    ensures mark { Marks result (W.has_failed sink.old) (W.has_failed sink.new) }
+    ensures puts { Puts (nodes_text form (node_at address (holder_in claims.now address)))
+        result (turn W.written W.has_failed sink.old sink.new) }
 {
     match claims.holder(address) {
         None => Ok(0),

@@ -1,10 +1,10 @@
 //! The lines of a message of faults, or its records.
-ghost use Rattle.std.specs.Prelude.{◌≡◌, ◌++◌, ◌∷◌, [], IfOk, None, OnErr, OnOk, Option, Some, codes, length};
+ghost use Rattle.std.specs.Prelude.{◌≡◌, ◌++◌, ◌∷◌, [], IfOk, None, Option, Some, length};
 ghost use Rattle.std.specs.Prelude.{option_map};
-ghost use Rattle.std.specs.Io.KnownBytes.{Appends};
 ghost use Rattle.std.specs.List.{flat_map};
+ghost use Rattle.j39_io.specs.Puts.{Puts};
+ghost use Rattle.j39_io.specs.Turn.{turn};
 ghost use Rattle.j39_address.specs.Name.{name_raw};
-ghost use Rattle.j39_io.specs.Device.{AppendsFront, Marks};
 ghost use Rattle.j39_faults.specs.Codes.{codes_of};
 ghost use Rattle.j39_frame.specs.Stamp.{stamp_micros};
 ghost use Rattle.j39_listen.specs.HeardModel.{hearing_of};
@@ -39,13 +39,8 @@ pub(crate) fn put_message<W: Sink>(
     sink: &mut W,
 ) -> Result<u64, DeviceFault>
     ensures lines { IfOk result (λ n. n ≡ length (faults_by (hearing_of heard.now) (Some kind) (Some lamps))) }
-    ensures written { OnOk result (Appends (W.written sink.old) (W.written sink.new)
-        (faults_text writing.entry.form writing.entry.groups.now
-        (faults_by (hearing_of heard.now) (Some kind) (Some lamps)))) }
-    ensures front { OnErr result (AppendsFront (W.written sink.old) (W.written sink.new)
-        (faults_text writing.entry.form writing.entry.groups.now
-        (faults_by (hearing_of heard.now) (Some kind) (Some lamps)))) }
-    ensures mark { Marks result (W.has_failed sink.old) (W.has_failed sink.new) }
+    ensures puts { Puts (faults_text writing.entry.form writing.entry.groups.now (faults_by (hearing_of heard.now) (Some kind) (Some lamps)))
+        result (turn W.written W.has_failed sink.old sink.new) }
 {
     let head = head_of(writing.form, heard);
     let lines = put_codes(
@@ -73,13 +68,8 @@ fn put_codes<W: Sink>(
     sink: &mut W,
 ) -> Result<u64, DeviceFault>
     ensures lines { IfOk result (λ n. n ≡ length (codes_of payload.now)) }
-    ensures written { OnOk result (Appends (W.written sink.old) (W.written sink.new)
-        (flat_map (λ code. line_of writing.entry.form head.now writing.entry.groups.now kind lamps (Some code))
-        (codes_of payload.now))) }
-    ensures front { OnErr result (AppendsFront (W.written sink.old) (W.written sink.new)
-        (flat_map (λ code. line_of writing.entry.form head.now writing.entry.groups.now kind lamps (Some code))
-        (codes_of payload.now))) }
-    ensures mark { Marks result (W.has_failed sink.old) (W.has_failed sink.new) }
+    ensures puts { Puts (flat_map (λ code. line_of writing.entry.form head.now writing.entry.groups.now kind lamps (Some code)) (codes_of payload.now))
+        result (turn W.written W.has_failed sink.old sink.new) }
 {
     let mut lines = 0;
     for code in codes_of(payload) {
@@ -98,11 +88,8 @@ fn put_fault<W: Sink>(
     code: Option<Code>,
     sink: &mut W,
 ) -> Result<(), DeviceFault>
-    ensures written { OnOk result (Appends (W.written sink.old) (W.written sink.new)
-        (line_of writing.entry.form head.now writing.entry.groups.now kind lamps code)) }
-    ensures front { OnErr result (AppendsFront (W.written sink.old) (W.written sink.new)
-        (line_of writing.entry.form head.now writing.entry.groups.now kind lamps code)) }
-    ensures mark { Marks result (W.has_failed sink.old) (W.has_failed sink.new) }
+    ensures { Puts (line_of writing.entry.form head.now writing.entry.groups.now kind lamps code)
+        result (turn W.written W.has_failed sink.old sink.new) }
 {
     match writing.form {
         FaultForm::Line => put_line(head, writing.groups, kind, lamps, code, sink),
@@ -119,11 +106,8 @@ fn put_line<W: Sink>(
     code: Option<Code>,
     sink: &mut W,
 ) -> Result<(), DeviceFault>
-    ensures written { OnOk result (Appends (W.written sink.old) (W.written sink.new)
-        (line_of Line head.now groups.now kind lamps code)) }
-    ensures front { OnErr result (AppendsFront (W.written sink.old) (W.written sink.new)
-        (line_of Line head.now groups.now kind lamps code)) }
-    ensures mark { Marks result (W.has_failed sink.old) (W.has_failed sink.new) }
+    ensures { Puts (line_of Line head.now groups.now kind lamps code)
+        result (turn W.written W.has_failed sink.old sink.new) }
 {
     put_all(sink, head)?;
     put_said(groups, kind, lamps, code, sink)?;
@@ -139,11 +123,8 @@ fn put_record<W: Sink>(
     code: Option<Code>,
     sink: &mut W,
 ) -> Result<(), DeviceFault>
-    ensures written { OnOk result (Appends (W.written sink.old) (W.written sink.new)
-        (line_of Record head.now groups.now kind lamps code)) }
-    ensures front { OnErr result (AppendsFront (W.written sink.old) (W.written sink.new)
-        (line_of Record head.now groups.now kind lamps code)) }
-    ensures mark { Marks result (W.has_failed sink.old) (W.has_failed sink.new) }
+    ensures { Puts (line_of Record head.now groups.now kind lamps code)
+        result (turn W.written W.has_failed sink.old sink.new) }
 {
     put_all(sink, head)?;
     put_fields(groups, kind, lamps, code, sink)
@@ -157,11 +138,7 @@ fn put_said<W: Sink>(
     code: Option<Code>,
     sink: &mut W,
 ) -> Result<(), DeviceFault>
-    ensures written { OnOk result (Appends (W.written sink.old) (W.written sink.new)
-        (said_text groups.now kind lamps code)) }
-    ensures front { OnErr result (AppendsFront (W.written sink.old) (W.written sink.new)
-        (said_text groups.now kind lamps code)) }
-    ensures mark { Marks result (W.has_failed sink.old) (W.has_failed sink.new) }
+    ensures { Puts (said_text groups.now kind lamps code) result (turn W.written W.has_failed sink.old sink.new) }
 {
     match code {
         Some(code) => put_code(kind, lamps, name_in(groups, code), code, sink),

@@ -1,8 +1,8 @@
 //! The record of a fault, behind its head (RFC 4180).
-ghost use Rattle.std.specs.Prelude.{◌≡◌, OnErr, OnOk};
-ghost use Rattle.std.specs.Io.KnownBytes.{Appends};
+ghost use Rattle.std.specs.Prelude.{◌≡◌};
+ghost use Rattle.j39_io.specs.Puts.{Puts};
+ghost use Rattle.j39_io.specs.Turn.{turn};
 ghost use Rattle.j39_io.specs.Records.{record_text};
-ghost use Rattle.j39_io.specs.Device.{AppendsFront, Marks};
 ghost use Rattle.j39_faults.specs.Text.{kind_text};
 ghost use Rattle.j39_reports.specs.FaultRecords.{count_field, fields_with, fmi_field, meaning_field, parameter_field, said_fields, spn_field, unnamed};
 
@@ -24,11 +24,8 @@ pub(crate) fn put_fields<W: Sink>(
     code: Option<Code>,
     sink: &mut W,
 ) -> Result<(), DeviceFault>
-    ensures written { OnOk result (Appends (W.written sink.old) (W.written sink.new)
-        (record_text (kind_text kind) (said_fields groups.now lamps code))) }
-    ensures front { OnErr result (AppendsFront (W.written sink.old) (W.written sink.new)
-        (record_text (kind_text kind) (said_fields groups.now lamps code))) }
-    ensures mark { Marks result (W.has_failed sink.old) (W.has_failed sink.new) }
+    ensures { Puts (record_text (kind_text kind) (said_fields groups.now lamps code))
+        result (turn W.written W.has_failed sink.old sink.new) }
 {
     let words = unnamed(code);
     let parameter = parameter_field(groups, code, words.as_slice());
@@ -43,11 +40,8 @@ fn put_fields_with<W: Sink>(
     parameter: &[u8],
     sink: &mut W,
 ) -> Result<(), DeviceFault>
-    ensures written { OnOk result (Appends (W.written sink.old) (W.written sink.new)
-        (record_text (kind_text kind) (fields_with lamps parameter.now code))) }
-    ensures front { OnErr result (AppendsFront (W.written sink.old) (W.written sink.new)
-        (record_text (kind_text kind) (fields_with lamps parameter.now code))) }
-    ensures mark { Marks result (W.has_failed sink.old) (W.has_failed sink.new) }
+    ensures { Puts (record_text (kind_text kind) (fields_with lamps parameter.now code))
+        result (turn W.written W.has_failed sink.old sink.new) }
 {
     let spn = spn_field(code);
     let fmi = fmi_field(code);

@@ -1,12 +1,12 @@
 //! The records of a message.
-ghost use Rattle.std.specs.Prelude.{◌≡◌, ◌+◌, ◌≤◌, ◌++◌, ◌∷◌, [], OnErr, OnOk, decimal, false};
-ghost use Rattle.std.specs.Io.KnownBytes.{Appends};
+ghost use Rattle.std.specs.Prelude.{◌≡◌, ◌+◌, ◌≤◌, ◌++◌, ◌∷◌, [], decimal};
 ghost use Rattle.std.specs.List.{flat_map};
 ghost use Rattle.std.specs.Option.{option_map};
 ghost use Rattle.arrayvec.specs.ArrayVec.{array_vec_len};
+ghost use Rattle.j39_io.specs.Puts.{Puts};
+ghost use Rattle.j39_io.specs.Turn.{turn};
 ghost use Rattle.j39_address.specs.Name.{name_raw};
 ghost use Rattle.j39_io.specs.Records.{comma, later_text, line_end};
-ghost use Rattle.j39_io.specs.Device.{AppendsFront, Marks};
 ghost use Rattle.j39_frame.specs.Pgn.{pgn_raw};
 ghost use Rattle.j39_frame.specs.Stamp.{stamp_micros};
 ghost use Rattle.j39_groups.specs.ReadValues.{read_value_of};
@@ -106,11 +106,7 @@ impl<'g, 't, W: Sink> ReadingVisitor<'t, W> for Records<'g, 't> {
 
 /// Writes the record of a reading, from its value on.
 fn put_value_and_unit<W: Sink>(value: ReadValue<'_, '_>, sink: &mut W) -> Result<(), DeviceFault>
-    ensures ok { OnOk result (Appends (W.written sink.old) (W.written sink.new)
-        (value_fields (read_value_of value.entry))) }
-    ensures err { OnErr result (AppendsFront (W.written sink.old) (W.written sink.new)
-        (value_fields (read_value_of value.entry))) }
-    ensures mark { Marks result (W.has_failed sink.old) (W.has_failed sink.new) }
+    ensures { Puts (value_fields (read_value_of value.entry)) result (turn W.written W.has_failed sink.old sink.new) }
 {
     put_value(value, sink)?;
     let unit = value.unit();
@@ -119,11 +115,7 @@ fn put_value_and_unit<W: Sink>(value: ReadValue<'_, '_>, sink: &mut W) -> Result
 
 /// Writes a comma and a value without its unit.
 fn put_value<W: Sink>(value: ReadValue<'_, '_>, sink: &mut W) -> Result<(), DeviceFault>
-    ensures ok { OnOk result (Appends (W.written sink.old) (W.written sink.new)
-        (comma ∷ bare_text (read_value_of value.entry))) }
-    ensures err { OnErr result (AppendsFront (W.written sink.old) (W.written sink.new)
-        (comma ∷ bare_text (read_value_of value.entry))) }
-    ensures mark { Marks result (W.has_failed sink.old) (W.has_failed sink.new) }
+    ensures { Puts (comma ∷ bare_text (read_value_of value.entry)) result (turn W.written W.has_failed sink.old sink.new) }
 {
     put_all(sink, b",")?;
     value.put_bare(sink)
@@ -131,9 +123,7 @@ fn put_value<W: Sink>(value: ReadValue<'_, '_>, sink: &mut W) -> Result<(), Devi
 
 /// Writes the unit and the end of the line.
 fn put_unit<W: Sink>(unit: &[u8], sink: &mut W) -> Result<(), DeviceFault>
-    ensures ok { OnOk result (Appends (W.written sink.old) (W.written sink.new) (later_text unit.now ++ line_end)) }
-    ensures err { OnErr result (AppendsFront (W.written sink.old) (W.written sink.new) (later_text unit.now ++ line_end)) }
-    ensures mark { Marks result (W.has_failed sink.old) (W.has_failed sink.new) }
+    ensures { Puts (later_text unit.now ++ line_end) result (turn W.written W.has_failed sink.old sink.new) }
 {
     put_behind_comma(unit, sink)?;
     put_all(sink, b"\r\n")
@@ -147,11 +137,8 @@ fn put_named<W: Sink>(
     parameter: &[u8],
     sink: &mut W,
 ) -> Result<(), DeviceFault>
-    ensures ok { OnOk result (Appends (W.written sink.old) (W.written sink.new)
-        (named_fields begin.now group.now spn parameter.now)) }
-    ensures err { OnErr result (AppendsFront (W.written sink.old) (W.written sink.new)
-        (named_fields begin.now group.now spn parameter.now)) }
-    ensures mark { Marks result (W.has_failed sink.old) (W.has_failed sink.new) }
+    ensures { Puts (named_fields begin.now group.now spn parameter.now)
+        result (turn W.written W.has_failed sink.old sink.new) }
 {
     put_all(sink, begin)?;
     put_behind_comma(group, sink)?;

@@ -1,9 +1,9 @@
 //! The rows of a summary, as lines or as records.
-ghost use Rattle.std.specs.Prelude.{◌≡◌, ◌++◌, ◌∷◌, [], OnOk, OnErr, Some, codes, map};
+ghost use Rattle.std.specs.Prelude.{◌≡◌, ◌++◌, ◌∷◌, [], Some, codes, map};
 ghost use Rattle.std.specs.Option.{option_map};
-ghost use Rattle.std.specs.Io.KnownBytes.{Appends};
+ghost use Rattle.j39_io.specs.Puts.{Puts};
+ghost use Rattle.j39_io.specs.Turn.{turn};
 ghost use Rattle.j39_memory.specs.ByOrigin.{pairs_of};
-ghost use Rattle.j39_io.specs.Device.{AppendsFront, Marks};
 ghost use Rattle.j39_io.specs.Chars.{newline};
 ghost use Rattle.j39_groups.specs.ValueText.{bare_text};
 ghost use Rattle.j39_reports.specs.RowText.{bounds_in, called_in, end_in, head_in, line_head, no_range, range_in, row_in, separator_of, summary_text, unit_in, value_in, values_in};
@@ -30,11 +30,8 @@ pub(crate) fn put_rows<W: Sink>(
     groups: &Groups<'_>,
     sink: &mut W,
 ) -> Result<(), DeviceFault>
-    ensures written { OnOk result (Appends (W.written sink.old) (W.written sink.new)
-        (summary_text form groups.now (map row_shown (pairs_of rows.now)))) }
-    ensures front { OnErr result (AppendsFront (W.written sink.old) (W.written sink.new)
-        (summary_text form groups.now (map row_shown (pairs_of rows.now)))) }
-    ensures mark { Marks result (W.has_failed sink.old) (W.has_failed sink.new) }
+    ensures { Puts (summary_text form groups.now (map row_shown (pairs_of rows.now)))
+        result (turn W.written W.has_failed sink.old sink.new) }
 {
     for at in 0..rows.len() {
         let (origin, deeds) = rows.pair_at(at);
@@ -52,11 +49,8 @@ fn put_row<W: Sink>(
     groups: &Groups<'_>,
     sink: &mut W,
 ) -> Result<(), DeviceFault>
-    ensures written { OnOk result (Appends (W.written sink.old) (W.written sink.new)
-        (row_in form groups.now (row_shown (origin, deeds.now)))) }
-    ensures front { OnErr result (AppendsFront (W.written sink.old) (W.written sink.new)
-        (row_in form groups.now (row_shown (origin, deeds.now)))) }
-    ensures mark { Marks result (W.has_failed sink.old) (W.has_failed sink.new) }
+    ensures { Puts (row_in form groups.now (row_shown (origin, deeds.now)))
+        result (turn W.written W.has_failed sink.old sink.new) }
 {
     put_head(form, origin, deeds, groups, sink)?;
     put_values(form, deeds, sink)?;
@@ -72,11 +66,8 @@ fn put_head<W: Sink>(
     groups: &Groups<'_>,
     sink: &mut W,
 ) -> Result<(), DeviceFault>
-    ensures written { OnOk result (Appends (W.written sink.old) (W.written sink.new)
-        (head_in form groups.now (row_shown (origin, deeds.now)))) }
-    ensures front { OnErr result (AppendsFront (W.written sink.old) (W.written sink.new)
-        (head_in form groups.now (row_shown (origin, deeds.now)))) }
-    ensures mark { Marks result (W.has_failed sink.old) (W.has_failed sink.new) }
+    ensures { Puts (head_in form groups.now (row_shown (origin, deeds.now)))
+        result (turn W.written W.has_failed sink.old sink.new) }
 {
     match form {
         RowForm::Line => put_all(sink, line_head_of(origin, deeds).as_slice()),
@@ -107,13 +98,8 @@ fn line_head_of(origin: Origin, deeds: &Deeds<'_>) -> ArrayVec<u8, 160>
 /// Writes the least number, the most and their unit, the first value and the last.
 #[tactic(auto, unfolding(crate::specs::RowText::values_in))]
 fn put_values<W: Sink>(form: RowForm, deeds: &Deeds<'_>, sink: &mut W) -> Result<(), DeviceFault>
-    ensures written { OnOk result (Appends (W.written sink.old) (W.written sink.new)
-        (values_in form (option_map range_of_span deeds.now.range) (kept_value deeds.now.first.value)
-        (kept_value deeds.now.last.value))) }
-    ensures front { OnErr result (AppendsFront (W.written sink.old) (W.written sink.new)
-        (values_in form (option_map range_of_span deeds.now.range) (kept_value deeds.now.first.value)
-        (kept_value deeds.now.last.value))) }
-    ensures mark { Marks result (W.has_failed sink.old) (W.has_failed sink.new) }
+    ensures { Puts (values_in form (option_map range_of_span deeds.now.range) (kept_value deeds.now.first.value) (kept_value deeds.now.last.value))
+        result (turn W.written W.has_failed sink.old sink.new) }
 {
     put_range(form, &deeds.range, sink)?;
     put_column(form, &deeds.first.value, sink)?;
@@ -127,11 +113,8 @@ fn put_range<W: Sink>(
     range: &Option<Span<'_>>,
     sink: &mut W,
 ) -> Result<(), DeviceFault>
-    ensures written { OnOk result (Appends (W.written sink.old) (W.written sink.new)
-        (range_in form (option_map range_of_span range.now))) }
-    ensures front { OnErr result (AppendsFront (W.written sink.old) (W.written sink.new)
-        (range_in form (option_map range_of_span range.now))) }
-    ensures mark { Marks result (W.has_failed sink.old) (W.has_failed sink.new) }
+    ensures { Puts (range_in form (option_map range_of_span range.now))
+        result (turn W.written W.has_failed sink.old sink.new) }
 {
     match range {
         None => put_all(sink, no_range(form)),
@@ -152,11 +135,7 @@ fn no_range(form: RowForm) -> &'static [u8]
 
 #[tactic(auto, unfolding(crate::specs::RowText::range_in))]
 fn put_span<W: Sink>(form: RowForm, span: &Span<'_>, sink: &mut W) -> Result<(), DeviceFault>
-    ensures written { OnOk result (Appends (W.written sink.old) (W.written sink.new)
-        (range_in form (Some (range_of_span span.now)))) }
-    ensures front { OnErr result (AppendsFront (W.written sink.old) (W.written sink.new)
-        (range_in form (Some (range_of_span span.now)))) }
-    ensures mark { Marks result (W.has_failed sink.old) (W.has_failed sink.new) }
+    ensures { Puts (range_in form (Some (range_of_span span.now))) result (turn W.written W.has_failed sink.old sink.new) }
 {
     put_bounds(form, span, sink)?;
     put_unit(form, span.measure.unit(), sink)
@@ -165,11 +144,7 @@ fn put_span<W: Sink>(form: RowForm, span: &Span<'_>, sink: &mut W) -> Result<(),
 /// Writes the least number and the most.
 #[tactic(auto, unfolding(crate::specs::RowText::bounds_in))]
 fn put_bounds<W: Sink>(form: RowForm, span: &Span<'_>, sink: &mut W) -> Result<(), DeviceFault>
-    ensures written { OnOk result (Appends (W.written sink.old) (W.written sink.new)
-        (bounds_in form (range_of_span span.now))) }
-    ensures front { OnErr result (AppendsFront (W.written sink.old) (W.written sink.new)
-        (bounds_in form (range_of_span span.now))) }
-    ensures mark { Marks result (W.has_failed sink.old) (W.has_failed sink.new) }
+    ensures { Puts (bounds_in form (range_of_span span.now)) result (turn W.written W.has_failed sink.old sink.new) }
 {
     let between = separator(form);
     let least = scaled_text(span.least, span.measure.places());
@@ -181,11 +156,7 @@ fn put_bounds<W: Sink>(form: RowForm, span: &Span<'_>, sink: &mut W) -> Result<(
 /// Writes the unit of the numbers, in a record in quotes where it must be.
 #[tactic(auto, unfolding(crate::specs::RowText::unit_in))]
 fn put_unit<W: Sink>(form: RowForm, unit: &[u8], sink: &mut W) -> Result<(), DeviceFault>
-    ensures written { OnOk result (Appends (W.written sink.old) (W.written sink.new)
-        (unit_in form unit.now)) }
-    ensures front { OnErr result (AppendsFront (W.written sink.old) (W.written sink.new)
-        (unit_in form unit.now)) }
-    ensures mark { Marks result (W.has_failed sink.old) (W.has_failed sink.new) }
+    ensures { Puts (unit_in form unit.now) result (turn W.written W.has_failed sink.old sink.new) }
 {
     match form {
         RowForm::Line => {
@@ -199,11 +170,7 @@ fn put_unit<W: Sink>(form: RowForm, unit: &[u8], sink: &mut W) -> Result<(), Dev
 /// Writes a value, behind what stands before a column.
 #[tactic(auto, unfolding(crate::specs::RowText::value_in))]
 fn put_column<W: Sink>(form: RowForm, kept: &Kept<'_>, sink: &mut W) -> Result<(), DeviceFault>
-    ensures written { OnOk result (Appends (W.written sink.old) (W.written sink.new)
-        (value_in form (kept_value kept.now))) }
-    ensures front { OnErr result (AppendsFront (W.written sink.old) (W.written sink.new)
-        (value_in form (kept_value kept.now))) }
-    ensures mark { Marks result (W.has_failed sink.old) (W.has_failed sink.new) }
+    ensures { Puts (value_in form (kept_value kept.now)) result (turn W.written W.has_failed sink.old sink.new) }
 {
     put_all(sink, separator(form))?;
     put_kept(kept, sink)
@@ -223,9 +190,7 @@ fn separator(form: RowForm) -> &'static [u8]
 /// Writes a value: a number without its unit.
 #[tactic(auto, unfolding(j39_groups::specs::ValueText::bare_text))]
 fn put_kept<W: Sink>(kept: &Kept<'_>, sink: &mut W) -> Result<(), DeviceFault>
-    ensures written { OnOk result (Appends (W.written sink.old) (W.written sink.new) (bare_text (kept_value kept.now))) }
-    ensures front { OnErr result (AppendsFront (W.written sink.old) (W.written sink.new) (bare_text (kept_value kept.now))) }
-    ensures mark { Marks result (W.has_failed sink.old) (W.has_failed sink.new) }
+    ensures { Puts (bare_text (kept_value kept.now)) result (turn W.written W.has_failed sink.old sink.new) }
 {
     match kept {
         Kept::Number(number, measure) => {
@@ -248,11 +213,7 @@ fn put_end<W: Sink>(
     origin: Origin,
     sink: &mut W,
 ) -> Result<(), DeviceFault>
-    ensures written { OnOk result (Appends (W.written sink.old) (W.written sink.new)
-        (end_in form groups.now origin.pgn origin.spn)) }
-    ensures front { OnErr result (AppendsFront (W.written sink.old) (W.written sink.new)
-        (end_in form groups.now origin.pgn origin.spn)) }
-    ensures mark { Marks result (W.has_failed sink.old) (W.has_failed sink.new) }
+    ensures { Puts (end_in form groups.now origin.pgn origin.spn) result (turn W.written W.has_failed sink.old sink.new) }
 {
     match form {
         RowForm::Line => put_name(groups, origin.pgn, origin.spn, sink),
@@ -267,11 +228,8 @@ fn put_name<W: Sink>(
     spn: u32,
     sink: &mut W,
 ) -> Result<(), DeviceFault>
-    ensures written { OnOk result (Appends (W.written sink.old) (W.written sink.new)
-        (codes " " ++ (called_in groups.now pgn spn ++ (newline ∷ [])))) }
-    ensures front { OnErr result (AppendsFront (W.written sink.old) (W.written sink.new)
-        (codes " " ++ (called_in groups.now pgn spn ++ (newline ∷ [])))) }
-    ensures mark { Marks result (W.has_failed sink.old) (W.has_failed sink.new) }
+    ensures { Puts (codes " " ++ (called_in groups.now pgn spn ++ (newline ∷ [])))
+        result (turn W.written W.has_failed sink.old sink.new) }
 {
     let name = name_of(groups, pgn, spn);
     let parts: [&[u8]; 3] = [b" ", name, b"\n"];

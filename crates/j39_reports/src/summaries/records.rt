@@ -1,7 +1,7 @@
 //! What the record of a row begins with.
-ghost use Rattle.std.specs.Prelude.{◌≡◌, OnOk, OnErr, unwrap_or, []};
-ghost use Rattle.std.specs.Io.KnownBytes.{Appends};
-ghost use Rattle.j39_io.specs.Device.{AppendsFront, Marks};
+ghost use Rattle.std.specs.Prelude.{◌≡◌, unwrap_or, []};
+ghost use Rattle.j39_io.specs.Puts.{Puts};
+ghost use Rattle.j39_io.specs.Turn.{turn};
 ghost use Rattle.j39_groups.specs.Names.{name_in};
 ghost use Rattle.j39_reports.specs.RowText.{count_fields, origin_fields, record_head};
 ghost use Rattle.j39_reports.specs.RowModels.{row_shown};
@@ -23,11 +23,8 @@ pub(crate) fn put_record_head<W: Sink>(
     groups: &Groups<'_>,
     sink: &mut W,
 ) -> Result<(), DeviceFault>
-    ensures written { OnOk result (Appends (W.written sink.old) (W.written sink.new)
-        (record_head groups.now (row_shown (origin, deeds.now)))) }
-    ensures front { OnErr result (AppendsFront (W.written sink.old) (W.written sink.new)
-        (record_head groups.now (row_shown (origin, deeds.now)))) }
-    ensures mark { Marks result (W.has_failed sink.old) (W.has_failed sink.new) }
+    ensures { Puts (record_head groups.now (row_shown (origin, deeds.now)))
+        result (turn W.written W.has_failed sink.old sink.new) }
 {
     put_all(sink, origin_of(origin, deeds).as_slice())?;
     put_behind_comma(parameter_of(groups, origin.pgn, origin.spn), sink)?;

@@ -1,8 +1,9 @@
 //! A survey, written.
-ghost use Rattle.std.specs.Prelude.{◌≡◌, ◌<◌, ◌++◌, List, true, map, OnOk, OnErr};
-ghost use Rattle.std.specs.Io.KnownBytes.{Appends};
+ghost use Rattle.std.specs.Prelude.{◌≡◌, ◌<◌, ◌++◌, List, true, map, OnOk};
 ghost use Rattle.std.specs.List.{flat_map};
-ghost use Rattle.j39_io.specs.Device.{AppendsFront, Marks};
+ghost use Rattle.j39_io.specs.Puts.{Puts};
+ghost use Rattle.j39_io.specs.Turn.{turn};
+ghost use Rattle.j39_io.specs.Device.{Marks};
 ghost use Rattle.j39_frame.specs.Frame.{FrameRecord};
 ghost use Rattle.j39_frame.specs.Pgn.{pgn_raw};
 ghost use Rattle.j39_groups.specs.Names.{group_name_in};
@@ -30,12 +31,10 @@ pub(crate) fn put_survey<W: Sink>(
     survey: &Survey,
     sink: &mut W,
 ) -> Result<(), DeviceFault>
-    ensures ok { OnOk result ((lines : List LogLine) → HasSurveyed survey.now lines
-        → Appends (W.written sink.old) (W.written sink.new) (survey_text groups.now lines)) }
-    ensures err { OnErr result ((lines : List LogLine) → HasSurveyed survey.now lines
-        → AppendsFront (W.written sink.old) (W.written sink.new) (survey_text groups.now lines)) }
-    ensures flushed { OnOk result (W.is_flushed sink.new ≡ true) }
+    ensures puts { (lines : List LogLine) → HasSurveyed survey.now lines
+        → Puts (survey_text groups.now lines) result (turn W.written W.has_failed sink.old sink.new) }
     ensures mark { Marks result (W.has_failed sink.old) (W.has_failed sink.new) }
+    ensures flushed { OnOk result (W.is_flushed sink.new ≡ true) }
 {
     put_head(survey.lines, &survey.interfaces, sink)?;
     put_groups(groups, &survey.groups, sink)?;
@@ -52,11 +51,8 @@ fn is_printed(survey: &Survey) -> bool
 
 /// Writes how many lines there are, the interfaces, and how many frames are of none of these.
 fn put_head<W: Sink>(lines: u64, interfaces: &Interfaces, sink: &mut W) -> Result<(), DeviceFault>
-    ensures ok { OnOk result (Appends (W.written sink.old) (W.written sink.new)
-        (survey_head lines (map interface_record interfaces.now.told.items) interfaces.now.untold)) }
-    ensures err { OnErr result (AppendsFront (W.written sink.old) (W.written sink.new)
-        (survey_head lines (map interface_record interfaces.now.told.items) interfaces.now.untold)) }
-    ensures mark { Marks result (W.has_failed sink.old) (W.has_failed sink.new) }
+    ensures { Puts (survey_head lines (map interface_record interfaces.now.told.items) interfaces.now.untold)
+        result (turn W.written W.has_failed sink.old sink.new) }
 {
     put_all(sink, number_line(b"lines ", lines).as_slice())?;
     put_interfaces(interfaces.told.as_slice(), sink)?;
@@ -65,11 +61,8 @@ fn put_head<W: Sink>(lines: u64, interfaces: &Interfaces, sink: &mut W) -> Resul
 
 /// Writes a line for each interface.
 fn put_interfaces<W: Sink>(told: &[InterfaceCounts], sink: &mut W) -> Result<(), DeviceFault>
-    ensures ok { OnOk result (Appends (W.written sink.old) (W.written sink.new)
-        (flat_map (λ i. interface_text (interface_record i)) told.now)) }
-    ensures err { OnErr result (AppendsFront (W.written sink.old) (W.written sink.new)
-        (flat_map (λ i. interface_text (interface_record i)) told.now)) }
-    ensures mark { Marks result (W.has_failed sink.old) (W.has_failed sink.new) }
+    ensures { Puts (flat_map (λ i. interface_text (interface_record i)) told.now)
+        result (turn W.written W.has_failed sink.old sink.new) }
 {
     for interface in told {
         put_all(sink, interface_line(interface).as_slice())?;
@@ -83,10 +76,8 @@ fn put_groups<W: Sink>(
     table: &GroupTable,
     sink: &mut W,
 ) -> Result<(), DeviceFault>
-    ensures ok { OnOk result ((F : List FrameRecord) → HaveCounted table.now F
-        → Appends (W.written sink.old) (W.written sink.new) (groups_text groups.now F)) }
-    ensures err { OnErr result ((F : List FrameRecord) → HaveCounted table.now F
-        → AppendsFront (W.written sink.old) (W.written sink.new) (groups_text groups.now F)) }
+    ensures puts { (F : List FrameRecord) → HaveCounted table.now F
+        → Puts (groups_text groups.now F) result (turn W.written W.has_failed sink.old sink.new) }
     ensures mark { Marks result (W.has_failed sink.old) (W.has_failed sink.new) }
 {
     for raw in 0..262_144 {
@@ -105,11 +96,8 @@ fn put_at<W: Sink>(
     sink: &mut W,
 ) -> Result<(), DeviceFault>
     requires { raw < 262144 }
-    ensures ok { OnOk result (Appends (W.written sink.old) (W.written sink.new)
-        (group_text groups.now raw (record { frames = frames; addresses = addresses }))) }
-    ensures err { OnErr result (AppendsFront (W.written sink.old) (W.written sink.new)
-        (group_text groups.now raw (record { frames = frames; addresses = addresses }))) }
-    ensures mark { Marks result (W.has_failed sink.old) (W.has_failed sink.new) }
+    ensures { Puts (group_text groups.now raw (record { frames = frames; addresses = addresses }))
+        result (turn W.written W.has_failed sink.old sink.new) }
 {
     match Pgn::new(raw) {
         None => Ok(()),
@@ -126,11 +114,8 @@ fn put_group<W: Sink>(
     addresses: u64,
     sink: &mut W,
 ) -> Result<(), DeviceFault>
-    ensures ok { OnOk result (Appends (W.written sink.old) (W.written sink.new)
-        (group_text groups.now (pgn_raw pgn) (record { frames = frames; addresses = addresses }))) }
-    ensures err { OnErr result (AppendsFront (W.written sink.old) (W.written sink.new)
-        (group_text groups.now (pgn_raw pgn) (record { frames = frames; addresses = addresses }))) }
-    ensures mark { Marks result (W.has_failed sink.old) (W.has_failed sink.new) }
+    ensures { Puts (group_text groups.now (pgn_raw pgn) (record { frames = frames; addresses = addresses }))
+        result (turn W.written W.has_failed sink.old sink.new) }
 {
     if frames == 0 {
         return Ok(());
@@ -173,11 +158,8 @@ fn put_end<W: Sink>(
     is_printed: bool,
     sink: &mut W,
 ) -> Result<(), DeviceFault>
-    ensures ok { OnOk result (Appends (W.written sink.old) (W.written sink.new)
-        (survey_end (others_record others.now) unread.now.count (map shown_record unread.now.first.items) is_printed)) }
-    ensures err { OnErr result (AppendsFront (W.written sink.old) (W.written sink.new)
-        (survey_end (others_record others.now) unread.now.count (map shown_record unread.now.first.items) is_printed)) }
-    ensures mark { Marks result (W.has_failed sink.old) (W.has_failed sink.new) }
+    ensures { Puts (survey_end (others_record others.now) unread.now.count (map shown_record unread.now.first.items) is_printed)
+        result (turn W.written W.has_failed sink.old sink.new) }
 {
     put_all(sink, counts_lines(others, unread.count).as_slice())?;
     put_unread(unread.first.as_slice(), sink)?;
@@ -186,11 +168,8 @@ fn put_end<W: Sink>(
 
 /// Writes a line for each of these unread lines.
 fn put_unread<W: Sink>(first: &[UnreadLine], sink: &mut W) -> Result<(), DeviceFault>
-    ensures ok { OnOk result (Appends (W.written sink.old) (W.written sink.new)
-        (flat_map (λ line. shown_text (shown_record line)) first.now)) }
-    ensures err { OnErr result (AppendsFront (W.written sink.old) (W.written sink.new)
-        (flat_map (λ line. shown_text (shown_record line)) first.now)) }
-    ensures mark { Marks result (W.has_failed sink.old) (W.has_failed sink.new) }
+    ensures { Puts (flat_map (λ line. shown_text (shown_record line)) first.now)
+        result (turn W.written W.has_failed sink.old sink.new) }
 {
     for line in first {
         put_all(sink, shown_line(line).as_slice())?;
