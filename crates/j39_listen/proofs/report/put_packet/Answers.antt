@@ -12,8 +12,8 @@ returns-in-Ok-None-clause-met g c = λ F h.
 pub returns-in-Ok-clause-met : goal.returns-in-Ok-clause-met
 returns-in-Ok-clause-met g c = λ F h.
     meets_heard g.E.EntryForm.text_by c.args.groups.now _ F c.args.frame.now (hearing_of c.in-Ok-Some.heard) c.in-Ok.lines _ _ (rw c.in-Ok-Some.field-0-is at (c.in-Ok-Some.ensures.heard F h))
-    (on_ok _ _ _ _ c.in-Ok-Some.is c.feed_with.follows.holds-at-none F h) c.in-Ok.ensures.lines c.in-Ok.ensures.written
+    (on_ok _ _ _ _ c.in-Ok-Some.is c.feed_with.follows.holds-at-none F h) c.in-Ok.ensures.lines c.in-Ok.ensures.puts.written
 
 pub returns-in-Err-put_heard-clause-stops : goal.returns-in-Err-put_heard-clause-stops
 returns-in-Err-put_heard-clause-stops g c = λ e F h.
-    stops_heard g.E.EntryForm.text_by c.args.groups.now F c.args.frame.now (hearing_of c.in-Ok-Some.heard) _ _ (rw c.in-Ok-Some.field-0-is at (c.in-Ok-Some.ensures.heard F h)) c.in-Err-put_heard.ensures.front
+    stops_heard g.E.EntryForm.text_by c.args.groups.now F c.args.frame.now (hearing_of c.in-Ok-Some.heard) _ _ (rw c.in-Ok-Some.field-0-is at (c.in-Ok-Some.ensures.heard F h)) c.in-Err-put_heard.ensures.puts.front

@@ -21,11 +21,11 @@ returns-in-Ok-clause-met g c = λ F h.
     let heard = subst (λ (x : Hearing). HeardAt c.args.groups.now (F ++ c.args.frame.now ∷ []) (length F) (Some x)) (sym c.by_itself-heard.ensures.value)
     (heard_itself (is_reported_in c.args.groups.now) (reported_leaves c.args.groups.now) c.args.listener.now F c.args.frame.now (option_map name_raw c.holder.result) c.requires.reported (search rules) h name) in
     meets_heard g.E.EntryForm.text_by c.args.groups.now c.args.listener.now F c.args.frame.now (hearing_of c.by_itself-heard.result) c.in-Ok.lines _ _ heard
-    (hears_single c.args.listener.now F c.args.frame.now free (outside_claims c.args.frame.now free) h) c.in-Ok.ensures.lines c.in-Ok.ensures.written
+    (hears_single c.args.listener.now F c.args.frame.now free (outside_claims c.args.frame.now free) h) c.in-Ok.ensures.lines c.in-Ok.ensures.puts.written
 
 pub returns-in-Err-clause-stops : goal.returns-in-Err-clause-stops
 returns-in-Err-clause-stops g c = λ F h.
     let name = subst (λ a. IsHolderAfter (claims_of F) a (option_map name_raw c.holder.result)) (c.source.ensures ∙ ap (λ (x : FrameRecord). source_of x.id) c.frame.view_is) (c.holder.ensures F h) in
     let heard = subst (λ (x : Hearing). HeardAt c.args.groups.now (F ++ c.args.frame.now ∷ []) (length F) (Some x)) (sym c.by_itself-heard.ensures.value)
     (heard_itself (is_reported_in c.args.groups.now) (reported_leaves c.args.groups.now) c.args.listener.now F c.args.frame.now (option_map name_raw c.holder.result) c.requires.reported (search rules) h name) in
-    stops_heard g.E.EntryForm.text_by c.args.groups.now F c.args.frame.now (hearing_of c.by_itself-heard.result) _ _ heard c.in-Err.ensures.front
+    stops_heard g.E.EntryForm.text_by c.args.groups.now F c.args.frame.now (hearing_of c.by_itself-heard.result) _ _ heard c.in-Err.ensures.puts.front
