@@ -1,5 +1,5 @@
 //! The report of what is heard on a bus: the runs that write it, and the account of frames that they write.
-ghost use Rattle.std.specs.Prelude.{◌≡◌, ◌<◌, [], List, true};
+ghost use Rattle.std.specs.Prelude.{◌≡◌, [], List};
 ghost use Rattle.std.specs.Prelude.{IfOk, IfSome, OnOk, OnErr, Err, Some};
 ghost use Rattle.j39_io.specs.Turn.{turn};
 ghost use Rattle.j39_frame.specs.Frame.{FrameRecord};
