@@ -6,8 +6,9 @@ ghost use Rattle.j39_address.specs.Claims.{Knows};
 ghost use Rattle.j39_address.specs.Holder.{IsHolderAfter};
 ghost use Rattle.j39_address.specs.Name.{name_raw};
 ghost use Rattle.j39_frame.specs.Frame.{FrameRecord};
+ghost use Rattle.j39_c.specs.Calls.{Puts};
 ghost use Rattle.j39_c.specs.Can.{Fits, frame_of};
-ghost use Rattle.j39_c.specs.Codes.{IsDone, bad_value};
+ghost use Rattle.j39_c.specs.Codes.{bad_value};
 ghost use Rattle.j39_c.specs.Holders.{Notes, addresses_in, told_number};
 
 use crate::can::{CanFrame, frame_in};
@@ -69,9 +70,7 @@ pub extern "C" fn j39_claims_holder(claims: &Claims, address: u8, name: &mut u64
 
 /// Writes out a NAME: 1, or 0 where there is none.
 pub(crate) fn put_name(holder: Option<Name>, name: &mut u64) -> i32
-    ensures value { told_number result name.new ≡ option_map name_raw holder }
-    ensures done { IsDone result }
-    ensures kept { holder ≡ None → name.new ≡ name.old }
+    ensures { Puts (option_map name_raw holder) 1 result (told_number result name.new) (name.new ≡ name.old) }
 {
     let Some(holder) = holder else {
         return 0;

@@ -1,8 +1,8 @@
 //! What a controller hands out, as C has it.
-ghost use Rattle.std.specs.Prelude.{◌≡◌, None, Some, pos};
+ghost use Rattle.std.specs.Prelude.{◌≡◌, ◌≢◌, None, Some, pos};
 ghost use Rattle.std.specs.Option.{option_map};
 ghost use Rattle.j39_frame.specs.Identifier.{id_raw};
-ghost use Rattle.j39_c.specs.Codes.{IsDone};
+ghost use Rattle.j39_c.specs.Calls.{Puts};
 ghost use Rattle.j39_c.specs.Controllers.{asked, received, settled, wish_in};
 ghost use Rattle.j39_c.specs.Holders.{told_number};
 ghost use Rattle.j39_c.specs.Messages.{named};
@@ -27,8 +27,7 @@ pub struct PlainRequest {
 
 /// Writes out an address: 1, or 0 where there is none.
 pub(crate) fn put_address(found: Option<u8>, address: &mut u8) -> i32
-    ensures value { told_number result address.new ≡ found }
-    ensures done { IsDone result }
+    ensures { Puts found 1 result (told_number result address.new) (address.new ≡ address.old) }
 {
     match found {
         Some(found) => {
@@ -41,8 +40,7 @@ pub(crate) fn put_address(found: Option<u8>, address: &mut u8) -> i32
 
 /// Writes out an identifier: 1, or 0 where there is none.
 pub(crate) fn put_id(found: Option<Id>, id: &mut u32) -> i32
-    ensures value { told_number result id.new ≡ option_map id_raw found }
-    ensures done { IsDone result }
+    ensures { Puts (option_map id_raw found) 1 result (told_number result id.new) (id.new ≡ id.old) }
 {
     match found {
         Some(found) => {
@@ -56,8 +54,9 @@ pub(crate) fn put_id(found: Option<Id>, id: &mut u32) -> i32
 /// Writes out a frame that goes out, and the number of the message that it is a part of: 0 where there is none, 1 for a
 /// frame that is no part of a message that was handed in, 2 for a part, 3 for the last one.
 pub(crate) fn put_wish(wish: Option<Wish>, out: &mut CanFrame, number: &mut usize) -> i32
-    ensures value { wish_in result out.new number.new ≡ wish }
-    ensures done { IsDone result }
+    ensures puts { Puts wish 3 result (wish_in result out.new number.new)
+        ((out.new ≡ out.old) × (number.new ≡ number.old)) }
+    ensures apart { result ≡ pos 1 → number.new ≡ number.old }
 {
     let Some(wish) = wish else {
         return 0;
@@ -76,9 +75,9 @@ pub(crate) fn put_received(
     out: &mut WholeMessage,
     destination: &mut u8,
 ) -> i32
-    ensures value { received result out.new destination.new ≡ message }
+    ensures puts { Puts message 1 result (received result out.new destination.new)
+        ((out.new ≡ out.old) × (destination.new ≡ destination.old)) }
     ensures unnamed { result ≡ pos 1 → named out.new.is_named out.new.name ≡ None }
-    ensures done { IsDone result }
 {
     let Some(message) = message else {
         return 0;
@@ -96,8 +95,7 @@ pub(crate) fn put_received(
 
 /// Writes out a request: 1, or 0 where there is none.
 pub(crate) fn put_request(request: Option<Asked>, out: &mut PlainRequest) -> i32
-    ensures value { asked result out.new ≡ request }
-    ensures done { IsDone result }
+    ensures { Puts request 1 result (asked result out.new) (out.new ≡ out.old) }
 {
     let Some(request) = request else {
         return 0;
@@ -113,8 +111,9 @@ pub(crate) fn put_request(request: Option<Asked>, out: &mut PlainRequest) -> i32
 /// Writes out how a message ended: 0 where there is none, 1 where it is done, 2 where it failed for `reason`, 3 where
 /// it was withdrawn.
 pub(crate) fn put_settled(ended: Option<Settled>, number: &mut usize, reason: &mut u8) -> i32
-    ensures value { settled result number.new reason.new ≡ ended }
-    ensures done { IsDone result }
+    ensures puts { Puts ended 3 result (settled result number.new reason.new)
+        ((number.new ≡ number.old) × (reason.new ≡ reason.old)) }
+    ensures apart { result ≢ pos 2 → reason.new ≡ reason.old }
 {
     let Some(ended) = ended else {
         return 0;
