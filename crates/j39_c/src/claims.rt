@@ -1,19 +1,18 @@
 //! Who holds which address (J1939-81, 4.2.2). It lies in C's own memory.
 ghost use Rattle.std.specs.Prelude.{◌≡◌, ◌≤◌, [], List, length, pos};
-ghost use Rattle.std.specs.Option.{option_map};
 ghost use Rattle.j39_address.specs.Claim.{claims_of};
 ghost use Rattle.j39_address.specs.Claims.{Knows};
 ghost use Rattle.j39_address.specs.Holder.{IsHolderAfter};
-ghost use Rattle.j39_address.specs.Name.{name_raw};
 ghost use Rattle.j39_frame.specs.Frame.{FrameRecord};
-ghost use Rattle.j39_c.specs.Calls.{Puts, Tells};
+ghost use Rattle.j39_c.specs.Calls.{Tells};
 ghost use Rattle.j39_c.specs.Can.{Fits, frame_of};
-ghost use Rattle.j39_c.specs.Codes.{IsDone, bad_value};
-ghost use Rattle.j39_c.specs.Holders.{Notes, addresses_in, told_number};
+ghost use Rattle.j39_c.specs.Codes.{IsDone, bad_value, told};
+ghost use Rattle.j39_c.specs.Holders.{Notes, addresses_in};
 
 use crate::can::{CanFrame, frame_in};
+use crate::handed_out::put_name;
 use crate::refusal::Refusal;
-use j39_address::{Claims, Name};
+use j39_address::Claims;
 use j39_frame::Frame;
 
 /// Nobody holds an address.
@@ -67,20 +66,9 @@ fn put_addresses(addresses: &[u8], changed: &mut [u8; 2]) -> i32
 #[unsafe(no_mangle)]
 pub extern "C" fn j39_claims_holder(claims: &Claims, address: u8, name: &mut u64) -> i32
     ensures holder { (F : List FrameRecord) → Knows claims.now F
-        → IsHolderAfter (claims_of F) address (told_number result name.new) }
+        → IsHolderAfter (claims_of F) address (told result name.new) }
     ensures done { IsDone result }
-    ensures tells { Tells 1 result (told_number result name.new) (name.new ≡ name.old) }
+    ensures tells { Tells 1 result (told result name.new) (name.new ≡ name.old) }
 {
     put_name(claims.holder(address), name)
-}
-
-/// Writes out a NAME: 1, or 0 where there is none.
-pub(crate) fn put_name(holder: Option<Name>, name: &mut u64) -> i32
-    ensures { Puts (option_map name_raw holder) 1 result (told_number result name.new) (name.new ≡ name.old) }
-{
-    let Some(holder) = holder else {
-        return 0;
-    };
-    *name = holder.raw();
-    1
 }

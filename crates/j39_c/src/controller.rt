@@ -7,25 +7,22 @@ ghost use Rattle.j39_controller.specs.Controller.{Hears, IsNew, IsUnsent, Passes
 ghost use Rattle.j39_controller.specs.Outbox.{first_id};
 ghost use Rattle.j39_c.specs.Calls.{Asks, Never, Opens, Tells};
 ghost use Rattle.j39_c.specs.Can.{Fits, frame_of};
-ghost use Rattle.j39_c.specs.Codes.{IsDone, IsRefused, no_memory};
+ghost use Rattle.j39_c.specs.Codes.{IsDone, IsRefused, no_memory, told};
 ghost use Rattle.j39_c.specs.Controllers.{BeginsFrom, Broadcasts, CanBegin, CanTransfer, Holds, LetsTurn, TakesAsked};
 ghost use Rattle.j39_c.specs.Controllers.{TakesFrame, TakesIn, TakesReceived, TakesSettled, Transfers};
 ghost use Rattle.j39_c.specs.Controllers.{asked, begun, received, settled, wish_in};
-ghost use Rattle.j39_c.specs.Holders.{told_number};
 ghost use Rattle.j39_c.specs.Messages.{named};
 ghost use Rattle.j39_c.specs.Parts.{controller_in};
 
 use crate::can::{CanFrame, frame_in};
-use crate::handed_out::{
-    PlainRequest, put_address, put_id, put_received, put_request, put_settled, put_wish,
-};
+use crate::handed_out::{PlainRequest, put, put_received, put_request, put_settled, put_wish};
 use crate::handle::Handle;
 use crate::message::WholeMessage;
 use crate::part::{Part, ask};
 use crate::refusal::Refusal;
 use j39_address::Name;
 use j39_controller::Controller;
-use j39_frame::{Pgn, Stamp, is_address};
+use j39_frame::{Id, Pgn, Stamp, is_address};
 use j39_transport::{LONGEST, SHORTEST};
 use std::alloc::Global;
 
@@ -214,11 +211,11 @@ pub extern "C" fn j39_controller_held(
     address: &mut u8,
 ) -> i32
     ensures asks { Asks controller_in ⊤ controller.old.part result controller.new.part
-        (λ old _. Holds old (told_number result address.new)) Never }
+        (λ old _. Holds old (told result address.new)) Never }
     ensures same { controller.new.part ≡ controller.old.part }
-    ensures tells { Tells 1 result (told_number result address.new) (address.new ≡ address.old) }
+    ensures tells { Tells 1 result (told result address.new) (address.new ≡ address.old) }
 {
-    ask!(alloc, controller, Controlling(held) => put_address(held.held(), address))
+    ask!(alloc, controller, Controlling(held) => put(held.held(), address))
 }
 
 /// The address that a message of a controller may begin from at a moment: 1 and the address, or 0. -1 for a moment of
@@ -231,14 +228,14 @@ pub extern "C" fn j39_controller_free_at(
     address: &mut u8,
 ) -> i32
     ensures asks { Asks controller_in (micros < 10 ^ 16) controller.old.part result controller.new.part
-        (λ old _. BeginsFrom old micros (told_number result address.new)) Never }
+        (λ old _. BeginsFrom old micros (told result address.new)) Never }
     ensures same { controller.new.part ≡ controller.old.part }
-    ensures tells { Tells 1 result (told_number result address.new) (address.new ≡ address.old) }
+    ensures tells { Tells 1 result (told result address.new) (address.new ≡ address.old) }
 {
     let Some(now) = Stamp::new(micros) else {
         return Refusal::BadValue.code();
     };
-    ask!(alloc, controller, Controlling(held) => put_address(held.free_at(now), address))
+    ask!(alloc, controller, Controlling(held) => put(held.free_at(now), address))
 }
 
 /// The identifier of the frame that a controller wishes to send next, for arbitration: 1 and the identifier, or 0; -2
@@ -246,11 +243,11 @@ pub extern "C" fn j39_controller_free_at(
 #[unsafe(no_mangle)]
 pub extern "C" fn j39_controller_wish(alloc: Global, controller: &mut Handle, id: &mut u32) -> i32
     ensures asks { Asks controller_in ⊤ controller.old.part result controller.new.part
-        (λ old _. told_number result id.new ≡ first_id (waiting_in old)) Never }
+        (λ old _. told result id.new ≡ first_id (waiting_in old)) Never }
     ensures same { controller.new.part ≡ controller.old.part }
-    ensures tells { Tells 1 result (told_number result id.new) (id.new ≡ id.old) }
+    ensures tells { Tells 1 result (told result id.new) (id.new ≡ id.old) }
 {
-    ask!(alloc, controller, Controlling(held) => put_id(held.wish(), id))
+    ask!(alloc, controller, Controlling(held) => put(held.wish().map(Id::raw), id))
 }
 
 /// Takes the frame that a controller wishes to send next, which the bus now takes: 0 where none goes; else it is in

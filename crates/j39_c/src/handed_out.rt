@@ -1,16 +1,16 @@
-//! What a controller hands out, as C has it.
+//! What calls write out, as C has it.
 ghost use Rattle.std.specs.Prelude.{◌≡◌, ◌≢◌, None, Some, pos};
 ghost use Rattle.std.specs.Option.{option_map};
-ghost use Rattle.j39_frame.specs.Identifier.{id_raw};
+ghost use Rattle.j39_address.specs.Name.{name_raw};
 ghost use Rattle.j39_c.specs.Calls.{Puts};
+ghost use Rattle.j39_c.specs.Codes.{told};
 ghost use Rattle.j39_c.specs.Controllers.{asked, received, settled, wish_in};
-ghost use Rattle.j39_c.specs.Holders.{told_number};
 ghost use Rattle.j39_c.specs.Messages.{named};
 
 use crate::can::{CanFrame, write_frame};
 use crate::message::WholeMessage;
+use j39_address::Name;
 use j39_controller::{Asked, Ending, Received, Settled, Wish};
-use j39_frame::Id;
 use j39_transport::Message;
 
 /// A request for a group, `j1939_request` of the header.
@@ -25,30 +25,24 @@ pub struct PlainRequest {
     pub destination: u8,
 }
 
-/// Writes out an address: 1, or 0 where there is none.
-pub(crate) fn put_address(found: Option<u8>, address: &mut u8) -> i32
-    ensures { Puts found 1 result (told_number result address.new) (address.new ≡ address.old) }
+/// Writes out what was found: 1, or 0 where there is none.
+pub(crate) fn put<T: Copy>(found: Option<T>, out: &mut T) -> i32
+    ensures { Puts found 1 result (told result out.new) (out.new ≡ out.old) }
 {
     match found {
         Some(found) => {
-            *address = found;
+            *out = found;
             1
         }
         None => 0,
     }
 }
 
-/// Writes out an identifier: 1, or 0 where there is none.
-pub(crate) fn put_id(found: Option<Id>, id: &mut u32) -> i32
-    ensures { Puts (option_map id_raw found) 1 result (told_number result id.new) (id.new ≡ id.old) }
+/// Writes out a NAME: 1, or 0 where there is none.
+pub(crate) fn put_name(holder: Option<Name>, name: &mut u64) -> i32
+    ensures { Puts (option_map name_raw holder) 1 result (told result name.new) (name.new ≡ name.old) }
 {
-    match found {
-        Some(found) => {
-            *id = found.raw();
-            1
-        }
-        None => 0,
-    }
+    put(holder.map(Name::raw), name)
 }
 
 /// Writes out a frame that goes out, and the number of the message that it is a part of: 0 where there is none, 1 for a

@@ -3,13 +3,12 @@ ghost use Rattle.std.specs.Prelude.{◌≡◌, ⊤, []};
 ghost use Rattle.j39_listen.specs.Listening.{Hears};
 ghost use Rattle.j39_c.specs.Calls.{Asks, Never, Opens, Tells};
 ghost use Rattle.j39_c.specs.Can.{Fits, frame_of};
-ghost use Rattle.j39_c.specs.Codes.{IsDone, IsRefused, no_memory};
-ghost use Rattle.j39_c.specs.Holders.{told_number};
+ghost use Rattle.j39_c.specs.Codes.{IsDone, IsRefused, no_memory, told};
 ghost use Rattle.j39_c.specs.Messages.{message_in};
 ghost use Rattle.j39_c.specs.Parts.{HearsMore, IsHolderBy, LacksMemory, listener_in};
 
 use crate::can::{CanFrame, frame_in};
-use crate::claims::put_name;
+use crate::handed_out::put_name;
 use crate::handle::Handle;
 use crate::message::WholeMessage;
 use crate::part::{Part, ask};
@@ -64,9 +63,9 @@ pub extern "C" fn j39_listener_holder(
     name: &mut u64,
 ) -> i32
     ensures asks { Asks listener_in ⊤ listener.old.part result listener.new.part
-        (λ heard _. IsHolderBy heard address (told_number result name.new)) Never }
+        (λ heard _. IsHolderBy heard address (told result name.new)) Never }
     ensures same { listener.new.part ≡ listener.old.part }
-    ensures tells { Tells 1 result (told_number result name.new) (name.new ≡ name.old) }
+    ensures tells { Tells 1 result (told result name.new) (name.new ≡ name.old) }
 {
     ask!(alloc, listener, Listening(held) => put_name(held.holder(address), name))
 }

@@ -10,6 +10,7 @@ ghost use Rattle.j39_c.specs.Codes.{IsRefused, bad_value, end};
 ghost use Rattle.j39_c.specs.Readings.{IsFilled, IsPlain, IsReadable, IsTextAnswer, reading_in};
 ghost use Rattle.j39_c.specs.declared.refusal.Refusal.TheVariants.{NoMemory};
 
+use crate::handed_out::put;
 use crate::message::WholeMessage;
 use crate::refusal::Refusal;
 use j39_frame::Pgn;
@@ -233,11 +234,5 @@ pub extern "C" fn j39_raw_of(spn: u32, value: i64, raw: &mut u32) -> i32
     ensures only { (n : ℕ) → IsRawOf spn value n → (result ≡ pos 1) × (raw.new ≡ n) }
     ensures none { result ≢ pos 1 → (result ≡ pos 0) × (raw.new ≡ raw.old) }
 {
-    match raw_of(spn, value) {
-        Some(found) => {
-            *raw = found;
-            1
-        }
-        None => 0,
-    }
+    put(raw_of(spn, value), raw)
 }
