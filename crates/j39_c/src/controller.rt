@@ -19,7 +19,7 @@ use crate::handed_out::{PlainRequest, put, put_received, put_request, put_settle
 use crate::handle::Handle;
 use crate::message::WholeMessage;
 use crate::part::{Part, ask};
-use crate::refusal::Refusal;
+use crate::refusal::{Refusal, done};
 use j39_address::Name;
 use j39_controller::Controller;
 use j39_frame::{Id, Pgn, Stamp, is_address};
@@ -69,10 +69,7 @@ pub extern "C" fn j39_controller_pass(alloc: Global, controller: &mut Handle, mi
     let Some(now) = Stamp::new(micros) else {
         return Refusal::BadValue.code();
     };
-    ask!(alloc, controller, Controlling(held) => match held.pass(now) {
-        Ok(()) => 0,
-        Err(_) => Refusal::NoMemory.code(),
-    })
+    ask!(alloc, controller, Controlling(held) => done!(held.pass(now)))
 }
 
 /// Lets time pass for the messages of a controller, where it holds an address: 0. -1 for a moment of 10^16
@@ -86,10 +83,7 @@ pub extern "C" fn j39_controller_turn(alloc: Global, controller: &mut Handle, mi
     let Some(now) = Stamp::new(micros) else {
         return Refusal::BadValue.code();
     };
-    ask!(alloc, controller, Controlling(held) => match held.turn(now) {
-        Ok(()) => 0,
-        Err(_) => Refusal::NoMemory.code(),
-    })
+    ask!(alloc, controller, Controlling(held) => done!(held.turn(now)))
 }
 
 /// Shows a controller a frame that another one sent, at its own moment: 0. -1 for a frame that is out of range, -2
@@ -106,10 +100,7 @@ pub extern "C" fn j39_controller_hear(
     let Some(heard) = frame_in(frame) else {
         return Refusal::BadValue.code();
     };
-    ask!(alloc, controller, Controlling(held) => match held.hear(&heard) {
-        Ok(()) => 0,
-        Err(_) => Refusal::NoMemory.code(),
-    })
+    ask!(alloc, controller, Controlling(held) => done!(held.hear(&heard)))
 }
 
 /// Hands a controller a frame that is a message by itself, under a number of the caller's: it goes out from the address
@@ -129,10 +120,7 @@ pub extern "C" fn j39_controller_send(
     let Some(sent) = frame_in(frame) else {
         return Refusal::BadValue.code();
     };
-    ask!(alloc, controller, Controlling(held) => match held.send(sent, number) {
-        Ok(()) => 0,
-        Err(_) => Refusal::NoMemory.code(),
-    })
+    ask!(alloc, controller, Controlling(held) => done!(held.send(sent, number)))
 }
 
 /// Begins to broadcast these bytes, 9 to 1,785, under a number of the caller's, where a message may begin: 1 where it
