@@ -95,7 +95,8 @@ pub extern "C" fn j39_controller_hear(
     frame: &CanFrame,
 ) -> i32
     ensures { Asks controller_in (Fits frame.now) controller.old.part result controller.new.part
-        (λ old new. (result ≡ pos 0) × Hears old (frame_of frame.now) new) (λ _. IsSome (controller_in controller.new.part)) }
+        (λ old new. (result ≡ pos 0) × Hears old (frame_of frame.now) new)
+        (λ _. IsSome (controller_in controller.new.part)) }
 {
     let Some(heard) = frame_in(frame) else {
         return Refusal::BadValue.code();
@@ -163,7 +164,8 @@ pub extern "C" fn j39_controller_transfer(
     payload: &[u8],
     micros: u64,
 ) -> i32
-    ensures asks { Asks controller_in (CanTransfer to pgn payload.now micros) controller.old.part result controller.new.part
+    ensures asks { Asks controller_in (CanTransfer to pgn payload.now micros) controller.old.part result
+        controller.new.part
         (λ old new. Transfers old number to pgn payload.now micros (begun result) new) (λ _. ⊤) }
     ensures refused { IsRefused result → controller.new.part ≡ controller.old.part }
     ensures told { result ≤ℤ pos 1 }
@@ -251,7 +253,8 @@ pub extern "C" fn j39_controller_take_frame(
     ensures asks { Asks controller_in ⊤ controller.old.part result controller.new.part
         (λ old new. TakesFrame old (wish_in result out.new number.new) new) Never }
     ensures refused { IsRefused result → controller.new.part ≡ controller.old.part }
-    ensures tells { Tells 3 result (wish_in result out.new number.new) ((out.new ≡ out.old) × (number.new ≡ number.old)) }
+    ensures tells { Tells 3 result (wish_in result out.new number.new)
+        ((out.new ≡ out.old) × (number.new ≡ number.old)) }
     ensures apart { result ≡ pos 1 → number.new ≡ number.old }
 {
     ask!(alloc, controller, Controlling(held) => put_wish(held.take_frame(), out, number))
@@ -271,7 +274,8 @@ pub extern "C" fn j39_controller_take_received(
         (λ old new. TakesReceived old (received result out.new destination.new) new) Never }
     ensures unnamed { result ≡ pos 1 → named out.new.is_named out.new.name ≡ None }
     ensures refused { IsRefused result → controller.new.part ≡ controller.old.part }
-    ensures tells { Tells 1 result (received result out.new destination.new) ((out.new ≡ out.old) × (destination.new ≡ destination.old)) }
+    ensures tells { Tells 1 result (received result out.new destination.new)
+        ((out.new ≡ out.old) × (destination.new ≡ destination.old)) }
 {
     ask!(alloc, controller, Controlling(held) => put_received(held.take_received(), out, destination))
 }
@@ -305,7 +309,8 @@ pub extern "C" fn j39_controller_take_settled(
     ensures asks { Asks controller_in ⊤ controller.old.part result controller.new.part
         (λ old new. TakesSettled old (settled result number.new reason.new) new) Never }
     ensures refused { IsRefused result → controller.new.part ≡ controller.old.part }
-    ensures tells { Tells 3 result (settled result number.new reason.new) ((number.new ≡ number.old) × (reason.new ≡ reason.old)) }
+    ensures tells { Tells 3 result (settled result number.new reason.new)
+        ((number.new ≡ number.old) × (reason.new ≡ reason.old)) }
     ensures apart { result ≢ pos 2 → reason.new ≡ reason.old }
 {
     ask!(alloc, controller, Controlling(held) => put_settled(held.take_settled(), number, reason))

@@ -7,10 +7,11 @@ use Rattle.j39_web.specs.Tables.{ByTable, IsWrongTable, WantsRows}
 use Rattle.j39_web.specs.Text.{IsMade, Overflows}
 use Rattle.j39_web.specs.declared.texts.LogText.{LogText}
 
--- a call that writes what is made of a log: `by` is the rows that it writes by, `makes` what it makes by them, and `wants` where
--- it wants memory by a table; after it the room is room', and what is told of it text'
-pub record Tells (by : (List RowRecord → Type 0) → Type 0) (makes : List RowRecord → Making) (wants : List RowRecord → Type 0)
-    (log bus_bytes table_bytes room room' : List ℕ) (text text' : LogText) (answer : ℕ) : Type 0 where
+-- a call that writes what is made of a log: `by` is the rows that it writes by, `makes` what it makes by them, and `wants`
+-- where it wants memory by a table; behind it the room is room', and what is told of it text'
+pub record Tells (by : (List RowRecord → Type 0) → Type 0) (makes : List RowRecord → Making)
+    (wants : List RowRecord → Type 0) (log bus_bytes table_bytes room room' : List ℕ) (text text' : LogText)
+    (answer : ℕ) : Type 0 where
   -- what stands at the front of the room is that, and nothing else
   pub made : answer ≡ done → by (λ rows. IsMade (makes rows) (given_bus bus_bytes) log text' room')
   -- the room is too small exactly where that has as many bytes, or more

@@ -91,8 +91,8 @@ pub extern "C" fn j39_summary(
     room: &mut [u8],
     text: &mut LogText,
 ) -> u32
-    // What is written is the summary of the log's report. Memory is wanted at a frame that announces a message, and where a
-    // value is the first of its parameter, or a text.
+    // What is written is the summary of the log's report. Memory is wanted at a frame that announces a message, and
+    // where a value is the first of its parameter, or a text.
     ensures { Tells (ByTable table.now) MakesSummaryRecords
         (λ rows. AsksSomewhere (AsksForRows rows) (given_bus bus.now) log.now)
         log.now bus.now table.now room.old room.new text.old text.new result }
@@ -111,8 +111,8 @@ pub extern "C" fn j39_faults(
     room: &mut [u8],
     text: &mut LogText,
 ) -> u32
-    // What is written is the faults that are told in the log's frames. Memory is wanted at a frame that announces a message,
-    // and at one at which an address says its codes for the first time.
+    // What is written is the faults that are told in the log's frames. Memory is wanted at a frame that announces a
+    // message, and at one at which an address says its codes for the first time.
     ensures { Tells (ByTable table.now) (λ rows. MakesFaults rows News)
         (λ _. AsksSomewhere AsksForFaults (given_bus bus.now) log.now)
         log.now bus.now table.now room.old room.new text.old text.new result }
