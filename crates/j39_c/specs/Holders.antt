@@ -1,5 +1,5 @@
 -- Addresses and their holders, by what calls answered and wrote out.
-use Rattle.std.specs.Prelude.{ℕ, zero, suc, ℤ, pos, negsuc, Option, Some, None, List, [], ◌∷◌, ◌++◌, take}
+use Rattle.std.specs.Prelude.{ℕ, ℤ, pos, negsuc, List, [], ◌∷◌, ◌++◌, take}
 use Rattle.j39_address.specs.Changes.{AreChanged}
 use Rattle.j39_address.specs.Claim.{claims_of}
 use Rattle.j39_address.specs.Claims.{Knows}

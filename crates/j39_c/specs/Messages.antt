@@ -1,5 +1,5 @@
 -- A message as C has it.
-use Rattle.std.specs.Prelude.{ℕ, zero, suc, ℤ, pos, negsuc, Option, Some, None, take}
+use Rattle.std.specs.Prelude.{ℕ, zero, suc, ℤ, Option, Some, None, take}
 use Rattle.j39_listen.specs.Heard.{Hearing}
 use Rattle.j39_c.specs.Codes.{told}
 use Rattle.j39_c.specs.declared.message.WholeMessage.{WholeMessage}
