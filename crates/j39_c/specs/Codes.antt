@@ -42,20 +42,22 @@ abbrev pub IsRefused : ℤ → Type 0
 IsRefused (pos n) = ⊥
 IsRefused (negsuc n) = Unit {0}
 
+-- what is told, by what a call answered: above 0 what stands in what it writes to
+abbrev pub told : {T : Type 0} → ℤ → T → Option T
+told (pos zero) x = None
+told (pos (suc n)) x = Some x
+told (negsuc n) x = None
+
 -- the frame that is to be sent, by what a call answered and wrote out
 abbrev pub sent : ℤ → CanFrame → Option FrameRecord
-sent (pos zero) can = None
-sent (pos (suc n)) can = Some (frame_of can)
-sent (negsuc n) can = None
+sent code can = told code (frame_of can)
+
+-- the frame of eight bytes that is to be sent
+abbrev pub sent_packet : ℤ → CanFrame → Option ToSend
+sent_packet code can = told code (without_stamp (frame_of can))
 
 -- a frame that is written out has this moment
 abbrev pub IsSentAt : ℤ → CanFrame → ℕ → Type 0
 IsSentAt (pos zero) can now = Unit {0}
 IsSentAt (pos (suc n)) can now = can.micros ≡ now
 IsSentAt (negsuc n) can now = Unit {0}
-
--- the frame of eight bytes that is to be sent
-abbrev pub sent_packet : ℤ → CanFrame → Option ToSend
-sent_packet (pos zero) can = None
-sent_packet (pos (suc n)) can = Some (without_stamp (frame_of can))
-sent_packet (negsuc n) can = None

@@ -14,6 +14,7 @@ use Rattle.j39_controller.specs.declared.outbox.Wish.{Wish}
 use Rattle.j39_controller.specs.declared.settled.Ending.TheVariants as ending
 use Rattle.j39_controller.specs.declared.settled.Settled.{Settled}
 use Rattle.j39_c.specs.Can.{frame_of}
+use Rattle.j39_c.specs.Codes.{told}
 use Rattle.j39_c.specs.Messages.{hearing_in}
 use Rattle.j39_c.specs.declared.handed_out.PlainRequest.{PlainRequest}
 use Rattle.j39_c.specs.declared.can.CanFrame.{CanFrame}
@@ -94,9 +95,7 @@ pub record TakesFrame (old : Controller) (wish : Option Wish) (new : Controller)
 
 -- the message that was received, and where it went, by what a call answered and wrote out
 abbrev pub received : ℤ → WholeMessage → ℕ → Option ReceivedRecord
-received (pos zero) m to = None
-received (pos (suc n)) m to = Some (received_of (hearing_in m).message to (hearing_in m).stamp)
-received (negsuc n) m to = None
+received code m to = told code (received_of (hearing_in m).message to (hearing_in m).stamp)
 
 pub record TakesReceived (old : Controller) (message : Option ReceivedRecord) (new : Controller) : Type 0 where
   pub first : received_in old ≡ option_to_list message ++ received_in new
@@ -105,9 +104,7 @@ pub record TakesReceived (old : Controller) (message : Option ReceivedRecord) (n
 
 -- the request that was heard
 abbrev pub asked : ℤ → PlainRequest → Option AskedRecord
-asked (pos zero) r = None
-asked (pos (suc n)) r = Some (record { source = r.source; destination = r.destination; pgn = r.pgn })
-asked (negsuc n) r = None
+asked code r = told code (record { source = r.source; destination = r.destination; pgn = r.pgn })
 
 pub record TakesAsked (old : Controller) (request : Option AskedRecord) (new : Controller) : Type 0 where
   pub first : asked_in old ≡ option_to_list request ++ asked_in new

@@ -1,16 +1,10 @@
 -- Addresses and their holders, by what calls answered and wrote out.
-use Rattle.std.specs.Prelude.{ℕ, zero, suc, ℤ, pos, negsuc, Option, Some, None, List, [], ◌∷◌, ◌++◌, take}
+use Rattle.std.specs.Prelude.{ℕ, ℤ, pos, negsuc, List, [], ◌∷◌, ◌++◌, take}
 use Rattle.j39_address.specs.Changes.{AreChanged}
 use Rattle.j39_address.specs.Claim.{claims_of}
 use Rattle.j39_address.specs.Claims.{Knows}
 use Rattle.j39_address.specs.declared.claims.Claims.{Claims}
 use Rattle.j39_frame.specs.Frame.{FrameRecord}
-
--- the number that is told, a NAME, an address or an identifier, or none
-abbrev pub told_number : ℤ → ℕ → Option ℕ
-told_number (pos zero) name = None
-told_number (pos (suc n)) name = Some name
-told_number (negsuc n) name = None
 
 -- so many addresses
 abbrev pub addresses_in : ℤ → List ℕ → List ℕ

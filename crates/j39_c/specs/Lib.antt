@@ -1,5 +1,6 @@
 pub mod Assemblers
 pub mod Broadcasts
+pub mod Calls
 pub mod Can
 pub mod Codes
 pub mod Controllers

@@ -1,6 +1,7 @@
 -- A message as C has it.
-use Rattle.std.specs.Prelude.{ℕ, zero, suc, ℤ, pos, negsuc, Option, Some, None, take}
+use Rattle.std.specs.Prelude.{ℕ, zero, suc, ℤ, Option, Some, None, take}
 use Rattle.j39_listen.specs.Heard.{Hearing}
+use Rattle.j39_c.specs.Codes.{told}
 use Rattle.j39_c.specs.declared.message.WholeMessage.{WholeMessage}
 
 -- a NAME, unless the mark is 0
@@ -18,6 +19,4 @@ hearing_in m = record {
 
 -- the message that is heard, by what a call answered and wrote out
 abbrev pub message_in : ℤ → WholeMessage → Option Hearing
-message_in (pos zero) m = None
-message_in (pos (suc n)) m = Some (hearing_in m)
-message_in (negsuc n) m = None
+message_in code m = told code (hearing_in m)

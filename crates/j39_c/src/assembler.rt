@@ -1,16 +1,17 @@
 //! Messages put together of packets, whoever holds their sources' addresses (J1939-21, 5.10).
-ghost use Rattle.std.specs.Prelude.{◌≡◌, [], Some, None, IfSome, IsSome, IsSomeAnd, pos};
+ghost use Rattle.std.specs.Prelude.{◌≡◌, ⊤, [], pos};
 ghost use Rattle.j39_transport.specs.Stands.{Stands};
 ghost use Rattle.j39_c.specs.Assemblers.{Forgets, LacksBox, PutsTogether};
+ghost use Rattle.j39_c.specs.Calls.{Asks, Never, Opens, Tells};
 ghost use Rattle.j39_c.specs.Can.{Fits, frame_of};
-ghost use Rattle.j39_c.specs.Codes.{IsDone, IsRefused, bad_value, in_use, no_memory, no_part};
+ghost use Rattle.j39_c.specs.Codes.{IsDone, IsRefused, no_memory};
 ghost use Rattle.j39_c.specs.Messages.{message_in};
 ghost use Rattle.j39_c.specs.Parts.{assembler_in};
 
 use crate::can::{CanFrame, frame_in};
 use crate::handle::Handle;
 use crate::message::WholeMessage;
-use crate::part::Part;
+use crate::part::{Part, ask};
 use crate::refusal::Refusal;
 use j39_frame::Frame;
 use j39_transport::{Assembler, Fed};
@@ -19,11 +20,7 @@ use std::alloc::Global;
 /// Opens an assembler with no message open: 0; -3 where memory is refused, -4 where the handle is open.
 #[unsafe(no_mangle)]
 pub extern "C" fn j39_assembler_new(alloc: Global, assembler: &mut Handle) -> i32
-    ensures made { IsDone result → (result ≡ pos 0)
-        × IsSomeAnd (assembler_in assembler.new.part) (λ made. Stands [] made) }
-    ensures open { IsSome assembler.old.part → result ≡ in_use }
-    ensures wanted { IsRefused result → assembler.old.part ≡ None → result ≡ no_memory }
-    ensures refused { IsRefused result → assembler.new.part ≡ assembler.old.part }
+    ensures { Opens assembler_in ⊤ assembler.old.part result assembler.new.part (λ made. Stands [] made) }
 {
     if assembler.is_open(alloc) {
         return Refusal::InUse.code();
@@ -44,49 +41,39 @@ pub extern "C" fn j39_assembler_feed(
     frame: &CanFrame,
     out: &mut WholeMessage,
 ) -> i32
-    ensures whole { Fits frame.now → IsDone result → IfSome (assembler_in assembler.old.part) (λ old.
-        IsSomeAnd (assembler_in assembler.new.part) (λ new.
-        PutsTogether old (frame_of frame.now) (message_in result out.new) new)) }
-    ensures wanted { Fits frame.now → IsRefused result → IfSome (assembler_in assembler.old.part) (λ old.
-        (result ≡ no_memory) × LacksBox old (frame_of frame.now)) }
-    ensures foreign { Fits frame.now → assembler_in assembler.old.part ≡ None → result ≡ no_part }
-    ensures bad { (Fits frame.now → ⊥) → result ≡ bad_value }
+    ensures asks { Asks assembler_in (Fits frame.now) assembler.old.part result assembler.new.part
+        (λ old new. PutsTogether old (frame_of frame.now) (message_in result out.new) new)
+        (λ old. LacksBox old (frame_of frame.now)) }
     ensures refused { IsRefused result → assembler.new.part ≡ assembler.old.part }
+    ensures tells { Tells 1 result (message_in result out.new) (out.new ≡ out.old) }
 {
     let Some(fed) = frame_in(frame) else {
         return Refusal::BadValue.code();
     };
-    let Some(mut part) = assembler.take(alloc) else {
-        return Refusal::NoPart.code();
-    };
-    let code = part.assemble(&fed, out);
-    assembler.put(alloc, part);
-    code
+    ask!(alloc, assembler, Assembling(held) => assemble(held, &fed, out))
 }
 
 /// Ends all messages that a source has begun, as where its address has another holder: 0; -2 where the handle holds no
 /// assembler.
 #[unsafe(no_mangle)]
 pub extern "C" fn j39_assembler_forget(alloc: Global, assembler: &mut Handle, source: u8) -> i32
-    ensures done { IfSome (assembler_in assembler.old.part) (λ old. (result ≡ pos 0)
-        × IsSomeAnd (assembler_in assembler.new.part) (λ new. Forgets old source new)) }
-    ensures foreign { assembler_in assembler.old.part ≡ None → result ≡ no_part }
+    ensures asks { Asks assembler_in ⊤ assembler.old.part result assembler.new.part
+        (λ old new. (result ≡ pos 0) × Forgets old source new) Never }
     ensures refused { IsRefused result → assembler.new.part ≡ assembler.old.part }
 {
-    let Some(mut part) = assembler.take(alloc) else {
-        return Refusal::NoPart.code();
-    };
-    let code = part.forget(source);
-    assembler.put(alloc, part);
-    code
+    ask!(alloc, assembler, Assembling(held) => {
+        forget(held, source);
+        0
+    })
 }
 
 /// What is whole with the next frame: 1 where a message is.
-pub(crate) fn assemble(assembler: &mut Assembler, frame: &Frame, out: &mut WholeMessage) -> i32
+fn assemble(assembler: &mut Assembler, frame: &Frame, out: &mut WholeMessage) -> i32
     ensures whole { IsDone result
         → PutsTogether assembler.old frame.now (message_in result out.new) assembler.new }
     ensures wanted { IsRefused result → (result ≡ no_memory) × LacksBox assembler.old frame.now }
     ensures refused { IsRefused result → assembler.new ≡ assembler.old }
+    ensures tells { Tells 1 result (message_in result out.new) (out.new ≡ out.old) }
 {
     match assembler.feed(frame) {
         Ok(Fed::Whole(message)) => {
@@ -100,7 +87,7 @@ pub(crate) fn assemble(assembler: &mut Assembler, frame: &Frame, out: &mut Whole
 }
 
 /// Ends all messages that a source has begun.
-pub(crate) fn forget(assembler: &mut Assembler, source: u8)
+fn forget(assembler: &mut Assembler, source: u8)
     ensures { Forgets assembler.old source assembler.new }
 {
     assembler.forget(source);

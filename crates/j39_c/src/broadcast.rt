@@ -1,5 +1,5 @@
 //! Broadcasts, sent frame by frame (J1939-21, 5.10.3.5). How far one is lies in C's own memory.
-ghost use Rattle.std.specs.Prelude.{◌≡◌, [], List};
+ghost use Rattle.std.specs.Prelude.{◌≡◌, ◌≢◌, ◌≤ℤ◌, [], List, pos};
 ghost use Rattle.j39_frame.specs.Frame.{FrameRecord};
 ghost use Rattle.j39_frame.specs.Stamp.{stamp_micros};
 ghost use Rattle.j39_transport.specs.Broadcasting.{HasSent, answer_after, with_answer};
@@ -39,6 +39,9 @@ pub extern "C" fn j39_broadcast_poll(
         → Polls (message_by source pgn payload.now) broadcast.old micros result out.new due.new broadcast.new }
     ensures bad { (CanBeCut (message_by source pgn payload.now) micros → ⊥)
         → (result ≡ bad_value) × (broadcast.new ≡ broadcast.old) }
+    ensures told { result ≤ℤ pos 2 }
+    ensures kept_out { result ≢ pos 1 → out.new ≡ out.old }
+    ensures kept_due { result ≢ pos 0 → due.new ≡ due.old }
 {
     let (Some(now), Some(group)) = (Stamp::new(micros), Pgn::new(pgn)) else {
         return Refusal::BadValue.code();
@@ -51,7 +54,10 @@ pub extern "C" fn j39_broadcast_poll(
 
 /// Writes out what a broadcast asks for.
 fn put_poll(poll: Poll, now: Stamp, out: &mut CanFrame, due: &mut u64) -> i32
-    ensures { IsPolled (stamp_micros now) result out.new due.new (answer_of poll) }
+    ensures polled { IsPolled (stamp_micros now) result out.new due.new (answer_of poll) }
+    ensures told { result ≤ℤ pos 2 }
+    ensures kept_out { result ≢ pos 1 → out.new ≡ out.old }
+    ensures kept_due { result ≢ pos 0 → due.new ≡ due.old }
 {
     match poll {
         Poll::Send(id, bytes) => {

@@ -3,8 +3,9 @@ ghost use Rattle.std.specs.Prelude.{◌≡◌, ◌↔◌, None, IsSome, IfSome};
 ghost use Rattle.std.specs.Option.{option_map};
 ghost use Rattle.j39_frame.specs.Stamp.{stamp_micros};
 ghost use Rattle.j39_transport.specs.Cutting.{to_send, without_stamp};
+ghost use Rattle.j39_c.specs.Calls.{Puts};
 ghost use Rattle.j39_c.specs.Can.{Fits, frame_of};
-ghost use Rattle.j39_c.specs.Codes.{IsDone, IsSentAt, sent, sent_packet};
+ghost use Rattle.j39_c.specs.Codes.{IsSentAt, sent, sent_packet};
 
 use j39_frame::{Frame, Id, Stamp};
 
@@ -38,9 +39,7 @@ pub(crate) fn frame_in(can: &CanFrame) -> Option<Frame>
 
 /// Writes out a frame that is to be sent: 1, or 0 where there is none.
 pub(crate) fn put_frame(frame: Option<Frame>, can: &mut CanFrame) -> i32
-    ensures value { sent result can.new ≡ frame }
-    ensures done { IsDone result }
-    ensures kept { frame ≡ None → can.new ≡ can.old }
+    ensures { Puts frame 1 result (sent result can.new) (can.new ≡ can.old) }
 {
     let Some(frame) = frame else {
         return 0;
@@ -66,10 +65,8 @@ pub(crate) fn write_frame(frame: &Frame, can: &mut CanFrame)
 
 /// Writes out a frame of eight bytes that is to be sent at a moment: 1, or 0 where there is none.
 pub(crate) fn put_packet(packet: Option<(Id, [u8; 8])>, now: Stamp, can: &mut CanFrame) -> i32
-    ensures value { sent_packet result can.new ≡ option_map to_send packet }
+    ensures puts { Puts (option_map to_send packet) 1 result (sent_packet result can.new) (can.new ≡ can.old) }
     ensures moment { IsSentAt result can.new (stamp_micros now) }
-    ensures done { IsDone result }
-    ensures kept { packet ≡ None → can.new ≡ can.old }
 {
     let Some(packet) = packet else {
         return 0;

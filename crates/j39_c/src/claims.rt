@@ -1,18 +1,18 @@
 //! Who holds which address (J1939-81, 4.2.2). It lies in C's own memory.
-ghost use Rattle.std.specs.Prelude.{◌≡◌, ◌≤◌, [], List, None, length};
-ghost use Rattle.std.specs.Option.{option_map};
+ghost use Rattle.std.specs.Prelude.{◌≡◌, ◌≤◌, [], List, length, pos};
 ghost use Rattle.j39_address.specs.Claim.{claims_of};
 ghost use Rattle.j39_address.specs.Claims.{Knows};
 ghost use Rattle.j39_address.specs.Holder.{IsHolderAfter};
-ghost use Rattle.j39_address.specs.Name.{name_raw};
 ghost use Rattle.j39_frame.specs.Frame.{FrameRecord};
+ghost use Rattle.j39_c.specs.Calls.{Tells};
 ghost use Rattle.j39_c.specs.Can.{Fits, frame_of};
-ghost use Rattle.j39_c.specs.Codes.{IsDone, bad_value};
-ghost use Rattle.j39_c.specs.Holders.{Notes, addresses_in, told_number};
+ghost use Rattle.j39_c.specs.Codes.{IsDone, bad_value, told};
+ghost use Rattle.j39_c.specs.Holders.{Notes, addresses_in};
 
 use crate::can::{CanFrame, frame_in};
+use crate::handed_out::put_name;
 use crate::refusal::Refusal;
-use j39_address::{Claims, Name};
+use j39_address::Claims;
 use j39_frame::Frame;
 
 /// Nobody holds an address.
@@ -33,7 +33,9 @@ pub extern "C" fn j39_claims_note(
 ) -> i32
     ensures notes { Fits frame.now
         → Notes claims.old (frame_of frame.now) (addresses_in result changed.new) claims.new }
-    ensures bad { (Fits frame.now → ⊥) → (result ≡ bad_value) × (claims.new ≡ claims.old) }
+    ensures count { Fits frame.now → result ≡ pos (length (addresses_in result changed.new)) }
+    ensures bad { (Fits frame.now → ⊥)
+        → (result ≡ bad_value) × (claims.new ≡ claims.old) × (changed.new ≡ changed.old) }
 {
     let Some(noted) = frame_in(frame) else {
         return Refusal::BadValue.code();
@@ -42,7 +44,8 @@ pub extern "C" fn j39_claims_note(
 }
 
 fn note(claims: &mut Claims, frame: &Frame, changed: &mut [u8; 2]) -> i32
-    ensures { Notes claims.old frame.now (addresses_in result changed.new) claims.new }
+    ensures notes { Notes claims.old frame.now (addresses_in result changed.new) claims.new }
+    ensures count { result ≡ pos (length (addresses_in result changed.new)) }
 {
     let addresses = claims.note(frame);
     put_addresses(addresses.as_slice(), changed)
@@ -51,7 +54,8 @@ fn note(claims: &mut Claims, frame: &Frame, changed: &mut [u8; 2]) -> i32
 /// Writes out at most two addresses, and answers how many.
 fn put_addresses(addresses: &[u8], changed: &mut [u8; 2]) -> i32
     requires { length addresses.now ≤ 2 }
-    ensures { addresses_in result changed.new ≡ addresses.now }
+    ensures value { addresses_in result changed.new ≡ addresses.now }
+    ensures count { result ≡ pos (length addresses.now) }
 {
     let n = addresses.len();
     changed[..n].copy_from_slice(addresses);
@@ -61,21 +65,10 @@ fn put_addresses(addresses: &[u8], changed: &mut [u8; 2]) -> i32
 /// Who holds an address, by the frames noted so far: 1 and the NAME, or 0 where no claim tells it and for 254 and 255.
 #[unsafe(no_mangle)]
 pub extern "C" fn j39_claims_holder(claims: &Claims, address: u8, name: &mut u64) -> i32
-    ensures { (F : List FrameRecord) → Knows claims.now F
-        → IsHolderAfter (claims_of F) address (told_number result name.new) }
+    ensures holder { (F : List FrameRecord) → Knows claims.now F
+        → IsHolderAfter (claims_of F) address (told result name.new) }
+    ensures done { IsDone result }
+    ensures tells { Tells 1 result (told result name.new) (name.new ≡ name.old) }
 {
     put_name(claims.holder(address), name)
-}
-
-/// Writes out a NAME: 1, or 0 where there is none.
-pub(crate) fn put_name(holder: Option<Name>, name: &mut u64) -> i32
-    ensures value { told_number result name.new ≡ option_map name_raw holder }
-    ensures done { IsDone result }
-    ensures kept { holder ≡ None → name.new ≡ name.old }
-{
-    let Some(holder) = holder else {
-        return 0;
-    };
-    *name = holder.raw();
-    1
 }

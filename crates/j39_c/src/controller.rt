@@ -1,29 +1,28 @@
 //! A controller: the parts of the stack in one loop (J1939-21, J1939-81).
-ghost use Rattle.std.specs.Prelude.{◌≡◌, ◌↔◌, ◌<◌, ◌^◌, Some, None, IfSome, IsSome, IsSomeAnd, pos};
+ghost use Rattle.std.specs.Prelude.{◌≡◌, ◌≢◌, ◌≤ℤ◌, ◌↔◌, ◌<◌, ◌^◌, ⊤, Some, None, IfSome, IsSome, IsSomeAnd, pos};
 ghost use Rattle.j39_frame.specs.Address.{IsAddress};
 ghost use Rattle.j39_frame.specs.Pgn.{pgn_raw};
 ghost use Rattle.j39_frame.specs.Stamp.{stamp_micros};
 ghost use Rattle.j39_controller.specs.Controller.{Hears, IsNew, IsUnsent, Passes, waiting_in};
 ghost use Rattle.j39_controller.specs.Outbox.{first_id};
+ghost use Rattle.j39_c.specs.Calls.{Asks, Never, Opens, Tells};
 ghost use Rattle.j39_c.specs.Can.{Fits, frame_of};
-ghost use Rattle.j39_c.specs.Codes.{IsDone, IsRefused, bad_value, in_use, no_memory, no_part};
+ghost use Rattle.j39_c.specs.Codes.{IsDone, IsRefused, no_memory, told};
 ghost use Rattle.j39_c.specs.Controllers.{BeginsFrom, Broadcasts, CanBegin, CanTransfer, Holds, LetsTurn, TakesAsked};
 ghost use Rattle.j39_c.specs.Controllers.{TakesFrame, TakesIn, TakesReceived, TakesSettled, Transfers};
 ghost use Rattle.j39_c.specs.Controllers.{asked, begun, received, settled, wish_in};
-ghost use Rattle.j39_c.specs.Holders.{told_number};
 ghost use Rattle.j39_c.specs.Messages.{named};
 ghost use Rattle.j39_c.specs.Parts.{controller_in};
 
 use crate::can::{CanFrame, frame_in};
-use crate::controlling;
-use crate::handed_out::PlainRequest;
+use crate::handed_out::{PlainRequest, put, put_received, put_request, put_settled, put_wish};
 use crate::handle::Handle;
 use crate::message::WholeMessage;
-use crate::part::Part;
-use crate::refusal::Refusal;
+use crate::part::{Part, ask};
+use crate::refusal::{Refusal, done};
 use j39_address::Name;
 use j39_controller::Controller;
-use j39_frame::{Pgn, Stamp, is_address};
+use j39_frame::{Id, Pgn, Stamp, is_address};
 use j39_transport::{LONGEST, SHORTEST};
 use std::alloc::Global;
 
@@ -36,12 +35,8 @@ pub extern "C" fn j39_controller_new(
     name: u64,
     preferred: u8,
 ) -> i32
-    ensures made { IsDone result → (result ≡ pos 0) × IsAddress preferred
-        × IsSomeAnd (controller_in controller.new.part) (λ made. IsNew name preferred made) }
-    ensures open { IsSome controller.old.part → result ≡ in_use }
-    ensures bad { controller.old.part ≡ None → (IsAddress preferred → ⊥) → result ≡ bad_value }
-    ensures wanted { controller.old.part ≡ None → IsAddress preferred → IsRefused result → result ≡ no_memory }
-    ensures refused { IsRefused result → controller.new.part ≡ controller.old.part }
+    ensures { Opens controller_in (IsAddress preferred) controller.old.part result controller.new.part
+        (λ made. IsNew name preferred made) }
 {
     if controller.is_open(alloc) {
         return Refusal::InUse.code();
@@ -68,23 +63,13 @@ fn put_controller(alloc: Global, handle: &mut Handle, made: Controller) -> i32
 /// the step may be done then.
 #[unsafe(no_mangle)]
 pub extern "C" fn j39_controller_pass(alloc: Global, controller: &mut Handle, micros: u64) -> i32
-    ensures done { micros < 10 ^ 16 → IsDone result → IfSome (controller_in controller.old.part) (λ old.
-        (result ≡ pos 0) × IsSomeAnd (controller_in controller.new.part) (λ new. Passes old micros new)) }
-    ensures wanted { micros < 10 ^ 16 → IsRefused result → IfSome (controller_in controller.old.part) (λ _.
-        (result ≡ no_memory) × IsSome (controller_in controller.new.part)) }
-    ensures foreign { micros < 10 ^ 16 → controller_in controller.old.part ≡ None
-        → (result ≡ no_part) × (controller.new.part ≡ controller.old.part) }
-    ensures bad { (micros < 10 ^ 16 → ⊥) → (result ≡ bad_value) × (controller.new.part ≡ controller.old.part) }
+    ensures { Asks controller_in (micros < 10 ^ 16) controller.old.part result controller.new.part
+        (λ old new. (result ≡ pos 0) × Passes old micros new) (λ _. IsSome (controller_in controller.new.part)) }
 {
     let Some(now) = Stamp::new(micros) else {
         return Refusal::BadValue.code();
     };
-    let Some(mut part) = controller.take(alloc) else {
-        return Refusal::NoPart.code();
-    };
-    let code = controlling::pass(&mut part, now);
-    controller.put(alloc, part);
-    code
+    ask!(alloc, controller, Controlling(held) => done!(held.pass(now)))
 }
 
 /// Lets time pass for the messages of a controller, where it holds an address: 0. -1 for a moment of 10^16
@@ -92,23 +77,13 @@ pub extern "C" fn j39_controller_pass(alloc: Global, controller: &mut Handle, mi
 /// done then.
 #[unsafe(no_mangle)]
 pub extern "C" fn j39_controller_turn(alloc: Global, controller: &mut Handle, micros: u64) -> i32
-    ensures done { micros < 10 ^ 16 → IsDone result → IfSome (controller_in controller.old.part) (λ old.
-        (result ≡ pos 0) × IsSomeAnd (controller_in controller.new.part) (λ new. LetsTurn old micros new)) }
-    ensures wanted { micros < 10 ^ 16 → IsRefused result → IfSome (controller_in controller.old.part) (λ _.
-        (result ≡ no_memory) × IsSome (controller_in controller.new.part)) }
-    ensures foreign { micros < 10 ^ 16 → controller_in controller.old.part ≡ None
-        → (result ≡ no_part) × (controller.new.part ≡ controller.old.part) }
-    ensures bad { (micros < 10 ^ 16 → ⊥) → (result ≡ bad_value) × (controller.new.part ≡ controller.old.part) }
+    ensures { Asks controller_in (micros < 10 ^ 16) controller.old.part result controller.new.part
+        (λ old new. (result ≡ pos 0) × LetsTurn old micros new) (λ _. IsSome (controller_in controller.new.part)) }
 {
     let Some(now) = Stamp::new(micros) else {
         return Refusal::BadValue.code();
     };
-    let Some(mut part) = controller.take(alloc) else {
-        return Refusal::NoPart.code();
-    };
-    let code = controlling::turn(&mut part, now);
-    controller.put(alloc, part);
-    code
+    ask!(alloc, controller, Controlling(held) => done!(held.turn(now)))
 }
 
 /// Shows a controller a frame that another one sent, at its own moment: 0. -1 for a frame that is out of range, -2
@@ -119,23 +94,14 @@ pub extern "C" fn j39_controller_hear(
     controller: &mut Handle,
     frame: &CanFrame,
 ) -> i32
-    ensures done { Fits frame.now → IsDone result → IfSome (controller_in controller.old.part) (λ old.
-        (result ≡ pos 0) × IsSomeAnd (controller_in controller.new.part) (λ new. Hears old (frame_of frame.now) new)) }
-    ensures wanted { Fits frame.now → IsRefused result → IfSome (controller_in controller.old.part) (λ _.
-        (result ≡ no_memory) × IsSome (controller_in controller.new.part)) }
-    ensures foreign { Fits frame.now → controller_in controller.old.part ≡ None
-        → (result ≡ no_part) × (controller.new.part ≡ controller.old.part) }
-    ensures bad { (Fits frame.now → ⊥) → (result ≡ bad_value) × (controller.new.part ≡ controller.old.part) }
+    ensures { Asks controller_in (Fits frame.now) controller.old.part result controller.new.part
+        (λ old new. (result ≡ pos 0) × Hears old (frame_of frame.now) new)
+        (λ _. IsSome (controller_in controller.new.part)) }
 {
     let Some(heard) = frame_in(frame) else {
         return Refusal::BadValue.code();
     };
-    let Some(mut part) = controller.take(alloc) else {
-        return Refusal::NoPart.code();
-    };
-    let code = controlling::hear(&mut part, &heard);
-    controller.put(alloc, part);
-    code
+    ask!(alloc, controller, Controlling(held) => done!(held.hear(&heard)))
 }
 
 /// Hands a controller a frame that is a message by itself, under a number of the caller's: it goes out from the address
@@ -148,23 +114,14 @@ pub extern "C" fn j39_controller_send(
     frame: &CanFrame,
     number: usize,
 ) -> i32
-    ensures done { Fits frame.now → IsDone result → IfSome (controller_in controller.old.part) (λ old. (result ≡ pos 0)
-        × IsSomeAnd (controller_in controller.new.part) (λ new. TakesIn old (frame_of frame.now) number new)) }
-    ensures wanted { Fits frame.now → IsRefused result → IfSome (controller_in controller.old.part) (λ old.
-        (result ≡ no_memory) × IsSomeAnd (controller_in controller.new.part) (λ new. IsUnsent old new)) }
-    ensures foreign { Fits frame.now → controller_in controller.old.part ≡ None
-        → (result ≡ no_part) × (controller.new.part ≡ controller.old.part) }
-    ensures bad { (Fits frame.now → ⊥) → (result ≡ bad_value) × (controller.new.part ≡ controller.old.part) }
+    ensures { Asks controller_in (Fits frame.now) controller.old.part result controller.new.part
+        (λ old new. (result ≡ pos 0) × TakesIn old (frame_of frame.now) number new)
+        (λ old. IsSomeAnd (controller_in controller.new.part) (λ new. IsUnsent old new)) }
 {
     let Some(sent) = frame_in(frame) else {
         return Refusal::BadValue.code();
     };
-    let Some(mut part) = controller.take(alloc) else {
-        return Refusal::NoPart.code();
-    };
-    let code = controlling::send(&mut part, sent, number);
-    controller.put(alloc, part);
-    code
+    ask!(alloc, controller, Controlling(held) => done!(held.send(sent, number)))
 }
 
 /// Begins to broadcast these bytes, 9 to 1,785, under a number of the caller's, where a message may begin: 1 where it
@@ -179,24 +136,18 @@ pub extern "C" fn j39_controller_broadcast(
     payload: &[u8],
     micros: u64,
 ) -> i32
-    ensures begins { CanBegin pgn payload.now micros → IsDone result → IfSome (controller_in controller.old.part)
-        (λ old. IsSomeAnd (controller_in controller.new.part) (λ new.
-        Broadcasts old number pgn payload.now micros (begun result) new)) }
-    ensures wanted { CanBegin pgn payload.now micros → IsRefused result
-        → IfSome (controller_in controller.old.part) (λ _. result ≡ no_memory) }
-    ensures foreign { CanBegin pgn payload.now micros → controller_in controller.old.part ≡ None → result ≡ no_part }
-    ensures bad { (CanBegin pgn payload.now micros → ⊥) → result ≡ bad_value }
+    ensures asks { Asks controller_in (CanBegin pgn payload.now micros) controller.old.part result controller.new.part
+        (λ old new. Broadcasts old number pgn payload.now micros (begun result) new) (λ _. ⊤) }
     ensures refused { IsRefused result → controller.new.part ≡ controller.old.part }
+    ensures told { result ≤ℤ pos 1 }
 {
     let Some((group, now)) = group_and_moment(pgn, payload, micros) else {
         return Refusal::BadValue.code();
     };
-    let Some(mut part) = controller.take(alloc) else {
-        return Refusal::NoPart.code();
-    };
-    let code = controlling::broadcast(alloc, &mut part, number, group, payload, now);
-    controller.put(alloc, part);
-    code
+    ask!(alloc, controller, Controlling(held) => match payload.to_vec(alloc) {
+        Ok(bytes) => i32::from(held.broadcast(number, group, bytes, now)),
+        Err(_) => Refusal::NoMemory.code(),
+    })
 }
 
 /// Begins to send these bytes, 9 to 1,785, to an address under a number of the caller's, where a message may begin: 1
@@ -213,15 +164,11 @@ pub extern "C" fn j39_controller_transfer(
     payload: &[u8],
     micros: u64,
 ) -> i32
-    ensures begins { CanTransfer to pgn payload.now micros → IsDone result → IfSome (controller_in controller.old.part)
-        (λ old. IsSomeAnd (controller_in controller.new.part) (λ new.
-        Transfers old number to pgn payload.now micros (begun result) new)) }
-    ensures wanted { CanTransfer to pgn payload.now micros → IsRefused result
-        → IfSome (controller_in controller.old.part) (λ _. result ≡ no_memory) }
-    ensures foreign { CanTransfer to pgn payload.now micros
-        → controller_in controller.old.part ≡ None → result ≡ no_part }
-    ensures bad { (CanTransfer to pgn payload.now micros → ⊥) → result ≡ bad_value }
+    ensures asks { Asks controller_in (CanTransfer to pgn payload.now micros) controller.old.part result
+        controller.new.part
+        (λ old new. Transfers old number to pgn payload.now micros (begun result) new) (λ _. ⊤) }
     ensures refused { IsRefused result → controller.new.part ≡ controller.old.part }
+    ensures told { result ≤ℤ pos 1 }
 {
     if !is_address(to) {
         return Refusal::BadValue.code();
@@ -229,12 +176,10 @@ pub extern "C" fn j39_controller_transfer(
     let Some((group, now)) = group_and_moment(pgn, payload, micros) else {
         return Refusal::BadValue.code();
     };
-    let Some(mut part) = controller.take(alloc) else {
-        return Refusal::NoPart.code();
-    };
-    let code = controlling::transfer(alloc, &mut part, number, to, group, payload, now);
-    controller.put(alloc, part);
-    code
+    ask!(alloc, controller, Controlling(held) => match payload.to_vec(alloc) {
+        Ok(bytes) => i32::from(held.transfer(number, to, group, bytes, now)),
+        Err(_) => Refusal::NoMemory.code(),
+    })
 }
 
 /// The group and the moment of a message that may begin: where it has 9 to 1,785 bytes, and both are in their range.
@@ -255,17 +200,12 @@ pub extern "C" fn j39_controller_held(
     controller: &mut Handle,
     address: &mut u8,
 ) -> i32
-    ensures done { IfSome (controller_in controller.old.part) (λ old. IsDone result
-        × Holds old (told_number result address.new)) }
-    ensures foreign { controller_in controller.old.part ≡ None → result ≡ no_part }
+    ensures asks { Asks controller_in ⊤ controller.old.part result controller.new.part
+        (λ old _. Holds old (told result address.new)) Never }
     ensures same { controller.new.part ≡ controller.old.part }
+    ensures tells { Tells 1 result (told result address.new) (address.new ≡ address.old) }
 {
-    let Some(part) = controller.take(alloc) else {
-        return Refusal::NoPart.code();
-    };
-    let code = controlling::held(&part, address);
-    controller.put(alloc, part);
-    code
+    ask!(alloc, controller, Controlling(held) => put(held.held(), address))
 }
 
 /// The address that a message of a controller may begin from at a moment: 1 and the address, or 0. -1 for a moment of
@@ -277,38 +217,27 @@ pub extern "C" fn j39_controller_free_at(
     micros: u64,
     address: &mut u8,
 ) -> i32
-    ensures done { micros < 10 ^ 16 → IfSome (controller_in controller.old.part) (λ old. IsDone result
-        × BeginsFrom old micros (told_number result address.new)) }
-    ensures foreign { micros < 10 ^ 16 → controller_in controller.old.part ≡ None → result ≡ no_part }
-    ensures bad { (micros < 10 ^ 16 → ⊥) → result ≡ bad_value }
+    ensures asks { Asks controller_in (micros < 10 ^ 16) controller.old.part result controller.new.part
+        (λ old _. BeginsFrom old micros (told result address.new)) Never }
     ensures same { controller.new.part ≡ controller.old.part }
+    ensures tells { Tells 1 result (told result address.new) (address.new ≡ address.old) }
 {
     let Some(now) = Stamp::new(micros) else {
         return Refusal::BadValue.code();
     };
-    let Some(part) = controller.take(alloc) else {
-        return Refusal::NoPart.code();
-    };
-    let code = controlling::free_at(&part, now, address);
-    controller.put(alloc, part);
-    code
+    ask!(alloc, controller, Controlling(held) => put(held.free_at(now), address))
 }
 
 /// The identifier of the frame that a controller wishes to send next, for arbitration: 1 and the identifier, or 0; -2
 /// where the handle holds no controller.
 #[unsafe(no_mangle)]
 pub extern "C" fn j39_controller_wish(alloc: Global, controller: &mut Handle, id: &mut u32) -> i32
-    ensures done { IfSome (controller_in controller.old.part) (λ old. IsDone result
-        × (told_number result id.new ≡ first_id (waiting_in old))) }
-    ensures foreign { controller_in controller.old.part ≡ None → result ≡ no_part }
+    ensures asks { Asks controller_in ⊤ controller.old.part result controller.new.part
+        (λ old _. told result id.new ≡ first_id (waiting_in old)) Never }
     ensures same { controller.new.part ≡ controller.old.part }
+    ensures tells { Tells 1 result (told result id.new) (id.new ≡ id.old) }
 {
-    let Some(part) = controller.take(alloc) else {
-        return Refusal::NoPart.code();
-    };
-    let code = controlling::wish(&part, id);
-    controller.put(alloc, part);
-    code
+    ask!(alloc, controller, Controlling(held) => put(held.wish().map(Id::raw), id))
 }
 
 /// Takes the frame that a controller wishes to send next, which the bus now takes: 0 where none goes; else it is in
@@ -321,18 +250,14 @@ pub extern "C" fn j39_controller_take_frame(
     out: &mut CanFrame,
     number: &mut usize,
 ) -> i32
-    ensures done { IfSome (controller_in controller.old.part) (λ old. IsDone result
-        × IsSomeAnd (controller_in controller.new.part) (λ new.
-        TakesFrame old (wish_in result out.new number.new) new)) }
-    ensures foreign { controller_in controller.old.part ≡ None → result ≡ no_part }
+    ensures asks { Asks controller_in ⊤ controller.old.part result controller.new.part
+        (λ old new. TakesFrame old (wish_in result out.new number.new) new) Never }
     ensures refused { IsRefused result → controller.new.part ≡ controller.old.part }
+    ensures tells { Tells 3 result (wish_in result out.new number.new)
+        ((out.new ≡ out.old) × (number.new ≡ number.old)) }
+    ensures apart { result ≡ pos 1 → number.new ≡ number.old }
 {
-    let Some(mut part) = controller.take(alloc) else {
-        return Refusal::NoPart.code();
-    };
-    let code = controlling::take_frame(&mut part, out, number);
-    controller.put(alloc, part);
-    code
+    ask!(alloc, controller, Controlling(held) => put_wish(held.take_frame(), out, number))
 }
 
 /// Takes the message that a controller received first of those that weren't taken yet: 1 where there is one, which is
@@ -345,19 +270,14 @@ pub extern "C" fn j39_controller_take_received(
     out: &mut WholeMessage,
     destination: &mut u8,
 ) -> i32
-    ensures done { IfSome (controller_in controller.old.part) (λ old. IsDone result
-        × IsSomeAnd (controller_in controller.new.part) (λ new.
-        TakesReceived old (received result out.new destination.new) new)) }
+    ensures asks { Asks controller_in ⊤ controller.old.part result controller.new.part
+        (λ old new. TakesReceived old (received result out.new destination.new) new) Never }
     ensures unnamed { result ≡ pos 1 → named out.new.is_named out.new.name ≡ None }
-    ensures foreign { controller_in controller.old.part ≡ None → result ≡ no_part }
     ensures refused { IsRefused result → controller.new.part ≡ controller.old.part }
+    ensures tells { Tells 1 result (received result out.new destination.new)
+        ((out.new ≡ out.old) × (destination.new ≡ destination.old)) }
 {
-    let Some(mut part) = controller.take(alloc) else {
-        return Refusal::NoPart.code();
-    };
-    let code = controlling::take_received(&mut part, out, destination);
-    controller.put(alloc, part);
-    code
+    ask!(alloc, controller, Controlling(held) => put_received(held.take_received(), out, destination))
 }
 
 /// Takes the request that a controller heard first of those that weren't taken yet, for a group other than claims: 1
@@ -368,17 +288,12 @@ pub extern "C" fn j39_controller_take_asked(
     controller: &mut Handle,
     out: &mut PlainRequest,
 ) -> i32
-    ensures done { IfSome (controller_in controller.old.part) (λ old. IsDone result
-        × IsSomeAnd (controller_in controller.new.part) (λ new. TakesAsked old (asked result out.new) new)) }
-    ensures foreign { controller_in controller.old.part ≡ None → result ≡ no_part }
+    ensures asks { Asks controller_in ⊤ controller.old.part result controller.new.part
+        (λ old new. TakesAsked old (asked result out.new) new) Never }
     ensures refused { IsRefused result → controller.new.part ≡ controller.old.part }
+    ensures tells { Tells 1 result (asked result out.new) (out.new ≡ out.old) }
 {
-    let Some(mut part) = controller.take(alloc) else {
-        return Refusal::NoPart.code();
-    };
-    let code = controlling::take_asked(&mut part, out);
-    controller.put(alloc, part);
-    code
+    ask!(alloc, controller, Controlling(held) => put_request(held.take_asked(), out))
 }
 
 /// Takes how the message `number` of a controller ended, the first of those that weren't taken yet: 0 where none has, 1
@@ -391,16 +306,12 @@ pub extern "C" fn j39_controller_take_settled(
     number: &mut usize,
     reason: &mut u8,
 ) -> i32
-    ensures done { IfSome (controller_in controller.old.part) (λ old. IsDone result
-        × IsSomeAnd (controller_in controller.new.part) (λ new.
-        TakesSettled old (settled result number.new reason.new) new)) }
-    ensures foreign { controller_in controller.old.part ≡ None → result ≡ no_part }
+    ensures asks { Asks controller_in ⊤ controller.old.part result controller.new.part
+        (λ old new. TakesSettled old (settled result number.new reason.new) new) Never }
     ensures refused { IsRefused result → controller.new.part ≡ controller.old.part }
+    ensures tells { Tells 3 result (settled result number.new reason.new)
+        ((number.new ≡ number.old) × (reason.new ≡ reason.old)) }
+    ensures apart { result ≢ pos 2 → reason.new ≡ reason.old }
 {
-    let Some(mut part) = controller.take(alloc) else {
-        return Refusal::NoPart.code();
-    };
-    let code = controlling::take_settled(&mut part, number, reason);
-    controller.put(alloc, part);
-    code
+    ask!(alloc, controller, Controlling(held) => put_settled(held.take_settled(), number, reason))
 }

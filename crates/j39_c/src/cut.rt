@@ -1,5 +1,5 @@
 //! Messages cut into the frames of a broadcast (J1939-21, 5.10).
-ghost use Rattle.std.specs.Prelude.{◌≡◌, ◌<◌, ◌≤◌, ◌^◌, pos};
+ghost use Rattle.std.specs.Prelude.{◌≡◌, ◌≢◌, ◌<◌, ◌≤◌, ◌^◌, pos};
 ghost use Rattle.j39_transport.specs.Cutting.{cut_frame, without_stamp};
 ghost use Rattle.j39_transport.specs.Message.{as_broadcast, packets_of};
 ghost use Rattle.j39_c.specs.Can.{frame_of};
@@ -31,6 +31,7 @@ pub extern "C" fn j39_cut_frame(
         → packets_of (message_by source pgn payload.now) < k → result ≡ pos 0 }
     ensures bad { (CanBeCut (message_by source pgn payload.now) micros → ⊥)
         → result ≡ bad_value }
+    ensures kept { result ≢ pos 1 → out.new ≡ out.old }
 {
     let (Some(now), Some(group)) = (Stamp::new(micros), Pgn::new(pgn)) else {
         return Refusal::BadValue.code();

@@ -1,16 +1,16 @@
-//! What a controller hands out, as C has it.
-ghost use Rattle.std.specs.Prelude.{◌≡◌, None, Some, pos};
+//! What calls write out, as C has it.
+ghost use Rattle.std.specs.Prelude.{◌≡◌, ◌≢◌, None, Some, pos};
 ghost use Rattle.std.specs.Option.{option_map};
-ghost use Rattle.j39_frame.specs.Identifier.{id_raw};
-ghost use Rattle.j39_c.specs.Codes.{IsDone};
+ghost use Rattle.j39_address.specs.Name.{name_raw};
+ghost use Rattle.j39_c.specs.Calls.{Puts};
+ghost use Rattle.j39_c.specs.Codes.{told};
 ghost use Rattle.j39_c.specs.Controllers.{asked, received, settled, wish_in};
-ghost use Rattle.j39_c.specs.Holders.{told_number};
 ghost use Rattle.j39_c.specs.Messages.{named};
 
 use crate::can::{CanFrame, write_frame};
 use crate::message::WholeMessage;
+use j39_address::Name;
 use j39_controller::{Asked, Ending, Received, Settled, Wish};
-use j39_frame::Id;
 use j39_transport::Message;
 
 /// A request for a group, `j1939_request` of the header.
@@ -25,39 +25,32 @@ pub struct PlainRequest {
     pub destination: u8,
 }
 
-/// Writes out an address: 1, or 0 where there is none.
-pub(crate) fn put_address(found: Option<u8>, address: &mut u8) -> i32
-    ensures value { told_number result address.new ≡ found }
-    ensures done { IsDone result }
+/// Writes out what was found: 1, or 0 where there is none.
+pub(crate) fn put<T: Copy>(found: Option<T>, out: &mut T) -> i32
+    ensures { Puts found 1 result (told result out.new) (out.new ≡ out.old) }
 {
     match found {
         Some(found) => {
-            *address = found;
+            *out = found;
             1
         }
         None => 0,
     }
 }
 
-/// Writes out an identifier: 1, or 0 where there is none.
-pub(crate) fn put_id(found: Option<Id>, id: &mut u32) -> i32
-    ensures value { told_number result id.new ≡ option_map id_raw found }
-    ensures done { IsDone result }
+/// Writes out a NAME: 1, or 0 where there is none.
+pub(crate) fn put_name(holder: Option<Name>, name: &mut u64) -> i32
+    ensures { Puts (option_map name_raw holder) 1 result (told result name.new) (name.new ≡ name.old) }
 {
-    match found {
-        Some(found) => {
-            *id = found.raw();
-            1
-        }
-        None => 0,
-    }
+    put(holder.map(Name::raw), name)
 }
 
 /// Writes out a frame that goes out, and the number of the message that it is a part of: 0 where there is none, 1 for a
 /// frame that is no part of a message that was handed in, 2 for a part, 3 for the last one.
 pub(crate) fn put_wish(wish: Option<Wish>, out: &mut CanFrame, number: &mut usize) -> i32
-    ensures value { wish_in result out.new number.new ≡ wish }
-    ensures done { IsDone result }
+    ensures puts { Puts wish 3 result (wish_in result out.new number.new)
+        ((out.new ≡ out.old) × (number.new ≡ number.old)) }
+    ensures apart { result ≡ pos 1 → number.new ≡ number.old }
 {
     let Some(wish) = wish else {
         return 0;
@@ -76,9 +69,9 @@ pub(crate) fn put_received(
     out: &mut WholeMessage,
     destination: &mut u8,
 ) -> i32
-    ensures value { received result out.new destination.new ≡ message }
+    ensures puts { Puts message 1 result (received result out.new destination.new)
+        ((out.new ≡ out.old) × (destination.new ≡ destination.old)) }
     ensures unnamed { result ≡ pos 1 → named out.new.is_named out.new.name ≡ None }
-    ensures done { IsDone result }
 {
     let Some(message) = message else {
         return 0;
@@ -96,8 +89,7 @@ pub(crate) fn put_received(
 
 /// Writes out a request: 1, or 0 where there is none.
 pub(crate) fn put_request(request: Option<Asked>, out: &mut PlainRequest) -> i32
-    ensures value { asked result out.new ≡ request }
-    ensures done { IsDone result }
+    ensures { Puts request 1 result (asked result out.new) (out.new ≡ out.old) }
 {
     let Some(request) = request else {
         return 0;
@@ -113,8 +105,9 @@ pub(crate) fn put_request(request: Option<Asked>, out: &mut PlainRequest) -> i32
 /// Writes out how a message ended: 0 where there is none, 1 where it is done, 2 where it failed for `reason`, 3 where
 /// it was withdrawn.
 pub(crate) fn put_settled(ended: Option<Settled>, number: &mut usize, reason: &mut u8) -> i32
-    ensures value { settled result number.new reason.new ≡ ended }
-    ensures done { IsDone result }
+    ensures puts { Puts ended 3 result (settled result number.new reason.new)
+        ((number.new ≡ number.old) × (reason.new ≡ reason.old)) }
+    ensures apart { result ≢ pos 2 → reason.new ≡ reason.old }
 {
     let Some(ended) = ended else {
         return 0;

@@ -6,7 +6,6 @@ mod broadcast;
 mod can;
 mod claims;
 mod controller;
-mod controlling;
 mod cut;
 mod fields;
 mod handed_out;

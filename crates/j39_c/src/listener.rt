@@ -1,16 +1,17 @@
 //! A listener on a bus (J1939-21, 5.10; J1939-81, 4.2).
-ghost use Rattle.std.specs.Prelude.{◌≡◌, [], List, Some, None, IfSome, IsSome, IsSomeAnd, pos};
+ghost use Rattle.std.specs.Prelude.{◌≡◌, ⊤, []};
 ghost use Rattle.j39_listen.specs.Listening.{Hears};
+ghost use Rattle.j39_c.specs.Calls.{Asks, Never, Opens, Tells};
 ghost use Rattle.j39_c.specs.Can.{Fits, frame_of};
-ghost use Rattle.j39_c.specs.Codes.{IsDone, IsRefused, bad_value, in_use, no_memory, no_part};
-ghost use Rattle.j39_c.specs.Holders.{told_number};
+ghost use Rattle.j39_c.specs.Codes.{IsDone, IsRefused, no_memory, told};
 ghost use Rattle.j39_c.specs.Messages.{message_in};
 ghost use Rattle.j39_c.specs.Parts.{HearsMore, IsHolderBy, LacksMemory, listener_in};
 
 use crate::can::{CanFrame, frame_in};
+use crate::handed_out::put_name;
 use crate::handle::Handle;
 use crate::message::WholeMessage;
-use crate::part::Part;
+use crate::part::{Part, ask};
 use crate::refusal::Refusal;
 use j39_frame::Frame;
 use j39_listen::Listener;
@@ -19,11 +20,7 @@ use std::alloc::Global;
 /// Opens a listener that has heard nothing: 0; -3 where memory is refused, -4 where the handle is open.
 #[unsafe(no_mangle)]
 pub extern "C" fn j39_listener_new(alloc: Global, listener: &mut Handle) -> i32
-    ensures made { IsDone result → (result ≡ pos 0)
-        × IsSomeAnd (listener_in listener.new.part) (λ made. Hears made []) }
-    ensures open { IsSome listener.old.part → result ≡ in_use }
-    ensures wanted { IsRefused result → listener.old.part ≡ None → result ≡ no_memory }
-    ensures refused { IsRefused result → listener.new.part ≡ listener.old.part }
+    ensures { Opens listener_in ⊤ listener.old.part result listener.new.part (λ made. Hears made []) }
 {
     if listener.is_open(alloc) {
         return Refusal::InUse.code();
@@ -44,24 +41,16 @@ pub extern "C" fn j39_listener_feed(
     frame: &CanFrame,
     out: &mut WholeMessage,
 ) -> i32
-    ensures heard { Fits frame.now → IsDone result → IfSome (listener_in listener.old.part) (λ old.
-        IsSomeAnd (listener_in listener.new.part) (λ new.
-        HearsMore old (frame_of frame.now) (message_in result out.new) new)) }
-    ensures wanted { Fits frame.now → IsRefused result → IfSome (listener_in listener.old.part) (λ old.
-        (result ≡ no_memory) × LacksMemory old (frame_of frame.now)) }
-    ensures foreign { Fits frame.now → listener_in listener.old.part ≡ None → result ≡ no_part }
-    ensures bad { (Fits frame.now → ⊥) → result ≡ bad_value }
+    ensures asks { Asks listener_in (Fits frame.now) listener.old.part result listener.new.part
+        (λ old new. HearsMore old (frame_of frame.now) (message_in result out.new) new)
+        (λ old. LacksMemory old (frame_of frame.now)) }
     ensures refused { IsRefused result → listener.new.part ≡ listener.old.part }
+    ensures tells { Tells 1 result (message_in result out.new) (out.new ≡ out.old) }
 {
     let Some(fed) = frame_in(frame) else {
         return Refusal::BadValue.code();
     };
-    let Some(mut part) = listener.take(alloc) else {
-        return Refusal::NoPart.code();
-    };
-    let code = part.feed(&fed, out);
-    listener.put(alloc, part);
-    code
+    ask!(alloc, listener, Listening(held) => hear(held, &fed, out))
 }
 
 /// Who holds an address, by the claims that a listener heard: 1 and the NAME, or 0 where no claim tells it and for 254
@@ -73,24 +62,20 @@ pub extern "C" fn j39_listener_holder(
     address: u8,
     name: &mut u64,
 ) -> i32
-    ensures holder { IfSome (listener_in listener.old.part) (λ heard. IsDone result
-        × IsHolderBy heard address (told_number result name.new)) }
-    ensures foreign { listener_in listener.old.part ≡ None → result ≡ no_part }
+    ensures asks { Asks listener_in ⊤ listener.old.part result listener.new.part
+        (λ heard _. IsHolderBy heard address (told result name.new)) Never }
     ensures same { listener.new.part ≡ listener.old.part }
+    ensures tells { Tells 1 result (told result name.new) (name.new ≡ name.old) }
 {
-    let Some(part) = listener.take(alloc) else {
-        return Refusal::NoPart.code();
-    };
-    let code = part.holder(address, name);
-    listener.put(alloc, part);
-    code
+    ask!(alloc, listener, Listening(held) => put_name(held.holder(address), name))
 }
 
 /// What is heard at the next frame: 1 where it is a message.
-pub(crate) fn hear(listener: &mut Listener, frame: &Frame, out: &mut WholeMessage) -> i32
+fn hear(listener: &mut Listener, frame: &Frame, out: &mut WholeMessage) -> i32
     ensures heard { IsDone result → HearsMore listener.old frame.now (message_in result out.new) listener.new }
     ensures wanted { IsRefused result → (result ≡ no_memory) × LacksMemory listener.old frame.now }
     ensures refused { IsRefused result → listener.new ≡ listener.old }
+    ensures tells { Tells 1 result (message_in result out.new) (out.new ≡ out.old) }
 {
     match listener.feed(frame) {
         Ok(Some(heard)) => {

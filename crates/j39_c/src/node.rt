@@ -5,6 +5,7 @@ ghost use Rattle.j39_address.specs.Call.{call_of};
 ghost use Rattle.j39_address.specs.Call.Call.{Start, Tick, Commanded};
 ghost use Rattle.j39_address.specs.Claimer.{IsNode, Steps, status_of};
 ghost use Rattle.j39_address.specs.Node.{Node, NodeStatus, idle_node};
+ghost use Rattle.j39_c.specs.Calls.{Tells};
 ghost use Rattle.j39_c.specs.Can.{Fits, frame_of};
 ghost use Rattle.j39_c.specs.Codes.{IsDone, bad_value, sent};
 ghost use Rattle.j39_c.specs.Nodes.{IsStatus};
@@ -36,7 +37,7 @@ pub extern "C" fn j39_node_start(node: &mut Claimer, micros: u64, out: &mut CanF
     ensures done { micros < 10 ^ 16 → IsDone result }
     ensures step { micros < 10 ^ 16 → Steps node.old Start micros (sent result out.new) node.new }
     ensures bad { (micros < 10 ^ 16 → ⊥) → (result ≡ bad_value) × (node.new ≡ node.old) }
-    ensures kept { sent result out.new ≡ None → out.new ≡ out.old }
+    ensures tells { Tells 1 result (sent result out.new) (out.new ≡ out.old) }
 {
     let Some(now) = Stamp::new(micros) else {
         return Refusal::BadValue.code();
@@ -65,7 +66,7 @@ pub extern "C" fn j39_node_on(node: &mut Claimer, frame: &CanFrame, out: &mut Ca
     ensures step { Fits frame.now
         → Steps node.old (call_of (frame_of frame.now)) frame.now.micros (sent result out.new) node.new }
     ensures bad { (Fits frame.now → ⊥) → (result ≡ bad_value) × (node.new ≡ node.old) }
-    ensures kept { sent result out.new ≡ None → out.new ≡ out.old }
+    ensures tells { Tells 1 result (sent result out.new) (out.new ≡ out.old) }
 {
     let Some(heard) = frame_in(frame) else {
         return Refusal::BadValue.code();
@@ -95,7 +96,7 @@ pub extern "C" fn j39_node_commanded(
     ensures step { micros < 10 ^ 16
         → Steps node.old (Commanded (record { name = name; address = address })) micros (sent result out.new) node.new }
     ensures bad { (micros < 10 ^ 16 → ⊥) → (result ≡ bad_value) × (node.new ≡ node.old) }
-    ensures kept { sent result out.new ≡ None → out.new ≡ out.old }
+    ensures tells { Tells 1 result (sent result out.new) (out.new ≡ out.old) }
 {
     let Some(now) = Stamp::new(micros) else {
         return Refusal::BadValue.code();

@@ -1,15 +1,16 @@
 //! The readings of a message (J1939-71).
-ghost use Rattle.std.specs.Prelude.{◌≡◌, ◌≢◌, ◌≤◌, ◌↔◌, ℕ, Some, None, IfOk, IfErr, IfSome, IsSome, length, pos, replicate, slice_get, take};
+ghost use Rattle.std.specs.Prelude.{◌≡◌, ◌≢◌, ◌≤◌, ◌↔◌, ℕ, Some, None, IfOk, IfErr, IfSome, IsSome, drop, length, pos, replicate, slice_get, take};
 ghost use Rattle.std.specs.Option.{option_map};
 ghost use Rattle.j39_frame.specs.Pgn.{pgn_raw};
 ghost use Rattle.j39_groups.specs.Readings.{readings_of};
 ghost use Rattle.j39_groups.specs.Models.{reading_of, slot_record, value_of};
 ghost use Rattle.j39_groups.specs.Slots.{IsRawOf};
 ghost use Rattle.j39_groups.specs.ValueText.{value_text};
-ghost use Rattle.j39_c.specs.Codes.{bad_value, end};
+ghost use Rattle.j39_c.specs.Codes.{IsRefused, bad_value, end};
 ghost use Rattle.j39_c.specs.Readings.{IsFilled, IsPlain, IsReadable, IsTextAnswer, reading_in};
 ghost use Rattle.j39_c.specs.declared.refusal.Refusal.TheVariants.{NoMemory};
 
+use crate::handed_out::put;
 use crate::message::WholeMessage;
 use crate::refusal::Refusal;
 use j39_frame::Pgn;
@@ -44,6 +45,7 @@ pub extern "C" fn j39_reading(message: &WholeMessage, index: usize, out: &mut Pl
         (result ≡ pos 0) × IsPlain out.new reading) }
     ensures behind { IsReadable message.now → reading_in message.now index ≡ None → result ≡ end }
     ensures bad { (IsReadable message.now → ⊥) → result ≡ bad_value }
+    ensures kept { result ≢ pos 0 → out.new ≡ out.old }
 {
     let (Some(pgn), Some(payload)) = (Pgn::new(message.pgn), payload_of(message)) else {
         return Refusal::BadValue.code();
@@ -69,6 +71,8 @@ pub extern "C" fn j39_reading_text(
         IsTextAnswer (length text.old) (value_text reading.value) result text.new) }
     ensures behind { IsReadable message.now → reading_in message.now index ≡ None → result ≡ end }
     ensures bad { (IsReadable message.now → ⊥) → result ≡ bad_value }
+    ensures kept { IsRefused result → text.new ≡ text.old }
+    ensures rest { (n : ℕ) → result ≡ pos n → drop n text.new ≡ drop n text.old }
 {
     let (Some(pgn), Some(payload)) = (Pgn::new(message.pgn), payload_of(message)) else {
         return Refusal::BadValue.code();
@@ -146,7 +150,9 @@ fn unit_of(slot: Slot) -> [u8; 8]
 
 /// Writes out a value's text, and answers its length.
 fn put_text(alloc: Global, value: &Value<'_>, text: &mut [u8]) -> i32
-    ensures { IsTextAnswer (length text.old) (value_text (value_of value.now)) result text.new }
+    ensures text { IsTextAnswer (length text.old) (value_text (value_of value.now)) result text.new }
+    ensures kept { IsRefused result → text.new ≡ text.old }
+    ensures rest { (n : ℕ) → result ≡ pos n → drop n text.new ≡ drop n text.old }
 {
     match text_of(alloc, value) {
         Ok(made) => copy(made.as_slice(), text),
@@ -172,7 +178,9 @@ fn text_of(alloc: Global, value: &Value<'_>) -> Result<Vec<u8>, Refusal>
 
 /// Copies bytes to the front of a buffer, and answers how many.
 fn copy(from: &[u8], to: &mut [u8]) -> i32
-    ensures { IsTextAnswer (length to.old) from.now result to.new }
+    ensures text { IsTextAnswer (length to.old) from.now result to.new }
+    ensures kept { IsRefused result → to.new ≡ to.old }
+    ensures rest { (n : ℕ) → result ≡ pos n → drop n to.new ≡ drop n to.old }
 {
     let n = from.len();
     if n > to.len() || n > MOST {
@@ -226,11 +234,5 @@ pub extern "C" fn j39_raw_of(spn: u32, value: i64, raw: &mut u32) -> i32
     ensures only { (n : ℕ) → IsRawOf spn value n → (result ≡ pos 1) × (raw.new ≡ n) }
     ensures none { result ≢ pos 1 → (result ≡ pos 0) × (raw.new ≡ raw.old) }
 {
-    match raw_of(spn, value) {
-        Some(found) => {
-            *raw = found;
-            1
-        }
-        None => 0,
-    }
+    put(raw_of(spn, value), raw)
 }

@@ -1,15 +1,16 @@
 //! The receiving end of directed transfers (J1939-21, 5.10.3).
-ghost use Rattle.std.specs.Prelude.{◌≡◌, ◌<◌, ◌^◌, Some, None, IfSome, IsSome, IsSomeAnd, pos, true};
+ghost use Rattle.std.specs.Prelude.{◌≡◌, ◌≢◌, ◌<◌, ◌^◌, ⊤, pos, true};
 ghost use Rattle.j39_frame.specs.Address.{IsAddress};
 ghost use Rattle.j39_transport.specs.Receiving.{new_receiver};
+ghost use Rattle.j39_c.specs.Calls.{Asks, Never, Opens, Tells};
 ghost use Rattle.j39_c.specs.Can.{Fits, frame_of};
-ghost use Rattle.j39_c.specs.Codes.{IsDone, IsRefused, IsSentAt, bad_value, in_use, no_memory, no_part, sent_packet};
+ghost use Rattle.j39_c.specs.Codes.{IsDone, IsRefused, IsSentAt, sent_packet};
 ghost use Rattle.j39_c.specs.Parts.{LetsPass, ReceivesMore, busy_code, receiver_in};
 
-use crate::can::{CanFrame, frame_in, write_packet};
+use crate::can::{CanFrame, frame_in, put_packet, write_packet};
 use crate::handle::Handle;
 use crate::message::WholeMessage;
-use crate::part::Part;
+use crate::part::{Part, ask};
 use crate::refusal::Refusal;
 use j39_frame::{Frame, Stamp, is_address};
 use j39_transport::{Receiver, Reply};
@@ -19,12 +20,8 @@ use std::alloc::Global;
 /// where the handle is open.
 #[unsafe(no_mangle)]
 pub extern "C" fn j39_receiver_new(alloc: Global, receiver: &mut Handle, own: u8) -> i32
-    ensures made { IsDone result → (result ≡ pos 0) × IsAddress own
-        × (receiver_in receiver.new.part ≡ Some (record { state = new_receiver own; has_box = true })) }
-    ensures open { IsSome receiver.old.part → result ≡ in_use }
-    ensures bad { receiver.old.part ≡ None → (IsAddress own → ⊥) → result ≡ bad_value }
-    ensures wanted { receiver.old.part ≡ None → IsAddress own → IsRefused result → result ≡ no_memory }
-    ensures refused { IsRefused result → receiver.new.part ≡ receiver.old.part }
+    ensures { Opens receiver_in (IsAddress own) receiver.old.part result receiver.new.part
+        (λ made. made ≡ record { state = new_receiver own; has_box = true }) }
 {
     if receiver.is_open(alloc) {
         return Refusal::InUse.code();
@@ -52,22 +49,16 @@ pub extern "C" fn j39_receiver_on(
     out: &mut CanFrame,
     message: &mut WholeMessage,
 ) -> i32
-    ensures done { Fits frame.now → IfSome (receiver_in receiver.old.part) (λ old. IsDone result
-        × IsSomeAnd (receiver_in receiver.new.part) (λ new.
-        ReceivesMore old (frame_of frame.now) result out.new message.new new)) }
-    ensures foreign { Fits frame.now → receiver_in receiver.old.part ≡ None → result ≡ no_part }
-    ensures bad { (Fits frame.now → ⊥) → result ≡ bad_value }
+    ensures asks { Asks receiver_in (Fits frame.now) receiver.old.part result receiver.new.part
+        (λ old new. ReceivesMore old (frame_of frame.now) result out.new message.new new) Never }
     ensures refused { IsRefused result → receiver.new.part ≡ receiver.old.part }
+    ensures tells { Tells 2 result (sent_packet result out.new) (out.new ≡ out.old) }
+    ensures kept { result ≢ pos 2 → message.new ≡ message.old }
 {
     let Some(heard) = frame_in(frame) else {
         return Refusal::BadValue.code();
     };
-    let Some(mut part) = receiver.take(alloc) else {
-        return Refusal::NoPart.code();
-    };
-    let code = part.receive(&heard, out, message);
-    receiver.put(alloc, part);
-    code
+    ask!(alloc, receiver, Receiving(held) => receive(held, &heard, out, message))
 }
 
 /// Lets time pass for a receiver: 1 where `out` is to be sent, else 0. -1 for a moment of 10^16 microseconds and
@@ -79,41 +70,30 @@ pub extern "C" fn j39_receiver_tick(
     micros: u64,
     out: &mut CanFrame,
 ) -> i32
-    ensures done { micros < 10 ^ 16 → IfSome (receiver_in receiver.old.part) (λ old. IsDone result
-        × IsSomeAnd (receiver_in receiver.new.part) (λ new. LetsPass old micros (sent_packet result out.new) new)) }
+    ensures asks { Asks receiver_in (micros < 10 ^ 16) receiver.old.part result receiver.new.part
+        (λ old new. LetsPass old micros (sent_packet result out.new) new) Never }
     ensures moment { IsSentAt result out.new micros }
-    ensures foreign { micros < 10 ^ 16 → receiver_in receiver.old.part ≡ None → result ≡ no_part }
-    ensures bad { (micros < 10 ^ 16 → ⊥) → result ≡ bad_value }
     ensures refused { IsRefused result → receiver.new.part ≡ receiver.old.part }
+    ensures tells { Tells 1 result (sent_packet result out.new) (out.new ≡ out.old) }
 {
     let Some(now) = Stamp::new(micros) else {
         return Refusal::BadValue.code();
     };
-    let Some(mut part) = receiver.take(alloc) else {
-        return Refusal::NoPart.code();
-    };
-    let code = part.receiver_tick(now, out);
-    receiver.put(alloc, part);
-    code
+    ask!(alloc, receiver, Receiving(held) => put_packet(held.tick(now), now, out))
 }
 
 /// Whether a receiver has a session open: 1 or 0; -2 where the handle holds no receiver.
 #[unsafe(no_mangle)]
 pub extern "C" fn j39_receiver_busy(alloc: Global, receiver: &mut Handle) -> i32
-    ensures done { IfSome (receiver_in receiver.old.part) (λ receiver. result ≡ busy_code receiver.state.session) }
-    ensures foreign { receiver_in receiver.old.part ≡ None → result ≡ no_part }
+    ensures asks { Asks receiver_in ⊤ receiver.old.part result receiver.new.part
+        (λ old _. result ≡ busy_code old.state.session) Never }
     ensures same { receiver.new.part ≡ receiver.old.part }
 {
-    let Some(part) = receiver.take(alloc) else {
-        return Refusal::NoPart.code();
-    };
-    let code = part.busy();
-    receiver.put(alloc, part);
-    code
+    ask!(alloc, receiver, Receiving(held) => i32::from(held.busy()))
 }
 
 /// What a receiver answers to a frame at its own moment.
-pub(crate) fn receive(
+fn receive(
     receiver: &mut Receiver,
     frame: &Frame,
     out: &mut CanFrame,
@@ -121,6 +101,8 @@ pub(crate) fn receive(
 ) -> i32
     ensures done { IsDone result }
     ensures receives { ReceivesMore receiver.old frame.now result out.new message.new receiver.new }
+    ensures tells { Tells 2 result (sent_packet result out.new) (out.new ≡ out.old) }
+    ensures kept { result ≢ pos 2 → message.new ≡ message.old }
 {
     let now = frame.stamp;
     match receiver.on(frame, now) {

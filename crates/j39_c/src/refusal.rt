@@ -34,3 +34,15 @@ impl Refusal {
         }
     }
 }
+
+/// What is answered where a part's call wants nothing but memory: 0, or that memory is refused.
+macro_rules! done {
+    ($ran:expr) => {
+        match $ran {
+            Ok(()) => 0,
+            Err(_) => $crate::refusal::Refusal::NoMemory.code(),
+        }
+    };
+}
+
+pub(crate) use done;

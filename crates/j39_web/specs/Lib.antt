@@ -8,3 +8,7 @@ pub mod Answers
 pub mod Fields
 -- the table that a page gives
 pub mod Tables
+-- what is written of a log
+pub mod Writings
+-- what a call answers that writes it
+pub mod Calls

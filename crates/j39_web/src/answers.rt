@@ -3,10 +3,14 @@ ghost use Rattle.std.specs.Prelude.{◌≡◌, ◌≢◌, ◌<◌, ◌↔◌, �
 ghost use Rattle.j39_table.specs.Tables.{IsFaultOf};
 ghost use Rattle.j39_table.specs.declared.fault.TableFault.TheVariants as table;
 ghost use Rattle.j39_web.specs.Answers.{IsWrongBus, done, given_bus, no_memory, too_small, wrong_bus, wrong_table};
-ghost use Rattle.j39_web.specs.Tables.{IsGivenTable};
+ghost use Rattle.j39_web.specs.Calls.{Tells};
+ghost use Rattle.j39_web.specs.Tables.{ByTable, IsGivenTable};
+ghost use Rattle.j39_web.specs.Text.{AsksSomewhere};
+ghost use Rattle.j39_web.specs.Writings.{asks, makes};
 ghost use Rattle.j39_web.specs.declared.texts.Refusal.TheVariants.{Memory, TooSmall};
 
-use crate::texts::{LogText, Refusal};
+use crate::texts::{self, LogText, Refusal};
+use crate::writing::Writing;
 use j39_groups::Groups;
 use j39_log::Bus;
 use j39_table::{TableFault, read};
@@ -26,6 +30,29 @@ pub(crate) const WRONG_BUS: u32 = 3;
 
 /// The bytes of a table say none.
 const WRONG_TABLE: u32 = 4;
+
+/// Tells what is written of a log on the bus of this name, by the table that these bytes say.
+pub(crate) fn tell(
+    alloc: Global,
+    writing: Writing,
+    log: &[u8],
+    bus: &[u8],
+    table: &[u8],
+    room: &mut [u8],
+    text: &mut LogText,
+) -> u32
+    ensures { Tells (ByTable table.now) (makes writing)
+        (λ rows. AsksSomewhere (asks writing rows) (given_bus bus.now) log.now)
+        log.now bus.now table.now room.old room.new text.old text.new result }
+{
+    let Some(bus) = bus_named(bus) else {
+        return WRONG_BUS;
+    };
+    match table_said(alloc, table) {
+        Ok(groups) => answer(texts::made(alloc, writing, log, bus, &groups, room), text),
+        Err(fault) => refused(fault),
+    }
+}
 
 /// The bus of this name, or none given where there are no bytes; `None` for bytes that name none.
 #[tactic(auto, unfolding(crate::specs::Answers::given_bus))]
@@ -73,6 +100,7 @@ pub(crate) fn answer(made: Result<LogText, Refusal>, text: &mut LogText) -> u32
     ensures memory { result ≡ no_memory → made ≡ Err Memory }
     ensures too_small { result ≡ too_small → made ≡ Err TooSmall }
     ensures answers { result < wrong_bus }
+    ensures kept { result ≢ done → text.new ≡ text.old }
 {
     match made {
         Ok(written) => {
@@ -90,6 +118,7 @@ pub(crate) fn why(said: Result<LogText, Refusal>, text: &mut LogText) -> u32
     ensures memory { result ≡ no_memory → said ≡ Err Memory }
     ensures too_small { result ≡ too_small → said ≡ Err TooSmall }
     ensures answers { (result ≡ wrong_table) ⊎ (result ≡ no_memory) ⊎ (result ≡ too_small) }
+    ensures kept { result ≢ wrong_table → text.new ≡ text.old }
 {
     match said {
         Ok(written) => {

@@ -1,7 +1,7 @@
 //! What a web page calls: each call makes a text of a log, in room that the page lends.
 #![tactic(auto)]
 
-ghost use Rattle.std.specs.Prelude.{◌≡◌, ◌≢◌, ◌<◌, ◌≤◌, ◌↔◌, ◌⊎◌, length, take};
+ghost use Rattle.std.specs.Prelude.{◌≡◌, ◌≢◌, ◌<◌, ◌≤◌, ◌↔◌, ◌⊎◌, ⊤, length, take};
 ghost use Rattle.j39_address.specs.Name.{fields_of};
 ghost use Rattle.j39_reports.specs.FaultAsking.{AsksForFaults};
 ghost use Rattle.j39_reports.specs.FaultRun.{MakesFaults};
@@ -13,6 +13,7 @@ ghost use Rattle.j39_reports.specs.SummaryRun.{AsksForRows, MakesSummaryRecords}
 ghost use Rattle.j39_table.specs.FaultWords.{fault_text};
 ghost use Rattle.j39_table.specs.declared.fault.TableFault.{TableFault};
 ghost use Rattle.j39_web.specs.Answers.{IsWrongBus, done, given_bus, no_memory, too_small, wrong_bus, wrong_table};
+ghost use Rattle.j39_web.specs.Calls.{Tells};
 ghost use Rattle.j39_web.specs.Fields.{fields_in};
 ghost use Rattle.j39_web.specs.Tables.{ByRowsOf, ByTable, IsNoTable, IsWrongTable, TableOverflows, WantsRows};
 ghost use Rattle.j39_web.specs.Text.{AsksSomewhere, IsMade, IsPublished, IsSurveyed, Overflows, SurveyOverflows};
@@ -21,12 +22,14 @@ mod answers;
 mod fields;
 mod room;
 mod texts;
+mod writing;
 
-use answers::{NO_MEMORY, WRONG_BUS, answer, bus_named, refused, table_said, why};
+use answers::{NO_MEMORY, WRONG_BUS, answer, bus_named, refused, table_said, tell, why};
 use fields::NameFields;
 use j39_table::TableFault;
 use std::alloc::Global;
 use texts::LogText;
+use writing::Writing;
 
 /// Writes the report of a log by a table into a room: a line for each value that a controller on the bus reported. A bus
 /// of no bytes is that of the first frame in the log, and a table of no bytes the one that is built in. The answer is 0
@@ -41,34 +44,16 @@ pub extern "C" fn j39_report(
     room: &mut [u8],
     text: &mut LogText,
 ) -> u32
-    // What stands at the front of the room is the report of the log, and nothing else.
-    ensures report { result ≡ done → ByTable table.now
-        (λ rows. IsMade (MakesReport rows) (given_bus bus.now) log.now text.new room.new) }
+    // What is written is the report of the log. Memory is wanted at a frame that announces a message.
+    ensures tells { Tells (ByTable table.now) MakesReport
+        (λ _. AsksSomewhere AsksForBoxes (given_bus bus.now) log.now)
+        log.now bus.now table.now room.old room.new text.old text.new result }
 
     // Of what publishers sent, its lines under their addresses are exactly the values published.
     ensures published { result ≡ done → ByTable table.now
         (λ rows. IsPublished rows (given_bus bus.now) log.now text.new room.new) }
-
-    // The room is too small exactly where the report has as many bytes, or more.
-    ensures fits { result ≡ done → text.new.bytes < length room.new }
-    ensures too_small { result ≡ too_small → ByTable table.now
-        (λ rows. Overflows (MakesReport rows) (given_bus bus.now) log.now room.new) }
-
-    // Memory is wanted only for the rows of a table, and at a frame of the log that announces a message.
-    ensures memory { result ≡ no_memory
-        → WantsRows table.now ⊎ AsksSomewhere AsksForBoxes (given_bus bus.now) log.now }
-
-    ensures bus { (result ≡ wrong_bus) ↔ IsWrongBus bus.now }
-    ensures table { result ≡ wrong_table → IsWrongTable table.now }
-    ensures answers { result ≤ wrong_table }
 {
-    let Some(bus) = bus_named(bus) else {
-        return WRONG_BUS;
-    };
-    match table_said(alloc, table) {
-        Ok(groups) => answer(texts::report(alloc, log, bus, &groups, room), text),
-        Err(fault) => refused(fault),
-    }
+    tell(alloc, Writing::Report, log, bus, table, room, text)
 }
 
 /// Writes the report of some parameters (SPN) alone, as `j39_report` writes that of all. The answers are the same.
@@ -82,18 +67,9 @@ pub extern "C" fn j39_values(
     room: &mut [u8],
     text: &mut LogText,
 ) -> u32
-    // What stands at the front of the room is the report by the rows of these parameters, and nothing else.
-    ensures values { result ≡ done → ByRowsOf spns.now table.now
-        (λ rows. IsMade (MakesReport rows) (given_bus bus.now) log.now text.new room.new) }
-
-    // The room is too small exactly where that report has as many bytes, or more.
-    ensures fits { result ≡ done → text.new.bytes < length room.new }
-    ensures too_small { result ≡ too_small → ByRowsOf spns.now table.now
-        (λ rows. Overflows (MakesReport rows) (given_bus bus.now) log.now room.new) }
-
-    ensures bus { (result ≡ wrong_bus) ↔ IsWrongBus bus.now }
-    ensures table { result ≡ wrong_table → IsWrongTable table.now }
-    ensures answers { result ≤ wrong_table }
+    // What is written is the report by the rows of these parameters. Memory is wanted whatever the log is.
+    ensures { Tells (ByRowsOf spns.now table.now) MakesReport (λ _. ⊤)
+        log.now bus.now table.now room.old room.new text.old text.new result }
 {
     let Some(bus) = bus_named(bus) else {
         return WRONG_BUS;
@@ -115,31 +91,13 @@ pub extern "C" fn j39_summary(
     room: &mut [u8],
     text: &mut LogText,
 ) -> u32
-    // What stands at the front of the room is the summary of the log's report, and nothing else.
-    ensures summary { result ≡ done → ByTable table.now
-        (λ rows. IsMade (MakesSummaryRecords rows) (given_bus bus.now) log.now text.new room.new) }
-
-    // The room is too small exactly where that text has as many bytes, or more.
-    ensures fits { result ≡ done → text.new.bytes < length room.new }
-    ensures too_small { result ≡ too_small → ByTable table.now
-        (λ rows. Overflows (MakesSummaryRecords rows) (given_bus bus.now) log.now room.new) }
-
-    // Memory is wanted only for the rows of a table, at a frame that announces a message, and where a value is the first
-    // of its parameter, or a text.
-    ensures memory { result ≡ no_memory → WantsRows table.now
-        ⊎ ByTable table.now (λ rows. AsksSomewhere (AsksForRows rows) (given_bus bus.now) log.now) }
-
-    ensures bus { (result ≡ wrong_bus) ↔ IsWrongBus bus.now }
-    ensures table { result ≡ wrong_table → IsWrongTable table.now }
-    ensures answers { result ≤ wrong_table }
+    // What is written is the summary of the log's report. Memory is wanted at a frame that announces a message, and
+    // where a value is the first of its parameter, or a text.
+    ensures { Tells (ByTable table.now) MakesSummaryRecords
+        (λ rows. AsksSomewhere (AsksForRows rows) (given_bus bus.now) log.now)
+        log.now bus.now table.now room.old room.new text.old text.new result }
 {
-    let Some(bus) = bus_named(bus) else {
-        return WRONG_BUS;
-    };
-    match table_said(alloc, table) {
-        Ok(groups) => answer(texts::summary(alloc, log, bus, &groups, room), text),
-        Err(fault) => refused(fault),
-    }
+    tell(alloc, Writing::Summary, log, bus, table, room, text)
 }
 
 /// Writes the fault codes in a log (DM1, DM2) into a room, as they become news: a line for each code, with the name that
@@ -153,31 +111,13 @@ pub extern "C" fn j39_faults(
     room: &mut [u8],
     text: &mut LogText,
 ) -> u32
-    // What stands at the front of the room is the faults that are told in the log's frames, and nothing else.
-    ensures faults { result ≡ done → ByTable table.now
-        (λ rows. IsMade (MakesFaults rows News) (given_bus bus.now) log.now text.new room.new) }
-
-    // The room is too small exactly where that text has as many bytes, or more.
-    ensures fits { result ≡ done → text.new.bytes < length room.new }
-    ensures too_small { result ≡ too_small → ByTable table.now
-        (λ rows. Overflows (MakesFaults rows News) (given_bus bus.now) log.now room.new) }
-
-    // Memory is wanted only for the rows of a table, at a frame that announces a message, and at one at which an address
-    // says its codes for the first time.
-    ensures memory { result ≡ no_memory
-        → WantsRows table.now ⊎ AsksSomewhere AsksForFaults (given_bus bus.now) log.now }
-
-    ensures bus { (result ≡ wrong_bus) ↔ IsWrongBus bus.now }
-    ensures table { result ≡ wrong_table → IsWrongTable table.now }
-    ensures answers { result ≤ wrong_table }
+    // What is written is the faults that are told in the log's frames. Memory is wanted at a frame that announces a
+    // message, and at one at which an address says its codes for the first time.
+    ensures { Tells (ByTable table.now) (λ rows. MakesFaults rows News)
+        (λ _. AsksSomewhere AsksForFaults (given_bus bus.now) log.now)
+        log.now bus.now table.now room.old room.new text.old text.new result }
 {
-    let Some(bus) = bus_named(bus) else {
-        return WRONG_BUS;
-    };
-    match table_said(alloc, table) {
-        Ok(groups) => answer(texts::faults(alloc, log, bus, &groups, room), text),
-        Err(fault) => refused(fault),
-    }
+    tell(alloc, Writing::Faults, log, bus, table, room, text)
 }
 
 /// Writes who holds which address at the end of a log into a room, a line for each address. The bus and the answers
@@ -194,6 +134,8 @@ pub extern "C" fn j39_nodes(log: &[u8], bus: &[u8], room: &mut [u8], text: &mut 
     ensures bus { (result ≡ wrong_bus) ↔ IsWrongBus bus.now }
     ensures answers { result ≤ wrong_bus }
     ensures memory { result ≢ no_memory }
+    ensures kept { result ≢ done → text.new ≡ text.old }
+    ensures untouched { result ≡ wrong_bus → room.new ≡ room.old }
 {
     match bus_named(bus) {
         Some(bus) => answer(texts::nodes(log, bus, room), text),
@@ -219,9 +161,12 @@ pub extern "C" fn j39_survey(
     ensures fits { result ≡ done → text.new.bytes < length room.new }
     ensures too_small { result ≡ too_small → ByTable table.now (λ rows. SurveyOverflows rows log.now room.new) }
 
+    ensures memory { result ≡ no_memory → WantsRows table.now ⊎ ByTable table.now (λ _. ⊤) }
     ensures bus { result ≢ wrong_bus }
     ensures table { result ≡ wrong_table → IsWrongTable table.now }
     ensures answers { result ≤ wrong_table }
+    ensures kept { result ≢ done → text.new ≡ text.old }
+    ensures untouched { result ≡ wrong_table → room.new ≡ room.old }
 {
     match table_said(alloc, table) {
         Ok(groups) => answer(texts::survey(alloc, log, &groups, room), text),
@@ -247,6 +192,7 @@ pub extern "C" fn j39_groups(
     ensures memory { result ≡ no_memory → WantsRows table.now }
     ensures bus { result ≢ wrong_bus }
     ensures answers { result ≤ wrong_table }
+    ensures kept { result ≢ done → result ≢ wrong_table → text.new ≡ text.old }
 {
     match table_said(alloc, table) {
         Ok(groups) => answer(texts::parameters(&groups, room), text),

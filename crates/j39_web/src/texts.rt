@@ -1,25 +1,21 @@
 //! What is made of a log, in the room of a page.
 ghost use Rattle.std.specs.Prelude.{◌≡◌, ◌≢◌, ◌<◌, ◌≤◌, length, take, IfErr, IfOk, IsOk, OnErr, OnOk, Ok, Err};
-ghost use Rattle.j39_reports.specs.FaultAsking.{AsksForFaults};
-ghost use Rattle.j39_reports.specs.FaultRun.{MakesFaults};
-ghost use Rattle.j39_reports.specs.declared.fault_news.telling.Telling.TheVariants.{News};
 ghost use Rattle.j39_groups.specs.Printed.{rows_text};
-ghost use Rattle.j39_listen.specs.Asking.{AsksForBoxes};
 ghost use Rattle.j39_listen.specs.Output.{MakesNodes, MakesReport};
 ghost use Rattle.j39_listen.specs.declared.running.RunFault.TheVariants as fault;
-ghost use Rattle.j39_reports.specs.SummaryRun.{AsksForRows, MakesSummaryRecords};
 ghost use Rattle.j39_table.specs.FaultWords.{fault_text};
 ghost use Rattle.j39_web.specs.Room.{HasNoRoom, room_in, written_in};
 ghost use Rattle.j39_web.specs.Tables.{ByRows};
-ghost use Rattle.j39_web.specs.Text.{AsksSomewhere, IsMade, IsPublished, IsSurveyed, Overflows, SurveyOverflows, counts_in};
+ghost use Rattle.j39_web.specs.Text.{AsksSomewhere, IsMade, IsSurveyed, Overflows, SurveyOverflows, counts_in};
+ghost use Rattle.j39_web.specs.Writings.{asks, makes};
 ghost use Rattle.j39_web.specs.declared.texts.Refusal.TheVariants.{Memory, TooSmall};
 
 use crate::room::{LogBytes, Room};
+use crate::writing::Writing;
 use j39_groups::Groups;
 use j39_io::{DeviceFault, put_all};
-use j39_listen::{Counts, RunFault, run_with};
+use j39_listen::{Counts, RunFault};
 use j39_log::Bus;
-use j39_reports::{Telling, summary_csv};
 use j39_table::TableFault;
 use std::alloc::{AllocError, Global};
 
@@ -50,32 +46,29 @@ pub struct LogText {
     pub bytes: u64,
 }
 
-/// Writes the report of a log by a table: a line for each value that a controller on the bus reported. Without a bus it
-/// is that of the first frame in the log.
-pub fn report(
+/// Writes what is made of a log by a table. Without a bus it is that of the first frame in the log.
+pub fn made(
     alloc: Global,
+    writing: Writing,
     log: &[u8],
     bus: Option<Bus>,
     groups: &Groups<'_>,
     room: &mut [u8],
 ) -> Result<LogText, Refusal>
-    // What stands at the front of the room is the report of the log, and nothing else.
-    ensures report { IfOk result (λ text. IsMade (MakesReport groups.now) bus log.now text room.new) }
+    // What stands at the front of the room is that, and nothing else.
+    ensures made { IfOk result (λ text. IsMade (makes writing groups.now) bus log.now text room.new) }
 
-    // Of what publishers sent, its lines under their addresses are exactly the values published.
-    ensures published { IfOk result (λ text. IsPublished groups.now bus log.now text room.new) }
-
-    // The room is too small exactly where the report has as many bytes, or more.
+    // The room is too small exactly where that has as many bytes, or more.
     ensures fits { IfOk result (λ text. text.bytes < length room.new) }
-    ensures too_small { result ≡ Err TooSmall → Overflows (MakesReport groups.now) bus log.now room.new }
+    ensures too_small { result ≡ Err TooSmall → Overflows (makes writing groups.now) bus log.now room.new }
 
-    // Memory is wanted only at a frame of the log that announces a message.
-    ensures memory { result ≡ Err Memory → AsksSomewhere AsksForBoxes bus log.now }
+    // Memory is wanted only at a frame of the log that asks for some.
+    ensures memory { result ≡ Err Memory → AsksSomewhere (asks writing groups.now) bus log.now }
 {
     let mut source = LogBytes::new(log);
     let mut sink = Room::new(room);
     let limit = log.len() as u64;
-    let ran = run_with(alloc, groups, &mut source, &mut sink, bus, limit);
+    let ran = writing.run(alloc, groups, &mut source, &mut sink, bus, limit);
     told(ran, &sink)
 }
 
@@ -95,29 +88,9 @@ pub fn values(
         (λ rows. Overflows (MakesReport rows) bus log.now room.new) }
 {
     match groups.restricted_to(alloc, spns) {
-        Ok(rows) => report(alloc, log, bus, &rows, room),
+        Ok(rows) => made(alloc, Writing::Report, log, bus, &rows, room),
         Err(AllocError) => Err(Refusal::Memory),
     }
-}
-
-/// Writes what each parameter of a log did by a table, as comma-separated values.
-pub fn summary(
-    alloc: Global,
-    log: &[u8],
-    bus: Option<Bus>,
-    groups: &Groups<'_>,
-    room: &mut [u8],
-) -> Result<LogText, Refusal>
-    ensures summary { IfOk result (λ text. IsMade (MakesSummaryRecords groups.now) bus log.now text room.new) }
-    ensures fits { IfOk result (λ text. text.bytes < length room.new) }
-    ensures too_small { result ≡ Err TooSmall → Overflows (MakesSummaryRecords groups.now) bus log.now room.new }
-    ensures memory { result ≡ Err Memory → AsksSomewhere (AsksForRows groups.now) bus log.now }
-{
-    let mut source = LogBytes::new(log);
-    let mut sink = Room::new(room);
-    let limit = log.len() as u64;
-    let ran = summary_csv(alloc, groups, &mut source, &mut sink, bus, limit);
-    told(ran, &sink)
 }
 
 /// Writes who holds which address at the end of a log.
@@ -154,35 +127,6 @@ fn told(ran: Result<Counts, RunFault>, sink: &Room<'_>) -> Result<LogText, Refus
         Err(RunFault::Memory) => Err(Refusal::Memory),
         _ => Err(Refusal::TooSmall),
     }
-}
-
-/// Writes the fault codes in a log, as they become news: a line for each code of each message of DM1 and DM2 that says
-/// something else than the last before, with the name that the table has for its parameter.
-pub fn faults(
-    alloc: Global,
-    log: &[u8],
-    bus: Option<Bus>,
-    groups: &Groups<'_>,
-    room: &mut [u8],
-) -> Result<LogText, Refusal>
-    ensures faults { IfOk result (λ text. IsMade (MakesFaults groups.now News) bus log.now text room.new) }
-    ensures fits { IfOk result (λ text. text.bytes < length room.new) }
-    ensures too_small { result ≡ Err TooSmall → Overflows (MakesFaults groups.now News) bus log.now room.new }
-    ensures memory { result ≡ Err Memory → AsksSomewhere AsksForFaults bus log.now }
-{
-    let mut source = LogBytes::new(log);
-    let mut sink = Room::new(room);
-    let limit = log.len() as u64;
-    let ran = j39_reports::faults(
-        alloc,
-        groups,
-        Telling::News,
-        &mut source,
-        &mut sink,
-        bus,
-        limit,
-    );
-    told(ran, &sink)
 }
 
 /// Writes what a log is, before any bus is chosen: how many lines it has, its interfaces, its groups, by the table, its

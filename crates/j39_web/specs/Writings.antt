@@ -1,0 +1,23 @@
+-- What is written of a log by a table.
+use Rattle.j39_groups.specs.Row.{RowRecord}
+use Rattle.std.specs.Prelude.{List}
+use Rattle.j39_listen.specs.Asking.{AsksForBoxes, Wanting}
+use Rattle.j39_listen.specs.Output.{Making, MakesReport}
+use Rattle.j39_reports.specs.FaultAsking.{AsksForFaults}
+use Rattle.j39_reports.specs.FaultRun.{MakesFaults}
+use Rattle.j39_reports.specs.SummaryRun.{AsksForRows, MakesSummaryRecords}
+use Rattle.j39_reports.specs.declared.fault_news.telling.Telling.TheVariants.{News}
+use Rattle.j39_web.specs.declared.writing.Writing.{Writing}
+use Rattle.j39_web.specs.declared.writing.Writing.TheVariants.{Report, Summary, Faults}
+
+-- which outputs are made of the frames of a bus
+abbrev pub makes : Writing → List RowRecord → Making
+makes Report = MakesReport
+makes Summary = MakesSummaryRecords
+makes Faults = λ rows. MakesFaults rows News
+
+-- at which frames memory is wanted
+abbrev pub asks : Writing → List RowRecord → Wanting
+asks Report = λ rows. AsksForBoxes
+asks Summary = AsksForRows
+asks Faults = λ rows. AsksForFaults

@@ -1,0 +1,44 @@
+//! What is written of a log by a table.
+ghost use Rattle.j39_io.specs.Turn.{turn};
+ghost use Rattle.j39_listen.specs.Ran.{Ran};
+ghost use Rattle.j39_web.specs.Writings.{asks, makes};
+
+use j39_groups::Groups;
+use j39_io::{Sink, Source};
+use j39_listen::{Counts, RunFault, run_with};
+use j39_log::Bus;
+use j39_reports::{Telling, faults, summary_csv};
+use std::alloc::Global;
+
+/// What is written of a log by a table.
+#[derive(Clone, Copy)]
+pub(crate) enum Writing {
+    /// A line for each value that a controller on the bus reported.
+    Report,
+    /// What each parameter did, as comma-separated values.
+    Summary,
+    /// A line for each fault code that says something else than the last before.
+    Faults,
+}
+
+impl Writing {
+    /// Writes it of a log of at most `limit` bytes. Without a bus it is that of the first frame in the log.
+    pub(crate) fn run<R: Source, W: Sink>(
+        self,
+        alloc: Global,
+        groups: &Groups<'_>,
+        source: &mut R,
+        sink: &mut W,
+        bus: Option<Bus>,
+        limit: u64,
+    ) -> Result<Counts, RunFault>
+        ensures { Ran (makes self groups.now) (asks self groups.now) bus limit result
+            (turn R.remaining R.has_failed source.old source.new) (turn W.written W.has_failed sink.old sink.new) }
+    {
+        match self {
+            Writing::Report => run_with(alloc, groups, source, sink, bus, limit),
+            Writing::Summary => summary_csv(alloc, groups, source, sink, bus, limit),
+            Writing::Faults => faults(alloc, groups, Telling::News, source, sink, bus, limit),
+        }
+    }
+}
