@@ -1,8 +1,8 @@
 -- The command `answer --name H --address N [--bus B] [FILE]`.
-use Rattle.std.specs.Prelude.{◌≡◌, ◌<◌, ◌^◌, ◌∷◌, ◌++◌, ℕ, true, List, Option, Some, codes}
+use Rattle.std.specs.Prelude.{◌≡◌, ◌<◌, ◌^◌, ◌∷◌, [], ℕ, true, List, Option, Some, codes}
 use Rattle.std.specs.Option.{ForSome}
 use Rattle.std.specs.Str.Parse.{digits_value}
-use Rattle.clap.specs.Words.{App, Text, first_of, new_app, with_rule}
+use Rattle.clap.specs.Words.{App, Text, new_app, with_rule}
 use Rattle.j39_address.specs.Name.{name_raw}
 use Rattle.j39_address.specs.Node.{idle_node}
 use Rattle.j39_frame.specs.Address.{IsAddress}
@@ -11,7 +11,7 @@ use Rattle.j39_listen.specs.Asking.{AsksForBoxes}
 use Rattle.j39_listen.specs.Output.{MakesAnswers}
 use Rattle.j39_cli.specs.Answer.{IsBusChecked, IsChecked, IsTask}
 use Rattle.j39_cli.specs.Numbers.{IsNumberBelow}
-use Rattle.j39_cli.specs.Form.{Form, IsValue, IsValueIfGiven, Meaning, option_words, value_words}
+use Rattle.j39_cli.specs.Form.{Form, Meaning, option, value}
 use Rattle.j39_cli.specs.LogCommand.{runs, with_log}
 use Rattle.j39_cli.specs.NameCommand.{IsNameText}
 use Rattle.j39_cli.specs.Rules.{option_rule}
@@ -31,10 +31,8 @@ IsNodeTask node address bus file t = ⊥
 abbrev pub answer_form : Text → Text → Option Text → Option Text → Form
 answer_form node address bus file = record {
   called = codes "answer";
-  words = codes "--name" ∷ node ∷ codes "--address" ∷ address ∷ (option_words (codes "--bus") bus ++ value_words file);
-  HasValues = IsValue node × IsValue address × IsValueIfGiven bus × IsValueIfGiven file;
-  HasTexts = λ rows. (first_of (codes "name") rows ≡ Some node) × (first_of (codes "address") rows ≡ Some address)
-      × (first_of (codes "bus") rows ≡ bus) × (first_of (codes "file") rows ≡ file);
+  arguments = option (codes "name") (Some node) ∷ option (codes "address") (Some address) ∷ option (codes "bus") bus
+      ∷ value (codes "file") file ∷ [];
   Answers = IsChecked (IsNameText node) argument.Name (IsChecked (IsNumberBelow 254 address) argument.Address
       (IsBusChecked bus (IsTask (IsNodeTask (digits_value 16 node) (digits_value 10 address) bus file))));
 }

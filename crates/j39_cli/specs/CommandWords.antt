@@ -3,7 +3,7 @@ use Rattle.std.specs.Prelude.{◌≡◌, ◌∷◌, Bool, List, Option, IfOk}
 use Rattle.clap.specs.Words.{Row, Text, rows_of}
 use Rattle.clap.specs.declared.parser.matches.Found.{Found}
 use Rattle.j39_cli.specs.Answer.{Answer}
-use Rattle.j39_cli.specs.Form.{Form}
+use Rattle.j39_cli.specs.Form.{Form, HaveTexts, HaveValues, words_in}
 use Rattle.j39_cli.specs.AnswerCommand.{answer_form}
 use Rattle.j39_cli.specs.CutCommand.{cut_form}
 use Rattle.j39_cli.specs.FaultsCommand.{faults_form}
@@ -42,14 +42,14 @@ form_of (survey table file) = survey_form table file
 
 -- the words after the program's name
 abbrev pub words_of : CommandWords → List Text
-words_of s = (form_of s).called ∷ (form_of s).words
+words_of s = (form_of s).called ∷ words_in (form_of s).arguments
 
 abbrev pub HasValues : CommandWords → Type 0
-HasValues s = (form_of s).HasValues
+HasValues s = HaveValues (form_of s).arguments
 
 -- the command that clap met, by its name and rows, has the texts of s
 abbrev pub HasTexts : CommandWords → Text × List Row → Type 0
-HasTexts s met = (met.0 ≡ (form_of s).called) × (form_of s).HasTexts met.1
+HasTexts s met = (met.0 ≡ (form_of s).called) × HaveTexts met.1 (form_of s).arguments
 
 -- the values are checked in the order of the words, and the first wrong one is the answer
 abbrev pub IsAnswer : CommandWords → Answer → Type 0

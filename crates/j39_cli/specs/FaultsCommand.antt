@@ -1,7 +1,7 @@
 -- The command `faults [--bus B] [--table T] [--all] [--csv] [FILE]`.
-use Rattle.std.specs.Prelude.{◌≡◌, ◌++◌, ℕ, Bool, List, Option, codes}
+use Rattle.std.specs.Prelude.{◌≡◌, ◌∷◌, [], ℕ, Bool, List, Option, codes}
 use Rattle.std.specs.Prelude.{if◌then◌else◌}
-use Rattle.clap.specs.Words.{App, Text, first_of, new_app, with_rule}
+use Rattle.clap.specs.Words.{App, Text, new_app, with_rule}
 use Rattle.j39_reports.specs.FaultAsking.{AsksForFaults}
 use Rattle.j39_reports.specs.FaultRun.{MakesFaultRecords, MakesFaults}
 use Rattle.j39_reports.specs.declared.fault_news.telling.Telling.{Telling}
@@ -9,9 +9,9 @@ use Rattle.j39_reports.specs.declared.fault_news.telling.Telling.TheVariants.{Ne
 use Rattle.j39_groups.specs.Row.{RowRecord}
 use Rattle.j39_listen.specs.Output.{Making}
 use Rattle.j39_cli.specs.Answer.{IsBusChecked, IsTask}
-use Rattle.j39_cli.specs.Form.{Form, IsValueIfGiven, Meaning, flag_words, option_words, value_words}
+use Rattle.j39_cli.specs.Form.{Form, Meaning, flag, option, value}
 use Rattle.j39_cli.specs.LogCommand.{format_of, runs, with_log}
-use Rattle.j39_cli.specs.Rules.{flag_rule, is_given, with_table}
+use Rattle.j39_cli.specs.Rules.{flag_rule, with_table}
 use Rattle.j39_cli.specs.declared.task.Format.{Format}
 use Rattle.j39_cli.specs.declared.task.Format.TheVariants.{Csv, Lines}
 use Rattle.j39_cli.specs.declared.task.Task.{Task}
@@ -33,13 +33,8 @@ IsFaultsTask bus table all csv file t = ⊥
 abbrev pub faults_form : Option Text → Option Text → Bool → Bool → Option Text → Form
 faults_form bus table all csv file = record {
   called = codes "faults";
-  words = option_words (codes "--bus") bus
-      ++ (option_words (codes "--table") table
-      ++ (flag_words (codes "--all") all ++ (flag_words (codes "--csv") csv ++ value_words file)));
-  HasValues = IsValueIfGiven bus × IsValueIfGiven table × IsValueIfGiven file;
-  HasTexts = λ rows. (first_of (codes "bus") rows ≡ bus) × (first_of (codes "table") rows ≡ table)
-      × (is_given (first_of (codes "all") rows) ≡ all) × (is_given (first_of (codes "csv") rows) ≡ csv)
-      × (first_of (codes "file") rows ≡ file);
+  arguments = option (codes "bus") bus ∷ option (codes "table") table ∷ flag (codes "all") all ∷ flag (codes "csv") csv
+      ∷ value (codes "file") file ∷ [];
   Answers = IsBusChecked bus (IsTask (IsFaultsTask bus table all csv file));
 }
 

@@ -1,13 +1,13 @@
 -- The command `nodes [--bus B] [--csv] [FILE]`.
-use Rattle.std.specs.Prelude.{◌≡◌, ◌++◌, ℕ, Bool, List, Option, codes}
-use Rattle.clap.specs.Words.{App, Text, first_of, new_app, with_rule}
+use Rattle.std.specs.Prelude.{◌≡◌, ◌∷◌, [], ℕ, Bool, List, Option, codes}
+use Rattle.clap.specs.Words.{App, Text, new_app, with_rule}
 use Rattle.j39_listen.specs.Asking.{AsksNowhere}
 use Rattle.j39_listen.specs.Headed.{MakesNodeRecords}
 use Rattle.j39_listen.specs.Output.{Making, MakesNodes}
 use Rattle.j39_cli.specs.Answer.{IsBusChecked, IsTask}
-use Rattle.j39_cli.specs.Form.{Form, IsValueIfGiven, Meaning, flag_words, option_words, value_words}
+use Rattle.j39_cli.specs.Form.{Form, Meaning, flag, option, value}
 use Rattle.j39_cli.specs.LogCommand.{format_of, runs, with_log}
-use Rattle.j39_cli.specs.Rules.{flag_rule, is_given}
+use Rattle.j39_cli.specs.Rules.{flag_rule}
 use Rattle.j39_cli.specs.declared.task.Format.{Format}
 use Rattle.j39_cli.specs.declared.task.Format.TheVariants.{Csv, Lines}
 use Rattle.j39_cli.specs.declared.task.Task.{Task}
@@ -23,10 +23,7 @@ IsNodesTask bus csv file t = ⊥
 abbrev pub nodes_form : Option Text → Bool → Option Text → Form
 nodes_form bus csv file = record {
   called = codes "nodes";
-  words = option_words (codes "--bus") bus ++ (flag_words (codes "--csv") csv ++ value_words file);
-  HasValues = IsValueIfGiven bus × IsValueIfGiven file;
-  HasTexts = λ rows. (first_of (codes "bus") rows ≡ bus) × (is_given (first_of (codes "csv") rows) ≡ csv)
-      × (first_of (codes "file") rows ≡ file);
+  arguments = option (codes "bus") bus ∷ flag (codes "csv") csv ∷ value (codes "file") file ∷ [];
   Answers = IsBusChecked bus (IsTask (IsNodesTask bus csv file));
 }
 

@@ -1,13 +1,13 @@
 -- The command `summary [--bus B] [--table T] [--csv] [FILE]`.
-use Rattle.std.specs.Prelude.{◌≡◌, ◌++◌, ℕ, Bool, List, Option, codes}
-use Rattle.clap.specs.Words.{App, Text, first_of, new_app, with_rule}
+use Rattle.std.specs.Prelude.{◌≡◌, ◌∷◌, [], ℕ, Bool, List, Option, codes}
+use Rattle.clap.specs.Words.{App, Text, new_app, with_rule}
 use Rattle.j39_reports.specs.SummaryRun.{AsksForRows, MakesSummary, MakesSummaryRecords}
 use Rattle.j39_groups.specs.Row.{RowRecord}
 use Rattle.j39_listen.specs.Output.{Making}
 use Rattle.j39_cli.specs.Answer.{IsBusChecked, IsTask}
-use Rattle.j39_cli.specs.Form.{Form, IsValueIfGiven, Meaning, flag_words, option_words, value_words}
+use Rattle.j39_cli.specs.Form.{Form, Meaning, flag, option, value}
 use Rattle.j39_cli.specs.LogCommand.{format_of, runs, with_log}
-use Rattle.j39_cli.specs.Rules.{flag_rule, is_given, with_table}
+use Rattle.j39_cli.specs.Rules.{flag_rule, with_table}
 use Rattle.j39_cli.specs.declared.task.Format.{Format}
 use Rattle.j39_cli.specs.declared.task.Format.TheVariants.{Csv, Lines}
 use Rattle.j39_cli.specs.declared.task.Task.{Task}
@@ -24,11 +24,7 @@ IsSummaryTask bus table csv file t = ⊥
 abbrev pub summary_form : Option Text → Option Text → Bool → Option Text → Form
 summary_form bus table csv file = record {
   called = codes "summary";
-  words = option_words (codes "--bus") bus
-      ++ (option_words (codes "--table") table ++ (flag_words (codes "--csv") csv ++ value_words file));
-  HasValues = IsValueIfGiven bus × IsValueIfGiven table × IsValueIfGiven file;
-  HasTexts = λ rows. (first_of (codes "bus") rows ≡ bus) × (first_of (codes "table") rows ≡ table)
-      × (is_given (first_of (codes "csv") rows) ≡ csv) × (first_of (codes "file") rows ≡ file);
+  arguments = option (codes "bus") bus ∷ option (codes "table") table ∷ flag (codes "csv") csv ∷ value (codes "file") file ∷ [];
   Answers = IsBusChecked bus (IsTask (IsSummaryTask bus table csv file));
 }
 

@@ -1,15 +1,15 @@
 //! The command `answer`: its words, and how it is performed.
-ghost use Rattle.std.specs.Prelude.{◌≡◌, ◌≢◌, ◌↔◌, IfOk, IfSome, IsSome, Some, codes, true, Err};
+ghost use Rattle.std.specs.Prelude.{◌≡◌, ◌≢◌, ◌↔◌, IfOk, IfSome, IsSome, codes, true, Err};
 ghost use Rattle.std.specs.Str.Parse.{digits_value};
 ghost use Rattle.j39_io.specs.Turn.{turn};
-ghost use Rattle.clap.specs.Words.{Text, first_value, found_of};
+ghost use Rattle.clap.specs.Words.{first_value, found_of};
 ghost use Rattle.j39_address.specs.Name.{name_raw};
 ghost use Rattle.j39_address.specs.Node.{idle_node};
 ghost use Rattle.j39_listen.specs.Asking.{AsksForBoxes};
 ghost use Rattle.j39_listen.specs.Output.{MakesAnswers};
 ghost use Rattle.j39_cli.specs.AnswerCommand.{answer_app};
 ghost use Rattle.j39_cli.specs.CommandWords as written;
-ghost use Rattle.j39_cli.specs.CommandWords.{IsAnswer};
+ghost use Rattle.j39_cli.specs.CommandWords.{IsAnswer, Tells};
 ghost use Rattle.j39_cli.specs.Numbers.{IsNumberBelow};
 ghost use Rattle.j39_cli.specs.LogCommand.{IsRun};
 ghost use Rattle.j39_cli.specs.Task.{IsInRange};
@@ -66,25 +66,12 @@ pub(crate) fn command<'a>(alloc: Global) -> Result<Command<'a>, AllocError>
 
 /// The task that its words ask for.
 pub(crate) fn task<'a>(alloc: Global, given: &ArgMatches<'a>) -> Result<Task<'a>, ParseFault>
-    ensures answer { (name address : Text)
-        → first_value (found_of given.now) (codes "name") ≡ Some name
-        → first_value (found_of given.now) (codes "address") ≡ Some address
-        → IsAnswer (written.answer name address (first_value (found_of given.now) (codes "bus"))
-        (first_value (found_of given.now) (codes "file"))) result }
-    ensures given { IfOk result (λ _. (name : Text) × (address : Text)
-        × (first_value (found_of given.now) (codes "name") ≡ Some name)
-        × (first_value (found_of given.now) (codes "address") ≡ Some address)) }
+    ensures tells { Tells (codes "answer") (found_of given.now) result }
     ensures memory { result ≢ Err ParseFault.Memory }
     ensures in_range { IfOk result IsInRange }
 {
-    let name = match required(alloc, given, "name") {
-        Ok(name) => name,
-        Err(fault) => return Err(fault),
-    };
-    let address = match required(alloc, given, "address") {
-        Ok(address) => address,
-        Err(fault) => return Err(fault),
-    };
+    let name = required(alloc, given, "name")?;
+    let address = required(alloc, given, "address")?;
     task_of(name, address, given)
 }
 

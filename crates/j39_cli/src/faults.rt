@@ -1,22 +1,24 @@
 //! The command `faults`: its words, and how it is performed.
-ghost use Rattle.std.specs.Prelude.{◌≡◌, ◌≢◌, IfOk, codes, true, Err};
+ghost use Rattle.std.specs.Prelude.{◌≡◌, ◌≢◌, IfOk, OnOk, codes, true, Err};
 ghost use Rattle.j39_io.specs.Turn.{turn};
 ghost use Rattle.clap.specs.Words.{first_value, found_of};
 ghost use Rattle.j39_reports.specs.FaultAsking.{AsksForFaults};
+ghost use Rattle.j39_listen.specs.Ran.{Ran};
 ghost use Rattle.j39_cli.specs.CommandWords as written;
 ghost use Rattle.j39_cli.specs.CommandWords.{IsAnswer};
 ghost use Rattle.j39_cli.specs.FaultsCommand.{faults_app, faults_in, telling_of};
-ghost use Rattle.j39_cli.specs.LogCommand.{IsRun};
+ghost use Rattle.j39_cli.specs.LogCommand.{log_limit};
 ghost use Rattle.j39_cli.specs.Rules.{IsMade, is_given};
 ghost use Rattle.j39_cli.specs.Task.{IsInRange};
 
 use crate::command::{new_command, with_flag, with_table};
-use crate::log::{LOG_LIMIT, copy_of, format_by, tell_end, with_csv, with_log};
+use crate::log::{LOG_LIMIT, format_by, with_csv, with_log};
 use crate::words::{bus_value, is_set};
 use crate::{Format, ParseFault, Task, WordText};
 use clap::{ArgMatches, Command};
 use j39_groups::Groups;
 use j39_io::{Sink, Source};
+use j39_listen::{Counts, RunFault};
 use j39_log::Bus;
 use j39_reports::{Telling, faults_csv};
 use std::alloc::{AllocError, Global};
@@ -82,32 +84,22 @@ fn telling_by(all: bool) -> Telling
     if all { Telling::All } else { Telling::News }
 }
 
-/// Performs it by a table of parameters: the faults go to `sink`, the counts or what failed to `err`.
-pub(crate) fn perform<R: Source, W: Sink, E: Sink>(
+/// Reads a log, and writes its fault codes by a table of parameters.
+pub(crate) fn run<R: Source, W: Sink>(
     alloc: Global,
     groups: &Groups<'_>,
-    bus: &Option<Bus>,
     telling: Telling,
     format: Format,
     source: &mut R,
     sink: &mut W,
-    err: &mut E,
-) -> u8
-    ensures run { IsRun AsksForFaults (faults_in format telling groups.now) bus.now result
-        (turn R.remaining R.has_failed source.old source.new)
-        (turn W.written W.has_failed sink.old sink.new)
-        (turn E.written E.has_failed err.old err.new) }
-    ensures flushed { result ≡ 0 → W.is_flushed sink.new ≡ true }
+    bus: Option<Bus>,
+) -> Result<Counts, RunFault>
+    ensures ran { Ran (faults_in format telling groups.now) AsksForFaults bus log_limit result
+        (turn R.remaining R.has_failed source.old source.new) (turn W.written W.has_failed sink.old sink.new) }
+    ensures flushed { OnOk result (W.is_flushed sink.new ≡ true) }
 {
-    let bus = copy_of(bus);
     match format {
-        Format::Lines => {
-            let end = j39_reports::faults(alloc, groups, telling, source, sink, bus, LOG_LIMIT);
-            tell_end(end, err)
-        }
-        Format::Csv => {
-            let end = faults_csv(alloc, groups, telling, source, sink, bus, LOG_LIMIT);
-            tell_end(end, err)
-        }
+        Format::Lines => j39_reports::faults(alloc, groups, telling, source, sink, bus, LOG_LIMIT),
+        Format::Csv => faults_csv(alloc, groups, telling, source, sink, bus, LOG_LIMIT),
     }
 }

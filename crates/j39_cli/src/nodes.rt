@@ -1,22 +1,23 @@
 //! The command `nodes`: its words, and how it is performed.
-ghost use Rattle.std.specs.Prelude.{◌≡◌, ◌≢◌, IfOk, codes, true, Err};
+ghost use Rattle.std.specs.Prelude.{◌≡◌, ◌≢◌, IfOk, OnOk, codes, true, Err};
 ghost use Rattle.j39_io.specs.Turn.{turn};
 ghost use Rattle.clap.specs.Words.{first_value, found_of};
 ghost use Rattle.j39_listen.specs.Asking.{AsksNowhere};
+ghost use Rattle.j39_listen.specs.Ran.{Ran};
 ghost use Rattle.j39_cli.specs.CommandWords as written;
 ghost use Rattle.j39_cli.specs.CommandWords.{IsAnswer};
-ghost use Rattle.j39_cli.specs.LogCommand.{IsRun};
+ghost use Rattle.j39_cli.specs.LogCommand.{log_limit};
 ghost use Rattle.j39_cli.specs.NodesCommand.{nodes_app, nodes_in};
 ghost use Rattle.j39_cli.specs.Rules.{IsMade, is_given};
 ghost use Rattle.j39_cli.specs.Task.{IsInRange};
 
 use crate::command::new_command;
-use crate::log::{LOG_LIMIT, copy_of, format_by, tell_end, with_csv, with_log};
+use crate::log::{LOG_LIMIT, format_by, with_csv, with_log};
 use crate::words::{bus_value, is_set};
 use crate::{Format, ParseFault, Task, WordText};
 use clap::{ArgMatches, Command};
 use j39_io::{Sink, Source};
-use j39_listen::nodes_csv;
+use j39_listen::{Counts, RunFault, nodes_csv};
 use j39_log::Bus;
 use std::alloc::{AllocError, Global};
 
@@ -64,28 +65,19 @@ pub(crate) fn task<'a>(given: &ArgMatches<'a>) -> Result<Task<'a>, ParseFault>
     }
 }
 
-/// Performs it: the lines go to `sink`, the counts or what failed to `err`.
-pub(crate) fn perform<R: Source, W: Sink, E: Sink>(
-    bus: &Option<Bus>,
+/// Reads a log, and writes who holds which address after it.
+pub(crate) fn run<R: Source, W: Sink>(
     format: Format,
     source: &mut R,
     sink: &mut W,
-    err: &mut E,
-) -> u8
-    ensures run { IsRun AsksNowhere (nodes_in format) bus.now result
-        (turn R.remaining R.has_failed source.old source.new)
-        (turn W.written W.has_failed sink.old sink.new)
-        (turn E.written E.has_failed err.old err.new) }
-    ensures flushed { result ≡ 0 → W.is_flushed sink.new ≡ true }
+    bus: Option<Bus>,
+) -> Result<Counts, RunFault>
+    ensures ran { Ran (nodes_in format) AsksNowhere bus log_limit result
+        (turn R.remaining R.has_failed source.old source.new) (turn W.written W.has_failed sink.old sink.new) }
+    ensures flushed { OnOk result (W.is_flushed sink.new ≡ true) }
 {
     match format {
-        Format::Lines => {
-            let end = j39_listen::nodes(source, sink, copy_of(bus), LOG_LIMIT);
-            tell_end(end, err)
-        }
-        Format::Csv => {
-            let end = nodes_csv(source, sink, copy_of(bus), LOG_LIMIT);
-            tell_end(end, err)
-        }
+        Format::Lines => j39_listen::nodes(source, sink, bus, LOG_LIMIT),
+        Format::Csv => nodes_csv(source, sink, bus, LOG_LIMIT),
     }
 }

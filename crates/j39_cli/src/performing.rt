@@ -4,7 +4,11 @@ ghost use Rattle.j39_io.specs.Turn.{turn};
 ghost use Rattle.j39_groups.specs.Table.{the_table};
 ghost use Rattle.j39_cli.specs.Task.{IsPerformed, reads_log};
 
-use crate::{Task, answer, cut, faults, groups, id, name, nodes, report, summary, survey};
+use crate::id::id_line;
+use crate::log::{copy_of, tell_end};
+use crate::name::name_lines;
+use crate::shown::show_text;
+use crate::{Task, answer, faults, groups, nodes, report, summary, survey};
 use j39_groups::Groups;
 use j39_io::{Sink, Source};
 use std::alloc::Global;
@@ -66,18 +70,25 @@ pub fn perform_with<R: Source, W: Sink, E: Sink>(
             report::perform(alloc, groups, bus, spns, *format, source, sink, err)
         }
         Task::Summary(bus, _, format, _) => {
-            summary::perform(alloc, groups, bus, *format, source, sink, err)
+            let bus = copy_of(bus);
+            tell_end(summary::run(alloc, groups, *format, source, sink, bus), err)
         }
         Task::Faults(bus, _, telling, format, _) => {
-            faults::perform(alloc, groups, bus, *telling, *format, source, sink, err)
+            let bus = copy_of(bus);
+            tell_end(
+                faults::run(alloc, groups, *telling, *format, source, sink, bus),
+                err,
+            )
         }
-        Task::Nodes(bus, format, _) => nodes::perform(bus, *format, source, sink, err),
+        Task::Nodes(bus, format, _) => {
+            tell_end(nodes::run(*format, source, sink, copy_of(bus)), err)
+        }
         Task::Answer(name, address, bus, _) => {
             answer::perform(alloc, *name, address, bus, source, sink, err)
         }
-        Task::Id(id) => id::perform(*id, sink, err),
-        Task::Name(name) => name::perform(*name, sink, err),
-        Task::Cut(outgoing) => cut::perform(outgoing, sink, err),
+        Task::Id(id) => show_text(id_line(*id).as_slice(), sink, err),
+        Task::Name(name) => show_text(name_lines(*name).as_slice(), sink, err),
+        Task::Cut(outgoing) => show_text(outgoing.lines().as_slice(), sink, err),
         Task::Groups(_) => groups::perform(groups, sink, err),
         Task::Survey(_, _) => survey::perform(alloc, groups, source, sink, err),
     }

@@ -1,24 +1,24 @@
 //! The command `report`: its words, and how it is performed.
-ghost use Rattle.std.specs.Prelude.{◌≡◌, ◌≢◌, ◌⊎◌, IfOk, codes, false, true, Err};
+ghost use Rattle.std.specs.Prelude.{◌≡◌, ◌≢◌, ◌⊎◌, IfOk, OnOk, codes, false, true, Err};
 ghost use Rattle.j39_io.specs.Turn.{turn};
 ghost use Rattle.clap.specs.Words.{first_value, found_of};
 ghost use Rattle.j39_listen.specs.Asking.{AsksForBoxes};
+ghost use Rattle.j39_listen.specs.Ran.{Ran};
 ghost use Rattle.j39_cli.specs.CommandWords as written;
 ghost use Rattle.j39_cli.specs.CommandWords.{IsAnswer};
-ghost use Rattle.j39_cli.specs.LogCommand.{IsRun};
+ghost use Rattle.j39_cli.specs.LogCommand.{log_limit};
 ghost use Rattle.j39_cli.specs.ReportCommand.{IsReportRun, makes_in, report_app};
 ghost use Rattle.j39_cli.specs.Rules.{IsMade, is_given};
 ghost use Rattle.j39_cli.specs.Task.{IsInRange};
 
 use crate::command::{new_command, with_option, with_table};
-use crate::log::{LOG_LIMIT, copy_of, format_by, tell_end, with_csv, with_log};
-use crate::refusal::complain;
+use crate::log::{LOG_LIMIT, copy_of, format_by, tell_end, tell_fault, with_csv, with_log};
 use crate::words::{bus_value, is_set, spns_value};
 use crate::{Format, ParseFault, Spns, Task, WordText};
 use clap::{ArgMatches, Command};
 use j39_groups::Groups;
 use j39_io::{Sink, Source};
-use j39_listen::run_with;
+use j39_listen::{Counts, RunFault, run_with};
 use j39_log::Bus;
 use j39_reports::report_csv;
 use std::alloc::{AllocError, Global};
@@ -101,41 +101,29 @@ pub(crate) fn perform<R: Source, W: Sink, E: Sink>(
     ensures flushed { result ≡ 0 → W.is_flushed sink.new ≡ true }
 {
     let Some(spns) = spns else {
-        return run_by(alloc, groups, bus, format, source, sink, err);
+        return tell_end(run(alloc, groups, format, source, sink, copy_of(bus)), err);
     };
     match groups.restricted_to(alloc, spns.as_slice()) {
-        Ok(kept) => run_by(alloc, &kept, bus, format, source, sink, err),
-        Err(AllocError) => {
-            complain(err, b"out of memory", b"");
-            1
-        }
+        Ok(kept) => tell_end(run(alloc, &kept, format, source, sink, copy_of(bus)), err),
+        Err(AllocError) => tell_fault(RunFault::Memory, err),
     }
 }
 
-fn run_by<R: Source, W: Sink, E: Sink>(
+/// Reads a log, and writes its report by a table of parameters.
+fn run<R: Source, W: Sink>(
     alloc: Global,
     groups: &Groups<'_>,
-    bus: &Option<Bus>,
     format: Format,
     source: &mut R,
     sink: &mut W,
-    err: &mut E,
-) -> u8
-    ensures run { IsRun AsksForBoxes (makes_in format groups.now) bus.now result
-        (turn R.remaining R.has_failed source.old source.new)
-        (turn W.written W.has_failed sink.old sink.new)
-        (turn E.written E.has_failed err.old err.new) }
-    ensures status { (result ≡ 0) ⊎ (result ≡ 1) }
-    ensures flushed { result ≡ 0 → W.is_flushed sink.new ≡ true }
+    bus: Option<Bus>,
+) -> Result<Counts, RunFault>
+    ensures ran { Ran (makes_in format groups.now) AsksForBoxes bus log_limit result
+        (turn R.remaining R.has_failed source.old source.new) (turn W.written W.has_failed sink.old sink.new) }
+    ensures flushed { OnOk result (W.is_flushed sink.new ≡ true) }
 {
     match format {
-        Format::Lines => {
-            let end = run_with(alloc, groups, source, sink, copy_of(bus), LOG_LIMIT);
-            tell_end(end, err)
-        }
-        Format::Csv => {
-            let end = report_csv(alloc, groups, source, sink, copy_of(bus), LOG_LIMIT);
-            tell_end(end, err)
-        }
+        Format::Lines => run_with(alloc, groups, source, sink, bus, LOG_LIMIT),
+        Format::Csv => report_csv(alloc, groups, source, sink, bus, LOG_LIMIT),
     }
 }

@@ -100,8 +100,8 @@ fn task_named<'a>(alloc: Global, name: &str, given: &ArgMatches<'a>) -> Result<T
     match name {
         "report" => report::task(given),
         "summary" => summary::task(given),
-        "id" => id::task(alloc, given),
-        "name" => name::task(alloc, given),
+        "id" => id::task(required(alloc, given, "hex")?),
+        "name" => name::task(required(alloc, given, "hex")?),
         "cut" => cut::task(alloc, given),
         "nodes" => nodes::task(given),
         "answer" => answer::task(alloc, given),
