@@ -16,6 +16,7 @@ use Rattle.j39_cli.specs.LogCommand.{runs, with_log}
 use Rattle.j39_cli.specs.NameCommand.{IsNameText}
 use Rattle.j39_cli.specs.Rules.{option_rule}
 use Rattle.j39_cli.specs.declared.task.Argument.TheVariants as argument
+use Rattle.j39_cli.specs.declared.task.LogInput.{LogInput}
 use Rattle.j39_cli.specs.declared.task.Task.{Task}
 use Rattle.j39_cli.specs.declared.task.Task.TheVariants.{Answer}
 
@@ -24,8 +25,8 @@ answer_app = with_log (with_rule (with_rule (new_app (codes "answer")) (option_r
     (option_rule (codes "address") true))
 
 abbrev pub IsNodeTask : ℕ → ℕ → Option (List ℕ) → Option (List ℕ) → Task → Type 0
-IsNodeTask node address bus file (Answer node' address' bus' file') =
-    (name_raw node' ≡ node) × (address' ≡ address) × (bus' ≡ bus) × (file' ≡ file)
+IsNodeTask node address bus file (Answer node' address' input) =
+    (name_raw node' ≡ node) × (address' ≡ address) × (input.bus ≡ bus) × (input.file ≡ file)
 IsNodeTask node address bus file t = ⊥
 
 abbrev pub answer_form : Text → Text → Option Text → Option Text → Form
@@ -37,7 +38,7 @@ answer_form node address bus file = record {
       (IsBusChecked bus (IsTask (IsNodeTask (digits_value 16 node) (digits_value 10 address) bus file))));
 }
 
-abbrev pub answer_meaning : ℕ → ℕ → Option (List ℕ) → Option (List ℕ) → Meaning
-answer_meaning name address bus file = record (runs (λ _. AsksForBoxes)
-    (λ _. MakesAnswers (idle_node name address)) bus file)
-    { InRange = (name < 2 ^ 64) × IsAddress address × ForSome bus IsBusName }
+abbrev pub answer_meaning : ℕ → ℕ → LogInput → Meaning
+answer_meaning name address input = record (runs (λ _. AsksForBoxes)
+    (λ _. MakesAnswers (idle_node name address)) input)
+    { InRange = (name < 2 ^ 64) × IsAddress address × ForSome input.bus IsBusName }

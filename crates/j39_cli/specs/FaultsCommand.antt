@@ -14,6 +14,7 @@ use Rattle.j39_cli.specs.LogCommand.{format_of, runs, with_log}
 use Rattle.j39_cli.specs.Rules.{flag_rule, with_table}
 use Rattle.j39_cli.specs.declared.task.Format.{Format}
 use Rattle.j39_cli.specs.declared.task.Format.TheVariants.{Csv, Lines}
+use Rattle.j39_cli.specs.declared.task.LogInput.{LogInput}
 use Rattle.j39_cli.specs.declared.task.Task.{Task}
 use Rattle.j39_cli.specs.declared.task.Task.TheVariants.{Faults}
 
@@ -26,8 +27,8 @@ abbrev pub telling_of : Bool → Telling
 telling_of all = if all then All else News
 
 abbrev pub IsFaultsTask : Option (List ℕ) → Option (List ℕ) → Bool → Bool → Option (List ℕ) → Task → Type 0
-IsFaultsTask bus table all csv file (Faults bus' table' telling format file') =
-    (bus' ≡ bus) × (table' ≡ table) × (telling ≡ telling_of all) × (format ≡ format_of csv) × (file' ≡ file)
+IsFaultsTask bus table all csv file (Faults input table' telling format) =
+    (input.bus ≡ bus) × (table' ≡ table) × (telling ≡ telling_of all) × (format ≡ format_of csv) × (input.file ≡ file)
 IsFaultsTask bus table all csv file t = ⊥
 
 abbrev pub faults_form : Option Text → Option Text → Bool → Bool → Option Text → Form
@@ -43,6 +44,6 @@ abbrev pub faults_in : Format → Telling → List RowRecord → Making
 faults_in Lines telling rows = MakesFaults rows telling
 faults_in Csv telling rows = MakesFaultRecords rows telling
 
-abbrev pub faults_meaning : Option (List ℕ) → Option (List ℕ) → Telling → Format → Option (List ℕ) → Meaning
-faults_meaning bus table telling format file =
-    record (runs (λ _. AsksForFaults) (λ rows. faults_in format telling rows) bus file) { table = table }
+abbrev pub faults_meaning : LogInput → Option (List ℕ) → Telling → Format → Meaning
+faults_meaning input table telling format =
+    record (runs (λ _. AsksForFaults) (λ rows. faults_in format telling rows) input) { table = table }

@@ -10,6 +10,7 @@ use Rattle.j39_cli.specs.LogCommand.{format_of, runs, with_log}
 use Rattle.j39_cli.specs.Rules.{flag_rule}
 use Rattle.j39_cli.specs.declared.task.Format.{Format}
 use Rattle.j39_cli.specs.declared.task.Format.TheVariants.{Csv, Lines}
+use Rattle.j39_cli.specs.declared.task.LogInput.{LogInput}
 use Rattle.j39_cli.specs.declared.task.Task.{Task}
 use Rattle.j39_cli.specs.declared.task.Task.TheVariants.{Nodes}
 
@@ -17,7 +18,8 @@ abbrev pub nodes_app : App
 nodes_app = with_log (with_rule (new_app (codes "nodes")) (flag_rule (codes "csv")))
 
 abbrev pub IsNodesTask : Option (List ℕ) → Bool → Option (List ℕ) → Task → Type 0
-IsNodesTask bus csv file (Nodes bus' format file') = (bus' ≡ bus) × (format ≡ format_of csv) × (file' ≡ file)
+IsNodesTask bus csv file (Nodes input format) =
+    (input.bus ≡ bus) × (format ≡ format_of csv) × (input.file ≡ file)
 IsNodesTask bus csv file t = ⊥
 
 abbrev pub nodes_form : Option Text → Bool → Option Text → Form
@@ -32,5 +34,5 @@ abbrev pub nodes_in : Format → Making
 nodes_in Lines = MakesNodes
 nodes_in Csv = MakesNodeRecords
 
-abbrev pub nodes_meaning : Option (List ℕ) → Format → Option (List ℕ) → Meaning
-nodes_meaning bus format file = runs (λ _. AsksNowhere) (λ _. nodes_in format) bus file
+abbrev pub nodes_meaning : LogInput → Format → Meaning
+nodes_meaning input format = runs (λ _. AsksNowhere) (λ _. nodes_in format) input

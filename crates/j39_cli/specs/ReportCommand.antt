@@ -20,6 +20,7 @@ use Rattle.j39_cli.specs.Rules.{flag_rule, option_rule, with_table}
 use Rattle.j39_cli.specs.Spns.{spns_in}
 use Rattle.j39_cli.specs.declared.task.Format.{Format}
 use Rattle.j39_cli.specs.declared.task.Format.TheVariants.{Csv, Lines}
+use Rattle.j39_cli.specs.declared.task.LogInput.{LogInput}
 use Rattle.j39_cli.specs.declared.task.Task.{Task}
 use Rattle.j39_cli.specs.declared.task.Task.TheVariants.{Report}
 
@@ -31,8 +32,9 @@ report_app =
     (flag_rule (codes "csv")))
 
 abbrev pub IsReportTask : Option (List ℕ) → Option (List ℕ) → Option (List ℕ) → Bool → Option (List ℕ) → Task → Type 0
-IsReportTask bus table spn csv file (Report bus' table' spns format file') =
-    (bus' ≡ bus) × (table' ≡ table) × (spns ≡ option_map spns_in spn) × (format ≡ format_of csv) × (file' ≡ file)
+IsReportTask bus table spn csv file (Report input table' spns format) =
+    (input.bus ≡ bus) × (table' ≡ table) × (spns ≡ option_map spns_in spn) × (format ≡ format_of csv)
+    × (input.file ≡ file)
 IsReportTask bus table spn csv file t = ⊥
 
 abbrev pub report_form : Option Text → Option Text → Option Text → Bool → Option Text → Form
@@ -64,11 +66,11 @@ IsReportRun (Some spns) format rows bus status log out err =
     ((kept : List RowRecord) × HaveSameGroups kept (rows_of_spns spns rows)
     × IsRun AsksForBoxes (makes_in format kept) bus status log out err) ⊎ IsNotBegun status log out err
 
-abbrev pub report_meaning : Option (List ℕ) → Option (List ℕ) → Option (List ℕ) → Format → Option (List ℕ) → Meaning
-report_meaning bus table spns format file = record {
-  file = opened_of file;
+abbrev pub report_meaning : LogInput → Option (List ℕ) → Option (List ℕ) → Format → Meaning
+report_meaning input table spns format = record {
+  file = opened_of input.file;
   table = table;
-  InRange = ForSome bus IsBusName;
+  InRange = ForSome input.bus IsBusName;
   reads_log = true;
-  Performs = λ rows status log out err. IsReportRun spns format rows bus status log out err;
+  Performs = λ rows status log out err. IsReportRun spns format rows input.bus status log out err;
 }

@@ -10,6 +10,7 @@ use Rattle.j39_cli.specs.LogCommand.{format_of, runs, with_log}
 use Rattle.j39_cli.specs.Rules.{flag_rule, with_table}
 use Rattle.j39_cli.specs.declared.task.Format.{Format}
 use Rattle.j39_cli.specs.declared.task.Format.TheVariants.{Csv, Lines}
+use Rattle.j39_cli.specs.declared.task.LogInput.{LogInput}
 use Rattle.j39_cli.specs.declared.task.Task.{Task}
 use Rattle.j39_cli.specs.declared.task.Task.TheVariants.{Summary}
 
@@ -17,8 +18,8 @@ abbrev pub summary_app : App
 summary_app = with_log (with_rule (with_table (new_app (codes "summary"))) (flag_rule (codes "csv")))
 
 abbrev pub IsSummaryTask : Option (List ℕ) → Option (List ℕ) → Bool → Option (List ℕ) → Task → Type 0
-IsSummaryTask bus table csv file (Summary bus' table' format file') =
-    (bus' ≡ bus) × (table' ≡ table) × (format ≡ format_of csv) × (file' ≡ file)
+IsSummaryTask bus table csv file (Summary input table' format) =
+    (input.bus ≡ bus) × (table' ≡ table) × (format ≡ format_of csv) × (input.file ≡ file)
 IsSummaryTask bus table csv file t = ⊥
 
 abbrev pub summary_form : Option Text → Option Text → Bool → Option Text → Form
@@ -33,6 +34,6 @@ abbrev pub summary_in : Format → List RowRecord → Making
 summary_in Lines rows = MakesSummary rows
 summary_in Csv rows = MakesSummaryRecords rows
 
-abbrev pub summary_meaning : Option (List ℕ) → Option (List ℕ) → Format → Option (List ℕ) → Meaning
-summary_meaning bus table format file =
-    record (runs (λ rows. AsksForRows rows) (λ rows. summary_in format rows) bus file) { table = table }
+abbrev pub summary_meaning : LogInput → Option (List ℕ) → Format → Meaning
+summary_meaning input table format =
+    record (runs (λ rows. AsksForRows rows) (λ rows. summary_in format rows) input) { table = table }

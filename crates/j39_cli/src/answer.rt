@@ -19,8 +19,8 @@ use crate::command::{new_command, with_option};
 use crate::cut_values::source_of;
 use crate::log::{LOG_LIMIT, copy_of, tell_end, with_log};
 use crate::name::name_of;
-use crate::words::{bus_value, required};
-use crate::{Address, Argument, ParseFault, Task, WordText};
+use crate::words::{log_input, required};
+use crate::{Address, Argument, ParseFault, Task};
 use clap::{ArgMatches, Command};
 use j39_address::Name;
 use j39_io::{Sink, Source};
@@ -88,9 +88,12 @@ fn task_of<'a>(name: &str, address: &str, given: &ArgMatches<'a>) -> Result<Task
     let Some(address) = address_of(address) else {
         return Err(ParseFault::BadValue(Argument::Address));
     };
-    let file = given.get_str("file").map(WordText::new);
-    match bus_value(given) {
-        Ok(bus) => Ok(Task::Answer(name, address, bus, file)),
+    match log_input(given) {
+        Ok(input) => Ok(Task::Answer {
+            name,
+            address,
+            input,
+        }),
         Err(fault) => Err(fault),
     }
 }

@@ -1,19 +1,18 @@
 //! The command `faults`: its words, and how it is performed.
 ghost use Rattle.std.specs.Prelude.{◌≡◌, ◌≢◌, IfOk, OnOk, codes, true, Err};
 ghost use Rattle.j39_io.specs.Turn.{turn};
-ghost use Rattle.clap.specs.Words.{first_value, found_of};
+ghost use Rattle.clap.specs.Words.{found_of};
 ghost use Rattle.j39_reports.specs.FaultAsking.{AsksForFaults};
 ghost use Rattle.j39_listen.specs.Ran.{Ran};
-ghost use Rattle.j39_cli.specs.CommandWords as written;
-ghost use Rattle.j39_cli.specs.CommandWords.{IsAnswer};
+ghost use Rattle.j39_cli.specs.CommandWords.{IsAnswer, command_found};
 ghost use Rattle.j39_cli.specs.FaultsCommand.{faults_app, faults_in, telling_of};
 ghost use Rattle.j39_cli.specs.LogCommand.{log_limit};
-ghost use Rattle.j39_cli.specs.Rules.{IsMade, is_given};
+ghost use Rattle.j39_cli.specs.Rules.{IsMade};
 ghost use Rattle.j39_cli.specs.Task.{IsInRange};
 
 use crate::command::{new_command, with_flag, with_table};
-use crate::log::{LOG_LIMIT, format_by, with_csv, with_log};
-use crate::words::{bus_value, is_set};
+use crate::log::{LOG_LIMIT, with_csv, with_log};
+use crate::words::{format_given, is_set, log_input};
 use crate::{Format, ParseFault, Task, WordText};
 use clap::{ArgMatches, Command};
 use j39_groups::Groups;
@@ -60,19 +59,20 @@ pub(crate) fn command<'a>(alloc: Global) -> Result<Command<'a>, AllocError>
 
 /// The task that its words ask for.
 pub(crate) fn task<'a>(given: &ArgMatches<'a>) -> Result<Task<'a>, ParseFault>
-    ensures answer { IsAnswer (written.faults (first_value (found_of given.now) (codes "bus"))
-        (first_value (found_of given.now) (codes "table")) (is_given (first_value (found_of given.now) (codes "all")))
-        (is_given (first_value (found_of given.now) (codes "csv")))
-        (first_value (found_of given.now) (codes "file"))) result }
+    ensures answer { IsAnswer (command_found (codes "faults") (found_of given.now)) result }
     ensures memory { result ≢ Err ParseFault.Memory }
     ensures in_range { IfOk result IsInRange }
 {
     let table = given.get_str("table").map(WordText::new);
     let telling = telling_by(is_set(given, "all"));
-    let format = format_by(is_set(given, "csv"));
-    let file = given.get_str("file").map(WordText::new);
-    match bus_value(given) {
-        Ok(bus) => Ok(Task::Faults(bus, table, telling, format, file)),
+    let format = format_given(given);
+    match log_input(given) {
+        Ok(input) => Ok(Task::Faults {
+            input,
+            table,
+            telling,
+            format,
+        }),
         Err(fault) => Err(fault),
     }
 }

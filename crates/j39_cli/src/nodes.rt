@@ -1,20 +1,19 @@
 //! The command `nodes`: its words, and how it is performed.
 ghost use Rattle.std.specs.Prelude.{◌≡◌, ◌≢◌, IfOk, OnOk, codes, true, Err};
 ghost use Rattle.j39_io.specs.Turn.{turn};
-ghost use Rattle.clap.specs.Words.{first_value, found_of};
+ghost use Rattle.clap.specs.Words.{found_of};
 ghost use Rattle.j39_listen.specs.Asking.{AsksNowhere};
 ghost use Rattle.j39_listen.specs.Ran.{Ran};
-ghost use Rattle.j39_cli.specs.CommandWords as written;
-ghost use Rattle.j39_cli.specs.CommandWords.{IsAnswer};
+ghost use Rattle.j39_cli.specs.CommandWords.{IsAnswer, command_found};
 ghost use Rattle.j39_cli.specs.LogCommand.{log_limit};
 ghost use Rattle.j39_cli.specs.NodesCommand.{nodes_app, nodes_in};
-ghost use Rattle.j39_cli.specs.Rules.{IsMade, is_given};
+ghost use Rattle.j39_cli.specs.Rules.{IsMade};
 ghost use Rattle.j39_cli.specs.Task.{IsInRange};
 
 use crate::command::new_command;
-use crate::log::{LOG_LIMIT, format_by, with_csv, with_log};
-use crate::words::{bus_value, is_set};
-use crate::{Format, ParseFault, Task, WordText};
+use crate::log::{LOG_LIMIT, with_csv, with_log};
+use crate::words::{format_given, log_input};
+use crate::{Format, ParseFault, Task};
 use clap::{ArgMatches, Command};
 use j39_io::{Sink, Source};
 use j39_listen::{Counts, RunFault, nodes_csv};
@@ -51,16 +50,13 @@ pub(crate) fn command<'a>(alloc: Global) -> Result<Command<'a>, AllocError>
 
 /// The task that its words ask for.
 pub(crate) fn task<'a>(given: &ArgMatches<'a>) -> Result<Task<'a>, ParseFault>
-    ensures answer { IsAnswer (written.nodes (first_value (found_of given.now) (codes "bus"))
-        (is_given (first_value (found_of given.now) (codes "csv")))
-        (first_value (found_of given.now) (codes "file"))) result }
+    ensures answer { IsAnswer (command_found (codes "nodes") (found_of given.now)) result }
     ensures memory { result ≢ Err ParseFault.Memory }
     ensures in_range { IfOk result IsInRange }
 {
-    let file = given.get_str("file").map(WordText::new);
-    let format = format_by(is_set(given, "csv"));
-    match bus_value(given) {
-        Ok(bus) => Ok(Task::Nodes(bus, format, file)),
+    let format = format_given(given);
+    match log_input(given) {
+        Ok(input) => Ok(Task::Nodes { input, format }),
         Err(fault) => Err(fault),
     }
 }

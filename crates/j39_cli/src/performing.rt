@@ -66,30 +66,41 @@ pub fn perform_with<R: Source, W: Sink, E: Sink>(
     ensures silent { reads_log task.now ≡ false → result ≡ 0 → err.new ≡ err.old }
 {
     match task {
-        Task::Report(bus, _, spns, format, _) => {
-            report::perform(alloc, groups, bus, spns, *format, source, sink, err)
-        }
-        Task::Summary(bus, _, format, _) => {
-            let bus = copy_of(bus);
+        Task::Report {
+            input,
+            spns,
+            format,
+            ..
+        } => { report::perform(alloc, groups, &input.bus, spns, *format, source, sink, err) }
+        Task::Summary { input, format, .. } => {
+            let bus = copy_of(&input.bus);
             tell_end(summary::run(alloc, groups, *format, source, sink, bus), err)
         }
-        Task::Faults(bus, _, telling, format, _) => {
-            let bus = copy_of(bus);
+        Task::Faults {
+            input,
+            telling,
+            format,
+            ..
+        } => {
+            let bus = copy_of(&input.bus);
             tell_end(
                 faults::run(alloc, groups, *telling, *format, source, sink, bus),
                 err,
             )
         }
-        Task::Nodes(bus, format, _) => {
-            tell_end(nodes::run(*format, source, sink, copy_of(bus)), err)
+        Task::Nodes { input, format } => {
+            let bus = copy_of(&input.bus);
+            tell_end(nodes::run(*format, source, sink, bus), err)
         }
-        Task::Answer(name, address, bus, _) => {
-            answer::perform(alloc, *name, address, bus, source, sink, err)
-        }
+        Task::Answer {
+            name,
+            address,
+            input,
+        } => { answer::perform(alloc, *name, address, &input.bus, source, sink, err) }
         Task::Id(id) => show_text(id_line(*id).as_slice(), sink, err),
         Task::Name(name) => show_text(name_lines(*name).as_slice(), sink, err),
         Task::Cut(outgoing) => show_text(outgoing.lines().as_slice(), sink, err),
         Task::Groups(_) => groups::perform(groups, sink, err),
-        Task::Survey(_, _) => survey::perform(alloc, groups, source, sink, err),
+        Task::Survey { .. } => survey::perform(alloc, groups, source, sink, err),
     }
 }

@@ -1,19 +1,18 @@
 //! The command `report`: its words, and how it is performed.
 ghost use Rattle.std.specs.Prelude.{◌≡◌, ◌≢◌, ◌⊎◌, IfOk, OnOk, codes, false, true, Err};
 ghost use Rattle.j39_io.specs.Turn.{turn};
-ghost use Rattle.clap.specs.Words.{first_value, found_of};
+ghost use Rattle.clap.specs.Words.{found_of};
 ghost use Rattle.j39_listen.specs.Asking.{AsksForBoxes};
 ghost use Rattle.j39_listen.specs.Ran.{Ran};
-ghost use Rattle.j39_cli.specs.CommandWords as written;
-ghost use Rattle.j39_cli.specs.CommandWords.{IsAnswer};
+ghost use Rattle.j39_cli.specs.CommandWords.{IsAnswer, command_found};
 ghost use Rattle.j39_cli.specs.LogCommand.{log_limit};
 ghost use Rattle.j39_cli.specs.ReportCommand.{IsReportRun, makes_in, report_app};
-ghost use Rattle.j39_cli.specs.Rules.{IsMade, is_given};
+ghost use Rattle.j39_cli.specs.Rules.{IsMade};
 ghost use Rattle.j39_cli.specs.Task.{IsInRange};
 
 use crate::command::{new_command, with_option, with_table};
-use crate::log::{LOG_LIMIT, copy_of, format_by, tell_end, tell_fault, with_csv, with_log};
-use crate::words::{bus_value, is_set, spns_value};
+use crate::log::{LOG_LIMIT, copy_of, tell_end, tell_fault, with_csv, with_log};
+use crate::words::{format_given, log_input, spns_value};
 use crate::{Format, ParseFault, Spns, Task, WordText};
 use clap::{ArgMatches, Command};
 use j39_groups::Groups;
@@ -61,22 +60,23 @@ pub(crate) fn command<'a>(alloc: Global) -> Result<Command<'a>, AllocError>
 
 /// The task that its words ask for.
 pub(crate) fn task<'a>(given: &ArgMatches<'a>) -> Result<Task<'a>, ParseFault>
-    ensures answer { IsAnswer (written.report (first_value (found_of given.now) (codes "bus"))
-        (first_value (found_of given.now) (codes "table")) (first_value (found_of given.now) (codes "spn"))
-        (is_given (first_value (found_of given.now) (codes "csv")))
-        (first_value (found_of given.now) (codes "file"))) result }
+    ensures answer { IsAnswer (command_found (codes "report") (found_of given.now)) result }
     ensures memory { result ≢ Err ParseFault.Memory }
     ensures in_range { IfOk result IsInRange }
 {
     let table = given.get_str("table").map(WordText::new);
-    let format = format_by(is_set(given, "csv"));
-    let file = given.get_str("file").map(WordText::new);
-    let bus = match bus_value(given) {
-        Ok(bus) => bus,
+    let format = format_given(given);
+    let input = match log_input(given) {
+        Ok(input) => input,
         Err(fault) => return Err(fault),
     };
     match spns_value(given) {
-        Ok(spns) => Ok(Task::Report(bus, table, spns, format, file)),
+        Ok(spns) => Ok(Task::Report {
+            input,
+            table,
+            spns,
+            format,
+        }),
         Err(fault) => Err(fault),
     }
 }

@@ -2,7 +2,7 @@
 use Rattle.std.proofs.Common.{codes, refl}
 use Rattle.clap.specs.Words.{found_of}
 use Rattle.j39_cli.specs.CommandWords.{cut}
-use Rattle.j39_cli.proofs.MetLemmas.{is_missing, tells, tells_none}
+use Rattle.j39_cli.proofs.MetLemmas.{tells, tells_none}
 use Rattle.j39_cli.proofs.cut.task.Goals as goal
 
 pub returns-clause-tells : goal.returns-clause-tells
@@ -21,21 +21,21 @@ returns-clause-tells c = tells _ (found_of c.args.given.now) c.task_of.result (c
 ) c.task_of.ensures.answer
 
 pub returns-in_err-source-clause-tells : goal.returns-in_err-source-clause-tells
-returns-in_err-source-clause-tells c = tells_none _ (codes "cut") (found_of c.args.given.now) _ refl c.from_residual.ensures.0
-    (λ texts. is_missing (found_of c.args.given.now) (codes "source") _ c.in_err-source.ensures.err texts.0)
+returns-in_err-source-clause-tells c = tells_none _ (codes "cut") (found_of c.args.given.now) _ (codes "source") _ refl
+    c.from_residual.ensures.0 c.in_err-source.ensures.err (λ are. are.0)
 
 pub returns-in_err-pgn-clause-tells : goal.returns-in_err-pgn-clause-tells
-returns-in_err-pgn-clause-tells c = tells_none _ (codes "cut") (found_of c.args.given.now) _ refl c.from_residual-in_err-pgn.ensures.0
-    (λ texts. is_missing (found_of c.args.given.now) (codes "pgn") _ c.in_err-pgn.ensures.err texts.1.0)
+returns-in_err-pgn-clause-tells c = tells_none _ (codes "cut") (found_of c.args.given.now) _ (codes "pgn") _ refl
+    c.from_residual-in_err-pgn.ensures.0 c.in_err-pgn.ensures.err (λ are. are.1.0)
 
 pub returns-in_err-at-clause-tells : goal.returns-in_err-at-clause-tells
-returns-in_err-at-clause-tells c = tells_none _ (codes "cut") (found_of c.args.given.now) _ refl c.from_residual-in_err-at.ensures.0
-    (λ texts. is_missing (found_of c.args.given.now) (codes "at") _ c.in_err-at.ensures.err texts.1.1.0)
+returns-in_err-at-clause-tells c = tells_none _ (codes "cut") (found_of c.args.given.now) _ (codes "at") _ refl
+    c.from_residual-in_err-at.ensures.0 c.in_err-at.ensures.err (λ are. are.1.1.0)
 
 pub returns-in_err-bus-clause-tells : goal.returns-in_err-bus-clause-tells
-returns-in_err-bus-clause-tells c = tells_none _ (codes "cut") (found_of c.args.given.now) _ refl c.from_residual-in_err-bus.ensures.0
-    (λ texts. is_missing (found_of c.args.given.now) (codes "bus") _ c.in_err-bus.ensures.err texts.1.1.1.0)
+returns-in_err-bus-clause-tells c = tells_none _ (codes "cut") (found_of c.args.given.now) _ (codes "bus") _ refl
+    c.from_residual-in_err-bus.ensures.0 c.in_err-bus.ensures.err (λ are. are.1.1.1.0)
 
 pub returns-in_err-hex-clause-tells : goal.returns-in_err-hex-clause-tells
-returns-in_err-hex-clause-tells c = tells_none _ (codes "cut") (found_of c.args.given.now) _ refl c.from_residual-in_err-hex.ensures.0
-    (λ texts. is_missing (found_of c.args.given.now) (codes "hex") _ c.in_err-hex.ensures.err texts.1.1.1.1.0)
+returns-in_err-hex-clause-tells c = tells_none _ (codes "cut") (found_of c.args.given.now) _ (codes "hex") _ refl
+    c.from_residual-in_err-hex.ensures.0 c.in_err-hex.ensures.err (λ are. are.1.1.1.1.0)

@@ -2,7 +2,7 @@
 use Rattle.std.proofs.Common.{codes, refl}
 use Rattle.clap.specs.Words.{found_of}
 use Rattle.j39_cli.specs.CommandWords.{faults, groups, id, name, nodes, report, summary, survey}
-use Rattle.j39_cli.proofs.MetLemmas.{is_missing, tells, tells_none}
+use Rattle.j39_cli.proofs.MetLemmas.{tells, tells_none}
 use Rattle.j39_cli.proofs.words.task_named.Goals as goal
 
 pub returns-in-report-clause-tells : goal.returns-in-report-clause-tells
@@ -28,15 +28,13 @@ returns-in_ok-required-in-id-clause-tells c = tells _ (found_of c.args.given.now
     (c.in_ok-required-in-id.ensures.ok, tt) c.task-in-id.ensures.answer
 
 pub returns-in_err-required-in-id-clause-tells : goal.returns-in_err-required-in-id-clause-tells
-returns-in_err-required-in-id-clause-tells c =
-    tells_none _ (codes "id") (found_of c.args.given.now) _ c.in-id.is c.from_residual.ensures.0
-    (λ texts. is_missing (found_of c.args.given.now) (codes "hex") _ c.in_err-required-in-id.ensures.err texts.0)
+returns-in_err-required-in-id-clause-tells c = tells_none _ (codes "id") (found_of c.args.given.now) _ (codes "hex") _
+    c.in-id.is c.from_residual.ensures.0 c.in_err-required-in-id.ensures.err (λ are. are.0)
 
 pub returns-in_ok-required-in-name-clause-tells : goal.returns-in_ok-required-in-name-clause-tells
 returns-in_ok-required-in-name-clause-tells c = tells _ (found_of c.args.given.now) c.task-in-name.result (name _) c.in-name.is
     (c.in_ok-required-in-name.ensures.ok, tt) c.task-in-name.ensures.answer
 
 pub returns-in_err-required-in-name-clause-tells : goal.returns-in_err-required-in-name-clause-tells
-returns-in_err-required-in-name-clause-tells c =
-    tells_none _ (codes "name") (found_of c.args.given.now) _ c.in-name.is c.from_residual-in_err-required-in-name.ensures.0
-    (λ texts. is_missing (found_of c.args.given.now) (codes "hex") _ c.in_err-required-in-name.ensures.err texts.0)
+returns-in_err-required-in-name-clause-tells c = tells_none _ (codes "name") (found_of c.args.given.now) _ (codes "hex") _
+    c.in-name.is c.from_residual-in_err-required-in-name.ensures.0 c.in_err-required-in-name.ensures.err (λ are. are.0)
