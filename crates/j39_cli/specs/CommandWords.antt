@@ -1,5 +1,5 @@
 -- The commands, each with the texts of its values.
-use Rattle.std.specs.Prelude.{◌≡◌, ◌∷◌, [], Bool, List, Option, IfOk, codes, if◌then◌else◌}
+use Rattle.std.specs.Prelude.{◌≡◌, ◌≢◌, ◌∷◌, [], Bool, List, Option, Err, IfOk, codes, if◌then◌else◌}
 use Rattle.std.specs.Option.{option_map_or}
 use Rattle.std.specs.Str.{bytes_eq}
 use Rattle.clap.specs.Words.{Row, Text, first_value, rows_of}
@@ -15,6 +15,8 @@ use Rattle.j39_cli.specs.NameCommand.{name_form}
 use Rattle.j39_cli.specs.NodesCommand.{nodes_form}
 use Rattle.j39_cli.specs.ReportCommand.{report_form}
 use Rattle.j39_cli.specs.Rules.{is_given}
+use Rattle.j39_cli.specs.Task.{IsInRange}
+use Rattle.j39_cli.specs.declared.task.ParseFault.TheVariants.{Memory}
 use Rattle.j39_cli.specs.SummaryCommand.{summary_form}
 use Rattle.j39_cli.specs.SurveyCommand.{survey_form}
 
@@ -81,6 +83,12 @@ command_found called found =
 -- the values are checked in the order of the words, and the first wrong one is the answer
 abbrev pub IsAnswer : CommandWords → Answer → Type 0
 IsAnswer s r = (form_of s).Answers r
+
+-- what is answered at once: no memory is wanted, and a task is in range
+pub record IsAnswered (s : CommandWords) (r : Answer) : Type 0 where
+  pub answer : IsAnswer s r
+  pub memory : r ≢ Err Memory
+  pub in_range : IfOk r IsInRange
 
 -- each command of this name that has these texts is answered, and each task is that of one
 pub record Tells (called : Text) (found : Found) (r : Answer) : Type 0 where

@@ -9,7 +9,7 @@ ghost use Rattle.j39_listen.specs.Asking.{AsksForBoxes};
 ghost use Rattle.j39_listen.specs.Output.{MakesAnswers};
 ghost use Rattle.j39_cli.specs.AnswerCommand.{answer_app};
 ghost use Rattle.j39_cli.specs.CommandWords as written;
-ghost use Rattle.j39_cli.specs.CommandWords.{IsAnswer, Tells};
+ghost use Rattle.j39_cli.specs.CommandWords.{IsAnswered, Tells};
 ghost use Rattle.j39_cli.specs.Numbers.{IsNumberBelow};
 ghost use Rattle.j39_cli.specs.LogCommand.{IsRun};
 ghost use Rattle.j39_cli.specs.Task.{IsInRange};
@@ -77,10 +77,8 @@ pub(crate) fn task<'a>(alloc: Global, given: &ArgMatches<'a>) -> Result<Task<'a>
 
 /// The task of these texts: the values are checked in their order.
 fn task_of<'a>(name: &str, address: &str, given: &ArgMatches<'a>) -> Result<Task<'a>, ParseFault>
-    ensures answer { IsAnswer (written.answer name.now address.now (first_value (found_of given.now) (codes "bus"))
+    ensures { IsAnswered (written.answer name.now address.now (first_value (found_of given.now) (codes "bus"))
         (first_value (found_of given.now) (codes "file"))) result }
-    ensures memory { result ≢ Err ParseFault.Memory }
-    ensures in_range { IfOk result IsInRange }
 {
     let Some(name) = name_of(name) else {
         return Err(ParseFault::BadValue(Argument::Name));

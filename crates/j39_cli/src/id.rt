@@ -4,9 +4,8 @@ ghost use Rattle.std.specs.Str.Parse.{digits_value};
 ghost use Rattle.arrayvec.specs.ArrayVec.{array_vec_len};
 ghost use Rattle.j39_frame.specs.Identifier.{id_raw};
 ghost use Rattle.j39_cli.specs.CommandWords as written;
-ghost use Rattle.j39_cli.specs.CommandWords.{IsAnswer};
+ghost use Rattle.j39_cli.specs.CommandWords.{IsAnswered};
 ghost use Rattle.j39_cli.specs.IdCommand.{IsIdText, destination_text, id_app, id_text};
-ghost use Rattle.j39_cli.specs.Task.{IsInRange};
 ghost use Rattle.j39_cli.specs.Rules.{IsMade};
 
 use crate::command::hex_command;
@@ -42,9 +41,7 @@ pub(crate) fn command<'a>(alloc: Global) -> Result<Command<'a>, AllocError>
 
 /// The task that its word asks for.
 pub(crate) fn task<'a>(hex: &str) -> Result<Task<'a>, ParseFault>
-    ensures answer { IsAnswer (written.id hex.now) result }
-    ensures memory { result ≢ Err ParseFault.Memory }
-    ensures in_range { IfOk result IsInRange }
+    ensures { IsAnswered (written.id hex.now) result }
 {
     match id_of(hex) {
         Some(id) => Ok(Task::Id(id)),

@@ -4,11 +4,10 @@ ghost use Rattle.j39_io.specs.Turn.{turn};
 ghost use Rattle.clap.specs.Words.{found_of};
 ghost use Rattle.j39_reports.specs.SummaryRun.{AsksForRows};
 ghost use Rattle.j39_listen.specs.Ran.{Ran};
-ghost use Rattle.j39_cli.specs.CommandWords.{IsAnswer, command_found};
+ghost use Rattle.j39_cli.specs.CommandWords.{IsAnswered, command_found};
 ghost use Rattle.j39_cli.specs.LogCommand.{log_limit};
 ghost use Rattle.j39_cli.specs.SummaryCommand.{summary_app, summary_in};
 ghost use Rattle.j39_cli.specs.Rules.{IsMade};
-ghost use Rattle.j39_cli.specs.Task.{IsInRange};
 
 use crate::command::{new_command, with_table};
 use crate::log::{LOG_LIMIT, with_csv, with_log};
@@ -51,9 +50,7 @@ pub(crate) fn command<'a>(alloc: Global) -> Result<Command<'a>, AllocError>
 
 /// The task that its words ask for.
 pub(crate) fn task<'a>(given: &ArgMatches<'a>) -> Result<Task<'a>, ParseFault>
-    ensures answer { IsAnswer (command_found (codes "summary") (found_of given.now)) result }
-    ensures memory { result ≢ Err ParseFault.Memory }
-    ensures in_range { IfOk result IsInRange }
+    ensures { IsAnswered (command_found (codes "summary") (found_of given.now)) result }
 {
     let table = given.get_str("table").map(WordText::new);
     let format = format_given(given);
