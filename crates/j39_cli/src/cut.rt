@@ -1,5 +1,5 @@
 //! The command `cut`: its words, and how it is performed.
-ghost use Rattle.std.specs.Prelude.{IfOk, codes, true};
+ghost use Rattle.std.specs.Prelude.{IfOk, codes};
 ghost use Rattle.clap.specs.Words.{found_of};
 ghost use Rattle.j39_cli.specs.CommandWords as written;
 ghost use Rattle.j39_cli.specs.CommandWords.{IsAnswer, Tells};

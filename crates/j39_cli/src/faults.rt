@@ -1,5 +1,5 @@
 //! The command `faults`: its words, and how it is performed.
-ghost use Rattle.std.specs.Prelude.{◌≡◌, ◌≢◌, IfOk, OnOk, codes, true, Err};
+ghost use Rattle.std.specs.Prelude.{◌≡◌, OnOk, codes, true};
 ghost use Rattle.j39_io.specs.Turn.{turn};
 ghost use Rattle.clap.specs.Words.{found_of};
 ghost use Rattle.j39_reports.specs.FaultAsking.{AsksForFaults};
@@ -10,7 +10,7 @@ ghost use Rattle.j39_cli.specs.LogCommand.{log_limit};
 ghost use Rattle.j39_cli.specs.Rules.{IsMade};
 
 use crate::command::{new_command, with_flag, with_table};
-use crate::log::{LOG_LIMIT, with_csv, with_log};
+use crate::log::{LOG_LIMIT, copy_of, with_csv, with_log};
 use crate::words::{format_given, is_set, log_input};
 use crate::{Format, ParseFault, Task, WordText};
 use clap::{ArgMatches, Command};
@@ -87,16 +87,32 @@ pub(crate) fn run<R: Source, W: Sink>(
     groups: &Groups<'_>,
     telling: Telling,
     format: Format,
+    bus: &Option<Bus>,
     source: &mut R,
     sink: &mut W,
-    bus: Option<Bus>,
 ) -> Result<Counts, RunFault>
-    ensures ran { Ran (faults_in format telling groups.now) AsksForFaults bus log_limit result
+    ensures ran { Ran (faults_in format telling groups.now) AsksForFaults bus.now log_limit result
         (turn R.remaining R.has_failed source.old source.new) (turn W.written W.has_failed sink.old sink.new) }
     ensures flushed { OnOk result (W.is_flushed sink.new ≡ true) }
 {
     match format {
-        Format::Lines => j39_reports::faults(alloc, groups, telling, source, sink, bus, LOG_LIMIT),
-        Format::Csv => faults_csv(alloc, groups, telling, source, sink, bus, LOG_LIMIT),
+        Format::Lines => j39_reports::faults(
+            alloc,
+            groups,
+            telling,
+            source,
+            sink,
+            copy_of(bus),
+            LOG_LIMIT,
+        ),
+        Format::Csv => faults_csv(
+            alloc,
+            groups,
+            telling,
+            source,
+            sink,
+            copy_of(bus),
+            LOG_LIMIT,
+        ),
     }
 }

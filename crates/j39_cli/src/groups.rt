@@ -1,5 +1,5 @@
 //! The command `groups`: its words, and how it is performed.
-ghost use Rattle.std.specs.Prelude.{◌≡◌, ◌≢◌, IfOk, OnErr, OnOk, codes, true, Err};
+ghost use Rattle.std.specs.Prelude.{◌≡◌, OnErr, OnOk, codes, true};
 ghost use Rattle.std.specs.Io.KnownBytes.{Appends};
 ghost use Rattle.clap.specs.Words.{found_of};
 ghost use Rattle.j39_io.specs.Device.{AppendsFront, Marks};

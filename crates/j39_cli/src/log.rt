@@ -1,5 +1,5 @@
 //! What the commands that read a log have in common.
-ghost use Rattle.std.specs.Prelude.{◌≡◌, ◌≤◌, [], codes, false, length};
+ghost use Rattle.std.specs.Prelude.{◌≡◌, [], codes};
 ghost use Rattle.j39_io.specs.Turn.{Writes, turn};
 ghost use Rattle.clap.specs.Words.{App, with_rule};
 ghost use Rattle.j39_cli.specs.LogCommand.{IsTold, fault_text, with_log};

@@ -1,5 +1,5 @@
 //! The command `nodes`: its words, and how it is performed.
-ghost use Rattle.std.specs.Prelude.{◌≡◌, ◌≢◌, IfOk, OnOk, codes, true, Err};
+ghost use Rattle.std.specs.Prelude.{◌≡◌, OnOk, codes, true};
 ghost use Rattle.j39_io.specs.Turn.{turn};
 ghost use Rattle.clap.specs.Words.{found_of};
 ghost use Rattle.j39_listen.specs.Asking.{AsksNowhere};
@@ -10,7 +10,7 @@ ghost use Rattle.j39_cli.specs.NodesCommand.{nodes_app, nodes_in};
 ghost use Rattle.j39_cli.specs.Rules.{IsMade};
 
 use crate::command::new_command;
-use crate::log::{LOG_LIMIT, with_csv, with_log};
+use crate::log::{LOG_LIMIT, copy_of, with_csv, with_log};
 use crate::words::{format_given, log_input};
 use crate::{Format, ParseFault, Task};
 use clap::{ArgMatches, Command};
@@ -61,16 +61,16 @@ pub(crate) fn task<'a>(given: &ArgMatches<'a>) -> Result<Task<'a>, ParseFault>
 /// Reads a log, and writes who holds which address after it.
 pub(crate) fn run<R: Source, W: Sink>(
     format: Format,
+    bus: &Option<Bus>,
     source: &mut R,
     sink: &mut W,
-    bus: Option<Bus>,
 ) -> Result<Counts, RunFault>
-    ensures ran { Ran (nodes_in format) AsksNowhere bus log_limit result
+    ensures ran { Ran (nodes_in format) AsksNowhere bus.now log_limit result
         (turn R.remaining R.has_failed source.old source.new) (turn W.written W.has_failed sink.old sink.new) }
     ensures flushed { OnOk result (W.is_flushed sink.new ≡ true) }
 {
     match format {
-        Format::Lines => j39_listen::nodes(source, sink, bus, LOG_LIMIT),
-        Format::Csv => nodes_csv(source, sink, bus, LOG_LIMIT),
+        Format::Lines => j39_listen::nodes(source, sink, copy_of(bus), LOG_LIMIT),
+        Format::Csv => nodes_csv(source, sink, copy_of(bus), LOG_LIMIT),
     }
 }

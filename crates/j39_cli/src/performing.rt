@@ -5,7 +5,7 @@ ghost use Rattle.j39_groups.specs.Table.{the_table};
 ghost use Rattle.j39_cli.specs.Task.{IsPerformed, reads_log};
 
 use crate::id::id_line;
-use crate::log::{copy_of, tell_end};
+use crate::log::tell_end;
 use crate::name::name_lines;
 use crate::shown::show_text;
 use crate::{Task, answer, faults, groups, nodes, report, summary, survey};
@@ -73,8 +73,8 @@ pub fn perform_with<R: Source, W: Sink, E: Sink>(
             ..
         } => { report::perform(alloc, groups, &input.bus, spns, *format, source, sink, err) }
         Task::Summary { input, format, .. } => {
-            let bus = copy_of(&input.bus);
-            tell_end(summary::run(alloc, groups, *format, source, sink, bus), err)
+            let end = summary::run(alloc, groups, *format, &input.bus, source, sink);
+            tell_end(end, err)
         }
         Task::Faults {
             input,
@@ -82,15 +82,12 @@ pub fn perform_with<R: Source, W: Sink, E: Sink>(
             format,
             ..
         } => {
-            let bus = copy_of(&input.bus);
-            tell_end(
-                faults::run(alloc, groups, *telling, *format, source, sink, bus),
-                err,
-            )
+            let bus = &input.bus;
+            let end = faults::run(alloc, groups, *telling, *format, bus, source, sink);
+            tell_end(end, err)
         }
         Task::Nodes { input, format } => {
-            let bus = copy_of(&input.bus);
-            tell_end(nodes::run(*format, source, sink, bus), err)
+            tell_end(nodes::run(*format, &input.bus, source, sink), err)
         }
         Task::Answer {
             name,

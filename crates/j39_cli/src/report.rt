@@ -1,5 +1,5 @@
 //! The command `report`: its words, and how it is performed.
-ghost use Rattle.std.specs.Prelude.{◌≡◌, ◌≢◌, ◌⊎◌, IfOk, OnOk, codes, false, true, Err};
+ghost use Rattle.std.specs.Prelude.{◌≡◌, ◌⊎◌, OnOk, codes, true};
 ghost use Rattle.j39_io.specs.Turn.{turn};
 ghost use Rattle.clap.specs.Words.{found_of};
 ghost use Rattle.j39_listen.specs.Asking.{AsksForBoxes};
@@ -98,10 +98,10 @@ pub(crate) fn perform<R: Source, W: Sink, E: Sink>(
     ensures flushed { result ≡ 0 → W.is_flushed sink.new ≡ true }
 {
     let Some(spns) = spns else {
-        return tell_end(run(alloc, groups, format, source, sink, copy_of(bus)), err);
+        return tell_end(run(alloc, groups, format, bus, source, sink), err);
     };
     match groups.restricted_to(alloc, spns.as_slice()) {
-        Ok(kept) => tell_end(run(alloc, &kept, format, source, sink, copy_of(bus)), err),
+        Ok(kept) => tell_end(run(alloc, &kept, format, bus, source, sink), err),
         Err(AllocError) => tell_fault(RunFault::Memory, err),
     }
 }
@@ -111,16 +111,16 @@ fn run<R: Source, W: Sink>(
     alloc: Global,
     groups: &Groups<'_>,
     format: Format,
+    bus: &Option<Bus>,
     source: &mut R,
     sink: &mut W,
-    bus: Option<Bus>,
 ) -> Result<Counts, RunFault>
-    ensures ran { Ran (makes_in format groups.now) AsksForBoxes bus log_limit result
+    ensures ran { Ran (makes_in format groups.now) AsksForBoxes bus.now log_limit result
         (turn R.remaining R.has_failed source.old source.new) (turn W.written W.has_failed sink.old sink.new) }
     ensures flushed { OnOk result (W.is_flushed sink.new ≡ true) }
 {
     match format {
-        Format::Lines => run_with(alloc, groups, source, sink, bus, LOG_LIMIT),
-        Format::Csv => report_csv(alloc, groups, source, sink, bus, LOG_LIMIT),
+        Format::Lines => run_with(alloc, groups, source, sink, copy_of(bus), LOG_LIMIT),
+        Format::Csv => report_csv(alloc, groups, source, sink, copy_of(bus), LOG_LIMIT),
     }
 }

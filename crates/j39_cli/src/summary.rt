@@ -1,5 +1,5 @@
 //! The command `summary`: its words, and how it is performed.
-ghost use Rattle.std.specs.Prelude.{◌≡◌, ◌≢◌, IfOk, OnOk, codes, true, Err};
+ghost use Rattle.std.specs.Prelude.{◌≡◌, OnOk, codes, true};
 ghost use Rattle.j39_io.specs.Turn.{turn};
 ghost use Rattle.clap.specs.Words.{found_of};
 ghost use Rattle.j39_reports.specs.SummaryRun.{AsksForRows};
@@ -10,7 +10,7 @@ ghost use Rattle.j39_cli.specs.SummaryCommand.{summary_app, summary_in};
 ghost use Rattle.j39_cli.specs.Rules.{IsMade};
 
 use crate::command::{new_command, with_table};
-use crate::log::{LOG_LIMIT, with_csv, with_log};
+use crate::log::{LOG_LIMIT, copy_of, with_csv, with_log};
 use crate::words::{format_given, log_input};
 use crate::{Format, ParseFault, Task, WordText};
 use clap::{ArgMatches, Command};
@@ -69,16 +69,16 @@ pub(crate) fn run<R: Source, W: Sink>(
     alloc: Global,
     groups: &Groups<'_>,
     format: Format,
+    bus: &Option<Bus>,
     source: &mut R,
     sink: &mut W,
-    bus: Option<Bus>,
 ) -> Result<Counts, RunFault>
-    ensures ran { Ran (summary_in format groups.now) (AsksForRows groups.now) bus log_limit result
+    ensures ran { Ran (summary_in format groups.now) (AsksForRows groups.now) bus.now log_limit result
         (turn R.remaining R.has_failed source.old source.new) (turn W.written W.has_failed sink.old sink.new) }
     ensures flushed { OnOk result (W.is_flushed sink.new ≡ true) }
 {
     match format {
-        Format::Lines => j39_reports::summary(alloc, groups, source, sink, bus, LOG_LIMIT),
-        Format::Csv => summary_csv(alloc, groups, source, sink, bus, LOG_LIMIT),
+        Format::Lines => j39_reports::summary(alloc, groups, source, sink, copy_of(bus), LOG_LIMIT),
+        Format::Csv => summary_csv(alloc, groups, source, sink, copy_of(bus), LOG_LIMIT),
     }
 }

@@ -2,7 +2,6 @@
 ghost use Rattle.std.specs.Prelude.{◌≡◌, ◌≢◌, ◌∷◌, [], Err, IfErr, IfOk, List, None, OnOk, Some, codes, map, true};
 ghost use Rattle.clap.specs.Words.{HasMatchesOf, Row, Text, first_value, found_of, kind_of};
 ghost use Rattle.clap.specs.Words.{fault_of, subcommand_name_of, subcommand_of, subcommand_rows_of, takes};
-ghost use Rattle.j39_log.specs.Bus.{IsBusName};
 ghost use Rattle.j39_cli.specs.Command.{line_app};
 ghost use Rattle.j39_cli.specs.CommandWords.{CommandWords, HasTexts, HasValues, IsAnswer, Tells, words_of};
 ghost use Rattle.j39_cli.specs.Spelling.{IsEntered, IsSpelled};
@@ -132,7 +131,7 @@ pub(crate) fn log_input<'a>(given: &ArgMatches<'a>) -> Result<LogInput<'a>, Pars
     }
 }
 
-/// How `--csv` asks for what the log has, where it is given.
+/// How what the log has is written: `--csv` asks for comma-separated values.
 pub(crate) fn format_given(given: &ArgMatches<'_>) -> Format
     ensures { result ≡ format_of (is_given (first_value (found_of given.now) (codes "csv"))) }
 {
