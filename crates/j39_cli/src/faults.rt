@@ -95,24 +95,9 @@ pub(crate) fn run<R: Source, W: Sink>(
         (turn R.remaining R.has_failed source.old source.new) (turn W.written W.has_failed sink.old sink.new) }
     ensures flushed { OnOk result (W.is_flushed sink.new ≡ true) }
 {
+    let bus = copy_of(bus);
     match format {
-        Format::Lines => j39_reports::faults(
-            alloc,
-            groups,
-            telling,
-            source,
-            sink,
-            copy_of(bus),
-            LOG_LIMIT,
-        ),
-        Format::Csv => faults_csv(
-            alloc,
-            groups,
-            telling,
-            source,
-            sink,
-            copy_of(bus),
-            LOG_LIMIT,
-        ),
+        Format::Lines => j39_reports::faults(alloc, groups, telling, source, sink, bus, LOG_LIMIT),
+        Format::Csv => faults_csv(alloc, groups, telling, source, sink, bus, LOG_LIMIT),
     }
 }
