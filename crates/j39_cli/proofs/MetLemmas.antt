@@ -1,12 +1,19 @@
 -- From the command that clap met to the command that was spelled.
-use Rattle.std.proofs.Common.{◌≡◌, ◌∙◌, ap, sym, List, refl, false, true, Some, None, Option}
+use Rattle.std.proofs.Common.{◌≡◌, ◌∙◌, ◌∷◌, [], ap, codes, sym, subst, List, refl, Some, None, Option}
 use Rattle.std.specs.Prelude.{Result, Ok, Err, IfOk, Box, option_map}
-use Rattle.std.specs.Str.{bytes_eq}
 use Rattle.std.specs.Box.{box_value}
-use Rattle.clap.specs.Words.{Row, Text, subcommand_name_of, subcommand_rows, subcommand_rows_of}
+use Rattle.std.specs.Result.{IsErr}
+use Rattle.clap.specs.Words.{Row, Text, first_value, rows_of, subcommand_name_of, subcommand_rows, subcommand_rows_of}
 use Rattle.clap.specs.declared.parser.matches.ArgMatches.{ArgMatches}
 use Rattle.clap.specs.declared.parser.matches.ArgMatches.TheViews.{out-ArgMatches, out-SubCommand}
+use Rattle.clap.specs.declared.parser.matches.Found.{Found}
 use Rattle.clap.specs.declared.parser.matches.SubCommand.{SubCommand}
+use Rattle.clap.proofs.WalkLemmas.{first_value-rows}
+use Rattle.j39_cli.specs.Answer.{Answer}
+use Rattle.j39_cli.specs.CommandWords as command
+use Rattle.j39_cli.specs.CommandWords.{CommandWords, HasTexts, IsAnswer, Tells, command_found, form_of, text_found}
+use Rattle.j39_cli.specs.Form.{ArgumentText, HasText, HaveTexts, flag, option, value}
+use Rattle.j39_cli.specs.Rules.{is_given}
 
 name_of_met : (m : ArgMatches) → option_map (λ met. met.0) (subcommand_rows_of m) ≡ subcommand_name_of m
 name_of_met m = go (out-ArgMatches m).subcommand
@@ -36,16 +43,94 @@ met_is m called rows is_called has_rows = by_rows (subcommand_rows_of m) refl
         let is_held : held ≡ rows = cc in
         rw (← is_name, ← is_held) e
 
--- one text is found
-pub same_text : (value : Option Text) (read given : Text) → value ≡ Some read → value ≡ Some given → read ≡ given
-same_text value read given is_read is_given = let both : Some read ≡ Some given = sym is_read ∙ is_given in cc
+-- ---- the command that is meant
 
--- two names differ
-pub differ : (a b : Text) → a ≡ b → bytes_eq b a ≡ false → bytes_eq a a ≡ true → ⊥
-differ a b is other same =
-    let e : bytes_eq b a ≡ bytes_eq a a = ap (λ (x : Text). bytes_eq x a) (sym is) in
-    cc
+abbrev IsFound : Found → ArgumentText → Type 0
+IsFound found (option id text) = first_value found id ≡ text
+IsFound found (flag id is_set) = is_given (first_value found id) ≡ is_set
+IsFound found (value id text) = first_value found id ≡ text
 
-pub if_ok_any : {T E : Type 0} (r : Result T E) (P : Type 0) → P → IfOk r (λ _. P)
+-- these are the texts that were found
+abbrev pub AreFound : Found → List ArgumentText → Type 0
+AreFound found [] = Unit {0}
+AreFound found (x ∷ xs) = IsFound found x × AreFound found xs
+
+texts_found : (found : Found) (xs : List ArgumentText) → AreFound found xs → HaveTexts (rows_of found) xs
+texts_found found [] are = tt
+texts_found found (x ∷ xs) are = (of x are.0, texts_found found xs are.1)
+  where
+    of : (x : ArgumentText) → IsFound found x → HasText (rows_of found) x
+    of (option id text) is = sym (first_value-rows found id) ∙ is
+    of (flag id is_set) is = ap is_given (sym (first_value-rows found id)) ∙ is
+    of (value id text) is = sym (first_value-rows found id) ∙ is
+
+found_texts : (found : Found) (xs : List ArgumentText) → HaveTexts (rows_of found) xs → AreFound found xs
+found_texts found [] have = tt
+found_texts found (x ∷ xs) have = (of x have.0, found_texts found xs have.1)
+  where
+    of : (x : ArgumentText) → HasText (rows_of found) x → IsFound found x
+    of (option id text) is = first_value-rows found id ∙ is
+    of (flag id is_set) is = ap is_given (first_value-rows found id) ∙ is
+    of (value id text) is = first_value-rows found id ∙ is
+
+is_text_found : (found : Found) (id text : Text) → first_value found id ≡ Some text → text ≡ text_found found id
+is_text_found found id text is = rw is
+
+-- a command is that of its name whose texts are found
+is_command_found : (s : CommandWords) (found : Found) → AreFound found (form_of s).arguments
+    → s ≡ command_found (form_of s).called found
+is_command_found (command.report bus table spn csv file) found are = cc
+is_command_found (command.summary bus table csv file) found are = cc
+is_command_found (command.faults bus table all csv file) found are = cc
+is_command_found (command.nodes bus csv file) found are = cc
+is_command_found (command.answer node address bus file) found are =
+    cc (is_text_found found (codes "name") node are.0, is_text_found found (codes "address") address are.1.0)
+is_command_found (command.id hex) found are = cc (is_text_found found (codes "hex") hex are.0)
+is_command_found (command.name hex) found are = cc (is_text_found found (codes "hex") hex are.0)
+is_command_found (command.groups table) found are = cc
+is_command_found (command.survey table file) found are = cc
+is_command_found (command.cut source pgn moment bus hex) found are =
+    cc (
+      is_text_found found (codes "source") source are.0,
+      is_text_found found (codes "pgn") pgn are.1.0,
+      is_text_found found (codes "at") moment are.1.1.0,
+      is_text_found found (codes "bus") bus are.1.1.1.0,
+      is_text_found found (codes "hex") hex are.1.1.1.1.0,
+    )
+
+is_met : (s : CommandWords) (called : Text) (found : Found) → HasTexts s (called, rows_of found) → s ≡ command_found called found
+is_met s called found texts = is_command_found s found (found_texts found (form_of s).arguments texts.1)
+    ∙ sym (ap (λ (t : Text). command_found t found) texts.0)
+
+-- ---- what is said of it
+
+if_ok_any : {T E : Type 0} (r : Result T E) (P : Type 0) → P → IfOk r (λ _. P)
 if_ok_any (Ok x) P p = p
 if_ok_any (Err e) P p = tt
+
+-- what answers the command with the texts that were found answers each that has them
+pub tells : (called : Text) (found : Found) (r : Answer) (s : CommandWords) → called ≡ (form_of s).called
+    → AreFound found (form_of s).arguments → IsAnswer s r → Tells called found r
+tells called found r s named are answers =
+    let texts : HasTexts s (called, rows_of found) = (named, texts_found found (form_of s).arguments are) in
+    let is = is_met s called found texts in
+    record {
+      answer = λ other theirs.
+          subst (λ (x : CommandWords). IsAnswer x r) (is ∙ sym (is_met other called found theirs)) answers;
+      met = if_ok_any r ((x : CommandWords) × HasTexts x (called, rows_of found)) (s, texts);
+    }
+
+-- where a text that must be given isn't found, no command is meant
+pub tells_none : (called word : Text) (found : Found) (r : Answer) (id text : Text) → called ≡ word → IsErr r
+    → first_value found id ≡ None
+    → (AreFound found (form_of (command_found word found)).arguments → first_value found id ≡ Some text) → Tells called found r
+tells_none called word found (Ok task) id text named is_err missing needs = absurd (cc)
+tells_none called word found (Err e) id text named is_err missing needs = record { answer = none; met = tt }
+  where
+    none : (s : CommandWords) → HasTexts s (called, rows_of found) → IsAnswer s (Err e)
+    none s texts =
+        let is : s ≡ command_found word found = is_met s word found (sym named ∙ texts.0, texts.1) in
+        let given : first_value found id ≡ Some text = needs (subst (λ (x : CommandWords). AreFound found (form_of x).arguments)
+        is (found_texts found (form_of s).arguments texts.1)) in
+        let both : None ≡ Some text = sym missing ∙ given in
+        absurd (cc)

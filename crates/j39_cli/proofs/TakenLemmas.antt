@@ -6,12 +6,13 @@ use Rattle.clap.specs.Simple.{built_leaf}
 use Rattle.clap.specs.Walk.{finished}
 use Rattle.clap.proofs.OnLiterals.{clap_on_literals}
 use Rattle.j39_log.specs.Bus.{IsBusName}
-use Rattle.j39_cli.specs.Answer.{Answer, IsBusChecked, IsBusValue, IsChecked, IsSpnChecked, IsSpnsValue, IsWrong}
+use Rattle.j39_cli.specs.Answer.{Answer, IsBusChecked, IsChecked, IsInput, IsSpnChecked, IsSpnsValue, IsWrong}
 use Rattle.j39_cli.specs.Command.{line_app}
 use Rattle.j39_cli.specs.CommandWords.{CommandWords, HasTexts, HasValues, IsAnswer, words_of}
 use Rattle.j39_cli.specs.Spns.{IsSpnList, spns_in}
 use Rattle.j39_cli.specs.declared.task.Argument.{Argument}
 use Rattle.j39_cli.specs.declared.task.Argument.TheVariants.{Bus, Spn}
+use Rattle.j39_cli.specs.declared.task.LogInput.{LogInput}
 use Rattle.j39_cli.specs.declared.task.ParseFault.{ParseFault}
 use Rattle.j39_cli.specs.declared.task.ParseFault.TheVariants.{Memory}
 use Rattle.j39_cli.proofs.PartLemmas.{AreParts, Enters, Part, built_takes-enters, entered-enters, held_after}
@@ -74,10 +75,13 @@ memory_of_spn (Some text) Next next = memory_checked (IsSpnList text) Spn Next n
 
 -- ---- values that were read
 
-pub bus_read : (text : Option Text) (bus : Option (List ℕ)) (Next : Answer → Type 0) (r : Answer) → IsBusValue text (Ok bus)
-    → (bus ≡ text → Next r) → IsBusChecked text Next r
-bus_read None bus Next r is next = next (cc)
-bus_read (Some name) bus Next r is next = record { in_range = λ _. next is.1; wrong = λ other. absurd (other is.0) }
+pub input_read : (text file : Option Text) (input : LogInput) (Next : Answer → Type 0) (r : Answer) → IsInput text file (Ok input)
+    → (input.bus ≡ text → input.file ≡ file → Next r) → IsBusChecked text Next r
+input_read None file input Next r is next = next is.0 is.1
+input_read (Some name) file input Next r is next = record {
+  in_range = λ _. next is.1 is.2;
+  wrong = λ other. absurd (other is.0);
+}
 
 pub spns_read : (text : Option Text) (spns : Option (List ℕ)) (Next : Answer → Type 0) (r : Answer) → IsSpnsValue text (Ok spns)
     → (spns ≡ option_map spns_in text → Next r) → IsSpnChecked text Next r

@@ -5,6 +5,7 @@ use Rattle.j39_log.specs.Bus.{IsBusName}
 use Rattle.j39_cli.specs.Spns.{IsSpnList, spns_in}
 use Rattle.j39_cli.specs.declared.task.Argument.{Argument}
 use Rattle.j39_cli.specs.declared.task.Argument.TheVariants as argument
+use Rattle.j39_cli.specs.declared.task.LogInput.{LogInput}
 use Rattle.j39_cli.specs.declared.task.Task.{Task}
 use Rattle.j39_cli.specs.declared.task.ParseFault.{ParseFault}
 use Rattle.j39_cli.specs.declared.task.ParseFault.TheVariants as fault
@@ -56,13 +57,14 @@ abbrev pub IsSpnChecked : Option Text → (Answer → Type 0) → Answer → Typ
 IsSpnChecked None Next r = Next r
 IsSpnChecked (Some text) Next r = IsChecked (IsSpnList text) argument.Spn Next r
 
--- ---- what is read of `--bus` and `--spn`
+-- ---- what is read of `--bus` and FILE, and of `--spn`
 
--- the name, where it is in range; else that it is wrong
-abbrev pub IsBusValue : Option Text → Result (Option (List ℕ)) ParseFault → Type 0
-IsBusValue None r = r ≡ Ok None
-IsBusValue (Some text) (Ok bus) = IsBusName text × (bus ≡ Some text)
-IsBusValue (Some text) (Err e) = (¬ IsBusName text) × (e ≡ fault.BadValue argument.Bus)
+-- the name of the bus, where it is in range, and FILE; else that the name is wrong
+abbrev pub IsInput : Option Text → Option Text → Result LogInput ParseFault → Type 0
+IsInput None file (Ok input) = (input.bus ≡ None) × (input.file ≡ file)
+IsInput None file (Err e) = ⊥
+IsInput (Some text) file (Ok input) = IsBusName text × (input.bus ≡ Some text) × (input.file ≡ file)
+IsInput (Some text) file (Err e) = (¬ IsBusName text) × (e ≡ fault.BadValue argument.Bus)
 
 -- the numbers, where they are in range; else that they are wrong
 abbrev pub IsSpnsValue : Option Text → Result (Option (List ℕ)) ParseFault → Type 0

@@ -1,8 +1,8 @@
 -- The command `answer --name H --address N [--bus B] [FILE]`.
-use Rattle.std.specs.Prelude.{◌≡◌, ◌<◌, ◌^◌, ◌∷◌, ◌++◌, ℕ, true, List, Option, Some, codes}
+use Rattle.std.specs.Prelude.{◌≡◌, ◌<◌, ◌^◌, ◌∷◌, [], ℕ, true, List, Option, Some, codes}
 use Rattle.std.specs.Option.{ForSome}
 use Rattle.std.specs.Str.Parse.{digits_value}
-use Rattle.clap.specs.Words.{App, Text, first_of, new_app, with_rule}
+use Rattle.clap.specs.Words.{App, Text, new_app, with_rule}
 use Rattle.j39_address.specs.Name.{name_raw}
 use Rattle.j39_address.specs.Node.{idle_node}
 use Rattle.j39_frame.specs.Address.{IsAddress}
@@ -11,11 +11,12 @@ use Rattle.j39_listen.specs.Asking.{AsksForBoxes}
 use Rattle.j39_listen.specs.Output.{MakesAnswers}
 use Rattle.j39_cli.specs.Answer.{IsBusChecked, IsChecked, IsTask}
 use Rattle.j39_cli.specs.Numbers.{IsNumberBelow}
-use Rattle.j39_cli.specs.Form.{Form, IsValue, IsValueIfGiven, Meaning, option_words, value_words}
+use Rattle.j39_cli.specs.Form.{Form, Meaning, option, value}
 use Rattle.j39_cli.specs.LogCommand.{runs, with_log}
 use Rattle.j39_cli.specs.NameCommand.{IsNameText}
 use Rattle.j39_cli.specs.Rules.{option_rule}
 use Rattle.j39_cli.specs.declared.task.Argument.TheVariants as argument
+use Rattle.j39_cli.specs.declared.task.LogInput.{LogInput}
 use Rattle.j39_cli.specs.declared.task.Task.{Task}
 use Rattle.j39_cli.specs.declared.task.Task.TheVariants.{Answer}
 
@@ -24,22 +25,20 @@ answer_app = with_log (with_rule (with_rule (new_app (codes "answer")) (option_r
     (option_rule (codes "address") true))
 
 abbrev pub IsNodeTask : ℕ → ℕ → Option (List ℕ) → Option (List ℕ) → Task → Type 0
-IsNodeTask node address bus file (Answer node' address' bus' file') =
-    (name_raw node' ≡ node) × (address' ≡ address) × (bus' ≡ bus) × (file' ≡ file)
+IsNodeTask node address bus file (Answer node' address' input) =
+    (name_raw node' ≡ node) × (address' ≡ address) × (input.bus ≡ bus) × (input.file ≡ file)
 IsNodeTask node address bus file t = ⊥
 
 abbrev pub answer_form : Text → Text → Option Text → Option Text → Form
 answer_form node address bus file = record {
   called = codes "answer";
-  words = codes "--name" ∷ node ∷ codes "--address" ∷ address ∷ (option_words (codes "--bus") bus ++ value_words file);
-  HasValues = IsValue node × IsValue address × IsValueIfGiven bus × IsValueIfGiven file;
-  HasTexts = λ rows. (first_of (codes "name") rows ≡ Some node) × (first_of (codes "address") rows ≡ Some address)
-      × (first_of (codes "bus") rows ≡ bus) × (first_of (codes "file") rows ≡ file);
+  arguments = option (codes "name") (Some node) ∷ option (codes "address") (Some address) ∷ option (codes "bus") bus
+      ∷ value (codes "file") file ∷ [];
   Answers = IsChecked (IsNameText node) argument.Name (IsChecked (IsNumberBelow 254 address) argument.Address
       (IsBusChecked bus (IsTask (IsNodeTask (digits_value 16 node) (digits_value 10 address) bus file))));
 }
 
-abbrev pub answer_meaning : ℕ → ℕ → Option (List ℕ) → Option (List ℕ) → Meaning
-answer_meaning name address bus file = record (runs (λ _. AsksForBoxes)
-    (λ _. MakesAnswers (idle_node name address)) bus file)
-    { InRange = (name < 2 ^ 64) × IsAddress address × ForSome bus IsBusName }
+abbrev pub answer_meaning : ℕ → ℕ → LogInput → Meaning
+answer_meaning name address input = record (runs (λ _. AsksForBoxes)
+    (λ _. MakesAnswers (idle_node name address)) input)
+    { InRange = (name < 2 ^ 64) × IsAddress address × ForSome input.bus IsBusName }

@@ -1,9 +1,11 @@
 -- The commands, each with the texts of its values.
-use Rattle.std.specs.Prelude.{◌≡◌, ◌∷◌, Bool, List, Option, IfOk}
-use Rattle.clap.specs.Words.{Row, Text, rows_of}
+use Rattle.std.specs.Prelude.{◌≡◌, ◌≢◌, ◌∷◌, [], Bool, List, Option, Err, IfOk, codes, if◌then◌else◌}
+use Rattle.std.specs.Option.{option_map_or}
+use Rattle.std.specs.Str.{bytes_eq}
+use Rattle.clap.specs.Words.{Row, Text, first_value, rows_of}
 use Rattle.clap.specs.declared.parser.matches.Found.{Found}
 use Rattle.j39_cli.specs.Answer.{Answer}
-use Rattle.j39_cli.specs.Form.{Form}
+use Rattle.j39_cli.specs.Form.{Form, HaveTexts, HaveValues, words_in}
 use Rattle.j39_cli.specs.AnswerCommand.{answer_form}
 use Rattle.j39_cli.specs.CutCommand.{cut_form}
 use Rattle.j39_cli.specs.FaultsCommand.{faults_form}
@@ -12,6 +14,9 @@ use Rattle.j39_cli.specs.IdCommand.{id_form}
 use Rattle.j39_cli.specs.NameCommand.{name_form}
 use Rattle.j39_cli.specs.NodesCommand.{nodes_form}
 use Rattle.j39_cli.specs.ReportCommand.{report_form}
+use Rattle.j39_cli.specs.Rules.{is_given}
+use Rattle.j39_cli.specs.Task.{IsInRange}
+use Rattle.j39_cli.specs.declared.task.ParseFault.TheVariants.{Memory}
 use Rattle.j39_cli.specs.SummaryCommand.{summary_form}
 use Rattle.j39_cli.specs.SurveyCommand.{survey_form}
 
@@ -42,18 +47,48 @@ form_of (survey table file) = survey_form table file
 
 -- the words after the program's name
 abbrev pub words_of : CommandWords → List Text
-words_of s = (form_of s).called ∷ (form_of s).words
+words_of s = (form_of s).called ∷ words_in (form_of s).arguments
 
 abbrev pub HasValues : CommandWords → Type 0
-HasValues s = (form_of s).HasValues
+HasValues s = HaveValues (form_of s).arguments
 
 -- the command that clap met, by its name and rows, has the texts of s
 abbrev pub HasTexts : CommandWords → Text × List Row → Type 0
-HasTexts s met = (met.0 ≡ (form_of s).called) × (form_of s).HasTexts met.1
+HasTexts s met = (met.0 ≡ (form_of s).called) × HaveTexts met.1 (form_of s).arguments
+
+-- a text that must be given: empty where it isn't found
+abbrev pub text_found : Found → Text → Text
+text_found found argument = option_map_or (λ text. text) (first_value found argument) []
+
+-- the command of this name, with the texts that are found
+abbrev pub command_found : Text → Found → CommandWords
+command_found called found =
+    let bus = first_value found (codes "bus") in
+    let table = first_value found (codes "table") in
+    let csv = is_given (first_value found (codes "csv")) in
+    let file = first_value found (codes "file") in
+    if bytes_eq called (codes "report") then report bus table (first_value found (codes "spn")) csv file
+    else if bytes_eq called (codes "summary") then summary bus table csv file
+    else if bytes_eq called (codes "faults") then faults bus table (is_given (first_value found (codes "all"))) csv file
+    else if bytes_eq called (codes "nodes") then nodes bus csv file
+    else if bytes_eq called (codes "answer") then
+    answer (text_found found (codes "name")) (text_found found (codes "address")) bus file
+    else if bytes_eq called (codes "id") then id (text_found found (codes "hex"))
+    else if bytes_eq called (codes "name") then name (text_found found (codes "hex"))
+    else if bytes_eq called (codes "groups") then groups table
+    else if bytes_eq called (codes "survey") then survey table file
+    else cut (text_found found (codes "source")) (text_found found (codes "pgn")) (text_found found (codes "at"))
+    (text_found found (codes "bus")) (text_found found (codes "hex"))
 
 -- the values are checked in the order of the words, and the first wrong one is the answer
 abbrev pub IsAnswer : CommandWords → Answer → Type 0
 IsAnswer s r = (form_of s).Answers r
+
+-- what is answered at once: no memory is wanted, and a task is in range
+pub record IsAnswered (s : CommandWords) (r : Answer) : Type 0 where
+  pub answer : IsAnswer s r
+  pub memory : r ≢ Err Memory
+  pub in_range : IfOk r IsInRange
 
 -- each command of this name that has these texts is answered, and each task is that of one
 pub record Tells (called : Text) (found : Found) (r : Answer) : Type 0 where

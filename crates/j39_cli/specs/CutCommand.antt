@@ -2,12 +2,12 @@
 use Rattle.std.specs.Prelude.{◌≡◌, ◌≤◌, ◌+◌, ◌-◌, ◌*◌, ◌^◌, ◌∷◌, ℕ, true, List, [], Some}
 use Rattle.std.specs.Prelude.{Result, Ok, Err, codes, drop, length, slice_index, take}
 use Rattle.std.specs.Str.Parse.{AllDigits, digits_value}
-use Rattle.clap.specs.Words.{App, Text, first_of, new_app, with_rule}
+use Rattle.clap.specs.Words.{App, Text, new_app, with_rule}
 use Rattle.hex.specs.Hex.{decode_of}
 use Rattle.hex.specs.declared.error.FromHexError.{FromHexError}
 use Rattle.j39_log.specs.Bus.{IsBusName}
 use Rattle.j39_cli.specs.Answer.{Answer, IsChecked, IsTask}
-use Rattle.j39_cli.specs.Form.{Form, IsValue, Meaning, shows}
+use Rattle.j39_cli.specs.Form.{Form, Meaning, option, shows, value}
 use Rattle.j39_cli.specs.Numbers.{IsNumberBelow}
 use Rattle.j39_cli.specs.Outgoing.{EndsInTime, IsOutgoing, OutgoingRecord, cut_text, outgoing}
 use Rattle.j39_cli.specs.Rules.{option_rule, value_rule}
@@ -82,11 +82,8 @@ IsCutAnswer source pgn at bus hex r =
 abbrev pub cut_form : Text → Text → Text → Text → Text → Form
 cut_form source pgn at bus hex = record {
   called = codes "cut";
-  words = codes "--source" ∷ source ∷ codes "--pgn" ∷ pgn ∷ codes "--at" ∷ at ∷ codes "--bus" ∷ bus ∷ hex ∷ [];
-  HasValues = IsValue source × IsValue pgn × IsValue at × IsValue bus × IsValue hex;
-  HasTexts = λ rows. (first_of (codes "source") rows ≡ Some source) × (first_of (codes "pgn") rows ≡ Some pgn)
-      × (first_of (codes "at") rows ≡ Some at) × (first_of (codes "bus") rows ≡ Some bus)
-      × (first_of (codes "hex") rows ≡ Some hex);
+  arguments = option (codes "source") (Some source) ∷ option (codes "pgn") (Some pgn) ∷ option (codes "at") (Some at)
+      ∷ option (codes "bus") (Some bus) ∷ value (codes "hex") (Some hex) ∷ [];
   Answers = IsCutAnswer source pgn at bus hex;
 }
 

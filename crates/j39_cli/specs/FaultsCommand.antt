@@ -1,7 +1,7 @@
 -- The command `faults [--bus B] [--table T] [--all] [--csv] [FILE]`.
-use Rattle.std.specs.Prelude.{◌≡◌, ◌++◌, ℕ, Bool, List, Option, codes}
+use Rattle.std.specs.Prelude.{◌≡◌, ◌∷◌, [], ℕ, Bool, List, Option, codes}
 use Rattle.std.specs.Prelude.{if◌then◌else◌}
-use Rattle.clap.specs.Words.{App, Text, first_of, new_app, with_rule}
+use Rattle.clap.specs.Words.{App, Text, new_app, with_rule}
 use Rattle.j39_reports.specs.FaultAsking.{AsksForFaults}
 use Rattle.j39_reports.specs.FaultRun.{MakesFaultRecords, MakesFaults}
 use Rattle.j39_reports.specs.declared.fault_news.telling.Telling.{Telling}
@@ -9,11 +9,12 @@ use Rattle.j39_reports.specs.declared.fault_news.telling.Telling.TheVariants.{Ne
 use Rattle.j39_groups.specs.Row.{RowRecord}
 use Rattle.j39_listen.specs.Output.{Making}
 use Rattle.j39_cli.specs.Answer.{IsBusChecked, IsTask}
-use Rattle.j39_cli.specs.Form.{Form, IsValueIfGiven, Meaning, flag_words, option_words, value_words}
+use Rattle.j39_cli.specs.Form.{Form, Meaning, flag, option, value}
 use Rattle.j39_cli.specs.LogCommand.{format_of, runs, with_log}
-use Rattle.j39_cli.specs.Rules.{flag_rule, is_given, with_table}
+use Rattle.j39_cli.specs.Rules.{flag_rule, with_table}
 use Rattle.j39_cli.specs.declared.task.Format.{Format}
 use Rattle.j39_cli.specs.declared.task.Format.TheVariants.{Csv, Lines}
+use Rattle.j39_cli.specs.declared.task.LogInput.{LogInput}
 use Rattle.j39_cli.specs.declared.task.Task.{Task}
 use Rattle.j39_cli.specs.declared.task.Task.TheVariants.{Faults}
 
@@ -26,20 +27,15 @@ abbrev pub telling_of : Bool → Telling
 telling_of all = if all then All else News
 
 abbrev pub IsFaultsTask : Option (List ℕ) → Option (List ℕ) → Bool → Bool → Option (List ℕ) → Task → Type 0
-IsFaultsTask bus table all csv file (Faults bus' table' telling format file') =
-    (bus' ≡ bus) × (table' ≡ table) × (telling ≡ telling_of all) × (format ≡ format_of csv) × (file' ≡ file)
+IsFaultsTask bus table all csv file (Faults input table' telling format) =
+    (input.bus ≡ bus) × (table' ≡ table) × (telling ≡ telling_of all) × (format ≡ format_of csv) × (input.file ≡ file)
 IsFaultsTask bus table all csv file t = ⊥
 
 abbrev pub faults_form : Option Text → Option Text → Bool → Bool → Option Text → Form
 faults_form bus table all csv file = record {
   called = codes "faults";
-  words = option_words (codes "--bus") bus
-      ++ (option_words (codes "--table") table
-      ++ (flag_words (codes "--all") all ++ (flag_words (codes "--csv") csv ++ value_words file)));
-  HasValues = IsValueIfGiven bus × IsValueIfGiven table × IsValueIfGiven file;
-  HasTexts = λ rows. (first_of (codes "bus") rows ≡ bus) × (first_of (codes "table") rows ≡ table)
-      × (is_given (first_of (codes "all") rows) ≡ all) × (is_given (first_of (codes "csv") rows) ≡ csv)
-      × (first_of (codes "file") rows ≡ file);
+  arguments = option (codes "bus") bus ∷ option (codes "table") table ∷ flag (codes "all") all ∷ flag (codes "csv") csv
+      ∷ value (codes "file") file ∷ [];
   Answers = IsBusChecked bus (IsTask (IsFaultsTask bus table all csv file));
 }
 
@@ -48,6 +44,6 @@ abbrev pub faults_in : Format → Telling → List RowRecord → Making
 faults_in Lines telling rows = MakesFaults rows telling
 faults_in Csv telling rows = MakesFaultRecords rows telling
 
-abbrev pub faults_meaning : Option (List ℕ) → Option (List ℕ) → Telling → Format → Option (List ℕ) → Meaning
-faults_meaning bus table telling format file =
-    record (runs (λ _. AsksForFaults) (λ rows. faults_in format telling rows) bus file) { table = table }
+abbrev pub faults_meaning : LogInput → Option (List ℕ) → Telling → Format → Meaning
+faults_meaning input table telling format =
+    record (runs (λ _. AsksForFaults) (λ rows. faults_in format telling rows) input) { table = table }

@@ -1,26 +1,37 @@
 -- What a command is: its words, and what a task comes to.
-use Rattle.std.specs.Prelude.{◌≡◌, ◌==◌, ◌∷◌, ℕ, Bool, false, List, [], Option, Some, None, if◌then◌else◌}
+use Rattle.std.specs.Prelude.{◌≡◌, ◌==◌, ◌∷◌, ◌++◌, ℕ, Bool, true, false, List, [], Option, Some, None, codes}
 use Rattle.j39_io.specs.Turn.{Turn}
-use Rattle.clap.specs.Words.{Row, Text}
+use Rattle.clap.specs.Words.{Row, Text, first_of}
 use Rattle.j39_groups.specs.Row.{RowRecord}
 use Rattle.j39_cli.specs.Answer.{Answer}
+use Rattle.j39_cli.specs.Rules.{is_given}
 use Rattle.j39_cli.specs.WholeText.{IsShown}
 
 -- ---- words
 
--- an option with its value, where it is given
-abbrev pub option_words : Text → Option Text → List Text
-option_words spelled None = []
-option_words spelled (Some value) = spelled ∷ value ∷ []
+-- an argument of a command, by its name, with its text where it is given: `--name TEXT`, the flag `--name`, or a value that
+-- stands alone
+pub data ArgumentText : Type 0 where
+  option : Text → Option Text → ArgumentText
+  flag : Text → Bool → ArgumentText
+  value : Text → Option Text → ArgumentText
 
--- a value that stands alone, where it is given
-abbrev pub value_words : Option Text → List Text
-value_words None = []
-value_words (Some value) = value ∷ []
+-- how an option and a flag are spelled
+abbrev pub spelled : Text → Text
+spelled name = codes "--" ++ name
 
--- a flag, where it is given
-abbrev pub flag_words : Text → Bool → List Text
-flag_words spelled given = if given then spelled ∷ [] else []
+-- the words of an argument: none where it isn't given
+abbrev pub argument_words : ArgumentText → List Text
+argument_words (option name None) = []
+argument_words (option name (Some text)) = spelled name ∷ text ∷ []
+argument_words (flag name false) = []
+argument_words (flag name true) = spelled name ∷ []
+argument_words (value name None) = []
+argument_words (value name (Some text)) = text ∷ []
+
+abbrev pub words_in : List ArgumentText → List Text
+words_in [] = []
+words_in (x ∷ xs) = argument_words x ++ words_in xs
 
 abbrev pub hyphen : ℕ
 hyphen = 0x2D
@@ -33,15 +44,33 @@ IsValue (first ∷ second ∷ rest) = (first == hyphen) ≡ false
 
 abbrev pub IsValueIfGiven : Option Text → Type 0
 IsValueIfGiven None = Unit {0}
-IsValueIfGiven (Some value) = IsValue value
+IsValueIfGiven (Some text) = IsValue text
 
--- a command with the texts of its values: its name, the words behind it, whether each value may stand in a word of its
--- own, whether these are the texts that clap met, and what answers it
+abbrev pub HasValue : ArgumentText → Type 0
+HasValue (option name text) = IsValueIfGiven text
+HasValue (flag name is_set) = Unit {0}
+HasValue (value name text) = IsValueIfGiven text
+
+-- each argument has its value in a word of its own
+abbrev pub HaveValues : List ArgumentText → Type 0
+HaveValues [] = Unit {0}
+HaveValues (x ∷ xs) = HasValue x × HaveValues xs
+
+abbrev pub HasText : List Row → ArgumentText → Type 0
+HasText rows (option name text) = first_of name rows ≡ text
+HasText rows (flag name is_set) = is_given (first_of name rows) ≡ is_set
+HasText rows (value name text) = first_of name rows ≡ text
+
+-- these are the texts that clap met
+abbrev pub HaveTexts : List Row → List ArgumentText → Type 0
+HaveTexts rows [] = Unit {0}
+HaveTexts rows (x ∷ xs) = HasText rows x × HaveTexts rows xs
+
+-- a command with the texts of its values: its name, its arguments in the order of the words behind it, of which those that
+-- must be given have a text, and what answers it
 pub record Form : Type 1 where
   pub called : Text
-  pub words : List Text
-  pub HasValues : Type 0
-  pub HasTexts : List Row → Type 0
+  pub arguments : List ArgumentText
   pub Answers : Answer → Type 0
 
 -- ---- tasks

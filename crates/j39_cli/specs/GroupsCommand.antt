@@ -1,9 +1,9 @@
 -- The command `groups [--table T]`.
-use Rattle.std.specs.Prelude.{◌≡◌, ℕ, List, Option, codes}
-use Rattle.clap.specs.Words.{App, Text, first_of, new_app}
+use Rattle.std.specs.Prelude.{◌≡◌, ◌∷◌, [], ℕ, List, Option, codes}
+use Rattle.clap.specs.Words.{App, Text, new_app}
 use Rattle.j39_groups.specs.Printed.{rows_text}
 use Rattle.j39_cli.specs.Answer.{IsTask}
-use Rattle.j39_cli.specs.Form.{Form, IsValueIfGiven, Meaning, option_words, shows}
+use Rattle.j39_cli.specs.Form.{Form, Meaning, option, shows}
 use Rattle.j39_cli.specs.Rules.{with_table}
 use Rattle.j39_cli.specs.declared.task.Task.{Task}
 use Rattle.j39_cli.specs.declared.task.Task.TheVariants.{Groups}
@@ -18,9 +18,7 @@ IsGroupsTask table t = ⊥
 abbrev pub groups_form : Option Text → Form
 groups_form table = record {
   called = codes "groups";
-  words = option_words (codes "--table") table;
-  HasValues = IsValueIfGiven table;
-  HasTexts = λ rows. first_of (codes "table") rows ≡ table;
+  arguments = option (codes "table") table ∷ [];
   Answers = IsTask (IsGroupsTask table);
 }
 

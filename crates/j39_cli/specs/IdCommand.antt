@@ -1,18 +1,16 @@
 -- The command `id HEX`.
-use Rattle.std.specs.Prelude.{◌≡◌, ◌≤◌, ◌<◌, ◌^◌, ◌∷◌, ◌++◌, ℕ, true, List, [], Option, Some, None, codes, decimal, length}
+use Rattle.std.specs.Prelude.{◌≡◌, ◌≤◌, ◌<◌, ◌^◌, ◌∷◌, ◌++◌, ℕ, List, [], Option, Some, None, codes, decimal, length}
 use Rattle.std.specs.Str.Parse.{IsNumeral, digits_value}
-use Rattle.clap.specs.Words.{App, Text, first_of, new_app, with_rule}
+use Rattle.clap.specs.Words.{App, Text}
 use Rattle.j39_io.specs.Chars.{newline}
 use Rattle.j39_frame.specs.Identifier.{destination_of, id_raw, pgn_of, priority_of, source_of}
-use Rattle.j39_cli.specs.Answer.{IsChecked, IsTask}
-use Rattle.j39_cli.specs.Form.{Form, IsValue, Meaning, shows}
-use Rattle.j39_cli.specs.Rules.{value_rule}
-use Rattle.j39_cli.specs.declared.task.Argument.TheVariants.{Hex}
+use Rattle.j39_cli.specs.Form.{Form, Meaning, shows}
+use Rattle.j39_cli.specs.HexCommand.{hex_app, hex_form}
 use Rattle.j39_cli.specs.declared.task.Task.{Task}
 use Rattle.j39_cli.specs.declared.task.Task.TheVariants.{Id}
 
 abbrev pub id_app : App
-id_app = with_rule (new_app (codes "id")) (value_rule (codes "hex") true)
+id_app = hex_app (codes "id")
 
 -- 1 to 8 hex digits, of either case, of a number of 29 bits
 abbrev pub IsIdText : List ℕ → Type 0
@@ -34,13 +32,7 @@ IsIdTask raw (Id id) = id_raw id ≡ raw
 IsIdTask raw t = ⊥
 
 abbrev pub id_form : Text → Form
-id_form hex = record {
-  called = codes "id";
-  words = hex ∷ [];
-  HasValues = IsValue hex;
-  HasTexts = λ rows. first_of (codes "hex") rows ≡ Some hex;
-  Answers = IsChecked (IsIdText hex) Hex (IsTask (IsIdTask (digits_value 16 hex)));
-}
+id_form hex = hex_form (codes "id") hex (IsIdText hex) (IsIdTask (digits_value 16 hex))
 
 abbrev pub id_meaning : ℕ → Meaning
 id_meaning raw = shows (raw < 2 ^ 29) (λ _. id_text raw)

@@ -18,6 +18,7 @@ pub mod FaultsCommand
 pub mod NodesCommand
 pub mod SurveyCommand
 pub mod AnswerCommand
+pub mod HexCommand
 pub mod IdCommand
 pub mod NameCommand
 pub mod Outgoing

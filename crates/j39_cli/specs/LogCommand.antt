@@ -20,6 +20,7 @@ use Rattle.j39_cli.specs.Counted.{counts_text}
 use Rattle.j39_cli.specs.Refusal.{error_line}
 use Rattle.j39_cli.specs.declared.task.Format.{Format}
 use Rattle.j39_cli.specs.declared.task.Format.TheVariants.{Csv, Lines}
+use Rattle.j39_cli.specs.declared.task.LogInput.{LogInput}
 
 -- a command that reads a log takes `--bus` and FILE
 abbrev pub with_log : App → App
@@ -58,11 +59,11 @@ pub record IsRun (asks : Wanting) (makes : Making) (bus : Option (List ℕ)) (st
   pub told : IsTold result status err
 
 -- the task of a run: what it asks and makes may go by a table of parameters
-abbrev pub runs : (List RowRecord → Wanting) → (List RowRecord → Making) → Option (List ℕ) → Option (List ℕ) → Meaning
-runs asks makes bus file = record {
-  file = opened_of file;
+abbrev pub runs : (List RowRecord → Wanting) → (List RowRecord → Making) → LogInput → Meaning
+runs asks makes input = record {
+  file = opened_of input.file;
   table = None;
-  InRange = ForSome bus IsBusName;
+  InRange = ForSome input.bus IsBusName;
   reads_log = true;
-  Performs = λ rows status log out err. IsRun (asks rows) (makes rows) bus status log out err;
+  Performs = λ rows status log out err. IsRun (asks rows) (makes rows) input.bus status log out err;
 }

@@ -1,18 +1,16 @@
 -- The command `name HEX`.
-use Rattle.std.specs.Prelude.{◌≡◌, ◌<◌, ◌^◌, ◌∷◌, ◌++◌, ℕ, true, List, [], Some, codes, decimal, length}
+use Rattle.std.specs.Prelude.{◌≡◌, ◌<◌, ◌^◌, ◌∷◌, ◌++◌, ℕ, List, [], codes, decimal, length}
 use Rattle.std.specs.Str.Parse.{AllDigits, digits_value}
-use Rattle.clap.specs.Words.{App, Text, first_of, new_app, with_rule}
+use Rattle.clap.specs.Words.{App, Text}
 use Rattle.j39_address.specs.Name.{NameFields, fields_of, name_raw}
 use Rattle.j39_io.specs.Chars.{newline}
-use Rattle.j39_cli.specs.Answer.{IsChecked, IsTask}
-use Rattle.j39_cli.specs.Form.{Form, IsValue, Meaning, shows}
-use Rattle.j39_cli.specs.Rules.{value_rule}
-use Rattle.j39_cli.specs.declared.task.Argument.TheVariants.{Hex}
+use Rattle.j39_cli.specs.Form.{Form, Meaning, shows}
+use Rattle.j39_cli.specs.HexCommand.{hex_app, hex_form}
 use Rattle.j39_cli.specs.declared.task.Task.{Task}
 use Rattle.j39_cli.specs.declared.task.Task.TheVariants.{Name}
 
 abbrev pub name_app : App
-name_app = with_rule (new_app (codes "name")) (value_rule (codes "hex") true)
+name_app = hex_app (codes "name")
 
 -- 16 hex digits, of either case
 abbrev pub IsNameText : List ℕ → Type 0
@@ -39,13 +37,7 @@ IsNameTask raw (Name name) = name_raw name ≡ raw
 IsNameTask raw t = ⊥
 
 abbrev pub name_form : Text → Form
-name_form hex = record {
-  called = codes "name";
-  words = hex ∷ [];
-  HasValues = IsValue hex;
-  HasTexts = λ rows. first_of (codes "hex") rows ≡ Some hex;
-  Answers = IsChecked (IsNameText hex) Hex (IsTask (IsNameTask (digits_value 16 hex)));
-}
+name_form hex = hex_form (codes "name") hex (IsNameText hex) (IsNameTask (digits_value 16 hex))
 
 abbrev pub name_meaning : ℕ → Meaning
 name_meaning raw = shows (raw < 2 ^ 64) (λ _. name_text raw)

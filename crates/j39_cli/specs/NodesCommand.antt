@@ -1,15 +1,16 @@
 -- The command `nodes [--bus B] [--csv] [FILE]`.
-use Rattle.std.specs.Prelude.{◌≡◌, ◌++◌, ℕ, Bool, List, Option, codes}
-use Rattle.clap.specs.Words.{App, Text, first_of, new_app, with_rule}
+use Rattle.std.specs.Prelude.{◌≡◌, ◌∷◌, [], ℕ, Bool, List, Option, codes}
+use Rattle.clap.specs.Words.{App, Text, new_app, with_rule}
 use Rattle.j39_listen.specs.Asking.{AsksNowhere}
 use Rattle.j39_listen.specs.Headed.{MakesNodeRecords}
 use Rattle.j39_listen.specs.Output.{Making, MakesNodes}
 use Rattle.j39_cli.specs.Answer.{IsBusChecked, IsTask}
-use Rattle.j39_cli.specs.Form.{Form, IsValueIfGiven, Meaning, flag_words, option_words, value_words}
+use Rattle.j39_cli.specs.Form.{Form, Meaning, flag, option, value}
 use Rattle.j39_cli.specs.LogCommand.{format_of, runs, with_log}
-use Rattle.j39_cli.specs.Rules.{flag_rule, is_given}
+use Rattle.j39_cli.specs.Rules.{flag_rule}
 use Rattle.j39_cli.specs.declared.task.Format.{Format}
 use Rattle.j39_cli.specs.declared.task.Format.TheVariants.{Csv, Lines}
+use Rattle.j39_cli.specs.declared.task.LogInput.{LogInput}
 use Rattle.j39_cli.specs.declared.task.Task.{Task}
 use Rattle.j39_cli.specs.declared.task.Task.TheVariants.{Nodes}
 
@@ -17,16 +18,14 @@ abbrev pub nodes_app : App
 nodes_app = with_log (with_rule (new_app (codes "nodes")) (flag_rule (codes "csv")))
 
 abbrev pub IsNodesTask : Option (List ℕ) → Bool → Option (List ℕ) → Task → Type 0
-IsNodesTask bus csv file (Nodes bus' format file') = (bus' ≡ bus) × (format ≡ format_of csv) × (file' ≡ file)
+IsNodesTask bus csv file (Nodes input format) =
+    (input.bus ≡ bus) × (format ≡ format_of csv) × (input.file ≡ file)
 IsNodesTask bus csv file t = ⊥
 
 abbrev pub nodes_form : Option Text → Bool → Option Text → Form
 nodes_form bus csv file = record {
   called = codes "nodes";
-  words = option_words (codes "--bus") bus ++ (flag_words (codes "--csv") csv ++ value_words file);
-  HasValues = IsValueIfGiven bus × IsValueIfGiven file;
-  HasTexts = λ rows. (first_of (codes "bus") rows ≡ bus) × (is_given (first_of (codes "csv") rows) ≡ csv)
-      × (first_of (codes "file") rows ≡ file);
+  arguments = option (codes "bus") bus ∷ flag (codes "csv") csv ∷ value (codes "file") file ∷ [];
   Answers = IsBusChecked bus (IsTask (IsNodesTask bus csv file));
 }
 
@@ -35,5 +34,5 @@ abbrev pub nodes_in : Format → Making
 nodes_in Lines = MakesNodes
 nodes_in Csv = MakesNodeRecords
 
-abbrev pub nodes_meaning : Option (List ℕ) → Format → Option (List ℕ) → Meaning
-nodes_meaning bus format file = runs (λ _. AsksNowhere) (λ _. nodes_in format) bus file
+abbrev pub nodes_meaning : LogInput → Format → Meaning
+nodes_meaning input format = runs (λ _. AsksNowhere) (λ _. nodes_in format) input

@@ -1,8 +1,8 @@
 -- The command `report [--bus B] [--table T] [--spn SPN,..] [--csv] [FILE]`.
-use Rattle.std.specs.Prelude.{◌≡◌, ◌⊎◌, ◌++◌, ℕ, Bool, true, false, List, [], Option, None, Some, codes, option_map}
+use Rattle.std.specs.Prelude.{◌≡◌, ◌⊎◌, ◌∷◌, ℕ, Bool, true, false, List, [], Option, None, Some, codes, option_map}
 use Rattle.std.specs.Option.{ForSome}
 use Rattle.j39_io.specs.Turn.{Turn, Writes}
-use Rattle.clap.specs.Words.{App, Text, first_of, new_app, with_rule}
+use Rattle.clap.specs.Words.{App, Text, new_app, with_rule}
 use Rattle.j39_groups.specs.Readings.{HaveSameGroups, rows_of_spns}
 use Rattle.j39_groups.specs.Row.{RowRecord}
 use Rattle.j39_listen.specs.Asking.{AsksForBoxes}
@@ -13,13 +13,14 @@ use Rattle.j39_log.specs.Bus.{IsBusName}
 use Rattle.j39_reports.specs.ReportRecords.{MakesRecords}
 use Rattle.j39_reports.specs.EntryText.{header_text}
 use Rattle.j39_cli.specs.Answer.{IsBusChecked, IsSpnChecked, IsTask}
-use Rattle.j39_cli.specs.Form.{Form, IsValueIfGiven, Meaning, flag_words, option_words, value_words}
+use Rattle.j39_cli.specs.Form.{Form, Meaning, flag, option, value}
 use Rattle.j39_cli.specs.LogCommand.{IsRun, fault_text, format_of, opened_of, with_log}
 use Rattle.j39_cli.specs.Refusal.{error_line}
-use Rattle.j39_cli.specs.Rules.{flag_rule, is_given, option_rule, with_table}
+use Rattle.j39_cli.specs.Rules.{flag_rule, option_rule, with_table}
 use Rattle.j39_cli.specs.Spns.{spns_in}
 use Rattle.j39_cli.specs.declared.task.Format.{Format}
 use Rattle.j39_cli.specs.declared.task.Format.TheVariants.{Csv, Lines}
+use Rattle.j39_cli.specs.declared.task.LogInput.{LogInput}
 use Rattle.j39_cli.specs.declared.task.Task.{Task}
 use Rattle.j39_cli.specs.declared.task.Task.TheVariants.{Report}
 
@@ -31,20 +32,16 @@ report_app =
     (flag_rule (codes "csv")))
 
 abbrev pub IsReportTask : Option (List ℕ) → Option (List ℕ) → Option (List ℕ) → Bool → Option (List ℕ) → Task → Type 0
-IsReportTask bus table spn csv file (Report bus' table' spns format file') =
-    (bus' ≡ bus) × (table' ≡ table) × (spns ≡ option_map spns_in spn) × (format ≡ format_of csv) × (file' ≡ file)
+IsReportTask bus table spn csv file (Report input table' spns format) =
+    (input.bus ≡ bus) × (table' ≡ table) × (spns ≡ option_map spns_in spn) × (format ≡ format_of csv)
+    × (input.file ≡ file)
 IsReportTask bus table spn csv file t = ⊥
 
 abbrev pub report_form : Option Text → Option Text → Option Text → Bool → Option Text → Form
 report_form bus table spn csv file = record {
   called = codes "report";
-  words = option_words (codes "--bus") bus
-      ++ (option_words (codes "--table") table
-      ++ (option_words (codes "--spn") spn ++ (flag_words (codes "--csv") csv ++ value_words file)));
-  HasValues = IsValueIfGiven bus × IsValueIfGiven table × IsValueIfGiven spn × IsValueIfGiven file;
-  HasTexts = λ rows. (first_of (codes "bus") rows ≡ bus) × (first_of (codes "table") rows ≡ table)
-      × (first_of (codes "spn") rows ≡ spn) × (is_given (first_of (codes "csv") rows) ≡ csv)
-      × (first_of (codes "file") rows ≡ file);
+  arguments = option (codes "bus") bus ∷ option (codes "table") table ∷ option (codes "spn") spn ∷ flag (codes "csv") csv
+      ∷ value (codes "file") file ∷ [];
   Answers = IsBusChecked bus (IsSpnChecked spn (IsTask (IsReportTask bus table spn csv file)));
 }
 
@@ -69,11 +66,11 @@ IsReportRun (Some spns) format rows bus status log out err =
     ((kept : List RowRecord) × HaveSameGroups kept (rows_of_spns spns rows)
     × IsRun AsksForBoxes (makes_in format kept) bus status log out err) ⊎ IsNotBegun status log out err
 
-abbrev pub report_meaning : Option (List ℕ) → Option (List ℕ) → Option (List ℕ) → Format → Option (List ℕ) → Meaning
-report_meaning bus table spns format file = record {
-  file = opened_of file;
+abbrev pub report_meaning : LogInput → Option (List ℕ) → Option (List ℕ) → Format → Meaning
+report_meaning input table spns format = record {
+  file = opened_of input.file;
   table = table;
-  InRange = ForSome bus IsBusName;
+  InRange = ForSome input.bus IsBusName;
   reads_log = true;
-  Performs = λ rows status log out err. IsReportRun spns format rows bus status log out err;
+  Performs = λ rows status log out err. IsReportRun spns format rows input.bus status log out err;
 }

@@ -1,15 +1,16 @@
 -- The command `summary [--bus B] [--table T] [--csv] [FILE]`.
-use Rattle.std.specs.Prelude.{◌≡◌, ◌++◌, ℕ, Bool, List, Option, codes}
-use Rattle.clap.specs.Words.{App, Text, first_of, new_app, with_rule}
+use Rattle.std.specs.Prelude.{◌≡◌, ◌∷◌, [], ℕ, Bool, List, Option, codes}
+use Rattle.clap.specs.Words.{App, Text, new_app, with_rule}
 use Rattle.j39_reports.specs.SummaryRun.{AsksForRows, MakesSummary, MakesSummaryRecords}
 use Rattle.j39_groups.specs.Row.{RowRecord}
 use Rattle.j39_listen.specs.Output.{Making}
 use Rattle.j39_cli.specs.Answer.{IsBusChecked, IsTask}
-use Rattle.j39_cli.specs.Form.{Form, IsValueIfGiven, Meaning, flag_words, option_words, value_words}
+use Rattle.j39_cli.specs.Form.{Form, Meaning, flag, option, value}
 use Rattle.j39_cli.specs.LogCommand.{format_of, runs, with_log}
-use Rattle.j39_cli.specs.Rules.{flag_rule, is_given, with_table}
+use Rattle.j39_cli.specs.Rules.{flag_rule, with_table}
 use Rattle.j39_cli.specs.declared.task.Format.{Format}
 use Rattle.j39_cli.specs.declared.task.Format.TheVariants.{Csv, Lines}
+use Rattle.j39_cli.specs.declared.task.LogInput.{LogInput}
 use Rattle.j39_cli.specs.declared.task.Task.{Task}
 use Rattle.j39_cli.specs.declared.task.Task.TheVariants.{Summary}
 
@@ -17,18 +18,14 @@ abbrev pub summary_app : App
 summary_app = with_log (with_rule (with_table (new_app (codes "summary"))) (flag_rule (codes "csv")))
 
 abbrev pub IsSummaryTask : Option (List ℕ) → Option (List ℕ) → Bool → Option (List ℕ) → Task → Type 0
-IsSummaryTask bus table csv file (Summary bus' table' format file') =
-    (bus' ≡ bus) × (table' ≡ table) × (format ≡ format_of csv) × (file' ≡ file)
+IsSummaryTask bus table csv file (Summary input table' format) =
+    (input.bus ≡ bus) × (table' ≡ table) × (format ≡ format_of csv) × (input.file ≡ file)
 IsSummaryTask bus table csv file t = ⊥
 
 abbrev pub summary_form : Option Text → Option Text → Bool → Option Text → Form
 summary_form bus table csv file = record {
   called = codes "summary";
-  words = option_words (codes "--bus") bus
-      ++ (option_words (codes "--table") table ++ (flag_words (codes "--csv") csv ++ value_words file));
-  HasValues = IsValueIfGiven bus × IsValueIfGiven table × IsValueIfGiven file;
-  HasTexts = λ rows. (first_of (codes "bus") rows ≡ bus) × (first_of (codes "table") rows ≡ table)
-      × (is_given (first_of (codes "csv") rows) ≡ csv) × (first_of (codes "file") rows ≡ file);
+  arguments = option (codes "bus") bus ∷ option (codes "table") table ∷ flag (codes "csv") csv ∷ value (codes "file") file ∷ [];
   Answers = IsBusChecked bus (IsTask (IsSummaryTask bus table csv file));
 }
 
@@ -37,6 +34,6 @@ abbrev pub summary_in : Format → List RowRecord → Making
 summary_in Lines rows = MakesSummary rows
 summary_in Csv rows = MakesSummaryRecords rows
 
-abbrev pub summary_meaning : Option (List ℕ) → Option (List ℕ) → Format → Option (List ℕ) → Meaning
-summary_meaning bus table format file =
-    record (runs (λ rows. AsksForRows rows) (λ rows. summary_in format rows) bus file) { table = table }
+abbrev pub summary_meaning : LogInput → Option (List ℕ) → Format → Meaning
+summary_meaning input table format =
+    record (runs (λ rows. AsksForRows rows) (λ rows. summary_in format rows) input) { table = table }

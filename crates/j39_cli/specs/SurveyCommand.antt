@@ -1,12 +1,12 @@
 -- The command `survey [--table T] [FILE]`.
-use Rattle.std.specs.Prelude.{◌≡◌, ◌⊎◌, ◌++◌, ℕ, List, [], Option, Result, Ok, Err, codes, false, true}
+use Rattle.std.specs.Prelude.{◌≡◌, ◌⊎◌, ◌∷◌, ℕ, List, [], Option, Result, Ok, Err, codes, false, true}
 use Rattle.j39_io.specs.Turn.{Turn, Writes}
-use Rattle.clap.specs.Words.{App, Text, first_of, new_app, with_rule}
+use Rattle.clap.specs.Words.{App, Text, new_app, with_rule}
 use Rattle.j39_groups.specs.Row.{RowRecord}
 use Rattle.j39_listen.specs.declared.running.RunFault.{RunFault}
 use Rattle.j39_reports.specs.SurveyRun.{Surveyed}
 use Rattle.j39_cli.specs.Answer.{IsTask}
-use Rattle.j39_cli.specs.Form.{Form, IsValueIfGiven, Meaning, option_words, value_words}
+use Rattle.j39_cli.specs.Form.{Form, Meaning, option, value}
 use Rattle.j39_cli.specs.LogCommand.{fault_text, log_limit, opened_of}
 use Rattle.j39_cli.specs.Refusal.{error_line}
 use Rattle.j39_cli.specs.Rules.{value_rule, with_table}
@@ -24,9 +24,7 @@ IsSurveyTask table file t = ⊥
 abbrev pub survey_form : Option Text → Option Text → Form
 survey_form table file = record {
   called = codes "survey";
-  words = option_words (codes "--table") table ++ value_words file;
-  HasValues = IsValueIfGiven table × IsValueIfGiven file;
-  HasTexts = λ rows. (first_of (codes "table") rows ≡ table) × (first_of (codes "file") rows ≡ file);
+  arguments = option (codes "table") table ∷ value (codes "file") file ∷ [];
   Answers = IsTask (IsSurveyTask table file);
 }
 

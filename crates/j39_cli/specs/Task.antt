@@ -19,11 +19,11 @@ use Rattle.j39_cli.specs.declared.task.Task.{Task}
 use Rattle.j39_cli.specs.declared.task.Task.TheVariants.{Report, Summary, Faults, Nodes, Answer, Id, Name, Cut, Groups, Survey}
 
 abbrev pub meaning_of : Task → Meaning
-meaning_of (Report bus table spns format file) = report_meaning bus table spns format file
-meaning_of (Summary bus table format file) = summary_meaning bus table format file
-meaning_of (Faults bus table telling format file) = faults_meaning bus table telling format file
-meaning_of (Nodes bus format file) = nodes_meaning bus format file
-meaning_of (Answer name address bus file) = answer_meaning (name_raw name) address bus file
+meaning_of (Report input table spns format) = report_meaning input table spns format
+meaning_of (Summary input table format) = summary_meaning input table format
+meaning_of (Faults input table telling format) = faults_meaning input table telling format
+meaning_of (Nodes input format) = nodes_meaning input format
+meaning_of (Answer name address input) = answer_meaning (name_raw name) address input
 meaning_of (Id id) = id_meaning (id_raw id)
 meaning_of (Name name) = name_meaning (name_raw name)
 meaning_of (Cut outgoing) = cut_meaning outgoing

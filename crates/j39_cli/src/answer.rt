@@ -1,15 +1,15 @@
 //! The command `answer`: its words, and how it is performed.
-ghost use Rattle.std.specs.Prelude.{◌≡◌, ◌≢◌, ◌↔◌, IfOk, IfSome, IsSome, Some, codes, true, Err};
+ghost use Rattle.std.specs.Prelude.{◌≡◌, ◌≢◌, ◌↔◌, IfOk, IfSome, IsSome, codes, true, Err};
 ghost use Rattle.std.specs.Str.Parse.{digits_value};
 ghost use Rattle.j39_io.specs.Turn.{turn};
-ghost use Rattle.clap.specs.Words.{Text, first_value, found_of};
+ghost use Rattle.clap.specs.Words.{first_value, found_of};
 ghost use Rattle.j39_address.specs.Name.{name_raw};
 ghost use Rattle.j39_address.specs.Node.{idle_node};
 ghost use Rattle.j39_listen.specs.Asking.{AsksForBoxes};
 ghost use Rattle.j39_listen.specs.Output.{MakesAnswers};
 ghost use Rattle.j39_cli.specs.AnswerCommand.{answer_app};
 ghost use Rattle.j39_cli.specs.CommandWords as written;
-ghost use Rattle.j39_cli.specs.CommandWords.{IsAnswer};
+ghost use Rattle.j39_cli.specs.CommandWords.{IsAnswered, Tells};
 ghost use Rattle.j39_cli.specs.Numbers.{IsNumberBelow};
 ghost use Rattle.j39_cli.specs.LogCommand.{IsRun};
 ghost use Rattle.j39_cli.specs.Task.{IsInRange};
@@ -19,8 +19,8 @@ use crate::command::{new_command, with_option};
 use crate::cut_values::source_of;
 use crate::log::{LOG_LIMIT, copy_of, tell_end, with_log};
 use crate::name::name_of;
-use crate::words::{bus_value, required};
-use crate::{Address, Argument, ParseFault, Task, WordText};
+use crate::words::{log_input, required};
+use crate::{Address, Argument, ParseFault, Task};
 use clap::{ArgMatches, Command};
 use j39_address::Name;
 use j39_io::{Sink, Source};
@@ -66,34 +66,19 @@ pub(crate) fn command<'a>(alloc: Global) -> Result<Command<'a>, AllocError>
 
 /// The task that its words ask for.
 pub(crate) fn task<'a>(alloc: Global, given: &ArgMatches<'a>) -> Result<Task<'a>, ParseFault>
-    ensures answer { (name address : Text)
-        → first_value (found_of given.now) (codes "name") ≡ Some name
-        → first_value (found_of given.now) (codes "address") ≡ Some address
-        → IsAnswer (written.answer name address (first_value (found_of given.now) (codes "bus"))
-        (first_value (found_of given.now) (codes "file"))) result }
-    ensures given { IfOk result (λ _. (name : Text) × (address : Text)
-        × (first_value (found_of given.now) (codes "name") ≡ Some name)
-        × (first_value (found_of given.now) (codes "address") ≡ Some address)) }
+    ensures tells { Tells (codes "answer") (found_of given.now) result }
     ensures memory { result ≢ Err ParseFault.Memory }
     ensures in_range { IfOk result IsInRange }
 {
-    let name = match required(alloc, given, "name") {
-        Ok(name) => name,
-        Err(fault) => return Err(fault),
-    };
-    let address = match required(alloc, given, "address") {
-        Ok(address) => address,
-        Err(fault) => return Err(fault),
-    };
+    let name = required(alloc, given, "name")?;
+    let address = required(alloc, given, "address")?;
     task_of(name, address, given)
 }
 
 /// The task of these texts: the values are checked in their order.
 fn task_of<'a>(name: &str, address: &str, given: &ArgMatches<'a>) -> Result<Task<'a>, ParseFault>
-    ensures answer { IsAnswer (written.answer name.now address.now (first_value (found_of given.now) (codes "bus"))
+    ensures { IsAnswered (written.answer name.now address.now (first_value (found_of given.now) (codes "bus"))
         (first_value (found_of given.now) (codes "file"))) result }
-    ensures memory { result ≢ Err ParseFault.Memory }
-    ensures in_range { IfOk result IsInRange }
 {
     let Some(name) = name_of(name) else {
         return Err(ParseFault::BadValue(Argument::Name));
@@ -101,9 +86,12 @@ fn task_of<'a>(name: &str, address: &str, given: &ArgMatches<'a>) -> Result<Task
     let Some(address) = address_of(address) else {
         return Err(ParseFault::BadValue(Argument::Address));
     };
-    let file = given.get_str("file").map(WordText::new);
-    match bus_value(given) {
-        Ok(bus) => Ok(Task::Answer(name, address, bus, file)),
+    match log_input(given) {
+        Ok(input) => Ok(Task::Answer {
+            name,
+            address,
+            input,
+        }),
         Err(fault) => Err(fault),
     }
 }

@@ -2,6 +2,7 @@
 ghost use Rattle.std.specs.Prelude.{◌≡◌, IfOk, false};
 ghost use Rattle.clap.specs.Words.{App, app_of, new_app, rule_of, with_rule, with_subcommand};
 ghost use Rattle.j39_cli.specs.Command.{bare_app, line_app};
+ghost use Rattle.j39_cli.specs.HexCommand.{hex_app};
 ghost use Rattle.j39_cli.specs.Rules.{IsMade, flag_rule, option_rule, value_rule, with_table};
 
 use crate::{answer, cut, faults, groups, id, name, nodes, report, summary, survey};
@@ -79,6 +80,21 @@ pub(crate) fn new_command<'a>(
         .long_about(long_about)
         .after_help(help);
     Ok(command)
+}
+
+/// A command with one word, HEX, and its texts of help.
+pub(crate) fn hex_command<'a>(
+    alloc: Global,
+    name: &'a str,
+    about: &'a str,
+    long_about: &'a str,
+    after_help: &'a str,
+    help: &'a str,
+) -> Result<Command<'a>, AllocError>
+    ensures { IsMade result (hex_app name.entry.now) }
+{
+    let command = new_command(alloc, name, about, long_about, after_help);
+    with_value(alloc, command, "hex", "HEX", true, help)
 }
 
 /// The command with `--table T`, which each takes that goes by a table of parameters.

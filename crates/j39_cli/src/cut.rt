@@ -1,22 +1,17 @@
 //! The command `cut`: its words, and how it is performed.
-ghost use Rattle.std.specs.Prelude.{◌≡◌, IfOk, Some, codes, true};
-ghost use Rattle.j39_io.specs.Turn.{turn};
-ghost use Rattle.clap.specs.Words.{Text, first_value, found_of};
+ghost use Rattle.std.specs.Prelude.{IfOk, codes};
+ghost use Rattle.clap.specs.Words.{found_of};
 ghost use Rattle.j39_cli.specs.CommandWords as written;
-ghost use Rattle.j39_cli.specs.CommandWords.{IsAnswer};
+ghost use Rattle.j39_cli.specs.CommandWords.{IsAnswer, Tells};
 ghost use Rattle.j39_cli.specs.CutCommand.{cut_app};
-ghost use Rattle.j39_cli.specs.Outgoing.{cut_text};
-ghost use Rattle.j39_cli.specs.WholeText.{IsShown};
 ghost use Rattle.j39_cli.specs.Task.{IsInRange};
 ghost use Rattle.j39_cli.specs.Rules.{IsMade};
 
 use crate::command::{new_command, with_option, with_value};
 use crate::cut_values::{payload_of, pgn_of, source_of, stamp_of};
-use crate::shown::show_text;
 use crate::words::required;
 use crate::{Argument, Outgoing, ParseFault, Task};
 use clap::{ArgMatches, Command};
-use j39_io::Sink;
 use j39_log::Bus;
 use std::alloc::{AllocError, Global};
 
@@ -52,19 +47,7 @@ pub(crate) fn command<'a>(alloc: Global) -> Result<Command<'a>, AllocError>
 
 /// The task that its words ask for.
 pub(crate) fn task<'a>(alloc: Global, given: &ArgMatches<'a>) -> Result<Task<'a>, ParseFault>
-    ensures answer { (source pgn at bus hex : Text)
-        → first_value (found_of given.now) (codes "source") ≡ Some source
-        → first_value (found_of given.now) (codes "pgn") ≡ Some pgn
-        → first_value (found_of given.now) (codes "at") ≡ Some at
-        → first_value (found_of given.now) (codes "bus") ≡ Some bus
-        → first_value (found_of given.now) (codes "hex") ≡ Some hex
-        → IsAnswer (written.cut source pgn at bus hex) result }
-    ensures given { IfOk result (λ _. (source : Text) × (pgn : Text) × (at : Text) × (bus : Text) × (hex : Text)
-        × (first_value (found_of given.now) (codes "source") ≡ Some source)
-        × (first_value (found_of given.now) (codes "pgn") ≡ Some pgn)
-        × (first_value (found_of given.now) (codes "at") ≡ Some at)
-        × (first_value (found_of given.now) (codes "bus") ≡ Some bus)
-        × (first_value (found_of given.now) (codes "hex") ≡ Some hex)) }
+    ensures tells { Tells (codes "cut") (found_of given.now) result }
     ensures in_range { IfOk result IsInRange }
 {
     let source = required(alloc, given, "source")?;
@@ -107,15 +90,4 @@ fn task_of<'a>(
         Some(outgoing) => Ok(Task::Cut(outgoing)),
         None => Err(ParseFault::BadValue(Argument::At)),
     }
-}
-
-/// Performs it: the lines go to `sink`, a fault to `err`.
-pub(crate) fn perform<W: Sink, E: Sink>(outgoing: &Outgoing, sink: &mut W, err: &mut E) -> u8
-    ensures shown { IsShown (cut_text outgoing.now) result
-        (turn W.written W.has_failed sink.old sink.new)
-        (turn E.written E.has_failed err.old err.new) }
-    ensures flushed { result ≡ 0 → W.is_flushed sink.new ≡ true }
-    ensures silent { result ≡ 0 → err.new ≡ err.old }
-{
-    show_text(outgoing.lines().as_slice(), sink, err)
 }

@@ -1,14 +1,12 @@
 //! The command `groups`: its words, and how it is performed.
-ghost use Rattle.std.specs.Prelude.{◌≡◌, ◌≢◌, IfOk, OnOk, codes, true, Err};
+ghost use Rattle.std.specs.Prelude.{◌≡◌, OnOk, codes, true};
+ghost use Rattle.clap.specs.Words.{found_of};
 ghost use Rattle.j39_io.specs.Puts.{Puts};
-ghost use Rattle.clap.specs.Words.{first_value, found_of};
 ghost use Rattle.j39_io.specs.Turn.{turn};
 ghost use Rattle.j39_groups.specs.Printed.{rows_text};
-ghost use Rattle.j39_cli.specs.CommandWords as written;
-ghost use Rattle.j39_cli.specs.CommandWords.{IsAnswer};
+ghost use Rattle.j39_cli.specs.CommandWords.{IsAnswered, command_found};
 ghost use Rattle.j39_cli.specs.GroupsCommand.{groups_app};
 ghost use Rattle.j39_cli.specs.WholeText.{IsShown};
-ghost use Rattle.j39_cli.specs.Task.{IsInRange};
 ghost use Rattle.j39_cli.specs.Rules.{IsMade};
 
 use crate::command::{new_command, with_table};
@@ -51,9 +49,7 @@ pub(crate) fn command<'a>(alloc: Global) -> Result<Command<'a>, AllocError>
 
 /// The task that its words ask for.
 pub(crate) fn task<'a>(given: &ArgMatches<'a>) -> Result<Task<'a>, ParseFault>
-    ensures answer { IsAnswer (written.groups (first_value (found_of given.now) (codes "table"))) result }
-    ensures memory { result ≢ Err ParseFault.Memory }
-    ensures in_range { IfOk result IsInRange }
+    ensures { IsAnswered (command_found (codes "groups") (found_of given.now)) result }
 {
     Ok(Task::Groups(given.get_str("table").map(WordText::new)))
 }

@@ -1,27 +1,21 @@
 //! The command `id`: its words, and how it is performed.
-ghost use Rattle.std.specs.Prelude.{◌≡◌, ◌≢◌, ◌↔◌, ◌++◌, ◌≤◌, ◌+◌, IfOk, IfSome, IsSome, Some, codes, length, true, Err};
+ghost use Rattle.std.specs.Prelude.{◌≡◌, ◌↔◌, ◌++◌, ◌≤◌, ◌+◌, IfSome, IsSome, codes};
 ghost use Rattle.std.specs.Str.Parse.{digits_value};
 ghost use Rattle.arrayvec.specs.ArrayVec.{array_vec_len};
-ghost use Rattle.j39_io.specs.Turn.{turn};
-ghost use Rattle.clap.specs.Words.{Text, first_value, found_of};
 ghost use Rattle.j39_frame.specs.Identifier.{id_raw};
 ghost use Rattle.j39_cli.specs.CommandWords as written;
-ghost use Rattle.j39_cli.specs.CommandWords.{IsAnswer};
+ghost use Rattle.j39_cli.specs.CommandWords.{IsAnswered};
 ghost use Rattle.j39_cli.specs.IdCommand.{IsIdText, destination_text, id_app, id_text};
-ghost use Rattle.j39_cli.specs.WholeText.{IsShown};
-ghost use Rattle.j39_cli.specs.Task.{IsInRange};
 ghost use Rattle.j39_cli.specs.Rules.{IsMade};
 
-use crate::command::{new_command, with_value};
+use crate::command::hex_command;
 use crate::fields::push_field;
-use crate::shown::show_text;
-use crate::words::required;
 use crate::{Argument, ParseFault, Task};
 use arrayvec::ArrayVec;
-use clap::{ArgMatches, Command};
+use clap::Command;
 use j39_frame::Id;
+use j39_io::number;
 use j39_io::printing::push_bytes;
-use j39_io::{Sink, number};
 use std::alloc::{AllocError, Global};
 
 const ABOUT: &str = "\
@@ -40,24 +34,15 @@ pub(crate) fn command<'a>(alloc: Global) -> Result<Command<'a>, AllocError>
     ensures { IsMade result id_app }
 {
     let about = "Writes the fields of a 29-bit identifier";
-    let command = new_command(alloc, "id", about, ABOUT, HELP);
     let help =
         "The identifier, 1 to 8 hex digits (of either case, no 0x) of a number below 20000000";
-    with_value(alloc, command, "hex", "HEX", true, help)
+    hex_command(alloc, "id", about, ABOUT, HELP, help)
 }
 
-/// The task that its words ask for.
-pub(crate) fn task<'a>(alloc: Global, given: &ArgMatches<'a>) -> Result<Task<'a>, ParseFault>
-    ensures answer { (hex : Text) → first_value (found_of given.now) (codes "hex") ≡ Some hex
-        → IsAnswer (written.id hex) result }
-    ensures given { IfOk result (λ _. (hex : Text) × (first_value (found_of given.now) (codes "hex") ≡ Some hex)) }
-    ensures memory { result ≢ Err ParseFault.Memory }
-    ensures in_range { IfOk result IsInRange }
+/// The task that its word asks for.
+pub(crate) fn task<'a>(hex: &str) -> Result<Task<'a>, ParseFault>
+    ensures { IsAnswered (written.id hex.now) result }
 {
-    let hex = match required(alloc, given, "hex") {
-        Ok(hex) => hex,
-        Err(fault) => return Err(fault),
-    };
     match id_of(hex) {
         Some(id) => Ok(Task::Id(id)),
         None => Err(ParseFault::BadValue(Argument::Hex)),
@@ -79,19 +64,8 @@ fn id_of(text: &str) -> Option<Id>
     Id::new(raw as u32)
 }
 
-/// Performs it: the line goes to `sink`, a fault to `err`.
-pub(crate) fn perform<W: Sink, E: Sink>(id: Id, sink: &mut W, err: &mut E) -> u8
-    ensures shown { IsShown (id_text (id_raw id)) result
-        (turn W.written W.has_failed sink.old sink.new)
-        (turn E.written E.has_failed err.old err.new) }
-    ensures flushed { result ≡ 0 → W.is_flushed sink.new ≡ true }
-    ensures silent { result ≡ 0 → err.new ≡ err.old }
-{
-    show_text(id_line(id).as_slice(), sink, err)
-}
-
 /// The line of an identifier's fields, with its newline.
-fn id_line(id: Id) -> ArrayVec<u8, 128>
+pub(crate) fn id_line(id: Id) -> ArrayVec<u8, 128>
     ensures { result.items ≡ id_text (id_raw id) }
 {
     let mut line = ArrayVec::new();

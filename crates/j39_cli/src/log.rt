@@ -1,12 +1,11 @@
 //! What the commands that read a log have in common.
-ghost use Rattle.std.specs.Prelude.{◌≡◌, ◌≤◌, [], codes, false, length};
+ghost use Rattle.std.specs.Prelude.{◌≡◌, [], codes};
 ghost use Rattle.j39_io.specs.Turn.{Writes, turn};
 ghost use Rattle.clap.specs.Words.{App, with_rule};
-ghost use Rattle.j39_cli.specs.LogCommand.{IsTold, fault_text, format_of, with_log};
+ghost use Rattle.j39_cli.specs.LogCommand.{IsTold, fault_text, with_log};
 ghost use Rattle.j39_cli.specs.Refusal.{error_line};
 ghost use Rattle.j39_cli.specs.Rules.{IsMade, flag_rule};
 
-use crate::Format;
 use crate::command::{with_flag, with_option, with_value};
 use crate::fields::{counts_line, push_field};
 use crate::refusal::{complain, show};
@@ -30,13 +29,6 @@ pub(crate) fn with_csv<'a>(
 {
     let help = "As comma-separated values (RFC 4180), below the names of the columns";
     with_flag(alloc, command, "csv", help)
-}
-
-/// How what a log has is written.
-pub(crate) fn format_by(csv: bool) -> Format
-    ensures { result ≡ format_of csv }
-{
-    if csv { Format::Csv } else { Format::Lines }
 }
 
 /// The command with the arguments of a log.

@@ -1,22 +1,21 @@
 //! The command `nodes`: its words, and how it is performed.
-ghost use Rattle.std.specs.Prelude.{◌≡◌, ◌≢◌, IfOk, codes, true, Err};
+ghost use Rattle.std.specs.Prelude.{◌≡◌, OnOk, codes, true};
 ghost use Rattle.j39_io.specs.Turn.{turn};
-ghost use Rattle.clap.specs.Words.{first_value, found_of};
+ghost use Rattle.clap.specs.Words.{found_of};
 ghost use Rattle.j39_listen.specs.Asking.{AsksNowhere};
-ghost use Rattle.j39_cli.specs.CommandWords as written;
-ghost use Rattle.j39_cli.specs.CommandWords.{IsAnswer};
-ghost use Rattle.j39_cli.specs.LogCommand.{IsRun};
+ghost use Rattle.j39_listen.specs.Ran.{Ran};
+ghost use Rattle.j39_cli.specs.CommandWords.{IsAnswered, command_found};
+ghost use Rattle.j39_cli.specs.LogCommand.{log_limit};
 ghost use Rattle.j39_cli.specs.NodesCommand.{nodes_app, nodes_in};
-ghost use Rattle.j39_cli.specs.Rules.{IsMade, is_given};
-ghost use Rattle.j39_cli.specs.Task.{IsInRange};
+ghost use Rattle.j39_cli.specs.Rules.{IsMade};
 
 use crate::command::new_command;
-use crate::log::{LOG_LIMIT, copy_of, format_by, tell_end, with_csv, with_log};
-use crate::words::{bus_value, is_set};
-use crate::{Format, ParseFault, Task, WordText};
+use crate::log::{LOG_LIMIT, copy_of, with_csv, with_log};
+use crate::words::{format_given, log_input};
+use crate::{Format, ParseFault, Task};
 use clap::{ArgMatches, Command};
 use j39_io::{Sink, Source};
-use j39_listen::nodes_csv;
+use j39_listen::{Counts, RunFault, nodes_csv};
 use j39_log::Bus;
 use std::alloc::{AllocError, Global};
 
@@ -50,42 +49,28 @@ pub(crate) fn command<'a>(alloc: Global) -> Result<Command<'a>, AllocError>
 
 /// The task that its words ask for.
 pub(crate) fn task<'a>(given: &ArgMatches<'a>) -> Result<Task<'a>, ParseFault>
-    ensures answer { IsAnswer (written.nodes (first_value (found_of given.now) (codes "bus"))
-        (is_given (first_value (found_of given.now) (codes "csv")))
-        (first_value (found_of given.now) (codes "file"))) result }
-    ensures memory { result ≢ Err ParseFault.Memory }
-    ensures in_range { IfOk result IsInRange }
+    ensures { IsAnswered (command_found (codes "nodes") (found_of given.now)) result }
 {
-    let file = given.get_str("file").map(WordText::new);
-    let format = format_by(is_set(given, "csv"));
-    match bus_value(given) {
-        Ok(bus) => Ok(Task::Nodes(bus, format, file)),
+    let format = format_given(given);
+    match log_input(given) {
+        Ok(input) => Ok(Task::Nodes { input, format }),
         Err(fault) => Err(fault),
     }
 }
 
-/// Performs it: the lines go to `sink`, the counts or what failed to `err`.
-pub(crate) fn perform<R: Source, W: Sink, E: Sink>(
-    bus: &Option<Bus>,
+/// Reads a log, and writes who holds which address after it.
+pub(crate) fn run<R: Source, W: Sink>(
     format: Format,
+    bus: &Option<Bus>,
     source: &mut R,
     sink: &mut W,
-    err: &mut E,
-) -> u8
-    ensures run { IsRun AsksNowhere (nodes_in format) bus.now result
-        (turn R.remaining R.has_failed source.old source.new)
-        (turn W.written W.has_failed sink.old sink.new)
-        (turn E.written E.has_failed err.old err.new) }
-    ensures flushed { result ≡ 0 → W.is_flushed sink.new ≡ true }
+) -> Result<Counts, RunFault>
+    ensures ran { Ran (nodes_in format) AsksNowhere bus.now log_limit result
+        (turn R.remaining R.has_failed source.old source.new) (turn W.written W.has_failed sink.old sink.new) }
+    ensures flushed { OnOk result (W.is_flushed sink.new ≡ true) }
 {
     match format {
-        Format::Lines => {
-            let end = j39_listen::nodes(source, sink, copy_of(bus), LOG_LIMIT);
-            tell_end(end, err)
-        }
-        Format::Csv => {
-            let end = nodes_csv(source, sink, copy_of(bus), LOG_LIMIT);
-            tell_end(end, err)
-        }
+        Format::Lines => j39_listen::nodes(source, sink, copy_of(bus), LOG_LIMIT),
+        Format::Csv => nodes_csv(source, sink, copy_of(bus), LOG_LIMIT),
     }
 }

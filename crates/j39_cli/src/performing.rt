@@ -4,7 +4,11 @@ ghost use Rattle.j39_io.specs.Turn.{turn};
 ghost use Rattle.j39_groups.specs.Table.{the_table};
 ghost use Rattle.j39_cli.specs.Task.{IsPerformed, reads_log};
 
-use crate::{Task, answer, cut, faults, groups, id, name, nodes, report, summary, survey};
+use crate::id::id_line;
+use crate::log::tell_end;
+use crate::name::name_lines;
+use crate::shown::show_text;
+use crate::{Task, answer, faults, groups, nodes, report, summary, survey};
 use j39_groups::Groups;
 use j39_io::{Sink, Source};
 use std::alloc::Global;
@@ -62,23 +66,38 @@ pub fn perform_with<R: Source, W: Sink, E: Sink>(
     ensures silent { reads_log task.now ≡ false → result ≡ 0 → err.new ≡ err.old }
 {
     match task {
-        Task::Report(bus, _, spns, format, _) => {
-            report::perform(alloc, groups, bus, spns, *format, source, sink, err)
+        Task::Report {
+            input,
+            spns,
+            format,
+            ..
+        } => { report::perform(alloc, groups, &input.bus, spns, *format, source, sink, err) }
+        Task::Summary { input, format, .. } => {
+            let end = summary::run(alloc, groups, *format, &input.bus, source, sink);
+            tell_end(end, err)
         }
-        Task::Summary(bus, _, format, _) => {
-            summary::perform(alloc, groups, bus, *format, source, sink, err)
+        Task::Faults {
+            input,
+            telling,
+            format,
+            ..
+        } => {
+            let bus = &input.bus;
+            let end = faults::run(alloc, groups, *telling, *format, bus, source, sink);
+            tell_end(end, err)
         }
-        Task::Faults(bus, _, telling, format, _) => {
-            faults::perform(alloc, groups, bus, *telling, *format, source, sink, err)
+        Task::Nodes { input, format } => {
+            tell_end(nodes::run(*format, &input.bus, source, sink), err)
         }
-        Task::Nodes(bus, format, _) => nodes::perform(bus, *format, source, sink, err),
-        Task::Answer(name, address, bus, _) => {
-            answer::perform(alloc, *name, address, bus, source, sink, err)
-        }
-        Task::Id(id) => id::perform(*id, sink, err),
-        Task::Name(name) => name::perform(*name, sink, err),
-        Task::Cut(outgoing) => cut::perform(outgoing, sink, err),
+        Task::Answer {
+            name,
+            address,
+            input,
+        } => { answer::perform(alloc, *name, address, &input.bus, source, sink, err) }
+        Task::Id(id) => show_text(id_line(*id).as_slice(), sink, err),
+        Task::Name(name) => show_text(name_lines(*name).as_slice(), sink, err),
+        Task::Cut(outgoing) => show_text(outgoing.lines().as_slice(), sink, err),
         Task::Groups(_) => groups::perform(groups, sink, err),
-        Task::Survey(_, _) => survey::perform(alloc, groups, source, sink, err),
+        Task::Survey { .. } => survey::perform(alloc, groups, source, sink, err),
     }
 }

@@ -1,24 +1,22 @@
 //! The command `report`: its words, and how it is performed.
-ghost use Rattle.std.specs.Prelude.{◌≡◌, ◌≢◌, ◌⊎◌, IfOk, codes, false, true, Err};
+ghost use Rattle.std.specs.Prelude.{◌≡◌, ◌⊎◌, OnOk, codes, true};
 ghost use Rattle.j39_io.specs.Turn.{turn};
-ghost use Rattle.clap.specs.Words.{first_value, found_of};
+ghost use Rattle.clap.specs.Words.{found_of};
 ghost use Rattle.j39_listen.specs.Asking.{AsksForBoxes};
-ghost use Rattle.j39_cli.specs.CommandWords as written;
-ghost use Rattle.j39_cli.specs.CommandWords.{IsAnswer};
-ghost use Rattle.j39_cli.specs.LogCommand.{IsRun};
+ghost use Rattle.j39_listen.specs.Ran.{Ran};
+ghost use Rattle.j39_cli.specs.CommandWords.{IsAnswered, command_found};
+ghost use Rattle.j39_cli.specs.LogCommand.{log_limit};
 ghost use Rattle.j39_cli.specs.ReportCommand.{IsReportRun, makes_in, report_app};
-ghost use Rattle.j39_cli.specs.Rules.{IsMade, is_given};
-ghost use Rattle.j39_cli.specs.Task.{IsInRange};
+ghost use Rattle.j39_cli.specs.Rules.{IsMade};
 
 use crate::command::{new_command, with_option, with_table};
-use crate::log::{LOG_LIMIT, copy_of, format_by, tell_end, with_csv, with_log};
-use crate::refusal::complain;
-use crate::words::{bus_value, is_set, spns_value};
+use crate::log::{LOG_LIMIT, copy_of, tell_end, tell_fault, with_csv, with_log};
+use crate::words::{format_given, log_input, spns_value};
 use crate::{Format, ParseFault, Spns, Task, WordText};
 use clap::{ArgMatches, Command};
 use j39_groups::Groups;
 use j39_io::{Sink, Source};
-use j39_listen::run_with;
+use j39_listen::{Counts, RunFault, run_with};
 use j39_log::Bus;
 use j39_reports::report_csv;
 use std::alloc::{AllocError, Global};
@@ -61,22 +59,21 @@ pub(crate) fn command<'a>(alloc: Global) -> Result<Command<'a>, AllocError>
 
 /// The task that its words ask for.
 pub(crate) fn task<'a>(given: &ArgMatches<'a>) -> Result<Task<'a>, ParseFault>
-    ensures answer { IsAnswer (written.report (first_value (found_of given.now) (codes "bus"))
-        (first_value (found_of given.now) (codes "table")) (first_value (found_of given.now) (codes "spn"))
-        (is_given (first_value (found_of given.now) (codes "csv")))
-        (first_value (found_of given.now) (codes "file"))) result }
-    ensures memory { result ≢ Err ParseFault.Memory }
-    ensures in_range { IfOk result IsInRange }
+    ensures { IsAnswered (command_found (codes "report") (found_of given.now)) result }
 {
     let table = given.get_str("table").map(WordText::new);
-    let format = format_by(is_set(given, "csv"));
-    let file = given.get_str("file").map(WordText::new);
-    let bus = match bus_value(given) {
-        Ok(bus) => bus,
+    let format = format_given(given);
+    let input = match log_input(given) {
+        Ok(input) => input,
         Err(fault) => return Err(fault),
     };
     match spns_value(given) {
-        Ok(spns) => Ok(Task::Report(bus, table, spns, format, file)),
+        Ok(spns) => Ok(Task::Report {
+            input,
+            table,
+            spns,
+            format,
+        }),
         Err(fault) => Err(fault),
     }
 }
@@ -101,41 +98,29 @@ pub(crate) fn perform<R: Source, W: Sink, E: Sink>(
     ensures flushed { result ≡ 0 → W.is_flushed sink.new ≡ true }
 {
     let Some(spns) = spns else {
-        return run_by(alloc, groups, bus, format, source, sink, err);
+        return tell_end(run(alloc, groups, format, bus, source, sink), err);
     };
     match groups.restricted_to(alloc, spns.as_slice()) {
-        Ok(kept) => run_by(alloc, &kept, bus, format, source, sink, err),
-        Err(AllocError) => {
-            complain(err, b"out of memory", b"");
-            1
-        }
+        Ok(kept) => tell_end(run(alloc, &kept, format, bus, source, sink), err),
+        Err(AllocError) => tell_fault(RunFault::Memory, err),
     }
 }
 
-fn run_by<R: Source, W: Sink, E: Sink>(
+/// Reads a log, and writes its report by a table of parameters.
+fn run<R: Source, W: Sink>(
     alloc: Global,
     groups: &Groups<'_>,
-    bus: &Option<Bus>,
     format: Format,
+    bus: &Option<Bus>,
     source: &mut R,
     sink: &mut W,
-    err: &mut E,
-) -> u8
-    ensures run { IsRun AsksForBoxes (makes_in format groups.now) bus.now result
-        (turn R.remaining R.has_failed source.old source.new)
-        (turn W.written W.has_failed sink.old sink.new)
-        (turn E.written E.has_failed err.old err.new) }
-    ensures status { (result ≡ 0) ⊎ (result ≡ 1) }
-    ensures flushed { result ≡ 0 → W.is_flushed sink.new ≡ true }
+) -> Result<Counts, RunFault>
+    ensures ran { Ran (makes_in format groups.now) AsksForBoxes bus.now log_limit result
+        (turn R.remaining R.has_failed source.old source.new) (turn W.written W.has_failed sink.old sink.new) }
+    ensures flushed { OnOk result (W.is_flushed sink.new ≡ true) }
 {
     match format {
-        Format::Lines => {
-            let end = run_with(alloc, groups, source, sink, copy_of(bus), LOG_LIMIT);
-            tell_end(end, err)
-        }
-        Format::Csv => {
-            let end = report_csv(alloc, groups, source, sink, copy_of(bus), LOG_LIMIT);
-            tell_end(end, err)
-        }
+        Format::Lines => run_with(alloc, groups, source, sink, copy_of(bus), LOG_LIMIT),
+        Format::Csv => report_csv(alloc, groups, source, sink, copy_of(bus), LOG_LIMIT),
     }
 }

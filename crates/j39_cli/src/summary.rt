@@ -1,22 +1,22 @@
 //! The command `summary`: its words, and how it is performed.
-ghost use Rattle.std.specs.Prelude.{◌≡◌, ◌≢◌, IfOk, codes, true, Err};
+ghost use Rattle.std.specs.Prelude.{◌≡◌, OnOk, codes, true};
 ghost use Rattle.j39_io.specs.Turn.{turn};
-ghost use Rattle.clap.specs.Words.{first_value, found_of};
+ghost use Rattle.clap.specs.Words.{found_of};
 ghost use Rattle.j39_reports.specs.SummaryRun.{AsksForRows};
-ghost use Rattle.j39_cli.specs.CommandWords as written;
-ghost use Rattle.j39_cli.specs.CommandWords.{IsAnswer};
-ghost use Rattle.j39_cli.specs.LogCommand.{IsRun};
+ghost use Rattle.j39_listen.specs.Ran.{Ran};
+ghost use Rattle.j39_cli.specs.CommandWords.{IsAnswered, command_found};
+ghost use Rattle.j39_cli.specs.LogCommand.{log_limit};
 ghost use Rattle.j39_cli.specs.SummaryCommand.{summary_app, summary_in};
-ghost use Rattle.j39_cli.specs.Rules.{IsMade, is_given};
-ghost use Rattle.j39_cli.specs.Task.{IsInRange};
+ghost use Rattle.j39_cli.specs.Rules.{IsMade};
 
 use crate::command::{new_command, with_table};
-use crate::log::{LOG_LIMIT, copy_of, format_by, tell_end, with_csv, with_log};
-use crate::words::{bus_value, is_set};
+use crate::log::{LOG_LIMIT, copy_of, with_csv, with_log};
+use crate::words::{format_given, log_input};
 use crate::{Format, ParseFault, Task, WordText};
 use clap::{ArgMatches, Command};
 use j39_groups::Groups;
 use j39_io::{Sink, Source};
+use j39_listen::{Counts, RunFault};
 use j39_log::Bus;
 use j39_reports::summary_csv;
 use std::alloc::{AllocError, Global};
@@ -50,45 +50,35 @@ pub(crate) fn command<'a>(alloc: Global) -> Result<Command<'a>, AllocError>
 
 /// The task that its words ask for.
 pub(crate) fn task<'a>(given: &ArgMatches<'a>) -> Result<Task<'a>, ParseFault>
-    ensures answer { IsAnswer (written.summary (first_value (found_of given.now) (codes "bus"))
-        (first_value (found_of given.now) (codes "table")) (is_given (first_value (found_of given.now) (codes "csv")))
-        (first_value (found_of given.now) (codes "file"))) result }
-    ensures memory { result ≢ Err ParseFault.Memory }
-    ensures in_range { IfOk result IsInRange }
+    ensures { IsAnswered (command_found (codes "summary") (found_of given.now)) result }
 {
     let table = given.get_str("table").map(WordText::new);
-    let file = given.get_str("file").map(WordText::new);
-    let format = format_by(is_set(given, "csv"));
-    match bus_value(given) {
-        Ok(bus) => Ok(Task::Summary(bus, table, format, file)),
+    let format = format_given(given);
+    match log_input(given) {
+        Ok(input) => Ok(Task::Summary {
+            input,
+            table,
+            format,
+        }),
         Err(fault) => Err(fault),
     }
 }
 
-/// Performs it by a table of parameters: the summary goes to `sink`, the counts or what failed to `err`.
-pub(crate) fn perform<R: Source, W: Sink, E: Sink>(
+/// Reads a log, and writes its summary by a table of parameters.
+pub(crate) fn run<R: Source, W: Sink>(
     alloc: Global,
     groups: &Groups<'_>,
-    bus: &Option<Bus>,
     format: Format,
+    bus: &Option<Bus>,
     source: &mut R,
     sink: &mut W,
-    err: &mut E,
-) -> u8
-    ensures run { IsRun (AsksForRows groups.now) (summary_in format groups.now) bus.now result
-        (turn R.remaining R.has_failed source.old source.new)
-        (turn W.written W.has_failed sink.old sink.new)
-        (turn E.written E.has_failed err.old err.new) }
-    ensures flushed { result ≡ 0 → W.is_flushed sink.new ≡ true }
+) -> Result<Counts, RunFault>
+    ensures ran { Ran (summary_in format groups.now) (AsksForRows groups.now) bus.now log_limit result
+        (turn R.remaining R.has_failed source.old source.new) (turn W.written W.has_failed sink.old sink.new) }
+    ensures flushed { OnOk result (W.is_flushed sink.new ≡ true) }
 {
     match format {
-        Format::Lines => {
-            let end = j39_reports::summary(alloc, groups, source, sink, copy_of(bus), LOG_LIMIT);
-            tell_end(end, err)
-        }
-        Format::Csv => {
-            let end = summary_csv(alloc, groups, source, sink, copy_of(bus), LOG_LIMIT);
-            tell_end(end, err)
-        }
+        Format::Lines => j39_reports::summary(alloc, groups, source, sink, copy_of(bus), LOG_LIMIT),
+        Format::Csv => summary_csv(alloc, groups, source, sink, copy_of(bus), LOG_LIMIT),
     }
 }

@@ -1,11 +1,9 @@
 //! The command `survey`: its words, and how it is performed.
-ghost use Rattle.std.specs.Prelude.{◌≡◌, ◌≢◌, IfOk, codes, false, true, Err};
+ghost use Rattle.std.specs.Prelude.{◌≡◌, codes, true};
 ghost use Rattle.j39_io.specs.Turn.{turn};
-ghost use Rattle.clap.specs.Words.{first_value, found_of};
-ghost use Rattle.j39_cli.specs.CommandWords as written;
-ghost use Rattle.j39_cli.specs.CommandWords.{IsAnswer};
+ghost use Rattle.clap.specs.Words.{found_of};
+ghost use Rattle.j39_cli.specs.CommandWords.{IsAnswered, command_found};
 ghost use Rattle.j39_cli.specs.SurveyCommand.{IsSurvey, survey_app};
-ghost use Rattle.j39_cli.specs.Task.{IsInRange};
 ghost use Rattle.j39_cli.specs.Rules.{IsMade};
 
 use crate::command::{new_command, with_table, with_value};
@@ -47,14 +45,11 @@ pub(crate) fn command<'a>(alloc: Global) -> Result<Command<'a>, AllocError>
 
 /// The task that its words ask for.
 pub(crate) fn task<'a>(given: &ArgMatches<'a>) -> Result<Task<'a>, ParseFault>
-    ensures answer { IsAnswer (written.survey (first_value (found_of given.now) (codes "table"))
-        (first_value (found_of given.now) (codes "file"))) result }
-    ensures memory { result ≢ Err ParseFault.Memory }
-    ensures in_range { IfOk result IsInRange }
+    ensures { IsAnswered (command_found (codes "survey") (found_of given.now)) result }
 {
     let table = given.get_str("table").map(WordText::new);
     let file = given.get_str("file").map(WordText::new);
-    Ok(Task::Survey(table, file))
+    Ok(Task::Survey { table, file })
 }
 
 /// Performs it by a table of parameters: the survey goes to `sink`, what failed to `err`.

@@ -92,25 +92,72 @@ pub enum Format {
     Csv,
 }
 
+/// The log that a command reads.
+#[derive(Drop)]
+pub struct LogInput<'a> {
+    /// The bus to read; `None` for that of the first frame.
+    pub bus: Option<Bus>,
+    /// FILE, where it is given.
+    pub file: Option<WordText<'a>>,
+}
+
 /// A command with its values.
 #[derive(Drop)]
 pub enum Task<'a> {
-    /// The report of a log: the bus to read, where one is named, the file of the table of parameters,
-    /// where it isn't the built-in one, the parameters that are asked for, where not all are, how it is written,
-    /// and FILE, where it is given.
-    Report(Option<Bus>, Option<WordText<'a>>, Option<Spns>, Format, Option<WordText<'a>>),
-    /// The summary of a log: the bus to read, the file of the table, how it is written, and FILE, as of a report.
-    Summary(Option<Bus>, Option<WordText<'a>>, Format, Option<WordText<'a>>),
-    /// The fault codes in a log: the bus to read, where one is named, the file of the table of parameters, where it
-    /// isn't the built-in one, which messages are told, how it is written, and FILE, as of a report.
-    Faults(Option<Bus>, Option<WordText<'a>>, Telling, Format, Option<WordText<'a>>),
-    /// Who holds which address after a log: the bus to read, how it is written, and FILE, as of a report.
-    Nodes(Option<Bus>, Format, Option<WordText<'a>>),
-    /// What a node of this NAME, which starts with this address, would send: with the bus to read, and FILE, as of
-    /// a report.
-    Answer(Name, Address, Option<Bus>, Option<WordText<'a>>),
-    /// What a log is: the file of the table of parameters, and FILE, as of a report.
-    Survey(Option<WordText<'a>>, Option<WordText<'a>>),
+    /// The report of a log.
+    Report {
+        /// The log to read.
+        input: LogInput<'a>,
+        /// The file of the table of parameters; `None` for the built-in one.
+        table: Option<WordText<'a>>,
+        /// The parameters that are asked for; `None` for all.
+        spns: Option<Spns>,
+        /// How it is written.
+        format: Format,
+    },
+    /// The summary of a log.
+    Summary {
+        /// The log to read.
+        input: LogInput<'a>,
+        /// The file of the table, as of a report.
+        table: Option<WordText<'a>>,
+        /// How it is written.
+        format: Format,
+    },
+    /// The fault codes in a log.
+    Faults {
+        /// The log to read.
+        input: LogInput<'a>,
+        /// The file of the table, as of a report.
+        table: Option<WordText<'a>>,
+        /// Which messages are told.
+        telling: Telling,
+        /// How they are written.
+        format: Format,
+    },
+    /// Who holds which address after a log.
+    Nodes {
+        /// The log to read.
+        input: LogInput<'a>,
+        /// How they are written.
+        format: Format,
+    },
+    /// What a node would send, had it been on the bus of a log.
+    Answer {
+        /// The node's NAME.
+        name: Name,
+        /// The address that it starts with.
+        address: Address,
+        /// The log to read.
+        input: LogInput<'a>,
+    },
+    /// What a log is.
+    Survey {
+        /// The file of the table, as of a report.
+        table: Option<WordText<'a>>,
+        /// FILE, where it is given.
+        file: Option<WordText<'a>>,
+    },
     /// The fields of an identifier.
     Id(Id),
     /// The fields of a NAME.
@@ -127,12 +174,12 @@ impl<'a> Task<'a> {
         ensures { option_map (λ text. text.now) result ≡ file_of self.now }
     {
         match self {
-            Task::Report(_, _, _, _, file) => opened_of(file),
-            Task::Summary(_, _, _, file) => opened_of(file),
-            Task::Faults(_, _, _, _, file) => opened_of(file),
-            Task::Nodes(_, _, file) => opened_of(file),
-            Task::Answer(_, _, _, file) => opened_of(file),
-            Task::Survey(_, file) => opened_of(file),
+            Task::Report { input, .. } => opened_of(&input.file),
+            Task::Summary { input, .. } => opened_of(&input.file),
+            Task::Faults { input, .. } => opened_of(&input.file),
+            Task::Nodes { input, .. } => opened_of(&input.file),
+            Task::Answer { input, .. } => opened_of(&input.file),
+            Task::Survey { file, .. } => opened_of(file),
             _ => None,
         }
     }
@@ -142,10 +189,10 @@ impl<'a> Task<'a> {
         ensures { option_map (λ text. text.now) result ≡ table_of self.now }
     {
         match self {
-            Task::Report(_, table, _, _, _) => text_of(table),
-            Task::Summary(_, table, _, _) => text_of(table),
-            Task::Faults(_, table, _, _, _) => text_of(table),
-            Task::Survey(table, _) => text_of(table),
+            Task::Report { table, .. } => text_of(table),
+            Task::Summary { table, .. } => text_of(table),
+            Task::Faults { table, .. } => text_of(table),
+            Task::Survey { table, .. } => text_of(table),
             Task::Groups(table) => text_of(table),
             _ => None,
         }

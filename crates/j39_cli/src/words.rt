@@ -2,19 +2,19 @@
 ghost use Rattle.std.specs.Prelude.{◌≡◌, ◌≢◌, ◌∷◌, [], Err, IfErr, IfOk, List, None, OnOk, Some, codes, map, true};
 ghost use Rattle.clap.specs.Words.{HasMatchesOf, Row, Text, first_value, found_of, kind_of};
 ghost use Rattle.clap.specs.Words.{fault_of, subcommand_name_of, subcommand_of, subcommand_rows_of, takes};
-ghost use Rattle.j39_log.specs.Bus.{IsBusName};
 ghost use Rattle.j39_cli.specs.Command.{line_app};
 ghost use Rattle.j39_cli.specs.CommandWords.{CommandWords, HasTexts, HasValues, IsAnswer, Tells, words_of};
 ghost use Rattle.j39_cli.specs.Spelling.{IsEntered, IsSpelled};
-ghost use Rattle.j39_cli.specs.Answer.{IsBusValue, IsSpnsValue};
+ghost use Rattle.j39_cli.specs.Answer.{IsInput, IsSpnsValue};
+ghost use Rattle.j39_cli.specs.LogCommand.{format_of};
 ghost use Rattle.j39_cli.specs.Rules.{is_given};
 ghost use Rattle.j39_cli.specs.Task.{IsInRange};
 
 use crate::command::line;
 use crate::spns::{Spns, spns_of};
 use crate::{
-    Argument, ParseFault, Task, answer, cut, faults, groups, id, name, nodes, report, summary,
-    survey,
+    Argument, Format, LogInput, ParseFault, Task, WordText, answer, cut, faults, groups, id, name,
+    nodes, report, summary, survey,
 };
 use clap::error::ErrorKind;
 use clap::{ArgMatches, Error};
@@ -100,8 +100,8 @@ fn task_named<'a>(alloc: Global, name: &str, given: &ArgMatches<'a>) -> Result<T
     match name {
         "report" => report::task(given),
         "summary" => summary::task(given),
-        "id" => id::task(alloc, given),
-        "name" => name::task(alloc, given),
+        "id" => id::task(required(alloc, given, "hex")?),
+        "name" => name::task(required(alloc, given, "hex")?),
         "cut" => cut::task(alloc, given),
         "nodes" => nodes::task(given),
         "answer" => answer::task(alloc, given),
@@ -113,16 +113,32 @@ fn task_named<'a>(alloc: Global, name: &str, given: &ArgMatches<'a>) -> Result<T
     }
 }
 
-/// The value of `--bus`, where it is given.
-pub(crate) fn bus_value(given: &ArgMatches<'_>) -> Result<Option<Bus>, ParseFault>
-    ensures { IsBusValue (first_value (found_of given.now) (codes "bus")) result }
+/// The log that is named by `--bus` and FILE, where they are given.
+pub(crate) fn log_input<'a>(given: &ArgMatches<'a>) -> Result<LogInput<'a>, ParseFault>
+    ensures { IsInput (first_value (found_of given.now) (codes "bus")) (first_value (found_of given.now) (codes "file"))
+        result }
 {
+    let file = given.get_str("file").map(WordText::new);
     match given.get_str("bus") {
-        None => Ok(None),
+        None => Ok(LogInput { bus: None, file }),
         Some(name) => match Bus::new(name.as_bytes()) {
-            Some(bus) => Ok(Some(bus)),
+            Some(bus) => Ok(LogInput {
+                bus: Some(bus),
+                file,
+            }),
             None => Err(ParseFault::BadValue(Argument::Bus)),
         },
+    }
+}
+
+/// How what the log has is written: `--csv` asks for comma-separated values.
+pub(crate) fn format_given(given: &ArgMatches<'_>) -> Format
+    ensures { result ≡ format_of (is_given (first_value (found_of given.now) (codes "csv"))) }
+{
+    if is_set(given, "csv") {
+        Format::Csv
+    } else {
+        Format::Lines
     }
 }
 

@@ -1,20 +1,18 @@
--- The texts that are read are those that were given.
-use Rattle.std.proofs.Common.{◌≡◌, Option, subst}
-use Rattle.clap.specs.Words.{Text}
-use Rattle.j39_cli.specs.CommandWords.{IsAnswer, answer}
-use Rattle.j39_cli.specs.Answer.{Answer}
-use Rattle.j39_cli.proofs.MetLemmas.{same_text}
+-- The texts that are read are those that were found.
+use Rattle.std.proofs.Common.{codes, refl}
+use Rattle.clap.specs.Words.{found_of}
+use Rattle.j39_cli.specs.CommandWords.{answer}
+use Rattle.j39_cli.proofs.MetLemmas.{tells, tells_none}
 use Rattle.j39_cli.proofs.answer.task.Goals as goal
 
-same_answer : (node address node' address' : Text) (bus file : Option Text) (r : Answer) → node ≡ node'
-    → address ≡ address'
-    → IsAnswer (answer node address bus file) r → IsAnswer (answer node' address' bus file) r
-same_answer node address node' address' bus file r e1 e2 given =
-    subst (λ (x : Text). IsAnswer (answer node' x bus file) r) e2 (subst
-    (λ (x : Text). IsAnswer (answer x address bus file) r) e1 given)
+pub returns-clause-tells : goal.returns-clause-tells
+returns-clause-tells c = tells _ (found_of c.args.given.now) c.task_of.result (answer _ _ _ _) refl
+    (c.in_ok-name.ensures.ok, (c.in_ok-address.ensures.ok, (refl, (refl, tt)))) c.task_of.ensures.answer
 
-pub returns-clause-answer : goal.returns-clause-answer
-returns-clause-answer c node address is_node is_address =
-    same_answer _ _ node address _ _ c.task_of.result (same_text _ _ node c.in-Ok.ensures.ok is_node)
-    (same_text _ _ address c.in-Ok-required.ensures.ok is_address)
-    c.task_of.ensures.answer
+pub returns-in_err-name-clause-tells : goal.returns-in_err-name-clause-tells
+returns-in_err-name-clause-tells c = tells_none _ (codes "answer") (found_of c.args.given.now) _ (codes "name") _ refl
+    c.from_residual.ensures.0 c.in_err-name.ensures.err (λ are. are.0)
+
+pub returns-in_err-address-clause-tells : goal.returns-in_err-address-clause-tells
+returns-in_err-address-clause-tells c = tells_none _ (codes "answer") (found_of c.args.given.now) _ (codes "address") _ refl
+    c.from_residual-in_err-address.ensures.0 c.in_err-address.ensures.err (λ are. are.1.0)

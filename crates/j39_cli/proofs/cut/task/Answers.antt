@@ -1,27 +1,41 @@
--- The texts that are read are those that were given.
-use Rattle.std.proofs.Common.{◌≡◌, subst}
-use Rattle.clap.specs.Words.{Text}
-use Rattle.j39_cli.specs.CommandWords.{IsAnswer, cut}
-use Rattle.j39_cli.specs.Answer.{Answer}
-use Rattle.j39_cli.proofs.MetLemmas.{same_text}
+-- The texts that are read are those that were found.
+use Rattle.std.proofs.Common.{codes, refl}
+use Rattle.clap.specs.Words.{found_of}
+use Rattle.j39_cli.specs.CommandWords.{cut}
+use Rattle.j39_cli.proofs.MetLemmas.{tells, tells_none}
 use Rattle.j39_cli.proofs.cut.task.Goals as goal
 
-same_answer : (source pgn at bus hex source' pgn' at' bus' hex' : Text) (r : Answer) → source ≡ source'
-    → pgn ≡ pgn' → at ≡ at'
-    → bus ≡ bus' → hex ≡ hex' → IsAnswer (cut source pgn at bus hex) r → IsAnswer (cut source' pgn' at' bus' hex') r
-same_answer source pgn at bus hex source' pgn' at' bus' hex' r e1 e2 e3 e4 e5 answer =
-    subst (λ (x : Text). IsAnswer (cut source' pgn' at' bus' x) r) e5
-    (subst (λ (x : Text). IsAnswer (cut source' pgn' at' x hex) r) e4
-    (subst (λ (x : Text). IsAnswer (cut source' pgn' x bus hex) r) e3
-    (subst (λ (x : Text). IsAnswer (cut source' x at bus hex) r) e2
-    (subst (λ (x : Text). IsAnswer (cut x pgn at bus hex) r) e1 answer))))
+pub returns-clause-tells : goal.returns-clause-tells
+returns-clause-tells c = tells _ (found_of c.args.given.now) c.task_of.result (cut _ _ _ _ _) refl (
+  c.in_ok-source.ensures.ok,
+  (
+    c.in_ok-pgn.ensures.ok,
+    (
+      c.in_ok-at.ensures.ok,
+      (
+        c.in_ok-bus.ensures.ok,
+        (c.in_ok-hex.ensures.ok, tt),
+      ),
+    ),
+  ),
+) c.task_of.ensures.answer
 
-pub returns-clause-answer : goal.returns-clause-answer
-returns-clause-answer c source pgn at bus hex is_source is_pgn is_at is_bus is_hex =
-    same_answer _ _ _ _ _ source pgn at bus hex c.task_of.result
-    (same_text _ _ source c.in_ok-source.ensures.ok is_source)
-    (same_text _ _ pgn c.in_ok-pgn.ensures.ok is_pgn)
-    (same_text _ _ at c.in_ok-at.ensures.ok is_at)
-    (same_text _ _ bus c.in_ok-bus.ensures.ok is_bus)
-    (same_text _ _ hex c.in_ok-hex.ensures.ok is_hex)
-    c.task_of.ensures.answer
+pub returns-in_err-source-clause-tells : goal.returns-in_err-source-clause-tells
+returns-in_err-source-clause-tells c = tells_none _ (codes "cut") (found_of c.args.given.now) _ (codes "source") _ refl
+    c.from_residual.ensures.0 c.in_err-source.ensures.err (λ are. are.0)
+
+pub returns-in_err-pgn-clause-tells : goal.returns-in_err-pgn-clause-tells
+returns-in_err-pgn-clause-tells c = tells_none _ (codes "cut") (found_of c.args.given.now) _ (codes "pgn") _ refl
+    c.from_residual-in_err-pgn.ensures.0 c.in_err-pgn.ensures.err (λ are. are.1.0)
+
+pub returns-in_err-at-clause-tells : goal.returns-in_err-at-clause-tells
+returns-in_err-at-clause-tells c = tells_none _ (codes "cut") (found_of c.args.given.now) _ (codes "at") _ refl
+    c.from_residual-in_err-at.ensures.0 c.in_err-at.ensures.err (λ are. are.1.1.0)
+
+pub returns-in_err-bus-clause-tells : goal.returns-in_err-bus-clause-tells
+returns-in_err-bus-clause-tells c = tells_none _ (codes "cut") (found_of c.args.given.now) _ (codes "bus") _ refl
+    c.from_residual-in_err-bus.ensures.0 c.in_err-bus.ensures.err (λ are. are.1.1.1.0)
+
+pub returns-in_err-hex-clause-tells : goal.returns-in_err-hex-clause-tells
+returns-in_err-hex-clause-tells c = tells_none _ (codes "cut") (found_of c.args.given.now) _ (codes "hex") _ refl
+    c.from_residual-in_err-hex.ensures.0 c.in_err-hex.ensures.err (λ are. are.1.1.1.1.0)

@@ -1,44 +1,40 @@
 -- Each command answers what clap met under its name.
-use Rattle.j39_cli.proofs.AnswerLemmas.{answer_tells}
-use Rattle.j39_cli.proofs.CutLemmas.{cut_tells}
-use Rattle.j39_cli.proofs.FaultsLemmas.{faults_tells}
-use Rattle.j39_cli.proofs.GroupsLemmas.{groups_tells}
-use Rattle.j39_cli.proofs.IdLemmas.{id_tells}
-use Rattle.j39_cli.proofs.NameLemmas.{name_tells}
-use Rattle.j39_cli.proofs.NodesLemmas.{nodes_tells}
-use Rattle.j39_cli.proofs.ReportLemmas.{report_tells}
-use Rattle.j39_cli.proofs.SummaryLemmas.{summary_tells}
-use Rattle.j39_cli.proofs.SurveyLemmas.{survey_tells}
+use Rattle.std.proofs.Common.{codes, refl}
+use Rattle.clap.specs.Words.{found_of}
+use Rattle.j39_cli.specs.CommandWords.{faults, groups, id, name, nodes, report, summary, survey}
+use Rattle.j39_cli.proofs.MetLemmas.{tells, tells_none}
 use Rattle.j39_cli.proofs.words.task_named.Goals as goal
 
 pub returns-in-report-clause-tells : goal.returns-in-report-clause-tells
-returns-in-report-clause-tells c = report_tells _ _ _ c.in-report.is c.task.ensures.answer
+returns-in-report-clause-tells c = tells _ (found_of c.args.given.now) c.task.result (report _ _ _ _ _) c.in-report.is (refl, (refl, (refl, (refl, (refl, tt))))) c.task.ensures.answer
 
 pub returns-in-summary-clause-tells : goal.returns-in-summary-clause-tells
-returns-in-summary-clause-tells c = summary_tells _ _ _ c.in-summary.is c.task-in-summary.ensures.answer
-
-pub returns-in-id-clause-tells : goal.returns-in-id-clause-tells
-returns-in-id-clause-tells c = id_tells _ _ _ c.in-id.is c.task-in-id.ensures.answer c.task-in-id.ensures.given
-
-pub returns-in-name-clause-tells : goal.returns-in-name-clause-tells
-returns-in-name-clause-tells c = name_tells _ _ _ c.in-name.is c.task-in-name.ensures.answer
-    c.task-in-name.ensures.given
-
-pub returns-in-cut-clause-tells : goal.returns-in-cut-clause-tells
-returns-in-cut-clause-tells c = cut_tells _ _ _ c.in-cut.is c.task-in-cut.ensures.answer c.task-in-cut.ensures.given
-
-pub returns-in-nodes-clause-tells : goal.returns-in-nodes-clause-tells
-returns-in-nodes-clause-tells c = nodes_tells _ _ _ c.in-nodes.is c.task-in-nodes.ensures.answer
-
-pub returns-in-answer-clause-tells : goal.returns-in-answer-clause-tells
-returns-in-answer-clause-tells c = answer_tells _ _ _ c.in-answer.is c.task-in-answer.ensures.answer
-    c.task-in-answer.ensures.given
-
-pub returns-in-groups-clause-tells : goal.returns-in-groups-clause-tells
-returns-in-groups-clause-tells c = groups_tells _ _ _ c.in-groups.is c.task-in-groups.ensures.answer
+returns-in-summary-clause-tells c = tells _ (found_of c.args.given.now) c.task-in-summary.result (summary _ _ _ _) c.in-summary.is (refl, (refl, (refl, (refl, tt)))) c.task-in-summary.ensures.answer
 
 pub returns-in-faults-clause-tells : goal.returns-in-faults-clause-tells
-returns-in-faults-clause-tells c = faults_tells _ _ _ c.in-faults.is c.task-in-faults.ensures.answer
+returns-in-faults-clause-tells c = tells _ (found_of c.args.given.now) c.task-in-faults.result (faults _ _ _ _ _) c.in-faults.is (refl, (refl, (refl, (refl, (refl, tt))))) c.task-in-faults.ensures.answer
+
+pub returns-in-nodes-clause-tells : goal.returns-in-nodes-clause-tells
+returns-in-nodes-clause-tells c = tells _ (found_of c.args.given.now) c.task-in-nodes.result (nodes _ _ _) c.in-nodes.is (refl, (refl, (refl, tt))) c.task-in-nodes.ensures.answer
+
+pub returns-in-groups-clause-tells : goal.returns-in-groups-clause-tells
+returns-in-groups-clause-tells c = tells _ (found_of c.args.given.now) c.task-in-groups.result (groups _) c.in-groups.is (refl, tt) c.task-in-groups.ensures.answer
 
 pub returns-in-survey-clause-tells : goal.returns-in-survey-clause-tells
-returns-in-survey-clause-tells c = survey_tells _ _ _ c.in-survey.is c.task-in-survey.ensures.answer
+returns-in-survey-clause-tells c = tells _ (found_of c.args.given.now) c.task-in-survey.result (survey _ _) c.in-survey.is (refl, (refl, tt)) c.task-in-survey.ensures.answer
+
+pub returns-in_ok-required-in-id-clause-tells : goal.returns-in_ok-required-in-id-clause-tells
+returns-in_ok-required-in-id-clause-tells c = tells _ (found_of c.args.given.now) c.task-in-id.result (id _) c.in-id.is
+    (c.in_ok-required-in-id.ensures.ok, tt) c.task-in-id.ensures.answer
+
+pub returns-in_err-required-in-id-clause-tells : goal.returns-in_err-required-in-id-clause-tells
+returns-in_err-required-in-id-clause-tells c = tells_none _ (codes "id") (found_of c.args.given.now) _ (codes "hex") _
+    c.in-id.is c.from_residual.ensures.0 c.in_err-required-in-id.ensures.err (λ are. are.0)
+
+pub returns-in_ok-required-in-name-clause-tells : goal.returns-in_ok-required-in-name-clause-tells
+returns-in_ok-required-in-name-clause-tells c = tells _ (found_of c.args.given.now) c.task-in-name.result (name _) c.in-name.is
+    (c.in_ok-required-in-name.ensures.ok, tt) c.task-in-name.ensures.answer
+
+pub returns-in_err-required-in-name-clause-tells : goal.returns-in_err-required-in-name-clause-tells
+returns-in_err-required-in-name-clause-tells c = tells_none _ (codes "name") (found_of c.args.given.now) _ (codes "hex") _
+    c.in-name.is c.from_residual-in_err-required-in-name.ensures.0 c.in_err-required-in-name.ensures.err (λ are. are.0)

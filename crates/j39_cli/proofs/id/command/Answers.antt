@@ -1,5 +1,0 @@
--- Each step adds what it says.
-use Rattle.j39_cli.proofs.id.command.Goals as goal
-
-pub returns : goal.returns
-returns c = c.with_value.ensures _ c.new_command-command.ensures
