@@ -85,10 +85,11 @@ impl<'g, 't, W: Sink> ReadingVisitor<'t, W> for Records<'g, 't> {
 
     ghost Subject = { Begun };
 
-    ghost has_taken = { λ subject records sink. HasWritten subject records (W.written sink) (W.has_failed sink) };
+    ghost has_taken = { λ subject records sink.
+        HasWritten subject records (record { bytes = W.written sink; has_failed = W.has_failed sink }) };
 
     ghost has_stopped = { λ subject before at records sink.
-        HasStopped subject before at (W.written sink) (W.has_failed sink) };
+        HasStopped subject before at (record { bytes = W.written sink; has_failed = W.has_failed sink }) };
 
     fn visit(
         &mut self,
