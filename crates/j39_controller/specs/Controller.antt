@@ -1,9 +1,10 @@
 -- The controller: what is shown to its parts, what its node answers, and what time makes of it.
 use Rattle.std.specs.Prelude.{◌≡◌, ◌+◌, ℕ, Bool, true, false, List, [], ◌∷◌, ◌++◌, map, Option, Some, None, if◌then◌else◌}
 use Rattle.j39_frame.specs.Frame.{FrameRecord}
+use Rattle.j39_frame.specs.Identifier.{destination_of}
 use Rattle.j39_transport.specs.Cutting.{ToSend}
 use Rattle.j39_transport.specs.Events.{Event}
-use Rattle.j39_transport.specs.Events.Event.{Frame as Came, Forget}
+use Rattle.j39_transport.specs.Events.Event.{Forget}
 use Rattle.j39_transport.specs.Stands.{Stands}
 use Rattle.j39_transport.specs.AssemblerStep.{messages_open}
 use Rattle.j39_address.specs.Call as call
@@ -17,7 +18,7 @@ use Rattle.j39_address.specs.Node.{Node, idle_node}
 use Rattle.j39_address.specs.declared.claimer.Claimer.{Claimer}
 use Rattle.j39_controller.specs.Asked.{AskedRecord, asked_by}
 use Rattle.j39_controller.specs.Inbox.{ReceivedRecord}
-use Rattle.j39_controller.specs.Listening.{HasForgotten, PutsTogether}
+use Rattle.j39_controller.specs.Listening.{HasForgotten, PutsTogether, is_to_all, told_of}
 use Rattle.j39_controller.specs.MaySend.{MaySend, held_in}
 use Rattle.j39_controller.specs.Outbox.{posted, withdrawn}
 use Rattle.j39_controller.specs.Receiving.{ListensAt, ReceivesIn, TicksLate, is_receiving}
@@ -144,13 +145,13 @@ IsSaid old (Some claim) new = SaysClaim old claim new
 -- ---- a frame is heard
 
 -- the assembler stood for E: it has forgotten what the addresses had begun whose holder the frame f changes after F,
--- and then f came. What it made whole is behind what the receiver delivered
+-- and then f came, if it goes to all. What it made whole is behind what the receiver delivered
 pub record IsPutTogether (F : List FrameRecord) (f : FrameRecord) (E : List Event) (delivered : List ReceivedRecord)
     (command : Option Command) (new : Controller) : Type 0 where
   pub gone : List ℕ
   pub changed : AreChanged (claims_of F) (claims_of (F ++ f ∷ [])) gone
-  pub stands : Stands ((E ++ map (λ a. Forget a) gone) ++ Came f ∷ []) new.messages
-  pub whole : PutsTogether (E ++ map (λ a. Forget a) gone) f delivered command (received_in new)
+  pub stands : Stands ((E ++ map (λ a. Forget a) gone) ++ told_of f) new.messages
+  pub whole : PutsTogether (is_to_all (destination_of f.id)) (E ++ map (λ a. Forget a) gone) f delivered command (received_in new)
 
 -- every part but the node was shown the frame f: the table of holders, the assembler, the sender and the receiver. What
 -- the receiver answers goes out; a request to the controller, or to all, is kept behind the others

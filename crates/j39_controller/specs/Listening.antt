@@ -1,12 +1,11 @@
 -- What is heard of others: who holds which address, and what they broadcast.
-use Rattle.std.specs.Prelude.{◌≡◌, ◌==◌, ℕ, Bool, true, false, List, [], ◌∷◌, ◌++◌, map, Option, Some, None}
+use Rattle.std.specs.Prelude.{◌≡◌, ◌==◌, ℕ, Bool, true, false, List, [], ◌∷◌, ◌++◌, map, Option, Some, None, if◌then◌else◌}
 use Rattle.j39_frame.specs.Address.{global_address}
 use Rattle.j39_frame.specs.Frame.{FrameRecord}
 use Rattle.j39_frame.specs.Identifier.{destination_of}
 use Rattle.j39_transport.specs.Answers.{AnswersAt, Outcome, Whole, Taken, Ignored}
 use Rattle.j39_transport.specs.Events.{Event}
-use Rattle.j39_transport.specs.Events.Event.{Forget}
-use Rattle.j39_transport.specs.Message.{MessageRecord}
+use Rattle.j39_transport.specs.Events.Event.{Frame as Came, Forget}
 use Rattle.j39_transport.specs.Stands.{Stands}
 use Rattle.j39_transport.specs.AssemblerStep.{AssemblerRecord}
 use Rattle.j39_address.specs.Changes.{AreChanged}
@@ -27,21 +26,20 @@ abbrev pub is_to_all : Option ℕ → Bool
 is_to_all None = false
 is_to_all (Some to) = to == global_address
 
--- a message that goes to all is put behind the others, and may be a command
-abbrev pub IsKept : Bool → MessageRecord → ℕ → List ReceivedRecord → Option Command → List ReceivedRecord → Type 0
-IsKept true m stamp inbox command after =
-    (after ≡ inbox ++ received_of m global_address stamp ∷ []) × (command ≡ commanded_of m.pgn m.bytes)
-IsKept false m stamp inbox command after = (after ≡ inbox) × (command ≡ None)
+-- what the assembler is told of a frame: it is told of those that go to all
+abbrev pub told_of : FrameRecord → List Event
+told_of f = if is_to_all (destination_of f.id) then Came f ∷ [] else []
 
--- what is made of what the assembler answers to the frame f
-abbrev pub IsKeptOf : FrameRecord → Outcome → List ReceivedRecord → Option Command → List ReceivedRecord → Type 0
-IsKeptOf f (Whole source group bytes stamp) inbox command after =
-    IsKept (is_to_all (destination_of f.id)) (record { source = source; pgn = group; bytes = bytes }) stamp
-    inbox command after
-IsKeptOf f Taken inbox command after = (after ≡ inbox) × (command ≡ None)
-IsKeptOf f Ignored inbox command after = (after ≡ inbox) × (command ≡ None)
+-- what is made of what the assembler answers: a message is put behind the others, and may be a command
+abbrev pub IsKept : Outcome → List ReceivedRecord → Option Command → List ReceivedRecord → Type 0
+IsKept (Whole source group bytes stamp) inbox command after =
+    (after ≡ inbox ++ received_of (record { source = source; pgn = group; bytes = bytes }) global_address stamp ∷ [])
+    × (command ≡ commanded_of group bytes)
+IsKept Taken inbox command after = (after ≡ inbox) × (command ≡ None)
+IsKept Ignored inbox command after = (after ≡ inbox) × (command ≡ None)
 
--- the frame f comes after the events E: the message that is whole with it, if one is, is put behind the others where it
--- goes to all, and answered where it is a command
-abbrev pub PutsTogether : List Event → FrameRecord → List ReceivedRecord → Option Command → List ReceivedRecord → Type 0
-PutsTogether E f inbox command after = (o : Outcome) × AnswersAt E f o × IsKeptOf f o inbox command after
+-- the frame f comes after the events E. Where it goes to all, the message that is whole with it, if one is, is put behind
+-- the others, and answered where it is a command; of any other frame nothing is made
+abbrev pub PutsTogether : Bool → List Event → FrameRecord → List ReceivedRecord → Option Command → List ReceivedRecord → Type 0
+PutsTogether true E f inbox command after = (o : Outcome) × AnswersAt E f o × IsKept o inbox command after
+PutsTogether false E f inbox command after = (after ≡ inbox) × (command ≡ None)

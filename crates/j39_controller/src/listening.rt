@@ -2,15 +2,16 @@
 ghost use Rattle.std.specs.Prelude.{◌≡◌, ◌≤◌, ◌∷◌, ◌++◌, [], List, IfOk, length};
 ghost use Rattle.std.specs.Option.{option_map};
 ghost use Rattle.std.specs.Result.{OnOk};
+ghost use Rattle.j39_frame.specs.Address.{global_address};
 ghost use Rattle.j39_frame.specs.Frame.{FrameRecord};
 ghost use Rattle.j39_frame.specs.Identifier.{destination_of};
 ghost use Rattle.j39_transport.specs.Events.{Event};
-ghost use Rattle.j39_transport.specs.Events.Event.{Frame as Came};
 ghost use Rattle.j39_transport.specs.ReceiverModel.{message_shown};
 ghost use Rattle.j39_transport.specs.Stands.{Stands};
 ghost use Rattle.j39_address.specs.Claims.{Knows};
-ghost use Rattle.j39_address.specs.Command.{command_by};
-ghost use Rattle.j39_controller.specs.Listening.{HasForgotten, IsKept, PutsTogether, is_to_all};
+ghost use Rattle.j39_address.specs.Command.{command_by, commanded_of};
+ghost use Rattle.j39_controller.specs.Inbox.{received_of};
+ghost use Rattle.j39_controller.specs.Listening.{HasForgotten, PutsTogether, is_to_all, told_of};
 ghost use Rattle.j39_frame.specs.Stamp.{stamp_micros};
 
 use crate::inbox::Received;
@@ -33,8 +34,8 @@ pub(crate) fn note(holders: &mut Claims, messages: &mut Assembler, frame: &Frame
     }
 }
 
-/// Puts together what is broadcast, into the inbox, and answers the command that a message is. One that goes to a
-/// single controller, in a directed transfer, is none (J1939-81, 4.2.3).
+/// Puts together what is broadcast, into the inbox, and answers the command that a message is. A directed transfer, which
+/// is no command (J1939-81, 4.2.3), takes no buffer here: so no stranger's RTS makes this call want memory.
 pub(crate) fn put_together(
     messages: &mut Assembler,
     frame: &Frame,
@@ -42,31 +43,33 @@ pub(crate) fn put_together(
     inbox: &mut VecDeque<Received>,
 ) -> Result<Option<(Name, u8)>, AllocError>
     ensures stands { OnOk result ((E : List Event) → Stands E messages.old
-        → Stands (E ++ Came frame.now ∷ []) messages.new) }
+        → Stands (E ++ told_of frame.now) messages.new) }
     ensures whole { IfOk result (λ command. (E : List Event) → Stands E messages.old
-        → PutsTogether E frame.now inbox.old.items (option_map command_by command) inbox.new.items) }
+        → PutsTogether (is_to_all (destination_of frame.now.id)) E frame.now inbox.old.items
+        (option_map command_by command) inbox.new.items) }
 {
+    if !goes_to_all(frame) {
+        return Ok(None);
+    }
     match messages.feed(frame)? {
-        Fed::Whole(message) => keep(frame, &message, alloc, inbox),
+        Fed::Whole(message) => keep(&message, alloc, inbox),
         Fed::Taken => Ok(None),
         Fed::Ignored => Ok(None),
     }
 }
 
-/// Keeps a message that is whole with this frame, where it goes to all, and answers the command that it is.
+/// Keeps a message that went to all, and answers the command that it is.
 fn keep(
-    frame: &Frame,
     message: &Message<'_>,
     alloc: Global,
     inbox: &mut VecDeque<Received>,
 ) -> Result<Option<(Name, u8)>, AllocError>
     requires { length message.now.payload.now ≤ 1785 }
-    ensures { IfOk result (λ command. IsKept (is_to_all (destination_of frame.now.id)) (message_shown message.now)
-        (stamp_micros message.now.stamp) inbox.old.items (option_map command_by command) inbox.new.items) }
+    ensures kept { IfOk result (λ command. inbox.new.items ≡ inbox.old.items
+        ++ received_of (message_shown message.now) global_address (stamp_micros message.now.stamp) ∷ []) }
+    ensures command { IfOk result (λ command. option_map command_by command
+        ≡ commanded_of (message_shown message.now).pgn (message_shown message.now).bytes) }
 {
-    if !goes_to_all(frame) {
-        return Ok(None);
-    }
     inbox.push_back(Received::copy(alloc, message, GLOBAL_ADDRESS)?)?;
     Ok(commanded_of(message))
 }

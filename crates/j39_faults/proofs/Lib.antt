@@ -3,4 +3,3 @@ pub mod CodeLemmas
 pub mod LampLemmas
 -- writing them
 pub mod NumberLemmas
-pub mod WriteLemmas

@@ -2,11 +2,8 @@
 use Rattle.std.proofs.Common.{◌≡◌, ◌<◌, ℕ, Bool, true, false, List, [], ◌∷◌, ◌++◌, Option, None, Some, length, refl, sym, ap, ◌∙◌, subst, arith, append-nil, append_assoc, length-append}
 use Rattle.std.specs.Io.KnownBytes.{Appends}
 use Rattle.std.specs.Option.{option_map, option_to_list}
-use Rattle.std.proofs.KnownBytes.{Appends-nil, Appends-trans}
-use Rattle.j39_log.specs.Canonical.{line_text}
-use Rattle.j39_io.specs.Chars.{newline}
 use Rattle.j39_io.specs.Device.{AppendsFront}
-use Rattle.j39_io.proofs.DeviceLemmas.{front_first, front_within}
+use Rattle.j39_io.proofs.DeviceLemmas.{front_first}
 use Rattle.j39_frame.specs.Frame.{FrameRecord}
 use Rattle.j39_groups.specs.Table.{the_table}
 use Rattle.j39_address.specs.Call.{Call}
@@ -15,7 +12,7 @@ use Rattle.j39_address.specs.Command.{Command, command_by}
 use Rattle.j39_address.specs.Claim.{claim_frame}
 use Rattle.j39_address.specs.Node.{Node}
 use Rattle.j39_address.specs.declared.claimer.Claimer.{Claimer}
-use Rattle.j39_listen.proofs.AnswerLemmas.{answered_first, answered_more, answered_unique, called-append, sent_text-append, sent_text-none, sent_text-one}
+use Rattle.j39_listen.proofs.AnswerLemmas.{answered_first, answered_more, answered_unique, called-append, sent_text-append, sent_text-none}
 use Rattle.j39_groups.specs.Readings.{is_reported_in}
 use Rattle.j39_listen.proofs.Causal.{heard_more}
 use Rattle.j39_listen.proofs.LineLemmas.{capped-fits, capped-sum}
@@ -31,26 +28,6 @@ use Rattle.j39_listen.specs.declared.answers.Answers.{Answers}
 use Rattle.j39_listen.specs.declared.answers.Noticed.{Noticed}
 use Rattle.j39_listen.specs.declared.answers.Sent.{Sent}
 use Rattle.j39_listen.specs.declared.counts.Made.{Made}
-
--- ---- the line of a frame
-
-pub nothing_sent : (bus : List ℕ) (held : Option (List ℕ)) → Appends held held (sent_text bus [])
-nothing_sent bus held = subst (Appends held held) (sym (sent_text-none bus)) (Appends-nil held)
-
-pub front_of_line : (bus : List ℕ) (f : FrameRecord) (line : List ℕ) (old new : Option (List ℕ)) → line ≡ line_text f bus → AppendsFront old new line
-    → AppendsFront old new (sent_text bus (f ∷ []))
-front_of_line bus f line old new is front =
-    front_first old new (line_text f bus) (newline ∷ []) _ (sent_text-one bus f) (subst (AppendsFront old new) is front)
-
-pub front_of_newline : (bus : List ℕ) (f : FrameRecord) (line : List ℕ) (old mid new : Option (List ℕ)) → line ≡ line_text f bus → Appends old mid line
-    → AppendsFront mid new (newline ∷ []) → AppendsFront old new (sent_text bus (f ∷ []))
-front_of_newline bus f line old mid new is written front =
-    front_within old mid new (line_text f bus) (newline ∷ []) [] _ (sent_text-one bus f) (subst (Appends old mid) is written) front
-
-pub whole_line : (bus : List ℕ) (f : FrameRecord) (line : List ℕ) (old mid new : Option (List ℕ)) → line ≡ line_text f bus → Appends old mid line
-    → Appends mid new (newline ∷ []) → Appends old new (sent_text bus (f ∷ []))
-whole_line bus f line old mid new is written ended =
-    subst (Appends old new) (sym (sent_text-one bus f)) (Appends-trans old mid new (line_text f bus) (newline ∷ []) (subst (Appends old mid) is written) ended)
 
 -- ---- the lines of all frames that are sent at one
 
@@ -68,21 +45,6 @@ module _ (bus : List ℕ) (sent : Sent) where
   three_texts =
       sent_text-append bus (option_to_list sent.started) (option_to_list sent.answered ++ option_to_list sent.obeyed)
       ∙ ap (λ t. first ++ t) (sent_text-append bus (option_to_list sent.answered) (option_to_list sent.obeyed))
-
-  pub front_of_first : (old new : Option (List ℕ)) → AppendsFront old new first → AppendsFront old new (sent_text bus (all_sent sent))
-  front_of_first old new front = front_first old new first (second ++ third) _ three_texts front
-
-  pub front_of_second : (old mid new : Option (List ℕ)) → Appends old mid first → AppendsFront mid new second → AppendsFront old new (sent_text bus (all_sent sent))
-  front_of_second old mid new written front = front_within old mid new first second third _ three_texts written front
-
-  pub front_of_third : (old a b new : Option (List ℕ)) → Appends old a first → Appends a b second → AppendsFront b new third → AppendsFront old new (sent_text bus (all_sent sent))
-  front_of_third old a b new one two front =
-      let text = three_texts ∙ sym (append_assoc first second third) ∙ ap (λ t. (first ++ second) ++ t) (sym (append-nil third)) in
-      front_within old b new (first ++ second) third [] _ text (Appends-trans old a b first second one two) front
-
-  pub all_three : (old a b new : Option (List ℕ)) → Appends old a first → Appends a b second → Appends b new third → Appends old new (sent_text bus (all_sent sent))
-  all_three old a b new one two three =
-      subst (Appends old new) (sym three_texts) (Appends-trans old a new first (second ++ third) one (Appends-trans a b new second third two three))
 
 -- ---- one call after the other
 

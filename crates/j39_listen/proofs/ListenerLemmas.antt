@@ -115,7 +115,7 @@ silent_many singles leaves l F f many h none =
     (held_is (claims_of F) (length F) (source_of f.id))
 
 -- a frame of a group that is heard in one frame, from an address that a controller can hold
-pub heard_itself : (singles : ℕ → Bool) → LeavesNetwork singles → (l : Listener) (F : List FrameRecord) (f : FrameRecord) (name : Option ℕ) → singles (pgn_of f.id) ≡ true
+heard_itself : (singles : ℕ → Bool) → LeavesNetwork singles → (l : Listener) (F : List FrameRecord) (f : FrameRecord) (name : Option ℕ) → singles (pgn_of f.id) ≡ true
     → nat_lt (source_of f.id) 254 ≡ true → (h : Hears l F) → IsHolderAfter (claims_of F) (source_of f.id) name → HeardAtWith singles (F ++ f ∷ []) (length F) (Some (hearing_alone f name))
 heard_itself singles leaves l F f name single below h held =
     heard_next singles leaves F h.events f h.with_forgets (Some (alone_of f)) name
@@ -123,7 +123,7 @@ heard_itself singles leaves l F f name single below h held =
     (after_is F (source_of f.id) name held)
 
 -- and from no such address
-pub silent_itself : (singles : ℕ → Bool) → LeavesNetwork singles → (l : Listener) (F : List FrameRecord) (f : FrameRecord) → singles (pgn_of f.id) ≡ true
+silent_itself : (singles : ℕ → Bool) → LeavesNetwork singles → (l : Listener) (F : List FrameRecord) (f : FrameRecord) → singles (pgn_of f.id) ≡ true
     → nat_lt (source_of f.id) 254 ≡ false → Hears l F → HeardAtWith singles (F ++ f ∷ []) (length F) None
 silent_itself singles leaves l F f single above h =
     heard_next singles leaves F h.events f h.with_forgets None (holder_of (claims_of F) (length F) (source_of f.id))

@@ -1,20 +1,23 @@
 //! A run, line by line.
-ghost use Rattle.std.specs.Prelude.{◌≡◌, ℕ, List, Some, IfOk, OnOk, Err, unwrap_or};
+ghost use Rattle.std.specs.Prelude.{◌≡◌, ℕ, List, Option, Some, true, IfOk, OnOk, OnErr, Err, unwrap_or};
+ghost use Rattle.j39_io.specs.Device.{Marks};
 ghost use Rattle.j39_io.specs.Turn.{turn};
 ghost use Rattle.j39_log.specs.Bus.{IsBusName};
 ghost use Rattle.j39_log.specs.LineRead.{spelled_of};
-ghost use Rattle.j39_log.specs.Spelled.{frame as spelled_frame};
+ghost use Rattle.j39_log.specs.Spelled.{Spelled, frame as spelled_frame};
+ghost use Rattle.j39_log.specs.Splitter.{IsRawLine};
 ghost use Rattle.j39_listen.specs.AccountCalls.{LeavesWriter};
-ghost use Rattle.j39_listen.specs.WantsMemory.{AsksLine};
+ghost use Rattle.j39_listen.specs.WantsMemory.{AsksAs, AsksLine};
 ghost use Rattle.j39_listen.specs.LinesSoFar.{IsSpelling, MeetsLine, StopsLine, met_tally};
-ghost use Rattle.j39_listen.specs.PiecesSoFar.{ReadsLine, StopsAt};
+ghost use Rattle.j39_listen.specs.PiecesSoFar.{HasMetAll, ReadsAs, ReadsLine, StopsAs, StopsAt, WritesAll, WritesSome};
 ghost use Rattle.j39_listen.specs.declared.account.LineFault.TheVariants.{Memory, Write};
 
+use crate::Counts;
 use crate::account::{Account, LineFault};
 use crate::counts::{Met, Tally};
 use j39_frame::Frame;
-use j39_io::Sink;
-use j39_log::{Bus, LastSecond, Line};
+use j39_io::{DeviceFault, Sink};
+use j39_log::{Bus, LastSecond, Line, RawLine};
 
 /// The bus of a run, once it is known, the account of its frames, and what was met so far.
 #[derive(Drop)]
@@ -48,6 +51,21 @@ impl<A: Account> Lines<A> {
         Ok(())
     }
 
+    /// Reads a line of any form. It is no part of its caller, whose way for most lines so needs no room for
+    /// what this one reads.
+    #[inline(never)]
+    pub fn read_raw<W: Sink>(&mut self, raw: RawLine<'_>, sink: &mut W) -> Result<(), LineFault>
+        ensures read { OnOk result ((subject : A.Subject) (line : List ℕ) → IsRawLine raw.entry line
+            → ReadsAs (A.has_met subject) line self.old self.new (W.written sink.old) (W.written sink.new)) }
+        ensures writer { LeavesWriter result (turn W.written W.has_failed sink.old sink.new) }
+        ensures stops { result ≡ Err Write → (subject : A.Subject) (line : List ℕ) → IsRawLine raw.entry line
+            → StopsAs (A.has_met subject) (A.makes subject) line self.old (W.written sink.old) (W.written sink.new) }
+        ensures asked { result ≡ Err Memory → (subject : A.Subject) (line : List ℕ) → IsRawLine raw.entry line
+            → AsksAs (A.has_met subject) (A.asks subject) line self.old }
+    {
+        self.read(raw.read(), sink)
+    }
+
     /// Takes the line of this frame, where the bus is known and the frame is one of it, as `read` does: no line goes by
     /// memory, and no name is compared.
     #[inline(always)]
@@ -72,6 +90,36 @@ impl<A: Account> Lines<A> {
         }
         self.tally = self.tally.with(Met::Frame);
         Ok(())
+    }
+
+    /// Closes the account of all lines, and passes on what was written.
+    pub fn close<W: Sink>(&mut self, sink: &mut W) -> Result<Counts, DeviceFault>
+        ensures closes { IfOk result (λ counts.
+            (subject : A.Subject) (given : Option (List ℕ)) (spelled : List Spelled) (held : Option (List ℕ))
+            → HasMetAll (A.has_met subject) given spelled self.old held (W.written sink.old)
+            → WritesAll (A.makes subject) given spelled counts held (W.written sink.new)) }
+        ensures stops { OnErr result (
+            (subject : A.Subject) (given : Option (List ℕ)) (spelled : List Spelled) (held : Option (List ℕ))
+            → HasMetAll (A.has_met subject) given spelled self.old held (W.written sink.old)
+            → WritesSome (A.makes subject) given spelled held (W.written sink.new)) }
+        ensures flushed { OnOk result (W.is_flushed sink.new ≡ true) }
+        ensures mark { Marks result (W.has_failed sink.old) (W.has_failed sink.new) }
+    {
+        A::laws();
+        let made = self.account.close(sink)?;
+        sink.flush()?;
+        let Tally {
+            frames,
+            other,
+            unread,
+        } = self.tally;
+        Ok(Counts {
+            frames,
+            other,
+            unread,
+            messages: made.messages,
+            lines: made.lines,
+        })
     }
 }
 

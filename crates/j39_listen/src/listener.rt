@@ -195,7 +195,7 @@ fn alone(frame: &Frame, name: Option<Name>) -> Option<Heard<'_>>
 
 /// A frame as a message by itself.
 #[inline(always)]
-pub(crate) fn by_itself(frame: &Frame, name: Option<Name>) -> Heard<'_>
+fn by_itself(frame: &Frame, name: Option<Name>) -> Heard<'_>
     ensures value { hearing_of result ≡ hearing_alone frame.now (option_map name_raw name) }
     ensures short { length result.message.payload.now ≤ 1785 }
 {

@@ -1,14 +1,11 @@
 //! A run over pieces of a log.
 ghost use Rattle.std.specs.Prelude.{◌≡◌, ◌≢◌, ◌<◌, ◌≤◌, ◌++◌, ℕ, List, [], Option, true, OnOk, OnErr, IfOk, Err, length};
-ghost use Rattle.j39_io.specs.Device.{Marks};
 ghost use Rattle.j39_io.specs.Turn.{turn};
-ghost use Rattle.j39_log.specs.Spelled.{Spelled};
-ghost use Rattle.j39_log.specs.Splitter.{HasBegun, IsRawLine};
+ghost use Rattle.j39_log.specs.Splitter.{HasBegun};
 ghost use Rattle.j39_listen.specs.AccountCalls.{LeavesWriter};
 ghost use Rattle.j39_listen.specs.Asking.{AsksAmong};
-ghost use Rattle.j39_listen.specs.WantsMemory.{AsksAs, AsksIn, AsksLast};
-ghost use Rattle.j39_listen.specs.PiecesSoFar.{AtStart, Behind, HasMetAll, HasTaken, ReadsAs, ReadsLast, StepsOver};
-ghost use Rattle.j39_listen.specs.PiecesSoFar.{StopsAs, StopsIn, StopsLast, WritesAll, WritesSome};
+ghost use Rattle.j39_listen.specs.WantsMemory.{AsksIn, AsksLast};
+ghost use Rattle.j39_listen.specs.PiecesSoFar.{AtStart, Behind, HasTaken, ReadsLast, StepsOver, StopsIn, StopsLast};
 ghost use Rattle.j39_listen.specs.Run.{Writes, WritesFront, WritesFrontOfMore};
 ghost use Rattle.j39_listen.specs.declared.account.LineFault.TheVariants.{Memory, Write};
 
@@ -17,7 +14,7 @@ use crate::account::{Account, LineFault};
 use crate::counts::Tally;
 use crate::lines::Lines;
 use j39_io::{DeviceFault, Sink};
-use j39_log::{Bus, LastSecond, RawLine, Splitter};
+use j39_log::{Bus, LastSecond, Splitter};
 
 /// A log that is read in pieces, and the run over its lines.
 #[derive(Drop)]
@@ -86,7 +83,7 @@ impl<A: Account> Pieces<A> {
         A::laws();
         let mut rest = piece;
         while !rest.is_empty() {
-            let n = match take_line(&mut self.splitter, &mut self.lines, rest, sink) {
+            let n = match self.take_line(rest, sink) {
                 Ok(n) => n,
                 Err(fault) => return Err(fault),
             };
@@ -110,116 +107,59 @@ impl<A: Account> Pieces<A> {
             (λ given taken held. AsksAmong (A.asks subject) given taken) }
     {
         A::laws();
-        match take_last(&mut self.splitter, &mut self.lines, sink) {
+        match self.take_last(sink) {
             Ok(()) => {}
             Err(fault) => return Err(fault),
         }
-        match close(&mut self.lines, sink) {
+        match self.lines.close(sink) {
             Ok(counts) => Ok(counts),
             Err(DeviceFault) => Err(LineFault::Write),
         }
     }
-}
 
-/// Takes the bytes to the end of a line, which it reads, or all of them: how many it took.
-fn take_line<A: Account, W: Sink>(
-    splitter: &mut Splitter,
-    lines: &mut Lines<A>,
-    bytes: &[u8],
-    sink: &mut W,
-) -> Result<usize, LineFault>
-    ensures count { IfOk result (λ n. n ≤ length bytes.now) }
-    ensures some { IfOk result (λ n. 0 < length bytes.now → 0 < n) }
-    ensures steps { IfOk result (λ n. (subject : A.Subject) (begun : List ℕ) → HasBegun splitter.old begun
-        → StepsOver (A.has_met subject) begun bytes.now n splitter.new lines.old lines.new
-        (W.written sink.old) (W.written sink.new)) }
-    ensures writer { LeavesWriter result (turn W.written W.has_failed sink.old sink.new) }
-    ensures stops { result ≡ Err Write → (subject : A.Subject) (begun : List ℕ) → HasBegun splitter.old begun
-        → StopsIn (A.has_met subject) (A.makes subject) begun bytes.now lines.old (W.written sink.old)
-        (W.written sink.new) }
-    ensures asked { result ≡ Err Memory → (subject : A.Subject) (begun : List ℕ) → HasBegun splitter.old begun
-        → AsksIn (A.has_met subject) (A.asks subject) begun bytes.now lines.old }
-{
-    let (n, raw) = splitter.feed(bytes);
-    let Some(raw) = raw else {
-        return Ok(n);
-    };
-    match raw.frame_on(&mut lines.second, &lines.bus) {
-        Some(frame) => match lines.read_frame(&frame, sink) {
-            Ok(()) => Ok(n),
-            Err(fault) => Err(fault),
-        },
-        None => match read_line(raw, lines, sink) {
-            Ok(()) => Ok(n),
-            Err(fault) => Err(fault),
-        },
+    /// Takes the bytes to the end of a line, which it reads, or all of them: how many it took.
+    fn take_line<W: Sink>(&mut self, bytes: &[u8], sink: &mut W) -> Result<usize, LineFault>
+        ensures count { IfOk result (λ n. n ≤ length bytes.now) }
+        ensures some { IfOk result (λ n. 0 < length bytes.now → 0 < n) }
+        ensures steps { IfOk result (λ n. (subject : A.Subject) (begun : List ℕ) → HasBegun self.old.splitter begun
+            → StepsOver (A.has_met subject) begun bytes.now n self.new.splitter self.old.lines self.new.lines
+            (W.written sink.old) (W.written sink.new)) }
+        ensures writer { LeavesWriter result (turn W.written W.has_failed sink.old sink.new) }
+        ensures stops { result ≡ Err Write → (subject : A.Subject) (begun : List ℕ) → HasBegun self.old.splitter begun
+            → StopsIn (A.has_met subject) (A.makes subject) begun bytes.now self.old.lines (W.written sink.old)
+            (W.written sink.new) }
+        ensures asked { result ≡ Err Memory → (subject : A.Subject) (begun : List ℕ) → HasBegun self.old.splitter begun
+            → AsksIn (A.has_met subject) (A.asks subject) begun bytes.now self.old.lines }
+    {
+        let (n, raw) = self.splitter.feed(bytes);
+        let Some(raw) = raw else {
+            return Ok(n);
+        };
+        match raw.frame_on(&mut self.lines.second, &self.lines.bus) {
+            Some(frame) => match self.lines.read_frame(&frame, sink) {
+                Ok(()) => Ok(n),
+                Err(fault) => Err(fault),
+            },
+            None => match self.lines.read_raw(raw, sink) {
+                Ok(()) => Ok(n),
+                Err(fault) => Err(fault),
+            },
+        }
     }
-}
 
-/// Reads a line of any form. It is no part of its caller, whose way for most lines so needs no room for what this one reads.
-#[inline(never)]
-fn read_line<A: Account, W: Sink>(
-    raw: RawLine<'_>,
-    lines: &mut Lines<A>,
-    sink: &mut W,
-) -> Result<(), LineFault>
-    ensures read { OnOk result ((subject : A.Subject) (line : List ℕ) → IsRawLine raw.entry line
-        → ReadsAs (A.has_met subject) line lines.old lines.new (W.written sink.old) (W.written sink.new)) }
-    ensures writer { LeavesWriter result (turn W.written W.has_failed sink.old sink.new) }
-    ensures stops { result ≡ Err Write → (subject : A.Subject) (line : List ℕ) → IsRawLine raw.entry line
-        → StopsAs (A.has_met subject) (A.makes subject) line lines.old (W.written sink.old) (W.written sink.new) }
-    ensures asked { result ≡ Err Memory → (subject : A.Subject) (line : List ℕ) → IsRawLine raw.entry line
-        → AsksAs (A.has_met subject) (A.asks subject) line lines.old }
-{
-    lines.read(raw.read(), sink)
-}
-
-/// Reads the last line, where one is begun.
-fn take_last<A: Account, W: Sink>(
-    splitter: &mut Splitter,
-    lines: &mut Lines<A>,
-    sink: &mut W,
-) -> Result<(), LineFault>
-    ensures reads { OnOk result ((subject : A.Subject) (begun : List ℕ) → HasBegun splitter.old begun
-        → ReadsLast (A.has_met subject) begun lines.old lines.new (W.written sink.old) (W.written sink.new)) }
-    ensures writer { LeavesWriter result (turn W.written W.has_failed sink.old sink.new) }
-    ensures stops { result ≡ Err Write → (subject : A.Subject) (begun : List ℕ) → HasBegun splitter.old begun
-        → StopsLast (A.has_met subject) (A.makes subject) begun lines.old (W.written sink.old) (W.written sink.new) }
-    ensures asked { result ≡ Err Memory → (subject : A.Subject) (begun : List ℕ) → HasBegun splitter.old begun
-        → AsksLast (A.has_met subject) (A.asks subject) begun lines.old }
-{
-    match splitter.finish() {
-        None => Ok(()),
-        Some(raw) => read_line(raw, lines, sink),
+    /// Reads the last line, where one is begun.
+    fn take_last<W: Sink>(&mut self, sink: &mut W) -> Result<(), LineFault>
+        ensures reads { OnOk result ((subject : A.Subject) (begun : List ℕ) → HasBegun self.old.splitter begun
+            → ReadsLast (A.has_met subject) begun self.old.lines self.new.lines (W.written sink.old) (W.written sink.new)) }
+        ensures writer { LeavesWriter result (turn W.written W.has_failed sink.old sink.new) }
+        ensures stops { result ≡ Err Write → (subject : A.Subject) (begun : List ℕ) → HasBegun self.old.splitter begun
+            → StopsLast (A.has_met subject) (A.makes subject) begun self.old.lines (W.written sink.old) (W.written sink.new) }
+        ensures asked { result ≡ Err Memory → (subject : A.Subject) (begun : List ℕ) → HasBegun self.old.splitter begun
+            → AsksLast (A.has_met subject) (A.asks subject) begun self.old.lines }
+    {
+        match self.splitter.finish() {
+            None => Ok(()),
+            Some(raw) => self.lines.read_raw(raw, sink),
+        }
     }
-}
-
-/// Closes the account of all lines, and passes on what was written.
-fn close<A: Account, W: Sink>(lines: &mut Lines<A>, sink: &mut W) -> Result<Counts, DeviceFault>
-    ensures closes { IfOk result (λ counts.
-        (subject : A.Subject) (given : Option (List ℕ)) (spelled : List Spelled) (held : Option (List ℕ))
-        → HasMetAll (A.has_met subject) given spelled lines.old held (W.written sink.old)
-        → WritesAll (A.makes subject) given spelled counts held (W.written sink.new)) }
-    ensures stops { OnErr result (
-        (subject : A.Subject) (given : Option (List ℕ)) (spelled : List Spelled) (held : Option (List ℕ))
-        → HasMetAll (A.has_met subject) given spelled lines.old held (W.written sink.old)
-        → WritesSome (A.makes subject) given spelled held (W.written sink.new)) }
-    ensures flushed { OnOk result (W.is_flushed sink.new ≡ true) }
-    ensures mark { Marks result (W.has_failed sink.old) (W.has_failed sink.new) }
-{
-    A::laws();
-    let made = lines.account.close(sink)?;
-    sink.flush()?;
-    let Tally {
-        frames,
-        other,
-        unread,
-    } = lines.tally;
-    Ok(Counts {
-        frames,
-        other,
-        unread,
-        messages: made.messages,
-        lines: made.lines,
-    })
 }

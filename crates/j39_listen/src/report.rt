@@ -1,11 +1,8 @@
 //! The report of what is heard on a bus: the runs that write it, and the account of frames that they write.
-ghost use Rattle.std.specs.Prelude.{◌≡◌, ◌<◌, [], List, true};
+ghost use Rattle.std.specs.Prelude.{◌≡◌, [], List};
 ghost use Rattle.std.specs.Prelude.{IfOk, IfSome, OnOk, OnErr, Err, Some};
-ghost use Rattle.j39_io.specs.Device.{Marks};
 ghost use Rattle.j39_io.specs.Turn.{turn};
 ghost use Rattle.j39_frame.specs.Frame.{FrameRecord};
-ghost use Rattle.j39_frame.specs.Identifier.{pgn_of, source_of};
-ghost use Rattle.j39_groups.specs.Readings.{is_reported_in};
 ghost use Rattle.j39_groups.specs.Table.{the_table};
 ghost use Rattle.j39_listen.specs.AccountCalls.{LeavesWriter};
 ghost use Rattle.j39_listen.specs.Asking.{AsksForBoxes};
@@ -19,12 +16,11 @@ ghost use Rattle.j39_listen.specs.declared.account.LineFault.TheVariants as line
 use crate::account::{Account, LineFault};
 use crate::counts::Made;
 use crate::entry_form::EntryForm;
-use crate::listener::by_itself;
 use crate::report_lines::Pen;
 use crate::running::{RunFault, run_over};
 use crate::{Counts, Listener};
-use j39_frame::{Frame, is_address};
-use j39_groups::{Groups, is_network_group};
+use j39_frame::Frame;
+use j39_groups::Groups;
 use j39_io::{DeviceFault, Sink, Source};
 use j39_log::Bus;
 use std::alloc::{AllocError, Global};
@@ -148,68 +144,8 @@ impl<'g, 't, E: EntryForm> Account for Report<'g, 't, E> {
 }
 
 /// Writes the report of what is heard at a frame of the run's bus, and answers how many lines, where something is.
-/// Most frames are heard by themselves, or not at all: those are done with here, and no `Option` is built of them.
 #[inline(always)]
 fn put_frame<E: EntryForm, W: Sink>(
-    listener: &mut Listener,
-    groups: &Groups<'_>,
-    form: &mut E,
-    frame: &Frame,
-    sink: &mut W,
-) -> Result<Option<u64>, LineFault>
-    ensures met { IfOk result (λ lines. (F : List FrameRecord) → Hears listener.old F
-        → MeetsFrame E.text_by groups.now listener.new F frame.now (made_by lines) (W.written sink.old)
-        (W.written sink.new)) }
-    ensures writer { LeavesWriter result (turn W.written W.has_failed sink.old sink.new) }
-    ensures stops { result ≡ Err line_fault.Write → (F : List FrameRecord) → Hears listener.old F
-        → StopsFrame E.text_by groups.now F frame.now (W.written sink.old) (W.written sink.new) }
-    ensures asked { result ≡ Err line_fault.Memory → (F : List FrameRecord) → Hears listener.old F
-        → AsksForBoxes F frame.now }
-{
-    let pgn = frame.id.pgn();
-    if groups.is_reported(pgn) {
-        if !is_address(frame.id.source()) {
-            return Ok(None);
-        }
-        return match put_single(listener, groups, form, frame, sink) {
-            Ok(lines) => Ok(Some(lines)),
-            Err(DeviceFault) => Err(LineFault::Write),
-        };
-    }
-    if !is_network_group(pgn) {
-        return Ok(None);
-    }
-    put_packet(listener, groups, form, frame, sink)
-}
-
-/// Writes the report of a frame that is heard by itself, and answers how many lines.
-#[inline(never)]
-fn put_single<E: EntryForm, W: Sink>(
-    listener: &Listener,
-    groups: &Groups<'_>,
-    form: &mut E,
-    frame: &Frame,
-    sink: &mut W,
-) -> Result<u64, DeviceFault>
-    requires reported { is_reported_in groups.now (pgn_of frame.now.id) ≡ true }
-    requires address { source_of frame.now.id < 254 }
-    ensures met { IfOk result (λ lines. (F : List FrameRecord) → Hears listener.now F
-        → MeetsFrame E.text_by groups.now listener.now F frame.now (made_by (Some lines)) (W.written sink.old)
-        (W.written sink.new)) }
-    ensures stops { OnErr result ((F : List FrameRecord) → Hears listener.now F
-        → StopsFrame E.text_by groups.now F frame.now (W.written sink.old) (W.written sink.new)) }
-    ensures mark { Marks result (W.has_failed sink.old) (W.has_failed sink.new) }
-{
-    let heard = by_itself(frame, listener.holder(frame.id.source()));
-    match form.put_heard(&heard, groups, sink) {
-        Ok(lines) => Ok(lines),
-        Err(DeviceFault) => Err(DeviceFault),
-    }
-}
-
-/// Writes the report of what is heard at a frame of the network's, and answers how many lines, where something is.
-#[inline(never)]
-fn put_packet<E: EntryForm, W: Sink>(
     listener: &mut Listener,
     groups: &Groups<'_>,
     form: &mut E,

@@ -1,24 +1,22 @@
 -- A line for each reading.
-use Rattle.std.proofs.Common.{ap, sym, ◌∙◌, subst}
-use Rattle.std.specs.Io.KnownBytes.{Appends}
+use Rattle.std.proofs.Common.{ap, sym, ◌∙◌}
 use Rattle.std.specs.List.{flat_map}
 use Rattle.std.proofs.lemmas.List.Folds.{flat_map-map}
-use Rattle.j39_io.specs.Device.{AppendsFront}
-use Rattle.j39_io.proofs.DeviceLemmas.{on_err}
 use Rattle.j39_groups.specs.Quick.{reading_line}
 use Rattle.j39_groups.specs.Models.{reading_of}
+use Rattle.j39_io.proofs.PutsLemmas.{puts_as, puts_done, puts_failed}
 use Rattle.j39_groups.proofs.groups_table.put_each.Goals as goal
 
-pub returns-in_err-put_found-clause-front : goal.returns-in_err-put_found-clause-front
-returns-in_err-put_found-clause-front g c =
-    on_err _ _ (subst (AppendsFront (g.W.Sink.written c.args.sink.now) (g.W.Sink.written c.put_found.new.sink))
+pub returns-in_err-put_found-clause-puts : goal.returns-in_err-put_found-clause-puts
+returns-in_err-put_found-clause-puts g c =
+    puts_failed _ _ _ _ c.from_residual.ensures.0 (puts_as _ _ _ _
     (ap (flat_map (λ r. reading_line c.args.head.now (reading_of r))) c.as_slice.ensures.value
     ∙ sym (flat_map-map (reading_line c.args.head.now) reading_of _) ∙ ap (flat_map (reading_line c.args.head.now)) c.readings-found.ensures)
-    c.in_err-put_found.ensures.front)
+    c.in_err-put_found.ensures)
 
-pub returns-clause-written : goal.returns-clause-written
-returns-clause-written g c =
-    subst (Appends (g.W.Sink.written c.args.sink.now) (g.W.Sink.written c.put_found.new.sink))
+pub returns-clause-puts : goal.returns-clause-puts
+returns-clause-puts g c =
+    puts_done _ _ _ _ (puts_as _ _ _ _
     (ap (flat_map (λ r. reading_line c.args.head.now (reading_of r))) c.as_slice.ensures.value
     ∙ sym (flat_map-map (reading_line c.args.head.now) reading_of _) ∙ ap (flat_map (reading_line c.args.head.now)) c.readings-found.ensures)
-    c.in_ok-put_found.ensures.written
+    c.in_ok-put_found.ensures)

@@ -1,7 +1,6 @@
 -- A number of 32 bits has ten digits at most.
-use Rattle.std.proofs.Common.{◌≡◌, ◌≤◌, ◌∷◌, ◌++◌, [], ◌∙◌, sym, ap, append_assoc, arith, rules, length}
-use Rattle.std.proofs.KnownBytes.{Appends-trans}
-use Rattle.j39_io.proofs.DeviceLemmas.{front_first, front_within, on_err, on_err_from}
+use Rattle.std.proofs.Common.{◌≡◌, ℕ, List, ◌≤◌, ◌∷◌, ◌++◌, [], arith, rules, length}
+use Rattle.j39_io.proofs.PutsLemmas.{puts_as, puts_first, puts_more, puts_then}
 use Rattle.j39_groups.specs.Models.{value_of}
 use Rattle.j39_groups.specs.ValueText.{value_text}
 use Rattle.std.specs.Fmt.{decimal}
@@ -18,23 +17,24 @@ push-requires g c =
     let short : length (decimal c.from.result) ≤ 10 = length-decimal-le 10 c.from.result (omega arith) (omega arith) (omega arith) in
     search rules
 
-pub returns-in_err-put_all-clause-front : goal.returns-in_err-put_all-clause-front
-returns-in_err-put_all-clause-front g c =
-    let value = value_text (value_of c.args.reading.now.value) in
-    let line : c.as_slice.result.now ≡ (c.args.head.now ++ decimal c.args.reading.now.spn) ++ (32 ∷ []) = search rules in
-    on_err _ _ (front_first _ _ c.as_slice.result.now (value ++ (10 ∷ [])) _
-    (append_assoc _ value (10 ∷ []) ∙ ap (λ t. t ++ (value ++ (10 ∷ []))) (sym line)) c.in_err-put_all.ensures.err)
+-- what stands before the value
+abbrev columns : List ℕ → ℕ → List ℕ
+columns head spn = (head ++ decimal spn) ++ (32 ∷ [])
 
-pub returns-in_err-put_value-clause-front : goal.returns-in_err-put_value-clause-front
-returns-in_err-put_value-clause-front g c =
+pub returns-in_err-put_all : goal.returns-in_err-put_all
+returns-in_err-put_all g c =
     let value = value_text (value_of c.args.reading.now.value) in
-    let line : c.as_slice.result.now ≡ (c.args.head.now ++ decimal c.args.reading.now.spn) ++ (32 ∷ []) = search rules in
-    on_err _ _ (front_within _ _ _ c.as_slice.result.now value (10 ∷ []) _
-    (append_assoc _ value (10 ∷ []) ∙ ap (λ t. t ++ (value ++ (10 ∷ []))) (sym line)) c.in_ok-put_all.ensures.ok c.in_err-put_value.ensures.err)
+    let line : c.as_slice.result.now ≡ columns c.args.head.now c.args.reading.now.spn = search rules in
+    puts_first _ (10 ∷ []) _ _ _ c.from_residual.ensures.0 (puts_more _ value _ _ (puts_as _ _ _ _ line c.in_err-put_all.ensures))
 
-pub returns-clause-front : goal.returns-clause-front
-returns-clause-front g c =
-    let value = value_text (value_of c.args.reading.now.value) in
-    let line : c.as_slice.result.now ≡ (c.args.head.now ++ decimal c.args.reading.now.spn) ++ (32 ∷ []) = search rules in
-    on_err_from _ _ _ (front_within _ _ _ (c.as_slice.result.now ++ value) (10 ∷ []) [] _ (ap (λ t. (t ++ value) ++ (10 ∷ [])) (sym line))
-    (Appends-trans _ _ _ c.as_slice.result.now value c.in_ok-put_all.ensures.ok c.in_ok-put_value.ensures.ok)) c.put_all-2.ensures.err
+pub returns-in_err-put_value : goal.returns-in_err-put_value
+returns-in_err-put_value g c =
+    let line : c.as_slice.result.now ≡ columns c.args.head.now c.args.reading.now.spn = search rules in
+    puts_first _ (10 ∷ []) _ _ _ c.from_residual-in_err-put_value.ensures.0
+    (puts_then (columns c.args.head.now c.args.reading.now.spn) _ _ _ _ _ _ (puts_as _ _ _ _ line c.in_ok-put_all.ensures) c.in_err-put_value.ensures)
+
+pub returns : goal.returns
+returns g c =
+    let line : c.as_slice.result.now ≡ columns c.args.head.now c.args.reading.now.spn = search rules in
+    puts_then _ (10 ∷ []) _ _ _ _ _ (puts_then _ _ _ _ _ _ _ (puts_as _ _ _ _ line c.in_ok-put_all.ensures) c.in_ok-put_value.ensures)
+    c.put_all-2.ensures

@@ -4,8 +4,5 @@ use Rattle.j39_groups.specs.TableChecks.{row_record}
 use Rattle.j39_groups.specs.Printed.{row_text}
 use Rattle.j39_groups.proofs.printed.put_built_in.Goals as goal
 
-pub returns-clause-ok : goal.returns-clause-ok
-returns-clause-ok g c = rw (← c.rows.ensures.table, flat_map-map row_text row_record c.rows.result.now) c.put_parameters_of.ensures.ok
-
-pub returns-clause-err : goal.returns-clause-err
-returns-clause-err g c = rw (← c.rows.ensures.table, flat_map-map row_text row_record c.rows.result.now) c.put_parameters_of.ensures.err
+pub returns : goal.returns
+returns g c = rw (← c.rows.ensures.table, flat_map-map row_text row_record c.rows.result.now) c.put_parameters_of.ensures

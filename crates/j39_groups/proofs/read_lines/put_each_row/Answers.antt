@@ -1,18 +1,12 @@
 -- After a fault a front of the rows that are left was written.
-use Rattle.std.proofs.Common.{ℕ, List, suc, take, drop, subst}
-use Rattle.std.specs.List.{flat_map}
-use Rattle.j39_io.specs.Device.{AppendsFront}
-use Rattle.j39_io.proofs.DeviceLemmas.{front_within, on_err}
+use Rattle.std.proofs.Common.{ap, ℕ, List, drop}
 use Rattle.j39_groups.specs.declared.read_row.ReadRow.{ReadRow}
 use Rattle.j39_groups.specs.ReadLines.{row_lines}
-use Rattle.j39_groups.proofs.ListLemmas.{flat_map-at}
+use Rattle.j39_io.proofs.PutsLemmas.{puts_as, puts_until}
 use Rattle.j39_groups.proofs.read_lines.put_each_row.Goals as goal
 
-pub returns-in_err-more-clause-front : goal.returns-in_err-more-clause-front
-returns-in_err-more-clause-front g c =
+pub returns-in_err-more-clause-puts : goal.returns-in_err-more-clause-puts
+returns-in_err-more-clause-puts g c =
     let text : ReadRow → List ℕ = row_lines (drop c.args.from c.args.head.now) c.args.bytes.now in
-    let rows = c.args.rows.now in
-    let i = c.loop-row.row-index in
-    let here = subst (λ (row : ReadRow). AppendsFront (g.W.Sink.written c.loop-row.sink) (g.W.Sink.written c.put_row.new.sink) (text row)) c.row-item.is c.in_err-more.ensures.front in
-    on_err _ _ (front_within _ _ _ (flat_map text (take i rows)) _ (flat_map text (drop (suc i) rows)) (flat_map text rows)
-    (flat_map-at text rows i c.row-item.result c.loop-row-test.true) c.loop-row.invariant.0 here)
+    puts_until text c.args.rows.now c.loop-row.row-index c.row-item.result tt _ _ _ _ _ c.loop-row-test.true c.from_residual.ensures.0
+    c.loop-row.invariant.0 (puts_as _ _ _ _ (ap text c.row-item.is) c.in_err-more.ensures.puts)

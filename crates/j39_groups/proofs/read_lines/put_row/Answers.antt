@@ -8,14 +8,8 @@ pub returns-in-Texts-clause-lines : goal.returns-in-Texts-clause-lines
 unfolding values_at
 returns-in-Texts-clause-lines g c = rw (c.in-Texts.is, ← c.bytes_from.ensures) c.put_texts.ensures.lines
 
-pub returns-in-Texts-clause-written : goal.returns-in-Texts-clause-written
+pub returns-in-Texts-clause-puts : goal.returns-in-Texts-clause-puts
 unfolding values_at
-returns-in-Texts-clause-written g c =
+returns-in-Texts-clause-puts g c =
     let rest = between_to_end c.args.head.now c.args.from 48 (omega arith) in
-    rw (c.in-Texts.is, ← c.bytes_from.ensures, ← rest) c.put_texts.ensures.written
-
-pub returns-in-Texts-clause-front : goal.returns-in-Texts-clause-front
-unfolding values_at
-returns-in-Texts-clause-front g c =
-    let rest = between_to_end c.args.head.now c.args.from 48 (omega arith) in
-    rw (c.in-Texts.is, ← c.bytes_from.ensures, ← rest) c.put_texts.ensures.front
+    rw (c.in-Texts.is, ← c.bytes_from.ensures, ← rest) c.put_texts.ensures.puts

@@ -1,25 +1,24 @@
 -- Each part gives its lines behind those of the parts before it; after a fault a front of them was written.
-use Rattle.std.proofs.Common.{◌≡◌, ◌≤◌, ◌-◌, ◌*◌, ◌∙◌, ℕ, List, take, drop, length, length-append, ap, sym, subst, arith, rules}
-use Rattle.std.specs.Io.KnownBytes.{Appends}
+use Rattle.std.proofs.Common.{◌≡◌, ◌≤◌, ◌-◌, ◌*◌, ℕ, List, take, drop, length, length-append, ap, sym, arith, rules}
 use Rattle.std.specs.List.{flat_map}
 use Rattle.std.proofs.lemmas.List.{length-take}
-use Rattle.std.proofs.KnownBytes.{Appends-trans}
-use Rattle.j39_io.proofs.DeviceLemmas.{front_within, on_err}
 use Rattle.j39_groups.specs.declared.read_row.ReadRow.{ReadRow}
 use Rattle.j39_groups.specs.ReadLines.{row_lines, row_readings}
 use Rattle.j39_groups.specs.Value.{ReadingRecord}
 use Rattle.j39_groups.proofs.ListLemmas.{flat_map-around, flat_map-part}
+use Rattle.j39_io.proofs.PutsLemmas.{puts_as, puts_done, puts_first, puts_then}
 use Rattle.j39_groups.proofs.read_lines.put_rows.Goals as goal
 
-pub returns-in_err-more-clause-front : goal.returns-in_err-more-clause-front
-returns-in_err-more-clause-front g c =
+pub returns-in_err-more-clause-puts : goal.returns-in_err-more-clause-puts
+returns-in_err-more-clause-puts g c =
     let text : ReadRow → List ℕ = row_lines (drop c.args.from c.args.head.now) c.args.bytes.now in
     let rows = c.args.rows.now in
     let i = c.parts.at in
     let j = c.min-end.result in
     let up : i ≤ j = search rules in
-    on_err _ _ (front_within _ _ _ (flat_map text (take i rows)) _ (flat_map text (drop j rows)) (flat_map text rows)
-    (flat_map-around text rows i j up) c.parts.invariant.1 c.in_err-more.ensures.front)
+    puts_as _ _ _ _ (sym (flat_map-around text rows i j up))
+    (puts_then (flat_map text (take i rows)) _ _ _ _ _ _ c.parts.invariant.1
+    (puts_first _ (flat_map text (drop j rows)) _ _ _ c.from_residual.ensures.0 c.in_err-more.ensures.puts))
 
 pub parts-preserved : goal.parts-preserved
 parts-preserved g c =
@@ -36,12 +35,11 @@ parts-preserved g c =
     let counts = ap length (flat_map-part found rows i j up) in
     let both = length-append (flat_map found (take i rows)) (flat_map found part) in
     let short = length-take (j - i) (drop i rows) in
-    let before = c.parts.invariant.3 in
-    let fewer = c.parts.invariant.4 in (
+    let before = c.parts.invariant.2 in
+    let fewer = c.parts.invariant.3 in (
       inside,
-      subst (Appends (g.W.Sink.written c.args.sink.now) (g.W.Sink.written c.put_chunk.new.sink)) (sym (flat_map-part text rows i j up))
-          (Appends-trans _ _ _ _ _ c.parts.invariant.1 c.in_ok-more.ensures.written),
-      c.in_ok-more.ensures.mark ∙ c.parts.invariant.2,
+      puts_as _ _ _ _ (sym (flat_map-part text rows i j up))
+          (puts_done _ _ _ _ (puts_then _ _ _ _ _ _ _ c.parts.invariant.1 c.in_ok-more.ensures.puts)),
       omega (arith, counts, both, before, more),
       omega (arith, up, few, short, fewer),
     )

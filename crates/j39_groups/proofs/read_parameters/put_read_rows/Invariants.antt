@@ -1,5 +1,6 @@
-use Rattle.std.proofs.Common.{◌≡◌, take}
-use Rattle.std.specs.Io.KnownBytes.{Appends}
+use Rattle.std.proofs.Common.{take, Ok}
+use Rattle.j39_io.specs.Puts.{Puts}
+use Rattle.j39_io.specs.Turn.{turn}
 use Rattle.std.specs.List.{flat_map}
 use Rattle.j39_groups.specs.Printed.{row_text}
 use Rattle.j39_groups.specs.ReadRows.{read_row_record}
@@ -8,5 +9,5 @@ use Rattle.j39_groups.proofs.read_parameters.put_read_rows.Given as goal
 -- the rows so far are written, and no fault came
 abbrev pub invariant-loop-row : goal.invariant-loop-row
 invariant-loop-row g l =
-    Appends (g.W.Sink.written l.initial.sink) (g.W.Sink.written l.sink) (flat_map (λ row. row_text (read_row_record row)) (take l.row-index l.rows))
-    × (g.W.Sink.has_failed l.sink ≡ g.W.Sink.has_failed l.initial.sink)
+    Puts {T = Unit} {E = Unit} (flat_map (λ row. row_text (read_row_record row)) (take l.row-index l.rows)) (Ok tt)
+    (turn g.W.Sink.written g.W.Sink.has_failed l.initial.sink l.sink)

@@ -4,8 +4,5 @@ use Rattle.j39_groups.specs.Printed.{row_text}
 use Rattle.j39_groups.specs.ReadRows.{read_row_record}
 use Rattle.j39_groups.proofs.read_parameters.put_read_table.Goals as goal
 
-pub returns-clause-ok : goal.returns-clause-ok
-returns-clause-ok g c = rw (flat_map-map row_text read_row_record c.args.rows.now) c.put_read_rows.ensures.ok
-
-pub returns-clause-err : goal.returns-clause-err
-returns-clause-err g c = rw (flat_map-map row_text read_row_record c.args.rows.now) c.put_read_rows.ensures.err
+pub returns : goal.returns
+returns g c = rw (flat_map-map row_text read_row_record c.args.rows.now) c.put_read_rows.ensures

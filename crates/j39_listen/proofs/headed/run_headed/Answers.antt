@@ -4,12 +4,12 @@ use Rattle.j39_listen.proofs.HeadedLemmas.{cut_in_head, ended_headed, ran_headed
 use Rattle.j39_listen.proofs.headed.run_headed.Goals as goal
 
 pub returns-in-Ok-clause-ended : goal.returns-in-Ok-clause-ended
-returns-in-Ok-clause-ended g c = ended_headed c.args.limit c.run_over.result _ _ _ _ c.in-Ok.ensures.mark c.run_over.ensures.ended
+returns-in-Ok-clause-ended g c = ended_headed c.args.limit c.run_over.result _ _ _ _ c.in-Ok.ensures.puts.mark c.run_over.ensures.ended
 
 pub returns-in-Ok-clause-ran : goal.returns-in-Ok-clause-ran
 returns-in-Ok-clause-ran g c = λ subject output met none.
     ran_headed c.args.head.now (g.A.Account.makes subject) (g.A.Account.asks subject) c.args.bus c.args.limit c.run_over.result _ _ _ _
-    c.in-Ok.ensures.ok c.in-Ok.ensures.mark (c.run_over.ensures.ran subject output met none)
+    c.in-Ok.ensures.puts.written c.in-Ok.ensures.puts.mark (c.run_over.ensures.ran subject output met none)
 
 pub returns-in-Err-clause-ran : goal.returns-in-Err-clause-ran
 returns-in-Err-clause-ran g c = λ subject output met none. record {
@@ -17,6 +17,6 @@ returns-in-Err-clause-ran g c = λ subject output met none. record {
   writes = tt;
   memory = λ e. absurd (cc);
   at_limit = λ e. absurd (cc);
-  cut_short = λ _. cut_in_head c.args.head.now (g.A.Account.makes subject) c.args.bus _ _ _ c.in-Err.ensures.err;
-  prefix = stops_in_head c.args.head.now (g.A.Account.makes subject) c.args.bus _ _ _ c.in-Err.ensures.err;
+  cut_short = λ _. cut_in_head c.args.head.now (g.A.Account.makes subject) c.args.bus _ _ _ c.in-Err.ensures.puts.front;
+  prefix = stops_in_head c.args.head.now (g.A.Account.makes subject) c.args.bus _ _ _ c.in-Err.ensures.puts.front;
 }

@@ -9,13 +9,13 @@ loop-address-init g c = (puts_none c.args.form c.args.claims.now _, refl)
 
 pub loop-address-preserved : goal.loop-address-preserved
 loop-address-preserved g c = (
-  puts_more c.args.form c.args.claims.now c.loop-address.address c.loop-address.lines c.in_ok-lines.field-0 _ _ _ c.loop-address.invariant.0 c.in_ok-lines.ensures.lines c.in_ok-lines.ensures.written,
-  c.in_ok-lines.ensures.mark ∙ c.loop-address.invariant.1,
+  puts_more c.args.form c.args.claims.now c.loop-address.address c.loop-address.lines c.in_ok-lines.field-0 _ _ _ c.loop-address.invariant.0 c.in_ok-lines.ensures.lines c.in_ok-lines.ensures.puts.written,
+  c.in_ok-lines.ensures.puts.mark ∙ c.loop-address.invariant.1,
 )
 
 pub returns-in_err-lines-clause-front : goal.returns-in_err-lines-clause-front
 returns-in_err-lines-clause-front g c =
-    on_err c.from_residual.result _ (front_in_nodes c.args.form c.args.claims.now c.loop-address.address c.loop-address.lines _ _ _ (omega arith) c.loop-address.invariant.0 c.in_err-lines.ensures.front)
+    on_err c.from_residual.result _ (front_in_nodes c.args.form c.args.claims.now c.loop-address.address c.loop-address.lines _ _ _ (omega arith) c.loop-address.invariant.0 c.in_err-lines.ensures.puts.front)
 
 pub returns-clause-nodes : goal.returns-clause-nodes
 returns-clause-nodes g c = puts_all c.args.form c.args.claims.now c.loop-address.address c.loop-address.lines _ _ c.loop-address.invariant.0 (omega arith)

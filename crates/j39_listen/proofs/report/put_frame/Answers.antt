@@ -1,26 +1,19 @@
--- Most frames are heard by themselves, or not at all.
-use Rattle.std.proofs.Common.{◌≡◌, ◌∙◌, ap, false, rules, sym, true}
-use Rattle.j39_frame.specs.Frame.{FrameRecord}
-use Rattle.j39_frame.specs.Identifier.{pgn_of}
-use Rattle.j39_groups.specs.Readings.{is_network_group, is_reported_in}
-use Rattle.j39_listen.proofs.ListenerLemmas.{hears_single, outside_claims, silent_itself, silent_outside}
-use Rattle.j39_listen.proofs.ReportAccount.{meets_silent}
-use Rattle.j39_listen.proofs.Reported.{reported_free, reported_leaves}
+-- A message is heard at the frame or none.
+use Rattle.j39_listen.specs.HeardModel.{hearing_of}
+use Rattle.j39_listen.proofs.ListenerLemmas.{on_ok}
+use Rattle.j39_listen.proofs.ReportAccount.{meets_heard, meets_silent, stops_heard}
 use Rattle.j39_listen.proofs.report.put_frame.Goals as goal
 
-pub returns-then-not-is_address-clause-met : goal.returns-then-not-is_address-clause-met
-returns-then-not-is_address-clause-met g c = λ F h.
-    let reported : is_reported_in c.args.groups.now (pgn_of c.args.frame.now.id) ≡ true = ap (is_reported_in c.args.groups.now) (sym (c.pgn-pgn.ensures ∙ ap (λ (x : FrameRecord). pgn_of x.id) c.frame.view_is)) ∙ (sym c.is_reported.ensures ∙ c.if-is_reported.true) in
-    let free = reported_free c.args.groups.now _ reported in
-    meets_silent g.E.EntryForm.text_by c.args.groups.now c.args.listener.now F c.args.frame.now _
-    (silent_itself (is_reported_in c.args.groups.now) (reported_leaves c.args.groups.now) c.args.listener.now F c.args.frame.now reported (search rules) h)
-    (hears_single c.args.listener.now F c.args.frame.now free (outside_claims c.args.frame.now free) h)
+pub returns-in-Ok-None-clause-met : goal.returns-in-Ok-None-clause-met
+returns-in-Ok-None-clause-met g c = λ F h.
+    meets_silent g.E.EntryForm.text_by c.args.groups.now _ F c.args.frame.now _ (rw c.in-Ok-None.field-0-is at (c.in-Ok-None.ensures.heard F h))
+    (on_ok _ _ _ _ c.in-Ok-None.is c.feed_with.follows.holds-at-none F h)
 
-pub returns-then-not-is_network_group-clause-met : goal.returns-then-not-is_network_group-clause-met
-returns-then-not-is_network_group-clause-met g c = λ F h.
-    let pgn = sym (c.pgn-pgn.ensures ∙ ap (λ (x : FrameRecord). pgn_of x.id) c.frame.view_is) in
-    let other : is_reported_in c.args.groups.now (pgn_of c.args.frame.now.id) ≡ false = ap (is_reported_in c.args.groups.now) pgn ∙ (sym c.is_reported.ensures ∙ c.if-is_reported.false) in
-    let free : is_network_group (pgn_of c.args.frame.now.id) ≡ false = ap is_network_group pgn ∙ (sym c.is_network_group.ensures ∙ c.if-not-is_network_group.true) in
-    meets_silent g.E.EntryForm.text_by c.args.groups.now c.args.listener.now F c.args.frame.now _
-    (silent_outside (is_reported_in c.args.groups.now) (reported_leaves c.args.groups.now) c.args.listener.now F c.args.frame.now free other h)
-    (hears_single c.args.listener.now F c.args.frame.now free (outside_claims c.args.frame.now free) h)
+pub returns-in-Ok-clause-met : goal.returns-in-Ok-clause-met
+returns-in-Ok-clause-met g c = λ F h.
+    meets_heard g.E.EntryForm.text_by c.args.groups.now _ F c.args.frame.now (hearing_of c.in-Ok-Some.heard) c.in-Ok.lines _ _ (rw c.in-Ok-Some.field-0-is at (c.in-Ok-Some.ensures.heard F h))
+    (on_ok _ _ _ _ c.in-Ok-Some.is c.feed_with.follows.holds-at-none F h) c.in-Ok.ensures.lines c.in-Ok.ensures.puts.written
+
+pub returns-in-Err-put_heard-clause-stops : goal.returns-in-Err-put_heard-clause-stops
+returns-in-Err-put_heard-clause-stops g c = λ e F h.
+    stops_heard g.E.EntryForm.text_by c.args.groups.now F c.args.frame.now (hearing_of c.in-Ok-Some.heard) _ _ (rw c.in-Ok-Some.field-0-is at (c.in-Ok-Some.ensures.heard F h)) c.in-Err-put_heard.ensures.puts.front

@@ -14,11 +14,11 @@ returns-in-Err-clause-front g c = λ subject.
 
 pub returns-in-Ok-close-clause-report : goal.returns-in-Ok-close-clause-report
 returns-in-Ok-close-clause-report g c = λ subject.
-    end_writes (g.A.Account.has_met subject) (g.A.Account.makes subject) c.args.self.now c.take_last.new.lines _ _ _ _ (c.in-Ok.ensures.reads subject) (c.in-Ok-close.ensures.closes subject)
+    end_writes (g.A.Account.has_met subject) (g.A.Account.makes subject) c.args.self.now c.take_last.new.self.lines _ _ _ _ (c.in-Ok.ensures.reads subject) (c.in-Ok-close.ensures.closes subject)
 
 pub returns-in-Err-close-clause-front : goal.returns-in-Err-close-clause-front
 returns-in-Err-close-clause-front g c = λ subject.
-    end_fails (g.A.Account.has_met subject) (g.A.Account.makes subject) c.args.self.now c.take_last.new.lines _ _ _ (c.in-Ok.ensures.reads subject) (c.in-Err-close.ensures.stops subject)
+    end_fails (g.A.Account.has_met subject) (g.A.Account.makes subject) c.args.self.now c.take_last.new.self.lines _ _ _ (c.in-Ok.ensures.reads subject) (c.in-Err-close.ensures.stops subject)
 
 pub returns-in-Err-clause-asked : goal.returns-in-Err-clause-asked
 returns-in-Err-clause-asked g c = λ fails subject.

@@ -3,7 +3,6 @@ use Rattle.std.proofs.Common.{◌∙◌, ◌++◌, [], sym, ap, subst, refl, tak
 use Rattle.std.proofs.lemmas.Grind.{common_steps}
 use Rattle.std.specs.Prelude.{Err}
 use Rattle.j39_listen.specs.PiecesSoFar.{HasTaken}
-use Rattle.j39_listen.specs.declared.pieces.Pieces.{Pieces}
 use Rattle.j39_listen.proofs.AskLemmas.{takes_then_asks}
 use Rattle.j39_listen.proofs.PieceLemmas.{StopsBytes, by_fault, no_fault, same_fault, takes_then_none, takes_then_stops, takes_then_takes}
 use Rattle.j39_listen.proofs.pieces.Pieces.take_lines.Goals as goal
@@ -27,12 +26,11 @@ loop-rest-preserved g c =
     let inv = c.loop-rest.invariant in
     let n = c.in-Ok.n in
     let rest = c.loop-rest.rest.now in
-    let run : Pieces g.row.A.Denot = record { splitter = c.take_line.new.splitter; lines = c.take_line.new.lines } in
     let cut = ap (λ xs. inv.0 ++ xs) (sym (take-append-drop n rest)) ∙ sym (append_assoc inv.0 (take n rest) (drop n rest)) in
     let left = ap (λ xs. (inv.0 ++ take n rest) ++ xs) (sym c.split_at.ensures.back) in (
       inv.0 ++ take n rest,
       inv.1 ∙ (cut ∙ left),
-      (λ subject. takes_then_takes (g.A.Account.has_met subject) c.args.self.now c.loop-rest.self run inv.0 rest n _ _ _ (inv.2 subject) (c.in-Ok.ensures.steps subject)),
+      (λ subject. takes_then_takes (g.A.Account.has_met subject) c.args.self.now c.loop-rest.self c.take_line.new.self inv.0 rest n _ _ _ (inv.2 subject) (c.in-Ok.ensures.steps subject)),
       c.in-Ok.ensures.writer.unmarked no_fault ∙ inv.3,
     )
 

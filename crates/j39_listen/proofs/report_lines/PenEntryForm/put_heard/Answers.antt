@@ -1,9 +1,8 @@
 -- What the table's lines are is the text of the entries.
-use Rattle.std.proofs.Common.{◌≡◌, ◌∙◌, List, ℕ, ap, subst, sym}
-use Rattle.std.specs.Io.KnownBytes.{Appends}
+use Rattle.std.proofs.Common.{◌≡◌, ◌∙◌, List, ℕ, ap, sym}
 use Rattle.std.specs.List.{flat_map}
 use Rattle.std.proofs.lemmas.List.Folds.{flat_map-map}
-use Rattle.j39_io.specs.Device.{AppendsFront}
+use Rattle.j39_io.proofs.PutsLemmas.{puts_as}
 use Rattle.j39_groups.specs.Quick.{reading_line}
 use Rattle.j39_groups.specs.Readings.{readings_in}
 use Rattle.j39_groups.specs.Row.{RowRecord}
@@ -19,10 +18,10 @@ lines_are groups h head is =
     ap (λ x. flat_map (reading_line x) (readings_in groups h.message.pgn h.message.bytes)) is
     ∙ sym (flat_map-map entry_text (entry_of h) (readings_in groups h.message.pgn h.message.bytes))
 
-pub returns-in-Ok-clause-written : goal.returns-in-Ok-clause-written
-returns-in-Ok-clause-written g c =
-    subst (Appends _ _) (lines_are c.args.groups.now (hearing_of c.args.heard.now) _ c.head_before-from.ensures.head) c.in-Ok.ensures.written
+pub returns-in-Ok-clause-puts : goal.returns-in-Ok-clause-puts
+returns-in-Ok-clause-puts g c =
+    puts_as _ _ _ _ (lines_are c.args.groups.now (hearing_of c.args.heard.now) _ c.head_before-from.ensures.head) c.in-Ok.ensures.puts
 
-pub returns-in-Err-clause-front : goal.returns-in-Err-clause-front
-returns-in-Err-clause-front g c =
-    subst (AppendsFront _ _) (lines_are c.args.groups.now (hearing_of c.args.heard.now) _ c.head_before-from.ensures.head) c.in-Err.ensures.front
+pub returns-in-Err-clause-puts : goal.returns-in-Err-clause-puts
+returns-in-Err-clause-puts g c =
+    puts_as _ _ _ _ (lines_are c.args.groups.now (hearing_of c.args.heard.now) _ c.head_before-from.ensures.head) c.in-Err.ensures.puts

@@ -1,10 +1,10 @@
 use Rattle.j39_log.specs.LineRead.{spelled_of}
 use Rattle.j39_listen.proofs.PieceLemmas.{each_reads}
-use Rattle.j39_listen.proofs.pieces.read_line.Goals as goal
+use Rattle.j39_listen.proofs.lines.Lines.read_raw.Goals as goal
 
 pub returns-clause-read : goal.returns-clause-read
 returns-clause-read g c =
-    each_reads g.A.Account.has_met c.args.raw (spelled_of c.read.result) c.args.lines.now c.read-2.new.self _ _ _ c.read.ensures c.read-2.ensures.read
+    each_reads g.A.Account.has_met c.args.raw (spelled_of c.read.result) c.args.self.now c.read-2.new.self _ _ _ c.read.ensures c.read-2.ensures.read
 
 pub returns-clause-stops : goal.returns-clause-stops
 returns-clause-stops g c = λ fails subject line cut.
