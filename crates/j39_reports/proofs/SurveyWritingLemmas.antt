@@ -1,5 +1,5 @@
 -- A survey, written.
-use Rattle.std.proofs.Common.{◌≡◌, ◌+◌, ◌++◌, ◌<◌, ◌-◌, ℕ, zero, suc, Bool, List, [], ◌∷◌, length, map, refl, sym, ap, ◌∙◌, append-nil, append_assoc, arith, ◌≢◌}
+use Rattle.std.proofs.Common.{◌≡◌, ◌+◌, ◌++◌, ◌<◌, ◌-◌, ℕ, zero, suc, Bool, List, [], ◌∷◌, get_or, length, map, refl, take, sym, ap, ◌∙◌, append-nil, append_assoc, arith, ◌≢◌}
 use Rattle.std.specs.Prelude.{codes, decimal, IsErr, Result, Ok, Err}
 use Rattle.std.specs.List.{flat_map}
 use Rattle.std.specs.Io.KnownBytes.{Keeps}
@@ -9,7 +9,7 @@ use Rattle.j39_io.specs.Device.{Marks}
 use Rattle.j39_io.specs.Puts.{Puts}
 use Rattle.j39_io.specs.Turn.{Device, Turn}
 use Rattle.j39_io.proofs.DeviceLemmas.{Appends-kept, front_of_all}
-use Rattle.j39_io.proofs.PutsLemmas.{puts_as, puts_done, puts_first, puts_nothing, puts_then}
+use Rattle.j39_io.proofs.PutsLemmas.{puts_as, puts_done, puts_first, puts_nothing, puts_then, puts_until}
 use Rattle.j39_frame.specs.Frame.{FrameRecord}
 use Rattle.j39_groups.specs.Row.{RowRecord}
 use Rattle.j39_reports.specs.GroupCounts.{GroupRecord, group_of}
@@ -105,6 +105,13 @@ puts_passed text x (Ok y) old mid new first kept marks = record {
 }
 puts_passed text x (Err e) old mid new first kept marks =
     record { written = tt; front = front_of_all old.bytes mid.bytes new.bytes text first.written kept; mark = marks }
+
+-- a fault in the line of an item
+pub line_stops : {X T U E F : Type 0} (shown : X → List ℕ) (xs : List X) (i : ℕ) (x : X) (line : List ℕ) (e : E) (last : Result U F) (old mid new : Device)
+    → i < length xs → x ≡ get_or xs i x → line ≡ shown x → IsErr last → Puts {T = Unit} {E = Unit} (flat_map shown (take i xs)) (Ok tt) (record { old = old; new = mid })
+    → Puts {T = T} line (Err e) (record { old = mid; new = new }) → Puts (flat_map shown xs) last (record { old = old; new = new })
+line_stops {T = T} shown xs i x line e last old mid new below is line_is failed before here =
+    puts_until {V = T} shown xs i x tt e last old mid new below failed before (puts_as _ _ _ _ (line_is ∙ ap shown is) here)
 
 -- a line for each item of a slice is one for what each of them shows
 pub each_line : {X Y : Type 0} (line : Y → List ℕ) (shown : X → Y) (slice items : List X) → slice ≡ items → flat_map (λ x. line (shown x)) slice ≡ flat_map line (map shown items)

@@ -12,11 +12,10 @@ ghost use Rattle.j39_reports.specs.FaultRecords.{faults_text, head_fields};
 ghost use Rattle.j39_reports.specs.FaultsSoFar.{head_in, line_of, said_in};
 ghost use Rattle.j39_reports.specs.declared.fault_news.form.FaultForm.TheVariants.{Line};
 
-use crate::columns::{push_name, push_name_or_dashes, push_seconds};
+use crate::columns::{heard_fields, push_name_or_dashes};
 use crate::fault_news::form::{FaultForm, Said, Writing};
 use crate::fault_news::names::name_in;
 use crate::fault_news::records::put_fields;
-use crate::utc::utc_text;
 use arrayvec::ArrayVec;
 use j39_address::Name;
 use j39_faults::{Kind, Lamps, codes_of, put_code, put_no_code};
@@ -27,7 +26,7 @@ use j39_listen::Heard;
 use j39_log::push_stamp;
 
 /// What the lines of a message begin with, or its records.
-type Head = ArrayVec<u8, 72>;
+type Head = ArrayVec<u8, 88>;
 
 /// Writes a line for each code of a message, or one that says that it has none, and answers how many.
 pub(crate) fn put_message<W: Sink>(
@@ -140,19 +139,11 @@ fn line_head(heard: &Heard<'_>) -> Head
 }
 
 /// The stamp, the same in UTC, the address and the NAME, a comma after each.
-#[tactic(auto, unfolding(crate::specs::FaultRecords::head_fields))]
 fn record_head(heard: &Heard<'_>) -> Head
     ensures { result.items ≡ head_fields (stamp_micros heard.now.message.stamp) heard.now.message.source
         (option_map name_raw heard.now.name) }
 {
-    let mut head = ArrayVec::new();
-    push_seconds(&mut head, heard.message.stamp);
-    head.push(b',');
-    push_bytes(&mut head, utc_text(heard.message.stamp).as_slice());
-    head.push(b',');
-    push_hex(&mut head, &[heard.message.source]);
-    head.push(b',');
-    push_name(&mut head, heard.name.map(Name::raw));
+    let mut head = heard_fields(heard);
     head.push(b',');
     head
 }
