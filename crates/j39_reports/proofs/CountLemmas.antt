@@ -5,7 +5,8 @@ use Rattle.std.proofs.lemmas.Grind.{common_steps}
 use Rattle.j39_listen.specs.Counting.{capped}
 use Rattle.j39_log.specs.Kind.{kind_of}
 use Rattle.j39_log.specs.declared.kind.OtherKind.{OtherKind}
-use Rattle.j39_reports.specs.OtherLines.{OthersRecord, is_error, is_flexible, is_odd, is_remote, is_standard, kinds_in, others_of}
+use Rattle.j39_reports.specs.OtherLines.{OthersRecord, is_kind, kinds_in, others_of}
+use Rattle.j39_log.specs.declared.kind.OtherKind.TheVariants.{Standard, Remote, Flexible, Error, Odd}
 
 pub capped_more : (a n : ℕ) → a ≡ capped n → capped (a + 1) ≡ capped (n + 1)
 capped_more a n e = omega arith
@@ -29,20 +30,20 @@ abbrev pub count_one : Bool → ℕ → ℕ
 count_one true n = capped (n + 1)
 count_one false n = n
 
-pub kinds_more : (is_kind : OtherKind → Bool) (texts : List (List ℕ)) (text : List ℕ) → kinds_in is_kind (texts ++ text ∷ []) ≡ count_one (is_kind (kind_of text)) (kinds_in is_kind texts)
-kinds_more is_kind texts text =
-    elim (is_kind (kind_of text)) as (λ b. is_kind (kind_of text) ≡ b → kinds_in is_kind (texts ++ text ∷ []) ≡ count_one b (kinds_in is_kind texts)) [
-      | true ↦ λ e. ap capped (count_by-append (λ (t : List ℕ). is_kind (kind_of t)) texts (text ∷ [])) ∙ rw e (sym (capped_more (kinds_in is_kind texts) (count_by (λ (t : List ℕ). is_kind (kind_of t)) texts) refl))
-      | false ↦ λ e. ap capped (count_by-append (λ (t : List ℕ). is_kind (kind_of t)) texts (text ∷ [])) ∙ rw e (omega arith)
+pub kinds_more : (kind : OtherKind) (texts : List (List ℕ)) (text : List ℕ) → kinds_in kind (texts ++ text ∷ []) ≡ count_one (is_kind kind (kind_of text)) (kinds_in kind texts)
+kinds_more kind texts text =
+    elim (is_kind kind (kind_of text)) as (λ b. is_kind kind (kind_of text) ≡ b → kinds_in kind (texts ++ text ∷ []) ≡ count_one b (kinds_in kind texts)) [
+      | true ↦ λ e. ap capped (count_by-append (λ (t : List ℕ). is_kind kind (kind_of t)) texts (text ∷ [])) ∙ rw e (sym (capped_more (kinds_in kind texts) (count_by (λ (t : List ℕ). is_kind kind (kind_of t)) texts) refl))
+      | false ↦ λ e. ap capped (count_by-append (λ (t : List ℕ). is_kind kind (kind_of t)) texts (text ∷ [])) ∙ rw e (omega arith)
     ] refl
 
 abbrev pub with_kind : OtherKind → OthersRecord → OthersRecord
 with_kind kind o = record {
-  standard = count_one (is_standard kind) o.standard;
-  remote = count_one (is_remote kind) o.remote;
-  flexible = count_one (is_flexible kind) o.flexible;
-  error = count_one (is_error kind) o.error;
-  odd = count_one (is_odd kind) o.odd;
+  standard = count_one (is_kind Standard kind) o.standard;
+  remote = count_one (is_kind Remote kind) o.remote;
+  flexible = count_one (is_kind Flexible kind) o.flexible;
+  error = count_one (is_kind Error kind) o.error;
+  odd = count_one (is_kind Odd kind) o.odd;
 }
 
 pub others_more : (texts : List (List ℕ)) (text : List ℕ) (kind : OtherKind) (o o' : OthersRecord) → o ≡ others_of texts → kind_of text ≡ kind → o' ≡ with_kind kind o → o' ≡ others_of (texts ++ text ∷ [])
@@ -50,10 +51,10 @@ unfolding others_of
 others_more texts text kind o o' h is more =
     let all : with_kind kind (others_of texts) ≡ others_of (texts ++ text ∷ []) =
     subst (λ (k : OtherKind). with_kind k (others_of texts) ≡ others_of (texts ++ text ∷ [])) is (λ i. record {
-      standard = sym (kinds_more is_standard texts text) i;
-      remote = sym (kinds_more is_remote texts text) i;
-      flexible = sym (kinds_more is_flexible texts text) i;
-      error = sym (kinds_more is_error texts text) i;
-      odd = sym (kinds_more is_odd texts text) i;
+      standard = sym (kinds_more Standard texts text) i;
+      remote = sym (kinds_more Remote texts text) i;
+      flexible = sym (kinds_more Flexible texts text) i;
+      error = sym (kinds_more Error texts text) i;
+      odd = sym (kinds_more Odd texts text) i;
     }) in
     more ∙ ap (with_kind kind) h ∙ all

@@ -1,31 +1,25 @@
--- What was written of two or three parts that stand one behind the other: all of them, or a front.
-use Rattle.std.proofs.Common.{◌≡◌, ◌++◌, ℕ, List, [], Option, append-nil, append_assoc, ap, sym, ◌∙◌, subst}
-use Rattle.std.specs.Prelude.{Result, OnErr}
-use Rattle.std.specs.Io.KnownBytes.{Appends}
-use Rattle.std.proofs.KnownBytes.{Appends-trans}
-use Rattle.j39_io.specs.Device.{AppendsFront}
-use Rattle.j39_io.proofs.DeviceLemmas.{front_first, front_within, on_err, on_err_from}
+-- What was written of three parts that stand one behind the other: all of them, or a front.
+use Rattle.std.proofs.Common.{◌++◌, ℕ, List, Result, Ok, Err}
+use Rattle.std.specs.Prelude.{IsErr}
+use Rattle.j39_io.specs.Puts.{Puts}
+use Rattle.j39_io.specs.Turn.{Device, Turn}
+use Rattle.j39_io.proofs.PutsLemmas.{puts_first, puts_more, puts_then}
 
--- ---- two parts, of which a call wrote the second
+-- a fault at the first
+pub first_of_three : {T U E F : Type 0} (x y z : List ℕ) (e : E) (last : Result U F) (turn : Turn)
+    → IsErr last → Puts {T = T} x (Err e) turn → Puts (x ++ y ++ z) last turn
+first_of_three x y z e last turn failed first = puts_first (x ++ y) z e last turn failed (puts_more x y e turn first)
 
-pub front_of_both : {T E : Type 0} (r : Result T E) (a b c : Option (List ℕ)) (x y all : List ℕ) → all ≡ x ++ y → Appends a b x → OnErr r (AppendsFront b c y) → OnErr r (AppendsFront a c all)
-front_of_both r a b c x y all is first = on_err_from r _ _ (λ then. front_within a b c x y [] all (is ∙ ap (λ t. x ++ t) (sym (append-nil y))) first then)
+-- a fault at the second
+pub second_of_three : {T V U E F G : Type 0} (x y z : List ℕ) (a : T) (e : E) (last : Result U F) (old mid new : Device)
+    → IsErr last → Puts {E = G} x (Ok a) (record { old = old; new = mid }) → Puts {T = V} y (Err e) (record { old = mid; new = new })
+    → Puts (x ++ y ++ z) last (record { old = old; new = new })
+second_of_three {V = V} x y z a e last old mid new failed first second =
+    puts_first {T = V} (x ++ y) z e last _ failed (puts_then x y a (Err e) old mid new first second)
 
-pub front_of_first : {T E : Type 0} (r : Result T E) (a b : Option (List ℕ)) (x y all : List ℕ) → all ≡ x ++ y → AppendsFront a b x → OnErr r (AppendsFront a b all)
-front_of_first r a b x y all is front = on_err r _ (front_first a b x y all is front)
-
--- ---- three parts
-
-pub all_three : (a b c d : Option (List ℕ)) (x y z all : List ℕ) → all ≡ x ++ y ++ z → Appends a b x → Appends b c y → Appends c d z → Appends a d all
-all_three a b c d x y z all is first second third =
-    subst (Appends a d) (sym is) (Appends-trans a c d (x ++ y) z (Appends-trans a b c x y first second) third)
-
-pub first_of_three : (a b : Option (List ℕ)) (x y z all : List ℕ) → all ≡ x ++ y ++ z → AppendsFront a b x → AppendsFront a b all
-first_of_three a b x y z all is front = front_first a b x (y ++ z) all (is ∙ append_assoc x y z) front
-
-pub second_of_three : (a b c : Option (List ℕ)) (x y z all : List ℕ) → all ≡ x ++ y ++ z → Appends a b x → AppendsFront b c y → AppendsFront a c all
-second_of_three a b c x y z all is first front = front_within a b c x y z all (is ∙ append_assoc x y z) first front
-
-pub third_of_three : (a b c d : Option (List ℕ)) (x y z all : List ℕ) → all ≡ x ++ y ++ z → Appends a b x → Appends b c y → AppendsFront c d z → AppendsFront a d all
-third_of_three a b c d x y z all is first second front =
-    front_within a c d (x ++ y) z [] all (is ∙ ap (λ t. x ++ y ++ t) (sym (append-nil z))) (Appends-trans a b c x y first second) front
+-- the third, with whatever came of it
+pub third_of_three : {T V U E F G : Type 0} (x y z : List ℕ) (a : T) (b : V) (last : Result U F) (old mid then new : Device)
+    → Puts {E = E} x (Ok a) (record { old = old; new = mid }) → Puts {E = G} y (Ok b) (record { old = mid; new = then })
+    → Puts z last (record { old = then; new = new }) → Puts (x ++ y ++ z) last (record { old = old; new = new })
+third_of_three {G = G} x y z a b last old mid then new first second third =
+    puts_then (x ++ y) z b last old then new (puts_then {F = G} x y a (Ok b) old mid then first second) third

@@ -1,16 +1,21 @@
 -- What is told of one message.
-use Rattle.std.proofs.Common.{◌≡◌, ◌∙◌, ◌<◌, ◌≤◌, ◌^◌, ◌&&◌, ℕ, Bool, true, false, List, [], ◌∷◌, ◌++◌, Option, Some}
+use Rattle.std.proofs.Common.{◌≡◌, ◌≢◌, ◌∙◌, ◌<◌, ◌≤◌, ◌^◌, ◌&&◌, ℕ, Bool, true, false, List, [], ◌∷◌, ◌++◌, Option, Some}
 use Rattle.std.proofs.Common.{None, ap, append-nil, arith, flat_map, if◌then◌else◌, is_some, length, nat_le, refl}
-use Rattle.std.proofs.Common.{subst, sym}
+use Rattle.std.proofs.Common.{subst, sym, Result, Ok, Err}
 use Rattle.std.proofs.lemmas.Bool.{le-leb}
 use Rattle.std.specs.Io.KnownBytes.{Appends}
 use Rattle.j39_io.specs.Device.{AppendsFront}
+use Rattle.j39_io.specs.Puts.{Puts}
+use Rattle.j39_io.specs.Turn.{Turn}
 use Rattle.j39_faults.specs.FaultGroups.{kind_of}
 use Rattle.j39_faults.specs.LampBits.{lamps_of}
 use Rattle.j39_faults.specs.declared.kind.Kind.{Kind}
 use Rattle.j39_faults.specs.declared.lamps.Lamps.{Lamps}
 use Rattle.j39_groups.specs.Row.{RowRecord}
+use Rattle.j39_listen.specs.AccountCalls.{LeavesWriter}
 use Rattle.j39_listen.specs.Counting.{capped}
+use Rattle.j39_listen.specs.declared.account.LineFault.{LineFault}
+use Rattle.j39_listen.specs.declared.account.LineFault.TheVariants.{Memory, Write}
 use Rattle.j39_listen.specs.Heard.{Hearing}
 use Rattle.j39_listen.specs.declared.counts.Made.{Made}
 use Rattle.j39_listen.proofs.LineLemmas.{capped-fits}
@@ -54,6 +59,13 @@ pub tells_other : (form : FaultForm) (rows : List RowRecord) (which : Telling) (
     → is_of_faults h ≡ false → Remembers last ms → made.messages ≡ 0 → made.lines ≡ 0 → Tells form rows which last ms (Some h) made held held
 tells_other form rows which last ms h made held other remembers m l =
     tells_nothing form rows which last ms (Some h) made held (among_no h other) (next_no which ms h other) remembers m l
+
+-- ---- what is left of the writer
+
+pub leaves_writer : {T : Type 0} (text : List ℕ) (result : Result T LineFault) (sink : Turn) → Puts text result sink → result ≢ Err Memory → LeavesWriter result sink
+leaves_writer text (Ok x) sink puts never = record { write = λ is. absurd (cc is); unmarked = λ other. puts.mark; memory = λ is. absurd (cc is) }
+leaves_writer text (Err Write) sink puts never = record { write = λ is. puts.mark; unmarked = λ other. absurd (other refl); memory = λ is. absurd (never is) }
+leaves_writer text (Err Memory) sink puts never = absurd (never refl)
 
 -- ---- one that is told, or not
 

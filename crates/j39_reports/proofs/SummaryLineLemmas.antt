@@ -1,10 +1,12 @@
 -- The rows of a summary, one after the other.
-use Rattle.std.proofs.Common.{◌≡◌, ◌<◌, ◌+◌, ◌++◌, ℕ, suc, List, Some, length, take, drop, map, ap, sym, ◌∙◌}
-use Rattle.std.specs.Prelude.{slice_get}
+use Rattle.std.proofs.Common.{◌≡◌, ◌<◌, ◌+◌, ◌++◌, ℕ, List, Some, Result, Ok, Err, length, take, map, ap, sym, ◌∙◌}
+use Rattle.std.specs.Prelude.{IsErr, slice_get}
 use Rattle.std.specs.List.{flat_map}
 use Rattle.std.proofs.lemmas.List.Folds.{flat_map-map}
 use Rattle.std.proofs.lemmas.Option.{get_or_from_slice_get}
-use Rattle.j39_groups.proofs.ListLemmas.{flat_map-at}
+use Rattle.j39_io.specs.Puts.{Puts}
+use Rattle.j39_io.specs.Turn.{Device}
+use Rattle.j39_io.proofs.PutsLemmas.{puts_as, puts_done, puts_then, puts_until}
 use Rattle.j39_groups.proofs.VisitLemmas.{flat_map-next}
 use Rattle.j39_groups.specs.Row.{RowRecord}
 use Rattle.j39_reports.specs.RowText.{row_in, summary_text}
@@ -16,20 +18,31 @@ use Rattle.j39_reports.specs.declared.summaries.rows.RowForm.{RowForm}
 abbrev line : RowForm → List RowRecord → Origin × Deeds → List ℕ
 line form groups row = row_in form groups (row_shown row)
 
-lines_are : (form : RowForm) (groups : List RowRecord) (rows : List (Origin × Deeds)) → summary_text form groups (map row_shown rows) ≡ flat_map (line form groups) rows
-lines_are form groups rows = flat_map-map (row_in form groups) row_shown rows
+module _ (form : RowForm) (groups : List RowRecord) where
+  abbrev pub lines : List (Origin × Deeds) → List ℕ
+  lines rows = summary_text form groups (map row_shown rows)
 
-pub lines_next : (form : RowForm) (groups : List RowRecord) (rows : List (Origin × Deeds)) (i : ℕ) (row : Origin × Deeds) → i < length rows → slice_get rows i ≡ Some row
-    → summary_text form groups (map row_shown (take (i + 1) rows)) ≡ summary_text form groups (map row_shown (take i rows)) ++ line form groups row
-lines_next form groups rows i row below is =
-    lines_are form groups (take (i + 1) rows) ∙ flat_map-next (line form groups) rows i row below
-    ∙ ap (λ t. flat_map (line form groups) (take i rows) ++ t) (ap (line form groups) (get_or_from_slice_get rows i row row is))
-    ∙ ap (λ t. t ++ line form groups row) (sym (lines_are form groups (take i rows)))
+  lines_are : (rows : List (Origin × Deeds)) → lines rows ≡ flat_map (line form groups) rows
+  lines_are rows = flat_map-map (row_in form groups) row_shown rows
 
-pub lines_cut : (form : RowForm) (groups : List RowRecord) (rows : List (Origin × Deeds)) (i : ℕ) (row : Origin × Deeds) → i < length rows → slice_get rows i ≡ Some row
-    → summary_text form groups (map row_shown rows) ≡ summary_text form groups (map row_shown (take i rows)) ++ (line form groups row ++ flat_map (line form groups) (drop (suc i) rows))
-lines_cut form groups rows i row below is =
-    let rest = flat_map (line form groups) (drop (suc i) rows) in
-    lines_are form groups rows ∙ flat_map-at (line form groups) rows i row below
-    ∙ ap (λ t. flat_map (line form groups) (take i rows) ++ (t ++ rest)) (ap (line form groups) (get_or_from_slice_get rows i row row is))
-    ∙ ap (λ t. t ++ (line form groups row ++ rest)) (sym (lines_are form groups (take i rows)))
+  lines_next : (rows : List (Origin × Deeds)) (i : ℕ) (row : Origin × Deeds) → i < length rows → slice_get rows i ≡ Some row
+      → lines (take (i + 1) rows) ≡ lines (take i rows) ++ line form groups row
+  lines_next rows i row below is =
+      lines_are (take (i + 1) rows) ∙ flat_map-next (line form groups) rows i row below
+      ∙ ap (λ r. flat_map (line form groups) (take i rows) ++ line form groups r) (get_or_from_slice_get rows i row row is)
+      ∙ ap (λ t. t ++ line form groups row) (sym (lines_are (take i rows)))
+
+  pub row_more : {E F G : Type 0} (rows : List (Origin × Deeds)) (i : ℕ) (row : Origin × Deeds) (old mid new : Device) → i < length rows → slice_get rows i ≡ Some row
+      → Puts {T = Unit} {E = E} (lines (take i rows)) (Ok tt) (record { old = old; new = mid })
+      → Puts {T = Unit} {E = F} (line form groups row) (Ok tt) (record { old = mid; new = new })
+      → Puts {T = Unit} {E = G} (lines (take (i + 1) rows)) (Ok tt) (record { old = old; new = new })
+  row_more rows i row old mid new below is before here =
+      puts_as _ _ _ _ (sym (lines_next rows i row below is)) (puts_then _ _ tt (Ok tt) old mid new before (puts_done _ tt tt _ here))
+
+  pub row_stops : {T U E F G : Type 0} (rows : List (Origin × Deeds)) (i : ℕ) (row : Origin × Deeds) (e : E) (last : Result U F) (old mid new : Device)
+      → i < length rows → slice_get rows i ≡ Some row → IsErr last
+      → Puts {T = Unit} {E = G} (lines (take i rows)) (Ok tt) (record { old = old; new = mid })
+      → Puts {T = T} (line form groups row) (Err e) (record { old = mid; new = new }) → Puts (lines rows) last (record { old = old; new = new })
+  row_stops {T = T} rows i row e last old mid new below is failed before here =
+      puts_as _ _ _ _ (sym (lines_are rows)) (puts_until {V = T} (line form groups) rows i row tt e last old mid new below failed
+      (puts_as _ _ _ _ (lines_are (take i rows)) before) (puts_as _ _ _ _ (ap (line form groups) (sym (get_or_from_slice_get rows i row row is))) here))

@@ -32,6 +32,33 @@ module _ (lines : List LogLine) (line : LogLine) where
   form_more : has_log_line (lines ++ line ∷ []) ≡ (has_log_line lines || (has_form line.spelled || false))
   form_more = list_any-append (λ (l : LogLine). has_form l.spelled) lines (line ∷ [])
 
+  or_true : (b : Bool) → (b || true) ≡ true
+  or_true true = refl
+  or_true false = refl
+
+  or_none : (b : Bool) → b ≡ (b || false)
+  or_none true = refl
+  or_none false = refl
+
+  module _ (a b : Survey) (h : HasSurveyed a lines) where
+    lines_more : b.lines ≡ capped (a.lines + 1) → b.lines ≡ capped (length (lines ++ line ∷ []))
+    lines_more more = more ∙ capped_more a.lines (length lines) h.lines_are ∙ ap capped (sym (length_more lines line))
+
+    same_interfaces : seen_of line.spelled ≡ None → b.interfaces ≡ a.interfaces → HaveMet b.interfaces (seen_in (lines ++ line ∷ []))
+    same_interfaces none met = rw (seen_kept none, met) h.interfaces_are
+
+    same_groups : seen_of line.spelled ≡ None → b.groups ≡ a.groups → HaveCounted b.groups (frames_of (seen_in (lines ++ line ∷ [])))
+    same_groups none counted = rw (seen_kept none, counted) h.groups_are
+
+    same_others : other_of line.text line.spelled ≡ None → b.others ≡ a.others → others_record b.others ≡ others_of (others_in (lines ++ line ∷ []))
+    same_others none others = ap others_record others ∙ h.others_are ∙ ap others_of (sym (others_kept none))
+
+    has_more_form : has_form line.spelled ≡ true → b.has_log_line ≡ true → b.has_log_line ≡ has_log_line (lines ++ line ∷ [])
+    has_more_form is form = form ∙ sym (form_more ∙ rw is (or_true (has_log_line lines)))
+
+    same_form : has_form line.spelled ≡ false → b.has_log_line ≡ a.has_log_line → b.has_log_line ≡ has_log_line (lines ++ line ∷ [])
+    same_form is form = form ∙ h.has_form ∙ or_none (has_log_line lines) ∙ sym (form_more ∙ rw is refl)
+
   -- in a frame
   pub surveys_frame : (a b : Survey) (bus : List ℕ) (f : FrameRecord) → HasSurveyed a lines → line.spelled ≡ frame bus f → b.lines ≡ capped (a.lines + 1)
       → ((s : Seen) → s.bus ≡ bus → s.content ≡ f → HaveMet b.interfaces (seen_in lines ++ s ∷ [])) → HaveCounted b.groups (frames_of (seen_in lines) ++ f ∷ [])
@@ -40,40 +67,27 @@ module _ (lines : List LogLine) (line : LogLine) where
       let s : Seen = record { bus = bus; content = f } in
       let seen = seen_more bus f is in
       record {
-        lines_are = more ∙ capped_more a.lines (length lines) h.lines_are ∙ ap capped (sym (length_more lines line));
+        lines_are = lines_more a b h more;
         interfaces_are = rw seen (met s refl refl);
         groups_are = rw (seen, map-append (λ (x : Seen). x.content) (seen_in lines) (s ∷ [])) counted;
-        others_are = ap others_record others ∙ h.others_are ∙ ap others_of (sym (others_kept (rw is refl)));
+        others_are = same_others a b h (rw is refl) others;
         unread_are = rw (unread_in-more lines line, is, append-nil (unread_in lines), left) h.unread_are;
-        has_form = form ∙ sym (form_more ∙ rw is (or_true (has_log_line lines)));
+        has_form = has_more_form a b h (rw is refl) form;
       }
-    where
-      or_true : (b : Bool) → (b || true) ≡ true
-      or_true true = refl
-      or_true false = refl
 
   -- in another line
   pub surveys_other : (a b : Survey) → HasSurveyed a lines → line.spelled ≡ other → b.lines ≡ capped (a.lines + 1)
       → b.interfaces ≡ a.interfaces → b.groups ≡ a.groups → others_record b.others ≡ others_of (others_in lines ++ line.text ∷ [])
       → b.unread ≡ a.unread → b.has_log_line ≡ true → HasSurveyed b (lines ++ line ∷ [])
   surveys_other a b h is more met counted others left form =
-      let seen = seen_kept (rw is refl) in
       record {
-        lines_are = more ∙ capped_more a.lines (length lines) h.lines_are ∙ ap capped (sym (length_more lines line));
-        interfaces_are = rw (seen, met) h.interfaces_are;
-        groups_are = rw (seen, counted) h.groups_are;
+        lines_are = lines_more a b h more;
+        interfaces_are = same_interfaces a b h (rw is refl) met;
+        groups_are = same_groups a b h (rw is refl) counted;
         others_are = others ∙ ap others_of (sym (others_more (rw is refl)));
         unread_are = rw (unread_in-more lines line, is, append-nil (unread_in lines), left) h.unread_are;
-        has_form = form ∙ sym (form_more ∙ rw is (or_true (has_log_line lines)));
+        has_form = has_more_form a b h (rw is refl) form;
       }
-    where
-      or_true : (b : Bool) → (b || true) ≡ true
-      or_true true = refl
-      or_true false = refl
-
-  or_none : (b : Bool) → b ≡ (b || false)
-  or_none true = refl
-  or_none false = refl
 
   -- in an unread one
   pub surveys_unread : (a b : Survey) → HasSurveyed a lines → line.spelled ≡ unread → b.lines ≡ capped (a.lines + 1)
@@ -81,15 +95,14 @@ module _ (lines : List LogLine) (line : LogLine) where
       → ((u : UnreadRecord) → u.text ≡ line.text → b.lines ≡ capped u.number → HaveNoted b.unread (unread_in lines ++ u ∷ []))
       → b.has_log_line ≡ a.has_log_line → HasSurveyed b (lines ++ line ∷ [])
   surveys_unread a b h is more met counted others noted form =
-      let seen = seen_kept (rw is refl) in
       let number = more ∙ capped_more a.lines (length lines) h.lines_are in
       record {
-        lines_are = number ∙ ap capped (sym (length_more lines line));
-        interfaces_are = rw (seen, met) h.interfaces_are;
-        groups_are = rw (seen, counted) h.groups_are;
-        others_are = ap others_record others ∙ h.others_are ∙ ap others_of (sym (others_kept (rw is refl)));
+        lines_are = lines_more a b h more;
+        interfaces_are = same_interfaces a b h (rw is refl) met;
+        groups_are = same_groups a b h (rw is refl) counted;
+        others_are = same_others a b h (rw is refl) others;
         unread_are = rw (unread_in-more lines line, is) (noted (record { number = length lines + 1; text = line.text }) refl number);
-        has_form = form ∙ h.has_form ∙ or_none (has_log_line lines) ∙ sym (form_more ∙ rw is refl);
+        has_form = same_form a b h (rw is refl) form;
       }
 
   -- in a blank one
@@ -97,14 +110,13 @@ module _ (lines : List LogLine) (line : LogLine) where
       → b.interfaces ≡ a.interfaces → b.groups ≡ a.groups → b.others ≡ a.others → b.unread ≡ a.unread → b.has_log_line ≡ a.has_log_line
       → HasSurveyed b (lines ++ line ∷ [])
   surveys_blank a b h is more met counted others left form =
-      let seen = seen_kept (rw is refl) in
       record {
-        lines_are = more ∙ capped_more a.lines (length lines) h.lines_are ∙ ap capped (sym (length_more lines line));
-        interfaces_are = rw (seen, met) h.interfaces_are;
-        groups_are = rw (seen, counted) h.groups_are;
-        others_are = ap others_record others ∙ h.others_are ∙ ap others_of (sym (others_kept (rw is refl)));
+        lines_are = lines_more a b h more;
+        interfaces_are = same_interfaces a b h (rw is refl) met;
+        groups_are = same_groups a b h (rw is refl) counted;
+        others_are = same_others a b h (rw is refl) others;
         unread_are = rw (unread_in-more lines line, is, append-nil (unread_in lines), left) h.unread_are;
-        has_form = form ∙ h.has_form ∙ or_none (has_log_line lines) ∙ sym (form_more ∙ rw is refl);
+        has_form = same_form a b h (rw is refl) form;
       }
 
 -- ---- a log has one list of lines

@@ -1,13 +1,15 @@
 -- A survey, written.
-use Rattle.std.proofs.Common.{◌≡◌, ◌+◌, ◌++◌, ◌<◌, ◌-◌, ℕ, zero, suc, Bool, List, [], ◌∷◌, Option, length, map, refl, sym, ap, ◌∙◌, append-nil, append_assoc, arith, subst, ◌≢◌}
-use Rattle.std.specs.Prelude.{codes, decimal, OnOk, Result, Ok, Err}
+use Rattle.std.proofs.Common.{◌≡◌, ◌+◌, ◌++◌, ◌<◌, ◌-◌, ℕ, zero, suc, Bool, List, [], ◌∷◌, get_or, length, map, refl, take, sym, ap, ◌∙◌, append-nil, append_assoc, arith, ◌≢◌}
+use Rattle.std.specs.Prelude.{codes, decimal, IsErr, Result, Ok, Err}
 use Rattle.std.specs.List.{flat_map}
-use Rattle.std.specs.Io.KnownBytes.{Appends}
+use Rattle.std.specs.Io.KnownBytes.{Keeps}
 use Rattle.std.proofs.lemmas.Bool.{ne_eqb}
 use Rattle.std.proofs.lemmas.List.Folds.{flat_map-map}
-use Rattle.std.proofs.KnownBytes.{Appends-nil, Appends-trans}
-use Rattle.j39_io.specs.Device.{AppendsFront}
-use Rattle.j39_io.proofs.DeviceLemmas.{front_within}
+use Rattle.j39_io.specs.Device.{Marks}
+use Rattle.j39_io.specs.Puts.{Puts}
+use Rattle.j39_io.specs.Turn.{Device, Turn}
+use Rattle.j39_io.proofs.DeviceLemmas.{Appends-kept, front_of_all}
+use Rattle.j39_io.proofs.PutsLemmas.{puts_as, puts_done, puts_first, puts_nothing, puts_then, puts_until}
 use Rattle.j39_frame.specs.Frame.{FrameRecord}
 use Rattle.j39_groups.specs.Row.{RowRecord}
 use Rattle.j39_reports.specs.GroupCounts.{GroupRecord, group_of}
@@ -24,53 +26,50 @@ use Rattle.j39_reports.specs.declared.surveys.log_survey.Survey.{Survey}
 
 -- ---- the groups
 
-pub groups_none : (table : List RowRecord) (F : List FrameRecord) (held : Option (List ℕ)) → Appends held held (groups_below table F 0)
-unfolding groups_below
-groups_none table F held = Appends-nil held
+module _ (table : List RowRecord) (F : List FrameRecord) where
+  pub groups_none : (d : Device) → Puts {T = Unit} {E = Unit} (groups_below table F 0) (Ok tt) (record { old = d; new = d })
+  unfolding groups_below
+  groups_none d = puts_nothing tt d
 
-pub groups_more : (table : List RowRecord) (F : List FrameRecord) (n : ℕ) (group : GroupRecord) (old mid new : Option (List ℕ)) → group ≡ group_of F n
-    → Appends old mid (groups_below table F n) → Appends mid new (group_text table n group) → Appends old new (groups_below table F (suc n))
-unfolding groups_below
-groups_more table F n group old mid new is before here =
-    Appends-trans old mid new (groups_below table F n) (group_text table n (group_of F n)) before (subst (λ g. Appends mid new (group_text table n g)) is here)
+  pub groups_more : {E : Type 0} (n : ℕ) (group : GroupRecord) (old mid new : Device) → group ≡ group_of F n
+      → Puts {T = Unit} {E = Unit} (groups_below table F n) (Ok tt) (record { old = old; new = mid })
+      → Puts {T = Unit} {E = E} (group_text table n group) (Ok tt) (record { old = mid; new = new })
+      → Puts {T = Unit} {E = Unit} (groups_below table F (suc n)) (Ok tt) (record { old = old; new = new })
+  unfolding groups_below
+  groups_more n group old mid new is before here =
+      puts_then _ _ tt (Ok tt) old mid new before (puts_done _ tt tt _ (puts_as _ _ _ _ (ap (group_text table n) is) here))
 
--- the groups below n begin those below more
-groups_split : (table : List RowRecord) (F : List FrameRecord) (n k : ℕ) → (rest : List ℕ) × (groups_below table F (k + n) ≡ groups_below table F n ++ rest)
-unfolding groups_below
-groups_split table F n zero = ([], ap (groups_below table F) zero_plus ∙ sym (append-nil (groups_below table F n)))
-  where
-    zero_plus : 0 + n ≡ n
-    zero_plus = omega arith
-groups_split table F n (suc k) =
-    let before = groups_split table F n k in
-    let next : suc k + n ≡ suc (k + n) = omega arith in (
-      before.0 ++ group_text table (k + n) (group_of F (k + n)),
-      ap (groups_below table F) next ∙ ap (λ t. t ++ group_text table (k + n) (group_of F (k + n))) before.1
-          ∙ append_assoc (groups_below table F n) before.0 (group_text table (k + n) (group_of F (k + n))),
-    )
+  -- the groups below n begin those below more
+  groups_split : (n k : ℕ) → (rest : List ℕ) × (groups_below table F (k + n) ≡ groups_below table F n ++ rest)
+  unfolding groups_below
+  groups_split n zero = ([], ap (groups_below table F) zero_plus ∙ sym (append-nil (groups_below table F n)))
+    where
+      zero_plus : 0 + n ≡ n
+      zero_plus = omega arith
+  groups_split n (suc k) =
+      let before = groups_split n k in
+      let next : suc k + n ≡ suc (k + n) = omega arith in (
+        before.0 ++ group_text table (k + n) (group_of F (k + n)),
+        ap (groups_below table F) next ∙ ap (λ t. t ++ group_text table (k + n) (group_of F (k + n))) before.1
+            ∙ append_assoc (groups_below table F n) before.0 (group_text table (k + n) (group_of F (k + n))),
+      )
 
-below_more : (table : List RowRecord) (F : List FrameRecord) (n : ℕ) → groups_below table F (suc n) ≡ groups_below table F n ++ group_text table n (group_of F n)
-unfolding groups_below
-below_more table F n = refl
+  -- a fault in the line of a group
+  pub groups_stop : {T U E F' : Type 0} (n m : ℕ) (group : GroupRecord) (e : E) (last : Result U F') (old mid new : Device) → n < m → group ≡ group_of F n → IsErr last
+      → Puts {T = Unit} {E = Unit} (groups_below table F n) (Ok tt) (record { old = old; new = mid })
+      → Puts {T = T} (group_text table n group) (Err e) (record { old = mid; new = new })
+      → Puts (groups_below table F m) last (record { old = old; new = new })
+  unfolding groups_below
+  groups_stop {T = T} n m group e last old mid new below is failed before here =
+      let split = groups_split (suc n) (m - suc n) in
+      let size : (m - suc n) + suc n ≡ m = omega arith in
+      puts_as _ _ _ _ (sym split.1 ∙ ap (groups_below table F) size)
+      (puts_first {T = T} (groups_below table F (suc n)) split.0 e last _ failed
+      (puts_then (groups_below table F n) (group_text table n (group_of F n)) tt (Err e) old mid new before (puts_as _ _ _ _ (ap (group_text table n) is) here)))
 
--- a fault in the line of a group
-pub groups_stop : (table : List RowRecord) (F : List FrameRecord) (n m : ℕ) (group : GroupRecord) (old mid new : Option (List ℕ)) → n < m → group ≡ group_of F n
-    → Appends old mid (groups_below table F n) → AppendsFront mid new (group_text table n group) → AppendsFront old new (groups_below table F m)
-groups_stop table F n m group old mid new below is before here =
-    let split = groups_split table F (suc n) (m - suc n) in
-    let size : (m - suc n) + suc n ≡ m = omega arith in
-    let all : groups_below table F m ≡ groups_below table F n ++ (group_text table n (group_of F n) ++ split.0) =
-    ap (groups_below table F) (sym size) ∙ split.1 ∙ ap (λ t. t ++ split.0) (below_more table F n) ∙ append_assoc (groups_below table F n) (group_text table n (group_of F n)) split.0 in
-    front_within old mid new (groups_below table F n) (group_text table n (group_of F n)) split.0 (groups_below table F m) all before
-    (subst (λ g. AppendsFront mid new (group_text table n g)) is here)
-
-pub groups_all : (table : List RowRecord) (F : List FrameRecord) (n : ℕ) (old new : Option (List ℕ)) → n ≡ 262144 → Appends old new (groups_below table F n) → Appends old new (groups_text table F)
-unfolding groups_end
-groups_all table F n old new is h = subst (λ k. Appends old new (groups_below table F k)) is h
-
-pub groups_front : (table : List RowRecord) (F : List FrameRecord) (n : ℕ) (old new : Option (List ℕ)) → n ≡ 262144 → AppendsFront old new (groups_below table F n) → AppendsFront old new (groups_text table F)
-unfolding groups_end
-groups_front table F n old new is h = subst (λ k. AppendsFront old new (groups_below table F k)) is h
+  pub groups_all : {T E : Type 0} (n : ℕ) (result : Result T E) (sink : Turn) → n ≡ 262144 → Puts (groups_below table F n) result sink → Puts (groups_text table F) result sink
+  unfolding groups_end
+  groups_all n result sink is written = puts_as _ _ _ _ (ap (groups_below table F) is) written
 
 -- ---- the line of a group
 
@@ -95,9 +94,24 @@ group_joined table pgn frames addresses head class space name some head_is class
 
 -- ---- the whole
 
-pub on_ok : {T E : Type 0} (r : Result T E) (P : Type 0) → P → OnOk r P
-on_ok (Ok x) P p = p
-on_ok (Err e) P p = tt
+-- what was written is passed on, or a fault came then
+pub puts_passed : {T U E F : Type 0} (text : List ℕ) (x : T) (last : Result U F) (old mid new : Device)
+    → Puts {E = E} text (Ok x) (record { old = old; new = mid }) → Keeps mid.bytes new.bytes → Marks last mid.has_failed new.has_failed
+    → Puts text last (record { old = old; new = new })
+puts_passed text x (Ok y) old mid new first kept marks = record {
+  written = Appends-kept old.bytes mid.bytes new.bytes text first.written kept;
+  front = tt;
+  mark = marks ∙ first.mark;
+}
+puts_passed text x (Err e) old mid new first kept marks =
+    record { written = tt; front = front_of_all old.bytes mid.bytes new.bytes text first.written kept; mark = marks }
+
+-- a fault in the line of an item
+pub line_stops : {X T U E F : Type 0} (shown : X → List ℕ) (xs : List X) (i : ℕ) (x : X) (line : List ℕ) (e : E) (last : Result U F) (old mid new : Device)
+    → i < length xs → x ≡ get_or xs i x → line ≡ shown x → IsErr last → Puts {T = Unit} {E = Unit} (flat_map shown (take i xs)) (Ok tt) (record { old = old; new = mid })
+    → Puts {T = T} line (Err e) (record { old = mid; new = new }) → Puts (flat_map shown xs) last (record { old = old; new = new })
+line_stops {T = T} shown xs i x line e last old mid new below is line_is failed before here =
+    puts_until {V = T} shown xs i x tt e last old mid new below failed before (puts_as _ _ _ _ (line_is ∙ ap shown is) here)
 
 -- a line for each item of a slice is one for what each of them shows
 pub each_line : {X Y : Type 0} (line : Y → List ℕ) (shown : X → Y) (slice items : List X) → slice ≡ items → flat_map (λ x. line (shown x)) slice ≡ flat_map line (map shown items)

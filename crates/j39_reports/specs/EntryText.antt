@@ -2,9 +2,8 @@
 use Rattle.std.specs.Prelude.{◌++◌, ◌∷◌, ℕ, List, [], Option, codes, decimal, unwrap_or}
 use Rattle.std.specs.List.{flat_map}
 use Rattle.hex.specs.Hex.{encode_upper}
-use Rattle.j39_reports.specs.Columns.{name_field, seconds_text}
+use Rattle.j39_reports.specs.Columns.{heard_fields}
 use Rattle.j39_io.specs.Records.{comma, later_text, line_end}
-use Rattle.j39_reports.specs.Utc.{utc_text}
 use Rattle.j39_groups.specs.Names.{group_name_in, name_in}
 use Rattle.j39_groups.specs.Row.{RowRecord}
 use Rattle.j39_groups.specs.Value.{ValueRecord}
@@ -16,10 +15,8 @@ abbrev pub header_text : List ℕ
 header_text = codes "stamp,utc,address,name,pgn,group,spn,parameter,value,unit\r\n"
 
 -- the fields that the records of a message begin with: the stamp, the same in UTC, address, NAME and PGN
-unfoldable pub begin_text : ℕ → ℕ → Option ℕ → ℕ → List ℕ
-begin_text stamp address name pgn =
-    seconds_text stamp ++ codes "," ++ utc_text stamp ++ codes "," ++ encode_upper (address ∷ []) ++ codes ","
-    ++ name_field name ++ codes "," ++ decimal pgn
+abbrev pub begin_text : ℕ → ℕ → Option ℕ → ℕ → List ℕ
+begin_text stamp address name pgn = heard_fields stamp address name ++ codes "," ++ decimal pgn
 
 -- what the table calls a group and a parameter of it; nothing where it lists none
 abbrev pub group_called : List RowRecord → ℕ → List ℕ

@@ -2,9 +2,8 @@
 use Rattle.std.specs.Prelude.{◌++◌, ◌∷◌, ℕ, List, [], Option, Some, None, codes, decimal, unwrap_or}
 use Rattle.std.specs.List.{flat_map}
 use Rattle.hex.specs.Hex.{encode_upper}
-use Rattle.j39_reports.specs.Columns.{name_field, seconds_text}
+use Rattle.j39_reports.specs.Columns.{heard_fields}
 use Rattle.j39_io.specs.Records.{record_text}
-use Rattle.j39_reports.specs.Utc.{utc_text}
 use Rattle.j39_faults.specs.Text.{kind_text, lamps_on}
 use Rattle.j39_faults.specs.Words.{fmi_words}
 use Rattle.j39_faults.specs.declared.code.Code.{Code}
@@ -20,10 +19,8 @@ abbrev pub fault_columns : List ℕ
 fault_columns = codes "stamp,utc,address,name,state,spn,fmi,count,lamps,parameter,meaning\r\n"
 
 -- the stamp, the same in UTC, the address and the NAME, a comma after each
-unfoldable pub head_fields : ℕ → ℕ → Option ℕ → List ℕ
-head_fields stamp address name =
-    seconds_text stamp ++ codes "," ++ utc_text stamp ++ codes "," ++ encode_upper (address ∷ []) ++ codes ","
-    ++ name_field name ++ codes ","
+abbrev pub head_fields : ℕ → ℕ → Option ℕ → List ℕ
+head_fields stamp address name = heard_fields stamp address name ++ codes ","
 
 -- numbers alone: nothing where a message has no code, or the code's bytes don't tell them
 abbrev pub spn_field : Option Code → List ℕ

@@ -33,10 +33,14 @@ abbrev pub head_in : FaultForm → ℕ → ℕ → Option ℕ → List ℕ
 head_in Line stamp address name = head_text stamp address name
 head_in Record stamp address name = head_fields stamp address name
 
+-- what is said, as a line or a record ends with it
+abbrev pub said_in : FaultForm → List RowRecord → Kind → Lamps → Option Code → List ℕ
+said_in Line rows kind lamps code = said_text rows kind lamps code ++ (newline ∷ [])
+said_in Record rows kind lamps code = record_text (kind_text kind) (said_fields rows lamps code)
+
 -- a line or a record, of what stands before what is said in it
 abbrev pub line_of : FaultForm → List ℕ → List RowRecord → Kind → Lamps → Option Code → List ℕ
-line_of Line head rows kind lamps code = head ++ said_text rows kind lamps code ++ (newline ∷ [])
-line_of Record head rows kind lamps code = head ++ record_text (kind_text kind) (said_fields rows lamps code)
+line_of form head rows kind lamps code = head ++ said_in form rows kind lamps code
 
 -- what is told of a message, where it is told
 abbrev pub told_faults : Bool → List Fault → List Fault

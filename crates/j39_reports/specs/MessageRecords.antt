@@ -1,7 +1,7 @@
 -- The steps of a message's records, reading by reading.
-use Rattle.std.specs.Prelude.{◌≡◌, ◌∷◌, ◌++◌, ℕ, Bool, true, List, [], Option, length, map}
-use Rattle.std.specs.Io.KnownBytes.{Appends}
-use Rattle.j39_io.specs.Device.{AppendsFront}
+use Rattle.std.specs.Prelude.{◌≡◌, ◌∷◌, ◌++◌, ℕ, List, [], Result, Ok, Err, length, map}
+use Rattle.j39_io.specs.Puts.{Puts}
+use Rattle.j39_io.specs.Turn.{Device}
 use Rattle.j39_groups.specs.Row.{RowRecord}
 use Rattle.j39_groups.specs.Value.{ReadingRecord}
 use Rattle.j39_listen.specs.Counting.{capped}
@@ -21,23 +21,24 @@ pub record IsBegun (groups : List RowRecord) (h : Hearing) (records : Records) :
 pub record Begun : Type 0 where
   pub groups : List RowRecord
   pub hearing : Hearing
-  pub held : Option (List ℕ)
-  pub has_failed : Bool
+  pub writer : Device
 
 -- the text of these readings of the message
 abbrev pub readings_text : Begun → List ReadingRecord → List ℕ
 readings_text begun readings = entries_text begun.groups (map (entry_of begun.hearing) readings)
 
+-- the records of these readings were written, or a front of them and then came a fault
+abbrev pub PutsReadings : Begun → Device → List ReadingRecord → Result Unit Unit → Type 0
+PutsReadings begun writer readings result =
+    Puts (readings_text begun readings) result (record { old = begun.writer; new = writer })
+
 -- the records of these readings were written, and no fault came
-pub record HasWritten (begun : Begun) (records : Records) (held : Option (List ℕ)) (has_failed : Bool)
-    (readings : List ReadingRecord) : Type 0 where
+pub record HasWritten (begun : Begun) (records : Records) (writer : Device) (readings : List ReadingRecord)
+    : Type 0 where
   pub is_begun : IsBegun begun.groups begun.hearing records
-  pub written : Appends begun.held held (readings_text begun readings)
-  pub unmarked : has_failed ≡ begun.has_failed
+  pub written : PutsReadings begun writer readings (Ok tt)
   pub lines_are : records.lines ≡ capped (length readings)
 
 -- a fault came in the record of a reading behind others
-pub record HasStopped (begun : Begun) (before : List ReadingRecord) (at : ReadingRecord) (held : Option (List ℕ))
-    (has_failed : Bool) : Type 0 where
-  pub front : AppendsFront begun.held held (readings_text begun (before ++ (at ∷ [])))
-  pub marked : has_failed ≡ true
+abbrev pub HasStopped : Begun → List ReadingRecord → ReadingRecord → Device → Type 0
+HasStopped begun before at writer = PutsReadings begun writer (before ++ (at ∷ [])) (Err tt)

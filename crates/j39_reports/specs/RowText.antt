@@ -8,9 +8,8 @@ use Rattle.j39_groups.specs.Names.{name_in}
 use Rattle.j39_groups.specs.Row.{RowRecord}
 use Rattle.j39_groups.specs.Value.{ValueRecord}
 use Rattle.j39_groups.specs.ValueText.{bare_text, scaled_text}
-use Rattle.j39_reports.specs.Columns.{name_field, seconds_text}
+use Rattle.j39_reports.specs.Columns.{moment_fields, name_field}
 use Rattle.j39_io.specs.Records.{later_text, line_end}
-use Rattle.j39_reports.specs.Utc.{utc_text}
 use Rattle.j39_listen.specs.Report.{name_text}
 use Rattle.j39_reports.specs.Summary.{Range, Row}
 use Rattle.j39_reports.specs.declared.summaries.rows.RowForm.{RowForm}
@@ -40,8 +39,7 @@ origin_fields row =
 unfoldable pub count_fields : Row → List ℕ
 count_fields row =
     codes "," ++ decimal row.count ++ codes "," ++ decimal row.words
-    ++ codes "," ++ seconds_text row.first.stamp ++ codes "," ++ utc_text row.first.stamp
-    ++ codes "," ++ seconds_text row.last.stamp ++ codes "," ++ utc_text row.last.stamp
+    ++ codes "," ++ moment_fields row.first.stamp ++ codes "," ++ moment_fields row.last.stamp
 
 -- of a record: the origin, what the parameter is called, nothing where the table lists none, and the counts
 unfoldable pub record_head : List RowRecord → Row → List ℕ

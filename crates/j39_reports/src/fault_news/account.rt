@@ -1,8 +1,6 @@
 //! The faults of a bus, as an account of its frames (J1939-73, 5.7.1 and 5.7.2).
-ghost use Rattle.std.specs.Prelude.{◌≡◌, ◌≢◌, ◌<◌, ◌≤◌, ◌^◌, [], List, None, length, true, IfOk, Some, OnErr, OnOk};
-ghost use Rattle.std.specs.Prelude.{Err};
-ghost use Rattle.std.specs.Io.KnownBytes.{Appends};
-ghost use Rattle.j39_io.specs.Device.{AppendsFront};
+ghost use Rattle.std.specs.Prelude.{◌≡◌, ◌≢◌, ◌<◌, ◌≤◌, ◌^◌, [], List, None, length, true, Err, IfOk, Some};
+ghost use Rattle.j39_io.specs.Puts.{Puts};
 ghost use Rattle.j39_io.specs.Turn.{turn};
 ghost use Rattle.j39_frame.specs.Frame.{FrameRecord};
 ghost use Rattle.j39_frame.specs.Pgn.{pgn_raw};
@@ -183,15 +181,10 @@ fn put_told<W: Sink>(
     ensures made { IfOk result (λ made. (made.messages ≡ 1)
         × (made.lines ≡ length (told_faults is_told (faults_by (hearing_of heard.now) (Some kind) (Some lamps))))) }
     ensures fits { IfOk result (λ made. made.lines < 2 ^ 64) }
-    ensures written { OnOk result (Appends (W.written sink.old) (W.written sink.new)
-        (faults_text writing.entry.form writing.entry.groups.now
-        (told_faults is_told (faults_by (hearing_of heard.now) (Some kind) (Some lamps))))) }
-    ensures write { OnErr result (W.has_failed sink.new ≡ true) }
-    ensures front { OnErr result (AppendsFront (W.written sink.old) (W.written sink.new)
-        (faults_text writing.entry.form writing.entry.groups.now
-        (told_faults is_told (faults_by (hearing_of heard.now) (Some kind) (Some lamps))))) }
+    ensures puts { Puts (faults_text writing.entry.form writing.entry.groups.now
+        (told_faults is_told (faults_by (hearing_of heard.now) (Some kind) (Some lamps))))
+        result (turn W.written W.has_failed sink.old sink.new) }
     ensures not_memory { result ≢ Err line_fault.Memory }
-    ensures unmarked { OnOk result (W.has_failed sink.new ≡ W.has_failed sink.old) }
 {
     if !is_told {
         return Ok(Made {

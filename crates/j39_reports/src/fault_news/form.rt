@@ -1,4 +1,5 @@
 //! How faults are written.
+use j39_faults::{Code, Kind, Lamps};
 use j39_groups::Groups;
 
 /// How a fault is written.
@@ -15,4 +16,12 @@ pub(crate) enum FaultForm {
 pub(crate) struct Writing<'g, 't> {
     pub form: FaultForm,
     pub groups: &'g Groups<'t>,
+}
+
+/// What a message says of a code, or that it has none.
+#[derive(Clone, Copy)]
+pub(crate) struct Said {
+    pub kind: Kind,
+    pub lamps: Lamps,
+    pub code: Option<Code>,
 }

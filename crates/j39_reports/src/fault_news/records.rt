@@ -6,9 +6,10 @@ ghost use Rattle.j39_io.specs.Records.{record_text};
 ghost use Rattle.j39_faults.specs.Text.{kind_text};
 ghost use Rattle.j39_reports.specs.FaultRecords.{count_field, fields_with, fmi_field, meaning_field, parameter_field, said_fields, spn_field, unnamed};
 
+use crate::fault_news::form::Said;
 use crate::fault_news::names::name_in;
 use arrayvec::ArrayVec;
-use j39_faults::{Code, Kind, Lamps, fmi_words, kind_word, lamps_on, spn_words};
+use j39_faults::{Code, fmi_words, kind_word, lamps_on, spn_words};
 use j39_groups::{Groups, decimal_of};
 use j39_io::printing::{push_bytes, push_hex};
 use j39_io::{DeviceFault, Sink, put_record};
@@ -16,33 +17,26 @@ use j39_io::{DeviceFault, Sink, put_record};
 /// A number, or what stands for a name.
 type Field = ArrayVec<u8, 32>;
 
-/// Writes what a message says of a code, or that it has none, as the fields of a record from `active` or `previous` on.
+/// Writes what is said as the fields of a record from `active` or `previous` on.
 pub(crate) fn put_fields<W: Sink>(
     groups: &Groups<'_>,
-    kind: Kind,
-    lamps: Lamps,
-    code: Option<Code>,
+    said: Said,
     sink: &mut W,
 ) -> Result<(), DeviceFault>
-    ensures { Puts (record_text (kind_text kind) (said_fields groups.now lamps code))
+    ensures { Puts (record_text (kind_text said.kind) (said_fields groups.now said.lamps said.code))
         result (turn W.written W.has_failed sink.old sink.new) }
 {
-    let words = unnamed(code);
-    let parameter = parameter_field(groups, code, words.as_slice());
-    put_fields_with(kind, lamps, code, parameter, sink)
+    let words = unnamed(said.code);
+    let parameter = parameter_field(groups, said.code, words.as_slice());
+    put_fields_with(said, parameter, sink)
 }
 
 /// Writes them, with this field for the parameter.
-fn put_fields_with<W: Sink>(
-    kind: Kind,
-    lamps: Lamps,
-    code: Option<Code>,
-    parameter: &[u8],
-    sink: &mut W,
-) -> Result<(), DeviceFault>
-    ensures { Puts (record_text (kind_text kind) (fields_with lamps parameter.now code))
+fn put_fields_with<W: Sink>(said: Said, parameter: &[u8], sink: &mut W) -> Result<(), DeviceFault>
+    ensures { Puts (record_text (kind_text said.kind) (fields_with said.lamps parameter.now said.code))
         result (turn W.written W.has_failed sink.old sink.new) }
 {
+    let Said { kind, lamps, code } = said;
     let spn = spn_field(code);
     let fmi = fmi_field(code);
     let count = count_field(code);

@@ -15,18 +15,15 @@ ghost use Rattle.j39_listen.specs.HeardModel.{hearing_of};
 ghost use Rattle.j39_reports.specs.EntryText.{begin_text, group_called, named_fields, parameter_called, value_fields};
 ghost use Rattle.j39_reports.specs.MessageRecords.{IsBegun};
 
-use crate::columns::{push_name, push_seconds};
-use crate::utc::utc_text;
+use crate::columns::{heard_fields, push_behind};
 use arrayvec::ArrayVec;
-use j39_address::Name;
 use j39_frame::Pgn;
 use j39_groups::{Groups, ReadValue, ReadingVisitor, push_decimal};
-use j39_io::printing::{push_bytes, push_hex};
 use j39_io::{DeviceFault, Sink, put_all, put_behind_comma};
 use j39_listen::{EntryForm, Heard};
 
 /// What the records of a message begin with: stamp, date and time of day, address, NAME and PGN.
-type Begin = ArrayVec<u8, 80>;
+type Begin = ArrayVec<u8, 88>;
 
 /// The records of a message so far.
 #[derive(Drop)]
@@ -85,10 +82,11 @@ impl<'g, 't, W: Sink> ReadingVisitor<'t, W> for Records<'g, 't> {
 
     ghost Subject = { Begun };
 
-    ghost has_taken = { λ subject records sink. HasWritten subject records (W.written sink) (W.has_failed sink) };
+    ghost has_taken = { λ subject records sink.
+        HasWritten subject records (record { bytes = W.written sink; has_failed = W.has_failed sink }) };
 
     ghost has_stopped = { λ subject before at records sink.
-        HasStopped subject before at (W.written sink) (W.has_failed sink) };
+        HasStopped subject before at (record { bytes = W.written sink; has_failed = W.has_failed sink }) };
 
     fn visit(
         &mut self,
@@ -178,22 +176,11 @@ fn group_of<'r>(groups: &'r Groups<'_>, pgn: Pgn) -> &'r [u8]
 }
 
 /// What the records of a message begin with.
-#[tactic(auto, unfolding(crate::specs::EntryText::begin_text))]
 fn begin_of(heard: &Heard<'_>) -> Begin
     ensures { result.items ≡ begin_text (stamp_micros heard.now.message.stamp) heard.now.message.source
         (option_map name_raw heard.now.name) (pgn_raw heard.now.message.pgn) }
 {
-    let mut pgn = ArrayVec::new();
-    push_decimal(&mut pgn, heard.message.pgn.raw());
-    let mut begin = ArrayVec::new();
-    push_seconds(&mut begin, heard.message.stamp);
-    begin.push(b',');
-    push_bytes(&mut begin, utc_text(heard.message.stamp).as_slice());
-    begin.push(b',');
-    push_hex(&mut begin, &[heard.message.source]);
-    begin.push(b',');
-    push_name(&mut begin, heard.name.map(Name::raw));
-    begin.push(b',');
-    push_bytes(&mut begin, pgn.as_slice());
+    let mut begin = heard_fields(heard);
+    push_behind(&mut begin, b',', u64::from(heard.message.pgn.raw()));
     begin
 }

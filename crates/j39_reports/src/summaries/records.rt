@@ -6,13 +6,12 @@ ghost use Rattle.j39_groups.specs.Names.{name_in};
 ghost use Rattle.j39_reports.specs.RowText.{count_fields, origin_fields, record_head};
 ghost use Rattle.j39_reports.specs.RowModels.{row_shown};
 
-use crate::columns::{push_behind, push_name, push_seconds};
+use crate::columns::{push_behind, push_moment, push_name};
 use crate::summaries::deeds::Deeds;
-use crate::utc::utc_text;
 use arrayvec::ArrayVec;
 use j39_frame::Origin;
 use j39_groups::Groups;
-use j39_io::printing::{push_bytes, push_hex};
+use j39_io::printing::push_hex;
 use j39_io::{DeviceFault, Sink, put_all, put_behind_comma};
 
 /// Writes the origin, what the table calls the parameter, the counts and the moments.
@@ -64,12 +63,8 @@ fn counts_of(origin: Origin, deeds: &Deeds<'_>) -> ArrayVec<u8, 160>
     push_behind(&mut fields, b',', deeds.count);
     push_behind(&mut fields, b',', deeds.words);
     fields.push(b',');
-    push_seconds(&mut fields, deeds.first.stamp);
+    push_moment(&mut fields, deeds.first.stamp);
     fields.push(b',');
-    push_bytes(&mut fields, utc_text(deeds.first.stamp).as_slice());
-    fields.push(b',');
-    push_seconds(&mut fields, deeds.last.stamp);
-    fields.push(b',');
-    push_bytes(&mut fields, utc_text(deeds.last.stamp).as_slice());
+    push_moment(&mut fields, deeds.last.stamp);
     fields
 }

@@ -7,11 +7,12 @@ ghost use Rattle.j39_io.specs.Chars.{newline};
 ghost use Rattle.j39_reports.specs.SurveyModels.{interface_record, others_record, shown_record};
 ghost use Rattle.j39_reports.specs.SurveyText.{byte_text, interface_text, others_text, shown_text, unread_text, untold_text};
 
+use crate::columns::push_seconds;
 use crate::surveys::interfaces::InterfaceCounts;
 use crate::surveys::others::Others;
 use crate::surveys::unread::UnreadLine;
 use arrayvec::ArrayVec;
-use j39_io::printing::{push_bytes, push_hex, push_last_digits, push_number};
+use j39_io::printing::{push_bytes, push_hex, push_number};
 
 /// Appends a name and a number, of 20 digits at most.
 #[tactic(auto, using(crate::proofs::NumberLemmas::short_decimal))]
@@ -31,9 +32,7 @@ fn push_micros(line: &mut ArrayVec<u8, 144>, micros: u64)
     ensures len { array_vec_len line.new ≡ array_vec_len line.old + 19 }
 {
     line.push(b'(');
-    push_last_digits(line, 10, micros / 1_000_000);
-    line.push(b'.');
-    push_last_digits(line, 6, micros % 1_000_000);
+    push_seconds(line, micros);
     line.push(b')');
 }
 

@@ -1,5 +1,5 @@
 -- A message is heard at the frame, or none.
-use Rattle.std.proofs.Common.{◌≤◌, ◌∙◌, ◌++◌, ◌∷◌, [], None, Some, ap, inr, refl, is_some, length}
+use Rattle.std.proofs.Common.{◌≤◌, ◌∙◌, ◌++◌, ◌∷◌, List, [], None, Some, ap, inr, refl, is_some, length}
 use Rattle.std.proofs.Common.{subst, sym}
 use Rattle.j39_frame.specs.Frame.{FrameRecord}
 use Rattle.j39_frame.specs.Identifier.{pgn_of}
@@ -10,6 +10,8 @@ use Rattle.j39_listen.proofs.PieceLemmas.{if_ok}
 use Rattle.j39_reports.specs.News.{faults_among, is_fault_group}
 use Rattle.j39_reports.proofs.FaultAccountLemmas.{faults_leave, tells_nothing}
 use Rattle.j39_reports.proofs.HeardLemmas.{short_heard}
+use Rattle.j39_listen.specs.Listening.{Hears}
+use Rattle.j39_reports.proofs.fault_news.account.put_frame.Given.{Over}
 use Rattle.j39_reports.proofs.fault_news.account.put_frame.Goals as goal
 
 pub returns-in-Ok-None-clause-met : goal.returns-in-Ok-None-clause-met
@@ -22,40 +24,41 @@ returns-in-Ok-None-clause-met g c = λ F ms h remembers.
       tells = tells_nothing c.args.writing.form c.args.writing.groups.now c.args.telling c.args.last.now ms None c.default.result _ refl refl remembers c.default.ensures.0 c.default.ensures.1;
     }
 
-pub returns-in-Ok-Some-clause-met : goal.returns-in-Ok-Some-clause-met
-returns-in-Ok-Some-clause-met g c = if_ok c.put_heard.result _ _ (λ made met F ms h remembers.
+-- a message is heard there, and it is short
+heard_here : (g : Over) (c : goal.After-listener-in-Ok-Some-1 g) (F : List FrameRecord) → Hears c.args.listener.now F
+    → HeardAtWith is_fault_group (F ++ c.args.frame.now ∷ []) (length F) (Some (hearing_of c.in-Ok-Some.heard))
+heard_here g c F h =
     let single = ap is_fault_group (sym (c.pgn.ensures ∙ ap (λ (x : FrameRecord). pgn_of x.id) c.frame.view_is)) ∙ sym (c.is_some-is_single.ensures ∙ ap is_some c.fault_group.ensures) in
+    rw c.in-Ok-Some.field-0-is at (c.in-Ok-Some.ensures.heard is_fault_group faults_leave single F h)
+
+short_here : (g : Over) (c : goal.After-listener-in-Ok-Some-1 g) (F : List FrameRecord) → Hears c.args.listener.now F → length (hearing_of c.in-Ok-Some.heard).message.bytes ≤ 1785
+short_here g c F h =
     let few = subst (λ (x : FrameRecord). length x.bytes ≤ 8) c.frame.view_is c.frame.invariant.len in
-    let at : HeardAtWith is_fault_group (F ++ c.args.frame.now ∷ []) (length F) (Some (hearing_of c.in-Ok-Some.heard)) =
-    rw c.in-Ok-Some.field-0-is at (c.in-Ok-Some.ensures.heard is_fault_group faults_leave single F h) in
-    record {
+    short_heard is_fault_group F c.args.frame.now (hearing_of c.in-Ok-Some.heard) few (heard_here g c F h)
+
+pub returns-in-Ok-Some-clause-met : goal.returns-in-Ok-Some-clause-met
+returns-in-Ok-Some-clause-met g c = if_ok c.put_heard.result _ _ (λ made met F ms h remembers. record {
       heard = Some (hearing_of c.in-Ok-Some.heard);
-      heard_at = at;
+      heard_at = heard_here g c F h;
       hears = on_ok _ _ _ _ c.in-Ok-Some.is c.feed_as.follows.holds-at-none F h;
-      tells = met ms remembers (short_heard is_fault_group F c.args.frame.now (hearing_of c.in-Ok-Some.heard) few at);
+      tells = met ms remembers (short_here g c F h);
     })
     c.put_heard.ensures.met
 
 pub returns-in-Ok-Some-clause-stops : goal.returns-in-Ok-Some-clause-stops
-returns-in-Ok-Some-clause-stops g c = λ fails F ms h remembers.
-    let single = ap is_fault_group (sym (c.pgn.ensures ∙ ap (λ (x : FrameRecord). pgn_of x.id) c.frame.view_is)) ∙ sym (c.is_some-is_single.ensures ∙ ap is_some c.fault_group.ensures) in
-    let few = subst (λ (x : FrameRecord). length x.bytes ≤ 8) c.frame.view_is c.frame.invariant.len in
-    let at : HeardAtWith is_fault_group (F ++ c.args.frame.now ∷ []) (length F) (Some (hearing_of c.in-Ok-Some.heard)) =
-    rw c.in-Ok-Some.field-0-is at (c.in-Ok-Some.ensures.heard is_fault_group faults_leave single F h) in
-    record {
+returns-in-Ok-Some-clause-stops g c = λ fails F ms h remembers. record {
       heard = Some (hearing_of c.in-Ok-Some.heard);
-      heard_at = at;
-      front = c.put_heard.ensures.stops fails ms remembers (short_heard is_fault_group F c.args.frame.now (hearing_of c.in-Ok-Some.heard) few at);
+      heard_at = heard_here g c F h;
+      front = c.put_heard.ensures.stops fails ms remembers (short_here g c F h);
     }
 
 pub returns-in-Ok-Some-clause-asked : goal.returns-in-Ok-Some-clause-asked
 returns-in-Ok-Some-clause-asked g c = λ fails F heard h are remembers.
-    let single = ap is_fault_group (sym (c.pgn.ensures ∙ ap (λ (x : FrameRecord). pgn_of x.id) c.frame.view_is)) ∙ sym (c.is_some-is_single.ensures ∙ ap is_some c.fault_group.ensures) in
     inr (record {
       before = heard;
       are_heard = are;
       message = hearing_of c.in-Ok-Some.heard;
-      is_heard = rw c.in-Ok-Some.field-0-is at (c.in-Ok-Some.ensures.heard is_fault_group faults_leave single F h);
+      is_heard = heard_here g c F h;
       of_faults = c.put_heard.ensures.of_faults fails;
       first = c.put_heard.ensures.first fails (faults_among heard) remembers;
     })

@@ -1,7 +1,9 @@
 -- A message of another kind, or one of faults that is told or not.
-use Rattle.std.proofs.Common.{◌≡◌, ◌∙◌, ◌<◌, ◌≤◌, ◌^◌, List, Result, Ok, Err, Some, arith, length, subst, sym}
-use Rattle.std.specs.Prelude.{IfOk, OnErr, OnOk}
-use Rattle.std.specs.Io.KnownBytes.{Appends}
+use Rattle.std.proofs.Common.{◌≡◌, ◌∙◌, ◌<◌, ◌≤◌, ◌^◌, ℕ, List, Result, Ok, Err, Some, arith, length, subst, sym}
+use Rattle.std.specs.Prelude.{IfOk}
+use Rattle.j39_io.specs.Device.{AppendsFront}
+use Rattle.j39_io.specs.Puts.{Puts}
+use Rattle.j39_io.specs.Turn.{Turn}
 use Rattle.j39_listen.specs.Heard.{Hearing}
 use Rattle.j39_listen.specs.HeardModel.{hearing_of}
 use Rattle.j39_listen.specs.declared.account.LineFault.{LineFault}
@@ -10,7 +12,7 @@ use Rattle.j39_reports.specs.Faults.{faults_by}
 use Rattle.j39_reports.specs.FaultRecords.{faults_text}
 use Rattle.j39_reports.specs.Remembered.{Remembers}
 use Rattle.j39_reports.specs.FaultsSoFar.{Tells, told_faults}
-use Rattle.j39_reports.proofs.PutLemmas.{no_group, no_lamps, of_faults, tells_front, tells_message, tells_other}
+use Rattle.j39_reports.proofs.PutLemmas.{leaves_writer, no_group, no_lamps, of_faults, tells_front, tells_message, tells_other}
 use Rattle.j39_reports.proofs.TellLemmas.{first_is}
 use Rattle.j39_reports.proofs.fault_news.account.put_heard.Goals as goal
 
@@ -33,24 +35,27 @@ returns-in-Err-clause-of_faults g c = λ fails.
     of_faults (hearing_of c.args.heard.now) c.in-Some.kind c.in-Some-lamps_of.lamps (sym c.fault_group.ensures ∙ c.in-Some.is) (sym c.lamps_of.ensures ∙ c.in-Some-lamps_of.is)
 
 pub returns-in-Ok-clause-met : goal.returns-in-Ok-clause-met
-returns-in-Ok-clause-met g c = met c.put_told.result c.put_told.ensures.made c.put_told.ensures.fits c.put_told.ensures.written
+returns-in-Ok-clause-met g c = met c.put_told.result _ c.put_told.ensures.made c.put_told.ensures.fits c.put_told.ensures.puts
   where
-    met : (r : Result Made LineFault)
+    met : (r : Result Made LineFault) (sink : Turn)
         → IfOk r (λ made. (made.messages ≡ 1) × (made.lines ≡ length (told_faults c.is_told.result (faults_by (hearing_of c.args.heard.now) (Some c.in-Some.kind) (Some c.in-Some-lamps_of.lamps)))))
         → IfOk r (λ made. made.lines < 2 ^ 64)
-        → OnOk r (Appends (g.W.Sink.written c.args.sink.now) (g.W.Sink.written c.put_told.new.sink) (faults_text c.args.writing.form c.args.writing.groups.now (told_faults c.is_told.result (faults_by (hearing_of c.args.heard.now) (Some c.in-Some.kind) (Some c.in-Some-lamps_of.lamps)))))
+        → Puts (faults_text c.args.writing.form c.args.writing.groups.now (told_faults c.is_told.result (faults_by (hearing_of c.args.heard.now) (Some c.in-Some.kind) (Some c.in-Some-lamps_of.lamps)))) r sink
         → IfOk r (λ made. (ms : List Hearing) → Remembers c.args.last.now ms → length c.args.heard.now.message.payload.now ≤ 1785
-        → Tells c.args.writing.form c.args.writing.groups.now c.args.telling c.note.new.self ms (Some (hearing_of c.args.heard.now)) made (g.W.Sink.written c.args.sink.now) (g.W.Sink.written c.put_told.new.sink))
-    met (Err e) made fits written = tt
-    met (Ok made) (messages, lines) fits written = λ ms h short.
+        → Tells c.args.writing.form c.args.writing.groups.now c.args.telling c.note.new.self ms (Some (hearing_of c.args.heard.now)) made sink.old.bytes sink.new.bytes)
+    met (Err e) sink made fits puts = tt
+    met (Ok made) sink (messages, lines) fits puts = λ ms h short.
         tells_message c.args.writing.form c.args.writing.groups.now c.args.telling c.args.last.now ms (hearing_of c.args.heard.now) c.in-Some.kind c.in-Some-lamps_of.lamps (sym c.fault_group.ensures ∙ c.in-Some.is)
         (sym c.lamps_of.ensures ∙ c.in-Some-lamps_of.is) (omega arith) h c.note.new.self c.is_told.result c.in-Ok.is_news made _ _ c.in-Ok.ensures.news c.is_told.ensures short
-        c.in-Ok.ensures.after messages lines fits written
+        c.in-Ok.ensures.after messages lines fits puts.written
 
 pub returns-in-Ok-clause-stops : goal.returns-in-Ok-clause-stops
 returns-in-Ok-clause-stops g c = λ fails ms h short.
     tells_front c.args.writing.form c.args.writing.groups.now c.args.telling c.args.last.now ms (hearing_of c.args.heard.now) c.in-Some.kind c.in-Some-lamps_of.lamps (sym c.fault_group.ensures ∙ c.in-Some.is)
-    (sym c.lamps_of.ensures ∙ c.in-Some-lamps_of.is) (omega arith) h c.is_told.result c.in-Ok.is_news _ _ c.in-Ok.ensures.news c.is_told.ensures (on_err_at _ _ _ fails c.put_told.ensures.front)
+    (sym c.lamps_of.ensures ∙ c.in-Some-lamps_of.is) (omega arith) h c.is_told.result c.in-Ok.is_news _ _ c.in-Ok.ensures.news c.is_told.ensures (front_at _ _ _ _ fails c.put_told.ensures.puts)
   where
-    on_err_at : (r : Result Made LineFault) (e : LineFault) (P : Type 0) → r ≡ Err e → OnErr r P → P
-    on_err_at r e P is front = subst (λ (x : Result Made LineFault). OnErr x P) is front
+    front_at : (text : List ℕ) (r : Result Made LineFault) (e : LineFault) (sink : Turn) → r ≡ Err e → Puts text r sink → AppendsFront sink.old.bytes sink.new.bytes text
+    front_at text r e sink is puts = (subst (λ (x : Result Made LineFault). Puts text x sink) is puts).front
+
+pub returns-in-Ok-clause-writer : goal.returns-in-Ok-clause-writer
+returns-in-Ok-clause-writer g c = leaves_writer _ _ _ c.put_told.ensures.puts c.put_told.ensures.not_memory

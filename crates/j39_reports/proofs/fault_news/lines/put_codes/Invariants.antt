@@ -1,4 +1,4 @@
-use Rattle.std.proofs.Common.{◌≡◌}
+use Rattle.j39_io.specs.Turn.{turn}
 use Rattle.j39_faults.specs.CodesLeft.{codes_left}
 use Rattle.j39_reports.proofs.FaultLineLemmas.{HasPut}
 use Rattle.j39_reports.proofs.fault_news.lines.put_codes.Given as goal
@@ -6,5 +6,5 @@ use Rattle.j39_reports.proofs.fault_news.lines.put_codes.Given as goal
 -- the lines of the codes before those that are left were written, and no fault came
 abbrev pub invariant-loop-code : goal.invariant-loop-code
 invariant-loop-code g l =
-    HasPut l.writing.form l.head l.writing.groups.now l.kind l.lamps l.payload (codes_left l.code-iterator) l.lines (g.W.Sink.written l.initial.sink) (g.W.Sink.written l.sink)
-    × (g.W.Sink.has_failed l.sink ≡ g.W.Sink.has_failed l.initial.sink)
+    HasPut l.writing.form l.head l.writing.groups.now l.kind l.lamps l.payload (codes_left l.code-iterator) l.lines
+    (turn g.W.Sink.written g.W.Sink.has_failed l.initial.sink l.sink)

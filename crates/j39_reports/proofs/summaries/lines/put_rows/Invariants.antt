@@ -1,12 +1,13 @@
-use Rattle.std.proofs.Common.{◌≡◌, map, take}
-use Rattle.std.specs.Io.KnownBytes.{Appends}
+use Rattle.std.proofs.Common.{map, take, Ok}
+use Rattle.j39_io.specs.Puts.{Puts}
+use Rattle.j39_io.specs.Turn.{turn}
 use Rattle.j39_memory.specs.ByOrigin.{pairs_of}
 use Rattle.j39_reports.specs.RowText.{summary_text}
 use Rattle.j39_reports.specs.RowModels.{row_shown}
 use Rattle.j39_reports.proofs.summaries.lines.put_rows.Given as goal
 
--- the lines of the rows so far are written, and no fault came
+-- the rows so far are written, and no fault came
 abbrev pub invariant-loop-at : goal.invariant-loop-at
 invariant-loop-at g l =
-    Appends (g.W.Sink.written l.initial.sink) (g.W.Sink.written l.sink) (summary_text l.form l.groups (map row_shown (take l.at (pairs_of l.rows))))
-    × (g.W.Sink.has_failed l.sink ≡ g.W.Sink.has_failed l.initial.sink)
+    Puts {T = Unit} {E = Unit} (summary_text l.form l.groups (map row_shown (take l.at (pairs_of l.rows)))) (Ok tt)
+    (turn g.W.Sink.written g.W.Sink.has_failed l.initial.sink l.sink)

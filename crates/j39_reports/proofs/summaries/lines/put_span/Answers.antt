@@ -1,16 +1,13 @@
 -- The bounds and the unit.
-use Rattle.std.proofs.Common.{◌++◌, ap, refl, sym}
-use Rattle.j39_reports.specs.RowModels.{range_of_span}
-use Rattle.j39_reports.specs.RowText.{bounds_in, range_in, unit_in}
-use Rattle.j39_reports.proofs.PartLemmas.{front_of_both, front_of_first}
+use Rattle.std.proofs.Common.{ap}
+use Rattle.j39_io.proofs.PutsLemmas.{puts_as, puts_first, puts_then}
+use Rattle.j39_reports.specs.RowText.{range_in, unit_in}
 use Rattle.j39_reports.proofs.summaries.lines.put_span.Goals as goal
 
-pub returns-in_err-put_bounds-clause-front : goal.returns-in_err-put_bounds-clause-front
+pub returns-in_err-put_bounds : goal.returns-in_err-put_bounds
 unfolding range_in
-returns-in_err-put_bounds-clause-front g c = front_of_first c.from_residual.result _ _ _ _ _ refl c.in_err-put_bounds.ensures.front
+returns-in_err-put_bounds g c = puts_first _ _ _ _ _ c.from_residual.ensures.0 c.in_err-put_bounds.ensures
 
-pub returns-clause-front : goal.returns-clause-front
+pub returns : goal.returns
 unfolding range_in
-returns-clause-front g c =
-    front_of_both c.put_unit.result _ _ _ _ _ _ (ap (λ unit. bounds_in c.args.form (range_of_span c.args.span.now) ++ unit_in c.args.form unit) (sym c.unit.ensures))
-    c.in_ok-put_bounds.ensures.written c.put_unit.ensures.front
+returns g c = puts_then _ _ _ _ _ _ _ c.in_ok-put_bounds.ensures (puts_as _ _ _ _ (ap (unit_in c.args.form) c.unit.ensures) c.put_unit.ensures)

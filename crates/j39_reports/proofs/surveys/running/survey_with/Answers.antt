@@ -19,7 +19,7 @@ returns-in-Err-put_survey-clause-cut_short g c = λ start fails.
     let h = c.in-Ok.ensures.read_all start in
     IfSome_then (g.R.Source.remaining c.args.source.now) h.whole (λ (log : List ℕ) same.
     subst (λ taken. WritesFront c.args.groups.now taken (g.W.Sink.written c.args.sink.now) (g.W.Sink.written c.put_survey.new.sink)) same
-    (front c.args.groups.now h.taken h.lines _ _ h.are_lines (c.in-Err-put_survey.ensures.err h.lines h.surveyed)))
+    (front c.args.groups.now h.taken h.lines _ _ h.are_lines (c.in-Err-put_survey.ensures.puts h.lines h.surveyed).front))
 
 pub returns-in-Err-put_survey-clause-prefix : goal.returns-in-Err-put_survey-clause-prefix
 returns-in-Err-put_survey-clause-prefix g c = λ start.
@@ -27,5 +27,5 @@ returns-in-Err-put_survey-clause-prefix g c = λ start.
     record {
       taken = h.taken;
       consumed = h.consumed;
-      written = front c.args.groups.now h.taken h.lines _ _ h.are_lines (c.in-Err-put_survey.ensures.err h.lines h.surveyed);
+      written = front c.args.groups.now h.taken h.lines _ _ h.are_lines (c.in-Err-put_survey.ensures.puts h.lines h.surveyed).front;
     }

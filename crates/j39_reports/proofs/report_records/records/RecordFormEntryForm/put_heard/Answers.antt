@@ -1,6 +1,7 @@
 -- All readings were taken, or some.
-use Rattle.std.proofs.Common.{◌∙◌, ap, sym}
+use Rattle.std.proofs.Common.{◌∙◌, ap, refl, sym}
 use Rattle.std.proofs.lemmas.List.{length-map}
+use Rattle.j39_io.proofs.PutsLemmas.{puts_done, puts_failed}
 use Rattle.j39_groups.specs.Readings.{readings_in}
 use Rattle.j39_listen.specs.Counting.{capped}
 use Rattle.j39_listen.specs.Report.{entry_of}
@@ -12,25 +13,19 @@ pub returns-in-Ok-clause-lines : goal.returns-in-Ok-clause-lines
 returns-in-Ok-clause-lines g c =
     let h = hearing_of c.args.heard.now in
     let readings = readings_in c.args.groups.now h.message.pgn h.message.bytes in
-    (puts_all c.args.groups.now h _ _ c.new-records.result c.new-records.ensures.begun c.new-records.ensures.none c.visit.new.visitor _ _ readings c.in-Ok.ensures.taken).lines_are
+    (puts_all c.args.groups.now h _ c.new-records.result c.new-records.ensures.begun c.new-records.ensures.none c.visit.new.visitor _ readings c.in-Ok.ensures.taken).lines_are
     ∙ ap capped (sym (length-map readings (entry_of h)))
 
-pub returns-in-Ok-clause-written : goal.returns-in-Ok-clause-written
-returns-in-Ok-clause-written g c =
+pub returns-in-Ok-clause-puts : goal.returns-in-Ok-clause-puts
+returns-in-Ok-clause-puts g c =
     let h = hearing_of c.args.heard.now in
-    (puts_all c.args.groups.now h _ _ c.new-records.result c.new-records.ensures.begun c.new-records.ensures.none c.visit.new.visitor _ _ (readings_in c.args.groups.now h.message.pgn h.message.bytes) c.in-Ok.ensures.taken).written
+    puts_done _ _ _ _
+    (puts_all c.args.groups.now h _ c.new-records.result c.new-records.ensures.begun c.new-records.ensures.none c.visit.new.visitor _
+    (readings_in c.args.groups.now h.message.pgn h.message.bytes) c.in-Ok.ensures.taken).written
 
-pub returns-in-Ok-clause-mark : goal.returns-in-Ok-clause-mark
-returns-in-Ok-clause-mark g c =
+pub returns-in-Err-clause-puts : goal.returns-in-Err-clause-puts
+returns-in-Err-clause-puts g c =
     let h = hearing_of c.args.heard.now in
-    (puts_all c.args.groups.now h _ _ c.new-records.result c.new-records.ensures.begun c.new-records.ensures.none c.visit.new.visitor _ _ (readings_in c.args.groups.now h.message.pgn h.message.bytes) c.in-Ok.ensures.taken).unmarked
-
-pub returns-in-Err-clause-front : goal.returns-in-Err-clause-front
-returns-in-Err-clause-front g c =
-    let h = hearing_of c.args.heard.now in
-    (stops_among c.args.groups.now h _ _ c.new-records.result c.new-records.ensures.begun c.new-records.ensures.none c.visit.new.visitor _ _ (readings_in c.args.groups.now h.message.pgn h.message.bytes) c.in-Err.ensures.stopped).0
-
-pub returns-in-Err-clause-mark : goal.returns-in-Err-clause-mark
-returns-in-Err-clause-mark g c =
-    let h = hearing_of c.args.heard.now in
-    (stops_among c.args.groups.now h _ _ c.new-records.result c.new-records.ensures.begun c.new-records.ensures.none c.visit.new.visitor _ _ (readings_in c.args.groups.now h.message.pgn h.message.bytes) c.in-Err.ensures.stopped).1
+    puts_failed _ _ _ _ refl
+    (stops_among c.args.groups.now h _ c.new-records.result c.new-records.ensures.begun c.new-records.ensures.none c.visit.new.visitor _
+    (readings_in c.args.groups.now h.message.pgn h.message.bytes) c.in-Err.ensures.stopped)
