@@ -14,11 +14,11 @@ use Rattle.j39_cli.specs.IdCommand.{id_form}
 use Rattle.j39_cli.specs.NameCommand.{name_form}
 use Rattle.j39_cli.specs.NodesCommand.{nodes_form}
 use Rattle.j39_cli.specs.ReportCommand.{report_form}
+use Rattle.j39_cli.specs.SummaryCommand.{summary_form}
+use Rattle.j39_cli.specs.SurveyCommand.{survey_form}
 use Rattle.j39_cli.specs.Rules.{is_given}
 use Rattle.j39_cli.specs.Task.{IsInRange}
 use Rattle.j39_cli.specs.declared.task.ParseFault.TheVariants.{Memory}
-use Rattle.j39_cli.specs.SummaryCommand.{summary_form}
-use Rattle.j39_cli.specs.SurveyCommand.{survey_form}
 
 -- a command with the texts of its values, in the order of its spelling
 pub data CommandWords : Type 0 where
@@ -60,7 +60,7 @@ HasTexts s met = (met.0 ≡ (form_of s).called) × HaveTexts met.1 (form_of s).a
 abbrev pub text_found : Found → Text → Text
 text_found found argument = option_map_or (λ text. text) (first_value found argument) []
 
--- the command of this name, with the texts that are found
+-- the command of this name, which clap knows, with the texts that are found
 abbrev pub command_found : Text → Found → CommandWords
 command_found called found =
     let bus = first_value found (codes "bus") in

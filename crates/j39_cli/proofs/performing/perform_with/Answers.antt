@@ -1,4 +1,4 @@
--- A run is on the task's own bus, and its end is told.
+-- The survey is that of the task.
 use Rattle.j39_cli.proofs.performing.perform_with.Goals as goal
 
 pub returns-in-Survey-clause-performed : goal.returns-in-Survey-clause-performed
