@@ -38,19 +38,19 @@ short_here g c F h =
 
 pub returns-in-Ok-Some-clause-met : goal.returns-in-Ok-Some-clause-met
 returns-in-Ok-Some-clause-met g c = if_ok c.put_heard.result _ _ (λ made met F ms h remembers. record {
-      heard = Some (hearing_of c.in-Ok-Some.heard);
-      heard_at = heard_here g c F h;
-      hears = on_ok _ _ _ _ c.in-Ok-Some.is c.feed_as.follows.holds-at-none F h;
-      tells = met ms remembers (short_here g c F h);
-    })
+  heard = Some (hearing_of c.in-Ok-Some.heard);
+  heard_at = heard_here g c F h;
+  hears = on_ok _ _ _ _ c.in-Ok-Some.is c.feed_as.follows.holds-at-none F h;
+  tells = met ms remembers (short_here g c F h);
+})
     c.put_heard.ensures.met
 
 pub returns-in-Ok-Some-clause-stops : goal.returns-in-Ok-Some-clause-stops
 returns-in-Ok-Some-clause-stops g c = λ fails F ms h remembers. record {
-      heard = Some (hearing_of c.in-Ok-Some.heard);
-      heard_at = heard_here g c F h;
-      front = c.put_heard.ensures.stops fails ms remembers (short_here g c F h);
-    }
+  heard = Some (hearing_of c.in-Ok-Some.heard);
+  heard_at = heard_here g c F h;
+  front = c.put_heard.ensures.stops fails ms remembers (short_here g c F h);
+}
 
 pub returns-in-Ok-Some-clause-asked : goal.returns-in-Ok-Some-clause-asked
 returns-in-Ok-Some-clause-asked g c = λ fails F heard h are remembers.

@@ -10,5 +10,5 @@ use Rattle.j39_reports.proofs.surveys.writing.put_groups.Given as goal
 abbrev pub invariant-loop-raw : goal.invariant-loop-raw
 invariant-loop-raw g l =
     ((F : List FrameRecord) → HaveCounted l.table F
-        → Puts {T = Unit} {E = Unit} (groups_below l.groups F l.raw) (Ok tt) (turn g.W.Sink.written g.W.Sink.has_failed l.initial.sink l.sink))
+    → Puts {T = Unit} {E = Unit} (groups_below l.groups F l.raw) (Ok tt) (turn g.W.Sink.written g.W.Sink.has_failed l.initial.sink l.sink))
     × (g.W.Sink.has_failed l.sink ≡ g.W.Sink.has_failed l.initial.sink)
