@@ -1,6 +1,6 @@
 -- The fields of identifiers and NAMEs as C has them.
 use Rattle.std.specs.Prelude.{◌≡◌, ◌<◌, ◌^◌, ℕ, nat_lt, if◌then◌else◌, Option, Some, None}
-use Rattle.j39_address.specs.Name.{NameFields}
+use Rattle.j39_address.specs.Name.{NameFields, name_fields}
 use Rattle.j39_frame.specs.Address.{global_address}
 use Rattle.j39_frame.specs.Identifier.{CanCompose, destination_of, pf_of, pgn_of, priority_of, source_of}
 use Rattle.j39_c.specs.declared.fields.IdFields.{IdFields}
@@ -31,15 +31,5 @@ pub record IsComposed (fields : IdFields) (id : ℕ) : Type 0 where
   pub destination : destination_of id ≡ (if nat_lt (pf_of id) 240 then Some fields.destination else None)
 
 abbrev pub name_fields_in : NameParts → NameFields
-name_fields_in p = record {
-  arbitrary = p.arbitrary;
-  industry = p.industry;
-  system_instance = p.system_instance;
-  system = p.system;
-  reserved = p.reserved;
-  function = p.function;
-  function_instance = p.function_instance;
-  ecu_instance = p.ecu_instance;
-  manufacturer = p.manufacturer;
-  identity = p.identity;
-}
+name_fields_in p = name_fields p.arbitrary p.industry p.system_instance p.system p.reserved p.function
+    p.function_instance p.ecu_instance p.manufacturer p.identity

@@ -29,46 +29,34 @@ use Rattle.j39_c.specs.declared.part.Part.TheVariants.{Listening, Receiving, Sen
 use Rattle.j39_listen.specs.declared.listener.Listener as heard
 use Rattle.j39_controller.specs.declared.controller.Controller.{Controller}
 
+-- what a handle's part gives, by its kind
+abbrev by_kind : {T : Type 0} → (heard.Listener → Option T) → (BoxedReceiver → Option T) → (SenderRecord → Option T)
+    → (AssemblerRecord → Option T) → (Controller → Option T) → Option Part → Option T
+by_kind listener receiver sender assembler controller None = None
+by_kind listener receiver sender assembler controller (Some (Listening b)) = listener b.value
+by_kind listener receiver sender assembler controller (Some (Receiving b)) = receiver b.value
+by_kind listener receiver sender assembler controller (Some (Sending b)) = sender b.value
+by_kind listener receiver sender assembler controller (Some (Assembling b)) = assembler b.value
+by_kind listener receiver sender assembler controller (Some (Controlling b)) = controller b.value
+
+abbrev no : {P T : Type 0} → P → Option T
+no part = None
+
 -- the listener that a handle holds; the receiver; the sender; the assembler; the controller
 abbrev pub listener_in : Option Part → Option heard.Listener
-listener_in None = None
-listener_in (Some (Listening b)) = Some b.value
-listener_in (Some (Receiving b)) = None
-listener_in (Some (Sending b)) = None
-listener_in (Some (Assembling b)) = None
-listener_in (Some (Controlling b)) = None
+listener_in part = by_kind Some no no no no part
 
 abbrev pub receiver_in : Option Part → Option BoxedReceiver
-receiver_in None = None
-receiver_in (Some (Listening b)) = None
-receiver_in (Some (Receiving b)) = Some b.value
-receiver_in (Some (Sending b)) = None
-receiver_in (Some (Assembling b)) = None
-receiver_in (Some (Controlling b)) = None
+receiver_in part = by_kind no Some no no no part
 
 abbrev pub sender_in : Option Part → Option SenderRecord
-sender_in None = None
-sender_in (Some (Listening b)) = None
-sender_in (Some (Receiving b)) = None
-sender_in (Some (Sending b)) = Some b.value
-sender_in (Some (Assembling b)) = None
-sender_in (Some (Controlling b)) = None
+sender_in part = by_kind no no Some no no part
 
 abbrev pub assembler_in : Option Part → Option AssemblerRecord
-assembler_in None = None
-assembler_in (Some (Listening b)) = None
-assembler_in (Some (Receiving b)) = None
-assembler_in (Some (Sending b)) = None
-assembler_in (Some (Assembling b)) = Some b.value
-assembler_in (Some (Controlling b)) = None
+assembler_in part = by_kind no no no Some no part
 
 abbrev pub controller_in : Option Part → Option Controller
-controller_in None = None
-controller_in (Some (Listening b)) = None
-controller_in (Some (Receiving b)) = None
-controller_in (Some (Sending b)) = None
-controller_in (Some (Assembling b)) = None
-controller_in (Some (Controlling b)) = Some b.value
+controller_in part = by_kind no no no no Some part
 
 -- ---- listeners
 

@@ -11,7 +11,7 @@ ghost use Rattle.j39_c.specs.Parts.{assembler_in};
 use crate::can::{CanFrame, frame_in};
 use crate::handle::Handle;
 use crate::message::WholeMessage;
-use crate::part::{Part, ask};
+use crate::part::{ask, open};
 use crate::refusal::Refusal;
 use j39_frame::Frame;
 use j39_transport::{Assembler, Fed};
@@ -22,13 +22,7 @@ use std::alloc::Global;
 pub extern "C" fn j39_assembler_new(alloc: Global, assembler: &mut Handle) -> i32
     ensures { Opens assembler_in ⊤ assembler.old.part result assembler.new.part (λ made. Stands [] made) }
 {
-    if assembler.is_open(alloc) {
-        return Refusal::InUse.code();
-    }
-    let Ok(made) = Box::new(alloc, Assembler::new(alloc)) else {
-        return Refusal::NoMemory.code();
-    };
-    assembler.put_new(alloc, Part::Assembling(made))
+    open!(alloc, assembler, Assembling(Assembler::new(alloc)))
 }
 
 /// Feeds an assembler the next frame of the bus: 1 where a message is whole with it, which is in `out` then, of no NAME,

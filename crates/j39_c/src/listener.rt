@@ -11,7 +11,7 @@ use crate::can::{CanFrame, frame_in};
 use crate::handed_out::put_name;
 use crate::handle::Handle;
 use crate::message::WholeMessage;
-use crate::part::{Part, ask};
+use crate::part::{ask, open};
 use crate::refusal::Refusal;
 use j39_frame::Frame;
 use j39_listen::Listener;
@@ -22,13 +22,7 @@ use std::alloc::Global;
 pub extern "C" fn j39_listener_new(alloc: Global, listener: &mut Handle) -> i32
     ensures { Opens listener_in ⊤ listener.old.part result listener.new.part (λ made. Hears made []) }
 {
-    if listener.is_open(alloc) {
-        return Refusal::InUse.code();
-    }
-    let Ok(made) = Box::new(alloc, Listener::new(alloc)) else {
-        return Refusal::NoMemory.code();
-    };
-    listener.put_new(alloc, Part::Listening(made))
+    open!(alloc, listener, Listening(Listener::new(alloc)))
 }
 
 /// Feeds a listener the next frame of the bus: 1 where a message is heard at it, which is in `out` then, else 0. -1

@@ -47,4 +47,18 @@ macro_rules! ask {
     };
 }
 
-pub(crate) use ask;
+/// Puts a new part of this kind into a handle, in a box of its own: 0, or -3 where memory is refused, and -4 where the
+/// handle is open.
+macro_rules! open {
+    ($alloc:ident, $handle:ident, $kind:ident($made:expr)) => {{
+        if $handle.is_open($alloc) {
+            return $crate::refusal::Refusal::InUse.code();
+        }
+        let Ok(made) = Box::new($alloc, $made) else {
+            return $crate::refusal::Refusal::NoMemory.code();
+        };
+        $handle.put_new($alloc, $crate::part::Part::$kind(made))
+    }};
+}
+
+pub(crate) use {ask, open};

@@ -3,17 +3,14 @@ use Rattle.std.specs.Prelude.{◌≡◌, ◌∷◌, [], ℕ, Bool, List, Option,
 use Rattle.std.specs.Prelude.{if◌then◌else◌}
 use Rattle.clap.specs.Words.{App, Text, new_app, with_rule}
 use Rattle.j39_reports.specs.FaultAsking.{AsksForFaults}
-use Rattle.j39_reports.specs.FaultRun.{MakesFaultRecords, MakesFaults}
+use Rattle.j39_reports.specs.FaultRun.{MakesFaults}
 use Rattle.j39_reports.specs.declared.fault_news.telling.Telling.{Telling}
 use Rattle.j39_reports.specs.declared.fault_news.telling.Telling.TheVariants.{News, All}
-use Rattle.j39_groups.specs.Row.{RowRecord}
-use Rattle.j39_listen.specs.Output.{Making}
 use Rattle.j39_cli.specs.Answer.{IsBusChecked, IsTask}
 use Rattle.j39_cli.specs.Form.{Form, Meaning, flag, option, value}
 use Rattle.j39_cli.specs.LogCommand.{format_of, runs, with_log}
 use Rattle.j39_cli.specs.Rules.{flag_rule, with_table}
-use Rattle.j39_cli.specs.declared.task.Format.{Format}
-use Rattle.j39_cli.specs.declared.task.Format.TheVariants.{Csv, Lines}
+use Rattle.j39_listen.specs.declared.format.Format.{Format}
 use Rattle.j39_cli.specs.declared.task.LogInput.{LogInput}
 use Rattle.j39_cli.specs.declared.task.Task.{Task}
 use Rattle.j39_cli.specs.declared.task.Task.TheVariants.{Faults}
@@ -39,11 +36,6 @@ faults_form bus table all csv file = record {
   Answers = IsBusChecked bus (IsTask (IsFaultsTask bus table all csv file));
 }
 
--- what it makes of the frames by a table
-abbrev pub faults_in : Format → Telling → List RowRecord → Making
-faults_in Lines telling rows = MakesFaults rows telling
-faults_in Csv telling rows = MakesFaultRecords rows telling
-
 abbrev pub faults_meaning : LogInput → Option (List ℕ) → Telling → Format → Meaning
 faults_meaning input table telling format =
-    record (runs (λ _. AsksForFaults) (λ rows. faults_in format telling rows) input) { table = table }
+    record (runs (λ _. AsksForFaults) (λ rows. MakesFaults format rows telling) input) { table = table }

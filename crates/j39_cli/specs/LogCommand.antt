@@ -18,8 +18,8 @@ use Rattle.j39_cli.specs.Form.{Meaning}
 use Rattle.j39_cli.specs.Rules.{option_rule, value_rule}
 use Rattle.j39_cli.specs.Counted.{counts_text}
 use Rattle.j39_cli.specs.Refusal.{error_line}
-use Rattle.j39_cli.specs.declared.task.Format.{Format}
-use Rattle.j39_cli.specs.declared.task.Format.TheVariants.{Csv, Lines}
+use Rattle.j39_listen.specs.declared.format.Format.{Format}
+use Rattle.j39_listen.specs.declared.format.Format.TheVariants.{Line, Record}
 use Rattle.j39_cli.specs.declared.task.LogInput.{LogInput}
 
 -- a command that reads a log takes `--bus` and FILE
@@ -28,7 +28,7 @@ with_log command = with_rule (with_rule command (option_rule (codes "bus") false
 
 -- how what the log has is written: `--csv` asks for comma-separated values
 abbrev pub format_of : Bool → Format
-format_of csv = if csv then Csv else Lines
+format_of csv = if csv then Record else Line
 
 -- the file that FILE names: none where it isn't given, or is `-`, which stands for standard input
 abbrev pub opened_of : Option (List ℕ) → Option (List ℕ)

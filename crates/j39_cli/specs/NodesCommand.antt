@@ -8,8 +8,8 @@ use Rattle.j39_cli.specs.Answer.{IsBusChecked, IsTask}
 use Rattle.j39_cli.specs.Form.{Form, Meaning, flag, option, value}
 use Rattle.j39_cli.specs.LogCommand.{format_of, runs, with_log}
 use Rattle.j39_cli.specs.Rules.{flag_rule}
-use Rattle.j39_cli.specs.declared.task.Format.{Format}
-use Rattle.j39_cli.specs.declared.task.Format.TheVariants.{Csv, Lines}
+use Rattle.j39_listen.specs.declared.format.Format.{Format}
+use Rattle.j39_listen.specs.declared.format.Format.TheVariants.{Line, Record}
 use Rattle.j39_cli.specs.declared.task.LogInput.{LogInput}
 use Rattle.j39_cli.specs.declared.task.Task.{Task}
 use Rattle.j39_cli.specs.declared.task.Task.TheVariants.{Nodes}
@@ -31,8 +31,8 @@ nodes_form bus csv file = record {
 
 -- what it makes of the frames
 abbrev pub nodes_in : Format → Making
-nodes_in Lines = MakesNodes
-nodes_in Csv = MakesNodeRecords
+nodes_in Line = MakesNodes
+nodes_in Record = MakesNodeRecords
 
 abbrev pub nodes_meaning : LogInput → Format → Meaning
 nodes_meaning input format = runs (λ _. AsksNowhere) (λ _. nodes_in format) input

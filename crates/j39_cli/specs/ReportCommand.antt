@@ -18,8 +18,8 @@ use Rattle.j39_cli.specs.LogCommand.{IsRun, fault_text, format_of, opened_of, wi
 use Rattle.j39_cli.specs.Refusal.{error_line}
 use Rattle.j39_cli.specs.Rules.{flag_rule, option_rule, with_table}
 use Rattle.j39_cli.specs.Spns.{spns_in}
-use Rattle.j39_cli.specs.declared.task.Format.{Format}
-use Rattle.j39_cli.specs.declared.task.Format.TheVariants.{Csv, Lines}
+use Rattle.j39_listen.specs.declared.format.Format.{Format}
+use Rattle.j39_listen.specs.declared.format.Format.TheVariants.{Line, Record}
 use Rattle.j39_cli.specs.declared.task.LogInput.{LogInput}
 use Rattle.j39_cli.specs.declared.task.Task.{Task}
 use Rattle.j39_cli.specs.declared.task.Task.TheVariants.{Report}
@@ -49,8 +49,8 @@ report_form bus table spn csv file = record {
 
 -- what it makes of the frames by a table
 abbrev pub makes_in : Format → List RowRecord → Making
-makes_in Lines rows = MakesReport rows
-makes_in Csv rows = Headed header_text (MakesRecords rows)
+makes_in Line rows = MakesReport rows
+makes_in Record rows = Headed header_text (MakesRecords rows)
 
 -- memory was refused before the log was read: that is told, and nothing is written
 pub record IsNotBegun (status : ℕ) (log out err : Turn) : Type 0 where

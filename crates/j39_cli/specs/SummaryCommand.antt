@@ -1,15 +1,12 @@
 -- The command `summary [--bus B] [--table T] [--csv] [FILE]`.
 use Rattle.std.specs.Prelude.{◌≡◌, ◌∷◌, [], ℕ, Bool, List, Option, codes}
 use Rattle.clap.specs.Words.{App, Text, new_app, with_rule}
-use Rattle.j39_reports.specs.SummaryRun.{AsksForRows, MakesSummary, MakesSummaryRecords}
-use Rattle.j39_groups.specs.Row.{RowRecord}
-use Rattle.j39_listen.specs.Output.{Making}
+use Rattle.j39_reports.specs.SummaryRun.{AsksForRows, MakesSummary}
 use Rattle.j39_cli.specs.Answer.{IsBusChecked, IsTask}
 use Rattle.j39_cli.specs.Form.{Form, Meaning, flag, option, value}
 use Rattle.j39_cli.specs.LogCommand.{format_of, runs, with_log}
 use Rattle.j39_cli.specs.Rules.{flag_rule, with_table}
-use Rattle.j39_cli.specs.declared.task.Format.{Format}
-use Rattle.j39_cli.specs.declared.task.Format.TheVariants.{Csv, Lines}
+use Rattle.j39_listen.specs.declared.format.Format.{Format}
 use Rattle.j39_cli.specs.declared.task.LogInput.{LogInput}
 use Rattle.j39_cli.specs.declared.task.Task.{Task}
 use Rattle.j39_cli.specs.declared.task.Task.TheVariants.{Summary}
@@ -29,11 +26,6 @@ summary_form bus table csv file = record {
   Answers = IsBusChecked bus (IsTask (IsSummaryTask bus table csv file));
 }
 
--- what it makes of the frames by a table
-abbrev pub summary_in : Format → List RowRecord → Making
-summary_in Lines rows = MakesSummary rows
-summary_in Csv rows = MakesSummaryRecords rows
-
 abbrev pub summary_meaning : LogInput → Option (List ℕ) → Format → Meaning
 summary_meaning input table format =
-    record (runs (λ rows. AsksForRows rows) (λ rows. summary_in format rows) input) { table = table }
+    record (runs (λ rows. AsksForRows rows) (λ rows. MakesSummary format rows) input) { table = table }

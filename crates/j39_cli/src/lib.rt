@@ -29,5 +29,5 @@ pub use own_table::wrong_table;
 pub use performing::{perform, perform_with};
 pub use refusal::{refuse, unopened};
 pub use spns::Spns;
-pub use task::{Address, Argument, Format, LogInput, ParseFault, Task, WordText};
+pub use task::{Address, Argument, LogInput, ParseFault, Task, WordText};
 pub use words::parse;

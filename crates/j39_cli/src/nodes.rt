@@ -12,10 +12,10 @@ ghost use Rattle.j39_cli.specs.Rules.{IsMade};
 use crate::command::new_command;
 use crate::log::{LOG_LIMIT, copy_of, with_csv, with_log};
 use crate::words::{format_given, log_input};
-use crate::{Format, ParseFault, Task};
+use crate::{ParseFault, Task};
 use clap::{ArgMatches, Command};
 use j39_io::{Sink, Source};
-use j39_listen::{Counts, RunFault, nodes_csv};
+use j39_listen::{Counts, Format, RunFault, nodes_csv};
 use j39_log::Bus;
 use std::alloc::{AllocError, Global};
 
@@ -70,7 +70,7 @@ pub(crate) fn run<R: Source, W: Sink>(
     ensures flushed { OnOk result (W.is_flushed sink.new ≡ true) }
 {
     match format {
-        Format::Lines => j39_listen::nodes(source, sink, copy_of(bus), LOG_LIMIT),
-        Format::Csv => nodes_csv(source, sink, copy_of(bus), LOG_LIMIT),
+        Format::Line => j39_listen::nodes(source, sink, copy_of(bus), LOG_LIMIT),
+        Format::Record => nodes_csv(source, sink, copy_of(bus), LOG_LIMIT),
     }
 }

@@ -12,11 +12,11 @@ ghost use Rattle.j39_cli.specs.Rules.{IsMade};
 use crate::command::{new_command, with_option, with_table};
 use crate::log::{LOG_LIMIT, copy_of, tell_end, tell_fault, with_csv, with_log};
 use crate::words::{format_given, log_input, spns_value};
-use crate::{Format, ParseFault, Spns, Task, WordText};
+use crate::{ParseFault, Spns, Task, WordText};
 use clap::{ArgMatches, Command};
 use j39_groups::Groups;
 use j39_io::{Sink, Source};
-use j39_listen::{Counts, RunFault, run_with};
+use j39_listen::{Counts, Format, RunFault, run_with};
 use j39_log::Bus;
 use j39_reports::report_csv;
 use std::alloc::{AllocError, Global};
@@ -120,7 +120,7 @@ fn run<R: Source, W: Sink>(
     ensures flushed { OnOk result (W.is_flushed sink.new ≡ true) }
 {
     match format {
-        Format::Lines => run_with(alloc, groups, source, sink, copy_of(bus), LOG_LIMIT),
-        Format::Csv => report_csv(alloc, groups, source, sink, copy_of(bus), LOG_LIMIT),
+        Format::Line => run_with(alloc, groups, source, sink, copy_of(bus), LOG_LIMIT),
+        Format::Record => report_csv(alloc, groups, source, sink, copy_of(bus), LOG_LIMIT),
     }
 }

@@ -2,23 +2,22 @@
 ghost use Rattle.std.specs.Prelude.{◌≡◌, OnOk, codes, true};
 ghost use Rattle.j39_io.specs.Turn.{turn};
 ghost use Rattle.clap.specs.Words.{found_of};
-ghost use Rattle.j39_reports.specs.SummaryRun.{AsksForRows};
+ghost use Rattle.j39_reports.specs.SummaryRun.{AsksForRows, MakesSummary};
 ghost use Rattle.j39_listen.specs.Ran.{Ran};
 ghost use Rattle.j39_cli.specs.CommandWords.{IsAnswered, command_found};
 ghost use Rattle.j39_cli.specs.LogCommand.{log_limit};
-ghost use Rattle.j39_cli.specs.SummaryCommand.{summary_app, summary_in};
+ghost use Rattle.j39_cli.specs.SummaryCommand.{summary_app};
 ghost use Rattle.j39_cli.specs.Rules.{IsMade};
 
 use crate::command::{new_command, with_table};
 use crate::log::{LOG_LIMIT, copy_of, with_csv, with_log};
 use crate::words::{format_given, log_input};
-use crate::{Format, ParseFault, Task, WordText};
+use crate::{ParseFault, Task, WordText};
 use clap::{ArgMatches, Command};
 use j39_groups::Groups;
 use j39_io::{Sink, Source};
-use j39_listen::{Counts, RunFault};
+use j39_listen::{Counts, Format, RunFault};
 use j39_log::Bus;
-use j39_reports::summary_csv;
 use std::alloc::{AllocError, Global};
 
 const ABOUT: &str = "\
@@ -73,12 +72,9 @@ pub(crate) fn run<R: Source, W: Sink>(
     source: &mut R,
     sink: &mut W,
 ) -> Result<Counts, RunFault>
-    ensures ran { Ran (summary_in format groups.now) (AsksForRows groups.now) bus.now log_limit result
+    ensures ran { Ran (MakesSummary format groups.now) (AsksForRows groups.now) bus.now log_limit result
         (turn R.remaining R.has_failed source.old source.new) (turn W.written W.has_failed sink.old sink.new) }
     ensures flushed { OnOk result (W.is_flushed sink.new ≡ true) }
 {
-    match format {
-        Format::Lines => j39_reports::summary(alloc, groups, source, sink, copy_of(bus), LOG_LIMIT),
-        Format::Csv => summary_csv(alloc, groups, source, sink, copy_of(bus), LOG_LIMIT),
-    }
+    j39_reports::summary(alloc, groups, format, source, sink, copy_of(bus), LOG_LIMIT)
 }

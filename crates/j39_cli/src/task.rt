@@ -8,6 +8,7 @@ ghost use Rattle.j39_cli.specs.Task.{file_of, table_of};
 use crate::{Outgoing, Spns};
 use j39_address::Name;
 use j39_frame::{Id, is_address};
+use j39_listen::Format;
 use j39_log::Bus;
 use j39_reports::Telling;
 use std::fmt;
@@ -81,15 +82,6 @@ impl Address {
     {
         self.number
     }
-}
-
-/// How what a log has is written.
-#[derive(Clone, Copy, Debug, PartialEq, Eq)]
-pub enum Format {
-    /// In lines, with a space between fields.
-    Lines,
-    /// In records of comma-separated values, below the names of the columns.
-    Csv,
 }
 
 /// The log that a command reads.

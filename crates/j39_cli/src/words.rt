@@ -13,11 +13,12 @@ ghost use Rattle.j39_cli.specs.Task.{IsInRange};
 use crate::command::line;
 use crate::spns::{Spns, spns_of};
 use crate::{
-    Argument, Format, LogInput, ParseFault, Task, WordText, answer, cut, faults, groups, id, name,
+    Argument, LogInput, ParseFault, Task, WordText, answer, cut, faults, groups, id, name,
     nodes, report, summary, survey,
 };
 use clap::error::ErrorKind;
 use clap::{ArgMatches, Error};
+use j39_listen::Format;
 use j39_log::Bus;
 use std::alloc::Global;
 use std::convert::AsStr;
@@ -136,9 +137,9 @@ pub(crate) fn format_given(given: &ArgMatches<'_>) -> Format
     ensures { result ≡ format_of (is_given (first_value (found_of given.now) (codes "csv"))) }
 {
     if is_set(given, "csv") {
-        Format::Csv
+        Format::Record
     } else {
-        Format::Lines
+        Format::Line
     }
 }
 

@@ -112,7 +112,7 @@ is_spare F P k j h n item e key span q next same =
       ]
     ]
 
--- what a log and a publishing are asked: all but the items' frames is a test that computes
+-- what a log and a publishing are asked
 pub record Passes (F : List FrameRecord) (P : Publishing) : Type 0 where
   pub addresses : list_all (λ p. nat_lt p.address 254) P.publishers ≡ true
   pub distinct : all_pairs (λ p q. not (p.address == q.address)) P.publishers ≡ true
@@ -120,6 +120,24 @@ pub record Passes (F : List FrameRecord) (P : Publishing) : Type 0 where
   pub apart : all_pairs (λ x y. not (meets x y)) P.items ≡ true
   pub places : all_below (place_fits F P) (length F) ≡ true
   pub stamps : rising_stamps F ≡ true
+
+-- all but the items' frames is one test, that computes
+pub passes : (F : List FrameRecord) (P : Publishing) → Each (Given F P) P.items
+    → (list_all (λ p. nat_lt p.address 254) P.publishers && all_pairs (λ p q. not (p.address == q.address)) P.publishers)
+    && (all_pairs (λ x y. not (meets x y)) P.items && (all_below (place_fits F P) (length F) && rising_stamps F)) ≡ true
+    → Passes F P
+passes F P items h =
+    let parts = and_parts _ _ h in
+    let publishers = and_parts _ _ parts.0 in
+    let others = and_parts _ _ parts.1 in
+    let frames = and_parts _ _ others.1 in record {
+      addresses = publishers.0;
+      distinct = publishers.1;
+      items = items;
+      apart = others.0;
+      places = frames.0;
+      stamps = frames.1;
+    }
 
 module _ (F : List FrameRecord) (P : Publishing) (h : Passes F P) where
   -- of two items at least one pair, in order, passed

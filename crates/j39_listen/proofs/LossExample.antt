@@ -6,7 +6,7 @@ use Rattle.j39_groups.specs.Readings.{is_reported_in, readings_in}
 use Rattle.j39_groups.specs.Table.{the_table}
 use Rattle.j39_frame.specs.Identifier.{pgn_of}
 use Rattle.j39_listen.proofs.Checked as checked
-use Rattle.j39_listen.proofs.Checked.{Passes, never_back}
+use Rattle.j39_listen.proofs.Checked.{never_back}
 use Rattle.j39_listen.proofs.CheckedItems.{all_below, below_at, implied, implies}
 use Rattle.j39_listen.proofs.Events.{packet_within}
 use Rattle.j39_listen.proofs.TransferExample.{directed_carried}
@@ -22,19 +22,10 @@ use Rattle.j39_transport.specs.Frames.{destination_of, goes, group_of, is_announ
 use Rattle.j39_transport.specs.Key.{Key}
 use Rattle.j39_transport.specs.Key.Key.{Broadcast, Directed}
 
-passes : Passes sent_frames sent
-unfolding is_reported_in the_table is_end is_control goes group_of destination_of frames.source_of
-passes = record {
-  addresses = refl;
-  distinct = refl;
-  items = (((0, omega arith, refl), directed_carried, refl), (((1, omega arith, refl), parts_carried 2005000 2055000 2105000, refl), tt));
-  apart = refl;
-  places = refl;
-  stamps = refl;
-}
-
 pub is_published : Published the_table sent_frames sent
-is_published = checked.is_published sent_frames sent passes
+unfolding is_reported_in the_table is_end is_control goes group_of destination_of frames.source_of
+is_published = checked.is_published sent_frames sent (checked.passes sent_frames sent
+    (((0, omega arith, refl), directed_carried, refl), (((1, omega arith, refl), parts_carried 2005000 2055000 2105000, refl), tt)) refl)
 
 pub are_sent : values the_table sent_frames sent no_place ≡ sent_values
 unfolding readings_in the_table readings.values_at readings.text_meaning

@@ -15,29 +15,29 @@ use Rattle.j39_listen.specs.Counting.{capped}
 use Rattle.j39_listen.specs.NodesSoFar.{HasNoted}
 use Rattle.j39_listen.specs.Nodes.{AreNodes, Holding, NodesBelow, node_at, node_in, nodes_text}
 use Rattle.j39_listen.specs.Output.{MakesNodesIn, Output, nodes_of}
-use Rattle.j39_listen.specs.declared.node_list.NodeForm.{NodeForm}
+use Rattle.j39_listen.specs.declared.format.Format.{Format}
 use Rattle.j39_listen.specs.declared.node_list.NodeList.{NodeList}
 use Rattle.j39_listen.proofs.LineLemmas.{capped-fits}
 use Rattle.j39_address.proofs.HolderLemmas.{same_holder}
 
-pub nodes_text-append : (form : NodeForm) (xs ys : List Holding) → nodes_text form (xs ++ ys) ≡ nodes_text form xs ++ nodes_text form ys
+pub nodes_text-append : (form : Format) (xs ys : List Holding) → nodes_text form (xs ++ ys) ≡ nodes_text form xs ++ nodes_text form ys
 unfolding nodes_text
 nodes_text-append form xs ys = flat_map-append (node_in form) xs ys
 
-pub nodes_text-none : (form : NodeForm) → nodes_text form [] ≡ []
+pub nodes_text-none : (form : Format) → nodes_text form [] ≡ []
 unfolding nodes_text
 nodes_text-none form = refl
 
-pub nodes_text-one : (form : NodeForm) (n : Holding) → nodes_text form (n ∷ []) ≡ node_in form n
+pub nodes_text-one : (form : Format) (n : Holding) → nodes_text form (n ∷ []) ≡ node_in form n
 unfolding nodes_text
 nodes_text-one form n = append-nil (node_in form n)
 
 -- ---- the line of an address
 
-pub at_none : (form : NodeForm) (n : ℕ) (o : Option ℕ) → None ≡ o → nodes_text form (node_at n o) ≡ []
+pub at_none : (form : Format) (n : ℕ) (o : Option ℕ) → None ≡ o → nodes_text form (node_at n o) ≡ []
 at_none form n o none = ap (λ h. nodes_text form (node_at n h)) (sym none) ∙ nodes_text-none form
 
-pub at_some : (form : NodeForm) (n name : ℕ) (o : Option ℕ) → Some name ≡ o → nodes_text form (node_at n o) ≡ node_in form (record { address = n; name = name })
+pub at_some : (form : Format) (n name : ℕ) (o : Option ℕ) → Some name ≡ o → nodes_text form (node_at n o) ≡ node_in form (record { address = n; name = name })
 at_some form n name o some = ap (λ h. nodes_text form (node_at n h)) (sym some) ∙ nodes_text-one form (record { address = n; name = name })
 
 -- ---- what the table has
@@ -80,12 +80,12 @@ one_list_of_nodes F xs ys x y = nodes_below_unique F null_address xs ys x y
 -- ---- what was written so far
 
 -- the lines of the addresses below n are written
-pub record HasPut (form : NodeForm) (table : Claims) (n lines : ℕ) (old new : Option (List ℕ)) : Type 0 where
+pub record HasPut (form : Format) (table : Claims) (n lines : ℕ) (old new : Option (List ℕ)) : Type 0 where
   pub written : Appends old new (nodes_text form (held_below table n))
   pub lines_are : lines ≡ length (held_below table n)
   pub few : lines ≤ n
 
-pub puts_none : (form : NodeForm) (table : Claims) (held : Option (List ℕ)) → HasPut form table 0 0 held held
+pub puts_none : (form : Format) (table : Claims) (held : Option (List ℕ)) → HasPut form table 0 0 held held
 puts_none form table held =
     let none = held_none table in
     record {
@@ -95,14 +95,14 @@ puts_none form table held =
     }
 
 -- one address more
-held_text : (form : NodeForm) (table : Claims) (n : ℕ) → nodes_text form (held_below table (n + 1)) ≡ nodes_text form (held_below table n) ++ nodes_text form (node_at n (holder_in table n))
+held_text : (form : Format) (table : Claims) (n : ℕ) → nodes_text form (held_below table (n + 1)) ≡ nodes_text form (held_below table n) ++ nodes_text form (node_at n (holder_in table n))
 held_text form table n = ap (nodes_text form) (held_next table n) ∙ nodes_text-append form (held_below table n) (node_at n (holder_in table n))
 
 one_at_most : (n : ℕ) (o : Option ℕ) → length (node_at n o) ≤ 1
 one_at_most n None = omega arith
 one_at_most n (Some name) = omega arith
 
-pub puts_more : (form : NodeForm) (table : Claims) (n lines k : ℕ) (old mid new : Option (List ℕ)) → HasPut form table n lines old mid → k ≡ length (node_at n (holder_in table n))
+pub puts_more : (form : Format) (table : Claims) (n lines k : ℕ) (old mid new : Option (List ℕ)) → HasPut form table n lines old mid → k ≡ length (node_at n (holder_in table n))
     → Appends mid new (nodes_text form (node_at n (holder_in table n))) → HasPut form table (n + 1) (lines + k) old new
 puts_more form table n lines k old mid new h count more =
     let nodes = node_at n (holder_in table n) in
@@ -112,7 +112,7 @@ puts_more form table n lines k old mid new h count more =
       few = let few = h.few in let one = one_at_most n (holder_in table n) in omega (arith, count);
     }
 
-pub puts_all : (form : NodeForm) (table : Claims) (n lines : ℕ) (old new : Option (List ℕ)) → HasPut form table n lines old new → n ≡ null_address → (F : List FrameRecord) → Knows table F
+pub puts_all : (form : Format) (table : Claims) (n lines : ℕ) (old new : Option (List ℕ)) → HasPut form table n lines old new → n ≡ null_address → (F : List FrameRecord) → Knows table F
     → (nodes : List Holding) × AreNodes F nodes × (lines ≡ length nodes) × Appends old new (nodes_text form nodes)
 puts_all form table n lines old new h end F knows = (held_below table n, table_has table F n end knows, h.lines_are, h.written)
 
@@ -129,7 +129,7 @@ held_more table n (suc k) =
     let last = node_at (n + k) (holder_in table (n + k)) in
     (m.0 ++ last, ap (held_below table) next ∙ held_next table (n + k) ∙ ap (λ (xs : List Holding). xs ++ last) m.1 ∙ append_assoc (held_below table n) m.0 last)
 
-pub front_in_nodes : (form : NodeForm) (table : Claims) (n lines : ℕ) (old mid new : Option (List ℕ)) → n < null_address → HasPut form table n lines old mid
+pub front_in_nodes : (form : Format) (table : Claims) (n lines : ℕ) (old mid new : Option (List ℕ)) → n < null_address → HasPut form table n lines old mid
     → AppendsFront mid new (nodes_text form (node_at n (holder_in table n))) → (F : List FrameRecord) (nodes : List Holding) → Knows table F → AreNodes F nodes
     → AppendsFront old new (nodes_text form nodes)
 front_in_nodes form table n lines old mid new below h front F nodes knows are =
@@ -145,15 +145,15 @@ front_in_nodes form table n lines old mid new below h front F nodes knows are =
 
 -- ---- the account
 
-pub nodes_begin : (form : NodeForm) → Begins (λ bus. HasNoted form) (MakesNodesIn form)
+pub nodes_begin : (form : Format) → Begins (λ bus. HasNoted form) (MakesNodesIn form)
 nodes_begin form = λ bus a F G before all has made.
     (all.text, ap (λ t. t ++ all.text) (sym (ap (λ (o : Output). o.text) has.nothing ∙ nodes_text-none form)))
 
-pub nodes_one : (form : NodeForm) → MakesOne (MakesNodesIn form)
+pub nodes_one : (form : Format) → MakesOne (MakesNodesIn form)
 nodes_one form = λ bus F x y (xs, are_x, is_x) (ys, are_y, is_y).
     ap (λ (o : Output). o.text) is_x ∙ ap (nodes_text form) (one_list_of_nodes F xs ys are_x are_y) ∙ sym (ap (λ (o : Output). o.text) is_y)
 
-pub nodes_close : (form : NodeForm) (a : NodeList) (lines : ℕ) (old new : Option (List ℕ)) → lines < 2 ^ 64
+pub nodes_close : (form : Format) (a : NodeList) (lines : ℕ) (old new : Option (List ℕ)) → lines < 2 ^ 64
     → ((F : List FrameRecord) → Knows a.claims F → (nodes : List Holding) × AreNodes F nodes × (lines ≡ length nodes) × Appends old new (nodes_text a.form nodes))
     → Closes (λ bus. HasNoted form) (MakesNodesIn form) a (record { messages = 0; lines = lines }) old new
 nodes_close form a lines old new fits puts = λ bus F before has.
@@ -165,15 +165,15 @@ nodes_close form a lines old new fits puts = λ bus F before has.
       lines_are = sym (ap capped (sym p.2) ∙ capped-fits lines fits);
       more = nodes_text form p.0;
       text_is = ap (λ t. t ++ nodes_text form p.0) (sym (ap (λ (o : Output). o.text) has.nothing ∙ nodes_text-none form));
-      written = subst (λ (f : NodeForm). Appends old new (nodes_text f p.0)) has.form_is p.3;
+      written = subst (λ (f : Format). Appends old new (nodes_text f p.0)) has.form_is p.3;
     }
 
-pub nodes_stop : (form : NodeForm) (a : NodeList) (old new : Option (List ℕ))
+pub nodes_stop : (form : Format) (a : NodeList) (old new : Option (List ℕ))
     → ((F : List FrameRecord) (nodes : List Holding) → Knows a.claims F → AreNodes F nodes → AppendsFront old new (nodes_text a.form nodes))
     → StopsAtEnd (λ bus. HasNoted form) (MakesNodesIn form) a old new
 nodes_stop form a old new stops = λ bus F before all has (nodes, are, is).
     record {
       rest = nodes_text form nodes;
       all_is = ap (λ (o : Output). o.text) is ∙ ap (λ t. t ++ nodes_text form nodes) (sym (ap (λ (o : Output). o.text) has.nothing ∙ nodes_text-none form));
-      front = subst (λ (f : NodeForm). AppendsFront old new (nodes_text f nodes)) has.form_is (stops F nodes has.knows are);
+      front = subst (λ (f : Format). AppendsFront old new (nodes_text f nodes)) has.form_is (stops F nodes has.knows are);
     }

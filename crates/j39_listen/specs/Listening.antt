@@ -1,5 +1,5 @@
 -- What a listener stands for: the frames that it was fed.
-use Rattle.std.specs.Prelude.{ℕ, List, length}
+use Rattle.std.specs.Prelude.{◌≡◌, ◌++◌, ◌∷◌, [], ℕ, List, Result, MatchResult, length}
 use Rattle.j39_address.specs.Claims.{Knows}
 use Rattle.j39_frame.specs.Frame.{FrameRecord}
 use Rattle.j39_transport.specs.Answers.{AreHeldAfter, AreOpenAfter}
@@ -15,6 +15,11 @@ pub record Hears (listener : Listener) (F : List FrameRecord) : Type 0 where
   pub with_forgets : WithForgets F (length F) events
   pub stands : Stands events listener.assembler
   pub knows : Knows listener.claims F
+
+-- fed one frame more, it has heard that too; after an error it is as it was
+abbrev pub HearsOneMore : {T E : Type 0} → Listener → FrameRecord → Result T E → Listener → Type 0
+HearsOneMore old frame result new =
+    MatchResult result (λ _. (F : List FrameRecord) → Hears old F → Hears new (F ++ frame ∷ [])) (λ _. new ≡ old)
 
 -- behind the frames F, with what claims made forgotten, the frame wants memory: it announces a message, none is open of its
 -- kind, and no box lies unused

@@ -133,12 +133,15 @@ parts_item places = item device 65259 (codes "ACME*X1*77**") places
 abbrev pub two_frames : List FrameRecord
 two_frames = engine_claim ∷ device_claim ∷ broadcasts
 
-abbrev pub two : Publishing
-two = record {
+-- both, in the frames at these places
+abbrev both : (vin_places parts_places : List ℕ) → Publishing
+both vin_places parts_places = record {
   publishers = engine ∷ device ∷ [];
-  items =
-      vin_item (2 ∷ 4 ∷ 6 ∷ 8 ∷ []) ∷ parts_item (3 ∷ 5 ∷ 7 ∷ []) ∷ [];
+  items = vin_item vin_places ∷ parts_item parts_places ∷ [];
 }
+
+abbrev pub two : Publishing
+two = both (2 ∷ 4 ∷ 6 ∷ 8 ∷ []) (3 ∷ 5 ∷ 7 ∷ [])
 
 abbrev pub parts_values : ℕ → List Entry
 parts_values stamp =
@@ -156,8 +159,4 @@ abbrev pub early_frames : List FrameRecord
 early_frames = engine_claim ∷ device_claim ∷ vin_third 1900000 ∷ broadcasts
 
 abbrev pub early : Publishing
-early = record {
-  publishers = engine ∷ device ∷ [];
-  items =
-      vin_item (3 ∷ 5 ∷ 7 ∷ 9 ∷ []) ∷ parts_item (4 ∷ 6 ∷ 8 ∷ []) ∷ [];
-}
+early = both (3 ∷ 5 ∷ 7 ∷ 9 ∷ []) (4 ∷ 6 ∷ 8 ∷ [])

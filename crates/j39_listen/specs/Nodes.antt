@@ -8,8 +8,8 @@ use Rattle.j39_frame.specs.Frame.{FrameRecord}
 use Rattle.j39_address.specs.Claim.{claims_of}
 use Rattle.j39_address.specs.Holder.{IsHolderAfter}
 use Rattle.j39_listen.specs.Report.{name_text}
-use Rattle.j39_listen.specs.declared.node_list.NodeForm.{NodeForm}
-use Rattle.j39_listen.specs.declared.node_list.NodeForm.TheVariants.{Line, Record}
+use Rattle.j39_listen.specs.declared.format.Format.{Format}
+use Rattle.j39_listen.specs.declared.format.Format.TheVariants.{Line, Record}
 
 -- an address, and the NAME that holds it
 pub record Holding : Type 0 where
@@ -44,9 +44,9 @@ abbrev pub node_columns : List ℕ
 node_columns = codes "address,name\r\n"
 
 -- in either form
-abbrev pub node_in : NodeForm → Holding → List ℕ
+abbrev pub node_in : Format → Holding → List ℕ
 node_in Line node = node_text node
 node_in Record node = node_record node
 
-unfoldable pub nodes_text : NodeForm → List Holding → List ℕ
+unfoldable pub nodes_text : Format → List Holding → List ℕ
 nodes_text form nodes = flat_map (node_in form) nodes

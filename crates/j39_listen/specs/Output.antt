@@ -8,8 +8,8 @@ use Rattle.j39_address.specs.Node.{Node}
 use Rattle.j39_listen.specs.Answers.{AreAnswers, sent_text}
 use Rattle.j39_listen.specs.Heard.{AreHeard, Hearing}
 use Rattle.j39_listen.specs.Nodes.{AreNodes, Holding, nodes_text}
-use Rattle.j39_listen.specs.declared.node_list.NodeForm.{NodeForm}
-use Rattle.j39_listen.specs.declared.node_list.NodeForm.TheVariants.{Line}
+use Rattle.j39_listen.specs.declared.format.Format.{Format}
+use Rattle.j39_listen.specs.declared.format.Format.TheVariants.{Line}
 use Rattle.j39_listen.specs.Report.{Form, entries_of, entry_text, report_text}
 
 -- a text, for so many messages, in so many lines
@@ -48,11 +48,11 @@ abbrev pub MakesReport : List RowRecord → Making
 MakesReport = MakesReportIn (λ groups. entry_text)
 
 -- no message counts
-abbrev pub nodes_of : NodeForm → List Holding → Output
+abbrev pub nodes_of : Format → List Holding → Output
 nodes_of form held = record { text = nodes_text form held; messages = 0; lines = length held }
 
 -- the nodes that hold an address after the frames, whatever their bus is called, in either form
-abbrev pub MakesNodesIn : NodeForm → Making
+abbrev pub MakesNodesIn : Format → Making
 MakesNodesIn form bus F output = (held : List Holding) × AreNodes F held × (output ≡ nodes_of form held)
 
 -- a line for each

@@ -13,7 +13,7 @@ ghost use Rattle.j39_groups.specs.Table.{the_table};
 ghost use Rattle.j39_transport.specs.Answers.{IsAnnouncement};
 ghost use Rattle.j39_transport.specs.AssemblerStep.{messages_open};
 ghost use Rattle.j39_listen.specs.Heard.{HeardAt, HeardAtWith, LeavesNetwork};
-ghost use Rattle.j39_listen.specs.Listening.{AreHeld, AreOpen, Hears, WantsMemoryBehind};
+ghost use Rattle.j39_listen.specs.Listening.{AreHeld, AreOpen, Hears, HearsOneMore, WantsMemoryBehind};
 ghost use Rattle.j39_listen.specs.OneFrameMore.{IsMany, heard_alone, hearing_alone};
 ghost use Rattle.j39_listen.specs.HeardModel.{hearing_of};
 
@@ -56,9 +56,7 @@ impl Listener {
         ensures short { IfOk result (λ heard. IfSome heard (λ h. length h.message.payload.now ≤ 1785)) }
         ensures refused { OnErr result (IsAnnouncement frame.now) }
         ensures wanted { OnErr result ((F : List FrameRecord) → Hears self.old F → WantsMemoryBehind F frame.now) }
-        ensures* after { sem 𝓛 (Rests the_row self.entry (λ n. MatchResult result
-            (λ _. (F : List FrameRecord) → Hears self.old F → Hears n (F ++ frame.now ∷ []))
-            (λ _. n ≡ self.old))) }
+        ensures* after { sem 𝓛 (Rests the_row self.entry (HearsOneMore self.old frame.now result)) }
     {
         self.feed_with(&Groups::built_in(), frame)
     }
@@ -76,9 +74,7 @@ impl Listener {
         ensures short { IfOk result (λ heard. IfSome heard (λ h. length h.message.payload.now ≤ 1785)) }
         ensures refused { OnErr result (IsAnnouncement frame.now) }
         ensures wanted { OnErr result ((F : List FrameRecord) → Hears self.old F → WantsMemoryBehind F frame.now) }
-        ensures* after { sem 𝓛 (Rests the_row self.entry (λ n. MatchResult result
-            (λ _. (F : List FrameRecord) → Hears self.old F → Hears n (F ++ frame.now ∷ []))
-            (λ _. n ≡ self.old))) }
+        ensures* after { sem 𝓛 (Rests the_row self.entry (HearsOneMore self.old frame.now result)) }
     {
         self.feed_as(groups.is_reported(frame.id.pgn()), frame)
     }
@@ -99,9 +95,7 @@ impl Listener {
         ensures short { IfOk result (λ heard. IfSome heard (λ h. length h.message.payload.now ≤ 1785)) }
         ensures refused { OnErr result (IsAnnouncement frame.now) }
         ensures wanted { OnErr result ((F : List FrameRecord) → Hears self.old F → WantsMemoryBehind F frame.now) }
-        ensures* after { sem 𝓛 (Rests the_row self.entry (λ n. MatchResult result
-            (λ _. (F : List FrameRecord) → Hears self.old F → Hears n (F ++ frame.now ∷ []))
-            (λ _. n ≡ self.old))) }
+        ensures* after { sem 𝓛 (Rests the_row self.entry (HearsOneMore self.old frame.now result)) }
     {
         if is_single {
             return Ok(alone(frame, self.claims.holder(frame.id.source())));

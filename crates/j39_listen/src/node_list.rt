@@ -20,6 +20,7 @@ ghost use Rattle.j39_listen.specs.declared.running.RunFault.TheVariants.{Memory}
 use crate::Counts;
 use crate::account::{Account, LineFault};
 use crate::counts::Made;
+use crate::format::Format;
 use crate::headed::run_headed;
 use crate::running::{RunFault, run_over};
 use arrayvec::ArrayVec;
@@ -47,7 +48,7 @@ pub fn nodes<R: Source, W: Sink>(
     // What was written is passed on at the end, and before each read.
     ensures flushed { PassesOn result (W.is_flushed sink.old) (W.is_flushed sink.new) }
 {
-    run_over(NodeList::new(NodeForm::Line), source, sink, bus, limit)
+    run_over(NodeList::new(Format::Line), source, sink, bus, limit)
 }
 
 /// Writes the same as comma-separated values (RFC 4180): the names of the columns, before the log is read, and after the
@@ -69,21 +70,12 @@ pub fn nodes_csv<R: Source, W: Sink>(
 {
     run_headed(
         COLUMNS,
-        NodeList::new(NodeForm::Record),
+        NodeList::new(Format::Record),
         source,
         sink,
         bus,
         limit,
     )
-}
-
-/// How a node is written.
-#[derive(Clone, Copy)]
-pub(crate) enum NodeForm {
-    /// As a line.
-    Line,
-    /// As a record of comma-separated values.
-    Record,
 }
 
 /// The names of the columns of such records.
@@ -93,12 +85,12 @@ const COLUMNS: &[u8] = b"address,name\r\n";
 #[derive(Drop)]
 pub(crate) struct NodeList {
     claims: Claims,
-    form: NodeForm,
+    form: Format,
 }
 
 impl NodeList {
     /// The nodes of no frames.
-    fn new(form: NodeForm) -> NodeList
+    fn new(form: Format) -> NodeList
         ensures { HasNoted form result [] (nodes_of form []) }
     {
         NodeList {
@@ -112,9 +104,9 @@ impl Account for NodeList {
     ghost use Rattle.j39_listen.specs.Asking.{AsksNowhere};
     ghost use Rattle.j39_listen.specs.NodesSoFar.{HasNoted};
     ghost use Rattle.j39_listen.specs.Output.{MakesNodesIn};
-    ghost use Rattle.j39_listen.specs.declared.node_list.NodeForm.{NodeForm};
+    ghost use Rattle.j39_listen.specs.declared.format.Format.{Format};
 
-    ghost Subject = { NodeForm };
+    ghost Subject = { Format };
 
     ghost has_met = { λ form bus. HasNoted form };
 
@@ -136,7 +128,7 @@ impl Account for NodeList {
 }
 
 /// Writes a line for each address that is held, and answers how many.
-fn put_nodes<W: Sink>(claims: &Claims, form: NodeForm, sink: &mut W) -> Result<u64, DeviceFault>
+fn put_nodes<W: Sink>(claims: &Claims, form: Format, sink: &mut W) -> Result<u64, DeviceFault>
     ensures nodes { IfOk result (λ n. (F : List FrameRecord) → Knows claims.now F
         → (nodes : List Holding) × AreNodes F nodes × (n ≡ length nodes)
         × Appends (W.written sink.old) (W.written sink.new) (nodes_text form nodes)) }
@@ -154,7 +146,7 @@ fn put_nodes<W: Sink>(claims: &Claims, form: NodeForm, sink: &mut W) -> Result<u
 /// Writes a line where the address is held, and answers how many lines that is.
 fn put_holder<W: Sink>(
     claims: &Claims,
-    form: NodeForm,
+    form: Format,
     address: u8,
     sink: &mut W,
 ) -> Result<u64, DeviceFault>
@@ -172,12 +164,12 @@ fn put_holder<W: Sink>(
 }
 
 /// The line of a node, or its record.
-fn text_of(form: NodeForm, address: u8, name: Name) -> ArrayVec<u8, 21>
+fn text_of(form: Format, address: u8, name: Name) -> ArrayVec<u8, 21>
     ensures { result.items ≡ node_in form (record { address = address; name = name_raw name }) }
 {
     match form {
-        NodeForm::Line => joined(address, b" ", name, b"\n"),
-        NodeForm::Record => joined(address, b",", name, b"\r\n"),
+        Format::Line => joined(address, b" ", name, b"\n"),
+        Format::Record => joined(address, b",", name, b"\r\n"),
     }
 }
 

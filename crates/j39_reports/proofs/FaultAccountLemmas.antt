@@ -28,19 +28,19 @@ use Rattle.j39_reports.specs.FaultRecords.{fault_in, faults_text}
 use Rattle.j39_reports.specs.Remembered.{Remembers}
 use Rattle.j39_reports.specs.FaultsSoFar.{HasTold, MeetsFrame, StopsFrame, Subject, Tells, added, told_next}
 use Rattle.j39_reports.specs.declared.fault_news.account.FaultNews.{FaultNews}
-use Rattle.j39_reports.specs.declared.fault_news.form.FaultForm.{FaultForm}
-use Rattle.j39_reports.specs.declared.fault_news.form.FaultForm.TheVariants.{Line}
+use Rattle.j39_listen.specs.declared.format.Format.{Format}
+use Rattle.j39_listen.specs.declared.format.Format.TheVariants.{Line}
 use Rattle.j39_reports.specs.declared.fault_news.form.Writing.{Writing}
 use Rattle.j39_reports.specs.declared.fault_news.last_faults.LastFaults.{LastFaults}
 use Rattle.j39_reports.specs.declared.fault_news.telling.Telling.{Telling}
 
 -- ---- the texts
 
-pub faults_text-append : (form : FaultForm) (rows : List RowRecord) (xs ys : List Fault) → faults_text form rows (xs ++ ys) ≡ faults_text form rows xs ++ faults_text form rows ys
+pub faults_text-append : (form : Format) (rows : List RowRecord) (xs ys : List Fault) → faults_text form rows (xs ++ ys) ≡ faults_text form rows xs ++ faults_text form rows ys
 unfolding faults_text
 faults_text-append form rows xs ys = flat_map-append (fault_in form rows) xs ys
 
-pub faults_text-none : (form : FaultForm) (rows : List RowRecord) → faults_text form rows [] ≡ []
+pub faults_text-none : (form : Format) (rows : List RowRecord) → faults_text form rows [] ≡ []
 unfolding faults_text
 faults_text-none form rows = refl
 
@@ -48,10 +48,10 @@ told_none : (which : Telling) → told which [] ≡ []
 unfolding told_below
 told_none which = refl
 
-pub none_told : (form : FaultForm) (rows : List RowRecord) (which : Telling) → (faults_of form rows which []).text ≡ []
+pub none_told : (form : Format) (rows : List RowRecord) (which : Telling) → (faults_of form rows which []).text ≡ []
 none_told form rows which = ap (λ ms. faults_text form rows (flat_map faults_in ms)) (told_none which) ∙ faults_text-none form rows
 
-pub none_made : (form : FaultForm) (rows : List RowRecord) (which : Telling) → (record { messages = 0; lines = 0 }) ≡ made_of (faults_of form rows which [])
+pub none_made : (form : Format) (rows : List RowRecord) (which : Telling) → (record { messages = 0; lines = 0 }) ≡ made_of (faults_of form rows which [])
 none_made form rows which = same_made _ _ refl (sym (ap (λ (ms : List Hearing). capped (length (flat_map faults_in ms))) (told_none which)))
 
 -- ---- the messages told: of the first messages first
@@ -125,7 +125,7 @@ told_more which ms (Some h) = elim (cases_Bool (is_of_faults h)) [
       ∙ ap (λ x. told which ms ++ x) (sym (next_no which ms h isnt))
 ]
 
-module _ (form : FaultForm) (rows : List RowRecord) (which : Telling) (ms : List Hearing) (o : Option Hearing) where
+module _ (form : Format) (rows : List RowRecord) (which : Telling) (ms : List Hearing) (o : Option Hearing) where
   faults_more : flat_map faults_in (told which (ms ++ faults_among (or_none o))) ≡ flat_map faults_in (told which ms) ++ flat_map faults_in (told_next which ms o)
   faults_more = ap (flat_map faults_in) (told_more which ms o) ∙ flat_map-append faults_in (told which ms) (told_next which ms o)
 
@@ -139,7 +139,7 @@ module _ (form : FaultForm) (rows : List RowRecord) (which : Telling) (ms : List
 
 -- ---- nothing is told
 
-pub tells_nothing : (form : FaultForm) (rows : List RowRecord) (which : Telling) (last : LastFaults) (ms : List Hearing) (o : Option Hearing) (made : Made) (held : Option (List ℕ))
+pub tells_nothing : (form : Format) (rows : List RowRecord) (which : Telling) (last : LastFaults) (ms : List Hearing) (o : Option Hearing) (made : Made) (held : Option (List ℕ))
     → faults_among (or_none o) ≡ [] → told_next which ms o ≡ [] → Remembers last ms → made.messages ≡ 0 → made.lines ≡ 0
     → Tells form rows which last ms o made held held
 tells_nothing form rows which last ms o made held none untold remembers m l = record {
@@ -158,14 +158,14 @@ faults_leave pgn network = grind arith
 sound : (F : List FrameRecord) (heard : List Hearing) (more : List Hearing) → faults_among (heard ++ more) ≡ faults_among heard ++ faults_among more
 sound F heard more = filter-append is_of_faults heard more
 
-pub news_meets : (form : FaultForm) (s : Subject) (a a' : FaultNews) → a'.writing ≡ a.writing → a'.telling ≡ a.telling → (f : FrameRecord) (made : Made) (old new : Option (List ℕ))
+pub news_meets : (form : Format) (s : Subject) (a a' : FaultNews) → a'.writing ≡ a.writing → a'.telling ≡ a.telling → (f : FrameRecord) (made : Made) (old new : Option (List ℕ))
     → ((F : List FrameRecord) (ms : List Hearing) → Hears a.listener F → Remembers a.last ms → MeetsFrame a.writing.form a.writing.groups.now a.telling a'.listener a'.last F f ms made old new)
     → a'.made ≡ made_sum a.made made → Meets (HasTold form s) a a' (f ∷ []) old new
 news_meets form s a a' writing telling f made old new meets sum = λ F before has.
     let ms = faults_among has.heard in
     let met = subst (λ (t : Telling). MeetsFrame form s.rows t a'.listener a'.last F f ms made old new) has.telling_is
     (subst (λ (rows : List RowRecord). MeetsFrame form rows a.telling a'.listener a'.last F f ms made old new) has.by
-    (subst (λ (form : FaultForm). MeetsFrame form a.writing.groups.now a.telling a'.listener a'.last F f ms made old new) has.form_is (meets F ms has.hears has.remembers))) in
+    (subst (λ (form : Format). MeetsFrame form a.writing.groups.now a.telling a'.listener a'.last F f ms made old new) has.form_is (meets F ms has.hears has.remembers))) in
     let heard = has.heard ++ or_none met.heard in
     let are = sound F has.heard (or_none met.heard) in
     record {
@@ -190,7 +190,7 @@ news_meets form s a a' writing telling f made old new meets sum = λ F before ha
 
 -- ---- what is told of the first frames comes first
 
-texts : (form : FaultForm) (rows : List RowRecord) (which : Telling) (bus : List ℕ) (F G : List FrameRecord) (first : List Hearing) (before all : Output) → AreHeardWith is_fault_group F first
+texts : (form : Format) (rows : List RowRecord) (which : Telling) (bus : List ℕ) (F G : List FrameRecord) (first : List Hearing) (before all : Output) → AreHeardWith is_fault_group F first
     → before ≡ faults_of form rows which (faults_among first) → MakesFaultsIn form rows which bus (F ++ G) all → (rest : List ℕ) × (all.text ≡ before.text ++ rest)
 texts form rows which bus F G first before all are is (heard, are_all, all_is) =
     let split = heard_first is_fault_group faults_leave F G heard first are_all are in
@@ -203,26 +203,26 @@ texts form rows which bus F G first before all are is (heard, are_all, all_is) =
           ∙ ap (λ x. x ++ faults_text form rows (flat_map faults_in t.0)) (sym (ap (λ (o : Output). o.text) is)),
     )
 
-pub news_begins : (form : FaultForm) (s : Subject) → Begins (λ bus. HasTold form s) (MakesFaultsIn form s.rows s.which)
+pub news_begins : (form : Format) (s : Subject) → Begins (λ bus. HasTold form s) (MakesFaultsIn form s.rows s.which)
 news_begins form s = λ bus a F G before all has made. texts form s.rows s.which bus F G has.heard before all has.are_heard has.output_is made
 
-pub news_one_in : (form : FaultForm) (s : Subject) → MakesOne (MakesFaultsIn form s.rows s.which)
+pub news_one_in : (form : Format) (s : Subject) → MakesOne (MakesFaultsIn form s.rows s.which)
 news_one_in form s = λ bus F x y (hs, are_x, is_x) (ks, are_y, is_y).
     ap (λ (o : Output). o.text) is_x ∙ ap (λ (ms : List Hearing). (faults_of form s.rows s.which (faults_among ms)).text) (heard_below_unique is_fault_group faults_leave F (length F) hs ks are_x are_y)
     ∙ sym (ap (λ (o : Output). o.text) is_y)
 
-pub news_one : (s : Subject) → MakesOne (MakesFaults s.rows s.which)
+pub news_one : (s : Subject) → MakesOne (MakesFaults Line s.rows s.which)
 news_one s = news_one_in Line s
 
 -- a fault of the writer at a frame
-pub news_stops : (form : FaultForm) (s : Subject) (a : FaultNews) (f : FrameRecord) (old new : Option (List ℕ))
+pub news_stops : (form : Format) (s : Subject) (a : FaultNews) (f : FrameRecord) (old new : Option (List ℕ))
     → ((F : List FrameRecord) (ms : List Hearing) → Hears a.listener F → Remembers a.last ms → StopsFrame a.writing.form a.writing.groups.now a.telling F f ms old new)
     → (bus : List ℕ) → Stops (HasTold form s) (MakesFaultsIn form s.rows s.which bus) a (f ∷ []) old new
 news_stops form s a f old new stops bus = λ F G before all has made.
     let ms = faults_among has.heard in
     let stop = subst (λ (t : Telling). StopsFrame form s.rows t F f ms old new) has.telling_is
     (subst (λ (rows : List RowRecord). StopsFrame form rows a.telling F f ms old new) has.by
-    (subst (λ (form : FaultForm). StopsFrame form a.writing.groups.now a.telling F f ms old new) has.form_is (stops F ms has.hears has.remembers))) in
+    (subst (λ (form : Format). StopsFrame form a.writing.groups.now a.telling F f ms old new) has.form_is (stops F ms has.hears has.remembers))) in
     let here = (added form s.rows s.which ms stop.heard).text in
     let first = has.heard ++ or_none stop.heard in
     let t = texts form s.rows s.which bus (F ++ f ∷ []) G first (faults_of form s.rows s.which (faults_among first)) all (heard_more is_fault_group F f has.heard stop.heard has.are_heard stop.heard_at) refl made in

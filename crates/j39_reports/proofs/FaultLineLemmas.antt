@@ -19,21 +19,21 @@ use Rattle.j39_listen.specs.Heard.{Hearing}
 use Rattle.j39_reports.specs.Faults.{codes_or_none, fault_line, fault_of}
 use Rattle.j39_reports.specs.FaultRecords.{fault_in, fault_record, faults_text}
 use Rattle.j39_reports.specs.FaultsSoFar.{head_in, line_of}
-use Rattle.j39_reports.specs.declared.fault_news.form.FaultForm.{FaultForm}
-use Rattle.j39_reports.specs.declared.fault_news.form.FaultForm.TheVariants.{Line, Record}
+use Rattle.j39_listen.specs.declared.format.Format.{Format}
+use Rattle.j39_listen.specs.declared.format.Format.TheVariants.{Line, Record}
 
-abbrev pub lines_of : FaultForm → List ℕ → List RowRecord → Kind → Lamps → List Code → List ℕ
+abbrev pub lines_of : Format → List ℕ → List RowRecord → Kind → Lamps → List Code → List ℕ
 lines_of form head rows kind lamps cs = flat_map (λ code. line_of form head rows kind lamps (Some code)) cs
 
 -- the lines of the codes before these, the last of a payload, were written, and no fault came
-pub record HasPut (form : FaultForm) (head : List ℕ) (rows : List RowRecord) (kind : Kind) (lamps : Lamps) (payload : List ℕ) (left : List Code)
+pub record HasPut (form : Format) (head : List ℕ) (rows : List RowRecord) (kind : Kind) (lamps : Lamps) (payload : List ℕ) (left : List Code)
     (count : ℕ) (sink : Turn) : Type 0 where
   pub before : List Code
   pub all_are : codes_of payload ≡ before ++ left
   pub count_is : count ≡ length before
   pub written : Puts {T = Unit} {E = Unit} (lines_of form head rows kind lamps before) (Ok tt) sink
 
-module _ (form : FaultForm) (head : List ℕ) (rows : List RowRecord) (kind : Kind) (lamps : Lamps) (payload : List ℕ) where
+module _ (form : Format) (head : List ℕ) (rows : List RowRecord) (kind : Kind) (lamps : Lamps) (payload : List ℕ) where
   abbrev line : Code → List ℕ
   line code = line_of form head rows kind lamps (Some code)
 
@@ -82,7 +82,7 @@ few_codes payload =
     let p : places_of payload ≤ length payload = omega arith in
     omega arith
 
-pub few_put : (form : FaultForm) (head : List ℕ) (rows : List RowRecord) (kind : Kind) (lamps : Lamps) (payload : List ℕ) (left : List Code) (count : ℕ) (sink : Turn)
+pub few_put : (form : Format) (head : List ℕ) (rows : List RowRecord) (kind : Kind) (lamps : Lamps) (payload : List ℕ) (left : List Code) (count : ℕ) (sink : Turn)
     → HasPut form head rows kind lamps payload left count sink → count ≤ length payload
 few_put form head rows kind lamps payload left count sink h =
     let c = h.count_is in
@@ -93,13 +93,13 @@ few_put form head rows kind lamps payload left count sink h =
 -- ---- the text of a message's faults
 
 -- of what stands before them
-text_by : (form : FaultForm) (rows : List RowRecord) (m : Hearing) (kind : Kind) (lamps : Lamps) (cs : List (Option Code))
+text_by : (form : Format) (rows : List RowRecord) (m : Hearing) (kind : Kind) (lamps : Lamps) (cs : List (Option Code))
     → faults_text form rows (map (fault_of m kind lamps) cs) ≡ flat_map (λ code. line_of form (head_in form m.stamp m.message.source m.name) rows kind lamps code) cs
 unfolding faults_text fault_line fault_record
 text_by Line rows m kind lamps cs = flat_map-map (fault_in Line rows) (fault_of m kind lamps) cs
 text_by Record rows m kind lamps cs = flat_map-map (fault_in Record rows) (fault_of m kind lamps) cs
 
-module _ (form : FaultForm) (rows : List RowRecord) (m : Hearing) (kind : Kind) (lamps : Lamps) (head : List ℕ) (is : head ≡ head_in form m.stamp m.message.source m.name) where
+module _ (form : Format) (rows : List RowRecord) (m : Hearing) (kind : Kind) (lamps : Lamps) (head : List ℕ) (is : head ≡ head_in form m.stamp m.message.source m.name) where
   abbrev text : List (Option Code) → List ℕ
   text cs = faults_text form rows (map (fault_of m kind lamps) cs)
 

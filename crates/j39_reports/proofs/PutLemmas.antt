@@ -26,7 +26,7 @@ use Rattle.j39_reports.specs.FaultRecords.{faults_text}
 use Rattle.j39_reports.specs.Remembered.{Notes, Remembers, said_at, said_in}
 use Rattle.j39_reports.specs.LastMessages.{differs}
 use Rattle.j39_reports.specs.FaultsSoFar.{Tells, TellsFront, told_faults, told_next}
-use Rattle.j39_reports.specs.declared.fault_news.form.FaultForm.{FaultForm}
+use Rattle.j39_listen.specs.declared.format.Format.{Format}
 use Rattle.j39_reports.specs.declared.fault_news.last_faults.LastFaults.{LastFaults}
 use Rattle.j39_reports.specs.declared.fault_news.telling.Telling.{Telling}
 use Rattle.j39_reports.proofs.FaultAccountLemmas.{among_no, among_yes, next_no, next_yes, tells_nothing}
@@ -55,7 +55,7 @@ no_lamps h kind k l = ap (λ (o : Option Kind). is_some o && nat_le 2 (length h.
 
 -- ---- no message of faults
 
-pub tells_other : (form : FaultForm) (rows : List RowRecord) (which : Telling) (last : LastFaults) (ms : List Hearing) (h : Hearing) (made : Made) (held : Option (List ℕ))
+pub tells_other : (form : Format) (rows : List RowRecord) (which : Telling) (last : LastFaults) (ms : List Hearing) (h : Hearing) (made : Made) (held : Option (List ℕ))
     → is_of_faults h ≡ false → Remembers last ms → made.messages ≡ 0 → made.lines ≡ 0 → Tells form rows which last ms (Some h) made held held
 tells_other form rows which last ms h made held other remembers m l =
     tells_nothing form rows which last ms (Some h) made held (among_no h other) (next_no which ms h other) remembers m l
@@ -69,7 +69,7 @@ leaves_writer text (Err Memory) sink puts never = absurd (never refl)
 
 -- ---- one that is told, or not
 
-module _ (form : FaultForm) (rows : List RowRecord) (which : Telling) (last : LastFaults) (ms : List Hearing) (h : Hearing) (kind : Kind) (lamps : Lamps)
+module _ (form : Format) (rows : List RowRecord) (which : Telling) (last : LastFaults) (ms : List Hearing) (h : Hearing) (kind : Kind) (lamps : Lamps)
     (k : kind_of h.message.pgn ≡ Some kind) (l : lamps_of h.message.bytes ≡ Some lamps) (below : h.message.source < 256) (remembers : Remembers last ms) where
   faults_are : faults_in h ≡ faults_by h (Some kind) (Some lamps)
   faults_are = ap (λ (o : Option Kind). faults_by h o (lamps_of h.message.bytes)) k ∙ ap (λ (o : Option Lamps). faults_by h (Some kind) o) l

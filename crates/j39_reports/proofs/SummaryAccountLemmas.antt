@@ -26,27 +26,27 @@ use Rattle.j39_reports.specs.SummarySoFar.{HasSummed, NotesFrame}
 use Rattle.j39_reports.specs.RowsSoFar.{AreRowsOf, HasTaken, Message, WantsAt}
 use Rattle.j39_reports.specs.RowText.{summary_columns, summary_text}
 use Rattle.j39_reports.specs.RowModels.{row_shown}
-use Rattle.j39_reports.specs.SummaryRun.{AsksForRows, MakesSummaryIn, MakesSummaryRecords, output_of}
+use Rattle.j39_reports.specs.SummaryRun.{AsksForRows, MakesSummary, MakesSummaryIn, output_of}
 use Rattle.j39_reports.specs.declared.summaries.account.SummaryAccount.{SummaryAccount}
 use Rattle.j39_reports.specs.declared.summaries.deeds.Deeds.{Deeds}
 use Rattle.j39_frame.specs.declared.origin.Origin.{Origin}
-use Rattle.j39_reports.specs.declared.summaries.rows.RowForm.{RowForm}
-use Rattle.j39_reports.specs.declared.summaries.rows.RowForm.TheVariants.{Record}
+use Rattle.j39_listen.specs.declared.format.Format.{Format}
+use Rattle.j39_listen.specs.declared.format.Format.TheVariants.{Record}
 use Rattle.j39_reports.specs.declared.summaries.rows.Rows.{Rows}
 
 -- ---- laws
 
-pub summary_begins : (form : RowForm) (groups : List RowRecord) → Begins (λ bus. HasSummed form groups) (MakesSummaryIn form groups)
+pub summary_begins : (form : Format) (groups : List RowRecord) → Begins (λ bus. HasSummed form groups) (MakesSummaryIn form groups)
 summary_begins form groups = λ bus a F G before all has made.
     (all.text, ap (λ t. t ++ all.text) (sym (ap (λ (o : Output). o.text) has.nothing_yet)))
 
-pub summary_one : (form : RowForm) (groups : List RowRecord) → MakesOne (MakesSummaryIn form groups)
+pub summary_one : (form : Format) (groups : List RowRecord) → MakesOne (MakesSummaryIn form groups)
 summary_one form groups = λ bus F x y (hs, are_x, is_x) (ks, are_y, is_y).
     ap (λ (o : Output). o.text) is_x ∙ ap (λ (heard : List Hearing). (output_of form groups heard).text) (heard_below_unique (is_reported_in groups) (reported_leaves groups) F (length F) hs ks are_x are_y)
     ∙ sym (ap (λ (o : Output). o.text) is_y)
 
 -- and behind the names of the columns
-pub records_one : (groups : List RowRecord) → MakesOne (MakesSummaryRecords groups)
+pub records_one : (groups : List RowRecord) → MakesOne (MakesSummary Record groups)
 records_one groups = λ bus F x y (a, made_a, is_a) (b, made_b, is_b).
     ap (λ (o : Output). o.text) is_a ∙ ap (λ t. summary_columns ++ t) (summary_one Record groups bus F a b made_a made_b)
     ∙ sym (ap (λ (o : Output). o.text) is_b)
@@ -96,7 +96,7 @@ asks_heard groups F f h heard begun rows at are_heard begins stops =
       wanted = w.stopped;
     })
 
-pub summary_meets : (form : RowForm) (groups : List RowRecord) (a a' : SummaryAccount) → a'.groups ≡ a.groups → a'.form ≡ a.form → (f : FrameRecord) (messages : ℕ) (old : Option (List ℕ))
+pub summary_meets : (form : Format) (groups : List RowRecord) (a a' : SummaryAccount) → a'.groups ≡ a.groups → a'.form ≡ a.form → (f : FrameRecord) (messages : ℕ) (old : Option (List ℕ))
     → ((F : List FrameRecord) (before : List Entry) → Hears a.listener F → AreRowsOf (pairs_of a.rows.rows) before → NotesFrame a.groups.now F f a'.listener (pairs_of a'.rows.rows) before messages)
     → a'.messages ≡ capped (a.messages + messages) → Meets (HasSummed form groups) a a' (f ∷ []) old old
 summary_meets form groups a a' kept same f messages old notes sum = λ F before has.
@@ -124,13 +124,13 @@ summary_meets form groups a a' kept same f messages old notes sum = λ F before 
 
 -- ---- the end
 
-all_text : (form : RowForm) (groups : List RowRecord) (a : SummaryAccount) (F : List FrameRecord) (before : Output) (has : HasSummed form groups a F before)
+all_text : (form : Format) (groups : List RowRecord) (a : SummaryAccount) (F : List FrameRecord) (before : Output) (has : HasSummed form groups a F before)
     → summary_text a.form a.groups.now (map row_shown (pairs_of a.rows.rows)) ≡ (output_of form groups has.heard).text
 all_text form groups a F before has =
-    ap (λ (f : RowForm). summary_text f a.groups.now (map row_shown (pairs_of a.rows.rows))) has.form_is
+    ap (λ (f : Format). summary_text f a.groups.now (map row_shown (pairs_of a.rows.rows))) has.form_is
     ∙ ap (λ (table : List RowRecord). summary_text form table (map row_shown (pairs_of a.rows.rows))) has.by ∙ ap (summary_text form groups) has.are_rows
 
-pub summary_closes : (form : RowForm) (groups : List RowRecord) (a : SummaryAccount) (lines : ℕ) (old new : Option (List ℕ)) → lines ≡ length (pairs_of a.rows.rows) → lines < 2 ^ 64
+pub summary_closes : (form : Format) (groups : List RowRecord) (a : SummaryAccount) (lines : ℕ) (old new : Option (List ℕ)) → lines ≡ length (pairs_of a.rows.rows) → lines < 2 ^ 64
     → Appends old new (summary_text a.form a.groups.now (map row_shown (pairs_of a.rows.rows)))
     → Closes (λ bus. HasSummed form groups) (MakesSummaryIn form groups) a (record { messages = a.messages; lines = lines }) old new
 summary_closes form groups a lines old new count fits written = λ bus F before has.
@@ -146,7 +146,7 @@ summary_closes form groups a lines old new count fits written = λ bus F before 
       written = subst (Appends old new) (all_text form groups a F before has) written;
     }
 
-pub summary_stops : (form : RowForm) (groups : List RowRecord) (a : SummaryAccount) (old new : Option (List ℕ))
+pub summary_stops : (form : Format) (groups : List RowRecord) (a : SummaryAccount) (old new : Option (List ℕ))
     → AppendsFront old new (summary_text a.form a.groups.now (map row_shown (pairs_of a.rows.rows))) → StopsAtEnd (λ bus. HasSummed form groups) (MakesSummaryIn form groups) a old new
 summary_stops form groups a old new front = λ bus F before all has made.
     let is : all.text ≡ (output_of form groups has.heard).text =

@@ -13,12 +13,12 @@ use Rattle.j39_reports.specs.RowText.{row_in, summary_text}
 use Rattle.j39_reports.specs.RowModels.{row_shown}
 use Rattle.j39_reports.specs.declared.summaries.deeds.Deeds.{Deeds}
 use Rattle.j39_frame.specs.declared.origin.Origin.{Origin}
-use Rattle.j39_reports.specs.declared.summaries.rows.RowForm.{RowForm}
+use Rattle.j39_listen.specs.declared.format.Format.{Format}
 
-abbrev line : RowForm → List RowRecord → Origin × Deeds → List ℕ
+abbrev line : Format → List RowRecord → Origin × Deeds → List ℕ
 line form groups row = row_in form groups (row_shown row)
 
-module _ (form : RowForm) (groups : List RowRecord) where
+module _ (form : Format) (groups : List RowRecord) where
   abbrev pub lines : List (Origin × Deeds) → List ℕ
   lines rows = summary_text form groups (map row_shown rows)
 

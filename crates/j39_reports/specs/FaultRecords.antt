@@ -11,8 +11,8 @@ use Rattle.j39_faults.specs.declared.code.Code.TheVariants.{Known, Raw}
 use Rattle.j39_faults.specs.declared.lamps.Lamps.{Lamps}
 use Rattle.j39_groups.specs.Row.{RowRecord}
 use Rattle.j39_reports.specs.Faults.{Fault, fault_line, name_in}
-use Rattle.j39_reports.specs.declared.fault_news.form.FaultForm.{FaultForm}
-use Rattle.j39_reports.specs.declared.fault_news.form.FaultForm.TheVariants.{Line, Record}
+use Rattle.j39_listen.specs.declared.format.Format.{Format}
+use Rattle.j39_listen.specs.declared.format.Format.TheVariants.{Line, Record}
 
 -- the names of the columns
 abbrev pub fault_columns : List ℕ
@@ -69,9 +69,9 @@ fault_record rows f =
 
 -- ---- in either form
 
-abbrev pub fault_in : FaultForm → List RowRecord → Fault → List ℕ
+abbrev pub fault_in : Format → List RowRecord → Fault → List ℕ
 fault_in Line rows f = fault_line rows f
 fault_in Record rows f = fault_record rows f
 
-unfoldable pub faults_text : FaultForm → List RowRecord → List Fault → List ℕ
+unfoldable pub faults_text : Format → List RowRecord → List Fault → List ℕ
 faults_text form rows faults = flat_map (fault_in form rows) faults

@@ -8,12 +8,12 @@ use Rattle.j39_listen.specs.Output.{Making, Output}
 use Rattle.j39_reports.specs.Faults.{faults_in}
 use Rattle.j39_reports.specs.News.{faults_among, is_fault_group, told}
 use Rattle.j39_reports.specs.FaultRecords.{fault_columns, faults_text}
-use Rattle.j39_reports.specs.declared.fault_news.form.FaultForm.{FaultForm}
-use Rattle.j39_reports.specs.declared.fault_news.form.FaultForm.TheVariants.{Line, Record}
+use Rattle.j39_listen.specs.declared.format.Format.{Format}
+use Rattle.j39_listen.specs.declared.format.Format.TheVariants.{Line, Record}
 use Rattle.j39_reports.specs.declared.fault_news.telling.Telling.{Telling}
 
 -- the text of each fault of each message of faults that is told; each message of faults counts
-abbrev pub faults_of : FaultForm → List RowRecord → Telling → List Hearing → Output
+abbrev pub faults_of : Format → List RowRecord → Telling → List Hearing → Output
 faults_of form rows which ms = record {
   text = faults_text form rows (flat_map faults_in (told which ms));
   messages = length ms;
@@ -21,15 +21,12 @@ faults_of form rows which ms = record {
 }
 
 -- the faults that are told in the frames, whatever their bus is called, in either form
-abbrev pub MakesFaultsIn : FaultForm → List RowRecord → Telling → Making
+abbrev pub MakesFaultsIn : Format → List RowRecord → Telling → Making
 MakesFaultsIn form rows which bus F output =
     (heard : List Hearing) × AreHeardWith is_fault_group F heard
     × (output ≡ faults_of form rows which (faults_among heard))
 
--- a line for each
-abbrev pub MakesFaults : List RowRecord → Telling → Making
-MakesFaults rows which = MakesFaultsIn Line rows which
-
--- the names of the columns, and a record for each
-abbrev pub MakesFaultRecords : List RowRecord → Telling → Making
-MakesFaultRecords rows which = Headed fault_columns (MakesFaultsIn Record rows which)
+-- a line for each, or the names of the columns and a record for each
+abbrev pub MakesFaults : Format → List RowRecord → Telling → Making
+MakesFaults Line rows which = MakesFaultsIn Line rows which
+MakesFaults Record rows which = Headed fault_columns (MakesFaultsIn Record rows which)

@@ -23,23 +23,23 @@ use Rattle.j39_reports.specs.FaultRun.{faults_of}
 use Rattle.j39_reports.specs.FaultRecords.{faults_text, head_fields, said_fields}
 use Rattle.j39_reports.specs.Remembered.{Remembers}
 use Rattle.j39_reports.specs.declared.fault_news.account.FaultNews.{FaultNews}
-use Rattle.j39_reports.specs.declared.fault_news.form.FaultForm.{FaultForm}
-use Rattle.j39_reports.specs.declared.fault_news.form.FaultForm.TheVariants.{Line, Record}
+use Rattle.j39_listen.specs.declared.format.Format.{Format}
+use Rattle.j39_listen.specs.declared.format.Format.TheVariants.{Line, Record}
 use Rattle.j39_reports.specs.declared.fault_news.last_faults.LastFaults.{LastFaults}
 use Rattle.j39_reports.specs.declared.fault_news.telling.Telling.{Telling}
 
 -- what stands before what is said
-abbrev pub head_in : FaultForm → ℕ → ℕ → Option ℕ → List ℕ
+abbrev pub head_in : Format → ℕ → ℕ → Option ℕ → List ℕ
 head_in Line stamp address name = head_text stamp address name
 head_in Record stamp address name = head_fields stamp address name
 
 -- what is said, as a line or a record ends with it
-abbrev pub said_in : FaultForm → List RowRecord → Kind → Lamps → Option Code → List ℕ
+abbrev pub said_in : Format → List RowRecord → Kind → Lamps → Option Code → List ℕ
 said_in Line rows kind lamps code = said_text rows kind lamps code ++ (newline ∷ [])
 said_in Record rows kind lamps code = record_text (kind_text kind) (said_fields rows lamps code)
 
 -- a line or a record, of what stands before what is said in it
-abbrev pub line_of : FaultForm → List ℕ → List RowRecord → Kind → Lamps → Option Code → List ℕ
+abbrev pub line_of : Format → List ℕ → List RowRecord → Kind → Lamps → Option Code → List ℕ
 line_of form head rows kind lamps code = head ++ said_in form rows kind lamps code
 
 -- what is told of a message, where it is told
@@ -52,7 +52,7 @@ told_next which ms None = []
 told_next which ms (Some h) = if is_of_faults h then told_here which ms (Some h) else []
 
 -- what it adds
-abbrev pub added : FaultForm → List RowRecord → Telling → List Hearing → Option Hearing → Output
+abbrev pub added : Format → List RowRecord → Telling → List Hearing → Option Hearing → Output
 added form rows which ms heard = record {
   text = faults_text form rows (flat_map faults_in (told_next which ms heard));
   messages = length (faults_among (or_none heard));
@@ -60,18 +60,18 @@ added form rows which ms heard = record {
 }
 
 -- behind these messages this was heard, and what is told of it was written
-pub record Tells (form : FaultForm) (rows : List RowRecord) (which : Telling) (last' : LastFaults) (ms : List Hearing)
+pub record Tells (form : Format) (rows : List RowRecord) (which : Telling) (last' : LastFaults) (ms : List Hearing)
     (heard : Option Hearing) (made : Made) (old new : Option (List ℕ)) : Type 0 where
   pub remembers : Remembers last' (ms ++ faults_among (or_none heard))
   pub made_is : made ≡ made_of (added form rows which ms heard)
   pub written : Appends old new (added form rows which ms heard).text
 
-abbrev pub TellsFront : FaultForm → List RowRecord → Telling → List Hearing → Option Hearing → Option (List ℕ)
+abbrev pub TellsFront : Format → List RowRecord → Telling → List Hearing → Option Hearing → Option (List ℕ)
     → Option (List ℕ) → Type 0
 TellsFront form rows which ms heard old new = AppendsFront old new (added form rows which ms heard).text
 
 -- behind the frames F, of which these messages were heard, this is heard at the frame f, and was told
-pub record MeetsFrame (form : FaultForm) (rows : List RowRecord) (which : Telling) (l' : Listener) (last' : LastFaults)
+pub record MeetsFrame (form : Format) (rows : List RowRecord) (which : Telling) (l' : Listener) (last' : LastFaults)
     (F : List FrameRecord) (f : FrameRecord) (ms : List Hearing) (made : Made)
     (old new : Option (List ℕ)) : Type 0 where
   pub heard : Option Hearing
@@ -79,7 +79,7 @@ pub record MeetsFrame (form : FaultForm) (rows : List RowRecord) (which : Tellin
   pub hears : Hears l' (F ++ f ∷ [])
   pub tells : Tells form rows which last' ms heard made old new
 
-pub record StopsFrame (form : FaultForm) (rows : List RowRecord) (which : Telling) (F : List FrameRecord)
+pub record StopsFrame (form : Format) (rows : List RowRecord) (which : Telling) (F : List FrameRecord)
     (f : FrameRecord) (ms : List Hearing) (old new : Option (List ℕ)) : Type 0 where
   pub heard : Option Hearing
   pub heard_at : HeardAtWith is_fault_group (F ++ f ∷ []) (length F) heard
@@ -91,7 +91,7 @@ pub record Subject : Type 0 where
   pub which : Telling
 
 -- the faults in F were told in this form, by this table
-pub record HasTold (form : FaultForm) (s : Subject) (news : FaultNews) (F : List FrameRecord) (output : Output)
+pub record HasTold (form : Format) (s : Subject) (news : FaultNews) (F : List FrameRecord) (output : Output)
     : Type 0 where
   pub form_is : news.writing.form ≡ form
   pub by : news.writing.groups.now ≡ s.rows

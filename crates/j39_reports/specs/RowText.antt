@@ -12,8 +12,8 @@ use Rattle.j39_reports.specs.Columns.{moment_fields, name_field}
 use Rattle.j39_io.specs.Records.{later_text, line_end}
 use Rattle.j39_listen.specs.Report.{name_text}
 use Rattle.j39_reports.specs.Summary.{Range, Row}
-use Rattle.j39_reports.specs.declared.summaries.rows.RowForm.{RowForm}
-use Rattle.j39_reports.specs.declared.summaries.rows.RowForm.TheVariants.{Line, Record}
+use Rattle.j39_listen.specs.declared.format.Format.{Format}
+use Rattle.j39_listen.specs.declared.format.Format.TheVariants.{Line, Record}
 
 -- ---- what a row begins with
 
@@ -46,42 +46,42 @@ unfoldable pub record_head : List RowRecord → Row → List ℕ
 record_head groups row =
     origin_fields row ++ later_text (unwrap_or (name_in groups row.first.pgn row.first.spn) []) ++ count_fields row
 
-unfoldable pub head_in : RowForm → List RowRecord → Row → List ℕ
+unfoldable pub head_in : Format → List RowRecord → Row → List ℕ
 head_in Line groups row = line_head row
 head_in Record groups row = record_head groups row
 
 -- ---- the numbers and the values
 
 -- what stands before a column
-unfoldable pub separator_of : RowForm → List ℕ
+unfoldable pub separator_of : Format → List ℕ
 separator_of Line = codes " "
 separator_of Record = codes ","
 
 -- where there is no number
-unfoldable pub no_range : RowForm → List ℕ
+unfoldable pub no_range : Format → List ℕ
 no_range Line = codes " - - -"
 no_range Record = codes ",,,"
 
 -- the least number and the most
-unfoldable pub bounds_in : RowForm → Range → List ℕ
+unfoldable pub bounds_in : Format → Range → List ℕ
 bounds_in form r =
     concat (separator_of form ∷ scaled_text r.slot.places r.least
     ∷ separator_of form ∷ scaled_text r.slot.places r.most ∷ [])
 
 -- their unit
-unfoldable pub unit_in : RowForm → List ℕ → List ℕ
+unfoldable pub unit_in : Format → List ℕ → List ℕ
 unit_in Line unit = codes " " ++ unit
 unit_in Record unit = later_text unit
 
-unfoldable pub range_in : RowForm → Option Range → List ℕ
+unfoldable pub range_in : Format → Option Range → List ℕ
 range_in form None = no_range form
 range_in form (Some r) = bounds_in form r ++ unit_in form r.slot.unit
 
-unfoldable pub value_in : RowForm → ValueRecord → List ℕ
+unfoldable pub value_in : Format → ValueRecord → List ℕ
 value_in form value = separator_of form ++ bare_text value
 
 -- the range, the first value and the last
-unfoldable pub values_in : RowForm → Option Range → ValueRecord → ValueRecord → List ℕ
+unfoldable pub values_in : Format → Option Range → ValueRecord → ValueRecord → List ℕ
 values_in form range first last = range_in form range ++ value_in form first ++ value_in form last
 
 -- ---- what a row ends with
@@ -90,16 +90,16 @@ values_in form range first last = range_in form range ++ value_in form first ++ 
 abbrev pub called_in : List RowRecord → ℕ → ℕ → List ℕ
 called_in groups pgn spn = unwrap_or (name_in groups pgn spn) (codes "-")
 
-unfoldable pub end_in : RowForm → List RowRecord → ℕ → ℕ → List ℕ
+unfoldable pub end_in : Format → List RowRecord → ℕ → ℕ → List ℕ
 end_in Line groups pgn spn = codes " " ++ (called_in groups pgn spn ++ (newline ∷ []))
 end_in Record groups pgn spn = line_end
 
 -- ---- the whole
 
-unfoldable pub row_in : RowForm → List RowRecord → Row → List ℕ
+unfoldable pub row_in : Format → List RowRecord → Row → List ℕ
 row_in form groups row =
     head_in form groups row ++ values_in form row.range row.first.value row.last.value
     ++ end_in form groups row.first.pgn row.first.spn
 
-abbrev pub summary_text : RowForm → List RowRecord → List Row → List ℕ
+abbrev pub summary_text : Format → List RowRecord → List Row → List ℕ
 summary_text form groups rows = flat_map (row_in form groups) rows

@@ -10,12 +10,12 @@ use Rattle.j39_listen.specs.Output.{Making, Output}
 use Rattle.j39_listen.specs.Report.{Entry, entries_of}
 use Rattle.j39_listen.specs.Headed.{Headed}
 use Rattle.j39_reports.specs.RowText.{summary_columns, summary_text}
-use Rattle.j39_reports.specs.declared.summaries.rows.RowForm.{RowForm}
-use Rattle.j39_reports.specs.declared.summaries.rows.RowForm.TheVariants.{Line, Record}
+use Rattle.j39_listen.specs.declared.format.Format.{Format}
+use Rattle.j39_listen.specs.declared.format.Format.TheVariants.{Line, Record}
 use Rattle.j39_reports.specs.Summary.{have_one_origin, summary_of}
 
 -- the summary of the entries of what is heard; each message counts that is heard
-abbrev pub output_of : RowForm → List RowRecord → List Hearing → Output
+abbrev pub output_of : Format → List RowRecord → List Hearing → Output
 output_of form groups heard = record {
   text = summary_text form groups (summary_of (flat_map (entries_of groups) heard));
   messages = length heard;
@@ -23,17 +23,14 @@ output_of form groups heard = record {
 }
 
 -- the summary of the report of the frames, whatever their bus is called, in either form
-abbrev pub MakesSummaryIn : RowForm → List RowRecord → Making
+abbrev pub MakesSummaryIn : Format → List RowRecord → Making
 MakesSummaryIn form groups bus F output =
     (heard : List Hearing) × AreHeard groups F heard × (output ≡ output_of form groups heard)
 
--- a line for each row
-abbrev pub MakesSummary : List RowRecord → Making
-MakesSummary groups = MakesSummaryIn Line groups
-
--- the names of the columns, and a record for each row
-abbrev pub MakesSummaryRecords : List RowRecord → Making
-MakesSummaryRecords groups = Headed summary_columns (MakesSummaryIn Record groups)
+-- a line for each row, or the names of the columns and a record for each
+abbrev pub MakesSummary : Format → List RowRecord → Making
+MakesSummary Line groups = MakesSummaryIn Line groups
+MakesSummary Record groups = Headed summary_columns (MakesSummaryIn Record groups)
 
 abbrev pub IsText : ValueRecord → Type 0
 IsText (number n slot) = ⊥

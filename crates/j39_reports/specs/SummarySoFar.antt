@@ -13,11 +13,11 @@ use Rattle.j39_reports.specs.RowsSoFar.{AreRowsOf}
 use Rattle.j39_listen.specs.declared.listener.Listener.{Listener}
 use Rattle.j39_reports.specs.declared.summaries.deeds.Deeds.{Deeds}
 use Rattle.j39_frame.specs.declared.origin.Origin.{Origin}
-use Rattle.j39_reports.specs.declared.summaries.rows.RowForm.{RowForm}
+use Rattle.j39_listen.specs.declared.format.Format.{Format}
 use Rattle.j39_reports.specs.declared.summaries.account.SummaryAccount.{SummaryAccount}
 
 -- the rows are those of what is heard in F by this table, and the listener was fed F
-pub record HasSummed (form : RowForm) (groups : List RowRecord) (summary : SummaryAccount) (F : List FrameRecord)
+pub record HasSummed (form : Format) (groups : List RowRecord) (summary : SummaryAccount) (F : List FrameRecord)
     (output : Output) : Type 0 where
   pub by : summary.groups.now ≡ groups
   pub form_is : summary.form ≡ form

@@ -12,5 +12,5 @@ mod records;
 mod run;
 mod telling;
 
-pub use run::{faults, faults_csv};
+pub use run::faults;
 pub use telling::Telling;

@@ -9,4 +9,4 @@ mod measure;
 mod records;
 mod rows;
 
-pub use account::{summary, summary_csv};
+pub use account::summary;

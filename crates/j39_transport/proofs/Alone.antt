@@ -6,10 +6,10 @@ use Rattle.j39_transport.specs.Message.{MessageRecord}
 use Rattle.j39_transport.specs.Net.{World, with_delivery, replied, carried, NetEvent, SenderTick, ReceiverTick, Next, Third, is_over, is_busy_with, happens, run, start, of_source, AreBetween, AreAlone, TransfersAloneLaw}
 use Rattle.j39_transport.specs.Receiving.{RecvResult, partner_of, result_of, recv_step}
 use Rattle.j39_transport.specs.Reception.{Reaction, takes_signal, takes_tick}
-use Rattle.j39_transport.specs.Sending.{SenderRecord, SendResult, ticks_in, send_step, sent_by}
+use Rattle.j39_transport.specs.Sending.{SenderRecord, SendResult, ticks_in, send_step, sent_by, is_idle}
 use Rattle.j39_transport.specs.Signals.{Signal}
 use Rattle.j39_transport.proofs.Delivering.{Stands, received, step_stands, start_stands}
-use Rattle.j39_transport.proofs.SenderLemmas.{is_idle, OwnIf, Ticked, ticked, own_can_say}
+use Rattle.j39_transport.proofs.SenderLemmas.{OwnIf, Ticked, ticked, own_can_say}
 use Rattle.j39_transport.proofs.ThirdLemmas.{IfOpen, IfGiven, Keeps, keeps_signal, keeps_tick, one_of_source}
 
 abbrev Is : ℕ → ℕ → Type 0

@@ -6,13 +6,13 @@ use Rattle.j39_transport.specs.Cutting.{ToSend, at_moment}
 use Rattle.j39_transport.specs.Frames.{source_of}
 use Rattle.j39_transport.specs.Key.{Directed}
 use Rattle.j39_transport.specs.Message.{MessageRecord, IsLong}
-use Rattle.j39_transport.specs.Net.{World, with_delivery, handed_back, replied, carried, NetEvent, SenderTick, ReceiverTick, Next, Third, is_done, is_over, is_busy_with, happens, run, start, of_source, Matches, IsFrom, IsThird, AreBetween, TransfersLaw}
+use Rattle.j39_transport.specs.Net.{World, with_delivery, handed_back, replied, carried, NetEvent, SenderTick, ReceiverTick, Next, Third, is_over, is_busy_with, happens, run, start, of_source, Matches, IsFrom, IsThird, AreBetween, TransfersLaw}
 use Rattle.j39_transport.specs.Receiving.{RecvResult, Heard, said_to, partner_of, result_of, recv_step}
 use Rattle.j39_transport.specs.Reception.{ReceptionRecord, Reaction, quiet, is_from, is_taken, takes_request, takes_data, takes_abort, takes_signal, takes_tick}
-use Rattle.j39_transport.specs.Sending.{SenderRecord, SendResult, ticks_in, send_step, sent_by, new_sender}
+use Rattle.j39_transport.specs.Sending.{SenderRecord, SendResult, ticks_in, send_step, sent_by, new_sender, is_idle, is_done}
 use Rattle.j39_transport.specs.Signals.{Signal, BroadcastAnnounce, RequestToSend, ClearToSend, Acknowledgment, Abort, Packet, written}
 use Rattle.j39_transport.proofs.ReceiverLemmas.{SessionOf, Open, Closed, signal_case, tick_case}
-use Rattle.j39_transport.proofs.SenderLemmas.{is_idle, IsOwn, OwnIf, Ticked, ticked, pgn_fits, own_can_say, IsAck, Hears, same, Between, CanSayIf, hears_answer}
+use Rattle.j39_transport.proofs.SenderLemmas.{IsOwn, OwnIf, Ticked, ticked, pgn_fits, own_can_say, IsAck, Hears, same, Between, CanSayIf, hears_answer}
 use Rattle.j39_transport.proofs.SignalLemmas.{CanSay, heard_by_receiver}
 use Rattle.j39_transport.proofs.ThirdLemmas.{IfOpen, IfGiven, IsNot, Fits, source_fits, Keeps, keeps_signal, keeps_tick, not_from, third_signal, third_unheard, answer_unheard, none_of_source, one_of_source}
 

@@ -5,18 +5,11 @@ use Rattle.std.specs.Option.{option_map}
 use Rattle.j39_transport.specs.Cutting.{packet_data}
 use Rattle.j39_transport.specs.Frames.{agree}
 use Rattle.j39_transport.specs.Message.{MessageRecord, IsLong, packets_of}
-use Rattle.j39_transport.specs.Net.{is_done, handed_back}
-use Rattle.j39_transport.specs.Sending.{SenderRecord, SendState, SendResult, Idle, Waiting, Sending, Done, Failed, sends_packet, ticks_in, is_waiting, is_running, may_name, cleared, acknowledged, aborted, hears}
+use Rattle.j39_transport.specs.Net.{handed_back}
+use Rattle.j39_transport.specs.Sending.{SenderRecord, SendState, SendResult, Idle, Waiting, Sending, Done, Failed, sends_packet, ticks_in, is_idle, is_waiting, is_running, is_done, may_name, cleared, acknowledged, aborted, hears}
 use Rattle.j39_transport.specs.Signals.{Signal, BroadcastAnnounce, RequestToSend, ClearToSend, Acknowledgment, Abort, Packet, written}
 use Rattle.j39_transport.proofs.PacketLemmas.{packet_length}
 use Rattle.j39_transport.proofs.SignalLemmas.{CanSay, heard_by_sender}
-
-abbrev pub is_idle : SendState → Bool
-is_idle Idle = true
-is_idle (Waiting limit) = false
-is_idle (Sending next last) = false
-is_idle Done = false
-is_idle (Failed reason) = false
 
 -- ---- a tick
 

@@ -6,7 +6,7 @@ use Rattle.j39_transport.specs.Frames.{source_of}
 use Rattle.j39_transport.specs.Message.{MessageRecord, IsLong}
 use Rattle.j39_transport.specs.Cutting.{ToSend, at_moment}
 use Rattle.j39_transport.specs.Reception.{ReceptionRecord, is_from}
-use Rattle.j39_transport.specs.Sending.{SenderRecord, SendState, SendResult, Idle, Waiting, Sending, Done, Failed, send_step, sent_by, new_sender}
+use Rattle.j39_transport.specs.Sending.{SenderRecord, SendState, SendResult, is_idle, is_running, is_done, send_step, sent_by, new_sender}
 use Rattle.j39_transport.specs.Sending as sender
 use Rattle.j39_transport.specs.Receiving.{ReceiverRecord, RecvResult, recv_step, new_receiver}
 use Rattle.j39_transport.specs.Receiving as receiver
@@ -57,19 +57,8 @@ pub data NetEvent : Type 0 where
   Next : MessageRecord → NetEvent
   Third : ToSend → (now : ℕ) (sender_loses receiver_loses answer_lost found : Bool) → NetEvent
 
-abbrev pub is_done : SendState → Bool
-is_done Idle = false
-is_done (Waiting limit) = false
-is_done (Sending next last) = false
-is_done Done = true
-is_done (Failed reason) = false
-
 abbrev pub is_over : SendState → Bool
-is_over Idle = false
-is_over (Waiting limit) = false
-is_over (Sending next last) = false
-is_over Done = true
-is_over (Failed reason) = true
+is_over s = not (is_idle s) && not (is_running s)
 
 -- the session is of this source
 abbrev pub is_busy_with : ℕ → Option ReceptionRecord → Bool

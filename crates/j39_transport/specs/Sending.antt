@@ -16,6 +16,35 @@ pub data SendState : Type 0 where
   Done : SendState
   Failed : (reason : ℕ) → SendState
 
+abbrev pub is_idle : SendState → Bool
+is_idle Idle = true
+is_idle (Waiting limit) = false
+is_idle (Sending next last) = false
+is_idle Done = false
+is_idle (Failed reason) = false
+
+abbrev pub is_waiting : SendState → Bool
+is_waiting Idle = false
+is_waiting (Waiting limit) = true
+is_waiting (Sending next last) = false
+is_waiting Done = false
+is_waiting (Failed reason) = false
+
+-- the RTS was sent, and neither an acknowledgment nor an abort has come
+abbrev pub is_running : SendState → Bool
+is_running Idle = false
+is_running (Waiting limit) = true
+is_running (Sending next last) = true
+is_running Done = false
+is_running (Failed reason) = false
+
+abbrev pub is_done : SendState → Bool
+is_done Idle = false
+is_done (Waiting limit) = false
+is_done (Sending next last) = false
+is_done Done = true
+is_done (Failed reason) = false
+
 -- since: when the limit was set; highest: the highest packet sent so far, 0 before any
 pub record SenderRecord : Type 0 where
   pub message : MessageRecord
@@ -69,21 +98,6 @@ ticks_in Done now s = silent s
 ticks_in (Failed reason) now s = silent s
 
 -- ---- a frame
-
-abbrev pub is_waiting : SendState → Bool
-is_waiting Idle = false
-is_waiting (Waiting limit) = true
-is_waiting (Sending next last) = false
-is_waiting Done = false
-is_waiting (Failed reason) = false
-
--- the RTS was sent, and neither an acknowledgment nor an abort has come
-abbrev pub is_running : SendState → Bool
-is_running Idle = false
-is_running (Waiting limit) = true
-is_running (Sending next last) = true
-is_running Done = false
-is_running (Failed reason) = false
 
 -- a CTS may name a packet of the message, at most one above the highest sent so far
 abbrev pub may_name : SenderRecord → ℕ → Bool

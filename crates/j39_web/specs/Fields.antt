@@ -3,15 +3,5 @@ use Rattle.j39_address.specs.Name as name
 use Rattle.j39_web.specs.declared.fields.NameFields.{NameFields}
 
 abbrev pub fields_in : NameFields → name.NameFields
-fields_in f = record {
-  arbitrary = f.arbitrary;
-  industry = f.industry;
-  system_instance = f.system_instance;
-  system = f.system;
-  reserved = f.reserved;
-  function = f.function;
-  function_instance = f.function_instance;
-  ecu_instance = f.ecu_instance;
-  manufacturer = f.manufacturer;
-  identity = f.identity;
-}
+fields_in f = name.name_fields f.arbitrary f.industry f.system_instance f.system f.reserved f.function
+    f.function_instance f.ecu_instance f.manufacturer f.identity

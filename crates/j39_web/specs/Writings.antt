@@ -3,9 +3,10 @@ use Rattle.j39_groups.specs.Row.{RowRecord}
 use Rattle.std.specs.Prelude.{List}
 use Rattle.j39_listen.specs.Asking.{AsksForBoxes, Wanting}
 use Rattle.j39_listen.specs.Output.{Making, MakesReport}
+use Rattle.j39_listen.specs.declared.format.Format.TheVariants.{Line, Record}
 use Rattle.j39_reports.specs.FaultAsking.{AsksForFaults}
 use Rattle.j39_reports.specs.FaultRun.{MakesFaults}
-use Rattle.j39_reports.specs.SummaryRun.{AsksForRows, MakesSummaryRecords}
+use Rattle.j39_reports.specs.SummaryRun.{AsksForRows, MakesSummary}
 use Rattle.j39_reports.specs.declared.fault_news.telling.Telling.TheVariants.{News}
 use Rattle.j39_web.specs.declared.writing.Writing.{Writing}
 use Rattle.j39_web.specs.declared.writing.Writing.TheVariants.{Report, Summary, Faults}
@@ -13,8 +14,8 @@ use Rattle.j39_web.specs.declared.writing.Writing.TheVariants.{Report, Summary, 
 -- which outputs are made of the frames of a bus
 abbrev pub makes : Writing → List RowRecord → Making
 makes Report = MakesReport
-makes Summary = MakesSummaryRecords
-makes Faults = λ rows. MakesFaults rows News
+makes Summary = MakesSummary Record
+makes Faults = λ rows. MakesFaults Line rows News
 
 -- at which frames memory is wanted
 abbrev pub asks : Writing → List RowRecord → Wanting

@@ -9,7 +9,8 @@ ghost use Rattle.j39_reports.specs.declared.fault_news.telling.Telling.TheVarian
 ghost use Rattle.j39_groups.specs.Printed.{rows_text};
 ghost use Rattle.j39_listen.specs.Asking.{AsksForBoxes};
 ghost use Rattle.j39_listen.specs.Output.{MakesNodes, MakesReport};
-ghost use Rattle.j39_reports.specs.SummaryRun.{AsksForRows, MakesSummaryRecords};
+ghost use Rattle.j39_listen.specs.declared.format.Format.TheVariants.{Line, Record};
+ghost use Rattle.j39_reports.specs.SummaryRun.{AsksForRows, MakesSummary};
 ghost use Rattle.j39_table.specs.FaultWords.{fault_text};
 ghost use Rattle.j39_table.specs.declared.fault.TableFault.{TableFault};
 ghost use Rattle.j39_web.specs.Answers.{IsWrongBus, done, given_bus, no_memory, too_small, wrong_bus, wrong_table};
@@ -93,7 +94,7 @@ pub extern "C" fn j39_summary(
 ) -> u32
     // What is written is the summary of the log's report. Memory is wanted at a frame that announces a message, and
     // where a value is the first of its parameter, or a text.
-    ensures { Tells (ByTable table.now) MakesSummaryRecords
+    ensures { Tells (ByTable table.now) (MakesSummary Record)
         (λ rows. AsksSomewhere (AsksForRows rows) (given_bus bus.now) log.now)
         log.now bus.now table.now room.old room.new text.old text.new result }
 {
@@ -113,7 +114,7 @@ pub extern "C" fn j39_faults(
 ) -> u32
     // What is written is the faults that are told in the log's frames. Memory is wanted at a frame that announces a
     // message, and at one at which an address says its codes for the first time.
-    ensures { Tells (ByTable table.now) (λ rows. MakesFaults rows News)
+    ensures { Tells (ByTable table.now) (λ rows. MakesFaults Line rows News)
         (λ _. AsksSomewhere AsksForFaults (given_bus bus.now) log.now)
         log.now bus.now table.now room.old room.new text.old text.new result }
 {

@@ -5,9 +5,9 @@ ghost use Rattle.j39_web.specs.Writings.{asks, makes};
 
 use j39_groups::Groups;
 use j39_io::{Sink, Source};
-use j39_listen::{Counts, RunFault, run_with};
+use j39_listen::{Counts, Format, RunFault, run_with};
 use j39_log::Bus;
-use j39_reports::{Telling, faults, summary_csv};
+use j39_reports::{Telling, faults, summary};
 use std::alloc::Global;
 
 /// What is written of a log by a table.
@@ -37,8 +37,11 @@ impl Writing {
     {
         match self {
             Writing::Report => run_with(alloc, groups, source, sink, bus, limit),
-            Writing::Summary => summary_csv(alloc, groups, source, sink, bus, limit),
-            Writing::Faults => faults(alloc, groups, Telling::News, source, sink, bus, limit),
+            Writing::Summary => summary(alloc, groups, Format::Record, source, sink, bus, limit),
+            Writing::Faults => {
+                let (format, telling) = (Format::Line, Telling::News);
+                faults(alloc, groups, format, telling, source, sink, bus, limit)
+            }
         }
     }
 }

@@ -65,9 +65,9 @@ impl<'g, 't> Account for FaultNews<'g, 't> {
     ghost use Rattle.j39_reports.specs.FaultAsking.{AsksForFaults};
     ghost use Rattle.j39_reports.specs.FaultRun.{MakesFaultsIn};
     ghost use Rattle.j39_reports.specs.FaultsSoFar.{HasTold, Subject};
-    ghost use Rattle.j39_reports.specs.declared.fault_news.form.FaultForm.{FaultForm};
+    ghost use Rattle.j39_listen.specs.declared.format.Format.{Format};
 
-    ghost Subject = { FaultForm × Subject };
+    ghost Subject = { Format × Subject };
 
     ghost has_met = { λ subject bus. HasTold subject.0 subject.1 };
 
@@ -98,9 +98,9 @@ impl<'g, 't> Account for FaultNews<'g, 't> {
     }
 
     fn laws()
-        ensures begins { (subject : FaultForm × Subject)
+        ensures begins { (subject : Format × Subject)
             → Begins (λ bus. HasTold subject.0 subject.1) (MakesFaultsIn subject.0 subject.1.rows subject.1.which) }
-        ensures one { (subject : FaultForm × Subject)
+        ensures one { (subject : Format × Subject)
             → MakesOne (MakesFaultsIn subject.0 subject.1.rows subject.1.which) }
     {}
 }

@@ -10,10 +10,10 @@ ghost use Rattle.j39_listen.specs.HeardModel.{hearing_of};
 ghost use Rattle.j39_reports.specs.Faults.{faults_by, head_text, said_text};
 ghost use Rattle.j39_reports.specs.FaultRecords.{faults_text, head_fields};
 ghost use Rattle.j39_reports.specs.FaultsSoFar.{head_in, line_of, said_in};
-ghost use Rattle.j39_reports.specs.declared.fault_news.form.FaultForm.TheVariants.{Line};
+ghost use Rattle.j39_listen.specs.declared.format.Format.TheVariants.{Line};
 
 use crate::columns::{heard_fields, push_name_or_dashes};
-use crate::fault_news::form::{FaultForm, Said, Writing};
+use crate::fault_news::form::{Said, Writing};
 use crate::fault_news::names::name_in;
 use crate::fault_news::records::put_fields;
 use arrayvec::ArrayVec;
@@ -22,7 +22,7 @@ use j39_faults::{Kind, Lamps, codes_of, put_code, put_no_code};
 use j39_groups::Groups;
 use j39_io::printing::{push_bytes, push_hex};
 use j39_io::{DeviceFault, Sink, put_all};
-use j39_listen::Heard;
+use j39_listen::{Format, Heard};
 use j39_log::push_stamp;
 
 /// What the lines of a message begin with, or its records.
@@ -86,8 +86,8 @@ fn put_fault<W: Sink>(
 {
     put_all(sink, head)?;
     match writing.form {
-        FaultForm::Line => put_words(writing.groups, said, sink),
-        FaultForm::Record => put_fields(writing.groups, said, sink),
+        Format::Line => put_words(writing.groups, said, sink),
+        Format::Record => put_fields(writing.groups, said, sink),
     }
 }
 
@@ -113,13 +113,13 @@ fn put_said<W: Sink>(groups: &Groups<'_>, said: Said, sink: &mut W) -> Result<()
 }
 
 /// What stands before what is said.
-fn head_of(form: FaultForm, heard: &Heard<'_>) -> Head
+fn head_of(form: Format, heard: &Heard<'_>) -> Head
     ensures { result.items ≡ head_in form (stamp_micros heard.now.message.stamp) heard.now.message.source
         (option_map name_raw heard.now.name) }
 {
     match form {
-        FaultForm::Line => line_head(heard),
-        FaultForm::Record => record_head(heard),
+        Format::Line => line_head(heard),
+        Format::Record => record_head(heard),
     }
 }
 

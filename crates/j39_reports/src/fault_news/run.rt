@@ -1,25 +1,30 @@
 //! The runs that tell the faults in a log.
-ghost use Rattle.std.specs.Prelude.{true};
 ghost use Rattle.j39_io.specs.Turn.{turn};
+ghost use Rattle.j39_listen.specs.Headed.{begins_flushed};
 ghost use Rattle.j39_listen.specs.Ran.{PassesOn, Ran};
 ghost use Rattle.j39_reports.specs.FaultAsking.{AsksForFaults};
-ghost use Rattle.j39_reports.specs.FaultRun.{MakesFaultRecords, MakesFaults};
+ghost use Rattle.j39_reports.specs.FaultRun.{MakesFaults};
 
 use crate::fault_news::account::FaultNews;
-use crate::fault_news::form::{FaultForm, Writing};
+use crate::fault_news::form::Writing;
 use crate::fault_news::telling::Telling;
 use j39_groups::Groups;
 use j39_io::{Sink, Source};
-use j39_listen::{Counts, RunFault, run_headed, run_over};
+use j39_listen::{Counts, Format, RunFault, run_headed, run_over};
 use j39_log::Bus;
 use std::alloc::Global;
 
-/// Writes the fault codes in a log of at most `limit` bytes: a line for each code of each message of DM1 and DM2 that
-/// is told, with the name that a table of parameters has for its parameter. Without a bus it is that of the first
-/// frame in the log.
+/// The names of the columns of records.
+const COLUMNS: &[u8] = b"stamp,utc,address,name,state,spn,fmi,count,lamps,parameter,meaning\r\n";
+
+/// Writes the fault codes in a log of at most `limit` bytes: a line, or a record of comma-separated values (RFC 4180),
+/// for each code of each message of DM1 and DM2 that is told, with the name that a table of parameters has for its
+/// parameter; a record too for such a message that has no code. The names of the columns of records are written before
+/// the log is read. Without a bus it is that of the first frame in the log.
 pub fn faults<R: Source, W: Sink>(
     alloc: Global,
     groups: &Groups<'_>,
+    format: Format,
     telling: Telling,
     source: &mut R,
     sink: &mut W,
@@ -29,57 +34,16 @@ pub fn faults<R: Source, W: Sink>(
     // What the run promises is `Ran`: what is written is the faults that are told in the frames of the log, and nothing
     // else. Memory is wanted only at a frame of the log that announces a message, or at which an address says for the
     // first time which codes are active, or which were.
-    ensures ran { Ran (MakesFaults groups.now telling) AsksForFaults bus limit result
-        (turn R.remaining R.has_failed source.old source.new) (turn W.written W.has_failed sink.old sink.new) }
-
-    // What was written is passed on at the end, and before each read.
-    ensures flushed { PassesOn result (W.is_flushed sink.old) (W.is_flushed sink.new) }
-{
-    let writing = Writing {
-        form: FaultForm::Line,
-        groups,
-    };
-    run_over(
-        FaultNews::new(alloc, writing, telling),
-        source,
-        sink,
-        bus,
-        limit,
-    )
-}
-
-/// The names of the columns of records.
-const COLUMNS: &[u8] = b"stamp,utc,address,name,state,spn,fmi,count,lamps,parameter,meaning\r\n";
-
-/// Writes the same as comma-separated values (RFC 4180): the names of the columns, before the log is read, and a record
-/// for each code of each message that is told, or that has none.
-pub fn faults_csv<R: Source, W: Sink>(
-    alloc: Global,
-    groups: &Groups<'_>,
-    telling: Telling,
-    source: &mut R,
-    sink: &mut W,
-    bus: Option<Bus>,
-    limit: u64,
-) -> Result<Counts, RunFault>
-    // What the run promises is `Ran`: what is written is the names of the columns and the faults that are told in the
-    // frames of the log, and nothing else. Memory is wanted as for `faults`.
-    ensures ran { Ran (MakesFaultRecords groups.now telling) AsksForFaults bus limit result
+    ensures ran { Ran (MakesFaults format groups.now telling) AsksForFaults bus limit result
         (turn R.remaining R.has_failed source.old source.new) (turn W.written W.has_failed sink.old sink.new) }
 
     // What was written is passed on at the end, and before each read, the names of the columns before the first.
-    ensures flushed { PassesOn result true (W.is_flushed sink.new) }
+    ensures flushed { PassesOn result (begins_flushed format (W.is_flushed sink.old)) (W.is_flushed sink.new) }
 {
-    let writing = Writing {
-        form: FaultForm::Record,
-        groups,
-    };
-    run_headed(
-        COLUMNS,
-        FaultNews::new(alloc, writing, telling),
-        source,
-        sink,
-        bus,
-        limit,
-    )
+    let form = format;
+    let account = FaultNews::new(alloc, Writing { form, groups }, telling);
+    match format {
+        Format::Line => run_over(account, source, sink, bus, limit),
+        Format::Record => run_headed(COLUMNS, account, source, sink, bus, limit),
+    }
 }

@@ -1,10 +1,11 @@
 //! The summary of the report of a log: the run that writes it, and the account of frames that it writes.
-ghost use Rattle.std.specs.Prelude.{◌<◌, [], List, true};
+ghost use Rattle.std.specs.Prelude.{◌<◌, [], List};
 ghost use Rattle.std.specs.Prelude.{IfOk, OnErr, Err};
 ghost use Rattle.j39_memory.specs.ByOrigin.{pairs_of};
 ghost use Rattle.j39_frame.specs.Frame.{FrameRecord};
 ghost use Rattle.std.specs.List.{flat_map};
 ghost use Rattle.j39_io.specs.Turn.{turn};
+ghost use Rattle.j39_listen.specs.Headed.{begins_flushed};
 ghost use Rattle.j39_listen.specs.Heard.{AreHeard, Hearing};
 ghost use Rattle.j39_listen.specs.Listening.{Hears};
 ghost use Rattle.j39_listen.specs.Report.{Entry, entries_of};
@@ -12,23 +13,25 @@ ghost use Rattle.j39_listen.specs.Output.{nothing};
 ghost use Rattle.j39_listen.specs.Ran.{PassesOn, Ran};
 ghost use Rattle.j39_reports.specs.SummarySoFar.{HasSummed, NotesFrame};
 ghost use Rattle.j39_reports.specs.RowsSoFar.{AreRowsOf};
-ghost use Rattle.j39_reports.specs.SummaryRun.{AsksForRows, MakesSummary, MakesSummaryRecords};
+ghost use Rattle.j39_reports.specs.SummaryRun.{AsksForRows, MakesSummary};
 
 use crate::summaries::lines::put_rows;
-use crate::summaries::rows::{RowForm, Rows};
+use crate::summaries::rows::Rows;
 use j39_frame::Frame;
 use j39_groups::Groups;
 use j39_io::{DeviceFault, Sink, Source};
-use j39_listen::{Account, Counts, LineFault, Listener, Made, RunFault, run_headed, run_over};
+use j39_listen::{Account, Counts, Format, LineFault, Listener, Made, RunFault, run_headed, run_over};
 use j39_log::Bus;
 use std::alloc::{AllocError, Global};
 
-/// Writes the summary of a log of at most `limit` bytes by a table of parameters: a line for each parameter that a
-/// controller on the bus reported, in the order of their first values. Without a bus it is that of the first frame in
-/// the log.
+/// Writes the summary of a log of at most `limit` bytes by a table of parameters: a line, or a record of
+/// comma-separated values (RFC 4180), for each parameter that a controller on the bus reported, in the order of their
+/// first values. The names of the columns of records are written before the log is read. Without a bus it is that of
+/// the first frame in the log.
 pub fn summary<R: Source, W: Sink>(
     alloc: Global,
     groups: &Groups<'_>,
+    format: Format,
     source: &mut R,
     sink: &mut W,
     bus: Option<Bus>,
@@ -37,47 +40,17 @@ pub fn summary<R: Source, W: Sink>(
     // What the run promises is `Ran`: what is written is the summary of the log's report, and nothing else. Memory is
     // wanted only at a frame that announces a message, and at one where a message is heard that has a value of a
     // parameter without a row, or a text.
-    ensures ran { Ran (MakesSummary groups.now) (AsksForRows groups.now) bus limit result
-        (turn R.remaining R.has_failed source.old source.new) (turn W.written W.has_failed sink.old sink.new) }
-
-    // What was written is passed on at the end, and before each read.
-    ensures flushed { PassesOn result (W.is_flushed sink.old) (W.is_flushed sink.new) }
-{
-    run_over(
-        SummaryAccount::new(alloc, groups, RowForm::Line),
-        source,
-        sink,
-        bus,
-        limit,
-    )
-}
-
-/// Writes the same as comma-separated values (RFC 4180): the names of the columns, before the log is read, and after the
-/// whole log a record for each parameter.
-pub fn summary_csv<R: Source, W: Sink>(
-    alloc: Global,
-    groups: &Groups<'_>,
-    source: &mut R,
-    sink: &mut W,
-    bus: Option<Bus>,
-    limit: u64,
-) -> Result<Counts, RunFault>
-    // What the run promises is `Ran`: what is written is the names of the columns and the summary of the log's report in
-    // records, and nothing else. Memory is wanted as for `summary`.
-    ensures ran { Ran (MakesSummaryRecords groups.now) (AsksForRows groups.now) bus limit result
+    ensures ran { Ran (MakesSummary format groups.now) (AsksForRows groups.now) bus limit result
         (turn R.remaining R.has_failed source.old source.new) (turn W.written W.has_failed sink.old sink.new) }
 
     // What was written is passed on at the end, and before each read, the names of the columns before the first.
-    ensures flushed { PassesOn result true (W.is_flushed sink.new) }
+    ensures flushed { PassesOn result (begins_flushed format (W.is_flushed sink.old)) (W.is_flushed sink.new) }
 {
-    run_headed(
-        COLUMNS,
-        SummaryAccount::new(alloc, groups, RowForm::Record),
-        source,
-        sink,
-        bus,
-        limit,
-    )
+    let account = SummaryAccount::new(alloc, groups, format);
+    match format {
+        Format::Line => run_over(account, source, sink, bus, limit),
+        Format::Record => run_headed(COLUMNS, account, source, sink, bus, limit),
+    }
 }
 
 /// The names of the columns of records.
@@ -88,7 +61,7 @@ const COLUMNS: &[u8] =
 #[derive(Drop)]
 pub(crate) struct SummaryAccount<'g, 't> {
     groups: &'g Groups<'t>,
-    form: RowForm,
+    form: Format,
     listener: Listener,
     rows: Rows<'t>,
     messages: u64,
@@ -96,7 +69,7 @@ pub(crate) struct SummaryAccount<'g, 't> {
 
 impl<'g, 't> SummaryAccount<'g, 't> {
     /// The summary of no frames.
-    pub fn new(alloc: Global, groups: &'g Groups<'t>, form: RowForm) -> SummaryAccount<'g, 't>
+    pub fn new(alloc: Global, groups: &'g Groups<'t>, form: Format) -> SummaryAccount<'g, 't>
         ensures { HasSummed form groups.entry.now result [] nothing }
     {
         SummaryAccount {
@@ -114,9 +87,9 @@ impl<'g, 't> Account for SummaryAccount<'g, 't> {
     ghost use Rattle.j39_groups.specs.Row.{RowRecord};
     ghost use Rattle.j39_reports.specs.SummarySoFar.{HasSummed};
     ghost use Rattle.j39_reports.specs.SummaryRun.{AsksForRows, MakesSummaryIn};
-    ghost use Rattle.j39_reports.specs.declared.summaries.rows.RowForm.{RowForm};
+    ghost use Rattle.j39_listen.specs.declared.format.Format.{Format};
 
-    ghost Subject = { RowForm × List RowRecord };
+    ghost Subject = { Format × List RowRecord };
 
     ghost has_met = { λ subject bus. HasSummed subject.0 subject.1 };
 

@@ -5,18 +5,19 @@ ghost use Rattle.j39_frame.specs.Frame.{FrameRecord};
 ghost use Rattle.j39_groups.specs.Row.{RowRecord};
 ghost use Rattle.j39_listen.specs.Output.{Output};
 ghost use Rattle.j39_listen.specs.Report.{Entry};
+ghost use Rattle.j39_listen.specs.declared.format.Format.TheVariants.{Line};
 ghost use Rattle.j39_reports.specs.Bounds.{IsLeast, IsMost};
 ghost use Rattle.j39_reports.specs.SummaryRun.{MakesSummary};
 ghost use Rattle.j39_reports.specs.Summary.{AreApart, Number, comparable_with, firsts, have_one_origin, range_of, summary_of};
 
 use j39_listen::laws::{one_report, some_report};
 
-/// By each table a list of frames has one summary: at most one, and at least one.
+/// By each table a list of frames has one summary in lines: at most one, and at least one.
 pub fn one_summary()
     ensures at_most { (groups : List RowRecord) (bus : List ℕ) (F : List FrameRecord) (x y : Output)
-        → MakesSummary groups bus F x → MakesSummary groups bus F y → x ≡ y }
+        → MakesSummary Line groups bus F x → MakesSummary Line groups bus F y → x ≡ y }
     ensures at_least { (groups : List RowRecord) (bus : List ℕ) (F : List FrameRecord)
-        → (x : Output) × MakesSummary groups bus F x }
+        → (x : Output) × MakesSummary Line groups bus F x }
 {
     one_report();
     some_report();

@@ -14,19 +14,19 @@ use crate::parts::put_parts;
 use crate::summaries::deeds::{Deeds, Span};
 use crate::summaries::kept::Kept;
 use crate::summaries::records::put_record_head;
-use crate::summaries::rows::RowForm;
 use arrayvec::ArrayVec;
 use j39_frame::Origin;
 use j39_groups::{Groups, Value, put_value, scaled_text};
 use j39_io::printing::push_hex;
 use j39_io::{DeviceFault, Sink, put_all, put_behind_comma};
+use j39_listen::Format;
 use j39_log::push_stamp;
 use j39_memory::ByOrigin;
 
 /// Writes a line for each row, or a record, in their order.
 pub(crate) fn put_rows<W: Sink>(
     rows: &ByOrigin<Deeds<'_>>,
-    form: RowForm,
+    form: Format,
     groups: &Groups<'_>,
     sink: &mut W,
 ) -> Result<(), DeviceFault>
@@ -43,7 +43,7 @@ pub(crate) fn put_rows<W: Sink>(
 /// Writes a row: what it begins with, the range and the values, and what it ends with.
 #[tactic(auto, unfolding(crate::specs::RowText::row_in))]
 fn put_row<W: Sink>(
-    form: RowForm,
+    form: Format,
     origin: Origin,
     deeds: &Deeds<'_>,
     groups: &Groups<'_>,
@@ -60,7 +60,7 @@ fn put_row<W: Sink>(
 /// Writes what a row begins with.
 #[tactic(auto, unfolding(crate::specs::RowText::head_in))]
 fn put_head<W: Sink>(
-    form: RowForm,
+    form: Format,
     origin: Origin,
     deeds: &Deeds<'_>,
     groups: &Groups<'_>,
@@ -70,8 +70,8 @@ fn put_head<W: Sink>(
         result (turn W.written W.has_failed sink.old sink.new) }
 {
     match form {
-        RowForm::Line => put_all(sink, line_head_of(origin, deeds).as_slice()),
-        RowForm::Record => put_record_head(origin, deeds, groups, sink),
+        Format::Line => put_all(sink, line_head_of(origin, deeds).as_slice()),
+        Format::Record => put_record_head(origin, deeds, groups, sink),
     }
 }
 
@@ -97,7 +97,7 @@ fn line_head_of(origin: Origin, deeds: &Deeds<'_>) -> ArrayVec<u8, 160>
 
 /// Writes the least number, the most and their unit, the first value and the last.
 #[tactic(auto, unfolding(crate::specs::RowText::values_in))]
-fn put_values<W: Sink>(form: RowForm, deeds: &Deeds<'_>, sink: &mut W) -> Result<(), DeviceFault>
+fn put_values<W: Sink>(form: Format, deeds: &Deeds<'_>, sink: &mut W) -> Result<(), DeviceFault>
     ensures { Puts (values_in form (option_map range_of_span deeds.now.range) (kept_value deeds.now.first.value) (kept_value deeds.now.last.value))
         result (turn W.written W.has_failed sink.old sink.new) }
 {
@@ -109,7 +109,7 @@ fn put_values<W: Sink>(form: RowForm, deeds: &Deeds<'_>, sink: &mut W) -> Result
 /// Writes the least number, the most and their unit, or what stands where there is no number.
 #[tactic(auto, unfolding(crate::specs::RowText::range_in))]
 fn put_range<W: Sink>(
-    form: RowForm,
+    form: Format,
     range: &Option<Span<'_>>,
     sink: &mut W,
 ) -> Result<(), DeviceFault>
@@ -124,17 +124,17 @@ fn put_range<W: Sink>(
 
 /// What stands where there is no number.
 #[tactic(auto, unfolding(crate::specs::RowText::no_range))]
-fn no_range(form: RowForm) -> &'static [u8]
+fn no_range(form: Format) -> &'static [u8]
     ensures { result.now ≡ no_range form }
 {
     match form {
-        RowForm::Line => b" - - -",
-        RowForm::Record => b",,,",
+        Format::Line => b" - - -",
+        Format::Record => b",,,",
     }
 }
 
 #[tactic(auto, unfolding(crate::specs::RowText::range_in))]
-fn put_span<W: Sink>(form: RowForm, span: &Span<'_>, sink: &mut W) -> Result<(), DeviceFault>
+fn put_span<W: Sink>(form: Format, span: &Span<'_>, sink: &mut W) -> Result<(), DeviceFault>
     ensures { Puts (range_in form (Some (range_of_span span.now))) result (turn W.written W.has_failed sink.old sink.new) }
 {
     put_bounds(form, span, sink)?;
@@ -143,7 +143,7 @@ fn put_span<W: Sink>(form: RowForm, span: &Span<'_>, sink: &mut W) -> Result<(),
 
 /// Writes the least number and the most.
 #[tactic(auto, unfolding(crate::specs::RowText::bounds_in))]
-fn put_bounds<W: Sink>(form: RowForm, span: &Span<'_>, sink: &mut W) -> Result<(), DeviceFault>
+fn put_bounds<W: Sink>(form: Format, span: &Span<'_>, sink: &mut W) -> Result<(), DeviceFault>
     ensures { Puts (bounds_in form (range_of_span span.now)) result (turn W.written W.has_failed sink.old sink.new) }
 {
     let between = separator(form);
@@ -155,21 +155,21 @@ fn put_bounds<W: Sink>(form: RowForm, span: &Span<'_>, sink: &mut W) -> Result<(
 
 /// Writes the unit of the numbers, in a record in quotes where it must be.
 #[tactic(auto, unfolding(crate::specs::RowText::unit_in))]
-fn put_unit<W: Sink>(form: RowForm, unit: &[u8], sink: &mut W) -> Result<(), DeviceFault>
+fn put_unit<W: Sink>(form: Format, unit: &[u8], sink: &mut W) -> Result<(), DeviceFault>
     ensures { Puts (unit_in form unit.now) result (turn W.written W.has_failed sink.old sink.new) }
 {
     match form {
-        RowForm::Line => {
+        Format::Line => {
             let parts: [&[u8]; 2] = [b" ", unit];
             put_parts(&parts, sink)
         }
-        RowForm::Record => put_behind_comma(unit, sink),
+        Format::Record => put_behind_comma(unit, sink),
     }
 }
 
 /// Writes a value, behind what stands before a column.
 #[tactic(auto, unfolding(crate::specs::RowText::value_in))]
-fn put_column<W: Sink>(form: RowForm, kept: &Kept<'_>, sink: &mut W) -> Result<(), DeviceFault>
+fn put_column<W: Sink>(form: Format, kept: &Kept<'_>, sink: &mut W) -> Result<(), DeviceFault>
     ensures { Puts (value_in form (kept_value kept.now)) result (turn W.written W.has_failed sink.old sink.new) }
 {
     put_all(sink, separator(form))?;
@@ -178,12 +178,12 @@ fn put_column<W: Sink>(form: RowForm, kept: &Kept<'_>, sink: &mut W) -> Result<(
 
 /// What stands before a column.
 #[tactic(auto, unfolding(crate::specs::RowText::separator_of))]
-fn separator(form: RowForm) -> &'static [u8]
+fn separator(form: Format) -> &'static [u8]
     ensures { result.now ≡ separator_of form }
 {
     match form {
-        RowForm::Line => b" ",
-        RowForm::Record => b",",
+        Format::Line => b" ",
+        Format::Record => b",",
     }
 }
 
@@ -208,7 +208,7 @@ fn put_kept<W: Sink>(kept: &Kept<'_>, sink: &mut W) -> Result<(), DeviceFault>
 /// Writes what a row ends with: a line with what the table calls the parameter.
 #[tactic(auto, unfolding(crate::specs::RowText::end_in))]
 fn put_end<W: Sink>(
-    form: RowForm,
+    form: Format,
     groups: &Groups<'_>,
     origin: Origin,
     sink: &mut W,
@@ -216,8 +216,8 @@ fn put_end<W: Sink>(
     ensures { Puts (end_in form groups.now origin.pgn origin.spn) result (turn W.written W.has_failed sink.old sink.new) }
 {
     match form {
-        RowForm::Line => put_name(groups, origin.pgn, origin.spn, sink),
-        RowForm::Record => put_all(sink, b"\r\n"),
+        Format::Line => put_name(groups, origin.pgn, origin.spn, sink),
+        Format::Record => put_all(sink, b"\r\n"),
     }
 }
 

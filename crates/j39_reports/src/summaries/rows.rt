@@ -18,15 +18,6 @@ use j39_listen::Heard;
 use j39_memory::ByOrigin;
 use std::alloc::{AllocError, Global};
 
-/// How a row is written.
-#[derive(Clone, Copy)]
-pub(crate) enum RowForm {
-    /// As a line.
-    Line,
-    /// As a record of comma-separated values.
-    Record,
-}
-
 /// How many places of rows are remembered.
 const GUESSES: usize = 1024;
 

@@ -1,6 +1,6 @@
 use Rattle.std.proofs.Common.{[]}
 use Rattle.j39_listen.specs.Output.{nodes_of}
-use Rattle.j39_listen.specs.declared.node_list.NodeForm.TheVariants.{Line}
+use Rattle.j39_listen.specs.declared.format.Format.TheVariants.{Line}
 use Rattle.j39_listen.proofs.NodeLemmas.{nodes_text-none}
 use Rattle.j39_listen.proofs.node_list.nodes.Goals as goal
 

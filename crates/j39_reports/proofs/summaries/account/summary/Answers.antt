@@ -1,7 +1,11 @@
 use Rattle.std.proofs.Common.{refl}
 use Rattle.j39_listen.specs.Output.{nothing}
-use Rattle.j39_reports.specs.declared.summaries.rows.RowForm.TheVariants.{Line}
 use Rattle.j39_reports.proofs.summaries.account.summary.Goals as goal
 
-pub returns-clause-ran : goal.returns-clause-ran
-returns-clause-ran g c = c.run_over.ensures.ran (Line, c.args.groups.now) nothing (λ name. c.new.ensures) refl
+pub returns-in-Line-clause-ran : goal.returns-in-Line-clause-ran
+returns-in-Line-clause-ran g c = rw c.in-Line.is (rw c.in-Line.is at
+    (c.run_over.ensures.ran (c.args.format, c.args.groups.now) nothing (λ name. c.new.ensures) refl))
+
+pub returns-in-Record-clause-ran : goal.returns-in-Record-clause-ran
+returns-in-Record-clause-ran g c = rw c.in-Record.is (rw c.in-Record.is at
+    (c.run_headed.ensures.ran (c.args.format, c.args.groups.now) nothing (λ name. c.new.ensures) refl))

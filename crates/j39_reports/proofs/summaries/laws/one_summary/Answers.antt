@@ -1,6 +1,6 @@
 use Rattle.std.proofs.Common.{ap, sym, ◌∙◌, refl}
 use Rattle.j39_reports.specs.SummaryRun.{output_of}
-use Rattle.j39_reports.specs.declared.summaries.rows.RowForm.TheVariants.{Line}
+use Rattle.j39_listen.specs.declared.format.Format.TheVariants.{Line}
 use Rattle.j39_reports.proofs.summaries.laws.one_summary.Goals as goal
 
 pub returns-clause-at_most : goal.returns-clause-at_most
