@@ -1,6 +1,5 @@
 -- The command `faults [--bus B] [--table T] [--all] [--csv] [FILE]`.
-use Rattle.std.specs.Prelude.{◌≡◌, ◌∷◌, [], ℕ, Bool, List, Option, codes}
-use Rattle.std.specs.Prelude.{if◌then◌else◌}
+use Rattle.std.specs.Prelude.{◌≡◌, ◌∷◌, [], ℕ, Bool, List, Option, codes, if◌then◌else◌}
 use Rattle.clap.specs.Words.{App, Text, new_app, with_rule}
 use Rattle.j39_reports.specs.FaultAsking.{AsksForFaults}
 use Rattle.j39_reports.specs.FaultRun.{MakesFaults}

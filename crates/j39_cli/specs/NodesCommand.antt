@@ -2,14 +2,12 @@
 use Rattle.std.specs.Prelude.{◌≡◌, ◌∷◌, [], ℕ, Bool, List, Option, codes}
 use Rattle.clap.specs.Words.{App, Text, new_app, with_rule}
 use Rattle.j39_listen.specs.Asking.{AsksNowhere}
-use Rattle.j39_listen.specs.Headed.{MakesNodeRecords}
-use Rattle.j39_listen.specs.Output.{Making, MakesNodes}
+use Rattle.j39_listen.specs.Headed.{MakesNodes}
 use Rattle.j39_cli.specs.Answer.{IsBusChecked, IsTask}
 use Rattle.j39_cli.specs.Form.{Form, Meaning, flag, option, value}
 use Rattle.j39_cli.specs.LogCommand.{format_of, runs, with_log}
 use Rattle.j39_cli.specs.Rules.{flag_rule}
 use Rattle.j39_listen.specs.declared.format.Format.{Format}
-use Rattle.j39_listen.specs.declared.format.Format.TheVariants.{Line, Record}
 use Rattle.j39_cli.specs.declared.task.LogInput.{LogInput}
 use Rattle.j39_cli.specs.declared.task.Task.{Task}
 use Rattle.j39_cli.specs.declared.task.Task.TheVariants.{Nodes}
@@ -29,10 +27,5 @@ nodes_form bus csv file = record {
   Answers = IsBusChecked bus (IsTask (IsNodesTask bus csv file));
 }
 
--- what it makes of the frames
-abbrev pub nodes_in : Format → Making
-nodes_in Line = MakesNodes
-nodes_in Record = MakesNodeRecords
-
 abbrev pub nodes_meaning : LogInput → Format → Meaning
-nodes_meaning input format = runs (λ _. AsksNowhere) (λ _. nodes_in format) input
+nodes_meaning input format = runs (λ _. AsksNowhere) (λ _. MakesNodes format) input

@@ -3,10 +3,11 @@ ghost use Rattle.std.specs.Prelude.{◌≡◌, OnOk, codes, true};
 ghost use Rattle.j39_io.specs.Turn.{turn};
 ghost use Rattle.clap.specs.Words.{found_of};
 ghost use Rattle.j39_listen.specs.Asking.{AsksNowhere};
+ghost use Rattle.j39_listen.specs.Headed.{MakesNodes};
 ghost use Rattle.j39_listen.specs.Ran.{Ran};
 ghost use Rattle.j39_cli.specs.CommandWords.{IsAnswered, command_found};
 ghost use Rattle.j39_cli.specs.LogCommand.{log_limit};
-ghost use Rattle.j39_cli.specs.NodesCommand.{nodes_app, nodes_in};
+ghost use Rattle.j39_cli.specs.NodesCommand.{nodes_app};
 ghost use Rattle.j39_cli.specs.Rules.{IsMade};
 
 use crate::command::new_command;
@@ -65,7 +66,7 @@ pub(crate) fn run<R: Source, W: Sink>(
     source: &mut R,
     sink: &mut W,
 ) -> Result<Counts, RunFault>
-    ensures ran { Ran (nodes_in format) AsksNowhere bus.now log_limit result
+    ensures ran { Ran (MakesNodes format) AsksNowhere bus.now log_limit result
         (turn R.remaining R.has_failed source.old source.new) (turn W.written W.has_failed sink.old sink.new) }
     ensures flushed { OnOk result (W.is_flushed sink.new ≡ true) }
 {

@@ -17,6 +17,7 @@ abbrev pub begins_flushed : Format → Bool → Bool
 begins_flushed Line before = before
 begins_flushed Record before = true
 
--- of the nodes the names of the columns, and a record for each
-abbrev pub MakesNodeRecords : Making
-MakesNodeRecords = Headed node_columns (MakesNodesIn Record)
+-- a line for each node, or the names of the columns and a record for each
+abbrev pub MakesNodes : Format → Making
+MakesNodes Line = MakesNodesIn Line
+MakesNodes Record = Headed node_columns (MakesNodesIn Record)

@@ -9,7 +9,6 @@ use Rattle.j39_listen.specs.Answers.{AreAnswers, sent_text}
 use Rattle.j39_listen.specs.Heard.{AreHeard, Hearing}
 use Rattle.j39_listen.specs.Nodes.{AreNodes, Holding, nodes_text}
 use Rattle.j39_listen.specs.declared.format.Format.{Format}
-use Rattle.j39_listen.specs.declared.format.Format.TheVariants.{Line}
 use Rattle.j39_listen.specs.Report.{Form, entries_of, entry_text, report_text}
 
 -- a text, for so many messages, in so many lines
@@ -54,10 +53,6 @@ nodes_of form held = record { text = nodes_text form held; messages = 0; lines =
 -- the nodes that hold an address after the frames, whatever their bus is called, in either form
 abbrev pub MakesNodesIn : Format → Making
 MakesNodesIn form bus F output = (held : List Holding) × AreNodes F held × (output ≡ nodes_of form held)
-
--- a line for each
-abbrev pub MakesNodes : Making
-MakesNodes = MakesNodesIn Line
 
 -- a line for each frame that is sent
 abbrev pub answers_of : List ℕ → List Hearing → List FrameRecord → Output

@@ -8,13 +8,14 @@ ghost use Rattle.j39_frame.specs.Frame.{FrameRecord};
 ghost use Rattle.j39_address.specs.Claims.{Knows, holder_in};
 ghost use Rattle.j39_listen.specs.NodesSoFar.{HasNoted};
 ghost use Rattle.j39_listen.specs.Nodes.{AreNodes, Holding, node_at, node_in, nodes_text};
-ghost use Rattle.j39_listen.specs.Headed.{MakesNodeRecords};
-ghost use Rattle.j39_listen.specs.Output.{MakesNodes, nodes_of};
+ghost use Rattle.j39_listen.specs.Headed.{MakesNodes};
+ghost use Rattle.j39_listen.specs.Output.{nodes_of};
 ghost use Rattle.j39_listen.specs.Report.{name_text};
 ghost use Rattle.hex.specs.Hex.{encode_upper};
 ghost use Rattle.j39_io.specs.Puts.{Puts};
 ghost use Rattle.j39_listen.specs.Asking.{AsksNowhere};
 ghost use Rattle.j39_listen.specs.Ran.{PassesOn, Ran};
+ghost use Rattle.j39_listen.specs.declared.format.Format.TheVariants.{Line, Record};
 ghost use Rattle.j39_listen.specs.declared.running.RunFault.TheVariants.{Memory};
 
 use crate::Counts;
@@ -39,11 +40,13 @@ pub fn nodes<R: Source, W: Sink>(
     bus: Option<Bus>,
     limit: u64,
 ) -> Result<Counts, RunFault>
-    // What the run promises is `Ran`: what is written is who holds an address after the frames of the log, and nothing
-    // else. Memory is wanted nowhere.
-    ensures ran { Ran MakesNodes AsksNowhere bus limit result
-        (turn R.remaining R.has_failed source.old source.new) (turn W.written W.has_failed sink.old sink.new) }
+    // Memory is wanted nowhere.
     ensures memory { result ≢ Err Memory }
+
+    // What the run promises is `Ran`: what is written is who holds an address after the frames of the log, and nothing
+    // else.
+    ensures ran { Ran (MakesNodes Line) AsksNowhere bus limit result
+        (turn R.remaining R.has_failed source.old source.new) (turn W.written W.has_failed sink.old sink.new) }
 
     // What was written is passed on at the end, and before each read.
     ensures flushed { PassesOn result (W.is_flushed sink.old) (W.is_flushed sink.new) }
@@ -59,11 +62,13 @@ pub fn nodes_csv<R: Source, W: Sink>(
     bus: Option<Bus>,
     limit: u64,
 ) -> Result<Counts, RunFault>
-    // What the run promises is `Ran`: what is written is the names of the columns and who holds an address after the
-    // frames of the log, and nothing else. Memory is wanted nowhere.
-    ensures ran { Ran MakesNodeRecords AsksNowhere bus limit result
-        (turn R.remaining R.has_failed source.old source.new) (turn W.written W.has_failed sink.old sink.new) }
+    // Memory is wanted nowhere.
     ensures memory { result ≢ Err Memory }
+
+    // What the run promises is `Ran`: what is written is the names of the columns and who holds an address after the
+    // frames of the log, and nothing else.
+    ensures ran { Ran (MakesNodes Record) AsksNowhere bus limit result
+        (turn R.remaining R.has_failed source.old source.new) (turn W.written W.has_failed sink.old sink.new) }
 
     // What was written is passed on at the end, and before each read, the names of the columns before the first.
     ensures flushed { PassesOn result true (W.is_flushed sink.new) }

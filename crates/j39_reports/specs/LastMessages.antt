@@ -1,6 +1,5 @@
 -- What is kept of a message of faults, for each address.
-use Rattle.std.specs.Prelude.{◌&&◌, not, ℕ, Bool, List, Option, Some, None, bytes_eq, map, option_map, slice_index_or}
-use Rattle.std.specs.Prelude.{take, true}
+use Rattle.std.specs.Prelude.{◌&&◌, not, ℕ, Bool, List, Option, Some, None, bytes_eq, map, option_map, slice_index_or, take, true}
 use Rattle.j39_memory.specs.declared.stored.Stored.{Stored}
 use Rattle.j39_memory.specs.Stored.{value_of}
 use Rattle.j39_frame.specs.Origin.{is_same_name}

@@ -1,7 +1,9 @@
 //! What is made of a log, in the room of a page.
 ghost use Rattle.std.specs.Prelude.{◌≡◌, ◌≢◌, ◌<◌, ◌≤◌, length, take, IfErr, IfOk, IsOk, OnErr, OnOk, Ok, Err};
 ghost use Rattle.j39_groups.specs.Printed.{rows_text};
-ghost use Rattle.j39_listen.specs.Output.{MakesNodes, MakesReport};
+ghost use Rattle.j39_listen.specs.Headed.{MakesNodes};
+ghost use Rattle.j39_listen.specs.Output.{MakesReport};
+ghost use Rattle.j39_listen.specs.declared.format.Format.TheVariants.{Line};
 ghost use Rattle.j39_listen.specs.declared.running.RunFault.TheVariants as fault;
 ghost use Rattle.j39_table.specs.FaultWords.{fault_text};
 ghost use Rattle.j39_web.specs.Room.{HasNoRoom, room_in, written_in};
@@ -95,9 +97,9 @@ pub fn values(
 
 /// Writes who holds which address at the end of a log.
 pub fn nodes(log: &[u8], bus: Option<Bus>, room: &mut [u8]) -> Result<LogText, Refusal>
-    ensures nodes { IfOk result (λ text. IsMade MakesNodes bus log.now text room.new) }
+    ensures nodes { IfOk result (λ text. IsMade (MakesNodes Line) bus log.now text room.new) }
     ensures fits { IfOk result (λ text. text.bytes < length room.new) }
-    ensures too_small { result ≡ Err TooSmall → Overflows MakesNodes bus log.now room.new }
+    ensures too_small { result ≡ Err TooSmall → Overflows (MakesNodes Line) bus log.now room.new }
     ensures memory { result ≢ Err Memory }
 {
     let mut source = LogBytes::new(log);

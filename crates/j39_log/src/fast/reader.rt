@@ -1,18 +1,19 @@
-//! A quick reader of the line of a frame of the run's bus, as `candump` writes it: where the length is the common one, no
-//! part's end has to be looked for.
-ghost use Rattle.std.specs.Prelude.{◌≡◌, ◌++◌, ◌∷◌, IfSome, codes};
+//! A quick reader of the line of a frame of the run's bus, as `candump` writes it: where its length is that of a line with
+//! eight bytes of data, no part's end has to be looked for.
+ghost use Rattle.std.specs.Prelude.{◌≡◌, ◌⊎◌, ◌≤◌, ◌++◌, ◌∷◌, ℕ, List, IfSome, codes, length};
+ghost use Rattle.std.specs.Str.Parse.{AllDigits};
 ghost use Rattle.j39_log.specs.Bus.{IsBusName};
-ghost use Rattle.j39_log.specs.Line.{IsFrameLine};
+ghost use Rattle.j39_log.specs.Line.{IsBody, IsFrameLine};
 ghost use Rattle.j39_io.specs.Chars.{space};
 
 use crate::bus::are_same;
-use crate::fast::plain::frame_at;
+use crate::fast::plain::{after_stamp, frame_at};
 use crate::line::body_of;
 use crate::{Bus, LastSecond};
 use j39_frame::Frame;
 
-/// The bytes of a line of a bus with a name of four bytes, with six decimals and eight bytes of data.
-const LEN: usize = 50;
+/// The bytes of a line with six decimals and eight bytes of data, without the name of its bus.
+const LEN: usize = 46;
 
 /// The frame of this bus that a line spells, where its length is the common one. `None` says nothing of the line.
 #[inline(always)]
@@ -20,37 +21,86 @@ pub(crate) fn frame_on(line: &[u8], second: &mut LastSecond, bus: &Bus) -> Optio
     ensures { IfSome result (λ frame. IsFrameLine line.now bus.now frame) }
 {
     let body = body_of(line);
-    if body.len() != LEN {
-        return None;
+    let len = LEN + bus.bytes().len();
+    if body.len() == len {
+        frame_in::<0>(line, body, second, bus)
+    } else if body.len() == len + 3 {
+        frame_with_nine(line, body, second, bus)
+    } else {
+        None
     }
+}
+
+/// The same of a line with nine decimals. Out of line: so one with six pays nothing for it.
+#[inline(never)]
+fn frame_with_nine(
+    line: &[u8],
+    body: &[u8],
+    second: &mut LastSecond,
+    bus: &Bus,
+) -> Option<Frame>
+    requires body { IsBody line.now body.now }
+    requires short { length body.now ≤ 64 }
+    ensures { IfSome result (λ frame. IsFrameLine line.now bus.now frame) }
+{
+    frame_in::<3>(line, body, second, bus)
+}
+
+/// The same of the body of a line, with so many decimals behind the sixth.
+#[inline(always)]
+fn frame_in<const CUT: usize>(
+    line: &[u8],
+    body: &[u8],
+    second: &mut LastSecond,
+    bus: &Bus,
+) -> Option<Frame>
+    requires body { IsBody line.now body.now }
+    requires short { length body.now ≤ 64 }
+    ensures { IfSome result (λ frame. IsFrameLine line.now bus.now frame) }
+{
     let (front, rest) = body.split_first_chunk::<18>()?;
     let stamp = second.stamp_of(front)?;
-    let later = after_stamp(rest)?;
+    let later = after_decimals::<CUT>(rest)?;
     let third = after_name(later, bus)?;
     frame_at(stamp, third)
 }
 
-/// What follows `)` and a space.
+/// What follows the sixth decimal and those behind it, `)` and a space.
 #[inline(always)]
-fn after_stamp(text: &[u8]) -> Option<&[u8]>
-    ensures { IfSome result (λ later. text.now ≡ codes ") " ++ later.now) }
+fn after_decimals<const CUT: usize>(rest: &[u8]) -> Option<&[u8]>
+    ensures { IfSome result (λ later. (cut : List ℕ) × AllDigits 10 cut × ((length cut ≡ 0) ⊎ (length cut ≡ 3))
+        × (rest.now ≡ cut ++ (codes ") " ++ later.now))) }
 {
-    match text {
+    if CUT == 0 {
+        after_six(rest)
+    } else {
+        after_stamp(rest)
+    }
+}
+
+/// What follows six decimals, `)` and a space.
+#[inline(always)]
+fn after_six(rest: &[u8]) -> Option<&[u8]>
+    ensures { IfSome result (λ later. (cut : List ℕ) × AllDigits 10 cut × ((length cut ≡ 0) ⊎ (length cut ≡ 3))
+        × (rest.now ≡ cut ++ (codes ") " ++ later.now))) }
+{
+    match rest {
         [b')', b' ', later @ ..] => Some(later),
         _ => None,
     }
 }
 
-/// What follows the name of this bus and a space, where a text begins with them and the name has four bytes.
+/// What follows the name of this bus and a space, where a text begins with them.
 #[inline(always)]
 fn after_name<'a>(text: &'a [u8], bus: &Bus) -> Option<&'a [u8]>
     ensures { IfSome result (λ third. IsBusName bus.now × (text.now ≡ bus.now ++ (space ∷ third.now))) }
 {
-    if text.len() < 4 {
+    let name = bus.bytes();
+    if text.len() < name.len() {
         return None;
     }
-    let (name, later) = text.split_at(4);
-    if !are_same(name, bus.bytes()) {
+    let (front, later) = text.split_at(name.len());
+    if !are_same(front, name) {
         return None;
     }
     match later.split_first() {

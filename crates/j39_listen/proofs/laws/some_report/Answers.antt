@@ -3,11 +3,9 @@ use Rattle.j39_listen.proofs.Reported.{reported_leaves}
 use Rattle.j39_listen.proofs.Existing.{all_heard, heard_exists, report_exists}
 use Rattle.j39_listen.proofs.laws.some_report.Goals as goal
 
-pub returns-clause-at_a_frame : goal.returns-clause-at_a_frame
-returns-clause-at_a_frame c = λ groups. heard_exists (is_reported_in groups) (reported_leaves groups)
-
-pub returns-clause-heard : goal.returns-clause-heard
-returns-clause-heard c = λ groups. all_heard (is_reported_in groups) (reported_leaves groups)
-
-pub returns-clause-report : goal.returns-clause-report
-returns-clause-report c = report_exists
+pub returns : goal.returns
+returns c = record {
+  at_a_frame = λ groups. heard_exists (is_reported_in groups) (reported_leaves groups);
+  heard = λ groups. all_heard (is_reported_in groups) (reported_leaves groups);
+  report = report_exists;
+}
