@@ -5,8 +5,8 @@ use Rattle.j39_reports.proofs.fault_news.run.faults.Goals as goal
 
 pub returns-in-Line-clause-ran : goal.returns-in-Line-clause-ran
 returns-in-Line-clause-ran g c = rw c.in-Line.is (rw c.in-Line.is at (c.run_over.ensures.ran (c.args.format, record { rows = c.args.groups.now; which = c.args.telling })
-    (faults_of c.args.format c.args.groups.now c.args.telling []) (λ name. c.new.ensures) (none_told c.args.format c.args.groups.now c.args.telling)))
+    (faults_of c.args.format c.args.groups.now c.args.telling []) (λ name. c.new-account.ensures) (none_told c.args.format c.args.groups.now c.args.telling)))
 
 pub returns-in-Record-clause-ran : goal.returns-in-Record-clause-ran
 returns-in-Record-clause-ran g c = rw c.in-Record.is (rw c.in-Record.is at (c.run_headed.ensures.ran (c.args.format, record { rows = c.args.groups.now; which = c.args.telling })
-    (faults_of c.args.format c.args.groups.now c.args.telling []) (λ name. c.new.ensures) (none_told c.args.format c.args.groups.now c.args.telling)))
+    (faults_of c.args.format c.args.groups.now c.args.telling []) (λ name. c.new-account.ensures) (none_told c.args.format c.args.groups.now c.args.telling)))
