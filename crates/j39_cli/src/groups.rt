@@ -1,5 +1,5 @@
 //! The command `groups`: its words, and how it is performed.
-ghost use Rattle.std.specs.Prelude.{◌≡◌, OnOk, codes, true};
+ghost use Rattle.std.specs.Prelude.{◌≡◌, OnOk, codes, false, true};
 ghost use Rattle.clap.specs.Words.{found_of};
 ghost use Rattle.j39_io.specs.Puts.{Puts};
 ghost use Rattle.j39_io.specs.Turn.{turn};
@@ -61,6 +61,7 @@ pub(crate) fn perform<W: Sink, E: Sink>(groups: &Groups<'_>, sink: &mut W, err: 
         (turn E.written E.has_failed err.old err.new) }
     ensures flushed { result ≡ 0 → W.is_flushed sink.new ≡ true }
     ensures silent { result ≡ 0 → err.new ≡ err.old }
+    ensures passed_on { result ≡ 1 → E.has_failed err.new ≡ false → E.is_flushed err.new ≡ true }
 {
     status_of(put_lines(groups, sink), err)
 }

@@ -1,5 +1,5 @@
 //! What the commands that read a log have in common.
-ghost use Rattle.std.specs.Prelude.{◌≡◌, [], codes};
+ghost use Rattle.std.specs.Prelude.{◌≡◌, [], codes, false, true};
 ghost use Rattle.j39_io.specs.Turn.{Writes, turn};
 ghost use Rattle.clap.specs.Words.{App, with_rule};
 ghost use Rattle.j39_cli.specs.LogCommand.{IsTold, fault_text, with_log};
@@ -55,7 +55,8 @@ pub(crate) fn copy_of(bus: &Option<Bus>) -> Option<Bus>
 
 /// Says how a run ended, by its counts or its fault, and answers the exit status.
 pub(crate) fn tell_end<E: Sink>(end: Result<Counts, RunFault>, err: &mut E) -> u8
-    ensures { IsTold end result (turn E.written E.has_failed err.old err.new) }
+    ensures told { IsTold end result (turn E.written E.has_failed err.old err.new) }
+    ensures passed_on { E.has_failed err.new ≡ false → E.is_flushed err.new ≡ true }
 {
     match end {
         Ok(counts) => {
@@ -70,6 +71,7 @@ pub(crate) fn tell_end<E: Sink>(end: Result<Counts, RunFault>, err: &mut E) -> u
 pub(crate) fn tell_fault<E: Sink>(fault: RunFault, err: &mut E) -> u8
     ensures status { result ≡ 1 }
     ensures told { Writes (turn E.written E.has_failed err.old err.new) (error_line (fault_text fault) []) }
+    ensures passed_on { E.has_failed err.new ≡ false → E.is_flushed err.new ≡ true }
 {
     complain(err, words_of(fault).as_slice(), b"");
     1

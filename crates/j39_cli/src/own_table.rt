@@ -1,5 +1,5 @@
 //! What the program says of a file that is no table of parameters.
-ghost use Rattle.std.specs.Prelude.{◌≡◌};
+ghost use Rattle.std.specs.Prelude.{◌≡◌, false, true};
 ghost use Rattle.j39_io.specs.Turn.{Writes, turn};
 ghost use Rattle.j39_cli.specs.OwnTable.{table_line};
 
@@ -12,6 +12,7 @@ pub fn wrong_table<E: Sink>(file: &str, fault: TableFault, err: &mut E) -> u8
     ensures status { result ≡ 1 }
     ensures err { Writes (turn E.written E.has_failed err.old err.new)
         (table_line file.now fault) }
+    ensures passed_on { E.has_failed err.new ≡ false → E.is_flushed err.new ≡ true }
 {
     match fault {
         TableFault::Memory => complain(err, b"out of memory", b""),

@@ -35,6 +35,9 @@ pub fn perform<R: Source, W: Sink, E: Sink>(
     // A command that reads no log leaves the reader alone, and says nothing where all is well.
     ensures unread { reads_log task.now ≡ false → source.new ≡ source.old }
     ensures silent { reads_log task.now ≡ false → result ≡ 0 → err.new ≡ err.old }
+
+    // A fault that is told is passed on, where its writer has not failed.
+    ensures passed_on { result ≡ 1 → E.has_failed err.new ≡ false → E.is_flushed err.new ≡ true }
 {
     perform_with(alloc, &Groups::built_in(), task, source, sink, err)
 }
@@ -64,6 +67,9 @@ pub fn perform_with<R: Source, W: Sink, E: Sink>(
     // A command that reads no log leaves the reader alone, and says nothing where all is well.
     ensures unread { reads_log task.now ≡ false → source.new ≡ source.old }
     ensures silent { reads_log task.now ≡ false → result ≡ 0 → err.new ≡ err.old }
+
+    // A fault that is told is passed on, where its writer has not failed.
+    ensures passed_on { result ≡ 1 → E.has_failed err.new ≡ false → E.is_flushed err.new ≡ true }
 {
     match task {
         Task::Report {

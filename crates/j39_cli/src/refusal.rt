@@ -1,5 +1,5 @@
 //! What the program says where it has no task, or can't open the log.
-ghost use Rattle.std.specs.Prelude.{◌≡◌, ◌↔◌, codes};
+ghost use Rattle.std.specs.Prelude.{◌≡◌, ◌↔◌, codes, false, true};
 ghost use Rattle.j39_io.specs.Puts.{Puts};
 ghost use Rattle.j39_io.specs.Turn.{Writes, turn};
 ghost use Rattle.j39_cli.specs.Refusal.{IsHelp, IsWrongLine, error_line, error_words, out_words};
@@ -19,6 +19,10 @@ pub fn refuse<W: Sink, E: Sink>(fault: &ParseFault, out: &mut W, err: &mut E) ->
     ensures err { Writes (turn E.written E.has_failed err.old err.new) (error_words fault.now) }
     ensures silent_out { ¬ (IsHelp fault.now) → out.new ≡ out.old }
     ensures silent_err { IsHelp fault.now → err.new ≡ err.old }
+
+    // The words are passed on, where the writer has not failed.
+    ensures passed_out { IsHelp fault.now → W.has_failed out.new ≡ false → W.is_flushed out.new ≡ true }
+    ensures passed_err { ¬ (IsHelp fault.now) → E.has_failed err.new ≡ false → E.is_flushed err.new ≡ true }
 {
     match fault {
         ParseFault::Help(text) => {
@@ -46,6 +50,7 @@ pub fn unopened<E: Sink>(file: &str, err: &mut E) -> u8
     ensures status { result ≡ 1 }
     ensures err { Writes (turn E.written E.has_failed err.old err.new)
         (error_line (codes "cannot open ") file.now) }
+    ensures passed_on { E.has_failed err.new ≡ false → E.is_flushed err.new ≡ true }
 {
     complain(err, b"cannot open ", file.as_bytes());
     1
@@ -53,7 +58,8 @@ pub fn unopened<E: Sink>(file: &str, err: &mut E) -> u8
 
 /// Writes the text, and passes it on. A fault shows in the mark alone.
 pub(crate) fn show<S: Sink>(sink: &mut S, text: &[u8])
-    ensures { Writes (turn S.written S.has_failed sink.old sink.new) text.now }
+    ensures text { Writes (turn S.written S.has_failed sink.old sink.new) text.now }
+    ensures passed_on { S.has_failed sink.new ≡ false → S.is_flushed sink.new ≡ true }
 {
     if put_all(sink, text).is_ok() {
         let _ = sink.flush();
@@ -62,7 +68,8 @@ pub(crate) fn show<S: Sink>(sink: &mut S, text: &[u8])
 
 /// Writes a line of the program's own, and passes it on. A fault shows in the mark alone.
 pub(crate) fn complain<E: Sink>(err: &mut E, words: &[u8], name: &[u8])
-    ensures { Writes (turn E.written E.has_failed err.old err.new) (error_line words.now name.now) }
+    ensures text { Writes (turn E.written E.has_failed err.old err.new) (error_line words.now name.now) }
+    ensures passed_on { E.has_failed err.new ≡ false → E.is_flushed err.new ≡ true }
 {
     if put_line(err, words, name).is_ok() {
         let _ = err.flush();

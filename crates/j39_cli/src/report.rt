@@ -1,5 +1,5 @@
 //! The command `report`: its words, and how it is performed.
-ghost use Rattle.std.specs.Prelude.{◌≡◌, ◌⊎◌, OnOk, codes, true};
+ghost use Rattle.std.specs.Prelude.{◌≡◌, ◌⊎◌, OnOk, codes, false, true};
 ghost use Rattle.j39_io.specs.Turn.{turn};
 ghost use Rattle.clap.specs.Words.{found_of};
 ghost use Rattle.j39_listen.specs.Asking.{AsksForBoxes};
@@ -96,6 +96,7 @@ pub(crate) fn perform<R: Source, W: Sink, E: Sink>(
         (turn E.written E.has_failed err.old err.new) }
     ensures status { (result ≡ 0) ⊎ (result ≡ 1) }
     ensures flushed { result ≡ 0 → W.is_flushed sink.new ≡ true }
+    ensures passed_on { E.has_failed err.new ≡ false → E.is_flushed err.new ≡ true }
 {
     let Some(spns) = spns else {
         return tell_end(run(alloc, groups, format, bus, source, sink), err);

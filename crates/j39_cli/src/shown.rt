@@ -1,5 +1,5 @@
 //! What a command writes whole, where it reads no log.
-ghost use Rattle.std.specs.Prelude.{◌≡◌, [], OnOk, OnErr, codes, true};
+ghost use Rattle.std.specs.Prelude.{◌≡◌, [], OnOk, OnErr, codes, false, true};
 ghost use Rattle.j39_io.specs.Puts.{Puts};
 ghost use Rattle.j39_io.specs.Turn.{Writes, turn};
 ghost use Rattle.j39_cli.specs.WholeText.{IsShown};
@@ -15,6 +15,7 @@ pub(crate) fn show_text<W: Sink, E: Sink>(text: &[u8], sink: &mut W, err: &mut E
         (turn E.written E.has_failed err.old err.new) }
     ensures flushed { result ≡ 0 → W.is_flushed sink.new ≡ true }
     ensures silent { result ≡ 0 → err.new ≡ err.old }
+    ensures passed_on { result ≡ 1 → E.has_failed err.new ≡ false → E.is_flushed err.new ≡ true }
 {
     status_of(put_text(text, sink), err)
 }
@@ -24,6 +25,7 @@ pub(crate) fn status_of<E: Sink>(put: Result<(), DeviceFault>, err: &mut E) -> u
     ensures done { OnOk put ((result ≡ 0) × (err.new ≡ err.old)) }
     ensures failed { OnErr put ((result ≡ 1)
         × Writes (turn E.written E.has_failed err.old err.new) (error_line (codes "write failed") [])) }
+    ensures passed_on { OnErr put (E.has_failed err.new ≡ false → E.is_flushed err.new ≡ true) }
 {
     match put {
         Ok(()) => 0,

@@ -1,5 +1,5 @@
 //! The command `survey`: its words, and how it is performed.
-ghost use Rattle.std.specs.Prelude.{◌≡◌, codes, true};
+ghost use Rattle.std.specs.Prelude.{◌≡◌, codes, false, true};
 ghost use Rattle.j39_io.specs.Turn.{turn};
 ghost use Rattle.clap.specs.Words.{found_of};
 ghost use Rattle.j39_cli.specs.CommandWords.{IsAnswered, command_found};
@@ -65,6 +65,7 @@ pub(crate) fn perform<R: Source, W: Sink, E: Sink>(
         (turn W.written W.has_failed sink.old sink.new)
         (turn E.written E.has_failed err.old err.new) }
     ensures flushed { result ≡ 0 → W.is_flushed sink.new ≡ true }
+    ensures passed_on { result ≡ 1 → E.has_failed err.new ≡ false → E.is_flushed err.new ≡ true }
 {
     match j39_reports::survey(alloc, groups, source, sink, LOG_LIMIT) {
         Ok(()) => 0,
