@@ -1,5 +1,5 @@
 //! Stamps as text, backwards.
-ghost use Rattle.std.specs.Prelude.{◌≡◌, ◌≤◌, length};
+ghost use Rattle.std.specs.Prelude.{◌≡◌, ◌≤◌, ◌/◌, ◌^◌, length};
 ghost use Rattle.j39_io.specs.Printing.{last_digits};
 
 use j39_frame::Stamp;
@@ -45,7 +45,8 @@ impl Seconds {
     pub fn stamp_before(&mut self, out: &mut [u8], end: usize, stamp: Stamp) -> usize
         requires room { 19 ≤ end }
         requires within { end ≤ length out.old }
-        ensures { WritesBefore out.old out.new end result (stamp_text (stamp_micros stamp)) }
+        ensures written { WritesBefore out.old out.new end result (stamp_text (stamp_micros stamp)) }
+        ensures kept { seconds_value self.new ≡ stamp_micros stamp / 10 ^ 6 }
     {
         let micros = stamp.micros();
         let close = byte_before(out, end, b')');

@@ -48,7 +48,8 @@ impl Assembler {
 
     /// An assembler with no message open; it takes no memory.
     pub fn new(alloc: Global) -> Assembler
-        ensures { Stands [] result }
+        ensures stands { Stands [] result }
+        ensures empty { result ≡ new_assembler }
     {
         Self::empty(alloc)
     }
@@ -116,7 +117,8 @@ impl Assembler {
 
     /// Ends all messages of a source, and gives their memory back.
     pub fn forget(&mut self, source: u8)
-        ensures { (E : List Event) → Stands E self.old → Stands (E ++ Forget source ∷ []) self.new }
+        ensures stands { (E : List Event) → Stands E self.old → Stands (E ++ Forget source ∷ []) self.new }
+        ensures spare { self.new.has_spare ≡ self.old.has_spare }
     {
         self.leave_out(source);
     }

@@ -47,6 +47,8 @@ impl BroadcastCourse {
             → answer_of result ≡ answer_after message.now sent (stamp_micros now) }
         ensures sent { (sent : List FrameRecord) → HasSent (so_far message.now self.old) sent
             → HasSent (so_far message.now self.new) (with_answer sent (stamp_micros now) (answer_of result)) }
+        ensures step { PollStep (so_far message.now self.old) (stamp_micros now) (answer_of result)
+            (so_far message.now self.new) }
     {
         self.step(message, now)
     }

@@ -21,5 +21,5 @@ returns-clause-head c =
     let heard = c.args.heard.now in
     before_end _ _ 48 _ _ (omega arith)
     (before_then _ _ _ _ _ _ _ _ (before_then _ _ _ _ _ _ _ _ (before_then _ _ _ _ _ _ _ _ (before_then _ _ _ _ _ _ _ _ (before_then _ _ _ _ _ _ _ _ (before_then _ _ _ _ _ _ _ _ (before_then _ _ _ _ _ _ _ _
-    c.byte_before-last.ensures c.group_before-group.ensures.written) c.byte_before-third.ensures) c.name_before-name.ensures.written) c.byte_before-second.ensures) c.hex_before-address.ensures.written) c.byte_before-first.ensures) c.stamp_before.ensures)
+    c.byte_before-last.ensures c.group_before-group.ensures.written) c.byte_before-third.ensures) c.name_before-name.ensures.written) c.byte_before-second.ensures) c.hex_before-address.ensures.written) c.byte_before-first.ensures) c.stamp_before.ensures.written)
     ∙ regroup (stamp_text (stamp_micros heard.message.stamp)) (encode_upper (heard.message.source ∷ [])) (name_text (option_map name_raw heard.name)) (decimal (pgn_raw heard.message.pgn))

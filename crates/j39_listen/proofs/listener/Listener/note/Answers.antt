@@ -15,7 +15,7 @@ loop-address-preserved c =
     let more = take_more xs c.loop-address.address-index 0 (omega arith) in (
       (λ E stands. subst (λ (D : List Event). Stands D c.forget.new.self)
           (forgets_more_than E (take c.loop-address.address-index xs) _ ∙ ap (λ (ys : List _). E ++ map (λ t. Forget t) ys) (sym more))
-          (c.forget.ensures _ (c.loop-address.invariant.0 E stands))),
+          (c.forget.ensures.stands _ (c.loop-address.invariant.0 E stands))),
       c.loop-address.invariant.1,
     )
 

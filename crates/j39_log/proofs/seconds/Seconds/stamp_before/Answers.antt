@@ -7,8 +7,8 @@ use Rattle.j39_frame.specs.Stamp.{stamp_micros}
 use Rattle.j39_io.proofs.BackwardsLemmas.{before_then}
 use Rattle.j39_log.proofs.seconds.Seconds.stamp_before.Goals as goal
 
-pub returns : goal.returns
-returns c =
+pub returns-clause-written : goal.returns-clause-written
+returns-clause-written c =
     let micros = stamp_micros c.args.stamp in
     let seconds : c.turn_to.new.self.digits ≡ last_digits 10 (c.micros-micros.result / 10 ^ 6) = c.turn_to.new.self.spelled ∙ ap (last_digits 10) c.turn_to.ensures in
     let text : (40 ∷ []) ++ (c.turn_to.new.self.digits ++ ((46 ∷ []) ++ (last_digits 6 (c.micros-micros.result % 10 ^ 6) ++ (41 ∷ [])))) ≡ stamp_text micros =
