@@ -1,24 +1,15 @@
-//! The command `faults`: its words, and how it is performed.
-ghost use Rattle.std.specs.Prelude.{◌≡◌, OnOk, codes, true};
-ghost use Rattle.j39_io.specs.Turn.{turn};
+//! The command `faults`: its words.
+ghost use Rattle.std.specs.Prelude.{◌≡◌, codes};
 ghost use Rattle.clap.specs.Words.{found_of};
-ghost use Rattle.j39_reports.specs.FaultAsking.{AsksForFaults};
-ghost use Rattle.j39_reports.specs.FaultRun.{MakesFaults};
-ghost use Rattle.j39_listen.specs.Ran.{Ran};
 ghost use Rattle.j39_cli.specs.CommandWords.{IsAnswered, command_found};
 ghost use Rattle.j39_cli.specs.FaultsCommand.{faults_app, telling_of};
-ghost use Rattle.j39_cli.specs.LogCommand.{log_limit};
 ghost use Rattle.j39_cli.specs.Rules.{IsMade};
 
 use crate::command::{new_command, with_flag, with_table};
-use crate::log::{LOG_LIMIT, copy_of, with_csv, with_log};
+use crate::log::{with_csv, with_log};
 use crate::words::{format_given, is_set, log_input};
 use crate::{ParseFault, Task, WordText};
 use clap::{ArgMatches, Command};
-use j39_groups::Groups;
-use j39_io::{Sink, Source};
-use j39_listen::{Counts, Format, RunFault};
-use j39_log::Bus;
 use j39_reports::Telling;
 use std::alloc::{AllocError, Global};
 
@@ -80,24 +71,4 @@ fn telling_by(all: bool) -> Telling
     ensures { result ≡ telling_of all }
 {
     if all { Telling::All } else { Telling::News }
-}
-
-/// Reads a log, and writes its fault codes by a table of parameters.
-pub(crate) fn run<R: Source, W: Sink>(
-    alloc: Global,
-    groups: &Groups<'_>,
-    telling: Telling,
-    format: Format,
-    bus: &Option<Bus>,
-    source: &mut R,
-    sink: &mut W,
-) -> Result<Counts, RunFault>
-    ensures ran { Ran (MakesFaults format groups.now telling) AsksForFaults bus.now log_limit result
-        (turn R.remaining R.has_failed source.old source.new) (turn W.written W.has_failed sink.old sink.new) }
-    ensures flushed { OnOk result (W.is_flushed sink.new ≡ true) }
-{
-    let bus = copy_of(bus);
-    j39_reports::faults(
-        alloc, groups, format, telling, source, sink, bus, LOG_LIMIT,
-    )
 }

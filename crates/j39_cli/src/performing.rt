@@ -5,12 +5,13 @@ ghost use Rattle.j39_groups.specs.Table.{the_table};
 ghost use Rattle.j39_cli.specs.Task.{IsPerformed, reads_log};
 
 use crate::id::id_line;
-use crate::log::tell_end;
+use crate::log::{LOG_LIMIT, copy_of, tell_end};
 use crate::name::name_lines;
 use crate::shown::show_text;
-use crate::{Task, answer, faults, groups, nodes, report, summary, survey};
+use crate::{Task, answer, groups, nodes, report, survey};
 use j39_groups::Groups;
 use j39_io::{Sink, Source};
+use j39_reports::{faults, summary};
 use std::alloc::Global;
 
 /// Performs a task by the built-in table of parameters.
@@ -79,7 +80,8 @@ pub fn perform_with<R: Source, W: Sink, E: Sink>(
             ..
         } => { report::perform(alloc, groups, &input.bus, spns, *format, source, sink, err) }
         Task::Summary { input, format, .. } => {
-            let end = summary::run(alloc, groups, *format, &input.bus, source, sink);
+            let bus = copy_of(&input.bus);
+            let end = summary(alloc, groups, *format, source, sink, bus, LOG_LIMIT);
             tell_end(end, err)
         }
         Task::Faults {
@@ -88,8 +90,10 @@ pub fn perform_with<R: Source, W: Sink, E: Sink>(
             format,
             ..
         } => {
-            let bus = &input.bus;
-            let end = faults::run(alloc, groups, *telling, *format, bus, source, sink);
+            let bus = copy_of(&input.bus);
+            let end = faults(
+                alloc, groups, *format, *telling, source, sink, bus, LOG_LIMIT,
+            );
             tell_end(end, err)
         }
         Task::Nodes { input, format } => {

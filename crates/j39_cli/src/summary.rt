@@ -1,23 +1,15 @@
-//! The command `summary`: its words, and how it is performed.
-ghost use Rattle.std.specs.Prelude.{◌≡◌, OnOk, codes, true};
-ghost use Rattle.j39_io.specs.Turn.{turn};
+//! The command `summary`: its words.
+ghost use Rattle.std.specs.Prelude.{codes};
 ghost use Rattle.clap.specs.Words.{found_of};
-ghost use Rattle.j39_reports.specs.SummaryRun.{AsksForRows, MakesSummary};
-ghost use Rattle.j39_listen.specs.Ran.{Ran};
 ghost use Rattle.j39_cli.specs.CommandWords.{IsAnswered, command_found};
-ghost use Rattle.j39_cli.specs.LogCommand.{log_limit};
 ghost use Rattle.j39_cli.specs.SummaryCommand.{summary_app};
 ghost use Rattle.j39_cli.specs.Rules.{IsMade};
 
 use crate::command::{new_command, with_table};
-use crate::log::{LOG_LIMIT, copy_of, with_csv, with_log};
+use crate::log::{with_csv, with_log};
 use crate::words::{format_given, log_input};
 use crate::{ParseFault, Task, WordText};
 use clap::{ArgMatches, Command};
-use j39_groups::Groups;
-use j39_io::{Sink, Source};
-use j39_listen::{Counts, Format, RunFault};
-use j39_log::Bus;
 use std::alloc::{AllocError, Global};
 
 const ABOUT: &str = "\
@@ -61,20 +53,4 @@ pub(crate) fn task<'a>(given: &ArgMatches<'a>) -> Result<Task<'a>, ParseFault>
         }),
         Err(fault) => Err(fault),
     }
-}
-
-/// Reads a log, and writes its summary by a table of parameters.
-pub(crate) fn run<R: Source, W: Sink>(
-    alloc: Global,
-    groups: &Groups<'_>,
-    format: Format,
-    bus: &Option<Bus>,
-    source: &mut R,
-    sink: &mut W,
-) -> Result<Counts, RunFault>
-    ensures ran { Ran (MakesSummary format groups.now) (AsksForRows groups.now) bus.now log_limit result
-        (turn R.remaining R.has_failed source.old source.new) (turn W.written W.has_failed sink.old sink.new) }
-    ensures flushed { OnOk result (W.is_flushed sink.new ≡ true) }
-{
-    j39_reports::summary(alloc, groups, format, source, sink, copy_of(bus), LOG_LIMIT)
 }
