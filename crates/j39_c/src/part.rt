@@ -61,4 +61,5 @@ macro_rules! open {
     }};
 }
 
-pub(crate) use {ask, open};
+pub(crate) use ask;
+pub(crate) use open;

@@ -13,8 +13,8 @@ ghost use Rattle.j39_cli.specs.Task.{IsInRange};
 use crate::command::line;
 use crate::spns::{Spns, spns_of};
 use crate::{
-    Argument, LogInput, ParseFault, Task, WordText, answer, cut, faults, groups, id, name,
-    nodes, report, summary, survey,
+    Argument, LogInput, ParseFault, Task, WordText, answer, cut, faults, groups, id, name, nodes,
+    report, summary, survey,
 };
 use clap::error::ErrorKind;
 use clap::{ArgMatches, Error};

@@ -33,12 +33,7 @@ pub(crate) fn frame_on(line: &[u8], second: &mut LastSecond, bus: &Bus) -> Optio
 
 /// The same of a line with nine decimals. Out of line: so one with six pays nothing for it.
 #[inline(never)]
-fn frame_with_nine(
-    line: &[u8],
-    body: &[u8],
-    second: &mut LastSecond,
-    bus: &Bus,
-) -> Option<Frame>
+fn frame_with_nine(line: &[u8], body: &[u8], second: &mut LastSecond, bus: &Bus) -> Option<Frame>
     requires body { IsBody line.now body.now }
     requires short { length body.now ≤ 64 }
     ensures { IfSome result (λ frame. IsFrameLine line.now bus.now frame) }
