@@ -8,11 +8,11 @@ returns-in-Line-clause-ran g c =
     let form = c.args.format in
     let rows = c.args.groups.now in
     rw c.in-Line.is (rw c.in-Line.is at (c.run_over.ensures.ran (form, record { rows = rows; which = c.args.telling })
-    (faults_of form rows c.args.telling []) (λ name. c.new.ensures) (none_told form rows c.args.telling)))
+    (faults_of form rows c.args.telling []) (λ name. c.new-account.ensures) (none_told form rows c.args.telling)))
 
 pub returns-in-Record-clause-ran : goal.returns-in-Record-clause-ran
 returns-in-Record-clause-ran g c =
     let form = c.args.format in
     let rows = c.args.groups.now in
     rw c.in-Record.is (rw c.in-Record.is at (c.run_headed.ensures.ran (form, record { rows = rows; which = c.args.telling })
-    (faults_of form rows c.args.telling []) (λ name. c.new.ensures) (none_told form rows c.args.telling)))
+    (faults_of form rows c.args.telling []) (λ name. c.new-account.ensures) (none_told form rows c.args.telling)))

@@ -4,8 +4,8 @@ use Rattle.j39_reports.proofs.summaries.account.summary.Goals as goal
 
 pub returns-in-Line-clause-ran : goal.returns-in-Line-clause-ran
 returns-in-Line-clause-ran g c = rw c.in-Line.is (rw c.in-Line.is at
-    (c.run_over.ensures.ran (c.args.format, c.args.groups.now) nothing (λ name. c.new.ensures) refl))
+    (c.run_over.ensures.ran (c.args.format, c.args.groups.now) nothing (λ name. c.new-account.ensures) refl))
 
 pub returns-in-Record-clause-ran : goal.returns-in-Record-clause-ran
 returns-in-Record-clause-ran g c = rw c.in-Record.is (rw c.in-Record.is at
-    (c.run_headed.ensures.ran (c.args.format, c.args.groups.now) nothing (λ name. c.new.ensures) refl))
+    (c.run_headed.ensures.ran (c.args.format, c.args.groups.now) nothing (λ name. c.new-account.ensures) refl))
