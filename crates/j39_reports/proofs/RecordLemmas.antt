@@ -1,5 +1,5 @@
 -- The records of a message, reading by reading.
-use Rattle.std.proofs.Common.{◌≡◌, ◌+◌, ◌∙◌, ◌++◌, ◌∷◌, ℕ, List, [], Result, Ok, Err, append_assoc, append-nil, arith, length-append, map, ap, refl, sym}
+use Rattle.std.proofs.Common.{◌≡◌, ◌+◌, ◌∙◌, ◌++◌, ◌∷◌, ℕ, List, [], Result, Ok, Err, append_assoc, append-nil, arith, drop, length-append, map, ap, refl, sym}
 use Rattle.std.specs.Prelude.{IsErr}
 use Rattle.std.proofs.lemmas.Grind.{flat_map-append}
 use Rattle.std.proofs.lemmas.List.{map-append}
@@ -19,11 +19,11 @@ use Rattle.j39_reports.specs.declared.report_records.records.Records.{Records}
 -- what is written of a reading is the record of its entry
 record_is : (groups : List RowRecord) (h : Hearing) (records : Records) → IsBegun groups h records → (spn : ℕ) (value : ValueRecord) (parameter : List ℕ)
     → parameter ≡ parameter_called records.groups.now records.pgn spn
-    → entry_record groups (entry_of h (record { spn = spn; value = value })) ≡ named_fields records.begin.items records.group.now spn parameter ++ value_fields value
+    → entry_record groups (entry_of h (record { spn = spn; value = value })) ≡ named_fields (drop records.begin.from records.begin.head) records.group.now spn parameter ++ value_fields value
 record_is groups h records begun spn value parameter called =
     ap (λ b. named_fields b (group_called groups h.message.pgn) spn (parameter_called groups h.message.pgn spn) ++ value_fields value) (sym begun.begin_is)
-    ∙ ap (λ g. named_fields records.begin.items g spn (parameter_called groups h.message.pgn spn) ++ value_fields value) (sym begun.group_is)
-    ∙ ap (λ p. named_fields records.begin.items records.group.now spn p ++ value_fields value)
+    ∙ ap (λ g. named_fields (drop records.begin.from records.begin.head) g spn (parameter_called groups h.message.pgn spn) ++ value_fields value) (sym begun.group_is)
+    ∙ ap (λ p. named_fields (drop records.begin.from records.begin.head) records.group.now spn p ++ value_fields value)
     (ap (λ pgn. parameter_called groups pgn spn) (sym begun.pgn_is) ∙ ap (λ table. parameter_called table records.pgn spn) (sym begun.by) ∙ sym called)
 
 -- the text of one reading more
@@ -37,7 +37,7 @@ text_more begun before at =
 module _ (begun : Begun) (records : Records) (old : Device) (before : List ReadingRecord) (has : HasWritten begun records old before) (spn : ℕ) (value : ValueRecord)
     (parameter : List ℕ) (called : parameter ≡ parameter_called records.groups.now records.pgn spn) where
   abbrev named : List ℕ
-  named = named_fields records.begin.items records.group.now spn parameter
+  named = named_fields (drop records.begin.from records.begin.head) records.group.now spn parameter
 
   abbrev with_this : List ReadingRecord
   with_this = before ++ (record { spn = spn; value = value } ∷ [])
@@ -51,16 +51,10 @@ module _ (begun : Begun) (records : Records) (old : Device) (before : List Readi
       → Puts (readings_text begun with_this) last (record { old = begun.writer; new = new })
   this_too last new this = puts_as _ _ _ _ whole (puts_then (readings_text begun before) (named ++ value_fields value) tt last begun.writer old new has.written this)
 
-  -- a fault before the value
-  pub stops_named : {T E : Type 0} (e : E) (new : Device) → Puts {T = T} named (Err e) (record { old = old; new = new })
+  -- a fault in this one
+  pub stops_here : {T E : Type 0} (e : E) (new : Device) → Puts {T = T} (named ++ value_fields value) (Err e) (record { old = old; new = new })
       → HasStopped begun before (record { spn = spn; value = value }) new
-  stops_named {T = T} e new stopped = this_too (Err tt) new (puts_first {T = T} named (value_fields value) e (Err tt) _ refl stopped)
-
-  -- a fault in the value or behind it
-  pub stops_valued : {T V E F : Type 0} (x : T) (e : E) (mid new : Device) → Puts {E = F} named (Ok x) (record { old = old; new = mid })
-      → Puts {T = V} (value_fields value) (Err e) (record { old = mid; new = new }) → HasStopped begun before (record { spn = spn; value = value }) new
-  stops_valued {V = V} x e mid new first stopped =
-      this_too (Err tt) new (puts_failed {T = V} _ e (Err tt) _ refl (puts_then named (value_fields value) x (Err e) old mid new first stopped))
+  stops_here {T = T} e new stopped = this_too (Err tt) new (puts_failed {T = T} _ e (Err tt) _ refl stopped)
 
 -- ---- all readings of a message
 

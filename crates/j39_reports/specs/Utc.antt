@@ -13,8 +13,10 @@ time_text seconds =
     last_digits 2 (seconds / 3600) ++ codes ":" ++ last_digits 2 (seconds / 60 % 60) ++ codes ":"
     ++ last_digits 2 (seconds % 60)
 
+-- of the seconds since then, as `2023-11-14T22:13:20`
+abbrev pub second_text : ℕ → List ℕ
+second_text seconds = date_text (day_after (seconds / 86_400)) ++ codes "T" ++ time_text (seconds % 86_400)
+
 -- as `2023-11-14T22:13:20.250000Z`
 unfoldable pub utc_text : ℕ → List ℕ
-utc_text micros =
-    date_text (day_after (micros / 1_000_000 / 86_400)) ++ codes "T" ++ time_text (micros / 1_000_000 % 86_400)
-    ++ codes "." ++ last_digits 6 (micros % 1_000_000) ++ codes "Z"
+utc_text micros = second_text (micros / 1_000_000) ++ codes "." ++ last_digits 6 (micros % 1_000_000) ++ codes "Z"

@@ -1,5 +1,7 @@
 //! The report of a log as records of comma-separated values (RFC 4180).
 
+mod begin;
+mod quick_record;
 mod records;
 mod run;
 

@@ -1,8 +1,8 @@
 //! Moments in UTC (ISO 8601).
-ghost use Rattle.std.specs.Prelude.{◌≡◌, ◌+◌, ◌≤◌, ◌<◌, ◌++◌, codes, pos};
+ghost use Rattle.std.specs.Prelude.{◌≡◌, ◌+◌, ◌^◌, ◌≤◌, ◌<◌, ◌++◌, codes, pos};
 ghost use Rattle.arrayvec.specs.ArrayVec.{array_vec_len};
 ghost use Rattle.j39_reports.specs.Calendar.{day_after};
-ghost use Rattle.j39_reports.specs.Utc.{date_text, time_text, utc_text};
+ghost use Rattle.j39_reports.specs.Utc.{date_text, second_text, time_text, utc_text};
 ghost use Rattle.j39_frame.specs.Stamp.{stamp_micros};
 
 use arrayvec::ArrayVec;
@@ -19,14 +19,23 @@ pub fn utc_text(stamp: Stamp) -> UtcText
     ensures { result.items ≡ utc_text (stamp_micros stamp) }
 {
     let micros = stamp.micros();
-    let seconds = micros / 1_000_000;
+    let mut text = second_text(micros / 1_000_000);
+    push_bytes(&mut text, b".");
+    push_last_digits(&mut text, 6, micros % 1_000_000);
+    push_bytes(&mut text, b"Z");
+    text
+}
+
+/// The date and the time of day after so many seconds since 1 January 1970, as `2023-11-14T22:13:20`.
+pub fn second_text(seconds: u64) -> UtcText
+    requires { seconds < 10 ^ 10 }
+    ensures items { result.items ≡ second_text seconds }
+    ensures len { array_vec_len result ≡ 19 }
+{
     let mut text = ArrayVec::new();
     push_date(&mut text, seconds / 86_400);
     push_bytes(&mut text, b"T");
     push_time(&mut text, seconds % 86_400);
-    push_bytes(&mut text, b".");
-    push_last_digits(&mut text, 6, micros % 1_000_000);
-    push_bytes(&mut text, b"Z");
     text
 }
 

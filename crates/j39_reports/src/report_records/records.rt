@@ -1,29 +1,21 @@
 //! The records of a message.
-ghost use Rattle.std.specs.Prelude.{◌≡◌, ◌+◌, ◌≤◌, ◌++◌, ◌∷◌, [], decimal};
+ghost use Rattle.std.specs.Prelude.{◌≡◌, ◌+◌, ◌≤◌, ◌++◌, ◌∷◌, [], decimal, drop};
 ghost use Rattle.std.specs.List.{flat_map};
-ghost use Rattle.std.specs.Option.{option_map};
-ghost use Rattle.arrayvec.specs.ArrayVec.{array_vec_len};
 ghost use Rattle.j39_io.specs.Puts.{Puts};
 ghost use Rattle.j39_io.specs.Turn.{turn};
-ghost use Rattle.j39_address.specs.Name.{name_raw};
-ghost use Rattle.j39_io.specs.Records.{comma, later_text, line_end};
+ghost use Rattle.j39_io.specs.Records.{comma};
 ghost use Rattle.j39_frame.specs.Pgn.{pgn_raw};
-ghost use Rattle.j39_frame.specs.Stamp.{stamp_micros};
 ghost use Rattle.j39_groups.specs.ReadValues.{read_value_of};
-ghost use Rattle.j39_groups.specs.ValueText.{bare_text};
 ghost use Rattle.j39_listen.specs.HeardModel.{hearing_of};
-ghost use Rattle.j39_reports.specs.EntryText.{begin_text, group_called, named_fields, parameter_called, value_fields};
-ghost use Rattle.j39_reports.specs.MessageRecords.{IsBegun};
+ghost use Rattle.j39_reports.specs.EntryText.{group_called, named_fields, parameter_called, value_fields};
 
-use crate::columns::{heard_fields, push_behind};
+use crate::report_records::begin::{Begin, Second, begin_of};
+use crate::report_records::quick_record::{RECORD, record_before};
 use arrayvec::ArrayVec;
 use j39_frame::Pgn;
 use j39_groups::{Groups, ReadValue, ReadingVisitor, push_decimal};
 use j39_io::{DeviceFault, Sink, put_all, put_behind_comma};
 use j39_listen::{EntryForm, Heard};
-
-/// What the records of a message begin with: stamp, date and time of day, address, NAME and PGN.
-type Begin = ArrayVec<u8, 88>;
 
 /// The records of a message so far.
 #[derive(Drop)]
@@ -33,28 +25,46 @@ pub(crate) struct Records<'g, 't> {
     group: &'g [u8],
     pgn: u32,
     lines: u64,
+    block: [u8; RECORD],
 }
 
 impl<'g, 't> Records<'g, 't> {
+    ghost use Rattle.j39_reports.specs.MessageRecords.{IsBegun};
+
     /// None so far.
-    fn new(groups: &'g Groups<'t>, heard: &Heard<'_>) -> Records<'g, 't>
+    #[inline(always)]
+    fn new(groups: &'g Groups<'t>, heard: &Heard<'_>, second: &mut Second) -> Records<'g, 't>
         ensures begun { IsBegun groups.entry.now (hearing_of heard.now) result }
         ensures none { result.lines ≡ 0 }
     {
         let pgn = heard.message.pgn;
         Records {
             groups,
-            begin: begin_of(heard),
+            begin: begin_of(heard, second),
             group: group_of(groups, pgn),
             pgn: pgn.raw(),
             lines: 0,
+            block: [0; RECORD],
         }
     }
 }
 
 /// The form of records: one for each entry.
 #[derive(Drop)]
-pub(crate) struct RecordForm;
+pub(crate) struct RecordForm {
+    second: Second,
+}
+
+impl RecordForm {
+    /// At the second 0.
+    pub fn new() -> RecordForm
+        ensures { result.second.value ≡ 0 }
+    {
+        RecordForm {
+            second: Second::new(0),
+        }
+    }
+}
 
 impl EntryForm for RecordForm {
     ghost use Rattle.j39_reports.specs.EntryText.{entry_record};
@@ -67,7 +77,7 @@ impl EntryForm for RecordForm {
         groups: &Groups<'_>,
         sink: &mut W,
     ) -> Result<u64, DeviceFault> {
-        let mut records = Records::new(groups, heard);
+        let mut records = Records::new(groups, heard, &mut self.second);
         match groups.visit(heard.message.pgn, heard.message.payload, &mut records, sink) {
             Ok(()) => Ok(records.lines),
             Err(DeviceFault) => Err(DeviceFault),
@@ -95,54 +105,77 @@ impl<'g, 't, W: Sink> ReadingVisitor<'t, W> for Records<'g, 't> {
         sink: &mut W,
     ) -> Result<(), DeviceFault> {
         let parameter = parameter_of(self.groups, self.pgn, spn);
-        put_named(self.begin.as_slice(), self.group, spn, parameter, sink)?;
-        put_value_and_unit(value, sink)?;
+        put_record(
+            &mut self.block,
+            &self.begin,
+            self.group,
+            spn,
+            parameter,
+            value,
+            sink,
+        )?;
         self.lines = self.lines.saturating_add(1);
         Ok(())
     }
 }
 
-/// Writes the record of a reading, from its value on.
-fn put_value_and_unit<W: Sink>(value: ReadValue<'_, '_>, sink: &mut W) -> Result<(), DeviceFault>
-    ensures { Puts (value_fields (read_value_of value.entry)) result (turn W.written W.has_failed sink.old sink.new) }
+/// Writes the record of a reading, in one piece where it is short. What stands in `block` afterwards is not known.
+#[inline(always)]
+fn put_record<W: Sink>(
+    block: &mut [u8; RECORD],
+    begin: &Begin,
+    group: &[u8],
+    spn: u32,
+    parameter: &[u8],
+    value: ReadValue<'_, '_>,
+    sink: &mut W,
+) -> Result<(), DeviceFault>
+    ensures { Puts (named_fields (drop begin.now.from begin.now.head) group.now spn parameter.now
+        ++ value_fields (read_value_of value.entry)) result (turn W.written W.has_failed sink.old sink.new) }
 {
-    put_value(value, sink)?;
-    let unit = value.unit();
-    put_unit(unit, sink)
+    match record_before(block, &begin.head, begin.from, group, spn, parameter, value) {
+        Some(start) => put_all(sink, &block[start..]),
+        None => put_parts(
+            &begin.head[begin.from..],
+            group,
+            spn,
+            parameter,
+            value,
+            sink,
+        ),
+    }
 }
 
-/// Writes a comma and a value without its unit.
-fn put_value<W: Sink>(value: ReadValue<'_, '_>, sink: &mut W) -> Result<(), DeviceFault>
-    ensures { Puts (comma ∷ bare_text (read_value_of value.entry)) result (turn W.written W.has_failed sink.old sink.new) }
-{
-    put_all(sink, b",")?;
-    value.put_bare(sink)
-}
-
-/// Writes the unit and the end of the line.
-fn put_unit<W: Sink>(unit: &[u8], sink: &mut W) -> Result<(), DeviceFault>
-    ensures { Puts (later_text unit.now ++ line_end) result (turn W.written W.has_failed sink.old sink.new) }
-{
-    put_behind_comma(unit, sink)?;
-    put_all(sink, b"\r\n")
-}
-
-/// Writes the record of a reading up to its value.
-fn put_named<W: Sink>(
+/// Writes the record of a reading, part by part.
+#[inline(never)]
+fn put_parts<W: Sink>(
     begin: &[u8],
     group: &[u8],
     spn: u32,
     parameter: &[u8],
+    value: ReadValue<'_, '_>,
     sink: &mut W,
 ) -> Result<(), DeviceFault>
-    ensures { Puts (named_fields begin.now group.now spn parameter.now)
+    ensures { Puts (named_fields begin.now group.now spn parameter.now ++ value_fields (read_value_of value.entry))
         result (turn W.written W.has_failed sink.old sink.new) }
 {
     put_all(sink, begin)?;
     put_behind_comma(group, sink)?;
     let number = spn_field(spn);
     put_all(sink, number.as_slice())?;
-    put_behind_comma(parameter, sink)
+    put_behind_comma(parameter, sink)?;
+    put_value_and_unit(value, sink)
+}
+
+/// Writes the record of a reading, from its value on.
+fn put_value_and_unit<W: Sink>(value: ReadValue<'_, '_>, sink: &mut W) -> Result<(), DeviceFault>
+    ensures { Puts (value_fields (read_value_of value.entry)) result (turn W.written W.has_failed sink.old sink.new) }
+{
+    put_all(sink, b",")?;
+    value.put_bare(sink)?;
+    let unit = value.unit();
+    put_behind_comma(unit, sink)?;
+    put_all(sink, b"\r\n")
 }
 
 /// A comma and the number of a parameter.
@@ -173,14 +206,4 @@ fn group_of<'r>(groups: &'r Groups<'_>, pgn: Pgn) -> &'r [u8]
         Some(name) => name,
         None => b"",
     }
-}
-
-/// What the records of a message begin with.
-fn begin_of(heard: &Heard<'_>) -> Begin
-    ensures { result.items ≡ begin_text (stamp_micros heard.now.message.stamp) heard.now.message.source
-        (option_map name_raw heard.now.name) (pgn_raw heard.now.message.pgn) }
-{
-    let mut begin = heard_fields(heard);
-    push_behind(&mut begin, b',', u64::from(heard.message.pgn.raw()));
-    begin
 }

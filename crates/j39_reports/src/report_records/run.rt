@@ -35,9 +35,10 @@ pub fn report_csv<R: Source, W: Sink>(
     // What was written is passed on at the end, and before each read, the header before the first.
     ensures flushed { PassesOn result true (W.is_flushed sink.new) }
 {
+    let form = RecordForm::new();
     run_headed(
         HEADER,
-        Report::new(alloc, groups, RecordForm),
+        Report::new(alloc, groups, form),
         source,
         sink,
         bus,

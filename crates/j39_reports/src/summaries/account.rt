@@ -20,7 +20,9 @@ use crate::summaries::rows::Rows;
 use j39_frame::Frame;
 use j39_groups::Groups;
 use j39_io::{DeviceFault, Sink, Source};
-use j39_listen::{Account, Counts, Format, LineFault, Listener, Made, RunFault, run_headed, run_over};
+use j39_listen::{
+    Account, Counts, Format, LineFault, Listener, Made, RunFault, run_headed, run_over,
+};
 use j39_log::Bus;
 use std::alloc::{AllocError, Global};
 

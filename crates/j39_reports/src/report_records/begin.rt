@@ -1,0 +1,138 @@
+//! What the records of a message begin with, written backwards.
+ghost use Rattle.std.specs.Prelude.{◌≡◌, ◌+◌, ◌<◌, ◌≤◌, ◌^◌, decimal, drop, length};
+ghost use Rattle.std.specs.Option.{option_map};
+ghost use Rattle.j39_address.specs.Name.{name_raw};
+ghost use Rattle.j39_io.specs.Backwards.{WritesBefore};
+ghost use Rattle.j39_io.specs.Printing.{last_digits};
+ghost use Rattle.j39_frame.specs.Pgn.{pgn_raw};
+ghost use Rattle.j39_frame.specs.Stamp.{stamp_micros};
+ghost use Rattle.j39_reports.specs.Columns.{moment_fields, name_field};
+ghost use Rattle.j39_reports.specs.EntryText.{begin_text};
+ghost use Rattle.j39_reports.specs.Utc.{second_text};
+
+use crate::utc::second_text;
+use j39_address::Name;
+use j39_frame::Stamp;
+use j39_io::backwards::{byte_before, bytes_before, hex_before, last_digits_before, number_before};
+use j39_io::vectors::hex_of_eight;
+use j39_listen::Heard;
+
+/// The bytes of a block that the records of every message can begin with.
+pub(crate) const HEAD: usize = 96;
+
+/// What the records of a message begin with: the bytes of a block from a place on.
+#[derive(Debug, Drop)]
+pub(crate) struct Begin {
+    pub head: [u8; HEAD],
+    pub from: usize,
+    pub ghost whole: { length head ≡ 96 },
+    pub ghost inside: { from ≤ 96 },
+}
+
+/// A second as the columns of a moment have it, kept from message to message: most come within the second of the
+/// message before.
+#[derive(Clone, Copy, Debug)]
+pub(crate) struct Second {
+    value: u64,
+    digits: [u8; 10],
+    utc: [u8; 19],
+    pub ghost digits_are: { digits ≡ last_digits 10 value },
+    pub ghost utc_is: { utc ≡ second_text value },
+}
+
+impl Second {
+    /// This second after 1 January 1970.
+    pub fn new(value: u64) -> Second
+        requires { value < 10 ^ 10 }
+        ensures { result.value ≡ value }
+    {
+        let mut digits = [0; 10];
+        let _ = last_digits_before(&mut digits, 10, 10, value);
+        let text = second_text(value);
+        let mut utc = [0; 19];
+        utc.copy_from_slice(text.as_slice());
+        Second { value, digits, utc }
+    }
+
+    /// Turns to this second.
+    #[inline(always)]
+    fn turn_to(&mut self, value: u64)
+        requires { value < 10 ^ 10 }
+        ensures { self.new.value ≡ value }
+    {
+        if self.value != value {
+            *self = Second::new(value);
+        }
+    }
+
+    /// Writes the seconds of a stamp, a comma, and the same moment in UTC.
+    #[inline(always)]
+    fn moment_before(&mut self, out: &mut [u8], end: usize, stamp: Stamp) -> usize
+        requires room { 45 ≤ end }
+        requires within { end ≤ length out.old }
+        ensures { WritesBefore out.old out.new end result (moment_fields (stamp_micros stamp)) }
+    {
+        let micros = stamp.micros();
+        self.turn_to(micros / 1_000_000);
+        let zone = byte_before(out, end, b'Z');
+        let (places, _) = last_digits_before(out, zone, 6, micros % 1_000_000);
+        let later = byte_before(out, places, b'.');
+        let utc = bytes_before(out, later, self.utc);
+        let comma = byte_before(out, utc, b',');
+        let (fraction, _) = last_digits_before(out, comma, 6, micros % 1_000_000);
+        let point = byte_before(out, fraction, b'.');
+        bytes_before(out, point, self.digits)
+    }
+}
+
+/// What the records of a message begin with: the moment, the address, the NAME and the PGN.
+#[inline(always)]
+pub(crate) fn begin_of(heard: &Heard<'_>, second: &mut Second) -> Begin
+    ensures { drop result.from result.head ≡ begin_text (stamp_micros heard.now.message.stamp)
+        heard.now.message.source (option_map name_raw heard.now.name) (pgn_raw heard.now.message.pgn) }
+{
+    let mut head = [0; HEAD];
+    let from = begin_before(&mut head, heard, second);
+    Begin { head, from }
+}
+
+/// Writes that at the end of a block, and answers where it starts.
+#[inline(always)]
+fn begin_before(out: &mut [u8; HEAD], heard: &Heard<'_>, second: &mut Second) -> usize
+    ensures begin { drop result out.new ≡ begin_text (stamp_micros heard.now.message.stamp) heard.now.message.source
+        (option_map name_raw heard.now.name) (pgn_raw heard.now.message.pgn) }
+    ensures within { result ≤ 96 }
+{
+    let group = digits_before(out, HEAD, heard.message.pgn.raw());
+    let third = byte_before(out, group, b',');
+    let name = name_before(out, third, heard.name);
+    let comma = byte_before(out, name, b',');
+    let address = hex_before(out, comma, &[heard.message.source]);
+    let first = byte_before(out, address, b',');
+    second.moment_before(out, first, heard.message.stamp)
+}
+
+/// Writes a NAME in sixteen hex digits, or nothing.
+#[inline(always)]
+fn name_before(out: &mut [u8], end: usize, name: Option<Name>) -> usize
+    requires room { 16 ≤ end }
+    requires within { end ≤ length out.old }
+    ensures written { WritesBefore out.old out.new end result (name_field (option_map name_raw name)) }
+    ensures short { end ≤ result + 16 }
+{
+    match name {
+        Some(name) => bytes_before(out, end, hex_of_eight(&name.raw().to_be_bytes())),
+        None => end,
+    }
+}
+
+/// Writes a number, of ten digits at most.
+#[inline(always)]
+pub(crate) fn digits_before(out: &mut [u8], end: usize, value: u32) -> usize
+    requires room { 10 ≤ end }
+    requires within { end ≤ length out.old }
+    ensures written { WritesBefore out.old out.new end result (decimal value) }
+    ensures short { end ≤ result + 10 }
+{
+    number_before(out, end, u64::from(value))
+}

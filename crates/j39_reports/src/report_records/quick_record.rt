@@ -1,0 +1,158 @@
+//! The record of one reading in a block, the last byte first.
+ghost use Rattle.std.specs.Prelude.{◌≡◌, ◌+◌, ◌≤◌, ◌++◌, IfSome, drop, length};
+ghost use Rattle.std.specs.List.{list_any};
+ghost use Rattle.j39_io.specs.Backwards.{WritesBefore};
+ghost use Rattle.j39_io.specs.Records.{is_special, later_text};
+ghost use Rattle.j39_groups.specs.Models.{value_of};
+ghost use Rattle.j39_groups.specs.ReadValues.{read_value_of};
+ghost use Rattle.j39_groups.specs.ValueText.{bare_text, magnitude_text, scaled_text};
+ghost use Rattle.j39_reports.specs.EntryText.{named_fields, value_fields};
+
+use crate::report_records::begin::{HEAD, digits_before};
+use j39_groups::{ReadValue, Value};
+use j39_io::backwards::{
+    byte_before, bytes_before, last_digits_before, number_before, tail_before,
+};
+
+/// The bytes of a block that a record fits in: what it begins with, a number, a value, three fields of 64 bytes with
+/// their commas, and the end of the line.
+pub(crate) const RECORD: usize = 336;
+
+/// Writes the record of a reading at the end of a block, and answers where it starts: the bytes of `head` from `from`
+/// on, and the fields behind them. `None`, and nothing of use is written, for a text of the sender's, a number with
+/// more than nine places, and a field that is long or must stand in quotes.
+#[inline(always)]
+pub(crate) fn record_before(
+    out: &mut [u8; RECORD],
+    head: &[u8; HEAD],
+    from: usize,
+    group: &[u8],
+    spn: u32,
+    parameter: &[u8],
+    value: ReadValue<'_, '_>,
+) -> Option<usize>
+    requires { from ≤ 96 }
+    ensures { IfSome result (λ start. WritesBefore out.old out.new 336 start
+        (named_fields (drop from head.now) group.now spn parameter.now ++ value_fields (read_value_of value.entry))) }
+{
+    let unit = value.unit();
+    let last = bytes_before(out, RECORD, *b"\r\n");
+    let behind = field_before(out, last, unit)?;
+    let bare = bare_before(out, behind, value)?;
+    let gap = byte_before(out, bare, b',');
+    let name = field_before(out, gap, parameter)?;
+    let number = digits_before(out, name, spn);
+    let comma = byte_before(out, number, b',');
+    let label = field_before(out, comma, group)?;
+    Some(tail_before(out, label, head, from))
+}
+
+/// Writes a comma and a field. `None`, and nothing of use is written, where it is long or must stand in quotes.
+#[inline(always)]
+fn field_before(out: &mut [u8], end: usize, field: &[u8]) -> Option<usize>
+    requires room { 64 ≤ end }
+    requires within { end ≤ length out.old }
+    ensures written { IfSome result (λ start. WritesBefore out.old out.new end start (later_text field.now)) }
+    ensures short { IfSome result (λ start. end ≤ start + 64) }
+{
+    if field.len() > 63 {
+        return None;
+    }
+    if has_special(field) {
+        return None;
+    }
+    let first = slice_before(out, end, field);
+    Some(byte_before(out, first, b','))
+}
+
+/// Whether a field has a byte that may stand in quotes alone.
+#[inline(always)]
+fn has_special(field: &[u8]) -> bool
+    ensures { result ≡ list_any is_special field.now }
+{
+    field.iter().any(|byte| *byte == b',' || *byte == b'"' || *byte == b'\r' || *byte == b'\n')
+}
+
+/// Writes bytes as they are.
+#[inline(always)]
+fn slice_before(out: &mut [u8], end: usize, bytes: &[u8]) -> usize
+    requires room { length bytes.now ≤ end }
+    requires within { end ≤ length out.old }
+    ensures { WritesBefore out.old out.new end result bytes.now }
+{
+    let start = end - bytes.len();
+    out[start..end].copy_from_slice(bytes);
+    start
+}
+
+/// Writes a value without its unit.
+#[inline(always)]
+#[tactic(auto, unfolding(j39_groups::specs::ValueText::bare_text))]
+fn bare_before(out: &mut [u8], end: usize, value: ReadValue<'_, '_>) -> Option<usize>
+    requires room { 32 ≤ end }
+    requires within { end ≤ length out.old }
+    ensures written { IfSome result (λ start. WritesBefore out.old out.new end start
+        (bare_text (read_value_of value.entry))) }
+    ensures short { IfSome result (λ start. end ≤ start + 32) }
+{
+    match value {
+        ReadValue::Number(number, scale) => scaled_before(out, end, number, scale.places),
+        ReadValue::Plain(value) => plain_before(out, end, value),
+    }
+}
+
+#[inline(always)]
+#[tactic(auto, unfolding(j39_groups::specs::ValueText::bare_text, j39_groups::specs::ValueText::value_text))]
+fn plain_before(out: &mut [u8], end: usize, value: Value<'_>) -> Option<usize>
+    requires room { 32 ≤ end }
+    requires within { end ≤ length out.old }
+    ensures written { IfSome result (λ start. WritesBefore out.old out.new end start
+        (bare_text (value_of value.entry))) }
+    ensures short { IfSome result (λ start. end ≤ start + 32) }
+{
+    match value {
+        Value::Number(number, slot) => scaled_before(out, end, number, slot.places()),
+        Value::On => Some(bytes_before(out, end, *b"on")),
+        Value::Off => Some(bytes_before(out, end, *b"off")),
+        Value::Error => Some(bytes_before(out, end, *b"error")),
+        Value::Reserved => Some(bytes_before(out, end, *b"reserved")),
+        Value::Indicator => Some(bytes_before(out, end, *b"indicator")),
+        Value::Text(_) => None,
+    }
+}
+
+/// Writes a number in decimal with its places: nine at most.
+#[inline(always)]
+fn scaled_before(out: &mut [u8], end: usize, number: i64, places: u8) -> Option<usize>
+    requires room { 32 ≤ end }
+    requires within { end ≤ length out.old }
+    ensures written { IfSome result (λ start. WritesBefore out.old out.new end start (scaled_text places number)) }
+    ensures short { IfSome result (λ start. end ≤ start + 32) }
+{
+    if places > 9 {
+        return None;
+    }
+    let digits = magnitude_before(out, end, number.unsigned_abs(), places);
+    if number.is_negative() {
+        Some(byte_before(out, digits, b'-'))
+    } else {
+        Some(digits)
+    }
+}
+
+/// Writes a magnitude with its places.
+#[inline(always)]
+fn magnitude_before(out: &mut [u8], end: usize, magnitude: u64, places: u8) -> usize
+    requires places { places ≤ 9 }
+    requires room { 31 ≤ end }
+    requires within { end ≤ length out.old }
+    ensures written { WritesBefore out.old out.new end result (magnitude_text places magnitude) }
+    ensures short { end ≤ result + 30 }
+{
+    if places == 0 {
+        return number_before(out, end, magnitude);
+    }
+    let (digits, whole) = last_digits_before(out, end, usize::from(places), magnitude);
+    let point = byte_before(out, digits, b'.');
+    number_before(out, point, whole)
+}
