@@ -101,21 +101,9 @@ fn put_values<W: Sink>(form: Format, deeds: &Deeds<'_>, sink: &mut W) -> Result<
     ensures { Puts (values_in form (option_map range_of_span deeds.now.range) (kept_value deeds.now.first.value) (kept_value deeds.now.last.value))
         result (turn W.written W.has_failed sink.old sink.new) }
 {
-    put_range_and_first(form, deeds, sink)?;
-    put_column(form, &deeds.last.value, sink)
-}
-
-/// Writes the least number, the most and their unit, and the first value.
-fn put_range_and_first<W: Sink>(
-    form: Format,
-    deeds: &Deeds<'_>,
-    sink: &mut W,
-) -> Result<(), DeviceFault>
-    ensures { Puts (range_in form (option_map range_of_span deeds.now.range) ++ value_in form (kept_value deeds.now.first.value))
-        result (turn W.written W.has_failed sink.old sink.new) }
-{
     put_range(form, &deeds.range, sink)?;
-    put_column(form, &deeds.first.value, sink)
+    put_column(form, &deeds.first.value, sink)?;
+    put_column(form, &deeds.last.value, sink)
 }
 
 /// Writes the least number, the most and their unit, or what stands where there is no number.
