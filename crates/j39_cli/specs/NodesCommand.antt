@@ -16,8 +16,7 @@ abbrev pub nodes_app : App
 nodes_app = with_log (with_rule (new_app (codes "nodes")) (flag_rule (codes "csv")))
 
 abbrev pub IsNodesTask : Option (List ℕ) → Bool → Option (List ℕ) → Task → Type 0
-IsNodesTask bus csv file (Nodes input format) =
-    (input.bus ≡ bus) × (format ≡ format_of csv) × (input.file ≡ file)
+IsNodesTask bus csv file (Nodes input format) = (input.bus ≡ bus) × (format ≡ format_of csv) × (input.file ≡ file)
 IsNodesTask bus csv file t = ⊥
 
 abbrev pub nodes_form : Option Text → Bool → Option Text → Form

@@ -14,8 +14,7 @@ use Rattle.j39_cli.specs.declared.task.Task.{Task}
 use Rattle.j39_cli.specs.declared.task.Task.TheVariants.{Survey}
 
 abbrev pub survey_app : App
-survey_app =
-    with_rule (with_table (new_app (codes "survey"))) (value_rule (codes "file") false)
+survey_app = with_rule (with_table (new_app (codes "survey"))) (value_rule (codes "file") false)
 
 abbrev pub IsSurveyTask : Option (List ℕ) → Option (List ℕ) → Task → Type 0
 IsSurveyTask table file (Survey table' file') = (table' ≡ table) × (file' ≡ file)

@@ -44,6 +44,7 @@ pub use read_row::ReadRow;
 pub use read_value::ReadValue;
 pub use reading::{is_reported, readings};
 pub use scale::Scale;
+pub use short_text::magnitude_before;
 pub use slot::Slot;
 pub use text::{Text, put_value, scaled_text};
 pub use value::{Reading, Value};

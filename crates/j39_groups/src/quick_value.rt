@@ -14,7 +14,9 @@ use crate::read_value::ReadValue;
 use crate::scale::Scale;
 use crate::short_text::{magnitude_before, value_before};
 use crate::value::Value;
-use j39_io::backwards::{byte_before, bytes_before, number_before, tail_before};
+use j39_io::backwards::{
+    byte_before, bytes_before, number_before, slice_before, tail_before,
+};
 
 /// The most bytes of a line that is written here: its head, a number of ten digits and a space, and a value.
 pub(crate) const ROOM: usize = HEAD + 11 + VALUE;
@@ -142,15 +144,4 @@ fn unit_before(out: &mut [u8], end: usize, unit: &[u8]) -> usize
         [a, b, c, d] => bytes_before(out, end, [*a, *b, *c, *d]),
         _ => slice_before(out, end, unit),
     }
-}
-
-/// Writes bytes as they are.
-fn slice_before(out: &mut [u8], end: usize, bytes: &[u8]) -> usize
-    requires room { length bytes.now ≤ end }
-    requires within { end ≤ length out.old }
-    ensures { WritesBefore out.old out.new end result bytes.now }
-{
-    let start = end - bytes.len();
-    out[start..end].copy_from_slice(bytes);
-    start
 }

@@ -146,9 +146,9 @@ fn unit_end(unit: Unit) -> &'static ShortText
     }
 }
 
-/// Writes a magnitude with its places.
+/// Writes a magnitude with its places, nine at most, before `end`, and answers where it starts: 30 bytes at most.
 #[inline(always)]
-pub(crate) fn magnitude_before(out: &mut [u8], end: usize, magnitude: u64, places: u8) -> usize
+pub fn magnitude_before(out: &mut [u8], end: usize, magnitude: u64, places: u8) -> usize
     requires places { places ≤ 9 }
     requires room { 31 ≤ end }
     requires within { end ≤ length out.old }

@@ -28,6 +28,17 @@ pub fn bytes_before<const N: usize>(out: &mut [u8], end: usize, bytes: [u8; N]) 
     tail_before(out, end, &bytes, 0)
 }
 
+/// Writes bytes as they are.
+pub fn slice_before(out: &mut [u8], end: usize, bytes: &[u8]) -> usize
+    requires room { length bytes.now ≤ end }
+    requires within { end ≤ length out.old }
+    ensures { WritesBefore out.old out.new end result bytes.now }
+{
+    let start = end - bytes.len();
+    out[start..end].copy_from_slice(bytes);
+    start
+}
+
 /// Writes the bytes of a block from `from` on. All of the block is copied: a copy of a length that is
 /// known beforehand is cheap.
 #[inline(always)]

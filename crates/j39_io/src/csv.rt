@@ -48,8 +48,9 @@ fn put_field<W: Sink>(field: &[u8], sink: &mut W) -> Result<(), DeviceFault>
     }
 }
 
-/// Whether a field has a byte that may stand in quotes alone.
-fn has_special(field: &[u8]) -> bool
+/// Whether a field has a byte that may stand in quotes alone (RFC 4180, 2).
+#[inline]
+pub fn has_special(field: &[u8]) -> bool
     ensures { result ≡ list_any is_special field.now }
 {
     field.iter().any(|byte| *byte == b',' || *byte == b'"' || *byte == b'\r' || *byte == b'\n')

@@ -65,5 +65,4 @@ said_text rows kind lamps (Some code) = code_text kind lamps (name_in rows code)
 
 -- the line of a fault, with its newline
 unfoldable pub fault_line : List RowRecord → Fault → List ℕ
-fault_line rows f =
-    head_text f.stamp f.address f.name ++ (said_text rows f.kind f.lamps f.code ++ (newline ∷ []))
+fault_line rows f = head_text f.stamp f.address f.name ++ (said_text rows f.kind f.lamps f.code ++ (newline ∷ []))

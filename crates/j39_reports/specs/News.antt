@@ -21,8 +21,7 @@ faults_among hs = filter is_of_faults hs
 
 -- the last of these messages that is of this group, from this address
 unfoldable pub last_from : ℕ → ℕ → List Hearing → Option Hearing
-last_from pgn source ms =
-    last_or None (filter (λ h. h.message.pgn == pgn && h.message.source == source) ms)
+last_from pgn source ms = last_or None (filter (λ h. h.message.pgn == pgn && h.message.source == source) ms)
 
 -- it has other bytes or another NAME than what was said before, or nothing was
 abbrev pub says_other : Option Hearing → Hearing → Bool

@@ -48,33 +48,22 @@ pub(crate) fn announcement_bytes(kind: u8, size: u16, packets: u8, most: u8, pgn
 pub(crate) fn clear_to_send_bytes(count: u8, next: u8, pgn: u32) -> [u8; 8]
     ensures { result ≡ clear_to_send ∷ count ∷ next ∷ filler ∷ filler ∷ little_bytes 3 pgn }
 {
-    let [pgn_low, pgn_mid, pgn_high, _] = pgn.to_le_bytes();
-    [
-        CLEAR_TO_SEND,
-        count,
-        next,
-        FILLER,
-        FILLER,
-        pgn_low,
-        pgn_mid,
-        pgn_high,
-    ]
+    answer_bytes(CLEAR_TO_SEND, count, next, pgn)
 }
 
 /// The data of an abort for this reason.
 pub(crate) fn abort_bytes(reason: u8, pgn: u32) -> [u8; 8]
     ensures { result ≡ connection_abort ∷ reason ∷ filler ∷ filler ∷ filler ∷ little_bytes 3 pgn }
 {
+    answer_bytes(CONNECTION_ABORT, reason, FILLER, pgn)
+}
+
+fn answer_bytes(kind: u8, second: u8, third: u8, pgn: u32) -> [u8; 8]
+    ensures { result ≡ kind ∷ second ∷ third ∷ filler ∷ filler ∷ little_bytes 3 pgn }
+{
     let [pgn_low, pgn_mid, pgn_high, _] = pgn.to_le_bytes();
     [
-        CONNECTION_ABORT,
-        reason,
-        FILLER,
-        FILLER,
-        FILLER,
-        pgn_low,
-        pgn_mid,
-        pgn_high,
+        kind, second, third, FILLER, FILLER, pgn_low, pgn_mid, pgn_high,
     ]
 }
 

@@ -131,7 +131,6 @@ fn asks_and_answers(alloc: Global, pair: &mut Pair) -> Result<bool, Fail> {
 #[test]
 fn a_request_is_answered(rt: HostRuntime) -> Result<(), Fail> {
     let mut pair = Pair::new(rt.alloc()).ok_or("no pair")?;
-    let is_done = asks_and_answers(rt.alloc(), &mut pair)?;
-    assert!(rt; is_done);
+    assert!(rt; asks_and_answers(rt.alloc(), &mut pair)?);
     Ok(())
 }

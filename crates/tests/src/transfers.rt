@@ -93,10 +93,12 @@ enum SenderStep {
     Tick(u64, Sent),
     /// It hears these bytes of the receiver, sends nothing, and is so far.
     Hears(&'static [u8], u64, SendState),
+    /// It announces, hears a CTS for all packets, and sends them at 1, 2 and 3.
+    SendsAll,
 }
 
 use SendState::{Done, Failed, Sending, Waiting};
-use SenderStep::{Hears, Tick};
+use SenderStep::{Hears, SendsAll, Tick};
 
 /// The steps of a sender, and how far it is behind the last.
 static SENDERS: &[(&str, &[SenderStep], SendState)] = &[
@@ -104,11 +106,7 @@ static SENDERS: &[(&str, &[SenderStep], SendState)] = &[
     (
         "transfer_with_a_loss",
         &[
-            Tick(0, Some((CONTROL, RTS))),
-            Hears(&CTS, 0, Sending),
-            Tick(1, Some((DATA, P1))),
-            Tick(2, Some((DATA, P2))),
-            Tick(3, Some((DATA, P3))),
+            SendsAll,
             Hears(&TWO_MORE, 3, Sending),
             Tick(4, Some((DATA, P2))),
             Tick(5, Some((DATA, P3))),
@@ -120,11 +118,7 @@ static SENDERS: &[(&str, &[SenderStep], SendState)] = &[
     (
         "acknowledgment_that_is_lost",
         &[
-            Tick(0, Some((CONTROL, RTS))),
-            Hears(&CTS, 0, Sending),
-            Tick(1, Some((DATA, P1))),
-            Tick(2, Some((DATA, P2))),
-            Tick(3, Some((DATA, P3))),
+            SendsAll,
             Tick(1_250_003, None),
             Tick(1_250_004, Some((CONTROL, TIMEOUT))),
         ],
@@ -169,29 +163,31 @@ static SENDERS: &[(&str, &[SenderStep], SendState)] = &[
     ),
 ];
 
+/// Whether the sender announces, and sends all packets behind a CTS.
+fn sends_all(sender: &mut Sender<'_>) -> bool {
+    tick(sender, 0) == Some((CONTROL, RTS))
+        && told(sender, &CTS, 0) == Some(Sending)
+        && tick(sender, 1) == Some((DATA, P1))
+        && tick(sender, 2) == Some((DATA, P2))
+        && tick(sender, 3) == Some((DATA, P3))
+}
+
 /// Whether the sender does as the step says.
 fn does(sender: &mut Sender<'_>, step: &SenderStep) -> bool {
     match step {
         Tick(micros, sent) => tick(sender, *micros) == *sent,
         Hears(bytes, micros, state) => told(sender, bytes, *micros) == Some(*state),
+        SendsAll => sends_all(sender),
     }
-}
-
-/// The place of the first step that the sender doesn't take as it says.
-fn wrong_step(sender: &mut Sender<'_>, steps: &[SenderStep]) -> Option<usize> {
-    for (place, step) in steps.iter().enumerate() {
-        if !does(sender, step) {
-            return Some(place);
-        }
-    }
-    None
 }
 
 #[test]
 fn senders(rt: HostRuntime) -> Result<(), Fail> {
     for (name, steps, end) in SENDERS.iter() {
         let mut sender = sender().ok_or("sender")?;
-        assert_eq!(rt; wrong_step(&mut sender, steps), None, "{name}");
+        for (place, step) in steps.iter().enumerate() {
+            assert!(rt; does(&mut sender, step), "{name}, step {place}");
+        }
         assert_eq!(rt; sender.state(), *end, "{name}");
     }
     Ok(())
@@ -320,22 +316,13 @@ fn receives(receiver: &mut Receiver, step: &ReceiverStep) -> bool {
     }
 }
 
-/// The place of the first step that the receiver doesn't take as it says.
-fn wrong_step_of_a_receiver(receiver: &mut Receiver, steps: &[ReceiverStep]) -> Option<usize> {
-    for (place, step) in steps.iter().enumerate() {
-        if !receives(receiver, step) {
-            return Some(place);
-        }
-    }
-    None
-}
-
 #[test]
 fn receivers(rt: HostRuntime) -> Result<(), Fail> {
     for (name, steps, is_busy) in RECEIVERS.iter() {
         let mut receiver = receiver(rt.alloc()).ok_or("receiver")?;
-        let wrong = wrong_step_of_a_receiver(&mut receiver, steps);
-        assert_eq!(rt; wrong, None, "{name}");
+        for (place, step) in steps.iter().enumerate() {
+            assert!(rt; receives(&mut receiver, step), "{name}, step {place}");
+        }
         assert_eq!(rt; receiver.busy(), *is_busy, "{name}");
     }
     Ok(())

@@ -1,18 +1,15 @@
 //! The record of one reading in a block, the last byte first.
 ghost use Rattle.std.specs.Prelude.{◌≡◌, ◌+◌, ◌≤◌, ◌++◌, IfSome, drop, length};
-ghost use Rattle.std.specs.List.{list_any};
 ghost use Rattle.j39_io.specs.Backwards.{WritesBefore};
-ghost use Rattle.j39_io.specs.Records.{is_special, later_text};
-ghost use Rattle.j39_groups.specs.Models.{value_of};
+ghost use Rattle.j39_io.specs.Records.{later_text};
 ghost use Rattle.j39_groups.specs.ReadValues.{read_value_of};
-ghost use Rattle.j39_groups.specs.ValueText.{bare_text, magnitude_text, scaled_text};
+ghost use Rattle.j39_groups.specs.ValueText.{bare_text, scaled_text};
 ghost use Rattle.j39_reports.specs.EntryText.{named_fields, value_fields};
 
 use crate::report_records::begin::{HEAD, digits_before};
-use j39_groups::{ReadValue, Value};
-use j39_io::backwards::{
-    byte_before, bytes_before, last_digits_before, number_before, tail_before,
-};
+use j39_groups::{ReadValue, Value, magnitude_before};
+use j39_io::backwards::{byte_before, bytes_before, slice_before, tail_before};
+use j39_io::has_special;
 
 /// The bytes of a block that a record fits in: what it begins with, a number, a value, three fields of 64 bytes with
 /// their commas, and the end of the line.
@@ -65,29 +62,9 @@ fn field_before(out: &mut [u8], end: usize, field: &[u8]) -> Option<usize>
     Some(byte_before(out, first, b','))
 }
 
-/// Whether a field has a byte that may stand in quotes alone.
-#[inline(always)]
-fn has_special(field: &[u8]) -> bool
-    ensures { result ≡ list_any is_special field.now }
-{
-    field.iter().any(|byte| *byte == b',' || *byte == b'"' || *byte == b'\r' || *byte == b'\n')
-}
-
-/// Writes bytes as they are.
-#[inline(always)]
-fn slice_before(out: &mut [u8], end: usize, bytes: &[u8]) -> usize
-    requires room { length bytes.now ≤ end }
-    requires within { end ≤ length out.old }
-    ensures { WritesBefore out.old out.new end result bytes.now }
-{
-    let start = end - bytes.len();
-    out[start..end].copy_from_slice(bytes);
-    start
-}
-
 /// Writes a value without its unit.
 #[inline(always)]
-#[tactic(auto, unfolding(j39_groups::specs::ValueText::bare_text))]
+#[tactic(auto, unfolding(j39_groups::specs::ValueText::bare_text, j39_groups::specs::ValueText::value_text))]
 fn bare_before(out: &mut [u8], end: usize, value: ReadValue<'_, '_>) -> Option<usize>
     requires room { 32 ≤ end }
     requires within { end ≤ length out.old }
@@ -97,27 +74,15 @@ fn bare_before(out: &mut [u8], end: usize, value: ReadValue<'_, '_>) -> Option<u
 {
     match value {
         ReadValue::Number(number, scale) => scaled_before(out, end, number, scale.places),
-        ReadValue::Plain(value) => plain_before(out, end, value),
-    }
-}
-
-#[inline(always)]
-#[tactic(auto, unfolding(j39_groups::specs::ValueText::bare_text, j39_groups::specs::ValueText::value_text))]
-fn plain_before(out: &mut [u8], end: usize, value: Value<'_>) -> Option<usize>
-    requires room { 32 ≤ end }
-    requires within { end ≤ length out.old }
-    ensures written { IfSome result (λ start. WritesBefore out.old out.new end start
-        (bare_text (value_of value.entry))) }
-    ensures short { IfSome result (λ start. end ≤ start + 32) }
-{
-    match value {
-        Value::Number(number, slot) => scaled_before(out, end, number, slot.places()),
-        Value::On => Some(bytes_before(out, end, *b"on")),
-        Value::Off => Some(bytes_before(out, end, *b"off")),
-        Value::Error => Some(bytes_before(out, end, *b"error")),
-        Value::Reserved => Some(bytes_before(out, end, *b"reserved")),
-        Value::Indicator => Some(bytes_before(out, end, *b"indicator")),
-        Value::Text(_) => None,
+        ReadValue::Plain(Value::Number(number, slot)) => {
+            scaled_before(out, end, number, slot.places())
+        }
+        ReadValue::Plain(Value::On) => Some(bytes_before(out, end, *b"on")),
+        ReadValue::Plain(Value::Off) => Some(bytes_before(out, end, *b"off")),
+        ReadValue::Plain(Value::Error) => Some(bytes_before(out, end, *b"error")),
+        ReadValue::Plain(Value::Reserved) => Some(bytes_before(out, end, *b"reserved")),
+        ReadValue::Plain(Value::Indicator) => Some(bytes_before(out, end, *b"indicator")),
+        ReadValue::Plain(Value::Text(_)) => None,
     }
 }
 
@@ -138,21 +103,4 @@ fn scaled_before(out: &mut [u8], end: usize, number: i64, places: u8) -> Option<
     } else {
         Some(digits)
     }
-}
-
-/// Writes a magnitude with its places.
-#[inline(always)]
-fn magnitude_before(out: &mut [u8], end: usize, magnitude: u64, places: u8) -> usize
-    requires places { places ≤ 9 }
-    requires room { 31 ≤ end }
-    requires within { end ≤ length out.old }
-    ensures written { WritesBefore out.old out.new end result (magnitude_text places magnitude) }
-    ensures short { end ≤ result + 30 }
-{
-    if places == 0 {
-        return number_before(out, end, magnitude);
-    }
-    let (digits, whole) = last_digits_before(out, end, usize::from(places), magnitude);
-    let point = byte_before(out, digits, b'.');
-    number_before(out, point, whole)
 }

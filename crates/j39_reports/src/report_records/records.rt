@@ -159,12 +159,26 @@ fn put_parts<W: Sink>(
     ensures { Puts (named_fields begin.now group.now spn parameter.now ++ value_fields (read_value_of value.entry))
         result (turn W.written W.has_failed sink.old sink.new) }
 {
+    put_named(begin, group, spn, parameter, sink)?;
+    put_value_and_unit(value, sink)
+}
+
+/// Writes the record of a reading, up to its value.
+fn put_named<W: Sink>(
+    begin: &[u8],
+    group: &[u8],
+    spn: u32,
+    parameter: &[u8],
+    sink: &mut W,
+) -> Result<(), DeviceFault>
+    ensures { Puts (named_fields begin.now group.now spn parameter.now)
+        result (turn W.written W.has_failed sink.old sink.new) }
+{
     put_all(sink, begin)?;
     put_behind_comma(group, sink)?;
     let number = spn_field(spn);
     put_all(sink, number.as_slice())?;
-    put_behind_comma(parameter, sink)?;
-    put_value_and_unit(value, sink)
+    put_behind_comma(parameter, sink)
 }
 
 /// Writes the record of a reading, from its value on.

@@ -1,7 +1,7 @@
 -- The bytes are written in the place of a part.
 use Rattle.std.proofs.Common.{◌≡◌, ◌+◌, ◌-◌, arith, length, refl}
 use Rattle.j39_io.proofs.BackwardsLemmas.{drop_part}
-use Rattle.j39_reports.proofs.report_records.quick_record.slice_before.Goals as goal
+use Rattle.j39_io.proofs.backwards.slice_before.Goals as goal
 
 pub returns : goal.returns
 returns c =
