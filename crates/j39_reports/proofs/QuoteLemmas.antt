@@ -34,8 +34,8 @@ none_special (x ∷ xs) commas quotes returns newlines =
     ap₂ (λ (s t : Bool). s || t) (ap₂ (λ (s t : Bool). s || t) a.0 (ap₂ (λ (s t : Bool). s || t) b.0 (ap₂ (λ (s t : Bool). s || t) c.0 d.0)))
     (none_special xs a.1 b.1 c.1 d.1)
 
-pub none_in_both : (rest block later : List ℕ) → block ≡ take 16 rest → later ≡ drop 16 rest → list_any is_special block ≡ false
+pub none_in_both : (rest block later : List ℕ) → block ≡ take 8 rest → later ≡ drop 8 rest → list_any is_special block ≡ false
     → list_any is_special later ≡ false → list_any is_special rest ≡ false
 none_in_both rest block later front back first others =
-    ap (list_any is_special) (sym (take-append-drop 16 rest) ∙ ap₂ (λ xs ys. xs ++ ys) (sym front) (sym back))
+    ap (list_any is_special) (sym (take-append-drop 8 rest) ∙ ap₂ (λ xs ys. xs ++ ys) (sym front) (sym back))
     ∙ list_any-append is_special block later ∙ ap₂ (λ (s t : Bool). s || t) first others
