@@ -4,7 +4,6 @@ ghost use Rattle.std.specs.List.{list_any};
 ghost use Rattle.std.specs.Simd.Lanes.{mask_l};
 ghost use Rattle.j39_io.specs.Backwards.{WritesBefore};
 ghost use Rattle.j39_io.specs.Records.{is_special, later_text};
-ghost use Rattle.j39_groups.specs.Models.{value_of};
 ghost use Rattle.j39_groups.specs.ReadValues.{read_value_of};
 ghost use Rattle.j39_groups.specs.ValueText.{bare_text, magnitude_text, scaled_text};
 ghost use Rattle.j39_reports.specs.EntryText.{named_fields, value_fields};
@@ -127,7 +126,7 @@ fn slice_before(out: &mut [u8], end: usize, bytes: &[u8]) -> usize
 
 /// Writes a value without its unit.
 #[inline(always)]
-#[tactic(auto, unfolding(j39_groups::specs::ValueText::bare_text))]
+#[tactic(auto, unfolding(j39_groups::specs::ValueText::bare_text, j39_groups::specs::ValueText::value_text))]
 fn bare_before(out: &mut [u8], end: usize, value: ReadValue<'_, '_>) -> Option<usize>
     requires room { 32 ≤ end }
     requires within { end ≤ length out.old }
@@ -137,27 +136,15 @@ fn bare_before(out: &mut [u8], end: usize, value: ReadValue<'_, '_>) -> Option<u
 {
     match value {
         ReadValue::Number(number, scale) => scaled_before(out, end, number, scale.places),
-        ReadValue::Plain(value) => plain_before(out, end, value),
-    }
-}
-
-#[inline(always)]
-#[tactic(auto, unfolding(j39_groups::specs::ValueText::bare_text, j39_groups::specs::ValueText::value_text))]
-fn plain_before(out: &mut [u8], end: usize, value: Value<'_>) -> Option<usize>
-    requires room { 32 ≤ end }
-    requires within { end ≤ length out.old }
-    ensures written { IfSome result (λ start. WritesBefore out.old out.new end start
-        (bare_text (value_of value.entry))) }
-    ensures short { IfSome result (λ start. end ≤ start + 32) }
-{
-    match value {
-        Value::Number(number, slot) => scaled_before(out, end, number, slot.places()),
-        Value::On => Some(bytes_before(out, end, *b"on")),
-        Value::Off => Some(bytes_before(out, end, *b"off")),
-        Value::Error => Some(bytes_before(out, end, *b"error")),
-        Value::Reserved => Some(bytes_before(out, end, *b"reserved")),
-        Value::Indicator => Some(bytes_before(out, end, *b"indicator")),
-        Value::Text(_) => None,
+        ReadValue::Plain(Value::Number(number, slot)) => {
+            scaled_before(out, end, number, slot.places())
+        }
+        ReadValue::Plain(Value::On) => Some(bytes_before(out, end, *b"on")),
+        ReadValue::Plain(Value::Off) => Some(bytes_before(out, end, *b"off")),
+        ReadValue::Plain(Value::Error) => Some(bytes_before(out, end, *b"error")),
+        ReadValue::Plain(Value::Reserved) => Some(bytes_before(out, end, *b"reserved")),
+        ReadValue::Plain(Value::Indicator) => Some(bytes_before(out, end, *b"indicator")),
+        ReadValue::Plain(Value::Text(_)) => None,
     }
 }
 
