@@ -5,6 +5,7 @@ pub mod PartLemmas
 pub mod NumberLemmas
 -- the report as records: a message's records
 pub mod RecordLemmas
+pub mod QuoteLemmas
 -- summaries: a summary, entry by entry
 pub mod OriginLemmas
 pub mod FirstLemmas

@@ -1,7 +1,9 @@
 //! The record of one reading in a block, the last byte first.
-ghost use Rattle.std.specs.Prelude.{◌≡◌, ◌+◌, ◌≤◌, ◌++◌, IfSome, drop, length};
+ghost use Rattle.std.specs.Prelude.{◌≡◌, ◌==◌, ◌+◌, ◌≤◌, ◌++◌, IfSome, drop, false, length, map};
+ghost use Rattle.std.specs.List.{list_any};
+ghost use Rattle.std.specs.Simd.Lanes.{mask_l};
 ghost use Rattle.j39_io.specs.Backwards.{WritesBefore};
-ghost use Rattle.j39_io.specs.Records.{later_text};
+ghost use Rattle.j39_io.specs.Records.{is_special, later_text};
 ghost use Rattle.j39_groups.specs.ReadValues.{read_value_of};
 ghost use Rattle.j39_groups.specs.ValueText.{bare_text, scaled_text};
 ghost use Rattle.j39_reports.specs.EntryText.{named_fields, value_fields};
@@ -10,6 +12,7 @@ use crate::report_records::begin::{HEAD, digits_before};
 use j39_groups::{ReadValue, Value, magnitude_before};
 use j39_io::backwards::{byte_before, bytes_before, slice_before, tail_before};
 use j39_io::has_special;
+use std::simd::prelude::*;
 
 /// The bytes of a block that a record fits in: what it begins with, a number, a value, three fields of 64 bytes with
 /// their commas, and the end of the line.
@@ -55,11 +58,49 @@ fn field_before(out: &mut [u8], end: usize, field: &[u8]) -> Option<usize>
     if field.len() > 63 {
         return None;
     }
-    if has_special(field) {
+    if may_be_special(field) {
         return None;
     }
     let first = slice_before(out, end, field);
     Some(byte_before(out, first, b','))
+}
+
+/// Whether a field may have a byte that stands in quotes alone. It looks at eight bytes at once.
+#[inline(always)]
+fn may_be_special(field: &[u8]) -> bool
+    ensures { result ≡ false → list_any is_special field.now ≡ false }
+{
+    let mut rest = field;
+    while let Some((block, later)) = rest.split_first_chunk::<8>() {
+        let special = special_bits(block);
+        if special != 0 {
+            return true;
+        }
+        rest = later;
+    }
+    has_special(rest)
+}
+
+/// Bits of which one is set where a byte of a block stands in quotes alone.
+#[inline(always)]
+fn special_bits(block: &[u8; 8]) -> u64
+    ensures { result ≡ 0 → list_any is_special block.now ≡ false }
+{
+    let commas = bits_of(block, b',');
+    let quotes = bits_of(block, b'"');
+    let carriage_returns = bits_of(block, b'\r');
+    let newlines = bits_of(block, b'\n');
+    commas | quotes | carriage_returns | newlines
+}
+
+/// A bit for each byte of a block, set where it is this byte.
+#[inline(always)]
+fn bits_of(block: &[u8; 8], byte: u8) -> u64
+    ensures { result ≡ mask_l (map (λ b. b == byte) block.now) }
+{
+    u8x8::from_array(*block)
+        .simd_eq(u8x8::splat(byte))
+        .to_bitmask()
 }
 
 /// Writes a value without its unit.

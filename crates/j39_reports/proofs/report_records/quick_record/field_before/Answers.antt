@@ -1,5 +1,5 @@
 -- A comma before a field that stands as it is.
-use Rattle.std.proofs.Common.{◌≡◌, ◌∙◌, ◌∷◌, ℕ, List, Bool, false, ap, if◌then◌else◌, subst, sym}
+use Rattle.std.proofs.Common.{◌≡◌, ◌∷◌, ℕ, List, Bool, false, ap, if◌then◌else◌, subst, sym}
 use Rattle.std.specs.List.{list_any}
 use Rattle.j39_io.specs.Backwards.{WritesBefore}
 use Rattle.j39_io.specs.Records.{comma, field_text, in_quotes, is_special}
@@ -12,6 +12,6 @@ as_it_is field none = ap (λ (b : Bool). if b then in_quotes field else field) n
 
 pub returns-clause-written : goal.returns-clause-written
 returns-clause-written c =
-    let none : list_any is_special c.args.field.now ≡ false = sym c.has_special.ensures ∙ c.if-has_special.false in
+    let none : list_any is_special c.args.field.now ≡ false = c.may_be_special.ensures c.if-may_be_special.false in
     subst (λ (text : List ℕ). WritesBefore c.args.out.now c.byte_before.new.out c.args.end c.byte_before.result (comma ∷ text)) (sym (as_it_is c.args.field.now none))
     (before_then _ _ _ _ _ _ _ _ c.slice_before-first.ensures c.byte_before.ensures)
