@@ -16,38 +16,43 @@ use j39_frame::Frame;
 const LEN: usize = 46;
 
 /// The frame of this bus that a line spells, where its length is the common one. `None` says nothing of the line.
+/// The line of a bus with a name of four bytes has its own way, in which all lengths are known.
 #[inline(always)]
 pub(crate) fn frame_on(line: &[u8], second: &mut LastSecond, bus: &Bus) -> Option<Frame>
     ensures { IfSome result (λ frame. IsFrameLine line.now bus.now frame) }
 {
     let body = body_of(line);
-    let len = LEN + bus.bytes().len();
-    if body.len() == len {
-        frame_in::<0>(line, body, second, bus)
-    } else if body.len() == len + 3 {
-        frame_with_nine(line, body, second, bus)
+    if body.len() == LEN + 4 {
+        frame_in::<0>(line, body, second, bus, 4)
+    } else {
+        frame_on_other(line, body, second, bus)
+    }
+}
+
+/// The same of a name of any length, and of six or nine decimals.
+#[inline(never)]
+fn frame_on_other(line: &[u8], body: &[u8], second: &mut LastSecond, bus: &Bus) -> Option<Frame>
+    requires { IsBody line.now body.now }
+    ensures { IfSome result (λ frame. IsFrameLine line.now bus.now frame) }
+{
+    let name = bus.bytes().len();
+    if body.len() == LEN + name {
+        frame_in::<0>(line, body, second, bus, name)
+    } else if body.len() == LEN + name + 3 {
+        frame_in::<3>(line, body, second, bus, name)
     } else {
         None
     }
 }
 
-/// The same of a line with nine decimals. Out of line: so one with six pays nothing for it.
-#[inline(never)]
-fn frame_with_nine(line: &[u8], body: &[u8], second: &mut LastSecond, bus: &Bus) -> Option<Frame>
-    requires body { IsBody line.now body.now }
-    requires short { length body.now ≤ 64 }
-    ensures { IfSome result (λ frame. IsFrameLine line.now bus.now frame) }
-{
-    frame_in::<3>(line, body, second, bus)
-}
-
-/// The same of the body of a line, with so many decimals behind the sixth.
+/// The same of the body of a line, with so many decimals behind the sixth, and a name of so many bytes.
 #[inline(always)]
 fn frame_in<const CUT: usize>(
     line: &[u8],
     body: &[u8],
     second: &mut LastSecond,
     bus: &Bus,
+    name: usize,
 ) -> Option<Frame>
     requires body { IsBody line.now body.now }
     requires short { length body.now ≤ 64 }
@@ -56,7 +61,7 @@ fn frame_in<const CUT: usize>(
     let (front, rest) = body.split_first_chunk::<18>()?;
     let stamp = second.stamp_of(front)?;
     let later = after_decimals::<CUT>(rest)?;
-    let third = after_name(later, bus)?;
+    let third = after_name(later, bus, name)?;
     frame_at(stamp, third)
 }
 
@@ -85,17 +90,16 @@ fn after_six(rest: &[u8]) -> Option<&[u8]>
     }
 }
 
-/// What follows the name of this bus and a space, where a text begins with them.
+/// What follows the name of this bus, of so many bytes, and a space, where a text begins with them.
 #[inline(always)]
-fn after_name<'a>(text: &'a [u8], bus: &Bus) -> Option<&'a [u8]>
+fn after_name<'a>(text: &'a [u8], bus: &Bus, len: usize) -> Option<&'a [u8]>
     ensures { IfSome result (λ third. IsBusName bus.now × (text.now ≡ bus.now ++ (space ∷ third.now))) }
 {
-    let name = bus.bytes();
-    if text.len() < name.len() {
+    if text.len() < len {
         return None;
     }
-    let (front, later) = text.split_at(name.len());
-    if !are_same(front, name) {
+    let (name, later) = text.split_at(len);
+    if !are_same(name, bus.bytes()) {
         return None;
     }
     match later.split_first() {
