@@ -6,7 +6,7 @@ use Rattle.std.proofs.lemmas.Simd.{pick_l_whole}
 use Rattle.j39_log.specs.LastSecond.{IsSecond, kept_text}
 use Rattle.j39_log.specs.Line.{IsBody}
 
-pub body_short : (line body : List ℕ) → IsBody line body → length body ≤ 64 → length line ≤ 256
+pub body_short : (line body : List ℕ) → IsBody line body → length body ≡ 50 → length line ≤ 256
 body_short line body is long =
     let len = ap length is.line_is ∙ length-append body is.cr in
     elim is.cr_is [

@@ -148,7 +148,7 @@ fn pairs_of(front: &[u8; 18]) -> Option<[u8; 8]>
 
 /// What follows the six decimals, three that are cut or none, `)` and a space.
 #[inline(always)]
-pub(crate) fn after_stamp(rest: &[u8]) -> Option<&[u8]>
+fn after_stamp(rest: &[u8]) -> Option<&[u8]>
     ensures { IfSome result (λ later. (cut : List ℕ) × AllDigits 10 cut × ((length cut ≡ 0) ⊎ (length cut ≡ 3))
         × (rest.now ≡ cut ++ (codes ") " ++ later.now))) }
 {
