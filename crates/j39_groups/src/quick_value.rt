@@ -14,9 +14,7 @@ use crate::read_value::ReadValue;
 use crate::scale::Scale;
 use crate::short_text::{magnitude_before, value_before};
 use crate::value::Value;
-use j39_io::backwards::{
-    byte_before, bytes_before, number_before, slice_before, tail_before,
-};
+use j39_io::backwards::{byte_before, bytes_before, number_before, slice_before, tail_before};
 
 /// The most bytes of a line that is written here: its head, a number of ten digits and a space, and a value.
 pub(crate) const ROOM: usize = HEAD + 11 + VALUE;
