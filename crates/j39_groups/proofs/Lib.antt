@@ -3,13 +3,14 @@ pub mod NumberLemmas
 pub mod ListLemmas
 pub mod TextLemmas
 pub mod PartsLemmas
--- the built-in table, and its fast way
+-- the rows of a table, and what is prepared for their lines
 pub mod TableLemmas
 pub mod SlotLemmas
 pub mod ReadBackLemmas
-pub mod QuickLemmas
--- tables that were read
-pub mod MarkLemmas
+pub mod ReadyLemmas
+pub mod RowLemmas
+-- where they are sought, and what they give
+pub mod RunLemmas
 pub mod ReadLemmas
 pub mod VisitLemmas
 pub mod RestrictedLemmas

@@ -1,7 +1,5 @@
 -- What holds of the whole table, row by row.
 use Rattle.std.proofs.Common.{sym, ◌≡◌, ◌<◌, ◌≤◌, ◌+◌, ◌/◌, ◌%◌, ◌^◌, ◌==◌, ◌++◌, ℕ, eqb, List, [], ◌∷◌, Bool, length, get_or, take, refl, ap, ◌∙◌, true, false, arith, map, inl, inr}
-use Rattle.std.specs.Bool.{OnFalse}
-use Rattle.std.proofs.lemmas.Nat.{and_mask}
 use Rattle.std.specs.Prelude.{nat_le, slice_index, bit_and, filter, slice_get, if◌then◌else◌, Option, Some}
 use Rattle.std.specs.List.{filter_map, flat_map, Contains, All, list_all, list_any}
 use Rattle.std.proofs.lemmas.Bool.{and_parts, cases_Bool, ltb-true, leb-true, eq-eqb, eqb-true, eqb-false, ne_eqb, false≢true}
@@ -9,39 +7,16 @@ use Rattle.std.proofs.lemmas.List.Sums.{AllPass-from_list_all, sum_by_more, sum_
 use Rattle.std.proofs.lemmas.List.{append-nil}
 use Rattle.std.proofs.lemmas.Grind.{flat_map-append}
 use Rattle.std.proofs.lemmas.List.Elements.{All-contains, All-head, All-tail, filter_more}
-use Rattle.j39_groups.specs.declared.table.Field.{Field}
-use Rattle.j39_groups.specs.declared.table.Field.TheVariants.{Number, Switch, Text, Texts}
-use Rattle.j39_groups.specs.declared.table.Row.{Row}
-use Rattle.j39_groups.specs.declared.table.TheConstants.{LOW_BYTES}
+use Rattle.j39_groups.specs.declared.row.Row.{Row}
 use Rattle.j39_groups.specs.Row.{RowRecord}
 use Rattle.j39_groups.specs.Table.{the_table}
-use Rattle.j39_groups.specs.TableChecks.{is_sound_table, is_sound, IsSound, most_values, most_values_of}
+use Rattle.j39_groups.specs.Rows.{is_built_in, most_values, most_values_of}
 use Rattle.j39_groups.specs.Readings.{is_network_group, is_reported_in}
 use Rattle.j39_groups.specs.Slots.{SizedSlotRecord, slot_at}
 use Rattle.j39_groups.proofs.ListLemmas.{lone, contains_filter_map}
 
-pub field_sound : (field : Field) → is_sound field ≡ true → IsSound field
-field_sound (Number first last slot) h =
-    let a = and_parts _ _ h in
-    let b = and_parts _ _ a.1 in
-    let c = and_parts _ _ b.1 in
-    let d = and_parts _ _ c.1 in
-    record { starts = ltb-true _ _ a.0; ordered = leb-true _ _ b.0; narrow = ltb-true _ _ c.0; rises = ltb-true _ _ d.0; small = ltb-true _ _ d.1 }
-field_sound (Switch byte low high) h =
-    let a = and_parts _ _ h in
-    let b = and_parts _ _ a.1 in
-    let c = and_parts _ _ b.1 in
-    record { byte_starts = ltb-true _ _ a.0; starts = ltb-true _ _ b.0; two = eqb-true _ _ c.0; ends = leb-true _ _ c.1 }
-field_sound (Text part) h = ltb-true _ _ h
-field_sound (Texts byte count) h = ltb-true _ _ h
-
-pub row_sound : (rows : List Row) (i : ℕ) (d : Row) → is_sound_table rows ≡ true → i < length rows → IsSound (get_or rows i d).field
-row_sound rows i d h below =
-    let each = AllPass-from_list_all _ rows h in
-    field_sound (get_or rows i d).field (and_parts _ _ (each i d below)).0
-
 -- the values of a further row of a group have places
-pub room : (rows : List Row) (pgn i : ℕ) (d : Row) → is_sound_table rows ≡ true → i < length rows → (get_or rows i d).pgn ≡ pgn
+pub room : (rows : List Row) (pgn i : ℕ) (d : Row) → is_built_in rows ≡ true → i < length rows → (get_or rows i d).pgn ≡ pgn
     → most_values_of pgn (take i rows) + most_values (get_or rows i d).field ≤ 32
 room rows pgn i d h below same =
     let each = AllPass-from_list_all _ rows h in
@@ -93,31 +68,9 @@ slot_only row n listed here =
     let few = leb-true _ _ (All-contains (λ r. has_one_slot r ≡ true) the_table row (AllPass-from_list_all _ the_table one_slot_each) listed) in
     lone _ n few (contains_filter_map (slot_at row.spn) the_table row n listed here)
 
--- the bit of a group's low byte
-unfoldable pub low_bit : ℕ → ℕ
-low_bit pgn = slice_index LOW_BYTES (pgn / 64 % 4) / 2 ^ (pgn % 64) % 2
-
-low_bits_set : list_all (λ row. low_bit row.pgn == 1) the_table ≡ true
-unfolding the_table low_bit
-low_bits_set = refl
-
--- where the bit of a group's low byte is not set, no row is the group's
-pub other_rows : (pgn : ℕ) → low_bit pgn ≡ 0 → All (λ row. (row.pgn == pgn) ≡ false) the_table
-other_rows pgn unset k d below =
-    let set = eqb-true _ _ (AllPass-from_list_all (λ row. low_bit row.pgn == 1) the_table low_bits_set k d below) in
-    ne_eqb _ _ (λ same. let at : low_bit pgn ≡ 1 = rw (← same) set in absurd (omega (arith, at, unset)))
-
 pub filter_none : {X : Type 0} (p : X → Bool) (xs : List X) → All (λ x. p x ≡ false) xs → filter p xs ≡ []
 filter_none p [] h = refl
 filter_none p (x ∷ xs) h = rw (All-head (λ x. p x ≡ false) x xs h) (filter_none p xs (All-tail (λ x. p x ≡ false) x xs h))
-
-pub on_unset : (b : ℕ) (P : Type 0) → (b % 2 ≡ 0 → P) → OnFalse (eqb (bit_and b 1) 1) P
-on_unset b P f =
-    let last : bit_and b 1 ≡ b % 2 = and_mask b 1 in
-    elim (cases_Bool (eqb (bit_and b 1) 1)) [
-      | inl is_set ↦ rw is_set tt
-      | inr is_unset ↦ let other = eqb-false (bit_and b 1) 1 is_unset in rw is_unset (f (omega (arith, last, other)))
-    ]
 
 -- where a table has no row of the network's groups, a group is reported that it lists
 no_network : (pgn : ℕ) (rows : List RowRecord) → is_network_group pgn ≡ true → list_any (λ row. is_network_group row.pgn) rows ≡ false
@@ -138,13 +91,6 @@ listed_is_reported rows pgn none = elim (cases_Bool (is_network_group pgn)) [
   | inl net ↦ let silent = no_network pgn rows net none in rw (net, silent) refl
   | inr free ↦ rw free refl
 ]
-
-built_in_is_open : list_any (λ row. is_network_group row.pgn) the_table ≡ false
-unfolding the_table
-built_in_is_open = refl
-
-pub listed_is_reported_built_in : (pgn : ℕ) → list_any (λ row. row.pgn == pgn) the_table ≡ is_reported_in the_table pgn
-listed_is_reported_built_in pgn = listed_is_reported the_table pgn built_in_is_open
 
 pub filter_unlisted : {X : Type 0} (p : X → Bool) (xs : List X) → list_any p xs ≡ false → filter p xs ≡ []
 filter_unlisted p [] h = refl

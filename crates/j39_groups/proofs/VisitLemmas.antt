@@ -1,18 +1,9 @@
 -- A visitor takes reading after reading.
 use Rattle.std.proofs.Common.{◌≡◌, ◌<◌, ◌+◌, ◌==◌, ℕ, suc, List, [], ◌∷◌, ◌++◌, true, length, take, drop, get_or, map, sym, ap, ◌∙◌, subst, append-nil, append_assoc, drop-cons, take-append-drop, inl, inr, refl}
-use Rattle.std.specs.Prelude.{filter}
 use Rattle.std.specs.List.{flat_map}
-use Rattle.std.proofs.lemmas.Bool.{both_ways, cases_Bool}
 use Rattle.std.proofs.lemmas.List.{map-append, take_more}
 use Rattle.std.proofs.lemmas.List.Concat.{flat_map-cons}
-use Rattle.std.proofs.lemmas.List.Folds.{flat_map-map, list_all_at}
 use Rattle.std.proofs.lemmas.Grind.{flat_map-append}
-use Rattle.j39_groups.specs.TableChecks.{row_record}
-use Rattle.j39_groups.specs.Quick.{IsQuick, are_quick, is_quick}
-use Rattle.j39_groups.specs.Readings.{readings_at, readings_in}
-use Rattle.j39_groups.specs.Table.{the_table}
-use Rattle.j39_groups.specs.declared.table.LabelledRow.{LabelledRow}
-use Rattle.j39_groups.proofs.QuickLemmas.{last_quick}
 use Rattle.j39_groups.specs.Value.{ReadingRecord}
 use Rattle.j39_groups.specs.Visits.{StopsAmong, TakesMore}
 
@@ -65,17 +56,3 @@ pub flat_map-next : {X Y : Type 0} (f : X → List Y) (xs : List X) (i : ℕ) (d
 flat_map-next f xs i d below =
     ap (flat_map f) (take_more xs i d below) ∙ flat_map-append f (take i xs) (get_or xs i d ∷ [])
     ∙ ap (λ ys. flat_map f (take i xs) ++ ys) (flat_map-cons f (get_or xs i d) [] ∙ append-nil (f (get_or xs i d)))
-
--- each of the quick rows is quick
-pub quick_at : (rows : List LabelledRow) (i : ℕ) (d : LabelledRow) → i < length rows → are_quick rows ≡ true → IsQuick (get_or rows i d)
-quick_at rows i d below all =
-    let row = get_or rows i d in
-    elim (cases_Bool (is_quick row)) [
-      | inl passes ↦ (last_quick (row ∷ []) [] row refl (rw passes refl)).1
-      | inr fails ↦ absurd (both_ways _ (list_all_at is_quick rows i d below fails) all)
-    ]
-
-pub quick_readings : (rows : List LabelledRow) (pgn : ℕ) (bytes : List ℕ) → map (λ quick. row_record quick.row) rows ≡ filter (λ row. row.pgn == pgn) the_table
-    → flat_map (λ quick. readings_at bytes (row_record quick.row)) rows ≡ readings_in the_table pgn bytes
-unfolding readings_in
-quick_readings rows pgn bytes is = sym (flat_map-map (readings_at bytes) (λ quick. row_record quick.row) rows) ∙ ap (flat_map (readings_at bytes)) is

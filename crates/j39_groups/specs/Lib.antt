@@ -10,14 +10,12 @@ pub mod Names
 -- what is printed (own)
 pub mod ValueText
 pub mod Printed
+pub mod Lines
 -- what the code's values show
 pub mod Models
-pub mod ReadFields
-pub mod ReadRows
-pub mod ReadValues
 pub mod Visits
 -- the code's steps, below the rules
-pub mod TableChecks
-pub mod Quick
-pub mod Marks
-pub mod ReadLines
+pub mod Fields
+pub mod Ready
+pub mod Rows
+pub mod Runs

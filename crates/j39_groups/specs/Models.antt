@@ -1,38 +1,29 @@
 -- What contracts see of the code's types.
-use Rattle.std.specs.Prelude.{ℕ, List, pos, codes}
-use Rattle.j39_groups.specs.declared.slot.Unit.{Unit}
-use Rattle.j39_groups.specs.declared.slot.Unit.TheVariants.{Percent, Rpm, Kilometres, Hours, Revolutions, Celsius, Kilopascals, KilometresPerHour, LitresPerHour, KilometresPerLitre, Volts, Fields}
-use Rattle.j39_groups.specs.declared.slot.Slot.{Slot}
+use Rattle.std.specs.Prelude.{List, pos}
+use Rattle.j39_groups.specs.declared.field.Field.{Field}
+use Rattle.j39_groups.specs.declared.field.Field.TheVariants.{Number as NumberField, Bits, Switch, Text as TextField, Texts}
+use Rattle.j39_groups.specs.declared.listed.Listed.{Listed}
+use Rattle.j39_groups.specs.declared.listed.Listed.TheVariants.{Lent, Kept}
+use Rattle.j39_groups.specs.declared.row.Row.{Row}
+use Rattle.j39_groups.specs.declared.scale.Scale.{Scale}
+use Rattle.j39_groups.specs.declared.value.Reading.{Reading}
 use Rattle.j39_groups.specs.declared.value.Value.{Value}
 use Rattle.j39_groups.specs.declared.value.Value.TheVariants.{Number, On, Off, Error, Reserved, Indicator, Text}
-use Rattle.j39_groups.specs.declared.value.Reading.{Reading}
+use Rattle.j39_groups.specs.Row.{FieldRecord, number_field, bits_field, switch_field, text_field, texts_field, RowRecord}
 use Rattle.j39_groups.specs.Value.{SlotRecord, ValueRecord, number, on, off, error, reserved, indicator, text, ReadingRecord}
+use Rattle.j39_memory.specs.Items.{items_of}
 
-abbrev pub unit_text : Unit → List ℕ
-unit_text Percent = codes "%"
-unit_text Rpm = codes "rpm"
-unit_text Kilometres = codes "km"
-unit_text Hours = codes "h"
-unit_text Revolutions = codes "r"
-unit_text Celsius = codes "degC"
-unit_text Kilopascals = codes "kPa"
-unit_text KilometresPerHour = codes "km/h"
-unit_text LitresPerHour = codes "L/h"
-unit_text KilometresPerLitre = codes "km/L"
-unit_text Volts = codes "V"
-unit_text Fields = codes "fields"
-
-abbrev pub slot_record : Slot → SlotRecord
-slot_record slot = record {
-  step = pos slot.step;
-  offset = slot.offset;
-  places = slot.places;
+abbrev pub scale_record : Scale → SlotRecord
+scale_record scale = record {
+  step = pos scale.step;
+  offset = scale.offset;
+  places = scale.places;
   unit =
-      unit_text slot.unit;
+      scale.unit.now;
 }
 
 abbrev pub value_of : Value → ValueRecord
-value_of (Number n slot) = number n (slot_record slot)
+value_of (Number n scale) = number n (scale_record scale)
 value_of On = on
 value_of Off = off
 value_of Error = error
@@ -42,3 +33,24 @@ value_of (Text bytes) = text bytes.now
 
 abbrev pub reading_of : Reading → ReadingRecord
 reading_of reading = record { spn = reading.spn; value = value_of reading.value }
+
+abbrev pub field_record : Field → FieldRecord
+field_record (NumberField first last scale) = number_field first last (scale_record scale)
+field_record (Bits byte low count scale) = bits_field byte low count (scale_record scale)
+field_record (Switch byte low high) = switch_field byte low high
+field_record (TextField part) = text_field part
+field_record (Texts byte count) = texts_field byte count
+
+abbrev pub row_record : Row → RowRecord
+row_record row = record {
+  pgn = row.pgn;
+  group = row.group.now;
+  spn = row.spn;
+  name =
+      row.name.now;
+  field = field_record row.field;
+}
+
+abbrev pub listed_rows : Listed → List Row
+listed_rows (Lent rows) = rows.now
+listed_rows (Kept rows) = items_of rows

@@ -3,7 +3,6 @@ use Rattle.std.specs.Prelude.{◌==◌, ◌+◌, ◌-◌, ◌/◌, ◌%◌, ◌+
 use Rattle.std.specs.List.{flat_map}
 use Rattle.j39_io.specs.Chars.{newline}
 use Rattle.j39_groups.specs.Row.{FieldRecord, number_field, bits_field, switch_field, text_field, texts_field, RowRecord}
-use Rattle.j39_groups.specs.Table.{the_table}
 use Rattle.j39_groups.specs.Value.{SlotRecord}
 use Rattle.j39_groups.specs.ValueText.{scaled_text}
 
@@ -57,5 +56,3 @@ row_text row = line_of_columns row.pgn row.group row.spn (place_text row.field) 
 abbrev pub rows_text : List RowRecord → List ℕ
 rows_text rows = flat_map row_text rows
 
-unfoldable pub parameters_text : List ℕ
-parameters_text = rows_text the_table

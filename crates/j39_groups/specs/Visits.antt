@@ -1,12 +1,12 @@
 -- What a visitor makes of readings: those that it has taken, and where it stops.
 use Rattle.std.specs.Prelude.{◌≡◌, ◌∷◌, ◌++◌, ℕ, List}
-use Rattle.j39_groups.specs.declared.read_value.ReadValue.{ReadValue}
-use Rattle.j39_groups.specs.ReadValues.{read_value_of}
+use Rattle.j39_groups.specs.declared.value.Value.{Value}
+use Rattle.j39_groups.specs.Models.{value_of}
 use Rattle.j39_groups.specs.Value.{ReadingRecord}
 
 -- the number of a parameter with a value that a table gives
-abbrev pub visited : ℕ → ReadValue → ReadingRecord
-visited spn value = record { spn = spn; value = read_value_of value }
+abbrev pub visited : ℕ → Value → ReadingRecord
+visited spn value = record { spn = spn; value = value_of value }
 
 -- behind whatever readings it has taken, it has taken these too
 abbrev pub TakesMore : {S V : Type 0} → (S → V → List ReadingRecord → Type 0) → V → V → List ReadingRecord → Type 0

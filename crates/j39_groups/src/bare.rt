@@ -2,67 +2,45 @@
 ghost use Rattle.std.specs.Prelude.{◌≡◌};
 ghost use Rattle.j39_io.specs.Puts.{Puts};
 ghost use Rattle.j39_io.specs.Turn.{turn};
-ghost use Rattle.j39_groups.specs.ReadValues.{read_value_of};
 ghost use Rattle.j39_groups.specs.Models.{value_of};
 ghost use Rattle.j39_groups.specs.ValueText.{bare_text, unit_of};
 
-use crate::read_value::ReadValue;
 use crate::text::{put_value, scaled_text};
 use crate::value::Value;
 use j39_io::{DeviceFault, Sink, put_all};
 
-impl<'t> ReadValue<'t, '_> {
+impl<'t> Value<'t, '_> {
     /// Writes a number in decimal with its places, a word, or a text in quotes. After a fault a front of that was written.
     #[tactic(auto, unfolding(crate::specs::ValueText::bare_text))]
     pub fn put_bare<W: Sink>(self, sink: &mut W) -> Result<(), DeviceFault>
-        ensures { Puts (bare_text (read_value_of self.entry)) result (turn W.written W.has_failed sink.old sink.new) }
+        ensures { Puts (bare_text (value_of self.entry)) result (turn W.written W.has_failed sink.old sink.new) }
     {
         match self {
-            ReadValue::Number(number, scale) => {
+            Value::Number(number, scale) => {
                 put_all(sink, scaled_text(number, scale.places).as_slice())
             }
-            ReadValue::Plain(value) => put_bare_plain(&value, sink),
+            Value::On => put_value(&self, sink),
+            Value::Off => put_value(&self, sink),
+            Value::Error => put_value(&self, sink),
+            Value::Reserved => put_value(&self, sink),
+            Value::Indicator => put_value(&self, sink),
+            Value::Text(_) => put_value(&self, sink),
         }
     }
 
     /// A number's unit, of any bytes; nothing for any other value.
     #[tactic(auto, unfolding(crate::specs::ValueText::unit_of))]
     pub fn unit(self) -> &'t [u8]
-        ensures { result.now ≡ unit_of (read_value_of self.entry) }
+        ensures { result.now ≡ unit_of (value_of self.entry) }
     {
         match self {
-            ReadValue::Number(_, scale) => scale.unit,
-            ReadValue::Plain(value) => unit_of_plain(value),
+            Value::Number(_, scale) => scale.unit,
+            Value::On => b"",
+            Value::Off => b"",
+            Value::Error => b"",
+            Value::Reserved => b"",
+            Value::Indicator => b"",
+            Value::Text(_) => b"",
         }
-    }
-}
-
-#[tactic(auto, unfolding(crate::specs::ValueText::bare_text))]
-fn put_bare_plain<W: Sink>(value: &Value<'_>, sink: &mut W) -> Result<(), DeviceFault>
-    ensures { Puts (bare_text (value_of value.now)) result (turn W.written W.has_failed sink.old sink.new) }
-{
-    match *value {
-        Value::Number(number, slot) => put_all(sink, scaled_text(number, slot.places()).as_slice()),
-        Value::On => put_value(value, sink),
-        Value::Off => put_value(value, sink),
-        Value::Error => put_value(value, sink),
-        Value::Reserved => put_value(value, sink),
-        Value::Indicator => put_value(value, sink),
-        Value::Text(_) => put_value(value, sink),
-    }
-}
-
-#[tactic(auto, unfolding(crate::specs::ValueText::unit_of))]
-fn unit_of_plain(value: Value<'_>) -> &'static [u8]
-    ensures { result.now ≡ unit_of (value_of value.entry) }
-{
-    match value {
-        Value::Number(_, slot) => slot.unit().as_bytes(),
-        Value::On => b"",
-        Value::Off => b"",
-        Value::Error => b"",
-        Value::Reserved => b"",
-        Value::Indicator => b"",
-        Value::Text(_) => b"",
     }
 }

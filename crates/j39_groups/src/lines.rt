@@ -3,7 +3,7 @@ ghost use Rattle.std.specs.Prelude.{◌≡◌, ◌≤◌, length};
 ghost use Rattle.std.specs.List.{flat_map};
 ghost use Rattle.j39_io.specs.Puts.{Puts};
 ghost use Rattle.j39_io.specs.Turn.{turn};
-ghost use Rattle.j39_groups.specs.Quick.{reading_line};
+ghost use Rattle.j39_groups.specs.Lines.{reading_line};
 ghost use Rattle.j39_groups.specs.Models.{reading_of};
 
 use crate::text::put_value;
@@ -15,7 +15,7 @@ use j39_io::{DeviceFault, Sink, put_all};
 /// Writes a line for each reading; `head` is what each begins with.
 pub(crate) fn put_found<W: Sink>(
     head: &[u8],
-    found: &[Reading<'_>],
+    found: &[Reading<'_, '_>],
     sink: &mut W,
 ) -> Result<(), DeviceFault>
     requires { length head.now ≤ 48 }
@@ -29,7 +29,7 @@ pub(crate) fn put_found<W: Sink>(
 }
 
 /// Writes the line of one reading.
-fn put_reading<W: Sink>(head: &[u8], reading: &Reading<'_>, sink: &mut W) -> Result<(), DeviceFault>
+fn put_reading<W: Sink>(head: &[u8], reading: &Reading<'_, '_>, sink: &mut W) -> Result<(), DeviceFault>
     requires { length head.now ≤ 48 }
     ensures { Puts (reading_line head.now (reading_of reading.now)) result (turn W.written W.has_failed sink.old sink.new) }
 {

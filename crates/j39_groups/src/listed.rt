@@ -1,30 +1,28 @@
-//! A table of parameters: the one that is built in, or one that was built.
-ghost use Rattle.std.specs.Prelude.{◌≡◌, true};
-ghost use Rattle.std.specs.List.Sorted.{IsNonDecreasingBy};
-ghost use Rattle.std.proofs.Props.{props};
-ghost use Rattle.j39_frame.specs.Pgn.{pgn_raw};
-ghost use Rattle.j39_memory.specs.Items.{items_of};
-ghost use Rattle.j39_groups.specs.Marks.{are_marked};
+//! Where the rows of a table are.
+ghost use Rattle.std.specs.Prelude.{◌≡◌};
+ghost use Rattle.j39_groups.specs.Models.{listed_rows};
 
-use crate::read_row::ReadRow;
+use crate::row::Row;
 use j39_memory::List;
 
-/// The rows of a table that was built, by rising groups; those of one group in the order in which they were given.
+/// The rows of a table.
 #[derive(Drop)]
-pub(crate) struct ReadTable<'t> {
-    pub rows: List<ReadRow<'t>>,
-    /// What is known of a group without a look at the rows.
-    pub marks: [usize; 256],
-    pub ghost sorted: { IsNonDecreasingBy (λ row. pgn_raw row.pgn) (items_of rows) } by { Prim.hlevel props },
-    pub ghost marked: { are_marked marks (items_of rows) ≡ true },
+pub(crate) enum Listed<'t> {
+    /// In the program.
+    Lent(&'t [Row<'t>]),
+    /// In memory of the table's own.
+    Kept(List<Row<'t>>),
 }
 
-/// Where the rows of a table are. What was built is a parameter: a variant that names a lifetime may hold no array, as
-/// the rows of a page's build stand in.
-#[derive(Drop)]
-pub(crate) enum Listed<R: Drop> {
-    /// In the program.
-    BuiltIn,
-    /// In what was built.
-    Read(R),
+impl<'t> Listed<'t> {
+    /// The rows, in their order.
+    #[inline(always)]
+    pub fn rows(&self) -> &[Row<'t>]
+        ensures { result.now ≡ listed_rows self.now }
+    {
+        match self {
+            Listed::Lent(rows) => rows,
+            Listed::Kept(rows) => rows.as_slice(),
+        }
+    }
 }

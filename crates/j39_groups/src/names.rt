@@ -1,27 +1,27 @@
-//! What parameters are called.
-ghost use Rattle.std.specs.Prelude.{◌≡◌, map, option_map};
-ghost use Rattle.j39_groups.specs.TableChecks.{row_record};
-ghost use Rattle.j39_groups.specs.Names.{parameter_name};
-ghost use Rattle.j39_groups.specs.ReadRows.{read_row_record};
+//! What groups and parameters are called.
+ghost use Rattle.std.specs.Prelude.{◌≡◌, map, option_map, slice_get};
+ghost use Rattle.std.specs.List.{filter_map};
+ghost use Rattle.std.specs.Option.{option_copied};
+ghost use Rattle.j39_groups.specs.Models.{row_record};
+ghost use Rattle.j39_groups.specs.Names.{group_at, name_at, parameter_name};
 
-use crate::read_row::ReadRow;
-use crate::table::Row;
+use crate::row::Row;
 
-/// The name of a parameter, in its first row among these of the built-in table.
-pub(crate) fn name_in<'r>(rows: &'r [Row], spn: u32) -> Option<&'r [u8]>
-    ensures { option_map (λ name. name.now) result ≡ parameter_name (map row_record rows.now) spn }
+/// What these rows call a group.
+pub(crate) fn group_name_in<'r>(rows: &'r [Row<'_>], pgn: u32) -> Option<&'r [u8]>
+    ensures { option_copied result ≡ slice_get (filter_map (λ row. group_at pgn (row_record row)) rows.now) 0 }
 {
     for row in rows {
-        if row.spn == spn {
-            return Some(row.name.as_bytes());
+        if row.pgn == pgn {
+            return Some(row.group);
         }
     }
     None
 }
 
-/// The name of a parameter, in its first row among these of a table that was built.
-pub(crate) fn read_name_in<'r>(rows: &'r [ReadRow<'_>], spn: u32) -> Option<&'r [u8]>
-    ensures { option_map (λ name. name.now) result ≡ parameter_name (map read_row_record rows.now) spn }
+/// What these rows call a parameter, of whatever group.
+pub(crate) fn name_in<'r>(rows: &'r [Row<'_>], spn: u32) -> Option<&'r [u8]>
+    ensures { option_map (λ name. name.now) result ≡ parameter_name (map row_record rows.now) spn }
 {
     for row in rows {
         if row.spn == spn {
@@ -29,4 +29,27 @@ pub(crate) fn read_name_in<'r>(rows: &'r [ReadRow<'_>], spn: u32) -> Option<&'r 
         }
     }
     None
+}
+
+/// What these rows call a parameter of a group.
+pub(crate) fn name_in_group<'r>(rows: &'r [Row<'_>], pgn: u32, spn: u32) -> Option<&'r [u8]>
+    ensures { option_map (λ name. name.now) result
+        ≡ slice_get (filter_map (λ row. name_at pgn spn (row_record row)) rows.now) 0 }
+{
+    for row in rows {
+        if let Some(name) = name_at(row, pgn, spn) {
+            return Some(name);
+        }
+    }
+    None
+}
+
+fn name_at<'r>(row: &'r Row<'_>, pgn: u32, spn: u32) -> Option<&'r [u8]>
+    ensures { option_map (λ name. name.now) result ≡ name_at pgn spn (row_record row.now) }
+{
+    if row.pgn == pgn && row.spn == spn {
+        Some(row.name)
+    } else {
+        None
+    }
 }

@@ -1,41 +1,25 @@
-//! The table of parameters, as it is printed (own).
-ghost use Rattle.std.specs.Prelude.{◌≡◌, ◌+◌, ◌≤◌, ◌++◌, codes, decimal};
-ghost use Rattle.std.specs.Io.KnownBytes.{Appends};
-ghost use Rattle.std.specs.List.{flat_map};
+//! A table of parameters, as it is printed (own).
+ghost use Rattle.std.specs.Prelude.{◌≡◌, ◌+◌, ◌*◌, ◌≤◌, ◌<◌, ◌^◌, ◌++◌, codes, decimal, true};
+ghost use Rattle.std.specs.List.{flat_map, list_all};
 ghost use Rattle.arrayvec.specs.ArrayVec.{array_vec_len};
 ghost use Rattle.j39_io.specs.Puts.{Puts};
 ghost use Rattle.j39_io.specs.Turn.{turn};
-ghost use Rattle.j39_groups.specs.TableChecks.{field_record, row_record};
-ghost use Rattle.j39_groups.specs.Printed.{line_of_columns, parameters_text, place_text, range_text, row_text, rows_text, scale_columns, scale_text, slot_text};
-ghost use Rattle.j39_groups.specs.Models.{slot_record};
-ghost use Rattle.j39_groups.specs.Table.{the_table};
+ghost use Rattle.j39_groups.specs.Fields.{IsSound};
+ghost use Rattle.j39_groups.specs.Models.{field_record, row_record, scale_record};
+ghost use Rattle.j39_groups.specs.Printed.{bits_end, bits_text, line_of_columns, place_text, range_text, row_text, scale_columns, scale_text, slot_text};
+ghost use Rattle.j39_groups.specs.Rows.{is_row};
 
-use crate::reading::rows;
-use crate::slot::Slot;
-use crate::table::{Field, Row};
+use crate::field::Field;
+use crate::row::Row;
+use crate::scale::Scale;
 use crate::text::{Text, scaled_text};
 use arrayvec::ArrayVec;
 use j39_io::printing::push_number;
 use j39_io::{DeviceFault, Sink, put_all};
 
-/// Writes the table (own): a line for each parameter that is read, in the table's order, with the
-/// PGN and the short name of its group, its SPN, where it stands in the payload, what a raw step is
-/// worth, the value of the raw number 0, the unit, and its name. After a fault a front was written.
-#[tactic(auto, unfolding(crate::specs::Printed::parameters_text))]
-pub fn put_parameters<W: Sink>(sink: &mut W) -> Result<(), DeviceFault>
-    ensures { Puts parameters_text result (turn W.written W.has_failed sink.old sink.new) }
-{
-    put_built_in(sink)
-}
-
-/// Writes the table that is built in.
-pub(crate) fn put_built_in<W: Sink>(sink: &mut W) -> Result<(), DeviceFault>
-    ensures { Puts (rows_text the_table) result (turn W.written W.has_failed sink.old sink.new) }
-{
-    put_parameters_of(rows(), sink)
-}
-
-fn put_parameters_of<W: Sink>(rows: &[Row], sink: &mut W) -> Result<(), DeviceFault>
+/// Writes a line for each row.
+pub(crate) fn put_rows<W: Sink>(rows: &[Row<'_>], sink: &mut W) -> Result<(), DeviceFault>
+    requires { list_all is_row rows.now ≡ true }
     ensures { Puts (flat_map (λ row. row_text (row_record row)) rows.now)
         result (turn W.written W.has_failed sink.old sink.new) }
 {
@@ -45,26 +29,27 @@ fn put_parameters_of<W: Sink>(rows: &[Row], sink: &mut W) -> Result<(), DeviceFa
     Ok(())
 }
 
-/// Writes a parameter's line.
-fn put_row<W: Sink>(row: &Row, sink: &mut W) -> Result<(), DeviceFault>
+/// Writes a row's line.
+fn put_row<W: Sink>(row: &Row<'_>, sink: &mut W) -> Result<(), DeviceFault>
+    requires { is_row row.now ≡ true }
     ensures { Puts (row_text (row_record row.now)) result (turn W.written W.has_failed sink.old sink.new) }
 {
     let place = place_of(row.field);
     let scale = scale_of(row.field);
     put_columns(
         row.pgn,
-        row.group.as_bytes(),
+        row.group,
         row.spn,
         place.as_slice(),
         &scale,
-        row.name.as_bytes(),
+        row.name,
         sink,
     )
 }
 
 /// The columns of a scale.
 #[derive(Drop)]
-pub(crate) struct ScaleTexts<'u> {
+struct ScaleTexts<'u> {
     /// What a raw step is worth.
     pub step: Text,
     /// The value of the raw number 0.
@@ -73,7 +58,7 @@ pub(crate) struct ScaleTexts<'u> {
 }
 
 /// Writes a line of these columns.
-pub(crate) fn put_columns<'x, W: Sink>(
+fn put_columns<'x, W: Sink>(
     pgn: u32,
     group: &'x [u8],
     spn: u32,
@@ -136,18 +121,25 @@ pub fn push_decimal(text: &mut ArrayVec<u8, 32>, number: u32)
 }
 
 /// Where a field stands, in bytes and bits that count from 1.
-fn place_of(field: Field) -> ArrayVec<u8, 32>
-    ensures { result.items ≡ place_text (field_record field) }
+fn place_of(field: Field<'_>) -> ArrayVec<u8, 32>
+    requires { IsSound field }
+    ensures { result.items ≡ place_text (field_record field.entry) }
 {
     match field {
         Field::Number { first, last, .. } => bytes_place(first, last),
+        Field::Bits {
+            byte,
+            low,
+            count,
+            ..
+        } => bits_place(byte, low, count),
         Field::Switch { byte, low, high } => switch_place(byte, low, high),
         Field::Text { part } => part_place(part),
         Field::Texts { byte, .. } => parts_place(byte),
     }
 }
 
-pub(crate) fn bytes_place(first: u8, last: u8) -> ArrayVec<u8, 32>
+fn bytes_place(first: u8, last: u8) -> ArrayVec<u8, 32>
     ensures { result.items ≡ range_text first last }
 {
     let mut text = ArrayVec::new();
@@ -155,7 +147,7 @@ pub(crate) fn bytes_place(first: u8, last: u8) -> ArrayVec<u8, 32>
     text
 }
 
-pub(crate) fn switch_place(byte: u8, low: u8, high: u8) -> ArrayVec<u8, 32>
+fn switch_place(byte: u8, low: u8, high: u8) -> ArrayVec<u8, 32>
     ensures { result.items ≡ decimal byte ++ codes "." ++ range_text low high }
 {
     let mut text = ArrayVec::new();
@@ -165,7 +157,7 @@ pub(crate) fn switch_place(byte: u8, low: u8, high: u8) -> ArrayVec<u8, 32>
     text
 }
 
-pub(crate) fn part_place(part: u8) -> ArrayVec<u8, 32>
+fn part_place(part: u8) -> ArrayVec<u8, 32>
     ensures { result.items ≡ codes "*" ++ decimal part }
 {
     let mut text = ArrayVec::new();
@@ -174,7 +166,7 @@ pub(crate) fn part_place(part: u8) -> ArrayVec<u8, 32>
     text
 }
 
-pub(crate) fn parts_place(byte: u8) -> ArrayVec<u8, 32>
+fn parts_place(byte: u8) -> ArrayVec<u8, 32>
     ensures { result.items ≡ decimal byte ++ codes "-" }
 {
     let mut text = ArrayVec::new();
@@ -195,28 +187,70 @@ pub fn push_range(text: &mut ArrayVec<u8, 32>, first: u8, last: u8)
     }
 }
 
+/// So many bits from the bit `low` of a byte on.
+fn bits_place(byte: u8, low: u8, count: u8) -> ArrayVec<u8, 32>
+    requires starts { 0 < low }
+    requires ends { low ≤ 8 }
+    requires some { 0 < count }
+    requires narrow { count ≤ 32 }
+    ensures { result.items ≡ bits_text byte low (bits_end low count) }
+{
+    let last = u16::from(low + count - 2);
+    let mut text = ArrayVec::new();
+    push_short(&mut text, u16::from(byte));
+    text.push(b'.');
+    push_short(&mut text, u16::from(low));
+    if last / 8 > 0 {
+        text.push(b'-');
+        push_short(&mut text, u16::from(byte) + last / 8);
+        text.push(b'.');
+        push_short(&mut text, last % 8 + 1);
+    } else if last + 1 != u16::from(low) {
+        text.push(b'-');
+        push_short(&mut text, last + 1);
+    }
+    text
+}
+
+/// Appends a number in decimal, of five digits at most.
+fn push_short(text: &mut ArrayVec<u8, 32>, number: u16)
+    requires { array_vec_len text.old + 5 ≤ 32 }
+    ensures items { text.new.items ≡ text.old.items ++ decimal number }
+    ensures len { array_vec_len text.new ≤ array_vec_len text.old + 5 }
+{
+    push_number(text, u64::from(number));
+}
+
 /// What a raw step is worth, the value of the raw number 0, and the unit; dashes where there is none.
-fn scale_of(field: Field) -> ScaleTexts<'static>
-    ensures { scale_columns result.step.items result.offset.items result.unit.now ≡ scale_text (field_record field) }
+fn scale_of(field: Field<'_>) -> ScaleTexts<'_>
+    requires { IsSound field }
+    ensures { scale_columns result.step.items result.offset.items result.unit.now
+        ≡ scale_text (field_record field.entry) }
 {
     match field {
-        Field::Number { slot, .. } => slot_texts(slot),
+        Field::Number { scale, .. } => scale_texts(scale),
+        Field::Bits { scale, .. } => scale_texts(scale),
         Field::Switch { .. } => dashes(),
         Field::Text { .. } => dashes(),
         Field::Texts { .. } => dashes(),
     }
 }
 
-fn slot_texts(slot: Slot) -> ScaleTexts<'static>
-    ensures { scale_columns result.step.items result.offset.items result.unit.now ≡ slot_text (slot_record slot) }
+fn scale_texts(scale: Scale<'_>) -> ScaleTexts<'_>
+    requires { scale.step < 2 ^ 63 }
+    ensures { scale_columns result.step.items result.offset.items result.unit.now
+        ≡ slot_text (scale_record scale.entry) }
 {
-    let step = scaled_text(slot.step(), slot.places());
-    let offset = scaled_text(slot.offset(), slot.places());
-    let unit = slot.unit().as_bytes();
-    ScaleTexts { step, offset, unit }
+    let step = scaled_text(scale.step as i64, scale.places);
+    let offset = scaled_text(scale.offset, scale.places);
+    ScaleTexts {
+        step,
+        offset,
+        unit: scale.unit,
+    }
 }
 
-pub(crate) fn dashes<'u>() -> ScaleTexts<'u>
+fn dashes<'u>() -> ScaleTexts<'u>
     ensures { scale_columns result.step.items result.offset.items result.unit.now ≡ codes "- - -" }
 {
     ScaleTexts {

@@ -1,31 +1,50 @@
-//! The lines of the readings by a group's rows of a table that was built, in one block, the last line first.
-ghost use Rattle.std.specs.Prelude.{◌≡◌, ◌≤◌, IfSome, IsTrue, drop, length};
-ghost use Rattle.std.specs.List.{flat_map};
+//! The lines of the readings by a group's rows, in one block, the last line first.
+ghost use Rattle.std.specs.Prelude.{◌≡◌, ◌+◌, ◌≤◌, ◌++◌, ◌∷◌, [], IfSome, IsTrue, Some, drop, length, true};
+ghost use Rattle.std.specs.Fmt.{sign_text};
+ghost use Rattle.std.specs.List.{flat_map, list_all};
+ghost use Rattle.std.specs.Option.{option_map, option_to_list};
 ghost use Rattle.j39_io.specs.Backwards.{WritesBefore};
-ghost use Rattle.j39_groups.specs.ReadFields.{HasOneValue};
-ghost use Rattle.j39_groups.specs.ReadLines.{row_lines, row_readings};
+ghost use Rattle.j39_io.specs.Chars.{newline};
+ghost use Rattle.j39_groups.specs.Lines.{reading_line, row_lines, row_readings};
+ghost use Rattle.j39_groups.specs.Models.{field_record, row_record, value_of};
+ghost use Rattle.j39_groups.specs.Readings.{readings_at, values_at};
+ghost use Rattle.j39_groups.specs.Ready.{HasEnd, short_text};
+ghost use Rattle.j39_groups.specs.Rows.{is_row};
+ghost use Rattle.j39_groups.specs.ValueText.{magnitude_text, value_text};
 
-use crate::quick_lines::{HEAD, LINES};
-use crate::quick_value::{ROOM, quick_line};
-use crate::read_field::ReadField;
-use crate::read_row::ReadRow;
-use crate::read_value::value_in;
+use crate::row::Row;
+use crate::short_text::{ShortText, magnitude_before, short_before};
+use crate::value::Value;
+use crate::value_in::value_in;
+use j39_io::backwards::{byte_before, bytes_before, tail_before};
 
-/// Writes a line for each reading of a payload by these rows. The lines end at the end of `out`; answers where they
-/// start, and how many they are. `None`, and nothing of use is written, where a row is a text, its line is too long, or
-/// they do not fit.
+/// The most bytes that the lines of a message begin with.
+pub const HEAD: usize = 48;
+
+/// The most bytes of a line that is written here: its head, a label, and a value with a newline.
+const LINE: usize = HEAD + 16 + 48;
+
+/// The bytes of a block that the lines of eight rows fit in.
+pub const LINES: usize = 8 * LINE;
+
+/// Writes a line for each reading of a payload of a group by those of these rows that are the group's. The lines end at
+/// the end of `out`; answers where they start, and how many they are. `None`, and nothing of use is written, where one
+/// of these rows has no end.
+#[inline(always)]
 pub(crate) fn rows_before(
     out: &mut [u8; LINES],
     head: &[u8; HEAD],
     from: usize,
-    rows: &[ReadRow<'_>],
+    rows: &[Row<'_>],
+    pgn: u32,
     bytes: &[u8],
 ) -> Option<(usize, u64)>
     requires from { from ≤ 48 }
-    requires few { length rows.now ≤ 65536 }
-    ensures written { IfSome result (λ found. WritesBefore out.old out.new 768 found.0
-        (flat_map (row_lines (drop from head.now) bytes.now) rows.now)) }
-    ensures lines { IfSome result (λ found. found.1 ≡ length (flat_map (row_readings bytes.now) rows.now)) }
+    requires few { length rows.now ≤ 8 }
+    requires sound { list_all is_row rows.now ≡ true }
+    ensures written { IfSome result (λ found. WritesBefore out.old out.new 896 found.0
+        (flat_map (row_lines pgn (drop from head.now) bytes.now) rows.now)) }
+    ensures lines { IfSome result (λ found. found.1 ≡ length (flat_map (row_readings pgn bytes.now) rows.now)) }
     ensures few { IfSome result (λ found. found.1 ≤ length rows.now) }
 {
     let mut left = rows.len();
@@ -33,57 +52,167 @@ pub(crate) fn rows_before(
     let mut lines = 0;
     'rows: while left > 0 {
         left -= 1;
-        if at < ROOM {
-            return None;
-        }
-        let (start, more) = row_before(out, at, head, from, &rows[left], bytes)?;
+        let (start, more) = row_before_if_of(out, at, head, from, &rows[left], pgn, bytes)?;
         at = start;
         lines += more;
     }
     Some((at, lines))
 }
 
-/// Writes the line of a row that has one value at most, where the value is there, and answers where it starts, and
-/// how many lines these are.
+/// Writes the line of a row, where it is the group's and its value is there, and answers where it starts, and how many
+/// lines these are.
+#[inline(always)]
+fn row_before_if_of(
+    out: &mut [u8],
+    end: usize,
+    head: &[u8; HEAD],
+    from: usize,
+    row: &Row<'_>,
+    pgn: u32,
+    bytes: &[u8],
+) -> Option<(usize, u64)>
+    requires from { from ≤ 48 }
+    requires sound { is_row row.now ≡ true }
+    requires room { 112 ≤ end }
+    requires within { end ≤ length out.old }
+    ensures written { IfSome result (λ found. WritesBefore out.old out.new end found.0
+        (row_lines pgn (drop from head.now) bytes.now row.now)) }
+    ensures lines { IfSome result (λ found. found.1 ≡ length (row_readings pgn bytes.now row.now)) }
+    ensures one { IfSome result (λ found. found.1 ≤ 1) }
+    ensures short { IfSome result (λ found. end ≤ found.0 + 112) }
+{
+    if row.pgn == pgn {
+        row_before(out, end, head, from, row, bytes)
+    } else {
+        Some((end, 0))
+    }
+}
+
+/// The same, of a row of the group.
 #[inline(always)]
 fn row_before(
     out: &mut [u8],
     end: usize,
     head: &[u8; HEAD],
     from: usize,
-    row: &ReadRow<'_>,
+    row: &Row<'_>,
     bytes: &[u8],
 ) -> Option<(usize, u64)>
     requires from { from ≤ 48 }
-    requires room { 107 ≤ end }
+    requires sound { is_row row.now ≡ true }
+    requires room { 112 ≤ end }
     requires within { end ≤ length out.old }
     ensures written { IfSome result (λ found. WritesBefore out.old out.new end found.0
-        (row_lines (drop from head.now) bytes.now row.now)) }
-    ensures lines { IfSome result (λ found. found.1 ≡ length (row_readings bytes.now row.now)) }
+        (flat_map (reading_line (drop from head.now)) (readings_at bytes.now (row_record row.now)))) }
+    ensures lines { IfSome result (λ found. found.1 ≡ length (readings_at bytes.now (row_record row.now))) }
     ensures one { IfSome result (λ found. found.1 ≤ 1) }
+    ensures short { IfSome result (λ found. end ≤ found.0 + 112) }
 {
-    if !is_no_text(row.field) {
-        return None;
-    }
-    match value_in(bytes, row.field) {
+    let ending = row.end.as_ref()?;
+    match ready_value(row, ending, bytes) {
         Some(value) => {
-            let start = quick_line(out, end, head, from, row.spn, value)?;
+            let start = line_before(out, end, head, from, row, ending, value);
             Some((start, 1))
         }
         None => Some((end, 0)),
     }
 }
 
-/// Whether a field is none of texts.
+/// The value in a row that has one at most, whose end is prepared.
 #[inline(always)]
-fn is_no_text(field: ReadField<'_>) -> bool
-    ensures { IsTrue result → HasOneValue field.entry }
+fn ready_value<'t, 'v>(row: &Row<'t>, ending: &ShortText, bytes: &'v [u8]) -> Option<Value<'t, 'v>>
+    requires sound { is_row row.now ≡ true }
+    requires ending { row.now.end ≡ Some ending.now }
+    ensures value { option_to_list (option_map value_of result)
+        ≡ values_at bytes.now (field_record row.now.field) }
+    ensures ends { IfSome result (λ value. HasEnd ending.now (value_of value)) }
 {
-    match field {
-        ReadField::Number { .. } => true,
-        ReadField::Bits { .. } => true,
-        ReadField::Switch { .. } => true,
-        ReadField::Text { .. } => false,
-        ReadField::Texts { .. } => false,
+    value_in(bytes, row.field)
+}
+
+/// Writes the line of a value of a row.
+#[inline(always)]
+fn line_before(
+    out: &mut [u8],
+    end: usize,
+    head: &[u8; HEAD],
+    from: usize,
+    row: &Row<'_>,
+    ending: &ShortText,
+    value: Value<'_, '_>,
+) -> usize
+    requires from { from ≤ 48 }
+    requires sound { is_row row.now ≡ true }
+    requires ends { HasEnd ending.now (value_of value) }
+    requires room { 112 ≤ end }
+    requires within { end ≤ length out.old }
+    ensures written { WritesBefore out.old out.new end result
+        (reading_line (drop from head.now) (record { spn = row.now.spn; value = value_of value.entry })) }
+    ensures short { end ≤ result + 112 }
+{
+    let text = value_before(out, end, value, ending);
+    let label = short_before(out, text, &row.label);
+    tail_before(out, label, head, from)
+}
+
+/// Writes the text of a value and a newline.
+#[inline(always)]
+#[tactic(auto, unfolding(crate::specs::ValueText::value_text))]
+fn value_before(out: &mut [u8], end: usize, value: Value<'_, '_>, ending: &ShortText) -> usize
+    requires ends { HasEnd ending.now (value_of value) }
+    requires room { 48 ≤ end }
+    requires within { end ≤ length out.old }
+    ensures written { WritesBefore out.old out.new end result (value_text (value_of value.entry) ++ (newline ∷ [])) }
+    ensures short { end ≤ result + 47 }
+{
+    match value {
+        Value::Number(number, scale) => {
+            let is_negative = number.is_negative();
+            let magnitude = number.unsigned_abs();
+            number_before_end(out, end, is_negative, magnitude, scale.places, ending)
+        }
+        Value::On => bytes_before(out, end, *b"on\n"),
+        Value::Off => bytes_before(out, end, *b"off\n"),
+        Value::Error => bytes_before(out, end, *b"error\n"),
+        Value::Reserved => bytes_before(out, end, *b"reserved\n"),
+        Value::Indicator => bytes_before(out, end, *b"indicator\n"),
+        Value::Text(_) => end,
+    }
+}
+
+/// Writes a number in decimal with its places, and its end.
+#[inline(always)]
+fn number_before_end(
+    out: &mut [u8],
+    end: usize,
+    is_negative: bool,
+    magnitude: u64,
+    places: u8,
+    ending: &ShortText,
+) -> usize
+    requires from { ending.now.from ≤ 16 }
+    requires places { places ≤ 9 }
+    requires room { 48 ≤ end }
+    requires within { end ≤ length out.old }
+    ensures written { WritesBefore out.old out.new end result
+        (sign_text is_negative ++ magnitude_text places magnitude ++ short_text ending.now) }
+    ensures short { end ≤ result + 47 }
+{
+    let unit = short_before(out, end, ending);
+    let digits = magnitude_before(out, unit, magnitude, places);
+    sign_before(out, digits, is_negative)
+}
+
+#[inline(always)]
+fn sign_before(out: &mut [u8], end: usize, is_negative: bool) -> usize
+    requires room { 1 ≤ end }
+    requires within { end ≤ length out.old }
+    ensures written { WritesBefore out.old out.new end result (sign_text is_negative) }
+    ensures short { end ≤ result + 1 }
+{
+    if is_negative {
+        byte_before(out, end, b'-')
+    } else {
+        end
     }
 }

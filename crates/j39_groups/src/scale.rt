@@ -1,5 +1,5 @@
-//! How the raw numbers of a table that was built become values.
-ghost use Rattle.std.specs.Prelude.{◌<◌, ◌+◌, ◌*◌, ◌-◌, ◌^◌, ◌≤◌, unsigned_abs};
+//! How raw numbers become values.
+ghost use Rattle.std.specs.Prelude.{◌≡◌, ◌<◌, ◌+◌, ◌*◌, ◌-◌, ◌^◌, ◌≤◌, unsigned_abs, ℕ, Some, IfSome};
 
 /// How a raw number is read (J1939-71): `value = raw * step + offset`, in units of the last printed place.
 #[derive(Clone, Copy)]
@@ -15,8 +15,10 @@ pub struct Scale<'t> {
 }
 
 impl<'t> Scale<'t> {
-    ghost use Rattle.std.specs.Prelude.{◌≡◌, ◌+ℤ◌, ◌*ℤ◌, pos, nat_lt};
-    ghost use Rattle.j39_groups.specs.ReadFields.{largest, scale_record};
+    ghost use Rattle.std.specs.Prelude.{◌+ℤ◌, ◌*ℤ◌, pos, nat_lt};
+    ghost use Rattle.j39_groups.specs.Fields.{largest};
+    ghost use Rattle.j39_groups.specs.Models.{scale_record};
+    ghost use Rattle.j39_groups.specs.Slots.{IsAt};
 
     /// The value of a raw number, in units of the last printed place.
     #[inline(always)]
@@ -25,6 +27,19 @@ impl<'t> Scale<'t> {
         ensures { result ≡ pos raw *ℤ (scale_record self.entry).step +ℤ (scale_record self.entry).offset }
     {
         (u64::from(raw) * self.step) as i64 + self.offset
+    }
+
+    /// The raw number of a value, where the value stands on a step.
+    pub(crate) fn raw(self, value: i64) -> Option<u32>
+        requires { 0 < self.step }
+        ensures found { IfSome result (λ raw. IsAt (scale_record self.entry) value raw) }
+        ensures only { (raw : ℕ) → raw < 2 ^ 32 → IsAt (scale_record self.entry) value raw → result ≡ Some raw }
+    {
+        let offset = self.offset;
+        if value < offset {
+            return None;
+        }
+        steps_in(value.abs_diff(offset), self.step)
     }
 
     /// Whether the value of each raw number of so many bits fits 64 bits.
@@ -41,4 +56,16 @@ impl<'t> Scale<'t> {
         };
         sum < 1 << 63
     }
+}
+
+/// How many whole steps a distance is; `None` where it is no whole number of steps, or too many.
+fn steps_in(distance: u64, step: u64) -> Option<u32>
+    requires { 0 < step }
+    ensures found { IfSome result (λ n. n * step ≡ distance) }
+    ensures only { (n : ℕ) → n < 2 ^ 32 → n * step ≡ distance → result ≡ Some n }
+{
+    if distance % step != 0 {
+        return None;
+    }
+    u32::try_from(distance / step).ok()
 }

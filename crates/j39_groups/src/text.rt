@@ -1,15 +1,16 @@
 //! The text of a value (own).
-ghost use Rattle.std.specs.Prelude.{◌≡◌, ◌+◌, ◌*◌, ◌/◌, ◌%◌, ◌^◌, ◌<◌, ◌≤◌, ◌++◌, ◌∷◌, [], true};
+ghost use Rattle.std.specs.Prelude.{◌≡◌, ◌+◌, ◌*◌, ◌/◌, ◌%◌, ◌^◌, ◌<◌, ◌≤◌, ◌++◌, ◌∷◌, [], codes, true};
 ghost use Rattle.std.specs.Io.KnownBytes.{Appends};
 ghost use Rattle.std.specs.List.{flat_map};
 ghost use Rattle.std.specs.Fmt.{decimal, digit_glyph};
 ghost use Rattle.arrayvec.specs.ArrayVec.{array_vec_len};
 ghost use Rattle.j39_io.specs.Puts.{Puts};
 ghost use Rattle.j39_io.specs.Turn.{turn};
-ghost use Rattle.j39_groups.specs.Models.{value_of, slot_record};
+ghost use Rattle.j39_groups.specs.Models.{scale_record, value_of};
 ghost use Rattle.j39_groups.specs.ValueText.{value_text, number_text, scaled_text, magnitude_text, byte_text, is_plain, quoted};
 
-use crate::slot::Slot;
+use crate::printed::put_parts;
+use crate::scale::Scale;
 use crate::value::Value;
 use arrayvec::ArrayVec;
 use j39_io::printing::{push_bytes, push_number};
@@ -21,11 +22,11 @@ pub type Text = ArrayVec<u8, 288>;
 /// Writes a value's text (own): a number in decimal with its places and unit, a word, or a text in
 /// quotes. After a fault a front of the text was written.
 #[tactic(auto, unfolding(crate::specs::ValueText::value_text))]
-pub fn put_value<W: Sink>(value: &Value<'_>, sink: &mut W) -> Result<(), DeviceFault>
+pub fn put_value<W: Sink>(value: &Value<'_, '_>, sink: &mut W) -> Result<(), DeviceFault>
     ensures { Puts (value_text (value_of value.now)) result (turn W.written W.has_failed sink.old sink.new) }
 {
     match *value {
-        Value::Number(number, slot) => put_all(sink, number_text(number, slot).as_slice()),
+        Value::Number(number, scale) => put_number(number, scale, sink),
         Value::On => put_all(sink, b"on"),
         Value::Off => put_all(sink, b"off"),
         Value::Error => put_all(sink, b"error"),
@@ -35,14 +36,20 @@ pub fn put_value<W: Sink>(value: &Value<'_>, sink: &mut W) -> Result<(), DeviceF
     }
 }
 
-/// The number in decimal with its places, a space and the unit.
-fn number_text(number: i64, slot: Slot) -> Text
-    ensures { result.items ≡ number_text number (slot_record slot) }
+/// Writes a number in decimal with its places, a space and the unit.
+fn put_number<W: Sink>(number: i64, scale: Scale<'_>, sink: &mut W) -> Result<(), DeviceFault>
+    ensures { Puts (number_text number (scale_record scale.entry)) result (turn W.written W.has_failed sink.old sink.new) }
 {
-    let mut out = scaled_text(number, slot.places());
-    out.push(b' ');
-    push_bytes(&mut out, slot.unit().as_bytes());
-    out
+    let text = scaled_text(number, scale.places);
+    put_spaced(text.as_slice(), scale.unit, sink)
+}
+
+/// Writes two texts with a space between.
+fn put_spaced<'x, W: Sink>(text: &'x [u8], unit: &'x [u8], sink: &mut W) -> Result<(), DeviceFault>
+    ensures { Puts (text.now ++ codes " " ++ unit.now) result (turn W.written W.has_failed sink.old sink.new) }
+{
+    let parts: [&[u8]; 3] = [text, b" ", unit];
+    put_parts(&parts, sink)
 }
 
 /// The number in decimal with its places.

@@ -1,28 +1,20 @@
 //! The readings of a payload, handed on one by one.
-ghost use Rattle.std.specs.Prelude.{◌≡◌, ◌∷◌, [], ℕ, List, ◌≤◌, OnOk, OnErr, map};
-ghost use Rattle.std.specs.List.{flat_map};
+ghost use Rattle.std.specs.Prelude.{◌≡◌, ◌∷◌, [], ℕ, List, ◌≤◌, OnOk, OnErr, map, true};
+ghost use Rattle.std.specs.List.{flat_map, list_all};
 ghost use Rattle.std.specs.Option.{option_map, option_to_list};
-ghost use Rattle.j39_frame.specs.Pgn.{pgn_raw};
-ghost use Rattle.j39_groups.specs.TableChecks.{field_record};
-ghost use Rattle.j39_groups.specs.Quick.{IsQuickField};
-ghost use Rattle.j39_groups.specs.ReadLines.{row_readings, text_readings};
-ghost use Rattle.j39_groups.specs.ReadValues.{read_value_of};
-ghost use Rattle.j39_groups.specs.Readings.{readings_of, values_at};
-ghost use Rattle.j39_groups.specs.Models.{reading_of};
+ghost use Rattle.j39_groups.specs.Lines.{row_readings, text_readings};
+ghost use Rattle.j39_groups.specs.Models.{reading_of, row_record, value_of};
+ghost use Rattle.j39_groups.specs.Readings.{readings_at};
+ghost use Rattle.j39_groups.specs.Rows.{is_row};
 ghost use Rattle.j39_groups.specs.Value.{ReadingRecord};
 ghost use Rattle.j39_groups.specs.Visits.{Stops, Takes, visited};
 
-use crate::field::bytes_from;
-use crate::quick_lines::value_at;
-use crate::quick_rows::quick_rows;
-use crate::read_field::ReadField;
-use crate::read_row::ReadRow;
-use crate::read_value::{ReadValue, value_in};
-use crate::reading::{push_texts, readings};
-use crate::table::Field;
-use crate::value::Reading;
+use crate::field::Field;
+use crate::reading::push_texts;
+use crate::row::Row;
+use crate::value::{Reading, Value};
+use crate::value_in::{bytes_from, value_in};
 use arrayvec::ArrayVec;
-use j39_frame::Pgn;
 
 /// What takes the readings of payloads, one after another, with what it writes to; `'t` is how long the table lives.
 pub trait ReadingVisitor<'t, M> {
@@ -42,7 +34,7 @@ pub trait ReadingVisitor<'t, M> {
     fn visit(
         &mut self,
         spn: u32,
-        value: ReadValue<'t, '_>,
+        value: Value<'t, '_>,
         medium: &mut M,
     ) -> Result<(), Self::Fault>
         ensures taken { OnOk result (Takes has_taken self.old medium.old self.new medium.new
@@ -52,69 +44,9 @@ pub trait ReadingVisitor<'t, M> {
             → has_stopped subject before (visited spn value.entry) self.new medium.new) };
 }
 
-/// Hands on the readings by the built-in table.
-#[inline(always)]
-pub(crate) fn visit_built_in<'t, M, V: ReadingVisitor<'t, M>>(
-    pgn: Pgn,
-    bytes: &[u8],
-    visitor: &mut V,
-    medium: &mut M,
-) -> Result<(), V::Fault>
-    ensures taken { OnOk result (Takes V.has_taken visitor.old medium.old visitor.new medium.new
-        (readings_of (pgn_raw pgn) bytes.now)) }
-    ensures stopped { OnErr result (Stops V.has_taken V.has_stopped visitor.old medium.old visitor.new medium.new
-        (readings_of (pgn_raw pgn) bytes.now)) }
-{
-    let Some(rows) = quick_rows(pgn.raw()) else {
-        return visit_each(pgn, bytes, visitor, medium);
-    };
-    for quick in rows {
-        visit_field(quick.row.spn, quick.row.field, bytes, visitor, medium)?;
-    }
-    Ok(())
-}
-
-/// Hands on the reading of a number or a switch of the built-in table, where there is one.
-#[inline(always)]
-fn visit_field<'t, M, V: ReadingVisitor<'t, M>>(
-    spn: u32,
-    field: Field,
-    bytes: &[u8],
-    visitor: &mut V,
-    medium: &mut M,
-) -> Result<(), V::Fault>
-    requires { IsQuickField field }
-    ensures taken { OnOk result (Takes V.has_taken visitor.old medium.old visitor.new medium.new
-        (map (λ value. record { spn = spn; value = value }) (values_at bytes.now (field_record field)))) }
-    ensures stopped { OnErr result (Stops V.has_taken V.has_stopped visitor.old medium.old visitor.new medium.new
-        (map (λ value. record { spn = spn; value = value }) (values_at bytes.now (field_record field)))) }
-{
-    match value_at(bytes, field) {
-        Some(value) => visitor.visit(spn, ReadValue::Plain(value), medium),
-        None => Ok(()),
-    }
-}
-
-/// Hands on the readings by the built-in table, of any group.
-#[inline(never)]
-fn visit_each<'t, M, V: ReadingVisitor<'t, M>>(
-    pgn: Pgn,
-    bytes: &[u8],
-    visitor: &mut V,
-    medium: &mut M,
-) -> Result<(), V::Fault>
-    ensures taken { OnOk result (Takes V.has_taken visitor.old medium.old visitor.new medium.new
-        (readings_of (pgn_raw pgn) bytes.now)) }
-    ensures stopped { OnErr result (Stops V.has_taken V.has_stopped visitor.old medium.old visitor.new medium.new
-        (readings_of (pgn_raw pgn) bytes.now)) }
-{
-    let found = readings(pgn, bytes);
-    visit_found(found.as_slice(), visitor, medium)
-}
-
 /// Hands on these readings.
 fn visit_found<'t, M, V: ReadingVisitor<'t, M>>(
-    found: &[Reading<'_>],
+    found: &[Reading<'t, '_>],
     visitor: &mut V,
     medium: &mut M,
 ) -> Result<(), V::Fault>
@@ -124,57 +56,82 @@ fn visit_found<'t, M, V: ReadingVisitor<'t, M>>(
         (map reading_of found.now)) }
 {
     for reading in found {
-        visitor.visit(reading.spn, ReadValue::Plain(reading.value), medium)?;
+        visitor.visit(reading.spn, reading.value, medium)?;
     }
     Ok(())
 }
 
-/// Hands on the readings by these rows.
+/// Hands on the readings of a payload of a group by those of these rows that are the group's.
 pub(crate) fn visit_rows<'t, M, V: ReadingVisitor<'t, M>>(
-    rows: &[ReadRow<'t>],
+    rows: &[Row<'t>],
+    pgn: u32,
     bytes: &[u8],
     visitor: &mut V,
     medium: &mut M,
 ) -> Result<(), V::Fault>
+    requires { list_all is_row rows.now ≡ true }
     ensures taken { OnOk result (Takes V.has_taken visitor.old medium.old visitor.new medium.new
-        (flat_map (row_readings bytes.now) rows.now)) }
+        (flat_map (row_readings pgn bytes.now) rows.now)) }
     ensures stopped { OnErr result (Stops V.has_taken V.has_stopped visitor.old medium.old visitor.new medium.new
-        (flat_map (row_readings bytes.now) rows.now)) }
+        (flat_map (row_readings pgn bytes.now) rows.now)) }
 {
     for row in rows {
-        visit_row(row, bytes, visitor, medium)?;
+        visit_if_of(row, pgn, bytes, visitor, medium)?;
     }
     Ok(())
+}
+
+/// Hands on the readings by one row, where it is the group's.
+#[inline(always)]
+fn visit_if_of<'t, M, V: ReadingVisitor<'t, M>>(
+    row: &Row<'t>,
+    pgn: u32,
+    bytes: &[u8],
+    visitor: &mut V,
+    medium: &mut M,
+) -> Result<(), V::Fault>
+    requires { is_row row.now ≡ true }
+    ensures taken { OnOk result (Takes V.has_taken visitor.old medium.old visitor.new medium.new
+        (row_readings pgn bytes.now row.now)) }
+    ensures stopped { OnErr result (Stops V.has_taken V.has_stopped visitor.old medium.old visitor.new medium.new
+        (row_readings pgn bytes.now row.now)) }
+{
+    if row.pgn == pgn {
+        visit_row(row, bytes, visitor, medium)
+    } else {
+        Ok(())
+    }
 }
 
 /// Hands on the readings by one row.
 fn visit_row<'t, M, V: ReadingVisitor<'t, M>>(
-    row: &ReadRow<'t>,
+    row: &Row<'t>,
     bytes: &[u8],
     visitor: &mut V,
     medium: &mut M,
 ) -> Result<(), V::Fault>
+    requires { is_row row.now ≡ true }
     ensures taken { OnOk result (Takes V.has_taken visitor.old medium.old visitor.new medium.new
-        (row_readings bytes.now row.now)) }
+        (readings_at bytes.now (row_record row.now))) }
     ensures stopped { OnErr result (Stops V.has_taken V.has_stopped visitor.old medium.old visitor.new medium.new
-        (row_readings bytes.now row.now)) }
+        (readings_at bytes.now (row_record row.now))) }
 {
     match row.field {
-        ReadField::Number { .. } => visit_value(
+        Field::Number { .. } => visit_value(
             row.spn,
             value_in(bytes, row.field),
             visitor,
             medium,
         ),
-        ReadField::Bits { .. } => visit_value(row.spn, value_in(bytes, row.field), visitor, medium),
-        ReadField::Switch { .. } => visit_value(
+        Field::Bits { .. } => visit_value(row.spn, value_in(bytes, row.field), visitor, medium),
+        Field::Switch { .. } => visit_value(
             row.spn,
             value_in(bytes, row.field),
             visitor,
             medium,
         ),
-        ReadField::Text { .. } => visit_value(row.spn, value_in(bytes, row.field), visitor, medium),
-        ReadField::Texts { byte, count } => {
+        Field::Text { .. } => visit_value(row.spn, value_in(bytes, row.field), visitor, medium),
+        Field::Texts { byte, count } => {
             visit_texts(row.spn, bytes_from(bytes, byte), count, visitor, medium)
         }
     }
@@ -183,14 +140,14 @@ fn visit_row<'t, M, V: ReadingVisitor<'t, M>>(
 /// Hands on the reading of a value, where there is one.
 fn visit_value<'t, M, V: ReadingVisitor<'t, M>>(
     spn: u32,
-    value: Option<ReadValue<'t, '_>>,
+    value: Option<Value<'t, '_>>,
     visitor: &mut V,
     medium: &mut M,
 ) -> Result<(), V::Fault>
     ensures taken { OnOk result (Takes V.has_taken visitor.old medium.old visitor.new medium.new
-        (map (λ value. record { spn = spn; value = value }) (option_to_list (option_map read_value_of value.entry)))) }
+        (map (λ value. record { spn = spn; value = value }) (option_to_list (option_map value_of value.entry)))) }
     ensures stopped { OnErr result (Stops V.has_taken V.has_stopped visitor.old medium.old visitor.new medium.new
-        (map (λ value. record { spn = spn; value = value }) (option_to_list (option_map read_value_of value.entry)))) }
+        (map (λ value. record { spn = spn; value = value }) (option_to_list (option_map value_of value.entry)))) }
 {
     match value {
         Some(value) => visitor.visit(spn, value, medium),

@@ -1,5 +1,5 @@
 -- After a fault a front of the rows that are left was written.
-use Rattle.j39_groups.specs.Quick.{reading_line}
+use Rattle.j39_groups.specs.Lines.{reading_line}
 use Rattle.j39_groups.specs.declared.value.Reading.{Reading}
 use Rattle.j39_groups.specs.Models.{reading_of}
 use Rattle.j39_io.proofs.PutsLemmas.{puts_until}

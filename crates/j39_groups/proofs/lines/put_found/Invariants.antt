@@ -2,7 +2,7 @@ use Rattle.std.proofs.Common.{take, Ok}
 use Rattle.j39_io.specs.Puts.{Puts}
 use Rattle.j39_io.specs.Turn.{turn}
 use Rattle.std.specs.List.{flat_map}
-use Rattle.j39_groups.specs.Quick.{reading_line}
+use Rattle.j39_groups.specs.Lines.{reading_line}
 use Rattle.j39_groups.specs.Models.{reading_of}
 use Rattle.j39_groups.proofs.lines.put_found.Given as goal
 

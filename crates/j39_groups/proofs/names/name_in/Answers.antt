@@ -1,6 +1,6 @@
 -- The first row of the parameter has its name.
 use Rattle.std.proofs.Common.{◌∙◌, ap, arith, refl, sym, Some}
-use Rattle.j39_groups.specs.TableChecks.{row_record}
+use Rattle.j39_groups.specs.Models.{row_record}
 use Rattle.j39_groups.proofs.NameLemmas.{named_here, named_later, named_nowhere}
 use Rattle.j39_groups.proofs.names.name_in.Goals as goal
 

@@ -1,4 +1,4 @@
-use Rattle.j39_groups.specs.TableChecks.{row_record}
+use Rattle.j39_groups.specs.Models.{row_record}
 use Rattle.j39_groups.proofs.NameLemmas.{IsNamedFrom}
 use Rattle.j39_groups.proofs.names.name_in.Given as goal
 

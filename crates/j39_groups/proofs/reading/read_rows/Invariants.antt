@@ -2,7 +2,8 @@ use Rattle.std.proofs.Common.{◌≡◌, ◌≤◌, ◌==◌, map, take}
 use Rattle.std.specs.Prelude.{filter}
 use Rattle.std.specs.List.{flat_map}
 use Rattle.arrayvec.specs.ArrayVec.{array_vec_len}
-use Rattle.j39_groups.specs.TableChecks.{row_record, most_values_of}
+use Rattle.j39_groups.specs.Models.{row_record}
+use Rattle.j39_groups.specs.Rows.{most_values_of}
 use Rattle.j39_groups.specs.Readings.{readings_at}
 use Rattle.j39_groups.specs.Models.{reading_of}
 use Rattle.j39_groups.proofs.reading.read_rows.Given as goal

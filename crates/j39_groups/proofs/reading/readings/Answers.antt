@@ -4,7 +4,7 @@ use Rattle.std.specs.Prelude.{filter}
 use Rattle.std.specs.List.{flat_map}
 use Rattle.std.proofs.lemmas.List.Folds.{flat_map-map}
 use Rattle.j39_frame.specs.Pgn.{pgn_raw}
-use Rattle.j39_groups.specs.TableChecks.{row_record}
+use Rattle.j39_groups.specs.Models.{row_record}
 use Rattle.j39_groups.specs.Readings.{readings_in, readings_at}
 use Rattle.j39_groups.proofs.TableLemmas.{filter-seen}
 use Rattle.j39_groups.proofs.reading.readings.Goals as goal

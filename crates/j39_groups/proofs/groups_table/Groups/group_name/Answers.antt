@@ -3,9 +3,9 @@ use Rattle.std.proofs.Common.{ap, sym, ◌∙◌}
 use Rattle.std.specs.Prelude.{slice_get}
 use Rattle.std.specs.List.{filter_map}
 use Rattle.j39_frame.specs.Pgn.{pgn_raw}
-use Rattle.j39_groups.specs.TableChecks.{row_record}
+use Rattle.j39_groups.specs.Models.{row_record}
 use Rattle.j39_groups.specs.Names.{group_at, group_name_in}
-use Rattle.j39_groups.specs.ReadRows.{read_row_record}
+use Rattle.j39_groups.specs.Models.{row_record}
 use Rattle.j39_groups.proofs.TableLemmas.{filter_map-seen}
 use Rattle.j39_memory.specs.Items.{items_of}
 use Rattle.j39_groups.proofs.groups_table.Groups.group_name.Goals as goal
@@ -21,4 +21,4 @@ pub returns-in-Read : goal.returns-in-Read
 unfolding group_name_in
 returns-in-Read c = rw (← c.self.view_is, c.in-Read.is)
     (c.read_name_in.ensures ∙ rw (c.raw-in-Read.ensures.value, c.as_slice.ensures.value) (ap (λ names. slice_get names 0)
-    (sym (filter_map-seen read_row_record (group_at (pgn_raw c.args.pgn)) (items_of c.in-Read.table.rows)))))
+    (sym (filter_map-seen row_record (group_at (pgn_raw c.args.pgn)) (items_of c.in-Read.table.rows)))))

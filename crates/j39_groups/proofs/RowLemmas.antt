@@ -1,0 +1,49 @@
+-- What is known of the rows of a table.
+use Rattle.std.proofs.Common.{◌≡◌, ◌<◌, ◌-◌, ℕ, List, [], ◌∷◌, Bool, true, false, length, take, drop, get_or, map, refl, sym, ap, ◌∙◌, take-append-drop}
+use Rattle.std.specs.Prelude.{◌==◌, not, filter}
+use Rattle.std.specs.List.{All, Contains, list_all, list_any}
+use Rattle.std.proofs.lemmas.Bool.{and_parts, cases_Bool, eq-eqb, not-true}
+use Rattle.std.proofs.lemmas.List.Folds.{list_all-append}
+use Rattle.std.proofs.lemmas.List.Sums.{AllPass-from_list_all}
+use Rattle.j39_groups.specs.declared.row.Row.{Row}
+use Rattle.j39_groups.specs.Fields.{is_sound}
+use Rattle.j39_groups.specs.Models.{row_record}
+use Rattle.j39_groups.specs.Readings.{is_network_group}
+use Rattle.j39_groups.specs.Ready.{is_end, is_label}
+use Rattle.j39_groups.specs.Rows.{is_listed_group, is_row}
+
+pub record RowIs (row : Row) : Type 0 where
+  pub sound : is_sound row.field ≡ true
+  pub listed : is_listed_group row.pgn ≡ true
+  pub labelled : is_label row.label row.spn ≡ true
+  pub ended : is_end row.end row.field ≡ true
+
+pub row_is : (row : Row) → is_row row ≡ true → RowIs row
+unfolding is_row
+row_is row h =
+    let a = and_parts _ _ h in
+    let b = and_parts _ _ a.1 in
+    let c = and_parts _ _ b.1 in
+    record { sound = a.0; listed = b.0; labelled = c.0; ended = c.1 }
+
+pub is_row_from : (row : Row) → RowIs row → is_row row ≡ true
+unfolding is_row
+is_row_from row is = let a = is.sound in let b = is.listed in let c = is.labelled in let d = is.ended in rw (a, b, c, d) refl
+
+pub row_at : (rows : List Row) (i : ℕ) (d : Row) → list_all is_row rows ≡ true → i < length rows → is_row (get_or rows i d) ≡ true
+row_at rows i d all below = AllPass-from_list_all is_row rows all i d below
+
+-- what holds of all elements holds of a part of them
+pub all_part : {X : Type 0} (p : X → Bool) (xs : List X) (i n : ℕ) → list_all p xs ≡ true → list_all p (take n (drop i xs)) ≡ true
+all_part p xs i n all =
+    let behind = (and_parts _ _ (sym (list_all-append p (take i xs) (drop i xs)) ∙ ap (list_all p) (take-append-drop i xs) ∙ all)).1 in
+    (and_parts _ _ (sym (list_all-append p (take n (drop i xs)) (drop n (drop i xs))) ∙ ap (list_all p) (take-append-drop n (drop i xs)) ∙ behind)).0
+
+-- no row is of the network's groups
+pub rows_free : (rows : List Row) → list_all is_row rows ≡ true → list_any (λ row. is_network_group row.pgn) (map row_record rows) ≡ false
+rows_free [] all = refl
+rows_free (row ∷ rows) all =
+    let both = and_parts _ _ all in
+    let listed = (row_is row both.0).listed in
+    let free : is_network_group row.pgn ≡ false = not-true _ (and_parts _ _ (and_parts _ _ listed).1).0 in
+    rw free (rows_free rows both.1)

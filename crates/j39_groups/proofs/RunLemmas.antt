@@ -1,0 +1,124 @@
+-- The runs of the marks.
+use Rattle.std.proofs.Common.{◌≡◌, ◌<◌, ◌≤◌, ◌+◌, ◌-◌, ◌∙◌, ◌++◌, ℕ, zero, suc, ◌⊎◌, List, [], ◌∷◌, Bool, true, false, length, take, drop, get_or, refl, sym, ap, subst, arith, inl, inr, append-nil, drop-drop, length-append, take-append-drop}
+use Rattle.std.specs.Prelude.{◌==◌, filter, not, replicate, slice_set}
+use Rattle.std.specs.List.{list_all}
+use Rattle.std.proofs.lemmas.Bool.{and_parts, cases_Bool, eq-eqb, eqb-true, eqb-false, false≢true, ne_eqb}
+use Rattle.std.proofs.lemmas.Grind.{get_or-set_at}
+use Rattle.std.proofs.lemmas.List.{drop-append-le, drop_all, get_or-replicate, get_or-set_other, length-take, take-append, take-append-le, take_more}
+use Rattle.std.proofs.lemmas.List.Elements.{filter-append}
+use Rattle.std.proofs.lemmas.List.Folds.{list_all-append}
+use Rattle.j39_groups.specs.declared.row.Row.{Row}
+use Rattle.j39_groups.specs.declared.runs.Run.{Run}
+use Rattle.j39_groups.specs.Runs.{AreRuns, IsRun, is_elsewhere, mark_of}
+
+cases_zero : (n : ℕ) → (n ≡ 0) ⊎ (0 < n)
+cases_zero zero = inl refl
+cases_zero (suc n) = inr (omega arith)
+
+-- no row of a group lies elsewhere
+none_elsewhere : (pgn : ℕ) (rows : List Row) → list_all (is_elsewhere (mark_of pgn)) rows ≡ true → filter (λ row. row.pgn == pgn) rows ≡ []
+none_elsewhere pgn [] all = refl
+none_elsewhere pgn (row ∷ rows) all =
+    let both = and_parts _ _ all in
+    let other : (row.pgn == pgn) ≡ false = ne_eqb _ _ (λ same.
+    let here : (mark_of row.pgn == mark_of pgn) ≡ true = eq-eqb _ _ (ap mark_of same) in
+    let never : false ≡ true = (rw here at both.0) in absurd (false≢true never)) in
+    rw other (none_elsewhere pgn rows both.1)
+
+-- so all of them lie in the run of its mark
+pub all_sought : (rows : List Row) (pgn : ℕ) (run : Run) → IsRun rows (mark_of pgn) run
+    → filter (λ row. row.pgn == pgn) (take (run.end - run.first) (drop run.first rows)) ≡ filter (λ row. row.pgn == pgn) rows
+all_sought rows pgn run is =
+    let p : Row → Bool = λ row. row.pgn == pgn in
+    let n = run.end - run.first in
+    let front : filter p (take run.first rows) ≡ [] = none_elsewhere pgn _ is.none_before in
+    let to_end : run.first + n ≡ run.end = omega (arith, is.ordered) in
+    let back : filter p (drop n (drop run.first rows)) ≡ [] =
+    ap (filter p) (drop-drop n run.first rows ∙ ap (λ k. drop k rows) to_end) ∙ none_elsewhere pgn _ is.none_behind in
+    sym (
+      ap (filter p) (sym (take-append-drop run.first rows)) ∙ filter-append p (take run.first rows) (drop run.first rows)
+          ∙ ap (λ found. found ++ filter p (drop run.first rows)) front
+          ∙ ap (filter p) (sym (take-append-drop n (drop run.first rows))) ∙ filter-append p (take n (drop run.first rows)) (drop n (drop run.first rows))
+          ∙ ap (λ found. filter p (take n (drop run.first rows)) ++ found) back ∙ append-nil (filter p (take n (drop run.first rows)))
+    )
+
+-- the run of a mark that stands for no row yet
+no_run : (mark : ℕ) (run : Run) → run.first ≡ 0 → run.end ≡ 0 → IsRun [] mark run
+no_run mark run first end = record {
+  ordered = omega (arith, first, end);
+  inside = omega (arith, end);
+  none_before = rw first refl;
+  none_behind = rw end refl;
+}
+
+pub no_runs : (run : Run) → run.first ≡ 0 → run.end ≡ 0 → AreRuns (replicate 1024 run) []
+no_runs run first end mark d below = let at = get_or-replicate 1024 mark run d below in rw at (no_run mark run first end)
+
+all_of_one : {X : Type 0} (p : X → Bool) (x : X) (xs : List X) → p x ≡ true → list_all p xs ≡ true → list_all p (xs ++ (x ∷ [])) ≡ true
+all_of_one p x xs here all = list_all-append p xs (x ∷ []) ∙ (rw (all, here) refl)
+
+-- a row behind the others, of another mark
+run_kept : (rows : List Row) (row : Row) (mark : ℕ) (run : Run) → is_elsewhere mark row ≡ true → IsRun rows mark run → IsRun (rows ++ (row ∷ [])) mark run
+run_kept rows row mark run other is =
+    let len = length-append rows (row ∷ []) in
+    let inside = is.inside in
+    record {
+      ordered = is.ordered;
+      inside = omega (arith, len, inside);
+      none_before = ap (list_all (is_elsewhere mark)) (take-append-le rows (row ∷ []) (omega (arith, is.ordered, inside))) ∙ is.none_before;
+      none_behind = ap (list_all (is_elsewhere mark)) (drop-append-le rows (row ∷ []) inside) ∙ all_of_one (is_elsewhere mark) row (drop run.end rows) other is.none_behind;
+    }
+
+-- and of this one
+run_grown : (rows : List Row) (row : Row) (mark : ℕ) (run next : Run) → (run.end ≡ 0 → next.first ≡ length rows) → (0 < run.end → next.first ≡ run.first)
+    → next.end ≡ length rows + 1 → IsRun rows mark run → IsRun (rows ++ (row ∷ [])) mark next
+run_grown rows row mark run next begun grown end is =
+    let all = rows ++ (row ∷ []) in
+    let len = length-append rows (row ∷ []) in
+    let behind : drop next.end all ≡ [] = drop_all next.end all (omega (arith, len, end)) in
+    let none_behind : list_all (is_elsewhere mark) (drop next.end all) ≡ true = ap (list_all (is_elsewhere mark)) behind in
+    elim (cases_zero run.end) [
+      | inl empty ↦
+          let first = begun empty in
+          let whole : take next.first all ≡ drop run.end rows = ap (λ k. take k all) first ∙ take-append rows (row ∷ []) ∙ sym (ap (λ k. drop k rows) empty) in
+          record {
+            ordered = omega (arith, first, end);
+            inside = omega (arith, len, end);
+            none_before = ap (list_all (is_elsewhere mark)) whole ∙ is.none_behind;
+            none_behind = none_behind;
+          }
+      | inr some ↦
+          let first = grown some in
+          let inside = is.inside in
+          let ordered = is.ordered in
+          record {
+            ordered = omega (arith, first, end, inside, ordered);
+            inside = omega (arith, len, end);
+            none_before = ap (λ k. list_all (is_elsewhere mark) (take k all)) first
+                ∙ ap (list_all (is_elsewhere mark)) (take-append-le rows (row ∷ []) (omega (arith, ordered, inside))) ∙ is.none_before;
+            none_behind = none_behind;
+          }
+    ]
+
+-- the runs of one row more
+pub runs_more : (runs : List Run) (rows : List Row) (i k : ℕ) (d : Row) (o next : Run) → i < length rows → k ≡ mark_of (get_or rows i d).pgn → k < length runs
+    → ((get_or runs k o).end ≡ 0 → next.first ≡ i) → (0 < (get_or runs k o).end → next.first ≡ (get_or runs k o).first) → next.end ≡ i + 1
+    → AreRuns runs (take i rows) → AreRuns (slice_set runs k next) (take (i + 1) rows)
+runs_more runs rows i k d o next below is inside begun grown end are mark e few =
+    let row = get_or rows i d in
+    let len = length-take i rows in
+    let here : length (take i rows) ≡ i = omega (arith, len, below) in
+    let whole = take_more rows i d below in
+    subst (λ rs. IsRun rs mark (get_or (slice_set runs k next) mark e)) (sym whole) (elim (cases_Bool (mark == k)) [
+      | inl same ↦
+          let at = get_or-set_at runs mark k next e (eqb-true _ _ same) inside in
+          let this = subst (λ m. IsRun (take i rows) m (get_or runs m o)) (eqb-true _ _ same) (are mark o few) in
+          let that : IsRun (take i rows ++ (row ∷ [])) k next =
+          run_grown (take i rows) row k (get_or runs k o) next (λ z. begun z ∙ sym here) grown (end ∙ ap (λ n. n + 1) (sym here)) this in
+          rw at (subst (λ m. IsRun (take i rows ++ (row ∷ [])) m next) (sym (eqb-true _ _ same)) that)
+      | inr other ↦
+          let at = get_or-set_other runs k mark next e (eqb-false _ _ other) in
+          let apart : (mark_of row.pgn == mark) ≡ false = ne_eqb _ _ (λ same. eqb-false _ _ other (sym same ∙ sym is)) in
+          let elsewhere : is_elsewhere mark row ≡ true = ap not apart in
+          rw at (run_kept (take i rows) row mark (get_or runs mark e) elsewhere (are mark e few))
+    ])

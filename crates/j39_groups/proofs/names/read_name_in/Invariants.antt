@@ -1,7 +1,0 @@
-use Rattle.j39_groups.specs.ReadRows.{read_row_record}
-use Rattle.j39_groups.proofs.NameLemmas.{IsNamedFrom}
-use Rattle.j39_groups.proofs.names.read_name_in.Given as goal
-
--- no row so far is the parameter's
-abbrev pub invariant-loop-row : goal.invariant-loop-row
-invariant-loop-row l = IsNamedFrom read_row_record l.rows l.spn l.row-index

@@ -1,0 +1,51 @@
+-- What is prepared for the line of a row.
+use Rattle.std.specs.Prelude.{◌≡◌, ◌≤◌, ◌&&◌, ⊤, ℕ, List, [], ◌∷◌, ◌++◌, Bool, true, false, Option, Some, None, drop, nat_le}
+use Rattle.std.specs.Fmt.{digits_onto}
+use Rattle.std.specs.Str.{bytes_eq}
+use Rattle.j39_io.specs.Chars.{newline, space}
+use Rattle.j39_groups.specs.declared.field.Field.{Field}
+use Rattle.j39_groups.specs.declared.field.Field.TheVariants.{Number, Bits, Switch, Text, Texts}
+use Rattle.j39_groups.specs.declared.scale.Scale.{Scale}
+use Rattle.j39_groups.specs.declared.short_text.ShortText.{ShortText}
+use Rattle.j39_groups.specs.Value.{SlotRecord, ValueRecord, number, on, off, error, reserved, indicator, text}
+
+abbrev pub short_text : ShortText → List ℕ
+short_text short = drop short.from short.bytes
+
+-- a label is the parameter's number and a space; the digits are those of `decimal`, computed
+abbrev pub is_label : ShortText → ℕ → Bool
+is_label label spn =
+    nat_le label.from 16 && bytes_eq (short_text label) (digits_onto 64 10 false spn [] ++ (space ∷ []))
+
+-- an end is a space, the unit and a newline, for a number with nine places at most
+abbrev pub is_scale_end : ShortText → Scale → Bool
+is_scale_end end scale =
+    nat_le end.from 16 && (nat_le scale.places 9
+    && bytes_eq (short_text end) (space ∷ (scale.unit.now ++ (newline ∷ []))))
+
+-- what stands behind a number is prepared, and no value is a text of the sender's
+abbrev pub is_ready : ShortText → Field → Bool
+is_ready end (Number first last scale) = is_scale_end end scale
+is_ready end (Bits byte low count scale) = is_scale_end end scale
+is_ready end (Switch byte low high) = true
+is_ready end (Text part) = false
+is_ready end (Texts byte count) = false
+
+abbrev pub is_end : Option ShortText → Field → Bool
+is_end None field = true
+is_end (Some end) field = is_ready end field
+
+pub record IsEnd (end : ShortText) (slot : SlotRecord) : Type 0 where
+  pub from : end.from ≤ 16
+  pub few : slot.places ≤ 9
+  pub text : short_text end ≡ space ∷ (slot.unit ++ (newline ∷ []))
+
+-- the value is a word, or a number with this end
+abbrev pub HasEnd : ShortText → ValueRecord → Type 0
+HasEnd end (number n slot) = IsEnd end slot
+HasEnd end on = ⊤
+HasEnd end off = ⊤
+HasEnd end error = ⊤
+HasEnd end reserved = ⊤
+HasEnd end indicator = ⊤
+HasEnd end (text bytes) = ⊥

@@ -1,0 +1,195 @@
+//! The values in one field of a payload (J1939-71).
+ghost use Rattle.std.specs.Prelude.{◌≡◌, ◌-◌, ◌/◌, ◌%◌, ◌^◌, ◌<◌, ◌≤◌, ◌==◌, slice_get, drop};
+ghost use Rattle.std.specs.List.{list_all};
+ghost use Rattle.std.specs.Option.{option_map, option_and_then, option_to_list};
+ghost use Rattle.j39_groups.specs.Fields.{HasOneValue, IsSound, IsSoundBits, IsSoundBytes, largest};
+ghost use Rattle.j39_groups.specs.Models.{field_record, scale_record, value_of};
+ghost use Rattle.j39_groups.specs.Parts.{parts_of};
+ghost use Rattle.j39_groups.specs.Readings.{bits_meaning, by_top_byte, filled_text_meaning, number_meaning, raw_bits, raw_number, switch_meaning, text_meaning, values_at};
+
+use crate::field::Field;
+use crate::raw::{is_valid, raw_bits, raw_in, top_byte};
+use crate::scale::Scale;
+use crate::value::Value;
+
+/// The value in a field that has one at most; `None` for several texts.
+#[inline(always)]
+#[tactic(auto, unfolding(crate::specs::Readings::values_at))]
+pub(crate) fn value_in<'t, 'v>(bytes: &'v [u8], field: Field<'t>) -> Option<Value<'t, 'v>>
+    requires { IsSound field }
+    ensures { HasOneValue field.entry
+        → option_to_list (option_map value_of result) ≡ values_at bytes.now (field_record field.entry) }
+{
+    match field {
+        Field::Number { first, last, scale } => number_of(bytes, first, last, scale),
+        Field::Bits {
+            byte,
+            low,
+            count,
+            scale,
+        } => bits_of(bytes, byte, low, count, scale),
+        Field::Switch { byte, low, .. } => switch_at(bytes, byte, low),
+        Field::Text { part } => text_at(bytes, part),
+        Field::Texts { .. } => None,
+    }
+}
+
+/// The number in the bytes `first` to `last`.
+#[inline(always)]
+fn number_of<'t, 'v>(
+    bytes: &'v [u8],
+    first: u8,
+    last: u8,
+    scale: Scale<'t>,
+) -> Option<Value<'t, 'v>>
+    requires { IsSoundBytes first last scale }
+    ensures { option_map value_of result
+        ≡ option_and_then (number_meaning (last - (first - 1)) (scale_record scale.entry))
+        (raw_number first last bytes.now) }
+{
+    let raw = raw_in(bytes, first, last)?;
+    let top = top_byte(raw, last - (first - 1));
+    by_top_byte(top, Value::Number(scale.value(raw), scale))
+}
+
+#[inline(always)]
+#[tactic(auto, unfolding(crate::specs::Readings::by_top_byte))]
+fn by_top_byte<'t, 'v>(top: u32, valid: Value<'t, 'v>) -> Option<Value<'t, 'v>>
+    ensures { option_map value_of result ≡ by_top_byte top (value_of valid.entry) }
+{
+    if is_valid(top) {
+        return Some(valid);
+    }
+    match top {
+        0xFB => Some(Value::Indicator),
+        0xFC..=0xFD => Some(Value::Reserved),
+        0xFE => Some(Value::Error),
+        _ => None,
+    }
+}
+
+#[inline(always)]
+fn bits_of<'t, 'v>(
+    bytes: &'v [u8],
+    byte: u8,
+    low: u8,
+    count: u8,
+    scale: Scale<'t>,
+) -> Option<Value<'t, 'v>>
+    requires { IsSoundBits byte low count scale }
+    ensures { option_map value_of result
+        ≡ option_and_then (bits_meaning count (scale_record scale.entry)) (raw_bits byte low count bytes.now) }
+{
+    let raw = raw_bits(bytes, byte, low, count)?;
+    bits_meaning(raw, count, scale)
+}
+
+/// What a number of `count` bits means.
+#[inline(always)]
+#[tactic(auto, unfolding(crate::specs::Readings::bits_meaning))]
+fn bits_meaning<'t, 'v>(raw: u32, count: u8, scale: Scale<'t>) -> Option<Value<'t, 'v>>
+    requires few { count ≤ 32 }
+    requires narrow { raw < 2 ^ count }
+    requires fits { largest count scale < 2 ^ 63 }
+    ensures { option_map value_of result ≡ bits_meaning count (scale_record scale.entry) raw }
+{
+    let size = 1u64 << count;
+    if count > 1 && u64::from(raw) + 1 == size {
+        return None;
+    }
+    if count == 2 && raw == 2 {
+        return Some(Value::Error);
+    }
+    Some(Value::Number(scale.value(raw), scale))
+}
+
+/// The switch in the two bits from `low` on; `None` where the payload does not reach them or it is
+/// not available.
+fn switch_at<'t, 'v>(bytes: &'v [u8], byte: u8, low: u8) -> Option<Value<'t, 'v>>
+    requires byte { 0 < byte }
+    requires starts { 0 < low }
+    requires ends { low < 8 }
+    ensures { option_map value_of result
+        ≡ option_and_then (λ b. switch_meaning (b / 2 ^ (low - 1) % 4)) (slice_get bytes.now (byte - 1)) }
+{
+    let byte = bytes.get(usize::from(byte) - 1).copied()?;
+    switch_of(two_bits(byte, low))
+}
+
+/// The two bits from the bit `low` on.
+fn two_bits(byte: u8, low: u8) -> u8
+    requires starts { 0 < low }
+    requires ends { low < 8 }
+    ensures { result ≡ byte / 2 ^ (low - 1) % 4 }
+{
+    byte >> (low - 1) & 3
+}
+
+#[tactic(auto, unfolding(crate::specs::Readings::switch_meaning))]
+fn switch_of<'t, 'v>(bits: u8) -> Option<Value<'t, 'v>>
+    ensures { option_map value_of result ≡ switch_meaning bits }
+{
+    match bits {
+        0 => Some(Value::Off),
+        1 => Some(Value::On),
+        2 => Some(Value::Error),
+        _ => None,
+    }
+}
+
+/// The text in the numbered part, where there is one.
+#[inline(never)]
+fn text_at<'t, 'v>(bytes: &'v [u8], part: u8) -> Option<Value<'t, 'v>>
+    requires { 0 < part }
+    ensures { option_map value_of result ≡ option_and_then text_meaning (slice_get (parts_of bytes.now) (part - 1)) }
+{
+    let text = part_at(bytes, usize::from(part) - 1)?;
+    text_of(text)
+}
+
+/// The part at this index, from 0, between the bytes `*`.
+fn part_at(bytes: &[u8], index: usize) -> Option<&[u8]>
+    ensures { option_map (λ part. part.now) result ≡ slice_get (parts_of bytes.now) index }
+{
+    bytes.split(|b| *b == b'*').nth(index)
+}
+
+#[tactic(auto, unfolding(crate::specs::Readings::text_meaning))]
+fn text_of<'t, 'v>(text: &'v [u8]) -> Option<Value<'t, 'v>>
+    ensures { option_map value_of result ≡ text_meaning text.now }
+{
+    if text.is_empty() {
+        None
+    } else {
+        Some(Value::Text(text))
+    }
+}
+
+/// A part where a group fills what it does not use with bytes FF.
+#[tactic(auto, unfolding(crate::specs::Readings::filled_text_meaning))]
+pub(crate) fn filled_text_of<'t, 'v>(part: &'v [u8]) -> Option<Value<'t, 'v>>
+    ensures { option_map value_of result ≡ filled_text_meaning part.now }
+{
+    if is_filler(part) {
+        None
+    } else {
+        Some(Value::Text(part))
+    }
+}
+
+/// Whether a part is empty or of bytes FF alone.
+fn is_filler(part: &[u8]) -> bool
+    ensures { result ≡ list_all (λ b. b == 0xFF) part.now }
+{
+    part.iter().all(|b| *b == 0xFF)
+}
+
+/// The bytes from this one on.
+pub(crate) fn bytes_from(bytes: &[u8], byte: u8) -> &[u8]
+    requires { 0 < byte }
+    ensures { result.now ≡ drop (byte - 1) bytes.now }
+{
+    let start = usize::from(byte) - 1;
+    let (_, rest) = bytes.split_at(start.min(bytes.len()));
+    rest
+}
