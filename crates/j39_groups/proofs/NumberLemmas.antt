@@ -1,5 +1,5 @@
 -- Numbers of several bytes.
-use Rattle.std.proofs.Common.{◌≡◌, ◌<◌, ◌≤◌, ◌+◌, ◌-◌, ◌*◌, ◌^◌, ℕ, zero, suc, Bool, true, false, List, length, take, drop, refl, ap, arith, inl, inr, ◌∙◌, get_or-take, get_or-drop}
+use Rattle.std.proofs.Common.{◌≡◌, ◌<◌, ◌≤◌, ◌+◌, ◌-◌, ◌*◌, ◌^◌, ℕ, zero, suc, Bool, true, false, List, length, take, drop, refl, sym, ap, arith, inl, inr, ◌∙◌, get_or-take, get_or-drop}
 use Rattle.std.specs.Prelude.{Some, None, if◌then◌else◌, nat_le, nat_lt, slice_index, slice_range, unwrap_or}
 use Rattle.std.proofs.Math.Nat.{le-mul_of_pos_right, mod-lt, mul-le-mul_left}
 use Rattle.std.proofs.lemmas.Bool.{cases_Bool, ltb-true, ltb-false}
@@ -67,6 +67,13 @@ pub within_largest : (step raw size offset : ℕ) → step * (size - 1) + offset
 within_largest step raw size offset fits below =
     let most : step * raw ≤ step * (size - 1) = mul-le-mul_left step (omega (arith, below)) in
     omega (arith, most, fits)
+
+-- so the value of a field's raw number fits
+pub value_fits : (first last end : ℕ) (bytes : List ℕ) (raw step offset : ℕ) → 0 < first → first ≤ last → last < first + 4 → ((k : ℕ) → slice_index bytes k < 256)
+    → last ≡ end → Some raw ≡ raw_number first end bytes → step * (2 ^ (8 * (last - first + 1)) - 1) + offset < 2 ^ 63 → step * raw + offset < 2 ^ 63
+value_fits first last end bytes raw step offset starts ordered narrow each same is fits =
+    let below = raw_below first last bytes raw starts ordered narrow each (is ∙ ap (λ k. raw_number first k bytes) (sym same)) in
+    within_largest step raw (2 ^ (8 * (last - first + 1))) offset fits below
 
 -- a raw step is a value too
 pub step_fits : (step bits offset : ℕ) → 0 < bits → step * (2 ^ bits - 1) + offset < 2 ^ 63 → step < 2 ^ 63

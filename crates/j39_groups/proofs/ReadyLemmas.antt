@@ -51,7 +51,6 @@ scale_end_from end scale inside few text =
     let b = (bytes_eq-Decides _ _).1 text in
     rw (i, a, b) refl
 
-
 ends_if : (end : ShortText) (a b c d : Bool) (v : ValueRecord) → HasEnd end v
     → IfSome (if a then Some v else (if b then Some indicator else (if c then Some reserved else (if d then Some error else None)))) (HasEnd end)
 ends_if end true b c d v h = h

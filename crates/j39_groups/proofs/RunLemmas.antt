@@ -36,10 +36,10 @@ all_sought rows pgn run is =
     let back : filter p (drop n (drop run.first rows)) ≡ [] =
     ap (filter p) (drop-drop n run.first rows ∙ ap (λ k. drop k rows) to_end) ∙ none_elsewhere pgn (drop run.end rows) is.none_behind in
     sym (
-      ap (filter p) (sym (take-append-drop run.first rows)) ∙ filter-append p (take run.first rows) (drop run.first rows)
-          ∙ ap (λ found. found ++ filter p (drop run.first rows)) front
-          ∙ ap (filter p) (sym (take-append-drop n (drop run.first rows))) ∙ filter-append p (take n (drop run.first rows)) (drop n (drop run.first rows))
-          ∙ ap (λ found. filter p (take n (drop run.first rows)) ++ found) back ∙ append-nil (filter p (take n (drop run.first rows)))
+    ap (filter p) (sym (take-append-drop run.first rows)) ∙ filter-append p (take run.first rows) (drop run.first rows)
+    ∙ ap (λ found. found ++ filter p (drop run.first rows)) front
+    ∙ ap (filter p) (sym (take-append-drop n (drop run.first rows))) ∙ filter-append p (take n (drop run.first rows)) (drop n (drop run.first rows))
+    ∙ ap (λ found. filter p (take n (drop run.first rows)) ++ found) back ∙ append-nil (filter p (take n (drop run.first rows)))
     )
 
 -- the run of a mark that stands for no row yet

@@ -55,4 +55,3 @@ row_text row = line_of_columns row.pgn row.group row.spn (place_text row.field) 
 -- a line for each row of a table
 abbrev pub rows_text : List RowRecord → List ℕ
 rows_text rows = flat_map row_text rows
-

@@ -29,7 +29,11 @@ pub(crate) fn put_found<W: Sink>(
 }
 
 /// Writes the line of one reading.
-fn put_reading<W: Sink>(head: &[u8], reading: &Reading<'_, '_>, sink: &mut W) -> Result<(), DeviceFault>
+fn put_reading<W: Sink>(
+    head: &[u8],
+    reading: &Reading<'_, '_>,
+    sink: &mut W,
+) -> Result<(), DeviceFault>
     requires { length head.now ≤ 48 }
     ensures { Puts (reading_line head.now (reading_of reading.now)) result (turn W.written W.has_failed sink.old sink.new) }
 {

@@ -6,24 +6,9 @@ ghost use Rattle.j39_groups.specs.Readings.{raw_bits, raw_number};
 
 use byteorder::{ByteOrder, LittleEndian};
 
-/// The raw number in the bytes `first` to `last`: one or two bytes are read at once.
-#[inline(always)]
-pub(crate) fn raw_in(bytes: &[u8], first: u8, last: u8) -> Option<u32>
-    requires starts { 0 < first }
-    requires ordered { first ≤ last }
-    requires narrow { last < first + 4 }
-    ensures { result ≡ raw_number first last bytes.now }
-{
-    match last - (first - 1) {
-        1 => raw_of::<1>(bytes, first),
-        2 => raw_of::<2>(bytes, first),
-        _ => raw_number(bytes, first, last),
-    }
-}
-
 /// The number in so many bytes from `first` on: a width that is known beforehand is read at once.
 #[inline(always)]
-fn raw_of<const N: usize>(bytes: &[u8], first: u8) -> Option<u32>
+pub(crate) fn raw_of<const N: usize>(bytes: &[u8], first: u8) -> Option<u32>
     requires starts { 0 < first }
     requires some { 0 < N }
     requires narrow { N ≤ 4 }
@@ -37,7 +22,7 @@ fn raw_of<const N: usize>(bytes: &[u8], first: u8) -> Option<u32>
 }
 
 /// The number in the bytes `first` to `last`, the low byte first.
-fn raw_number(bytes: &[u8], first: u8, last: u8) -> Option<u32>
+pub(crate) fn raw_number(bytes: &[u8], first: u8, last: u8) -> Option<u32>
     requires starts { 0 < first }
     requires ordered { first ≤ last }
     requires narrow { last < first + 4 }

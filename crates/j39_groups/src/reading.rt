@@ -29,11 +29,7 @@ pub fn readings(pgn: Pgn, bytes: &[u8]) -> ArrayVec<Reading<'static, '_>, 32>
     read_rows(built_in_rows(), pgn.raw(), bytes)
 }
 
-fn read_rows<'t, 'v>(
-    rows: &[Row<'t>],
-    pgn: u32,
-    bytes: &'v [u8],
-) -> ArrayVec<Reading<'t, 'v>, 32>
+fn read_rows<'t, 'v>(rows: &[Row<'t>], pgn: u32, bytes: &'v [u8]) -> ArrayVec<Reading<'t, 'v>, 32>
     requires sound { list_all is_row rows.now ≡ true }
     requires built_in { is_built_in rows.now ≡ true }
     ensures { map reading_of result.items

@@ -35,19 +35,18 @@ pub struct Row<'t> {
 impl<'t> Row<'t> {
     /// The row of a parameter (SPN) of a group that can be heard and is none of the network's (`is_heard_group`,
     /// `is_network_group`), in a field that is sound (`Field::is_sound`).
-    pub fn new(
-        pgn: Pgn,
-        group: &'t [u8],
-        spn: u32,
-        name: &'t [u8],
-        field: Field<'t>,
-    ) -> Row<'t>
+    pub fn new(pgn: Pgn, group: &'t [u8], spn: u32, name: &'t [u8], field: Field<'t>) -> Row<'t>
         requires sound { is_sound field ≡ true }
         requires free { is_network_group (pgn_raw pgn) ≡ false }
         requires heard { is_heard_group (pgn_raw pgn) ≡ true }
         ensures row { is_row result ≡ true }
-        ensures says { row_record result ≡ record { pgn = pgn_raw pgn; group = group.entry.now; spn = spn;
-            name = name.entry.now; field = field_record field.entry } }
+        ensures says { row_record result ≡ record {
+          pgn = pgn_raw pgn;
+          group = group.entry.now;
+          spn = spn;
+          name = name.entry.now;
+          field = field_record field.entry;
+        } }
     {
         let label = label_of(spn);
         let end = end_of(field);

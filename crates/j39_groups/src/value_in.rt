@@ -1,5 +1,5 @@
 //! The values in one field of a payload (J1939-71).
-ghost use Rattle.std.specs.Prelude.{◌≡◌, ◌-◌, ◌/◌, ◌%◌, ◌^◌, ◌<◌, ◌≤◌, ◌==◌, slice_get, drop};
+ghost use Rattle.std.specs.Prelude.{◌≡◌, ◌+◌, ◌-◌, ◌*◌, ◌/◌, ◌%◌, ◌^◌, ◌<◌, ◌≤◌, ◌==◌, slice_get, drop, unsigned_abs};
 ghost use Rattle.std.specs.List.{list_all};
 ghost use Rattle.std.specs.Option.{option_map, option_and_then, option_to_list};
 ghost use Rattle.j39_groups.specs.Fields.{HasOneValue, IsSound, IsSoundBits, IsSoundBytes, largest};
@@ -8,7 +8,7 @@ ghost use Rattle.j39_groups.specs.Parts.{parts_of};
 ghost use Rattle.j39_groups.specs.Readings.{bits_meaning, by_top_byte, filled_text_meaning, number_meaning, raw_bits, raw_number, switch_meaning, text_meaning, values_at};
 
 use crate::field::Field;
-use crate::raw::{is_valid, raw_bits, raw_in, top_byte};
+use crate::raw::{is_valid, raw_bits, raw_number, raw_of, top_byte};
 use crate::scale::Scale;
 use crate::value::Value;
 
@@ -47,9 +47,23 @@ fn number_of<'t, 'v>(
         ≡ option_and_then (number_meaning (last - (first - 1)) (scale_record scale.entry))
         (raw_number first last bytes.now) }
 {
-    let raw = raw_in(bytes, first, last)?;
-    let top = top_byte(raw, last - (first - 1));
-    by_top_byte(top, Value::Number(scale.value(raw), scale))
+    match last - (first - 1) {
+        1 => number(raw_of::<1>(bytes, first)?, 1, scale),
+        2 => number(raw_of::<2>(bytes, first)?, 2, scale),
+        4 => number(raw_of::<4>(bytes, first)?, 4, scale),
+        count => number(raw_number(bytes, first, last)?, count, scale),
+    }
+}
+
+/// What a raw number of `count` bytes means.
+#[inline(always)]
+fn number<'t, 'v>(raw: u32, count: u8, scale: Scale<'t>) -> Option<Value<'t, 'v>>
+    requires some { 0 < count }
+    requires narrow { count ≤ 4 }
+    requires fits { scale.step * raw + unsigned_abs scale.offset < 2 ^ 63 }
+    ensures { option_map value_of result ≡ number_meaning count (scale_record scale.entry) raw }
+{
+    by_top_byte(top_byte(raw, count), Value::Number(scale.value(raw), scale))
 }
 
 #[inline(always)]

@@ -31,12 +31,7 @@ pub trait ReadingVisitor<'t, M> {
     ghost has_stopped: { Subject → List ReadingRecord → ReadingRecord → Self → M → Type 0 };
 
     /// Takes the next reading: a parameter's number (SPN) and its value. After an `Err` it is handed none.
-    fn visit(
-        &mut self,
-        spn: u32,
-        value: Value<'t, '_>,
-        medium: &mut M,
-    ) -> Result<(), Self::Fault>
+    fn visit(&mut self, spn: u32, value: Value<'t, '_>, medium: &mut M) -> Result<(), Self::Fault>
         ensures taken { OnOk result (Takes has_taken self.old medium.old self.new medium.new
             (visited spn value.entry ∷ [])) }
         ensures stopped { OnErr result ((subject : Subject) (before : List ReadingRecord)
@@ -117,19 +112,9 @@ fn visit_row<'t, M, V: ReadingVisitor<'t, M>>(
         (readings_at bytes.now (row_record row.now))) }
 {
     match row.field {
-        Field::Number { .. } => visit_value(
-            row.spn,
-            value_in(bytes, row.field),
-            visitor,
-            medium,
-        ),
+        Field::Number { .. } => visit_value(row.spn, value_in(bytes, row.field), visitor, medium),
         Field::Bits { .. } => visit_value(row.spn, value_in(bytes, row.field), visitor, medium),
-        Field::Switch { .. } => visit_value(
-            row.spn,
-            value_in(bytes, row.field),
-            visitor,
-            medium,
-        ),
+        Field::Switch { .. } => visit_value(row.spn, value_in(bytes, row.field), visitor, medium),
         Field::Text { .. } => visit_value(row.spn, value_in(bytes, row.field), visitor, medium),
         Field::Texts { byte, count } => {
             visit_texts(row.spn, bytes_from(bytes, byte), count, visitor, medium)
