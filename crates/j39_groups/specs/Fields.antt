@@ -63,3 +63,11 @@ HasOneValue (Bits byte low count scale) = ⊤
 HasOneValue (Switch byte low high) = ⊤
 HasOneValue (Text part) = ⊤
 HasOneValue (Texts byte count) = ⊥
+
+-- a number or a switch
+abbrev pub IsShort : Field → Type 0
+IsShort (Number first last scale) = ⊤
+IsShort (Bits byte low count scale) = ⊤
+IsShort (Switch byte low high) = ⊤
+IsShort (Text part) = ⊥
+IsShort (Texts byte count) = ⊥

@@ -1,10 +1,11 @@
 -- What is prepared for the line of a row.
-use Rattle.std.specs.Prelude.{◌≡◌, ◌≤◌, ◌&&◌, ⊤, ℕ, List, [], ◌∷◌, ◌++◌, Bool, true, false, Option, Some, None, drop, nat_le}
+use Rattle.std.specs.Prelude.{◌≡◌, ◌≤◌, ◌==◌, ◌&&◌, ⊤, ℕ, List, [], ◌∷◌, ◌++◌, Bool, true, false, Option, Some, None, drop, nat_le}
 use Rattle.std.specs.Fmt.{digits_onto}
 use Rattle.std.specs.Str.{bytes_eq}
 use Rattle.j39_io.specs.Chars.{newline, space}
 use Rattle.j39_groups.specs.declared.field.Field.{Field}
 use Rattle.j39_groups.specs.declared.field.Field.TheVariants.{Number, Bits, Switch, Text, Texts}
+use Rattle.j39_groups.specs.declared.prepared.Ending.{Ending}
 use Rattle.j39_groups.specs.declared.scale.Scale.{Scale}
 use Rattle.j39_groups.specs.declared.short_text.ShortText.{ShortText}
 use Rattle.j39_groups.specs.Value.{SlotRecord, ValueRecord, number, on, off, error, reserved, indicator, text}
@@ -17,31 +18,36 @@ abbrev pub is_label : ShortText → ℕ → Bool
 is_label label spn =
     nat_le label.from 16 && bytes_eq (short_text label) (digits_onto 64 10 false spn [] ++ (space ∷ []))
 
--- an end is a space, the unit and a newline, for a number with nine places at most
-abbrev pub is_scale_end : ShortText → Scale → Bool
+-- an end has nine places at most
+abbrev pub is_short_end : Ending → Bool
+is_short_end end = nat_le end.text.from 16 && nat_le end.places 9
+
+-- it is a number's places, and a space, the unit and a newline
+abbrev pub is_scale_end : Ending → Scale → Bool
 is_scale_end end scale =
-    nat_le end.from 16 && (nat_le scale.places 9
-    && bytes_eq (short_text end) (space ∷ (scale.unit.now ++ (newline ∷ []))))
+    is_short_end end && (end.places == scale.places
+    && bytes_eq (short_text end.text) (space ∷ (scale.unit.now ++ (newline ∷ []))))
 
 -- what stands behind a number is prepared, and no value is a text of the sender's
-abbrev pub is_ready : ShortText → Field → Bool
+abbrev pub is_ready : Ending → Field → Bool
 is_ready end (Number first last scale) = is_scale_end end scale
 is_ready end (Bits byte low count scale) = is_scale_end end scale
-is_ready end (Switch byte low high) = true
+is_ready end (Switch byte low high) = is_short_end end
 is_ready end (Text part) = false
 is_ready end (Texts byte count) = false
 
-abbrev pub is_end : Option ShortText → Field → Bool
+abbrev pub is_end : Option Ending → Field → Bool
 is_end None field = true
 is_end (Some end) field = is_ready end field
 
-pub record IsEnd (end : ShortText) (slot : SlotRecord) : Type 0 where
-  pub from : end.from ≤ 16
-  pub few : slot.places ≤ 9
-  pub text : short_text end ≡ space ∷ (slot.unit ++ (newline ∷ []))
+pub record IsEnd (end : Ending) (slot : SlotRecord) : Type 0 where
+  pub from : end.text.from ≤ 16
+  pub few : end.places ≤ 9
+  pub places : end.places ≡ slot.places
+  pub text : short_text end.text ≡ space ∷ (slot.unit ++ (newline ∷ []))
 
 -- the value is a word, or a number with this end
-abbrev pub HasEnd : ShortText → ValueRecord → Type 0
+abbrev pub HasEnd : Ending → ValueRecord → Type 0
 HasEnd end (number n slot) = IsEnd end slot
 HasEnd end on = ⊤
 HasEnd end off = ⊤

@@ -21,6 +21,7 @@ mod rows;
 mod rows_before;
 mod runs;
 mod scale;
+mod short;
 mod short_text;
 mod table;
 mod text;

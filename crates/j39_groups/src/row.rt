@@ -7,7 +7,7 @@ ghost use Rattle.j39_groups.specs.Readings.{is_heard_group, is_network_group};
 ghost use Rattle.j39_groups.specs.Rows.{is_row};
 
 use crate::field::Field;
-use crate::prepared::{end_of, label_of};
+use crate::prepared::{Ending, end_of, label_of};
 use crate::short_text::ShortText;
 use j39_frame::Pgn;
 use j39_memory::Keyed;
@@ -21,9 +21,9 @@ pub struct Row<'t> {
     pub(crate) spn: u32,
     /// The number and a space.
     pub(crate) label: ShortText,
-    /// Of a number a space, its unit and a newline. `None` where lines are written part by part: of a text, a long
-    /// unit, or more than nine places.
-    pub(crate) end: Option<ShortText>,
+    /// What its line ends with. `None` where it is written part by part: of a text, a long unit, or more than nine
+    /// places.
+    pub(crate) end: Option<Ending>,
     /// Where it stands in the payload.
     pub(crate) field: Field<'t>,
     /// The group's short name, of any bytes.

@@ -6,16 +6,17 @@ ghost use Rattle.std.specs.Option.{option_map, option_to_list};
 ghost use Rattle.j39_io.specs.Backwards.{WritesBefore};
 ghost use Rattle.j39_io.specs.Chars.{newline};
 ghost use Rattle.j39_groups.specs.Lines.{reading_line, row_lines, row_readings};
-ghost use Rattle.j39_groups.specs.Models.{field_record, row_record, value_of};
+ghost use Rattle.j39_groups.specs.Models.{field_record, field_slot, row_record, short_value};
 ghost use Rattle.j39_groups.specs.Readings.{readings_at, values_at};
 ghost use Rattle.j39_groups.specs.Ready.{HasEnd, short_text};
 ghost use Rattle.j39_groups.specs.Rows.{is_row};
 ghost use Rattle.j39_groups.specs.ValueText.{magnitude_text, value_text};
 
+use crate::prepared::Ending;
 use crate::row::Row;
-use crate::short_text::{ShortText, magnitude_before, short_before};
-use crate::value::Value;
-use crate::value_in::value_in;
+use crate::short::Short;
+use crate::short_text::{magnitude_before, short_before};
+use crate::value_in::short_in;
 use j39_io::backwards::{byte_before, bytes_before, tail_before};
 
 /// The most bytes that the lines of a message begin with.
@@ -110,8 +111,8 @@ fn row_before(
 {
     let ending = row.end.as_ref()?;
     match ready_value(row, ending, bytes) {
-        Some(value) => {
-            let start = line_before(out, end, head, from, row, ending, value);
+        Some(short) => {
+            let start = line_before(out, end, head, from, row, ending, short);
             Some((start, 1))
         }
         None => Some((end, 0)),
@@ -120,14 +121,14 @@ fn row_before(
 
 /// The value in a row that has one at most, whose end is prepared.
 #[inline(always)]
-fn ready_value<'t, 'v>(row: &Row<'t>, ending: &ShortText, bytes: &'v [u8]) -> Option<Value<'t, 'v>>
+fn ready_value(row: &Row<'_>, ending: &Ending, bytes: &[u8]) -> Option<Short>
     requires sound { is_row row.now ≡ true }
     requires ending { row.now.end ≡ Some ending.now }
-    ensures value { option_to_list (option_map value_of result)
+    ensures value { option_to_list (option_map (short_value (field_slot row.now.field)) result)
         ≡ values_at bytes.now (field_record row.now.field) }
-    ensures ends { IfSome result (λ value. HasEnd ending.now (value_of value)) }
+    ensures ends { IfSome result (λ short. HasEnd ending.now (short_value (field_slot row.now.field) short)) }
 {
-    value_in(bytes, row.field)
+    short_in(bytes, &row.field)
 }
 
 /// Writes the line of a value of a row.
@@ -138,45 +139,45 @@ fn line_before(
     head: &[u8; HEAD],
     from: usize,
     row: &Row<'_>,
-    ending: &ShortText,
-    value: Value<'_, '_>,
+    ending: &Ending,
+    short: Short,
 ) -> usize
     requires from { from ≤ 48 }
     requires sound { is_row row.now ≡ true }
-    requires ends { HasEnd ending.now (value_of value) }
+    requires ends { HasEnd ending.now (short_value (field_slot row.now.field) short) }
     requires room { 112 ≤ end }
     requires within { end ≤ length out.old }
-    ensures written { WritesBefore out.old out.new end result
-        (reading_line (drop from head.now) (record { spn = row.now.spn; value = value_of value.entry })) }
+    ensures written { WritesBefore out.old out.new end result (reading_line (drop from head.now)
+        (record { spn = row.now.spn; value = short_value (field_slot row.now.field) short })) }
     ensures short { end ≤ result + 112 }
 {
-    let text = value_before(out, end, value, ending);
+    let text = value_before(out, end, short, row, ending);
     let label = short_before(out, text, &row.label);
     tail_before(out, label, head, from)
 }
 
-/// Writes the text of a value and a newline.
+/// Writes the text of a value of a row, and a newline.
 #[inline(always)]
 #[tactic(auto, unfolding(crate::specs::ValueText::value_text))]
-fn value_before(out: &mut [u8], end: usize, value: Value<'_, '_>, ending: &ShortText) -> usize
-    requires ends { HasEnd ending.now (value_of value) }
+fn value_before(out: &mut [u8], end: usize, short: Short, row: &Row<'_>, ending: &Ending) -> usize
+    requires ends { HasEnd ending.now (short_value (field_slot row.now.field) short) }
     requires room { 48 ≤ end }
     requires within { end ≤ length out.old }
-    ensures written { WritesBefore out.old out.new end result (value_text (value_of value.entry) ++ (newline ∷ [])) }
+    ensures written { WritesBefore out.old out.new end result
+        (value_text (short_value (field_slot row.now.field) short) ++ (newline ∷ [])) }
     ensures short { end ≤ result + 47 }
 {
-    match value {
-        Value::Number(number, scale) => {
+    match short {
+        Short::Number(number) => {
             let is_negative = number.is_negative();
             let magnitude = number.unsigned_abs();
-            number_before_end(out, end, is_negative, magnitude, scale.places, ending)
+            number_before_end(out, end, is_negative, magnitude, ending)
         }
-        Value::On => bytes_before(out, end, *b"on\n"),
-        Value::Off => bytes_before(out, end, *b"off\n"),
-        Value::Error => bytes_before(out, end, *b"error\n"),
-        Value::Reserved => bytes_before(out, end, *b"reserved\n"),
-        Value::Indicator => bytes_before(out, end, *b"indicator\n"),
-        Value::Text(_) => end,
+        Short::On => bytes_before(out, end, *b"on\n"),
+        Short::Off => bytes_before(out, end, *b"off\n"),
+        Short::Error => bytes_before(out, end, *b"error\n"),
+        Short::Reserved => bytes_before(out, end, *b"reserved\n"),
+        Short::Indicator => bytes_before(out, end, *b"indicator\n"),
     }
 }
 
@@ -187,19 +188,18 @@ fn number_before_end(
     end: usize,
     is_negative: bool,
     magnitude: u64,
-    places: u8,
-    ending: &ShortText,
+    ending: &Ending,
 ) -> usize
-    requires from { ending.now.from ≤ 16 }
-    requires places { places ≤ 9 }
+    requires from { ending.now.text.from ≤ 16 }
+    requires places { ending.now.places ≤ 9 }
     requires room { 48 ≤ end }
     requires within { end ≤ length out.old }
     ensures written { WritesBefore out.old out.new end result
-        (sign_text is_negative ++ magnitude_text places magnitude ++ short_text ending.now) }
+        (sign_text is_negative ++ magnitude_text ending.now.places magnitude ++ short_text ending.now.text) }
     ensures short { end ≤ result + 47 }
 {
-    let unit = short_before(out, end, ending);
-    let digits = magnitude_before(out, unit, magnitude, places);
+    let unit = short_before(out, end, &ending.text);
+    let digits = magnitude_before(out, unit, magnitude, ending.places);
     sign_before(out, digits, is_negative)
 }
 

@@ -15,6 +15,14 @@ pub struct Scale<'t> {
 }
 
 impl<'t> Scale<'t> {
+    /// That of what is no number.
+    pub(crate) const NONE: Scale<'static> = Scale {
+        step: 0,
+        offset: 0,
+        places: 0,
+        unit: b"",
+    };
+
     ghost use Rattle.std.specs.Prelude.{◌+ℤ◌, ◌*ℤ◌, pos, nat_lt};
     ghost use Rattle.j39_groups.specs.Fields.{largest};
     ghost use Rattle.j39_groups.specs.Models.{scale_record};

@@ -6,6 +6,7 @@ ghost use Rattle.j39_groups.specs.Rows.{is_built_in, is_row};
 ghost use Rattle.j39_groups.specs.Table.{the_table};
 
 use crate::field::Field;
+use crate::prepared::Ending;
 use crate::row::Row;
 use crate::scale::Scale;
 use crate::short_text::ShortText;
@@ -126,76 +127,76 @@ macro_rules! unit {
 
 macro_rules! unit_end {
     (Percent) => {
-        Some(ShortText {
+        ShortText {
             bytes: *b"              %\n",
             from: 13,
-        })
+        }
     };
     (Rpm) => {
-        Some(ShortText {
+        ShortText {
             bytes: *b"            rpm\n",
             from: 11,
-        })
+        }
     };
     (Kilometres) => {
-        Some(ShortText {
+        ShortText {
             bytes: *b"             km\n",
             from: 12,
-        })
+        }
     };
     (Hours) => {
-        Some(ShortText {
+        ShortText {
             bytes: *b"              h\n",
             from: 13,
-        })
+        }
     };
     (Revolutions) => {
-        Some(ShortText {
+        ShortText {
             bytes: *b"              r\n",
             from: 13,
-        })
+        }
     };
     (Celsius) => {
-        Some(ShortText {
+        ShortText {
             bytes: *b"           degC\n",
             from: 10,
-        })
+        }
     };
     (Kilopascals) => {
-        Some(ShortText {
+        ShortText {
             bytes: *b"            kPa\n",
             from: 11,
-        })
+        }
     };
     (KilometresPerHour) => {
-        Some(ShortText {
+        ShortText {
             bytes: *b"           km/h\n",
             from: 10,
-        })
+        }
     };
     (LitresPerHour) => {
-        Some(ShortText {
+        ShortText {
             bytes: *b"            L/h\n",
             from: 11,
-        })
+        }
     };
     (KilometresPerLitre) => {
-        Some(ShortText {
+        ShortText {
             bytes: *b"           km/L\n",
             from: 10,
-        })
+        }
     };
     (Volts) => {
-        Some(ShortText {
+        ShortText {
             bytes: *b"              V\n",
             from: 13,
-        })
+        }
     };
     (Fields) => {
-        Some(ShortText {
+        ShortText {
             bytes: *b"         fields\n",
             from: 8,
-        })
+        }
     };
 }
 
@@ -244,7 +245,10 @@ macro_rules! number {
             pgn: $pgn,
             spn: $spn,
             label: label!($spn),
-            end: unit_end!($unit),
+            end: Some(Ending {
+                text: unit_end!($unit),
+                places: $places,
+            }),
             field: Field::Number {
                 first: $first,
                 last: $last,
@@ -267,9 +271,12 @@ macro_rules! switch {
             pgn: $pgn,
             spn: $spn,
             label: label!($spn),
-            end: Some(ShortText {
-                bytes: *b"                ",
-                from: 16,
+            end: Some(Ending {
+                text: ShortText {
+                    bytes: *b"                ",
+                    from: 16,
+                },
+                places: 0,
             }),
             field: Field::Switch {
                 byte: $byte,

@@ -1,15 +1,18 @@
 //! The values in one field of a payload (J1939-71).
-ghost use Rattle.std.specs.Prelude.{◌≡◌, ◌+◌, ◌-◌, ◌*◌, ◌/◌, ◌%◌, ◌^◌, ◌<◌, ◌≤◌, ◌==◌, slice_get, drop, unsigned_abs};
+ghost use Rattle.std.specs.Prelude.{◌≡◌, ◌+◌, ◌-◌, ◌*◌, ◌/◌, ◌%◌, ◌^◌, ◌<◌, ◌≤◌, ◌==◌, slice_get, drop, false, unsigned_abs};
 ghost use Rattle.std.specs.List.{list_all};
 ghost use Rattle.std.specs.Option.{option_map, option_and_then, option_to_list};
-ghost use Rattle.j39_groups.specs.Fields.{HasOneValue, IsSound, IsSoundBits, IsSoundBytes, largest};
-ghost use Rattle.j39_groups.specs.Models.{field_record, scale_record, value_of};
+ghost use Rattle.j39_groups.specs.Fields.{HasOneValue, IsShort, IsSound, IsSoundBits, IsSoundBytes, largest};
+ghost use Rattle.j39_groups.specs.Models.{field_record, field_slot, no_slot, scale_record, short_value, value_of};
 ghost use Rattle.j39_groups.specs.Parts.{parts_of};
 ghost use Rattle.j39_groups.specs.Readings.{bits_meaning, by_top_byte, filled_text_meaning, number_meaning, raw_bits, raw_number, switch_meaning, text_meaning, values_at};
+ghost use Rattle.j39_groups.specs.Value.{SlotRecord, ValueRecord};
+ghost use Rattle.j39_groups.specs.Ranges.{is_valid};
 
 use crate::field::Field;
 use crate::raw::{is_valid, raw_bits, raw_number, raw_of, top_byte};
 use crate::scale::Scale;
+use crate::short::Short;
 use crate::value::Value;
 
 /// The value in a field that has one at most; `None` for several texts.
@@ -21,30 +24,52 @@ pub(crate) fn value_in<'t, 'v>(bytes: &'v [u8], field: Field<'t>) -> Option<Valu
         → option_to_list (option_map value_of result) ≡ values_at bytes.now (field_record field.entry) }
 {
     match field {
-        Field::Number { first, last, scale } => number_of(bytes, first, last, scale),
+        Field::Number { scale, .. } => with(short_in(bytes, &field), scale),
+        Field::Bits { scale, .. } => with(short_in(bytes, &field), scale),
+        Field::Switch { .. } => with(short_in(bytes, &field), Scale::NONE),
+        Field::Text { part } => text_at(bytes, part),
+        Field::Texts { .. } => None,
+    }
+}
+
+#[inline(always)]
+fn with<'t, 'v>(short: Option<Short>, scale: Scale<'t>) -> Option<Value<'t, 'v>>
+    ensures { option_map value_of result ≡ option_map (short_value (scale_record scale.entry)) short }
+{
+    match short {
+        Some(short) => Some(short.with(scale)),
+        None => None,
+    }
+}
+
+/// The number or the switch in a field; `None` for texts.
+#[inline(always)]
+#[tactic(auto, unfolding(crate::specs::Readings::values_at))]
+pub(crate) fn short_in(bytes: &[u8], field: &Field<'_>) -> Option<Short>
+    requires { IsSound field.now }
+    ensures { IsShort field.now → option_to_list (option_map (short_value (field_slot field.now)) result)
+        ≡ values_at bytes.now (field_record field.now) }
+{
+    match field {
+        Field::Number { first, last, scale } => number_of(bytes, *first, *last, scale),
         Field::Bits {
             byte,
             low,
             count,
             scale,
-        } => bits_of(bytes, byte, low, count, scale),
-        Field::Switch { byte, low, .. } => switch_at(bytes, byte, low),
-        Field::Text { part } => text_at(bytes, part),
+        } => bits_of(bytes, *byte, *low, *count, scale),
+        Field::Switch { byte, low, .. } => switch_at(bytes, *byte, *low),
+        Field::Text { .. } => None,
         Field::Texts { .. } => None,
     }
 }
 
 /// The number in the bytes `first` to `last`.
 #[inline(always)]
-fn number_of<'t, 'v>(
-    bytes: &'v [u8],
-    first: u8,
-    last: u8,
-    scale: Scale<'t>,
-) -> Option<Value<'t, 'v>>
-    requires { IsSoundBytes first last scale }
-    ensures { option_map value_of result
-        ≡ option_and_then (number_meaning (last - (first - 1)) (scale_record scale.entry))
+fn number_of(bytes: &[u8], first: u8, last: u8, scale: &Scale<'_>) -> Option<Short>
+    requires { IsSoundBytes first last scale.now }
+    ensures { option_map (short_value (scale_record scale.now)) result
+        ≡ option_and_then (number_meaning (last - (first - 1)) (scale_record scale.now))
         (raw_number first last bytes.now) }
 {
     match last - (first - 1) {
@@ -57,42 +82,41 @@ fn number_of<'t, 'v>(
 
 /// What a raw number of `count` bytes means.
 #[inline(always)]
-fn number<'t, 'v>(raw: u32, count: u8, scale: Scale<'t>) -> Option<Value<'t, 'v>>
+#[tactic(auto, unfolding(crate::specs::Readings::by_top_byte))]
+fn number(raw: u32, count: u8, scale: &Scale<'_>) -> Option<Short>
     requires some { 0 < count }
     requires narrow { count ≤ 4 }
-    requires fits { scale.step * raw + unsigned_abs scale.offset < 2 ^ 63 }
-    ensures { option_map value_of result ≡ number_meaning count (scale_record scale.entry) raw }
+    requires fits { scale.now.step * raw + unsigned_abs scale.now.offset < 2 ^ 63 }
+    ensures { option_map (short_value (scale_record scale.now)) result ≡ number_meaning count (scale_record scale.now) raw }
 {
-    by_top_byte(top_byte(raw, count), Value::Number(scale.value(raw), scale))
+    let top = top_byte(raw, count);
+    if is_valid(top) {
+        Some(Short::Number(scale.value(raw)))
+    } else {
+        word_by_top_byte(top)
+    }
 }
 
+/// What a raw number means that is not valid.
 #[inline(always)]
 #[tactic(auto, unfolding(crate::specs::Readings::by_top_byte))]
-fn by_top_byte<'t, 'v>(top: u32, valid: Value<'t, 'v>) -> Option<Value<'t, 'v>>
-    ensures { option_map value_of result ≡ by_top_byte top (value_of valid.entry) }
+fn word_by_top_byte(top: u32) -> Option<Short>
+    requires { is_valid top ≡ false }
+    ensures { (slot : SlotRecord) (valid : ValueRecord) → option_map (short_value slot) result ≡ by_top_byte top valid }
 {
-    if is_valid(top) {
-        return Some(valid);
-    }
     match top {
-        0xFB => Some(Value::Indicator),
-        0xFC..=0xFD => Some(Value::Reserved),
-        0xFE => Some(Value::Error),
+        0xFB => Some(Short::Indicator),
+        0xFC..=0xFD => Some(Short::Reserved),
+        0xFE => Some(Short::Error),
         _ => None,
     }
 }
 
 #[inline(always)]
-fn bits_of<'t, 'v>(
-    bytes: &'v [u8],
-    byte: u8,
-    low: u8,
-    count: u8,
-    scale: Scale<'t>,
-) -> Option<Value<'t, 'v>>
-    requires { IsSoundBits byte low count scale }
-    ensures { option_map value_of result
-        ≡ option_and_then (bits_meaning count (scale_record scale.entry)) (raw_bits byte low count bytes.now) }
+fn bits_of(bytes: &[u8], byte: u8, low: u8, count: u8, scale: &Scale<'_>) -> Option<Short>
+    requires { IsSoundBits byte low count scale.now }
+    ensures { option_map (short_value (scale_record scale.now)) result
+        ≡ option_and_then (bits_meaning count (scale_record scale.now)) (raw_bits byte low count bytes.now) }
 {
     let raw = raw_bits(bytes, byte, low, count)?;
     bits_meaning(raw, count, scale)
@@ -101,29 +125,30 @@ fn bits_of<'t, 'v>(
 /// What a number of `count` bits means.
 #[inline(always)]
 #[tactic(auto, unfolding(crate::specs::Readings::bits_meaning))]
-fn bits_meaning<'t, 'v>(raw: u32, count: u8, scale: Scale<'t>) -> Option<Value<'t, 'v>>
+fn bits_meaning(raw: u32, count: u8, scale: &Scale<'_>) -> Option<Short>
     requires few { count ≤ 32 }
     requires narrow { raw < 2 ^ count }
-    requires fits { largest count scale < 2 ^ 63 }
-    ensures { option_map value_of result ≡ bits_meaning count (scale_record scale.entry) raw }
+    requires fits { largest count scale.now < 2 ^ 63 }
+    ensures { option_map (short_value (scale_record scale.now)) result ≡ bits_meaning count (scale_record scale.now) raw }
 {
     let size = 1u64 << count;
     if count > 1 && u64::from(raw) + 1 == size {
         return None;
     }
     if count == 2 && raw == 2 {
-        return Some(Value::Error);
+        return Some(Short::Error);
     }
-    Some(Value::Number(scale.value(raw), scale))
+    Some(Short::Number(scale.value(raw)))
 }
 
 /// The switch in the two bits from `low` on; `None` where the payload does not reach them or it is
 /// not available.
-fn switch_at<'t, 'v>(bytes: &'v [u8], byte: u8, low: u8) -> Option<Value<'t, 'v>>
+#[inline(always)]
+fn switch_at(bytes: &[u8], byte: u8, low: u8) -> Option<Short>
     requires byte { 0 < byte }
     requires starts { 0 < low }
     requires ends { low < 8 }
-    ensures { option_map value_of result
+    ensures { option_map (short_value no_slot) result
         ≡ option_and_then (λ b. switch_meaning (b / 2 ^ (low - 1) % 4)) (slice_get bytes.now (byte - 1)) }
 {
     let byte = bytes.get(usize::from(byte) - 1).copied()?;
@@ -140,13 +165,13 @@ fn two_bits(byte: u8, low: u8) -> u8
 }
 
 #[tactic(auto, unfolding(crate::specs::Readings::switch_meaning))]
-fn switch_of<'t, 'v>(bits: u8) -> Option<Value<'t, 'v>>
-    ensures { option_map value_of result ≡ switch_meaning bits }
+fn switch_of(bits: u8) -> Option<Short>
+    ensures { option_map (short_value no_slot) result ≡ switch_meaning bits }
 {
     match bits {
-        0 => Some(Value::Off),
-        1 => Some(Value::On),
-        2 => Some(Value::Error),
+        0 => Some(Short::Off),
+        1 => Some(Short::On),
+        2 => Some(Short::Error),
         _ => None,
     }
 }

@@ -11,5 +11,5 @@ use Rattle.j39_groups.proofs.rows_before.number_before_end.Goals as goal
 pub returns-clause-written : goal.returns-clause-written
 returns-clause-written c =
     subst (WritesBefore c.args.out.now c.sign_before.new.out c.args.end c.sign_before.result)
-    (three (sign_text c.args.is_negative) (magnitude_text c.args.places c.args.magnitude) (short_text c.args.ending.now))
+    (three (sign_text c.args.is_negative) (magnitude_text c.args.ending.now.places c.args.magnitude) (short_text c.args.ending.now.text))
     (before_then _ _ _ _ _ _ _ _ (before_then _ _ _ _ _ _ _ _ c.short_before-unit.ensures.written c.magnitude_before-digits.ensures.written) c.sign_before.ensures.written)
