@@ -3,7 +3,7 @@ use Rattle.std.proofs.Common.{◌≡◌, ◌∙◌, List, ℕ, ap, sym}
 use Rattle.std.specs.List.{flat_map}
 use Rattle.std.proofs.lemmas.List.Folds.{flat_map-map}
 use Rattle.j39_io.proofs.PutsLemmas.{puts_as}
-use Rattle.j39_groups.specs.Quick.{reading_line}
+use Rattle.j39_groups.specs.Lines.{reading_line}
 use Rattle.j39_groups.specs.Readings.{readings_in}
 use Rattle.j39_groups.specs.Row.{RowRecord}
 use Rattle.j39_listen.specs.Heard.{Hearing}
