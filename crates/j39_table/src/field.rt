@@ -29,11 +29,7 @@ pub(crate) fn field_in<'t>(
 }
 
 /// The field of a place without a scale, where dashes stand for the offset and the unit too.
-fn unscaled_field<'t>(
-    place: Position,
-    offset: &[u8],
-    unit: &[u8],
-) -> Result<Field<'t>, RowFault>
+fn unscaled_field<'t>(place: Position, offset: &[u8], unit: &[u8]) -> Result<Field<'t>, RowFault>
     requires good { IsGoodPlace place }
     requires alone { IsAlone place }
     ensures { HasField (text_of_place place ∷ codes "-" ∷ offset.now ∷ unit.now ∷ []) result }
