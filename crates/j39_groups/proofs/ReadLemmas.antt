@@ -1,7 +1,7 @@
 -- What the rows of a group give, and the lines of it.
-use Rattle.std.proofs.Common.{◌≡◌, ◌<◌, ◌≤◌, ◌+◌, ◌-◌, ◌==◌, ◌++◌, ℕ, zero, suc, List, [], ◌∷◌, Bool, true, false, length, take, drop, get_or, map, refl, sym, ap, ◌∙◌, arith, append-nil, append_assoc, length-append, subst, drop-cons, take-append-drop, get_or-take, get_or-drop, inl, inr}
-use Rattle.std.specs.Prelude.{nat_lt, filter, not, Result, Ok, Err, OnOk}
-use Rattle.std.specs.List.{list_any, flat_map}
+use Rattle.std.proofs.Common.{◌≡◌, ◌<◌, ◌≤◌, ◌+◌, ◌-◌, ◌*◌, ◌==◌, ◌++◌, ℕ, zero, suc, List, [], ◌∷◌, Bool, true, false, length, take, drop, get_or, map, refl, sym, ap, ◌∙◌, arith, append-nil, append_assoc, length-append, subst, drop-cons, take-append-drop, get_or-take, get_or-drop, inl, inr}
+use Rattle.std.specs.Prelude.{◌&&◌, filter, not, Option, Result, Ok, Err, OnOk, slice_get}
+use Rattle.std.specs.List.{filter_map, flat_map, list_any}
 use Rattle.std.proofs.lemmas.Bool.{cases_Bool, eqb-false, le-ltb, lt-ltb, ltb-true, ltb-false, ne_eqb}
 use Rattle.std.proofs.lemmas.List.{drop_all, length-take, length-drop}
 use Rattle.std.proofs.lemmas.List.Concat.{flat_map-cons}
@@ -12,7 +12,9 @@ use Rattle.j39_io.proofs.BackwardsLemmas.{before_none, before_then}
 use Rattle.j39_groups.specs.declared.row.Row.{Row}
 use Rattle.j39_groups.specs.Lines.{reading_line, row_lines, row_readings}
 use Rattle.j39_groups.specs.Models.{row_record}
-use Rattle.j39_groups.specs.Readings.{group_rows, readings_at, readings_in}
+use Rattle.j39_groups.specs.Names.{name_at, name_in}
+use Rattle.j39_groups.specs.Readings.{group_rows, is_network_group, is_reported_in, readings_at, readings_in}
+use Rattle.j39_groups.proofs.TableLemmas.{filter_map-seen, list_any-seen, listed_is_reported}
 use Rattle.j39_groups.specs.Row.{RowRecord}
 
 -- some element passes where what passes is not empty
@@ -30,6 +32,35 @@ any_at p (x ∷ xs) (suc k) d below h = elim (cases_Bool (p x)) [
   | inl passes ↦ rw passes refl
   | inr fails ↦ rw fails (any_at p xs k d (omega (arith, below)) h)
 ]
+
+-- what is told of the rows of a group
+pub reported_by_group : (rows : List Row) (table : List RowRecord) (pgn : ℕ) → group_rows pgn (map row_record rows) ≡ group_rows pgn table
+    → list_any (λ row. is_network_group row.pgn) (map row_record rows) ≡ false → list_any (λ row. row.pgn == pgn) rows ≡ is_reported_in table pgn
+unfolding is_reported_in
+reported_by_group rows table pgn same free =
+    let p : RowRecord → Bool = λ row. row.pgn == pgn in
+    sym (list_any-seen row_record p rows) ∙ listed_is_reported (map row_record rows) pgn free
+    ∙ ap (λ listed. not (is_network_group pgn) && listed)
+    (sym (any_by_filter p (map row_record rows)) ∙ ap (λ rs. not (length rs == 0)) same ∙ any_by_filter p table)
+
+given_more : {X Y : Type 0} (f : X → Option Y) (x : X) (these those : List X) → filter_map f these ≡ filter_map f those
+    → filter_map f (x ∷ these) ≡ filter_map f (x ∷ those)
+given_more f x these those same = rw same refl
+
+named_by_group : (table : List RowRecord) (pgn spn : ℕ) → filter_map (name_at pgn spn) (group_rows pgn table) ≡ filter_map (name_at pgn spn) table
+named_by_group [] pgn spn = refl
+named_by_group (row ∷ table) pgn spn = elim (cases_Bool (row.pgn == pgn)) [
+  | inl here ↦
+      let kept : group_rows pgn (row ∷ table) ≡ row ∷ group_rows pgn table = rw here refl in
+      ap (filter_map (name_at pgn spn)) kept ∙ given_more (name_at pgn spn) row (group_rows pgn table) table (named_by_group table pgn spn)
+  | inr other ↦ rw other (named_by_group table pgn spn)
+]
+
+pub name_by_group : (rows : List Row) (table : List RowRecord) (pgn spn : ℕ) → group_rows pgn (map row_record rows) ≡ group_rows pgn table
+    → slice_get (filter_map (λ row. name_at pgn spn (row_record row)) rows) 0 ≡ name_in table pgn spn
+name_by_group rows table pgn spn same = ap (λ names. slice_get names 0)
+    (sym (filter_map-seen row_record (name_at pgn spn) rows) ∙ sym (named_by_group (map row_record rows) pgn spn)
+    ∙ ap (filter_map (name_at pgn spn)) same ∙ named_by_group table pgn spn)
 
 -- what is given of what is given
 pub flat_map-flat_map : {X Y Z : Type 0} (f : X → List Y) (g : Y → List Z) (xs : List X)

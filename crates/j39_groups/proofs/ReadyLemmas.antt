@@ -12,9 +12,11 @@ use Rattle.j39_groups.specs.declared.scale.Scale.{Scale}
 use Rattle.j39_groups.specs.declared.short_text.ShortText.{ShortText}
 use Rattle.j39_groups.specs.declared.value.Value.{Value}
 use Rattle.j39_groups.specs.Ranges.{is_valid}
-use Rattle.j39_groups.specs.Fields.{HasOneValue, IsSound, is_sound, field_record, scale_record}
+use Rattle.j39_groups.specs.Fields.{HasOneValue, IsSound, is_sound}
+use Rattle.j39_groups.specs.Models.{field_record, scale_record, value_of}
 use Rattle.j39_groups.specs.Readings.{bits_meaning, by_top_byte, number_meaning, switch_meaning, values_at}
 use Rattle.j39_groups.specs.Ready.{HasEnd, IsEnd, is_label, is_ready, is_scale_end, short_text}
+use Rattle.j39_groups.specs.Rows.{most_values}
 use Rattle.j39_groups.specs.Value.{SlotRecord, ValueRecord, on, off, error, reserved, indicator, number}
 
 computed : (n : ℕ) → digits_onto 64 10 false n [] ≡ decimal n
@@ -156,3 +158,11 @@ field_sound (Switch byte low high) h =
     record { byte_starts = ltb-true _ _ a.0; starts = ltb-true _ _ b.0; two = eqb-true _ _ c.0; ends = leb-true _ _ c.1 }
 field_sound (Text part) h = record { starts = ltb-true _ _ h }
 field_sound (Texts byte count) h = let a = and_parts _ _ h in record { byte_starts = ltb-true _ _ a.0; few = leb-true _ _ a.1 }
+
+-- a field has 31 values at most
+pub most_few : (field : Field) → is_sound field ≡ true → most_values field ≤ 31
+most_few (Number first last scale) h = omega arith
+most_few (Bits byte low count scale) h = omega arith
+most_few (Switch byte low high) h = omega arith
+most_few (Text part) h = omega arith
+most_few (Texts byte count) h = leb-true _ _ (and_parts _ _ h).1

@@ -1,5 +1,5 @@
 -- The rows of some parameters, row by row.
-use Rattle.std.proofs.Common.{◌≡◌, ◌<◌, ◌+◌, ◌==◌, ℕ, List, [], ◌∷◌, ◌++◌, Bool, true, false, length, take, get_or, map, ap, ◌∙◌, append-nil, inl, inr, sym, refl}
+use Rattle.std.proofs.Common.{◌≡◌, ◌<◌, ◌+◌, ◌==◌, ℕ, zero, suc, arith, List, [], ◌∷◌, ◌++◌, Bool, true, false, length, take, get_or, map, ap, ◌∙◌, append-nil, inl, inr, sym, refl}
 use Rattle.std.specs.Prelude.{◌&&◌, filter, not}
 use Rattle.std.specs.List.{flat_map, list_any}
 use Rattle.std.proofs.lemmas.Bool.{and_parts, cases_Bool}
@@ -10,6 +10,9 @@ use Rattle.j39_groups.proofs.TableLemmas.{filter_unlisted}
 use Rattle.j39_groups.specs.Readings.{HaveSameGroups, is_among, is_network_group, is_reported_in, readings_at, readings_in, rows_of_spns, values_at}
 use Rattle.j39_groups.specs.Row.{RowRecord}
 use Rattle.j39_groups.specs.Value.{ReadingRecord, ValueRecord}
+
+pub onto : {X : Type 0} (xs ys zs : List X) → xs ≡ ys → xs ++ zs ≡ ys ++ zs
+onto xs ys zs same = ap (λ front. front ++ zs) same
 
 -- one row more, seen as f sees it
 next_row : {X Y : Type 0} (f : X → Y) (p : Y → Bool) (rows : List X) (i : ℕ) (d : X) → i < length rows
@@ -25,6 +28,16 @@ row_kept f p rows i d below passes = next_row f p rows i d below ∙ (rw passes 
 pub row_left_out : {X Y : Type 0} (f : X → Y) (p : Y → Bool) (rows : List X) (i : ℕ) (d : X) → i < length rows → p (f (get_or rows i d)) ≡ false
     → filter p (map f (take (i + 1) rows)) ≡ filter p (map f (take i rows))
 row_left_out f p rows i d below fails = next_row f p rows i d below ∙ (rw fails (append-nil (filter p (map f (take i rows)))))
+
+-- where one passes, some do
+pub some_kept : {X Y : Type 0} (f : X → Y) (p : Y → Bool) (rows : List X) (i : ℕ) (d : X) → i < length rows → p (f (get_or rows i d)) ≡ true
+    → 0 < length (filter p (map f rows))
+some_kept f p [] i d below passes = absurd (omega (arith, below))
+some_kept f p (row ∷ rows) zero d below passes = rw passes (omega arith)
+some_kept f p (row ∷ rows) (suc i) d below passes = elim (cases_Bool (p (f row))) [
+  | inl first ↦ rw first (omega arith)
+  | inr other ↦ rw other (some_kept f p rows i d (omega (arith, below)) passes)
+]
 
 -- ---- what is read
 

@@ -1,10 +1,14 @@
 -- What is known of the rows of a table.
-use Rattle.std.proofs.Common.{◌≡◌, ◌<◌, ◌-◌, ℕ, List, [], ◌∷◌, Bool, true, false, length, take, drop, get_or, map, refl, sym, ap, ◌∙◌, take-append-drop}
+use Rattle.std.proofs.Common.{◌≡◌, ◌<◌, ◌≤◌, ◌-◌, arith, inl, inr, ℕ, List, [], ◌∷◌, Bool, true, false, length, take, drop, get_or, map, refl, sym, ap, ◌∙◌, take-append-drop}
 use Rattle.std.specs.Prelude.{◌==◌, not, filter}
 use Rattle.std.specs.List.{All, Contains, list_all, list_any}
 use Rattle.std.proofs.lemmas.Bool.{and_parts, cases_Bool, eq-eqb, not-true}
 use Rattle.std.proofs.lemmas.List.Folds.{list_all-append}
+use Rattle.std.proofs.lemmas.List.{get_or-map, length-map}
+use Rattle.std.proofs.lemmas.List.Elements.{All-contains, Contains-append_right}
 use Rattle.std.proofs.lemmas.List.Sums.{AllPass-from_list_all}
+use Rattle.std.specs.List.Sorted.{IsNonDecreasingBy}
+use Rattle.j39_groups.proofs.ListLemmas.{contains_filter, contains_head}
 use Rattle.j39_groups.specs.declared.row.Row.{Row}
 use Rattle.j39_groups.specs.Fields.{is_sound}
 use Rattle.j39_groups.specs.Models.{row_record}
@@ -47,3 +51,37 @@ rows_free (row ∷ rows) all =
     let listed = (row_is row both.0).listed in
     let free : is_network_group row.pgn ≡ false = not-true _ (and_parts _ _ (and_parts _ _ listed).1).0 in
     rw free (rows_free rows both.1)
+
+-- what holds of the rows of each group holds of all
+all_chosen : {X : Type 0} (p q : X → Bool) (xs : List X) → list_all p xs ≡ true → list_all p (filter q xs) ≡ true
+all_chosen p q [] all = refl
+all_chosen p q (x ∷ xs) all =
+    let both = and_parts (p x) (list_all p xs) all in
+    let here : p x ≡ true = both.0 in
+    elim (cases_Bool (q x)) [
+      | inl chosen ↦ rw (chosen, here) (all_chosen p q xs both.1)
+      | inr other ↦ rw other (all_chosen p q xs both.1)
+    ]
+
+each_sorted : {X : Type 0} (p : X → Bool) (n : X → ℕ) (xs all ys : List X) → list_all p xs ≡ true
+    → ((k : ℕ) → filter (λ x. n x == k) all ≡ filter (λ x. n x == k) xs) → ((y : X) → Contains ys y → Contains all y) → list_all p ys ≡ true
+each_sorted p n xs all [] holds same within = refl
+each_sorted p n xs all (y ∷ ys) holds same within =
+    let chosen = contains_filter (λ x. n x == n y) all y (within y (contains_head y ys)) (eq-eqb (n y) (n y) refl) in
+    let here = rw (same (n y)) at chosen in
+    let first : p y ≡ true = All-contains (λ x. p x ≡ true) (filter (λ x. n x == n y) xs) y
+    (AllPass-from_list_all p (filter (λ x. n x == n y) xs) (all_chosen p (λ x. n x == n y) xs holds)) here in
+    rw first (each_sorted p n xs all ys holds same (λ z has. within z (Contains-append_right (y ∷ []) ys z has)))
+
+pub all_sorted : {X : Type 0} (p : X → Bool) (n : X → ℕ) (xs ys : List X) → list_all p xs ≡ true
+    → ((k : ℕ) → filter (λ x. n x == k) ys ≡ filter (λ x. n x == k) xs) → list_all p ys ≡ true
+all_sorted p n xs ys holds same = each_sorted p n xs ys ys holds same (λ y has. has)
+
+pub sorted_seen : {X Y : Type 0} (view : X → Y) (n : Y → ℕ) (xs : List X) → IsNonDecreasingBy (λ x. n (view x)) xs → IsNonDecreasingBy n (map view xs)
+sorted_seen view n [] rising = λ i j d up below. absurd (omega (arith, below))
+sorted_seen view n (x ∷ xs) rising = λ i j d up below.
+    let len = length-map (x ∷ xs) view in
+    let inside : j < length (x ∷ xs) = omega (arith, len, below) in
+    let first = get_or-map view (x ∷ xs) i x d (omega (arith, up, inside)) in
+    let second = get_or-map view (x ∷ xs) j x d inside in
+    rw (first, second) (rising i j x up inside)

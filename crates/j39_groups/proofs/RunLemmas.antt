@@ -4,7 +4,7 @@ use Rattle.std.specs.Prelude.{◌==◌, filter, not, replicate, slice_set}
 use Rattle.std.specs.List.{list_all}
 use Rattle.std.proofs.lemmas.Bool.{and_parts, cases_Bool, eq-eqb, eqb-true, eqb-false, false≢true, ne_eqb}
 use Rattle.std.proofs.lemmas.Grind.{get_or-set_at}
-use Rattle.std.proofs.lemmas.List.{drop-append-le, drop_all, get_or-replicate, get_or-set_other, length-take, take-append, take-append-le, take_more}
+use Rattle.std.proofs.lemmas.List.{drop-append-le, drop_all, get_or-replicate, get_or-set_other, length-take, take-append-le, take_all, take_more}
 use Rattle.std.proofs.lemmas.List.Elements.{filter-append}
 use Rattle.std.proofs.lemmas.List.Folds.{list_all-append}
 use Rattle.j39_groups.specs.declared.row.Row.{Row}
@@ -21,8 +21,8 @@ none_elsewhere pgn [] all = refl
 none_elsewhere pgn (row ∷ rows) all =
     let both = and_parts _ _ all in
     let other : (row.pgn == pgn) ≡ false = ne_eqb _ _ (λ same.
-    let here : (mark_of row.pgn == mark_of pgn) ≡ true = eq-eqb _ _ (ap mark_of same) in
-    let never : false ≡ true = (rw here at both.0) in absurd (false≢true never)) in
+    let here : (mark_of row.pgn == mark_of pgn) ≡ true = eq-eqb (mark_of row.pgn) (mark_of pgn) (ap mark_of same) in
+    absurd (false≢true (sym (ap not here) ∙ both.0))) in
     rw other (none_elsewhere pgn rows both.1)
 
 -- so all of them lie in the run of its mark
@@ -31,10 +31,10 @@ pub all_sought : (rows : List Row) (pgn : ℕ) (run : Run) → IsRun rows (mark_
 all_sought rows pgn run is =
     let p : Row → Bool = λ row. row.pgn == pgn in
     let n = run.end - run.first in
-    let front : filter p (take run.first rows) ≡ [] = none_elsewhere pgn _ is.none_before in
+    let front : filter p (take run.first rows) ≡ [] = none_elsewhere pgn (take run.first rows) is.none_before in
     let to_end : run.first + n ≡ run.end = omega (arith, is.ordered) in
     let back : filter p (drop n (drop run.first rows)) ≡ [] =
-    ap (filter p) (drop-drop n run.first rows ∙ ap (λ k. drop k rows) to_end) ∙ none_elsewhere pgn _ is.none_behind in
+    ap (filter p) (drop-drop n run.first rows ∙ ap (λ k. drop k rows) to_end) ∙ none_elsewhere pgn (drop run.end rows) is.none_behind in
     sym (
       ap (filter p) (sym (take-append-drop run.first rows)) ∙ filter-append p (take run.first rows) (drop run.first rows)
           ∙ ap (λ found. found ++ filter p (drop run.first rows)) front
@@ -65,8 +65,8 @@ run_kept rows row mark run other is =
     record {
       ordered = is.ordered;
       inside = omega (arith, len, inside);
-      none_before = ap (list_all (is_elsewhere mark)) (take-append-le rows (row ∷ []) (omega (arith, is.ordered, inside))) ∙ is.none_before;
-      none_behind = ap (list_all (is_elsewhere mark)) (drop-append-le rows (row ∷ []) inside) ∙ all_of_one (is_elsewhere mark) row (drop run.end rows) other is.none_behind;
+      none_before = ap (list_all (is_elsewhere mark)) (take-append-le run.first rows (row ∷ []) (let ordered = is.ordered in omega (arith, ordered, inside))) ∙ is.none_before;
+      none_behind = ap (list_all (is_elsewhere mark)) (drop-append-le run.end rows (row ∷ []) inside) ∙ all_of_one (is_elsewhere mark) row (drop run.end rows) other is.none_behind;
     }
 
 -- and of this one
@@ -80,7 +80,7 @@ run_grown rows row mark run next begun grown end is =
     elim (cases_zero run.end) [
       | inl empty ↦
           let first = begun empty in
-          let whole : take next.first all ≡ drop run.end rows = ap (λ k. take k all) first ∙ take-append rows (row ∷ []) ∙ sym (ap (λ k. drop k rows) empty) in
+          let whole : take next.first all ≡ drop run.end rows = ap (λ k. take k all) first ∙ take-append-le (length rows) rows (row ∷ []) (omega arith) ∙ take_all (length rows) rows (omega arith) ∙ sym (ap (λ k. drop k rows) empty) in
           record {
             ordered = omega (arith, first, end);
             inside = omega (arith, len, end);
@@ -95,7 +95,7 @@ run_grown rows row mark run next begun grown end is =
             ordered = omega (arith, first, end, inside, ordered);
             inside = omega (arith, len, end);
             none_before = ap (λ k. list_all (is_elsewhere mark) (take k all)) first
-                ∙ ap (list_all (is_elsewhere mark)) (take-append-le rows (row ∷ []) (omega (arith, ordered, inside))) ∙ is.none_before;
+                ∙ ap (list_all (is_elsewhere mark)) (take-append-le run.first rows (row ∷ []) (omega (arith, ordered, inside))) ∙ is.none_before;
             none_behind = none_behind;
           }
     ]
@@ -111,7 +111,7 @@ runs_more runs rows i k d o next below is inside begun grown end are mark e few 
     let whole = take_more rows i d below in
     subst (λ rs. IsRun rs mark (get_or (slice_set runs k next) mark e)) (sym whole) (elim (cases_Bool (mark == k)) [
       | inl same ↦
-          let at = get_or-set_at runs mark k next e (eqb-true _ _ same) inside in
+          let at = get_or-set_at runs k mark next e (eqb-true _ _ same) inside in
           let this = subst (λ m. IsRun (take i rows) m (get_or runs m o)) (eqb-true _ _ same) (are mark o few) in
           let that : IsRun (take i rows ++ (row ∷ [])) k next =
           run_grown (take i rows) row k (get_or runs k o) next (λ z. begun z ∙ sym here) grown (end ∙ ap (λ n. n + 1) (sym here)) this in

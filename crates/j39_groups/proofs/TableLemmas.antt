@@ -92,6 +92,13 @@ listed_is_reported rows pgn none = elim (cases_Bool (is_network_group pgn)) [
   | inr free ↦ rw free refl
 ]
 
+built_in_is_open : list_any (λ row. is_network_group row.pgn) the_table ≡ false
+unfolding the_table
+built_in_is_open = refl
+
+pub listed_is_reported_built_in : (pgn : ℕ) → list_any (λ row. row.pgn == pgn) the_table ≡ is_reported_in the_table pgn
+listed_is_reported_built_in pgn = listed_is_reported the_table pgn built_in_is_open
+
 pub filter_unlisted : {X : Type 0} (p : X → Bool) (xs : List X) → list_any p xs ≡ false → filter p xs ≡ []
 filter_unlisted p [] h = refl
 filter_unlisted p (x ∷ xs) h = elim (cases_Bool (p x)) [

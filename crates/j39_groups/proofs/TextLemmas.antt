@@ -69,3 +69,6 @@ columns_joined a b c d e f g h space end = simp (append_assoc, append-nil) refl
 pub number_parts : (sign magnitude space unit end : List ℕ)
     → sign ++ (magnitude ++ (space ++ (unit ++ end))) ≡ sign ++ magnitude ++ space ++ unit ++ end
 number_parts sign magnitude space unit end = simp append_assoc refl
+
+pub spaced_joined : (text space unit : List ℕ) → text ++ space ++ unit ≡ flat_map (λ (part : List ℕ). part) (text ∷ space ∷ unit ∷ [])
+spaced_joined text space unit = simp (append_assoc, append-nil) refl

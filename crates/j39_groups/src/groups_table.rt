@@ -25,7 +25,7 @@ use crate::restricted::rows_of;
 use crate::row::Row;
 use crate::rows::Rows;
 use crate::rows_before::{HEAD, LINES};
-use crate::runs::{Run, run_of, runs_of};
+use crate::runs::{Run, has_group, run_of, runs_of};
 use crate::table::built_in_rows;
 use crate::visiting::{ReadingVisitor, visit_rows};
 use j39_frame::Pgn;
@@ -109,7 +109,7 @@ impl<'t> Groups<'t> {
         ensures { result ≡ is_reported_in self.now (pgn_raw pgn) }
     {
         let pgn = pgn.raw();
-        self.rows_for(pgn).iter().any(|row| row.pgn == pgn)
+        has_group(self.rows_for(pgn), pgn)
     }
 
     /// What the table calls a group, as its first row does; `None` where it lists none.

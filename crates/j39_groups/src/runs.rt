@@ -1,6 +1,6 @@
 //! Where the rows of a group are sought: each of 1,024 marks has the run of the rows of its groups.
 ghost use Rattle.std.specs.Prelude.{◌≡◌, ◌==◌, ◌+◌, ◌<◌, ◌≤◌, ◌^◌, filter, length, true};
-ghost use Rattle.std.specs.List.{list_all};
+ghost use Rattle.std.specs.List.{list_all, list_any};
 ghost use Rattle.j39_groups.specs.Rows.{is_row};
 ghost use Rattle.j39_groups.specs.Runs.{AreRuns, mark_of};
 
@@ -55,11 +55,19 @@ pub(crate) fn run_of<'r, 't>(runs: &[Run; MARKS], rows: &'r [Row<'t>], pgn: u32)
     &rows[run.first..run.end]
 }
 
+/// Whether one of these rows is of a group.
+#[inline(always)]
+pub(crate) fn has_group(rows: &[Row<'_>], pgn: u32) -> bool
+    ensures { result ≡ list_any (λ row. row.pgn == pgn) rows.now }
+{
+    rows.iter().any(|row| row.pgn == pgn)
+}
+
 /// Which mark stands for a group: not its low bits alone, which are 0 in each group below PF 240.
 #[inline(always)]
 fn mark_of(pgn: u32) -> usize
     ensures value { result ≡ mark_of pgn }
     ensures fits { result < 1024 }
 {
-    ((pgn / 256 + pgn) % 1024) as usize
+    ((pgn / 256 % 1024 + pgn % 1024) % 1024) as usize
 }

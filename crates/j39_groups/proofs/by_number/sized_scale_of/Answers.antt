@@ -10,6 +10,6 @@ use Rattle.j39_groups.proofs.by_number.sized_scale_of.Goals as goal
 pub returns-clause-value : goal.returns-clause-value
 unfolding sized_slot_of_spn
 returns-clause-value c =
-    c.find_slot.ensures.value
+    c.find_scale.ensures.value
     ∙ ap (λ slots. slice_get slots 0)
-    (sym (filter_map-seen row_record (slot_at c.args.spn) c.rows.result.now) ∙ ap (filter_map (slot_at c.args.spn)) c.rows.ensures.table)
+    (sym (filter_map-seen row_record (slot_at c.args.spn) c.built_in_rows.result.now) ∙ ap (filter_map (slot_at c.args.spn)) c.built_in_rows.ensures.table)

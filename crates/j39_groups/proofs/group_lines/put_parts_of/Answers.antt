@@ -7,6 +7,8 @@ use Rattle.j39_groups.specs.Lines.{row_lines, row_readings}
 use Rattle.j39_groups.specs.Value.{ReadingRecord}
 use Rattle.j39_groups.proofs.ListLemmas.{flat_map-around, flat_map-part}
 use Rattle.j39_io.proofs.PutsLemmas.{puts_as, puts_done, puts_first, puts_then}
+use Rattle.j39_groups.specs.Rows.{is_row}
+use Rattle.j39_groups.proofs.RowLemmas.{all_part}
 use Rattle.j39_groups.proofs.group_lines.put_parts_of.Goals as goal
 
 pub returns-in_err-more-clause-puts : goal.returns-in_err-more-clause-puts
@@ -43,3 +45,6 @@ parts-preserved g c =
       omega (arith, counts, both, before, more),
       omega (arith, up, few, short, fewer),
     )
+
+pub put_part-requires-clause-sound : goal.put_part-requires-clause-sound
+put_part-requires-clause-sound g c = all_part is_row c.args.rows.now c.parts.at (c.min-end.result - c.parts.at) c.requires.sound

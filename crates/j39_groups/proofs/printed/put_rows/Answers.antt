@@ -1,6 +1,6 @@
 -- After a fault a front of the rows that are left was written.
 use Rattle.j39_groups.specs.Models.{row_record}
-use Rattle.j39_groups.specs.declared.table.Row.{Row}
+use Rattle.j39_groups.specs.declared.row.Row.{Row}
 use Rattle.j39_groups.specs.Printed.{row_text}
 use Rattle.j39_io.proofs.PutsLemmas.{puts_until}
 use Rattle.j39_groups.proofs.printed.put_rows.Goals as goal

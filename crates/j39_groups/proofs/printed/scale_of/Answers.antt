@@ -1,7 +1,7 @@
 -- A step is a value of the raw number 1.
 use Rattle.std.proofs.Common.{◌+◌, ◌-◌, ◌*◌, arith}
 use Rattle.std.specs.Prelude.{unsigned_abs}
-use Rattle.j39_groups.specs.ReadFields.{IsSoundBits, IsSoundBytes}
+use Rattle.j39_groups.specs.Fields.{IsSoundBits, IsSoundBytes}
 use Rattle.j39_groups.proofs.NumberLemmas.{step_fits}
 use Rattle.j39_groups.proofs.printed.scale_of.Goals as goal
 

@@ -13,8 +13,8 @@ pub returns : goal.returns
 unfolding readings_in
 returns c =
     let pgn = pgn_raw c.args.pgn in
-    let rows = c.rows.result.now in
-    (rw c.raw-raw.ensures.value at c.read_rows.ensures)
+    let rows = c.built_in_rows.result.now in
+    (rw c.raw.ensures.value at c.read_rows.ensures)
     ∙ sym (flat_map-map (readings_at c.args.bytes.now) row_record (filter (λ row. row.pgn == pgn) rows))
     ∙ ap (flat_map (readings_at c.args.bytes.now))
-    (sym (filter-seen row_record (λ row. row.pgn == pgn) rows) ∙ ap (filter (λ row. row.pgn == pgn)) c.rows.ensures.table)
+    (sym (filter-seen row_record (λ row. row.pgn == pgn) rows) ∙ ap (filter (λ row. row.pgn == pgn)) c.built_in_rows.ensures.table)

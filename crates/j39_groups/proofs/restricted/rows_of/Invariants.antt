@@ -1,11 +1,9 @@
 use Rattle.std.proofs.Common.{◌≡◌, ◌≤◌, length, map, take}
 use Rattle.j39_groups.specs.Models.{row_record}
 use Rattle.j39_groups.specs.Readings.{rows_of_spns}
-use Rattle.j39_memory.specs.Items.{items_of}
 use Rattle.j39_groups.proofs.restricted.rows_of.Given as goal
 
 -- those of the rows so far are kept
 abbrev pub invariant-loop-row : goal.invariant-loop-row
 invariant-loop-row l =
-    (map row_record (items_of l.kept) ≡ rows_of_spns l.spns (map row_record (take l.row-index l.rows)))
-    × (length (items_of l.kept) ≤ l.row-index)
+    (l.kept ≡ rows_of_spns l.spns (map row_record (take l.row-index l.rows))) × (length l.kept ≤ l.row-index)

@@ -4,10 +4,10 @@ use Rattle.j39_groups.proofs.ReadLemmas.{all_rows, none_written}
 use Rattle.j39_groups.proofs.rows_before.rows_before.Goals as goal
 
 pub rows-init : goal.rows-init
-rows-init c = none_written _ _ _ _
+rows-init c = none_written _ _ _ _ _
 
 pub returns-clause-written : goal.returns-clause-written
-returns-clause-written c = (all_rows _ _ _ _ _ _ _ _ c.rows.invariant (omega arith)).0
+returns-clause-written c = (all_rows _ _ _ _ _ _ _ _ _ c.rows.invariant (omega arith)).0
 
 pub returns-clause-lines : goal.returns-clause-lines
-returns-clause-lines c = (all_rows _ _ _ _ _ _ _ _ c.rows.invariant (omega arith)).1
+returns-clause-lines c = (all_rows _ _ _ _ _ _ _ _ _ c.rows.invariant (omega arith)).1
