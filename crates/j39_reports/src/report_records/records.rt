@@ -98,12 +98,7 @@ impl<'g, 't, W: Sink> ReadingVisitor<'t, W> for Records<'g, 't> {
     ghost has_stopped = { λ subject before at records sink.
         HasStopped subject before at (record { bytes = W.written sink; has_failed = W.has_failed sink }) };
 
-    fn visit(
-        &mut self,
-        spn: u32,
-        value: Value<'t, '_>,
-        sink: &mut W,
-    ) -> Result<(), DeviceFault> {
+    fn visit(&mut self, spn: u32, value: Value<'t, '_>, sink: &mut W) -> Result<(), DeviceFault> {
         let parameter = parameter_of(self.groups, self.pgn, spn);
         put_record(
             &mut self.block,

@@ -44,11 +44,7 @@ pub(crate) struct Deeds<'t> {
 
 impl<'t> Deeds<'t> {
     /// Those of one value. Only a text takes memory.
-    pub fn begin(
-        alloc: Global,
-        stamp: Stamp,
-        value: Value<'t, '_>,
-    ) -> Result<Deeds<'t>, AllocError>
+    pub fn begin(alloc: Global, stamp: Stamp, value: Value<'t, '_>) -> Result<Deeds<'t>, AllocError>
         ensures begun { IfOk result (λ deeds. (origin : Origin)
             → row_shown (origin, deeds) ≡ begun (entry_at origin (stamp_micros stamp) (value_of value.entry))) }
     {
