@@ -12,3 +12,4 @@ pub mod Messages
 pub mod Nodes
 pub mod Parts
 pub mod Readings
+pub mod Units

@@ -1,20 +1,21 @@
 //! The readings of a message (J1939-71).
-ghost use Rattle.std.specs.Prelude.{◌≡◌, ◌≢◌, ◌≤◌, ◌↔◌, ℕ, Some, None, IfOk, IfErr, IfSome, IsSome, drop, length, pos, replicate, slice_get, take};
+ghost use Rattle.std.specs.Prelude.{◌≡◌, ◌≢◌, ◌≤◌, ◌↔◌, ℕ, Some, None, IfOk, IfErr, IfSome, IsSome, drop, length, pos, replicate, slice_get, take, true};
 ghost use Rattle.std.specs.Option.{option_map};
 ghost use Rattle.j39_frame.specs.Pgn.{pgn_raw};
 ghost use Rattle.j39_groups.specs.Readings.{readings_of};
-ghost use Rattle.j39_groups.specs.Models.{reading_of, slot_record, value_of};
+ghost use Rattle.j39_groups.specs.Models.{reading_of, scale_record, value_of};
 ghost use Rattle.j39_groups.specs.Slots.{IsRawOf};
 ghost use Rattle.j39_groups.specs.ValueText.{value_text};
 ghost use Rattle.j39_c.specs.Codes.{IsRefused, bad_value, end};
 ghost use Rattle.j39_c.specs.Readings.{IsFilled, IsPlain, IsReadable, IsTextAnswer, reading_in};
+ghost use Rattle.j39_c.specs.Units.{has_short_unit};
 ghost use Rattle.j39_c.specs.declared.refusal.Refusal.TheVariants.{NoMemory};
 
 use crate::handed_out::put;
 use crate::message::WholeMessage;
 use crate::refusal::Refusal;
 use j39_frame::Pgn;
-use j39_groups::{Reading, Slot, Value, put_value, raw_of, readings};
+use j39_groups::{Reading, Scale, Value, put_value, raw_of, readings};
 use j39_io::{DeviceFault, Sink};
 use std::alloc::Global;
 
@@ -92,8 +93,9 @@ fn payload_of(message: &WholeMessage) -> Option<&[u8]>
 }
 
 /// Reading number `index` of a payload.
-fn reading_at(pgn: Pgn, payload: &[u8], index: usize) -> Option<Reading<'_>>
-    ensures { option_map reading_of result ≡ slice_get (readings_of (pgn_raw pgn) payload.now) index }
+fn reading_at(pgn: Pgn, payload: &[u8], index: usize) -> Option<Reading<'static, '_>>
+    ensures value { option_map reading_of result ≡ slice_get (readings_of (pgn_raw pgn) payload.now) index }
+    ensures short { IfSome result (λ reading. has_short_unit (value_of reading.value) ≡ true) }
 {
     let found = readings(pgn, payload);
     if index < found.len() {
@@ -104,17 +106,18 @@ fn reading_at(pgn: Pgn, payload: &[u8], index: usize) -> Option<Reading<'_>>
 }
 
 /// A reading in plain numbers.
-fn plain(reading: &Reading<'_>) -> PlainReading
+fn plain(reading: &Reading<'_, '_>) -> PlainReading
+    requires { has_short_unit (value_of reading.now.value) ≡ true }
     ensures { IsPlain result (reading_of reading.now) }
 {
     let spn = reading.spn;
     match reading.value {
-        Value::Number(number, slot) => PlainReading {
+        Value::Number(number, scale) => PlainReading {
             number,
             spn,
             kind: 0,
-            places: slot.places(),
-            unit: unit_of(slot),
+            places: scale.places,
+            unit: unit_of(scale),
         },
         Value::On => of_kind(spn, 1),
         Value::Off => of_kind(spn, 2),
@@ -138,18 +141,19 @@ fn of_kind(spn: u32, kind: u8) -> PlainReading
     }
 }
 
-/// The unit of a slot, filled up with zeros.
-fn unit_of(slot: Slot) -> [u8; 8]
-    ensures { IsFilled result (slot_record slot).unit }
+/// The unit of a scale, filled up with zeros: one at least.
+fn unit_of(scale: Scale<'_>) -> [u8; 8]
+    requires { length scale.unit.now ≤ 7 }
+    ensures { IsFilled result (scale_record scale.entry).unit }
 {
-    let text = slot.unit().as_bytes();
+    let text = scale.unit;
     let mut unit = [0; 8];
     unit[..text.len()].copy_from_slice(text);
     unit
 }
 
 /// Writes out a value's text, and answers its length.
-fn put_text(alloc: Global, value: &Value<'_>, text: &mut [u8]) -> i32
+fn put_text(alloc: Global, value: &Value<'_, '_>, text: &mut [u8]) -> i32
     ensures text { IsTextAnswer (length text.old) (value_text (value_of value.now)) result text.new }
     ensures kept { IsRefused result → text.new ≡ text.old }
     ensures rest { (n : ℕ) → result ≡ pos n → drop n text.new ≡ drop n text.old }
@@ -161,7 +165,7 @@ fn put_text(alloc: Global, value: &Value<'_>, text: &mut [u8]) -> i32
 }
 
 /// A value's text.
-fn text_of(alloc: Global, value: &Value<'_>) -> Result<Vec<u8>, Refusal>
+fn text_of(alloc: Global, value: &Value<'_, '_>) -> Result<Vec<u8>, Refusal>
     ensures text { IfOk result (λ text. text.items ≡ value_text (value_of value.now)) }
     ensures refused { IfErr result (λ refusal. refusal ≡ NoMemory) }
 {

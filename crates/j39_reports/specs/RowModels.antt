@@ -2,9 +2,8 @@
 use Rattle.std.specs.Prelude.{ℕ}
 use Rattle.std.specs.Option.{option_map}
 use Rattle.j39_frame.specs.Stamp.{stamp_micros}
-use Rattle.j39_groups.specs.ReadFields.{scale_record}
-use Rattle.j39_groups.specs.Models.{slot_record}
-use Rattle.j39_groups.specs.Value.{SlotRecord, ValueRecord, number, on, off, error, reserved, indicator, text}
+use Rattle.j39_groups.specs.Models.{scale_record}
+use Rattle.j39_groups.specs.Value.{ValueRecord, number, on, off, error, reserved, indicator, text}
 use Rattle.j39_memory.specs.Stored.{value_of}
 use Rattle.j39_listen.specs.Report.{Entry}
 use Rattle.j39_reports.specs.Summary.{Range, Row}
@@ -14,16 +13,10 @@ use Rattle.j39_reports.specs.declared.summaries.deeds.Span.{Span}
 use Rattle.j39_reports.specs.declared.summaries.kept.Kept.{Kept}
 use Rattle.j39_reports.specs.declared.summaries.kept.Kept.TheVariants as kept
 use Rattle.j39_reports.specs.declared.summaries.kept.Kept.TheVariants.{On, Off, Error, Reserved, Indicator, Text}
-use Rattle.j39_reports.specs.declared.summaries.measure.Measure.{Measure}
-use Rattle.j39_reports.specs.declared.summaries.measure.Measure.TheVariants.{Slot, Scale}
 use Rattle.j39_frame.specs.declared.origin.Origin.{Origin}
 
-abbrev pub measure_record : Measure → SlotRecord
-measure_record (Slot slot) = slot_record slot
-measure_record (Scale scale) = scale_record scale
-
 abbrev pub kept_value : Kept → ValueRecord
-kept_value (kept.Number n measure) = number n (measure_record measure)
+kept_value (kept.Number n scale) = number n (scale_record scale)
 kept_value On = on
 kept_value Off = off
 kept_value Error = error
@@ -45,7 +38,7 @@ abbrev pub entry_seen : Origin → Seen → Entry
 entry_seen origin seen = entry_at origin (stamp_micros seen.stamp) (kept_value seen.value)
 
 abbrev pub range_of_span : Span → Range
-range_of_span span = record { slot = measure_record span.measure; least = span.least; most = span.most }
+range_of_span span = record { slot = scale_record span.scale; least = span.least; most = span.most }
 
 -- the row of what was seen of an origin
 abbrev pub row_shown : Origin × Deeds → Row

@@ -5,7 +5,6 @@ mod deeds;
 mod kept;
 pub mod laws;
 mod lines;
-mod measure;
 mod records;
 mod rows;
 

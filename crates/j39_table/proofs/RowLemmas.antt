@@ -2,9 +2,10 @@
 use Rattle.std.proofs.Common.{◌≡◌, ◌<◌, ◌≤◌, ◌∙◌, ◌++◌, ℕ, suc, true, List, [], ◌∷◌, length, take, drop, refl, sym, ap, subst, arith, rules, codes, decimal}
 use Rattle.std.proofs.lemmas.Grind.{common_steps}
 use Rattle.std.proofs.lemmas.List.{take-append-le}
-use Rattle.j39_groups.specs.ReadFields.{is_sound_read, read_field_record}
-use Rattle.j39_groups.specs.declared.read_field.ReadField.{ReadField}
-use Rattle.j39_groups.specs.declared.read_field.ReadField.TheVariants.{Number, Bits, Switch, Text, Texts}
+use Rattle.j39_groups.specs.Fields.{is_sound}
+use Rattle.j39_groups.specs.Models.{field_record}
+use Rattle.j39_groups.specs.declared.field.Field.{Field}
+use Rattle.j39_groups.specs.declared.field.Field.TheVariants.{Number, Bits, Switch, Text, Texts}
 use Rattle.j39_groups.specs.Row.{FieldRecord, number_field, bits_field, switch_field, text_field, texts_field, RowRecord}
 use Rattle.j39_table.proofs.ScaleLemmas.{first_of, second_of, third_of, x_word}
 use Rattle.j39_table.specs.Agreement.{AreColumnsOf, IsWrongAfter}
@@ -173,7 +174,7 @@ good_row p g s a b c d n pgn spn field group word parameter says named = record 
 
 -- ---- a good field is sound
 
-pub sound_field : (field : ReadField) → IsGoodField (read_field_record field) → is_sound_read field ≡ true
+pub sound_field : (field : Field) → IsGoodField (field_record field) → is_sound field ≡ true
 sound_field (Number first last scale) good =
     let place = good.0 in let step = good.1.step_is in let fits = good.1.fits in grind (arith, common_steps)
 sound_field (Bits byte low count scale) good =

@@ -94,9 +94,9 @@ fault_here text rows number n line (TooManyRows at) is spelled next row_line few
 fault_here text rows number n line TooLong is spelled next row_line few wrong = absurd wrong
 fault_here text rows number n line Memory is spelled next row_line few wrong = record { line = line; place = n; stands = next; is_row = row_line }
 
-pub some_row : {A B : Type 0} (f : A → B) (xs : List A) → (length xs ≤ 20 → ⊥) → 0 < length (map f xs)
-some_row f [] many = absurd (many (omega arith))
-some_row f (x ∷ xs) many = omega arith
+pub some_row : (rows : List RowRecord) → (length rows ≤ 20 → ⊥) → 0 < length rows
+some_row [] many = absurd (many (omega arith))
+some_row (row ∷ rows) many = omega arith
 
 -- where lines spell a row, one of them is a row's
 pub row_line_of : (lines : List (List ℕ)) (rows : List RowRecord) → SpellRows (row_lines lines) rows → 0 < length rows → HasRowLine lines

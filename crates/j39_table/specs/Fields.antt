@@ -1,8 +1,8 @@
 -- The field that columns of a line say.
 use Rattle.std.specs.Prelude.{◌≡◌, ◌==◌, ◌+◌, ◌<◌, ◌&&◌, ℕ, List, Option, Some, None, Result, MatchResult, if◌then◌else◌, length, nat_lt}
 use Rattle.j39_groups.specs.Printed.{place_text}
-use Rattle.j39_groups.specs.ReadFields.{read_field_record, scale_record}
-use Rattle.j39_groups.specs.declared.read_field.ReadField.{ReadField}
+use Rattle.j39_groups.specs.Models.{field_record, scale_record}
+use Rattle.j39_groups.specs.declared.field.Field.{Field}
 use Rattle.j39_groups.specs.declared.scale.Scale.{Scale}
 use Rattle.j39_groups.specs.Row.{FieldRecord, number_field, bits_field, switch_field, text_field, texts_field}
 use Rattle.j39_table.specs.Agreement.{AreColumnsOf, IsWrongAfter}
@@ -46,7 +46,7 @@ HasScale bits texts result =
     MatchResult result (λ scale. AreColumnsOf (IsGoodScale bits) slot_columns texts (scale_record scale))
     (λ fault. IsFaultFrom (IsGoodScale bits) slot_columns 4 texts fault)
 
-abbrev pub HasField : List (List ℕ) → Result ReadField RowFault → Type 0
+abbrev pub HasField : List (List ℕ) → Result Field RowFault → Type 0
 HasField texts result =
-    MatchResult result (λ field. AreColumnsOf IsGoodField field_columns texts (read_field_record field))
+    MatchResult result (λ field. AreColumnsOf IsGoodField field_columns texts (field_record field))
     (λ fault. IsFaultFrom IsGoodField field_columns 3 texts fault)

@@ -1,8 +1,9 @@
 -- What a line of a table spells, and which column is wrong where it spells nothing.
-use Rattle.std.specs.Prelude.{◌≡◌, ◌<◌, ◌^◌, ℕ, List, Result, MatchResult, decimal}
-use Rattle.j39_groups.specs.ReadRows.{read_row_record}
+use Rattle.std.specs.Prelude.{◌≡◌, ◌<◌, ◌^◌, ℕ, List, Result, MatchResult, decimal, true}
+use Rattle.j39_groups.specs.Models.{row_record}
 use Rattle.j39_groups.specs.Row.{RowRecord}
-use Rattle.j39_groups.specs.declared.read_row.ReadRow.{ReadRow}
+use Rattle.j39_groups.specs.Rows.{is_row}
+use Rattle.j39_groups.specs.declared.row.Row.{Row}
 use Rattle.j39_table.specs.Agreement.{AreColumnsOf, IsWrongAfter}
 use Rattle.j39_table.specs.Faults.{column_of}
 use Rattle.j39_table.specs.Lines.{line_columns}
@@ -27,7 +28,12 @@ pub record SaysParameter (text : List ℕ) (spn : ℕ) : Type 0 where
   pub text_is : text ≡ decimal spn
   pub fits : spn < 2 ^ 19
 
-abbrev pub HasRow : List (List ℕ) → Result ReadRow RowFault → Type 0
+-- the texts are the row's columns, and a table takes it
+pub record IsRowOf (texts : List (List ℕ)) (row : Row) : Type 0 where
+  pub says : AreColumnsOf IsGoodRow columns_of texts (row_record row)
+  pub sound : is_row row ≡ true
+
+abbrev pub HasRow : List (List ℕ) → Result Row RowFault → Type 0
 HasRow texts result =
-    MatchResult result (λ row. AreColumnsOf IsGoodRow columns_of texts (read_row_record row))
+    MatchResult result (λ row. IsRowOf texts row)
     (λ fault. IsWrongAfter IsGoodRow columns_of texts (column_of fault))

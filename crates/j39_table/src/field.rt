@@ -1,13 +1,13 @@
 //! Where a parameter stands and how it is read, from four columns of a line.
 ghost use Rattle.std.specs.Prelude.{◌≡◌, ◌≢◌, ◌↔◌, IsTrue, ◌∷◌, [], IfSome, IfNone, Some, None, codes};
-ghost use Rattle.j39_groups.specs.ReadFields.{read_field_record};
+ghost use Rattle.j39_groups.specs.Models.{field_record};
 ghost use Rattle.j39_table.specs.Fields.{HasField, IsAlone, unscaled_of};
 ghost use Rattle.j39_table.specs.Positions.{IsGoodPlace, text_of_place};
 
 use crate::RowFault;
 use crate::position::{Position, place_in};
 use crate::scale::scale_in;
-use j39_groups::ReadField;
+use j39_groups::Field;
 
 /// The field that four columns say.
 pub(crate) fn field_in<'t>(
@@ -15,7 +15,7 @@ pub(crate) fn field_in<'t>(
     step: &[u8],
     offset: &[u8],
     unit: &'t [u8],
-) -> Result<ReadField<'t>, RowFault>
+) -> Result<Field<'t>, RowFault>
     ensures { HasField (place.now ∷ step.now ∷ offset.now ∷ unit.entry.now ∷ []) result }
 {
     let Some(place) = place_in(place) else {
@@ -29,11 +29,7 @@ pub(crate) fn field_in<'t>(
 }
 
 /// The field of a place without a scale, where dashes stand for the offset and the unit too.
-fn unscaled_field<'t>(
-    place: Position,
-    offset: &[u8],
-    unit: &[u8],
-) -> Result<ReadField<'t>, RowFault>
+fn unscaled_field<'t>(place: Position, offset: &[u8], unit: &[u8]) -> Result<Field<'t>, RowFault>
     requires good { IsGoodPlace place }
     requires alone { IsAlone place }
     ensures { HasField (text_of_place place ∷ codes "-" ∷ offset.now ∷ unit.now ∷ []) result }
@@ -56,25 +52,25 @@ fn is_dash(text: &[u8]) -> bool
     matches!(text, [b'-'])
 }
 
-fn unscaled<'t>(place: Position) -> Option<ReadField<'t>>
-    ensures found { IfSome result (λ field. unscaled_of place ≡ Some (read_field_record field)) }
+fn unscaled<'t>(place: Position) -> Option<Field<'t>>
+    ensures found { IfSome result (λ field. unscaled_of place ≡ Some (field_record field)) }
     ensures only { IfNone result (unscaled_of place ≡ None) }
 {
     match place {
         Position::Bytes { .. } => None,
         Position::Bits { byte, low, count } => switch_of(byte, low, count),
-        Position::Part { part } => Some(ReadField::Text { part }),
-        Position::Texts { byte } => Some(ReadField::Texts { byte, count: 31 }),
+        Position::Part { part } => Some(Field::Text { part }),
+        Position::Texts { byte } => Some(Field::Texts { byte, count: 31 }),
     }
 }
 
 /// The switch in two bits of one byte.
-fn switch_of<'t>(byte: u8, low: u8, count: u8) -> Option<ReadField<'t>>
-    ensures found { IfSome result (λ field. unscaled_of (Position.Bits byte low count) ≡ Some (read_field_record field)) }
+fn switch_of<'t>(byte: u8, low: u8, count: u8) -> Option<Field<'t>>
+    ensures found { IfSome result (λ field. unscaled_of (Position.Bits byte low count) ≡ Some (field_record field)) }
     ensures only { IfNone result (unscaled_of (Position.Bits byte low count) ≡ None) }
 {
     if count == 2 && low < 8 {
-        Some(ReadField::Switch {
+        Some(Field::Switch {
             byte,
             low,
             high: low + 1,
@@ -90,7 +86,7 @@ fn scaled_field<'t>(
     step: &[u8],
     offset: &[u8],
     unit: &'t [u8],
-) -> Result<ReadField<'t>, RowFault>
+) -> Result<Field<'t>, RowFault>
     requires good { IsGoodPlace place }
     requires alone { IsAlone place }
     requires number { step.now ≢ codes "-" }
@@ -99,12 +95,12 @@ fn scaled_field<'t>(
     match place {
         Position::Bytes { first, last } => {
             match scale_in(8 * (last - first + 1), step, offset, unit) {
-                Ok(scale) => Ok(ReadField::Number { first, last, scale }),
+                Ok(scale) => Ok(Field::Number { first, last, scale }),
                 Err(fault) => Err(fault),
             }
         }
         Position::Bits { byte, low, count } => match scale_in(count, step, offset, unit) {
-            Ok(scale) => Ok(ReadField::Bits {
+            Ok(scale) => Ok(Field::Bits {
                 byte,
                 low,
                 count,

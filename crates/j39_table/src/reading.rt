@@ -1,7 +1,5 @@
 //! A whole table.
-ghost use Rattle.std.specs.Prelude.{Err, ◌≡◌, ◌≤◌, ◌<◌, ◌++◌, ◌∷◌, [], IfOk, IfErr, MatchResult, OnOk, length, map};
-ghost use Rattle.j39_groups.specs.ReadRows.{read_row_record};
-ghost use Rattle.j39_memory.specs.Items.{items_of};
+ghost use Rattle.std.specs.Prelude.{Err, ◌≡◌, ◌≤◌, ◌<◌, ◌++◌, ◌∷◌, [], IfOk, IfErr, MatchResult, OnOk, length};
 ghost use Rattle.j39_table.specs.Tables.{IsFaultOf, IsTableOf, SpellRows, bare_line, is_row_line, lines_of, row_lines};
 ghost use Rattle.j39_table.specs.RowsSoFar.{IsLineRead};
 ghost use Rattle.j39_table.specs.declared.fault.TableFault.TheVariants.{TooLong};
@@ -9,8 +7,8 @@ ghost use Rattle.j39_table.specs.declared.fault.TableFault.TheVariants.{TooLong}
 use crate::TableFault;
 use crate::line::without_spaces;
 use crate::row::read_row;
-use j39_groups::{Groups, ReadRow};
-use j39_memory::{List, MOST};
+use j39_groups::{Groups, Rows};
+use j39_memory::MOST;
 use std::alloc::Global;
 
 /// The bytes that the text of a table may have, 1 MiB.
@@ -37,12 +35,12 @@ pub fn read(alloc: Global, text: &[u8]) -> Result<Groups<'_>, TableFault>
     }
 }
 
-fn rows_in(alloc: Global, text: &[u8]) -> Result<List<ReadRow<'_>>, TableFault>
+fn rows_in(alloc: Global, text: &[u8]) -> Result<Rows<'_>, TableFault>
     requires { length text.now ≤ 1048576 }
-    ensures rows { IfOk result (λ rows. SpellRows (row_lines (lines_of text.now)) (map read_row_record (items_of rows))) }
+    ensures rows { IfOk result (λ rows. SpellRows (row_lines (lines_of text.now)) rows) }
     ensures wrong { IfErr result (λ fault. IsFaultOf text.now fault) }
 {
-    let mut rows = List::new(alloc);
+    let mut rows = Rows::new(alloc);
     let mut number = 0;
     for whole in text.split(|b| *b == b'\n') {
         number += 1;
@@ -58,9 +56,8 @@ fn rows_in(alloc: Global, text: &[u8]) -> Result<List<ReadRow<'_>>, TableFault>
 }
 
 /// Appends the row that a line spells.
-fn push_row<'t>(rows: &mut List<ReadRow<'t>>, number: u32, line: &'t [u8]) -> Result<(), TableFault>
-    ensures { IsLineRead (map read_row_record (items_of rows.old))
-        (map read_row_record (items_of rows.new)) number line.entry.now result }
+fn push_row<'t>(rows: &mut Rows<'t>, number: u32, line: &'t [u8]) -> Result<(), TableFault>
+    ensures { IsLineRead rows.old rows.new number line.entry.now result }
 {
     if rows.len() >= MOST {
         return Err(TableFault::TooManyRows(number));

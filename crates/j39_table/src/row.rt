@@ -1,9 +1,10 @@
 //! A line of a table.
-ghost use Rattle.std.specs.Prelude.{◌≡◌, ℕ, IfOk, IfErr, IfSome, IsSomeAnd};
+ghost use Rattle.std.specs.Prelude.{◌≡◌, ℕ, IfOk, IfErr, IfSome, IsSomeAnd, true};
 ghost use Rattle.std.specs.Result.{IsOkAnd};
 ghost use Rattle.j39_frame.specs.Pgn.{pgn_raw};
-ghost use Rattle.j39_groups.specs.ReadRows.{read_row_record};
+ghost use Rattle.j39_groups.specs.Models.{row_record};
 ghost use Rattle.j39_groups.specs.Row.{RowRecord};
+ghost use Rattle.j39_groups.specs.Rows.{is_row};
 ghost use Rattle.j39_table.specs.Faults.{column_of};
 ghost use Rattle.j39_table.specs.Lines.{column_texts};
 ghost use Rattle.j39_table.specs.Spelled.{HasRow, IsWrongColumn, SaysGroup, SaysParameter, SpellsRow};
@@ -14,19 +15,20 @@ use crate::field::field_in;
 use crate::line::{Columns, columns_of};
 use crate::words::{is_name, is_word};
 use j39_frame::Pgn;
-use j39_groups::{ReadRow, is_heard_group, is_network_group};
+use j39_groups::{Row, is_heard_group, is_network_group};
 
 /// The row that a line spells, as `j1939 groups` prints it: seven words with spaces between, and a name; or the
 /// first column with which no row goes on.
-pub fn read_row(line: &[u8]) -> Result<ReadRow<'_>, RowFault>
-    ensures found { IfOk result (λ row. SpellsRow line.now (read_row_record row)) }
-    ensures only { (row : RowRecord) → SpellsRow line.now row → IsOkAnd result (λ found. read_row_record found ≡ row) }
+pub fn read_row(line: &[u8]) -> Result<Row<'_>, RowFault>
+    ensures found { IfOk result (λ row. SpellsRow line.now (row_record row)) }
+    ensures only { (row : RowRecord) → SpellsRow line.now row → IsOkAnd result (λ found. row_record found ≡ row) }
     ensures wrong { IfErr result (λ fault. IsWrongColumn line.now (column_of fault)) }
+    ensures row { IfOk result (λ row. is_row row ≡ true) }
 {
     row_of(columns_of(line))
 }
 
-fn row_of(columns: Columns<'_>) -> Result<ReadRow<'_>, RowFault>
+fn row_of(columns: Columns<'_>) -> Result<Row<'_>, RowFault>
     ensures { HasRow (column_texts columns.entry) result }
 {
     let Some(pgn) = group_in(columns.pgn) else {
@@ -45,13 +47,7 @@ fn row_of(columns: Columns<'_>) -> Result<ReadRow<'_>, RowFault>
     if !is_name(columns.name) {
         return Err(RowFault::Name);
     }
-    Ok(ReadRow {
-        pgn,
-        group: columns.group,
-        spn,
-        name: columns.name,
-        field,
-    })
+    Ok(Row::new(pgn, columns.group, spn, columns.name, field))
 }
 
 /// The group that a text says, where a table may list it.

@@ -4,12 +4,12 @@ ghost use Rattle.std.specs.List.{list_any};
 ghost use Rattle.std.specs.Simd.Lanes.{mask_l};
 ghost use Rattle.j39_io.specs.Backwards.{WritesBefore};
 ghost use Rattle.j39_io.specs.Records.{is_special, later_text};
-ghost use Rattle.j39_groups.specs.ReadValues.{read_value_of};
+ghost use Rattle.j39_groups.specs.Models.{value_of};
 ghost use Rattle.j39_groups.specs.ValueText.{bare_text, scaled_text};
 ghost use Rattle.j39_reports.specs.EntryText.{named_fields, value_fields};
 
 use crate::report_records::begin::{HEAD, digits_before};
-use j39_groups::{ReadValue, Value, magnitude_before};
+use j39_groups::{Value, magnitude_before};
 use j39_io::backwards::{byte_before, bytes_before, slice_before, tail_before};
 use j39_io::has_special;
 use std::simd::prelude::*;
@@ -29,11 +29,11 @@ pub(crate) fn record_before(
     group: &[u8],
     spn: u32,
     parameter: &[u8],
-    value: ReadValue<'_, '_>,
+    value: Value<'_, '_>,
 ) -> Option<usize>
     requires { from ≤ 96 }
     ensures { IfSome result (λ start. WritesBefore out.old out.new 336 start
-        (named_fields (drop from head.now) group.now spn parameter.now ++ value_fields (read_value_of value.entry))) }
+        (named_fields (drop from head.now) group.now spn parameter.now ++ value_fields (value_of value.entry))) }
 {
     let unit = value.unit();
     let last = bytes_before(out, RECORD, *b"\r\n");
@@ -106,24 +106,21 @@ fn bits_of(block: &[u8; 8], byte: u8) -> u64
 /// Writes a value without its unit.
 #[inline(always)]
 #[tactic(auto, unfolding(j39_groups::specs::ValueText::bare_text, j39_groups::specs::ValueText::value_text))]
-fn bare_before(out: &mut [u8], end: usize, value: ReadValue<'_, '_>) -> Option<usize>
+fn bare_before(out: &mut [u8], end: usize, value: Value<'_, '_>) -> Option<usize>
     requires room { 32 ≤ end }
     requires within { end ≤ length out.old }
     ensures written { IfSome result (λ start. WritesBefore out.old out.new end start
-        (bare_text (read_value_of value.entry))) }
+        (bare_text (value_of value.entry))) }
     ensures short { IfSome result (λ start. end ≤ start + 32) }
 {
     match value {
-        ReadValue::Number(number, scale) => scaled_before(out, end, number, scale.places),
-        ReadValue::Plain(Value::Number(number, slot)) => {
-            scaled_before(out, end, number, slot.places())
-        }
-        ReadValue::Plain(Value::On) => Some(bytes_before(out, end, *b"on")),
-        ReadValue::Plain(Value::Off) => Some(bytes_before(out, end, *b"off")),
-        ReadValue::Plain(Value::Error) => Some(bytes_before(out, end, *b"error")),
-        ReadValue::Plain(Value::Reserved) => Some(bytes_before(out, end, *b"reserved")),
-        ReadValue::Plain(Value::Indicator) => Some(bytes_before(out, end, *b"indicator")),
-        ReadValue::Plain(Value::Text(_)) => None,
+        Value::Number(number, scale) => scaled_before(out, end, number, scale.places),
+        Value::On => Some(bytes_before(out, end, *b"on")),
+        Value::Off => Some(bytes_before(out, end, *b"off")),
+        Value::Error => Some(bytes_before(out, end, *b"error")),
+        Value::Reserved => Some(bytes_before(out, end, *b"reserved")),
+        Value::Indicator => Some(bytes_before(out, end, *b"indicator")),
+        Value::Text(_) => None,
     }
 }
 

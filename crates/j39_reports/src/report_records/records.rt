@@ -5,7 +5,7 @@ ghost use Rattle.j39_io.specs.Puts.{Puts};
 ghost use Rattle.j39_io.specs.Turn.{turn};
 ghost use Rattle.j39_io.specs.Records.{comma};
 ghost use Rattle.j39_frame.specs.Pgn.{pgn_raw};
-ghost use Rattle.j39_groups.specs.ReadValues.{read_value_of};
+ghost use Rattle.j39_groups.specs.Models.{value_of};
 ghost use Rattle.j39_listen.specs.HeardModel.{hearing_of};
 ghost use Rattle.j39_reports.specs.EntryText.{group_called, named_fields, parameter_called, value_fields};
 
@@ -13,7 +13,7 @@ use crate::report_records::begin::{Begin, Second, begin_of};
 use crate::report_records::quick_record::{RECORD, record_before};
 use arrayvec::ArrayVec;
 use j39_frame::Pgn;
-use j39_groups::{Groups, ReadValue, ReadingVisitor, push_decimal};
+use j39_groups::{Groups, ReadingVisitor, Value, push_decimal};
 use j39_io::{DeviceFault, Sink, put_all, put_behind_comma};
 use j39_listen::{EntryForm, Heard};
 
@@ -98,12 +98,7 @@ impl<'g, 't, W: Sink> ReadingVisitor<'t, W> for Records<'g, 't> {
     ghost has_stopped = { λ subject before at records sink.
         HasStopped subject before at (record { bytes = W.written sink; has_failed = W.has_failed sink }) };
 
-    fn visit(
-        &mut self,
-        spn: u32,
-        value: ReadValue<'t, '_>,
-        sink: &mut W,
-    ) -> Result<(), DeviceFault> {
+    fn visit(&mut self, spn: u32, value: Value<'t, '_>, sink: &mut W) -> Result<(), DeviceFault> {
         let parameter = parameter_of(self.groups, self.pgn, spn);
         put_record(
             &mut self.block,
@@ -127,11 +122,11 @@ fn put_record<W: Sink>(
     group: &[u8],
     spn: u32,
     parameter: &[u8],
-    value: ReadValue<'_, '_>,
+    value: Value<'_, '_>,
     sink: &mut W,
 ) -> Result<(), DeviceFault>
     ensures { Puts (named_fields (drop begin.now.from begin.now.head) group.now spn parameter.now
-        ++ value_fields (read_value_of value.entry)) result (turn W.written W.has_failed sink.old sink.new) }
+        ++ value_fields (value_of value.entry)) result (turn W.written W.has_failed sink.old sink.new) }
 {
     match record_before(block, &begin.head, begin.from, group, spn, parameter, value) {
         Some(start) => put_all(sink, &block[start..]),
@@ -153,10 +148,10 @@ fn put_parts<W: Sink>(
     group: &[u8],
     spn: u32,
     parameter: &[u8],
-    value: ReadValue<'_, '_>,
+    value: Value<'_, '_>,
     sink: &mut W,
 ) -> Result<(), DeviceFault>
-    ensures { Puts (named_fields begin.now group.now spn parameter.now ++ value_fields (read_value_of value.entry))
+    ensures { Puts (named_fields begin.now group.now spn parameter.now ++ value_fields (value_of value.entry))
         result (turn W.written W.has_failed sink.old sink.new) }
 {
     put_named(begin, group, spn, parameter, sink)?;
@@ -182,8 +177,8 @@ fn put_named<W: Sink>(
 }
 
 /// Writes the record of a reading, from its value on.
-fn put_value_and_unit<W: Sink>(value: ReadValue<'_, '_>, sink: &mut W) -> Result<(), DeviceFault>
-    ensures { Puts (value_fields (read_value_of value.entry)) result (turn W.written W.has_failed sink.old sink.new) }
+fn put_value_and_unit<W: Sink>(value: Value<'_, '_>, sink: &mut W) -> Result<(), DeviceFault>
+    ensures { Puts (value_fields (value_of value.entry)) result (turn W.written W.has_failed sink.old sink.new) }
 {
     put_all(sink, b",")?;
     value.put_bare(sink)?;

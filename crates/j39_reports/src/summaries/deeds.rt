@@ -2,20 +2,18 @@
 ghost use Rattle.std.specs.Prelude.{◌≡◌, ◌+◌, None, OnErr, OnOk, IfOk, Some};
 ghost use Rattle.std.specs.Option.{option_map};
 ghost use Rattle.j39_frame.specs.Stamp.{stamp_micros};
-ghost use Rattle.j39_groups.specs.ReadValues.{read_value_of};
-ghost use Rattle.j39_groups.specs.Models.{value_of};
+ghost use Rattle.j39_groups.specs.Models.{scale_record, value_of};
 ghost use Rattle.j39_groups.specs.Value.{number};
 ghost use Rattle.j39_listen.specs.Counting.{capped};
 ghost use Rattle.j39_reports.specs.RowsSoFar.{begun, grown, one_if, widened};
-ghost use Rattle.j39_reports.specs.RowModels.{entry_at, measure_record, range_of_span, row_shown};
+ghost use Rattle.j39_reports.specs.RowModels.{entry_at, range_of_span, row_shown};
 ghost use Rattle.j39_reports.specs.SummaryRun.{IsText};
-ghost use Rattle.j39_reports.specs.Summary.{is_word_value, number_in};
+ghost use Rattle.j39_reports.specs.Summary.{are_comparable, is_word_value, number_in};
 ghost use Rattle.j39_frame.specs.declared.origin.Origin.{Origin};
 
 use crate::summaries::kept::Kept;
-use crate::summaries::measure::{Measure, are_comparable};
 use j39_frame::Stamp;
-use j39_groups::{ReadValue, Value};
+use j39_groups::{Scale, Value};
 use j39_memory::OriginChange;
 use std::alloc::{AllocError, Global};
 
@@ -26,10 +24,10 @@ pub(crate) struct Seen<'t> {
     pub value: Kept<'t>,
 }
 
-/// The least and the most number, in units of the last printed place, and the measure of the first.
+/// The least and the most number, in units of the last printed place, and the scale of the first.
 #[derive(Clone, Copy)]
 pub(crate) struct Span<'t> {
-    pub measure: Measure<'t>,
+    pub scale: Scale<'t>,
     pub least: i64,
     pub most: i64,
 }
@@ -46,13 +44,9 @@ pub(crate) struct Deeds<'t> {
 
 impl<'t> Deeds<'t> {
     /// Those of one value. Only a text takes memory.
-    pub fn begin(
-        alloc: Global,
-        stamp: Stamp,
-        value: ReadValue<'t, '_>,
-    ) -> Result<Deeds<'t>, AllocError>
+    pub fn begin(alloc: Global, stamp: Stamp, value: Value<'t, '_>) -> Result<Deeds<'t>, AllocError>
         ensures begun { IfOk result (λ deeds. (origin : Origin)
-            → row_shown (origin, deeds) ≡ begun (entry_at origin (stamp_micros stamp) (read_value_of value.entry))) }
+            → row_shown (origin, deeds) ≡ begun (entry_at origin (stamp_micros stamp) (value_of value.entry))) }
     {
         let first = Kept::of(alloc, value)?;
         let last = Kept::of(alloc, value)?;
@@ -74,51 +68,31 @@ impl<'t> Deeds<'t> {
         &mut self,
         alloc: Global,
         stamp: Stamp,
-        value: ReadValue<'t, '_>,
-    ) -> Result<(), AllocError>
-        ensures grown { OnOk result ((origin : Origin) → row_shown (origin, self.new)
-            ≡ grown (row_shown (origin, self.old)) (entry_at origin (stamp_micros stamp) (read_value_of value.entry))) }
-        ensures wanted { OnErr result (IsText (read_value_of value.entry)) }
-    {
-        match value {
-            ReadValue::Number(number, scale) => {
-                self.grow_by_number(stamp, number, Measure::Scale(scale));
-                Ok(())
-            }
-            ReadValue::Plain(value) => self.grow_by_plain(alloc, stamp, value),
-        }
-    }
-
-    /// One value of the built-in table more. The number comes first and has its way for itself, as most values are one.
-    #[inline(always)]
-    fn grow_by_plain(
-        &mut self,
-        alloc: Global,
-        stamp: Stamp,
-        value: Value<'_>,
+        value: Value<'t, '_>,
     ) -> Result<(), AllocError>
         ensures grown { OnOk result ((origin : Origin) → row_shown (origin, self.new)
             ≡ grown (row_shown (origin, self.old)) (entry_at origin (stamp_micros stamp) (value_of value.entry))) }
         ensures wanted { OnErr result (IsText (value_of value.entry)) }
     {
-        if let Value::Number(number, slot) = value {
-            self.grow_by_number(stamp, number, Measure::Slot(slot));
+        // The number comes first and has its way for itself, as most values are one.
+        if let Value::Number(number, scale) = value {
+            self.grow_by_number(stamp, number, scale);
             return Ok(());
         }
-        let last = Kept::plain(alloc, value)?;
-        self.put(stamp, last, is_plain_word(value));
+        let last = Kept::of(alloc, value)?;
+        self.put(stamp, last, is_word(value));
         Ok(())
     }
 
     /// One number more.
     #[inline(always)]
-    fn grow_by_number(&mut self, stamp: Stamp, value: i64, measure: Measure<'t>)
+    fn grow_by_number(&mut self, stamp: Stamp, value: i64, scale: Scale<'t>)
         ensures { (origin : Origin) → row_shown (origin, self.new)
             ≡ grown (row_shown (origin, self.old))
-            (entry_at origin (stamp_micros stamp) (number value (measure_record measure.entry))) }
+            (entry_at origin (stamp_micros stamp) (number value (scale_record scale.entry))) }
     {
-        widen(&mut self.range, value, measure);
-        self.put(stamp, Kept::Number(value, measure), false);
+        widen(&mut self.range, value, scale);
+        self.put(stamp, Kept::Number(value, scale), false);
     }
 
     /// The last value is another one, and counts.
@@ -141,17 +115,17 @@ impl<'t> Deeds<'t> {
 pub(crate) struct OneMore<'t, 'v> {
     pub alloc: Global,
     pub stamp: Stamp,
-    pub value: ReadValue<'t, 'v>,
+    pub value: Value<'t, 'v>,
 }
 
 impl<'t, 'v> OriginChange<Deeds<'t>> for OneMore<'t, 'v> {
     ghost use Rattle.std.specs.Prelude.{OnErr, OnOk};
-    ghost use Rattle.j39_groups.specs.ReadValues.{read_value_of};
+    ghost use Rattle.j39_groups.specs.Models.{value_of};
     ghost use Rattle.j39_reports.specs.RowsSoFar.{HasGrown};
     ghost use Rattle.j39_reports.specs.SummaryRun.{IsText};
 
     ghost changes = { λ more old result new. OnOk result (HasGrown old (stamp_micros more.stamp)
-        (read_value_of more.value) new) × OnErr result (IsText (read_value_of more.value)) };
+        (value_of more.value) new) × OnErr result (IsText (value_of more.value)) };
 
     #[inline(always)]
     fn make(self, deeds: &mut Deeds<'t>) -> Result<(), AllocError> {
@@ -161,17 +135,7 @@ impl<'t, 'v> OriginChange<Deeds<'t>> for OneMore<'t, 'v> {
 
 /// Whether a value is a word that stands in the place of a number.
 #[inline(always)]
-fn is_word(value: ReadValue<'_, '_>) -> bool
-    ensures { result ≡ is_word_value (read_value_of value.entry) }
-{
-    match value {
-        ReadValue::Number(_, _) => false,
-        ReadValue::Plain(value) => is_plain_word(value),
-    }
-}
-
-#[inline(always)]
-fn is_plain_word(value: Value<'_>) -> bool
+fn is_word(value: Value<'_, '_>) -> bool
     ensures { result ≡ is_word_value (value_of value.entry) }
 {
     match value {
@@ -186,20 +150,11 @@ fn is_plain_word(value: Value<'_>) -> bool
 }
 
 /// The range of one value.
-fn span_of<'t>(value: ReadValue<'t, '_>) -> Option<Span<'t>>
-    ensures { option_map range_of_span result ≡ widened None (number_in (read_value_of value.entry)) }
-{
-    match value {
-        ReadValue::Number(number, scale) => Some(Span::of(number, Measure::Scale(scale))),
-        ReadValue::Plain(value) => plain_span(value),
-    }
-}
-
-fn plain_span<'t>(value: Value<'_>) -> Option<Span<'t>>
+fn span_of<'t>(value: Value<'t, '_>) -> Option<Span<'t>>
     ensures { option_map range_of_span result ≡ widened None (number_in (value_of value.entry)) }
 {
     match value {
-        Value::Number(number, slot) => Some(Span::of(number, Measure::Slot(slot))),
+        Value::Number(number, scale) => Some(Span::of(number, scale)),
         Value::On => None,
         Value::Off => None,
         Value::Error => None,
@@ -209,27 +164,35 @@ fn plain_span<'t>(value: Value<'_>) -> Option<Span<'t>>
     }
 }
 
+/// Whether numbers of both can be compared: they have as many places, and one unit.
+#[inline(always)]
+fn are_comparable(a: Scale<'_>, b: Scale<'_>) -> bool
+    ensures { result ≡ are_comparable (scale_record a.entry) (scale_record b.entry) }
+{
+    a.places == b.places && a.unit == b.unit
+}
+
 /// The range has a number more.
 #[inline(always)]
-fn widen<'t>(range: &mut Option<Span<'t>>, number: i64, measure: Measure<'t>)
+fn widen<'t>(range: &mut Option<Span<'t>>, number: i64, scale: Scale<'t>)
     ensures { option_map range_of_span range.new ≡ widened (option_map range_of_span range.old)
-        (Some (record { value = number; slot = measure_record measure.entry })) }
+        (Some (record { value = number; slot = scale_record scale.entry })) }
 {
     match range {
-        None => *range = Some(Span::of(number, measure)),
-        Some(span) => span.widen(number, measure),
+        None => *range = Some(Span::of(number, scale)),
+        Some(span) => span.widen(number, scale),
     }
 }
 
 impl<'t> Span<'t> {
     /// That of one number.
     #[inline(always)]
-    fn of(number: i64, measure: Measure<'t>) -> Span<'t>
+    fn of(number: i64, scale: Scale<'t>) -> Span<'t>
         ensures { Some (range_of_span result) ≡ widened None
-            (Some (record { value = number; slot = measure_record measure.entry })) }
+            (Some (record { value = number; slot = scale_record scale.entry })) }
     {
         Span {
-            measure,
+            scale,
             least: number,
             most: number,
         }
@@ -237,11 +200,11 @@ impl<'t> Span<'t> {
 
     /// It has a number more, where that can be compared with the first.
     #[inline(always)]
-    fn widen(&mut self, number: i64, measure: Measure<'t>)
+    fn widen(&mut self, number: i64, scale: Scale<'t>)
         ensures { Some (range_of_span self.new) ≡ widened (Some (range_of_span self.old))
-            (Some (record { value = number; slot = measure_record measure.entry })) }
+            (Some (record { value = number; slot = scale_record scale.entry })) }
     {
-        if are_comparable(self.measure, measure) {
+        if are_comparable(self.scale, scale) {
             self.least = self.least.min(number);
             self.most = self.most.max(number);
         }

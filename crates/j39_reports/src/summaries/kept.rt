@@ -1,14 +1,12 @@
 //! Values that outlive their message.
 ghost use Rattle.std.specs.Prelude.{◌≡◌, IfOk, OnErr};
-ghost use Rattle.j39_groups.specs.ReadValues.{read_value_of};
 ghost use Rattle.j39_groups.specs.Models.{value_of};
 ghost use Rattle.j39_memory.specs.Stored.{value_of as stored_value};
 ghost use Rattle.j39_reports.specs.RowModels.{kept_value};
 ghost use Rattle.j39_reports.specs.SummaryRun.{IsText};
 
-use crate::summaries::measure::Measure;
 use arrayvec::ArrayVec;
-use j39_groups::{ReadValue, Value};
+use j39_groups::{Scale, Value};
 use j39_io::printing::push_bytes;
 use j39_memory::Stored;
 use j39_transport::LONGEST;
@@ -17,8 +15,8 @@ use std::alloc::{AllocError, Global};
 /// A value as a row keeps it; `'t` is how long the table lives.
 #[derive(Drop)]
 pub(crate) enum Kept<'t> {
-    /// A number, in units of the last printed place, and its measure.
-    Number(i64, Measure<'t>),
+    /// A number, in units of the last printed place, and its scale.
+    Number(i64, Scale<'t>),
     On,
     Off,
     Error,
@@ -31,24 +29,12 @@ pub(crate) enum Kept<'t> {
 impl<'t> Kept<'t> {
     /// The same value. Only a text takes memory.
     #[inline(always)]
-    pub fn of(alloc: Global, value: ReadValue<'t, '_>) -> Result<Kept<'t>, AllocError>
-        ensures kept { IfOk result (λ kept. kept_value kept ≡ read_value_of value.entry) }
-        ensures wanted { OnErr result (IsText (read_value_of value.entry)) }
-    {
-        match value {
-            ReadValue::Number(number, scale) => Ok(Kept::Number(number, Measure::Scale(scale))),
-            ReadValue::Plain(value) => Kept::plain(alloc, value),
-        }
-    }
-
-    /// The same, of a value of the built-in table.
-    #[inline(always)]
-    pub fn plain(alloc: Global, value: Value<'_>) -> Result<Kept<'t>, AllocError>
+    pub fn of(alloc: Global, value: Value<'t, '_>) -> Result<Kept<'t>, AllocError>
         ensures kept { IfOk result (λ kept. kept_value kept ≡ value_of value.entry) }
         ensures wanted { OnErr result (IsText (value_of value.entry)) }
     {
         match value {
-            Value::Number(number, slot) => Ok(Kept::Number(number, Measure::Slot(slot))),
+            Value::Number(number, scale) => Ok(Kept::Number(number, scale)),
             Value::On => Ok(Kept::On),
             Value::Off => Ok(Kept::Off),
             Value::Error => Ok(Kept::Error),

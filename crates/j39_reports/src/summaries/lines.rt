@@ -138,7 +138,7 @@ fn put_span<W: Sink>(form: Format, span: &Span<'_>, sink: &mut W) -> Result<(), 
     ensures { Puts (range_in form (Some (range_of_span span.now))) result (turn W.written W.has_failed sink.old sink.new) }
 {
     put_bounds(form, span, sink)?;
-    put_unit(form, span.measure.unit(), sink)
+    put_unit(form, span.scale.unit, sink)
 }
 
 /// Writes the least number and the most.
@@ -147,8 +147,8 @@ fn put_bounds<W: Sink>(form: Format, span: &Span<'_>, sink: &mut W) -> Result<()
     ensures { Puts (bounds_in form (range_of_span span.now)) result (turn W.written W.has_failed sink.old sink.new) }
 {
     let between = separator(form);
-    let least = scaled_text(span.least, span.measure.places());
-    let most = scaled_text(span.most, span.measure.places());
+    let least = scaled_text(span.least, span.scale.places);
+    let most = scaled_text(span.most, span.scale.places);
     let parts: [&[u8]; 4] = [between, least.as_slice(), between, most.as_slice()];
     put_parts(&parts, sink)
 }
@@ -193,8 +193,8 @@ fn put_kept<W: Sink>(kept: &Kept<'_>, sink: &mut W) -> Result<(), DeviceFault>
     ensures { Puts (bare_text (kept_value kept.now)) result (turn W.written W.has_failed sink.old sink.new) }
 {
     match kept {
-        Kept::Number(number, measure) => {
-            put_all(sink, scaled_text(*number, measure.places()).as_slice())
+        Kept::Number(number, scale) => {
+            put_all(sink, scaled_text(*number, scale.places).as_slice())
         }
         Kept::On => put_value(&Value::On, sink),
         Kept::Off => put_value(&Value::Off, sink),

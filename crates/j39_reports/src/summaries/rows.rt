@@ -3,7 +3,7 @@ ghost use Rattle.std.specs.Prelude.{◌≡◌, ◌<◌, ◌++◌, ◌∷◌, [],
 ghost use Rattle.j39_memory.specs.ByOrigin.{pairs_of};
 ghost use Rattle.j39_frame.specs.Origin.{place_in};
 ghost use Rattle.j39_frame.specs.Stamp.{stamp_micros};
-ghost use Rattle.j39_groups.specs.ReadValues.{read_value_of};
+ghost use Rattle.j39_groups.specs.Models.{value_of};
 ghost use Rattle.j39_listen.specs.Report.{Entry};
 ghost use Rattle.j39_listen.specs.HeardModel.{hearing_of};
 ghost use Rattle.j39_reports.specs.RowsSoFar.{AreRowsOf, HasTaken};
@@ -13,7 +13,7 @@ ghost use Rattle.j39_reports.specs.SummaryRun.{WantsRow};
 use crate::summaries::deeds::{Deeds, OneMore};
 use j39_address::Name;
 use j39_frame::{Origin, Pgn, Stamp};
-use j39_groups::{ReadValue, ReadingVisitor};
+use j39_groups::{ReadingVisitor, Value};
 use j39_listen::Heard;
 use j39_memory::ByOrigin;
 use std::alloc::{AllocError, Global};
@@ -101,14 +101,14 @@ fn take<'t>(
     place: Option<usize>,
     origin: Origin,
     stamp: Stamp,
-    value: ReadValue<'t, '_>,
+    value: Value<'t, '_>,
 ) -> Result<(), AllocError>
     requires { place ≡ place_in (pairs_of rows.old) origin }
     ensures taken { OnOk result ((before : List Entry) → AreRowsOf (pairs_of rows.old) before
         → AreRowsOf (pairs_of rows.new)
-        (before ++ entry_at origin (stamp_micros stamp) (read_value_of value.entry) ∷ [])) }
+        (before ++ entry_at origin (stamp_micros stamp) (value_of value.entry) ∷ [])) }
     ensures wanted { OnErr result ((before : List Entry) → AreRowsOf (pairs_of rows.old) before
-        → WantsRow before (entry_at origin (stamp_micros stamp) (read_value_of value.entry))) }
+        → WantsRow before (entry_at origin (stamp_micros stamp) (value_of value.entry))) }
 {
     match place {
         Some(at) => rows.change(
@@ -130,12 +130,12 @@ fn add<'t>(
     alloc: Global,
     origin: Origin,
     stamp: Stamp,
-    value: ReadValue<'t, '_>,
+    value: Value<'t, '_>,
 ) -> Result<(), AllocError>
     requires { place_in (pairs_of rows.old) origin ≡ None }
     ensures { OnOk result ((before : List Entry) → AreRowsOf (pairs_of rows.old) before
         → AreRowsOf (pairs_of rows.new)
-        (before ++ entry_at origin (stamp_micros stamp) (read_value_of value.entry) ∷ [])) }
+        (before ++ entry_at origin (stamp_micros stamp) (value_of value.entry) ∷ [])) }
 {
     let deeds = Deeds::begin(alloc, stamp, value)?;
     rows.add(origin, deeds)
@@ -153,7 +153,7 @@ impl<'t> ReadingVisitor<'t, ()> for Rows<'t> {
     ghost has_stopped = { λ message before at rows medium. WantsAt message before at };
 
     #[inline(always)]
-    fn visit(&mut self, spn: u32, value: ReadValue<'t, '_>, _: &mut ()) -> Result<(), AllocError> {
+    fn visit(&mut self, spn: u32, value: Value<'t, '_>, _: &mut ()) -> Result<(), AllocError> {
         let origin = Origin {
             address: self.address,
             name: self.name,

@@ -1,12 +1,10 @@
 -- Each line in turn is passed over, or spells the next row.
-use Rattle.std.proofs.Common.{◌+◌, ◌∙◌, eqb, length, map, ap, sym, arith, rules, length-append}
+use Rattle.std.proofs.Common.{◌+◌, ◌∙◌, eqb, length, ap, sym, arith, rules, length-append}
 use borrow.Author.Tests.{tests}
 use Rattle.std.specs.List.{slice_split}
-use Rattle.std.proofs.lemmas.List.{length-map, length_push}
+use Rattle.std.proofs.lemmas.List.{length_push}
 use Rattle.std.proofs.lemmas.Iterator.Splits.{YieldsList-from_slice_split}
 use Rattle.std.proofs.lemmas.Iterator.Consumers.{YieldsList-at, YieldsList-turn, YieldsList-end}
-use Rattle.j39_groups.specs.ReadRows.{read_row_record}
-use Rattle.j39_memory.specs.Items.{items_of}
 use Rattle.j39_table.proofs.TableLemmas.{all_lines, fault_here, line_at, passed_line, spelled_line}
 use Rattle.j39_table.proofs.reading.rows_in.Goals as goal
 
@@ -21,13 +19,12 @@ loop-whole-preserved-in-Ok c =
     record {
       number_is = (let before = c.loop-whole.invariant.number_is in omega (arith, next, before));
       few =
-          (let after = ap length adds.after_is ∙ length-append (map read_row_record (items_of c.loop-whole.rows)) _ in
-          let now = length-map (items_of c.push_row.new.rows) read_row_record in
+          (let after = ap length adds.after_is ∙ length-append c.loop-whole.rows _ in
           let room = adds.room in
-          omega (arith, after, now, room));
+          omega (arith, after, room));
       spelled =
           spelled_line (slice_split (λ b. eqb b 10) c.args.text.now) (length c.loop-whole.yielded) _ c.in-Some.whole.now c.bare_line-line.result.now
-          (map read_row_record (items_of c.loop-whole.rows)) _ turn.0 next turn.1 c.bare_line-line.ensures
+          c.loop-whole.rows _ turn.0 next turn.1 c.bare_line-line.ensures
           (sym c.is_row_line.ensures ∙ c.if-is_row_line.true) c.loop-whole.invariant.spelled adds;
     }
 
@@ -37,10 +34,10 @@ returns-in-Err-clause-wrong c =
     (YieldsList-from_slice_split _ (λ b. eqb b 10) c.args.text.now c.split-whole-items.ensures.rest c.split-whole-items.ensures.done
     c.split-whole-items.ensures.closure (λ x b q k. search (rules, tests))))
     c.loop-whole.yielded _ c.loop-whole.yielded_by _ _ c.in-Some.whole c.in-Some.is c.next.ensures.steps in
-    fault_here c.args.text.now (map read_row_record (items_of c.loop-whole.rows)) (c.loop-whole.number + 1) (length c.loop-whole.yielded) c.bare_line-line.result.now
+    fault_here c.args.text.now c.loop-whole.rows (c.loop-whole.number + 1) (length c.loop-whole.yielded) c.bare_line-line.result.now
     c.in-Err.fault (ap (λ n. n + 1) c.loop-whole.invariant.number_is) c.loop-whole.invariant.spelled
     (rw c.bare_line-line.ensures (line_at (slice_split (λ b. eqb b 10) c.args.text.now) (length c.loop-whole.yielded) c.in-Some.whole.now turn.0 turn.1))
-    (sym c.is_row_line.ensures ∙ c.if-is_row_line.true) (let few = c.loop-whole.invariant.few in let len = length-map (items_of c.loop-whole.rows) read_row_record in omega (arith, few, len)) c.in-Err.ensures
+    (sym c.is_row_line.ensures ∙ c.if-is_row_line.true) c.loop-whole.invariant.few c.in-Err.ensures
 
 pub loop-whole-preserved : goal.loop-whole-preserved
 loop-whole-preserved c =
@@ -54,7 +51,7 @@ loop-whole-preserved c =
       few = c.loop-whole.invariant.few;
       spelled =
           passed_line (slice_split (λ b. eqb b 10) c.args.text.now) (length c.loop-whole.yielded) _ c.in-Some.whole.now c.bare_line-line.result.now
-          (map read_row_record (items_of c.loop-whole.rows)) turn.0 next turn.1 c.bare_line-line.ensures (sym c.is_row_line.ensures ∙ c.if-is_row_line.false) c.loop-whole.invariant.spelled;
+          c.loop-whole.rows turn.0 next turn.1 c.bare_line-line.ensures (sym c.is_row_line.ensures ∙ c.if-is_row_line.false) c.loop-whole.invariant.spelled;
     }
 
 pub returns-clause-rows : goal.returns-clause-rows
@@ -63,4 +60,4 @@ returns-clause-rows c =
     (YieldsList-from_slice_split _ (λ b. eqb b 10) c.args.text.now c.split-whole-items.ensures.rest c.split-whole-items.ensures.done
     c.split-whole-items.ensures.closure (λ x b q k. search (rules, tests))))
     c.loop-whole.yielded _ c.loop-whole.yielded_by _ _ c.in-None.is c.next.ensures.steps in
-    all_lines (slice_split (λ b. eqb b 10) c.args.text.now) (length c.loop-whole.yielded) (map read_row_record (items_of c.loop-whole.rows)) end.1 c.loop-whole.invariant.spelled
+    all_lines (slice_split (λ b. eqb b 10) c.args.text.now) (length c.loop-whole.yielded) c.loop-whole.rows end.1 c.loop-whole.invariant.spelled

@@ -2,7 +2,7 @@
 use Rattle.std.proofs.Common.{refl}
 use Rattle.std.proofs.lemmas.Bool.{false≢true}
 use Rattle.j39_frame.specs.Pgn.{pgn_raw}
-use Rattle.j39_groups.specs.ReadFields.{read_field_record}
+use Rattle.j39_groups.specs.Models.{field_record}
 use Rattle.j39_table.proofs.RowLemmas.{good_row, sound_field, wrong_field, wrong_group, wrong_name, wrong_name_of_group, wrong_parameter}
 use Rattle.j39_table.proofs.row.row_of.Goals as goal
 
@@ -29,19 +29,26 @@ pub returns-then-not-is_name : goal.returns-then-not-is_name
 returns-then-not-is_name c =
     wrong_name c.args.columns.pgn.now c.args.columns.group.now c.args.columns.spn.now c.args.columns.place.now c.args.columns.step.now
     c.args.columns.offset.now c.args.columns.unit.now c.args.columns.name.now (pgn_raw c.in-Some.pgn) c.in-Some-parameter_in.spn
-    (read_field_record c.in-Ok.field) c.in-Some.ensures.found (c.if-not-is_word.ensures.0 refl) c.in-Some-parameter_in.ensures.found c.in-Ok.ensures
+    (field_record c.in-Ok.field) c.in-Some.ensures.found (c.if-not-is_word.ensures.0 refl) c.in-Some-parameter_in.ensures.found c.in-Ok.ensures
     (λ name. false≢true (c.if-not-is_name.ensures.1 name))
 
-pub invariant_of-result : goal.invariant_of-result
-invariant_of-result c = record {
-  sound = sound_field c.in-Ok.field c.in-Ok.ensures.good;
-  free = c.in-Some.ensures.found.good.free;
-  heard = c.in-Some.ensures.found.good.heard;
-}
+pub new-requires-clause-sound : goal.new-requires-clause-sound
+new-requires-clause-sound c = sound_field c.in-Ok.field c.in-Ok.ensures.good
+
+pub new-requires-clause-free : goal.new-requires-clause-free
+new-requires-clause-free c = c.in-Some.ensures.found.good.free
+
+pub new-requires-clause-heard : goal.new-requires-clause-heard
+new-requires-clause-heard c = c.in-Some.ensures.found.good.heard
 
 pub returns : goal.returns
-returns c =
-    good_row c.args.columns.pgn.now c.args.columns.group.now c.args.columns.spn.now c.args.columns.place.now c.args.columns.step.now
-    c.args.columns.offset.now c.args.columns.unit.now c.args.columns.name.now (pgn_raw c.in-Some.pgn) c.in-Some-parameter_in.spn
-    (read_field_record c.in-Ok.field) (record { says = c.in-Some.ensures.found; only = c.in-Some.ensures.only }) (c.if-not-is_word.ensures.0 refl)
-    (record { says = c.in-Some-parameter_in.ensures.found; only = c.in-Some-parameter_in.ensures.only }) c.in-Ok.ensures (c.if-not-is_name.ensures.0 refl)
+returns c = record {
+  says =
+      rw c.new.ensures.says (good_row c.args.columns.pgn.now c.args.columns.group.now c.args.columns.spn.now c.args.columns.place.now
+      c.args.columns.step.now c.args.columns.offset.now c.args.columns.unit.now c.args.columns.name.now (pgn_raw c.in-Some.pgn)
+      c.in-Some-parameter_in.spn (field_record c.in-Ok.field) (record { says = c.in-Some.ensures.found; only = c.in-Some.ensures.only })
+      (c.if-not-is_word.ensures.0 refl)
+      (record { says = c.in-Some-parameter_in.ensures.found; only = c.in-Some-parameter_in.ensures.only }) c.in-Ok.ensures
+      (c.if-not-is_name.ensures.0 refl));
+  sound = c.new.ensures.row;
+}

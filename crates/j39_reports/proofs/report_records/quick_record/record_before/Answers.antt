@@ -3,7 +3,7 @@ use Rattle.std.proofs.Common.{◌≡◌, ◌∙◌, ◌++◌, ◌∷◌, [], ℕ
 use Rattle.j39_io.specs.Backwards.{WritesBefore}
 use Rattle.j39_io.specs.Records.{comma, later_text, line_end}
 use Rattle.j39_io.proofs.BackwardsLemmas.{before_then}
-use Rattle.j39_groups.specs.ReadValues.{read_value_of}
+use Rattle.j39_groups.specs.Models.{value_of}
 use Rattle.j39_groups.specs.Value.{ValueRecord}
 use Rattle.j39_groups.specs.ValueText.{bare_text, unit_of}
 use Rattle.j39_reports.specs.EntryText.{named_fields, value_fields}
@@ -25,7 +25,7 @@ fields begin group parameter spn value unit is =
 pub returns : goal.returns
 returns c =
     subst (WritesBefore c.args.out.now c.tail_before.new.out 336 c.tail_before.result)
-    (fields (drop c.args.from c.args.head.now) c.args.group.now c.args.parameter.now c.args.spn (read_value_of c.args.value) c.unit-unit.result.now c.unit-unit.ensures)
+    (fields (drop c.args.from c.args.head.now) c.args.group.now c.args.parameter.now c.args.spn (value_of c.args.value) c.unit-unit.result.now c.unit-unit.ensures)
     (before_then _ _ _ _ _ _ _ _ (before_then _ _ _ _ _ _ _ _ (before_then _ _ _ _ _ _ _ _ (before_then _ _ _ _ _ _ _ _ (before_then _ _ _ _ _ _ _ _ (before_then _ _ _ _ _ _ _ _ (before_then _ _ _ _ _ _ _ _ (before_then _ _ _ _ _ _ _ _
     c.bytes_before-last.ensures.written c.in_ok-behind.ensures.written) c.in_ok-bare.ensures.written) c.byte_before-gap.ensures) c.in_ok-name.ensures.written)
     c.digits_before-number.ensures.written) c.byte_before-comma.ensures) c.in_ok-label.ensures.written) c.tail_before.ensures.written)

@@ -3,7 +3,7 @@ use Rattle.std.proofs.Common.{◌∙◌, ◌++◌, ℕ, List, ap, arith}
 use Rattle.std.proofs.lemmas.Slice.{between_to_end}
 use Rattle.j39_io.proofs.BackwardsLemmas.{before_end}
 use Rattle.j39_io.proofs.PutsLemmas.{puts_as}
-use Rattle.j39_groups.specs.ReadValues.{read_value_of}
+use Rattle.j39_groups.specs.Models.{value_of}
 use Rattle.j39_reports.specs.EntryText.{named_fields, value_fields}
 use Rattle.j39_reports.proofs.report_records.records.put_record.Goals as goal
 
@@ -19,5 +19,5 @@ pub returns-in-None : goal.returns-in-None
 returns-in-None g c =
     let begin = c.args.begin.now in
     puts_as _ _ _ _
-    (ap (λ (text : List ℕ). named_fields text c.args.group.now c.args.spn c.args.parameter.now ++ value_fields (read_value_of c.args.value))
+    (ap (λ (text : List ℕ). named_fields text c.args.group.now c.args.spn c.args.parameter.now ++ value_fields (value_of c.args.value))
     (between_to_end begin.head begin.from 96 (omega (arith, begin.whole)))) c.put_parts.ensures

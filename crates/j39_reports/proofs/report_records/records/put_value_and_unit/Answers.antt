@@ -2,7 +2,7 @@
 use Rattle.std.proofs.Common.{◌++◌, ◌∷◌, [], ap}
 use Rattle.j39_io.specs.Records.{comma, later_text, line_end}
 use Rattle.j39_io.proofs.PutsLemmas.{puts_as, puts_first, puts_more, puts_then}
-use Rattle.j39_groups.specs.ReadValues.{read_value_of}
+use Rattle.j39_groups.specs.Models.{value_of}
 use Rattle.j39_groups.specs.ValueText.{bare_text, unit_of}
 use Rattle.j39_reports.specs.EntryText.{value_fields}
 use Rattle.j39_reports.proofs.report_records.records.put_value_and_unit.Goals as goal
@@ -10,21 +10,21 @@ use Rattle.j39_reports.proofs.report_records.records.put_value_and_unit.Goals as
 pub returns-in_err-put_all : goal.returns-in_err-put_all
 unfolding value_fields
 returns-in_err-put_all g c =
-    let value = read_value_of c.args.value in
+    let value = value_of c.args.value in
     puts_first (comma ∷ bare_text value) (later_text (unit_of value) ++ line_end) _ _ _ c.from_residual.ensures.0
     (puts_more (comma ∷ []) (bare_text value) _ _ c.in_err-put_all.ensures)
 
 pub returns-in_err-put_bare : goal.returns-in_err-put_bare
 unfolding value_fields
 returns-in_err-put_bare g c =
-    let value = read_value_of c.args.value in
+    let value = value_of c.args.value in
     puts_first (comma ∷ bare_text value) (later_text (unit_of value) ++ line_end) _ _ _ c.from_residual-in_err-put_bare.ensures.0
     (puts_then (comma ∷ []) (bare_text value) _ _ _ _ _ c.in_ok-put_all.ensures c.in_err-put_bare.ensures)
 
 pub returns-in_err-put_behind_comma : goal.returns-in_err-put_behind_comma
 unfolding value_fields
 returns-in_err-put_behind_comma g c =
-    let value = read_value_of c.args.value in
+    let value = value_of c.args.value in
     puts_then (comma ∷ bare_text value) (later_text (unit_of value) ++ line_end) _ _ _ _ _
     (puts_then (comma ∷ []) (bare_text value) _ _ _ _ _ c.in_ok-put_all.ensures c.in_ok-put_bare.ensures)
     (puts_first (later_text (unit_of value)) line_end _ _ _ c.from_residual-in_err-put_behind_comma.ensures.0
@@ -33,7 +33,7 @@ returns-in_err-put_behind_comma g c =
 pub returns : goal.returns
 unfolding value_fields
 returns g c =
-    let value = read_value_of c.args.value in
+    let value = value_of c.args.value in
     puts_then (comma ∷ bare_text value) (later_text (unit_of value) ++ line_end) _ _ _ _ _
     (puts_then (comma ∷ []) (bare_text value) _ _ _ _ _ c.in_ok-put_all.ensures c.in_ok-put_bare.ensures)
     (puts_then (later_text (unit_of value)) line_end _ _ _ _ _

@@ -1,7 +1,6 @@
 -- The bounds and the unit.
-use Rattle.std.proofs.Common.{ap}
-use Rattle.j39_io.proofs.PutsLemmas.{puts_as, puts_first, puts_then}
-use Rattle.j39_reports.specs.RowText.{range_in, unit_in}
+use Rattle.j39_io.proofs.PutsLemmas.{puts_first, puts_then}
+use Rattle.j39_reports.specs.RowText.{range_in}
 use Rattle.j39_reports.proofs.summaries.lines.put_span.Goals as goal
 
 pub returns-in_err-put_bounds : goal.returns-in_err-put_bounds
@@ -10,4 +9,4 @@ returns-in_err-put_bounds g c = puts_first _ _ _ _ _ c.from_residual.ensures.0 c
 
 pub returns : goal.returns
 unfolding range_in
-returns g c = puts_then _ _ _ _ _ _ _ c.in_ok-put_bounds.ensures (puts_as _ _ _ _ (ap (unit_in c.args.form) c.unit.ensures) c.put_unit.ensures)
+returns g c = puts_then _ _ _ _ _ _ _ c.in_ok-put_bounds.ensures c.put_unit.ensures

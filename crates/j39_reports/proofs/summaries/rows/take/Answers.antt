@@ -6,7 +6,7 @@ use Rattle.j39_frame.proofs.PlaceLemmas.{stands_within}
 use Rattle.j39_io.proofs.DeviceLemmas.{on_err, on_err_from}
 use Rattle.j39_frame.specs.Stamp.{stamp_micros}
 use Rattle.j39_groups.proofs.ReadLemmas.{on_ok_from}
-use Rattle.j39_groups.specs.ReadValues.{read_value_of}
+use Rattle.j39_groups.specs.Models.{value_of}
 use Rattle.j39_reports.proofs.HeldLemmas.{grows, is_new}
 use Rattle.j39_reports.proofs.summaries.rows.take.Goals as goal
 
@@ -21,7 +21,7 @@ add-requires c = ap (place_in (pairs_of c.args.rows.now)) c.again.ensures ∙ sy
 
 pub returns-in-None-clause-wanted : goal.returns-in-None-clause-wanted
 returns-in-None-clause-wanted c =
-    on_err c.add.result _ (λ before are. inl (is_new c.args.origin (stamp_micros c.args.stamp) (read_value_of c.args.value) (pairs_of c.args.rows.now) before
+    on_err c.add.result _ (λ before are. inl (is_new c.args.origin (stamp_micros c.args.stamp) (value_of c.args.value) (pairs_of c.args.rows.now) before
     (sym c.requires ∙ c.in-None.is) are))
 
 pub returns-in-None-clause-taken : goal.returns-in-None-clause-taken
@@ -34,5 +34,5 @@ pub returns-in-Some-clause-taken : goal.returns-in-Some-clause-taken
 returns-in-Some-clause-taken c =
     let change = c.change.ensures in
     on_ok_from c.change.result _ _ (λ grown before are.
-    grows c.args.origin change.0 change.1 change.2 (stamp_micros c.args.stamp) (read_value_of c.args.value) (pairs_of c.args.rows.now) _ c.in-Some.at before
+    grows c.args.origin change.0 change.1 change.2 (stamp_micros c.args.stamp) (value_of c.args.value) (pairs_of c.args.rows.now) _ c.in-Some.at before
     grown (sym c.requires ∙ c.in-Some.is) change.4 change.5 are) change.3.0

@@ -1,7 +1,7 @@
--- A number of a table that was read, or a value of the built-in one.
+-- A number, which most values are.
 use Rattle.std.proofs.Common.{◌≡◌, ap, ◌∙◌, rules, to_z, of_z, w64}
 use Rattle.j39_frame.specs.Stamp.{stamp_micros}
-use Rattle.j39_groups.specs.ReadFields.{scale_record}
+use Rattle.j39_groups.specs.Models.{scale_record}
 use Rattle.j39_groups.specs.Value.{number}
 use Rattle.j39_reports.specs.RowsSoFar.{grown}
 use Rattle.j39_reports.specs.RowModels.{entry_at, row_shown}
@@ -12,6 +12,3 @@ returns-in-Number-clause-grown c =
     let back : to_z w64 (of_z w64 c.in-Number.number) ≡ c.in-Number.number = search rules in
     λ origin. rw c.in-Number.is (c.grow_by_number.ensures origin
     ∙ ap (λ n. grown (row_shown (origin, c.args.self.now)) (entry_at origin (stamp_micros c.args.stamp) (number n (scale_record c.in-Number.scale)))) back)
-
-pub returns-in-Plain-clause-grown : goal.returns-in-Plain-clause-grown
-returns-in-Plain-clause-grown c = rw c.in-Plain.is c.grow_by_plain.ensures.grown

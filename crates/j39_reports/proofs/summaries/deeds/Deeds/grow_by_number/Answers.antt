@@ -3,15 +3,16 @@ use Rattle.std.proofs.Common.{◌≡◌, Some, ap, ◌∙◌, to_z, of_z, w64}
 use Rattle.std.specs.Option.{option_map}
 use Rattle.std.proofs.lemmas.Int.{to_z-of_z}
 use Rattle.j39_frame.specs.Stamp.{stamp_micros}
+use Rattle.j39_groups.specs.Models.{scale_record}
 use Rattle.j39_groups.specs.Value.{number}
 use Rattle.j39_reports.specs.RowsSoFar.{widened}
-use Rattle.j39_reports.specs.RowModels.{entry_at, entry_seen, measure_record, range_of_span}
+use Rattle.j39_reports.specs.RowModels.{entry_at, entry_seen, range_of_span}
 use Rattle.j39_reports.proofs.summaries.deeds.Deeds.grow_by_number.Goals as goal
 
 pub returns : goal.returns
 returns c =
     let back : to_z w64 (of_z w64 c.args.value) ≡ c.args.value = to_z-of_z w64 c.args.value c.ranges.value in
-    let slot = measure_record c.args.measure in
+    let slot = scale_record c.args.scale in
     λ origin i. record {
       first = entry_seen origin (c.put.ensures.first i);
       last = (ap (entry_seen origin) c.put.ensures.last ∙ ap (λ n. entry_at origin (stamp_micros c.args.stamp) (number n slot)) back) i;
