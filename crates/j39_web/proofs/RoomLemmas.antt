@@ -1,5 +1,5 @@
 -- A text that has no room.
-use Rattle.std.proofs.Common.{◌≡◌, ◌≢◌, ◌≤◌, ℕ, List, [], ◌∷◌, ◌++◌, Some, Option, refl, ap, sym, ◌∙◌, subst, append-nil, take, take_all, length, length-append, arith}
+use Rattle.std.proofs.Common.{◌≡◌, ◌≢◌, ℕ, List, [], ◌∷◌, ◌++◌, Some, Option, refl, ap, sym, ◌∙◌, subst, append-nil, take, take_all, length, arith}
 use Rattle.std.proofs.lemmas.Bool.{false≢true}
 use Rattle.std.specs.Prelude.{IfErr, IfOk, MatchResult, OnErr, OnOk, Ok, Err, Result}
 use Rattle.std.specs.Io.KnownBytes.{Appends}
