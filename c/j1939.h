@@ -9,8 +9,8 @@
  *
  * Answers. A call answers below 0 where it did nothing, and why: one of the J1939_ codes. Then what it was handed is
  * as it was; only a controller may have done some of a call where memory was refused. 0 says that there is no more to
- * say, and 1 and above what stands in the parameters that it wrote to. J1939_NULL comes of each call with a pointer,
- * and isn't named there again.
+ * say, and 1 and above what stands in the parameters that it wrote to. A call's answers stand behind its @return; what
+ * it doesn't write at one of them is as it was. J1939_NULL comes of each call with a pointer, and isn't named there.
  *
  * Storage. j1939_node, j1939_claims and j1939_broadcast are plain data in your own memory: make them by their .._init.
  * They take no memory besides, need no close, and may be copied. A j1939_controller, a j1939_listener, a
@@ -86,11 +86,13 @@ typedef struct {
     uint8_t destination; /**< the destination; 255 for groups that have none */
 } j1939_id_fields;
 
-/** Reads the fields of an identifier: 0, or J1939_BAD_VALUE for one of 2^29 and above. */
+/** Reads the fields of an identifier; J1939_BAD_VALUE for one of 2^29 and above.
+ * @return 0, J1939_BAD_VALUE */
 int32_t j1939_id_split(uint32_t id, j1939_id_fields *fields);
 
-/** Composes the identifier of these fields: 0. J1939_BAD_VALUE for a priority above 7, a group of 2^18 and above, and
- * a group of PF below 240 whose low byte is not 0. For PF 240 and above the destination is not used. */
+/** Composes the identifier of these fields; J1939_BAD_VALUE for a priority above 7, a group of 2^18 and above, and
+ * a group of PF below 240 whose low byte is not 0. For PF 240 and above the destination is not used.
+ * @return 0, J1939_BAD_VALUE */
 int32_t j1939_id_compose(const j1939_id_fields *fields, uint32_t *id);
 
 /** The fields of a NAME (J1939-81, 4.1.1). */
@@ -107,10 +109,12 @@ typedef struct {
     uint8_t ecu_instance;      /**< the ECU instance, 0 to 7 */
 } j1939_name_fields;
 
-/** Reads the fields of a NAME: 0. */
+/** Reads the fields of a NAME.
+ * @return 0 */
 int32_t j1939_name_split(uint64_t name, j1939_name_fields *fields);
 
-/** Composes the NAME of these fields: 0, or J1939_BAD_VALUE where one is too large for its bits. */
+/** Composes the NAME of these fields; J1939_BAD_VALUE where one is too large for its bits.
+ * @return 0, J1939_BAD_VALUE */
 int32_t j1939_name_compose(const j1939_name_fields *fields, uint64_t *name);
 
 /* ---- readings (J1939-71) */
@@ -128,32 +132,36 @@ enum {
 
 /** A reading: a parameter and its value. */
 typedef struct {
-    int64_t number; /**< of a number: its value, in units of the last decimal place */
+    int64_t number; /**< of a number: its value, in units of the last decimal place; else 0 */
     uint32_t spn;   /**< the parameter */
     uint8_t kind;   /**< J1939_NUMBER and so on */
-    uint8_t places; /**< of a number: how many decimal places it has */
-    char unit[8];   /**< of a number: its unit, ended by a zero */
+    uint8_t places; /**< of a number: how many decimal places it has; else 0 */
+    char unit[8];   /**< of a number: its unit, ended by a zero; else zeros */
 } j1939_reading;
 
-/** Reads reading number index of a message, from 0 on, by the built-in table: 0. J1939_END behind the last, and for a
- * group that the table lacks; J1939_BAD_VALUE for a group of 2^18 and above, or more than 1785 bytes. */
+/** Reads reading number index of a message, from 0 on, by the built-in table. J1939_END behind the last, and for a
+ * group that the table lacks; J1939_BAD_VALUE for a group of 2^18 and above, or more than 1785 bytes.
+ * @return 0, J1939_BAD_VALUE, J1939_END */
 int32_t j1939_read(const j1939_message *message, size_t index, j1939_reading *reading);
 
 /** Writes out the text of reading number index, as the command report prints it, with no zero at its end: its length.
- * Beside the answers of j1939_read: J1939_NO_ROOM where the text is longer than room (7,142 bytes are always enough),
- * J1939_NO_MEMORY. */
+ * J1939_NO_ROOM where the text is longer than room (7,142 bytes are always enough), and the answers below 0 of
+ * j1939_read.
+ * @return 0 to room, J1939_BAD_VALUE, J1939_NO_MEMORY, J1939_NO_ROOM, J1939_END */
 int32_t j1939_read_text(const j1939_message *message, size_t index, char *text, size_t room);
 
 /** The raw number of a value of a parameter, in units of its last decimal place: 1 and the number, or 0 where there is
  * none: the parameter is no number, or the value is off its steps or its valid range. A reading of the parameter tells
- * its places: an engine speed (190) has three, so 1,500 rpm are 1500000. */
+ * its places: an engine speed (190) has three, so 1,500 rpm are 1500000.
+ * @return 0, 1 */
 int32_t j1939_raw_of(uint32_t spn, int64_t value, uint32_t *raw);
 
 /* ---- broadcasts (J1939-21, 5.10.1 to 5.10.2) */
 
 /** Frame number k of the broadcast of these bytes, at a moment: 1 and the frame (0 is the announcement), 0 behind the
  * last packet. J1939_BAD_VALUE outside 9 to 1785 bytes, for a source above 253, a group of 2^18 and above, or a moment
- * of 10^16 and above. Leave 50 to 200 ms between two frames. */
+ * of 10^16 and above. Leave 50 to 200 ms between two frames.
+ * @return 0, 1, J1939_BAD_VALUE */
 int32_t j1939_cut_frame(uint8_t source, uint32_t pgn, const uint8_t *payload, size_t size, uint16_t k, uint64_t micros,
                         j1939_frame *out);
 
@@ -163,11 +171,13 @@ typedef struct {
     uint16_t count; /**< how many of its frames were sent */
 } j1939_broadcast;
 
-/** Nothing of a broadcast was sent: 0. */
+/** Nothing of a broadcast was sent.
+ * @return 0 */
 int32_t j1939_broadcast_init(j1939_broadcast *broadcast);
 
 /** What to do at a moment for the broadcast of these bytes, the same at each call: 1 where out is to be sent now, 0 to ask
- * again at due, 2 where all was sent. Two frames stand 50 ms apart or more. J1939_BAD_VALUE as from j1939_cut_frame. */
+ * again at due, 2 where all was sent. Two frames stand 50 ms apart or more. J1939_BAD_VALUE as from j1939_cut_frame.
+ * @return 0 to 2, J1939_BAD_VALUE */
 int32_t j1939_broadcast_poll(j1939_broadcast *broadcast, uint8_t source, uint32_t pgn, const uint8_t *payload,
                              size_t size, uint64_t micros, j1939_frame *out, uint64_t *due);
 
@@ -181,14 +191,17 @@ typedef struct {
     } places[254];
 } j1939_claims;
 
-/** Nobody holds an address: 0. */
+/** Nobody holds an address.
+ * @return 0 */
 int32_t j1939_claims_init(j1939_claims *claims);
 
-/** Notes a frame, of any group: how many addresses have another holder by it, 0 to 2, which stand in changed then,
- * rising; or J1939_BAD_VALUE for a frame that is out of range. */
+/** Notes a frame, of any group: how many addresses have another holder by it, which stand in changed then, rising;
+ * J1939_BAD_VALUE for a frame that is out of range.
+ * @return 0 to 2, J1939_BAD_VALUE */
 int32_t j1939_claims_note(j1939_claims *claims, const j1939_frame *frame, uint8_t changed[2]);
 
-/** Who holds an address: 1 and the NAME, or 0 where no claim tells it, and for 254 and 255. */
+/** Who holds an address: 1 and the NAME, or 0 where no claim tells it, and for 254 and 255.
+ * @return 0, 1 */
 int32_t j1939_claims_holder(const j1939_claims *claims, uint8_t address, uint64_t *name);
 
 /* ---- a node's own address (J1939-81, 4.2 and 4.5) */
@@ -204,24 +217,30 @@ typedef struct {
 /** How far a node is. */
 enum { J1939_IDLE = 0, J1939_CLAIMING = 1, J1939_HOLDING = 2, J1939_CANNOT = 3 };
 
-/** An idle node of this NAME, to start with this address: 0, or J1939_BAD_VALUE for an address above 253. */
+/** An idle node of this NAME, to start with this address; J1939_BAD_VALUE for an address above 253.
+ * @return 0, J1939_BAD_VALUE */
 int32_t j1939_node_init(j1939_node *node, uint64_t name, uint8_t preferred);
 
-/** Claims the preferred address, where the node is idle: 1 where *out is to be sent, else 0; or J1939_BAD_VALUE. */
+/** Claims the preferred address, where the node is idle: 1 where *out is to be sent, else 0.
+ * @return 0, 1, J1939_BAD_VALUE */
 int32_t j1939_node_start(j1939_node *node, uint64_t micros, j1939_frame *out);
 
-/** Makes a claimed address the node's own, 250 ms or more after it began to claim it: 0, or J1939_BAD_VALUE. */
+/** Makes a claimed address the node's own, 250 ms or more after it began to claim it.
+ * @return 0, J1939_BAD_VALUE */
 int32_t j1939_node_tick(j1939_node *node, uint64_t micros);
 
-/** Hears a frame, of any group, at the frame's own moment: 1 where *out is to be sent, else 0; or J1939_BAD_VALUE. */
+/** Hears a frame, of any group, at the frame's own moment: 1 where *out is to be sent, else 0.
+ * @return 0, 1, J1939_BAD_VALUE */
 int32_t j1939_node_on(j1939_node *node, const j1939_frame *frame, j1939_frame *out);
 
-/** Claims the address that the node of this NAME is commanded to take: 1 where *out is to be sent, else 0; or
- * J1939_BAD_VALUE. A command to another NAME, of an address above 253 or to an idle node is ignored. */
+/** Claims the address that the node of this NAME is commanded to take: 1 where *out is to be sent, else 0. A command to
+ * another NAME, of an address above 253 or to an idle node is ignored.
+ * @return 0, 1, J1939_BAD_VALUE */
 int32_t j1939_node_commanded(j1939_node *node, uint64_t name, uint8_t address, uint64_t micros, j1939_frame *out);
 
 /** J1939_IDLE and so on, and the address that is claimed or held, 254 where there is none. While it is not
- * J1939_HOLDING, send nothing but what the node's calls say. */
+ * J1939_HOLDING, send nothing but what the node's calls say.
+ * @return 0 to 3 */
 int32_t j1939_node_status(const j1939_node *node, uint8_t *address);
 
 /* ---- handles */
@@ -258,51 +277,64 @@ typedef struct {
 
 /* ---- a listener (J1939-21, 5.10; J1939-81, 4.2) */
 
-/** Opens a listener that has heard nothing: 0; J1939_IN_USE, J1939_NO_MEMORY. */
+/** Opens a listener that has heard nothing.
+ * @return 0, J1939_NO_MEMORY, J1939_IN_USE */
 int32_t j1939_listener_new(j1939_listener *listener);
 
-/** Feeds it the next frame of the bus: 1 where a message is heard at it, which stands in *out then, else 0.
- * J1939_BAD_VALUE, J1939_NO_PART; J1939_NO_MEMORY at an announcement alone: feed the frame again, or drop it. */
+/** Feeds it the next frame of the bus: 1 where a message is heard at it, which stands in *out then, else 0;
+ * J1939_NO_MEMORY at an announcement alone: feed the frame again, or drop it.
+ * @return 0, 1, J1939_BAD_VALUE, J1939_NO_PART, J1939_NO_MEMORY */
 int32_t j1939_listener_feed(j1939_listener *listener, const j1939_frame *frame, j1939_message *out);
 
-/** Who holds an address, by the claims that it heard: 1 and the NAME, or 0; J1939_NO_PART. */
+/** Who holds an address, by the claims that it heard: 1 and the NAME, or 0.
+ * @return 0, 1, J1939_NO_PART */
 int32_t j1939_listener_holder(j1939_listener *listener, uint8_t address, uint64_t *name);
 
-/** Closes it: 0. Closing an empty one does nothing. */
+/** Closes it. Closing an empty one does nothing.
+ * @return 0 */
 int32_t j1939_listener_close(j1939_listener *listener);
 
 /* ---- messages put together of packets, whoever holds an address (J1939-21, 5.10) */
 
-/** Opens an assembler with no message open: 0; J1939_IN_USE, J1939_NO_MEMORY. */
+/** Opens an assembler with no message open.
+ * @return 0, J1939_NO_MEMORY, J1939_IN_USE */
 int32_t j1939_assembler_new(j1939_assembler *assembler);
 
-/** Feeds it the next frame of the bus: 1 where a message is whole with it, which stands in *out then, of no NAME, else 0.
- * J1939_BAD_VALUE, J1939_NO_PART; J1939_NO_MEMORY at an announcement alone: feed the frame again, or drop it. */
+/** Feeds it the next frame of the bus: 1 where a message is whole with it, which stands in *out then, of no NAME, else
+ * 0; J1939_NO_MEMORY at an announcement alone: feed the frame again, or drop it.
+ * @return 0, 1, J1939_BAD_VALUE, J1939_NO_PART, J1939_NO_MEMORY */
 int32_t j1939_assembler_feed(j1939_assembler *assembler, const j1939_frame *frame, j1939_message *out);
 
-/** Ends what a source has begun: call it for each address that j1939_claims_note writes out. 0; J1939_NO_PART. */
+/** Ends what a source has begun: call it for each address that j1939_claims_note writes out.
+ * @return 0, J1939_NO_PART */
 int32_t j1939_assembler_forget(j1939_assembler *assembler, uint8_t source);
 
-/** Closes it: 0. Closing an empty one does nothing. */
+/** Closes it. Closing an empty one does nothing.
+ * @return 0 */
 int32_t j1939_assembler_close(j1939_assembler *assembler);
 
 /* ---- the receiving end of directed transfers (J1939-21, 5.10.3) */
 
-/** Opens a receiver at an address, with its buffer of 1.8 kB: 0; J1939_IN_USE, J1939_BAD_VALUE, J1939_NO_MEMORY. */
+/** Opens a receiver at an address, with its buffer of 1.8 kB; J1939_BAD_VALUE for an address above 253.
+ * @return 0, J1939_BAD_VALUE, J1939_NO_MEMORY, J1939_IN_USE */
 int32_t j1939_receiver_new(j1939_receiver *receiver, uint8_t own);
 
 /** Hands it a frame of the bus, of any group, at the frame's own moment: 0; 1 where *out is to be sent; 2 where *out
- * is to be sent and *message is delivered. J1939_BAD_VALUE, J1939_NO_PART. */
+ * is to be sent and *message is delivered.
+ * @return 0 to 2, J1939_BAD_VALUE, J1939_NO_PART */
 int32_t j1939_receiver_on(j1939_receiver *receiver, const j1939_frame *frame, j1939_frame *out,
                           j1939_message *message);
 
-/** Lets time pass: 1 where *out is to be sent, else 0; J1939_BAD_VALUE, J1939_NO_PART. Call it each 10 ms or so. */
+/** Lets time pass: 1 where *out is to be sent, else 0. Call it each 10 ms or so.
+ * @return 0, 1, J1939_BAD_VALUE, J1939_NO_PART */
 int32_t j1939_receiver_tick(j1939_receiver *receiver, uint64_t micros, j1939_frame *out);
 
-/** Whether a session is open: 1 or 0; J1939_NO_PART. */
+/** Whether a session is open: 1 or 0.
+ * @return 0, 1, J1939_NO_PART */
 int32_t j1939_receiver_busy(j1939_receiver *receiver);
 
-/** Closes it: 0. Closing an empty one does nothing. */
+/** Closes it. Closing an empty one does nothing.
+ * @return 0 */
 int32_t j1939_receiver_close(j1939_receiver *receiver);
 
 /* ---- the sending end of directed transfers (J1939-21, 5.10.3) */
@@ -316,21 +348,26 @@ enum {
     J1939_SEND_FAILED = 4   /**< the transfer was aborted, for 3 where the receiver was silent */
 };
 
-/** Opens a sender of these bytes from one address to another: 0; J1939_IN_USE; J1939_BAD_VALUE outside 9 to 1785
- * bytes, for an address above 253 or a group of 2^18 and above; J1939_NO_MEMORY. The bytes are copied. */
+/** Opens a sender of these bytes from one address to another; J1939_BAD_VALUE outside 9 to 1785 bytes, for an address
+ * above 253 or a group of 2^18 and above. The bytes are copied.
+ * @return 0, J1939_BAD_VALUE, J1939_NO_MEMORY, J1939_IN_USE */
 int32_t j1939_sender_new(j1939_sender *sender, uint8_t source, uint8_t destination, uint32_t pgn,
                          const uint8_t *payload, size_t size);
 
-/** Lets time pass: 1 where *out is to be sent, else 0; J1939_BAD_VALUE, J1939_NO_PART. It sends at ticks alone. */
+/** Lets time pass: 1 where *out is to be sent, else 0. It sends at ticks alone.
+ * @return 0, 1, J1939_BAD_VALUE, J1939_NO_PART */
 int32_t j1939_sender_tick(j1939_sender *sender, uint64_t micros, j1939_frame *out);
 
-/** Shows it a frame of the bus, of any group, at the frame's own moment: 0; J1939_BAD_VALUE, J1939_NO_PART. */
+/** Shows it a frame of the bus, of any group, at the frame's own moment.
+ * @return 0, J1939_BAD_VALUE, J1939_NO_PART */
 int32_t j1939_sender_on(j1939_sender *sender, const j1939_frame *frame);
 
-/** J1939_SEND_IDLE and so on, and the reason where it is J1939_SEND_FAILED; J1939_NO_PART. */
+/** J1939_SEND_IDLE and so on, and the reason where it is J1939_SEND_FAILED.
+ * @return 0 to 4, J1939_NO_PART */
 int32_t j1939_sender_state(j1939_sender *sender, uint8_t *reason);
 
-/** Closes it: 0. Closing an empty one does nothing. */
+/** Closes it. Closing an empty one does nothing.
+ * @return 0 */
 int32_t j1939_sender_close(j1939_sender *sender);
 
 /* ---- a controller: all of it in one loop (J1939-21, J1939-81)
@@ -349,57 +386,67 @@ int32_t j1939_sender_close(j1939_sender *sender);
  * J1939_NO_MEMORY from .._pass, .._turn and .._hear some of the call may be done, and its claim may be lost, though it
  * holds the address later: close it then, and open another one. */
 
-/** Opens a controller of this NAME, to start with this address: 0; J1939_IN_USE; J1939_BAD_VALUE for an address above
- * 253; J1939_NO_MEMORY. */
+/** Opens a controller of this NAME, to start with this address; J1939_BAD_VALUE for an address above 253.
+ * @return 0, J1939_BAD_VALUE, J1939_NO_MEMORY, J1939_IN_USE */
 int32_t j1939_controller_new(j1939_controller *controller, uint64_t name, uint8_t preferred);
 
 /** Lets time pass for its address (J1939-81, 4.2): the first call claims the preferred one, and 250 ms later it is
- * held: 0. J1939_BAD_VALUE, J1939_NO_MEMORY. */
+ * held.
+ * @return 0, J1939_BAD_VALUE, J1939_NO_PART, J1939_NO_MEMORY */
 int32_t j1939_controller_pass(j1939_controller *controller, uint64_t micros);
 
 /** Lets time pass for its messages, where it holds an address: a frame of a broadcast, a frame of a transfer, and what
- * its receiver asks for again are to be sent then: 0. J1939_BAD_VALUE, J1939_NO_MEMORY. */
+ * its receiver asks for again are to be sent then.
+ * @return 0, J1939_BAD_VALUE, J1939_NO_PART, J1939_NO_MEMORY */
 int32_t j1939_controller_turn(j1939_controller *controller, uint64_t micros);
 
-/** Shows it a frame that another controller sent, of any group, at the frame's own moment: 0. It answers claims,
- * requests for claims, transfers to it, and a commanded address. J1939_BAD_VALUE, J1939_NO_MEMORY. */
+/** Shows it a frame that another controller sent, of any group, at the frame's own moment. It answers claims,
+ * requests for claims, transfers to it, and a commanded address.
+ * @return 0, J1939_BAD_VALUE, J1939_NO_PART, J1939_NO_MEMORY */
 int32_t j1939_controller_hear(j1939_controller *controller, const j1939_frame *frame);
 
 /** The identifier of the frame that it wishes to send next, for arbitration: 1 and the identifier, or 0. Its frames go
- * out in the order in which they came to wait. */
+ * out in the order in which they came to wait.
+ * @return 0, 1, J1939_NO_PART */
 int32_t j1939_controller_wish(j1939_controller *controller, uint32_t *id);
 
 /** Takes the frame that it wishes to send next, which counts as sent then; its moment says since when it waits, not
  * when it goes out. 0 where none waits, or this one may not go out any more: it is dropped then, and the next call has
  * what is behind it. Else *out goes out: 1 it is a claim or a frame of a transfer, and *number stays as it was; 2 it is
- * a frame of message *number, 3 that message's last. While no address is held, claims alone go out. */
+ * a frame of message *number, 3 that message's last. While no address is held, claims alone go out.
+ * @return 0 to 3, J1939_NO_PART */
 int32_t j1939_controller_take_frame(j1939_controller *controller, j1939_frame *out, size_t *number);
 
-/** The address that it holds: 1 and the address, or 0: it did not claim yet, claims for less than 250 ms, or cannot. */
+/** The address that it holds: 1 and the address, or 0: it did not claim yet, claims for less than 250 ms, or cannot.
+ * @return 0, 1, J1939_NO_PART */
 int32_t j1939_controller_held(j1939_controller *controller, uint8_t *address);
 
 /** The address that a message may begin from: 1 and the address, or 0: it holds none, a message is on its way, or a
- * transfer failed or was withdrawn within 4 s. J1939_BAD_VALUE. */
+ * transfer failed or was withdrawn within 4 s.
+ * @return 0, 1, J1939_BAD_VALUE, J1939_NO_PART */
 int32_t j1939_controller_free_at(j1939_controller *controller, uint64_t micros, uint8_t *address);
 
-/** Hands in a frame that is a message by itself: 0. It goes out where its source is the address that is held and it is
- * no claim; else it is told as J1939_ENDED_WITHDRAWN. J1939_BAD_VALUE for a frame that is out of range;
- * J1939_NO_MEMORY. */
+/** Hands in a frame that is a message by itself. It goes out where its source is the address that is held and it is
+ * no claim; else it is told as J1939_ENDED_WITHDRAWN. J1939_BAD_VALUE for a frame that is out of range.
+ * @return 0, J1939_BAD_VALUE, J1939_NO_PART, J1939_NO_MEMORY */
 int32_t j1939_controller_send(j1939_controller *controller, const j1939_frame *frame, size_t number);
 
 /** Begins to broadcast these bytes (J1939-21, 5.10.3.5): 1 where the message has begun, 0 where none may begin
  * (j1939_controller_free_at). J1939_BAD_VALUE outside 9 to 1785 bytes, for a group of 2^18 and above or a moment of
- * 10^16 and above; J1939_NO_MEMORY. The bytes are copied. */
+ * 10^16 and above. The bytes are copied.
+ * @return 0, 1, J1939_BAD_VALUE, J1939_NO_PART, J1939_NO_MEMORY */
 int32_t j1939_controller_broadcast(j1939_controller *controller, size_t number, uint32_t pgn, const uint8_t *payload,
                                    size_t size, uint64_t micros);
 
 /** Begins to send these bytes to an address (J1939-21, 5.10.3): 1 where the message has begun, 0 where none may begin.
- * J1939_BAD_VALUE for an address above 253 too; J1939_NO_MEMORY. The bytes are copied. */
+ * J1939_BAD_VALUE for an address above 253 too. The bytes are copied.
+ * @return 0, 1, J1939_BAD_VALUE, J1939_NO_PART, J1939_NO_MEMORY */
 int32_t j1939_controller_transfer(j1939_controller *controller, size_t number, uint8_t to, uint32_t pgn,
                                   const uint8_t *payload, size_t size, uint64_t micros);
 
 /** Takes the oldest message of 9 to 1785 bytes that it received, with no NAME: 1 where there is one, else 0. It went to
- * *destination: 255 for a broadcast, else the controller's address. */
+ * *destination: 255 for a broadcast, else the controller's address.
+ * @return 0, 1, J1939_NO_PART */
 int32_t j1939_controller_take_received(j1939_controller *controller, j1939_message *message, uint8_t *destination);
 
 /** A request for a group (J1939-21, 5.4.2). */
@@ -410,7 +457,8 @@ typedef struct {
 } j1939_request;
 
 /** Takes the oldest request, to it or to all, for a group other than claims: 1 where there is one, else 0. The answer
- * is yours to send. */
+ * is yours to send.
+ * @return 0, 1, J1939_NO_PART */
 int32_t j1939_controller_take_asked(j1939_controller *controller, j1939_request *request);
 
 /** How a message ended. */
@@ -421,10 +469,12 @@ enum {
 };
 
 /** Takes the oldest end of a message: J1939_ENDED_DONE and so on, and its number, with the reason where it is
- * J1939_ENDED_FAILED; 0 where there is none. Broadcasts and single frames that went out are not told. */
+ * J1939_ENDED_FAILED; 0 where there is none. Broadcasts and single frames that went out are not told.
+ * @return 0 to 3, J1939_NO_PART */
 int32_t j1939_controller_take_settled(j1939_controller *controller, size_t *number, uint8_t *reason);
 
-/** Closes it: 0. Closing an empty one does nothing. */
+/** Closes it. Closing an empty one does nothing.
+ * @return 0 */
 int32_t j1939_controller_close(j1939_controller *controller);
 
 #ifdef __cplusplus

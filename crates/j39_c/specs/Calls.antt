@@ -1,5 +1,5 @@
 -- What a call at a handle answers, and what it leaves as it was.
-use Rattle.std.specs.Prelude.{◌≡◌, ◌≤ℤ◌, ℕ, ℤ, pos, Option, None, IfSome, IsSome, IsSomeAnd}
+use Rattle.std.specs.Prelude.{◌≡◌, ◌≢◌, ◌≤ℤ◌, ◌⊎◌, ℕ, ℤ, pos, List, [], ◌∷◌, Option, None, IfSome, IsSome, IsSomeAnd, drop}
 use Rattle.j39_c.specs.Codes.{IsDone, IsRefused, bad_value, in_use, no_memory, no_part}
 use Rattle.j39_c.specs.declared.part.Part.{Part}
 
@@ -35,15 +35,31 @@ pub record Asks {P : Type 0} (part_in : Option Part → Option P) (fits : Type 0
 abbrev pub Never : {P : Type 0} → P → Type 0
 Never part = ⊥
 
--- a call that writes out what it tells: `most` is the highest that it answers, and `stays` says that what it writes to is as
--- it was
-pub record Tells {T : Type 0} (most : ℕ) (code : ℤ) (told : Option T) (stays : Type 0) : Type 0 where
-  pub at_most : code ≤ℤ pos most
-  -- where it tells nothing, nothing is written
-  pub kept : told ≡ None → stays
+-- it is one of these
+abbrev pub IsOneOf : List ℤ → ℤ → Type 0
+IsOneOf [] code = ⊥
+IsOneOf (c ∷ []) code = code ≡ c
+IsOneOf (c ∷ d ∷ cs) code = (code ≡ c) ⊎ IsOneOf (d ∷ cs) code
 
--- one that tells what was found
-pub record Puts {T : Type 0} (found : Option T) (most : ℕ) (code : ℤ) (told : Option T) (stays : Type 0) : Type 0 where
+-- what a call may answer: 0 to `most`, or one of these refusals
+pub record Answers (most : ℕ) (refusals : List ℤ) (code : ℤ) : Type 0 where
+  pub at_most : code ≤ℤ pos most
+  pub refused : IsRefused code → IsOneOf refusals code
+
+-- what a call writes to is filled at these answers alone: at each other one it stays as it was
+abbrev pub Fills : List ℤ → ℤ → Type 0 → Type 0
+Fills [] code stays = stays
+Fills (c ∷ cs) code stays = code ≢ c → Fills cs code stays
+
+-- a call fills as many items at the front of what it writes to as it answers, and the rest stays as it was
+pub record FillsFront (code : ℤ) (old new : List ℕ) : Type 0 where
+  pub rest : (n : ℕ) → code ≡ pos n → drop n new ≡ drop n old
+  pub kept : IsRefused code → new ≡ old
+
+-- a call that never refuses writes out what was found, at these answers
+pub record Puts {T : Type 0} (found : Option T) (most : ℕ) (filled : List ℤ) (code : ℤ) (told : Option T) (stays : Type 0)
+    : Type 0 where
   pub done : IsDone code
+  pub at_most : code ≤ℤ pos most
   pub value : told ≡ found
-  pub tells : Tells most code told stays
+  pub fills : Fills filled code stays

@@ -1,5 +1,5 @@
 -- Readings as C has them.
-use Rattle.std.specs.Prelude.{◌≡◌, ◌<◌, ◌≤◌, ◌^◌, ◌++◌, ◌-◌, ◌⊎◌, ℕ, zero, suc, ℤ, pos, negsuc, List, Option, length, replicate, slice_get, take}
+use Rattle.std.specs.Prelude.{◌≡◌, ◌<◌, ◌≤◌, ◌^◌, ◌++◌, ◌-◌, ◌⊎◌, ℕ, zero, suc, ℤ, pos, negsuc, List, [], Option, length, replicate, slice_get, take}
 use Rattle.j39_groups.specs.Readings.{readings_of}
 use Rattle.j39_groups.specs.Value.{ReadingRecord, ValueRecord, number, on, off, error, reserved, indicator, text}
 use Rattle.j39_c.specs.declared.message.WholeMessage.{WholeMessage}
@@ -18,15 +18,19 @@ reading_in m index = slice_get (readings_of m.pgn (take m.len m.data)) index
 abbrev pub IsFilled : List ℕ → List ℕ → Type 0
 IsFilled bytes word = bytes ≡ word ++ replicate (8 - length word) 0
 
+-- no number, but a value of this kind
+abbrev pub IsOfKind : PlainReading → ℕ → Type 0
+IsOfKind p code = (p.kind ≡ code) × (p.number ≡ pos 0) × (p.places ≡ 0) × IsFilled p.unit []
+
 -- a value in plain numbers
 abbrev pub IsPlainValue : PlainReading → ValueRecord → Type 0
 IsPlainValue p (number n slot) = (p.kind ≡ 0) × (p.number ≡ n) × (p.places ≡ slot.places) × IsFilled p.unit slot.unit
-IsPlainValue p on = p.kind ≡ 1
-IsPlainValue p off = p.kind ≡ 2
-IsPlainValue p error = p.kind ≡ 3
-IsPlainValue p reserved = p.kind ≡ 4
-IsPlainValue p indicator = p.kind ≡ 5
-IsPlainValue p (text bytes) = p.kind ≡ 6
+IsPlainValue p on = IsOfKind p 1
+IsPlainValue p off = IsOfKind p 2
+IsPlainValue p error = IsOfKind p 3
+IsPlainValue p reserved = IsOfKind p 4
+IsPlainValue p indicator = IsOfKind p 5
+IsPlainValue p (text bytes) = IsOfKind p 6
 
 abbrev pub IsPlain : PlainReading → ReadingRecord → Type 0
 IsPlain p reading = (p.spn ≡ reading.spn) × IsPlainValue p reading.value

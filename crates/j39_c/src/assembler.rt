@@ -1,10 +1,10 @@
 //! Messages put together of packets, whoever holds their sources' addresses (J1939-21, 5.10).
-ghost use Rattle.std.specs.Prelude.{◌≡◌, ⊤, [], pos};
+ghost use Rattle.std.specs.Prelude.{◌≡◌, ⊤, [], pos, ◌∷◌};
 ghost use Rattle.j39_transport.specs.Stands.{Stands};
 ghost use Rattle.j39_c.specs.Assemblers.{Forgets, LacksBox, PutsTogether};
-ghost use Rattle.j39_c.specs.Calls.{Asks, Never, Opens, Tells};
+ghost use Rattle.j39_c.specs.Calls.{Answers, Asks, Fills, Never, Opens};
 ghost use Rattle.j39_c.specs.Can.{Fits, frame_of};
-ghost use Rattle.j39_c.specs.Codes.{IsDone, IsRefused, no_memory};
+ghost use Rattle.j39_c.specs.Codes.{IsDone, IsRefused, bad_value, in_use, no_memory, no_part};
 ghost use Rattle.j39_c.specs.Messages.{message_in};
 ghost use Rattle.j39_c.specs.Parts.{assembler_in};
 
@@ -20,7 +20,8 @@ use std::alloc::Global;
 /// Opens an assembler with no message open: 0; -3 where memory is refused, -4 where the handle is open.
 #[unsafe(no_mangle)]
 pub extern "C" fn j39_assembler_new(alloc: Global, assembler: &mut Handle) -> i32
-    ensures { Opens assembler_in ⊤ assembler.old.part result assembler.new.part (λ made. Stands [] made) }
+    ensures opens { Opens assembler_in ⊤ assembler.old.part result assembler.new.part (λ made. Stands [] made) }
+    ensures answers { Answers 0 (no_memory ∷ in_use ∷ []) result }
 {
     open!(alloc, assembler, Assembling(Assembler::new(alloc)))
 }
@@ -39,7 +40,8 @@ pub extern "C" fn j39_assembler_feed(
         (λ old new. PutsTogether old (frame_of frame.now) (message_in result out.new) new)
         (λ old. LacksBox old (frame_of frame.now)) }
     ensures refused { IsRefused result → assembler.new.part ≡ assembler.old.part }
-    ensures tells { Tells 1 result (message_in result out.new) (out.new ≡ out.old) }
+    ensures answers { Answers 1 (bad_value ∷ no_part ∷ no_memory ∷ []) result }
+    ensures fills { Fills (pos 1 ∷ []) result (out.new ≡ out.old) }
 {
     let Some(fed) = frame_in(frame) else {
         return Refusal::BadValue.code();
@@ -54,6 +56,7 @@ pub extern "C" fn j39_assembler_forget(alloc: Global, assembler: &mut Handle, so
     ensures asks { Asks assembler_in ⊤ assembler.old.part result assembler.new.part
         (λ old new. (result ≡ pos 0) × Forgets old source new) Never }
     ensures refused { IsRefused result → assembler.new.part ≡ assembler.old.part }
+    ensures answers { Answers 0 (no_part ∷ []) result }
 {
     ask!(alloc, assembler, Assembling(held) => {
         forget(held, source);
@@ -67,7 +70,8 @@ fn assemble(assembler: &mut Assembler, frame: &Frame, out: &mut WholeMessage) ->
         → PutsTogether assembler.old frame.now (message_in result out.new) assembler.new }
     ensures wanted { IsRefused result → (result ≡ no_memory) × LacksBox assembler.old frame.now }
     ensures refused { IsRefused result → assembler.new ≡ assembler.old }
-    ensures tells { Tells 1 result (message_in result out.new) (out.new ≡ out.old) }
+    ensures answers { Answers 1 (no_memory ∷ []) result }
+    ensures fills { Fills (pos 1 ∷ []) result (out.new ≡ out.old) }
 {
     match assembler.feed(frame) {
         Ok(Fed::Whole(message)) => {

@@ -1,5 +1,5 @@
 //! Broadcasts, sent frame by frame (J1939-21, 5.10.3.5). How far one is lies in C's own memory.
-ghost use Rattle.std.specs.Prelude.{◌≡◌, ◌≢◌, ◌≤ℤ◌, [], List, pos};
+ghost use Rattle.std.specs.Prelude.{◌≡◌, [], pos, ◌∷◌};
 ghost use Rattle.j39_frame.specs.Frame.{FrameRecord};
 ghost use Rattle.j39_frame.specs.Stamp.{stamp_micros};
 ghost use Rattle.j39_transport.specs.Broadcasting.{HasSent, answer_after, with_answer};
@@ -8,6 +8,7 @@ ghost use Rattle.j39_transport.specs.Polling.{answer_of, so_far};
 ghost use Rattle.j39_c.specs.Broadcasts.{IsPolled, Polls};
 ghost use Rattle.j39_c.specs.Codes.{bad_value};
 ghost use Rattle.j39_c.specs.Cut.{CanBeCut, message_by};
+ghost use Rattle.j39_c.specs.Calls.{Answers, Fills};
 
 use crate::can::{CanFrame, write_packet};
 use crate::refusal::Refusal;
@@ -39,9 +40,9 @@ pub extern "C" fn j39_broadcast_poll(
         → Polls (message_by source pgn payload.now) broadcast.old micros result out.new due.new broadcast.new }
     ensures bad { (CanBeCut (message_by source pgn payload.now) micros → ⊥)
         → (result ≡ bad_value) × (broadcast.new ≡ broadcast.old) }
-    ensures told { result ≤ℤ pos 2 }
-    ensures kept_out { result ≢ pos 1 → out.new ≡ out.old }
-    ensures kept_due { result ≢ pos 0 → due.new ≡ due.old }
+    ensures answers { Answers 2 (bad_value ∷ []) result }
+    ensures fills_out { Fills (pos 1 ∷ []) result (out.new ≡ out.old) }
+    ensures fills_due { Fills (pos 0 ∷ []) result (due.new ≡ due.old) }
 {
     let (Some(now), Some(group)) = (Stamp::new(micros), Pgn::new(pgn)) else {
         return Refusal::BadValue.code();
@@ -55,9 +56,9 @@ pub extern "C" fn j39_broadcast_poll(
 /// Writes out what a broadcast asks for.
 fn put_poll(poll: Poll, now: Stamp, out: &mut CanFrame, due: &mut u64) -> i32
     ensures polled { IsPolled (stamp_micros now) result out.new due.new (answer_of poll) }
-    ensures told { result ≤ℤ pos 2 }
-    ensures kept_out { result ≢ pos 1 → out.new ≡ out.old }
-    ensures kept_due { result ≢ pos 0 → due.new ≡ due.old }
+    ensures answers { Answers 2 [] result }
+    ensures fills_out { Fills (pos 1 ∷ []) result (out.new ≡ out.old) }
+    ensures fills_due { Fills (pos 0 ∷ []) result (due.new ≡ due.old) }
 {
     match poll {
         Poll::Send(id, bytes) => {

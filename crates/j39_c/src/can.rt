@@ -1,5 +1,5 @@
 //! Frames as C has them.
-ghost use Rattle.std.specs.Prelude.{◌≡◌, ◌↔◌, None, IsSome, IfSome};
+ghost use Rattle.std.specs.Prelude.{◌≡◌, ◌↔◌, IsSome, IfSome, ◌∷◌, [], pos};
 ghost use Rattle.std.specs.Option.{option_map};
 ghost use Rattle.j39_frame.specs.Stamp.{stamp_micros};
 ghost use Rattle.j39_transport.specs.Cutting.{to_send, without_stamp};
@@ -39,7 +39,7 @@ pub(crate) fn frame_in(can: &CanFrame) -> Option<Frame>
 
 /// Writes out a frame that is to be sent: 1, or 0 where there is none.
 pub(crate) fn put_frame(frame: Option<Frame>, can: &mut CanFrame) -> i32
-    ensures { Puts frame 1 result (sent result can.new) (can.new ≡ can.old) }
+    ensures { Puts frame 1 (pos 1 ∷ []) result (sent result can.new) (can.new ≡ can.old) }
 {
     let Some(frame) = frame else {
         return 0;
@@ -65,7 +65,8 @@ pub(crate) fn write_frame(frame: &Frame, can: &mut CanFrame)
 
 /// Writes out a frame of eight bytes that is to be sent at a moment: 1, or 0 where there is none.
 pub(crate) fn put_packet(packet: Option<(Id, [u8; 8])>, now: Stamp, can: &mut CanFrame) -> i32
-    ensures puts { Puts (option_map to_send packet) 1 result (sent_packet result can.new) (can.new ≡ can.old) }
+    ensures puts { Puts (option_map to_send packet) 1 (pos 1 ∷ []) result (sent_packet result can.new)
+        (can.new ≡ can.old) }
     ensures moment { IsSentAt result can.new (stamp_micros now) }
 {
     let Some(packet) = packet else {

@@ -1,12 +1,12 @@
 //! Who holds which address (J1939-81, 4.2.2). It lies in C's own memory.
-ghost use Rattle.std.specs.Prelude.{◌≡◌, ◌≤◌, [], List, length, pos};
+ghost use Rattle.std.specs.Prelude.{◌≡◌, ◌≤◌, [], List, length, pos, ◌∷◌};
 ghost use Rattle.j39_address.specs.Claim.{claims_of};
 ghost use Rattle.j39_address.specs.Claims.{Knows};
 ghost use Rattle.j39_address.specs.Holder.{IsHolderAfter};
 ghost use Rattle.j39_frame.specs.Frame.{FrameRecord};
-ghost use Rattle.j39_c.specs.Calls.{Tells};
+ghost use Rattle.j39_c.specs.Calls.{Answers, Fills, FillsFront};
 ghost use Rattle.j39_c.specs.Can.{Fits, frame_of};
-ghost use Rattle.j39_c.specs.Codes.{IsDone, bad_value, told};
+ghost use Rattle.j39_c.specs.Codes.{bad_value, told};
 ghost use Rattle.j39_c.specs.Holders.{Notes, addresses_in};
 
 use crate::can::{CanFrame, frame_in};
@@ -35,7 +35,9 @@ pub extern "C" fn j39_claims_note(
         → Notes claims.old (frame_of frame.now) (addresses_in result changed.new) claims.new }
     ensures count { Fits frame.now → result ≡ pos (length (addresses_in result changed.new)) }
     ensures bad { (Fits frame.now → ⊥)
-        → (result ≡ bad_value) × (claims.new ≡ claims.old) × (changed.new ≡ changed.old) }
+        → (result ≡ bad_value) × (claims.new ≡ claims.old) }
+    ensures answers { Answers 2 (bad_value ∷ []) result }
+    ensures fills { FillsFront result changed.old changed.new }
 {
     let Some(noted) = frame_in(frame) else {
         return Refusal::BadValue.code();
@@ -46,6 +48,8 @@ pub extern "C" fn j39_claims_note(
 fn note(claims: &mut Claims, frame: &Frame, changed: &mut [u8; 2]) -> i32
     ensures notes { Notes claims.old frame.now (addresses_in result changed.new) claims.new }
     ensures count { result ≡ pos (length (addresses_in result changed.new)) }
+    ensures answers { Answers 2 [] result }
+    ensures fills { FillsFront result changed.old changed.new }
 {
     let addresses = claims.note(frame);
     put_addresses(addresses.as_slice(), changed)
@@ -56,6 +60,7 @@ fn put_addresses(addresses: &[u8], changed: &mut [u8; 2]) -> i32
     requires { length addresses.now ≤ 2 }
     ensures value { addresses_in result changed.new ≡ addresses.now }
     ensures count { result ≡ pos (length addresses.now) }
+    ensures fills { FillsFront result changed.old changed.new }
 {
     let n = addresses.len();
     changed[..n].copy_from_slice(addresses);
@@ -67,8 +72,8 @@ fn put_addresses(addresses: &[u8], changed: &mut [u8; 2]) -> i32
 pub extern "C" fn j39_claims_holder(claims: &Claims, address: u8, name: &mut u64) -> i32
     ensures holder { (F : List FrameRecord) → Knows claims.now F
         → IsHolderAfter (claims_of F) address (told result name.new) }
-    ensures done { IsDone result }
-    ensures tells { Tells 1 result (told result name.new) (name.new ≡ name.old) }
+    ensures answers { Answers 1 [] result }
+    ensures fills { Fills (pos 1 ∷ []) result (name.new ≡ name.old) }
 {
     put_name(claims.holder(address), name)
 }

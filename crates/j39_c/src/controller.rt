@@ -1,13 +1,13 @@
 //! A controller: the parts of the stack in one loop (J1939-21, J1939-81).
-ghost use Rattle.std.specs.Prelude.{◌≡◌, ◌≢◌, ◌≤ℤ◌, ◌↔◌, ◌<◌, ◌^◌, ⊤, Some, None, IfSome, IsSome, IsSomeAnd, pos};
+ghost use Rattle.std.specs.Prelude.{◌≡◌, ◌↔◌, ◌<◌, ◌^◌, ⊤, Some, None, IfSome, IsSome, IsSomeAnd, pos, ◌∷◌, []};
 ghost use Rattle.j39_frame.specs.Address.{IsAddress};
 ghost use Rattle.j39_frame.specs.Pgn.{pgn_raw};
 ghost use Rattle.j39_frame.specs.Stamp.{stamp_micros};
 ghost use Rattle.j39_controller.specs.Controller.{Hears, IsNew, IsUnsent, Passes, waiting_in};
 ghost use Rattle.j39_controller.specs.Outbox.{first_id};
-ghost use Rattle.j39_c.specs.Calls.{Asks, Never, Opens, Tells};
+ghost use Rattle.j39_c.specs.Calls.{Answers, Asks, Fills, Never, Opens};
 ghost use Rattle.j39_c.specs.Can.{Fits, frame_of};
-ghost use Rattle.j39_c.specs.Codes.{IsDone, IsRefused, no_memory, told};
+ghost use Rattle.j39_c.specs.Codes.{IsDone, IsRefused, bad_value, in_use, no_memory, no_part, told};
 ghost use Rattle.j39_c.specs.Controllers.{BeginsFrom, Broadcasts, CanBegin, CanTransfer, Holds, LetsTurn, TakesAsked};
 ghost use Rattle.j39_c.specs.Controllers.{TakesFrame, TakesIn, TakesReceived, TakesSettled, Transfers};
 ghost use Rattle.j39_c.specs.Controllers.{asked, begun, received, settled, wish_in};
@@ -35,8 +35,9 @@ pub extern "C" fn j39_controller_new(
     name: u64,
     preferred: u8,
 ) -> i32
-    ensures { Opens controller_in (IsAddress preferred) controller.old.part result controller.new.part
+    ensures opens { Opens controller_in (IsAddress preferred) controller.old.part result controller.new.part
         (λ made. IsNew name preferred made) }
+    ensures answers { Answers 0 (bad_value ∷ no_memory ∷ in_use ∷ []) result }
 {
     if controller.is_open(alloc) {
         return Refusal::InUse.code();
@@ -63,8 +64,9 @@ fn put_controller(alloc: Global, handle: &mut Handle, made: Controller) -> i32
 /// the step may be done then.
 #[unsafe(no_mangle)]
 pub extern "C" fn j39_controller_pass(alloc: Global, controller: &mut Handle, micros: u64) -> i32
-    ensures { Asks controller_in (micros < 10 ^ 16) controller.old.part result controller.new.part
+    ensures asks { Asks controller_in (micros < 10 ^ 16) controller.old.part result controller.new.part
         (λ old new. (result ≡ pos 0) × Passes old micros new) (λ _. IsSome (controller_in controller.new.part)) }
+    ensures answers { Answers 0 (bad_value ∷ no_part ∷ no_memory ∷ []) result }
 {
     let Some(now) = Stamp::new(micros) else {
         return Refusal::BadValue.code();
@@ -77,8 +79,9 @@ pub extern "C" fn j39_controller_pass(alloc: Global, controller: &mut Handle, mi
 /// done then.
 #[unsafe(no_mangle)]
 pub extern "C" fn j39_controller_turn(alloc: Global, controller: &mut Handle, micros: u64) -> i32
-    ensures { Asks controller_in (micros < 10 ^ 16) controller.old.part result controller.new.part
+    ensures asks { Asks controller_in (micros < 10 ^ 16) controller.old.part result controller.new.part
         (λ old new. (result ≡ pos 0) × LetsTurn old micros new) (λ _. IsSome (controller_in controller.new.part)) }
+    ensures answers { Answers 0 (bad_value ∷ no_part ∷ no_memory ∷ []) result }
 {
     let Some(now) = Stamp::new(micros) else {
         return Refusal::BadValue.code();
@@ -94,9 +97,10 @@ pub extern "C" fn j39_controller_hear(
     controller: &mut Handle,
     frame: &CanFrame,
 ) -> i32
-    ensures { Asks controller_in (Fits frame.now) controller.old.part result controller.new.part
+    ensures asks { Asks controller_in (Fits frame.now) controller.old.part result controller.new.part
         (λ old new. (result ≡ pos 0) × Hears old (frame_of frame.now) new)
         (λ _. IsSome (controller_in controller.new.part)) }
+    ensures answers { Answers 0 (bad_value ∷ no_part ∷ no_memory ∷ []) result }
 {
     let Some(heard) = frame_in(frame) else {
         return Refusal::BadValue.code();
@@ -114,9 +118,10 @@ pub extern "C" fn j39_controller_send(
     frame: &CanFrame,
     number: usize,
 ) -> i32
-    ensures { Asks controller_in (Fits frame.now) controller.old.part result controller.new.part
+    ensures asks { Asks controller_in (Fits frame.now) controller.old.part result controller.new.part
         (λ old new. (result ≡ pos 0) × TakesIn old (frame_of frame.now) number new)
         (λ old. IsSomeAnd (controller_in controller.new.part) (λ new. IsUnsent old new)) }
+    ensures answers { Answers 0 (bad_value ∷ no_part ∷ no_memory ∷ []) result }
 {
     let Some(sent) = frame_in(frame) else {
         return Refusal::BadValue.code();
@@ -139,7 +144,7 @@ pub extern "C" fn j39_controller_broadcast(
     ensures asks { Asks controller_in (CanBegin pgn payload.now micros) controller.old.part result controller.new.part
         (λ old new. Broadcasts old number pgn payload.now micros (begun result) new) (λ _. ⊤) }
     ensures refused { IsRefused result → controller.new.part ≡ controller.old.part }
-    ensures told { result ≤ℤ pos 1 }
+    ensures answers { Answers 1 (bad_value ∷ no_part ∷ no_memory ∷ []) result }
 {
     let Some((group, now)) = group_and_moment(pgn, payload, micros) else {
         return Refusal::BadValue.code();
@@ -168,7 +173,7 @@ pub extern "C" fn j39_controller_transfer(
         controller.new.part
         (λ old new. Transfers old number to pgn payload.now micros (begun result) new) (λ _. ⊤) }
     ensures refused { IsRefused result → controller.new.part ≡ controller.old.part }
-    ensures told { result ≤ℤ pos 1 }
+    ensures answers { Answers 1 (bad_value ∷ no_part ∷ no_memory ∷ []) result }
 {
     if !is_address(to) {
         return Refusal::BadValue.code();
@@ -203,7 +208,8 @@ pub extern "C" fn j39_controller_held(
     ensures asks { Asks controller_in ⊤ controller.old.part result controller.new.part
         (λ old _. Holds old (told result address.new)) Never }
     ensures same { controller.new.part ≡ controller.old.part }
-    ensures tells { Tells 1 result (told result address.new) (address.new ≡ address.old) }
+    ensures answers { Answers 1 (no_part ∷ []) result }
+    ensures fills { Fills (pos 1 ∷ []) result (address.new ≡ address.old) }
 {
     ask!(alloc, controller, Controlling(held) => put(held.held(), address))
 }
@@ -220,7 +226,8 @@ pub extern "C" fn j39_controller_free_at(
     ensures asks { Asks controller_in (micros < 10 ^ 16) controller.old.part result controller.new.part
         (λ old _. BeginsFrom old micros (told result address.new)) Never }
     ensures same { controller.new.part ≡ controller.old.part }
-    ensures tells { Tells 1 result (told result address.new) (address.new ≡ address.old) }
+    ensures answers { Answers 1 (bad_value ∷ no_part ∷ []) result }
+    ensures fills { Fills (pos 1 ∷ []) result (address.new ≡ address.old) }
 {
     let Some(now) = Stamp::new(micros) else {
         return Refusal::BadValue.code();
@@ -235,7 +242,8 @@ pub extern "C" fn j39_controller_wish(alloc: Global, controller: &mut Handle, id
     ensures asks { Asks controller_in ⊤ controller.old.part result controller.new.part
         (λ old _. told result id.new ≡ first_id (waiting_in old)) Never }
     ensures same { controller.new.part ≡ controller.old.part }
-    ensures tells { Tells 1 result (told result id.new) (id.new ≡ id.old) }
+    ensures answers { Answers 1 (no_part ∷ []) result }
+    ensures fills { Fills (pos 1 ∷ []) result (id.new ≡ id.old) }
 {
     ask!(alloc, controller, Controlling(held) => put(held.wish().map(Id::raw), id))
 }
@@ -253,9 +261,9 @@ pub extern "C" fn j39_controller_take_frame(
     ensures asks { Asks controller_in ⊤ controller.old.part result controller.new.part
         (λ old new. TakesFrame old (wish_in result out.new number.new) new) Never }
     ensures refused { IsRefused result → controller.new.part ≡ controller.old.part }
-    ensures tells { Tells 3 result (wish_in result out.new number.new)
-        ((out.new ≡ out.old) × (number.new ≡ number.old)) }
-    ensures apart { result ≡ pos 1 → number.new ≡ number.old }
+    ensures answers { Answers 3 (no_part ∷ []) result }
+    ensures fills_out { Fills (pos 1 ∷ pos 2 ∷ pos 3 ∷ []) result (out.new ≡ out.old) }
+    ensures fills_number { Fills (pos 2 ∷ pos 3 ∷ []) result (number.new ≡ number.old) }
 {
     ask!(alloc, controller, Controlling(held) => put_wish(held.take_frame(), out, number))
 }
@@ -274,8 +282,9 @@ pub extern "C" fn j39_controller_take_received(
         (λ old new. TakesReceived old (received result out.new destination.new) new) Never }
     ensures unnamed { result ≡ pos 1 → named out.new.is_named out.new.name ≡ None }
     ensures refused { IsRefused result → controller.new.part ≡ controller.old.part }
-    ensures tells { Tells 1 result (received result out.new destination.new)
-        ((out.new ≡ out.old) × (destination.new ≡ destination.old)) }
+    ensures answers { Answers 1 (no_part ∷ []) result }
+    ensures fills_out { Fills (pos 1 ∷ []) result (out.new ≡ out.old) }
+    ensures fills_destination { Fills (pos 1 ∷ []) result (destination.new ≡ destination.old) }
 {
     ask!(alloc, controller, Controlling(held) => put_received(held.take_received(), out, destination))
 }
@@ -291,7 +300,8 @@ pub extern "C" fn j39_controller_take_asked(
     ensures asks { Asks controller_in ⊤ controller.old.part result controller.new.part
         (λ old new. TakesAsked old (asked result out.new) new) Never }
     ensures refused { IsRefused result → controller.new.part ≡ controller.old.part }
-    ensures tells { Tells 1 result (asked result out.new) (out.new ≡ out.old) }
+    ensures answers { Answers 1 (no_part ∷ []) result }
+    ensures fills { Fills (pos 1 ∷ []) result (out.new ≡ out.old) }
 {
     ask!(alloc, controller, Controlling(held) => put_request(held.take_asked(), out))
 }
@@ -309,9 +319,9 @@ pub extern "C" fn j39_controller_take_settled(
     ensures asks { Asks controller_in ⊤ controller.old.part result controller.new.part
         (λ old new. TakesSettled old (settled result number.new reason.new) new) Never }
     ensures refused { IsRefused result → controller.new.part ≡ controller.old.part }
-    ensures tells { Tells 3 result (settled result number.new reason.new)
-        ((number.new ≡ number.old) × (reason.new ≡ reason.old)) }
-    ensures apart { result ≢ pos 2 → reason.new ≡ reason.old }
+    ensures answers { Answers 3 (no_part ∷ []) result }
+    ensures fills_number { Fills (pos 1 ∷ pos 2 ∷ pos 3 ∷ []) result (number.new ≡ number.old) }
+    ensures fills_reason { Fills (pos 2 ∷ []) result (reason.new ≡ reason.old) }
 {
     ask!(alloc, controller, Controlling(held) => put_settled(held.take_settled(), number, reason))
 }

@@ -1,10 +1,11 @@
 //! Messages cut into the frames of a broadcast (J1939-21, 5.10).
-ghost use Rattle.std.specs.Prelude.{◌≡◌, ◌≢◌, ◌<◌, ◌≤◌, ◌^◌, pos};
+ghost use Rattle.std.specs.Prelude.{◌≡◌, ◌<◌, ◌≤◌, pos, ◌∷◌, []};
 ghost use Rattle.j39_transport.specs.Cutting.{cut_frame, without_stamp};
 ghost use Rattle.j39_transport.specs.Message.{as_broadcast, packets_of};
 ghost use Rattle.j39_c.specs.Can.{frame_of};
 ghost use Rattle.j39_c.specs.Codes.{bad_value};
 ghost use Rattle.j39_c.specs.Cut.{CanBeCut, message_by};
+ghost use Rattle.j39_c.specs.Calls.{Answers, Fills};
 
 use crate::can::{CanFrame, write_packet};
 use crate::refusal::Refusal;
@@ -31,7 +32,8 @@ pub extern "C" fn j39_cut_frame(
         → packets_of (message_by source pgn payload.now) < k → result ≡ pos 0 }
     ensures bad { (CanBeCut (message_by source pgn payload.now) micros → ⊥)
         → result ≡ bad_value }
-    ensures kept { result ≢ pos 1 → out.new ≡ out.old }
+    ensures answers { Answers 1 (bad_value ∷ []) result }
+    ensures fills { Fills (pos 1 ∷ []) result (out.new ≡ out.old) }
 {
     let (Some(now), Some(group)) = (Stamp::new(micros), Pgn::new(pgn)) else {
         return Refusal::BadValue.code();

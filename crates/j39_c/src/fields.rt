@@ -1,8 +1,9 @@
 //! The fields of identifiers and NAMEs (J1939-21, 5.2; J1939-81, 4.1.1).
-ghost use Rattle.std.specs.Prelude.{◌≡◌, ◌<◌, ◌^◌, pos};
+ghost use Rattle.std.specs.Prelude.{◌≡◌, ◌<◌, ◌^◌, pos, ◌∷◌, []};
 ghost use Rattle.j39_address.specs.Name.{AreNameFields, fields_of};
 ghost use Rattle.j39_c.specs.Codes.{bad_value};
 ghost use Rattle.j39_c.specs.Fields.{AreFieldsOf, CanBeComposed, IsComposed, name_fields_in};
+ghost use Rattle.j39_c.specs.Calls.{Answers, Fills};
 
 use crate::refusal::Refusal;
 use j39_address::Name;
@@ -26,7 +27,9 @@ pub struct IdFields {
 #[unsafe(no_mangle)]
 pub extern "C" fn j39_id_split(id: u32, fields: &mut IdFields) -> i32
     ensures fields { id < 2 ^ 29 → (result ≡ pos 0) × AreFieldsOf fields.new id }
-    ensures bad { (id < 2 ^ 29 → ⊥) → (result ≡ bad_value) × (fields.new ≡ fields.old) }
+    ensures bad { (id < 2 ^ 29 → ⊥) → result ≡ bad_value }
+    ensures answers { Answers 0 (bad_value ∷ []) result }
+    ensures fills { Fills (pos 0 ∷ []) result (fields.new ≡ fields.old) }
 {
     let Some(id) = Id::new(id) else {
         return Refusal::BadValue.code();
@@ -45,7 +48,9 @@ pub extern "C" fn j39_id_split(id: u32, fields: &mut IdFields) -> i32
 #[unsafe(no_mangle)]
 pub extern "C" fn j39_id_compose(fields: &IdFields, id: &mut u32) -> i32
     ensures composed { CanBeComposed fields.now → (result ≡ pos 0) × IsComposed fields.now id.new }
-    ensures bad { (CanBeComposed fields.now → ⊥) → (result ≡ bad_value) × (id.new ≡ id.old) }
+    ensures bad { (CanBeComposed fields.now → ⊥) → result ≡ bad_value }
+    ensures answers { Answers 0 (bad_value ∷ []) result }
+    ensures fills { Fills (pos 0 ∷ []) result (id.new ≡ id.old) }
 {
     let Some(pgn) = Pgn::new(fields.pgn) else {
         return Refusal::BadValue.code();
@@ -114,7 +119,9 @@ pub extern "C" fn j39_name_split(name: u64, fields: &mut NameParts)
 pub extern "C" fn j39_name_compose(fields: &NameParts, name: &mut u64) -> i32
     ensures composed { AreNameFields (name_fields_in fields.now)
         → (result ≡ pos 0) × (fields_of name.new ≡ name_fields_in fields.now) }
-    ensures bad { (AreNameFields (name_fields_in fields.now) → ⊥) → (result ≡ bad_value) × (name.new ≡ name.old) }
+    ensures bad { (AreNameFields (name_fields_in fields.now) → ⊥) → result ≡ bad_value }
+    ensures answers { Answers 0 (bad_value ∷ []) result }
+    ensures fills { Fills (pos 0 ∷ []) result (name.new ≡ name.old) }
 {
     let composed = Name::of_fields(
         fields.arbitrary,

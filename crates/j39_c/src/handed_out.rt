@@ -1,8 +1,8 @@
 //! What calls write out, as C has it.
-ghost use Rattle.std.specs.Prelude.{◌≡◌, ◌≢◌, None, Some, pos};
+ghost use Rattle.std.specs.Prelude.{◌≡◌, None, Some, pos, ◌∷◌, []};
 ghost use Rattle.std.specs.Option.{option_map};
 ghost use Rattle.j39_address.specs.Name.{name_raw};
-ghost use Rattle.j39_c.specs.Calls.{Puts};
+ghost use Rattle.j39_c.specs.Calls.{Fills, Puts};
 ghost use Rattle.j39_c.specs.Codes.{told};
 ghost use Rattle.j39_c.specs.Controllers.{asked, received, settled, wish_in};
 ghost use Rattle.j39_c.specs.Messages.{named};
@@ -27,7 +27,7 @@ pub struct PlainRequest {
 
 /// Writes out what was found: 1, or 0 where there is none.
 pub(crate) fn put<T: Copy>(found: Option<T>, out: &mut T) -> i32
-    ensures { Puts found 1 result (told result out.new) (out.new ≡ out.old) }
+    ensures { Puts found 1 (pos 1 ∷ []) result (told result out.new) (out.new ≡ out.old) }
 {
     match found {
         Some(found) => {
@@ -40,7 +40,8 @@ pub(crate) fn put<T: Copy>(found: Option<T>, out: &mut T) -> i32
 
 /// Writes out a NAME: 1, or 0 where there is none.
 pub(crate) fn put_name(holder: Option<Name>, name: &mut u64) -> i32
-    ensures { Puts (option_map name_raw holder) 1 result (told result name.new) (name.new ≡ name.old) }
+    ensures { Puts (option_map name_raw holder) 1 (pos 1 ∷ []) result (told result name.new)
+        (name.new ≡ name.old) }
 {
     put(holder.map(Name::raw), name)
 }
@@ -48,9 +49,9 @@ pub(crate) fn put_name(holder: Option<Name>, name: &mut u64) -> i32
 /// Writes out a frame that goes out, and the number of the message that it is a part of: 0 where there is none, 1 for a
 /// frame that is no part of a message that was handed in, 2 for a part, 3 for the last one.
 pub(crate) fn put_wish(wish: Option<Wish>, out: &mut CanFrame, number: &mut usize) -> i32
-    ensures puts { Puts wish 3 result (wish_in result out.new number.new)
-        ((out.new ≡ out.old) × (number.new ≡ number.old)) }
-    ensures apart { result ≡ pos 1 → number.new ≡ number.old }
+    ensures puts { Puts wish 3 (pos 1 ∷ pos 2 ∷ pos 3 ∷ []) result (wish_in result out.new number.new)
+        (out.new ≡ out.old) }
+    ensures fills_number { Fills (pos 2 ∷ pos 3 ∷ []) result (number.new ≡ number.old) }
 {
     let Some(wish) = wish else {
         return 0;
@@ -69,8 +70,9 @@ pub(crate) fn put_received(
     out: &mut WholeMessage,
     destination: &mut u8,
 ) -> i32
-    ensures puts { Puts message 1 result (received result out.new destination.new)
-        ((out.new ≡ out.old) × (destination.new ≡ destination.old)) }
+    ensures puts { Puts message 1 (pos 1 ∷ []) result (received result out.new destination.new)
+        (out.new ≡ out.old) }
+    ensures fills_destination { Fills (pos 1 ∷ []) result (destination.new ≡ destination.old) }
     ensures unnamed { result ≡ pos 1 → named out.new.is_named out.new.name ≡ None }
 {
     let Some(message) = message else {
@@ -89,7 +91,7 @@ pub(crate) fn put_received(
 
 /// Writes out a request: 1, or 0 where there is none.
 pub(crate) fn put_request(request: Option<Asked>, out: &mut PlainRequest) -> i32
-    ensures { Puts request 1 result (asked result out.new) (out.new ≡ out.old) }
+    ensures { Puts request 1 (pos 1 ∷ []) result (asked result out.new) (out.new ≡ out.old) }
 {
     let Some(request) = request else {
         return 0;
@@ -105,9 +107,9 @@ pub(crate) fn put_request(request: Option<Asked>, out: &mut PlainRequest) -> i32
 /// Writes out how a message ended: 0 where there is none, 1 where it is done, 2 where it failed for `reason`, 3 where
 /// it was withdrawn.
 pub(crate) fn put_settled(ended: Option<Settled>, number: &mut usize, reason: &mut u8) -> i32
-    ensures puts { Puts ended 3 result (settled result number.new reason.new)
-        ((number.new ≡ number.old) × (reason.new ≡ reason.old)) }
-    ensures apart { result ≢ pos 2 → reason.new ≡ reason.old }
+    ensures puts { Puts ended 3 (pos 1 ∷ pos 2 ∷ pos 3 ∷ []) result (settled result number.new reason.new)
+        (number.new ≡ number.old) }
+    ensures fills_reason { Fills (pos 2 ∷ []) result (reason.new ≡ reason.old) }
 {
     let Some(ended) = ended else {
         return 0;

@@ -1,9 +1,9 @@
 //! A listener on a bus (J1939-21, 5.10; J1939-81, 4.2).
-ghost use Rattle.std.specs.Prelude.{◌≡◌, ⊤, []};
+ghost use Rattle.std.specs.Prelude.{◌≡◌, ⊤, [], ◌∷◌, pos};
 ghost use Rattle.j39_listen.specs.Listening.{Hears};
-ghost use Rattle.j39_c.specs.Calls.{Asks, Never, Opens, Tells};
+ghost use Rattle.j39_c.specs.Calls.{Answers, Asks, Fills, Never, Opens};
 ghost use Rattle.j39_c.specs.Can.{Fits, frame_of};
-ghost use Rattle.j39_c.specs.Codes.{IsDone, IsRefused, no_memory, told};
+ghost use Rattle.j39_c.specs.Codes.{IsDone, IsRefused, bad_value, in_use, no_memory, no_part, told};
 ghost use Rattle.j39_c.specs.Messages.{message_in};
 ghost use Rattle.j39_c.specs.Parts.{HearsMore, IsHolderBy, LacksMemory, listener_in};
 
@@ -20,7 +20,8 @@ use std::alloc::Global;
 /// Opens a listener that has heard nothing: 0; -3 where memory is refused, -4 where the handle is open.
 #[unsafe(no_mangle)]
 pub extern "C" fn j39_listener_new(alloc: Global, listener: &mut Handle) -> i32
-    ensures { Opens listener_in ⊤ listener.old.part result listener.new.part (λ made. Hears made []) }
+    ensures opens { Opens listener_in ⊤ listener.old.part result listener.new.part (λ made. Hears made []) }
+    ensures answers { Answers 0 (no_memory ∷ in_use ∷ []) result }
 {
     open!(alloc, listener, Listening(Listener::new(alloc)))
 }
@@ -39,7 +40,8 @@ pub extern "C" fn j39_listener_feed(
         (λ old new. HearsMore old (frame_of frame.now) (message_in result out.new) new)
         (λ old. LacksMemory old (frame_of frame.now)) }
     ensures refused { IsRefused result → listener.new.part ≡ listener.old.part }
-    ensures tells { Tells 1 result (message_in result out.new) (out.new ≡ out.old) }
+    ensures answers { Answers 1 (bad_value ∷ no_part ∷ no_memory ∷ []) result }
+    ensures fills { Fills (pos 1 ∷ []) result (out.new ≡ out.old) }
 {
     let Some(fed) = frame_in(frame) else {
         return Refusal::BadValue.code();
@@ -59,7 +61,8 @@ pub extern "C" fn j39_listener_holder(
     ensures asks { Asks listener_in ⊤ listener.old.part result listener.new.part
         (λ heard _. IsHolderBy heard address (told result name.new)) Never }
     ensures same { listener.new.part ≡ listener.old.part }
-    ensures tells { Tells 1 result (told result name.new) (name.new ≡ name.old) }
+    ensures answers { Answers 1 (no_part ∷ []) result }
+    ensures fills { Fills (pos 1 ∷ []) result (name.new ≡ name.old) }
 {
     ask!(alloc, listener, Listening(held) => put_name(held.holder(address), name))
 }
@@ -69,7 +72,8 @@ fn hear(listener: &mut Listener, frame: &Frame, out: &mut WholeMessage) -> i32
     ensures heard { IsDone result → HearsMore listener.old frame.now (message_in result out.new) listener.new }
     ensures wanted { IsRefused result → (result ≡ no_memory) × LacksMemory listener.old frame.now }
     ensures refused { IsRefused result → listener.new ≡ listener.old }
-    ensures tells { Tells 1 result (message_in result out.new) (out.new ≡ out.old) }
+    ensures answers { Answers 1 (no_memory ∷ []) result }
+    ensures fills { Fills (pos 1 ∷ []) result (out.new ≡ out.old) }
 {
     match listener.feed(frame) {
         Ok(Some(heard)) => {

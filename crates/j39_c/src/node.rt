@@ -1,11 +1,11 @@
 //! A node that claims an address (J1939-81, 4.2 and 4.5). It lies in C's own memory.
-ghost use Rattle.std.specs.Prelude.{◌≡◌, ◌<◌, ◌^◌, None, pos};
+ghost use Rattle.std.specs.Prelude.{◌≡◌, ◌<◌, ◌^◌, None, pos, ◌∷◌, []};
 ghost use Rattle.j39_frame.specs.Address.{IsAddress};
 ghost use Rattle.j39_address.specs.Call.{call_of};
 ghost use Rattle.j39_address.specs.Call.Call.{Start, Tick, Commanded};
 ghost use Rattle.j39_address.specs.Claimer.{IsNode, Steps, status_of};
 ghost use Rattle.j39_address.specs.Node.{Node, NodeStatus, idle_node};
-ghost use Rattle.j39_c.specs.Calls.{Tells};
+ghost use Rattle.j39_c.specs.Calls.{Answers, Fills};
 ghost use Rattle.j39_c.specs.Can.{Fits, frame_of};
 ghost use Rattle.j39_c.specs.Codes.{IsDone, bad_value, sent};
 ghost use Rattle.j39_c.specs.Nodes.{IsStatus};
@@ -20,6 +20,7 @@ use j39_frame::{Frame, NULL_ADDRESS, Stamp};
 pub extern "C" fn j39_node_init(node: &mut Claimer, name: u64, preferred: u8) -> i32
     ensures made { IsAddress preferred → (result ≡ pos 0) × IsNode node.new (idle_node name preferred) }
     ensures bad { (IsAddress preferred → ⊥) → (result ≡ bad_value) × (node.new ≡ node.old) }
+    ensures answers { Answers 0 (bad_value ∷ []) result }
 {
     match Claimer::new(Name::new(name), preferred) {
         Some(made) => {
@@ -37,7 +38,8 @@ pub extern "C" fn j39_node_start(node: &mut Claimer, micros: u64, out: &mut CanF
     ensures done { micros < 10 ^ 16 → IsDone result }
     ensures step { micros < 10 ^ 16 → Steps node.old Start micros (sent result out.new) node.new }
     ensures bad { (micros < 10 ^ 16 → ⊥) → (result ≡ bad_value) × (node.new ≡ node.old) }
-    ensures tells { Tells 1 result (sent result out.new) (out.new ≡ out.old) }
+    ensures answers { Answers 1 (bad_value ∷ []) result }
+    ensures fills { Fills (pos 1 ∷ []) result (out.new ≡ out.old) }
 {
     let Some(now) = Stamp::new(micros) else {
         return Refusal::BadValue.code();
@@ -51,6 +53,7 @@ pub extern "C" fn j39_node_start(node: &mut Claimer, micros: u64, out: &mut CanF
 pub extern "C" fn j39_node_tick(node: &mut Claimer, micros: u64) -> i32
     ensures step { micros < 10 ^ 16 → (result ≡ pos 0) × Steps node.old Tick micros None node.new }
     ensures bad { (micros < 10 ^ 16 → ⊥) → (result ≡ bad_value) × (node.new ≡ node.old) }
+    ensures answers { Answers 0 (bad_value ∷ []) result }
 {
     let Some(now) = Stamp::new(micros) else {
         return Refusal::BadValue.code();
@@ -66,7 +69,8 @@ pub extern "C" fn j39_node_on(node: &mut Claimer, frame: &CanFrame, out: &mut Ca
     ensures step { Fits frame.now
         → Steps node.old (call_of (frame_of frame.now)) frame.now.micros (sent result out.new) node.new }
     ensures bad { (Fits frame.now → ⊥) → (result ≡ bad_value) × (node.new ≡ node.old) }
-    ensures tells { Tells 1 result (sent result out.new) (out.new ≡ out.old) }
+    ensures answers { Answers 1 (bad_value ∷ []) result }
+    ensures fills { Fills (pos 1 ∷ []) result (out.new ≡ out.old) }
 {
     let Some(heard) = frame_in(frame) else {
         return Refusal::BadValue.code();
@@ -96,7 +100,8 @@ pub extern "C" fn j39_node_commanded(
     ensures step { micros < 10 ^ 16
         → Steps node.old (Commanded (record { name = name; address = address })) micros (sent result out.new) node.new }
     ensures bad { (micros < 10 ^ 16 → ⊥) → (result ≡ bad_value) × (node.new ≡ node.old) }
-    ensures tells { Tells 1 result (sent result out.new) (out.new ≡ out.old) }
+    ensures answers { Answers 1 (bad_value ∷ []) result }
+    ensures fills { Fills (pos 1 ∷ []) result (out.new ≡ out.old) }
 {
     let Some(now) = Stamp::new(micros) else {
         return Refusal::BadValue.code();
@@ -108,14 +113,16 @@ pub extern "C" fn j39_node_commanded(
 /// is none.
 #[unsafe(no_mangle)]
 pub extern "C" fn j39_node_status(node: &Claimer, address: &mut u8) -> i32
-    ensures { (s : NodeStatus) × ((n : Node) → IsNode node.now n → s ≡ n.status)
+    ensures status { (s : NodeStatus) × ((n : Node) → IsNode node.now n → s ≡ n.status)
         × IsStatus s result address.new }
+    ensures answers { Answers 3 [] result }
 {
     put_status(node.status(), address)
 }
 
 fn put_status(status: Status, address: &mut u8) -> i32
-    ensures { IsStatus (status_of status) result address.new }
+    ensures status { IsStatus (status_of status) result address.new }
+    ensures answers { Answers 3 [] result }
 {
     let (code, at) = match status {
         Status::Idle => (0, NULL_ADDRESS),

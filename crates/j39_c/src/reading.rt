@@ -1,12 +1,13 @@
 //! The readings of a message (J1939-71).
-ghost use Rattle.std.specs.Prelude.{◌≡◌, ◌≢◌, ◌≤◌, ◌↔◌, ℕ, Some, None, IfOk, IfErr, IfSome, IsSome, drop, length, pos, replicate, slice_get, take, true};
+ghost use Rattle.std.specs.Prelude.{◌≡◌, ◌≢◌, ◌≤◌, ◌↔◌, ◌∷◌, [], ℕ, Some, None, IfOk, IfErr, IfSome, IsSome, length, pos, replicate, slice_get, take, true};
 ghost use Rattle.std.specs.Option.{option_map};
 ghost use Rattle.j39_frame.specs.Pgn.{pgn_raw};
 ghost use Rattle.j39_groups.specs.Readings.{readings_of};
 ghost use Rattle.j39_groups.specs.Models.{reading_of, scale_record, value_of};
 ghost use Rattle.j39_groups.specs.Slots.{IsRawOf};
 ghost use Rattle.j39_groups.specs.ValueText.{value_text};
-ghost use Rattle.j39_c.specs.Codes.{IsRefused, bad_value, end};
+ghost use Rattle.j39_c.specs.Calls.{Answers, Fills, FillsFront};
+ghost use Rattle.j39_c.specs.Codes.{bad_value, end, no_memory, no_room};
 ghost use Rattle.j39_c.specs.Readings.{IsFilled, IsPlain, IsReadable, IsTextAnswer, reading_in};
 ghost use Rattle.j39_c.specs.Units.{has_short_unit};
 ghost use Rattle.j39_c.specs.declared.refusal.Refusal.TheVariants.{NoMemory};
@@ -46,7 +47,8 @@ pub extern "C" fn j39_reading(message: &WholeMessage, index: usize, out: &mut Pl
         (result ≡ pos 0) × IsPlain out.new reading) }
     ensures behind { IsReadable message.now → reading_in message.now index ≡ None → result ≡ end }
     ensures bad { (IsReadable message.now → ⊥) → result ≡ bad_value }
-    ensures kept { result ≢ pos 0 → out.new ≡ out.old }
+    ensures answers { Answers 0 (bad_value ∷ end ∷ []) result }
+    ensures fills { Fills (pos 0 ∷ []) result (out.new ≡ out.old) }
 {
     let (Some(pgn), Some(payload)) = (Pgn::new(message.pgn), payload_of(message)) else {
         return Refusal::BadValue.code();
@@ -72,8 +74,8 @@ pub extern "C" fn j39_reading_text(
         IsTextAnswer (length text.old) (value_text reading.value) result text.new) }
     ensures behind { IsReadable message.now → reading_in message.now index ≡ None → result ≡ end }
     ensures bad { (IsReadable message.now → ⊥) → result ≡ bad_value }
-    ensures kept { IsRefused result → text.new ≡ text.old }
-    ensures rest { (n : ℕ) → result ≡ pos n → drop n text.new ≡ drop n text.old }
+    ensures answers { Answers (length text.old) (bad_value ∷ no_memory ∷ no_room ∷ end ∷ []) result }
+    ensures fills { FillsFront result text.old text.new }
 {
     let (Some(pgn), Some(payload)) = (Pgn::new(message.pgn), payload_of(message)) else {
         return Refusal::BadValue.code();
@@ -155,8 +157,8 @@ fn unit_of(scale: Scale<'_>) -> [u8; 8]
 /// Writes out a value's text, and answers its length.
 fn put_text(alloc: Global, value: &Value<'_, '_>, text: &mut [u8]) -> i32
     ensures text { IsTextAnswer (length text.old) (value_text (value_of value.now)) result text.new }
-    ensures kept { IsRefused result → text.new ≡ text.old }
-    ensures rest { (n : ℕ) → result ≡ pos n → drop n text.new ≡ drop n text.old }
+    ensures answers { Answers (length text.old) (no_memory ∷ no_room ∷ []) result }
+    ensures fills { FillsFront result text.old text.new }
 {
     match text_of(alloc, value) {
         Ok(made) => copy(made.as_slice(), text),
@@ -183,8 +185,8 @@ fn text_of(alloc: Global, value: &Value<'_, '_>) -> Result<Vec<u8>, Refusal>
 /// Copies bytes to the front of a buffer, and answers how many.
 fn copy(from: &[u8], to: &mut [u8]) -> i32
     ensures text { IsTextAnswer (length to.old) from.now result to.new }
-    ensures kept { IsRefused result → to.new ≡ to.old }
-    ensures rest { (n : ℕ) → result ≡ pos n → drop n to.new ≡ drop n to.old }
+    ensures answers { Answers (length to.old) (no_room ∷ []) result }
+    ensures fills { FillsFront result to.old to.new }
 {
     let n = from.len();
     if n > to.len() || n > MOST {
@@ -237,6 +239,8 @@ pub extern "C" fn j39_raw_of(spn: u32, value: i64, raw: &mut u32) -> i32
     ensures found { result ≡ pos 1 → IsRawOf spn value raw.new }
     ensures only { (n : ℕ) → IsRawOf spn value n → (result ≡ pos 1) × (raw.new ≡ n) }
     ensures none { result ≢ pos 1 → (result ≡ pos 0) × (raw.new ≡ raw.old) }
+    ensures answers { Answers 1 [] result }
+    ensures fills { Fills (pos 1 ∷ []) result (raw.new ≡ raw.old) }
 {
     put(raw_of(spn, value), raw)
 }

@@ -1,10 +1,10 @@
 //! The receiving end of directed transfers (J1939-21, 5.10.3).
-ghost use Rattle.std.specs.Prelude.{◌≡◌, ◌≢◌, ◌<◌, ◌^◌, ⊤, pos, true};
+ghost use Rattle.std.specs.Prelude.{◌≡◌, ◌<◌, ◌^◌, ⊤, pos, true, ◌∷◌, []};
 ghost use Rattle.j39_frame.specs.Address.{IsAddress};
 ghost use Rattle.j39_transport.specs.Receiving.{new_receiver};
-ghost use Rattle.j39_c.specs.Calls.{Asks, Never, Opens, Tells};
+ghost use Rattle.j39_c.specs.Calls.{Answers, Asks, Fills, Never, Opens};
 ghost use Rattle.j39_c.specs.Can.{Fits, frame_of};
-ghost use Rattle.j39_c.specs.Codes.{IsDone, IsRefused, IsSentAt, sent_packet};
+ghost use Rattle.j39_c.specs.Codes.{IsDone, IsRefused, IsSentAt, bad_value, in_use, no_memory, no_part, sent_packet};
 ghost use Rattle.j39_c.specs.Parts.{LetsPass, ReceivesMore, busy_code, receiver_in};
 
 use crate::can::{CanFrame, frame_in, put_packet, write_packet};
@@ -20,8 +20,9 @@ use std::alloc::Global;
 /// where the handle is open.
 #[unsafe(no_mangle)]
 pub extern "C" fn j39_receiver_new(alloc: Global, receiver: &mut Handle, own: u8) -> i32
-    ensures { Opens receiver_in (IsAddress own) receiver.old.part result receiver.new.part
+    ensures opens { Opens receiver_in (IsAddress own) receiver.old.part result receiver.new.part
         (λ made. made ≡ record { state = new_receiver own; has_box = true }) }
+    ensures answers { Answers 0 (bad_value ∷ no_memory ∷ in_use ∷ []) result }
 {
     if receiver.is_open(alloc) {
         return Refusal::InUse.code();
@@ -52,8 +53,9 @@ pub extern "C" fn j39_receiver_on(
     ensures asks { Asks receiver_in (Fits frame.now) receiver.old.part result receiver.new.part
         (λ old new. ReceivesMore old (frame_of frame.now) result out.new message.new new) Never }
     ensures refused { IsRefused result → receiver.new.part ≡ receiver.old.part }
-    ensures tells { Tells 2 result (sent_packet result out.new) (out.new ≡ out.old) }
-    ensures kept { result ≢ pos 2 → message.new ≡ message.old }
+    ensures answers { Answers 2 (bad_value ∷ no_part ∷ []) result }
+    ensures fills_out { Fills (pos 1 ∷ pos 2 ∷ []) result (out.new ≡ out.old) }
+    ensures fills_message { Fills (pos 2 ∷ []) result (message.new ≡ message.old) }
 {
     let Some(heard) = frame_in(frame) else {
         return Refusal::BadValue.code();
@@ -74,7 +76,8 @@ pub extern "C" fn j39_receiver_tick(
         (λ old new. LetsPass old micros (sent_packet result out.new) new) Never }
     ensures moment { IsSentAt result out.new micros }
     ensures refused { IsRefused result → receiver.new.part ≡ receiver.old.part }
-    ensures tells { Tells 1 result (sent_packet result out.new) (out.new ≡ out.old) }
+    ensures answers { Answers 1 (bad_value ∷ no_part ∷ []) result }
+    ensures fills { Fills (pos 1 ∷ []) result (out.new ≡ out.old) }
 {
     let Some(now) = Stamp::new(micros) else {
         return Refusal::BadValue.code();
@@ -88,6 +91,7 @@ pub extern "C" fn j39_receiver_busy(alloc: Global, receiver: &mut Handle) -> i32
     ensures asks { Asks receiver_in ⊤ receiver.old.part result receiver.new.part
         (λ old _. result ≡ busy_code old.state.session) Never }
     ensures same { receiver.new.part ≡ receiver.old.part }
+    ensures answers { Answers 1 (no_part ∷ []) result }
 {
     ask!(alloc, receiver, Receiving(held) => i32::from(held.busy()))
 }
@@ -101,8 +105,9 @@ fn receive(
 ) -> i32
     ensures done { IsDone result }
     ensures receives { ReceivesMore receiver.old frame.now result out.new message.new receiver.new }
-    ensures tells { Tells 2 result (sent_packet result out.new) (out.new ≡ out.old) }
-    ensures kept { result ≢ pos 2 → message.new ≡ message.old }
+    ensures answers { Answers 2 [] result }
+    ensures fills_out { Fills (pos 1 ∷ pos 2 ∷ []) result (out.new ≡ out.old) }
+    ensures fills_message { Fills (pos 2 ∷ []) result (message.new ≡ message.old) }
 {
     let now = frame.stamp;
     match receiver.on(frame, now) {

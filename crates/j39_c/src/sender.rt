@@ -1,9 +1,9 @@
 //! The sending end of directed transfers (J1939-21, 5.10.3).
-ghost use Rattle.std.specs.Prelude.{◌≡◌, ◌≢◌, ◌<◌, ◌^◌, ⊤, Some, None, IfOk, IfErr, pos};
+ghost use Rattle.std.specs.Prelude.{◌≡◌, ◌<◌, ◌^◌, ⊤, Some, None, IfOk, IfErr, pos, ◌∷◌, []};
 ghost use Rattle.j39_transport.specs.Sending.{Heard, SendStep, Tick, new_sender};
-ghost use Rattle.j39_c.specs.Calls.{Asks, Never, Opens, Tells};
+ghost use Rattle.j39_c.specs.Calls.{Answers, Asks, Fills, Never, Opens};
 ghost use Rattle.j39_c.specs.Can.{Fits, frame_of};
-ghost use Rattle.j39_c.specs.Codes.{IsDone, IsRefused, IsSentAt, sent_packet};
+ghost use Rattle.j39_c.specs.Codes.{IsDone, IsRefused, IsSentAt, bad_value, in_use, no_memory, no_part, sent_packet};
 ghost use Rattle.j39_c.specs.Cut.{message_by};
 ghost use Rattle.j39_c.specs.Parts.{CanSend, IsSendCode, IsSendRefusal, IsSendState, sender_in};
 
@@ -27,8 +27,9 @@ pub extern "C" fn j39_sender_new(
     pgn: u32,
     payload: &[u8],
 ) -> i32
-    ensures { Opens sender_in (CanSend (message_by source pgn payload.now) destination) sender.old.part result
+    ensures opens { Opens sender_in (CanSend (message_by source pgn payload.now) destination) sender.old.part result
         sender.new.part (λ made. made ≡ new_sender (message_by source pgn payload.now) destination) }
+    ensures answers { Answers 0 (bad_value ∷ no_memory ∷ in_use ∷ []) result }
 {
     if sender.is_open(alloc) {
         return Refusal::InUse.code();
@@ -84,7 +85,8 @@ pub extern "C" fn j39_sender_tick(
         (λ old new. SendStep old Tick micros (sent_packet result out.new) new) Never }
     ensures moment { IsSentAt result out.new micros }
     ensures refused { IsRefused result → sender.new.part ≡ sender.old.part }
-    ensures tells { Tells 1 result (sent_packet result out.new) (out.new ≡ out.old) }
+    ensures answers { Answers 1 (bad_value ∷ no_part ∷ []) result }
+    ensures fills { Fills (pos 1 ∷ []) result (out.new ≡ out.old) }
 {
     let Some(now) = Stamp::new(micros) else {
         return Refusal::BadValue.code();
@@ -100,6 +102,7 @@ pub extern "C" fn j39_sender_on(alloc: Global, sender: &mut Handle, frame: &CanF
         (λ old new. (result ≡ pos 0)
         × SendStep old (Heard (frame_of frame.now)) (frame_of frame.now).stamp None new) Never }
     ensures refused { IsRefused result → sender.new.part ≡ sender.old.part }
+    ensures answers { Answers 0 (bad_value ∷ no_part ∷ []) result }
 {
     let Some(heard) = frame_in(frame) else {
         return Refusal::BadValue.code();
@@ -117,7 +120,8 @@ pub extern "C" fn j39_sender_state(alloc: Global, sender: &mut Handle, reason: &
     ensures asks { Asks sender_in ⊤ sender.old.part result sender.new.part
         (λ old _. IsSendState old.state result reason.new) Never }
     ensures same { sender.new.part ≡ sender.old.part }
-    ensures kept { result ≢ pos 4 → reason.new ≡ reason.old }
+    ensures answers { Answers 4 (no_part ∷ []) result }
+    ensures fills { Fills (pos 4 ∷ []) result (reason.new ≡ reason.old) }
 {
     ask!(alloc, sender, Sending(held) => put_state(held.state(), reason))
 }
@@ -134,7 +138,8 @@ fn show(sender: &mut OwnedSender, frame: &Frame)
 fn put_state(state: SendState, reason: &mut u8) -> i32
     ensures done { IsDone result }
     ensures state { IsSendCode state result reason.new }
-    ensures kept { result ≢ pos 4 → reason.new ≡ reason.old }
+    ensures answers { Answers 4 [] result }
+    ensures fills { Fills (pos 4 ∷ []) result (reason.new ≡ reason.old) }
 {
     match state {
         SendState::Idle => 0,

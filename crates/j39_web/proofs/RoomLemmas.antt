@@ -1,7 +1,11 @@
 -- A text that has no room.
-use Rattle.std.proofs.Common.{◌≡◌, ◌≢◌, ◌≤◌, ℕ, List, [], ◌∷◌, ◌++◌, Some, Option, refl, ap, sym, ◌∙◌, subst, append-nil, take, take_all, length, length-append, arith}
+use Rattle.std.proofs.Common.{◌≡◌, ◌≢◌, ℕ, List, [], ◌∷◌, ◌++◌, Some, Option, refl, ap, sym, ◌∙◌, subst, append-nil, take, take_all, length, arith}
 use Rattle.std.proofs.lemmas.Bool.{false≢true}
-use Rattle.std.specs.Prelude.{IfErr, IfOk, IsOk, MatchResult, OnOk, Ok, Err, Result}
+use Rattle.std.specs.Prelude.{IfErr, IfOk, MatchResult, OnErr, OnOk, Ok, Err, Result}
+use Rattle.std.specs.Io.KnownBytes.{Appends}
+use Rattle.std.specs.Result.{is_ok}
+use Rattle.j39_io.specs.Device.{AppendsFront}
+use Rattle.j39_io.specs.declared.device.DeviceFault.{DeviceFault}
 use Rattle.j39_log.specs.Log.{frames_of}
 use Rattle.j39_log.proofs.LogLemmas.{same_log}
 use Rattle.j39_listen.specs.AccountCalls.{MakesOne}
@@ -19,7 +23,7 @@ use Rattle.j39_listen.proofs.ReportAccount.{report_one}
 use Rattle.j39_reports.proofs.FaultAccountLemmas.{news_one}
 use Rattle.j39_reports.proofs.SummaryAccountLemmas.{records_one}
 use Rattle.j39_reports.specs.declared.fault_news.telling.Telling.TheVariants.{News}
-use Rattle.j39_web.specs.Text.{Overflows, SurveyOverflows}
+use Rattle.j39_web.specs.Text.{IsFullOf, Overflows, SurveyOverflows, no_counts}
 use Rattle.j39_web.specs.Writings.{makes}
 use Rattle.j39_web.specs.declared.writing.Writing.{Writing}
 use Rattle.j39_web.specs.declared.writing.Writing.TheVariants.{Report, Summary, Faults}
@@ -40,14 +44,12 @@ rest (x ∷ xs) = xs
 
 -- a front of the text fills the room, which is the one that was lent
 fills : (n m k : ℕ) (ys room front left text : List ℕ) → (m ∷ take k ys) ≡ (n ∷ []) ++ front → text ≡ front ++ left → k ≡ length ys → (n ≡ m → ys ≡ room)
-    → length room ≤ length text
+    → IsFullOf text room
 unfolding first rest
 fills n m k ys room front left text written all full same =
     let here : ys ≡ room = same (sym (ap (first n) written)) in
     let stands : ys ≡ front = sym (take_all k ys (omega (arith, full))) ∙ ap rest written in
-    let long : length room ≡ length front = ap length (sym here ∙ stands) in
-    let sum = ap length all ∙ length-append front left in
-    omega (arith, long, sum)
+    (left, all ∙ ap (λ bytes. bytes ++ left) (sym stands ∙ here))
 
 -- what is made of the log, in a room that has none left
 overflows_made : (makes : Making) → MakesOne makes → (given : Option (List ℕ)) (log : List ℕ) (counts : Counts) (n m k : ℕ) (ys room : List ℕ)
@@ -101,13 +103,13 @@ pub survey_overflows : {U : Type 0} (table : List RowRecord) (log log' : List �
     → OnOk ran (WritesSurvey table log' (Some (n ∷ take z xs)) (Some (m ∷ take k ys)))
     → (ran ≡ Err Write → WritesSurveyFront table log' (Some (n ∷ take z xs)) (Some (m ∷ take k ys)))
     → (ran ≡ Err Read → ⊥) → (ran ≡ Err TooLong → ⊥) → (ran ≡ Err Write → k ≡ length ys)
-    → OnOk ran (IsOk counted) → IfErr ran (λ fault. counted ≡ Err fault)
+    → OnOk ran (counted ≡ Ok no_counts) → IfErr ran (λ fault. counted ≡ Err fault)
     → MatchResult counted (λ _. k ≡ length ys) (λ fault. fault ≢ Memory)
     → (n ≡ m → ys ≡ room) → SurveyOverflows table log room
 survey_overflows table log log' (Ok u) (Ok counts) z n m k xs ys room l e made front read long full ok err none same =
     let w = subst (λ j. WritesSurvey table log' (Some (n ∷ take j xs)) (Some (m ∷ take k ys))) e made in
     surveyed_made table log n m k ys room (subst (λ j. WritesSurvey table j (Some (n ∷ [])) (Some (m ∷ take k ys))) l w) none same
-survey_overflows table log log' (Ok u) (Err fault) z n m k xs ys room l e made front read long full ok err none same = absurd (false≢true ok)
+survey_overflows table log log' (Ok u) (Err fault) z n m k xs ys room l e made front read long full ok err none same = absurd (false≢true (ap is_ok ok))
 survey_overflows table log log' (Err Write) counted z n m k xs ys room l e made front read long full ok err none same =
     let w = subst (λ j. WritesSurveyFront table log' (Some (n ∷ take j xs)) (Some (m ∷ take k ys))) e (front refl) in
     surveyed_front table log n m k ys room (subst (λ j. WritesSurveyFront table j (Some (n ∷ [])) (Some (m ∷ take k ys))) l w) (full refl) same
@@ -115,3 +117,20 @@ survey_overflows table log log' (Err Memory) counted z n m k xs ys room l e made
     absurd (subst (λ r. MatchResult r (λ _. k ≡ length ys) (λ fault. fault ≢ Memory)) err none refl)
 survey_overflows table log log' (Err Read) counted z n m k xs ys room l e made front read long full ok err none same = absurd (read refl)
 survey_overflows table log log' (Err TooLong) counted z n m k xs ys room l e made front read long full ok err none same = absurd (long refl)
+
+-- where what is written at once has no room
+pub put_overflows : {U : Type 0} (text : List ℕ) (ran : Result U DeviceFault) (counted : Result Counts RunFault) (z n m k : ℕ) (xs ys room : List ℕ)
+    → z ≡ 0
+    → OnOk ran (Appends (Some (n ∷ take z xs)) (Some (m ∷ take k ys)) text)
+    → OnErr ran (AppendsFront (Some (n ∷ take z xs)) (Some (m ∷ take k ys)) text)
+    → OnErr ran (k ≡ length ys)
+    → OnOk ran (counted ≡ Ok no_counts)
+    → MatchResult counted (λ _. k ≡ length ys) (λ fault. fault ≢ Memory)
+    → (n ≡ m → ys ≡ room) → IsFullOf text room
+put_overflows text (Ok u) counted z n m k xs ys room e all front full ok none same =
+    let w = subst (λ j. Appends (Some (n ∷ take j xs)) (Some (m ∷ take k ys)) text) e all in
+    let none_left = subst (λ r. MatchResult r (λ _. k ≡ length ys) (λ fault. fault ≢ Memory)) ok none in
+    fills n m k ys room text [] text w (sym (append-nil text)) none_left same
+put_overflows text (Err fault) counted z n m k xs ys room e all front full ok none same =
+    let f = subst (λ j. AppendsFront (Some (n ∷ take j xs)) (Some (m ∷ take k ys)) text) e front in
+    fills n m k ys room f.0 f.1 text f.3 f.2 full same

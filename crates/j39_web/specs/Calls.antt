@@ -14,7 +14,7 @@ pub record Tells (by : (List RowRecord → Type 0) → Type 0) (makes : List Row
     (answer : ℕ) : Type 0 where
   -- what stands at the front of the room is that, and nothing else
   pub made : answer ≡ done → by (λ rows. IsMade (makes rows) (given_bus bus_bytes) log text' room')
-  -- the room is too small exactly where that has as many bytes, or more
+  -- the room is too small exactly where that has as many bytes, or more: a front of it fills the room
   pub fits : answer ≡ done → text'.bytes < length room'
   pub overflows : answer ≡ too_small → by (λ rows. Overflows (makes rows) (given_bus bus_bytes) log room')
   -- memory is wanted only for the rows of a table, and there

@@ -1,5 +1,5 @@
 -- The table of parameters that a page gives.
-use Rattle.std.specs.Prelude.{◌≡◌, ◌≢◌, ◌≤◌, ◌⊎◌, ℕ, List, [], ◌∷◌, length}
+use Rattle.std.specs.Prelude.{◌≡◌, ◌≢◌, ◌⊎◌, ℕ, List, [], ◌∷◌}
 use Rattle.j39_groups.specs.Printed.{rows_text}
 use Rattle.j39_groups.specs.Readings.{HaveSameGroups, rows_of_spns}
 use Rattle.j39_groups.specs.Row.{RowRecord}
@@ -8,6 +8,7 @@ use Rattle.j39_table.specs.FaultWords.{fault_text}
 use Rattle.j39_table.specs.Tables.{HasRowLine, IsFaultOf, IsTableOf, lines_of}
 use Rattle.j39_table.specs.declared.fault.TableFault.{TableFault}
 use Rattle.j39_table.specs.declared.fault.TableFault.TheVariants.{Memory}
+use Rattle.j39_web.specs.Text.{IsFullOf}
 
 -- no bytes give the table that is built in
 abbrev pub IsGivenTable : List ℕ → List RowRecord → Type 0
@@ -36,8 +37,8 @@ IsWrongTable given = (fault : TableFault) × IsNoTable given fault
 abbrev pub WantsRows : List ℕ → Type 0
 WantsRows given = HasRowLine (lines_of given)
 
--- what is written of the table, or of why it is none, has as many bytes as the room, or more
+-- the room is full of what is written of the table, or of why it is none
 abbrev pub TableOverflows : List ℕ → List ℕ → Type 0
 TableOverflows given room =
-    ByTable given (λ rows. length room ≤ length (rows_text rows))
-    ⊎ ((fault : TableFault) × IsNoTable given fault × (length room ≤ length (fault_text fault)))
+    ByTable given (λ rows. IsFullOf (rows_text rows) room)
+    ⊎ ((fault : TableFault) × IsNoTable given fault × IsFullOf (fault_text fault) room)

@@ -1,5 +1,5 @@
 -- A text that stands in the room which a page lent.
-use Rattle.std.specs.Prelude.{◌≡◌, ◌≤◌, ◌++◌, ℕ, List, [], Option, Some, length, take}
+use Rattle.std.specs.Prelude.{◌≡◌, ◌++◌, ℕ, List, [], Option, Some, take}
 use Rattle.j39_log.specs.Log.{IsLog, frames_of}
 use Rattle.j39_log.specs.Spelled.{Spelled}
 use Rattle.j39_groups.specs.Row.{RowRecord}
@@ -30,10 +30,18 @@ IsMade makes given log text room = Writes makes given log (counts_in text) (Some
 abbrev pub IsPublished : List RowRecord → Option (List ℕ) → List ℕ → LogText → List ℕ → Type 0
 IsPublished groups given log text room = WritesPublished groups given log (Some []) (Some (take text.bytes room))
 
--- what is made of the log has as many bytes as the room, or more
+-- nothing is counted
+abbrev pub no_counts : Counts
+no_counts = record { frames = 0; other = 0; unread = 0; messages = 0; lines = 0 }
+
+-- the room is full of a text, which has as many bytes as the room, or more
+abbrev pub IsFullOf : List ℕ → List ℕ → Type 0
+IsFullOf text room = (rest : List ℕ) × (text ≡ room ++ rest)
+
+-- so of what is made of the log
 abbrev pub Overflows : Making → Option (List ℕ) → List ℕ → List ℕ → Type 0
 Overflows makes given log room = (spelled : List Spelled) (output : Output) → IsLog log spelled
-    → makes (run_bus given spelled) (frames_of given spelled) output → length room ≤ length output.text
+    → makes (run_bus given spelled) (frames_of given spelled) output → IsFullOf output.text room
 
 -- a frame of the log asks for memory
 abbrev pub AsksSomewhere : Wanting → Option (List ℕ) → List ℕ → Type 0
@@ -43,7 +51,7 @@ AsksSomewhere asks given log = (front rest : List ℕ) × (log ≡ front ++ rest
 abbrev pub IsSurveyed : List RowRecord → List ℕ → LogText → List ℕ → Type 0
 IsSurveyed table log text room = WritesSurvey table log (Some []) (Some (take text.bytes room))
 
--- the survey of the log has as many bytes as the room, or more
+-- the room is full of the survey of the log
 abbrev pub SurveyOverflows : List RowRecord → List ℕ → List ℕ → Type 0
 SurveyOverflows table log room = (lines : List LogLine) → AreLogLines log lines
-    → length room ≤ length (survey_text table lines)
+    → IsFullOf (survey_text table lines) room

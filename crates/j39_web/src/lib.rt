@@ -18,7 +18,7 @@ ghost use Rattle.j39_web.specs.Answers.{IsWrongBus, done, given_bus, no_memory, 
 ghost use Rattle.j39_web.specs.Calls.{Tells};
 ghost use Rattle.j39_web.specs.Fields.{fields_in};
 ghost use Rattle.j39_web.specs.Tables.{ByRowsOf, ByTable, IsNoTable, IsWrongTable, TableOverflows, WantsRows};
-ghost use Rattle.j39_web.specs.Text.{AsksSomewhere, IsMade, IsPublished, IsSurveyed, Overflows, SurveyOverflows};
+ghost use Rattle.j39_web.specs.Text.{AsksSomewhere, IsMade, IsPublished, IsSurveyed, Overflows, SurveyOverflows, counts_in, no_counts};
 
 mod answers;
 mod fields;
@@ -147,7 +147,7 @@ pub extern "C" fn j39_nodes(log: &[u8], bus: &[u8], room: &mut [u8], text: &mut 
 
 /// Writes what a log is into a room, before any bus is chosen: how many lines it has, its interfaces, its groups, by the
 /// table, its other lines by kind, and its unread lines. The table and the answers are those of `j39_report`, but that no
-/// bus is named, and of what is told only the bytes count.
+/// bus is named, and of what is told all but the bytes is 0.
 #[unsafe(no_mangle)]
 pub extern "C" fn j39_survey(
     alloc: Global,
@@ -167,6 +167,7 @@ pub extern "C" fn j39_survey(
     ensures bus { result ≢ wrong_bus }
     ensures table { result ≡ wrong_table → IsWrongTable table.now }
     ensures answers { result ≤ wrong_table }
+    ensures counts { result ≡ done → counts_in text.new ≡ no_counts }
     ensures kept { result ≢ done → text.new ≡ text.old }
     ensures untouched { result ≡ wrong_table → room.new ≡ room.old }
 {
@@ -177,7 +178,7 @@ pub extern "C" fn j39_survey(
 }
 
 /// Writes the parameters that a report by a table may hold into a room, a line for each; at 4 what is said of the
-/// table's bytes behind the name of their file, as ` line 12: no step`. Of what is told only the bytes count.
+/// table's bytes behind the name of their file, as ` line 12: no step`. Of what is told all but the bytes is 0.
 #[unsafe(no_mangle)]
 pub extern "C" fn j39_groups(
     alloc: Global,
@@ -194,7 +195,9 @@ pub extern "C" fn j39_groups(
     ensures memory { result ≡ no_memory → WantsRows table.now }
     ensures bus { result ≢ wrong_bus }
     ensures answers { result ≤ wrong_table }
+    ensures counts { (result ≡ done) ⊎ (result ≡ wrong_table) → counts_in text.new ≡ no_counts }
     ensures kept { result ≢ done → result ≢ wrong_table → text.new ≡ text.old }
+    ensures untouched { result ≡ no_memory → room.new ≡ room.old }
 {
     match table_said(alloc, table) {
         Ok(groups) => answer(texts::parameters(&groups, room), text),

@@ -1,5 +1,5 @@
 //! What is made of a log, in the room of a page.
-ghost use Rattle.std.specs.Prelude.{◌≡◌, ◌≢◌, ◌<◌, ◌≤◌, length, take, IfErr, IfOk, IsOk, OnErr, OnOk, Ok, Err};
+ghost use Rattle.std.specs.Prelude.{◌≡◌, ◌≢◌, ◌<◌, length, take, IfErr, IfOk, OnErr, OnOk, Ok, Err};
 ghost use Rattle.j39_groups.specs.Printed.{rows_text};
 ghost use Rattle.j39_listen.specs.Headed.{MakesNodes};
 ghost use Rattle.j39_listen.specs.Output.{MakesReport};
@@ -8,7 +8,7 @@ ghost use Rattle.j39_listen.specs.declared.running.RunFault.TheVariants as fault
 ghost use Rattle.j39_table.specs.FaultWords.{fault_text};
 ghost use Rattle.j39_web.specs.Room.{HasNoRoom, room_in, written_in};
 ghost use Rattle.j39_web.specs.Tables.{ByRows};
-ghost use Rattle.j39_web.specs.Text.{AsksSomewhere, IsMade, IsSurveyed, Overflows, SurveyOverflows, counts_in};
+ghost use Rattle.j39_web.specs.Text.{AsksSomewhere, IsMade, IsSurveyed, IsFullOf, Overflows, SurveyOverflows, counts_in, no_counts};
 ghost use Rattle.j39_web.specs.Writings.{asks, makes};
 ghost use Rattle.j39_web.specs.declared.texts.Refusal.TheVariants.{Memory, TooSmall};
 
@@ -142,6 +142,7 @@ pub fn survey(
     ensures survey { IfOk result (λ text. IsSurveyed groups.now log.now text room.new) }
     ensures fits { IfOk result (λ text. text.bytes < length room.new) }
     ensures too_small { result ≡ Err TooSmall → SurveyOverflows groups.now log.now room.new }
+    ensures counts { IfOk result (λ text. counts_in text ≡ no_counts) }
 {
     let mut source = LogBytes::new(log);
     let mut sink = Room::new(room);
@@ -152,7 +153,7 @@ pub fn survey(
 
 /// A run that counts nothing.
 fn uncounted(ran: Result<(), RunFault>) -> Result<Counts, RunFault>
-    ensures ok { OnOk ran (IsOk result) }
+    ensures ok { OnOk ran (result ≡ Ok no_counts) }
     ensures err { IfErr ran (λ fault. result ≡ Err fault) }
 {
     match ran {
@@ -165,8 +166,9 @@ fn uncounted(ran: Result<(), RunFault>) -> Result<Counts, RunFault>
 pub fn parameters(groups: &Groups<'_>, room: &mut [u8]) -> Result<LogText, Refusal>
     ensures parameters { IfOk result (λ text. take text.bytes room.new ≡ rows_text groups.now) }
     ensures fits { IfOk result (λ text. text.bytes < length room.new) }
-    ensures too_small { result ≡ Err TooSmall → length room.new ≤ length (rows_text groups.now) }
+    ensures too_small { result ≡ Err TooSmall → IsFullOf (rows_text groups.now) room.new }
     ensures memory { result ≢ Err Memory }
+    ensures counts { IfOk result (λ text. counts_in text ≡ no_counts) }
 {
     let mut sink = Room::new(room);
     let ran = groups.put(&mut sink);
@@ -177,8 +179,9 @@ pub fn parameters(groups: &Groups<'_>, room: &mut [u8]) -> Result<LogText, Refus
 pub fn fault_words(fault: TableFault, room: &mut [u8]) -> Result<LogText, Refusal>
     ensures words { IfOk result (λ text. take text.bytes room.new ≡ fault_text fault) }
     ensures fits { IfOk result (λ text. text.bytes < length room.new) }
-    ensures too_small { result ≡ Err TooSmall → length room.new ≤ length (fault_text fault) }
+    ensures too_small { result ≡ Err TooSmall → IsFullOf (fault_text fault) room.new }
     ensures memory { result ≢ Err Memory }
+    ensures counts { IfOk result (λ text. counts_in text ≡ no_counts) }
 {
     let mut sink = Room::new(room);
     let ran = put_all(&mut sink, fault.text().as_slice());
@@ -187,7 +190,7 @@ pub fn fault_words(fault: TableFault, room: &mut [u8]) -> Result<LogText, Refusa
 
 /// Writing that counts nothing.
 fn written(ran: Result<(), DeviceFault>) -> Result<Counts, RunFault>
-    ensures ok { OnOk ran (IsOk result) }
+    ensures ok { OnOk ran (result ≡ Ok no_counts) }
     ensures err { OnErr ran (result ≡ Err fault.Write) }
 {
     match ran {

@@ -5,8 +5,8 @@ use Rattle.j39_controller.specs.declared.controller.Controller.{Controller}
 use Rattle.j39_c.specs.Controllers.{TakesIn}
 use Rattle.j39_c.proofs.controller.j39_controller_send.Goals as goal
 
-pub returns-after-deref_mut : goal.returns-after-deref_mut
-returns-after-deref_mut c = record {
+pub returns-after-deref_mut-clause-asks : goal.returns-after-deref_mut-clause-asks
+returns-after-deref_mut-clause-asks c = record {
   done = elim c.match-deref_mut.branch [
     | goal.in-Controlling+in-Ok w ↦
         let held = subst (λ (k : Controller). TakesIn k c.in-Some.sent c.args.number w.send.new.self) w.deref_mut-in-Controlling.ensures.value w.in-Ok.ensures.sent in
