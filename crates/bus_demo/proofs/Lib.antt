@@ -1,0 +1,4 @@
+-- which message was delivered
+mod BookLemmas
+-- the players that were told a frame
+mod TellingLemmas
