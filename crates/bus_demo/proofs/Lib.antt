@@ -2,3 +2,5 @@
 mod BookLemmas
 -- the players that were told a frame
 mod TellingLemmas
+-- where a call ended well
+mod PlayerLemmas

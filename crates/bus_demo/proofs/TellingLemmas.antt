@@ -1,5 +1,5 @@
 -- Players that are told a frame, one after another.
-use Rattle.std.proofs.Common.{◌≡◌, ◌≢◌, ◌≤◌, ◌<◌, ◌∙◌, ℕ, zero, suc, [], ◌∷◌, List, Option, Some, ap, arith, length, refl, slice_get, slice_set, subst, sym}
+use Rattle.std.proofs.Common.{◌≡◌, ◌≢◌, ◌≤◌, ◌<◌, ◌+◌, ◌∙◌, ℕ, zero, suc, [], ◌∷◌, List, Option, Some, ap, arith, length, refl, slice_get, slice_set, subst, sym}
 use Rattle.std.proofs.Math.ListN.{length-set}
 use borrow.Author.Count.{below_more}
 use Rattle.j39_frame.specs.Frame.{FrameRecord}
@@ -26,7 +26,7 @@ abbrev StandsTold : ℕ → FrameRecord → List Player → List Player → ℕ 
 StandsTold sender f old new k = (player : Player) → slice_get old k ≡ Some player → (after : Player) × (slice_get new k ≡ Some after) × IsToldAt k sender f player after
 
 pub one_told : (n sender : ℕ) (f : FrameRecord) (old mid : List Player) (p q : Player) → n < length mid → AreToldBelow n sender f old mid → slice_get mid n ≡ Some p
-    → IsToldAt n sender f p q → AreToldBelow (suc n) sender f old (slice_set mid n q)
+    → IsToldAt n sender f p q → AreToldBelow (n + 1) sender f old (slice_set mid n q)
 one_told n sender f old mid p q inside h stands told = record {
   count = length-set mid n q ∙ h.count;
   told = λ k player below there. below_more (StandsTold sender f old (slice_set mid n q)) n
@@ -38,7 +38,7 @@ one_told n sender f old mid p q inside h stands told = record {
 }
 
 -- its sender is not
-pub one_left : (n sender : ℕ) (f : FrameRecord) (old mid : List Player) → n ≡ sender → AreToldBelow n sender f old mid → AreToldBelow (suc n) sender f old mid
+pub one_left : (n sender : ℕ) (f : FrameRecord) (old mid : List Player) → n ≡ sender → AreToldBelow n sender f old mid → AreToldBelow (n + 1) sender f old mid
 one_left n sender f old mid is h = record {
   count = h.count;
   told = λ k player below there. below_more (StandsTold sender f old mid) n h_told

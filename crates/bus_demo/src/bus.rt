@@ -96,7 +96,7 @@ impl<'a> Bus<'a> {
         ensures lose { self.new.lose ≡ self.old.lose }
     {
         // A step takes a microsecond at least.
-        for _step in 0..end {
+        for step in 0..end {
             if self.now.micros() >= end {
                 break;
             }

@@ -1,5 +1,5 @@
 //! What a controller measures, and the payloads that say it (J1939-71).
-ghost use Rattle.std.specs.Prelude.{◌≡◌, ◌<◌, ◌≤◌, ◌+◌, ℕ, None, Some};
+ghost use Rattle.std.specs.Prelude.{◌≡◌, ◌<◌, ◌+◌, ◌*◌, ◌-ℤ◌, ℕ, None, Some, pos};
 ghost use Rattle.j39_frame.specs.Pgn.{pgn_raw};
 ghost use Rattle.j39_groups.specs.Slots.{IsRawOf};
 ghost use Rattle.bus_demo.specs.Groups.{number_of, priority_of};
@@ -101,8 +101,8 @@ impl Gauges {
         ensures shows { ShowsTemperatures result }
         ensures steps { self.new.steps ≡ self.old.steps }
     {
-        let coolant = i64::from(self.below(120)) - 20;
-        let oil = 8_000_000 + 3_125 * i64::from(self.below(1_000));
+        let coolant = coolant_temperature(self.below(120));
+        let oil = oil_temperature(self.below(1_000));
         temperature_payload(coolant, oil)
     }
 
@@ -112,9 +112,36 @@ impl Gauges {
         ensures goes_on { GoesOn self.old.steps self.new.steps }
     {
         self.steps = self.steps.saturating_add(self.below(5));
-        let trip = 125 * i64::from(self.steps);
-        distance_payload(trip, 1_000_000 + trip)
+        distance_payload(trip_distance(self.steps), total_distance(self.steps))
     }
+}
+
+/// The temperature of the coolant so many degrees above -20.
+fn coolant_temperature(steps: u32) -> i64
+    ensures { result ≡ pos steps -ℤ pos 20 }
+{
+    i64::from(steps) - 20
+}
+
+/// The temperature of the oil so many steps above 80 degrees, in 0.00001 degrees.
+fn oil_temperature(steps: u32) -> i64
+    ensures { result ≡ pos (8000000 + 3125 * steps) }
+{
+    8_000_000 + 3_125 * i64::from(steps)
+}
+
+/// The distance of a trip of so many steps, in metres.
+fn trip_distance(steps: u32) -> i64
+    ensures { result ≡ pos (125 * steps) }
+{
+    125 * i64::from(steps)
+}
+
+/// The distance of this trip and of all before it.
+fn total_distance(steps: u32) -> i64
+    ensures { result ≡ pos (1000000 + 125 * steps) }
+{
+    1_000_000 + 125 * i64::from(steps)
 }
 
 /// EEC1 with this engine speed, in thousandths of an rpm; `None` where no raw number has it.

@@ -1,5 +1,5 @@
 //! A controller of the demo: the stack's own, with what it sends of its own accord.
-ghost use Rattle.std.specs.Prelude.{◌≡◌, ◌↔◌, ◌∷◌, ◌+◌, ◌<◌, ◌≤◌, ◌^◌, [], IfSome, IsOk, IsSome, List, OnOk, Some, drop, length};
+ghost use Rattle.std.specs.Prelude.{◌≡◌, ◌↔◌, ◌∷◌, ◌+◌, ◌<◌, ◌≤◌, ◌^◌, [], IfSome, IsOk, IsSome, List, None, OnOk, Some, drop, length};
 ghost use Rattle.std.specs.Option.{option_map};
 ghost use Rattle.j39_frame.specs.Address.{IsAddress};
 ghost use Rattle.j39_frame.specs.Identifier.{id_raw};
@@ -104,12 +104,23 @@ impl Player {
         }
         self.due = self.due.saturating_add(TURN);
         self.controller.pass(now)?;
-        if let Some(address) = self.controller.held() {
-            self.publisher
-                .turn(address, now, &mut self.controller, book)?;
-        }
+        self.publish(now, book)?;
         self.controller.turn(now)?;
         self.settle(book)
+    }
+
+    /// Sends what is due, while an address is held.
+    fn publish(&mut self, now: Stamp, book: &mut Book) -> Result<(), AllocError>
+        ensures silent { (node : Node) → HasNode self.old.controller node → held_in node.status ≡ None
+            → self.new ≡ self.old }
+        ensures rest { self.new ≡ record self.old { controller = self.new.controller; publisher = self.new.publisher } }
+    {
+        match self.controller.held() {
+            Some(address) => self
+                .publisher
+                .turn(address, now, &mut self.controller, book),
+            None => Ok(()),
+        }
     }
 
     /// Hears a frame that another controller sent.
