@@ -1,5 +1,9 @@
 pub mod Arbitration
+pub mod Delivered
 pub mod Fates
 pub mod Groups
 pub mod Numerals
 pub mod Payloads
+pub mod Playing
+pub mod Scenario
+pub mod Shown

@@ -1,6 +1,7 @@
 //! The bus: one frame at a time, and a clock in microseconds.
-ghost use Rattle.std.specs.Prelude.{◌≡◌, ◌≤◌, ◌<◌, ◌+◌, ◌*◌, ◌^◌, []};
+ghost use Rattle.std.specs.Prelude.{◌≡◌, ◌≤◌, ◌<◌, ◌+◌, ◌*◌, ◌^◌, [], OnOk, true};
 ghost use Rattle.j39_frame.specs.Stamp.{stamp_micros};
+ghost use Rattle.bus_demo.specs.Playing.{AreTold};
 
 mod arbitration;
 pub(crate) mod book;
@@ -89,9 +90,13 @@ impl<'a> Bus<'a> {
     }
 
     /// Runs the bus to a moment in microseconds, and writes each frame that is seen as a line of a log.
-    pub fn run<W: Sink>(&mut self, end: u64, log: &mut W) -> Result<(), BusFault> {
-        // A step takes 100 microseconds or more, but for one that drops a frame.
-        for _step in 0..end {
+    pub fn run<W: Sink>(&mut self, end: u64, log: &mut W) -> Result<(), BusFault>
+        ensures played { OnOk result (end + 1000 < 10 ^ 16 → end ≤ stamp_micros self.new.now) }
+        ensures flushed { OnOk result (W.is_flushed log.new ≡ true) }
+        ensures lose { self.new.lose ≡ self.old.lose }
+    {
+        // A step takes a microsecond at least.
+        for step in 0..end {
             if self.now.micros() >= end {
                 break;
             }
@@ -102,7 +107,11 @@ impl<'a> Bus<'a> {
     }
 
     /// Lets each controller take its turn, and then sends the frame that wins the bus.
-    fn step<W: Sink>(&mut self, log: &mut W) -> Result<(), BusFault> {
+    fn step<W: Sink>(&mut self, log: &mut W) -> Result<(), BusFault>
+        ensures goes_on { OnOk result (stamp_micros self.old.now + 1000 < 10 ^ 16
+            → stamp_micros self.old.now < stamp_micros self.new.now) }
+        ensures lose { self.new.lose ≡ self.old.lose }
+    {
         self.turns()?;
         match winner(self.wishes.as_slice()) {
             Some(sender) => self.send(sender, log),
@@ -114,7 +123,10 @@ impl<'a> Bus<'a> {
     }
 
     /// Lets each controller take its turn, and asks what it wishes to send.
-    fn turns(&mut self) -> Result<(), AllocError> {
+    fn turns(&mut self) -> Result<(), AllocError>
+        ensures now { self.new.now ≡ self.old.now }
+        ensures lose { self.new.lose ≡ self.old.lose }
+    {
         self.wishes.clear();
         for controller in self.controllers.iter_mut() {
             controller.pass(self.now, &mut self.book)?;
@@ -124,11 +136,13 @@ impl<'a> Bus<'a> {
     }
 
     /// Sends the frame that a controller wishes to send. It is seen at its end.
-    fn send<W: Sink>(&mut self, sender: usize, log: &mut W) -> Result<(), BusFault> {
-        let Some(controller) = self.controllers.get_mut(sender) else {
-            return Ok(());
-        };
-        let Some(Wish { frame, part }) = controller.take_frame() else {
+    fn send<W: Sink>(&mut self, sender: usize, log: &mut W) -> Result<(), BusFault>
+        ensures goes_on { OnOk result (stamp_micros self.old.now + 1000 < 10 ^ 16
+            → stamp_micros self.old.now < stamp_micros self.new.now) }
+        ensures lose { self.new.lose ≡ self.old.lose }
+    {
+        let Some(Wish { frame, part }) = self.take_frame(sender) else {
+            self.now = later(self.now, 1);
             return Ok(());
         };
         self.now = later(self.now, frame_time(frame.bytes.len()));
@@ -155,11 +169,23 @@ impl<'a> Bus<'a> {
         Ok(())
     }
 
-    /// All controllers but its sender hear a frame.
-    fn tell(&mut self, sender: usize, frame: &Frame) -> Result<(), AllocError> {
-        for (place, controller) in self.controllers.iter_mut().enumerate() {
+    /// The frame that a controller wishes to send, where it still may.
+    fn take_frame(&mut self, sender: usize) -> Option<Wish>
+        ensures now { self.new.now ≡ self.old.now }
+        ensures lose { self.new.lose ≡ self.old.lose }
+    {
+        self.controllers.get_mut(sender)?.take_frame()
+    }
+
+    /// All controllers but its sender hear a frame, each once.
+    fn tell(&mut self, sender: usize, frame: &Frame) -> Result<(), AllocError>
+        ensures told { OnOk result (AreTold sender frame.now self.old.controllers.items self.new.controllers.items) }
+        ensures now { self.new.now ≡ self.old.now }
+        ensures lose { self.new.lose ≡ self.old.lose }
+    {
+        for place in 0..self.controllers.len() {
             if place != sender {
-                controller.hear(frame, &mut self.book)?;
+                self.controllers[place].hear(frame, &mut self.book)?;
             }
         }
         Ok(())

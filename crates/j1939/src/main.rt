@@ -1,22 +1,33 @@
 //! The program `j1939`: its words, files and standard streams, over `j39_cli`.
 #![tactic(auto)]
+ghost use Rattle.std.specs.Prelude.{◌≡◌, ◌≢◌, ◌≤◌, ◌⊎◌, IfOk, List, codes, false, map, true};
+ghost use Rattle.std.specs.IoError.{error_kind};
+ghost use Rattle.std.specs.Process.{exit_status};
+ghost use Rattle.clap.specs.Words.{Text};
+ghost use Rattle.j39_io.specs.Turn.{Turn, Writes, turn};
+ghost use Rattle.j39_table.specs.declared.fault.TableFault.{TableFault};
+ghost use Rattle.j39_cli.specs.OwnTable.{table_line};
+ghost use Rattle.j39_cli.specs.Refusal.{IsWrongLine, error_line};
+ghost use Rattle.j1939.specs.Done.{Follows, IsDone, IsDoneBy, IsDoneByText};
 
 mod table;
 
 use j39_cli::{ParseFault, Task, parse, perform_with, refuse, unopened, wrong_table};
 use j39_groups::Groups;
-use j39_io::Told;
+use j39_io::{Sink, Told};
 use j39_table::{TableFault, read};
+use std::convert::AsStr;
 use std::io::{BufWriter, ErrorKind};
 use std::process::ExitCode;
-use std::rt::{Stderr, Stdout};
 use std::{env, fs, io};
 use table::table_text;
 
 /// The bytes that are kept before they are written.
 const OUT_BUFFER: usize = 65_536;
 
-fn main(rt: HostRuntime) -> ExitCode {
+fn main(rt: HostRuntime) -> ExitCode
+    ensures { exit_status result ≤ 2 }
+{
     let mut err = Told::new(rt.stderr());
     let status = match answer(&rt, &mut err) {
         Ok(status) => status,
@@ -30,7 +41,10 @@ fn main(rt: HostRuntime) -> ExitCode {
 }
 
 /// Why there are no words to read: memory was refused, or one of them is no text.
-fn fault_of(rt: &HostRuntime, error: &io::Error) -> ParseFault {
+fn fault_of(rt: &HostRuntime, error: &io::Error) -> ParseFault
+    ensures memory { error_kind error.now ≡ ErrorKind.OutOfMemory → result ≡ ParseFault.Memory }
+    ensures words { result ≢ ParseFault.Memory → IsWrongLine result }
+{
     if error.kind() == ErrorKind::OutOfMemory {
         return ParseFault::Memory;
     }
@@ -40,51 +54,109 @@ fn fault_of(rt: &HostRuntime, error: &io::Error) -> ParseFault {
     }
 }
 
-/// Does what the words ask for, and answers the exit status.
-fn answer(rt: &HostRuntime, err: &mut Told<Stderr>) -> io::Result<u8> {
+/// Does what the program's words ask for, and answers the exit status.
+fn answer<E: Sink>(rt: &HostRuntime, err: &mut E) -> io::Result<u8>
+    ensures status { IfOk result (λ status. status ≤ 2) }
+    ensures followed { IfOk result (λ status. (words : List Text) × (out : Turn) × Follows words status out
+        (turn E.written E.has_failed err.old err.new)) }
+{
     let mut words = Vec::new(rt.alloc());
     for word in env::args(rt)? {
         words.push(word)?;
     }
     let out = BufWriter::with_capacity(rt.alloc(), OUT_BUFFER, rt.stdout())?;
-    let mut out = Told::new(out);
-    Ok(match parse(rt.alloc(), words.as_slice()) {
-        Ok(task) => done(rt, &task, &mut out, err),
-        Err(fault) => refuse(&fault, &mut out, err),
-    })
+    Ok(follow(rt, words.as_slice(), &mut Told::new(out), err))
+}
+
+/// Does what these words ask for, and answers the exit status: 2 for wrong words alone.
+fn follow<S: AsStr, W: Sink, E: Sink>(
+    rt: &HostRuntime,
+    words: &[S],
+    out: &mut W,
+    err: &mut E,
+) -> u8
+    ensures status { result ≤ 2 }
+    ensures followed { Follows (map S.text words.now) result
+        (turn W.written W.has_failed out.old out.new) (turn E.written E.has_failed err.old err.new) }
+
+    // What is told is passed on, where its writer has not failed.
+    ensures passed_out { result ≡ 0 → W.has_failed out.new ≡ false → W.is_flushed out.new ≡ true }
+    ensures passed_on { (result ≡ 0 → ⊥) → E.has_failed err.new ≡ false → E.is_flushed err.new ≡ true }
+{
+    match parse(rt.alloc(), words) {
+        Ok(task) => done(rt, &task, out, err),
+        Err(fault) => refuse(&fault, out, err),
+    }
 }
 
 /// Performs a task by its table, or by the built-in one.
-fn done(
-    rt: &HostRuntime,
-    task: &Task<'_>,
-    out: &mut Told<BufWriter<Stdout>>,
-    err: &mut Told<Stderr>,
-) -> u8 {
+fn done<W: Sink, E: Sink>(rt: &HostRuntime, task: &Task<'_>, out: &mut W, err: &mut E) -> u8
+    ensures status { (result ≡ 0) ⊎ (result ≡ 1) }
+    ensures done { IsDone task.now result
+        (turn W.written W.has_failed out.old out.new) (turn E.written E.has_failed err.old err.new) }
+    ensures flushed { result ≡ 0 → W.is_flushed out.new ≡ true }
+    ensures passed_on { result ≡ 1 → E.has_failed err.new ≡ false → E.is_flushed err.new ≡ true }
+{
     let Some(name) = task.table() else {
         return over(rt, task, &Groups::built_in(), out, err);
     };
-    let text = match table_text(rt, name) {
-        Ok(text) => text,
-        Err(error) if error.kind() == ErrorKind::OutOfMemory => {
-            return wrong_table(name, TableFault::Memory, err);
-        }
-        Err(_) => return unopened(name, err),
-    };
-    match read(rt.alloc(), text.as_slice()) {
+    match table_text(rt, name) {
+        Ok(text) => by_text(rt, task, name, text.as_slice(), out, err),
+        Err(error) => unread(name, &error, err),
+    }
+}
+
+/// Says why a table can't be read, and answers the exit status.
+fn unread<E: Sink>(name: &str, error: &io::Error, err: &mut E) -> u8
+    ensures status { result ≡ 1 }
+    ensures memory { error_kind error.now ≡ ErrorKind.OutOfMemory
+        → Writes (turn E.written E.has_failed err.old err.new) (table_line name.now TableFault.Memory) }
+    ensures other { error_kind error.now ≢ ErrorKind.OutOfMemory
+        → Writes (turn E.written E.has_failed err.old err.new) (error_line (codes "cannot open ") name.now) }
+    ensures passed_on { E.has_failed err.new ≡ false → E.is_flushed err.new ≡ true }
+{
+    if error.kind() == ErrorKind::OutOfMemory {
+        wrong_table(name, TableFault::Memory, err)
+    } else {
+        unopened(name, err)
+    }
+}
+
+/// Performs a task by the table that a text says, or says why it says none.
+fn by_text<W: Sink, E: Sink>(
+    rt: &HostRuntime,
+    task: &Task<'_>,
+    name: &str,
+    text: &[u8],
+    out: &mut W,
+    err: &mut E,
+) -> u8
+    ensures status { (result ≡ 0) ⊎ (result ≡ 1) }
+    ensures done { IsDoneByText name.now text.now task.now result
+        (turn W.written W.has_failed out.old out.new) (turn E.written E.has_failed err.old err.new) }
+    ensures flushed { result ≡ 0 → W.is_flushed out.new ≡ true }
+    ensures passed_on { result ≡ 1 → E.has_failed err.new ≡ false → E.is_flushed err.new ≡ true }
+{
+    match read(rt.alloc(), text) {
         Ok(groups) => over(rt, task, &groups, out, err),
         Err(fault) => wrong_table(name, fault, err),
     }
 }
 
 /// Performs a task by this table, over its FILE or over standard input.
-fn over(
+fn over<W: Sink, E: Sink>(
     rt: &HostRuntime,
     task: &Task<'_>,
     groups: &Groups<'_>,
-    out: &mut Told<BufWriter<Stdout>>,
-    err: &mut Told<Stderr>,
-) -> u8 {
+    out: &mut W,
+    err: &mut E,
+) -> u8
+    ensures status { (result ≡ 0) ⊎ (result ≡ 1) }
+    ensures done { IsDoneBy groups.now task.now result
+        (turn W.written W.has_failed out.old out.new) (turn E.written E.has_failed err.old err.new) }
+    ensures flushed { result ≡ 0 → W.is_flushed out.new ≡ true }
+    ensures passed_on { result ≡ 1 → E.has_failed err.new ≡ false → E.is_flushed err.new ≡ true }
+{
     let alloc = rt.alloc();
     let Some(file) = task.file() else {
         return perform_with(alloc, groups, task, &mut Told::new(rt.stdin()), out, err);

@@ -1,5 +1,8 @@
 //! The file of a table of parameters: where it is found, and its text.
+ghost use Rattle.std.specs.Prelude.{◌≡◌, ◌++◌, IfOk, codes, string_bytes};
+
 use j39_table::MOST_BYTES;
+use std::alloc::{AllocError, Global};
 use std::env;
 use std::fs::{self, File};
 use std::io::{self, Read};
@@ -27,10 +30,18 @@ fn open_shipped(rt: &HostRuntime, name: &str) -> io::Result<Option<File>> {
         return Ok(None);
     };
     for place in SHIPPED {
-        let path = format!(in rt.alloc(); "{}/{place}/{name}.table", folder.as_str())?;
+        let path = shipped_path(rt.alloc(), folder.as_str(), place, name)?;
         if let Ok(file) = fs::open(rt, path.as_str()) {
             return Ok(Some(file));
         }
     }
     Ok(None)
+}
+
+/// Where the table of this name is, in a place from the program's folder on.
+fn shipped_path(alloc: Global, folder: &str, place: &str, name: &str) -> Result<String, AllocError>
+    ensures { IfOk result (λ path. string_bytes path
+        ≡ folder.now ++ codes "/" ++ place.now ++ codes "/" ++ name.now ++ codes ".table") }
+{
+    format!(in alloc; "{folder}/{place}/{name}.table")
 }

@@ -10,6 +10,7 @@ pub mod Spelling
 pub mod Answer
 pub mod Task
 pub mod Refusal
+pub mod Refused
 -- the commands, each with its words, its task and what it writes
 pub mod LogCommand
 pub mod ReportCommand

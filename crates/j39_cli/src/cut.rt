@@ -1,9 +1,11 @@
 //! The command `cut`: its words, and how it is performed.
-ghost use Rattle.std.specs.Prelude.{IfOk, codes};
+ghost use Rattle.std.specs.Prelude.{◌≡◌, ◌^◌, Err, IfOk, codes};
 ghost use Rattle.clap.specs.Words.{found_of};
 ghost use Rattle.j39_cli.specs.CommandWords as written;
 ghost use Rattle.j39_cli.specs.CommandWords.{IsAnswer, Tells};
-ghost use Rattle.j39_cli.specs.CutCommand.{cut_app};
+ghost use Rattle.j39_cli.specs.CutCommand.{IsMomentText, cut_app};
+ghost use Rattle.j39_cli.specs.Numbers.{IsNumberBelow};
+ghost use Rattle.j39_log.specs.Bus.{IsBusName};
 ghost use Rattle.j39_cli.specs.Task.{IsInRange};
 ghost use Rattle.j39_cli.specs.Rules.{IsMade};
 
@@ -69,6 +71,10 @@ fn task_of<'a>(
 ) -> Result<Task<'a>, ParseFault>
     ensures answer { IsAnswer (written.cut source.now pgn.now at.now bus.now hex.now) result }
     ensures in_range { IfOk result IsInRange }
+
+    // Memory is wanted for HEX alone, where the values before it are in range.
+    ensures memory { result ≡ Err ParseFault.Memory → IsNumberBelow 254 source.now
+        × IsNumberBelow (2 ^ 18) pgn.now × IsMomentText at.now × IsBusName bus.now }
 {
     let Some(source) = source_of(source) else {
         return Err(ParseFault::BadValue(Argument::Source));

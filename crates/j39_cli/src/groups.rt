@@ -60,6 +60,7 @@ pub(crate) fn perform<W: Sink, E: Sink>(groups: &Groups<'_>, sink: &mut W, err: 
         (turn W.written W.has_failed sink.old sink.new)
         (turn E.written E.has_failed err.old err.new) }
     ensures flushed { result ≡ 0 → W.is_flushed sink.new ≡ true }
+    ensures passed_out { W.is_flushed sink.old ≡ true → W.has_failed sink.new ≡ false → W.is_flushed sink.new ≡ true }
     ensures silent { result ≡ 0 → err.new ≡ err.old }
     ensures passed_on { result ≡ 1 → E.has_failed err.new ≡ false → E.is_flushed err.new ≡ true }
 {
@@ -70,6 +71,7 @@ pub(crate) fn perform<W: Sink, E: Sink>(groups: &Groups<'_>, sink: &mut W, err: 
 fn put_lines<W: Sink>(groups: &Groups<'_>, sink: &mut W) -> Result<(), DeviceFault>
     ensures puts { Puts (rows_text groups.now) result (turn W.written W.has_failed sink.old sink.new) }
     ensures flushed { OnOk result (W.is_flushed sink.new ≡ true) }
+    ensures passed_out { W.is_flushed sink.old ≡ true → W.has_failed sink.new ≡ false → W.is_flushed sink.new ≡ true }
 {
     groups.put(sink)?;
     sink.flush()

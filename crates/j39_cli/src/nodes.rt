@@ -1,5 +1,5 @@
 //! The command `nodes`: its words, and how it is performed.
-ghost use Rattle.std.specs.Prelude.{◌≡◌, OnOk, codes, true};
+ghost use Rattle.std.specs.Prelude.{◌≡◌, OnOk, codes, true, false};
 ghost use Rattle.j39_io.specs.Turn.{turn};
 ghost use Rattle.clap.specs.Words.{found_of};
 ghost use Rattle.j39_listen.specs.Asking.{AsksNowhere};
@@ -69,6 +69,7 @@ pub(crate) fn run<R: Source, W: Sink>(
     ensures ran { Ran (MakesNodes format) AsksNowhere bus.now log_limit result
         (turn R.remaining R.has_failed source.old source.new) (turn W.written W.has_failed sink.old sink.new) }
     ensures flushed { OnOk result (W.is_flushed sink.new ≡ true) }
+    ensures passed_out { W.is_flushed sink.old ≡ true → W.has_failed sink.new ≡ false → W.is_flushed sink.new ≡ true }
 {
     match format {
         Format::Line => j39_listen::nodes(source, sink, copy_of(bus), LOG_LIMIT),

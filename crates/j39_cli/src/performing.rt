@@ -30,8 +30,9 @@ pub fn perform<R: Source, W: Sink, E: Sink>(
         (turn W.written W.has_failed sink.old sink.new)
         (turn E.written E.has_failed err.old err.new) }
 
-    // Status 0 says that what was written was passed on.
+    // Status 0 says that what was written was passed on, and so it is after a fault, but for one of the writer.
     ensures flushed { result ≡ 0 → W.is_flushed sink.new ≡ true }
+    ensures passed_out { W.is_flushed sink.old ≡ true → W.has_failed sink.new ≡ false → W.is_flushed sink.new ≡ true }
 
     // A command that reads no log leaves the reader alone, and says nothing where all is well.
     ensures unread { reads_log task.now ≡ false → source.new ≡ source.old }
@@ -62,8 +63,9 @@ pub fn perform_with<R: Source, W: Sink, E: Sink>(
         (turn W.written W.has_failed sink.old sink.new)
         (turn E.written E.has_failed err.old err.new) }
 
-    // Status 0 says that what was written was passed on.
+    // Status 0 says that what was written was passed on, and so it is after a fault, but for one of the writer.
     ensures flushed { result ≡ 0 → W.is_flushed sink.new ≡ true }
+    ensures passed_out { W.is_flushed sink.old ≡ true → W.has_failed sink.new ≡ false → W.is_flushed sink.new ≡ true }
 
     // A command that reads no log leaves the reader alone, and says nothing where all is well.
     ensures unread { reads_log task.now ≡ false → source.new ≡ source.old }

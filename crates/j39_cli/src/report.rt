@@ -96,6 +96,7 @@ pub(crate) fn perform<R: Source, W: Sink, E: Sink>(
         (turn E.written E.has_failed err.old err.new) }
     ensures status { (result ≡ 0) ⊎ (result ≡ 1) }
     ensures flushed { result ≡ 0 → W.is_flushed sink.new ≡ true }
+    ensures passed_out { W.is_flushed sink.old ≡ true → W.has_failed sink.new ≡ false → W.is_flushed sink.new ≡ true }
     ensures passed_on { E.has_failed err.new ≡ false → E.is_flushed err.new ≡ true }
 {
     let Some(spns) = spns else {
@@ -119,6 +120,7 @@ fn run<R: Source, W: Sink>(
     ensures ran { Ran (makes_in format groups.now) AsksForBoxes bus.now log_limit result
         (turn R.remaining R.has_failed source.old source.new) (turn W.written W.has_failed sink.old sink.new) }
     ensures flushed { OnOk result (W.is_flushed sink.new ≡ true) }
+    ensures passed_out { W.is_flushed sink.old ≡ true → W.has_failed sink.new ≡ false → W.is_flushed sink.new ≡ true }
 {
     match format {
         Format::Line => run_with(alloc, groups, source, sink, copy_of(bus), LOG_LIMIT),

@@ -14,6 +14,7 @@ pub(crate) fn show_text<W: Sink, E: Sink>(text: &[u8], sink: &mut W, err: &mut E
         (turn W.written W.has_failed sink.old sink.new)
         (turn E.written E.has_failed err.old err.new) }
     ensures flushed { result ≡ 0 → W.is_flushed sink.new ≡ true }
+    ensures passed_out { W.is_flushed sink.old ≡ true → W.has_failed sink.new ≡ false → W.is_flushed sink.new ≡ true }
     ensures silent { result ≡ 0 → err.new ≡ err.old }
     ensures passed_on { result ≡ 1 → E.has_failed err.new ≡ false → E.is_flushed err.new ≡ true }
 {
@@ -40,6 +41,7 @@ pub(crate) fn status_of<E: Sink>(put: Result<(), DeviceFault>, err: &mut E) -> u
 fn put_text<W: Sink>(text: &[u8], sink: &mut W) -> Result<(), DeviceFault>
     ensures puts { Puts text.now result (turn W.written W.has_failed sink.old sink.new) }
     ensures flushed { OnOk result (W.is_flushed sink.new ≡ true) }
+    ensures passed_out { W.is_flushed sink.old ≡ true → W.has_failed sink.new ≡ false → W.is_flushed sink.new ≡ true }
 {
     put_all(sink, text)?;
     sink.flush()

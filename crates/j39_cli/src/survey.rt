@@ -65,6 +65,7 @@ pub(crate) fn perform<R: Source, W: Sink, E: Sink>(
         (turn W.written W.has_failed sink.old sink.new)
         (turn E.written E.has_failed err.old err.new) }
     ensures flushed { result ≡ 0 → W.is_flushed sink.new ≡ true }
+    ensures passed_out { W.is_flushed sink.old ≡ true → W.has_failed sink.new ≡ false → W.is_flushed sink.new ≡ true }
     ensures passed_on { result ≡ 1 → E.has_failed err.new ≡ false → E.is_flushed err.new ≡ true }
 {
     match j39_reports::survey(alloc, groups, source, sink, LOG_LIMIT) {

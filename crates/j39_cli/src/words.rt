@@ -1,5 +1,5 @@
 //! From words to a task.
-ghost use Rattle.std.specs.Prelude.{◌≡◌, ◌≢◌, ◌∷◌, [], Err, IfErr, IfOk, List, None, OnOk, Some, codes, map, true};
+ghost use Rattle.std.specs.Prelude.{◌≡◌, ◌≢◌, ◌∷◌, [], Err, IfErr, IfOk, IsErrAnd, List, None, OnOk, Some, codes, map, true};
 ghost use Rattle.clap.specs.Words.{HasMatchesOf, Row, Text, first_value, found_of, kind_of};
 ghost use Rattle.clap.specs.Words.{fault_of, subcommand_name_of, subcommand_of, subcommand_rows_of, takes};
 ghost use Rattle.j39_cli.specs.Command.{line_app};
@@ -7,6 +7,7 @@ ghost use Rattle.j39_cli.specs.CommandWords.{CommandWords, HasTexts, HasValues, 
 ghost use Rattle.j39_cli.specs.Spelling.{IsEntered, IsSpelled};
 ghost use Rattle.j39_cli.specs.Answer.{IsInput, IsSpnsValue};
 ghost use Rattle.j39_cli.specs.LogCommand.{format_of};
+ghost use Rattle.j39_cli.specs.Refused.{IsRefusal, IsSaid};
 ghost use Rattle.j39_cli.specs.Rules.{is_given};
 ghost use Rattle.j39_cli.specs.Task.{IsInRange};
 
@@ -37,6 +38,10 @@ pub fn parse<'a, S: AsStr>(alloc: Global, words: &'a [S]) -> Result<Task<'a>, Pa
         → IsEntered (subcommand_of line_app (map S.text words.entry.now)) s → IsAnswer s result }
     ensures task { IfOk result (λ _. (s : CommandWords)
         × IsSpelled (map S.text words.entry.now) s × IsAnswer s result) }
+
+    // Words in which clap finds a fault are refused: by one of the kinds of its faults, or memory ran out.
+    ensures refused { fault_of line_app (map S.text words.entry.now) ≢ []
+        → IsErrAnd result (IsRefusal (fault_of line_app (map S.text words.entry.now))) }
 {
     match matched(alloc, words) {
         Ok(matches) => task_of(alloc, &matches),
@@ -50,6 +55,7 @@ fn matched<'a, S: AsStr>(alloc: Global, words: &'a [S]) -> Result<ArgMatches<'a>
     ensures faultless { OnOk result (fault_of line_app (map S.text words.entry.now) ≡ []) }
     ensures err { IfErr result (λ fault. takes line_app (map S.text words.entry.now) ≡ true
         → fault ≡ ParseFault.Memory) }
+    ensures refused { IfErr result (IsRefusal (fault_of line_app (map S.text words.entry.now))) }
 {
     let Ok(line) = line(alloc) else {
         return Err(ParseFault::Memory);
@@ -61,7 +67,7 @@ fn matched<'a, S: AsStr>(alloc: Global, words: &'a [S]) -> Result<ArgMatches<'a>
 }
 
 fn fault_of(alloc: Global, error: &Error) -> ParseFault
-    ensures { kind_of error.now ≡ ErrorKind.OutOfMemory → result ≡ ParseFault.Memory }
+    ensures { IsSaid (kind_of error.now) result }
 {
     let kind = error.kind();
     if kind == ErrorKind::OutOfMemory {

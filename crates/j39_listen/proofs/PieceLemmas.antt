@@ -147,6 +147,11 @@ pub takes_then_keeps : {A : Type 0} (has_met : Meeting A) (makes : Making) → B
 takes_then_keeps has_met makes begins run run' piece a b c takes keeps = λ given taken held h more.
     front_kept makes given ((taken ++ piece) ++ more) held b c (front_of_more has_met makes begins given (taken ++ piece) more run' held b (takes given taken held h)) keeps
 
+pub stops_then_keeps : {A : Type 0} (has_met : Meeting A) (makes : Making) (run : Pieces A) (piece : List ℕ) (a b c : Option (List ℕ))
+    → StopsBytes has_met makes run piece a b → Keeps b c → StopsBytes has_met makes run piece a c
+stops_then_keeps has_met makes run piece a b c stops keeps = λ given taken held h more.
+    front_kept makes given ((taken ++ piece) ++ more) held b c (stops given taken held h more) keeps
+
 -- ---- of the whole log
 
 pub front_of_no_more : (makes : Making) (given : Option (List ℕ)) (taken : List ℕ) (old new : Option (List ℕ)) → WritesFrontOfMore makes given taken old new → WritesFront makes given taken old new
@@ -182,6 +187,10 @@ end_stops has_met makes run a b stops = λ given taken held h.
 pub end_none : {A : Type 0} (has_met : Meeting A) (makes : Making) → Begins has_met makes → (run : Pieces A) (a b : Option (List ℕ)) → b ≡ a → FrontAtEnd has_met makes run a b
 end_none has_met makes begins run a b none = λ given taken held h.
     subst (WritesFront makes given taken held) (sym none) (front_of_taken has_met makes begins given taken run held a h)
+
+pub end_then_keeps : {A : Type 0} (has_met : Meeting A) (makes : Making) (run : Pieces A) (a b c : Option (List ℕ)) → FrontAtEnd has_met makes run a b → Keeps b c
+    → FrontAtEnd has_met makes run a c
+end_then_keeps has_met makes run a b c front keeps = λ given taken held h. front_kept makes given taken held b c (front given taken held h) keeps
 
 pub end_fails : {A : Type 0} (has_met : Meeting A) (makes : Making) (run : Pieces A) (p' : Lines A) (a b c : Option (List ℕ))
     → ((begun : List ℕ) → HasBegun run.splitter begun → ReadsLast has_met begun run.lines p' a b)

@@ -52,3 +52,5 @@ pub record PassesOn {T : Type 0} (result : Result T RunFault) (before after : Bo
   pub at_end : OnOk result (after ≡ true)
   -- and where a read ended the run, if all was passed on before the run
   pub at_reads : (result ≡ Err Read) ⊎ (result ≡ Err TooLong) → before ≡ true → after ≡ true
+  -- so where memory was refused: what the lines before it made is passed on
+  pub at_memory : result ≡ Err Memory → before ≡ true → after ≡ true

@@ -1,5 +1,6 @@
 //! A run over pieces of a log.
 ghost use Rattle.std.specs.Prelude.{◌≡◌, ◌≢◌, ◌<◌, ◌≤◌, ◌++◌, ℕ, List, [], Option, true, OnOk, OnErr, IfOk, Err, length};
+ghost use Rattle.std.specs.Io.KnownBytes.{Keeps};
 ghost use Rattle.j39_io.specs.Turn.{turn};
 ghost use Rattle.j39_log.specs.Splitter.{HasBegun};
 ghost use Rattle.j39_listen.specs.AccountCalls.{LeavesWriter};
@@ -52,6 +53,7 @@ impl<A: Account> Pieces<A> {
         ensures write { result ≡ Err Write → W.has_failed sink.new ≡ true }
         ensures unmarked { result ≢ Err Write → W.has_failed sink.new ≡ W.has_failed sink.old }
         ensures flushed { OnOk result (W.is_flushed sink.new ≡ true) }
+        ensures passed_on { result ≡ Err Memory → W.is_flushed sink.new ≡ true }
         ensures asked { result ≡ Err Memory → (subject : A.Subject)
             → Behind (A.has_met subject) self.old (W.written sink.old)
             (λ given taken held. AsksAmong (A.asks subject) given (taken ++ piece.now)) }
@@ -59,7 +61,7 @@ impl<A: Account> Pieces<A> {
         A::laws();
         match self.take_lines(piece, sink) {
             Ok(()) => {}
-            Err(fault) => return Err(fault),
+            Err(fault) => return Err(stop(fault, sink)),
         }
         match sink.flush() {
             Ok(()) => Ok(()),
@@ -102,6 +104,7 @@ impl<A: Account> Pieces<A> {
         ensures write { result ≡ Err Write → W.has_failed sink.new ≡ true }
         ensures unmarked { result ≢ Err Write → W.has_failed sink.new ≡ W.has_failed sink.old }
         ensures flushed { OnOk result (W.is_flushed sink.new ≡ true) }
+        ensures passed_on { result ≡ Err Memory → W.is_flushed sink.new ≡ true }
         ensures asked { result ≡ Err Memory → (subject : A.Subject)
             → Behind (A.has_met subject) self.old (W.written sink.old)
             (λ given taken held. AsksAmong (A.asks subject) given taken) }
@@ -109,7 +112,7 @@ impl<A: Account> Pieces<A> {
         A::laws();
         match self.take_last(sink) {
             Ok(()) => {}
-            Err(fault) => return Err(fault),
+            Err(fault) => return Err(stop(fault, sink)),
         }
         match self.lines.close(sink) {
             Ok(counts) => Ok(counts),
@@ -160,6 +163,29 @@ impl<A: Account> Pieces<A> {
         match self.splitter.finish() {
             None => Ok(()),
             Some(raw) => self.lines.read_raw(raw, sink),
+        }
+    }
+}
+
+/// The fault that ends a run: before want of memory what was written is passed on, and a fault in that is the writer's.
+#[cold]
+#[inline(never)]
+fn stop<W: Sink>(fault: LineFault, sink: &mut W) -> LineFault
+    ensures bytes { Keeps (W.written sink.old) (W.written sink.new) }
+    ensures memory { result ≡ Memory → fault ≡ Memory }
+    ensures passed_on { result ≡ Memory → W.is_flushed sink.new ≡ true }
+    ensures write { fault ≡ Write → result ≡ Write }
+    ensures mark { result ≡ Write → (fault ≡ Write → W.has_failed sink.old ≡ true) → W.has_failed sink.new ≡ true }
+    ensures unmarked { result ≢ Write → W.has_failed sink.new ≡ W.has_failed sink.old }
+{
+    match fault {
+        LineFault::Write => LineFault::Write,
+        LineFault::Memory => {
+            if sink.flush().is_ok() {
+                LineFault::Memory
+            } else {
+                LineFault::Write
+            }
         }
     }
 }

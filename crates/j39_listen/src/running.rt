@@ -136,6 +136,7 @@ fn take<A: Account, W: Sink>(
         → Behind (A.has_met subject) pieces.old (W.written sink.old)
         (λ given taken held. AsksAmong (A.asks subject) given (taken ++ piece.now)) }
     ensures flushed { OnOk result (W.is_flushed sink.new ≡ true) }
+    ensures passed_on { result ≡ Err Memory → W.is_flushed sink.new ≡ true }
     ensures not_read { result ≢ Err Read }
     ensures not_long { result ≢ Err TooLong }
 {
@@ -160,6 +161,7 @@ fn finish<A: Account, W: Sink>(pieces: &mut Pieces<A>, sink: &mut W) -> Result<C
         → Behind (A.has_met subject) pieces.old (W.written sink.old)
         (λ given taken held. AsksAmong (A.asks subject) given taken) }
     ensures flushed { OnOk result (W.is_flushed sink.new ≡ true) }
+    ensures passed_on { result ≡ Err Memory → W.is_flushed sink.new ≡ true }
     ensures not_read { result ≢ Err Read }
     ensures not_long { result ≢ Err TooLong }
 {

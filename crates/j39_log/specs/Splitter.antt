@@ -34,6 +34,11 @@ abbrev pub IsRawLine : RawLine → List ℕ → Type 0
 IsRawLine (Whole bytes) line = bytes.now ≡ line
 IsRawLine (Long front) line = (256 < length line) × (front.now ≡ take 256 line)
 
+-- it is the front of a line that is longer
+abbrev pub IsLong : RawLine → Type 0
+IsLong (Whole bytes) = ⊥
+IsLong (Long front) = Unit {0}
+
 -- the answer to a piece, after these bytes of a line: none where the piece has no newline, else the line that it ends
 abbrev pub AnswersPiece : List ℕ → List ℕ → ℕ → Option RawLine → Type 0
 AnswersPiece begun piece taken None = HasNoNewline piece × (taken ≡ length piece)

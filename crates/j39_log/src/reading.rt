@@ -2,7 +2,7 @@
 ghost use Rattle.std.specs.Prelude.{◌≡◌, ℕ, List, IfSome, Some};
 ghost use Rattle.j39_log.specs.Line.{IsFrameLine};
 ghost use Rattle.j39_log.specs.LineRead.{spelled_of};
-ghost use Rattle.j39_log.specs.Spelled.{Spelled, Spells};
+ghost use Rattle.j39_log.specs.Spelled.{Spelled, Spells, unread};
 
 use crate::fast::{frame_on, read_plain};
 use crate::{Bus, LastSecond, Line};
@@ -27,12 +27,13 @@ pub enum RawLine<'a> {
 }
 
 impl<'a> RawLine<'a> {
-    ghost use Rattle.j39_log.specs.Splitter.{IsRawLine};
+    ghost use Rattle.j39_log.specs.Splitter.{IsLong, IsRawLine};
 
     /// Reads the line.
     #[inline(always)]
     pub fn read(self) -> Line<'a>
-        ensures { (line : List ℕ) → IsRawLine self.entry line → Spells line (spelled_of result) }
+        ensures spelled { (line : List ℕ) → IsRawLine self.entry line → Spells line (spelled_of result) }
+        ensures long { IsLong self.entry → spelled_of result ≡ unread }
     {
         match self {
             RawLine::Whole(line) => read_line(line),

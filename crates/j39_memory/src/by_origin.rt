@@ -24,7 +24,7 @@ pub struct ByOrigin<T: Drop> {
 }
 
 impl<T: Drop> ByOrigin<T> {
-    ghost use Rattle.j39_memory.specs.ByOrigin.{pairs_of};
+    ghost use Rattle.j39_memory.specs.ByOrigin.{pairs_of, room_in};
 
     /// No values.
     #[inline]
@@ -91,6 +91,7 @@ impl<T: Drop> ByOrigin<T> {
         requires { place_in (pairs_of self.old) origin ≡ None }
         ensures added { OnOk result (pairs_of self.new ≡ pairs_of self.old ++ (origin, value) ∷ []) }
         ensures refused { OnErr result (pairs_of self.new ≡ pairs_of self.old) }
+        ensures full { OnErr result (room_in self.old ≡ 0) }
     {
         match self.values.insert(origin, value) {
             Ok(_) => Ok(()),

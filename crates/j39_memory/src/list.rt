@@ -25,11 +25,12 @@ pub struct List<T: Copy> {
 }
 
 impl<T: Copy + Default> List<T> {
-    ghost use Rattle.j39_memory.specs.Items.{items_of};
+    ghost use Rattle.j39_memory.specs.Items.{first_places, items_of, places_of};
 
     /// The list without an item. It takes no memory.
     pub fn new(alloc: Global) -> List<T>
-        ensures { items_of result ≡ [] }
+        ensures items { items_of result ≡ [] }
+        ensures places { places_of result ≡ first_places }
     {
         List {
             items: Vec::new(alloc),
@@ -38,7 +39,7 @@ impl<T: Copy + Default> List<T> {
 }
 
 impl<T: Copy> List<T> {
-    ghost use Rattle.j39_memory.specs.Items.{items_of};
+    ghost use Rattle.j39_memory.specs.Items.{items_of, places_of};
 
     /// Puts an item behind the others. An error comes where memory is refused, and from nothing else.
     #[inline]
@@ -46,6 +47,7 @@ impl<T: Copy> List<T> {
         requires room { length (items_of self.old) < 65536 }
         ensures ok { OnOk result (items_of self.new ≡ items_of self.old ++ item ∷ []) }
         ensures err { OnErr result (items_of self.new ≡ items_of self.old) }
+        ensures full { OnErr result (places_of self.old ≤ length (items_of self.old)) }
     {
         match self.items.push(item) {
             Ok(()) => Ok(()),
@@ -81,6 +83,7 @@ impl<T: Copy> List<T> {
             ≡ filter (λ item. T.key_of item == key) (items_of self.old) }
         ensures len { length (items_of self.new) ≡ length (items_of self.old) }
         ensures made { length (items_of self.old) ≤ 20 → IsOk result }
+        ensures err { OnErr result (items_of self.new ≡ items_of self.old) }
     {
         self.items.sort_by_key(|item| item.key())?;
         Ok(())

@@ -40,7 +40,7 @@ pub struct ByOrigin<T: Drop> {
 }
 
 impl<T: Drop> ByOrigin<T> {
-    ghost use Rattle.j39_memory_in_place.specs.ByOrigin.{pairs_of};
+    ghost use Rattle.j39_memory_in_place.specs.ByOrigin.{pairs_of, room_in};
 
     /// No values.
     #[inline]
@@ -133,6 +133,7 @@ impl<T: Drop> ByOrigin<T> {
         requires { place_in (pairs_of self.old) origin ≡ None }
         ensures added { OnOk result (pairs_of self.new ≡ pairs_of self.old ++ (origin, value) ∷ []) }
         ensures refused { OnErr result (pairs_of self.new ≡ pairs_of self.old) }
+        ensures full { OnErr result (room_in self.old ≡ 0) }
     {
         let place = self.count;
         if place >= PLACES {

@@ -27,11 +27,12 @@ pub struct List<T: Copy> {
 }
 
 impl<T: Copy + Default> List<T> {
-    ghost use Rattle.j39_memory_in_place.specs.Items.{items_of};
+    ghost use Rattle.j39_memory_in_place.specs.Items.{first_places, items_of, places_of};
 
     /// The list without an item. It takes no memory.
     pub fn new(_: Global) -> List<T>
-        ensures { items_of result ≡ [] }
+        ensures items { items_of result ≡ [] }
+        ensures places { places_of result ≡ first_places }
     {
         List {
             places: [T::default(); MOST],
@@ -41,7 +42,7 @@ impl<T: Copy + Default> List<T> {
 }
 
 impl<T: Copy> List<T> {
-    ghost use Rattle.j39_memory_in_place.specs.Items.{items_of};
+    ghost use Rattle.j39_memory_in_place.specs.Items.{items_of, places_of};
 
     /// Puts an item behind the others. It takes no memory, and answers no error.
     #[inline]
@@ -49,6 +50,7 @@ impl<T: Copy> List<T> {
         requires room { length (items_of self.old) < 65536 }
         ensures ok { OnOk result (items_of self.new ≡ items_of self.old ++ item ∷ []) }
         ensures err { OnErr result (items_of self.new ≡ items_of self.old) }
+        ensures full { OnErr result (places_of self.old ≤ length (items_of self.old)) }
     {
         self.places[self.len] = item;
         self.len += 1;
@@ -83,6 +85,7 @@ impl<T: Copy> List<T> {
             ≡ filter (λ item. T.key_of item == key) (items_of self.old) }
         ensures len { length (items_of self.new) ≡ length (items_of self.old) }
         ensures made { length (items_of self.old) ≤ 20 → IsOk result }
+        ensures err { OnErr result (items_of self.new ≡ items_of self.old) }
     {
         settle_all(&mut self.places[..self.len]);
         Ok(())

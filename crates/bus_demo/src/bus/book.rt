@@ -1,7 +1,8 @@
 //! What was handed in to send, and what became of it.
-ghost use Rattle.std.specs.Prelude.{◌≡◌, ◌∷◌, ◌++◌, [], length, false};
+ghost use Rattle.std.specs.Prelude.{◌≡◌, ◌∷◌, ◌++◌, ◌↔◌, [], IfSome, IsTrue, None, length, false, true};
 ghost use Rattle.std.specs.List.{count_by};
-ghost use Rattle.std.specs.Result.{IfOk, OnOk};
+ghost use Rattle.std.specs.Result.{IfOk, OnErr, OnOk};
+ghost use Rattle.bus_demo.specs.Delivered.{IsLastOf, IsNoneOf, IsOf, IsWholeAt};
 ghost use Rattle.bus_demo.specs.Fates.{is_whole};
 
 use j39_address::Name;
@@ -35,6 +36,32 @@ pub struct Handed {
     pub fate: Fate,
 }
 
+/// Whether it is the message that a receiver delivered: it goes to one controller, and has the source, the group and the
+/// payload of what was delivered.
+fn is_of(handed: &Handed, delivered: &Received) -> bool
+    ensures { IsTrue result ↔ IsOf delivered.now handed.now }
+{
+    handed.to.is_some()
+        && handed.address == delivered.source
+        && handed.pgn == delivered.pgn
+        && handed.payload.as_slice() == delivered.payload.as_slice()
+}
+
+/// The number of the last message that is the one delivered.
+fn last_of(handed: &[Handed], delivered: &Received) -> Option<usize>
+    ensures last { IfSome result (IsLastOf delivered.now handed.now) }
+    ensures none { result ≡ None → IsNoneOf delivered.now handed.now 0 }
+{
+    let mut place = handed.len();
+    'places: while place > 0 {
+        place -= 1;
+        if is_of(&handed[place], delivered) {
+            return Some(place);
+        }
+    }
+    None
+}
+
 /// The book of a bus. It knows nothing of any log.
 #[derive(Drop)]
 pub struct Book {
@@ -47,7 +74,7 @@ pub struct Book {
 impl Book {
     ghost use Rattle.std.specs.Prelude.{◌≡◌, ℕ, Some, slice_get};
     ghost use Rattle.bus_demo.specs.declared.bus.book.Handed.{Handed};
-    ghost use Rattle.bus_demo.specs.declared.bus.book.Fate.TheVariants.{Open};
+    ghost use Rattle.bus_demo.specs.declared.bus.book.Fate.TheVariants.{Open, Whole};
 
     /// An empty book.
     pub fn new(alloc: Global) -> Book
@@ -67,6 +94,7 @@ impl Book {
     pub fn hand_in(&mut self, message: Handed) -> Result<usize, AllocError>
         ensures number { IfOk result (λ number. number ≡ length self.old.handed.items) }
         ensures last { OnOk result (self.new.handed.items ≡ self.old.handed.items ++ message ∷ []) }
+        ensures kept { OnErr result (self.new.handed.items ≡ self.old.handed.items) }
         ensures rest { self.new ≡ record self.old { handed = self.new.handed } }
     {
         let number = self.handed.len();
@@ -77,6 +105,14 @@ impl Book {
     /// Notes that a frame was seen on the bus.
     pub fn seen(&mut self, part: MessageFrame, now: Stamp)
         ensures open { part.is_last ≡ false → self.new ≡ self.old }
+        ensures last { (message : Handed) → part.is_last ≡ true
+            → slice_get self.old.handed.items part.number ≡ Some message → message.fate ≡ Open
+            → slice_get self.new.handed.items part.number ≡ Some (record message { fate = Whole now }) }
+        ensures settled { (message : Handed) → slice_get self.old.handed.items part.number ≡ Some message
+            → (message.fate ≡ Open → ⊥) → slice_get self.new.handed.items part.number ≡ Some message }
+        ensures others { (k : ℕ) → (k ≡ part.number → ⊥)
+            → slice_get self.new.handed.items k ≡ slice_get self.old.handed.items k }
+        ensures count { length self.new.handed.items ≡ length self.old.handed.items }
         ensures rest { self.new ≡ record self.old { handed = self.new.handed } }
     {
         if part.is_last {
@@ -91,6 +127,8 @@ impl Book {
             → slice_get self.new.handed.items k ≡ slice_get self.old.handed.items k }
         ensures open { (message : Handed) → slice_get self.old.handed.items number ≡ Some message → message.fate ≡ Open
             → slice_get self.new.handed.items number ≡ Some (record message { fate = fate }) }
+        ensures settled { (message : Handed) → slice_get self.old.handed.items number ≡ Some message
+            → (message.fate ≡ Open → ⊥) → slice_get self.new.handed.items number ≡ Some message }
         ensures rest { self.new ≡ record self.old { handed = self.new.handed } }
     {
         if let Some(message) = self.handed.get_mut(number) {
@@ -104,29 +142,41 @@ impl Book {
     /// payload to one controller is whole.
     pub fn deliver(&mut self, message: Received) -> Result<(), AllocError>
         ensures last { OnOk result (self.new.deliveries.items ≡ self.old.deliveries.items ++ message ∷ []) }
+        ensures kept { OnErr result (self.new.deliveries.items ≡ self.old.deliveries.items) }
+        ensures whole { (number : ℕ) (handed : Handed) → IsLastOf message self.old.handed.items number
+            → slice_get self.old.handed.items number ≡ Some handed → handed.fate ≡ Open
+            → IsWholeAt message.stamp handed (slice_get self.new.handed.items number) }
+        ensures others { (k : ℕ) → (IsLastOf message self.old.handed.items k → ⊥)
+            → slice_get self.new.handed.items k ≡ slice_get self.old.handed.items k }
         ensures count { length self.new.handed.items ≡ length self.old.handed.items }
         ensures done { self.new.done ≡ self.old.done }
     {
-        let mut number = None;
-        for (place, handed) in self.handed.iter().enumerate() {
-            if handed.to.is_some()
-                && handed.address == message.source
-                && handed.pgn == message.pgn
-                && handed.payload.as_slice() == message.payload.as_slice()
-            {
-                number = Some(place);
-            }
-        }
-        if let Some(number) = number {
-            self.settle(number, Fate::Whole(message.stamp));
-        }
+        self.note_whole(&message);
         self.deliveries.push(message)?;
         Ok(())
     }
 
+    /// Notes that the message that was delivered is whole.
+    fn note_whole(&mut self, delivered: &Received)
+        ensures whole { (number : ℕ) (handed : Handed) → IsLastOf delivered.now self.old.handed.items number
+            → slice_get self.old.handed.items number ≡ Some handed → handed.fate ≡ Open
+            → IsWholeAt delivered.now.stamp handed (slice_get self.new.handed.items number) }
+        ensures others { (k : ℕ) → (IsLastOf delivered.now self.old.handed.items k → ⊥)
+            → slice_get self.new.handed.items k ≡ slice_get self.old.handed.items k }
+        ensures count { length self.new.handed.items ≡ length self.old.handed.items }
+        ensures rest { self.new ≡ record self.old { handed = self.new.handed } }
+    {
+        match last_of(self.handed.as_slice(), delivered) {
+            Some(number) => self.settle(number, Fate::Whole(delivered.stamp)),
+            None => {}
+        }
+    }
+
     /// Notes that a sender counts a message as done.
     pub fn count_done(&mut self, number: usize) -> Result<(), AllocError>
-        ensures { OnOk result (self.new.done.items ≡ self.old.done.items ++ number ∷ []) }
+        ensures last { OnOk result (self.new.done.items ≡ self.old.done.items ++ number ∷ []) }
+        ensures kept { OnErr result (self.new.done.items ≡ self.old.done.items) }
+        ensures rest { self.new ≡ record self.old { done = self.new.done } }
     {
         self.done.push(number)?;
         Ok(())

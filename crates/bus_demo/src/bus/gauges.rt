@@ -1,9 +1,10 @@
 //! What a controller measures, and the payloads that say it (J1939-71).
-ghost use Rattle.std.specs.Prelude.{◌≡◌, ◌<◌, ℕ, None, Some};
+ghost use Rattle.std.specs.Prelude.{◌≡◌, ◌<◌, ◌+◌, ◌*◌, ◌-ℤ◌, ℕ, None, Some, pos};
 ghost use Rattle.j39_frame.specs.Pgn.{pgn_raw};
 ghost use Rattle.j39_groups.specs.Slots.{IsRawOf};
 ghost use Rattle.bus_demo.specs.Groups.{number_of, priority_of};
 ghost use Rattle.bus_demo.specs.Payloads.{distance_bytes, engine_bytes, temperature_bytes};
+ghost use Rattle.bus_demo.specs.Shown.{GoesOn, Shows, ShowsDistance, ShowsEngine, ShowsTemperatures};
 
 use j39_frame::Pgn;
 use j39_groups::raw_of;
@@ -70,13 +71,16 @@ impl Gauges {
     /// A number below a limit, which is above 0.
     pub fn below(&mut self, limit: u32) -> u32
         requires { 0 < limit }
-        ensures { result < limit }
+        ensures below { result < limit }
+        ensures steps { self.new.steps ≡ self.old.steps }
     {
         self.random.next_u32() % limit
     }
 
     /// What a group's frame says now.
-    pub fn payload(&mut self, group: Group) -> Option<[u8; 8]> {
+    pub fn payload(&mut self, group: Group) -> Option<[u8; 8]>
+        ensures { Shows group self.old.steps self.new.steps result }
+    {
         match group {
             Group::Engine => self.engine(),
             Group::Temperatures => self.temperatures(),
@@ -85,23 +89,59 @@ impl Gauges {
     }
 
     /// EEC1: 600 to 2,400 rpm, in steps of 0.125 rpm.
-    fn engine(&mut self) -> Option<[u8; 8]> {
+    fn engine(&mut self) -> Option<[u8; 8]>
+        ensures shows { ShowsEngine result }
+        ensures steps { self.new.steps ≡ self.old.steps }
+    {
         engine_payload(600_000 + 125 * i64::from(self.below(14_401)))
     }
 
     /// ET1: coolant of -20 to 99 degrees, and oil of 80 to 111 degrees, in steps of 0.03125 degrees.
-    fn temperatures(&mut self) -> Option<[u8; 8]> {
-        let coolant = i64::from(self.below(120)) - 20;
-        let oil = 8_000_000 + 3_125 * i64::from(self.below(1_000));
+    fn temperatures(&mut self) -> Option<[u8; 8]>
+        ensures shows { ShowsTemperatures result }
+        ensures steps { self.new.steps ≡ self.old.steps }
+    {
+        let coolant = coolant_temperature(self.below(120));
+        let oil = oil_temperature(self.below(1_000));
         temperature_payload(coolant, oil)
     }
 
     /// VD: this trip, which goes on by up to 500 m at a time, and 1,000 km before it.
-    fn distance(&mut self) -> Option<[u8; 8]> {
+    fn distance(&mut self) -> Option<[u8; 8]>
+        ensures shows { ShowsDistance self.new.steps result }
+        ensures goes_on { GoesOn self.old.steps self.new.steps }
+    {
         self.steps = self.steps.saturating_add(self.below(5));
-        let trip = 125 * i64::from(self.steps);
-        distance_payload(trip, 1_000_000 + trip)
+        distance_payload(trip_distance(self.steps), total_distance(self.steps))
     }
+}
+
+/// The temperature of the coolant so many degrees above -20.
+fn coolant_temperature(steps: u32) -> i64
+    ensures { result ≡ pos steps -ℤ pos 20 }
+{
+    i64::from(steps) - 20
+}
+
+/// The temperature of the oil so many steps above 80 degrees, in 0.00001 degrees.
+fn oil_temperature(steps: u32) -> i64
+    ensures { result ≡ pos (8000000 + 3125 * steps) }
+{
+    8_000_000 + 3_125 * i64::from(steps)
+}
+
+/// The distance of a trip of so many steps, in metres.
+fn trip_distance(steps: u32) -> i64
+    ensures { result ≡ pos (125 * steps) }
+{
+    125 * i64::from(steps)
+}
+
+/// The distance of this trip and of all before it.
+fn total_distance(steps: u32) -> i64
+    ensures { result ≡ pos (1000000 + 125 * steps) }
+{
+    1_000_000 + 125 * i64::from(steps)
 }
 
 /// EEC1 with this engine speed, in thousandths of an rpm; `None` where no raw number has it.

@@ -1,14 +1,17 @@
 //! A controller of the demo: the stack's own, with what it sends of its own accord.
-ghost use Rattle.std.specs.Prelude.{◌≡◌, ◌↔◌, ◌∷◌, IfSome, IsSome, List, Some, drop};
+ghost use Rattle.std.specs.Prelude.{◌≡◌, ◌↔◌, ◌∷◌, ◌+◌, ◌<◌, ◌≤◌, ◌^◌, [], IfSome, IsOk, IsSome, List, None, OnOk, Some, drop, length};
 ghost use Rattle.std.specs.Option.{option_map};
 ghost use Rattle.j39_frame.specs.Address.{IsAddress};
 ghost use Rattle.j39_frame.specs.Identifier.{id_raw};
+ghost use Rattle.j39_frame.specs.Stamp.{stamp_micros};
 ghost use Rattle.j39_address.specs.Name.{name_raw};
 ghost use Rattle.j39_address.specs.Node.{Node};
-ghost use Rattle.j39_controller.specs.Controller.{HasNode, IsNew, KeepsButWaiting, begun_in, waiting_in};
+ghost use Rattle.j39_controller.specs.Controller.{HasNode, IsNew, KeepsButReceived, KeepsButTold, KeepsButWaiting};
+ghost use Rattle.j39_controller.specs.Controller.{begun_in, received_in, told_in, waiting_in};
 ghost use Rattle.j39_controller.specs.MaySend.{MaySend, held_in};
 ghost use Rattle.j39_controller.specs.Outbox.{first_id};
 ghost use Rattle.j39_controller.specs.declared.outbox.Wish.{Wish};
+ghost use Rattle.bus_demo.specs.Playing.{IsHeard, IsTurned};
 
 use crate::bus::book::{Book, Fate};
 use crate::bus::gauges::Gauges;
@@ -36,6 +39,10 @@ impl Player {
     pub fn new(alloc: Global, role: &Role, mut gauges: Gauges) -> Option<Player>
         ensures known { IsSome result ↔ IsAddress role.now.preferred }
         ensures fresh { IfSome result (λ player. IsNew role.now.name role.now.preferred player.controller) }
+
+        // Its loop turns first within 10 ms of its start.
+        ensures due { IfSome result (λ player. role.now.starts + 10000 < 2 ^ 64
+            → (role.now.starts ≤ player.due) × (player.due < role.now.starts + 10000)) }
     {
         let phase = u64::from(gauges.below(10_000));
         Some(Player {
@@ -87,29 +94,53 @@ impl Player {
     }
 
     /// Lets time pass: the loop turns every 10 ms.
-    pub fn pass(&mut self, now: Stamp, book: &mut Book) -> Result<(), AllocError> {
+    pub fn pass(&mut self, now: Stamp, book: &mut Book) -> Result<(), AllocError>
+        ensures waits { stamp_micros now < self.old.due
+            → IsOk result × (self.new ≡ self.old) × (book.new ≡ book.old) }
+        ensures turns { OnOk result (self.old.due ≤ stamp_micros now → IsTurned self.old (stamp_micros now) self.new) }
+    {
         if now.micros() < self.due {
             return Ok(());
         }
         self.due = self.due.saturating_add(TURN);
         self.controller.pass(now)?;
-        if let Some(address) = self.controller.held() {
-            self.publisher
-                .turn(address, now, &mut self.controller, book)?;
-        }
+        self.publish(now, book)?;
         self.controller.turn(now)?;
         self.settle(book)
     }
 
+    /// Sends what is due, while an address is held.
+    fn publish(&mut self, now: Stamp, book: &mut Book) -> Result<(), AllocError>
+        ensures silent { (node : Node) → HasNode self.old.controller node → held_in node.status ≡ None
+            → self.new ≡ self.old }
+        ensures rest { self.new ≡ record self.old { controller = self.new.controller; publisher = self.new.publisher } }
+    {
+        match self.controller.held() {
+            Some(address) => self
+                .publisher
+                .turn(address, now, &mut self.controller, book),
+            None => Ok(()),
+        }
+    }
+
     /// Hears a frame that another controller sent.
-    pub fn hear(&mut self, frame: &Frame, book: &mut Book) -> Result<(), AllocError> {
+    pub fn hear(&mut self, frame: &Frame, book: &mut Book) -> Result<(), AllocError>
+        ensures heard { OnOk result (IsHeard self.old frame.now self.new) }
+        ensures count { length book.new.handed.items ≡ length book.old.handed.items }
+        ensures rest { self.new ≡ record self.old { controller = self.new.controller } }
+    {
         self.controller.hear(frame)?;
         self.deliver(book)?;
         self.settle(book)
     }
 
     /// Notes the transfers that were received.
-    fn deliver(&mut self, book: &mut Book) -> Result<(), AllocError> {
+    fn deliver(&mut self, book: &mut Book) -> Result<(), AllocError>
+        ensures all { OnOk result (received_in self.new.controller ≡ []) }
+        ensures kept { KeepsButReceived self.old.controller self.new.controller }
+        ensures count { length book.new.handed.items ≡ length book.old.handed.items }
+        ensures rest { self.new ≡ record self.old { controller = self.new.controller } }
+    {
         while let Some(received) = self.controller.take_received() {
             if received.destination != GLOBAL_ADDRESS {
                 book.deliver(received)?;
@@ -119,7 +150,12 @@ impl Player {
     }
 
     /// Notes how messages ended.
-    fn settle(&mut self, book: &mut Book) -> Result<(), AllocError> {
+    fn settle(&mut self, book: &mut Book) -> Result<(), AllocError>
+        ensures all { OnOk result (told_in self.new.controller ≡ []) }
+        ensures kept { KeepsButTold self.old.controller self.new.controller }
+        ensures count { length book.new.handed.items ≡ length book.old.handed.items }
+        ensures rest { self.new ≡ record self.old { controller = self.new.controller } }
+    {
         while let Some(settled) = self.controller.take_settled() {
             match settled.ending {
                 Ending::Done => book.count_done(settled.number)?,

@@ -1,4 +1,7 @@
 //! What a controller sends: single frames again and again, and planned messages, long ones among them.
+ghost use Rattle.std.specs.Prelude.{◌≡◌};
+ghost use Rattle.j39_address.specs.Name.{name_raw};
+
 use crate::bus::book::{Book, Fate, Handed};
 use crate::bus::gauges::{Gauges, Group};
 use crate::bus::role::{Plan, Rate, Role};
@@ -23,7 +26,12 @@ pub struct Publisher {
 
 impl Publisher {
     /// One that has sent nothing.
-    pub fn new(alloc: Global, role: &Role, gauges: Gauges) -> Publisher {
+    pub fn new(alloc: Global, role: &Role, gauges: Gauges) -> Publisher
+        ensures name { name_raw result.name ≡ role.now.name }
+        ensures gauges { result.gauges ≡ gauges }
+        ensures rates { result.rates ≡ role.now.rates }
+        ensures plans { result.plans.now ≡ role.now.plans.now }
+    {
         Publisher {
             alloc,
             name: Name::new(role.name),

@@ -5,6 +5,11 @@
 //! speed, temperatures and distance. The engine broadcasts its vehicle's identification (VI), and the
 //! rival sends its component's (CI) to the tool. The gearbox says which of its fault codes are active
 //! (DM1): first one, then three, then none.
+ghost use Rattle.std.specs.Prelude.{◌≡◌, ◌∷◌, ◌++◌, [], IfOk, OnOk};
+ghost use Rattle.j39_frame.specs.Address.{IsAddress};
+ghost use Rattle.bus_demo.specs.Scenario.{IsPlayed, PlaysAll};
+ghost use Rattle.bus_demo.specs.declared.bus.player.Player.{Player};
+
 use crate::bus::gauges::{Gauges, Group};
 use crate::bus::player::Player;
 use crate::bus::role::{Plan, Rate, Role};
@@ -99,7 +104,9 @@ fn rates(engine: u64, temperatures: u64, distance: u64) -> [Rate; 3] {
     ]
 }
 
-fn engine() -> Role {
+fn engine() -> Role
+    ensures { (result.name ≡ 0x8000000003401001) × (result.preferred ≡ 0) × (result.starts ≡ 0) }
+{
     Role {
         name: 0x8000_0000_0340_1001,
         preferred: 0x00,
@@ -109,7 +116,9 @@ fn engine() -> Role {
     }
 }
 
-fn rival() -> Role {
+fn rival() -> Role
+    ensures { (result.name ≡ 0x8000000001401002) × (result.preferred ≡ 0) × (result.starts ≡ 1000000) }
+{
     Role {
         name: 0x8000_0000_0140_1002,
         preferred: 0x00,
@@ -119,7 +128,9 @@ fn rival() -> Role {
     }
 }
 
-fn gearbox() -> Role {
+fn gearbox() -> Role
+    ensures { (result.name ≡ 0x8000000002401003) × (result.preferred ≡ 3) × (result.starts ≡ 20000) }
+{
     Role {
         name: 0x8000_0000_0240_1003,
         preferred: 0x03,
@@ -129,7 +140,9 @@ fn gearbox() -> Role {
     }
 }
 
-fn tool() -> Role {
+fn tool() -> Role
+    ensures { (result.name ≡ 0x8000000004401004) × (result.preferred ≡ 0xF9) × (result.starts ≡ 100000) }
+{
     Role {
         name: 0x8000_0000_0440_1004,
         preferred: TOOL,
@@ -141,14 +154,30 @@ fn tool() -> Role {
 
 /// The four controllers. The seed decides when in a time of 10 ms each one's loop turns, and what its
 /// gauges show.
-pub fn controllers(alloc: Global, seed: u64) -> Result<Vec<Player>, AllocError> {
-    let mut controllers = Vec::new(alloc);
-    let roles = [engine(), rival(), gearbox(), tool()];
-    for (place, role) in roles.iter().enumerate() {
-        let gauges = Gauges::new(seed, place as u64);
-        if let Some(controller) = Player::new(alloc, role, gauges) {
-            controllers.push(controller)?;
-        }
+pub fn controllers(alloc: Global, seed: u64) -> Result<Vec<Player>, AllocError>
+    ensures { IfOk result (λ players. PlaysAll players.items) }
+{
+    let mut players = Vec::new(alloc);
+    join(&mut players, alloc, &engine(), Gauges::new(seed, 0))?;
+    join(&mut players, alloc, &rival(), Gauges::new(seed, 1))?;
+    join(&mut players, alloc, &gearbox(), Gauges::new(seed, 2))?;
+    join(&mut players, alloc, &tool(), Gauges::new(seed, 3))?;
+    Ok(players)
+}
+
+/// Puts the controller of a role behind the others.
+fn join(
+    players: &mut Vec<Player>,
+    alloc: Global,
+    role: &Role,
+    gauges: Gauges,
+) -> Result<(), AllocError>
+    ensures { OnOk result (IsAddress role.now.preferred → (player : Player)
+        × IsPlayed role.now.name role.now.preferred player
+        × (players.new.items ≡ players.old.items ++ player ∷ [])) }
+{
+    if let Some(player) = Player::new(alloc, role, gauges) {
+        players.push(player)?;
     }
-    Ok(controllers)
+    Ok(())
 }

@@ -46,3 +46,6 @@ returns-in-Ok-clause-task g c = IfOk-weaker c.task_of.result _ _ (λ _ (s, enter
   },
   answers,
 )) c.task_of.ensures.met
+
+pub returns-in-Ok-clause-refused : goal.returns-in-Ok-clause-refused
+returns-in-Ok-clause-refused g c = λ faulty. absurd (faulty c.in-Ok.ensures.faultless)

@@ -175,3 +175,10 @@ returns-in-Err-clause-ran g c = λ subject given h.
         written = front_of_no_more (g.A.Account.makes subject) given (inv.0 ++ bytes) _ _ (c.in-Err.ensures.front subject given inv.0 _ (inv.2 subject given h));
       };
     }
+
+pub returns-in-Err-clause-flushed : goal.returns-in-Err-clause-flushed
+returns-in-Err-clause-flushed g c = record {
+  at_end = tt;
+  at_reads = search rules;
+  at_memory = λ fails before. c.in-Err.ensures.passed_on (ap Err (same_run_fault _ _ fails));
+}

@@ -12,20 +12,20 @@ use Rattle.j39_reports.proofs.SurveyLemmas.{surveys_blank, surveys_frame, survey
 use Rattle.j39_reports.proofs.surveys.log_survey.Survey.add.Goals as goal
 
 pub returns-in-Frame-clause-spelled : goal.returns-in-Frame-clause-spelled
-returns-in-Frame-clause-spelled c = λ text raw. (spelled_of c.read.result, c.read.ensures text raw)
+returns-in-Frame-clause-spelled c = λ text raw. (spelled_of c.read.result, c.read.ensures.spelled text raw)
 
 pub returns-in-Other-clause-spelled : goal.returns-in-Other-clause-spelled
-returns-in-Other-clause-spelled c = λ text raw. (spelled_of c.read.result, c.read.ensures text raw)
+returns-in-Other-clause-spelled c = λ text raw. (spelled_of c.read.result, c.read.ensures.spelled text raw)
 
 pub returns-in-Unread-clause-spelled : goal.returns-in-Unread-clause-spelled
-returns-in-Unread-clause-spelled c = λ text raw. (spelled_of c.read.result, c.read.ensures text raw)
+returns-in-Unread-clause-spelled c = λ text raw. (spelled_of c.read.result, c.read.ensures.spelled text raw)
 
 pub returns-in-Blank-clause-spelled : goal.returns-in-Blank-clause-spelled
-returns-in-Blank-clause-spelled c = λ text raw. (spelled_of c.read.result, c.read.ensures text raw)
+returns-in-Blank-clause-spelled c = λ text raw. (spelled_of c.read.result, c.read.ensures.spelled text raw)
 
 pub returns-in-Frame-clause-surveyed : goal.returns-in-Frame-clause-surveyed
 returns-in-Frame-clause-surveyed c = λ lines line raw spelled h.
-    let reads = c.in-Frame.ensures line.text raw in
+    let reads = c.in-Frame.ensures.spelled line.text raw in
     let is = one_spelled line.text line.spelled _ spelled reads in
     let more : c.saturating_add-self.result ≡ capped (c.args.self.now.lines + 1) = omega arith in
     surveys_frame lines line c.args.self.now _ c.in-Frame.bus.now c.in-Frame.frame h is more
@@ -35,7 +35,7 @@ returns-in-Frame-clause-surveyed c = λ lines line raw spelled h.
 
 pub returns-in-Other-clause-surveyed : goal.returns-in-Other-clause-surveyed
 returns-in-Other-clause-surveyed c = λ lines line raw spelled h.
-    let reads = c.in-Other.ensures line.text raw in
+    let reads = c.in-Other.ensures.spelled line.text raw in
     let is = one_spelled line.text line.spelled _ spelled reads in
     let more : c.saturating_add-self.result ≡ capped (c.args.self.now.lines + 1) = omega arith in
     surveys_other lines line c.args.self.now _ h is more refl refl
@@ -43,14 +43,14 @@ returns-in-Other-clause-surveyed c = λ lines line raw spelled h.
 
 pub returns-in-Unread-clause-surveyed : goal.returns-in-Unread-clause-surveyed
 returns-in-Unread-clause-surveyed c = λ lines line raw spelled h.
-    let is = one_spelled line.text line.spelled _ spelled (c.in-Unread.ensures line.text raw) in
+    let is = one_spelled line.text line.spelled _ spelled (c.in-Unread.ensures.spelled line.text raw) in
     let more : c.saturating_add-self.result ≡ capped (c.args.self.now.lines + 1) = omega arith in
     surveys_unread lines line c.args.self.now _ h is more refl refl refl
     (λ u text number. c.add-in-Unread.ensures (unread_in lines) u (subst (IsRawLine c.args.raw) (sym text) raw) number h.unread_are) refl
 
 pub returns-in-Blank-clause-surveyed : goal.returns-in-Blank-clause-surveyed
 returns-in-Blank-clause-surveyed c = λ lines line raw spelled h.
-    let is = one_spelled line.text line.spelled _ spelled (c.in-Blank.ensures line.text raw) in
+    let is = one_spelled line.text line.spelled _ spelled (c.in-Blank.ensures.spelled line.text raw) in
     let more : c.saturating_add-self.result ≡ capped (c.args.self.now.lines + 1) = omega arith in
     surveys_blank lines line c.args.self.now _ h is more refl refl refl refl refl
 

@@ -1,0 +1,6 @@
+-- which message was delivered
+mod BookLemmas
+-- the players that were told a frame
+mod TellingLemmas
+-- where a call ended well
+mod PlayerLemmas

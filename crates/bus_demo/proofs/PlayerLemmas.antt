@@ -1,0 +1,6 @@
+-- What is known where a call ended well.
+use Rattle.std.proofs.Common.{Ok, Err, OnOk, Result}
+
+pub on_ok : {T E : Type 0} (r : Result T E) (P Q : Type 0) → (P → Q) → OnOk r P → OnOk r Q
+on_ok (Ok x) P Q f h = f h
+on_ok (Err e) P Q f h = tt

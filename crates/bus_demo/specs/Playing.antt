@@ -1,0 +1,48 @@
+-- What the players of a bus make of time and of frames.
+use Rattle.std.specs.Prelude.{◌≡◌, ◌≢◌, ◌+◌, ◌-◌, ◌^◌, ◌<◌, ◌≤◌, ℕ, [], List, Option, None, Some, length, min, slice_get}
+use Rattle.j39_frame.specs.Frame.{FrameRecord}
+use Rattle.j39_address.specs.Node.{Node}
+use Rattle.j39_controller.specs.Controller.{HasNode, Hears, KeepsButReceived, KeepsButTold, Passes, Turns}
+use Rattle.j39_controller.specs.Controller.{received_in, told_in}
+use Rattle.j39_controller.specs.MaySend.{held_in}
+use Rattle.j39_controller.specs.declared.controller.Controller.{Controller}
+use Rattle.bus_demo.specs.declared.bus.player.Player.{Player}
+
+-- the player's controller heard the frame, and what it received and how its messages ended was noted
+pub record IsHeard (old : Player) (f : FrameRecord) (new : Player) : Type 0 where
+  pub heard : Controller
+  pub hears : Hears old.controller f heard
+  pub delivered : Controller
+  pub delivers : KeepsButReceived heard delivered
+  pub all_delivered : received_in delivered ≡ []
+  pub settles : KeepsButTold delivered new.controller
+  pub all_settled : told_in new.controller ≡ []
+
+-- the player's loop turned at this moment: time passed for its address, it published what was due where it held one, time
+-- passed for its messages, and how they ended was noted. It turns again 10 ms later
+pub record IsTurned (old : Player) (micros : ℕ) (new : Player) : Type 0 where
+  pub due : new.due ≡ min (old.due + 10000) (2 ^ 64 - 1)
+  pub passed : Controller
+  pub passes : Passes old.controller micros passed
+  pub published : Controller
+  pub silent : (node : Node) → HasNode passed node → held_in node.status ≡ None
+      → (published ≡ passed) × (new.publisher ≡ old.publisher)
+  pub turned : Controller
+  pub turns : (node : Node) → HasNode published node → Turns published micros (held_in node.status) turned
+  pub settles : KeepsButTold turned new.controller
+  pub all_settled : told_in new.controller ≡ []
+
+-- the player at a place was told the frame: it heard it, and its sender is as it was
+abbrev pub IsToldAt : ℕ → ℕ → FrameRecord → Player → Player → Type 0
+IsToldAt place sender f old new = (place ≡ sender → new ≡ old) × (place ≢ sender → IsHeard old f new)
+
+-- the first n players were told the frame, each once, and the others are as they were
+pub record AreToldBelow (n sender : ℕ) (f : FrameRecord) (old new : List Player) : Type 0 where
+  pub count : length new ≡ length old
+  pub told : (k : ℕ) (player : Player) → k < n → slice_get old k ≡ Some player
+      → (after : Player) × (slice_get new k ≡ Some after) × IsToldAt k sender f player after
+  pub others : (k : ℕ) → n ≤ k → slice_get new k ≡ slice_get old k
+
+-- all were
+abbrev pub AreTold : ℕ → FrameRecord → List Player → List Player → Type 0
+AreTold sender f old new = AreToldBelow (length old) sender f old new

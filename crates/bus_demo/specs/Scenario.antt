@@ -1,0 +1,20 @@
+-- The four controllers of the demo, each with its NAME and the address that it claims.
+use Rattle.std.specs.Prelude.{◌≡◌, ◌∷◌, ℕ, [], List}
+use Rattle.j39_controller.specs.Controller.{IsNew}
+use Rattle.bus_demo.specs.declared.bus.player.Player.{Player}
+
+-- a player that has claimed nothing yet, of this NAME and address
+abbrev pub IsPlayed : ℕ → ℕ → Player → Type 0
+IsPlayed name preferred player = IsNew name preferred player.controller
+
+-- the engine, its rival, the gearbox and the tool
+pub record PlaysAll (players : List Player) : Type 0 where
+  pub engine : Player
+  pub is_engine : IsPlayed 0x8000000003401001 0 engine
+  pub rival : Player
+  pub is_rival : IsPlayed 0x8000000001401002 0 rival
+  pub gearbox : Player
+  pub is_gearbox : IsPlayed 0x8000000002401003 3 gearbox
+  pub tool : Player
+  pub is_tool : IsPlayed 0x8000000004401004 0xF9 tool
+  pub players_are : players ≡ engine ∷ rival ∷ gearbox ∷ tool ∷ []

@@ -1,0 +1,88 @@
+-- What the program does for its words: a task over its log and by its table, or what is told in its place.
+use Rattle.std.specs.Prelude.{◌≡◌, ◌⊎◌, ◌↔◌, ℕ, false, true, IfOk, List, MatchOption, MatchResult, Some, codes}
+use Rattle.clap.specs.Words.{Text, subcommand_of, takes}
+use Rattle.j39_io.specs.Turn.{Turn, Writes}
+use Rattle.j39_groups.specs.Row.{RowRecord}
+use Rattle.j39_groups.specs.Table.{the_table}
+use Rattle.j39_table.specs.Tables.{IsFaultOf, IsTableOf}
+use Rattle.j39_table.specs.declared.fault.TableFault.{TableFault}
+use Rattle.j39_table.specs.declared.fault.TableFault.TheVariants.{Memory}
+use Rattle.j39_cli.specs.Answer.{Answer}
+use Rattle.j39_cli.specs.Command.{line_app}
+use Rattle.j39_cli.specs.CommandWords.{CommandWords, IsAnswer}
+use Rattle.j39_cli.specs.OwnTable.{table_line}
+use Rattle.j39_cli.specs.Refusal.{IsHelp, IsWrongLine, error_line, error_words, out_words}
+use Rattle.j39_cli.specs.Spelling.{IsEntered, IsSpelled}
+use Rattle.j39_cli.specs.Task.{IsPerformed, file_of, table_of}
+use Rattle.j39_cli.specs.declared.task.ParseFault.{ParseFault}
+use Rattle.j39_cli.specs.declared.task.ParseFault.TheVariants as refused
+use Rattle.j39_cli.specs.declared.task.Task.{Task}
+
+-- this line alone is told, with status 1
+pub record TellsLine (line : List ℕ) (status : ℕ) (out err : Turn) : Type 0 where
+  pub status_is : status ≡ 1
+  pub silent : out.new ≡ out.old
+  pub told : Writes err line
+
+-- that a file can't be opened is told
+abbrev pub TellsUnopened : List ℕ → ℕ → Turn → Turn → Type 0
+TellsUnopened file status out err = TellsLine (error_line (codes "cannot open ") file) status out err
+
+-- what is wrong with the table of this name is told
+abbrev pub TellsFault : List ℕ → TableFault → ℕ → Turn → Turn → Type 0
+TellsFault name fault status out err = TellsLine (table_line name fault) status out err
+
+-- the task was performed by these rows over a log that was sound before
+pub record IsDoneOver (rows : List RowRecord) (task : Task) (status : ℕ) (out err : Turn) : Type 0 where
+  pub log : Turn
+  pub sound : log.old.has_failed ≡ false
+  pub performed : IsPerformed rows task status log out err
+
+-- so it was, or its FILE can't be opened
+abbrev pub IsDoneBy : List RowRecord → Task → ℕ → Turn → Turn → Type 0
+IsDoneBy rows task status out err =
+    IsDoneOver rows task status out err
+    ⊎ ((file : List ℕ) × (file_of task ≡ Some file) × TellsUnopened file status out err)
+
+-- the task was done by the rows that a table's text says; or the text says none, and why is told
+abbrev pub IsDoneByText : List ℕ → List ℕ → Task → ℕ → Turn → Turn → Type 0
+IsDoneByText name text task status out err =
+    ((rows : List RowRecord) × IsTableOf text rows × IsDoneBy rows task status out err)
+    ⊎ ((fault : TableFault) × IsFaultOf text fault × TellsFault name fault status out err)
+
+-- the table of this name has a text, by which the task was done; or the file can't be read, or memory for its text was
+-- refused
+abbrev pub IsDoneByName : List ℕ → Task → ℕ → Turn → Turn → Type 0
+IsDoneByName name task status out err =
+    ((text : List ℕ) × IsDoneByText name text task status out err)
+    ⊎ (TellsUnopened name status out err ⊎ TellsFault name Memory status out err)
+
+-- the task was done by the table that it names, or else by the built-in one
+abbrev pub IsDone : Task → ℕ → Turn → Turn → Type 0
+IsDone task status out err =
+    MatchOption (table_of task) (IsDoneBy the_table task status out err)
+    (λ name. IsDoneByName name task status out err)
+
+-- ---- the words
+
+-- what `parse` may answer to the words, of which the first is the program's name
+pub record IsParsed (words : List Text) (answer : Answer) : Type 0 where
+  -- the command that clap enters is answered
+  pub spelled : (s : CommandWords) → takes line_app words ≡ true → IsEntered (subcommand_of line_app words) s
+      → IsAnswer s answer
+  -- a task is that of a command that the words spell
+  pub task : IfOk answer (λ _. (s : CommandWords) × IsSpelled words s × IsAnswer s answer)
+
+-- there is no task, and why is told: 0 for help, 1 for want of memory, 2 for wrong words
+pub record TellsWhy (fault : ParseFault) (status : ℕ) (out err : Turn) : Type 0 where
+  pub help : (status ≡ 0) ↔ IsHelp fault
+  pub memory : (status ≡ 1) ↔ (fault ≡ refused.Memory)
+  pub wrong : (status ≡ 2) ↔ IsWrongLine fault
+  pub out_told : Writes out (out_words fault)
+  pub err_told : Writes err (error_words fault)
+
+-- the task that the words ask for was done, or why there is none is told
+pub record Follows (words : List Text) (status : ℕ) (out err : Turn) : Type 0 where
+  pub answer : Answer
+  pub parsed : IsParsed words answer
+  pub ends : MatchResult answer (λ task. IsDone task status out err) (λ fault. TellsWhy fault status out err)

@@ -1,0 +1,2 @@
+-- what the program does for its words
+pub mod Done
