@@ -93,6 +93,14 @@ fn looked_up(rows: &ByOrigin<Deeds<'_>>, origin: Origin) -> Option<usize>
     rows.place_of(origin)
 }
 
+/// Where the row of an origin stands, off the quick path: what the call is handed is put in place only here.
+#[inline(always)]
+fn sought(rows: &ByOrigin<Deeds<'_>>, origin: Origin) -> Option<usize>
+    ensures { result ≡ place_in (pairs_of rows.now) origin }
+{
+    looked_up(rows, again(origin))
+}
+
 /// Takes a value to its row, which stands at this place where there is one.
 #[inline(always)]
 fn take<'t>(
@@ -119,8 +127,25 @@ fn take<'t>(
                 value,
             },
         ),
-        None => add(rows, alloc, again(origin), stamp, value),
+        None => begin_row(rows, alloc, origin, stamp, value),
     }
+}
+
+/// Begins a row, off the quick path: what the call is handed is put in place only here.
+#[inline(always)]
+fn begin_row<'t>(
+    rows: &mut ByOrigin<Deeds<'t>>,
+    alloc: Global,
+    origin: Origin,
+    stamp: Stamp,
+    value: Value<'t, '_>,
+) -> Result<(), AllocError>
+    requires { place_in (pairs_of rows.old) origin ≡ None }
+    ensures { OnOk result ((before : List Entry) → AreRowsOf (pairs_of rows.old) before
+        → AreRowsOf (pairs_of rows.new)
+        (before ++ entry_at origin (stamp_micros stamp) (value_of value.entry) ∷ [])) }
+{
+    add(rows, alloc, again(origin), stamp, value)
 }
 
 /// Begins a row.
@@ -165,7 +190,7 @@ impl<'t> ReadingVisitor<'t, ()> for Rows<'t> {
         let place = if self.rows.stands_at(guess, origin) {
             Some(guess)
         } else {
-            let place = looked_up(&self.rows, again(origin));
+            let place = sought(&self.rows, origin);
             self.guesses[at] = place.unwrap_or(self.rows.len());
             place
         };
