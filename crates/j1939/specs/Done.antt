@@ -1,6 +1,5 @@
 -- What the program does for its words: a task over its log and by its table, or what is told in its place.
-use Rattle.std.specs.Prelude.{◌≡◌, ◌⊎◌, ◌↔◌, ℕ, false, true, IfOk, List, MatchOption, MatchResult, Some, codes}
-use Rattle.clap.specs.Words.{Text, subcommand_of, takes}
+use Rattle.std.specs.Prelude.{◌≡◌, ◌⊎◌, ◌↔◌, ◌∷◌, ℕ, false, IfOk, List, MatchOption, MatchResult, Some, codes}
 use Rattle.j39_io.specs.Turn.{Turn, Writes}
 use Rattle.j39_groups.specs.Row.{RowRecord}
 use Rattle.j39_groups.specs.Table.{the_table}
@@ -8,11 +7,10 @@ use Rattle.j39_table.specs.Tables.{IsFaultOf, IsTableOf}
 use Rattle.j39_table.specs.declared.fault.TableFault.{TableFault}
 use Rattle.j39_table.specs.declared.fault.TableFault.TheVariants.{Memory}
 use Rattle.j39_cli.specs.Answer.{Answer}
-use Rattle.j39_cli.specs.Command.{line_app}
-use Rattle.j39_cli.specs.CommandWords.{CommandWords, IsAnswer}
+use Rattle.j39_cli.specs.CommandWords.{CommandWords, HasValues, IsAnswer, words_of}
 use Rattle.j39_cli.specs.OwnTable.{table_line}
 use Rattle.j39_cli.specs.Refusal.{IsHelp, IsWrongLine, error_line, error_words, out_words}
-use Rattle.j39_cli.specs.Spelling.{IsEntered, IsSpelled}
+use Rattle.j39_cli.specs.Spelling.{IsSpelled}
 use Rattle.j39_cli.specs.Task.{IsPerformed, file_of, table_of}
 use Rattle.j39_cli.specs.declared.task.ParseFault.{ParseFault}
 use Rattle.j39_cli.specs.declared.task.ParseFault.TheVariants as refused
@@ -66,10 +64,9 @@ IsDone task status out err =
 -- ---- the words
 
 -- what `parse` may answer to the words, of which the first is the program's name
-pub record IsParsed (words : List Text) (answer : Answer) : Type 0 where
-  -- the command that clap enters is answered
-  pub spelled : (s : CommandWords) → takes line_app words ≡ true → IsEntered (subcommand_of line_app words) s
-      → IsAnswer s answer
+pub record IsParsed (words : List (List ℕ)) (answer : Answer) : Type 0 where
+  -- a command that is spelled as the help says is answered
+  pub spelled : (program : List ℕ) (s : CommandWords) → HasValues s → words ≡ program ∷ words_of s → IsAnswer s answer
   -- a task is that of a command that the words spell
   pub task : IfOk answer (λ _. (s : CommandWords) × IsSpelled words s × IsAnswer s answer)
 
@@ -82,7 +79,7 @@ pub record TellsWhy (fault : ParseFault) (status : ℕ) (out err : Turn) : Type 
   pub err_told : Writes err (error_words fault)
 
 -- the task that the words ask for was done, or why there is none is told
-pub record Follows (words : List Text) (status : ℕ) (out err : Turn) : Type 0 where
+pub record Follows (words : List (List ℕ)) (status : ℕ) (out err : Turn) : Type 0 where
   pub answer : Answer
   pub parsed : IsParsed words answer
   pub ends : MatchResult answer (λ task. IsDone task status out err) (λ fault. TellsWhy fault status out err)

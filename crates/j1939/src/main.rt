@@ -1,10 +1,8 @@
 //! The program `j1939`: its words, files and standard streams, over `j39_cli`.
 #![tactic(auto)]
 
-ghost use Rattle.std.specs.Prelude.{◌≡◌, ◌≢◌, ◌≤◌, ◌⊎◌, IfOk, List, codes, false, map, true};
+ghost use Rattle.std.specs.Prelude.{◌≡◌, ◌≢◌, ◌≤◌, ◌⊎◌, ℕ, IfOk, List, codes, false, map, true};
 ghost use Rattle.std.specs.IoError.{error_kind};
-ghost use Rattle.std.specs.Process.{exit_status};
-ghost use Rattle.clap.specs.Words.{Text};
 ghost use Rattle.j39_io.specs.Turn.{Turn, Writes, turn};
 ghost use Rattle.j39_table.specs.declared.fault.TableFault.{TableFault};
 ghost use Rattle.j39_cli.specs.OwnTable.{table_line};
@@ -26,19 +24,19 @@ use table::table_text;
 /// The bytes that are kept before they are written.
 const OUT_BUFFER: usize = 65_536;
 
-fn main(rt: HostRuntime) -> ExitCode
-    ensures { exit_status result ≤ 2 }
+fn main(rt: HostRuntime) -> ExitCode {
+    ExitCode::from(status_of(&rt))
+}
+
+/// Does what the program's words ask for, and answers the exit status; where there are no words to read, it says why.
+fn status_of(rt: &HostRuntime) -> u8
+    ensures { result ≤ 2 }
 {
     let mut err = Told::new(rt.stderr());
-    let status = match answer(&rt, &mut err) {
+    match answer(rt, &mut err) {
         Ok(status) => status,
-        Err(error) => refuse(
-            &fault_of(&rt, &error),
-            &mut Told::new(rt.stdout()),
-            &mut err,
-        ),
-    };
-    ExitCode::from(status)
+        Err(error) => refuse(&fault_of(rt, &error), &mut Told::new(rt.stdout()), &mut err),
+    }
 }
 
 /// Why there are no words to read: memory was refused, or one of them is no text.
@@ -58,7 +56,7 @@ fn fault_of(rt: &HostRuntime, error: &io::Error) -> ParseFault
 /// Does what the program's words ask for, and answers the exit status.
 fn answer<E: Sink>(rt: &HostRuntime, err: &mut E) -> io::Result<u8>
     ensures status { IfOk result (λ status. status ≤ 2) }
-    ensures followed { IfOk result (λ status. (words : List Text) × (out : Turn) × Follows words status out
+    ensures followed { IfOk result (λ status. (words : List (List ℕ)) × (out : Turn) × Follows words status out
         (turn E.written E.has_failed err.old err.new)) }
 {
     let mut words = Vec::new(rt.alloc());

@@ -41,7 +41,13 @@ fn open_shipped(rt: &HostRuntime, name: &str) -> io::Result<Option<File>> {
 /// Where the table of this name is, in a place from the program's folder on.
 fn shipped_path(alloc: Global, folder: &str, place: &str, name: &str) -> Result<String, AllocError>
     ensures { IfOk result (λ path. string_bytes path
-        ≡ folder.now ++ codes "/" ++ place.now ++ codes "/" ++ name.now ++ codes ".table") }
+        ≡ ((((folder.now ++ codes "/") ++ place.now) ++ codes "/") ++ name.now) ++ codes ".table") }
 {
-    format!(in alloc; "{folder}/{place}/{name}.table")
+    let mut path = String::from_str(alloc, folder)?;
+    path.push_str("/")?;
+    path.push_str(place)?;
+    path.push_str("/")?;
+    path.push_str(name)?;
+    path.push_str(".table")?;
+    Ok(path)
 }
