@@ -26,6 +26,7 @@ one_less delivered all n handed there other above = λ k one from stands is. oth
   where
     some : (x y : Handed) → (let a : Option Handed = Some x in a) ≡ Some y → x ≡ y
     some x y e = cc
+
     same : (k : ℕ) (one : Handed) → n ≤ k → slice_get all k ≡ Some one → IsOf delivered one → one ≡ handed
     same k one from stands is =
         let k_is : n ≡ k = same_number n k (λ l. above k one l stands is) (λ l. omega (arith, from, l)) in

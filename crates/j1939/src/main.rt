@@ -1,5 +1,6 @@
 //! The program `j1939`: its words, files and standard streams, over `j39_cli`.
 #![tactic(auto)]
+
 ghost use Rattle.std.specs.Prelude.{◌≡◌, ◌≢◌, ◌≤◌, ◌⊎◌, ℕ, IfOk, List, codes, false, map, true};
 ghost use Rattle.std.specs.IoError.{error_kind};
 ghost use Rattle.j39_io.specs.Turn.{Turn, Writes, turn};
@@ -34,11 +35,7 @@ fn status_of(rt: &HostRuntime) -> u8
     let mut err = Told::new(rt.stderr());
     match answer(rt, &mut err) {
         Ok(status) => status,
-        Err(error) => refuse(
-            &fault_of(rt, &error),
-            &mut Told::new(rt.stdout()),
-            &mut err,
-        ),
+        Err(error) => refuse(&fault_of(rt, &error), &mut Told::new(rt.stdout()), &mut err),
     }
 }
 
@@ -71,12 +68,7 @@ fn answer<E: Sink>(rt: &HostRuntime, err: &mut E) -> io::Result<u8>
 }
 
 /// Does what these words ask for, and answers the exit status: 2 for wrong words alone.
-fn follow<S: AsStr, W: Sink, E: Sink>(
-    rt: &HostRuntime,
-    words: &[S],
-    out: &mut W,
-    err: &mut E,
-) -> u8
+fn follow<S: AsStr, W: Sink, E: Sink>(rt: &HostRuntime, words: &[S], out: &mut W, err: &mut E) -> u8
     ensures status { result ≤ 2 }
     ensures followed { Follows (map S.text words.now) result
         (turn W.written W.has_failed out.old out.new) (turn E.written E.has_failed err.old err.new) }

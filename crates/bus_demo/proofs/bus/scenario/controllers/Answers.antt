@@ -20,10 +20,14 @@ returns c =
     let g = joined _ _ 0x8000000002401003 3 _ _ c.gearbox.ensures.0 c.gearbox.ensures.1 (omega arith) c.in_ok-join-3.ensures in
     let t = joined _ _ 0x8000000004401004 0xF9 _ _ c.tool.ensures.0 c.tool.ensures.1 (omega arith) c.in_ok-join-4.ensures in
     record {
-      engine = e.0; is_engine = e.1;
-      rival = r.0; is_rival = r.1;
-      gearbox = g.0; is_gearbox = g.1;
-      tool = t.0; is_tool = t.1;
+      engine = e.0;
+      is_engine = e.1;
+      rival = r.0;
+      is_rival = r.1;
+      gearbox = g.0;
+      is_gearbox = g.1;
+      tool = t.0;
+      is_tool = t.1;
       players_are = t.2 ∙ ap (λ (ps : List Player). ps ++ t.0 ∷ []) (g.2 ∙ ap (λ (ps : List Player). ps ++ g.0 ∷ [])
           (r.2 ∙ ap (λ (ps : List Player). ps ++ r.0 ∷ []) (e.2 ∙ ap (λ (ps : List Player). ps ++ e.0 ∷ []) c.new-players.ensures.items)));
     }
