@@ -1,13 +1,15 @@
 //! The readings of a payload, handed on one by one.
-ghost use Rattle.std.specs.Prelude.{◌≡◌, ◌∷◌, [], ℕ, List, ◌≤◌, OnOk, OnErr, map, true};
+ghost use Rattle.std.specs.Prelude.{IfNone, IfSome, ◌≡◌, ◌∷◌, [], ℕ, List, ◌≤◌, OnOk, OnErr, map, true};
 ghost use Rattle.std.specs.List.{flat_map, list_all};
 ghost use Rattle.std.specs.Option.{option_map, option_to_list};
+ghost use Rattle.j39_groups.specs.Fields.{HasOneValue};
 ghost use Rattle.j39_groups.specs.Lines.{row_readings, text_readings};
 ghost use Rattle.j39_groups.specs.Models.{reading_of, row_record, value_of};
 ghost use Rattle.j39_groups.specs.Readings.{readings_at};
 ghost use Rattle.j39_groups.specs.Rows.{is_row};
 ghost use Rattle.j39_groups.specs.Value.{ReadingRecord};
 ghost use Rattle.j39_groups.specs.Visits.{Stops, Takes, visited};
+ghost use Rattle.j39_groups.specs.declared.field.Field.TheVariants.{Texts};
 
 use crate::field::Field;
 use crate::reading::push_texts;
@@ -99,6 +101,7 @@ fn visit_if_of<'t, M, V: ReadingVisitor<'t, M>>(
 }
 
 /// Hands on the readings by one row.
+#[inline(always)]
 fn visit_row<'t, M, V: ReadingVisitor<'t, M>>(
     row: &Row<'t>,
     bytes: &[u8],
@@ -111,18 +114,35 @@ fn visit_row<'t, M, V: ReadingVisitor<'t, M>>(
     ensures stopped { OnErr result (Stops V.has_taken V.has_stopped visitor.old medium.old visitor.new medium.new
         (readings_at bytes.now (row_record row.now))) }
 {
-    match row.field {
-        Field::Number { .. } => visit_value(row.spn, value_in(bytes, row.field), visitor, medium),
-        Field::Bits { .. } => visit_value(row.spn, value_in(bytes, row.field), visitor, medium),
-        Field::Switch { .. } => visit_value(row.spn, value_in(bytes, row.field), visitor, medium),
-        Field::Text { .. } => visit_value(row.spn, value_in(bytes, row.field), visitor, medium),
-        Field::Texts { byte, count } => {
-            visit_texts(row.spn, bytes_from(bytes, byte), count, visitor, medium)
-        }
+    match texts_of(row.field) {
+        Some((byte, count)) => visit_texts(
+            row.spn,
+            bytes_from(bytes, byte),
+            count,
+            visitor,
+            medium,
+        ),
+        None => visit_value(row.spn, value_in(bytes, row.field), visitor, medium),
+    }
+}
+
+/// The first byte of several texts, and how many they are at most; `None` for any other field.
+#[inline(always)]
+fn texts_of(field: Field<'_>) -> Option<(u8, u8)>
+    ensures some { IfSome result (λ texts. field.entry ≡ Texts texts.0 texts.1) }
+    ensures none { IfNone result (HasOneValue field.entry) }
+{
+    match field {
+        Field::Number { .. } => None,
+        Field::Bits { .. } => None,
+        Field::Switch { .. } => None,
+        Field::Text { .. } => None,
+        Field::Texts { byte, count } => Some((byte, count)),
     }
 }
 
 /// Hands on the reading of a value, where there is one.
+#[inline(always)]
 fn visit_value<'t, M, V: ReadingVisitor<'t, M>>(
     spn: u32,
     value: Option<Value<'t, '_>>,

@@ -1,5 +1,6 @@
 -- The texts of the row's field, or its one value.
 use Rattle.std.proofs.Common.{refl}
+use Rattle.j39_groups.specs.Fields.{IsSound, IsSoundParts}
 use Rattle.j39_groups.specs.Readings.{values_at}
 use Rattle.j39_groups.proofs.ReadyLemmas.{field_sound}
 use Rattle.j39_groups.proofs.RowLemmas.{row_is}
@@ -8,25 +9,26 @@ use Rattle.j39_groups.proofs.visiting.visit_row.Goals as goal
 pub value_in-requires : goal.value_in-requires
 value_in-requires g c = field_sound c.args.row.now.field (row_is c.args.row.now c.requires).sound
 
-pub value_in-requires-in-Bits : goal.value_in-requires-in-Bits
-value_in-requires-in-Bits g c = field_sound c.args.row.now.field (row_is c.args.row.now c.requires).sound
-
-pub value_in-requires-in-Switch : goal.value_in-requires-in-Switch
-value_in-requires-in-Switch g c = field_sound c.args.row.now.field (row_is c.args.row.now c.requires).sound
-
-pub value_in-requires-in-Text : goal.value_in-requires-in-Text
-value_in-requires-in-Text g c = field_sound c.args.row.now.field (row_is c.args.row.now c.requires).sound
-
 pub bytes_from-requires : goal.bytes_from-requires
-bytes_from-requires g c = (rw c.in-Texts.is at (field_sound c.args.row.now.field (row_is c.args.row.now c.requires).sound)).byte_starts
+bytes_from-requires g c =
+    let sound : IsSoundParts c.in-Some.byte c.in-Some.count = rw c.in-Some.ensures.some at (field_sound c.args.row.now.field (row_is c.args.row.now c.requires).sound) in
+    sound.byte_starts
 
 pub visit_texts-requires : goal.visit_texts-requires
-visit_texts-requires g c = λ k. ((refl, tt), (rw c.in-Texts.is at (field_sound c.args.row.now.field (row_is c.args.row.now c.requires).sound)).few)
+visit_texts-requires g c = λ k.
+    let sound : IsSoundParts c.in-Some.byte c.in-Some.count = rw c.in-Some.ensures.some at (field_sound c.args.row.now.field (row_is c.args.row.now c.requires).sound) in
+    ((refl, tt), sound.few)
 
-pub returns-in-Texts-clause-taken : goal.returns-in-Texts-clause-taken
+pub returns-in-Some-clause-taken : goal.returns-in-Some-clause-taken
 unfolding values_at
-returns-in-Texts-clause-taken g c = rw (c.in-Texts.is, ← c.bytes_from.ensures) c.visit_texts.ensures.taken
+returns-in-Some-clause-taken g c = rw (c.in-Some.ensures.some, ← c.bytes_from.ensures) c.visit_texts.ensures.taken
 
-pub returns-in-Texts-clause-stopped : goal.returns-in-Texts-clause-stopped
+pub returns-in-Some-clause-stopped : goal.returns-in-Some-clause-stopped
 unfolding values_at
-returns-in-Texts-clause-stopped g c = rw (c.in-Texts.is, ← c.bytes_from.ensures) c.visit_texts.ensures.stopped
+returns-in-Some-clause-stopped g c = rw (c.in-Some.ensures.some, ← c.bytes_from.ensures) c.visit_texts.ensures.stopped
+
+pub returns-in-None-clause-taken : goal.returns-in-None-clause-taken
+returns-in-None-clause-taken g c = rw (c.value_in.ensures c.in-None.ensures.none) at c.visit_value.ensures.taken
+
+pub returns-in-None-clause-stopped : goal.returns-in-None-clause-stopped
+returns-in-None-clause-stopped g c = rw (c.value_in.ensures c.in-None.ensures.none) at c.visit_value.ensures.stopped
