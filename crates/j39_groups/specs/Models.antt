@@ -2,6 +2,7 @@
 use Rattle.std.specs.Prelude.{List, [], pos}
 use Rattle.j39_groups.specs.declared.field.Field.{Field}
 use Rattle.j39_groups.specs.declared.field.Field.TheVariants.{Number as NumberField, Bits, Switch, Text as TextField, Texts}
+use Rattle.j39_groups.specs.declared.listed.LentRows.{LentRows}
 use Rattle.j39_groups.specs.declared.listed.Listed.{Listed}
 use Rattle.j39_groups.specs.declared.listed.Listed.TheVariants.{Lent, Kept}
 use Rattle.j39_groups.specs.declared.row.Row.{Row}
@@ -14,6 +15,7 @@ use Rattle.j39_groups.specs.declared.value.Value.TheVariants.{Number, On, Off, E
 use Rattle.j39_groups.specs.Row.{FieldRecord, number_field, bits_field, switch_field, text_field, texts_field, RowRecord}
 use Rattle.j39_groups.specs.Value.{SlotRecord, ValueRecord, number, on, off, error, reserved, indicator, text, ReadingRecord}
 use Rattle.j39_memory.specs.Items.{items_of}
+use Rattle.j39_memory.specs.declared.list.List.{List as RowList}
 
 abbrev pub scale_record : Scale → SlotRecord
 scale_record scale = record {
@@ -74,6 +76,6 @@ row_record row = record {
   field = field_record row.field;
 }
 
-abbrev pub listed_rows : Listed → List Row
-listed_rows (Lent rows) = rows.now
+abbrev pub listed_rows : Listed LentRows (RowList Row) → List Row
+listed_rows (Lent lent) = lent.rows.now
 listed_rows (Kept rows) = items_of rows

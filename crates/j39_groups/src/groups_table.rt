@@ -18,10 +18,10 @@ ghost use Rattle.j39_groups.specs.Table.{the_table};
 ghost use Rattle.j39_groups.specs.Visits.{Stops, Takes};
 
 use crate::group_lines::put_rows;
-use crate::listed::Listed;
+use crate::listed::{LentRows, Listed, rows_of};
 use crate::names::{group_name_in, name_in, name_in_group};
 use crate::printed;
-use crate::restricted::rows_of;
+use crate::restricted::restricted_rows;
 use crate::row::Row;
 use crate::rows::Rows;
 use crate::rows_before::{HEAD, LINES};
@@ -30,13 +30,14 @@ use crate::table::built_in_rows;
 use crate::visiting::{ReadingVisitor, visit_rows};
 use j39_frame::Pgn;
 use j39_io::{DeviceFault, Sink};
+use j39_memory::List;
 use std::alloc::{AllocError, Global};
 use std::marker::Model;
 
 /// A table of parameters.
 #[derive(Drop)]
 pub struct Groups<'t> {
-    listed: Listed<'t>,
+    listed: Listed<LentRows<'t>, List<Row<'t>>>,
     runs: [Run; 1024],
     ghost sound: { list_all is_row (listed_rows listed) ≡ true },
     ghost few: { length (listed_rows listed) ≤ 65536 },
@@ -58,7 +59,9 @@ impl<'t> Groups<'t> {
     pub fn built_in() -> Groups<'t>
         ensures { result ≡ the_table }
     {
-        Groups::of(Listed::Lent(built_in_rows()))
+        Groups::of(Listed::Lent(LentRows {
+            rows: built_in_rows(),
+        }))
     }
 
     /// The table of these rows, by rising groups; the rows of a group stay in their order. An `Err` comes for want of
@@ -74,12 +77,12 @@ impl<'t> Groups<'t> {
     }
 
     /// The table of rows that stand where they stand.
-    fn of(listed: Listed<'t>) -> Groups<'t>
+    fn of(listed: Listed<LentRows<'t>, List<Row<'t>>>) -> Groups<'t>
         requires sound { list_all is_row (listed_rows listed) ≡ true }
         requires few { length (listed_rows listed) ≤ 65536 }
         ensures { result ≡ map row_record (listed_rows listed.entry) }
     {
-        let runs = runs_of(listed.rows());
+        let runs = runs_of(rows_of(&listed));
         Groups { listed, runs }
     }
 
@@ -90,7 +93,7 @@ impl<'t> Groups<'t> {
         ensures sound { list_all is_row result.now ≡ true }
         ensures few { length result.now ≤ 65536 }
     {
-        run_of(&self.runs, self.listed.rows(), pgn)
+        run_of(&self.runs, rows_of(&self.listed), pgn)
     }
 
     /// The table with the rows of these parameters (SPN) alone; those of a group stay in their order. An `Err` comes
@@ -99,7 +102,7 @@ impl<'t> Groups<'t> {
         ensures kept { IfOk result (λ groups. HaveSameGroups groups (rows_of_spns spns.now self.now)) }
         ensures wanted { OnErr result (0 < length (rows_of_spns spns.now self.now)) }
     {
-        let rows = rows_of(alloc, self.listed.rows(), spns)?;
+        let rows = restricted_rows(alloc, rows_of(&self.listed), spns)?;
         Groups::from_rows(rows)
     }
 
@@ -116,7 +119,7 @@ impl<'t> Groups<'t> {
     pub fn group_name(&self, pgn: Pgn) -> Option<&[u8]>
         ensures { option_copied result ≡ group_name_in self.now (pgn_raw pgn) }
     {
-        group_name_in(self.listed.rows(), pgn.raw())
+        group_name_in(rows_of(&self.listed), pgn.raw())
     }
 
     /// What the table calls a parameter (SPN), of whatever group: the name in its first row, of any bytes. `None`
@@ -124,7 +127,7 @@ impl<'t> Groups<'t> {
     pub fn parameter_name(&self, spn: u32) -> Option<&[u8]>
         ensures { option_map (λ name. name.now) result ≡ parameter_name self.now spn }
     {
-        name_in(self.listed.rows(), spn)
+        name_in(rows_of(&self.listed), spn)
     }
 
     /// Writes the table (own): a line for each row, in the table's order, with the PGN and the short name of its group,
@@ -133,7 +136,7 @@ impl<'t> Groups<'t> {
     pub fn put<W: Sink>(&self, sink: &mut W) -> Result<(), DeviceFault>
         ensures { Puts (rows_text self.now) result (turn W.written W.has_failed sink.old sink.new) }
     {
-        printed::put_rows(self.listed.rows(), sink)
+        printed::put_rows(rows_of(&self.listed), sink)
     }
 
     /// Writes a line for each reading of a payload: the bytes of `head` from `from` on, the parameter's number

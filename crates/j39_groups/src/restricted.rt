@@ -11,7 +11,7 @@ use std::alloc::{AllocError, Global};
 
 /// The rows of these parameters (SPN), of those of a table. An error comes for want of memory alone, and not where no
 /// row is kept.
-pub(crate) fn rows_of<'t>(
+pub(crate) fn restricted_rows<'t>(
     alloc: Global,
     rows: &[Row<'t>],
     spns: &[u32],

@@ -75,7 +75,6 @@ fn number_of(bytes: &[u8], first: u8, last: u8, scale: &Scale<'_>) -> Option<Sho
     match last - (first - 1) {
         1 => number(raw_of::<1>(bytes, first)?, 1, scale),
         2 => number(raw_of::<2>(bytes, first)?, 2, scale),
-        4 => number(raw_of::<4>(bytes, first)?, 4, scale),
         count => number(raw_number(bytes, first, last)?, count, scale),
     }
 }
@@ -112,7 +111,7 @@ fn word_by_top_byte(top: u32) -> Option<Short>
     }
 }
 
-#[inline(always)]
+#[inline]
 fn bits_of(bytes: &[u8], byte: u8, low: u8, count: u8, scale: &Scale<'_>) -> Option<Short>
     requires { IsSoundBits byte low count scale.now }
     ensures { option_map (short_value (scale_record scale.now)) result
@@ -123,7 +122,7 @@ fn bits_of(bytes: &[u8], byte: u8, low: u8, count: u8, scale: &Scale<'_>) -> Opt
 }
 
 /// What a number of `count` bits means.
-#[inline(always)]
+#[inline]
 #[tactic(auto, unfolding(crate::specs::Readings::bits_meaning))]
 fn bits_meaning(raw: u32, count: u8, scale: &Scale<'_>) -> Option<Short>
     requires few { count ≤ 32 }

@@ -10,5 +10,5 @@ use Rattle.j39_groups.proofs.groups_table.Groups.group_name.Goals as goal
 pub returns : goal.returns
 unfolding group_name_in
 returns c = rw (← c.self.view_is)
-    (c.group_name_in.ensures ∙ rw (c.raw.ensures.value, c.rows.ensures) (ap (λ names. slice_get names 0)
+    (c.group_name_in.ensures ∙ rw (c.raw.ensures.value, c.rows_of.ensures) (ap (λ names. slice_get names 0)
     (sym (filter_map-seen row_record (group_at (pgn_raw c.args.pgn)) (listed_rows c.self.inside.listed)))))

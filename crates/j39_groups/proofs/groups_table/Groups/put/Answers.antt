@@ -9,5 +9,5 @@ use Rattle.j39_groups.proofs.groups_table.Groups.put.Goals as goal
 
 pub returns : goal.returns
 returns g c = puts_as _ _ _ _
-    (ap (flat_map (λ row. row_text (row_record row))) c.rows.ensures ∙ sym (flat_map-map row_text row_record (listed_rows c.self.inside.listed))
+    (ap (flat_map (λ row. row_text (row_record row))) c.rows_of.ensures ∙ sym (flat_map-map row_text row_record (listed_rows c.self.inside.listed))
     ∙ ap (flat_map row_text) c.self.view_is) c.put_rows.ensures

@@ -1,7 +1,7 @@
 use Rattle.std.proofs.Common.{◌≡◌, ◌≤◌, length, map, take}
 use Rattle.j39_groups.specs.Models.{row_record}
 use Rattle.j39_groups.specs.Readings.{rows_of_spns}
-use Rattle.j39_groups.proofs.restricted.rows_of.Given as goal
+use Rattle.j39_groups.proofs.restricted.restricted_rows.Given as goal
 
 -- those of the rows so far are kept
 abbrev pub invariant-loop-row : goal.invariant-loop-row

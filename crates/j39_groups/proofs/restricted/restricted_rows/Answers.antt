@@ -5,8 +5,8 @@ use Rattle.j39_groups.specs.Models.{row_record}
 use Rattle.j39_groups.specs.Readings.{is_among, rows_of_spns}
 use Rattle.j39_groups.specs.Row.{RowRecord}
 use Rattle.j39_groups.proofs.RestrictedLemmas.{onto, row_kept, row_left_out, some_kept}
-use Rattle.j39_groups.proofs.restricted.rows_of.Goals as goal
-use Rattle.j39_groups.proofs.restricted.rows_of.Goals.{then-is_among+in_ok-push, else-is_among}
+use Rattle.j39_groups.proofs.restricted.restricted_rows.Goals as goal
+use Rattle.j39_groups.proofs.restricted.restricted_rows.Goals.{then-is_among+in_ok-push, else-is_among}
 
 pub loop-row-preserved : goal.loop-row-preserved
 loop-row-preserved c =
