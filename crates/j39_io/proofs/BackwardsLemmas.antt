@@ -2,6 +2,8 @@
 use Rattle.std.proofs.Common.{◌≡◌, ◌<◌, ◌≤◌, ◌+◌, ◌-◌, ◌*◌, ◌/◌, ◌%◌, ◌^◌, ℕ, zero, suc, Bool, true, ◌&&◌, List, [], ◌∷◌, ◌++◌, length, take, drop, get_or, eqb, refl, ap, ◌∙◌, sym, arith, append_assoc, append-nil, length-append, set, length-set, eq-zero-or-pos, inl, inr}
 use Rattle.std.specs.Prelude.{slice_index}
 use Rattle.std.specs.Fmt.{decimal}
+use Rattle.std.specs.Str.{bytes_eq}
+use Rattle.std.proofs.lemmas.Slice.Eq.{bytes_eq-Decides}
 use Rattle.std.proofs.lemmas.Bool.{and_parts, eqb-true}
 use Rattle.std.proofs.lemmas.Fmt.{decimal_step, decimal_digit, decimal_nonempty}
 use Rattle.std.proofs.lemmas.List.{drop-set, set_comm, drop_all, drop-drop, drop_at, drop-append-le, length-take-le}
@@ -41,18 +43,6 @@ drop_part xs ys at k from room within len inside =
     ∙ drop-append-le from ys (drop (at - (at - k)) (drop (at - k) xs)) (omega arith)
     ∙ ap (λ zs. drop from ys ++ zs) (drop-drop (at - (at - k)) (at - k) xs ∙ ap (λ n. drop n xs) back)
 
--- two bytes are overwritten
-pub two_written : (xs : List ℕ) (end x y : ℕ) → 2 ≤ end → end ≤ length xs
-    → WritesBefore xs (set (set xs (end - 2) x) (end - 2 + 1) y) end (end - 2) (x ∷ y ∷ [])
-two_written xs end x y room within =
-    let at = end - 2 in
-    let len = length-set xs (at + 1) y in
-    let back : at + 1 + 1 ≡ end = omega arith in
-    record {
-      starts = omega arith;
-      written = rw (set_comm xs at (at + 1) x y (λ e. omega arith), drop-set (set xs (at + 1) y) at x (omega (arith, len)), drop-set xs (at + 1) y (omega arith), back) refl;
-    }
-
 -- what the tables of pairs say is computed
 abbrev all_below : (ℕ → Bool) → ℕ → Bool
 all_below p zero = true
@@ -68,17 +58,20 @@ at_below p (suc n) k all below =
     ]
 
 abbrev is_pair : ℕ → Bool
-is_pair p = eqb (get_or PAIRS (p * 2) 0) (48 + p / 10) && eqb (get_or PAIRS (p * 2 + 1) 0) (48 + p % 10)
+is_pair p = bytes_eq (get_or PAIRS p []) (two_digits p)
 
-pub pair_at : (p : ℕ) → p < 100 → (get_or PAIRS (p * 2) 0 ≡ 48 + p / 10) × (get_or PAIRS (p * 2 + 1) 0 ≡ 48 + p % 10)
-pair_at p below = let both = and_parts _ _ (at_below is_pair 100 p refl below) in (eqb-true _ _ both.0, eqb-true _ _ both.1)
+pub pair_at : (p : ℕ) → p < 100 → get_or PAIRS p [] ≡ two_digits p
+pair_at p below = (bytes_eq-Decides _ _).0 (at_below is_pair 100 p refl below)
+
+abbrev hex_digits : ℕ → List ℕ
+hex_digits p = slice_index upper_digits (p / 16) ∷ slice_index upper_digits (p % 16) ∷ []
 
 abbrev is_hex_pair : ℕ → Bool
-is_hex_pair p = eqb (get_or HEX_PAIRS (p * 2) 0) (slice_index upper_digits (p / 16)) && eqb (get_or HEX_PAIRS (p * 2 + 1) 0) (slice_index upper_digits (p % 16))
+is_hex_pair p = bytes_eq (get_or HEX_PAIRS p []) (hex_digits p)
 
-pub hex_pair_at : (p : ℕ) → p < 256
-    → (get_or HEX_PAIRS (p * 2) 0 ≡ slice_index upper_digits (p / 16)) × (get_or HEX_PAIRS (p * 2 + 1) 0 ≡ slice_index upper_digits (p % 16))
-hex_pair_at p below = let both = and_parts _ _ (at_below is_hex_pair 256 p refl below) in (eqb-true _ _ both.0, eqb-true _ _ both.1)
+pub hex_pair_at : (p : ℕ) → p < 256 → get_or HEX_PAIRS p [] ≡ encode_upper (p ∷ [])
+unfolding encode_with
+hex_pair_at p below = (bytes_eq-Decides (get_or HEX_PAIRS p []) (hex_digits p)).0 (at_below is_hex_pair 256 p refl below)
 
 -- the digits of one byte more before those of the others
 pub hex_more : (bytes : List ℕ) (n : ℕ) → 0 < n → n ≤ length bytes

@@ -55,13 +55,33 @@ pub fn tail_before<const N: usize>(
     ensures starts { result + N ≡ end + from }
 {
     let start = end - N;
-    out[start..end].copy_from_slice(block);
+    put_block(&mut out[start..end], *block);
     start + from
 }
 
-/// The pairs of digits, 00 to 99.
-static PAIRS: [u8; 200] =
-    *b"00010203040506070809101112131415161718192021222324252627282930313233343536373839404142434445464748495051525354555657585960616263646566676869707172737475767778798081828384858687888990919293949596979899";
+/// Writes a block over a part of its length: as one value, so that no copy has to test whether it lies in the part.
+#[inline(always)]
+fn put_block<const N: usize>(part: &mut [u8], block: [u8; N])
+    requires { length part.old ≡ N }
+    ensures { part.new ≡ block.entry }
+{
+    if let Some(place) = part.as_mut_array::<N>() {
+        *place = block;
+    }
+}
+
+/// The pairs of digits, 00 to 99. A pair is copied as one value: its bytes by themselves would be put into a vector.
+static PAIRS: [[u8; 2]; 100] = [
+    *b"00", *b"01", *b"02", *b"03", *b"04", *b"05", *b"06", *b"07", *b"08", *b"09", *b"10", *b"11",
+    *b"12", *b"13", *b"14", *b"15", *b"16", *b"17", *b"18", *b"19", *b"20", *b"21", *b"22", *b"23",
+    *b"24", *b"25", *b"26", *b"27", *b"28", *b"29", *b"30", *b"31", *b"32", *b"33", *b"34", *b"35",
+    *b"36", *b"37", *b"38", *b"39", *b"40", *b"41", *b"42", *b"43", *b"44", *b"45", *b"46", *b"47",
+    *b"48", *b"49", *b"50", *b"51", *b"52", *b"53", *b"54", *b"55", *b"56", *b"57", *b"58", *b"59",
+    *b"60", *b"61", *b"62", *b"63", *b"64", *b"65", *b"66", *b"67", *b"68", *b"69", *b"70", *b"71",
+    *b"72", *b"73", *b"74", *b"75", *b"76", *b"77", *b"78", *b"79", *b"80", *b"81", *b"82", *b"83",
+    *b"84", *b"85", *b"86", *b"87", *b"88", *b"89", *b"90", *b"91", *b"92", *b"93", *b"94", *b"95",
+    *b"96", *b"97", *b"98", *b"99",
+];
 
 #[inline(always)]
 fn pair_before(out: &mut [u8], end: usize, value: u64) -> usize
@@ -70,12 +90,7 @@ fn pair_before(out: &mut [u8], end: usize, value: u64) -> usize
     requires within { end ≤ length out.old }
     ensures { WritesBefore out.old out.new end result (two_digits value) }
 {
-    let at = end - 2;
-    let from = value as usize * 2;
-    let (tens, ones) = (PAIRS[from], PAIRS[from + 1]);
-    out[at] = tens;
-    out[at + 1] = ones;
-    at
+    bytes_before(out, end, PAIRS[value as usize])
 }
 
 /// Writes a number in decimal.
@@ -124,8 +139,30 @@ pub fn last_digits_before(out: &mut [u8], end: usize, count: usize, value: u64) 
 }
 
 /// The pairs of upper-case hex digits, 00 to FF.
-static HEX_PAIRS: [u8; 512] =
-    *b"000102030405060708090A0B0C0D0E0F101112131415161718191A1B1C1D1E1F202122232425262728292A2B2C2D2E2F303132333435363738393A3B3C3D3E3F404142434445464748494A4B4C4D4E4F505152535455565758595A5B5C5D5E5F606162636465666768696A6B6C6D6E6F707172737475767778797A7B7C7D7E7F808182838485868788898A8B8C8D8E8F909192939495969798999A9B9C9D9E9FA0A1A2A3A4A5A6A7A8A9AAABACADAEAFB0B1B2B3B4B5B6B7B8B9BABBBCBDBEBFC0C1C2C3C4C5C6C7C8C9CACBCCCDCECFD0D1D2D3D4D5D6D7D8D9DADBDCDDDEDFE0E1E2E3E4E5E6E7E8E9EAEBECEDEEEFF0F1F2F3F4F5F6F7F8F9FAFBFCFDFEFF";
+static HEX_PAIRS: [[u8; 2]; 256] = [
+    *b"00", *b"01", *b"02", *b"03", *b"04", *b"05", *b"06", *b"07", *b"08", *b"09", *b"0A", *b"0B",
+    *b"0C", *b"0D", *b"0E", *b"0F", *b"10", *b"11", *b"12", *b"13", *b"14", *b"15", *b"16", *b"17",
+    *b"18", *b"19", *b"1A", *b"1B", *b"1C", *b"1D", *b"1E", *b"1F", *b"20", *b"21", *b"22", *b"23",
+    *b"24", *b"25", *b"26", *b"27", *b"28", *b"29", *b"2A", *b"2B", *b"2C", *b"2D", *b"2E", *b"2F",
+    *b"30", *b"31", *b"32", *b"33", *b"34", *b"35", *b"36", *b"37", *b"38", *b"39", *b"3A", *b"3B",
+    *b"3C", *b"3D", *b"3E", *b"3F", *b"40", *b"41", *b"42", *b"43", *b"44", *b"45", *b"46", *b"47",
+    *b"48", *b"49", *b"4A", *b"4B", *b"4C", *b"4D", *b"4E", *b"4F", *b"50", *b"51", *b"52", *b"53",
+    *b"54", *b"55", *b"56", *b"57", *b"58", *b"59", *b"5A", *b"5B", *b"5C", *b"5D", *b"5E", *b"5F",
+    *b"60", *b"61", *b"62", *b"63", *b"64", *b"65", *b"66", *b"67", *b"68", *b"69", *b"6A", *b"6B",
+    *b"6C", *b"6D", *b"6E", *b"6F", *b"70", *b"71", *b"72", *b"73", *b"74", *b"75", *b"76", *b"77",
+    *b"78", *b"79", *b"7A", *b"7B", *b"7C", *b"7D", *b"7E", *b"7F", *b"80", *b"81", *b"82", *b"83",
+    *b"84", *b"85", *b"86", *b"87", *b"88", *b"89", *b"8A", *b"8B", *b"8C", *b"8D", *b"8E", *b"8F",
+    *b"90", *b"91", *b"92", *b"93", *b"94", *b"95", *b"96", *b"97", *b"98", *b"99", *b"9A", *b"9B",
+    *b"9C", *b"9D", *b"9E", *b"9F", *b"A0", *b"A1", *b"A2", *b"A3", *b"A4", *b"A5", *b"A6", *b"A7",
+    *b"A8", *b"A9", *b"AA", *b"AB", *b"AC", *b"AD", *b"AE", *b"AF", *b"B0", *b"B1", *b"B2", *b"B3",
+    *b"B4", *b"B5", *b"B6", *b"B7", *b"B8", *b"B9", *b"BA", *b"BB", *b"BC", *b"BD", *b"BE", *b"BF",
+    *b"C0", *b"C1", *b"C2", *b"C3", *b"C4", *b"C5", *b"C6", *b"C7", *b"C8", *b"C9", *b"CA", *b"CB",
+    *b"CC", *b"CD", *b"CE", *b"CF", *b"D0", *b"D1", *b"D2", *b"D3", *b"D4", *b"D5", *b"D6", *b"D7",
+    *b"D8", *b"D9", *b"DA", *b"DB", *b"DC", *b"DD", *b"DE", *b"DF", *b"E0", *b"E1", *b"E2", *b"E3",
+    *b"E4", *b"E5", *b"E6", *b"E7", *b"E8", *b"E9", *b"EA", *b"EB", *b"EC", *b"ED", *b"EE", *b"EF",
+    *b"F0", *b"F1", *b"F2", *b"F3", *b"F4", *b"F5", *b"F6", *b"F7", *b"F8", *b"F9", *b"FA", *b"FB",
+    *b"FC", *b"FD", *b"FE", *b"FF",
+];
 
 #[inline(always)]
 fn hex_pair_before(out: &mut [u8], end: usize, byte: u8) -> usize
@@ -133,12 +170,7 @@ fn hex_pair_before(out: &mut [u8], end: usize, byte: u8) -> usize
     requires within { end ≤ length out.old }
     ensures { WritesBefore out.old out.new end result (encode_upper (byte ∷ [])) }
 {
-    let at = end - 2;
-    let from = usize::from(byte) * 2;
-    let (high, low) = (HEX_PAIRS[from], HEX_PAIRS[from + 1]);
-    out[at] = high;
-    out[at + 1] = low;
-    at
+    bytes_before(out, end, HEX_PAIRS[usize::from(byte)])
 }
 
 /// Writes bytes as pairs of upper-case hex digits.

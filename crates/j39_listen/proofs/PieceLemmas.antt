@@ -210,13 +210,6 @@ end_writes has_met makes run p' counts a b c reads closes = λ given taken held 
 
 -- ---- a line, as it was cut
 
--- the second that is kept tells nothing of the lines
-abbrev pub at_second : {A : Type 0} → Lines A → ℕ → Lines A
-at_second p second = record { bus = p.bus; account = p.account; tally = p.tally; second = second }
-
-pub reads_at : {A : Type 0} (has_met : Meeting A) (second : ℕ) (s : Spelled) (p p' : Lines A) (a b : Option (List ℕ)) → ReadsLine has_met s (at_second p second) p' a b → ReadsLine has_met s p p' a b
-reads_at has_met second s p p' a b r = record { met = r.met; meets = r.meets; tally_is = r.tally_is }
-
 pub each_reads : {A S T E : Type 0} (has_met : S → Meeting A) (raw : RawLine) (s : Spelled) (p p' : Lines A) (a b : Option (List ℕ)) (r : Result T E)
     → ((line : List ℕ) → IsRawLine raw line → Spells line s) → OnOk r ((subject : S) → IsSpelling s → ReadsLine (has_met subject) s p p' a b)
     → OnOk r ((subject : S) (line : List ℕ) → IsRawLine raw line → ReadsAs (has_met subject) line p p' a b)

@@ -32,9 +32,9 @@ tally_of-append bus xs ys =
 -- ---- what was met in the lines so far
 
 -- in no lines
-pub has_met-none : {A : Type 0} (has_met : Meeting A) (given : Option (List ℕ)) (a : A) (output : Output) (t : Tally) (second : ℕ) (held : Option (List ℕ))
-    → ((name : List ℕ) → has_met name a [] output) → output.text ≡ [] → t ≡ tally 0 0 0 → HasMetAll has_met given [] (record { bus = given; account = a; tally = t; second = second }) held held
-has_met-none has_met given a output t second held met none zero = record {
+pub has_met-none : {A : Type 0} (has_met : Meeting A) (given : Option (List ℕ)) (a : A) (output : Output) (t : Tally) (held : Option (List ℕ))
+    → ((name : List ℕ) → has_met name a [] output) → output.text ≡ [] → t ≡ tally 0 0 0 → HasMetAll has_met given [] (record { bus = given; account = a; tally = t }) held held
+has_met-none has_met given a output t held met none zero = record {
   bus_is = no_lines given;
   tally_is = zero ∙ line_tally given [] 0 0 0 refl refl refl (omega arith) (omega arith) (omega arith);
   made = λ name named. record { output = output; met = met name; written = subst (Appends held held) (sym none) (Appends-nil held) };

@@ -17,7 +17,7 @@ use crate::account::{Account, LineFault};
 use crate::counts::{Met, Tally};
 use j39_frame::Frame;
 use j39_io::{DeviceFault, Sink};
-use j39_log::{Bus, LastSecond, Line, RawLine};
+use j39_log::{Bus, Line, RawLine};
 
 /// The bus of a run, once it is known, the account of its frames, and what was met so far.
 #[derive(Drop)]
@@ -25,8 +25,6 @@ pub(crate) struct Lines<A> {
     pub bus: Option<Bus>,
     pub account: A,
     pub tally: Tally,
-    /// The second of the last line that was read quickly: it tells nothing of the lines.
-    pub second: LastSecond,
 }
 
 impl<A: Account> Lines<A> {

@@ -22,6 +22,8 @@ use j39_log::{Bus, LastSecond, Splitter};
 pub(crate) struct Pieces<A> {
     splitter: Splitter,
     lines: Lines<A>,
+    /// The second of the last line that was read quickly: it tells nothing of the lines.
+    second: LastSecond,
 }
 
 impl<A: Account> Pieces<A> {
@@ -36,8 +38,8 @@ impl<A: Account> Pieces<A> {
                 bus,
                 account,
                 tally: Tally::default(),
-                second: LastSecond::new(),
             },
+            second: LastSecond::new(),
         }
     }
 
@@ -134,16 +136,38 @@ impl<A: Account> Pieces<A> {
         ensures asked { result ≡ Err Memory → (subject : A.Subject) (begun : List ℕ) → HasBegun self.old.splitter begun
             → AsksIn (A.has_met subject) (A.asks subject) begun bytes.now self.old.lines }
     {
-        let (n, raw) = self.splitter.feed(bytes);
-        let Some(raw) = raw else {
-            return Ok(n);
-        };
-        match raw.frame_on(&mut self.lines.second, &self.lines.bus) {
-            Some(frame) => match self.lines.read_frame(&frame, sink) {
+        let quick = self
+            .splitter
+            .frame_on(bytes, &mut self.second, &self.lines.bus);
+        match quick {
+            Some((frame, n)) => match self.lines.read_frame(&frame, sink) {
                 Ok(()) => Ok(n),
                 Err(fault) => Err(fault),
             },
-            None => match self.lines.read_raw(raw, sink) {
+            None => self.take_any(bytes, sink),
+        }
+    }
+
+    /// The same, of a line of any form. It is no part of its caller, whose way for most lines so needs no room for what this
+    /// one reads.
+    #[inline(never)]
+    fn take_any<W: Sink>(&mut self, bytes: &[u8], sink: &mut W) -> Result<usize, LineFault>
+        ensures count { IfOk result (λ n. n ≤ length bytes.now) }
+        ensures some { IfOk result (λ n. 0 < length bytes.now → 0 < n) }
+        ensures steps { IfOk result (λ n. (subject : A.Subject) (begun : List ℕ) → HasBegun self.old.splitter begun
+            → StepsOver (A.has_met subject) begun bytes.now n self.new.splitter self.old.lines self.new.lines
+            (W.written sink.old) (W.written sink.new)) }
+        ensures writer { LeavesWriter result (turn W.written W.has_failed sink.old sink.new) }
+        ensures stops { result ≡ Err Write → (subject : A.Subject) (begun : List ℕ) → HasBegun self.old.splitter begun
+            → StopsIn (A.has_met subject) (A.makes subject) begun bytes.now self.old.lines (W.written sink.old)
+            (W.written sink.new) }
+        ensures asked { result ≡ Err Memory → (subject : A.Subject) (begun : List ℕ) → HasBegun self.old.splitter begun
+            → AsksIn (A.has_met subject) (A.asks subject) begun bytes.now self.old.lines }
+    {
+        let (n, raw) = self.splitter.feed(bytes);
+        match raw {
+            None => Ok(n),
+            Some(raw) => match self.lines.read_raw(raw, sink) {
                 Ok(()) => Ok(n),
                 Err(fault) => Err(fault),
             },

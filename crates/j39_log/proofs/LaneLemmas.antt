@@ -1,9 +1,10 @@
 -- What vectors compute, lane by lane.
-use Rattle.std.proofs.Common.{◌≡◌, ◌<◌, ◌≤◌, ◌+◌, ◌-◌, ◌*◌, ◌%◌, ◌^◌, ℕ, zero, suc, Bool, true, false, cond, ltb, leb, nat_le, nat_eq, ◌||◌, List, [], ◌∷◌, length, map, replicate, get_or, bit_or, refl, sym, ap, ◌∙◌, arith, subst, Option, Some, None, unwrap_or, Result, Ok, w8}
-use Rattle.std.specs.List.{AllByRecursion, range_with_len}
+use Rattle.std.proofs.Common.{◌≡◌, ◌<◌, ◌≤◌, ◌+◌, ◌-◌, ◌*◌, ◌%◌, ◌^◌, ℕ, zero, suc, Bool, true, false, not, cond, eqb, ltb, leb, nat_le, nat_eq, ◌||◌, List, [], ◌∷◌, length, map, take, replicate, get_or, bit_or, refl, sym, ap, ap₂, ◌∙◌, arith, subst, Option, Some, None, unwrap_or, Result, Ok, w8}
+use lib.Count.{count_trailing_zeros}
+use Rattle.std.specs.List.{AllByRecursion, prefix_len, range_with_len}
 use Rattle.std.specs.Simd.Lanes.{zip2, sel_l, mask_l, top}
-use Rattle.std.proofs.lemmas.Simd.{mask_l-mod, pick_l_whole, tops_compared, zip2_splat_left}
-use Rattle.std.proofs.lemmas.Bool.{leb-false, agree_below_at}
+use Rattle.std.proofs.lemmas.Simd.{first_set_mask_l, length-zip2, mask_l-mod, pick_l_whole, tops_compared, zip2_splat_left}
+use Rattle.std.proofs.lemmas.Bool.{eqb-true, leb-false, agree_below_at}
 use Rattle.std.proofs.lemmas.List.{length-map}
 use Rattle.hex.specs.Hex.{hex_digit_value, digit_or_error, decode_pairs, decode_of, ◌>>=◌}
 use Rattle.hex.proofs.HexLemmas.{decode_of-even}
@@ -27,6 +28,42 @@ none_set y [] h = tt
 none_set y (x ∷ xs) h =
     let both = no_bit (leb y x) (mask_l (map (leb y) xs)) h in
     (leb-false y x both.0, none_set y xs both.1)
+
+-- ---- two blocks
+
+-- whether two bytes are others
+abbrev are_others : ℕ → ℕ → Bool
+are_others a b = not (eqb a b)
+
+alike_more : (same : Bool) (n x y : ℕ) (xs ys : List ℕ) → eqb x y ≡ same → (n ≤ prefix_len not (zip2 are_others xs ys) → take n xs ≡ take n ys)
+    → suc n ≤ prefix_len not (not same ∷ zip2 are_others xs ys) → take (suc n) (x ∷ xs) ≡ take (suc n) (y ∷ ys)
+alike_more true n x y xs ys is later h = ap₂ (λ z zs. z ∷ zs) (eqb-true x y is) (later (omega (arith, h)))
+alike_more false n x y xs ys is later h = absurd (omega (arith, h))
+
+alike_front : (n : ℕ) (xs ys : List ℕ) → length xs ≡ length ys → n ≤ prefix_len not (zip2 are_others xs ys) → take n xs ≡ take n ys
+alike_front zero xs ys e h = refl
+alike_front (suc n) [] [] e h = refl
+alike_front (suc n) [] (y ∷ ys) e h = absurd (omega arith)
+alike_front (suc n) (x ∷ xs) [] e h = absurd (omega arith)
+alike_front (suc n) (x ∷ xs) (y ∷ ys) e h = alike_more (eqb x y) n x y xs ys refl (alike_front n xs ys (omega arith)) h
+
+map_itself : (bs : List Bool) → map (λ b. b) bs ≡ bs
+map_itself [] = refl
+map_itself (b ∷ bs) = ap (λ cs. b ∷ cs) (map_itself bs)
+
+within_first : (none : Bool) (n len count : ℕ) → n ≤ 16 → cond none 16 count ≡ len → n ≤ count → n ≤ len
+within_first true n len count few all h = omega (arith, all, few)
+within_first false n len count few some h = omega (arith, some, h)
+
+pub alike_blocks : (xs ys : List ℕ) → length xs ≡ 16 → length ys ≡ 16 → (n : ℕ) → n ≤ 16
+    → n ≤ count_trailing_zeros 64 (mask_l (map (top 7) (zip2 (λ a b. cond (are_others a b) 255 0) xs ys)) % 2 ^ 64) → take n xs ≡ take n ys
+alike_blocks xs ys long_x long_y n few h =
+    let others = zip2 are_others xs ys in
+    let long : length others ≡ 16 = length-zip2 are_others xs ys (long_x ∙ sym long_y) ∙ long_x in
+    let mask : mask_l (map (top 7) (zip2 (λ a b. cond (are_others a b) 255 0) xs ys)) % 2 ^ 64 ≡ mask_l (map (λ b. b) others) =
+    ap (λ ms. mask_l ms % 2 ^ 64) (tops_compared w8 are_others xs ys) ∙ mask_l-mod others 64 (omega (arith, long)) ∙ ap mask_l (sym (map_itself others)) in
+    let first = first_set_mask_l (λ b. b) others 16 long (omega arith) in
+    alike_front n xs ys (long_x ∙ sym long_y) (within_first _ n _ _ few first (rw mask at h))
 
 -- ---- hex digits
 

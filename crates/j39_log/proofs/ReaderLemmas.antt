@@ -1,18 +1,41 @@
--- A line whose length is the common one.
-use Rattle.std.proofs.Common.{◌≡◌, ◌<◌, ◌≤◌, ℕ, zero, suc, List, [], ◌∷◌, ◌++◌, length, take, drop, get_or, refl, sym, ap, ap₂, ◌∙◌, arith, subst, length-append, length-take, length-drop, inl, inr, lit<}
+-- The name of the run's bus in a line, and the second of the line before.
+use Rattle.std.proofs.Common.{◌≡◌, ◌<◌, ◌≤◌, ◌+◌, ℕ, zero, suc, List, [], ◌∷◌, ◌++◌, length, take, drop, replicate, get_or, refl, sym, ap, ap₂, ◌∙◌, arith, subst, append_assoc, take-append-drop, length-take, length-drop, lit<}
 use Rattle.std.specs.Int.{from_le_bytes, w32, w64}
 use Rattle.std.proofs.lemmas.Nat.{le_bytes_4, le_bytes_8}
 use Rattle.std.proofs.lemmas.Simd.{pick_l_whole}
 use Rattle.j39_log.specs.LastSecond.{IsSecond, kept_text}
-use Rattle.j39_log.specs.Line.{IsBody}
+use Rattle.std.proofs.Math.Seq.{take-append-add}
+use Rattle.std.proofs.lemmas.List.{drop_more, get_or-replicate, take_all}
+use Rattle.j39_log.specs.Bus.{between_of}
 
-pub body_short : (line body : List ℕ) → IsBody line body → length body ≡ 50 → length line ≤ 256
-body_short line body is long =
-    let len = ap length is.line_is ∙ length-append body is.cr in
-    elim is.cr_is [
-      | inl one ↦ let l = ap length one in omega (arith, len, l, long)
-      | inr none ↦ let l = ap length none.0 in omega (arith, len, l, long)
-    ]
+-- ---- the name, where a text begins as its block does
+
+-- behind the name stands a space
+block_is : (bus : List ℕ) → length bus ≤ 13 → between_of bus ≡ 41 ∷ 32 ∷ (bus ++ (32 ∷ drop (2 + length bus + 1) (replicate 16 32)))
+block_is bus few =
+    let all : take 13 bus ≡ bus = take_all 13 bus few in
+    let spaces : List ℕ = replicate 16 32 in
+    let space : get_or spaces (2 + length bus) 0 ≡ 32 = get_or-replicate 16 (2 + length bus) 32 0 (omega (arith, few)) in
+    let later : drop (2 + length bus) spaces ≡ 32 ∷ drop (2 + length bus + 1) spaces =
+    drop_more spaces (2 + length bus) 0 (omega (arith, few)) ∙ ap (λ b. b ∷ drop (2 + length bus + 1) spaces) space in
+    ap (λ name. 41 ∷ 32 ∷ (name ++ drop (2 + length name) spaces)) all ∙ ap (λ t. 41 ∷ 32 ∷ (bus ++ t)) later
+
+take_twice : (n m : ℕ) (xs : List ℕ) → n ≤ m → take n (take m xs) ≡ take n xs
+take_twice zero m xs h = refl
+take_twice (suc n) zero xs h = absurd (omega arith)
+take_twice (suc n) (suc m) [] h = refl
+take_twice (suc n) (suc m) (x ∷ xs) h = ap (λ ys. x ∷ ys) (take_twice n m xs (omega arith))
+
+pub name_found : (text block between bus third : List ℕ) (n : ℕ) → n ≡ length bus + 3 → n ≤ 16 → block ≡ take 16 text → between ≡ between_of bus → take n block ≡ take n between
+    → third ≡ drop n text → text ≡ 41 ∷ 32 ∷ (bus ++ (32 ∷ third))
+name_found text block between bus third n len few b is same t =
+    let spaces : List ℕ = drop (2 + length bus + 1) (replicate 16 32) in
+    let front : take n text ≡ take n block = sym (take_twice n 16 text few) ∙ ap (take n) (sym b) in
+    let n_is : n ≡ suc (suc (length bus + 1)) = omega (arith, len) in
+    let named : take n between ≡ 41 ∷ 32 ∷ (bus ++ (32 ∷ [])) =
+    ap (take n) (is ∙ block_is bus (omega (arith, len, few))) ∙ ap (λ k. take k (41 ∷ 32 ∷ (bus ++ (32 ∷ spaces)))) n_is
+    ∙ ap (λ xs. 41 ∷ 32 ∷ xs) (take-append-add bus (32 ∷ spaces) 1) in
+    sym (take-append-drop n text) ∙ ap₂ (λ xs ys. xs ++ ys) (front ∙ same ∙ named) (sym t) ∙ ap (λ xs. 41 ∷ 32 ∷ xs) (append_assoc bus (32 ∷ []) third)
 
 -- ---- the second of the line before
 

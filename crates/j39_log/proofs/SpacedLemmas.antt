@@ -1,5 +1,5 @@
 -- A line with one space between its fields, and none before or after them.
-use Rattle.std.proofs.Common.{◌≡◌, ◌≢◌, ◌<◌, ◌≤◌, ℕ, true, false, List, [], ◌∷◌, ◌++◌, length, refl, sym, ap, ◌∙◌, arith, subst, append-nil, length-append, lit<, inl, Ok, ◌==◌}
+use Rattle.std.proofs.Common.{◌≡◌, ◌≢◌, ◌<◌, ◌≤◌, ℕ, true, false, List, [], ◌∷◌, ◌++◌, length, ◌⊎◌, ◌+◌, suc, refl, sym, ap, ◌∙◌, arith, subst, append-nil, append_assoc, length-append, lit<, inl, inr, Ok, ◌==◌}
 use Rattle.std.specs.List.{AllByRecursion}
 use Rattle.std.specs.Int.{to_be_bytes, w32}
 use Rattle.std.specs.Char.{digit_value}
@@ -11,7 +11,10 @@ use Rattle.hex.proofs.HexLemmas.{decode_of-ok}
 use Rattle.j39_log.specs.Bus.{IsBusName}
 use Rattle.j39_log.specs.Fields.{IsField, IsAfterField, TakesField, IsSpaced}
 use Rattle.j39_log.specs.Text.{IsStampText, IsFrameText}
-use Rattle.j39_log.specs.Line.{IsBody, HasParts}
+use Rattle.j39_frame.specs.Frame.{FrameRecord}
+use Rattle.j39_log.specs.Line.{IsBody, IsFrameLine, HasParts}
+use Rattle.j39_log.specs.Log.{HasNoNewline}
+use Rattle.j39_log.specs.Newline.{TakesLine}
 
 -- each byte is above the space
 abbrev pub AreAbove : List ℕ → Type 0
@@ -100,3 +103,76 @@ pub IsField-frame : (text : List ℕ) (id : ℕ) (bytes : List ℕ) → IsFrameT
 IsField-frame text id bytes f =
     let some : 0 < length text = omega (arith, ap length f.parts.text_is, f.parts.digits_fit, length-append f.digits (35 ∷ f.pairs)) in
     IsField-above text some (AreAbove-frame text id bytes f)
+
+-- ---- the end of such a line
+
+-- no byte is a control character
+abbrev AreFromSpace : List ℕ → Type 0
+AreFromSpace bytes = AllByRecursion (λ b. 32 ≤ b) bytes
+
+from_append : (xs ys : List ℕ) → AreFromSpace xs → AreFromSpace ys → AreFromSpace (xs ++ ys)
+from_append [] ys p q = q
+from_append (x ∷ xs) ys p q = (p.0, from_append xs ys p.1 q)
+
+from_above : (xs : List ℕ) → AreAbove xs → AreFromSpace xs
+from_above [] h = tt
+from_above (x ∷ xs) h = (omega (arith, h.0), from_above xs h.1)
+
+spaced_from : (first bus third : List ℕ) (stamp id : ℕ) (bytes : List ℕ) → IsStampText first stamp → IsBusName bus → IsFrameText third id bytes
+    → AreFromSpace (first ++ (32 ∷ (bus ++ (32 ∷ third))))
+spaced_from first bus third stamp id bytes s b f =
+    from_append first (32 ∷ (bus ++ (32 ∷ third))) (from_above first (AreAbove-stamp first stamp s)) (
+      omega arith,
+      from_append bus (32 ∷ third) (from_above bus (AreAbove-bus bus b)) (omega arith, from_above third (AreAbove-frame third id bytes f)),
+    )
+
+no_newline_in : (xs ys : List ℕ) → AreFromSpace xs → HasNoNewline ys → HasNoNewline (xs ++ ys)
+no_newline_in [] ys h k = k
+no_newline_in (x ∷ xs) ys h k = (λ e. omega (arith, h.0, e), no_newline_in xs ys h.1 k)
+
+no_return : (front : List ℕ) → AreFromSpace (front ++ (13 ∷ [])) → ⊥
+no_return [] h = absurd (omega (arith, h.0))
+no_return (x ∷ xs) h = no_return xs h.1
+
+-- the line of such a body, with one CR at its end or none
+end_is : (body cr : List ℕ) → AreFromSpace body → (cr ≡ []) ⊎ (cr ≡ 13 ∷ []) → IsBody (body ++ cr) body × HasNoNewline (body ++ cr) × (length cr ≤ 1)
+end_is body cr from (inl none) =
+    subst (λ cs. IsBody (body ++ cs) body × HasNoNewline (body ++ cs) × (length cs ≤ 1)) (sym none) (
+      record { cr = []; line_is = refl; cr_is = inr (refl, λ front e. no_return front (subst AreFromSpace (sym (append-nil body) ∙ e) from)) },
+      no_newline_in body [] from tt,
+      omega arith,
+    )
+end_is body cr from (inr one) =
+    subst (λ cs. IsBody (body ++ cs) body × HasNoNewline (body ++ cs) × (length cs ≤ 1)) (sym one) (
+      record { cr = 13 ∷ []; line_is = refl; cr_is = inl refl },
+      no_newline_in body (13 ∷ []) from (λ e. omega (arith, e), tt),
+      omega arith,
+    )
+
+-- the line that bytes begin with, part by part
+pub first_line : (bytes front after cut behind bus last third end cr later : List ℕ) (frame : FrameRecord) → length front ≡ 18 → length third ≡ 25
+    → bytes ≡ front ++ after → after ≡ cut ++ behind → behind ≡ 41 ∷ 32 ∷ (bus ++ (32 ∷ last)) → last ≡ third ++ end → end ≡ cr ++ (10 ∷ later)
+    → length cut ≤ 3 → (cr ≡ []) ⊎ (cr ≡ 13 ∷ []) → IsStampText (front ++ (cut ++ (41 ∷ []))) frame.stamp → IsBusName bus → IsFrameText third frame.id frame.bytes
+    → (line : List ℕ) × TakesLine bytes line later × IsFrameLine line bus frame
+first_line bytes front after cut behind bus last third end cr later frame long whole f a b l e short ends s named t =
+    let first = front ++ (cut ++ (41 ∷ [])) in
+    let body = first ++ (32 ∷ (bus ++ (32 ∷ third))) in
+    let is = end_is body cr (spaced_from first bus third frame.stamp frame.id frame.bytes s named t) ends in
+    let cut_first : length first ≡ 18 + (length cut + 1) = length-append front (cut ++ (41 ∷ [])) ∙ (let n = length-append cut (41 ∷ []) in omega (arith, long, n)) in
+    let cut_body : length body ≡ length first + suc (length bus + suc (length third)) =
+    length-append first (32 ∷ (bus ++ (32 ∷ third))) ∙ ap (λ n. length first + suc n) (length-append bus (32 ∷ third)) in
+    let few : length (body ++ cr) ≤ 256 =
+    (let n = length-append body cr in let m = named.1 in let k = is.2 in omega (arith, n, m, k, cut_first, cut_body, short, whole)) in
+    let joined : front ++ (cut ++ (41 ∷ (32 ∷ (bus ++ (32 ∷ (third ++ (cr ++ (10 ∷ later)))))))) ≡ (body ++ cr) ++ (10 ∷ later) = simp append_assoc refl in (
+      body ++ cr,
+      record {
+        whole = is.1;
+        bytes_are =
+            f ∙ ap (λ t. front ++ t) (a ∙ ap (λ t. cut ++ t) (b ∙ ap (λ t. 41 ∷ (32 ∷ (bus ++ (32 ∷ t)))) (l ∙ ap (λ t. third ++ t) e))) ∙ joined;
+      },
+      record {
+        third = third;
+        parts = spaced_parts (body ++ cr) body first bus third frame.stamp few is.0 refl s named (IsField-frame third frame.id frame.bytes t);
+        third_is = t;
+      },
+    )

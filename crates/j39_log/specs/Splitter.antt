@@ -1,5 +1,7 @@
 -- A splitter between two pieces of a log, and the lines that it hands out.
 use Rattle.std.specs.Prelude.{◌≡◌, ◌≢◌, ◌<◌, ◌+◌, ℕ, List, [], ◌++◌, Bool, true, false, Option, Some, None, length, take, nat_lt}
+use Rattle.j39_frame.specs.Frame.{FrameRecord}
+use Rattle.j39_log.specs.Line.{IsFrameLine}
 use Rattle.j39_log.specs.Log.{HasNoNewline}
 use Rattle.j39_log.specs.Newline.{TakesLine}
 use Rattle.j39_log.specs.declared.reading.RawLine.{RawLine}
@@ -48,3 +50,13 @@ AnswersPiece begun piece taken (Some raw) = (line : List ℕ) × EndsLine begun 
 abbrev pub AnswersEnd : List ℕ → Option RawLine → Type 0
 AnswersEnd begun None = begun ≡ []
 AnswersEnd begun (Some raw) = (begun ≢ []) × IsRawLine raw begun
+
+-- nothing is begun, and the piece begins with a line of this frame of the bus, which has this many bytes with its newline
+pub record BeginsFrame (splitter : Splitter) (begun piece : List ℕ) (bus : Option (List ℕ))
+    (frame : FrameRecord) (taken : ℕ) : Type 0 where
+  pub begins : HasBegun splitter []
+  pub line : List ℕ
+  pub ends : EndsLine begun piece line taken
+  pub name : List ℕ
+  pub bus_is : bus ≡ Some name
+  pub spells : IsFrameLine line name frame

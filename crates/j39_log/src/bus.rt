@@ -1,28 +1,30 @@
 //! Names of buses.
-ghost use Rattle.std.specs.Prelude.{◌≡◌, ◌+◌, ◌*◌, ◌<◌, ◌↔◌, IsSome, IfSome, IsTrue};
+ghost use Rattle.std.specs.Prelude.{◌≡◌, ◌≤◌, ◌↔◌, IsSome, IfSome, IsTrue, length};
 ghost use Rattle.std.specs.Str.{bytes_eq};
-ghost use Rattle.j39_log.specs.Bus.{IsBusName};
+ghost use Rattle.j39_log.specs.Bus.{IsBusName, between_of};
 
 use arrayvec::ArrayVec;
+use j39_io::backwards::{byte_before, slice_before};
 use std::marker::Model;
 
 /// The name of an interface, as `can0`: 1 to 15 bytes, each above 0x20 and not 0x7F (own).
 #[derive(Debug, Drop)]
 pub struct Bus {
     name: ArrayVec<u8, 15>,
+    /// What stands between the decimals of a stamp and the identifier, for the quick reader.
+    pub(crate) between: [u8; 16],
 }
 
 impl Model for Bus {
     ghost use Rattle.std.specs.Prelude.{ℕ, List};
-    ghost use Rattle.j39_log.specs.Bus.{IsBusName};
+    ghost use Rattle.std.specs.Prelude.{◌≡◌};
+    ghost use Rattle.j39_log.specs.Bus.{IsBusName, between_of};
 
     ghost Value = { List ℕ };
 
     ghost view = { λ b. b.name.items };
 
-    ghost invariant = { λ b. IsBusName b.name.items };
-
-    ghost inverse = { λ xs. record { name = record { items = xs } } };
+    ghost invariant = { λ b. IsBusName b.name.items × (b.between ≡ between_of b.name.items) };
 }
 
 impl Bus {
@@ -36,7 +38,8 @@ impl Bus {
         }
         let mut name = ArrayVec::new();
         name.try_extend_from_slice(bytes).ok()?;
-        Some(Bus { name })
+        let between = between_of(bytes);
+        Some(Bus { name, between })
     }
 
     /// The name's 1 to 15 bytes.
@@ -52,28 +55,21 @@ impl Bus {
     pub fn is_named(&self, name: &[u8]) -> bool
         ensures { result ≡ bytes_eq name.now self.now }
     {
-        are_same(name, self.bytes())
+        name == self.bytes()
     }
 }
 
-/// Whether two texts are the same. Those of four bytes, as `can0`, are compared at once.
-#[inline(always)]
-pub(crate) fn are_same(a: &[u8], b: &[u8]) -> bool
-    ensures { result ≡ bytes_eq a.now b.now }
+/// `)`, a space, the name and a space, as they stand behind a stamp's decimals, and spaces; of a name above 13 bytes its front.
+fn between_of(name: &[u8]) -> [u8; 16]
+    requires { length name.now ≤ 15 }
+    ensures { result ≡ between_of name.now }
 {
-    match (a, b) {
-        ([a, b, c, d], [e, f, g, h]) => word(*a, *b, *c, *d) == word(*e, *f, *g, *h),
-        _ => a == b,
-    }
-}
-
-/// Four bytes as one number.
-#[inline(always)]
-fn word(a: u8, b: u8, c: u8, d: u8) -> u32
-    ensures value { result ≡ a + b * 256 + c * 65536 + d * 16777216 }
-    ensures bytes { (a < 256) × (b < 256) × (c < 256) × (d < 256) }
-{
-    u32::from_le_bytes([a, b, c, d])
+    let (front, _) = name.split_at(name.len().min(13));
+    let mut block = [b' '; 16];
+    let text = slice_before(&mut block, 2 + front.len(), front);
+    let space = byte_before(&mut block, text, b' ');
+    let _ = byte_before(&mut block, space, b')');
+    block
 }
 
 /// Whether the bytes can name a bus.

@@ -7,4 +7,4 @@ mod reader;
 
 pub use last_second::LastSecond;
 pub(crate) use plain::read_plain;
-pub(crate) use reader::frame_on;
+pub(crate) use reader::first_frame;

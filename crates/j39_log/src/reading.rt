@@ -1,12 +1,10 @@
 //! A line of a log, read: by the fast way, which hands on what it does not know.
-ghost use Rattle.std.specs.Prelude.{◌≡◌, ℕ, List, IfSome, Some};
-ghost use Rattle.j39_log.specs.Line.{IsFrameLine};
+ghost use Rattle.std.specs.Prelude.{◌≡◌, ℕ, List};
 ghost use Rattle.j39_log.specs.LineRead.{spelled_of};
 ghost use Rattle.j39_log.specs.Spelled.{Spelled, Spells, unread};
 
-use crate::fast::{frame_on, read_plain};
-use crate::{Bus, LastSecond, Line};
-use j39_frame::Frame;
+use crate::Line;
+use crate::fast::read_plain;
 
 /// Reads a line of a log, which is given without its newline. A frame of any bus is a `Frame` here.
 #[inline(always)]
@@ -38,19 +36,6 @@ impl<'a> RawLine<'a> {
         match self {
             RawLine::Whole(line) => read_line(line),
             RawLine::Long(_) => Line::Unread,
-        }
-    }
-
-    /// The frame that the line spells, where it is one of this bus in the form and length of most lines. `None` says
-    /// nothing of the line: `read` reads it, whatever it is. The second of the line is kept for the next one.
-    #[inline(always)]
-    pub fn frame_on(self, second: &mut LastSecond, bus: &Option<Bus>) -> Option<Frame>
-        ensures { IfSome result (λ frame. (name : List ℕ) × (bus.now ≡ Some name)
-            × ((line : List ℕ) → IsRawLine self.entry line → IsFrameLine line name frame)) }
-    {
-        match (self, bus) {
-            (RawLine::Whole(line), Some(bus)) => frame_on(line, second, bus),
-            _ => None,
         }
     }
 }

@@ -1,11 +1,13 @@
 //! A log's lines, out of its bytes in pieces.
-ghost use Rattle.std.specs.Prelude.{◌≡◌, ◌<◌, ◌≤◌, ◌++◌, ℕ, List, [], length, MatchOption, false};
+ghost use Rattle.std.specs.Prelude.{◌≡◌, ◌<◌, ◌≤◌, ◌++◌, ℕ, List, [], length, IfSome, MatchOption, false};
 ghost use Rattle.std.specs.Borrow.{sem};
 ghost use Rattle.std.specs.Io.BufRead.{Rests};
 
+use crate::fast::first_frame;
 use crate::newline::split_line;
-use crate::{LINE_LIMIT, RawLine};
+use crate::{Bus, LINE_LIMIT, LastSecond, RawLine};
 use arrayvec::ArrayVec;
+use j39_frame::Frame;
 
 /// Cuts the bytes of a log, which come in pieces, into its lines. It keeps the first 256 bytes of
 /// the line that a piece breaks off, and whether the line has more.
@@ -28,7 +30,7 @@ enum PieceStep<'a> {
 }
 
 impl Splitter {
-    ghost use Rattle.j39_log.specs.Splitter.{AnswersEnd, AnswersPiece, HasBegun, IsKept, IsRawLine};
+    ghost use Rattle.j39_log.specs.Splitter.{AnswersEnd, AnswersPiece, BeginsFrame, HasBegun, IsKept, IsRawLine};
     ghost use Rattle.j39_log.specs.SplitterChanges.{Finishes, StepFits, Steps};
     ghost use Rattle.j39_log.specs.contracts.splitter.Splitter.{the_row};
 
@@ -41,6 +43,30 @@ impl Splitter {
             has_more: false,
             has_ended: false,
         }
+    }
+
+    /// The frame of this bus in the line that the piece begins with, and how many bytes the line has with its newline, where
+    /// nothing was begun before and the line has the form of most: ten digits of seconds, six decimals or nine, one space
+    /// between the fields, a name of at most 13 bytes, eight bytes of data, and one CR at its end or none. `None` says
+    /// nothing of the piece, which `feed` takes whatever it is. The second of the line is kept for the next one.
+    #[inline(always)]
+    pub fn frame_on(
+        &self,
+        piece: &[u8],
+        second: &mut LastSecond,
+        bus: &Option<Bus>,
+    ) -> Option<(Frame, usize)>
+        ensures frame { IfSome result (λ found. (begun : List ℕ) → HasBegun self.now begun
+            → BeginsFrame self.now begun piece.now bus.now found.0 found.1) }
+        ensures count { IfSome result (λ found. found.1 ≤ length piece.now) }
+        ensures some { IfSome result (λ found. 0 < found.1) }
+    {
+        if self.has_ended || !self.kept.is_empty() {
+            return None;
+        }
+        let bus = bus.as_ref()?;
+        let (frame, rest) = first_frame(piece, second, bus)?;
+        Some((frame, piece.len() - rest.len()))
     }
 
     /// Takes the bytes up to and with the first newline of the piece, else all of them: how many

@@ -1,5 +1,5 @@
 //! Digits by vectors, all at once.
-ghost use Rattle.std.specs.Prelude.{◌≡◌, ◌≤◌, ◌<◌, map, IfSome, Ok};
+ghost use Rattle.std.specs.Prelude.{◌≡◌, ◌≤◌, ◌<◌, ℕ, map, take, IfSome, Ok};
 ghost use Rattle.std.specs.Simd.Lanes.{mask_l};
 ghost use Rattle.std.specs.Bool.{OnTrue};
 ghost use Rattle.std.specs.List.{AllByRecursion, range_with_len};
@@ -24,6 +24,15 @@ pub(crate) fn gaps_of(block: &[u8; 16]) -> u64
 {
     let from_first = u8x16::from_array(*block) - u8x16::splat(33);
     from_first.simd_ge(u8x16::splat(94)).to_bitmask()
+}
+
+/// How many bytes two blocks begin with alike, where that is less than 16.
+#[inline(always)]
+pub(crate) fn alike_len(a: &[u8; 16], b: &[u8; 16]) -> usize
+    ensures { (n : ℕ) → n ≤ 16 → n ≤ result → take n a.now ≡ take n b.now }
+{
+    let others = u8x16::from_array(*a).simd_ne(u8x16::from_array(*b));
+    others.to_bitmask().trailing_zeros() as usize
 }
 
 /// The value of each hex digit, and 16 or more for another byte: digits come to 246 and up, which wraps to 0 to 9, letters

@@ -161,7 +161,7 @@ fn after_stamp(rest: &[u8]) -> Option<&[u8]>
     }
 }
 
-fn is_digit(b: u8) -> bool
+pub(crate) fn is_digit(b: u8) -> bool
     ensures { OnTrue result (AllDigits 10 (b ∷ [])) }
 {
     b.is_ascii_digit()

@@ -15,6 +15,6 @@ returns g c = λ held subject output met none.
         whole = tt;
         taken_is = refl;
         spell_each = tt;
-        met = has_met-none (g.A.Account.has_met subject) c.args.bus c.args.account output c.default.result _ held met none (same_tally c.default.result _ e.0 e.1.0 e.1.1);
+        met = has_met-none (g.A.Account.has_met subject) c.args.bus c.args.account output c.default.result held met none (same_tally c.default.result _ e.0 e.1.0 e.1.1);
       };
     }

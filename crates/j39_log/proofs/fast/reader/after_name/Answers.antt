@@ -1,12 +1,13 @@
-use Rattle.std.proofs.Common.{◌∙◌, ◌++◌, ◌∷◌, ap, ap₂, sym, take-append-drop}
-use Rattle.std.proofs.lemmas.Slice.Eq.{bytes_eq-Decides}
+use Rattle.std.proofs.Common.{◌+◌, ap, length, ◌∙◌}
+use Rattle.j39_log.specs.Bus.{between_of}
+use Rattle.j39_log.proofs.ReaderLemmas.{name_found}
 use Rattle.j39_log.proofs.fast.reader.after_name.Goals as goal
 
-pub returns-in-Some-eq32-default : goal.returns-in-Some-eq32-default
-returns-in-Some-eq32-default c =
-    let cut = c.in-Some-eq32-default in
-    let same = (bytes_eq-Decides _ _).0 (sym c.are_same.ensures ∙ c.if-not-are_same.false) ∙ c.bytes.ensures.value in (
+pub returns : goal.returns
+returns c =
+    let block = c.in_ok-block.ensures.cases in
+    let n = length c.bytes.result.now + 3 in (
       c.bytes.ensures.is_name,
-      sym (take-append-drop 4 c.args.text.now) ∙ ap₂ (λ xs ys. xs ++ ys) (sym c.split_at.ensures.front ∙ same)
-          (sym c.split_at.ensures.back ∙ (cut.ensures.cases.0 ∙ ap (λ b. b ∷ cut.third.now) cut.field-0-0-test)),
+      name_found c.args.text.now c.in_ok-block.block.now c.bus.inside.between c.args.bus.now c.split_at.result.1.now n (ap (λ name. length name + 3) c.bytes.ensures.value)
+          c.if-n-gt16.false block.0 (c.bus.invariant.1 ∙ ap between_of c.bus.view_is) (c.alike_len.ensures n c.if-n-gt16.false c.if-alike_len-n.false) c.split_at.ensures.back,
     )
