@@ -10,7 +10,7 @@ use Rattle.std.proofs.lemmas.List.Folds.{flat_map-map}
 use Rattle.j39_io.specs.Backwards.{WritesBefore}
 use Rattle.j39_io.proofs.BackwardsLemmas.{before_none, before_then}
 use Rattle.j39_groups.specs.declared.row.Row.{Row}
-use Rattle.j39_groups.specs.Lines.{reading_line, row_lines, row_readings}
+use Rattle.j39_groups.specs.Lines.{in_group, reading_line, row_lines, row_readings}
 use Rattle.j39_groups.specs.Models.{row_record}
 use Rattle.j39_groups.specs.Names.{name_at, name_in}
 use Rattle.j39_groups.specs.Readings.{group_rows, is_network_group, is_reported_in, readings_at, readings_in}
@@ -90,10 +90,10 @@ unfolding readings_in
 readings_of_group rows table pgn bytes same = by_group rows pgn bytes ∙ ap (flat_map (readings_at bytes)) same
 
 pub lines_of_group : (rows : List Row) (table : List RowRecord) (pgn : ℕ) (head bytes : List ℕ) → group_rows pgn (map row_record rows) ≡ group_rows pgn table
-    → flat_map (row_lines pgn head bytes) rows ≡ flat_map (reading_line head) (readings_in table pgn bytes)
+    → flat_map (row_lines pgn head bytes) rows ≡ flat_map (reading_line (in_group head pgn)) (readings_in table pgn bytes)
 lines_of_group rows table pgn head bytes same =
-    flat_map-flat_map (row_readings pgn bytes) (reading_line head) rows
-    ∙ ap (flat_map (reading_line head)) (readings_of_group rows table pgn bytes same)
+    flat_map-flat_map (row_readings pgn bytes) (reading_line (in_group head pgn)) rows
+    ∙ ap (flat_map (reading_line (in_group head pgn))) (readings_of_group rows table pgn bytes same)
 
 -- the lines of the rows from a place on are written
 pub record RowsWritten (pgn : ℕ) (head bytes : List ℕ) (rows : List Row) (old new : List ℕ) (left at lines : ℕ) : Type 0 where

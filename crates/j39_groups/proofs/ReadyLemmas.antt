@@ -1,5 +1,5 @@
 -- What is prepared for a row.
-use Rattle.std.proofs.Common.{◌≡◌, ◌<◌, ◌≤◌, ◌+◌, ◌-◌, ◌/◌, ◌%◌, ◌^◌, ℕ, List, [], ◌∷◌, ◌++◌, Bool, true, false, drop, refl, sym, ap, ◌∙◌, subst, arith, append_assoc, length, inl, inr}
+use Rattle.std.proofs.Common.{◌≡◌, ◌<◌, ◌≤◌, ◌+◌, ◌-◌, ◌/◌, ◌%◌, ◌^◌, ℕ, List, [], ◌∷◌, ◌++◌, Bool, true, false, drop, refl, sym, ap, ap₂, ◌∙◌, subst, arith, append_assoc, length, inl, inr}
 use Rattle.std.specs.Prelude.{◌==◌, ◌&&◌, ◌||◌, not, nat_le, Option, Some, None, IfSome, if◌then◌else◌, codes}
 use Rattle.std.specs.Option.{option_map, option_and_then, option_to_list}
 use Rattle.std.specs.Fmt.{decimal, digits, digits_onto}
@@ -12,12 +12,14 @@ use Rattle.j39_groups.specs.declared.field.Field.TheVariants.{Number, Bits, Swit
 use Rattle.j39_groups.specs.declared.scale.Scale.{Scale}
 use Rattle.j39_groups.specs.declared.short_text.ShortText.{ShortText}
 use Rattle.j39_groups.specs.declared.prepared.Ending.{Ending}
+use Rattle.j39_groups.specs.declared.prepared.Prepared.{Prepared}
+use Rattle.j39_groups.specs.declared.row.Row.{Row}
 use Rattle.j39_groups.specs.declared.short.Short.{Short}
 use Rattle.j39_groups.specs.Ranges.{is_valid}
 use Rattle.j39_groups.specs.Fields.{IsShort, IsSound, is_sound}
 use Rattle.j39_groups.specs.Models.{field_record, field_slot, scale_record, short_value}
 use Rattle.j39_groups.specs.Readings.{bits_meaning, by_top_byte, number_meaning, switch_meaning, values_at}
-use Rattle.j39_groups.specs.Ready.{HasEnd, IsEnd, is_label, is_ready, is_scale_end, is_short_end, short_text}
+use Rattle.j39_groups.specs.Ready.{HasEnd, IsEnd, is_label, is_prepared, is_ready, is_scale_end, is_short_end, number_and_space, short_text}
 use Rattle.j39_groups.specs.Rows.{most_values}
 use Rattle.j39_groups.specs.Value.{SlotRecord, ValueRecord, on, off, error, reserved, indicator, number}
 
@@ -25,18 +27,31 @@ computed : (n : ℕ) → digits_onto 64 10 false n [] ≡ decimal n
 unfolding digits
 computed n = refl
 
--- a label that passes the test is the number and a space
-pub label_is : (label : ShortText) (spn : ℕ) → is_label label spn ≡ true → (label.from ≤ 16) × (short_text label ≡ decimal spn ++ (32 ∷ []))
-label_is label spn h =
+both_computed : (pgn spn : ℕ) → number_and_space pgn ++ number_and_space spn ≡ (decimal pgn ++ (32 ∷ [])) ++ (decimal spn ++ (32 ∷ []))
+both_computed pgn spn = ap₂ (λ ps ss. (ps ++ (32 ∷ [])) ++ (ss ++ (32 ∷ []))) (computed pgn) (computed spn)
+
+-- a label that passes the test is both numbers, each with a space
+label_is : (label : ShortText) (pgn spn : ℕ) → is_label label pgn spn ≡ true
+    → (label.from ≤ 16) × (short_text label ≡ (decimal pgn ++ (32 ∷ [])) ++ (decimal spn ++ (32 ∷ [])))
+label_is label pgn spn h =
     let both = and_parts _ _ h in
-    (leb-true _ _ both.0, (bytes_eq-Decides _ _).0 both.1 ∙ ap (λ ds. ds ++ (32 ∷ [])) (computed spn))
+    (leb-true _ _ both.0, (bytes_eq-Decides _ _).0 both.1 ∙ both_computed pgn spn)
 
 -- and one that is them passes
-pub is_label_from : (label : ShortText) (spn : ℕ) → label.from ≤ 16 → short_text label ≡ decimal spn ++ (32 ∷ []) → is_label label spn ≡ true
-is_label_from label spn inside text =
+pub is_label_from : (label : ShortText) (pgn spn : ℕ) → label.from ≤ 16 → short_text label ≡ (decimal pgn ++ (32 ∷ [])) ++ (decimal spn ++ (32 ∷ []))
+    → is_label label pgn spn ≡ true
+is_label_from label pgn spn inside text =
     let a : nat_le label.from 16 ≡ true = le-leb _ _ inside in
-    let same = (bytes_eq-Decides _ _).1 (text ∙ ap (λ ds. ds ++ (32 ∷ [])) (sym (computed spn))) in
+    let same = (bytes_eq-Decides _ _).1 (text ∙ sym (both_computed pgn spn)) in
     rw (a, same) refl
+
+-- the label and the end of a row whose line is prepared
+pub prepared_is : (row : Row) (prepared : Prepared) → is_prepared row.prepared row.pgn row.spn row.field ≡ true → row.prepared ≡ Some prepared
+    → (prepared.label.from ≤ 16) × (short_text prepared.label ≡ (decimal row.pgn ++ (32 ∷ [])) ++ (decimal row.spn ++ (32 ∷ []))) × (is_ready prepared.end row.field ≡ true)
+prepared_is row prepared h is =
+    let both = and_parts (is_label prepared.label row.pgn row.spn) (is_ready prepared.end row.field) (rw is at h) in
+    let label = label_is prepared.label row.pgn row.spn both.0 in
+    (label.0, label.1, both.1)
 
 scale_end_is : (end : Ending) (scale : Scale) → is_scale_end end scale ≡ true → IsEnd end (scale_record scale)
 scale_end_is end scale h =
@@ -141,8 +156,9 @@ signed_then sign digits text space unit end is = ap (λ t. sign ++ digits ++ t) 
 pub number_then : (digits space unit end : List ℕ) → digits ++ (space ++ (unit ++ end)) ≡ (digits ++ space ++ unit) ++ end
 number_then digits space unit end = simp append_assoc refl
 
-pub labelled_line : (head spn value end label : List ℕ) → label ≡ spn ++ (32 ∷ []) → head ++ (label ++ (value ++ end)) ≡ head ++ spn ++ codes " " ++ value ++ end
-labelled_line head spn value end label is = ap (λ t. head ++ (t ++ (value ++ end))) is ∙ (simp append_assoc refl)
+pub labelled_line : (head pgn spn value end label : List ℕ) → label ≡ (pgn ++ (32 ∷ [])) ++ (spn ++ (32 ∷ []))
+    → head ++ (label ++ (value ++ end)) ≡ (head ++ pgn ++ codes " ") ++ spn ++ codes " " ++ value ++ end
+labelled_line head pgn spn value end label is = ap (λ t. head ++ (t ++ (value ++ end))) is ∙ (simp append_assoc refl)
 
 -- a field that passes the test is sound
 pub field_sound : (field : Field) → is_sound field ≡ true → IsSound field

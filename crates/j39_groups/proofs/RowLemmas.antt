@@ -13,26 +13,24 @@ use Rattle.j39_groups.specs.declared.row.Row.{Row}
 use Rattle.j39_groups.specs.Fields.{is_sound}
 use Rattle.j39_groups.specs.Models.{row_record}
 use Rattle.j39_groups.specs.Readings.{is_network_group}
-use Rattle.j39_groups.specs.Ready.{is_end, is_label}
+use Rattle.j39_groups.specs.Ready.{is_prepared}
 use Rattle.j39_groups.specs.Rows.{is_listed_group, is_row}
 
 pub record RowIs (row : Row) : Type 0 where
   pub sound : is_sound row.field ≡ true
   pub listed : is_listed_group row.pgn ≡ true
-  pub labelled : is_label row.label row.spn ≡ true
-  pub ended : is_end row.end row.field ≡ true
+  pub prepared : is_prepared row.prepared row.pgn row.spn row.field ≡ true
 
 pub row_is : (row : Row) → is_row row ≡ true → RowIs row
 unfolding is_row
 row_is row h =
     let a = and_parts _ _ h in
     let b = and_parts _ _ a.1 in
-    let c = and_parts _ _ b.1 in
-    record { sound = a.0; listed = b.0; labelled = c.0; ended = c.1 }
+    record { sound = a.0; listed = b.0; prepared = b.1 }
 
 pub is_row_from : (row : Row) → RowIs row → is_row row ≡ true
 unfolding is_row
-is_row_from row is = let a = is.sound in let b = is.listed in let c = is.labelled in let d = is.ended in rw (a, b, c, d) refl
+is_row_from row is = let a = is.sound in let b = is.listed in let c = is.prepared in rw (a, b, c) refl
 
 pub row_at : (rows : List Row) (i : ℕ) (d : Row) → list_all is_row rows ≡ true → i < length rows → is_row (get_or rows i d) ≡ true
 row_at rows i d all below = AllPass-from_list_all is_row rows all i d below

@@ -15,6 +15,9 @@ decimal_short n h = length-decimal-le 20 n (omega arith) (omega arith) h
 pub decimal_ten : (n : ℕ) → n < 2 ^ 32 → length (decimal n) ≤ 10
 decimal_ten n h = length-decimal-le 10 n (omega arith) (omega arith) (omega arith)
 
+pub decimal_six : (n : ℕ) → n < 10 ^ 6 → length (decimal n) ≤ 6
+decimal_six n h = length-decimal-le 6 n (omega arith) (omega arith) (omega arith)
+
 pub magnitude_whole : (places magnitude : ℕ) → places ≡ 0 → magnitude_text places magnitude ≡ decimal magnitude
 unfolding magnitude_text
 magnitude_whole zero magnitude h = let whole : magnitude / 10 ^ 0 ≡ magnitude = omega arith in rw whole (append-nil (decimal magnitude))

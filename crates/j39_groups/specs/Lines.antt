@@ -13,12 +13,16 @@ use Rattle.j39_groups.specs.ValueText.{value_text}
 abbrev pub reading_line : List ℕ → ReadingRecord → List ℕ
 reading_line head r = head ++ decimal r.spn ++ codes " " ++ value_text r.value ++ (newline ∷ [])
 
+-- the number of a group and a space behind what its lines begin with
+abbrev pub in_group : List ℕ → ℕ → List ℕ
+in_group head pgn = head ++ decimal pgn ++ codes " "
+
 -- what a row gives in a payload of a group: nothing where it is of another
 abbrev pub row_readings : ℕ → List ℕ → Row → List ReadingRecord
 row_readings pgn bytes row = if row.pgn == pgn then readings_at bytes (row_record row) else []
 
 abbrev pub row_lines : ℕ → List ℕ → List ℕ → Row → List ℕ
-row_lines pgn head bytes row = flat_map (reading_line head) (row_readings pgn bytes row)
+row_lines pgn head bytes row = flat_map (reading_line (in_group head pgn)) (row_readings pgn bytes row)
 
 -- the readings of the first parts of a payload
 abbrev pub text_readings : ℕ → List ℕ → ℕ → List ReadingRecord

@@ -6,6 +6,7 @@ use Rattle.j39_io.specs.Chars.{newline, space}
 use Rattle.j39_groups.specs.declared.field.Field.{Field}
 use Rattle.j39_groups.specs.declared.field.Field.TheVariants.{Number, Bits, Switch, Text, Texts}
 use Rattle.j39_groups.specs.declared.prepared.Ending.{Ending}
+use Rattle.j39_groups.specs.declared.prepared.Prepared.{Prepared}
 use Rattle.j39_groups.specs.declared.scale.Scale.{Scale}
 use Rattle.j39_groups.specs.declared.short_text.ShortText.{ShortText}
 use Rattle.j39_groups.specs.Value.{SlotRecord, ValueRecord, number, on, off, error, reserved, indicator, text}
@@ -13,10 +14,14 @@ use Rattle.j39_groups.specs.Value.{SlotRecord, ValueRecord, number, on, off, err
 abbrev pub short_text : ShortText → List ℕ
 short_text short = drop short.from short.bytes
 
--- a label is the parameter's number and a space; the digits are those of `decimal`, computed
-abbrev pub is_label : ShortText → ℕ → Bool
-is_label label spn =
-    nat_le label.from 16 && bytes_eq (short_text label) (digits_onto 64 10 false spn [] ++ (space ∷ []))
+-- a number and a space; the digits are those of `decimal`, computed
+abbrev pub number_and_space : ℕ → List ℕ
+number_and_space n = digits_onto 64 10 false n [] ++ (space ∷ [])
+
+-- a label is the group's number and a space, and the parameter's and a space
+abbrev pub is_label : ShortText → ℕ → ℕ → Bool
+is_label label pgn spn =
+    nat_le label.from 16 && bytes_eq (short_text label) (number_and_space pgn ++ number_and_space spn)
 
 -- an end has nine places at most
 abbrev pub is_short_end : Ending → Bool
@@ -39,6 +44,11 @@ is_ready end (Texts byte count) = false
 abbrev pub is_end : Option Ending → Field → Bool
 is_end None field = true
 is_end (Some end) field = is_ready end field
+
+-- what a row's line takes beside its value is prepared, or nothing is
+abbrev pub is_prepared : Option Prepared → ℕ → ℕ → Field → Bool
+is_prepared None pgn spn field = true
+is_prepared (Some prepared) pgn spn field = is_label prepared.label pgn spn && is_ready prepared.end field
 
 pub record IsEnd (end : Ending) (slot : SlotRecord) : Type 0 where
   pub from : end.text.from ≤ 16

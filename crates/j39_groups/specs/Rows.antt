@@ -9,7 +9,7 @@ use Rattle.j39_groups.specs.declared.scale.Scale.{Scale}
 use Rattle.j39_groups.specs.Fields.{is_sound}
 use Rattle.j39_groups.specs.Models.{scale_record}
 use Rattle.j39_groups.specs.Readings.{is_heard_group, is_network_group}
-use Rattle.j39_groups.specs.Ready.{is_end, is_label}
+use Rattle.j39_groups.specs.Ready.{is_prepared}
 use Rattle.j39_groups.specs.Slots.{SizedSlotRecord}
 
 -- the group is one that a table may list
@@ -18,7 +18,7 @@ is_listed_group pgn = nat_lt pgn (2 ^ 18) && (not (is_network_group pgn) && is_h
 
 -- a row may stand in a table, and what its line takes is prepared
 unfoldable pub is_row : Row → Bool
-is_row row = is_sound row.field && (is_listed_group row.pgn && (is_label row.label row.spn && is_end row.end row.field))
+is_row row = is_sound row.field && (is_listed_group row.pgn && is_prepared row.prepared row.pgn row.spn row.field)
 
 -- ---- the built-in table alone
 

@@ -3,7 +3,7 @@ ghost use Rattle.std.specs.Prelude.{◌≡◌, ◌≤◌, ◌*◌, IfOk, drop, l
 ghost use Rattle.std.specs.List.{flat_map, list_all};
 ghost use Rattle.j39_io.specs.Puts.{Puts};
 ghost use Rattle.j39_io.specs.Turn.{turn};
-ghost use Rattle.j39_groups.specs.Lines.{reading_line, row_lines, row_readings};
+ghost use Rattle.j39_groups.specs.Lines.{in_group, reading_line, row_lines, row_readings};
 ghost use Rattle.j39_groups.specs.Models.{row_record};
 ghost use Rattle.j39_groups.specs.Readings.{readings_at};
 ghost use Rattle.j39_groups.specs.Rows.{is_row};
@@ -13,6 +13,7 @@ use crate::reading::push_readings;
 use crate::row::Row;
 use crate::rows_before::{HEAD, LINES, rows_before};
 use arrayvec::ArrayVec;
+use j39_io::printing::{push_bytes, push_number};
 use j39_io::{DeviceFault, Sink, put_all};
 
 /// The most rows that are written in one block.
@@ -143,20 +144,41 @@ fn put_row<W: Sink>(
         result (turn W.written W.has_failed sink.old sink.new) }
 {
     if row.pgn == pgn {
-        put_readings(row, head, bytes, sink)
+        put_in_group(row, head, bytes, sink)
     } else {
         Ok(0)
     }
 }
 
 /// The same, of a row of the group.
-fn put_readings<W: Sink>(
+fn put_in_group<W: Sink>(
     row: &Row<'_>,
     head: &[u8],
     bytes: &[u8],
     sink: &mut W,
 ) -> Result<u64, DeviceFault>
     requires short { length head.now ≤ 48 }
+    requires sound { is_row row.now ≡ true }
+    ensures lines { IfOk result (λ n. n ≡ length (readings_at bytes.now (row_record row.now))) }
+    ensures few { IfOk result (λ n. n ≤ 32) }
+    ensures puts { Puts (flat_map (reading_line (in_group head.now row.now.pgn)) (readings_at bytes.now (row_record row.now)))
+        result (turn W.written W.has_failed sink.old sink.new) }
+{
+    let mut group = ArrayVec::<u8, 64>::new();
+    push_bytes(&mut group, head);
+    push_number(&mut group, u64::from(row.pgn));
+    group.push(b' ');
+    put_readings(row, group.as_slice(), bytes, sink)
+}
+
+/// Writes a line for each reading by a row; `head` is what each begins with.
+fn put_readings<W: Sink>(
+    row: &Row<'_>,
+    head: &[u8],
+    bytes: &[u8],
+    sink: &mut W,
+) -> Result<u64, DeviceFault>
+    requires short { length head.now ≤ 64 }
     requires sound { is_row row.now ≡ true }
     ensures lines { IfOk result (λ n. n ≡ length (readings_at bytes.now (row_record row.now))) }
     ensures few { IfOk result (λ n. n ≤ 32) }

@@ -7,7 +7,7 @@ ghost use Rattle.std.proofs.Props.{props};
 ghost use Rattle.j39_frame.specs.Pgn.{pgn_raw};
 ghost use Rattle.j39_io.specs.Puts.{Puts};
 ghost use Rattle.j39_io.specs.Turn.{turn};
-ghost use Rattle.j39_groups.specs.Lines.{reading_line};
+ghost use Rattle.j39_groups.specs.Lines.{in_group, reading_line};
 ghost use Rattle.j39_groups.specs.Models.{listed_rows, row_record};
 ghost use Rattle.j39_groups.specs.Names.{group_name_in, name_in, parameter_name};
 ghost use Rattle.j39_groups.specs.Printed.{rows_text};
@@ -139,9 +139,9 @@ impl<'t> Groups<'t> {
         printed::put_rows(rows_of(&self.listed), sink)
     }
 
-    /// Writes a line for each reading of a payload: the bytes of `head` from `from` on, the parameter's number
-    /// (SPN), a space, the value's text and a newline; answers how many. What stands in `block` afterwards is not
-    /// known. After a fault a front of the lines was written.
+    /// Writes a line for each reading of a payload: the bytes of `head` from `from` on, the group's number (PGN), a space,
+    /// the parameter's (SPN), a space, the value's text and a newline; answers how many. What stands in `block` afterwards
+    /// is not known. After a fault a front of the lines was written.
     #[inline(always)]
     pub fn put_lines<W: Sink>(
         &self,
@@ -154,7 +154,8 @@ impl<'t> Groups<'t> {
     ) -> Result<u64, DeviceFault>
         requires { from ≤ 48 }
         ensures lines { IfOk result (λ n. n ≡ length (readings_in self.now (pgn_raw pgn) bytes.now)) }
-        ensures puts { Puts (flat_map (reading_line (drop from head.now)) (readings_in self.now (pgn_raw pgn) bytes.now))
+        ensures puts { Puts (flat_map (reading_line (in_group (drop from head.now) (pgn_raw pgn)))
+            (readings_in self.now (pgn_raw pgn) bytes.now))
             result (turn W.written W.has_failed sink.old sink.new) }
     {
         let pgn = pgn.raw();
@@ -185,4 +186,11 @@ impl<'t> Groups<'t> {
     {
         name_in_group(self.rows_for(pgn), pgn, spn)
     }
+}
+
+/// Whether parameters of this group are read by the built-in table: asked so, no table has to be made.
+pub fn is_reported(pgn: Pgn) -> bool
+    ensures { result ≡ is_reported_in the_table (pgn_raw pgn) }
+{
+    has_group(built_in_rows(), pgn.raw())
 }

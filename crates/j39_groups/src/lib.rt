@@ -31,7 +31,7 @@ mod visiting;
 
 pub use by_number::{raw_of, slot_of};
 pub use field::Field;
-pub use groups_table::Groups;
+pub use groups_table::{Groups, is_reported};
 pub use listable::{is_heard_group, is_network_group};
 pub use printed::{decimal_of, push_decimal, push_range};
 pub use reading::readings;

@@ -18,7 +18,7 @@ pub(crate) fn put_found<W: Sink>(
     found: &[Reading<'_, '_>],
     sink: &mut W,
 ) -> Result<(), DeviceFault>
-    requires { length head.now ≤ 48 }
+    requires { length head.now ≤ 64 }
     ensures { Puts (flat_map (λ r. reading_line head.now (reading_of r)) found.now)
         result (turn W.written W.has_failed sink.old sink.new) }
 {
@@ -34,10 +34,10 @@ fn put_reading<W: Sink>(
     reading: &Reading<'_, '_>,
     sink: &mut W,
 ) -> Result<(), DeviceFault>
-    requires { length head.now ≤ 48 }
+    requires { length head.now ≤ 64 }
     ensures { Puts (reading_line head.now (reading_of reading.now)) result (turn W.written W.has_failed sink.old sink.new) }
 {
-    let mut line = ArrayVec::<u8, 64>::new();
+    let mut line = ArrayVec::<u8, 80>::new();
     push_bytes(&mut line, head);
     push_number(&mut line, u64::from(reading.spn));
     line.push(b' ');

@@ -1,6 +1,6 @@
 //! What is prepared for the line of a row.
 ghost use Rattle.std.specs.Prelude.{◌≡◌, true, IfSome};
-ghost use Rattle.j39_groups.specs.Ready.{is_end, is_label, is_scale_end};
+ghost use Rattle.j39_groups.specs.Ready.{is_end, is_label, is_prepared, is_scale_end};
 
 use crate::field::Field;
 use crate::scale::Scale;
@@ -16,20 +16,43 @@ pub(crate) struct Ending {
     pub places: u8,
 }
 
-/// A parameter's number and a space.
-pub(crate) fn label_of(spn: u32) -> ShortText
-    ensures { is_label result spn ≡ true }
+/// What the line of a row takes beside its value.
+#[derive(Clone, Copy)]
+pub(crate) struct Prepared {
+    /// The group's number and a space, and the parameter's and a space.
+    pub label: ShortText,
+    pub end: Ending,
+}
+
+/// What the line of a row takes; `None` where that is too long, or a value is a text.
+pub(crate) fn prepare(pgn: u32, spn: u32, field: Field<'_>) -> Option<Prepared>
+    ensures { is_prepared result pgn spn field.entry ≡ true }
 {
-    let mut bytes = [b' '; 16];
-    let from = number_before(&mut bytes, 15, u64::from(spn));
-    ShortText {
-        bytes,
-        from: from as u8,
+    match (label_of(pgn, spn), end_of(field)) {
+        (Some(label), Some(end)) => Some(Prepared { label, end }),
+        _ => None,
     }
 }
 
+/// A group's number and a space, and a parameter's and a space; `None` where one has more than six digits.
+fn label_of(pgn: u32, spn: u32) -> Option<ShortText>
+    ensures { IfSome result (λ label. is_label label pgn spn ≡ true) }
+{
+    if pgn > 999_999 || spn > 999_999 {
+        return None;
+    }
+    let mut bytes = [b' '; 16];
+    let number = number_before(&mut bytes, 15, u64::from(spn));
+    let space = byte_before(&mut bytes, number, b' ');
+    let from = number_before(&mut bytes, space, u64::from(pgn));
+    Some(ShortText {
+        bytes,
+        from: from as u8,
+    })
+}
+
 /// What stands behind the numbers of a field, where it is short and none of its values is a text.
-pub(crate) fn end_of(field: Field<'_>) -> Option<Ending>
+fn end_of(field: Field<'_>) -> Option<Ending>
     ensures { is_end result field.entry ≡ true }
 {
     match field {

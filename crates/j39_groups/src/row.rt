@@ -7,8 +7,7 @@ ghost use Rattle.j39_groups.specs.Readings.{is_heard_group, is_network_group};
 ghost use Rattle.j39_groups.specs.Rows.{is_row};
 
 use crate::field::Field;
-use crate::prepared::{Ending, end_of, label_of};
-use crate::short_text::ShortText;
+use crate::prepared::{Prepared, prepare};
 use j39_frame::Pgn;
 use j39_memory::Keyed;
 
@@ -19,11 +18,9 @@ pub struct Row<'t> {
     pub(crate) pgn: u32,
     /// The parameter's number (SPN).
     pub(crate) spn: u32,
-    /// The number and a space.
-    pub(crate) label: ShortText,
-    /// What its line ends with. `None` where it is written part by part: of a text, a long unit, or more than nine
-    /// places.
-    pub(crate) end: Option<Ending>,
+    /// What its line takes beside the value. `None` where it is written part by part: of a text, a long unit, more than
+    /// nine places, or a number (SPN) of more than six digits.
+    pub(crate) prepared: Option<Prepared>,
     /// Where it stands in the payload.
     pub(crate) field: Field<'t>,
     /// The group's short name, of any bytes.
@@ -48,13 +45,12 @@ impl<'t> Row<'t> {
           field = field_record field.entry;
         } }
     {
-        let label = label_of(spn);
-        let end = end_of(field);
+        let pgn = pgn.raw();
+        let prepared = prepare(pgn, spn, field);
         Row {
-            pgn: pgn.raw(),
+            pgn,
             spn,
-            label,
-            end,
+            prepared,
             field,
             group,
             name,
@@ -76,8 +72,7 @@ impl Default for Row<'_> {
         Row {
             pgn: 0,
             spn: 0,
-            label: ShortText::EMPTY,
-            end: None,
+            prepared: None,
             field: Field::Text { part: 1 },
             group: b"",
             name: b"",

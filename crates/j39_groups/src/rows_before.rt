@@ -5,14 +5,14 @@ ghost use Rattle.std.specs.List.{flat_map, list_all};
 ghost use Rattle.std.specs.Option.{option_map, option_to_list};
 ghost use Rattle.j39_io.specs.Backwards.{WritesBefore};
 ghost use Rattle.j39_io.specs.Chars.{newline};
-ghost use Rattle.j39_groups.specs.Lines.{reading_line, row_lines, row_readings};
+ghost use Rattle.j39_groups.specs.Lines.{in_group, reading_line, row_lines, row_readings};
 ghost use Rattle.j39_groups.specs.Models.{field_record, field_slot, row_record, short_value};
 ghost use Rattle.j39_groups.specs.Readings.{readings_at, values_at};
 ghost use Rattle.j39_groups.specs.Ready.{HasEnd, short_text};
 ghost use Rattle.j39_groups.specs.Rows.{is_row};
 ghost use Rattle.j39_groups.specs.ValueText.{magnitude_text, value_text};
 
-use crate::prepared::Ending;
+use crate::prepared::{Ending, Prepared};
 use crate::row::Row;
 use crate::short::Short;
 use crate::short_text::{magnitude_before, short_before};
@@ -104,29 +104,29 @@ fn row_before(
     requires room { 112 ≤ end }
     requires within { end ≤ length out.old }
     ensures written { IfSome result (λ found. WritesBefore out.old out.new end found.0
-        (flat_map (reading_line (drop from head.now)) (readings_at bytes.now (row_record row.now)))) }
+        (flat_map (reading_line (in_group (drop from head.now) row.now.pgn)) (readings_at bytes.now (row_record row.now)))) }
     ensures lines { IfSome result (λ found. found.1 ≡ length (readings_at bytes.now (row_record row.now))) }
     ensures one { IfSome result (λ found. found.1 ≤ 1) }
     ensures short { IfSome result (λ found. end ≤ found.0 + 112) }
 {
-    let ending = row.end.as_ref()?;
-    match ready_value(row, ending, bytes) {
+    let prepared = row.prepared.as_ref()?;
+    match ready_value(row, prepared, bytes) {
         Some(short) => {
-            let start = line_before(out, end, head, from, row, ending, short);
+            let start = line_before(out, end, head, from, row, prepared, short);
             Some((start, 1))
         }
         None => Some((end, 0)),
     }
 }
 
-/// The value in a row that has one at most, whose end is prepared.
+/// The value in a row that has one at most, whose line is prepared.
 #[inline(always)]
-fn ready_value(row: &Row<'_>, ending: &Ending, bytes: &[u8]) -> Option<Short>
+fn ready_value(row: &Row<'_>, prepared: &Prepared, bytes: &[u8]) -> Option<Short>
     requires sound { is_row row.now ≡ true }
-    requires ending { row.now.end ≡ Some ending.now }
+    requires prepared { row.now.prepared ≡ Some prepared.now }
     ensures value { option_to_list (option_map (short_value (field_slot row.now.field)) result)
         ≡ values_at bytes.now (field_record row.now.field) }
-    ensures ends { IfSome result (λ short. HasEnd ending.now (short_value (field_slot row.now.field) short)) }
+    ensures ends { IfSome result (λ short. HasEnd prepared.now.end (short_value (field_slot row.now.field) short)) }
 {
     short_in(bytes, &row.field)
 }
@@ -139,20 +139,21 @@ fn line_before(
     head: &[u8; HEAD],
     from: usize,
     row: &Row<'_>,
-    ending: &Ending,
+    prepared: &Prepared,
     short: Short,
 ) -> usize
     requires from { from ≤ 48 }
     requires sound { is_row row.now ≡ true }
-    requires ends { HasEnd ending.now (short_value (field_slot row.now.field) short) }
+    requires prepared { row.now.prepared ≡ Some prepared.now }
+    requires ends { HasEnd prepared.now.end (short_value (field_slot row.now.field) short) }
     requires room { 112 ≤ end }
     requires within { end ≤ length out.old }
-    ensures written { WritesBefore out.old out.new end result (reading_line (drop from head.now)
+    ensures written { WritesBefore out.old out.new end result (reading_line (in_group (drop from head.now) row.now.pgn)
         (record { spn = row.now.spn; value = short_value (field_slot row.now.field) short })) }
     ensures short { end ≤ result + 112 }
 {
-    let text = value_before(out, end, short, row, ending);
-    let label = short_before(out, text, &row.label);
+    let text = value_before(out, end, short, row, &prepared.end);
+    let label = short_before(out, text, &prepared.label);
     tail_before(out, label, head, from)
 }
 

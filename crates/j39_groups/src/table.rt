@@ -6,7 +6,7 @@ ghost use Rattle.j39_groups.specs.Rows.{is_built_in, is_row};
 ghost use Rattle.j39_groups.specs.Table.{the_table};
 
 use crate::field::Field;
-use crate::prepared::Ending;
+use crate::prepared::{Ending, Prepared};
 use crate::row::Row;
 use crate::scale::Scale;
 use crate::short_text::ShortText;
@@ -200,8 +200,29 @@ macro_rules! unit_end {
     };
 }
 
+// The digit of a number that counts so many.
+macro_rules! digit {
+    ($number:literal, $unit:literal) => {
+        b'0' + ($number / $unit % 10) as u8
+    };
+}
+
+// One of three, by how many digits a parameter's number has: one, two or three, as all in this table have.
+macro_rules! by_digits {
+    ($spn:literal, $one:expr, $two:expr, $three:expr) => {
+        if $spn < 10 {
+            $one
+        } else if $spn < 100 {
+            $two
+        } else {
+            $three
+        }
+    };
+}
+
+// The number of a group, of five digits as all in this table have, and that of a parameter, each with a space behind it.
 macro_rules! label {
-    ($spn:literal) => {
+    ($pgn:literal, $spn:literal) => {
         ShortText {
             bytes: [
                 b' ',
@@ -210,30 +231,18 @@ macro_rules! label {
                 b' ',
                 b' ',
                 b' ',
-                b' ',
-                b' ',
-                b' ',
-                b'0' + ($spn / 100_000 % 10) as u8,
-                b'0' + ($spn / 10_000 % 10) as u8,
-                b'0' + ($spn / 1_000 % 10) as u8,
-                b'0' + ($spn / 100 % 10) as u8,
-                b'0' + ($spn / 10 % 10) as u8,
-                b'0' + ($spn % 10) as u8,
+                by_digits!($spn, b' ', b' ', digit!($pgn, 10_000)),
+                by_digits!($spn, b' ', digit!($pgn, 10_000), digit!($pgn, 1_000)),
+                by_digits!($spn, digit!($pgn, 10_000), digit!($pgn, 1_000), digit!($pgn, 100)),
+                by_digits!($spn, digit!($pgn, 1_000), digit!($pgn, 100), digit!($pgn, 10)),
+                by_digits!($spn, digit!($pgn, 100), digit!($pgn, 10), digit!($pgn, 1)),
+                by_digits!($spn, digit!($pgn, 10), digit!($pgn, 1), b' '),
+                by_digits!($spn, digit!($pgn, 1), b' ', digit!($spn, 100)),
+                by_digits!($spn, b' ', digit!($spn, 10), digit!($spn, 10)),
+                digit!($spn, 1),
                 b' ',
             ],
-            from: if $spn < 10 {
-                14
-            } else if $spn < 100 {
-                13
-            } else if $spn < 1_000 {
-                12
-            } else if $spn < 10_000 {
-                11
-            } else if $spn < 100_000 {
-                10
-            } else {
-                9
-            },
+            from: by_digits!($spn, 8, 7, 6),
         }
     };
 }
@@ -244,10 +253,12 @@ macro_rules! number {
         Row {
             pgn: $pgn,
             spn: $spn,
-            label: label!($spn),
-            end: Some(Ending {
-                text: unit_end!($unit),
-                places: $places,
+            prepared: Some(Prepared {
+                label: label!($pgn, $spn),
+                end: Ending {
+                    text: unit_end!($unit),
+                    places: $places,
+                },
             }),
             field: Field::Number {
                 first: $first,
@@ -270,13 +281,15 @@ macro_rules! switch {
         Row {
             pgn: $pgn,
             spn: $spn,
-            label: label!($spn),
-            end: Some(Ending {
-                text: ShortText {
-                    bytes: *b"                ",
-                    from: 16,
+            prepared: Some(Prepared {
+                label: label!($pgn, $spn),
+                end: Ending {
+                    text: ShortText {
+                        bytes: *b"                ",
+                        from: 16,
+                    },
+                    places: 0,
                 },
-                places: 0,
             }),
             field: Field::Switch {
                 byte: $byte,
@@ -294,8 +307,7 @@ macro_rules! text {
         Row {
             pgn: $pgn,
             spn: $spn,
-            label: label!($spn),
-            end: None,
+            prepared: None,
             field: Field::Text { part: $part },
             group: $group,
             name: $name,
@@ -308,8 +320,7 @@ macro_rules! texts {
         Row {
             pgn: $pgn,
             spn: $spn,
-            label: label!($spn),
-            end: None,
+            prepared: None,
             field: Field::Texts {
                 byte: $byte,
                 count: $count,

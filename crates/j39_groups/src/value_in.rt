@@ -66,7 +66,7 @@ pub(crate) fn short_in(bytes: &[u8], field: &Field<'_>) -> Option<Short>
 
 /// The number in the bytes `first` to `last`.
 #[inline(always)]
-fn number_of(bytes: &[u8], first: u8, last: u8, scale: &Scale<'_>) -> Option<Short>
+pub(crate) fn number_of(bytes: &[u8], first: u8, last: u8, scale: &Scale<'_>) -> Option<Short>
     requires { IsSoundBytes first last scale.now }
     ensures { option_map (short_value (scale_record scale.now)) result
         ≡ option_and_then (number_meaning (last - (first - 1)) (scale_record scale.now))

@@ -4,18 +4,20 @@ ghost use Rattle.std.specs.List.{flat_map, list_all};
 ghost use Rattle.std.specs.Option.{option_map, option_to_list};
 ghost use Rattle.j39_groups.specs.Fields.{HasOneValue};
 ghost use Rattle.j39_groups.specs.Lines.{row_readings, text_readings};
-ghost use Rattle.j39_groups.specs.Models.{reading_of, row_record, value_of};
+ghost use Rattle.j39_groups.specs.Models.{reading_of, row_record, scale_record, short_value, value_of};
 ghost use Rattle.j39_groups.specs.Readings.{readings_at};
 ghost use Rattle.j39_groups.specs.Rows.{is_row};
 ghost use Rattle.j39_groups.specs.Value.{ReadingRecord};
-ghost use Rattle.j39_groups.specs.Visits.{Stops, Takes, visited};
+ghost use Rattle.j39_groups.specs.Visits.{Stops, Takes, visited, visited_number};
 ghost use Rattle.j39_groups.specs.declared.field.Field.TheVariants.{Texts};
 
 use crate::field::Field;
 use crate::reading::push_texts;
 use crate::row::Row;
+use crate::scale::Scale;
+use crate::short::Short;
 use crate::value::{Reading, Value};
-use crate::value_in::{bytes_from, value_in};
+use crate::value_in::{bytes_from, number_of, value_in};
 use arrayvec::ArrayVec;
 
 /// What takes the readings of payloads, one after another, with what it writes to; `'t` is how long the table lives.
@@ -39,6 +41,21 @@ pub trait ReadingVisitor<'t, M> {
         ensures stopped { OnErr result ((subject : Subject) (before : List ReadingRecord)
             → has_taken subject self.old medium.old before
             → has_stopped subject before (visited spn value.entry) self.new medium.new) };
+
+    /// Takes the next reading, a number with its scale, as `visit` does: most values are one, and a visitor may have a way
+    /// for them.
+    fn visit_number(
+        &mut self,
+        spn: u32,
+        number: i64,
+        scale: &Scale<'t>,
+        medium: &mut M,
+    ) -> Result<(), Self::Fault>
+        ensures taken { OnOk result (Takes has_taken self.old medium.old self.new medium.new
+            (visited_number spn number (scale_record scale.now) ∷ [])) }
+        ensures stopped { OnErr result ((subject : Subject) (before : List ReadingRecord)
+            → has_taken subject self.old medium.old before
+            → has_stopped subject before (visited_number spn number (scale_record scale.now)) self.new medium.new) };
 }
 
 /// Hands on these readings.
@@ -103,6 +120,72 @@ fn visit_if_of<'t, M, V: ReadingVisitor<'t, M>>(
 /// Hands on the readings by one row.
 #[inline(always)]
 fn visit_row<'t, M, V: ReadingVisitor<'t, M>>(
+    row: &Row<'t>,
+    bytes: &[u8],
+    visitor: &mut V,
+    medium: &mut M,
+) -> Result<(), V::Fault>
+    requires { is_row row.now ≡ true }
+    ensures taken { OnOk result (Takes V.has_taken visitor.old medium.old visitor.new medium.new
+        (readings_at bytes.now (row_record row.now))) }
+    ensures stopped { OnErr result (Stops V.has_taken V.has_stopped visitor.old medium.old visitor.new medium.new
+        (readings_at bytes.now (row_record row.now))) }
+{
+    match &row.field {
+        Field::Number { first, last, scale } => visit_short(
+            row.spn,
+            number_of(bytes, *first, *last, scale),
+            scale,
+            visitor,
+            medium,
+        ),
+        _ => visit_other(row, bytes, visitor, medium),
+    }
+}
+
+/// Hands on the number or the word in a number's place, where there is one.
+#[inline(always)]
+fn visit_short<'t, M, V: ReadingVisitor<'t, M>>(
+    spn: u32,
+    short: Option<Short>,
+    scale: &Scale<'t>,
+    visitor: &mut V,
+    medium: &mut M,
+) -> Result<(), V::Fault>
+    ensures taken { OnOk result (Takes V.has_taken visitor.old medium.old visitor.new medium.new
+        (map (λ value. record { spn = spn; value = value })
+        (option_to_list (option_map (short_value (scale_record scale.now)) short)))) }
+    ensures stopped { OnErr result (Stops V.has_taken V.has_stopped visitor.old medium.old visitor.new medium.new
+        (map (λ value. record { spn = spn; value = value })
+        (option_to_list (option_map (short_value (scale_record scale.now)) short)))) }
+{
+    match short {
+        None => Ok(()),
+        Some(Short::Number(number)) => visitor.visit_number(spn, number, scale, medium),
+        Some(word) => visit_word(spn, word, scale, visitor, medium),
+    }
+}
+
+/// Hands on a word, which few values are.
+#[inline(never)]
+fn visit_word<'t, M, V: ReadingVisitor<'t, M>>(
+    spn: u32,
+    word: Short,
+    scale: &Scale<'t>,
+    visitor: &mut V,
+    medium: &mut M,
+) -> Result<(), V::Fault>
+    ensures taken { OnOk result (Takes V.has_taken visitor.old medium.old visitor.new medium.new
+        (record { spn = spn; value = short_value (scale_record scale.now) word } ∷ [])) }
+    ensures stopped { OnErr result (Stops V.has_taken V.has_stopped visitor.old medium.old visitor.new medium.new
+        (record { spn = spn; value = short_value (scale_record scale.now) word } ∷ [])) }
+{
+    visitor.visit(spn, word.with(*scale), medium)
+}
+
+/// The same, by a row of whatever field.
+#[inline(never)]
+fn visit_other<'t, M, V: ReadingVisitor<'t, M>>(
     row: &Row<'t>,
     bytes: &[u8],
     visitor: &mut V,

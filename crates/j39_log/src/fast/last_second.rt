@@ -1,8 +1,9 @@
 //! The second of the line before, which most lines share.
 ghost use Rattle.std.specs.Prelude.{◌≡◌, ◌++◌, ◌⊎◌, ℕ, List, length, take, IfSome, codes};
+ghost use Rattle.std.specs.Bool.{OnTrue};
 ghost use Rattle.std.specs.Str.Parse.{AllDigits};
 ghost use Rattle.j39_frame.specs.Stamp.{stamp_micros};
-ghost use Rattle.j39_log.specs.LastSecond.{kept_text};
+ghost use Rattle.j39_log.specs.LastSecond.{IsSecond, kept_text};
 ghost use Rattle.j39_log.specs.Text.{IsStampText};
 
 use crate::fast::plain::{decimals_of, second_of};
@@ -48,25 +49,57 @@ impl LastSecond {
         ensures { IfSome result (λ stamp. (cut : List ℕ) → AllDigits 10 cut → (length cut ≡ 0) ⊎ (length cut ≡ 3)
             → IsStampText (front.now ++ (cut ++ codes ")")) (stamp_micros stamp)) }
     {
-        let (head, tail) = words_of(front)?;
-        if head != self.head || tail != self.tail {
-            return self.turn_to(front);
+        if !self.reach(front) {
+            return None;
         }
         let more = decimals_of(front)?;
         Stamp::new(self.micros + more)
     }
 
-    /// Reads a stamp whole, and turns to its second.
+    /// Whether a stamp begins with a second, to which this then is turned; else it stays.
+    #[inline(always)]
+    fn reach(&mut self, front: &[u8; 18]) -> bool
+        ensures { OnTrue result (IsSecond (take 12 front.now) self.new) }
+    {
+        if self.is_at(front) {
+            true
+        } else {
+            self.turn_to(front)
+        }
+    }
+
+    /// Whether a stamp begins with this second.
+    #[inline(always)]
+    fn is_at(&self, front: &[u8; 18]) -> bool
+        ensures { OnTrue result (IsSecond (take 12 front.now) self.now) }
+    {
+        match words_of(front) {
+            Some((head, tail)) => head == self.head && tail == self.tail,
+            None => false,
+        }
+    }
+
+    /// Turns to the second of a stamp; `false` where it begins with none.
     #[inline(never)]
-    fn turn_to(&mut self, front: &[u8; 18]) -> Option<Stamp>
-        ensures { IfSome result (λ stamp. (cut : List ℕ) → AllDigits 10 cut → (length cut ≡ 0) ⊎ (length cut ≡ 3)
-            → IsStampText (front.now ++ (cut ++ codes ")")) (stamp_micros stamp)) }
+    fn turn_to(&mut self, front: &[u8; 18]) -> bool
+        ensures { OnTrue result (IsSecond (take 12 front.now) self.new) }
+    {
+        match LastSecond::of(front) {
+            Some(second) => {
+                *self = second;
+                true
+            }
+            None => false,
+        }
+    }
+
+    /// The second of a stamp.
+    fn of(front: &[u8; 18]) -> Option<LastSecond>
+        ensures { IfSome result (λ second. IsSecond (take 12 front.now) second) }
     {
         let micros = second_of(front)?;
-        let more = decimals_of(front)?;
         let (head, tail) = words_of(front)?;
-        *self = LastSecond { head, tail, micros };
-        Stamp::new(micros + more)
+        Some(LastSecond { head, tail, micros })
     }
 }
 

@@ -1,34 +1,19 @@
--- The texts of the row's field, or its one value.
-use Rattle.std.proofs.Common.{refl}
-use Rattle.j39_groups.specs.Fields.{IsSound, IsSoundParts}
+-- A number, or what else the row's field holds.
+use Rattle.j39_groups.specs.Fields.{IsSoundBytes}
 use Rattle.j39_groups.specs.Readings.{values_at}
 use Rattle.j39_groups.proofs.ReadyLemmas.{field_sound}
 use Rattle.j39_groups.proofs.RowLemmas.{row_is}
 use Rattle.j39_groups.proofs.visiting.visit_row.Goals as goal
 
-pub value_in-requires : goal.value_in-requires
-value_in-requires g c = field_sound c.args.row.now.field (row_is c.args.row.now c.requires).sound
+pub number_of-requires : goal.number_of-requires
+number_of-requires g c =
+    let sound : IsSoundBytes c.in-Number.first c.in-Number.last c.in-Number.scale = rw c.in-Number.is at (field_sound c.args.row.now.field (row_is c.args.row.now c.requires).sound) in
+    sound
 
-pub bytes_from-requires : goal.bytes_from-requires
-bytes_from-requires g c =
-    let sound : IsSoundParts c.in-Some.byte c.in-Some.count = rw c.in-Some.ensures.some at (field_sound c.args.row.now.field (row_is c.args.row.now c.requires).sound) in
-    sound.byte_starts
-
-pub visit_texts-requires : goal.visit_texts-requires
-visit_texts-requires g c = λ k.
-    let sound : IsSoundParts c.in-Some.byte c.in-Some.count = rw c.in-Some.ensures.some at (field_sound c.args.row.now.field (row_is c.args.row.now c.requires).sound) in
-    ((refl, tt), sound.few)
-
-pub returns-in-Some-clause-taken : goal.returns-in-Some-clause-taken
+pub returns-in-Number-clause-taken : goal.returns-in-Number-clause-taken
 unfolding values_at
-returns-in-Some-clause-taken g c = rw (c.in-Some.ensures.some, ← c.bytes_from.ensures) c.visit_texts.ensures.taken
+returns-in-Number-clause-taken g c = rw (c.in-Number.is, ← c.number_of.ensures) c.visit_short.ensures.taken
 
-pub returns-in-Some-clause-stopped : goal.returns-in-Some-clause-stopped
+pub returns-in-Number-clause-stopped : goal.returns-in-Number-clause-stopped
 unfolding values_at
-returns-in-Some-clause-stopped g c = rw (c.in-Some.ensures.some, ← c.bytes_from.ensures) c.visit_texts.ensures.stopped
-
-pub returns-in-None-clause-taken : goal.returns-in-None-clause-taken
-returns-in-None-clause-taken g c = rw (c.value_in.ensures c.in-None.ensures.none) at c.visit_value.ensures.taken
-
-pub returns-in-None-clause-stopped : goal.returns-in-None-clause-stopped
-returns-in-None-clause-stopped g c = rw (c.value_in.ensures c.in-None.ensures.none) at c.visit_value.ensures.stopped
+returns-in-Number-clause-stopped g c = rw (c.in-Number.is, ← c.number_of.ensures) c.visit_short.ensures.stopped

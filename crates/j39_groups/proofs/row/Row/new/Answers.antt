@@ -17,7 +17,6 @@ returns-clause-row c =
     and_from (nat_lt pgn (2 ^ 18)) (not (is_network_group pgn) && is_heard_group pgn) small (and_from (not (is_network_group pgn)) (is_heard_group pgn) free c.requires.heard) in
     is_row_from _ (record {
       sound = c.requires.sound;
-      listed = rw (← c.raw.ensures.value) at listed;
-      labelled = c.label_of-label.ensures;
-      ended = c.end_of-end.ensures;
+      listed = rw (← c.raw-pgn.ensures.value) at listed;
+      prepared = c.prepare-prepared.ensures;
     })
