@@ -50,14 +50,17 @@ abbrev pub name_text : Option ℕ → List ℕ
 name_text None = codes "----------------"
 name_text (Some name) = encode_upper (to_be_bytes w64 name)
 
--- what the lines of a message begin with: stamp, address, NAME and PGN, a space after each
-abbrev pub head_text : ℕ → ℕ → Option ℕ → ℕ → List ℕ
-head_text stamp address name pgn =
+-- stamp, address and NAME, a space after each
+abbrev pub sender_text : ℕ → ℕ → Option ℕ → List ℕ
+sender_text stamp address name =
     stamp_text stamp ++ codes " " ++ encode_upper (address ∷ []) ++ codes " " ++ name_text name ++ codes " "
-    ++ decimal pgn ++ codes " "
 
-abbrev pub hearing_head : Hearing → List ℕ
-hearing_head h = head_text h.stamp h.message.source h.name h.message.pgn
+-- what the lines of a message begin with: these, and the PGN and a space
+abbrev pub head_text : ℕ → ℕ → Option ℕ → ℕ → List ℕ
+head_text stamp address name pgn = sender_text stamp address name ++ decimal pgn ++ codes " "
+
+abbrev pub hearing_sender : Hearing → List ℕ
+hearing_sender h = sender_text h.stamp h.message.source h.name
 
 -- the line of an entry, with its newline
 unfoldable pub entry_text : Entry → List ℕ

@@ -20,7 +20,7 @@ ghost use Rattle.j39_listen.specs.HeardModel.{hearing_of};
 use crate::Heard;
 use j39_address::{Claims, Name};
 use j39_frame::{Frame, is_address};
-use j39_groups::{Groups, is_network_group};
+use j39_groups::{Groups, is_network_group, is_reported};
 use j39_transport::{Assembler, Fed, Message};
 use std::alloc::{AllocError, Global};
 
@@ -58,7 +58,7 @@ impl Listener {
         ensures wanted { OnErr result ((F : List FrameRecord) → Hears self.old F → WantsMemoryBehind F frame.now) }
         ensures* after { sem 𝓛 (Rests the_row self.entry (HearsOneMore self.old frame.now result)) }
     {
-        self.feed_with(&Groups::built_in(), frame)
+        self.feed_as(is_reported(frame.id.pgn()), frame)
     }
 
     /// Takes the next frame of the bus, and answers the message that is heard at it by a table of parameters. Memory is

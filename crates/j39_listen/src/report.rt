@@ -3,12 +3,14 @@ ghost use Rattle.std.specs.Prelude.{◌≡◌, [], List};
 ghost use Rattle.std.specs.Prelude.{IfOk, IfSome, OnOk, OnErr, Err, Some};
 ghost use Rattle.j39_io.specs.Turn.{turn};
 ghost use Rattle.j39_frame.specs.Frame.{FrameRecord};
+ghost use Rattle.j39_frame.specs.Identifier.{pgn_of};
+ghost use Rattle.j39_groups.specs.Readings.{is_reported_in};
 ghost use Rattle.j39_groups.specs.Table.{the_table};
 ghost use Rattle.j39_listen.specs.AccountCalls.{LeavesWriter};
 ghost use Rattle.j39_listen.specs.Asking.{AsksForBoxes};
 ghost use Rattle.j39_listen.specs.Listening.{Hears};
 ghost use Rattle.j39_listen.specs.Output.{MakesReport, report_of};
-ghost use Rattle.j39_listen.specs.ReportSoFar.{HasReported, MeetsFrame, StopsFrame, made_by};
+ghost use Rattle.j39_listen.specs.ReportSoFar.{HasReported, MeetsFrame, StopsFrame, made_sum};
 ghost use Rattle.j39_listen.specs.Ran.{PassesOn, Ran};
 ghost use Rattle.j39_listen.specs.Run.{WritesPublished};
 ghost use Rattle.j39_listen.specs.declared.account.LineFault.TheVariants as line_fault;
@@ -20,7 +22,7 @@ use crate::report_lines::Pen;
 use crate::running::{RunFault, run_over};
 use crate::{Counts, Listener};
 use j39_frame::Frame;
-use j39_groups::Groups;
+use j39_groups::{Groups, is_network_group};
 use j39_io::{DeviceFault, Sink, Source};
 use j39_log::Bus;
 use std::alloc::{AllocError, Global};
@@ -118,20 +120,24 @@ impl<'g, 't, E: EntryForm> Account for Report<'g, 't, E> {
 
     ghost asks = { λ subject. AsksForBoxes };
 
+    /// Most frames are of groups that nobody hears: those are done with here, and leave all as it was.
     #[inline(always)]
     fn feed<W: Sink>(&mut self, _: &Bus, frame: &Frame, sink: &mut W) -> Result<(), LineFault> {
-        match put_frame(&mut self.listener, self.groups, &mut self.form, frame, sink) {
-            Ok(None) => {
-                self.made = self.made.and(Made {
-                    messages: 0,
-                    lines: 0,
-                });
-                Ok(())
-            }
-            Ok(Some(lines)) => {
-                self.made = self.made.and(Made { messages: 1, lines });
-                Ok(())
-            }
+        let is_single = self.groups.is_reported(frame.id.pgn());
+        if !is_single && !is_network_group(frame.id.pgn()) {
+            self.made = self.made.and(NOTHING);
+            return Ok(());
+        }
+        match put_frame(
+            &mut self.listener,
+            self.groups,
+            &mut self.form,
+            &mut self.made,
+            is_single,
+            frame,
+            sink,
+        ) {
+            Ok(()) => Ok(()),
             Err(fault) => Err(fault),
         }
     }
@@ -143,29 +149,45 @@ impl<'g, 't, E: EntryForm> Account for Report<'g, 't, E> {
     fn laws() {}
 }
 
-/// Writes the report of what is heard at a frame of the run's bus, and answers how many lines, where something is.
-#[inline(always)]
+/// What is made of a frame at which nothing is heard.
+const NOTHING: Made = Made {
+    messages: 0,
+    lines: 0,
+};
+
+/// Writes the report of what is heard at a frame of the run's bus, and counts it; the caller says whether messages of its group
+/// are heard in one frame.
+#[inline(never)]
 fn put_frame<E: EntryForm, W: Sink>(
     listener: &mut Listener,
     groups: &Groups<'_>,
     form: &mut E,
+    made: &mut Made,
+    is_single: bool,
     frame: &Frame,
     sink: &mut W,
-) -> Result<Option<u64>, LineFault>
-    ensures met { IfOk result (λ lines. (F : List FrameRecord) → Hears listener.old F
-        → MeetsFrame E.text_by groups.now listener.new F frame.now (made_by lines) (W.written sink.old)
-        (W.written sink.new)) }
+) -> Result<(), LineFault>
+    requires { is_single ≡ is_reported_in groups.now (pgn_of frame.now.id) }
+    ensures met { OnOk result ((more : Made) × (made.new ≡ made_sum made.old more)
+        × ((F : List FrameRecord) → Hears listener.old F
+        → MeetsFrame E.text_by groups.now listener.new F frame.now more (W.written sink.old) (W.written sink.new))) }
     ensures writer { LeavesWriter result (turn W.written W.has_failed sink.old sink.new) }
     ensures stops { result ≡ Err line_fault.Write → (F : List FrameRecord) → Hears listener.old F
         → StopsFrame E.text_by groups.now F frame.now (W.written sink.old) (W.written sink.new) }
     ensures asked { result ≡ Err line_fault.Memory → (F : List FrameRecord) → Hears listener.old F
         → AsksForBoxes F frame.now }
 {
-    match listener.feed_with(groups, frame) {
+    match listener.feed_as(is_single, frame) {
         Err(AllocError) => Err(LineFault::Memory),
-        Ok(None) => Ok(None),
+        Ok(None) => {
+            *made = made.and(NOTHING);
+            Ok(())
+        }
         Ok(Some(heard)) => match form.put_heard(&heard, groups, sink) {
-            Ok(lines) => Ok(Some(lines)),
+            Ok(lines) => {
+                *made = made.and(Made { messages: 1, lines });
+                Ok(())
+            }
             Err(DeviceFault) => Err(LineFault::Write),
         },
     }

@@ -1,7 +1,7 @@
 //! What is known of the lines so far.
-ghost use Rattle.std.specs.Prelude.{◌≡◌, ◌∷◌, ◌++◌, [], ℕ, List, IfOk};
+ghost use Rattle.std.specs.Prelude.{◌≡◌, ◌∷◌, ◌++◌, [], ℕ, List, IfOk, Some};
 ghost use Rattle.j39_log.specs.Kind.{kind_of};
-ghost use Rattle.j39_log.specs.Line.{IsOtherLine};
+ghost use Rattle.j39_log.specs.Line.{IsFrameLine, IsOtherLine};
 ghost use Rattle.j39_log.specs.Spelled.{Spelled, Spells};
 ghost use Rattle.j39_log.specs.Splitter.{IsRawLine};
 ghost use Rattle.j39_reports.specs.LogLines.{IsSpelled, LogLine};
@@ -10,7 +10,8 @@ use crate::surveys::group_table::GroupTable;
 use crate::surveys::interfaces::Interfaces;
 use crate::surveys::others::Others;
 use crate::surveys::unread::UnreadLines;
-use j39_log::{Bus, LastSecond, Line, OtherKind, RawLine, kind_of};
+use j39_frame::Frame;
+use j39_log::{Bus, Line, OtherKind, RawLine, kind_of};
 use std::alloc::{AllocError, Global};
 
 /// What the lines so far are.
@@ -23,9 +24,8 @@ pub(crate) struct Survey {
     pub unread: UnreadLines,
     /// Whether a line had the form that `candump -L` writes.
     pub has_log_line: bool,
-    /// The interface that was read last, and the second: by them most lines are read.
-    bus: Option<Bus>,
-    second: LastSecond,
+    /// The interface that was read last: most lines are of one.
+    pub bus: Option<Bus>,
 }
 
 impl Survey {
@@ -44,8 +44,23 @@ impl Survey {
             unread: UnreadLines::new(),
             has_log_line: false,
             bus: None,
-            second: LastSecond::new(),
         })
+    }
+
+    /// One line more, of a frame of the interface that was read last.
+    #[inline(always)]
+    pub fn add_frame(&mut self, frame: &Frame)
+        ensures { (lines : List LogLine) (line : LogLine) (name : List ℕ) → self.old.bus ≡ Some name
+            → IsFrameLine line.text name frame.now → IsSpelled line
+            → HasSurveyed self.old lines → HasSurveyed self.new (lines ++ line ∷ []) }
+    {
+        let Some(bus) = &self.bus else {
+            return;
+        };
+        self.lines = self.lines.saturating_add(1);
+        self.interfaces.add(bus.bytes(), frame.stamp);
+        self.groups.add(frame.id);
+        self.has_log_line = true;
     }
 
     /// One line more.
@@ -55,15 +70,6 @@ impl Survey {
             → HasSurveyed self.old lines → HasSurveyed self.new (lines ++ line ∷ []) }
     {
         self.lines = self.lines.saturating_add(1);
-        // Most lines are of one interface and have the common form: of those no part's end is looked for.
-        if let Some(frame) = raw.frame_on(&mut self.second, &self.bus) {
-            if let Some(bus) = &self.bus {
-                self.interfaces.add(bus.bytes(), frame.stamp);
-                self.groups.add(frame.id);
-                self.has_log_line = true;
-            }
-            return;
-        }
         match raw.read() {
             Line::Frame { bus, frame } => {
                 self.interfaces.add(bus, frame.stamp);

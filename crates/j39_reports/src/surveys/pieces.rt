@@ -4,7 +4,7 @@ ghost use Rattle.j39_reports.specs.LogLines.{AreLogLines, LogLine};
 ghost use Rattle.j39_reports.specs.SurveyModels.{HasSurveyed};
 
 use crate::surveys::log_survey::Survey;
-use j39_log::Splitter;
+use j39_log::{LastSecond, Splitter};
 use std::alloc::{AllocError, Global};
 
 /// The lines of a log so far, and the beginning of one.
@@ -12,6 +12,8 @@ use std::alloc::{AllocError, Global};
 pub(crate) struct Pieces {
     splitter: Splitter,
     pub survey: Survey,
+    /// The second of the last line that was read quickly: it tells nothing of the lines.
+    second: LastSecond,
 }
 
 impl Pieces {
@@ -25,6 +27,7 @@ impl Pieces {
         Ok(Pieces {
             splitter: Splitter::new(),
             survey,
+            second: LastSecond::new(),
         })
     }
 
@@ -41,6 +44,26 @@ impl Pieces {
 
     /// Takes the bytes to the end of a line, or all of them: how many it took.
     fn take_line(&mut self, bytes: &[u8]) -> usize
+        ensures count { result ≤ length bytes.now }
+        ensures some { 0 < length bytes.now → 0 < result }
+        ensures taken { (taken : List ℕ) → HasTaken self.old taken
+            → HasTaken self.new (taken ++ take result bytes.now) }
+    {
+        let quick = self
+            .splitter
+            .frame_on(bytes, &mut self.second, &self.survey.bus);
+        match quick {
+            Some((frame, n)) => {
+                self.survey.add_frame(&frame);
+                n
+            }
+            None => self.take_any(bytes),
+        }
+    }
+
+    /// The same, of a line of any form.
+    #[inline(never)]
+    fn take_any(&mut self, bytes: &[u8]) -> usize
         ensures count { result ≤ length bytes.now }
         ensures some { 0 < length bytes.now → 0 < result }
         ensures taken { (taken : List ℕ) → HasTaken self.old taken

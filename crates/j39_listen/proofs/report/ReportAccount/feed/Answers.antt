@@ -1,20 +1,40 @@
-use Rattle.std.proofs.Common.{ap, refl}
-use Rattle.std.specs.Prelude.{Err, None, Some}
+-- A frame of a group that is heard, or of another.
+use Rattle.std.proofs.Common.{◌≡◌, ◌∙◌, ap, false, refl, sym}
+use Rattle.std.specs.Prelude.{Err, None}
+use Rattle.j39_frame.specs.Frame.{FrameRecord}
+use Rattle.j39_frame.specs.Identifier.{pgn_of}
+use Rattle.j39_groups.specs.Readings.{is_network_group, is_reported_in}
 use Rattle.j39_listen.specs.ReportSoFar.{made_by}
 use Rattle.j39_listen.specs.declared.report.Report.{Report}
+use Rattle.j39_listen.proofs.ListenerLemmas.{hears_single, outside_claims, silent_outside}
 use Rattle.j39_listen.proofs.PieceLemmas.{same_fault}
-use Rattle.j39_listen.proofs.ReportAccount.{report_meets, report_stops}
+use Rattle.j39_listen.proofs.ReportAccount.{meets_silent, report_meets, report_stops}
+use Rattle.j39_listen.proofs.Reported.{reported_leaves}
 use Rattle.j39_listen.proofs.report.ReportAccount.feed.Goals as goal
 
-pub returns-in-Ok-None-clause-met : goal.returns-in-Ok-None-clause-met
-returns-in-Ok-None-clause-met g c =
-    let report : Report g.row.E.Denot = record { groups = c.args.self.now.groups; listener = c.put_frame.new.listener; made = c.and-self.result; form = c.put_frame.new.form } in
-    λ subject. report_meets g.E.EntryForm.text_by subject c.args.self.now report refl c.args.frame.now (made_by None) _ _ (rw c.in-Ok-None.field-0-is at c.in-Ok-None.ensures.met) c.and-self.ensures
+pub put_frame-requires : goal.put_frame-requires
+put_frame-requires g c = c.is_reported-is_single.ensures ∙ ap (is_reported_in c.args.self.now.groups.now) (c.pgn.ensures ∙ ap (λ (x : FrameRecord). pgn_of x.id) c.frame.view_is)
 
-pub returns-in-Ok-Some-clause-met : goal.returns-in-Ok-Some-clause-met
-returns-in-Ok-Some-clause-met g c =
-    let report : Report g.row.E.Denot = record { groups = c.args.self.now.groups; listener = c.put_frame.new.listener; made = c.and-self-in-Ok-Some.result; form = c.put_frame.new.form } in
-    λ subject. report_meets g.E.EntryForm.text_by subject c.args.self.now report refl c.args.frame.now (made_by (Some c.in-Ok-Some.lines)) _ _ (rw c.in-Ok-Some.field-0-is at c.in-Ok-Some.ensures.met) c.and-self-in-Ok-Some.ensures
+pub returns-then-not-is_network_group-clause-met : goal.returns-then-not-is_network_group-clause-met
+returns-then-not-is_network_group-clause-met g c =
+    let self = c.args.self.now in
+    let groups = self.groups.now in
+    let frame = c.args.frame.now in
+    let report : Report g.row.E.Denot = record { groups = self.groups; listener = self.listener; made = c.and-self.result; form = self.form } in
+    let other : is_reported_in groups (pgn_of frame.id) ≡ false =
+    ap (is_reported_in groups) (sym (c.pgn.ensures ∙ ap (λ (x : FrameRecord). pgn_of x.id) c.frame.view_is)) ∙ (sym c.is_reported-is_single.ensures ∙ c.if-not-is_single.true) in
+    let free : is_network_group (pgn_of frame.id) ≡ false =
+    ap is_network_group (sym (c.pgn-then-not-is_single.ensures ∙ ap (λ (x : FrameRecord). pgn_of x.id) c.frame.view_is)) ∙ (sym c.is_network_group.ensures ∙ c.if-not-is_network_group.true) in
+    λ subject. report_meets g.E.EntryForm.text_by subject self report refl frame (made_by None) _ _ (λ F h.
+    meets_silent g.E.EntryForm.text_by groups self.listener F frame _
+    (silent_outside (is_reported_in groups) (reported_leaves groups) self.listener F frame free other h)
+    (hears_single self.listener F frame free (outside_claims frame free) h)) c.and-self.ensures
+
+pub returns-in-Ok-clause-met : goal.returns-in-Ok-clause-met
+returns-in-Ok-clause-met g c =
+    let met = c.in-Ok.ensures.met in
+    let report : Report g.row.E.Denot = record { groups = c.args.self.now.groups; listener = c.put_frame.new.listener; made = c.put_frame.new.made; form = c.put_frame.new.form } in
+    λ subject. report_meets g.E.EntryForm.text_by subject c.args.self.now report refl c.args.frame.now met.0 _ _ met.2 met.1
 
 pub returns-in-Err-clause-stops : goal.returns-in-Err-clause-stops
 returns-in-Err-clause-stops g c = λ fails subject.

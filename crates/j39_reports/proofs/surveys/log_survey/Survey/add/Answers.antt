@@ -2,10 +2,8 @@
 use Rattle.std.proofs.Common.{◌≡◌, ◌+◌, ◌∙◌, ap, refl, subst, sym, arith}
 use Rattle.j39_frame.specs.Frame.{FrameRecord}
 use Rattle.j39_listen.specs.Counting.{capped}
-use Rattle.j39_log.specs.Bus.{IsBusName}
 use Rattle.j39_log.specs.Splitter.{IsRawLine}
 use Rattle.j39_log.specs.LineRead.{spelled_of}
-use Rattle.j39_log.specs.Spelled.{frame}
 use Rattle.j39_log.proofs.LineLemmas.{one_spelled}
 use Rattle.j39_reports.specs.LogLines.{frames_of, others_in, seen_in, unread_in}
 use Rattle.j39_reports.proofs.SurveyLemmas.{surveys_blank, surveys_frame, surveys_other, surveys_unread}
@@ -53,20 +51,3 @@ returns-in-Blank-clause-surveyed c = λ lines line raw spelled h.
     let is = one_spelled line.text line.spelled _ spelled (c.in-Blank.ensures.spelled line.text raw) in
     let more : c.saturating_add-self.result ≡ capped (c.args.self.now.lines + 1) = omega arith in
     surveys_blank lines line c.args.self.now _ h is more refl refl refl refl refl
-
-pub returns-in-Some-bus-clause-spelled : goal.returns-in-Some-bus-clause-spelled
-returns-in-Some-bus-clause-spelled c = λ text raw. (frame c.in-Some.ensures.0 c.in-Some.frame, c.in-Some.ensures.2 text raw)
-
-pub returns-in-Some-bus-clause-surveyed : goal.returns-in-Some-bus-clause-surveyed
-returns-in-Some-bus-clause-surveyed c = λ lines line raw spelled h.
-    let found = c.in-Some.ensures in
-    let is = one_spelled line.text line.spelled (frame found.0 c.in-Some.frame) spelled (found.2 line.text raw) in
-    let more : c.saturating_add-self.result ≡ capped (c.args.self.now.lines + 1) = omega arith in
-    let there = found.1 in
-    let here = c.in-Some-bus.is in
-    let name = c.bytes.ensures.value in
-    let same : found.0 ≡ c.bytes.result.now = cc in
-    surveys_frame lines line c.args.self.now _ found.0 c.in-Some.frame h is more
-    (λ s on content. c.add.ensures (seen_in lines) s (subst IsBusName (sym name) c.bytes.ensures.is_name) (on ∙ same) (ap (λ (f : FrameRecord). f.stamp) (content ∙ sym c.frame.view_is)) h.interfaces_are)
-    (c.add-in-Some-bus.ensures (frames_of (seen_in lines)) c.in-Some.frame (ap (λ (f : FrameRecord). f.id) (sym c.frame.view_is)) h.groups_are)
-    refl refl refl

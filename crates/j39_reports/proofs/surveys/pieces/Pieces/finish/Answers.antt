@@ -9,7 +9,7 @@ returns-in-None c = ends_whole c.args.self.now c.args.self.now refl c.in-None.en
 
 pub returns-in-Some : goal.returns-in-Some
 returns-in-Some c =
-    ends_line c.args.self.now (record { splitter = c.args.self.now.splitter; survey = c.add.new.self }) (λ begun h.
+    ends_line c.args.self.now (record { splitter = c.args.self.now.splitter; survey = c.add.new.self; second = c.args.self.now.second }) (λ begun h.
     let line = c.in-Some.ensures.line begun h in (
       line.0,
       c.add.ensures.spelled begun line.1,
