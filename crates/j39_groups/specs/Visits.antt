@@ -1,16 +1,12 @@
 -- What a visitor makes of readings: those that it has taken, and where it stops.
-use Rattle.std.specs.Prelude.{◌≡◌, ◌∷◌, ◌++◌, ℕ, ℤ, List}
+use Rattle.std.specs.Prelude.{◌≡◌, ◌∷◌, ◌++◌, ℕ, List}
 use Rattle.j39_groups.specs.declared.value.Value.{Value}
 use Rattle.j39_groups.specs.Models.{value_of}
-use Rattle.j39_groups.specs.Value.{ReadingRecord, SlotRecord, number}
+use Rattle.j39_groups.specs.Value.{ReadingRecord}
 
 -- the number of a parameter with a value that a table gives
 abbrev pub visited : ℕ → Value → ReadingRecord
 visited spn value = record { spn = spn; value = value_of value }
-
--- that with a number of this slot
-abbrev pub visited_number : ℕ → ℤ → SlotRecord → ReadingRecord
-visited_number spn n slot = record { spn = spn; value = number n slot }
 
 -- behind whatever readings it has taken, it has taken these too
 abbrev pub TakesMore : {S V : Type 0} → (S → V → List ReadingRecord → Type 0) → V → V → List ReadingRecord → Type 0

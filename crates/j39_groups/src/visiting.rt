@@ -8,7 +8,7 @@ ghost use Rattle.j39_groups.specs.Models.{reading_of, row_record, scale_record, 
 ghost use Rattle.j39_groups.specs.Readings.{readings_at};
 ghost use Rattle.j39_groups.specs.Rows.{is_row};
 ghost use Rattle.j39_groups.specs.Value.{ReadingRecord};
-ghost use Rattle.j39_groups.specs.Visits.{Stops, Takes, visited, visited_number};
+ghost use Rattle.j39_groups.specs.Visits.{Stops, Takes, visited};
 ghost use Rattle.j39_groups.specs.declared.field.Field.TheVariants.{Texts};
 
 use crate::field::Field;
@@ -41,21 +41,6 @@ pub trait ReadingVisitor<'t, M> {
         ensures stopped { OnErr result ((subject : Subject) (before : List ReadingRecord)
             → has_taken subject self.old medium.old before
             → has_stopped subject before (visited spn value.entry) self.new medium.new) };
-
-    /// Takes the next reading, a number with its scale, as `visit` does: most values are one, and a visitor may have a way
-    /// for them.
-    fn visit_number(
-        &mut self,
-        spn: u32,
-        number: i64,
-        scale: &Scale<'t>,
-        medium: &mut M,
-    ) -> Result<(), Self::Fault>
-        ensures taken { OnOk result (Takes has_taken self.old medium.old self.new medium.new
-            (visited_number spn number (scale_record scale.now) ∷ [])) }
-        ensures stopped { OnErr result ((subject : Subject) (before : List ReadingRecord)
-            → has_taken subject self.old medium.old before
-            → has_stopped subject before (visited_number spn number (scale_record scale.now)) self.new medium.new) };
 }
 
 /// Hands on these readings.
@@ -161,7 +146,7 @@ fn visit_short<'t, M, V: ReadingVisitor<'t, M>>(
 {
     match short {
         None => Ok(()),
-        Some(Short::Number(number)) => visitor.visit_number(spn, number, scale, medium),
+        Some(Short::Number(number)) => visitor.visit(spn, Value::Number(number, *scale), medium),
         Some(word) => visit_word(spn, word, scale, visitor, medium),
     }
 }

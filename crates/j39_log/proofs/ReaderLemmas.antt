@@ -1,12 +1,14 @@
 -- The name of the run's bus in a line, and the second of the line before.
-use Rattle.std.proofs.Common.{◌≡◌, ◌<◌, ◌≤◌, ◌+◌, ℕ, zero, suc, List, [], ◌∷◌, ◌++◌, length, take, drop, replicate, get_or, refl, sym, ap, ap₂, ◌∙◌, arith, subst, append_assoc, take-append-drop, length-take, length-drop, lit<}
+use Rattle.std.proofs.Common.{◌≡◌, ◌<◌, ◌≤◌, ◌+◌, ◌-◌, ◌^◌, Bool, true, false, ℕ, zero, suc, List, [], ◌∷◌, ◌++◌, length, take, drop, replicate, get_or, refl, sym, ap, ap₂, ◌∙◌, arith, subst, append_assoc, take-append-drop, length-append, length-take, length-drop, lit<}
 use Rattle.std.specs.Int.{from_le_bytes, w32, w64}
 use Rattle.std.proofs.lemmas.Nat.{le_bytes_4, le_bytes_8}
 use Rattle.std.proofs.lemmas.Simd.{pick_l_whole}
 use Rattle.j39_log.specs.LastSecond.{IsSecond, kept_text}
 use Rattle.std.proofs.Math.Seq.{take-append-add}
 use Rattle.std.proofs.lemmas.List.{drop_more, get_or-replicate, take_all}
-use Rattle.j39_log.specs.Bus.{between_of}
+use Rattle.std.specs.Prelude.{nat_le, if◌then◌else◌}
+use Rattle.std.proofs.lemmas.Bool.{leb-true}
+use Rattle.j39_log.specs.Bus.{between_len, between_of}
 
 -- ---- the name, where a text begins as its block does
 
@@ -26,6 +28,13 @@ take_twice (suc n) zero xs h = absurd (omega arith)
 take_twice (suc n) (suc m) [] h = refl
 take_twice (suc n) (suc m) (x ∷ xs) h = ap (λ ys. x ∷ ys) (take_twice n m xs (omega arith))
 
+-- where so many bytes count as a block can have, the name is short
+pub short_name : (bus : List ℕ) (n len : ℕ) → len ≤ 64 → n ≤ len → n ≡ between_len bus → (n ≡ length bus + 3) × (n ≤ 16)
+short_name bus n len few within is = go (nat_le (length bus) 13) refl is where
+  go : (b : Bool) → nat_le (length bus) 13 ≡ b → n ≡ (if b then length bus + 3 else 2 ^ 64 - 1) → (n ≡ length bus + 3) × (n ≤ 16)
+  go true short e = let h = leb-true _ _ short in (e, omega (arith, e, h))
+  go false long e = absurd (omega (arith, e, few, within))
+
 pub name_found : (text block between bus third : List ℕ) (n : ℕ) → n ≡ length bus + 3 → n ≤ 16 → block ≡ take 16 text → between ≡ between_of bus → take n block ≡ take n between
     → third ≡ drop n text → text ≡ 41 ∷ 32 ∷ (bus ++ (32 ∷ third))
 name_found text block between bus third n len few b is same t =
@@ -36,6 +45,17 @@ name_found text block between bus third n len few b is same t =
     ap (take n) (is ∙ block_is bus (omega (arith, len, few))) ∙ ap (λ k. take k (41 ∷ 32 ∷ (bus ++ (32 ∷ spaces)))) n_is
     ∙ ap (λ xs. 41 ∷ 32 ∷ xs) (take-append-add bus (32 ∷ spaces) 1) in
     sym (take-append-drop n text) ∙ ap₂ (λ xs ys. xs ++ ys) (front ∙ same ∙ named) (sym t) ∙ ap (λ xs. 41 ∷ 32 ∷ xs) (append_assoc bus (32 ∷ []) third)
+
+-- ---- the last field, and the byte behind it
+
+pub last_is : (text block third rest : List ℕ) (end : ℕ) → block ≡ take 26 text → rest ≡ drop 26 text → 26 ≤ length text → block ≡ third ++ (end ∷ [])
+    → (length third ≡ 25) × (text ≡ third ++ (end ∷ rest))
+last_is text block third rest end b r long cut =
+    let whole : length block ≡ 26 = ap length b ∙ simp length-take (omega (arith, long)) in
+    let len = ap length cut ∙ length-append third (end ∷ []) in (
+      omega (arith, whole, len),
+      sym (take-append-drop 26 text) ∙ ap₂ (λ xs ys. xs ++ ys) (sym b ∙ cut) (sym r) ∙ append_assoc third (end ∷ []) rest,
+    )
 
 -- ---- the second of the line before
 
@@ -54,11 +74,11 @@ pub words_read : (front head rest tail : List ℕ) (m n : ℕ) → length front 
     → m ≡ from_le_bytes w64 head → n ≡ from_le_bytes w32 tail → kept_text m n ≡ take 12 front
 words_read front head rest tail m n long fits h r t is_m is_n =
     let first : length (take 8 front) ≡ 8 = simp length-take (omega (arith, long)) in
-    let then : length (take 4 (drop 8 front)) ≡ 4 = simp (length-take, length-drop) (omega (arith, long)) in
+    let behind : length (take 4 (drop 8 front)) ≡ 4 = simp (length-take, length-drop) (omega (arith, long)) in
     let tail_is : tail ≡ take 4 (drop 8 front) = t ∙ ap (take 4) r in
     ap₂ (λ xs ys. xs ++ ys)
     (le_bytes_8 (take 8 front) m first (fits-take 8 front fits) (is_m ∙ ap (from_le_bytes w64) h))
-    (le_bytes_4 (take 4 (drop 8 front)) n then (fits-take 4 (drop 8 front) (fits-drop 8 front fits)) (is_n ∙ ap (from_le_bytes w32) tail_is))
+    (le_bytes_4 (take 4 (drop 8 front)) n behind (fits-take 4 (drop 8 front) (fits-drop 8 front fits)) (is_n ∙ ap (from_le_bytes w32) tail_is))
     ∙ subst (λ u. take 8 u ++ take 4 (drop 8 u) ≡ take 12 u) (pick_l_whole 0 front 18 long) refl
 
 -- the bytes of the second 0

@@ -1,7 +1,7 @@
 //! Names of buses.
 ghost use Rattle.std.specs.Prelude.{◌≡◌, ◌≤◌, ◌↔◌, IsSome, IfSome, IsTrue, length};
 ghost use Rattle.std.specs.Str.{bytes_eq};
-ghost use Rattle.j39_log.specs.Bus.{IsBusName, between_of};
+ghost use Rattle.j39_log.specs.Bus.{IsBusName, between_len, between_of};
 
 use arrayvec::ArrayVec;
 use j39_io::backwards::{byte_before, slice_before};
@@ -11,20 +11,23 @@ use std::marker::Model;
 #[derive(Debug, Drop)]
 pub struct Bus {
     name: ArrayVec<u8, 15>,
-    /// What stands between the decimals of a stamp and the identifier, for the quick reader.
+    /// What stands between the decimals of a stamp and the identifier, for the quick reader, and how many of these bytes
+    /// count: more than there are, where they are too few for the name.
     pub(crate) between: [u8; 16],
+    pub(crate) counted: usize,
 }
 
 impl Model for Bus {
     ghost use Rattle.std.specs.Prelude.{ℕ, List};
     ghost use Rattle.std.specs.Prelude.{◌≡◌};
-    ghost use Rattle.j39_log.specs.Bus.{IsBusName, between_of};
+    ghost use Rattle.j39_log.specs.Bus.{IsBusName, between_len, between_of};
 
     ghost Value = { List ℕ };
 
     ghost view = { λ b. b.name.items };
 
-    ghost invariant = { λ b. IsBusName b.name.items × (b.between ≡ between_of b.name.items) };
+    ghost invariant = { λ b. IsBusName b.name.items × (b.between ≡ between_of b.name.items)
+        × (b.counted ≡ between_len b.name.items) };
 }
 
 impl Bus {
@@ -39,7 +42,12 @@ impl Bus {
         let mut name = ArrayVec::new();
         name.try_extend_from_slice(bytes).ok()?;
         let between = between_of(bytes);
-        Some(Bus { name, between })
+        let counted = between_len(bytes);
+        Some(Bus {
+            name,
+            between,
+            counted,
+        })
     }
 
     /// The name's 1 to 15 bytes.
@@ -70,6 +78,18 @@ fn between_of(name: &[u8]) -> [u8; 16]
     let space = byte_before(&mut block, text, b' ');
     let _ = byte_before(&mut block, space, b')');
     block
+}
+
+/// How many bytes a name takes with what stands round it, and more than any block has where that is more than 16.
+fn between_len(name: &[u8]) -> usize
+    requires { length name.now ≤ 15 }
+    ensures { result ≡ between_len name.now }
+{
+    if name.len() <= 13 {
+        name.len() + 3
+    } else {
+        usize::MAX
+    }
 }
 
 /// Whether the bytes can name a bus.

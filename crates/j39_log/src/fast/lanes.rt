@@ -29,7 +29,8 @@ pub(crate) fn gaps_of(block: &[u8; 16]) -> u64
 /// How many bytes two blocks begin with alike, where that is less than 16.
 #[inline(always)]
 pub(crate) fn alike_len(a: &[u8; 16], b: &[u8; 16]) -> usize
-    ensures { (n : ℕ) → n ≤ 16 → n ≤ result → take n a.now ≡ take n b.now }
+    ensures alike { (n : ℕ) → n ≤ 16 → n ≤ result → take n a.now ≡ take n b.now }
+    ensures few { result ≤ 64 }
 {
     let others = u8x16::from_array(*a).simd_ne(u8x16::from_array(*b));
     others.to_bitmask().trailing_zeros() as usize

@@ -12,6 +12,9 @@ use crate::fast::plain::{frame_at, is_digit};
 use crate::{Bus, LastSecond};
 use j39_frame::Frame;
 
+/// The bytes of the shortest such line, with its newline.
+const SHORTEST: usize = 48;
+
 /// The frame of this bus in the line that the bytes begin with, and what follows its newline, where the line has the form of
 /// most (`Splitter::frame_on`). `None` says nothing of the line. The second of the line is kept for the next one.
 #[inline(always)]
@@ -23,11 +26,14 @@ pub(crate) fn first_frame<'a>(
     ensures { IfSome result (λ found. (line : List ℕ) × TakesLine bytes.now line found.1.now
         × IsFrameLine line bus.now found.0) }
 {
+    // Asked once, this needn't be asked of each part.
+    if bytes.len() < SHORTEST {
+        return None;
+    }
     let (front, rest) = bytes.split_first_chunk::<18>()?;
     let rest = after_decimals(rest)?;
     let rest = after_name(rest, bus)?;
-    let (third, rest) = rest.split_first_chunk::<25>()?;
-    let rest = after_line(rest)?;
+    let (third, rest) = last_of(rest)?;
     let stamp = second.stamp_of(front)?;
     let frame = frame_at(stamp, third)?;
     Some((frame, rest))
@@ -51,24 +57,37 @@ fn after_decimals(text: &[u8]) -> Option<&[u8]>
 fn after_name<'a>(text: &'a [u8], bus: &Bus) -> Option<&'a [u8]>
     ensures { IfSome result (λ third. IsBusName bus.now × (text.now ≡ codes ") " ++ (bus.now ++ (space ∷ third.now)))) }
 {
-    let n = bus.bytes().len() + 3;
     let (block, _) = text.split_first_chunk::<16>()?;
-    if n > 16 || alike_len(block, &bus.between) < n {
+    let n = bus.counted;
+    if alike_len(block, &bus.between) < n {
         return None;
     }
     let (_, third) = text.split_at(n);
     Some(third)
 }
 
-/// What follows the newline of a line, and its CR where it has one.
+/// The last field of a line, of 25 bytes, and what follows its newline and the CR before that, where there is one.
 #[inline(always)]
-fn after_line(text: &[u8]) -> Option<&[u8]>
-    ensures { IfSome result (λ later. (cr : List ℕ) × ((cr ≡ []) ⊎ (cr ≡ carriage_return ∷ []))
-        × (text.now ≡ cr ++ (newline ∷ later.now))) }
+fn last_of(text: &[u8]) -> Option<(&[u8], &[u8])>
+    ensures { IfSome result (λ found. (length found.0.now ≡ 25)
+        × ((cr : List ℕ) × ((cr ≡ []) ⊎ (cr ≡ carriage_return ∷ []))
+        × (text.now ≡ found.0.now ++ (cr ++ (newline ∷ found.1.now))))) }
+{
+    let (block, rest) = text.split_first_chunk::<26>()?;
+    let (end, third) = block.split_last()?;
+    match *end {
+        b'\n' => Some((third, rest)),
+        b'\r' => Some((third, after_newline(rest)?)),
+        _ => None,
+    }
+}
+
+/// What follows a newline.
+fn after_newline(text: &[u8]) -> Option<&[u8]>
+    ensures { IfSome result (λ later. text.now ≡ newline ∷ later.now) }
 {
     match text {
         [b'\n', later @ ..] => Some(later),
-        [b'\r', b'\n', later @ ..] => Some(later),
         _ => None,
     }
 }

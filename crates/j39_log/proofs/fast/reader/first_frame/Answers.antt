@@ -1,5 +1,5 @@
 -- The line's parts, one behind the other.
-use Rattle.std.proofs.Common.{◌≡◌, ◌≤◌, ◌++◌, ◌∷◌, [], ap, ap₂, arith, inl, inr, length, length-take, subst, sym, take-append-drop, ◌∙◌}
+use Rattle.std.proofs.Common.{◌≡◌, ◌≤◌, ◌++◌, ◌∷◌, [], ap, ap₂, arith, inl, inr, length, length-take, refl, subst, sym, take-append-drop, ◌∙◌}
 use Rattle.j39_log.specs.Text.{IsStampText}
 use Rattle.j39_log.proofs.SpacedLemmas.{first_line}
 use Rattle.j39_log.proofs.fast.reader.first_frame.Goals as goal
@@ -13,16 +13,15 @@ returns c =
     let front = c.in_ok-front.ensures.cases in
     let cut = c.in_ok-rest.ensures in
     let named = c.in_ok-rest-2.ensures in
-    let third = c.in_ok-third.ensures.cases in
-    let end = c.in_ok-rest-3.ensures in
+    let third = c.in_ok-third.ensures in
     let found = c.in_ok-frame.ensures in
     let stamp = subst (IsStampText (first ++ (cut.0 ++ (41 ∷ [])))) (sym found.0) (c.in_ok-stamp.ensures cut.0 cut.1 cut.2) in
     let long : length first ≡ 18 = ap length front.0 ∙ simp length-take (omega (arith, front.2)) in
-    let whole : length c.in_ok-third.third.now ≡ 25 = ap length third.0 ∙ simp length-take (omega (arith, third.2)) in
     let short : length cut.0 ≤ 3 = elim cut.2 [
       | inl none ↦ omega (arith, none)
       | inr three ↦ omega (arith, three)
     ] in
-    first_line bytes first c.in_ok-front.rest.now cut.0 c.in_ok-rest.rest.now c.args.bus.now text c.in_ok-third.third.now c.in_ok-third.rest.now end.0 c.in_ok-rest-3.rest.now frame long whole
+    let end = third.1 in
+    first_line bytes first c.in_ok-front.rest.now cut.0 c.in_ok-rest.rest.now c.args.bus.now text c.in_ok-third.third.now _ end.0 c.in_ok-third.rest.now frame long third.0
     (sym (take-append-drop 18 bytes) ∙ ap₂ (λ xs ys. xs ++ ys) (sym front.0) (sym front.1)) cut.3 named.1
-    (sym (take-append-drop 25 text) ∙ ap₂ (λ xs ys. xs ++ ys) (sym third.0) (sym third.1)) end.2 short end.1 stamp named.0 found.1
+    end.2 refl short end.1 stamp named.0 found.1

@@ -27,8 +27,8 @@ returns-in-Frame-clause-surveyed c = λ lines line raw spelled h.
     let is = one_spelled line.text line.spelled _ spelled reads in
     let more : c.saturating_add-self.result ≡ capped (c.args.self.now.lines + 1) = omega arith in
     surveys_frame lines line c.args.self.now _ c.in-Frame.bus.now c.in-Frame.frame h is more
-    (λ s on content. c.add-in-Frame.ensures (seen_in lines) s reads.parts.bus_is on (ap (λ (f : FrameRecord). f.stamp) (content ∙ sym c.frame-in-Frame.view_is)) h.interfaces_are)
-    (c.add-in-Frame-2.ensures (frames_of (seen_in lines)) c.in-Frame.frame (ap (λ (f : FrameRecord). f.id) (sym c.frame-in-Frame.view_is)) h.groups_are)
+    (λ s on content. c.add.ensures (seen_in lines) s reads.parts.bus_is on (ap (λ (f : FrameRecord). f.stamp) (content ∙ sym c.frame.view_is)) h.interfaces_are)
+    (c.add-in-Frame.ensures (frames_of (seen_in lines)) c.in-Frame.frame (ap (λ (f : FrameRecord). f.id) (sym c.frame.view_is)) h.groups_are)
     refl refl refl
 
 pub returns-in-Other-clause-surveyed : goal.returns-in-Other-clause-surveyed
