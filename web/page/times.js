@@ -1,0 +1,61 @@
+// Moments, in milliseconds, and numbers as the axes have them.
+const NO_DATE = 1e11; // a stamp below is no date (it would be of 1973), but seconds
+const THIN_SPACE = '\u2009';
+
+const two = n => String(n).padStart(2, '0');
+const isLocal = () => $('zone-local').checked;
+
+function partsOf(moment) {
+  const day = new Date(moment);
+  const part = name => day[(isLocal() ? 'get' : 'getUTC') + name]();
+  return {
+    date: `${part('FullYear')}-${two(part('Month') + 1)}-${two(part('Date'))}`,
+    time: `${two(part('Hours'))}:${two(part('Minutes'))}:${two(part('Seconds'))}`, millis: part('Milliseconds'),
+  };
+}
+
+// A moment to the millisecond.
+function clock(moment) {
+  if (moment < NO_DATE) return `${+(moment / 1000).toFixed(3)} s`;
+  const { date, time, millis } = partsOf(moment);
+  return `${date} ${time}.${String(millis).padStart(3, '0')}${isLocal() ? '' : ' UTC'}`;
+}
+
+// How many places of a second the ticks of a time axis differ by.
+function placesOf(granularity) {
+  const { TEN_MILLISECONDLY, HUNDRED_MILLISECONDLY, SECONDLY } = Dygraph.Granularity;
+  if (granularity < TEN_MILLISECONDLY) return 3;
+  if (granularity < HUNDRED_MILLISECONDLY) return 2;
+  return granularity < SECONDLY ? 1 : 0;
+}
+
+// What stands at a tick of the time axis: the time of day, and at midnight the date.
+function timeLabel(day, granularity) {
+  const places = placesOf(granularity);
+  if (day < NO_DATE) return `${(day / 1000).toFixed(places)} s`;
+  const { date, time, millis } = partsOf(day);
+  if (granularity >= Dygraph.Granularity.DAILY || time === '00:00:00' && millis === 0) return date;
+  if (granularity >= Dygraph.Granularity.MINUTELY) return time.slice(0, 5);
+  return places ? `${time}.${String(millis).padStart(3, '0').slice(0, places)}` : time;
+}
+
+function grouped(digits) {
+  const [whole, places] = digits.split('.');
+  const apart = whole.length > 7 ? whole.replace(/\B(?=(\d{3})+$)/g, THIN_SPACE) : whole;
+  return places ? `${apart}.${places}` : apart;
+}
+
+// A number with so many places; never as a power.
+function fixed(value, places) {
+  return grouped(Math.abs(value) < 1e21 ? value.toFixed(places) : String(BigInt(value)));
+}
+
+// The ticks of a value's axis, with as many places as their distance wants.
+function valueTicks(a, b, pixels, options, graph) {
+  const ticks = Dygraph.numericTicks(a, b, pixels, options, graph);
+  const step = ticks.length > 1 ? Math.abs(ticks[1].v - ticks[0].v) : 1;
+  const places = Math.min(20, Math.max(0, -Math.floor(Math.log10(step) + 1e-9)));
+  return ticks.map(({ v }) => ({ v, label: fixed(v + 0, places) }));
+}
+
+const switchTicks = () => [{ v: 0, label: 'off' }, { v: 1, label: 'on' }];
