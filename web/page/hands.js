@@ -79,12 +79,12 @@ function readingAt({ points, words, row }, graph) {
   const [before, after] = [points[behind - 1], points[behind]];
   const far = it => Math.abs(graph.toDomXCoord(it[0]) - graph.toDomXCoord(cursor));
   const word = words.find(it => far(it) <= NEAR);
-  if (word) return `${KINDS[word[1]]} at ${clock(word[0])}`;
+  if (word) return `${KINDS[word[1]]} at ${clock(word[0], shownTime())}`;
   const isOnLine = isNumber(before) && isNumber(after);
   const all = [before, after].filter(it => isNumber(it) && (isOnLine || far(it) <= NEAR));
   if (!all.length) return 'no value';
   const met = isOnLine && isStep(row) ? before : all.reduce((a, b) => far(b) < far(a) ? b : a);
-  return `${textOf(row, met[1])} at ${clock(met[0])}`;
+  return `${textOf(row, met[1])} at ${clock(met[0], shownTime())}`;
 }
 
 // ---- keys ---------------------------------------------------------------------------------------

@@ -1,6 +1,6 @@
 // The panels: each has a title, what is said of what it shows, and a graph by dygraphs.
 const FEW_POINTS = 200; // so many readings have a point each
-const KINDS = ['', 'error', 'indicator', 'reserved'];
+const KINDS = ['', 'error', 'indicator', 'reserved value'];
 const COUNTS = ['', '-', 'count', 'counts', 'steps', 'fields', 'r']; // the units of counts
 // They differ too for those who don't tell red from green; in one panel they are dashed besides.
 const LIGHT = ['#0060a8', '#b84300', '#00735a', '#9a3a78', '#333333', '#8a6100', '#5b52c0', '#a01830'];
@@ -106,12 +106,12 @@ function optionsOf(panel) {
   };
   return {
     labels: ['time', ...names], colors: series.map(({ colour }) => colour), strokeWidth: 1.4, pointSize: 2.2, legend: 'never', showLabelsOnHighlight: false,
-    highlightCircleSize: 0, connectSeparatedPoints: series.length > 1, gridLineColor: '#8885', yRangePad: 8, xRangePad: 0,
+    highlightCircleSize: 0, connectSeparatedPoints: series.length > 1, gridLineColor: '#8885', axisLineColor: '#888', yRangePad: 8, xRangePad: 0,
     valueRange: isSwitch ? [-0.15, 1.15] : null,
     series: Object.fromEntries(names.map((name, place) => [name, { stepPlot: isStep(series[place].row), strokePattern: series[place].dash }])),
     axes: {
-      x: { ticker: (...words) => keep('x', Dygraph.dateTicker(...words)), axisLabelFormatter: timeLabel, pixelsPerLabel: 105, axisLabelWidth: 96 },
-      y: { ticker: (...words) => keep('y', isSwitch ? switchTicks() : valueTicks(...words)), pixelsPerLabel: 36, axisLabelWidth: labelWidth || 50 },
+      x: { ticker: (...words) => keep('x', timeTicks(...words)), axisLabelFormatter: timeLabel, axisLabelWidth: 96 },
+      y: { ticker: (...words) => keep('y', isSwitch ? switchTicks() : valueTicks(...words)), pixelsPerLabel: 26, axisLabelWidth: labelWidth || 50 },
     },
     underlayCallback: (context, area, graph) => drawUnder(panel, context, area, graph),
     drawCallback: graph => isOurs || followHand(graph),
@@ -148,10 +148,8 @@ function drawUnder({ series }, context, area, graph) {
 
 // All panels have as much room for their values, and no label is cut.
 function alignPanels() {
-  const pen = document.createElement('canvas').getContext('2d');
-  pen.font = `14px ${getComputedStyle(document.body).fontFamily}`;
   const labels = panels.flatMap(({ ticks }) => ticks.y.map(({ label }) => label));
-  const wide = Math.ceil(Math.max(30, ...labels.map(label => pen.measureText(label).width))) + 8;
+  const wide = Math.ceil(Math.max(30, ...labels.map(widthOf))) + 8;
   if (wide <= labelWidth) return;
   labelWidth = wide;
   isOurs = true;
@@ -176,7 +174,7 @@ function sayAbout({ about, row, statistics: it, backs }) {
     said.push(`least ${digitsOf(row, it.least)}`, `most ${digitsOf(row, it.most)}`, `mean ${it.mean.toFixed(row.places + 1)}`);
   }
   if (it.count) said.push(`last ${digitsOf(row, it.last)}`);
-  KINDS.forEach((kind, k) => it.words[k] && said.push(`${number(it.words[k])} ${kind}`));
+  KINDS.forEach((kind, k) => it.words[k] && said.push(count(it.words[k], kind)));
   if (backs.count) said.push(`stamps go back ${backs.count === 1 ? 'once' : `${number(backs.count)} times, first`} from ${clock(backs.first[0][0])} to ${clock(backs.first[0][1])}: drawn in the order of time`);
   about.textContent = said.join(' \u00b7 ');
 }

@@ -1,5 +1,5 @@
 // A table of many rows, of which a page is drawn at a time: it is sorted by a column, filtered by words, and walked by arrows.
-const ROWS_SHOWN = 200;
+const ROWS_SHOWN = 200, LONG = 16;
 
 // Numbers by their size, and words by their letters.
 function compare(x, y) {
@@ -7,9 +7,10 @@ function compare(x, y) {
   return x !== '' && y !== '' && !isNaN(a) && !isNaN(b) ? a - b : String(x).localeCompare(String(y));
 }
 
+// A long text may stand in several lines.
 function rowOf(cells) {
   const row = element('tr');
-  for (const [text, kind] of cells) row.append(element('td', text, kind));
+  for (const [text, kind = ''] of cells) row.append(element('td', text, String(text).length > LONG ? `${kind} long` : kind));
   return row;
 }
 

@@ -14,11 +14,12 @@ function partsOf(moment) {
   };
 }
 
-// A moment to the millisecond.
-function clock(moment) {
+// A moment to the millisecond; of a view of one day without the date.
+function clock(moment, [from, to] = [0, 0]) {
   if (moment < NO_DATE) return `${+(moment / 1000).toFixed(3)} s`;
-  const { date, time, millis } = partsOf(moment);
-  return `${date} ${time}.${String(millis).padStart(3, '0')}${isLocal() ? '' : ' UTC'}`;
+  const { date, time, millis } = partsOf(moment), exact = `${time}.${String(millis).padStart(3, '0')}`;
+  if (partsOf(from).date === date && partsOf(to).date === date) return exact;
+  return `${date} ${exact}${isLocal() ? '' : ' UTC'}`;
 }
 
 // How many places of a second the ticks of a time axis differ by.
@@ -37,6 +38,21 @@ function timeLabel(day, granularity) {
   if (granularity >= Dygraph.Granularity.DAILY || time === '00:00:00' && millis === 0) return date;
   if (granularity >= Dygraph.Granularity.MINUTELY) return time.slice(0, 5);
   return places ? `${time}.${String(millis).padStart(3, '0').slice(0, places)}` : time;
+}
+
+const pen = document.createElement('canvas').getContext('2d');
+function widthOf(label) {
+  pen.font = `14px ${getComputedStyle(document.body).fontFamily}`;
+  return pen.measureText(label).width;
+}
+
+// The ticks of a time axis: two at least, where their labels have room.
+function timeTicks(from, to, pixels, options, graph) {
+  const ticksOf = room => Dygraph.dateTicker(from, to, pixels, name => name === 'pixelsPerLabel' ? room : options(name), graph)
+    .filter(({ v }) => v >= from && v <= to);
+  const apart = (a, b) => (b.v - a.v) / (to - from) * pixels - (widthOf(a.label) + widthOf(b.label)) / 2;
+  const fits = ticks => ticks.length > 1 && ticks.every((tick, k) => k === 0 || apart(ticks[k - 1], tick) > 4);
+  return [105, 85, 65, 50].map(ticksOf).find(fits) || ticksOf(105);
 }
 
 function grouped(digits) {

@@ -1,5 +1,6 @@
 """The page in Chromium without a screen, for the tests."""
 import argparse
+import base64
 import json
 import pathlib
 import shutil
@@ -27,7 +28,7 @@ if not CHROMIUM or not DRIVER:
     print("chromium is not installed (of Debian: apt install chromium chromium-driver): the page in a browser")
     sys.exit(SKIPPED)
 
-WIDE, NARROW = (1400, 1560), (360, 1600)
+WIDE = (1400, 1560)
 TOP = pathlib.Path(__file__).resolve().parents[2]
 
 
@@ -146,10 +147,15 @@ class Trial:
             is_so = len(left) == 1 and left[0].suffix != ".crdownload" and left[0].read_bytes() == want
         self.check(is_so, what)
 
-    def picture(self, folder, name, size):
-        self.browser.set_window_size(*size)
+    def picture(self, file, width):
+        """All of the page as a picture."""
+        self.browser.execute_cdp_cmd("Emulation.setDeviceMetricsOverride", {"width": width, "height": 900, "deviceScaleFactor": 1, "mobile": width < 600})
         time.sleep(0.7)
-        self.browser.save_screenshot(str(folder / name))
+        height = self.run("return document.documentElement.scrollHeight")
+        shot = self.browser.execute_cdp_cmd("Page.captureScreenshot", {"captureBeyondViewport": True, "clip": {
+            "x": 0, "y": 0, "width": width, "height": height, "scale": 1}})
+        file.write_bytes(base64.b64decode(shot["data"]))
+        self.browser.execute_cdp_cmd("Emulation.clearDeviceMetricsOverride", {})
 
 
 def run(name, tests):
