@@ -47,7 +47,7 @@ def fuel(at):
 
 
 def distance(at):
-    return bytes_of(at * 0.14, 4) + bytes_of(4_211_080_000 + at * 0.14, 4)
+    return bytes_of(at * 0.14, 4) + bytes_of(3_211_080_000 + at * 0.14, 4)
 
 
 def faults(at):

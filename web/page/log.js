@@ -52,6 +52,7 @@ async function readSample() {
 
 function fail(words) {
   $('progress').hidden = true;
+  [isAsked, isStale] = [false, false];
   say(`${file ? file.name : 'The page'}: it failed: ${words}.`, true);
 }
 

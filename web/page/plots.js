@@ -2,7 +2,7 @@
 const FEW_POINTS = 200; // so many readings have a point each
 const KINDS = ['', 'error', 'indicator', 'reserved value'];
 const COUNTS = ['', '-', 'count', 'counts', 'steps', 'fields', 'r']; // the units of counts
-// They differ too for those who don't tell red from green; in one panel they are dashed besides.
+// They differ too for those who don't tell red from green; in one panel all but the first are dashed besides.
 const LIGHT = ['#0060a8', '#b84300', '#00735a', '#9a3a78', '#333333', '#8a6100', '#5b52c0', '#a01830'];
 const DARK = ['#62b6f0', '#f0a030', '#35cda3', '#e691c4', '#e8e8e8', '#f0e060', '#b0a8ff', '#ff8f80'];
 const DASHES = [null, [8, 3], [2, 3], [10, 3, 2, 3], [5, 5], [14, 4], [2, 6], [8, 3, 2, 3, 2, 3]];
@@ -40,7 +40,7 @@ function makePanels() {
 
 function panelOf(group) {
   const at = element('div', undefined, 'panel');
-  const series = group.map(i => seriesOf(i, group.length > 1));
+  const series = group.map((i, place) => seriesOf(i, DASHES[place]));
   const box = element('div', undefined, 'graph-box'), graph = element('div', undefined, 'graph'), line = element('div', undefined, 'cursor');
   graph.tabIndex = 0;
   graph.setAttribute('role', 'img');
@@ -48,19 +48,18 @@ function panelOf(group) {
   line.hidden = true;
   box.append(graph, line);
   at.append(...series.map(({ heading }) => heading), box);
-  return { at, box, graphAt: graph, line, series, graph: null, ticks: {} };
+  return { at, graphAt: graph, line, series, graph: null, ticks: {} };
 }
 
 // A parameter in a panel, and what is said of it.
-function seriesOf(i, isDashed) {
-  const row = parameters.rows[i], heading = element('div', undefined, 'heading');
+function seriesOf(i, dash) {
+  const row = parameters.rows[i], colour = colourOf(i), heading = element('div', undefined, 'heading');
   const title = element('h3', titleOf(row)), value = element('output'), about = element('p', undefined, 'about');
-  const key = element('span', undefined, 'key');
-  const dash = isDashed ? DASHES[chosen.indexOf(i)] : null;
-  key.style.borderTop = `3px ${dash ? 'dashed' : 'solid'} ${colourOf(i)}`;
+  const key = shape('svg', { width: 36, height: 8 });
+  key.append(shape('path', { d: 'M0 4h28', stroke: colour, 'stroke-width': 3, ...dash && { 'stroke-dasharray': dash.join(' ') } }));
   title.prepend(key);
   heading.append(title, value, about);
-  return { i, row, heading, value, about, colour: colourOf(i), dash, points: [], words: [] };
+  return { i, row, heading, value, about, colour, dash, points: [], words: [] };
 }
 
 // ---- what is drawn ------------------------------------------------------------------------------

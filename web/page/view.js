@@ -10,7 +10,7 @@ let ticket = 0, isAsked = false, isStale = false;
 const shownTime = () => view || whole;
 
 function forgetViews() {
-  [whole, view, past, future, isAsked, isStale] = [null, null, [], [], false, false];
+  [whole, view, past, future, isAsked, isStale, cursor] = [null, null, [], [], false, false, null];
   ticket++;
 }
 
@@ -31,6 +31,7 @@ function showView(it, itsTicket) {
   if (isStale) return look();
   sayRead();
   drawPanels(it);
+  setCursor(cursor);
   showViewButtons();
 }
 
