@@ -4,7 +4,7 @@ const BROWSERS = 'Chrome, Edge and Chromium have it from version 133 on, and Fir
 // The smallest module that has a memory with addresses of 64 bits.
 const MEMORY64 = new Uint8Array([0, 97, 115, 109, 1, 0, 0, 0, 5, 3, 1, 4, 1]);
 
-let worker = null, file = null, bus = '', log = null;
+let worker = null, isFresh = false, file = null, bus = '', log = null;
 
 const bytesOf = id => Uint8Array.from(atob($(id).textContent), letter => letter.charCodeAt(0));
 const megabytes = size => `${(size / 1e6).toFixed(1)} MB`;
@@ -29,6 +29,7 @@ function startWorker() {
   worker = it;
   const module = bytesOf('module');
   worker.postMessage({ module }, [module.buffer]);
+  isFresh = true;
 }
 
 // Reads a log, on the interface of its first frame or on one that was chosen.
@@ -39,9 +40,10 @@ function read(chosenFile, chosenBus = '') {
   $('progress').hidden = true;
   delete document.body.dataset.done;
   forgetPlots();
-  startWorker();
+  if (!isFresh) startWorker();
   if (file.size === 0) return say(`${file.name} is empty.`, true);
   say(`Reading ${file.name} (${megabytes(file.size)})`);
+  isFresh = false;
   worker.postMessage({ file, bus, table: $('table').files[0] });
 }
 
@@ -146,17 +148,18 @@ function showHint({ frames, other, unread, values }) {
   $('hint').hidden = !hints.length;
 }
 
-const NODE_COLUMNS = ['address', 'NAME', 'function', 'manufacturer code', 'industry group', 'vehicle system', 'function instance',
-  'ECU instance', 'system instance', 'identity number', 'may change address'];
+const NODE_COLUMNS = [
+  ['address', node => `${parseInt(node.address, 16)} (${node.address})`], ['NAME', node => node.name, 'code'],
+  ['function', ({ fields }) => fields.function, 'n'], ['manufacturer code', ({ fields }) => fields.manufacturer, 'n'],
+  ['industry group', ({ fields }) => [fields.industry, INDUSTRIES[fields.industry]].filter(word => word !== undefined).join(', ')],
+  ['vehicle system', ({ fields }) => fields.system, 'n'], ['function instance', ({ fields }) => fields.functionInstance, 'n'],
+  ['ECU instance', ({ fields }) => fields.ecuInstance, 'n'], ['system instance', ({ fields }) => fields.systemInstance, 'n'],
+  ['identity number', ({ fields }) => fields.identity, 'n'], ['may change address', ({ fields }) => fields.arbitrary ? 'yes' : 'no'],
+];
 
 function showNodes(nodes) {
-  headOf($('nodes'), NODE_COLUMNS.map(name => element('th', name)));
-  $('nodes').tBodies[0].replaceChildren(...nodes.map(({ address, name, fields: f }) => {
-    const industry = INDUSTRIES[f.industry] ? `${f.industry}, ${INDUSTRIES[f.industry]}` : f.industry;
-    return rowOf([[`${parseInt(address, 16)} (${address})`], [name, 'code'], [f.function, 'n'], [f.manufacturer, 'n'], [industry],
-      [f.system, 'n'], [f.functionInstance, 'n'], [f.ecuInstance, 'n'], [f.systemInstance, 'n'], [f.identity, 'n'],
-      [f.arbitrary ? 'yes' : 'no']]);
-  }));
+  headOf($('nodes'), NODE_COLUMNS.map(([name, , kind]) => element('th', name, kind === 'n' ? 'n' : '')));
+  $('nodes').tBodies[0].replaceChildren(...nodes.map(node => rowOf(NODE_COLUMNS.map(([, value, kind]) => [value(node), kind]))));
   $('nodes-box').hidden = !nodes.length;
   $('nobody').hidden = Boolean(nodes.length);
 }

@@ -105,12 +105,12 @@ function optionsOf(panel) {
   };
   return {
     labels: ['time', ...names], colors: series.map(({ colour }) => colour), strokeWidth: 1.4, pointSize: 2.2, legend: 'never', showLabelsOnHighlight: false,
-    highlightCircleSize: 0, connectSeparatedPoints: series.length > 1, gridLineColor: '#8885', axisLineColor: '#888', yRangePad: 8, xRangePad: 0,
+    highlightCircleSize: 0, connectSeparatedPoints: series.length > 1, gridLineColor: '#8885', axisLineColor: '#888', axisLabelFontSize: 13, yRangePad: 8, xRangePad: 0,
     valueRange: isSwitch ? [-0.15, 1.15] : null,
     series: Object.fromEntries(names.map((name, place) => [name, { stepPlot: isStep(series[place].row), strokePattern: series[place].dash }])),
     axes: {
       x: { ticker: (...words) => keep('x', timeTicks(...words)), axisLabelFormatter: timeLabel, axisLabelWidth: 96 },
-      y: { ticker: (...words) => keep('y', isSwitch ? switchTicks() : valueTicks(...words)), pixelsPerLabel: 26, axisLabelWidth: labelWidth || 50 },
+      y: { ticker: (...words) => keep('y', isSwitch ? switchTicks() : valueTicks(...words)), pixelsPerLabel: 18, axisLabelWidth: labelWidth || 50 },
     },
     underlayCallback: (context, area, graph) => drawUnder(panel, context, area, graph),
     drawCallback: graph => isOurs || followHand(graph),

@@ -147,13 +147,15 @@ class Trial:
             is_so = len(left) == 1 and left[0].suffix != ".crdownload" and left[0].read_bytes() == want
         self.check(is_so, what)
 
-    def picture(self, file, width):
-        """All of the page as a picture."""
-        self.browser.execute_cdp_cmd("Emulation.setDeviceMetricsOverride", {"width": width, "height": 900, "deviceScaleFactor": 1, "mobile": width < 600})
-        time.sleep(0.7)
-        height = self.run("return document.documentElement.scrollHeight")
+    def picture(self, file, width, first="html", last="html"):
+        """The page as a picture, from the top of one element to the foot of another."""
+        for height in (900, 4000):
+            self.browser.execute_cdp_cmd("Emulation.setDeviceMetricsOverride", {"width": width, "height": height, "deviceScaleFactor": 1, "mobile": width < 600})
+            time.sleep(0.7)
+        top, foot = self.run("""const [a, b] = [...arguments].map(it => document.querySelector(it).getBoundingClientRect());
+            return [a.top + scrollY, b.bottom + scrollY]""", first, last)
         shot = self.browser.execute_cdp_cmd("Page.captureScreenshot", {"captureBeyondViewport": True, "clip": {
-            "x": 0, "y": 0, "width": width, "height": height, "scale": 1}})
+            "x": 0, "y": top, "width": width, "height": foot - top, "scale": 1}})
         file.write_bytes(base64.b64decode(shot["data"]))
         self.browser.execute_cdp_cmd("Emulation.clearDeviceMetricsOverride", {})
 
