@@ -5,6 +5,7 @@ function wireLog() {
     event.target.value = '';
   };
   $('sample').onclick = readSample;
+  $('bus').onchange = event => read(file, event.target.value.trim());
   $('table').onchange = () => read(file, bus);
   $('no-table').onclick = () => {
     $('table').value = '';

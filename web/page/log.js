@@ -4,7 +4,7 @@ const BROWSERS = 'Chrome, Edge and Chromium have it from version 133 on, and Fir
 // The smallest module that has a memory with addresses of 64 bits.
 const MEMORY64 = new Uint8Array([0, 97, 115, 109, 1, 0, 0, 0, 5, 3, 1, 4, 1]);
 
-let worker = null, isFresh = false, file = null, bus = '', log = null;
+let workerPlace = '', worker = null, isFresh = false, file = null, bus = '', log = null;
 
 const bytesOf = id => Uint8Array.from(atob($(id).textContent), letter => letter.charCodeAt(0));
 const megabytes = size => `${(size / 1e6).toFixed(1)} MB`;
@@ -19,7 +19,8 @@ function canRead() {
 // Ends the worker that there is, whatever it does, and starts another.
 function startWorker() {
   if (worker) worker.terminate();
-  const it = new Worker(URL.createObjectURL(new Blob([$('worker').textContent], { type: 'text/javascript' })));
+  workerPlace ||= URL.createObjectURL(new Blob([$('worker').textContent], { type: 'text/javascript' }));
+  const it = new Worker(workerPlace);
   it.onmessage = ({ data }) => {
     if (it === worker) hear(data);
   };
@@ -116,7 +117,7 @@ function showFacts(besides = {}) {
 function finish(survey) {
   $('survey').textContent = survey;
   $('survey-box').open = !log.counts.frames;
-  showBuses(busesOf(survey));
+  showBuses(busesOf(survey), /^elsewhere /m.test(survey));
   document.body.dataset.done = JSON.stringify(log.counts);
   sayRead();
 }
@@ -127,14 +128,16 @@ function busesOf(survey) {
   return lines.map(line => line.split(' ')).map(words => ({ name: words[1], frames: Number(words[3]), backs: Number(words[9]) }));
 }
 
-// The interfaces of the log to choose from, where it has several.
-function showBuses(buses) {
-  const read1 = buses.find(({ name }) => name === bus) || buses[0];
-  if (read1) showFacts({ interface: read1.name, ...read1.backs && { 'stamps that go back': number(read1.backs) } });
+// The interfaces of the log to choose from, where it has several; one that the survey doesn't tell, of very many, is typed.
+function showBuses(buses, isMore) {
+  const shown = bus || buses[0]?.name, backs = buses.find(({ name }) => name === shown)?.backs;
+  if (shown) showFacts({ interface: shown, ...backs && { 'stamps that go back': number(backs) } });
   $('buses').hidden = buses.length < 2;
+  $('bus-label').hidden = !isMore;
+  $('bus').value = bus;
   $('buses-list').replaceChildren(...buses.map(({ name, frames }) => {
     const it = button(`${name}, ${count(frames, 'frame')}`, () => read(file, name));
-    it.setAttribute('aria-pressed', String(name === read1.name));
+    it.setAttribute('aria-pressed', String(name === shown));
     return it;
   }));
 }

@@ -43,8 +43,8 @@ class Table {
 
   find() {
     const words = this.filter.value.toLowerCase().split(/\s+/).filter(Boolean);
-    const textOfRow = row => this.columns.map(({ value, text }) => (text || value)(row)).join(' ').toLowerCase();
-    this.found = this.rows.filter(row => !words.length || words.every(word => textOfRow(row).includes(word)));
+    const has = text => words.every(word => text.includes(word));
+    this.found = this.rows.filter(row => !words.length || has(this.columns.map(({ value, text }) => (text || value)(row)).join(' ').toLowerCase()));
     if (this.order.by !== null) {
       const { value } = this.columns[this.order.by];
       this.found.sort((x, y) => (this.order.falls ? -1 : 1) * compare(value(x), value(y)));
