@@ -21,7 +21,7 @@ function wireLog() {
 function wirePlot() {
   const acts = { back: goBack, forth: goForth, whole: showWhole, nearer, farther, earlier: () => move(-0.25), later: () => move(0.25) };
   for (const [id, act] of Object.entries(acts)) $(id).onclick = act;
-  $('together').onchange = makePanels;
+  for (const id of ['together', 'scaled']) $(id).onchange = makePanels;
   for (const id of ['zone-utc', 'zone-local']) $(id).onchange = () => {
     faults.draw();
     look();

@@ -13,8 +13,8 @@ const ink = name => getComputedStyle(document.documentElement).getPropertyValue(
 const words = (text, x, y, more) => shape('text', { x, y, fill: ink('ink'), ...more }, text);
 
 // The path of a series, and its points that stand alone.
-function pathOf({ points, row }, place) {
-  const drawn = points.map(([x, y]) => isNaN(y) ? null : place(x, y));
+function pathOf({ points, row, scale }, place) {
+  const drawn = points.map(([x, y]) => isNaN(y) ? null : place(x, scale(y)));
   let path = '';
   const alone = [];
   drawn.forEach((it, k) => {

@@ -66,7 +66,10 @@ function seriesOf(i, dash) {
 
 function drawPanels({ shown, from, to }) {
   for (const panel of panels) {
-    for (const one of panel.series) Object.assign(one, shown.find(({ i }) => i === one.i));
+    for (const one of panel.series) {
+      Object.assign(one, shown.find(({ i }) => i === one.i));
+      one.scale = isScaled(panel.series) ? scaleOf(one.statistics) : y => y;
+    }
     drawPanel(panel, from, to);
   }
   alignPanels();
@@ -74,11 +77,18 @@ function drawPanels({ shown, from, to }) {
   document.body.dataset.plotted = ticket;
 }
 
+// Several in one panel may each have a scale of its own, from the least to the most of what is shown.
+const isScaled = series => series.length > 1 && $('scaled').checked;
+
+function scaleOf({ least, most }) {
+  return y => most > least ? (y - least) / (most - least) : y - least + 0.5;
+}
+
 // The points of several series in the order of time, each with a place for each series.
 function rowsOfPoints(series) {
   if (series.length === 1) return series[0].points;
   const empty = series.map(() => null);
-  return series.flatMap(({ points }, place) => points.map(([x, y]) => [x, ...empty.with(place, y)])).sort((a, b) => a[0] - b[0]);
+  return series.flatMap(({ points, scale }, place) => points.map(([x, y]) => [x, ...empty.with(place, scale(y))])).sort((a, b) => a[0] - b[0]);
 }
 
 function drawPanel(panel, from, to) {
@@ -97,7 +107,8 @@ function drawPanel(panel, from, to) {
 }
 
 function optionsOf(panel) {
-  const { series } = panel, isSwitch = series[0].row.isSwitch;
+  const { series } = panel, isSwitch = series[0].row.isSwitch, isOwn = isScaled(series);
+  const ends = isOwn ? ['least', 'most'] : isSwitch ? ['off', 'on'] : null;
   const names = series.map((_, place) => `series ${place}`);
   const keep = (axis, ticks) => {
     panel.ticks[axis] = ticks;
@@ -106,11 +117,11 @@ function optionsOf(panel) {
   return {
     labels: ['time', ...names], colors: series.map(({ colour }) => colour), strokeWidth: 1.4, pointSize: 2.2, legend: 'never', showLabelsOnHighlight: false,
     highlightCircleSize: 0, connectSeparatedPoints: series.length > 1, gridLineColor: '#8885', axisLineColor: '#888', axisLabelFontSize: 13, yRangePad: 8, xRangePad: 0,
-    valueRange: isSwitch ? [-0.15, 1.15] : null,
+    valueRange: ends && [-0.15, 1.15],
     series: Object.fromEntries(names.map((name, place) => [name, { stepPlot: isStep(series[place].row), strokePattern: series[place].dash }])),
     axes: {
       x: { ticker: (...words) => keep('x', timeTicks(...words)), axisLabelFormatter: timeLabel, axisLabelWidth: 96 },
-      y: { ticker: (...words) => keep('y', isSwitch ? switchTicks() : valueTicks(...words)), pixelsPerLabel: 18, axisLabelWidth: labelWidth || 50 },
+      y: { ticker: (...words) => keep('y', ends ? ends.map((label, v) => ({ v, label })) : valueTicks(...words)), pixelsPerLabel: 18, axisLabelWidth: labelWidth || 50 },
     },
     underlayCallback: (context, area, graph) => drawUnder(panel, context, area, graph),
     drawCallback: graph => isOurs || followHand(graph),

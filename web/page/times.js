@@ -73,5 +73,3 @@ function valueTicks(a, b, pixels, options, graph) {
   const places = Math.min(20, Math.max(0, -Math.floor(Math.log10(step) + 1e-9)));
   return ticks.map(({ v }) => ({ v, label: fixed(v + 0, places) }));
 }
-
-const switchTicks = () => [{ v: 0, label: 'off' }, { v: 1, label: 'on' }];
