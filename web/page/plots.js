@@ -178,6 +178,11 @@ function digitsOf(row, value) {
 
 const textOf = (row, value) => `${digitsOf(row, value)} ${row.unit}`.trim();
 
+function wordsOfBacks(backs) {
+  const [from, to] = backs.first[0];
+  return `stamps go back ${backs.count === 1 ? 'once' : `${number(backs.count)} times, first`} from ${clock(from)} to ${clock(to)}`;
+}
+
 function sayAbout({ about, row, statistics: it, backs }) {
   const said = [count(it.count, 'value')];
   if (it.count && !row.isSwitch) {
@@ -185,6 +190,6 @@ function sayAbout({ about, row, statistics: it, backs }) {
   }
   if (it.count) said.push(`last ${digitsOf(row, it.last)}`);
   KINDS.forEach((kind, k) => it.words[k] && said.push(count(it.words[k], kind)));
-  if (backs.count) said.push(`stamps go back ${backs.count === 1 ? 'once' : `${number(backs.count)} times, first`} from ${clock(backs.first[0][0])} to ${clock(backs.first[0][1])}: drawn in the order of time`);
+  if (backs.count) said.push(`${wordsOfBacks(backs)}: drawn in the order of time`);
   about.textContent = said.join(' \u00b7 ');
 }
