@@ -8,7 +8,9 @@
 
 # What the library and the page are made of beside their crates.
 library_files='c/archive c/j1939.c c/j1939.h'
-page_files='NOTICES web/build web/page.css web/page.html web/page.js web/put_together web/worker.js'
+page_files='NOTICES web/build web/page.css web/page.html web/put_together web/sample.py'
+page_files+=' web/page/base.js web/page/controls.js web/page/faults.js web/page/hands.js web/page/log.js web/page/parameters.js web/page/picture.js web/page/plots.js web/page/save.js web/page/table.js web/page/times.js web/page/view.js'
+page_files+=' web/worker/hear.js web/worker/log.js web/worker/module.js web/worker/rows.js web/worker/series.js web/worker/values.js web/worker/view.js'
 
 # Sets what a product is made of, and where it lies where it is built here.
 describe() {

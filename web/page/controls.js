@@ -1,0 +1,61 @@
+// What each control does, and the begin of it all.
+function wireLog() {
+  $('file').onchange = event => {
+    read(event.target.files[0]);
+    event.target.value = '';
+  };
+  $('sample').onclick = readSample;
+  $('bus').onchange = event => read(file, event.target.value.trim());
+  $('table').onchange = () => read(file, bus);
+  $('no-table').onclick = () => {
+    $('table').value = '';
+    read(file, bus);
+  };
+  for (const kind of ['dragover', 'dragleave', 'drop']) document.addEventListener(kind, event => {
+    event.preventDefault();
+    $('drop').classList.toggle('over', kind === 'dragover');
+    if (kind === 'drop') read(event.dataTransfer.files[0]);
+  });
+}
+
+function wirePlot() {
+  const acts = { back: goBack, forth: goForth, whole: showWhole, nearer, farther, earlier: () => move(-0.25), later: () => move(0.25) };
+  for (const [id, act] of Object.entries(acts)) $(id).onclick = act;
+  for (const id of ['together', 'scaled']) $(id).onchange = makePanels;
+  for (const id of ['zone-utc', 'zone-local']) $(id).onchange = () => {
+    faults.draw();
+    look();
+  };
+  $('plots').onkeydown = hearKey;
+  document.addEventListener('keydown', event => {
+    if (event.key === 'Escape' && event.target.type !== 'search') showWhole();
+  });
+  matchMedia('(prefers-color-scheme: dark)').onchange = makePanels;
+}
+
+function wireSaving() {
+  $('save-report').onclick = () => worker.postMessage({ report: true });
+  $('save-table').onclick = saveTable;
+  $('save-faults').onclick = () => save(log.faults, `${stem()}.faults.txt`);
+  $('save-values').onclick = askValues;
+  $('save-svg').onclick = saveSvg;
+  $('save-png').onclick = savePng;
+}
+
+function wireNotices() {
+  for (const what of ['licence', 'notices']) $(`show-${what}`).onclick = () => {
+    $(what).textContent = $(`${what}-text`).textContent;
+    $(what).hidden = !$(what).hidden;
+    $(`show-${what}`).setAttribute('aria-expanded', String(!$(what).hidden));
+  };
+}
+
+function start() {
+  parameters = new Table('parameters', PARAMETER_COLUMNS, { before: { name: 'plot', make: tickOf }, mark: markLine });
+  faults = new Table('faults', FAULT_COLUMNS);
+  wireLog();
+  wirePlot();
+  wireSaving();
+  wireNotices();
+  if (canRead()) startWorker();
+}

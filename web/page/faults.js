@@ -1,0 +1,31 @@
+// The fault codes, as they became news.
+const FAULT_COLUMNS = [
+  { name: 'time', value: fault => fault.stamp, text: fault => clock(fault.stamp * 1000) }, { name: 'address', value: fault => fault.address },
+  { name: 'NAME', value: fault => fault.name, kind: 'code' }, { name: 'state', value: fault => fault.state },
+  { name: 'SPN', value: fault => fault.spn, text: fault => `${fault.spn} ${fault.parameter}` },
+  { name: 'FMI', value: fault => fault.fmi, text: fault => `${fault.fmi} ${fault.meaning}` }, { name: 'count', value: fault => fault.count, kind: 'n' },
+  { name: 'lamps', value: fault => fault.lamps },
+];
+
+let faults = null; // the table
+
+// A line is `(STAMP) AA NAME active|previous SPN FMI COUNT LAMPS PARAMETER: MEANING`, `.. CODE - LAMPS` where the code's four
+// bytes are of an older form, or `.. none - LAMPS`. What has no name of its own is called `SPN` and its number.
+function faultOf(line) {
+  const [stamp, address, name, state, spn, ...rest] = line.split(' ');
+  const fault = { stamp: Number(stamp.slice(1, -1)), address, name, state, spn, fmi: '', count: '', lamps: rest[1], parameter: '', meaning: '' };
+  if (rest.length < 3) return fault;
+  const words = rest.slice(3).join(' '), cut = words.lastIndexOf(': ');
+  const parameter = words.slice(0, cut);
+  return { ...fault, fmi: rest[0], count: rest[1], lamps: rest[2], parameter: parameter === `SPN ${spn}` ? '' : parameter, meaning: words.slice(cut + 2) };
+}
+
+async function showFaults(blob) {
+  const of = log;
+  const lines = (await blob.text()).split('\n').filter(Boolean);
+  if (log !== of) return;
+  log.faults = blob;
+  const all = lines.map(faultOf);
+  $('faults-section').hidden = all.every(({ spn }) => spn === 'none');
+  faults.show(all);
+}

@@ -1,0 +1,168 @@
+// Reading a log: a worker of its own reads each, and what an older one says is heard no more.
+const INDUSTRIES = ['all industries', 'on-highway', 'agriculture and forestry', 'construction', 'marine', 'industrial'];
+const BROWSERS = 'Chrome, Edge and Chromium have it from version 133 on, and Firefox from 134 on.';
+// The smallest module that has a memory with addresses of 64 bits.
+const MEMORY64 = new Uint8Array([0, 97, 115, 109, 1, 0, 0, 0, 5, 3, 1, 4, 1]);
+
+let workerPlace = '', worker = null, isFresh = false, file = null, bus = '', log = null;
+
+const bytesOf = id => Uint8Array.from(atob($(id).textContent), letter => letter.charCodeAt(0));
+const megabytes = size => `${(size / 1e6).toFixed(1)} MB`;
+
+function canRead() {
+  if (typeof WebAssembly === 'object' && WebAssembly.validate(MEMORY64)) return true;
+  say(`This browser can't read logs here: it lacks WebAssembly with 64-bit memory. ${BROWSERS}`, true);
+  $('file').disabled = $('sample').disabled = true;
+  return false;
+}
+
+// Ends the worker that there is, whatever it does, and starts another.
+function startWorker() {
+  if (worker) worker.terminate();
+  workerPlace ||= URL.createObjectURL(new Blob([$('worker').textContent], { type: 'text/javascript' }));
+  const it = new Worker(workerPlace);
+  it.onmessage = ({ data }) => {
+    if (it === worker) hear(data);
+  };
+  it.onerror = fault => {
+    if (it === worker) fail(fault.message);
+  };
+  worker = it;
+  const module = bytesOf('module');
+  worker.postMessage({ module }, [module.buffer]);
+  isFresh = true;
+}
+
+// Reads a log, on the interface of its first frame or on one that was chosen.
+function read(chosenFile, chosenBus = '') {
+  if (!chosenFile || $('file').disabled) return;
+  [file, bus, log] = [chosenFile, chosenBus, null];
+  $('result').hidden = $('welcome').hidden = true;
+  $('progress').hidden = true;
+  delete document.body.dataset.done;
+  forgetPlots();
+  if (!isFresh) startWorker();
+  if (file.size === 0) return say(`${file.name} is empty.`, true);
+  say(`Reading ${file.name} (${megabytes(file.size)})`);
+  isFresh = false;
+  worker.postMessage({ file, bus, table: $('table').files[0] });
+}
+
+async function readSample() {
+  const stream = new Blob([bytesOf('sample-log')]).stream().pipeThrough(new DecompressionStream('gzip'));
+  read(new File([await new Response(stream).blob()], 'sample.log'));
+}
+
+function fail(words) {
+  $('progress').hidden = true;
+  [isAsked, isStale] = [false, false];
+  say(`${file ? file.name : 'The page'}: it failed: ${words}.`, true);
+}
+
+function hear(data) {
+  if (data.ready) document.body.dataset.ready = data.ready;
+  else if (data.progress) showProgress(data.progress);
+  else if (data.fault) fail(data.fault);
+  else if (data.log) showLog(data.log, data.rows);
+  else if (data.faults) showFaults(data.faults);
+  else if (data.nodes) showNodes(data.nodes);
+  else if (data.survey !== undefined) finish(data.survey);
+  else if (data.view) showView(data.view, data.ticket);
+  else if (data.values) saveValues(data.values);
+  else if (data.report) saveReport(data.report);
+}
+
+function showProgress({ done, all }) {
+  const bar = $('progress');
+  bar.hidden = false;
+  if (all) {
+    bar.max = all;
+    bar.value = done;
+  } else {
+    bar.removeAttribute('value');
+    say(`${log ? 'Making the report of' : 'Reading the values of'} ${file.name}`);
+  }
+}
+
+// While the log is read the bar stays.
+function sayRead() {
+  $('progress').hidden = Boolean(document.body.dataset.done);
+  say(`${log.name}: ${count(log.counts.values, 'value')} of ${count(parameters.rows.length, 'parameter')}`);
+}
+
+function showLog(it, rows) {
+  log = it;
+  $('survey').textContent = '';
+  for (const part of ['faults-section', 'nodes-box', 'nobody', 'buses']) $(part).hidden = true;
+  showParameters(rows);
+  worker.postMessage({ rest: true }); // behind what the first plot asks for
+  sayRead();
+  showFacts();
+  showHint(log.counts);
+  $('result').hidden = false;
+}
+
+function showFacts(besides = {}) {
+  const { frames, other, unread, messages, values } = log.counts;
+  const facts = { log: log.name, size: megabytes(log.size), frames: number(frames), 'other lines': number(other), 'unread lines': number(unread),
+    messages: number(messages), values: number(values), table: log.table || 'built-in', ...besides };
+  $('facts').replaceChildren(...Object.entries(facts).map(([name, value]) => {
+    const pair = element('div');
+    pair.append(element('dt', name), element('dd', value));
+    return pair;
+  }));
+}
+
+// What the file is, open where it has no frame of the interface; it comes last.
+function finish(survey) {
+  $('survey').textContent = survey;
+  $('survey-box').open = !log.counts.frames;
+  showBuses(busesOf(survey), /^elsewhere /m.test(survey));
+  document.body.dataset.done = JSON.stringify(log.counts);
+  sayRead();
+}
+
+// A line of an interface is `interface NAME frames N from (STAMP) to (STAMP) back N`.
+function busesOf(survey) {
+  const lines = survey.split('\n').filter(line => line.startsWith('interface '));
+  return lines.map(line => line.split(' ')).map(words => ({ name: words[1], frames: Number(words[3]), backs: Number(words[9]) }));
+}
+
+// The interfaces of the log to choose from, where it has several; one that the survey doesn't tell, of very many, is typed.
+function showBuses(buses, isMore) {
+  const shown = bus || buses[0]?.name, backs = buses.find(({ name }) => name === shown)?.backs;
+  if (shown) showFacts({ interface: shown, ...backs && { 'stamps that go back': number(backs) } });
+  $('buses').hidden = buses.length < 2;
+  $('bus-label').hidden = !isMore;
+  $('bus').value = bus;
+  $('buses-list').replaceChildren(...buses.map(({ name, frames }) => {
+    const it = button(`${name}, ${count(frames, 'frame')}`, () => read(file, name));
+    it.setAttribute('aria-pressed', String(name === shown));
+    return it;
+  }));
+}
+
+function showHint({ frames, other, unread, values }) {
+  const hints = [];
+  if (!frames && unread) hints.push('None of its lines was read: this page reads what candump -l or candump -L writes.');
+  if (!frames && other) hints.push('It has no frame of this interface.');
+  if (frames && !values) hints.push('Its frames hold none of the parameters that are read.');
+  $('hint').textContent = hints.join(' ');
+  $('hint').hidden = !hints.length;
+}
+
+const NODE_COLUMNS = [
+  ['address', node => `${parseInt(node.address, 16)} (${node.address})`], ['NAME', node => node.name, 'code'],
+  ['function', ({ fields }) => fields.function, 'n'], ['manufacturer code', ({ fields }) => fields.manufacturer, 'n'],
+  ['industry group', ({ fields }) => [fields.industry, INDUSTRIES[fields.industry]].filter(word => word !== undefined).join(', ')],
+  ['vehicle system', ({ fields }) => fields.system, 'n'], ['function instance', ({ fields }) => fields.functionInstance, 'n'],
+  ['ECU instance', ({ fields }) => fields.ecuInstance, 'n'], ['system instance', ({ fields }) => fields.systemInstance, 'n'],
+  ['identity number', ({ fields }) => fields.identity, 'n'], ['may change address', ({ fields }) => fields.arbitrary ? 'yes' : 'no'],
+];
+
+function showNodes(nodes) {
+  headOf($('nodes'), NODE_COLUMNS.map(([name, , kind]) => element('th', name, kind === 'n' ? 'n' : '')));
+  $('nodes').tBodies[0].replaceChildren(...nodes.map(node => rowOf(NODE_COLUMNS.map(([, value, kind]) => [value(node), kind]))));
+  $('nodes-box').hidden = !nodes.length;
+  $('nobody').hidden = Boolean(nodes.length);
+}

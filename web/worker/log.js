@@ -1,0 +1,95 @@
+// The log that is shown: what is made of it first, and what it is kept for.
+const MOST_TABLE = 1 << 20; // bytes of a table; the module refuses more
+const NAME_FIELDS = ['arbitrary', 'industry', 'systemInstance', 'system', 'reserved', 'function',
+  'functionInstance', 'ecuInstance', 'manufacturer', 'identity'];
+
+let asked = null; // {file, bus, table, names, rows}
+let place = null; // where it lies in a module's memory; none once its report was made, until it is wanted again
+
+// The log in an instance's memory, with its interface's name and its table; read once more where need be.
+function logPlace(tell) {
+  if (place) return place;
+  const it = instance();
+  const log = { at: it.free, size: asked.file.size };
+  it.free += (log.size + 7) & ~7;
+  grow(it.it.memory, it.free);
+  load(asked.file, log.at, it.it.memory, tell);
+  it.given = [log, put(it, asked.bus), put(it, asked.table)];
+  place = it;
+  return it;
+}
+
+// The groups' names by the table, 'PGN SPN' -> name; and the words for a table that is none.
+function groupNames(given) {
+  const it = instance();
+  const table = put(it, given.bytes);
+  const { answer, bytes } = textOf(it, 'j39_groups', [table], ROOM, WRONG_TABLE);
+  const text = latin(bytes);
+  if (answer === WRONG_TABLE) throw new Error(given.name + text);
+  const names = new Map();
+  for (const line of text.split('\n')) {
+    const [pgn, group, spn] = line.split(' ');
+    if (line) names.set(pgn + ' ' + spn, group);
+  }
+  return names;
+}
+
+// The bytes of the user's table; none without one.
+function tableOf(file) {
+  if (!file) return { name: '', bytes: new Uint8Array(0) };
+  if (file.size === 0) throw new Error(`${file.name} is empty`);
+  const front = file.slice(0, MOST_TABLE + 1);
+  return { name: file.name, bytes: new Uint8Array(new FileReaderSync().readAsArrayBuffer(front)) };
+}
+
+function fieldsOf({ it, told }, name) {
+  it.j39_name(BigInt.asIntN(64, BigInt('0x' + name)), BigInt(told));
+  const words = new Uint32Array(it.memory.buffer, told, NAME_FIELDS.length);
+  return Object.fromEntries(NAME_FIELDS.map((field, i) => [field, words[i]]));
+}
+
+// Posts the parameters of a log.
+function readLog({ file, bus, table }, tell, post) {
+  const given = tableOf(table);
+  asked = { file, bus: new TextEncoder().encode(bus), table: given.bytes, names: groupNames(given), rows: [] };
+  const it = logPlace(tell);
+  tell(0, 0);
+  const summary = textOf(it, 'j39_summary', it.given, 4 * ROOM);
+  asked.rows = rowsOf(latin(summary.bytes), asked.names);
+  const { frames, other, unread, messages } = summary.counts;
+  const values = asked.rows.reduce((sum, row) => sum + row.count, 0);
+  const told = { name: file.name, size: file.size, table: given.name, counts: { frames, other, unread, messages, values } };
+  post({ log: told, rows: asked.rows });
+}
+
+// Posts the rest of what is shown of it, as it is made.
+function readRest(tell, post) {
+  const it = logPlace(tell);
+  const [log, named, rows] = it.given;
+  post({ faults: new Blob([textOf(it, 'j39_faults', it.given, ROOM).bytes], { type: 'text/plain' }) });
+  const holders = latin(textOf(it, 'j39_nodes', [log, named], MEMORY_PAGE).bytes).split('\n').filter(Boolean);
+  post({ nodes: holders.map(line => {
+    const [address, name] = line.split(' ');
+    return { address, name, fields: fieldsOf(it, name) };
+  }) });
+  post({ survey: latin(textOf(it, 'j39_survey', [log, rows], ROOM).bytes) });
+}
+
+// The report of the whole log. Its room is as much memory again, and more, and goes with the instance.
+function report(tell) {
+  const it = logPlace(tell);
+  tell(0, 0);
+  place = null;
+  return new Blob([textOf(it, 'j39_report', it.given, 2 * asked.file.size + MEMORY_PAGE).bytes], { type: 'text/plain' });
+}
+
+// What `use` makes of the report of some rows' parameter (SPN) alone, whose text is gone with the next call.
+function withReportOf(rows, tell, use) {
+  const it = logPlace(tell);
+  const free = it.free;
+  const spns = put(it, new Uint8Array(Uint32Array.of(Number(rows[0].spn)).buffer));
+  const room = rows.reduce((sum, row) => sum + row.count * (80 + row.unit.length), MEMORY_PAGE);
+  const made = use(textOf(it, 'j39_values', [...it.given, { at: spns.at, size: 1 }], room).bytes);
+  it.free = free;
+  return made;
+}
