@@ -35,7 +35,7 @@ At the end the counts go to standard error:
 Example:
   j1939 faults --bus can0 trip.log
 writes lines such as
-  (1700000000.250000) 00 8000000001401234 active 110 0 3 red,amber coolant temperature: above normal, most severe";
+  (1700000000.250000) 00 8000000001401234 active 110 0 3 red,amber coolant temperature: data valid but above normal operational range, most severe level";
 
 /// What clap is told of it.
 pub(crate) fn command<'a>(alloc: Global) -> Result<Command<'a>, AllocError>
