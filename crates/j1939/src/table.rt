@@ -1,5 +1,6 @@
 //! The file of a table of parameters: where it is found, and its text.
-ghost use Rattle.std.specs.Prelude.{◌≡◌, ◌++◌, IfOk, codes, string_bytes};
+ghost use Rattle.std.specs.Prelude.{◌≡◌, ◌==◌, ◌++◌, ◌||◌, IfOk, codes, string_bytes};
+ghost use Rattle.std.specs.List.{list_any};
 
 use j39_table::MOST_BYTES;
 use std::alloc::{AllocError, Global};
@@ -11,16 +12,30 @@ use std::io::{self, Read};
 /// and as it is shipped.
 const SHIPPED: [&str; 3] = ["../share/j1939", "../tables", "../crates/j1939/tables"];
 
-/// The text of the table of this name: of a file, or else of the table that comes with the program under it. Of a longer
-/// text than a table has, one byte too many.
+/// The text of the table of this name: of the one that comes with the program under it, or else of a file. Of a longer text
+/// than a table has, one byte too many.
 pub(crate) fn table_text(rt: &HostRuntime, name: &str) -> io::Result<Vec<u8>> {
-    let file = match fs::open(rt, name) {
-        Ok(file) => file,
-        Err(error) => open_shipped(rt, name)?.ok_or(error)?,
+    let shipped = if is_path(name) {
+        None
+    } else {
+        open_shipped(rt, name)?
+    };
+    let file = match shipped {
+        Some(file) => file,
+        None => fs::open(rt, name)?,
     };
     let mut text = Vec::new(rt.alloc());
     file.take(MOST_BYTES as u64 + 1).read_to_end(&mut text)?;
     Ok(text)
+}
+
+/// Whether a name can't be one of a table that comes with the program: a file's, which has a `/` or a `.`.
+fn is_path(name: &str) -> bool
+    ensures { result ≡ list_any (λ byte. byte == 0x2F || byte == 0x2E) name.now }
+{
+    name.as_bytes()
+        .iter()
+        .any(|byte| *byte == b'/' || *byte == b'.')
 }
 
 /// The table that comes with the program under this name.
