@@ -102,7 +102,7 @@ pub extern "C" fn j39_summary(
     tell(alloc, Writing::Summary, log, bus, table, room, text)
 }
 
-/// Writes the fault codes in a log (DM1 and its kin) into a room, as they become news: a line for each code, with the name that
+/// Writes the fault codes in a log (DM1, DM2) into a room, as they become news: a line for each code, with the name that
 /// the table has for its parameter. The bus, the table and the answers are those of `j39_report`.
 #[unsafe(no_mangle)]
 pub extern "C" fn j39_faults(
