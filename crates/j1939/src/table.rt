@@ -6,7 +6,7 @@ use j39_table::MOST_BYTES;
 use std::alloc::{AllocError, Global};
 use std::env;
 use std::fs::{self, File};
-use std::io::{self, Read};
+use std::io::{self, ErrorKind, Read};
 
 /// Where the tables that come with the program are, from its own folder on: installed, and in the project, where it is built
 /// and as it is shipped.
@@ -38,9 +38,13 @@ fn is_path(name: &str) -> bool
         .any(|byte| *byte == b'/' || *byte == b'.')
 }
 
-/// The table that comes with the program under this name.
+/// The table that comes with the program under this name; none where the program's folder can't be told.
 fn open_shipped(rt: &HostRuntime, name: &str) -> io::Result<Option<File>> {
-    let program = env::current_exe(rt)?;
+    let program = match env::current_exe(rt) {
+        Ok(program) => program,
+        Err(error) if error.kind() == ErrorKind::OutOfMemory => return Err(error),
+        Err(_) => return Ok(None),
+    };
     let Some(folder) = program.parent() else {
         return Ok(None);
     };
