@@ -1,6 +1,6 @@
 -- What the program does for its words: a task over its log and by its table, or what is told in its place.
-use Rattle.std.specs.Prelude.{◌≡◌, ◌⊎◌, ◌↔◌, ◌∷◌, ℕ, false, IfOk, List, MatchOption, MatchResult, Some, codes}
-use Rattle.j39_io.specs.Turn.{Turn, Writes}
+use Rattle.std.specs.Prelude.{◌≡◌, ◌⊎◌, ◌↔◌, ◌∷◌, ℕ, false, true, IfOk, List, MatchOption, MatchResult, Some, codes}
+use Rattle.j39_io.specs.Turn.{Device, Turn, Writes}
 use Rattle.j39_groups.specs.Row.{RowRecord}
 use Rattle.j39_groups.specs.Table.{the_table}
 use Rattle.j39_table.specs.Tables.{IsFaultOf, IsTableOf}
@@ -8,10 +8,11 @@ use Rattle.j39_table.specs.declared.fault.TableFault.{TableFault}
 use Rattle.j39_table.specs.declared.fault.TableFault.TheVariants.{Memory}
 use Rattle.j39_cli.specs.Answer.{Answer}
 use Rattle.j39_cli.specs.CommandWords.{CommandWords, HasValues, IsAnswer, words_of}
-use Rattle.j39_cli.specs.OwnTable.{table_line}
+use Rattle.j39_cli.specs.OwnTable.{folder_line, table_line}
 use Rattle.j39_cli.specs.Refusal.{IsHelp, IsWrongLine, error_line, error_words, out_words}
 use Rattle.j39_cli.specs.Spelling.{IsSpelled}
 use Rattle.j39_cli.specs.Task.{IsPerformed, file_of, table_of}
+use Rattle.j39_cli.specs.Unknown.{asks_for_unknown, unknown_text}
 use Rattle.j39_cli.specs.declared.task.ParseFault.{ParseFault}
 use Rattle.j39_cli.specs.declared.task.ParseFault.TheVariants as refused
 use Rattle.j39_cli.specs.declared.task.Task.{Task}
@@ -37,10 +38,27 @@ pub record IsDoneOver (rows : List RowRecord) (task : Task) (status : ℕ) (out 
   pub performed : IsPerformed rows task status log out err
 
 -- so it was, or its FILE can't be opened
-abbrev pub IsDoneBy : List RowRecord → Task → ℕ → Turn → Turn → Type 0
-IsDoneBy rows task status out err =
+abbrev pub IsDoneOnce : List RowRecord → Task → ℕ → Turn → Turn → Type 0
+IsDoneOnce rows task status out err =
     IsDoneOver rows task status out err
     ⊎ ((file : List ℕ) × (file_of task ≡ Some file) × TellsUnopened file status out err)
+
+-- no row has any of the parameters that are asked for: that is told, and no log is opened
+pub record FindsNone (rows : List RowRecord) (task : Task) (status : ℕ) (out err : Turn) : Type 0 where
+  pub status_is : status ≡ 2
+  pub none_found : asks_for_unknown rows task ≡ true
+  pub silent : out.new ≡ out.old
+  pub told : Writes err (unknown_text rows task)
+
+-- it was done behind the words on those that no row has
+pub record IsDoneBehind (rows : List RowRecord) (task : Task) (status : ℕ) (out err : Turn) : Type 0 where
+  pub some_found : asks_for_unknown rows task ≡ false
+  pub between : Device
+  pub told : Writes (record { old = err.old; new = between }) (unknown_text rows task)
+  pub done : IsDoneOnce rows task status out (record { old = between; new = err.new })
+
+abbrev pub IsDoneBy : List RowRecord → Task → ℕ → Turn → Turn → Type 0
+IsDoneBy rows task status out err = FindsNone rows task status out err ⊎ IsDoneBehind rows task status out err
 
 -- the task was done by the rows that a table's text says; or the text says none, and why is told
 abbrev pub IsDoneByText : List ℕ → List ℕ → Task → ℕ → Turn → Turn → Type 0
@@ -48,12 +66,12 @@ IsDoneByText name text task status out err =
     ((rows : List RowRecord) × IsTableOf text rows × IsDoneBy rows task status out err)
     ⊎ ((fault : TableFault) × IsFaultOf text fault × TellsFault name fault status out err)
 
--- the table of this name has a text, by which the task was done; or the file can't be read, or memory for its text was
--- refused
+-- the table of this name has a text, by which the task was done; or the file can't be read, or is a folder, or memory for its
+-- text was refused
 abbrev pub IsDoneByName : List ℕ → Task → ℕ → Turn → Turn → Type 0
 IsDoneByName name task status out err =
     ((text : List ℕ) × IsDoneByText name text task status out err)
-    ⊎ (TellsUnopened name status out err ⊎ TellsFault name Memory status out err)
+    ⊎ (TellsUnopened name status out err ⊎ (TellsLine (folder_line name) status out err ⊎ TellsFault name Memory status out err))
 
 -- the task was done by the table that it names, or else by the built-in one
 abbrev pub IsDone : Task → ℕ → Turn → Turn → Type 0

@@ -5,13 +5,16 @@ ghost use Rattle.std.specs.Prelude.{◌≡◌, ◌≢◌, ◌≤◌, ◌⊎◌, 
 ghost use Rattle.std.specs.IoError.{error_kind};
 ghost use Rattle.j39_io.specs.Turn.{Turn, Writes, turn};
 ghost use Rattle.j39_table.specs.declared.fault.TableFault.{TableFault};
-ghost use Rattle.j39_cli.specs.OwnTable.{table_line};
+ghost use Rattle.j39_cli.specs.OwnTable.{folder_line, table_line};
 ghost use Rattle.j39_cli.specs.Refusal.{IsWrongLine, error_line};
-ghost use Rattle.j1939.specs.Done.{Follows, IsDone, IsDoneBy, IsDoneByText};
+ghost use Rattle.j1939.specs.Done.{Follows, IsDone, IsDoneBy, IsDoneByText, IsDoneOnce};
 
 mod table;
 
-use j39_cli::{ParseFault, Task, parse, perform_with, refuse, unopened, wrong_table};
+use j39_cli::{
+    ParseFault, Task, asks_for_unknown, folder_for_table, parse, perform_with, refuse, unopened,
+    wrong_table,
+};
 use j39_groups::Groups;
 use j39_io::{Sink, Told};
 use j39_table::{TableFault, read};
@@ -67,7 +70,8 @@ fn answer<E: Sink>(rt: &HostRuntime, err: &mut E) -> io::Result<u8>
     Ok(follow(rt, words.as_slice(), &mut Told::new(out), err))
 }
 
-/// Does what these words ask for, and answers the exit status: 2 for wrong words alone.
+/// Does what these words ask for, and answers the exit status: 2 for wrong words, and where no row has a parameter that they
+/// ask for.
 fn follow<S: AsStr, W: Sink, E: Sink>(rt: &HostRuntime, words: &[S], out: &mut W, err: &mut E) -> u8
     ensures status { result ≤ 2 }
     ensures followed { Follows (map S.text words.now) result
@@ -85,14 +89,14 @@ fn follow<S: AsStr, W: Sink, E: Sink>(rt: &HostRuntime, words: &[S], out: &mut W
 
 /// Performs a task by its table, or by the built-in one.
 fn done<W: Sink, E: Sink>(rt: &HostRuntime, task: &Task<'_>, out: &mut W, err: &mut E) -> u8
-    ensures status { (result ≡ 0) ⊎ (result ≡ 1) }
+    ensures status { result ≤ 2 }
     ensures done { IsDone task.now result
         (turn W.written W.has_failed out.old out.new) (turn E.written E.has_failed err.old err.new) }
     ensures flushed { result ≡ 0 → W.is_flushed out.new ≡ true }
-    ensures passed_on { result ≡ 1 → E.has_failed err.new ≡ false → E.is_flushed err.new ≡ true }
+    ensures passed_on { (result ≡ 0 → ⊥) → E.has_failed err.new ≡ false → E.is_flushed err.new ≡ true }
 {
     let Some(name) = task.table() else {
-        return over(rt, task, &Groups::built_in(), out, err);
+        return by_rows(rt, task, &Groups::built_in(), out, err);
     };
     match table_text(rt, name) {
         Ok(text) => by_text(rt, task, name, text.as_slice(), out, err),
@@ -105,12 +109,19 @@ fn unread<E: Sink>(name: &str, error: &io::Error, err: &mut E) -> u8
     ensures status { result ≡ 1 }
     ensures memory { error_kind error.now ≡ ErrorKind.OutOfMemory
         → Writes (turn E.written E.has_failed err.old err.new) (table_line name.now TableFault.Memory) }
-    ensures other { error_kind error.now ≢ ErrorKind.OutOfMemory
+    ensures folder { error_kind error.now ≡ ErrorKind.IsADirectory
+        → Writes (turn E.written E.has_failed err.old err.new) (folder_line name.now) }
+    ensures other { error_kind error.now ≢ ErrorKind.OutOfMemory → error_kind error.now ≢ ErrorKind.IsADirectory
         → Writes (turn E.written E.has_failed err.old err.new) (error_line (codes "cannot open ") name.now) }
+    ensures one_of { Writes (turn E.written E.has_failed err.old err.new) (error_line (codes "cannot open ") name.now)
+        ⊎ (Writes (turn E.written E.has_failed err.old err.new) (folder_line name.now)
+        ⊎ Writes (turn E.written E.has_failed err.old err.new) (table_line name.now TableFault.Memory)) }
     ensures passed_on { E.has_failed err.new ≡ false → E.is_flushed err.new ≡ true }
 {
     if error.kind() == ErrorKind::OutOfMemory {
         wrong_table(name, TableFault::Memory, err)
+    } else if error.kind() == ErrorKind::IsADirectory {
+        folder_for_table(name, err)
     } else {
         unopened(name, err)
     }
@@ -125,15 +136,36 @@ fn by_text<W: Sink, E: Sink>(
     out: &mut W,
     err: &mut E,
 ) -> u8
-    ensures status { (result ≡ 0) ⊎ (result ≡ 1) }
+    ensures status { result ≤ 2 }
     ensures done { IsDoneByText name.now text.now task.now result
         (turn W.written W.has_failed out.old out.new) (turn E.written E.has_failed err.old err.new) }
     ensures flushed { result ≡ 0 → W.is_flushed out.new ≡ true }
-    ensures passed_on { result ≡ 1 → E.has_failed err.new ≡ false → E.is_flushed err.new ≡ true }
+    ensures passed_on { (result ≡ 0 → ⊥) → E.has_failed err.new ≡ false → E.is_flushed err.new ≡ true }
 {
     match read(rt.alloc(), text) {
-        Ok(groups) => over(rt, task, &groups, out, err),
+        Ok(groups) => by_rows(rt, task, &groups, out, err),
         Err(fault) => wrong_table(name, fault, err),
+    }
+}
+
+/// Performs a task by this table, where it has a row of a parameter that is asked for, and says which have none.
+fn by_rows<W: Sink, E: Sink>(
+    rt: &HostRuntime,
+    task: &Task<'_>,
+    groups: &Groups<'_>,
+    out: &mut W,
+    err: &mut E,
+) -> u8
+    ensures status { result ≤ 2 }
+    ensures done { IsDoneBy groups.now task.now result
+        (turn W.written W.has_failed out.old out.new) (turn E.written E.has_failed err.old err.new) }
+    ensures flushed { result ≡ 0 → W.is_flushed out.new ≡ true }
+    ensures passed_on { (result ≡ 0 → ⊥) → E.has_failed err.new ≡ false → E.is_flushed err.new ≡ true }
+{
+    if asks_for_unknown(groups, task, err) {
+        2
+    } else {
+        over(rt, task, groups, out, err)
     }
 }
 
@@ -146,7 +178,7 @@ fn over<W: Sink, E: Sink>(
     err: &mut E,
 ) -> u8
     ensures status { (result ≡ 0) ⊎ (result ≡ 1) }
-    ensures done { IsDoneBy groups.now task.now result
+    ensures done { IsDoneOnce groups.now task.now result
         (turn W.written W.has_failed out.old out.new) (turn E.written E.has_failed err.old err.new) }
     ensures flushed { result ≡ 0 → W.is_flushed out.new ≡ true }
     ensures passed_on { result ≡ 1 → E.has_failed err.new ≡ false → E.is_flushed err.new ≡ true }

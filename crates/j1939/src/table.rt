@@ -1,31 +1,50 @@
 //! The file of a table of parameters: where it is found, and its text.
-ghost use Rattle.std.specs.Prelude.{◌≡◌, ◌++◌, IfOk, codes, string_bytes};
+ghost use Rattle.std.specs.Prelude.{◌≡◌, ◌==◌, ◌++◌, ◌||◌, IfOk, codes, string_bytes};
+ghost use Rattle.std.specs.List.{list_any};
 
 use j39_table::MOST_BYTES;
 use std::alloc::{AllocError, Global};
 use std::env;
 use std::fs::{self, File};
-use std::io::{self, Read};
+use std::io::{self, ErrorKind, Read};
 
 /// Where the tables that come with the program are, from its own folder on: installed, and in the project, where it is built
 /// and as it is shipped.
 const SHIPPED: [&str; 3] = ["../share/j1939", "../tables", "../crates/j1939/tables"];
 
-/// The text of the table of this name: of a file, or else of the table that comes with the program under it. Of a longer
-/// text than a table has, one byte too many.
+/// The text of the table of this name: of the one that comes with the program under it, or else of a file. Of a longer text
+/// than a table has, one byte too many.
 pub(crate) fn table_text(rt: &HostRuntime, name: &str) -> io::Result<Vec<u8>> {
-    let file = match fs::open(rt, name) {
-        Ok(file) => file,
-        Err(error) => open_shipped(rt, name)?.ok_or(error)?,
+    let shipped = if is_path(name) {
+        None
+    } else {
+        open_shipped(rt, name)?
+    };
+    let file = match shipped {
+        Some(file) => file,
+        None => fs::open(rt, name)?,
     };
     let mut text = Vec::new(rt.alloc());
     file.take(MOST_BYTES as u64 + 1).read_to_end(&mut text)?;
     Ok(text)
 }
 
-/// The table that comes with the program under this name.
+/// Whether a name can't be one of a table that comes with the program: a file's, which has a `/` or a `.`.
+fn is_path(name: &str) -> bool
+    ensures { result ≡ list_any (λ byte. byte == 0x2F || byte == 0x2E) name.now }
+{
+    name.as_bytes()
+        .iter()
+        .any(|byte| *byte == b'/' || *byte == b'.')
+}
+
+/// The table that comes with the program under this name; none where the program's folder can't be told.
 fn open_shipped(rt: &HostRuntime, name: &str) -> io::Result<Option<File>> {
-    let program = env::current_exe(rt)?;
+    let program = match env::current_exe(rt) {
+        Ok(program) => program,
+        Err(error) if error.kind() == ErrorKind::OutOfMemory => return Err(error),
+        Err(_) => return Ok(None),
+    };
     let Some(folder) = program.parent() else {
         return Ok(None);
     };

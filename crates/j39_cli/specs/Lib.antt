@@ -29,3 +29,4 @@ pub mod GroupsCommand
 pub mod WholeText
 pub mod Counted
 pub mod OwnTable
+pub mod Unknown

@@ -15,13 +15,15 @@ use std::alloc::{AllocError, Global};
 
 const ABOUT: &str = "\
 Writes the fault codes in a log, as they become news: one line for each code of
-each message of DM1 (active codes) and DM2 (previously active ones) that has other
-bytes or another NAME than the last message before of that group from that
-address, or that is the first. With --all, of each message. The line has the time,
-the source address (hex), the NAME of the device at that address (hex, or dashes
-where no claim before tells it), active or previous, the SPN, the FMI, how often it
-came (or -), the lamps that are on (a flashing one with *, or -), what the table
-calls the parameter, and what the FMI means. A message with no code writes none.";
+each message of DM1 (active codes), DM2 (previously active), DM27 (pending), DM28
+(permanent), and of emissions DM6, DM12 and DM23 (pending, active, previously
+active) that tells something else, or under another NAME, than the last message
+before of that group from that address, or that is the first. With --all, of each
+message. The line has the time, the source address (hex), the NAME of the device at
+that address (hex, or dashes where no claim before tells it), the state, the SPN,
+the FMI, how often it came (or -), the lamps of the device (a flashing one with *,
+or - where all are off), what the table calls the parameter, and what the FMI
+means. A message with no code writes none.";
 
 const HELP: &str = "\
 At the end the counts go to standard error:
@@ -35,7 +37,7 @@ At the end the counts go to standard error:
 Example:
   j1939 faults --bus can0 trip.log
 writes lines such as
-  (1700000000.250000) 00 8000000001401234 active 110 0 3 red,amber coolant temperature: above normal, most severe";
+  (1700000000.250000) 00 8000000001401234 active 110 0 3 red,amber coolant temperature: data valid but above normal operational range, most severe level";
 
 /// What clap is told of it.
 pub(crate) fn command<'a>(alloc: Global) -> Result<Command<'a>, AllocError>

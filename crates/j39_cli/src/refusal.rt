@@ -76,7 +76,8 @@ pub(crate) fn complain<E: Sink>(err: &mut E, words: &[u8], name: &[u8])
     }
 }
 
-fn put_line<E: Sink>(err: &mut E, words: &[u8], name: &[u8]) -> Result<(), DeviceFault>
+/// Writes a line of the program's own.
+pub(crate) fn put_line<E: Sink>(err: &mut E, words: &[u8], name: &[u8]) -> Result<(), DeviceFault>
     ensures { Puts (error_line words.now name.now) result (turn E.written E.has_failed err.old err.new) }
 {
     put_all(err, b"j1939: ")?;

@@ -1,10 +1,10 @@
 -- The text of the lamps, a lamp after another.
-use Rattle.std.proofs.Common.{◌≡◌, ℕ, ◌<◌, List, [], ◌∷◌, ◌++◌, Bool, true, false, length, refl, ap, ◌∙◌, append_assoc, arith}
+use Rattle.std.proofs.Common.{◌≡◌, ℕ, ◌<◌, List, [], ◌∷◌, ◌++◌, Bool, true, false, length, refl, ap, append_assoc, arith}
 use Rattle.std.specs.Prelude.{codes, if◌then◌else◌}
 use Rattle.std.specs.List.{join_with_byte}
 use Rattle.j39_faults.specs.declared.lamps.Lamps.{Lamps}
 use Rattle.j39_faults.specs.LampText.{with_words}
-use Rattle.j39_faults.specs.Text.{is_on, lamp_words, lamps_on, lamps_text, or_dash}
+use Rattle.j39_faults.specs.Text.{is_told, lamp_words, lamps_in_words, lamps_text, lamps_told, or_dash}
 
 abbrev word_if : Bool → List ℕ → List (List ℕ)
 word_if b word = if b then word ∷ [] else []
@@ -39,16 +39,16 @@ lamps_in_a_row lamps =
     with_words (with_words (with_words (with_words [] (lamp_words (codes "malfunction") lamps.malfunction)) (lamp_words (codes "red") lamps.red))
     (lamp_words (codes "amber") lamps.amber)) (lamp_words (codes "protect") lamps.protect)
 
-pub all_joined : (lamps : Lamps) → lamps_in_a_row lamps ≡ lamps_on lamps
-unfolding lamps_on
-all_joined lamps = in_a_row (is_on lamps.malfunction.state) (is_on lamps.red.state) (is_on lamps.amber.state) (is_on lamps.protect.state) _ _ _ _ _ _ _ _
+pub all_joined : (lamps : Lamps) → lamps_in_a_row lamps ≡ lamps_in_words lamps
+unfolding lamps_in_words
+all_joined lamps = in_a_row (is_told lamps.malfunction.state) (is_told lamps.red.state) (is_told lamps.amber.state) (is_told lamps.protect.state) _ _ _ _ _ _ _ _
 
-pub dash_for_none : (lamps : Lamps) (text : List ℕ) → text ≡ lamps_on lamps → length text ≡ 0 → text ++ codes "-" ≡ lamps_text lamps
+pub dash_for_none : (lamps : Lamps) (text : List ℕ) → text ≡ lamps_told lamps → length text ≡ 0 → text ++ codes "-" ≡ lamps_text lamps
 unfolding lamps_text
 dash_for_none lamps [] same none = ap or_dash same
 dash_for_none lamps (x ∷ text) same none = absurd (omega arith)
 
-pub lamps_that_are_on : (lamps : Lamps) (text : List ℕ) → text ≡ lamps_on lamps → 0 < length text → text ≡ lamps_text lamps
+pub lamps_that_are_told : (lamps : Lamps) (text : List ℕ) → text ≡ lamps_told lamps → 0 < length text → text ≡ lamps_text lamps
 unfolding lamps_text
-lamps_that_are_on lamps [] same some = absurd (omega arith)
-lamps_that_are_on lamps (x ∷ text) same some = ap or_dash same
+lamps_that_are_told lamps [] same some = absurd (omega arith)
+lamps_that_are_told lamps (x ∷ text) same some = ap or_dash same

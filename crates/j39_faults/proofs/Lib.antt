@@ -1,5 +1,6 @@
 -- codes and lamps
 pub mod CodeLemmas
 pub mod LampLemmas
+pub mod SamenessLemmas
 -- writing them
 pub mod NumberLemmas

@@ -3,8 +3,9 @@ pub mod FaultGroups
 pub mod LampBits
 pub mod Codes
 pub mod Words
--- what is printed (own)
+-- what is told (own)
 pub mod Text
+pub mod Sameness
 -- the code's steps, below the rules
 pub mod CodesLeft
 pub mod LampText

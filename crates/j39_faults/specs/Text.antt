@@ -1,11 +1,12 @@
 -- The text of a code and of the lamps (own).
-use Rattle.std.specs.Prelude.{◌++◌, ◌∷◌, ℕ, List, [], Bool, true, false, Option, Some, None, if◌then◌else◌, codes, decimal}
+use Rattle.std.specs.Prelude.{◌&&◌, ◌++◌, ◌∷◌, ℕ, List, [], Bool, true, false, Option, Some, None, if◌then◌else◌, codes, decimal, unwrap_or}
 use Rattle.std.specs.List.{join_with_byte}
-use Rattle.hex.specs.Hex.{encode_upper}
+use Rattle.j39_faults.specs.declared.code.Candidates.{Candidates}
 use Rattle.j39_faults.specs.declared.code.Code.{Code}
-use Rattle.j39_faults.specs.declared.code.Code.TheVariants.{Known, Raw}
+use Rattle.j39_faults.specs.declared.code.Parameter.{Parameter}
+use Rattle.j39_faults.specs.declared.code.Parameter.TheVariants.{Known, OneOf}
 use Rattle.j39_faults.specs.declared.kind.Kind.{Kind}
-use Rattle.j39_faults.specs.declared.kind.Kind.TheVariants.{Active, Previous}
+use Rattle.j39_faults.specs.declared.kind.Kind.TheVariants.{Active, Previous, EmissionPending, EmissionActive, EmissionPrevious, Pending, Permanent}
 use Rattle.j39_faults.specs.declared.lamps.Flash.{Flash}
 use Rattle.j39_faults.specs.declared.lamps.Flash.TheVariants as flash
 use Rattle.j39_faults.specs.declared.lamps.Lamp.{Lamp}
@@ -17,65 +18,105 @@ use Rattle.j39_faults.specs.Words.{fmi_words}
 abbrev pub kind_text : Kind → List ℕ
 kind_text Active = codes "active"
 kind_text Previous = codes "previous"
+kind_text EmissionPending = codes "emission-pending"
+kind_text EmissionActive = codes "emission-active"
+kind_text EmissionPrevious = codes "emission-previous"
+kind_text Pending = codes "pending"
+kind_text Permanent = codes "permanent"
 
-abbrev pub is_on : LampState → Bool
-is_on state.Off = false
-is_on state.On = true
-is_on state.Reserved = false
-is_on state.NotAvailable = false
+-- ---- the lamps
 
-abbrev pub is_flashing : Flash → Bool
-is_flashing flash.Slow = true
-is_flashing flash.Fast = true
-is_flashing flash.Reserved = false
-is_flashing flash.Steady = false
+abbrev pub is_told : LampState → Bool
+is_told state.Off = false
+is_told state.On = true
+is_told state.Reserved = true
+is_told state.NotAvailable = true
 
--- the name of a lamp that is on, with a `*` where it flashes
+abbrev pub is_absent : LampState → Bool
+is_absent state.Off = false
+is_absent state.On = false
+is_absent state.Reserved = false
+is_absent state.NotAvailable = true
+
+-- a `*` where it flashes
+abbrev pub star_of : Flash → List ℕ
+star_of flash.Slow = codes "*"
+star_of flash.Fast = codes "*"
+star_of flash.Reserved = []
+star_of flash.Steady = []
+
+-- what stands behind the name: whether a lamp flashes that is on, or that it is neither on nor off
+abbrev pub ending_of : LampState → Flash → List ℕ
+ending_of state.Off how = []
+ending_of state.On how = star_of how
+ending_of state.Reserved how = codes ":reserved"
+ending_of state.NotAvailable how = codes ":n/a"
+
+-- of a lamp that isn't off
 abbrev pub lamp_words : List ℕ → Lamp → List (List ℕ)
-lamp_words name lamp =
-    if is_on lamp.state then (name ++ (if is_flashing lamp.flash then codes "*" else [])) ∷ [] else []
+lamp_words name lamp = if is_told lamp.state then (name ++ ending_of lamp.state lamp.flash) ∷ [] else []
 
 abbrev pub all_lamp_words : Lamps → List (List ℕ)
 all_lamp_words lamps =
     lamp_words (codes "malfunction") lamps.malfunction ++ (lamp_words (codes "red") lamps.red
     ++ (lamp_words (codes "amber") lamps.amber ++ lamp_words (codes "protect") lamps.protect))
 
+-- with a comma (44) between each two
+unfoldable pub lamps_in_words : Lamps → List ℕ
+lamps_in_words lamps = join_with_byte 44 (all_lamp_words lamps)
+
+-- none is available
+abbrev pub no_lamp : Lamps → Bool
+no_lamp lamps =
+    is_absent lamps.malfunction.state && (is_absent lamps.red.state
+    && (is_absent lamps.amber.state && is_absent lamps.protect.state))
+
+-- nothing where all are off
+unfoldable pub lamps_told : Lamps → List ℕ
+lamps_told lamps = if no_lamp lamps then codes "n/a" else lamps_in_words lamps
+
 -- a dash for nothing
 abbrev pub or_dash : List ℕ → List ℕ
 or_dash [] = codes "-"
 or_dash (x ∷ xs) = x ∷ xs
 
--- the lamps that are on, with a comma (44) between each two
-unfoldable pub lamps_on : Lamps → List ℕ
-lamps_on lamps = join_with_byte 44 (all_lamp_words lamps)
-
 unfoldable pub lamps_text : Lamps → List ℕ
-lamps_text lamps = or_dash (lamps_on lamps)
+lamps_text lamps = or_dash (lamps_told lamps)
+
+-- ---- a code
+
+abbrev pub spn_text : Parameter → List ℕ
+spn_text (Known spn) = decimal spn
+spn_text (OneOf spns) = codes "-"
 
 abbrev pub count_text : Option ℕ → List ℕ
 count_text None = codes "-"
 count_text (Some count) = decimal count
 
--- what a table calls the parameter, or `SPN` and its number
-abbrev pub name_text : ℕ → Option (List ℕ) → List ℕ
-name_text spn None = codes "SPN " ++ decimal spn
-name_text spn (Some name) = name
+abbrev pub candidates_words : Candidates → List ℕ
+candidates_words spns =
+    codes "SPN " ++ decimal spns.version_1 ++ codes ", " ++ decimal spns.version_2 ++ codes " or "
+    ++ decimal spns.version_3 ++ codes " by conversion 1, 2 or 3"
+
+-- what stands for the name of a parameter that has none
+abbrev pub parameter_words : Parameter → List ℕ
+parameter_words (Known spn) = codes "SPN " ++ decimal spn
+parameter_words (OneOf spns) = candidates_words spns
 
 abbrev pub meaning_text : ℕ → List ℕ
 meaning_text fmi = codes ": " ++ fmi_words fmi
 
 -- the kind, the SPN, the FMI, the count and the lamps
-abbrev pub columns_text : Kind → ℕ → ℕ → Option ℕ → Lamps → List ℕ
-columns_text kind spn fmi count lamps =
-    kind_text kind ++ codes " " ++ decimal spn ++ codes " " ++ decimal fmi ++ codes " " ++ count_text count
-    ++ codes " " ++ lamps_text lamps
+abbrev pub columns_text : Kind → Lamps → Code → List ℕ
+columns_text kind lamps code =
+    kind_text kind ++ codes " " ++ spn_text code.parameter ++ codes " " ++ decimal code.fmi ++ codes " "
+    ++ count_text code.count ++ codes " " ++ lamps_text lamps
 
--- as `active 110 0 3 red,amber coolant temperature: above normal, most severe`; of a code of conversion method 1 the bytes in hex
+-- as `active 110 4 3 red,amber coolant temperature: voltage below normal, or shorted to low source`, by the name of the parameter
 unfoldable pub code_text : Kind → Lamps → Option (List ℕ) → Code → List ℕ
-code_text kind lamps name (Known spn fmi count) =
-    columns_text kind spn fmi count lamps ++ codes " " ++ name_text spn name ++ meaning_text fmi
-code_text kind lamps name (Raw bytes) = kind_text kind ++ codes " " ++ encode_upper bytes ++ codes " - "
-    ++ lamps_text lamps
+code_text kind lamps name code =
+    columns_text kind lamps code ++ codes " " ++ unwrap_or name (parameter_words code.parameter)
+    ++ meaning_text code.fmi
 
 -- as `active none - -`, where a message has no code
 unfoldable pub no_code_text : Kind → Lamps → List ℕ

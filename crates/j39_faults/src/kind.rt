@@ -1,4 +1,4 @@
-//! Which groups tell faults (J1939-73, 5.7.1 and 5.7.2).
+//! Which groups tell faults (J1939-73, 5.7).
 ghost use Rattle.std.specs.Prelude.{◌≡◌};
 ghost use Rattle.j39_frame.specs.Pgn.{pgn_raw};
 ghost use Rattle.j39_faults.specs.FaultGroups.{kind_of};
@@ -12,16 +12,32 @@ pub enum Kind {
     Active,
     /// Those that were active before (DM2).
     Previous,
+    /// Those of emissions that were seen, and aren't confirmed yet (DM6).
+    EmissionPending,
+    /// Those of emissions that are active now (DM12).
+    EmissionActive,
+    /// Those of emissions that were active before (DM23).
+    EmissionPrevious,
+    /// All that were seen, and aren't confirmed yet (DM27).
+    Pending,
+    /// Those that no tool can clear (DM28).
+    Permanent,
 }
 
-/// Which codes a group's messages tell: group 65226 (DM1) the active ones, 65227 (DM2) the
-/// previously active ones; no other group tells any.
+/// Which codes a group's messages tell: group 65226 (DM1) the active ones, 65227 (DM2) the previously active ones,
+/// 65231 (DM6), 65236 (DM12) and 64949 (DM23) the pending, active and previously active ones of emissions, 64898 (DM27)
+/// all pending ones, 64896 (DM28) the permanent ones; no other group tells any.
 pub fn fault_group(pgn: Pgn) -> Option<Kind>
     ensures { result ≡ kind_of (pgn_raw pgn) }
 {
     match pgn.raw() {
         65226 => Some(Kind::Active),
         65227 => Some(Kind::Previous),
+        65231 => Some(Kind::EmissionPending),
+        65236 => Some(Kind::EmissionActive),
+        64949 => Some(Kind::EmissionPrevious),
+        64898 => Some(Kind::Pending),
+        64896 => Some(Kind::Permanent),
         _ => None,
     }
 }

@@ -1,31 +1,30 @@
 //! The text of a code (own).
-ghost use Rattle.std.specs.Prelude.{◌≡◌, ◌+◌, ◌≤◌, ◌++◌, codes, decimal, length};
+ghost use Rattle.std.specs.Prelude.{◌≡◌, ◌+◌, ◌≤◌, ◌++◌, codes, decimal, length, unwrap_or};
 ghost use Rattle.std.specs.Option.{option_map};
 ghost use Rattle.arrayvec.specs.ArrayVec.{array_vec_len};
-ghost use Rattle.hex.specs.Hex.{encode_upper};
 ghost use Rattle.j39_io.specs.Puts.{Puts};
 ghost use Rattle.j39_io.specs.Turn.{turn};
-ghost use Rattle.j39_faults.specs.Text.{code_text, columns_text, count_text, kind_text, lamps_text, meaning_text, name_text, no_code_text};
+ghost use Rattle.j39_faults.specs.Text.{candidates_words, code_text, columns_text, count_text, kind_text, lamps_text, meaning_text, no_code_text, parameter_words, spn_text};
 
-use crate::code::Code;
+use crate::code::{Candidates, Code, Parameter};
 use crate::kind::Kind;
 use crate::lamp_names::lamps_text;
 use crate::lamps::Lamps;
 use crate::words::fmi_words;
 use arrayvec::ArrayVec;
-use j39_io::printing::{push_bytes, push_hex, push_number};
+use j39_io::printing::{push_bytes, push_number};
 use j39_io::{DeviceFault, Sink, put_all};
 
 /// Three numbers of ten digits, the kind, the lamps and what stands between fit.
-type Columns = ArrayVec<u8, 96>;
+type Columns = ArrayVec<u8, 128>;
 
-/// Three letters, a space and a number of ten digits fit.
-pub type SpnWords = ArrayVec<u8, 14>;
+/// Three numbers of ten digits and the words between fit.
+pub type ParameterWords = ArrayVec<u8, 64>;
 
-/// Writes what a message says of one code (own), with no newline: `active` or `previous`, the SPN,
-/// the FMI, the count or `-`, the lamps, then the parameter's name, or `SPN` and its number where
-/// there is none, and what the FMI means. Of a code of conversion method 1 its four bytes in hex
-/// stand for SPN and FMI, and nothing behind the lamps. After a fault a front of the text was written.
+/// Writes what a message says of one code (own), with no newline: the kind, the SPN, the FMI, the count or `-`, the
+/// lamps, then the parameter's name, or `SPN` and its number where there is none, and what the FMI means. Where the SPN
+/// isn't known `-` stands for it, and `SPN` and its candidates for the name. After a fault a front of the text was
+/// written.
 #[tactic(auto, unfolding(crate::specs::Text::code_text))]
 pub fn put_code<W: Sink>(
     kind: Kind,
@@ -37,46 +36,31 @@ pub fn put_code<W: Sink>(
     ensures { Puts (code_text kind lamps (option_map (λ text. text.now) name.entry) code)
         result (turn W.written W.has_failed sink.old sink.new) }
 {
-    match code {
-        Code::Known { spn, fmi, count } => {
-            let columns = columns_of(kind, spn, fmi, count, lamps);
-            put_known(columns.as_slice(), spn, name, fmi, sink)
-        }
-        Code::Raw(bytes) => put_all(sink, raw_text(kind, bytes, lamps).as_slice()),
-    }
+    let columns = columns_of(kind, lamps, code);
+    put_all(sink, columns.as_slice())?;
+    put_name(name, code.parameter, sink)?;
+    put_meaning(code.fmi, sink)
 }
 
-/// Writes that a message has no code (own), with no newline: `active none - -`, with the lamps that
-/// are on in the place of the last dash. After a fault a front of the text was written.
+/// Writes that a message has no code (own), with no newline: `active none - -`, with what is told of the lamps in the
+/// place of the last dash. After a fault a front of the text was written.
 pub fn put_no_code<W: Sink>(kind: Kind, lamps: Lamps, sink: &mut W) -> Result<(), DeviceFault>
     ensures { Puts (no_code_text kind lamps) result (turn W.written W.has_failed sink.old sink.new) }
 {
     put_all(sink, no_code_text(kind, lamps).as_slice())
 }
 
-/// Writes the columns, the name and what is wrong.
-fn put_known<W: Sink>(
-    columns: &[u8],
-    spn: u32,
+fn put_name<W: Sink>(
     name: Option<&[u8]>,
-    fmi: u8,
+    parameter: Parameter,
     sink: &mut W,
 ) -> Result<(), DeviceFault>
-    ensures { Puts (columns.now ++ name_text spn (option_map (λ text. text.now) name.entry) ++ meaning_text fmi)
-        result (turn W.written W.has_failed sink.old sink.new) }
-{
-    put_all(sink, columns)?;
-    put_name(spn, name, sink)?;
-    put_meaning(fmi, sink)
-}
-
-fn put_name<W: Sink>(spn: u32, name: Option<&[u8]>, sink: &mut W) -> Result<(), DeviceFault>
-    ensures { Puts (name_text spn (option_map (λ text. text.now) name.entry))
+    ensures { Puts (unwrap_or (option_map (λ text. text.now) name.entry) (parameter_words parameter))
         result (turn W.written W.has_failed sink.old sink.new) }
 {
     match name {
         Some(name) => put_all(sink, name),
-        None => put_all(sink, spn_words(spn).as_slice()),
+        None => put_all(sink, parameter_words(parameter).as_slice()),
     }
 }
 
@@ -87,8 +71,17 @@ fn put_meaning<W: Sink>(fmi: u8, sink: &mut W) -> Result<(), DeviceFault>
     put_all(sink, fmi_words(fmi).as_bytes())
 }
 
-/// What stands for the name of a parameter where there is none: `SPN` and its number.
-pub fn spn_words(spn: u32) -> SpnWords
+/// What stands for the name of a parameter where there is none: `SPN` and its number, or its candidates.
+pub fn parameter_words(parameter: Parameter) -> ParameterWords
+    ensures { result.items ≡ parameter_words parameter }
+{
+    match parameter {
+        Parameter::Known(spn) => spn_words(spn),
+        Parameter::OneOf(spns) => candidates_words(spns),
+    }
+}
+
+fn spn_words(spn: u32) -> ParameterWords
     ensures { result.items ≡ codes "SPN " ++ decimal spn }
 {
     let mut text = ArrayVec::new();
@@ -97,32 +90,34 @@ pub fn spn_words(spn: u32) -> SpnWords
     text
 }
 
-fn columns_of(kind: Kind, spn: u32, fmi: u8, count: Option<u8>, lamps: Lamps) -> Columns
-    ensures { result.items ≡ columns_text kind spn fmi count lamps ++ codes " " }
+fn candidates_words(spns: Candidates) -> ParameterWords
+    ensures { result.items ≡ candidates_words spns }
 {
     let mut text = ArrayVec::new();
-    push_kind(&mut text, kind);
-    push_bytes(&mut text, b" ");
-    push_decimal(&mut text, spn);
-    push_bytes(&mut text, b" ");
-    push_decimal(&mut text, u32::from(fmi));
-    push_bytes(&mut text, b" ");
-    push_count(&mut text, count);
-    push_bytes(&mut text, b" ");
-    push_bytes(&mut text, lamps_text(lamps).as_slice());
-    push_bytes(&mut text, b" ");
+    push_bytes(&mut text, b"SPN ");
+    push_decimal(&mut text, spns.version_1);
+    push_bytes(&mut text, b", ");
+    push_decimal(&mut text, spns.version_2);
+    push_bytes(&mut text, b" or ");
+    push_decimal(&mut text, spns.version_3);
+    push_bytes(&mut text, b" by conversion 1, 2 or 3");
     text
 }
 
-fn raw_text(kind: Kind, bytes: [u8; 4], lamps: Lamps) -> Columns
-    ensures { result.items ≡ kind_text kind ++ codes " " ++ encode_upper bytes ++ codes " - " ++ lamps_text lamps }
+fn columns_of(kind: Kind, lamps: Lamps, code: Code) -> Columns
+    ensures { result.items ≡ columns_text kind lamps code ++ codes " " }
 {
     let mut text = ArrayVec::new();
     push_kind(&mut text, kind);
     push_bytes(&mut text, b" ");
-    push_hex(&mut text, &bytes);
-    push_bytes(&mut text, b" - ");
+    push_spn(&mut text, code.parameter);
+    push_bytes(&mut text, b" ");
+    push_decimal(&mut text, u32::from(code.fmi));
+    push_bytes(&mut text, b" ");
+    push_count(&mut text, code.count);
+    push_bytes(&mut text, b" ");
     push_bytes(&mut text, lamps_text(lamps).as_slice());
+    push_bytes(&mut text, b" ");
     text
 }
 
@@ -138,26 +133,42 @@ fn no_code_text(kind: Kind, lamps: Lamps) -> Columns
 }
 
 fn push_kind(text: &mut Columns, kind: Kind)
-    requires { array_vec_len text.old + 8 ≤ 96 }
+    requires { array_vec_len text.old + 17 ≤ 128 }
     ensures items { text.new.items ≡ text.old.items ++ kind_text kind }
-    ensures len { array_vec_len text.new ≤ array_vec_len text.old + 8 }
+    ensures len { array_vec_len text.new ≤ array_vec_len text.old + 17 }
 {
     push_bytes(text, kind_word(kind));
 }
 
-/// `active` or `previous`.
+/// The word for a kind.
 pub fn kind_word(kind: Kind) -> &'static [u8]
     ensures text { result.now ≡ kind_text kind }
-    ensures short { length result.now ≤ 8 }
+    ensures short { length result.now ≤ 17 }
 {
     match kind {
         Kind::Active => b"active",
         Kind::Previous => b"previous",
+        Kind::EmissionPending => b"emission-pending",
+        Kind::EmissionActive => b"emission-active",
+        Kind::EmissionPrevious => b"emission-previous",
+        Kind::Pending => b"pending",
+        Kind::Permanent => b"permanent",
+    }
+}
+
+fn push_spn(text: &mut Columns, parameter: Parameter)
+    requires { array_vec_len text.old + 10 ≤ 128 }
+    ensures items { text.new.items ≡ text.old.items ++ spn_text parameter }
+    ensures len { array_vec_len text.new ≤ array_vec_len text.old + 10 }
+{
+    match parameter {
+        Parameter::Known(spn) => push_decimal(text, spn),
+        Parameter::OneOf(_) => push_bytes(text, b"-"),
     }
 }
 
 fn push_count(text: &mut Columns, count: Option<u8>)
-    requires { array_vec_len text.old + 10 ≤ 96 }
+    requires { array_vec_len text.old + 10 ≤ 128 }
     ensures items { text.new.items ≡ text.old.items ++ count_text count }
     ensures len { array_vec_len text.new ≤ array_vec_len text.old + 10 }
 {

@@ -23,7 +23,7 @@ use Rattle.j39_listen.proofs.ReportAccount.{same_made}
 use Rattle.j39_reports.specs.Faults.{Fault, faults_by, faults_in}
 use Rattle.j39_reports.specs.News.{is_news, is_of_faults, is_told}
 use Rattle.j39_reports.specs.FaultRecords.{faults_text}
-use Rattle.j39_reports.specs.Remembered.{Notes, Remembers, said_at, said_in}
+use Rattle.j39_reports.specs.Remembered.{Remembers, noted, said_at, said_in}
 use Rattle.j39_reports.specs.LastMessages.{differs}
 use Rattle.j39_reports.specs.FaultsSoFar.{Tells, TellsFront, told_faults, told_next}
 use Rattle.j39_listen.specs.declared.format.Format.{Format}
@@ -87,14 +87,14 @@ module _ (form : Format) (rows : List RowRecord) (which : Telling) (last : LastF
       ∙ ap (told_faults t) faults_are
 
   pub tells_message : (last' : LastFaults) (t n : Bool) (made : Made) (old new : Option (List ℕ)) → n ≡ differs (said_at last kind h.message.source) h.message.bytes h.name
-      → t ≡ is_told which n → length h.message.bytes ≤ 1785 → Notes last kind h.message.source (said_in h) last'
+      → t ≡ is_told which n → length h.message.bytes ≤ 1785 → last' ≡ noted last kind h.message.source (said_in h)
       → made.messages ≡ 1 → made.lines ≡ length (told_faults t (faults_by h (Some kind) (Some lamps))) → made.lines < 2 ^ 64
       → Appends old new (faults_text form rows (told_faults t (faults_by h (Some kind) (Some lamps)))) → Tells form rows which last' ms (Some h) made old new
   tells_message last' t n made old new news is short notes messages lines fits written =
       let next = next_faults t n news is in
       let among = among_yes h (of_faults h kind lamps k l) in
       record {
-        remembers = subst (λ (x : List Hearing). Remembers last' (ms ++ x)) (sym among) (remembers_more last last' ms h kind k short notes remembers);
+        remembers = subst (λ (x : List Hearing). Remembers last' (ms ++ x)) (sym among) (remembers_more last last' ms h kind k notes remembers short);
         made_is = same_made _ _ (messages ∙ sym (ap (λ (x : List Hearing). capped (length x)) among))
             (sym (ap (λ (x : List Fault). capped (length x)) next ∙ ap capped (sym lines) ∙ capped-fits made.lines fits));
         written = subst (Appends old new) (sym (ap (faults_text form rows) next)) written;

@@ -1,8 +1,8 @@
 -- What was said last, and what of it is news.
 use Rattle.std.proofs.Common.{◌≡◌, ◌≢◌, ◌∙◌, ◌<◌, ◌≤◌, ◌==◌, ◌&&◌, not, ℕ, Bool, true, false, List, [], ◌∷◌, ◌++◌}
-use Rattle.std.proofs.Common.{Option, Some, None, ap, append-nil, arith, bytes_eq, filter, length}
+use Rattle.std.proofs.Common.{Option, Some, None, ap, append-nil, arith, filter, length}
 use Rattle.std.proofs.Common.{option_map, refl, replicate, length-set, inl, inr, slice_set, subst, sym}
-use Rattle.std.proofs.Common.{take, take_all}
+use Rattle.std.proofs.Common.{if◌then◌else◌, take, take_all}
 use Rattle.std.specs.Bool.{⊤}
 use Rattle.std.proofs.lemmas.Bool.{cases_Bool, cases_eq, cond-true, cond-false, eq-eqb, ne_eqb}
 use Rattle.std.proofs.lemmas.List.{get_or-replicate, length-replicate, get_or-set_other, get_or-set_same}
@@ -10,11 +10,12 @@ use Rattle.std.proofs.lemmas.List.Elements.{filter-append}
 use Rattle.std.specs.List.{last_or}
 use Rattle.j39_faults.specs.FaultGroups.{kind_of}
 use Rattle.j39_faults.specs.declared.kind.Kind.{Kind}
-use Rattle.j39_faults.specs.declared.kind.Kind.TheVariants.{Active, Previous}
+use Rattle.j39_faults.specs.declared.kind.Kind.TheVariants.{Active, Previous, EmissionPending, EmissionActive, EmissionPrevious, Pending, Permanent}
 use Rattle.j39_listen.specs.Heard.{Hearing}
 use Rattle.j39_frame.specs.Origin.{is_same_name}
+use Rattle.j39_faults.specs.Sameness.{tells_same}
 use Rattle.j39_reports.specs.News.{is_news, last_from, says_other}
-use Rattle.j39_reports.specs.Remembered.{Notes, Remembers, said_at, said_in}
+use Rattle.j39_reports.specs.Remembered.{Remembers, kept, noted, said_at, said_in}
 use Rattle.j39_reports.specs.LastMessages.{LastMessages, LastRecord, at, differs}
 use Rattle.j39_reports.specs.declared.fault_news.last_faults.LastFaults.{LastFaults}
 
@@ -65,41 +66,57 @@ none_some m e = subst is_none_type e tt
     is_none_type None = ⊤
     is_none_type (Some x) = ⊥
 
-pub remembers_none : (l : LastFaults) → l.active ≡ replicate 256 None → l.previous ≡ replicate 256 None → Remembers l []
-remembers_none l active previous = record {
-  actives = ap length active ∙ length-replicate 256 none_said;
-  previouses = ap length previous ∙ length-replicate 256 none_said;
-  active = λ a k. none_at l.active 65226 a active k;
-  previous = λ a k. none_at l.previous 65227 a previous k;
+pub remembers_none : (l : LastFaults) → l.active ≡ replicate 256 None → l.previous ≡ replicate 256 None → l.emission_pending ≡ replicate 256 None
+    → l.emission_active ≡ replicate 256 None → l.emission_previous ≡ replicate 256 None → l.pending ≡ replicate 256 None
+    → l.permanent ≡ replicate 256 None → Remembers l []
+remembers_none l active previous emission_pending emission_active emission_previous pending permanent = record {
+  places = λ kind. ap length (none_kept kind) ∙ length-replicate 256 none_said;
+  said = λ pgn a kind is k. none_at (kept l kind) pgn a (none_kept kind) k;
   whole = λ m pgn a e. absurd (none_some m (sym (last_from_none pgn a) ∙ e));
 }
+  where
+    none_kept : (kind : Kind) → kept l kind ≡ replicate 256 None
+    none_kept Active = active
+    none_kept Previous = previous
+    none_kept EmissionPending = emission_pending
+    none_kept EmissionActive = emission_active
+    none_kept EmissionPrevious = emission_previous
+    none_kept Pending = pending
+    none_kept Permanent = permanent
 
 -- ---- the group of a kind
 
-abbrev pub group_of : Kind → ℕ
+abbrev group_of : Kind → ℕ
 group_of Active = 65226
 group_of Previous = 65227
+group_of EmissionPending = 65231
+group_of EmissionActive = 65236
+group_of EmissionPrevious = 64949
+group_of Pending = 64898
+group_of Permanent = 64896
 
-pub group_is : (pgn : ℕ) (kind : Kind) → kind_of pgn ≡ Some kind → pgn ≡ group_of kind
-group_is pgn kind is = elim (cases_eq pgn 65226) [
-  | inl e ↦ e ∙ ap group_of (some_is (sym (cond-true _ _ _ (eq-eqb pgn 65226 e)) ∙ is))
-  | inr n ↦ elim (cases_eq pgn 65227) [
-    | inl e ↦ e ∙ ap group_of (some_is (sym (cond-false _ _ _ (ne_eqb pgn 65226 n) ∙ cond-true _ _ _ (eq-eqb pgn 65227 e)) ∙ is))
-    | inr k ↦ absurd (none_is (sym (cond-false _ _ _ (ne_eqb pgn 65226 n) ∙ cond-false _ _ _ (ne_eqb pgn 65227 k)) ∙ is))
-  ]
+some_kind : {x y : Kind} → Some x ≡ Some y → x ≡ y
+some_kind e = cc
+
+no_kind : {y : Kind} → None ≡ Some y → ⊥
+no_kind e = cc
+
+-- it is that of the first, or of one behind
+or_behind : (pgn : ℕ) (first kind : Kind) (behind : Option Kind) → (behind ≡ Some kind → pgn ≡ group_of kind)
+    → (if pgn == group_of first then Some first else behind) ≡ Some kind → pgn ≡ group_of kind
+or_behind pgn first kind behind then_is is = elim (cases_eq pgn (group_of first)) [
+  | inl e ↦ e ∙ ap group_of (some_kind (sym (cond-true _ _ _ (eq-eqb pgn (group_of first) e)) ∙ is))
+  | inr n ↦ then_is (sym (cond-false _ _ _ (ne_eqb pgn (group_of first) n)) ∙ is)
 ]
-  where
-    some_is : {x y : Kind} → Some x ≡ Some y → x ≡ y
-    some_is e = cc
 
-    none_is : {y : Kind} → None ≡ Some y → ⊥
-    none_is e = cc
+group_is : (pgn : ℕ) (kind : Kind) → kind_of pgn ≡ Some kind → pgn ≡ group_of kind
+group_is pgn kind is =
+    or_behind pgn Active kind _ (λ b0. or_behind pgn Previous kind _ (λ b1. or_behind pgn EmissionPending kind _ (λ b2. or_behind pgn EmissionActive kind _ (λ b3. or_behind pgn EmissionPrevious kind _ (λ b4. or_behind pgn Pending kind _ (λ b5. or_behind pgn Permanent kind _ (λ b6. absurd (no_kind b6)) b5) b4) b3) b2) b1) b0) is
 
 -- what is kept for an address is what it said last in these messages
 pub said_is : (l : LastFaults) (ms : List Hearing) (pgn a : ℕ) (kind : Kind) → Remembers l ms → kind_of pgn ≡ Some kind → a < 256
     → said_at l kind a ≡ option_map said_in (last_from pgn a ms)
-said_is l ms pgn a Active h is k = h.active a k ∙ ap (λ (g : ℕ). option_map said_in (last_from g a ms)) (sym (group_is pgn Active is))
-said_is l ms pgn a Previous h is k = h.previous a k ∙ ap (λ (g : ℕ). option_map said_in (last_from g a ms)) (sym (group_is pgn Previous is))
+said_is l ms pgn a kind h is k = h.said pgn a kind is k
 
 -- ---- one message more
 
@@ -130,33 +147,72 @@ whole_more ms m short whole x pgn a e = elim (cases_Bool (is_of pgn a m)) [
     some_is : {x y : Hearing} → Some x ≡ Some y → x ≡ y
     some_is e = cc
 
-pub remembers_more : (l l' : LastFaults) (ms : List Hearing) (m : Hearing) (kind : Kind) → kind_of m.message.pgn ≡ Some kind → length m.message.bytes ≤ 1785
-    → Notes l kind m.message.source (said_in m) l' → Remembers l ms → Remembers l' (ms ++ m ∷ [])
-remembers_more l l' ms m Active is short (active, previous) h =
-    let group = group_is m.message.pgn Active is in
-    record {
-      actives = ap length active ∙ length-set l.active m.message.source (Some (said_in m)) ∙ h.actives;
-      previouses = ap length previous ∙ h.previouses;
-      active = λ a k. ap (λ (t : LastMessages). at t a) active ∙ set_at l.active 65226 ms m h.actives group h.active a k;
-      previous = λ a k. ap (λ (t : LastMessages). at t a) previous ∙ else_at l.previous 65227 ms m (λ e. (let x : 65226 ≡ 65227 = sym group ∙ e in absurd (omega arith))) h.previous a k;
-      whole = whole_more ms m short h.whole;
-    }
-remembers_more l l' ms m Previous is short (previous, active) h =
-    let group = group_is m.message.pgn Previous is in
-    record {
-      actives = ap length active ∙ h.actives;
-      previouses = ap length previous ∙ length-set l.previous m.message.source (Some (said_in m)) ∙ h.previouses;
-      active = λ a k. ap (λ (t : LastMessages). at t a) active ∙ else_at l.active 65226 ms m (λ e. (let x : 65227 ≡ 65226 = sym group ∙ e in absurd (omega arith))) h.active a k;
-      previous = λ a k. ap (λ (t : LastMessages). at t a) previous ∙ set_at l.previous 65227 ms m h.previouses group h.previous a k;
-      whole = whole_more ms m short h.whole;
-    }
+-- what was noted of a kind, and of another one
+noted_there : (l : LastFaults) (kind : Kind) (a : ℕ) (s : LastRecord) → kept (noted l kind a s) kind ≡ slice_set (kept l kind) a (Some s)
+noted_there l Active a s = refl
+noted_there l Previous a s = refl
+noted_there l EmissionPending a s = refl
+noted_there l EmissionActive a s = refl
+noted_there l EmissionPrevious a s = refl
+noted_there l Pending a s = refl
+noted_there l Permanent a s = refl
+
+noted_else : (l : LastFaults) (kind other : Kind) (a : ℕ) (s : LastRecord) → kind ≢ other → kept (noted l kind a s) other ≡ kept l other
+noted_else l Active Active a s n = absurd (n refl)
+noted_else l Previous Previous a s n = absurd (n refl)
+noted_else l EmissionPending EmissionPending a s n = absurd (n refl)
+noted_else l EmissionActive EmissionActive a s n = absurd (n refl)
+noted_else l EmissionPrevious EmissionPrevious a s n = absurd (n refl)
+noted_else l Pending Pending a s n = absurd (n refl)
+noted_else l Permanent Permanent a s n = absurd (n refl)
+noted_else l kind other a s n = refl
+
+-- as many places
+noted_length : (l : LastFaults) (kind other : Kind) (a : ℕ) (s : LastRecord) → length (kept (noted l kind a s) other) ≡ length (kept l other)
+noted_length l Active Active a s = length-set l.active a (Some s)
+noted_length l Previous Previous a s = length-set l.previous a (Some s)
+noted_length l EmissionPending EmissionPending a s = length-set l.emission_pending a (Some s)
+noted_length l EmissionActive EmissionActive a s = length-set l.emission_active a (Some s)
+noted_length l EmissionPrevious EmissionPrevious a s = length-set l.emission_previous a (Some s)
+noted_length l Pending Pending a s = length-set l.pending a (Some s)
+noted_length l Permanent Permanent a s = length-set l.permanent a (Some s)
+noted_length l kind other a s = refl
+
+same_kind : (pgn : ℕ) (kind other : Kind) → kind_of pgn ≡ Some kind → kind_of pgn ≡ Some other → kind ≡ other
+same_kind pgn kind other is also = some_kind (sym is ∙ also)
+
+module _ (l l' : LastFaults) (ms : List Hearing) (m : Hearing) (kind : Kind) (is : kind_of m.message.pgn ≡ Some kind) (notes : l' ≡ noted l kind m.message.source (said_in m))
+    (h : Remembers l ms) where
+  there : kept l' kind ≡ slice_set (kept l kind) m.message.source (Some (said_in m))
+  there = ap (λ (x : LastFaults). kept x kind) notes ∙ noted_there l kind m.message.source (said_in m)
+
+  -- what is said of a kind behind the message: by its group, or by another one
+  said_then : (pgn a : ℕ) (other : Kind) → kind_of pgn ≡ Some other → a < 256 → said_at l' other a ≡ option_map said_in (last_from pgn a (ms ++ m ∷ []))
+  said_then pgn a other of k = elim (cases_eq m.message.pgn pgn) [
+    | inl e ↦ (let one : kind ≡ other = same_kind m.message.pgn kind other is (ap kind_of e ∙ of) in
+        subst (λ (x : Kind). said_at l' x a ≡ option_map said_in (last_from pgn a (ms ++ m ∷ []))) one
+        (ap (λ (t : LastMessages). at t a) there ∙ set_at (kept l kind) pgn ms m (h.places kind) e (λ b j. h.said pgn b kind (of ∙ ap (λ (x : Kind). Some x) (sym one)) j) a k))
+    | inr n ↦ (let apart : kind ≢ other = (λ one. n (group_is m.message.pgn kind is ∙ ap group_of one ∙ sym (group_is pgn other of))) in
+        ap (λ (t : LastMessages). at t a) (ap (λ (x : LastFaults). kept x other) notes ∙ noted_else l kind other m.message.source (said_in m) apart)
+        ∙ else_at (kept l other) pgn ms m n (λ b j. h.said pgn b other of j) a k)
+  ]
+
+  places_then : (other : Kind) → length (kept l' other) ≡ 256
+  places_then other = ap (λ (x : LastFaults). length (kept x other)) notes ∙ noted_length l kind other m.message.source (said_in m) ∙ h.places other
+
+  pub remembers_more : length m.message.bytes ≤ 1785 → Remembers l' (ms ++ m ∷ [])
+  remembers_more short = record {
+    places = places_then;
+    said = said_then;
+    whole = whole_more ms m short h.whole;
+  }
 
 -- ---- news
 
 differs_by : (o : Option Hearing) (m : Hearing) → ((x : Hearing) → o ≡ Some x → take 1785 x.message.bytes ≡ x.message.bytes)
     → differs (option_map said_in o) m.message.bytes m.name ≡ says_other o m
 differs_by None m whole = refl
-differs_by (Some x) m whole = ap (λ bs. not (bytes_eq bs m.message.bytes && is_same_name x.name m.name)) (whole x refl)
+differs_by (Some x) m whole = ap (λ bs. not (tells_same bs m.message.bytes && is_same_name x.name m.name)) (whole x refl)
 
 pub news_is : (l : LastFaults) (ms : List Hearing) (m : Hearing) (kind : Kind) → Remembers l ms → kind_of m.message.pgn ≡ Some kind → m.message.source < 256
     → differs (said_at l kind m.message.source) m.message.bytes m.name ≡ is_news ms m

@@ -1,13 +1,13 @@
 -- The record of a fault (RFC 4180; own).
 use Rattle.std.specs.Prelude.{◌++◌, ◌∷◌, ℕ, List, [], Option, Some, None, codes, decimal, unwrap_or}
 use Rattle.std.specs.List.{flat_map}
-use Rattle.hex.specs.Hex.{encode_upper}
 use Rattle.j39_reports.specs.Columns.{heard_fields}
 use Rattle.j39_io.specs.Records.{record_text}
-use Rattle.j39_faults.specs.Text.{kind_text, lamps_on}
+use Rattle.j39_faults.specs.Text.{kind_text, lamps_told, parameter_words}
 use Rattle.j39_faults.specs.Words.{fmi_words}
 use Rattle.j39_faults.specs.declared.code.Code.{Code}
-use Rattle.j39_faults.specs.declared.code.Code.TheVariants.{Known, Raw}
+use Rattle.j39_faults.specs.declared.code.Parameter.{Parameter}
+use Rattle.j39_faults.specs.declared.code.Parameter.TheVariants.{Known, OneOf}
 use Rattle.j39_faults.specs.declared.lamps.Lamps.{Lamps}
 use Rattle.j39_groups.specs.Row.{RowRecord}
 use Rattle.j39_reports.specs.Faults.{Fault, fault_line, name_in}
@@ -22,28 +22,31 @@ fault_columns = codes "stamp,utc,address,name,state,spn,fmi,count,lamps,paramete
 abbrev pub head_fields : ℕ → ℕ → Option ℕ → List ℕ
 head_fields stamp address name = heard_fields stamp address name ++ codes ","
 
--- numbers alone: nothing where a message has no code, or the code's bytes don't tell them
+-- numbers alone: nothing where a message has no code, or the code doesn't tell them
+abbrev pub spn_of : Parameter → List ℕ
+spn_of (Known spn) = decimal spn
+spn_of (OneOf spns) = []
+
 abbrev pub spn_field : Option Code → List ℕ
 spn_field None = []
-spn_field (Some (Known spn fmi count)) = decimal spn
-spn_field (Some (Raw bytes)) = []
+spn_field (Some code) = spn_of code.parameter
 
 abbrev pub fmi_field : Option Code → List ℕ
 fmi_field None = []
-fmi_field (Some (Known spn fmi count)) = decimal fmi
-fmi_field (Some (Raw bytes)) = []
+fmi_field (Some code) = decimal code.fmi
+
+abbrev pub number_or_none : Option ℕ → List ℕ
+number_or_none None = []
+number_or_none (Some number) = decimal number
 
 abbrev pub count_field : Option Code → List ℕ
 count_field None = []
-count_field (Some (Known spn fmi None)) = []
-count_field (Some (Known spn fmi (Some count))) = decimal count
-count_field (Some (Raw bytes)) = []
+count_field (Some code) = number_or_none code.count
 
--- what the table calls the parameter; where it has no name a word and its number, or a word and the code's bytes
+-- what the table calls the parameter; where it has no name a word and its number, or its candidates
 abbrev pub unnamed : Option Code → List ℕ
 unnamed None = []
-unnamed (Some (Known spn fmi count)) = codes "SPN " ++ decimal spn
-unnamed (Some (Raw bytes)) = codes "code " ++ encode_upper bytes
+unnamed (Some code) = parameter_words code.parameter
 
 abbrev pub parameter_field : List RowRecord → Option Code → List ℕ
 parameter_field rows None = []
@@ -51,13 +54,12 @@ parameter_field rows (Some code) = unwrap_or (name_in rows code) (unnamed (Some 
 
 abbrev pub meaning_field : Option Code → List ℕ
 meaning_field None = codes "no code"
-meaning_field (Some (Known spn fmi count)) = fmi_words fmi
-meaning_field (Some (Raw bytes)) = codes "conversion method 1"
+meaning_field (Some code) = fmi_words code.fmi
 
--- the fields behind `active` or `previous`, with this one for the parameter
+-- the fields behind the word for the kind, with this one for the parameter
 abbrev pub fields_with : Lamps → List ℕ → Option Code → List (List ℕ)
 fields_with lamps parameter code =
-    spn_field code ∷ fmi_field code ∷ count_field code ∷ lamps_on lamps ∷ parameter ∷ meaning_field code ∷ []
+    spn_field code ∷ fmi_field code ∷ count_field code ∷ lamps_told lamps ∷ parameter ∷ meaning_field code ∷ []
 
 abbrev pub said_fields : List RowRecord → Lamps → Option Code → List (List ℕ)
 said_fields rows lamps code = fields_with lamps (parameter_field rows code) code

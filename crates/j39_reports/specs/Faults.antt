@@ -6,7 +6,8 @@ use Rattle.j39_faults.specs.FaultGroups.{kind_of}
 use Rattle.j39_faults.specs.LampBits.{lamps_of}
 use Rattle.j39_faults.specs.Text.{code_text, no_code_text}
 use Rattle.j39_faults.specs.declared.code.Code.{Code}
-use Rattle.j39_faults.specs.declared.code.Code.TheVariants.{Known, Raw}
+use Rattle.j39_faults.specs.declared.code.Parameter.{Parameter}
+use Rattle.j39_faults.specs.declared.code.Parameter.TheVariants.{Known, OneOf}
 use Rattle.j39_faults.specs.declared.kind.Kind.{Kind}
 use Rattle.j39_faults.specs.declared.lamps.Lamps.{Lamps}
 use Rattle.j39_groups.specs.Names.{parameter_name}
@@ -49,10 +50,13 @@ faults_by m (Some kind) (Some lamps) = map (fault_of m kind lamps) (codes_or_non
 abbrev pub faults_in : Hearing → List Fault
 faults_in m = faults_by m (kind_of m.message.pgn) (lamps_of m.message.bytes)
 
--- what a table calls the parameter of a code; a code of conversion method 1 has none
+-- what a table calls a parameter, where its SPN is known
+abbrev pub name_of : List RowRecord → Parameter → Option (List ℕ)
+name_of rows (Known spn) = parameter_name rows spn
+name_of rows (OneOf spns) = None
+
 abbrev pub name_in : List RowRecord → Code → Option (List ℕ)
-name_in rows (Known spn fmi count) = parameter_name rows spn
-name_in rows (Raw bytes) = None
+name_in rows code = name_of rows code.parameter
 
 -- the stamp, the address and the NAME, a space after each
 abbrev pub head_text : ℕ → ℕ → Option ℕ → List ℕ

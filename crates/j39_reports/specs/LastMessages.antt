@@ -1,8 +1,9 @@
 -- What is kept of a message of faults, for each address.
-use Rattle.std.specs.Prelude.{◌&&◌, not, ℕ, Bool, List, Option, Some, None, bytes_eq, map, option_map, slice_index_or, take, true}
+use Rattle.std.specs.Prelude.{◌&&◌, not, ℕ, Bool, List, Option, Some, None, map, option_map, slice_index_or, take, true}
 use Rattle.j39_memory.specs.declared.stored.Stored.{Stored}
 use Rattle.j39_memory.specs.Stored.{value_of}
 use Rattle.j39_frame.specs.Origin.{is_same_name}
+use Rattle.j39_faults.specs.Sameness.{tells_same}
 
 -- the bytes of a message, and the NAME that it came under
 pub record LastRecord : Type 0 where
@@ -14,7 +15,7 @@ abbrev pub said_by : List ℕ → Option ℕ → LastRecord
 said_by bytes name = record { bytes = take 1785 bytes; name = name }
 
 abbrev pub is_said : LastRecord → List ℕ → Option ℕ → Bool
-is_said s bytes name = bytes_eq s.bytes bytes && is_same_name s.name name
+is_said s bytes name = tells_same s.bytes bytes && is_same_name s.name name
 
 abbrev pub differs : Option LastRecord → List ℕ → Option ℕ → Bool
 differs None bytes name = true

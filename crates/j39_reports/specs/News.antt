@@ -1,8 +1,9 @@
--- Which messages of faults are told (J1939-73, 5.7.1 and 5.7.2: DM1, DM2).
+-- Which messages of faults are told (J1939-73, 5.7).
 use Rattle.std.specs.Prelude.{◌==◌, ◌&&◌, not, ℕ, zero, suc, Bool, true, List, [], ◌∷◌, ◌++◌, Option, Some, None}
-use Rattle.std.specs.Prelude.{bytes_eq, filter, if◌then◌else◌, is_some, length, nat_le, slice_get, take}
+use Rattle.std.specs.Prelude.{filter, if◌then◌else◌, is_some, length, nat_le, slice_get, take}
 use Rattle.std.specs.List.{last_or}
 use Rattle.j39_faults.specs.FaultGroups.{kind_of}
+use Rattle.j39_faults.specs.Sameness.{tells_same}
 use Rattle.j39_frame.specs.Origin.{is_same_name}
 use Rattle.j39_listen.specs.Heard.{Hearing}
 use Rattle.j39_reports.specs.declared.fault_news.telling.Telling.{Telling}
@@ -23,10 +24,10 @@ faults_among hs = filter is_of_faults hs
 unfoldable pub last_from : ℕ → ℕ → List Hearing → Option Hearing
 last_from pgn source ms = last_or None (filter (λ h. h.message.pgn == pgn && h.message.source == source) ms)
 
--- it has other bytes or another NAME than what was said before, or nothing was
+-- it tells something else, or under another NAME, than what was said before, or nothing was
 abbrev pub says_other : Option Hearing → Hearing → Bool
 says_other None m = true
-says_other (Some l) m = not (bytes_eq l.message.bytes m.message.bytes && is_same_name l.name m.name)
+says_other (Some l) m = not (tells_same l.message.bytes m.message.bytes && is_same_name l.name m.name)
 
 -- behind these messages it is news
 abbrev pub is_news : List Hearing → Hearing → Bool

@@ -1,4 +1,4 @@
-//! The faults of a bus, as an account of its frames (J1939-73, 5.7.1 and 5.7.2).
+//! The faults of a bus, as an account of its frames (J1939-73, 5.7).
 ghost use Rattle.std.specs.Prelude.{◌≡◌, ◌≢◌, ◌<◌, ◌≤◌, ◌^◌, [], List, None, length, true, Err, IfOk, Some};
 ghost use Rattle.j39_io.specs.Puts.{Puts};
 ghost use Rattle.j39_io.specs.Turn.{turn};

@@ -1,7 +1,7 @@
 //! For each address and group what was said last.
 ghost use Rattle.std.specs.Prelude.{◌≡◌, [], IfOk, None, OnErr, OnOk, option_map};
 ghost use Rattle.j39_address.specs.Name.{name_raw};
-ghost use Rattle.j39_reports.specs.Remembered.{Notes, Remembers, said_at};
+ghost use Rattle.j39_reports.specs.Remembered.{Remembers, noted, said_at};
 ghost use Rattle.j39_reports.specs.LastMessages.{differs, said_by};
 
 use crate::fault_news::last_messages::LastMessages;
@@ -9,11 +9,16 @@ use j39_address::Name;
 use j39_faults::Kind;
 use std::alloc::{AllocError, Global};
 
-/// What was said last by each address of its active codes, and of its previous ones.
+/// What was said last by each address of its codes, by kind.
 #[derive(Drop)]
 pub(crate) struct LastFaults {
     pub active: LastMessages,
     pub previous: LastMessages,
+    pub emission_pending: LastMessages,
+    pub emission_active: LastMessages,
+    pub emission_previous: LastMessages,
+    pub pending: LastMessages,
+    pub permanent: LastMessages,
 }
 
 impl LastFaults {
@@ -24,6 +29,11 @@ impl LastFaults {
         LastFaults {
             active: LastMessages::new(),
             previous: LastMessages::new(),
+            emission_pending: LastMessages::new(),
+            emission_active: LastMessages::new(),
+            emission_previous: LastMessages::new(),
+            pending: LastMessages::new(),
+            permanent: LastMessages::new(),
         }
     }
 
@@ -38,13 +48,18 @@ impl LastFaults {
     ) -> Result<bool, AllocError>
         ensures news { IfOk result (λ is_news. is_news
             ≡ differs (said_at self.old kind source) payload.now (option_map name_raw name)) }
-        ensures after { OnOk result (Notes self.old kind source
-            (said_by payload.now (option_map name_raw name)) self.new) }
+        ensures after { OnOk result (self.new
+            ≡ noted self.old kind source (said_by payload.now (option_map name_raw name))) }
         ensures first { OnErr result (said_at self.old kind source ≡ None) }
     {
         match kind {
             Kind::Active => self.active.note(alloc, source, payload, name),
             Kind::Previous => self.previous.note(alloc, source, payload, name),
+            Kind::EmissionPending => self.emission_pending.note(alloc, source, payload, name),
+            Kind::EmissionActive => self.emission_active.note(alloc, source, payload, name),
+            Kind::EmissionPrevious => self.emission_previous.note(alloc, source, payload, name),
+            Kind::Pending => self.pending.note(alloc, source, payload, name),
+            Kind::Permanent => self.permanent.note(alloc, source, payload, name),
         }
     }
 }

@@ -4,20 +4,21 @@ ghost use Rattle.j39_io.specs.Puts.{Puts};
 ghost use Rattle.j39_io.specs.Turn.{turn};
 ghost use Rattle.j39_io.specs.Records.{record_text};
 ghost use Rattle.j39_faults.specs.Text.{kind_text};
-ghost use Rattle.j39_reports.specs.FaultRecords.{count_field, fields_with, fmi_field, meaning_field, parameter_field, said_fields, spn_field, unnamed};
+ghost use Rattle.j39_reports.specs.FaultRecords.{count_field, fields_with, fmi_field, meaning_field, number_or_none, parameter_field, said_fields, spn_field, spn_of, unnamed};
 
 use crate::fault_news::form::Said;
 use crate::fault_news::names::name_in;
 use arrayvec::ArrayVec;
-use j39_faults::{Code, fmi_words, kind_word, lamps_on, spn_words};
+use j39_faults::{
+    Code, Parameter, ParameterWords, fmi_words, kind_word, lamps_told, parameter_words,
+};
 use j39_groups::{Groups, decimal_of};
-use j39_io::printing::{push_bytes, push_hex};
 use j39_io::{DeviceFault, Sink, put_record};
 
-/// A number, or what stands for a name.
+/// A number, or nothing.
 type Field = ArrayVec<u8, 32>;
 
-/// Writes what is said as the fields of a record from `active` or `previous` on.
+/// Writes what is said as the fields of a record from the word for the kind on.
 pub(crate) fn put_fields<W: Sink>(
     groups: &Groups<'_>,
     said: Said,
@@ -40,12 +41,12 @@ fn put_fields_with<W: Sink>(said: Said, parameter: &[u8], sink: &mut W) -> Resul
     let spn = spn_field(code);
     let fmi = fmi_field(code);
     let count = count_field(code);
-    let shown = lamps_on(lamps);
+    let told = lamps_told(lamps);
     let fields: [&[u8]; 6] = [
         spn.as_slice(),
         fmi.as_slice(),
         count.as_slice(),
-        shown.as_slice(),
+        told.as_slice(),
         parameter,
         meaning_field(&code),
     ];
@@ -57,9 +58,17 @@ fn spn_field(code: Option<Code>) -> Field
     ensures { result.items ≡ spn_field code }
 {
     match code {
-        Some(Code::Known { spn, .. }) => decimal_of(spn),
-        Some(Code::Raw(_)) => Field::new(),
+        Some(code) => spn_of(code.parameter),
         None => Field::new(),
+    }
+}
+
+fn spn_of(parameter: Parameter) -> Field
+    ensures { result.items ≡ spn_of parameter }
+{
+    match parameter {
+        Parameter::Known(spn) => decimal_of(spn),
+        Parameter::OneOf(_) => Field::new(),
     }
 }
 
@@ -68,8 +77,7 @@ fn fmi_field(code: Option<Code>) -> Field
     ensures { result.items ≡ fmi_field code }
 {
     match code {
-        Some(Code::Known { fmi, .. }) => decimal_of(u32::from(fmi)),
-        Some(Code::Raw(_)) => Field::new(),
+        Some(code) => decimal_of(u32::from(code.fmi)),
         None => Field::new(),
     }
 }
@@ -79,14 +87,16 @@ fn count_field(code: Option<Code>) -> Field
     ensures { result.items ≡ count_field code }
 {
     match code {
-        Some(
-            Code::Known {
-                count: Some(count),
-                ..
-            },
-        ) => decimal_of(u32::from(count)),
-        Some(Code::Known { count: None, .. }) => Field::new(),
-        Some(Code::Raw(_)) => Field::new(),
+        Some(code) => number_or_none(code.count),
+        None => Field::new(),
+    }
+}
+
+fn number_or_none(number: Option<u8>) -> Field
+    ensures { result.items ≡ number_or_none number }
+{
+    match number {
+        Some(number) => decimal_of(u32::from(number)),
         None => Field::new(),
     }
 }
@@ -105,21 +115,14 @@ fn parameter_field<'r>(groups: &'r Groups<'_>, code: Option<Code>, words: &'r [u
     }
 }
 
-/// What stands for a name: a word and the parameter's number, or a word and the code's bytes. A spreadsheet would take
-/// some of the bytes alone for a number.
-fn unnamed(code: Option<Code>) -> Field
+/// What stands for a name: a word and the parameter's number, or its candidates.
+fn unnamed(code: Option<Code>) -> ParameterWords
     ensures { result.items ≡ unnamed code }
 {
-    let mut words = Field::new();
     match code {
-        Some(Code::Known { spn, .. }) => push_bytes(&mut words, spn_words(spn).as_slice()),
-        Some(Code::Raw(bytes)) => {
-            push_bytes(&mut words, b"code ");
-            push_hex(&mut words, &bytes);
-        }
-        None => {}
+        Some(code) => parameter_words(code.parameter),
+        None => ParameterWords::new(),
     }
-    words
 }
 
 /// What it means, or that there is none.
@@ -127,8 +130,7 @@ fn meaning_field(code: &Option<Code>) -> &[u8]
     ensures { result.now ≡ meaning_field code.now }
 {
     match code {
-        Some(Code::Known { fmi, .. }) => fmi_words(*fmi).as_bytes(),
-        Some(Code::Raw(_)) => b"conversion method 1",
+        Some(code) => fmi_words(code.fmi).as_bytes(),
         None => b"no code",
     }
 }

@@ -18,7 +18,7 @@ use std::alloc::Global;
 const COLUMNS: &[u8] = b"stamp,utc,address,name,state,spn,fmi,count,lamps,parameter,meaning\r\n";
 
 /// Writes the fault codes in a log of at most `limit` bytes: a line, or a record of comma-separated values (RFC 4180),
-/// for each code of each message of DM1 and DM2 that is told, with the name that a table of parameters has for its
+/// for each code of each message of faults that is told, with the name that a table of parameters has for its
 /// parameter; a record too for such a message that has no code. The names of the columns of records are written before
 /// the log is read. Without a bus it is that of the first frame in the log.
 pub fn faults<R: Source, W: Sink>(
@@ -32,8 +32,8 @@ pub fn faults<R: Source, W: Sink>(
     limit: u64,
 ) -> Result<Counts, RunFault>
     // What the run promises is `Ran`: what is written is the faults that are told in the frames of the log, and nothing
-    // else. Memory is wanted only at a frame of the log that announces a message, or at which an address says for the
-    // first time which codes are active, or which were.
+    // else. Memory is wanted only at a frame of the log that announces a message, or at the first message of faults of
+    // its group from an address.
     ensures ran { Ran (MakesFaults format groups.now telling) AsksForFaults bus limit result
         (turn R.remaining R.has_failed source.old source.new) (turn W.written W.has_failed sink.old sink.new) }
 

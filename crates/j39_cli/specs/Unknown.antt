@@ -1,0 +1,40 @@
+-- Parameters that are asked for, and that no row of the table has.
+use Rattle.std.specs.Prelude.{ℕ, Bool, false, not, List, [], Option, None, Some, codes, decimal, if◌then◌else◌, is_some}
+use Rattle.std.specs.List.{flat_map, list_any}
+use Rattle.j39_groups.specs.Names.{parameter_name}
+use Rattle.j39_groups.specs.Row.{RowRecord}
+use Rattle.j39_cli.specs.Refusal.{error_line}
+use Rattle.j39_cli.specs.declared.task.Task.{Task}
+use Rattle.j39_cli.specs.declared.task.Task.TheVariants.{Report}
+
+-- a row that has the parameter gives it a name
+abbrev pub has_row : List RowRecord → ℕ → Bool
+has_row rows spn = is_some (parameter_name rows spn)
+
+abbrev pub unknown_line : List RowRecord → ℕ → List ℕ
+unknown_line rows spn = if has_row rows spn then [] else error_line (codes "no row has SPN ") (decimal spn)
+
+-- a line for each that none has
+abbrev pub unknown_words : List RowRecord → List ℕ → List ℕ
+unknown_words rows spns = flat_map (unknown_line rows) spns
+
+-- the parameters that a report is asked for
+abbrev pub spns_of : Task → Option (List ℕ)
+spns_of (Report input table spns format) = spns
+spns_of task = None
+
+-- what is said of those that a task asks for
+abbrev pub words_if : List RowRecord → Option (List ℕ) → List ℕ
+words_if rows None = []
+words_if rows (Some spns) = unknown_words rows spns
+
+abbrev pub unknown_text : List RowRecord → Task → List ℕ
+unknown_text rows task = words_if rows (spns_of task)
+
+-- some are asked for, and no row has any of them
+abbrev pub none_has : List RowRecord → Option (List ℕ) → Bool
+none_has rows None = false
+none_has rows (Some spns) = not (list_any (has_row rows) spns)
+
+abbrev pub asks_for_unknown : List RowRecord → Task → Bool
+asks_for_unknown rows task = none_has rows (spns_of task)

@@ -1,0 +1,75 @@
+//! Parameters that are asked for, and that no row of the table has.
+ghost use Rattle.std.specs.Prelude.{◌≡◌, [], false, not, true};
+ghost use Rattle.std.specs.List.{flat_map, list_any};
+ghost use Rattle.j39_io.specs.Puts.{Puts};
+ghost use Rattle.j39_io.specs.Turn.{Writes, turn};
+ghost use Rattle.j39_cli.specs.Unknown.{asks_for_unknown, has_row, unknown_line, unknown_text, unknown_words};
+
+use crate::Task;
+use crate::refusal::put_line;
+use j39_groups::{Groups, decimal_of};
+use j39_io::{DeviceFault, Sink};
+
+/// Says which of the parameters that a task asks for no row of the table has, and answers whether that is all of them.
+/// A fault of the writer is passed over.
+pub fn asks_for_unknown<E: Sink>(groups: &Groups<'_>, task: &Task<'_>, err: &mut E) -> bool
+    ensures answer { result ≡ asks_for_unknown groups.now task.now }
+    ensures told { Writes (turn E.written E.has_failed err.old err.new) (unknown_text groups.now task.now) }
+    ensures passed_on { result ≡ true → E.has_failed err.new ≡ false → E.is_flushed err.new ≡ true }
+{
+    match task {
+        Task::Report {
+            spns: Some(spns),
+            ..
+        } => tell_unknown(groups, spns.as_slice(), err),
+        _ => false,
+    }
+}
+
+/// Says which of these no row has, and answers whether that is all of them.
+fn tell_unknown<E: Sink>(groups: &Groups<'_>, spns: &[u32], err: &mut E) -> bool
+    ensures answer { result ≡ not (list_any (has_row groups.now) spns.now) }
+    ensures told { Writes (turn E.written E.has_failed err.old err.new) (unknown_words groups.now spns.now) }
+    ensures passed_on { E.has_failed err.new ≡ false → E.is_flushed err.new ≡ true }
+{
+    if put_unknown(groups, spns, err).is_ok() {
+        let _ = err.flush();
+    }
+    !has_any(groups, spns)
+}
+
+/// Whether some row has one of these.
+fn has_any(groups: &Groups<'_>, spns: &[u32]) -> bool
+    ensures { result ≡ list_any (has_row groups.now) spns.now }
+{
+    spns.iter().any(|spn| has_row(groups, *spn))
+}
+
+/// Writes a line for each of these that no row has.
+fn put_unknown<E: Sink>(groups: &Groups<'_>, spns: &[u32], err: &mut E) -> Result<(), DeviceFault>
+    ensures { Puts (flat_map (unknown_line groups.now) spns.now) result
+        (turn E.written E.has_failed err.old err.new) }
+{
+    for spn in spns {
+        put_where_unknown(groups, *spn, err)?;
+    }
+    Ok(())
+}
+
+/// Writes a line where no row has this parameter.
+fn put_where_unknown<E: Sink>(groups: &Groups<'_>, spn: u32, err: &mut E) -> Result<(), DeviceFault>
+    ensures { Puts (unknown_line groups.now spn) result (turn E.written E.has_failed err.old err.new) }
+{
+    if has_row(groups, spn) {
+        Ok(())
+    } else {
+        put_line(err, b"no row has SPN ", decimal_of(spn).as_slice())
+    }
+}
+
+/// Whether a row of the table has this parameter.
+fn has_row(groups: &Groups<'_>, spn: u32) -> bool
+    ensures { result ≡ has_row groups.now spn }
+{
+    groups.parameter_name(spn).is_some()
+}
