@@ -5,5 +5,7 @@ pub mod Groups
 pub mod Numerals
 pub mod Payloads
 pub mod Playing
+pub mod Publishing
 pub mod Scenario
+pub mod Sending
 pub mod Shown

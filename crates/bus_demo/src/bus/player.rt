@@ -12,6 +12,7 @@ ghost use Rattle.j39_controller.specs.MaySend.{MaySend, held_in};
 ghost use Rattle.j39_controller.specs.Outbox.{first_id};
 ghost use Rattle.j39_controller.specs.declared.outbox.Wish.{Wish};
 ghost use Rattle.bus_demo.specs.Playing.{IsHeard, IsTurned};
+ghost use Rattle.bus_demo.specs.Publishing.{AreDueAgain};
 
 use crate::bus::book::{Book, Fate};
 use crate::bus::gauges::Gauges;
@@ -113,6 +114,9 @@ impl Player {
     fn publish(&mut self, now: Stamp, book: &mut Book) -> Result<(), AllocError>
         ensures silent { (node : Node) → HasNode self.old.controller node → held_in node.status ≡ None
             → self.new ≡ self.old }
+        ensures measures { OnOk result ((node : Node) → HasNode self.old.controller node
+            → IsSome (held_in node.status)
+            → AreDueAgain (stamp_micros now) self.old.publisher.rates self.new.publisher.rates) }
         ensures rest { self.new ≡ record self.old { controller = self.new.controller; publisher = self.new.publisher } }
     {
         match self.controller.held() {

@@ -11,4 +11,4 @@ returns-in-Known g c =
 pub returns-in-Raw : goal.returns-in-Raw
 unfolding code_text
 returns-in-Raw g c =
-    let text = c.as_slice-in-Raw.ensures.value ∙ c.raw_text.ensures in rw (c.in-Raw.is, ← text) c.put_all.ensures
+    let text = c.as_slice-in-Raw.ensures.value ∙ c.raw_text.ensures in rw (c.in-Raw.is, ← text) c.put_all.ensures.puts
