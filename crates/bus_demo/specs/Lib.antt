@@ -2,6 +2,7 @@ pub mod Arbitration
 pub mod Delivered
 pub mod Fates
 pub mod Groups
+pub mod Noted
 pub mod Numerals
 pub mod Payloads
 pub mod Playing
