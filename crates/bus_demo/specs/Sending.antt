@@ -1,5 +1,5 @@
 -- What becomes of the frame that a player of a bus wishes to send.
-use Rattle.std.specs.Prelude.{◌≡◌, ◌≢◌, ◌+◌, ◌-◌, ◌*◌, ◌^◌, ◌<◌, ◌++◌, ◌∷◌, [], ℕ, Contains, IfSome, List, None, Option, Some, drop, length, min, slice_get}
+use Rattle.std.specs.Prelude.{◌≡◌, ◌≢◌, ◌+◌, ◌-◌, ◌*◌, ◌^◌, ◌<◌, ◌++◌, ◌∷◌, ◌⊎◌, [], ℕ, Contains, IfSome, List, None, Option, Some, drop, length, min, slice_get}
 use Rattle.std.specs.Io.KnownBytes.{Appends}
 use Rattle.j39_io.specs.Chars.{newline}
 use Rattle.j39_io.specs.Turn.{Turn}
@@ -10,6 +10,7 @@ use Rattle.j39_address.specs.Node.{Node}
 use Rattle.j39_controller.specs.Controller.{HasNode, KeepsButWaiting, waiting_in}
 use Rattle.j39_controller.specs.MaySend.{MaySend}
 use Rattle.j39_controller.specs.declared.outbox.Wish.{Wish}
+use Rattle.bus_demo.specs.Arbitration.{IsLowest, NoneWishes}
 use Rattle.bus_demo.specs.Playing.{AreTold}
 use Rattle.bus_demo.specs.declared.bus.Bus.{Bus}
 use Rattle.bus_demo.specs.declared.bus.player.Player.{Player}
@@ -61,3 +62,15 @@ pub record Sends (sender : ℕ) (old new : Bus) (out : Turn) : Type 0 where
   pub takes : TakesAt sender old.controllers.items wish between.controllers.items
   pub rest : between ≡ record old { controllers = between.controllers }
   pub goes : GoesIf sender wish between new out
+
+-- where somebody wishes to send, the frame of the lowest identifier goes, and else none
+abbrev pub GoesLowest : Bus → Bus → Turn → Type 0
+GoesLowest old new out =
+    ((place : ℕ) × IsLowest old.wishes.items place × Sends place old new out)
+    ⊎ (NoneWishes old.wishes.items × (new ≡ record old { now = new.now }) × (out.new.bytes ≡ out.old.bytes))
+
+-- the players had their turns at the moment before, and then the bus went on
+pub record Steps (old new : Bus) (out : Turn) : Type 0 where
+  pub turned : Bus
+  pub now : turned.now ≡ old.now
+  pub goes : GoesLowest turned new out

@@ -6,7 +6,7 @@ ghost use Rattle.j39_io.specs.Puts.{Puts};
 ghost use Rattle.j39_io.specs.Turn.{turn};
 ghost use Rattle.j39_log.specs.Canonical.{line_text};
 ghost use Rattle.bus_demo.specs.Playing.{AreTold};
-ghost use Rattle.bus_demo.specs.Sending.{Goes, IsSeen, Sends, TakesAt};
+ghost use Rattle.bus_demo.specs.Sending.{Goes, IsSeen, Sends, Steps, TakesAt};
 
 mod arbitration;
 pub(crate) mod book;
@@ -113,6 +113,7 @@ impl<'a> Bus<'a> {
 
     /// Lets each controller take its turn, and then sends the frame that wins the bus.
     fn step<W: Sink>(&mut self, log: &mut W) -> Result<(), BusFault>
+        ensures steps { OnOk result (Steps self.old self.new (turn W.written W.has_failed log.old log.new)) }
         ensures goes_on { OnOk result (stamp_micros self.old.now + 1000 < 10 ^ 16
             → stamp_micros self.old.now < stamp_micros self.new.now) }
         ensures lose { self.new.lose ≡ self.old.lose }
