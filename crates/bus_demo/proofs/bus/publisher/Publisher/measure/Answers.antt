@@ -1,5 +1,5 @@
 -- One group after another.
-use Rattle.std.proofs.Common.{◌≡◌, ◌∙◌, ◌+◌, ℕ, ap, arith, refl, slice_get, subst, sym}
+use Rattle.std.proofs.Common.{◌≡◌, ◌∙◌, ap, arith, slice_get, subst}
 use borrow.Author.Count.{below_more}
 use Rattle.j39_address.specs.Name.{name_raw}
 use Rattle.j39_frame.specs.Stamp.{stamp_micros}
