@@ -4,3 +4,5 @@ mod BookLemmas
 mod TellingLemmas
 -- where a call ended well
 mod PlayerLemmas
+-- what was noted
+mod NotedLemmas

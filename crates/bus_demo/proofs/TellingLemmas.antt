@@ -1,9 +1,11 @@
--- Players that are told a frame, one after another.
+-- Players that are told a frame, one after another, and the one that takes it out.
 use Rattle.std.proofs.Common.{◌≡◌, ◌≢◌, ◌≤◌, ◌<◌, ◌+◌, ◌∙◌, ℕ, zero, suc, [], ◌∷◌, List, Option, Some, ap, arith, length, refl, slice_get, slice_set, subst, sym}
 use Rattle.std.proofs.Math.ListN.{length-set}
 use borrow.Author.Count.{below_more}
 use Rattle.j39_frame.specs.Frame.{FrameRecord}
+use Rattle.j39_controller.specs.declared.outbox.Wish.{Wish}
 use Rattle.bus_demo.specs.Playing.{AreToldBelow, IsToldAt}
+use Rattle.bus_demo.specs.Sending.{TakesAt, TakesOut}
 use Rattle.bus_demo.specs.declared.bus.player.Player.{Player}
 
 at_set : {X : Type 0} (xs : List X) (i : ℕ) (x : X) → i < length xs → slice_get (slice_set xs i x) i ≡ Some x
@@ -48,3 +50,12 @@ one_left n sender f old mid is h = record {
   where
     h_told : (k : ℕ) → k < n → StandsTold sender f old mid k
     h_told k less one here = h.told k one less here
+
+-- a player takes its frame out, and the others stay
+pub one_takes : (sender : ℕ) (old : List Player) (p q : Player) (wish : Option Wish) → sender < length old → slice_get old sender ≡ Some p → TakesOut p wish q
+    → TakesAt sender old wish (slice_set old sender q)
+one_takes sender old p q wish inside stands taken = record {
+  count = length-set old sender q;
+  takes = λ player there. (q, at_set old sender q inside, subst (λ x. TakesOut x wish q) (some p player (sym stands ∙ there)) taken);
+  others = λ k other. beside_set old sender k q other;
+}

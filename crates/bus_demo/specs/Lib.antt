@@ -2,8 +2,11 @@ pub mod Arbitration
 pub mod Delivered
 pub mod Fates
 pub mod Groups
+pub mod Noted
 pub mod Numerals
 pub mod Payloads
 pub mod Playing
+pub mod Publishing
 pub mod Scenario
+pub mod Sending
 pub mod Shown

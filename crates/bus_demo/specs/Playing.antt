@@ -1,11 +1,12 @@
 -- What the players of a bus make of time and of frames.
-use Rattle.std.specs.Prelude.{◌≡◌, ◌≢◌, ◌+◌, ◌-◌, ◌^◌, ◌<◌, ◌≤◌, ℕ, [], List, Option, None, Some, length, min, slice_get}
+use Rattle.std.specs.Prelude.{◌≡◌, ◌≢◌, ◌+◌, ◌-◌, ◌^◌, ◌<◌, ◌≤◌, ℕ, [], IsSome, List, Option, None, Some, length, min, slice_get}
 use Rattle.j39_frame.specs.Frame.{FrameRecord}
 use Rattle.j39_address.specs.Node.{Node}
 use Rattle.j39_controller.specs.Controller.{HasNode, Hears, KeepsButReceived, KeepsButTold, Passes, Turns}
 use Rattle.j39_controller.specs.Controller.{received_in, told_in}
 use Rattle.j39_controller.specs.MaySend.{held_in}
 use Rattle.j39_controller.specs.declared.controller.Controller.{Controller}
+use Rattle.bus_demo.specs.Publishing.{AreDueAgain}
 use Rattle.bus_demo.specs.declared.bus.player.Player.{Player}
 
 -- the player's controller heard the frame, and what it received and how its messages ended was noted
@@ -27,6 +28,8 @@ pub record IsTurned (old : Player) (micros : ℕ) (new : Player) : Type 0 where
   pub published : Controller
   pub silent : (node : Node) → HasNode passed node → held_in node.status ≡ None
       → (published ≡ passed) × (new.publisher ≡ old.publisher)
+  pub measures : (node : Node) → HasNode passed node → IsSome (held_in node.status)
+      → AreDueAgain micros old.publisher.rates new.publisher.rates
   pub turned : Controller
   pub turns : (node : Node) → HasNode published node → Turns published micros (held_in node.status) turned
   pub settles : KeepsButTold turned new.controller

@@ -1,7 +1,12 @@
 //! The bus: one frame at a time, and a clock in microseconds.
-ghost use Rattle.std.specs.Prelude.{◌≡◌, ◌≤◌, ◌<◌, ◌+◌, ◌*◌, ◌^◌, [], OnOk, true};
+ghost use Rattle.std.specs.Prelude.{◌≡◌, ◌≤◌, ◌<◌, ◌+◌, ◌*◌, ◌^◌, ◌++◌, ◌∷◌, [], OnOk, true};
 ghost use Rattle.j39_frame.specs.Stamp.{stamp_micros};
+ghost use Rattle.j39_io.specs.Chars.{newline};
+ghost use Rattle.j39_io.specs.Puts.{Puts};
+ghost use Rattle.j39_io.specs.Turn.{turn};
+ghost use Rattle.j39_log.specs.Canonical.{line_text};
 ghost use Rattle.bus_demo.specs.Playing.{AreTold};
+ghost use Rattle.bus_demo.specs.Sending.{Goes, IsSeen, Sends, Steps, TakesAt};
 
 mod arbitration;
 pub(crate) mod book;
@@ -13,7 +18,7 @@ pub(crate) mod scenario;
 
 use arbitration::winner;
 use book::{Book, Fate};
-use j39_controller::Wish;
+use j39_controller::{MessageFrame, Wish};
 use j39_frame::{Frame, Id, Stamp};
 use j39_io::{DeviceFault, Sink, put_all};
 use j39_log::{Bus as Interface, line_of};
@@ -108,6 +113,7 @@ impl<'a> Bus<'a> {
 
     /// Lets each controller take its turn, and then sends the frame that wins the bus.
     fn step<W: Sink>(&mut self, log: &mut W) -> Result<(), BusFault>
+        ensures steps { OnOk result (Steps self.old self.new (turn W.written W.has_failed log.old log.new)) }
         ensures goes_on { OnOk result (stamp_micros self.old.now + 1000 < 10 ^ 16
             → stamp_micros self.old.now < stamp_micros self.new.now) }
         ensures lose { self.new.lose ≡ self.old.lose }
@@ -135,52 +141,84 @@ impl<'a> Bus<'a> {
         Ok(())
     }
 
-    /// Sends the frame that a controller wishes to send. It is seen at its end.
+    /// Sends the frame that a controller wishes to send, where it still may.
     fn send<W: Sink>(&mut self, sender: usize, log: &mut W) -> Result<(), BusFault>
+        ensures sends { OnOk result (Sends sender self.old self.new
+            (turn W.written W.has_failed log.old log.new)) }
         ensures goes_on { OnOk result (stamp_micros self.old.now + 1000 < 10 ^ 16
             → stamp_micros self.old.now < stamp_micros self.new.now) }
         ensures lose { self.new.lose ≡ self.old.lose }
     {
-        let Some(Wish { frame, part }) = self.take_frame(sender) else {
-            self.now = later(self.now, 1);
-            return Ok(());
-        };
+        match self.take_frame(sender) {
+            Some(wish) => self.carry(sender, wish, log),
+            None => {
+                self.now = later(self.now, 1);
+                Ok(())
+            }
+        }
+    }
+
+    /// The frame that a controller wishes to send, where it still may.
+    fn take_frame(&mut self, sender: usize) -> Option<Wish>
+        ensures takes { TakesAt sender self.old.controllers.items result self.new.controllers.items }
+        ensures rest { self.new ≡ record self.old { controllers = self.new.controllers } }
+    {
+        self.controllers.get_mut(sender)?.take_frame()
+    }
+
+    /// Carries a frame, which is seen at its end, or lost.
+    fn carry<W: Sink>(&mut self, sender: usize, wish: Wish, log: &mut W) -> Result<(), BusFault>
+        ensures goes { OnOk result (Goes sender wish.frame self.old self.new
+            (turn W.written W.has_failed log.old log.new)) }
+        ensures goes_on { OnOk result (stamp_micros self.old.now + 1000 < 10 ^ 16
+            → stamp_micros self.old.now < stamp_micros self.new.now) }
+        ensures lose { self.new.lose ≡ self.old.lose }
+    {
+        let Wish { frame, part } = wish;
         self.now = later(self.now, frame_time(frame.bytes.len()));
         self.frames = self.frames.saturating_add(1);
         let is_lost = self.lose.contains(&self.frames);
-        if let Some(part) = part {
-            if is_lost {
-                self.book.settle(part.number, Fate::Lost);
-            } else {
-                self.book.seen(part, self.now);
-            }
+        self.note(part, is_lost);
+        if is_lost {
+            return Ok(());
         }
         let seen = Frame {
             stamp: self.now,
             id: frame.id,
             bytes: frame.bytes,
         };
-        if is_lost {
-            return Ok(());
-        }
-        put_all(log, line_of(&seen, &self.interface).as_slice())?;
-        put_all(log, b"\n")?;
-        self.tell(sender, &seen)?;
-        Ok(())
+        self.show(sender, &seen, log)
     }
 
-    /// The frame that a controller wishes to send, where it still may.
-    fn take_frame(&mut self, sender: usize) -> Option<Wish>
+    /// Notes in the book that a frame of a message was seen, or lost.
+    fn note(&mut self, part: Option<MessageFrame>, is_lost: bool)
+        ensures rest { self.new ≡ record self.old { book = self.new.book } }
+    {
+        match part {
+            Some(part) if is_lost => self.book.settle(part.number, Fate::Lost),
+            Some(part) => self.book.seen(part, self.now),
+            None => {}
+        }
+    }
+
+    /// Shows a frame: it is a line of the log, and the other controllers hear it.
+    fn show<W: Sink>(&mut self, sender: usize, frame: &Frame, log: &mut W) -> Result<(), BusFault>
+        ensures seen { OnOk result (IsSeen sender frame.now self.old.interface
+            self.old.controllers.items self.new.controllers.items (turn W.written W.has_failed log.old log.new)) }
         ensures now { self.new.now ≡ self.old.now }
+        ensures frames { self.new.frames ≡ self.old.frames }
         ensures lose { self.new.lose ≡ self.old.lose }
     {
-        self.controllers.get_mut(sender)?.take_frame()
+        put_line(frame, &self.interface, log)?;
+        self.tell(sender, frame)?;
+        Ok(())
     }
 
     /// All controllers but its sender hear a frame, each once.
     fn tell(&mut self, sender: usize, frame: &Frame) -> Result<(), AllocError>
         ensures told { OnOk result (AreTold sender frame.now self.old.controllers.items self.new.controllers.items) }
         ensures now { self.new.now ≡ self.old.now }
+        ensures frames { self.new.frames ≡ self.old.frames }
         ensures lose { self.new.lose ≡ self.old.lose }
     {
         for place in 0..self.controllers.len() {
@@ -211,6 +249,14 @@ impl<'a> Bus<'a> {
     {
         self.controllers.as_slice()
     }
+}
+
+/// Writes a frame as a line of a log.
+fn put_line<W: Sink>(frame: &Frame, bus: &Interface, log: &mut W) -> Result<(), DeviceFault>
+    ensures { Puts (line_text frame.now bus.now ++ newline ∷ []) result (turn W.written W.has_failed log.old log.new) }
+{
+    put_all(log, line_of(frame, bus).as_slice())?;
+    put_all(log, b"\n")
 }
 
 /// How long a frame of so many bytes takes, in microseconds.

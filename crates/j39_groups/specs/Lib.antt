@@ -13,6 +13,7 @@ pub mod Printed
 pub mod Lines
 -- what the code's values show
 pub mod Models
+pub mod GivenRows
 pub mod Visits
 -- the code's steps, below the rules
 pub mod Fields

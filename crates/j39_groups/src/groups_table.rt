@@ -7,6 +7,7 @@ ghost use Rattle.std.proofs.Props.{props};
 ghost use Rattle.j39_frame.specs.Pgn.{pgn_raw};
 ghost use Rattle.j39_io.specs.Puts.{Puts};
 ghost use Rattle.j39_io.specs.Turn.{turn};
+ghost use Rattle.j39_groups.specs.GivenRows.{rows_in};
 ghost use Rattle.j39_groups.specs.Lines.{in_group, reading_line};
 ghost use Rattle.j39_groups.specs.Models.{listed_rows, row_record};
 ghost use Rattle.j39_groups.specs.Names.{group_name_in, name_in, parameter_name};
@@ -67,9 +68,9 @@ impl<'t> Groups<'t> {
     /// The table of these rows, by rising groups; the rows of a group stay in their order. An `Err` comes for want of
     /// memory alone, and of 20 rows none does.
     pub fn from_rows(rows: Rows<'t>) -> Result<Groups<'t>, AllocError>
-        ensures kept { IfOk result (λ groups. HaveSameGroups groups rows.entry) }
+        ensures kept { IfOk result (λ groups. HaveSameGroups groups (rows_in rows.entry)) }
         ensures sorted { IfOk result (λ groups. IsNonDecreasingBy (λ row. row.pgn) groups) }
-        ensures made { length rows.entry ≤ 20 → IsOk result }
+        ensures made { length (rows_in rows.entry) ≤ 20 → IsOk result }
     {
         let mut list = rows.list;
         list.sort()?;

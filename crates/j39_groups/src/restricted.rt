@@ -1,6 +1,7 @@
 //! The rows of some parameters, out of a table.
 ghost use Rattle.std.specs.Prelude.{◌≡◌, ◌<◌, ◌≤◌, IfOk, OnErr, length, map, true};
 ghost use Rattle.std.specs.List.{list_all};
+ghost use Rattle.j39_groups.specs.GivenRows.{rows_in};
 ghost use Rattle.j39_groups.specs.Models.{row_record};
 ghost use Rattle.j39_groups.specs.Readings.{is_among, rows_of_spns};
 ghost use Rattle.j39_groups.specs.Rows.{is_row};
@@ -18,7 +19,7 @@ pub(crate) fn restricted_rows<'t>(
 ) -> Result<Rows<'t>, AllocError>
     requires few { length rows.now ≤ 65536 }
     requires sound { list_all is_row rows.now ≡ true }
-    ensures kept { IfOk result (λ kept. kept ≡ rows_of_spns spns.now (map row_record rows.now)) }
+    ensures kept { IfOk result (λ kept. rows_in kept ≡ rows_of_spns spns.now (map row_record rows.now)) }
     ensures wanted { OnErr result (0 < length (rows_of_spns spns.now (map row_record rows.now))) }
 {
     let mut kept = Rows::new(alloc);

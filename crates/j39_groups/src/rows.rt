@@ -7,7 +7,6 @@ ghost use Rattle.j39_groups.specs.Rows.{is_row};
 use crate::row::Row;
 use j39_memory::List;
 use std::alloc::{AllocError, Global};
-use std::marker::Model;
 
 /// Rows in the order in which they were put, 65,536 at most.
 #[derive(Drop)]
@@ -16,24 +15,16 @@ pub struct Rows<'t> {
     pub(crate) ghost sound: { list_all is_row (items_of list) ≡ true },
 }
 
-impl<'t> Model for Rows<'t> {
-    ghost use Rattle.std.specs.Prelude.{List, map};
-    ghost use Rattle.j39_memory.specs.Items.{items_of};
-    ghost use Rattle.j39_groups.specs.Models.{row_record};
-    ghost use Rattle.j39_groups.specs.Row.{RowRecord};
-
-    ghost Value = { List RowRecord };
-
-    ghost view = { λ rows. map row_record (items_of rows.list) };
-}
-
 impl<'t> Rows<'t> {
     ghost use Rattle.std.specs.Prelude.{◌<◌, ◌≤◌, ◌++◌, ◌∷◌, [], OnErr, OnOk, length};
+    ghost use Rattle.j39_memory.specs.Items.{first_places};
+    ghost use Rattle.j39_groups.specs.GivenRows.{places_for, rows_in};
     ghost use Rattle.j39_groups.specs.Models.{row_record};
 
     /// No rows. It takes no memory.
     pub fn new(alloc: Global) -> Rows<'t>
-        ensures { result ≡ [] }
+        ensures rows { rows_in result ≡ [] }
+        ensures places { places_for result ≡ first_places }
     {
         Rows {
             list: List::new(alloc),
@@ -42,7 +33,7 @@ impl<'t> Rows<'t> {
 
     /// How many rows there are.
     pub fn len(&self) -> usize
-        ensures value { result ≡ length self.now }
+        ensures value { result ≡ length (rows_in self.now) }
         ensures few { result ≤ 65536 }
     {
         self.list.len()
@@ -52,9 +43,10 @@ impl<'t> Rows<'t> {
     /// else.
     pub fn push(&mut self, row: Row<'t>) -> Result<(), AllocError>
         requires row { is_row row ≡ true }
-        requires room { length self.old < 65536 }
-        ensures ok { OnOk result (self.new ≡ self.old ++ row_record row.entry ∷ []) }
-        ensures err { OnErr result (self.new ≡ self.old) }
+        requires room { length (rows_in self.old) < 65536 }
+        ensures ok { OnOk result (rows_in self.new ≡ rows_in self.old ++ row_record row.entry ∷ []) }
+        ensures err { OnErr result (rows_in self.new ≡ rows_in self.old) }
+        ensures full { OnErr result (places_for self.old ≤ length (rows_in self.old)) }
     {
         self.list.push(row)
     }

@@ -134,9 +134,10 @@ impl<T: Write> Sink for Told<T> {
     }
 }
 
-/// Writes all of the bytes, by as many writes as it takes. After a fault a front of them was written.
+/// Writes all of the bytes, by as many writes as it takes, and flushes none. After a fault a front of them was written.
 pub fn put_all<S: Sink>(sink: &mut S, bytes: &[u8]) -> Result<(), DeviceFault>
-    ensures { Puts bytes.now result (turn S.written S.has_failed sink.old sink.new) }
+    ensures puts { Puts bytes.now result (turn S.written S.has_failed sink.old sink.new) }
+    ensures waits { OnOk result (0 < length bytes.now → S.is_flushed sink.new ≡ false) }
 {
     let mut rest = bytes;
     while !rest.is_empty() {

@@ -48,10 +48,7 @@ pub limit_headed : (head : List ℕ) (makes : Making) (limit : ℕ) (given remai
     → StopsAtLimit (Headed head makes) limit given remaining remaining' old new
 limit_headed head makes limit given remaining remaining' old mid new first s = record {
   taken = s.taken;
-  read = s.read;
-  consumed = s.consumed;
-  fits = s.fits;
-  passes = s.passes;
+  passed = s.passed;
   written = front_headed head makes given s.taken old mid new first s.written;
 }
 

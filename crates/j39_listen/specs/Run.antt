@@ -47,14 +47,19 @@ pub record TakesWithin (limit : ℕ) (remaining remaining' : Option (List ℕ)) 
   pub consumed : Consumes remaining remaining' taken
   pub fits : length taken ≤ limit
 
--- a run stopped at the read that passes the limit: what it wrote is a front of what is made of the bytes before that read
-pub record StopsAtLimit (makes : Making) (limit : ℕ)
-    (given remaining remaining' old new : Option (List ℕ)) : Type 0 where
-  pub taken : List ℕ
+-- a run took these bytes, which are within the limit, and then those of the one read that passes it
+pub record PassesLimit (limit : ℕ) (remaining remaining' : Option (List ℕ)) (taken : List ℕ) : Type 0 where
   pub read : List ℕ
   pub consumed : Consumes remaining remaining' (taken ++ read)
   pub fits : length taken ≤ limit
   pub passes : limit < length (taken ++ read)
+  pub piece : length read ≤ 65536
+
+-- a run stopped at the read that passes the limit: what it wrote is a front of what is made of the bytes before that read
+pub record StopsAtLimit (makes : Making) (limit : ℕ)
+    (given remaining remaining' old new : Option (List ℕ)) : Type 0 where
+  pub taken : List ℕ
+  pub passed : PassesLimit limit remaining remaining' taken
   pub written : WritesFront makes given taken old new
 
 -- a run over the log wrote a line for each of these entries, which tell of publishers what was published in the log's

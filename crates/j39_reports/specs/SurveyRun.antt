@@ -5,8 +5,9 @@ use Rattle.j39_io.specs.Device.{AppendsFront}
 use Rattle.j39_io.specs.Turn.{Turn}
 use Rattle.j39_groups.specs.Row.{RowRecord}
 use Rattle.j39_listen.specs.Ran.{Ended}
+use Rattle.j39_listen.specs.Run.{PassesLimit}
 use Rattle.j39_listen.specs.declared.running.RunFault.{RunFault}
-use Rattle.j39_listen.specs.declared.running.RunFault.TheVariants.{Memory, Write}
+use Rattle.j39_listen.specs.declared.running.RunFault.TheVariants.{Memory, TooLong, Write}
 use Rattle.j39_reports.specs.LogLines.{AreLogLines, LogLine}
 use Rattle.j39_reports.specs.SurveyText.{survey_text}
 
@@ -36,6 +37,8 @@ pub record Surveyed {T : Type 0} (table : List RowRecord) (limit : ℕ) (result 
   pub writes : OnOk result (IfSome log.old.bytes (λ bytes. WritesSurvey table bytes out.old.bytes out.new.bytes))
   -- memory is wanted before the first read
   pub memory : result ≡ Err Memory → log.new.bytes ≡ log.old.bytes
+  -- under `TooLong` the last read passed the limit
+  pub at_limit : result ≡ Err TooLong → (taken : List ℕ) × PassesLimit limit log.old.bytes log.new.bytes taken
   -- before the end of the log nothing is written
   pub silent : OnErr result (result ≢ Err Write → out.new.bytes ≡ out.old.bytes)
   -- before a fault of the writer it wrote a front of the survey of the whole log

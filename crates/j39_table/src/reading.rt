@@ -1,5 +1,6 @@
 //! A whole table.
 ghost use Rattle.std.specs.Prelude.{Err, ◌≡◌, ◌≤◌, ◌<◌, ◌++◌, ◌∷◌, [], IfOk, IfErr, MatchResult, OnOk, length};
+ghost use Rattle.j39_groups.specs.GivenRows.{rows_in};
 ghost use Rattle.j39_table.specs.Tables.{IsFaultOf, IsTableOf, SpellRows, bare_line, is_row_line, lines_of, row_lines};
 ghost use Rattle.j39_table.specs.RowsSoFar.{IsLineRead};
 ghost use Rattle.j39_table.specs.declared.fault.TableFault.TheVariants.{TooLong};
@@ -37,7 +38,7 @@ pub fn read(alloc: Global, text: &[u8]) -> Result<Groups<'_>, TableFault>
 
 fn rows_in(alloc: Global, text: &[u8]) -> Result<Rows<'_>, TableFault>
     requires { length text.now ≤ 1048576 }
-    ensures rows { IfOk result (λ rows. SpellRows (row_lines (lines_of text.now)) rows) }
+    ensures rows { IfOk result (λ rows. SpellRows (row_lines (lines_of text.now)) (rows_in rows)) }
     ensures wrong { IfErr result (λ fault. IsFaultOf text.now fault) }
 {
     let mut rows = Rows::new(alloc);
@@ -57,7 +58,7 @@ fn rows_in(alloc: Global, text: &[u8]) -> Result<Rows<'_>, TableFault>
 
 /// Appends the row that a line spells.
 fn push_row<'t>(rows: &mut Rows<'t>, number: u32, line: &'t [u8]) -> Result<(), TableFault>
-    ensures { IsLineRead rows.old rows.new number line.entry.now result }
+    ensures { IsLineRead (rows_in rows.old) (rows_in rows.new) number line.entry.now result }
 {
     if rows.len() >= MOST {
         return Err(TableFault::TooManyRows(number));

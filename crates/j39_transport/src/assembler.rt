@@ -11,7 +11,7 @@ ghost use Rattle.j39_transport.specs.Boxes.{WantsMemory};
 ghost use Rattle.j39_transport.specs.Stands.{Stands};
 ghost use Rattle.j39_transport.specs.Signals.{said_by};
 ghost use Rattle.j39_transport.specs.Sessions.{stored_in};
-ghost use Rattle.j39_transport.specs.AssemblerStep.{fed, answer, LacksBox, new_assembler, forgot, messages_open, bytes_held};
+ghost use Rattle.j39_transport.specs.AssemblerStep.{fed, answer, LacksBox, new_assembler, forgot, messages_open, bytes_held, spare_after};
 ghost use Rattle.j39_transport.specs.AssemblerModel.{outcome_by, CanLend, outcome_of};
 
 use crate::message::{Fed, Message};
@@ -74,7 +74,8 @@ impl Assembler {
         ensures refused { OnErr result (IsAnnouncement frame.now) }
         ensures wanted { OnErr result ((E : List Event) → Stands E self.old → WantsMemory E frame.now) }
         ensures* after { sem 𝓛 (Rests the_row self.entry (λ n. MatchResult result
-            (λ _. (E : List Event) → Stands E self.old → Stands (E ++ Came frame.now ∷ []) n)
+            (λ _. ((E : List Event) → Stands E self.old → Stands (E ++ Came frame.now ∷ []) n)
+            × (n.has_spare ≡ spare_after self.old.sessions self.old.has_spare frame.now (said_by frame.now)))
             (λ _. n ≡ self.old))) }
     {
         self.step(frame)

@@ -1,5 +1,5 @@
 //! A controller of the demo: the stack's own, with what it sends of its own accord.
-ghost use Rattle.std.specs.Prelude.{◌≡◌, ◌↔◌, ◌∷◌, ◌+◌, ◌<◌, ◌≤◌, ◌^◌, [], IfSome, IsOk, IsSome, List, None, OnOk, Some, drop, length};
+ghost use Rattle.std.specs.Prelude.{◌≡◌, ◌↔◌, ◌∷◌, ◌++◌, ◌+◌, ◌<◌, ◌≤◌, ◌^◌, [], IfSome, IsOk, IsSome, List, None, OnOk, Some, drop, length};
 ghost use Rattle.std.specs.Option.{option_map};
 ghost use Rattle.j39_frame.specs.Address.{IsAddress};
 ghost use Rattle.j39_frame.specs.Identifier.{id_raw};
@@ -11,14 +11,18 @@ ghost use Rattle.j39_controller.specs.Controller.{begun_in, received_in, told_in
 ghost use Rattle.j39_controller.specs.MaySend.{MaySend, held_in};
 ghost use Rattle.j39_controller.specs.Outbox.{first_id};
 ghost use Rattle.j39_controller.specs.declared.outbox.Wish.{Wish};
+ghost use Rattle.j39_controller.specs.Controller.{Hears};
+ghost use Rattle.j39_controller.specs.declared.controller.Controller.{Controller};
+ghost use Rattle.bus_demo.specs.Noted.{IsNoted, done_among, transfers_in};
 ghost use Rattle.bus_demo.specs.Playing.{IsHeard, IsTurned};
+ghost use Rattle.bus_demo.specs.Publishing.{AreDueAgain};
 
 use crate::bus::book::{Book, Fate};
 use crate::bus::gauges::Gauges;
 use crate::bus::publisher::Publisher;
 use crate::bus::role::Role;
 use j39_address::Name;
-use j39_controller::{Controller, Ending, Wish};
+use j39_controller::{Controller, Ending, Received, Settled, Wish};
 use j39_frame::{Frame, GLOBAL_ADDRESS, Id, Stamp};
 use std::alloc::{AllocError, Global};
 
@@ -113,6 +117,9 @@ impl Player {
     fn publish(&mut self, now: Stamp, book: &mut Book) -> Result<(), AllocError>
         ensures silent { (node : Node) → HasNode self.old.controller node → held_in node.status ≡ None
             → self.new ≡ self.old }
+        ensures measures { OnOk result ((node : Node) → HasNode self.old.controller node
+            → IsSome (held_in node.status)
+            → AreDueAgain (stamp_micros now) self.old.publisher.rates self.new.publisher.rates) }
         ensures rest { self.new ≡ record self.old { controller = self.new.controller; publisher = self.new.publisher } }
     {
         match self.controller.held() {
@@ -126,6 +133,8 @@ impl Player {
     /// Hears a frame that another controller sent.
     pub fn hear(&mut self, frame: &Frame, book: &mut Book) -> Result<(), AllocError>
         ensures heard { OnOk result (IsHeard self.old frame.now self.new) }
+        ensures noted { OnOk result ((heard : Controller) × Hears self.old.controller frame.now heard
+            × IsNoted heard book.old book.new) }
         ensures count { length book.new.handed.items ≡ length book.old.handed.items }
         ensures rest { self.new ≡ record self.old { controller = self.new.controller } }
     {
@@ -137,14 +146,15 @@ impl Player {
     /// Notes the transfers that were received.
     fn deliver(&mut self, book: &mut Book) -> Result<(), AllocError>
         ensures all { OnOk result (received_in self.new.controller ≡ []) }
+        ensures noted { OnOk result (book.new.deliveries.items
+            ≡ book.old.deliveries.items ++ transfers_in (received_in self.old.controller)) }
+        ensures done { book.new.done ≡ book.old.done }
         ensures kept { KeepsButReceived self.old.controller self.new.controller }
         ensures count { length book.new.handed.items ≡ length book.old.handed.items }
         ensures rest { self.new ≡ record self.old { controller = self.new.controller } }
     {
         while let Some(received) = self.controller.take_received() {
-            if received.destination != GLOBAL_ADDRESS {
-                book.deliver(received)?;
-            }
+            note_received(received, book)?;
         }
         Ok(())
     }
@@ -152,17 +162,49 @@ impl Player {
     /// Notes how messages ended.
     fn settle(&mut self, book: &mut Book) -> Result<(), AllocError>
         ensures all { OnOk result (told_in self.new.controller ≡ []) }
+        ensures noted { OnOk result (book.new.done.items
+            ≡ book.old.done.items ++ done_among (told_in self.old.controller)) }
+        ensures deliveries { book.new.deliveries ≡ book.old.deliveries }
         ensures kept { KeepsButTold self.old.controller self.new.controller }
         ensures count { length book.new.handed.items ≡ length book.old.handed.items }
         ensures rest { self.new ≡ record self.old { controller = self.new.controller } }
     {
         while let Some(settled) = self.controller.take_settled() {
-            match settled.ending {
-                Ending::Done => book.count_done(settled.number)?,
-                Ending::Failed(_) => book.settle(settled.number, Fate::Lost),
-                Ending::Withdrawn => book.settle(settled.number, Fate::Withdrawn),
-            }
+            note_settled(settled, book)?;
         }
         Ok(())
+    }
+}
+
+/// Notes what was received, where it is a transfer.
+fn note_received(received: Received, book: &mut Book) -> Result<(), AllocError>
+    ensures noted { OnOk result (book.new.deliveries.items
+        ≡ book.old.deliveries.items ++ transfers_in (received ∷ [])) }
+    ensures done { book.new.done ≡ book.old.done }
+    ensures count { length book.new.handed.items ≡ length book.old.handed.items }
+{
+    if received.destination != GLOBAL_ADDRESS {
+        book.deliver(received)
+    } else {
+        Ok(())
+    }
+}
+
+/// Notes how a message ended.
+fn note_settled(settled: Settled, book: &mut Book) -> Result<(), AllocError>
+    ensures noted { OnOk result (book.new.done.items ≡ book.old.done.items ++ done_among (settled ∷ [])) }
+    ensures deliveries { book.new.deliveries ≡ book.old.deliveries }
+    ensures count { length book.new.handed.items ≡ length book.old.handed.items }
+{
+    match settled.ending {
+        Ending::Done => book.count_done(settled.number),
+        Ending::Failed(_) => {
+            book.settle(settled.number, Fate::Lost);
+            Ok(())
+        }
+        Ending::Withdrawn => {
+            book.settle(settled.number, Fate::Withdrawn);
+            Ok(())
+        }
     }
 }

@@ -1,6 +1,8 @@
 //! What a controller sends: single frames again and again, and planned messages, long ones among them.
-ghost use Rattle.std.specs.Prelude.{◌≡◌};
+ghost use Rattle.std.specs.Prelude.{◌≡◌, ◌<◌, ◌⊎◌, ℕ, IsOk, None, OnOk, drop, slice_get};
 ghost use Rattle.j39_address.specs.Name.{name_raw};
+ghost use Rattle.j39_frame.specs.Stamp.{stamp_micros};
+ghost use Rattle.bus_demo.specs.Publishing.{AreDueAgain, AreNoted, IsQuiet, group_due, plan_due, rate_after};
 
 use crate::bus::book::{Book, Fate, Handed};
 use crate::bus::gauges::{Gauges, Group};
@@ -48,7 +50,14 @@ impl Publisher {
         now: Stamp,
         controller: &mut Controller,
         book: &mut Book,
-    ) -> Result<(), AllocError> {
+    ) -> Result<(), AllocError>
+        ensures noted { OnOk result (AreNoted (name_raw self.old.name) book.old.handed.items book.new.handed.items) }
+        ensures due { OnOk result (AreDueAgain (stamp_micros now) self.old.rates self.new.rates) }
+        ensures plans { OnOk result ((self.new.plans.now ≡ self.old.plans.now)
+            ⊎ (self.new.plans.now ≡ drop 1 self.old.plans.now)) }
+        ensures quiet { IsQuiet (stamp_micros now) self.old → IsOk result × (self.new ≡ self.old)
+            × (controller.new ≡ controller.old) × (book.new ≡ book.old) }
+    {
         self.measure(address, now, controller, book)?;
         self.begin(now, controller, book)
     }
@@ -60,28 +69,62 @@ impl Publisher {
         now: Stamp,
         controller: &mut Controller,
         book: &mut Book,
-    ) -> Result<(), AllocError> {
+    ) -> Result<(), AllocError>
+        ensures noted { OnOk result (AreNoted (name_raw self.old.name) book.old.handed.items book.new.handed.items) }
+        ensures due { OnOk result (AreDueAgain (stamp_micros now) self.old.rates self.new.rates) }
+        ensures quiet { ((k : ℕ) → group_due (stamp_micros now) (slice_get self.old.rates k) ≡ None)
+            → IsOk result × (self.new ≡ self.old) × (controller.new ≡ controller.old) × (book.new ≡ book.old) }
+        ensures rest { self.new ≡ record self.old { gauges = self.new.gauges; rates = self.new.rates } }
+    {
         for place in 0..self.rates.len() {
-            let Some(group) = self.due_group(place, now) else {
-                continue;
-            };
-            let Some(payload) = self.gauges.payload(group) else {
-                continue;
-            };
-            if let Some(frame) = frame_of(group.priority(), group.pgn(), address, &payload, now) {
-                self.send_single(frame, controller, book)?;
-            }
+            self.measure_at(place, address, now, controller, book)?;
         }
         Ok(())
     }
 
+    /// Sends the group of this place, where it is due.
+    fn measure_at(
+        &mut self,
+        place: usize,
+        address: u8,
+        now: Stamp,
+        controller: &mut Controller,
+        book: &mut Book,
+    ) -> Result<(), AllocError>
+        requires { place < 3 }
+        ensures noted { OnOk result (AreNoted (name_raw self.old.name) book.old.handed.items book.new.handed.items) }
+        ensures rate { slice_get self.new.rates place ≡ rate_after (stamp_micros now) (slice_get self.old.rates place) }
+        ensures others { (k : ℕ) → (k ≡ place → ⊥) → slice_get self.new.rates k ≡ slice_get self.old.rates k }
+        ensures quiet { group_due (stamp_micros now) (slice_get self.old.rates place) ≡ None
+            → IsOk result × (self.new ≡ self.old) × (controller.new ≡ controller.old) × (book.new ≡ book.old) }
+        ensures rest { self.new ≡ record self.old { gauges = self.new.gauges; rates = self.new.rates } }
+    {
+        let Some(group) = self.due_group(place, now) else {
+            return Ok(());
+        };
+        let Some(payload) = self.gauges.payload(group) else {
+            return Ok(());
+        };
+        match frame_of(group.priority(), group.pgn(), address, &payload, now) {
+            Some(frame) => self.send_single(frame, controller, book),
+            None => Ok(()),
+        }
+    }
+
     /// The group of this place, where it is due, and then not again before its period is over.
-    fn due_group(&mut self, place: usize, now: Stamp) -> Option<Group> {
-        let rate = self.rates.get_mut(place)?;
+    fn due_group(&mut self, place: usize, now: Stamp) -> Option<Group>
+        requires { place < 3 }
+        ensures group { result ≡ group_due (stamp_micros now) (slice_get self.old.rates place) }
+        ensures rate { slice_get self.new.rates place ≡ rate_after (stamp_micros now) (slice_get self.old.rates place) }
+        ensures others { (k : ℕ) → (k ≡ place → ⊥) → slice_get self.new.rates k ≡ slice_get self.old.rates k }
+        ensures quiet { result ≡ None → self.new ≡ self.old }
+        ensures rest { self.new ≡ record self.old { rates = self.new.rates } }
+    {
+        let rate = self.rates[place];
         if now.micros() < rate.due {
             return None;
         }
-        rate.due = now.micros().saturating_add(rate.period);
+        self.rates[place].due = now.micros().saturating_add(rate.period);
         Some(rate.group)
     }
 
@@ -91,7 +134,9 @@ impl Publisher {
         frame: Frame,
         controller: &mut Controller,
         book: &mut Book,
-    ) -> Result<(), AllocError> {
+    ) -> Result<(), AllocError>
+        ensures { OnOk result (AreNoted (name_raw self.now.name) book.old.handed.items book.new.handed.items) }
+    {
         let number = book.hand_in(Handed {
             name: self.name,
             address: frame.id.source(),
@@ -109,7 +154,13 @@ impl Publisher {
         now: Stamp,
         controller: &mut Controller,
         book: &mut Book,
-    ) -> Result<(), AllocError> {
+    ) -> Result<(), AllocError>
+        ensures noted { OnOk result (AreNoted (name_raw self.old.name) book.old.handed.items book.new.handed.items) }
+        ensures plans { (self.new.plans.now ≡ self.old.plans.now) ⊎ (self.new.plans.now ≡ drop 1 self.old.plans.now) }
+        ensures quiet { plan_due (stamp_micros now) self.old.plans.now ≡ None → IsOk result × (self.new ≡ self.old)
+            × (controller.new ≡ controller.old) × (book.new ≡ book.old) }
+        ensures rest { self.new ≡ record self.old { plans = self.new.plans } }
+    {
         let Some((plan, rest)) = self.plans.split_first() else {
             return Ok(());
         };
@@ -141,7 +192,9 @@ impl Publisher {
         now: Stamp,
         controller: &mut Controller,
         book: &mut Book,
-    ) -> Result<(), AllocError> {
+    ) -> Result<(), AllocError>
+        ensures { OnOk result (AreNoted (name_raw self.now.name) book.old.handed.items book.new.handed.items) }
+    {
         let number = book.hand_in(Handed {
             name: self.name,
             address,

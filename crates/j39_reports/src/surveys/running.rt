@@ -1,8 +1,8 @@
 //! The survey of a log, piece by piece.
-ghost use Rattle.std.specs.Prelude.{◌≡◌, ◌≢◌, ◌<◌, ◌≤◌, [], true, length, IfSome, OnOk, OnErr, Err};
+ghost use Rattle.std.specs.Prelude.{◌≡◌, ◌≢◌, ◌<◌, ◌≤◌, ℕ, List, [], true, length, IfSome, OnOk, OnErr, Err};
 ghost use Rattle.j39_io.specs.Turn.{turn};
 ghost use Rattle.j39_listen.specs.Ran.{Ended, PassesOn};
-ghost use Rattle.j39_listen.specs.Run.{TakesWithin};
+ghost use Rattle.j39_listen.specs.Run.{PassesLimit, TakesWithin};
 ghost use Rattle.j39_listen.specs.declared.running.RunFault.TheVariants.{Memory, Read, TooLong, Write};
 ghost use Rattle.j39_reports.specs.SurveyRun.{StopsWithin, Surveyed, WritesFront, WritesSurvey};
 ghost use Rattle.j39_reports.specs.SurveySoFar.{HasReadLog, HasTaken, TakesSome};
@@ -56,6 +56,8 @@ fn survey_with<R: Source, W: Sink>(
     ensures writes { HasTaken pieces.old [] → OnOk result (IfSome (R.remaining source.old)
         (λ log. WritesSurvey groups.now log (W.written sink.old) (W.written sink.new))) }
     ensures memory { result ≢ Err Memory }
+    ensures at_limit { result ≡ Err TooLong
+        → (taken : List ℕ) × PassesLimit limit (R.remaining source.old) (R.remaining source.new) taken }
     ensures silent { OnErr result (result ≢ Err Write → W.written sink.new ≡ W.written sink.old) }
     ensures cut_short { HasTaken pieces.old [] → result ≡ Err Write → IfSome (R.remaining source.old)
         (λ log. WritesFront groups.now log (W.written sink.old) (W.written sink.new)) }
@@ -81,6 +83,8 @@ fn read_log<R: Source>(pieces: &mut Pieces, source: &mut R, limit: u64) -> Resul
     ensures short { OnOk result (IfSome (R.remaining source.old) (λ log. length log ≤ limit)) }
     ensures took { OnErr result (TakesSome (R.remaining source.old) (R.remaining source.new)) }
     ensures too_long { result ≡ Err TooLong → IfSome (R.remaining source.old) (λ log. limit < length log) }
+    ensures at_limit { result ≡ Err TooLong
+        → (taken : List ℕ) × PassesLimit limit (R.remaining source.old) (R.remaining source.new) taken }
     ensures read { result ≡ Err Read → R.has_failed source.new ≡ true }
     ensures read_unmarked { result ≢ Err Read → R.has_failed source.new ≡ R.has_failed source.old }
     ensures memory { result ≢ Err Memory }

@@ -6,21 +6,21 @@ use Rattle.j39_cli.proofs.refusal.put_line.Goals as goal
 
 pub returns-in_err-put_all : goal.returns-in_err-put_all
 returns-in_err-put_all g c =
-    puts_first (codes "j1939: ") (c.args.words.now ++ (c.args.name.now ++ (newline ∷ []))) _ _ _ c.from_residual.ensures.0 c.in_err-put_all.ensures
+    puts_first (codes "j1939: ") (c.args.words.now ++ (c.args.name.now ++ (newline ∷ []))) _ _ _ c.from_residual.ensures.0 c.in_err-put_all.ensures.puts
 
 pub returns-in_err-put_all-2 : goal.returns-in_err-put_all-2
 returns-in_err-put_all-2 g c =
-    puts_then (codes "j1939: ") _ _ _ _ _ _ c.in_ok-put_all.ensures
-    (puts_first c.args.words.now (c.args.name.now ++ (newline ∷ [])) _ _ _ c.from_residual-in_err-put_all-2.ensures.0 c.in_err-put_all-2.ensures)
+    puts_then (codes "j1939: ") _ _ _ _ _ _ c.in_ok-put_all.ensures.puts
+    (puts_first c.args.words.now (c.args.name.now ++ (newline ∷ [])) _ _ _ c.from_residual-in_err-put_all-2.ensures.0 c.in_err-put_all-2.ensures.puts)
 
 pub returns-in_err-put_all-3 : goal.returns-in_err-put_all-3
 returns-in_err-put_all-3 g c =
-    puts_then (codes "j1939: ") _ _ _ _ _ _ c.in_ok-put_all.ensures
-    (puts_then c.args.words.now _ _ _ _ _ _ c.in_ok-put_all-2.ensures
-    (puts_first c.args.name.now (newline ∷ []) _ _ _ c.from_residual-in_err-put_all-3.ensures.0 c.in_err-put_all-3.ensures))
+    puts_then (codes "j1939: ") _ _ _ _ _ _ c.in_ok-put_all.ensures.puts
+    (puts_then c.args.words.now _ _ _ _ _ _ c.in_ok-put_all-2.ensures.puts
+    (puts_first c.args.name.now (newline ∷ []) _ _ _ c.from_residual-in_err-put_all-3.ensures.0 c.in_err-put_all-3.ensures.puts))
 
 pub returns : goal.returns
 returns g c =
-    puts_then (codes "j1939: ") _ _ _ _ _ _ c.in_ok-put_all.ensures
-    (puts_then c.args.words.now _ _ _ _ _ _ c.in_ok-put_all-2.ensures
-    (puts_then c.args.name.now (newline ∷ []) _ _ _ _ _ c.in_ok-put_all-3.ensures c.put_all-4.ensures))
+    puts_then (codes "j1939: ") _ _ _ _ _ _ c.in_ok-put_all.ensures.puts
+    (puts_then c.args.words.now _ _ _ _ _ _ c.in_ok-put_all-2.ensures.puts
+    (puts_then c.args.name.now (newline ∷ []) _ _ _ _ _ c.in_ok-put_all-3.ensures.puts c.put_all-4.ensures.puts))

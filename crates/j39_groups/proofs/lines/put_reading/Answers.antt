@@ -25,16 +25,16 @@ pub returns-in_err-put_all : goal.returns-in_err-put_all
 returns-in_err-put_all g c =
     let value = value_text (value_of c.args.reading.now.value) in
     let line : c.as_slice.result.now ≡ columns c.args.head.now c.args.reading.now.spn = search rules in
-    puts_first _ (10 ∷ []) _ _ _ c.from_residual.ensures.0 (puts_more _ value _ _ (puts_as _ _ _ _ line c.in_err-put_all.ensures))
+    puts_first _ (10 ∷ []) _ _ _ c.from_residual.ensures.0 (puts_more _ value _ _ (puts_as _ _ _ _ line c.in_err-put_all.ensures.puts))
 
 pub returns-in_err-put_value : goal.returns-in_err-put_value
 returns-in_err-put_value g c =
     let line : c.as_slice.result.now ≡ columns c.args.head.now c.args.reading.now.spn = search rules in
     puts_first _ (10 ∷ []) _ _ _ c.from_residual-in_err-put_value.ensures.0
-    (puts_then (columns c.args.head.now c.args.reading.now.spn) _ _ _ _ _ _ (puts_as _ _ _ _ line c.in_ok-put_all.ensures) c.in_err-put_value.ensures)
+    (puts_then (columns c.args.head.now c.args.reading.now.spn) _ _ _ _ _ _ (puts_as _ _ _ _ line c.in_ok-put_all.ensures.puts) c.in_err-put_value.ensures)
 
 pub returns : goal.returns
 returns g c =
     let line : c.as_slice.result.now ≡ columns c.args.head.now c.args.reading.now.spn = search rules in
-    puts_then _ (10 ∷ []) _ _ _ _ _ (puts_then _ _ _ _ _ _ _ (puts_as _ _ _ _ line c.in_ok-put_all.ensures) c.in_ok-put_value.ensures)
-    c.put_all-2.ensures
+    puts_then _ (10 ∷ []) _ _ _ _ _ (puts_then _ _ _ _ _ _ _ (puts_as _ _ _ _ line c.in_ok-put_all.ensures.puts) c.in_ok-put_value.ensures)
+    c.put_all-2.ensures.puts

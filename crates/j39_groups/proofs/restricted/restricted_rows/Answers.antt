@@ -1,6 +1,7 @@
 -- A row is kept or left out.
 use Rattle.std.proofs.Common.{◌∙◌, Bool, ap, sym, arith, length, length-append}
 use Rattle.j39_io.proofs.DeviceLemmas.{on_err}
+use Rattle.j39_groups.specs.GivenRows.{rows_in}
 use Rattle.j39_groups.specs.Models.{row_record}
 use Rattle.j39_groups.specs.Readings.{is_among, rows_of_spns}
 use Rattle.j39_groups.specs.Row.{RowRecord}
@@ -15,16 +16,16 @@ loop-row-preserved c =
     let p : RowRecord → Bool = λ row. is_among c.args.spns.now row.spn in
     elim c.if-is_among.branch [
       | then-is_among+in_ok-push w ↦ (
-        w.kept-is ∙ w.in_ok-push.ensures.ok ∙ onto _ _ _ c.loop-row.invariant.0
+        ap rows_in w.kept-is ∙ w.in_ok-push.ensures.ok ∙ onto _ _ _ c.loop-row.invariant.0
             ∙ sym (row_kept row_record p rows i _ c.loop-row-test.true (sym c.is_among.ensures ∙ w.if-is_among.true)),
-        (let grown = ap length w.in_ok-push.ensures.ok ∙ length-append c.loop-row.kept _ in
+        (let grown = ap length w.in_ok-push.ensures.ok ∙ length-append (rows_in c.loop-row.kept) _ in
             let before = c.loop-row.invariant.1 in
-            let now = ap length w.kept-is in
+            let now = ap (λ kept. length (rows_in kept)) w.kept-is in
             omega (arith, grown, before, now)),
       )
       | else-is_among w ↦ (
-        w.kept-is ∙ c.loop-row.invariant.0 ∙ sym (row_left_out row_record p rows i _ c.loop-row-test.true (sym c.is_among.ensures ∙ w.if-is_among.false)),
-        (let before = c.loop-row.invariant.1 in let now = ap length w.kept-is in omega (arith, before, now)),
+        ap rows_in w.kept-is ∙ c.loop-row.invariant.0 ∙ sym (row_left_out row_record p rows i _ c.loop-row-test.true (sym c.is_among.ensures ∙ w.if-is_among.false)),
+        (let before = c.loop-row.invariant.1 in let now = ap (λ kept. length (rows_in kept)) w.kept-is in omega (arith, before, now)),
       )
     ]
 

@@ -7,4 +7,4 @@ use Rattle.j39_groups.proofs.text.put_escaped.Goals as goal
 pub returns-in_err-put_all : goal.returns-in_err-put_all
 returns-in_err-put_all g c =
     puts_until byte_text c.args.text.now c.loop-byte.byte-index _ tt _ _ _ _ _ c.loop-byte-test.true c.from_residual.ensures.0
-    c.loop-byte.invariant (puts_as _ _ _ _ (c.as_slice.ensures.value ∙ c.byte_text.ensures) c.in_err-put_all.ensures)
+    c.loop-byte.invariant (puts_as _ _ _ _ (c.as_slice.ensures.value ∙ c.byte_text.ensures) c.in_err-put_all.ensures.puts)

@@ -5,4 +5,4 @@ use Rattle.j39_io.specs.Records.{comma, field_text}
 use Rattle.j39_io.proofs.csv.put_behind_comma.Goals as goal
 
 pub returns : goal.returns
-returns g c = puts_then (comma ∷ []) (field_text c.args.field.now) _ _ _ _ _ c.in_ok-put_all.ensures c.put_field.ensures
+returns g c = puts_then (comma ∷ []) (field_text c.args.field.now) _ _ _ _ _ c.in_ok-put_all.ensures.puts c.put_field.ensures

@@ -7,14 +7,14 @@ use Rattle.j39_io.proofs.csv.put_quoted.Goals as goal
 
 pub returns-in_err-put_all : goal.returns-in_err-put_all
 returns-in_err-put_all g c =
-    puts_first (codes "\"") (flat_map quoted_byte c.args.field.now ++ codes "\"") _ _ _ c.from_residual.ensures.0 c.in_err-put_all.ensures
+    puts_first (codes "\"") (flat_map quoted_byte c.args.field.now ++ codes "\"") _ _ _ c.from_residual.ensures.0 c.in_err-put_all.ensures.puts
 
 pub returns-in_err-put_doubled : goal.returns-in_err-put_doubled
 returns-in_err-put_doubled g c =
-    puts_then (codes "\"") (flat_map quoted_byte c.args.field.now ++ codes "\"") _ _ _ _ _ c.in_ok-put_all.ensures
+    puts_then (codes "\"") (flat_map quoted_byte c.args.field.now ++ codes "\"") _ _ _ _ _ c.in_ok-put_all.ensures.puts
     (puts_first (flat_map quoted_byte c.args.field.now) (codes "\"") _ _ _ c.from_residual-in_err-put_doubled.ensures.0 c.in_err-put_doubled.ensures)
 
 pub returns : goal.returns
 returns g c =
-    puts_then (codes "\"") (flat_map quoted_byte c.args.field.now ++ codes "\"") _ _ _ _ _ c.in_ok-put_all.ensures
-    (puts_then (flat_map quoted_byte c.args.field.now) (codes "\"") _ _ _ _ _ c.in_ok-put_doubled.ensures c.put_all-2.ensures)
+    puts_then (codes "\"") (flat_map quoted_byte c.args.field.now ++ codes "\"") _ _ _ _ _ c.in_ok-put_all.ensures.puts
+    (puts_then (flat_map quoted_byte c.args.field.now) (codes "\"") _ _ _ _ _ c.in_ok-put_doubled.ensures c.put_all-2.ensures.puts)

@@ -28,4 +28,4 @@ pub returns : goal.returns
 returns g c =
     puts_then (field_text c.args.first.now ++ laters c.args.later.now) line_end _ _ _ _ _
     (puts_then (field_text c.args.first.now) (laters c.args.later.now) _ _ _ _ _ c.in_ok-put_field.ensures
-    (puts_as _ _ _ _ (laters_are c.args.later.now) c.in_ok-put_later.ensures)) c.put_all.ensures
+    (puts_as _ _ _ _ (laters_are c.args.later.now) c.in_ok-put_later.ensures)) c.put_all.ensures.puts

@@ -10,4 +10,4 @@ loop-rest-preserved g c =
     let rest = c.loop-rest.rest.now in
     let cut = ap (λ xs. inv.0 ++ xs) (sym (take-append-drop n rest)) ∙ sym (append_assoc inv.0 (take n rest) _) in
     let left = ap (λ xs. (inv.0 ++ take n rest) ++ xs) (sym c.split_at.ensures.back) in
-    (inv.0 ++ take n rest, inv.1 ∙ (cut ∙ left), Appends-trans _ _ _ inv.0 (take n rest) inv.2 c.in_ok-n.ensures.bytes, c.in_ok-n.ensures.mark ∙ inv.3)
+    (inv.0 ++ take n rest, inv.1 ∙ (cut ∙ left), Appends-trans _ _ _ inv.0 (take n rest) inv.2 c.in_ok-n.ensures.bytes, c.in_ok-n.ensures.mark ∙ inv.3, λ _. c.in_ok-n.ensures.waits)

@@ -10,10 +10,10 @@ pub returns-in_err-put_all-in-Some-clause-puts : goal.returns-in_err-put_all-in-
 returns-in_err-put_all-in-Some-clause-puts g c =
     puts_failed _ _ _ _ c.from_residual.ensures.0 (puts_as _ _ _ _
     (c.as_slice.ensures.value ∙ c.text_of.ensures ∙ sym (at_some c.args.form c.args.address _ _ c.in-Some.ensures.value))
-    c.in_err-put_all-in-Some.ensures)
+    c.in_err-put_all-in-Some.ensures.puts)
 
 pub returns-in_ok-put_all-in-Some-clause-puts : goal.returns-in_ok-put_all-in-Some-clause-puts
 returns-in_ok-put_all-in-Some-clause-puts g c =
     puts_done _ _ _ _ (puts_as _ _ _ _
     (c.as_slice.ensures.value ∙ c.text_of.ensures ∙ sym (at_some c.args.form c.args.address _ _ c.in-Some.ensures.value))
-    c.in_ok-put_all-in-Some.ensures)
+    c.in_ok-put_all-in-Some.ensures.puts)

@@ -118,10 +118,13 @@ returns-then-n-room-clause-ran g c = λ subject given h.
       memory = λ e. absurd (cc);
       at_limit = λ too_long. record {
         taken = inv.0;
-        read = bytes;
-        consumed = consumed;
-        fits = omega arith;
-        passes = omega (arith, length-append inv.0 bytes, length-take c.in-Ok.n c.pull.new.buf, c.in-Ok.ensures.bound);
+        passed = record {
+          read = bytes;
+          consumed = consumed;
+          fits = omega arith;
+          passes = omega (arith, length-append inv.0 bytes, length-take c.in-Ok.n c.pull.new.buf, c.in-Ok.ensures.bound);
+          piece = omega (arith, length-take c.in-Ok.n c.pull.new.buf, c.in-Ok.ensures.bound);
+        };
         written = front_of_taken (g.A.Account.has_met subject) (g.A.Account.makes subject) (c.laws.ensures.begins subject) given inv.0 c.pieces.pieces _ _ (inv.2 subject given h);
       };
       cut_short = λ e. absurd (cc);

@@ -5,6 +5,7 @@ use Rattle.std.specs.List.{slice_split}
 use Rattle.std.proofs.lemmas.List.{length_push}
 use Rattle.std.proofs.lemmas.Iterator.Splits.{YieldsList-from_slice_split}
 use Rattle.std.proofs.lemmas.Iterator.Consumers.{YieldsList-at, YieldsList-turn, YieldsList-end}
+use Rattle.j39_groups.specs.GivenRows.{rows_in}
 use Rattle.j39_table.proofs.TableLemmas.{all_lines, fault_here, line_at, passed_line, spelled_line}
 use Rattle.j39_table.proofs.reading.rows_in.Goals as goal
 
@@ -19,12 +20,12 @@ loop-whole-preserved-in-Ok c =
     record {
       number_is = (let before = c.loop-whole.invariant.number_is in omega (arith, next, before));
       few =
-          (let after = ap length adds.after_is ∙ length-append c.loop-whole.rows _ in
+          (let after = ap length adds.after_is ∙ length-append (rows_in c.loop-whole.rows) _ in
           let room = adds.room in
           omega (arith, after, room));
       spelled =
           spelled_line (slice_split (λ b. eqb b 10) c.args.text.now) (length c.loop-whole.yielded) _ c.in-Some.whole.now c.bare_line-line.result.now
-          c.loop-whole.rows _ turn.0 next turn.1 c.bare_line-line.ensures
+          (rows_in c.loop-whole.rows) _ turn.0 next turn.1 c.bare_line-line.ensures
           (sym c.is_row_line.ensures ∙ c.if-is_row_line.true) c.loop-whole.invariant.spelled adds;
     }
 
@@ -34,7 +35,7 @@ returns-in-Err-clause-wrong c =
     (YieldsList-from_slice_split _ (λ b. eqb b 10) c.args.text.now c.split-whole-items.ensures.rest c.split-whole-items.ensures.done
     c.split-whole-items.ensures.closure (λ x b q k. search (rules, tests))))
     c.loop-whole.yielded _ c.loop-whole.yielded_by _ _ c.in-Some.whole c.in-Some.is c.next.ensures.steps in
-    fault_here c.args.text.now c.loop-whole.rows (c.loop-whole.number + 1) (length c.loop-whole.yielded) c.bare_line-line.result.now
+    fault_here c.args.text.now (rows_in c.loop-whole.rows) (c.loop-whole.number + 1) (length c.loop-whole.yielded) c.bare_line-line.result.now
     c.in-Err.fault (ap (λ n. n + 1) c.loop-whole.invariant.number_is) c.loop-whole.invariant.spelled
     (rw c.bare_line-line.ensures (line_at (slice_split (λ b. eqb b 10) c.args.text.now) (length c.loop-whole.yielded) c.in-Some.whole.now turn.0 turn.1))
     (sym c.is_row_line.ensures ∙ c.if-is_row_line.true) c.loop-whole.invariant.few c.in-Err.ensures
@@ -51,7 +52,7 @@ loop-whole-preserved c =
       few = c.loop-whole.invariant.few;
       spelled =
           passed_line (slice_split (λ b. eqb b 10) c.args.text.now) (length c.loop-whole.yielded) _ c.in-Some.whole.now c.bare_line-line.result.now
-          c.loop-whole.rows turn.0 next turn.1 c.bare_line-line.ensures (sym c.is_row_line.ensures ∙ c.if-is_row_line.false) c.loop-whole.invariant.spelled;
+          (rows_in c.loop-whole.rows) turn.0 next turn.1 c.bare_line-line.ensures (sym c.is_row_line.ensures ∙ c.if-is_row_line.false) c.loop-whole.invariant.spelled;
     }
 
 pub returns-clause-rows : goal.returns-clause-rows
@@ -60,4 +61,4 @@ returns-clause-rows c =
     (YieldsList-from_slice_split _ (λ b. eqb b 10) c.args.text.now c.split-whole-items.ensures.rest c.split-whole-items.ensures.done
     c.split-whole-items.ensures.closure (λ x b q k. search (rules, tests))))
     c.loop-whole.yielded _ c.loop-whole.yielded_by _ _ c.in-None.is c.next.ensures.steps in
-    all_lines (slice_split (λ b. eqb b 10) c.args.text.now) (length c.loop-whole.yielded) c.loop-whole.rows end.1 c.loop-whole.invariant.spelled
+    all_lines (slice_split (λ b. eqb b 10) c.args.text.now) (length c.loop-whole.yielded) (rows_in c.loop-whole.rows) end.1 c.loop-whole.invariant.spelled

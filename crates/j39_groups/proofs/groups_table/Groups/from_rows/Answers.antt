@@ -17,8 +17,7 @@ returns-clause-kept c = record {
       ap (group_rows pgn) c.of.ensures
       ∙ filter-seen row_record (λ row. row.pgn == pgn) (items_of c.sort.new.self)
       ∙ ap (map row_record) (c.in_ok-sort.ensures.kept pgn)
-      ∙ sym (filter-seen row_record (λ row. row.pgn == pgn) (items_of c.rows.inside.list))
-      ∙ ap (group_rows pgn) c.rows.view_is;
+      ∙ sym (filter-seen row_record (λ row. row.pgn == pgn) (items_of c.args.rows.list));
 }
 
 pub returns-clause-sorted : goal.returns-clause-sorted
@@ -26,4 +25,4 @@ returns-clause-sorted c = subst (IsNonDecreasingBy (λ (row : RowRecord). row.pg
     (sorted_seen row_record (λ (row : RowRecord). row.pgn) (items_of c.sort.new.self) c.in_ok-sort.ensures.sorted)
 
 pub of-requires-clause-sound : goal.of-requires-clause-sound
-of-requires-clause-sound c = all_sorted is_row (λ (row : Row). row.pgn) (items_of c.rows.inside.list) (items_of c.sort.new.self) c.rows.inside.sound c.in_ok-sort.ensures.kept
+of-requires-clause-sound c = all_sorted is_row (λ (row : Row). row.pgn) (items_of c.args.rows.list) (items_of c.sort.new.self) c.args.rows.sound c.in_ok-sort.ensures.kept

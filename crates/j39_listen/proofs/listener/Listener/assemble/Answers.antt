@@ -15,7 +15,7 @@ returns-in-Whole c = (
     refl,
     (λ _. tt),
     (λ none F h.
-        hears_quiet c.args.self.now F c.args.frame.now _ none h (on_ok _ _ _ _ c.in_ok-message.was c.feed.follows.holds-at-none h.events h.stands)),
+        hears_quiet c.args.self.now F c.args.frame.now _ none h ((on_ok _ _ _ _ c.in_ok-message.was c.feed.follows.holds-at-none).0 h.events h.stands)),
   ),
   record {
     heard = λ singles leaves many F h.
@@ -35,7 +35,7 @@ returns-in-Taken c = (
     refl,
     (λ _. tt),
     (λ none F h.
-        hears_quiet c.args.self.now F c.args.frame.now _ none h (on_ok _ _ _ _ c.in_ok-message.was c.feed.follows.holds-at-none h.events h.stands)),
+        hears_quiet c.args.self.now F c.args.frame.now _ none h ((on_ok _ _ _ _ c.in_ok-message.was c.feed.follows.holds-at-none).0 h.events h.stands)),
   ),
   record {
     heard = λ singles leaves many F h. silent_many singles leaves c.args.self.now F c.args.frame.now many h (rw c.in-Taken.is at (c.in_ok-message.ensures.answer h.events h.stands)).1;
@@ -52,7 +52,7 @@ returns-in-Ignored c = (
     refl,
     (λ _. tt),
     (λ none F h.
-        hears_quiet c.args.self.now F c.args.frame.now _ none h (on_ok _ _ _ _ c.in_ok-message.was c.feed.follows.holds-at-none h.events h.stands)),
+        hears_quiet c.args.self.now F c.args.frame.now _ none h ((on_ok _ _ _ _ c.in_ok-message.was c.feed.follows.holds-at-none).0 h.events h.stands)),
   ),
   record {
     heard = λ singles leaves many F h. silent_many singles leaves c.args.self.now F c.args.frame.now many h (rw c.in-Ignored.is at (c.in_ok-message.ensures.answer h.events h.stands)).1;

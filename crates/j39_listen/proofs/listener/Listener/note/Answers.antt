@@ -24,7 +24,7 @@ returns-clause-noted c = λ F h.
     let gone = c.note-changed.result.items in
     let whole : take c.loop-address.address-index c.as_slice-address-items.result.now ≡ gone =
     take_all c.loop-address.address-index c.as_slice-address-items.result.now (omega arith) ∙ c.as_slice-address-items.ensures.value in
-    let fed = on_ok _ _ _ _ c.in_ok-feed.was c.feed.follows.holds-at-none h.events h.stands in
+    let fed = (on_ok _ _ _ _ c.in_ok-feed.was c.feed.follows.holds-at-none).0 h.events h.stands in
     hears_claim c.args.self.now F c.args.frame.now c.loop-address.self.assembler c.loop-address.self.claims gone h
     (c.note-changed.ensures.changed F h.knows)
     (subst (λ (t : Claims). Knows t (F ++ c.args.frame.now ∷ [])) (sym c.loop-address.invariant.1) (c.note-changed.ensures.knows F h.knows))

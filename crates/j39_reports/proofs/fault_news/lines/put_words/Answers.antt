@@ -6,4 +6,4 @@ pub returns-in_err-put_said : goal.returns-in_err-put_said
 returns-in_err-put_said g c = puts_first _ _ _ _ _ c.from_residual.ensures.0 c.in_err-put_said.ensures
 
 pub returns : goal.returns
-returns g c = puts_then _ _ _ _ _ _ _ c.in_ok-put_said.ensures c.put_all.ensures
+returns g c = puts_then _ _ _ _ _ _ _ c.in_ok-put_said.ensures c.put_all.ensures.puts

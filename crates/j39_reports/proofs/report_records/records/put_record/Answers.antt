@@ -10,7 +10,7 @@ use Rattle.j39_reports.proofs.report_records.records.put_record.Goals as goal
 pub returns-in-Some : goal.returns-in-Some
 returns-in-Some g c =
     puts_as _ _ _ _
-    (between_to_end c.record_before.new.out c.in-Some.start 336 (omega arith) ∙ before_end _ _ 336 _ _ (omega arith) c.in-Some.ensures) c.put_all.ensures
+    (between_to_end c.record_before.new.out c.in-Some.start 336 (omega arith) ∙ before_end _ _ 336 _ _ (omega arith) c.in-Some.ensures) c.put_all.ensures.puts
 
 pub record_before-requires : goal.record_before-requires
 record_before-requires g c = c.args.begin.now.inside

@@ -12,21 +12,21 @@ unfolding value_fields
 returns-in_err-put_all g c =
     let value = value_of c.args.value in
     puts_first (comma ∷ bare_text value) (later_text (unit_of value) ++ line_end) _ _ _ c.from_residual.ensures.0
-    (puts_more (comma ∷ []) (bare_text value) _ _ c.in_err-put_all.ensures)
+    (puts_more (comma ∷ []) (bare_text value) _ _ c.in_err-put_all.ensures.puts)
 
 pub returns-in_err-put_bare : goal.returns-in_err-put_bare
 unfolding value_fields
 returns-in_err-put_bare g c =
     let value = value_of c.args.value in
     puts_first (comma ∷ bare_text value) (later_text (unit_of value) ++ line_end) _ _ _ c.from_residual-in_err-put_bare.ensures.0
-    (puts_then (comma ∷ []) (bare_text value) _ _ _ _ _ c.in_ok-put_all.ensures c.in_err-put_bare.ensures)
+    (puts_then (comma ∷ []) (bare_text value) _ _ _ _ _ c.in_ok-put_all.ensures.puts c.in_err-put_bare.ensures)
 
 pub returns-in_err-put_behind_comma : goal.returns-in_err-put_behind_comma
 unfolding value_fields
 returns-in_err-put_behind_comma g c =
     let value = value_of c.args.value in
     puts_then (comma ∷ bare_text value) (later_text (unit_of value) ++ line_end) _ _ _ _ _
-    (puts_then (comma ∷ []) (bare_text value) _ _ _ _ _ c.in_ok-put_all.ensures c.in_ok-put_bare.ensures)
+    (puts_then (comma ∷ []) (bare_text value) _ _ _ _ _ c.in_ok-put_all.ensures.puts c.in_ok-put_bare.ensures)
     (puts_first (later_text (unit_of value)) line_end _ _ _ c.from_residual-in_err-put_behind_comma.ensures.0
     (puts_as _ _ _ _ (ap later_text c.unit-unit.ensures) c.in_err-put_behind_comma.ensures))
 
@@ -35,6 +35,6 @@ unfolding value_fields
 returns g c =
     let value = value_of c.args.value in
     puts_then (comma ∷ bare_text value) (later_text (unit_of value) ++ line_end) _ _ _ _ _
-    (puts_then (comma ∷ []) (bare_text value) _ _ _ _ _ c.in_ok-put_all.ensures c.in_ok-put_bare.ensures)
+    (puts_then (comma ∷ []) (bare_text value) _ _ _ _ _ c.in_ok-put_all.ensures.puts c.in_ok-put_bare.ensures)
     (puts_then (later_text (unit_of value)) line_end _ _ _ _ _
-    (puts_as _ _ _ _ (ap later_text c.unit-unit.ensures) c.in_ok-put_behind_comma.ensures) c.put_all-2.ensures)
+    (puts_as _ _ _ _ (ap later_text c.unit-unit.ensures) c.in_ok-put_behind_comma.ensures) c.put_all-2.ensures.puts)

@@ -9,18 +9,18 @@ use Rattle.j39_reports.proofs.summaries.records.put_record_head.Goals as goal
 pub returns-in_err-put_all : goal.returns-in_err-put_all
 unfolding record_head
 returns-in_err-put_all g c =
-    first_of_three _ _ _ _ _ _ c.from_residual.ensures.0 (puts_as _ _ _ _ (c.as_slice.ensures.value ∙ c.origin_of.ensures) c.in_err-put_all.ensures)
+    first_of_three _ _ _ _ _ _ c.from_residual.ensures.0 (puts_as _ _ _ _ (c.as_slice.ensures.value ∙ c.origin_of.ensures) c.in_err-put_all.ensures.puts)
 
 pub returns-in_err-put_behind_comma : goal.returns-in_err-put_behind_comma
 unfolding record_head
 returns-in_err-put_behind_comma g c =
     second_of_three _ _ _ _ _ _ _ _ _ c.from_residual-in_err-put_behind_comma.ensures.0
-    (puts_as _ _ _ _ (c.as_slice.ensures.value ∙ c.origin_of.ensures) c.in_ok-put_all.ensures)
+    (puts_as _ _ _ _ (c.as_slice.ensures.value ∙ c.origin_of.ensures) c.in_ok-put_all.ensures.puts)
     (puts_as _ _ _ _ (ap later_text c.parameter_of.ensures) c.in_err-put_behind_comma.ensures)
 
 pub returns : goal.returns
 unfolding record_head
 returns g c =
-    third_of_three _ _ _ _ _ _ _ _ _ _ (puts_as _ _ _ _ (c.as_slice.ensures.value ∙ c.origin_of.ensures) c.in_ok-put_all.ensures)
+    third_of_three _ _ _ _ _ _ _ _ _ _ (puts_as _ _ _ _ (c.as_slice.ensures.value ∙ c.origin_of.ensures) c.in_ok-put_all.ensures.puts)
     (puts_as _ _ _ _ (ap later_text c.parameter_of.ensures) c.in_ok-put_behind_comma.ensures)
-    (puts_as _ _ _ _ (c.as_slice-2.ensures.value ∙ c.counts_of.ensures) c.put_all-2.ensures)
+    (puts_as _ _ _ _ (c.as_slice-2.ensures.value ∙ c.counts_of.ensures) c.put_all-2.ensures.puts)

@@ -70,3 +70,17 @@ returns-then-n-eq0-clause-read_all g c = λ h.
 
 pub returns-then-n-room-clause-took : goal.returns-then-n-room-clause-took
 returns-then-n-room-clause-took g c = (_, Consumes-trans _ _ _ c.pieces.invariant.0 _ c.pieces.invariant.1 c.in-Ok.ensures.bytes.0)
+
+pub returns-then-n-room-clause-at_limit : goal.returns-then-n-room-clause-at_limit
+returns-then-n-room-clause-at_limit g c = λ too_long.
+    let inv = c.pieces.invariant in
+    let bytes = take c.in-Ok.n c.pull.new.buf in (
+      inv.0,
+      record {
+        read = bytes;
+        consumed = Consumes-trans _ _ _ inv.0 bytes inv.1 c.in-Ok.ensures.bytes.0;
+        fits = omega arith;
+        passes = omega (arith, length-append inv.0 bytes, length-take c.in-Ok.n c.pull.new.buf, c.in-Ok.ensures.bound);
+        piece = omega (arith, length-take c.in-Ok.n c.pull.new.buf, c.in-Ok.ensures.bound);
+      },
+    )

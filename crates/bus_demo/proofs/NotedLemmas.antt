@@ -1,0 +1,101 @@
+-- What is noted in the book stays there; what was due is due again.
+use Rattle.std.proofs.Common.{◌≡◌, ◌≤◌, ◌<◌, ◌+◌, ◌==◌, ◌++◌, ◌∷◌, ◌∙◌, [], ℕ, zero, suc, List, None, Option, Some, ap, arith, eq-eqb, eqb-true, inl, inr, length, length-append, ltb-false, ltb-true, nat_lt, refl, slice_get, subst, sym}
+use Rattle.std.proofs.lemmas.Bool.{cases_Bool}
+use Rattle.j39_address.specs.Name.{name_raw}
+use Rattle.bus_demo.specs.Publishing.{AreDueAgain, AreNoted, rate_after}
+use Rattle.bus_demo.specs.declared.bus.book.Fate.{Fate}
+use Rattle.bus_demo.specs.declared.bus.book.Handed.{Handed}
+use Rattle.bus_demo.specs.declared.bus.role.Rate.{Rate}
+
+inside : {X : Type 0} (xs : List X) (k : ℕ) (x : X) → slice_get xs k ≡ Some x → k < length xs
+inside [] k x there = absurd (cc)
+inside (y ∷ ys) zero x there = omega arith
+inside (y ∷ ys) (suc k) x there = let less = inside ys k x there in omega (arith, less)
+
+there_is : {X : Type 0} (xs : List X) (k : ℕ) → k < length xs → (x : X) × (slice_get xs k ≡ Some x)
+there_is [] k less = absurd (omega arith)
+there_is (y ∷ ys) zero less = (y, refl)
+there_is (y ∷ ys) (suc k) less = there_is ys k (omega (arith, less))
+
+same : {X : Type 0} (x y : X) (o : Option X) → o ≡ Some x → o ≡ Some y → x ≡ y
+same x y o is other = cc
+
+in_front : {X : Type 0} (xs ys : List X) (k : ℕ) (x : X) → slice_get xs k ≡ Some x → slice_get (xs ++ ys) k ≡ Some x
+in_front [] ys k x there = absurd (cc)
+in_front (z ∷ zs) ys zero x there = there
+in_front (z ∷ zs) ys (suc k) x there = in_front zs ys k x there
+
+at_end : {X : Type 0} (xs : List X) (k : ℕ) (last x : X) → length xs ≤ k → slice_get (xs ++ (last ∷ [])) k ≡ Some x → last ≡ x
+at_end [] zero last x past there = cc
+at_end [] (suc k) last x past there = absurd (cc)
+at_end (z ∷ zs) zero last x past there = absurd (omega arith)
+at_end (z ∷ zs) (suc k) last x past there = at_end zs k last x (omega (arith, past)) there
+
+pub at_last : {X : Type 0} (xs : List X) (last : X) → slice_get (xs ++ (last ∷ [])) (length xs) ≡ Some last
+at_last [] last = refl
+at_last (z ∷ zs) last = at_last zs last
+
+module _ (name : ℕ) where
+  pub noted_none : (all : List Handed) → AreNoted name all all
+  noted_none all = record {
+    grows = omega arith;
+    stays = λ k message there. there;
+    more = λ k message past there. let less = inside all k message there in absurd (omega (arith, past, less));
+  }
+
+  pub noted_then : (old mid new : List Handed) → AreNoted name old mid → AreNoted name mid new → AreNoted name old new
+  noted_then old mid new first second = record {
+    grows = (let a = first.grows in let b = second.grows in omega (arith, a, b));
+    stays = λ k message there. second.stays k message (first.stays k message there);
+    more = λ k message past there. elim (cases_Bool (nat_lt k (length mid))) [
+      | inl less ↦
+          let at = there_is mid k (ltb-true _ _ less) in
+          subst (λ (m : Handed). name_raw m.name ≡ name) (same at.0 message _ (second.stays k at.0 at.1) there) (first.more k at.0 past at.1)
+      | inr not_less ↦ second.more k message (ltb-false _ _ not_less) there
+    ];
+  }
+
+  pub noted_one : (old : List Handed) (one : Handed) → name_raw one.name ≡ name → AreNoted name old (old ++ (one ∷ []))
+  noted_one old one is = record {
+    grows = (let len = length-append old (one ∷ []) in omega (arith, len));
+    stays = λ k message there. in_front old (one ∷ []) k message there;
+    more = λ k message past there. subst (λ (m : Handed). name_raw m.name ≡ name) (at_end old k one message past there) is;
+  }
+
+  -- and its fate is settled
+  pub noted_settled : (old new : List Handed) (one : Handed) (fate : Fate) → name_raw one.name ≡ name → length new ≡ length (old ++ (one ∷ []))
+      → ((k : ℕ) → (k ≡ length old → ⊥) → slice_get new k ≡ slice_get (old ++ (one ∷ [])) k)
+      → slice_get new (length old) ≡ Some (record one { fate = fate }) → AreNoted name old new
+  noted_settled old new one fate is count others settled = record {
+    grows = (let len = length-append old (one ∷ []) in omega (arith, len, count));
+    stays = λ k message there.
+        let less = inside old k message there in
+        others k (λ e. omega (arith, less, e)) ∙ in_front old (one ∷ []) k message there;
+    more = λ k message past there. elim (cases_Bool (k == length old)) [
+      | inl here ↦
+          let at : slice_get new k ≡ Some (record one { fate = fate }) = ap (slice_get new) (eqb-true _ _ here) ∙ settled in
+          subst (λ (m : Handed). name_raw m.name ≡ name) (same (record one { fate = fate }) message _ at there) is
+      | inr other ↦
+          subst (λ (m : Handed). name_raw m.name ≡ name)
+          (at_end old k one message past (sym (others k (λ e. let t = eq-eqb _ _ e in absurd (cc))) ∙ there)) is
+    ];
+  }
+
+-- ---- what was due
+
+none_behind : {X : Type 0} (xs : List X) (k : ℕ) → length xs ≤ k → slice_get xs k ≡ None
+none_behind [] k past = refl
+none_behind (x ∷ xs) zero past = absurd (omega arith)
+none_behind (x ∷ xs) (suc k) past = none_behind xs k (omega (arith, past))
+
+-- at each place of the list
+pub all_due : (micros n : ℕ) (old new : List Rate) → length old ≡ n
+    → ((k : ℕ) → k < n → slice_get new k ≡ rate_after micros (slice_get old k))
+    → ((k : ℕ) → n ≤ k → slice_get new k ≡ slice_get old k) → AreDueAgain micros old new
+all_due micros n old new len below behind = λ k. elim (cases_Bool (nat_lt k n)) [
+  | inl less ↦ below k (ltb-true _ _ less)
+  | inr not_less ↦
+      let past = ltb-false _ _ not_less in
+      let none = none_behind old k (omega (arith, len, past)) in
+      behind k past ∙ none ∙ sym (ap (rate_after micros) none)
+]
