@@ -61,7 +61,7 @@ def voltage(at):
 # The identifier, the time between two in milliseconds, the data.
 PERIODIC = [
     (0x0CF00400, 2_000, engine), (0x18FEF10B, 2_000, speed), (0x18FEF117, 4_000, speed), (0x18FEEE00, 10_000, temperatures),
-    (0x18FEF600, 5_000, intake), (0x18FEEF00, 10_000, levels), (0x18FEF200, 5_000, fuel), (0x18FEE017, 20_000, distance),
+    (0x18FEF600, 8_000, intake), (0x18FEEF00, 10_000, levels), (0x18FEF200, 5_000, fuel), (0x18FEE017, 20_000, distance),
     (0x18FECA00, 10_000, faults), (0x18FEF717, 10_000, voltage),
 ]
 
