@@ -2,15 +2,15 @@
 const FAULT_COLUMNS = [
   { name: 'time', value: fault => fault.stamp, text: fault => clock(fault.stamp * 1000) }, { name: 'address', value: fault => fault.address },
   { name: 'NAME', value: fault => fault.name, kind: 'code' }, { name: 'state', value: fault => fault.state },
-  { name: 'SPN', value: fault => fault.spn, text: fault => `${fault.spn} ${fault.parameter}` },
+  { name: 'SPN', value: fault => fault.spn, text: fault => fault.spn === '-' ? fault.parameter : `${fault.spn} ${fault.parameter}` },
   { name: 'FMI', value: fault => fault.fmi, text: fault => `${fault.fmi} ${fault.meaning}` }, { name: 'count', value: fault => fault.count, kind: 'n' },
   { name: 'lamps', value: fault => fault.lamps },
 ];
 
 let faults = null; // the table
 
-// A line is `(STAMP) AA NAME active|previous SPN FMI COUNT LAMPS PARAMETER: MEANING`, `.. CODE - LAMPS` where the code's four
-// bytes are of an older form, or `.. none - LAMPS`. What has no name of its own is called `SPN` and its number.
+// A line is `(STAMP) AA NAME STATE SPN FMI COUNT LAMPS PARAMETER: MEANING`, with `-` for the SPN where the code is of an older
+// form, or `.. none - LAMPS`. What has no name of its own is called `SPN` and its number.
 function faultOf(line) {
   const [stamp, address, name, state, spn, ...rest] = line.split(' ');
   const fault = { stamp: Number(stamp.slice(1, -1)), address, name, state, spn, fmi: '', count: '', lamps: rest[1], parameter: '', meaning: '' };
