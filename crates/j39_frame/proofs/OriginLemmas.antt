@@ -2,7 +2,7 @@
 use Rattle.std.proofs.Common.{◌≡◌, ◌==◌, ◌&&◌, ℕ, Bool, true, false, Option, Some, None, refl, sym, ap, ◌∙◌, eqb-true, arith, inl, inr}
 use Rattle.std.proofs.lemmas.Bool.{both_ways, cases_Bool, true≢false}
 use Rattle.std.specs.Cmp.{IsEquivalence}
-use Rattle.j39_frame.specs.Origin.{is_same, is_same_name}
+use Rattle.j39_frame.specs.Origin.{is_same, is_same_or_none}
 use Rattle.j39_frame.specs.declared.origin.Origin.{Origin}
 
 left : (a b : Bool) → (a && b) ≡ true → a ≡ true
@@ -16,34 +16,37 @@ right false b h = absurd (true≢false (sym h))
 eqb-self : (n : ℕ) → (n == n) ≡ true
 eqb-self n = grind (arith)
 
-name_true : (a b : Option ℕ) → is_same_name a b ≡ true → a ≡ b
-name_true None None h = refl
-name_true None (Some b) h = absurd (true≢false (sym h))
-name_true (Some a) None h = absurd (true≢false (sym h))
-name_true (Some a) (Some b) h = ap Some (eqb-true a b h)
+or_none_true : (a b : Option ℕ) → is_same_or_none a b ≡ true → a ≡ b
+or_none_true None None h = refl
+or_none_true None (Some b) h = absurd (true≢false (sym h))
+or_none_true (Some a) None h = absurd (true≢false (sym h))
+or_none_true (Some a) (Some b) h = ap Some (eqb-true a b h)
 
-name_self : (a : Option ℕ) → is_same_name a a ≡ true
-name_self None = refl
-name_self (Some a) = eqb-self a
+or_none_self : (a : Option ℕ) → is_same_or_none a a ≡ true
+or_none_self None = refl
+or_none_self (Some a) = eqb-self a
 
 -- origins that are the same are one
 pub same_true : (a b : Origin) → is_same a b ≡ true → a ≡ b
 same_true a b h =
     let addresses = eqb-true a.address b.address (left (a.address == b.address) _ h) in
-    let rest = right (a.address == b.address) _ h in
-    let names = name_true a.name b.name (left (is_same_name a.name b.name) _ rest) in
-    let numbers = right (is_same_name a.name b.name) _ rest in
+    let behind = right (a.address == b.address) _ h in
+    let destinations = or_none_true a.destination b.destination (left (is_same_or_none a.destination b.destination) _ behind) in
+    let rest = right (is_same_or_none a.destination b.destination) _ behind in
+    let names = or_none_true a.name b.name (left (is_same_or_none a.name b.name) _ rest) in
+    let numbers = right (is_same_or_none a.name b.name) _ rest in
     let pgns = eqb-true a.pgn b.pgn (left (a.pgn == b.pgn) _ numbers) in
     let spns = eqb-true a.spn b.spn (right (a.pgn == b.pgn) _ numbers) in
-    λ i. record { address = addresses i; name = names i; pgn = pgns i; spn = spns i }
+    λ i. record { address = addresses i; destination = destinations i; name = names i; pgn = pgns i; spn = spns i }
 
 pub same_self : (a : Origin) → is_same a a ≡ true
 same_self a =
     let address = eqb-self a.address in
-    let name = name_self a.name in
+    let destination = or_none_self a.destination in
+    let name = or_none_self a.name in
     let pgn = eqb-self a.pgn in
     let spn = eqb-self a.spn in
-    rw (address, name, pgn, spn) refl
+    rw (address, destination, name, pgn, spn) refl
 
 same_turned : (a b : Origin) → is_same a b ≡ true → is_same b a ≡ true
 same_turned a b h = ap (λ o. is_same o a) (sym (same_true a b h)) ∙ same_self a

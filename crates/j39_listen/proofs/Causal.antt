@@ -10,7 +10,7 @@ use Rattle.j39_frame.specs.Identifier.{pgn_of, source_of}
 use Rattle.j39_groups.specs.Readings.{is_reported_in}
 use Rattle.j39_groups.specs.Row.{RowRecord}
 use Rattle.j39_listen.specs.Forgets.{Changed, WithForgets}
-use Rattle.j39_listen.specs.Heard.{AreHeardWith, HeardAt, HeardAtWith, HeardBelowWith, Hearing, IsAssembled, IsHeardWith, IsSingleWith, frame_at, frames_only, or_none}
+use Rattle.j39_listen.specs.Heard.{AreHeardWith, HeardAt, HeardAtWith, HeardBelowWith, Hearing, IsAssembled, IsHeardWith, IsSingleWith, frame_at, frames_only, or_none, sent_to}
 use Rattle.j39_listen.specs.Report.{Entry, IsReport, entries_of}
 use Rattle.j39_transport.proofs.Agreeing.{Agree, Links-same, Runs-same, joined_at-same}
 use Rattle.j39_transport.proofs.Chains.{Links-from}
@@ -129,6 +129,7 @@ pub heard_same : (singles : ℕ → Bool) (F G : List FrameRecord) (i : ℕ) (x 
 heard_same singles F G i x h k = record {
   carried = elim k.carried [ inl m ↦ inl (single_same singles F G i x.message h m) | inr b ↦ inr (assembled_same F G i x.message x.name h b) ];
   held_by = holder_same F G (suc i) i x.message.source x.name h (omega arith) k.held_by;
+  destination_is = k.destination_is ∙ sym (ap (λ (f : FrameRecord). sent_to x.message.pgn f.id) (h.same i (omega arith)));
   stamp_is = k.stamp_is ∙ sym (ap (λ (f : FrameRecord). f.stamp) (h.same i (omega arith)));
 }
 

@@ -19,7 +19,7 @@ use Rattle.j39_listen.specs.OneFrameMore.{alone_of, NextBy, Next, heard_of}
 use Rattle.j39_listen.proofs.Causal.{Whole-same, forgets_more, forgets_same, frame_new, holder_prefix, report_more, same_below_append}
 use Rattle.j39_listen.proofs.Unique.{assembled_packet}
 use Rattle.j39_listen.specs.Forgets.{Changed, WithForgets}
-use Rattle.j39_listen.specs.Heard.{HeardAt, HeardAtWith, Hearing, IsAssembled, IsHeardWith, IsSingleWith, LeavesNetwork, frame_at, or_none}
+use Rattle.j39_listen.specs.Heard.{HeardAt, HeardAtWith, Hearing, IsAssembled, IsHeardWith, IsSingleWith, LeavesNetwork, frame_at, or_none, sent_to}
 use Rattle.j39_listen.specs.Report.{Entry, IsReport, entries_of}
 use Rattle.j39_transport.proofs.Agreeing.{Agree}
 use Rattle.j39_transport.specs.Answers.{WholeBy}
@@ -153,10 +153,11 @@ module _ (singles : ℕ → Bool) (leaves : LeavesNetwork singles) (F : List Fra
       )
 
   heard_from : (m : MessageRecord) (name : Option ℕ) → m.source ≡ source_of f.id → IsHolder (claims_of F) (length F) (source_of f.id) name
-      → IsSingleWith singles (F ++ f ∷ []) (length F) m ⊎ IsAssembled (F ++ f ∷ []) (length F) m name → IsHeardWith singles (F ++ f ∷ []) (length F) (record { message = m; stamp = f.stamp; name = name })
+      → IsSingleWith singles (F ++ f ∷ []) (length F) m ⊎ IsAssembled (F ++ f ∷ []) (length F) m name → IsHeardWith singles (F ++ f ∷ []) (length F) (record { message = m; destination = sent_to m.pgn f.id; stamp = f.stamp; name = name })
   heard_from m name s held c = record {
     carried = c;
     held_by = (holder_prefix F (f ∷ []) (length F) m.source name (omega arith)).0 (subst (λ (a : ℕ). IsHolder (claims_of F) (length F) a name) (sym s) held);
+    destination_is = ap (λ (x : FrameRecord). sent_to m.pgn x.id) (sym (frame_new F f));
     stamp_is = ap (λ (x : FrameRecord). x.stamp) (sym (frame_new F f));
   }
 

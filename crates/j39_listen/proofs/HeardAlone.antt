@@ -17,7 +17,7 @@ use Rattle.j39_listen.proofs.Masks.{Same, place_in_F}
 use Rattle.j39_listen.proofs.Reported.{unreported_announcement, unreported_packet}
 use Rattle.j39_listen.proofs.Unique.{hearing_same, message_same}
 use Rattle.j39_listen.proofs.Story.{Story, copy_packet, same_frame}
-use Rattle.j39_listen.specs.Heard.{Hearing, IsHeard, IsSingle, frame_at}
+use Rattle.j39_listen.specs.Heard.{Hearing, IsHeard, IsSingle, frame_at, sent_to}
 use Rattle.j39_listen.specs.Published.{IsSent, Item, Publishing, first_place, is_publisher, last_place}
 use Rattle.j39_listen.specs.Values.{hearing_of_item}
 use Rattle.j39_transport.specs.Carries.{Carries}
@@ -84,12 +84,13 @@ module _ (groups : List RowRecord) (F H : List FrameRecord) (P : Publishing) (X 
           bytes_are = ap (λ (f : FrameRecord). f.bytes) fr ∙ c.alone.bytes;
         });
         held_by = alone_holder n item c h s;
+        destination_is = ap (λ (f : FrameRecord). sent_to item.message.pgn f.id) (sym (same_frame groups F H P X Y st e.same));
         stamp_is = ap (λ (f : FrameRecord). f.stamp) (sym (same_frame groups F H P X Y st e.same));
       }
 
   pub alone_only : (h : ℕ) (hr : Hearing) → IsSingle groups H h hr.message → IsHolder (claims_of H) h hr.message.source hr.name
-      → hr.stamp ≡ (frame_at H h).stamp → is_publisher P hr.message.source ≡ true → Comes h hr
-  alone_only h hr m hb sp adr = elim (cases_Bool (Y h)) [
+      → hr.destination ≡ sent_to hr.message.pgn (frame_at H h).id → hr.stamp ≡ (frame_at H h).stamp → is_publisher P hr.message.source ≡ true → Comes h hr
+  alone_only h hr m hb dp sp adr = elim (cases_Bool (Y h)) [
     | inl y ↦ absurd (let r = copy_packet groups F H P X Y st h y in both_ways _ (unreported_packet groups _ _ r.1) m.single)
     | inr y ↦
         (let r = place_in_F X Y F H st.one_rest h m.inside y in
@@ -110,6 +111,7 @@ module _ (groups : List RowRecord) (F H : List FrameRecord) (P : Publishing) (X 
           let fr = same_frame groups F H P X Y st s in
           let se : Same X Y F H (last_place item) h = subst (λ (t : ℕ). Same X Y F H t h) (sym (alone_last groups F P n item c)) s in
           let src : hr.message.source ≡ item.message.source = sym m.source_is ∙ (ap (λ (g : FrameRecord). source_of g.id) fr ∙ c.alone.source) in
+          let group : hr.message.pgn ≡ item.message.pgn = sym m.pgn_is ∙ (ap (λ (g : FrameRecord). pgn_of g.id) fr ∙ c.alone.pgn) in
           record {
             n = n;
             item = item;
@@ -120,8 +122,9 @@ module _ (groups : List RowRecord) (F H : List FrameRecord) (P : Publishing) (X 
             };
             hearing_is = hearing_same hr (hearing_of_item F item)
                 (message_same hr.message item.message src
-                (sym m.pgn_is ∙ (ap (λ (g : FrameRecord). pgn_of g.id) fr ∙ c.alone.pgn))
+                group
                 (sym m.bytes_are ∙ (ap (λ (g : FrameRecord). g.bytes) fr ∙ c.alone.bytes)))
+                (dp ∙ (ap (λ (p : ℕ). sent_to p (frame_at H h).id) group ∙ ap (λ (g : FrameRecord). sent_to item.message.pgn g.id) (same_frame groups F H P X Y st se)))
                 (sp ∙ ap (λ (g : FrameRecord). g.stamp) (same_frame groups F H P X Y st se))
                 (same_holder (claims_of H) h hr.message.source hr.name item.publisher.name hb
                 (subst (λ (a : ℕ). IsHolder (claims_of H) h a item.publisher.name) (sym src) (alone_holder n item c h s)));

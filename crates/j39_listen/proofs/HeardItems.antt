@@ -17,7 +17,7 @@ use Rattle.j39_listen.proofs.Masks.{Same, Stood, kept_within, place_in_H, rank, 
 use Rattle.j39_listen.proofs.Sent.{announced_item}
 use Rattle.j39_listen.proofs.Story.{Story, heard_announcement, same_frame}
 use Rattle.j39_listen.proofs.Unique.{hearing_same, message_same}
-use Rattle.j39_listen.specs.Heard.{Hearing, IsAssembled, IsHeard, frame_at, frames_only}
+use Rattle.j39_listen.specs.Heard.{Hearing, IsAssembled, IsHeard, frame_at, frames_only, sent_to}
 use Rattle.j39_listen.specs.Loss.{without}
 use Rattle.j39_listen.specs.Published.{Item, Publishing, is_publisher, last_place}
 use Rattle.j39_listen.specs.Values.{hearing_of_item}
@@ -115,13 +115,14 @@ module _ (groups : List RowRecord) (F H : List FrameRecord) (P : Publishing) (X 
                 same_holder = λ j u v. held_in_H c0 h j s sb u v;
               });
               held_by = held_in_H c0 h h s sb (omega arith) (omega arith);
+              destination_is = ap (λ (f : FrameRecord). sent_to item.message.pgn f.id) (sym (same_frame groups F H P X Y st e.same));
               stamp_is = ap (λ (f : FrameRecord). f.stamp) (sym (same_frame groups F H P X Y st e.same));
             }
 
   -- what is assembled of the address is an item
   cut_only : (h : ℕ) (hr : Hearing) → IsAssembled H h hr.message hr.name → IsHolder (claims_of H) h hr.message.source hr.name
-      → hr.stamp ≡ (frame_at H h).stamp → is_publisher P hr.message.source ≡ true → Comes groups F H P X Y st h hr
-  cut_only h hr b hb sp adr =
+      → hr.destination ≡ sent_to hr.message.pgn (frame_at H h).id → hr.stamp ≡ (frame_at H h).stamp → is_publisher P hr.message.source ≡ true → Comes groups F H P X Y st h hr
+  cut_only h hr b hb dp sp adr =
       let w = b.whole in
       let fa = heard_announcement groups F H P X Y st b.key w.start (sym (ev_announces H b.key w.start) ∙ w.chain.announced) in
       let it = announced_item groups F P st.published b.key (ap (is_publisher P) b.source_is ∙ adr) fa.0 fa.2 in
@@ -141,6 +142,7 @@ module _ (groups : List RowRecord) (F H : List FrameRecord) (P : Publishing) (X 
           let sb : Same X Y F H (nth c (length c.rest)) h = subst (λ (t : ℕ). Same X Y F H (nth c (length c.rest)) t) ends
           (subst (λ (m : ℕ). Same X Y F H (nth c m) (last_of w.start w.places)) full fl.same_last) in
           let se : Same X Y F H (last_place item) h = subst (λ (t : ℕ). Same X Y F H t h) (sym (nth_last groups F P n item c)) sb in
+          let group : hr.message.pgn ≡ item.message.pgn = w.chain.group_is ∙ announced_group n item c w.start sa in
           let hd : IsHolder (claims_of H) h hr.message.source item.publisher.name =
           subst (λ (s : ℕ). IsHolder (claims_of H) h s item.publisher.name) src (held_in_H n item c w.start h h sa sb (omega arith) (omega arith)) in
           record {
@@ -155,8 +157,9 @@ module _ (groups : List RowRecord) (F H : List FrameRecord) (P : Publishing) (X 
                   both_ways _ (fl.not_lost j.0 (let l : j.0 ≤ length c.rest = j.1 in omega arith)) (ap X (sym j.2) ∙ p.2));
             };
             hearing_is = hearing_same hr (hearing_of_item F item)
-                (message_same hr.message item.message (sym src) (w.chain.group_is ∙ announced_group n item c w.start sa)
+                (message_same hr.message item.message (sym src) group
                 (w.bytes_are ∙ bytes_are n item c w.start sa w.places fl full))
+                (dp ∙ (ap (λ (p : ℕ). sent_to p (frame_at H h).id) group ∙ ap (λ (g : FrameRecord). sent_to item.message.pgn g.id) (same_frame groups F H P X Y st se)))
                 (sp ∙ ap (λ (g : FrameRecord). g.stamp) (same_frame groups F H P X Y st se))
                 (same_holder (claims_of H) h hr.message.source hr.name item.publisher.name hb hd);
           }
@@ -168,6 +171,6 @@ module _ (groups : List RowRecord) (F H : List FrameRecord) (P : Publishing) (X 
 
   pub heard_only : (h : ℕ) (hr : Hearing) → IsHeard groups H h hr → is_publisher P hr.message.source ≡ true → Comes groups F H P X Y st h hr
   heard_only h hr r adr = elim r.carried [
-    | inl m ↦ alone_only groups F H P X Y st h hr m r.held_by r.stamp_is adr
-    | inr m ↦ cut_only h hr m r.held_by r.stamp_is adr
+    | inl m ↦ alone_only groups F H P X Y st h hr m r.held_by r.destination_is r.stamp_is adr
+    | inr m ↦ cut_only h hr m r.held_by r.destination_is r.stamp_is adr
   ]

@@ -15,6 +15,7 @@ pub mod Existing
 pub mod ListenerLemmas
 -- the accounts: for those of `report`, `nodes` and `answer`
 pub mod ReportAccount
+pub mod SeenLemmas
 pub mod NodeLemmas
 pub mod AnswerLemmas
 pub mod AnswerAccount

@@ -20,7 +20,7 @@ use Rattle.j39_transport.specs.Message.{MessageRecord}
 use Rattle.j39_transport.specs.Stands.{Stands}
 use Rattle.j39_transport.specs.AssemblerStep.{AssemblerRecord, fed, spare_after, state_after}
 use Rattle.j39_listen.specs.Forgets.{Changed, WithForgets}
-use Rattle.j39_listen.specs.Heard.{HeardAtWith, Hearing, IsHeardWith, LeavesNetwork}
+use Rattle.j39_listen.specs.Heard.{HeardAtWith, Hearing, IsHeardWith, LeavesNetwork, sent_to}
 use Rattle.j39_listen.specs.Listening.{Hears}
 use Rattle.j39_listen.specs.OneFrameMore.{IsMany, Next, NextBy, alone_of, heard_alone, hearing_alone}
 use Rattle.j39_listen.specs.declared.listener.Listener.{Listener}
@@ -94,12 +94,13 @@ next_by : (singles : ℕ → Bool) (r : Bool) (E : List Event) (f : FrameRecord)
     → NextBy r (nat_lt (source_of f.id) 254) E f c → Next singles E f c
 next_by singles r E f c e n = subst (λ (b : Bool). NextBy b (nat_lt (source_of f.id) 254) E f c) (sym e) n
 
-pub heard_many : (singles : ℕ → Bool) → LeavesNetwork singles → (l : Listener) (F : List FrameRecord) (f : FrameRecord) (m : MessageRecord) (t : ℕ) (name : Option ℕ) → IsMany singles f → (h : Hears l F)
-    → IsHolderAfter (claims_of F) (source_of f.id) name → t ≡ f.stamp → WholeBy h.events f m
-    → IsHeardWith singles (F ++ f ∷ []) (length F) (record { message = m; stamp = t; name = name })
-heard_many singles leaves l F f m t name many h held stamp whole =
-    subst (λ (s : ℕ). IsHeardWith singles (F ++ f ∷ []) (length F) (record { message = m; stamp = s; name = name })) (sym stamp)
-    (heard_next singles leaves F h.events f h.with_forgets (Some m) name (next_by singles false h.events f (Some m) many.not_single whole) (after_is F (source_of f.id) name held))
+pub heard_many : (singles : ℕ → Bool) → LeavesNetwork singles → (l : Listener) (F : List FrameRecord) (f : FrameRecord) (m : MessageRecord) (d : Option ℕ) (t : ℕ) (name : Option ℕ) → IsMany singles f → (h : Hears l F)
+    → IsHolderAfter (claims_of F) (source_of f.id) name → d ≡ sent_to m.pgn f.id → t ≡ f.stamp → WholeBy h.events f m
+    → IsHeardWith singles (F ++ f ∷ []) (length F) (record { message = m; destination = d; stamp = t; name = name })
+heard_many singles leaves l F f m d t name many h held destination stamp whole =
+    subst (λ (s : ℕ). IsHeardWith singles (F ++ f ∷ []) (length F) (record { message = m; destination = d; stamp = s; name = name })) (sym stamp)
+    (subst (λ (o : Option ℕ). IsHeardWith singles (F ++ f ∷ []) (length F) (record { message = m; destination = o; stamp = f.stamp; name = name })) (sym destination)
+    (heard_next singles leaves F h.events f h.with_forgets (Some m) name (next_by singles false h.events f (Some m) many.not_single whole) (after_is F (source_of f.id) name held)))
 
 -- a message by itself leaves the assembler as it was
 pub hears_single : (l : Listener) (F : List FrameRecord) (f : FrameRecord) → is_network_group (pgn_of f.id) ≡ false → claim_of f ≡ None → Hears l F → Hears l (F ++ f ∷ [])

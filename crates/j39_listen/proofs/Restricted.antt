@@ -43,6 +43,7 @@ module _ (spns : List ℕ) (these those : List RowRecord) (same : HaveSameGroups
   heard_of_both F i h x = record {
     carried = by x.carried;
     held_by = x.held_by;
+    destination_is = x.destination_is;
     stamp_is = x.stamp_is;
   }
     where
@@ -68,9 +69,9 @@ module _ (spns : List ℕ) (these those : List RowRecord) (same : HaveSameGroups
   here F i None (Some y) h k = silent k.carried
     where
       silent : IsSingle those F i y.message ⊎ IsAssembled F i y.message y.name → [] ≡ entries_among spns (flat_map (entries_of those) (y ∷ []))
-      silent (inr a) = absurd (h y (record { carried = inr a; held_by = k.held_by; stamp_is = k.stamp_is }))
+      silent (inr a) = absurd (h y (record { carried = inr a; held_by = k.held_by; destination_is = k.destination_is; stamp_is = k.stamp_is }))
       silent (inl s) = elim (cases_Bool (is_reported_in these y.message.pgn)) [
-        | inl reported ↦ absurd (h y (record { carried = inl (single_of_both F i y.message s reported); held_by = k.held_by; stamp_is = k.stamp_is }))
+        | inl reported ↦ absurd (h y (record { carried = inl (single_of_both F i y.message s reported); held_by = k.held_by; destination_is = k.destination_is; stamp_is = k.stamp_is }))
         | inr left ↦
             let free = reported_free those y.message.pgn (ap (is_reported_in those) (sym s.pgn_is) ∙ s.single) in
             let none : entries_of these y ≡ [] = ap (map (entry_of y)) (unreported_readings these y.message.pgn y.message.bytes free left) in

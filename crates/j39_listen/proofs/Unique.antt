@@ -17,7 +17,7 @@ use Rattle.j39_groups.specs.Row.{RowRecord}
 use Rattle.j39_listen.proofs.Causal.{heard_below_same, same_below_append}
 use Rattle.j39_listen.proofs.Events.{ev_sends}
 use Rattle.j39_listen.specs.Forgets.{Changed, WithForgets}
-use Rattle.j39_listen.specs.Heard.{AreHeardWith, HeardAtWith, HeardBelowWith, Hearing, IsAssembled, IsHeardWith, IsSingleWith, LeavesNetwork, frame_at, frames_only, or_none}
+use Rattle.j39_listen.specs.Heard.{AreHeardWith, HeardAtWith, HeardBelowWith, Hearing, IsAssembled, IsHeardWith, IsSingleWith, LeavesNetwork, frame_at, frames_only, or_none, sent_to}
 use Rattle.j39_listen.specs.Report.{Entry, entries_of}
 use Rattle.j39_transport.specs.Events.{Event}
 use Rattle.j39_transport.specs.Events.Event.{Frame, Forget}
@@ -39,10 +39,12 @@ message_same m n a b c =
     ap (λ (x : ℕ). record { source = x; pgn = m.pgn; bytes = m.bytes }) a
     ∙ (ap (λ (x : ℕ). record { source = n.source; pgn = x; bytes = m.bytes }) b ∙ ap (λ (x : List ℕ). record { source = n.source; pgn = n.pgn; bytes = x }) c)
 
-pub hearing_same : (h k : Hearing) → h.message ≡ k.message → h.stamp ≡ k.stamp → h.name ≡ k.name → h ≡ k
-hearing_same h k a b c =
-    ap (λ (x : MessageRecord). record { message = x; stamp = h.stamp; name = h.name }) a
-    ∙ (ap (λ (x : ℕ). record { message = k.message; stamp = x; name = h.name }) b ∙ ap (λ (x : Option ℕ). record { message = k.message; stamp = k.stamp; name = x }) c)
+pub hearing_same : (h k : Hearing) → h.message ≡ k.message → h.destination ≡ k.destination → h.stamp ≡ k.stamp → h.name ≡ k.name → h ≡ k
+hearing_same h k a d b c =
+    ap (λ (x : MessageRecord). record { message = x; destination = h.destination; stamp = h.stamp; name = h.name }) a
+    ∙ (ap (λ (x : Option ℕ). record { message = k.message; destination = x; stamp = h.stamp; name = h.name }) d
+    ∙ (ap (λ (x : ℕ). record { message = k.message; destination = k.destination; stamp = x; name = h.name }) b
+    ∙ ap (λ (x : Option ℕ). record { message = k.message; destination = k.destination; stamp = k.stamp; name = x }) c))
 
 one_heard : (singles : ℕ → Bool) → LeavesNetwork singles → (F : List FrameRecord) (i : ℕ) (m n : MessageRecord) (o p : Option ℕ) → IsSingleWith singles F i m ⊎ IsAssembled F i m o → IsSingleWith singles F i n ⊎ IsAssembled F i n p → m ≡ n
 one_heard singles leaves F i m n o p (inl h) (inl k) = message_same m n (sym h.source_is ∙ k.source_is) (sym h.pgn_is ∙ k.pgn_is) (sym h.bytes_are ∙ k.bytes_are)
@@ -55,7 +57,7 @@ one_heard singles leaves F i m n o p (inr h) (inr k) =
 pub heard_unique : (singles : ℕ → Bool) → LeavesNetwork singles → (F : List FrameRecord) (i : ℕ) (h k : Hearing) → IsHeardWith singles F i h → IsHeardWith singles F i k → h ≡ k
 heard_unique singles leaves F i h k x y =
     let m : h.message ≡ k.message = one_heard singles leaves F i h.message k.message h.name k.name x.carried y.carried in
-    hearing_same h k m (x.stamp_is ∙ sym y.stamp_is)
+    hearing_same h k m (x.destination_is ∙ (ap (λ (t : MessageRecord). sent_to t.pgn (frame_at F i).id) m ∙ sym y.destination_is)) (x.stamp_is ∙ sym y.stamp_is)
     (same_holder (claims_of F) i h.message.source h.name k.name x.held_by (subst (λ (t : MessageRecord). IsHolder (claims_of F) i t.source k.name) (sym m) y.held_by))
 
 pub heard_at_unique : (singles : ℕ → Bool) → LeavesNetwork singles → (F : List FrameRecord) (i : ℕ) (o p : Option Hearing) → HeardAtWith singles F i o → HeardAtWith singles F i p → o ≡ p

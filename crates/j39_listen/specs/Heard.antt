@@ -1,9 +1,9 @@
 -- What is heard in the frames of a bus, in order (J1939-21, 5.10; J1939-81, 4.2): messages in packets of every group, and in
 -- one frame those of some groups, as those that a table of parameters reports.
-use Rattle.std.specs.Prelude.{◌≡◌, ◌⊎◌, ℕ, zero, suc, ◌<◌, ◌≤◌, Bool, true, false, List, [], ◌∷◌, ◌++◌, map, length, get_or, Option, Some, None}
+use Rattle.std.specs.Prelude.{◌≡◌, ◌⊎◌, ℕ, zero, suc, ◌/◌, ◌%◌, ◌<◌, ◌≤◌, nat_lt, if◌then◌else◌, Bool, true, false, List, [], ◌∷◌, ◌++◌, map, length, get_or, Option, Some, None}
 use Rattle.j39_frame.specs.Address.{IsAddress}
 use Rattle.j39_frame.specs.Frame.{FrameRecord}
-use Rattle.j39_frame.specs.Identifier.{source_of, pgn_of}
+use Rattle.j39_frame.specs.Identifier.{source_of, pgn_of, ps_of}
 use Rattle.j39_groups.specs.Readings.{is_network_group, is_reported_in}
 use Rattle.j39_groups.specs.Row.{RowRecord}
 use Rattle.j39_transport.specs.Events.{Event}
@@ -14,11 +14,17 @@ use Rattle.j39_transport.specs.Message.{MessageRecord}
 use Rattle.j39_address.specs.Claim.{claims_of}
 use Rattle.j39_address.specs.Holder.{IsHolder}
 
--- a message, the stamp of the frame that it was heard at, and the NAME that held its source there, or none
+-- a message, whom it was sent to, the stamp of the frame that it was heard at, and the NAME that held its source there, or none
 pub record Hearing : Type 0 where
   pub message : MessageRecord
+  pub destination : Option ℕ
   pub stamp : ℕ
   pub name : Option ℕ
+
+-- the destination of a message of this group whose last frame has this identifier: its PS, an address or 255 for all, where the
+-- group's PF is below 240; other groups have none (J1939-21, 5.2.5)
+abbrev pub sent_to : ℕ → ℕ → Option ℕ
+sent_to pgn id = if nat_lt (pgn / 256 % 256) 240 then Some (ps_of id) else None
 
 -- what stands past the end: a frame that means nothing
 abbrev pub frame_at : List FrameRecord → ℕ → FrameRecord
@@ -51,6 +57,7 @@ pub record IsAssembled (F : List FrameRecord) (i : ℕ) (m : MessageRecord) (nam
 pub record IsHeardWith (singles : ℕ → Bool) (F : List FrameRecord) (i : ℕ) (h : Hearing) : Type 0 where
   pub carried : IsSingleWith singles F i h.message ⊎ IsAssembled F i h.message h.name
   pub held_by : IsHolder (claims_of F) i h.message.source h.name
+  pub destination_is : h.destination ≡ sent_to h.message.pgn (frame_at F i).id
   pub stamp_is : h.stamp ≡ (frame_at F i).stamp
 
 -- what is heard at F[i], or nothing

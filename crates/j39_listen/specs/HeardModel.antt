@@ -14,6 +14,7 @@ message_of m = record { source = m.source; pgn = pgn_raw m.pgn; bytes = m.payloa
 abbrev pub hearing_of : Heard → Hearing
 hearing_of h = record {
   message = message_of h.message;
+  destination = h.destination;
   stamp = stamp_micros h.message.stamp;
   name =
       option_map name_raw h.name;

@@ -7,7 +7,7 @@ use Rattle.j39_transport.specs.Answers.{NoneWhole, WholeBy}
 use Rattle.j39_transport.specs.Events.{Event}
 use Rattle.j39_transport.specs.Message.{MessageRecord}
 use Rattle.j39_address.specs.Claim.{claim_of}
-use Rattle.j39_listen.specs.Heard.{Hearing}
+use Rattle.j39_listen.specs.Heard.{Hearing, sent_to}
 
 -- the message that a frame is by itself
 abbrev pub alone_of : FrameRecord → MessageRecord
@@ -29,11 +29,16 @@ Next singles E f c = NextBy (singles (pgn_of f.id)) (nat_lt (source_of f.id) nul
 
 abbrev pub heard_of : FrameRecord → Option ℕ → Option MessageRecord → Option Hearing
 heard_of f name None = None
-heard_of f name (Some m) = Some (record { message = m; stamp = f.stamp; name = name })
+heard_of f name (Some m) = Some (record { message = m; destination = sent_to m.pgn f.id; stamp = f.stamp; name = name })
 
 -- a frame of a group that is heard in one frame, as it is heard under this name
 abbrev pub hearing_alone : FrameRecord → Option ℕ → Hearing
-hearing_alone f name = record { message = alone_of f; stamp = f.stamp; name = name }
+hearing_alone f name = record {
+  message = alone_of f;
+  destination = sent_to (pgn_of f.id) f.id;
+  stamp = f.stamp;
+  name = name;
+}
 
 -- the same, or nothing where its source is no address
 abbrev pub heard_alone : FrameRecord → Option ℕ → Option Hearing

@@ -16,6 +16,7 @@ use Rattle.j39_listen.specs.Heard.{AreHeard, Hearing}
 pub record Entry : Type 0 where
   pub stamp : ℕ
   pub address : ℕ
+  pub destination : Option ℕ
   pub name : Option ℕ
   pub pgn : ℕ
   pub spn : ℕ
@@ -25,6 +26,7 @@ abbrev pub entry_of : Hearing → ReadingRecord → Entry
 entry_of h r = record {
   stamp = h.stamp;
   address = h.message.source;
+  destination = h.destination;
   name = h.name;
   pgn = h.message.pgn;
   spn =
@@ -49,6 +51,11 @@ entries_among spns entries = filter (λ e. is_among spns e.spn) entries
 abbrev pub name_text : Option ℕ → List ℕ
 name_text None = codes "----------------"
 name_text (Some name) = encode_upper (to_be_bytes w64 name)
+
+-- a NAME in sixteen upper-case hex digits, or nothing
+abbrev pub name_field : Option ℕ → List ℕ
+name_field None = []
+name_field (Some name) = encode_upper (to_be_bytes w64 name)
 
 -- stamp, address and NAME, a space after each
 abbrev pub sender_text : ℕ → ℕ → Option ℕ → List ℕ

@@ -1,5 +1,5 @@
 -- A log in which 0B asks for a packet of a transfer again, and what was published in it.
-use Rattle.std.specs.Prelude.{ℕ, List, [], ◌∷◌, ◌++◌, Some, codes}
+use Rattle.std.specs.Prelude.{ℕ, List, [], ◌∷◌, ◌++◌, Some, None, codes}
 use Rattle.j39_frame.specs.Frame.{FrameRecord}
 use Rattle.j39_groups.specs.Value.{ValueRecord}
 use Rattle.j39_groups.specs.Value.ValueRecord.{text}
@@ -10,9 +10,17 @@ use Rattle.j39_transport.specs.Key.Key.{Directed}
 abbrev pub frame : ℕ → ℕ → List ℕ → FrameRecord
 frame stamp id bytes = record { stamp = stamp; id = id; bytes = bytes }
 
+-- of a group that has no destination
 abbrev pub entry : ℕ → Publisher → ℕ → ℕ → ValueRecord → Entry
-entry stamp publisher pgn spn value = record
-    { stamp = stamp; address = publisher.address; name = publisher.name; pgn = pgn; spn = spn; value = value }
+entry stamp publisher pgn spn value = record {
+  stamp = stamp;
+  address = publisher.address;
+  destination = None;
+  name = publisher.name;
+  pgn = pgn;
+  spn = spn;
+  value = value;
+}
 
 abbrev pub padding : List ℕ
 padding = 0xFF ∷ 0xFF ∷ 0xFF ∷ []

@@ -3,7 +3,7 @@ use Rattle.std.specs.Prelude.{◌≡◌, ℕ, zero, suc, Bool, false, not, ◌&&
 use Rattle.std.specs.List.{flat_map, list_any}
 use Rattle.j39_frame.specs.Frame.{FrameRecord}
 use Rattle.j39_groups.specs.Row.{RowRecord}
-use Rattle.j39_listen.specs.Heard.{Hearing, frame_at}
+use Rattle.j39_listen.specs.Heard.{Hearing, frame_at, sent_to}
 use Rattle.j39_listen.specs.Loss.{LostTogether, Repeated, Thinned}
 use Rattle.j39_listen.specs.Published.{Item, Published, Publishing, is_publisher, last_place}
 use Rattle.j39_listen.specs.Report.{Entry, entries_of}
@@ -12,6 +12,7 @@ use Rattle.j39_listen.specs.Report.{Entry, entries_of}
 abbrev pub hearing_of_item : List FrameRecord → Item → Hearing
 hearing_of_item F item = record {
   message = item.message;
+  destination = sent_to item.message.pgn (frame_at F (last_place item)).id;
   stamp = (frame_at F (last_place item)).stamp;
   name =
       item.publisher.name;

@@ -1,12 +1,32 @@
 //! Messages that a listener hears.
+ghost use Rattle.std.specs.Prelude.{◌≡◌};
+ghost use Rattle.j39_frame.specs.Identifier.{id_raw};
+ghost use Rattle.j39_frame.specs.Pgn.{pgn_raw};
+ghost use Rattle.j39_listen.specs.Heard.{sent_to};
+
 use j39_address::Name;
+use j39_frame::{Id, Pgn};
 use j39_transport::Message;
 
-/// A message, with the NAME that held its source address when its last frame came.
+/// A message, with whom it was sent to, and the NAME that held its source address when its last frame came.
 #[derive(Debug, Drop)]
 pub struct Heard<'a> {
     /// Who sent it, its group, its bytes, and the stamp of its last frame.
     pub message: Message<'a>,
+    /// The address that it was sent to, 255 for all; `None` where its group has no destination (PF 240 and up; J1939-21, 5.2.5).
+    pub destination: Option<u8>,
     /// The NAME of the sender; `None` where no claim tells it.
     pub name: Option<Name>,
+}
+
+/// The destination of a message of this group whose last frame has this identifier.
+#[inline(always)]
+pub(crate) fn destination(pgn: Pgn, id: Id) -> Option<u8>
+    ensures { result ≡ sent_to (pgn_raw pgn) (id_raw id) }
+{
+    if pgn.raw() / 256 % 256 < 240 {
+        Some(id.ps())
+    } else {
+        None
+    }
 }

@@ -18,6 +18,7 @@ ghost use Rattle.j39_listen.specs.OneFrameMore.{IsMany, heard_alone, hearing_alo
 ghost use Rattle.j39_listen.specs.HeardModel.{hearing_of};
 
 use crate::Heard;
+use crate::heard::destination;
 use j39_address::{Claims, Name};
 use j39_frame::{Frame, is_address};
 use j39_groups::{Groups, is_network_group, is_reported};
@@ -142,7 +143,14 @@ impl Listener {
     {
         let name = self.claims.holder(frame.id.source());
         match self.assembler.feed(frame)? {
-            Fed::Whole(message) => Ok(Some(Heard { message, name })),
+            Fed::Whole(message) => {
+                let destination = destination(message.pgn, frame.id);
+                Ok(Some(Heard {
+                    message,
+                    destination,
+                    name,
+                }))
+            }
             Fed::Taken => Ok(None),
             Fed::Ignored => Ok(None),
         }
@@ -199,5 +207,10 @@ fn by_itself(frame: &Frame, name: Option<Name>) -> Heard<'_>
         payload: frame.bytes.as_slice(),
         stamp: frame.stamp,
     };
-    Heard { message, name }
+    let destination = destination(message.pgn, frame.id);
+    Heard {
+        message,
+        destination,
+        name,
+    }
 }

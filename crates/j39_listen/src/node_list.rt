@@ -1,17 +1,21 @@
-//! Who holds which address, as an account of the frames of a bus (J1939-81, 4.2).
-ghost use Rattle.std.specs.Prelude.{◌≡◌, ◌≢◌, ◌+◌, ◌<◌, ◌≤◌, ◌++◌, ◌∷◌, [], List, true, IfOk, OnErr, Err, Some, length};
+//! Who is at which address, as an account of the frames of a bus (J1939-81, 4.2).
+ghost use Rattle.std.specs.Prelude.{◌≡◌, ◌≢◌, ◌+◌, ◌<◌, ◌≤◌, ◌++◌, ◌∷◌, [], ℕ, List, true, IfOk, OnErr, Err, Some, length, None};
 ghost use Rattle.std.specs.Io.KnownBytes.{Appends};
 ghost use Rattle.j39_address.specs.Name.{name_raw};
 ghost use Rattle.j39_io.specs.Device.{AppendsFront, Marks};
 ghost use Rattle.j39_io.specs.Turn.{turn};
 ghost use Rattle.j39_frame.specs.Frame.{FrameRecord};
-ghost use Rattle.j39_address.specs.Claims.{Knows, holder_in};
-ghost use Rattle.j39_listen.specs.NodesSoFar.{HasNoted};
-ghost use Rattle.j39_listen.specs.Nodes.{AreNodes, Holding, node_at, node_in, nodes_text};
+ghost use Rattle.j39_address.specs.Claim.{claims_of};
+ghost use Rattle.j39_address.specs.Holder.{IsHolderAfter};
+ghost use Rattle.j39_frame.specs.Identifier.{source_of};
+ghost use Rattle.j39_frame.specs.Stamp.{stamp_micros};
+ghost use Rattle.j39_address.specs.Claims.{Knows};
+ghost use Rattle.j39_listen.specs.NodesSoFar.{HasNoted, HasSeen, nodes_shown, presence, presence_in, presence_of, seen_at};
+ghost use Rattle.j39_listen.specs.Nodes.{AreNodes, Presence, moment_field, moment_or_dash, node_in, node_record, node_text, nodes_text};
 ghost use Rattle.j39_listen.specs.Headed.{MakesNodes};
-ghost use Rattle.j39_listen.specs.Output.{nodes_of};
-ghost use Rattle.j39_listen.specs.Report.{name_text};
-ghost use Rattle.hex.specs.Hex.{encode_upper};
+ghost use Rattle.j39_listen.specs.Output.{Output, nodes_of};
+ghost use Rattle.arrayvec.specs.ArrayVec.{array_vec_len};
+ghost use Rattle.std.specs.Option.{option_map};
 ghost use Rattle.j39_io.specs.Puts.{Puts};
 ghost use Rattle.j39_listen.specs.Asking.{AsksNowhere};
 ghost use Rattle.j39_listen.specs.Ran.{PassesOn, Ran};
@@ -23,16 +27,17 @@ use crate::account::{Account, LineFault};
 use crate::counts::Made;
 use crate::format::Format;
 use crate::headed::run_headed;
+use crate::names::{push_name, push_name_or_dashes};
 use crate::running::{RunFault, run_over};
 use arrayvec::ArrayVec;
-use j39_address::{Claims, Name};
-use j39_frame::{Frame, NULL_ADDRESS};
+use j39_address::{Claims, Name, claim_of};
+use j39_frame::{Frame, NULL_ADDRESS, Stamp, is_address};
 use j39_io::printing::{push_bytes, push_hex};
 use j39_io::{DeviceFault, Sink, Source, put_all};
-use j39_log::Bus;
+use j39_log::{Bus, push_seconds, push_stamp};
 
-/// Writes, after the whole log, a line for each address that is held, rising: the address and the NAME
-/// that holds it. The log has at most `limit` bytes; without a bus it is that of the first frame in it.
+/// Writes, after the whole log, a line for each address that is held, or from which frames came that are no claims, rising:
+/// the address, the NAME that holds it, when it claimed it last, and when a frame last came from there. The log has at most `limit` bytes; without a bus it is that of the first frame in it.
 /// It takes no memory; no message counts.
 pub fn nodes<R: Source, W: Sink>(
     source: &mut R,
@@ -43,7 +48,7 @@ pub fn nodes<R: Source, W: Sink>(
     // Memory is wanted nowhere.
     ensures memory { result ≢ Err Memory }
 
-    // What the run promises is `Ran`: what is written is who holds an address after the frames of the log, and nothing
+    // What the run promises is `Ran`: what is written is who is at an address after the frames of the log, and nothing
     // else.
     ensures ran { Ran (MakesNodes Line) AsksNowhere bus limit result
         (turn R.remaining R.has_failed source.old source.new) (turn W.written W.has_failed sink.old sink.new) }
@@ -55,7 +60,7 @@ pub fn nodes<R: Source, W: Sink>(
 }
 
 /// Writes the same as comma-separated values (RFC 4180): the names of the columns, before the log is read, and after the
-/// whole log a record for each address that is held.
+/// whole log a record for each such address.
 pub fn nodes_csv<R: Source, W: Sink>(
     source: &mut R,
     sink: &mut W,
@@ -65,7 +70,7 @@ pub fn nodes_csv<R: Source, W: Sink>(
     // Memory is wanted nowhere.
     ensures memory { result ≢ Err Memory }
 
-    // What the run promises is `Ran`: what is written is the names of the columns and who holds an address after the
+    // What the run promises is `Ran`: what is written is the names of the columns and who is at an address after the
     // frames of the log, and nothing else.
     ensures ran { Ran (MakesNodes Record) AsksNowhere bus limit result
         (turn R.remaining R.has_failed source.old source.new) (turn W.written W.has_failed sink.old sink.new) }
@@ -84,12 +89,92 @@ pub fn nodes_csv<R: Source, W: Sink>(
 }
 
 /// The names of the columns of such records.
-const COLUMNS: &[u8] = b"address,name\r\n";
+const COLUMNS: &[u8] = b"address,name,claimed,heard\r\n";
 
-/// The claims of the frames so far, and how they are to be written.
+/// What was seen of an address so far.
+#[derive(Clone, Copy)]
+struct Seen {
+    /// Whether a frame came from there that is no claim.
+    talks: bool,
+    /// The stamp of the last frame from there.
+    heard: Option<Stamp>,
+    /// The stamp of the last claim of it by who holds it.
+    claimed: Option<Stamp>,
+}
+
+impl Seen {
+    /// With one frame more, from an address that this NAME holds from then on.
+    fn with(self, frame: &Frame, holder: Option<Name>) -> Seen
+        requires { source_of frame.now.id < 254 }
+        ensures { (F : List FrameRecord) → HasSeen F (source_of frame.now.id) self
+            → IsHolderAfter (claims_of (F ++ frame.now ∷ [])) (source_of frame.now.id) (option_map name_raw holder)
+            → HasSeen (F ++ frame.now ∷ []) (source_of frame.now.id) result }
+    {
+        let stamp = Some(frame.stamp);
+        match claim_of(frame) {
+            None => Seen {
+                talks: true,
+                heard: stamp,
+                claimed: self.claimed,
+            },
+            Some((name, _)) => {
+                let claimed = last_claim(name, holder, stamp, self.claimed);
+                Seen {
+                    talks: self.talks,
+                    heard: stamp,
+                    claimed,
+                }
+            }
+        }
+    }
+
+    /// Who talks at the address, which nobody holds.
+    fn unheld(self, address: u8) -> Option<Node>
+        ensures { presence address self None ≡ nodes_shown result }
+    {
+        if self.talks {
+            Some(Node {
+                address,
+                name: None,
+                claimed: None,
+                heard: self.heard,
+            })
+        } else {
+            None
+        }
+    }
+}
+
+/// Who is at an address.
+#[derive(Clone, Copy)]
+struct Node {
+    address: u8,
+    name: Option<u64>,
+    claimed: Option<Stamp>,
+    heard: Option<Stamp>,
+}
+
+/// The stamp of the last claim by the holder, where this NAME claims now, and the last one before came then.
+fn last_claim(
+    name: Name,
+    holder: Option<Name>,
+    now: Option<Stamp>,
+    then: Option<Stamp>,
+) -> Option<Stamp>
+    ensures own { option_map name_raw holder ≡ Some (name_raw name) → result ≡ now }
+    ensures other { option_map name_raw holder ≢ Some (name_raw name) → result ≡ then }
+{
+    match holder {
+        None => then,
+        Some(held) => { if held.raw() == name.raw() { now } else { then } }
+    }
+}
+
+/// The claims of the frames so far, what was seen of each address, and how they are to be written.
 #[derive(Drop)]
 pub(crate) struct NodeList {
     claims: Claims,
+    seen: [Seen; NULL_ADDRESS as usize],
     form: Format,
 }
 
@@ -98,9 +183,48 @@ impl NodeList {
     fn new(form: Format) -> NodeList
         ensures { HasNoted form result [] (nodes_of form []) }
     {
+        let unseen = Seen {
+            talks: false,
+            heard: None,
+            claimed: None,
+        };
         NodeList {
             claims: Claims::new(),
+            seen: [unseen; NULL_ADDRESS as usize],
             form,
+        }
+    }
+
+    /// Who is at an address, if anybody is.
+    fn node_at(&self, address: u8) -> Option<Node>
+        requires { address < 254 }
+        ensures { presence_in self.now address ≡ nodes_shown result }
+    {
+        let seen = self.seen[usize::from(address)];
+        match self.claims.holder(address) {
+            Some(name) => Some(Node {
+                address,
+                name: Some(name.raw()),
+                claimed: seen.claimed,
+                heard: seen.heard,
+            }),
+            None => seen.unheld(address),
+        }
+    }
+
+    /// Sees a frame, behind the claims up to it.
+    fn see(&mut self, frame: &Frame)
+        ensures claims { self.new.claims ≡ self.old.claims }
+        ensures form { self.new.form ≡ self.old.form }
+        ensures sees { (F : List FrameRecord) → Knows self.old.claims (F ++ frame.now ∷ [])
+            → ((a : ℕ) → a < 254 → HasSeen F a (seen_at self.old a))
+            → (a : ℕ) → a < 254 → HasSeen (F ++ frame.now ∷ []) a (seen_at self.new a) }
+    {
+        let address = frame.id.source();
+        if is_address(address) {
+            let holder = self.claims.holder(address);
+            let at = usize::from(address);
+            self.seen[at] = self.seen[at].with(frame, holder);
         }
     }
 }
@@ -121,72 +245,112 @@ impl Account for NodeList {
 
     fn feed<W: Sink>(&mut self, _: &Bus, frame: &Frame, _: &mut W) -> Result<(), LineFault> {
         self.claims.note(frame);
+        self.see(frame);
         Ok(())
     }
 
     fn close<W: Sink>(&mut self, sink: &mut W) -> Result<Made, DeviceFault> {
-        let lines = put_nodes(&self.claims, self.form, sink)?;
+        let lines = put_nodes(self, sink)?;
         Ok(Made { messages: 0, lines })
     }
 
     fn laws() {}
 }
 
-/// Writes a line for each address that is held, and answers how many.
-fn put_nodes<W: Sink>(claims: &Claims, form: Format, sink: &mut W) -> Result<u64, DeviceFault>
-    ensures nodes { IfOk result (λ n. (F : List FrameRecord) → Knows claims.now F
-        → (nodes : List Holding) × AreNodes F nodes × (n ≡ length nodes)
-        × Appends (W.written sink.old) (W.written sink.new) (nodes_text form nodes)) }
-    ensures front { OnErr result ((F : List FrameRecord) (nodes : List Holding) → Knows claims.now F → AreNodes F nodes
-        → AppendsFront (W.written sink.old) (W.written sink.new) (nodes_text form nodes)) }
+/// Writes a line for each address where somebody is, and answers how many.
+fn put_nodes<W: Sink>(list: &NodeList, sink: &mut W) -> Result<u64, DeviceFault>
+    ensures nodes { IfOk result (λ n. (F : List FrameRecord) (before : Output) → HasNoted list.now.form list.now F before
+        → (nodes : List Presence) × AreNodes F nodes × (n ≡ length nodes)
+        × Appends (W.written sink.old) (W.written sink.new) (nodes_text list.now.form nodes)) }
+    ensures front { OnErr result ((F : List FrameRecord) (before : Output) (nodes : List Presence) → HasNoted list.now.form list.now F before
+        → AreNodes F nodes → AppendsFront (W.written sink.old) (W.written sink.new) (nodes_text list.now.form nodes)) }
     ensures mark { Marks result (W.has_failed sink.old) (W.has_failed sink.new) }
 {
     let mut lines = 0;
     for address in 0..NULL_ADDRESS {
-        lines += put_holder(claims, form, address, sink)?;
+        lines += put_node(list, address, sink)?;
     }
     Ok(lines)
 }
 
-/// Writes a line where the address is held, and answers how many lines that is.
-fn put_holder<W: Sink>(
-    claims: &Claims,
-    form: Format,
-    address: u8,
-    sink: &mut W,
-) -> Result<u64, DeviceFault>
-    ensures lines { IfOk result (λ n. n ≡ length (node_at address (holder_in claims.now address))) }
-    ensures puts { Puts (nodes_text form (node_at address (holder_in claims.now address)))
+/// Writes a line where somebody is at the address, and answers how many lines that is.
+fn put_node<W: Sink>(list: &NodeList, address: u8, sink: &mut W) -> Result<u64, DeviceFault>
+    requires { address < 254 }
+    ensures lines { IfOk result (λ n. n ≡ length (presence_in list.now address)) }
+    ensures puts { Puts (nodes_text list.now.form (presence_in list.now address))
         result (turn W.written W.has_failed sink.old sink.new) }
 {
-    match claims.holder(address) {
+    match list.node_at(address) {
         None => Ok(0),
-        Some(name) => {
-            put_all(sink, text_of(form, address, name).as_slice())?;
+        Some(node) => {
+            put_all(sink, text_of(list.form, node).as_slice())?;
             Ok(1)
         }
     }
 }
 
 /// The line of a node, or its record.
-fn text_of(form: Format, address: u8, name: Name) -> ArrayVec<u8, 21>
-    ensures { result.items ≡ node_in form (record { address = address; name = name_raw name }) }
+fn text_of(form: Format, node: Node) -> ArrayVec<u8, 64>
+    ensures { result.items ≡ node_in form (presence_of node) }
 {
     match form {
-        Format::Line => joined(address, b" ", name, b"\n"),
-        Format::Record => joined(address, b",", name, b"\r\n"),
+        Format::Line => line_of(node),
+        Format::Record => record_of(node),
     }
 }
 
-/// An address and a NAME, with this between them and that behind them.
-fn joined(address: u8, between: &[u8], name: Name, end: &[u8]) -> ArrayVec<u8, 21>
-    requires { length between.now + length end.now ≤ 3 }
-    ensures { result.items ≡ encode_upper (address ∷ []) ++ between.now ++ name_text (Some (name_raw name)) ++ end.now }
+#[tactic(auto, unfolding(crate::specs::Nodes::node_text))]
+fn line_of(node: Node) -> ArrayVec<u8, 64>
+    ensures { result.items ≡ node_text (presence_of node) }
 {
-    let mut text = ArrayVec::new();
-    push_hex(&mut text, &[address]);
-    push_bytes(&mut text, between);
-    push_hex(&mut text, &name.raw().to_be_bytes());
-    push_bytes(&mut text, end);
-    text
+    let mut line = ArrayVec::new();
+    push_hex(&mut line, &[node.address]);
+    line.push(b' ');
+    push_name_or_dashes(&mut line, node.name);
+    line.push(b' ');
+    push_moment_or_dash(&mut line, node.claimed);
+    line.push(b' ');
+    push_moment_or_dash(&mut line, node.heard);
+    line.push(b'\n');
+    line
+}
+
+#[tactic(auto, unfolding(crate::specs::Nodes::node_record))]
+fn record_of(node: Node) -> ArrayVec<u8, 64>
+    ensures { result.items ≡ node_record (presence_of node) }
+{
+    let mut fields = ArrayVec::new();
+    push_hex(&mut fields, &[node.address]);
+    fields.push(b',');
+    push_name(&mut fields, node.name);
+    fields.push(b',');
+    push_moment(&mut fields, node.claimed);
+    fields.push(b',');
+    push_moment(&mut fields, node.heard);
+    push_bytes(&mut fields, b"\r\n");
+    fields
+}
+
+/// Appends a stamp, or a dash, as lines have it.
+fn push_moment_or_dash(line: &mut ArrayVec<u8, 64>, moment: Option<Stamp>)
+    requires { array_vec_len line.old + 19 ≤ 64 }
+    ensures items { line.new.items ≡ line.old.items ++ moment_or_dash (option_map stamp_micros moment) }
+    ensures len { array_vec_len line.new ≤ array_vec_len line.old + 19 }
+{
+    match moment {
+        Some(stamp) => push_stamp(line, stamp),
+        None => line.push(b'-'),
+    }
+}
+
+/// Appends a stamp without its parentheses, or nothing, as records have it.
+fn push_moment(fields: &mut ArrayVec<u8, 64>, moment: Option<Stamp>)
+    requires { array_vec_len fields.old + 17 ≤ 64 }
+    ensures items { fields.new.items ≡ fields.old.items ++ moment_field (option_map stamp_micros moment) }
+    ensures len { array_vec_len fields.new ≤ array_vec_len fields.old + 17 }
+{
+    match moment {
+        Some(stamp) => push_seconds(fields, stamp.micros()),
+        None => {}
+    }
 }

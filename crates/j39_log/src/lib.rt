@@ -25,4 +25,4 @@ pub use printed::is_printed;
 pub use reading::{RawLine, read_line};
 pub use seconds::Seconds;
 pub use splitter::Splitter;
-pub use stamp_text::push_stamp;
+pub use stamp_text::{push_seconds, push_stamp};

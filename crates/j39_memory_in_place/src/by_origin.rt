@@ -150,6 +150,7 @@ impl<T: Drop> ByOrigin<T> {
 /// What stands where no origin came.
 const NO_ORIGIN: Origin = Origin {
     address: 0,
+    destination: None,
     name: None,
     pgn: 0,
     spn: 0,

@@ -94,12 +94,12 @@ few_put form head rows kind lamps payload left count sink h =
 
 -- of what stands before them
 text_by : (form : Format) (rows : List RowRecord) (m : Hearing) (kind : Kind) (lamps : Lamps) (cs : List (Option Code))
-    → faults_text form rows (map (fault_of m kind lamps) cs) ≡ flat_map (λ code. line_of form (head_in form m.stamp m.message.source m.name) rows kind lamps code) cs
+    → faults_text form rows (map (fault_of m kind lamps) cs) ≡ flat_map (λ code. line_of form (head_in form m.stamp m.message.source m.destination m.name) rows kind lamps code) cs
 unfolding faults_text fault_line fault_record
 text_by Line rows m kind lamps cs = flat_map-map (fault_in Line rows) (fault_of m kind lamps) cs
 text_by Record rows m kind lamps cs = flat_map-map (fault_in Record rows) (fault_of m kind lamps) cs
 
-module _ (form : Format) (rows : List RowRecord) (m : Hearing) (kind : Kind) (lamps : Lamps) (head : List ℕ) (is : head ≡ head_in form m.stamp m.message.source m.name) where
+module _ (form : Format) (rows : List RowRecord) (m : Hearing) (kind : Kind) (lamps : Lamps) (head : List ℕ) (is : head ≡ head_in form m.stamp m.message.source m.destination m.name) where
   abbrev text : List (Option Code) → List ℕ
   text cs = faults_text form rows (map (fault_of m kind lamps) cs)
 

@@ -4,7 +4,7 @@ use Rattle.std.specs.List.{list_any}
 use Rattle.std.specs.Map.{keys_of}
 use Rattle.std.specs.Prelude.{◌<◌, slice_get, slice_set}
 use Rattle.std.proofs.lemmas.List.Quantifiers.{position-Some}
-use Rattle.j39_frame.specs.Origin.{is_same, is_same_name, place_in}
+use Rattle.j39_frame.specs.Origin.{is_same, is_same_or_none, place_in}
 use Rattle.j39_frame.specs.declared.origin.Origin.{Origin}
 use Rattle.j39_frame.proofs.OriginLemmas.{same_self, same_true}
 use Rattle.j39_frame.proofs.PlaceLemmas.{absent, stands}
@@ -17,7 +17,7 @@ use Rattle.j39_reports.specs.declared.summaries.deeds.Deeds.{Deeds}
 use Rattle.j39_reports.proofs.RowLemmas.{bumped, origins_listed, summary_of-more}
 
 -- origins are the same exactly where their entries have one
-one_origin : (a b : Origin) → is_same a b ≡ (a.address == b.address && (is_same_name a.name b.name && (a.pgn == b.pgn && a.spn == b.spn)))
+one_origin : (a b : Origin) → is_same a b ≡ (a.address == b.address && (is_same_or_none a.destination b.destination && (is_same_or_none a.name b.name && (a.pgn == b.pgn && a.spn == b.spn))))
 one_origin a b = refl
 
 -- the value goes to the row of its origin

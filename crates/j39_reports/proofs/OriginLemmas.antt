@@ -7,7 +7,7 @@ use Rattle.j39_listen.specs.Report.{Entry}
 use Rattle.j39_reports.specs.Summary.{have_one_origin}
 
 abbrev origin_of : Entry → Origin
-origin_of e = record { address = e.address; name = e.name; pgn = e.pgn; spn = e.spn }
+origin_of e = record { address = e.address; destination = e.destination; name = e.name; pgn = e.pgn; spn = e.spn }
 
 pub same_self : (e : Entry) → have_one_origin e e ≡ true
 same_self e = origins.same_self (origin_of e)

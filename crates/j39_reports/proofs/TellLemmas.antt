@@ -12,7 +12,7 @@ use Rattle.j39_faults.specs.FaultGroups.{kind_of}
 use Rattle.j39_faults.specs.declared.kind.Kind.{Kind}
 use Rattle.j39_faults.specs.declared.kind.Kind.TheVariants.{Active, Previous, EmissionPending, EmissionActive, EmissionPrevious, Pending, Permanent}
 use Rattle.j39_listen.specs.Heard.{Hearing}
-use Rattle.j39_frame.specs.Origin.{is_same_name}
+use Rattle.j39_frame.specs.Origin.{is_same_or_none}
 use Rattle.j39_faults.specs.Sameness.{tells_same}
 use Rattle.j39_reports.specs.News.{is_news, last_from, says_other}
 use Rattle.j39_reports.specs.Remembered.{Remembers, kept, noted, said_at, said_in}
@@ -212,7 +212,7 @@ module _ (l l' : LastFaults) (ms : List Hearing) (m : Hearing) (kind : Kind) (is
 differs_by : (o : Option Hearing) (m : Hearing) → ((x : Hearing) → o ≡ Some x → take 1785 x.message.bytes ≡ x.message.bytes)
     → differs (option_map said_in o) m.message.bytes m.name ≡ says_other o m
 differs_by None m whole = refl
-differs_by (Some x) m whole = ap (λ bs. not (tells_same bs m.message.bytes && is_same_name x.name m.name)) (whole x refl)
+differs_by (Some x) m whole = ap (λ bs. not (tells_same bs m.message.bytes && is_same_or_none x.name m.name)) (whole x refl)
 
 pub news_is : (l : LastFaults) (ms : List Hearing) (m : Hearing) (kind : Kind) → Remembers l ms → kind_of m.message.pgn ≡ Some kind → m.message.source < 256
     → differs (said_at l kind m.message.source) m.message.bytes m.name ≡ is_news ms m

@@ -12,11 +12,12 @@ use Rattle.j39_listen.specs.Report.{Entry}
 
 -- the names of the columns
 abbrev pub header_text : List ℕ
-header_text = codes "stamp,utc,address,name,pgn,group,spn,parameter,value,unit\r\n"
+header_text = codes "stamp,utc,address,destination,name,pgn,group,spn,parameter,value,unit\r\n"
 
--- the fields that the records of a message begin with: the stamp, the same in UTC, address, NAME and PGN
-abbrev pub begin_text : ℕ → ℕ → Option ℕ → ℕ → List ℕ
-begin_text stamp address name pgn = heard_fields stamp address name ++ codes "," ++ decimal pgn
+-- the fields that the records of a message begin with: the stamp, the same in UTC, address, destination, NAME and PGN
+abbrev pub begin_text : ℕ → ℕ → Option ℕ → Option ℕ → ℕ → List ℕ
+begin_text stamp address destination name pgn =
+    heard_fields stamp address destination name ++ codes "," ++ decimal pgn
 
 -- what the table calls a group and a parameter of it; nothing where it lists none
 abbrev pub group_called : List RowRecord → ℕ → List ℕ
@@ -36,7 +37,7 @@ value_fields value = (comma ∷ bare_text value) ++ (later_text (unit_of value) 
 -- the record of an entry
 abbrev pub entry_record : List RowRecord → Entry → List ℕ
 entry_record groups e =
-    named_fields (begin_text e.stamp e.address e.name e.pgn) (group_called groups e.pgn) e.spn
+    named_fields (begin_text e.stamp e.address e.destination e.name e.pgn) (group_called groups e.pgn) e.spn
     (parameter_called groups e.pgn e.spn) ++ value_fields e.value
 
 abbrev pub entries_text : List RowRecord → List Entry → List ℕ

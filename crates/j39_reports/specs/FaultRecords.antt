@@ -16,11 +16,11 @@ use Rattle.j39_listen.specs.declared.format.Format.TheVariants.{Line, Record}
 
 -- the names of the columns
 abbrev pub fault_columns : List ℕ
-fault_columns = codes "stamp,utc,address,name,state,spn,fmi,count,lamps,parameter,meaning\r\n"
+fault_columns = codes "stamp,utc,address,destination,name,state,spn,fmi,count,lamps,parameter,meaning\r\n"
 
--- the stamp, the same in UTC, the address and the NAME, a comma after each
-abbrev pub head_fields : ℕ → ℕ → Option ℕ → List ℕ
-head_fields stamp address name = heard_fields stamp address name ++ codes ","
+-- the stamp, the same in UTC, the address, the destination and the NAME, a comma after each
+abbrev pub head_fields : ℕ → ℕ → Option ℕ → Option ℕ → List ℕ
+head_fields stamp address destination name = heard_fields stamp address destination name ++ codes ","
 
 -- numbers alone: nothing where a message has no code, or the code doesn't tell them
 abbrev pub spn_of : Parameter → List ℕ
@@ -67,7 +67,7 @@ said_fields rows lamps code = fields_with lamps (parameter_field rows code) code
 -- the record of a fault
 unfoldable pub fault_record : List RowRecord → Fault → List ℕ
 fault_record rows f =
-    head_fields f.stamp f.address f.name ++ record_text (kind_text f.kind) (said_fields rows f.lamps f.code)
+    head_fields f.stamp f.address f.destination f.name ++ record_text (kind_text f.kind) (said_fields rows f.lamps f.code)
 
 -- ---- in either form
 

@@ -17,10 +17,11 @@ use Rattle.j39_listen.specs.Report.{name_text}
 use Rattle.j39_log.specs.StampText.{stamp_text}
 use Rattle.j39_io.specs.Chars.{newline}
 
--- a code, or that a message has none: when it was said, at which address, under which NAME, and with which lamps
+-- a code, or that a message has none: when it was said, at which address, to whom, under which NAME, and with which lamps
 pub record Fault : Type 0 where
   pub stamp : ℕ
   pub address : ℕ
+  pub destination : Option ℕ
   pub name : Option ℕ
   pub kind : Kind
   pub lamps : Lamps
@@ -30,6 +31,7 @@ abbrev pub fault_of : Hearing → Kind → Lamps → Option Code → Fault
 fault_of m kind lamps code = record {
   stamp = m.stamp;
   address = m.message.source;
+  destination = m.destination;
   name = m.name;
   kind = kind;
   lamps = lamps;

@@ -29,9 +29,9 @@ use Rattle.j39_reports.specs.declared.fault_news.last_faults.LastFaults.{LastFau
 use Rattle.j39_reports.specs.declared.fault_news.telling.Telling.{Telling}
 
 -- what stands before what is said
-abbrev pub head_in : Format → ℕ → ℕ → Option ℕ → List ℕ
-head_in Line stamp address name = head_text stamp address name
-head_in Record stamp address name = head_fields stamp address name
+abbrev pub head_in : Format → ℕ → ℕ → Option ℕ → Option ℕ → List ℕ
+head_in Line stamp address destination name = head_text stamp address name
+head_in Record stamp address destination name = head_fields stamp address destination name
 
 -- what is said, as a line or a record ends with it
 abbrev pub said_in : Format → List RowRecord → Kind → Lamps → Option Code → List ℕ

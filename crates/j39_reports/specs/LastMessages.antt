@@ -2,7 +2,7 @@
 use Rattle.std.specs.Prelude.{◌&&◌, not, ℕ, Bool, List, Option, Some, None, map, option_map, slice_index_or, take, true}
 use Rattle.j39_memory.specs.declared.stored.Stored.{Stored}
 use Rattle.j39_memory.specs.Stored.{value_of}
-use Rattle.j39_frame.specs.Origin.{is_same_name}
+use Rattle.j39_frame.specs.Origin.{is_same_or_none}
 use Rattle.j39_faults.specs.Sameness.{tells_same}
 
 -- the bytes of a message, and the NAME that it came under
@@ -15,7 +15,7 @@ abbrev pub said_by : List ℕ → Option ℕ → LastRecord
 said_by bytes name = record { bytes = take 1785 bytes; name = name }
 
 abbrev pub is_said : LastRecord → List ℕ → Option ℕ → Bool
-is_said s bytes name = tells_same s.bytes bytes && is_same_name s.name name
+is_said s bytes name = tells_same s.bytes bytes && is_same_or_none s.name name
 
 abbrev pub differs : Option LastRecord → List ℕ → Option ℕ → Bool
 differs None bytes name = true

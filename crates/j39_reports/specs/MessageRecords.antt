@@ -13,7 +13,7 @@ use Rattle.j39_reports.specs.declared.report_records.records.Records.{Records}
 -- the records are those of this message by this table
 pub record IsBegun (groups : List RowRecord) (h : Hearing) (records : Records) : Type 0 where
   pub by : records.groups.now ≡ groups
-  pub begin_is : drop records.begin.from records.begin.head ≡ begin_text h.stamp h.message.source h.name h.message.pgn
+  pub begin_is : drop records.begin.from records.begin.head ≡ begin_text h.stamp h.message.source h.destination h.name h.message.pgn
   pub group_is : records.group.now ≡ group_called groups h.message.pgn
   pub pgn_is : records.pgn ≡ h.message.pgn
 

@@ -4,7 +4,7 @@ use Rattle.std.specs.Prelude.{filter, if◌then◌else◌, is_some, length, nat_
 use Rattle.std.specs.List.{last_or}
 use Rattle.j39_faults.specs.FaultGroups.{kind_of}
 use Rattle.j39_faults.specs.Sameness.{tells_same}
-use Rattle.j39_frame.specs.Origin.{is_same_name}
+use Rattle.j39_frame.specs.Origin.{is_same_or_none}
 use Rattle.j39_listen.specs.Heard.{Hearing}
 use Rattle.j39_reports.specs.declared.fault_news.telling.Telling.{Telling}
 use Rattle.j39_reports.specs.declared.fault_news.telling.Telling.TheVariants.{News, All}
@@ -27,7 +27,7 @@ last_from pgn source ms = last_or None (filter (λ h. h.message.pgn == pgn && h.
 -- it tells something else, or under another NAME, than what was said before, or nothing was
 abbrev pub says_other : Option Hearing → Hearing → Bool
 says_other None m = true
-says_other (Some l) m = not (tells_same l.message.bytes m.message.bytes && is_same_name l.name m.name)
+says_other (Some l) m = not (tells_same l.message.bytes m.message.bytes && is_same_or_none l.name m.name)
 
 -- behind these messages it is news
 abbrev pub is_news : List Hearing → Hearing → Bool

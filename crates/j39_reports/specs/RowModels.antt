@@ -28,6 +28,7 @@ abbrev pub entry_at : Origin → ℕ → ValueRecord → Entry
 entry_at origin stamp value = record {
   stamp = stamp;
   address = origin.address;
+  destination = origin.destination;
   name = origin.name;
   pgn = origin.pgn;
   spn = origin.spn;

@@ -8,7 +8,7 @@ use Rattle.j39_groups.specs.Names.{name_in}
 use Rattle.j39_groups.specs.Row.{RowRecord}
 use Rattle.j39_groups.specs.Value.{ValueRecord}
 use Rattle.j39_groups.specs.ValueText.{bare_text, scaled_text}
-use Rattle.j39_reports.specs.Columns.{moment_fields, name_field}
+use Rattle.j39_reports.specs.Columns.{moment_fields, sender_fields}
 use Rattle.j39_io.specs.Records.{later_text, line_end}
 use Rattle.j39_listen.specs.Report.{name_text}
 use Rattle.j39_reports.specs.Summary.{Range, Row}
@@ -17,22 +17,28 @@ use Rattle.j39_listen.specs.declared.format.Format.TheVariants.{Line, Record}
 
 -- ---- what a row begins with
 
--- of a line: address, NAME, PGN, SPN, how many values, how many of them words, the stamps of the first and the last
+-- the destination behind the address, where there is one
+abbrev pub destination_text : Option ℕ → List ℕ
+destination_text None = []
+destination_text (Some address) = codes ">" ++ encode_upper (address ∷ [])
+
+-- of a line: address and destination, NAME, PGN, SPN, how many values, how many of them words, the stamps of the first and the last
 unfoldable pub line_head : Row → List ℕ
 line_head row =
-    encode_upper (row.first.address ∷ []) ++ codes " " ++ name_text row.first.name ++ codes " " ++ decimal row.first.pgn
+    encode_upper (row.first.address ∷ []) ++ destination_text row.first.destination
+    ++ codes " " ++ name_text row.first.name ++ codes " " ++ decimal row.first.pgn
     ++ codes " " ++ decimal row.first.spn ++ codes " " ++ decimal row.count ++ codes " " ++ decimal row.words
     ++ codes " " ++ stamp_text row.first.stamp ++ codes " " ++ stamp_text row.last.stamp
 
 -- the names of a record's columns
 abbrev pub summary_columns : List ℕ
 summary_columns =
-    codes "address,name,pgn,spn,parameter,values,words,first_stamp,first_utc,last_stamp,last_utc,least,most,unit,first,last\r\n"
+    codes "address,destination,name,pgn,spn,parameter,values,words,first_stamp,first_utc,last_stamp,last_utc,least,most,unit,first,last\r\n"
 
--- address, NAME, PGN and SPN
+-- address, destination, NAME, PGN and SPN
 unfoldable pub origin_fields : Row → List ℕ
 origin_fields row =
-    encode_upper (row.first.address ∷ []) ++ codes "," ++ name_field row.first.name
+    sender_fields row.first.address row.first.destination row.first.name
     ++ codes "," ++ decimal row.first.pgn ++ codes "," ++ decimal row.first.spn
 
 -- how many values, how many of them words, and the moments of the first and the last

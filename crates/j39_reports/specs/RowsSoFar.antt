@@ -65,6 +65,7 @@ pub record HasTaken (message : Message) (rows : Rows) (readings : List ReadingRe
   pub are_rows : AreRowsOf (pairs_of rows.rows) (message.before ++ map (entry_of message.hearing) readings)
   pub stamp_is : stamp_micros rows.stamp ≡ message.hearing.stamp
   pub address_is : rows.address ≡ message.hearing.message.source
+  pub destination_is : rows.destination ≡ message.hearing.destination
   pub name_is : rows.name ≡ message.hearing.name
   pub pgn_is : rows.pgn ≡ message.hearing.message.pgn
 

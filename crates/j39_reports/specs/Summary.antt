@@ -3,14 +3,15 @@ use Rattle.std.specs.Prelude.{◌≡◌, ◌==◌, ◌&&◌, not, ℕ, ℤ, Bool
 use Rattle.std.specs.Int.{int_max, int_min}
 use Rattle.std.specs.List.{filter_map, list_any}
 use Rattle.std.specs.Str.{bytes_eq}
-use Rattle.j39_frame.specs.Origin.{is_same_name}
+use Rattle.j39_frame.specs.Origin.{is_same_or_none}
 use Rattle.j39_groups.specs.Value.{SlotRecord, ValueRecord, number, on, off, error, reserved, indicator, text}
 use Rattle.j39_listen.specs.Counting.{capped}
 use Rattle.j39_listen.specs.Report.{Entry}
 
--- two values are of one parameter of one controller: address, NAME, PGN and SPN are the same
+-- two values are of one parameter of one controller, sent to the same: address, destination, NAME, PGN and SPN are the same
 abbrev pub have_one_origin : Entry → Entry → Bool
-have_one_origin e f = e.address == f.address && (is_same_name e.name f.name && (e.pgn == f.pgn && e.spn == f.spn))
+have_one_origin e f = e.address == f.address && (is_same_or_none e.destination f.destination
+    && (is_same_or_none e.name f.name && (e.pgn == f.pgn && e.spn == f.spn)))
 
 -- the first value of each parameter of each controller, in order
 unfoldable pub firsts : List Entry → List Entry

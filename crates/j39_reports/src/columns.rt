@@ -1,8 +1,7 @@
 //! What several lines and records have (own).
 ghost use Rattle.std.specs.Prelude.{◌≡◌, ◌+◌, ◌≤◌, ◌++◌, ◌∷◌, [], decimal, option_map};
 ghost use Rattle.arrayvec.specs.ArrayVec.{array_vec_len};
-ghost use Rattle.j39_listen.specs.Report.{name_text};
-ghost use Rattle.j39_reports.specs.Columns.{heard_fields, moment_fields, name_field, seconds_text};
+ghost use Rattle.j39_reports.specs.Columns.{destination_field, heard_fields, moment_fields, sender_fields};
 ghost use Rattle.j39_address.specs.Name.{name_raw};
 ghost use Rattle.j39_frame.specs.Stamp.{stamp_micros};
 
@@ -10,19 +9,9 @@ use crate::utc::utc_text;
 use arrayvec::ArrayVec;
 use j39_address::Name;
 use j39_frame::Stamp;
-use j39_io::printing::{push_bytes, push_hex, push_last_digits, push_number};
-use j39_listen::Heard;
-
-/// Appends the seconds of a stamp with six places.
-pub fn push_seconds<const N: usize>(text: &mut ArrayVec<u8, N>, micros: u64)
-    requires { array_vec_len text.old + 17 ≤ N }
-    ensures items { text.new.items ≡ text.old.items ++ seconds_text micros }
-    ensures len { array_vec_len text.new ≡ array_vec_len text.old + 17 }
-{
-    push_last_digits(text, 10, micros / 1_000_000);
-    text.push(b'.');
-    push_last_digits(text, 6, micros % 1_000_000);
-}
+use j39_io::printing::{push_bytes, push_hex, push_number};
+use j39_listen::{Heard, push_name};
+use j39_log::push_seconds;
 
 /// Appends the seconds of a stamp, a comma, and the same moment in UTC.
 pub fn push_moment<const N: usize>(fields: &mut ArrayVec<u8, N>, stamp: Stamp)
@@ -35,42 +24,51 @@ pub fn push_moment<const N: usize>(fields: &mut ArrayVec<u8, N>, stamp: Stamp)
     push_bytes(fields, utc_text(stamp).as_slice());
 }
 
-/// What the records of a message begin with: the moment, the address and the NAME.
+/// What the records of a message begin with: the moment, the address, the destination and the NAME.
 #[tactic(auto, unfolding(crate::specs::Columns::heard_fields))]
 pub fn heard_fields(heard: &Heard<'_>) -> ArrayVec<u8, 88>
     ensures items { result.items ≡ heard_fields (stamp_micros heard.now.message.stamp) heard.now.message.source
-        (option_map name_raw heard.now.name) }
-    ensures len { array_vec_len result ≤ 65 }
+        heard.now.destination (option_map name_raw heard.now.name) }
+    ensures len { array_vec_len result ≤ 68 }
 {
     let mut fields = ArrayVec::new();
     push_moment(&mut fields, heard.message.stamp);
     fields.push(b',');
-    push_hex(&mut fields, &[heard.message.source]);
-    fields.push(b',');
-    push_name(&mut fields, heard.name.map(Name::raw));
+    push_sender(
+        &mut fields,
+        heard.message.source,
+        heard.destination,
+        heard.name.map(Name::raw),
+    );
     fields
 }
 
-/// Appends a NAME in sixteen hex digits, or sixteen dashes, as lines have it.
-pub fn push_name_or_dashes<const N: usize>(text: &mut ArrayVec<u8, N>, name: Option<u64>)
-    requires { array_vec_len text.old + 16 ≤ N }
-    ensures items { text.new.items ≡ text.old.items ++ name_text name }
-    ensures len { array_vec_len text.new ≡ array_vec_len text.old + 16 }
+/// Appends an address, the destination and the NAME at the address, as records have them.
+pub fn push_sender<const N: usize>(
+    fields: &mut ArrayVec<u8, N>,
+    address: u8,
+    destination: Option<u8>,
+    name: Option<u64>,
+)
+    requires { array_vec_len fields.old + 22 ≤ N }
+    ensures items { fields.new.items ≡ fields.old.items ++ sender_fields address destination name }
+    ensures len { array_vec_len fields.new ≤ array_vec_len fields.old + 22 }
 {
-    match name {
-        Some(name) => push_hex(text, &name.to_be_bytes()),
-        None => push_bytes(text, b"----------------"),
-    }
+    push_hex(fields, &[address]);
+    fields.push(b',');
+    push_destination(fields, destination);
+    fields.push(b',');
+    push_name(fields, name);
 }
 
-/// Appends a NAME in sixteen hex digits, or nothing, as records have it.
-pub fn push_name<const N: usize>(text: &mut ArrayVec<u8, N>, name: Option<u64>)
-    requires { array_vec_len text.old + 16 ≤ N }
-    ensures items { text.new.items ≡ text.old.items ++ name_field name }
-    ensures len { array_vec_len text.new ≤ array_vec_len text.old + 16 }
+/// Appends a destination in two hex digits, or nothing.
+pub fn push_destination<const N: usize>(text: &mut ArrayVec<u8, N>, destination: Option<u8>)
+    requires { array_vec_len text.old + 2 ≤ N }
+    ensures items { text.new.items ≡ text.old.items ++ destination_field destination }
+    ensures len { array_vec_len text.new ≤ array_vec_len text.old + 2 }
 {
-    match name {
-        Some(name) => push_hex(text, &name.to_be_bytes()),
+    match destination {
+        Some(address) => push_hex(text, &[address]),
         None => {}
     }
 }

@@ -1,7 +1,7 @@
 //! What was said last in a message of faults.
 ghost use Rattle.std.specs.Prelude.{◌≡◌, ◌≤◌, length, option_map, take};
 ghost use Rattle.j39_address.specs.Name.{name_raw};
-ghost use Rattle.j39_frame.specs.Origin.{is_same_name};
+ghost use Rattle.j39_frame.specs.Origin.{is_same_or_none};
 ghost use Rattle.j39_reports.specs.LastMessages.{is_said, said_by};
 
 use arrayvec::ArrayVec;
@@ -69,7 +69,7 @@ fn front_of(payload: &[u8]) -> &[u8]
 }
 
 fn is_same_name(one: Option<Name>, other: Option<Name>) -> bool
-    ensures { result ≡ is_same_name (option_map name_raw one) (option_map name_raw other) }
+    ensures { result ≡ is_same_or_none (option_map name_raw one) (option_map name_raw other) }
 {
     match (one, other) {
         (None, None) => true,

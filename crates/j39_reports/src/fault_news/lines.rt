@@ -12,7 +12,7 @@ ghost use Rattle.j39_reports.specs.FaultRecords.{faults_text, head_fields};
 ghost use Rattle.j39_reports.specs.FaultsSoFar.{head_in, line_of, said_in};
 ghost use Rattle.j39_listen.specs.declared.format.Format.TheVariants.{Line};
 
-use crate::columns::{heard_fields, push_name_or_dashes};
+use crate::columns::heard_fields;
 use crate::fault_news::form::{Said, Writing};
 use crate::fault_news::names::name_in;
 use crate::fault_news::records::put_fields;
@@ -22,7 +22,7 @@ use j39_faults::{Kind, Lamps, codes_of, put_code, put_no_code};
 use j39_groups::Groups;
 use j39_io::printing::{push_bytes, push_hex};
 use j39_io::{DeviceFault, Sink, put_all};
-use j39_listen::{Format, Heard};
+use j39_listen::{Format, Heard, push_name_or_dashes};
 use j39_log::push_stamp;
 
 /// What the lines of a message begin with, or its records.
@@ -115,7 +115,7 @@ fn put_said<W: Sink>(groups: &Groups<'_>, said: Said, sink: &mut W) -> Result<()
 /// What stands before what is said.
 fn head_of(form: Format, heard: &Heard<'_>) -> Head
     ensures { result.items ≡ head_in form (stamp_micros heard.now.message.stamp) heard.now.message.source
-        (option_map name_raw heard.now.name) }
+        heard.now.destination (option_map name_raw heard.now.name) }
 {
     match form {
         Format::Line => line_head(heard),
@@ -138,10 +138,10 @@ fn line_head(heard: &Heard<'_>) -> Head
     head
 }
 
-/// The stamp, the same in UTC, the address and the NAME, a comma after each.
+/// The stamp, the same in UTC, the address, the destination and the NAME, a comma after each.
 fn record_head(heard: &Heard<'_>) -> Head
     ensures { result.items ≡ head_fields (stamp_micros heard.now.message.stamp) heard.now.message.source
-        (option_map name_raw heard.now.name) }
+        heard.now.destination (option_map name_raw heard.now.name) }
 {
     let mut head = heard_fields(heard);
     head.push(b',');

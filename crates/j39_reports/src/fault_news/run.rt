@@ -15,7 +15,8 @@ use j39_log::Bus;
 use std::alloc::Global;
 
 /// The names of the columns of records.
-const COLUMNS: &[u8] = b"stamp,utc,address,name,state,spn,fmi,count,lamps,parameter,meaning\r\n";
+const COLUMNS: &[u8] =
+    b"stamp,utc,address,destination,name,state,spn,fmi,count,lamps,parameter,meaning\r\n";
 
 /// Writes the fault codes in a log of at most `limit` bytes: a line, or a record of comma-separated values (RFC 4180),
 /// for each code of each message of faults that is told, with the name that a table of parameters has for its

@@ -6,7 +6,8 @@ ghost use Rattle.j39_io.specs.Backwards.{WritesBefore};
 ghost use Rattle.j39_io.specs.Printing.{last_digits};
 ghost use Rattle.j39_frame.specs.Pgn.{pgn_raw};
 ghost use Rattle.j39_frame.specs.Stamp.{stamp_micros};
-ghost use Rattle.j39_reports.specs.Columns.{moment_fields, name_field};
+ghost use Rattle.j39_listen.specs.Report.{name_field};
+ghost use Rattle.j39_reports.specs.Columns.{destination_field, moment_fields, sender_fields};
 ghost use Rattle.j39_reports.specs.EntryText.{begin_text};
 ghost use Rattle.j39_reports.specs.Utc.{second_text};
 
@@ -85,11 +86,12 @@ impl Second {
     }
 }
 
-/// What the records of a message begin with: the moment, the address, the NAME and the PGN.
+/// What the records of a message begin with: the moment, the address, the destination, the NAME and the PGN.
 #[inline(always)]
 pub(crate) fn begin_of(heard: &Heard<'_>, second: &mut Second) -> Begin
     ensures { drop result.from result.head ≡ begin_text (stamp_micros heard.now.message.stamp)
-        heard.now.message.source (option_map name_raw heard.now.name) (pgn_raw heard.now.message.pgn) }
+        heard.now.message.source heard.now.destination (option_map name_raw heard.now.name)
+        (pgn_raw heard.now.message.pgn) }
 {
     let mut head = [0; HEAD];
     let from = begin_before(&mut head, heard, second);
@@ -100,16 +102,30 @@ pub(crate) fn begin_of(heard: &Heard<'_>, second: &mut Second) -> Begin
 #[inline(always)]
 fn begin_before(out: &mut [u8; HEAD], heard: &Heard<'_>, second: &mut Second) -> usize
     ensures begin { drop result out.new ≡ begin_text (stamp_micros heard.now.message.stamp) heard.now.message.source
-        (option_map name_raw heard.now.name) (pgn_raw heard.now.message.pgn) }
+        heard.now.destination (option_map name_raw heard.now.name) (pgn_raw heard.now.message.pgn) }
     ensures within { result ≤ 96 }
 {
     let group = digits_before(out, HEAD, heard.message.pgn.raw());
-    let third = byte_before(out, group, b',');
-    let name = name_before(out, third, heard.name);
-    let comma = byte_before(out, name, b',');
-    let address = hex_before(out, comma, &[heard.message.source]);
-    let first = byte_before(out, address, b',');
+    let comma = byte_before(out, group, b',');
+    let sender = sender_before(out, comma, heard);
+    let first = byte_before(out, sender, b',');
     second.moment_before(out, first, heard.message.stamp)
+}
+
+/// Writes the address, the destination and the NAME.
+#[inline(always)]
+fn sender_before(out: &mut [u8], end: usize, heard: &Heard<'_>) -> usize
+    requires room { 22 ≤ end }
+    requires within { end ≤ length out.old }
+    ensures written { WritesBefore out.old out.new end result (sender_fields heard.now.message.source
+        heard.now.destination (option_map name_raw heard.now.name)) }
+    ensures short { end ≤ result + 22 }
+{
+    let name = name_before(out, end, heard.name);
+    let second = byte_before(out, name, b',');
+    let destination = destination_before(out, second, heard.destination);
+    let first = byte_before(out, destination, b',');
+    hex_before(out, first, &[heard.message.source])
 }
 
 /// Writes a NAME in sixteen hex digits, or nothing.
@@ -122,6 +138,20 @@ fn name_before(out: &mut [u8], end: usize, name: Option<Name>) -> usize
 {
     match name {
         Some(name) => bytes_before(out, end, hex_of_eight(&name.raw().to_be_bytes())),
+        None => end,
+    }
+}
+
+/// Writes a destination in two hex digits, or nothing.
+#[inline(always)]
+fn destination_before(out: &mut [u8], end: usize, destination: Option<u8>) -> usize
+    requires room { 2 ≤ end }
+    requires within { end ≤ length out.old }
+    ensures written { WritesBefore out.old out.new end result (destination_field destination) }
+    ensures short { end ≤ result + 2 }
+{
+    match destination {
+        Some(address) => hex_before(out, end, &[address]),
         None => end,
     }
 }

@@ -1,15 +1,16 @@
 //! The rows of a summary, as lines or as records.
-ghost use Rattle.std.specs.Prelude.{◌≡◌, ◌++◌, ◌∷◌, [], Some, codes, map};
+ghost use Rattle.std.specs.Prelude.{◌≡◌, ◌+◌, ◌≤◌, ◌++◌, ◌∷◌, [], Some, codes, map};
+ghost use Rattle.arrayvec.specs.ArrayVec.{array_vec_len};
 ghost use Rattle.std.specs.Option.{option_map};
 ghost use Rattle.j39_io.specs.Puts.{Puts};
 ghost use Rattle.j39_io.specs.Turn.{turn};
 ghost use Rattle.j39_memory.specs.ByOrigin.{pairs_of};
 ghost use Rattle.j39_io.specs.Chars.{newline};
 ghost use Rattle.j39_groups.specs.ValueText.{bare_text};
-ghost use Rattle.j39_reports.specs.RowText.{bounds_in, called_in, end_in, head_in, line_head, no_range, range_in, row_in, separator_of, summary_text, unit_in, value_in, values_in};
+ghost use Rattle.j39_reports.specs.RowText.{bounds_in, called_in, end_in, head_in, destination_text, line_head, no_range, range_in, row_in, separator_of, summary_text, unit_in, value_in, values_in};
 ghost use Rattle.j39_reports.specs.RowModels.{kept_value, range_of_span, row_shown};
 
-use crate::columns::{push_behind, push_name_or_dashes};
+use crate::columns::push_behind;
 use crate::parts::put_parts;
 use crate::summaries::deeds::{Deeds, Span};
 use crate::summaries::kept::Kept;
@@ -19,7 +20,7 @@ use j39_frame::Origin;
 use j39_groups::{Groups, Value, put_value, scaled_text};
 use j39_io::printing::push_hex;
 use j39_io::{DeviceFault, Sink, put_all, put_behind_comma};
-use j39_listen::Format;
+use j39_listen::{Format, push_name_or_dashes};
 use j39_log::push_stamp;
 use j39_memory::ByOrigin;
 
@@ -82,6 +83,7 @@ fn line_head_of(origin: Origin, deeds: &Deeds<'_>) -> ArrayVec<u8, 160>
 {
     let mut head = ArrayVec::new();
     push_hex(&mut head, &[origin.address]);
+    push_destination(&mut head, origin.destination);
     head.push(b' ');
     push_name_or_dashes(&mut head, origin.name);
     push_behind(&mut head, b' ', u64::from(origin.pgn));
@@ -93,6 +95,21 @@ fn line_head_of(origin: Origin, deeds: &Deeds<'_>) -> ArrayVec<u8, 160>
     head.push(b' ');
     push_stamp(&mut head, deeds.last.stamp);
     head
+}
+
+/// Appends the destination behind the address, where there is one.
+fn push_destination<const N: usize>(head: &mut ArrayVec<u8, N>, destination: Option<u8>)
+    requires { array_vec_len head.old + 3 ≤ N }
+    ensures items { head.new.items ≡ head.old.items ++ destination_text destination }
+    ensures len { array_vec_len head.new ≤ array_vec_len head.old + 3 }
+{
+    match destination {
+        Some(address) => {
+            head.push(b'>');
+            push_hex(head, &[address]);
+        }
+        None => {}
+    }
 }
 
 /// Writes the least number, the most and their unit, the first value and the last.

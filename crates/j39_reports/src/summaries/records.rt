@@ -6,12 +6,11 @@ ghost use Rattle.j39_groups.specs.Names.{name_in};
 ghost use Rattle.j39_reports.specs.RowText.{count_fields, origin_fields, record_head};
 ghost use Rattle.j39_reports.specs.RowModels.{row_shown};
 
-use crate::columns::{push_behind, push_moment, push_name};
+use crate::columns::{push_behind, push_moment, push_sender};
 use crate::summaries::deeds::Deeds;
 use arrayvec::ArrayVec;
 use j39_frame::Origin;
 use j39_groups::Groups;
-use j39_io::printing::push_hex;
 use j39_io::{DeviceFault, Sink, put_all, put_behind_comma};
 
 /// Writes the origin, what the table calls the parameter, the counts and the moments.
@@ -46,9 +45,7 @@ fn origin_of(origin: Origin, deeds: &Deeds<'_>) -> ArrayVec<u8, 64>
     ensures { result.items ≡ origin_fields (row_shown (origin, deeds.now)) }
 {
     let mut fields = ArrayVec::new();
-    push_hex(&mut fields, &[origin.address]);
-    fields.push(b',');
-    push_name(&mut fields, origin.name);
+    push_sender(&mut fields, origin.address, origin.destination, origin.name);
     push_behind(&mut fields, b',', u64::from(origin.pgn));
     push_behind(&mut fields, b',', u64::from(origin.spn));
     fields

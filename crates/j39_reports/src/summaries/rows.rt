@@ -30,6 +30,7 @@ pub(crate) struct Rows<'t> {
     alloc: Global,
     stamp: Stamp,
     address: u8,
+    destination: Option<u8>,
     name: Option<u64>,
     pgn: u32,
 }
@@ -45,6 +46,7 @@ impl<'t> Rows<'t> {
             alloc,
             stamp: Stamp::new(0).unwrap(),
             address: 0,
+            destination: None,
             name: None,
             pgn: 0,
         }
@@ -58,6 +60,7 @@ impl<'t> Rows<'t> {
     {
         self.stamp = heard.message.stamp;
         self.address = heard.message.source;
+        self.destination = heard.destination;
         self.name = heard.name.map(Name::raw);
         self.pgn = heard.message.pgn.raw();
     }
@@ -79,6 +82,7 @@ fn again(origin: Origin) -> Origin
 {
     Origin {
         address: origin.address,
+        destination: origin.destination,
         name: origin.name,
         pgn: origin.pgn,
         spn: origin.spn,
@@ -181,6 +185,7 @@ impl<'t> ReadingVisitor<'t, ()> for Rows<'t> {
     fn visit(&mut self, spn: u32, value: Value<'t, '_>, _: &mut ()) -> Result<(), AllocError> {
         let origin = Origin {
             address: self.address,
+            destination: self.destination,
             name: self.name,
             pgn: self.pgn,
             spn,

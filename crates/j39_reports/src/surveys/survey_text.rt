@@ -7,12 +7,12 @@ ghost use Rattle.j39_io.specs.Chars.{newline};
 ghost use Rattle.j39_reports.specs.SurveyModels.{interface_record, others_record, shown_record};
 ghost use Rattle.j39_reports.specs.SurveyText.{byte_text, interface_text, others_text, shown_text, unread_text, untold_text};
 
-use crate::columns::push_seconds;
 use crate::surveys::interfaces::InterfaceCounts;
 use crate::surveys::others::Others;
 use crate::surveys::unread::UnreadLine;
 use arrayvec::ArrayVec;
 use j39_io::printing::{push_bytes, push_hex, push_number};
+use j39_log::push_seconds;
 
 /// Appends a name and a number, of 20 digits at most.
 #[tactic(auto, using(crate::proofs::NumberLemmas::short_decimal))]

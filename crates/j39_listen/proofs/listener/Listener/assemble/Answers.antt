@@ -6,6 +6,8 @@ use Rattle.j39_address.specs.Claim.{claims_of}
 use Rattle.j39_address.specs.Holder.{IsHolderAfter}
 use Rattle.j39_frame.specs.Frame.{FrameRecord}
 use Rattle.j39_frame.specs.Identifier.{source_of}
+use Rattle.j39_frame.specs.Pgn.{pgn_raw}
+use Rattle.j39_listen.specs.Heard.{sent_to}
 use Rattle.j39_listen.proofs.ListenerLemmas.{heard_many, hears_quiet, on_ok, silent_many}
 use Rattle.j39_listen.proofs.listener.Listener.assemble.Goals as goal
 
@@ -21,7 +23,7 @@ returns-in-Whole c = (
     heard = λ singles leaves many F h.
         let said = rw c.in-Whole.is at (c.in_ok-message.ensures.answer h.events h.stands) in
         let name = subst (λ a. IsHolderAfter (claims_of F) a (option_map name_raw c.holder-name.result)) (c.source.ensures ∙ ap (λ (x : FrameRecord). source_of x.id) c.frame.view_is) (c.holder-name.ensures.holder F h.knows) in
-        heard_many singles leaves c.args.self.now F c.args.frame.now _ _ _ many h name said.0 said.1;
+        heard_many singles leaves c.args.self.now F c.args.frame.now _ _ _ _ many h name (c.destination-destination.ensures ∙ ap (λ (x : FrameRecord). sent_to (pgn_raw c.in-Whole.message.pgn) x.id) c.frame.view_is) said.0 said.1;
     short = rw c.in-Whole.is at c.in_ok-message.ensures.short;
     refused = tt;
     wanted = tt;

@@ -1,34 +1,26 @@
 -- The parts, one before the other.
-use Rattle.std.proofs.Common.{ℕ, List, ◌≡◌, ◌++◌, ◌∷◌, [], refl, ap, ◌∙◌, append_assoc, arith}
+use Rattle.std.proofs.Common.{ℕ, List, ◌≡◌, ◌++◌, ◌∷◌, [], refl, ◌∙◌, append_assoc, arith}
 use Rattle.std.specs.Fmt.{decimal}
 use Rattle.std.specs.Option.{option_map}
-use Rattle.hex.specs.Hex.{encode_upper}
 use Rattle.j39_address.specs.Name.{name_raw}
 use Rattle.j39_io.proofs.BackwardsLemmas.{before_end, before_then}
 use Rattle.j39_frame.specs.Pgn.{pgn_raw}
 use Rattle.j39_frame.specs.Stamp.{stamp_micros}
-use Rattle.j39_reports.specs.Columns.{heard_fields, moment_fields, name_field}
+use Rattle.j39_reports.specs.Columns.{heard_fields, moment_fields, sender_fields}
 use Rattle.j39_reports.proofs.report_records.begin.begin_before.Goals as goal
 
-regroup : (moment address name group : List ℕ)
-    → moment ++ ((44 ∷ []) ++ (address ++ ((44 ∷ []) ++ (name ++ ((44 ∷ []) ++ group)))))
-    ≡ moment ++ (44 ∷ []) ++ address ++ (44 ∷ []) ++ name ++ (44 ∷ []) ++ group
-regroup moment address name group = simp append_assoc refl
-
-joined : (stamp address : ℕ) (name : List ℕ) (told pgn : ℕ) (heard : List ℕ) → told ≡ pgn
-    → heard ≡ moment_fields stamp ++ (44 ∷ []) ++ encode_upper (address ∷ []) ++ (44 ∷ []) ++ name
-    → moment_fields stamp ++ ((44 ∷ []) ++ (encode_upper (address ∷ []) ++ ((44 ∷ []) ++ (name ++ ((44 ∷ []) ++ decimal told)))))
-    ≡ heard ++ (44 ∷ []) ++ decimal pgn
-joined stamp address name told pgn heard same is =
-    rw (is, same) (regroup (moment_fields stamp) (encode_upper (address ∷ [])) name (decimal pgn))
+joined : (moment sender heard : List ℕ) (told pgn : ℕ) → told ≡ pgn → heard ≡ moment ++ (44 ∷ []) ++ sender
+    → moment ++ ((44 ∷ []) ++ (sender ++ ((44 ∷ []) ++ decimal told))) ≡ heard ++ (44 ∷ []) ++ decimal pgn
+joined moment sender heard told pgn same is = rw (is, same) (simp append_assoc refl)
 
 pub returns-clause-begin : goal.returns-clause-begin
 unfolding heard_fields
 returns-clause-begin c =
     let heard = c.args.heard.now in
     before_end _ _ 96 _ _ (omega arith)
-    (before_then _ _ _ _ _ _ _ _ (before_then _ _ _ _ _ _ _ _ (before_then _ _ _ _ _ _ _ _ (before_then _ _ _ _ _ _ _ _ (before_then _ _ _ _ _ _ _ _ (before_then _ _ _ _ _ _ _ _
-    c.digits_before-group.ensures.written c.byte_before-third.ensures) c.name_before-name.ensures.written) c.byte_before-comma.ensures) c.hex_before-address.ensures.written)
+    (before_then _ _ _ _ _ _ _ _ (before_then _ _ _ _ _ _ _ _ (before_then _ _ _ _ _ _ _ _ (before_then _ _ _ _ _ _ _ _
+    c.digits_before-group.ensures.written c.byte_before-comma.ensures) c.sender_before-sender.ensures.written)
     c.byte_before-first.ensures) c.moment_before.ensures)
-    ∙ joined (stamp_micros heard.message.stamp) heard.message.source (name_field (option_map name_raw heard.name))
-    c.raw.result (pgn_raw heard.message.pgn) (heard_fields (stamp_micros heard.message.stamp) heard.message.source (option_map name_raw heard.name)) c.raw.ensures.value refl
+    ∙ joined (moment_fields (stamp_micros heard.message.stamp)) (sender_fields heard.message.source heard.destination (option_map name_raw heard.name))
+    (heard_fields (stamp_micros heard.message.stamp) heard.message.source heard.destination (option_map name_raw heard.name))
+    c.raw.result (pgn_raw heard.message.pgn) c.raw.ensures.value refl
