@@ -16,7 +16,11 @@ use Rattle.j39_controller.specs.declared.sending.Sending.{Sending}
 use Rattle.j39_controller.specs.declared.sending.ToAll.{ToAll}
 use Rattle.j39_controller.specs.declared.sending.ToOne.{ToOne}
 use Rattle.j39_controller.specs.declared.settled.Settled.{Settled}
+use Rattle.j39_controller.specs.declared.settled.Ending.{Ending}
 use Rattle.j39_controller.specs.declared.settled.Ending.TheVariants as ending
+use Rattle.j39_transport.specs.SenderModel.{state_of}
+use Rattle.j39_transport.specs.declared.progress.SendState.{SendState}
+use Rattle.j39_transport.specs.declared.progress.SendState.TheVariants as state
 
 abbrev pub message_of : ℕ → ℕ → List ℕ → MessageRecord
 message_of source pgn bytes = record { source = source; pgn = pgn; bytes = bytes }
@@ -137,18 +141,32 @@ abbrev pub told_all : Option ToAll → List Settled
 told_all None = []
 told_all (Some b) = record { number = b.number; ending = ending.Withdrawn } ∷ []
 
+-- a transfer that its receiver acknowledged is done, and one that was aborted failed, though no turn told it so far; any other
+-- is withdrawn
+abbrev pub ending_of : SendState → Ending
+ending_of state.Idle = ending.Withdrawn
+ending_of state.Waiting = ending.Withdrawn
+ending_of state.Sending = ending.Withdrawn
+ending_of state.Done = ending.Done
+ending_of (state.Failed reason) = ending.Failed reason
+
 abbrev pub told_one : Option ToOne → List Settled
 told_one None = []
-told_one (Some t) = record { number = t.number; ending = ending.Withdrawn } ∷ []
+told_one (Some t) = record { number = t.number; ending = ending_of (state_of t.sender.state) } ∷ []
 
--- the message on its way is told as withdrawn
+-- the message on its way is told as withdrawn, or as it ended
 abbrev pub on_its_way : Sending → List Settled
 on_its_way s = told_all s.to_all ++ told_one s.to_one
 
--- and 4 s of quiet follow a transfer
+-- and 4 s of quiet follow a transfer that isn't done
+abbrev pub quiet_behind : Ending → ℕ → ℕ → ℕ
+quiet_behind ending.Done now until = until
+quiet_behind (ending.Failed reason) now until = now + quiet
+quiet_behind ending.Withdrawn now until = now + quiet
+
 abbrev pub quiet_after : Option ToOne → ℕ → ℕ → ℕ
 quiet_after None now until = until
-quiet_after (Some t) now until = now + quiet
+quiet_after (Some t) now until = quiet_behind (ending_of (state_of t.sender.state)) now until
 
 abbrev pub HasLost : Sending → ℕ → Sending → Type 0
 HasLost old now new =

@@ -5,7 +5,7 @@ ghost use Rattle.std.specs.Result.{OnOk};
 ghost use Rattle.j39_frame.specs.Pgn.{pgn_raw};
 ghost use Rattle.j39_frame.specs.Stamp.{stamp_micros};
 ghost use Rattle.j39_transport.specs.Cutting.{to_send};
-ghost use Rattle.j39_controller.specs.Sending.{BeginsBroadcast, BeginsTransfer, HasLost, IsFree, Polls, Ticks, hears, message_of, new_sending, on_its_way};
+ghost use Rattle.j39_controller.specs.Sending.{BeginsBroadcast, BeginsTransfer, HasLost, IsFree, Polls, Ticks, ending_of, hears, message_of, new_sending, on_its_way, quiet_behind};
 
 use crate::outbox::{MessageFrame, Outbox};
 use crate::owned_broadcast::OwnedBroadcast;
@@ -175,8 +175,8 @@ impl Sending {
         Ok(sent)
     }
 
-    /// Drops the message that is on its way, since its address is lost, and tells so. A transfer may leave its
-    /// receiver with a session, as one that failed does.
+    /// Drops the message that is on its way, since its address is lost, and tells so. A transfer that is over is told as
+    /// it ended; any other may leave its receiver with a session, as one that failed does.
     pub(crate) fn withdraw(
         &mut self,
         now: Stamp,
@@ -189,10 +189,35 @@ impl Sending {
             tell(settled, to_all.number, Ending::Withdrawn)?;
         }
         if let Some(to_one) = self.to_one.take() {
-            self.quiet_until = now.micros() + QUIET;
-            tell(settled, to_one.number, Ending::Withdrawn)?;
+            let ending = ending_of(to_one.sender.state());
+            self.quiet_until = quiet_behind(ending, now, self.quiet_until);
+            tell(settled, to_one.number, ending)?;
         }
         Ok(())
+    }
+}
+
+/// How a transfer ended that is dropped.
+fn ending_of(state: SendState) -> Ending
+    ensures { result ≡ ending_of state }
+{
+    match state {
+        SendState::Done => Ending::Done,
+        SendState::Failed(reason) => Ending::Failed(reason),
+        SendState::Idle => Ending::Withdrawn,
+        SendState::Waiting => Ending::Withdrawn,
+        SendState::Sending => Ending::Withdrawn,
+    }
+}
+
+/// Until when no message begins behind a transfer that ended so.
+fn quiet_behind(ending: Ending, now: Stamp, until: u64) -> u64
+    ensures { result ≡ quiet_behind ending (stamp_micros now) until }
+{
+    match ending {
+        Ending::Done => until,
+        Ending::Failed(_) => now.micros() + QUIET,
+        Ending::Withdrawn => now.micros() + QUIET,
     }
 }
 

@@ -1,6 +1,5 @@
 -- Who is at an address, address by address.
 use Rattle.std.proofs.Common.{◌≡◌, ◌<◌, ◌≤◌, ◌+◌, ◌-◌, ◌^◌, ℕ, zero, suc, Bool, true, false, List, [], ◌∷◌, ◌++◌, Option, Some, None, length, sym, ap, ap₂, ◌∙◌, subst, arith, append-nil, append_assoc, length-append, refl, if◌then◌else◌}
-use Rattle.std.proofs.lemmas.Bool.{cond-false}
 use Rattle.std.specs.Io.KnownBytes.{Appends}
 use Rattle.std.proofs.KnownBytes.{Appends-nil, Appends-trans}
 use Rattle.std.proofs.lemmas.Grind.{flat_map-append}

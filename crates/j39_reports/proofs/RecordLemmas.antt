@@ -1,15 +1,13 @@
 -- The records of a message, reading by reading.
-use Rattle.std.proofs.Common.{◌≡◌, ◌+◌, ◌∙◌, ◌++◌, ◌∷◌, ℕ, List, [], Result, Ok, Err, append_assoc, append-nil, arith, drop, length-append, map, ap, refl, sym}
-use Rattle.std.specs.Prelude.{IsErr}
+use Rattle.std.proofs.Common.{◌≡◌, ◌∙◌, ◌++◌, ◌∷◌, ℕ, List, [], Result, Err, append_assoc, append-nil, drop, map, ap, refl, sym}
 use Rattle.std.proofs.lemmas.Grind.{flat_map-append}
 use Rattle.std.proofs.lemmas.List.{map-append}
 use Rattle.j39_io.specs.Puts.{Puts}
 use Rattle.j39_io.specs.Turn.{Device}
-use Rattle.j39_io.proofs.PutsLemmas.{puts_as, puts_done, puts_failed, puts_first, puts_nothing, puts_then}
+use Rattle.j39_io.proofs.PutsLemmas.{puts_as, puts_failed, puts_first, puts_nothing, puts_then}
 use Rattle.j39_groups.specs.Row.{RowRecord}
 use Rattle.j39_groups.specs.Value.{ReadingRecord, ValueRecord}
 use Rattle.j39_groups.specs.Visits.{Stops, Takes}
-use Rattle.j39_listen.specs.Counting.{capped}
 use Rattle.j39_listen.specs.Heard.{Hearing}
 use Rattle.j39_listen.specs.Report.{entry_of}
 use Rattle.j39_reports.specs.EntryText.{entries_text, entry_record, group_called, named_fields, parameter_called, value_fields}

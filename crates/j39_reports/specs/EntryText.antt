@@ -1,7 +1,6 @@
 -- The record of an entry of a report (RFC 4180; own).
 use Rattle.std.specs.Prelude.{◌++◌, ◌∷◌, ℕ, List, [], Option, codes, decimal, unwrap_or}
 use Rattle.std.specs.List.{flat_map}
-use Rattle.hex.specs.Hex.{encode_upper}
 use Rattle.j39_reports.specs.Columns.{heard_fields}
 use Rattle.j39_io.specs.Records.{comma, later_text, line_end}
 use Rattle.j39_groups.specs.Names.{group_name_in, name_in}

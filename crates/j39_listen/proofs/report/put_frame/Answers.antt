@@ -1,6 +1,5 @@
 -- A message is heard at the frame or none.
-use Rattle.std.proofs.Common.{◌∙◌, None, Some, ap, sym}
-use Rattle.j39_frame.specs.Identifier.{pgn_of}
+use Rattle.std.proofs.Common.{◌∙◌, None, Some, sym}
 use Rattle.j39_groups.specs.Readings.{is_reported_in}
 use Rattle.j39_listen.specs.HeardModel.{hearing_of}
 use Rattle.j39_listen.specs.ReportSoFar.{made_by}

@@ -1,5 +1,5 @@
 -- A claim by who holds the address from then on is its last one; any other frame leaves that as it was.
-use Rattle.std.proofs.Common.{ℕ, Some, ◌∙◌, ap, refl, sym}
+use Rattle.std.proofs.Common.{Some, ◌∙◌, ap, refl, sym}
 use Rattle.std.specs.Option.{option_map}
 use Rattle.j39_address.specs.Claim.{claim_by}
 use Rattle.j39_address.specs.Name.{name_raw}

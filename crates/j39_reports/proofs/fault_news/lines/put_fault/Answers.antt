@@ -1,5 +1,4 @@
 -- The head and what is said, one behind the other.
-use Rattle.std.proofs.Common.{Ok}
 use Rattle.j39_io.proofs.PutsLemmas.{puts_first, puts_then}
 use Rattle.j39_reports.specs.FaultsSoFar.{said_in}
 use Rattle.j39_reports.proofs.fault_news.lines.put_fault.Goals as goal

@@ -4,13 +4,16 @@ use Rattle.j39_io.proofs.BackwardsLemmas.{before_then}
 use Rattle.j39_io.specs.Backwards.{WritesBefore}
 use Rattle.j39_reports.proofs.report_records.begin.sender_before.Goals as goal
 
-regroup : (address destination name : List ℕ)
-    → address ++ ((44 ∷ []) ++ (destination ++ ((44 ∷ []) ++ name))) ≡ address ++ (44 ∷ []) ++ destination ++ (44 ∷ []) ++ name
-regroup address destination name = simp append_assoc refl
+regroup : (old new : List ℕ) (end start : ℕ) (address destination name : List ℕ)
+    → WritesBefore old new end start (address ++ ((44 ∷ []) ++ (destination ++ ((44 ∷ []) ++ name))))
+    → WritesBefore old new end start (address ++ (44 ∷ []) ++ destination ++ (44 ∷ []) ++ name)
+regroup old new end start address destination name written =
+    let same : address ++ ((44 ∷ []) ++ (destination ++ ((44 ∷ []) ++ name))) ≡ address ++ (44 ∷ []) ++ destination ++ (44 ∷ []) ++ name = simp append_assoc refl in
+    subst (λ (text : List ℕ). WritesBefore old new end start text) same written
 
 pub returns-clause-written : goal.returns-clause-written
 returns-clause-written c =
-    subst (λ (text : List ℕ). WritesBefore _ _ _ _ text) (regroup _ _ _)
+    regroup _ _ _ _ _ _ _
     (before_then _ _ _ _ _ _ _ _ (before_then _ _ _ _ _ _ _ _ (before_then _ _ _ _ _ _ _ _ (before_then _ _ _ _ _ _ _ _
     c.name_before-name.ensures.written c.byte_before-second.ensures) c.destination_before-destination.ensures.written)
     c.byte_before-first.ensures) c.hex_before.ensures.written)

@@ -1,7 +1,7 @@
 -- The fields, one before the other.
 use Rattle.std.proofs.Common.{◌≡◌, ◌∙◌, ◌++◌, ◌∷◌, [], ℕ, List, ap, append_assoc, decimal, drop, refl, subst}
 use Rattle.j39_io.specs.Backwards.{WritesBefore}
-use Rattle.j39_io.specs.Records.{comma, later_text, line_end}
+use Rattle.j39_io.specs.Records.{later_text, line_end}
 use Rattle.j39_io.proofs.BackwardsLemmas.{before_then}
 use Rattle.j39_groups.specs.Models.{value_of}
 use Rattle.j39_groups.specs.Value.{ValueRecord}

@@ -1,5 +1,4 @@
 -- What stands before the column, and the value.
-use Rattle.std.proofs.Common.{◌++◌}
 use Rattle.j39_io.proofs.PutsLemmas.{puts_as, puts_first, puts_then}
 use Rattle.j39_reports.specs.RowText.{value_in}
 use Rattle.j39_reports.proofs.summaries.lines.put_column.Goals as goal
