@@ -1,4 +1,4 @@
-/* What docs/PORTING.md says of memory, stack and time. Linked with --wrap=malloc. */
+/* What docs/C.md says of memory, stack and time. Linked with --wrap=malloc. */
 #define _XOPEN_SOURCE 700
 #include "../j1939.h"
 #include "expect.h"
