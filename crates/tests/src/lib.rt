@@ -1,4 +1,5 @@
-//! Tests of the crates by their public calls, of what the built program doesn't show, and the device that they fail with.
+//! Tests of the crates by their public calls, of what the built program doesn't show; the device that they fail with; and how the
+//! parts are called.
 #![tactic(auto)]
 
 #[cfg(test)]
@@ -7,6 +8,7 @@ mod broadcasts;
 mod claimer;
 #[cfg(test)]
 mod controller_pairs;
+pub mod examples;
 #[cfg(test)]
 mod listener_memory;
 #[cfg(test)]
