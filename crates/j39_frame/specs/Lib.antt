@@ -1,6 +1,7 @@
 -- numbers of a bus: moments, groups, identifiers, addresses
 pub mod Stamp
 pub mod Pgn
+pub mod Groups
 pub mod Network
 pub mod Identifier
 pub mod Address

@@ -3,6 +3,7 @@
 
 mod address;
 mod frame;
+mod group;
 mod identifier;
 mod network;
 mod origin;

@@ -98,17 +98,17 @@ lines_of_group rows table pgn head bytes same =
 -- the lines of the rows from a place on are written
 pub record RowsWritten (pgn : ℕ) (head bytes : List ℕ) (rows : List Row) (old new : List ℕ) (left at lines : ℕ) : Type 0 where
   pub inside : left ≤ length rows
-  pub text : WritesBefore old new 896 at (flat_map (row_lines pgn head bytes) (drop left rows))
+  pub text : WritesBefore old new 960 at (flat_map (row_lines pgn head bytes) (drop left rows))
   pub count : lines ≡ length (flat_map (row_readings pgn bytes) (drop left rows))
   pub fewer : lines + left ≤ length rows
-  pub room : 896 ≤ at + 112 * (length rows - left)
+  pub room : 960 ≤ at + 120 * (length rows - left)
 
-pub none_written : (pgn : ℕ) (head bytes : List ℕ) (rows : List Row) (old : List ℕ) → RowsWritten pgn head bytes rows old old (length rows) 896 0
+pub none_written : (pgn : ℕ) (head bytes : List ℕ) (rows : List Row) (old : List ℕ) → RowsWritten pgn head bytes rows old old (length rows) 960 0
 none_written pgn head bytes rows old =
     let none : drop (length rows) rows ≡ [] = drop_all (length rows) rows (omega arith) in
     record {
       inside = omega arith;
-      text = subst (λ rs. WritesBefore old old 896 896 (flat_map (row_lines pgn head bytes) rs)) (sym none) (before_none old 896);
+      text = subst (λ rs. WritesBefore old old 960 960 (flat_map (row_lines pgn head bytes) rs)) (sym none) (before_none old 960);
       count = ap (λ rs. length (flat_map (row_readings pgn bytes) rs)) (sym none);
       fewer = omega arith;
       room = omega arith;
@@ -118,7 +118,7 @@ none_written pgn head bytes rows old =
 pub row_more : (pgn : ℕ) (head bytes : List ℕ) (rows : List Row) (old new newer : List ℕ) (left at lines start more : ℕ) (d : Row)
     → RowsWritten pgn head bytes rows old new left at lines → 0 < left
     → WritesBefore new newer at start (row_lines pgn head bytes (get_or rows (left - 1) d))
-    → more ≡ length (row_readings pgn bytes (get_or rows (left - 1) d)) → more ≤ 1 → at ≤ start + 112
+    → more ≡ length (row_readings pgn bytes (get_or rows (left - 1) d)) → more ≤ 1 → at ≤ start + 120
     → RowsWritten pgn head bytes rows old newer (left - 1) start (lines + more)
 row_more pgn head bytes rows old new newer left at lines start more d w some line count few near =
     let row = get_or rows (left - 1) d in
@@ -129,7 +129,7 @@ row_more pgn head bytes rows old new newer left at lines start more d w some lin
     ap (flat_map (row_readings pgn bytes)) cut ∙ flat_map-cons (row_readings pgn bytes) row (drop left rows) in
     record {
       inside = omega (arith, w.inside);
-      text = subst (WritesBefore old newer 896 start)
+      text = subst (WritesBefore old newer 960 start)
           (sym (flat_map-cons (row_lines pgn head bytes) row (drop left rows)) ∙ ap (flat_map (row_lines pgn head bytes)) (sym cut))
           (before_then _ _ _ _ _ _ _ _ w.text line);
       count = (
@@ -142,8 +142,8 @@ row_more pgn head bytes rows old new newer left at lines start more d w some lin
     }
 
 pub all_rows : (pgn : ℕ) (head bytes : List ℕ) (rows : List Row) (old new : List ℕ) (left at lines : ℕ) → RowsWritten pgn head bytes rows old new left at lines → left ≡ 0
-    → WritesBefore old new 896 at (flat_map (row_lines pgn head bytes) rows) × (lines ≡ length (flat_map (row_readings pgn bytes) rows))
+    → WritesBefore old new 960 at (flat_map (row_lines pgn head bytes) rows) × (lines ≡ length (flat_map (row_readings pgn bytes) rows))
 all_rows pgn head bytes rows old new left at lines w none = (
-  subst (λ k. WritesBefore old new 896 at (flat_map (row_lines pgn head bytes) (drop k rows))) none w.text,
+  subst (λ k. WritesBefore old new 960 at (flat_map (row_lines pgn head bytes) (drop k rows))) none w.text,
   subst (λ k. lines ≡ length (flat_map (row_readings pgn bytes) (drop k rows))) none w.count,
 )

@@ -56,16 +56,16 @@ prepared_is row prepared h is =
 scale_end_is : (end : Ending) (scale : Scale) → is_scale_end end scale ≡ true → IsEnd end (scale_record scale)
 scale_end_is end scale h =
     let first = and_parts (is_short_end end) (end.places == scale.places && bytes_eq (short_text end.text) (32 ∷ (scale.unit.now ++ (10 ∷ [])))) h in
-    let short = and_parts (nat_le end.text.from 16) (nat_le end.places 9) first.0 in
+    let short = and_parts (nat_le end.text.from 16) (nat_le end.places 15) first.0 in
     let both = and_parts (end.places == scale.places) (bytes_eq (short_text end.text) (32 ∷ (scale.unit.now ++ (10 ∷ [])))) first.1 in
     record { from = leb-true _ _ short.0; few = leb-true _ _ short.1; places = eqb-true _ _ both.0; text = (bytes_eq-Decides _ _).0 both.1 }
 
 -- the end of a scale that was written passes the test
-pub scale_end_from : (end : Ending) (scale : Scale) → end.text.from ≤ 16 → scale.places ≤ 9 → end.places ≡ scale.places
+pub scale_end_from : (end : Ending) (scale : Scale) → end.text.from ≤ 16 → scale.places ≤ 15 → end.places ≡ scale.places
     → short_text end.text ≡ 32 ∷ (scale.unit.now ++ (10 ∷ [])) → is_scale_end end scale ≡ true
 scale_end_from end scale inside few places text =
     let i : nat_le end.text.from 16 ≡ true = le-leb _ _ inside in
-    let a : nat_le end.places 9 ≡ true = le-leb _ _ (omega (arith, few, places)) in
+    let a : nat_le end.places 15 ≡ true = le-leb _ _ (omega (arith, few, places)) in
     let p : (end.places == scale.places) ≡ true = eq-eqb _ _ places in
     let b = (bytes_eq-Decides _ _).1 text in
     rw (i, a, p, b) refl

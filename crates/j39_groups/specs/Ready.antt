@@ -23,9 +23,9 @@ abbrev pub is_label : ShortText → ℕ → ℕ → Bool
 is_label label pgn spn =
     nat_le label.from 16 && bytes_eq (short_text label) (number_and_space pgn ++ number_and_space spn)
 
--- an end has nine places at most
+-- an end has fifteen places at most
 abbrev pub is_short_end : Ending → Bool
-is_short_end end = nat_le end.text.from 16 && nat_le end.places 9
+is_short_end end = nat_le end.text.from 16 && nat_le end.places 15
 
 -- it is a number's places, and a space, the unit and a newline
 abbrev pub is_scale_end : Ending → Scale → Bool
@@ -52,7 +52,7 @@ is_prepared (Some prepared) pgn spn field = is_label prepared.label pgn spn && i
 
 pub record IsEnd (end : Ending) (slot : SlotRecord) : Type 0 where
   pub from : end.text.from ≤ 16
-  pub few : end.places ≤ 9
+  pub few : end.places ≤ 15
   pub places : end.places ≡ slot.places
   pub text : short_text end.text ≡ space ∷ (slot.unit ++ (newline ∷ []))
 

@@ -12,7 +12,7 @@ use j39_io::backwards::{byte_before, number_before, slice_before};
 pub(crate) struct Ending {
     /// Of a number a space, its unit and a newline.
     pub text: ShortText,
-    /// Of a number how many decimal places are printed, 9 at most.
+    /// Of a number how many decimal places are printed, 15 at most.
     pub places: u8,
 }
 
@@ -71,7 +71,7 @@ fn end_of(field: Field<'_>) -> Option<Ending>
 fn scale_end(scale: Scale<'_>) -> Option<Ending>
     ensures { IfSome result (λ end. is_scale_end end scale.entry ≡ true) }
 {
-    if scale.places > 9 || scale.unit.len() > 14 {
+    if scale.places > 15 || scale.unit.len() > 14 {
         return None;
     }
     let mut bytes = [b' '; 16];

@@ -19,7 +19,7 @@ pub struct Row<'t> {
     /// The parameter's number (SPN).
     pub(crate) spn: u32,
     /// What its line takes beside the value. `None` where it is written part by part: of a text, a long unit, more than
-    /// nine places, or a number (SPN) of more than six digits.
+    /// fifteen places, or a number (SPN) of more than six digits.
     pub(crate) prepared: Option<Prepared>,
     /// Where it stands in the payload.
     pub(crate) field: Field<'t>,

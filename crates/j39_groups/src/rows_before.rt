@@ -23,7 +23,7 @@ use j39_io::backwards::{byte_before, bytes_before, tail_before};
 pub const HEAD: usize = 48;
 
 /// The most bytes of a line that is written here: its head, a label, and a value with a newline.
-const LINE: usize = HEAD + 16 + 48;
+const LINE: usize = HEAD + 16 + 56;
 
 /// The bytes of a block that the lines of eight rows fit in.
 pub const LINES: usize = 8 * LINE;
@@ -43,7 +43,7 @@ pub(crate) fn rows_before(
     requires from { from ≤ 48 }
     requires few { length rows.now ≤ 8 }
     requires sound { list_all is_row rows.now ≡ true }
-    ensures written { IfSome result (λ found. WritesBefore out.old out.new 896 found.0
+    ensures written { IfSome result (λ found. WritesBefore out.old out.new 960 found.0
         (flat_map (row_lines pgn (drop from head.now) bytes.now) rows.now)) }
     ensures lines { IfSome result (λ found. found.1 ≡ length (flat_map (row_readings pgn bytes.now) rows.now)) }
     ensures few { IfSome result (λ found. found.1 ≤ length rows.now) }
@@ -74,13 +74,13 @@ fn row_before_if_of(
 ) -> Option<(usize, u64)>
     requires from { from ≤ 48 }
     requires sound { is_row row.now ≡ true }
-    requires room { 112 ≤ end }
+    requires room { 120 ≤ end }
     requires within { end ≤ length out.old }
     ensures written { IfSome result (λ found. WritesBefore out.old out.new end found.0
         (row_lines pgn (drop from head.now) bytes.now row.now)) }
     ensures lines { IfSome result (λ found. found.1 ≡ length (row_readings pgn bytes.now row.now)) }
     ensures one { IfSome result (λ found. found.1 ≤ 1) }
-    ensures short { IfSome result (λ found. end ≤ found.0 + 112) }
+    ensures short { IfSome result (λ found. end ≤ found.0 + 120) }
 {
     if row.pgn == pgn {
         row_before(out, end, head, from, row, bytes)
@@ -101,13 +101,13 @@ fn row_before(
 ) -> Option<(usize, u64)>
     requires from { from ≤ 48 }
     requires sound { is_row row.now ≡ true }
-    requires room { 112 ≤ end }
+    requires room { 120 ≤ end }
     requires within { end ≤ length out.old }
     ensures written { IfSome result (λ found. WritesBefore out.old out.new end found.0
         (flat_map (reading_line (in_group (drop from head.now) row.now.pgn)) (readings_at bytes.now (row_record row.now)))) }
     ensures lines { IfSome result (λ found. found.1 ≡ length (readings_at bytes.now (row_record row.now))) }
     ensures one { IfSome result (λ found. found.1 ≤ 1) }
-    ensures short { IfSome result (λ found. end ≤ found.0 + 112) }
+    ensures short { IfSome result (λ found. end ≤ found.0 + 120) }
 {
     let prepared = row.prepared.as_ref()?;
     match ready_value(row, prepared, bytes) {
@@ -146,11 +146,11 @@ fn line_before(
     requires sound { is_row row.now ≡ true }
     requires prepared { row.now.prepared ≡ Some prepared.now }
     requires ends { HasEnd prepared.now.end (short_value (field_slot row.now.field) short) }
-    requires room { 112 ≤ end }
+    requires room { 120 ≤ end }
     requires within { end ≤ length out.old }
     ensures written { WritesBefore out.old out.new end result (reading_line (in_group (drop from head.now) row.now.pgn)
         (record { spn = row.now.spn; value = short_value (field_slot row.now.field) short })) }
-    ensures short { end ≤ result + 112 }
+    ensures short { end ≤ result + 120 }
 {
     let text = value_before(out, end, short, row, &prepared.end);
     let label = short_before(out, text, &prepared.label);
@@ -162,11 +162,11 @@ fn line_before(
 #[tactic(auto, unfolding(crate::specs::ValueText::value_text))]
 fn value_before(out: &mut [u8], end: usize, short: Short, row: &Row<'_>, ending: &Ending) -> usize
     requires ends { HasEnd ending.now (short_value (field_slot row.now.field) short) }
-    requires room { 48 ≤ end }
+    requires room { 56 ≤ end }
     requires within { end ≤ length out.old }
     ensures written { WritesBefore out.old out.new end result
         (value_text (short_value (field_slot row.now.field) short) ++ (newline ∷ [])) }
-    ensures short { end ≤ result + 47 }
+    ensures short { end ≤ result + 53 }
 {
     match short {
         Short::Number(number) => {
@@ -192,12 +192,12 @@ fn number_before_end(
     ending: &Ending,
 ) -> usize
     requires from { ending.now.text.from ≤ 16 }
-    requires places { ending.now.places ≤ 9 }
-    requires room { 48 ≤ end }
+    requires places { ending.now.places ≤ 15 }
+    requires room { 56 ≤ end }
     requires within { end ≤ length out.old }
     ensures written { WritesBefore out.old out.new end result
         (sign_text is_negative ++ magnitude_text ending.now.places magnitude ++ short_text ending.now.text) }
-    ensures short { end ≤ result + 47 }
+    ensures short { end ≤ result + 53 }
 {
     let unit = short_before(out, end, &ending.text);
     let digits = magnitude_before(out, unit, magnitude, ending.places);

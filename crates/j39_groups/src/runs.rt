@@ -1,26 +1,27 @@
-//! Where the rows of a group are sought: each of 1,024 marks has the run of the rows of its groups.
-ghost use Rattle.std.specs.Prelude.{◌≡◌, ◌==◌, ◌+◌, ◌<◌, ◌≤◌, ◌^◌, filter, length, true};
+//! Where the rows of a group are sought: each of 4,096 marks has the run of the rows of its groups.
+ghost use Rattle.std.specs.Prelude.{◌≡◌, ◌==◌, ◌+◌, ◌<◌, ◌≤◌, filter, length, true};
 ghost use Rattle.std.specs.List.{list_all, list_any};
 ghost use Rattle.j39_groups.specs.Rows.{is_row};
 ghost use Rattle.j39_groups.specs.Runs.{AreRuns, mark_of};
 
 use crate::row::Row;
 
-/// How many marks there are: more than groups as a rule, so that few share one.
-const MARKS: usize = 1024;
+/// How many marks there are: as many as a page has groups of PF 240 and more, so that few groups share one. A run of two
+/// groups has all rows between them too.
+const MARKS: usize = 4096;
 
 /// Where all rows with a mark lie, and other rows may.
 #[derive(Clone, Copy)]
 pub(crate) struct Run {
-    pub first: usize,
+    pub first: u32,
     /// One behind the last; 0 where there is none.
-    pub end: usize,
+    pub end: u32,
 }
 
 impl Run {
     /// With the row at a place behind it.
-    fn up_to(self, at: usize) -> Run
-        requires { at < 2 ^ 63 }
+    fn up_to(self, at: u32) -> Run
+        requires { at < 65536 }
         ensures begun { self.end ≡ 0 → result.first ≡ at }
         ensures grown { 0 < self.end → result.first ≡ self.first }
         ensures end { result.end ≡ at + 1 }
@@ -32,12 +33,13 @@ impl Run {
 
 /// The runs of the marks of these rows.
 pub(crate) fn runs_of(rows: &[Row<'_>]) -> [Run; MARKS]
+    requires { length rows.now ≤ 65536 }
     ensures { AreRuns result rows.now }
 {
     let mut runs = [Run { first: 0, end: 0 }; MARKS];
     for (at, row) in rows.iter().enumerate() {
         let mark = mark_of(row.pgn);
-        runs[mark] = runs[mark].up_to(at);
+        runs[mark] = runs[mark].up_to(at as u32);
     }
     runs
 }
@@ -52,7 +54,7 @@ pub(crate) fn run_of<'r, 't>(runs: &[Run; MARKS], rows: &'r [Row<'t>], pgn: u32)
     ensures few { length result.now ≤ length rows.now }
 {
     let run = runs[mark_of(pgn)];
-    &rows[run.first..run.end]
+    &rows[run.first as usize..run.end as usize]
 }
 
 /// Whether one of these rows is of a group.
@@ -63,11 +65,11 @@ pub(crate) fn has_group(rows: &[Row<'_>], pgn: u32) -> bool
     rows.iter().any(|row| row.pgn == pgn)
 }
 
-/// Which mark stands for a group: not its low bits alone, which are 0 in each group below PF 240.
+/// Which mark stands for a group: not its low bits alone, which are few in the groups below PF 240.
 #[inline(always)]
 fn mark_of(pgn: u32) -> usize
     ensures value { result ≡ mark_of pgn }
-    ensures fits { result < 1024 }
+    ensures fits { result < 4096 }
 {
-    ((pgn / 256 % 1024 + pgn % 1024) % 1024) as usize
+    ((pgn ^ pgn >> 8) % 4096) as usize
 }

@@ -34,14 +34,14 @@ pub(crate) fn short_before(out: &mut [u8], end: usize, text: &ShortText) -> usiz
     tail_before(out, end, &bytes, usize::from(text.from))
 }
 
-/// Writes a magnitude with its places, nine at most, before `end`, and answers where it starts: 30 bytes at most.
+/// Writes a magnitude with its places, fifteen at most, before `end`, and answers where it starts: 36 bytes at most.
 #[inline(always)]
 pub fn magnitude_before(out: &mut [u8], end: usize, magnitude: u64, places: u8) -> usize
-    requires places { places ≤ 9 }
-    requires room { 31 ≤ end }
+    requires places { places ≤ 15 }
+    requires room { 37 ≤ end }
     requires within { end ≤ length out.old }
     ensures written { WritesBefore out.old out.new end result (magnitude_text places magnitude) }
-    ensures short { end ≤ result + 30 }
+    ensures short { end ≤ result + 36 }
 {
     if places == 0 {
         return number_before(out, end, magnitude);

@@ -143,7 +143,7 @@ fn bits_meaning(raw: u32, count: u8, scale: &Scale<'_>) -> Option<Short>
 /// The switch in the two bits from `low` on; `None` where the payload does not reach them or it is
 /// not available.
 #[inline(always)]
-fn switch_at(bytes: &[u8], byte: u8, low: u8) -> Option<Short>
+pub(crate) fn switch_at(bytes: &[u8], byte: u8, low: u8) -> Option<Short>
     requires byte { 0 < byte }
     requires starts { 0 < low }
     requires ends { low < 8 }

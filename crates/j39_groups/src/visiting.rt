@@ -17,7 +17,7 @@ use crate::row::Row;
 use crate::scale::Scale;
 use crate::short::Short;
 use crate::value::{Reading, Value};
-use crate::value_in::{bytes_from, number_of, value_in};
+use crate::value_in::{bytes_from, number_of, switch_at, value_in};
 use arrayvec::ArrayVec;
 
 /// What takes the readings of payloads, one after another, with what it writes to; `'t` is how long the table lives.
@@ -124,6 +124,10 @@ fn visit_row<'t, M, V: ReadingVisitor<'t, M>>(
             visitor,
             medium,
         ),
+        Field::Switch { byte, low, .. } => {
+            let switch = switch_at(bytes, *byte, *low);
+            visit_short(row.spn, switch, &Scale::NONE, visitor, medium)
+        }
         _ => visit_other(row, bytes, visitor, medium),
     }
 }

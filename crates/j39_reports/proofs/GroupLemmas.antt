@@ -8,7 +8,9 @@ use Rattle.std.proofs.lemmas.List.{get_or-replicate, get_or-set_same, get_or-set
 use Rattle.std.proofs.lemmas.List.Elements.{filter_map-append}
 use Rattle.std.proofs.lemmas.List.Folds.{list_any-append}
 use Rattle.j39_frame.specs.Frame.{FrameRecord}
+use Rattle.j39_frame.specs.Groups.{IsHeardGroup, place_of_group}
 use Rattle.j39_frame.specs.Identifier.{pgn_of, source_of}
+use Rattle.j39_frame.proofs.GroupLemmas.{heard}
 use Rattle.j39_listen.specs.Counting.{capped}
 use Rattle.j39_reports.specs.Firsts.{firsts}
 use Rattle.j39_reports.specs.GroupCounts.{GroupRecord, of_sources, source_in, sources_of}
@@ -52,18 +54,29 @@ or_swap false false = refl
 pub heard-more : (sources : List ℕ) (x a : ℕ) → (a == x || list_any (λ y. a == y) sources) ≡ list_any (λ y. a == y) (sources ++ x ∷ [])
 heard-more sources x a = or_swap (a == x) (list_any (λ y. a == y) sources) ∙ sym (list_any-append (λ y. a == y) sources (x ∷ []))
 
--- the table, with a frame more of one group
-pub counted_more : (items : List GroupCount) (count : GroupCount) (at : ℕ) (F : List FrameRecord) (f : FrameRecord) → at ≡ pgn_of f.id → at < length items
-    → ((pgn : ℕ) (d : GroupCount) → pgn < 262144 → HasCounted (get_or items pgn d) (sources_of pgn F))
-    → HasCounted count (sources_of at F ++ source_of f.id ∷ [])
-    → (pgn : ℕ) (d : GroupCount) → pgn < 262144 → HasCounted (get_or (set items at count) pgn d) (sources_of pgn (F ++ f ∷ []))
-counted_more items count at F f is within before here = λ pgn d below.
-    elim (cases_eq pgn at) [
+-- a group that no identifier can have has no frames
+pub sources_of-unheard : (pgn : ℕ) (F : List FrameRecord) → (IsHeardGroup pgn → ⊥) → sources_of pgn F ≡ []
+sources_of-unheard pgn [] unheard = refl
+sources_of-unheard pgn (f ∷ F) unheard =
+    rw (ne_eqb (pgn_of f.id) pgn (λ is. unheard (subst (λ n. IsHeardGroup n) is (heard f.id)))) (sources_of-unheard pgn F unheard)
+
+-- the table, with a frame more of one group: another group's place is another
+pub counted_more : (items : List GroupCount) (count : GroupCount) (at : ℕ) (F : List FrameRecord) (f : FrameRecord)
+    → at ≡ place_of_group (pgn_of f.id) → at < length items
+    → ((other : ℕ) → IsHeardGroup other → place_of_group other ≡ at → other ≡ pgn_of f.id)
+    → ((pgn : ℕ) (d : GroupCount) → IsHeardGroup pgn → HasCounted (get_or items (place_of_group pgn) d) (sources_of pgn F))
+    → HasCounted count (sources_of (pgn_of f.id) F ++ source_of f.id ∷ [])
+    → (pgn : ℕ) (d : GroupCount) → IsHeardGroup pgn
+    → HasCounted (get_or (set items at count) (place_of_group pgn) d) (sources_of pgn (F ++ f ∷ []))
+counted_more items count at F f is within distinct before here = λ pgn d can.
+    elim (cases_eq (place_of_group pgn) at) [
       | inl same ↦
-          subst (λ n. HasCounted (get_or (set items at count) n d) (sources_of n (F ++ f ∷ []))) (sym same)
-          (rw (get_or-set_same items at count d within, sources_of-here at F f (sym is)) here)
+          subst (λ n. HasCounted (get_or (set items at count) n d) (sources_of pgn (F ++ f ∷ []))) (sym same)
+          (rw (get_or-set_same items at count d within, sources_of-here pgn F f (sym (distinct pgn can same)))
+          (subst (λ n. HasCounted count (sources_of n F ++ source_of f.id ∷ [])) (sym (distinct pgn can same)) here))
       | inr other ↦
-          rw (get_or-set_other items at pgn count d other, sources_of-other pgn F f (λ e. other (sym (is ∙ e)))) (before pgn d below)
+          rw (get_or-set_other items at (place_of_group pgn) count d other, sources_of-other pgn F f (λ e. other (sym (is ∙ ap place_of_group e))))
+          (before pgn d can)
     ]
 
 -- nothing was counted of no frames
@@ -72,10 +85,10 @@ unfolding firsts
 counted_none count zero none = record { counts_are = zero; heard_are = none }
 
 -- so it is of each group at the start
-pub counted_start : (items : List GroupCount) (n : ℕ) (count : GroupCount) → items ≡ replicate n count → HasCounted count []
-    → (pgn : ℕ) (d : GroupCount) → pgn < n → HasCounted (get_or items pgn d) []
-counted_start items n count is none = λ pgn d below.
-    subst (λ x. HasCounted x []) (sym (ap (λ xs. get_or xs pgn d) is ∙ get_or-replicate n pgn count d below)) none
+pub counted_start : (items : List GroupCount) (n at : ℕ) (count d : GroupCount) → items ≡ replicate n count → HasCounted count []
+    → at < n → HasCounted (get_or items at d) []
+counted_start items n at count d is none below =
+    subst (λ x. HasCounted x []) (sym (ap (λ xs. get_or xs at d) is ∙ get_or-replicate n at count d below)) none
 
 pub length_start : (items : List GroupCount) (n : ℕ) (count : GroupCount) → items ≡ replicate n count → length items ≡ n
 length_start items n count is = ap length is ∙ length-replicate n count

@@ -10,18 +10,17 @@ use Rattle.j39_groups.specs.Value.{ReadingRecord, ValueRecord}
 use Rattle.j39_groups.specs.Visits.{Stops, Takes}
 use Rattle.j39_listen.specs.Heard.{Hearing}
 use Rattle.j39_listen.specs.Report.{entry_of}
-use Rattle.j39_reports.specs.EntryText.{entries_text, entry_record, group_called, named_fields, parameter_called, value_fields}
-use Rattle.j39_reports.specs.MessageRecords.{Begun, HasStopped, HasWritten, IsBegun, PutsReadings, readings_text}
+use Rattle.j39_reports.specs.EntryText.{entries_text, entry_record, named_fields, parameter_called, value_fields}
+use Rattle.j39_reports.specs.MessageRecords.{Begun, HasStopped, HasWritten, IsBegun, PutsReadings, begun_fields, readings_text}
 use Rattle.j39_reports.specs.declared.report_records.records.Records.{Records}
 
 -- what is written of a reading is the record of its entry
 record_is : (groups : List RowRecord) (h : Hearing) (records : Records) → IsBegun groups h records → (spn : ℕ) (value : ValueRecord) (parameter : List ℕ)
     → parameter ≡ parameter_called records.groups.now records.pgn spn
-    → entry_record groups (entry_of h (record { spn = spn; value = value })) ≡ named_fields (drop records.begin.from records.begin.head) records.group.now spn parameter ++ value_fields value
+    → entry_record groups (entry_of h (record { spn = spn; value = value })) ≡ named_fields (begun_fields records.begin records.group.now) spn parameter ++ value_fields value
 record_is groups h records begun spn value parameter called =
-    ap (λ b. named_fields b (group_called groups h.message.pgn) spn (parameter_called groups h.message.pgn spn) ++ value_fields value) (sym begun.begin_is)
-    ∙ ap (λ g. named_fields (drop records.begin.from records.begin.head) g spn (parameter_called groups h.message.pgn spn) ++ value_fields value) (sym begun.group_is)
-    ∙ ap (λ p. named_fields (drop records.begin.from records.begin.head) records.group.now spn p ++ value_fields value)
+    ap (λ b. named_fields b spn (parameter_called groups h.message.pgn spn) ++ value_fields value) (sym begun.begin_is)
+    ∙ ap (λ p. named_fields (begun_fields records.begin records.group.now) spn p ++ value_fields value)
     (ap (λ pgn. parameter_called groups pgn spn) (sym begun.pgn_is) ∙ ap (λ table. parameter_called table records.pgn spn) (sym begun.by) ∙ sym called)
 
 -- the text of one reading more
@@ -35,7 +34,7 @@ text_more begun before at =
 module _ (begun : Begun) (records : Records) (old : Device) (before : List ReadingRecord) (has : HasWritten begun records old before) (spn : ℕ) (value : ValueRecord)
     (parameter : List ℕ) (called : parameter ≡ parameter_called records.groups.now records.pgn spn) where
   abbrev named : List ℕ
-  named = named_fields (drop records.begin.from records.begin.head) records.group.now spn parameter
+  named = named_fields (begun_fields records.begin records.group.now) spn parameter
 
   abbrev with_this : List ReadingRecord
   with_this = before ++ (record { spn = spn; value = value } ∷ [])

@@ -1,5 +1,5 @@
 -- A survey, written.
-use Rattle.std.proofs.Common.{◌≡◌, ◌+◌, ◌++◌, ◌<◌, ◌-◌, ℕ, zero, suc, Bool, List, [], ◌∷◌, get_or, length, map, refl, take, sym, ap, ◌∙◌, append-nil, append_assoc, arith, ◌≢◌}
+use Rattle.std.proofs.Common.{◌≡◌, ◌+◌, ◌++◌, ◌<◌, ◌≤◌, ◌-◌, ◌*◌, ◌%◌, ℕ, zero, suc, Bool, List, [], ◌∷◌, get_or, length, map, refl, take, sym, ap, ◌∙◌, append-nil, append_assoc, arith, ◌≢◌}
 use Rattle.std.specs.Prelude.{codes, decimal, IsErr, Result, Ok, Err}
 use Rattle.std.specs.List.{flat_map}
 use Rattle.std.specs.Io.KnownBytes.{Keeps}
@@ -11,14 +11,16 @@ use Rattle.j39_io.specs.Turn.{Device, Turn}
 use Rattle.j39_io.proofs.DeviceLemmas.{Appends-kept, front_of_all}
 use Rattle.j39_io.proofs.PutsLemmas.{puts_as, puts_done, puts_first, puts_nothing, puts_then, puts_until}
 use Rattle.j39_frame.specs.Frame.{FrameRecord}
+use Rattle.j39_frame.specs.Groups.{IsHeardGroup}
 use Rattle.j39_groups.specs.Row.{RowRecord}
 use Rattle.j39_reports.specs.GroupCounts.{GroupRecord, group_of}
 use Rattle.j39_groups.specs.Names.{group_name_in}
 use Rattle.j39_io.specs.Chars.{newline}
 use Rattle.j39_reports.specs.LogLines.{LogLine, others_in, seen_in, unread_in}
+use Rattle.j39_reports.proofs.GroupLemmas.{sources_of-unheard}
 use Rattle.j39_reports.specs.SurveyModels.{HasSurveyed, interface_record, others_record, shown_record}
 use Rattle.j39_reports.specs.UnreadLines.{is_printed_log, shown_in}
-use Rattle.j39_reports.specs.SurveyText.{class_text, group_text, groups_below, groups_end, groups_text, name_text, survey_end, survey_head}
+use Rattle.j39_reports.specs.SurveyText.{class_text, group_text, groups_end, groups_from, groups_text, name_text, survey_end, survey_head}
 use Rattle.j39_listen.specs.Counting.{capped}
 use Rattle.j39_reports.specs.Interfaces.{interfaces_of, untold_in}
 use Rattle.j39_reports.specs.OtherLines.{others_of}
@@ -27,49 +29,78 @@ use Rattle.j39_reports.specs.declared.surveys.log_survey.Survey.{Survey}
 -- ---- the groups
 
 module _ (table : List RowRecord) (F : List FrameRecord) where
-  pub groups_none : (d : Device) → Puts {T = Unit} {E = Unit} (groups_below table F 0) (Ok tt) (record { old = d; new = d })
-  unfolding groups_below
-  groups_none d = puts_nothing tt d
+  pub groups_none : (first : ℕ) (d : Device) → Puts {T = Unit} {E = Unit} (groups_from table F first 0) (Ok tt) (record { old = d; new = d })
+  unfolding groups_from
+  groups_none first d = puts_nothing tt d
 
-  pub groups_more : {E : Type 0} (n : ℕ) (group : GroupRecord) (old mid new : Device) → group ≡ group_of F n
-      → Puts {T = Unit} {E = Unit} (groups_below table F n) (Ok tt) (record { old = old; new = mid })
-      → Puts {T = Unit} {E = E} (group_text table n group) (Ok tt) (record { old = mid; new = new })
-      → Puts {T = Unit} {E = Unit} (groups_below table F (suc n)) (Ok tt) (record { old = old; new = new })
-  unfolding groups_below
-  groups_more n group old mid new is before here =
-      puts_then _ _ tt (Ok tt) old mid new before (puts_done _ tt tt _ (puts_as _ _ _ _ (ap (group_text table n) is) here))
+  pub groups_one : (first : ℕ) → group_text table first (group_of F first) ≡ groups_from table F first 1
+  unfolding groups_from
+  groups_one first = rw (plus_zero) refl
+    where
+      plus_zero : first + 0 ≡ first
+      plus_zero = omega arith
 
-  -- the groups below n begin those below more
-  groups_split : (n k : ℕ) → (rest : List ℕ) × (groups_below table F (k + n) ≡ groups_below table F n ++ rest)
-  unfolding groups_below
-  groups_split n zero = ([], ap (groups_below table F) zero_plus ∙ sym (append-nil (groups_below table F n)))
+  -- n groups, and k more behind them
+  groups_joined : (first n k : ℕ) → groups_from table F first (k + n) ≡ groups_from table F first n ++ groups_from table F (first + n) k
+  unfolding groups_from
+  groups_joined first n zero = ap (groups_from table F first) zero_plus ∙ sym (append-nil (groups_from table F first n))
     where
       zero_plus : 0 + n ≡ n
       zero_plus = omega arith
-  groups_split n (suc k) =
-      let before = groups_split n k in
-      let next : suc k + n ≡ suc (k + n) = omega arith in (
-        before.0 ++ group_text table (k + n) (group_of F (k + n)),
-        ap (groups_below table F) next ∙ ap (λ t. t ++ group_text table (k + n) (group_of F (k + n))) before.1
-            ∙ append_assoc (groups_below table F n) before.0 (group_text table (k + n) (group_of F (k + n))),
-      )
+  groups_joined first n (suc k) =
+      let next : suc k + n ≡ suc (k + n) = omega arith in
+      let there : first + (k + n) ≡ first + n + k = omega arith in
+      ap (groups_from table F first) next
+      ∙ ap (λ t. t ++ group_text table (first + (k + n)) (group_of F (first + (k + n)))) (groups_joined first n k)
+      ∙ ap (λ at. (groups_from table F first n ++ groups_from table F (first + n) k) ++ group_text table at (group_of F at)) there
+      ∙ append_assoc (groups_from table F first n) (groups_from table F (first + n) k) (group_text table (first + n + k) (group_of F (first + n + k)))
 
-  -- a fault in the line of a group
-  pub groups_stop : {T U E F' : Type 0} (n m : ℕ) (group : GroupRecord) (e : E) (last : Result U F') (old mid new : Device) → n < m → group ≡ group_of F n → IsErr last
-      → Puts {T = Unit} {E = Unit} (groups_below table F n) (Ok tt) (record { old = old; new = mid })
-      → Puts {T = T} (group_text table n group) (Err e) (record { old = mid; new = new })
-      → Puts (groups_below table F m) last (record { old = old; new = new })
-  unfolding groups_below
-  groups_stop {T = T} n m group e last old mid new below is failed before here =
-      let split = groups_split (suc n) (m - suc n) in
-      let size : (m - suc n) + suc n ≡ m = omega arith in
-      puts_as _ _ _ _ (sym split.1 ∙ ap (groups_below table F) size)
-      (puts_first {T = T} (groups_below table F (suc n)) split.0 e last _ failed
-      (puts_then (groups_below table F n) (group_text table n (group_of F n)) tt (Err e) old mid new before (puts_as _ _ _ _ (ap (group_text table n) is) here)))
+  pub groups_more : {E : Type 0} (first n at k m : ℕ) (old mid new : Device) → at ≡ first + n → m ≡ n + k
+      → Puts {T = Unit} {E = Unit} (groups_from table F first n) (Ok tt) (record { old = old; new = mid })
+      → Puts {T = Unit} {E = E} (groups_from table F at k) (Ok tt) (record { old = mid; new = new })
+      → Puts {T = Unit} {E = Unit} (groups_from table F first m) (Ok tt) (record { old = old; new = new })
+  groups_more first n at k m old mid new is size before here =
+      let all : k + n ≡ m = omega (arith, size) in
+      puts_as _ _ _ _ (sym (groups_joined first n k) ∙ ap (groups_from table F first) all)
+      (puts_then _ _ tt (Ok tt) old mid new before (puts_done _ tt tt _ (puts_as _ _ _ _ (ap (λ n. groups_from table F n k) is) here)))
 
-  pub groups_all : {T E : Type 0} (n : ℕ) (result : Result T E) (sink : Turn) → n ≡ 262144 → Puts (groups_below table F n) result sink → Puts (groups_text table F) result sink
+  -- a fault in the lines of k groups behind n, of m in all
+  pub groups_stop : {T U E F' : Type 0} (first n at k m : ℕ) (e : E) (last : Result U F') (old mid new : Device) → at ≡ first + n → n + k ≤ m → IsErr last
+      → Puts {T = Unit} {E = Unit} (groups_from table F first n) (Ok tt) (record { old = old; new = mid })
+      → Puts {T = T} (groups_from table F at k) (Err e) (record { old = mid; new = new })
+      → Puts (groups_from table F first m) last (record { old = old; new = new })
+  groups_stop {T = T} first n at k m e last old mid new is within failed before here =
+      let rest = m - (n + k) in
+      let all : rest + (k + n) ≡ m = omega (arith, within) in
+      puts_as _ _ _ _ (sym (groups_joined first (k + n) rest) ∙ ap (groups_from table F first) all)
+      (puts_first {T = T} (groups_from table F first (k + n)) _ e last _ failed
+      (puts_as _ _ _ _ (sym (groups_joined first n k))
+      (puts_then (groups_from table F first n) (groups_from table F (first + n) k) tt (Err e) old mid new before
+      (puts_as _ _ _ _ (ap (λ n. groups_from table F n k) is) here))))
+
+  -- groups that no identifier can have have no lines
+  unheard_text : (pgn : ℕ) → (IsHeardGroup pgn → ⊥) → group_text table pgn (group_of F pgn) ≡ []
+  unfolding group_text group_of
+  unheard_text pgn unheard = rw (sources_of-unheard pgn F unheard) refl
+
+  unheard_texts : (first n : ℕ) → ((k : ℕ) → k < n → IsHeardGroup (first + k) → ⊥) → groups_from table F first n ≡ []
+  unfolding groups_from
+  unheard_texts first zero unheard = refl
+  unheard_texts first (suc n) unheard =
+      ap (λ t. t ++ group_text table (first + n) (group_of F (first + n))) (unheard_texts first n (λ k below. unheard k (omega (arith, below))))
+      ∙ unheard_text (first + n) (unheard n (omega arith))
+
+  -- of the groups of one PF below 240 only the first has a line
+  pub groups_directed : (front : ℕ) → front % 256 < 240 → group_text table (front * 256) (group_of F (front * 256)) ≡ groups_from table F (front * 256) 256
+  groups_directed front low =
+      groups_one (front * 256)
+      ∙ sym (append-nil (groups_from table F (front * 256) 1))
+      ∙ ap (λ t. groups_from table F (front * 256) 1 ++ t) (sym (unheard_texts (front * 256 + 1) 255 (λ k below can. omega (arith, can.1 (omega (arith, low, below)), below))))
+      ∙ sym (groups_joined (front * 256) 1 255)
+
+  pub groups_all : {T E : Type 0} (n : ℕ) (result : Result T E) (sink : Turn) → n ≡ 262144 → Puts (groups_from table F 0 n) result sink → Puts (groups_text table F) result sink
   unfolding groups_end
-  groups_all n result sink is written = puts_as _ _ _ _ (ap (groups_below table F) is) written
+  groups_all n result sink is written = puts_as _ _ _ _ (ap (groups_from table F 0) is) written
 
 -- ---- the line of a group
 

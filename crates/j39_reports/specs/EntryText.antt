@@ -25,9 +25,9 @@ group_called groups pgn = unwrap_or (group_name_in groups pgn) []
 abbrev pub parameter_called : List RowRecord → ℕ → ℕ → List ℕ
 parameter_called groups pgn spn = unwrap_or (name_in groups pgn spn) []
 
--- the fields up to the value: those, what the group is called, the parameter (SPN), and what it is called
-unfoldable pub named_fields : List ℕ → List ℕ → ℕ → List ℕ → List ℕ
-named_fields begin group spn parameter = begin ++ later_text group ++ (comma ∷ decimal spn) ++ later_text parameter
+-- the fields up to the value: those and what the group is called, the parameter (SPN), and what it is called
+unfoldable pub named_fields : List ℕ → ℕ → List ℕ → List ℕ
+named_fields begun spn parameter = begun ++ (comma ∷ decimal spn) ++ later_text parameter
 
 -- the value, its unit, and the end of the line
 unfoldable pub value_fields : ValueRecord → List ℕ
@@ -36,7 +36,7 @@ value_fields value = (comma ∷ bare_text value) ++ (later_text (unit_of value) 
 -- the record of an entry
 abbrev pub entry_record : List RowRecord → Entry → List ℕ
 entry_record groups e =
-    named_fields (begin_text e.stamp e.address e.destination e.name e.pgn) (group_called groups e.pgn) e.spn
+    named_fields (begin_text e.stamp e.address e.destination e.name e.pgn ++ later_text (group_called groups e.pgn)) e.spn
     (parameter_called groups e.pgn e.spn) ++ value_fields e.value
 
 abbrev pub entries_text : List RowRecord → List Entry → List ℕ

@@ -1,6 +1,7 @@
 -- The steps of a message's records, reading by reading.
-use Rattle.std.specs.Prelude.{◌≡◌, ◌∷◌, ◌++◌, ℕ, List, [], Result, Ok, Err, drop, length, map}
+use Rattle.std.specs.Prelude.{◌≡◌, ◌∷◌, ◌++◌, ℕ, List, [], Result, Ok, Err, if◌then◌else◌, drop, length, map}
 use Rattle.j39_io.specs.Puts.{Puts}
+use Rattle.j39_io.specs.Records.{later_text}
 use Rattle.j39_io.specs.Turn.{Device}
 use Rattle.j39_groups.specs.Row.{RowRecord}
 use Rattle.j39_groups.specs.Value.{ReadingRecord}
@@ -8,13 +9,19 @@ use Rattle.j39_listen.specs.Counting.{capped}
 use Rattle.j39_listen.specs.Heard.{Hearing}
 use Rattle.j39_listen.specs.Report.{entry_of}
 use Rattle.j39_reports.specs.EntryText.{begin_text, entries_text, group_called}
+use Rattle.j39_reports.specs.declared.report_records.begin.Begin.{Begin}
 use Rattle.j39_reports.specs.declared.report_records.records.Records.{Records}
+
+-- what stands before the parameter: the bytes of the block, and the group's name where they have it not
+abbrev pub begun_fields : Begin → List ℕ → List ℕ
+begun_fields begin group =
+    if begin.has_group then drop begin.from begin.head else drop begin.from begin.head ++ later_text group
 
 -- the records are those of this message by this table
 pub record IsBegun (groups : List RowRecord) (h : Hearing) (records : Records) : Type 0 where
   pub by : records.groups.now ≡ groups
-  pub begin_is : drop records.begin.from records.begin.head ≡ begin_text h.stamp h.message.source h.destination h.name h.message.pgn
-  pub group_is : records.group.now ≡ group_called groups h.message.pgn
+  pub begin_is : begun_fields records.begin records.group.now
+      ≡ begin_text h.stamp h.message.source h.destination h.name h.message.pgn ++ later_text (group_called groups h.message.pgn)
   pub pgn_is : records.pgn ≡ h.message.pgn
 
 -- a message by a table, and the writer before its records

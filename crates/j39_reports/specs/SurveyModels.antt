@@ -4,6 +4,7 @@ use Rattle.std.specs.Int.{bit_at}
 use Rattle.std.specs.List.{list_any}
 use Rattle.j39_memory.specs.ByGroup.{values_of}
 use Rattle.j39_frame.specs.Frame.{FrameRecord}
+use Rattle.j39_frame.specs.Groups.{IsHeardGroup, place_of_group}
 use Rattle.j39_listen.specs.Counting.{capped}
 use Rattle.j39_reports.specs.GroupCounts.{GroupRecord, of_sources, sources_of}
 use Rattle.j39_reports.specs.Interfaces.{InterfaceRecord, interfaces_of, untold_in}
@@ -40,8 +41,9 @@ pub record HasCounted (count : GroupCount) (sources : List ℕ) : Type 0 where
 
 -- each group of these frames was counted
 pub record HaveCounted (table : GroupTable) (F : List FrameRecord) : Type 0 where
-  pub all : length (values_of table.counts) ≡ 262144
-  pub each : (pgn : ℕ) (d : GroupCount) → pgn < 262144 → HasCounted (get_or (values_of table.counts) pgn d) (sources_of pgn F)
+  pub all : length (values_of table.counts) ≡ 17344
+  pub each : (pgn : ℕ) (d : GroupCount) → IsHeardGroup pgn
+      → HasCounted (get_or (values_of table.counts) (place_of_group pgn) d) (sources_of pgn F)
 
 -- ---- interfaces
 

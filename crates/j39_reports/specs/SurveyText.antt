@@ -1,5 +1,5 @@
 -- The text of a survey (own).
-use Rattle.std.specs.Prelude.{◌==◌, ◌&&◌, ℕ, zero, suc, List, [], ◌∷◌, ◌++◌, Bool, Option, Some, None, codes, decimal, length, nat_le, if◌then◌else◌}
+use Rattle.std.specs.Prelude.{◌==◌, ◌&&◌, ◌+◌, ℕ, zero, suc, List, [], ◌∷◌, ◌++◌, Bool, Option, Some, None, codes, decimal, length, nat_le, if◌then◌else◌}
 use Rattle.std.specs.List.{flat_map}
 use Rattle.hex.specs.Hex.{encode_upper}
 use Rattle.j39_frame.specs.Frame.{FrameRecord}
@@ -52,17 +52,18 @@ group_line table pgn group =
 unfoldable pub group_text : List RowRecord → ℕ → GroupRecord → List ℕ
 group_text table pgn group = if group.frames == 0 then [] else group_line table pgn group
 
--- the groups below n, rising
-unfoldable pub groups_below : List RowRecord → List FrameRecord → ℕ → List ℕ
-groups_below table frames zero = []
-groups_below table frames (suc n) = groups_below table frames n ++ group_text table n (group_of frames n)
+-- n groups from this one on, rising
+unfoldable pub groups_from : List RowRecord → List FrameRecord → ℕ → ℕ → List ℕ
+groups_from table frames first zero = []
+groups_from table frames first (suc n) =
+    groups_from table frames first n ++ group_text table (first + n) (group_of frames (first + n))
 
 -- how many groups there are, of 18 bits
 unfoldable pub groups_end : ℕ
 groups_end = 262144
 
 abbrev pub groups_text : List RowRecord → List FrameRecord → List ℕ
-groups_text table frames = groups_below table frames groups_end
+groups_text table frames = groups_from table frames 0 groups_end
 
 unfoldable pub others_text : OthersRecord → List ℕ
 others_text o =

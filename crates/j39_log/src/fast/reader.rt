@@ -31,22 +31,42 @@ pub(crate) fn first_frame<'a>(
         return None;
     }
     let (front, rest) = bytes.split_first_chunk::<18>()?;
-    let rest = after_decimals(rest)?;
-    let rest = after_name(rest, bus)?;
+    let rest = after_bus(rest, bus)?;
     let (third, rest) = last_of(rest)?;
     let stamp = second.stamp_of(front)?;
     let frame = frame_at(stamp, third)?;
     Some((frame, rest))
 }
 
-/// What follows the three decimals that are cut, where a stamp has nine.
+/// What follows the three decimals that are cut, where a stamp has nine, `)`, a space, the name of this bus and a space. No
+/// byte of these is asked by itself before: the vector that they are compared in would be put together of parts then.
+#[inline(always)]
+fn after_bus<'a>(text: &'a [u8], bus: &Bus) -> Option<&'a [u8]>
+    ensures { IfSome result (λ third. (cut : List ℕ) × AllDigits 10 cut × ((length cut ≡ 0) ⊎ (length cut ≡ 3))
+        × IsBusName bus.now × (text.now ≡ cut ++ (codes ") " ++ (bus.now ++ (space ∷ third.now))))) }
+{
+    match after_name(text, bus) {
+        Some(third) => Some(third),
+        None => after_cut(text, bus),
+    }
+}
+
+/// The same, of a stamp with nine decimals.
+#[inline(never)]
+fn after_cut<'a>(text: &'a [u8], bus: &Bus) -> Option<&'a [u8]>
+    ensures { IfSome result (λ third. (cut : List ℕ) × AllDigits 10 cut × (length cut ≡ 3) × IsBusName bus.now
+        × (text.now ≡ cut ++ (codes ") " ++ (bus.now ++ (space ∷ third.now))))) }
+{
+    let rest = after_decimals(text)?;
+    after_name(rest, bus)
+}
+
+/// What follows the three decimals that are cut.
 #[inline(always)]
 fn after_decimals(text: &[u8]) -> Option<&[u8]>
-    ensures { IfSome result (λ later. (cut : List ℕ) × AllDigits 10 cut × ((length cut ≡ 0) ⊎ (length cut ≡ 3))
-        × (text.now ≡ cut ++ later.now)) }
+    ensures { IfSome result (λ later. (cut : List ℕ) × AllDigits 10 cut × (length cut ≡ 3) × (text.now ≡ cut ++ later.now)) }
 {
     match text {
-        [b')', ..] => Some(text),
         [a, b, c, later @ ..] if is_digit(*a) && is_digit(*b) && is_digit(*c) => Some(later),
         _ => None,
     }

@@ -1,9 +1,10 @@
 //! What the records of a message begin with, written backwards.
-ghost use Rattle.std.specs.Prelude.{◌≡◌, ◌+◌, ◌<◌, ◌≤◌, ◌^◌, decimal, drop, length};
+ghost use Rattle.std.specs.Prelude.{◌≡◌, ◌+◌, ◌<◌, ◌≤◌, ◌^◌, IfSome, decimal, length};
 ghost use Rattle.std.specs.Option.{option_map};
 ghost use Rattle.j39_address.specs.Name.{name_raw};
 ghost use Rattle.j39_io.specs.Backwards.{WritesBefore};
 ghost use Rattle.j39_io.specs.Printing.{last_digits};
+ghost use Rattle.j39_io.specs.Records.{later_text};
 ghost use Rattle.j39_frame.specs.Pgn.{pgn_raw};
 ghost use Rattle.j39_frame.specs.Stamp.{stamp_micros};
 ghost use Rattle.j39_listen.specs.Report.{name_field};
@@ -11,6 +12,7 @@ ghost use Rattle.j39_reports.specs.Columns.{destination_field, moment_fields, se
 ghost use Rattle.j39_reports.specs.EntryText.{begin_text};
 ghost use Rattle.j39_reports.specs.Utc.{second_text};
 
+use crate::report_records::quick_record::field_before;
 use crate::utc::second_text;
 use j39_address::Name;
 use j39_frame::Stamp;
@@ -26,6 +28,8 @@ pub(crate) const HEAD: usize = 96;
 pub(crate) struct Begin {
     pub head: [u8; HEAD],
     pub from: usize,
+    /// Whether what the group is called stands there too.
+    pub has_group: bool,
     pub ghost whole: { length head ≡ 96 },
     pub ghost inside: { from ≤ 96 },
 }
@@ -86,26 +90,34 @@ impl Second {
     }
 }
 
-/// What the records of a message begin with: the moment, the address, the destination, the NAME and the PGN.
+/// Writes a comma and what a group is called at the end of a block, where that is short and stands as it is.
 #[inline(always)]
-pub(crate) fn begin_of(heard: &Heard<'_>, second: &mut Second) -> Begin
-    ensures { drop result.from result.head ≡ begin_text (stamp_micros heard.now.message.stamp)
-        heard.now.message.source heard.now.destination (option_map name_raw heard.now.name)
-        (pgn_raw heard.now.message.pgn) }
+pub(crate) fn group_before(out: &mut [u8; HEAD], group: &[u8]) -> Option<usize>
+    ensures written { IfSome result (λ start. WritesBefore out.old out.new 96 start (later_text group.now)) }
+    ensures room { IfSome result (λ start. 79 ≤ start) }
+    ensures within { IfSome result (λ start. start ≤ 96) }
 {
-    let mut head = [0; HEAD];
-    let from = begin_before(&mut head, heard, second);
-    Begin { head, from }
+    if group.len() > 16 {
+        return None;
+    }
+    field_before(out, HEAD, group)
 }
 
-/// Writes that at the end of a block, and answers where it starts.
+/// Writes the moment, the address, the destination, the NAME and the PGN.
 #[inline(always)]
-fn begin_before(out: &mut [u8; HEAD], heard: &Heard<'_>, second: &mut Second) -> usize
-    ensures begin { drop result out.new ≡ begin_text (stamp_micros heard.now.message.stamp) heard.now.message.source
-        heard.now.destination (option_map name_raw heard.now.name) (pgn_raw heard.now.message.pgn) }
-    ensures within { result ≤ 96 }
+pub(crate) fn begin_before(
+    out: &mut [u8; HEAD],
+    end: usize,
+    heard: &Heard<'_>,
+    second: &mut Second,
+) -> usize
+    requires room { 79 ≤ end }
+    requires within { end ≤ 96 }
+    ensures { WritesBefore out.old out.new end result (begin_text (stamp_micros heard.now.message.stamp)
+        heard.now.message.source heard.now.destination (option_map name_raw heard.now.name)
+        (pgn_raw heard.now.message.pgn)) }
 {
-    let group = digits_before(out, HEAD, heard.message.pgn.raw());
+    let group = digits_before(out, end, heard.message.pgn.raw());
     let comma = byte_before(out, group, b',');
     let sender = sender_before(out, comma, heard);
     let first = byte_before(out, sender, b',');

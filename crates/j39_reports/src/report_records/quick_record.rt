@@ -1,5 +1,5 @@
 //! The record of one reading in a block, the last byte first.
-ghost use Rattle.std.specs.Prelude.{◌≡◌, ◌==◌, ◌+◌, ◌≤◌, ◌++◌, IfSome, drop, false, length, map};
+ghost use Rattle.std.specs.Prelude.{◌≡◌, ◌==◌, ◌+◌, ◌≤◌, ◌++◌, ℕ, List, IfSome, false, length, map};
 ghost use Rattle.std.specs.List.{list_any};
 ghost use Rattle.std.specs.Simd.Lanes.{mask_l};
 ghost use Rattle.j39_io.specs.Backwards.{WritesBefore};
@@ -7,34 +7,36 @@ ghost use Rattle.j39_io.specs.Records.{is_special, later_text};
 ghost use Rattle.j39_groups.specs.Models.{value_of};
 ghost use Rattle.j39_groups.specs.ValueText.{bare_text, scaled_text};
 ghost use Rattle.j39_reports.specs.EntryText.{named_fields, value_fields};
+ghost use Rattle.j39_reports.specs.MessageRecords.{begun_fields};
 
-use crate::report_records::begin::{HEAD, digits_before};
+use crate::report_records::begin::{Begin, digits_before};
 use j39_groups::{Value, magnitude_before};
 use j39_io::backwards::{byte_before, bytes_before, slice_before, tail_before};
 use j39_io::has_special;
 use std::simd::prelude::*;
 
-/// The bytes of a block that a record fits in: what it begins with, a number, a value, three fields of 64 bytes with
+/// The bytes of a block that a record fits in: what it begins with, a number, a value, two fields of 64 bytes with
 /// their commas, and the end of the line.
-pub(crate) const RECORD: usize = 336;
+pub(crate) const RECORD: usize = 288;
 
-/// Writes the record of a reading at the end of a block, and answers where it starts: the bytes of `head` from `from`
-/// on, and the fields behind them. `None`, and nothing of use is written, for a text of the sender's, a number with
-/// more than nine places, and a field that is long or must stand in quotes.
+/// Writes the record of a reading at the end of a block, and answers where it starts: what it begins with, and the fields
+/// behind that. `None`, and nothing of use is written, for a text of the sender's, a number with more than fifteen places, and
+/// a field that is long or must stand in quotes.
 #[inline(always)]
 pub(crate) fn record_before(
     out: &mut [u8; RECORD],
-    head: &[u8; HEAD],
-    from: usize,
-    group: &[u8],
+    begin: &Begin,
     spn: u32,
     parameter: &[u8],
     value: Value<'_, '_>,
 ) -> Option<usize>
-    requires { from ≤ 96 }
-    ensures { IfSome result (λ start. WritesBefore out.old out.new 336 start
-        (named_fields (drop from head.now) group.now spn parameter.now ++ value_fields (value_of value.entry))) }
+    ensures written { (group : List ℕ) → IfSome result (λ start. WritesBefore out.old out.new 288 start
+        (named_fields (begun_fields begin.now group) spn parameter.now ++ value_fields (value_of value.entry))) }
+    ensures within { IfSome result (λ start. start ≤ 288) }
 {
+    if !begin.has_group {
+        return None;
+    }
     let unit = value.unit();
     let last = bytes_before(out, RECORD, *b"\r\n");
     let behind = field_before(out, last, unit)?;
@@ -43,17 +45,17 @@ pub(crate) fn record_before(
     let name = field_before(out, gap, parameter)?;
     let number = digits_before(out, name, spn);
     let comma = byte_before(out, number, b',');
-    let label = field_before(out, comma, group)?;
-    Some(tail_before(out, label, head, from))
+    Some(tail_before(out, comma, &begin.head, begin.from))
 }
 
 /// Writes a comma and a field. `None`, and nothing of use is written, where it is long or must stand in quotes.
 #[inline(always)]
-fn field_before(out: &mut [u8], end: usize, field: &[u8]) -> Option<usize>
+pub(crate) fn field_before(out: &mut [u8], end: usize, field: &[u8]) -> Option<usize>
     requires room { 64 ≤ end }
     requires within { end ≤ length out.old }
     ensures written { IfSome result (λ start. WritesBefore out.old out.new end start (later_text field.now)) }
     ensures short { IfSome result (λ start. end ≤ start + 64) }
+    ensures starts { IfSome result (λ start. start + length field.now + 1 ≡ end) }
 {
     if field.len() > 63 {
         return None;
@@ -107,11 +109,11 @@ fn bits_of(block: &[u8; 8], byte: u8) -> u64
 #[inline(always)]
 #[tactic(auto, unfolding(j39_groups::specs::ValueText::bare_text, j39_groups::specs::ValueText::value_text))]
 fn bare_before(out: &mut [u8], end: usize, value: Value<'_, '_>) -> Option<usize>
-    requires room { 32 ≤ end }
+    requires room { 38 ≤ end }
     requires within { end ≤ length out.old }
     ensures written { IfSome result (λ start. WritesBefore out.old out.new end start
         (bare_text (value_of value.entry))) }
-    ensures short { IfSome result (λ start. end ≤ start + 32) }
+    ensures short { IfSome result (λ start. end ≤ start + 38) }
 {
     match value {
         Value::Number(number, scale) => scaled_before(out, end, number, scale.places),
@@ -124,15 +126,15 @@ fn bare_before(out: &mut [u8], end: usize, value: Value<'_, '_>) -> Option<usize
     }
 }
 
-/// Writes a number in decimal with its places: nine at most.
+/// Writes a number in decimal with its places: fifteen at most.
 #[inline(always)]
 fn scaled_before(out: &mut [u8], end: usize, number: i64, places: u8) -> Option<usize>
-    requires room { 32 ≤ end }
+    requires room { 38 ≤ end }
     requires within { end ≤ length out.old }
     ensures written { IfSome result (λ start. WritesBefore out.old out.new end start (scaled_text places number)) }
-    ensures short { IfSome result (λ start. end ≤ start + 32) }
+    ensures short { IfSome result (λ start. end ≤ start + 38) }
 {
-    if places > 9 {
+    if places > 15 {
         return None;
     }
     let digits = magnitude_before(out, end, number.unsigned_abs(), places);

@@ -1,15 +1,19 @@
 //! The records of a message.
-ghost use Rattle.std.specs.Prelude.{◌≡◌, ◌+◌, ◌≤◌, ◌++◌, ◌∷◌, [], decimal, drop};
+ghost use Rattle.std.specs.Prelude.{◌≡◌, ◌+◌, ◌≤◌, ◌++◌, ◌∷◌, [], decimal};
 ghost use Rattle.std.specs.List.{flat_map};
 ghost use Rattle.j39_io.specs.Puts.{Puts};
 ghost use Rattle.j39_io.specs.Turn.{turn};
-ghost use Rattle.j39_io.specs.Records.{comma};
+ghost use Rattle.j39_io.specs.Records.{comma, later_text};
+ghost use Rattle.std.specs.Option.{option_map};
+ghost use Rattle.j39_address.specs.Name.{name_raw};
+ghost use Rattle.j39_frame.specs.Stamp.{stamp_micros};
 ghost use Rattle.j39_frame.specs.Pgn.{pgn_raw};
 ghost use Rattle.j39_groups.specs.Models.{value_of};
 ghost use Rattle.j39_listen.specs.HeardModel.{hearing_of};
-ghost use Rattle.j39_reports.specs.EntryText.{group_called, named_fields, parameter_called, value_fields};
+ghost use Rattle.j39_reports.specs.EntryText.{begin_text, group_called, named_fields, parameter_called, value_fields};
+ghost use Rattle.j39_reports.specs.MessageRecords.{begun_fields};
 
-use crate::report_records::begin::{Begin, Second, begin_of};
+use crate::report_records::begin::{Begin, HEAD, Second, begin_before, group_before};
 use crate::report_records::quick_record::{RECORD, record_before};
 use arrayvec::ArrayVec;
 use j39_frame::Pgn;
@@ -38,10 +42,11 @@ impl<'g, 't> Records<'g, 't> {
         ensures none { result.lines ≡ 0 }
     {
         let pgn = heard.message.pgn;
+        let group = group_of(groups, pgn);
         Records {
             groups,
-            begin: begin_of(heard, second),
-            group: group_of(groups, pgn),
+            begin: begin_of(heard, group, second),
+            group,
             pgn: pgn.raw(),
             lines: 0,
             block: [0; RECORD],
@@ -114,6 +119,23 @@ impl<'g, 't, W: Sink> ReadingVisitor<'t, W> for Records<'g, 't> {
     }
 }
 
+/// What the records of a message begin with: the moment, the address, the NAME and the PGN, and what the group is called,
+/// where that is short and stands as it is.
+#[inline(always)]
+fn begin_of(heard: &Heard<'_>, group: &[u8], second: &mut Second) -> Begin
+    ensures { begun_fields result group.now ≡ begin_text (stamp_micros heard.now.message.stamp) heard.now.message.source
+        (option_map name_raw heard.now.name) (pgn_raw heard.now.message.pgn) ++ later_text group.now }
+{
+    let mut head = [0; HEAD];
+    let quick = group_before(&mut head, group);
+    let from = begin_before(&mut head, quick.unwrap_or(HEAD), heard, second);
+    Begin {
+        head,
+        from,
+        has_group: quick.is_some(),
+    }
+}
+
 /// Writes the record of a reading, in one piece where it is short. What stands in `block` afterwards is not known.
 #[inline(always)]
 fn put_record<W: Sink>(
@@ -125,34 +147,27 @@ fn put_record<W: Sink>(
     value: Value<'_, '_>,
     sink: &mut W,
 ) -> Result<(), DeviceFault>
-    ensures { Puts (named_fields (drop begin.now.from begin.now.head) group.now spn parameter.now
+    ensures { Puts (named_fields (begun_fields begin.now group.now) spn parameter.now
         ++ value_fields (value_of value.entry)) result (turn W.written W.has_failed sink.old sink.new) }
 {
-    match record_before(block, &begin.head, begin.from, group, spn, parameter, value) {
+    match record_before(block, begin, spn, parameter, value) {
         Some(start) => put_all(sink, &block[start..]),
-        None => put_parts(
-            &begin.head[begin.from..],
-            group,
-            spn,
-            parameter,
-            value,
-            sink,
-        ),
+        None => put_parts(begin, group, spn, parameter, value, sink),
     }
 }
 
 /// Writes the record of a reading, part by part.
 #[inline(never)]
 fn put_parts<W: Sink>(
-    begin: &[u8],
+    begin: &Begin,
     group: &[u8],
     spn: u32,
     parameter: &[u8],
     value: Value<'_, '_>,
     sink: &mut W,
 ) -> Result<(), DeviceFault>
-    ensures { Puts (named_fields begin.now group.now spn parameter.now ++ value_fields (value_of value.entry))
-        result (turn W.written W.has_failed sink.old sink.new) }
+    ensures { Puts (named_fields (begun_fields begin.now group.now) spn parameter.now
+        ++ value_fields (value_of value.entry)) result (turn W.written W.has_failed sink.old sink.new) }
 {
     put_named(begin, group, spn, parameter, sink)?;
     put_value_and_unit(value, sink)
@@ -160,20 +175,31 @@ fn put_parts<W: Sink>(
 
 /// Writes the record of a reading, up to its value.
 fn put_named<W: Sink>(
-    begin: &[u8],
+    begin: &Begin,
     group: &[u8],
     spn: u32,
     parameter: &[u8],
     sink: &mut W,
 ) -> Result<(), DeviceFault>
-    ensures { Puts (named_fields begin.now group.now spn parameter.now)
+    ensures { Puts (named_fields (begun_fields begin.now group.now) spn parameter.now)
         result (turn W.written W.has_failed sink.old sink.new) }
 {
-    put_all(sink, begin)?;
-    put_behind_comma(group, sink)?;
+    put_begun(begin, group, sink)?;
     let number = spn_field(spn);
     put_all(sink, number.as_slice())?;
     put_behind_comma(parameter, sink)
+}
+
+/// Writes what the records of a message begin with, and what the group is called.
+fn put_begun<W: Sink>(begin: &Begin, group: &[u8], sink: &mut W) -> Result<(), DeviceFault>
+    ensures { Puts (begun_fields begin.now group.now) result (turn W.written W.has_failed sink.old sink.new) }
+{
+    let begun = &begin.head[begin.from..];
+    if begin.has_group {
+        return put_all(sink, begun);
+    }
+    put_all(sink, begun)?;
+    put_behind_comma(group, sink)
 }
 
 /// Writes the record of a reading, from its value on.

@@ -1,8 +1,10 @@
 //! The summary of the report of a log: the run that writes it, and the account of frames that it writes.
-ghost use Rattle.std.specs.Prelude.{◌<◌, [], List};
+ghost use Rattle.std.specs.Prelude.{◌≡◌, ◌<◌, [], List};
 ghost use Rattle.std.specs.Prelude.{IfOk, OnErr, Err};
 ghost use Rattle.j39_memory.specs.ByOrigin.{pairs_of};
 ghost use Rattle.j39_frame.specs.Frame.{FrameRecord};
+ghost use Rattle.j39_frame.specs.Identifier.{pgn_of};
+ghost use Rattle.j39_groups.specs.Readings.{is_reported_in};
 ghost use Rattle.std.specs.List.{flat_map};
 ghost use Rattle.j39_io.specs.Turn.{turn};
 ghost use Rattle.j39_listen.specs.Headed.{begins_flushed};
@@ -18,7 +20,7 @@ ghost use Rattle.j39_reports.specs.SummaryRun.{AsksForRows, MakesSummary};
 use crate::summaries::lines::put_rows;
 use crate::summaries::rows::Rows;
 use j39_frame::Frame;
-use j39_groups::Groups;
+use j39_groups::{Groups, is_network_group};
 use j39_io::{DeviceFault, Sink, Source};
 use j39_listen::{
     Account, Counts, Format, LineFault, Listener, Made, RunFault, run_headed, run_over,
@@ -99,14 +101,21 @@ impl<'g, 't> Account for SummaryAccount<'g, 't> {
 
     ghost asks = { λ subject. AsksForRows subject.1 };
 
+    /// Most frames are of groups that nobody hears: those are done with here, and leave all as it was.
     #[inline(always)]
     fn feed<W: Sink>(&mut self, _: &Bus, frame: &Frame, _: &mut W) -> Result<(), LineFault> {
-        match note(&mut self.listener, self.groups, &mut self.rows, frame) {
-            // Most frames are no message: their arm adds nothing.
-            Ok(0) => {
-                self.messages = self.messages.saturating_add(0);
-                Ok(())
-            }
+        let is_single = self.groups.is_reported(frame.id.pgn());
+        if !is_single && !is_network_group(frame.id.pgn()) {
+            self.messages = self.messages.saturating_add(0);
+            return Ok(());
+        }
+        match note(
+            &mut self.listener,
+            self.groups,
+            &mut self.rows,
+            is_single,
+            frame,
+        ) {
             Ok(messages) => {
                 self.messages = self.messages.saturating_add(messages);
                 Ok(())
@@ -126,14 +135,17 @@ impl<'g, 't> Account for SummaryAccount<'g, 't> {
     fn laws() {}
 }
 
-/// Takes what is heard at a frame to its rows, and answers how many messages that is.
-#[inline(always)]
+/// Takes what is heard at a frame to its rows, and answers how many messages that is; the caller says whether messages of
+/// its group are heard in one frame.
+#[inline(never)]
 fn note<'t>(
     listener: &mut Listener,
     groups: &Groups<'t>,
     rows: &mut Rows<'t>,
+    is_single: bool,
     frame: &Frame,
 ) -> Result<u64, AllocError>
+    requires { is_single ≡ is_reported_in groups.now (pgn_of frame.now.id) }
     ensures noted { IfOk result (λ messages. (F : List FrameRecord) (before : List Entry) → Hears listener.old F
         → AreRowsOf (pairs_of rows.old.rows) before
         → NotesFrame groups.now F frame.now listener.new (pairs_of rows.new.rows) before messages) }
@@ -141,7 +153,7 @@ fn note<'t>(
         → AreHeard groups.now F heard → AreRowsOf (pairs_of rows.old.rows) (flat_map (entries_of groups.now) heard)
         → AsksForRows groups.now F frame.now) }
 {
-    match listener.feed_with(groups, frame) {
+    match listener.feed_as(is_single, frame) {
         Err(AllocError) => Err(AllocError),
         Ok(None) => Ok(0),
         Ok(Some(heard)) => {

@@ -1,11 +1,13 @@
 //! The groups of the frames so far.
 ghost use Rattle.std.specs.Prelude.{◌≡◌, ◌∷◌, ◌++◌, ◌<◌, [], ℕ, List, IfOk};
 ghost use Rattle.j39_frame.specs.Frame.{FrameRecord};
+ghost use Rattle.j39_frame.specs.Groups.{IsHeardGroup};
 ghost use Rattle.j39_frame.specs.Identifier.{id_raw, pgn_of, source_of};
+ghost use Rattle.j39_frame.specs.Pgn.{pgn_raw};
 ghost use Rattle.j39_reports.specs.GroupCounts.{group_of};
 
 use crate::surveys::addresses::Addresses;
-use j39_frame::Id;
+use j39_frame::{Id, Pgn};
 use j39_memory::{ByGroup, GroupChange};
 use std::alloc::{AllocError, Global};
 
@@ -71,7 +73,7 @@ impl GroupTable {
     ghost use Rattle.j39_reports.specs.GroupCounts.{GroupRecord};
     ghost use Rattle.j39_reports.specs.SurveyModels.{HaveCounted, group_record};
 
-    /// Of no frames. This takes memory, 12 MiB, and nothing else does.
+    /// Of no frames. This takes memory, 0.8 MiB, and nothing else does.
     pub fn new(alloc: Global) -> Result<GroupTable, AllocError>
         ensures { IfOk result (λ table. HaveCounted table []) }
     {
@@ -84,7 +86,7 @@ impl GroupTable {
         ensures { (F : List FrameRecord) (f : FrameRecord) → f.id ≡ id_raw id → HaveCounted self.old F
             → HaveCounted self.new (F ++ f ∷ []) }
     {
-        let at = id.pgn().raw() as usize;
+        let at = id.pgn().place();
         let frame = FrameFrom {
             source: id.source(),
         };
@@ -92,12 +94,12 @@ impl GroupTable {
     }
 
     /// What was counted of a group.
-    pub fn count(&self, pgn: u32) -> (u64, u64)
-        requires { pgn < 262144 }
+    pub fn count(&self, pgn: Pgn) -> (u64, u64)
+        requires { IsHeardGroup (pgn_raw pgn) }
         ensures { (F : List FrameRecord) → HaveCounted self.now F
-            → record { frames = result.0; addresses = result.1 } ≡ group_of F pgn }
+            → record { frames = result.0; addresses = result.1 } ≡ group_of F (pgn_raw pgn) }
     {
-        let count = self.counts.get(pgn as usize);
+        let count = self.counts.get(pgn.place());
         (count.frames, count.addresses)
     }
 }

@@ -1,16 +1,18 @@
 //! A survey, written.
-ghost use Rattle.std.specs.Prelude.{◌≡◌, ◌<◌, ◌++◌, List, true, map, OnOk};
+ghost use Rattle.std.specs.Prelude.{◌≡◌, ◌<◌, ◌≤◌, ◌+◌, ◌*◌, ◌/◌, ◌%◌, ◌++◌, List, true, map, OnOk};
 ghost use Rattle.std.specs.List.{flat_map};
 ghost use Rattle.j39_io.specs.Puts.{Puts};
 ghost use Rattle.j39_io.specs.Turn.{turn};
 ghost use Rattle.j39_io.specs.Device.{Marks};
 ghost use Rattle.j39_frame.specs.Frame.{FrameRecord};
+ghost use Rattle.j39_frame.specs.Groups.{IsHeardGroup};
 ghost use Rattle.j39_frame.specs.Pgn.{pgn_raw};
 ghost use Rattle.j39_groups.specs.Names.{group_name_in};
+ghost use Rattle.j39_reports.specs.GroupCounts.{group_of};
 ghost use Rattle.j39_reports.specs.LogLines.{LogLine};
 ghost use Rattle.j39_reports.specs.SurveyModels.{HasSurveyed, HaveCounted, interface_record, others_record, shown_record};
 ghost use Rattle.j39_reports.specs.UnreadLines.{is_printed_log};
-ghost use Rattle.j39_reports.specs.SurveyText.{class_text, group_text, groups_text, interface_text, name_text, printed_text, shown_text, survey_end, survey_head, survey_text};
+ghost use Rattle.j39_reports.specs.SurveyText.{class_text, group_text, groups_from, groups_text, interface_text, name_text, printed_text, shown_text, survey_end, survey_head, survey_text};
 
 use crate::parts::put_parts;
 use crate::surveys::group_table::GroupTable;
@@ -80,9 +82,48 @@ fn put_groups<W: Sink>(
         → Puts (groups_text groups.now F) result (turn W.written W.has_failed sink.old sink.new) }
     ensures mark { Marks result (W.has_failed sink.old) (W.has_failed sink.new) }
 {
-    for raw in 0..262_144 {
-        let (frames, addresses) = table.count(raw);
-        put_at(groups, raw, frames, addresses, sink)?;
+    for front in 0..1024 {
+        put_front(groups, table, front, sink)?;
+    }
+    Ok(())
+}
+
+/// Writes the lines of the groups whose pages and PF are these: one where PF is below 240, else 256.
+fn put_front<W: Sink>(
+    groups: &Groups<'_>,
+    table: &GroupTable,
+    front: u32,
+    sink: &mut W,
+) -> Result<(), DeviceFault>
+    requires { front < 1024 }
+    ensures puts { (F : List FrameRecord) → HaveCounted table.now F
+        → Puts (groups_from groups.now F (front * 256) 256) result (turn W.written W.has_failed sink.old sink.new) }
+    ensures mark { Marks result (W.has_failed sink.old) (W.has_failed sink.new) }
+{
+    let first = front * 256;
+    if front % 256 < 240 {
+        put_at(groups, table, first, sink)
+    } else {
+        put_each(groups, table, first, sink)
+    }
+}
+
+/// Writes the lines of 256 groups from the first on.
+fn put_each<W: Sink>(
+    groups: &Groups<'_>,
+    table: &GroupTable,
+    first: u32,
+    sink: &mut W,
+) -> Result<(), DeviceFault>
+    requires within { first + 256 ≤ 262144 }
+    requires heard { 240 ≤ first / 256 % 256 }
+    requires begins { first % 256 ≡ 0 }
+    ensures puts { (F : List FrameRecord) → HaveCounted table.now F
+        → Puts (groups_from groups.now F first 256) result (turn W.written W.has_failed sink.old sink.new) }
+    ensures mark { Marks result (W.has_failed sink.old) (W.has_failed sink.new) }
+{
+    for low in 0..256 {
+        put_at(groups, table, first + low, sink)?;
     }
     Ok(())
 }
@@ -90,18 +131,21 @@ fn put_groups<W: Sink>(
 /// Writes the line of the group of this number, where it has frames.
 fn put_at<W: Sink>(
     groups: &Groups<'_>,
+    table: &GroupTable,
     raw: u32,
-    frames: u64,
-    addresses: u64,
     sink: &mut W,
 ) -> Result<(), DeviceFault>
-    requires { raw < 262144 }
-    ensures { Puts (group_text groups.now raw (record { frames = frames; addresses = addresses }))
-        result (turn W.written W.has_failed sink.old sink.new) }
+    requires { IsHeardGroup raw }
+    ensures puts { (F : List FrameRecord) → HaveCounted table.now F
+        → Puts (group_text groups.now raw (group_of F raw)) result (turn W.written W.has_failed sink.old sink.new) }
+    ensures mark { Marks result (W.has_failed sink.old) (W.has_failed sink.new) }
 {
     match Pgn::new(raw) {
         None => Ok(()),
-        Some(pgn) => put_group(groups, pgn, frames, addresses, sink),
+        Some(pgn) => {
+            let (frames, addresses) = table.count(pgn);
+            put_group(groups, pgn, frames, addresses, sink)
+        }
     }
 }
 

@@ -1,5 +1,6 @@
--- A number, or what else the row's field holds.
-use Rattle.j39_groups.specs.Fields.{IsSoundBytes}
+-- A number, a switch, or what else the row's field holds.
+use Rattle.std.proofs.Common.{arith}
+use Rattle.j39_groups.specs.Fields.{IsSoundBytes, IsSoundPair}
 use Rattle.j39_groups.specs.Readings.{values_at}
 use Rattle.j39_groups.proofs.ReadyLemmas.{field_sound}
 use Rattle.j39_groups.proofs.RowLemmas.{row_is}
@@ -17,3 +18,26 @@ returns-in-Number-clause-taken g c = rw (c.in-Number.is, ← c.number_of.ensures
 pub returns-in-Number-clause-stopped : goal.returns-in-Number-clause-stopped
 unfolding values_at
 returns-in-Number-clause-stopped g c = rw (c.in-Number.is, ← c.number_of.ensures) c.visit_short.ensures.stopped
+
+pub switch_at-switch-requires-clause-byte : goal.switch_at-switch-requires-clause-byte
+switch_at-switch-requires-clause-byte g c =
+    let sound : IsSoundPair c.in-Switch.byte c.in-Switch.low c.in-Switch.high = rw c.in-Switch.is at (field_sound c.args.row.now.field (row_is c.args.row.now c.requires).sound) in
+    sound.byte_starts
+
+pub switch_at-switch-requires-clause-starts : goal.switch_at-switch-requires-clause-starts
+switch_at-switch-requires-clause-starts g c =
+    let sound : IsSoundPair c.in-Switch.byte c.in-Switch.low c.in-Switch.high = rw c.in-Switch.is at (field_sound c.args.row.now.field (row_is c.args.row.now c.requires).sound) in
+    sound.starts
+
+pub switch_at-switch-requires-clause-ends : goal.switch_at-switch-requires-clause-ends
+switch_at-switch-requires-clause-ends g c =
+    let sound : IsSoundPair c.in-Switch.byte c.in-Switch.low c.in-Switch.high = rw c.in-Switch.is at (field_sound c.args.row.now.field (row_is c.args.row.now c.requires).sound) in
+    omega (arith, sound.two, sound.ends)
+
+pub returns-in-Switch-clause-taken : goal.returns-in-Switch-clause-taken
+unfolding values_at
+returns-in-Switch-clause-taken g c = rw (c.in-Switch.is, ← c.switch_at-switch.ensures) c.visit_short-in-Switch.ensures.taken
+
+pub returns-in-Switch-clause-stopped : goal.returns-in-Switch-clause-stopped
+unfolding values_at
+returns-in-Switch-clause-stopped g c = rw (c.in-Switch.is, ← c.switch_at-switch.ensures) c.visit_short-in-Switch.ensures.stopped

@@ -9,10 +9,9 @@ returns c =
     let frame = c.in_ok-frame.frame in
     let bytes = c.args.bytes.now in
     let first = c.in_ok-front.front.now in
-    let text = c.in_ok-rest-2.rest.now in
+    let text = c.in_ok-rest.rest.now in
     let front = c.in_ok-front.ensures.cases in
     let cut = c.in_ok-rest.ensures in
-    let named = c.in_ok-rest-2.ensures in
     let third = c.in_ok-third.ensures in
     let found = c.in_ok-frame.ensures in
     let stamp = subst (IsStampText (first ++ (cut.0 ++ (41 ∷ [])))) (sym found.0) (c.in_ok-stamp.ensures cut.0 cut.1 cut.2) in
@@ -22,6 +21,6 @@ returns c =
       | inr three ↦ omega (arith, three)
     ] in
     let end = third.1 in
-    first_line bytes first c.in_ok-front.rest.now cut.0 c.in_ok-rest.rest.now c.args.bus.now text c.in_ok-third.third.now _ end.0 c.in_ok-third.rest.now frame long third.0
-    (sym (take-append-drop 18 bytes) ∙ ap₂ (λ xs ys. xs ++ ys) (sym front.0) (sym front.1)) cut.3 named.1
-    end.2 refl short end.1 stamp named.0 found.1
+    first_line bytes first c.in_ok-front.rest.now cut.0 (41 ∷ 32 ∷ (c.args.bus.now ++ (32 ∷ text))) c.args.bus.now text c.in_ok-third.third.now _ end.0 c.in_ok-third.rest.now frame long third.0
+    (sym (take-append-drop 18 bytes) ∙ ap₂ (λ xs ys. xs ++ ys) (sym front.0) (sym front.1)) cut.4 refl
+    end.2 refl short end.1 stamp cut.3 found.1

@@ -1,9 +1,10 @@
 -- The parts, one before the other.
-use Rattle.std.proofs.Common.{ℕ, List, ◌≡◌, ◌++◌, ◌∷◌, [], refl, ◌∙◌, append_assoc, arith}
+use Rattle.std.proofs.Common.{ℕ, List, ◌≡◌, ◌++◌, ◌∷◌, [], refl, append_assoc, subst}
 use Rattle.std.specs.Fmt.{decimal}
 use Rattle.std.specs.Option.{option_map}
 use Rattle.j39_address.specs.Name.{name_raw}
-use Rattle.j39_io.proofs.BackwardsLemmas.{before_end, before_then}
+use Rattle.j39_io.specs.Backwards.{WritesBefore}
+use Rattle.j39_io.proofs.BackwardsLemmas.{before_then}
 use Rattle.j39_frame.specs.Pgn.{pgn_raw}
 use Rattle.j39_frame.specs.Stamp.{stamp_micros}
 use Rattle.j39_reports.specs.Columns.{heard_fields, moment_fields, sender_fields}
@@ -13,14 +14,14 @@ joined : (moment sender heard : List ℕ) (told pgn : ℕ) → told ≡ pgn → 
     → moment ++ ((44 ∷ []) ++ (sender ++ ((44 ∷ []) ++ decimal told))) ≡ heard ++ (44 ∷ []) ++ decimal pgn
 joined moment sender heard told pgn same is = rw (is, same) (simp append_assoc refl)
 
-pub returns-clause-begin : goal.returns-clause-begin
+pub returns : goal.returns
 unfolding heard_fields
-returns-clause-begin c =
+returns c =
     let heard = c.args.heard.now in
-    before_end _ _ 96 _ _ (omega arith)
+    subst (WritesBefore c.args.out.now c.moment_before.new.out c.args.end c.moment_before.result)
+    (joined (moment_fields (stamp_micros heard.message.stamp)) (sender_fields heard.message.source heard.destination (option_map name_raw heard.name))
+    (heard_fields (stamp_micros heard.message.stamp) heard.message.source heard.destination (option_map name_raw heard.name))
+    c.raw.result (pgn_raw heard.message.pgn) c.raw.ensures.value refl)
     (before_then _ _ _ _ _ _ _ _ (before_then _ _ _ _ _ _ _ _ (before_then _ _ _ _ _ _ _ _ (before_then _ _ _ _ _ _ _ _
     c.digits_before-group.ensures.written c.byte_before-comma.ensures) c.sender_before-sender.ensures.written)
     c.byte_before-first.ensures) c.moment_before.ensures)
-    ∙ joined (moment_fields (stamp_micros heard.message.stamp)) (sender_fields heard.message.source heard.destination (option_map name_raw heard.name))
-    (heard_fields (stamp_micros heard.message.stamp) heard.message.source heard.destination (option_map name_raw heard.name))
-    c.raw.result (pgn_raw heard.message.pgn) c.raw.ensures.value refl

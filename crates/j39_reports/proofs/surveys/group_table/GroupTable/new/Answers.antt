@@ -1,5 +1,7 @@
 -- Each group is one of no frames.
 use Rattle.j39_memory.specs.ByGroup.{values_of}
+use Rattle.j39_frame.specs.Groups.{place_of_group}
+use Rattle.j39_frame.proofs.GroupLemmas.{place_below}
 use Rattle.j39_reports.proofs.GroupLemmas.{counted_start, length_start}
 use Rattle.j39_reports.proofs.surveys.group_table.GroupTable.new.Goals as goal
 
@@ -7,6 +9,6 @@ pub returns : goal.returns
 returns c =
     let same = c.in_ok-counts.ensures (λ y is. is) in
     record {
-      all = length_start (values_of c.in_ok-counts.counts) 262144 c.new.result same;
-      each = counted_start (values_of c.in_ok-counts.counts) 262144 c.new.result same c.new.ensures;
+      all = length_start (values_of c.in_ok-counts.counts) 17344 c.new.result same;
+      each = λ pgn d heard. counted_start (values_of c.in_ok-counts.counts) 17344 (place_of_group pgn) c.new.result d same c.new.ensures (place_below pgn heard);
     }
