@@ -19,20 +19,22 @@ use Rattle.j39_reports.specs.SurveyRun.{WritesSurvey}
 use Rattle.j39_reports.specs.SurveyRun.{WritesFront as WritesSurveyFront}
 use Rattle.j39_reports.specs.SurveyText.{survey_text}
 use Rattle.j39_reports.proofs.SurveyLemmas.{same_log_lines}
-use Rattle.j39_listen.proofs.ReportAccount.{report_one}
+use Rattle.j39_listen.proofs.ReportAccount.{report_one, report_one_in}
 use Rattle.j39_reports.proofs.FaultAccountLemmas.{news_one}
 use Rattle.j39_reports.proofs.SummaryAccountLemmas.{records_one}
 use Rattle.j39_reports.specs.declared.fault_news.telling.Telling.TheVariants.{News}
+use Rattle.j39_web.specs.SeriesSoFar.{series_form}
 use Rattle.j39_web.specs.Text.{IsFullOf, Overflows, SurveyOverflows, no_counts}
 use Rattle.j39_web.specs.Writings.{makes}
 use Rattle.j39_web.specs.declared.writing.Writing.{Writing}
-use Rattle.j39_web.specs.declared.writing.Writing.TheVariants.{Report, Summary, Faults}
+use Rattle.j39_web.specs.declared.writing.Writing.TheVariants.{Report, Summary, Faults, Series}
 
 -- of the frames of a log one text is made
 pub makes_one : (writing : Writing) (rows : List RowRecord) → MakesOne (makes writing rows)
 makes_one Report rows = report_one rows
 makes_one Summary rows = records_one rows
 makes_one Faults rows = news_one (record { rows = rows; which = News })
+makes_one (Series of) rows = report_one_in (series_form of) rows
 
 first : ℕ → List ℕ → ℕ
 first d [] = d

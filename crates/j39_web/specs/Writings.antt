@@ -8,17 +8,20 @@ use Rattle.j39_reports.specs.FaultAsking.{AsksForFaults}
 use Rattle.j39_reports.specs.FaultRun.{MakesFaults}
 use Rattle.j39_reports.specs.SummaryRun.{AsksForRows, MakesSummary}
 use Rattle.j39_reports.specs.declared.fault_news.telling.Telling.TheVariants.{News}
+use Rattle.j39_web.specs.Series.{MakesSeries}
 use Rattle.j39_web.specs.declared.writing.Writing.{Writing}
-use Rattle.j39_web.specs.declared.writing.Writing.TheVariants.{Report, Summary, Faults}
+use Rattle.j39_web.specs.declared.writing.Writing.TheVariants.{Report, Summary, Faults, Series}
 
 -- which outputs are made of the frames of a bus
 abbrev pub makes : Writing → List RowRecord → Making
 makes Report = MakesReport
 makes Summary = MakesSummary Record
 makes Faults = λ rows. MakesFaults Line rows News
+makes (Series of) = MakesSeries of
 
 -- at which frames memory is wanted
 abbrev pub asks : Writing → List RowRecord → Wanting
 asks Report = λ rows. AsksForBoxes
 asks Summary = AsksForRows
 asks Faults = λ rows. AsksForFaults
+asks (Series of) = λ rows. AsksForBoxes

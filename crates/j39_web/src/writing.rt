@@ -3,6 +3,8 @@ ghost use Rattle.j39_io.specs.Turn.{turn};
 ghost use Rattle.j39_listen.specs.Ran.{Ran};
 ghost use Rattle.j39_web.specs.Writings.{asks, makes};
 
+use crate::points::SeriesOrigin;
+use crate::series::series;
 use j39_groups::Groups;
 use j39_io::{Sink, Source};
 use j39_listen::{Counts, Format, RunFault, run_with};
@@ -19,6 +21,8 @@ pub(crate) enum Writing {
     Summary,
     /// A line for each fault code that says something else than the last before.
     Faults,
+    /// A point for each reading of one parameter of one controller.
+    Series(SeriesOrigin),
 }
 
 impl Writing {
@@ -42,6 +46,7 @@ impl Writing {
                 let (format, telling) = (Format::Line, Telling::News);
                 faults(alloc, groups, format, telling, source, sink, bus, limit)
             }
+            Writing::Series(of) => series(alloc, groups, of, source, sink, bus, limit),
         }
     }
 }
