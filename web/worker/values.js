@@ -1,6 +1,9 @@
 // The readings of some rows in a stretch of time as comma-separated values: the lines of the report, in the form of `j1939 report --csv`.
 const VALUE_COLUMNS = 'stamp,utc,address,name,pgn,group,spn,parameter,value,unit\r\n';
 const PIECE = 1 << 20; // bytes of a report that are made a text at once
+const NEWLINE = 10;
+
+const keyOf = ({ address, name, pgn, spn }) => `${address} ${name} ${pgn} ${spn}`;
 
 const csvField = text => /[",\r\n]/.test(text) ? `"${text.replaceAll('"', '""')}"` : text;
 
@@ -14,10 +17,8 @@ function recordOf(line, row) {
     .map(csvField).join(',') + '\r\n';
 }
 
-function momentOf(line) {
-  const [seconds, micros] = line.slice(1, line.indexOf(')')).split('.');
-  return seconds * 1000 + micros / 1000;
-}
+// In milliseconds, as near as a plot has it.
+const momentOf = line => Number(line.slice(1, line.indexOf(')')).replace('.', '')) / 1000;
 
 // The records of a row, in the report's order, in parts that are no longer than a text may be.
 function recordsIn(bytes, row, from, to) {
@@ -32,8 +33,14 @@ function recordsIn(bytes, row, from, to) {
   return parts;
 }
 
-function values({ chosen, from, to }, tell) {
-  const parts = chosen.flatMap(i => withReportOf(asked.rows.filter(row => row.spn === asked.rows[i].spn), tell,
-    bytes => recordsIn(bytes, asked.rows[i], from, to)));
-  return new Blob([VALUE_COLUMNS, ...parts], { type: 'text/csv' });
+// The report of a row's parameter (SPN) has the readings of all that send it.
+function recordsOfRow(row, from, to) {
+  const spn = new Uint8Array(Uint32Array.of(Number(row.spn)).buffer);
+  const all = asked.rows.filter(({ spn }) => spn === row.spn);
+  const room = all.reduce((sum, { count, unit }) => sum + count * (80 + unit.length), MEMORY_PAGE);
+  return withText('j39_values', spn, 1, room, bytes => recordsIn(bytes, row, from, to));
+}
+
+function values({ chosen, from, to }) {
+  return new Blob([VALUE_COLUMNS, ...chosen.flatMap(i => recordsOfRow(asked.rows[i], from, to))], { type: 'text/csv' });
 }
