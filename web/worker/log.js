@@ -23,7 +23,7 @@ function groupNames(given) {
   const it = instance();
   const table = put(it, given.bytes);
   const { answer, bytes } = textOf(it, 'j39_groups', [table], ROOM, WRONG_TABLE);
-  const text = latin(bytes);
+  const text = textIn(bytes);
   if (answer === WRONG_TABLE) throw new Error(given.name + text);
   const names = new Map();
   for (const line of text.split('\n')) {
@@ -54,7 +54,7 @@ async function readLog({ file, bus, table }, tell, post) {
   await layLog(tell);
   tell(0, 0);
   const summary = textOf(place, 'j39_summary', place.given, 4 * ROOM);
-  asked.rows = rowsOf(latin(summary.bytes), asked.names);
+  asked.rows = rowsOf(textIn(summary.bytes), asked.names);
   const { frames, other, unread, messages } = summary.counts;
   const values = asked.rows.reduce((sum, row) => sum + row.count, 0);
   const told = { name: file.name, size: file.size, table: given.name, counts: { frames, other, unread, messages, values } };
@@ -66,12 +66,12 @@ function readRest(post) {
   const it = place;
   const [log, named, rows] = it.given;
   post({ faults: new Blob([textOf(it, 'j39_faults', it.given, ROOM).bytes], { type: 'text/plain' }) });
-  const holders = latin(textOf(it, 'j39_nodes', [log, named], MEMORY_PAGE).bytes).split('\n').filter(Boolean);
+  const holders = textIn(textOf(it, 'j39_nodes', [log, named], MEMORY_PAGE).bytes).split('\n').filter(Boolean);
   post({ nodes: holders.map(line => {
     const [address, name] = line.split(' ');
     return { address, name, fields: fieldsOf(it, name) };
   }) });
-  post({ survey: latin(textOf(it, 'j39_survey', [log, rows], ROOM).bytes) });
+  post({ survey: textIn(textOf(it, 'j39_survey', [log, rows], ROOM).bytes) });
 }
 
 // The report of the whole log. Its room is as much memory again, and more, and goes with the instance.

@@ -22,7 +22,8 @@ function instance() {
   return { it, told, free: told + TOLD };
 }
 
-const latin = bytes => new TextDecoder('latin1').decode(bytes);
+const textIn = bytes => new TextDecoder().decode(bytes);
+const letters = bytes => new TextDecoder('latin1').decode(bytes); // one for each byte
 
 function counts(it, told) {
   const [frames, other, unread, messages, lines, bytes] = [...new BigUint64Array(it.memory.buffer, told, 6)].map(Number);
@@ -66,10 +67,10 @@ function put(place, bytes) {
 // Calls with what was put into the memory, a slice or, where it has no size, a place, and a room behind it, a longer one where
 // it is too small. The text is in the module's memory, and stays there until the next call.
 function textOf({ it, told, free }, call, slices, room, besides = DONE) {
-  const words = slices.flatMap(({ at, size }) => size === undefined ? [BigInt(at)] : [BigInt(at), BigInt(size)]);
+  const given = slices.flatMap(({ at, size }) => size === undefined ? [BigInt(at)] : [BigInt(at), BigInt(size)]);
   for (let most = room; ; most *= 2) {
     grow(it.memory, free + most);
-    const answer = it[call](...words, BigInt(free), BigInt(most), BigInt(told));
+    const answer = it[call](...given, BigInt(free), BigInt(most), BigInt(told));
     if (answer === DONE || answer === besides) {
       const made = counts(it, told);
       return { answer, counts: made, bytes: new Uint8Array(it.memory.buffer, free, made.bytes) };

@@ -20,6 +20,7 @@ ghost use Rattle.j39_web.specs.Fields.{fields_in};
 ghost use Rattle.j39_web.specs.Series.{MakesSeries};
 ghost use Rattle.j39_web.specs.Tables.{ByRowsOf, ByTable, IsNoTable, IsWrongTable, TableOverflows, WantsRows};
 ghost use Rattle.j39_web.specs.Text.{AsksSomewhere, IsMade, IsPublished, IsSurveyed, Overflows, SurveyOverflows, counts_in, no_counts};
+ghost use Rattle.j39_web.specs.Writings.{MakesTable};
 
 mod answers;
 mod fields;
@@ -64,7 +65,8 @@ pub extern "C" fn j39_report(
     tell(alloc, Writing::Report, log, bus, table, room, text)
 }
 
-/// Writes the report of some parameters (SPN) alone, as `j39_report` writes that of all. The answers are the same.
+/// Writes the report of some parameters (SPN) alone as comma-separated values: the names of the columns, and a record for
+/// each value. The bus, the table and the answers are those of `j39_report`.
 #[unsafe(no_mangle)]
 pub extern "C" fn j39_values(
     alloc: Global,
@@ -75,11 +77,11 @@ pub extern "C" fn j39_values(
     room: &mut [u8],
     text: &mut LogText,
 ) -> u32
-    // What is written is the report by the rows of these parameters. Memory is wanted whatever the log is.
-    ensures { Tells (ByRowsOf spns.now table.now) MakesReport (λ _. ⊤)
+    // What is written is the report by the rows of these parameters, as records. Memory is wanted whatever the log is.
+    ensures { Tells (ByRowsOf spns.now table.now) MakesTable (λ _. ⊤)
         log.now bus.now table.now room.old room.new text.old text.new result }
 {
-    tell_values(alloc, Writing::Report, log, bus, table, spns, room, text)
+    tell_values(alloc, Writing::Records, log, bus, table, spns, room, text)
 }
 
 /// Writes the readings of one parameter of one controller as numbers: a point of 24 bytes for each, in order. Of each

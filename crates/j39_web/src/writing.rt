@@ -9,7 +9,7 @@ use j39_groups::Groups;
 use j39_io::{Sink, Source};
 use j39_listen::{Counts, Format, RunFault, run_with};
 use j39_log::Bus;
-use j39_reports::{Telling, faults, summary};
+use j39_reports::{Telling, faults, report_csv, summary};
 use std::alloc::Global;
 
 /// What is written of a log by a table.
@@ -17,6 +17,8 @@ use std::alloc::Global;
 pub(crate) enum Writing {
     /// A line for each value that a controller on the bus reported.
     Report,
+    /// A record of comma-separated values for each of these, below the names of the columns.
+    Records,
     /// What each parameter did, as comma-separated values.
     Summary,
     /// A line for each fault code that says something else than the last before.
@@ -41,6 +43,7 @@ impl Writing {
     {
         match self {
             Writing::Report => run_with(alloc, groups, source, sink, bus, limit),
+            Writing::Records => report_csv(alloc, groups, source, sink, bus, limit),
             Writing::Summary => summary(alloc, groups, Format::Record, source, sink, bus, limit),
             Writing::Faults => {
                 let (format, telling) = (Format::Line, Telling::News);
