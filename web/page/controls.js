@@ -6,11 +6,17 @@ function wireLog() {
   };
   $('sample').onclick = readSample;
   $('bus').onchange = event => read(file, event.target.value.trim());
-  $('table').onchange = () => read(file, bus);
-  $('no-table').onclick = () => {
-    $('table').value = '';
+  const readByTable = () => {
+    $('no-table').hidden = !$('table').files.length;
     read(file, bus);
   };
+  $('table').onchange = readByTable;
+  $('no-table').onclick = () => {
+    $('table').value = '';
+    $('table').focus();
+    readByTable();
+  };
+  readByTable();
   for (const kind of ['dragover', 'dragleave', 'drop']) document.addEventListener(kind, event => {
     event.preventDefault();
     $('drop').classList.toggle('over', kind === 'dragover');

@@ -1,6 +1,6 @@
 // The panels: each has a title, what is said of what it shows, and a graph by dygraphs.
 const FEW_POINTS = 200; // so many readings have a point each
-const KINDS = ['', 'error', 'indicator', 'reserved value'];
+const KINDS = ['', 'error', 'indicator', 'reserved value', 'text'];
 const COUNTS = ['', '-', 'count', 'counts', 'steps', 'fields', 'r']; // the units of counts
 // They differ too for those who don't tell red from green; in one panel all but the first are dashed besides.
 const LIGHT = ['#0060a8', '#b84300', '#00735a', '#9a3a78', '#333333', '#8a6100', '#5b52c0', '#a01830'];
@@ -33,6 +33,7 @@ function makePanels() {
   panels = groupsOf(chosen).map(panelOf);
   $('plots').replaceChildren(...panels.map(({ at }) => at));
   labelWidth = 0;
+  $('scaled').disabled = !$('together').checked;
   $('plot-status').textContent = chosen.length ? '' : 'No parameter is chosen.';
   if (!chosen.length) forgetViews();
   look();
@@ -185,10 +186,8 @@ function wordsOfBacks(backs) {
 
 function sayAbout({ about, row, statistics: it, backs }) {
   const said = [count(it.count, 'value')];
-  if (it.count && !row.isSwitch) {
-    said.push(`least ${digitsOf(row, it.least)}`, `most ${digitsOf(row, it.most)}`, `mean ${it.mean.toFixed(row.places + 1)}`);
-  }
-  if (it.count) said.push(`last ${digitsOf(row, it.last)}`);
+  if (it.count && row.isSwitch) said.push(`last ${digitsOf(row, it.last)}`);
+  else if (it.count) said.push(`least ${it.leastDigits}`, `most ${it.mostDigits}`, `mean ${it.mean.toFixed(row.places + 1)}`, `last ${it.lastDigits}`);
   KINDS.forEach((kind, k) => it.words[k] && said.push(count(it.words[k], kind)));
   if (backs.count) said.push(`${wordsOfBacks(backs)}: drawn in the order of time`);
   about.textContent = said.join(' \u00b7 ');

@@ -1,5 +1,6 @@
 // Moments, in milliseconds, and numbers as the axes have them.
 const NO_DATE = 1e11; // a stamp below is no date (it would be of 1973), but seconds
+const QUARTER = 15000; // of a minute
 const THIN_SPACE = '\u2009';
 
 const two = n => String(n).padStart(2, '0');
@@ -46,9 +47,20 @@ function widthOf(label) {
   return pen.measureText(label).width;
 }
 
+// Ticks at each quarter of a minute, which dygraphs doesn't know.
+function quarterTicks(from, to) {
+  const first = Math.ceil(from / QUARTER) * QUARTER;
+  return Array.from({ length: Math.floor((to - first) / QUARTER) + 1 }, (_, k) => {
+    const v = first + k * QUARTER;
+    return { v, label: timeLabel(v, Dygraph.Granularity.SECONDLY) };
+  });
+}
+
 // The ticks of a time axis: two at least, where their labels have room.
 function timeTicks(from, to, pixels, options, graph) {
-  const ticksOf = room => Dygraph.dateTicker(from, to, pixels, name => name === 'pixelsPerLabel' ? room : options(name), graph)
+  const roomAt = step => pixels / Math.round((to - from) / step);
+  const ticksOf = room => (roomAt(10000) < room && roomAt(QUARTER) >= room ? quarterTicks(from, to)
+    : Dygraph.dateTicker(from, to, pixels, name => name === 'pixelsPerLabel' ? room : options(name), graph))
     .filter(({ v }) => v >= from && v <= to);
   const apart = (a, b) => (b.v - a.v) / (to - from) * pixels - (widthOf(a.label) + widthOf(b.label)) / 2;
   const fits = ticks => ticks.length > 1 && ticks.every((tick, k) => k === 0 || apart(ticks[k - 1], tick) > 4);

@@ -1,9 +1,9 @@
 // A worker reads one log, so that the page doesn't freeze. It is told {module}, {file, bus, table} and {rest} once, and besides
 // what the page asks for: {look: {chosen, view}, ticket}, {values: {chosen, from, to}} or {report}.
-let start = null; // that the module is there: a file may come before
+let turn = Promise.resolve(); // what is asked is done one after another
 
 async function begin(bytes) {
-  compiled = await WebAssembly.compile(bytes);
+  compiled = await WebAssembly.compile(await inflated(bytes).arrayBuffer());
   postMessage({ ready: groupNames(tableOf(null)).size });
 }
 
@@ -16,19 +16,20 @@ function tellProgress(done, all) {
 }
 
 async function hear(data) {
-  if (data.module) {
-    start = begin(data.module);
-    return start;
-  }
-  await start;
-  if (data.file) readLog(data, tellProgress, postMessage);
-  else if (data.rest) readRest(tellProgress, postMessage);
-  else if (data.look) postMessage({ view: viewOf(data.look, tellProgress), ticket: data.ticket });
-  else if (data.values) postMessage({ values: values(data.values, tellProgress) });
+  if (data.module) return begin(data.module);
+  if (data.file) return readLog(data, tellProgress, postMessage);
+  await layLog(tellProgress);
+  if (data.rest) readRest(postMessage);
+  else if (data.look) postMessage({ view: viewOf(data.look), ticket: data.ticket });
+  else if (data.values) postMessage({ values: values(data.values) });
   else if (data.report) postMessage({ report: report(tellProgress) });
 }
 
-onmessage = ({ data }) => hear(data).catch(fault => {
+function sayFault(fault) {
   const words = fault instanceof RangeError ? 'this browser gives no more memory' : fault && fault.message || fault;
   postMessage({ fault: String(words) });
-});
+}
+
+onmessage = ({ data }) => {
+  turn = turn.then(() => hear(data)).catch(sayFault);
+};

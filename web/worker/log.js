@@ -6,17 +6,16 @@ const NAME_FIELDS = ['arbitrary', 'industry', 'systemInstance', 'system', 'reser
 let asked = null; // {file, bus, table, names, rows}
 let place = null; // where it lies in a module's memory; none once its report was made, until it is wanted again
 
-// The log in an instance's memory, with its interface's name and its table; read once more where need be.
-function logPlace(tell) {
-  if (place) return place;
+// Lays the log into an instance's memory, with its interface's name and its table; once more where need be.
+async function layLog(tell) {
+  if (place) return;
   const it = instance();
   const log = { at: it.free, size: asked.file.size };
   it.free += (log.size + 7) & ~7;
   grow(it.it.memory, it.free);
-  load(asked.file, log.at, it.it.memory, tell);
+  await load(asked.file, log.at, it.it.memory, tell);
   it.given = [log, put(it, asked.bus), put(it, asked.table)];
   place = it;
-  return it;
 }
 
 // The groups' names by the table, 'PGN SPN' -> name; and the words for a table that is none.
@@ -24,7 +23,7 @@ function groupNames(given) {
   const it = instance();
   const table = put(it, given.bytes);
   const { answer, bytes } = textOf(it, 'j39_groups', [table], ROOM, WRONG_TABLE);
-  const text = latin(bytes);
+  const text = textIn(bytes);
   if (answer === WRONG_TABLE) throw new Error(given.name + text);
   const names = new Map();
   for (const line of text.split('\n')) {
@@ -49,13 +48,13 @@ function fieldsOf({ it, told }, name) {
 }
 
 // Posts the parameters of a log.
-function readLog({ file, bus, table }, tell, post) {
+async function readLog({ file, bus, table }, tell, post) {
   const given = tableOf(table);
   asked = { file, bus: new TextEncoder().encode(bus), table: given.bytes, names: groupNames(given), rows: [] };
-  const it = logPlace(tell);
+  await layLog(tell);
   tell(0, 0);
-  const summary = textOf(it, 'j39_summary', it.given, 4 * ROOM);
-  asked.rows = rowsOf(latin(summary.bytes), asked.names);
+  const summary = textOf(place, 'j39_summary', place.given, 4 * ROOM);
+  asked.rows = rowsOf(textIn(summary.bytes), asked.names);
   const { frames, other, unread, messages } = summary.counts;
   const values = asked.rows.reduce((sum, row) => sum + row.count, 0);
   const told = { name: file.name, size: file.size, table: given.name, counts: { frames, other, unread, messages, values } };
@@ -63,33 +62,31 @@ function readLog({ file, bus, table }, tell, post) {
 }
 
 // Posts the rest of what is shown of it, as it is made.
-function readRest(tell, post) {
-  const it = logPlace(tell);
+function readRest(post) {
+  const it = place;
   const [log, named, rows] = it.given;
   post({ faults: new Blob([textOf(it, 'j39_faults', it.given, ROOM).bytes], { type: 'text/plain' }) });
-  const holders = latin(textOf(it, 'j39_nodes', [log, named], MEMORY_PAGE).bytes).split('\n').filter(Boolean);
+  const holders = textIn(textOf(it, 'j39_nodes', [log, named], MEMORY_PAGE).bytes).split('\n').filter(Boolean);
   post({ nodes: holders.map(line => {
     const [address, name] = line.split(' ');
     return { address, name, fields: fieldsOf(it, name) };
   }) });
-  post({ survey: latin(textOf(it, 'j39_survey', [log, rows], ROOM).bytes) });
+  post({ survey: textIn(textOf(it, 'j39_survey', [log, rows], ROOM).bytes) });
 }
 
 // The report of the whole log. Its room is as much memory again, and more, and goes with the instance.
 function report(tell) {
-  const it = logPlace(tell);
+  const it = place;
   tell(0, 0);
   place = null;
   return new Blob([textOf(it, 'j39_report', it.given, 2 * asked.file.size + MEMORY_PAGE).bytes], { type: 'text/plain' });
 }
 
-// What `use` makes of the report of some rows' parameter (SPN) alone, whose text is gone with the next call.
-function withReportOf(rows, tell, use) {
-  const it = logPlace(tell);
-  const free = it.free;
-  const spns = put(it, new Uint8Array(Uint32Array.of(Number(rows[0].spn)).buffer));
-  const room = rows.reduce((sum, row) => sum + row.count * (80 + row.unit.length), MEMORY_PAGE);
-  const made = use(textOf(it, 'j39_values', [...it.given, { at: spns.at, size: 1 }], room).bytes);
-  it.free = free;
+// What `use` makes of the text of a call that is told these bytes besides: so many of a kind, or one thing where no size is given.
+// The text is gone with the next call.
+function withText(call, bytes, size, room, use) {
+  const { free } = place, { at } = put(place, bytes);
+  const made = use(textOf(place, call, [...place.given, { at, size }], room).bytes);
+  place.free = free;
   return made;
 }

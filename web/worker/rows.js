@@ -1,6 +1,6 @@
 // The rows of the summary: the parameters of the log.
 
-// The fields of each record of comma-separated values (RFC 4180), but of the first; one in quotes keeps them.
+// The fields of each record of comma-separated values (RFC 4180); one in quotes keeps them.
 function recordsOf(text) {
   const records = [];
   let fields = [];
@@ -20,7 +20,7 @@ function recordsOf(text) {
       i++;
     }
   }
-  return records.slice(1);
+  return records;
 }
 
 const isQuoted = field => field.startsWith('"');
@@ -29,11 +29,13 @@ const bare = field => isQuoted(field) ? field.slice(1, -1) : field;
 // What the page shows of each parameter of a controller, in the module's words. A text is in quotes; it isn't plotted, nor is
 // what has words alone, as `error`. A switch has no least and no most.
 function rowsOf(text, names) {
-  const rows = recordsOf(text).map(fields => {
-    const [address, name, pgn, spn, title, count, words, , , , , least, most, unit, first, last] = fields;
+  const [columns, ...records] = recordsOf(text);
+  const rows = records.map(fields => {
+    const record = Object.fromEntries(columns.map((column, k) => [column, fields[k]]));
+    const { address, name, pgn, spn, values, words, least, most, first, last } = record;
     return {
-      address, name: name || '-'.repeat(16), pgn, group: names.get(pgn + ' ' + spn) || '', spn, title: bare(title), unit: bare(unit), count: Number(count),
-      first, last, least, most, isPlotted: count !== words && !isQuoted(first) && !isQuoted(last), isSwitch: least === '',
+      address, name: name || '-'.repeat(16), pgn, group: names.get(pgn + ' ' + spn) || '', spn, title: bare(record.parameter), unit: bare(record.unit), count: Number(values),
+      first, last, least, most, isPlotted: values !== words && !isQuoted(first) && !isQuoted(last), isSwitch: least === '',
       places: least.includes('.') ? least.length - least.indexOf('.') - 1 : 0,
     };
   });

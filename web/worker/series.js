@@ -1,54 +1,45 @@
-// The readings of a parameter, out of the lines of its report: their moments in milliseconds, their values, and which are words.
-const SPACE = 32, NEWLINE = 10, DOT = 46, MINUS = 45, ZERO = 48, NINE = 57, CLOSE = 41, LETTER_N = 110, LETTER_O = 111;
-const WORDS = new Map([['e', 1], ['i', 2], ['r', 3]].map(([letter, kind]) => [letter.charCodeAt(0), kind])); // error, indicator, reserved
+// The readings of a parameter of a controller, as `j39_series` tells them: their moments in milliseconds, their values, which are
+// words, and the whole numbers that the values are made of, in halves, with their places. Each is told in 24 bytes: the moment in microseconds, the value in units of its last place, both of 64 bits, the low half first,
+// how many places it has and what it is.
+const POINT = 24, HIGH = 2 ** 32;
+const WORDS = [0, 0, 0, 1, 2, 3, 4]; // a number, off and on are drawn; an error, an indicator, a reserved value and a text are words
 const MOST_KEPT = 8; // how many parameters' readings are kept: as many as are plotted at once
 const GAP = 5, LEAST_GAP = 1000; // a gap is longer than so many medians, and than so many milliseconds
 
-let kept = new Map(); // a parameter (SPN) -> its series, by place of their row
+const kept = new Map(); // a row -> its series
 
-const isDigit = byte => byte >= ZERO && byte <= NINE;
-
-// A number at i, or on and off as 1 and 0.
-function numberAt(b, i) {
-  if (b[i] === LETTER_O) return b[i + 1] === LETTER_N ? 1 : 0;
-  let sign = 1, whole = 0, scale = 1;
-  if (b[i] === MINUS) {
-    sign = -1;
-    i++;
-  }
-  for (; isDigit(b[i]); i++) whole = whole * 10 + (b[i] - ZERO);
-  if (b[i] === DOT) for (i++; isDigit(b[i]); i++, scale *= 10) whole = whole * 10 + (b[i] - ZERO);
-  return sign * whole / scale;
+// Which readings are asked for: a NAME and whether there is one, an address, a group and a parameter.
+function originOf({ address, name, pgn, spn }) {
+  const bytes = new DataView(new ArrayBuffer(24)), isNamed = !name.startsWith('-');
+  bytes.setBigUint64(0, isNamed ? BigInt('0x' + name) : 0n, true);
+  [isNamed, parseInt(address, 16), pgn, spn].forEach((number, k) => bytes.setUint32(8 + 4 * k, number, true));
+  return new Uint8Array(bytes.buffer);
 }
 
-function same(key, b, from) {
-  for (let i = 0; i < key.length; i++) if (key[i] !== b[from + i]) return false;
-  return b[from + key.length] === SPACE;
+function pointsIn(bytes) {
+  const n = bytes.length / POINT, words = new Uint32Array(bytes.buffer, bytes.byteOffset, 6 * n);
+  const it = { n, at: new Float64Array(n), value: new Float64Array(n), kind: new Uint8Array(n), high: new Int32Array(n), low: new Uint32Array(n), places: new Uint8Array(n) };
+  for (let k = 0, i = 0; k < n; k++, i += 6) {
+    it.at[k] = (words[i + 1] * HIGH + words[i]) / 1000;
+    it.low[k] = words[i + 2];
+    it.high[k] = words[i + 3];
+    it.places[k] = words[i + 4];
+    it.kind[k] = WORDS[words[i + 5]];
+    it.value[k] = it.kind[k] ? NaN : (it.high[k] * HIGH + it.low[k]) / 10 ** it.places[k];
+  }
+  return it;
 }
 
-const keyOf = ({ address, name, pgn, spn }) => `${address} ${name} ${pgn} ${spn}`;
+// The digits of a number, which are the report's.
+function digitsAt({ high, low, places }, k) {
+  const number = BigInt(high[k]) * BigInt(HIGH) + BigInt(low[k]), sign = number < 0n ? '-' : '';
+  const digits = String(number).replace('-', '').padStart(places[k] + 1, '0'), point = digits.length - places[k];
+  return sign + digits.slice(0, point) + (places[k] ? `.${digits.slice(point)}` : '');
+}
 
-// Takes each reading to its row. Lines are `(SECONDS.MICROS) AA NAME PGN SPN VALUE[ UNIT]`; each is of one of these rows.
-function index(b, rows) {
-  const all = rows.map(row => ({
-    i: row.i, key: new TextEncoder().encode(keyOf(row)), n: 0,
-    at: new Float64Array(row.count), value: new Float64Array(row.count), kind: new Uint8Array(row.count),
-  }));
-  let it = all[0];
-  for (let i = 0; i < b.length;) {
-    let seconds = 0, micros = 0, p = i + 1;
-    for (; b[p] !== DOT; p++) seconds = seconds * 10 + (b[p] - ZERO);
-    for (p++; b[p] !== CLOSE; p++) micros = micros * 10 + (b[p] - ZERO);
-    const key = p + 2;
-    if (!same(it.key, b, key)) it = all.find(one => same(one.key, b, key));
-    const from = key + it.key.length + 1;
-    it.kind[it.n] = WORDS.get(b[from]) || 0;
-    it.at[it.n] = seconds * 1000 + micros / 1000;
-    it.value[it.n] = it.kind[it.n] ? NaN : numberAt(b, from);
-    it.n++;
-    i = b.indexOf(NEWLINE, from) + 1;
-  }
-  return all;
+// Whether a number is below another, which in a double may be the same.
+function isBelow({ value, high, low }, j, k) {
+  return value[j] < value[k] || value[j] === value[k] && (high[j] < high[k] || high[j] === high[k] && low[j] < low[k]);
 }
 
 // Where stamps go back, each as [from, to]; the first hundred, and how many there are.
@@ -64,10 +55,10 @@ function backsOf({ at, n }) {
 function inOrder(series) {
   const backs = backsOf(series);
   if (!backs.count) return { ...series, backs };
-  const { at, value, kind, n } = series;
+  const { at, n } = series;
   const order = Uint32Array.from({ length: n }, (_, k) => k).sort((x, y) => at[x] - at[y] || x - y);
-  return { ...series, backs, at: Float64Array.from(order, k => at[k]), value: Float64Array.from(order, k => value[k]),
-    kind: Uint8Array.from(order, k => kind[k]) };
+  const sorted = Object.entries(series).map(([name, all]) => [name, name === 'n' ? n : all.map((_, k) => all[order[k]])]);
+  return { ...Object.fromEntries(sorted), backs };
 }
 
 // A silence that is longer than this is a gap.
@@ -79,19 +70,13 @@ function longestStep({ at, n }) {
   return Math.max(GAP * apart[apart.length >> 1], LEAST_GAP);
 }
 
-// The readings of a row: of all rows of its parameter, in one report of that parameter alone.
-function seriesOf(i, tell) {
-  const { spn } = asked.rows[i];
-  if (!kept.has(spn)) {
-    const rows = asked.rows.filter(row => row.spn === spn);
-    const all = withReportOf(rows, tell, bytes => index(bytes, rows));
+// The readings of a row.
+function seriesOf(i) {
+  if (!kept.has(i)) {
+    const row = asked.rows[i];
+    const series = inOrder(withText('j39_series', originOf(row), undefined, row.count * POINT + MEMORY_PAGE, pointsIn));
     if (kept.size >= MOST_KEPT) kept.delete(kept.keys().next().value);
-    kept.set(spn, new Map(all.map(one => [one.i, { raw: one }])));
+    kept.set(i, { ...series, longest: longestStep(series) });
   }
-  const one = kept.get(spn).get(i);
-  if (one.raw) {
-    const series = inOrder(one.raw);
-    kept.get(spn).set(i, { ...series, longest: longestStep(series) });
-  }
-  return kept.get(spn).get(i);
+  return kept.get(i);
 }

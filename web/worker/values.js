@@ -1,39 +1,54 @@
-// The readings of some rows in a stretch of time as comma-separated values: the lines of the report, in the form of `j1939 report --csv`.
-const VALUE_COLUMNS = 'stamp,utc,address,name,pgn,group,spn,parameter,value,unit\r\n';
-const PIECE = 1 << 20; // bytes of a report that are made a text at once
+// The readings of some rows in a stretch of time, as the module's records (those of `j1939 report --csv`).
+const PIECE = 1 << 20; // bytes of records that are looked through at once
+const NEWLINE = 10;
+const OWN_FIELDS = ['address', 'name', 'pgn']; // which say whose a record is; they stand before all that may be in quotes
 
-const csvField = text => /[",\r\n]/.test(text) ? `"${text.replaceAll('"', '""')}"` : text;
-
-// A line is `(SECONDS.MICROS) AA NAME PGN SPN VALUE[ UNIT]`.
-function recordOf(line, row) {
-  const stamp = line.slice(1, line.indexOf(')'));
-  const [seconds, micros] = stamp.split('.');
-  const utc = `${new Date(seconds * 1000).toISOString().slice(0, 19)}.${micros}Z`;
-  const [value, ...unit] = line.slice(stamp.length + 4 + keyOf(row).length).split(' ');
-  return [stamp, utc, row.address, row.name.replace(/^-+$/, ''), row.pgn, row.group, row.spn, row.title, value, unit.join(' ')]
-    .map(csvField).join(',') + '\r\n';
+// Whether a record is of a row, in this stretch of time.
+function isWanted(names, row, from, to) {
+  const wanted = { ...row, name: row.name.replace(/^-+$/, '') };
+  const places = OWN_FIELDS.map(name => [names.indexOf(name), wanted[name]]);
+  return record => {
+    const fields = record.split(',', names.length), moment = Number(fields[0].replace('.', '')) / 1000;
+    return moment >= from && moment <= to && places.every(([place, value]) => fields[place] === value);
+  };
 }
 
-function momentOf(line) {
-  const [seconds, micros] = line.slice(1, line.indexOf(')')).split('.');
-  return seconds * 1000 + micros / 1000;
+// The lines of a piece that are wanted, as they are.
+function linesOf(piece, wants) {
+  const kept = new Uint8Array(piece.length);
+  let at = 0, n = 0;
+  for (const line of letters(piece).split('\n')) {
+    const end = at + line.length + 1;
+    if (line && wants(line)) {
+      kept.set(piece.subarray(at, end), n);
+      n += end - at;
+    }
+    at = end;
+  }
+  return kept.subarray(0, n);
 }
 
-// The records of a row, in the report's order, in parts that are no longer than a text may be.
+// The records of a row among those of its parameter, in their order, or the names of their columns.
 function recordsIn(bytes, row, from, to) {
-  const key = ` ${keyOf(row)} `, parts = [];
-  for (let i = 0; i < bytes.length;) {
+  const head = bytes.indexOf(NEWLINE) + 1, parts = [];
+  const wants = isWanted(letters(bytes.slice(0, head)).trim().split(','), row, from, to);
+  for (let i = head; i < bytes.length;) {
     const end = bytes.indexOf(NEWLINE, Math.min(i + PIECE, bytes.length - 1)) + 1;
-    const lines = latin(bytes.slice(i, end)).split('\n');
-    const wanted = lines.filter(line => line.startsWith(key, line.indexOf(')') + 1) && momentOf(line) >= from && momentOf(line) <= to);
-    parts.push(wanted.map(line => recordOf(line, row)).join(''));
+    parts.push(linesOf(bytes.slice(i, end), wants));
     i = end;
   }
-  return parts;
+  return { head: bytes.slice(0, head), parts };
 }
 
-function values({ chosen, from, to }, tell) {
-  const parts = chosen.flatMap(i => withReportOf(asked.rows.filter(row => row.spn === asked.rows[i].spn), tell,
-    bytes => recordsIn(bytes, asked.rows[i], from, to)));
-  return new Blob([VALUE_COLUMNS, ...parts], { type: 'text/csv' });
+// The module makes the records of all that send a row's parameter (SPN).
+function recordsOfRow(row, from, to) {
+  const spn = new Uint8Array(Uint32Array.of(Number(row.spn)).buffer);
+  const all = asked.rows.filter(({ spn }) => spn === row.spn);
+  const room = all.reduce((sum, { count, title, group, unit }) => sum + count * (120 + title.length + group.length + unit.length), MEMORY_PAGE);
+  return withText('j39_values', spn, 1, room, bytes => recordsIn(bytes, row, from, to));
+}
+
+function values({ chosen, from, to }) {
+  const all = chosen.map(i => recordsOfRow(asked.rows[i], from, to));
+  return new Blob([all[0].head, ...all.flatMap(({ parts }) => parts)], { type: 'text/csv' });
 }

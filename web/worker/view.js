@@ -14,23 +14,25 @@ function placeOf({ at, n }, x, isBehind) {
   return low;
 }
 
-// Of the readings from `first` up to `last`: how many are numbers, and words of each kind; the least, the most, the mean and the last.
-function statistics({ value, kind }, first, last) {
-  const it = { count: 0, words: [0, 0, 0, 0], least: Infinity, most: -Infinity, mean: NaN, last: NaN };
-  let sum = 0;
+// Of the readings from `first` up to `last`: how many are numbers, and words of each kind; the least, the most, the mean and the
+// last of the numbers, and the digits of these.
+function statistics(series, first, last) {
+  const { value, kind } = series, words = [0, 0, 0, 0, 0];
+  let count = 0, sum = 0, least = -1, most = -1, final = -1;
   for (let k = first; k < last; k++) {
     if (kind[k]) {
-      it.words[kind[k]]++;
+      words[kind[k]]++;
       continue;
     }
-    it.count++;
-    it.last = value[k];
+    count++;
     sum += value[k];
-    if (value[k] < it.least) it.least = value[k];
-    if (value[k] > it.most) it.most = value[k];
+    if (least < 0 || isBelow(series, k, least)) least = k;
+    if (most < 0 || isBelow(series, most, k)) most = k;
+    final = k;
   }
-  it.mean = sum / it.count;
-  return it;
+  if (!count) return { count, words, least: Infinity, most: -Infinity };
+  const [leastDigits, mostDigits, lastDigits] = [least, most, final].map(k => digitsAt(series, k));
+  return { count, words, least: value[least], most: value[most], mean: sum / count, last: value[final], leastDigits, mostDigits, lastDigits };
 }
 
 // The points of the readings from `first` up to `last`, with NaN where the line breaks: behind a gap, and at a word; and the words.
@@ -73,8 +75,8 @@ function drawn({ at, value, kind, longest }, first, last, from, to) {
 }
 
 // What is shown of a row from one moment to another: with the readings just before and behind, to which lines lead.
-function shownOf(i, from, to, tell) {
-  const series = seriesOf(i, tell);
+function shownOf(i, from, to) {
+  const series = seriesOf(i);
   const first = placeOf(series, from), last = placeOf(series, to, true);
   return {
     i, backs: series.backs, statistics: statistics(series, first, last),
@@ -83,15 +85,15 @@ function shownOf(i, from, to, tell) {
 }
 
 // All of the time that these rows have readings in.
-function wholeOf(chosen, tell) {
-  const all = chosen.map(i => seriesOf(i, tell));
+function wholeOf(chosen) {
+  const all = chosen.map(seriesOf);
   const begin = Math.min(...all.map(({ at }) => at[0])), end = Math.max(...all.map(({ at, n }) => at[n - 1]));
   return begin < end ? [begin, end] : [begin - 500, end + 500];
 }
 
 // What is shown of some rows, in a stretch of time or in all of it.
-function viewOf({ chosen, view }, tell) {
-  const whole = wholeOf(chosen, tell);
+function viewOf({ chosen, view }) {
+  const whole = wholeOf(chosen);
   const [from, to] = view || whole;
-  return { whole, from, to, shown: chosen.map(i => shownOf(i, from, to, tell)) };
+  return { whole, from, to, shown: chosen.map(i => shownOf(i, from, to)) };
 }

@@ -1,2 +1,4 @@
 -- texts that don't fit
 pub mod RoomLemmas
+-- the readings of one parameter
+pub mod SeriesLemmas

@@ -9,30 +9,35 @@ use Rattle.j39_io.specs.declared.device.DeviceFault.{DeviceFault}
 use Rattle.j39_log.specs.Log.{frames_of}
 use Rattle.j39_log.proofs.LogLemmas.{same_log}
 use Rattle.j39_listen.specs.AccountCalls.{MakesOne}
-use Rattle.j39_listen.specs.Output.{Making}
+use Rattle.j39_listen.specs.Output.{Making, Output}
 use Rattle.j39_listen.specs.Run.{Writes, WritesFront, run_bus}
 use Rattle.j39_listen.specs.declared.counts.Counts.{Counts}
 use Rattle.j39_listen.specs.declared.running.RunFault.{RunFault}
 use Rattle.j39_listen.specs.declared.running.RunFault.TheVariants.{Memory, Read, Write, TooLong}
 use Rattle.j39_groups.specs.Row.{RowRecord}
+use Rattle.j39_reports.specs.EntryText.{entry_record, header_text}
 use Rattle.j39_reports.specs.SurveyRun.{WritesSurvey}
 use Rattle.j39_reports.specs.SurveyRun.{WritesFront as WritesSurveyFront}
 use Rattle.j39_reports.specs.SurveyText.{survey_text}
 use Rattle.j39_reports.proofs.SurveyLemmas.{same_log_lines}
-use Rattle.j39_listen.proofs.ReportAccount.{report_one}
+use Rattle.j39_listen.proofs.ReportAccount.{report_one, report_one_in}
 use Rattle.j39_reports.proofs.FaultAccountLemmas.{news_one}
 use Rattle.j39_reports.proofs.SummaryAccountLemmas.{records_one}
 use Rattle.j39_reports.specs.declared.fault_news.telling.Telling.TheVariants.{News}
+use Rattle.j39_web.specs.SeriesSoFar.{series_form}
 use Rattle.j39_web.specs.Text.{IsFullOf, Overflows, SurveyOverflows, no_counts}
 use Rattle.j39_web.specs.Writings.{makes}
 use Rattle.j39_web.specs.declared.writing.Writing.{Writing}
-use Rattle.j39_web.specs.declared.writing.Writing.TheVariants.{Report, Summary, Faults}
+use Rattle.j39_web.specs.declared.writing.Writing.TheVariants.{Report, Records, Summary, Faults, Series}
 
 -- of the frames of a log one text is made
 pub makes_one : (writing : Writing) (rows : List RowRecord) → MakesOne (makes writing rows)
 makes_one Report rows = report_one rows
+makes_one Records rows = λ bus F x y (a, made_a, is_a) (b, made_b, is_b).
+    ap (λ (o : Output). o.text) is_a ∙ ap (λ t. header_text ++ t) (report_one_in entry_record rows bus F a b made_a made_b) ∙ sym (ap (λ (o : Output). o.text) is_b)
 makes_one Summary rows = records_one rows
 makes_one Faults rows = news_one (record { rows = rows; which = News })
+makes_one (Series of) rows = report_one_in (series_form of) rows
 
 first : ℕ → List ℕ → ℕ
 first d [] = d

@@ -8,6 +8,9 @@ pub mod Answers
 pub mod Fields
 -- the table that a page gives
 pub mod Tables
+-- the readings of one parameter as numbers, and the steps to them
+pub mod Series
+pub mod SeriesSoFar
 -- what is written of a log
 pub mod Writings
 -- what a call answers that writes it

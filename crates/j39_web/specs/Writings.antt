@@ -2,23 +2,35 @@
 use Rattle.j39_groups.specs.Row.{RowRecord}
 use Rattle.std.specs.Prelude.{List}
 use Rattle.j39_listen.specs.Asking.{AsksForBoxes, Wanting}
+use Rattle.j39_listen.specs.Headed.{Headed}
 use Rattle.j39_listen.specs.Output.{Making, MakesReport}
 use Rattle.j39_listen.specs.declared.format.Format.TheVariants.{Line, Record}
+use Rattle.j39_reports.specs.EntryText.{header_text}
 use Rattle.j39_reports.specs.FaultAsking.{AsksForFaults}
 use Rattle.j39_reports.specs.FaultRun.{MakesFaults}
+use Rattle.j39_reports.specs.ReportRecords.{MakesRecords}
 use Rattle.j39_reports.specs.SummaryRun.{AsksForRows, MakesSummary}
 use Rattle.j39_reports.specs.declared.fault_news.telling.Telling.TheVariants.{News}
+use Rattle.j39_web.specs.Series.{MakesSeries}
 use Rattle.j39_web.specs.declared.writing.Writing.{Writing}
-use Rattle.j39_web.specs.declared.writing.Writing.TheVariants.{Report, Summary, Faults}
+use Rattle.j39_web.specs.declared.writing.Writing.TheVariants.{Report, Records, Summary, Faults, Series}
+
+-- the names of the columns, and a record for each value of the report
+abbrev pub MakesTable : List RowRecord → Making
+MakesTable rows = Headed header_text (MakesRecords rows)
 
 -- which outputs are made of the frames of a bus
 abbrev pub makes : Writing → List RowRecord → Making
 makes Report = MakesReport
+makes Records = MakesTable
 makes Summary = MakesSummary Record
 makes Faults = λ rows. MakesFaults Line rows News
+makes (Series of) = MakesSeries of
 
 -- at which frames memory is wanted
 abbrev pub asks : Writing → List RowRecord → Wanting
 asks Report = λ rows. AsksForBoxes
+asks Records = λ rows. AsksForBoxes
 asks Summary = AsksForRows
 asks Faults = λ rows. AsksForFaults
+asks (Series of) = λ rows. AsksForBoxes

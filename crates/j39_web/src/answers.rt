@@ -1,10 +1,10 @@
 //! What a call answers, and what it is given beside the log.
-ghost use Rattle.std.specs.Prelude.{◌≡◌, ◌≢◌, ◌<◌, ◌↔◌, ◌⊎◌, [], None, Ok, Err, IfErr, IfOk, IfSome};
+ghost use Rattle.std.specs.Prelude.{◌≡◌, ◌≢◌, ◌<◌, ◌↔◌, ◌⊎◌, ⊤, [], None, Ok, Err, IfErr, IfOk, IfSome};
 ghost use Rattle.j39_table.specs.Tables.{IsFaultOf};
 ghost use Rattle.j39_table.specs.declared.fault.TableFault.TheVariants as table;
 ghost use Rattle.j39_web.specs.Answers.{IsWrongBus, done, given_bus, no_memory, too_small, wrong_bus, wrong_table};
 ghost use Rattle.j39_web.specs.Calls.{Tells};
-ghost use Rattle.j39_web.specs.Tables.{ByTable, IsGivenTable};
+ghost use Rattle.j39_web.specs.Tables.{ByRowsOf, ByTable, IsGivenTable};
 ghost use Rattle.j39_web.specs.Text.{AsksSomewhere};
 ghost use Rattle.j39_web.specs.Writings.{asks, makes};
 ghost use Rattle.j39_web.specs.declared.texts.Refusal.TheVariants.{Memory, TooSmall};
@@ -50,6 +50,32 @@ pub(crate) fn tell(
     };
     match table_said(alloc, table) {
         Ok(groups) => answer(texts::made(alloc, writing, log, bus, &groups, room), text),
+        Err(fault) => refused(fault),
+    }
+}
+
+/// Tells what is written of a log by the rows of some parameters (SPN) alone.
+pub(crate) fn tell_values(
+    alloc: Global,
+    writing: Writing,
+    log: &[u8],
+    bus: &[u8],
+    table: &[u8],
+    spns: &[u32],
+    room: &mut [u8],
+    text: &mut LogText,
+) -> u32
+    ensures { Tells (ByRowsOf spns.now table.now) (makes writing) (λ _. ⊤)
+        log.now bus.now table.now room.old room.new text.old text.new result }
+{
+    let Some(bus) = bus_named(bus) else {
+        return WRONG_BUS;
+    };
+    match table_said(alloc, table) {
+        Ok(groups) => answer(
+            texts::values(alloc, writing, log, bus, &groups, spns, room),
+            text,
+        ),
         Err(fault) => refused(fault),
     }
 }

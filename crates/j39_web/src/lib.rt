@@ -1,7 +1,7 @@
 //! What a web page calls: each call makes a text of a log, in room that the page lends.
 #![tactic(auto)]
 
-ghost use Rattle.std.specs.Prelude.{◌≡◌, ◌≢◌, ◌<◌, ◌≤◌, ◌↔◌, ◌⊎◌, ⊤, length, take};
+ghost use Rattle.std.specs.Prelude.{◌≡◌, ◌≢◌, ◌<◌, ◌≤◌, ◌↔◌, ◌⊎◌, ◌∷◌, [], ⊤, length, take};
 ghost use Rattle.j39_address.specs.Name.{fields_of};
 ghost use Rattle.j39_reports.specs.FaultAsking.{AsksForFaults};
 ghost use Rattle.j39_reports.specs.FaultRun.{MakesFaults};
@@ -17,18 +17,25 @@ ghost use Rattle.j39_table.specs.declared.fault.TableFault.{TableFault};
 ghost use Rattle.j39_web.specs.Answers.{IsWrongBus, done, given_bus, no_memory, too_small, wrong_bus, wrong_table};
 ghost use Rattle.j39_web.specs.Calls.{Tells};
 ghost use Rattle.j39_web.specs.Fields.{fields_in};
+ghost use Rattle.j39_web.specs.Series.{MakesSeries};
 ghost use Rattle.j39_web.specs.Tables.{ByRowsOf, ByTable, IsNoTable, IsWrongTable, TableOverflows, WantsRows};
 ghost use Rattle.j39_web.specs.Text.{AsksSomewhere, IsMade, IsPublished, IsSurveyed, Overflows, SurveyOverflows, counts_in, no_counts};
+ghost use Rattle.j39_web.specs.Writings.{MakesTable};
 
 mod answers;
 mod fields;
+mod points;
 mod room;
+mod series;
 mod texts;
 mod writing;
 
-use answers::{NO_MEMORY, WRONG_BUS, answer, bus_named, refused, table_said, tell, why};
+use answers::{
+    NO_MEMORY, WRONG_BUS, answer, bus_named, refused, table_said, tell, tell_values, why,
+};
 use fields::NameFields;
 use j39_table::TableFault;
+use points::SeriesOrigin;
 use std::alloc::Global;
 use texts::LogText;
 use writing::Writing;
@@ -58,7 +65,8 @@ pub extern "C" fn j39_report(
     tell(alloc, Writing::Report, log, bus, table, room, text)
 }
 
-/// Writes the report of some parameters (SPN) alone, as `j39_report` writes that of all. The answers are the same.
+/// Writes the report of some parameters (SPN) alone as comma-separated values: the names of the columns, and a record for
+/// each value. The bus, the table and the answers are those of `j39_report`.
 #[unsafe(no_mangle)]
 pub extern "C" fn j39_values(
     alloc: Global,
@@ -69,17 +77,43 @@ pub extern "C" fn j39_values(
     room: &mut [u8],
     text: &mut LogText,
 ) -> u32
-    // What is written is the report by the rows of these parameters. Memory is wanted whatever the log is.
-    ensures { Tells (ByRowsOf spns.now table.now) MakesReport (λ _. ⊤)
+    // What is written is the report by the rows of these parameters, as records. Memory is wanted whatever the log is.
+    ensures { Tells (ByRowsOf spns.now table.now) MakesTable (λ _. ⊤)
         log.now bus.now table.now room.old room.new text.old text.new result }
 {
-    let Some(bus) = bus_named(bus) else {
-        return WRONG_BUS;
-    };
-    match table_said(alloc, table) {
-        Ok(groups) => answer(texts::values(alloc, log, bus, &groups, spns, room), text),
-        Err(fault) => refused(fault),
-    }
+    tell_values(alloc, Writing::Records, log, bus, table, spns, room, text)
+}
+
+/// Writes the readings of one parameter of one controller as numbers: a point of 24 bytes for each, in order. Of each
+/// number the low byte comes first: the moment in microseconds (64 bits), the value in units of its last decimal place
+/// (64 bits, in two's complement), how many places it has (32 bits), and its kind (32 bits): 0 a number, 1 off, 2 on, 3 an
+/// error, 4 an indicator, 5 a reserved value, 6 a text. The value of what is on is 1, and of what is no number else 0.
+/// The answers are those of `j39_report`; what is told but the bytes is what `j39_values` tells of this parameter.
+#[unsafe(no_mangle)]
+pub extern "C" fn j39_series(
+    alloc: Global,
+    log: &[u8],
+    bus: &[u8],
+    table: &[u8],
+    of: &SeriesOrigin,
+    room: &mut [u8],
+    text: &mut LogText,
+) -> u32
+    // What is written is a point for each of these readings of the report. Memory is wanted whatever the log is.
+    ensures { Tells (ByRowsOf (of.now.spn ∷ []) table.now) (MakesSeries of.now) (λ _. ⊤)
+        log.now bus.now table.now room.old room.new text.old text.new result }
+{
+    let spns = [of.spn];
+    tell_values(
+        alloc,
+        Writing::Series(*of),
+        log,
+        bus,
+        table,
+        &spns,
+        room,
+        text,
+    )
 }
 
 /// Writes what each parameter of a log did by a table, as comma-separated values: how many values there were, the least,

@@ -2,7 +2,6 @@
 ghost use Rattle.std.specs.Prelude.{◌≡◌, ◌≢◌, ◌<◌, length, take, IfErr, IfOk, OnErr, OnOk, Ok, Err};
 ghost use Rattle.j39_groups.specs.Printed.{rows_text};
 ghost use Rattle.j39_listen.specs.Headed.{MakesNodes};
-ghost use Rattle.j39_listen.specs.Output.{MakesReport};
 ghost use Rattle.j39_listen.specs.declared.format.Format.TheVariants.{Line};
 ghost use Rattle.j39_listen.specs.declared.running.RunFault.TheVariants as fault;
 ghost use Rattle.j39_table.specs.FaultWords.{fault_text};
@@ -74,9 +73,10 @@ pub fn made(
     told(ran, &sink)
 }
 
-/// Writes the report of some parameters (SPN) alone.
+/// Writes what is made of a log by the rows of some parameters (SPN) alone.
 pub fn values(
     alloc: Global,
+    writing: Writing,
     log: &[u8],
     bus: Option<Bus>,
     groups: &Groups<'_>,
@@ -84,13 +84,13 @@ pub fn values(
     room: &mut [u8],
 ) -> Result<LogText, Refusal>
     ensures values { IfOk result (λ text. ByRows spns.now groups.now
-        (λ rows. IsMade (MakesReport rows) bus log.now text room.new)) }
+        (λ rows. IsMade (makes writing rows) bus log.now text room.new)) }
     ensures fits { IfOk result (λ text. text.bytes < length room.new) }
     ensures too_small { result ≡ Err TooSmall → ByRows spns.now groups.now
-        (λ rows. Overflows (MakesReport rows) bus log.now room.new) }
+        (λ rows. Overflows (makes writing rows) bus log.now room.new) }
 {
     match groups.restricted_to(alloc, spns) {
-        Ok(rows) => made(alloc, Writing::Report, log, bus, &rows, room),
+        Ok(rows) => made(alloc, writing, log, bus, &rows, room),
         Err(AllocError) => Err(Refusal::Memory),
     }
 }

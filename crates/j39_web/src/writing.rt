@@ -3,11 +3,13 @@ ghost use Rattle.j39_io.specs.Turn.{turn};
 ghost use Rattle.j39_listen.specs.Ran.{Ran};
 ghost use Rattle.j39_web.specs.Writings.{asks, makes};
 
+use crate::points::SeriesOrigin;
+use crate::series::series;
 use j39_groups::Groups;
 use j39_io::{Sink, Source};
 use j39_listen::{Counts, Format, RunFault, run_with};
 use j39_log::Bus;
-use j39_reports::{Telling, faults, summary};
+use j39_reports::{Telling, faults, report_csv, summary};
 use std::alloc::Global;
 
 /// What is written of a log by a table.
@@ -15,10 +17,14 @@ use std::alloc::Global;
 pub(crate) enum Writing {
     /// A line for each value that a controller on the bus reported.
     Report,
+    /// A record of comma-separated values for each of these, below the names of the columns.
+    Records,
     /// What each parameter did, as comma-separated values.
     Summary,
     /// A line for each fault code that says something else than the last before.
     Faults,
+    /// A point for each reading of one parameter of one controller.
+    Series(SeriesOrigin),
 }
 
 impl Writing {
@@ -37,11 +43,13 @@ impl Writing {
     {
         match self {
             Writing::Report => run_with(alloc, groups, source, sink, bus, limit),
+            Writing::Records => report_csv(alloc, groups, source, sink, bus, limit),
             Writing::Summary => summary(alloc, groups, Format::Record, source, sink, bus, limit),
             Writing::Faults => {
                 let (format, telling) = (Format::Line, Telling::News);
                 faults(alloc, groups, format, telling, source, sink, bus, limit)
             }
+            Writing::Series(of) => series(alloc, groups, of, source, sink, bus, limit),
         }
     }
 }

@@ -1,7 +1,7 @@
 use Rattle.std.proofs.Common.{rules, subst}
-use Rattle.j39_listen.specs.Output.{MakesReport}
 use Rattle.j39_web.specs.Text.{Overflows}
-use Rattle.j39_web.proofs.j39_values.Goals as goal
+use Rattle.j39_web.specs.Writings.{makes}
+use Rattle.j39_web.proofs.answers.tell_values.Goals as goal
 
 -- the bus that was named is the one that was given
 pub returns-in-Ok : goal.returns-in-Ok
@@ -10,7 +10,7 @@ returns-in-Ok c = record {
   fits = search rules;
   overflows = λ small.
       let (rows, same, over) = c.values.ensures.too_small (c.answer.ensures.too_small small) in
-      let over_given = subst (λ bus. Overflows (MakesReport rows) bus c.args.log.now c.values.new.room) c.in-Some.ensures.value over in
+      let over_given = subst (λ bus. Overflows (makes c.args.writing rows) bus c.args.log.now c.values.new.room) c.in-Some.ensures.value over in
       (c.in-Ok.groups, c.in-Ok.ensures.table, (rows, same, over_given));
   memory = search rules;
   bus = search rules;

@@ -1,0 +1,110 @@
+-- The readings of one parameter of one controller, frame by frame and reading by reading.
+use Rattle.std.proofs.Common.{◌≡◌, ◌+◌, ◌∙◌, ◌&&◌, ◌==◌, ◌++◌, ◌∷◌, ℕ, Bool, List, [], Option, Result, Ok, Err, if◌then◌else◌, append_assoc, append-nil, length, map, ap, refl, subst, sym}
+use Rattle.std.specs.Prelude.{IsErr}
+use Rattle.std.specs.List.{flat_map}
+use Rattle.std.proofs.lemmas.Grind.{flat_map-append}
+use Rattle.std.proofs.lemmas.List.{map-append}
+use Rattle.j39_frame.specs.Frame.{FrameRecord}
+use Rattle.j39_io.specs.Puts.{Puts}
+use Rattle.j39_io.specs.Turn.{Device}
+use Rattle.j39_io.proofs.PutsLemmas.{puts_as, puts_failed, puts_first, puts_nothing, puts_then}
+use Rattle.j39_groups.specs.Row.{RowRecord}
+use Rattle.j39_groups.specs.Value.{ReadingRecord, ValueRecord}
+use Rattle.j39_groups.specs.Visits.{Stops, Takes}
+use Rattle.j39_listen.specs.AccountCalls.{Begins, Meets, WritesOn}
+use Rattle.j39_listen.specs.AccountCalls.{Stops as StopsFrames}
+use Rattle.j39_listen.specs.Heard.{Hearing}
+use Rattle.j39_listen.specs.Listening.{Hears}
+use Rattle.j39_listen.specs.Report.{entry_of}
+use Rattle.j39_listen.specs.ReportSoFar.{MeetsFrame, StopsFrame, made_sum}
+use Rattle.j39_listen.specs.declared.counts.Made.{Made}
+use Rattle.j39_listen.proofs.ReportAccount.{report_begins, report_meets, report_stops}
+use Rattle.j39_web.specs.Series.{MakesSeries, point_bytes, series_text}
+use Rattle.j39_web.specs.SeriesSoFar.{Begun, HasGathered, HasStopped, HasWritten, IsBegun, PutsReadings, Subject, as_report, readings_text, series_form}
+use Rattle.j39_web.specs.declared.points.Points.{Points}
+use Rattle.j39_web.specs.declared.points.SeriesOrigin.{SeriesOrigin}
+use Rattle.j39_web.specs.declared.series.SeriesAccount.{SeriesAccount}
+
+-- ---- frame by frame
+
+-- a frame goes to the account
+pub series_meets : (subject : Subject) (a a' : SeriesAccount) → a'.of ≡ a.of → a'.groups ≡ a.groups → (f : FrameRecord) (made : Made) (old new : Option (List ℕ))
+    → ((F : List FrameRecord) → Hears a.listener F → MeetsFrame (series_form a.of) a.groups.now a'.listener F f made old new)
+    → a'.made ≡ made_sum a.made made → Meets (HasGathered subject) a a' (f ∷ []) old new
+series_meets subject a a' of kept f made old new meets sum = λ F before has.
+    let m = report_meets (series_form subject.of) subject.rows (as_report a) (as_report a') kept f made old new
+    (λ G hears. subst (λ (o : SeriesOrigin). MeetsFrame (series_form o) a.groups.now a'.listener G f made old new) has.of_is (meets G hears)) sum F before has.reported in
+    record { after = m.after; met = record { of_is = of ∙ has.of_is; reported = m.met }; more = m.more; text_is = m.text_is; written = m.written }
+
+pub series_begins : (subject : Subject) → Begins (λ bus. HasGathered subject) (MakesSeries subject.of subject.rows)
+series_begins subject = λ bus a F G before all has made. report_begins (series_form subject.of) subject.rows Unit bus (as_report a) F G before all has.reported made
+
+-- a fault of the writer at a frame
+pub series_stops : (subject : Subject) (a : SeriesAccount) (f : FrameRecord) (old new : Option (List ℕ))
+    → ((F : List FrameRecord) → Hears a.listener F → StopsFrame (series_form a.of) a.groups.now F f old new)
+    → (bus : List ℕ) → StopsFrames (HasGathered subject) (MakesSeries subject.of subject.rows bus) a (f ∷ []) old new
+series_stops subject a f old new stops bus = λ F G before all has made.
+    report_stops (series_form subject.of) subject.rows (as_report a) f old new
+    (λ H hears. subst (λ (o : SeriesOrigin). StopsFrame (series_form o) a.groups.now H f old new) has.of_is (stops H hears)) bus F G before all has.reported made
+
+-- ---- reading by reading
+
+-- what is told of a reading
+told_is : (of : SeriesOrigin) (h : Hearing) (points : Points) → IsBegun of h points → (spn : ℕ) (value : ValueRecord) (is_asked : Bool)
+    → is_asked ≡ (points.is_from && spn == points.spn)
+    → series_text of (entry_of h (record { spn = spn; value = value })) ≡ (if is_asked then point_bytes points.stamp value else [])
+told_is of h points begun spn value is_asked asked = rw (asked, begun.from_is, begun.spn_is, begun.stamp_is) refl
+
+-- the text of one reading more
+text_more : (begun : Begun) (before : List ReadingRecord) (at : ReadingRecord)
+    → readings_text begun (before ++ (at ∷ [])) ≡ readings_text begun before ++ series_text begun.of (entry_of begun.hearing at)
+text_more begun before at =
+    ap (flat_map (series_text begun.of)) (map-append (entry_of begun.hearing) before (at ∷ []))
+    ∙ flat_map-append (series_text begun.of) (map (entry_of begun.hearing) before) (entry_of begun.hearing at ∷ [])
+    ∙ ap (λ t. readings_text begun before ++ t) (append-nil (series_text begun.of (entry_of begun.hearing at)))
+
+module _ (begun : Begun) (points : Points) (old : Device) (before : List ReadingRecord) (has : HasWritten begun points old before) (spn : ℕ) (value : ValueRecord)
+    (is_asked : Bool) (asked : is_asked ≡ (points.is_from && spn == points.spn)) where
+  abbrev told : List ℕ
+  told = if is_asked then point_bytes points.stamp value else []
+
+  abbrev with_this : List ReadingRecord
+  with_this = before ++ (record { spn = spn; value = value } ∷ [])
+
+  whole : readings_text begun before ++ told ≡ readings_text begun with_this
+  whole = sym (text_more begun before (record { spn = spn; value = value })
+      ∙ ap (λ t. readings_text begun before ++ t) (told_is begun.of begun.hearing points has.is_begun spn value is_asked asked))
+
+  -- behind the others, what came of this one
+  pub this_too : {T E : Type 0} (last : Result T E) (new : Device) → Puts told last (record { old = old; new = new })
+      → Puts (readings_text begun with_this) last (record { old = begun.writer; new = new })
+  this_too last new this = puts_as _ _ _ _ whole (puts_then (readings_text begun before) told tt last begun.writer old new has.written this)
+
+  -- a fault in this one
+  pub stops_here : {T E : Type 0} (e : E) (new : Device) → Puts {T = T} told (Err e) (record { old = old; new = new })
+      → HasStopped begun before (record { spn = spn; value = value }) new
+  stops_here {T = T} e new stopped = this_too (Err tt) new (puts_failed {T = T} _ e (Err tt) _ refl stopped)
+
+-- all readings of a message
+module _ (of : SeriesOrigin) (h : Hearing) (writer : Device) (points : Points) (is : IsBegun of h points) (none : points.lines ≡ 0) where
+  abbrev start : Begun
+  start = record { of = of; hearing = h; writer = writer }
+
+  nothing_yet : HasWritten start points writer []
+  nothing_yet = record { is_begun = is; written = puts_nothing tt writer; lines_are = none }
+
+  pub puts_all : (points' : Points) (new : Device) (readings : List ReadingRecord) → Takes HasWritten points writer points' new readings
+      → HasWritten start points' new readings
+  puts_all points' new readings takes = takes start [] nothing_yet
+
+  pub stops_among : (points' : Points) (new : Device) (readings : List ReadingRecord)
+      → Stops HasWritten (λ subject before at points'' stopped. HasStopped subject before at stopped) points writer points' new readings
+      → PutsReadings start new readings (Err tt)
+  stops_among points' new readings stops =
+      let w = stops start [] nothing_yet in
+      let before = w.taken ++ (w.at ∷ []) in
+      let whole : readings_text start readings ≡ readings_text start before ++ readings_text start w.rest =
+      ap (readings_text start) (w.readings_are ∙ sym (append_assoc w.taken (w.at ∷ []) w.rest))
+      ∙ ap (flat_map (series_text of)) (map-append (entry_of h) before w.rest)
+      ∙ flat_map-append (series_text of) (map (entry_of h) before) (map (entry_of h) w.rest) in
+      puts_as _ _ _ _ (sym whole) (puts_first {T = Unit} (readings_text start before) (readings_text start w.rest) tt (Err tt) _ refl w.stopped)
