@@ -151,18 +151,20 @@ function showHint({ frames, other, unread, values }) {
   $('hint').hidden = !hints.length;
 }
 
+const dateOf = stamp => stamp ? clock(Number(stamp.slice(1, -1)) * 1000) : '';
 const NODE_COLUMNS = [
-  ['address', node => `${parseInt(node.address, 16)} (${node.address})`], ['NAME', node => node.name, 'code'],
+  ['address', node => `${parseInt(node.address, 16)} (${node.address})`], ['NAME', node => node.name || '-'.repeat(16), 'code'],
+  ['last claim', node => dateOf(node.claimed)], ['last frame', node => dateOf(node.heard)],
   ['function', ({ fields }) => fields.function, 'n'], ['manufacturer code', ({ fields }) => fields.manufacturer, 'n'],
   ['industry group', ({ fields }) => [fields.industry, INDUSTRIES[fields.industry]].filter(word => word !== undefined).join(', ')],
   ['vehicle system', ({ fields }) => fields.system, 'n'], ['function instance', ({ fields }) => fields.functionInstance, 'n'],
   ['ECU instance', ({ fields }) => fields.ecuInstance, 'n'], ['system instance', ({ fields }) => fields.systemInstance, 'n'],
-  ['identity number', ({ fields }) => fields.identity, 'n'], ['may change address', ({ fields }) => fields.arbitrary ? 'yes' : 'no'],
+  ['identity number', ({ fields }) => fields.identity, 'n'], ['may change address', ({ fields }) => ['no', 'yes'][fields.arbitrary]],
 ];
 
 function showNodes(nodes) {
   headOf($('nodes'), NODE_COLUMNS.map(([name, , kind]) => element('th', name, kind === 'n' ? 'n' : '')));
-  $('nodes').tBodies[0].replaceChildren(...nodes.map(node => rowOf(NODE_COLUMNS.map(([, value, kind]) => [value(node), kind]))));
+  $('nodes').tBodies[0].replaceChildren(...nodes.map(node => rowOf(NODE_COLUMNS.map(([, value, kind]) => [value(node) ?? '', kind]))));
   $('nodes-box').hidden = !nodes.length;
-  $('nobody').hidden = Boolean(nodes.length);
+  $('nobody').hidden = nodes.some(node => node.name);
 }

@@ -68,8 +68,8 @@ function readRest(post) {
   post({ faults: new Blob([textOf(it, 'j39_faults', it.given, ROOM).bytes], { type: 'text/plain' }) });
   const holders = textIn(textOf(it, 'j39_nodes', [log, named], MEMORY_PAGE).bytes).split('\n').filter(Boolean);
   post({ nodes: holders.map(line => {
-    const [address, name] = line.split(' ');
-    return { address, name, fields: fieldsOf(it, name) };
+    const [address, name, claimed, heard] = line.split(' ').map(field => field.replace(/^-+$/, ''));
+    return { address, name, claimed, heard, fields: name ? fieldsOf(it, name) : {} };
   }) });
   post({ survey: textIn(textOf(it, 'j39_survey', [log, rows], ROOM).bytes) });
 }

@@ -32,14 +32,14 @@ function rowsOf(text, names) {
   const [columns, ...records] = recordsOf(text);
   const rows = records.map(fields => {
     const record = Object.fromEntries(columns.map((column, k) => [column, fields[k]]));
-    const { address, name, pgn, spn, values, words, least, most, first, last } = record;
+    const { address, destination, name, pgn, spn, values, words, least, most, first, last } = record;
     return {
-      address, name: name || '-'.repeat(16), pgn, group: names.get(pgn + ' ' + spn) || '', spn, title: bare(record.parameter), unit: bare(record.unit), count: Number(values),
+      address, destination, name: name || '-'.repeat(16), pgn, group: names.get(pgn + ' ' + spn) || '', spn, title: bare(record.parameter), unit: bare(record.unit), count: Number(values),
       first, last, least, most, isPlotted: values !== words && !isQuoted(first) && !isQuoted(last), isSwitch: least === '',
       places: least.includes('.') ? least.length - least.indexOf('.') - 1 : 0,
     };
   });
-  rows.sort((x, y) => x.address.localeCompare(y.address) || x.pgn - y.pgn || x.spn - y.spn || x.name.localeCompare(y.name));
+  rows.sort((x, y) => x.address.localeCompare(y.address) || x.destination.localeCompare(y.destination) || x.pgn - y.pgn || x.spn - y.spn || x.name.localeCompare(y.name));
   rows.forEach((row, i) => { row.i = i; });
   return rows;
 }

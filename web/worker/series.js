@@ -8,11 +8,11 @@ const GAP = 5, LEAST_GAP = 1000; // a gap is longer than so many medians, and th
 
 const kept = new Map(); // a row -> its series
 
-// Which readings are asked for: a NAME and whether there is one, an address, a group and a parameter.
-function originOf({ address, name, pgn, spn }) {
-  const bytes = new DataView(new ArrayBuffer(24)), isNamed = !name.startsWith('-');
+// Which readings are asked for: a NAME and whether there is one, an address, a group, a parameter, and a destination, 256 for none.
+function originOf({ address, destination, name, pgn, spn }) {
+  const bytes = new DataView(new ArrayBuffer(32)), isNamed = !name.startsWith('-');
   bytes.setBigUint64(0, isNamed ? BigInt('0x' + name) : 0n, true);
-  [isNamed, parseInt(address, 16), pgn, spn].forEach((number, k) => bytes.setUint32(8 + 4 * k, number, true));
+  [isNamed, parseInt(address, 16), pgn, spn, destination ? parseInt(destination, 16) : 256].forEach((number, k) => bytes.setUint32(8 + 4 * k, number, true));
   return new Uint8Array(bytes.buffer);
 }
 

@@ -1,7 +1,7 @@
 -- The readings of one parameter of one controller, as numbers.
-use Rattle.std.specs.Prelude.{◌==◌, ◌&&◌, not, ℕ, ℤ, pos, Bool, List, [], ◌++◌, Option, Some, None, if◌then◌else◌}
+use Rattle.std.specs.Prelude.{◌==◌, ◌&&◌, not, nat_lt, ℕ, ℤ, pos, Bool, List, [], ◌++◌, Option, Some, None, if◌then◌else◌}
 use Rattle.std.specs.Int.{cast_unsigned, to_le_bytes, w32, w64}
-use Rattle.j39_frame.specs.Origin.{is_same_name}
+use Rattle.j39_frame.specs.Origin.{is_same_or_none}
 use Rattle.j39_groups.specs.Row.{RowRecord}
 use Rattle.j39_groups.specs.Value.{ValueRecord, number, on, off, error, reserved, indicator, text}
 use Rattle.j39_listen.specs.Output.{Making, MakesReportIn}
@@ -12,13 +12,18 @@ use Rattle.j39_web.specs.declared.points.SeriesOrigin.{SeriesOrigin}
 abbrev pub asked_name : SeriesOrigin → Option ℕ
 asked_name of = if of.has_name == 0 then None else Some of.name
 
--- a message of this group from this controller
-abbrev pub is_from : SeriesOrigin → ℕ → Option ℕ → ℕ → Bool
-is_from of address name pgn = address == of.address && (is_same_name name (asked_name of) && pgn == of.pgn)
+-- the destination that is asked for, or none
+abbrev pub asked_destination : SeriesOrigin → Option ℕ
+asked_destination of = if nat_lt of.destination 256 then Some of.destination else None
+
+-- a message of this group from this controller, sent to this destination
+abbrev pub is_from : SeriesOrigin → ℕ → Option ℕ → Option ℕ → ℕ → Bool
+is_from of address destination name pgn = address == of.address
+    && (is_same_or_none destination (asked_destination of) && (is_same_or_none name (asked_name of) && pgn == of.pgn))
 
 -- a reading of this parameter in such a message
 abbrev pub is_of : SeriesOrigin → Entry → Bool
-is_of of e = is_from of e.address e.name e.pgn && e.spn == of.spn
+is_of of e = is_from of e.address e.destination e.name e.pgn && e.spn == of.spn
 
 -- what stands for a value: a number is in units of its last printed place, and a switch that is on is 1
 abbrev pub number_of : ValueRecord → ℤ

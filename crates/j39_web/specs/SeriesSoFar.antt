@@ -38,7 +38,7 @@ pub record HasGathered (subject : Subject) (account : SeriesAccount) (F : List F
 
 -- the points are those of this message
 pub record IsBegun (of : SeriesOrigin) (h : Hearing) (points : Points) : Type 0 where
-  pub from_is : points.is_from ≡ is_from of h.message.source h.name h.message.pgn
+  pub from_is : points.is_from ≡ is_from of h.message.source h.destination h.name h.message.pgn
   pub spn_is : points.spn ≡ of.spn
   pub stamp_is : points.stamp ≡ h.stamp
 

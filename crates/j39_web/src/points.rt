@@ -2,12 +2,12 @@
 ghost use Rattle.std.specs.Prelude.{◌≡◌, [], if◌then◌else◌};
 ghost use Rattle.std.specs.Option.{option_map};
 ghost use Rattle.j39_address.specs.Name.{name_raw};
-ghost use Rattle.j39_frame.specs.Origin.{is_same_name};
+ghost use Rattle.j39_frame.specs.Origin.{is_same_or_none};
 ghost use Rattle.j39_groups.specs.Models.{value_of};
 ghost use Rattle.j39_io.specs.Puts.{Puts};
 ghost use Rattle.j39_io.specs.Turn.{turn};
 ghost use Rattle.j39_listen.specs.HeardModel.{hearing_of};
-ghost use Rattle.j39_web.specs.Series.{asked_name, is_from, kind_of, number_of, places_of, point_bytes};
+ghost use Rattle.j39_web.specs.Series.{asked_destination, asked_name, is_from, kind_of, number_of, places_of, point_bytes};
 ghost use Rattle.j39_web.specs.SeriesSoFar.{IsBegun};
 
 use j39_address::Name;
@@ -29,6 +29,8 @@ pub struct SeriesOrigin {
     pub pgn: u32,
     /// The number of the parameter (SPN).
     pub spn: u32,
+    /// The address that it was sent to, 255 for all; 256 and above where the group has no destination.
+    pub destination: u32,
 }
 
 impl SeriesOrigin {
@@ -43,20 +45,44 @@ impl SeriesOrigin {
         }
     }
 
-    /// Whether a message is of this group and from this controller.
-    fn is_from(&self, heard: &Heard<'_>) -> bool
-        ensures { result ≡ is_from self.now heard.now.message.source (option_map name_raw heard.now.name)
-            (hearing_of heard.now).message.pgn }
+    /// The destination that is asked for, or none.
+    fn destination(&self) -> Option<u32>
+        ensures { result ≡ asked_destination self.now }
     {
+        if self.destination < 256 {
+            Some(self.destination)
+        } else {
+            None
+        }
+    }
+
+    /// Whether a message is of this group, from this controller, and sent to this destination.
+    fn is_from(&self, heard: &Heard<'_>) -> bool
+        ensures { result ≡ is_from self.now heard.now.message.source heard.now.destination
+            (option_map name_raw heard.now.name) (hearing_of heard.now).message.pgn }
+    {
+        let is_sent_there = is_same_destination(heard.destination, self.destination());
         let is_named = is_same_name(heard.name, self.name());
         let is_of_group = heard.message.pgn.raw() == self.pgn;
-        u32::from(heard.message.source) == self.address && (is_named && is_of_group)
+        u32::from(heard.message.source) == self.address
+            && (is_sent_there && (is_named && is_of_group))
+    }
+}
+
+/// Whether both are the same address, or none.
+fn is_same_destination(sent: Option<u8>, asked: Option<u32>) -> bool
+    ensures { result ≡ is_same_or_none sent asked }
+{
+    match (sent, asked) {
+        (None, None) => true,
+        (Some(address), Some(number)) => u32::from(address) == number,
+        _ => false,
     }
 }
 
 /// Whether both are the same NAME, or none.
 fn is_same_name(held: Option<Name>, asked: Option<u64>) -> bool
-    ensures { result ≡ is_same_name (option_map name_raw held) asked }
+    ensures { result ≡ is_same_or_none (option_map name_raw held) asked }
 {
     match (held, asked) {
         (None, None) => true,
