@@ -1,11 +1,18 @@
--- Players that are told a frame, one after another, and the one that takes it out.
-use Rattle.std.proofs.Common.{◌≡◌, ◌≢◌, ◌≤◌, ◌<◌, ◌+◌, ◌∙◌, ℕ, zero, suc, [], ◌∷◌, List, Option, Some, ap, arith, length, refl, slice_get, slice_set, subst, sym}
+-- Players to whom something happens, one after another, and the one that takes its frame out.
+use Rattle.std.proofs.Common.{◌≡◌, ◌≢◌, ◌≤◌, ◌<◌, ◌+◌, ◌∙◌, ◌++◌, ℕ, zero, suc, [], ◌∷◌, List, Option, Some, add-one, ap, arith, length, map, refl, slice_get, slice_set, subst, sym, take}
 use Rattle.std.proofs.Math.ListN.{length-set}
+use Rattle.std.proofs.lemmas.Grind.{take-set_at}
+use Rattle.std.proofs.lemmas.List.{map-append}
+use Rattle.std.specs.Option.{option_map}
+use Rattle.j39_frame.specs.Identifier.{id_raw}
+use Rattle.j39_frame.specs.declared.identifier.Id.{Id}
 use borrow.Author.Count.{below_more}
 use Rattle.j39_frame.specs.Frame.{FrameRecord}
 use Rattle.j39_controller.specs.declared.outbox.Wish.{Wish}
-use Rattle.bus_demo.specs.Playing.{AreToldBelow, IsToldAt}
+use Rattle.bus_demo.specs.Playing.{AreNotedBelow, HappenedBelow, IsNotedAt}
 use Rattle.bus_demo.specs.Sending.{TakesAt, TakesOut}
+use Rattle.bus_demo.specs.Turning.{wish_of, wishes_of}
+use Rattle.bus_demo.specs.declared.bus.book.Book.{Book}
 use Rattle.bus_demo.specs.declared.bus.player.Player.{Player}
 
 at_set : {X : Type 0} (xs : List X) (i : ℕ) (x : X) → i < length xs → slice_get (slice_set xs i x) i ≡ Some x
@@ -23,33 +30,52 @@ beside_set (y ∷ ys) (suc i) (suc k) x other = beside_set ys i k x (λ e. other
 some : {X : Type 0} (x y : X) → (let a : Option X = Some x in a) ≡ Some y → x ≡ y
 some x y e = cc
 
--- the player at a place is as it was told
-abbrev StandsTold : ℕ → FrameRecord → List Player → List Player → ℕ → Type 0
-StandsTold sender f old new k = (player : Player) → slice_get old k ≡ Some player → (after : Player) × (slice_get new k ≡ Some after) × IsToldAt k sender f player after
+-- who stands at a place is who was put there
+pub stands_set : (xs : List Player) (i : ℕ) (x y : Player) → i < length xs → slice_get (slice_set xs i x) i ≡ Some y → x ≡ y
+stands_set xs i x y inside there = some x y (sym (at_set xs i x inside) ∙ there)
 
-pub one_told : (n sender : ℕ) (f : FrameRecord) (old mid : List Player) (p q : Player) → n < length mid → AreToldBelow n sender f old mid → slice_get mid n ≡ Some p
-    → IsToldAt n sender f p q → AreToldBelow (n + 1) sender f old (slice_set mid n q)
-one_told n sender f old mid p q inside h stands told = record {
-  count = length-set mid n q ∙ h.count;
-  told = λ k player below there. below_more (StandsTold sender f old (slice_set mid n q)) n
-      (λ i less one here. let after = h.told i one less here in
-      (after.0, beside_set mid n i q (λ e. omega (arith, less, e)) ∙ after.1, after.2))
-      (λ one here. (q, at_set mid n q inside, subst (λ x. IsToldAt n sender f x q) (some p one (sym stands ∙ h.others n (omega arith) ∙ here)) told))
-      k below player there;
-  others = λ k past. beside_set mid n k q (λ e. omega (arith, past, e)) ∙ h.others k (omega (arith, past));
-}
+-- who hasn't been reached is who stood there at first
+pub same_player : (mid old : List Player) (n : ℕ) (p player : Player) → slice_get mid n ≡ Some p → slice_get mid n ≡ slice_get old n → slice_get old n ≡ Some player → p ≡ player
+same_player mid old n p player stands same there = some p player (sym stands ∙ same ∙ there)
 
--- its sender is not
-pub one_left : (n sender : ℕ) (f : FrameRecord) (old mid : List Player) → n ≡ sender → AreToldBelow n sender f old mid → AreToldBelow (n + 1) sender f old mid
-one_left n sender f old mid is h = record {
-  count = h.count;
-  told = λ k player below there. below_more (StandsTold sender f old mid) n h_told
-      (λ one here. (one, h.others n (omega arith) ∙ here, ((λ _. refl), (λ other. absurd (other is))))) k below player there;
-  others = λ k past. h.others k (omega (arith, past));
-}
-  where
-    h_told : (k : ℕ) → k < n → StandsTold sender f old mid k
-    h_told k less one here = h.told k one less here
+module _ (happens : ℕ → Player → Player → Type 0) where
+  -- to the player at a place
+  abbrev Happened : List Player → List Player → ℕ → Type 0
+  Happened old new k = (player : Player) → slice_get old k ≡ Some player → (after : Player) × (slice_get new k ≡ Some after) × happens k player after
+
+  pub happened_then : (n : ℕ) (old mid : List Player) (p q : Player) → n < length mid → HappenedBelow happens n old mid → slice_get mid n ≡ Some p
+      → happens n p q → HappenedBelow happens (n + 1) old (slice_set mid n q)
+  happened_then n old mid p q inside h stands one = record {
+    count = length-set mid n q ∙ h.count;
+    each = λ k player below there. below_more (Happened old (slice_set mid n q)) n
+        (λ i less two here. let after = h.each i two less here in
+        (after.0, beside_set mid n i q (λ e. omega (arith, less, e)) ∙ after.1, after.2))
+        (λ two here. (q, at_set mid n q inside, subst (λ x. happens n x q) (some p two (sym stands ∙ h.others n (omega arith) ∙ here)) one))
+        k below player there;
+    others = λ k past. beside_set mid n k q (λ e. omega (arith, past, e)) ∙ h.others k (omega (arith, past));
+  }
+
+  -- where it leaves a player as it was
+  pub happened_to_none : (n : ℕ) (old mid : List Player) → ((p : Player) → happens n p p) → HappenedBelow happens n old mid → HappenedBelow happens (n + 1) old mid
+  happened_to_none n old mid leaves h = record {
+    count = h.count;
+    each = λ k player below there. below_more (Happened old mid) n (λ i less two here. h.each i two less here)
+        (λ two here. (two, h.others n (omega arith) ∙ here, leaves two)) k below player there;
+    others = λ k past. h.others k (omega (arith, past));
+  }
+
+-- what one player more heard was noted
+pub noted_then : (n sender : ℕ) (f : FrameRecord) (players : List Player) (old mid new : Book) → AreNotedBelow n sender f players old mid
+    → IsNotedAt n sender f players mid new → AreNotedBelow (n + 1) sender f players old new
+noted_then n sender f players old mid new so_far here = subst (λ k. AreNotedBelow k sender f players old new) (sym (add-one n)) (mid, so_far, here)
+
+-- one player more was asked
+pub one_asked : (n : ℕ) (mid : List Player) (q : Player) (wishes : List (Option Id)) (wish : Option Id) → n < length mid → wishes_of wishes ≡ map wish_of (take n mid)
+    → option_map id_raw wish ≡ wish_of q → wishes_of (wishes ++ (wish ∷ [])) ≡ map wish_of (take (n + 1) (slice_set mid n q))
+one_asked n mid q wishes wish inside so_far is =
+    map-append (option_map id_raw) wishes (wish ∷ [])
+    ∙ (λ i. so_far i ++ (is i ∷ []))
+    ∙ sym (ap (map wish_of) (take-set_at mid n (n + 1) q refl inside) ∙ map-append wish_of (take n mid) (q ∷ []))
 
 -- a player takes its frame out, and the others stay
 pub one_takes : (sender : ℕ) (old : List Player) (p q : Player) (wish : Option Wish) → sender < length old → slice_get old sender ≡ Some p → TakesOut p wish q

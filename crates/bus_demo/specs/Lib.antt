@@ -10,3 +10,4 @@ pub mod Publishing
 pub mod Scenario
 pub mod Sending
 pub mod Shown
+pub mod Turning

@@ -1,12 +1,14 @@
 -- What the players of a bus make of time and of frames.
-use Rattle.std.specs.Prelude.{◌≡◌, ◌≢◌, ◌+◌, ◌-◌, ◌^◌, ◌<◌, ◌≤◌, ℕ, [], IsSome, List, Option, None, Some, length, min, slice_get}
+use Rattle.std.specs.Prelude.{◌≡◌, ◌≢◌, ◌+◌, ◌-◌, ◌^◌, ◌<◌, ◌≤◌, ℕ, zero, suc, [], IsSome, List, Option, None, Some, length, min, slice_get}
 use Rattle.j39_frame.specs.Frame.{FrameRecord}
 use Rattle.j39_address.specs.Node.{Node}
 use Rattle.j39_controller.specs.Controller.{HasNode, Hears, KeepsButReceived, KeepsButTold, Passes, Turns}
 use Rattle.j39_controller.specs.Controller.{received_in, told_in}
 use Rattle.j39_controller.specs.MaySend.{held_in}
 use Rattle.j39_controller.specs.declared.controller.Controller.{Controller}
+use Rattle.bus_demo.specs.Noted.{IsNoted}
 use Rattle.bus_demo.specs.Publishing.{AreDueAgain}
+use Rattle.bus_demo.specs.declared.bus.book.Book.{Book}
 use Rattle.bus_demo.specs.declared.bus.player.Player.{Player}
 
 -- the player's controller heard the frame, and what it received and how its messages ended was noted
@@ -35,17 +37,46 @@ pub record IsTurned (old : Player) (micros : ℕ) (new : Player) : Type 0 where
   pub settles : KeepsButTold turned new.controller
   pub all_settled : told_in new.controller ≡ []
 
+-- the player had its turn at this moment: its loop turned where it was due, and else nothing happened
+pub record HadTurn (micros : ℕ) (old new : Player) : Type 0 where
+  pub waits : micros < old.due → new ≡ old
+  pub turns : old.due ≤ micros → IsTurned old micros new
+
 -- the player at a place was told the frame: it heard it, and its sender is as it was
 abbrev pub IsToldAt : ℕ → ℕ → FrameRecord → Player → Player → Type 0
 IsToldAt place sender f old new = (place ≡ sender → new ≡ old) × (place ≢ sender → IsHeard old f new)
 
--- the first n players were told the frame, each once, and the others are as they were
-pub record AreToldBelow (n sender : ℕ) (f : FrameRecord) (old new : List Player) : Type 0 where
+-- this happened to the first n players, once to each, and the others are as they were
+pub record HappenedBelow (happens : ℕ → Player → Player → Type 0) (n : ℕ) (old new : List Player) : Type 0 where
   pub count : length new ≡ length old
-  pub told : (k : ℕ) (player : Player) → k < n → slice_get old k ≡ Some player
-      → (after : Player) × (slice_get new k ≡ Some after) × IsToldAt k sender f player after
+  pub each : (k : ℕ) (player : Player) → k < n → slice_get old k ≡ Some player
+      → (after : Player) × (slice_get new k ≡ Some after) × happens k player after
   pub others : (k : ℕ) → n ≤ k → slice_get new k ≡ slice_get old k
 
--- all were
+-- all were told the frame
 abbrev pub AreTold : ℕ → FrameRecord → List Player → List Player → Type 0
-AreTold sender f old new = AreToldBelow (length old) sender f old new
+AreTold sender f old new = HappenedBelow (λ k. IsToldAt k sender f) (length old) old new
+
+-- all had their turns at this moment
+abbrev pub HaveTurned : ℕ → List Player → List Player → Type 0
+HaveTurned micros old new = HappenedBelow (λ _. HadTurn micros) (length old) old new
+
+-- what a player heard of a frame was noted
+abbrev pub IsHeardNoted : Player → FrameRecord → Book → Book → Type 0
+IsHeardNoted player f old new = (heard : Controller) × Hears player.controller f heard × IsNoted heard old new
+
+-- what the player at a place heard was; of the sender there is nothing to note
+abbrev pub IsNotedAt : ℕ → ℕ → FrameRecord → List Player → Book → Book → Type 0
+IsNotedAt place sender f players old new =
+    (place ≡ sender → new ≡ old)
+    × (place ≢ sender → (player : Player) → slice_get players place ≡ Some player → IsHeardNoted player f old new)
+
+-- what the first n players heard was noted, of one after another
+abbrev pub AreNotedBelow : ℕ → ℕ → FrameRecord → List Player → Book → Book → Type 0
+AreNotedBelow zero sender f players old new = new ≡ old
+AreNotedBelow (suc n) sender f players old new =
+    (between : Book) × AreNotedBelow n sender f players old between × IsNotedAt n sender f players between new
+
+-- what all heard was
+abbrev pub AreAllNoted : ℕ → FrameRecord → List Player → Book → Book → Type 0
+AreAllNoted sender f players old new = AreNotedBelow (length players) sender f players old new

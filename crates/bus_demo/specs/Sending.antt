@@ -1,5 +1,5 @@
 -- What becomes of the frame that a player of a bus wishes to send.
-use Rattle.std.specs.Prelude.{◌≡◌, ◌≢◌, ◌+◌, ◌-◌, ◌*◌, ◌^◌, ◌<◌, ◌++◌, ◌∷◌, ◌⊎◌, [], ℕ, Contains, IfSome, List, None, Option, Some, drop, length, min, slice_get}
+use Rattle.std.specs.Prelude.{◌≡◌, ◌≢◌, ◌+◌, ◌-◌, ◌*◌, ◌^◌, ◌<◌, ◌++◌, ◌∷◌, ◌⊎◌, [], ℕ, Contains, IfSome, List, None, Option, Some, drop, false, length, min, slice_get, true}
 use Rattle.std.specs.Io.KnownBytes.{Appends}
 use Rattle.j39_io.specs.Chars.{newline}
 use Rattle.j39_io.specs.Turn.{Turn}
@@ -11,8 +11,11 @@ use Rattle.j39_controller.specs.Controller.{HasNode, KeepsButWaiting, waiting_in
 use Rattle.j39_controller.specs.MaySend.{MaySend}
 use Rattle.j39_controller.specs.declared.outbox.Wish.{Wish}
 use Rattle.bus_demo.specs.Arbitration.{IsLowest, NoneWishes}
-use Rattle.bus_demo.specs.Playing.{AreTold}
+use Rattle.bus_demo.specs.Fates.{IsFated}
+use Rattle.bus_demo.specs.Playing.{AreAllNoted, AreTold, HaveTurned}
+use Rattle.bus_demo.specs.Turning.{AreAsked, KeepsButTurned}
 use Rattle.bus_demo.specs.declared.bus.Bus.{Bus}
+use Rattle.bus_demo.specs.declared.bus.book.Book.{Book}
 use Rattle.bus_demo.specs.declared.bus.player.Player.{Player}
 
 -- a player took out the frame that waited first in it, where that may go
@@ -31,29 +34,38 @@ pub record TakesAt (sender : ℕ) (old : List Player) (wish : Option Wish) (new 
       → (after : Player) × (slice_get new sender ≡ Some after) × TakesOut player wish after
   pub others : (k : ℕ) → k ≢ sender → slice_get new k ≡ slice_get old k
 
--- the frame is a line of the log, and each player but its sender is told it
-pub record IsSeen (sender : ℕ) (f : FrameRecord) (interface : List ℕ) (old new : List Player) (out : Turn) : Type 0 where
+-- the frame is a line of the log, and each player but its sender is told it, one after another, and what these heard is noted
+pub record IsSeen (sender : ℕ) (f : FrameRecord) (interface : List ℕ) (old new : List Player) (before after : Book)
+    (out : Turn) : Type 0 where
   pub line : Appends out.old.bytes out.new.bytes (line_text f interface ++ newline ∷ [])
   pub told : AreTold sender f old new
+  pub noted : AreAllNoted sender f old before after
 
 -- as it is seen at the end of its time on the bus
 abbrev pub seen_at : ℕ → FrameRecord → FrameRecord
 seen_at micros f = record f { stamp = micros }
 
--- the frame went: it took its time and was counted, and was seen where its number isn't one of those that are lost
-pub record Goes (sender : ℕ) (f : FrameRecord) (old new : Bus) (out : Turn) : Type 0 where
+-- the frame went: it took its time and was counted, the book has the fate of the message that it is a part of, and it was seen
+-- where its number isn't one of those that are lost
+pub record Goes (sender : ℕ) (wish : Wish) (old new : Bus) (out : Turn) : Type 0 where
   pub count : new.frames ≡ min (old.frames + 1) (2 ^ 64 - 1)
   pub time : stamp_micros old.now + 1000 < 10 ^ 16
-      → stamp_micros new.now ≡ stamp_micros old.now + 4 * (67 + 8 * length f.bytes)
-  pub lost : Contains old.lose.now new.frames → (new.controllers ≡ old.controllers) × (out.new.bytes ≡ out.old.bytes)
-  pub seen : ¬ Contains old.lose.now new.frames → IsSeen sender (seen_at (stamp_micros new.now) f) old.interface
-      old.controllers.items new.controllers.items out
+      → stamp_micros new.now ≡ stamp_micros old.now + 4 * (67 + 8 * length wish.frame.bytes)
+  pub noted : Book
+  pub lost : Contains old.lose.now new.frames
+      → IsFated wish.part true new.now old.book noted
+      × (new.controllers ≡ old.controllers) × (new.book ≡ noted) × (out.new.bytes ≡ out.old.bytes)
+  pub seen : ¬ Contains old.lose.now new.frames
+      → IsFated wish.part false new.now old.book noted
+      × IsSeen sender (seen_at (stamp_micros new.now) wish.frame) old.interface old.controllers.items new.controllers.items
+      noted new.book out
 
 -- where there was no frame, nothing went
 abbrev pub GoesIf : ℕ → Option Wish → Bus → Bus → Turn → Type 0
 GoesIf sender None old new out =
-    (new.frames ≡ old.frames) × (new.controllers ≡ old.controllers) × (out.new.bytes ≡ out.old.bytes)
-GoesIf sender (Some wish) old new out = Goes sender wish.frame old new out
+    (new.frames ≡ old.frames) × (new.controllers ≡ old.controllers) × (new.book ≡ old.book)
+    × (out.new.bytes ≡ out.old.bytes)
+GoesIf sender (Some wish) old new out = Goes sender wish old new out
 
 -- the player at this place took its frame out, and that went
 pub record Sends (sender : ℕ) (old new : Bus) (out : Turn) : Type 0 where
@@ -69,8 +81,10 @@ GoesLowest old new out =
     ((place : ℕ) × IsLowest old.wishes.items place × Sends place old new out)
     ⊎ (NoneWishes old.wishes.items × (new ≡ record old { now = new.now }) × (out.new.bytes ≡ out.old.bytes))
 
--- the players had their turns at the moment before, and then the bus went on
+-- the players had their turns, one after another, and were asked, and then the bus went on
 pub record Steps (old new : Bus) (out : Turn) : Type 0 where
   pub turned : Bus
-  pub now : turned.now ≡ old.now
+  pub players : HaveTurned (stamp_micros old.now) old.controllers.items turned.controllers.items
+  pub asked : AreAsked turned.controllers.items turned.wishes.items
+  pub rest : KeepsButTurned old turned
   pub goes : GoesLowest turned new out

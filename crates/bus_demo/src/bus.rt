@@ -1,12 +1,13 @@
 //! The bus: one frame at a time, and a clock in microseconds.
-ghost use Rattle.std.specs.Prelude.{◌≡◌, ◌≤◌, ◌<◌, ◌+◌, ◌*◌, ◌^◌, ◌++◌, ◌∷◌, [], OnOk, true};
+ghost use Rattle.std.specs.Prelude.{◌≡◌, ◌↔◌, ◌≤◌, ◌<◌, ◌+◌, ◌*◌, ◌^◌, ◌++◌, ◌∷◌, [], Contains, IsTrue, OnOk, length, true};
 ghost use Rattle.j39_frame.specs.Stamp.{stamp_micros};
 ghost use Rattle.j39_io.specs.Chars.{newline};
 ghost use Rattle.j39_io.specs.Puts.{Puts};
 ghost use Rattle.j39_io.specs.Turn.{turn};
 ghost use Rattle.j39_log.specs.Canonical.{line_text};
-ghost use Rattle.bus_demo.specs.Playing.{AreTold};
+ghost use Rattle.bus_demo.specs.Playing.{AreAllNoted, AreTold, HaveTurned};
 ghost use Rattle.bus_demo.specs.Sending.{Goes, IsSeen, Sends, Steps, TakesAt};
+ghost use Rattle.bus_demo.specs.Turning.{AreAsked, KeepsButTurned, TurnsAt};
 
 mod arbitration;
 pub(crate) mod book;
@@ -17,8 +18,8 @@ pub(crate) mod role;
 pub(crate) mod scenario;
 
 use arbitration::winner;
-use book::{Book, Fate};
-use j39_controller::{MessageFrame, Wish};
+use book::Book;
+use j39_controller::Wish;
 use j39_frame::{Frame, Id, Stamp};
 use j39_io::{DeviceFault, Sink, put_all};
 use j39_log::{Bus as Interface, line_of};
@@ -128,16 +129,29 @@ impl<'a> Bus<'a> {
         }
     }
 
-    /// Lets each controller take its turn, and asks what it wishes to send.
+    /// Lets each controller take its turn, one after another, and asks what it then wishes to send.
     fn turns(&mut self) -> Result<(), AllocError>
-        ensures now { self.new.now ≡ self.old.now }
-        ensures lose { self.new.lose ≡ self.old.lose }
+        ensures turned { OnOk result (HaveTurned (stamp_micros self.old.now) self.old.controllers.items
+            self.new.controllers.items) }
+        ensures asked { OnOk result (AreAsked self.new.controllers.items self.new.wishes.items) }
+        ensures rest { KeepsButTurned self.old self.new }
     {
         self.wishes.clear();
-        for controller in self.controllers.iter_mut() {
-            controller.pass(self.now, &mut self.book)?;
-            self.wishes.push(controller.wish())?;
+        for place in 0..self.controllers.len() {
+            self.turn(place)?;
         }
+        Ok(())
+    }
+
+    /// Lets the controller at a place take its turn, and asks what it then wishes to send.
+    fn turn(&mut self, place: usize) -> Result<(), AllocError>
+        requires { place < length self.old.controllers.items }
+        ensures turned { OnOk result (TurnsAt place (stamp_micros self.old.now) self.old self.new) }
+        ensures rest { KeepsButTurned self.old self.new }
+    {
+        self.controllers[place].pass(self.now, &mut self.book)?;
+        let wish = self.controllers[place].wish();
+        self.wishes.push(wish)?;
         Ok(())
     }
 
@@ -168,7 +182,7 @@ impl<'a> Bus<'a> {
 
     /// Carries a frame, which is seen at its end, or lost.
     fn carry<W: Sink>(&mut self, sender: usize, wish: Wish, log: &mut W) -> Result<(), BusFault>
-        ensures goes { OnOk result (Goes sender wish.frame self.old self.new
+        ensures goes { OnOk result (Goes sender wish self.old self.new
             (turn W.written W.has_failed log.old log.new)) }
         ensures goes_on { OnOk result (stamp_micros self.old.now + 1000 < 10 ^ 16
             → stamp_micros self.old.now < stamp_micros self.new.now) }
@@ -177,8 +191,8 @@ impl<'a> Bus<'a> {
         let Wish { frame, part } = wish;
         self.now = later(self.now, frame_time(frame.bytes.len()));
         self.frames = self.frames.saturating_add(1);
-        let is_lost = self.lose.contains(&self.frames);
-        self.note(part, is_lost);
+        let is_lost = self.loses();
+        self.book.note(part, is_lost, self.now);
         if is_lost {
             return Ok(());
         }
@@ -190,21 +204,17 @@ impl<'a> Bus<'a> {
         self.show(sender, &seen, log)
     }
 
-    /// Notes in the book that a frame of a message was seen, or lost.
-    fn note(&mut self, part: Option<MessageFrame>, is_lost: bool)
-        ensures rest { self.new ≡ record self.old { book = self.new.book } }
+    /// Whether the frame that was counted last is one of those that are lost.
+    fn loses(&self) -> bool
+        ensures { IsTrue result ↔ Contains self.entry.now.lose.now self.entry.now.frames }
     {
-        match part {
-            Some(part) if is_lost => self.book.settle(part.number, Fate::Lost),
-            Some(part) => self.book.seen(part, self.now),
-            None => {}
-        }
+        self.lose.contains(&self.frames)
     }
 
     /// Shows a frame: it is a line of the log, and the other controllers hear it.
     fn show<W: Sink>(&mut self, sender: usize, frame: &Frame, log: &mut W) -> Result<(), BusFault>
-        ensures seen { OnOk result (IsSeen sender frame.now self.old.interface
-            self.old.controllers.items self.new.controllers.items (turn W.written W.has_failed log.old log.new)) }
+        ensures seen { OnOk result (IsSeen sender frame.now self.old.interface self.old.controllers.items
+            self.new.controllers.items self.old.book self.new.book (turn W.written W.has_failed log.old log.new)) }
         ensures now { self.new.now ≡ self.old.now }
         ensures frames { self.new.frames ≡ self.old.frames }
         ensures lose { self.new.lose ≡ self.old.lose }
@@ -214,9 +224,11 @@ impl<'a> Bus<'a> {
         Ok(())
     }
 
-    /// All controllers but its sender hear a frame, each once.
+    /// All controllers but its sender hear a frame, one after another, each once.
     fn tell(&mut self, sender: usize, frame: &Frame) -> Result<(), AllocError>
         ensures told { OnOk result (AreTold sender frame.now self.old.controllers.items self.new.controllers.items) }
+        ensures noted { OnOk result (AreAllNoted sender frame.now self.old.controllers.items
+            self.old.book self.new.book) }
         ensures now { self.new.now ≡ self.old.now }
         ensures frames { self.new.frames ≡ self.old.frames }
         ensures lose { self.new.lose ≡ self.old.lose }

@@ -1,5 +1,5 @@
 //! Parameters that are asked for, and that no row of the table has.
-ghost use Rattle.std.specs.Prelude.{◌≡◌, [], false, not, true};
+ghost use Rattle.std.specs.Prelude.{◌≡◌, ◌<◌, [], false, length, not, true};
 ghost use Rattle.std.specs.List.{flat_map, list_any};
 ghost use Rattle.j39_io.specs.Puts.{Puts};
 ghost use Rattle.j39_io.specs.Turn.{Writes, turn};
@@ -16,6 +16,8 @@ pub fn asks_for_unknown<E: Sink>(groups: &Groups<'_>, task: &Task<'_>, err: &mut
     ensures answer { result ≡ asks_for_unknown groups.now task.now }
     ensures told { Writes (turn E.written E.has_failed err.old err.new) (unknown_text groups.now task.now) }
     ensures passed_on { result ≡ true → E.has_failed err.new ≡ false → E.is_flushed err.new ≡ true }
+    ensures some { 0 < length (unknown_text groups.now task.now) → E.has_failed err.new ≡ false
+        → E.is_flushed err.new ≡ true }
 {
     match task {
         Task::Report {

@@ -2,7 +2,7 @@
 ghost use Rattle.std.specs.Prelude.{◌≡◌, ◌<◌, ℕ, List, Bool, true, false, Option, Ok, IsErr, length, OnOk, OnErr, IfOk};
 ghost use Rattle.std.specs.Io.{ReadsAtMost, WritesAtMost};
 ghost use Rattle.std.specs.Io.KnownBytes.{ReadConsumes, WriteAppends, Keeps};
-ghost use Rattle.j39_io.specs.Device.{Marks};
+ghost use Rattle.j39_io.specs.Device.{KeepsBack, Marks};
 ghost use Rattle.j39_io.specs.Puts.{Puts};
 ghost use Rattle.j39_io.specs.Turn.{turn};
 
@@ -41,12 +41,13 @@ pub trait Sink {
     ghost is_flushed: { Self → Bool };
 
     /// Writes a front of the bytes, of one byte at least where there is one. A fault adds no byte.
-    /// What it takes may be buffered until the next flush.
+    /// What it takes may be buffered until the next flush, and is by no call passed on but by that one.
     fn put(&mut self, bytes: &[u8]) -> Result<usize, DeviceFault>
         ensures bound { WritesAtMost result bytes.now }
         ensures some { IfOk result (λ n. 0 < length bytes.now → 0 < n) }
         ensures bytes { WriteAppends (written self.old) (written self.new) result bytes.now }
         ensures waits { OnOk result (is_flushed self.new ≡ false) }
+        ensures still { is_flushed self.new ≡ true → is_flushed self.old ≡ true }
         ensures mark { Marks result (has_failed self.old) (has_failed self.new) };
 
     /// Passes on what is buffered. Adds no byte, fault or none.
@@ -137,7 +138,7 @@ impl<T: Write> Sink for Told<T> {
 /// Writes all of the bytes, by as many writes as it takes, and flushes none. After a fault a front of them was written.
 pub fn put_all<S: Sink>(sink: &mut S, bytes: &[u8]) -> Result<(), DeviceFault>
     ensures puts { Puts bytes.now result (turn S.written S.has_failed sink.old sink.new) }
-    ensures waits { OnOk result (0 < length bytes.now → S.is_flushed sink.new ≡ false) }
+    ensures waits { KeepsBack bytes.now result (S.is_flushed sink.old) (S.is_flushed sink.new) }
 {
     let mut rest = bytes;
     while !rest.is_empty() {

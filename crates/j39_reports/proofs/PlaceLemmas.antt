@@ -1,7 +1,7 @@
 -- The places where what was said is stored.
-use Rattle.std.proofs.Common.{◌≡◌, ◌∙◌, ◌<◌, ℕ, zero, suc, List, ◌∷◌, Option, Some, None, refl, ap, slice_set}
+use Rattle.std.proofs.Common.{◌≡◌, ◌∙◌, ◌<◌, ℕ, zero, suc, List, ◌∷◌, Option, Some, None, refl, ap, slice_set, sym}
 use Rattle.std.proofs.Common.{slice_index_or, length, replicate, set-set}
-use Rattle.std.proofs.lemmas.List.{map-set, get_or-map}
+use Rattle.std.proofs.lemmas.List.{map-set, get_or-map, set-get_or}
 use Rattle.j39_memory.specs.declared.stored.Stored.{Stored}
 use Rattle.j39_memory.specs.Stored.{value_of}
 use Rattle.j39_reports.specs.LastMessages.{LastMessages, LastRecord, at, stored_in, shown}
@@ -23,6 +23,10 @@ left_empty ps i s e = map-set stored_in ps i None ∙ ap (λ k. slice_set (shown
 -- a place that was taken is filled
 pub set_again : (t : LastMessages) (s : ℕ) (x o : Option LastRecord) → slice_set (slice_set t s x) s o ≡ slice_set t s o
 set_again t s x o = set-set t s x o
+
+-- an empty place that is left empty
+pub empty_again : (t : LastMessages) (s : ℕ) → at t s ≡ None → slice_set t s None ≡ t
+empty_again t s e = ap (slice_set t s) (sym e) ∙ set-get_or t s None
 
 -- what stands at a place
 pub shown_at : (ps : SaidPlaces) (i : ℕ) (d : Option SaidPlace) → i < length ps → at (shown ps) i ≡ stored_in (slice_index_or ps i d)

@@ -6,7 +6,7 @@ use Rattle.std.proofs.lemmas.List.Elements.{filter-append}
 use Rattle.j39_groups.specs.Row.{RowRecord}
 use Rattle.j39_table.specs.Spelled.{SpellsRow}
 use Rattle.j39_table.specs.RowsSoFar.{AddsRow, IsLineFault}
-use Rattle.j39_table.specs.Tables.{HasRowLine, IsFaultOf, SpellRows, bare_line, is_row_line, lines_of, row_lines}
+use Rattle.j39_table.specs.Tables.{IsFaultOf, SpellRows, WantsMemory, bare_line, is_row_line, lines_of, row_lines}
 use Rattle.j39_table.specs.declared.fault.TableFault.{TableFault}
 use Rattle.j39_table.specs.declared.fault.TableFault.TheVariants.{Line, TooManyRows, TooLong, Memory}
 
@@ -92,23 +92,61 @@ fault_here text rows number n line (TooManyRows at) is spelled next row_line few
   full = (let many = wrong.1 in omega (arith, many, few));
 }
 fault_here text rows number n line TooLong is spelled next row_line few wrong = absurd wrong
-fault_here text rows number n line Memory is spelled next row_line few wrong = record { line = line; place = n; stands = next; is_row = row_line }
+fault_here text rows number n line Memory is spelled next row_line few wrong = record {
+  line = line;
+  count = n;
+  before = record { rows = rows; spelled = spelled; next = next; is_row = row_line };
+  row = wrong.0;
+  spelled = wrong.1;
+}
 
 pub some_row : (rows : List RowRecord) → (length rows ≤ 20 → ⊥) → 0 < length rows
 some_row [] many = absurd (many (omega arith))
 some_row (row ∷ rows) many = omega arith
 
--- where lines spell a row, one of them is a row's
-pub row_line_of : (lines : List (List ℕ)) (rows : List RowRecord) → SpellRows (row_lines lines) rows → 0 < length rows → HasRowLine lines
-row_line_of [] [] spelled some = absurd (omega arith)
-row_line_of [] (row ∷ rows) spelled some = absurd spelled
-row_line_of (line ∷ lines) rows spelled some = by_kind (is_row_line line) refl (λ rest. row_line_of lines rows rest some)
+-- a line spells a row, and none before it is a row's
+record HasFirstRow (lines : List (List ℕ)) : Type 0 where
+  line : List ℕ
+  count : ℕ
+  next : slice_get lines count ≡ Some line
+  is_row : is_row_line line ≡ true
+  none : row_lines (take count lines) ≡ []
+  row : RowRecord
+  spelled : SpellsRow line row
+
+first_row : (lines : List (List ℕ)) (rows : List RowRecord) → SpellRows (row_lines lines) rows → 0 < length rows → HasFirstRow lines
+first_row [] [] spelled some = absurd (omega arith)
+first_row [] (row ∷ rows) spelled some = absurd spelled
+first_row (line ∷ lines) [] spelled some = absurd (omega arith)
+first_row (line ∷ lines) (row ∷ rows) spelled some = by_kind (is_row_line line) refl (λ rest. first_row lines (row ∷ rows) rest some)
   where
-    by_kind : (b : Bool) → is_row_line line ≡ b → (SpellRows (row_lines lines) rows → HasRowLine lines) → HasRowLine (line ∷ lines)
-    by_kind true is others = record { line = line; place = 0; stands = refl; is_row = is }
+    by_kind : (b : Bool) → is_row_line line ≡ b → (SpellRows (row_lines lines) (row ∷ rows) → HasFirstRow lines) → HasFirstRow (line ∷ lines)
+    by_kind true is others =
+        let both : SpellRows (line ∷ row_lines lines) (row ∷ rows) = rw is at spelled in
+        record { line = line; count = 0; next = refl; is_row = is; none = refl; row = row; spelled = both.0 }
     by_kind false is others =
         let found = others (rw is at spelled) in
-        record { line = found.line; place = suc found.place; stands = found.stands; is_row = found.is_row }
+        record {
+          line = found.line;
+          count = suc found.count;
+          next = found.next;
+          is_row = found.is_row;
+          none = rw is found.none;
+          row = found.row;
+          spelled = found.spelled;
+        }
+
+-- where lines spell rows, memory is wanted at the first
+pub wants_rows : (text : List ℕ) (rows : List RowRecord) → SpellRows (row_lines (lines_of text)) rows → 0 < length rows → WantsMemory text
+wants_rows text rows spelled some =
+    let first = first_row (lines_of text) rows spelled some in
+    record {
+      line = first.line;
+      count = first.count;
+      before = record { rows = []; spelled = subst (λ lines. SpellRows lines []) (sym first.none) tt; next = first.next; is_row = first.is_row };
+      row = first.row;
+      spelled = first.spelled;
+    }
 
 pub all_lines : (all : List (List ℕ)) (n : ℕ) (rows : List RowRecord) → n ≡ length all → SpellRows (row_lines (take n (map bare_line all))) rows
     → SpellRows (row_lines (map bare_line all)) rows

@@ -1,5 +1,5 @@
 -- One line of a table more.
-use Rattle.std.specs.Prelude.{◌≡◌, ◌<◌, ◌+◌, ◌++◌, ◌∷◌, ⊤, ℕ, List, [], Result, MatchResult, length}
+use Rattle.std.specs.Prelude.{◌≡◌, ◌<◌, ◌+◌, ◌++◌, ◌∷◌, ℕ, List, [], Result, MatchResult, length}
 use Rattle.j39_groups.specs.Row.{RowRecord}
 use Rattle.j39_table.specs.Faults.{column_of}
 use Rattle.j39_table.specs.Spelled.{IsWrongColumn, SpellsRow}
@@ -23,7 +23,7 @@ abbrev pub IsLineFault : List RowRecord → ℕ → List ℕ → TableFault → 
 IsLineFault before number line (Line at fault) = IsWrongHere number at line fault
 IsLineFault before number line (TooManyRows at) = (at ≡ number) × (65536 < length before + 1)
 IsLineFault before number line TooLong = ⊥
-IsLineFault before number line Memory = ⊤
+IsLineFault before number line Memory = (row : RowRecord) × SpellsRow line row
 
 abbrev pub IsLineRead : List RowRecord → List RowRecord → ℕ → List ℕ → Result (Unit {0}) TableFault → Type 0
 IsLineRead before after number line result =

@@ -69,16 +69,17 @@ pub record IsLineTooMany (text : List ℕ) (number : ℕ) : Type 0 where
   pub before : ReadsBefore text count line
   pub full : length before.rows ≡ 65536
 
--- one of the lines is a row's
-pub record HasRowLine (lines : List (List ℕ)) : Type 0 where
+-- a line spells a row, which is kept in memory, and each line before it spells one or is none
+pub record WantsMemory (text : List ℕ) : Type 0 where
   pub line : List ℕ
-  pub place : ℕ
-  pub stands : slice_get lines place ≡ Some line
-  pub is_row : is_row_line line ≡ true
+  pub count : ℕ
+  pub before : ReadsBefore text count line
+  pub row : RowRecord
+  pub spelled : SpellsRow line row
 
 -- memory is wanted for rows alone
 abbrev pub IsFaultOf : List ℕ → TableFault → Type 0
 IsFaultOf text (Line number fault) = IsWrongLine text number fault
 IsFaultOf text (TooManyRows number) = IsLineTooMany text number
 IsFaultOf text TooLong = 1048576 < length text
-IsFaultOf text Memory = HasRowLine (lines_of text)
+IsFaultOf text Memory = WantsMemory text

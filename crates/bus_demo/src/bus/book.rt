@@ -3,7 +3,7 @@ ghost use Rattle.std.specs.Prelude.{◌≡◌, ◌∷◌, ◌++◌, ◌↔◌, [
 ghost use Rattle.std.specs.List.{count_by};
 ghost use Rattle.std.specs.Result.{IfOk, OnErr, OnOk};
 ghost use Rattle.bus_demo.specs.Delivered.{IsLastOf, IsNoneOf, IsOf, IsWholeAt};
-ghost use Rattle.bus_demo.specs.Fates.{is_whole};
+ghost use Rattle.bus_demo.specs.Fates.{IsFated, is_whole};
 
 use j39_address::Name;
 use j39_controller::{MessageFrame, Received};
@@ -117,6 +117,17 @@ impl Book {
     {
         if part.is_last {
             self.settle(part.number, Fate::Whole(now));
+        }
+    }
+
+    /// Notes that a frame, which may be one of a message, was lost, or seen at this moment.
+    pub fn note(&mut self, part: Option<MessageFrame>, is_lost: bool, now: Stamp)
+        ensures { IsFated part is_lost now self.old self.new }
+    {
+        match part {
+            Some(part) if is_lost => self.settle(part.number, Fate::Lost),
+            Some(part) => self.seen(part, now),
+            None => {}
         }
     }
 

@@ -11,10 +11,8 @@ ghost use Rattle.j39_controller.specs.Controller.{begun_in, received_in, told_in
 ghost use Rattle.j39_controller.specs.MaySend.{MaySend, held_in};
 ghost use Rattle.j39_controller.specs.Outbox.{first_id};
 ghost use Rattle.j39_controller.specs.declared.outbox.Wish.{Wish};
-ghost use Rattle.j39_controller.specs.Controller.{Hears};
-ghost use Rattle.j39_controller.specs.declared.controller.Controller.{Controller};
-ghost use Rattle.bus_demo.specs.Noted.{IsNoted, done_among, transfers_in};
-ghost use Rattle.bus_demo.specs.Playing.{IsHeard, IsTurned};
+ghost use Rattle.bus_demo.specs.Noted.{done_among, transfers_in};
+ghost use Rattle.bus_demo.specs.Playing.{IsHeard, IsHeardNoted, IsTurned};
 ghost use Rattle.bus_demo.specs.Publishing.{AreDueAgain};
 
 use crate::bus::book::{Book, Fate};
@@ -133,8 +131,7 @@ impl Player {
     /// Hears a frame that another controller sent.
     pub fn hear(&mut self, frame: &Frame, book: &mut Book) -> Result<(), AllocError>
         ensures heard { OnOk result (IsHeard self.old frame.now self.new) }
-        ensures noted { OnOk result ((heard : Controller) × Hears self.old.controller frame.now heard
-            × IsNoted heard book.old book.new) }
+        ensures noted { OnOk result (IsHeardNoted self.old frame.now book.old book.new) }
         ensures count { length book.new.handed.items ≡ length book.old.handed.items }
         ensures rest { self.new ≡ record self.old { controller = self.new.controller } }
     {

@@ -51,6 +51,7 @@ impl LastFaults {
         ensures after { OnOk result (self.new
             ≡ noted self.old kind source (said_by payload.now (option_map name_raw name))) }
         ensures first { OnErr result (said_at self.old kind source ≡ None) }
+        ensures kept { OnErr result (self.new ≡ self.old) }
     {
         match kind {
             Kind::Active => self.active.note(alloc, source, payload, name),

@@ -73,7 +73,7 @@ impl LastMessages {
 
     /// Notes what an address says, and answers whether that is news. Memory is taken where the address said nothing
     /// before.
-    #[tactic(auto, using(crate::proofs::PlaceLemmas::set_again))]
+    #[tactic(auto, using(crate::proofs::PlaceLemmas::set_again, crate::proofs::PlaceLemmas::empty_again))]
     pub(crate) fn note(
         &mut self,
         alloc: Global,
@@ -86,6 +86,7 @@ impl LastMessages {
         ensures after { OnOk result (self.new
             ≡ slice_set self.old source (Some (said_by payload.now (option_map name_raw name)))) }
         ensures first { OnErr result (at self.old source ≡ None) }
+        ensures kept { OnErr result (self.new ≡ self.old) }
     {
         let Some(mut said) = self.take(source) else {
             self.put(source, Stored::new(alloc, LastMessage::new(payload, name))?);

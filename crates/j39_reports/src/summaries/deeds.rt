@@ -47,6 +47,7 @@ impl<'t> Deeds<'t> {
     pub fn begin(alloc: Global, stamp: Stamp, value: Value<'t, '_>) -> Result<Deeds<'t>, AllocError>
         ensures begun { IfOk result (λ deeds. (origin : Origin)
             → row_shown (origin, deeds) ≡ begun (entry_at origin (stamp_micros stamp) (value_of value.entry))) }
+        ensures wanted { OnErr result (IsText (value_of value.entry)) }
     {
         let first = Kept::of(alloc, value)?;
         let last = Kept::of(alloc, value)?;
