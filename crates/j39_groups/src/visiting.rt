@@ -4,7 +4,7 @@ ghost use Rattle.std.specs.List.{flat_map, list_all};
 ghost use Rattle.std.specs.Option.{option_map, option_to_list};
 ghost use Rattle.j39_groups.specs.Fields.{HasOneValue};
 ghost use Rattle.j39_groups.specs.Lines.{row_readings, text_readings};
-ghost use Rattle.j39_groups.specs.Models.{reading_of, row_record, scale_record, short_value, value_of};
+ghost use Rattle.j39_groups.specs.Models.{no_slot, reading_of, row_record, scale_record, short_value, value_of};
 ghost use Rattle.j39_groups.specs.Readings.{readings_at};
 ghost use Rattle.j39_groups.specs.Rows.{is_row};
 ghost use Rattle.j39_groups.specs.Value.{ReadingRecord};
@@ -125,8 +125,7 @@ fn visit_row<'t, M, V: ReadingVisitor<'t, M>>(
             medium,
         ),
         Field::Switch { byte, low, .. } => {
-            let switch = switch_at(bytes, *byte, *low);
-            visit_short(row.spn, switch, &Scale::NONE, visitor, medium)
+            visit_switch(row.spn, switch_at(bytes, *byte, *low), visitor, medium)
         }
         _ => visit_other(row, bytes, visitor, medium),
     }
@@ -153,6 +152,43 @@ fn visit_short<'t, M, V: ReadingVisitor<'t, M>>(
         Some(Short::Number(number)) => visitor.visit(spn, Value::Number(number, *scale), medium),
         Some(word) => visit_word(spn, word, scale, visitor, medium),
     }
+}
+
+/// Hands on what a switch says, where it says something.
+#[inline(always)]
+fn visit_switch<'t, M, V: ReadingVisitor<'t, M>>(
+    spn: u32,
+    word: Option<Short>,
+    visitor: &mut V,
+    medium: &mut M,
+) -> Result<(), V::Fault>
+    ensures taken { OnOk result (Takes V.has_taken visitor.old medium.old visitor.new medium.new
+        (map (λ value. record { spn = spn; value = value })
+        (option_to_list (option_map (short_value no_slot) word)))) }
+    ensures stopped { OnErr result (Stops V.has_taken V.has_stopped visitor.old medium.old visitor.new medium.new
+        (map (λ value. record { spn = spn; value = value })
+        (option_to_list (option_map (short_value no_slot) word)))) }
+{
+    match word {
+        None => Ok(()),
+        Some(word) => visit_said(spn, word, visitor, medium),
+    }
+}
+
+/// Hands on a word that a switch says.
+#[inline(never)]
+fn visit_said<'t, M, V: ReadingVisitor<'t, M>>(
+    spn: u32,
+    word: Short,
+    visitor: &mut V,
+    medium: &mut M,
+) -> Result<(), V::Fault>
+    ensures taken { OnOk result (Takes V.has_taken visitor.old medium.old visitor.new medium.new
+        (record { spn = spn; value = short_value no_slot word } ∷ [])) }
+    ensures stopped { OnErr result (Stops V.has_taken V.has_stopped visitor.old medium.old visitor.new medium.new
+        (record { spn = spn; value = short_value no_slot word } ∷ [])) }
+{
+    visitor.visit(spn, word.with(Scale::NONE), medium)
 }
 
 /// Hands on a word, which few values are.

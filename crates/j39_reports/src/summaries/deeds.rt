@@ -205,7 +205,8 @@ impl<'t> Span<'t> {
         ensures { Some (range_of_span self.new) ≡ widened (Some (range_of_span self.old))
             (Some (record { value = number; slot = scale_record scale.entry })) }
     {
-        if are_comparable(self.scale, scale) {
+        // Most numbers lie within, whatever they are compared with.
+        if (number < self.least || self.most < number) && are_comparable(self.scale, scale) {
             self.least = self.least.min(number);
             self.most = self.most.max(number);
         }

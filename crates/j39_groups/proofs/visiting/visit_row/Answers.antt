@@ -19,25 +19,25 @@ pub returns-in-Number-clause-stopped : goal.returns-in-Number-clause-stopped
 unfolding values_at
 returns-in-Number-clause-stopped g c = rw (c.in-Number.is, ← c.number_of.ensures) c.visit_short.ensures.stopped
 
-pub switch_at-switch-requires-clause-byte : goal.switch_at-switch-requires-clause-byte
-switch_at-switch-requires-clause-byte g c =
+pub switch_at-requires-clause-byte : goal.switch_at-requires-clause-byte
+switch_at-requires-clause-byte g c =
     let sound : IsSoundPair c.in-Switch.byte c.in-Switch.low c.in-Switch.high = rw c.in-Switch.is at (field_sound c.args.row.now.field (row_is c.args.row.now c.requires).sound) in
     sound.byte_starts
 
-pub switch_at-switch-requires-clause-starts : goal.switch_at-switch-requires-clause-starts
-switch_at-switch-requires-clause-starts g c =
+pub switch_at-requires-clause-starts : goal.switch_at-requires-clause-starts
+switch_at-requires-clause-starts g c =
     let sound : IsSoundPair c.in-Switch.byte c.in-Switch.low c.in-Switch.high = rw c.in-Switch.is at (field_sound c.args.row.now.field (row_is c.args.row.now c.requires).sound) in
     sound.starts
 
-pub switch_at-switch-requires-clause-ends : goal.switch_at-switch-requires-clause-ends
-switch_at-switch-requires-clause-ends g c =
+pub switch_at-requires-clause-ends : goal.switch_at-requires-clause-ends
+switch_at-requires-clause-ends g c =
     let sound : IsSoundPair c.in-Switch.byte c.in-Switch.low c.in-Switch.high = rw c.in-Switch.is at (field_sound c.args.row.now.field (row_is c.args.row.now c.requires).sound) in
     omega (arith, sound.two, sound.ends)
 
 pub returns-in-Switch-clause-taken : goal.returns-in-Switch-clause-taken
 unfolding values_at
-returns-in-Switch-clause-taken g c = rw (c.in-Switch.is, ← c.switch_at-switch.ensures) c.visit_short-in-Switch.ensures.taken
+returns-in-Switch-clause-taken g c = rw (c.in-Switch.is, ← c.switch_at.ensures) c.visit_switch.ensures.taken
 
 pub returns-in-Switch-clause-stopped : goal.returns-in-Switch-clause-stopped
 unfolding values_at
-returns-in-Switch-clause-stopped g c = rw (c.in-Switch.is, ← c.switch_at-switch.ensures) c.visit_short-in-Switch.ensures.stopped
+returns-in-Switch-clause-stopped g c = rw (c.in-Switch.is, ← c.switch_at.ensures) c.visit_switch.ensures.stopped
