@@ -5,7 +5,7 @@ use Rattle.j39_groups.specs.Readings.{HaveSameGroups, rows_of_spns}
 use Rattle.j39_groups.specs.Row.{RowRecord}
 use Rattle.j39_groups.specs.Table.{the_table}
 use Rattle.j39_table.specs.FaultWords.{fault_text}
-use Rattle.j39_table.specs.Tables.{HasRowLine, IsFaultOf, IsTableOf, lines_of}
+use Rattle.j39_table.specs.Tables.{IsFaultOf, IsTableOf, WantsMemory}
 use Rattle.j39_table.specs.declared.fault.TableFault.{TableFault}
 use Rattle.j39_table.specs.declared.fault.TableFault.TheVariants.{Memory}
 use Rattle.j39_web.specs.Text.{IsFullOf}
@@ -33,9 +33,9 @@ IsNoTable given fault = (given ≢ []) × (fault ≢ Memory) × IsFaultOf given 
 abbrev pub IsWrongTable : List ℕ → Type 0
 IsWrongTable given = (fault : TableFault) × IsNoTable given fault
 
--- the table that is given has a row's line: rows want memory
+-- the rows of the table that is given want memory
 abbrev pub WantsRows : List ℕ → Type 0
-WantsRows given = HasRowLine (lines_of given)
+WantsRows given = WantsMemory given
 
 -- the room is full of what is written of the table, or of why it is none
 abbrev pub TableOverflows : List ℕ → List ℕ → Type 0

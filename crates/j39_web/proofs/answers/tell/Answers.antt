@@ -1,4 +1,5 @@
-use Rattle.std.proofs.Common.{rules, inr, subst}
+use Rattle.std.proofs.Common.{inl, inr, refl, rules, subst}
+use Rattle.j39_table.specs.Tables.{IsFaultOf}
 use Rattle.j39_web.specs.Text.{AsksSomewhere, Overflows}
 use Rattle.j39_web.specs.Writings.{asks, makes}
 use Rattle.j39_web.proofs.answers.tell.Goals as goal
@@ -23,4 +24,18 @@ returns-in-Ok c = record {
   answers = search rules;
   kept = search rules;
   untouched = search rules;
+}
+
+-- the table is none, or its rows want memory
+pub returns-in-Err : goal.returns-in-Err
+returns-in-Err c = record {
+  made = search rules;
+  fits = search rules;
+  overflows = search rules;
+  memory = λ no. inl (subst (λ fault. IsFaultOf c.args.table.now fault) (c.refused.ensures.memory no) c.in-Err.ensures.wrong);
+  bus = search rules;
+  table = λ wrong. (c.in-Err.fault, (c.in-Err.ensures.some, c.refused.ensures.wrong wrong, c.in-Err.ensures.wrong));
+  answers = search rules;
+  kept = λ _. refl;
+  untouched = λ _. refl;
 }
