@@ -4,25 +4,25 @@ const NAME_FIELDS = ['arbitrary', 'industry', 'systemInstance', 'system', 'reser
   'functionInstance', 'ecuInstance', 'manufacturer', 'identity'];
 
 let asked = null; // {file, bus, table, names, rows}
-let place = null; // where it lies in a module's memory; none once its report was made, until it is wanted again
+let place = null; // the instance in whose memory it lies, as `given`; another one once its report was made
 
 // Lays the log into an instance's memory, with its interface's name and its table; once more where need be.
 async function layLog(tell) {
-  if (place) return;
-  const it = instance();
+  const it = place ||= instance();
+  if (it.given) return;
   const log = { at: it.free, size: asked.file.size };
   it.free += (log.size + 7) & ~7;
   grow(it.it.memory, it.free);
   await load(asked.file, log.at, it.it.memory, tell);
   it.given = [log, put(it, asked.bus), put(it, asked.table)];
-  place = it;
 }
 
 // The groups' names by the table, 'PGN SPN' -> name; and the words for a table that is none.
 function groupNames(given) {
-  const it = instance();
+  const it = place ||= instance(), { free } = it;
   const table = put(it, given.bytes);
   const { answer, bytes } = textOf(it, 'j39_groups', [table], ROOM, WRONG_TABLE);
+  it.free = free;
   const text = textIn(bytes);
   if (answer === WRONG_TABLE) throw new Error(given.name + text);
   const names = new Map();

@@ -1,7 +1,8 @@
-// The readings of a parameter of a controller, as `j39_series` tells them: their moments in milliseconds, their values, which are
-// words, and the whole numbers that the values are made of, in halves, with their places. Each is told in 24 bytes: the moment in microseconds, the value in units of its last place, both of 64 bits, the low half first,
-// how many places it has and what it is.
+// The readings of a parameter of a controller, as `j39_series` tells them: their moments in milliseconds, their values, and which
+// are words. Each is told in 24 bytes: the moment in microseconds, the value in units of its last place, both of 64 bits, the low
+// half first, how many places it has, and what it is. Where a double doesn't hold all of a number, its halves are kept too.
 const POINT = 24, HIGH = 2 ** 32;
+const WIDE = 2 ** 19; // the high half of a number that a double may not hold with all of its digits
 const WORDS = [0, 0, 0, 1, 2, 3, 4]; // a number, off and on are drawn; an error, an indicator, a reserved value and a text are words
 const MOST_KEPT = 8; // how many parameters' readings are kept: as many as are plotted at once
 const GAP = 5, LEAST_GAP = 1000; // a gap is longer than so many medians, and than so many milliseconds
@@ -18,20 +19,22 @@ function originOf({ address, destination, name, pgn, spn }) {
 
 function pointsIn(bytes) {
   const n = bytes.length / POINT, words = new Uint32Array(bytes.buffer, bytes.byteOffset, 6 * n);
-  const it = { n, at: new Float64Array(n), value: new Float64Array(n), kind: new Uint8Array(n), high: new Int32Array(n), low: new Uint32Array(n), places: new Uint8Array(n) };
+  const it = { n, at: new Float64Array(n), value: new Float64Array(n), kind: new Uint8Array(n), places: new Uint8Array(n) };
+  let isWide = false;
   for (let k = 0, i = 0; k < n; k++, i += 6) {
+    const high = words[i + 3] | 0;
+    isWide ||= high >= WIDE || high < -WIDE;
     it.at[k] = (words[i + 1] * HIGH + words[i]) / 1000;
-    it.low[k] = words[i + 2];
-    it.high[k] = words[i + 3];
     it.places[k] = words[i + 4];
     it.kind[k] = WORDS[words[i + 5]];
-    it.value[k] = it.kind[k] ? NaN : (it.high[k] * HIGH + it.low[k]) / 10 ** it.places[k];
+    it.value[k] = it.kind[k] ? NaN : (high * HIGH + words[i + 2]) / 10 ** it.places[k];
   }
-  return it;
+  return isWide ? { ...it, low: new Uint32Array(n).map((_, k) => words[6 * k + 2]), high: new Int32Array(n).map((_, k) => words[6 * k + 3]) } : it;
 }
 
 // The digits of a number, which are the report's.
-function digitsAt({ high, low, places }, k) {
+function digitsAt({ value, high, low, places }, k) {
+  if (!high) return value[k].toFixed(places[k]);
   const number = BigInt(high[k]) * BigInt(HIGH) + BigInt(low[k]), sign = number < 0n ? '-' : '';
   const digits = String(number).replace('-', '').padStart(places[k] + 1, '0'), point = digits.length - places[k];
   return sign + digits.slice(0, point) + (places[k] ? `.${digits.slice(point)}` : '');
@@ -39,7 +42,8 @@ function digitsAt({ high, low, places }, k) {
 
 // Whether a number is below another, which in a double may be the same.
 function isBelow({ value, high, low }, j, k) {
-  return value[j] < value[k] || value[j] === value[k] && (high[j] < high[k] || high[j] === high[k] && low[j] < low[k]);
+  if (!high || value[j] !== value[k]) return value[j] < value[k];
+  return high[j] < high[k] || high[j] === high[k] && low[j] < low[k];
 }
 
 // Where stamps go back, each as [from, to]; the first hundred, and how many there are.
@@ -61,22 +65,26 @@ function inOrder(series) {
   return { ...Object.fromEntries(sorted), backs };
 }
 
-// A silence that is longer than this is a gap.
-function longestStep({ at, n }) {
+// A silence that is longer than this is a gap. The steps are put in order in memory that nobody needs any more.
+function longestStep({ at, n }, memory) {
   if (n < 2) return Infinity;
-  const apart = new Float64Array(n - 1);
+  const apart = memory.subarray(0, n - 1);
   for (let k = 1; k < n; k++) apart[k - 1] = at[k] - at[k - 1];
   apart.sort();
   return Math.max(GAP * apart[apart.length >> 1], LEAST_GAP);
+}
+
+function seriesIn(bytes) {
+  const series = inOrder(pointsIn(bytes));
+  return { ...series, longest: longestStep(series, new Float64Array(bytes.buffer, bytes.byteOffset, series.n)) };
 }
 
 // The readings of a row.
 function seriesOf(i) {
   if (!kept.has(i)) {
     const row = asked.rows[i];
-    const series = inOrder(withText('j39_series', originOf(row), undefined, row.count * POINT + MEMORY_PAGE, pointsIn));
     if (kept.size >= MOST_KEPT) kept.delete(kept.keys().next().value);
-    kept.set(i, { ...series, longest: longestStep(series) });
+    kept.set(i, withText('j39_series', originOf(row), undefined, row.count * POINT + MEMORY_PAGE, seriesIn));
   }
   return kept.get(i);
 }
