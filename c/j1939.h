@@ -74,6 +74,8 @@ typedef struct {
     uint8_t source;              /**< the address that sent it */
     uint8_t is_named;            /**< 0 where no claim tells who sent it */
     uint8_t data[J1939_LONGEST]; /**< its bytes */
+    uint8_t is_addressed;        /**< 0 where no destination is told: only a listener tells one */
+    uint8_t destination;         /**< the address it was sent to, 255 for all, where is_addressed is not 0 */
 } j1939_message;
 
 /* ---- identifiers and NAMEs */

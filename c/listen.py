@@ -15,7 +15,8 @@ class Frame(ctypes.Structure):
 class Message(ctypes.Structure):
     _fields_ = [("micros", ctypes.c_uint64), ("name", ctypes.c_uint64), ("pgn", ctypes.c_uint32),
                 ("len", ctypes.c_uint16), ("source", ctypes.c_uint8), ("is_named", ctypes.c_uint8),
-                ("data", ctypes.c_uint8 * 1785)]
+                ("data", ctypes.c_uint8 * 1785),
+                ("is_addressed", ctypes.c_uint8), ("destination", ctypes.c_uint8)]
 
 
 class Reading(ctypes.Structure):

@@ -22,6 +22,8 @@ struct Message {
     source: u8,
     is_named: u8,
     data: [u8; 1785],
+    is_addressed: u8,
+    destination: u8,
 }
 
 #[repr(C)]

@@ -203,6 +203,7 @@ static void listeners(void) {
         EXPECT(j1939_listener_feed(&listener, &next, &message) == (k == 3));
     }
     EXPECT(message.len == 20 && message.pgn == 65260 && message.is_named && message.source == 0x80);
+    EXPECT(!message.is_addressed); /* a group of PF 254 has no destination */
     EXPECT(j1939_listener_feed(&listener, &bam, &message) == 0);
     EXPECT(j1939_listener_close(&listener) == 0); /* with a message open */
     EXPECT(j1939_listener_close(&listener) == 0);

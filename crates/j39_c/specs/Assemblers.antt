@@ -9,10 +9,10 @@ use Rattle.j39_transport.specs.Stands.{Stands}
 use Rattle.j39_transport.specs.AssemblerStep.{AssemblerRecord}
 use Rattle.j39_listen.specs.Heard.{Hearing}
 
--- with the frame f after E this message is whole, of no NAME, or none is
+-- with the frame f after E this message is whole, of no NAME and with no destination told, or none is
 abbrev pub IsWholeAt : List Event → FrameRecord → Option Hearing → Type 0
 IsWholeAt E f None = NoneWhole E f
-IsWholeAt E f (Some h) = (h.stamp ≡ f.stamp) × (h.name ≡ None) × WholeBy E f h.message
+IsWholeAt E f (Some h) = (h.stamp ≡ f.stamp) × (h.name ≡ None) × (h.destination ≡ None) × WholeBy E f h.message
 
 -- with one frame more it stands for that too, and this message is whole with it, or none
 pub record PutsTogether (old : AssemblerRecord) (frame : FrameRecord) (message : Option Hearing)

@@ -87,7 +87,7 @@ IsAnswer now (pos zero) can m a = a ≡ record { sends = None; delivers = None }
 IsAnswer now (pos (suc zero)) can m a = Sends can now a.sends × (a.delivers ≡ None)
 IsAnswer now (pos (suc (suc n))) can m a = Sends can now a.sends
     × (whole : MessageRecord) × (a.delivers ≡ Some whole)
-    × (hearing_in m ≡ record { message = whole; stamp = now; name = None })
+    × (hearing_in m ≡ record { message = whole; destination = None; stamp = now; name = None })
 IsAnswer now (negsuc n) can m a = ⊥
 
 -- it takes the step of a frame at the frame's own moment, stands for it too, and answers so

@@ -27,6 +27,10 @@ pub struct WholeMessage {
     pub is_named: u8,
     /// Its bytes; what stands behind the first `len` says nothing.
     pub data: [u8; LONGEST],
+    /// 0 where no destination is told: an assembler and a receiver tell none.
+    pub is_addressed: u8,
+    /// The address that a listener heard it sent to, 255 for all, where `is_addressed` isn't 0.
+    pub destination: u8,
 }
 
 impl WholeMessage {
@@ -36,13 +40,15 @@ impl WholeMessage {
         ensures { hearing_in self.new ≡ hearing_of heard.now }
     {
         self.put_message(&heard.message, heard.name);
+        self.put_destination(heard.destination);
     }
 
-    /// Writes out a message, and who sent it.
+    /// Writes out a message, and who sent it; no destination.
     pub(crate) fn put_message(&mut self, message: &Message<'_>, name: Option<Name>)
         requires { length message.now.payload.now ≤ 1785 }
         ensures { hearing_in self.new ≡ record {
           message = message_of message.now;
+          destination = None;
           stamp = stamp_micros message.now.stamp;
           name = option_map name_raw name;
         } }
@@ -54,6 +60,7 @@ impl WholeMessage {
         self.pgn = message.pgn.raw();
         self.source = message.source;
         self.put_name(name);
+        self.put_destination(None);
     }
 
     fn put_name(&mut self, name: Option<Name>)
@@ -67,6 +74,21 @@ impl WholeMessage {
             None => {
                 self.is_named = 0;
                 self.name = 0;
+            }
+        }
+    }
+
+    fn put_destination(&mut self, destination: Option<u8>)
+        ensures { hearing_in self.new ≡ record (hearing_in self.old) { destination = destination } }
+    {
+        match destination {
+            Some(address) => {
+                self.is_addressed = 1;
+                self.destination = address;
+            }
+            None => {
+                self.is_addressed = 0;
+                self.destination = 0;
             }
         }
     }
