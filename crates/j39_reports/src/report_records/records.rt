@@ -124,7 +124,7 @@ impl<'g, 't, W: Sink> ReadingVisitor<'t, W> for Records<'g, 't> {
 #[inline(always)]
 fn begin_of(heard: &Heard<'_>, group: &[u8], second: &mut Second) -> Begin
     ensures { begun_fields result group.now ≡ begin_text (stamp_micros heard.now.message.stamp) heard.now.message.source
-        (option_map name_raw heard.now.name) (pgn_raw heard.now.message.pgn) ++ later_text group.now }
+        heard.now.destination (option_map name_raw heard.now.name) (pgn_raw heard.now.message.pgn) ++ later_text group.now }
 {
     let mut head = [0; HEAD];
     let quick = group_before(&mut head, group);

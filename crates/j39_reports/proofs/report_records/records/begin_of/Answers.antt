@@ -21,7 +21,7 @@ begun (Some at) old mid new from begin group fits fits_too first second =
 pub returns : goal.returns
 returns c =
     let heard = c.args.heard.now in
-    let text = begin_text (stamp_micros heard.message.stamp) heard.message.source (option_map name_raw heard.name) (pgn_raw heard.message.pgn) in
+    let text = begin_text (stamp_micros heard.message.stamp) heard.message.source heard.destination (option_map name_raw heard.name) (pgn_raw heard.message.pgn) in
     let quick = c.group_before-quick in
     let from = c.begin_before-from in
     rw c.is_some.ensures (begun quick.result _ quick.new.out from.new.out from.result text (later_text c.args.group.now) (omega arith) (omega (arith, quick.array_long)) quick.ensures.written
