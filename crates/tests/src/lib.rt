@@ -10,6 +10,8 @@ mod controller_pairs;
 #[cfg(test)]
 mod listener_memory;
 #[cfg(test)]
+mod quick_lines;
+#[cfg(test)]
 mod raw_values;
 #[cfg(test)]
 mod receiver_memory;
