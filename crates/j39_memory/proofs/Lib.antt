@@ -1,2 +1,4 @@
 -- a list sorted by the numbers of its items
 mod SortLemmas
+-- the values that an index shows
+mod IndexLemmas

@@ -73,7 +73,7 @@ impl GroupTable {
     ghost use Rattle.j39_reports.specs.GroupCounts.{GroupRecord};
     ghost use Rattle.j39_reports.specs.SurveyModels.{HaveCounted, group_record};
 
-    /// Of no frames. This takes memory, 0.8 MiB, and nothing else does.
+    /// Of no frames. This takes memory, and nothing else does.
     pub fn new(alloc: Global) -> Result<GroupTable, AllocError>
         ensures { IfOk result (λ table. HaveCounted table []) }
     {
@@ -82,6 +82,7 @@ impl GroupTable {
     }
 
     /// One frame more.
+    #[inline(always)]
     pub fn add(&mut self, id: Id)
         ensures { (F : List FrameRecord) (f : FrameRecord) → f.id ≡ id_raw id → HaveCounted self.old F
             → HaveCounted self.new (F ++ f ∷ []) }
@@ -94,6 +95,7 @@ impl GroupTable {
     }
 
     /// What was counted of a group.
+    #[inline(always)]
     pub fn count(&self, pgn: Pgn) -> (u64, u64)
         requires { IsHeardGroup (pgn_raw pgn) }
         ensures { (F : List FrameRecord) → HaveCounted self.now F

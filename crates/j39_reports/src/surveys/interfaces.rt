@@ -28,6 +28,7 @@ pub(crate) struct InterfaceCounts {
 
 impl InterfaceCounts {
     /// One frame more.
+    #[inline(always)]
     fn add(&mut self, stamp: u64)
         ensures { interface_record self.new ≡ with_stamp stamp (interface_record self.old) }
     {
@@ -38,6 +39,7 @@ impl InterfaceCounts {
     }
 
     /// One frame more where this is its name, and whether it is.
+    #[inline(always)]
     fn add_where(&mut self, name: &[u8], stamp: u64) -> bool
         ensures found { result ≡ bytes_eq name.now (interface_record self.old).name }
         ensures met { interface_record self.new ≡ met_on name.now stamp (interface_record self.old) }
@@ -120,6 +122,7 @@ fn named(name: &[u8]) -> InterfaceCounts
 }
 
 /// Adds a frame where one of these has this name, and says whether one has.
+#[inline(always)]
 fn meet(told: &mut [InterfaceCounts], name: &[u8], stamp: u64) -> bool
     ensures found { result ≡ list_any (λ i. bytes_eq name.now i.name) (map interface_record told.old) }
     ensures met { map interface_record told.new

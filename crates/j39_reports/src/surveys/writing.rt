@@ -129,6 +129,7 @@ fn put_each<W: Sink>(
 }
 
 /// Writes the line of the group of this number, where it has frames.
+#[inline(always)]
 fn put_at<W: Sink>(
     groups: &Groups<'_>,
     table: &GroupTable,
@@ -150,6 +151,7 @@ fn put_at<W: Sink>(
 }
 
 /// Writes the line of a group, where it has frames.
+#[inline(always)]
 #[tactic(auto, unfolding(crate::specs::SurveyText::group_text))]
 fn put_group<W: Sink>(
     groups: &Groups<'_>,
