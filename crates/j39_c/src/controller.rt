@@ -11,7 +11,7 @@ ghost use Rattle.j39_c.specs.Codes.{IsDone, IsRefused, bad_value, in_use, no_mem
 ghost use Rattle.j39_c.specs.Controllers.{BeginsFrom, Broadcasts, CanBegin, CanTransfer, Holds, LetsTurn, TakesAsked};
 ghost use Rattle.j39_c.specs.Controllers.{TakesFrame, TakesIn, TakesReceived, TakesSettled, Transfers};
 ghost use Rattle.j39_c.specs.Controllers.{asked, begun, received, settled, wish_in};
-ghost use Rattle.j39_c.specs.Messages.{named};
+ghost use Rattle.j39_c.specs.Messages.{marked};
 ghost use Rattle.j39_c.specs.Parts.{controller_in};
 
 use crate::can::{CanFrame, frame_in};
@@ -269,7 +269,7 @@ pub extern "C" fn j39_controller_take_frame(
 }
 
 /// Takes the message that a controller received first of those that weren't taken yet: 1 where there is one, which is
-/// in `out`, of no NAME, and went to `destination`, 255 for a broadcast; else 0. -2 where the handle holds no
+/// in `out`, of no NAME and no destination there, and went to `destination`, 255 for a broadcast; else 0. -2 where the handle holds no
 /// controller.
 #[unsafe(no_mangle)]
 pub extern "C" fn j39_controller_take_received(
@@ -280,7 +280,8 @@ pub extern "C" fn j39_controller_take_received(
 ) -> i32
     ensures asks { Asks controller_in ⊤ controller.old.part result controller.new.part
         (λ old new. TakesReceived old (received result out.new destination.new) new) Never }
-    ensures unnamed { result ≡ pos 1 → named out.new.is_named out.new.name ≡ None }
+    ensures unnamed { result ≡ pos 1 → marked out.new.is_named out.new.name ≡ None }
+    ensures unaddressed { result ≡ pos 1 → marked out.new.is_addressed out.new.destination ≡ None }
     ensures refused { IsRefused result → controller.new.part ≡ controller.old.part }
     ensures answers { Answers 1 (no_part ∷ []) result }
     ensures fills_out { Fills (pos 1 ∷ []) result (out.new ≡ out.old) }

@@ -5,7 +5,7 @@ ghost use Rattle.j39_address.specs.Name.{name_raw};
 ghost use Rattle.j39_c.specs.Calls.{Fills, Puts};
 ghost use Rattle.j39_c.specs.Codes.{told};
 ghost use Rattle.j39_c.specs.Controllers.{asked, received, settled, wish_in};
-ghost use Rattle.j39_c.specs.Messages.{named};
+ghost use Rattle.j39_c.specs.Messages.{marked};
 
 use crate::can::{CanFrame, write_frame};
 use crate::message::WholeMessage;
@@ -73,7 +73,8 @@ pub(crate) fn put_received(
     ensures puts { Puts message 1 (pos 1 ∷ []) result (received result out.new destination.new)
         (out.new ≡ out.old) }
     ensures fills_destination { Fills (pos 1 ∷ []) result (destination.new ≡ destination.old) }
-    ensures unnamed { result ≡ pos 1 → named out.new.is_named out.new.name ≡ None }
+    ensures unnamed { result ≡ pos 1 → marked out.new.is_named out.new.name ≡ None }
+    ensures unaddressed { result ≡ pos 1 → marked out.new.is_addressed out.new.destination ≡ None }
 {
     let Some(message) = message else {
         return 0;

@@ -15,6 +15,7 @@ returns-in-Delivered-clause-receives c =
         (c.write_packet-in-Delivered.ensures.moment ∙ at, ap (λ r. (answer_of r).sends) c.in-Delivered.is ∙ ap Some (sym c.write_packet-in-Delivered.ensures.value)),
         message_of c.in-Delivered.whole,
         ap (λ r. (answer_of r).delivers) c.in-Delivered.is,
-        c.put_message.ensures ∙ ap (λ (t : ℕ). record { message = message_of c.in-Delivered.whole; stamp = t; name = None }) (c.in-Delivered.ensures.stamp ∙ at),
+        c.put_message.ensures
+            ∙ ap (λ (t : ℕ). record { message = message_of c.in-Delivered.whole; destination = None; stamp = t; name = None }) (c.in-Delivered.ensures.stamp ∙ at),
       ),
     )
