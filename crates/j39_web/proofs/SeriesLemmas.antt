@@ -1,6 +1,5 @@
 -- The readings of one parameter of one controller, frame by frame and reading by reading.
-use Rattle.std.proofs.Common.{◌≡◌, ◌+◌, ◌∙◌, ◌&&◌, ◌==◌, ◌++◌, ◌∷◌, ℕ, Bool, List, [], Option, Result, Ok, Err, if◌then◌else◌, append_assoc, append-nil, length, map, ap, refl, subst, sym}
-use Rattle.std.specs.Prelude.{IsErr}
+use Rattle.std.proofs.Common.{◌≡◌, ◌∙◌, ◌&&◌, ◌==◌, ◌++◌, ◌∷◌, ℕ, Bool, List, [], Option, Result, Err, if◌then◌else◌, append_assoc, append-nil, map, ap, refl, subst, sym}
 use Rattle.std.specs.List.{flat_map}
 use Rattle.std.proofs.lemmas.Grind.{flat_map-append}
 use Rattle.std.proofs.lemmas.List.{map-append}
@@ -8,10 +7,9 @@ use Rattle.j39_frame.specs.Frame.{FrameRecord}
 use Rattle.j39_io.specs.Puts.{Puts}
 use Rattle.j39_io.specs.Turn.{Device}
 use Rattle.j39_io.proofs.PutsLemmas.{puts_as, puts_failed, puts_first, puts_nothing, puts_then}
-use Rattle.j39_groups.specs.Row.{RowRecord}
 use Rattle.j39_groups.specs.Value.{ReadingRecord, ValueRecord}
 use Rattle.j39_groups.specs.Visits.{Stops, Takes}
-use Rattle.j39_listen.specs.AccountCalls.{Begins, Meets, WritesOn}
+use Rattle.j39_listen.specs.AccountCalls.{Begins, Meets}
 use Rattle.j39_listen.specs.AccountCalls.{Stops as StopsFrames}
 use Rattle.j39_listen.specs.Heard.{Hearing}
 use Rattle.j39_listen.specs.Listening.{Hears}

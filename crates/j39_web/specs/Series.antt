@@ -1,5 +1,5 @@
 -- The readings of one parameter of one controller, as numbers.
-use Rattle.std.specs.Prelude.{◌==◌, ◌&&◌, not, nat_lt, ℕ, ℤ, pos, Bool, List, [], ◌++◌, Option, Some, None, if◌then◌else◌}
+use Rattle.std.specs.Prelude.{◌==◌, ◌&&◌, nat_lt, ℕ, ℤ, pos, Bool, List, [], ◌++◌, Option, Some, None, if◌then◌else◌}
 use Rattle.std.specs.Int.{cast_unsigned, to_le_bytes, w32, w64}
 use Rattle.j39_frame.specs.Origin.{is_same_or_none}
 use Rattle.j39_groups.specs.Row.{RowRecord}

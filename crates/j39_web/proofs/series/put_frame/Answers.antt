@@ -1,5 +1,4 @@
 -- A message is heard at the frame or none.
-use Rattle.std.proofs.Common.{refl}
 use Rattle.j39_listen.specs.HeardModel.{hearing_of}
 use Rattle.j39_listen.proofs.ListenerLemmas.{on_ok}
 use Rattle.j39_listen.proofs.ReportAccount.{meets_heard, meets_silent, stops_heard}
