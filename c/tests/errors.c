@@ -197,6 +197,14 @@ static void listeners(void) {
     allowed = 0; /* at an announcement, after which the frame may be fed again */
     EXPECT(j1939_listener_feed(&listener, &bam, &message) == J1939_NO_MEMORY);
     allowed = -1;
+    j1939_frame to_all = bam; /* a group of PF 239 is sent where its packets are, here to all */
+    to_all.data[5] = 0x00, to_all.data[6] = 0xEF;
+    EXPECT(j1939_listener_feed(&listener, &to_all, &message) == 0);
+    for (uint8_t k = 1; k <= 3; k++) {
+        j1939_frame next = packet(k);
+        EXPECT(j1939_listener_feed(&listener, &next, &message) == (k == 3));
+    }
+    EXPECT(message.pgn == 0xEF00 && message.is_addressed && message.destination == 255);
     EXPECT(j1939_listener_feed(&listener, &bam, &message) == 0);
     for (uint8_t k = 1; k <= 3; k++) {
         j1939_frame next = packet(k);
