@@ -1,7 +1,7 @@
 // The parameters of the log, of which some are ticked to be plotted.
 const MOST_PLOTS = 8;
 const PARAMETER_COLUMNS = [
-  { name: 'address', value: row => senderOf(row) }, { name: 'name', value: row => row.title }, { name: 'unit', value: row => row.unit },
+  { name: 'address', value: row => row.address }, { name: 'destination', value: row => row.destination }, { name: 'name', value: row => row.title }, { name: 'unit', value: row => row.unit },
   { name: 'values', value: row => row.count, kind: 'n' }, { name: 'least', value: row => row.least, kind: 'n' }, { name: 'most', value: row => row.most, kind: 'n' },
   { name: 'first', value: row => row.first, kind: 'n' }, { name: 'last', value: row => row.last, kind: 'n' }, { name: 'SPN', value: row => row.spn, kind: 'n' },
   { name: 'group', value: row => row.group }, { name: 'PGN', value: row => row.pgn, kind: 'n' }, { name: 'NAME', value: row => row.name, kind: 'code' },

@@ -51,8 +51,8 @@ no_run mark run first end = record {
   none_behind = rw end refl;
 }
 
-pub no_runs : (run : Run) → run.first ≡ 0 → run.end ≡ 0 → AreRuns (replicate 4096 run) []
-no_runs run first end mark d below = let at = get_or-replicate 4096 mark run d below in rw at (no_run mark run first end)
+pub no_runs : (run : Run) → run.first ≡ 0 → run.end ≡ 0 → AreRuns (replicate 2048 run) []
+no_runs run first end mark d below = let at = get_or-replicate 2048 mark run d below in rw at (no_run mark run first end)
 
 all_of_one : {X : Type 0} (p : X → Bool) (x : X) (xs : List X) → p x ≡ true → list_all p xs ≡ true → list_all p (xs ++ (x ∷ [])) ≡ true
 all_of_one p x xs here all = list_all-append p xs (x ∷ []) ∙ (rw (all, here) refl)

@@ -5,9 +5,9 @@ use Rattle.std.specs.List.{list_all}
 use Rattle.j39_groups.specs.declared.row.Row.{Row}
 use Rattle.j39_groups.specs.declared.runs.Run.{Run}
 
--- one of 4,096; of a page, two groups of PF 240 and more have two marks
+-- one of 2,048; of a page, at most two groups of PF 240 and more share one
 abbrev pub mark_of : ℕ → ℕ
-mark_of pgn = bit_xor pgn (pgn / 256) % 4096
+mark_of pgn = bit_xor pgn (pgn / 256) % 2048
 
 abbrev pub is_elsewhere : ℕ → Row → Bool
 is_elsewhere mark row = not (mark_of row.pgn == mark)
@@ -19,4 +19,4 @@ pub record IsRun (rows : List Row) (mark : ℕ) (run : Run) : Type 0 where
   pub none_behind : list_all (is_elsewhere mark) (drop run.end rows) ≡ true
 
 abbrev pub AreRuns : List Run → List Row → Type 0
-AreRuns runs rows = (mark : ℕ) (d : Run) → mark < 4096 → IsRun rows mark (slice_index_or runs mark d)
+AreRuns runs rows = (mark : ℕ) (d : Run) → mark < 2048 → IsRun rows mark (slice_index_or runs mark d)

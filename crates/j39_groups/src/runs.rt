@@ -1,4 +1,4 @@
-//! Where the rows of a group are sought: each of 4,096 marks has the run of the rows of its groups.
+//! Where the rows of a group are sought: each of 2,048 marks has the run of the rows of its groups.
 ghost use Rattle.std.specs.Prelude.{◌≡◌, ◌==◌, ◌+◌, ◌<◌, ◌≤◌, filter, length, true};
 ghost use Rattle.std.specs.List.{list_all, list_any};
 ghost use Rattle.j39_groups.specs.Rows.{is_row};
@@ -6,9 +6,9 @@ ghost use Rattle.j39_groups.specs.Runs.{AreRuns, mark_of};
 
 use crate::row::Row;
 
-/// How many marks there are: as many as a page has groups of PF 240 and more, so that few groups share one. A run of two
+/// How many marks there are: half as many as a page has groups of PF 240 and more, so that few groups share one. A run of two
 /// groups has all rows between them too.
-const MARKS: usize = 4096;
+const MARKS: usize = 2048;
 
 /// Where all rows with a mark lie, and other rows may.
 #[derive(Clone, Copy)]
@@ -69,7 +69,7 @@ pub(crate) fn has_group(rows: &[Row<'_>], pgn: u32) -> bool
 #[inline(always)]
 fn mark_of(pgn: u32) -> usize
     ensures value { result ≡ mark_of pgn }
-    ensures fits { result < 4096 }
+    ensures fits { result < 2048 }
 {
-    ((pgn ^ pgn >> 8) % 4096) as usize
+    ((pgn ^ pgn >> 8) % 2048) as usize
 }

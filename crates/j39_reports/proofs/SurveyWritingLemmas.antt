@@ -3,7 +3,6 @@ use Rattle.std.proofs.Common.{◌≡◌, ◌+◌, ◌++◌, ◌<◌, ◌≤◌, 
 use Rattle.std.specs.Prelude.{codes, decimal, IsErr, Result, Ok, Err}
 use Rattle.std.specs.List.{flat_map}
 use Rattle.std.specs.Io.KnownBytes.{Keeps}
-use Rattle.std.proofs.lemmas.Bool.{ne_eqb}
 use Rattle.std.proofs.lemmas.List.Folds.{flat_map-map}
 use Rattle.j39_io.specs.Device.{Marks}
 use Rattle.j39_io.specs.Puts.{Puts}
@@ -20,7 +19,7 @@ use Rattle.j39_reports.specs.LogLines.{LogLine, others_in, seen_in, unread_in}
 use Rattle.j39_reports.proofs.GroupLemmas.{sources_of-unheard}
 use Rattle.j39_reports.specs.SurveyModels.{HasSurveyed, interface_record, others_record, shown_record}
 use Rattle.j39_reports.specs.UnreadLines.{is_printed_log, shown_in}
-use Rattle.j39_reports.specs.SurveyText.{class_text, group_text, groups_end, groups_from, groups_text, name_text, survey_end, survey_head}
+use Rattle.j39_reports.specs.SurveyText.{class_text, group_line, group_text, groups_end, groups_from, groups_text, name_text, survey_end, survey_head}
 use Rattle.j39_listen.specs.Counting.{capped}
 use Rattle.j39_reports.specs.Interfaces.{interfaces_of, untold_in}
 use Rattle.j39_reports.specs.OtherLines.{others_of}
@@ -107,21 +106,14 @@ module _ (table : List RowRecord) (F : List FrameRecord) where
 abbrev pub head_text : ℕ → ℕ → ℕ → List ℕ
 head_text pgn frames addresses = codes "group " ++ decimal pgn ++ codes " frames " ++ decimal frames ++ codes " addresses " ++ decimal addresses
 
-pub group_is : (table : List RowRecord) (pgn frames addresses : ℕ) → frames ≢ 0
-    → group_text table pgn (record { frames = frames; addresses = addresses })
-    ≡ head_text pgn frames addresses ++ (class_text table pgn ++ (name_text (group_name_in table pgn) ++ (newline ∷ [])))
-unfolding group_text
-group_is table pgn frames addresses some = rw (ne_eqb frames 0 some) refl
-
 -- the parts that are joined
-pub group_joined : (table : List RowRecord) (pgn frames addresses : ℕ) (head class space name : List ℕ) → frames ≢ 0 → head ≡ head_text pgn frames addresses
+pub group_joined : (table : List RowRecord) (pgn frames addresses : ℕ) (head class space name : List ℕ) → head ≡ head_text pgn frames addresses
     → class ≡ class_text table pgn → space ++ name ≡ name_text (group_name_in table pgn)
-    → head ++ (class ++ (space ++ (name ++ (newline ∷ [])))) ≡ group_text table pgn (record { frames = frames; addresses = addresses })
-group_joined table pgn frames addresses head class space name some head_is class_is name_is =
+    → head ++ (class ++ (space ++ (name ++ (newline ∷ [])))) ≡ group_line table pgn (record { frames = frames; addresses = addresses })
+group_joined table pgn frames addresses head class space name head_is class_is name_is =
     ap (λ t. t ++ (class ++ (space ++ (name ++ (newline ∷ []))))) head_is
     ∙ ap (λ t. head_text pgn frames addresses ++ (t ++ (space ++ (name ++ (newline ∷ []))))) class_is
     ∙ ap (λ t. head_text pgn frames addresses ++ (class_text table pgn ++ t)) (sym (append_assoc space name (newline ∷ [])) ∙ ap (λ t. t ++ (newline ∷ [])) name_is)
-    ∙ sym (group_is table pgn frames addresses some)
 
 -- ---- the whole
 

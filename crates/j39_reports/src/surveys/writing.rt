@@ -12,7 +12,7 @@ ghost use Rattle.j39_reports.specs.GroupCounts.{group_of};
 ghost use Rattle.j39_reports.specs.LogLines.{LogLine};
 ghost use Rattle.j39_reports.specs.SurveyModels.{HasSurveyed, HaveCounted, interface_record, others_record, shown_record};
 ghost use Rattle.j39_reports.specs.UnreadLines.{is_printed_log};
-ghost use Rattle.j39_reports.specs.SurveyText.{class_text, group_text, groups_from, groups_text, interface_text, name_text, printed_text, shown_text, survey_end, survey_head, survey_text};
+ghost use Rattle.j39_reports.specs.SurveyText.{class_text, group_line, group_text, groups_from, groups_text, interface_text, name_text, printed_text, shown_text, survey_end, survey_head, survey_text};
 
 use crate::parts::put_parts;
 use crate::surveys::group_table::GroupTable;
@@ -164,8 +164,24 @@ fn put_group<W: Sink>(
         result (turn W.written W.has_failed sink.old sink.new) }
 {
     if frames == 0 {
-        return Ok(());
+        Ok(())
+    } else {
+        put_line(groups, pgn, frames, addresses, sink)
     }
+}
+
+/// Writes the line of a group that has frames. Few have: by itself, it leaves the walk over all groups short.
+#[inline(never)]
+fn put_line<W: Sink>(
+    groups: &Groups<'_>,
+    pgn: Pgn,
+    frames: u64,
+    addresses: u64,
+    sink: &mut W,
+) -> Result<(), DeviceFault>
+    ensures { Puts (group_line groups.now (pgn_raw pgn) (record { frames = frames; addresses = addresses }))
+        result (turn W.written W.has_failed sink.old sink.new) }
+{
     let head = group_head(pgn.raw(), frames, addresses);
     let (space, name) = name_of(groups, pgn);
     let parts: [&[u8]; 5] = [head.as_slice(), class_of(groups, pgn), space, name, b"\n"];

@@ -4,4 +4,4 @@ use Rattle.j39_groups.proofs.runs.runs_of.Given as goal
 
 -- the rows so far lie in the runs of their marks
 abbrev pub invariant-loop-at : goal.invariant-loop-at
-invariant-loop-at l = AreRuns l.runs (take l.at l.rows) × (length l.runs ≡ 4096)
+invariant-loop-at l = AreRuns l.runs (take l.at l.rows) × (length l.runs ≡ 2048)
