@@ -1,6 +1,6 @@
 -- The units of the built-in table are short.
 use Rattle.std.proofs.Common.{◌≡◌, ◌<◌, ◌∙◌, ◌+◌, ◌-◌, ◌/◌, ◌%◌, ◌^◌, ◌==◌, ℕ, zero, suc, List, [], ◌∷◌, Bool, true, false, Some, None, ap, arith, drop, get_or, inl, inr, length, map, refl, sym, take}
-use Rattle.std.specs.Prelude.{◌+ℤ◌, ◌*ℤ◌, ◌&&◌, Option, if◌then◌else◌, nat_le, nat_lt, pos, slice_get}
+use Rattle.std.specs.Prelude.{◌+ℤ◌, ◌*ℤ◌, ◌&&◌, ◌||◌, Option, if◌then◌else◌, nat_le, nat_lt, pos, slice_get}
 use Rattle.std.specs.List.{filter_map, flat_map, list_all}
 use Rattle.std.specs.Option.{option_and_then, option_to_list}
 use Rattle.std.proofs.lemmas.Bool.{and_parts, cases_Bool}
@@ -65,10 +65,16 @@ top_is_short : (top : ℕ) (value : ValueRecord) → has_short_unit value ≡ tr
 unfolding by_top_byte
 top_is_short top value short = of_four (is_valid top) (nat_le top 0xFB) (nat_le top 0xFD) (nat_le top 0xFE) value short
 
+either_is_short : (a : Bool) (x y : Option ValueRecord) → is_short x → is_short y → is_short (if a then x else y)
+either_is_short true x y first second = first
+either_is_short false x y first second = second
+
 bits_are_short : (count : ℕ) (slot : SlotRecord) (raw : ℕ) → nat_le (length slot.unit) 7 ≡ true → is_short (bits_meaning count slot raw)
 unfolding bits_meaning
 bits_are_short count slot raw short =
-    of_two (nat_lt 1 count && raw + 1 == 2 ^ count) (count == 2 && raw == 2) (number (pos raw *ℤ slot.step +ℤ slot.offset) slot) short
+    let value = number (pos raw *ℤ slot.step +ℤ slot.offset) slot in
+    either_is_short (count % 8 == 0) _ _ (top_is_short (top_byte (count / 8) raw) value short)
+    (of_two (nat_lt 1 count && raw + 1 == 2 ^ count) ((count == 2 || count == 4) && raw + 2 == 2 ^ count) value short)
 
 switch_is_short : (bits : ℕ) → is_short (switch_meaning bits)
 unfolding switch_meaning

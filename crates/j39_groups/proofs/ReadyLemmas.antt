@@ -86,14 +86,16 @@ ends_number : (end : Ending) (count : ℕ) (slot : SlotRecord) (raw : Option ℕ
 ends_number end count slot None h = tt
 ends_number end count slot (Some raw) h = ends_by_top end _ _ h
 
-by_bits : (end : Ending) (a b : Bool) (v : ValueRecord) → HasEnd end v → IfSome (if a then None else (if b then Some error else Some v)) (HasEnd end)
-by_bits end true b v h = tt
-by_bits end false true v h = tt
-by_bits end false false v h = h
+by_bits : (end : Ending) (whole a b : Bool) (bytes : Option ValueRecord) (v : ValueRecord) → IfSome bytes (HasEnd end) → HasEnd end v
+    → IfSome (if whole then bytes else (if a then None else (if b then Some error else Some v))) (HasEnd end)
+by_bits end true a b bytes v h i = h
+by_bits end false true b bytes v h i = tt
+by_bits end false false true bytes v h i = tt
+by_bits end false false false bytes v h i = i
 
 ends_bits_of : (end : Ending) (count : ℕ) (slot : SlotRecord) (raw : ℕ) → IsEnd end slot → IfSome (bits_meaning count slot raw) (HasEnd end)
 unfolding bits_meaning
-ends_bits_of end count slot raw h = by_bits end _ _ _ h
+ends_bits_of end count slot raw h = by_bits end _ _ _ _ _ (ends_by_top end _ _ h) h
 
 ends_bits : (end : Ending) (count : ℕ) (slot : SlotRecord) (raw : Option ℕ) → IsEnd end slot → IfSome (option_and_then (bits_meaning count slot) raw) (HasEnd end)
 ends_bits end count slot None h = tt

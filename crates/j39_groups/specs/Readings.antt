@@ -39,11 +39,14 @@ raw_bits byte low count bytes =
     (slice_range bytes (byte - 1) (last_byte byte low count)) / 2 ^ (low - 1) % 2 ^ count)
     else None
 
--- two bits and more that are all set are not available; of two bits 10 is an error (J1939-71), any other number of more is valid (own)
+-- a number of 8, 16, 24 or 32 bits means what one of as many bytes does; of fewer, two and more that are all set are not
+-- available, and of two and of four the one below is an error (J1939-71, 5.1.4); any other is valid (own)
 unfoldable pub bits_meaning : ℕ → SlotRecord → ℕ → Option ValueRecord
 bits_meaning count slot raw =
-    if nat_lt 1 count && raw + 1 == 2 ^ count then None else
-    (if count == 2 && raw == 2 then Some error else Some (number (pos raw *ℤ slot.step +ℤ slot.offset) slot))
+    if count % 8 == 0 then number_meaning (count / 8) slot raw else
+    (if nat_lt 1 count && raw + 1 == 2 ^ count then None else
+    (if (count == 2 || count == 4) && raw + 2 == 2 ^ count then Some error else
+    Some (number (pos raw *ℤ slot.step +ℤ slot.offset) slot)))
 
 -- two bits: off, on, error, not available
 unfoldable pub switch_meaning : ℕ → Option ValueRecord

@@ -125,16 +125,20 @@ fn bits_of(bytes: &[u8], byte: u8, low: u8, count: u8, scale: &Scale<'_>) -> Opt
 #[inline]
 #[tactic(auto, unfolding(crate::specs::Readings::bits_meaning))]
 fn bits_meaning(raw: u32, count: u8, scale: &Scale<'_>) -> Option<Short>
+    requires some { 0 < count }
     requires few { count ≤ 32 }
     requires narrow { raw < 2 ^ count }
     requires fits { largest count scale.now < 2 ^ 63 }
     ensures { option_map (short_value (scale_record scale.now)) result ≡ bits_meaning count (scale_record scale.now) raw }
 {
-    let size = 1u64 << count;
-    if count > 1 && u64::from(raw) + 1 == size {
+    if count % 8 == 0 {
+        return number(raw, count / 8, scale);
+    }
+    let behind = 1u64 << count;
+    if count > 1 && u64::from(raw) + 1 == behind {
         return None;
     }
-    if count == 2 && raw == 2 {
+    if (count == 2 || count == 4) && u64::from(raw) + 2 == behind {
         return Some(Short::Error);
     }
     Some(Short::Number(scale.value(raw)))
