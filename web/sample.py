@@ -19,9 +19,9 @@ def drive(at):
 
 
 def engine(at):
-    speed = 650 + 11 * drive(at) + 180 * math.sin(at / 5_300) ** 2
+    turns = 650 + 11 * drive(at) + 180 * math.sin(at / 5_300) ** 2
     load = 30 + 0.5 * drive(at) * math.sin(at / 31_000) ** 2
-    return bytes([0xF0, 125 + int(load / 2), 125 + int(load)]) + bytes_of(speed * 8, 2) + b"\xff\xff\xff"
+    return bytes([0xF0, 125 + int(load / 2), 125 + int(load)]) + bytes_of(turns * 8, 2) + b"\xff\xff\xff"
 
 
 def speed(at):

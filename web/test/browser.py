@@ -10,6 +10,7 @@ import tempfile
 import time
 import traceback
 
+__all__ = ["TOP", "WIDE", "ActionChains", "By", "Keys", "ScrollOrigin", "WebDriverWait", "run", "start"]
 SKIPPED = 77
 try:
     from selenium import webdriver
@@ -63,7 +64,7 @@ class Trial:
         """A test that breaks off counts as a failure, and the next one finds a new page."""
         try:
             test(self)
-        except Exception as fault:
+        except Exception as fault:  # pylint: disable=broad-exception-caught
             where = ", ".join(str(frame.lineno) for frame in traceback.extract_tb(fault.__traceback__)[1:4])
             self.check(False, f"{test.__name__} breaks off at lines {where}: {type(fault).__name__} {str(fault).splitlines()[:1]}")
             self.browser.set_window_size(*WIDE)
