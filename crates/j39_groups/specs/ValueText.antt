@@ -5,6 +5,7 @@ use Rattle.std.specs.List.{flat_map}
 use Rattle.std.specs.Fmt.{decimal, digit_glyph, sign_text}
 use Rattle.j39_io.specs.Chars.{space, delete, quote, backslash}
 use Rattle.j39_io.specs.Printing.{last_digits}
+use Rattle.j39_io.specs.Records.{behind_front, escaped_front}
 use Rattle.j39_groups.specs.Value.{SlotRecord, ValueRecord, number, on, off, error, reserved, indicator, text}
 
 -- nothing where there are no places, else `.` and the last digits
@@ -56,6 +57,16 @@ bare_text error = value_text error
 bare_text reserved = value_text reserved
 bare_text indicator = value_text indicator
 bare_text (text bytes) = value_text (text bytes)
+
+-- a text as a field of a record: in quotes, and none that a spreadsheet takes for a formula
+abbrev pub text_in_field : List ℕ → List ℕ
+text_in_field bytes =
+    codes "\"" ++ (escaped_front bytes ++ (flat_map byte_text (behind_front bytes) ++ codes "\""))
+
+-- as a field of a record
+unfoldable pub value_field : ValueRecord → List ℕ
+value_field (text bytes) = text_in_field bytes
+value_field value = bare_text value
 
 -- the unit of a number; nothing else has one
 unfoldable pub unit_of : ValueRecord → List ℕ

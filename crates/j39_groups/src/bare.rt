@@ -3,17 +3,18 @@ ghost use Rattle.std.specs.Prelude.{◌≡◌};
 ghost use Rattle.j39_io.specs.Puts.{Puts};
 ghost use Rattle.j39_io.specs.Turn.{turn};
 ghost use Rattle.j39_groups.specs.Models.{value_of};
-ghost use Rattle.j39_groups.specs.ValueText.{bare_text, unit_of};
+ghost use Rattle.j39_groups.specs.ValueText.{text_in_field, unit_of, value_field};
 
-use crate::text::{put_value, scaled_text};
+use crate::text::{put_escaped, put_value, scaled_text};
 use crate::value::Value;
-use j39_io::{DeviceFault, Sink, put_all};
+use j39_io::{DeviceFault, Sink, put_all, without_formula};
 
 impl<'t> Value<'t, '_> {
-    /// Writes a number in decimal with its places, a word, or a text in quotes. After a fault a front of that was written.
-    #[tactic(auto, unfolding(crate::specs::ValueText::bare_text))]
-    pub fn put_bare<W: Sink>(self, sink: &mut W) -> Result<(), DeviceFault>
-        ensures { Puts (bare_text (value_of self.entry)) result (turn W.written W.has_failed sink.old sink.new) }
+    /// Writes what stands in a record: a number in decimal with its places, a word, or a text in quotes, none that a spreadsheet
+    /// takes for a formula. After a fault a front of that was written.
+    #[tactic(auto, unfolding(crate::specs::ValueText::bare_text, crate::specs::ValueText::value_field))]
+    pub fn put_field<W: Sink>(self, sink: &mut W) -> Result<(), DeviceFault>
+        ensures { Puts (value_field (value_of self.entry)) result (turn W.written W.has_failed sink.old sink.new) }
     {
         match self {
             Value::Number(number, scale) => {
@@ -24,7 +25,7 @@ impl<'t> Value<'t, '_> {
             Value::Error => put_value(&self, sink),
             Value::Reserved => put_value(&self, sink),
             Value::Indicator => put_value(&self, sink),
-            Value::Text(_) => put_value(&self, sink),
+            Value::Text(text) => put_text(text, sink),
         }
     }
 
@@ -43,4 +44,15 @@ impl<'t> Value<'t, '_> {
             Value::Text(_) => b"",
         }
     }
+}
+
+/// Writes a text in quotes. What would be a formula begins with `\x3D` or its like.
+fn put_text<W: Sink>(text: &[u8], sink: &mut W) -> Result<(), DeviceFault>
+    ensures { Puts (text_in_field text.now) result (turn W.written W.has_failed sink.old sink.new) }
+{
+    let (front, rest) = without_formula(text);
+    put_all(sink, b"\"")?;
+    put_all(sink, front)?;
+    put_escaped(rest, sink)?;
+    put_all(sink, b"\"")
 }

@@ -102,7 +102,7 @@ fn put_quoted<W: Sink>(text: &[u8], sink: &mut W) -> Result<(), DeviceFault>
 }
 
 /// Writes each byte as it is or escaped.
-fn put_escaped<W: Sink>(text: &[u8], sink: &mut W) -> Result<(), DeviceFault>
+pub(crate) fn put_escaped<W: Sink>(text: &[u8], sink: &mut W) -> Result<(), DeviceFault>
     ensures { Puts (flat_map byte_text text.now) result (turn W.written W.has_failed sink.old sink.new) }
 {
     for &byte in text {

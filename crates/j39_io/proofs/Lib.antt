@@ -9,3 +9,5 @@ pub mod PrintingLemmas
 pub mod BackwardsLemmas
 -- digits by vectors
 pub mod VectorLemmas
+-- fields of records
+pub mod CsvLemmas

@@ -1,6 +1,7 @@
 -- A record of comma-separated values (RFC 4180).
-use Rattle.std.specs.Prelude.{◌==◌, ◌||◌, ◌∷◌, ◌++◌, ℕ, List, [], Bool, if◌then◌else◌, codes}
+use Rattle.std.specs.Prelude.{◌==◌, ◌&&◌, ◌||◌, ◌∷◌, ◌++◌, ℕ, List, [], Bool, false, if◌then◌else◌, codes, drop, length, not, take}
 use Rattle.std.specs.List.{flat_map, list_any}
+use Rattle.hex.specs.Hex.{encode_upper}
 use Rattle.j39_io.specs.Chars.{carriage_return, newline, quote}
 
 abbrev pub comma : ℕ
@@ -17,9 +18,29 @@ quoted_byte byte = if byte == quote then codes "\"\"" else byte ∷ []
 abbrev pub in_quotes : List ℕ → List ℕ
 in_quotes bytes = codes "\"" ++ flat_map quoted_byte bytes ++ codes "\""
 
--- a field as it is, or in quotes where it has a byte that must be
+-- what a spreadsheet takes for a formula: it begins with `=`, `+`, `-` or `@`, and goes on (own)
+unfoldable pub is_formula : List ℕ → Bool
+is_formula [] = false
+is_formula (first ∷ rest) =
+    (first == 0x3D || (first == 0x2B || (first == 0x2D || first == 0x40))) && not (length rest == 0)
+
+-- what stands for the first byte of a formula: `\x` and two upper-case hex digits; nothing where it is none
+unfoldable pub escaped_front : List ℕ → List ℕ
+escaped_front bytes = if is_formula bytes then codes "\\x" ++ encode_upper (take 1 bytes) else []
+
+-- what is behind that
+unfoldable pub behind_front : List ℕ → List ℕ
+behind_front bytes = if is_formula bytes then drop 1 bytes else bytes
+
+abbrev pub without_formula : List ℕ → List ℕ
+without_formula bytes = escaped_front bytes ++ behind_front bytes
+
+-- as it is, or in quotes where it has a byte that must be
+abbrev pub as_field : List ℕ → List ℕ
+as_field bytes = if list_any is_special bytes then in_quotes bytes else bytes
+
 unfoldable pub field_text : List ℕ → List ℕ
-field_text bytes = if list_any is_special bytes then in_quotes bytes else bytes
+field_text bytes = as_field (without_formula bytes)
 
 -- a field that isn't the first of its record stands behind a comma
 abbrev pub later_text : List ℕ → List ℕ

@@ -1,14 +1,14 @@
 //! A record, field by field (RFC 4180).
-ghost use Rattle.std.specs.Prelude.{◌≡◌, map};
+ghost use Rattle.std.specs.Prelude.{◌≡◌, ◌++◌, codes, map};
 ghost use Rattle.std.specs.List.{flat_map, list_any};
 ghost use Rattle.j39_io.specs.Puts.{Puts};
 ghost use Rattle.j39_io.specs.Turn.{turn};
-ghost use Rattle.j39_io.specs.Records.{field_text, in_quotes, is_special, later_text, quoted_byte, record_text};
+ghost use Rattle.j39_io.specs.Records.{behind_front, escaped_front, field_text, is_formula, is_special, later_text, quoted_byte, record_text};
 
 use crate::device::{DeviceFault, Sink, put_all};
 
 /// Writes a record: the first field and those behind it, with a comma between each two, one in quotes where it has a
-/// comma, a quote or an end of line, and an end of line behind them (RFC 4180, 2). After a fault a front of it was written.
+/// comma, a quote or an end of line, and an end of line behind them (RFC 4180, 2). None begins a formula (`without_formula`). After a fault a front of it was written.
 pub fn put_record<W: Sink>(first: &[u8], later: &[&[u8]], sink: &mut W) -> Result<(), DeviceFault>
     ensures { Puts (record_text first.now (map (λ field. field.now) later.now))
         result (turn W.written W.has_failed sink.old sink.new) }
@@ -37,14 +37,55 @@ pub fn put_behind_comma<W: Sink>(field: &[u8], sink: &mut W) -> Result<(), Devic
     put_field(field, sink)
 }
 
-#[tactic(auto, unfolding(crate::specs::Records::field_text))]
 fn put_field<W: Sink>(field: &[u8], sink: &mut W) -> Result<(), DeviceFault>
     ensures { Puts (field_text field.now) result (turn W.written W.has_failed sink.old sink.new) }
 {
-    if has_special(field) {
-        put_quoted(field, sink)
+    let (front, rest) = without_formula(field);
+    if has_special(rest) {
+        put_quoted(front, rest, sink)
     } else {
-        put_all(sink, field)
+        put_all(sink, front)?;
+        put_all(sink, rest)
+    }
+}
+
+/// Whether a spreadsheet would take a field for a formula: it begins with `=`, `+`, `-` or `@`, and goes on (own).
+#[inline]
+#[tactic(auto, unfolding(crate::specs::Records::is_formula))]
+pub fn is_formula(field: &[u8]) -> bool
+    ensures { result ≡ is_formula field.now }
+{
+    match field.split_first() {
+        None => false,
+        Some((first, rest)) => {
+            (*first == b'=' || *first == b'+' || *first == b'-' || *first == b'@')
+                && !rest.is_empty()
+        }
+    }
+}
+
+/// What stands for the first byte of a field that a spreadsheet would take for a formula, and the bytes behind it; of any
+/// other field nothing, and all of it.
+#[tactic(auto, unfolding(crate::specs::Records::is_formula, crate::specs::Records::escaped_front, crate::specs::Records::behind_front))]
+pub fn without_formula(field: &[u8]) -> (&[u8], &[u8])
+    ensures front { result.0.now ≡ escaped_front field.now }
+    ensures rest { result.1.now ≡ behind_front field.now }
+{
+    let nothing: &[u8] = b"";
+    match field.split_first() {
+        None => (nothing, field),
+        Some((first, rest)) => {
+            if rest.is_empty() {
+                return (nothing, field);
+            }
+            match *first {
+                b'=' => (b"\\x3D", rest),
+                b'+' => (b"\\x2B", rest),
+                b'-' => (b"\\x2D", rest),
+                b'@' => (b"\\x40", rest),
+                _ => (nothing, field),
+            }
+        }
     }
 }
 
@@ -56,11 +97,14 @@ pub fn has_special(field: &[u8]) -> bool
     field.iter().any(|byte| *byte == b',' || *byte == b'"' || *byte == b'\r' || *byte == b'\n')
 }
 
-fn put_quoted<W: Sink>(field: &[u8], sink: &mut W) -> Result<(), DeviceFault>
-    ensures { Puts (in_quotes field.now) result (turn W.written W.has_failed sink.old sink.new) }
+/// Writes a field in quotes, of which the front has no quote.
+fn put_quoted<W: Sink>(front: &[u8], rest: &[u8], sink: &mut W) -> Result<(), DeviceFault>
+    ensures { Puts (codes "\"" ++ (front.now ++ (flat_map quoted_byte rest.now ++ codes "\"")))
+        result (turn W.written W.has_failed sink.old sink.new) }
 {
     put_all(sink, b"\"")?;
-    put_doubled(field, sink)?;
+    put_all(sink, front)?;
+    put_doubled(rest, sink)?;
     put_all(sink, b"\"")
 }
 

@@ -8,6 +8,6 @@ mod digits;
 pub mod printing;
 pub mod vectors;
 
-pub use csv::{has_special, put_behind_comma, put_record};
+pub use csv::{has_special, is_formula, put_behind_comma, put_record, without_formula};
 pub use device::{DeviceFault, Sink, Source, Told, put_all};
 pub use digits::number;

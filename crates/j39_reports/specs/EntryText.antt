@@ -6,7 +6,7 @@ use Rattle.j39_io.specs.Records.{comma, later_text, line_end}
 use Rattle.j39_groups.specs.Names.{group_name_in, name_in}
 use Rattle.j39_groups.specs.Row.{RowRecord}
 use Rattle.j39_groups.specs.Value.{ValueRecord}
-use Rattle.j39_groups.specs.ValueText.{bare_text, unit_of}
+use Rattle.j39_groups.specs.ValueText.{unit_of, value_field}
 use Rattle.j39_listen.specs.Report.{Entry}
 
 -- the names of the columns
@@ -31,7 +31,7 @@ named_fields begun spn parameter = begun ++ (comma ∷ decimal spn) ++ later_tex
 
 -- the value, its unit, and the end of the line
 unfoldable pub value_fields : ValueRecord → List ℕ
-value_fields value = (comma ∷ bare_text value) ++ (later_text (unit_of value) ++ line_end)
+value_fields value = (comma ∷ value_field value) ++ (later_text (unit_of value) ++ line_end)
 
 -- the record of an entry
 abbrev pub entry_record : List RowRecord → Entry → List ℕ

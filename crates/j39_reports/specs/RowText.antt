@@ -6,8 +6,8 @@ use Rattle.j39_io.specs.Chars.{newline}
 use Rattle.j39_log.specs.StampText.{stamp_text}
 use Rattle.j39_groups.specs.Names.{name_in}
 use Rattle.j39_groups.specs.Row.{RowRecord}
-use Rattle.j39_groups.specs.Value.{ValueRecord}
-use Rattle.j39_groups.specs.ValueText.{bare_text, scaled_text}
+use Rattle.j39_groups.specs.Value.{ValueRecord, text}
+use Rattle.j39_groups.specs.ValueText.{bare_text, quoted, scaled_text, text_in_field}
 use Rattle.j39_reports.specs.Columns.{moment_fields, sender_fields}
 use Rattle.j39_io.specs.Records.{later_text, line_end}
 use Rattle.j39_listen.specs.Report.{name_text}
@@ -83,8 +83,17 @@ unfoldable pub range_in : Format → Option Range → List ℕ
 range_in form None = no_range form
 range_in form (Some r) = bounds_in form r ++ unit_in form r.slot.unit
 
+abbrev pub text_as : Format → List ℕ → List ℕ
+text_as Line bytes = quoted bytes
+text_as Record bytes = text_in_field bytes
+
+-- a number without its unit, or what else there is
+unfoldable pub value_as : Format → ValueRecord → List ℕ
+value_as form (text bytes) = text_as form bytes
+value_as form value = bare_text value
+
 unfoldable pub value_in : Format → ValueRecord → List ℕ
-value_in form value = separator_of form ++ bare_text value
+value_in form value = separator_of form ++ value_as form value
 
 -- the range, the first value and the last
 unfoldable pub values_in : Format → Option Range → ValueRecord → ValueRecord → List ℕ

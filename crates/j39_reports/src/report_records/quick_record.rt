@@ -5,14 +5,14 @@ ghost use Rattle.std.specs.Simd.Lanes.{mask_l};
 ghost use Rattle.j39_io.specs.Backwards.{WritesBefore};
 ghost use Rattle.j39_io.specs.Records.{is_special, later_text};
 ghost use Rattle.j39_groups.specs.Models.{value_of};
-ghost use Rattle.j39_groups.specs.ValueText.{bare_text, scaled_text};
+ghost use Rattle.j39_groups.specs.ValueText.{scaled_text, value_field};
 ghost use Rattle.j39_reports.specs.EntryText.{named_fields, value_fields};
 ghost use Rattle.j39_reports.specs.MessageRecords.{begun_fields};
 
 use crate::report_records::begin::{Begin, digits_before};
 use j39_groups::{Value, magnitude_before};
 use j39_io::backwards::{byte_before, bytes_before, slice_before, tail_before};
-use j39_io::has_special;
+use j39_io::{has_special, is_formula};
 use std::simd::prelude::*;
 
 /// The bytes of a block that a record fits in: what it begins with, a number, a value, two fields of 64 bytes with
@@ -48,7 +48,8 @@ pub(crate) fn record_before(
     Some(tail_before(out, comma, &begin.head, begin.from))
 }
 
-/// Writes a comma and a field. `None`, and nothing of use is written, where it is long or must stand in quotes.
+/// Writes a comma and a field. `None`, and nothing of use is written, where it is long, must stand in quotes, or would be a
+/// formula.
 #[inline(always)]
 pub(crate) fn field_before(out: &mut [u8], end: usize, field: &[u8]) -> Option<usize>
     requires room { 64 ≤ end }
@@ -61,6 +62,9 @@ pub(crate) fn field_before(out: &mut [u8], end: usize, field: &[u8]) -> Option<u
         return None;
     }
     if may_be_special(field) {
+        return None;
+    }
+    if is_formula(field) {
         return None;
     }
     let first = slice_before(out, end, field);
@@ -107,12 +111,12 @@ fn bits_of(block: &[u8; 8], byte: u8) -> u64
 
 /// Writes a value without its unit.
 #[inline(always)]
-#[tactic(auto, unfolding(j39_groups::specs::ValueText::bare_text, j39_groups::specs::ValueText::value_text))]
+#[tactic(auto, unfolding(j39_groups::specs::ValueText::value_field, j39_groups::specs::ValueText::bare_text, j39_groups::specs::ValueText::value_text))]
 fn bare_before(out: &mut [u8], end: usize, value: Value<'_, '_>) -> Option<usize>
     requires room { 38 ≤ end }
     requires within { end ≤ length out.old }
     ensures written { IfSome result (λ start. WritesBefore out.old out.new end start
-        (bare_text (value_of value.entry))) }
+        (value_field (value_of value.entry))) }
     ensures short { IfSome result (λ start. end ≤ start + 38) }
 {
     match value {

@@ -207,7 +207,7 @@ fn put_value_and_unit<W: Sink>(value: Value<'_, '_>, sink: &mut W) -> Result<(),
     ensures { Puts (value_fields (value_of value.entry)) result (turn W.written W.has_failed sink.old sink.new) }
 {
     put_all(sink, b",")?;
-    value.put_bare(sink)?;
+    value.put_field(sink)?;
     let unit = value.unit();
     put_behind_comma(unit, sink)?;
     put_all(sink, b"\r\n")

@@ -6,8 +6,7 @@ ghost use Rattle.j39_io.specs.Puts.{Puts};
 ghost use Rattle.j39_io.specs.Turn.{turn};
 ghost use Rattle.j39_memory.specs.ByOrigin.{pairs_of};
 ghost use Rattle.j39_io.specs.Chars.{newline};
-ghost use Rattle.j39_groups.specs.ValueText.{bare_text};
-ghost use Rattle.j39_reports.specs.RowText.{bounds_in, called_in, end_in, head_in, destination_text, line_head, no_range, range_in, row_in, separator_of, summary_text, unit_in, value_in, values_in};
+ghost use Rattle.j39_reports.specs.RowText.{bounds_in, called_in, destination_text, end_in, head_in, line_head, no_range, range_in, row_in, separator_of, summary_text, text_as, unit_in, value_as, value_in, values_in};
 ghost use Rattle.j39_reports.specs.RowModels.{kept_value, range_of_span, row_shown};
 
 use crate::columns::push_behind;
@@ -190,7 +189,7 @@ fn put_column<W: Sink>(form: Format, kept: &Kept<'_>, sink: &mut W) -> Result<()
     ensures { Puts (value_in form (kept_value kept.now)) result (turn W.written W.has_failed sink.old sink.new) }
 {
     put_all(sink, separator(form))?;
-    put_kept(kept, sink)
+    put_kept(form, kept, sink)
 }
 
 /// What stands before a column.
@@ -205,9 +204,9 @@ fn separator(form: Format) -> &'static [u8]
 }
 
 /// Writes a value: a number without its unit.
-#[tactic(auto, unfolding(j39_groups::specs::ValueText::bare_text))]
-fn put_kept<W: Sink>(kept: &Kept<'_>, sink: &mut W) -> Result<(), DeviceFault>
-    ensures { Puts (bare_text (kept_value kept.now)) result (turn W.written W.has_failed sink.old sink.new) }
+#[tactic(auto, unfolding(j39_groups::specs::ValueText::bare_text, crate::specs::RowText::value_as))]
+fn put_kept<W: Sink>(form: Format, kept: &Kept<'_>, sink: &mut W) -> Result<(), DeviceFault>
+    ensures { Puts (value_as form (kept_value kept.now)) result (turn W.written W.has_failed sink.old sink.new) }
 {
     match kept {
         Kept::Number(number, scale) => {
@@ -218,7 +217,18 @@ fn put_kept<W: Sink>(kept: &Kept<'_>, sink: &mut W) -> Result<(), DeviceFault>
         Kept::Error => put_value(&Value::Error, sink),
         Kept::Reserved => put_value(&Value::Reserved, sink),
         Kept::Indicator => put_value(&Value::Indicator, sink),
-        Kept::Text(text) => put_value(&Value::Text(text.as_slice()), sink),
+        Kept::Text(text) => put_text(form, text.as_slice(), sink),
+    }
+}
+
+/// Writes a text, in a record as a field.
+#[tactic(auto, unfolding(j39_groups::specs::ValueText::value_text, j39_groups::specs::ValueText::value_field))]
+fn put_text<W: Sink>(form: Format, text: &[u8], sink: &mut W) -> Result<(), DeviceFault>
+    ensures { Puts (text_as form text.now) result (turn W.written W.has_failed sink.old sink.new) }
+{
+    match form {
+        Format::Line => put_value(&Value::Text(text), sink),
+        Format::Record => Value::Text(text).put_field(sink),
     }
 }
 

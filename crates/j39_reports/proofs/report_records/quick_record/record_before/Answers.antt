@@ -5,7 +5,7 @@ use Rattle.j39_io.specs.Records.{later_text, line_end}
 use Rattle.j39_io.proofs.BackwardsLemmas.{before_then}
 use Rattle.j39_groups.specs.Models.{value_of}
 use Rattle.j39_groups.specs.Value.{ValueRecord}
-use Rattle.j39_groups.specs.ValueText.{bare_text, unit_of}
+use Rattle.j39_groups.specs.ValueText.{unit_of, value_field}
 use Rattle.j39_reports.specs.EntryText.{named_fields, value_fields}
 use Rattle.j39_reports.specs.MessageRecords.{begun_fields}
 use Rattle.j39_reports.specs.declared.report_records.begin.Begin.{Begin}
@@ -17,12 +17,12 @@ regroup : (begun number name bare unit end : List ℕ)
 regroup begun number name bare unit end = simp append_assoc refl
 
 fields : (begin : Begin) (group parameter : List ℕ) (spn : ℕ) (value : ValueRecord) (unit : List ℕ) → begin.has_group ≡ true → unit ≡ unit_of value
-    → drop begin.from begin.head ++ ((44 ∷ []) ++ (decimal spn ++ (later_text parameter ++ ((44 ∷ []) ++ (bare_text value ++ (later_text unit ++ line_end))))))
+    → drop begin.from begin.head ++ ((44 ∷ []) ++ (decimal spn ++ (later_text parameter ++ ((44 ∷ []) ++ (value_field value ++ (later_text unit ++ line_end))))))
     ≡ named_fields (begun_fields begin group) spn parameter ++ value_fields value
 unfolding named_fields value_fields
 fields begin group parameter spn value unit has is =
-    ap (λ (u : List ℕ). drop begin.from begin.head ++ ((44 ∷ []) ++ (decimal spn ++ (later_text parameter ++ ((44 ∷ []) ++ (bare_text value ++ (later_text u ++ line_end))))))) is
-    ∙ (rw has (regroup (drop begin.from begin.head) (decimal spn) (later_text parameter) (bare_text value) (later_text (unit_of value)) line_end))
+    ap (λ (u : List ℕ). drop begin.from begin.head ++ ((44 ∷ []) ++ (decimal spn ++ (later_text parameter ++ ((44 ∷ []) ++ (value_field value ++ (later_text u ++ line_end))))))) is
+    ∙ (rw has (regroup (drop begin.from begin.head) (decimal spn) (later_text parameter) (value_field value) (later_text (unit_of value)) line_end))
 
 pub returns-clause-written : goal.returns-clause-written
 returns-clause-written c = λ group.
