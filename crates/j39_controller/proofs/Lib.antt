@@ -1,4 +1,5 @@
 mod ForgetLemmas
+mod FrontLemmas
 mod GoesLemmas
 mod MaySendLemmas
 mod ResultLemmas

@@ -1,8 +1,8 @@
 use Rattle.j39_controller.proofs.ResultLemmas.{ok_then}
 use Rattle.j39_controller.proofs.controller.Controller.pass.Goals as goal
 
-pub returns : goal.returns
-returns c = ok_then c.say.result _ _ c.say.ensures (λ said. record {
+pub returns-clause-passes : goal.returns-clause-passes
+returns-clause-passes c = ok_then c.say.result _ _ c.say.ensures.said (λ said. record {
   ticked = c.tick.new.self;
   tick = c.tick.ensures;
   after = c.start-claim.new.self;
