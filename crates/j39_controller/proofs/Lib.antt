@@ -3,3 +3,4 @@ mod FrontLemmas
 mod GoesLemmas
 mod MaySendLemmas
 mod ResultLemmas
+mod StartedLemmas

@@ -1,5 +1,5 @@
 //! The controller: its parts, and the loop round them.
-ghost use Rattle.std.specs.Prelude.{◌≡◌, ◌↔◌, ◌∷◌, ◌++◌, [], IfSome, IsOk, IsSome, IfOk, List, None, Some, false, length, drop, ◌<◌};
+ghost use Rattle.std.specs.Prelude.{◌≡◌, ◌≢◌, ◌↔◌, ◌∷◌, ◌++◌, [], IfSome, IsOk, IsSome, IfOk, List, None, Some, false, length, drop, ◌<◌};
 ghost use Rattle.std.specs.Option.{option_map, option_to_list};
 ghost use Rattle.std.specs.Result.{OnErr, OnOk};
 ghost use Rattle.j39_frame.specs.Address.{IsAddress};
@@ -9,6 +9,7 @@ ghost use Rattle.j39_frame.specs.Stamp.{stamp_micros};
 ghost use Rattle.j39_address.specs.Command.{command_by};
 ghost use Rattle.j39_address.specs.Name.{name_raw};
 ghost use Rattle.j39_address.specs.Node.{Node};
+ghost use Rattle.j39_address.specs.Node.NodeStatus.{Idle};
 ghost use Rattle.j39_controller.specs.MaySend.{MaySend, held_in};
 ghost use Rattle.j39_controller.specs.Outbox.{first_id};
 ghost use Rattle.j39_controller.specs.Queues.{IsFront};
@@ -220,10 +221,11 @@ impl Controller {
         }
     }
 
-    /// Lets time pass for its address: it claims its preferred one, and holds it 250 ms later. After an error what there
-    /// is to take stays.
+    /// Lets time pass for its address: it claims its preferred one at the first call, which alone may want memory, and
+    /// holds it 250 ms later. After an error what there is to take stays.
     pub fn pass(&mut self, now: Stamp) -> Result<(), AllocError>
         ensures passes { OnOk result (Passes self.old (stamp_micros now) self.new) }
+        ensures quiet { (node : Node) → HasNode self.old node → node.status ≢ Idle → IsOk result }
         ensures kept { LosesNothing self.old self.new }
     {
         self.node.tick(now);
@@ -310,6 +312,7 @@ impl Controller {
     /// Sends a claim, where the node answered one.
     fn say(&mut self, claim: Option<Frame>) -> Result<(), AllocError>
         ensures said { OnOk result (IsSaid self.old claim self.new) }
+        ensures quiet { claim ≡ None → IsOk result }
         ensures kept { LosesNothing self.old self.new }
     {
         match claim {
