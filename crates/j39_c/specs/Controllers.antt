@@ -2,6 +2,7 @@
 use Rattle.std.specs.Prelude.{◌≡◌, ◌≢◌, ◌<◌, ◌≤◌, ◌^◌, ◌++◌, ◌∷◌, [], ℕ, zero, suc, ℤ, pos, negsuc, Bool, true, false, Option, Some, None, IfSome, List, drop, length}
 use Rattle.std.specs.Option.{option_to_list}
 use Rattle.j39_address.specs.Node.{Node}
+use Rattle.j39_address.specs.Node.NodeStatus.{Idle}
 use Rattle.j39_frame.specs.Address.{IsAddress}
 use Rattle.j39_frame.specs.Frame.{FrameRecord}
 use Rattle.j39_controller.specs.Asked.{AskedRecord}
@@ -35,7 +36,13 @@ BeginsFrom c now address = (node : Node) → HasNode c node → IsFreeAt c now n
 abbrev pub LetsTurn : Controller → ℕ → Controller → Type 0
 LetsTurn old now new = (node : Node) → HasNode old node → Turns old now (held_in node.status) new
 
--- no memory was left for that: it holds an address, and what waits and what there is to take stays, in front of what came
+-- no memory was left for time to pass for its address: it was idle, and what there is to take stays, in front of what came
+pub record FailsToPass (old new : Controller) : Type 0 where
+  pub idle : (node : Node) → HasNode old node → node.status ≢ Idle → ⊥
+  pub kept : LosesNothing old new
+
+-- no memory was left for time to pass for its messages: it holds an address, and what waits and what there is to take stays,
+-- in front of what came
 pub record FailsToTurn (old new : Controller) : Type 0 where
   pub held : (node : Node) → HasNode old node → held_in node.status ≢ None
   pub kept : LosesNothing old new
