@@ -18,11 +18,14 @@ use Rattle.bus_demo.specs.declared.bus.Bus.{Bus}
 use Rattle.bus_demo.specs.declared.bus.book.Book.{Book}
 use Rattle.bus_demo.specs.declared.bus.player.Player.{Player}
 
--- a player took out the frame that waited first in it, where that may go
+-- a player took out the frame that waited first in it, exactly where that may go
 pub record TakesOut (old : Player) (wish : Option Wish) (new : Player) : Type 0 where
   pub may : (node : Node) → HasNode old.controller node → IfSome wish (λ w. MaySend node w.frame)
   pub goes : (node : Node) (first : Wish) (others : List Wish) → HasNode old.controller node
       → waiting_in old.controller ≡ first ∷ others → MaySend node first.frame → wish ≡ Some first
+  pub dropped : (node : Node) (first : Wish) (others : List Wish) → HasNode old.controller node
+      → waiting_in old.controller ≡ first ∷ others → (MaySend node first.frame → ⊥) → wish ≡ None
+  pub none : waiting_in old.controller ≡ [] → wish ≡ None
   pub next : waiting_in new.controller ≡ drop 1 (waiting_in old.controller)
   pub rest : KeepsButWaiting old.controller new.controller
   pub own : new ≡ record old { controller = new.controller }

@@ -1,13 +1,15 @@
 -- What a controller answers to C.
-use Rattle.std.specs.Prelude.{◌≡◌, ◌<◌, ◌≤◌, ◌^◌, ◌++◌, ◌∷◌, [], ℕ, zero, suc, ℤ, pos, negsuc, Bool, true, false, Option, Some, None, IfSome, List, drop, length}
+use Rattle.std.specs.Prelude.{◌≡◌, ◌≢◌, ◌<◌, ◌≤◌, ◌^◌, ◌++◌, ◌∷◌, [], ℕ, zero, suc, ℤ, pos, negsuc, Bool, true, false, Option, Some, None, IfSome, List, drop, length}
 use Rattle.std.specs.Option.{option_to_list}
 use Rattle.j39_address.specs.Node.{Node}
+use Rattle.j39_address.specs.Node.NodeStatus.{Idle}
 use Rattle.j39_frame.specs.Address.{IsAddress}
 use Rattle.j39_frame.specs.Frame.{FrameRecord}
 use Rattle.j39_controller.specs.Asked.{AskedRecord}
-use Rattle.j39_controller.specs.Controller.{BroadcastsAt, HasNode, IsFreeAt, IsSent, KeepsButAsked, KeepsButReceived, KeepsButSending, KeepsButTold, KeepsButWaiting, TransfersAt, Turns, asked_in, received_in, told_in, waiting_in}
+use Rattle.j39_controller.specs.Controller.{BroadcastsAt, HasNode, IsFreeAt, IsSent, KeepsButAsked, KeepsButReceived, KeepsButSending, KeepsButTold, KeepsButWaiting, LosesNothing, TransfersAt, Turns, asked_in, received_in, told_in, waiting_in}
 use Rattle.j39_controller.specs.Inbox.{ReceivedRecord, received_of}
 use Rattle.j39_controller.specs.MaySend.{MaySend, held_in}
+use Rattle.j39_controller.specs.Queues.{IsFront}
 use Rattle.j39_controller.specs.declared.controller.Controller.{Controller}
 use Rattle.j39_controller.specs.declared.outbox.MessageFrame.{MessageFrame}
 use Rattle.j39_controller.specs.declared.outbox.Wish.{Wish}
@@ -33,6 +35,18 @@ BeginsFrom c now address = (node : Node) → HasNode c node → IsFreeAt c now n
 -- time passes for its messages
 abbrev pub LetsTurn : Controller → ℕ → Controller → Type 0
 LetsTurn old now new = (node : Node) → HasNode old node → Turns old now (held_in node.status) new
+
+-- no memory was left for time to pass for its address: it was idle, and what there is to take stays, in front of what came
+pub record FailsToPass (old new : Controller) : Type 0 where
+  pub idle : (node : Node) → HasNode old node → node.status ≢ Idle → ⊥
+  pub kept : LosesNothing old new
+
+-- no memory was left for time to pass for its messages: it holds an address, and what waits and what there is to take stays,
+-- in front of what came
+pub record FailsToTurn (old new : Controller) : Type 0 where
+  pub held : (node : Node) → HasNode old node → held_in node.status ≢ None
+  pub kept : LosesNothing old new
+  pub waiting : IsFront (waiting_in old) (waiting_in new)
 
 -- ---- messages are handed in
 
@@ -83,11 +97,14 @@ wish_in (pos (suc (suc zero))) can number = Some (record { frame = frame_of can;
 wish_in (pos (suc (suc (suc n)))) can number = Some (record { frame = frame_of can; part = part_of number true })
 wish_in (negsuc n) can number = None
 
--- the first frame that waits is taken, and goes out where it may
+-- the first frame that waits is taken, and goes out exactly where it may
 pub record TakesFrame (old : Controller) (wish : Option Wish) (new : Controller) : Type 0 where
   pub may : (node : Node) → HasNode old node → IfSome wish (λ w. MaySend node w.frame)
   pub goes : (node : Node) (first : Wish) (others : List Wish) → HasNode old node
       → waiting_in old ≡ first ∷ others → MaySend node first.frame → wish ≡ Some first
+  pub dropped : (node : Node) (first : Wish) (others : List Wish) → HasNode old node
+      → waiting_in old ≡ first ∷ others → (MaySend node first.frame → ⊥) → wish ≡ None
+  pub none : waiting_in old ≡ [] → wish ≡ None
   pub next : waiting_in new ≡ drop 1 (waiting_in old)
   pub rest : KeepsButWaiting old new
 

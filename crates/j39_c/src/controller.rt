@@ -3,12 +3,12 @@ ghost use Rattle.std.specs.Prelude.{◌≡◌, ◌↔◌, ◌<◌, ◌^◌, ⊤,
 ghost use Rattle.j39_frame.specs.Address.{IsAddress};
 ghost use Rattle.j39_frame.specs.Pgn.{pgn_raw};
 ghost use Rattle.j39_frame.specs.Stamp.{stamp_micros};
-ghost use Rattle.j39_controller.specs.Controller.{Hears, IsNew, IsUnsent, Passes, waiting_in};
+ghost use Rattle.j39_controller.specs.Controller.{Hears, IsNew, IsUnsent, LosesNothing, Passes, waiting_in};
 ghost use Rattle.j39_controller.specs.Outbox.{first_id};
 ghost use Rattle.j39_c.specs.Calls.{Answers, Asks, Fills, Never, Opens};
 ghost use Rattle.j39_c.specs.Can.{Fits, frame_of};
 ghost use Rattle.j39_c.specs.Codes.{IsDone, IsRefused, bad_value, in_use, no_memory, no_part, told};
-ghost use Rattle.j39_c.specs.Controllers.{BeginsFrom, Broadcasts, CanBegin, CanTransfer, Holds, LetsTurn, TakesAsked};
+ghost use Rattle.j39_c.specs.Controllers.{BeginsFrom, Broadcasts, CanBegin, CanTransfer, FailsToPass, FailsToTurn, Holds, LetsTurn, TakesAsked};
 ghost use Rattle.j39_c.specs.Controllers.{TakesFrame, TakesIn, TakesReceived, TakesSettled, Transfers};
 ghost use Rattle.j39_c.specs.Controllers.{asked, begun, received, settled, wish_in};
 ghost use Rattle.j39_c.specs.Messages.{marked};
@@ -60,12 +60,13 @@ fn put_controller(alloc: Global, handle: &mut Handle, made: Controller) -> i32
 }
 
 /// Lets time pass for the address of a controller: it claims its preferred one, and holds it 250 ms later: 0. -1 for a
-/// moment of 10^16 microseconds and above, -2 where the handle holds no controller. -3 where memory is refused: some of
-/// the step may be done then.
+/// moment of 10^16 microseconds and above, -2 where the handle holds no controller. -3 where memory is refused, from an idle
+/// node alone: some of the step may be done then.
 #[unsafe(no_mangle)]
 pub extern "C" fn j39_controller_pass(alloc: Global, controller: &mut Handle, micros: u64) -> i32
     ensures asks { Asks controller_in (micros < 10 ^ 16) controller.old.part result controller.new.part
-        (λ old new. (result ≡ pos 0) × Passes old micros new) (λ _. IsSome (controller_in controller.new.part)) }
+        (λ old new. (result ≡ pos 0) × Passes old micros new)
+        (λ old. IsSomeAnd (controller_in controller.new.part) (λ new. FailsToPass old new)) }
     ensures answers { Answers 0 (bad_value ∷ no_part ∷ no_memory ∷ []) result }
 {
     let Some(now) = Stamp::new(micros) else {
@@ -75,12 +76,13 @@ pub extern "C" fn j39_controller_pass(alloc: Global, controller: &mut Handle, mi
 }
 
 /// Lets time pass for the messages of a controller, where it holds an address: 0. -1 for a moment of 10^16
-/// microseconds and above, -2 where the handle holds no controller. -3 where memory is refused: some of the step may be
-/// done then.
+/// microseconds and above, -2 where the handle holds no controller. -3 where memory is refused, while an address is held:
+/// some of the step may be done then.
 #[unsafe(no_mangle)]
 pub extern "C" fn j39_controller_turn(alloc: Global, controller: &mut Handle, micros: u64) -> i32
     ensures asks { Asks controller_in (micros < 10 ^ 16) controller.old.part result controller.new.part
-        (λ old new. (result ≡ pos 0) × LetsTurn old micros new) (λ _. IsSome (controller_in controller.new.part)) }
+        (λ old new. (result ≡ pos 0) × LetsTurn old micros new)
+        (λ old. IsSomeAnd (controller_in controller.new.part) (λ new. FailsToTurn old new)) }
     ensures answers { Answers 0 (bad_value ∷ no_part ∷ no_memory ∷ []) result }
 {
     let Some(now) = Stamp::new(micros) else {
@@ -99,7 +101,7 @@ pub extern "C" fn j39_controller_hear(
 ) -> i32
     ensures asks { Asks controller_in (Fits frame.now) controller.old.part result controller.new.part
         (λ old new. (result ≡ pos 0) × Hears old (frame_of frame.now) new)
-        (λ _. IsSome (controller_in controller.new.part)) }
+        (λ old. IsSomeAnd (controller_in controller.new.part) (λ new. LosesNothing old new)) }
     ensures answers { Answers 0 (bad_value ∷ no_part ∷ no_memory ∷ []) result }
 {
     let Some(heard) = frame_in(frame) else {

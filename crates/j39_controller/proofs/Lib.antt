@@ -1,4 +1,6 @@
 mod ForgetLemmas
+mod FrontLemmas
 mod GoesLemmas
 mod MaySendLemmas
 mod ResultLemmas
+mod StartedLemmas

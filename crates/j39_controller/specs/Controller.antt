@@ -21,6 +21,7 @@ use Rattle.j39_controller.specs.Inbox.{ReceivedRecord}
 use Rattle.j39_controller.specs.Listening.{HasForgotten, PutsTogether, is_to_all, told_of}
 use Rattle.j39_controller.specs.MaySend.{MaySend, held_in}
 use Rattle.j39_controller.specs.Outbox.{posted, withdrawn}
+use Rattle.j39_controller.specs.Queues.{IsFront}
 use Rattle.j39_controller.specs.Receiving.{ListensAt, ReceivesIn, TicksLate, is_receiving}
 use Rattle.j39_controller.specs.Sending.{BeginsBroadcast, BeginsTransfer, HasLost, IsFree, Polls, Ticks, hears, new_sending, on_its_way}
 use Rattle.j39_controller.specs.declared.controller.Controller.{Controller}
@@ -69,6 +70,12 @@ KeepsButTold old new = new ≡ record old { settled = new.settled }
 
 abbrev pub KeepsButSending : Controller → Controller → Type 0
 KeepsButSending old new = new ≡ record old { sending = new.sending }
+
+-- what there is to take stays, in front of what comes: messages, requests, and how messages ended
+pub record LosesNothing (old new : Controller) : Type 0 where
+  pub received : IsFront (received_in old) (received_in new)
+  pub asked : IsFront (asked_in old) (asked_in new)
+  pub told : IsFront (told_in old) (told_in new)
 
 -- ---- a new one
 

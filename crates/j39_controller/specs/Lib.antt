@@ -5,5 +5,6 @@ pub mod Inbox
 pub mod Listening
 pub mod MaySend
 pub mod Outbox
+pub mod Queues
 pub mod Receiving
 pub mod Sending

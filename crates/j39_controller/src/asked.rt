@@ -5,6 +5,7 @@ ghost use Rattle.std.specs.Result.{OnOk};
 ghost use Rattle.j39_frame.specs.Identifier.{destination_of};
 ghost use Rattle.j39_frame.specs.Pgn.{pgn_raw};
 ghost use Rattle.j39_controller.specs.Asked.{asked_by, goes_to, group_asked, in_range};
+ghost use Rattle.j39_controller.specs.Queues.{IsFront};
 
 use byteorder::{ByteOrder, LittleEndian};
 use j39_frame::{Frame, GLOBAL_ADDRESS, Pgn};
@@ -41,7 +42,8 @@ pub(crate) fn keep_request(
     frame: &Frame,
     asked: &mut VecDeque<Asked>,
 ) -> Result<(), AllocError>
-    ensures { OnOk result (asked.new.items ≡ asked.old.items ++ asked_by own frame.now) }
+    ensures keeps { OnOk result (asked.new.items ≡ asked.old.items ++ asked_by own frame.now) }
+    ensures kept { IsFront asked.old.items asked.new.items }
 {
     let Some(own) = own else {
         return Ok(());

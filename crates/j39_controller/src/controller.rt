@@ -1,5 +1,5 @@
 //! The controller: its parts, and the loop round them.
-ghost use Rattle.std.specs.Prelude.{◌≡◌, ◌↔◌, ◌∷◌, ◌++◌, [], IfSome, IsSome, IfOk, List, None, Some, false, length, drop, ◌<◌};
+ghost use Rattle.std.specs.Prelude.{◌≡◌, ◌≢◌, ◌↔◌, ◌∷◌, ◌++◌, [], IfSome, IsOk, IsSome, IfOk, List, None, Some, false, length, drop, ◌<◌};
 ghost use Rattle.std.specs.Option.{option_map, option_to_list};
 ghost use Rattle.std.specs.Result.{OnErr, OnOk};
 ghost use Rattle.j39_frame.specs.Address.{IsAddress};
@@ -9,9 +9,11 @@ ghost use Rattle.j39_frame.specs.Stamp.{stamp_micros};
 ghost use Rattle.j39_address.specs.Command.{command_by};
 ghost use Rattle.j39_address.specs.Name.{name_raw};
 ghost use Rattle.j39_address.specs.Node.{Node};
+ghost use Rattle.j39_address.specs.Node.NodeStatus.{Idle};
 ghost use Rattle.j39_controller.specs.MaySend.{MaySend, held_in};
 ghost use Rattle.j39_controller.specs.Outbox.{first_id};
-ghost use Rattle.j39_controller.specs.Controller.{BroadcastsAt, HasNode, Hears, IsAnswered, IsDroppedAt, IsFreeAt, IsNew, IsSaid, IsSent, IsShown, IsUnsent, IsWithdrawn, Keeps, KeepsButAsked, KeepsButReceived, KeepsButSending, KeepsButTold, KeepsButWaiting, Obeys, ObeysIf, Passes, SaysClaim, TransfersAt, Turns, asked_in, begun_in, received_in, told_in, waiting_in};
+ghost use Rattle.j39_controller.specs.Queues.{IsFront};
+ghost use Rattle.j39_controller.specs.Controller.{BroadcastsAt, HasNode, Hears, IsAnswered, IsDroppedAt, IsFreeAt, IsNew, IsSaid, IsSent, IsShown, IsUnsent, IsWithdrawn, Keeps, KeepsButAsked, KeepsButReceived, KeepsButSending, KeepsButTold, KeepsButWaiting, LosesNothing, Obeys, ObeysIf, Passes, SaysClaim, TransfersAt, Turns, asked_in, begun_in, received_in, told_in, waiting_in};
 
 use crate::asked::{Asked, keep_request};
 use crate::inbox::Received;
@@ -104,11 +106,14 @@ impl Controller {
     }
 
     /// The frame that it wishes to send next, which the bus now takes: from the address that it holds, or
-    /// a claim of its own.
+    /// a claim of its own. `None` where none waits; and where the next may not go any more, which is dropped.
     pub fn take_frame(&mut self) -> Option<Wish>
         ensures may { (node : Node) → HasNode self.old node → IfSome result (λ wish. MaySend node wish.frame) }
         ensures goes { (node : Node) (first : Wish) (others : List Wish) → HasNode self.old node
             → waiting_in self.old ≡ first ∷ others → MaySend node first.frame → result ≡ Some first }
+        ensures dropped { (node : Node) (first : Wish) (others : List Wish) → HasNode self.old node
+            → waiting_in self.old ≡ first ∷ others → (MaySend node first.frame → ⊥) → result ≡ None }
+        ensures none { waiting_in self.old ≡ [] → result ≡ None }
         ensures next { waiting_in self.new ≡ drop 1 (waiting_in self.old) }
         ensures rest { KeepsButWaiting self.old self.new }
     {
@@ -216,19 +221,27 @@ impl Controller {
         }
     }
 
-    /// Lets time pass for its address: it claims its preferred one, and holds it 250 ms later.
+    /// Lets time pass for its address: it claims its preferred one at the first call, which alone may want memory, and
+    /// holds it 250 ms later. After an error what there is to take stays.
     pub fn pass(&mut self, now: Stamp) -> Result<(), AllocError>
-        ensures { OnOk result (Passes self.old (stamp_micros now) self.new) }
+        ensures passes { OnOk result (Passes self.old (stamp_micros now) self.new) }
+        ensures quiet { (node : Node) → HasNode self.old node → node.status ≢ Idle → IsOk result }
+        ensures kept { LosesNothing self.old self.new }
     {
         self.node.tick(now);
         let claim = self.node.start(now);
         self.say(claim)
     }
 
-    /// Lets time pass for its messages, where it holds an address: the next frames go into the outbox.
+    /// Lets time pass for its messages, where it holds an address: the next frames go into the outbox. After an error
+    /// what waits and what there is to take stays.
     pub fn turn(&mut self, now: Stamp) -> Result<(), AllocError>
-        ensures { OnOk result ((node : Node) → HasNode self.old node
+        ensures turns { OnOk result ((node : Node) → HasNode self.old node
             → Turns self.old (stamp_micros now) (held_in node.status) self.new) }
+        ensures idle { (node : Node) → HasNode self.old node → held_in node.status ≡ None → IsOk result }
+        ensures kept { LosesNothing self.old self.new }
+        ensures waiting { IsFront (waiting_in self.old) (waiting_in self.new) }
+        ensures rest { Keeps self.old self.new }
     {
         let Some(address) = self.held() else {
             return Ok(());
@@ -242,9 +255,10 @@ impl Controller {
     }
 
     /// Hears a frame that another controller sent: every part is shown it, and then the node answers. After an error,
-    /// which only want of memory makes, the frame may have been heard by some of the parts alone.
+    /// which only want of memory makes, the frame may have been heard by some of the parts alone; what there is to take stays.
     pub fn hear(&mut self, frame: &Frame) -> Result<(), AllocError>
-        ensures { OnOk result (Hears self.old frame.now self.new) }
+        ensures hears { OnOk result (Hears self.old frame.now self.new) }
+        ensures kept { LosesNothing self.old self.new }
     {
         let command = self.show(frame)?;
         self.answer(frame)?;
@@ -253,7 +267,8 @@ impl Controller {
 
     /// Shows a frame to every part but the node, and answers the command that is whole with it.
     fn show(&mut self, frame: &Frame) -> Result<Option<(Name, u8)>, AllocError>
-        ensures { IfOk result (λ command. IsShown self.old frame.now (option_map command_by command) self.new) }
+        ensures shown { IfOk result (λ command. IsShown self.old frame.now (option_map command_by command) self.new) }
+        ensures kept { LosesNothing self.old self.new }
     {
         note(&mut self.holders, &mut self.messages, frame);
         self.sending.hear(frame);
@@ -265,7 +280,8 @@ impl Controller {
 
     /// Sends what the node answers to a frame.
     fn answer(&mut self, frame: &Frame) -> Result<(), AllocError>
-        ensures { OnOk result (IsAnswered self.old frame.now self.new) }
+        ensures answered { OnOk result (IsAnswered self.old frame.now self.new) }
+        ensures kept { LosesNothing self.old self.new }
     {
         let now = frame.stamp;
         self.node.tick(now);
@@ -275,7 +291,8 @@ impl Controller {
 
     /// Obeys a command, where there is one.
     fn obey(&mut self, command: Option<(Name, u8)>, now: Stamp) -> Result<(), AllocError>
-        ensures { OnOk result (ObeysIf self.old (option_map command_by command) (stamp_micros now) self.new) }
+        ensures obeys { OnOk result (ObeysIf self.old (option_map command_by command) (stamp_micros now) self.new) }
+        ensures kept { LosesNothing self.old self.new }
     {
         match command {
             Some((name, address)) => self.take_address(name, address, now),
@@ -285,7 +302,8 @@ impl Controller {
 
     /// Takes the address that a NAME is commanded to take, where it is its own NAME.
     fn take_address(&mut self, name: Name, address: u8, now: Stamp) -> Result<(), AllocError>
-        ensures { OnOk result (Obeys self.old (command_by (name, address)) (stamp_micros now) self.new) }
+        ensures obeys { OnOk result (Obeys self.old (command_by (name, address)) (stamp_micros now) self.new) }
+        ensures kept { LosesNothing self.old self.new }
     {
         let claim = self.node.commanded(name, address, now);
         self.say(claim)
@@ -293,7 +311,9 @@ impl Controller {
 
     /// Sends a claim, where the node answered one.
     fn say(&mut self, claim: Option<Frame>) -> Result<(), AllocError>
-        ensures { OnOk result (IsSaid self.old claim self.new) }
+        ensures said { OnOk result (IsSaid self.old claim self.new) }
+        ensures quiet { claim ≡ None → IsOk result }
+        ensures kept { LosesNothing self.old self.new }
     {
         match claim {
             Some(claim) => self.say_claim(claim),
@@ -303,7 +323,8 @@ impl Controller {
 
     /// Sends a claim. While the address isn't held, nothing else is sent.
     fn say_claim(&mut self, claim: Frame) -> Result<(), AllocError>
-        ensures { OnOk result (SaysClaim self.old claim self.new) }
+        ensures says { OnOk result (SaysClaim self.old claim self.new) }
+        ensures kept { LosesNothing self.old self.new }
     {
         self.drop_if_lost(claim.stamp)?;
         note(&mut self.holders, &mut self.messages, &claim);
@@ -314,7 +335,8 @@ impl Controller {
     fn drop_if_lost(&mut self, now: Stamp) -> Result<(), AllocError>
         ensures drops { OnOk result ((node : Node) → HasNode self.old node
             → IsDroppedAt (held_in node.status) (stamp_micros now) self.old self.new) }
-        ensures rest { OnOk result (Keeps self.old self.new) }
+        ensures told { IsFront (told_in self.old) (told_in self.new) }
+        ensures rest { Keeps self.old self.new }
     {
         if self.held().is_some() {
             return Ok(());
@@ -324,7 +346,9 @@ impl Controller {
 
     /// Drops all that was to be sent or received at an address that is lost, and tells so.
     fn withdraw(&mut self, now: Stamp) -> Result<(), AllocError>
-        ensures { OnOk result (IsWithdrawn (stamp_micros now) self.old self.new) }
+        ensures withdrawn { OnOk result (IsWithdrawn (stamp_micros now) self.old self.new) }
+        ensures told { IsFront (told_in self.old) (told_in self.new) }
+        ensures rest { Keeps self.old self.new }
     {
         self.outbox.withdraw(&mut self.settled)?;
         self.sending.withdraw(now, &mut self.settled)?;

@@ -12,6 +12,7 @@ ghost use Rattle.j39_address.specs.Claims.{Knows};
 ghost use Rattle.j39_address.specs.Command.{command_by, commanded_of};
 ghost use Rattle.j39_controller.specs.Inbox.{received_of};
 ghost use Rattle.j39_controller.specs.Listening.{HasForgotten, PutsTogether, is_to_all, told_of};
+ghost use Rattle.j39_controller.specs.Queues.{IsFront};
 ghost use Rattle.j39_frame.specs.Stamp.{stamp_micros};
 
 use crate::inbox::Received;
@@ -47,6 +48,7 @@ pub(crate) fn put_together(
     ensures whole { IfOk result (λ command. (E : List Event) → Stands E messages.old
         → PutsTogether (is_to_all (destination_of frame.now.id)) E frame.now inbox.old.items
         (option_map command_by command) inbox.new.items) }
+    ensures kept { IsFront inbox.old.items inbox.new.items }
 {
     if !goes_to_all(frame) {
         return Ok(None);
@@ -65,10 +67,11 @@ fn keep(
     inbox: &mut VecDeque<Received>,
 ) -> Result<Option<(Name, u8)>, AllocError>
     requires { length message.now.payload.now ≤ 1785 }
-    ensures kept { IfOk result (λ command. inbox.new.items ≡ inbox.old.items
+    ensures puts { IfOk result (λ command. inbox.new.items ≡ inbox.old.items
         ++ received_of (message_shown message.now) global_address (stamp_micros message.now.stamp) ∷ []) }
     ensures command { IfOk result (λ command. option_map command_by command
         ≡ commanded_of (message_shown message.now).pgn (message_shown message.now).bytes) }
+    ensures kept { IsFront inbox.old.items inbox.new.items }
 {
     inbox.push_back(Received::copy(alloc, message, GLOBAL_ADDRESS)?)?;
     Ok(commanded_of(message))

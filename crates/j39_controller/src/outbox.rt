@@ -9,6 +9,7 @@ ghost use Rattle.j39_address.specs.Claimer.{IsNode};
 ghost use Rattle.j39_address.specs.Node.{Node};
 ghost use Rattle.j39_controller.specs.MaySend.{MaySend};
 ghost use Rattle.j39_controller.specs.Outbox.{first_id, posted, withdrawn, withdrawn_by};
+ghost use Rattle.j39_controller.specs.Queues.{IsFront};
 
 use crate::may_send::may_send;
 use crate::settled::{Ending, Settled};
@@ -74,8 +75,9 @@ impl Outbox {
         part: Option<MessageFrame>,
         now: Stamp,
     ) -> Result<(), AllocError>
-        ensures { OnOk result (self.new.wishes.items ≡ self.old.wishes.items
+        ensures pushes { OnOk result (self.new.wishes.items ≡ self.old.wishes.items
             ++ record { frame = at_moment (stamp_micros now) (to_send (id, bytes)); part = part } ∷ []) }
+        ensures kept { OnErr result (self.new.wishes.items ≡ self.old.wishes.items) }
     {
         match Frame::new(now, id, &bytes) {
             Some(frame) => self.push(frame, part),
@@ -89,8 +91,9 @@ impl Outbox {
         sent: Option<(Id, [u8; 8])>,
         now: Stamp,
     ) -> Result<(), AllocError>
-        ensures { OnOk result (self.new.wishes.items ≡ self.old.wishes.items
+        ensures pushes { OnOk result (self.new.wishes.items ≡ self.old.wishes.items
             ++ posted (stamp_micros now) (option_map to_send sent)) }
+        ensures kept { OnErr result (self.new.wishes.items ≡ self.old.wishes.items) }
     {
         let Some(sent) = sent else {
             return Ok(());
@@ -106,13 +109,14 @@ impl Outbox {
         Some(self.wishes.front()?.frame.id)
     }
 
-    /// Takes the first frame out, for the bus. One that the node may not send now is dropped.
+    /// Takes the first frame out, for the bus, if there is one. One that the node may not send now is dropped.
     pub(crate) fn take(&mut self, node: &Claimer) -> Option<Wish>
         ensures may { (n : Node) → IsNode node.now n → IfSome result (λ wish. MaySend n wish.frame) }
         ensures goes { (n : Node) (first : Wish) (others : List Wish) → IsNode node.now n
             → self.old.wishes.items ≡ first ∷ others → MaySend n first.frame → result ≡ Some first }
         ensures dropped { (n : Node) (first : Wish) (others : List Wish) → IsNode node.now n
             → self.old.wishes.items ≡ first ∷ others → (MaySend n first.frame → ⊥) → result ≡ None }
+        ensures none { self.old.wishes.items ≡ [] → result ≡ None }
         ensures rest { self.new.wishes.items ≡ drop 1 self.old.wishes.items }
     {
         let wish = self.wishes.pop_front()?;
@@ -127,6 +131,7 @@ impl Outbox {
     pub(crate) fn withdraw(&mut self, settled: &mut VecDeque<Settled>) -> Result<(), AllocError>
         ensures empty { OnOk result (self.new.wishes.items ≡ []) }
         ensures told { OnOk result (settled.new.items ≡ settled.old.items ++ withdrawn self.old.wishes.items) }
+        ensures kept { IsFront settled.old.items settled.new.items }
     {
         while let Some(wish) = self.wishes.pop_front() {
             tell_if_last(wish.part, settled)?;
@@ -140,7 +145,8 @@ fn tell_if_last(
     part: Option<MessageFrame>,
     settled: &mut VecDeque<Settled>,
 ) -> Result<(), AllocError>
-    ensures { OnOk result (settled.new.items ≡ settled.old.items ++ withdrawn_by part) }
+    ensures told { OnOk result (settled.new.items ≡ settled.old.items ++ withdrawn_by part) }
+    ensures kept { IsFront settled.old.items settled.new.items }
 {
     let Some(part) = part else {
         return Ok(());

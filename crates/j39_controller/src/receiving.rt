@@ -4,6 +4,7 @@ ghost use Rattle.std.specs.Option.{option_map};
 ghost use Rattle.std.specs.Result.{OnOk};
 ghost use Rattle.j39_frame.specs.Stamp.{stamp_micros};
 ghost use Rattle.j39_transport.specs.Cutting.{to_send};
+ghost use Rattle.j39_controller.specs.Queues.{IsFront};
 ghost use Rattle.j39_controller.specs.Receiving.{ListensAt, is_at, is_receiving, Receives, ReceivesIn, TicksLate};
 
 use crate::inbox::Received;
@@ -27,8 +28,9 @@ pub(crate) fn receive_in(
     alloc: Global,
     inbox: &mut VecDeque<Received>,
 ) -> Result<Option<(Id, [u8; 8])>, AllocError>
-    ensures { IfOk result (λ sent. ReceivesIn slot.old frame.now inbox.old.items (option_map to_send sent)
+    ensures receives { IfOk result (λ sent. ReceivesIn slot.old frame.now inbox.old.items (option_map to_send sent)
         inbox.new.items slot.new) }
+    ensures kept { IsFront inbox.old.items inbox.new.items }
 {
     let Some(mut listening) = slot.take() else {
         return Ok(None);
@@ -52,8 +54,9 @@ fn receive(
     alloc: Global,
     inbox: &mut VecDeque<Received>,
 ) -> Result<Option<(Id, [u8; 8])>, AllocError>
-    ensures { IfOk result (λ sent. Receives receiver.old address frame.now inbox.old.items (option_map to_send sent)
+    ensures receives { IfOk result (λ sent. Receives receiver.old address frame.now inbox.old.items (option_map to_send sent)
         inbox.new.items receiver.new) }
+    ensures kept { IsFront inbox.old.items inbox.new.items }
 {
     match receiver.on(frame, frame.stamp) {
         Reply::Nothing => Ok(None),
@@ -81,7 +84,7 @@ pub(crate) fn listen_at(
     alloc: Global,
     address: u8,
 ) -> Result<(), AllocError>
-    ensures { OnOk result (ListensAt slot.old address slot.new) }
+    ensures listens { OnOk result (ListensAt slot.old address slot.new) }
 {
     if is_at(slot, address) {
         return Ok(());

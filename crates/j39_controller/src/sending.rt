@@ -6,6 +6,7 @@ ghost use Rattle.j39_frame.specs.Pgn.{pgn_raw};
 ghost use Rattle.j39_frame.specs.Stamp.{stamp_micros};
 ghost use Rattle.j39_transport.specs.Cutting.{to_send};
 ghost use Rattle.j39_controller.specs.Sending.{BeginsBroadcast, BeginsTransfer, HasLost, IsFree, Polls, Ticks, ending_of, hears, message_of, new_sending, on_its_way, quiet_behind};
+ghost use Rattle.j39_controller.specs.Queues.{IsFront};
 
 use crate::outbox::{MessageFrame, Outbox};
 use crate::owned_broadcast::OwnedBroadcast;
@@ -123,8 +124,9 @@ impl Sending {
 
     /// Puts the broadcast's next frame into the outbox, where it is due. After its last frame the broadcast is over.
     pub(crate) fn poll(&mut self, now: Stamp, outbox: &mut Outbox) -> Result<(), AllocError>
-        ensures { OnOk result (Polls self.old (stamp_micros now) outbox.old.wishes.items
+        ensures polls { OnOk result (Polls self.old (stamp_micros now) outbox.old.wishes.items
             outbox.new.wishes.items self.new) }
+        ensures kept { IsFront outbox.old.wishes.items outbox.new.wishes.items }
     {
         let Some(mut to_all) = self.to_all.take() else {
             return Ok(());
@@ -154,8 +156,9 @@ impl Sending {
         now: Stamp,
         settled: &mut VecDeque<Settled>,
     ) -> Result<Option<(Id, [u8; 8])>, AllocError>
-        ensures { IfOk result (λ sent. Ticks self.old (stamp_micros now) settled.old.items
+        ensures ticks { IfOk result (λ sent. Ticks self.old (stamp_micros now) settled.old.items
             (option_map to_send sent) settled.new.items self.new) }
+        ensures kept { IsFront settled.old.items settled.new.items }
     {
         let Some(mut to_one) = self.to_one.take() else {
             return Ok(None);
@@ -184,6 +187,7 @@ impl Sending {
     ) -> Result<(), AllocError>
         ensures lost { OnOk result (HasLost self.old (stamp_micros now) self.new) }
         ensures told { OnOk result (settled.new.items ≡ settled.old.items ++ on_its_way self.old) }
+        ensures kept { IsFront settled.old.items settled.new.items }
     {
         if let Some(to_all) = self.to_all.take() {
             tell(settled, to_all.number, Ending::Withdrawn)?;
@@ -223,8 +227,9 @@ fn quiet_behind(ending: Ending, now: Stamp, until: u64) -> u64
 
 /// Tells how a message ended.
 fn tell(settled: &mut VecDeque<Settled>, number: usize, ending: Ending) -> Result<(), AllocError>
-    ensures { OnOk result (settled.new.items ≡ settled.old.items
+    ensures told { OnOk result (settled.new.items ≡ settled.old.items
         ++ record { number = number; ending = ending } ∷ []) }
+    ensures kept { IsFront settled.old.items settled.new.items }
 {
     settled.push_back(Settled { number, ending })?;
     Ok(())

@@ -88,6 +88,9 @@ impl Player {
             → IfSome result (λ wish. MaySend node wish.frame) }
         ensures goes { (node : Node) (first : Wish) (others : List Wish) → HasNode self.old.controller node
             → waiting_in self.old.controller ≡ first ∷ others → MaySend node first.frame → result ≡ Some first }
+        ensures dropped { (node : Node) (first : Wish) (others : List Wish) → HasNode self.old.controller node
+            → waiting_in self.old.controller ≡ first ∷ others → (MaySend node first.frame → ⊥) → result ≡ None }
+        ensures none { waiting_in self.old.controller ≡ [] → result ≡ None }
         ensures next { waiting_in self.new.controller ≡ drop 1 (waiting_in self.old.controller) }
         ensures rest { KeepsButWaiting self.old.controller self.new.controller
             × (self.new ≡ record self.old { controller = self.new.controller }) }

@@ -9,7 +9,7 @@ returns-after-deref_mut-clause-asks c = record {
   done = elim c.match-deref_mut.branch [
     | goal.in-Controlling w ↦
         let took = w.take_frame.ensures in
-        let first : TakesFrame w.deref_mut-in-Controlling.result.now w.take_frame.result w.take_frame.new.self = record { may = took.may; goes = took.goes; next = took.next; rest = took.rest } in
+        let first : TakesFrame w.deref_mut-in-Controlling.result.now w.take_frame.result w.take_frame.new.self = record { may = took.may; goes = took.goes; dropped = took.dropped; none = took.none; next = took.next; rest = took.rest } in
         let told = subst (λ (wish : Option Wish). TakesFrame w.deref_mut-in-Controlling.result.now wish w.take_frame.new.self) (sym w.put_wish-code.ensures.puts.value) first in
         search rules
     | goal.in-Listening w ↦ search rules

@@ -7,8 +7,8 @@ use Rattle.j39_transport.specs.declared.receiver.Reply.{Reply}
 use Rattle.j39_controller.specs.Inbox.{ReceivedRecord, received_of}
 use Rattle.j39_controller.proofs.receiving.receive.Goals as goal
 
-pub returns-in-Nothing : goal.returns-in-Nothing
-returns-in-Nothing c =
+pub returns-in-Nothing-clause-receives : goal.returns-in-Nothing-clause-receives
+returns-in-Nothing-clause-receives c =
     let at = ap (λ (f : FrameRecord). f.stamp) c.frame.view_is in record {
       answer = _;
       heard = subst (λ (r : Reply). HasHeard c.args.receiver.now c.args.frame.now c.args.frame.now.stamp (answer_of r) c.on.follows.lender-at-none) c.in-Nothing.is
@@ -17,8 +17,8 @@ returns-in-Nothing c =
       puts_it = sym (append-nil _);
     }
 
-pub returns-in-Send : goal.returns-in-Send
-returns-in-Send c =
+pub returns-in-Send-clause-receives : goal.returns-in-Send-clause-receives
+returns-in-Send-clause-receives c =
     let at = ap (λ (f : FrameRecord). f.stamp) c.frame.view_is in record {
       answer = _;
       heard = subst (λ (r : Reply). HasHeard c.args.receiver.now c.args.frame.now c.args.frame.now.stamp (answer_of r) c.on.follows.lender-at-none) c.in-Send.is
@@ -27,8 +27,8 @@ returns-in-Send c =
       puts_it = sym (append-nil _);
     }
 
-pub returns-in_ok-push_back-in-Delivered : goal.returns-in_ok-push_back-in-Delivered
-returns-in_ok-push_back-in-Delivered c =
+pub returns-in_ok-push_back-in-Delivered-clause-receives : goal.returns-in_ok-push_back-in-Delivered-clause-receives
+returns-in_ok-push_back-in-Delivered-clause-receives c =
     let at = ap (λ (f : FrameRecord). f.stamp) c.frame.view_is in record {
       answer = _;
       heard = subst (λ (r : Reply). HasHeard c.args.receiver.now c.args.frame.now c.args.frame.now.stamp (answer_of r) c.on.follows.lender-at-none) c.in-Delivered.is

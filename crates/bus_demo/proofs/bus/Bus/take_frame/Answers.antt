@@ -14,6 +14,8 @@ returns-clause-takes c =
     (record {
       may = c.take_frame.ensures.may;
       goes = c.take_frame.ensures.goes;
+      dropped = c.take_frame.ensures.dropped;
+      none = c.take_frame.ensures.none;
       next = c.take_frame.ensures.next;
       rest = c.take_frame.ensures.rest.0;
       own = c.take_frame.ensures.rest.1;

@@ -7,10 +7,10 @@ use Rattle.j39_address.specs.Claimer.{Steps}
 use Rattle.j39_controller.proofs.ResultLemmas.{ok_then}
 use Rattle.j39_controller.proofs.controller.Controller.answer.Goals as goal
 
-pub returns : goal.returns
-returns c =
+pub returns-clause-answered : goal.returns-clause-answered
+returns-clause-answered c =
     let at = ap (λ (f : FrameRecord). f.stamp) c.frame.view_is in
-    ok_then c.say.result _ _ c.say.ensures (λ said. record {
+    ok_then c.say.result _ _ c.say.ensures.said (λ said. record {
       ticked = c.tick.new.self;
       tick = subst (λ (t : ℕ). Steps c.args.self.now.node call.Tick t None c.tick.new.self) at c.tick.ensures;
       after = c.on-claim.new.self;

@@ -12,8 +12,8 @@ use Rattle.j39_controller.proofs.GoesLemmas.{goes_at}
 use Rattle.j39_controller.proofs.ResultLemmas.{ok_then}
 use Rattle.j39_controller.proofs.controller.Controller.say_claim.Goals as goal
 
-pub returns : goal.returns
-returns c = ok_then c.push.result _ _ c.push.ensures.pushes (λ pushed.
+pub returns-clause-says : goal.returns-clause-says
+returns-clause-says c = ok_then c.push.result _ _ c.push.ensures.pushes (λ pushed.
     let at = ap (λ (f : FrameRecord). f.stamp) c.claim.view_is in
     let rest = c.in_ok-drop_if_lost.ensures.rest in record {
       holders = λ F knows. c.note.ensures.holders F (subst (λ (t : Claims). Knows t F) (sym (ap (λ (x : Controller). x.holders) rest)) knows);

@@ -9,7 +9,7 @@ use Rattle.bus_demo.proofs.bus.player.Player.hear.Goals as goal
 pub returns-clause-heard : goal.returns-clause-heard
 returns-clause-heard c = on_ok c.settle.result _ _ (λ settled. record {
   heard = c.hear.new.self;
-  hears = c.in_ok-hear.ensures;
+  hears = c.in_ok-hear.ensures.hears;
   delivered = c.deliver.new.self.controller;
   delivers = c.deliver.ensures.kept;
   all_delivered = c.in_ok-deliver.ensures.all;
@@ -20,7 +20,7 @@ returns-clause-heard c = on_ok c.settle.result _ _ (λ settled. record {
 pub returns-clause-noted : goal.returns-clause-noted
 returns-clause-noted c = on_ok c.settle.result _ _ (λ settled. (
   c.hear.new.self,
-  c.in_ok-hear.ensures,
+  c.in_ok-hear.ensures.hears,
   record {
     delivered = ap (λ v. v.items) c.settle.ensures.deliveries ∙ c.in_ok-deliver.ensures.noted;
     done = settled
