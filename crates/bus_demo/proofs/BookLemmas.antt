@@ -1,5 +1,5 @@
 -- The last message that is the one delivered.
-use Rattle.std.proofs.Common.{◌≡◌, ◌≤◌, ◌<◌, ◌∙◌, ℕ, zero, suc, List, Option, Some, None, ap, arith, refl, slice_get, subst, sym}
+use Rattle.std.proofs.Common.{◌≡◌, ◌≤◌, ◌<◌, ◌∙◌, ℕ, zero, suc, List, Option, Some, ap, arith, refl, slice_get, subst, sym}
 use Rattle.j39_controller.specs.Inbox.{ReceivedRecord}
 use Rattle.bus_demo.specs.Delivered.{IsLastOf, IsNoneOf, IsOf}
 use Rattle.bus_demo.specs.declared.bus.book.Handed.{Handed}

@@ -1,5 +1,5 @@
 -- Players to whom something happens, one after another, and the one that takes its frame out.
-use Rattle.std.proofs.Common.{◌≡◌, ◌≢◌, ◌≤◌, ◌<◌, ◌+◌, ◌∙◌, ◌++◌, ℕ, zero, suc, [], ◌∷◌, List, Option, Some, add-one, ap, arith, length, map, refl, slice_get, slice_set, subst, sym, take}
+use Rattle.std.proofs.Common.{◌≡◌, ◌≢◌, ◌<◌, ◌+◌, ◌∙◌, ◌++◌, ℕ, zero, suc, [], ◌∷◌, List, Option, Some, add-one, ap, arith, length, map, refl, slice_get, slice_set, subst, sym, take}
 use Rattle.std.proofs.Math.ListN.{length-set}
 use Rattle.std.proofs.lemmas.Grind.{take-set_at}
 use Rattle.std.proofs.lemmas.List.{map-append}

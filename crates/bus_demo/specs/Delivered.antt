@@ -1,5 +1,5 @@
 -- Which message that was handed in is the one that a receiver delivered.
-use Rattle.std.specs.Prelude.{◌≡◌, ◌≤◌, ◌<◌, ℕ, List, Option, Some, IsSome, slice_get, suc}
+use Rattle.std.specs.Prelude.{◌≡◌, ◌≤◌, ℕ, List, Option, Some, IsSome, slice_get, suc}
 use Rattle.j39_frame.specs.Pgn.{pgn_raw}
 use Rattle.j39_frame.specs.Stamp.{stamp_micros}
 use Rattle.j39_frame.specs.declared.stamp.Stamp.{Stamp}

@@ -7,6 +7,7 @@ pub mod Numerals
 pub mod Payloads
 pub mod Playing
 pub mod Publishing
+pub mod Run
 pub mod Scenario
 pub mod Sending
 pub mod Shown

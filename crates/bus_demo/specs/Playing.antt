@@ -1,5 +1,5 @@
 -- What the players of a bus make of time and of frames.
-use Rattle.std.specs.Prelude.{◌≡◌, ◌≢◌, ◌+◌, ◌-◌, ◌^◌, ◌<◌, ◌≤◌, ℕ, zero, suc, [], IsSome, List, Option, None, Some, length, min, slice_get}
+use Rattle.std.specs.Prelude.{◌≡◌, ◌≢◌, ◌+◌, ◌-◌, ◌^◌, ◌<◌, ◌≤◌, ℕ, zero, suc, [], IsSome, List, None, Some, length, min, slice_get}
 use Rattle.j39_frame.specs.Frame.{FrameRecord}
 use Rattle.j39_address.specs.Node.{Node}
 use Rattle.j39_controller.specs.Controller.{HasNode, Hears, KeepsButReceived, KeepsButTold, Passes, Turns}

@@ -1,5 +1,5 @@
 -- What the gauges show: each value in its range, as the payload that says it, where a raw number does.
-use Rattle.std.specs.Prelude.{◌≡◌, ◌≤◌, ◌<◌, ◌+◌, ◌*◌, ◌-ℤ◌, ◌^◌, ◌-◌, ℕ, ℤ, List, Option, None, Some, min, pos}
+use Rattle.std.specs.Prelude.{◌≡◌, ◌≤◌, ◌<◌, ◌+◌, ◌*◌, ◌-ℤ◌, ◌^◌, ◌-◌, ℕ, List, Option, None, Some, min, pos}
 use Rattle.j39_groups.specs.Slots.{IsRawOf}
 use Rattle.bus_demo.specs.Payloads.{distance_bytes, engine_bytes, temperature_bytes}
 use Rattle.bus_demo.specs.declared.bus.gauges.Group.{Group}

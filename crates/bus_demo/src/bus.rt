@@ -6,6 +6,7 @@ ghost use Rattle.j39_io.specs.Puts.{Puts};
 ghost use Rattle.j39_io.specs.Turn.{turn};
 ghost use Rattle.j39_log.specs.Canonical.{line_text};
 ghost use Rattle.bus_demo.specs.Playing.{AreAllNoted, AreTold, HaveTurned};
+ghost use Rattle.bus_demo.specs.Run.{PlaysTo};
 ghost use Rattle.bus_demo.specs.Sending.{Goes, IsSeen, Sends, Steps, TakesAt};
 ghost use Rattle.bus_demo.specs.Turning.{AreAsked, KeepsButTurned, TurnsAt};
 
@@ -97,6 +98,7 @@ impl<'a> Bus<'a> {
 
     /// Runs the bus to a moment in microseconds, and writes each frame that is seen as a line of a log.
     pub fn run<W: Sink>(&mut self, end: u64, log: &mut W) -> Result<(), BusFault>
+        ensures plays { OnOk result (PlaysTo end self.old self.new (turn W.written W.has_failed log.old log.new)) }
         ensures played { OnOk result (end + 1000 < 10 ^ 16 → end ≤ stamp_micros self.new.now) }
         ensures flushed { OnOk result (W.is_flushed log.new ≡ true) }
         ensures lose { self.new.lose ≡ self.old.lose }

@@ -1,5 +1,5 @@
 -- The place that was found has it, and none behind it.
-use Rattle.std.proofs.Common.{◌≡◌, ◌<◌, ◌-◌, ◌∙◌, ℕ, Some, arith, length, refl, rules, slice_get, subst, suc, sym, true≢false}
+use Rattle.std.proofs.Common.{◌≡◌, ◌<◌, ◌-◌, ◌∙◌, ℕ, arith, length, refl, rules, subst, suc, sym, true≢false}
 use Rattle.std.proofs.lemmas.Option.{slice_get_read}
 use Rattle.bus_demo.specs.Delivered.{IsNoneOf}
 use Rattle.bus_demo.proofs.BookLemmas.{one_less}

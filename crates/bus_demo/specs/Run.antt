@@ -1,0 +1,20 @@
+-- What a run of the bus is.
+use Rattle.std.specs.Prelude.{◌<◌, ℕ}
+use Rattle.std.specs.Io.KnownBytes.{Keeps}
+use Rattle.j39_frame.specs.Stamp.{stamp_micros}
+use Rattle.j39_io.specs.Turn.{Device, Turn}
+use Rattle.bus_demo.specs.Sending.{Steps}
+use Rattle.bus_demo.specs.declared.bus.Bus.{Bus}
+
+-- the bus made steps, one after another, each of them before the end
+pub data Plays (end : ℕ) : Bus → Device → Bus → Device → Type 0 where
+  nothing : {bus : Bus} {log : Device} → Plays end bus log bus log
+  further : {start mid last : Bus} {before between behind : Device} → Plays end start before mid between
+      → stamp_micros mid.now < end → Steps mid last (record { old = between; new = behind })
+      → Plays end start before last behind
+
+-- and then passed on the log, which adds nothing to it
+pub record PlaysTo (end : ℕ) (old new : Bus) (log : Turn) : Type 0 where
+  pub last : Device
+  pub plays : Plays end old log.old new last
+  pub passed_on : Keeps last.bytes log.new.bytes
