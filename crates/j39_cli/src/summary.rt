@@ -15,9 +15,10 @@ use std::alloc::{AllocError, Global};
 const ABOUT: &str = "\
 Writes one line for each parameter that a log has values of, by address, NAME, PGN
 and SPN, in the order of their first values: how many values there were, how many
-of them words (error, indicator or reserved), the times of the first and the last,
-the least and the most number with their unit, the first value, the last, and what
-the parameter is called. What is a value is said by `j1939 report --help`.";
+of them words (error, indicator or reserved), how often it was not available, the
+times of the first and the last, the least and the most number with their unit, the
+first value, the last, and what the parameter is called. What is a value is said by
+`j1939 report --help`.";
 
 const HELP: &str = "\
 At the end the counts go to standard error, as those of `j1939 report`; lines are
@@ -26,7 +27,7 @@ those of the summary.
 Example:
   j1939 summary --bus can0 trip.log
 writes lines such as
-  00 8000000001401234 61444 190 3 0 (0000000001.010000) (0000000001.030000)
+  00 8000000001401234 61444 190 3 0 2 (0000000001.010000) (0000000001.030000)
      1499.875 1500.125 rpm 1500.000 1499.875 engine speed
 each in one line.";
 

@@ -1,12 +1,11 @@
 -- What the rows of a group give, and the lines of it.
-use Rattle.std.proofs.Common.{◌≡◌, ◌<◌, ◌≤◌, ◌+◌, ◌-◌, ◌*◌, ◌==◌, ◌++◌, ℕ, zero, suc, List, [], ◌∷◌, Bool, true, false, length, take, drop, get_or, map, refl, sym, ap, ◌∙◌, arith, append-nil, append_assoc, length-append, subst, drop-cons, take-append-drop, get_or-take, get_or-drop, inl, inr}
-use Rattle.std.specs.Prelude.{◌&&◌, filter, not, Option, Result, Ok, Err, OnOk, slice_get}
+use Rattle.std.proofs.Common.{◌≡◌, ◌<◌, ◌≤◌, ◌+◌, ◌-◌, ◌*◌, ◌==◌, ◌++◌, ℕ, zero, suc, List, [], ◌∷◌, Bool, true, false, length, drop, get_or, map, refl, sym, ap, ◌∙◌, arith, length-append, subst, drop-cons, inl, inr}
+use Rattle.std.specs.Prelude.{◌&&◌, if◌then◌else◌, filter, not, Option, Result, Ok, Err, OnOk, slice_get}
 use Rattle.std.specs.List.{filter_map, flat_map, list_any}
-use Rattle.std.proofs.lemmas.Bool.{cases_Bool, eqb-false, le-ltb, lt-ltb, ltb-true, ltb-false, ne_eqb}
-use Rattle.std.proofs.lemmas.List.{drop_all, length-take, length-drop}
+use Rattle.std.proofs.lemmas.Bool.{cases_Bool, ne_eqb}
+use Rattle.std.proofs.lemmas.List.{drop_all}
 use Rattle.std.proofs.lemmas.List.Concat.{flat_map-cons}
 use Rattle.std.proofs.lemmas.Grind.{flat_map-append}
-use Rattle.std.proofs.lemmas.List.Folds.{flat_map-map}
 use Rattle.j39_io.specs.Backwards.{WritesBefore}
 use Rattle.j39_io.proofs.BackwardsLemmas.{before_none, before_then}
 use Rattle.j39_groups.specs.declared.row.Row.{Row}
@@ -14,6 +13,8 @@ use Rattle.j39_groups.specs.Lines.{in_group, reading_line, row_lines, row_readin
 use Rattle.j39_groups.specs.Models.{row_record}
 use Rattle.j39_groups.specs.Names.{name_at, name_in}
 use Rattle.j39_groups.specs.Readings.{group_rows, is_network_group, is_reported_in, readings_at, readings_in}
+use Rattle.j39_groups.specs.Sightings.{sightings_at, sightings_in}
+use Rattle.j39_groups.specs.Visits.{row_sightings}
 use Rattle.j39_groups.proofs.TableLemmas.{filter_map-seen, list_any-seen, listed_is_reported}
 use Rattle.j39_groups.specs.Row.{RowRecord}
 
@@ -75,19 +76,24 @@ on_ok_from (Ok x) P Q f h = f h
 on_ok_from (Err e) P Q f h = tt
 
 -- what the rows of a group give, sought among these rows
-by_group : (rows : List Row) (pgn : ℕ) (bytes : List ℕ)
-    → flat_map (row_readings pgn bytes) rows ≡ flat_map (readings_at bytes) (group_rows pgn (map row_record rows))
-by_group [] pgn bytes = refl
-by_group (row ∷ rows) pgn bytes = flat_map-cons (row_readings pgn bytes) row rows ∙ elim (cases_Bool (row.pgn == pgn)) [
-  | inl here ↦ rw here (ap (λ rs. readings_at bytes (row_record row) ++ rs) (by_group rows pgn bytes)
-      ∙ sym (flat_map-cons (readings_at bytes) (row_record row) (group_rows pgn (map row_record rows))))
-  | inr other ↦ rw other (by_group rows pgn bytes)
+by_group : {X : Type 0} (f : RowRecord → List X) (rows : List Row) (pgn : ℕ)
+    → flat_map (λ row. if row.pgn == pgn then f (row_record row) else []) rows ≡ flat_map f (group_rows pgn (map row_record rows))
+by_group f [] pgn = refl
+by_group f (row ∷ rows) pgn = flat_map-cons (λ (row : Row). if row.pgn == pgn then f (row_record row) else []) row rows ∙ elim (cases_Bool (row.pgn == pgn)) [
+  | inl here ↦ rw here (ap (λ xs. f (row_record row) ++ xs) (by_group f rows pgn)
+      ∙ sym (flat_map-cons f (row_record row) (group_rows pgn (map row_record rows))))
+  | inr other ↦ rw other (by_group f rows pgn)
 ]
 
 pub readings_of_group : (rows : List Row) (table : List RowRecord) (pgn : ℕ) (bytes : List ℕ) → group_rows pgn (map row_record rows) ≡ group_rows pgn table
     → flat_map (row_readings pgn bytes) rows ≡ readings_in table pgn bytes
 unfolding readings_in
-readings_of_group rows table pgn bytes same = by_group rows pgn bytes ∙ ap (flat_map (readings_at bytes)) same
+readings_of_group rows table pgn bytes same = by_group (readings_at bytes) rows pgn ∙ ap (flat_map (readings_at bytes)) same
+
+pub sightings_of_group : (rows : List Row) (table : List RowRecord) (pgn : ℕ) (bytes : List ℕ) → group_rows pgn (map row_record rows) ≡ group_rows pgn table
+    → flat_map (row_sightings pgn bytes) rows ≡ sightings_in table pgn bytes
+unfolding sightings_in
+sightings_of_group rows table pgn bytes same = by_group (sightings_at bytes) rows pgn ∙ ap (flat_map (sightings_at bytes)) same
 
 pub lines_of_group : (rows : List Row) (table : List RowRecord) (pgn : ℕ) (head bytes : List ℕ) → group_rows pgn (map row_record rows) ≡ group_rows pgn table
     → flat_map (row_lines pgn head bytes) rows ≡ flat_map (reading_line (in_group head pgn)) (readings_in table pgn bytes)

@@ -6,6 +6,7 @@ pub mod Ranges
 pub mod Parts
 pub mod Slots
 pub mod Readings
+pub mod Sightings
 pub mod Names
 -- what is printed (own)
 pub mod ValueText

@@ -15,6 +15,7 @@ ghost use Rattle.j39_groups.specs.Printed.{rows_text};
 ghost use Rattle.j39_groups.specs.Readings.{HaveSameGroups, group_rows, is_reported_in, readings_in, rows_of_spns};
 ghost use Rattle.j39_groups.specs.Rows.{is_row};
 ghost use Rattle.j39_groups.specs.Runs.{AreRuns};
+ghost use Rattle.j39_groups.specs.Sightings.{sightings_in};
 ghost use Rattle.j39_groups.specs.Table.{the_table};
 ghost use Rattle.j39_groups.specs.Visits.{Stops, Takes};
 
@@ -163,7 +164,8 @@ impl<'t> Groups<'t> {
         put_rows(block, self.rows_for(pgn), head, from, pgn, bytes, sink)
     }
 
-    /// Hands each reading of a payload to a visitor, in the table's order. It ends at the first that is refused.
+    /// Hands each reading of a payload to a visitor, and each parameter whose number is not available, in the table's order.
+    /// It ends at the first that is refused.
     #[inline(always)]
     pub fn visit<M, V: ReadingVisitor<'t, M>>(
         &self,
@@ -173,9 +175,9 @@ impl<'t> Groups<'t> {
         medium: &mut M,
     ) -> Result<(), V::Fault>
         ensures taken { OnOk result (Takes V.has_taken visitor.old medium.old visitor.new medium.new
-            (readings_in self.now (pgn_raw pgn) bytes.now)) }
+            (sightings_in self.now (pgn_raw pgn) bytes.now)) }
         ensures stopped { OnErr result (Stops V.has_taken V.has_stopped visitor.old medium.old visitor.new medium.new
-            (readings_in self.now (pgn_raw pgn) bytes.now)) }
+            (sightings_in self.now (pgn_raw pgn) bytes.now)) }
     {
         let pgn = pgn.raw();
         visit_rows(self.rows_for(pgn), pgn, bytes, visitor, medium)

@@ -5,6 +5,7 @@ ghost use Rattle.j39_groups.specs.Value.{number, ReadingRecord};
 ghost use Rattle.j39_groups.specs.Parts.{AreParts, parts_of};
 ghost use Rattle.j39_groups.specs.Readings.{HaveSameGroups, is_among, is_reported_group, is_reported_in, readings_in, readings_of, rows_of_spns};
 ghost use Rattle.j39_groups.specs.Row.{RowRecord};
+ghost use Rattle.j39_groups.specs.Sightings.{absences_in, absent_in, sightings_in, told_in};
 ghost use Rattle.j39_groups.specs.Slots.{Holds, IsRawOf, slot_of_spn};
 
 /// The parts of a payload are the only parts without `*` that, joined by it, are the payload.
@@ -23,6 +24,14 @@ pub fn raw_reads_back()
 /// Nothing is read in a group that is not reported.
 pub fn other_groups_are_silent()
     ensures { (pgn : ℕ) (bytes : List ℕ) → is_reported_group pgn ≡ false → readings_of pgn bytes ≡ [] }
+{}
+
+/// Of what a payload says, the readings and the parameters that are not available are those of the group.
+pub fn told_or_absent()
+    ensures told { (table : List RowRecord) (pgn : ℕ) (bytes : List ℕ)
+        → told_in (sightings_in table pgn bytes) ≡ readings_in table pgn bytes }
+    ensures absent { (table : List RowRecord) (pgn : ℕ) (bytes : List ℕ)
+        → absent_in (sightings_in table pgn bytes) ≡ absences_in table pgn bytes }
 {}
 
 /// What is read, and whether a group is reported, hangs on each group's rows alone.

@@ -6,6 +6,7 @@ ghost use Rattle.j39_groups.specs.Fields.{HasOneValue, IsShort, IsSound, IsSound
 ghost use Rattle.j39_groups.specs.Models.{field_record, field_slot, no_slot, scale_record, short_value, value_of};
 ghost use Rattle.j39_groups.specs.Parts.{parts_of};
 ghost use Rattle.j39_groups.specs.Readings.{bits_meaning, by_top_byte, filled_text_meaning, number_meaning, raw_bits, raw_number, switch_meaning, text_meaning, values_at};
+ghost use Rattle.j39_groups.specs.Sightings.{holds_number};
 ghost use Rattle.j39_groups.specs.Value.{SlotRecord, ValueRecord};
 ghost use Rattle.j39_groups.specs.Ranges.{is_valid};
 
@@ -61,6 +62,26 @@ pub(crate) fn short_in(bytes: &[u8], field: &Field<'_>) -> Option<Short>
         Field::Switch { byte, low, .. } => switch_at(bytes, *byte, *low),
         Field::Text { .. } => None,
         Field::Texts { .. } => None,
+    }
+}
+
+/// Whether a payload has all bits of a number or a switch; no text is one.
+#[tactic(auto, unfolding(crate::specs::Sightings::holds_number, crate::specs::Readings::raw_bits))]
+pub(crate) fn holds_number(bytes: &[u8], field: &Field<'_>) -> bool
+    requires { IsSound field.now }
+    ensures { result ≡ holds_number bytes.now (field_record field.now) }
+{
+    match field {
+        Field::Number { last, .. } => usize::from(*last) <= bytes.len(),
+        Field::Bits {
+            byte,
+            low,
+            count,
+            ..
+        } => raw_bits(bytes, *byte, *low, *count).is_some(),
+        Field::Switch { byte, .. } => usize::from(*byte) <= bytes.len(),
+        Field::Text { .. } => false,
+        Field::Texts { .. } => false,
     }
 }
 

@@ -1,14 +1,14 @@
-//! The readings of a payload, handed on one by one.
+//! What a payload says of each parameter, handed on one by one.
 ghost use Rattle.std.specs.Prelude.{IfNone, IfSome, ◌≡◌, ◌∷◌, [], ℕ, List, ◌≤◌, OnOk, OnErr, map, true};
 ghost use Rattle.std.specs.List.{flat_map, list_all};
 ghost use Rattle.std.specs.Option.{option_map, option_to_list};
 ghost use Rattle.j39_groups.specs.Fields.{HasOneValue};
-ghost use Rattle.j39_groups.specs.Lines.{row_readings, text_readings};
+ghost use Rattle.j39_groups.specs.Lines.{text_readings};
 ghost use Rattle.j39_groups.specs.Models.{no_slot, reading_of, row_record, scale_record, short_value, value_of};
-ghost use Rattle.j39_groups.specs.Readings.{readings_at};
+ghost use Rattle.j39_groups.specs.Readings.{values_at};
 ghost use Rattle.j39_groups.specs.Rows.{is_row};
-ghost use Rattle.j39_groups.specs.Value.{ReadingRecord};
-ghost use Rattle.j39_groups.specs.Visits.{Stops, Takes, visited};
+ghost use Rattle.j39_groups.specs.Sightings.{SightingRecord, absent, sightings_at, told};
+ghost use Rattle.j39_groups.specs.Visits.{Stops, Takes, row_sightings, visited};
 ghost use Rattle.j39_groups.specs.declared.field.Field.TheVariants.{Texts};
 
 use crate::field::Field;
@@ -17,30 +17,39 @@ use crate::row::Row;
 use crate::scale::Scale;
 use crate::short::Short;
 use crate::value::{Reading, Value};
-use crate::value_in::{bytes_from, number_of, switch_at, value_in};
+use crate::value_in::{bytes_from, holds_number, number_of, switch_at, value_in};
 use arrayvec::ArrayVec;
 
-/// What takes the readings of payloads, one after another, with what it writes to; `'t` is how long the table lives.
+/// What takes the readings of payloads, one after another, with what it writes to, and is told which parameters are not
+/// available; `'t` is how long the table lives.
 pub trait ReadingVisitor<'t, M> {
     /// Why it takes no more.
     type Fault;
 
-    // What it takes the readings to, beside them.
+    // What it takes to it, beside what it is handed.
     ghost Subject: { Type 0 };
 
-    // With its medium it has taken these readings to it.
-    ghost has_taken: { Subject → Self → M → List ReadingRecord → Type 0 };
+    // With its medium it has taken these to it.
+    ghost has_taken: { Subject → Self → M → List SightingRecord → Type 0 };
 
-    // Behind these readings it has stopped at this one.
-    ghost has_stopped: { Subject → List ReadingRecord → ReadingRecord → Self → M → Type 0 };
+    // Behind these it has stopped at this one.
+    ghost has_stopped: { Subject → List SightingRecord → SightingRecord → Self → M → Type 0 };
 
     /// Takes the next reading: a parameter's number (SPN) and its value. After an `Err` it is handed none.
     fn visit(&mut self, spn: u32, value: Value<'t, '_>, medium: &mut M) -> Result<(), Self::Fault>
         ensures taken { OnOk result (Takes has_taken self.old medium.old self.new medium.new
             (visited spn value.entry ∷ [])) }
-        ensures stopped { OnErr result ((subject : Subject) (before : List ReadingRecord)
+        ensures stopped { OnErr result ((subject : Subject) (before : List SightingRecord)
             → has_taken subject self.old medium.old before
             → has_stopped subject before (visited spn value.entry) self.new medium.new) };
+
+    /// Takes that a parameter's number is not available: all its bits are there, and they give no value. After an `Err`
+    /// it is handed nothing.
+    fn visit_absent(&mut self, spn: u32, medium: &mut M) -> Result<(), Self::Fault>
+        ensures taken { OnOk result (Takes has_taken self.old medium.old self.new medium.new (absent spn ∷ [])) }
+        ensures stopped { OnErr result ((subject : Subject) (before : List SightingRecord)
+            → has_taken subject self.old medium.old before
+            → has_stopped subject before (absent spn) self.new medium.new) };
 }
 
 /// Hands on these readings.
@@ -50,9 +59,9 @@ fn visit_found<'t, M, V: ReadingVisitor<'t, M>>(
     medium: &mut M,
 ) -> Result<(), V::Fault>
     ensures taken { OnOk result (Takes V.has_taken visitor.old medium.old visitor.new medium.new
-        (map reading_of found.now)) }
+        (map told (map reading_of found.now))) }
     ensures stopped { OnErr result (Stops V.has_taken V.has_stopped visitor.old medium.old visitor.new medium.new
-        (map reading_of found.now)) }
+        (map told (map reading_of found.now))) }
 {
     for reading in found {
         visitor.visit(reading.spn, reading.value, medium)?;
@@ -60,7 +69,7 @@ fn visit_found<'t, M, V: ReadingVisitor<'t, M>>(
     Ok(())
 }
 
-/// Hands on the readings of a payload of a group by those of these rows that are the group's.
+/// Hands on what a payload of a group says by those of these rows that are the group's.
 pub(crate) fn visit_rows<'t, M, V: ReadingVisitor<'t, M>>(
     rows: &[Row<'t>],
     pgn: u32,
@@ -70,9 +79,9 @@ pub(crate) fn visit_rows<'t, M, V: ReadingVisitor<'t, M>>(
 ) -> Result<(), V::Fault>
     requires { list_all is_row rows.now ≡ true }
     ensures taken { OnOk result (Takes V.has_taken visitor.old medium.old visitor.new medium.new
-        (flat_map (row_readings pgn bytes.now) rows.now)) }
+        (flat_map (row_sightings pgn bytes.now) rows.now)) }
     ensures stopped { OnErr result (Stops V.has_taken V.has_stopped visitor.old medium.old visitor.new medium.new
-        (flat_map (row_readings pgn bytes.now) rows.now)) }
+        (flat_map (row_sightings pgn bytes.now) rows.now)) }
 {
     for row in rows {
         visit_if_of(row, pgn, bytes, visitor, medium)?;
@@ -80,7 +89,7 @@ pub(crate) fn visit_rows<'t, M, V: ReadingVisitor<'t, M>>(
     Ok(())
 }
 
-/// Hands on the readings by one row, where it is the group's.
+/// Hands on what is said by one row, where it is the group's.
 #[inline(always)]
 fn visit_if_of<'t, M, V: ReadingVisitor<'t, M>>(
     row: &Row<'t>,
@@ -91,9 +100,9 @@ fn visit_if_of<'t, M, V: ReadingVisitor<'t, M>>(
 ) -> Result<(), V::Fault>
     requires { is_row row.now ≡ true }
     ensures taken { OnOk result (Takes V.has_taken visitor.old medium.old visitor.new medium.new
-        (row_readings pgn bytes.now row.now)) }
+        (row_sightings pgn bytes.now row.now)) }
     ensures stopped { OnErr result (Stops V.has_taken V.has_stopped visitor.old medium.old visitor.new medium.new
-        (row_readings pgn bytes.now row.now)) }
+        (row_sightings pgn bytes.now row.now)) }
 {
     if row.pgn == pgn {
         visit_row(row, bytes, visitor, medium)
@@ -102,7 +111,7 @@ fn visit_if_of<'t, M, V: ReadingVisitor<'t, M>>(
     }
 }
 
-/// Hands on the readings by one row.
+/// Hands on what is said by one row.
 #[inline(always)]
 fn visit_row<'t, M, V: ReadingVisitor<'t, M>>(
     row: &Row<'t>,
@@ -112,21 +121,26 @@ fn visit_row<'t, M, V: ReadingVisitor<'t, M>>(
 ) -> Result<(), V::Fault>
     requires { is_row row.now ≡ true }
     ensures taken { OnOk result (Takes V.has_taken visitor.old medium.old visitor.new medium.new
-        (readings_at bytes.now (row_record row.now))) }
+        (sightings_at bytes.now (row_record row.now))) }
     ensures stopped { OnErr result (Stops V.has_taken V.has_stopped visitor.old medium.old visitor.new medium.new
-        (readings_at bytes.now (row_record row.now))) }
+        (sightings_at bytes.now (row_record row.now))) }
 {
     match &row.field {
         Field::Number { first, last, scale } => visit_short(
-            row.spn,
+            row,
+            bytes,
             number_of(bytes, *first, *last, scale),
             scale,
             visitor,
             medium,
         ),
-        Field::Switch { byte, low, .. } => {
-            visit_switch(row.spn, switch_at(bytes, *byte, *low), visitor, medium)
-        }
+        Field::Switch { byte, low, .. } => visit_switch(
+            row,
+            bytes,
+            switch_at(bytes, *byte, *low),
+            visitor,
+            medium,
+        ),
         _ => visit_other(row, bytes, visitor, medium),
     }
 }
@@ -134,44 +148,50 @@ fn visit_row<'t, M, V: ReadingVisitor<'t, M>>(
 /// Hands on the number or the word in a number's place, where there is one.
 #[inline(always)]
 fn visit_short<'t, M, V: ReadingVisitor<'t, M>>(
-    spn: u32,
+    row: &Row<'t>,
+    bytes: &[u8],
     short: Option<Short>,
     scale: &Scale<'t>,
     visitor: &mut V,
     medium: &mut M,
 ) -> Result<(), V::Fault>
+    requires row { is_row row.now ≡ true }
+    requires read { option_to_list (option_map (short_value (scale_record scale.now)) short)
+        ≡ values_at bytes.now (row_record row.now).field }
     ensures taken { OnOk result (Takes V.has_taken visitor.old medium.old visitor.new medium.new
-        (map (λ value. record { spn = spn; value = value })
-        (option_to_list (option_map (short_value (scale_record scale.now)) short)))) }
+        (sightings_at bytes.now (row_record row.now))) }
     ensures stopped { OnErr result (Stops V.has_taken V.has_stopped visitor.old medium.old visitor.new medium.new
-        (map (λ value. record { spn = spn; value = value })
-        (option_to_list (option_map (short_value (scale_record scale.now)) short)))) }
+        (sightings_at bytes.now (row_record row.now))) }
 {
     match short {
-        None => Ok(()),
-        Some(Short::Number(number)) => visitor.visit(spn, Value::Number(number, *scale), medium),
-        Some(word) => visit_word(spn, word, scale, visitor, medium),
+        None => visit_nothing(row, bytes, visitor, medium),
+        Some(Short::Number(number)) => {
+            visitor.visit(row.spn, Value::Number(number, *scale), medium)
+        }
+        Some(word) => visit_word(row.spn, word, scale, visitor, medium),
     }
 }
 
 /// Hands on what a switch says, where it says something.
 #[inline(always)]
 fn visit_switch<'t, M, V: ReadingVisitor<'t, M>>(
-    spn: u32,
+    row: &Row<'t>,
+    bytes: &[u8],
     word: Option<Short>,
     visitor: &mut V,
     medium: &mut M,
 ) -> Result<(), V::Fault>
+    requires row { is_row row.now ≡ true }
+    requires read { option_to_list (option_map (short_value no_slot) word)
+        ≡ values_at bytes.now (row_record row.now).field }
     ensures taken { OnOk result (Takes V.has_taken visitor.old medium.old visitor.new medium.new
-        (map (λ value. record { spn = spn; value = value })
-        (option_to_list (option_map (short_value no_slot) word)))) }
+        (sightings_at bytes.now (row_record row.now))) }
     ensures stopped { OnErr result (Stops V.has_taken V.has_stopped visitor.old medium.old visitor.new medium.new
-        (map (λ value. record { spn = spn; value = value })
-        (option_to_list (option_map (short_value no_slot) word)))) }
+        (sightings_at bytes.now (row_record row.now))) }
 {
     match word {
-        None => Ok(()),
-        Some(word) => visit_said(spn, word, visitor, medium),
+        None => visit_nothing(row, bytes, visitor, medium),
+        Some(word) => visit_said(row.spn, word, visitor, medium),
     }
 }
 
@@ -184,9 +204,9 @@ fn visit_said<'t, M, V: ReadingVisitor<'t, M>>(
     medium: &mut M,
 ) -> Result<(), V::Fault>
     ensures taken { OnOk result (Takes V.has_taken visitor.old medium.old visitor.new medium.new
-        (record { spn = spn; value = short_value no_slot word } ∷ [])) }
+        (told (record { spn = spn; value = short_value no_slot word }) ∷ [])) }
     ensures stopped { OnErr result (Stops V.has_taken V.has_stopped visitor.old medium.old visitor.new medium.new
-        (record { spn = spn; value = short_value no_slot word } ∷ [])) }
+        (told (record { spn = spn; value = short_value no_slot word }) ∷ [])) }
 {
     visitor.visit(spn, word.with(Scale::NONE), medium)
 }
@@ -201,14 +221,36 @@ fn visit_word<'t, M, V: ReadingVisitor<'t, M>>(
     medium: &mut M,
 ) -> Result<(), V::Fault>
     ensures taken { OnOk result (Takes V.has_taken visitor.old medium.old visitor.new medium.new
-        (record { spn = spn; value = short_value (scale_record scale.now) word } ∷ [])) }
+        (told (record { spn = spn; value = short_value (scale_record scale.now) word }) ∷ [])) }
     ensures stopped { OnErr result (Stops V.has_taken V.has_stopped visitor.old medium.old visitor.new medium.new
-        (record { spn = spn; value = short_value (scale_record scale.now) word } ∷ [])) }
+        (told (record { spn = spn; value = short_value (scale_record scale.now) word }) ∷ [])) }
 {
     visitor.visit(spn, word.with(*scale), medium)
 }
 
-/// The same, by a row of whatever field.
+/// Hands on that the number of a row without a value is not available, where the payload has all its bits.
+#[inline(never)]
+fn visit_nothing<'t, M, V: ReadingVisitor<'t, M>>(
+    row: &Row<'t>,
+    bytes: &[u8],
+    visitor: &mut V,
+    medium: &mut M,
+) -> Result<(), V::Fault>
+    requires row { is_row row.now ≡ true }
+    requires nothing { values_at bytes.now (row_record row.now).field ≡ [] }
+    ensures taken { OnOk result (Takes V.has_taken visitor.old medium.old visitor.new medium.new
+        (sightings_at bytes.now (row_record row.now))) }
+    ensures stopped { OnErr result (Stops V.has_taken V.has_stopped visitor.old medium.old visitor.new medium.new
+        (sightings_at bytes.now (row_record row.now))) }
+{
+    if holds_number(bytes, &row.field) {
+        visitor.visit_absent(row.spn, medium)
+    } else {
+        Ok(())
+    }
+}
+
+/// The same as for a number or a switch, by a row of whatever field.
 #[inline(never)]
 fn visit_other<'t, M, V: ReadingVisitor<'t, M>>(
     row: &Row<'t>,
@@ -218,9 +260,9 @@ fn visit_other<'t, M, V: ReadingVisitor<'t, M>>(
 ) -> Result<(), V::Fault>
     requires { is_row row.now ≡ true }
     ensures taken { OnOk result (Takes V.has_taken visitor.old medium.old visitor.new medium.new
-        (readings_at bytes.now (row_record row.now))) }
+        (sightings_at bytes.now (row_record row.now))) }
     ensures stopped { OnErr result (Stops V.has_taken V.has_stopped visitor.old medium.old visitor.new medium.new
-        (readings_at bytes.now (row_record row.now))) }
+        (sightings_at bytes.now (row_record row.now))) }
 {
     match texts_of(row.field) {
         Some((byte, count)) => visit_texts(
@@ -230,7 +272,7 @@ fn visit_other<'t, M, V: ReadingVisitor<'t, M>>(
             visitor,
             medium,
         ),
-        None => visit_value(row.spn, value_in(bytes, row.field), visitor, medium),
+        None => visit_value(row, bytes, value_in(bytes, row.field), visitor, medium),
     }
 }
 
@@ -252,19 +294,22 @@ fn texts_of(field: Field<'_>) -> Option<(u8, u8)>
 /// Hands on the reading of a value, where there is one.
 #[inline(always)]
 fn visit_value<'t, M, V: ReadingVisitor<'t, M>>(
-    spn: u32,
+    row: &Row<'t>,
+    bytes: &[u8],
     value: Option<Value<'t, '_>>,
     visitor: &mut V,
     medium: &mut M,
 ) -> Result<(), V::Fault>
+    requires row { is_row row.now ≡ true }
+    requires read { option_to_list (option_map value_of value) ≡ values_at bytes.now (row_record row.now).field }
     ensures taken { OnOk result (Takes V.has_taken visitor.old medium.old visitor.new medium.new
-        (map (λ value. record { spn = spn; value = value }) (option_to_list (option_map value_of value.entry)))) }
+        (sightings_at bytes.now (row_record row.now))) }
     ensures stopped { OnErr result (Stops V.has_taken V.has_stopped visitor.old medium.old visitor.new medium.new
-        (map (λ value. record { spn = spn; value = value }) (option_to_list (option_map value_of value.entry)))) }
+        (sightings_at bytes.now (row_record row.now))) }
 {
     match value {
-        Some(value) => visitor.visit(spn, value, medium),
-        None => Ok(()),
+        Some(value) => visitor.visit(row.spn, value, medium),
+        None => visit_nothing(row, bytes, visitor, medium),
     }
 }
 
@@ -279,9 +324,9 @@ fn visit_texts<'t, M, V: ReadingVisitor<'t, M>>(
 ) -> Result<(), V::Fault>
     requires { count ≤ 31 }
     ensures taken { OnOk result (Takes V.has_taken visitor.old medium.old visitor.new medium.new
-        (text_readings spn bytes.now count)) }
+        (map told (text_readings spn bytes.now count))) }
     ensures stopped { OnErr result (Stops V.has_taken V.has_stopped visitor.old medium.old visitor.new medium.new
-        (text_readings spn bytes.now count)) }
+        (map told (text_readings spn bytes.now count))) }
 {
     let mut found = ArrayVec::new();
     push_texts(&mut found, spn, bytes, count);

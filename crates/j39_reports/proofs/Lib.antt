@@ -11,6 +11,8 @@ pub mod OriginLemmas
 pub mod FirstLemmas
 pub mod RowLemmas
 pub mod HeldLemmas
+pub mod AbsenceLemmas
+pub mod TakenLemmas
 pub mod SummaryLineLemmas
 pub mod SummaryAccountLemmas
 pub mod LawLemmas

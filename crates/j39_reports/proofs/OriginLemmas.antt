@@ -4,10 +4,7 @@ use Rattle.j39_frame.specs.Origin.{is_same}
 use Rattle.j39_frame.specs.declared.origin.Origin.{Origin}
 use Rattle.j39_frame.proofs.OriginLemmas as origins
 use Rattle.j39_listen.specs.Report.{Entry}
-use Rattle.j39_reports.specs.Summary.{have_one_origin}
-
-abbrev origin_of : Entry → Origin
-origin_of e = record { address = e.address; destination = e.destination; name = e.name; pgn = e.pgn; spn = e.spn }
+use Rattle.j39_reports.specs.Summary.{have_one_origin, origin_of}
 
 pub same_self : (e : Entry) → have_one_origin e e ≡ true
 same_self e = origins.same_self (origin_of e)

@@ -1,13 +1,16 @@
 -- The records of a message, reading by reading.
-use Rattle.std.proofs.Common.{◌≡◌, ◌∙◌, ◌++◌, ◌∷◌, ℕ, List, [], Result, Err, append_assoc, append-nil, drop, map, ap, refl, sym}
+use Rattle.std.proofs.Common.{◌+◌, Ok, arith, length-append, ◌≡◌, ◌∙◌, ◌++◌, ◌∷◌, ℕ, List, [], Result, Err, append_assoc, append-nil, drop, map, ap, refl, sym}
 use Rattle.std.proofs.lemmas.Grind.{flat_map-append}
 use Rattle.std.proofs.lemmas.List.{map-append}
+use Rattle.std.proofs.lemmas.List.Elements.{filter_map-append}
 use Rattle.j39_io.specs.Puts.{Puts}
 use Rattle.j39_io.specs.Turn.{Device}
-use Rattle.j39_io.proofs.PutsLemmas.{puts_as, puts_failed, puts_first, puts_nothing, puts_then}
+use Rattle.j39_io.proofs.PutsLemmas.{puts_as, puts_done, puts_failed, puts_first, puts_nothing, puts_then}
 use Rattle.j39_groups.specs.Row.{RowRecord}
+use Rattle.j39_groups.specs.Sightings.{SightingRecord, told_by, told_in}
 use Rattle.j39_groups.specs.Value.{ReadingRecord, ValueRecord}
 use Rattle.j39_groups.specs.Visits.{Stops, Takes}
+use Rattle.j39_listen.specs.Counting.{capped}
 use Rattle.j39_listen.specs.Heard.{Hearing}
 use Rattle.j39_listen.specs.Report.{entry_of}
 use Rattle.j39_reports.specs.EntryText.{entries_text, entry_record, named_fields, parameter_called, value_fields}
@@ -48,9 +51,18 @@ module _ (begun : Begun) (records : Records) (old : Device) (before : List Readi
       → Puts (readings_text begun with_this) last (record { old = begun.writer; new = new })
   this_too last new this = puts_as _ _ _ _ whole (puts_then (readings_text begun before) (named ++ value_fields value) tt last begun.writer old new has.written this)
 
+  -- it was written
+  pub takes_this : {T E : Type 0} (records' : Records) (a : T) (new : Device) → IsBegun begun.groups begun.hearing records' → records'.lines ≡ capped (records.lines + 1)
+      → Puts {E = E} (named ++ value_fields value) (Ok a) (record { old = old; new = new }) → HasWritten begun records' new with_this
+  takes_this records' a new is sum this = record {
+    is_begun = is;
+    written = this_too (Ok tt) new (puts_done _ a tt _ this);
+    lines_are = sum ∙ (let len = length-append before (record { spn = spn; value = value } ∷ []) in let b = has.lines_are in omega (arith, len, b));
+  }
+
   -- a fault in this one
   pub stops_here : {T E : Type 0} (e : E) (new : Device) → Puts {T = T} (named ++ value_fields value) (Err e) (record { old = old; new = new })
-      → HasStopped begun before (record { spn = spn; value = value }) new
+      → HasStopped begun with_this new
   stops_here {T = T} e new stopped = this_too (Err tt) new (puts_failed {T = T} _ e (Err tt) _ refl stopped)
 
 -- ---- all readings of a message
@@ -62,18 +74,22 @@ module _ (groups : List RowRecord) (h : Hearing) (writer : Device) (records : Re
   nothing_yet : HasWritten start records writer []
   nothing_yet = record { is_begun = is; written = puts_nothing tt writer; lines_are = none }
 
-  pub puts_all : (records' : Records) (new : Device) (readings : List ReadingRecord) → Takes HasWritten records writer records' new readings
-      → HasWritten start records' new readings
-  puts_all records' new readings takes = takes start [] nothing_yet
+  pub puts_all : (records' : Records) (new : Device) (sightings : List SightingRecord)
+      → Takes (λ subject records'' written taken. HasWritten subject records'' written (told_in taken)) records writer records' new sightings
+      → HasWritten start records' new (told_in sightings)
+  puts_all records' new sightings takes = takes start [] nothing_yet
 
-  pub stops_among : (records' : Records) (new : Device) (readings : List ReadingRecord)
-      → Stops HasWritten (λ subject before at records'' stopped. HasStopped subject before at stopped) records writer records' new readings
-      → PutsReadings start new readings (Err tt)
-  stops_among records' new readings stops =
+  pub stops_among : (records' : Records) (new : Device) (sightings : List SightingRecord)
+      → Stops (λ subject records'' written taken. HasWritten subject records'' written (told_in taken))
+      (λ subject before at records'' stopped. HasStopped subject (told_in (before ++ at ∷ [])) stopped) records writer records' new sightings
+      → PutsReadings start new (told_in sightings) (Err tt)
+  stops_among records' new sightings stops =
       let w = stops start [] nothing_yet in
-      let before = w.taken ++ (w.at ∷ []) in
-      let whole : readings_text start readings ≡ readings_text start before ++ readings_text start w.rest =
-      ap (readings_text start) (w.readings_are ∙ sym (append_assoc w.taken (w.at ∷ []) w.rest))
-      ∙ ap (entries_text groups) (map-append (entry_of h) before w.rest)
-      ∙ flat_map-append (entry_record groups) (map (entry_of h) before) (map (entry_of h) w.rest) in
-      puts_as _ _ _ _ (sym whole) (puts_first {T = Unit} (readings_text start before) (readings_text start w.rest) tt (Err tt) _ refl w.stopped)
+      let before = told_in (w.taken ++ w.at ∷ []) in
+      let rest = told_in w.rest in
+      let whole : readings_text start (told_in sightings) ≡ readings_text start before ++ readings_text start rest =
+      ap (λ xs. readings_text start (told_in xs)) (w.sightings_are ∙ sym (append_assoc w.taken (w.at ∷ []) w.rest))
+      ∙ ap (readings_text start) (filter_map-append told_by (w.taken ++ w.at ∷ []) w.rest)
+      ∙ ap (entries_text groups) (map-append (entry_of h) before rest)
+      ∙ flat_map-append (entry_record groups) (map (entry_of h) before) (map (entry_of h) rest) in
+      puts_as _ _ _ _ (sym whole) (puts_first {T = Unit} (readings_text start before) (readings_text start rest) tt (Err tt) _ refl w.stopped)

@@ -17,7 +17,7 @@ use Rattle.j39_reports.proofs.OriginLemmas.{same_like, same_self, same_sym}
 
 -- ---- one value more
 
-capped-more : (n k : ℕ) → capped (n + k) ≡ capped (capped n + k)
+pub capped-more : (n k : ℕ) → capped (n + k) ≡ capped (capped n + k)
 capped-more n k = omega arith
 
 pub last_of-more : (d : Entry) (es : List Entry) (e : Entry) → last_of d (es ++ e ∷ []) ≡ e

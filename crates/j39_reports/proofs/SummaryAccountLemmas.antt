@@ -1,16 +1,20 @@
 -- The summary as an account: what is heard at one frame more, and its end.
-use Rattle.std.proofs.Common.{Bor, ◌≡◌, ◌<◌, ◌+◌, ◌^◌, ℕ, List, [], ◌∷◌, ◌++◌, Option, Some, None, length, map, sym, ap, ◌∙◌, subst, arith, append-nil, length-append, inr, refl}
+use Rattle.std.proofs.Common.{Bor, ◌≡◌, ◌<◌, ◌+◌, ◌^◌, ℕ, List, [], ◌∷◌, ◌++◌, Option, Some, None, length, map, sym, ap, ◌∙◌, subst, arith, append-nil, length-append, inl, inr, refl}
+use Rattle.std.specs.Prelude.{◌⊎◌}
 use Rattle.std.specs.List.{flat_map}
 use Rattle.std.specs.Io.KnownBytes.{Appends}
 use Rattle.std.proofs.KnownBytes.{Appends-nil}
 use Rattle.std.proofs.lemmas.Grind.{flat_map-append}
 use Rattle.std.proofs.lemmas.List.{length-map, map-append}
+use Rattle.std.proofs.lemmas.List.Elements.{filter_map-append}
 use Rattle.j39_memory.specs.ByOrigin.{pairs_of}
 use Rattle.j39_io.specs.Device.{AppendsFront}
 use Rattle.j39_frame.specs.Frame.{FrameRecord}
-use Rattle.j39_groups.specs.Readings.{is_reported_in, readings_in}
+use Rattle.j39_groups.specs.Readings.{is_reported_in}
+use Rattle.j39_groups.specs.Sightings.{SightingRecord, absent, absent_by, absent_in, sightings_in, told, told_by, told_in}
 use Rattle.j39_groups.specs.Row.{RowRecord}
 use Rattle.j39_groups.specs.Visits.{Stops, Takes}
+use Rattle.j39_groups.proofs.SightingLemmas.{absent_are, told_are}
 use Rattle.j39_listen.specs.AccountCalls.{Begins, Closes, MakesOne, Meets, StopsAtEnd}
 use Rattle.j39_listen.specs.Counting.{capped}
 use Rattle.j39_listen.specs.Heard.{AreHeard, HeardAt, Hearing, or_none}
@@ -23,12 +27,12 @@ use Rattle.j39_listen.proofs.LineLemmas.{capped-fits}
 use Rattle.j39_listen.proofs.Reported.{reported_leaves}
 use Rattle.j39_listen.proofs.Unique.{heard_below_unique}
 use Rattle.j39_reports.specs.SummarySoFar.{HasSummed, NotesFrame}
-use Rattle.j39_reports.specs.RowsSoFar.{AreRowsOf, HasTaken, Message, WantsAt}
+use Rattle.j39_reports.specs.RowsSoFar.{AreCounted, AreRowsOf, HasTaken, Message, WantsAt, counted}
+use Rattle.j39_reports.specs.Summary.{absence_of, absences_of, how_often}
 use Rattle.j39_reports.specs.RowText.{summary_columns, summary_text}
 use Rattle.j39_reports.specs.RowModels.{row_shown}
-use Rattle.j39_reports.specs.SummaryRun.{AsksForRows, MakesSummary, MakesSummaryIn, output_of}
+use Rattle.j39_reports.specs.SummaryRun.{AsksForAbsence, AsksForRow, AsksForRows, MakesSummary, MakesSummaryIn, output_of}
 use Rattle.j39_reports.specs.declared.summaries.account.SummaryAccount.{SummaryAccount}
-use Rattle.j39_reports.specs.declared.summaries.deeds.Deeds.{Deeds}
 use Rattle.j39_frame.specs.declared.origin.Origin.{Origin}
 use Rattle.j39_listen.specs.declared.format.Format.{Format}
 use Rattle.j39_listen.specs.declared.format.Format.TheVariants.{Record}
@@ -53,55 +57,83 @@ records_one groups = λ bus F x y (a, made_a, is_a) (b, made_b, is_b).
 
 -- ---- one frame
 
-pub notes_silent : (groups : List RowRecord) (l' : Listener) (F : List FrameRecord) (f : FrameRecord) (rows : List (Origin × Deeds)) (before : List Entry)
-    → HeardAt groups (F ++ f ∷ []) (length F) None → Hears l' (F ++ f ∷ []) → AreRowsOf rows before → NotesFrame groups F f l' rows before 0
-notes_silent groups l' F f rows before silent hears are = record {
+pub notes_silent : (groups : List RowRecord) (l' : Listener) (F : List FrameRecord) (f : FrameRecord) (rows : Rows) (before : List Entry) (gone : List Origin)
+    → HeardAt groups (F ++ f ∷ []) (length F) None → Hears l' (F ++ f ∷ []) → AreRowsOf (pairs_of rows.rows) before → AreCounted (pairs_of rows.absences.counts) gone
+    → NotesFrame groups F f l' rows before gone 0
+notes_silent groups l' F f rows before gone silent hears are counts = record {
   heard = None;
   heard_at = silent;
   hears = hears;
-  are_rows = subst (AreRowsOf rows) (sym (append-nil before)) are;
+  are_rows = subst (AreRowsOf (pairs_of rows.rows)) (sym (append-nil before)) are;
+  are_counted = subst (AreCounted (pairs_of rows.absences.counts)) (sym (append-nil gone)) counts;
   messages_are = refl;
 }
 
-pub notes_heard : (groups : List RowRecord) (l' : Listener) (F : List FrameRecord) (f : FrameRecord) (h : Hearing) (begun rows : Rows) (before : List Entry)
-    → HeardAt groups (F ++ f ∷ []) (length F) (Some h) → Hears l' (F ++ f ∷ []) → HasTaken (record { before = before; hearing = h }) begun []
-    → Takes {M = Unit {0}} (λ message rows medium. HasTaken message rows) begun tt rows tt (readings_in groups h.message.pgn h.message.bytes) → NotesFrame groups F f l' (pairs_of rows.rows) before 1
-notes_heard groups l' F f h begun rows before at hears begins takes =
-    let message : Message = record { before = before; hearing = h } in
+pub notes_heard : (groups : List RowRecord) (l' : Listener) (F : List FrameRecord) (f : FrameRecord) (h : Hearing) (begun rows : Rows) (before : List Entry) (gone : List Origin)
+    → HeardAt groups (F ++ f ∷ []) (length F) (Some h) → Hears l' (F ++ f ∷ []) → HasTaken (record { before = before; absent = gone; hearing = h }) begun []
+    → Takes {M = Unit {0}} (λ message rows medium. HasTaken message rows) begun tt rows tt (sightings_in groups h.message.pgn h.message.bytes) → NotesFrame groups F f l' rows before gone 1
+notes_heard groups l' F f h begun rows before gone at hears begins takes =
+    let message : Message = record { before = before; absent = gone; hearing = h } in
     let taken = takes message [] begins in
+    let told = ap (map (entry_of h)) (told_are groups h.message.pgn h.message.bytes) in
+    let not_there = ap (map (absence_of h)) (absent_are groups h.message.pgn h.message.bytes) in
     record {
       heard = Some h;
       heard_at = at;
       hears = hears;
-      are_rows = subst (λ es. AreRowsOf (pairs_of rows.rows) (before ++ es)) (sym (append-nil (entries_of groups h))) taken.are_rows;
+      are_rows = subst (λ es. AreRowsOf (pairs_of rows.rows) (before ++ es)) (told ∙ sym (append-nil (entries_of groups h))) taken.are_rows;
+      are_counted = subst (λ os. AreCounted (pairs_of rows.absences.counts) (gone ++ os)) (not_there ∙ sym (append-nil (absences_of groups h))) taken.are_counted;
       messages_are = refl;
     }
 
 pub asks_heard : (groups : List RowRecord) (F : List FrameRecord) (f : FrameRecord) (h : Hearing) (heard : List Hearing) (begun rows : Rows)
     → HeardAt groups (F ++ f ∷ []) (length F) (Some h) → AreHeard groups F heard
-    → HasTaken (record { before = flat_map (entries_of groups) heard; hearing = h }) begun []
-    → Stops {M = Unit {0}} (λ message rows medium. HasTaken message rows) (λ message before at rows medium. WantsAt message before at) begun tt rows tt (readings_in groups h.message.pgn h.message.bytes) → AsksForRows groups F f
+    → HasTaken (record { before = flat_map (entries_of groups) heard; absent = flat_map (absences_of groups) heard; hearing = h }) begun []
+    → Stops {M = Unit {0}} (λ message rows medium. HasTaken message rows) (λ message before at rows medium. WantsAt message before at) begun tt rows tt (sightings_in groups h.message.pgn h.message.bytes) → AsksForRows groups F f
 asks_heard groups F f h heard begun rows at are_heard begins stops =
-    let message : Message = record { before = flat_map (entries_of groups) heard; hearing = h } in
     let w = stops message [] begins in
-    inr (record {
+    inr (by w.taken w.at w.rest w.sightings_are w.stopped)
+  where
+    message : Message
+    message = record { before = flat_map (entries_of groups) heard; absent = flat_map (absences_of groups) heard; hearing = h }
+
+    by : (taken : List SightingRecord) (s : SightingRecord) (rest : List SightingRecord)
+        → sightings_in groups h.message.pgn h.message.bytes ≡ taken ++ (s ∷ rest) → WantsAt message taken s
+        → AsksForRow groups F f ⊎ AsksForAbsence groups F f
+    by taken (told r) rest cut wanted = inl (record {
       heard = heard;
       are_heard = are_heard;
       now_heard = h;
       heard_now = at;
-      taken = map (entry_of h) w.taken;
-      entry = entry_of h w.at;
-      rest = map (entry_of h) w.rest;
-      entries_are = ap (map (entry_of h)) w.readings_are ∙ map-append (entry_of h) w.taken (w.at ∷ w.rest);
-      wanted = w.stopped;
+      taken = map (entry_of h) (told_in taken);
+      entry = entry_of h r;
+      rest = map (entry_of h) (told_in rest);
+      entries_are = ap (map (entry_of h)) (sym (told_are groups h.message.pgn h.message.bytes) ∙ ap told_in cut ∙ filter_map-append told_by taken (told r ∷ rest))
+          ∙ map-append (entry_of h) (told_in taken) (r ∷ told_in rest);
+      wanted = wanted;
+    })
+    by taken (absent spn) rest cut wanted = inr (record {
+      heard = heard;
+      are_heard = are_heard;
+      now_heard = h;
+      heard_now = at;
+      taken = map (absence_of h) (absent_in taken);
+      origin = absence_of h spn;
+      rest = map (absence_of h) (absent_in rest);
+      absences_are = ap (map (absence_of h)) (sym (absent_are groups h.message.pgn h.message.bytes) ∙ ap absent_in cut ∙ filter_map-append absent_by taken (absent spn ∷ rest))
+          ∙ map-append (absence_of h) (absent_in taken) (spn ∷ absent_in rest);
+      wanted = wanted;
     })
 
 pub summary_meets : (form : Format) (groups : List RowRecord) (a a' : SummaryAccount) → a'.groups ≡ a.groups → a'.form ≡ a.form → (f : FrameRecord) (messages : ℕ) (old : Option (List ℕ))
-    → ((F : List FrameRecord) (before : List Entry) → Hears a.listener F → AreRowsOf (pairs_of a.rows.rows) before → NotesFrame a.groups.now F f a'.listener (pairs_of a'.rows.rows) before messages)
+    → ((F : List FrameRecord) (before : List Entry) → Hears a.listener F → AreRowsOf (pairs_of a.rows.rows) before → (gone : List Origin)
+    → AreCounted (pairs_of a.rows.absences.counts) gone → NotesFrame a.groups.now F f a'.listener a'.rows before gone messages)
     → a'.messages ≡ capped (a.messages + messages) → Meets (HasSummed form groups) a a' (f ∷ []) old old
 summary_meets form groups a a' kept same f messages old notes sum = λ F before has.
     let entries = flat_map (entries_of groups) has.heard in
-    let n = subst (λ (table : List RowRecord). NotesFrame table F f a'.listener (pairs_of a'.rows.rows) entries messages) has.by (notes F entries has.hears has.are_rows) in
+    let gone = flat_map (absences_of groups) has.heard in
+    let n = subst (λ (table : List RowRecord). NotesFrame table F f a'.listener a'.rows entries gone messages) has.by
+    (notes F entries has.hears has.are_rows gone has.are_counted) in
     let more = or_none n.heard in
     let count : a'.messages ≡ capped (length (has.heard ++ more)) =
     sum ∙ (let len = length-append has.heard more in let m = n.messages_are in let b = has.messages_are in omega (arith, len, m, b)) in
@@ -114,6 +146,7 @@ summary_meets form groups a a' kept same f messages old notes sum = λ F before 
         are_heard = heard_more (is_reported_in groups) F f has.heard n.heard has.are_heard n.heard_at;
         hears = n.hears;
         are_rows = subst (AreRowsOf (pairs_of a'.rows.rows)) (sym (flat_map-append (entries_of groups) has.heard more)) n.are_rows;
+        are_counted = subst (AreCounted (pairs_of a'.rows.absences.counts)) (sym (flat_map-append (absences_of groups) has.heard more)) n.are_counted;
         messages_are = count;
         nothing_yet = has.nothing_yet;
       };
@@ -124,14 +157,19 @@ summary_meets form groups a a' kept same f messages old notes sum = λ F before 
 
 -- ---- the end
 
+abbrev written_by : Format → List RowRecord → SummaryAccount → List ℕ
+written_by form groups a = summary_text form groups (counted (pairs_of a.rows.absences.counts)) (map row_shown (pairs_of a.rows.rows))
+
 all_text : (form : Format) (groups : List RowRecord) (a : SummaryAccount) (F : List FrameRecord) (before : Output) (has : HasSummed form groups a F before)
-    → summary_text a.form a.groups.now (map row_shown (pairs_of a.rows.rows)) ≡ (output_of form groups has.heard).text
+    → written_by a.form a.groups.now a ≡ (output_of form groups has.heard).text
 all_text form groups a F before has =
-    ap (λ (f : Format). summary_text f a.groups.now (map row_shown (pairs_of a.rows.rows))) has.form_is
-    ∙ ap (λ (table : List RowRecord). summary_text form table (map row_shown (pairs_of a.rows.rows))) has.by ∙ ap (summary_text form groups) has.are_rows
+    ap (λ (f : Format). written_by f a.groups.now a) has.form_is
+    ∙ ap (λ (table : List RowRecord). written_by form table a) has.by
+    ∙ ap (λ (often : Origin → ℕ). summary_text form groups often (map row_shown (pairs_of a.rows.rows))) (λ i o. has.are_counted o i)
+    ∙ ap (summary_text form groups (how_often (flat_map (absences_of groups) has.heard))) has.are_rows
 
 pub summary_closes : (form : Format) (groups : List RowRecord) (a : SummaryAccount) (lines : ℕ) (old new : Option (List ℕ)) → lines ≡ length (pairs_of a.rows.rows) → lines < 2 ^ 64
-    → Appends old new (summary_text a.form a.groups.now (map row_shown (pairs_of a.rows.rows)))
+    → Appends old new (written_by a.form a.groups.now a)
     → Closes (λ bus. HasSummed form groups) (MakesSummaryIn form groups) a (record { messages = a.messages; lines = lines }) old new
 summary_closes form groups a lines old new count fits written = λ bus F before has.
     let out = output_of form groups has.heard in
@@ -147,7 +185,7 @@ summary_closes form groups a lines old new count fits written = λ bus F before 
     }
 
 pub summary_stops : (form : Format) (groups : List RowRecord) (a : SummaryAccount) (old new : Option (List ℕ))
-    → AppendsFront old new (summary_text a.form a.groups.now (map row_shown (pairs_of a.rows.rows))) → StopsAtEnd (λ bus. HasSummed form groups) (MakesSummaryIn form groups) a old new
+    → AppendsFront old new (written_by a.form a.groups.now a) → StopsAtEnd (λ bus. HasSummed form groups) (MakesSummaryIn form groups) a old new
 summary_stops form groups a old new front = λ bus F before all has made.
     let is : all.text ≡ (output_of form groups has.heard).text =
     summary_one form groups bus F all (output_of form groups has.heard) made (has.heard, has.are_heard, refl) in

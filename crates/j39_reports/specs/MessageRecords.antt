@@ -1,5 +1,5 @@
 -- The steps of a message's records, reading by reading.
-use Rattle.std.specs.Prelude.{◌≡◌, ◌∷◌, ◌++◌, ℕ, List, [], Result, Ok, Err, if◌then◌else◌, drop, length, map}
+use Rattle.std.specs.Prelude.{◌≡◌, ◌++◌, ℕ, List, Result, Ok, Err, if◌then◌else◌, drop, length, map}
 use Rattle.j39_io.specs.Puts.{Puts}
 use Rattle.j39_io.specs.Records.{later_text}
 use Rattle.j39_io.specs.Turn.{Device}
@@ -46,6 +46,6 @@ pub record HasWritten (begun : Begun) (records : Records) (writer : Device) (rea
   pub written : PutsReadings begun writer readings (Ok tt)
   pub lines_are : records.lines ≡ capped (length readings)
 
--- a fault came in the record of a reading behind others
-abbrev pub HasStopped : Begun → List ReadingRecord → ReadingRecord → Device → Type 0
-HasStopped begun before at writer = PutsReadings begun writer (before ++ (at ∷ [])) (Err tt)
+-- a fault came in the record of the last of these readings
+abbrev pub HasStopped : Begun → List ReadingRecord → Device → Type 0
+HasStopped begun readings writer = PutsReadings begun writer readings (Err tt)

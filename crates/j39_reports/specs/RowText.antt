@@ -2,6 +2,7 @@
 use Rattle.std.specs.Prelude.{◌++◌, ◌∷◌, ℕ, List, [], Option, None, Some, codes, decimal, unwrap_or}
 use Rattle.std.specs.List.{concat, flat_map}
 use Rattle.hex.specs.Hex.{encode_upper}
+use Rattle.j39_frame.specs.declared.origin.Origin.{Origin}
 use Rattle.j39_io.specs.Chars.{newline}
 use Rattle.j39_log.specs.StampText.{stamp_text}
 use Rattle.j39_groups.specs.Names.{name_in}
@@ -11,7 +12,7 @@ use Rattle.j39_groups.specs.ValueText.{bare_text, quoted, scaled_text, text_in_f
 use Rattle.j39_reports.specs.Columns.{moment_fields, sender_fields}
 use Rattle.j39_io.specs.Records.{later_text, line_end}
 use Rattle.j39_listen.specs.Report.{name_text}
-use Rattle.j39_reports.specs.Summary.{Range, Row}
+use Rattle.j39_reports.specs.Summary.{Range, Row, origin_of}
 use Rattle.j39_listen.specs.declared.format.Format.{Format}
 use Rattle.j39_listen.specs.declared.format.Format.TheVariants.{Line, Record}
 
@@ -22,18 +23,19 @@ abbrev pub destination_text : Option ℕ → List ℕ
 destination_text None = []
 destination_text (Some address) = codes ">" ++ encode_upper (address ∷ [])
 
--- of a line: address and destination, NAME, PGN, SPN, how many values, how many of them words, the stamps of the first and the last
-unfoldable pub line_head : Row → List ℕ
-line_head row =
+-- of a line: address and destination, NAME, PGN, SPN, how many values, how many of them words, how often it was not available,
+-- the stamps of the first and the last
+unfoldable pub line_head : ℕ → Row → List ℕ
+line_head absent row =
     encode_upper (row.first.address ∷ []) ++ destination_text row.first.destination
     ++ codes " " ++ name_text row.first.name ++ codes " " ++ decimal row.first.pgn
     ++ codes " " ++ decimal row.first.spn ++ codes " " ++ decimal row.count ++ codes " " ++ decimal row.words
-    ++ codes " " ++ stamp_text row.first.stamp ++ codes " " ++ stamp_text row.last.stamp
+    ++ codes " " ++ decimal absent ++ codes " " ++ stamp_text row.first.stamp ++ codes " " ++ stamp_text row.last.stamp
 
 -- the names of a record's columns
 abbrev pub summary_columns : List ℕ
 summary_columns =
-    codes "address,destination,name,pgn,spn,parameter,values,words,first_stamp,first_utc,last_stamp,last_utc,least,most,unit,first,last\r\n"
+    codes "address,destination,name,pgn,spn,parameter,values,words,absent,first_stamp,first_utc,last_stamp,last_utc,least,most,unit,first,last\r\n"
 
 -- address, destination, NAME, PGN and SPN
 unfoldable pub origin_fields : Row → List ℕ
@@ -41,20 +43,21 @@ origin_fields row =
     sender_fields row.first.address row.first.destination row.first.name
     ++ codes "," ++ decimal row.first.pgn ++ codes "," ++ decimal row.first.spn
 
--- how many values, how many of them words, and the moments of the first and the last
-unfoldable pub count_fields : Row → List ℕ
-count_fields row =
-    codes "," ++ decimal row.count ++ codes "," ++ decimal row.words
+-- how many values, how many of them words, how often it was not available, and the moments of the first and the last
+unfoldable pub count_fields : ℕ → Row → List ℕ
+count_fields absent row =
+    codes "," ++ decimal row.count ++ codes "," ++ decimal row.words ++ codes "," ++ decimal absent
     ++ codes "," ++ moment_fields row.first.stamp ++ codes "," ++ moment_fields row.last.stamp
 
 -- of a record: the origin, what the parameter is called, nothing where the table lists none, and the counts
-unfoldable pub record_head : List RowRecord → Row → List ℕ
-record_head groups row =
-    origin_fields row ++ later_text (unwrap_or (name_in groups row.first.pgn row.first.spn) []) ++ count_fields row
+unfoldable pub record_head : List RowRecord → ℕ → Row → List ℕ
+record_head groups absent row =
+    origin_fields row ++ later_text (unwrap_or (name_in groups row.first.pgn row.first.spn) [])
+    ++ count_fields absent row
 
-unfoldable pub head_in : Format → List RowRecord → Row → List ℕ
-head_in Line groups row = line_head row
-head_in Record groups row = record_head groups row
+unfoldable pub head_in : Format → List RowRecord → ℕ → Row → List ℕ
+head_in Line groups absent row = line_head absent row
+head_in Record groups absent row = record_head groups absent row
 
 -- ---- the numbers and the values
 
@@ -111,10 +114,11 @@ end_in Record groups pgn spn = line_end
 
 -- ---- the whole
 
-unfoldable pub row_in : Format → List RowRecord → Row → List ℕ
-row_in form groups row =
-    head_in form groups row ++ values_in form row.range row.first.value row.last.value
+unfoldable pub row_in : Format → List RowRecord → ℕ → Row → List ℕ
+row_in form groups absent row =
+    head_in form groups absent row ++ values_in form row.range row.first.value row.last.value
     ++ end_in form groups row.first.pgn row.first.spn
 
-abbrev pub summary_text : Format → List RowRecord → List Row → List ℕ
-summary_text form groups rows = flat_map (row_in form groups) rows
+-- so often each origin was not available
+abbrev pub summary_text : Format → List RowRecord → (Origin → ℕ) → List Row → List ℕ
+summary_text form groups absent rows = flat_map (λ row. row_in form groups (absent (origin_of row.first)) row) rows

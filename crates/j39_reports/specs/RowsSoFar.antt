@@ -1,15 +1,18 @@
 -- The steps of a summary, entry by entry.
-use Rattle.std.specs.Prelude.{◌≡◌, ◌+◌, ◌++◌, ℕ, Bool, List, Option, None, Some, if◌then◌else◌, map}
+use Rattle.std.specs.Prelude.{◌≡◌, ◌+◌, ◌++◌, ◌∷◌, [], false, ℕ, Bool, List, Option, None, Some, if◌then◌else◌, map}
 use Rattle.std.specs.Int.{int_max, int_min}
+use Rattle.std.specs.List.{list_any}
 use Rattle.j39_memory.specs.ByOrigin.{pairs_of}
+use Rattle.j39_frame.specs.Origin.{is_same}
 use Rattle.j39_frame.specs.Stamp.{stamp_micros}
-use Rattle.j39_groups.specs.Value.{ReadingRecord, ValueRecord}
+use Rattle.j39_groups.specs.Sightings.{SightingRecord, absent, absent_in, told, told_in}
+use Rattle.j39_groups.specs.Value.{ValueRecord}
 use Rattle.j39_listen.specs.Counting.{capped}
 use Rattle.j39_listen.specs.Heard.{Hearing}
 use Rattle.j39_listen.specs.Report.{Entry, entry_of}
 use Rattle.j39_reports.specs.RowModels.{entry_at, row_shown}
 use Rattle.j39_reports.specs.SummaryRun.{WantsRow}
-use Rattle.j39_reports.specs.Summary.{Number, Range, Row, are_comparable, is_word, number_of, summary_of}
+use Rattle.j39_reports.specs.Summary.{absence_of, how_often, Number, Range, Row, are_comparable, is_word, number_of, summary_of}
 use Rattle.j39_reports.specs.declared.summaries.deeds.Deeds.{Deeds}
 use Rattle.j39_frame.specs.declared.origin.Origin.{Origin}
 use Rattle.j39_reports.specs.declared.summaries.rows.Rows.{Rows}
@@ -55,14 +58,26 @@ HasGrown old stamp value new =
 abbrev pub AreRowsOf : List (Origin × Deeds) → List Entry → Type 0
 AreRowsOf rows entries = map row_shown rows ≡ summary_of entries
 
--- the entries before a message, and the message
+-- the count of an origin, if it has one
+unfoldable pub counted : List (Origin × ℕ) → Origin → ℕ
+counted [] origin = 0
+counted (pair ∷ pairs) origin = if is_same origin pair.0 then pair.1 else counted pairs origin
+
+-- the counts are those of these absences
+abbrev pub AreCounted : List (Origin × ℕ) → List Origin → Type 0
+AreCounted pairs absences = (origin : Origin) → counted pairs origin ≡ how_often absences origin
+
+-- the entries and what was not available before a message, and the message
 pub record Message : Type 0 where
   pub before : List Entry
+  pub absent : List Origin
   pub hearing : Hearing
 
--- the rows are those of the entries before the message and of these readings of it
-pub record HasTaken (message : Message) (rows : Rows) (readings : List ReadingRecord) : Type 0 where
-  pub are_rows : AreRowsOf (pairs_of rows.rows) (message.before ++ map (entry_of message.hearing) readings)
+-- the rows are those of the entries before the message and of what it told so far, and so are the counts of what is not available
+pub record HasTaken (message : Message) (rows : Rows) (sightings : List SightingRecord) : Type 0 where
+  pub are_rows : AreRowsOf (pairs_of rows.rows) (message.before ++ map (entry_of message.hearing) (told_in sightings))
+  pub are_counted : AreCounted (pairs_of rows.absences.counts)
+      (message.absent ++ map (absence_of message.hearing) (absent_in sightings))
   pub stamp_is : stamp_micros rows.stamp ≡ message.hearing.stamp
   pub address_is : rows.address ≡ message.hearing.message.source
   pub destination_is : rows.destination ≡ message.hearing.destination
@@ -70,6 +85,9 @@ pub record HasTaken (message : Message) (rows : Rows) (readings : List ReadingRe
   pub pgn_is : rows.pgn ≡ message.hearing.message.pgn
 
 -- where they want memory
-abbrev pub WantsAt : Message → List ReadingRecord → ReadingRecord → Type 0
-WantsAt message before reading =
-    WantsRow (message.before ++ map (entry_of message.hearing) before) (entry_of message.hearing reading)
+abbrev pub WantsAt : Message → List SightingRecord → SightingRecord → Type 0
+WantsAt message before (told reading) =
+    WantsRow (message.before ++ map (entry_of message.hearing) (told_in before)) (entry_of message.hearing reading)
+WantsAt message before (absent spn) =
+    list_any (is_same (absence_of message.hearing spn))
+    (message.absent ++ map (absence_of message.hearing) (absent_in before)) ≡ false

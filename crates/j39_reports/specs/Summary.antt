@@ -1,11 +1,15 @@
--- The summary of a report: what each parameter of each controller did, said of the report's entries alone.
+-- The summary of a report: what each parameter of each controller did, and how often its number was not available.
 use Rattle.std.specs.Prelude.{◌≡◌, ◌==◌, ◌&&◌, not, ℕ, ℤ, Bool, true, false, List, [], ◌∷◌, Option, Some, None, filter, fold, length, map, count_by}
 use Rattle.std.specs.Int.{int_max, int_min}
 use Rattle.std.specs.List.{filter_map, list_any}
 use Rattle.std.specs.Str.{bytes_eq}
-use Rattle.j39_frame.specs.Origin.{is_same_or_none}
+use Rattle.j39_frame.specs.Origin.{is_same, is_same_or_none}
+use Rattle.j39_frame.specs.declared.origin.Origin.{Origin}
+use Rattle.j39_groups.specs.Row.{RowRecord}
+use Rattle.j39_groups.specs.Sightings.{absences_in}
 use Rattle.j39_groups.specs.Value.{SlotRecord, ValueRecord, number, on, off, error, reserved, indicator, text}
 use Rattle.j39_listen.specs.Counting.{capped}
+use Rattle.j39_listen.specs.Heard.{Hearing}
 use Rattle.j39_listen.specs.Report.{Entry}
 
 -- two values are of one parameter of one controller, sent to the same: address, destination, NAME, PGN and SPN are the same
@@ -106,3 +110,26 @@ row_of entries first = record {
 -- a row for each parameter of each controller, in the order of their first values
 abbrev pub summary_of : List Entry → List Row
 summary_of entries = map (row_of entries) (firsts entries)
+
+-- ---- what is not available
+
+-- the origin of a value, and that of a parameter that a message has and that is not available
+abbrev pub origin_of : Entry → Origin
+origin_of e = record { address = e.address; destination = e.destination; name = e.name; pgn = e.pgn; spn = e.spn }
+
+abbrev pub absence_of : Hearing → ℕ → Origin
+absence_of h spn = record {
+  address = h.message.source;
+  destination = h.destination;
+  name = h.name;
+  pgn = h.message.pgn;
+  spn = spn;
+}
+
+-- the parameters of a message that are not available, each by its origin
+abbrev pub absences_of : List RowRecord → Hearing → List Origin
+absences_of groups h = map (absence_of h) (absences_in groups h.message.pgn h.message.bytes)
+
+-- how many of these are of this origin (a count that would pass 2^64 - 1 stays there)
+abbrev pub how_often : List Origin → Origin → ℕ
+how_often absences origin = capped (count_by (is_same origin) absences)

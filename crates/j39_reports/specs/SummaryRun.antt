@@ -2,6 +2,8 @@
 use Rattle.std.specs.Prelude.{◌≡◌, ◌⊎◌, ◌∷◌, ◌++◌, false, List, [], Some, length}
 use Rattle.std.specs.List.{flat_map, list_any}
 use Rattle.j39_frame.specs.Frame.{FrameRecord}
+use Rattle.j39_frame.specs.Origin.{is_same}
+use Rattle.j39_frame.specs.declared.origin.Origin.{Origin}
 use Rattle.j39_groups.specs.Row.{RowRecord}
 use Rattle.j39_groups.specs.Value.{ValueRecord, number, on, off, error, reserved, indicator, text}
 use Rattle.j39_listen.specs.Asking.{AsksForBoxes, Wanting}
@@ -12,12 +14,13 @@ use Rattle.j39_listen.specs.Headed.{Headed}
 use Rattle.j39_reports.specs.RowText.{summary_columns, summary_text}
 use Rattle.j39_listen.specs.declared.format.Format.{Format}
 use Rattle.j39_listen.specs.declared.format.Format.TheVariants.{Line, Record}
-use Rattle.j39_reports.specs.Summary.{have_one_origin, summary_of}
+use Rattle.j39_reports.specs.Summary.{absences_of, have_one_origin, how_often, summary_of}
 
--- the summary of the entries of what is heard; each message counts that is heard
+-- the summary of the entries of what is heard, and of what is not available in it; each message counts that is heard
 abbrev pub output_of : Format → List RowRecord → List Hearing → Output
 output_of form groups heard = record {
-  text = summary_text form groups (summary_of (flat_map (entries_of groups) heard));
+  text = summary_text form groups (how_often (flat_map (absences_of groups) heard))
+      (summary_of (flat_map (entries_of groups) heard));
   messages = length heard;
   lines = length (summary_of (flat_map (entries_of groups) heard));
 }
@@ -57,6 +60,18 @@ pub record AsksForRow (groups : List RowRecord) (F : List FrameRecord) (frame : 
   pub entries_are : entries_of groups now_heard ≡ taken ++ (entry ∷ rest)
   pub wanted : WantsRow (flat_map (entries_of groups) heard ++ taken) entry
 
--- a summary asks for the boxes of messages, and for its rows and texts
+-- behind the frames F a message is heard at this frame, and a parameter is not available in it that was so nowhere before
+pub record AsksForAbsence (groups : List RowRecord) (F : List FrameRecord) (frame : FrameRecord) : Type 0 where
+  pub heard : List Hearing
+  pub are_heard : AreHeard groups F heard
+  pub now_heard : Hearing
+  pub heard_now : HeardAt groups (F ++ frame ∷ []) (length F) (Some now_heard)
+  pub taken : List Origin
+  pub origin : Origin
+  pub rest : List Origin
+  pub absences_are : absences_of groups now_heard ≡ taken ++ (origin ∷ rest)
+  pub wanted : list_any (is_same origin) (flat_map (absences_of groups) heard ++ taken) ≡ false
+
+-- a summary asks for the boxes of messages, and for its rows, its texts and its counts of what is not available
 abbrev pub AsksForRows : List RowRecord → Wanting
-AsksForRows groups F frame = AsksForBoxes F frame ⊎ AsksForRow groups F frame
+AsksForRows groups F frame = AsksForBoxes F frame ⊎ (AsksForRow groups F frame ⊎ AsksForAbsence groups F frame)

@@ -1,7 +1,9 @@
 //! The summary of a report: what each parameter of each controller did.
 
+mod absences;
 mod account;
 mod deeds;
+mod guesses;
 mod kept;
 pub mod laws;
 mod lines;

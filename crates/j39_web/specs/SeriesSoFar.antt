@@ -1,5 +1,5 @@
 -- The steps of a series, frame by frame and reading by reading.
-use Rattle.std.specs.Prelude.{◌≡◌, ◌++◌, ◌∷◌, ℕ, List, [], Result, Ok, Err, length, map}
+use Rattle.std.specs.Prelude.{◌≡◌, ℕ, List, Result, Ok, Err, length, map}
 use Rattle.std.specs.List.{flat_map}
 use Rattle.j39_frame.specs.Frame.{FrameRecord}
 use Rattle.j39_io.specs.Puts.{Puts}
@@ -63,6 +63,6 @@ pub record HasWritten (begun : Begun) (points : Points) (writer : Device) (readi
   pub written : PutsReadings begun writer readings (Ok tt)
   pub lines_are : points.lines ≡ capped (length readings)
 
--- a fault came at a reading behind others
-abbrev pub HasStopped : Begun → List ReadingRecord → ReadingRecord → Device → Type 0
-HasStopped begun before at writer = PutsReadings begun writer (before ++ (at ∷ [])) (Err tt)
+-- a fault came at the last of these readings
+abbrev pub HasStopped : Begun → List ReadingRecord → Device → Type 0
+HasStopped begun readings writer = PutsReadings begun writer readings (Err tt)

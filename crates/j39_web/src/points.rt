@@ -116,22 +116,29 @@ impl Points {
 }
 
 impl<'t, W: Sink> ReadingVisitor<'t, W> for Points {
+    ghost use Rattle.std.specs.Prelude.{◌++◌, ◌∷◌, []};
+    ghost use Rattle.j39_groups.specs.Sightings.{told_in};
     ghost use Rattle.j39_web.specs.SeriesSoFar.{Begun, HasStopped, HasWritten};
 
     type Fault = DeviceFault;
 
     ghost Subject = { Begun };
 
-    ghost has_taken = { λ subject points sink.
-        HasWritten subject points (record { bytes = W.written sink; has_failed = W.has_failed sink }) };
+    ghost has_taken = { λ subject points sink sightings.
+        HasWritten subject points (record { bytes = W.written sink; has_failed = W.has_failed sink }) (told_in sightings) };
 
     ghost has_stopped = { λ subject before at points sink.
-        HasStopped subject before at (record { bytes = W.written sink; has_failed = W.has_failed sink }) };
+        HasStopped subject (told_in (before ++ at ∷ [])) (record { bytes = W.written sink; has_failed = W.has_failed sink }) };
 
     fn visit(&mut self, spn: u32, value: Value<'t, '_>, sink: &mut W) -> Result<(), DeviceFault> {
         let is_asked = self.is_from && spn == self.spn;
         put_point(is_asked, self.stamp, value, sink)?;
         self.lines = self.lines.saturating_add(1);
+        Ok(())
+    }
+
+    #[inline(always)]
+    fn visit_absent(&mut self, _: u32, _: &mut W) -> Result<(), DeviceFault> {
         Ok(())
     }
 }

@@ -91,17 +91,19 @@ impl EntryForm for RecordForm {
 }
 
 impl<'g, 't, W: Sink> ReadingVisitor<'t, W> for Records<'g, 't> {
+    ghost use Rattle.std.specs.Prelude.{◌++◌, ◌∷◌, []};
+    ghost use Rattle.j39_groups.specs.Sightings.{told_in};
     ghost use Rattle.j39_reports.specs.MessageRecords.{Begun, HasStopped, HasWritten};
 
     type Fault = DeviceFault;
 
     ghost Subject = { Begun };
 
-    ghost has_taken = { λ subject records sink.
-        HasWritten subject records (record { bytes = W.written sink; has_failed = W.has_failed sink }) };
+    ghost has_taken = { λ subject records sink sightings.
+        HasWritten subject records (record { bytes = W.written sink; has_failed = W.has_failed sink }) (told_in sightings) };
 
     ghost has_stopped = { λ subject before at records sink.
-        HasStopped subject before at (record { bytes = W.written sink; has_failed = W.has_failed sink }) };
+        HasStopped subject (told_in (before ++ at ∷ [])) (record { bytes = W.written sink; has_failed = W.has_failed sink }) };
 
     fn visit(&mut self, spn: u32, value: Value<'t, '_>, sink: &mut W) -> Result<(), DeviceFault> {
         let parameter = parameter_of(self.groups, self.pgn, spn);
@@ -115,6 +117,11 @@ impl<'g, 't, W: Sink> ReadingVisitor<'t, W> for Records<'g, 't> {
             sink,
         )?;
         self.lines = self.lines.saturating_add(1);
+        Ok(())
+    }
+
+    #[inline(always)]
+    fn visit_absent(&mut self, _: u32, _: &mut W) -> Result<(), DeviceFault> {
         Ok(())
     }
 }

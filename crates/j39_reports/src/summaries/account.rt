@@ -14,7 +14,9 @@ ghost use Rattle.j39_listen.specs.Report.{Entry, entries_of};
 ghost use Rattle.j39_listen.specs.Output.{nothing};
 ghost use Rattle.j39_listen.specs.Ran.{PassesOn, Ran};
 ghost use Rattle.j39_reports.specs.SummarySoFar.{HasSummed, NotesFrame};
-ghost use Rattle.j39_reports.specs.RowsSoFar.{AreRowsOf};
+ghost use Rattle.j39_frame.specs.declared.origin.Origin.{Origin};
+ghost use Rattle.j39_reports.specs.RowsSoFar.{AreCounted, AreRowsOf};
+ghost use Rattle.j39_reports.specs.Summary.{absences_of};
 ghost use Rattle.j39_reports.specs.SummaryRun.{AsksForRows, MakesSummary};
 
 use crate::summaries::lines::put_rows;
@@ -43,7 +45,7 @@ pub fn summary<R: Source, W: Sink>(
 ) -> Result<Counts, RunFault>
     // What the run promises is `Ran`: what is written is the summary of the log's report, and nothing else. Memory is
     // wanted only at a frame that announces a message, and at one where a message is heard that has a value of a
-    // parameter without a row, or a text.
+    // parameter without a row, or a text, or a parameter that is not available for the first time.
     ensures ran { Ran (MakesSummary format groups.now) (AsksForRows groups.now) bus limit result
         (turn R.remaining R.has_failed source.old source.new) (turn W.written W.has_failed sink.old sink.new) }
 
@@ -59,7 +61,7 @@ pub fn summary<R: Source, W: Sink>(
 
 /// The names of the columns of records.
 const COLUMNS: &[u8] =
-    b"address,destination,name,pgn,spn,parameter,values,words,first_stamp,first_utc,last_stamp,last_utc,least,most,unit,first,last\r\n";
+    b"address,destination,name,pgn,spn,parameter,values,words,absent,first_stamp,first_utc,last_stamp,last_utc,least,most,unit,first,last\r\n";
 
 /// What is heard so far, and the rows of its summary.
 #[derive(Drop)]
@@ -125,7 +127,7 @@ impl<'g, 't> Account for SummaryAccount<'g, 't> {
     }
 
     fn close<W: Sink>(&mut self, sink: &mut W) -> Result<Made, DeviceFault> {
-        put_rows(&self.rows.rows, self.form, self.groups, sink)?;
+        put_rows(&self.rows, self.form, self.groups, sink)?;
         Ok(Made {
             messages: self.messages,
             lines: self.rows.rows.len() as u64,
@@ -147,10 +149,12 @@ fn note<'t>(
 ) -> Result<u64, AllocError>
     requires { is_single ≡ is_reported_in groups.now (pgn_of frame.now.id) }
     ensures noted { IfOk result (λ messages. (F : List FrameRecord) (before : List Entry) → Hears listener.old F
-        → AreRowsOf (pairs_of rows.old.rows) before
-        → NotesFrame groups.now F frame.now listener.new (pairs_of rows.new.rows) before messages) }
+        → AreRowsOf (pairs_of rows.old.rows) before → (absent : List Origin)
+        → AreCounted (pairs_of rows.old.absences.counts) absent
+        → NotesFrame groups.now F frame.now listener.new rows.new before absent messages) }
     ensures asked { OnErr result ((F : List FrameRecord) (heard : List Hearing) → Hears listener.old F
         → AreHeard groups.now F heard → AreRowsOf (pairs_of rows.old.rows) (flat_map (entries_of groups.now) heard)
+        → AreCounted (pairs_of rows.old.absences.counts) (flat_map (absences_of groups.now) heard)
         → AsksForRows groups.now F frame.now) }
 {
     match listener.feed_as(is_single, frame) {

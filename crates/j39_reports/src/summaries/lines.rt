@@ -7,6 +7,7 @@ ghost use Rattle.j39_io.specs.Turn.{turn};
 ghost use Rattle.j39_memory.specs.ByOrigin.{pairs_of};
 ghost use Rattle.j39_io.specs.Chars.{newline};
 ghost use Rattle.j39_reports.specs.RowText.{bounds_in, called_in, destination_text, end_in, head_in, line_head, no_range, range_in, row_in, separator_of, summary_text, text_as, unit_in, value_as, value_in, values_in};
+ghost use Rattle.j39_reports.specs.RowsSoFar.{counted};
 ghost use Rattle.j39_reports.specs.RowModels.{kept_value, range_of_span, row_shown};
 
 use crate::columns::push_behind;
@@ -14,6 +15,7 @@ use crate::parts::put_parts;
 use crate::summaries::deeds::{Deeds, Span};
 use crate::summaries::kept::Kept;
 use crate::summaries::records::put_record_head;
+use crate::summaries::rows::Rows;
 use arrayvec::ArrayVec;
 use j39_frame::Origin;
 use j39_groups::{Groups, Value, put_value, scaled_text};
@@ -21,21 +23,21 @@ use j39_io::printing::push_hex;
 use j39_io::{DeviceFault, Sink, put_all, put_behind_comma};
 use j39_listen::{Format, push_name_or_dashes};
 use j39_log::push_stamp;
-use j39_memory::ByOrigin;
 
 /// Writes a line for each row, or a record, in their order.
 pub(crate) fn put_rows<W: Sink>(
-    rows: &ByOrigin<Deeds<'_>>,
+    rows: &Rows<'_>,
     form: Format,
     groups: &Groups<'_>,
     sink: &mut W,
 ) -> Result<(), DeviceFault>
-    ensures { Puts (summary_text form groups.now (map row_shown (pairs_of rows.now)))
+    ensures { Puts (summary_text form groups.now (counted (pairs_of rows.now.absences.counts))
+        (map row_shown (pairs_of rows.now.rows)))
         result (turn W.written W.has_failed sink.old sink.new) }
 {
-    for at in 0..rows.len() {
-        let (origin, deeds) = rows.pair_at(at);
-        put_row(form, origin, deeds, groups, sink)?;
+    for at in 0..rows.rows.len() {
+        let (origin, deeds) = rows.rows.pair_at(at);
+        put_row(form, origin, deeds, rows.absences.of(origin), groups, sink)?;
     }
     Ok(())
 }
@@ -46,13 +48,14 @@ fn put_row<W: Sink>(
     form: Format,
     origin: Origin,
     deeds: &Deeds<'_>,
+    absent: u64,
     groups: &Groups<'_>,
     sink: &mut W,
 ) -> Result<(), DeviceFault>
-    ensures { Puts (row_in form groups.now (row_shown (origin, deeds.now)))
+    ensures { Puts (row_in form groups.now absent (row_shown (origin, deeds.now)))
         result (turn W.written W.has_failed sink.old sink.new) }
 {
-    put_head(form, origin, deeds, groups, sink)?;
+    put_head(form, origin, deeds, absent, groups, sink)?;
     put_values(form, deeds, sink)?;
     put_end(form, groups, origin, sink)
 }
@@ -63,22 +66,23 @@ fn put_head<W: Sink>(
     form: Format,
     origin: Origin,
     deeds: &Deeds<'_>,
+    absent: u64,
     groups: &Groups<'_>,
     sink: &mut W,
 ) -> Result<(), DeviceFault>
-    ensures { Puts (head_in form groups.now (row_shown (origin, deeds.now)))
+    ensures { Puts (head_in form groups.now absent (row_shown (origin, deeds.now)))
         result (turn W.written W.has_failed sink.old sink.new) }
 {
     match form {
-        Format::Line => put_all(sink, line_head_of(origin, deeds).as_slice()),
-        Format::Record => put_record_head(origin, deeds, groups, sink),
+        Format::Line => put_all(sink, line_head_of(origin, deeds, absent).as_slice()),
+        Format::Record => put_record_head(origin, deeds, absent, groups, sink),
     }
 }
 
 /// What the line of a row begins with.
 #[tactic(auto, unfolding(crate::specs::RowText::line_head))]
-fn line_head_of(origin: Origin, deeds: &Deeds<'_>) -> ArrayVec<u8, 160>
-    ensures { result.items ≡ line_head (row_shown (origin, deeds.now)) }
+fn line_head_of(origin: Origin, deeds: &Deeds<'_>, absent: u64) -> ArrayVec<u8, 192>
+    ensures { result.items ≡ line_head absent (row_shown (origin, deeds.now)) }
 {
     let mut head = ArrayVec::new();
     push_hex(&mut head, &[origin.address]);
@@ -89,6 +93,7 @@ fn line_head_of(origin: Origin, deeds: &Deeds<'_>) -> ArrayVec<u8, 160>
     push_behind(&mut head, b' ', u64::from(origin.spn));
     push_behind(&mut head, b' ', deeds.count);
     push_behind(&mut head, b' ', deeds.words);
+    push_behind(&mut head, b' ', absent);
     head.push(b' ');
     push_stamp(&mut head, deeds.first.stamp);
     head.push(b' ');

@@ -18,15 +18,16 @@ use j39_io::{DeviceFault, Sink, put_all, put_behind_comma};
 pub(crate) fn put_record_head<W: Sink>(
     origin: Origin,
     deeds: &Deeds<'_>,
+    absent: u64,
     groups: &Groups<'_>,
     sink: &mut W,
 ) -> Result<(), DeviceFault>
-    ensures { Puts (record_head groups.now (row_shown (origin, deeds.now)))
+    ensures { Puts (record_head groups.now absent (row_shown (origin, deeds.now)))
         result (turn W.written W.has_failed sink.old sink.new) }
 {
     put_all(sink, origin_of(origin, deeds).as_slice())?;
     put_behind_comma(parameter_of(groups, origin.pgn, origin.spn), sink)?;
-    put_all(sink, counts_of(origin, deeds).as_slice())
+    put_all(sink, counts_of(origin, deeds, absent).as_slice())
 }
 
 /// What the table calls a parameter of a group; nothing where it lists none.
@@ -53,12 +54,13 @@ fn origin_of(origin: Origin, deeds: &Deeds<'_>) -> ArrayVec<u8, 64>
 
 /// The counts and the moments.
 #[tactic(auto, unfolding(crate::specs::RowText::count_fields))]
-fn counts_of(origin: Origin, deeds: &Deeds<'_>) -> ArrayVec<u8, 160>
-    ensures { result.items ≡ count_fields (row_shown (origin, deeds.now)) }
+fn counts_of(origin: Origin, deeds: &Deeds<'_>, absent: u64) -> ArrayVec<u8, 184>
+    ensures { result.items ≡ count_fields absent (row_shown (origin, deeds.now)) }
 {
     let mut fields = ArrayVec::new();
     push_behind(&mut fields, b',', deeds.count);
     push_behind(&mut fields, b',', deeds.words);
+    push_behind(&mut fields, b',', absent);
     fields.push(b',');
     push_moment(&mut fields, deeds.first.stamp);
     fields.push(b',');

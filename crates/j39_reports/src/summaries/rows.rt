@@ -1,16 +1,19 @@
 //! The rows of a summary.
-ghost use Rattle.std.specs.Prelude.{◌≡◌, ◌<◌, ◌++◌, ◌∷◌, [], List, OnOk, OnErr, IfOk, None};
+ghost use Rattle.std.specs.Prelude.{◌≡◌, ◌++◌, ◌∷◌, [], List, OnOk, OnErr, IfOk, None};
 ghost use Rattle.j39_memory.specs.ByOrigin.{pairs_of};
 ghost use Rattle.j39_frame.specs.Origin.{place_in};
 ghost use Rattle.j39_frame.specs.Stamp.{stamp_micros};
 ghost use Rattle.j39_groups.specs.Models.{value_of};
 ghost use Rattle.j39_listen.specs.Report.{Entry};
 ghost use Rattle.j39_listen.specs.HeardModel.{hearing_of};
-ghost use Rattle.j39_reports.specs.RowsSoFar.{AreRowsOf, HasTaken};
+ghost use Rattle.j39_frame.specs.declared.origin.Origin.{Origin};
+ghost use Rattle.j39_reports.specs.RowsSoFar.{AreCounted, AreRowsOf, HasTaken};
 ghost use Rattle.j39_reports.specs.RowModels.{entry_at};
 ghost use Rattle.j39_reports.specs.SummaryRun.{WantsRow};
 
+use crate::summaries::absences::Absences;
 use crate::summaries::deeds::{Deeds, OneMore};
+use crate::summaries::guesses::{Guesses, again};
 use j39_address::Name;
 use j39_frame::{Origin, Pgn, Stamp};
 use j39_groups::{ReadingVisitor, Value};
@@ -18,15 +21,13 @@ use j39_listen::Heard;
 use j39_memory::ByOrigin;
 use std::alloc::{AllocError, Global};
 
-/// How many places of rows are remembered.
-const GUESSES: usize = 1024;
-
-/// The rows so far, by their origins in the order of their first values; where the rows of the last values stand, by
-/// address and parameter, as a look-up costs more than a value; and what the readings of a message have in common.
+/// The rows so far, by their origins in the order of their first values; where the rows of the last values stand; how
+/// often parameters were not available; and what the readings of a message have in common.
 #[derive(Drop)]
 pub(crate) struct Rows<'t> {
     pub rows: ByOrigin<Deeds<'t>>,
-    guesses: [usize; GUESSES],
+    guesses: Guesses,
+    pub absences: Absences,
     alloc: Global,
     stamp: Stamp,
     address: u8,
@@ -38,11 +39,13 @@ pub(crate) struct Rows<'t> {
 impl<'t> Rows<'t> {
     /// No rows.
     pub fn new(alloc: Global) -> Rows<'t>
-        ensures { AreRowsOf (pairs_of result.rows) [] }
+        ensures rows { AreRowsOf (pairs_of result.rows) [] }
+        ensures counted { AreCounted (pairs_of result.absences.counts) [] }
     {
         Rows {
             rows: ByOrigin::new(alloc),
-            guesses: [0; GUESSES],
+            guesses: Guesses::new(),
+            absences: Absences::new(alloc),
             alloc,
             stamp: Stamp::new(0).unwrap(),
             address: 0,
@@ -55,8 +58,9 @@ impl<'t> Rows<'t> {
     /// Takes what the readings of a message have in common.
     #[inline(always)]
     pub fn begin(&mut self, heard: &Heard<'_>)
-        ensures { (before : List Entry) → AreRowsOf (pairs_of self.old.rows) before
-            → HasTaken (record { before = before; hearing = hearing_of heard.now }) self.new [] }
+        ensures { (before : List Entry) (absent : List Origin) → AreRowsOf (pairs_of self.old.rows) before
+            → AreCounted (pairs_of self.old.absences.counts) absent
+            → HasTaken (record { before = before; absent = absent; hearing = hearing_of heard.now }) self.new [] }
     {
         self.stamp = heard.message.stamp;
         self.address = heard.message.source;
@@ -64,45 +68,26 @@ impl<'t> Rows<'t> {
         self.name = heard.name.map(Name::raw);
         self.pgn = heard.message.pgn.raw();
     }
-}
 
-/// Where the guess of an origin's row stands. Few origins of one bus have one place.
-#[inline(always)]
-fn guess_at(origin: Origin) -> usize
-    ensures { result < GUESSES }
-{
-    (usize::from(origin.address) * 37 + origin.spn as usize) % GUESSES
-}
-
-/// The same origin, in a place of its own: what a slow call is handed lies in memory, and the origin that is compared on
-/// the quick path need not.
-#[inline(always)]
-fn again(origin: Origin) -> Origin
-    ensures { result ≡ origin }
-{
-    Origin {
-        address: origin.address,
-        destination: origin.destination,
-        name: origin.name,
-        pgn: origin.pgn,
-        spn: origin.spn,
+    /// The origin of a parameter of the message.
+    #[inline(always)]
+    fn origin_of(&self, spn: u32) -> Origin
+        ensures { result ≡ record {
+          address = self.now.address;
+          destination = self.now.destination;
+          name = self.now.name;
+          pgn = self.now.pgn;
+          spn = spn;
+        } }
+    {
+        Origin {
+            address: self.address,
+            destination: self.destination,
+            name: self.name,
+            pgn: self.pgn,
+            spn,
+        }
     }
-}
-
-/// Where the row of an origin stands, if it has one.
-#[inline(never)]
-fn looked_up(rows: &ByOrigin<Deeds<'_>>, origin: Origin) -> Option<usize>
-    ensures { result ≡ place_in (pairs_of rows.now) origin }
-{
-    rows.place_of(origin)
-}
-
-/// Where the row of an origin stands, off the quick path: what the call is handed is put in place only here.
-#[inline(always)]
-fn sought(rows: &ByOrigin<Deeds<'_>>, origin: Origin) -> Option<usize>
-    ensures { result ≡ place_in (pairs_of rows.now) origin }
-{
-    looked_up(rows, again(origin))
 }
 
 /// Takes a value to its row, which stands at this place where there is one.
@@ -183,22 +168,13 @@ impl<'t> ReadingVisitor<'t, ()> for Rows<'t> {
 
     #[inline(always)]
     fn visit(&mut self, spn: u32, value: Value<'t, '_>, _: &mut ()) -> Result<(), AllocError> {
-        let origin = Origin {
-            address: self.address,
-            destination: self.destination,
-            name: self.name,
-            pgn: self.pgn,
-            spn,
-        };
-        let at = guess_at(origin);
-        let guess = self.guesses[at];
-        let place = if self.rows.stands_at(guess, origin) {
-            Some(guess)
-        } else {
-            let place = sought(&self.rows, origin);
-            self.guesses[at] = place.unwrap_or(self.rows.len());
-            place
-        };
+        let origin = self.origin_of(spn);
+        let place = self.guesses.place_of(&self.rows, origin);
         take(&mut self.rows, self.alloc, place, origin, self.stamp, value)
+    }
+
+    fn visit_absent(&mut self, spn: u32, _: &mut ()) -> Result<(), AllocError> {
+        let origin = self.origin_of(spn);
+        self.absences.count(origin)
     }
 }

@@ -1,9 +1,9 @@
 -- The texts of the row's field, or its one value.
 use Rattle.std.proofs.Common.{refl}
-use Rattle.j39_groups.specs.Fields.{IsSound, IsSoundParts}
-use Rattle.j39_groups.specs.Readings.{values_at}
+use Rattle.j39_groups.specs.Fields.{IsSoundParts}
 use Rattle.j39_groups.proofs.ReadyLemmas.{field_sound}
 use Rattle.j39_groups.proofs.RowLemmas.{row_is}
+use Rattle.j39_groups.proofs.VisitLemmas.{sees_texts}
 use Rattle.j39_groups.proofs.visiting.visit_other.Goals as goal
 
 pub value_in-requires : goal.value_in-requires
@@ -19,16 +19,13 @@ visit_texts-requires g c = λ k.
     let sound : IsSoundParts c.in-Some.byte c.in-Some.count = rw c.in-Some.ensures.some at (field_sound c.args.row.now.field (row_is c.args.row.now c.requires).sound) in
     ((refl, tt), sound.few)
 
+pub visit_value-requires : goal.visit_value-requires
+visit_value-requires g c = λ k. ((refl, tt), (c.requires, c.value_in.ensures c.in-None.ensures.none))
+
 pub returns-in-Some-clause-taken : goal.returns-in-Some-clause-taken
-unfolding values_at
-returns-in-Some-clause-taken g c = rw (c.in-Some.ensures.some, ← c.bytes_from.ensures) c.visit_texts.ensures.taken
+returns-in-Some-clause-taken g c =
+    rw (← sees_texts c.args.bytes.now c.args.row.now c.in-Some.byte c.in-Some.count c.in-Some.ensures.some, ← c.bytes_from.ensures) c.visit_texts.ensures.taken
 
 pub returns-in-Some-clause-stopped : goal.returns-in-Some-clause-stopped
-unfolding values_at
-returns-in-Some-clause-stopped g c = rw (c.in-Some.ensures.some, ← c.bytes_from.ensures) c.visit_texts.ensures.stopped
-
-pub returns-in-None-clause-taken : goal.returns-in-None-clause-taken
-returns-in-None-clause-taken g c = rw (c.value_in.ensures c.in-None.ensures.none) at c.visit_value.ensures.taken
-
-pub returns-in-None-clause-stopped : goal.returns-in-None-clause-stopped
-returns-in-None-clause-stopped g c = rw (c.value_in.ensures c.in-None.ensures.none) at c.visit_value.ensures.stopped
+returns-in-Some-clause-stopped g c =
+    rw (← sees_texts c.args.bytes.now c.args.row.now c.in-Some.byte c.in-Some.count c.in-Some.ensures.some, ← c.bytes_from.ensures) c.visit_texts.ensures.stopped

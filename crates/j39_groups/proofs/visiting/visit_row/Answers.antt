@@ -1,5 +1,6 @@
 -- A number, a switch, or what else the row's field holds.
-use Rattle.std.proofs.Common.{arith}
+use Rattle.std.proofs.Common.{ap, arith, refl}
+use Rattle.std.specs.Option.{option_to_list}
 use Rattle.j39_groups.specs.Fields.{IsSoundBytes, IsSoundPair}
 use Rattle.j39_groups.specs.Readings.{values_at}
 use Rattle.j39_groups.proofs.ReadyLemmas.{field_sound}
@@ -11,13 +12,9 @@ number_of-requires g c =
     let sound : IsSoundBytes c.in-Number.first c.in-Number.last c.in-Number.scale = rw c.in-Number.is at (field_sound c.args.row.now.field (row_is c.args.row.now c.requires).sound) in
     sound
 
-pub returns-in-Number-clause-taken : goal.returns-in-Number-clause-taken
+pub visit_short-requires : goal.visit_short-requires
 unfolding values_at
-returns-in-Number-clause-taken g c = rw (c.in-Number.is, ← c.number_of.ensures) c.visit_short.ensures.taken
-
-pub returns-in-Number-clause-stopped : goal.returns-in-Number-clause-stopped
-unfolding values_at
-returns-in-Number-clause-stopped g c = rw (c.in-Number.is, ← c.number_of.ensures) c.visit_short.ensures.stopped
+visit_short-requires g c = λ k. ((refl, tt), (c.requires, rw c.in-Number.is (ap option_to_list c.number_of.ensures)))
 
 pub switch_at-requires-clause-byte : goal.switch_at-requires-clause-byte
 switch_at-requires-clause-byte g c =
@@ -34,10 +31,6 @@ switch_at-requires-clause-ends g c =
     let sound : IsSoundPair c.in-Switch.byte c.in-Switch.low c.in-Switch.high = rw c.in-Switch.is at (field_sound c.args.row.now.field (row_is c.args.row.now c.requires).sound) in
     omega (arith, sound.two, sound.ends)
 
-pub returns-in-Switch-clause-taken : goal.returns-in-Switch-clause-taken
+pub visit_switch-requires : goal.visit_switch-requires
 unfolding values_at
-returns-in-Switch-clause-taken g c = rw (c.in-Switch.is, ← c.switch_at.ensures) c.visit_switch.ensures.taken
-
-pub returns-in-Switch-clause-stopped : goal.returns-in-Switch-clause-stopped
-unfolding values_at
-returns-in-Switch-clause-stopped g c = rw (c.in-Switch.is, ← c.switch_at.ensures) c.visit_switch.ensures.stopped
+visit_switch-requires g c = λ k. ((refl, tt), (c.requires, rw c.in-Switch.is (ap option_to_list c.switch_at.ensures)))

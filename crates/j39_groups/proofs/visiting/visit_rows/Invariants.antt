@@ -1,9 +1,8 @@
 use Rattle.std.proofs.Common.{take}
 use Rattle.std.specs.List.{flat_map}
-use Rattle.j39_groups.specs.Lines.{row_readings}
-use Rattle.j39_groups.specs.Visits.{Takes}
+use Rattle.j39_groups.specs.Visits.{Takes, row_sightings}
 use Rattle.j39_groups.proofs.visiting.visit_rows.Given as goal
 
 -- the readings of the rows so far were taken
 abbrev pub invariant-loop-row : goal.invariant-loop-row
-invariant-loop-row g l = Takes g.V.ReadingVisitor.has_taken l.initial.visitor l.initial.medium l.visitor l.medium (flat_map (row_readings l.pgn l.bytes) (take l.row-index l.rows))
+invariant-loop-row g l = Takes g.V.ReadingVisitor.has_taken l.initial.visitor l.initial.medium l.visitor l.medium (flat_map (row_sightings l.pgn l.bytes) (take l.row-index l.rows))

@@ -1,12 +1,12 @@
 -- A message is heard at the frame or none.
 use Rattle.std.proofs.Common.{◌∙◌, sym}
 use Rattle.std.specs.List.{flat_map}
-use Rattle.j39_memory.specs.ByOrigin.{pairs_of}
 use Rattle.j39_groups.specs.Readings.{is_reported_in}
 use Rattle.j39_listen.specs.Report.{entries_of}
 use Rattle.j39_listen.specs.HeardModel.{hearing_of}
 use Rattle.j39_listen.proofs.ListenerLemmas.{on_ok}
 use Rattle.j39_listen.proofs.Reported.{reported_free, reported_leaves}
+use Rattle.j39_reports.specs.Summary.{absences_of}
 use Rattle.j39_reports.proofs.SummaryAccountLemmas.{asks_heard, notes_heard, notes_silent}
 use Rattle.j39_reports.proofs.summaries.account.note.Goals as goal
 
@@ -14,18 +14,18 @@ pub feed_as-requires : goal.feed_as-requires
 feed_as-requires c = λ single. reported_free c.args.groups.now _ (sym c.requires ∙ single)
 
 pub returns-in-Ok-None-clause-noted : goal.returns-in-Ok-None-clause-noted
-returns-in-Ok-None-clause-noted c = λ F before h are.
-    notes_silent c.args.groups.now _ F c.args.frame.now (pairs_of c.args.rows.now.rows) before (rw c.in-Ok-None.field-0-is at (c.in-Ok-None.ensures.heard (is_reported_in c.args.groups.now) (reported_leaves c.args.groups.now) (sym c.requires) F h))
-    (on_ok _ _ _ _ c.in-Ok-None.is c.feed_as.follows.holds-at-none F h) are
+returns-in-Ok-None-clause-noted c = λ F before h are absent counts.
+    notes_silent c.args.groups.now _ F c.args.frame.now c.args.rows.now before absent (rw c.in-Ok-None.field-0-is at (c.in-Ok-None.ensures.heard (is_reported_in c.args.groups.now) (reported_leaves c.args.groups.now) (sym c.requires) F h))
+    (on_ok _ _ _ _ c.in-Ok-None.is c.feed_as.follows.holds-at-none F h) are counts
 
 pub returns-in-Ok-clause-noted : goal.returns-in-Ok-clause-noted
-returns-in-Ok-clause-noted c = λ F before h are.
-    notes_heard c.args.groups.now _ F c.args.frame.now (hearing_of c.in-Ok-Some.heard) c.begin.new.self c.visit.new.visitor before
+returns-in-Ok-clause-noted c = λ F before h are absent counts.
+    notes_heard c.args.groups.now _ F c.args.frame.now (hearing_of c.in-Ok-Some.heard) c.begin.new.self c.visit.new.visitor before absent
     (rw c.in-Ok-Some.field-0-is at (c.in-Ok-Some.ensures.heard (is_reported_in c.args.groups.now) (reported_leaves c.args.groups.now) (sym c.requires) F h)) (on_ok _ _ _ _ c.in-Ok-Some.is c.feed_as.follows.holds-at-none F h)
-    (c.begin.ensures before are) c.in-Ok.ensures.taken
+    (c.begin.ensures before absent are counts) c.in-Ok.ensures.taken
 
 pub returns-in-Err-visit-clause-asked : goal.returns-in-Err-visit-clause-asked
-returns-in-Err-visit-clause-asked c = λ F heard h are_heard are.
+returns-in-Err-visit-clause-asked c = λ F heard h are_heard are counts.
     asks_heard c.args.groups.now F c.args.frame.now (hearing_of c.in-Ok-Some.heard) heard c.begin.new.self c.visit.new.visitor
-    (rw c.in-Ok-Some.field-0-is at (c.in-Ok-Some.ensures.heard (is_reported_in c.args.groups.now) (reported_leaves c.args.groups.now) (sym c.requires) F h)) are_heard (c.begin.ensures (flat_map (entries_of c.args.groups.now) heard) are)
+    (rw c.in-Ok-Some.field-0-is at (c.in-Ok-Some.ensures.heard (is_reported_in c.args.groups.now) (reported_leaves c.args.groups.now) (sym c.requires) F h)) are_heard (c.begin.ensures (flat_map (entries_of c.args.groups.now) heard) (flat_map (absences_of c.args.groups.now) heard) are counts)
     c.in-Err-visit.ensures.stopped

@@ -1,6 +1,5 @@
 -- A frame of a group that is heard, or of another.
 use Rattle.std.proofs.Common.{◌≡◌, ◌∙◌, ap, false, refl, sym}
-use Rattle.j39_memory.specs.ByOrigin.{pairs_of}
 use Rattle.j39_frame.specs.Frame.{FrameRecord}
 use Rattle.j39_frame.specs.Identifier.{pgn_of}
 use Rattle.j39_groups.specs.Readings.{is_network_group, is_reported_in}
@@ -18,15 +17,14 @@ returns-then-not-is_network_group-clause-met g c =
     let self = c.args.self.now in
     let groups = self.groups.now in
     let frame = c.args.frame.now in
-    let rows = pairs_of self.rows.rows in
     let after : SummaryAccount = record { groups = self.groups; form = self.form; listener = self.listener; rows = self.rows; messages = c.saturating_add-self.result } in
     let other : is_reported_in groups (pgn_of frame.id) ≡ false =
     ap (is_reported_in groups) (sym (c.pgn.ensures ∙ ap (λ (x : FrameRecord). pgn_of x.id) c.frame.view_is)) ∙ (sym c.is_reported-is_single.ensures ∙ c.if-not-is_single.true) in
     let free : is_network_group (pgn_of frame.id) ≡ false =
     ap is_network_group (sym (c.pgn-then-not-is_single.ensures ∙ ap (λ (x : FrameRecord). pgn_of x.id) c.frame.view_is)) ∙ (sym c.is_network_group.ensures ∙ c.if-not-is_network_group.true) in
-    λ subject. summary_meets subject.0 subject.1 self after refl refl frame 0 _ (λ F before h are.
-    notes_silent groups self.listener F frame rows before (silent_outside (is_reported_in groups) (reported_leaves groups) self.listener F frame free other h)
-    (hears_single self.listener F frame free (outside_claims frame free) h) are) c.saturating_add-self.ensures
+    λ subject. summary_meets subject.0 subject.1 self after refl refl frame 0 _ (λ F before h are absent counts.
+    notes_silent groups self.listener F frame self.rows before absent (silent_outside (is_reported_in groups) (reported_leaves groups) self.listener F frame free other h)
+    (hears_single self.listener F frame free (outside_claims frame free) h) are counts) c.saturating_add-self.ensures
 
 pub returns-in-Ok-clause-met : goal.returns-in-Ok-clause-met
 returns-in-Ok-clause-met g c =
