@@ -12,7 +12,7 @@ _j1939_options() {
     '') echo --help -h --version -V ;;
     report) echo --bus --table --spn --csv --help -h ;;
     summary) echo --bus --table --csv --help -h ;;
-    faults) echo --bus --table --all --csv --help -h ;;
+    faults) echo --bus --table --conversion --all --csv --help -h ;;
     nodes) echo --bus --csv --help -h ;;
     answer) echo --name --address --bus --help -h ;;
     cut) echo --source --pgn --at --bus --help -h ;;
@@ -36,7 +36,7 @@ _j1939() {
   case $command:$before:$word in
     *:--bus:*) offered=$(_j1939_buses) ;;
     *:--table:*) compopt -o default 2>/dev/null ;;
-    *:--name:* | *:--address:* | *:--source:* | *:--pgn:* | *:--at:* | *:--spn:*) ;;
+    *:--name:* | *:--address:* | *:--source:* | *:--pgn:* | *:--at:* | *:--spn:* | *:--conversion:*) ;;
     *:-*) offered=$(_j1939_options "$command") ;;
     :* | help:*) offered=$commands ;;
     report:* | faults:* | summary:* | nodes:* | answer:* | survey:*) compopt -o default 2>/dev/null ;;

@@ -10,7 +10,7 @@ const FAULT_COLUMNS = [
 let faults = null; // the table
 
 // A line is `(STAMP) AA NAME STATE SPN FMI COUNT LAMPS PARAMETER: MEANING`, with `-` for the SPN where the code is of an older
-// form, or `.. none - LAMPS`. What has no name of its own is called `SPN` and its number.
+// form, `.. none - LAMPS`, or `.. all - -` where codes are cleared. What has no name of its own is called `SPN` and its number.
 function faultOf(line) {
   const [stamp, address, name, state, spn, ...rest] = line.split(' ');
   const fault = { stamp: Number(stamp.slice(1, -1)), address, name, state, spn, fmi: '', count: '', lamps: rest[1], parameter: '', meaning: '' };

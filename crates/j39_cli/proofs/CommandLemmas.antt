@@ -17,16 +17,16 @@ use Rattle.j39_cli.specs.SurveyCommand.{survey_app}
 use Rattle.j39_cli.specs.Form.{option, value}
 use Rattle.j39_cli.proofs.ArgumentLemmas.{parsed}
 use Rattle.j39_cli.proofs.PartLemmas.{parts_pass}
-use Rattle.j39_cli.proofs.TakenLemmas.{IsParsed, memory_checked, memory_of_bus, memory_of_spn}
+use Rattle.j39_cli.proofs.TakenLemmas.{IsParsed, memory_checked, memory_of_bus, memory_of_value}
 
 pub is_parsed : (program : Text) (s : CommandWords) → IsParsed program s
 unfolding clap_on_literals line_app parts_pass
 is_parsed program (report bus table spn csv file) = parsed program report_app (report bus table spn csv file) [] _
-    (record { step = refl; passes = refl; found = refl; checks = refl }) refl refl refl (memory_of_bus bus _ (memory_of_spn spn _ tt))
+    (record { step = refl; passes = refl; found = refl; checks = refl }) refl refl refl (memory_of_bus bus _ (memory_of_value _ _ spn _ tt))
 is_parsed program (summary bus table csv file) = parsed program summary_app (summary bus table csv file) [] _
     (record { step = refl; passes = refl; found = refl; checks = refl }) refl refl refl (memory_of_bus bus _ tt)
-is_parsed program (faults bus table all csv file) = parsed program faults_app (faults bus table all csv file) [] _
-    (record { step = refl; passes = refl; found = refl; checks = refl }) refl refl refl (memory_of_bus bus _ tt)
+is_parsed program (faults bus table conversion all csv file) = parsed program faults_app (faults bus table conversion all csv file) [] _
+    (record { step = refl; passes = refl; found = refl; checks = refl }) refl refl refl (memory_of_bus bus _ (memory_of_value _ _ conversion _ tt))
 is_parsed program (nodes bus csv file) = parsed program nodes_app (nodes bus csv file) [] _
     (record { step = refl; passes = refl; found = refl; checks = refl }) refl refl refl (memory_of_bus bus _ tt)
 is_parsed program (answer node address bus file) = parsed program answer_app (answer node address bus file)

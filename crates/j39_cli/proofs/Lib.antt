@@ -7,7 +7,7 @@ pub mod TakenLemmas
 pub mod ArgumentLemmas
 pub mod CommandLemmas
 pub mod MetLemmas
--- the parameters that are asked for: for `parse`
-pub mod SpnLemmas
+-- lists in one word: for `parse`
+pub mod ListLemmas
 -- a run's faults: for `perform`
 pub mod RunLemmas

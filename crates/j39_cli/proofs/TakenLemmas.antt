@@ -6,12 +6,11 @@ use Rattle.clap.specs.Simple.{built_leaf}
 use Rattle.clap.specs.Walk.{finished}
 use Rattle.clap.proofs.OnLiterals.{clap_on_literals}
 use Rattle.j39_log.specs.Bus.{IsBusName}
-use Rattle.j39_cli.specs.Answer.{Answer, IsBusChecked, IsChecked, IsInput, IsSpnChecked, IsSpnsValue, IsWrong}
+use Rattle.j39_cli.specs.Answer.{Answer, IsBusChecked, IsChecked, IsInput, IsValueChecked, IsValueRead, IsWrong}
 use Rattle.j39_cli.specs.Command.{line_app}
 use Rattle.j39_cli.specs.CommandWords.{CommandWords, HasTexts, HasValues, IsAnswer, words_of}
-use Rattle.j39_cli.specs.Spns.{IsSpnList, spns_in}
 use Rattle.j39_cli.specs.declared.task.Argument.{Argument}
-use Rattle.j39_cli.specs.declared.task.Argument.TheVariants.{Bus, Spn}
+use Rattle.j39_cli.specs.declared.task.Argument.TheVariants.{Bus}
 use Rattle.j39_cli.specs.declared.task.LogInput.{LogInput}
 use Rattle.j39_cli.specs.declared.task.ParseFault.{ParseFault}
 use Rattle.j39_cli.specs.declared.task.ParseFault.TheVariants.{Memory}
@@ -68,10 +67,10 @@ pub memory_of_bus : (bus : Option Text) (Next : Answer → Type 0) → Next (Err
 memory_of_bus None Next next = next
 memory_of_bus (Some bus) Next next = memory_checked (IsBusName bus) Bus Next next
 
-pub memory_of_spn : (spn : Option Text) (Next : Answer → Type 0) → Next (Err Memory)
-    → IsSpnChecked spn Next (Err Memory)
-memory_of_spn None Next next = next
-memory_of_spn (Some text) Next next = memory_checked (IsSpnList text) Spn Next next
+pub memory_of_value : (InRange : Text → Type 0) (a : Argument) (text : Option Text) (Next : Answer → Type 0) → Next (Err Memory)
+    → IsValueChecked InRange a text Next (Err Memory)
+memory_of_value InRange a None Next next = next
+memory_of_value InRange a (Some text) Next next = memory_checked (InRange text) a Next next
 
 -- ---- values that were read
 
@@ -83,17 +82,19 @@ input_read (Some name) file input Next r is next = record {
   wrong = λ other. absurd (other is.0);
 }
 
-pub spns_read : (text : Option Text) (spns : Option (List ℕ)) (Next : Answer → Type 0) (r : Answer) → IsSpnsValue text (Ok spns)
-    → (spns ≡ option_map spns_in text → Next r) → IsSpnChecked text Next r
-spns_read None spns Next r is next = next (cc)
-spns_read (Some list) spns Next r is next = record { in_range = λ _. next is.1; wrong = λ other. absurd (other is.0) }
+module _ {T : Type 0} (InRange : Text → Type 0) (value : Text → T) (a : Argument) where
+  pub value_read : (text : Option Text) (read : Option T) (Next : Answer → Type 0) (r : Answer) → IsValueRead InRange value a text (Ok read)
+      → (read ≡ option_map value text → Next r) → IsValueChecked InRange a text Next r
+  value_read None read Next r is next = next (cc)
+  value_read (Some text) read Next r is next = record { in_range = λ _. next is.1; wrong = λ other. absurd (other is.0) }
 
-pub spns_wrong : (text : Option Text) (e : ParseFault) (Next : Answer → Type 0) → IsSpnsValue text (Err e) → IsSpnChecked text Next (Err e)
-spns_wrong None e Next is = absurd (cc)
-spns_wrong (Some list) e Next is = record {
-  in_range = λ right. absurd (is.0 right);
-  wrong = λ _. subst (λ (f : ParseFault). IsWrong Spn (let r : Answer = Err f in r)) (sym is.1) refl;
-}
+  pub value_wrong : (text : Option Text) (e : ParseFault) (Next : Answer → Type 0) → IsValueRead InRange value a text (Err e)
+      → IsValueChecked InRange a text Next (Err e)
+  value_wrong None e Next is = absurd (cc)
+  value_wrong (Some text) e Next is = record {
+    in_range = λ right. absurd (is.0 right);
+    wrong = λ _. subst (λ (f : ParseFault). IsWrong a (let r : Answer = Err f in r)) (sym is.1) refl;
+  }
 
 -- ---- all that is proved of a command that is spelled
 

@@ -2,7 +2,6 @@
 use Rattle.std.specs.Prelude.{◌≡◌, ℕ, List, Option, Some, None, Result, Ok, Err, codes}
 use Rattle.clap.specs.Words.{Text}
 use Rattle.j39_log.specs.Bus.{IsBusName}
-use Rattle.j39_cli.specs.Spns.{IsSpnList, spns_in}
 use Rattle.j39_cli.specs.declared.task.Argument.{Argument}
 use Rattle.j39_cli.specs.declared.task.Argument.TheVariants as argument
 use Rattle.j39_cli.specs.declared.task.LogInput.{LogInput}
@@ -20,6 +19,7 @@ argument_text argument.Pgn = codes "--pgn"
 argument_text argument.At = codes "--at"
 argument_text argument.Hex = codes "HEX"
 argument_text argument.Spn = codes "--spn"
+argument_text argument.Conversion = codes "--conversion"
 
 -- ---- the answer to a command that is spelled
 
@@ -52,12 +52,12 @@ abbrev pub IsBusChecked : Option Text → (Answer → Type 0) → Answer → Typ
 IsBusChecked None Next r = Next r
 IsBusChecked (Some bus) Next r = IsChecked (IsBusName bus) argument.Bus Next r
 
--- the same of `--spn`
-abbrev pub IsSpnChecked : Option Text → (Answer → Type 0) → Answer → Type 0
-IsSpnChecked None Next r = Next r
-IsSpnChecked (Some text) Next r = IsChecked (IsSpnList text) argument.Spn Next r
+-- the same of any that may be left out
+abbrev pub IsValueChecked : (Text → Type 0) → Argument → Option Text → (Answer → Type 0) → Answer → Type 0
+IsValueChecked InRange a None Next r = Next r
+IsValueChecked InRange a (Some text) Next r = IsChecked (InRange text) a Next r
 
--- ---- what is read of `--bus` and FILE, and of `--spn`
+-- ---- what is read of `--bus` and FILE, and of a value that may be left out
 
 -- the name of the bus, where it is in range, and FILE; else that the name is wrong
 abbrev pub IsInput : Option Text → Option Text → Result LogInput ParseFault → Type 0
@@ -66,8 +66,9 @@ IsInput None file (Err e) = ⊥
 IsInput (Some text) file (Ok input) = IsBusName text × (input.bus ≡ Some text) × (input.file ≡ file)
 IsInput (Some text) file (Err e) = (¬ IsBusName text) × (e ≡ fault.BadValue argument.Bus)
 
--- the numbers, where they are in range; else that they are wrong
-abbrev pub IsSpnsValue : Option Text → Result (Option (List ℕ)) ParseFault → Type 0
-IsSpnsValue None r = r ≡ Ok None
-IsSpnsValue (Some text) (Ok spns) = IsSpnList text × (spns ≡ Some (spns_in text))
-IsSpnsValue (Some text) (Err e) = (¬ IsSpnList text) × (e ≡ fault.BadValue argument.Spn)
+-- what the text stands for, where it is in range; else that it is wrong
+abbrev pub IsValueRead : {T : Type 0} → (Text → Type 0) → (Text → T) → Argument → Option Text → Result (Option T) ParseFault
+    → Type 0
+IsValueRead InRange value a None r = r ≡ Ok None
+IsValueRead InRange value a (Some text) (Ok read) = InRange text × (read ≡ Some (value text))
+IsValueRead InRange value a (Some text) (Err e) = (¬ InRange text) × (e ≡ fault.BadValue a)

@@ -1,14 +1,18 @@
--- The command `faults [--bus B] [--table T] [--all] [--csv] [FILE]`.
-use Rattle.std.specs.Prelude.{◌≡◌, ◌∷◌, [], ℕ, Bool, List, Option, codes, if◌then◌else◌}
+-- The command `faults [--bus B] [--table T] [--conversion C] [--all] [--csv] [FILE]`.
+use Rattle.std.specs.Prelude.{◌≡◌, ◌∷◌, [], ℕ, Bool, false, List, Option, codes, if◌then◌else◌, option_map, unwrap_or}
 use Rattle.clap.specs.Words.{App, Text, new_app, with_rule}
 use Rattle.j39_reports.specs.FaultAsking.{AsksForFaults}
 use Rattle.j39_reports.specs.FaultRun.{MakesFaults}
+use Rattle.j39_reports.specs.News.{Chosen}
+use Rattle.j39_faults.specs.declared.conversion.Conversion.{Conversion}
 use Rattle.j39_reports.specs.declared.fault_news.telling.Telling.{Telling}
 use Rattle.j39_reports.specs.declared.fault_news.telling.Telling.TheVariants.{News, All}
-use Rattle.j39_cli.specs.Answer.{IsBusChecked, IsTask}
+use Rattle.j39_cli.specs.Answer.{IsBusChecked, IsTask, IsValueChecked}
+use Rattle.j39_cli.specs.Conversions.{IsConversionList, conversions_in}
+use Rattle.j39_cli.specs.declared.task.Argument.TheVariants as argument
 use Rattle.j39_cli.specs.Form.{Form, Meaning, flag, option, value}
 use Rattle.j39_cli.specs.LogCommand.{format_of, runs, with_log}
-use Rattle.j39_cli.specs.Rules.{flag_rule, with_table}
+use Rattle.j39_cli.specs.Rules.{flag_rule, option_rule, with_table}
 use Rattle.j39_listen.specs.declared.format.Format.{Format}
 use Rattle.j39_cli.specs.declared.task.LogInput.{LogInput}
 use Rattle.j39_cli.specs.declared.task.Task.{Task}
@@ -16,25 +20,32 @@ use Rattle.j39_cli.specs.declared.task.Task.TheVariants.{Faults}
 
 abbrev pub faults_app : App
 faults_app =
-    with_log (with_rule (with_rule (with_table (new_app (codes "faults"))) (flag_rule (codes "all")))
-    (flag_rule (codes "csv")))
+    with_log (with_rule (with_rule (with_rule (with_table (new_app (codes "faults"))) (option_rule (codes "conversion") false))
+    (flag_rule (codes "all"))) (flag_rule (codes "csv")))
 
 abbrev pub telling_of : Bool → Telling
 telling_of all = if all then All else News
 
-abbrev pub IsFaultsTask : Option (List ℕ) → Option (List ℕ) → Bool → Bool → Option (List ℕ) → Task → Type 0
-IsFaultsTask bus table all csv file (Faults input table' telling format) =
-    (input.bus ≡ bus) × (table' ≡ table) × (telling ≡ telling_of all) × (format ≡ format_of csv) × (input.file ≡ file)
-IsFaultsTask bus table all csv file t = ⊥
+abbrev pub IsFaultsTask : Option (List ℕ) → Option (List ℕ) → Option (List ℕ) → Bool → Bool → Option (List ℕ) → Task → Type 0
+IsFaultsTask bus table conversion all csv file (Faults input table' conversions telling format) =
+    (input.bus ≡ bus) × (table' ≡ table) × (conversions ≡ option_map conversions_in conversion)
+    × (telling ≡ telling_of all) × (format ≡ format_of csv) × (input.file ≡ file)
+IsFaultsTask bus table conversion all csv file t = ⊥
 
-abbrev pub faults_form : Option Text → Option Text → Bool → Bool → Option Text → Form
-faults_form bus table all csv file = record {
+abbrev pub faults_form : Option Text → Option Text → Option Text → Bool → Bool → Option Text → Form
+faults_form bus table conversion all csv file = record {
   called = codes "faults";
-  arguments = option (codes "bus") bus ∷ option (codes "table") table ∷ flag (codes "all") all ∷ flag (codes "csv") csv
-      ∷ value (codes "file") file ∷ [];
-  Answers = IsBusChecked bus (IsTask (IsFaultsTask bus table all csv file));
+  arguments = option (codes "bus") bus ∷ option (codes "table") table ∷ option (codes "conversion") conversion
+      ∷ flag (codes "all") all ∷ flag (codes "csv") csv ∷ value (codes "file") file ∷ [];
+  Answers = IsBusChecked bus (IsValueChecked IsConversionList argument.Conversion conversion
+      (IsTask (IsFaultsTask bus table conversion all csv file)));
 }
 
-abbrev pub faults_meaning : LogInput → Option (List ℕ) → Telling → Format → Meaning
-faults_meaning input table telling format =
-    record (runs (λ _. AsksForFaults) (λ rows. MakesFaults format rows telling) input) { table = table }
+-- no version is known where none is given
+abbrev pub chosen_by : Option (List Conversion) → Telling → Chosen
+chosen_by conversions telling = record { telling = telling; conversions = unwrap_or conversions [] }
+
+abbrev pub faults_meaning : LogInput → Option (List ℕ) → Option (List Conversion) → Telling → Format → Meaning
+faults_meaning input table conversions telling format =
+    record (runs (λ _. AsksForFaults) (λ rows. MakesFaults format rows (chosen_by conversions telling)) input)
+    { table = table }

@@ -1,6 +1,7 @@
 -- what clap is told, and what it meets
 pub mod Rules
 pub mod Numbers
+pub mod Lists
 pub mod Spns
 pub mod Form
 pub mod Command
@@ -22,6 +23,7 @@ pub mod AnswerCommand
 pub mod HexCommand
 pub mod IdCommand
 pub mod NameCommand
+pub mod Conversions
 pub mod Outgoing
 pub mod CutCommand
 pub mod GroupsCommand

@@ -12,12 +12,13 @@ use Rattle.j39_listen.specs.declared.running.RunFault.TheVariants.{Memory}
 use Rattle.j39_log.specs.Bus.{IsBusName}
 use Rattle.j39_reports.specs.ReportRecords.{MakesRecords}
 use Rattle.j39_reports.specs.EntryText.{header_text}
-use Rattle.j39_cli.specs.Answer.{IsBusChecked, IsSpnChecked, IsTask}
+use Rattle.j39_cli.specs.Answer.{IsBusChecked, IsTask, IsValueChecked}
 use Rattle.j39_cli.specs.Form.{Form, Meaning, flag, option, value}
 use Rattle.j39_cli.specs.LogCommand.{IsRun, fault_text, format_of, opened_of, with_log}
 use Rattle.j39_cli.specs.Refusal.{error_line}
 use Rattle.j39_cli.specs.Rules.{flag_rule, option_rule, with_table}
-use Rattle.j39_cli.specs.Spns.{spns_in}
+use Rattle.j39_cli.specs.Spns.{IsSpnList, spns_in}
+use Rattle.j39_cli.specs.declared.task.Argument.TheVariants as argument
 use Rattle.j39_listen.specs.declared.format.Format.{Format}
 use Rattle.j39_listen.specs.declared.format.Format.TheVariants.{Line, Record}
 use Rattle.j39_cli.specs.declared.task.LogInput.{LogInput}
@@ -42,7 +43,7 @@ report_form bus table spn csv file = record {
   called = codes "report";
   arguments = option (codes "bus") bus ∷ option (codes "table") table ∷ option (codes "spn") spn ∷ flag (codes "csv") csv
       ∷ value (codes "file") file ∷ [];
-  Answers = IsBusChecked bus (IsSpnChecked spn (IsTask (IsReportTask bus table spn csv file)));
+  Answers = IsBusChecked bus (IsValueChecked IsSpnList argument.Spn spn (IsTask (IsReportTask bus table spn csv file)));
 }
 
 -- ---- its run

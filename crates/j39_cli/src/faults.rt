@@ -2,15 +2,16 @@
 ghost use Rattle.std.specs.Prelude.{◌≡◌, codes};
 ghost use Rattle.clap.specs.Words.{found_of};
 ghost use Rattle.j39_cli.specs.CommandWords.{IsAnswered, command_found};
-ghost use Rattle.j39_cli.specs.FaultsCommand.{faults_app, telling_of};
+ghost use Rattle.j39_cli.specs.FaultsCommand.{chosen_by, faults_app, telling_of};
+ghost use Rattle.j39_reports.specs.News.{chosen_of};
 ghost use Rattle.j39_cli.specs.Rules.{IsMade};
 
-use crate::command::{new_command, with_flag, with_table};
+use crate::command::{new_command, with_flag, with_option, with_table};
 use crate::log::{with_csv, with_log};
-use crate::words::{format_given, is_set, log_input};
-use crate::{ParseFault, Task, WordText};
+use crate::words::{conversions_value, format_given, is_set, log_input};
+use crate::{Conversions, ParseFault, Task, WordText};
 use clap::{ArgMatches, Command};
-use j39_reports::Telling;
+use j39_reports::{Choice, Telling};
 use std::alloc::{AllocError, Global};
 
 const ABOUT: &str = "\
@@ -23,7 +24,8 @@ message. The line has the time, the source address (hex), the NAME of the device
 that address (hex, or dashes where no claim before tells it), the state, the SPN,
 the FMI, how often it came (or -), the lamps of the device (a flashing one with *,
 or - where all are off), what the table calls the parameter, and what the FMI
-means. A message with no code writes none.";
+means. A message with no code writes none. Who asks to clear codes is told too: the
+previously active ones (DM3), or the active ones (DM11), of all (FF) or of one.";
 
 const HELP: &str = "\
 At the end the counts go to standard error:
@@ -45,6 +47,9 @@ pub(crate) fn command<'a>(alloc: Global) -> Result<Command<'a>, AllocError>
 {
     let about = "Writes the fault codes in a log";
     let command = with_table(alloc, new_command(alloc, "faults", about, ABOUT, HELP));
+    let help =
+        "By which version of their conversion older SPNs are read: 1, 2 or 3, of all; or NAME=1,..";
+    let command = with_option(alloc, command, "conversion", "C", false, help);
     let help = "Each message of faults, whether it is news or not";
     let command = with_flag(alloc, command, "all", help);
     with_log(alloc, with_csv(alloc, command))
@@ -57,10 +62,15 @@ pub(crate) fn task<'a>(given: &ArgMatches<'a>) -> Result<Task<'a>, ParseFault>
     let table = given.get_str("table").map(WordText::new);
     let telling = telling_by(is_set(given, "all"));
     let format = format_given(given);
-    match log_input(given) {
-        Ok(input) => Ok(Task::Faults {
+    let input = match log_input(given) {
+        Ok(input) => input,
+        Err(fault) => return Err(fault),
+    };
+    match conversions_value(given) {
+        Ok(conversions) => Ok(Task::Faults {
             input,
             table,
+            conversions,
             telling,
             format,
         }),
@@ -73,4 +83,20 @@ fn telling_by(all: bool) -> Telling
     ensures { result ≡ telling_of all }
 {
     if all { Telling::All } else { Telling::News }
+}
+
+/// What is told: no version is known where none is given.
+pub(crate) fn choice_of(conversions: &Option<Conversions>, telling: Telling) -> Choice<'_>
+    ensures { chosen_of result ≡ chosen_by conversions.now telling }
+{
+    match conversions {
+        Some(conversions) => Choice {
+            telling,
+            conversions: conversions.as_slice(),
+        },
+        None => Choice {
+            telling,
+            conversions: &[],
+        },
+    }
 }

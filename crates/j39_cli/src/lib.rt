@@ -3,6 +3,7 @@
 
 mod answer;
 mod command;
+mod conversions;
 mod cut;
 mod cut_values;
 mod faults;
@@ -25,6 +26,7 @@ mod task;
 mod unknown;
 mod words;
 
+pub use conversions::Conversions;
 pub use outgoing::Outgoing;
 pub use own_table::{folder_for_table, wrong_table};
 pub use performing::{perform, perform_with};

@@ -4,6 +4,7 @@ ghost use Rattle.j39_io.specs.Turn.{turn};
 ghost use Rattle.j39_groups.specs.Table.{the_table};
 ghost use Rattle.j39_cli.specs.Task.{IsPerformed, reads_log};
 
+use crate::faults::choice_of;
 use crate::id::id_line;
 use crate::log::{LOG_LIMIT, copy_of, tell_end};
 use crate::name::name_lines;
@@ -88,14 +89,14 @@ pub fn perform_with<R: Source, W: Sink, E: Sink>(
         }
         Task::Faults {
             input,
+            conversions,
             telling,
             format,
             ..
         } => {
             let bus = copy_of(&input.bus);
-            let end = faults(
-                alloc, groups, *format, *telling, source, sink, bus, LOG_LIMIT,
-            );
+            let choice = choice_of(conversions, *telling);
+            let end = faults(alloc, groups, *format, choice, source, sink, bus, LOG_LIMIT);
             tell_end(end, err)
         }
         Task::Nodes { input, format } => {

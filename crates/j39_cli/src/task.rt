@@ -5,7 +5,7 @@ ghost use Rattle.j39_cli.specs.Answer.{argument_text};
 ghost use Rattle.j39_cli.specs.LogCommand.{opened_of};
 ghost use Rattle.j39_cli.specs.Task.{file_of, table_of};
 
-use crate::{Outgoing, Spns};
+use crate::{Conversions, Outgoing, Spns};
 use j39_address::Name;
 use j39_frame::{Id, is_address};
 use j39_listen::Format;
@@ -122,6 +122,8 @@ pub enum Task<'a> {
         input: LogInput<'a>,
         /// The file of the table, as of a report.
         table: Option<WordText<'a>>,
+        /// By which versions of their conversion SPNs are read; `None` for none.
+        conversions: Option<Conversions>,
         /// Which messages are told.
         telling: Telling,
         /// How they are written.
@@ -229,6 +231,8 @@ pub enum Argument {
     Hex,
     /// `--spn`, the parameters that are asked for.
     Spn,
+    /// `--conversion`, the versions by which SPNs are read.
+    Conversion,
 }
 
 impl Argument {
@@ -245,6 +249,7 @@ impl Argument {
             Argument::At => "--at",
             Argument::Hex => "HEX",
             Argument::Spn => "--spn",
+            Argument::Conversion => "--conversion",
         }
     }
 }

@@ -5,13 +5,16 @@ ghost use Rattle.clap.specs.Words.{fault_of, subcommand_name_of, subcommand_of, 
 ghost use Rattle.j39_cli.specs.Command.{line_app};
 ghost use Rattle.j39_cli.specs.CommandWords.{CommandWords, HasTexts, HasValues, IsAnswer, Tells, words_of};
 ghost use Rattle.j39_cli.specs.Spelling.{IsEntered, IsSpelled};
-ghost use Rattle.j39_cli.specs.Answer.{IsInput, IsSpnsValue};
+ghost use Rattle.j39_cli.specs.Answer.{IsInput, IsValueRead};
+ghost use Rattle.j39_cli.specs.Conversions.{IsConversionList, conversions_in};
+ghost use Rattle.j39_cli.specs.Spns.{IsSpnList, spns_in};
 ghost use Rattle.j39_cli.specs.LogCommand.{format_of};
 ghost use Rattle.j39_cli.specs.Refused.{IsRefusal, IsSaid};
 ghost use Rattle.j39_cli.specs.Rules.{is_given};
 ghost use Rattle.j39_cli.specs.Task.{IsInRange};
 
 use crate::command::line;
+use crate::conversions::{Conversions, conversions_of};
 use crate::spns::{Spns, spns_of};
 use crate::{
     Argument, LogInput, ParseFault, Task, WordText, answer, cut, faults, groups, id, name, nodes,
@@ -151,13 +154,27 @@ pub(crate) fn format_given(given: &ArgMatches<'_>) -> Format
 
 /// The values of `--spn`, where it is given.
 pub(crate) fn spns_value(given: &ArgMatches<'_>) -> Result<Option<Spns>, ParseFault>
-    ensures { IsSpnsValue (first_value (found_of given.now) (codes "spn")) result }
+    ensures { IsValueRead IsSpnList spns_in Argument.Spn (first_value (found_of given.now) (codes "spn")) result }
 {
     match given.get_str("spn") {
         None => Ok(None),
         Some(text) => match spns_of(text.as_bytes()) {
             Some(spns) => Ok(Some(spns)),
             None => Err(ParseFault::BadValue(Argument::Spn)),
+        },
+    }
+}
+
+/// The values of `--conversion`, where it is given.
+pub(crate) fn conversions_value(given: &ArgMatches<'_>) -> Result<Option<Conversions>, ParseFault>
+    ensures { IsValueRead IsConversionList conversions_in Argument.Conversion
+        (first_value (found_of given.now) (codes "conversion")) result }
+{
+    match given.get_str("conversion") {
+        None => Ok(None),
+        Some(text) => match conversions_of(text.as_bytes()) {
+            Some(conversions) => Ok(Some(conversions)),
+            None => Err(ParseFault::BadValue(Argument::Conversion)),
         },
     }
 }

@@ -8,7 +8,8 @@ use Rattle.j39_faults.specs.declared.code.Code.{Code}
 use Rattle.j39_faults.specs.declared.code.Parameter.{Parameter}
 use Rattle.j39_faults.specs.declared.code.Parameter.TheVariants.{Known, OneOf}
 use Rattle.j39_faults.specs.declared.lamps.Lamps.{Lamps}
-use Rattle.j39_faults.specs.Codes.{codes_of}
+use Rattle.j39_faults.specs.declared.conversion.Version.{Version}
+use Rattle.j39_faults.specs.Conversions.{codes_by}
 use Rattle.j39_faults.specs.LampBits.{lamps_of}
 use Rattle.j39_faults.specs.Sameness.{is_same_code, is_same_count, is_same_parameter, is_same_spns, said_by, same_codes, same_lamps, tells_same}
 use Rattle.j39_faults.specs.Text.{lamps_text}
@@ -53,8 +54,8 @@ decides_lamps None (Some b) = (λ is. cc, λ same. cc)
 decides_lamps (Some a) None = (λ is. cc, λ same. cc)
 decides_lamps (Some a) (Some b) = decides_as _ (bytes_eq-Decides (lamps_text a) (lamps_text b)) (λ same. ap (λ (x : List ℕ). Some x) same) (λ same. cc)
 
-pub decides : (a b : List ℕ) → Decides (tells_same a b) (said_by a ≡ said_by b)
-decides a b =
-    decides_as _ (Decides-and _ _ (decides_lamps (lamps_of a) (lamps_of b)) (decides_codes (codes_of a) (codes_of b)))
+pub decides : (v : Option Version) (a b : List ℕ) → Decides (tells_same v a b) (said_by v a ≡ said_by v b)
+decides v a b =
+    decides_as _ (Decides-and _ _ (decides_lamps (lamps_of a) (lamps_of b)) (decides_codes (codes_by v a) (codes_by v b)))
     (λ same. (λ i. record { lamps = same.0 i; codes = same.1 i }))
     (λ same. (ap (λ s. s.lamps) same, ap (λ s. s.codes) same))

@@ -2,6 +2,7 @@
 pub mod FaultGroups
 pub mod LampBits
 pub mod Codes
+pub mod Conversions
 pub mod Words
 -- what is told (own)
 pub mod Text

@@ -5,17 +5,19 @@ use Rattle.j39_faults.specs.declared.code.Code.{Code}
 use Rattle.j39_faults.specs.declared.code.Parameter.{Parameter}
 use Rattle.j39_faults.specs.declared.code.Parameter.TheVariants.{Known, OneOf}
 use Rattle.j39_faults.specs.declared.lamps.Lamps.{Lamps}
-use Rattle.j39_faults.specs.Codes.{codes_of}
+use Rattle.j39_faults.specs.declared.conversion.Version.{Version}
+use Rattle.j39_faults.specs.Conversions.{codes_by}
 use Rattle.j39_faults.specs.LampBits.{lamps_of}
 use Rattle.j39_faults.specs.Text.{lamps_text}
 
--- what a payload says: what is told of the lamps, and the codes
+-- what a payload says: what is told of the lamps, and the codes, by a version of the conversion where one is known
 pub record Said : Type 0 where
   pub lamps : Option (List ℕ)
   pub codes : List Code
 
-abbrev pub said_by : List ℕ → Said
-said_by payload = record { lamps = option_map lamps_text (lamps_of payload); codes = codes_of payload }
+abbrev pub said_by : Option Version → List ℕ → Said
+said_by version payload =
+    record { lamps = option_map lamps_text (lamps_of payload); codes = codes_by version payload }
 
 -- ---- the test for it
 
@@ -49,5 +51,6 @@ same_lamps None (Some b) = false
 same_lamps (Some a) None = false
 same_lamps (Some a) (Some b) = bytes_eq (lamps_text a) (lamps_text b)
 
-abbrev pub tells_same : List ℕ → List ℕ → Bool
-tells_same a b = same_lamps (lamps_of a) (lamps_of b) && same_codes (codes_of a) (codes_of b)
+abbrev pub tells_same : Option Version → List ℕ → List ℕ → Bool
+tells_same version a b =
+    same_lamps (lamps_of a) (lamps_of b) && same_codes (codes_by version a) (codes_by version b)

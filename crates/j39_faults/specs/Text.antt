@@ -24,6 +24,10 @@ kind_text EmissionPrevious = codes "emission-previous"
 kind_text Pending = codes "pending"
 kind_text Permanent = codes "permanent"
 
+-- as `clear-active`, where the codes of a kind are to be cleared
+unfoldable pub clear_text : Kind → List ℕ
+clear_text kind = codes "clear-" ++ kind_text kind
+
 -- ---- the lamps
 
 abbrev pub is_told : LampState → Bool

@@ -1,7 +1,7 @@
-//! Which groups tell faults (J1939-73, 5.7).
+//! Which groups tell faults, and which clear them (J1939-73, 5.7).
 ghost use Rattle.std.specs.Prelude.{◌≡◌};
 ghost use Rattle.j39_frame.specs.Pgn.{pgn_raw};
-ghost use Rattle.j39_faults.specs.FaultGroups.{kind_of};
+ghost use Rattle.j39_faults.specs.FaultGroups.{cleared_at, cleared_by, cleared_in, kind_of};
 
 use j39_frame::Pgn;
 
@@ -38,6 +38,41 @@ pub fn fault_group(pgn: Pgn) -> Option<Kind>
         64949 => Some(Kind::EmissionPrevious),
         64898 => Some(Kind::Pending),
         64896 => Some(Kind::Permanent),
+        _ => None,
+    }
+}
+
+/// The group of requests (J1939-21, 5.4.2).
+const REQUEST: u32 = 59904;
+
+/// Which codes a message asks to clear: a request for group 65228 (DM3) the previously active ones, one for 65235 (DM11)
+/// the active ones; no other message asks for any. The first three bytes are the group; that more are taken is (own).
+#[tactic(auto, unfolding(crate::specs::FaultGroups::cleared_in))]
+pub fn cleared_in(pgn: Pgn, payload: &[u8]) -> Option<Kind>
+    ensures { result ≡ cleared_in (pgn_raw pgn) payload.now }
+{
+    if pgn.raw() == REQUEST {
+        cleared_at(payload)
+    } else {
+        None
+    }
+}
+
+fn cleared_at(payload: &[u8]) -> Option<Kind>
+    ensures { result ≡ cleared_at payload.now }
+{
+    let first = *payload.first()?;
+    let second = *payload.get(1)?;
+    let third = *payload.get(2)?;
+    cleared_by(u32::from(first) + 256 * u32::from(second) + 65536 * u32::from(third))
+}
+
+fn cleared_by(group: u32) -> Option<Kind>
+    ensures { result ≡ cleared_by group }
+{
+    match group {
+        65228 => Some(Kind::Previous),
+        65235 => Some(Kind::Active),
         _ => None,
     }
 }

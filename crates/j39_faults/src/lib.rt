@@ -3,6 +3,7 @@
 
 mod code;
 mod codes;
+mod conversion;
 mod kind;
 mod lamp_names;
 mod lamps;
@@ -12,9 +13,12 @@ mod words;
 
 pub use code::{Candidates, Code, Parameter};
 pub use codes::{Codes, codes_of};
-pub use kind::{Kind, fault_group};
+pub use conversion::{Conversion, Version, code_by, version_for};
+pub use kind::{Kind, cleared_in, fault_group};
 pub use lamp_names::{LampsText, lamps_text, lamps_told};
 pub use lamps::{Flash, Lamp, LampState, Lamps, lamps_of};
 pub use sameness::tells_same;
-pub use text::{ParameterWords, kind_word, parameter_words, put_code, put_no_code};
+pub use text::{
+    ClearWord, ParameterWords, clear_word, kind_word, parameter_words, put_code, put_no_code,
+};
 pub use words::fmi_words;

@@ -1,21 +1,22 @@
 //! Whether two messages of faults tell the same (own).
 ghost use Rattle.std.specs.Prelude.{◌≡◌};
 ghost use Rattle.std.specs.Bool.{Decides};
-ghost use Rattle.j39_faults.specs.Codes.{codes_of};
+ghost use Rattle.j39_faults.specs.Conversions.{codes_by};
 ghost use Rattle.j39_faults.specs.Sameness.{is_same_code, is_same_count, is_same_parameter, is_same_spns, said_by, same_codes, same_lamps, tells_same};
 
 use crate::code::{Candidates, Code, Parameter};
 use crate::codes::codes_of;
+use crate::conversion::{Version, code_by};
 use crate::lamp_names::lamps_text;
 use crate::lamps::{Lamps, lamps_of};
 
-/// Whether two payloads tell the same: what is told of the lamps, and the codes, in order. How a lamp flashes that isn't on
-/// isn't told, and filling isn't.
-pub fn tells_same(one: &[u8], other: &[u8]) -> bool
-    ensures value { result ≡ tells_same one.now other.now }
-    ensures means { Decides result (said_by one.now ≡ said_by other.now) }
+/// Whether two payloads tell the same: what is told of the lamps, and the codes, in order, by a version of the conversion
+/// where one is known. How a lamp flashes that isn't on isn't told, and filling isn't.
+pub fn tells_same(version: Option<Version>, one: &[u8], other: &[u8]) -> bool
+    ensures value { result ≡ tells_same version one.now other.now }
+    ensures means { Decides result (said_by version one.now ≡ said_by version other.now) }
 {
-    same_lamps(lamps_of(one), lamps_of(other)) && same_codes(one, other)
+    same_lamps(lamps_of(one), lamps_of(other)) && same_codes(version, one, other)
 }
 
 fn same_lamps(one: Option<Lamps>, other: Option<Lamps>) -> bool
@@ -29,15 +30,15 @@ fn same_lamps(one: Option<Lamps>, other: Option<Lamps>) -> bool
     }
 }
 
-fn same_codes(one: &[u8], other: &[u8]) -> bool
-    ensures { result ≡ same_codes (codes_of one.now) (codes_of other.now) }
+fn same_codes(version: Option<Version>, one: &[u8], other: &[u8]) -> bool
+    ensures { result ≡ same_codes (codes_by version one.now) (codes_by version other.now) }
 {
     let mut others = codes_of(other);
     for code in codes_of(one) {
         let Some(twin) = others.next() else {
             return false;
         };
-        if !is_same_code(code, twin) {
+        if !is_same_code(code_by(version, code), code_by(version, twin)) {
             return false;
         }
     }

@@ -4,7 +4,7 @@ ghost use Rattle.std.specs.Option.{option_map};
 ghost use Rattle.arrayvec.specs.ArrayVec.{array_vec_len};
 ghost use Rattle.j39_io.specs.Puts.{Puts};
 ghost use Rattle.j39_io.specs.Turn.{turn};
-ghost use Rattle.j39_faults.specs.Text.{candidates_words, code_text, columns_text, count_text, kind_text, lamps_text, meaning_text, no_code_text, parameter_words, spn_text};
+ghost use Rattle.j39_faults.specs.Text.{candidates_words, clear_text, code_text, columns_text, count_text, kind_text, lamps_text, meaning_text, no_code_text, parameter_words, spn_text};
 
 use crate::code::{Candidates, Code, Parameter};
 use crate::kind::Kind;
@@ -17,6 +17,9 @@ use j39_io::{DeviceFault, Sink, put_all};
 
 /// Three numbers of ten digits, the kind, the lamps and what stands between fit.
 type Columns = ArrayVec<u8, 128>;
+
+/// The longest word for a kind fits behind `clear-`.
+pub type ClearWord = ArrayVec<u8, 32>;
 
 /// Three numbers of ten digits and the words between fit.
 pub type ParameterWords = ArrayVec<u8, 64>;
@@ -138,6 +141,17 @@ fn push_kind(text: &mut Columns, kind: Kind)
     ensures len { array_vec_len text.new ≤ array_vec_len text.old + 17 }
 {
     push_bytes(text, kind_word(kind));
+}
+
+/// The word for a kind's codes that are to be cleared: `clear-` and the kind's.
+#[tactic(auto, unfolding(crate::specs::Text::clear_text))]
+pub fn clear_word(kind: Kind) -> ClearWord
+    ensures { result.items ≡ clear_text kind }
+{
+    let mut word = ArrayVec::new();
+    push_bytes(&mut word, b"clear-");
+    push_bytes(&mut word, kind_word(kind));
+    word
 }
 
 /// The word for a kind.

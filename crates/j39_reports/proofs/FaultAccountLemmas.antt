@@ -22,7 +22,7 @@ use Rattle.j39_listen.proofs.LineLemmas.{capped-sum}
 use Rattle.j39_listen.proofs.ReportAccount.{same_made}
 use Rattle.j39_listen.proofs.Unique.{heard_below_unique, heard_first}
 use Rattle.j39_reports.specs.Faults.{Fault, faults_in}
-use Rattle.j39_reports.specs.News.{faults_among, is_fault_group, is_of_faults, told, told_below, told_here}
+use Rattle.j39_reports.specs.News.{Chosen, chosen_of, faults_among, is_fault_group, is_of_faults, told, told_below, told_here}
 use Rattle.j39_reports.specs.FaultRun.{MakesFaults, MakesFaultsIn, faults_of}
 use Rattle.j39_reports.specs.FaultRecords.{fault_in, faults_text}
 use Rattle.j39_reports.specs.Remembered.{Remembers}
@@ -32,7 +32,6 @@ use Rattle.j39_listen.specs.declared.format.Format.{Format}
 use Rattle.j39_listen.specs.declared.format.Format.TheVariants.{Line}
 use Rattle.j39_reports.specs.declared.fault_news.form.Writing.{Writing}
 use Rattle.j39_reports.specs.declared.fault_news.last_faults.LastFaults.{LastFaults}
-use Rattle.j39_reports.specs.declared.fault_news.telling.Telling.{Telling}
 
 -- ---- the texts
 
@@ -44,15 +43,15 @@ pub faults_text-none : (form : Format) (rows : List RowRecord) → faults_text f
 unfolding faults_text
 faults_text-none form rows = refl
 
-told_none : (which : Telling) → told which [] ≡ []
+told_none : (which : Chosen) → told which [] ≡ []
 unfolding told_below
 told_none which = refl
 
-pub none_told : (form : Format) (rows : List RowRecord) (which : Telling) → (faults_of form rows which []).text ≡ []
-none_told form rows which = ap (λ ms. faults_text form rows (flat_map faults_in ms)) (told_none which) ∙ faults_text-none form rows
+pub none_told : (form : Format) (rows : List RowRecord) (which : Chosen) → (faults_of form rows which []).text ≡ []
+none_told form rows which = ap (λ ms. faults_text form rows (flat_map (faults_in which.conversions) ms)) (told_none which) ∙ faults_text-none form rows
 
-pub none_made : (form : Format) (rows : List RowRecord) (which : Telling) → (record { messages = 0; lines = 0 }) ≡ made_of (faults_of form rows which [])
-none_made form rows which = same_made _ _ refl (sym (ap (λ (ms : List Hearing). capped (length (flat_map faults_in ms))) (told_none which)))
+pub none_made : (form : Format) (rows : List RowRecord) (which : Chosen) → (record { messages = 0; lines = 0 }) ≡ made_of (faults_of form rows which [])
+none_made form rows which = same_made _ _ refl (sym (ap (λ (ms : List Hearing). capped (length (flat_map (faults_in which.conversions) ms))) (told_none which)))
 
 -- ---- the messages told: of the first messages first
 
@@ -61,7 +60,7 @@ same_get [] ks n l = absurd (omega arith)
 same_get (m ∷ ms) ks zero l = refl
 same_get (m ∷ ms) ks (suc n) l = same_get ms ks n (omega arith)
 
-told_first : (which : Telling) (ms ks : List Hearing) (n : ℕ) → n ≤ length ms → told_below which (ms ++ ks) n ≡ told_below which ms n
+told_first : (which : Chosen) (ms ks : List Hearing) (n : ℕ) → n ≤ length ms → told_below which (ms ++ ks) n ≡ told_below which ms n
 unfolding told_below
 told_first which ms ks zero l = refl
 told_first which ms ks (suc n) l =
@@ -69,7 +68,7 @@ told_first which ms ks (suc n) l =
     ∙ ap (λ x. told_below which ms n ++ told_here which x (slice_get (ms ++ ks) n)) (take-append-le n ms ks (omega arith))
     ∙ ap (λ x. told_below which ms n ++ told_here which (take n ms) x) (same_get ms ks n (omega arith))
 
-told_rest : (which : Telling) (ms ks : List Hearing) (n : ℕ) → (rest : List Hearing) × (told_below which (ms ++ ks) (n + length ms) ≡ told which ms ++ rest)
+told_rest : (which : Chosen) (ms ks : List Hearing) (n : ℕ) → (rest : List Hearing) × (told_below which (ms ++ ks) (n + length ms) ≡ told which ms ++ rest)
 unfolding told_below
 told_rest which ms ks zero =
     let first : 0 + length ms ≡ length ms = omega arith in
@@ -80,7 +79,7 @@ told_rest which ms ks (suc n) =
     let here = told_here which (take (n + length ms) (ms ++ ks)) (slice_get (ms ++ ks) (n + length ms)) in
     (r.0 ++ here, ap (told_below which (ms ++ ks)) next ∙ ap (λ x. x ++ here) r.1 ∙ append_assoc (told which ms) r.0 here)
 
-told_begins : (which : Telling) (ms ks : List Hearing) → (rest : List Hearing) × (told which (ms ++ ks) ≡ told which ms ++ rest)
+told_begins : (which : Chosen) (ms ks : List Hearing) → (rest : List Hearing) × (told which (ms ++ ks) ≡ told which ms ++ rest)
 told_begins which ms ks =
     let len : length (ms ++ ks) ≡ length ks + length ms = length-append ms ks ∙ omega arith in
     let r = told_rest which ms ks (length ks) in
@@ -94,7 +93,7 @@ take_front : (ms : List Hearing) (m : Hearing) → take (length ms) (ms ++ m ∷
 take_front [] m = refl
 take_front (x ∷ ms) m = ap (λ xs. x ∷ xs) (take_front ms m)
 
-told_one : (which : Telling) (ms : List Hearing) (m : Hearing) → told which (ms ++ m ∷ []) ≡ told which ms ++ told_here which ms (Some m)
+told_one : (which : Chosen) (ms : List Hearing) (m : Hearing) → told which (ms ++ m ∷ []) ≡ told which ms ++ told_here which ms (Some m)
 unfolding told_below
 told_one which ms m =
     let len : length (ms ++ m ∷ []) ≡ suc (length ms) = length-append ms (m ∷ []) ∙ omega arith in
@@ -111,13 +110,13 @@ among_yes h is = cond-true _ _ _ is
 pub among_no : (h : Hearing) → is_of_faults h ≡ false → faults_among (h ∷ []) ≡ []
 among_no h isnt = cond-false _ _ _ isnt
 
-pub next_yes : (which : Telling) (ms : List Hearing) (h : Hearing) → is_of_faults h ≡ true → told_next which ms (Some h) ≡ told_here which ms (Some h)
+pub next_yes : (which : Chosen) (ms : List Hearing) (h : Hearing) → is_of_faults h ≡ true → told_next which ms (Some h) ≡ told_here which ms (Some h)
 next_yes which ms h is = cond-true _ _ _ is
 
-pub next_no : (which : Telling) (ms : List Hearing) (h : Hearing) → is_of_faults h ≡ false → told_next which ms (Some h) ≡ []
+pub next_no : (which : Chosen) (ms : List Hearing) (h : Hearing) → is_of_faults h ≡ false → told_next which ms (Some h) ≡ []
 next_no which ms h isnt = cond-false _ _ _ isnt
 
-told_more : (which : Telling) (ms : List Hearing) (o : Option Hearing) → told which (ms ++ faults_among (or_none o)) ≡ told which ms ++ told_next which ms o
+told_more : (which : Chosen) (ms : List Hearing) (o : Option Hearing) → told which (ms ++ faults_among (or_none o)) ≡ told which ms ++ told_next which ms o
 told_more which ms None = ap (told which) (append-nil ms) ∙ sym (append-nil (told which ms))
 told_more which ms (Some h) = elim (cases_Bool (is_of_faults h)) [
   | inl is ↦ ap (λ x. told which (ms ++ x)) (among_yes h is) ∙ told_one which ms h ∙ ap (λ x. told which ms ++ x) (sym (next_yes which ms h is))
@@ -125,27 +124,27 @@ told_more which ms (Some h) = elim (cases_Bool (is_of_faults h)) [
       ∙ ap (λ x. told which ms ++ x) (sym (next_no which ms h isnt))
 ]
 
-module _ (form : Format) (rows : List RowRecord) (which : Telling) (ms : List Hearing) (o : Option Hearing) where
-  faults_more : flat_map faults_in (told which (ms ++ faults_among (or_none o))) ≡ flat_map faults_in (told which ms) ++ flat_map faults_in (told_next which ms o)
-  faults_more = ap (flat_map faults_in) (told_more which ms o) ∙ flat_map-append faults_in (told which ms) (told_next which ms o)
+module _ (form : Format) (rows : List RowRecord) (which : Chosen) (ms : List Hearing) (o : Option Hearing) where
+  faults_more : flat_map (faults_in which.conversions) (told which (ms ++ faults_among (or_none o))) ≡ flat_map (faults_in which.conversions) (told which ms) ++ flat_map (faults_in which.conversions) (told_next which ms o)
+  faults_more = ap (flat_map (faults_in which.conversions)) (told_more which ms o) ∙ flat_map-append (faults_in which.conversions) (told which ms) (told_next which ms o)
 
   text_more : (faults_of form rows which (ms ++ faults_among (or_none o))).text ≡ (faults_of form rows which ms).text ++ (added form rows which ms o).text
-  text_more = ap (faults_text form rows) faults_more ∙ faults_text-append form rows (flat_map faults_in (told which ms)) (flat_map faults_in (told_next which ms o))
+  text_more = ap (faults_text form rows) faults_more ∙ faults_text-append form rows (flat_map (faults_in which.conversions) (told which ms)) (flat_map (faults_in which.conversions) (told_next which ms o))
 
   made_more : made_of (faults_of form rows which (ms ++ faults_among (or_none o))) ≡ made_sum (made_of (faults_of form rows which ms)) (made_of (added form rows which ms o))
   made_more = same_made _ _
       (capped-sum _ _ _ (length-append ms (faults_among (or_none o))))
-      (capped-sum _ _ _ (ap length faults_more ∙ length-append (flat_map faults_in (told which ms)) (flat_map faults_in (told_next which ms o))))
+      (capped-sum _ _ _ (ap length faults_more ∙ length-append (flat_map (faults_in which.conversions) (told which ms)) (flat_map (faults_in which.conversions) (told_next which ms o))))
 
 -- ---- nothing is told
 
-pub tells_nothing : (form : Format) (rows : List RowRecord) (which : Telling) (last : LastFaults) (ms : List Hearing) (o : Option Hearing) (made : Made) (held : Option (List ℕ))
+pub tells_nothing : (form : Format) (rows : List RowRecord) (which : Chosen) (last : LastFaults) (ms : List Hearing) (o : Option Hearing) (made : Made) (held : Option (List ℕ))
     → faults_among (or_none o) ≡ [] → told_next which ms o ≡ [] → Remembers last ms → made.messages ≡ 0 → made.lines ≡ 0
     → Tells form rows which last ms o made held held
 tells_nothing form rows which last ms o made held none untold remembers m l = record {
   remembers = subst (Remembers last) (sym (ap (λ x. ms ++ x) none ∙ append-nil ms)) remembers;
-  made_is = same_made _ _ (m ∙ sym (ap (λ (x : List Hearing). capped (length x)) none)) (l ∙ sym (ap (λ (x : List Hearing). capped (length (flat_map faults_in x))) untold));
-  written = subst (Appends held held) (sym (ap (λ (x : List Hearing). faults_text form rows (flat_map faults_in x)) untold ∙ faults_text-none form rows)) (Appends-nil held);
+  made_is = same_made _ _ (m ∙ sym (ap (λ (x : List Hearing). capped (length x)) none)) (l ∙ sym (ap (λ (x : List Hearing). capped (length (flat_map (faults_in which.conversions) x))) untold));
+  written = subst (Appends held held) (sym (ap (λ (x : List Hearing). faults_text form rows (flat_map (faults_in which.conversions) x)) untold ∙ faults_text-none form rows)) (Appends-nil held);
 }
 
 -- ---- the groups of faults aren't the network's
@@ -158,14 +157,14 @@ faults_leave pgn network = grind arith
 sound : (F : List FrameRecord) (heard : List Hearing) (more : List Hearing) → faults_among (heard ++ more) ≡ faults_among heard ++ faults_among more
 sound F heard more = filter-append is_of_faults heard more
 
-pub news_meets : (form : Format) (s : Subject) (a a' : FaultNews) → a'.writing ≡ a.writing → a'.telling ≡ a.telling → (f : FrameRecord) (made : Made) (old new : Option (List ℕ))
-    → ((F : List FrameRecord) (ms : List Hearing) → Hears a.listener F → Remembers a.last ms → MeetsFrame a.writing.form a.writing.groups.now a.telling a'.listener a'.last F f ms made old new)
+pub news_meets : (form : Format) (s : Subject) (a a' : FaultNews) → a'.writing ≡ a.writing → a'.choice ≡ a.choice → (f : FrameRecord) (made : Made) (old new : Option (List ℕ))
+    → ((F : List FrameRecord) (ms : List Hearing) → Hears a.listener F → Remembers a.last ms → MeetsFrame a.writing.form a.writing.groups.now (chosen_of a.choice) a'.listener a'.last F f ms made old new)
     → a'.made ≡ made_sum a.made made → Meets (HasTold form s) a a' (f ∷ []) old new
-news_meets form s a a' writing telling f made old new meets sum = λ F before has.
+news_meets form s a a' writing choice f made old new meets sum = λ F before has.
     let ms = faults_among has.heard in
-    let met = subst (λ (t : Telling). MeetsFrame form s.rows t a'.listener a'.last F f ms made old new) has.telling_is
-    (subst (λ (rows : List RowRecord). MeetsFrame form rows a.telling a'.listener a'.last F f ms made old new) has.by
-    (subst (λ (form : Format). MeetsFrame form a.writing.groups.now a.telling a'.listener a'.last F f ms made old new) has.form_is (meets F ms has.hears has.remembers))) in
+    let met = subst (λ (t : Chosen). MeetsFrame form s.rows t a'.listener a'.last F f ms made old new) has.chosen_is
+    (subst (λ (rows : List RowRecord). MeetsFrame form rows (chosen_of a.choice) a'.listener a'.last F f ms made old new) has.by
+    (subst (λ (form : Format). MeetsFrame form a.writing.groups.now (chosen_of a.choice) a'.listener a'.last F f ms made old new) has.form_is (meets F ms has.hears has.remembers))) in
     let heard = has.heard ++ or_none met.heard in
     let are = sound F has.heard (or_none met.heard) in
     record {
@@ -173,7 +172,7 @@ news_meets form s a a' writing telling f made old new meets sum = λ F before ha
       met = record {
         form_is = ap (λ (x : Writing). x.form) writing ∙ has.form_is;
         by = ap (λ (x : Writing). x.groups.now) writing ∙ has.by;
-        telling_is = telling ∙ has.telling_is;
+        chosen_is = ap chosen_of choice ∙ has.chosen_is;
         heard = heard;
         are_heard = heard_more is_fault_group F f has.heard met.heard has.are_heard met.heard_at;
         output_is = refl;
@@ -190,17 +189,17 @@ news_meets form s a a' writing telling f made old new meets sum = λ F before ha
 
 -- ---- what is told of the first frames comes first
 
-texts : (form : Format) (rows : List RowRecord) (which : Telling) (bus : List ℕ) (F G : List FrameRecord) (first : List Hearing) (before all : Output) → AreHeardWith is_fault_group F first
+texts : (form : Format) (rows : List RowRecord) (which : Chosen) (bus : List ℕ) (F G : List FrameRecord) (first : List Hearing) (before all : Output) → AreHeardWith is_fault_group F first
     → before ≡ faults_of form rows which (faults_among first) → MakesFaultsIn form rows which bus (F ++ G) all → (rest : List ℕ) × (all.text ≡ before.text ++ rest)
 texts form rows which bus F G first before all are is (heard, are_all, all_is) =
     let split = heard_first is_fault_group faults_leave F G heard first are_all are in
     let among = ap faults_among split.1 ∙ sound F first split.0 in
     let t = told_begins which (faults_among first) (faults_among split.0) in (
-      faults_text form rows (flat_map faults_in t.0),
-      ap (λ (o : Output). o.text) all_is ∙ ap (λ (x : List Hearing). faults_text form rows (flat_map faults_in (told which x))) among
-          ∙ ap (λ (x : List Hearing). faults_text form rows (flat_map faults_in x)) t.1 ∙ ap (faults_text form rows) (flat_map-append faults_in (told which (faults_among first)) t.0)
-          ∙ faults_text-append form rows (flat_map faults_in (told which (faults_among first))) (flat_map faults_in t.0)
-          ∙ ap (λ x. x ++ faults_text form rows (flat_map faults_in t.0)) (sym (ap (λ (o : Output). o.text) is)),
+      faults_text form rows (flat_map (faults_in which.conversions) t.0),
+      ap (λ (o : Output). o.text) all_is ∙ ap (λ (x : List Hearing). faults_text form rows (flat_map (faults_in which.conversions) (told which x))) among
+          ∙ ap (λ (x : List Hearing). faults_text form rows (flat_map (faults_in which.conversions) x)) t.1 ∙ ap (faults_text form rows) (flat_map-append (faults_in which.conversions) (told which (faults_among first)) t.0)
+          ∙ faults_text-append form rows (flat_map (faults_in which.conversions) (told which (faults_among first))) (flat_map (faults_in which.conversions) t.0)
+          ∙ ap (λ x. x ++ faults_text form rows (flat_map (faults_in which.conversions) t.0)) (sym (ap (λ (o : Output). o.text) is)),
     )
 
 pub news_begins : (form : Format) (s : Subject) → Begins (λ bus. HasTold form s) (MakesFaultsIn form s.rows s.which)
@@ -216,13 +215,13 @@ news_one s = news_one_in Line s
 
 -- a fault of the writer at a frame
 pub news_stops : (form : Format) (s : Subject) (a : FaultNews) (f : FrameRecord) (old new : Option (List ℕ))
-    → ((F : List FrameRecord) (ms : List Hearing) → Hears a.listener F → Remembers a.last ms → StopsFrame a.writing.form a.writing.groups.now a.telling F f ms old new)
+    → ((F : List FrameRecord) (ms : List Hearing) → Hears a.listener F → Remembers a.last ms → StopsFrame a.writing.form a.writing.groups.now (chosen_of a.choice) F f ms old new)
     → (bus : List ℕ) → Stops (HasTold form s) (MakesFaultsIn form s.rows s.which bus) a (f ∷ []) old new
 news_stops form s a f old new stops bus = λ F G before all has made.
     let ms = faults_among has.heard in
-    let stop = subst (λ (t : Telling). StopsFrame form s.rows t F f ms old new) has.telling_is
-    (subst (λ (rows : List RowRecord). StopsFrame form rows a.telling F f ms old new) has.by
-    (subst (λ (form : Format). StopsFrame form a.writing.groups.now a.telling F f ms old new) has.form_is (stops F ms has.hears has.remembers))) in
+    let stop = subst (λ (t : Chosen). StopsFrame form s.rows t F f ms old new) has.chosen_is
+    (subst (λ (rows : List RowRecord). StopsFrame form rows (chosen_of a.choice) F f ms old new) has.by
+    (subst (λ (form : Format). StopsFrame form a.writing.groups.now (chosen_of a.choice) F f ms old new) has.form_is (stops F ms has.hears has.remembers))) in
     let here = (added form s.rows s.which ms stop.heard).text in
     let first = has.heard ++ or_none stop.heard in
     let t = texts form s.rows s.which bus (F ++ f ∷ []) G first (faults_of form s.rows s.which (faults_among first)) all (heard_more is_fault_group F f has.heard stop.heard has.are_heard stop.heard_at) refl made in

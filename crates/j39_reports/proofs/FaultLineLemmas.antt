@@ -11,59 +11,67 @@ use Rattle.j39_io.proofs.PutsLemmas.{puts_as, puts_done, puts_failed, puts_first
 use Rattle.std.specs.List.{cons_option, filter_map, range_with_len}
 use Rattle.std.proofs.lemmas.List.FromFn.{length-range_with_len}
 use Rattle.j39_faults.specs.Codes.{code_at, codes_of, places_of}
+use Rattle.j39_faults.specs.Conversions.{code_by, codes_by}
+use Rattle.j39_faults.specs.declared.conversion.Version.{Version}
 use Rattle.j39_faults.specs.declared.code.Code.{Code}
 use Rattle.j39_faults.specs.declared.kind.Kind.{Kind}
 use Rattle.j39_faults.specs.declared.lamps.Lamps.{Lamps}
 use Rattle.j39_groups.specs.Row.{RowRecord}
 use Rattle.j39_listen.specs.Heard.{Hearing}
-use Rattle.j39_reports.specs.Faults.{codes_or_none, fault_line, fault_of}
+use Rattle.j39_reports.specs.Faults.{clearing_of, codes_or_none, fault_line, fault_of}
 use Rattle.j39_reports.specs.FaultRecords.{fault_in, fault_record, faults_text}
-use Rattle.j39_reports.specs.FaultsSoFar.{head_in, line_of}
+use Rattle.j39_reports.specs.FaultsSoFar.{clearing_in, head_in, line_of}
 use Rattle.j39_listen.specs.declared.format.Format.{Format}
 use Rattle.j39_listen.specs.declared.format.Format.TheVariants.{Line, Record}
 
 abbrev pub lines_of : Format → List ℕ → List RowRecord → Kind → Lamps → List Code → List ℕ
 lines_of form head rows kind lamps cs = flat_map (λ code. line_of form head rows kind lamps (Some code)) cs
 
--- the lines of the codes before these, the last of a payload, were written, and no fault came
-pub record HasPut (form : Format) (head : List ℕ) (rows : List RowRecord) (kind : Kind) (lamps : Lamps) (payload : List ℕ) (left : List Code)
+-- the lines of the codes before these, the last of a payload by a version of the conversion, were written, and no fault came
+pub record HasPut (form : Format) (head : List ℕ) (rows : List RowRecord) (version : Option Version) (kind : Kind) (lamps : Lamps) (payload : List ℕ) (left : List Code)
     (count : ℕ) (sink : Turn) : Type 0 where
   pub before : List Code
-  pub all_are : codes_of payload ≡ before ++ left
+  pub all_are : codes_by version payload ≡ before ++ map (code_by version) left
   pub count_is : count ≡ length before
   pub written : Puts {T = Unit} {E = Unit} (lines_of form head rows kind lamps before) (Ok tt) sink
 
-module _ (form : Format) (head : List ℕ) (rows : List RowRecord) (kind : Kind) (lamps : Lamps) (payload : List ℕ) where
+module _ (form : Format) (head : List ℕ) (rows : List RowRecord) (version : Option Version) (kind : Kind) (lamps : Lamps) (payload : List ℕ) where
   abbrev line : Code → List ℕ
   line code = line_of form head rows kind lamps (Some code)
 
+  abbrev by : Code → Code
+  by code = code_by version code
+
+  next_is : (left more : List Code) (code : Code) → left ≡ code ∷ more → map by left ≡ by code ∷ map by more
+  next_is left more code is = ap (map by) is
+
   pub code_more : {E : Type 0} (code : Code) (left more : List Code) (count : ℕ) (old mid new : Device)
-      → HasPut form head rows kind lamps payload left count (record { old = old; new = mid }) → left ≡ code ∷ more
-      → Puts {T = Unit} {E = E} (line code) (Ok tt) (record { old = mid; new = new })
-      → HasPut form head rows kind lamps payload more (count + 1) (record { old = old; new = new })
+      → HasPut form head rows version kind lamps payload left count (record { old = old; new = mid }) → left ≡ code ∷ more
+      → Puts {T = Unit} {E = E} (line (by code)) (Ok tt) (record { old = mid; new = new })
+      → HasPut form head rows version kind lamps payload more (count + 1) (record { old = old; new = new })
   code_more code left more count old mid new h is here = record {
-    before = h.before ++ code ∷ [];
-    all_are = h.all_are ∙ ap (λ x. h.before ++ x) is ∙ sym (append_assoc h.before (code ∷ []) more);
-    count_is = (let c = h.count_is in let l : length (h.before ++ code ∷ []) ≡ length h.before + 1 = length-append h.before (code ∷ []) in omega arith);
-    written = puts_as _ _ _ _ (sym (flat_map-append line h.before (code ∷ []) ∙ ap (λ x. lines_of form head rows kind lamps h.before ++ x) (append-nil (line code))))
-        (puts_then (lines_of form head rows kind lamps h.before) (line code) tt (Ok tt) old mid new h.written (puts_done (line code) tt tt _ here));
+    before = h.before ++ by code ∷ [];
+    all_are = h.all_are ∙ ap (λ x. h.before ++ x) (next_is left more code is) ∙ sym (append_assoc h.before (by code ∷ []) (map by more));
+    count_is = (let c = h.count_is in let l : length (h.before ++ by code ∷ []) ≡ length h.before + 1 = length-append h.before (by code ∷ []) in omega arith);
+    written = puts_as _ _ _ _ (sym (flat_map-append line h.before (by code ∷ []) ∙ ap (λ x. lines_of form head rows kind lamps h.before ++ x) (append-nil (line (by code)))))
+        (puts_then (lines_of form head rows kind lamps h.before) (line (by code)) tt (Ok tt) old mid new h.written (puts_done (line (by code)) tt tt _ here));
   }
 
   pub code_stops : {T U E F : Type 0} (code : Code) (left more : List Code) (count : ℕ) (e : E) (last : Result U F) (old mid new : Device)
-      → IsErr last → HasPut form head rows kind lamps payload left count (record { old = old; new = mid }) → left ≡ code ∷ more
-      → Puts {T = T} (line code) (Err e) (record { old = mid; new = new })
-      → Puts (lines_of form head rows kind lamps (codes_of payload)) last (record { old = old; new = new })
+      → IsErr last → HasPut form head rows version kind lamps payload left count (record { old = old; new = mid }) → left ≡ code ∷ more
+      → Puts {T = T} (line (by code)) (Err e) (record { old = mid; new = new })
+      → Puts (lines_of form head rows kind lamps (codes_by version payload)) last (record { old = old; new = new })
   code_stops {T = T} code left more count e last old mid new failed h is here =
       let before = lines_of form head rows kind lamps h.before in
-      let rest = lines_of form head rows kind lamps more in
-      puts_as _ _ _ _ (sym (ap (lines_of form head rows kind lamps) (h.all_are ∙ ap (λ x. h.before ++ x) is) ∙ flat_map-append line h.before (code ∷ more) ∙ sym (append_assoc before (line code) rest)))
-      (puts_first {T = T} (before ++ line code) rest e last _ failed (puts_then before (line code) tt (Err e) old mid new h.written here))
+      let rest = lines_of form head rows kind lamps (map by more) in
+      puts_as _ _ _ _ (sym (ap (lines_of form head rows kind lamps) (h.all_are ∙ ap (λ x. h.before ++ x) (next_is left more code is)) ∙ flat_map-append line h.before (by code ∷ map by more) ∙ sym (append_assoc before (line (by code)) rest)))
+      (puts_first {T = T} (before ++ line (by code)) rest e last _ failed (puts_then before (line (by code)) tt (Err e) old mid new h.written here))
 
   -- the codes are those before the end
-  pub codes_all : {T E : Type 0} (left : List Code) (count : ℕ) (x : T) (sink : Turn) → HasPut form head rows kind lamps payload left count sink → left ≡ []
-      → Puts {E = E} (lines_of form head rows kind lamps (codes_of payload)) (Ok x) sink
+  pub codes_all : {T E : Type 0} (left : List Code) (count : ℕ) (x : T) (sink : Turn) → HasPut form head rows version kind lamps payload left count sink → left ≡ []
+      → Puts {E = E} (lines_of form head rows kind lamps (codes_by version payload)) (Ok x) sink
   codes_all left count x sink h none =
-      puts_done _ tt x sink (puts_as _ _ _ _ (ap (lines_of form head rows kind lamps) (sym (h.all_are ∙ ap (λ x. h.before ++ x) none ∙ append-nil h.before))) h.written)
+      puts_done _ tt x sink (puts_as _ _ _ _ (ap (lines_of form head rows kind lamps) (sym (h.all_are ∙ ap (λ x. h.before ++ map by x) none ∙ append-nil h.before))) h.written)
 
 few_found : {X Y : Type 0} (f : X → Option Y) (xs : List X) → length (filter_map f xs) ≤ length xs
 few_found f [] = omega arith
@@ -82,11 +90,12 @@ few_codes payload =
     let p : places_of payload ≤ length payload = omega arith in
     omega arith
 
-pub few_put : (form : Format) (head : List ℕ) (rows : List RowRecord) (kind : Kind) (lamps : Lamps) (payload : List ℕ) (left : List Code) (count : ℕ) (sink : Turn)
-    → HasPut form head rows kind lamps payload left count sink → count ≤ length payload
-few_put form head rows kind lamps payload left count sink h =
+pub few_put : (form : Format) (head : List ℕ) (rows : List RowRecord) (version : Option Version) (kind : Kind) (lamps : Lamps) (payload : List ℕ) (left : List Code) (count : ℕ) (sink : Turn)
+    → HasPut form head rows version kind lamps payload left count sink → count ≤ length payload
+few_put form head rows version kind lamps payload left count sink h =
     let c = h.count_is in
-    let l : length (codes_of payload) ≡ length h.before + length left = ap length h.all_are ∙ length-append h.before left in
+    let l : length (codes_by version payload) ≡ length h.before + length (map (code_by version) left) = ap length h.all_are ∙ length-append h.before (map (code_by version) left) in
+    let n : length (codes_by version payload) ≡ length (codes_of payload) = length-map (codes_of payload) (code_by version) in
     let f = few_codes payload in
     omega arith
 
@@ -142,3 +151,10 @@ module _ (m : Hearing) (kind : Kind) (lamps : Lamps) where
   pub count_some : (cs : List Code) → length cs ≢ 0 → length (map (fault_of m kind lamps) (codes_or_none cs)) ≡ length cs
   count_some [] none = absurd (none refl)
   count_some (c ∷ cs) some = length-map (map (λ (x : Code). Some x) (c ∷ cs)) (fault_of m kind lamps) ∙ length-map (c ∷ cs) (λ (x : Code). Some x)
+
+-- that codes are to be cleared
+pub clearing_text : (form : Format) (rows : List RowRecord) (m : Hearing) (kind : Kind)
+    → head_in form m.stamp m.message.source m.destination m.name ++ clearing_in form kind ≡ faults_text form rows (clearing_of m kind ∷ [])
+unfolding faults_text fault_line fault_record
+clearing_text Line rows m kind = sym (append-nil _)
+clearing_text Record rows m kind = sym (append-nil _)

@@ -1,5 +1,5 @@
 -- What is told of one message.
-use Rattle.std.proofs.Common.{◌≡◌, ◌≢◌, ◌∙◌, ◌<◌, ◌≤◌, ◌^◌, ◌&&◌, ℕ, Bool, true, false, List, [], ◌∷◌, ◌++◌, Option, Some}
+use Rattle.std.proofs.Common.{◌≡◌, ◌≢◌, ◌∙◌, ◌<◌, ◌≤◌, ◌^◌, ◌&&◌, ◌||◌, ℕ, Bool, true, false, List, [], ◌∷◌, ◌++◌, Option, Some}
 use Rattle.std.proofs.Common.{None, ap, append-nil, arith, flat_map, if◌then◌else◌, is_some, length, nat_le, refl}
 use Rattle.std.proofs.Common.{subst, sym, Result, Ok, Err}
 use Rattle.std.proofs.lemmas.Bool.{le-leb}
@@ -7,7 +7,7 @@ use Rattle.std.specs.Io.KnownBytes.{Appends}
 use Rattle.j39_io.specs.Device.{AppendsFront}
 use Rattle.j39_io.specs.Puts.{Puts}
 use Rattle.j39_io.specs.Turn.{Turn}
-use Rattle.j39_faults.specs.FaultGroups.{kind_of}
+use Rattle.j39_faults.specs.FaultGroups.{cleared_in, kind_of}
 use Rattle.j39_faults.specs.LampBits.{lamps_of}
 use Rattle.j39_faults.specs.declared.kind.Kind.{Kind}
 use Rattle.j39_faults.specs.declared.lamps.Lamps.{Lamps}
@@ -20,8 +20,10 @@ use Rattle.j39_listen.specs.Heard.{Hearing}
 use Rattle.j39_listen.specs.declared.counts.Made.{Made}
 use Rattle.j39_listen.proofs.LineLemmas.{capped-fits}
 use Rattle.j39_listen.proofs.ReportAccount.{same_made}
-use Rattle.j39_reports.specs.Faults.{Fault, faults_by, faults_in}
-use Rattle.j39_reports.specs.News.{is_news, is_of_faults, is_told}
+use Rattle.j39_reports.specs.Faults.{Fault, clearing_of, faults_by, faults_in, faults_or_clearing}
+use Rattle.j39_faults.specs.Conversions.{version_for}
+use Rattle.j39_faults.specs.declared.conversion.Version.{Version}
+use Rattle.j39_reports.specs.News.{Chosen, is_clearing, is_news, is_of_codes, is_of_faults, is_told, last_from, says_other}
 use Rattle.j39_reports.specs.FaultRecords.{faults_text}
 use Rattle.j39_reports.specs.Remembered.{Remembers, noted, said_at, said_in}
 use Rattle.j39_reports.specs.LastMessages.{differs}
@@ -29,8 +31,9 @@ use Rattle.j39_reports.specs.FaultsSoFar.{Tells, TellsFront, told_faults, told_n
 use Rattle.j39_listen.specs.declared.format.Format.{Format}
 use Rattle.j39_reports.specs.declared.fault_news.last_faults.LastFaults.{LastFaults}
 use Rattle.j39_reports.specs.declared.fault_news.telling.Telling.{Telling}
+use Rattle.j39_reports.specs.declared.fault_news.telling.Telling.TheVariants.{News, All}
 use Rattle.j39_reports.proofs.FaultAccountLemmas.{among_no, among_yes, next_no, next_yes, tells_nothing}
-use Rattle.j39_reports.proofs.TellLemmas.{news_is, remembers_more}
+use Rattle.j39_reports.proofs.TellLemmas.{news_is, remembers_asked, remembers_more}
 
 -- ---- which messages are of faults
 
@@ -44,18 +47,32 @@ too_short [] e = refl
 too_short (x ∷ []) e = refl
 too_short (x ∷ y ∷ rest) e = cc
 
+or_true : (b : Bool) → (b || true) ≡ true
+or_true true = refl
+or_true false = refl
+
 pub of_faults : (h : Hearing) (kind : Kind) (lamps : Lamps) → kind_of h.message.pgn ≡ Some kind → lamps_of h.message.bytes ≡ Some lamps → is_of_faults h ≡ true
-of_faults h kind lamps k l = ap (λ (o : Option Kind). is_some o && nat_le 2 (length h.message.bytes)) k ∙ long_enough h.message.bytes lamps l
+of_faults h kind lamps k l =
+    ap (λ b. is_clearing h || b) (ap (λ (o : Option Kind). is_some o && nat_le 2 (length h.message.bytes)) k ∙ long_enough h.message.bytes lamps l) ∙ or_true (is_clearing h)
 
-pub no_group : (h : Hearing) → kind_of h.message.pgn ≡ None → is_of_faults h ≡ false
-no_group h k = ap (λ (o : Option Kind). is_some o && nat_le 2 (length h.message.bytes)) k
+-- where it asks to clear none
+or_codes : (h : Hearing) → cleared_in h.message.pgn h.message.bytes ≡ None → is_of_faults h ≡ is_of_codes h
+or_codes h asks = ap (λ (o : Option Kind). is_some o || is_of_codes h) asks
 
-pub no_lamps : (h : Hearing) (kind : Kind) → kind_of h.message.pgn ≡ Some kind → lamps_of h.message.bytes ≡ None → is_of_faults h ≡ false
-no_lamps h kind k l = ap (λ (o : Option Kind). is_some o && nat_le 2 (length h.message.bytes)) k ∙ too_short h.message.bytes l
+pub no_group : (h : Hearing) → cleared_in h.message.pgn h.message.bytes ≡ None → kind_of h.message.pgn ≡ None → is_of_faults h ≡ false
+no_group h asks k = or_codes h asks ∙ ap (λ (o : Option Kind). is_some o && nat_le 2 (length h.message.bytes)) k
+
+pub no_lamps : (h : Hearing) (kind : Kind) → cleared_in h.message.pgn h.message.bytes ≡ None → kind_of h.message.pgn ≡ Some kind → lamps_of h.message.bytes ≡ None
+    → is_of_faults h ≡ false
+no_lamps h kind asks k l = or_codes h asks ∙ ap (λ (o : Option Kind). is_some o && nat_le 2 (length h.message.bytes)) k ∙ too_short h.message.bytes l
+
+-- where it asks to
+pub asks_to : (h : Hearing) (kind : Kind) → cleared_in h.message.pgn h.message.bytes ≡ Some kind → is_of_faults h ≡ true
+asks_to h kind asks = ap (λ (o : Option Kind). is_some o || is_of_codes h) asks
 
 -- ---- no message of faults
 
-pub tells_other : (form : Format) (rows : List RowRecord) (which : Telling) (last : LastFaults) (ms : List Hearing) (h : Hearing) (made : Made) (held : Option (List ℕ))
+pub tells_other : (form : Format) (rows : List RowRecord) (which : Chosen) (last : LastFaults) (ms : List Hearing) (h : Hearing) (made : Made) (held : Option (List ℕ))
     → is_of_faults h ≡ false → Remembers last ms → made.messages ≡ 0 → made.lines ≡ 0 → Tells form rows which last ms (Some h) made held held
 tells_other form rows which last ms h made held other remembers m l =
     tells_nothing form rows which last ms (Some h) made held (among_no h other) (next_no which ms h other) remembers m l
@@ -69,27 +86,32 @@ leaves_writer text (Err Memory) sink puts never = absurd (never refl)
 
 -- ---- one that is told, or not
 
-module _ (form : Format) (rows : List RowRecord) (which : Telling) (last : LastFaults) (ms : List Hearing) (h : Hearing) (kind : Kind) (lamps : Lamps)
-    (k : kind_of h.message.pgn ≡ Some kind) (l : lamps_of h.message.bytes ≡ Some lamps) (below : h.message.source < 256) (remembers : Remembers last ms) where
-  faults_are : faults_in h ≡ faults_by h (Some kind) (Some lamps)
-  faults_are = ap (λ (o : Option Kind). faults_by h o (lamps_of h.message.bytes)) k ∙ ap (λ (o : Option Lamps). faults_by h (Some kind) o) l
+module _ (form : Format) (rows : List RowRecord) (which : Chosen) (last : LastFaults) (ms : List Hearing) (h : Hearing) (kind : Kind) (lamps : Lamps)
+    (version : Option Version) (version_is : version ≡ version_for which.conversions h.name) (asks : cleared_in h.message.pgn h.message.bytes ≡ None) (k : kind_of h.message.pgn ≡ Some kind) (l : lamps_of h.message.bytes ≡ Some lamps) (below : h.message.source < 256) (remembers : Remembers last ms) where
+  faults_are : faults_in which.conversions h ≡ faults_by version h (Some kind) (Some lamps)
+  faults_are = ap (faults_or_clearing which.conversions h) asks
+      ∙ ap (λ (v : Option Version). faults_by v h (kind_of h.message.pgn) (lamps_of h.message.bytes)) (sym version_is) ∙ ap (λ (o : Option Kind). faults_by version h o (lamps_of h.message.bytes)) k ∙ ap (λ (o : Option Lamps). faults_by version h (Some kind) o) l
 
-  by_told : (t : Bool) → flat_map faults_in (if t then h ∷ [] else []) ≡ told_faults t (faults_in h)
-  by_told true = append-nil (faults_in h)
+  -- it asks to clear none, and so is news by what it says
+  clears_none : is_news which.conversions ms h ≡ says_other (version_for which.conversions h.name) (last_from h.message.pgn h.message.source ms) h
+  clears_none = ap (λ (o : Option Kind). is_some o || says_other (version_for which.conversions h.name) (last_from h.message.pgn h.message.source ms) h) asks
+
+  by_told : (t : Bool) → flat_map (faults_in which.conversions) (if t then h ∷ [] else []) ≡ told_faults t (faults_in which.conversions h)
+  by_told true = append-nil (faults_in which.conversions h)
   by_told false = refl
 
   -- what is added is what is told of it
-  next_faults : (t n : Bool) → n ≡ differs (said_at last kind h.message.source) h.message.bytes h.name → t ≡ is_told which n
-      → flat_map faults_in (told_next which ms (Some h)) ≡ told_faults t (faults_by h (Some kind) (Some lamps))
+  next_faults : (t n : Bool) → n ≡ differs version (said_at last kind h.message.source) h.message.bytes h.name → t ≡ is_told which.telling n
+      → flat_map (faults_in which.conversions) (told_next which ms (Some h)) ≡ told_faults t (faults_by version h (Some kind) (Some lamps))
   next_faults t n news is =
-      let t_is : t ≡ is_told which (is_news ms h) = is ∙ ap (is_told which) (news ∙ news_is last ms h kind remembers k below) in
-      ap (flat_map faults_in) (next_yes which ms h (of_faults h kind lamps k l)) ∙ ap (λ (b : Bool). flat_map faults_in (if b then h ∷ [] else [])) (sym t_is) ∙ by_told t
+      let t_is : t ≡ is_told which.telling (is_news which.conversions ms h) = is ∙ ap (is_told which.telling) (news ∙ ap (λ (v : Option Version). differs v (said_at last kind h.message.source) h.message.bytes h.name) version_is ∙ news_is which.conversions last ms h kind remembers k below ∙ sym clears_none) in
+      ap (flat_map (faults_in which.conversions)) (next_yes which ms h (of_faults h kind lamps k l)) ∙ ap (λ (b : Bool). flat_map (faults_in which.conversions) (if b then h ∷ [] else [])) (sym t_is) ∙ by_told t
       ∙ ap (told_faults t) faults_are
 
-  pub tells_message : (last' : LastFaults) (t n : Bool) (made : Made) (old new : Option (List ℕ)) → n ≡ differs (said_at last kind h.message.source) h.message.bytes h.name
-      → t ≡ is_told which n → length h.message.bytes ≤ 1785 → last' ≡ noted last kind h.message.source (said_in h)
-      → made.messages ≡ 1 → made.lines ≡ length (told_faults t (faults_by h (Some kind) (Some lamps))) → made.lines < 2 ^ 64
-      → Appends old new (faults_text form rows (told_faults t (faults_by h (Some kind) (Some lamps)))) → Tells form rows which last' ms (Some h) made old new
+  pub tells_message : (last' : LastFaults) (t n : Bool) (made : Made) (old new : Option (List ℕ)) → n ≡ differs version (said_at last kind h.message.source) h.message.bytes h.name
+      → t ≡ is_told which.telling n → length h.message.bytes ≤ 1785 → last' ≡ noted last kind h.message.source (said_in h)
+      → made.messages ≡ 1 → made.lines ≡ length (told_faults t (faults_by version h (Some kind) (Some lamps))) → made.lines < 2 ^ 64
+      → Appends old new (faults_text form rows (told_faults t (faults_by version h (Some kind) (Some lamps)))) → Tells form rows which last' ms (Some h) made old new
   tells_message last' t n made old new news is short notes messages lines fits written =
       let next = next_faults t n news is in
       let among = among_yes h (of_faults h kind lamps k l) in
@@ -100,6 +122,36 @@ module _ (form : Format) (rows : List RowRecord) (which : Telling) (last : LastF
         written = subst (Appends old new) (sym (ap (faults_text form rows) next)) written;
       }
 
-  pub tells_front : (t n : Bool) (old new : Option (List ℕ)) → n ≡ differs (said_at last kind h.message.source) h.message.bytes h.name → t ≡ is_told which n
-      → AppendsFront old new (faults_text form rows (told_faults t (faults_by h (Some kind) (Some lamps)))) → TellsFront form rows which ms (Some h) old new
+  pub tells_front : (t n : Bool) (old new : Option (List ℕ)) → n ≡ differs version (said_at last kind h.message.source) h.message.bytes h.name → t ≡ is_told which.telling n
+      → AppendsFront old new (faults_text form rows (told_faults t (faults_by version h (Some kind) (Some lamps)))) → TellsFront form rows which ms (Some h) old new
   tells_front t n old new news is front = subst (AppendsFront old new) (sym (ap (faults_text form rows) (next_faults t n news is))) front
+
+-- ---- one that asks to clear codes
+
+module _ (form : Format) (rows : List RowRecord) (which : Chosen) (last : LastFaults) (ms : List Hearing) (h : Hearing) (kind : Kind)
+    (asks : cleared_in h.message.pgn h.message.bytes ≡ Some kind) where
+  told_always : (t : Telling) → is_told t true ≡ true
+  told_always News = refl
+  told_always All = refl
+
+  -- it is told each time
+  clears_next : flat_map (faults_in which.conversions) (told_next which ms (Some h)) ≡ clearing_of h kind ∷ []
+  clears_next =
+      let news : is_news which.conversions ms h ≡ true =
+      ap (λ (o : Option Kind). is_some o || says_other (version_for which.conversions h.name) (last_from h.message.pgn h.message.source ms) h) asks in
+      ap (flat_map (faults_in which.conversions)) (next_yes which ms h (asks_to h kind asks)
+      ∙ ap (λ (b : Bool). if b then h ∷ [] else []) (ap (is_told which.telling) news ∙ told_always which.telling))
+      ∙ append-nil (faults_in which.conversions h) ∙ ap (faults_or_clearing which.conversions h) asks
+
+  pub tells_clearing : (made : Made) (old new : Option (List ℕ)) → Remembers last ms → length h.message.bytes ≤ 1785 → made.messages ≡ 1 → made.lines ≡ 1
+      → Appends old new (faults_text form rows (clearing_of h kind ∷ [])) → Tells form rows which last ms (Some h) made old new
+  tells_clearing made old new remembers short messages lines written =
+      let among = among_yes h (asks_to h kind asks) in
+      record {
+        remembers = subst (λ (x : List Hearing). Remembers last (ms ++ x)) (sym among) (remembers_asked last ms h kind asks remembers short);
+        made_is = same_made _ _ (messages ∙ sym (ap (λ (x : List Hearing). capped (length x)) among)) (lines ∙ sym (ap (λ (x : List Fault). capped (length x)) clears_next));
+        written = subst (Appends old new) (sym (ap (faults_text form rows) clears_next)) written;
+      }
+
+  pub clearing_front : (old new : Option (List ℕ)) → AppendsFront old new (faults_text form rows (clearing_of h kind ∷ [])) → TellsFront form rows which ms (Some h) old new
+  clearing_front old new front = subst (AppendsFront old new) (sym (ap (faults_text form rows) clears_next)) front

@@ -8,13 +8,16 @@ use Rattle.std.proofs.lemmas.Bool.{cases_Bool, cases_eq, cond-true, cond-false, 
 use Rattle.std.proofs.lemmas.List.{get_or-replicate, length-replicate, get_or-set_other, get_or-set_same}
 use Rattle.std.proofs.lemmas.List.Elements.{filter-append}
 use Rattle.std.specs.List.{last_or}
-use Rattle.j39_faults.specs.FaultGroups.{kind_of}
+use Rattle.j39_faults.specs.FaultGroups.{cleared_in, kind_of}
 use Rattle.j39_faults.specs.declared.kind.Kind.{Kind}
 use Rattle.j39_faults.specs.declared.kind.Kind.TheVariants.{Active, Previous, EmissionPending, EmissionActive, EmissionPrevious, Pending, Permanent}
 use Rattle.j39_listen.specs.Heard.{Hearing}
 use Rattle.j39_frame.specs.Origin.{is_same_or_none}
+use Rattle.j39_faults.specs.Conversions.{version_for}
 use Rattle.j39_faults.specs.Sameness.{tells_same}
-use Rattle.j39_reports.specs.News.{is_news, last_from, says_other}
+use Rattle.j39_faults.specs.declared.conversion.Conversion.{Conversion}
+use Rattle.j39_faults.specs.declared.conversion.Version.{Version}
+use Rattle.j39_reports.specs.News.{last_from, says_other}
 use Rattle.j39_reports.specs.Remembered.{Remembers, kept, noted, said_at, said_in}
 use Rattle.j39_reports.specs.LastMessages.{LastMessages, LastRecord, at, differs}
 use Rattle.j39_reports.specs.declared.fault_news.last_faults.LastFaults.{LastFaults}
@@ -207,18 +210,40 @@ module _ (l l' : LastFaults) (ms : List Hearing) (m : Hearing) (kind : Kind) (is
     whole = whole_more ms m short h.whole;
   }
 
+-- ---- who asks to clear codes says none
+
+by_request : (pgn : ℕ) (bytes : List ℕ) (kind : Kind) → cleared_in pgn bytes ≡ Some kind → pgn ≡ 59904
+unfolding cleared_in
+by_request pgn bytes kind is = elim (cases_eq pgn 59904) [
+  | inl e ↦ e
+  | inr n ↦ absurd (no_kind (sym (cond-false _ _ _ (ne_eqb pgn 59904 n)) ∙ is))
+]
+
+pub remembers_asked : (l : LastFaults) (ms : List Hearing) (m : Hearing) (kind : Kind) → cleared_in m.message.pgn m.message.bytes ≡ Some kind → Remembers l ms
+    → length m.message.bytes ≤ 1785 → Remembers l (ms ++ m ∷ [])
+remembers_asked l ms m kind asks h short = record {
+  places = h.places;
+  said = λ pgn a other of k. else_at (kept l other) pgn ms m (apart pgn other of) (λ b j. h.said pgn b other of j) a k;
+  whole = whole_more ms m short h.whole;
+}
+  where
+    apart : (pgn : ℕ) (other : Kind) → kind_of pgn ≡ Some other → m.message.pgn ≢ pgn
+    apart pgn other of = λ e.
+        no_kind (sym (ap kind_of (sym e ∙ by_request m.message.pgn m.message.bytes kind asks)) ∙ of)
+
 -- ---- news
 
-differs_by : (o : Option Hearing) (m : Hearing) → ((x : Hearing) → o ≡ Some x → take 1785 x.message.bytes ≡ x.message.bytes)
-    → differs (option_map said_in o) m.message.bytes m.name ≡ says_other o m
-differs_by None m whole = refl
-differs_by (Some x) m whole = ap (λ bs. not (tells_same bs m.message.bytes && is_same_or_none x.name m.name)) (whole x refl)
+differs_by : (v : Option Version) (o : Option Hearing) (m : Hearing) → ((x : Hearing) → o ≡ Some x → take 1785 x.message.bytes ≡ x.message.bytes)
+    → differs v (option_map said_in o) m.message.bytes m.name ≡ says_other v o m
+differs_by v None m whole = refl
+differs_by v (Some x) m whole = ap (λ bs. not (tells_same v bs m.message.bytes && is_same_or_none x.name m.name)) (whole x refl)
 
-pub news_is : (l : LastFaults) (ms : List Hearing) (m : Hearing) (kind : Kind) → Remembers l ms → kind_of m.message.pgn ≡ Some kind → m.message.source < 256
-    → differs (said_at l kind m.message.source) m.message.bytes m.name ≡ is_news ms m
-news_is l ms m kind h is k =
-    ap (λ o. differs o m.message.bytes m.name) (said_is l ms m.message.pgn m.message.source kind h is k)
-    ∙ differs_by (last_from m.message.pgn m.message.source ms) m (λ x e. h.whole x m.message.pgn m.message.source e)
+pub news_is : (cs : List Conversion) (l : LastFaults) (ms : List Hearing) (m : Hearing) (kind : Kind) → Remembers l ms → kind_of m.message.pgn ≡ Some kind → m.message.source < 256
+    → differs (version_for cs m.name) (said_at l kind m.message.source) m.message.bytes m.name
+    ≡ says_other (version_for cs m.name) (last_from m.message.pgn m.message.source ms) m
+news_is cs l ms m kind h is k =
+    ap (λ o. differs (version_for cs m.name) o m.message.bytes m.name) (said_is l ms m.message.pgn m.message.source kind h is k)
+    ∙ differs_by (version_for cs m.name) (last_from m.message.pgn m.message.source ms) m (λ x e. h.whole x m.message.pgn m.message.source e)
 
 -- nothing is kept for an address where it said nothing
 pub first_is : (l : LastFaults) (ms : List Hearing) (pgn a : ℕ) (kind : Kind) → Remembers l ms → kind_of pgn ≡ Some kind → a < 256 → said_at l kind a ≡ None

@@ -3,14 +3,14 @@ use Rattle.std.specs.Prelude.{◌++◌, ◌∷◌, ℕ, List, [], Option, Some, 
 use Rattle.std.specs.List.{flat_map}
 use Rattle.j39_reports.specs.Columns.{heard_fields}
 use Rattle.j39_io.specs.Records.{record_text}
-use Rattle.j39_faults.specs.Text.{kind_text, lamps_told, parameter_words}
+use Rattle.j39_faults.specs.Text.{clear_text, kind_text, lamps_told, parameter_words}
 use Rattle.j39_faults.specs.Words.{fmi_words}
 use Rattle.j39_faults.specs.declared.code.Code.{Code}
 use Rattle.j39_faults.specs.declared.code.Parameter.{Parameter}
 use Rattle.j39_faults.specs.declared.code.Parameter.TheVariants.{Known, OneOf}
 use Rattle.j39_faults.specs.declared.lamps.Lamps.{Lamps}
 use Rattle.j39_groups.specs.Row.{RowRecord}
-use Rattle.j39_reports.specs.Faults.{Fault, fault_line, name_in}
+use Rattle.j39_reports.specs.Faults.{Fault, Saying, clears, fault_line, name_in, says}
 use Rattle.j39_listen.specs.declared.format.Format.{Format}
 use Rattle.j39_listen.specs.declared.format.Format.TheVariants.{Line, Record}
 
@@ -64,10 +64,16 @@ fields_with lamps parameter code =
 abbrev pub said_fields : List RowRecord → Lamps → Option Code → List (List ℕ)
 said_fields rows lamps code = fields_with lamps (parameter_field rows code) code
 
+abbrev pub clearing_fields : List (List ℕ)
+clearing_fields = [] ∷ [] ∷ [] ∷ [] ∷ [] ∷ codes "all codes" ∷ []
+
+abbrev pub saying_record : List RowRecord → Saying → List ℕ
+saying_record rows (says kind lamps code) = record_text (kind_text kind) (said_fields rows lamps code)
+saying_record rows (clears kind) = record_text (clear_text kind) clearing_fields
+
 -- the record of a fault
 unfoldable pub fault_record : List RowRecord → Fault → List ℕ
-fault_record rows f =
-    head_fields f.stamp f.address f.destination f.name ++ record_text (kind_text f.kind) (said_fields rows f.lamps f.code)
+fault_record rows f = head_fields f.stamp f.address f.destination f.name ++ saying_record rows f.saying
 
 -- ---- in either form
 

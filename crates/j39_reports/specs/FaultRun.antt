@@ -6,27 +6,26 @@ use Rattle.j39_listen.specs.Heard.{AreHeardWith, Hearing}
 use Rattle.j39_listen.specs.Headed.{Headed}
 use Rattle.j39_listen.specs.Output.{Making, Output}
 use Rattle.j39_reports.specs.Faults.{faults_in}
-use Rattle.j39_reports.specs.News.{faults_among, is_fault_group, told}
+use Rattle.j39_reports.specs.News.{Chosen, faults_among, is_fault_group, told}
 use Rattle.j39_reports.specs.FaultRecords.{fault_columns, faults_text}
 use Rattle.j39_listen.specs.declared.format.Format.{Format}
 use Rattle.j39_listen.specs.declared.format.Format.TheVariants.{Line, Record}
-use Rattle.j39_reports.specs.declared.fault_news.telling.Telling.{Telling}
 
 -- the text of each fault of each message of faults that is told; each message of faults counts
-abbrev pub faults_of : Format → List RowRecord → Telling → List Hearing → Output
+abbrev pub faults_of : Format → List RowRecord → Chosen → List Hearing → Output
 faults_of form rows which ms = record {
-  text = faults_text form rows (flat_map faults_in (told which ms));
+  text = faults_text form rows (flat_map (faults_in which.conversions) (told which ms));
   messages = length ms;
-  lines = length (flat_map faults_in (told which ms));
+  lines = length (flat_map (faults_in which.conversions) (told which ms));
 }
 
 -- the faults that are told in the frames, whatever their bus is called, in either form
-abbrev pub MakesFaultsIn : Format → List RowRecord → Telling → Making
+abbrev pub MakesFaultsIn : Format → List RowRecord → Chosen → Making
 MakesFaultsIn form rows which bus F output =
     (heard : List Hearing) × AreHeardWith is_fault_group F heard
     × (output ≡ faults_of form rows which (faults_among heard))
 
 -- a line for each, or the names of the columns and a record for each
-abbrev pub MakesFaults : Format → List RowRecord → Telling → Making
+abbrev pub MakesFaults : Format → List RowRecord → Chosen → Making
 MakesFaults Line rows which = MakesFaultsIn Line rows which
 MakesFaults Record rows which = Headed fault_columns (MakesFaultsIn Record rows which)

@@ -1,13 +1,15 @@
 -- What is told of a message of faults, and its text (own).
 use Rattle.std.specs.Prelude.{◌++◌, ℕ, List, [], ◌∷◌, Option, Some, None, codes, map}
 use Rattle.hex.specs.Hex.{encode_upper}
-use Rattle.j39_faults.specs.Codes.{codes_of}
-use Rattle.j39_faults.specs.FaultGroups.{kind_of}
+use Rattle.j39_faults.specs.Conversions.{codes_by, version_for}
+use Rattle.j39_faults.specs.FaultGroups.{cleared_in, kind_of}
 use Rattle.j39_faults.specs.LampBits.{lamps_of}
-use Rattle.j39_faults.specs.Text.{code_text, no_code_text}
+use Rattle.j39_faults.specs.Text.{clear_text, code_text, no_code_text}
 use Rattle.j39_faults.specs.declared.code.Code.{Code}
 use Rattle.j39_faults.specs.declared.code.Parameter.{Parameter}
 use Rattle.j39_faults.specs.declared.code.Parameter.TheVariants.{Known, OneOf}
+use Rattle.j39_faults.specs.declared.conversion.Conversion.{Conversion}
+use Rattle.j39_faults.specs.declared.conversion.Version.{Version}
 use Rattle.j39_faults.specs.declared.kind.Kind.{Kind}
 use Rattle.j39_faults.specs.declared.lamps.Lamps.{Lamps}
 use Rattle.j39_groups.specs.Names.{parameter_name}
@@ -15,42 +17,57 @@ use Rattle.j39_groups.specs.Row.{RowRecord}
 use Rattle.j39_listen.specs.Heard.{Hearing}
 use Rattle.j39_listen.specs.Report.{name_text}
 use Rattle.j39_log.specs.StampText.{stamp_text}
+use Rattle.j39_reports.specs.RowText.{destination_text}
 use Rattle.j39_io.specs.Chars.{newline}
 
--- a code, or that a message has none: when it was said, at which address, to whom, under which NAME, and with which lamps
+-- a code of a kind, or that a message has none, and with which lamps; or that the codes of a kind are to be cleared
+pub data Saying : Type 0 where
+  says : Kind → Lamps → Option Code → Saying
+  clears : Kind → Saying
+
+-- when it was said, at which address, to whom, and under which NAME
 pub record Fault : Type 0 where
   pub stamp : ℕ
   pub address : ℕ
   pub destination : Option ℕ
   pub name : Option ℕ
-  pub kind : Kind
-  pub lamps : Lamps
-  pub code : Option Code
+  pub saying : Saying
 
-abbrev pub fault_of : Hearing → Kind → Lamps → Option Code → Fault
-fault_of m kind lamps code = record {
+abbrev pub said_at : Hearing → Saying → Fault
+said_at m saying = record {
   stamp = m.stamp;
   address = m.message.source;
   destination = m.destination;
   name = m.name;
-  kind = kind;
-  lamps = lamps;
-  code = code;
+  saying = saying;
 }
+
+abbrev pub fault_of : Hearing → Kind → Lamps → Option Code → Fault
+fault_of m kind lamps code = said_at m (says kind lamps code)
+
+abbrev pub clearing_of : Hearing → Kind → Fault
+clearing_of m kind = said_at m (clears kind)
 
 -- each code, in order; of no code, that there is none
 abbrev pub codes_or_none : List Code → List (Option Code)
 codes_or_none [] = None ∷ []
 codes_or_none (code ∷ more) = Some code ∷ map (λ c. Some c) more
 
-abbrev pub faults_by : Hearing → Option Kind → Option Lamps → List Fault
-faults_by m None lamps = []
-faults_by m (Some kind) None = []
-faults_by m (Some kind) (Some lamps) = map (fault_of m kind lamps) (codes_or_none (codes_of m.message.bytes))
+abbrev pub faults_by : Option Version → Hearing → Option Kind → Option Lamps → List Fault
+faults_by version m None lamps = []
+faults_by version m (Some kind) None = []
+faults_by version m (Some kind) (Some lamps) =
+    map (fault_of m kind lamps) (codes_or_none (codes_by version m.message.bytes))
+
+-- which codes it asks to clear, or which it tells, by the version of the conversion for its controller
+abbrev pub faults_or_clearing : List Conversion → Hearing → Option Kind → List Fault
+faults_or_clearing conversions m (Some kind) = clearing_of m kind ∷ []
+faults_or_clearing conversions m None =
+    faults_by (version_for conversions m.name) m (kind_of m.message.pgn) (lamps_of m.message.bytes)
 
 -- what is told of a message
-abbrev pub faults_in : Hearing → List Fault
-faults_in m = faults_by m (kind_of m.message.pgn) (lamps_of m.message.bytes)
+abbrev pub faults_in : List Conversion → Hearing → List Fault
+faults_in conversions m = faults_or_clearing conversions m (cleared_in m.message.pgn m.message.bytes)
 
 -- what a table calls a parameter, where its SPN is known
 abbrev pub name_of : List RowRecord → Parameter → Option (List ℕ)
@@ -60,15 +77,22 @@ name_of rows (OneOf spns) = None
 abbrev pub name_in : List RowRecord → Code → Option (List ℕ)
 name_in rows code = name_of rows code.parameter
 
--- the stamp, the address and the NAME, a space after each
-abbrev pub head_text : ℕ → ℕ → Option ℕ → List ℕ
-head_text stamp address name =
-    stamp_text stamp ++ codes " " ++ encode_upper (address ∷ []) ++ codes " " ++ name_text name ++ codes " "
+-- the stamp, the address with the destination, where there is one, and the NAME, a space after each
+abbrev pub head_text : ℕ → ℕ → Option ℕ → Option ℕ → List ℕ
+head_text stamp address destination name =
+    stamp_text stamp ++ codes " " ++ encode_upper (address ∷ []) ++ destination_text destination ++ codes " "
+    ++ name_text name ++ codes " "
 
 abbrev pub said_text : List RowRecord → Kind → Lamps → Option Code → List ℕ
 said_text rows kind lamps None = no_code_text kind lamps
 said_text rows kind lamps (Some code) = code_text kind lamps (name_in rows code) code
 
+-- as `clear-active all - -`
+abbrev pub saying_text : List RowRecord → Saying → List ℕ
+saying_text rows (says kind lamps code) = said_text rows kind lamps code
+saying_text rows (clears kind) = clear_text kind ++ codes " all - -"
+
 -- the line of a fault, with its newline
 unfoldable pub fault_line : List RowRecord → Fault → List ℕ
-fault_line rows f = head_text f.stamp f.address f.name ++ (said_text rows f.kind f.lamps f.code ++ (newline ∷ []))
+fault_line rows f =
+    head_text f.stamp f.address f.destination f.name ++ (saying_text rows f.saying ++ (newline ∷ []))

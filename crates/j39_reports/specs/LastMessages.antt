@@ -4,6 +4,7 @@ use Rattle.j39_memory.specs.declared.stored.Stored.{Stored}
 use Rattle.j39_memory.specs.Stored.{value_of}
 use Rattle.j39_frame.specs.Origin.{is_same_or_none}
 use Rattle.j39_faults.specs.Sameness.{tells_same}
+use Rattle.j39_faults.specs.declared.conversion.Version.{Version}
 
 -- the bytes of a message, and the NAME that it came under
 pub record LastRecord : Type 0 where
@@ -14,12 +15,12 @@ pub record LastRecord : Type 0 where
 abbrev pub said_by : List ℕ → Option ℕ → LastRecord
 said_by bytes name = record { bytes = take 1785 bytes; name = name }
 
-abbrev pub is_said : LastRecord → List ℕ → Option ℕ → Bool
-is_said s bytes name = tells_same s.bytes bytes && is_same_or_none s.name name
+abbrev pub is_said : Option Version → LastRecord → List ℕ → Option ℕ → Bool
+is_said version s bytes name = tells_same version s.bytes bytes && is_same_or_none s.name name
 
-abbrev pub differs : Option LastRecord → List ℕ → Option ℕ → Bool
-differs None bytes name = true
-differs (Some s) bytes name = not (is_said s bytes name)
+abbrev pub differs : Option Version → Option LastRecord → List ℕ → Option ℕ → Bool
+differs version None bytes name = true
+differs version (Some s) bytes name = not (is_said version s bytes name)
 
 abbrev pub LastMessages : Type 0
 LastMessages = List (Option LastRecord)

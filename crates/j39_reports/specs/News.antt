@@ -1,21 +1,46 @@
 -- Which messages of faults are told (J1939-73, 5.7).
-use Rattle.std.specs.Prelude.{◌==◌, ◌&&◌, not, ℕ, zero, suc, Bool, true, List, [], ◌∷◌, ◌++◌, Option, Some, None}
+use Rattle.std.specs.Prelude.{◌==◌, ◌&&◌, ◌||◌, not, ℕ, zero, suc, Bool, true, List, [], ◌∷◌, ◌++◌, Option, Some, None}
 use Rattle.std.specs.Prelude.{filter, if◌then◌else◌, is_some, length, nat_le, slice_get, take}
 use Rattle.std.specs.List.{last_or}
-use Rattle.j39_faults.specs.FaultGroups.{kind_of}
+use Rattle.j39_frame.specs.Network.{request_group}
+use Rattle.j39_faults.specs.FaultGroups.{cleared_in, kind_of}
+use Rattle.j39_faults.specs.Conversions.{version_for}
 use Rattle.j39_faults.specs.Sameness.{tells_same}
+use Rattle.j39_faults.specs.declared.conversion.Conversion.{Conversion}
+use Rattle.j39_faults.specs.declared.conversion.Version.{Version}
 use Rattle.j39_frame.specs.Origin.{is_same_or_none}
 use Rattle.j39_listen.specs.Heard.{Hearing}
+use Rattle.j39_reports.specs.declared.fault_news.telling.Choice.{Choice}
 use Rattle.j39_reports.specs.declared.fault_news.telling.Telling.{Telling}
 use Rattle.j39_reports.specs.declared.fault_news.telling.Telling.TheVariants.{News, All}
 
--- the groups of faults are heard in one frame, too
-abbrev pub is_fault_group : ℕ → Bool
-is_fault_group pgn = is_some (kind_of pgn)
+-- which messages are told, and by which versions of the conversion the SPNs of controllers are read
+pub record Chosen : Type 0 where
+  pub telling : Telling
+  pub conversions : List Conversion
 
--- a message of faults is of such a group, and has the two bytes of the lamps (own)
+abbrev pub chosen_of : Choice → Chosen
+chosen_of choice = record { telling = choice.telling; conversions = choice.conversions.now }
+
+-- those that are news, no version of the conversion known
+abbrev pub news : Chosen
+news = record { telling = News; conversions = [] }
+
+-- the groups of faults are heard in one frame, too, and so are requests
+abbrev pub is_fault_group : ℕ → Bool
+is_fault_group pgn = is_some (kind_of pgn) || pgn == request_group
+
+-- a message of codes is of such a group, and has the two bytes of the lamps (own)
+abbrev pub is_of_codes : Hearing → Bool
+is_of_codes h = is_some (kind_of h.message.pgn) && nat_le 2 (length h.message.bytes)
+
+-- one that asks to clear them
+abbrev pub is_clearing : Hearing → Bool
+is_clearing h = is_some (cleared_in h.message.pgn h.message.bytes)
+
+-- a message of faults is either
 abbrev pub is_of_faults : Hearing → Bool
-is_of_faults h = is_fault_group h.message.pgn && nat_le 2 (length h.message.bytes)
+is_of_faults h = is_clearing h || is_of_codes h
 
 abbrev pub faults_among : List Hearing → List Hearing
 faults_among hs = filter is_of_faults hs
@@ -25,13 +50,15 @@ unfoldable pub last_from : ℕ → ℕ → List Hearing → Option Hearing
 last_from pgn source ms = last_or None (filter (λ h. h.message.pgn == pgn && h.message.source == source) ms)
 
 -- it tells something else, or under another NAME, than what was said before, or nothing was
-abbrev pub says_other : Option Hearing → Hearing → Bool
-says_other None m = true
-says_other (Some l) m = not (tells_same l.message.bytes m.message.bytes && is_same_or_none l.name m.name)
+abbrev pub says_other : Option Version → Option Hearing → Hearing → Bool
+says_other version None m = true
+says_other version (Some l) m =
+    not (tells_same version l.message.bytes m.message.bytes && is_same_or_none l.name m.name)
 
--- behind these messages it is news
-abbrev pub is_news : List Hearing → Hearing → Bool
-is_news before m = says_other (last_from m.message.pgn m.message.source before) m
+-- behind these messages it is news; who asks to clear codes is heard each time
+abbrev pub is_news : List Conversion → List Hearing → Hearing → Bool
+is_news conversions before m =
+    is_clearing m || says_other (version_for conversions m.name) (last_from m.message.pgn m.message.source before) m
 
 -- a message is told that is news, or each is
 abbrev pub is_told : Telling → Bool → Bool
@@ -39,15 +66,16 @@ is_told News is_news = is_news
 is_told All is_news = true
 
 -- the message at a place, behind those before it, where it is told
-abbrev pub told_here : Telling → List Hearing → Option Hearing → List Hearing
+abbrev pub told_here : Chosen → List Hearing → Option Hearing → List Hearing
 told_here which before None = []
-told_here which before (Some m) = if is_told which (is_news before m) then m ∷ [] else []
+told_here which before (Some m) =
+    if is_told which.telling (is_news which.conversions before m) then m ∷ [] else []
 
 -- those told of the messages at the first n places, in order
-unfoldable pub told_below : Telling → List Hearing → ℕ → List Hearing
+unfoldable pub told_below : Chosen → List Hearing → ℕ → List Hearing
 told_below which ms zero = []
 told_below which ms (suc n) = told_below which ms n ++ told_here which (take n ms) (slice_get ms n)
 
 -- of all
-abbrev pub told : Telling → List Hearing → List Hearing
+abbrev pub told : Chosen → List Hearing → List Hearing
 told which ms = told_below which ms (length ms)

@@ -1,5 +1,5 @@
 -- What the code's values show, and what each stands for.
-use Rattle.std.specs.Prelude.{◌≡◌, ◌==◌, ◌<◌, ◌/◌, ◌%◌, ℕ, List, Bool, length, map, get_or}
+use Rattle.std.specs.Prelude.{◌≡◌, ◌==◌, ◌/◌, ◌%◌, ℕ, List, Bool, length, map, get_or}
 use Rattle.std.specs.Int.{bit_at}
 use Rattle.std.specs.List.{list_any}
 use Rattle.j39_memory.specs.ByGroup.{values_of}

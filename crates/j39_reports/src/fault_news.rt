@@ -13,4 +13,4 @@ mod run;
 mod telling;
 
 pub use run::faults;
-pub use telling::Telling;
+pub use telling::{Choice, Telling};

@@ -6,7 +6,7 @@ mod deeds;
 mod guesses;
 mod kept;
 pub mod laws;
-mod lines;
+pub(crate) mod lines;
 mod records;
 mod rows;
 

@@ -23,7 +23,7 @@ use Rattle.j39_reports.proofs.SurveyLemmas.{same_log_lines}
 use Rattle.j39_listen.proofs.ReportAccount.{report_one, report_one_in}
 use Rattle.j39_reports.proofs.FaultAccountLemmas.{news_one}
 use Rattle.j39_reports.proofs.SummaryAccountLemmas.{records_one}
-use Rattle.j39_reports.specs.declared.fault_news.telling.Telling.TheVariants.{News}
+use Rattle.j39_reports.specs.News.{news}
 use Rattle.j39_web.specs.SeriesSoFar.{series_form}
 use Rattle.j39_web.specs.Text.{IsFullOf, Overflows, SurveyOverflows, no_counts}
 use Rattle.j39_web.specs.Writings.{makes}
@@ -36,7 +36,7 @@ makes_one Report rows = report_one rows
 makes_one Records rows = λ bus F x y (a, made_a, is_a) (b, made_b, is_b).
     ap (λ (o : Output). o.text) is_a ∙ ap (λ t. header_text ++ t) (report_one_in entry_record rows bus F a b made_a made_b) ∙ sym (ap (λ (o : Output). o.text) is_b)
 makes_one Summary rows = records_one rows
-makes_one Faults rows = news_one (record { rows = rows; which = News })
+makes_one Faults rows = news_one (record { rows = rows; which = news })
 makes_one (Series of) rows = report_one_in (series_form of) rows
 
 first : ℕ → List ℕ → ℕ

@@ -10,7 +10,7 @@ use Rattle.j39_reports.specs.FaultAsking.{AsksForFaults}
 use Rattle.j39_reports.specs.FaultRun.{MakesFaults}
 use Rattle.j39_reports.specs.ReportRecords.{MakesRecords}
 use Rattle.j39_reports.specs.SummaryRun.{AsksForRows, MakesSummary}
-use Rattle.j39_reports.specs.declared.fault_news.telling.Telling.TheVariants.{News}
+use Rattle.j39_reports.specs.News.{news}
 use Rattle.j39_web.specs.Series.{MakesSeries}
 use Rattle.j39_web.specs.declared.writing.Writing.{Writing}
 use Rattle.j39_web.specs.declared.writing.Writing.TheVariants.{Report, Records, Summary, Faults, Series}
@@ -24,7 +24,7 @@ abbrev pub makes : Writing → List RowRecord → Making
 makes Report = MakesReport
 makes Records = MakesTable
 makes Summary = MakesSummary Record
-makes Faults = λ rows. MakesFaults Line rows News
+makes Faults = λ rows. MakesFaults Line rows news
 makes (Series of) = MakesSeries of
 
 -- at which frames memory is wanted

@@ -9,7 +9,7 @@ use j39_groups::Groups;
 use j39_io::{Sink, Source};
 use j39_listen::{Counts, Format, RunFault, run_with};
 use j39_log::Bus;
-use j39_reports::{Telling, faults, report_csv, summary};
+use j39_reports::{Choice, Telling, faults, report_csv, summary};
 use std::alloc::Global;
 
 /// What is written of a log by a table.
@@ -46,8 +46,20 @@ impl Writing {
             Writing::Records => report_csv(alloc, groups, source, sink, bus, limit),
             Writing::Summary => summary(alloc, groups, Format::Record, source, sink, bus, limit),
             Writing::Faults => {
-                let (format, telling) = (Format::Line, Telling::News);
-                faults(alloc, groups, format, telling, source, sink, bus, limit)
+                let choice = Choice {
+                    telling: Telling::News,
+                    conversions: &[],
+                };
+                faults(
+                    alloc,
+                    groups,
+                    Format::Line,
+                    choice,
+                    source,
+                    sink,
+                    bus,
+                    limit,
+                )
             }
             Writing::Series(of) => series(alloc, groups, of, source, sink, bus, limit),
         }

@@ -1,17 +1,20 @@
 //! The faults of a bus, as an account of its frames (J1939-73, 5.7).
-ghost use Rattle.std.specs.Prelude.{◌≡◌, ◌≢◌, ◌<◌, ◌≤◌, ◌^◌, [], List, None, length, true, Err, IfOk, Some};
+ghost use Rattle.std.specs.Prelude.{◌≡◌, ◌≢◌, ◌<◌, ◌≤◌, ◌^◌, ◌∷◌, [], List, None, length, option_map, true, Err, IfOk, Some};
 ghost use Rattle.j39_io.specs.Puts.{Puts};
 ghost use Rattle.j39_io.specs.Turn.{turn};
 ghost use Rattle.j39_frame.specs.Frame.{FrameRecord};
+ghost use Rattle.j39_frame.specs.Identifier.{id_raw, pgn_of};
 ghost use Rattle.j39_frame.specs.Pgn.{pgn_raw};
+ghost use Rattle.j39_address.specs.Name.{name_raw};
+ghost use Rattle.j39_faults.specs.Conversions.{version_for};
 ghost use Rattle.j39_listen.specs.AccountCalls.{LeavesWriter};
 ghost use Rattle.j39_listen.specs.Heard.{AreHeardWith, Hearing};
 ghost use Rattle.j39_listen.specs.Listening.{Hears};
 ghost use Rattle.j39_listen.specs.HeardModel.{hearing_of};
 ghost use Rattle.j39_listen.specs.declared.account.LineFault.TheVariants as line_fault;
 ghost use Rattle.j39_reports.specs.FaultAsking.{AsksForFaults};
-ghost use Rattle.j39_reports.specs.Faults.{faults_by};
-ghost use Rattle.j39_reports.specs.News.{faults_among, is_fault_group, is_of_faults, is_told, last_from};
+ghost use Rattle.j39_reports.specs.Faults.{clearing_of, faults_by};
+ghost use Rattle.j39_reports.specs.News.{chosen_of, faults_among, is_fault_group, is_of_faults, is_told, last_from};
 ghost use Rattle.j39_reports.specs.FaultRun.{faults_of};
 ghost use Rattle.j39_reports.specs.FaultRecords.{faults_text};
 ghost use Rattle.j39_reports.specs.Remembered.{Remembers};
@@ -19,10 +22,13 @@ ghost use Rattle.j39_reports.specs.FaultsSoFar.{HasTold, MeetsFrame, StopsFrame,
 
 use crate::fault_news::form::Writing;
 use crate::fault_news::last_faults::LastFaults;
-use crate::fault_news::lines::put_message;
-use crate::fault_news::telling::Telling;
-use j39_faults::{Kind, Lamps, fault_group, lamps_of};
-use j39_frame::Frame;
+use crate::fault_news::lines::{put_clearing, put_message};
+use crate::fault_news::telling::{Choice, Telling};
+use j39_address::Name;
+use j39_faults::{
+    Conversion, Kind, Lamps, Version, cleared_in, fault_group, lamps_of, version_for,
+};
+use j39_frame::{Frame, Id};
 use j39_io::{DeviceFault, Sink};
 use j39_listen::{Account, Heard, LineFault, Listener, Made};
 use j39_log::Bus;
@@ -30,29 +36,29 @@ use std::alloc::{AllocError, Global};
 
 /// What is heard so far, what was said last, and the numbers of what was told.
 #[derive(Drop)]
-pub(crate) struct FaultNews<'g, 't> {
+pub(crate) struct FaultNews<'g, 't, 'c> {
     alloc: Global,
     writing: Writing<'g, 't>,
-    telling: Telling,
+    choice: Choice<'c>,
     listener: Listener,
     last: LastFaults,
     made: Made,
 }
 
-impl<'g, 't> FaultNews<'g, 't> {
+impl<'g, 't, 'c> FaultNews<'g, 't, 'c> {
     /// The faults of no frames.
     pub(crate) fn new(
         alloc: Global,
         writing: Writing<'g, 't>,
-        telling: Telling,
-    ) -> FaultNews<'g, 't>
-        ensures { HasTold writing.entry.form (record { rows = writing.entry.groups.now; which = telling }) result []
-            (faults_of writing.entry.form writing.entry.groups.now telling []) }
+        choice: Choice<'c>,
+    ) -> FaultNews<'g, 't, 'c>
+        ensures { HasTold writing.entry.form (record { rows = writing.entry.groups.now; which = chosen_of choice.entry }) result []
+            (faults_of writing.entry.form writing.entry.groups.now (chosen_of choice.entry) []) }
     {
         FaultNews {
             alloc,
             writing,
-            telling,
+            choice,
             listener: Listener::new(alloc),
             last: LastFaults::new(),
             made: Made::default(),
@@ -60,7 +66,7 @@ impl<'g, 't> FaultNews<'g, 't> {
     }
 }
 
-impl<'g, 't> Account for FaultNews<'g, 't> {
+impl<'g, 't, 'c> Account for FaultNews<'g, 't, 'c> {
     ghost use Rattle.j39_listen.specs.AccountCalls.{Begins, MakesOne};
     ghost use Rattle.j39_reports.specs.FaultAsking.{AsksForFaults};
     ghost use Rattle.j39_reports.specs.FaultRun.{MakesFaultsIn};
@@ -80,7 +86,7 @@ impl<'g, 't> Account for FaultNews<'g, 't> {
             self.alloc,
             &mut self.listener,
             self.writing,
-            self.telling,
+            self.choice,
             &mut self.last,
             frame,
             sink,
@@ -110,27 +116,27 @@ fn put_frame<W: Sink>(
     alloc: Global,
     listener: &mut Listener,
     writing: Writing<'_, '_>,
-    telling: Telling,
+    choice: Choice<'_>,
     last: &mut LastFaults,
     frame: &Frame,
     sink: &mut W,
 ) -> Result<Made, LineFault>
     ensures met { IfOk result (λ made. (F : List FrameRecord) (ms : List Hearing) → Hears listener.old F
-        → Remembers last.old ms → MeetsFrame writing.entry.form writing.entry.groups.now telling listener.new last.new
+        → Remembers last.old ms → MeetsFrame writing.entry.form writing.entry.groups.now (chosen_of choice.entry) listener.new last.new
         F frame.now ms made (W.written sink.old) (W.written sink.new)) }
     ensures writer { LeavesWriter result (turn W.written W.has_failed sink.old sink.new) }
     ensures stops { result ≡ Err line_fault.Write → (F : List FrameRecord) (ms : List Hearing) → Hears listener.old F
-        → Remembers last.old ms → StopsFrame writing.entry.form writing.entry.groups.now telling F frame.now ms
+        → Remembers last.old ms → StopsFrame writing.entry.form writing.entry.groups.now (chosen_of choice.entry) F frame.now ms
         (W.written sink.old) (W.written sink.new) }
     ensures asked { result ≡ Err line_fault.Memory → (F : List FrameRecord) (heard : List Hearing)
         → Hears listener.old F → AreHeardWith is_fault_group F heard → Remembers last.old (faults_among heard)
         → AsksForFaults F frame.now }
 {
-    let is_single = fault_group(frame.id.pgn()).is_some();
+    let is_single = is_of_fault_group(frame.id);
     match listener.feed_as(is_single, frame) {
         Err(AllocError) => Err(LineFault::Memory),
         Ok(None) => Ok(Made::default()),
-        Ok(Some(heard)) => put_heard(alloc, &heard, writing, telling, last, sink),
+        Ok(Some(heard)) => put_heard(alloc, &heard, writing, choice, last, sink),
     }
 }
 
@@ -139,34 +145,69 @@ fn put_heard<W: Sink>(
     alloc: Global,
     heard: &Heard<'_>,
     writing: Writing<'_, '_>,
-    telling: Telling,
+    choice: Choice<'_>,
     last: &mut LastFaults,
     sink: &mut W,
 ) -> Result<Made, LineFault>
     ensures met { IfOk result (λ made. (ms : List Hearing) → Remembers last.old ms
         → length heard.now.message.payload.now ≤ 1785
-        → Tells writing.entry.form writing.entry.groups.now telling last.new ms (Some (hearing_of heard.now)) made
+        → Tells writing.entry.form writing.entry.groups.now (chosen_of choice.entry) last.new ms (Some (hearing_of heard.now)) made
         (W.written sink.old) (W.written sink.new)) }
     ensures writer { LeavesWriter result (turn W.written W.has_failed sink.old sink.new) }
     ensures stops { result ≡ Err line_fault.Write → (ms : List Hearing) → Remembers last.old ms
         → length heard.now.message.payload.now ≤ 1785
-        → TellsFront writing.entry.form writing.entry.groups.now telling ms (Some (hearing_of heard.now))
+        → TellsFront writing.entry.form writing.entry.groups.now (chosen_of choice.entry) ms (Some (hearing_of heard.now))
         (W.written sink.old) (W.written sink.new) }
     ensures of_faults { result ≡ Err line_fault.Memory → is_of_faults (hearing_of heard.now) ≡ true }
     ensures first { result ≡ Err line_fault.Memory → (ms : List Hearing) → Remembers last.old ms
         → last_from (pgn_raw heard.now.message.pgn) heard.now.message.source ms ≡ None }
 {
+    if let Some(kind) = cleared_in(heard.message.pgn, heard.message.payload) {
+        return put_asked(heard, writing, kind, sink);
+    }
     let Some(kind) = fault_group(heard.message.pgn) else {
         return Ok(Made::default());
     };
     let Some(lamps) = lamps_of(heard.message.payload) else {
         return Ok(Made::default());
     };
-    let source = heard.message.source;
-    match last.note(alloc, kind, source, heard.message.payload, heard.name) {
+    let (source, payload) = (heard.message.source, heard.message.payload);
+    let version = version_of(choice.conversions, heard.name);
+    match last.note(alloc, kind, version, source, payload, heard.name) {
         Err(AllocError) => Err(LineFault::Memory),
-        Ok(is_news) => put_told(heard, writing, is_told(telling, is_news), kind, lamps, sink),
+        Ok(is_news) => {
+            let is_told = is_told(choice.telling, is_news);
+            put_told(heard, writing, is_told, version, kind, lamps, sink)
+        }
     }
+}
+
+/// Writes that a message asks to clear codes, and answers its numbers.
+fn put_asked<W: Sink>(
+    heard: &Heard<'_>,
+    writing: Writing<'_, '_>,
+    kind: Kind,
+    sink: &mut W,
+) -> Result<Made, LineFault>
+    ensures made { IfOk result (λ made. (made.messages ≡ 1) × (made.lines ≡ 1)) }
+    ensures puts { Puts (faults_text writing.entry.form writing.entry.groups.now (clearing_of (hearing_of heard.now) kind ∷ []))
+        result (turn W.written W.has_failed sink.old sink.new) }
+    ensures not_memory { result ≢ Err line_fault.Memory }
+{
+    match put_clearing(heard, writing.form, kind, sink) {
+        Ok(()) => Ok(Made {
+            messages: 1,
+            lines: 1,
+        }),
+        Err(DeviceFault) => Err(LineFault::Write),
+    }
+}
+
+/// Whether messages of an identifier's group are heard in one frame.
+fn is_of_fault_group(id: Id) -> bool
+    ensures { result ≡ is_fault_group (pgn_of (id_raw id)) }
+{
+    fault_group(id.pgn()).is_some() || id.is_request()
 }
 
 /// Writes the lines of a message of faults where it is told, and answers its numbers.
@@ -174,15 +215,16 @@ fn put_told<W: Sink>(
     heard: &Heard<'_>,
     writing: Writing<'_, '_>,
     is_told: bool,
+    version: Option<Version>,
     kind: Kind,
     lamps: Lamps,
     sink: &mut W,
 ) -> Result<Made, LineFault>
     ensures made { IfOk result (λ made. (made.messages ≡ 1)
-        × (made.lines ≡ length (told_faults is_told (faults_by (hearing_of heard.now) (Some kind) (Some lamps))))) }
+        × (made.lines ≡ length (told_faults is_told (faults_by version (hearing_of heard.now) (Some kind) (Some lamps))))) }
     ensures fits { IfOk result (λ made. made.lines < 2 ^ 64) }
     ensures puts { Puts (faults_text writing.entry.form writing.entry.groups.now
-        (told_faults is_told (faults_by (hearing_of heard.now) (Some kind) (Some lamps))))
+        (told_faults is_told (faults_by version (hearing_of heard.now) (Some kind) (Some lamps))))
         result (turn W.written W.has_failed sink.old sink.new) }
     ensures not_memory { result ≢ Err line_fault.Memory }
 {
@@ -192,10 +234,17 @@ fn put_told<W: Sink>(
             lines: 0,
         });
     }
-    match put_message(heard, writing, kind, lamps, sink) {
+    match put_message(heard, writing, version, kind, lamps, sink) {
         Ok(lines) => Ok(Made { messages: 1, lines }),
         Err(DeviceFault) => Err(LineFault::Write),
     }
+}
+
+/// By which version the SPNs of the controller of a NAME are read.
+fn version_of(conversions: &[Conversion], name: Option<Name>) -> Option<Version>
+    ensures { result ≡ version_for conversions.now (option_map name_raw name) }
+{
+    version_for(conversions, name.map(Name::raw))
 }
 
 /// Whether a message is told.

@@ -6,7 +6,7 @@ ghost use Rattle.j39_reports.specs.LastMessages.{differs, said_by};
 
 use crate::fault_news::last_messages::LastMessages;
 use j39_address::Name;
-use j39_faults::Kind;
+use j39_faults::{Kind, Version};
 use std::alloc::{AllocError, Global};
 
 /// What was said last by each address of its codes, by kind.
@@ -37,30 +37,37 @@ impl LastFaults {
         }
     }
 
-    /// Notes what an address says, and answers whether it is news.
+    /// Notes what an address says, and answers whether it is news by this version of the conversion.
     pub(crate) fn note(
         &mut self,
         alloc: Global,
         kind: Kind,
+        version: Option<Version>,
         source: u8,
         payload: &[u8],
         name: Option<Name>,
     ) -> Result<bool, AllocError>
         ensures news { IfOk result (λ is_news. is_news
-            ≡ differs (said_at self.old kind source) payload.now (option_map name_raw name)) }
+            ≡ differs version (said_at self.old kind source) payload.now (option_map name_raw name)) }
         ensures after { OnOk result (self.new
             ≡ noted self.old kind source (said_by payload.now (option_map name_raw name))) }
         ensures first { OnErr result (said_at self.old kind source ≡ None) }
         ensures kept { OnErr result (self.new ≡ self.old) }
     {
         match kind {
-            Kind::Active => self.active.note(alloc, source, payload, name),
-            Kind::Previous => self.previous.note(alloc, source, payload, name),
-            Kind::EmissionPending => self.emission_pending.note(alloc, source, payload, name),
-            Kind::EmissionActive => self.emission_active.note(alloc, source, payload, name),
-            Kind::EmissionPrevious => self.emission_previous.note(alloc, source, payload, name),
-            Kind::Pending => self.pending.note(alloc, source, payload, name),
-            Kind::Permanent => self.permanent.note(alloc, source, payload, name),
+            Kind::Active => self.active.note(alloc, version, source, payload, name),
+            Kind::Previous => self.previous.note(alloc, version, source, payload, name),
+            Kind::EmissionPending => self
+                .emission_pending
+                .note(alloc, version, source, payload, name),
+            Kind::EmissionActive => self
+                .emission_active
+                .note(alloc, version, source, payload, name),
+            Kind::EmissionPrevious => self
+                .emission_previous
+                .note(alloc, version, source, payload, name),
+            Kind::Pending => self.pending.note(alloc, version, source, payload, name),
+            Kind::Permanent => self.permanent.note(alloc, version, source, payload, name),
         }
     }
 }

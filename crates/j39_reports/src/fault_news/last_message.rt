@@ -6,7 +6,7 @@ ghost use Rattle.j39_reports.specs.LastMessages.{is_said, said_by};
 
 use arrayvec::ArrayVec;
 use j39_address::Name;
-use j39_faults::tells_same;
+use j39_faults::{Version, tells_same};
 use j39_io::printing::push_bytes;
 use j39_transport::LONGEST;
 use std::marker::Model;
@@ -47,11 +47,11 @@ impl LastMessage {
         self.name = name;
     }
 
-    /// Whether a payload tells the same, under the same NAME or under none.
-    pub(crate) fn is(&self, payload: &[u8], name: Option<Name>) -> bool
-        ensures { result ≡ is_said self.now payload.now (option_map name_raw name) }
+    /// Whether a payload tells the same by this version of the conversion, under the same NAME or under none.
+    pub(crate) fn is(&self, version: Option<Version>, payload: &[u8], name: Option<Name>) -> bool
+        ensures { result ≡ is_said version self.now payload.now (option_map name_raw name) }
     {
-        tells_same(self.bytes.as_slice(), payload) && is_same_name(self.name, name)
+        tells_same(version, self.bytes.as_slice(), payload) && is_same_name(self.name, name)
     }
 }
 

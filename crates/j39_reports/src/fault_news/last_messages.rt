@@ -6,6 +6,7 @@ ghost use Rattle.j39_reports.specs.LastMessages.{at, differs, stored_in, said_by
 
 use crate::fault_news::last_message::LastMessage;
 use j39_address::Name;
+use j39_faults::Version;
 use j39_memory::Stored;
 use std::alloc::{AllocError, Global};
 use std::array;
@@ -71,18 +72,19 @@ impl LastMessages {
         self.places[usize::from(source)] = Some(said);
     }
 
-    /// Notes what an address says, and answers whether that is news. Memory is taken where the address said nothing
+    /// Notes what an address says, and answers whether that is news by this version of the conversion. Memory is taken where the address said nothing
     /// before.
     #[tactic(auto, using(crate::proofs::PlaceLemmas::set_again, crate::proofs::PlaceLemmas::empty_again))]
     pub(crate) fn note(
         &mut self,
         alloc: Global,
+        version: Option<Version>,
         source: u8,
         payload: &[u8],
         name: Option<Name>,
     ) -> Result<bool, AllocError>
         ensures news { IfOk result (λ is_news. is_news
-            ≡ differs (at self.old source) payload.now (option_map name_raw name)) }
+            ≡ differs version (at self.old source) payload.now (option_map name_raw name)) }
         ensures after { OnOk result (self.new
             ≡ slice_set self.old source (Some (said_by payload.now (option_map name_raw name)))) }
         ensures first { OnErr result (at self.old source ≡ None) }
@@ -92,7 +94,7 @@ impl LastMessages {
             self.put(source, Stored::new(alloc, LastMessage::new(payload, name))?);
             return Ok(true);
         };
-        let is_known = said.is(payload, name);
+        let is_known = said.is(version, payload, name);
         said.replace(payload, name);
         self.put(source, said);
         Ok(!is_known)

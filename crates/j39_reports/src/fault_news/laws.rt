@@ -5,12 +5,12 @@ ghost use Rattle.j39_groups.specs.Row.{RowRecord};
 ghost use Rattle.j39_listen.specs.Output.{Output};
 ghost use Rattle.j39_reports.specs.FaultRun.{MakesFaultsIn};
 ghost use Rattle.j39_listen.specs.declared.format.Format.{Format};
-ghost use Rattle.j39_reports.specs.declared.fault_news.telling.Telling.{Telling};
+ghost use Rattle.j39_reports.specs.News.{Chosen};
 
 /// Of each list of frames one text of faults is made by each table, in each form, with its numbers, and no other.
 pub fn one_text()
-    ensures some { (form : Format) (rows : List RowRecord) (which : Telling) (bus : List ℕ) (F : List FrameRecord)
+    ensures some { (form : Format) (rows : List RowRecord) (which : Chosen) (bus : List ℕ) (F : List FrameRecord)
         → (output : Output) × MakesFaultsIn form rows which bus F output }
-    ensures one { (form : Format) (rows : List RowRecord) (which : Telling) (bus : List ℕ) (F : List FrameRecord)
+    ensures one { (form : Format) (rows : List RowRecord) (which : Chosen) (bus : List ℕ) (F : List FrameRecord)
         (a b : Output) → MakesFaultsIn form rows which bus F a → MakesFaultsIn form rows which bus F b → a ≡ b }
 {}

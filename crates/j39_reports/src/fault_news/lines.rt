@@ -1,49 +1,60 @@
 //! The lines of a message of faults, or its records.
-ghost use Rattle.std.specs.Prelude.{◌≡◌, IfOk, Some, length, option_map};
+ghost use Rattle.std.specs.Prelude.{◌≡◌, ◌++◌, IfOk, Some, length, option_map};
 ghost use Rattle.std.specs.List.{flat_map};
 ghost use Rattle.j39_io.specs.Puts.{Puts};
 ghost use Rattle.j39_io.specs.Turn.{turn};
 ghost use Rattle.j39_address.specs.Name.{name_raw};
-ghost use Rattle.j39_faults.specs.Codes.{codes_of};
+ghost use Rattle.j39_faults.specs.Conversions.{codes_by};
 ghost use Rattle.j39_frame.specs.Stamp.{stamp_micros};
 ghost use Rattle.j39_listen.specs.HeardModel.{hearing_of};
 ghost use Rattle.j39_reports.specs.Faults.{faults_by, head_text, said_text};
 ghost use Rattle.j39_reports.specs.FaultRecords.{faults_text, head_fields};
-ghost use Rattle.j39_reports.specs.FaultsSoFar.{head_in, line_of, said_in};
-ghost use Rattle.j39_listen.specs.declared.format.Format.TheVariants.{Line};
+ghost use Rattle.j39_reports.specs.FaultsSoFar.{clearing_in, head_in, line_of, said_in};
+ghost use Rattle.j39_listen.specs.declared.format.Format.TheVariants.{Line, Record};
 
 use crate::columns::heard_fields;
 use crate::fault_news::form::{Said, Writing};
 use crate::fault_news::names::name_in;
 use crate::fault_news::records::put_fields;
+use crate::summaries::lines::push_destination;
 use arrayvec::ArrayVec;
 use j39_address::Name;
-use j39_faults::{Kind, Lamps, codes_of, put_code, put_no_code};
+use j39_faults::{Kind, Lamps, Version, clear_word, code_by, codes_of, put_code, put_no_code};
 use j39_groups::Groups;
 use j39_io::printing::{push_bytes, push_hex};
-use j39_io::{DeviceFault, Sink, put_all};
+use j39_io::{DeviceFault, Sink, put_all, put_record};
 use j39_listen::{Format, Heard, push_name_or_dashes};
 use j39_log::push_stamp;
 
 /// What the lines of a message begin with, or its records.
 type Head = ArrayVec<u8, 88>;
 
-/// Writes a line for each code of a message, or one that says that it has none, and answers how many.
+/// Writes a line for each code of a message, by this version of the conversion, or one that says that it has none, and
+/// answers how many.
 pub(crate) fn put_message<W: Sink>(
     heard: &Heard<'_>,
     writing: Writing<'_, '_>,
+    version: Option<Version>,
     kind: Kind,
     lamps: Lamps,
     sink: &mut W,
 ) -> Result<u64, DeviceFault>
-    ensures lines { IfOk result (λ n. n ≡ length (faults_by (hearing_of heard.now) (Some kind) (Some lamps))) }
+    ensures lines { IfOk result (λ n. n ≡ length (faults_by version (hearing_of heard.now) (Some kind) (Some lamps))) }
     ensures puts { Puts (faults_text writing.entry.form writing.entry.groups.now
-        (faults_by (hearing_of heard.now) (Some kind) (Some lamps)))
+        (faults_by version (hearing_of heard.now) (Some kind) (Some lamps)))
         result (turn W.written W.has_failed sink.old sink.new) }
 {
     let head = head_of(writing.form, heard);
     let head = head.as_slice();
-    let lines = put_codes(head, writing, kind, lamps, heard.message.payload, sink)?;
+    let lines = put_codes(
+        head,
+        writing,
+        version,
+        kind,
+        lamps,
+        heard.message.payload,
+        sink,
+    )?;
     if lines > 0 {
         return Ok(lines);
     }
@@ -56,18 +67,19 @@ pub(crate) fn put_message<W: Sink>(
 fn put_codes<W: Sink>(
     head: &[u8],
     writing: Writing<'_, '_>,
+    version: Option<Version>,
     kind: Kind,
     lamps: Lamps,
     payload: &[u8],
     sink: &mut W,
 ) -> Result<u64, DeviceFault>
-    ensures lines { IfOk result (λ n. n ≡ length (codes_of payload.now)) }
+    ensures lines { IfOk result (λ n. n ≡ length (codes_by version payload.now)) }
     ensures puts { Puts (flat_map (λ code. line_of writing.entry.form head.now writing.entry.groups.now kind lamps (Some code))
-        (codes_of payload.now)) result (turn W.written W.has_failed sink.old sink.new) }
+        (codes_by version payload.now)) result (turn W.written W.has_failed sink.old sink.new) }
 {
     let mut lines = 0;
     for code in codes_of(payload) {
-        let code = Some(code);
+        let code = Some(code_by(version, code));
         put_fault(head, writing, Said { kind, lamps, code }, sink)?;
         lines += 1;
     }
@@ -112,6 +124,38 @@ fn put_said<W: Sink>(groups: &Groups<'_>, said: Said, sink: &mut W) -> Result<()
     }
 }
 
+/// Writes that a message asks to clear the codes of a kind.
+pub(crate) fn put_clearing<W: Sink>(
+    heard: &Heard<'_>,
+    form: Format,
+    kind: Kind,
+    sink: &mut W,
+) -> Result<(), DeviceFault>
+    ensures { Puts (head_in form (stamp_micros heard.now.message.stamp) heard.now.message.source heard.now.destination
+        (option_map name_raw heard.now.name) ++ clearing_in form kind)
+        result (turn W.written W.has_failed sink.old sink.new) }
+{
+    put_all(sink, head_of(form, heard).as_slice())?;
+    match form {
+        Format::Line => put_clearing_line(kind, sink),
+        Format::Record => put_clearing_record(kind, sink),
+    }
+}
+
+fn put_clearing_line<W: Sink>(kind: Kind, sink: &mut W) -> Result<(), DeviceFault>
+    ensures { Puts (clearing_in Line kind) result (turn W.written W.has_failed sink.old sink.new) }
+{
+    put_all(sink, clear_word(kind).as_slice())?;
+    put_all(sink, b" all - -\n")
+}
+
+fn put_clearing_record<W: Sink>(kind: Kind, sink: &mut W) -> Result<(), DeviceFault>
+    ensures { Puts (clearing_in Record kind) result (turn W.written W.has_failed sink.old sink.new) }
+{
+    let fields: [&[u8]; 6] = [b"", b"", b"", b"", b"", b"all codes"];
+    put_record(clear_word(kind).as_slice(), &fields, sink)
+}
+
 /// What stands before what is said.
 fn head_of(form: Format, heard: &Heard<'_>) -> Head
     ensures { result.items ≡ head_in form (stamp_micros heard.now.message.stamp) heard.now.message.source
@@ -123,15 +167,16 @@ fn head_of(form: Format, heard: &Heard<'_>) -> Head
     }
 }
 
-/// The stamp, the address and the NAME, a space after each.
+/// The stamp, the address with the destination, where there is one, and the NAME, a space after each.
 fn line_head(heard: &Heard<'_>) -> Head
     ensures { result.items ≡ head_text (stamp_micros heard.now.message.stamp) heard.now.message.source
-        (option_map name_raw heard.now.name) }
+        heard.now.destination (option_map name_raw heard.now.name) }
 {
     let mut head = ArrayVec::new();
     push_stamp(&mut head, heard.message.stamp);
     push_bytes(&mut head, b" ");
     push_hex(&mut head, &[heard.message.source]);
+    push_destination(&mut head, heard.destination);
     push_bytes(&mut head, b" ");
     push_name_or_dashes(&mut head, heard.name.map(Name::raw));
     push_bytes(&mut head, b" ");

@@ -4,10 +4,11 @@ ghost use Rattle.j39_listen.specs.Headed.{begins_flushed};
 ghost use Rattle.j39_listen.specs.Ran.{PassesOn, Ran};
 ghost use Rattle.j39_reports.specs.FaultAsking.{AsksForFaults};
 ghost use Rattle.j39_reports.specs.FaultRun.{MakesFaults};
+ghost use Rattle.j39_reports.specs.News.{chosen_of};
 
 use crate::fault_news::account::FaultNews;
 use crate::fault_news::form::Writing;
-use crate::fault_news::telling::Telling;
+use crate::fault_news::telling::Choice;
 use j39_groups::Groups;
 use j39_io::{Sink, Source};
 use j39_listen::{Counts, Format, RunFault, run_headed, run_over};
@@ -26,7 +27,7 @@ pub fn faults<R: Source, W: Sink>(
     alloc: Global,
     groups: &Groups<'_>,
     format: Format,
-    telling: Telling,
+    choice: Choice<'_>,
     source: &mut R,
     sink: &mut W,
     bus: Option<Bus>,
@@ -35,14 +36,14 @@ pub fn faults<R: Source, W: Sink>(
     // What the run promises is `Ran`: what is written is the faults that are told in the frames of the log, and nothing
     // else. Memory is wanted only at a frame of the log that announces a message, or at the first message of faults of
     // its group from an address.
-    ensures ran { Ran (MakesFaults format groups.now telling) AsksForFaults bus limit result
+    ensures ran { Ran (MakesFaults format groups.now (chosen_of choice.entry)) AsksForFaults bus limit result
         (turn R.remaining R.has_failed source.old source.new) (turn W.written W.has_failed sink.old sink.new) }
 
     // What was written is passed on at the end, and before each read, the names of the columns before the first.
     ensures flushed { PassesOn result (begins_flushed format (W.is_flushed sink.old)) (W.is_flushed sink.new) }
 {
     let form = format;
-    let account = FaultNews::new(alloc, Writing { form, groups }, telling);
+    let account = FaultNews::new(alloc, Writing { form, groups }, choice);
     match format {
         Format::Line => run_over(account, source, sink, bus, limit),
         Format::Record => run_headed(COLUMNS, account, source, sink, bus, limit),

@@ -1,4 +1,5 @@
-//! Which messages of faults are told.
+//! Which messages of faults are told, and how.
+use j39_faults::Conversion;
 
 /// Which messages of faults are told.
 #[derive(Clone, Copy, Debug, PartialEq, Eq)]
@@ -8,4 +9,12 @@ pub enum Telling {
     News,
     /// Each.
     All,
+}
+
+/// Which messages of faults are told, and by which versions of the conversion the SPNs of controllers are read.
+#[derive(Clone, Copy, Debug)]
+pub struct Choice<'c> {
+    pub telling: Telling,
+    /// The first that is for a controller counts.
+    pub conversions: &'c [Conversion],
 }

@@ -102,7 +102,7 @@ fn line_head_of(origin: Origin, deeds: &Deeds<'_>, absent: u64) -> ArrayVec<u8, 
 }
 
 /// Appends the destination behind the address, where there is one.
-fn push_destination<const N: usize>(head: &mut ArrayVec<u8, N>, destination: Option<u8>)
+pub(crate) fn push_destination<const N: usize>(head: &mut ArrayVec<u8, N>, destination: Option<u8>)
     requires { array_vec_len head.old + 3 ≤ N }
     ensures items { head.new.items ≡ head.old.items ++ destination_text destination }
     ensures len { array_vec_len head.new ≤ array_vec_len head.old + 3 }

@@ -1,7 +1,7 @@
 -- The bus is checked, and then the parameters.
 use Rattle.std.proofs.Common.{codes, rules}
 use Rattle.clap.specs.Words.{first_value, found_of}
-use Rattle.j39_cli.proofs.TakenLemmas.{input_read, spns_read, spns_wrong}
+use Rattle.j39_cli.proofs.TakenLemmas.{input_read, value_read, value_wrong}
 use Rattle.j39_cli.proofs.report.task.Goals as goal
 
 pub returns-in-Ok-spns_value : goal.returns-in-Ok-spns_value
@@ -9,7 +9,7 @@ returns-in-Ok-spns_value c =
     let found = found_of c.args.given.now in
     record {
       answer = input_read (first_value found (codes "bus")) _ _ _ _ c.in-Ok.ensures (λ is_bus is_file.
-          spns_read (first_value found (codes "spn")) _ _ _ c.in-Ok-spns_value.ensures (λ is_spns.
+          value_read _ _ _ (first_value found (codes "spn")) _ _ _ c.in-Ok-spns_value.ensures (λ is_spns.
           (is_bus, search rules, is_spns, c.format_given-format.ensures, is_file)));
       memory = search rules;
       in_range = search rules;
@@ -20,7 +20,7 @@ returns-in-Err-spns_value c =
     let found = found_of c.args.given.now in
     record {
       answer = input_read (first_value found (codes "bus")) _ _ _ _ c.in-Ok.ensures (λ _ _.
-          spns_wrong (first_value found (codes "spn")) _ _ c.in-Err-spns_value.ensures);
+          value_wrong _ _ _ (first_value found (codes "spn")) _ _ c.in-Err-spns_value.ensures);
       memory = search rules;
       in_range = tt;
     }

@@ -1,5 +1,5 @@
-use Rattle.std.proofs.Common.{◌≡◌}
-use Rattle.j39_faults.specs.Codes.{codes_of}
+use Rattle.std.proofs.Common.{◌≡◌, map}
+use Rattle.j39_faults.specs.Conversions.{code_by, codes_by}
 use Rattle.j39_faults.specs.CodesLeft.{codes_left}
 use Rattle.j39_faults.specs.Sameness.{same_codes}
 use Rattle.j39_faults.proofs.sameness.same_codes.Given as goal
@@ -7,4 +7,5 @@ use Rattle.j39_faults.proofs.sameness.same_codes.Given as goal
 -- the codes so far are the same
 abbrev pub invariant-loop-code : goal.invariant-loop-code
 invariant-loop-code l =
-    same_codes (codes_of l.one) (codes_of l.other) ≡ same_codes (codes_left l.code-iterator) (codes_left l.others)
+    same_codes (codes_by l.version l.one) (codes_by l.version l.other)
+    ≡ same_codes (map (code_by l.version) (codes_left l.code-iterator)) (map (code_by l.version) (codes_left l.others))

@@ -7,5 +7,5 @@ use Rattle.j39_faults.proofs.sameness.tells_same.Goals as goal
 
 pub returns-then-same_lamps-clause-means : goal.returns-then-same_lamps-clause-means
 returns-then-same_lamps-clause-means c =
-    let value : c.same_codes.result ≡ tells_same c.args.one.now c.args.other.now = search rules in
-    Decides-at _ _ value (decides c.args.one.now c.args.other.now)
+    let value : c.same_codes.result ≡ tells_same c.args.version c.args.one.now c.args.other.now = search rules in
+    Decides-at _ _ value (decides c.args.version c.args.one.now c.args.other.now)

@@ -1,5 +1,5 @@
 -- A message is heard at the frame, or none.
-use Rattle.std.proofs.Common.{◌≤◌, ◌∙◌, ◌++◌, ◌∷◌, List, [], None, Some, ap, inr, refl, is_some, length}
+use Rattle.std.proofs.Common.{◌≤◌, ◌∙◌, ◌++◌, ◌∷◌, List, [], None, Some, ap, inr, refl, length}
 use Rattle.std.proofs.Common.{subst, sym}
 use Rattle.j39_frame.specs.Frame.{FrameRecord}
 use Rattle.j39_frame.specs.Identifier.{pgn_of}
@@ -7,7 +7,7 @@ use Rattle.j39_listen.specs.Heard.{HeardAtWith}
 use Rattle.j39_listen.specs.HeardModel.{hearing_of}
 use Rattle.j39_listen.proofs.ListenerLemmas.{on_ok}
 use Rattle.j39_listen.proofs.PieceLemmas.{if_ok}
-use Rattle.j39_reports.specs.News.{faults_among, is_fault_group}
+use Rattle.j39_reports.specs.News.{chosen_of, faults_among, is_fault_group}
 use Rattle.j39_reports.proofs.FaultAccountLemmas.{faults_leave, tells_nothing}
 use Rattle.j39_reports.proofs.HeardLemmas.{short_heard}
 use Rattle.j39_listen.specs.Listening.{Hears}
@@ -16,19 +16,19 @@ use Rattle.j39_reports.proofs.fault_news.account.put_frame.Goals as goal
 
 pub returns-in-Ok-None-clause-met : goal.returns-in-Ok-None-clause-met
 returns-in-Ok-None-clause-met g c = λ F ms h remembers.
-    let single = ap is_fault_group (sym (c.pgn.ensures ∙ ap (λ (x : FrameRecord). pgn_of x.id) c.frame.view_is)) ∙ sym (c.is_some-is_single.ensures ∙ ap is_some c.fault_group.ensures) in
+    let single = ap is_fault_group (sym (ap (λ (x : FrameRecord). pgn_of x.id) c.frame.view_is)) ∙ sym c.is_of_fault_group-is_single.ensures in
     record {
       heard = None;
       heard_at = rw c.in-Ok-None.field-0-is at (c.in-Ok-None.ensures.heard is_fault_group faults_leave single F h);
       hears = on_ok _ _ _ _ c.in-Ok-None.is c.feed_as.follows.holds-at-none F h;
-      tells = tells_nothing c.args.writing.form c.args.writing.groups.now c.args.telling c.args.last.now ms None c.default.result _ refl refl remembers c.default.ensures.0 c.default.ensures.1;
+      tells = tells_nothing c.args.writing.form c.args.writing.groups.now (chosen_of c.args.choice) c.args.last.now ms None c.default.result _ refl refl remembers c.default.ensures.0 c.default.ensures.1;
     }
 
 -- a message is heard there, and it is short
 heard_here : (g : Over) (c : goal.After-listener-in-Ok-Some-1 g) (F : List FrameRecord) → Hears c.args.listener.now F
     → HeardAtWith is_fault_group (F ++ c.args.frame.now ∷ []) (length F) (Some (hearing_of c.in-Ok-Some.heard))
 heard_here g c F h =
-    let single = ap is_fault_group (sym (c.pgn.ensures ∙ ap (λ (x : FrameRecord). pgn_of x.id) c.frame.view_is)) ∙ sym (c.is_some-is_single.ensures ∙ ap is_some c.fault_group.ensures) in
+    let single = ap is_fault_group (sym (ap (λ (x : FrameRecord). pgn_of x.id) c.frame.view_is)) ∙ sym c.is_of_fault_group-is_single.ensures in
     rw c.in-Ok-Some.field-0-is at (c.in-Ok-Some.ensures.heard is_fault_group faults_leave single F h)
 
 short_here : (g : Over) (c : goal.After-listener-in-Ok-Some-1 g) (F : List FrameRecord) → Hears c.args.listener.now F → length (hearing_of c.in-Ok-Some.heard).message.bytes ≤ 1785

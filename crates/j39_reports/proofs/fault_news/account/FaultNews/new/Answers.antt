@@ -1,5 +1,6 @@
 use Rattle.std.proofs.Common.{◌∙◌, [], refl}
 use Rattle.j39_listen.proofs.ReportAccount.{same_made}
+use Rattle.j39_reports.specs.News.{chosen_of}
 use Rattle.j39_reports.proofs.FaultAccountLemmas.{none_made}
 use Rattle.j39_reports.proofs.fault_news.account.FaultNews.new.Goals as goal
 
@@ -7,11 +8,11 @@ pub returns : goal.returns
 returns c = record {
   form_is = refl;
   by = refl;
-  telling_is = refl;
+  chosen_is = refl;
   heard = [];
   are_heard = refl;
   output_is = refl;
   hears = c.new.ensures;
   remembers = c.new-2.ensures;
-  made_is = same_made _ _ c.default.ensures.0 c.default.ensures.1 ∙ none_made c.args.writing.form c.args.writing.groups.now c.args.telling;
+  made_is = same_made _ _ c.default.ensures.0 c.default.ensures.1 ∙ none_made c.args.writing.form c.args.writing.groups.now (chosen_of c.args.choice);
 }
