@@ -17,10 +17,10 @@ use std::alloc::{AllocError, Global};
 const ABOUT: &str = "\
 Writes what a log is, before any bus is chosen: how many lines it has; for each
 interface its frames, its first and last stamp, and how often a stamp is below the
-one before (back); for each group (PGN) its frames and the addresses that sent it,
-whether a report reads it (read), the network needs it (network) or it is heard in
-packets alone (packets), and its name; the lines that hold no such frame, by kind;
-and the lines that are unread, of which the first five are shown. The first sixteen
+one before (back); for each group (PGN) its frames and the controllers' addresses
+that sent it, whether a report reads it (read), the network needs it (network) or
+neither (not read), and its name; the lines that hold no such frame, by kind; and
+the lines that are unread, of which the first five are shown. The first sixteen
 interfaces are told.";
 
 const HELP: &str = "\

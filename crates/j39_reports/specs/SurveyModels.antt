@@ -6,7 +6,7 @@ use Rattle.j39_memory.specs.ByGroup.{values_of}
 use Rattle.j39_frame.specs.Frame.{FrameRecord}
 use Rattle.j39_frame.specs.Groups.{IsHeardGroup, place_of_group}
 use Rattle.j39_listen.specs.Counting.{capped}
-use Rattle.j39_reports.specs.GroupCounts.{GroupRecord, of_sources, sources_of}
+use Rattle.j39_reports.specs.GroupCounts.{GroupRecord, controllers_in, of_sources, sources_of}
 use Rattle.j39_reports.specs.Interfaces.{InterfaceRecord, interfaces_of, untold_in}
 use Rattle.j39_reports.specs.LogLines.{LogLine, Seen, UnreadRecord, frames_of, has_log_line, others_in, seen_in, unread_in}
 use Rattle.j39_reports.specs.OtherLines.{OthersRecord, others_of}
@@ -34,10 +34,10 @@ has_address set a = has_bit (get_or set.words (a / 64) 0) (a % 64)
 abbrev pub group_record : GroupCount → GroupRecord
 group_record count = record { frames = count.frames; addresses = count.addresses }
 
--- the frames of a group came from these addresses, one after the other
+-- the frames of a group came from these addresses, one after the other, of which the controllers' are noted
 pub record HasCounted (count : GroupCount) (sources : List ℕ) : Type 0 where
   pub counts_are : group_record count ≡ of_sources sources
-  pub heard_are : (a : ℕ) → has_address count.heard a ≡ list_any (λ x. a == x) sources
+  pub heard_are : (a : ℕ) → has_address count.heard a ≡ list_any (λ x. a == x) (controllers_in sources)
 
 -- each group of these frames was counted
 pub record HaveCounted (table : GroupTable) (F : List FrameRecord) : Type 0 where

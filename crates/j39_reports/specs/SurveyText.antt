@@ -32,11 +32,11 @@ untold_text n = if n == 0 then [] else codes "elsewhere frames " ++ decimal n ++
 unfoldable pub survey_head : ℕ → List InterfaceRecord → ℕ → List ℕ
 survey_head lines told untold = lines_text lines ++ flat_map interface_text told ++ untold_text untold
 
--- read by a table, needed by the network, or heard in packets alone
+-- read by a table, needed by the network, or neither
 abbrev pub class_text : List RowRecord → ℕ → List ℕ
 class_text table pgn =
     if is_reported_in table pgn then codes " read"
-    else (if is_of_network pgn then codes " network" else codes " packets")
+    else (if is_of_network pgn then codes " network" else codes " not read")
 
 -- what the table calls the group, where it lists it
 abbrev pub name_text : Option (List ℕ) → List ℕ

@@ -7,7 +7,7 @@ ghost use Rattle.j39_frame.specs.Pgn.{pgn_raw};
 ghost use Rattle.j39_reports.specs.GroupCounts.{group_of};
 
 use crate::surveys::addresses::Addresses;
-use j39_frame::{Id, Pgn};
+use j39_frame::{Id, Pgn, is_address};
 use j39_memory::{ByGroup, GroupChange};
 use std::alloc::{AllocError, Global};
 
@@ -16,7 +16,7 @@ use std::alloc::{AllocError, Global};
 pub(crate) struct GroupCount {
     /// How many.
     pub frames: u64,
-    /// How many addresses they came from.
+    /// How many addresses they came from that a controller can hold.
     pub addresses: u64,
     heard: Addresses,
 }
@@ -40,6 +40,9 @@ impl GroupCount {
         ensures { (sources : List ℕ) → HasCounted self.old sources → HasCounted self.new (sources ++ source ∷ []) }
     {
         self.frames = self.frames.saturating_add(1);
+        if !is_address(source) {
+            return;
+        }
         if self.heard.add(source) {
             self.addresses = self.addresses.saturating_add(1);
         }

@@ -188,7 +188,7 @@ fn put_line<W: Sink>(
     put_parts(&parts, sink)
 }
 
-/// Whether the table reads a group, or the network needs it, or it is heard in packets alone.
+/// Whether the table reads a group, or the network needs it, or neither.
 fn class_of<'r>(groups: &'r Groups<'_>, pgn: Pgn) -> &'r [u8]
     ensures { result.now ≡ class_text groups.now (pgn_raw pgn) }
 {
@@ -197,7 +197,7 @@ fn class_of<'r>(groups: &'r Groups<'_>, pgn: Pgn) -> &'r [u8]
     } else if is_network_group(pgn) || pgn.raw() == 59904 {
         b" network"
     } else {
-        b" packets"
+        b" not read"
     }
 }
 
