@@ -386,7 +386,7 @@ int32_t j1939_sender_close(j1939_sender *sender);
  *
  * A call with a handle that holds no controller answers J1939_NO_PART, but for .._new and .._close. After
  * J1939_NO_MEMORY from .._pass, .._turn and .._hear some of the call may be done, and its claim may be lost, though it
- * holds the address later: close it then, and open another one. */
+ * holds the address later: take what there is to take, which stays, close it then, and open another one. */
 
 /** Opens a controller of this NAME, to start with this address; J1939_BAD_VALUE for an address above 253.
  * @return 0, J1939_BAD_VALUE, J1939_NO_MEMORY, J1939_IN_USE */

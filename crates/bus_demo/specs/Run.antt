@@ -1,10 +1,12 @@
 -- What a run of the bus is.
-use Rattle.std.specs.Prelude.{◌<◌, ℕ}
+use Rattle.std.specs.Prelude.{◌≡◌, ◌≢◌, ◌<◌, ℕ, Result, Err, true}
 use Rattle.std.specs.Io.KnownBytes.{Keeps}
 use Rattle.j39_frame.specs.Stamp.{stamp_micros}
-use Rattle.j39_io.specs.Turn.{Device, Turn}
+use Rattle.j39_io.specs.Turn.{Device, IsUnmarked, Turn}
 use Rattle.bus_demo.specs.Sending.{Steps}
 use Rattle.bus_demo.specs.declared.bus.Bus.{Bus}
+use Rattle.bus_demo.specs.declared.bus.BusFault.{BusFault}
+use Rattle.bus_demo.specs.declared.bus.BusFault.TheVariants.{Write}
 
 -- the bus made steps, one after another, each of them before the end
 pub data Plays (end : ℕ) : Bus → Device → Bus → Device → Type 0 where
@@ -18,3 +20,8 @@ pub record PlaysTo (end : ℕ) (old new : Bus) (log : Turn) : Type 0 where
   pub last : Device
   pub plays : Plays end old log.old new last
   pub passed_on : Keeps last.bytes log.new.bytes
+
+-- a fault of the log's writer is told as what it is, and nothing else sets its mark
+pub record TellsFault {T : Type 0} (result : Result T BusFault) (log : Turn) : Type 0 where
+  pub write : result ≡ Err Write → log.new.has_failed ≡ true
+  pub unmarked : result ≢ Err Write → IsUnmarked log

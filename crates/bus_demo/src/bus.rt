@@ -6,9 +6,10 @@ ghost use Rattle.j39_io.specs.Puts.{Puts};
 ghost use Rattle.j39_io.specs.Turn.{turn};
 ghost use Rattle.j39_log.specs.Canonical.{line_text};
 ghost use Rattle.bus_demo.specs.Playing.{AreAllNoted, AreTold, HaveTurned};
-ghost use Rattle.bus_demo.specs.Run.{PlaysTo};
+ghost use Rattle.bus_demo.specs.Run.{PlaysTo, TellsFault};
 ghost use Rattle.bus_demo.specs.Sending.{Goes, IsSeen, Sends, Steps, TakesAt};
 ghost use Rattle.bus_demo.specs.Turning.{AreAsked, KeepsButTurned, TurnsAt};
+ghost use Rattle.bus_demo.specs.declared.bus.BusFault.TheVariants.{Memory, Write};
 
 mod arbitration;
 pub(crate) mod book;
@@ -50,12 +51,16 @@ pub enum BusFault {
 }
 
 impl From<AllocError> for BusFault {
+    ghost from_gives = { λ _ fault. fault ≡ Memory };
+
     fn from(_error: AllocError) -> BusFault {
         BusFault::Memory
     }
 }
 
 impl From<DeviceFault> for BusFault {
+    ghost from_gives = { λ _ fault. fault ≡ Write };
+
     fn from(_fault: DeviceFault) -> BusFault {
         BusFault::Write
     }
@@ -101,6 +106,7 @@ impl<'a> Bus<'a> {
         ensures plays { OnOk result (PlaysTo end self.old self.new (turn W.written W.has_failed log.old log.new)) }
         ensures played { OnOk result (end + 1000 < 10 ^ 16 → end ≤ stamp_micros self.new.now) }
         ensures flushed { OnOk result (W.is_flushed log.new ≡ true) }
+        ensures faults { TellsFault result (turn W.written W.has_failed log.old log.new) }
         ensures lose { self.new.lose ≡ self.old.lose }
     {
         // A step takes a microsecond at least.
@@ -119,6 +125,7 @@ impl<'a> Bus<'a> {
         ensures steps { OnOk result (Steps self.old self.new (turn W.written W.has_failed log.old log.new)) }
         ensures goes_on { OnOk result (stamp_micros self.old.now + 1000 < 10 ^ 16
             → stamp_micros self.old.now < stamp_micros self.new.now) }
+        ensures faults { TellsFault result (turn W.written W.has_failed log.old log.new) }
         ensures lose { self.new.lose ≡ self.old.lose }
     {
         self.turns()?;
@@ -163,6 +170,7 @@ impl<'a> Bus<'a> {
             (turn W.written W.has_failed log.old log.new)) }
         ensures goes_on { OnOk result (stamp_micros self.old.now + 1000 < 10 ^ 16
             → stamp_micros self.old.now < stamp_micros self.new.now) }
+        ensures faults { TellsFault result (turn W.written W.has_failed log.old log.new) }
         ensures lose { self.new.lose ≡ self.old.lose }
     {
         match self.take_frame(sender) {
@@ -188,6 +196,7 @@ impl<'a> Bus<'a> {
             (turn W.written W.has_failed log.old log.new)) }
         ensures goes_on { OnOk result (stamp_micros self.old.now + 1000 < 10 ^ 16
             → stamp_micros self.old.now < stamp_micros self.new.now) }
+        ensures faults { TellsFault result (turn W.written W.has_failed log.old log.new) }
         ensures lose { self.new.lose ≡ self.old.lose }
     {
         let Wish { frame, part } = wish;
@@ -219,6 +228,7 @@ impl<'a> Bus<'a> {
             self.new.controllers.items self.old.book self.new.book (turn W.written W.has_failed log.old log.new)) }
         ensures now { self.new.now ≡ self.old.now }
         ensures frames { self.new.frames ≡ self.old.frames }
+        ensures faults { TellsFault result (turn W.written W.has_failed log.old log.new) }
         ensures lose { self.new.lose ≡ self.old.lose }
     {
         put_line(frame, &self.interface, log)?;
