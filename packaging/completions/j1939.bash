@@ -16,7 +16,8 @@ _j1939_options() {
     nodes) echo --bus --csv --help -h ;;
     answer) echo --name --address --bus --help -h ;;
     cut) echo --source --pgn --at --bus --help -h ;;
-    groups | survey) echo --table --help -h ;;
+    groups) echo --table --help -h ;;
+    survey) echo --bus --table --help -h ;;
     id | name) echo --help -h ;;
   esac
 }

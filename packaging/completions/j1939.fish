@@ -24,7 +24,7 @@ complete -c j1939 -n __fish_use_subcommand -a help -d 'Help, or the help of a co
 complete -c j1939 -n '__fish_seen_subcommand_from help' -a 'report faults summary nodes answer groups survey id name cut help'
 
 complete -c j1939 -n '__fish_seen_subcommand_from report faults summary nodes answer survey' -F
-complete -c j1939 -n '__fish_seen_subcommand_from report faults summary nodes answer cut' -l bus -x -a '(__j1939_buses)' -d 'The interface'
+complete -c j1939 -n '__fish_seen_subcommand_from report faults summary nodes answer survey cut' -l bus -x -a '(__j1939_buses)' -d 'The interface'
 complete -c j1939 -n '__fish_seen_subcommand_from report faults summary groups survey' -l table -r -d 'The parameters to read'
 complete -c j1939 -n '__fish_seen_subcommand_from report' -l spn -x -d 'The parameters to write alone, with commas between'
 complete -c j1939 -n '__fish_seen_subcommand_from report faults nodes summary' -l csv -d 'Comma-separated values'

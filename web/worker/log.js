@@ -64,14 +64,14 @@ async function readLog({ file, bus, table }, tell, post) {
 // Posts the rest of what is shown of it, as it is made.
 function readRest(post) {
   const it = place;
-  const [log, named, rows] = it.given;
+  const [log, named] = it.given;
   post({ faults: new Blob([textOf(it, 'j39_faults', it.given, ROOM).bytes], { type: 'text/plain' }) });
   const holders = textIn(textOf(it, 'j39_nodes', [log, named], MEMORY_PAGE).bytes).split('\n').filter(Boolean);
   post({ nodes: holders.map(line => {
     const [address, name, claimed, heard] = line.split(' ').map(field => field.replace(/^-+$/, ''));
     return { address, name, claimed, heard, fields: name ? fieldsOf(it, name) : {} };
   }) });
-  post({ survey: textIn(textOf(it, 'j39_survey', [log, rows], ROOM).bytes) });
+  post({ survey: textIn(textOf(it, 'j39_survey', it.given, ROOM).bytes) });
 }
 
 // The report of the whole log. Its room is as much memory again, and more, and goes with the instance.

@@ -45,5 +45,5 @@ is_parsed program (cut source pgn moment bus hex) = parsed program cut_app (cut 
     (memory_checked _ _ _ (memory_checked _ _ _ tt))))))
 is_parsed program (groups table) = parsed program groups_app (groups table) [] _
     (record { step = refl; passes = refl; found = refl; checks = refl }) refl refl refl tt
-is_parsed program (survey table file) = parsed program survey_app (survey table file) [] _
-    (record { step = refl; passes = refl; found = refl; checks = refl }) refl refl refl tt
+is_parsed program (survey bus table file) = parsed program survey_app (survey bus table file) [] _
+    (record { step = refl; passes = refl; found = refl; checks = refl }) refl refl refl (memory_of_bus bus _ tt)

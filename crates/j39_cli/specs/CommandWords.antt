@@ -31,7 +31,7 @@ pub data CommandWords : Type 0 where
   name : Text → CommandWords
   cut : Text → Text → Text → Text → Text → CommandWords
   groups : Option Text → CommandWords
-  survey : Option Text → Option Text → CommandWords
+  survey : Option Text → Option Text → Option Text → CommandWords
 
 abbrev pub form_of : CommandWords → Form
 form_of (report bus table spn csv file) = report_form bus table spn csv file
@@ -43,7 +43,7 @@ form_of (id hex) = id_form hex
 form_of (name hex) = name_form hex
 form_of (cut source pgn at bus hex) = cut_form source pgn at bus hex
 form_of (groups table) = groups_form table
-form_of (survey table file) = survey_form table file
+form_of (survey bus table file) = survey_form bus table file
 
 -- the words after the program's name
 abbrev pub words_of : CommandWords → List Text
@@ -77,7 +77,7 @@ command_found called found =
     else if bytes_eq called (codes "id") then id (text_found found (codes "hex"))
     else if bytes_eq called (codes "name") then name (text_found found (codes "hex"))
     else if bytes_eq called (codes "groups") then groups table
-    else if bytes_eq called (codes "survey") then survey table file
+    else if bytes_eq called (codes "survey") then survey bus table file
     else cut (text_found found (codes "source")) (text_found found (codes "pgn")) (text_found found (codes "at"))
     (text_found found (codes "bus")) (text_found found (codes "hex"))
 

@@ -1,30 +1,33 @@
--- The command `survey [--table T] [FILE]`.
+-- The command `survey [--bus B] [--table T] [FILE]`.
 use Rattle.std.specs.Prelude.{◌≡◌, ◌⊎◌, ◌∷◌, ℕ, List, [], Option, Result, Ok, Err, codes, false, true}
 use Rattle.j39_io.specs.Turn.{Turn, Writes}
-use Rattle.clap.specs.Words.{App, Text, new_app, with_rule}
+use Rattle.std.specs.Option.{ForSome}
+use Rattle.clap.specs.Words.{App, Text, new_app}
+use Rattle.j39_log.specs.Bus.{IsBusName}
 use Rattle.j39_groups.specs.Row.{RowRecord}
 use Rattle.j39_listen.specs.declared.running.RunFault.{RunFault}
 use Rattle.j39_reports.specs.SurveyRun.{Surveyed}
-use Rattle.j39_cli.specs.Answer.{IsTask}
+use Rattle.j39_cli.specs.Answer.{IsBusChecked, IsTask}
 use Rattle.j39_cli.specs.Form.{Form, Meaning, option, value}
-use Rattle.j39_cli.specs.LogCommand.{fault_text, log_limit, opened_of}
+use Rattle.j39_cli.specs.LogCommand.{fault_text, log_limit, opened_of, with_log}
 use Rattle.j39_cli.specs.Refusal.{error_line}
-use Rattle.j39_cli.specs.Rules.{value_rule, with_table}
+use Rattle.j39_cli.specs.Rules.{with_table}
+use Rattle.j39_cli.specs.declared.task.LogInput.{LogInput}
 use Rattle.j39_cli.specs.declared.task.Task.{Task}
 use Rattle.j39_cli.specs.declared.task.Task.TheVariants.{Survey}
 
 abbrev pub survey_app : App
-survey_app = with_rule (with_table (new_app (codes "survey"))) (value_rule (codes "file") false)
+survey_app = with_log (with_table (new_app (codes "survey")))
 
-abbrev pub IsSurveyTask : Option (List ℕ) → Option (List ℕ) → Task → Type 0
-IsSurveyTask table file (Survey table' file') = (table' ≡ table) × (file' ≡ file)
-IsSurveyTask table file t = ⊥
+abbrev pub IsSurveyTask : Option (List ℕ) → Option (List ℕ) → Option (List ℕ) → Task → Type 0
+IsSurveyTask bus table file (Survey input table') = (input.bus ≡ bus) × (table' ≡ table) × (input.file ≡ file)
+IsSurveyTask bus table file t = ⊥
 
-abbrev pub survey_form : Option Text → Option Text → Form
-survey_form table file = record {
+abbrev pub survey_form : Option Text → Option Text → Option Text → Form
+survey_form bus table file = record {
   called = codes "survey";
-  arguments = option (codes "table") table ∷ value (codes "file") file ∷ [];
-  Answers = IsTask (IsSurveyTask table file);
+  arguments = option (codes "bus") bus ∷ option (codes "table") table ∷ value (codes "file") file ∷ [];
+  Answers = IsBusChecked bus (IsTask (IsSurveyTask bus table file));
 }
 
 -- the end of a survey: nothing is said of one that was written, with status 0, and a fault is told, with status 1
@@ -33,17 +36,17 @@ IsSurveyTold (Ok none) status err = (status ≡ 0) × (err.new ≡ err.old)
 IsSurveyTold (Err fault) status err = (status ≡ 1) × Writes err (error_line (fault_text fault) [])
 
 -- a survey of the log ended so, as `survey` of `j39_reports` may, and its end is told
-pub record IsSurvey (rows : List RowRecord) (status : ℕ) (log out err : Turn) : Type 0 where
+pub record IsSurvey (bus : Option (List ℕ)) (rows : List RowRecord) (status : ℕ) (log out err : Turn) : Type 0 where
   pub known : (status ≡ 0) ⊎ (status ≡ 1)
   pub result : Result (Unit {0}) RunFault
-  pub ran : Surveyed rows log_limit result log out
+  pub ran : Surveyed (record { table = rows; given = bus }) log_limit result log out
   pub told : IsSurveyTold result status err
 
-abbrev pub survey_meaning : Option (List ℕ) → Option (List ℕ) → Meaning
-survey_meaning table file = record {
-  file = opened_of file;
+abbrev pub survey_meaning : LogInput → Option (List ℕ) → Meaning
+survey_meaning input table = record {
+  file = opened_of input.file;
   table = table;
-  InRange = Unit {0};
+  InRange = ForSome input.bus IsBusName;
   reads_log = true;
-  Performs = IsSurvey;
+  Performs = IsSurvey input.bus;
 }

@@ -28,7 +28,7 @@ meaning_of (Id id) = id_meaning (id_raw id)
 meaning_of (Name name) = name_meaning (name_raw name)
 meaning_of (Cut outgoing) = cut_meaning outgoing
 meaning_of (Groups table) = groups_meaning table
-meaning_of (Survey table file) = survey_meaning table file
+meaning_of (Survey input table) = survey_meaning input table
 
 -- the log that the task opens, where it opens one
 abbrev pub file_of : Task → Option (List ℕ)

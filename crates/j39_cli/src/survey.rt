@@ -6,22 +6,25 @@ ghost use Rattle.j39_cli.specs.CommandWords.{IsAnswered, command_found};
 ghost use Rattle.j39_cli.specs.SurveyCommand.{IsSurvey, survey_app};
 ghost use Rattle.j39_cli.specs.Rules.{IsMade};
 
-use crate::command::{new_command, with_table, with_value};
-use crate::log::{LOG_LIMIT, tell_fault};
+use crate::command::{new_command, with_table};
+use crate::log::{LOG_LIMIT, copy_of, tell_fault, with_log};
+use crate::words::log_input;
 use crate::{ParseFault, Task, WordText};
 use clap::{ArgMatches, Command};
 use j39_groups::Groups;
 use j39_io::{Sink, Source};
+use j39_log::Bus;
 use std::alloc::{AllocError, Global};
 
 const ABOUT: &str = "\
-Writes what a log is, before any bus is chosen: how many lines it has; for each
-interface its frames, its first and last stamp, and how often a stamp is below the
-one before (back); for each group (PGN) its frames and the controllers' addresses
-that sent it, whether a report reads it (read), the network needs it (network) or
-neither (not read), and its name; the lines that hold no such frame, by kind; and
-the lines that are unread, of which the first five are shown. The first sixteen
-interfaces are told.";
+Writes what a log is: how many lines it has; for each of the first sixteen
+interfaces its frames, its first and last stamp, and how often a stamp is below
+the one before (back); for each group (PGN) of one interface its frames, how many
+messages in packets were announced and came whole, from how many controllers'
+addresses, and how far apart it came, in seconds; whether a report reads it (read),
+the network needs it (network) or neither (not read), and its name; the lines that
+hold no such frame, by kind; and the lines that are unread, of which the first five
+are shown.";
 
 const HELP: &str = "\
 Example:
@@ -29,7 +32,8 @@ Example:
 writes lines such as
   lines 12000
   interface can0 frames 12000 from (0000000001.010000) to (0000000061.000000) back 0
-  group 61444 frames 2400 addresses 1 read EEC1
+  group 61444 frames 2400 announced 0 whole 0 addresses 1 least 0.024871
+     mean 0.025003 most 0.051212 read EEC1
   other standard 0 remote 0 fd 0 error 0 odd 0
   unread 0";
 
@@ -39,8 +43,7 @@ pub(crate) fn command<'a>(alloc: Global) -> Result<Command<'a>, AllocError>
 {
     let about = "Writes what a log is: its interfaces, groups and lines";
     let command = with_table(alloc, new_command(alloc, "survey", about, ABOUT, HELP));
-    let help = "The log to read; without it, standard input";
-    with_value(alloc, command, "file", "FILE", false, help)
+    with_log(alloc, command)
 }
 
 /// The task that its words ask for.
@@ -48,19 +51,22 @@ pub(crate) fn task<'a>(given: &ArgMatches<'a>) -> Result<Task<'a>, ParseFault>
     ensures { IsAnswered (command_found (codes "survey") (found_of given.now)) result }
 {
     let table = given.get_str("table").map(WordText::new);
-    let file = given.get_str("file").map(WordText::new);
-    Ok(Task::Survey { table, file })
+    match log_input(given) {
+        Ok(input) => Ok(Task::Survey { input, table }),
+        Err(fault) => Err(fault),
+    }
 }
 
 /// Performs it by a table of parameters: the survey goes to `sink`, what failed to `err`.
 pub(crate) fn perform<R: Source, W: Sink, E: Sink>(
     alloc: Global,
     groups: &Groups<'_>,
+    bus: &Option<Bus>,
     source: &mut R,
     sink: &mut W,
     err: &mut E,
 ) -> u8
-    ensures survey { IsSurvey groups.now result
+    ensures survey { IsSurvey bus.now groups.now result
         (turn R.remaining R.has_failed source.old source.new)
         (turn W.written W.has_failed sink.old sink.new)
         (turn E.written E.has_failed err.old err.new) }
@@ -68,7 +74,7 @@ pub(crate) fn perform<R: Source, W: Sink, E: Sink>(
     ensures passed_out { W.is_flushed sink.old ≡ true → W.has_failed sink.new ≡ false → W.is_flushed sink.new ≡ true }
     ensures passed_on { result ≡ 1 → E.has_failed err.new ≡ false → E.is_flushed err.new ≡ true }
 {
-    match j39_reports::survey(alloc, groups, source, sink, LOG_LIMIT) {
+    match j39_reports::survey(alloc, groups, source, sink, copy_of(bus), LOG_LIMIT) {
         Ok(()) => 0,
         Err(fault) => tell_fault(fault, err),
     }

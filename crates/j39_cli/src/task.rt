@@ -147,10 +147,10 @@ pub enum Task<'a> {
     },
     /// What a log is.
     Survey {
+        /// The log to read.
+        input: LogInput<'a>,
         /// The file of the table, as of a report.
         table: Option<WordText<'a>>,
-        /// FILE, where it is given.
-        file: Option<WordText<'a>>,
     },
     /// The fields of an identifier.
     Id(Id),
@@ -173,7 +173,7 @@ impl<'a> Task<'a> {
             Task::Faults { input, .. } => opened_of(&input.file),
             Task::Nodes { input, .. } => opened_of(&input.file),
             Task::Answer { input, .. } => opened_of(&input.file),
-            Task::Survey { file, .. } => opened_of(file),
+            Task::Survey { input, .. } => opened_of(&input.file),
             _ => None,
         }
     }

@@ -1,33 +1,34 @@
--- The groups of some frames, and of one more.
-use Rattle.std.proofs.Common.{◌≡◌, ◌≢◌, ◌==◌, ◌||◌, ◌+◌, ◌++◌, ◌<◌, ℕ, List, [], ◌∷◌, Bool, true, false, length, refl, sym, ap, ◌∙◌, append-nil, get_or, subst, inl, inr, replicate}
-use Rattle.std.specs.Prelude.{nat_eq, nat_lt}
-use Rattle.std.specs.List.{list_any}
-use Rattle.std.proofs.lemmas.Bool.{cases_eq, eq-eqb, ne_eqb}
+-- What came of the groups, with a frame or a message more.
+use Rattle.std.proofs.Common.{◌≡◌, ◌≢◌, ◌==◌, ◌||◌, ◌+◌, ◌-◌, ◌*◌, ◌/◌, ◌%◌, ◌++◌, ◌<◌, ◌^◌, ℕ, List, [], ◌∷◌, Bool, true, false, length, map, refl, sym, ap, ap₂, ◌∙◌, append-nil, append_assoc, get_or, subst, inl, inr, replicate, Option, None, Some, arith}
+use Rattle.std.specs.Prelude.{count_by, fold, max, min, nat_eq, nat_lt, option_map, if◌then◌else◌}
+use Rattle.std.specs.List.{flat_map, list_any, sum_by}
+use Rattle.std.proofs.lemmas.Bool.{cases_eq, eq-eqb, ltb-false, ne_eqb}
 use Rattle.std.proofs.Math.ListN.{set}
-use Rattle.std.proofs.lemmas.List.{get_or-replicate, get_or-set_same, get_or-set_other, length-replicate}
-use Rattle.std.proofs.lemmas.List.Elements.{filter-append, filter_map-append}
+use Rattle.std.proofs.lemmas.Grind.{flat_map-append}
+use Rattle.std.proofs.lemmas.List.{get_or-replicate, get_or-set_same, get_or-set_other, length-replicate, length-set, map-append}
+use Rattle.std.proofs.lemmas.List.Elements.{filter-append}
 use Rattle.std.proofs.lemmas.List.Folds.{list_any-append}
+use Rattle.std.proofs.lemmas.List.Sums.{fold-append, sum_by-append}
+use Rattle.j39_memory.specs.ByGroup.{values_of}
 use Rattle.j39_frame.specs.Frame.{FrameRecord}
 use Rattle.j39_frame.specs.Groups.{IsHeardGroup, place_of_group}
 use Rattle.j39_frame.specs.Identifier.{pgn_of, source_of}
 use Rattle.j39_frame.proofs.GroupLemmas.{heard}
+use Rattle.j39_transport.specs.Announced.{announced_by}
 use Rattle.j39_listen.specs.Counting.{capped}
+use Rattle.j39_listen.specs.Heard.{Hearing, or_none}
+use Rattle.j39_reports.specs.CameSoFar.{at_group, at_named, group_heard, with_announced, with_own, with_whole}
 use Rattle.j39_reports.specs.Firsts.{firsts}
-use Rattle.j39_reports.specs.GroupCounts.{GroupRecord, controllers_in, of_sources, source_in, sources_of}
-use Rattle.j39_reports.specs.SurveyModels.{HasCounted, group_record, has_address}
+use Rattle.j39_reports.specs.GroupCounts.{Came, Spread, announces, came_in, came_with, controllers_in, distances_behind, distances_in, group_named, is_named, is_of, nothing, one_where, senders_in, spread_of}
+use Rattle.j39_reports.specs.Interfaces.{last_behind}
+use Rattle.j39_reports.specs.SurveyModels.{HasCounted, HaveCounted, last_in}
 use Rattle.j39_reports.specs.declared.surveys.group_table.GroupCount.{GroupCount}
-use Rattle.j39_reports.proofs.CountLemmas.{capped_more, length_more}
+use Rattle.j39_reports.specs.declared.surveys.group_table.GroupTable.{GroupTable}
+use Rattle.j39_reports.proofs.CountLemmas.{capped_more, capped_sum, count_by-append, length_more}
 use Rattle.j39_reports.proofs.FirstsLemmas.{firsts-new, firsts-old}
 
--- a frame of the group
-pub sources_of-here : (pgn : ℕ) (F : List FrameRecord) (f : FrameRecord) → pgn_of f.id ≡ pgn → sources_of pgn (F ++ f ∷ []) ≡ sources_of pgn F ++ source_of f.id ∷ []
-sources_of-here pgn F f is = filter_map-append (source_in pgn) F (f ∷ []) ∙ rw (eq-eqb (pgn_of f.id) pgn is) refl
+-- ---- addresses
 
--- a frame of another
-pub sources_of-other : (pgn : ℕ) (F : List FrameRecord) (f : FrameRecord) → pgn_of f.id ≢ pgn → sources_of pgn (F ++ f ∷ []) ≡ sources_of pgn F
-sources_of-other pgn F f other = filter_map-append (source_in pgn) F (f ∷ []) ∙ rw (ne_eqb (pgn_of f.id) pgn other) (append-nil (sources_of pgn F))
-
--- one address more
 pub controllers-more : (sources : List ℕ) (x : ℕ) → nat_lt x 254 ≡ true → controllers_in (sources ++ x ∷ []) ≡ controllers_in sources ++ x ∷ []
 controllers-more sources x can = filter-append (λ a. nat_lt a 254) sources (x ∷ []) ∙ rw can refl
 
@@ -35,35 +36,21 @@ pub controllers-same : (sources : List ℕ) (x : ℕ) → nat_lt x 254 ≡ false
 controllers-same sources x cannot = filter-append (λ a. nat_lt a 254) sources (x ∷ []) ∙ rw cannot (append-nil (controllers_in sources))
 
 -- one frame more, of a controller that is new, of one that is not, or of none
-pub counts-new : (sources : List ℕ) (x : ℕ) (g : GroupRecord) (frames addresses : ℕ) → g ≡ of_sources sources → nat_lt x 254 ≡ true
-    → list_any (λ y. x == y) (controllers_in sources) ≡ false
-    → frames ≡ capped (g.frames + 1) → addresses ≡ capped (g.addresses + 1)
-    → (let r : GroupRecord = record { frames = frames; addresses = addresses } in r) ≡ of_sources (sources ++ x ∷ [])
-counts-new sources x g frames addresses is can new f a =
-    let f' = f ∙ capped_more g.frames (length sources) (ap (λ (r : GroupRecord). r.frames) is) ∙ ap capped (sym (length_more sources x)) in
+pub senders-new : (sources : List ℕ) (x n m : ℕ) → n ≡ senders_in sources → nat_lt x 254 ≡ true
+    → list_any (λ y. x == y) (controllers_in sources) ≡ false → m ≡ capped (n + 1) → m ≡ senders_in (sources ++ x ∷ [])
+senders-new sources x n m is can new more =
     let known = controllers_in sources in
-    let a' = a ∙ capped_more g.addresses (length (firsts nat_eq known)) (ap (λ (r : GroupRecord). r.addresses) is)
-    ∙ ap capped (sym (ap (λ xs. length (firsts nat_eq xs)) (controllers-more sources x can) ∙ ap length (firsts-new nat_eq known x new) ∙ length_more (firsts nat_eq known) x)) in
-    λ i. record { frames = f' i; addresses = a' i }
+    more ∙ capped_more n (length (firsts nat_eq known)) is
+    ∙ ap capped (sym (ap (λ xs. length (firsts nat_eq xs)) (controllers-more sources x can) ∙ ap length (firsts-new nat_eq known x new) ∙ length_more (firsts nat_eq known) x))
 
-pub counts-old : (sources : List ℕ) (x : ℕ) (g : GroupRecord) (frames : ℕ) → g ≡ of_sources sources → nat_lt x 254 ≡ true
-    → list_any (λ y. x == y) (controllers_in sources) ≡ true
-    → frames ≡ capped (g.frames + 1)
-    → (let r : GroupRecord = record { frames = frames; addresses = g.addresses } in r) ≡ of_sources (sources ++ x ∷ [])
-counts-old sources x g frames is can old f =
-    let f' = f ∙ capped_more g.frames (length sources) (ap (λ (r : GroupRecord). r.frames) is) ∙ ap capped (sym (length_more sources x)) in
+pub senders-old : (sources : List ℕ) (x n : ℕ) → n ≡ senders_in sources → nat_lt x 254 ≡ true
+    → list_any (λ y. x == y) (controllers_in sources) ≡ true → n ≡ senders_in (sources ++ x ∷ [])
+senders-old sources x n is can old =
     let known = controllers_in sources in
-    let a' = ap (λ (r : GroupRecord). r.addresses) is
-    ∙ ap capped (sym (ap (λ xs. length (firsts nat_eq xs)) (controllers-more sources x can) ∙ ap length (firsts-old nat_eq known x old))) in
-    λ i. record { frames = f' i; addresses = a' i }
+    is ∙ ap capped (sym (ap (λ xs. length (firsts nat_eq xs)) (controllers-more sources x can) ∙ ap length (firsts-old nat_eq known x old)))
 
-pub counts-none : (sources : List ℕ) (x : ℕ) (g : GroupRecord) (frames : ℕ) → g ≡ of_sources sources → nat_lt x 254 ≡ false
-    → frames ≡ capped (g.frames + 1)
-    → (let r : GroupRecord = record { frames = frames; addresses = g.addresses } in r) ≡ of_sources (sources ++ x ∷ [])
-counts-none sources x g frames is cannot f =
-    let f' = f ∙ capped_more g.frames (length sources) (ap (λ (r : GroupRecord). r.frames) is) ∙ ap capped (sym (length_more sources x)) in
-    let a' = ap (λ (r : GroupRecord). r.addresses) is ∙ ap (λ xs. capped (length (firsts nat_eq xs))) (sym (controllers-same sources x cannot)) in
-    λ i. record { frames = f' i; addresses = a' i }
+pub senders-none : (sources : List ℕ) (x n : ℕ) → n ≡ senders_in sources → nat_lt x 254 ≡ false → n ≡ senders_in (sources ++ x ∷ [])
+senders-none sources x n is cannot = is ∙ ap (λ xs. capped (length (firsts nat_eq xs))) (sym (controllers-same sources x cannot))
 
 or_swap : (p q : Bool) → (p || q) ≡ (q || (p || false))
 or_swap true true = refl
@@ -78,41 +65,202 @@ heard-more sources x a can =
     or_swap (a == x) (list_any (λ y. a == y) known) ∙ sym (list_any-append (λ y. a == y) known (x ∷ []))
     ∙ ap (list_any (λ y. a == y)) (sym (controllers-more sources x can))
 
--- a group that no identifier can have has no frames
-pub sources_of-unheard : (pgn : ℕ) (F : List FrameRecord) → (IsHeardGroup pgn → ⊥) → sources_of pgn F ≡ []
-sources_of-unheard pgn [] unheard = refl
-sources_of-unheard pgn (f ∷ F) unheard =
-    rw (ne_eqb (pgn_of f.id) pgn (λ is. unheard (subst (λ n. IsHeardGroup n) is (heard f.id)))) (sources_of-unheard pgn F unheard)
+-- ---- distances
 
--- the table, with a frame more of one group: another group's place is another
-pub counted_more : (items : List GroupCount) (count : GroupCount) (at : ℕ) (F : List FrameRecord) (f : FrameRecord)
-    → at ≡ place_of_group (pgn_of f.id) → at < length items
-    → ((other : ℕ) → IsHeardGroup other → place_of_group other ≡ at → other ≡ pgn_of f.id)
-    → ((pgn : ℕ) (d : GroupCount) → IsHeardGroup pgn → HasCounted (get_or items (place_of_group pgn) d) (sources_of pgn F))
-    → HasCounted count (sources_of (pgn_of f.id) F ++ source_of f.id ∷ [])
-    → (pgn : ℕ) (d : GroupCount) → IsHeardGroup pgn
-    → HasCounted (get_or (set items at count) (place_of_group pgn) d) (sources_of pgn (F ++ f ∷ []))
-counted_more items count at F f is within distinct before here = λ pgn d can.
-    elim (cases_eq (place_of_group pgn) at) [
-      | inl same ↦
-          subst (λ n. HasCounted (get_or (set items at count) n d) (sources_of pgn (F ++ f ∷ []))) (sym same)
-          (rw (get_or-set_same items at count d within, sources_of-here pgn F f (sym (distinct pgn can same)))
-          (subst (λ n. HasCounted count (sources_of n F ++ source_of f.id ∷ [])) (sym (distinct pgn can same)) here))
-      | inr other ↦
-          rw (get_or-set_other items at (place_of_group pgn) count d other, sources_of-other pgn F f (λ e. other (sym (is ∙ ap place_of_group e))))
-          (before pgn d can)
+last_behind-more : (x : ℕ) (ys : List ℕ) (y : ℕ) → last_behind x (ys ++ y ∷ []) ≡ y
+last_behind-more x [] y = refl
+last_behind-more x (z ∷ zs) y = last_behind-more z zs y
+
+distances_behind-more : (x : ℕ) (ys : List ℕ) (y : ℕ) → distances_behind x (ys ++ y ∷ []) ≡ distances_behind x ys ++ (y - last_behind x ys) ∷ []
+distances_behind-more x [] y = refl
+distances_behind-more x (z ∷ zs) y = ap (λ ds. (z - x) ∷ ds) (distances_behind-more z zs y)
+
+pub last-more : (xs : List ℕ) (y : ℕ) → last_in (xs ++ y ∷ []) ≡ Some y
+last-more [] y = refl
+last-more (x ∷ xs) y = ap (λ n. Some n) (last_behind-more x xs y)
+
+-- behind a last moment there is one distance more, and else none
+pub distances-more : (xs : List ℕ) (last y : ℕ) → Some last ≡ last_in xs → distances_in (xs ++ y ∷ []) ≡ distances_in xs ++ (y - last) ∷ []
+distances-more [] last y is = cc
+distances-more (x ∷ xs) last y is =
+    let same : last ≡ last_behind x xs = cc in
+    distances_behind-more x xs y ∙ ap (λ n. distances_behind x xs ++ (y - n) ∷ []) (sym same)
+
+pub distances-first : (xs : List ℕ) (y : ℕ) → None ≡ last_in xs → (xs ≡ []) × (distances_in (xs ++ y ∷ []) ≡ [])
+distances-first [] y is = (refl, refl)
+distances-first (x ∷ xs) y is = cc
+
+-- one distance more
+pub spread-more : (ds : List ℕ) (s : Spread) (d count sum least most : ℕ) → Some s ≡ spread_of ds → count ≡ capped (s.count + 1) → sum ≡ capped (s.sum + d)
+    → least ≡ min s.least d → most ≡ max s.most d
+    → (let o : Option Spread = Some (record { count = count; sum = sum; least = least; most = most }) in o) ≡ spread_of (ds ++ d ∷ [])
+spread-more [] s d count sum least most is c t l m = cc
+spread-more (x ∷ xs) s d count sum least most is c t l m =
+    let same : s ≡ record { count = capped (length (x ∷ xs)); sum = capped (sum_by (λ n. n) (x ∷ xs)); least = fold min x xs; most = fold max x xs } = cc in
+    let c' : count ≡ capped (length (x ∷ xs ++ d ∷ [])) =
+    c ∙ capped_more s.count (length (x ∷ xs)) (ap (λ (r : Spread). r.count) same) ∙ ap capped (sym (length_more (x ∷ xs) d)) in
+    let both : sum_by (λ n. n) ((x ∷ xs) ++ d ∷ []) ≡ sum_by (λ n. n) (x ∷ xs) + d =
+    sum_by-append (λ n. n) (x ∷ xs) (d ∷ []) ∙ omega arith in
+    let t' : sum ≡ capped (sum_by (λ n. n) (x ∷ xs ++ d ∷ [])) =
+    t ∙ capped_sum s.sum (sum_by (λ n. n) (x ∷ xs)) d (ap (λ (r : Spread). r.sum) same) ∙ ap capped (sym both) in
+    let l' : least ≡ fold min x (xs ++ d ∷ []) = l ∙ ap (λ (r : Spread). min r.least d) same ∙ sym (fold-append min x xs (d ∷ [])) in
+    let m' : most ≡ fold max x (xs ++ d ∷ []) = m ∙ ap (λ (r : Spread). max r.most d) same ∙ sym (fold-append max x xs (d ∷ [])) in
+    λ i. Some (record { count = c' i; sum = t' i; least = l' i; most = m' i })
+
+pub no_spread : (ds : List ℕ) → None ≡ spread_of ds → ds ≡ []
+no_spread [] is = refl
+no_spread (d ∷ ds) is = cc
+
+-- ---- what came of a group
+
+pub came_same : (a b : Came) → a.frames ≡ b.frames → a.own ≡ b.own → a.announced ≡ b.announced → a.whole ≡ b.whole → a ≡ b
+came_same a b f o n w = λ i. record { frames = f i; own = o i; announced = n i; whole = w i }
+
+abbrev one : Bool → ℕ
+one b = if b then 1 else 0
+
+count_one : {X : Type 0} (p : X → Bool) (x : X) → count_by p (x ∷ []) ≡ one (p x)
+count_one p x =
+    elim (p x) as (λ b. p x ≡ b → count_by p (x ∷ []) ≡ one b) [
+      | true ↦ λ e. rw e refl
+      | false ↦ λ e. rw e refl
+    ] refl
+
+-- a step of a group that the frame is of, that it announces, or that is heard at it, and else none
+abbrev step : Bool → (Came → Came) → Came → Came
+step b change c = if b then change c else c
+
+steps : (f : FrameRecord) (a b w : Bool) (c d : Came) → d.frames ≡ c.frames ++ (one_where a f ++ one_where b f) → d.own ≡ c.own + one a
+    → d.announced ≡ c.announced + one b → d.whole ≡ c.whole + one w → step w with_whole (step b (with_announced f) (step a (with_own f) c)) ≡ d
+steps f true true true c d fr o n h = came_same _ _ (append_assoc c.frames (f ∷ []) (f ∷ []) ∙ sym fr) (sym o) (sym n) (sym h)
+steps f true true false c d fr o n h = came_same _ _ (append_assoc c.frames (f ∷ []) (f ∷ []) ∙ sym fr) (sym o) (sym n) (omega (arith, h))
+steps f true false true c d fr o n h = came_same _ _ (sym fr) (sym o) (omega (arith, n)) (sym h)
+steps f true false false c d fr o n h = came_same _ _ (sym fr) (sym o) (omega (arith, n)) (omega (arith, h))
+steps f false true true c d fr o n h = came_same _ _ (sym fr) (omega (arith, o)) (sym n) (sym h)
+steps f false true false c d fr o n h = came_same _ _ (sym fr) (omega (arith, o)) (sym n) (omega (arith, h))
+steps f false false true c d fr o n h = came_same _ _ (sym (fr ∙ append-nil c.frames)) (omega (arith, o)) (omega (arith, n)) (sym h)
+steps f false false false c d fr o n h = came_same _ _ (sym (fr ∙ append-nil c.frames)) (omega (arith, o)) (omega (arith, n)) (omega (arith, h))
+
+heard_of : ℕ → Hearing → Bool
+heard_of pgn h = group_named h.message.pgn == pgn
+
+one_heard : (pgn : ℕ) (o : Option Hearing) → count_by (λ (h : Hearing). group_named h.message.pgn == pgn) (or_none o) ≡ one (is_named pgn (group_heard o))
+one_heard pgn None = refl
+one_heard pgn (Some h) = count_one (λ (h : Hearing). group_named h.message.pgn == pgn) h
+
+-- a frame more, and what is heard at it
+came_more : (F : List FrameRecord) (hs : List Hearing) (f : FrameRecord) (o : Option Hearing) (pgn : ℕ)
+    → step (is_named pgn (group_heard o)) with_whole (step (announces pgn f) (with_announced f) (step (is_of pgn f) (with_own f) (came_in F hs pgn)))
+    ≡ came_in (F ++ f ∷ []) (hs ++ or_none o) pgn
+came_more F hs f o pgn =
+    steps f (is_of pgn f) (announces pgn f) (is_named pgn (group_heard o)) (came_in F hs pgn) (came_in (F ++ f ∷ []) (hs ++ or_none o) pgn)
+    (flat_map-append (came_with pgn) F (f ∷ []) ∙ ap (λ t. flat_map (came_with pgn) F ++ t) (append-nil (came_with pgn f)))
+    (count_by-append (is_of pgn) F (f ∷ []) ∙ ap (λ n. count_by (is_of pgn) F + n) (count_one (is_of pgn) f))
+    (count_by-append (announces pgn) F (f ∷ []) ∙ ap (λ n. count_by (announces pgn) F + n) (count_one (announces pgn) f))
+    (count_by-append (λ (h : Hearing). group_named h.message.pgn == pgn) hs (or_none o)
+    ∙ ap (λ n. count_by (λ (h : Hearing). group_named h.message.pgn == pgn) hs + n) (one_heard pgn o))
+
+-- ---- the table
+
+same_came : (table : GroupTable) (came later : ℕ → Came) → ((pgn : ℕ) → came pgn ≡ later pgn) → HaveCounted table came → HaveCounted table later
+same_came table came later same h = record {
+  all = h.all;
+  each = λ pgn d can. subst (λ c. HasCounted (get_or (values_of table.counts) (place_of_group pgn) d) c) (same pgn) (h.each pgn d can);
+}
+
+swap_eq : (a b : ℕ) → (a == b) ≡ (b == a)
+swap_eq a b =
+    elim (cases_eq a b) [
+      | inl same ↦ eq-eqb a b same ∙ sym (eq-eqb b a (sym same))
+      | inr other ↦ ne_eqb a b other ∙ sym (ne_eqb b a (λ e. other (sym e)))
     ]
 
--- nothing was counted of no frames
-pub counted_none : (count : GroupCount) → group_record count ≡ record { frames = 0; addresses = 0 } → ((a : ℕ) → has_address count.heard a ≡ false) → HasCounted count []
-unfolding firsts
-counted_none count zero none = record { counts_are = zero; heard_are = none }
+-- after the three steps of a frame
+pub counted_frame : (table : GroupTable) (F : List FrameRecord) (hs : List Hearing) (f : FrameRecord) (o : Option Hearing)
+    → HaveCounted table (at_named (group_heard o) with_whole (at_named (announced_by f) (with_announced f) (at_group (pgn_of f.id) (with_own f) (came_in F hs))))
+    → HaveCounted table (came_in (F ++ f ∷ []) (hs ++ or_none o))
+counted_frame table F hs f o h = same_came table _ _ (λ pgn. each pgn (announced_by f) (group_heard o) refl refl) h
+  where
+    named : (pgn : ℕ) (n : Option ℕ) (change : Came → Came) (came : ℕ → Came) → at_named n change came pgn ≡ step (is_named pgn n) change (came pgn)
+    named pgn None change came = refl
+    named pgn (Some n) change came = ap (λ b. step b change (came pgn)) (swap_eq pgn (group_named n))
 
--- so it is of each group at the start
-pub counted_start : (items : List GroupCount) (n at : ℕ) (count d : GroupCount) → items ≡ replicate n count → HasCounted count []
-    → at < n → HasCounted (get_or items at d) []
+    each : (pgn : ℕ) (n m : Option ℕ) → announced_by f ≡ n → group_heard o ≡ m
+        → at_named m with_whole (at_named n (with_announced f) (at_group (pgn_of f.id) (with_own f) (came_in F hs))) pgn ≡ came_in (F ++ f ∷ []) (hs ++ or_none o) pgn
+    each pgn n m is heard_is =
+        named pgn m with_whole (at_named n (with_announced f) (at_group (pgn_of f.id) (with_own f) (came_in F hs)))
+        ∙ ap (λ c. step (is_named pgn m) with_whole c) (named pgn n (with_announced f) (at_group (pgn_of f.id) (with_own f) (came_in F hs))
+        ∙ ap (λ c. step (is_named pgn n) (with_announced f) c) (ap (λ b. step b (with_own f) (came_in F hs pgn)) (swap_eq pgn (pgn_of f.id))))
+        ∙ ap (λ k. step (is_named pgn k) with_whole (step (is_named pgn n) (with_announced f) (step (is_of pgn f) (with_own f) (came_in F hs pgn)))) (sym heard_is)
+        ∙ ap (λ k. step (is_named pgn (group_heard o)) with_whole (step (is_named pgn k) (with_announced f) (step (is_of pgn f) (with_own f) (came_in F hs pgn)))) (sym is)
+        ∙ came_more F hs f o pgn
+
+-- the table, with a change of one group: another group's place is another
+pub counted_change : (old new : GroupTable) (group at : ℕ) (count : GroupCount) (change : Came → Came) (came : ℕ → Came) → IsHeardGroup group
+    → at ≡ place_of_group group → at < 17344 → ((other : ℕ) → IsHeardGroup other → place_of_group other ≡ at → other ≡ group)
+    → values_of new.counts ≡ set (values_of old.counts) at count
+    → ((c : Came) → HasCounted (get_or (values_of old.counts) at count) c → HasCounted count (change c))
+    → HaveCounted old came → HaveCounted new (at_group group change came)
+counted_change old new group at count change came can is within distinct changed changes h = record {
+  all = ap length changed ∙ length-set items at count ∙ h.all;
+  each = λ pgn d heard. subst (λ xs. HasCounted (get_or xs (place_of_group pgn) d) (at_group group change came pgn)) (sym changed) (each pgn d heard);
+}
+  where
+    items : List GroupCount
+    items = values_of old.counts
+
+    inside : at < length items
+    inside = omega (arith, h.all, within)
+
+    here : HasCounted count (change (came group))
+    here = changes (came group) (subst (λ n. HasCounted (get_or items n count) (came group)) (sym is) (h.each group count can))
+
+    each : (pgn : ℕ) (d : GroupCount) → IsHeardGroup pgn → HasCounted (get_or (set items at count) (place_of_group pgn) d) (at_group group change came pgn)
+    each pgn d heard =
+        elim (cases_eq (place_of_group pgn) at) [
+          | inl same ↦
+              let it : pgn ≡ group = distinct pgn heard same in
+              rw (same, get_or-set_same items at count d inside, eq-eqb pgn group it, it) here
+          | inr other ↦
+              rw (get_or-set_other items at (place_of_group pgn) count d other, ne_eqb pgn group (λ e. other (ap place_of_group e ∙ sym is))) (h.each pgn d heard)
+        ]
+
+-- nothing came of a group at the start
+pub counted_start : (items : List GroupCount) (n at : ℕ) (count d : GroupCount) → items ≡ replicate n count → HasCounted count nothing
+    → at < n → HasCounted (get_or items at d) nothing
 counted_start items n at count d is none below =
-    subst (λ x. HasCounted x []) (sym (ap (λ xs. get_or xs at d) is ∙ get_or-replicate n at count d below)) none
+    subst (λ x. HasCounted x nothing) (sym (ap (λ xs. get_or xs at d) is ∙ get_or-replicate n at count d below)) none
 
 pub length_start : (items : List GroupCount) (n : ℕ) (count : GroupCount) → items ≡ replicate n count → length items ≡ n
 length_start items n count is = ap length is ∙ length-replicate n count
+
+pub counted_none : (table : GroupTable) → HaveCounted table (λ pgn. nothing) → HaveCounted table (came_in [] [])
+counted_none table h = h
+
+-- ---- groups that no identifier can have
+
+-- what a number of 18 bits names, and whatever is named of 18 bits, can be had
+named_as : (n pgn : ℕ) → pgn < 262144 → group_named n ≡ pgn → IsHeardGroup pgn
+named_as n pgn below is =
+    elim (nat_lt (n / 256 % 256) 240) as (λ b. nat_lt (n / 256 % 256) 240 ≡ b → (if b then n / 256 * 256 else n) ≡ pgn → IsHeardGroup pgn) [
+      | true ↦ λ e it. (below, (λ directed. omega (arith, it)))
+      | false ↦ λ e it. (below, (λ directed. absurd (omega (arith, ltb-false (n / 256 % 256) 240 e, it, directed))))
+    ] refl is
+
+pub named_heard : (n : ℕ) → n < 2 ^ 18 → IsHeardGroup (group_named n)
+named_heard n below = named_as n (group_named n) (lower (nat_lt (n / 256 % 256) 240)) refl
+  where
+    lower : (b : Bool) → (if b then n / 256 * 256 else n) < 262144
+    lower true = omega (arith, below)
+    lower false = omega (arith, below)
+
+-- so nothing comes of any other
+pub came_none : (pgn : ℕ) (F : List FrameRecord) → pgn < 262144 → (IsHeardGroup pgn → ⊥) → flat_map (came_with pgn) F ≡ []
+came_none pgn [] below unheard = refl
+came_none pgn (f ∷ F) below unheard =
+    let own : is_of pgn f ≡ false = ne_eqb (pgn_of f.id) pgn (λ is. unheard (subst (λ n. IsHeardGroup n) is (heard f.id))) in
+    rw (own, none (announced_by f)) (came_none pgn F below unheard)
+  where
+    none : (n : Option ℕ) → is_named pgn n ≡ false
+    none None = refl
+    none (Some n) = ne_eqb (group_named n) pgn (λ e. unheard (named_as n pgn below e))

@@ -1,6 +1,6 @@
 -- A survey, written.
 use Rattle.std.proofs.Common.{◌≡◌, ◌+◌, ◌++◌, ◌<◌, ◌≤◌, ◌-◌, ◌*◌, ◌%◌, ℕ, zero, suc, Bool, List, [], ◌∷◌, get_or, length, map, refl, take, sym, ap, ◌∙◌, append-nil, append_assoc, arith, ◌≢◌}
-use Rattle.std.specs.Prelude.{codes, decimal, IsErr, Result, Ok, Err}
+use Rattle.std.specs.Prelude.{IsErr, Option, Result, Ok, Err}
 use Rattle.std.specs.List.{flat_map}
 use Rattle.std.specs.Io.KnownBytes.{Keeps}
 use Rattle.std.proofs.lemmas.List.Folds.{flat_map-map}
@@ -12,14 +12,15 @@ use Rattle.j39_io.proofs.PutsLemmas.{puts_as, puts_done, puts_first, puts_nothin
 use Rattle.j39_frame.specs.Frame.{FrameRecord}
 use Rattle.j39_frame.specs.Groups.{IsHeardGroup}
 use Rattle.j39_groups.specs.Row.{RowRecord}
-use Rattle.j39_reports.specs.GroupCounts.{GroupRecord, group_of}
+use Rattle.j39_listen.specs.Heard.{Hearing}
+use Rattle.j39_reports.specs.GroupCounts.{Came, GroupRecord, came_in, group_of}
 use Rattle.j39_groups.specs.Names.{group_name_in}
 use Rattle.j39_io.specs.Chars.{newline}
 use Rattle.j39_reports.specs.LogLines.{LogLine, others_in, seen_in, unread_in}
-use Rattle.j39_reports.proofs.GroupLemmas.{sources_of-unheard}
+use Rattle.j39_reports.proofs.GroupLemmas.{came_none}
 use Rattle.j39_reports.specs.SurveyModels.{HasSurveyed, interface_record, others_record, shown_record}
 use Rattle.j39_reports.specs.UnreadLines.{is_printed_log, shown_in}
-use Rattle.j39_reports.specs.SurveyText.{class_text, group_line, group_text, groups_end, groups_from, groups_text, name_text, survey_end, survey_head}
+use Rattle.j39_reports.specs.SurveyText.{class_text, counts_text, group_line, group_text, groups_end, groups_from, groups_text, name_text, spread_text, survey_end, survey_head}
 use Rattle.j39_listen.specs.Counting.{capped}
 use Rattle.j39_reports.specs.Interfaces.{interfaces_of, untold_in}
 use Rattle.j39_reports.specs.OtherLines.{others_of}
@@ -27,12 +28,12 @@ use Rattle.j39_reports.specs.declared.surveys.log_survey.Survey.{Survey}
 
 -- ---- the groups
 
-module _ (table : List RowRecord) (F : List FrameRecord) where
-  pub groups_none : (first : ℕ) (d : Device) → Puts {T = Unit} {E = Unit} (groups_from table F first 0) (Ok tt) (record { old = d; new = d })
+module _ (table : List RowRecord) (came : ℕ → Came) where
+  pub groups_none : (first : ℕ) (d : Device) → Puts {T = Unit} {E = Unit} (groups_from table came first 0) (Ok tt) (record { old = d; new = d })
   unfolding groups_from
   groups_none first d = puts_nothing tt d
 
-  pub groups_one : (first : ℕ) → group_text table first (group_of F first) ≡ groups_from table F first 1
+  pub groups_one : (first : ℕ) → group_text table first (group_of (came first)) ≡ groups_from table came first 1
   unfolding groups_from
   groups_one first = rw (plus_zero) refl
     where
@@ -40,80 +41,82 @@ module _ (table : List RowRecord) (F : List FrameRecord) where
       plus_zero = omega arith
 
   -- n groups, and k more behind them
-  groups_joined : (first n k : ℕ) → groups_from table F first (k + n) ≡ groups_from table F first n ++ groups_from table F (first + n) k
+  groups_joined : (first n k : ℕ) → groups_from table came first (k + n) ≡ groups_from table came first n ++ groups_from table came (first + n) k
   unfolding groups_from
-  groups_joined first n zero = ap (groups_from table F first) zero_plus ∙ sym (append-nil (groups_from table F first n))
+  groups_joined first n zero = ap (groups_from table came first) zero_plus ∙ sym (append-nil (groups_from table came first n))
     where
       zero_plus : 0 + n ≡ n
       zero_plus = omega arith
   groups_joined first n (suc k) =
       let next : suc k + n ≡ suc (k + n) = omega arith in
       let there : first + (k + n) ≡ first + n + k = omega arith in
-      ap (groups_from table F first) next
-      ∙ ap (λ t. t ++ group_text table (first + (k + n)) (group_of F (first + (k + n)))) (groups_joined first n k)
-      ∙ ap (λ at. (groups_from table F first n ++ groups_from table F (first + n) k) ++ group_text table at (group_of F at)) there
-      ∙ append_assoc (groups_from table F first n) (groups_from table F (first + n) k) (group_text table (first + n + k) (group_of F (first + n + k)))
+      ap (groups_from table came first) next
+      ∙ ap (λ t. t ++ group_text table (first + (k + n)) (group_of (came (first + (k + n))))) (groups_joined first n k)
+      ∙ ap (λ at. (groups_from table came first n ++ groups_from table came (first + n) k) ++ group_text table at (group_of (came at))) there
+      ∙ append_assoc (groups_from table came first n) (groups_from table came (first + n) k) (group_text table (first + n + k) (group_of (came (first + n + k))))
 
   pub groups_more : {E : Type 0} (first n at k m : ℕ) (old mid new : Device) → at ≡ first + n → m ≡ n + k
-      → Puts {T = Unit} {E = Unit} (groups_from table F first n) (Ok tt) (record { old = old; new = mid })
-      → Puts {T = Unit} {E = E} (groups_from table F at k) (Ok tt) (record { old = mid; new = new })
-      → Puts {T = Unit} {E = Unit} (groups_from table F first m) (Ok tt) (record { old = old; new = new })
+      → Puts {T = Unit} {E = Unit} (groups_from table came first n) (Ok tt) (record { old = old; new = mid })
+      → Puts {T = Unit} {E = E} (groups_from table came at k) (Ok tt) (record { old = mid; new = new })
+      → Puts {T = Unit} {E = Unit} (groups_from table came first m) (Ok tt) (record { old = old; new = new })
   groups_more first n at k m old mid new is size before here =
       let all : k + n ≡ m = omega (arith, size) in
-      puts_as _ _ _ _ (sym (groups_joined first n k) ∙ ap (groups_from table F first) all)
-      (puts_then _ _ tt (Ok tt) old mid new before (puts_done _ tt tt _ (puts_as _ _ _ _ (ap (λ n. groups_from table F n k) is) here)))
+      puts_as _ _ _ _ (sym (groups_joined first n k) ∙ ap (groups_from table came first) all)
+      (puts_then _ _ tt (Ok tt) old mid new before (puts_done _ tt tt _ (puts_as _ _ _ _ (ap (λ n. groups_from table came n k) is) here)))
 
   -- a fault in the lines of k groups behind n, of m in all
   pub groups_stop : {T U E F' : Type 0} (first n at k m : ℕ) (e : E) (last : Result U F') (old mid new : Device) → at ≡ first + n → n + k ≤ m → IsErr last
-      → Puts {T = Unit} {E = Unit} (groups_from table F first n) (Ok tt) (record { old = old; new = mid })
-      → Puts {T = T} (groups_from table F at k) (Err e) (record { old = mid; new = new })
-      → Puts (groups_from table F first m) last (record { old = old; new = new })
+      → Puts {T = Unit} {E = Unit} (groups_from table came first n) (Ok tt) (record { old = old; new = mid })
+      → Puts {T = T} (groups_from table came at k) (Err e) (record { old = mid; new = new })
+      → Puts (groups_from table came first m) last (record { old = old; new = new })
   groups_stop {T = T} first n at k m e last old mid new is within failed before here =
       let rest = m - (n + k) in
       let all : rest + (k + n) ≡ m = omega (arith, within) in
-      puts_as _ _ _ _ (sym (groups_joined first (k + n) rest) ∙ ap (groups_from table F first) all)
-      (puts_first {T = T} (groups_from table F first (k + n)) _ e last _ failed
+      puts_as _ _ _ _ (sym (groups_joined first (k + n) rest) ∙ ap (groups_from table came first) all)
+      (puts_first {T = T} (groups_from table came first (k + n)) _ e last _ failed
       (puts_as _ _ _ _ (sym (groups_joined first n k))
-      (puts_then (groups_from table F first n) (groups_from table F (first + n) k) tt (Err e) old mid new before
-      (puts_as _ _ _ _ (ap (λ n. groups_from table F n k) is) here))))
+      (puts_then (groups_from table came first n) (groups_from table came (first + n) k) tt (Err e) old mid new before
+      (puts_as _ _ _ _ (ap (λ n. groups_from table came n k) is) here))))
 
-  -- groups that no identifier can have have no lines
-  unheard_text : (pgn : ℕ) → (IsHeardGroup pgn → ⊥) → group_text table pgn (group_of F pgn) ≡ []
+  pub groups_all : {T E : Type 0} (n : ℕ) (result : Result T E) (sink : Turn) → n ≡ 262144 → Puts (groups_from table came 0 n) result sink → Puts (groups_text table came) result sink
+  unfolding groups_end
+  groups_all n result sink is written = puts_as _ _ _ _ (ap (groups_from table came 0) is) written
+
+-- groups that no identifier can have have no lines
+module _ (table : List RowRecord) (F : List FrameRecord) (heard : List Hearing) where
+  unheard_text : (pgn : ℕ) → pgn < 262144 → (IsHeardGroup pgn → ⊥) → group_text table pgn (group_of (came_in F heard pgn)) ≡ []
   unfolding group_text group_of
-  unheard_text pgn unheard = rw (sources_of-unheard pgn F unheard) refl
+  unheard_text pgn below unheard = rw (came_none pgn F below unheard) refl
 
-  unheard_texts : (first n : ℕ) → ((k : ℕ) → k < n → IsHeardGroup (first + k) → ⊥) → groups_from table F first n ≡ []
+  unheard_texts : (first n : ℕ) → first + n ≤ 262144 → ((k : ℕ) → k < n → IsHeardGroup (first + k) → ⊥) → groups_from table (came_in F heard) first n ≡ []
   unfolding groups_from
-  unheard_texts first zero unheard = refl
-  unheard_texts first (suc n) unheard =
-      ap (λ t. t ++ group_text table (first + n) (group_of F (first + n))) (unheard_texts first n (λ k below. unheard k (omega (arith, below))))
-      ∙ unheard_text (first + n) (unheard n (omega arith))
+  unheard_texts first zero below unheard = refl
+  unheard_texts first (suc n) below unheard =
+      ap (λ t. t ++ group_text table (first + n) (group_of (came_in F heard (first + n)))) (unheard_texts first n (omega (arith, below)) (λ k less. unheard k (omega (arith, less))))
+      ∙ unheard_text (first + n) (omega (arith, below)) (unheard n (omega arith))
 
   -- of the groups of one PF below 240 only the first has a line
-  pub groups_directed : (front : ℕ) → front % 256 < 240 → group_text table (front * 256) (group_of F (front * 256)) ≡ groups_from table F (front * 256) 256
-  groups_directed front low =
-      groups_one (front * 256)
-      ∙ sym (append-nil (groups_from table F (front * 256) 1))
-      ∙ ap (λ t. groups_from table F (front * 256) 1 ++ t) (sym (unheard_texts (front * 256 + 1) 255 (λ k below can. omega (arith, can.1 (omega (arith, low, below)), below))))
-      ∙ sym (groups_joined (front * 256) 1 255)
-
-  pub groups_all : {T E : Type 0} (n : ℕ) (result : Result T E) (sink : Turn) → n ≡ 262144 → Puts (groups_from table F 0 n) result sink → Puts (groups_text table F) result sink
-  unfolding groups_end
-  groups_all n result sink is written = puts_as _ _ _ _ (ap (groups_from table F 0) is) written
+  pub groups_directed : (front : ℕ) → front < 1024 → front % 256 < 240
+      → group_text table (front * 256) (group_of (came_in F heard (front * 256))) ≡ groups_from table (came_in F heard) (front * 256) 256
+  groups_directed front within low =
+      let came = came_in F heard in
+      groups_one table came (front * 256)
+      ∙ sym (append-nil (groups_from table came (front * 256) 1))
+      ∙ ap (λ t. groups_from table came (front * 256) 1 ++ t)
+      (sym (unheard_texts (front * 256 + 1) 255 (omega (arith, within)) (λ k below can. omega (arith, can.1 (omega (arith, low, below)), below))))
+      ∙ sym (groups_joined table came (front * 256) 1 255)
 
 -- ---- the line of a group
 
-abbrev pub head_text : ℕ → ℕ → ℕ → List ℕ
-head_text pgn frames addresses = codes "group " ++ decimal pgn ++ codes " frames " ++ decimal frames ++ codes " addresses " ++ decimal addresses
-
 -- the parts that are joined
-pub group_joined : (table : List RowRecord) (pgn frames addresses : ℕ) (head class space name : List ℕ) → head ≡ head_text pgn frames addresses
-    → class ≡ class_text table pgn → space ++ name ≡ name_text (group_name_in table pgn)
-    → head ++ (class ++ (space ++ (name ++ (newline ∷ [])))) ≡ group_line table pgn (record { frames = frames; addresses = addresses })
-group_joined table pgn frames addresses head class space name head_is class_is name_is =
-    ap (λ t. t ++ (class ++ (space ++ (name ++ (newline ∷ []))))) head_is
-    ∙ ap (λ t. head_text pgn frames addresses ++ (t ++ (space ++ (name ++ (newline ∷ []))))) class_is
-    ∙ ap (λ t. head_text pgn frames addresses ++ (class_text table pgn ++ t)) (sym (append_assoc space name (newline ∷ [])) ∙ ap (λ t. t ++ (newline ∷ [])) name_is)
+pub group_joined : (table : List RowRecord) (pgn : ℕ) (group : GroupRecord) (head spread class space name : List ℕ) → head ≡ counts_text pgn group
+    → spread ≡ spread_text group.spread → class ≡ class_text table pgn → space ++ name ≡ name_text (group_name_in table pgn)
+    → head ++ (spread ++ (class ++ (space ++ (name ++ (newline ∷ []))))) ≡ group_line table pgn group
+group_joined table pgn group head spread class space name head_is spread_is class_is name_is =
+    ap (λ t. t ++ (spread ++ (class ++ (space ++ (name ++ (newline ∷ [])))))) head_is
+    ∙ ap (λ t. counts_text pgn group ++ (t ++ (class ++ (space ++ (name ++ (newline ∷ [])))))) spread_is
+    ∙ ap (λ t. counts_text pgn group ++ (spread_text group.spread ++ (t ++ (space ++ (name ++ (newline ∷ [])))))) class_is
+    ∙ ap (λ t. counts_text pgn group ++ (spread_text group.spread ++ (class_text table pgn ++ t))) (sym (append_assoc space name (newline ∷ [])) ∙ ap (λ t. t ++ (newline ∷ [])) name_is)
 
 -- ---- the whole
 
@@ -140,18 +143,18 @@ line_stops {T = T} shown xs i x line e last old mid new below is line_is failed 
 pub each_line : {X Y : Type 0} (line : Y → List ℕ) (shown : X → Y) (slice items : List X) → slice ≡ items → flat_map (λ x. line (shown x)) slice ≡ flat_map line (map shown items)
 each_line line shown slice items is = ap (flat_map (λ x. line (shown x))) is ∙ sym (flat_map-map line shown items)
 
-pub head_is : (survey : Survey) (lines : List LogLine) → HasSurveyed survey lines
+pub head_is : (survey : Survey) (given : Option (List ℕ)) (lines : List LogLine) → HasSurveyed survey given lines
     → survey_head survey.lines (map interface_record survey.interfaces.told.items) survey.interfaces.untold
     ≡ survey_head (capped (length lines)) (interfaces_of (seen_in lines)) (capped (untold_in (seen_in lines)))
-head_is survey lines h =
+head_is survey given lines h =
     ap (λ n. survey_head n (map interface_record survey.interfaces.told.items) survey.interfaces.untold) h.lines_are
     ∙ ap (λ told. survey_head (capped (length lines)) told survey.interfaces.untold) h.interfaces_are.told_are
     ∙ ap (survey_head (capped (length lines)) (interfaces_of (seen_in lines))) h.interfaces_are.untold_is
 
-pub end_is : (survey : Survey) (lines : List LogLine) (is_printed : Bool) → HasSurveyed survey lines → is_printed ≡ is_printed_log lines
+pub end_is : (survey : Survey) (given : Option (List ℕ)) (lines : List LogLine) (is_printed : Bool) → HasSurveyed survey given lines → is_printed ≡ is_printed_log lines
     → survey_end (others_record survey.others) survey.unread.count (map shown_record survey.unread.first.items) is_printed
     ≡ survey_end (others_of (others_in lines)) (capped (length (unread_in lines))) (shown_in (unread_in lines)) (is_printed_log lines)
-end_is survey lines is_printed h printed =
+end_is survey given lines is_printed h printed =
     ap (λ others. survey_end others survey.unread.count (map shown_record survey.unread.first.items) is_printed) h.others_are
     ∙ ap (λ n. survey_end (others_of (others_in lines)) n (map shown_record survey.unread.first.items) is_printed) h.unread_are.count_is
     ∙ ap (λ first. survey_end (others_of (others_in lines)) (capped (length (unread_in lines))) first is_printed) h.unread_are.first_are

@@ -1,37 +1,120 @@
--- The groups of a log: the frames of each, and how many addresses they come from (J1939-21, 5.2).
-use Rattle.std.specs.Prelude.{◌==◌, ◌||◌, ℕ, List, Bool, Option, Some, None, filter, length, nat_eq, nat_lt, if◌then◌else◌}
-use Rattle.std.specs.List.{filter_map}
+-- What came of each group: its frames, its messages in packets that were announced and came whole, from how many addresses, and how
+-- far apart (J1939-21, 5.2 and 5.10).
+use Rattle.std.specs.Prelude.{◌==◌, ◌||◌, ◌-◌, ◌*◌, ◌/◌, ◌%◌, ◌++◌, ◌∷◌, [], ℕ, List, Bool, false, Option, Some, None, count_by, filter, fold, length, map, max, min, nat_eq, nat_lt, if◌then◌else◌}
+use Rattle.std.specs.List.{flat_map, sum_by}
 use Rattle.j39_frame.specs.Frame.{FrameRecord}
 use Rattle.j39_frame.specs.Identifier.{pgn_of, source_of}
 use Rattle.j39_groups.specs.Readings.{is_network_group}
+use Rattle.j39_transport.specs.Announced.{announced_by}
 use Rattle.j39_listen.specs.Counting.{capped}
+use Rattle.j39_listen.specs.Heard.{AreHeardWith, Hearing}
 use Rattle.j39_reports.specs.Firsts.{firsts}
 
--- a group: its frames, and the controllers' addresses that sent them
-pub record GroupRecord : Type 0 where
-  pub frames : ℕ
-  pub addresses : ℕ
+-- ---- what came of a group
 
-abbrev pub source_in : ℕ → FrameRecord → Option ℕ
-source_in pgn f = if pgn_of f.id == pgn then Some (source_of f.id) else None
+abbrev pub is_of : ℕ → FrameRecord → Bool
+is_of pgn f = pgn_of f.id == pgn
 
--- the source address of each frame of a group, in order
-abbrev pub sources_of : ℕ → List FrameRecord → List ℕ
-sources_of pgn frames = filter_map (source_in pgn) frames
+-- the group that a number names: where PF is below 240, PS is a destination and no part of it (J1939-21, 5.2.4)
+abbrev pub group_named : ℕ → ℕ
+group_named n = if nat_lt (n / 256 % 256) 240 then n / 256 * 256 else n
+
+abbrev pub is_named : ℕ → Option ℕ → Bool
+is_named pgn None = false
+is_named pgn (Some n) = group_named n == pgn
+
+-- the frame announces a message of the group
+abbrev pub announces : ℕ → FrameRecord → Bool
+announces pgn f = is_named pgn (announced_by f)
+
+abbrev pub one_where : Bool → FrameRecord → List FrameRecord
+one_where b f = if b then f ∷ [] else []
+
+-- the group comes with a frame of its own, and with one that announces a message of it
+abbrev pub came_with : ℕ → FrameRecord → List FrameRecord
+came_with pgn f = one_where (is_of pgn f) f ++ one_where (announces pgn f) f
+
+-- ---- from how many addresses
 
 -- those that a controller can hold: 254 and 255 are none's (J1939-81, 4.2.1)
 abbrev pub controllers_in : List ℕ → List ℕ
 controllers_in sources = filter (λ a. nat_lt a 254) sources
 
-abbrev pub of_sources : List ℕ → GroupRecord
-of_sources sources = record {
-  frames = capped (length sources);
-  addresses = capped (length (firsts nat_eq (controllers_in sources)));
+-- each counts once
+abbrev pub senders_in : List ℕ → ℕ
+senders_in sources = capped (length (firsts nat_eq (controllers_in sources)))
+
+-- ---- how far apart
+
+-- how far each moment is behind the one before it; one that goes back is not behind
+abbrev pub distances_behind : ℕ → List ℕ → List ℕ
+distances_behind x [] = []
+distances_behind x (y ∷ ys) = (y - x) ∷ distances_behind y ys
+
+abbrev pub distances_in : List ℕ → List ℕ
+distances_in [] = []
+distances_in (x ∷ xs) = distances_behind x xs
+
+-- how many distances there are, their sum, the least and the most; of no distances there is none
+pub record Spread : Type 0 where
+  pub count : ℕ
+  pub sum : ℕ
+  pub least : ℕ
+  pub most : ℕ
+
+abbrev pub spread_of : List ℕ → Option Spread
+spread_of [] = None
+spread_of (d ∷ ds) = Some (record {
+  count = capped (length (d ∷ ds));
+  sum = capped (sum_by (λ x. x) (d ∷ ds));
+  least = fold min d ds;
+  most = fold max d ds;
+})
+
+-- ---- all of it
+
+-- these messages in packets are heard in these frames, in order: none is heard in one frame
+abbrev pub ArePutTogether : List FrameRecord → List Hearing → Type 0
+ArePutTogether F heard = AreHeardWith (λ _. false) F heard
+
+-- what came of a group: with which frames, how many of these were its own and how many announced it, and how many messages
+-- came whole
+pub record Came : Type 0 where
+  pub frames : List FrameRecord
+  pub own : ℕ
+  pub announced : ℕ
+  pub whole : ℕ
+
+abbrev pub nothing : Came
+nothing = record { frames = []; own = 0; announced = 0; whole = 0 }
+
+-- in these frames of an interface, in which these messages in packets were heard
+abbrev pub came_in : List FrameRecord → List Hearing → ℕ → Came
+came_in F heard pgn = record {
+  frames = flat_map (came_with pgn) F;
+  own = count_by (is_of pgn) F;
+  announced = count_by (announces pgn) F;
+  whole = count_by (λ h. group_named h.message.pgn == pgn) heard;
 }
 
--- each address counts once
-unfoldable pub group_of : List FrameRecord → ℕ → GroupRecord
-group_of frames pgn = of_sources (sources_of pgn frames)
+-- what is told of that
+pub record GroupRecord : Type 0 where
+  pub came : ℕ
+  pub frames : ℕ
+  pub addresses : ℕ
+  pub announced : ℕ
+  pub whole : ℕ
+  pub spread : Option Spread
+
+unfoldable pub group_of : Came → GroupRecord
+group_of c = record {
+  came = capped (length c.frames);
+  frames = capped c.own;
+  addresses = senders_in (map (λ f. source_of f.id) c.frames);
+  announced = capped c.announced;
+  whole = capped c.whole;
+  spread = spread_of (distances_in (map (λ f. f.stamp) c.frames));
+}
 
 -- the groups that the network itself needs: packets, announcements, claims, and requests (59904)
 abbrev pub is_of_network : ℕ → Bool

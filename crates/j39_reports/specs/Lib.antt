@@ -40,4 +40,5 @@ pub mod SurveyText
 pub mod SurveyRun
 -- surveys: the code's steps, below the rules
 pub mod SurveyModels
+pub mod CameSoFar
 pub mod SurveySoFar

@@ -33,8 +33,9 @@ seen_of blank = None
 abbrev pub seen_in : List LogLine → List Seen
 seen_in lines = filter_map (λ line. seen_of line.spelled) lines
 
-abbrev pub frames_of : List Seen → List FrameRecord
-frames_of seen = map (λ s. s.content) seen
+-- what the lines spell
+abbrev pub spelled_in : List LogLine → List Spelled
+spelled_in lines = map (λ line. line.spelled) lines
 
 abbrev pub other_of : List ℕ → Spelled → Option (List ℕ)
 other_of text (frame bus f) = None

@@ -1,23 +1,33 @@
 -- What the code's values show, and what each stands for.
-use Rattle.std.specs.Prelude.{◌≡◌, ◌==◌, ◌/◌, ◌%◌, ℕ, List, Bool, length, map, get_or}
+use Rattle.std.specs.Prelude.{◌≡◌, ◌==◌, ◌/◌, ◌%◌, ◌∷◌, [], ℕ, List, Bool, Option, None, Some, length, map, get_or, option_map}
 use Rattle.std.specs.Int.{bit_at}
 use Rattle.std.specs.List.{list_any}
 use Rattle.j39_memory.specs.ByGroup.{values_of}
 use Rattle.j39_frame.specs.Frame.{FrameRecord}
 use Rattle.j39_frame.specs.Groups.{IsHeardGroup, place_of_group}
+use Rattle.j39_frame.specs.Identifier.{source_of}
+use Rattle.j39_log.specs.Log.{bus_of, frames_of}
 use Rattle.j39_listen.specs.Counting.{capped}
-use Rattle.j39_reports.specs.GroupCounts.{GroupRecord, controllers_in, of_sources, sources_of}
-use Rattle.j39_reports.specs.Interfaces.{InterfaceRecord, interfaces_of, untold_in}
-use Rattle.j39_reports.specs.LogLines.{LogLine, Seen, UnreadRecord, frames_of, has_log_line, others_in, seen_in, unread_in}
+use Rattle.j39_listen.specs.Heard.{Hearing}
+use Rattle.j39_listen.specs.Listening.{Hears}
+use Rattle.j39_reports.specs.GroupCounts.{ArePutTogether, Came, came_in, controllers_in, distances_in, senders_in, spread_of}
+use Rattle.j39_reports.specs.GroupCounts as counted
+use Rattle.j39_reports.specs.Interfaces.{InterfaceRecord, interfaces_of, last_behind, untold_in}
+use Rattle.j39_reports.specs.LogLines.{LogLine, Seen, UnreadRecord, has_log_line, others_in, seen_in, spelled_in, unread_in}
 use Rattle.j39_reports.specs.OtherLines.{OthersRecord, others_of}
 use Rattle.j39_reports.specs.UnreadLines.{ShownRecord, are_printed, shown_in}
 use Rattle.j39_reports.specs.declared.surveys.addresses.Addresses.{Addresses}
+use Rattle.j39_reports.specs.declared.surveys.arrivals.Arrivals.{Arrivals}
+use Rattle.j39_reports.specs.declared.surveys.distances.Distances.{Distances}
+use Rattle.j39_reports.specs.declared.surveys.distances.Spread.{Spread}
 use Rattle.j39_reports.specs.declared.surveys.group_table.GroupCount.{GroupCount}
 use Rattle.j39_reports.specs.declared.surveys.group_table.GroupTable.{GroupTable}
 use Rattle.j39_reports.specs.declared.surveys.interfaces.InterfaceCounts.{InterfaceCounts}
 use Rattle.j39_reports.specs.declared.surveys.interfaces.Interfaces.{Interfaces}
 use Rattle.j39_reports.specs.declared.surveys.others.Others.{Others}
 use Rattle.j39_reports.specs.declared.surveys.log_survey.Survey.{Survey}
+use Rattle.j39_reports.specs.declared.surveys.senders.Senders.{Senders}
+use Rattle.j39_reports.specs.declared.surveys.traffic.Traffic.{Traffic}
 use Rattle.j39_reports.specs.declared.surveys.unread.UnreadLine.{UnreadLine}
 use Rattle.j39_reports.specs.declared.surveys.unread.UnreadLines.{UnreadLines}
 
@@ -31,19 +41,48 @@ has_address set a = has_bit (get_or set.words (a / 64) 0) (a % 64)
 
 -- ---- groups
 
-abbrev pub group_record : GroupCount → GroupRecord
-group_record count = record { frames = count.frames; addresses = count.addresses }
+-- it came from these addresses, one after the other, of which the controllers' are noted
+pub record HaveSent (senders : Senders) (sources : List ℕ) : Type 0 where
+  pub count_is : senders.count ≡ senders_in sources
+  pub heard_are : (a : ℕ) → has_address senders.heard a ≡ list_any (λ x. a == x) (controllers_in sources)
 
--- the frames of a group came from these addresses, one after the other, of which the controllers' are noted
-pub record HasCounted (count : GroupCount) (sources : List ℕ) : Type 0 where
-  pub counts_are : group_record count ≡ of_sources sources
-  pub heard_are : (a : ℕ) → has_address count.heard a ≡ list_any (λ x. a == x) (controllers_in sources)
+abbrev pub spread_record : Spread → counted.Spread
+spread_record s = record { count = s.count; sum = s.sum; least = s.least; most = s.most }
 
--- each group of these frames was counted
-pub record HaveCounted (table : GroupTable) (F : List FrameRecord) : Type 0 where
+-- the last of some moments
+abbrev pub last_in : List ℕ → Option ℕ
+last_in [] = None
+last_in (x ∷ xs) = Some (last_behind x xs)
+
+-- it came at these moments, one after the other
+pub record HaveMeasured (distances : Distances) (moments : List ℕ) : Type 0 where
+  pub last_is : distances.last ≡ last_in moments
+  pub spread_is : option_map spread_record distances.spread ≡ spread_of (distances_in moments)
+
+-- it came with these frames
+pub record HaveArrived (arrivals : Arrivals) (frames : List FrameRecord) : Type 0 where
+  pub count_is : arrivals.count ≡ capped (length frames)
+  pub senders_are : HaveSent arrivals.senders (map (λ f. source_of f.id) frames)
+  pub distances_are : HaveMeasured arrivals.distances (map (λ f. f.stamp) frames)
+
+-- this came of the group
+pub record HasCounted (count : GroupCount) (c : Came) : Type 0 where
+  pub arrived : HaveArrived count.arrivals c.frames
+  pub frames_is : count.frames ≡ capped c.own
+  pub announced_is : count.announced ≡ capped c.announced
+  pub whole_is : count.whole ≡ capped c.whole
+
+-- this came of each group
+pub record HaveCounted (table : GroupTable) (came : ℕ → Came) : Type 0 where
   pub all : length (values_of table.counts) ≡ 17344
   pub each : (pgn : ℕ) (d : GroupCount) → IsHeardGroup pgn
-      → HasCounted (get_or (values_of table.counts) (place_of_group pgn) d) (sources_of pgn F)
+      → HasCounted (get_or (values_of table.counts) (place_of_group pgn) d) (came pgn)
+
+-- the traffic of an interface was these frames, in which these messages in packets were heard
+pub record HasMet (traffic : Traffic) (F : List FrameRecord) (heard : List Hearing) : Type 0 where
+  pub hears : Hears traffic.listener F
+  pub are_heard : ArePutTogether F heard
+  pub counted : HaveCounted traffic.groups (came_in F heard)
 
 -- ---- interfaces
 
@@ -81,10 +120,13 @@ pub record HaveNoted (lines : UnreadLines) (unread : List UnreadRecord) : Type 0
 
 -- ---- all lines so far
 
-pub record HasSurveyed (survey : Survey) (lines : List LogLine) : Type 0 where
+-- the traffic is that of the given interface, or of the first frame's
+pub record HasSurveyed (survey : Survey) (given : Option (List ℕ)) (lines : List LogLine) : Type 0 where
   pub lines_are : survey.lines ≡ capped (length lines)
   pub interfaces_are : HaveMet survey.interfaces (seen_in lines)
-  pub groups_are : HaveCounted survey.groups (frames_of (seen_in lines))
+  pub bus_is : survey.bus ≡ bus_of given (spelled_in lines)
+  pub heard : List Hearing
+  pub met : HasMet survey.traffic (frames_of given (spelled_in lines)) heard
   pub others_are : others_record survey.others ≡ others_of (others_in lines)
   pub unread_are : HaveNoted survey.unread (unread_in lines)
   pub has_form : survey.has_log_line ≡ has_log_line lines

@@ -1,6 +1,8 @@
-//! What a log is, before any bus is chosen: its lines, interfaces, groups, other lines and unread ones.
+//! What a log is: its lines, interfaces, the groups of one of these, other lines and unread ones.
 
 mod addresses;
+mod arrivals;
+mod distances;
 mod group_table;
 mod interfaces;
 pub mod laws;
@@ -8,7 +10,9 @@ mod log_survey;
 mod others;
 mod pieces;
 mod running;
+mod senders;
 mod survey_text;
+mod traffic;
 mod unread;
 mod writing;
 

@@ -3,6 +3,7 @@ pub mod Protocol
 pub mod Key
 pub mod Frames
 pub mod Signals
+pub mod Announced
 pub mod Message
 pub mod Cutting
 pub mod Carries

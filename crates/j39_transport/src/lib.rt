@@ -32,3 +32,4 @@ pub use progress::{SendEvent, SendState};
 pub use protocol::{LONGEST, SHORTEST};
 pub use receiver::{Receiver, Reply};
 pub use sender::Sender;
+pub use signal::announced_group;

@@ -5,7 +5,9 @@ ghost use Rattle.j39_transport.specs.Cutting.{to_send};
 ghost use Rattle.j39_transport.specs.Frames.{source_of, destination_of};
 ghost use Rattle.j39_transport.specs.Key.{is_key, key_between};
 ghost use Rattle.j39_transport.specs.Signals.{broadcast_in, request_in, packet_in, control_in, said_by, said_between, bytes_with, written};
+ghost use Rattle.j39_transport.specs.Announced.{announced_by};
 ghost use Rattle.j39_transport.specs.SignalModel.{said, IsFromAddress};
+ghost use Rattle.j39_frame.specs.Pgn.{pgn_raw};
 
 use crate::announcement::Announcement;
 use crate::protocol::{
@@ -14,7 +16,7 @@ use crate::protocol::{
 };
 use crate::reading::{group_in, size_in};
 use crate::writing;
-use j39_frame::{Frame, GLOBAL_ADDRESS, Id, is_address};
+use j39_frame::{Frame, GLOBAL_ADDRESS, Id, Pgn, is_address};
 
 /// What a frame of the transport protocol says.
 #[derive(Clone, Copy)]
@@ -46,6 +48,17 @@ pub(crate) fn read(frame: &Frame) -> Option<Signal>
         read_control(frame)
     } else {
         None
+    }
+}
+
+/// The group of the message that a frame announces: a BAM, or an RTS (J1939-21, 5.10.3); `None` for any other frame.
+pub fn announced_group(frame: &Frame) -> Option<Pgn>
+    ensures { option_map (λ pgn. pgn_raw pgn) result ≡ announced_by frame.now }
+{
+    match read(frame) {
+        Some(Signal::BroadcastAnnounce(announcement)) => Some(announcement.group),
+        Some(Signal::RequestToSend(announcement, _)) => Some(announcement.group),
+        _ => None,
     }
 }
 

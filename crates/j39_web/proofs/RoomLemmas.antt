@@ -16,10 +16,10 @@ use Rattle.j39_listen.specs.declared.running.RunFault.{RunFault}
 use Rattle.j39_listen.specs.declared.running.RunFault.TheVariants.{Memory, Read, Write, TooLong}
 use Rattle.j39_groups.specs.Row.{RowRecord}
 use Rattle.j39_reports.specs.EntryText.{entry_record, header_text}
-use Rattle.j39_reports.specs.SurveyRun.{WritesSurvey}
+use Rattle.j39_reports.specs.SurveyRun.{Asked, WritesSurvey}
 use Rattle.j39_reports.specs.SurveyRun.{WritesFront as WritesSurveyFront}
 use Rattle.j39_reports.specs.SurveyText.{survey_text}
-use Rattle.j39_reports.proofs.SurveyLemmas.{same_log_lines}
+use Rattle.j39_reports.proofs.SurveyLemmas.{same_survey}
 use Rattle.j39_listen.proofs.ReportAccount.{report_one, report_one_in}
 use Rattle.j39_reports.proofs.FaultAccountLemmas.{news_one}
 use Rattle.j39_reports.proofs.SummaryAccountLemmas.{records_one}
@@ -89,39 +89,40 @@ overflows makes one given log log' (Err Read) z n m k xs ys room l e made front 
 overflows makes one given log log' (Err TooLong) z n m k xs ys room l e made front read long full none same = absurd (long refl)
 
 -- the survey of the log, in a room that has none left
-surveyed_made : (table : List RowRecord) (log : List ℕ) (n m k : ℕ) (ys room : List ℕ)
-    → WritesSurvey table log (Some (n ∷ [])) (Some (m ∷ take k ys)) → k ≡ length ys → (n ≡ m → ys ≡ room) → SurveyOverflows table log room
-surveyed_made table log n m k ys room w full same = λ lines are.
-    let text = ap (survey_text table) (same_log_lines log w.lines lines w.are_lines are) in
-    fills n m k ys room (survey_text table w.lines) [] (survey_text table lines) w.written (sym text ∙ sym (append-nil (survey_text table w.lines))) full same
+surveyed_made : (asked : Asked) (log : List ℕ) (n m k : ℕ) (ys room : List ℕ)
+    → WritesSurvey asked log (Some (n ∷ [])) (Some (m ∷ take k ys)) → k ≡ length ys → (n ≡ m → ys ≡ room) → SurveyOverflows asked log room
+surveyed_made asked log n m k ys room w full same = λ lines heard are together.
+    let mine = survey_text asked.table asked.given w.lines w.heard in
+    let text = same_survey asked.table asked.given log w.lines lines w.heard heard w.are_lines are w.are_heard together in
+    fills n m k ys room mine [] (survey_text asked.table asked.given lines heard) w.written (sym text ∙ sym (append-nil mine)) full same
 
-surveyed_front : (table : List RowRecord) (log : List ℕ) (n m k : ℕ) (ys room : List ℕ)
-    → WritesSurveyFront table log (Some (n ∷ [])) (Some (m ∷ take k ys)) → k ≡ length ys → (n ≡ m → ys ≡ room) → SurveyOverflows table log room
-surveyed_front table log n m k ys room h full same = λ lines are.
-    let f = h lines are in
-    fills n m k ys room f.0 f.1 (survey_text table lines) f.3 f.2 full same
+surveyed_front : (asked : Asked) (log : List ℕ) (n m k : ℕ) (ys room : List ℕ)
+    → WritesSurveyFront asked log (Some (n ∷ [])) (Some (m ∷ take k ys)) → k ≡ length ys → (n ≡ m → ys ≡ room) → SurveyOverflows asked log room
+surveyed_front asked log n m k ys room h full same = λ lines heard are together.
+    let f = h lines heard are together in
+    fills n m k ys room f.0 f.1 (survey_text asked.table asked.given lines heard) f.3 f.2 full same
 
 -- where a survey has no room
-pub survey_overflows : {U : Type 0} (table : List RowRecord) (log log' : List ℕ) (ran : Result U RunFault) (counted : Result Counts RunFault)
+pub survey_overflows : {U : Type 0} (asked : Asked) (log log' : List ℕ) (ran : Result U RunFault) (counted : Result Counts RunFault)
     (z n m k : ℕ) (xs ys room : List ℕ)
     → log' ≡ log → z ≡ 0
-    → OnOk ran (WritesSurvey table log' (Some (n ∷ take z xs)) (Some (m ∷ take k ys)))
-    → (ran ≡ Err Write → WritesSurveyFront table log' (Some (n ∷ take z xs)) (Some (m ∷ take k ys)))
+    → OnOk ran (WritesSurvey asked log' (Some (n ∷ take z xs)) (Some (m ∷ take k ys)))
+    → (ran ≡ Err Write → WritesSurveyFront asked log' (Some (n ∷ take z xs)) (Some (m ∷ take k ys)))
     → (ran ≡ Err Read → ⊥) → (ran ≡ Err TooLong → ⊥) → (ran ≡ Err Write → k ≡ length ys)
     → OnOk ran (counted ≡ Ok no_counts) → IfErr ran (λ fault. counted ≡ Err fault)
     → MatchResult counted (λ _. k ≡ length ys) (λ fault. fault ≢ Memory)
-    → (n ≡ m → ys ≡ room) → SurveyOverflows table log room
-survey_overflows table log log' (Ok u) (Ok counts) z n m k xs ys room l e made front read long full ok err none same =
-    let w = subst (λ j. WritesSurvey table log' (Some (n ∷ take j xs)) (Some (m ∷ take k ys))) e made in
-    surveyed_made table log n m k ys room (subst (λ j. WritesSurvey table j (Some (n ∷ [])) (Some (m ∷ take k ys))) l w) none same
-survey_overflows table log log' (Ok u) (Err fault) z n m k xs ys room l e made front read long full ok err none same = absurd (false≢true (ap is_ok ok))
-survey_overflows table log log' (Err Write) counted z n m k xs ys room l e made front read long full ok err none same =
-    let w = subst (λ j. WritesSurveyFront table log' (Some (n ∷ take j xs)) (Some (m ∷ take k ys))) e (front refl) in
-    surveyed_front table log n m k ys room (subst (λ j. WritesSurveyFront table j (Some (n ∷ [])) (Some (m ∷ take k ys))) l w) (full refl) same
-survey_overflows table log log' (Err Memory) counted z n m k xs ys room l e made front read long full ok err none same =
+    → (n ≡ m → ys ≡ room) → SurveyOverflows asked log room
+survey_overflows asked log log' (Ok u) (Ok counts) z n m k xs ys room l e made front read long full ok err none same =
+    let w = subst (λ j. WritesSurvey asked log' (Some (n ∷ take j xs)) (Some (m ∷ take k ys))) e made in
+    surveyed_made asked log n m k ys room (subst (λ j. WritesSurvey asked j (Some (n ∷ [])) (Some (m ∷ take k ys))) l w) none same
+survey_overflows asked log log' (Ok u) (Err fault) z n m k xs ys room l e made front read long full ok err none same = absurd (false≢true (ap is_ok ok))
+survey_overflows asked log log' (Err Write) counted z n m k xs ys room l e made front read long full ok err none same =
+    let w = subst (λ j. WritesSurveyFront asked log' (Some (n ∷ take j xs)) (Some (m ∷ take k ys))) e (front refl) in
+    surveyed_front asked log n m k ys room (subst (λ j. WritesSurveyFront asked j (Some (n ∷ [])) (Some (m ∷ take k ys))) l w) (full refl) same
+survey_overflows asked log log' (Err Memory) counted z n m k xs ys room l e made front read long full ok err none same =
     absurd (subst (λ r. MatchResult r (λ _. k ≡ length ys) (λ fault. fault ≢ Memory)) err none refl)
-survey_overflows table log log' (Err Read) counted z n m k xs ys room l e made front read long full ok err none same = absurd (read refl)
-survey_overflows table log log' (Err TooLong) counted z n m k xs ys room l e made front read long full ok err none same = absurd (long refl)
+survey_overflows asked log log' (Err Read) counted z n m k xs ys room l e made front read long full ok err none same = absurd (read refl)
+survey_overflows asked log log' (Err TooLong) counted z n m k xs ys room l e made front read long full ok err none same = absurd (long refl)
 
 -- where what is written at once has no room
 pub put_overflows : {U : Type 0} (text : List ℕ) (ran : Result U DeviceFault) (counted : Result Counts RunFault) (z n m k : ℕ) (xs ys room : List ℕ)

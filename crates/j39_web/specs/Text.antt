@@ -7,8 +7,10 @@ use Rattle.j39_listen.specs.Asking.{AsksAmong, Wanting}
 use Rattle.j39_listen.specs.Output.{Making, Output}
 use Rattle.j39_listen.specs.Run.{Writes, WritesPublished, run_bus}
 use Rattle.j39_listen.specs.declared.counts.Counts.{Counts}
-use Rattle.j39_reports.specs.LogLines.{AreLogLines, LogLine}
-use Rattle.j39_reports.specs.SurveyRun.{WritesSurvey}
+use Rattle.j39_listen.specs.Heard.{Hearing}
+use Rattle.j39_reports.specs.GroupCounts.{ArePutTogether}
+use Rattle.j39_reports.specs.LogLines.{AreLogLines, LogLine, spelled_in}
+use Rattle.j39_reports.specs.SurveyRun.{Asked, WritesSurvey}
 use Rattle.j39_reports.specs.SurveyText.{survey_text}
 use Rattle.j39_web.specs.declared.texts.LogText.{LogText}
 
@@ -48,10 +50,11 @@ abbrev pub AsksSomewhere : Wanting → Option (List ℕ) → List ℕ → Type 0
 AsksSomewhere asks given log = (front rest : List ℕ) × (log ≡ front ++ rest) × AsksAmong asks given front
 
 -- the bytes at the front of the room are the survey of the log, and nothing else
-abbrev pub IsSurveyed : List RowRecord → List ℕ → LogText → List ℕ → Type 0
-IsSurveyed table log text room = WritesSurvey table log (Some []) (Some (take text.bytes room))
+abbrev pub IsSurveyed : Asked → List ℕ → LogText → List ℕ → Type 0
+IsSurveyed asked log text room = WritesSurvey asked log (Some []) (Some (take text.bytes room))
 
 -- the room is full of the survey of the log
-abbrev pub SurveyOverflows : List RowRecord → List ℕ → List ℕ → Type 0
-SurveyOverflows table log room = (lines : List LogLine) → AreLogLines log lines
-    → IsFullOf (survey_text table lines) room
+abbrev pub SurveyOverflows : Asked → List ℕ → List ℕ → Type 0
+SurveyOverflows asked log room = (lines : List LogLine) (heard : List Hearing) → AreLogLines log lines
+    → ArePutTogether (frames_of asked.given (spelled_in lines)) heard
+    → IsFullOf (survey_text asked.table asked.given lines heard) room

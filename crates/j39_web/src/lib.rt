@@ -179,34 +179,40 @@ pub extern "C" fn j39_nodes(log: &[u8], bus: &[u8], room: &mut [u8], text: &mut 
     }
 }
 
-/// Writes what a log is into a room, before any bus is chosen: how many lines it has, its interfaces, its groups, by the
-/// table, its other lines by kind, and its unread lines. The table and the answers are those of `j39_report`, but that no
-/// bus is named, and of what is told all but the bytes is 0.
+/// Writes what a log is into a room: how many lines it has, its interfaces, the groups of the bus, by the table, its other
+/// lines by kind, and its unread lines. The bus, the table and the answers are those of `j39_report`; of what is told all but
+/// the bytes is 0.
 #[unsafe(no_mangle)]
 pub extern "C" fn j39_survey(
     alloc: Global,
     log: &[u8],
+    bus: &[u8],
     table: &[u8],
     room: &mut [u8],
     text: &mut LogText,
 ) -> u32
     // What stands at the front of the room is the survey of the log's lines, and nothing else.
-    ensures survey { result ≡ done → ByTable table.now (λ rows. IsSurveyed rows log.now text.new room.new) }
+    ensures survey { result ≡ done → ByTable table.now
+        (λ rows. IsSurveyed (record { table = rows; given = given_bus bus.now }) log.now text.new room.new) }
 
     // The room is too small exactly where the survey has as many bytes, or more.
     ensures fits { result ≡ done → text.new.bytes < length room.new }
-    ensures too_small { result ≡ too_small → ByTable table.now (λ rows. SurveyOverflows rows log.now room.new) }
+    ensures too_small { result ≡ too_small → ByTable table.now
+        (λ rows. SurveyOverflows (record { table = rows; given = given_bus bus.now }) log.now room.new) }
 
     ensures memory { result ≡ no_memory → WantsRows table.now ⊎ ByTable table.now (λ _. ⊤) }
-    ensures bus { result ≢ wrong_bus }
+    ensures bus { (result ≡ wrong_bus) ↔ IsWrongBus bus.now }
     ensures table { result ≡ wrong_table → IsWrongTable table.now }
     ensures answers { result ≤ wrong_table }
     ensures counts { result ≡ done → counts_in text.new ≡ no_counts }
     ensures kept { result ≢ done → text.new ≡ text.old }
-    ensures untouched { result ≡ wrong_table → room.new ≡ room.old }
+    ensures untouched { (result ≡ wrong_bus) ⊎ (result ≡ wrong_table) → room.new ≡ room.old }
 {
+    let Some(bus) = bus_named(bus) else {
+        return WRONG_BUS;
+    };
     match table_said(alloc, table) {
-        Ok(groups) => answer(texts::survey(alloc, log, &groups, room), text),
+        Ok(groups) => answer(texts::survey(alloc, log, bus, &groups, room), text),
         Err(fault) => refused(fault),
     }
 }

@@ -131,23 +131,24 @@ fn told(ran: Result<Counts, RunFault>, sink: &Room<'_>) -> Result<LogText, Refus
     }
 }
 
-/// Writes what a log is, before any bus is chosen: how many lines it has, its interfaces, its groups, by the table, its
-/// other lines by kind, and its unread lines.
+/// Writes what a log is: how many lines it has, its interfaces, the groups of the bus, by the table, its other lines by
+/// kind, and its unread lines. Without a bus it is that of the first frame in the log.
 pub fn survey(
     alloc: Global,
     log: &[u8],
+    bus: Option<Bus>,
     groups: &Groups<'_>,
     room: &mut [u8],
 ) -> Result<LogText, Refusal>
-    ensures survey { IfOk result (λ text. IsSurveyed groups.now log.now text room.new) }
+    ensures survey { IfOk result (λ text. IsSurveyed (record { table = groups.now; given = bus }) log.now text room.new) }
     ensures fits { IfOk result (λ text. text.bytes < length room.new) }
-    ensures too_small { result ≡ Err TooSmall → SurveyOverflows groups.now log.now room.new }
+    ensures too_small { result ≡ Err TooSmall → SurveyOverflows (record { table = groups.now; given = bus }) log.now room.new }
     ensures counts { IfOk result (λ text. counts_in text ≡ no_counts) }
 {
     let mut source = LogBytes::new(log);
     let mut sink = Room::new(room);
     let limit = log.len() as u64;
-    let ran = j39_reports::survey(alloc, groups, &mut source, &mut sink, limit);
+    let ran = j39_reports::survey(alloc, groups, &mut source, &mut sink, bus, limit);
     told(uncounted(ran), &sink)
 }
 

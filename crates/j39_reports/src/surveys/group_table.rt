@@ -1,110 +1,176 @@
-//! The groups of the frames so far.
-ghost use Rattle.std.specs.Prelude.{◌≡◌, ◌∷◌, ◌++◌, ◌<◌, [], ℕ, List, IfOk};
+//! What came of each group so far.
+ghost use Rattle.std.specs.Prelude.{◌≡◌, [], ℕ, IfOk, Option, option_map};
+ghost use Rattle.j39_transport.specs.Announced.{announced_by};
 ghost use Rattle.j39_frame.specs.Frame.{FrameRecord};
 ghost use Rattle.j39_frame.specs.Groups.{IsHeardGroup};
-ghost use Rattle.j39_frame.specs.Identifier.{id_raw, pgn_of, source_of};
+ghost use Rattle.j39_frame.specs.Identifier.{pgn_of};
 ghost use Rattle.j39_frame.specs.Pgn.{pgn_raw};
-ghost use Rattle.j39_reports.specs.GroupCounts.{group_of};
+ghost use Rattle.j39_reports.specs.CameSoFar.{at_group, at_named, with_announced, with_own, with_whole};
+ghost use Rattle.j39_reports.specs.GroupCounts.{Came, group_named, nothing};
 
-use crate::surveys::addresses::Addresses;
-use j39_frame::{Id, Pgn, is_address};
+use crate::surveys::arrivals::Arrivals;
+use j39_frame::{Frame, Pgn};
 use j39_memory::{ByGroup, GroupChange};
+use j39_transport::announced_group;
 use std::alloc::{AllocError, Global};
 
-/// The frames of a group so far.
+/// What came of a group so far.
 #[derive(Clone, Copy)]
 pub(crate) struct GroupCount {
-    /// How many.
+    /// With which frames: of its own, and those that announced it.
+    pub arrivals: Arrivals,
+    /// How many of these were its own.
     pub frames: u64,
-    /// How many addresses they came from that a controller can hold.
-    pub addresses: u64,
-    heard: Addresses,
+    /// How many announced a message of it.
+    pub announced: u64,
+    /// How many messages in packets came whole.
+    pub whole: u64,
 }
 
 impl GroupCount {
     ghost use Rattle.j39_reports.specs.SurveyModels.{HasCounted};
 
-    /// Of no frames.
+    /// Nothing.
     fn new() -> GroupCount
-        ensures { HasCounted result [] }
+        ensures { HasCounted result nothing }
     {
         GroupCount {
+            arrivals: Arrivals::new(),
             frames: 0,
-            addresses: 0,
-            heard: Addresses::new(),
-        }
-    }
-
-    /// One frame more, from this address.
-    fn add(&mut self, source: u8)
-        ensures { (sources : List ℕ) → HasCounted self.old sources → HasCounted self.new (sources ++ source ∷ []) }
-    {
-        self.frames = self.frames.saturating_add(1);
-        if !is_address(source) {
-            return;
-        }
-        if self.heard.add(source) {
-            self.addresses = self.addresses.saturating_add(1);
+            announced: 0,
+            whole: 0,
         }
     }
 }
 
-/// A frame that an address sent.
+/// A frame of the group.
 #[derive(Clone, Copy)]
-struct FrameFrom {
-    source: u8,
+struct OwnFrame<'f> {
+    frame: &'f Frame,
 }
 
-impl GroupChange<GroupCount> for FrameFrom {
+impl<'f> GroupChange<GroupCount> for OwnFrame<'f> {
     ghost use Rattle.j39_reports.specs.SurveyModels.{HasCounted};
 
-    ghost changes = { λ frame old new. (sources : List ℕ) → HasCounted old sources
-        → HasCounted new (sources ++ frame.source ∷ []) };
+    ghost changes = { λ own old new. (c : Came) → HasCounted old c → HasCounted new (with_own own.frame.now c) };
 
     fn make(self, count: &mut GroupCount) {
-        count.add(self.source);
+        count.arrivals.add(self.frame);
+        count.frames = count.frames.saturating_add(1);
     }
 }
 
-/// What was counted of each group.
+/// A frame that announces a message of the group.
+#[derive(Clone, Copy)]
+struct Announcement<'f> {
+    frame: &'f Frame,
+}
+
+impl<'f> GroupChange<GroupCount> for Announcement<'f> {
+    ghost use Rattle.j39_reports.specs.SurveyModels.{HasCounted};
+
+    ghost changes = { λ it old new. (c : Came) → HasCounted old c → HasCounted new (with_announced it.frame.now c) };
+
+    fn make(self, count: &mut GroupCount) {
+        count.arrivals.add(self.frame);
+        count.announced = count.announced.saturating_add(1);
+    }
+}
+
+/// A message of the group that came whole.
+#[derive(Clone, Copy)]
+struct WholeMessage;
+
+impl GroupChange<GroupCount> for WholeMessage {
+    ghost use Rattle.j39_reports.specs.SurveyModels.{HasCounted};
+
+    ghost changes = { λ it old new. (c : Came) → HasCounted old c → HasCounted new (with_whole c) };
+
+    fn make(self, count: &mut GroupCount) {
+        count.whole = count.whole.saturating_add(1);
+    }
+}
+
+/// What came of each group.
 #[derive(Drop)]
 pub(crate) struct GroupTable {
     counts: ByGroup<GroupCount>,
 }
 
 impl GroupTable {
-    ghost use Rattle.j39_reports.specs.GroupCounts.{GroupRecord};
-    ghost use Rattle.j39_reports.specs.SurveyModels.{HaveCounted, group_record};
+    ghost use Rattle.j39_reports.specs.SurveyModels.{HasCounted, HaveCounted};
 
-    /// Of no frames. This takes memory, and nothing else does.
+    /// Nothing of any. This takes memory, and nothing else does.
     pub fn new(alloc: Global) -> Result<GroupTable, AllocError>
-        ensures { IfOk result (λ table. HaveCounted table []) }
+        ensures { IfOk result (λ table. HaveCounted table (λ pgn. nothing)) }
     {
         let counts = ByGroup::new(alloc, GroupCount::new())?;
         Ok(GroupTable { counts })
     }
 
-    /// One frame more.
+    /// One frame more, of its own group.
     #[inline(always)]
-    pub fn add(&mut self, id: Id)
-        ensures { (F : List FrameRecord) (f : FrameRecord) → f.id ≡ id_raw id → HaveCounted self.old F
-            → HaveCounted self.new (F ++ f ∷ []) }
+    pub fn add_frame(&mut self, frame: &Frame)
+        ensures { (came : ℕ → Came) → HaveCounted self.old came
+            → HaveCounted self.new (at_group (pgn_of frame.now.id) (with_own frame.now) came) }
     {
-        let at = id.pgn().place();
-        let frame = FrameFrom {
-            source: id.source(),
-        };
-        self.counts.change(at, frame);
+        let at = frame.id.pgn().place();
+        self.counts.change(at, OwnFrame { frame });
     }
 
-    /// What was counted of a group.
-    #[inline(always)]
-    pub fn count(&self, pgn: Pgn) -> (u64, u64)
-        requires { IsHeardGroup (pgn_raw pgn) }
-        ensures { (F : List FrameRecord) → HaveCounted self.now F
-            → record { frames = result.0; addresses = result.1 } ≡ group_of F (pgn_raw pgn) }
+    /// The message that a frame announces, where it announces one.
+    pub fn add_announced(&mut self, frame: &Frame)
+        ensures { (came : ℕ → Came) → HaveCounted self.old came
+            → HaveCounted self.new (at_named (announced_by frame.now) (with_announced frame.now) came) }
     {
-        let count = self.counts.get(pgn.place());
-        (count.frames, count.addresses)
+        match announced_group(frame) {
+            Some(pgn) => self.change(pgn, Announcement { frame }),
+            None => {}
+        }
+    }
+
+    /// A message of this group that came whole, where one did.
+    pub fn add_whole(&mut self, pgn: Option<Pgn>)
+        ensures { (came : ℕ → Came) → HaveCounted self.old came
+            → HaveCounted self.new (at_named (option_map (λ group. pgn_raw group) pgn) with_whole came) }
+    {
+        match pgn {
+            Some(pgn) => self.change(pgn, WholeMessage),
+            None => {}
+        }
+    }
+
+    /// Changes what came of the group that a number names.
+    fn change<C: GroupChange<GroupCount>>(&mut self, pgn: Pgn, change: C)
+        ensures { (step : Came → Came) → ((old new : GroupCount) → C.changes change old new
+            → (c : Came) → HasCounted old c → HasCounted new (step c)) → (came : ℕ → Came) → HaveCounted self.old came
+            → HaveCounted self.new (at_group (group_named (pgn_raw pgn)) step came) }
+    {
+        let at = group_in(pgn).place();
+        self.counts.change(at, change);
+    }
+
+    /// What came of a group.
+    #[inline(always)]
+    pub fn count(&self, pgn: Pgn) -> &GroupCount
+        requires { IsHeardGroup (pgn_raw pgn) }
+        ensures { (came : ℕ → Came) → HaveCounted self.now came → HasCounted result.now (came (pgn_raw pgn)) }
+    {
+        self.counts.get(pgn.place())
+    }
+}
+
+/// The group that a number names, without the destination that stands in its low byte where PF is below 240.
+fn group_in(pgn: Pgn) -> Pgn
+    ensures named { pgn_raw result ≡ group_named (pgn_raw pgn) }
+    ensures heard { IsHeardGroup (pgn_raw result) }
+{
+    let raw = pgn.raw();
+    if raw / 256 % 256 >= 240 {
+        return pgn;
+    }
+    match Pgn::new(raw / 256 * 256) {
+        Some(group) => group,
+        None => pgn,
     }
 }

@@ -1,14 +1,22 @@
 //! What is known of the lines so far.
-ghost use Rattle.std.specs.Prelude.{◌≡◌, ◌∷◌, ◌++◌, [], ℕ, List, IfOk, Some};
+ghost use Rattle.std.specs.Prelude.{◌≡◌, ◌∷◌, ◌++◌, [], ℕ, List, Option, IfOk, OnErr, OnOk, Some, true, unwrap_or};
+ghost use Rattle.std.specs.Str.{bytes_eq};
+ghost use Rattle.j39_frame.specs.Frame.{FrameRecord};
+ghost use Rattle.j39_listen.specs.Asking.{AsksForBoxes};
+ghost use Rattle.j39_listen.specs.Heard.{Hearing, or_none};
+ghost use Rattle.j39_listen.specs.Listening.{Hears};
+ghost use Rattle.j39_log.specs.Bus.{IsBusName};
 ghost use Rattle.j39_log.specs.Kind.{kind_of};
 ghost use Rattle.j39_log.specs.Line.{IsFrameLine, IsOtherLine};
-ghost use Rattle.j39_log.specs.Spelled.{Spelled, Spells};
+ghost use Rattle.j39_log.specs.Log.{frames_of};
+ghost use Rattle.j39_log.specs.Spelled.{Spelled, Spells, frame as spelled_frame};
 ghost use Rattle.j39_log.specs.Splitter.{IsRawLine};
 ghost use Rattle.j39_reports.specs.LogLines.{IsSpelled, LogLine};
+ghost use Rattle.j39_reports.specs.SurveySoFar.{AsksAt, MeetsOnBus};
 
-use crate::surveys::group_table::GroupTable;
 use crate::surveys::interfaces::Interfaces;
 use crate::surveys::others::Others;
+use crate::surveys::traffic::Traffic;
 use crate::surveys::unread::UnreadLines;
 use j39_frame::Frame;
 use j39_log::{Bus, Line, OtherKind, RawLine, kind_of};
@@ -19,71 +27,100 @@ use std::alloc::{AllocError, Global};
 pub(crate) struct Survey {
     pub lines: u64,
     pub interfaces: Interfaces,
-    pub groups: GroupTable,
+    /// The interface whose groups are counted, once it is known.
+    pub bus: Option<Bus>,
+    pub traffic: Traffic,
     pub others: Others,
     pub unread: UnreadLines,
     /// Whether a line had the form that `candump -L` writes.
     pub has_log_line: bool,
-    /// The interface that was read last: most lines are of one.
-    pub bus: Option<Bus>,
 }
 
 impl Survey {
     ghost use Rattle.j39_reports.specs.SurveyModels.{HasSurveyed};
 
-    /// Of no lines. This takes memory, and nothing else does.
-    pub fn new(alloc: Global) -> Result<Survey, AllocError>
-        ensures { IfOk result (λ survey. HasSurveyed survey []) }
+    /// Of no lines; of the groups of this interface, or of the first frame's. This takes memory for the groups.
+    pub fn new(alloc: Global, bus: Option<Bus>) -> Result<Survey, AllocError>
+        ensures { IfOk result (λ survey. HasSurveyed survey bus []) }
     {
-        let groups = GroupTable::new(alloc)?;
+        let traffic = Traffic::new(alloc)?;
         Ok(Survey {
             lines: 0,
             interfaces: Interfaces::new(),
-            groups,
+            bus,
+            traffic,
             others: Others::new(),
             unread: UnreadLines::new(),
             has_log_line: false,
-            bus: None,
         })
     }
 
-    /// One line more, of a frame of the interface that was read last.
+    /// One line more, of a frame of the interface whose groups are counted. Memory is wanted at an announcement alone.
     #[inline(always)]
-    pub fn add_frame(&mut self, frame: &Frame)
-        ensures { (lines : List LogLine) (line : LogLine) (name : List ℕ) → self.old.bus ≡ Some name
-            → IsFrameLine line.text name frame.now → IsSpelled line
-            → HasSurveyed self.old lines → HasSurveyed self.new (lines ++ line ∷ []) }
+    pub fn add_frame(&mut self, frame: &Frame) -> Result<(), AllocError>
+        ensures surveyed { OnOk result ((given : Option (List ℕ)) (lines : List LogLine) (line : LogLine) (name : List ℕ)
+            → self.old.bus ≡ Some name → IsFrameLine line.text name frame.now → IsSpelled line
+            → HasSurveyed self.old given lines → HasSurveyed self.new given (lines ++ line ∷ [])) }
+        ensures asked { OnErr result ((given : Option (List ℕ)) (lines : List LogLine) (line : LogLine) (name : List ℕ)
+            → self.old.bus ≡ Some name → IsFrameLine line.text name frame.now → IsSpelled line
+            → HasSurveyed self.old given lines → AsksAt given lines line) }
     {
         let Some(bus) = &self.bus else {
-            return;
+            return Ok(());
         };
         self.lines = self.lines.saturating_add(1);
         self.interfaces.add(bus.bytes(), frame.stamp);
-        self.groups.add(frame.id);
         self.has_log_line = true;
+        self.traffic.add(frame)
     }
 
-    /// One line more.
-    pub fn add(&mut self, raw: RawLine<'_>)
+    /// One line more. Memory is wanted at an announcement alone.
+    pub fn add(&mut self, raw: RawLine<'_>) -> Result<(), AllocError>
         ensures spelled { (text : List ℕ) → IsRawLine raw.entry text → (s : Spelled) × Spells text s }
-        ensures surveyed { (lines : List LogLine) (line : LogLine) → IsRawLine raw.entry line.text → IsSpelled line
-            → HasSurveyed self.old lines → HasSurveyed self.new (lines ++ line ∷ []) }
+        ensures surveyed { OnOk result ((given : Option (List ℕ)) (lines : List LogLine) (line : LogLine)
+            → IsRawLine raw.entry line.text → IsSpelled line
+            → HasSurveyed self.old given lines → HasSurveyed self.new given (lines ++ line ∷ [])) }
+        ensures asked { OnErr result ((given : Option (List ℕ)) (lines : List LogLine) (line : LogLine)
+            → IsRawLine raw.entry line.text → IsSpelled line → HasSurveyed self.old given lines → AsksAt given lines line) }
     {
         self.lines = self.lines.saturating_add(1);
         match raw.read() {
             Line::Frame { bus, frame } => {
                 self.interfaces.add(bus, frame.stamp);
-                self.groups.add(frame.id);
                 self.has_log_line = true;
-                self.bus = Bus::new(bus);
+                meet(&mut self.bus, &mut self.traffic, bus, &frame)
             }
             Line::Other => {
                 self.others.add(kind_in(raw));
                 self.has_log_line = true;
+                Ok(())
             }
-            Line::Unread => self.unread.add(self.lines, raw),
-            Line::Blank => {}
+            Line::Unread => {
+                self.unread.add(self.lines, raw);
+                Ok(())
+            }
+            Line::Blank => Ok(()),
         }
+    }
+}
+
+/// One frame more, of the interface of this name: the first is that whose groups are counted, where none is known yet.
+fn meet(
+    bus: &mut Option<Bus>,
+    traffic: &mut Traffic,
+    name: &[u8],
+    frame: &Frame,
+) -> Result<(), AllocError>
+    ensures met { OnOk result (IsBusName name.now → MeetsOnBus name.now frame.now bus.old bus.new traffic.old traffic.new) }
+    ensures asked { OnErr result (IsBusName name.now → (bytes_eq name.now (unwrap_or bus.old name.now) ≡ true)
+        × ((F : List FrameRecord) → Hears traffic.old.listener F → AsksForBoxes F frame.now)) }
+{
+    if bus.is_none() {
+        *bus = Bus::new(name);
+    }
+    match bus {
+        Some(bus) if bus.is_named(name) => traffic.add(frame),
+        _ => Ok(()),
     }
 }
 

@@ -1,10 +1,11 @@
 //! The survey of a log, piece by piece.
-ghost use Rattle.std.specs.Prelude.{◌≡◌, ◌≢◌, ◌<◌, ◌≤◌, ℕ, List, [], true, length, IfSome, OnOk, OnErr, Err};
+ghost use Rattle.std.specs.Prelude.{◌≡◌, ◌≢◌, ◌<◌, ◌≤◌, ℕ, List, Option, [], true, length, IfSome, OnOk, OnErr, Err};
 ghost use Rattle.j39_io.specs.Turn.{turn};
+ghost use Rattle.j39_listen.specs.Asking.{AsksForBoxes, AsksWithin};
 ghost use Rattle.j39_listen.specs.Ran.{Ended, PassesOn};
 ghost use Rattle.j39_listen.specs.Run.{PassesLimit, TakesWithin};
 ghost use Rattle.j39_listen.specs.declared.running.RunFault.TheVariants.{Memory, Read, TooLong, Write};
-ghost use Rattle.j39_reports.specs.SurveyRun.{StopsWithin, Surveyed, WritesFront, WritesSurvey};
+ghost use Rattle.j39_reports.specs.SurveyRun.{Asked, StopsWithin, Surveyed, WritesFront, WritesSurvey};
 ghost use Rattle.j39_reports.specs.SurveySoFar.{HasReadLog, HasTaken, TakesSome};
 
 use crate::surveys::pieces::Pieces;
@@ -12,31 +13,33 @@ use crate::surveys::writing::put_survey;
 use j39_groups::Groups;
 use j39_io::{DeviceFault, Sink, Source};
 use j39_listen::RunFault;
-use std::alloc::Global;
+use j39_log::Bus;
+use std::alloc::{AllocError, Global};
 
 /// The bytes of one read.
 const PIECE: usize = 65_536;
 
-/// Writes what a log of at most `limit` bytes is: how many lines it has, its interfaces, its groups, by a table of
-/// parameters, its other lines by kind, and its unread lines. Nothing is written before the end of the log. It takes
-/// memory at the start alone.
+/// Writes what a log of at most `limit` bytes is: how many lines it has, its interfaces, the groups of one interface, by a
+/// table of parameters, its other lines by kind, and its unread lines. Without a bus the groups are those of the first frame's.
+/// Nothing is written before the end of the log. It takes memory at the start and at announcements.
 pub fn survey<R: Source, W: Sink>(
     alloc: Global,
     groups: &Groups<'_>,
     source: &mut R,
     sink: &mut W,
+    bus: Option<Bus>,
     limit: u64,
 ) -> Result<(), RunFault>
     // What the run promises is `Surveyed`: what is written is the survey of the log's lines, and nothing else, at the end
-    // of the log. Memory is wanted before the first read.
-    ensures ran { Surveyed groups.now limit result
+    // of the log. Memory is wanted before the first read, and at a frame that announces a message.
+    ensures ran { Surveyed (record { table = groups.now; given = bus }) limit result
         (turn R.remaining R.has_failed source.old source.new) (turn W.written W.has_failed sink.old sink.new) }
 
     // What was written is passed on at the end; before the end of the log nothing is.
     ensures flushed { PassesOn result (W.is_flushed sink.old) (W.is_flushed sink.new) }
     ensures unflushed { OnErr result (result ≢ Err Write → W.is_flushed sink.new ≡ W.is_flushed sink.old) }
 {
-    match Pieces::new(alloc) {
+    match Pieces::new(alloc, bus) {
         Ok(mut pieces) => survey_with(&mut pieces, groups, source, sink, limit),
         Err(_) => Err(RunFault::Memory),
     }
@@ -53,15 +56,19 @@ fn survey_with<R: Source, W: Sink>(
     // It ended as every run does, whatever the pieces had taken.
     ensures ended { Ended limit result
         (turn R.remaining R.has_failed source.old source.new) (turn W.written W.has_failed sink.old sink.new) }
-    ensures writes { HasTaken pieces.old [] → OnOk result (IfSome (R.remaining source.old)
-        (λ log. WritesSurvey groups.now log (W.written sink.old) (W.written sink.new))) }
-    ensures memory { result ≢ Err Memory }
+    ensures writes { (asked : Asked) → asked.table ≡ groups.now → HasTaken pieces.old asked.given []
+        → OnOk result (IfSome (R.remaining source.old)
+        (λ log. WritesSurvey asked log (W.written sink.old) (W.written sink.new))) }
+    ensures memory { result ≡ Err Memory → (given : Option (List ℕ)) → HasTaken pieces.old given []
+        → AsksWithin AsksForBoxes given (R.remaining source.old) (R.remaining source.new) }
     ensures at_limit { result ≡ Err TooLong
         → (taken : List ℕ) × PassesLimit limit (R.remaining source.old) (R.remaining source.new) taken }
     ensures silent { OnErr result (result ≢ Err Write → W.written sink.new ≡ W.written sink.old) }
-    ensures cut_short { HasTaken pieces.old [] → result ≡ Err Write → IfSome (R.remaining source.old)
-        (λ log. WritesFront groups.now log (W.written sink.old) (W.written sink.new)) }
-    ensures prefix { HasTaken pieces.old [] → OnErr result (StopsWithin groups.now (R.remaining source.old)
+    ensures cut_short { (asked : Asked) → asked.table ≡ groups.now → HasTaken pieces.old asked.given []
+        → result ≡ Err Write → IfSome (R.remaining source.old)
+        (λ log. WritesFront asked log (W.written sink.old) (W.written sink.new)) }
+    ensures prefix { (asked : Asked) → asked.table ≡ groups.now → HasTaken pieces.old asked.given []
+        → OnErr result (StopsWithin asked (R.remaining source.old)
         (R.remaining source.new) (W.written sink.old) (W.written sink.new)) }
     ensures flushed { OnOk result (W.is_flushed sink.new ≡ true) }
     ensures unflushed { OnErr result (result ≢ Err Write → W.is_flushed sink.new ≡ W.is_flushed sink.old) }
@@ -78,8 +85,8 @@ fn survey_with<R: Source, W: Sink>(
 
 /// Reads a log to its end, piece by piece.
 fn read_log<R: Source>(pieces: &mut Pieces, source: &mut R, limit: u64) -> Result<(), RunFault>
-    ensures read_all { OnOk result (HasTaken pieces.old []
-        → HasReadLog limit pieces.new (R.remaining source.old) (R.remaining source.new)) }
+    ensures read_all { OnOk result ((given : Option (List ℕ)) → HasTaken pieces.old given []
+        → HasReadLog limit pieces.new given (R.remaining source.old) (R.remaining source.new)) }
     ensures short { OnOk result (IfSome (R.remaining source.old) (λ log. length log ≤ limit)) }
     ensures took { OnErr result (TakesSome (R.remaining source.old) (R.remaining source.new)) }
     ensures too_long { result ≡ Err TooLong → IfSome (R.remaining source.old) (λ log. limit < length log) }
@@ -87,7 +94,8 @@ fn read_log<R: Source>(pieces: &mut Pieces, source: &mut R, limit: u64) -> Resul
         → (taken : List ℕ) × PassesLimit limit (R.remaining source.old) (R.remaining source.new) taken }
     ensures read { result ≡ Err Read → R.has_failed source.new ≡ true }
     ensures read_unmarked { result ≢ Err Read → R.has_failed source.new ≡ R.has_failed source.old }
-    ensures memory { result ≢ Err Memory }
+    ensures memory { result ≡ Err Memory → (given : Option (List ℕ)) → HasTaken pieces.old given []
+        → AsksWithin AsksForBoxes given (R.remaining source.old) (R.remaining source.new) }
     ensures write { result ≢ Err Write }
     ensures within { result ≢ Err TooLong → TakesWithin limit (R.remaining source.old) (R.remaining source.new) }
 {
@@ -98,13 +106,18 @@ fn read_log<R: Source>(pieces: &mut Pieces, source: &mut R, limit: u64) -> Resul
             return Err(RunFault::Read);
         };
         if n == 0 {
-            pieces.finish();
-            return Ok(());
+            return match pieces.finish() {
+                Ok(()) => Ok(()),
+                Err(AllocError) => Err(RunFault::Memory),
+            };
         }
         if n as u64 > room {
             return Err(RunFault::TooLong);
         }
         room -= n as u64;
-        pieces.take(&piece[..n]);
+        match pieces.take(&piece[..n]) {
+            Ok(()) => {}
+            Err(AllocError) => return Err(RunFault::Memory),
+        }
     }
 }

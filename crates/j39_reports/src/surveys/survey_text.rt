@@ -1,17 +1,20 @@
 //! The lines of a survey's text (own).
-ghost use Rattle.std.specs.Prelude.{◌≡◌, ◌+◌, ◌*◌, ◌≤◌, ◌++◌, ◌∷◌, [], codes, decimal, length};
+ghost use Rattle.std.specs.Prelude.{◌≡◌, ◌+◌, ◌*◌, ◌≤◌, ◌++◌, ◌∷◌, [], codes, decimal, length, option_map};
 ghost use Rattle.std.specs.List.{flat_map};
 ghost use Rattle.arrayvec.specs.ArrayVec.{array_vec_len};
 ghost use Rattle.j39_log.specs.StampText.{stamp_text};
 ghost use Rattle.j39_io.specs.Chars.{newline};
-ghost use Rattle.j39_reports.specs.SurveyModels.{interface_record, others_record, shown_record};
-ghost use Rattle.j39_reports.specs.SurveyText.{byte_text, interface_text, others_text, shown_text, unread_text, untold_text};
+ghost use Rattle.j39_reports.specs.GroupCounts.{GroupRecord};
+ghost use Rattle.j39_reports.specs.SurveyModels.{interface_record, others_record, shown_record, spread_record};
+ghost use Rattle.j39_reports.specs.SurveyText.{byte_text, counts_text, interface_text, others_text, seconds_text, shown_text, spread_text, unread_text, untold_text};
 
+use crate::surveys::distances::Spread;
+use crate::surveys::group_table::GroupCount;
 use crate::surveys::interfaces::InterfaceCounts;
 use crate::surveys::others::Others;
 use crate::surveys::unread::UnreadLine;
 use arrayvec::ArrayVec;
-use j39_io::printing::{push_bytes, push_hex, push_number};
+use j39_io::printing::{push_bytes, push_hex, push_last_digits, push_number};
 use j39_log::push_seconds;
 
 /// Appends a name and a number, of 20 digits at most.
@@ -93,16 +96,48 @@ pub(crate) fn counts_lines(others: &Others, unread: u64) -> ArrayVec<u8, 176>
     lines
 }
 
-/// What the line of a group begins with: its number, its frames and the addresses that sent them.
-pub(crate) fn group_head(pgn: u32, frames: u64, addresses: u64) -> ArrayVec<u8, 96>
-    ensures { result.items ≡ codes "group " ++ decimal pgn ++ codes " frames " ++ decimal frames ++ codes " addresses "
-        ++ decimal addresses }
+/// What the line of a group begins with: its number, what came of it, and from how many addresses.
+pub(crate) fn group_head(pgn: u32, group: &GroupCount) -> ArrayVec<u8, 192>
+    ensures { (told : GroupRecord) → told.frames ≡ group.now.frames → told.announced ≡ group.now.announced
+        → told.whole ≡ group.now.whole → told.addresses ≡ group.now.arrivals.senders.count
+        → result.items ≡ counts_text pgn told }
 {
     let mut line = ArrayVec::new();
     push_field(&mut line, b"group ", u64::from(pgn));
-    push_field(&mut line, b" frames ", frames);
-    push_field(&mut line, b" addresses ", addresses);
+    push_field(&mut line, b" frames ", group.frames);
+    push_field(&mut line, b" announced ", group.announced);
+    push_field(&mut line, b" whole ", group.whole);
+    push_field(&mut line, b" addresses ", group.arrivals.senders.count);
     line
+}
+
+/// How far apart a group came.
+pub(crate) fn spread_part(spread: &Option<Spread>) -> ArrayVec<u8, 128>
+    ensures { result.items ≡ spread_text (option_map spread_record spread.now) }
+{
+    let mut part = ArrayVec::new();
+    match spread {
+        None => push_bytes(&mut part, b" least - mean - most -"),
+        Some(spread) => {
+            push_seconds_field(&mut part, b" least ", spread.least);
+            push_seconds_field(&mut part, b" mean ", spread.mean());
+            push_seconds_field(&mut part, b" most ", spread.most);
+        }
+    }
+    part
+}
+
+/// Appends a name and a number of microseconds, as seconds: of 21 digits and a point at most.
+#[tactic(auto, using(crate::proofs::NumberLemmas::short_decimal))]
+fn push_seconds_field<const N: usize>(part: &mut ArrayVec<u8, N>, name: &[u8], micros: u64)
+    requires { array_vec_len part.old + length name.now + 27 ≤ N }
+    ensures items { part.new.items ≡ part.old.items ++ name.now ++ seconds_text micros }
+    ensures len { array_vec_len part.new ≤ array_vec_len part.old + length name.now + 27 }
+{
+    push_bytes(part, name);
+    push_number(part, micros / 1_000_000);
+    part.push(b'.');
+    push_last_digits(part, 6, micros);
 }
 
 /// The line of an unread line.

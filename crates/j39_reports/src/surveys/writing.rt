@@ -1,5 +1,5 @@
 //! A survey, written.
-ghost use Rattle.std.specs.Prelude.{◌≡◌, ◌<◌, ◌≤◌, ◌+◌, ◌*◌, ◌/◌, ◌%◌, ◌++◌, List, true, map, OnOk};
+ghost use Rattle.std.specs.Prelude.{◌≡◌, ◌<◌, ◌≤◌, ◌+◌, ◌*◌, ◌/◌, ◌%◌, ◌++◌, ℕ, List, Option, true, map, OnOk};
 ghost use Rattle.std.specs.List.{flat_map};
 ghost use Rattle.j39_io.specs.Puts.{Puts};
 ghost use Rattle.j39_io.specs.Turn.{turn};
@@ -8,19 +8,20 @@ ghost use Rattle.j39_frame.specs.Frame.{FrameRecord};
 ghost use Rattle.j39_frame.specs.Groups.{IsHeardGroup};
 ghost use Rattle.j39_frame.specs.Pgn.{pgn_raw};
 ghost use Rattle.j39_groups.specs.Names.{group_name_in};
-ghost use Rattle.j39_reports.specs.GroupCounts.{group_of};
+ghost use Rattle.j39_reports.specs.GroupCounts.{Came, came_in, group_of};
+ghost use Rattle.j39_listen.specs.Heard.{Hearing};
 ghost use Rattle.j39_reports.specs.LogLines.{LogLine};
-ghost use Rattle.j39_reports.specs.SurveyModels.{HasSurveyed, HaveCounted, interface_record, others_record, shown_record};
+ghost use Rattle.j39_reports.specs.SurveyModels.{HasCounted, HasSurveyed, HaveCounted, interface_record, others_record, shown_record};
 ghost use Rattle.j39_reports.specs.UnreadLines.{is_printed_log};
 ghost use Rattle.j39_reports.specs.SurveyText.{class_text, group_line, group_text, groups_from, groups_text, interface_text, name_text, printed_text, shown_text, survey_end, survey_head, survey_text};
 
 use crate::parts::put_parts;
-use crate::surveys::group_table::GroupTable;
+use crate::surveys::group_table::{GroupCount, GroupTable};
 use crate::surveys::interfaces::{InterfaceCounts, Interfaces};
 use crate::surveys::log_survey::Survey;
 use crate::surveys::others::Others;
 use crate::surveys::survey_text::{
-    counts_lines, group_head, interface_line, number_line, shown_line, untold_line,
+    counts_lines, group_head, interface_line, number_line, shown_line, spread_part, untold_line,
 };
 use crate::surveys::unread::{UnreadLine, UnreadLines};
 use j39_frame::Pgn;
@@ -33,20 +34,20 @@ pub(crate) fn put_survey<W: Sink>(
     survey: &Survey,
     sink: &mut W,
 ) -> Result<(), DeviceFault>
-    ensures puts { (lines : List LogLine) → HasSurveyed survey.now lines
-        → Puts (survey_text groups.now lines) result (turn W.written W.has_failed sink.old sink.new) }
+    ensures puts { (given : Option (List ℕ)) (lines : List LogLine) → (h : HasSurveyed survey.now given lines)
+        → Puts (survey_text groups.now given lines h.heard) result (turn W.written W.has_failed sink.old sink.new) }
     ensures mark { Marks result (W.has_failed sink.old) (W.has_failed sink.new) }
     ensures flushed { OnOk result (W.is_flushed sink.new ≡ true) }
 {
     put_head(survey.lines, &survey.interfaces, sink)?;
-    put_groups(groups, &survey.groups, sink)?;
+    put_groups(groups, &survey.traffic.groups, sink)?;
     put_end(&survey.others, &survey.unread, is_printed(survey), sink)?;
     sink.flush()
 }
 
 /// Whether the log is what `candump` prints where it is not asked for a log.
 fn is_printed(survey: &Survey) -> bool
-    ensures { (lines : List LogLine) → HasSurveyed survey.now lines → result ≡ is_printed_log lines }
+    ensures { (given : Option (List ℕ)) (lines : List LogLine) → HasSurveyed survey.now given lines → result ≡ is_printed_log lines }
 {
     0 < survey.unread.count && !survey.has_log_line && survey.unread.are_printed
 }
@@ -78,8 +79,8 @@ fn put_groups<W: Sink>(
     table: &GroupTable,
     sink: &mut W,
 ) -> Result<(), DeviceFault>
-    ensures puts { (F : List FrameRecord) → HaveCounted table.now F
-        → Puts (groups_text groups.now F) result (turn W.written W.has_failed sink.old sink.new) }
+    ensures puts { (F : List FrameRecord) (heard : List Hearing) → HaveCounted table.now (came_in F heard)
+        → Puts (groups_text groups.now (came_in F heard)) result (turn W.written W.has_failed sink.old sink.new) }
     ensures mark { Marks result (W.has_failed sink.old) (W.has_failed sink.new) }
 {
     for front in 0..1024 {
@@ -96,8 +97,8 @@ fn put_front<W: Sink>(
     sink: &mut W,
 ) -> Result<(), DeviceFault>
     requires { front < 1024 }
-    ensures puts { (F : List FrameRecord) → HaveCounted table.now F
-        → Puts (groups_from groups.now F (front * 256) 256) result (turn W.written W.has_failed sink.old sink.new) }
+    ensures puts { (F : List FrameRecord) (heard : List Hearing) → HaveCounted table.now (came_in F heard)
+        → Puts (groups_from groups.now (came_in F heard) (front * 256) 256) result (turn W.written W.has_failed sink.old sink.new) }
     ensures mark { Marks result (W.has_failed sink.old) (W.has_failed sink.new) }
 {
     let first = front * 256;
@@ -118,8 +119,8 @@ fn put_each<W: Sink>(
     requires within { first + 256 ≤ 262144 }
     requires heard { 240 ≤ first / 256 % 256 }
     requires begins { first % 256 ≡ 0 }
-    ensures puts { (F : List FrameRecord) → HaveCounted table.now F
-        → Puts (groups_from groups.now F first 256) result (turn W.written W.has_failed sink.old sink.new) }
+    ensures puts { (came : ℕ → Came) → HaveCounted table.now came
+        → Puts (groups_from groups.now came first 256) result (turn W.written W.has_failed sink.old sink.new) }
     ensures mark { Marks result (W.has_failed sink.old) (W.has_failed sink.new) }
 {
     for low in 0..256 {
@@ -137,54 +138,59 @@ fn put_at<W: Sink>(
     sink: &mut W,
 ) -> Result<(), DeviceFault>
     requires { IsHeardGroup raw }
-    ensures puts { (F : List FrameRecord) → HaveCounted table.now F
-        → Puts (group_text groups.now raw (group_of F raw)) result (turn W.written W.has_failed sink.old sink.new) }
+    ensures puts { (came : ℕ → Came) → HaveCounted table.now came
+        → Puts (group_text groups.now raw (group_of (came raw))) result (turn W.written W.has_failed sink.old sink.new) }
     ensures mark { Marks result (W.has_failed sink.old) (W.has_failed sink.new) }
 {
     match Pgn::new(raw) {
         None => Ok(()),
-        Some(pgn) => {
-            let (frames, addresses) = table.count(pgn);
-            put_group(groups, pgn, frames, addresses, sink)
-        }
+        Some(pgn) => put_group(groups, pgn, table.count(pgn), sink),
     }
 }
 
-/// Writes the line of a group, where it has frames.
+/// Writes the line of a group, where it came.
 #[inline(always)]
 #[tactic(auto, unfolding(crate::specs::SurveyText::group_text))]
 fn put_group<W: Sink>(
     groups: &Groups<'_>,
     pgn: Pgn,
-    frames: u64,
-    addresses: u64,
+    group: &GroupCount,
     sink: &mut W,
 ) -> Result<(), DeviceFault>
-    ensures { Puts (group_text groups.now (pgn_raw pgn) (record { frames = frames; addresses = addresses }))
-        result (turn W.written W.has_failed sink.old sink.new) }
+    ensures puts { (c : Came) → HasCounted group.now c
+        → Puts (group_text groups.now (pgn_raw pgn) (group_of c)) result (turn W.written W.has_failed sink.old sink.new) }
+    ensures mark { Marks result (W.has_failed sink.old) (W.has_failed sink.new) }
 {
-    if frames == 0 {
+    if group.arrivals.count == 0 {
         Ok(())
     } else {
-        put_line(groups, pgn, frames, addresses, sink)
+        put_line(groups, pgn, group, sink)
     }
 }
 
-/// Writes the line of a group that has frames. Few have: by itself, it leaves the walk over all groups short.
+/// Writes the line of a group that came. Few did: by itself, it leaves the walk over all groups short.
 #[inline(never)]
 fn put_line<W: Sink>(
     groups: &Groups<'_>,
     pgn: Pgn,
-    frames: u64,
-    addresses: u64,
+    group: &GroupCount,
     sink: &mut W,
 ) -> Result<(), DeviceFault>
-    ensures { Puts (group_line groups.now (pgn_raw pgn) (record { frames = frames; addresses = addresses }))
-        result (turn W.written W.has_failed sink.old sink.new) }
+    ensures puts { (c : Came) → HasCounted group.now c
+        → Puts (group_line groups.now (pgn_raw pgn) (group_of c)) result (turn W.written W.has_failed sink.old sink.new) }
+    ensures mark { Marks result (W.has_failed sink.old) (W.has_failed sink.new) }
 {
-    let head = group_head(pgn.raw(), frames, addresses);
+    let head = group_head(pgn.raw(), group);
+    let spread = spread_part(&group.arrivals.distances.spread);
     let (space, name) = name_of(groups, pgn);
-    let parts: [&[u8]; 5] = [head.as_slice(), class_of(groups, pgn), space, name, b"\n"];
+    let parts: [&[u8]; 6] = [
+        head.as_slice(),
+        spread.as_slice(),
+        class_of(groups, pgn),
+        space,
+        name,
+        b"\n",
+    ];
     put_parts(&parts, sink)
 }
 

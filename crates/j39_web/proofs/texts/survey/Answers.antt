@@ -5,6 +5,6 @@ use Rattle.j39_web.proofs.texts.survey.Goals as goal
 pub returns-clause-too_small : goal.returns-clause-too_small
 returns-clause-too_small c = λ fails.
     let ran = c.survey-ran.ensures in
-    survey_overflows c.args.groups.now c.args.log.now c.new-source.result.rest.now c.survey-ran.result c.uncounted.result _ _ _ _ _ _ _
+    survey_overflows (record { table = c.args.groups.now; given = c.args.bus }) c.args.log.now c.new-source.result.rest.now c.survey-ran.result c.uncounted.result _ _ _ _ _ _ _
     (search rules) (search rules) ran.ran.writes ran.ran.cut_short (search rules) (search rules) (search rules) c.uncounted.ensures.ok c.uncounted.ensures.err
     (c.told.ensures.too_small fails) (search rules)

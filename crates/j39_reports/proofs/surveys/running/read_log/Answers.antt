@@ -12,7 +12,7 @@ at_end a b d taken n buf none first last =
     subst (Consumes a d) (ap (λ n. taken ++ take n buf) none ∙ append-nil taken) (Consumes-trans a b d taken (take n buf) first last)
 
 pub pieces-init : goal.pieces-init
-pieces-init g c = ([], Consumes-nil (g.R.Source.remaining c.args.source.now), (λ h. h), omega arith, refl)
+pieces-init g c = ([], Consumes-nil (g.R.Source.remaining c.args.source.now), (λ given h. h), omega arith, refl)
 
 pub pieces-preserved : goal.pieces-preserved
 pieces-preserved g c =
@@ -22,41 +22,15 @@ pieces-preserved g c =
     omega (arith, length-append inv.0 bytes, length-take c.in-Ok.n c.pull.new.buf, c.in-Ok.ensures.bound) in (
       inv.0 ++ bytes,
       Consumes-trans _ _ _ inv.0 bytes inv.1 c.in-Ok.ensures.bytes.0,
-      (λ h. c.take.ensures inv.0 (inv.2 h)),
+      (λ given h. c.in-Ok-take.ensures.taken given inv.0 (inv.2 given h)),
       len,
       c.in-Ok.ensures.mark ∙ inv.4,
     )
 
-pub returns-in_default-clause-took : goal.returns-in_default-clause-took
-returns-in_default-clause-took g c = (c.pieces.invariant.0, Consumes-kept _ _ _ c.pieces.invariant.0 c.pieces.invariant.1 c.in_default.ensures.bytes)
-
-pub returns-in_default-clause-within : goal.returns-in_default-clause-within
-returns-in_default-clause-within g c = λ other.
+pub returns-in-Ok-finish-clause-read_all : goal.returns-in-Ok-finish-clause-read_all
+returns-in-Ok-finish-clause-read_all g c = λ given h.
     let inv = c.pieces.invariant in
-    record { taken = inv.0; consumed = Consumes-kept _ _ _ inv.0 inv.1 c.in_default.ensures.bytes; fits = omega arith }
-
-pub returns-then-n-eq0-clause-within : goal.returns-then-n-eq0-clause-within
-returns-then-n-eq0-clause-within g c = λ other.
-    let inv = c.pieces.invariant in
-    record {
-      taken = inv.0;
-      consumed = at_end _ _ _ inv.0 c.in-Ok.n c.pull.new.buf c.if-n-eq0.true inv.1 c.in-Ok.ensures.bytes.0;
-      fits = omega arith;
-    }
-
-pub returns-then-n-eq0-clause-short : goal.returns-then-n-eq0-clause-short
-returns-then-n-eq0-clause-short g c =
-    let inv = c.pieces.invariant in
-    let consumed = at_end _ _ _ inv.0 c.in-Ok.n c.pull.new.buf c.if-n-eq0.true inv.1 c.in-Ok.ensures.bytes.0 in
-    let fits : length inv.0 ≤ c.args.limit = omega arith in
-    IfSome_then (g.R.Source.remaining c.args.source.now)
-    (Consumes-all _ _ inv.0 [] inv.0 consumed (c.in-Ok.ensures.bytes.1 c.if-n-eq0.true (omega arith)) refl)
-    (λ (log : List ℕ) same. subst (λ (taken : List ℕ). length taken ≤ c.args.limit) same fits)
-
-pub returns-then-n-eq0-clause-read_all : goal.returns-then-n-eq0-clause-read_all
-returns-then-n-eq0-clause-read_all g c = λ h.
-    let inv = c.pieces.invariant in
-    let lines = c.finish.ensures inv.0 (inv.2 h) in
+    let lines = c.in-Ok-finish.ensures.surveyed given inv.0 (inv.2 given h) in
     let consumed = at_end _ _ _ inv.0 c.in-Ok.n c.pull.new.buf c.if-n-eq0.true inv.1 c.in-Ok.ensures.bytes.0 in
     record {
       taken = inv.0;
@@ -67,6 +41,42 @@ returns-then-n-eq0-clause-read_all g c = λ h.
       are_lines = lines.1;
       surveyed = lines.2;
     }
+
+-- ---- a line that asks for memory
+
+pub returns-in-Err-clause-memory : goal.returns-in-Err-clause-memory
+returns-in-Err-clause-memory g c = λ fails given h.
+    let inv = c.pieces.invariant in
+    record {
+      taken = inv.0;
+      consumed = at_end _ _ _ inv.0 c.in-Ok.n c.pull.new.buf c.if-n-eq0.true inv.1 c.in-Ok.ensures.bytes.0;
+      among = c.in-Err.ensures.asked given inv.0 (inv.2 given h);
+    }
+
+pub returns-in-Err-take-clause-memory : goal.returns-in-Err-take-clause-memory
+returns-in-Err-take-clause-memory g c = λ fails given h.
+    let inv = c.pieces.invariant in
+    let bytes = take c.in-Ok.n c.pull.new.buf in
+    record {
+      taken = inv.0 ++ bytes;
+      consumed = Consumes-trans _ _ _ inv.0 bytes inv.1 c.in-Ok.ensures.bytes.0;
+      among = c.in-Err-take.ensures.asked given inv.0 (inv.2 given h);
+    }
+
+pub returns-in-Err-take-clause-took : goal.returns-in-Err-take-clause-took
+returns-in-Err-take-clause-took g c = (_, Consumes-trans _ _ _ c.pieces.invariant.0 _ c.pieces.invariant.1 c.in-Ok.ensures.bytes.0)
+
+pub returns-in-Err-take-clause-within : goal.returns-in-Err-take-clause-within
+returns-in-Err-take-clause-within g c = λ other.
+    let inv = c.pieces.invariant in
+    let bytes = take c.in-Ok.n c.pull.new.buf in
+    record {
+      taken = inv.0 ++ bytes;
+      consumed = Consumes-trans _ _ _ inv.0 bytes inv.1 c.in-Ok.ensures.bytes.0;
+      fits = omega (arith, length-append inv.0 bytes, length-take c.in-Ok.n c.pull.new.buf, c.in-Ok.ensures.bound);
+    }
+
+-- ---- a read that passes the limit
 
 pub returns-then-n-room-clause-took : goal.returns-then-n-room-clause-took
 returns-then-n-room-clause-took g c = (_, Consumes-trans _ _ _ c.pieces.invariant.0 _ c.pieces.invariant.1 c.in-Ok.ensures.bytes.0)

@@ -1,4 +1,4 @@
-use Rattle.std.proofs.Common.{◌≡◌, ◌+◌, ℕ, List, [], length}
+use Rattle.std.proofs.Common.{◌≡◌, ◌+◌, ℕ, List, Option, [], length}
 use Rattle.std.specs.Io.KnownBytes.{Consumes}
 use Rattle.j39_reports.specs.SurveySoFar.{HasTaken}
 use Rattle.j39_reports.proofs.surveys.running.read_log.Given as goal
@@ -7,7 +7,7 @@ use Rattle.j39_reports.proofs.surveys.running.read_log.Given as goal
 abbrev pub invariant-pieces : goal.invariant-pieces
 invariant-pieces g l =
     (taken : List ℕ) × Consumes (g.R.Source.remaining l.initial.source) (g.R.Source.remaining l.source) taken
-    × (HasTaken l.initial.pieces [] → HasTaken l.pieces taken)
+    × ((given : Option (List ℕ)) → HasTaken l.initial.pieces given [] → HasTaken l.pieces given taken)
     × (length taken + l.room ≡ l.limit)
     × (g.R.Source.has_failed l.source ≡ g.R.Source.has_failed l.initial.source)
 

@@ -1,31 +1,54 @@
 -- What was written is a front of the survey of what was read, which at a fault of the writer is the whole log.
-use Rattle.std.proofs.Common.{ℕ, List, Option, subst}
+use Rattle.std.proofs.Common.{◌≡◌, ◌∙◌, ℕ, List, Option, ap, subst, sym}
 use Rattle.j39_io.specs.Device.{AppendsFront}
+use Rattle.std.specs.Io.KnownBytes.{Appends}
 use Rattle.std.proofs.lemmas.Option.{IfSome_then}
-use Rattle.j39_reports.specs.LogLines.{AreLogLines, LogLine}
-use Rattle.j39_reports.specs.SurveyRun.{WritesFront}
-use Rattle.j39_reports.specs.SurveyText.{survey_text}
 use Rattle.j39_groups.specs.Row.{RowRecord}
-use Rattle.j39_reports.proofs.SurveyLemmas.{same_log_lines}
+use Rattle.j39_log.specs.Log.{frames_of}
+use Rattle.j39_listen.specs.Heard.{Hearing}
+use Rattle.j39_reports.specs.GroupCounts.{ArePutTogether}
+use Rattle.j39_reports.specs.LogLines.{AreLogLines, LogLine, spelled_in}
+use Rattle.j39_reports.specs.SurveyRun.{Asked, WritesFront, WritesSurvey}
+use Rattle.j39_reports.specs.SurveyText.{survey_text}
+use Rattle.j39_reports.proofs.SurveyLemmas.{same_survey}
 use Rattle.j39_reports.proofs.surveys.running.survey_with.Goals as goal
 
 -- of the bytes that were read
-front : (table : List RowRecord) (taken : List ℕ) (lines : List LogLine) (old new : Option (List ℕ)) → AreLogLines taken lines
-    → AppendsFront old new (survey_text table lines) → WritesFront table taken old new
-front table taken lines old new here h = λ others are. subst (λ ls. AppendsFront old new (survey_text table ls)) (same_log_lines taken lines others here are) h
+front : (asked : Asked) (table : List RowRecord) (taken : List ℕ) (lines : List LogLine) (heard : List Hearing) (old new : Option (List ℕ)) → asked.table ≡ table
+    → AreLogLines taken lines → ArePutTogether (frames_of asked.given (spelled_in lines)) heard
+    → AppendsFront old new (survey_text table asked.given lines heard) → WritesFront asked taken old new
+front asked table taken lines heard old new by here together h = λ others more are are_heard.
+    subst (λ t. AppendsFront old new t)
+    (ap (λ (rows : List RowRecord). survey_text rows asked.given lines heard) (sym by)
+    ∙ same_survey asked.table asked.given taken lines others heard more here are together are_heard) h
+
+pub returns-in-Ok-put_survey-clause-writes : goal.returns-in-Ok-put_survey-clause-writes
+returns-in-Ok-put_survey-clause-writes g c = λ asked by start.
+    let h = c.in-Ok.ensures.read_all asked.given start in
+    let old = g.W.Sink.written c.args.sink.now in
+    let new = g.W.Sink.written c.put_survey.new.sink in
+    IfSome_then (g.R.Source.remaining c.args.source.now) h.whole (λ (log : List ℕ) same.
+    subst (λ taken. WritesSurvey asked taken old new) same (record {
+      lines = h.lines;
+      are_lines = h.are_lines;
+      heard = h.surveyed.heard;
+      are_heard = h.surveyed.met.are_heard;
+      written = subst (λ (rows : List RowRecord). Appends old new (survey_text rows asked.given h.lines h.surveyed.heard)) (sym by)
+          (c.in-Ok-put_survey.ensures.puts asked.given h.lines h.surveyed).written;
+    }))
 
 pub returns-in-Err-put_survey-clause-cut_short : goal.returns-in-Err-put_survey-clause-cut_short
-returns-in-Err-put_survey-clause-cut_short g c = λ start fails.
-    let h = c.in-Ok.ensures.read_all start in
+returns-in-Err-put_survey-clause-cut_short g c = λ asked by start fails.
+    let h = c.in-Ok.ensures.read_all asked.given start in
     IfSome_then (g.R.Source.remaining c.args.source.now) h.whole (λ (log : List ℕ) same.
-    subst (λ taken. WritesFront c.args.groups.now taken (g.W.Sink.written c.args.sink.now) (g.W.Sink.written c.put_survey.new.sink)) same
-    (front c.args.groups.now h.taken h.lines _ _ h.are_lines (c.in-Err-put_survey.ensures.puts h.lines h.surveyed).front))
+    subst (λ taken. WritesFront asked taken (g.W.Sink.written c.args.sink.now) (g.W.Sink.written c.put_survey.new.sink)) same
+    (front asked c.args.groups.now h.taken h.lines h.surveyed.heard _ _ by h.are_lines h.surveyed.met.are_heard (c.in-Err-put_survey.ensures.puts asked.given h.lines h.surveyed).front))
 
 pub returns-in-Err-put_survey-clause-prefix : goal.returns-in-Err-put_survey-clause-prefix
-returns-in-Err-put_survey-clause-prefix g c = λ start.
-    let h = c.in-Ok.ensures.read_all start in
+returns-in-Err-put_survey-clause-prefix g c = λ asked by start.
+    let h = c.in-Ok.ensures.read_all asked.given start in
     record {
       taken = h.taken;
       consumed = h.consumed;
-      written = front c.args.groups.now h.taken h.lines _ _ h.are_lines (c.in-Err-put_survey.ensures.puts h.lines h.surveyed).front;
+      written = front asked c.args.groups.now h.taken h.lines h.surveyed.heard _ _ by h.are_lines h.surveyed.met.are_heard (c.in-Err-put_survey.ensures.puts asked.given h.lines h.surveyed).front;
     }

@@ -1,7 +1,7 @@
-use Rattle.std.proofs.Common.{◌≡◌, List, Ok}
+use Rattle.std.proofs.Common.{◌≡◌, ℕ, Ok}
 use Rattle.j39_io.specs.Puts.{Puts}
 use Rattle.j39_io.specs.Turn.{turn}
-use Rattle.j39_frame.specs.Frame.{FrameRecord}
+use Rattle.j39_reports.specs.GroupCounts.{Came}
 use Rattle.j39_reports.specs.SurveyModels.{HaveCounted}
 use Rattle.j39_reports.specs.SurveyText.{groups_from}
 use Rattle.j39_reports.proofs.surveys.writing.put_each.Given as goal
@@ -9,6 +9,6 @@ use Rattle.j39_reports.proofs.surveys.writing.put_each.Given as goal
 -- the lines of the groups so far are written, and no fault came
 abbrev pub invariant-loop-low : goal.invariant-loop-low
 invariant-loop-low g l =
-    ((F : List FrameRecord) → HaveCounted l.table F
-    → Puts {T = Unit} {E = Unit} (groups_from l.groups F l.first l.low) (Ok tt) (turn g.W.Sink.written g.W.Sink.has_failed l.initial.sink l.sink))
+    ((came : ℕ → Came) → HaveCounted l.table came
+    → Puts {T = Unit} {E = Unit} (groups_from l.groups came l.first l.low) (Ok tt) (turn g.W.Sink.written g.W.Sink.has_failed l.initial.sink l.sink))
     × (g.W.Sink.has_failed l.sink ≡ g.W.Sink.has_failed l.initial.sink)

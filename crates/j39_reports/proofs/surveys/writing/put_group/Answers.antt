@@ -1,10 +1,17 @@
--- A group that has frames has its line.
-use Rattle.std.proofs.Common.{◌≡◌, refl, sym}
-use Rattle.std.proofs.lemmas.Bool.{ne_eqb}
-use Rattle.j39_io.proofs.PutsLemmas.{puts_as}
+-- A group that came has its line.
+use Rattle.std.proofs.Common.{◌≡◌, ◌∙◌, ap, refl, sym, ◌==◌}
+use Rattle.std.proofs.lemmas.Bool.{eq-eqb, ne_eqb}
+use Rattle.j39_io.proofs.PutsLemmas.{puts_as, puts_nothing}
+use Rattle.j39_reports.specs.GroupCounts.{group_of}
 use Rattle.j39_reports.specs.SurveyText.{group_text}
 use Rattle.j39_reports.proofs.surveys.writing.put_group.Goals as goal
 
-pub returns-else-frames-eq0 : goal.returns-else-frames-eq0
-unfolding group_text
-returns-else-frames-eq0 g c = rw (ne_eqb _ _ c.if-frames-eq0.false) c.put_line.ensures
+pub returns-then-group-eq0-clause-puts : goal.returns-then-group-eq0-clause-puts
+unfolding group_text group_of
+returns-then-group-eq0-clause-puts g c = λ came h.
+    rw (sym h.arrived.count_is, eq-eqb _ _ c.if-group-eq0.true) (puts_nothing tt _)
+
+pub returns-else-group-eq0-clause-puts : goal.returns-else-group-eq0-clause-puts
+unfolding group_text group_of
+returns-else-group-eq0-clause-puts g c = λ came h.
+    rw (sym h.arrived.count_is, ne_eqb _ _ c.if-group-eq0.false) (c.put_line.ensures.puts came h)

@@ -2,6 +2,8 @@ use Rattle.std.proofs.Common.{◌≡◌, ◌*◌, List, Ok}
 use Rattle.j39_io.specs.Puts.{Puts}
 use Rattle.j39_io.specs.Turn.{turn}
 use Rattle.j39_frame.specs.Frame.{FrameRecord}
+use Rattle.j39_listen.specs.Heard.{Hearing}
+use Rattle.j39_reports.specs.GroupCounts.{came_in}
 use Rattle.j39_reports.specs.SurveyModels.{HaveCounted}
 use Rattle.j39_reports.specs.SurveyText.{groups_from}
 use Rattle.j39_reports.proofs.surveys.writing.put_groups.Given as goal
@@ -9,6 +11,6 @@ use Rattle.j39_reports.proofs.surveys.writing.put_groups.Given as goal
 -- the lines of the groups so far are written, and no fault came
 abbrev pub invariant-loop-front : goal.invariant-loop-front
 invariant-loop-front g l =
-    ((F : List FrameRecord) → HaveCounted l.table F
-    → Puts {T = Unit} {E = Unit} (groups_from l.groups F 0 (l.front * 256)) (Ok tt) (turn g.W.Sink.written g.W.Sink.has_failed l.initial.sink l.sink))
+    ((F : List FrameRecord) (heard : List Hearing) → HaveCounted l.table (came_in F heard)
+    → Puts {T = Unit} {E = Unit} (groups_from l.groups (came_in F heard) 0 (l.front * 256)) (Ok tt) (turn g.W.Sink.written g.W.Sink.has_failed l.initial.sink l.sink))
     × (g.W.Sink.has_failed l.sink ≡ g.W.Sink.has_failed l.initial.sink)

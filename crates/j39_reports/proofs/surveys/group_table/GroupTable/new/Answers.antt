@@ -1,4 +1,4 @@
--- Each group is one of no frames.
+-- Nothing came of each group.
 use Rattle.j39_memory.specs.ByGroup.{values_of}
 use Rattle.j39_frame.specs.Groups.{place_of_group}
 use Rattle.j39_frame.proofs.GroupLemmas.{place_below}

@@ -1,4 +1,4 @@
-use Rattle.std.proofs.Common.{◌≡◌, ◌++◌, ℕ, List, length}
+use Rattle.std.proofs.Common.{◌≡◌, ◌++◌, ℕ, List, Option, length}
 use Rattle.j39_reports.specs.SurveySoFar.{HasTaken}
 use Rattle.j39_reports.proofs.surveys.pieces.Pieces.take.Given as goal
 
@@ -6,7 +6,7 @@ use Rattle.j39_reports.proofs.surveys.pieces.Pieces.take.Given as goal
 abbrev pub invariant-loop-rest : goal.invariant-loop-rest
 invariant-loop-rest l =
     (done : List ℕ) × (l.piece ≡ done ++ l.rest)
-    × ((taken : List ℕ) → HasTaken l.initial.self taken → HasTaken l.self (taken ++ done))
+    × ((given : Option (List ℕ)) (taken : List ℕ) → HasTaken l.initial.self given taken → HasTaken l.self given (taken ++ done))
 
 abbrev pub decreases-loop-rest : goal.decreases-loop-rest
 decreases-loop-rest l = length l.rest

@@ -1,7 +1,7 @@
 -- The bytes to the end of a line, or all of them.
 use Rattle.std.proofs.Common.{refl, subst, sym}
 use Rattle.j39_log.specs.Splitter.{IsRawLine}
-use Rattle.j39_reports.proofs.SurveyPieceLemmas.{takes_bytes, takes_line}
+use Rattle.j39_reports.proofs.SurveyPieceLemmas.{asks_in, takes_bytes, takes_line}
 use Rattle.j39_reports.proofs.surveys.pieces.Pieces.take_any.Goals as goal
 
 pub returns-in-None-clause-taken : goal.returns-in-None-clause-taken
@@ -11,8 +11,8 @@ returns-in-None-clause-taken c =
     let after = rw c.in-None.is at (c.feed.follows.holds-at-none begun h) in
     (line.1, after))
 
-pub returns-in-Some-clause-taken : goal.returns-in-Some-clause-taken
-returns-in-Some-clause-taken c =
+pub returns-in-Ok-clause-taken : goal.returns-in-Ok-clause-taken
+returns-in-Ok-clause-taken c =
     takes_line c.args.self.now _ c.args.bytes.now c.feed.result.0 (λ begun h.
     let line = rw c.in-Some.is at (c.feed.ensures.line begun h) in
     let after = rw c.in-Some.is at (c.feed.follows.holds-at-none begun h) in (
@@ -20,6 +20,17 @@ returns-in-Some-clause-taken c =
       line.1,
       after,
       c.add.ensures.spelled line.0 line.2,
-      (λ lines l text spelled s.
-          c.add.ensures.surveyed lines l (subst (IsRawLine c.in-Some.raw) (sym text) line.2) spelled s),
+      (λ given lines l text spelled s.
+          c.in-Ok.ensures.surveyed given lines l (subst (IsRawLine c.in-Some.raw) (sym text) line.2) spelled s),
+    ))
+
+pub returns-in-Err-clause-asked : goal.returns-in-Err-clause-asked
+returns-in-Err-clause-asked c =
+    asks_in c.args.self.now c.args.bytes.now c.feed.result.0 (λ begun h.
+    let line = rw c.in-Some.is at (c.feed.ensures.line begun h) in (
+      line.0,
+      line.1,
+      c.add.ensures.spelled line.0 line.2,
+      (λ given lines l text spelled s.
+          c.in-Err.ensures.asked given lines l (subst (IsRawLine c.in-Some.raw) (sym text) line.2) spelled s),
     ))

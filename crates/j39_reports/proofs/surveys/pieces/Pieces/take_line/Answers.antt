@@ -1,18 +1,29 @@
--- Most lines are those of a frame of the interface that was read last.
+-- Most lines are those of a frame of the interface whose groups are counted.
 use Rattle.std.proofs.Common.{sym, subst}
 use Rattle.j39_log.specs.Line.{IsFrameLine}
 use Rattle.j39_log.specs.Spelled.{frame}
-use Rattle.j39_reports.proofs.SurveyPieceLemmas.{takes_line}
+use Rattle.j39_reports.proofs.SurveyPieceLemmas.{asks_in, takes_line}
 use Rattle.j39_reports.proofs.surveys.pieces.Pieces.take_line.Goals as goal
 
-pub returns-in-Some-clause-taken : goal.returns-in-Some-clause-taken
-returns-in-Some-clause-taken c =
+pub returns-in-Ok-clause-taken : goal.returns-in-Ok-clause-taken
+returns-in-Ok-clause-taken c =
     takes_line c.args.self.now _ c.args.bytes.now c.in-Some.n (λ begun h.
     let found = c.in-Some.ensures.frame begun h in (
       found.line,
       found.ends,
       found.begins,
       (frame found.name c.in-Some.frame, found.spells),
-      (λ lines l text spelled s.
-          c.add_frame.ensures lines l found.name found.bus_is (subst (λ t. IsFrameLine t found.name c.in-Some.frame) (sym text) found.spells) spelled s),
+      (λ given lines l text spelled s.
+          c.in-Ok.ensures.surveyed given lines l found.name found.bus_is (subst (λ t. IsFrameLine t found.name c.in-Some.frame) (sym text) found.spells) spelled s),
+    ))
+
+pub returns-in-Err-clause-asked : goal.returns-in-Err-clause-asked
+returns-in-Err-clause-asked c =
+    asks_in c.args.self.now c.args.bytes.now c.in-Some.n (λ begun h.
+    let found = c.in-Some.ensures.frame begun h in (
+      found.line,
+      found.ends,
+      (frame found.name c.in-Some.frame, found.spells),
+      (λ given lines l text spelled s.
+          c.in-Err.ensures.asked given lines l found.name found.bus_is (subst (λ t. IsFrameLine t found.name c.in-Some.frame) (sym text) found.spells) spelled s),
     ))

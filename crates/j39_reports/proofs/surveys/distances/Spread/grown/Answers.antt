@@ -1,0 +1,15 @@
+-- The first distance, or one more.
+use Rattle.std.proofs.Common.{◌≡◌, ◌∙◌, ◌++◌, ◌∷◌, [], None, Some, ap, subst, sym}
+use Rattle.std.specs.Prelude.{option_map}
+use Rattle.j39_reports.specs.GroupCounts.{spread_of}
+use Rattle.j39_reports.specs.SurveyModels.{spread_record}
+use Rattle.j39_reports.proofs.GroupLemmas.{no_spread}
+use Rattle.j39_reports.proofs.surveys.distances.Spread.grown.Goals as goal
+
+pub returns-in-Some : goal.returns-in-Some
+returns-in-Some c = λ ds is. c.with.ensures ds (sym (ap (option_map spread_record) c.in-Some.is) ∙ is)
+
+pub returns-in-None : goal.returns-in-None
+returns-in-None c = λ ds is.
+    let none : ds ≡ [] = no_spread ds (sym (ap (option_map spread_record) c.in-None.is) ∙ is) in
+    c.of.ensures ∙ ap (λ xs. spread_of (xs ++ c.args.distance ∷ [])) (sym none)
