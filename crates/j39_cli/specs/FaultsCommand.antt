@@ -1,13 +1,13 @@
--- The command `faults [--bus B] [--table T] [--conversion C] [--all] [--csv] [FILE]`.
-use Rattle.std.specs.Prelude.{◌≡◌, ◌∷◌, [], ℕ, Bool, false, List, Option, codes, if◌then◌else◌, option_map, unwrap_or}
+-- The command `faults [--bus B] [--table T] [--conversion C] [--all | --changes] [--csv] [FILE]`.
+use Rattle.std.specs.Prelude.{◌≡◌, ◌≢◌, ◌∷◌, [], ℕ, Bool, true, false, List, Option, Some, None, codes, option_map, unwrap_or}
 use Rattle.clap.specs.Words.{App, Text, new_app, with_rule}
 use Rattle.j39_reports.specs.FaultAsking.{AsksForFaults}
 use Rattle.j39_reports.specs.FaultRun.{MakesFaults}
 use Rattle.j39_reports.specs.News.{Chosen}
 use Rattle.j39_faults.specs.declared.conversion.Conversion.{Conversion}
 use Rattle.j39_reports.specs.declared.fault_news.telling.Telling.{Telling}
-use Rattle.j39_reports.specs.declared.fault_news.telling.Telling.TheVariants.{News, All}
-use Rattle.j39_cli.specs.Answer.{IsBusChecked, IsTask, IsValueChecked}
+use Rattle.j39_reports.specs.declared.fault_news.telling.Telling.TheVariants.{News, All, Changes}
+use Rattle.j39_cli.specs.Answer.{IsBusChecked, IsChecked, IsTask, IsValueChecked}
 use Rattle.j39_cli.specs.Conversions.{IsConversionList, conversions_in}
 use Rattle.j39_cli.specs.declared.task.Argument.TheVariants as argument
 use Rattle.j39_cli.specs.Form.{Form, Meaning, flag, option, value}
@@ -20,25 +20,30 @@ use Rattle.j39_cli.specs.declared.task.Task.TheVariants.{Faults}
 
 abbrev pub faults_app : App
 faults_app =
-    with_log (with_rule (with_rule (with_rule (with_table (new_app (codes "faults"))) (option_rule (codes "conversion") false))
-    (flag_rule (codes "all"))) (flag_rule (codes "csv")))
+    with_log (with_rule (with_rule (with_rule (with_rule (with_table (new_app (codes "faults"))) (option_rule (codes "conversion") false))
+    (flag_rule (codes "all"))) (flag_rule (codes "changes"))) (flag_rule (codes "csv")))
 
-abbrev pub telling_of : Bool → Telling
-telling_of all = if all then All else News
+-- --all and --changes don't go together
+abbrev pub telling_of : Bool → Bool → Option Telling
+telling_of false false = Some News
+telling_of true false = Some All
+telling_of false true = Some Changes
+telling_of true true = None
 
-abbrev pub IsFaultsTask : Option (List ℕ) → Option (List ℕ) → Option (List ℕ) → Bool → Bool → Option (List ℕ) → Task → Type 0
-IsFaultsTask bus table conversion all csv file (Faults input table' conversions telling format) =
+abbrev pub IsFaultsTask : Option (List ℕ) → Option (List ℕ) → Option (List ℕ) → Bool → Bool → Bool → Option (List ℕ) → Task → Type 0
+IsFaultsTask bus table conversion all changes csv file (Faults input table' conversions telling format) =
     (input.bus ≡ bus) × (table' ≡ table) × (conversions ≡ option_map conversions_in conversion)
-    × (telling ≡ telling_of all) × (format ≡ format_of csv) × (input.file ≡ file)
-IsFaultsTask bus table conversion all csv file t = ⊥
+    × (telling_of all changes ≡ Some telling) × (format ≡ format_of csv) × (input.file ≡ file)
+IsFaultsTask bus table conversion all changes csv file t = ⊥
 
-abbrev pub faults_form : Option Text → Option Text → Option Text → Bool → Bool → Option Text → Form
-faults_form bus table conversion all csv file = record {
+abbrev pub faults_form : Option Text → Option Text → Option Text → Bool → Bool → Bool → Option Text → Form
+faults_form bus table conversion all changes csv file = record {
   called = codes "faults";
   arguments = option (codes "bus") bus ∷ option (codes "table") table ∷ option (codes "conversion") conversion
-      ∷ flag (codes "all") all ∷ flag (codes "csv") csv ∷ value (codes "file") file ∷ [];
+      ∷ flag (codes "all") all ∷ flag (codes "changes") changes ∷ flag (codes "csv") csv ∷ value (codes "file") file ∷ [];
   Answers = IsBusChecked bus (IsValueChecked IsConversionList argument.Conversion conversion
-      (IsTask (IsFaultsTask bus table conversion all csv file)));
+      (IsChecked (telling_of all changes ≢ None) argument.AllChanges
+      (IsTask (IsFaultsTask bus table conversion all changes csv file))));
 }
 
 -- no version is known where none is given

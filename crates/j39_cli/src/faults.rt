@@ -9,7 +9,7 @@ ghost use Rattle.j39_cli.specs.Rules.{IsMade};
 use crate::command::{new_command, with_flag, with_option, with_table};
 use crate::log::{with_csv, with_log};
 use crate::words::{conversions_value, format_given, is_set, log_input};
-use crate::{Conversions, ParseFault, Task, WordText};
+use crate::{Argument, Conversions, ParseFault, Task, WordText};
 use clap::{ArgMatches, Command};
 use j39_reports::{Choice, Telling};
 use std::alloc::{AllocError, Global};
@@ -20,12 +20,16 @@ each message of DM1 (active codes), DM2 (previously active), DM27 (pending), DM2
 (permanent), and of emissions DM6, DM12 and DM23 (pending, active, previously
 active) that tells something else, or under another NAME, than the last message
 before of that group from that address, or that is the first. With --all, of each
-message. The line has the time, the source address (hex), the NAME of the device at
-that address (hex, or dashes where no claim before tells it), the state, the SPN,
-the FMI, how often it came (or -), the lamps of the device (a flashing one with *,
-or - where all are off), what the table calls the parameter, and what the FMI
-means. A message with no code writes none. Who asks to clear codes is told too: the
-previously active ones (DM3), or the active ones (DM11), of all (FF) or of one.";
+message. With --changes instead what became of each active code from one DM1 of an
+address to its next under the same NAME: set (that before doesn't name it, or there
+is none), again (its count rose), cleared (this one doesn't name it); silence clears
+none. The line has the time, the source address (hex), the NAME of the device at
+that address (hex, or dashes where no claim before tells it), the state, or what
+became of the code, the SPN, the FMI, how often it came (or -), the lamps of the
+device (a flashing one with *, or - where all are off), what the table calls the
+parameter, and what the FMI means. A message with no code writes none. Who asks to
+clear codes is told too, but for --changes: the previously active ones (DM3), or
+the active ones (DM11), of all (FF) or of one.";
 
 const HELP: &str = "\
 At the end the counts go to standard error:
@@ -52,6 +56,8 @@ pub(crate) fn command<'a>(alloc: Global) -> Result<Command<'a>, AllocError>
     let command = with_option(alloc, command, "conversion", "C", false, help);
     let help = "Each message of faults, whether it is news or not";
     let command = with_flag(alloc, command, "all", help);
+    let help = "What became of active codes: set, again (its count rose) or cleared";
+    let command = with_flag(alloc, command, "changes", help);
     with_log(alloc, with_csv(alloc, command))
 }
 
@@ -60,29 +66,38 @@ pub(crate) fn task<'a>(given: &ArgMatches<'a>) -> Result<Task<'a>, ParseFault>
     ensures { IsAnswered (command_found (codes "faults") (found_of given.now)) result }
 {
     let table = given.get_str("table").map(WordText::new);
-    let telling = telling_by(is_set(given, "all"));
+    let telling = telling_by(is_set(given, "all"), is_set(given, "changes"));
     let format = format_given(given);
     let input = match log_input(given) {
         Ok(input) => input,
         Err(fault) => return Err(fault),
     };
-    match conversions_value(given) {
-        Ok(conversions) => Ok(Task::Faults {
+    let conversions = match conversions_value(given) {
+        Ok(conversions) => conversions,
+        Err(fault) => return Err(fault),
+    };
+    match telling {
+        Some(telling) => Ok(Task::Faults {
             input,
             table,
             conversions,
             telling,
             format,
         }),
-        Err(fault) => Err(fault),
+        None => Err(ParseFault::BadValue(Argument::AllChanges)),
     }
 }
 
-/// Which messages are told: each, or those that are news.
-fn telling_by(all: bool) -> Telling
-    ensures { result ≡ telling_of all }
+/// What is told of messages by `--all` and `--changes`, which don't go together.
+fn telling_by(all: bool, changes: bool) -> Option<Telling>
+    ensures { result ≡ telling_of all changes }
 {
-    if all { Telling::All } else { Telling::News }
+    match (all, changes) {
+        (false, false) => Some(Telling::News),
+        (true, false) => Some(Telling::All),
+        (false, true) => Some(Telling::Changes),
+        (true, true) => None,
+    }
 }
 
 /// What is told: no version is known where none is given.

@@ -124,7 +124,7 @@ pub enum Task<'a> {
         table: Option<WordText<'a>>,
         /// By which versions of their conversion SPNs are read; `None` for none.
         conversions: Option<Conversions>,
-        /// Which messages are told.
+        /// What is told of messages.
         telling: Telling,
         /// How they are written.
         format: Format,
@@ -233,6 +233,8 @@ pub enum Argument {
     Spn,
     /// `--conversion`, the versions by which SPNs are read.
     Conversion,
+    /// `--all` beside `--changes`, which don't go together.
+    AllChanges,
 }
 
 impl Argument {
@@ -250,6 +252,7 @@ impl Argument {
             Argument::Hex => "HEX",
             Argument::Spn => "--spn",
             Argument::Conversion => "--conversion",
+            Argument::AllChanges => "--all with --changes",
         }
     }
 }

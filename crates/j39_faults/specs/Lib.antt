@@ -7,6 +7,7 @@ pub mod Words
 -- what is told (own)
 pub mod Text
 pub mod Sameness
+pub mod Changes
 -- the code's steps, below the rules
 pub mod CodesLeft
 pub mod LampText

@@ -1,6 +1,8 @@
 -- The text of a code and of the lamps (own).
 use Rattle.std.specs.Prelude.{◌&&◌, ◌++◌, ◌∷◌, ℕ, List, [], Bool, true, false, Option, Some, None, if◌then◌else◌, codes, decimal, unwrap_or}
 use Rattle.std.specs.List.{join_with_byte}
+use Rattle.j39_faults.specs.declared.change.Change.{Change}
+use Rattle.j39_faults.specs.declared.change.Change.TheVariants.{Set, Again, Cleared}
 use Rattle.j39_faults.specs.declared.code.Candidates.{Candidates}
 use Rattle.j39_faults.specs.declared.code.Code.{Code}
 use Rattle.j39_faults.specs.declared.code.Parameter.{Parameter}
@@ -13,6 +15,8 @@ use Rattle.j39_faults.specs.declared.lamps.Lamp.{Lamp}
 use Rattle.j39_faults.specs.declared.lamps.LampState.{LampState}
 use Rattle.j39_faults.specs.declared.lamps.LampState.TheVariants as state
 use Rattle.j39_faults.specs.declared.lamps.Lamps.{Lamps}
+use Rattle.j39_faults.specs.declared.text.State.{State}
+use Rattle.j39_faults.specs.declared.text.State.TheVariants.{Is, Became}
 use Rattle.j39_faults.specs.Words.{fmi_words}
 
 abbrev pub kind_text : Kind → List ℕ
@@ -23,6 +27,16 @@ kind_text EmissionActive = codes "emission-active"
 kind_text EmissionPrevious = codes "emission-previous"
 kind_text Pending = codes "pending"
 kind_text Permanent = codes "permanent"
+
+abbrev pub change_text : Change → List ℕ
+change_text Set = codes "set"
+change_text Again = codes "again"
+change_text Cleared = codes "cleared"
+
+-- of which kind a code is, or what became of it
+abbrev pub state_text : State → List ℕ
+state_text (Is kind) = kind_text kind
+state_text (Became change) = change_text change
 
 -- as `clear-active`, where the codes of a kind are to be cleared
 unfoldable pub clear_text : Kind → List ℕ
@@ -110,18 +124,18 @@ parameter_words (OneOf spns) = candidates_words spns
 abbrev pub meaning_text : ℕ → List ℕ
 meaning_text fmi = codes ": " ++ fmi_words fmi
 
--- the kind, the SPN, the FMI, the count and the lamps
-abbrev pub columns_text : Kind → Lamps → Code → List ℕ
-columns_text kind lamps code =
-    kind_text kind ++ codes " " ++ spn_text code.parameter ++ codes " " ++ decimal code.fmi ++ codes " "
+-- the state, the SPN, the FMI, the count and the lamps
+abbrev pub columns_text : State → Lamps → Code → List ℕ
+columns_text how lamps code =
+    state_text how ++ codes " " ++ spn_text code.parameter ++ codes " " ++ decimal code.fmi ++ codes " "
     ++ count_text code.count ++ codes " " ++ lamps_text lamps
 
 -- as `active 110 4 3 red,amber coolant temperature: voltage below normal, or shorted to low source`, by the name of the parameter
-unfoldable pub code_text : Kind → Lamps → Option (List ℕ) → Code → List ℕ
-code_text kind lamps name code =
-    columns_text kind lamps code ++ codes " " ++ unwrap_or name (parameter_words code.parameter)
+unfoldable pub code_text : State → Lamps → Option (List ℕ) → Code → List ℕ
+code_text how lamps name code =
+    columns_text how lamps code ++ codes " " ++ unwrap_or name (parameter_words code.parameter)
     ++ meaning_text code.fmi
 
 -- as `active none - -`, where a message has no code
-unfoldable pub no_code_text : Kind → Lamps → List ℕ
-no_code_text kind lamps = kind_text kind ++ codes " none - " ++ lamps_text lamps
+unfoldable pub no_code_text : State → Lamps → List ℕ
+no_code_text how lamps = state_text how ++ codes " none - " ++ lamps_text lamps

@@ -1,6 +1,7 @@
 //! What the messages of faults say: DM1, the active codes, and its kin (J1939-73).
 #![tactic(auto)]
 
+mod change;
 mod code;
 mod codes;
 mod conversion;
@@ -11,6 +12,7 @@ mod sameness;
 mod text;
 mod words;
 
+pub use change::{Change, change_since, clearing_by};
 pub use code::{Candidates, Code, Parameter};
 pub use codes::{Codes, codes_of};
 pub use conversion::{Conversion, Version, code_by, version_for};
@@ -19,6 +21,7 @@ pub use lamp_names::{LampsText, lamps_text, lamps_told};
 pub use lamps::{Flash, Lamp, LampState, Lamps, lamps_of};
 pub use sameness::tells_same;
 pub use text::{
-    ClearWord, ParameterWords, clear_word, kind_word, parameter_words, put_code, put_no_code,
+    ClearWord, ParameterWords, State, clear_word, kind_word, parameter_words, put_code,
+    put_no_code, state_word,
 };
 pub use words::fmi_words;

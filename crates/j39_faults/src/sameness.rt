@@ -53,7 +53,7 @@ fn is_same_code(one: Code, other: Code) -> bool
         && is_same_count(one.count, other.count)
 }
 
-fn is_same_parameter(one: Parameter, other: Parameter) -> bool
+pub(crate) fn is_same_parameter(one: Parameter, other: Parameter) -> bool
     ensures { result ≡ is_same_parameter one other }
 {
     match (one, other) {

@@ -4,8 +4,9 @@ ghost use Rattle.std.specs.Option.{option_map};
 ghost use Rattle.arrayvec.specs.ArrayVec.{array_vec_len};
 ghost use Rattle.j39_io.specs.Puts.{Puts};
 ghost use Rattle.j39_io.specs.Turn.{turn};
-ghost use Rattle.j39_faults.specs.Text.{candidates_words, clear_text, code_text, columns_text, count_text, kind_text, lamps_text, meaning_text, no_code_text, parameter_words, spn_text};
+ghost use Rattle.j39_faults.specs.Text.{candidates_words, clear_text, code_text, columns_text, count_text, change_text, kind_text, lamps_text, meaning_text, no_code_text, parameter_words, spn_text, state_text};
 
+use crate::change::Change;
 use crate::code::{Candidates, Code, Parameter};
 use crate::kind::Kind;
 use crate::lamp_names::lamps_text;
@@ -24,22 +25,29 @@ pub type ClearWord = ArrayVec<u8, 32>;
 /// Three numbers of ten digits and the words between fit.
 pub type ParameterWords = ArrayVec<u8, 64>;
 
-/// Writes what a message says of one code (own), with no newline: the kind, the SPN, the FMI, the count or `-`, the
+/// What is told of a code: that it is of a kind, or what became of it.
+#[derive(Clone, Copy, Debug, PartialEq, Eq)]
+pub enum State {
+    Is(Kind),
+    Became(Change),
+}
+
+/// Writes what a message says of one code (own), with no newline: the state, the SPN, the FMI, the count or `-`, the
 /// lamps, then the parameter's name, or `SPN` and its number where there is none, and what the FMI means. Where the SPN
 /// isn't known `-` stands for it, and `SPN` and its candidates for the name. After a fault a front of the text was
 /// written.
 #[tactic(auto, unfolding(crate::specs::Text::code_text))]
 pub fn put_code<W: Sink>(
-    kind: Kind,
+    state: State,
     lamps: Lamps,
     name: Option<&[u8]>,
     code: Code,
     sink: &mut W,
 ) -> Result<(), DeviceFault>
-    ensures { Puts (code_text kind lamps (option_map (λ text. text.now) name.entry) code)
+    ensures { Puts (code_text state lamps (option_map (λ text. text.now) name.entry) code)
         result (turn W.written W.has_failed sink.old sink.new) }
 {
-    let columns = columns_of(kind, lamps, code);
+    let columns = columns_of(state, lamps, code);
     put_all(sink, columns.as_slice())?;
     put_name(name, code.parameter, sink)?;
     put_meaning(code.fmi, sink)
@@ -47,10 +55,10 @@ pub fn put_code<W: Sink>(
 
 /// Writes that a message has no code (own), with no newline: `active none - -`, with what is told of the lamps in the
 /// place of the last dash. After a fault a front of the text was written.
-pub fn put_no_code<W: Sink>(kind: Kind, lamps: Lamps, sink: &mut W) -> Result<(), DeviceFault>
-    ensures { Puts (no_code_text kind lamps) result (turn W.written W.has_failed sink.old sink.new) }
+pub fn put_no_code<W: Sink>(state: State, lamps: Lamps, sink: &mut W) -> Result<(), DeviceFault>
+    ensures { Puts (no_code_text state lamps) result (turn W.written W.has_failed sink.old sink.new) }
 {
-    put_all(sink, no_code_text(kind, lamps).as_slice())
+    put_all(sink, no_code_text(state, lamps).as_slice())
 }
 
 fn put_name<W: Sink>(
@@ -107,11 +115,11 @@ fn candidates_words(spns: Candidates) -> ParameterWords
     text
 }
 
-fn columns_of(kind: Kind, lamps: Lamps, code: Code) -> Columns
-    ensures { result.items ≡ columns_text kind lamps code ++ codes " " }
+fn columns_of(state: State, lamps: Lamps, code: Code) -> Columns
+    ensures { result.items ≡ columns_text state lamps code ++ codes " " }
 {
     let mut text = ArrayVec::new();
-    push_kind(&mut text, kind);
+    push_bytes(&mut text, state_word(state));
     push_bytes(&mut text, b" ");
     push_spn(&mut text, code.parameter);
     push_bytes(&mut text, b" ");
@@ -125,22 +133,14 @@ fn columns_of(kind: Kind, lamps: Lamps, code: Code) -> Columns
 }
 
 #[tactic(auto, unfolding(crate::specs::Text::no_code_text))]
-fn no_code_text(kind: Kind, lamps: Lamps) -> Columns
-    ensures { result.items ≡ no_code_text kind lamps }
+fn no_code_text(state: State, lamps: Lamps) -> Columns
+    ensures { result.items ≡ no_code_text state lamps }
 {
     let mut text = ArrayVec::new();
-    push_kind(&mut text, kind);
+    push_bytes(&mut text, state_word(state));
     push_bytes(&mut text, b" none - ");
     push_bytes(&mut text, lamps_text(lamps).as_slice());
     text
-}
-
-fn push_kind(text: &mut Columns, kind: Kind)
-    requires { array_vec_len text.old + 17 ≤ 128 }
-    ensures items { text.new.items ≡ text.old.items ++ kind_text kind }
-    ensures len { array_vec_len text.new ≤ array_vec_len text.old + 17 }
-{
-    push_bytes(text, kind_word(kind));
 }
 
 /// The word for a kind's codes that are to be cleared: `clear-` and the kind's.
@@ -152,6 +152,28 @@ pub fn clear_word(kind: Kind) -> ClearWord
     push_bytes(&mut word, b"clear-");
     push_bytes(&mut word, kind_word(kind));
     word
+}
+
+/// The word for a state.
+pub fn state_word(state: State) -> &'static [u8]
+    ensures text { result.now ≡ state_text state }
+    ensures short { length result.now ≤ 17 }
+{
+    match state {
+        State::Is(kind) => kind_word(kind),
+        State::Became(change) => change_word(change),
+    }
+}
+
+fn change_word(change: Change) -> &'static [u8]
+    ensures text { result.now ≡ change_text change }
+    ensures short { length result.now ≤ 17 }
+{
+    match change {
+        Change::Set => b"set",
+        Change::Again => b"again",
+        Change::Cleared => b"cleared",
+    }
 }
 
 /// The word for a kind.

@@ -1,6 +1,6 @@
 -- What is told of more messages, and of more frames.
 use Rattle.std.proofs.Common.{◌≡◌, ◌∙◌, ◌+◌, ◌<◌, ◌≤◌, ℕ, zero, suc, true, false, List, [], ◌∷◌, ◌++◌}
-use Rattle.std.proofs.Common.{Option, Some, None, ap, append-nil, append_assoc, arith, flat_map}
+use Rattle.std.proofs.Common.{Option, Some, None, ap, append-nil, append_assoc, arith}
 use Rattle.std.proofs.Common.{inl, inr, length, length-append, refl, slice_get, subst, sym, take}
 use Rattle.std.proofs.lemmas.Bool.{cases_Bool, cond-true, cond-false}
 use Rattle.std.proofs.lemmas.Grind.{flat_map-append}
@@ -21,8 +21,9 @@ use Rattle.j39_listen.proofs.Causal.{heard_more}
 use Rattle.j39_listen.proofs.LineLemmas.{capped-sum}
 use Rattle.j39_listen.proofs.ReportAccount.{same_made}
 use Rattle.j39_listen.proofs.Unique.{heard_below_unique, heard_first}
-use Rattle.j39_reports.specs.Faults.{Fault, faults_in}
-use Rattle.j39_reports.specs.News.{Chosen, chosen_of, faults_among, is_fault_group, is_of_faults, told, told_below, told_here}
+use Rattle.j39_reports.specs.Faults.{Fault}
+use Rattle.j39_reports.specs.Told.{told, told_below, told_here}
+use Rattle.j39_reports.specs.News.{Chosen, chosen_of, faults_among, is_fault_group, is_of_faults}
 use Rattle.j39_reports.specs.FaultRun.{MakesFaults, MakesFaultsIn, faults_of}
 use Rattle.j39_reports.specs.FaultRecords.{fault_in, faults_text}
 use Rattle.j39_reports.specs.Remembered.{Remembers}
@@ -48,12 +49,12 @@ unfolding told_below
 told_none which = refl
 
 pub none_told : (form : Format) (rows : List RowRecord) (which : Chosen) → (faults_of form rows which []).text ≡ []
-none_told form rows which = ap (λ ms. faults_text form rows (flat_map (faults_in which.conversions) ms)) (told_none which) ∙ faults_text-none form rows
+none_told form rows which = ap (faults_text form rows) (told_none which) ∙ faults_text-none form rows
 
 pub none_made : (form : Format) (rows : List RowRecord) (which : Chosen) → (record { messages = 0; lines = 0 }) ≡ made_of (faults_of form rows which [])
-none_made form rows which = same_made _ _ refl (sym (ap (λ (ms : List Hearing). capped (length (flat_map (faults_in which.conversions) ms))) (told_none which)))
+none_made form rows which = same_made _ _ refl (sym (ap (λ (fs : List Fault). capped (length fs)) (told_none which)))
 
--- ---- the messages told: of the first messages first
+-- ---- what is told: of the first messages first
 
 same_get : (ms ks : List Hearing) (n : ℕ) → n < length ms → slice_get (ms ++ ks) n ≡ slice_get ms n
 same_get [] ks n l = absurd (omega arith)
@@ -68,7 +69,7 @@ told_first which ms ks (suc n) l =
     ∙ ap (λ x. told_below which ms n ++ told_here which x (slice_get (ms ++ ks) n)) (take-append-le n ms ks (omega arith))
     ∙ ap (λ x. told_below which ms n ++ told_here which (take n ms) x) (same_get ms ks n (omega arith))
 
-told_rest : (which : Chosen) (ms ks : List Hearing) (n : ℕ) → (rest : List Hearing) × (told_below which (ms ++ ks) (n + length ms) ≡ told which ms ++ rest)
+told_rest : (which : Chosen) (ms ks : List Hearing) (n : ℕ) → (rest : List Fault) × (told_below which (ms ++ ks) (n + length ms) ≡ told which ms ++ rest)
 unfolding told_below
 told_rest which ms ks zero =
     let first : 0 + length ms ≡ length ms = omega arith in
@@ -79,7 +80,7 @@ told_rest which ms ks (suc n) =
     let here = told_here which (take (n + length ms) (ms ++ ks)) (slice_get (ms ++ ks) (n + length ms)) in
     (r.0 ++ here, ap (told_below which (ms ++ ks)) next ∙ ap (λ x. x ++ here) r.1 ∙ append_assoc (told which ms) r.0 here)
 
-told_begins : (which : Chosen) (ms ks : List Hearing) → (rest : List Hearing) × (told which (ms ++ ks) ≡ told which ms ++ rest)
+told_begins : (which : Chosen) (ms ks : List Hearing) → (rest : List Fault) × (told which (ms ++ ks) ≡ told which ms ++ rest)
 told_begins which ms ks =
     let len : length (ms ++ ks) ≡ length ks + length ms = length-append ms ks ∙ omega arith in
     let r = told_rest which ms ks (length ks) in
@@ -125,16 +126,13 @@ told_more which ms (Some h) = elim (cases_Bool (is_of_faults h)) [
 ]
 
 module _ (form : Format) (rows : List RowRecord) (which : Chosen) (ms : List Hearing) (o : Option Hearing) where
-  faults_more : flat_map (faults_in which.conversions) (told which (ms ++ faults_among (or_none o))) ≡ flat_map (faults_in which.conversions) (told which ms) ++ flat_map (faults_in which.conversions) (told_next which ms o)
-  faults_more = ap (flat_map (faults_in which.conversions)) (told_more which ms o) ∙ flat_map-append (faults_in which.conversions) (told which ms) (told_next which ms o)
-
   text_more : (faults_of form rows which (ms ++ faults_among (or_none o))).text ≡ (faults_of form rows which ms).text ++ (added form rows which ms o).text
-  text_more = ap (faults_text form rows) faults_more ∙ faults_text-append form rows (flat_map (faults_in which.conversions) (told which ms)) (flat_map (faults_in which.conversions) (told_next which ms o))
+  text_more = ap (faults_text form rows) (told_more which ms o) ∙ faults_text-append form rows (told which ms) (told_next which ms o)
 
   made_more : made_of (faults_of form rows which (ms ++ faults_among (or_none o))) ≡ made_sum (made_of (faults_of form rows which ms)) (made_of (added form rows which ms o))
   made_more = same_made _ _
       (capped-sum _ _ _ (length-append ms (faults_among (or_none o))))
-      (capped-sum _ _ _ (ap length faults_more ∙ length-append (flat_map (faults_in which.conversions) (told which ms)) (flat_map (faults_in which.conversions) (told_next which ms o))))
+      (capped-sum _ _ _ (ap length (told_more which ms o) ∙ length-append (told which ms) (told_next which ms o)))
 
 -- ---- nothing is told
 
@@ -143,8 +141,8 @@ pub tells_nothing : (form : Format) (rows : List RowRecord) (which : Chosen) (la
     → Tells form rows which last ms o made held held
 tells_nothing form rows which last ms o made held none untold remembers m l = record {
   remembers = subst (Remembers last) (sym (ap (λ x. ms ++ x) none ∙ append-nil ms)) remembers;
-  made_is = same_made _ _ (m ∙ sym (ap (λ (x : List Hearing). capped (length x)) none)) (l ∙ sym (ap (λ (x : List Hearing). capped (length (flat_map (faults_in which.conversions) x))) untold));
-  written = subst (Appends held held) (sym (ap (λ (x : List Hearing). faults_text form rows (flat_map (faults_in which.conversions) x)) untold ∙ faults_text-none form rows)) (Appends-nil held);
+  made_is = same_made _ _ (m ∙ sym (ap (λ (x : List Hearing). capped (length x)) none)) (l ∙ sym (ap (λ (x : List Fault). capped (length x)) untold));
+  written = subst (Appends held held) (sym (ap (faults_text form rows) untold ∙ faults_text-none form rows)) (Appends-nil held);
 }
 
 -- ---- the groups of faults aren't the network's
@@ -195,11 +193,11 @@ texts form rows which bus F G first before all are is (heard, are_all, all_is) =
     let split = heard_first is_fault_group faults_leave F G heard first are_all are in
     let among = ap faults_among split.1 ∙ sound F first split.0 in
     let t = told_begins which (faults_among first) (faults_among split.0) in (
-      faults_text form rows (flat_map (faults_in which.conversions) t.0),
-      ap (λ (o : Output). o.text) all_is ∙ ap (λ (x : List Hearing). faults_text form rows (flat_map (faults_in which.conversions) (told which x))) among
-          ∙ ap (λ (x : List Hearing). faults_text form rows (flat_map (faults_in which.conversions) x)) t.1 ∙ ap (faults_text form rows) (flat_map-append (faults_in which.conversions) (told which (faults_among first)) t.0)
-          ∙ faults_text-append form rows (flat_map (faults_in which.conversions) (told which (faults_among first))) (flat_map (faults_in which.conversions) t.0)
-          ∙ ap (λ x. x ++ faults_text form rows (flat_map (faults_in which.conversions) t.0)) (sym (ap (λ (o : Output). o.text) is)),
+      faults_text form rows t.0,
+      ap (λ (o : Output). o.text) all_is ∙ ap (λ (x : List Hearing). faults_text form rows (told which x)) among
+          ∙ ap (faults_text form rows) t.1
+          ∙ faults_text-append form rows (told which (faults_among first)) t.0
+          ∙ ap (λ x. x ++ faults_text form rows t.0) (sym (ap (λ (o : Output). o.text) is)),
     )
 
 pub news_begins : (form : Format) (s : Subject) → Begins (λ bus. HasTold form s) (MakesFaultsIn form s.rows s.which)

@@ -24,6 +24,7 @@ pub mod FaultLineLemmas
 -- the news of faults: the account
 pub mod HeardLemmas
 pub mod FaultAccountLemmas
+pub mod ChangeLemmas
 pub mod PutLemmas
 -- surveys: lists
 pub mod FirstsLemmas

@@ -1,12 +1,14 @@
 -- What is told of one message.
 use Rattle.std.proofs.Common.{◌≡◌, ◌≢◌, ◌∙◌, ◌<◌, ◌≤◌, ◌^◌, ◌&&◌, ◌||◌, ℕ, Bool, true, false, List, [], ◌∷◌, ◌++◌, Option, Some}
-use Rattle.std.proofs.Common.{None, ap, append-nil, arith, flat_map, if◌then◌else◌, is_some, length, nat_le, refl}
+use Rattle.std.proofs.Common.{None, ap, arith, is_some, length, nat_le, refl}
 use Rattle.std.proofs.Common.{subst, sym, Result, Ok, Err}
+use Rattle.std.specs.Prelude.{IfOk, OnOk}
 use Rattle.std.proofs.lemmas.Bool.{le-leb}
 use Rattle.std.specs.Io.KnownBytes.{Appends}
 use Rattle.j39_io.specs.Device.{AppendsFront}
 use Rattle.j39_io.specs.Puts.{Puts}
-use Rattle.j39_io.specs.Turn.{Turn}
+use Rattle.j39_io.specs.Turn.{Device, Turn}
+use Rattle.j39_io.proofs.PutsLemmas.{puts_as, puts_nothing}
 use Rattle.j39_faults.specs.FaultGroups.{cleared_in, kind_of}
 use Rattle.j39_faults.specs.LampBits.{lamps_of}
 use Rattle.j39_faults.specs.declared.kind.Kind.{Kind}
@@ -23,17 +25,19 @@ use Rattle.j39_listen.proofs.ReportAccount.{same_made}
 use Rattle.j39_reports.specs.Faults.{Fault, clearing_of, faults_by, faults_in, faults_or_clearing}
 use Rattle.j39_faults.specs.Conversions.{version_for}
 use Rattle.j39_faults.specs.declared.conversion.Version.{Version}
-use Rattle.j39_reports.specs.News.{Chosen, is_clearing, is_news, is_of_codes, is_of_faults, is_told, last_from, says_other}
+use Rattle.j39_reports.specs.News.{Chosen, is_clearing, is_news, is_of_codes, is_of_faults, last_from, says_other}
+use Rattle.j39_reports.specs.FaultChanges.{bytes_before, changes_by, changes_in, changes_of, is_active}
+use Rattle.j39_reports.specs.Told.{told_of}
 use Rattle.j39_reports.specs.FaultRecords.{faults_text}
 use Rattle.j39_reports.specs.Remembered.{Remembers, noted, said_at, said_in}
-use Rattle.j39_reports.specs.LastMessages.{differs}
-use Rattle.j39_reports.specs.FaultsSoFar.{Tells, TellsFront, told_faults, told_next}
+use Rattle.j39_reports.specs.LastMessages.{differs, said_before}
+use Rattle.j39_reports.specs.FaultsSoFar.{Tells, TellsFaults, TellsFront, tells_clearing, told_faults, told_next, told_since}
 use Rattle.j39_listen.specs.declared.format.Format.{Format}
 use Rattle.j39_reports.specs.declared.fault_news.last_faults.LastFaults.{LastFaults}
 use Rattle.j39_reports.specs.declared.fault_news.telling.Telling.{Telling}
-use Rattle.j39_reports.specs.declared.fault_news.telling.Telling.TheVariants.{News, All}
-use Rattle.j39_reports.proofs.FaultAccountLemmas.{among_no, among_yes, next_no, next_yes, tells_nothing}
-use Rattle.j39_reports.proofs.TellLemmas.{news_is, remembers_asked, remembers_more}
+use Rattle.j39_reports.specs.declared.fault_news.telling.Telling.TheVariants.{News, All, Changes}
+use Rattle.j39_reports.proofs.FaultAccountLemmas.{among_no, among_yes, faults_text-none, next_no, next_yes, tells_nothing}
+use Rattle.j39_reports.proofs.TellLemmas.{before_is, by_request, news_is, remembers_asked, remembers_more}
 
 -- ---- which messages are of faults
 
@@ -84,7 +88,35 @@ leaves_writer text (Ok x) sink puts never = record { write = λ is. absurd (cc i
 leaves_writer text (Err Write) sink puts never = record { write = λ is. puts.mark; unmarked = λ other. absurd (other refl); memory = λ is. absurd (never is) }
 leaves_writer text (Err Memory) sink puts never = absurd (never refl)
 
--- ---- one that is told, or not
+-- what was written
+pub tells_faults : (form : Format) (rows : List RowRecord) (faults : List Fault) (r : Result Made LineFault) (sink : Turn)
+    → IfOk r (λ made. (made.messages ≡ 1) × (made.lines ≡ length faults) × (made.lines < 2 ^ 64)) → Puts (faults_text form rows faults) r sink → r ≢ Err Memory
+    → TellsFaults form rows faults r sink
+tells_faults form rows faults (Ok made) sink counts puts never =
+    record { made = counts; written = puts.written; stops = λ is. absurd (cc is); writer = leaves_writer _ (Ok made) sink puts never }
+tells_faults form rows faults (Err e) sink counts puts never =
+    record { made = tt; written = tt; stops = λ is. puts.front; writer = leaves_writer _ (Err e) sink puts never }
+
+-- whatever the result
+pub on_any : {T E : Type 0} {P : Type 0} (r : Result T E) → P → OnOk r P
+on_any (Ok x) p = p
+on_any (Err e) p = tt
+
+pub refused : (form : Format) (rows : List RowRecord) (faults : List Fault) (d : Device) → TellsFaults form rows faults (Err Memory) (record { old = d; new = d })
+refused form rows faults d = record {
+  made = tt;
+  written = tt;
+  stops = λ is. absurd (cc is);
+  writer = record { write = λ is. absurd (cc is); unmarked = λ other. refl; memory = λ is. refl };
+}
+
+-- nothing is told
+pub tells_none : (form : Format) (rows : List RowRecord) (made : Made) (d : Device) → made.messages ≡ 1 → made.lines ≡ 0
+    → TellsFaults form rows [] (Ok made) (record { old = d; new = d })
+tells_none form rows made d m l =
+    tells_faults form rows [] (Ok made) _ (m, l, omega arith) (puts_as _ _ _ _ (sym (faults_text-none form rows)) (puts_nothing made d)) (λ is. cc)
+
+-- ---- one of codes
 
 module _ (form : Format) (rows : List RowRecord) (which : Chosen) (last : LastFaults) (ms : List Hearing) (h : Hearing) (kind : Kind) (lamps : Lamps)
     (version : Option Version) (version_is : version ≡ version_for which.conversions h.name) (asks : cleared_in h.message.pgn h.message.bytes ≡ None) (k : kind_of h.message.pgn ≡ Some kind) (l : lamps_of h.message.bytes ≡ Some lamps) (below : h.message.source < 256) (remembers : Remembers last ms) where
@@ -96,62 +128,75 @@ module _ (form : Format) (rows : List RowRecord) (which : Chosen) (last : LastFa
   clears_none : is_news which.conversions ms h ≡ says_other (version_for which.conversions h.name) (last_from h.message.pgn h.message.source ms) h
   clears_none = ap (λ (o : Option Kind). is_some o || says_other (version_for which.conversions h.name) (last_from h.message.pgn h.message.source ms) h) asks
 
-  by_told : (t : Bool) → flat_map (faults_in which.conversions) (if t then h ∷ [] else []) ≡ told_faults t (faults_in which.conversions h)
-  by_told true = append-nil (faults_in which.conversions h)
-  by_told false = refl
+  news_are : is_news which.conversions ms h ≡ differs version (said_at last kind h.message.source) h.message.bytes h.name
+  news_are = clears_none ∙ sym (ap (λ (v : Option Version). differs v (said_at last kind h.message.source) h.message.bytes h.name) version_is ∙ news_is which.conversions last ms h kind remembers k below)
+
+  changes_are : changes_in which.conversions ms h ≡ told_faults (is_active kind) (changes_by version (said_before (said_at last kind h.message.source) h.name) h lamps)
+  changes_are =
+      ap (λ (v : Option Version). changes_of v (bytes_before (last_from h.message.pgn h.message.source ms) h.name) h (kind_of h.message.pgn) (lamps_of h.message.bytes)) (sym version_is)
+      ∙ ap (λ (bs : List ℕ). changes_of version bs h (kind_of h.message.pgn) (lamps_of h.message.bytes)) (sym (before_is last ms h kind remembers k below))
+      ∙ ap (λ (o : Option Kind). changes_of version (said_before (said_at last kind h.message.source) h.name) h o (lamps_of h.message.bytes)) k
+      ∙ ap (λ (o : Option Lamps). changes_of version (said_before (said_at last kind h.message.source) h.name) h (Some kind) o) l
+
+  told_are : (t : Telling) → told_of t which.conversions ms h ≡ told_since t version (said_at last kind h.message.source) h kind lamps
+  told_are News = ap (λ (b : Bool). told_faults b (faults_in which.conversions h)) news_are
+      ∙ ap (told_faults (differs version (said_at last kind h.message.source) h.message.bytes h.name)) faults_are
+  told_are All = faults_are
+  told_are Changes = changes_are
 
   -- what is added is what is told of it
-  next_faults : (t n : Bool) → n ≡ differs version (said_at last kind h.message.source) h.message.bytes h.name → t ≡ is_told which.telling n
-      → flat_map (faults_in which.conversions) (told_next which ms (Some h)) ≡ told_faults t (faults_by version h (Some kind) (Some lamps))
-  next_faults t n news is =
-      let t_is : t ≡ is_told which.telling (is_news which.conversions ms h) = is ∙ ap (is_told which.telling) (news ∙ ap (λ (v : Option Version). differs v (said_at last kind h.message.source) h.message.bytes h.name) version_is ∙ news_is which.conversions last ms h kind remembers k below ∙ sym clears_none) in
-      ap (flat_map (faults_in which.conversions)) (next_yes which ms h (of_faults h kind lamps k l)) ∙ ap (λ (b : Bool). flat_map (faults_in which.conversions) (if b then h ∷ [] else [])) (sym t_is) ∙ by_told t
-      ∙ ap (told_faults t) faults_are
+  next_faults : told_next which ms (Some h) ≡ told_since which.telling version (said_at last kind h.message.source) h kind lamps
+  next_faults = next_yes which ms h (of_faults h kind lamps k l) ∙ told_are which.telling
 
-  pub tells_message : (last' : LastFaults) (t n : Bool) (made : Made) (old new : Option (List ℕ)) → n ≡ differs version (said_at last kind h.message.source) h.message.bytes h.name
-      → t ≡ is_told which.telling n → length h.message.bytes ≤ 1785 → last' ≡ noted last kind h.message.source (said_in h)
-      → made.messages ≡ 1 → made.lines ≡ length (told_faults t (faults_by version h (Some kind) (Some lamps))) → made.lines < 2 ^ 64
-      → Appends old new (faults_text form rows (told_faults t (faults_by version h (Some kind) (Some lamps)))) → Tells form rows which last' ms (Some h) made old new
-  tells_message last' t n made old new news is short notes messages lines fits written =
-      let next = next_faults t n news is in
+  pub tells_message : (last' : LastFaults) (made : Made) (old new : Option (List ℕ)) → length h.message.bytes ≤ 1785 → last' ≡ noted last kind h.message.source (said_in h)
+      → made.messages ≡ 1 → made.lines ≡ length (told_since which.telling version (said_at last kind h.message.source) h kind lamps) → made.lines < 2 ^ 64
+      → Appends old new (faults_text form rows (told_since which.telling version (said_at last kind h.message.source) h kind lamps)) → Tells form rows which last' ms (Some h) made old new
+  tells_message last' made old new short notes messages lines fits written =
       let among = among_yes h (of_faults h kind lamps k l) in
       record {
         remembers = subst (λ (x : List Hearing). Remembers last' (ms ++ x)) (sym among) (remembers_more last last' ms h kind k notes remembers short);
         made_is = same_made _ _ (messages ∙ sym (ap (λ (x : List Hearing). capped (length x)) among))
-            (sym (ap (λ (x : List Fault). capped (length x)) next ∙ ap capped (sym lines) ∙ capped-fits made.lines fits));
-        written = subst (Appends old new) (sym (ap (faults_text form rows) next)) written;
+            (sym (ap (λ (x : List Fault). capped (length x)) next_faults ∙ ap capped (sym lines) ∙ capped-fits made.lines fits));
+        written = subst (Appends old new) (sym (ap (faults_text form rows) next_faults)) written;
       }
 
-  pub tells_front : (t n : Bool) (old new : Option (List ℕ)) → n ≡ differs version (said_at last kind h.message.source) h.message.bytes h.name → t ≡ is_told which.telling n
-      → AppendsFront old new (faults_text form rows (told_faults t (faults_by version h (Some kind) (Some lamps)))) → TellsFront form rows which ms (Some h) old new
-  tells_front t n old new news is front = subst (AppendsFront old new) (sym (ap (faults_text form rows) (next_faults t n news is))) front
+  pub tells_front : (old new : Option (List ℕ)) → AppendsFront old new (faults_text form rows (told_since which.telling version (said_at last kind h.message.source) h kind lamps))
+      → TellsFront form rows which ms (Some h) old new
+  tells_front old new front = subst (AppendsFront old new) (sym (ap (faults_text form rows) next_faults)) front
 
 -- ---- one that asks to clear codes
 
 module _ (form : Format) (rows : List RowRecord) (which : Chosen) (last : LastFaults) (ms : List Hearing) (h : Hearing) (kind : Kind)
     (asks : cleared_in h.message.pgn h.message.bytes ≡ Some kind) where
-  told_always : (t : Telling) → is_told t true ≡ true
-  told_always News = refl
-  told_always All = refl
+  clearing_is : faults_in which.conversions h ≡ clearing_of h kind ∷ []
+  clearing_is = ap (faults_or_clearing which.conversions h) asks
 
-  -- it is told each time
-  clears_next : flat_map (faults_in which.conversions) (told_next which ms (Some h)) ≡ clearing_of h kind ∷ []
-  clears_next =
-      let news : is_news which.conversions ms h ≡ true =
-      ap (λ (o : Option Kind). is_some o || says_other (version_for which.conversions h.name) (last_from h.message.pgn h.message.source ms) h) asks in
-      ap (flat_map (faults_in which.conversions)) (next_yes which ms h (asks_to h kind asks)
-      ∙ ap (λ (b : Bool). if b then h ∷ [] else []) (ap (is_told which.telling) news ∙ told_always which.telling))
-      ∙ append-nil (faults_in which.conversions h) ∙ ap (faults_or_clearing which.conversions h) asks
+  clearing_news : is_news which.conversions ms h ≡ true
+  clearing_news = ap (λ (o : Option Kind). is_some o || says_other (version_for which.conversions h.name) (last_from h.message.pgn h.message.source ms) h) asks
 
-  pub tells_clearing : (made : Made) (old new : Option (List ℕ)) → Remembers last ms → length h.message.bytes ≤ 1785 → made.messages ≡ 1 → made.lines ≡ 1
-      → Appends old new (faults_text form rows (clearing_of h kind ∷ [])) → Tells form rows which last ms (Some h) made old new
-  tells_clearing made old new remembers short messages lines written =
+  clearing_told : (t : Telling) → told_of t which.conversions ms h ≡ told_faults (tells_clearing t) (clearing_of h kind ∷ [])
+  clearing_told News = ap (λ (b : Bool). told_faults b (faults_in which.conversions h)) clearing_news ∙ clearing_is
+  clearing_told All = clearing_is
+  clearing_told Changes =
+      ap (λ (o : Option Kind). changes_of (version_for which.conversions h.name) (bytes_before (last_from h.message.pgn h.message.source ms) h.name) h o (lamps_of h.message.bytes))
+      (ap kind_of (by_request h.message.pgn h.message.bytes kind asks))
+
+  -- what is added is that, where it is told
+  clears_next : told_next which ms (Some h) ≡ told_faults (tells_clearing which.telling) (clearing_of h kind ∷ [])
+  clears_next = next_yes which ms h (asks_to h kind asks) ∙ clearing_told which.telling
+
+  pub tells_asking : (made : Made) (old new : Option (List ℕ)) → Remembers last ms → length h.message.bytes ≤ 1785 → made.messages ≡ 1
+      → made.lines ≡ length (told_faults (tells_clearing which.telling) (clearing_of h kind ∷ [])) → made.lines < 2 ^ 64
+      → Appends old new (faults_text form rows (told_faults (tells_clearing which.telling) (clearing_of h kind ∷ []))) → Tells form rows which last ms (Some h) made old new
+  tells_asking made old new remembers short messages lines fits written =
       let among = among_yes h (asks_to h kind asks) in
       record {
         remembers = subst (λ (x : List Hearing). Remembers last (ms ++ x)) (sym among) (remembers_asked last ms h kind asks remembers short);
-        made_is = same_made _ _ (messages ∙ sym (ap (λ (x : List Hearing). capped (length x)) among)) (lines ∙ sym (ap (λ (x : List Fault). capped (length x)) clears_next));
+        made_is = same_made _ _ (messages ∙ sym (ap (λ (x : List Hearing). capped (length x)) among))
+            (sym (ap (λ (x : List Fault). capped (length x)) clears_next ∙ ap capped (sym lines) ∙ capped-fits made.lines fits));
         written = subst (Appends old new) (sym (ap (faults_text form rows) clears_next)) written;
       }
 
-  pub clearing_front : (old new : Option (List ℕ)) → AppendsFront old new (faults_text form rows (clearing_of h kind ∷ [])) → TellsFront form rows which ms (Some h) old new
+  pub clearing_front : (old new : Option (List ℕ)) → AppendsFront old new (faults_text form rows (told_faults (tells_clearing which.telling) (clearing_of h kind ∷ [])))
+      → TellsFront form rows which ms (Some h) old new
   clearing_front old new front = subst (AppendsFront old new) (sym (ap (faults_text form rows) clears_next)) front

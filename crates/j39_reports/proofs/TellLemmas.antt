@@ -19,7 +19,8 @@ use Rattle.j39_faults.specs.declared.conversion.Conversion.{Conversion}
 use Rattle.j39_faults.specs.declared.conversion.Version.{Version}
 use Rattle.j39_reports.specs.News.{last_from, says_other}
 use Rattle.j39_reports.specs.Remembered.{Remembers, kept, noted, said_at, said_in}
-use Rattle.j39_reports.specs.LastMessages.{LastMessages, LastRecord, at, differs}
+use Rattle.j39_reports.specs.FaultChanges.{bytes_before}
+use Rattle.j39_reports.specs.LastMessages.{LastMessages, LastRecord, at, differs, said_before}
 use Rattle.j39_reports.specs.declared.fault_news.last_faults.LastFaults.{LastFaults}
 
 -- ---- the last message of a group from an address
@@ -212,7 +213,7 @@ module _ (l l' : LastFaults) (ms : List Hearing) (m : Hearing) (kind : Kind) (is
 
 -- ---- who asks to clear codes says none
 
-by_request : (pgn : ℕ) (bytes : List ℕ) (kind : Kind) → cleared_in pgn bytes ≡ Some kind → pgn ≡ 59904
+pub by_request : (pgn : ℕ) (bytes : List ℕ) (kind : Kind) → cleared_in pgn bytes ≡ Some kind → pgn ≡ 59904
 unfolding cleared_in
 by_request pgn bytes kind is = elim (cases_eq pgn 59904) [
   | inl e ↦ e
@@ -244,6 +245,18 @@ pub news_is : (cs : List Conversion) (l : LastFaults) (ms : List Hearing) (m : H
 news_is cs l ms m kind h is k =
     ap (λ o. differs (version_for cs m.name) o m.message.bytes m.name) (said_is l ms m.message.pgn m.message.source kind h is k)
     ∙ differs_by (version_for cs m.name) (last_from m.message.pgn m.message.source ms) m (λ x e. h.whole x m.message.pgn m.message.source e)
+
+-- what it said before under the same NAME
+before_by : (o : Option Hearing) (name : Option ℕ) → ((x : Hearing) → o ≡ Some x → take 1785 x.message.bytes ≡ x.message.bytes)
+    → said_before (option_map said_in o) name ≡ bytes_before o name
+before_by None name whole = refl
+before_by (Some x) name whole = ap (λ bs. if is_same_or_none x.name name then bs else []) (whole x refl)
+
+pub before_is : (l : LastFaults) (ms : List Hearing) (m : Hearing) (kind : Kind) → Remembers l ms → kind_of m.message.pgn ≡ Some kind → m.message.source < 256
+    → said_before (said_at l kind m.message.source) m.name ≡ bytes_before (last_from m.message.pgn m.message.source ms) m.name
+before_is l ms m kind h is k =
+    ap (λ o. said_before o m.name) (said_is l ms m.message.pgn m.message.source kind h is k)
+    ∙ before_by (last_from m.message.pgn m.message.source ms) m.name (λ x e. h.whole x m.message.pgn m.message.source e)
 
 -- nothing is kept for an address where it said nothing
 pub first_is : (l : LastFaults) (ms : List Hearing) (pgn a : ℕ) (kind : Kind) → Remembers l ms → kind_of pgn ≡ Some kind → a < 256 → said_at l kind a ≡ None

@@ -3,7 +3,7 @@ use Rattle.std.specs.Prelude.{◌++◌, ◌∷◌, ℕ, List, [], Option, Some, 
 use Rattle.std.specs.List.{flat_map}
 use Rattle.j39_reports.specs.Columns.{heard_fields}
 use Rattle.j39_io.specs.Records.{record_text}
-use Rattle.j39_faults.specs.Text.{clear_text, kind_text, lamps_told, parameter_words}
+use Rattle.j39_faults.specs.Text.{clear_text, lamps_told, parameter_words, state_text}
 use Rattle.j39_faults.specs.Words.{fmi_words}
 use Rattle.j39_faults.specs.declared.code.Code.{Code}
 use Rattle.j39_faults.specs.declared.code.Parameter.{Parameter}
@@ -11,12 +11,16 @@ use Rattle.j39_faults.specs.declared.code.Parameter.TheVariants.{Known, OneOf}
 use Rattle.j39_faults.specs.declared.lamps.Lamps.{Lamps}
 use Rattle.j39_groups.specs.Row.{RowRecord}
 use Rattle.j39_reports.specs.Faults.{Fault, Saying, clears, fault_line, name_in, says}
+use Rattle.j39_reports.specs.declared.fault_news.telling.Telling.{Telling}
+use Rattle.j39_reports.specs.declared.fault_news.telling.Telling.TheVariants.{News, All, Changes}
 use Rattle.j39_listen.specs.declared.format.Format.{Format}
 use Rattle.j39_listen.specs.declared.format.Format.TheVariants.{Line, Record}
 
 -- the names of the columns
-abbrev pub fault_columns : List ℕ
-fault_columns = codes "stamp,utc,address,destination,name,state,spn,fmi,count,lamps,parameter,meaning\r\n"
+abbrev pub fault_columns : Telling → List ℕ
+fault_columns News = codes "stamp,utc,address,destination,name,state,spn,fmi,count,lamps,parameter,meaning\r\n"
+fault_columns All = codes "stamp,utc,address,destination,name,state,spn,fmi,count,lamps,parameter,meaning\r\n"
+fault_columns Changes = codes "stamp,utc,address,destination,name,change,spn,fmi,count,lamps,parameter,meaning\r\n"
 
 -- the stamp, the same in UTC, the address, the destination and the NAME, a comma after each
 abbrev pub head_fields : ℕ → ℕ → Option ℕ → Option ℕ → List ℕ
@@ -68,7 +72,7 @@ abbrev pub clearing_fields : List (List ℕ)
 clearing_fields = [] ∷ [] ∷ [] ∷ [] ∷ [] ∷ codes "all codes" ∷ []
 
 abbrev pub saying_record : List RowRecord → Saying → List ℕ
-saying_record rows (says kind lamps code) = record_text (kind_text kind) (said_fields rows lamps code)
+saying_record rows (says how lamps code) = record_text (state_text how) (said_fields rows lamps code)
 saying_record rows (clears kind) = record_text (clear_text kind) clearing_fields
 
 -- the record of a fault

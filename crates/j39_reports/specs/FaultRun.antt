@@ -1,22 +1,21 @@
 -- What is made of the frames of a log.
 use Rattle.std.specs.Prelude.{◌≡◌, List, length}
-use Rattle.std.specs.List.{flat_map}
 use Rattle.j39_groups.specs.Row.{RowRecord}
 use Rattle.j39_listen.specs.Heard.{AreHeardWith, Hearing}
 use Rattle.j39_listen.specs.Headed.{Headed}
 use Rattle.j39_listen.specs.Output.{Making, Output}
-use Rattle.j39_reports.specs.Faults.{faults_in}
-use Rattle.j39_reports.specs.News.{Chosen, faults_among, is_fault_group, told}
+use Rattle.j39_reports.specs.News.{Chosen, faults_among, is_fault_group}
+use Rattle.j39_reports.specs.Told.{told}
 use Rattle.j39_reports.specs.FaultRecords.{fault_columns, faults_text}
 use Rattle.j39_listen.specs.declared.format.Format.{Format}
 use Rattle.j39_listen.specs.declared.format.Format.TheVariants.{Line, Record}
 
--- the text of each fault of each message of faults that is told; each message of faults counts
+-- the text of each fault that is told of the messages of faults; each message of faults counts
 abbrev pub faults_of : Format → List RowRecord → Chosen → List Hearing → Output
 faults_of form rows which ms = record {
-  text = faults_text form rows (flat_map (faults_in which.conversions) (told which ms));
+  text = faults_text form rows (told which ms);
   messages = length ms;
-  lines = length (flat_map (faults_in which.conversions) (told which ms));
+  lines = length (told which ms);
 }
 
 -- the faults that are told in the frames, whatever their bus is called, in either form
@@ -28,4 +27,4 @@ MakesFaultsIn form rows which bus F output =
 -- a line for each, or the names of the columns and a record for each
 abbrev pub MakesFaults : Format → List RowRecord → Chosen → Making
 MakesFaults Line rows which = MakesFaultsIn Line rows which
-MakesFaults Record rows which = Headed fault_columns (MakesFaultsIn Record rows which)
+MakesFaults Record rows which = Headed (fault_columns which.telling) (MakesFaultsIn Record rows which)

@@ -5,6 +5,8 @@ use Rattle.j39_faults.specs.Conversions.{codes_by, version_for}
 use Rattle.j39_faults.specs.FaultGroups.{cleared_in, kind_of}
 use Rattle.j39_faults.specs.LampBits.{lamps_of}
 use Rattle.j39_faults.specs.Text.{clear_text, code_text, no_code_text}
+use Rattle.j39_faults.specs.declared.text.State.{State}
+use Rattle.j39_faults.specs.declared.text.State.TheVariants.{Is}
 use Rattle.j39_faults.specs.declared.code.Code.{Code}
 use Rattle.j39_faults.specs.declared.code.Parameter.{Parameter}
 use Rattle.j39_faults.specs.declared.code.Parameter.TheVariants.{Known, OneOf}
@@ -20,9 +22,10 @@ use Rattle.j39_log.specs.StampText.{stamp_text}
 use Rattle.j39_reports.specs.RowText.{destination_text}
 use Rattle.j39_io.specs.Chars.{newline}
 
--- a code of a kind, or that a message has none, and with which lamps; or that the codes of a kind are to be cleared
+-- a code of a kind, what became of it, or that a message has none, and with which lamps; or that the codes of a kind are to be
+-- cleared
 pub data Saying : Type 0 where
-  says : Kind → Lamps → Option Code → Saying
+  says : State → Lamps → Option Code → Saying
   clears : Kind → Saying
 
 -- when it was said, at which address, to whom, and under which NAME
@@ -42,8 +45,8 @@ said_at m saying = record {
   saying = saying;
 }
 
-abbrev pub fault_of : Hearing → Kind → Lamps → Option Code → Fault
-fault_of m kind lamps code = said_at m (says kind lamps code)
+abbrev pub fault_of : Hearing → State → Lamps → Option Code → Fault
+fault_of m how lamps code = said_at m (says how lamps code)
 
 abbrev pub clearing_of : Hearing → Kind → Fault
 clearing_of m kind = said_at m (clears kind)
@@ -57,7 +60,7 @@ abbrev pub faults_by : Option Version → Hearing → Option Kind → Option Lam
 faults_by version m None lamps = []
 faults_by version m (Some kind) None = []
 faults_by version m (Some kind) (Some lamps) =
-    map (fault_of m kind lamps) (codes_or_none (codes_by version m.message.bytes))
+    map (fault_of m (Is kind) lamps) (codes_or_none (codes_by version m.message.bytes))
 
 -- which codes it asks to clear, or which it tells, by the version of the conversion for its controller
 abbrev pub faults_or_clearing : List Conversion → Hearing → Option Kind → List Fault
@@ -83,13 +86,13 @@ head_text stamp address destination name =
     stamp_text stamp ++ codes " " ++ encode_upper (address ∷ []) ++ destination_text destination ++ codes " "
     ++ name_text name ++ codes " "
 
-abbrev pub said_text : List RowRecord → Kind → Lamps → Option Code → List ℕ
-said_text rows kind lamps None = no_code_text kind lamps
-said_text rows kind lamps (Some code) = code_text kind lamps (name_in rows code) code
+abbrev pub said_text : List RowRecord → State → Lamps → Option Code → List ℕ
+said_text rows how lamps None = no_code_text how lamps
+said_text rows how lamps (Some code) = code_text how lamps (name_in rows code) code
 
 -- as `clear-active all - -`
 abbrev pub saying_text : List RowRecord → Saying → List ℕ
-saying_text rows (says kind lamps code) = said_text rows kind lamps code
+saying_text rows (says how lamps code) = said_text rows how lamps code
 saying_text rows (clears kind) = clear_text kind ++ codes " all - -"
 
 -- the line of a fault, with its newline

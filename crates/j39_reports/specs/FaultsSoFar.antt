@@ -1,9 +1,16 @@
 -- The steps of a run that tells faults, frame by frame.
-use Rattle.std.specs.Prelude.{◌≡◌, ◌++◌, ◌∷◌, [], ℕ, Bool, List, Option, codes, if◌then◌else◌, length, None, Some}
+use Rattle.std.specs.Prelude.{◌≡◌, ◌++◌, ◌∷◌, [], ℕ, Bool, true, false, List, Option, codes, if◌then◌else◌, length, None, Some, Err, IfOk, OnOk, Result, ◌<◌, ◌^◌}
 use Rattle.std.specs.Io.KnownBytes.{Appends}
-use Rattle.std.specs.List.{flat_map}
 use Rattle.j39_io.specs.Device.{AppendsFront}
+use Rattle.j39_io.specs.Turn.{Turn}
+use Rattle.j39_listen.specs.AccountCalls.{LeavesWriter}
+use Rattle.j39_listen.specs.declared.account.LineFault.{LineFault}
+use Rattle.j39_listen.specs.declared.account.LineFault.TheVariants.{Write}
+use Rattle.std.specs.List.{flat_map}
+use Rattle.j39_faults.specs.Changes.{change_since, clearing_by}
+use Rattle.j39_faults.specs.declared.change.Change.{Change}
 use Rattle.j39_faults.specs.declared.code.Code.{Code}
+use Rattle.j39_faults.specs.declared.conversion.Version.{Version}
 use Rattle.j39_faults.specs.declared.kind.Kind.{Kind}
 use Rattle.j39_faults.specs.declared.lamps.Lamps.{Lamps}
 use Rattle.j39_frame.specs.Frame.{FrameRecord}
@@ -15,13 +22,21 @@ use Rattle.j39_listen.specs.ReportSoFar.{made_of}
 use Rattle.j39_listen.specs.declared.counts.Made.{Made}
 use Rattle.j39_listen.specs.declared.listener.Listener.{Listener}
 use Rattle.j39_io.specs.Records.{record_text}
-use Rattle.j39_faults.specs.Text.{clear_text, kind_text}
+use Rattle.j39_faults.specs.Text.{clear_text, state_text}
+use Rattle.j39_faults.specs.declared.text.State.{State}
 use Rattle.j39_io.specs.Chars.{newline}
-use Rattle.j39_reports.specs.Faults.{Fault, faults_in, head_text, said_text}
-use Rattle.j39_reports.specs.News.{Chosen, chosen_of, faults_among, is_fault_group, is_of_faults, told_here}
+use Rattle.j39_reports.specs.Faults.{Fault, faults_by, head_text, said_text}
+use Rattle.j39_reports.specs.FaultChanges.{became, changes_by, is_active}
+use Rattle.j39_reports.specs.Told.{told_here}
+use Rattle.j39_reports.specs.News.{Chosen, chosen_of, faults_among, is_fault_group, is_of_faults}
 use Rattle.j39_reports.specs.FaultRun.{faults_of}
 use Rattle.j39_reports.specs.FaultRecords.{clearing_fields, faults_text, head_fields, said_fields}
+use Rattle.j39_reports.specs.LastMessages.{LastRecord, differs, said_before}
 use Rattle.j39_reports.specs.Remembered.{Remembers}
+use Rattle.j39_reports.specs.declared.fault_news.changes.Side.{Side}
+use Rattle.j39_reports.specs.declared.fault_news.changes.Side.TheVariants.{Later, Earlier}
+use Rattle.j39_reports.specs.declared.fault_news.telling.Telling.{Telling}
+use Rattle.j39_reports.specs.declared.fault_news.telling.Telling.TheVariants.{News, All, Changes}
 use Rattle.j39_reports.specs.declared.fault_news.account.FaultNews.{FaultNews}
 use Rattle.j39_listen.specs.declared.format.Format.{Format}
 use Rattle.j39_listen.specs.declared.format.Format.TheVariants.{Line, Record}
@@ -33,13 +48,13 @@ head_in Line stamp address destination name = head_text stamp address destinatio
 head_in Record stamp address destination name = head_fields stamp address destination name
 
 -- what is said, as a line or a record ends with it
-abbrev pub said_in : Format → List RowRecord → Kind → Lamps → Option Code → List ℕ
-said_in Line rows kind lamps code = said_text rows kind lamps code ++ (newline ∷ [])
-said_in Record rows kind lamps code = record_text (kind_text kind) (said_fields rows lamps code)
+abbrev pub said_in : Format → List RowRecord → State → Lamps → Option Code → List ℕ
+said_in Line rows how lamps code = said_text rows how lamps code ++ (newline ∷ [])
+said_in Record rows how lamps code = record_text (state_text how) (said_fields rows lamps code)
 
 -- a line or a record, of what stands before what is said in it
-abbrev pub line_of : Format → List ℕ → List RowRecord → Kind → Lamps → Option Code → List ℕ
-line_of form head rows kind lamps code = head ++ said_in form rows kind lamps code
+abbrev pub line_of : Format → List ℕ → List RowRecord → State → Lamps → Option Code → List ℕ
+line_of form head rows how lamps code = head ++ said_in form rows how lamps code
 
 -- that codes are to be cleared, as a line or a record ends with it
 abbrev pub clearing_in : Format → Kind → List ℕ
@@ -50,18 +65,49 @@ clearing_in Record kind = record_text (clear_text kind) clearing_fields
 abbrev pub told_faults : Bool → List Fault → List Fault
 told_faults is_told faults = if is_told then faults else []
 
+-- whether one that asks to clear codes is told
+abbrev pub tells_clearing : Telling → Bool
+tells_clearing News = true
+tells_clearing All = true
+tells_clearing Changes = false
+
+-- what is told of a message of codes, behind what its address said before
+abbrev pub told_since : Telling → Option Version → Option LastRecord → Hearing → Kind → Lamps → List Fault
+told_since News version last h kind lamps =
+    told_faults (differs version last h.message.bytes h.name) (faults_by version h (Some kind) (Some lamps))
+told_since All version last h kind lamps = faults_by version h (Some kind) (Some lamps)
+told_since Changes version last h kind lamps =
+    told_faults (is_active kind) (changes_by version (said_before last h.name) h lamps)
+
+-- what became of a code of one of two messages, the other having these
+abbrev pub change_by : Side → List Code → Code → Option Change
+change_by Later others code = change_since others code
+change_by Earlier others code = clearing_by others code
+
+-- of each
+abbrev pub changed : Side → Hearing → Lamps → List Code → List Code → List Fault
+changed side m lamps others cs = flat_map (λ code. became m lamps code (change_by side others code)) cs
+
 -- what is told of what is heard next, or of nothing
-abbrev pub told_next : Chosen → List Hearing → Option Hearing → List Hearing
+abbrev pub told_next : Chosen → List Hearing → Option Hearing → List Fault
 told_next which ms None = []
 told_next which ms (Some h) = if is_of_faults h then told_here which ms (Some h) else []
 
 -- what it adds
 abbrev pub added : Format → List RowRecord → Chosen → List Hearing → Option Hearing → Output
 added form rows which ms heard = record {
-  text = faults_text form rows (flat_map (faults_in which.conversions) (told_next which ms heard));
+  text = faults_text form rows (told_next which ms heard);
   messages = length (faults_among (or_none heard));
-  lines = length (flat_map (faults_in which.conversions) (told_next which ms heard));
+  lines = length (told_next which ms heard);
 }
+
+-- a message is told so: these faults were written, or a front of them, or memory was refused before
+pub record TellsFaults (form : Format) (rows : List RowRecord) (faults : List Fault) (result : Result Made LineFault)
+    (sink : Turn) : Type 0 where
+  pub made : IfOk result (λ made. (made.messages ≡ 1) × (made.lines ≡ length faults) × (made.lines < 2 ^ 64))
+  pub written : OnOk result (Appends sink.old.bytes sink.new.bytes (faults_text form rows faults))
+  pub stops : result ≡ Err Write → AppendsFront sink.old.bytes sink.new.bytes (faults_text form rows faults)
+  pub writer : LeavesWriter result sink
 
 -- behind these messages this was heard, and what is told of it was written
 pub record Tells (form : Format) (rows : List RowRecord) (which : Chosen) (last' : LastFaults) (ms : List Hearing)

@@ -1,5 +1,5 @@
 -- What is kept of a message of faults, for each address.
-use Rattle.std.specs.Prelude.{◌&&◌, not, ℕ, Bool, List, Option, Some, None, map, option_map, slice_index_or, take, true}
+use Rattle.std.specs.Prelude.{◌&&◌, not, ℕ, Bool, List, [], Option, Some, None, if◌then◌else◌, map, option_map, slice_index_or, take, true}
 use Rattle.j39_memory.specs.declared.stored.Stored.{Stored}
 use Rattle.j39_memory.specs.Stored.{value_of}
 use Rattle.j39_frame.specs.Origin.{is_same_or_none}
@@ -21,6 +21,11 @@ is_said version s bytes name = tells_same version s.bytes bytes && is_same_or_no
 abbrev pub differs : Option Version → Option LastRecord → List ℕ → Option ℕ → Bool
 differs version None bytes name = true
 differs version (Some s) bytes name = not (is_said version s bytes name)
+
+-- its bytes, where it came under this NAME, or both came under none
+abbrev pub said_before : Option LastRecord → Option ℕ → List ℕ
+said_before None name = []
+said_before (Some s) name = if is_same_or_none s.name name then s.bytes else []
 
 abbrev pub LastMessages : Type 0
 LastMessages = List (Option LastRecord)

@@ -20,6 +20,8 @@ pub mod SummarySoFar
 -- the news of faults: which messages are told, and what of them
 pub mod News
 pub mod Faults
+pub mod FaultChanges
+pub mod Told
 pub mod FaultRecords
 -- the news of faults: what a run makes of the frames, and where it may want memory
 pub mod FaultRun

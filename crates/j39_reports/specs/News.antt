@@ -1,6 +1,6 @@
--- Which messages of faults are told (J1939-73, 5.7).
-use Rattle.std.specs.Prelude.{◌==◌, ◌&&◌, ◌||◌, not, ℕ, zero, suc, Bool, true, List, [], ◌∷◌, ◌++◌, Option, Some, None}
-use Rattle.std.specs.Prelude.{filter, if◌then◌else◌, is_some, length, nat_le, slice_get, take}
+-- Which messages are of faults, and which of them are news (J1939-73, 5.7).
+use Rattle.std.specs.Prelude.{◌==◌, ◌&&◌, ◌||◌, not, ℕ, Bool, true, List, [], Option, Some, None}
+use Rattle.std.specs.Prelude.{filter, is_some, length, nat_le}
 use Rattle.std.specs.List.{last_or}
 use Rattle.j39_frame.specs.Network.{request_group}
 use Rattle.j39_faults.specs.FaultGroups.{cleared_in, kind_of}
@@ -12,9 +12,9 @@ use Rattle.j39_frame.specs.Origin.{is_same_or_none}
 use Rattle.j39_listen.specs.Heard.{Hearing}
 use Rattle.j39_reports.specs.declared.fault_news.telling.Choice.{Choice}
 use Rattle.j39_reports.specs.declared.fault_news.telling.Telling.{Telling}
-use Rattle.j39_reports.specs.declared.fault_news.telling.Telling.TheVariants.{News, All}
+use Rattle.j39_reports.specs.declared.fault_news.telling.Telling.TheVariants.{News}
 
--- which messages are told, and by which versions of the conversion the SPNs of controllers are read
+-- what is told of messages, and by which versions of the conversion the SPNs of controllers are read
 pub record Chosen : Type 0 where
   pub telling : Telling
   pub conversions : List Conversion
@@ -59,23 +59,3 @@ says_other version (Some l) m =
 abbrev pub is_news : List Conversion → List Hearing → Hearing → Bool
 is_news conversions before m =
     is_clearing m || says_other (version_for conversions m.name) (last_from m.message.pgn m.message.source before) m
-
--- a message is told that is news, or each is
-abbrev pub is_told : Telling → Bool → Bool
-is_told News is_news = is_news
-is_told All is_news = true
-
--- the message at a place, behind those before it, where it is told
-abbrev pub told_here : Chosen → List Hearing → Option Hearing → List Hearing
-told_here which before None = []
-told_here which before (Some m) =
-    if is_told which.telling (is_news which.conversions before m) then m ∷ [] else []
-
--- those told of the messages at the first n places, in order
-unfoldable pub told_below : Chosen → List Hearing → ℕ → List Hearing
-told_below which ms zero = []
-told_below which ms (suc n) = told_below which ms n ++ told_here which (take n ms) (slice_get ms n)
-
--- of all
-abbrev pub told : Chosen → List Hearing → List Hearing
-told which ms = told_below which ms (length ms)

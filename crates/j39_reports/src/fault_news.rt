@@ -1,6 +1,7 @@
 //! The fault codes in a log, as they become news (J1939-73).
 
 mod account;
+mod changes;
 mod form;
 mod last_faults;
 mod last_message;
@@ -10,6 +11,7 @@ mod lines;
 mod names;
 mod records;
 mod run;
+mod since;
 mod telling;
 
 pub use run::faults;

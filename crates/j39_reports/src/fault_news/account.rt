@@ -1,6 +1,5 @@
 //! The faults of a bus, as an account of its frames (J1939-73, 5.7).
-ghost use Rattle.std.specs.Prelude.{◌≡◌, ◌≢◌, ◌<◌, ◌≤◌, ◌^◌, ◌∷◌, [], List, None, length, option_map, true, Err, IfOk, Some};
-ghost use Rattle.j39_io.specs.Puts.{Puts};
+ghost use Rattle.std.specs.Prelude.{◌≡◌, ◌≢◌, ◌<◌, ◌≤◌, ◌∷◌, [], List, None, length, option_map, true, Err, IfOk, Some};
 ghost use Rattle.j39_io.specs.Turn.{turn};
 ghost use Rattle.j39_frame.specs.Frame.{FrameRecord};
 ghost use Rattle.j39_frame.specs.Identifier.{id_raw, pgn_of};
@@ -13,21 +12,19 @@ ghost use Rattle.j39_listen.specs.Listening.{Hears};
 ghost use Rattle.j39_listen.specs.HeardModel.{hearing_of};
 ghost use Rattle.j39_listen.specs.declared.account.LineFault.TheVariants as line_fault;
 ghost use Rattle.j39_reports.specs.FaultAsking.{AsksForFaults};
-ghost use Rattle.j39_reports.specs.Faults.{clearing_of, faults_by};
-ghost use Rattle.j39_reports.specs.News.{chosen_of, faults_among, is_fault_group, is_of_faults, is_told, last_from};
+ghost use Rattle.j39_reports.specs.Faults.{clearing_of};
+ghost use Rattle.j39_reports.specs.News.{chosen_of, faults_among, is_fault_group, is_of_faults, last_from};
 ghost use Rattle.j39_reports.specs.FaultRun.{faults_of};
-ghost use Rattle.j39_reports.specs.FaultRecords.{faults_text};
 ghost use Rattle.j39_reports.specs.Remembered.{Remembers};
-ghost use Rattle.j39_reports.specs.FaultsSoFar.{HasTold, MeetsFrame, StopsFrame, Tells, TellsFront, told_faults};
+ghost use Rattle.j39_reports.specs.FaultsSoFar.{HasTold, MeetsFrame, StopsFrame, Tells, TellsFaults, TellsFront, tells_clearing, told_faults};
 
 use crate::fault_news::form::Writing;
 use crate::fault_news::last_faults::LastFaults;
-use crate::fault_news::lines::{put_clearing, put_message};
+use crate::fault_news::lines::put_clearing;
+use crate::fault_news::since::put_since;
 use crate::fault_news::telling::{Choice, Telling};
 use j39_address::Name;
-use j39_faults::{
-    Conversion, Kind, Lamps, Version, cleared_in, fault_group, lamps_of, version_for,
-};
+use j39_faults::{Conversion, Kind, Version, cleared_in, fault_group, lamps_of, version_for};
 use j39_frame::{Frame, Id};
 use j39_io::{DeviceFault, Sink};
 use j39_listen::{Account, Heard, LineFault, Listener, Made};
@@ -163,7 +160,8 @@ fn put_heard<W: Sink>(
         → last_from (pgn_raw heard.now.message.pgn) heard.now.message.source ms ≡ None }
 {
     if let Some(kind) = cleared_in(heard.message.pgn, heard.message.payload) {
-        return put_asked(heard, writing, kind, sink);
+        let is_told = tells_clearing(choice.telling);
+        return put_asked(heard, writing, is_told, kind, sink);
     }
     let Some(kind) = fault_group(heard.message.pgn) else {
         return Ok(Made::default());
@@ -171,29 +169,40 @@ fn put_heard<W: Sink>(
     let Some(lamps) = lamps_of(heard.message.payload) else {
         return Ok(Made::default());
     };
-    let (source, payload) = (heard.message.source, heard.message.payload);
+    let _fits = is_byte(heard.message.source);
     let version = version_of(choice.conversions, heard.name);
-    match last.note(alloc, kind, version, source, payload, heard.name) {
-        Err(AllocError) => Err(LineFault::Memory),
-        Ok(is_news) => {
-            let is_told = is_told(choice.telling, is_news);
-            put_told(heard, writing, is_told, version, kind, lamps, sink)
-        }
-    }
+    put_since(
+        alloc,
+        heard,
+        writing,
+        choice.telling,
+        version,
+        kind,
+        lamps,
+        last,
+        sink,
+    )
 }
 
-/// Writes that a message asks to clear codes, and answers its numbers.
+/// Writes that a message asks to clear codes, where that is told, and answers its numbers.
 fn put_asked<W: Sink>(
     heard: &Heard<'_>,
     writing: Writing<'_, '_>,
+    is_told: bool,
     kind: Kind,
     sink: &mut W,
 ) -> Result<Made, LineFault>
-    ensures made { IfOk result (λ made. (made.messages ≡ 1) × (made.lines ≡ 1)) }
-    ensures puts { Puts (faults_text writing.entry.form writing.entry.groups.now (clearing_of (hearing_of heard.now) kind ∷ []))
+    ensures tells { TellsFaults writing.entry.form writing.entry.groups.now
+        (told_faults is_told (clearing_of (hearing_of heard.now) kind ∷ []))
         result (turn W.written W.has_failed sink.old sink.new) }
     ensures not_memory { result ≢ Err line_fault.Memory }
 {
+    if !is_told {
+        return Ok(Made {
+            messages: 1,
+            lines: 0,
+        });
+    }
     match put_clearing(heard, writing.form, kind, sink) {
         Ok(()) => Ok(Made {
             messages: 1,
@@ -210,35 +219,10 @@ fn is_of_fault_group(id: Id) -> bool
     fault_group(id.pgn()).is_some() || id.is_request()
 }
 
-/// Writes the lines of a message of faults where it is told, and answers its numbers.
-fn put_told<W: Sink>(
-    heard: &Heard<'_>,
-    writing: Writing<'_, '_>,
-    is_told: bool,
-    version: Option<Version>,
-    kind: Kind,
-    lamps: Lamps,
-    sink: &mut W,
-) -> Result<Made, LineFault>
-    ensures made { IfOk result (λ made. (made.messages ≡ 1)
-        × (made.lines ≡ length (told_faults is_told (faults_by version (hearing_of heard.now) (Some kind) (Some lamps))))) }
-    ensures fits { IfOk result (λ made. made.lines < 2 ^ 64) }
-    ensures puts { Puts (faults_text writing.entry.form writing.entry.groups.now
-        (told_faults is_told (faults_by version (hearing_of heard.now) (Some kind) (Some lamps))))
-        result (turn W.written W.has_failed sink.old sink.new) }
-    ensures not_memory { result ≢ Err line_fault.Memory }
-{
-    if !is_told {
-        return Ok(Made {
-            messages: 1,
-            lines: 0,
-        });
-    }
-    match put_message(heard, writing, version, kind, lamps, sink) {
-        Ok(lines) => Ok(Made { messages: 1, lines }),
-        Err(DeviceFault) => Err(LineFault::Write),
-    }
-}
+/// A byte is below 256.
+fn is_byte(_byte: u8)
+    ensures { _byte < 256 }
+{}
 
 /// By which version the SPNs of the controller of a NAME are read.
 fn version_of(conversions: &[Conversion], name: Option<Name>) -> Option<Version>
@@ -247,12 +231,13 @@ fn version_of(conversions: &[Conversion], name: Option<Name>) -> Option<Version>
     version_for(conversions, name.map(Name::raw))
 }
 
-/// Whether a message is told.
-fn is_told(telling: Telling, is_news: bool) -> bool
-    ensures { result ≡ is_told telling is_news }
+/// Whether one that asks to clear codes is told.
+fn tells_clearing(telling: Telling) -> bool
+    ensures { result ≡ tells_clearing telling }
 {
     match telling {
-        Telling::News => is_news,
+        Telling::News => true,
         Telling::All => true,
+        Telling::Changes => false,
     }
 }

@@ -1,5 +1,5 @@
 //! How faults are written.
-use j39_faults::{Code, Kind, Lamps};
+use j39_faults::{Code, Lamps, State};
 use j39_groups::Groups;
 use j39_listen::Format;
 
@@ -10,10 +10,10 @@ pub(crate) struct Writing<'g, 't> {
     pub groups: &'g Groups<'t>,
 }
 
-/// What a message says of a code, or that it has none.
+/// What is said of a code, or that a message has none.
 #[derive(Clone, Copy)]
 pub(crate) struct Said {
-    pub kind: Kind,
+    pub state: State,
     pub lamps: Lamps,
     pub code: Option<Code>,
 }

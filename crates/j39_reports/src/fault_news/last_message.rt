@@ -1,8 +1,8 @@
 //! What was said last in a message of faults.
-ghost use Rattle.std.specs.Prelude.{◌≡◌, ◌≤◌, length, option_map, take};
+ghost use Rattle.std.specs.Prelude.{◌≡◌, ◌≤◌, Some, length, option_map, take};
 ghost use Rattle.j39_address.specs.Name.{name_raw};
 ghost use Rattle.j39_frame.specs.Origin.{is_same_or_none};
-ghost use Rattle.j39_reports.specs.LastMessages.{is_said, said_by};
+ghost use Rattle.j39_reports.specs.LastMessages.{is_said, said_before, said_by};
 
 use arrayvec::ArrayVec;
 use j39_address::Name;
@@ -45,6 +45,17 @@ impl LastMessage {
         self.bytes.clear();
         push_bytes(&mut self.bytes, front_of(payload));
         self.name = name;
+    }
+
+    /// Its bytes, if it came under this NAME, or both came under none; else none.
+    pub(crate) fn bytes_under(&self, name: Option<Name>) -> &[u8]
+        ensures { result.now ≡ said_before (Some self.now) (option_map name_raw name) }
+    {
+        if is_same_name(self.name, name) {
+            self.bytes.as_slice()
+        } else {
+            &[]
+        }
     }
 
     /// Whether a payload tells the same by this version of the conversion, under the same NAME or under none.

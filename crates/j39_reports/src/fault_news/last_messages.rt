@@ -57,7 +57,7 @@ impl LastMessages {
 
     /// Takes out what an address said last.
     #[tactic(auto, using(crate::proofs::PlaceLemmas::left_empty, crate::proofs::PlaceLemmas::shown_at))]
-    fn take(&mut self, source: u8) -> MessageBox
+    pub(crate) fn take(&mut self, source: u8) -> MessageBox
         ensures after { self.new ≡ slice_set self.old source None }
         ensures value { stored_in result ≡ at self.old source }
     {
@@ -66,7 +66,7 @@ impl LastMessages {
 
     /// Puts in what an address says.
     #[tactic(auto, using(crate::proofs::PlaceLemmas::put_in))]
-    fn put(&mut self, source: u8, said: Stored<LastMessage>)
+    pub(crate) fn put(&mut self, source: u8, said: Stored<LastMessage>)
         ensures { self.new ≡ slice_set self.old source (Some (value_of said)) }
     {
         self.places[usize::from(source)] = Some(said);

@@ -5,6 +5,7 @@ ghost use Rattle.j39_io.specs.Puts.{Puts};
 ghost use Rattle.j39_io.specs.Turn.{turn};
 ghost use Rattle.j39_address.specs.Name.{name_raw};
 ghost use Rattle.j39_faults.specs.Conversions.{codes_by};
+ghost use Rattle.j39_faults.specs.declared.text.State.TheVariants.{Is};
 ghost use Rattle.j39_frame.specs.Stamp.{stamp_micros};
 ghost use Rattle.j39_listen.specs.HeardModel.{hearing_of};
 ghost use Rattle.j39_reports.specs.Faults.{faults_by, head_text, said_text};
@@ -19,7 +20,9 @@ use crate::fault_news::records::put_fields;
 use crate::summaries::lines::push_destination;
 use arrayvec::ArrayVec;
 use j39_address::Name;
-use j39_faults::{Kind, Lamps, Version, clear_word, code_by, codes_of, put_code, put_no_code};
+use j39_faults::{
+    Kind, Lamps, State, Version, clear_word, code_by, codes_of, put_code, put_no_code,
+};
 use j39_groups::Groups;
 use j39_io::printing::{push_bytes, push_hex};
 use j39_io::{DeviceFault, Sink, put_all, put_record};
@@ -58,8 +61,9 @@ pub(crate) fn put_message<W: Sink>(
     if lines > 0 {
         return Ok(lines);
     }
+    let state = State::Is(kind);
     let code = None;
-    put_fault(head, writing, Said { kind, lamps, code }, sink)?;
+    put_fault(head, writing, Said { state, lamps, code }, sink)?;
     Ok(1)
 }
 
@@ -74,26 +78,27 @@ fn put_codes<W: Sink>(
     sink: &mut W,
 ) -> Result<u64, DeviceFault>
     ensures lines { IfOk result (λ n. n ≡ length (codes_by version payload.now)) }
-    ensures puts { Puts (flat_map (λ code. line_of writing.entry.form head.now writing.entry.groups.now kind lamps (Some code))
+    ensures puts { Puts (flat_map (λ code. line_of writing.entry.form head.now writing.entry.groups.now (Is kind) lamps (Some code))
         (codes_by version payload.now)) result (turn W.written W.has_failed sink.old sink.new) }
 {
     let mut lines = 0;
     for code in codes_of(payload) {
+        let state = State::Is(kind);
         let code = Some(code_by(version, code));
-        put_fault(head, writing, Said { kind, lamps, code }, sink)?;
+        put_fault(head, writing, Said { state, lamps, code }, sink)?;
         lines += 1;
     }
     Ok(lines)
 }
 
 /// Writes what stands before what is said, and then that, as a line or a record.
-fn put_fault<W: Sink>(
+pub(crate) fn put_fault<W: Sink>(
     head: &[u8],
     writing: Writing<'_, '_>,
     said: Said,
     sink: &mut W,
 ) -> Result<(), DeviceFault>
-    ensures { Puts (line_of writing.entry.form head.now writing.entry.groups.now said.kind said.lamps said.code)
+    ensures { Puts (line_of writing.entry.form head.now writing.entry.groups.now said.state said.lamps said.code)
         result (turn W.written W.has_failed sink.old sink.new) }
 {
     put_all(sink, head)?;
@@ -105,7 +110,7 @@ fn put_fault<W: Sink>(
 
 /// Writes what is said in words, and a newline.
 fn put_words<W: Sink>(groups: &Groups<'_>, said: Said, sink: &mut W) -> Result<(), DeviceFault>
-    ensures { Puts (said_in Line groups.now said.kind said.lamps said.code)
+    ensures { Puts (said_in Line groups.now said.state said.lamps said.code)
         result (turn W.written W.has_failed sink.old sink.new) }
 {
     put_said(groups, said, sink)?;
@@ -114,13 +119,13 @@ fn put_words<W: Sink>(groups: &Groups<'_>, said: Said, sink: &mut W) -> Result<(
 
 /// Writes what is said in words.
 fn put_said<W: Sink>(groups: &Groups<'_>, said: Said, sink: &mut W) -> Result<(), DeviceFault>
-    ensures { Puts (said_text groups.now said.kind said.lamps said.code)
+    ensures { Puts (said_text groups.now said.state said.lamps said.code)
         result (turn W.written W.has_failed sink.old sink.new) }
 {
-    let Said { kind, lamps, code } = said;
+    let Said { state, lamps, code } = said;
     match code {
-        Some(code) => put_code(kind, lamps, name_in(groups, code), code, sink),
-        None => put_no_code(kind, lamps, sink),
+        Some(code) => put_code(state, lamps, name_in(groups, code), code, sink),
+        None => put_no_code(state, lamps, sink),
     }
 }
 
@@ -157,7 +162,7 @@ fn put_clearing_record<W: Sink>(kind: Kind, sink: &mut W) -> Result<(), DeviceFa
 }
 
 /// What stands before what is said.
-fn head_of(form: Format, heard: &Heard<'_>) -> Head
+pub(crate) fn head_of(form: Format, heard: &Heard<'_>) -> Head
     ensures { result.items ≡ head_in form (stamp_micros heard.now.message.stamp) heard.now.message.source
         heard.now.destination (option_map name_raw heard.now.name) }
 {

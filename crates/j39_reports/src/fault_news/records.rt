@@ -3,14 +3,14 @@ ghost use Rattle.std.specs.Prelude.{◌≡◌};
 ghost use Rattle.j39_io.specs.Puts.{Puts};
 ghost use Rattle.j39_io.specs.Turn.{turn};
 ghost use Rattle.j39_io.specs.Records.{record_text};
-ghost use Rattle.j39_faults.specs.Text.{kind_text};
+ghost use Rattle.j39_faults.specs.Text.{state_text};
 ghost use Rattle.j39_reports.specs.FaultRecords.{count_field, fields_with, fmi_field, meaning_field, number_or_none, parameter_field, said_fields, spn_field, spn_of, unnamed};
 
 use crate::fault_news::form::Said;
 use crate::fault_news::names::name_in;
 use arrayvec::ArrayVec;
 use j39_faults::{
-    Code, Parameter, ParameterWords, fmi_words, kind_word, lamps_told, parameter_words,
+    Code, Parameter, ParameterWords, fmi_words, lamps_told, parameter_words, state_word,
 };
 use j39_groups::{Groups, decimal_of};
 use j39_io::{DeviceFault, Sink, put_record};
@@ -18,13 +18,13 @@ use j39_io::{DeviceFault, Sink, put_record};
 /// A number, or nothing.
 type Field = ArrayVec<u8, 32>;
 
-/// Writes what is said as the fields of a record from the word for the kind on.
+/// Writes what is said as the fields of a record from the word for the state on.
 pub(crate) fn put_fields<W: Sink>(
     groups: &Groups<'_>,
     said: Said,
     sink: &mut W,
 ) -> Result<(), DeviceFault>
-    ensures { Puts (record_text (kind_text said.kind) (said_fields groups.now said.lamps said.code))
+    ensures { Puts (record_text (state_text said.state) (said_fields groups.now said.lamps said.code))
         result (turn W.written W.has_failed sink.old sink.new) }
 {
     let words = unnamed(said.code);
@@ -34,10 +34,10 @@ pub(crate) fn put_fields<W: Sink>(
 
 /// Writes them, with this field for the parameter.
 fn put_fields_with<W: Sink>(said: Said, parameter: &[u8], sink: &mut W) -> Result<(), DeviceFault>
-    ensures { Puts (record_text (kind_text said.kind) (fields_with said.lamps parameter.now said.code))
+    ensures { Puts (record_text (state_text said.state) (fields_with said.lamps parameter.now said.code))
         result (turn W.written W.has_failed sink.old sink.new) }
 {
-    let Said { kind, lamps, code } = said;
+    let Said { state, lamps, code } = said;
     let spn = spn_field(code);
     let fmi = fmi_field(code);
     let count = count_field(code);
@@ -50,7 +50,7 @@ fn put_fields_with<W: Sink>(said: Said, parameter: &[u8], sink: &mut W) -> Resul
         parameter,
         meaning_field(&code),
     ];
-    put_record(kind_word(kind), &fields, sink)
+    put_record(state_word(state), &fields, sink)
 }
 
 /// The parameter's number, where it is known.

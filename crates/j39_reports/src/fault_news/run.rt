@@ -1,27 +1,33 @@
 //! The runs that tell the faults in a log.
+ghost use Rattle.std.specs.Prelude.{◌≡◌};
 ghost use Rattle.j39_io.specs.Turn.{turn};
 ghost use Rattle.j39_listen.specs.Headed.{begins_flushed};
 ghost use Rattle.j39_listen.specs.Ran.{PassesOn, Ran};
 ghost use Rattle.j39_reports.specs.FaultAsking.{AsksForFaults};
 ghost use Rattle.j39_reports.specs.FaultRun.{MakesFaults};
+ghost use Rattle.j39_reports.specs.FaultRecords.{fault_columns};
 ghost use Rattle.j39_reports.specs.News.{chosen_of};
 
 use crate::fault_news::account::FaultNews;
 use crate::fault_news::form::Writing;
-use crate::fault_news::telling::Choice;
+use crate::fault_news::telling::{Choice, Telling};
 use j39_groups::Groups;
 use j39_io::{Sink, Source};
 use j39_listen::{Counts, Format, RunFault, run_headed, run_over};
 use j39_log::Bus;
 use std::alloc::Global;
 
-/// The names of the columns of records.
+/// The columns of records of codes.
 const COLUMNS: &[u8] =
     b"stamp,utc,address,destination,name,state,spn,fmi,count,lamps,parameter,meaning\r\n";
 
+/// Those of records of changes.
+const CHANGE_COLUMNS: &[u8] =
+    b"stamp,utc,address,destination,name,change,spn,fmi,count,lamps,parameter,meaning\r\n";
+
 /// Writes the fault codes in a log of at most `limit` bytes: a line, or a record of comma-separated values (RFC 4180),
-/// for each code of each message of faults that is told, with the name that a table of parameters has for its
-/// parameter; a record too for such a message that has no code. The names of the columns of records are written before
+/// for each code that is told of a message of faults, with the name that a table of parameters has for its
+/// parameter; for each message too whose codes are told, and that has none. The names of the columns of records are written before
 /// the log is read. Without a bus it is that of the first frame in the log.
 pub fn faults<R: Source, W: Sink>(
     alloc: Global,
@@ -46,6 +52,24 @@ pub fn faults<R: Source, W: Sink>(
     let account = FaultNews::new(alloc, Writing { form, groups }, choice);
     match format {
         Format::Line => run_over(account, source, sink, bus, limit),
-        Format::Record => run_headed(COLUMNS, account, source, sink, bus, limit),
+        Format::Record => run_headed(
+            columns_of(choice.telling),
+            account,
+            source,
+            sink,
+            bus,
+            limit,
+        ),
+    }
+}
+
+/// The names of the columns of records.
+fn columns_of(telling: Telling) -> &'static [u8]
+    ensures { result.now ≡ fault_columns telling }
+{
+    match telling {
+        Telling::News => COLUMNS,
+        Telling::All => COLUMNS,
+        Telling::Changes => CHANGE_COLUMNS,
     }
 }

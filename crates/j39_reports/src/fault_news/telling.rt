@@ -1,17 +1,20 @@
-//! Which messages of faults are told, and how.
+//! What is told of messages of faults.
 use j39_faults::Conversion;
 
-/// Which messages of faults are told.
+/// What is told of messages of faults.
 #[derive(Clone, Copy, Debug, PartialEq, Eq)]
 pub enum Telling {
-    /// Those that are news: which tell something else, or under another NAME, than the last message before of that
+    /// The codes of those that are news: which tell something else, or under another NAME, than the last message before of that
     /// group from that address, or with none before.
     News,
-    /// Each.
+    /// The codes of each.
     All,
+    /// What became of active codes: of each message of DM1 the codes that are set, or came again, since the last from that
+    /// address, and those that are cleared. Messages under two NAMEs aren't compared: behind another one all are set.
+    Changes,
 }
 
-/// Which messages of faults are told, and by which versions of the conversion the SPNs of controllers are read.
+/// What is told of messages of faults, and by which versions of the conversion the SPNs of controllers are read.
 #[derive(Clone, Copy, Debug)]
 pub struct Choice<'c> {
     pub telling: Telling,

@@ -1,20 +1,18 @@
 -- A message of another kind, or one of faults that is told or not.
-use Rattle.std.proofs.Common.{◌≡◌, ◌∙◌, ◌<◌, ◌≤◌, ◌^◌, ◌∷◌, [], ℕ, List, Result, Ok, Err, Some, arith, length, subst, sym}
-use Rattle.std.specs.Prelude.{IfOk}
-use Rattle.j39_io.specs.Device.{AppendsFront}
-use Rattle.j39_io.specs.Puts.{Puts}
+use Rattle.std.proofs.Common.{◌≡◌, ◌∙◌, ◌<◌, ◌≤◌, ◌∷◌, [], List, Result, Ok, Err, Some, length, sym}
+use Rattle.std.specs.Prelude.{IfOk, OnOk}
 use Rattle.j39_io.specs.Turn.{Turn}
 use Rattle.j39_listen.specs.Heard.{Hearing}
 use Rattle.j39_listen.specs.HeardModel.{hearing_of}
 use Rattle.j39_listen.specs.declared.account.LineFault.{LineFault}
 use Rattle.j39_listen.specs.declared.counts.Made.{Made}
-use Rattle.j39_reports.specs.Faults.{clearing_of, faults_by}
-use Rattle.j39_reports.specs.FaultRecords.{faults_text}
+use Rattle.j39_reports.specs.Faults.{clearing_of}
 use Rattle.j39_reports.specs.News.{chosen_of}
-use Rattle.j39_reports.specs.Remembered.{Remembers}
-use Rattle.j39_reports.specs.FaultsSoFar.{Tells, told_faults}
-use Rattle.j39_reports.proofs.PutLemmas.{clearing_front, leaves_writer, no_group, no_lamps, of_faults, tells_clearing, tells_front, tells_message, tells_other}
+use Rattle.j39_reports.specs.Remembered.{Remembers, noted, said_at, said_in}
+use Rattle.j39_reports.specs.FaultsSoFar.{Tells, TellsFaults, tells_clearing, told_faults, told_since}
+use Rattle.j39_reports.proofs.PutLemmas.{clearing_front, no_group, no_lamps, of_faults, tells_asking, tells_front, tells_message, tells_other}
 use Rattle.j39_reports.proofs.TellLemmas.{first_is}
+use Rattle.j39_reports.proofs.fault_news.account.put_heard.Given.{Over}
 use Rattle.j39_reports.proofs.fault_news.account.put_heard.Goals as goal
 
 pub returns-in_default-fault_group-clause-met : goal.returns-in_default-fault_group-clause-met
@@ -27,63 +25,63 @@ returns-in_default-lamps_of-clause-met g c = λ ms h short.
     tells_other c.args.writing.form c.args.writing.groups.now (chosen_of c.args.choice) c.args.last.now ms (hearing_of c.args.heard.now) c.default-in_default-lamps_of.result _
     (no_lamps (hearing_of c.args.heard.now) c.in-Some-fault_group.kind (sym c.cleared_in.ensures ∙ c.in_default.is) (sym c.fault_group.ensures ∙ c.in-Some-fault_group.is) (sym c.lamps_of.ensures ∙ c.in_default-lamps_of.is)) h c.default-in_default-lamps_of.ensures.0 c.default-in_default-lamps_of.ensures.1
 
-pub returns-in-Err-clause-first : goal.returns-in-Err-clause-first
-returns-in-Err-clause-first g c = λ fails ms h.
-    first_is c.args.last.now ms _ _ c.in-Some-fault_group.kind h (sym c.fault_group.ensures ∙ c.in-Some-fault_group.is) (omega arith) c.in-Err.ensures.first
+-- ---- one of codes
 
-pub returns-in-Err-clause-of_faults : goal.returns-in-Err-clause-of_faults
-returns-in-Err-clause-of_faults g c = λ fails.
-    of_faults (hearing_of c.args.heard.now) c.in-Some-fault_group.kind c.in-Some-lamps_of.lamps (sym c.fault_group.ensures ∙ c.in-Some-fault_group.is) (sym c.lamps_of.ensures ∙ c.in-Some-lamps_of.is)
+below : (g : Over) (c : goal.After-put_since g) → c.args.heard.now.message.source < 256
+below g c = c.is_byte-fits.ensures
 
-pub returns-in-Ok-clause-met : goal.returns-in-Ok-clause-met
-returns-in-Ok-clause-met g c = met c.put_told.result _ c.put_told.ensures.made c.put_told.ensures.fits c.put_told.ensures.puts
+pub returns-clause-met : goal.returns-clause-met
+returns-clause-met g c = met c.put_since.result _ c.put_since.ensures.tells c.put_since.ensures.after
   where
     met : (r : Result Made LineFault) (sink : Turn)
-        → IfOk r (λ made. (made.messages ≡ 1) × (made.lines ≡ length (told_faults c.is_told-is_told.result (faults_by c.version_of-version.result (hearing_of c.args.heard.now) (Some c.in-Some-fault_group.kind) (Some c.in-Some-lamps_of.lamps)))))
-        → IfOk r (λ made. made.lines < 2 ^ 64)
-        → Puts (faults_text c.args.writing.form c.args.writing.groups.now (told_faults c.is_told-is_told.result (faults_by c.version_of-version.result (hearing_of c.args.heard.now) (Some c.in-Some-fault_group.kind) (Some c.in-Some-lamps_of.lamps)))) r sink
+        → TellsFaults c.args.writing.form c.args.writing.groups.now (told_since c.args.choice.telling c.version_of-version.result (said_at c.args.last.now c.in-Some-fault_group.kind c.args.heard.now.message.source)
+        (hearing_of c.args.heard.now) c.in-Some-fault_group.kind c.in-Some-lamps_of.lamps) r sink
+        → OnOk r (c.put_since.new.last ≡ noted c.args.last.now c.in-Some-fault_group.kind c.args.heard.now.message.source (said_in (hearing_of c.args.heard.now)))
         → IfOk r (λ made. (ms : List Hearing) → Remembers c.args.last.now ms → length c.args.heard.now.message.payload.now ≤ 1785
-        → Tells c.args.writing.form c.args.writing.groups.now (chosen_of c.args.choice) c.note.new.self ms (Some (hearing_of c.args.heard.now)) made sink.old.bytes sink.new.bytes)
-    met (Err e) sink made fits puts = tt
-    met (Ok made) sink (messages, lines) fits puts = λ ms h short.
+        → Tells c.args.writing.form c.args.writing.groups.now (chosen_of c.args.choice) c.put_since.new.last ms (Some (hearing_of c.args.heard.now)) made sink.old.bytes sink.new.bytes)
+    met (Err e) sink tells after = tt
+    met (Ok made) sink tells after = λ ms h short.
         tells_message c.args.writing.form c.args.writing.groups.now (chosen_of c.args.choice) c.args.last.now ms (hearing_of c.args.heard.now) c.in-Some-fault_group.kind c.in-Some-lamps_of.lamps _
         c.version_of-version.ensures (sym c.cleared_in.ensures ∙ c.in_default.is) (sym c.fault_group.ensures ∙ c.in-Some-fault_group.is)
-        (sym c.lamps_of.ensures ∙ c.in-Some-lamps_of.is) (omega arith) h c.note.new.self c.is_told-is_told.result c.in-Ok.is_news made _ _ c.in-Ok.ensures.news c.is_told-is_told.ensures short
-        c.in-Ok.ensures.after messages lines fits puts.written
+        (sym c.lamps_of.ensures ∙ c.in-Some-lamps_of.is) (below g c) h c.put_since.new.last made _ _ short after tells.made.0 tells.made.1 tells.made.2 tells.written
 
-pub returns-in-Ok-clause-stops : goal.returns-in-Ok-clause-stops
-returns-in-Ok-clause-stops g c = λ fails ms h short.
+pub returns-clause-stops : goal.returns-clause-stops
+returns-clause-stops g c = λ fails ms h short.
     tells_front c.args.writing.form c.args.writing.groups.now (chosen_of c.args.choice) c.args.last.now ms (hearing_of c.args.heard.now) c.in-Some-fault_group.kind c.in-Some-lamps_of.lamps _
     c.version_of-version.ensures (sym c.cleared_in.ensures ∙ c.in_default.is) (sym c.fault_group.ensures ∙ c.in-Some-fault_group.is)
-    (sym c.lamps_of.ensures ∙ c.in-Some-lamps_of.is) (omega arith) h c.is_told-is_told.result c.in-Ok.is_news _ _ c.in-Ok.ensures.news c.is_told-is_told.ensures (front_at _ _ _ _ fails c.put_told.ensures.puts)
-  where
-    front_at : (text : List ℕ) (r : Result Made LineFault) (e : LineFault) (sink : Turn) → r ≡ Err e → Puts text r sink → AppendsFront sink.old.bytes sink.new.bytes text
-    front_at text r e sink is puts = (subst (λ (x : Result Made LineFault). Puts text x sink) is puts).front
+    (sym c.lamps_of.ensures ∙ c.in-Some-lamps_of.is) (below g c) h _ _ (c.put_since.ensures.tells.stops fails)
 
-pub returns-in-Ok-clause-writer : goal.returns-in-Ok-clause-writer
-returns-in-Ok-clause-writer g c = leaves_writer _ _ _ c.put_told.ensures.puts c.put_told.ensures.not_memory
+pub returns-clause-writer : goal.returns-clause-writer
+returns-clause-writer g c = c.put_since.ensures.tells.writer
+
+pub returns-clause-of_faults : goal.returns-clause-of_faults
+returns-clause-of_faults g c = λ fails.
+    of_faults (hearing_of c.args.heard.now) c.in-Some-fault_group.kind c.in-Some-lamps_of.lamps (sym c.fault_group.ensures ∙ c.in-Some-fault_group.is) (sym c.lamps_of.ensures ∙ c.in-Some-lamps_of.is)
+
+pub returns-clause-first : goal.returns-clause-first
+returns-clause-first g c = λ fails ms h.
+    first_is c.args.last.now ms _ _ c.in-Some-fault_group.kind h (sym c.fault_group.ensures ∙ c.in-Some-fault_group.is) (below g c) (c.put_since.ensures.first fails)
 
 -- ---- one that asks to clear codes
 
 pub returns-in-Some-clause-met : goal.returns-in-Some-clause-met
-returns-in-Some-clause-met g c = met c.put_asked.result _ c.put_asked.ensures.made c.put_asked.ensures.puts
+returns-in-Some-clause-met g c = met c.put_asked.result _ (rw c.tells_clearing-is_told.ensures at c.put_asked.ensures.tells)
   where
-    met : (r : Result Made LineFault) (sink : Turn) → IfOk r (λ made. (made.messages ≡ 1) × (made.lines ≡ 1))
-        → Puts (faults_text c.args.writing.form c.args.writing.groups.now (clearing_of (hearing_of c.args.heard.now) c.in-Some.kind ∷ [])) r sink
+    met : (r : Result Made LineFault) (sink : Turn)
+        → TellsFaults c.args.writing.form c.args.writing.groups.now (told_faults (tells_clearing c.args.choice.telling) (clearing_of (hearing_of c.args.heard.now) c.in-Some.kind ∷ [])) r sink
         → IfOk r (λ made. (ms : List Hearing) → Remembers c.args.last.now ms → length c.args.heard.now.message.payload.now ≤ 1785
         → Tells c.args.writing.form c.args.writing.groups.now (chosen_of c.args.choice) c.args.last.now ms (Some (hearing_of c.args.heard.now)) made sink.old.bytes sink.new.bytes)
-    met (Err e) sink made puts = tt
-    met (Ok made) sink (messages, lines) puts = λ ms h short.
-        tells_clearing c.args.writing.form c.args.writing.groups.now (chosen_of c.args.choice) c.args.last.now ms (hearing_of c.args.heard.now) c.in-Some.kind
-        (sym c.cleared_in.ensures ∙ c.in-Some.is) made _ _ h short messages lines puts.written
+    met (Err e) sink tells = tt
+    met (Ok made) sink tells = λ ms h short.
+        tells_asking c.args.writing.form c.args.writing.groups.now (chosen_of c.args.choice) c.args.last.now ms (hearing_of c.args.heard.now) c.in-Some.kind
+        (sym c.cleared_in.ensures ∙ c.in-Some.is) made _ _ h short tells.made.0 tells.made.1 tells.made.2 tells.written
 
 pub returns-in-Some-clause-stops : goal.returns-in-Some-clause-stops
 returns-in-Some-clause-stops g c = λ fails ms h short.
+    let tells : TellsFaults c.args.writing.form c.args.writing.groups.now (told_faults (tells_clearing c.args.choice.telling) (clearing_of (hearing_of c.args.heard.now) c.in-Some.kind ∷ [])) c.put_asked.result _ =
+    rw c.tells_clearing-is_told.ensures at c.put_asked.ensures.tells in
     clearing_front c.args.writing.form c.args.writing.groups.now (chosen_of c.args.choice) c.args.last.now ms (hearing_of c.args.heard.now) c.in-Some.kind
-    (sym c.cleared_in.ensures ∙ c.in-Some.is) _ _ (front_at _ _ _ _ fails c.put_asked.ensures.puts)
-  where
-    front_at : (text : List ℕ) (r : Result Made LineFault) (e : LineFault) (sink : Turn) → r ≡ Err e → Puts text r sink → AppendsFront sink.old.bytes sink.new.bytes text
-    front_at text r e sink is puts = (subst (λ (x : Result Made LineFault). Puts text x sink) is puts).front
+    (sym c.cleared_in.ensures ∙ c.in-Some.is) _ _ (tells.stops fails)
 
 pub returns-in-Some-clause-writer : goal.returns-in-Some-clause-writer
-returns-in-Some-clause-writer g c = leaves_writer _ _ _ c.put_asked.ensures.puts c.put_asked.ensures.not_memory
+returns-in-Some-clause-writer g c = c.put_asked.ensures.tells.writer

@@ -5,7 +5,7 @@ use Rattle.j39_reports.proofs.fault_news.lines.put_fault.Goals as goal
 
 pub returns-in_err-put_all : goal.returns-in_err-put_all
 returns-in_err-put_all g c =
-    puts_first c.args.head.now (said_in c.args.writing.form c.args.writing.groups.now c.args.said.kind c.args.said.lamps c.args.said.code) _ _ _
+    puts_first c.args.head.now (said_in c.args.writing.form c.args.writing.groups.now c.args.said.state c.args.said.lamps c.args.said.code) _ _ _
     c.from_residual.ensures.0 c.in_err-put_all.ensures.puts
 
 pub returns-in-Line : goal.returns-in-Line
