@@ -2,15 +2,15 @@
 use Rattle.std.proofs.Common.{◌≡◌, ◌<◌, ◌∙◌, ◌+◌, ◌-◌, ◌/◌, ◌%◌, ◌^◌, ◌==◌, ℕ, zero, suc, List, [], ◌∷◌, Bool, true, false, Some, None, ap, arith, drop, get_or, inl, inr, length, map, refl, sym, take}
 use Rattle.std.specs.Prelude.{◌+ℤ◌, ◌*ℤ◌, ◌&&◌, ◌||◌, Option, if◌then◌else◌, nat_le, nat_lt, pos, slice_get}
 use Rattle.std.specs.List.{filter_map, flat_map, list_all}
-use Rattle.std.specs.Option.{option_and_then, option_to_list}
+use Rattle.std.specs.Option.{option_and_then, option_map, option_to_list}
 use Rattle.std.proofs.lemmas.Bool.{and_parts, cases_Bool}
 use Rattle.std.proofs.lemmas.List.Concat.{flat_map-cons}
 use Rattle.std.proofs.lemmas.List.Folds.{list_all-append, list_all-map}
 use Rattle.j39_groups.specs.Models.{reading_of, value_of}
 use Rattle.j39_groups.specs.Parts.{parts_of}
 use Rattle.j39_groups.specs.Ranges.{is_valid, top_byte}
-use Rattle.j39_groups.specs.Readings.{bits_meaning, by_top_byte, filled_text_meaning, group_rows, number_meaning, raw_bits, raw_number, readings_at, readings_in, readings_of, switch_meaning, text_meaning, values_at}
-use Rattle.j39_groups.specs.Row.{FieldRecord, number_field, bits_field, switch_field, text_field, texts_field, RowRecord}
+use Rattle.j39_groups.specs.Readings.{bits_meaning, by_top_byte, filled_text_meaning, group_rows, number_meaning, raw_bits, raw_number, readings_at, readings_in, readings_of, signed_value, switch_meaning, text_meaning, values_at}
+use Rattle.j39_groups.specs.Row.{FieldRecord, number_field, bits_field, signed_field, switch_field, text_field, texts_field, RowRecord}
 use Rattle.j39_groups.specs.Table.{the_table}
 use Rattle.j39_groups.specs.Value.{SlotRecord, ReadingRecord, ValueRecord, number, on, off, error, reserved, indicator, text}
 use Rattle.j39_groups.specs.declared.value.Reading.{Reading}
@@ -19,6 +19,7 @@ use Rattle.j39_c.specs.Units.{has_short_unit}
 abbrev has_short_scale : FieldRecord → Bool
 has_short_scale (number_field first last slot) = nat_le (length slot.unit) 7
 has_short_scale (bits_field byte low count slot) = nat_le (length slot.unit) 7
+has_short_scale (signed_field byte low count slot) = nat_le (length slot.unit) 7
 has_short_scale (switch_field byte low high) = true
 has_short_scale (text_field part) = true
 has_short_scale (texts_field byte count) = true
@@ -92,6 +93,10 @@ and_then_short : {X : Type 0} (f : X → Option ValueRecord) (o : Option X) → 
 and_then_short f None short = refl
 and_then_short f (Some x) short = short x
 
+map_short : {X : Type 0} (f : X → ValueRecord) (o : Option X) → ((x : X) → has_short_unit (f x) ≡ true) → is_short (option_map f o)
+map_short f None short = refl
+map_short f (Some x) short = some_short (f x) (short x)
+
 parts_are_short : (parts : List (List ℕ)) → are_short (filter_map filled_text_meaning parts)
 parts_are_short [] = refl
 parts_are_short (part ∷ parts) = one_more (filled_text_meaning part) refl (filled_is_short part) (parts_are_short parts)
@@ -110,6 +115,8 @@ field_is_short bytes (number_field first last slot) short =
     top_is_short (top_byte (last - (first - 1)) raw) (number (pos raw *ℤ slot.step +ℤ slot.offset) slot) short)
 field_is_short bytes (bits_field byte low count slot) short =
     and_then_short (bits_meaning count slot) (raw_bits byte low count bytes) (λ raw. bits_are_short count slot raw short)
+field_is_short bytes (signed_field byte low count slot) short =
+    map_short (signed_value count slot) (raw_bits byte low count bytes) (λ raw. short)
 field_is_short bytes (switch_field byte low high) short =
     and_then_short (λ b. switch_meaning (b / 2 ^ (low - 1) % 4)) (slice_get bytes (byte - 1)) (λ b. switch_is_short (b / 2 ^ (low - 1) % 4))
 field_is_short bytes (text_field part) short =

@@ -1,14 +1,15 @@
 -- Numbers of several bytes.
-use Rattle.std.proofs.Common.{◌≡◌, ◌<◌, ◌≤◌, ◌+◌, ◌-◌, ◌*◌, ◌^◌, ℕ, zero, suc, Bool, true, false, List, length, take, drop, refl, sym, ap, arith, inl, inr, ◌∙◌, get_or-take, get_or-drop}
-use Rattle.std.specs.Prelude.{Some, None, if◌then◌else◌, nat_le, nat_lt, slice_index, slice_range, unwrap_or}
-use Rattle.std.proofs.Math.Nat.{le-mul_of_pos_right, mod-lt, mul-le-mul_left}
-use Rattle.std.proofs.lemmas.Bool.{cases_Bool, ltb-true, ltb-false}
+use Rattle.std.proofs.Common.{◌≡◌, ◌<◌, ◌≤◌, ◌+◌, ◌-◌, ◌*◌, ◌^◌, ℕ, ℤ, zero, suc, Bool, true, false, List, length, take, drop, refl, sym, ap, arith, inl, inr, ◌∙◌, get_or-take, get_or-drop}
+use Rattle.std.specs.Prelude.{Some, None, ◌+ℤ◌, ◌-ℤ◌, ◌*ℤ◌, pos, if◌then◌else◌, nat_le, nat_lt, slice_index, slice_range, unwrap_or}
+use Rattle.std.proofs.Math.Nat.{le-mul_of_pos_right, mod-lt, mul_comm, mul-le-mul_left}
+use Rattle.std.proofs.Math.IntN.{neg_ℤ, neg_ℤ-+ℤ, negsuc-*ℤ-pos, pos-+ℤ-pos, +ℤ_assoc, +ℤ_comm, +ℤ_idl, +ℤ_invr}
+use Rattle.std.proofs.lemmas.Bool.{cases_Bool, le-leb, ltb-true, ltb-false}
 use Rattle.std.proofs.lemmas.List.{get_or_past, length-take}
 use Rattle.std.proofs.lemmas.Grind.{pow_more}
 use Rattle.std.proofs.lemmas.Nat.{pow_pos}
 use Rattle.byteorder.specs.Endian.{little_number}
 use Rattle.byteorder.specs.Numbers.{little_from-lt}
-use Rattle.j39_groups.specs.Readings.{last_byte, raw_bits, raw_number}
+use Rattle.j39_groups.specs.Readings.{last_byte, raw_bits, raw_number, signed_number}
 
 -- four bytes fit 32 bits
 pub pow-256-le : (n : ℕ) → n ≤ 4 → 256 ^ n ≤ 2 ^ 32
@@ -84,3 +85,33 @@ step_fits step (suc k) offset some fits =
     let whole = pow_pos k in
     let once : step ≤ step * (2 ^ suc k - 1) = le-mul_of_pos_right step (omega (arith, size, whole)) in
     omega (arith, once, fits)
+
+twice : (count : ℕ) → 0 < count → 2 ^ count ≡ 2 * 2 ^ (count - 1)
+twice zero some = absurd (omega arith)
+twice (suc k) some =
+    let next : suc k ≡ k + 1 = omega arith in
+    let before : suc k - 1 ≡ k = omega arith in
+    let less : 2 ^ (suc k - 1) ≡ 2 ^ k = ap (λ j. 2 ^ j) before in
+    ap (λ j. 2 ^ j) next ∙ (let p = pow_more 2 k in omega (arith, p, less))
+
+negative_product : (m step : ℕ) → neg_ℤ (pos m) *ℤ pos step ≡ neg_ℤ (pos (m * step))
+negative_product zero step = let none : 0 * step ≡ 0 = omega arith in ap pos none ∙ ap (λ n. neg_ℤ (pos n)) (sym none)
+negative_product (suc k) step = negsuc-*ℤ-pos k step
+
+less_a_size : (raw size m : ℕ) → size ≡ raw + m → pos raw -ℤ pos size ≡ neg_ℤ (pos m)
+less_a_size raw size m is =
+    ap (λ n. pos raw -ℤ pos n) is ∙ ap (λ z. pos raw -ℤ z) (sym (pos-+ℤ-pos raw m)) ∙ ap (λ z. pos raw +ℤ z) (neg_ℤ-+ℤ (pos raw) (pos m))
+    ∙ sym (+ℤ_assoc (pos raw) (neg_ℤ (pos raw)) (neg_ℤ (pos m))) ∙ ap (λ z. z +ℤ neg_ℤ (pos m)) (+ℤ_invr (pos raw)) ∙ +ℤ_idl (neg_ℤ (pos m))
+
+-- a number whose highest bit is set is so many steps below the offset
+pub signed_below : (count raw step half : ℕ) (offset : ℤ) → 0 < count → half ≡ 2 ^ (count - 1) → half ≤ raw → raw < 2 ^ count
+    → offset -ℤ pos (step * (2 * half - raw)) ≡ signed_number count raw *ℤ pos step +ℤ offset
+signed_below count raw step half offset some is high below =
+    let m = 2 * half - raw in
+    let doubled = twice count some in
+    let size : 2 ^ count ≡ raw + m = omega (arith, doubled, is, below) in
+    let set : nat_le (2 ^ (count - 1)) raw ≡ true = le-leb _ _ (omega (arith, is, high)) in
+    let value : (pos raw -ℤ pos (2 ^ count)) *ℤ pos step +ℤ offset ≡ offset -ℤ pos (step * m) =
+    ap (λ z. z *ℤ pos step +ℤ offset) (less_a_size raw (2 ^ count) m size) ∙ ap (λ z. z +ℤ offset) (negative_product m step)
+    ∙ ap (λ n. neg_ℤ (pos n) +ℤ offset) (mul_comm m step) ∙ +ℤ_comm (neg_ℤ (pos (step * m))) offset in
+    rw set (sym value)

@@ -1,14 +1,13 @@
 -- What is prepared for a row.
-use Rattle.std.proofs.Common.{◌≡◌, ◌<◌, ◌≤◌, ◌+◌, ◌-◌, ◌/◌, ◌%◌, ◌^◌, ℕ, List, [], ◌∷◌, ◌++◌, Bool, true, false, drop, refl, sym, ap, ap₂, ◌∙◌, subst, arith, append_assoc, length, inl, inr}
-use Rattle.std.specs.Prelude.{◌==◌, ◌&&◌, ◌||◌, not, nat_le, Option, Some, None, IfSome, if◌then◌else◌, codes}
+use Rattle.std.proofs.Common.{◌≡◌, ◌≤◌, ◌-◌, ◌/◌, ◌%◌, ◌^◌, ℕ, List, [], ◌∷◌, ◌++◌, Bool, true, false, refl, sym, ap, ap₂, ◌∙◌, arith, append_assoc}
+use Rattle.std.specs.Prelude.{◌==◌, ◌&&◌, nat_le, Option, Some, None, IfSome, if◌then◌else◌, codes}
 use Rattle.std.specs.Option.{option_map, option_and_then, option_to_list}
 use Rattle.std.specs.Fmt.{decimal, digits, digits_onto}
 use Rattle.std.proofs.lemmas.Bool.{and_parts, false≢true, leb-true, le-leb, ltb-true, eq-eqb, eqb-true}
 use Rattle.std.specs.Str.{bytes_eq}
 use Rattle.std.proofs.lemmas.Slice.Eq.{bytes_eq-Decides}
-use Rattle.j39_io.specs.Backwards.{WritesBefore}
 use Rattle.j39_groups.specs.declared.field.Field.{Field}
-use Rattle.j39_groups.specs.declared.field.Field.TheVariants.{Number, Bits, Switch, Text, Texts}
+use Rattle.j39_groups.specs.declared.field.Field.TheVariants.{Number, Bits, Signed, Switch, Text, Texts}
 use Rattle.j39_groups.specs.declared.scale.Scale.{Scale}
 use Rattle.j39_groups.specs.declared.short_text.ShortText.{ShortText}
 use Rattle.j39_groups.specs.declared.prepared.Ending.{Ending}
@@ -16,12 +15,12 @@ use Rattle.j39_groups.specs.declared.prepared.Prepared.{Prepared}
 use Rattle.j39_groups.specs.declared.row.Row.{Row}
 use Rattle.j39_groups.specs.declared.short.Short.{Short}
 use Rattle.j39_groups.specs.Ranges.{is_valid}
-use Rattle.j39_groups.specs.Fields.{IsShort, IsSound, is_sound}
+use Rattle.j39_groups.specs.Fields.{IsShort, IsSound, IsSoundBits, is_sound}
 use Rattle.j39_groups.specs.Models.{field_record, field_slot, scale_record, short_value}
-use Rattle.j39_groups.specs.Readings.{bits_meaning, by_top_byte, number_meaning, switch_meaning, values_at}
+use Rattle.j39_groups.specs.Readings.{bits_meaning, by_top_byte, number_meaning, signed_value, switch_meaning, values_at}
 use Rattle.j39_groups.specs.Ready.{HasEnd, IsEnd, is_label, is_prepared, is_ready, is_scale_end, is_short_end, number_and_space, short_text}
 use Rattle.j39_groups.specs.Rows.{most_values}
-use Rattle.j39_groups.specs.Value.{SlotRecord, ValueRecord, on, off, error, reserved, indicator, number}
+use Rattle.j39_groups.specs.Value.{SlotRecord, ValueRecord, on, off, error, reserved, indicator}
 
 computed : (n : ℕ) → digits_onto 64 10 false n [] ≡ decimal n
 unfolding digits
@@ -101,6 +100,10 @@ ends_bits : (end : Ending) (count : ℕ) (slot : SlotRecord) (raw : Option ℕ) 
 ends_bits end count slot None h = tt
 ends_bits end count slot (Some raw) h = ends_bits_of end count slot raw h
 
+ends_signed : (end : Ending) (count : ℕ) (slot : SlotRecord) (raw : Option ℕ) → IsEnd end slot → IfSome (option_map (signed_value count slot) raw) (HasEnd end)
+ends_signed end count slot None h = tt
+ends_signed end count slot (Some raw) h = h
+
 by_switch : (end : Ending) (a b c : Bool) → IfSome (if a then Some off else (if b then Some on else (if c then Some error else None))) (HasEnd end)
 by_switch end true b c = tt
 by_switch end false true c = tt
@@ -130,6 +133,7 @@ seen_value view P (Some x) (Some v) is h = let same : view x ≡ v = ap (head_of
 pub ready_short : (end : Ending) (field : Field) → is_ready end field ≡ true → IsShort field
 ready_short end (Number first last scale) h = tt
 ready_short end (Bits byte low count scale) h = tt
+ready_short end (Signed byte low count scale) h = tt
 ready_short end (Switch byte low high) h = tt
 ready_short end (Text part) h = absurd (false≢true h)
 ready_short end (Texts byte count) h = absurd (false≢true h)
@@ -143,6 +147,8 @@ ready_ends end (Number first last scale) bytes result h is =
     seen_value (short_value (scale_record scale)) (HasEnd end) result _ is (ends_number end _ (scale_record scale) _ (scale_end_is end scale h))
 ready_ends end (Bits byte low count scale) bytes result h is =
     seen_value (short_value (scale_record scale)) (HasEnd end) result _ is (ends_bits end count (scale_record scale) _ (scale_end_is end scale h))
+ready_ends end (Signed byte low count scale) bytes result h is =
+    seen_value (short_value (scale_record scale)) (HasEnd end) result _ is (ends_signed end count (scale_record scale) _ (scale_end_is end scale h))
 ready_ends end (Switch byte low high) bytes result h is =
     seen_value (short_value (field_slot (Switch byte low high))) (HasEnd end) result _ is (ends_switch end (λ b. b / 2 ^ (low - 1) % 4) _)
 ready_ends end (Text part) bytes result h is = absurd (false≢true h)
@@ -162,6 +168,15 @@ pub labelled_line : (head pgn spn value end label : List ℕ) → label ≡ (pgn
     → head ++ (label ++ (value ++ end)) ≡ (head ++ pgn ++ codes " ") ++ spn ++ codes " " ++ value ++ end
 labelled_line head pgn spn value end label is = ap (λ t. head ++ (t ++ (value ++ end))) is ∙ (simp append_assoc refl)
 
+bits_sound : (byte low count : ℕ) (scale : Scale) → is_sound (Bits byte low count scale) ≡ true → IsSoundBits byte low count scale
+bits_sound byte low count scale h =
+    let a = and_parts _ _ h in
+    let b = and_parts _ _ a.0 in
+    let c = and_parts _ _ b.1 in
+    let d = and_parts _ _ c.1 in
+    let e = and_parts _ _ d.1 in
+    record { byte_starts = ltb-true _ _ b.0; starts = ltb-true _ _ c.0; ends = leb-true _ _ d.0; some = ltb-true _ _ e.0; narrow = leb-true _ _ e.1; fits = ltb-true _ _ a.1 }
+
 -- a field that passes the test is sound
 pub field_sound : (field : Field) → is_sound field ≡ true → IsSound field
 field_sound (Number first last scale) h =
@@ -169,13 +184,8 @@ field_sound (Number first last scale) h =
     let b = and_parts _ _ a.0 in
     let c = and_parts _ _ b.1 in
     record { starts = ltb-true _ _ b.0; ordered = leb-true _ _ c.0; narrow = ltb-true _ _ c.1; fits = ltb-true _ _ a.1 }
-field_sound (Bits byte low count scale) h =
-    let a = and_parts _ _ h in
-    let b = and_parts _ _ a.0 in
-    let c = and_parts _ _ b.1 in
-    let d = and_parts _ _ c.1 in
-    let e = and_parts _ _ d.1 in
-    record { byte_starts = ltb-true _ _ b.0; starts = ltb-true _ _ c.0; ends = leb-true _ _ d.0; some = ltb-true _ _ e.0; narrow = leb-true _ _ e.1; fits = ltb-true _ _ a.1 }
+field_sound (Bits byte low count scale) h = bits_sound byte low count scale h
+field_sound (Signed byte low count scale) h = bits_sound byte low count scale h
 field_sound (Switch byte low high) h =
     let a = and_parts _ _ h in
     let b = and_parts _ _ a.1 in
@@ -188,6 +198,7 @@ field_sound (Texts byte count) h = let a = and_parts _ _ h in record { byte_star
 pub most_few : (field : Field) → is_sound field ≡ true → most_values field ≤ 31
 most_few (Number first last scale) h = omega arith
 most_few (Bits byte low count scale) h = omega arith
+most_few (Signed byte low count scale) h = omega arith
 most_few (Switch byte low high) h = omega arith
 most_few (Text part) h = omega arith
 most_few (Texts byte count) h = leb-true _ _ (and_parts _ _ h).1

@@ -1,7 +1,7 @@
 -- What is known of the rows of a table.
-use Rattle.std.proofs.Common.{◌≡◌, ◌<◌, ◌≤◌, ◌-◌, arith, inl, inr, ℕ, List, [], ◌∷◌, Bool, true, false, length, take, drop, get_or, map, refl, sym, ap, ◌∙◌, take-append-drop}
-use Rattle.std.specs.Prelude.{◌==◌, not, filter}
-use Rattle.std.specs.List.{All, Contains, list_all, list_any}
+use Rattle.std.proofs.Common.{◌≡◌, ◌<◌, arith, inl, inr, ℕ, List, [], ◌∷◌, Bool, true, false, length, take, drop, get_or, map, refl, sym, ap, ◌∙◌, take-append-drop}
+use Rattle.std.specs.Prelude.{◌==◌, filter}
+use Rattle.std.specs.List.{Contains, list_all, list_any}
 use Rattle.std.proofs.lemmas.Bool.{and_parts, cases_Bool, eq-eqb, not-true}
 use Rattle.std.proofs.lemmas.List.Folds.{list_all-append}
 use Rattle.std.proofs.lemmas.List.{get_or-map, length-map}

@@ -1,5 +1,5 @@
 -- The runs of the marks.
-use Rattle.std.proofs.Common.{◌≡◌, ◌<◌, ◌≤◌, ◌+◌, ◌-◌, ◌∙◌, ◌++◌, ℕ, zero, suc, ◌⊎◌, List, [], ◌∷◌, Bool, true, false, length, take, drop, get_or, refl, sym, ap, subst, arith, inl, inr, append-nil, drop-drop, length-append, take-append-drop}
+use Rattle.std.proofs.Common.{◌≡◌, ◌<◌, ◌+◌, ◌-◌, ◌∙◌, ◌++◌, ℕ, zero, suc, ◌⊎◌, List, [], ◌∷◌, Bool, true, false, length, take, drop, get_or, refl, sym, ap, subst, arith, inl, inr, append-nil, drop-drop, length-append, take-append-drop}
 use Rattle.std.specs.Prelude.{◌==◌, filter, not, replicate, slice_set}
 use Rattle.std.specs.List.{list_all}
 use Rattle.std.proofs.lemmas.Bool.{and_parts, cases_Bool, eq-eqb, eqb-true, eqb-false, false≢true, ne_eqb}

@@ -1,8 +1,8 @@
 -- What holds of the whole table, row by row.
-use Rattle.std.proofs.Common.{sym, ◌≡◌, ◌<◌, ◌≤◌, ◌+◌, ◌/◌, ◌%◌, ◌^◌, ◌==◌, ◌++◌, ℕ, eqb, List, [], ◌∷◌, Bool, length, get_or, take, refl, ap, ◌∙◌, true, false, arith, map, inl, inr}
-use Rattle.std.specs.Prelude.{nat_le, slice_index, bit_and, filter, slice_get, if◌then◌else◌, Option, Some}
+use Rattle.std.proofs.Common.{sym, ◌≡◌, ◌<◌, ◌≤◌, ◌+◌, ◌==◌, ◌++◌, ℕ, List, [], ◌∷◌, Bool, length, get_or, take, refl, ap, ◌∙◌, true, false, arith, map, inl, inr}
+use Rattle.std.specs.Prelude.{nat_le, filter, slice_get, if◌then◌else◌, Option, Some}
 use Rattle.std.specs.List.{filter_map, flat_map, Contains, All, list_all, list_any}
-use Rattle.std.proofs.lemmas.Bool.{and_parts, cases_Bool, ltb-true, leb-true, eq-eqb, eqb-true, eqb-false, ne_eqb, false≢true}
+use Rattle.std.proofs.lemmas.Bool.{and_parts, cases_Bool, leb-true, eq-eqb, ne_eqb, false≢true}
 use Rattle.std.proofs.lemmas.List.Sums.{AllPass-from_list_all, sum_by_more, sum_by_more_le}
 use Rattle.std.proofs.lemmas.List.{append-nil}
 use Rattle.std.proofs.lemmas.Grind.{flat_map-append}

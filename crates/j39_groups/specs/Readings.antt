@@ -1,10 +1,10 @@
 -- What is read in the payload of a group (J1939-71).
-use Rattle.std.specs.Prelude.{◌≡◌, ◌-◌, ◌/◌, ◌%◌, ◌^◌, ◌+◌, ◌+ℤ◌, ◌*ℤ◌, ◌==◌, ◌&&◌, ◌||◌, not, ℕ, pos, List, length, Bool, Option, Some, None, if◌then◌else◌, nat_le, nat_lt, slice_get, slice_range, filter, map, take, drop}
-use Rattle.std.specs.Option.{option_and_then, option_to_list}
+use Rattle.std.specs.Prelude.{◌≡◌, ◌-◌, ◌/◌, ◌%◌, ◌^◌, ◌+◌, ◌+ℤ◌, ◌-ℤ◌, ◌*ℤ◌, ◌==◌, ◌&&◌, ◌||◌, not, ℕ, ℤ, pos, List, length, Bool, Option, Some, None, if◌then◌else◌, nat_le, nat_lt, slice_get, slice_range, filter, map, take, drop}
+use Rattle.std.specs.Option.{option_and_then, option_map, option_to_list}
 use Rattle.std.specs.List.{filter_map, flat_map, list_any, list_all}
 use Rattle.byteorder.specs.Endian.{little_number}
 use Rattle.j39_groups.specs.Value.{SlotRecord, ValueRecord, number, on, off, error, reserved, indicator, text, ReadingRecord}
-use Rattle.j39_groups.specs.Row.{FieldRecord, number_field, bits_field, switch_field, text_field, texts_field, RowRecord}
+use Rattle.j39_groups.specs.Row.{FieldRecord, number_field, bits_field, signed_field, switch_field, text_field, texts_field, RowRecord}
 use Rattle.j39_groups.specs.Table.{the_table}
 use Rattle.j39_groups.specs.Parts.{parts_of}
 use Rattle.j39_groups.specs.Ranges.{top_byte, is_valid}
@@ -48,6 +48,14 @@ bits_meaning count slot raw =
     (if (count == 2 || count == 4) && raw + 2 == 2 ^ count then Some error else
     Some (number (pos raw *ℤ slot.step +ℤ slot.offset) slot)))
 
+-- what so many bits are in two's complement: 2 ^ count less where the highest of them is set
+abbrev pub signed_number : ℕ → ℕ → ℤ
+signed_number count raw = if nat_le (2 ^ (count - 1)) raw then pos raw -ℤ pos (2 ^ count) else pos raw
+
+-- each is valid (own)
+abbrev pub signed_value : ℕ → SlotRecord → ℕ → ValueRecord
+signed_value count slot raw = number (signed_number count raw *ℤ slot.step +ℤ slot.offset) slot
+
 -- two bits: off, on, error, not available
 unfoldable pub switch_meaning : ℕ → Option ValueRecord
 switch_meaning bits =
@@ -67,6 +75,8 @@ values_at bytes (number_field first last slot) =
     option_to_list (option_and_then (number_meaning (last - (first - 1)) slot) (raw_number first last bytes))
 values_at bytes (bits_field byte low count slot) =
     option_to_list (option_and_then (bits_meaning count slot) (raw_bits byte low count bytes))
+values_at bytes (signed_field byte low count slot) =
+    option_to_list (option_map (signed_value count slot) (raw_bits byte low count bytes))
 values_at bytes (switch_field byte low high) =
     option_to_list (option_and_then (λ b. switch_meaning (b / 2 ^ (low - 1) % 4)) (slice_get bytes (byte - 1)))
 values_at bytes (text_field part) = option_to_list

@@ -9,6 +9,8 @@ pub data FieldRecord : Type 0 where
   number_field : ℕ → ℕ → SlotRecord → FieldRecord
   -- a number in so many bits from the bit low of a byte on, the low bit first, and its slot
   bits_field : ℕ → ℕ → ℕ → SlotRecord → FieldRecord
+  -- the same in two's complement (own)
+  signed_field : ℕ → ℕ → ℕ → SlotRecord → FieldRecord
   -- the bits low and high of a byte
   switch_field : ℕ → ℕ → ℕ → FieldRecord
   -- one of the parts of the payload between the bytes `*`

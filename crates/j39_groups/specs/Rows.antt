@@ -3,7 +3,7 @@ use Rattle.std.specs.Prelude.{◌<◌, ◌≤◌, ◌==◌, ◌&&◌, ◌^◌, n
 use Rattle.std.specs.List.{list_all, sum_by}
 use Rattle.j39_groups.specs.declared.by_number.SizedScale.{SizedScale}
 use Rattle.j39_groups.specs.declared.field.Field.{Field}
-use Rattle.j39_groups.specs.declared.field.Field.TheVariants.{Number, Bits, Switch, Text, Texts}
+use Rattle.j39_groups.specs.declared.field.Field.TheVariants.{Number, Bits, Signed, Switch, Text, Texts}
 use Rattle.j39_groups.specs.declared.row.Row.{Row}
 use Rattle.j39_groups.specs.declared.scale.Scale.{Scale}
 use Rattle.j39_groups.specs.Fields.{is_sound}
@@ -34,6 +34,7 @@ pub record IsSoundCount (count : ℕ) (scale : Scale) : Type 0 where
 abbrev pub is_rising : Field → Bool
 is_rising (Number first last scale) = nat_lt 0 scale.step
 is_rising (Bits byte low count scale) = true
+is_rising (Signed byte low count scale) = true
 is_rising (Switch byte low high) = true
 is_rising (Text part) = true
 is_rising (Texts byte count) = true
@@ -42,6 +43,7 @@ is_rising (Texts byte count) = true
 abbrev pub most_values : Field → ℕ
 most_values (Number first last scale) = 1
 most_values (Bits byte low count scale) = 1
+most_values (Signed byte low count scale) = 1
 most_values (Switch byte low high) = 1
 most_values (Text part) = 1
 most_values (Texts byte count) = count

@@ -21,6 +21,13 @@ pub enum Field<'t> {
         count: u8,
         scale: Scale<'t>,
     },
+    /// The same in two's complement; each of its numbers is valid (own).
+    Signed {
+        byte: u8,
+        low: u8,
+        count: u8,
+        scale: Scale<'t>,
+    },
     /// A switch in the bits `low` and `high` of a byte, neighbours.
     Switch {
         byte: u8,
@@ -48,6 +55,12 @@ impl<'t> Field<'t> {
                 are_bytes(first, last) && scale.fits(8 * (last - first + 1))
             }
             Field::Bits {
+                byte,
+                low,
+                count,
+                scale,
+            } => { are_bits(byte, low, count) && scale.fits(count) }
+            Field::Signed {
                 byte,
                 low,
                 count,

@@ -58,6 +58,7 @@ fn end_of(field: Field<'_>) -> Option<Ending>
     match field {
         Field::Number { scale, .. } => scale_end(scale),
         Field::Bits { scale, .. } => scale_end(scale),
+        Field::Signed { scale, .. } => scale_end(scale),
         Field::Switch { .. } => Some(Ending {
             text: ShortText::EMPTY,
             places: 0,

@@ -6,7 +6,7 @@ ghost use Rattle.j39_io.specs.Puts.{Puts};
 ghost use Rattle.j39_io.specs.Turn.{turn};
 ghost use Rattle.j39_groups.specs.Fields.{IsSound};
 ghost use Rattle.j39_groups.specs.Models.{field_record, row_record, scale_record};
-ghost use Rattle.j39_groups.specs.Printed.{bits_end, bits_text, line_of_columns, place_text, range_text, row_text, scale_columns, scale_text, slot_text};
+ghost use Rattle.j39_groups.specs.Printed.{bits_end, bits_text, bytes_or_bits_text, line_of_columns, place_text, range_text, row_text, scale_columns, scale_text, slot_text};
 ghost use Rattle.j39_groups.specs.Rows.{is_row};
 
 use crate::field::Field;
@@ -126,24 +126,35 @@ fn place_of(field: Field<'_>) -> ArrayVec<u8, 32>
     ensures { result.items ≡ place_text (field_record field.entry) }
 {
     match field {
-        Field::Number { first, last, .. } => bytes_place(first, last),
+        Field::Number { first, last, .. } => bytes_place(first, u16::from(last)),
         Field::Bits {
             byte,
             low,
             count,
             ..
         } => bits_place(byte, low, count),
+        Field::Signed {
+            byte,
+            low,
+            count,
+            ..
+        } => signed_place(byte, low, count),
         Field::Switch { byte, low, high } => switch_place(byte, low, high),
         Field::Text { part } => part_place(part),
         Field::Texts { byte, .. } => parts_place(byte),
     }
 }
 
-fn bytes_place(first: u8, last: u8) -> ArrayVec<u8, 32>
-    ensures { result.items ≡ range_text first last }
+fn bytes_place(first: u8, last: u16) -> ArrayVec<u8, 32>
+    ensures items { result.items ≡ range_text first last }
+    ensures len { array_vec_len result ≤ 31 }
 {
     let mut text = ArrayVec::new();
-    push_range(&mut text, first, last);
+    push_short(&mut text, u16::from(first));
+    if u16::from(first) != last {
+        text.push(b'-');
+        push_short(&mut text, last);
+    }
     text
 }
 
@@ -178,7 +189,8 @@ fn parts_place(byte: u8) -> ArrayVec<u8, 32>
 /// Appends two numbers with `-` between, or one where they are the same.
 pub fn push_range(text: &mut ArrayVec<u8, 32>, first: u8, last: u8)
     requires { array_vec_len text.old + 21 ≤ 32 }
-    ensures { text.new.items ≡ text.old.items ++ range_text first last }
+    ensures items { text.new.items ≡ text.old.items ++ range_text first last }
+    ensures len { array_vec_len text.new ≤ array_vec_len text.old + 21 }
 {
     push_decimal(text, u32::from(first));
     if first != last {
@@ -193,7 +205,8 @@ fn bits_place(byte: u8, low: u8, count: u8) -> ArrayVec<u8, 32>
     requires ends { low ≤ 8 }
     requires some { 0 < count }
     requires narrow { count ≤ 32 }
-    ensures { result.items ≡ bits_text byte low (bits_end low count) }
+    ensures items { result.items ≡ bits_text byte low (bits_end low count) }
+    ensures len { array_vec_len result ≤ 31 }
 {
     let last = u16::from(low + count - 2);
     let mut text = ArrayVec::new();
@@ -210,6 +223,36 @@ fn bits_place(byte: u8, low: u8, count: u8) -> ArrayVec<u8, 32>
         push_short(&mut text, last + 1);
     }
     text
+}
+
+/// Bits with `s` behind, by bytes where they are whole ones.
+fn signed_place(byte: u8, low: u8, count: u8) -> ArrayVec<u8, 32>
+    requires byte { 0 < byte }
+    requires starts { 0 < low }
+    requires ends { low ≤ 8 }
+    requires some { 0 < count }
+    requires narrow { count ≤ 32 }
+    ensures { result.items ≡ bytes_or_bits_text byte low count ++ codes "s" }
+{
+    let mut text = bytes_or_bits_place(byte, low, count);
+    text.push(b's');
+    text
+}
+
+fn bytes_or_bits_place(byte: u8, low: u8, count: u8) -> ArrayVec<u8, 32>
+    requires byte { 0 < byte }
+    requires starts { 0 < low }
+    requires ends { low ≤ 8 }
+    requires some { 0 < count }
+    requires narrow { count ≤ 32 }
+    ensures items { result.items ≡ bytes_or_bits_text byte low count }
+    ensures len { array_vec_len result ≤ 31 }
+{
+    if low == 1 && count % 8 == 0 {
+        bytes_place(byte, u16::from(byte) + u16::from(count) / 8 - 1)
+    } else {
+        bits_place(byte, low, count)
+    }
 }
 
 /// Appends a number in decimal, of five digits at most.
@@ -230,6 +273,7 @@ fn scale_of(field: Field<'_>) -> ScaleTexts<'_>
     match field {
         Field::Number { scale, .. } => scale_texts(scale),
         Field::Bits { scale, .. } => scale_texts(scale),
+        Field::Signed { scale, .. } => scale_texts(scale),
         Field::Switch { .. } => dashes(),
         Field::Text { .. } => dashes(),
         Field::Texts { .. } => dashes(),

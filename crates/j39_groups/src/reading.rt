@@ -61,6 +61,7 @@ pub(crate) fn push_readings<'t, 'v>(
         Field::Texts { byte, count } => push_texts(found, row.spn, bytes_from(bytes, byte), count),
         Field::Number { .. } => push_value(found, row.spn, value_in(bytes, row.field)),
         Field::Bits { .. } => push_value(found, row.spn, value_in(bytes, row.field)),
+        Field::Signed { .. } => push_value(found, row.spn, value_in(bytes, row.field)),
         Field::Switch { .. } => push_value(found, row.spn, value_in(bytes, row.field)),
         Field::Text { .. } => push_value(found, row.spn, value_in(bytes, row.field)),
     }

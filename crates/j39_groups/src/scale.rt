@@ -23,9 +23,10 @@ impl<'t> Scale<'t> {
         unit: b"",
     };
 
-    ghost use Rattle.std.specs.Prelude.{◌+ℤ◌, ◌*ℤ◌, pos, nat_lt};
+    ghost use Rattle.std.specs.Prelude.{◌+ℤ◌, ◌-ℤ◌, ◌*ℤ◌, pos, nat_lt};
     ghost use Rattle.j39_groups.specs.Fields.{largest};
     ghost use Rattle.j39_groups.specs.Models.{scale_record};
+    ghost use Rattle.j39_groups.specs.Readings.{signed_number};
     ghost use Rattle.j39_groups.specs.Slots.{IsAt};
 
     /// The value of a raw number, in units of the last printed place.
@@ -35,6 +36,30 @@ impl<'t> Scale<'t> {
         ensures { result ≡ pos raw *ℤ (scale_record self.entry).step +ℤ (scale_record self.entry).offset }
     {
         (u64::from(raw) * self.step) as i64 + self.offset
+    }
+
+    /// The value of a number of `count` bits in two's complement, in units of the last printed place.
+    pub(crate) fn signed_value(self, raw: u32, count: u8) -> i64
+        requires some { 0 < count }
+        requires few { count ≤ 32 }
+        requires narrow { raw < 2 ^ count }
+        requires fits { largest count self < 2 ^ 63 }
+        ensures { result ≡ signed_number count raw *ℤ (scale_record self.entry).step +ℤ (scale_record self.entry).offset }
+    {
+        let half = highest_bit(count);
+        if u64::from(raw) < half {
+            self.value(raw)
+        } else {
+            self.value_below(2 * half - u64::from(raw))
+        }
+    }
+
+    /// The value so many steps below the offset.
+    fn value_below(self, steps: u64) -> i64
+        requires { self.step * steps + unsigned_abs self.offset < 2 ^ 63 }
+        ensures { result ≡ self.entry.offset -ℤ pos (self.entry.step * steps) }
+    {
+        self.offset - (steps * self.step) as i64
     }
 
     /// The raw number of a value, where the value stands on a step.
@@ -64,6 +89,16 @@ impl<'t> Scale<'t> {
         };
         sum < 1 << 63
     }
+}
+
+/// The number of so many bits of which the highest alone is set.
+fn highest_bit(count: u8) -> u64
+    requires some { 0 < count }
+    requires few { count ≤ 32 }
+    ensures value { result ≡ 2 ^ (count - 1) }
+    ensures fits { result < 2 ^ 32 }
+{
+    1 << (count - 1)
 }
 
 /// How many whole steps a distance is; `None` where it is no whole number of steps, or too many.

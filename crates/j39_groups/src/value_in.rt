@@ -5,7 +5,7 @@ ghost use Rattle.std.specs.Option.{option_map, option_and_then, option_to_list};
 ghost use Rattle.j39_groups.specs.Fields.{HasOneValue, IsShort, IsSound, IsSoundBits, IsSoundBytes, largest};
 ghost use Rattle.j39_groups.specs.Models.{field_record, field_slot, no_slot, scale_record, short_value, value_of};
 ghost use Rattle.j39_groups.specs.Parts.{parts_of};
-ghost use Rattle.j39_groups.specs.Readings.{bits_meaning, by_top_byte, filled_text_meaning, number_meaning, raw_bits, raw_number, switch_meaning, text_meaning, values_at};
+ghost use Rattle.j39_groups.specs.Readings.{bits_meaning, by_top_byte, filled_text_meaning, number_meaning, raw_bits, raw_number, signed_value, switch_meaning, text_meaning, values_at};
 ghost use Rattle.j39_groups.specs.Sightings.{holds_number};
 ghost use Rattle.j39_groups.specs.Value.{SlotRecord, ValueRecord};
 ghost use Rattle.j39_groups.specs.Ranges.{is_valid};
@@ -27,6 +27,7 @@ pub(crate) fn value_in<'t, 'v>(bytes: &'v [u8], field: Field<'t>) -> Option<Valu
     match field {
         Field::Number { scale, .. } => with(short_in(bytes, &field), scale),
         Field::Bits { scale, .. } => with(short_in(bytes, &field), scale),
+        Field::Signed { scale, .. } => with(short_in(bytes, &field), scale),
         Field::Switch { .. } => with(short_in(bytes, &field), Scale::NONE),
         Field::Text { part } => text_at(bytes, part),
         Field::Texts { .. } => None,
@@ -59,6 +60,12 @@ pub(crate) fn short_in(bytes: &[u8], field: &Field<'_>) -> Option<Short>
             count,
             scale,
         } => bits_of(bytes, *byte, *low, *count, scale),
+        Field::Signed {
+            byte,
+            low,
+            count,
+            scale,
+        } => signed_of(bytes, *byte, *low, *count, scale),
         Field::Switch { byte, low, .. } => switch_at(bytes, *byte, *low),
         Field::Text { .. } => None,
         Field::Texts { .. } => None,
@@ -74,6 +81,12 @@ pub(crate) fn holds_number(bytes: &[u8], field: &Field<'_>) -> bool
     match field {
         Field::Number { last, .. } => usize::from(*last) <= bytes.len(),
         Field::Bits {
+            byte,
+            low,
+            count,
+            ..
+        } => raw_bits(bytes, *byte, *low, *count).is_some(),
+        Field::Signed {
             byte,
             low,
             count,
@@ -163,6 +176,17 @@ fn bits_meaning(raw: u32, count: u8, scale: &Scale<'_>) -> Option<Short>
         return Some(Short::Error);
     }
     Some(Short::Number(scale.value(raw)))
+}
+
+/// The number in two's complement.
+#[inline(never)]
+fn signed_of(bytes: &[u8], byte: u8, low: u8, count: u8, scale: &Scale<'_>) -> Option<Short>
+    requires { IsSoundBits byte low count scale.now }
+    ensures { option_map (short_value (scale_record scale.now)) result
+        ≡ option_map (signed_value count (scale_record scale.now)) (raw_bits byte low count bytes.now) }
+{
+    let raw = raw_bits(bytes, byte, low, count)?;
+    Some(Short::Number(scale.signed_value(raw, count)))
 }
 
 /// The switch in the two bits from `low` on; `None` where the payload does not reach them or it is

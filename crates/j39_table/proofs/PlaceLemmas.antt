@@ -1,14 +1,14 @@
 -- Places by their texts: a number at the front of a text, and what stands behind it.
-use Rattle.std.proofs.Common.{◌≡◌, ◌<◌, ◌≤◌, ◌+◌, ◌-◌, ◌/◌, ◌%◌, ◌==◌, ◌⊎◌, inl, inr, ℕ, true, false, List, [], ◌∷◌, ◌++◌, length, take, drop, get_or, take_all, codes, refl, sym, ap, subst, ◌∙◌, arith, decimal, append-nil}
+use Rattle.std.proofs.Common.{◌≡◌, ◌<◌, ◌≤◌, ◌+◌, ◌-◌, ◌/◌, ◌%◌, ◌==◌, ◌&&◌, ◌⊎◌, inl, inr, ℕ, true, false, List, [], ◌∷◌, ◌++◌, length, take, drop, get_or, take_all, codes, refl, sym, ap, subst, ◌∙◌, arith, decimal, append-nil}
 use Rattle.std.specs.List.{prefix_len}
 use Rattle.std.specs.Char.{digit_value}
 use Rattle.std.specs.Str.Parse.{AllDigits, digits_value}
 use Rattle.std.proofs.lemmas.Bool.{cond_both, eqb-true, false≢true}
 use Rattle.std.proofs.lemmas.Fmt.{decimal_is_IsNumeral, decimal_nonempty, length-decimal-le}
 use Rattle.j39_table.proofs.ColumnLemmas.{drop_front, take_front}
-use Rattle.j39_groups.specs.Printed.{bits_end, bits_text, range_text}
+use Rattle.j39_groups.specs.Printed.{bits_end, bits_text, bytes_or_bits_text, range_text}
 use Rattle.j39_table.specs.declared.position.Position.{Position}
-use Rattle.j39_table.specs.declared.position.Position.TheVariants.{Bytes, Bits, Part, Texts}
+use Rattle.j39_table.specs.declared.position.Position.TheVariants.{Bytes, Bits, Signed, Part, Texts}
 use Rattle.j39_table.specs.Positions.{IsAfterDigits, IsGoodPlace, end_text, is_digit, text_of_place}
 
 digit_is : (c : ℕ) → digit_value c < 10 → is_digit c ≡ true
@@ -92,6 +92,11 @@ Starts-bits byte low last few =
     (λ e. Starts-append (decimal byte ++ codes ".") (range_text low (last + 1)) point)
     (λ e. Starts-append _ (decimal (last % 8 + 1)) (Starts-append _ (codes ".") (Starts-append _ (decimal (byte + last / 8)) (Starts-append _ (codes "-") (Starts-append _ (decimal low) point)))))
 
+Starts-bytes_or_bits : (byte low count : ℕ) → byte ≤ 255 → Starts (bytes_or_bits_text byte low count)
+Starts-bytes_or_bits byte low count few =
+    cond_both (low == 1 && count % 8 == 0) (range_text byte (byte + count / 8 - 1)) (bits_text byte low (bits_end low count)) Starts
+    (λ e. Starts-append (decimal byte) _ (Starts-decimal byte few)) (λ e. Starts-bits byte low (bits_end low count) few)
+
 pub record IsPart (place : Position) (text : List ℕ) : Type 0 where
   pub part : ℕ
   pub few : part ≤ 255
@@ -105,6 +110,10 @@ star_place (Bytes first last) text good is star =
 star_place (Bits byte low count) text good is star =
     let narrow : byte ≤ 255 = (let e = good.byte_ends in omega (arith, e)) in
     absurd (Starts-no_star text (bits_text byte low (bits_end low count)) (Starts-bits byte low (bits_end low count) narrow) is star)
+star_place (Signed byte low count) text good is star =
+    let narrow : byte ≤ 255 = (let e = good.byte_ends in omega (arith, e)) in
+    absurd (Starts-no_star text (bytes_or_bits_text byte low count ++ codes "s")
+    (Starts-append (bytes_or_bits_text byte low count) (codes "s") (Starts-bytes_or_bits byte low count narrow)) is star)
 star_place (Part part) text good is star = record { part = part; few = good.1; place_is = refl; digits = tail_is text (decimal part) 42 is }
 star_place (Texts byte) text good is star =
     absurd (Starts-no_star text (decimal byte ++ codes "-") (Starts-append (decimal byte) (codes "-") (Starts-decimal byte good.1)) is star)

@@ -1,8 +1,8 @@
 -- The columns of a line that is printed.
-use Rattle.std.proofs.Common.{◌≡◌, ◌<◌, ◌≤◌, ◌+◌, ◌-◌, ◌*◌, ◌/◌, ◌%◌, ◌^◌, ◌==◌, ◌∙◌, ◌++◌, ℕ, ℤ, zero, suc, true, false, List, [], ◌∷◌, All, length, take, drop, refl, sym, ap, append_assoc, subst, arith, codes, decimal, div-le_self, length-append, pos, unsigned_abs, get_or, map, filter}
+use Rattle.std.proofs.Common.{◌≡◌, ◌<◌, ◌≤◌, ◌+◌, ◌-◌, ◌*◌, ◌/◌, ◌%◌, ◌^◌, ◌==◌, ◌&&◌, ◌∙◌, ◌++◌, ℕ, ℤ, zero, suc, true, false, List, [], ◌∷◌, All, length, take, drop, refl, sym, ap, append_assoc, subst, arith, codes, decimal, div-le_self, length-append, pos, unsigned_abs, get_or, map}
 use Rattle.std.proofs.lemmas.List.Elements.{All-from_recursion}
 use Rattle.std.proofs.lemmas.List.Splits.{slice_split_at}
-use Rattle.j39_table.specs.Tables.{SpellRows, bare_line, is_no_comment, is_row_line, lines_of, row_lines}
+use Rattle.j39_table.specs.Tables.{bare_line, is_no_comment, is_row_line, lines_of, row_lines}
 use Rattle.std.specs.Prelude.{if◌then◌else◌}
 use Rattle.std.specs.Char.{digit_value}
 use Rattle.std.specs.Fmt.{sign_text}
@@ -14,8 +14,8 @@ use Rattle.std.proofs.lemmas.Fmt.{decimal_is_IsNumeral}
 use Rattle.std.proofs.lemmas.Grind.{common_steps}
 use Rattle.j39_io.proofs.PrintingLemmas.{AllDigits-last_digits}
 use Rattle.j39_io.specs.Chars.{is_not_space, is_space}
-use Rattle.j39_groups.specs.Printed.{bits_text, place_text, range_text, row_text, scale_text}
-use Rattle.j39_groups.specs.Row.{FieldRecord, number_field, bits_field, switch_field, text_field, texts_field, RowRecord}
+use Rattle.j39_groups.specs.Printed.{bits_end, bits_text, bytes_or_bits_text, place_text, range_text, row_text, scale_text}
+use Rattle.j39_groups.specs.Row.{FieldRecord, number_field, bits_field, signed_field, switch_field, text_field, texts_field, RowRecord}
 use Rattle.j39_groups.specs.Value.{SlotRecord}
 use Rattle.j39_groups.specs.ValueText.{magnitude_text, places_text, scaled_text}
 use Rattle.j39_table.proofs.ColumnLemmas.{drop_front, prefix_of, take_front}
@@ -87,12 +87,21 @@ Plain-bits byte low last few bit ends =
     (Plain-decimal (byte + last / 8) (omega arith)).free) (omega arith, tt))
     (Plain-decimal (last % 8 + 1) (omega arith)).free)
 
+Plain-bytes_or_bits : (byte low count : ℕ) → byte ≤ 255 → low ≤ 8 → count ≤ 32 → Plain (bytes_or_bits_text byte low count)
+Plain-bytes_or_bits byte low count ends bit narrow =
+    cond_both (low == 1 && count % 8 == 0) (range_text byte (byte + count / 8 - 1)) (bits_text byte low (bits_end low count)) Plain
+    (λ e. Plain-range byte (byte + count / 8 - 1) (omega (arith, ends)) (omega (arith, ends, narrow)))
+    (λ e. Plain-bits byte low (bits_end low count) ends bit (omega (arith, bit, narrow)))
+
 Plain-place : (field : FieldRecord) → IsGoodField field → Plain (place_text field)
 Plain-place (number_field first last slot) good =
     let ends = good.0.ends in let ordered = good.0.ordered in Plain-range first last (omega (arith, ends, ordered)) (omega (arith, ends))
 Plain-place (bits_field byte low count slot) good =
     let ends = good.0.byte_ends in let bit = good.0.ends in let narrow = good.0.narrow in
     Plain-bits byte low (low + count - 2) (omega (arith, ends)) bit (omega (arith, bit, narrow))
+Plain-place (signed_field byte low count slot) good =
+    let ends = good.0.byte_ends in let bit = good.0.ends in let narrow = good.0.narrow in
+    Plain-append (bytes_or_bits_text byte low count) (codes "s") (Plain-bytes_or_bits byte low count (omega (arith, ends)) bit narrow) (omega arith, tt)
 Plain-place (switch_field byte low high) good =
     let ends = good.byte_ends in let two = good.two in let to = good.ends in
     Plain-append _ (range_text low high) (Plain-append (decimal byte) (codes ".") (Plain-decimal byte (omega (arith, ends))) (omega arith, tt))
@@ -202,6 +211,10 @@ printed_columns a b c name (bits_field byte low count slot) pa pb pc good named 
     ap line_columns (flat a b c (place_text (bits_field byte low count slot)) (scaled_text slot.places slot.step) (scaled_text slot.places slot.offset) slot.unit name)
     ∙ seven a b c _ _ _ _ name pa pb pc (Plain-place (bits_field byte low count slot) good) (Plain-step count slot good.0.some good.1)
     (Plain-offset count slot good.1) (Plain-word slot.unit good.1.unit) named
+printed_columns a b c name (signed_field byte low count slot) pa pb pc good named =
+    ap line_columns (flat a b c (place_text (signed_field byte low count slot)) (scaled_text slot.places slot.step) (scaled_text slot.places slot.offset) slot.unit name)
+    ∙ seven a b c _ _ _ _ name pa pb pc (Plain-place (signed_field byte low count slot) good) (Plain-step count slot good.0.some good.1)
+    (Plain-offset count slot good.1) (Plain-word slot.unit good.1.unit) named
 printed_columns a b c name (switch_field byte low high) pa pb pc good named =
     ap line_columns (flat a b c (place_text (switch_field byte low high)) (codes "-") (codes "-") (codes "-") name)
     ∙ seven a b c _ _ _ _ name pa pb pc (Plain-place (switch_field byte low high) good) Plain-dash Plain-dash Plain-dash named
@@ -263,6 +276,7 @@ Printable-dashes = (omega arith, (omega arith, (omega arith, (omega arith, (omeg
 Printable-scale : (field : FieldRecord) → IsGoodField field → Printable (scale_text field)
 Printable-scale (number_field first last slot) good = Printable-slot (8 * (last - first + 1)) slot (omega arith) good.1
 Printable-scale (bits_field byte low count slot) good = Printable-slot count slot good.0.some good.1
+Printable-scale (signed_field byte low count slot) good = Printable-slot count slot good.0.some good.1
 Printable-scale (switch_field byte low high) good = Printable-dashes
 Printable-scale (text_field part) good = Printable-dashes
 Printable-scale (texts_field byte count) good = Printable-dashes

@@ -5,8 +5,8 @@ use Rattle.std.proofs.lemmas.List.{take-append-le}
 use Rattle.j39_groups.specs.Fields.{is_sound}
 use Rattle.j39_groups.specs.Models.{field_record}
 use Rattle.j39_groups.specs.declared.field.Field.{Field}
-use Rattle.j39_groups.specs.declared.field.Field.TheVariants.{Number, Bits, Switch, Text, Texts}
-use Rattle.j39_groups.specs.Row.{FieldRecord, number_field, bits_field, switch_field, text_field, texts_field, RowRecord}
+use Rattle.j39_groups.specs.declared.field.Field.TheVariants.{Number, Bits, Signed, Switch, Text, Texts}
+use Rattle.j39_groups.specs.Row.{FieldRecord, number_field, bits_field, signed_field, switch_field, text_field, texts_field, RowRecord}
 use Rattle.j39_table.proofs.ScaleLemmas.{first_of, second_of, third_of, x_word}
 use Rattle.j39_table.specs.Agreement.{AreColumnsOf, IsWrongAfter}
 use Rattle.j39_table.specs.Faults.{column_of}
@@ -21,6 +21,7 @@ use Rattle.j39_table.specs.declared.fault.RowFault.{RowFault}
 four : (field : FieldRecord) → length (field_columns field) ≡ 4
 four (number_field first last slot) = refl
 four (bits_field byte low count slot) = refl
+four (signed_field byte low count slot) = refl
 four (switch_field byte low high) = refl
 four (text_field part) = refl
 four (texts_field byte count) = refl
@@ -28,6 +29,7 @@ four (texts_field byte count) = refl
 drop_four : (field : FieldRecord) (xs : List (List ℕ)) → drop 4 (field_columns field ++ xs) ≡ xs
 drop_four (number_field first last slot) xs = refl
 drop_four (bits_field byte low count slot) xs = refl
+drop_four (signed_field byte low count slot) xs = refl
 drop_four (switch_field byte low high) xs = refl
 drop_four (text_field part) xs = refl
 drop_four (texts_field byte count) xs = refl
@@ -35,6 +37,7 @@ drop_four (texts_field byte count) xs = refl
 take_four : (field : FieldRecord) (xs : List (List ℕ)) → take 4 (field_columns field ++ xs) ≡ field_columns field
 take_four (number_field first last slot) xs = refl
 take_four (bits_field byte low count slot) xs = refl
+take_four (signed_field byte low count slot) xs = refl
 take_four (switch_field byte low high) xs = refl
 take_four (text_field part) xs = refl
 take_four (texts_field byte count) xs = refl
@@ -42,6 +45,7 @@ take_four (texts_field byte count) xs = refl
 take_five : (field : FieldRecord) (name : List ℕ) → take 5 (field_columns field ++ (name ∷ [])) ≡ field_columns field ++ (name ∷ [])
 take_five (number_field first last slot) name = refl
 take_five (bits_field byte low count slot) name = refl
+take_five (signed_field byte low count slot) name = refl
 take_five (switch_field byte low high) name = refl
 take_five (text_field part) name = refl
 take_five (texts_field byte count) name = refl
@@ -178,6 +182,8 @@ pub sound_field : (field : Field) → IsGoodField (field_record field) → is_so
 sound_field (Number first last scale) good =
     let place = good.0 in let step = good.1.step_is in let fits = good.1.fits in grind (arith, common_steps)
 sound_field (Bits byte low count scale) good =
+    let place = good.0 in let step = good.1.step_is in let fits = good.1.fits in grind (arith, common_steps)
+sound_field (Signed byte low count scale) good =
     let place = good.0 in let step = good.1.step_is in let fits = good.1.fits in grind (arith, common_steps)
 sound_field (Switch byte low high) good = grind (arith, common_steps)
 sound_field (Text part) good = grind (arith, common_steps)

@@ -59,6 +59,7 @@ fn unscaled<'t>(place: Position) -> Option<Field<'t>>
     match place {
         Position::Bytes { .. } => None,
         Position::Bits { byte, low, count } => switch_of(byte, low, count),
+        Position::Signed { .. } => None,
         Position::Part { part } => Some(Field::Text { part }),
         Position::Texts { byte } => Some(Field::Texts { byte, count: 31 }),
     }
@@ -101,6 +102,15 @@ fn scaled_field<'t>(
         }
         Position::Bits { byte, low, count } => match scale_in(count, step, offset, unit) {
             Ok(scale) => Ok(Field::Bits {
+                byte,
+                low,
+                count,
+                scale,
+            }),
+            Err(fault) => Err(fault),
+        },
+        Position::Signed { byte, low, count } => match scale_in(count, step, offset, unit) {
+            Ok(scale) => Ok(Field::Signed {
                 byte,
                 low,
                 count,

@@ -1,10 +1,10 @@
 //! Where a parameter stands, read from its text.
-ghost use Rattle.std.specs.Prelude.{◌≡◌, ◌+◌, ◌/◌, ◌%◌, ◌<◌, ◌≤◌, ◌++◌, ◌∷◌, ◌↔◌, [], ℕ, List, Some, IfSome, IsSomeAnd, IsTrue, codes, decimal, length};
+ghost use Rattle.std.specs.Prelude.{◌≡◌, ◌+◌, ◌-◌, ◌*◌, ◌/◌, ◌%◌, ◌<◌, ◌≤◌, ◌++◌, ◌∷◌, ◌↔◌, [], ℕ, List, Some, IfSome, IsSomeAnd, IsTrue, codes, decimal, length};
 ghost use Rattle.std.specs.List.{prefix_len};
 ghost use Rattle.arrayvec.specs.ArrayVec.{array_vec_len};
-ghost use Rattle.j39_groups.specs.Printed.{bits_end, bits_text};
+ghost use Rattle.j39_groups.specs.Printed.{bits_end, bits_text, bytes_or_bits_text};
 ghost use Rattle.j39_table.specs.declared.position.Position.{Position};
-ghost use Rattle.j39_table.specs.Positions.{IsAfterDigits, IsGoodBits, IsGoodPlace, behind_first_byte, behind_low_bit, end_text, is_digit, text_of_place};
+ghost use Rattle.j39_table.specs.Positions.{IsAfterDigits, IsGoodBits, IsGoodPlace, IsUnsignedPlace, behind_first_byte, behind_low_bit, end_text, is_digit, text_of_place, without_sign};
 
 use arrayvec::ArrayVec;
 use j39_groups::{push_decimal, push_range};
@@ -17,6 +17,8 @@ pub(crate) enum Position {
     Bytes { first: u8, last: u8 },
     /// `count` bits from the bit `low` of a byte on.
     Bits { byte: u8, low: u8, count: u8 },
+    /// The same in two's complement.
+    Signed { byte: u8, low: u8, count: u8 },
     /// One of the parts of the payload between the bytes `*`.
     Part { part: u8 },
     /// The parts of the bytes from `byte` on.
@@ -44,6 +46,7 @@ fn is_good(place: Position) -> bool
     match place {
         Position::Bytes { first, last } => 0 < first && first <= last && last - first < 4,
         Position::Bits { byte, low, count } => is_good_bits(byte, low, count),
+        Position::Signed { byte, low, count } => is_good_bits(byte, low, count),
         Position::Part { part } => 0 < part,
         Position::Texts { byte } => 0 < byte,
     }
@@ -69,6 +72,10 @@ fn place_text(place: Position) -> ArrayVec<u8, 32>
     match place {
         Position::Bytes { first, last } => push_range(&mut text, first, last),
         Position::Bits { byte, low, count } => push_bits(&mut text, byte, low, low + count - 2),
+        Position::Signed { byte, low, count } => {
+            push_bytes_or_bits(&mut text, byte, low, count);
+            text.push(b's');
+        }
         Position::Part { part } => {
             text.push(b'*');
             push_decimal(&mut text, u32::from(part));
@@ -81,11 +88,26 @@ fn place_text(place: Position) -> ArrayVec<u8, 32>
     text
 }
 
+/// Appends the place of bits, by bytes where they are whole ones.
+fn push_bytes_or_bits(text: &mut ArrayVec<u8, 32>, byte: u8, low: u8, count: u8)
+    requires empty { array_vec_len text.old ≡ 0 }
+    requires good { IsGoodBits byte low count }
+    ensures items { text.new.items ≡ bytes_or_bits_text byte low count }
+    ensures len { array_vec_len text.new ≤ 31 }
+{
+    if low == 1 && count % 8 == 0 {
+        push_range(text, byte, byte + (count / 8 - 1));
+    } else {
+        push_bits(text, byte, low, low + count - 2);
+    }
+}
+
 /// Appends the place of bits: `last` bits stand before the last one, from the first bit of the byte on.
 fn push_bits(text: &mut ArrayVec<u8, 32>, byte: u8, low: u8, last: u8)
     requires empty { array_vec_len text.old ≡ 0 }
     requires within { byte + last / 8 ≤ 255 }
-    ensures { text.new.items ≡ bits_text byte low last }
+    ensures items { text.new.items ≡ bits_text byte low last }
+    ensures len { array_vec_len text.new ≤ 31 }
 {
     push_number(text, byte);
     text.push(b'.');
@@ -103,6 +125,55 @@ fn push_bits(text: &mut ArrayVec<u8, 32>, byte: u8, low: u8, last: u8)
 /// What a text says where it is a place as it is printed; it may be no place.
 fn likely_place(text: &[u8]) -> Option<Position>
     ensures { (place : Position) → IsGoodPlace place → text.now ≡ text_of_place place → result ≡ Some place }
+{
+    match text {
+        [front @ .., b's'] => signed_place(front),
+        _ => unsigned_place(text),
+    }
+}
+
+/// The same of a text whose last byte says that the number is signed.
+fn signed_place(front: &[u8]) -> Option<Position>
+    ensures { (byte low count : ℕ) → IsGoodBits byte low count → front.now ≡ bytes_or_bits_text byte low count
+        → result ≡ Some (Position.Signed byte low count) }
+{
+    let place = unsigned_place(front)?;
+    with_sign(place)
+}
+
+/// The signed number in these bytes or bits.
+fn with_sign(place: Position) -> Option<Position>
+    ensures { (byte low count : ℕ) → IsGoodBits byte low count → place ≡ without_sign byte low count
+        → result ≡ Some (Position.Signed byte low count) }
+{
+    match place {
+        Position::Bytes { first, last } => signed_bytes(first, last),
+        Position::Bits { byte, low, count } => Some(Position::Signed { byte, low, count }),
+        Position::Signed { .. } => None,
+        Position::Part { .. } => None,
+        Position::Texts { .. } => None,
+    }
+}
+
+/// The signed number in the bytes `first` to `last`, where they are four at most.
+fn signed_bytes(first: u8, last: u8) -> Option<Position>
+    ensures { first ≤ last → last < first + 4 → result ≡ Some (Position.Signed first 1 (8 * (last - first + 1))) }
+{
+    let more = last.checked_sub(first)?;
+    if more > 3 {
+        return None;
+    }
+    Some(Position::Signed {
+        byte: first,
+        low: 1,
+        count: 8 * (more + 1),
+    })
+}
+
+/// The same of a text that says no signed number.
+fn unsigned_place(text: &[u8]) -> Option<Position>
+    ensures { (place : Position) → IsGoodPlace place → IsUnsignedPlace place → text.now ≡ text_of_place place
+        → result ≡ Some place }
 {
     match text {
         [b'*', rest @ ..] => part_in(rest),

@@ -1,5 +1,5 @@
 -- A quote, the front, the bytes and a quote, one after another.
-use Rattle.std.proofs.Common.{◌≡◌, ◌++◌, ap₂, codes, List, ℕ}
+use Rattle.std.proofs.Common.{◌++◌, ap₂, codes, List, ℕ}
 use Rattle.std.specs.List.{flat_map}
 use Rattle.j39_io.proofs.PutsLemmas.{puts_as, puts_first, puts_then}
 use Rattle.j39_groups.specs.ValueText.{byte_text}

@@ -1,9 +1,9 @@
 -- After a fault a front of the rows that are left was written.
-use Rattle.std.proofs.Common.{ap, ℕ, List, drop, get_or, arith}
+use Rattle.std.proofs.Common.{ℕ, List, drop, arith}
 use Rattle.std.proofs.lemmas.Slice.{between_to_end}
 use Rattle.j39_groups.specs.declared.row.Row.{Row}
 use Rattle.j39_groups.specs.Lines.{row_lines}
-use Rattle.j39_io.proofs.PutsLemmas.{puts_as, puts_until}
+use Rattle.j39_io.proofs.PutsLemmas.{puts_until}
 use Rattle.j39_groups.proofs.group_lines.put_each_row.Goals as goal
 
 pub returns-in_err-more-clause-puts : goal.returns-in_err-more-clause-puts

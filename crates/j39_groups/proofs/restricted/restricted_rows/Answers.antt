@@ -3,7 +3,7 @@ use Rattle.std.proofs.Common.{◌∙◌, Bool, ap, sym, arith, length, length-ap
 use Rattle.j39_io.proofs.DeviceLemmas.{on_err}
 use Rattle.j39_groups.specs.GivenRows.{rows_in}
 use Rattle.j39_groups.specs.Models.{row_record}
-use Rattle.j39_groups.specs.Readings.{is_among, rows_of_spns}
+use Rattle.j39_groups.specs.Readings.{is_among}
 use Rattle.j39_groups.specs.Row.{RowRecord}
 use Rattle.j39_groups.proofs.RestrictedLemmas.{onto, row_kept, row_left_out, some_kept}
 use Rattle.j39_groups.proofs.restricted.restricted_rows.Goals as goal

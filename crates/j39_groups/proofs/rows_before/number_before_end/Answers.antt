@@ -1,5 +1,5 @@
 -- The sign, the magnitude and the end.
-use Rattle.std.proofs.Common.{◌++◌, subst, sym, append_assoc}
+use Rattle.std.proofs.Common.{subst}
 use Rattle.std.specs.Fmt.{sign_text}
 use Rattle.j39_io.specs.Backwards.{WritesBefore}
 use Rattle.j39_io.proofs.BackwardsLemmas.{before_then}

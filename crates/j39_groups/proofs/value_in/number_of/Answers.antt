@@ -1,5 +1,5 @@
 -- The raw number is below the field's size.
-use Rattle.std.proofs.Common.{◌≡◌, ◌+◌, ◌-◌, arith, refl}
+use Rattle.std.proofs.Common.{◌+◌, ◌-◌, arith, refl}
 use Rattle.std.specs.Prelude.{unsigned_abs}
 use Rattle.j39_groups.proofs.NumberLemmas.{value_fits}
 use Rattle.j39_groups.proofs.value_in.number_of.Goals as goal

@@ -1,6 +1,6 @@
 -- The first wrong column of a scale, behind the place.
 use Rattle.std.proofs.Common.{arith, refl}
-use Rattle.j39_table.proofs.FieldLemmas.{makes_bits, makes_number, no_scale_of_part, no_scale_of_texts, wrong_scale}
+use Rattle.j39_table.proofs.FieldLemmas.{makes_bits, makes_number, makes_signed, no_scale_of_part, no_scale_of_texts, wrong_scale}
 use Rattle.j39_table.proofs.field.scaled_field.Goals as goal
 
 pub returns-in-Err : goal.returns-in-Err
@@ -14,6 +14,12 @@ returns-in-Err-scale_in c =
     let fault = c.in-Err-scale_in.ensures in
     let makes = makes_bits c.args.place c.in-Bits.byte c.in-Bits.low c.in-Bits.count c.in-Bits.is c.requires.good c.requires.alone in
     wrong_scale c.args.place _ _ c.args.step.now c.args.offset.now c.args.unit.now c.in-Err-scale_in.fault makes c.requires.number fault
+
+pub returns-in-Err-scale_in-2 : goal.returns-in-Err-scale_in-2
+returns-in-Err-scale_in-2 c =
+    let fault = c.in-Err-scale_in-2.ensures in
+    let makes = makes_signed c.args.place c.in-Signed.byte c.in-Signed.low c.in-Signed.count c.in-Signed.is c.requires.good c.requires.alone in
+    wrong_scale c.args.place _ _ c.args.step.now c.args.offset.now c.args.unit.now c.in-Err-scale_in-2.fault makes c.requires.number fault
 
 pub returns-in-Part : goal.returns-in-Part
 returns-in-Part c = record {

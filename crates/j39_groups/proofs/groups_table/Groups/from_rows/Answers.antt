@@ -1,5 +1,5 @@
 -- The rows of each group, as contracts see them.
-use Rattle.std.proofs.Common.{◌≡◌, ◌==◌, ◌∙◌, ap, sym, subst, map}
+use Rattle.std.proofs.Common.{◌==◌, ◌∙◌, ap, sym, subst, map}
 use Rattle.std.specs.List.Sorted.{IsNonDecreasingBy}
 use Rattle.j39_groups.specs.declared.row.Row.{Row}
 use Rattle.j39_groups.specs.Models.{row_record}

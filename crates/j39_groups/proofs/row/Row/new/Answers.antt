@@ -1,5 +1,5 @@
 -- What is asked of the group and the field, and what was prepared.
-use Rattle.std.proofs.Common.{◌≡◌, ◌<◌, ◌^◌, true, ap, arith}
+use Rattle.std.proofs.Common.{◌≡◌, ◌^◌, true, ap, arith}
 use Rattle.std.specs.Prelude.{◌&&◌, nat_lt, not}
 use Rattle.std.proofs.lemmas.Bool.{and_from, lt-ltb}
 use Rattle.j39_frame.specs.Pgn.{pgn_raw}
