@@ -1,5 +1,5 @@
 //! What is known of the lines so far.
-ghost use Rattle.std.specs.Prelude.{◌≡◌, ◌∷◌, ◌++◌, [], ℕ, List, Option, IfOk, OnErr, OnOk, Some, true, unwrap_or};
+ghost use Rattle.std.specs.Prelude.{◌≡◌, ◌∷◌, ◌++◌, [], ℕ, List, Option, OnErr, OnOk, Some, true, unwrap_or};
 ghost use Rattle.std.specs.Str.{bytes_eq};
 ghost use Rattle.j39_frame.specs.Frame.{FrameRecord};
 ghost use Rattle.j39_listen.specs.Asking.{AsksForBoxes};
@@ -14,6 +14,7 @@ ghost use Rattle.j39_log.specs.Splitter.{IsRawLine};
 ghost use Rattle.j39_reports.specs.LogLines.{IsSpelled, LogLine};
 ghost use Rattle.j39_reports.specs.SurveySoFar.{AsksAt, MeetsOnBus};
 
+use crate::surveys::group_table::GroupTable;
 use crate::surveys::interfaces::Interfaces;
 use crate::surveys::others::Others;
 use crate::surveys::traffic::Traffic;
@@ -37,22 +38,22 @@ pub(crate) struct Survey {
 }
 
 impl Survey {
-    ghost use Rattle.j39_reports.specs.SurveyModels.{HasSurveyed};
+    ghost use Rattle.j39_reports.specs.GroupCounts.{nothing};
+    ghost use Rattle.j39_reports.specs.SurveyModels.{HasSurveyed, HaveCounted};
 
-    /// Of no lines; of the groups of this interface, or of the first frame's. This takes memory for the groups.
-    pub fn new(alloc: Global, bus: Option<Bus>) -> Result<Survey, AllocError>
-        ensures { IfOk result (λ survey. HasSurveyed survey bus []) }
+    /// Of no lines, with a table of groups of which nothing came; of this interface, or of the first frame's.
+    pub fn new(alloc: Global, groups: GroupTable, bus: Option<Bus>) -> Survey
+        ensures { HaveCounted groups (λ pgn. nothing) → HasSurveyed result bus [] }
     {
-        let traffic = Traffic::new(alloc)?;
-        Ok(Survey {
+        Survey {
             lines: 0,
             interfaces: Interfaces::new(),
             bus,
-            traffic,
+            traffic: Traffic::new(alloc, groups),
             others: Others::new(),
             unread: UnreadLines::new(),
             has_log_line: false,
-        })
+        }
     }
 
     /// One line more, of a frame of the interface whose groups are counted. Memory is wanted at an announcement alone.

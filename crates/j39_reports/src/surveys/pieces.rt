@@ -4,6 +4,7 @@ ghost use Rattle.j39_listen.specs.Asking.{AsksAmong, AsksForBoxes};
 ghost use Rattle.j39_reports.specs.LogLines.{AreLogLines, LogLine};
 ghost use Rattle.j39_reports.specs.SurveyModels.{HasSurveyed};
 
+use crate::surveys::group_table::GroupTable;
 use crate::surveys::log_survey::Survey;
 use j39_log::{Bus, LastSecond, Splitter};
 use std::alloc::{AllocError, Global};
@@ -20,14 +21,14 @@ pub(crate) struct Pieces {
 impl Pieces {
     ghost use Rattle.j39_reports.specs.SurveySoFar.{HasTaken};
 
-    /// At the start of a log; of the groups of this interface, or of the first frame's.
+    /// At the start of a log; of the groups of this interface, or of the first frame's. This takes memory for the groups.
     pub fn new(alloc: Global, bus: Option<Bus>) -> Result<Pieces, AllocError>
         ensures { IfOk result (λ pieces. HasTaken pieces bus []) }
     {
-        let survey = Survey::new(alloc, bus)?;
+        let groups = GroupTable::new(alloc)?;
         Ok(Pieces {
             splitter: Splitter::new(),
-            survey,
+            survey: Survey::new(alloc, groups, bus),
             second: LastSecond::new(),
         })
     }

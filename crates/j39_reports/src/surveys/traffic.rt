@@ -20,17 +20,17 @@ pub(crate) struct Traffic {
 }
 
 impl Traffic {
-    ghost use Rattle.j39_reports.specs.SurveyModels.{HasMet};
+    ghost use Rattle.j39_reports.specs.GroupCounts.{nothing};
+    ghost use Rattle.j39_reports.specs.SurveyModels.{HasMet, HaveCounted};
 
-    /// Of no frames. This takes memory for the groups.
-    pub fn new(alloc: Global) -> Result<Traffic, AllocError>
-        ensures { IfOk result (λ traffic. HasMet traffic [] []) }
+    /// Of no frames, with a table of groups of which nothing came.
+    pub fn new(alloc: Global, groups: GroupTable) -> Traffic
+        ensures { HaveCounted groups (λ pgn. nothing) → HasMet result [] [] }
     {
-        let groups = GroupTable::new(alloc)?;
-        Ok(Traffic {
+        Traffic {
             groups,
             listener: Listener::new(alloc),
-        })
+        }
     }
 
     /// One frame more. Memory is wanted at an announcement alone.

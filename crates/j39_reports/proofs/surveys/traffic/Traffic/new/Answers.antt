@@ -2,4 +2,4 @@ use Rattle.std.proofs.Common.{refl}
 use Rattle.j39_reports.proofs.surveys.traffic.Traffic.new.Goals as goal
 
 pub returns : goal.returns
-returns c = record { hears = c.new-2.ensures; are_heard = refl; counted = c.in_ok-groups.ensures }
+returns c = λ none. record { hears = c.new.ensures; are_heard = refl; counted = none }
