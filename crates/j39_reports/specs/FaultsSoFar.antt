@@ -71,13 +71,23 @@ tells_clearing News = true
 tells_clearing All = true
 tells_clearing Changes = false
 
+-- whether it is told what became of the codes of a message
+abbrev pub tells_changes : Telling → Kind → Bool
+tells_changes News kind = false
+tells_changes All kind = false
+tells_changes Changes kind = is_active kind
+
+-- whether the codes of a message are told
+abbrev pub is_told : Telling → Bool → Bool
+is_told News is_news = is_news
+is_told All is_news = true
+is_told Changes is_news = false
+
 -- what is told of a message of codes, behind what its address said before
 abbrev pub told_since : Telling → Option Version → Option LastRecord → Hearing → Kind → Lamps → List Fault
-told_since News version last h kind lamps =
-    told_faults (differs version last h.message.bytes h.name) (faults_by version h (Some kind) (Some lamps))
-told_since All version last h kind lamps = faults_by version h (Some kind) (Some lamps)
-told_since Changes version last h kind lamps =
-    told_faults (is_active kind) (changes_by version (said_before last h.name) h lamps)
+told_since telling version last h kind lamps =
+    if tells_changes telling kind then changes_by version (said_before last h.name) h lamps
+    else told_faults (is_told telling (differs version last h.message.bytes h.name)) (faults_by version h (Some kind) (Some lamps))
 
 -- what became of a code of one of two messages, the other having these
 abbrev pub change_by : Side → List Code → Code → Option Change

@@ -26,9 +26,9 @@ const CHANGE_COLUMNS: &[u8] =
     b"stamp,utc,address,destination,name,change,spn,fmi,count,lamps,parameter,meaning\r\n";
 
 /// Writes the fault codes in a log of at most `limit` bytes: a line, or a record of comma-separated values (RFC 4180),
-/// for each code that is told of a message of faults, with the name that a table of parameters has for its
-/// parameter; for each message too whose codes are told, and that has none. The names of the columns of records are written before
-/// the log is read. Without a bus it is that of the first frame in the log.
+/// for each code that is told of a message of faults, with the name that a table of parameters has for its parameter; one
+/// too for a message whose codes are told, and that has none. The names of the columns of records are written before the
+/// log is read. Without a bus it is that of the first frame in the log.
 pub fn faults<R: Source, W: Sink>(
     alloc: Global,
     groups: &Groups<'_>,

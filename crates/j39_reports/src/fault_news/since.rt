@@ -1,13 +1,13 @@
 //! What is told of a message of codes, behind what its address said before.
-ghost use Rattle.std.specs.Prelude.{◌≡◌, ◌≢◌, ◌||◌, None, OnOk, Some, Err, option_map, slice_set};
+ghost use Rattle.std.specs.Prelude.{◌≡◌, ◌≢◌, None, OnOk, Some, Err, option_map, slice_set};
 ghost use Rattle.j39_io.specs.Turn.{turn};
 ghost use Rattle.j39_address.specs.Name.{name_raw};
 ghost use Rattle.j39_listen.specs.HeardModel.{hearing_of};
 ghost use Rattle.j39_listen.specs.declared.account.LineFault.TheVariants as line_fault;
 ghost use Rattle.j39_reports.specs.FaultChanges.{changes_by, is_active};
 ghost use Rattle.j39_reports.specs.Faults.{faults_by};
-ghost use Rattle.j39_reports.specs.FaultsSoFar.{TellsFaults, told_faults, told_since};
-ghost use Rattle.j39_reports.specs.LastMessages.{at, differs, said_before, said_by};
+ghost use Rattle.j39_reports.specs.FaultsSoFar.{TellsFaults, is_told, tells_changes, told_faults, told_since};
+ghost use Rattle.j39_reports.specs.LastMessages.{at, said_before, said_by};
 ghost use Rattle.j39_reports.specs.Remembered.{noted, said_at};
 
 use crate::fault_news::changes::put_changes;
@@ -40,50 +40,53 @@ pub(crate) fn put_since<W: Sink>(
         (said_by heard.now.message.payload.now (option_map name_raw heard.now.name))) }
     ensures first { result ≡ Err line_fault.Memory → said_at last.old kind heard.now.message.source ≡ None }
 {
-    match telling {
-        Telling::News => put_noted(
-            alloc, heard, writing, false, version, kind, lamps, last, sink,
-        ),
-        Telling::All => put_noted(
-            alloc, heard, writing, true, version, kind, lamps, last, sink,
-        ),
-        Telling::Changes => { put_changed(alloc, heard, writing, version, kind, lamps, last, sink) }
+    if tells_changes(telling, kind) {
+        let active = &mut last.active;
+        return put_active(alloc, heard, writing, version, lamps, active, sink);
     }
-}
-
-/// Tells the codes of a message where it is news, or each is told.
-fn put_noted<W: Sink>(
-    alloc: Global,
-    heard: &Heard<'_>,
-    writing: Writing<'_, '_>,
-    is_each: bool,
-    version: Option<Version>,
-    kind: Kind,
-    lamps: Lamps,
-    last: &mut LastFaults,
-    sink: &mut W,
-) -> Result<Made, LineFault>
-    ensures tells { TellsFaults writing.entry.form writing.entry.groups.now
-        (told_faults (is_each || differs version (said_at last.old kind heard.now.message.source)
-        heard.now.message.payload.now (option_map name_raw heard.now.name))
-        (faults_by version (hearing_of heard.now) (Some kind) (Some lamps)))
-        result (turn W.written W.has_failed sink.old sink.new) }
-    ensures after { OnOk result (last.new ≡ noted last.old kind heard.now.message.source
-        (said_by heard.now.message.payload.now (option_map name_raw heard.now.name))) }
-    ensures first { result ≡ Err line_fault.Memory → said_at last.old kind heard.now.message.source ≡ None }
-{
     let (source, payload) = (heard.message.source, heard.message.payload);
     match last.note(alloc, kind, version, source, payload, heard.name) {
         Err(AllocError) => Err(LineFault::Memory),
-        Ok(is_news) => put_told(
-            heard,
-            writing,
-            is_each || is_news,
-            version,
-            kind,
-            lamps,
-            sink,
-        ),
+        Ok(is_news) => {
+            let is_told = is_told(telling, is_news);
+            put_told(heard, writing, is_told, version, kind, lamps, sink)
+        }
+    }
+}
+
+/// Whether it is told what became of the codes of a message: of active ones, where changes are told.
+fn tells_changes(telling: Telling, kind: Kind) -> bool
+    ensures { result ≡ tells_changes telling kind }
+{
+    match telling {
+        Telling::News => false,
+        Telling::All => false,
+        Telling::Changes => is_active(kind),
+    }
+}
+
+fn is_active(kind: Kind) -> bool
+    ensures { result ≡ is_active kind }
+{
+    match kind {
+        Kind::Active => true,
+        Kind::Previous
+        | Kind::EmissionPending
+        | Kind::EmissionActive
+        | Kind::EmissionPrevious
+        | Kind::Pending
+        | Kind::Permanent => false,
+    }
+}
+
+/// Whether the codes of a message are told.
+fn is_told(telling: Telling, is_news: bool) -> bool
+    ensures { result ≡ is_told telling is_news }
+{
+    match telling {
+        Telling::News => is_news,
+        Telling::All => true,
+        Telling::Changes => false,
     }
 }
 
@@ -111,40 +114,6 @@ fn put_told<W: Sink>(
     match put_message(heard, writing, version, kind, lamps, sink) {
         Ok(lines) => Ok(Made { messages: 1, lines }),
         Err(DeviceFault) => Err(LineFault::Write),
-    }
-}
-
-/// Tells what became of active codes where a message tells them, and notes what it says.
-fn put_changed<W: Sink>(
-    alloc: Global,
-    heard: &Heard<'_>,
-    writing: Writing<'_, '_>,
-    version: Option<Version>,
-    kind: Kind,
-    lamps: Lamps,
-    last: &mut LastFaults,
-    sink: &mut W,
-) -> Result<Made, LineFault>
-    ensures tells { TellsFaults writing.entry.form writing.entry.groups.now
-        (told_faults (is_active kind) (changes_by version
-        (said_before (said_at last.old kind heard.now.message.source) (option_map name_raw heard.now.name))
-        (hearing_of heard.now) lamps))
-        result (turn W.written W.has_failed sink.old sink.new) }
-    ensures after { OnOk result (last.new ≡ noted last.old kind heard.now.message.source
-        (said_by heard.now.message.payload.now (option_map name_raw heard.now.name))) }
-    ensures first { result ≡ Err line_fault.Memory → said_at last.old kind heard.now.message.source ≡ None }
-{
-    if is_active(kind) {
-        let active = &mut last.active;
-        return put_active(alloc, heard, writing, version, lamps, active, sink);
-    }
-    let (source, payload) = (heard.message.source, heard.message.payload);
-    match last.note(alloc, kind, version, source, payload, heard.name) {
-        Err(AllocError) => Err(LineFault::Memory),
-        Ok(_) => Ok(Made {
-            messages: 1,
-            lines: 0,
-        }),
     }
 }
 
@@ -198,19 +167,5 @@ fn put_made<W: Sink>(
     match put_changes(heard, writing, version, lamps, before, sink) {
         Ok(lines) => Ok(Made { messages: 1, lines }),
         Err(DeviceFault) => Err(LineFault::Write),
-    }
-}
-
-fn is_active(kind: Kind) -> bool
-    ensures { result ≡ is_active kind }
-{
-    match kind {
-        Kind::Active => true,
-        Kind::Previous
-        | Kind::EmissionPending
-        | Kind::EmissionActive
-        | Kind::EmissionPrevious
-        | Kind::Pending
-        | Kind::Permanent => false,
     }
 }

@@ -4,13 +4,13 @@ use j39_faults::Conversion;
 /// What is told of messages of faults.
 #[derive(Clone, Copy, Debug, PartialEq, Eq)]
 pub enum Telling {
-    /// The codes of those that are news: which tell something else, or under another NAME, than the last message before of that
-    /// group from that address, or with none before.
+    /// The codes of those that are news: which tell something else, or under another NAME, than the last message before
+    /// of that group from that address, or with none before.
     News,
     /// The codes of each.
     All,
-    /// What became of active codes: of each message of DM1 the codes that are set, or came again, since the last from that
-    /// address, and those that are cleared. Messages under two NAMEs aren't compared: behind another one all are set.
+    /// What became of active codes: of each message of DM1 the codes that are set, or came again, since the last from
+    /// that address, and those that are cleared. Messages under two NAMEs aren't compared: all codes of the later are set.
     Changes,
 }
 
