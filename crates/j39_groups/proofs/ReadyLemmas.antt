@@ -17,7 +17,7 @@ use Rattle.j39_groups.specs.declared.short.Short.{Short}
 use Rattle.j39_groups.specs.Ranges.{is_valid}
 use Rattle.j39_groups.specs.Fields.{IsShort, IsSound, IsSoundBits, is_sound}
 use Rattle.j39_groups.specs.Models.{field_record, field_slot, scale_record, short_value}
-use Rattle.j39_groups.specs.Readings.{bits_meaning, by_top_byte, number_meaning, signed_value, switch_meaning, values_at}
+use Rattle.j39_groups.specs.Readings.{bits_meaning, by_top_byte, number_meaning, switch_meaning, values_at}
 use Rattle.j39_groups.specs.Ready.{HasEnd, IsEnd, is_label, is_prepared, is_ready, is_scale_end, is_short_end, number_and_space, short_text}
 use Rattle.j39_groups.specs.Rows.{most_values}
 use Rattle.j39_groups.specs.Value.{SlotRecord, ValueRecord, on, off, error, reserved, indicator}
@@ -100,10 +100,6 @@ ends_bits : (end : Ending) (count : ℕ) (slot : SlotRecord) (raw : Option ℕ) 
 ends_bits end count slot None h = tt
 ends_bits end count slot (Some raw) h = ends_bits_of end count slot raw h
 
-ends_signed : (end : Ending) (count : ℕ) (slot : SlotRecord) (raw : Option ℕ) → IsEnd end slot → IfSome (option_map (signed_value count slot) raw) (HasEnd end)
-ends_signed end count slot None h = tt
-ends_signed end count slot (Some raw) h = h
-
 by_switch : (end : Ending) (a b c : Bool) → IfSome (if a then Some off else (if b then Some on else (if c then Some error else None))) (HasEnd end)
 by_switch end true b c = tt
 by_switch end false true c = tt
@@ -133,7 +129,7 @@ seen_value view P (Some x) (Some v) is h = let same : view x ≡ v = ap (head_of
 pub ready_short : (end : Ending) (field : Field) → is_ready end field ≡ true → IsShort field
 ready_short end (Number first last scale) h = tt
 ready_short end (Bits byte low count scale) h = tt
-ready_short end (Signed byte low count scale) h = tt
+ready_short end (Signed byte low count scale) h = absurd (false≢true h)
 ready_short end (Switch byte low high) h = tt
 ready_short end (Text part) h = absurd (false≢true h)
 ready_short end (Texts byte count) h = absurd (false≢true h)
@@ -147,8 +143,7 @@ ready_ends end (Number first last scale) bytes result h is =
     seen_value (short_value (scale_record scale)) (HasEnd end) result _ is (ends_number end _ (scale_record scale) _ (scale_end_is end scale h))
 ready_ends end (Bits byte low count scale) bytes result h is =
     seen_value (short_value (scale_record scale)) (HasEnd end) result _ is (ends_bits end count (scale_record scale) _ (scale_end_is end scale h))
-ready_ends end (Signed byte low count scale) bytes result h is =
-    seen_value (short_value (scale_record scale)) (HasEnd end) result _ is (ends_signed end count (scale_record scale) _ (scale_end_is end scale h))
+ready_ends end (Signed byte low count scale) bytes result h is = absurd (false≢true h)
 ready_ends end (Switch byte low high) bytes result h is =
     seen_value (short_value (field_slot (Switch byte low high))) (HasEnd end) result _ is (ends_switch end (λ b. b / 2 ^ (low - 1) % 4) _)
 ready_ends end (Text part) bytes result h is = absurd (false≢true h)

@@ -69,11 +69,11 @@ HasOneValue (Switch byte low high) = ⊤
 HasOneValue (Text part) = ⊤
 HasOneValue (Texts byte count) = ⊥
 
--- a number or a switch
+-- a number that is not signed, or a switch
 abbrev pub IsShort : Field → Type 0
 IsShort (Number first last scale) = ⊤
 IsShort (Bits byte low count scale) = ⊤
-IsShort (Signed byte low count scale) = ⊤
+IsShort (Signed byte low count scale) = ⊥
 IsShort (Switch byte low high) = ⊤
 IsShort (Text part) = ⊥
 IsShort (Texts byte count) = ⊥

@@ -33,11 +33,11 @@ is_scale_end end scale =
     is_short_end end && (end.places == scale.places
     && bytes_eq (short_text end.text) (space ∷ (scale.unit.now ++ (newline ∷ []))))
 
--- what stands behind a number is prepared, and no value is a text of the sender's
+-- what stands behind a number is prepared, and no value is signed or a text of the sender's
 abbrev pub is_ready : Ending → Field → Bool
 is_ready end (Number first last scale) = is_scale_end end scale
 is_ready end (Bits byte low count scale) = is_scale_end end scale
-is_ready end (Signed byte low count scale) = is_scale_end end scale
+is_ready end (Signed byte low count scale) = false
 is_ready end (Switch byte low high) = is_short_end end
 is_ready end (Text part) = false
 is_ready end (Texts byte count) = false

@@ -21,13 +21,6 @@ pub enum Field<'t> {
         count: u8,
         scale: Scale<'t>,
     },
-    /// The same in two's complement; each of its numbers is valid (own).
-    Signed {
-        byte: u8,
-        low: u8,
-        count: u8,
-        scale: Scale<'t>,
-    },
     /// A switch in the bits `low` and `high` of a byte, neighbours.
     Switch {
         byte: u8,
@@ -42,6 +35,14 @@ pub enum Field<'t> {
     Texts {
         byte: u8,
         count: u8,
+    },
+    /// A number in bits as of `Bits`, in two's complement; each is valid (own). It stands last since it is rare: what tells the
+    /// others apart is as quick as without it.
+    Signed {
+        byte: u8,
+        low: u8,
+        count: u8,
+        scale: Scale<'t>,
     },
 }
 

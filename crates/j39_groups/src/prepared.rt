@@ -24,7 +24,7 @@ pub(crate) struct Prepared {
     pub end: Ending,
 }
 
-/// What the line of a row takes; `None` where that is too long, or a value is a text.
+/// What the line of a row takes; `None` where that is too long, or a value is a text or a signed number.
 pub(crate) fn prepare(pgn: u32, spn: u32, field: Field<'_>) -> Option<Prepared>
     ensures { is_prepared result pgn spn field.entry ≡ true }
 {
@@ -51,14 +51,14 @@ fn label_of(pgn: u32, spn: u32) -> Option<ShortText>
     })
 }
 
-/// What stands behind the numbers of a field, where it is short and none of its values is a text.
+/// What stands behind the numbers of a field, where it is short and none of its values is a text or a signed number.
 fn end_of(field: Field<'_>) -> Option<Ending>
     ensures { is_end result field.entry ≡ true }
 {
     match field {
         Field::Number { scale, .. } => scale_end(scale),
         Field::Bits { scale, .. } => scale_end(scale),
-        Field::Signed { scale, .. } => scale_end(scale),
+        Field::Signed { .. } => None,
         Field::Switch { .. } => Some(Ending {
             text: ShortText::EMPTY,
             places: 0,

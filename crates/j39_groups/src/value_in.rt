@@ -27,7 +27,12 @@ pub(crate) fn value_in<'t, 'v>(bytes: &'v [u8], field: Field<'t>) -> Option<Valu
     match field {
         Field::Number { scale, .. } => with(short_in(bytes, &field), scale),
         Field::Bits { scale, .. } => with(short_in(bytes, &field), scale),
-        Field::Signed { scale, .. } => with(short_in(bytes, &field), scale),
+        Field::Signed {
+            byte,
+            low,
+            count,
+            scale,
+        } => with(signed_of(bytes, byte, low, count, &scale), scale),
         Field::Switch { .. } => with(short_in(bytes, &field), Scale::NONE),
         Field::Text { part } => text_at(bytes, part),
         Field::Texts { .. } => None,
@@ -44,7 +49,7 @@ fn with<'t, 'v>(short: Option<Short>, scale: Scale<'t>) -> Option<Value<'t, 'v>>
     }
 }
 
-/// The number or the switch in a field; `None` for texts.
+/// The number or the switch in a field; `None` for signed numbers, which are rare, and texts.
 #[inline(always)]
 #[tactic(auto, unfolding(crate::specs::Readings::values_at))]
 pub(crate) fn short_in(bytes: &[u8], field: &Field<'_>) -> Option<Short>
@@ -60,12 +65,7 @@ pub(crate) fn short_in(bytes: &[u8], field: &Field<'_>) -> Option<Short>
             count,
             scale,
         } => bits_of(bytes, *byte, *low, *count, scale),
-        Field::Signed {
-            byte,
-            low,
-            count,
-            scale,
-        } => signed_of(bytes, *byte, *low, *count, scale),
+        Field::Signed { .. } => None,
         Field::Switch { byte, low, .. } => switch_at(bytes, *byte, *low),
         Field::Text { .. } => None,
         Field::Texts { .. } => None,
