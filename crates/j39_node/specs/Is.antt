@@ -1,0 +1,116 @@
+-- The histories that a controller can have had.
+use Rattle.std.specs.Prelude.{◌≡◌, ℕ, ◌-◌, nat_lt, not, ◌&&◌, ◌++◌, ◌+◌, Bool, true, false, List, [], ◌∷◌, length, drop, map, min, Option, Some, None, Result, Ok, Err, if◌then◌else◌}
+use Rattle.std.specs.List.{slice_get}
+use Rattle.std.specs.Option.{option_map}
+use Rattle.j39_frame.specs.Frame.{FrameRecord}
+use Rattle.j39_frame.specs.Identifier.{id_raw}
+use Rattle.j39_frame.specs.Pgn.{pgn_raw}
+use Rattle.j39_frame.specs.Stamp.{stamp_micros}
+use Rattle.j39_address.specs.Name.{name_raw}
+use Rattle.j39_address.specs.declared.status.Status.{Status}
+use Rattle.j39_address.specs.declared.status.Status.TheVariants.{Idle, Claiming, Holding, Cannot}
+use Rattle.j39_node.specs.declared.controller.Controller.{Controller}
+use Rattle.j39_node.specs.declared.hold.Hold.{Hold}
+use Rattle.j39_node.specs.declared.own.Own.{Own}
+use Rattle.j39_node.specs.declared.outgoing.Outgoing.{Outgoing}
+use Rattle.j39_node.specs.declared.received.Received.{Received}
+use Rattle.j39_node.specs.declared.kinds.Ending.{Ending}
+use Rattle.j39_node.specs.declared.kinds.Ending.TheVariants.{Done, Withdrawn}
+use Rattle.j39_node.specs.declared.kinds.Refused.{Refused}
+use Rattle.j39_node.specs.declared.kinds.Refused.TheVariants.{NoAddress, BadValue, Full}
+use Rattle.j39_node.specs.Hold.{standing_of}
+use Rattle.j39_node.specs.History.{Who, Message, Draft, Call, Address, carried, message_of, moment, step, older, address_after, holds, is_lost, is_held, claim_address, claim_from, owes_claim, can_send, accepted, sent, told, is_full, got, kept, missed}
+use Rattle.j39_node.specs.History.Call.{Hear, Tick, TakeFrame, Send, TakeEnded, TakeReceived}
+use Rattle.j39_node.specs.History.Address.{NotClaimed, Claimed, Lost}
+
+-- ---- the answers that a history asks for
+
+abbrev pub stamped : FrameRecord → ℕ × Message
+stamped f = (f.stamp, message_of f)
+
+-- the claim that is owed goes first; else, from an address that is held, the first message that wasn't taken
+abbrev pub next_frame : Who → List Call → ℕ → Option (ℕ × Message)
+next_frame w H now =
+    if owes_claim w H then Some (now, claim_from w (claim_address w (address_after w H)))
+    else if holds w H now then option_map (λ x. (now, x.1)) (slice_get (accepted w H) (length (sent H)))
+    else None
+
+abbrev pub answer_to_send : Who → List Call → ℕ → Draft → Result ℕ Refused
+answer_to_send w H now d =
+    if holds w H now then (if can_send w d then (if is_full w H then Err Full else Ok (length (accepted w H))) else Err BadValue)
+    else Err NoAddress
+
+-- a message that was taken is done; one that wasn't is withdrawn where the address is lost
+abbrev pub ending_of : Bool → Bool → ℕ × Message → Option (ℕ × Ending)
+ending_of true lost x = Some (x.0, Done)
+ending_of false true x = Some (x.0, Withdrawn)
+ending_of false false x = None
+
+abbrev pub end_of : Bool → Bool → Option (ℕ × Message) → Option (ℕ × Ending)
+end_of taken lost None = None
+end_of taken lost (Some x) = ending_of taken lost x
+
+abbrev pub next_ended : Who → List Call → Option (ℕ × Ending)
+next_ended w H =
+    end_of (nat_lt (length (told H)) (length (sent H))) (is_lost (address_after w H)) (slice_get (accepted w H) (length (told H)))
+
+abbrev pub next_received : Who → List Call → Option (ℕ × Message)
+next_received w H = slice_get (kept w H) (length (got H))
+
+-- the answer of the call is the one that the history before it asks for
+abbrev pub IsAnswered : Who → List Call → Call → Type 0
+IsAnswered w H (TakeFrame now answer) = option_map stamped answer ≡ next_frame w H now
+IsAnswered w H (Send now draft answer) = answer ≡ answer_to_send w H now draft
+IsAnswered w H (TakeEnded answer) = answer ≡ next_ended w H
+IsAnswered w H (TakeReceived answer) = answer ≡ next_received w H
+IsAnswered w H call = Unit {0}
+
+abbrev pub AreAnswered : Who → List Call → Type 0
+AreAnswered w [] = Unit {0}
+AreAnswered w (call ∷ H) = AreAnswered w H × IsAnswered w H call
+
+abbrev pub status_after : Who → List Call → Status
+status_after w H = status_of (address_after w H)
+  where
+    status_of : Address → Status
+    status_of NotClaimed = Idle
+    status_of (Claimed e) = if is_held (Claimed e) then Holding w.address else Claiming w.address
+    status_of Lost = Cannot
+
+-- ---- the controller that it leads to
+
+abbrev pub who_of : Own → Who
+who_of own = record { name = name_raw own.name; address = own.address }
+
+abbrev pub hold_after : Who → List Call → Hold
+hold_after w H = record { moment = moment H; standing = standing_of (address_after w H); owes_claim = owes_claim w H }
+
+abbrev pub posted : Outgoing → ℕ × Message
+posted x = (x.token, carried (id_raw x.id) x.bytes.items)
+
+abbrev pub received_by : Received → ℕ × Message
+received_by r = (stamp_micros r.stamp, record {
+  source = r.source;
+  destination = r.destination;
+  priority = r.priority;
+  group = pgn_raw r.group;
+  bytes = r.bytes.items;
+})
+
+-- the inbox when a frame was heard
+abbrev pub offered : Bool → ℕ × Message → List (ℕ × Message) → List (ℕ × Message)
+offered wanted x unread = if wanted && nat_lt (length unread) 16 then unread ++ x ∷ [] else unread
+
+abbrev pub counted : Bool → List (ℕ × Message) → ℕ → ℕ
+counted wanted unread n = if wanted && not (nat_lt (length unread) 16) then min (n + 1) 18446744073709551615 else n
+
+-- c was made for w and called as H says
+pub record Is (w : Who) (H : List Call) (c : Controller) : Type 0 where
+  pub who : who_of c.own ≡ w
+  pub answered : AreAnswered w H
+  pub hold : c.hold ≡ hold_after w H
+  pub outgoing : map posted c.outgoing.items ≡ drop (length (told H)) (accepted w H)
+  pub taken : c.taken ≡ length (sent H) - length (told H)
+  pub token : c.next_token ≡ length (accepted w H)
+  pub unread : map received_by c.inbox.unread.items ≡ drop (length (got H)) (kept w H)
+  pub missed : c.inbox.missed ≡ min (missed w H) 18446744073709551615

@@ -1,0 +1,212 @@
+//! A controller.
+ghost use Rattle.std.specs.Prelude.{◌≡◌, ℕ, List, [], ◌∷◌, ◌↔◌, ◌&&◌, ◌||◌, ◌==◌, nat_eq, nat_lt, if◌then◌else◌, min, IsSome, IfSome, Some, length, map, ◌<◌, false};
+ghost use Rattle.std.specs.Option.{option_map};
+ghost use Rattle.j39_frame.specs.Address.{IsAddress, null_address};
+ghost use Rattle.j39_frame.specs.Pgn.{pgn_raw};
+ghost use Rattle.j39_frame.specs.Stamp.{stamp_micros};
+ghost use Rattle.j39_address.specs.Name.{name_raw};
+ghost use Rattle.j39_node.specs.History.{Who, Call, missed};
+ghost use Rattle.j39_node.specs.Hold.{lost};
+ghost use Rattle.j39_node.specs.History.Call.{Hear, Tick, TakeFrame, Send, TakeEnded, TakeReceived};
+ghost use Rattle.j39_node.specs.Is.{Is, received_by, status_after, who_of};
+
+use crate::hold::{Hold, Standing};
+use crate::outgoing::Outgoing;
+use crate::own::Own;
+use crate::received::Inbox;
+use crate::{Ending, Received, Refused};
+use arrayvec::ArrayVec;
+use j39_address::{Name, Status};
+use j39_frame::{Frame, NULL_ADDRESS, Pgn, Stamp, is_address};
+
+/// A controller of one address: it claims it, defends it, sends messages of one frame and receives those of others. It
+/// takes no memory, and no call fails.
+#[derive(Drop)]
+pub struct Controller {
+    own: Own,
+    hold: Hold,
+    /// What was accepted and is not told to have ended, the oldest first.
+    outgoing: ArrayVec<Outgoing, 16>,
+    /// How many of these were taken.
+    taken: usize,
+    next_token: u64,
+    inbox: Inbox,
+}
+
+impl Controller {
+    ghost use Rattle.std.specs.Prelude.{◌≡◌, ℕ, List, [], ◌∷◌, ◌↔◌, min, IsSome, IfSome};
+    ghost use Rattle.j39_node.specs.Is.{Is};
+    ghost use Rattle.j39_node.specs.History.{Who, Call};
+
+    /// A controller of this NAME that will claim this address; `None` above 253.
+    pub fn new(name: Name, address: u8) -> Option<Controller>
+        ensures known { IsSome result ↔ IsAddress address }
+        ensures is { IfSome result (λ c. Is (record { name = name_raw name; address = address }) [] c) }
+    {
+        if !is_address(address) {
+            return None;
+        }
+        Some(Controller {
+            own: Own { name, address },
+            hold: Hold {
+                moment: 0,
+                standing: Standing::Idle,
+                owes_claim: true,
+            },
+            outgoing: ArrayVec::new(),
+            taken: 0,
+            next_token: 0,
+            inbox: Inbox {
+                unread: ArrayVec::new(),
+                missed: 0,
+            },
+        })
+    }
+
+    /// How far it is with its address, at the moment of the last call: `Idle` until its first claim is taken.
+    pub fn status(&self) -> Status
+        ensures { (w : Who) (H : List Call) → Is w H self.now → result ≡ status_after w H }
+    {
+        match self.hold.standing {
+            Standing::Idle => Status::Idle,
+            Standing::Claimed(left) => {
+                if left == 0 {
+                    Status::Holding(self.own.address)
+                } else {
+                    Status::Claiming(self.own.address)
+                }
+            }
+            Standing::Lost => Status::Cannot,
+        }
+    }
+
+    /// How many messages for the program were missed, since sixteen lay unread.
+    pub fn missed(&self) -> u64
+        ensures { (w : Who) (H : List Call) → Is w H self.now → result ≡ min (missed w H) 18446744073709551615 }
+    {
+        self.inbox.missed
+    }
+
+    /// Hears a frame of another controller, at its stamp.
+    pub fn hear(&mut self, frame: &Frame)
+        ensures { (w : Who) (H : List Call) → Is w H self.old → Is w (Hear frame.now ∷ H) self.new }
+    {
+        self.hold = self.hold.passed(frame.stamp);
+        let wanted = self.own.is_for_program(self.hold.is_held(), frame);
+        self.inbox.offer(wanted, frame);
+        let drives_away = self.own.is_driven_away(frame);
+        let calls = self.own.calls_for_claim(self.hold.is_lost(), frame);
+        self.hold = self.hold.heard(drives_away, calls);
+    }
+
+    /// Time passes.
+    pub fn tick(&mut self, now: Stamp)
+        ensures { (w : Who) (H : List Call) → Is w H self.old → Is w (Tick (stamp_micros now) ∷ H) self.new }
+    {
+        self.hold = self.hold.passed(now);
+    }
+
+    /// The frame that goes out now; by this it is sent. `None` where nothing is due.
+    pub fn take_frame(&mut self, now: Stamp) -> Option<Frame>
+        ensures { (w : Who) (H : List Call) → Is w H self.old → Is w (TakeFrame (stamp_micros now) result ∷ H) self.new }
+    {
+        self.hold = self.hold.passed(now);
+        if self.hold.owes_claim {
+            let address = self.claim_address();
+            self.hold = self.hold.claimed();
+            let claim = self.own.claim(address, now);
+            return claim;
+        }
+        if !self.hold.is_held() {
+            return None;
+        }
+        match self.outgoing.as_slice().get(self.taken) {
+            Some(next) => {
+                let frame = next.frame(now);
+                self.taken += 1;
+                frame
+            }
+            None => None,
+        }
+    }
+
+    /// Hands in a message of 0 to 8 bytes, to all (255) or to one address; answers its token. A group of PF 240 and up
+    /// goes to all, whatever `to` says.
+    pub fn send(
+        &mut self,
+        now: Stamp,
+        priority: u8,
+        group: Pgn,
+        to: u8,
+        bytes: &[u8],
+    ) -> Result<u64, Refused>
+        ensures { (w : Who) (H : List Call) → Is w H self.old → Is w (Send (stamp_micros now) (record
+            { priority = priority; group = pgn_raw group; to = to; bytes = bytes.now }) result ∷ H) self.new }
+    {
+        self.hold = self.hold.passed(now);
+        if !self.hold.is_held() {
+            return Err(Refused::NoAddress);
+        }
+        match Outgoing::new(self.next_token, self.own, priority, group, to, bytes) {
+            Some(message) => {
+                if self.is_full() {
+                    return Err(Refused::Full);
+                }
+                let token = self.next_token;
+                self.outgoing.push(message);
+                self.next_token += 1;
+                Ok(token)
+            }
+            None => Err(Refused::BadValue),
+        }
+    }
+
+    /// Tells a message that ended, each once.
+    pub fn take_ended(&mut self) -> Option<(u64, Ending)>
+        ensures { (w : Who) (H : List Call) → Is w H self.old → Is w (TakeEnded result ∷ H) self.new }
+    {
+        if self.outgoing.is_empty() {
+            return None;
+        }
+        if self.taken > 0 {
+            self.taken -= 1;
+            let first = self.outgoing.remove(0);
+            return Some((first.token, Ending::Done));
+        }
+        if self.hold.is_lost() {
+            let first = self.outgoing.remove(0);
+            return Some((first.token, Ending::Withdrawn));
+        }
+        None
+    }
+
+    /// A message that was heard for the program, each once, the oldest first.
+    pub fn take_received(&mut self) -> Option<Received>
+        ensures { (w : Who) (H : List Call) → Is w H self.old
+            → Is w (TakeReceived (option_map received_by result) ∷ H) self.new }
+    {
+        if self.inbox.unread.is_empty() {
+            return None;
+        }
+        let first = self.inbox.unread.remove(0);
+        Some(first)
+    }
+
+    /// The address that its claim tells.
+    fn claim_address(&self) -> u8
+        ensures { result ≡ (if lost self.now.hold.standing then null_address else self.now.own.address) }
+    {
+        if self.hold.is_lost() {
+            NULL_ADDRESS
+        } else {
+            self.own.address
+        }
+    }
+
+    fn is_full(&self) -> bool
+        ensures room { result ≡ false → length self.now.outgoing.items < 16 }
+        ensures value { result ≡ (nat_eq (length self.now.outgoing.items) 16 || nat_eq self.now.next_token 18446744073709551615) }
+    {
+        self.outgoing.is_full() || self.next_token == u64::MAX
+    }
+}

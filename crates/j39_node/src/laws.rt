@@ -1,0 +1,1 @@
+//! Laws over histories, each the contract of a function that does nothing.
