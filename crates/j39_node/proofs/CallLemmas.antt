@@ -19,7 +19,7 @@ use Rattle.j39_node.specs.History.Call.{Hear, Tick, TakeFrame, Send, TakeEnded, 
 use Rattle.j39_node.specs.History.Address.{NotClaimed, Claimed, Lost}
 use Rattle.j39_node.specs.Is.{Is, AreAnswered, IsAnswered, stamped, next_frame, next_ended, end_of, answer_to_send, hold_after, who_of, posted, received_by, offered, counted}
 use Rattle.j39_node.proofs.QueueLemmas.{get_within, length_one_more, map_append, length_map, length_rest, in_rest, not_in_rest, First, drop_append, length_drop}
-use Rattle.j39_node.proofs.SoundLemmas.{Sound, sound, IsOwn, own_get, message_taken, holding_not_lost, lost_older}
+use Rattle.j39_node.proofs.SoundLemmas.{Sound, sound, IsOwn, own_get, message_taken, holding_not_lost, lost_older, read}
 
 -- the frame that is made is one of this message
 pub made : (r : Option FrameRecord) (now id : ℕ) (bytes : List ℕ) (m : Message) → (IsSome r ↔ (length bytes ≤ 8))
@@ -70,7 +70,7 @@ pub is_hold : (h k : Hold) → h.moment ≡ k.moment → h.standing ≡ k.standi
 is_hold h k e f g =
     ap (λ (x : ℕ). record h { moment = x }) e
     ∙ (ap (λ (x : Standing). record h { moment = k.moment; standing = x }) f
-        ∙ ap (λ (x : Bool). record h { moment = k.moment; standing = k.standing; owes_claim = x }) g)
+    ∙ ap (λ (x : Bool). record h { moment = k.moment; standing = k.standing; owes_claim = x }) g)
 
 -- ---- a message is taken
 
@@ -144,8 +144,11 @@ pub told_done : (w : Who) (H : List Call) (old new : Controller) (x : Outgoing) 
     → new.own ≡ old.own → new.hold ≡ old.hold → new.next_token ≡ old.next_token → new.inbox ≡ old.inbox → Is w (TakeEnded (Some (x.token, Done)) ∷ H) new
 told_done w H old new x h f some less e1 e2 e3 e4 = record {
   who = ap who_of e1 ∙ h.who;
-  answered = (h.answered, sym (ap (λ (b : Bool). end_of b (is_lost (address_after w H)) (slice_get (accepted w H) (length (told H)))) before
-      ∙ ap (end_of true (is_lost (address_after w H))) f.is));
+  answered = (
+    h.answered,
+    sym (ap (λ (b : Bool). end_of b (is_lost (address_after w H)) (slice_get (accepted w H) (length (told H)))) before
+        ∙ ap (end_of true (is_lost (address_after w H))) f.is),
+  );
   hold = e2 ∙ h.hold;
   outgoing = f.rest ∙ ap (λ (n : ℕ). drop n (accepted w H)) (sym (length_one_more (told H) (x.token, Done)));
   taken = (let a = h.taken in let b = length_one_more (told H) (x.token, Done) in omega (arith, a, b, less));
@@ -165,8 +168,11 @@ pub told_withdrawn : (w : Who) (H : List Call) (old new : Controller) (x : Outgo
     → new.own ≡ old.own → new.hold ≡ old.hold → new.next_token ≡ old.next_token → new.inbox ≡ old.inbox → Is w (TakeEnded (Some (x.token, Withdrawn)) ∷ H) new
 told_withdrawn w H old new x h f none is_away same e1 e2 e3 e4 = record {
   who = ap who_of e1 ∙ h.who;
-  answered = (h.answered, sym (ap (λ (b : Bool). end_of b (is_lost (address_after w H)) (slice_get (accepted w H) (length (told H)))) after
-      ∙ (ap (λ (b : Bool). end_of false b (slice_get (accepted w H) (length (told H)))) away ∙ ap (end_of false true) f.is)));
+  answered = (
+    h.answered,
+    sym (ap (λ (b : Bool). end_of b (is_lost (address_after w H)) (slice_get (accepted w H) (length (told H)))) after
+        ∙ (ap (λ (b : Bool). end_of false b (slice_get (accepted w H) (length (told H)))) away ∙ ap (end_of false true) f.is)),
+  );
   hold = e2 ∙ h.hold;
   outgoing = f.rest ∙ ap (λ (n : ℕ). drop n (accepted w H)) (sym (length_one_more (told H) (x.token, Withdrawn)));
   taken = (let a = h.taken in let b = length_one_more (told H) (x.token, Withdrawn) in omega (arith, a, b, none, same));
@@ -177,6 +183,7 @@ told_withdrawn w H old new x h f none is_away same e1 e2 e3 e4 = record {
   where
     after : nat_lt (length (told H)) (length (sent H)) ≡ false
     after = not_before _ _ (let a = h.taken in omega (arith, a, none))
+
     away : is_lost (address_after w H) ≡ true
     away = sym (lost_is (address_after w H)) ∙ (sym (ap (λ (k : Hold). lost k.standing) h.hold) ∙ is_away)
 
@@ -200,7 +207,7 @@ posts w H old new now d x h p held can room is e0 e1 e2 e3 e4 =
       hold = is_hold _ _ p.moment p.standing p.owes;
       outgoing = ap (map posted) e0 ∙ (map_append posted old.outgoing.items x
           ∙ (ap (λ l. l ++ posted x ∷ []) h.outgoing ∙ (ap (λ (y : ℕ × Message). drop (length (told H)) (accepted w H) ++ y ∷ []) is
-              ∙ sym (drop_append (length (told H)) (accepted w H) (old.next_token, message_from w d) s.within))));
+          ∙ sym (drop_append (length (told H)) (accepted w H) (old.next_token, message_from w d) s.within))));
       taken = e3 ∙ h.taken;
       token = (let a = h.token in let b = length_one_more (accepted w H) (old.next_token, message_from w d) in omega (arith, a, b, e1));
       unread = ap (λ o. map received_by o.unread.items) e4 ∙ h.unread;
@@ -253,25 +260,25 @@ pub heard_more : (w : Who) (H : List Call) (old new : Controller) (f : FrameReco
 heard_more w H old new f mid held wanted away gone calls h p e1 e2 e3 e4 e5 e6 e7 e8 s1 s2 s3 s4 =
     let s = sound w H h.answered in
     let wants : wanted ≡ is_for_program w (holds w H f.stamp) f =
-        e2 ∙ (ap (λ (v : Who). is_for_program v held f) h.who ∙ ap (λ (b : Bool). is_for_program w b f) (holds_is w H f.stamp mid held p e1)) in
+    e2 ∙ (ap (λ (v : Who). is_for_program v held f) h.who ∙ ap (λ (b : Bool). is_for_program w b f) (holds_is w H f.stamp mid held p e1)) in
     let lost_before : away ≡ is_lost (address_after w H) =
-        e6 ∙ (ap lost p.standing ∙ (lost_is (older (step H f.stamp) (address_after w H)) ∙ lost_older (step H f.stamp) (address_after w H))) in
+    e6 ∙ (ap lost p.standing ∙ (lost_is (older (step H f.stamp) (address_after w H)) ∙ lost_older (step H f.stamp) (address_after w H))) in
     let goes : gone ≡ is_smaller w (claim_of f) = e5 ∙ ap (λ (v : Who). is_smaller v (claim_of f)) h.who in
     let asks : calls ≡ calls_for_claim w (is_lost (address_after w H)) f =
-        e7 ∙ (ap (λ (v : Who). calls_for_claim v away f) h.who ∙ ap (λ (b : Bool). calls_for_claim w b f) lost_before) in
+    e7 ∙ (ap (λ (v : Who). calls_for_claim v away f) h.who ∙ ap (λ (b : Bool). calls_for_claim w b f) lost_before) in
     record {
       who = ap who_of s1 ∙ h.who;
       answered = (h.answered, tt);
       hold = is_hold _ _ (ap (λ (k : Hold). k.moment) e8 ∙ p.moment)
           (ap (λ (k : Hold). k.standing) e8 ∙ (ap (λ (b : Bool). if b then standing.Lost else mid.standing) goes
-              ∙ (ap (λ (x : Standing). if is_smaller w (claim_of f) then standing.Lost else x) p.standing
-                  ∙ heard_standing (is_smaller w (claim_of f)) (step H f.stamp) (address_after w H))))
+          ∙ (ap (λ (x : Standing). if is_smaller w (claim_of f) then standing.Lost else x) p.standing
+          ∙ heard_standing (is_smaller w (claim_of f)) (step H f.stamp) (address_after w H))))
           (ap (λ (k : Hold). k.owes_claim) e8 ∙ (ap (λ (b : Bool). b || calls) p.owes ∙ ap (λ (b : Bool). owes_claim w H || b) asks));
       outgoing = ap (λ o. map posted o.items) s2 ∙ h.outgoing;
       taken = s3 ∙ h.taken;
       token = s4 ∙ h.token;
       unread = e3 ∙ (ap (λ (b : Bool). offered b (stamped f) (map received_by old.inbox.unread.items)) wants
-          ∙ kept_rest (is_for_program w (holds w H f.stamp) f) (kept w H) _ (length (got H)) (stamped f) s.read h.unread);
+          ∙ kept_rest (is_for_program w (holds w H f.stamp) f) (kept w H) _ (length (got H)) (stamped f) (read w H s) h.unread);
       missed = e4 ∙ (ap (λ (b : Bool). counted b (map received_by old.inbox.unread.items) old.inbox.missed) wants
           ∙ missed_rest (is_for_program w (holds w H f.stamp) f) (kept w H) _ (length (got H)) (missed w H) _ h.unread h.missed);
     }

@@ -4,3 +4,5 @@ pub mod QueueLemmas
 pub mod SoundLemmas
 -- a call more
 pub mod CallLemmas
+-- the laws
+pub mod LawLemmas

@@ -100,3 +100,12 @@ read xs ys i x e l f = ap (λ zs. slice_get zs i) (sym e) ∙ get_index xs i x l
 
 pub read_none : {T : Type 0} (xs ys : List T) (i : ℕ) → xs ≡ ys → length xs ≤ i → slice_get ys i ≡ None
 read_none xs ys i e l = ap (λ zs. slice_get zs i) (sym e) ∙ slice_get_past xs i l
+
+pub get_append : {T : Type 0} (L : List T) (y : T) (i : ℕ) (x : T) → slice_get (L ++ y ∷ []) i ≡ Some x → (slice_get L i ≡ Some x) ⊎ ((i ≡ length L) × (y ≡ x))
+get_append [] y zero x e = inr (refl, (let z : y ≡ x = cc in z))
+get_append [] y (suc i) x e = absurd (cc)
+get_append (z ∷ L) y zero x e = inl e
+get_append (z ∷ L) y (suc i) x e = elim (get_append L y i x e) [
+  | inl old ↦ inl old
+  | inr new ↦ inr (ap suc new.0, new.1)
+]

@@ -1,5 +1,5 @@
 -- What every answered history says of what was accepted, sent and told.
-use Rattle.std.proofs.Common.{◌≡◌, ◌≢◌, ◌⊎◌, ℕ, zero, suc, ◌+◌, ◌-◌, ◌<◌, ◌≤◌, List, [], ◌∷◌, ◌++◌, length, map, Option, Some, None, Result, Ok, Err, Bool, true, false, not, ◌&&◌, ◌||◌, if◌then◌else◌, nat_eq, nat_lt, refl, sym, ap, ◌∙◌, subst, inl, inr, arith, append_assoc, eqb-true, eq-eqb, ltb-true}
+use Rattle.std.proofs.Common.{◌≡◌, ◌≢◌, ◌⊎◌, ℕ, zero, suc, ◌+◌, ◌-◌, ◌<◌, ◌≤◌, List, [], ◌∷◌, ◌++◌, length, map, Option, Some, None, Result, Ok, Err, Bool, true, false, not, ◌&&◌, ◌||◌, if◌then◌else◌, nat_eq, nat_lt, refl, sym, ap, ◌∙◌, subst, inl, inr, arith, append_assoc, length-append, eqb-true, eq-eqb, ltb-true}
 use Rattle.std.specs.List.{slice_get}
 use Rattle.std.specs.Option.{option_map}
 use Rattle.j39_frame.specs.Frame.{FrameRecord}
@@ -13,7 +13,7 @@ use Rattle.j39_node.specs.History.{Who, Message, Draft, Call, Address, message_o
 use Rattle.j39_node.specs.History.Call.{Hear, Tick, TakeFrame, Send, TakeEnded, TakeReceived}
 use Rattle.j39_node.specs.History.Address.{NotClaimed, Claimed, Lost}
 use Rattle.j39_node.specs.Is.{AreAnswered, IsAnswered, stamped, next_frame, next_ended, end_of, ending_of, answer_to_send}
-use Rattle.j39_node.proofs.QueueLemmas.{get_within, get_map, length_one_more, map_append, length_map}
+use Rattle.j39_node.proofs.QueueLemmas.{get_within, get_append, get_map, length_one_more, map_append, length_map}
 
 -- ---- the address
 
@@ -93,17 +93,22 @@ pub record Sound (w : Who) (H : List Call) : Type 0 where
   pub fronts : IsFront (sent H) (map content (accepted w H))
   pub within : length (told H) ≤ length (accepted w H)
   pub in_turn : is_lost (address_after w H) ≡ false → length (told H) ≤ length (sent H)
-  pub read : length (got H) ≤ length (kept w H)
+  pub reads : IsFront (got H) (kept w H)
+  pub numbered : (i : ℕ) (x : ℕ × Message) → slice_get (accepted w H) i ≡ Some x → x.0 ≡ i
+
+pub read : (w : Who) (H : List Call) → Sound w H → length (got H) ≤ length (kept w H)
+read w H h = let a = h.reads.1 in let b = ap length a in let c = length-append (got H) h.reads.0 in omega (arith, b, c)
 
 -- a call that accepts, sends and tells nothing
 rests : (w : Who) (H G : List Call) → accepted w G ≡ accepted w H → sent G ≡ sent H → told G ≡ told H
-    → (is_lost (address_after w G) ≡ false → is_lost (address_after w H) ≡ false) → length (got G) ≤ length (kept w G) → Sound w H → Sound w G
+    → (is_lost (address_after w G) ≡ false → is_lost (address_after w H) ≡ false) → IsFront (got G) (kept w G) → Sound w H → Sound w G
 rests w H G e f g l r h = record {
   own = subst (AllOwn w) (sym e) h.own;
   fronts = subst (λ xs. IsFront xs (map content (accepted w G))) (sym f) (subst (λ ys. IsFront (sent H) (map content ys)) (sym e) h.fronts);
   within = (let a = h.within in let b = ap length e in let c = ap length g in omega (arith, a, b, c));
   in_turn = λ i. (let a = h.in_turn (l i) in let b = ap length f in let c = ap length g in omega (arith, a, b, c));
-  read = r;
+  reads = r;
+  numbered = subst (λ (L : List (ℕ × Message)). (i : ℕ) (x : ℕ × Message) → slice_get L i ≡ Some x → x.0 ≡ i) (sym e) h.numbered;
 }
 
 pub both : (x y : Bool) → (x && y) ≡ true → (x ≡ true) × (y ≡ true)
@@ -179,20 +184,21 @@ message_taken w f now x e own = let z = ap (λ (y : ℕ × Message). y.1.group) 
 sound_claim : (w : Who) (H : List Call) (now : ℕ) (f : FrameRecord) → is_claim f ≡ true → Sound w H → Sound w (TakeFrame now (Some f) ∷ H)
 sound_claim w H now f e h = rests w H _ refl (ap (λ (b : Bool). if b then sent H else sent H ++ message_of f ∷ []) e) refl
     (λ l. sym (lost_older (step H now) (address_after w H)) ∙ (sym (lost_claimed _)
-        ∙ (sym (ap (λ (b : Bool). is_lost (if b then claimed (older (step H now) (address_after w H)) else older (step H now) (address_after w H))) e) ∙ l))) h.read h
+    ∙ (sym (ap (λ (b : Bool). is_lost (if b then claimed (older (step H now) (address_after w H)) else older (step H now) (address_after w H))) e) ∙ l))) h.reads h
 
 sound_send : (w : Who) (H : List Call) (now : ℕ) (f : FrameRecord) (x : ℕ × Message) → is_claim f ≡ false → holds w H now ≡ true
     → slice_get (accepted w H) (length (sent H)) ≡ Some x → stamped f ≡ (now, x.1) → Sound w H → Sound w (TakeFrame now (Some f) ∷ H)
 sound_send w H now f x e held g i h =
     let more : sent (TakeFrame now (Some f) ∷ H) ≡ sent H ++ x.1 ∷ [] =
-        ap (λ (b : Bool). if b then sent H else sent H ++ message_of f ∷ []) e ∙ ap (λ (y : ℕ × Message). sent H ++ y.1 ∷ []) i in
+    ap (λ (b : Bool). if b then sent H else sent H ++ message_of f ∷ []) e ∙ ap (λ (y : ℕ × Message). sent H ++ y.1 ∷ []) i in
     record {
       own = h.own;
       fronts = subst (λ xs. IsFront xs (map content (accepted w H))) (sym more)
           (front_longer (sent H) (map content (accepted w H)) x.1 h.fronts (get_map content (accepted w H) (length (sent H)) x g));
       within = h.within;
       in_turn = λ l. (let a = h.in_turn (holding_not_lost w H now held) in let b = ap length more in let c = length_one_more (sent H) x.1 in omega (arith, a, b, c));
-      read = h.read;
+      reads = h.reads;
+      numbered = h.numbered;
     }
 
 sound_frame : (w : Who) (H : List Call) (now : ℕ) (f : FrameRecord) → FrameCase w H now f → Sound w H → Sound w (TakeFrame now (Some f) ∷ H)
@@ -200,14 +206,18 @@ sound_frame w H now f (claims owes e) h = sound_claim w H now f (claim_taken f n
 sound_frame w H now f (sends x owes held g e) h =
     sound_send w H now f x (message_taken w f now x e (own_get w _ _ x h.own g)) held g e h
 
-sound_accept : (w : Who) (H : List Call) (now k : ℕ) (d : Draft) → can_send w d ≡ true → Sound w H → Sound w (Send now d (Ok k) ∷ H)
-sound_accept w H now k d e h = record {
+sound_accept : (w : Who) (H : List Call) (now k : ℕ) (d : Draft) → can_send w d ≡ true → k ≡ length (accepted w H) → Sound w H → Sound w (Send now d (Ok k) ∷ H)
+sound_accept w H now k d e g h = record {
   own = own_append w (accepted w H) (k, message_from w d) h.own (is_own w d e);
   fronts = subst (λ ys. IsFront (sent H) ys) (sym (map_append content (accepted w H) (k, message_from w d)))
       (front_append (sent H) (map content (accepted w H)) (message_from w d) h.fronts);
   within = (let a = h.within in let b = length_one_more (accepted w H) (k, message_from w d) in omega (arith, a, b));
   in_turn = λ l. h.in_turn (sym (lost_older (step H now) (address_after w H)) ∙ l);
-  read = h.read;
+  reads = h.reads;
+  numbered = λ i x f. elim (get_append (accepted w H) (k, message_from w d) i x f) [
+    | inl old ↦ h.numbered i x old
+    | inr new ↦ sym (ap (λ (y : ℕ × Message). y.0) new.1) ∙ (g ∙ sym new.0)
+  ];
 }
 
 sound_ended : (w : Who) (H : List Call) (x : ℕ × Ending) → EndCase w H x → Sound w H → Sound w (TakeEnded (Some x) ∷ H)
@@ -216,25 +226,27 @@ sound_ended w H x (done m l g e) h = record {
   fronts = h.fronts;
   within = (let a = get_within (accepted w H) (length (told H)) (x.0, m) g in let b = length_one_more (told H) x in omega (arith, a, b));
   in_turn = λ i. (let b = length_one_more (told H) x in let c = ltb-true (length (told H)) (length (sent H)) l in omega (arith, b, c));
-  read = h.read;
+  reads = h.reads;
+  numbered = h.numbered;
 }
 sound_ended w H x (withdrawn m l lost g e) h = record {
   own = h.own;
   fronts = h.fronts;
   within = (let a = get_within (accepted w H) (length (told H)) (x.0, m) g in let b = length_one_more (told H) x in omega (arith, a, b));
   in_turn = λ i. absurd (let z : true ≡ false = sym lost ∙ i in cc);
-  read = h.read;
+  reads = h.reads;
+  numbered = h.numbered;
 }
 
-kept_grows : (b : Bool) (xs : List (ℕ × Message)) (x : ℕ × Message) (n : ℕ) → n ≤ length xs → n ≤ length (if b then xs ++ x ∷ [] else xs)
-kept_grows true xs x n l = let h = length_one_more xs x in omega (arith, l, h)
-kept_grows false xs x n l = l
+kept_grows : (b : Bool) (xs : List (ℕ × Message)) (x : ℕ × Message) (ys : List (ℕ × Message)) → IsFront ys xs → IsFront ys (if b then xs ++ x ∷ [] else xs)
+kept_grows true xs x ys h = front_append ys xs x h
+kept_grows false xs x ys h = h
 
 sound_more : (w : Who) (H : List Call) (call : Call) → IsAnswered w H call → Sound w H → Sound w (call ∷ H)
 sound_more w H (Hear f) e h = rests w H _ refl refl refl (lost_if w (is_smaller w (claim_of f)) (step H f.stamp) (address_after w H))
-    (kept_grows _ (kept w H) (f.stamp, message_of f) (length (got H)) h.read) h
-sound_more w H (Tick now) e h = rests w H _ refl refl refl (λ l. sym (lost_older (step H now) (address_after w H)) ∙ l) h.read h
-sound_more w H (TakeFrame now None) e h = rests w H _ refl refl refl (λ l. sym (lost_older (step H now) (address_after w H)) ∙ l) h.read h
+    (kept_grows _ (kept w H) (f.stamp, message_of f) (got H) h.reads) h
+sound_more w H (Tick now) e h = rests w H _ refl refl refl (λ l. sym (lost_older (step H now) (address_after w H)) ∙ l) h.reads h
+sound_more w H (TakeFrame now None) e h = rests w H _ refl refl refl (λ l. sym (lost_older (step H now) (address_after w H)) ∙ l) h.reads h
 sound_more w H (TakeFrame now (Some f)) e h = sound_frame w H now f (frame_case w H now f e) h
 sound_more w H (Send now d (Ok k)) e h = go (send_case w H now d (Ok k) e)
   where
@@ -242,14 +254,14 @@ sound_more w H (Send now d (Ok k)) e h = go (send_case w H now d (Ok k) e)
     go (no_address a b) = absurd (cc)
     go (bad_value a b c) = absurd (cc)
     go (full a b c i) = absurd (cc)
-    go (accepts a b c i) = sound_accept w H now k d b h
-sound_more w H (Send now d (Err r)) e h = rests w H _ refl refl refl (λ l. sym (lost_older (step H now) (address_after w H)) ∙ l) h.read h
-sound_more w H (TakeEnded None) e h = rests w H _ refl refl refl (λ l. l) h.read h
+    go (accepts a b c i) = sound_accept w H now k d b (let z : k ≡ length (accepted w H) = cc in z) h
+sound_more w H (Send now d (Err r)) e h = rests w H _ refl refl refl (λ l. sym (lost_older (step H now) (address_after w H)) ∙ l) h.reads h
+sound_more w H (TakeEnded None) e h = rests w H _ refl refl refl (λ l. l) h.reads h
 sound_more w H (TakeEnded (Some x)) e h = sound_ended w H x (end_case w H x e) h
-sound_more w H (TakeReceived None) e h = rests w H _ refl refl refl (λ l. l) h.read h
+sound_more w H (TakeReceived None) e h = rests w H _ refl refl refl (λ l. l) h.reads h
 sound_more w H (TakeReceived (Some x)) e h = rests w H _ refl refl refl (λ l. l)
-    (let a = get_within (kept w H) (length (got H)) x (sym e) in let b = length_one_more (got H) x in omega (arith, a, b)) h
+    (front_longer (got H) (kept w H) x h.reads (sym e)) h
 
 pub sound : (w : Who) (H : List Call) → AreAnswered w H → Sound w H
-sound w [] e = record { own = tt; fronts = ([], refl); within = omega arith; in_turn = λ l. omega arith; read = omega arith }
+sound w [] e = record { own = tt; fronts = ([], refl); within = omega arith; in_turn = λ l. omega arith; reads = ([], refl); numbered = λ i x e. absurd (cc) }
 sound w (call ∷ H) e = sound_more w H call e.1 (sound w H e.0)

@@ -164,7 +164,7 @@ is_none (Some m) = false
 abbrev pub is_asked : Who → Bool → FrameRecord → Bool
 is_asked w lost f =
     is_some (asked_group f) address_claimed_group && (is_some (destination_of f.id) global_address
-        || (is_some (destination_of f.id) w.address && not lost))
+    || (is_some (destination_of f.id) w.address && not lost))
 
 -- the frame is answered by a claim: it is another's claim of the address, unless that was lost before, or a request for claims
 abbrev pub calls_for_claim : Who → Bool → FrameRecord → Bool
@@ -193,9 +193,9 @@ is_own_group group =
 abbrev pub can_send : Who → Draft → Bool
 can_send w d =
     nat_lt d.priority 8 && (not (is_directed d.group && not (nat_eq (d.group % 256) 0))
-        && (not (is_own_group d.group)
-            && ((nat_eq d.to global_address || (nat_lt d.to null_address && not (nat_eq d.to w.address)))
-                && nat_le (length d.bytes) 8)))
+    && (not (is_own_group d.group)
+    && ((nat_eq d.to global_address || (nat_lt d.to null_address && not (nat_eq d.to w.address)))
+    && nat_le (length d.bytes) 8)))
 
 -- the message that is sent
 abbrev pub message_from : Who → Draft → Message
@@ -219,6 +219,12 @@ sent [] = []
 sent (TakeFrame now (Some f) ∷ H) = if is_claim f then sent H else sent H ++ message_of f ∷ []
 sent (call ∷ H) = sent H
 
+-- all frames that were taken
+abbrev pub frames : List Call → List FrameRecord
+frames [] = []
+frames (TakeFrame now (Some f) ∷ H) = frames H ++ f ∷ []
+frames (call ∷ H) = frames H
+
 -- the tokens that were told to have ended, and how
 abbrev pub told : List Call → List (ℕ × Ending)
 told [] = []
@@ -236,8 +242,8 @@ is_full w H = nat_eq (length (accepted w H) - length (told H)) 16 || nat_eq (len
 abbrev pub is_for_program : Who → Bool → FrameRecord → Bool
 is_for_program w held f =
     nat_lt (source_of f.id) null_address && (not (is_own_group (pgn_of f.id) || nat_eq (pgn_of f.id) request_group)
-        && (is_none (destination_of f.id) || (is_some (destination_of f.id) global_address
-            || (is_some (destination_of f.id) w.address && held))))
+    && (is_none (destination_of f.id) || (is_some (destination_of f.id) global_address
+    || (is_some (destination_of f.id) w.address && held))))
 
 -- the messages for the program that were heard, each with its moment
 abbrev pub heard : Who → List Call → List (ℕ × Message)

@@ -1,5 +1,5 @@
 -- The histories that a controller can have had.
-use Rattle.std.specs.Prelude.{◌≡◌, ℕ, ◌-◌, nat_lt, not, ◌&&◌, ◌++◌, ◌+◌, Bool, true, false, List, [], ◌∷◌, length, drop, map, min, Option, Some, None, Result, Ok, Err, if◌then◌else◌}
+use Rattle.std.specs.Prelude.{◌≡◌, ℕ, ◌-◌, nat_lt, nat_le, not, ◌&&◌, ◌++◌, ◌+◌, Bool, true, false, List, [], ◌∷◌, length, drop, map, min, Option, Some, None, Result, Ok, Err, if◌then◌else◌}
 use Rattle.std.specs.List.{slice_get}
 use Rattle.std.specs.Option.{option_map}
 use Rattle.j39_frame.specs.Frame.{FrameRecord}
@@ -69,13 +69,14 @@ abbrev pub AreAnswered : Who → List Call → Type 0
 AreAnswered w [] = Unit {0}
 AreAnswered w (call ∷ H) = AreAnswered w H × IsAnswered w H call
 
+-- how far the address is, as `status` answers it
+abbrev pub status_of : Who → Address → Status
+status_of w NotClaimed = Idle
+status_of w (Claimed e) = if nat_le 250000 e then Holding w.address else Claiming w.address
+status_of w Lost = Cannot
+
 abbrev pub status_after : Who → List Call → Status
-status_after w H = status_of (address_after w H)
-  where
-    status_of : Address → Status
-    status_of NotClaimed = Idle
-    status_of (Claimed e) = if is_held (Claimed e) then Holding w.address else Claiming w.address
-    status_of Lost = Cannot
+status_after w H = status_of w (address_after w H)
 
 -- ---- the controller that it leads to
 
@@ -89,13 +90,16 @@ abbrev pub posted : Outgoing → ℕ × Message
 posted x = (x.token, carried (id_raw x.id) x.bytes.items)
 
 abbrev pub received_by : Received → ℕ × Message
-received_by r = (stamp_micros r.stamp, record {
-  source = r.source;
-  destination = r.destination;
-  priority = r.priority;
-  group = pgn_raw r.group;
-  bytes = r.bytes.items;
-})
+received_by r = (
+  stamp_micros r.stamp,
+  record {
+    source = r.source;
+    destination = r.destination;
+    priority = r.priority;
+    group = pgn_raw r.group;
+    bytes = r.bytes.items;
+  },
+)
 
 -- the inbox when a frame was heard
 abbrev pub offered : Bool → ℕ × Message → List (ℕ × Message) → List (ℕ × Message)

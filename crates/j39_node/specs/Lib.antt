@@ -4,3 +4,5 @@ pub mod History
 pub mod Is
 -- the code's steps, below the definitions
 pub mod Hold
+-- a history
+pub mod Example

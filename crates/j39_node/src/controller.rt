@@ -111,7 +111,7 @@ impl Controller {
         ensures { (w : Who) (H : List Call) → Is w H self.old → Is w (TakeFrame (stamp_micros now) result ∷ H) self.new }
     {
         self.hold = self.hold.passed(now);
-        if self.hold.owes_claim {
+        if self.is_claim_due() {
             let address = self.claim_address();
             self.hold = self.hold.claimed();
             let claim = self.own.claim(address, now);
@@ -190,6 +190,13 @@ impl Controller {
         }
         let first = self.inbox.unread.remove(0);
         Some(first)
+    }
+
+    /// A claim goes before all else.
+    fn is_claim_due(&self) -> bool
+        ensures { result ≡ self.now.hold.owes_claim }
+    {
+        self.hold.owes_claim
     }
 
     /// The address that its claim tells.

@@ -1,1 +1,109 @@
-//! Laws over histories, each the contract of a function that does nothing.
+//! Laws over histories, each the contract of a function that does nothing. `Is w H c` says that the controller c was made for
+//! w and called as H says since, with the answers that H has; in H the newest call stands first.
+ghost use Rattle.std.specs.Prelude.{◌≡◌, ◌≢◌, ◌⊎◌, ◌+◌, ◌<◌, ◌≤◌, ◌↔◌, ◌++◌, ℕ, List, [], ◌∷◌, length, map, Some, None, Option, Result, Ok, Err, IsTrue};
+ghost use Rattle.j39_frame.specs.Frame.{FrameRecord};
+ghost use Rattle.j39_frame.specs.Identifier.{source_of, pgn_of};
+ghost use Rattle.j39_frame.specs.Network.{address_claimed_group};
+ghost use Rattle.j39_address.specs.declared.status.Status.TheVariants as status;
+ghost use Rattle.j39_node.specs.declared.controller.Controller.{Controller};
+ghost use Rattle.j39_node.specs.declared.kinds.Ending.{Ending};
+ghost use Rattle.j39_node.specs.declared.kinds.Ending.TheVariants as ending;
+ghost use Rattle.j39_node.specs.declared.kinds.Refused.{Refused};
+ghost use Rattle.j39_node.specs.declared.kinds.Refused.TheVariants as refused;
+ghost use Rattle.j39_node.specs.History.{Who, Call, Message, Draft, IsFront, accepted, address_after, calls_for_claim, can_send, claim_address, claim_from, content, frames, got, heard, holds, is_lost, kept, message_of, missed, moment, owes_claim, sent, told};
+ghost use Rattle.j39_node.specs.History.Call.{Hear, TakeFrame, Send, TakeEnded, TakeReceived};
+ghost use Rattle.j39_node.specs.Example.{example, two};
+ghost use Rattle.j39_node.specs.Is.{AreAnswered, Is, status_after};
+
+/// Each frame that is taken has the moment of its taking, and is the claim of its NAME, or comes from its address, which it
+/// holds at that moment, and is no claim.
+pub fn sources()
+    ensures moment { (w : Who) (H : List Call) (c : Controller) (now : ℕ) (f : FrameRecord)
+        → Is w (TakeFrame now (Some f) ∷ H) c → f.stamp ≡ now }
+    ensures source { (w : Who) (H : List Call) (c : Controller) (now : ℕ) (f : FrameRecord)
+        → Is w (TakeFrame now (Some f) ∷ H) c
+        → (message_of f ≡ claim_from w (claim_address w (address_after w H)))
+        ⊎ (IsTrue (holds w H now) × (source_of f.id ≡ w.address) × (pgn_of f.id ≢ address_claimed_group)) }
+{}
+
+/// The tokens of the messages accepted are 0, 1, 2 and so on, and in this order each is told once to have ended, after it was
+/// accepted. Where none is told, all that were taken are told; and all that were accepted, if the address is lost.
+pub fn accounted_once()
+    ensures accepted { (w : Who) (H : List Call) (c : Controller) (now k : ℕ) (d : Draft)
+        → Is w (Send now d (Ok k) ∷ H) c → k ≡ length (accepted w H) }
+    ensures told { (w : Who) (H : List Call) (c : Controller) (k : ℕ) (e : Ending)
+        → Is w (TakeEnded (Some (k, e)) ∷ H) c → (k ≡ length (told H)) × (k < length (accepted w H)) }
+    ensures all { (w : Who) (H : List Call) (c : Controller) → Is w (TakeEnded None ∷ H) c
+        → (length (sent H) ≤ length (told H))
+        × (IsTrue (is_lost (address_after w H)) → length (told H) ≡ length (accepted w H)) }
+{}
+
+/// The frames taken that are no claims are the messages accepted, in order, none left out. One is told as done where its frame
+/// was taken, and only there; as withdrawn only where the address is lost. Where an address is held and no frame is taken, none
+/// waits.
+pub fn done_means()
+    ensures in_order { (w : Who) (H : List Call) (c : Controller) → Is w H c
+        → IsFront (sent H) (map content (accepted w H)) }
+    ensures done { (w : Who) (H : List Call) (c : Controller) (k : ℕ) (e : Ending)
+        → Is w (TakeEnded (Some (k, e)) ∷ H) c → (e ≡ ending.Done ↔ (k < length (sent H))) }
+    ensures withdrawn { (w : Who) (H : List Call) (c : Controller) (k : ℕ) (e : Ending)
+        → Is w (TakeEnded (Some (k, e)) ∷ H) c → e ≡ ending.Withdrawn → IsTrue (is_lost (address_after w H)) }
+    ensures none_waits { (w : Who) (H : List Call) (c : Controller) (now : ℕ) → Is w (TakeFrame now None ∷ H) c
+        → IsTrue (holds w H now) → length (sent H) ≡ length (accepted w H) }
+{}
+
+/// What `send` answers: `NoAddress` where no address is held, `BadValue` where the message can't be sent, `Full` where sixteen
+/// tokens are accepted and not told (or as many as there are tokens were accepted), and else the next token.
+pub fn refused_means()
+    ensures no_address { (w : Who) (H : List Call) (c : Controller) (now : ℕ) (d : Draft) (answer : Result ℕ Refused)
+        → Is w (Send now d answer ∷ H) c → (answer ≡ Err refused.NoAddress ↔ (IsTrue (holds w H now) → ⊥)) }
+    ensures bad_value { (w : Who) (H : List Call) (c : Controller) (now : ℕ) (d : Draft) (answer : Result ℕ Refused)
+        → Is w (Send now d answer ∷ H) c
+        → (answer ≡ Err refused.BadValue ↔ (IsTrue (holds w H now) × (IsTrue (can_send w d) → ⊥))) }
+    ensures full { (w : Who) (H : List Call) (c : Controller) (now : ℕ) (d : Draft) (answer : Result ℕ Refused)
+        → Is w (Send now d answer ∷ H) c
+        → (answer ≡ Err refused.Full
+        ↔ (IsTrue (holds w H now) × IsTrue (can_send w d)
+        × ((length (accepted w H) ≡ length (told H) + 16) ⊎ (length (accepted w H) ≡ 18446744073709551615)))) }
+    ensures accepts { (w : Who) (H : List Call) (c : Controller) (now : ℕ) (d : Draft) (answer : Result ℕ Refused)
+        → Is w (Send now d answer ∷ H) c → IsTrue (holds w H now) → IsTrue (can_send w d)
+        → length (accepted w H) < length (told H) + 16 → length (accepted w H) < 18446744073709551615
+        → answer ≡ Ok (length (accepted w H)) }
+{}
+
+/// What was heard for the program and kept is got in order, each once, and nothing else; where none is got, all that was kept
+/// is got. All but what was kept is missed, and one is missed only where sixteen lie unread.
+pub fn received()
+    ensures in_order { (w : Who) (H : List Call) (c : Controller) → Is w H c → IsFront (got H) (kept w H) }
+    ensures all { (w : Who) (H : List Call) (c : Controller) → Is w (TakeReceived None ∷ H) c → got H ≡ kept w H }
+    ensures counted { (w : Who) (H : List Call) → length (kept w H) + missed w H ≡ length (heard w H) }
+    ensures room { (w : Who) (H : List Call) (f : FrameRecord) → missed w (Hear f ∷ H) ≢ missed w H
+        → length (got H) + 16 ≤ length (kept w H) }
+{}
+
+/// After a frame was heard that a claim answers (another's claim of the address, or a request for claims), the next frame taken
+/// is its claim, or 'cannot claim' where the address is lost. A claim is taken only where one is owed.
+pub fn claims()
+    ensures next { (w : Who) (H later : List Call) (c : Controller) (now : ℕ) (f g : FrameRecord)
+        → Is w (TakeFrame now (Some g) ∷ later ++ Hear f ∷ H) c → frames later ≡ []
+        → IsTrue (calls_for_claim w (is_lost (address_after w H)) f)
+        → message_of g ≡ claim_from w (claim_address w (address_after w (later ++ Hear f ∷ H))) }
+    ensures at_once { (w : Who) (H : List Call) (c : Controller) (now : ℕ) (answer : Option FrameRecord)
+        → Is w (TakeFrame now answer ∷ H) c → IsTrue (owes_claim w H) → answer ≢ None }
+    ensures only { (w : Who) (H : List Call) (c : Controller) (now : ℕ) (f : FrameRecord)
+        → Is w (TakeFrame now (Some f) ∷ H) c → pgn_of f.id ≡ address_claimed_group → IsTrue (owes_claim w H) }
+{}
+
+/// What `status` answers: `Holding` exactly where the address is held, `Cannot` where it is lost.
+pub fn who()
+    ensures holding { (w : Who) (H : List Call) (a : ℕ)
+        → (status_after w H ≡ status.Holding a ↔ ((a ≡ w.address) × IsTrue (holds w H (moment H)))) }
+    ensures cannot { (w : Who) (H : List Call)
+        → (status_after w H ≡ status.Cannot ↔ IsTrue (is_lost (address_after w H))) }
+{}
+
+/// All answers of this history are those that a controller gives: it claims, holds, sends, receives, refuses, and loses its
+/// address.
+pub fn an_example()
+    ensures { AreAnswered two example }
+{}

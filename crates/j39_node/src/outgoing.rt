@@ -40,8 +40,11 @@ impl Outgoing {
     ) -> Option<Outgoing>
         ensures known { IsSome result ↔ (can_send (who_of own) (record
             { priority = priority; group = pgn_raw group; to = to; bytes = bytes.now }) ≡ true) }
-        ensures value { IfSome result (λ x. posted x ≡ (token, message_from (who_of own) (record
-            { priority = priority; group = pgn_raw group; to = to; bytes = bytes.now }))) }
+        ensures value { IfSome result (λ x. posted x ≡ (
+          token,
+          message_from (who_of own) (record
+              { priority = priority; group = pgn_raw group; to = to; bytes = bytes.now }),
+        )) }
     {
         if !can_send(own, priority, group, to, bytes) {
             return None;

@@ -17,6 +17,7 @@ const ADDRESS_CLAIMED: u32 = 60_928;
 
 /// The groups of sessions of packets.
 const TRANSPORT_CONTROL: u32 = 60_416;
+
 const TRANSPORT_DATA: u32 = 60_160;
 
 /// The NAME of a controller, and the address that it claims.

@@ -14,7 +14,7 @@ returns-else-is_full c = λ w H h.
     let b = sym (holds_is w H (stamp_micros c.args.now) c.passed-self.result c.is_held.result p c.is_held.ensures) ∙ c.if-not-is_held.false in
     let d : Draft = record { priority = c.args.priority; group = pgn_raw c.args.group; to = c.args.to; bytes = c.args.bytes.now } in
     posts w H c.args.self.now _ (stamp_micros c.args.now) d c.in-Some.message h p b
-        (ap (λ (v : Who). can_send v d) (sym h.who) ∙ c.in-Some.ensures.known.0 refl)
-        (sym c.is_full.ensures.value ∙ c.if-is_full.false)
-        (c.in-Some.ensures.value ∙ ap (λ (v : Who). (c.args.self.now.next_token, message_from v d)) h.who)
-        c.push.ensures.items (omega arith) refl refl refl
+    (ap (λ (v : Who). can_send v d) (sym h.who) ∙ c.in-Some.ensures.known.0 refl)
+    (sym c.is_full.ensures.value ∙ c.if-is_full.false)
+    (c.in-Some.ensures.value ∙ ap (λ (v : Who). (c.args.self.now.next_token, message_from v d)) h.who)
+    c.push.ensures.items (omega arith) refl refl refl

@@ -8,10 +8,10 @@ pub returns-in-Some : goal.returns-in-Some
 returns-in-Some c = λ w H h.
     let p = passed_is w H (stamp_micros c.args.now) c.args.self.now.hold c.passed-self.result h.hold c.passed-self.ensures in
     let b = sym (holds_is w H (stamp_micros c.args.now) c.passed-self.result c.is_held.result p c.is_held.ensures) ∙ c.if-not-is_held.false in
-    taken w H c.args.self.now _ (stamp_micros c.args.now) _ c.in-Some.next.now h p c.if-self.false b (read c.as_slice.result.now _ _ _ c.as_slice.ensures.value c.in-Some.ensures.lookup.3.0 c.in-Some.ensures.lookup.1) c.frame-frame.ensures refl refl (omega Rattle.std.proofs.Common.arith) refl refl
+    taken w H c.args.self.now _ (stamp_micros c.args.now) _ c.in-Some.next.now h p (sym c.is_claim_due.ensures ∙ c.if-is_claim_due.false) b (read c.as_slice.result.now _ _ _ c.as_slice.ensures.value c.in-Some.ensures.lookup.3.0 c.in-Some.ensures.lookup.1) c.frame-frame.ensures refl refl (omega Rattle.std.proofs.Common.arith) refl refl
 
 pub returns-in-None : goal.returns-in-None
 returns-in-None c = λ w H h.
     let p = passed_is w H (stamp_micros c.args.now) c.args.self.now.hold c.passed-self.result h.hold c.passed-self.ensures in
     let b = sym (holds_is w H (stamp_micros c.args.now) c.passed-self.result c.is_held.result p c.is_held.ensures) ∙ c.if-not-is_held.false in
-    taken_none w H c.args.self.now _ (stamp_micros c.args.now) h p c.if-self.false b (read_none c.as_slice.result.now _ _ c.as_slice.ensures.value c.in-None.ensures.lookup.3) refl
+    taken_none w H c.args.self.now _ (stamp_micros c.args.now) h p (sym c.is_claim_due.ensures ∙ c.if-is_claim_due.false) b (read_none c.as_slice.result.now _ _ c.as_slice.ensures.value c.in-None.ensures.lookup.3) refl

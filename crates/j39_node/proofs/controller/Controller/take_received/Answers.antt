@@ -7,7 +7,7 @@ use Rattle.j39_node.proofs.controller.Controller.take_received.Goals as goal
 pub returns : goal.returns
 returns c = λ w H h.
     let f = first received_by _ _ c.remove-first.result (Rattle.std.proofs.Common.length (got H)) (kept w H) h.unread
-        (not_empty _ _ c.is_empty.ensures c.if-is_empty.false) c.remove-first.ensures.value c.remove-first.ensures.items in
+    (not_empty _ _ c.is_empty.ensures c.if-is_empty.false) c.remove-first.ensures.value c.remove-first.ensures.items in
     record {
       who = h.who;
       answered = (h.answered, sym f.is);

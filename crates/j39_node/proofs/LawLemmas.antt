@@ -1,0 +1,351 @@
+-- The laws.
+use Rattle.std.proofs.Common.{◌≡◌, ◌≢◌, ◌⊎◌, ◌↔◌, ℕ, zero, suc, ◌+◌, ◌-◌, ◌<◌, ◌≤◌, List, [], ◌∷◌, ◌++◌, length, map, Option, Some, None, Result, Ok, Err, Bool, true, false, not, ◌&&◌, ◌||◌, if◌then◌else◌, nat_eq, nat_lt, nat_le, IsTrue, refl, sym, ap, ◌∙◌, subst, inl, inr, arith, length-append, append-nil, eqb-true, eq-eqb, ltb-true, lt-ltb}
+use Rattle.std.specs.List.{slice_get}
+use Rattle.std.specs.Option.{option_map}
+use Rattle.j39_frame.specs.Frame.{FrameRecord}
+use Rattle.j39_frame.specs.Identifier.{source_of, pgn_of}
+use Rattle.j39_frame.specs.Network.{address_claimed_group}
+use Rattle.j39_address.specs.declared.status.Status.TheVariants as status
+use Rattle.j39_node.specs.declared.controller.Controller.{Controller}
+use Rattle.j39_node.specs.declared.kinds.Ending.{Ending}
+use Rattle.j39_node.specs.declared.kinds.Ending.TheVariants.{Done, Withdrawn}
+use Rattle.j39_node.specs.declared.kinds.Refused.{Refused}
+use Rattle.j39_node.specs.declared.kinds.Refused.TheVariants.{NoAddress, BadValue, Full}
+use Rattle.j39_node.specs.History.{Who, Message, Draft, Call, Address, IsFront, accepted, address_after, calls_for_claim, can_send, claim_address, claim_from, content, frames, got, heard, holds, is_claim, is_for_program, is_full, is_held, is_lost, kept, message_of, missed, moment, older, owes_claim, sent, step, told}
+use Rattle.j39_node.specs.History.Call.{Hear, Tick, TakeFrame, Send, TakeEnded, TakeReceived}
+use Rattle.j39_node.specs.History.Address.{NotClaimed, Claimed, Lost}
+use Rattle.j39_node.specs.Is.{Is, AreAnswered, stamped, next_frame, next_ended, end_of, status_of, status_after}
+use Rattle.j39_node.proofs.QueueLemmas.{get_within, length_one_more, length_map, get_map}
+use Rattle.j39_node.proofs.SoundLemmas.{Sound, sound, IsOwn, own_get, FrameCase, frame_case, SendCase, send_case, EndCase, end_case, claim_taken, message_taken}
+use Rattle.j39_node.proofs.SoundLemmas.FrameCase.{claims, sends}
+use Rattle.j39_node.proofs.SoundLemmas.SendCase.{no_address, bad_value, full, accepts}
+use Rattle.j39_node.proofs.SoundLemmas.EndCase.{done, withdrawn}
+
+-- ---- sources
+
+frame : (w : Who) (H : List Call) (c : Controller) (now : ℕ) (f : FrameRecord) → Is w (TakeFrame now (Some f) ∷ H) c → FrameCase w H now f
+frame w H c now f is = frame_case w H now f is.answered.1
+
+pub moments : (w : Who) (H : List Call) (c : Controller) (now : ℕ) (f : FrameRecord) → Is w (TakeFrame now (Some f) ∷ H) c → f.stamp ≡ now
+moments w H c now f is = go (frame w H c now f is)
+  where
+    go : FrameCase w H now f → f.stamp ≡ now
+    go (claims o e) = ap (λ (x : ℕ × Message). x.0) e
+    go (sends x o h g e) = ap (λ (y : ℕ × Message). y.0) e
+
+pub sources : (w : Who) (H : List Call) (c : Controller) (now : ℕ) (f : FrameRecord) → Is w (TakeFrame now (Some f) ∷ H) c
+    → (message_of f ≡ claim_from w (claim_address w (address_after w H)))
+    ⊎ (IsTrue (holds w H now) × (source_of f.id ≡ w.address) × (pgn_of f.id ≢ address_claimed_group))
+sources w H c now f is = go (frame w H c now f is)
+  where
+    go : FrameCase w H now f → (message_of f ≡ claim_from w (claim_address w (address_after w H)))
+        ⊎ (IsTrue (holds w H now) × (source_of f.id ≡ w.address) × (pgn_of f.id ≢ address_claimed_group))
+    go (claims o e) = inl (ap content e)
+    go (sends x o h g e) =
+        let own = own_get w (accepted w H) (length (sent H)) x (sound w H is.answered.0).own g in
+        inr (
+          h,
+          ap (λ (y : ℕ × Message). y.1.source) e ∙ own.source,
+          λ z. (let a = message_taken w f now x e own in let b = eq-eqb (pgn_of f.id) address_claimed_group z in let d : true ≡ false = sym b ∙ a in absurd (cc)),
+        )
+
+-- ---- accounted once
+
+pub token_is : (w : Who) (H : List Call) (c : Controller) (now k : ℕ) (d : Draft) → Is w (Send now d (Ok k) ∷ H) c → k ≡ length (accepted w H)
+token_is w H c now k d is = go (send_case w H now d (Ok k) is.answered.1)
+  where
+    go : SendCase w H now d (Ok k) → k ≡ length (accepted w H)
+    go (no_address a e) = absurd (cc)
+    go (bad_value a b e) = absurd (cc)
+    go (full a b f e) = absurd (cc)
+    go (accepts a b f e) = cc
+
+record Told (w : Who) (H : List Call) (k : ℕ) (e : Ending) : Type 0 where
+  pub message : Message
+  pub at : slice_get (accepted w H) (length (told H)) ≡ Some (k, message)
+  pub done : e ≡ Done ↔ (length (told H) < length (sent H))
+  pub withdrawn : e ≡ Withdrawn → is_lost (address_after w H) ≡ true
+
+told_is : (w : Who) (H : List Call) (c : Controller) (k : ℕ) (e : Ending) → Is w (TakeEnded (Some (k, e)) ∷ H) c → Told w H k e
+told_is w H c k e is = go (end_case w H (k, e) is.answered.1)
+  where
+    go : EndCase w H (k, e) → Told w H k e
+    go (done m l g i) = record { message = m; at = g; done = (λ z. ltb-true _ _ l, λ z. i); withdrawn = λ z. absurd (cc) }
+    go (withdrawn m l a g i) = record {
+      message = m;
+      at = g;
+      done = (λ z. absurd (cc), λ z. absurd (let y = lt-ltb _ _ z in let x : false ≡ true = sym l ∙ y in cc));
+      withdrawn = λ z. a;
+    }
+
+pub in_turn : (w : Who) (H : List Call) (c : Controller) (k : ℕ) (e : Ending) → Is w (TakeEnded (Some (k, e)) ∷ H) c → (k ≡ length (told H)) × (k < length (accepted w H))
+in_turn w H c k e is =
+    let t = told_is w H c k e is in
+    let a : k ≡ length (told H) = (sound w H is.answered.0).numbered (length (told H)) (k, t.message) t.at in
+    (a, (let b = get_within (accepted w H) (length (told H)) (k, t.message) t.at in omega (arith, a, b)))
+
+none_ended : (b l : Bool) (o : Option (ℕ × Message)) → None ≡ end_of b l o → (o ≡ None) ⊎ ((b ≡ false) × (l ≡ false))
+none_ended b l None e = inl refl
+none_ended true l (Some x) e = absurd (cc)
+none_ended false true (Some x) e = absurd (cc)
+none_ended false false (Some x) e = inr (refl, refl)
+
+past_end : {T : Type 0} (L : List T) (n : ℕ) → slice_get L n ≡ None → length L ≤ n
+past_end [] n e = omega arith
+past_end (x ∷ L) zero e = absurd (cc)
+past_end (x ∷ L) (suc n) e = let h = past_end L n e in omega (arith, h)
+
+front_length : {T : Type 0} (xs ys : List T) → IsFront xs ys → length xs ≤ length ys
+front_length xs ys (zs, e) = let b = ap length e in let c = length-append xs zs in omega (arith, b, c)
+
+sent_within : (w : Who) (H : List Call) → Sound w H → length (sent H) ≤ length (accepted w H)
+sent_within w H s = let a = front_length (sent H) (map content (accepted w H)) s.fronts in let b = length_map content (accepted w H) in omega (arith, a, b)
+
+pub all_told : (w : Who) (H : List Call) (c : Controller) → Is w (TakeEnded None ∷ H) c
+    → (length (sent H) ≤ length (told H)) × (IsTrue (is_lost (address_after w H)) → length (told H) ≡ length (accepted w H))
+all_told w H c is = go (none_ended _ _ _ is.answered.1)
+  where
+    s : Sound w H
+    s = sound w H is.answered.0
+
+    go : (slice_get (accepted w H) (length (told H)) ≡ None) ⊎ ((nat_lt (length (told H)) (length (sent H)) ≡ false) × (is_lost (address_after w H) ≡ false))
+        → (length (sent H) ≤ length (told H)) × (IsTrue (is_lost (address_after w H)) → length (told H) ≡ length (accepted w H))
+    go (inl e) =
+        let a = past_end (accepted w H) (length (told H)) e in
+        let b = sent_within w H s in
+        (omega (arith, a, b), λ l. (let d = s.within in omega (arith, a, d)))
+    go (inr e) = (not_lt _ _ e.0, λ l. absurd (let z : true ≡ false = sym l ∙ e.1 in cc))
+      where
+        not_lt : (m n : ℕ) → nat_lt m n ≡ false → n ≤ m
+        not_lt m n f = grind arith
+
+-- ---- done means
+
+pub in_order : (w : Who) (H : List Call) (c : Controller) → Is w H c → IsFront (sent H) (map content (accepted w H))
+in_order w H c is = (sound w H is.answered).fronts
+
+pub done_means : (w : Who) (H : List Call) (c : Controller) (k : ℕ) (e : Ending) → Is w (TakeEnded (Some (k, e)) ∷ H) c → (e ≡ Done ↔ (k < length (sent H)))
+done_means w H c k e is =
+    let t = told_is w H c k e is in
+    let a = (in_turn w H c k e is).0 in
+    (λ z. (let b = t.done.0 z in omega (arith, a, b)), λ z. t.done.1 (omega (arith, a, z)))
+
+pub withdrawn_means : (w : Who) (H : List Call) (c : Controller) (k : ℕ) (e : Ending) → Is w (TakeEnded (Some (k, e)) ∷ H) c → e ≡ Withdrawn
+    → IsTrue (is_lost (address_after w H))
+withdrawn_means w H c k e is z = (told_is w H c k e is).withdrawn z
+
+pub none_waits : (w : Who) (H : List Call) (c : Controller) (now : ℕ) → Is w (TakeFrame now None ∷ H) c → IsTrue (holds w H now)
+    → length (sent H) ≡ length (accepted w H)
+none_waits w H c now is held = go (owes_claim w H) (holds w H now) (slice_get (accepted w H) (length (sent H))) held refl is.answered.1
+  where
+    go : (o q : Bool) (z : Option (ℕ × Message)) → q ≡ true → slice_get (accepted w H) (length (sent H)) ≡ z
+        → (let none : Option (ℕ × Message) = None in none)
+        ≡ (if o then Some (now, claim_from w (claim_address w (address_after w H))) else if q then option_map (λ y. (now, y.1)) z else None)
+        → length (sent H) ≡ length (accepted w H)
+    go true q z a b e = absurd (cc)
+    go false false z a b e = absurd (cc)
+    go false true (Some y) a b e = absurd (cc)
+    go false true None a b e =
+        let d = past_end (accepted w H) (length (sent H)) b in
+        let f = sent_within w H (sound w H is.answered.0) in
+        omega (arith, d, f)
+
+-- ---- what send answers
+
+answers : (w : Who) (H : List Call) (c : Controller) (now : ℕ) (d : Draft) (answer : Result ℕ Refused) → Is w (Send now d answer ∷ H) c → SendCase w H now d answer
+answers w H c now d answer is = send_case w H now d answer is.answered.1
+
+not_both : (b : Bool) → b ≡ false → b ≡ true → ⊥
+not_both b e f = let z : false ≡ true = sym e ∙ f in absurd (cc)
+
+pub refused_address : (w : Who) (H : List Call) (c : Controller) (now : ℕ) (d : Draft) (answer : Result ℕ Refused)
+    → Is w (Send now d answer ∷ H) c → (answer ≡ Err NoAddress ↔ (IsTrue (holds w H now) → ⊥))
+refused_address w H c now d answer is = go (answers w H c now d answer is)
+  where
+    go : SendCase w H now d answer → (answer ≡ Err NoAddress ↔ (IsTrue (holds w H now) → ⊥))
+    go (no_address a e) = (λ z. not_both _ a, λ z. e)
+    go (bad_value a b e) = (λ z. absurd (cc), λ z. absurd (z a))
+    go (full a b f e) = (λ z. absurd (cc), λ z. absurd (z a))
+    go (accepts a b f e) = (λ z. absurd (cc), λ z. absurd (z a))
+
+pub refused_value : (w : Who) (H : List Call) (c : Controller) (now : ℕ) (d : Draft) (answer : Result ℕ Refused)
+    → Is w (Send now d answer ∷ H) c → (answer ≡ Err BadValue ↔ (IsTrue (holds w H now) × (IsTrue (can_send w d) → ⊥)))
+refused_value w H c now d answer is = go (answers w H c now d answer is)
+  where
+    go : SendCase w H now d answer → (answer ≡ Err BadValue ↔ (IsTrue (holds w H now) × (IsTrue (can_send w d) → ⊥)))
+    go (no_address a e) = (λ z. absurd (cc), λ z. absurd (not_both _ a z.0))
+    go (bad_value a b e) = (λ z. (a, not_both _ b), λ z. e)
+    go (full a b f e) = (λ z. absurd (cc), λ z. absurd (z.1 b))
+    go (accepts a b f e) = (λ z. absurd (cc), λ z. absurd (z.1 b))
+
+AtLimit : Who → List Call → Type 0
+AtLimit w H = (length (accepted w H) ≡ length (told H) + 16) ⊎ (length (accepted w H) ≡ 18446744073709551615)
+
+full_parts : (a t : ℕ) → (nat_eq (a - t) 16 || nat_eq a 18446744073709551615) ≡ true → (a ≡ t + 16) ⊎ (a ≡ 18446744073709551615)
+full_parts a t e = go (nat_eq (a - t) 16) refl e
+  where
+    go : (b : Bool) → nat_eq (a - t) 16 ≡ b → (b || nat_eq a 18446744073709551615) ≡ true → (a ≡ t + 16) ⊎ (a ≡ 18446744073709551615)
+    go true f g = inl (let z = eqb-true (a - t) 16 f in omega (arith, z))
+    go false f g = inr (eqb-true a 18446744073709551615 g)
+
+full_from : (a t : ℕ) → (a ≡ t + 16) ⊎ (a ≡ 18446744073709551615) → (nat_eq (a - t) 16 || nat_eq a 18446744073709551615) ≡ true
+full_from a t (inl e) = ap (λ (b : Bool). b || nat_eq a 18446744073709551615) (eq-eqb (a - t) 16 (omega (arith, e)))
+full_from a t (inr e) = go (nat_eq (a - t) 16) (eq-eqb a 18446744073709551615 e)
+  where
+    go : (b : Bool) → nat_eq a 18446744073709551615 ≡ true → (b || nat_eq a 18446744073709551615) ≡ true
+    go true f = refl
+    go false f = f
+
+pub refused_full : (w : Who) (H : List Call) (c : Controller) (now : ℕ) (d : Draft) (answer : Result ℕ Refused)
+    → Is w (Send now d answer ∷ H) c
+    → (answer ≡ Err Full ↔ (IsTrue (holds w H now) × IsTrue (can_send w d)
+    × ((length (accepted w H) ≡ length (told H) + 16) ⊎ (length (accepted w H) ≡ 18446744073709551615))))
+refused_full w H c now d answer is = go (answers w H c now d answer is)
+  where
+    go : SendCase w H now d answer → (answer ≡ Err Full ↔ (IsTrue (holds w H now) × IsTrue (can_send w d)
+        × ((length (accepted w H) ≡ length (told H) + 16) ⊎ (length (accepted w H) ≡ 18446744073709551615))))
+    go (no_address a e) = (λ z. absurd (cc), λ z. absurd (not_both _ a z.0))
+    go (bad_value a b e) = (λ z. absurd (cc), λ z. absurd (not_both _ b z.1))
+    go (full a b f e) = (λ z. (a, b, full_parts _ _ f), λ z. e)
+    go (accepts a b f e) = (λ z. absurd (cc), λ z. absurd (not_both _ f (full_from _ _ z.2)))
+
+pub is_accepted : (w : Who) (H : List Call) (c : Controller) (now : ℕ) (d : Draft) (answer : Result ℕ Refused)
+    → Is w (Send now d answer ∷ H) c → IsTrue (holds w H now) → IsTrue (can_send w d)
+    → length (accepted w H) < length (told H) + 16 → length (accepted w H) < 18446744073709551615
+    → answer ≡ Ok (length (accepted w H))
+is_accepted w H c now d answer is held can room some = go (answers w H c now d answer is)
+  where
+    go : SendCase w H now d answer → answer ≡ Ok (length (accepted w H))
+    go (no_address a e) = absurd (not_both _ a held)
+    go (bad_value a b e) = absurd (not_both _ b can)
+    go (full a b f e) = elim (full_parts (length (accepted w H)) (length (told H)) f) [ inl z ↦ absurd (omega (arith, z, room)) | inr z ↦ absurd (omega (arith, z, some)) ]
+    go (accepts a b f e) = e
+
+-- ---- received
+
+pub got_in_order : (w : Who) (H : List Call) (c : Controller) → Is w H c → IsFront (got H) (kept w H)
+got_in_order w H c is = (sound w H is.answered).reads
+
+whole_rest : {T : Type 0} (xs ys r : List T) → ys ≡ xs ++ r → length ys ≤ length xs → xs ≡ ys
+whole_rest xs ys [] f l = sym (f ∙ append-nil xs)
+whole_rest xs ys (r ∷ rs) f l = absurd (let b = ap length f in let d = length-append xs (r ∷ rs) in omega (arith, b, d, l))
+
+whole : {T : Type 0} (xs ys : List T) → IsFront xs ys → length ys ≤ length xs → xs ≡ ys
+whole xs ys (zs, e) l = whole_rest xs ys zs e l
+
+pub all_got : (w : Who) (H : List Call) (c : Controller) → Is w (TakeReceived None ∷ H) c → got H ≡ kept w H
+all_got w H c is = whole (got H) (kept w H) (sound w H is.answered.0).reads (past_end (kept w H) (length (got H)) (sym is.answered.1))
+
+count_one : (b r : Bool) (xs ys : List (ℕ × Message)) (x : ℕ × Message) (m : ℕ) → length ys + m ≡ length xs
+    → length (if b && r then ys ++ x ∷ [] else ys) + (if b && not r then suc m else m) ≡ length (if b then xs ++ x ∷ [] else xs)
+count_one true true xs ys x m e = let a = length_one_more xs x in let b = length_one_more ys x in omega (arith, a, b, e)
+count_one true false xs ys x m e = let a = length_one_more xs x in omega (arith, a, e)
+count_one false r xs ys x m e = e
+
+pub counted : (w : Who) (H : List Call) → length (kept w H) + missed w H ≡ length (heard w H)
+counted w [] = refl
+counted w (Hear f ∷ H) = count_one (is_for_program w (holds w H f.stamp) f) (nat_lt (length (kept w H) - length (got H)) 16) (heard w H) (kept w H) (f.stamp, message_of f) (missed w H) (counted w H)
+counted w (Tick now ∷ H) = counted w H
+counted w (TakeFrame now answer ∷ H) = counted w H
+counted w (Send now d answer ∷ H) = counted w H
+counted w (TakeEnded answer ∷ H) = counted w H
+counted w (TakeReceived answer ∷ H) = counted w H
+
+pub missed_full : (w : Who) (H : List Call) (f : FrameRecord) → missed w (Hear f ∷ H) ≢ missed w H → length (got H) + 16 ≤ length (kept w H)
+missed_full w H f n = go (is_for_program w (holds w H f.stamp) f) (nat_lt (length (kept w H) - length (got H)) 16) refl n
+  where
+    not_lt : (k g : ℕ) → nat_lt (k - g) 16 ≡ false → g + 16 ≤ k
+    not_lt k g e = grind arith
+
+    go : (b r : Bool) → nat_lt (length (kept w H) - length (got H)) 16 ≡ r → ((if b && not r then suc (missed w H) else missed w H) ≡ missed w H → ⊥)
+        → length (got H) + 16 ≤ length (kept w H)
+    go true false e k = not_lt _ _ e
+    go true true e k = absurd (k refl)
+    go false r e k = absurd (k refl)
+
+-- ---- claims
+
+owed : (w : Who) (H : List Call) (now : ℕ) (f : FrameRecord) → FrameCase w H now f → owes_claim w H ≡ true
+    → message_of f ≡ claim_from w (claim_address w (address_after w H))
+owed w H now f (claims o e) p = ap content e
+owed w H now f (sends x o h g e) p = absurd (not_both _ o p)
+
+or_true : (a b : Bool) → a ≡ true → (a || b) ≡ true
+or_true a b e = ap (λ (c : Bool). c || b) e
+
+or_right : (a b : Bool) → b ≡ true → (a || b) ≡ true
+or_right true b e = refl
+or_right false b e = e
+
+-- what is owed stays owed until a frame is taken
+still_owed : (w : Who) (later H : List Call) → frames later ≡ [] → owes_claim w H ≡ true → owes_claim w (later ++ H) ≡ true
+still_owed w [] H e o = o
+still_owed w (Hear f ∷ later) H e o = or_true _ _ (still_owed w later H e o)
+still_owed w (Tick now ∷ later) H e o = still_owed w later H e o
+still_owed w (TakeFrame now None ∷ later) H e o = still_owed w later H e o
+still_owed w (TakeFrame now (Some f) ∷ later) H e o = absurd (let a = ap length e in let b = length_one_more (frames later) f in omega (arith, a, b))
+still_owed w (Send now d answer ∷ later) H e o = still_owed w later H e o
+still_owed w (TakeEnded answer ∷ later) H e o = still_owed w later H e o
+still_owed w (TakeReceived answer ∷ later) H e o = still_owed w later H e o
+
+pub next_claim : (w : Who) (H later : List Call) (c : Controller) (now : ℕ) (f g : FrameRecord)
+    → Is w (TakeFrame now (Some g) ∷ later ++ Hear f ∷ H) c → frames later ≡ []
+    → IsTrue (calls_for_claim w (is_lost (address_after w H)) f)
+    → message_of g ≡ claim_from w (claim_address w (address_after w (later ++ Hear f ∷ H)))
+next_claim w H later c now f g is none calls =
+    owed w _ now g (frame w (later ++ Hear f ∷ H) c now g is) (still_owed w later (Hear f ∷ H) none (or_right (owes_claim w H) _ calls))
+
+pub claims_at_once : (w : Who) (H : List Call) (c : Controller) (now : ℕ) (answer : Option FrameRecord) → Is w (TakeFrame now answer ∷ H) c
+    → IsTrue (owes_claim w H) → answer ≢ None
+claims_at_once w H c now (Some f) is o z = absurd (cc)
+claims_at_once w H c now None is o z = go (owes_claim w H) o (sym is.answered.1)
+  where
+    rest : Option (ℕ × Message)
+    rest = if holds w H now then option_map (λ y. (now, y.1)) (slice_get (accepted w H) (length (sent H))) else None
+
+    go : (b : Bool) → b ≡ true → (if b then Some (now, claim_from w (claim_address w (address_after w H))) else rest) ≡ None → ⊥
+    go true e f = absurd (cc)
+    go false e f = absurd (cc)
+
+pub claims_only : (w : Who) (H : List Call) (c : Controller) (now : ℕ) (f : FrameRecord) → Is w (TakeFrame now (Some f) ∷ H) c
+    → pgn_of f.id ≡ address_claimed_group → IsTrue (owes_claim w H)
+claims_only w H c now f is z = go (frame w H c now f is)
+  where
+    go : FrameCase w H now f → owes_claim w H ≡ true
+    go (claims o e) = o
+    go (sends x o h g e) =
+        absurd (not_both _ (message_taken w f now x e (own_get w (accepted w H) (length (sent H)) x (sound w H is.answered.0).own g)) (eq-eqb (pgn_of f.id) address_claimed_group z))
+
+-- ---- who
+
+held_now : (a : Address) (e : ℕ) → is_held (older (e - e) a) ≡ is_held a
+held_now NotClaimed e = refl
+held_now (Claimed n) e = ap (nat_le 250000) (omega arith)
+held_now Lost e = refl
+
+holding_is : (w : Who) (x : Address) (a : ℕ) → (status_of w x ≡ status.Holding a ↔ ((a ≡ w.address) × (is_held x ≡ true)))
+holding_is w NotClaimed a = (λ e. absurd (cc), λ z. absurd (let y = z.1 in cc))
+holding_is w Lost a = (λ e. absurd (cc), λ z. absurd (let y = z.1 in cc))
+holding_is w (Claimed n) a = go (nat_le 250000 n)
+  where
+    go : (b : Bool) → ((if b then status.Holding w.address else status.Claiming w.address) ≡ status.Holding a ↔ ((a ≡ w.address) × (b ≡ true)))
+    go true = (λ e. ((let z : a ≡ w.address = cc in z), refl), λ z. ap status.Holding (sym z.0))
+    go false = (λ e. absurd (cc), λ z. absurd (let y = z.1 in cc))
+
+pub holding : (w : Who) (H : List Call) (a : ℕ) → (status_after w H ≡ status.Holding a ↔ ((a ≡ w.address) × IsTrue (holds w H (moment H))))
+holding w H a =
+    let h = holding_is w (address_after w H) a in
+    let k = held_now (address_after w H) (moment H) in
+    (λ e. ((h.0 e).0, k ∙ (h.0 e).1), λ z. h.1 (z.0, sym k ∙ z.1))
+
+cannot_is : (w : Who) (x : Address) → (status_of w x ≡ status.Cannot ↔ (is_lost x ≡ true))
+cannot_is w NotClaimed = (λ e. absurd (cc), λ z. absurd (cc))
+cannot_is w Lost = (λ e. refl, λ z. refl)
+cannot_is w (Claimed n) = go (nat_le 250000 n)
+  where
+    go : (b : Bool) → ((if b then status.Holding w.address else status.Claiming w.address) ≡ status.Cannot ↔ (false ≡ true))
+    go true = (λ e. absurd (cc), λ z. absurd (cc))
+    go false = (λ e. absurd (cc), λ z. absurd (cc))
+
+pub cannot : (w : Who) (H : List Call) → (status_after w H ≡ status.Cannot ↔ IsTrue (is_lost (address_after w H)))
+cannot w H = cannot_is w (address_after w H)
