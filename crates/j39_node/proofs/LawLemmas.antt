@@ -11,13 +11,13 @@ use Rattle.j39_node.specs.declared.kinds.Ending.{Ending}
 use Rattle.j39_node.specs.declared.kinds.Ending.TheVariants.{Done, Withdrawn}
 use Rattle.j39_node.specs.declared.kinds.Refused.{Refused}
 use Rattle.j39_node.specs.declared.kinds.Refused.TheVariants.{NoAddress, BadValue, Full}
-use Rattle.j39_node.specs.History.{Who, Message, Draft, Call, Address, IsFront, accepted, address_after, calls_for_claim, can_send, claim_address, claim_from, content, frames, got, heard, holds, is_claim, is_for_program, is_full, is_held, is_lost, kept, message_of, missed, moment, older, owes_claim, sent, step, told}
-use Rattle.j39_node.specs.History.Call.{Hear, Tick, TakeFrame, Send, TakeEnded, TakeReceived}
+use Rattle.j39_node.specs.History.{Who, Message, Draft, Call, Address, IsFront, accepted, address_after, calls_for_claim, can_send, claim_address, claim_from, content, frames, got, heard, holds, is_claim, is_for_program, is_full, is_held, is_lost, kept, message_of, missed, moment, older, owes_claim, sent, step, told, Asked, asked, acknowledgment, acknowledged, due, handed, requests, is_served, with_request, with_refusal}
+use Rattle.j39_node.specs.History.Call.{Hear, Tick, TakeFrame, Send, TakeEnded, TakeReceived, TakeRequest, Acknowledge}
 use Rattle.j39_node.specs.History.Address.{NotClaimed, Claimed, Lost}
 use Rattle.j39_node.specs.Is.{Is, AreAnswered, stamped, next_frame, next_ended, end_of, status_of, status_after}
 use Rattle.j39_node.proofs.QueueLemmas.{get_within, length_one_more, length_map, get_map}
-use Rattle.j39_node.proofs.SoundLemmas.{Sound, sound, IsOwn, own_get, FrameCase, frame_case, SendCase, send_case, EndCase, end_case, claim_taken, message_taken}
-use Rattle.j39_node.proofs.SoundLemmas.FrameCase.{claims, sends}
+use Rattle.j39_node.proofs.SoundLemmas.{Sound, sound, front_length, frame_by, due_get, due_taken, IsOwn, own_get, FrameCase, frame_case, SendCase, send_case, EndCase, end_case, claim_taken, message_taken}
+use Rattle.j39_node.proofs.SoundLemmas.FrameCase.{claims, acknowledges, sends}
 use Rattle.j39_node.proofs.SoundLemmas.SendCase.{no_address, bad_value, full, accepts}
 use Rattle.j39_node.proofs.SoundLemmas.EndCase.{done, withdrawn}
 
@@ -31,7 +31,8 @@ moments w H c now f is = go (frame w H c now f is)
   where
     go : FrameCase w H now f → f.stamp ≡ now
     go (claims o e) = ap (λ (x : ℕ × Message). x.0) e
-    go (sends x o h g e) = ap (λ (y : ℕ × Message). y.0) e
+    go (acknowledges m o h g e) = ap (λ (y : ℕ × Message). y.0) e
+    go (sends x o h k g e) = ap (λ (y : ℕ × Message). y.0) e
 
 pub sources : (w : Who) (H : List Call) (c : Controller) (now : ℕ) (f : FrameRecord) → Is w (TakeFrame now (Some f) ∷ H) c
     → (message_of f ≡ claim_from w (claim_address w (address_after w H)))
@@ -41,7 +42,11 @@ sources w H c now f is = go (frame w H c now f is)
     go : FrameCase w H now f → (message_of f ≡ claim_from w (claim_address w (address_after w H)))
         ⊎ (IsTrue (holds w H now) × (source_of f.id ≡ w.address) × (pgn_of f.id ≢ address_claimed_group))
     go (claims o e) = inl (ap content e)
-    go (sends x o h g e) =
+    go (acknowledges m o h g e) =
+        let is_due = due_get w (due w H) (length (acknowledged H)) m (sound w H is.answered.0).desk.0 g in
+        inr (h, ap (λ (y : ℕ × Message). y.1.source) e ∙ is_due.source,
+            λ z. (let a = (due_taken w f now m e is_due).0 in let b = eq-eqb (pgn_of f.id) address_claimed_group z in let d : true ≡ false = sym b ∙ a in absurd (cc)))
+    go (sends x o h k g e) =
         let own = own_get w (accepted w H) (length (sent H)) x (sound w H is.answered.0).own g in
         inr (
           h,
@@ -95,9 +100,6 @@ past_end [] n e = omega arith
 past_end (x ∷ L) zero e = absurd (cc)
 past_end (x ∷ L) (suc n) e = let h = past_end L n e in omega (arith, h)
 
-front_length : {T : Type 0} (xs ys : List T) → IsFront xs ys → length xs ≤ length ys
-front_length xs ys (zs, e) = let b = ap length e in let c = length-append xs zs in omega (arith, b, c)
-
 sent_within : (w : Who) (H : List Call) → Sound w H → length (sent H) ≤ length (accepted w H)
 sent_within w H s = let a = front_length (sent H) (map content (accepted w H)) s.fronts in let b = length_map content (accepted w H) in omega (arith, a, b)
 
@@ -135,20 +137,25 @@ pub withdrawn_means : (w : Who) (H : List Call) (c : Controller) (k : ℕ) (e : 
 withdrawn_means w H c k e is z = (told_is w H c k e is).withdrawn z
 
 pub none_waits : (w : Who) (H : List Call) (c : Controller) (now : ℕ) → Is w (TakeFrame now None ∷ H) c → IsTrue (holds w H now)
-    → length (sent H) ≡ length (accepted w H)
-none_waits w H c now is held = go (owes_claim w H) (holds w H now) (slice_get (accepted w H) (length (sent H))) held refl is.answered.1
+    → (length (sent H) ≡ length (accepted w H)) × (length (acknowledged H) ≡ length (due w H))
+none_waits w H c now is held =
+    go (owes_claim w H) (holds w H now) (slice_get (due w H) (length (acknowledged H))) (slice_get (accepted w H) (length (sent H))) held refl refl is.answered.1
   where
-    go : (o q : Bool) (z : Option (ℕ × Message)) → q ≡ true → slice_get (accepted w H) (length (sent H)) ≡ z
-        → (let none : Option (ℕ × Message) = None in none)
-        ≡ (if o then Some (now, claim_from w (claim_address w (address_after w H))) else if q then option_map (λ y. (now, y.1)) z else None)
-        → length (sent H) ≡ length (accepted w H)
-    go true q z a b e = absurd (cc)
-    go false false z a b e = absurd (cc)
-    go false true (Some y) a b e = absurd (cc)
-    go false true None a b e =
-        let d = past_end (accepted w H) (length (sent H)) b in
-        let f = sent_within w H (sound w H is.answered.0) in
-        omega (arith, d, f)
+    go : (o q : Bool) (a : Option Message) (z : Option (ℕ × Message)) → q ≡ true → slice_get (due w H) (length (acknowledged H)) ≡ a
+        → slice_get (accepted w H) (length (sent H)) ≡ z
+        → (let none : Option (ℕ × Message) = None in none) ≡ frame_by o q a z (claim_from w (claim_address w (address_after w H))) now
+        → (length (sent H) ≡ length (accepted w H)) × (length (acknowledged H) ≡ length (due w H))
+    go true q a z b d f e = absurd (cc)
+    go false false a z b d f e = absurd (cc)
+    go false true (Some m) z b d f e = absurd (cc)
+    go false true None (Some y) b d f e = absurd (cc)
+    go false true None None b d f e =
+        let s = sound w H is.answered.0 in
+        let x = past_end (accepted w H) (length (sent H)) f in
+        let y = sent_within w H s in
+        let u = past_end (due w H) (length (acknowledged H)) d in
+        let v = front_length (acknowledged H) (due w H) s.desk.1 in
+        (omega (arith, x, y), omega (arith, u, v))
 
 -- ---- what send answers
 
@@ -250,6 +257,8 @@ counted w (TakeFrame now answer ∷ H) = counted w H
 counted w (Send now d answer ∷ H) = counted w H
 counted w (TakeEnded answer ∷ H) = counted w H
 counted w (TakeReceived answer ∷ H) = counted w H
+counted w (TakeRequest answer ∷ H) = counted w H
+counted w (Acknowledge now r answer result ∷ H) = counted w H
 
 pub missed_full : (w : Who) (H : List Call) (f : FrameRecord) → missed w (Hear f ∷ H) ≢ missed w H → length (got H) + 16 ≤ length (kept w H)
 missed_full w H f n = go (is_for_program w (holds w H f.stamp) f) (nat_lt (length (kept w H) - length (got H)) 16) refl n
@@ -268,7 +277,8 @@ missed_full w H f n = go (is_for_program w (holds w H f.stamp) f) (nat_lt (lengt
 owed : (w : Who) (H : List Call) (now : ℕ) (f : FrameRecord) → FrameCase w H now f → owes_claim w H ≡ true
     → message_of f ≡ claim_from w (claim_address w (address_after w H))
 owed w H now f (claims o e) p = ap content e
-owed w H now f (sends x o h g e) p = absurd (not_both _ o p)
+owed w H now f (acknowledges m o h g e) p = absurd (not_both _ o p)
+owed w H now f (sends x o h k g e) p = absurd (not_both _ o p)
 
 or_true : (a b : Bool) → a ≡ true → (a || b) ≡ true
 or_true a b e = ap (λ (c : Bool). c || b) e
@@ -287,6 +297,8 @@ still_owed w (TakeFrame now (Some f) ∷ later) H e o = absurd (let a = ap lengt
 still_owed w (Send now d answer ∷ later) H e o = still_owed w later H e o
 still_owed w (TakeEnded answer ∷ later) H e o = still_owed w later H e o
 still_owed w (TakeReceived answer ∷ later) H e o = still_owed w later H e o
+still_owed w (TakeRequest answer ∷ later) H e o = still_owed w later H e o
+still_owed w (Acknowledge now r answer result ∷ later) H e o = still_owed w later H e o
 
 pub next_claim : (w : Who) (H later : List Call) (c : Controller) (now : ℕ) (f g : FrameRecord)
     → Is w (TakeFrame now (Some g) ∷ later ++ Hear f ∷ H) c → frames later ≡ []
@@ -298,14 +310,13 @@ next_claim w H later c now f g is none calls =
 pub claims_at_once : (w : Who) (H : List Call) (c : Controller) (now : ℕ) (answer : Option FrameRecord) → Is w (TakeFrame now answer ∷ H) c
     → IsTrue (owes_claim w H) → answer ≢ None
 claims_at_once w H c now (Some f) is o z = absurd (cc)
-claims_at_once w H c now None is o z = go (owes_claim w H) o (sym is.answered.1)
+claims_at_once w H c now None is o z =
+    go (owes_claim w H) (slice_get (due w H) (length (acknowledged H))) (slice_get (accepted w H) (length (sent H))) o is.answered.1
   where
-    rest : Option (ℕ × Message)
-    rest = if holds w H now then option_map (λ y. (now, y.1)) (slice_get (accepted w H) (length (sent H))) else None
-
-    go : (b : Bool) → b ≡ true → (if b then Some (now, claim_from w (claim_address w (address_after w H))) else rest) ≡ None → ⊥
-    go true e f = absurd (cc)
-    go false e f = absurd (cc)
+    go : (b : Bool) (a : Option Message) (y : Option (ℕ × Message)) → b ≡ true
+        → (let none : Option (ℕ × Message) = None in none) ≡ frame_by b (holds w H now) a y (claim_from w (claim_address w (address_after w H))) now → ⊥
+    go true a y e f = absurd (cc)
+    go false a y e f = absurd (cc)
 
 pub claims_only : (w : Who) (H : List Call) (c : Controller) (now : ℕ) (f : FrameRecord) → Is w (TakeFrame now (Some f) ∷ H) c
     → pgn_of f.id ≡ address_claimed_group → IsTrue (owes_claim w H)
@@ -313,7 +324,9 @@ claims_only w H c now f is z = go (frame w H c now f is)
   where
     go : FrameCase w H now f → owes_claim w H ≡ true
     go (claims o e) = o
-    go (sends x o h g e) =
+    go (acknowledges m o h g e) =
+        absurd (not_both _ (due_taken w f now m e (due_get w (due w H) (length (acknowledged H)) m (sound w H is.answered.0).desk.0 g)).0 (eq-eqb (pgn_of f.id) address_claimed_group z))
+    go (sends x o h k g e) =
         absurd (not_both _ (message_taken w f now x e (own_get w (accepted w H) (length (sent H)) x (sound w H is.answered.0).own g)) (eq-eqb (pgn_of f.id) address_claimed_group z))
 
 -- ---- who

@@ -109,3 +109,6 @@ get_append (z ∷ L) y (suc i) x e = elim (get_append L y i x e) [
   | inl old ↦ inl old
   | inr new ↦ inr (ap suc new.0, new.1)
 ]
+
+pub none_left : {T : Type 0} (xs : List T) (b : Bool) → b ≡ (length xs == 0) → b ≡ true → length xs ≡ 0
+none_left xs b e f = eqb-true (length xs) 0 (sym e ∙ f)

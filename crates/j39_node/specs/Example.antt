@@ -8,7 +8,7 @@ use Rattle.j39_node.specs.History.Call.{Hear, Tick, TakeFrame, Send, TakeEnded, 
 
 -- NAME 2 at address 128
 abbrev pub two : Who
-two = record { name = 2; address = 128 }
+two = record { name = 2; address = 128; served = [] }
 
 -- its claim, and 'cannot claim'
 abbrev pub own_claim : ℕ → FrameRecord

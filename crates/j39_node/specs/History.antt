@@ -1,6 +1,6 @@
 -- Histories of a controller's calls, each with its arguments, its moment and its answer, the newest first; and what a
 -- history says. All lists of messages have the oldest first.
-use Rattle.std.specs.Prelude.{◌≡◌, ℕ, suc, ◌+◌, ◌-◌, ◌%◌, ◌/◌, ◌++◌, ◌&&◌, ◌||◌, nat_lt, nat_le, nat_eq, not, Bool, true, false, List, [], ◌∷◌, length, Option, Some, None, Result, Ok, if◌then◌else◌}
+use Rattle.std.specs.Prelude.{◌≡◌, ℕ, suc, ◌+◌, ◌-◌, ◌%◌, ◌/◌, ◌++◌, ◌&&◌, ◌||◌, ◌==◌, nat_lt, nat_le, nat_eq, not, Bool, true, false, List, [], ◌∷◌, length, Option, Some, None, Result, Ok, if◌then◌else◌}
 use Rattle.byteorder.specs.Endian.{little_bytes, little_number}
 use Rattle.j39_frame.specs.Address.{null_address, global_address}
 use Rattle.j39_frame.specs.Frame.{FrameRecord}
@@ -9,11 +9,15 @@ use Rattle.j39_frame.specs.Network.{address_claimed_group, request_group, transp
 use Rattle.j39_address.specs.Claim.{Claim, claim_of}
 use Rattle.j39_node.specs.declared.kinds.Ending.{Ending}
 use Rattle.j39_node.specs.declared.kinds.Refused.{Refused}
+use Rattle.j39_node.specs.declared.kinds.Answer.{Answer}
+use Rattle.j39_node.specs.declared.kinds.Answer.TheVariants.{Ack, Nack, Denied, Busy}
+use Rattle.std.specs.List.{list_any}
 
--- the NAME of a controller, and the address that it claims
+-- the NAME of a controller, the address that it claims, and the groups that its program serves
 pub record Who : Type 0 where
   pub name : ℕ
   pub address : ℕ
+  pub served : List ℕ
 
 -- what a frame carries: who sends it, to whom (none for a group of PF 240 and up), and what
 pub record Message : Type 0 where
@@ -22,6 +26,12 @@ pub record Message : Type 0 where
   pub priority : ℕ
   pub group : ℕ
   pub bytes : List ℕ
+
+-- who asks, whom, and for which group
+pub record Asked : Type 0 where
+  pub source : ℕ
+  pub destination : ℕ
+  pub group : ℕ
 
 -- what is handed in to be sent
 pub record Draft : Type 0 where
@@ -37,6 +47,8 @@ pub data Call : Type 0 where
   Send : ℕ → Draft → Result ℕ Refused → Call
   TakeEnded : Option (ℕ × Ending) → Call
   TakeReceived : Option (ℕ × Message) → Call
+  TakeRequest : Option Asked → Call
+  Acknowledge : ℕ → Asked → Answer → Result (Unit {0}) Refused → Call
 
 -- what a frame of this identifier and these bytes carries
 abbrev pub carried : ℕ → List ℕ → Message
@@ -68,6 +80,7 @@ moment (Hear f ∷ H) = f.stamp
 moment (Tick now ∷ H) = now
 moment (TakeFrame now answer ∷ H) = now
 moment (Send now draft answer ∷ H) = now
+moment (Acknowledge now asked answer result ∷ H) = now
 moment (call ∷ H) = moment H
 
 -- the microseconds from the last call to this moment; time that goes back is no time
@@ -114,6 +127,7 @@ address_after w (TakeFrame now None ∷ H) = older (step H now) (address_after w
 address_after w (TakeFrame now (Some f) ∷ H) =
     if is_claim f then claimed (older (step H now) (address_after w H)) else older (step H now) (address_after w H)
 address_after w (Send now draft answer ∷ H) = older (step H now) (address_after w H)
+address_after w (Acknowledge now asked answer result ∷ H) = older (step H now) (address_after w H)
 address_after w (call ∷ H) = address_after w H
 
 abbrev pub is_lost : Address → Bool
@@ -188,12 +202,16 @@ abbrev pub is_own_group : ℕ → Bool
 is_own_group group =
     nat_eq group transport_control_group || (nat_eq group transport_data_group || nat_eq group address_claimed_group)
 
--- what may be sent: a group that an identifier can have, and none of the stack's, to all or to the address of another, in
--- one frame
+-- an acknowledgment, positive or not (J1939-21, 5.4.4)
+abbrev pub acknowledgment_group : ℕ
+acknowledgment_group = 59392
+
+-- what may be sent: a group that an identifier can have, and none of the stack's nor an acknowledgment, to all or to the
+-- address of another, in one frame
 abbrev pub can_send : Who → Draft → Bool
 can_send w d =
     nat_lt d.priority 8 && (not (is_directed d.group && not (nat_eq (d.group % 256) 0))
-    && (not (is_own_group d.group)
+    && (not (is_own_group d.group || nat_eq d.group acknowledgment_group)
     && ((nat_eq d.to global_address || (nat_lt d.to null_address && not (nat_eq d.to w.address)))
     && nat_le (length d.bytes) 8)))
 
@@ -213,10 +231,13 @@ accepted w [] = []
 accepted w (Send now draft (Ok token) ∷ H) = accepted w H ++ (token, message_from w draft) ∷ []
 accepted w (call ∷ H) = accepted w H
 
+abbrev pub is_acknowledgment : FrameRecord → Bool
+is_acknowledgment f = nat_eq (pgn_of f.id) acknowledgment_group
+
 -- the messages whose frames were taken
 abbrev pub sent : List Call → List Message
 sent [] = []
-sent (TakeFrame now (Some f) ∷ H) = if is_claim f then sent H else sent H ++ message_of f ∷ []
+sent (TakeFrame now (Some f) ∷ H) = if is_claim f || is_acknowledgment f then sent H else sent H ++ message_of f ∷ []
 sent (call ∷ H) = sent H
 
 -- all frames that were taken
@@ -275,3 +296,85 @@ missed w (Hear f ∷ H) =
     then suc (missed w H)
     else missed w H
 missed w (call ∷ H) = missed w H
+
+-- ---- requests (J1939-21, 5.4.2), and their acknowledgments (5.4.4)
+
+abbrev pub is_served : Who → ℕ → Bool
+is_served w group = list_any (λ g. g == group) w.served
+
+-- a request of an address for a group, and not for claims, to all or to the address that is held
+abbrev pub is_request : Who → Bool → FrameRecord → ℕ → ℕ → Bool
+is_request w held f to group =
+    (held && nat_lt (source_of f.id) null_address) && ((nat_lt group 262144 && not (nat_eq group address_claimed_group))
+        && (nat_eq to global_address || nat_eq to w.address))
+
+abbrev pub asked_with : Who → Bool → FrameRecord → Option ℕ → Option ℕ → Option Asked
+asked_with w held f (Some to) (Some group) =
+    if is_request w held f to group
+    then Some (record { source = source_of f.id; destination = to; group = group })
+    else None
+asked_with w held f None group = None
+asked_with w held f (Some to) None = None
+
+-- what the frame asks of the controller
+abbrev pub asked : Who → Bool → FrameRecord → Option Asked
+asked w held f = asked_with w held f (destination_of f.id) (asked_group f)
+
+-- positive, negative, access denied, cannot respond now
+abbrev pub control_of : Answer → ℕ
+control_of Ack = 0
+control_of Nack = 1
+control_of Denied = 2
+control_of Busy = 3
+
+-- the acknowledgment of a request: priority 6, to all, with who asked and for what
+abbrev pub acknowledgment : Who → Answer → Asked → Message
+acknowledgment w answer r = record {
+  source = w.address;
+  destination = Some global_address;
+  priority = 6;
+  group = acknowledgment_group;
+  bytes = control_of answer ∷ 255 ∷ 255 ∷ 255 ∷ r.source ∷ r.group % 256 ∷ r.group / 256 % 256 ∷ r.group / 65536 % 256 ∷ [];
+}
+
+-- the requests that the program was handed
+abbrev pub handed : List Call → List Asked
+handed [] = []
+handed (TakeRequest (Some r) ∷ H) = handed H ++ r ∷ []
+handed (call ∷ H) = handed H
+
+-- a request for a served group waits, if there is room
+abbrev pub with_request : Who → Bool → Option Asked → List Asked → List Asked
+with_request w room None waiting = waiting
+with_request w room (Some r) waiting = if is_served w r.group && room then waiting ++ r ∷ [] else waiting
+
+-- the requests for the program: those that came while fewer than sixteen waited
+abbrev pub requests : Who → List Call → List Asked
+requests w [] = []
+requests w (Hear f ∷ H) =
+    with_request w (nat_lt (length (requests w H) - length (handed H)) 16) (asked w (holds w H f.stamp) f) (requests w H)
+requests w (call ∷ H) = requests w H
+
+-- the acknowledgments whose frames were taken
+abbrev pub acknowledged : List Call → List Message
+acknowledged [] = []
+acknowledged (TakeFrame now (Some f) ∷ H) =
+    if is_claim f || not (is_acknowledgment f) then acknowledged H else acknowledged H ++ message_of f ∷ []
+acknowledged (call ∷ H) = acknowledged H
+
+-- how the controller itself answers a request to its address: what isn't served is refused; what is, if there is no room
+abbrev pub with_refusal : Who → Bool → Bool → Option Asked → List Message → List Message
+with_refusal w room place None due = due
+with_refusal w room place (Some r) due =
+    if (nat_eq r.destination w.address && place) && not (is_served w r.group && room)
+    then due ++ acknowledgment w (if is_served w r.group then Busy else Nack) r ∷ []
+    else due
+
+-- the acknowledgments that are due, and were: at most sixteen wait
+abbrev pub due : Who → List Call → List Message
+due w [] = []
+due w (Hear f ∷ H) =
+    with_refusal w (nat_lt (length (requests w H) - length (handed H)) 16) (nat_lt (length (due w H) - length (acknowledged H)) 16)
+        (asked w (holds w H f.stamp) f) (due w H)
+due w (Acknowledge now r answer (Ok x) ∷ H) = due w H ++ acknowledgment w answer r ∷ []
+due w (call ∷ H) = due w H

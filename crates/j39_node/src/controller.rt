@@ -1,5 +1,5 @@
 //! A controller.
-ghost use Rattle.std.specs.Prelude.{◌≡◌, ℕ, List, [], ◌∷◌, ◌↔◌, ◌&&◌, ◌||◌, ◌==◌, nat_eq, nat_lt, if◌then◌else◌, min, IsSome, IfSome, Some, length, map, ◌<◌, false};
+ghost use Rattle.std.specs.Prelude.{◌≡◌, ℕ, List, [], ◌∷◌, ◌↔◌, ◌&&◌, ◌||◌, ◌==◌, nat_eq, nat_lt, if◌then◌else◌, min, IsSome, IfSome, Some, length, map, ◌<◌, ◌≤◌, false};
 ghost use Rattle.std.specs.Option.{option_map};
 ghost use Rattle.j39_frame.specs.Address.{IsAddress, null_address};
 ghost use Rattle.j39_frame.specs.Pgn.{pgn_raw};
@@ -7,14 +7,15 @@ ghost use Rattle.j39_frame.specs.Stamp.{stamp_micros};
 ghost use Rattle.j39_address.specs.Name.{name_raw};
 ghost use Rattle.j39_node.specs.History.{Who, Call, missed};
 ghost use Rattle.j39_node.specs.Hold.{lost};
-ghost use Rattle.j39_node.specs.History.Call.{Hear, Tick, TakeFrame, Send, TakeEnded, TakeReceived};
-ghost use Rattle.j39_node.specs.Is.{Is, received_by, status_after, who_of};
+ghost use Rattle.j39_node.specs.History.Call.{Hear, Tick, TakeFrame, Send, TakeEnded, TakeReceived, TakeRequest, Acknowledge};
+ghost use Rattle.j39_node.specs.Is.{Is, received_by, request_by, status_after, who_of};
 
 use crate::hold::{Hold, Standing};
 use crate::outgoing::Outgoing;
-use crate::own::Own;
+use crate::own::{Own, numbers};
 use crate::received::Inbox;
-use crate::{Ending, Received, Refused};
+use crate::requests::{Desk, Due, asked};
+use crate::{Answer, Ending, Received, Refused, Request};
 use arrayvec::ArrayVec;
 use j39_address::{Name, Status};
 use j39_frame::{Frame, NULL_ADDRESS, Pgn, Stamp, is_address};
@@ -31,23 +32,30 @@ pub struct Controller {
     taken: usize,
     next_token: u64,
     inbox: Inbox,
+    desk: Desk,
 }
 
 impl Controller {
-    ghost use Rattle.std.specs.Prelude.{◌≡◌, ℕ, List, [], ◌∷◌, ◌↔◌, min, IsSome, IfSome};
+    ghost use Rattle.std.specs.Prelude.{◌≡◌, ℕ, List, [], ◌∷◌, ◌↔◌, ◌≤◌, length, map, min, IsSome, IfSome};
     ghost use Rattle.j39_node.specs.Is.{Is};
     ghost use Rattle.j39_node.specs.History.{Who, Call};
 
-    /// A controller of this NAME that will claim this address; `None` above 253.
-    pub fn new(name: Name, address: u8) -> Option<Controller>
-        ensures known { IsSome result ↔ IsAddress address }
-        ensures is { IfSome result (λ c. Is (record { name = name_raw name; address = address }) [] c) }
+    /// A controller of this NAME that will claim this address, and whose program serves these groups; `None` for an address
+    /// above 253, or more than 16 groups.
+    pub fn new(name: Name, address: u8, served: &[Pgn]) -> Option<Controller>
+        ensures known { IsSome result ↔ (IsAddress address × (length served.now ≤ 16)) }
+        ensures is { IfSome result (λ c. Is (record { name = name_raw name; address = address; served = map pgn_raw served.now }) [] c) }
     {
         if !is_address(address) {
             return None;
         }
+        let served = numbers(served)?;
         Some(Controller {
-            own: Own { name, address },
+            own: Own {
+                name,
+                address,
+                served,
+            },
             hold: Hold {
                 moment: 0,
                 standing: Standing::Idle,
@@ -59,6 +67,10 @@ impl Controller {
             inbox: Inbox {
                 unread: ArrayVec::new(),
                 missed: 0,
+            },
+            desk: Desk {
+                waiting: ArrayVec::new(),
+                due: ArrayVec::new(),
             },
         })
     }
@@ -92,8 +104,11 @@ impl Controller {
         ensures { (w : Who) (H : List Call) → Is w H self.old → Is w (Hear frame.now ∷ H) self.new }
     {
         self.hold = self.hold.passed(frame.stamp);
-        let wanted = self.own.is_for_program(self.hold.is_held(), frame);
+        let is_held = self.hold.is_held();
+        let wanted = self.own.is_for_program(is_held, frame);
         self.inbox.offer(wanted, frame);
+        let request = asked(&self.own, is_held, frame);
+        self.desk.hear(&self.own, request);
         let drives_away = self.own.is_driven_away(frame);
         let calls = self.own.calls_for_claim(self.hold.is_lost(), frame);
         self.hold = self.hold.heard(drives_away, calls);
@@ -119,6 +134,10 @@ impl Controller {
         }
         if !self.hold.is_held() {
             return None;
+        }
+        if !self.desk.due.is_empty() {
+            let due = self.desk.due.remove(0);
+            return self.own.acknowledgment(&due, now);
         }
         match self.outgoing.as_slice().get(self.taken) {
             Some(next) => {
@@ -147,7 +166,7 @@ impl Controller {
         if !self.hold.is_held() {
             return Err(Refused::NoAddress);
         }
-        match Outgoing::new(self.next_token, self.own, priority, group, to, bytes) {
+        match Outgoing::new(self.next_token, &self.own, priority, group, to, bytes) {
             Some(message) => {
                 if self.is_full() {
                     return Err(Refused::Full);
@@ -190,6 +209,39 @@ impl Controller {
         }
         let first = self.inbox.unread.remove(0);
         Some(first)
+    }
+
+    /// A request for a served group, each once, the oldest first. Answer it by `acknowledge`, or by `send` of its group: to
+    /// all where all were asked, else to who asked.
+    pub fn take_request(&mut self) -> Option<Request>
+        ensures { (w : Who) (H : List Call) → Is w H self.old
+            → Is w (TakeRequest (option_map request_by result) ∷ H) self.new }
+    {
+        if self.desk.waiting.is_empty() {
+            return None;
+        }
+        let first = self.desk.waiting.remove(0);
+        Some(first)
+    }
+
+    /// Acknowledges a request to its address; `BadValue` for one to all, which is never acknowledged, `Full` while sixteen
+    /// acknowledgments are due.
+    pub fn acknowledge(&mut self, now: Stamp, request: Request, answer: Answer) -> Result<(), Refused>
+        ensures { (w : Who) (H : List Call) → Is w H self.old
+            → Is w (Acknowledge (stamp_micros now) (request_by request) answer result ∷ H) self.new }
+    {
+        self.hold = self.hold.passed(now);
+        if !self.hold.is_held() {
+            return Err(Refused::NoAddress);
+        }
+        if request.destination != self.own.address {
+            return Err(Refused::BadValue);
+        }
+        if self.desk.due.is_full() {
+            return Err(Refused::Full);
+        }
+        self.desk.due.push(Due { answer, request });
+        Ok(())
     }
 
     /// A claim goes before all else.

@@ -1,4 +1,6 @@
 //! What calls answer.
+ghost use Rattle.std.specs.Prelude.{◌≡◌};
+ghost use Rattle.j39_node.specs.History.{control_of};
 
 /// How a message that was accepted ended.
 #[derive(Clone, Copy, Debug, PartialEq, Eq)]
@@ -19,4 +21,31 @@ pub enum Refused {
     BadValue,
     /// Sixteen messages are accepted and not told to have ended.
     Full,
+}
+
+/// How a request is acknowledged (J1939-21, 5.4.4).
+#[derive(Clone, Copy, Debug, PartialEq, Eq)]
+pub enum Answer {
+    /// Positive: what was asked for is done.
+    Ack,
+    /// Negative: the group isn't supported.
+    Nack,
+    /// Access is denied.
+    Denied,
+    /// It can't respond now.
+    Busy,
+}
+
+impl Answer {
+    /// The control byte.
+    pub(crate) fn control(self) -> u8
+        ensures { result ≡ control_of self }
+    {
+        match self {
+            Answer::Ack => 0,
+            Answer::Nack => 1,
+            Answer::Denied => 2,
+            Answer::Busy => 3,
+        }
+    }
 }

@@ -10,7 +10,7 @@ ghost use Rattle.j39_node.specs.declared.kinds.Ending.{Ending};
 ghost use Rattle.j39_node.specs.declared.kinds.Ending.TheVariants as ending;
 ghost use Rattle.j39_node.specs.declared.kinds.Refused.{Refused};
 ghost use Rattle.j39_node.specs.declared.kinds.Refused.TheVariants as refused;
-ghost use Rattle.j39_node.specs.History.{Who, Call, Message, Draft, IsFront, accepted, address_after, calls_for_claim, can_send, claim_address, claim_from, content, frames, got, heard, holds, is_lost, kept, message_of, missed, moment, owes_claim, sent, told};
+ghost use Rattle.j39_node.specs.History.{Who, Call, Message, Draft, IsFront, accepted, address_after, calls_for_claim, can_send, claim_address, claim_from, content, acknowledged, due, frames, got, heard, holds, is_lost, kept, message_of, missed, moment, owes_claim, sent, told};
 ghost use Rattle.j39_node.specs.History.Call.{Hear, TakeFrame, Send, TakeEnded, TakeReceived};
 ghost use Rattle.j39_node.specs.Example.{example, two};
 ghost use Rattle.j39_node.specs.Is.{AreAnswered, Is, status_after};
@@ -38,7 +38,7 @@ pub fn accounted_once()
         × (IsTrue (is_lost (address_after w H)) → length (told H) ≡ length (accepted w H)) }
 {}
 
-/// The frames taken that are no claims are the messages accepted, in order, none left out. One is told as done where its frame
+/// The frames taken that are no claims and no acknowledgments are the messages accepted, in order, none left out. One is told as done where its frame
 /// was taken, and only there; as withdrawn only where the address is lost. Where an address is held and no frame is taken, none
 /// waits.
 pub fn done_means()
@@ -49,7 +49,8 @@ pub fn done_means()
     ensures withdrawn { (w : Who) (H : List Call) (c : Controller) (k : ℕ) (e : Ending)
         → Is w (TakeEnded (Some (k, e)) ∷ H) c → e ≡ ending.Withdrawn → IsTrue (is_lost (address_after w H)) }
     ensures none_waits { (w : Who) (H : List Call) (c : Controller) (now : ℕ) → Is w (TakeFrame now None ∷ H) c
-        → IsTrue (holds w H now) → length (sent H) ≡ length (accepted w H) }
+        → IsTrue (holds w H now)
+        → (length (sent H) ≡ length (accepted w H)) × (length (acknowledged H) ≡ length (due w H)) }
 {}
 
 /// What `send` answers: `NoAddress` where no address is held, `BadValue` where the message can't be sent, `Full` where sixteen

@@ -8,7 +8,9 @@ pub mod laws;
 mod outgoing;
 mod own;
 mod received;
+mod requests;
 
 pub use controller::Controller;
-pub use kinds::{Ending, Refused};
+pub use kinds::{Answer, Ending, Refused};
 pub use received::Received;
+pub use requests::Request;

@@ -6,7 +6,7 @@ ghost use Rattle.j39_frame.specs.Stamp.{stamp_micros};
 ghost use Rattle.j39_node.specs.History.{can_send, message_from, is_directed};
 ghost use Rattle.j39_node.specs.Is.{who_of, posted, stamped};
 
-use crate::own::{Own, is_own_group};
+use crate::own::{ACKNOWLEDGMENT, Own, is_own_group};
 use arrayvec::ArrayVec;
 use j39_frame::{Frame, GLOBAL_ADDRESS, Id, NULL_ADDRESS, Pgn, Stamp};
 
@@ -32,17 +32,17 @@ impl Outgoing {
     /// The message of this controller; `None` where it can't be sent.
     pub(crate) fn new(
         token: u64,
-        own: Own,
+        own: &Own,
         priority: u8,
         group: Pgn,
         to: u8,
         bytes: &[u8],
     ) -> Option<Outgoing>
-        ensures known { IsSome result ↔ (can_send (who_of own) (record
+        ensures known { IsSome result ↔ (can_send (who_of own.now) (record
             { priority = priority; group = pgn_raw group; to = to; bytes = bytes.now }) ≡ true) }
         ensures value { IfSome result (λ x. posted x ≡ (
           token,
-          message_from (who_of own) (record
+          message_from (who_of own.now) (record
               { priority = priority; group = pgn_raw group; to = to; bytes = bytes.now }),
         )) }
     {
@@ -67,13 +67,13 @@ impl Outgoing {
     }
 }
 
-fn can_send(own: Own, priority: u8, group: Pgn, to: u8, bytes: &[u8]) -> bool
-    ensures { result ≡ can_send (who_of own) (record
+fn can_send(own: &Own, priority: u8, group: Pgn, to: u8, bytes: &[u8]) -> bool
+    ensures { result ≡ can_send (who_of own.now) (record
         { priority = priority; group = pgn_raw group; to = to; bytes = bytes.now }) }
 {
     priority < 8
         && !(is_directed(group) && !(group.raw() & 0xFF == 0))
-        && !is_own_group(group)
+        && !(is_own_group(group) || group.raw() == ACKNOWLEDGMENT)
         && (to == GLOBAL_ADDRESS || (to < NULL_ADDRESS && !(to == own.address)))
         && bytes.len() <= 8
 }

@@ -16,5 +16,7 @@ returns c = λ w H h.
       taken = h.taken;
       token = h.token;
       unread = f.rest ∙ ap (λ (n : ℕ). drop n (kept w H)) (sym (length_one_more (got H) (received_by c.remove-first.result)));
+      requests = h.requests;
+      acknowledgments = h.acknowledgments;
       missed = h.missed;
     }
