@@ -90,8 +90,8 @@ next_is : (w : Who) (H : List Call) (now : ℕ) (a : Option Message) (o : Option
 next_is w H now a o e f g k =
     ap (λ (b : Bool). frame_by b (holds w H now) (slice_get (due w H) (length (acknowledged H))) (slice_get (accepted w H) (length (sent H))) claim now) e
     ∙ (ap (λ (b : Bool). frame_by false b (slice_get (due w H) (length (acknowledged H))) (slice_get (accepted w H) (length (sent H))) claim now) f
-        ∙ (ap (λ (x : Option Message). frame_by false true x (slice_get (accepted w H) (length (sent H))) claim now) g
-            ∙ ap (λ (x : Option (ℕ × Message)). frame_by false true a x claim now) k))
+    ∙ (ap (λ (x : Option Message). frame_by false true x (slice_get (accepted w H) (length (sent H))) claim now) g
+    ∙ ap (λ (x : Option (ℕ × Message)). frame_by false true a x claim now) k))
   where
     claim : Message
     claim = claim_from w (claim_address w (address_after w H))
@@ -246,8 +246,8 @@ posts w H old new now d x h p held can room is e0 e1 e2 e3 e4 e5 =
       token = (let a = h.token in let b = length_one_more (accepted w H) (old.next_token, message_from w d) in omega (arith, a, b, e1));
       unread = ap (λ o. map received_by o.unread.items) e4 ∙ h.unread;
       requests = ap (λ d. map request_by d.waiting.items) e5 ∙ h.requests;
-  acknowledgments = ap (λ d. map (refusal_by w) d.due.items) e5 ∙ h.acknowledgments;
-  missed = ap (λ o. o.missed) e4 ∙ h.missed;
+      acknowledgments = ap (λ d. map (refusal_by w) d.due.items) e5 ∙ h.acknowledgments;
+      missed = ap (λ o. o.missed) e4 ∙ h.missed;
     }
   where
     answer : (a b f : Bool) → a ≡ true → b ≡ true → f ≡ false
@@ -310,10 +310,10 @@ pub heard_more : (w : Who) (H : List Call) (old new : Controller) (f : FrameReco
     → new.inbox.missed ≡ counted wanted (map received_by old.inbox.unread.items) old.inbox.missed
     → gone ≡ is_smaller (who_of old.own) (claim_of f) → away ≡ lost mid.standing → calls ≡ calls_for_claim (who_of old.own) away f
     → map request_by new.desk.waiting.items
-        ≡ with_request (who_of old.own) (nat_lt (length old.desk.waiting.items) 16) o (map request_by old.desk.waiting.items)
+    ≡ with_request (who_of old.own) (nat_lt (length old.desk.waiting.items) 16) o (map request_by old.desk.waiting.items)
     → map (refusal_by (who_of old.own)) new.desk.due.items
-        ≡ with_refusal (who_of old.own) (nat_lt (length old.desk.waiting.items) 16) (nat_lt (length old.desk.due.items) 16) o
-            (map (refusal_by (who_of old.own)) old.desk.due.items)
+    ≡ with_refusal (who_of old.own) (nat_lt (length old.desk.waiting.items) 16) (nat_lt (length old.desk.due.items) 16) o
+    (map (refusal_by (who_of old.own)) old.desk.due.items)
     → o ≡ asked (who_of old.own) held f
     → new.hold ≡ heard gone calls mid → new.own ≡ old.own → new.outgoing ≡ old.outgoing → new.taken ≡ old.taken → new.next_token ≡ old.next_token
     → Is w (Hear f ∷ H) new
@@ -324,11 +324,11 @@ heard_more w H old new f mid held wanted away gone calls o h p e1 e2 e3 e4 e5 e6
     let lost_before : away ≡ is_lost (address_after w H) =
     e6 ∙ (ap lost p.standing ∙ (lost_is (older (step H f.stamp) (address_after w H)) ∙ lost_older (step H f.stamp) (address_after w H))) in
     let asks_for : o ≡ asked w (holds w H f.stamp) f =
-        q3 ∙ (ap (λ (v : Who). asked v held f) h.who ∙ ap (λ (b : Bool). asked w b f) (holds_is w H f.stamp mid held p e1)) in
+    q3 ∙ (ap (λ (v : Who). asked v held f) h.who ∙ ap (λ (b : Bool). asked w b f) (holds_is w H f.stamp mid held p e1)) in
     let room : nat_lt (length old.desk.waiting.items) 16 ≡ nat_lt (length (requests w H) - length (handed H)) 16 =
-        ap (λ (n : ℕ). nat_lt n 16) (length_rest request_by old.desk.waiting.items (length (handed H)) (requests w H) h.requests) in
+    ap (λ (n : ℕ). nat_lt n 16) (length_rest request_by old.desk.waiting.items (length (handed H)) (requests w H) h.requests) in
     let place : nat_lt (length old.desk.due.items) 16 ≡ nat_lt (length (due w H) - length (acknowledged H)) 16 =
-        ap (λ (n : ℕ). nat_lt n 16) (length_rest (refusal_by w) old.desk.due.items (length (acknowledged H)) (due w H) h.acknowledgments) in
+    ap (λ (n : ℕ). nat_lt n 16) (length_rest (refusal_by w) old.desk.due.items (length (acknowledged H)) (due w H) h.acknowledgments) in
     let goes : gone ≡ is_smaller w (claim_of f) = e5 ∙ ap (λ (v : Who). is_smaller v (claim_of f)) h.who in
     let asks : calls ≡ calls_for_claim w (is_lost (address_after w H)) f =
     e7 ∙ (ap (λ (v : Who). calls_for_claim v away f) h.who ∙ ap (λ (b : Bool). calls_for_claim w b f) lost_before) in
@@ -347,14 +347,14 @@ heard_more w H old new f mid held wanted away gone calls o h p e1 e2 e3 e4 e5 e6
           ∙ kept_rest (is_for_program w (holds w H f.stamp) f) (kept w H) _ (length (got H)) (stamped f) (read w H s) h.unread);
       requests = q1 ∙ (ap (λ (v : Who). with_request v (nat_lt (length old.desk.waiting.items) 16) o (map request_by old.desk.waiting.items)) h.who
           ∙ (ap (λ (b : Bool). with_request w b o (map request_by old.desk.waiting.items)) room
-              ∙ (ap (λ (x : Option Asked). with_request w (nat_lt (length (requests w H) - length (handed H)) 16) x (map request_by old.desk.waiting.items)) asks_for
-                  ∙ request_rest w (nat_lt (length (requests w H) - length (handed H)) 16) (asked w (holds w H f.stamp) f) (requests w H) (map request_by old.desk.waiting.items) (length (handed H)) (front_length (handed H) (requests w H) s.desk.2) h.requests)));
+          ∙ (ap (λ (x : Option Asked). with_request w (nat_lt (length (requests w H) - length (handed H)) 16) x (map request_by old.desk.waiting.items)) asks_for
+          ∙ request_rest w (nat_lt (length (requests w H) - length (handed H)) 16) (asked w (holds w H f.stamp) f) (requests w H) (map request_by old.desk.waiting.items) (length (handed H)) (front_length (handed H) (requests w H) s.desk.2) h.requests)));
       acknowledgments = ap (λ (v : Who). map (refusal_by v) new.desk.due.items) (sym h.who)
           ∙ (q2 ∙ (ap (λ (v : Who). with_refusal v (nat_lt (length old.desk.waiting.items) 16) (nat_lt (length old.desk.due.items) 16) o (map (refusal_by v) old.desk.due.items)) h.who
-              ∙ (ap (λ (b : Bool). with_refusal w b (nat_lt (length old.desk.due.items) 16) o (map (refusal_by w) old.desk.due.items)) room
-                  ∙ (ap (λ (b : Bool). with_refusal w (nat_lt (length (requests w H) - length (handed H)) 16) b o (map (refusal_by w) old.desk.due.items)) place
-                      ∙ (ap (λ (x : Option Asked). with_refusal w (nat_lt (length (requests w H) - length (handed H)) 16) (nat_lt (length (due w H) - length (acknowledged H)) 16) x (map (refusal_by w) old.desk.due.items)) asks_for
-                          ∙ refusal_rest w (nat_lt (length (requests w H) - length (handed H)) 16) (nat_lt (length (due w H) - length (acknowledged H)) 16) (asked w (holds w H f.stamp) f) (due w H) (map (refusal_by w) old.desk.due.items) (length (acknowledged H)) (front_length (acknowledged H) (due w H) s.desk.1) h.acknowledgments)))));
+          ∙ (ap (λ (b : Bool). with_refusal w b (nat_lt (length old.desk.due.items) 16) o (map (refusal_by w) old.desk.due.items)) room
+          ∙ (ap (λ (b : Bool). with_refusal w (nat_lt (length (requests w H) - length (handed H)) 16) b o (map (refusal_by w) old.desk.due.items)) place
+          ∙ (ap (λ (x : Option Asked). with_refusal w (nat_lt (length (requests w H) - length (handed H)) 16) (nat_lt (length (due w H) - length (acknowledged H)) 16) x (map (refusal_by w) old.desk.due.items)) asks_for
+          ∙ refusal_rest w (nat_lt (length (requests w H) - length (handed H)) 16) (nat_lt (length (due w H) - length (acknowledged H)) 16) (asked w (holds w H f.stamp) f) (due w H) (map (refusal_by w) old.desk.due.items) (length (acknowledged H)) (front_length (acknowledged H) (due w H) s.desk.1) h.acknowledgments)))));
       missed = e4 ∙ (ap (λ (b : Bool). counted b (map received_by old.inbox.unread.items) old.inbox.missed) wants
           ∙ missed_rest (is_for_program w (holds w H f.stamp) f) (kept w H) _ (length (got H)) (missed w H) _ h.unread h.missed);
     }
@@ -403,8 +403,8 @@ due_more w H old new now answer x h p right a g e =
       requests = ap (λ c. map request_by c.desk.waiting.items) e ∙ h.requests;
       acknowledgments = ap (map (refusal_by w)) g ∙ (map_append (refusal_by w) old.desk.due.items x
           ∙ (ap (λ l. l ++ refusal_by w x ∷ []) h.acknowledgments
-              ∙ (ap (λ (y : Answer). drop (length (acknowledged H)) (due w H) ++ acknowledgment w y (request_by x.request) ∷ []) a
-                  ∙ sym (drop_append (length (acknowledged H)) (due w H) (acknowledgment w answer (request_by x.request)) (front_length (acknowledged H) (due w H) s.desk.1)))));
+          ∙ (ap (λ (y : Answer). drop (length (acknowledged H)) (due w H) ++ acknowledgment w y (request_by x.request) ∷ []) a
+          ∙ sym (drop_append (length (acknowledged H)) (due w H) (acknowledgment w answer (request_by x.request)) (front_length (acknowledged H) (due w H) s.desk.1)))));
       missed = ap (λ c. c.inbox.missed) e ∙ h.missed;
     }
 

@@ -9,14 +9,17 @@ use Rattle.j39_address.specs.declared.status.Status.TheVariants as status
 use Rattle.j39_node.specs.declared.controller.Controller.{Controller}
 use Rattle.j39_node.specs.declared.kinds.Ending.{Ending}
 use Rattle.j39_node.specs.declared.kinds.Ending.TheVariants.{Done, Withdrawn}
+use Rattle.j39_node.specs.declared.kinds.Answer.{Answer}
+use Rattle.j39_node.specs.declared.kinds.Answer.TheVariants.{Nack, Busy}
 use Rattle.j39_node.specs.declared.kinds.Refused.{Refused}
 use Rattle.j39_node.specs.declared.kinds.Refused.TheVariants.{NoAddress, BadValue, Full}
-use Rattle.j39_node.specs.History.{Who, Message, Draft, Call, Address, IsFront, accepted, address_after, calls_for_claim, can_send, claim_address, claim_from, content, frames, got, heard, holds, is_claim, is_for_program, is_full, is_held, is_lost, kept, message_of, missed, moment, older, owes_claim, sent, step, told, Asked, asked, acknowledgment, acknowledged, due, handed, requests, is_served, with_request, with_refusal}
+use Rattle.j39_node.specs.History.{Who, Message, Draft, Call, Address, IsFront, accepted, address_after, calls_for_claim, can_send, claim_address, claim_from, content, frames, got, heard, holds, is_claim, is_for_program, is_full, is_held, is_lost, kept, message_of, missed, moment, older, owes_claim, sent, step, told, Asked, asked, acknowledgment, acknowledgment_group, acknowledged, due, handed, requests, is_served, with_request, with_refusal}
 use Rattle.j39_node.specs.History.Call.{Hear, Tick, TakeFrame, Send, TakeEnded, TakeReceived, TakeRequest, Acknowledge}
 use Rattle.j39_node.specs.History.Address.{NotClaimed, Claimed, Lost}
 use Rattle.j39_node.specs.Is.{Is, AreAnswered, stamped, next_frame, next_ended, end_of, status_of, status_after}
 use Rattle.j39_node.proofs.QueueLemmas.{get_within, length_one_more, length_map, get_map}
 use Rattle.j39_node.proofs.SoundLemmas.{Sound, sound, front_length, frame_by, due_get, due_taken, IsOwn, own_get, FrameCase, frame_case, SendCase, send_case, EndCase, end_case, claim_taken, message_taken}
+use Rattle.j39_node.proofs.CallLemmas.{acknowledge_is, acknowledges_by}
 use Rattle.j39_node.proofs.SoundLemmas.FrameCase.{claims, acknowledges, sends}
 use Rattle.j39_node.proofs.SoundLemmas.SendCase.{no_address, bad_value, full, accepts}
 use Rattle.j39_node.proofs.SoundLemmas.EndCase.{done, withdrawn}
@@ -44,8 +47,11 @@ sources w H c now f is = go (frame w H c now f is)
     go (claims o e) = inl (ap content e)
     go (acknowledges m o h g e) =
         let is_due = due_get w (due w H) (length (acknowledged H)) m (sound w H is.answered.0).desk.0 g in
-        inr (h, ap (λ (y : ℕ × Message). y.1.source) e ∙ is_due.source,
-            λ z. (let a = (due_taken w f now m e is_due).0 in let b = eq-eqb (pgn_of f.id) address_claimed_group z in let d : true ≡ false = sym b ∙ a in absurd (cc)))
+        inr (
+          h,
+          ap (λ (y : ℕ × Message). y.1.source) e ∙ is_due.source,
+          λ z. (let a = (due_taken w f now m e is_due).0 in let b = eq-eqb (pgn_of f.id) address_claimed_group z in let d : true ≡ false = sym b ∙ a in absurd (cc)),
+        )
     go (sends x o h k g e) =
         let own = own_get w (accepted w H) (length (sent H)) x (sound w H is.answered.0).own g in
         inr (
@@ -362,3 +368,120 @@ cannot_is w (Claimed n) = go (nat_le 250000 n)
 
 pub cannot : (w : Who) (H : List Call) → (status_after w H ≡ status.Cannot ↔ IsTrue (is_lost (address_after w H)))
 cannot w H = cannot_is w (address_after w H)
+
+-- ---- requests
+
+request_case : (w : Who) (H : List Call) (f : FrameRecord) (o : Option Asked) → asked w (holds w H f.stamp) f ≡ o
+    → requests w (Hear f ∷ H) ≡ with_request w (nat_lt (length (requests w H) - length (handed H)) 16) o (requests w H)
+request_case w H f o e = ap (λ x. with_request w (nat_lt (length (requests w H) - length (handed H)) 16) x (requests w H)) e
+
+refusal_case : (w : Who) (H : List Call) (f : FrameRecord) (o : Option Asked) → asked w (holds w H f.stamp) f ≡ o
+    → due w (Hear f ∷ H) ≡ with_refusal w (nat_lt (length (requests w H) - length (handed H)) 16) (nat_lt (length (due w H) - length (acknowledged H)) 16) o (due w H)
+refusal_case w H f o e = ap (λ x. with_refusal w (nat_lt (length (requests w H) - length (handed H)) 16) (nat_lt (length (due w H) - length (acknowledged H)) 16) x (due w H)) e
+
+has_room : (a b : ℕ) → a < b + 16 → nat_lt (a - b) 16 ≡ true
+has_room a b l = lt-ltb _ _ (omega (arith, l))
+
+has_none : (a b : ℕ) → b + 16 ≤ a → nat_lt (a - b) 16 ≡ false
+has_none a b l = grind arith
+
+is_false : (b : Bool) → (b ≡ true → ⊥) → b ≡ false
+is_false true n = absurd (n refl)
+is_false false n = refl
+
+with_it : (w : Who) (r : Asked) (L : List Asked) (s room : Bool) → is_served w r.group ≡ s → with_request w room (Some r) L ≡ (if s && room then L ++ r ∷ [] else L)
+with_it w r L s room e = ap (λ (x : Bool). if x && room then L ++ r ∷ [] else L) e
+
+refused_it : (w : Who) (r : Asked) (A : List Message) (s room place at : Bool) → is_served w r.group ≡ s → nat_eq r.destination w.address ≡ at
+    → with_refusal w room place (Some r) A ≡ (if (at && place) && not (s && room) then A ++ acknowledgment w (if s then Busy else Nack) r ∷ [] else A)
+refused_it w r A s room place at e g =
+    ap (λ (x : Bool). if (x && place) && not (is_served w r.group && room) then A ++ acknowledgment w (if is_served w r.group then Busy else Nack) r ∷ [] else A) g
+    ∙ ap (λ (x : Bool). if (at && place) && not (x && room) then A ++ acknowledgment w (if x then Busy else Nack) r ∷ [] else A) e
+
+off : (b c : Bool) → (b && not (true && true)) ≡ false
+off true c = refl
+off false c = refl
+
+pub is_handed : (w : Who) (H : List Call) (f : FrameRecord) (r : Asked) → asked w (holds w H f.stamp) f ≡ Some r → IsTrue (is_served w r.group)
+    → length (requests w H) < length (handed H) + 16 → (requests w (Hear f ∷ H) ≡ requests w H ++ r ∷ []) × (due w (Hear f ∷ H) ≡ due w H)
+is_handed w H f r e served l =
+    let room = has_room _ _ l in (
+      request_case w H f (Some r) e ∙ (ap (λ (b : Bool). with_request w b (Some r) (requests w H)) room ∙ with_it w r (requests w H) true true served),
+      refusal_case w H f (Some r) e
+          ∙ (ap (λ (b : Bool). with_refusal w b (nat_lt (length (due w H) - length (acknowledged H)) 16) (Some r) (due w H)) room
+          ∙ (refused_it w r (due w H) true true (nat_lt (length (due w H) - length (acknowledged H)) 16) (nat_eq r.destination w.address) served refl
+          ∙ ap (λ (b : Bool). if b then due w H ++ acknowledgment w Busy r ∷ [] else due w H)
+          (off (nat_eq r.destination w.address && nat_lt (length (due w H) - length (acknowledged H)) 16) true))),
+    )
+
+pub is_refused : (w : Who) (H : List Call) (f : FrameRecord) (r : Asked) → asked w (holds w H f.stamp) f ≡ Some r → r.destination ≡ w.address
+    → (IsTrue (is_served w r.group) → ⊥) → length (due w H) < length (acknowledged H) + 16
+    → (requests w (Hear f ∷ H) ≡ requests w H) × (due w (Hear f ∷ H) ≡ due w H ++ acknowledgment w Nack r ∷ [])
+is_refused w H f r e at n l =
+    let s = is_false _ n in
+    let room = nat_lt (length (requests w H) - length (handed H)) 16 in (
+      request_case w H f (Some r) e ∙ with_it w r (requests w H) false room s,
+      refusal_case w H f (Some r) e
+          ∙ (ap (λ (b : Bool). with_refusal w room b (Some r) (due w H)) (has_room _ _ l)
+          ∙ refused_it w r (due w H) false room true true s (eq-eqb _ _ at)),
+    )
+
+pub is_busy : (w : Who) (H : List Call) (f : FrameRecord) (r : Asked) → asked w (holds w H f.stamp) f ≡ Some r → r.destination ≡ w.address
+    → IsTrue (is_served w r.group) → length (handed H) + 16 ≤ length (requests w H) → length (due w H) < length (acknowledged H) + 16
+    → (requests w (Hear f ∷ H) ≡ requests w H) × (due w (Hear f ∷ H) ≡ due w H ++ acknowledgment w Busy r ∷ [])
+is_busy w H f r e at served k l =
+    let none = has_none _ _ k in (
+      request_case w H f (Some r) e ∙ (ap (λ (b : Bool). with_request w b (Some r) (requests w H)) none ∙ with_it w r (requests w H) true false served),
+      refusal_case w H f (Some r) e
+          ∙ (ap (λ (b : Bool). with_refusal w b (nat_lt (length (due w H) - length (acknowledged H)) 16) (Some r) (due w H)) none
+          ∙ (ap (λ (b : Bool). with_refusal w false b (Some r) (due w H)) (has_room _ _ l)
+          ∙ refused_it w r (due w H) true false true true served (eq-eqb _ _ at))),
+    )
+
+pub never_to_all : (w : Who) (H : List Call) (f : FrameRecord) (r : Asked) → asked w (holds w H f.stamp) f ≡ Some r → r.destination ≢ w.address
+    → due w (Hear f ∷ H) ≡ due w H
+never_to_all w H f r e n =
+    refusal_case w H f (Some r) e
+    ∙ refused_it w r (due w H) (is_served w r.group) (nat_lt (length (requests w H) - length (handed H)) 16) (nat_lt (length (due w H) - length (acknowledged H)) 16) false refl
+    (is_false _ (λ z. n (eqb-true _ _ z)))
+
+pub no_request : (w : Who) (H : List Call) (f : FrameRecord) → asked w (holds w H f.stamp) f ≡ None
+    → (requests w (Hear f ∷ H) ≡ requests w H) × (due w (Hear f ∷ H) ≡ due w H)
+no_request w H f e = (request_case w H f None e, refusal_case w H f None e)
+
+pub handed_in_order : (w : Who) (H : List Call) (c : Controller) → Is w H c → IsFront (handed H) (requests w H)
+handed_in_order w H c is = (sound w H is.answered).desk.2
+
+pub all_handed : (w : Who) (H : List Call) (c : Controller) → Is w (TakeRequest None ∷ H) c → handed H ≡ requests w H
+all_handed w H c is = whole (handed H) (requests w H) (sound w H is.answered.0).desk.2 (past_end (requests w H) (length (handed H)) (sym is.answered.1))
+
+-- ---- acknowledgments
+
+pub acknowledged_in_order : (w : Who) (H : List Call) (c : Controller) → Is w H c → IsFront (acknowledged H) (due w H)
+acknowledged_in_order w H c is = (sound w H is.answered).desk.1
+
+pub acknowledged_first : (w : Who) (H : List Call) (c : Controller) (now : ℕ) (f : FrameRecord) → Is w (TakeFrame now (Some f) ∷ H) c
+    → pgn_of f.id ≢ address_claimed_group → pgn_of f.id ≢ acknowledgment_group → acknowledged H ≡ due w H
+acknowledged_first w H c now f is n m = go (frame w H c now f is)
+  where
+    go : FrameCase w H now f → acknowledged H ≡ due w H
+    go (claims o e) = absurd (n (eqb-true _ _ (claim_taken f now w _ e)))
+    go (acknowledges x o h g e) =
+        absurd (m (ap (λ (y : ℕ × Message). y.1.group) e ∙ (due_get w (due w H) (length (acknowledged H)) x (sound w H is.answered.0).desk.0 g).group))
+    go (sends x o h k g e) = whole (acknowledged H) (due w H) (sound w H is.answered.0).desk.1 (past_end (due w H) (length (acknowledged H)) k)
+
+pub is_acknowledged : (w : Who) (H : List Call) (c : Controller) (now : ℕ) (r : Asked) (a : Answer) (result : Result (Unit {0}) Refused)
+    → Is w (Acknowledge now r a result ∷ H) c → IsTrue (holds w H now) → r.destination ≡ w.address → length (due w H) < length (acknowledged H) + 16
+    → result ≡ Ok tt
+is_acknowledged w H c now r a result is held at l =
+    is.answered.1 ∙ acknowledge_is w H now r true true false held (eq-eqb _ _ at) (is_false _ (λ z. (let y = eqb-true _ _ z in omega (arith, y, l))))
+
+pub only_to_address : (w : Who) (H : List Call) (c : Controller) (now : ℕ) (r : Asked) (a : Answer) → Is w (Acknowledge now r a (Ok tt) ∷ H) c
+    → IsTrue (holds w H now) × (r.destination ≡ w.address)
+only_to_address w H c now r a is = go (holds w H now) (nat_eq r.destination w.address) (nat_eq (length (due w H) - length (acknowledged H)) 16) refl refl
+    (is.answered.1 ∙ acknowledge_is w H now r _ _ _ refl refl refl)
+  where
+    go : (x y z : Bool) → holds w H now ≡ x → nat_eq r.destination w.address ≡ y → Ok tt ≡ acknowledges_by x y z → (holds w H now ≡ true) × (r.destination ≡ w.address)
+    go true true z e g k = (e, eqb-true _ _ g)
+    go true false z e g k = absurd (cc)
+    go false y z e g k = absurd (cc)

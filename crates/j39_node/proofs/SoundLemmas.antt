@@ -252,17 +252,18 @@ sound_claim w H now f e h = rests w H _ refl (sent_is H now f true _ e refl) ref
 sound_acknowledge : (w : Who) (H : List Call) (now : ℕ) (f : FrameRecord) (m : Message) → is_claim f ≡ false → is_acknowledgment f ≡ true
     → slice_get (due w H) (length (acknowledged H)) ≡ Some m → stamped f ≡ (now, m) → Sound w H → Sound w (TakeFrame now (Some f) ∷ H)
 sound_acknowledge w H now f m e k g i h = rests w H _ refl (sent_is H now f false true e k) refl
-    (λ l. sym (lost_older (step H now) (address_after w H)) ∙ (sym (ap is_lost (address_is w H now f false e)) ∙ l)) h.reads
-    (h.desk.0,
-        subst (λ xs. IsFront xs (due w H)) (sym (acknowledged_is H now f false true e k ∙ ap (λ (y : ℕ × Message). acknowledged H ++ y.1 ∷ []) i))
-            (front_longer (acknowledged H) (due w H) m h.desk.1 g),
-        h.desk.2) h
+    (λ l. sym (lost_older (step H now) (address_after w H)) ∙ (sym (ap is_lost (address_is w H now f false e)) ∙ l)) h.reads (
+      h.desk.0,
+      subst (λ xs. IsFront xs (due w H)) (sym (acknowledged_is H now f false true e k ∙ ap (λ (y : ℕ × Message). acknowledged H ++ y.1 ∷ []) i))
+          (front_longer (acknowledged H) (due w H) m h.desk.1 g),
+      h.desk.2,
+    ) h
 
 sound_send : (w : Who) (H : List Call) (now : ℕ) (f : FrameRecord) (x : ℕ × Message) → is_claim f ≡ false → is_acknowledgment f ≡ false → holds w H now ≡ true
     → slice_get (accepted w H) (length (sent H)) ≡ Some x → stamped f ≡ (now, x.1) → Sound w H → Sound w (TakeFrame now (Some f) ∷ H)
 sound_send w H now f x e k held g i h =
     let more : sent (TakeFrame now (Some f) ∷ H) ≡ sent H ++ x.1 ∷ [] =
-        sent_is H now f false false e k ∙ ap (λ (y : ℕ × Message). sent H ++ y.1 ∷ []) i in
+    sent_is H now f false false e k ∙ ap (λ (y : ℕ × Message). sent H ++ y.1 ∷ []) i in
     record {
       own = h.own;
       fronts = subst (λ xs. IsFront xs (map content (accepted w H))) (sym more)
@@ -352,9 +353,11 @@ heard_desk : (w : Who) (H : List Call) (f : FrameRecord) → Desked w H → Desk
 heard_desk w H f h =
     let room = nat_lt (length (requests w H) - length (handed H)) 16 in
     let place = nat_lt (length (due w H) - length (acknowledged H)) 16 in
-    let o = asked w (holds w H f.stamp) f in
-    (refusal_due w room place o (due w H) h.0, refusal_front w room place o (due w H) (acknowledged H) h.1,
-        request_front w room o (requests w H) (handed H) h.2)
+    let o = asked w (holds w H f.stamp) f in (
+      refusal_due w room place o (due w H) h.0,
+      refusal_front w room place o (due w H) (acknowledged H) h.1,
+      request_front w room o (requests w H) (handed H) h.2,
+    )
 
 sound_more : (w : Who) (H : List Call) (call : Call) → IsAnswered w H call → Sound w H → Sound w (call ∷ H)
 sound_more w H (Hear f) e h = rests w H _ refl refl refl (lost_if w (is_smaller w (claim_of f)) (step H f.stamp) (address_after w H))
@@ -376,7 +379,6 @@ sound_more w H (TakeEnded (Some x)) e h = sound_ended w H x (end_case w H x e) h
 sound_more w H (TakeReceived None) e h = rests w H _ refl refl refl (λ l. l) h.reads h.desk h
 sound_more w H (TakeReceived (Some x)) e h = rests w H _ refl refl refl (λ l. l)
     (front_longer (got H) (kept w H) x h.reads (sym e)) h.desk h
-
 sound_more w H (TakeRequest None) e h = rests w H _ refl refl refl (λ l. l) h.reads h.desk h
 sound_more w H (TakeRequest (Some r)) e h = rests w H _ refl refl refl (λ l. l) h.reads (h.desk.0, h.desk.1, front_longer (handed H) (requests w H) r h.desk.2 (sym e)) h
 sound_more w H (Acknowledge now r answer (Ok x)) e h = rests w H _ refl refl refl (λ l. sym (lost_older (step H now) (address_after w H)) ∙ l) h.reads

@@ -2,13 +2,14 @@
 use Rattle.std.specs.Prelude.{ℕ, List, [], ◌∷◌, Some, None, Ok, Err}
 use Rattle.j39_frame.specs.Frame.{FrameRecord}
 use Rattle.j39_node.specs.declared.kinds.Ending.TheVariants.{Done, Withdrawn}
+use Rattle.j39_node.specs.declared.kinds.Answer.TheVariants.{Ack}
 use Rattle.j39_node.specs.declared.kinds.Refused.TheVariants.{NoAddress, BadValue}
-use Rattle.j39_node.specs.History.{Who, Draft, Call, message_of}
-use Rattle.j39_node.specs.History.Call.{Hear, Tick, TakeFrame, Send, TakeEnded, TakeReceived}
+use Rattle.j39_node.specs.History.{Who, Asked, Draft, Call, message_of}
+use Rattle.j39_node.specs.History.Call.{Acknowledge, Hear, Tick, TakeFrame, TakeRequest, Send, TakeEnded, TakeReceived}
 
--- NAME 2 at address 128
+-- NAME 2 at address 128, whose program serves group 65259
 abbrev pub two : Who
-two = record { name = 2; address = 128; served = [] }
+two = record { name = 2; address = 128; served = 65259 ∷ [] }
 
 -- its claim, and 'cannot claim'
 abbrev pub own_claim : ℕ → FrameRecord
@@ -32,7 +33,25 @@ speed_frame now = record { stamp = now; id = 419361152; bytes = 7 ∷ [] }
 abbrev pub torque : ℕ → FrameRecord
 torque now = record { stamp = now; id = 201359371; bytes = 1 ∷ 2 ∷ [] }
 
--- it claims its address, and holds it 250 ms later; sends a message, refuses one to itself, gets one; then a smaller NAME claims
+-- address 11 asks it for this group, and for 65260
+abbrev pub request : ℕ → FrameRecord
+request now = record { stamp = now; id = 418021387; bytes = 235 ∷ 254 ∷ 0 ∷ [] }
+
+abbrev pub other_request : ℕ → FrameRecord
+other_request now = record { stamp = now; id = 418021387; bytes = 236 ∷ 254 ∷ 0 ∷ [] }
+
+abbrev pub request_in : Asked
+request_in = record { source = 11; destination = 128; group = 65259 }
+
+-- it acknowledges the first, and refuses the second
+abbrev pub answer_frame : ℕ → FrameRecord
+answer_frame now = record { stamp = now; id = 417922944; bytes = 0 ∷ 255 ∷ 255 ∷ 255 ∷ 11 ∷ 235 ∷ 254 ∷ 0 ∷ [] }
+
+abbrev pub refusal_frame : ℕ → FrameRecord
+refusal_frame now = record { stamp = now; id = 417922944; bytes = 1 ∷ 255 ∷ 255 ∷ 255 ∷ 11 ∷ 236 ∷ 254 ∷ 0 ∷ [] }
+
+-- it claims its address, and holds it 250 ms later; sends a message, refuses one to itself, gets one, answers a
+-- request and refuses another; then a smaller NAME claims
 -- the address, so that a message that waits is withdrawn and none is accepted; the newest call first
 abbrev pub example : List Call
 example =
@@ -43,6 +62,13 @@ example =
     ∷ TakeFrame 300002 (Some (cannot_claim 300002))
     ∷ Hear (smaller_claim 300001)
     ∷ Send 300000 speed (Ok 1)
+    ∷ TakeFrame 295003 (Some (answer_frame 295003))
+    ∷ Acknowledge 295002 request_in Ack (Ok tt)
+    ∷ TakeRequest None
+    ∷ TakeRequest (Some request_in)
+    ∷ TakeFrame 295001 (Some (refusal_frame 295001))
+    ∷ Hear (other_request 295000)
+    ∷ Hear (request 295000)
     ∷ TakeReceived None
     ∷ TakeReceived (Some (290000, message_of (torque 290000)))
     ∷ Hear (torque 290000)

@@ -306,7 +306,7 @@ is_served w group = list_any (λ g. g == group) w.served
 abbrev pub is_request : Who → Bool → FrameRecord → ℕ → ℕ → Bool
 is_request w held f to group =
     (held && nat_lt (source_of f.id) null_address) && ((nat_lt group 262144 && not (nat_eq group address_claimed_group))
-        && (nat_eq to global_address || nat_eq to w.address))
+    && (nat_eq to global_address || nat_eq to w.address))
 
 abbrev pub asked_with : Who → Bool → FrameRecord → Option ℕ → Option ℕ → Option Asked
 asked_with w held f (Some to) (Some group) =
@@ -375,6 +375,6 @@ abbrev pub due : Who → List Call → List Message
 due w [] = []
 due w (Hear f ∷ H) =
     with_refusal w (nat_lt (length (requests w H) - length (handed H)) 16) (nat_lt (length (due w H) - length (acknowledged H)) 16)
-        (asked w (holds w H f.stamp) f) (due w H)
+    (asked w (holds w H f.stamp) f) (due w H)
 due w (Acknowledge now r answer (Ok x) ∷ H) = due w H ++ acknowledgment w answer r ∷ []
 due w (call ∷ H) = due w H

@@ -74,8 +74,8 @@ abbrev pub answer_to_acknowledge : Who → List Call → ℕ → Asked → Resul
 answer_to_acknowledge w H now r =
     if holds w H now
     then (if nat_eq r.destination w.address
-        then (if nat_eq (length (due w H) - length (acknowledged H)) 16 then Err Full else Ok tt)
-        else Err BadValue)
+    then (if nat_eq (length (due w H) - length (acknowledged H)) 16 then Err Full else Ok tt)
+    else Err BadValue)
     else Err NoAddress
 
 -- the answer of the call is the one that the history before it asks for

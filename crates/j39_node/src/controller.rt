@@ -226,7 +226,12 @@ impl Controller {
 
     /// Acknowledges a request to its address; `BadValue` for one to all, which is never acknowledged, `Full` while sixteen
     /// acknowledgments are due.
-    pub fn acknowledge(&mut self, now: Stamp, request: Request, answer: Answer) -> Result<(), Refused>
+    pub fn acknowledge(
+        &mut self,
+        now: Stamp,
+        request: Request,
+        answer: Answer,
+    ) -> Result<(), Refused>
         ensures { (w : Who) (H : List Call) → Is w H self.old
             → Is w (Acknowledge (stamp_micros now) (request_by request) answer result ∷ H) self.new }
     {

@@ -8,10 +8,12 @@ ghost use Rattle.j39_address.specs.declared.status.Status.TheVariants as status;
 ghost use Rattle.j39_node.specs.declared.controller.Controller.{Controller};
 ghost use Rattle.j39_node.specs.declared.kinds.Ending.{Ending};
 ghost use Rattle.j39_node.specs.declared.kinds.Ending.TheVariants as ending;
+ghost use Rattle.j39_node.specs.declared.kinds.Answer.{Answer};
+ghost use Rattle.j39_node.specs.declared.kinds.Answer.TheVariants as answer;
 ghost use Rattle.j39_node.specs.declared.kinds.Refused.{Refused};
 ghost use Rattle.j39_node.specs.declared.kinds.Refused.TheVariants as refused;
-ghost use Rattle.j39_node.specs.History.{Who, Call, Message, Draft, IsFront, accepted, address_after, calls_for_claim, can_send, claim_address, claim_from, content, acknowledged, due, frames, got, heard, holds, is_lost, kept, message_of, missed, moment, owes_claim, sent, told};
-ghost use Rattle.j39_node.specs.History.Call.{Hear, TakeFrame, Send, TakeEnded, TakeReceived};
+ghost use Rattle.j39_node.specs.History.{Who, Asked, Call, Message, Draft, IsFront, accepted, acknowledgment, acknowledgment_group, asked, handed, is_served, requests, address_after, calls_for_claim, can_send, claim_address, claim_from, content, acknowledged, due, frames, got, heard, holds, is_lost, kept, message_of, missed, moment, owes_claim, sent, told};
+ghost use Rattle.j39_node.specs.History.Call.{Acknowledge, Hear, TakeFrame, TakeRequest, Send, TakeEnded, TakeReceived};
 ghost use Rattle.j39_node.specs.Example.{example, two};
 ghost use Rattle.j39_node.specs.Is.{AreAnswered, Is, status_after};
 
@@ -107,4 +109,43 @@ pub fn who()
 /// address.
 pub fn an_example()
     ensures { AreAnswered two example }
+{}
+
+/// What becomes of a request of an address for a group, to all or to the address that it holds: if the group is served, the program
+/// is handed it, once, in order, and nothing is sent. A request to its address for what isn't served is refused by a NACK without
+/// the program, and one for which there is no room by 'cannot respond'. A request to all is never acknowledged.
+pub fn requests()
+    ensures handed { (w : Who) (H : List Call) (f : FrameRecord) (r : Asked) → asked w (holds w H f.stamp) f ≡ Some r
+        → IsTrue (is_served w r.group) → length (requests w H) < length (handed H) + 16
+        → (requests w (Hear f ∷ H) ≡ requests w H ++ r ∷ []) × (due w (Hear f ∷ H) ≡ due w H) }
+    ensures refused { (w : Who) (H : List Call) (f : FrameRecord) (r : Asked) → asked w (holds w H f.stamp) f ≡ Some r
+        → r.destination ≡ w.address → (IsTrue (is_served w r.group) → ⊥)
+        → length (due w H) < length (acknowledged H) + 16
+        → (requests w (Hear f ∷ H) ≡ requests w H)
+        × (due w (Hear f ∷ H) ≡ due w H ++ acknowledgment w answer.Nack r ∷ []) }
+    ensures no_room { (w : Who) (H : List Call) (f : FrameRecord) (r : Asked) → asked w (holds w H f.stamp) f ≡ Some r
+        → r.destination ≡ w.address → IsTrue (is_served w r.group) → length (handed H) + 16 ≤ length (requests w H)
+        → length (due w H) < length (acknowledged H) + 16
+        → (requests w (Hear f ∷ H) ≡ requests w H)
+        × (due w (Hear f ∷ H) ≡ due w H ++ acknowledgment w answer.Busy r ∷ []) }
+    ensures to_all { (w : Who) (H : List Call) (f : FrameRecord) (r : Asked) → asked w (holds w H f.stamp) f ≡ Some r
+        → r.destination ≢ w.address → due w (Hear f ∷ H) ≡ due w H }
+    ensures no_request { (w : Who) (H : List Call) (f : FrameRecord) → asked w (holds w H f.stamp) f ≡ None
+        → (requests w (Hear f ∷ H) ≡ requests w H) × (due w (Hear f ∷ H) ≡ due w H) }
+    ensures in_order { (w : Who) (H : List Call) (c : Controller) → Is w H c → IsFront (handed H) (requests w H) }
+    ensures all { (w : Who) (H : List Call) (c : Controller) → Is w (TakeRequest None ∷ H) c → handed H ≡ requests w H }
+{}
+
+/// The acknowledgments that are taken are those that are due, in order, before any message. The program acknowledges a request to
+/// the address that it holds, unless sixteen are due, and no other.
+pub fn acknowledgments()
+    ensures in_order { (w : Who) (H : List Call) (c : Controller) → Is w H c → IsFront (acknowledged H) (due w H) }
+    ensures first { (w : Who) (H : List Call) (c : Controller) (now : ℕ) (f : FrameRecord)
+        → Is w (TakeFrame now (Some f) ∷ H) c → pgn_of f.id ≢ address_claimed_group → pgn_of f.id ≢ acknowledgment_group
+        → acknowledged H ≡ due w H }
+    ensures accepts { (w : Who) (H : List Call) (c : Controller) (now : ℕ) (r : Asked) (a : Answer) (result : Result (Unit {0}) Refused)
+        → Is w (Acknowledge now r a result ∷ H) c → IsTrue (holds w H now) → r.destination ≡ w.address
+        → length (due w H) < length (acknowledged H) + 16 → result ≡ Ok tt }
+    ensures only { (w : Who) (H : List Call) (c : Controller) (now : ℕ) (r : Asked) (a : Answer)
+        → Is w (Acknowledge now r a (Ok tt) ∷ H) c → IsTrue (holds w H now) × (r.destination ≡ w.address) }
 {}

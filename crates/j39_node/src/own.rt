@@ -9,9 +9,9 @@ ghost use Rattle.j39_address.specs.Claim.{claim_of};
 ghost use Rattle.j39_node.specs.History.{is_smaller, is_larger, asked_group, is_some, is_none, is_asked, calls_for_claim, is_for_program, is_own_group, claim_from, claim_with, carried, is_served};
 ghost use Rattle.j39_node.specs.Is.{who_of, stamped, refusal_by};
 
+use crate::requests::Due;
 use arrayvec::ArrayVec;
 use byteorder::{ByteOrder, LittleEndian};
-use crate::requests::Due;
 use j39_address::{Name, claim_of};
 use j39_frame::{Frame, GLOBAL_ADDRESS, Id, NULL_ADDRESS, Pgn, Stamp};
 

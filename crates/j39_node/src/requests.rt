@@ -81,17 +81,21 @@ impl Desk {
     pub(crate) fn hear(&mut self, own: &Own, request: Option<Request>)
         ensures waiting { map request_by self.new.waiting.items
             ≡ with_request (who_of own.now) (nat_lt (length self.old.waiting.items) 16) (option_map request_by request)
-                (map request_by self.old.waiting.items) }
+            (map request_by self.old.waiting.items) }
         ensures due { map (refusal_by (who_of own.now)) self.new.due.items
             ≡ with_refusal (who_of own.now) (nat_lt (length self.old.waiting.items) 16) (nat_lt (length self.old.due.items) 16)
-                (option_map request_by request) (map (refusal_by (who_of own.now)) self.old.due.items) }
+            (option_map request_by request) (map (refusal_by (who_of own.now)) self.old.due.items) }
     {
         if let Some(request) = request {
             let is_served = own.is_served(request.group);
             if is_served && !self.waiting.is_full() {
                 self.waiting.push(request);
             } else if request.destination == own.address && !self.due.is_full() {
-                let answer = if is_served { Answer::Busy } else { Answer::Nack };
+                let answer = if is_served {
+                    Answer::Busy
+                } else {
+                    Answer::Nack
+                };
                 self.due.push(Due { answer, request });
             }
         }

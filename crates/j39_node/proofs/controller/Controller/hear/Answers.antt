@@ -14,7 +14,7 @@ returns c = λ w H h.
     let p = passed_is w H f.stamp c.args.self.now.hold c.passed-self.result h.hold
     (c.passed-self.ensures ∙ ap (λ (g : FrameRecord). passed g.stamp c.args.self.now.hold) c.frame.view_is) in
     heard_more w H c.args.self.now _ f c.passed-self.result c.is_held-is_held.result c.is_for_program-wanted.result c.is_lost.result
-        c.is_driven_away-drives_away.result c.calls_for_claim-calls.result (option_map request_by c.asked-request.result) h p c.is_held-is_held.ensures c.is_for_program-wanted.ensures
-        c.offer.ensures.unread c.offer.ensures.missed c.is_driven_away-drives_away.ensures c.is_lost.ensures c.calls_for_claim-calls.ensures
-        c.hear.ensures.waiting c.hear.ensures.due c.asked-request.ensures
-        c.heard-self.ensures refl refl refl refl
+    c.is_driven_away-drives_away.result c.calls_for_claim-calls.result (option_map request_by c.asked-request.result) h p c.is_held-is_held.ensures c.is_for_program-wanted.ensures
+    c.offer.ensures.unread c.offer.ensures.missed c.is_driven_away-drives_away.ensures c.is_lost.ensures c.calls_for_claim-calls.ensures
+    c.hear.ensures.waiting c.hear.ensures.due c.asked-request.ensures
+    c.heard-self.ensures refl refl refl refl

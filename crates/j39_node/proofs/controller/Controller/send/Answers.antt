@@ -29,9 +29,9 @@ returns-then-is_full c = λ w H h.
     let b = sym (holds_is w H (stamp_micros c.args.now) c.passed-self.result c.is_held.result p c.is_held.ensures) ∙ c.if-not-is_held.false in
     let d : Draft = record { priority = c.args.priority; group = pgn_raw c.args.group; to = c.args.to; bytes = c.args.bytes.now } in
     refuses_send w H c.args.self.now _ (stamp_micros c.args.now) d _ h p
-        (sym (send_is w H (stamp_micros c.args.now) d true true true b
-            (ap (λ (v : Who). can_send v d) (sym h.who) ∙ c.in-Some.ensures.known.0 refl)
-            (sym (full_is w H c.args.self.now h) ∙ (sym c.is_full.ensures.value ∙ c.if-is_full.true)))) refl
+    (sym (send_is w H (stamp_micros c.args.now) d true true true b
+    (ap (λ (v : Who). can_send v d) (sym h.who) ∙ c.in-Some.ensures.known.0 refl)
+    (sym (full_is w H c.args.self.now h) ∙ (sym c.is_full.ensures.value ∙ c.if-is_full.true)))) refl
 
 pub returns-in-None : goal.returns-in-None
 returns-in-None c = λ w H h.
@@ -39,5 +39,5 @@ returns-in-None c = λ w H h.
     let b = sym (holds_is w H (stamp_micros c.args.now) c.passed-self.result c.is_held.result p c.is_held.ensures) ∙ c.if-not-is_held.false in
     let d : Draft = record { priority = c.args.priority; group = pgn_raw c.args.group; to = c.args.to; bytes = c.args.bytes.now } in
     refuses_send w H c.args.self.now _ (stamp_micros c.args.now) d _ h p
-        (sym (send_is w H (stamp_micros c.args.now) d true false _ b
-            (ap (λ (v : Who). can_send v d) (sym h.who) ∙ not_true _ c.in-None.ensures.known.1) refl)) refl
+    (sym (send_is w H (stamp_micros c.args.now) d true false _ b
+    (ap (λ (v : Who). can_send v d) (sym h.who) ∙ not_true _ c.in-None.ensures.known.1) refl)) refl

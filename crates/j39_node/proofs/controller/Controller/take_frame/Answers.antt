@@ -23,6 +23,6 @@ returns-then-not-is_empty c = λ w H h.
     let p = passed_is w H (stamp_micros c.args.now) c.args.self.now.hold c.passed-self.result h.hold c.passed-self.ensures in
     let b = sym (holds_is w H (stamp_micros c.args.now) c.passed-self.result c.is_held.result p c.is_held.ensures) ∙ c.if-not-is_held.false in
     let f = first (refusal_by w) _ _ c.remove-due.result (length (acknowledged H)) (due w H) h.acknowledgments
-        (not_empty _ _ c.is_empty.ensures c.if-not-is_empty.true) c.remove-due.ensures.value c.remove-due.ensures.items in
+    (not_empty _ _ c.is_empty.ensures c.if-not-is_empty.true) c.remove-due.ensures.value c.remove-due.ensures.items in
     taken_due w H c.args.self.now _ (stamp_micros c.args.now) _ c.remove-due.result h p (sym c.is_claim_due.ensures ∙ c.if-is_claim_due.false) b f
-        (c.acknowledgment.ensures ∙ ap (λ (v : Who). Some (stamp_micros c.args.now, refusal_by v c.remove-due.result)) h.who) refl
+    (c.acknowledgment.ensures ∙ ap (λ (v : Who). Some (stamp_micros c.args.now, refusal_by v c.remove-due.result)) h.who) refl
