@@ -18,13 +18,13 @@ use Rattle.j39_node.specs.declared.kinds.Ending.{Ending}
 use Rattle.j39_node.specs.declared.kinds.Ending.TheVariants.{Done, Withdrawn}
 use Rattle.j39_node.specs.declared.kinds.Refused.{Refused}
 use Rattle.j39_node.specs.declared.kinds.Refused.TheVariants.{NoAddress, BadValue, Full}
-use Rattle.j39_node.specs.Hold.{standing_of, less, passed, heard, claims, stands, lost}
-use Rattle.j39_node.specs.History.{Who, Message, Draft, Call, Address, carried, message_of, older, claimed, address_after, holds, is_lost, is_held, is_claim, is_smaller, claim_address, claim_from, owes_claim, calls_for_claim, can_send, message_from, accepted, sent, told, is_full, step, moment, is_for_program, kept, got, missed, Asked, asked, acknowledgment, acknowledged, due, handed, requests, is_served, with_request, with_refusal}
+use Rattle.j39_node.specs.Hold.{standing_of, less, passed, heard, claims, stands, lost, left_at}
+use Rattle.j39_node.specs.History.{Who, Message, Draft, Call, Address, carried, message_of, older, claimed, address_after, holds, is_lost, is_held, is_claim, is_smaller, claim_address, claim_from, owes_claim, calls_for_claim, can_send, message_from, accepted, sent, told, is_full, step, moment, is_for_program, kept, got, missed, Asked, asked, acknowledgment, acknowledged, due, handed, requests, is_served, with_request, with_refusal, is_waiting, stamp_at, held_at, next_due}
 use Rattle.j39_node.specs.History.Call.{Hear, Tick, TakeFrame, Send, TakeEnded, TakeReceived, TakeRequest, Acknowledge}
 use Rattle.j39_node.specs.History.Address.{NotClaimed, Claimed, Lost}
 use Rattle.j39_node.specs.Is.{Is, AreAnswered, IsAnswered, stamped, next_frame, next_ended, end_of, answer_to_send, answer_to_acknowledge, hold_after, who_of, posted, received_by, request_by, refusal_by, first_of, offered, counted}
 use Rattle.j39_node.proofs.QueueLemmas.{get_within, length_one_more, map_append, length_map, length_rest, in_rest, not_in_rest, First, drop_append, length_drop}
-use Rattle.j39_node.proofs.SoundLemmas.{Sound, sound, IsOwn, own_get, due_get, due_taken, message_taken, plain_taken, sent_is, acknowledged_is, address_is, frame_by, front_length, holding_not_lost, lost_older, read}
+use Rattle.j39_node.proofs.SoundLemmas.{Sound, sound, IsOwn, own_get, due_get, due_taken, message_taken, plain_taken, sent_is, acknowledged_is, address_is, frame_by, front_length, held_not_lost, holding_not_lost, lost_older, read}
 
 -- the frame that is made is one of this message
 pub made : (r : Option FrameRecord) (now id : ℕ) (bytes : List ℕ) (m : Message) → (IsSome r ↔ (length bytes ≤ 8))
@@ -433,3 +433,46 @@ pub send_is : (w : Who) (H : List Call) (now : ℕ) (d : Draft) (a b f : Bool) �
 send_is w H now d a b f e g k =
     ap (λ (x : Bool). sends_by w H x (can_send w d) (is_full w H)) e
     ∙ (ap (λ (x : Bool). sends_by w H a x (is_full w H)) g ∙ ap (λ (x : Bool). sends_by w H a b x) k)
+
+-- ---- when something is due
+
+lt_less : (a t s : ℕ) → t ≤ s → nat_lt (s - t) (a - t) ≡ nat_lt s a
+lt_less a t s l = grind arith
+
+lt_some : (a b : ℕ) → nat_lt 0 (a - b) ≡ nat_lt b a
+lt_some a b = grind arith
+
+waits_is : (w : Who) (H : List Call) (c : Controller) → Is w H c → is_held (address_after w H) ≡ true
+    → (nat_lt c.taken (length c.outgoing.items) || nat_lt 0 (length c.desk.due.items)) ≡ is_waiting w H
+waits_is w H c h e =
+    let t = (sound w H h.answered).in_turn (held_not_lost (address_after w H) e) in
+    ap (λ (b : Bool). b || nat_lt 0 (length c.desk.due.items))
+    (ap (λ (n : ℕ). nat_lt n (length c.outgoing.items)) h.taken
+    ∙ (ap (λ (n : ℕ). nat_lt (length (sent H) - length (told H)) n) (length_rest posted c.outgoing.items (length (told H)) (accepted w H) h.outgoing)
+    ∙ lt_less _ _ _ t))
+    ∙ ap (λ (b : Bool). nat_lt (length (sent H)) (length (accepted w H)) || b)
+    (ap (nat_lt 0) (length_rest (refusal_by w) c.desk.due.items (length (acknowledged H)) (due w H) h.acknowledgments) ∙ lt_some _ _)
+
+held_and : (a : Bool) (x y : Bool) → (a ≡ true → x ≡ y) → (a && x) ≡ (a && y)
+held_and true x y f = f refl
+held_and false x y f = refl
+
+pub frame_due : (w : Who) (H : List Call) (c : Controller) → Is w H c
+    → (c.hold.owes_claim || (stands c.hold.standing && (nat_lt c.taken (length c.outgoing.items) || nat_lt 0 (length c.desk.due.items))))
+    ≡ (owes_claim w H || (is_held (address_after w H) && is_waiting w H))
+frame_due w H c h =
+    ap (λ (k : Hold). k.owes_claim || (stands k.standing && (nat_lt c.taken (length c.outgoing.items) || nat_lt 0 (length c.desk.due.items)))) h.hold
+    ∙ (ap (λ (b : Bool). owes_claim w H || (b && (nat_lt c.taken (length c.outgoing.items) || nat_lt 0 (length c.desk.due.items)))) (stands_is (address_after w H))
+    ∙ ap (λ (b : Bool). owes_claim w H || b) (held_and (is_held (address_after w H)) _ _ (waits_is w H c h)))
+
+lt_left : (e : ℕ) → nat_lt 0 (250000 - e) ≡ nat_lt e 250000
+lt_left e = grind arith
+
+pub held_at_is : (a : Address) (m : ℕ) → left_at (standing_of a) m ≡ held_at a m
+held_at_is NotClaimed m = refl
+held_at_is (Claimed e) m = ap (λ (b : Bool). if b then stamp_at (m + (250000 - e)) else None) (lt_left e)
+held_at_is Lost m = refl
+
+pub due_is : (w : Who) (H : List Call) (b : Bool) → b ≡ (owes_claim w H || (is_held (address_after w H) && is_waiting w H))
+    → (if b then stamp_at (moment H) else held_at (address_after w H) (moment H)) ≡ next_due w H
+due_is w H b e = ap (λ (x : Bool). if x then stamp_at (moment H) else held_at (address_after w H) (moment H)) e

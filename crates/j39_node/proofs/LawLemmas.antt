@@ -2,6 +2,7 @@
 use Rattle.std.proofs.Common.{◌≡◌, ◌≢◌, ◌⊎◌, ◌↔◌, ℕ, zero, suc, ◌+◌, ◌-◌, ◌<◌, ◌≤◌, List, [], ◌∷◌, ◌++◌, length, map, Option, Some, None, Result, Ok, Err, Bool, true, false, not, ◌&&◌, ◌||◌, if◌then◌else◌, nat_eq, nat_lt, nat_le, IsTrue, refl, sym, ap, ◌∙◌, subst, inl, inr, arith, length-append, append-nil, eqb-true, eq-eqb, ltb-true, lt-ltb}
 use Rattle.std.specs.List.{slice_get}
 use Rattle.std.specs.Option.{option_map}
+use Rattle.std.proofs.lemmas.Option.{slice_get_past}
 use Rattle.j39_frame.specs.Frame.{FrameRecord}
 use Rattle.j39_frame.specs.Identifier.{source_of, pgn_of}
 use Rattle.j39_frame.specs.Network.{address_claimed_group}
@@ -13,7 +14,7 @@ use Rattle.j39_node.specs.declared.kinds.Answer.{Answer}
 use Rattle.j39_node.specs.declared.kinds.Answer.TheVariants.{Nack, Busy}
 use Rattle.j39_node.specs.declared.kinds.Refused.{Refused}
 use Rattle.j39_node.specs.declared.kinds.Refused.TheVariants.{NoAddress, BadValue, Full}
-use Rattle.j39_node.specs.History.{Who, Message, Draft, Call, Address, IsFront, accepted, address_after, calls_for_claim, can_send, claim_address, claim_from, content, frames, got, heard, holds, is_claim, is_for_program, is_full, is_held, is_lost, kept, message_of, missed, moment, older, owes_claim, sent, step, told, Asked, asked, acknowledgment, acknowledgment_group, acknowledged, due, handed, requests, is_served, with_request, with_refusal}
+use Rattle.j39_node.specs.History.{Who, Message, Draft, Call, Address, IsFront, accepted, address_after, calls_for_claim, can_send, claim_address, claim_from, content, frames, got, heard, holds, is_claim, is_for_program, is_full, is_held, is_lost, kept, message_of, missed, moment, older, owes_claim, sent, step, told, Asked, asked, acknowledgment, acknowledgment_group, acknowledged, due, handed, requests, is_served, with_request, with_refusal, is_waiting, stamp_at, held_at, next_due}
 use Rattle.j39_node.specs.History.Call.{Hear, Tick, TakeFrame, Send, TakeEnded, TakeReceived, TakeRequest, Acknowledge}
 use Rattle.j39_node.specs.History.Address.{NotClaimed, Claimed, Lost}
 use Rattle.j39_node.specs.Is.{Is, AreAnswered, stamped, next_frame, next_ended, end_of, status_of, status_after}
@@ -485,3 +486,149 @@ only_to_address w H c now r a is = go (holds w H now) (nat_eq r.destination w.ad
     go true true z e g k = (e, eqb-true _ _ g)
     go true false z e g k = absurd (cc)
     go false y z e g k = absurd (cc)
+
+-- ---- quiet till due
+
+held_later : (a : Address) (e : ℕ) → is_held a ≡ true → is_held (older e a) ≡ true
+held_later NotClaimed e h = absurd (cc)
+held_later (Claimed n) e h = longer n e h
+  where
+    longer : (n e : ℕ) → nat_le 250000 n ≡ true → nat_le 250000 (n + e) ≡ true
+    longer n e h = grind arith
+held_later Lost e h = absurd (cc)
+
+-- where no address is held, nothing was accepted or is due that could be taken
+Quiet : Who → List Call → ℕ → Type 0
+Quiet w H now = (t : ℕ) → next_due w H ≡ Some t → now < t
+
+not_due : (w : Who) (H : List Call) (now : ℕ) (b : Bool) → moment H ≤ now → now < 10000000000000000 → Quiet w H now
+    → (owes_claim w H || (is_held (address_after w H) && is_waiting w H)) ≡ b → b ≡ false
+unfolding Quiet
+not_due w H now false l m q e = refl
+not_due w H now true l m q e =
+    absurd (let z = q (moment H) (ap (λ (b : Bool). if b then stamp_at (moment H) else held_at (address_after w H) (moment H)) e
+    ∙ ap (λ (b : Bool). if b then Some (moment H) else None) (lt-ltb (moment H) 10000000000000000 (omega (arith, l, m)))) in omega (arith, z, l))
+
+not_held_yet : (w : Who) (H : List Call) (now : ℕ) (a : Address) → moment H ≤ now → now < 10000000000000000
+    → ((t : ℕ) → held_at a (moment H) ≡ Some t → now < t) → is_held a ≡ false → is_held (older (now - moment H) a) ≡ false
+not_held_yet w H now NotClaimed l m q e = refl
+not_held_yet w H now Lost l m q e = refl
+not_held_yet w H now (Claimed n) l m q e = go (nat_lt (moment H + (250000 - n)) 10000000000000000) refl
+  where
+    small : nat_lt n 250000 ≡ true
+    small = flip n e
+      where
+        flip : (k : ℕ) → nat_le 250000 k ≡ false → nat_lt k 250000 ≡ true
+        flip k f = grind arith
+
+    short : (k d s x : ℕ) → nat_lt k 250000 ≡ true → x < d → d ≡ s + (250000 - k) → s ≤ x → nat_le 250000 (k + (x - s)) ≡ false
+    short k d s x f g i j = grind arith
+
+    go : (b : Bool) → nat_lt (moment H + (250000 - n)) 10000000000000000 ≡ b → nat_le 250000 (n + (now - moment H)) ≡ false
+    go true f =
+        let z = q (moment H + (250000 - n)) (ap (λ (b : Bool). if b then stamp_at (moment H + (250000 - n)) else None) small
+        ∙ ap (λ (b : Bool). if b then Some (moment H + (250000 - n)) else None) f) in
+        short n _ (moment H) now small z refl l
+    go false f = short n (moment H + (250000 - n)) (moment H) now small (let y = far _ f in omega (arith, y, m)) refl l
+      where
+        far : (k : ℕ) → nat_lt k 10000000000000000 ≡ false → 10000000000000000 ≤ k
+        far k g = grind arith
+
+or_false : (a b : Bool) → (a || b) ≡ false → (a ≡ false) × (b ≡ false)
+or_false true b e = absurd (cc)
+or_false false b e = (refl, e)
+
+and_cases : (a b : Bool) → (a && b) ≡ false → (a ≡ false) ⊎ (b ≡ false)
+and_cases true b e = inr e
+and_cases false b e = inl refl
+
+past : {T : Type 0} (L : List T) (n : ℕ) → nat_lt n (length L) ≡ false → slice_get L n ≡ None
+past L n e = slice_get_past L n (not_lt n (length L) e)
+  where
+    not_lt : (i k : ℕ) → nat_lt i k ≡ false → k ≤ i
+    not_lt i k f = grind arith
+
+none_by : (h : Bool) (x : Option Message) (y : Option (ℕ × Message)) (m : Message) (now : ℕ) → (h ≡ false) ⊎ ((x ≡ None) × (y ≡ None)) → frame_by false h x y m now ≡ None
+none_by false x y m now e = refl
+none_by true x y m now (inl e) = absurd (cc)
+none_by true x y m now (inr e) = ap (λ z. frame_by false true z y m now) e.0 ∙ ap (λ z. frame_by false true None z m now) e.1
+
+nothing_taken : (w : Who) (H : List Call) (now : ℕ) → moment H ≤ now → now < 10000000000000000 → Quiet w H now → next_frame w H now ≡ None
+unfolding Quiet
+nothing_taken w H now l m q =
+    let n = not_due w H now _ l m q refl in
+    let o = or_false (owes_claim w H) _ n in
+    let c = claim_from w (claim_address w (address_after w H)) in
+    ap (λ (b : Bool). frame_by b (holds w H now) (slice_get (due w H) (length (acknowledged H))) (slice_get (accepted w H) (length (sent H))) c now) o.0
+    ∙ none_by (holds w H now) _ _ c now (elim (and_cases (is_held (address_after w H)) (is_waiting w H) o.1) [
+      | inl z ↦ inl (not_held_yet w H now (address_after w H) l m (λ t e. q t (due_later n ∙ e)) z)
+      | inr z ↦ (let v = or_false _ _ z in inr (past (due w H) (length (acknowledged H)) v.1, past (accepted w H) (length (sent H)) v.0))
+    ])
+  where
+    due_later : (owes_claim w H || (is_held (address_after w H) && is_waiting w H)) ≡ false → next_due w H ≡ held_at (address_after w H) (moment H)
+    due_later e = ap (λ (b : Bool). if b then stamp_at (moment H) else held_at (address_after w H) (moment H)) e
+
+pub quiet : (w : Who) (H : List Call) (c : Controller) (now : ℕ) (answer : Option FrameRecord) → Is w (TakeFrame now answer ∷ H) c → moment H ≤ now
+    → now < 10000000000000000 → ((t : ℕ) → next_due w H ≡ Some t → now < t) → answer ≡ None
+unfolding Quiet
+quiet w H c now None is l m q = refl
+quiet w H c now (Some f) is l m q = absurd (let z = is.answered.1 ∙ nothing_taken w H now l m q in cc)
+
+pub ticks : (w : Who) (H : List Call) (now later : ℕ) → moment H ≤ now → now ≤ later → holds w (Tick now ∷ H) later ≡ holds w H later
+ticks w H now later l m = go (address_after w H)
+  where
+    go : (a : Address) → is_held (older (later - now) (older (now - moment H) a)) ≡ is_held (older (later - moment H) a)
+    go NotClaimed = refl
+    go (Claimed n) = ap (nat_le 250000) (omega (arith, l, m))
+    go Lost = refl
+
+there : {T : Type 0} (L : List T) (n : ℕ) → slice_get L n ≡ None → nat_lt n (length L) ≡ false
+there L n e = not_lt n (length L) (past_end L n e)
+  where
+    not_lt : (i k : ℕ) → k ≤ i → nat_lt i k ≡ false
+    not_lt i k f = grind arith
+
+held_at_later : (a : Address) (m : ℕ) → held_at a m ≡ Some m → ⊥
+held_at_later NotClaimed m e = absurd (cc)
+held_at_later Lost m e = absurd (cc)
+held_at_later (Claimed n) m e = go (nat_lt n 250000) (nat_lt (m + (250000 - n)) 10000000000000000) refl e
+  where
+    go : (b c : Bool) → nat_lt n 250000 ≡ b → (if b then (if c then Some (m + (250000 - n)) else None) else None) ≡ Some m → ⊥
+    go false c f g = absurd (cc)
+    go true false f g = absurd (cc)
+    go true true f g = let x : m + (250000 - n) ≡ m = cc in let y = ltb-true n 250000 f in absurd (omega (arith, x, y))
+
+some_by : (o h : Bool) (x : Option Message) (y : Option (ℕ × Message)) (m : Message) (now : ℕ) → (o ≡ true) ⊎ ((h ≡ true) × ((x ≡ None) × (y ≡ None) → ⊥))
+    → (let none : Option (ℕ × Message) = None in none) ≡ frame_by o h x y m now → ⊥
+some_by true h x y m now e f = absurd (cc)
+some_by false false x y m now (inl e) f = absurd (cc)
+some_by false false x y m now (inr e) f = absurd (let z = e.0 in cc)
+some_by false true (Some a) y m now e f = absurd (cc)
+some_by false true None (Some b) m now e f = absurd (cc)
+some_by false true None None m now (inl e) f = absurd (cc)
+some_by false true None None m now (inr e) f = e.1 (refl, refl)
+
+pub due_now : (w : Who) (H : List Call) (c : Controller) (now : ℕ) (answer : Option FrameRecord) → Is w (TakeFrame now answer ∷ H) c
+    → next_due w H ≡ Some (moment H) → answer ≢ None
+due_now w H c now (Some f) is e z = absurd (cc)
+due_now w H c now None is e z = go (owes_claim w H) (is_held (address_after w H)) (is_waiting w H) refl refl refl
+  where
+    by : (owes_claim w H ≡ true) ⊎ ((holds w H now ≡ true) × ((slice_get (due w H) (length (acknowledged H)) ≡ None) × (slice_get (accepted w H) (length (sent H)) ≡ None) → ⊥)) → ⊥
+    by x = some_by (owes_claim w H) (holds w H now) (slice_get (due w H) (length (acknowledged H))) (slice_get (accepted w H) (length (sent H)))
+        (claim_from w (claim_address w (address_after w H))) now x is.answered.1
+
+    later : (owes_claim w H || (is_held (address_after w H) && is_waiting w H)) ≡ false → ⊥
+    later f = held_at_later (address_after w H) (moment H)
+        (sym (ap (λ (b : Bool). if b then stamp_at (moment H) else held_at (address_after w H) (moment H)) f) ∙ e)
+
+    go : (o h x : Bool) → owes_claim w H ≡ o → is_held (address_after w H) ≡ h → is_waiting w H ≡ x → ⊥
+    go true h x p q r = by (inl p)
+    go false true true p q r = by (inr (
+      held_later (address_after w H) _ q,
+      λ n. (let a = there (due w H) (length (acknowledged H)) n.0 in let b = there (accepted w H) (length (sent H)) n.1 in
+          let d : is_waiting w H ≡ false = ap (λ (u : Bool). u || nat_lt (length (acknowledged H)) (length (due w H))) b ∙ a in
+          not_both _ d r),
+    ))
+    go false false x p q r = later (ap (λ (u : Bool). u || (is_held (address_after w H) && is_waiting w H)) p ∙ ap (λ (u : Bool). u && is_waiting w H) q)
+    go false true false p q r = later (ap (λ (u : Bool). u || (is_held (address_after w H) && is_waiting w H)) p
+        ∙ (ap (λ (u : Bool). u && is_waiting w H) q ∙ r))

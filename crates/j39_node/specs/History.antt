@@ -378,3 +378,26 @@ due w (Hear f ∷ H) =
     (asked w (holds w H f.stamp) f) (due w H)
 due w (Acknowledge now r answer (Ok x) ∷ H) = due w H ++ acknowledgment w answer r ∷ []
 due w (call ∷ H) = due w H
+
+-- ---- when something is due
+
+-- a message or an acknowledgment waits
+abbrev pub is_waiting : Who → List Call → Bool
+is_waiting w H = nat_lt (length (sent H)) (length (accepted w H)) || nat_lt (length (acknowledged H)) (length (due w H))
+
+-- a moment that a stamp can tell
+abbrev pub stamp_at : ℕ → Option ℕ
+stamp_at n = if nat_lt n 10000000000000000 then Some n else None
+
+-- when a claimed address will be held
+abbrev pub held_at : Address → ℕ → Option ℕ
+held_at (Claimed e) m = if nat_lt e 250000 then stamp_at (m + (250000 - e)) else None
+held_at NotClaimed m = None
+held_at Lost m = None
+
+-- the moment of the last call, if a frame can be taken; else that at which the address is held
+abbrev pub next_due : Who → List Call → Option ℕ
+next_due w H =
+    if owes_claim w H || (is_held (address_after w H) && is_waiting w H)
+    then stamp_at (moment H)
+    else held_at (address_after w H) (moment H)

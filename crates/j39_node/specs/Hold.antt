@@ -1,9 +1,9 @@
 -- How far a controller is with its address, in its own counts.
-use Rattle.std.specs.Prelude.{ℕ, ◌-◌, ◌&&◌, ◌||◌, not, nat_eq, Bool, true, false, if◌then◌else◌}
+use Rattle.std.specs.Prelude.{ℕ, ◌+◌, ◌-◌, nat_lt, Option, Some, None, ◌&&◌, ◌||◌, not, nat_eq, Bool, true, false, if◌then◌else◌}
 use Rattle.j39_node.specs.declared.hold.Hold.{Hold}
 use Rattle.j39_node.specs.declared.hold.Standing.{Standing}
 use Rattle.j39_node.specs.declared.hold.Standing.TheVariants as standing
-use Rattle.j39_node.specs.History.{Address}
+use Rattle.j39_node.specs.History.{Address, stamp_at}
 use Rattle.j39_node.specs.History.Address.{NotClaimed, Claimed, Lost}
 
 -- it counts what is left of the 250 ms
@@ -44,3 +44,8 @@ abbrev pub lost : Standing → Bool
 lost standing.Lost = true
 lost standing.Idle = false
 lost (standing.Claimed left) = false
+
+abbrev pub left_at : Standing → ℕ → Option ℕ
+left_at standing.Idle m = None
+left_at (standing.Claimed left) m = if nat_lt 0 left then stamp_at (m + left) else None
+left_at standing.Lost m = None

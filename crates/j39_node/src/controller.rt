@@ -5,8 +5,8 @@ ghost use Rattle.j39_frame.specs.Address.{IsAddress, null_address};
 ghost use Rattle.j39_frame.specs.Pgn.{pgn_raw};
 ghost use Rattle.j39_frame.specs.Stamp.{stamp_micros};
 ghost use Rattle.j39_address.specs.Name.{name_raw};
-ghost use Rattle.j39_node.specs.History.{Who, Call, missed};
-ghost use Rattle.j39_node.specs.Hold.{lost};
+ghost use Rattle.j39_node.specs.History.{Who, Call, missed, next_due};
+ghost use Rattle.j39_node.specs.Hold.{lost, stands};
 ghost use Rattle.j39_node.specs.History.Call.{Hear, Tick, TakeFrame, Send, TakeEnded, TakeReceived, TakeRequest, Acknowledge};
 ghost use Rattle.j39_node.specs.Is.{Is, received_by, request_by, status_after, who_of};
 
@@ -97,6 +97,18 @@ impl Controller {
         ensures { (w : Who) (H : List Call) → Is w H self.now → result ≡ min (missed w H) 18446744073709551615 }
     {
         self.inbox.missed
+    }
+
+    /// The moment before which `take_frame` answers none, if nothing is heard or handed in till then: that of the last call,
+    /// where a frame can be taken, or that at which its address is held. `None` where there is no such moment.
+    pub fn next_due(&self) -> Option<Stamp>
+        ensures { (w : Who) (H : List Call) → Is w H self.now → option_map stamp_micros result ≡ next_due w H }
+    {
+        if self.has_frame() {
+            self.hold.at()
+        } else {
+            self.hold.held_at()
+        }
     }
 
     /// Hears a frame of another controller, at its stamp.
@@ -247,6 +259,21 @@ impl Controller {
         }
         self.desk.due.push(Due { answer, request });
         Ok(())
+    }
+
+    /// A frame can be taken.
+    fn has_frame(&self) -> bool
+        ensures { result ≡ (self.now.hold.owes_claim || (stands self.now.hold.standing
+            && (nat_lt self.now.taken (length self.now.outgoing.items) || nat_lt 0 (length self.now.desk.due.items)))) }
+    {
+        self.is_claim_due() || (self.hold.is_held() && self.is_waiting())
+    }
+
+    /// A message or an acknowledgment waits.
+    fn is_waiting(&self) -> bool
+        ensures { result ≡ (nat_lt self.now.taken (length self.now.outgoing.items) || nat_lt 0 (length self.now.desk.due.items)) }
+    {
+        self.taken < self.outgoing.len() || 0 < self.desk.due.len()
     }
 
     /// A claim goes before all else.

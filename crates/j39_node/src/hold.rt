@@ -1,7 +1,9 @@
 //! How far a controller is with its address, and the moment that it is at.
 ghost use Rattle.std.specs.Prelude.{◌≡◌, ◌-◌};
+ghost use Rattle.std.specs.Option.{option_map};
 ghost use Rattle.j39_frame.specs.Stamp.{stamp_micros};
-ghost use Rattle.j39_node.specs.Hold.{passed, heard, claimed, stands, lost, less, claims};
+ghost use Rattle.j39_node.specs.History.{stamp_at};
+ghost use Rattle.j39_node.specs.Hold.{passed, heard, claimed, stands, lost, less, claims, left_at};
 
 use j39_frame::Stamp;
 
@@ -105,6 +107,30 @@ impl Hold {
             Standing::Idle => false,
             Standing::Claimed(_left) => false,
             Standing::Lost => true,
+        }
+    }
+
+    /// The moment that it is at.
+    pub(crate) fn at(self) -> Option<Stamp>
+        ensures { option_map stamp_micros result ≡ stamp_at self.moment }
+    {
+        Stamp::new(self.moment)
+    }
+
+    /// When the address will be held.
+    pub(crate) fn held_at(self) -> Option<Stamp>
+        ensures { option_map stamp_micros result ≡ left_at self.standing self.moment }
+    {
+        match self.standing {
+            Standing::Idle => None,
+            Standing::Claimed(left) => {
+                if left > 0 {
+                    Stamp::new(self.moment.saturating_add(left))
+                } else {
+                    None
+                }
+            }
+            Standing::Lost => None,
         }
     }
 }

@@ -12,8 +12,8 @@ ghost use Rattle.j39_node.specs.declared.kinds.Answer.{Answer};
 ghost use Rattle.j39_node.specs.declared.kinds.Answer.TheVariants as answer;
 ghost use Rattle.j39_node.specs.declared.kinds.Refused.{Refused};
 ghost use Rattle.j39_node.specs.declared.kinds.Refused.TheVariants as refused;
-ghost use Rattle.j39_node.specs.History.{Who, Asked, Call, Message, Draft, IsFront, accepted, acknowledgment, acknowledgment_group, asked, handed, is_served, requests, address_after, calls_for_claim, can_send, claim_address, claim_from, content, acknowledged, due, frames, got, heard, holds, is_lost, kept, message_of, missed, moment, owes_claim, sent, told};
-ghost use Rattle.j39_node.specs.History.Call.{Acknowledge, Hear, TakeFrame, TakeRequest, Send, TakeEnded, TakeReceived};
+ghost use Rattle.j39_node.specs.History.{Who, Asked, Call, Message, Draft, IsFront, accepted, acknowledgment, acknowledgment_group, asked, handed, is_served, requests, address_after, calls_for_claim, can_send, claim_address, claim_from, content, acknowledged, due, frames, got, heard, holds, is_lost, kept, message_of, missed, moment, next_due, owes_claim, sent, told};
+ghost use Rattle.j39_node.specs.History.Call.{Acknowledge, Hear, Tick, TakeFrame, TakeRequest, Send, TakeEnded, TakeReceived};
 ghost use Rattle.j39_node.specs.Example.{example, two};
 ghost use Rattle.j39_node.specs.Is.{AreAnswered, Is, status_after};
 
@@ -95,6 +95,18 @@ pub fn claims()
         → Is w (TakeFrame now answer ∷ H) c → IsTrue (owes_claim w H) → answer ≢ None }
     ensures only { (w : Who) (H : List Call) (c : Controller) (now : ℕ) (f : FrameRecord)
         → Is w (TakeFrame now (Some f) ∷ H) c → pgn_of f.id ≡ address_claimed_group → IsTrue (owes_claim w H) }
+{}
+
+/// No frame is taken before the moment that `next_due` tells, if nothing is heard or handed in till then; and one is taken at the
+/// moment of the last call, if it tells that. Time that passes in two steps is the same as in one.
+pub fn quiet_till_due()
+    ensures quiet { (w : Who) (H : List Call) (c : Controller) (now : ℕ) (answer : Option FrameRecord)
+        → Is w (TakeFrame now answer ∷ H) c → moment H ≤ now → now < 10000000000000000
+        → ((t : ℕ) → next_due w H ≡ Some t → now < t) → answer ≡ None }
+    ensures due { (w : Who) (H : List Call) (c : Controller) (now : ℕ) (answer : Option FrameRecord)
+        → Is w (TakeFrame now answer ∷ H) c → next_due w H ≡ Some (moment H) → answer ≢ None }
+    ensures ticks { (w : Who) (H : List Call) (now later : ℕ) → moment H ≤ now → now ≤ later
+        → holds w (Tick now ∷ H) later ≡ holds w H later }
 {}
 
 /// What `status` answers: `Holding` exactly where the address is held, `Cannot` where it is lost.
