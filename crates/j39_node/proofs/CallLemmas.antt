@@ -4,6 +4,7 @@ use Rattle.std.specs.List.{slice_get}
 use Rattle.std.specs.Option.{option_map}
 use Rattle.j39_frame.specs.Frame.{FrameRecord}
 use Rattle.j39_address.specs.Claim.{claim_of}
+use Rattle.j39_address.specs.Claims.{Knows}
 use Rattle.j39_node.specs.declared.controller.Controller.{Controller}
 use Rattle.j39_node.specs.declared.hold.Hold.{Hold}
 use Rattle.j39_node.specs.declared.hold.Standing.{Standing}
@@ -19,12 +20,12 @@ use Rattle.j39_node.specs.declared.kinds.Ending.TheVariants.{Done, Withdrawn}
 use Rattle.j39_node.specs.declared.kinds.Refused.{Refused}
 use Rattle.j39_node.specs.declared.kinds.Refused.TheVariants.{NoAddress, BadValue, Full}
 use Rattle.j39_node.specs.Hold.{standing_of, less, passed, heard, claims, stands, lost, left_at}
-use Rattle.j39_node.specs.History.{Who, Message, Draft, Call, Address, carried, message_of, older, claimed, address_after, holds, is_lost, is_held, is_claim, is_smaller, claim_address, claim_from, owes_claim, calls_for_claim, can_send, message_from, accepted, sent, told, is_full, step, moment, is_for_program, kept, got, missed, Asked, asked, acknowledgment, acknowledged, due, handed, requests, is_served, with_request, with_refusal, is_waiting, stamp_at, held_at, next_due}
+use Rattle.j39_node.specs.History.{Who, Message, Draft, Call, Address, carried, message_of, older, claimed, address_after, holds, is_lost, is_held, is_claim, is_smaller, claim_address, claim_from, owes_claim, calls_for_claim, can_send, message_from, accepted, sent, told, is_full, step, moment, is_for_program, kept, got, missed, Asked, asked, acknowledgment, acknowledged, due, handed, requests, is_served, with_request, with_refusal, is_waiting, stamp_at, held_at, next_due, told_claims}
 use Rattle.j39_node.specs.History.Call.{Hear, Tick, TakeFrame, Send, TakeEnded, TakeReceived, TakeRequest, Acknowledge}
 use Rattle.j39_node.specs.History.Address.{NotClaimed, Claimed, Lost}
 use Rattle.j39_node.specs.Is.{Is, AreAnswered, IsAnswered, stamped, next_frame, next_ended, end_of, answer_to_send, answer_to_acknowledge, hold_after, who_of, posted, received_by, request_by, refusal_by, first_of, offered, counted}
 use Rattle.j39_node.proofs.QueueLemmas.{get_within, length_one_more, map_append, length_map, length_rest, in_rest, not_in_rest, First, drop_append, length_drop}
-use Rattle.j39_node.proofs.SoundLemmas.{Sound, sound, IsOwn, own_get, due_get, due_taken, message_taken, plain_taken, sent_is, acknowledged_is, address_is, frame_by, front_length, held_not_lost, holding_not_lost, lost_older, read}
+use Rattle.j39_node.proofs.SoundLemmas.{Sound, sound, IsOwn, own_get, due_get, due_taken, claim_taken, message_taken, plain_taken, sent_is, acknowledged_is, address_is, frame_by, front_length, held_not_lost, holding_not_lost, lost_older, read}
 
 -- the frame that is made is one of this message
 pub made : (r : Option FrameRecord) (now id : ℕ) (bytes : List ℕ) (m : Message) → (IsSome r ↔ (length bytes ≤ 8))
@@ -121,6 +122,8 @@ taken w H old new now (Some f) x h p owes held none g m e d =
       requests = ap (λ c. map request_by c.desk.waiting.items) e ∙ h.requests;
       acknowledgments = ap (λ c. map (refusal_by w) c.desk.due.items) e ∙ (h.acknowledgments
           ∙ ap (λ (xs : List Message). drop (length xs) (due w H)) (sym (acknowledged_is H now f false false n l)));
+      holders = subst (λ t. Knows t (told_claims (TakeFrame now (Some f) ∷ H))) (sym (ap (λ c. c.holders) e))
+          (subst (Knows old.holders) (sym (ap (λ (b : Bool). if b then told_claims H ++ f ∷ [] else told_claims H) n)) h.holders);
       missed = ap (λ c. c.inbox.missed) e ∙ h.missed;
     }
 
@@ -141,6 +144,7 @@ taken_none w H old new now h p owes held none g e =
       unread = ap (λ c. map received_by c.inbox.unread.items) e ∙ h.unread;
       requests = ap (λ c. map request_by c.desk.waiting.items) e ∙ h.requests;
       acknowledgments = ap (λ c. map (refusal_by w) c.desk.due.items) e ∙ h.acknowledgments;
+      holders = subst (λ t. Knows t (told_claims H)) (sym (ap (λ c. c.holders) e)) h.holders;
       missed = ap (λ c. c.inbox.missed) e ∙ h.missed;
     }
 
@@ -164,6 +168,8 @@ taken_due w H old new now (Some f) x h p owes held first m e =
       unread = ap (λ c. map received_by c.inbox.unread.items) e ∙ h.unread;
       requests = ap (λ c. map request_by c.desk.waiting.items) e ∙ h.requests;
       acknowledgments = first.rest ∙ ap (λ (n : ℕ). drop n (due w H)) (sym (ap length more ∙ length_one_more (acknowledged H) (message_of f)));
+      holders = subst (λ t. Knows t (told_claims (TakeFrame now (Some f) ∷ H))) (sym (ap (λ c. c.holders) e))
+          (subst (Knows old.holders) (sym (ap (λ (b : Bool). if b then told_claims H ++ f ∷ [] else told_claims H) is.0)) h.holders);
       missed = ap (λ c. c.inbox.missed) e ∙ h.missed;
     }
 
@@ -171,8 +177,8 @@ taken_due w H old new now (Some f) x h p owes held first m e =
 
 pub told_done : (w : Who) (H : List Call) (old new : Controller) (x : Outgoing) → Is w H old
     → First posted new.outgoing.items x (length (told H)) (accepted w H) → 0 < old.taken → new.taken + 1 ≡ old.taken
-    → new.own ≡ old.own → new.hold ≡ old.hold → new.next_token ≡ old.next_token → new.inbox ≡ old.inbox → new.desk ≡ old.desk → Is w (TakeEnded (Some (x.token, Done)) ∷ H) new
-told_done w H old new x h f some less e1 e2 e3 e4 e5 = record {
+    → new.own ≡ old.own → new.hold ≡ old.hold → new.next_token ≡ old.next_token → new.inbox ≡ old.inbox → new.desk ≡ old.desk → new.holders ≡ old.holders → Is w (TakeEnded (Some (x.token, Done)) ∷ H) new
+told_done w H old new x h f some less e1 e2 e3 e4 e5 e6 = record {
   who = ap who_of e1 ∙ h.who;
   answered = (
     h.answered,
@@ -186,6 +192,7 @@ told_done w H old new x h f some less e1 e2 e3 e4 e5 = record {
   unread = ap (λ o. map received_by o.unread.items) e4 ∙ h.unread;
   requests = ap (λ d. map request_by d.waiting.items) e5 ∙ h.requests;
   acknowledgments = ap (λ d. map (refusal_by w) d.due.items) e5 ∙ h.acknowledgments;
+  holders = subst (λ t. Knows t (told_claims H)) (sym e6) h.holders;
   missed = ap (λ o. o.missed) e4 ∙ h.missed;
 }
   where
@@ -197,8 +204,8 @@ not_before t s l = grind arith
 
 pub told_withdrawn : (w : Who) (H : List Call) (old new : Controller) (x : Outgoing) → Is w H old
     → First posted new.outgoing.items x (length (told H)) (accepted w H) → old.taken ≡ 0 → lost old.hold.standing ≡ true → new.taken ≡ old.taken
-    → new.own ≡ old.own → new.hold ≡ old.hold → new.next_token ≡ old.next_token → new.inbox ≡ old.inbox → new.desk ≡ old.desk → Is w (TakeEnded (Some (x.token, Withdrawn)) ∷ H) new
-told_withdrawn w H old new x h f none is_away same e1 e2 e3 e4 e5 = record {
+    → new.own ≡ old.own → new.hold ≡ old.hold → new.next_token ≡ old.next_token → new.inbox ≡ old.inbox → new.desk ≡ old.desk → new.holders ≡ old.holders → Is w (TakeEnded (Some (x.token, Withdrawn)) ∷ H) new
+told_withdrawn w H old new x h f none is_away same e1 e2 e3 e4 e5 e6 = record {
   who = ap who_of e1 ∙ h.who;
   answered = (
     h.answered,
@@ -212,6 +219,7 @@ told_withdrawn w H old new x h f none is_away same e1 e2 e3 e4 e5 = record {
   unread = ap (λ o. map received_by o.unread.items) e4 ∙ h.unread;
   requests = ap (λ d. map request_by d.waiting.items) e5 ∙ h.requests;
   acknowledgments = ap (λ d. map (refusal_by w) d.due.items) e5 ∙ h.acknowledgments;
+  holders = subst (λ t. Knows t (told_claims H)) (sym e6) h.holders;
   missed = ap (λ o. o.missed) e4 ∙ h.missed;
 }
   where
@@ -232,8 +240,8 @@ full_is w H old h =
 pub posts : (w : Who) (H : List Call) (old new : Controller) (now : ℕ) (d : Draft) (x : Outgoing) → Is w H old → Passed w H now new.hold
     → holds w H now ≡ true → can_send w d ≡ true → (nat_eq (length old.outgoing.items) 16 || nat_eq old.next_token 18446744073709551615) ≡ false
     → posted x ≡ (old.next_token, message_from w d) → new.outgoing.items ≡ old.outgoing.items ++ x ∷ [] → new.next_token ≡ suc old.next_token
-    → new.own ≡ old.own → new.taken ≡ old.taken → new.inbox ≡ old.inbox → new.desk ≡ old.desk → Is w (Send now d (Ok old.next_token) ∷ H) new
-posts w H old new now d x h p held can room is e0 e1 e2 e3 e4 e5 =
+    → new.own ≡ old.own → new.taken ≡ old.taken → new.inbox ≡ old.inbox → new.desk ≡ old.desk → new.holders ≡ old.holders → Is w (Send now d (Ok old.next_token) ∷ H) new
+posts w H old new now d x h p held can room is e0 e1 e2 e3 e4 e5 e6 =
     let s = sound w H h.answered in
     record {
       who = ap who_of e2 ∙ h.who;
@@ -247,6 +255,7 @@ posts w H old new now d x h p held can room is e0 e1 e2 e3 e4 e5 =
       unread = ap (λ o. map received_by o.unread.items) e4 ∙ h.unread;
       requests = ap (λ d. map request_by d.waiting.items) e5 ∙ h.requests;
       acknowledgments = ap (λ d. map (refusal_by w) d.due.items) e5 ∙ h.acknowledgments;
+      holders = subst (λ t. Knows t (told_claims H)) (sym e6) h.holders;
       missed = ap (λ o. o.missed) e4 ∙ h.missed;
     }
   where
@@ -315,9 +324,10 @@ pub heard_more : (w : Who) (H : List Call) (old new : Controller) (f : FrameReco
     ≡ with_refusal (who_of old.own) (nat_lt (length old.desk.waiting.items) 16) (nat_lt (length old.desk.due.items) 16) o
     (map (refusal_by (who_of old.own)) old.desk.due.items)
     → o ≡ asked (who_of old.own) held f
+    → ((F : List FrameRecord) → Knows old.holders F → Knows new.holders (F ++ f ∷ []))
     → new.hold ≡ heard gone calls mid → new.own ≡ old.own → new.outgoing ≡ old.outgoing → new.taken ≡ old.taken → new.next_token ≡ old.next_token
     → Is w (Hear f ∷ H) new
-heard_more w H old new f mid held wanted away gone calls o h p e1 e2 e3 e4 e5 e6 e7 q1 q2 q3 e8 s1 s2 s3 s4 =
+heard_more w H old new f mid held wanted away gone calls o h p e1 e2 e3 e4 e5 e6 e7 q1 q2 q3 q4 e8 s1 s2 s3 s4 =
     let s = sound w H h.answered in
     let wants : wanted ≡ is_for_program w (holds w H f.stamp) f =
     e2 ∙ (ap (λ (v : Who). is_for_program v held f) h.who ∙ ap (λ (b : Bool). is_for_program w b f) (holds_is w H f.stamp mid held p e1)) in
@@ -355,6 +365,7 @@ heard_more w H old new f mid held wanted away gone calls o h p e1 e2 e3 e4 e5 e6
           ∙ (ap (λ (b : Bool). with_refusal w (nat_lt (length (requests w H) - length (handed H)) 16) b o (map (refusal_by w) old.desk.due.items)) place
           ∙ (ap (λ (x : Option Asked). with_refusal w (nat_lt (length (requests w H) - length (handed H)) 16) (nat_lt (length (due w H) - length (acknowledged H)) 16) x (map (refusal_by w) old.desk.due.items)) asks_for
           ∙ refusal_rest w (nat_lt (length (requests w H) - length (handed H)) 16) (nat_lt (length (due w H) - length (acknowledged H)) 16) (asked w (holds w H f.stamp) f) (due w H) (map (refusal_by w) old.desk.due.items) (length (acknowledged H)) (front_length (acknowledged H) (due w H) s.desk.1) h.acknowledgments)))));
+      holders = q4 (told_claims H) h.holders;
       missed = e4 ∙ (ap (λ (b : Bool). counted b (map received_by old.inbox.unread.items) old.inbox.missed) wants
           ∙ missed_rest (is_for_program w (holds w H f.stamp) f) (kept w H) _ (length (got H)) (missed w H) _ h.unread h.missed);
     }
@@ -374,6 +385,7 @@ handed_more w H old new x h first e = record {
   unread = ap (λ c. map received_by c.inbox.unread.items) e ∙ h.unread;
   requests = first.rest ∙ ap (λ (n : ℕ). drop n (requests w H)) (sym (length_one_more (handed H) (request_by x)));
   acknowledgments = ap (λ c. map (refusal_by w) c.desk.due.items) e ∙ h.acknowledgments;
+  holders = subst (λ t. Knows t (told_claims H)) (sym (ap (λ c. c.holders) e)) h.holders;
   missed = ap (λ c. c.inbox.missed) e ∙ h.missed;
 }
 
@@ -405,6 +417,7 @@ due_more w H old new now answer x h p right a g e =
           ∙ (ap (λ l. l ++ refusal_by w x ∷ []) h.acknowledgments
           ∙ (ap (λ (y : Answer). drop (length (acknowledged H)) (due w H) ++ acknowledgment w y (request_by x.request) ∷ []) a
           ∙ sym (drop_append (length (acknowledged H)) (due w H) (acknowledgment w answer (request_by x.request)) (front_length (acknowledged H) (due w H) s.desk.1)))));
+      holders = subst (λ t. Knows t (told_claims H)) (sym (ap (λ c. c.holders) e)) h.holders;
       missed = ap (λ c. c.inbox.missed) e ∙ h.missed;
     }
 
@@ -422,6 +435,7 @@ refuses_send w H old new now d r h p answer e = record {
   unread = ap (λ c. map received_by c.inbox.unread.items) e ∙ h.unread;
   requests = ap (λ c. map request_by c.desk.waiting.items) e ∙ h.requests;
   acknowledgments = ap (λ c. map (refusal_by w) c.desk.due.items) e ∙ h.acknowledgments;
+  holders = subst (λ t. Knows t (told_claims H)) (sym (ap (λ c. c.holders) e)) h.holders;
   missed = ap (λ c. c.inbox.missed) e ∙ h.missed;
 }
 
@@ -476,3 +490,50 @@ held_at_is Lost m = refl
 pub due_is : (w : Who) (H : List Call) (b : Bool) → b ≡ (owes_claim w H || (is_held (address_after w H) && is_waiting w H))
     → (if b then stamp_at (moment H) else held_at (address_after w H) (moment H)) ≡ next_due w H
 due_is w H b e = ap (λ (x : Bool). if x then stamp_at (moment H) else held_at (address_after w H) (moment H)) e
+
+-- ---- a claim is taken
+
+claims_after : (a : Address) → claims (standing_of a) ≡ standing_of (claimed a)
+claims_after NotClaimed = refl
+claims_after (Claimed e) = refl
+claims_after Lost = refl
+
+pub claims_more : (w : Who) (H : List Call) (old new : Controller) (now : ℕ) (f : FrameRecord) (mid : Hold) (a : ℕ) → Is w H old → Passed w H now mid
+    → mid.owes_claim ≡ true → new.hold ≡ record { moment = mid.moment; standing = claims mid.standing; owes_claim = false }
+    → Some (stamped f) ≡ Some (now, claim_from (who_of old.own) a) → a ≡ (if lost mid.standing then 254 else old.own.address)
+    → ((F : List FrameRecord) → Knows old.holders F → Knows new.holders (F ++ f ∷ []))
+    → new ≡ record old { hold = new.hold; holders = new.holders } → Is w (TakeFrame now (Some f) ∷ H) new
+claims_more w H old new now f mid a h p owes e0 m at knows e =
+    let from : claim_from (who_of old.own) a ≡ claim_from w (claim_address w (address_after w H)) =
+    ap (λ (v : Who). claim_from v a) h.who
+    ∙ ap (claim_from w) (at ∙ (ap (λ (x : Standing). if lost x then 254 else old.own.address) p.standing
+    ∙ (ap (λ (n : ℕ). if lost (standing_of (older (step H now) (address_after w H))) then 254 else n) (ap (λ (v : Who). v.address) h.who)
+    ∙ told_address (step H now) (address_after w H)))) in
+    let k : stamped f ≡ (now, claim_from (who_of old.own) a) = cc in
+    let j : stamped f ≡ (now, claim_from w (claim_address w (address_after w H))) = k ∙ ap (λ (x : Message). (now, x)) from in
+    let n = claim_taken f now w (claim_address w (address_after w H)) j in
+    let due_claim : owes_claim w H ≡ true = sym p.owes ∙ owes in
+    record {
+      who = ap (λ c. who_of c.own) e ∙ h.who;
+      answered = (
+        h.answered,
+        ap Some j ∙ sym (ap (λ (b : Bool). frame_by b (holds w H now) (slice_get (due w H) (length (acknowledged H))) (slice_get (accepted w H) (length (sent H)))
+            (claim_from w (claim_address w (address_after w H))) now) due_claim),
+      );
+      hold = e0 ∙ is_hold _ _ p.moment
+          (ap claims p.standing ∙ (claims_after (older (step H now) (address_after w H)) ∙ ap standing_of (sym (address_is w H now f true n)))) refl;
+      outgoing = ap (λ c. map posted c.outgoing.items) e ∙ h.outgoing;
+      taken = ap (λ c. c.taken) e ∙ (h.taken ∙ ap (λ (xs : List Message). length xs - length (told H)) (sym (sent_is H now f true _ n refl)));
+      token = ap (λ c. c.next_token) e ∙ h.token;
+      unread = ap (λ c. map received_by c.inbox.unread.items) e ∙ h.unread;
+      requests = ap (λ c. map request_by c.desk.waiting.items) e ∙ h.requests;
+      acknowledgments = ap (λ c. map (refusal_by w) c.desk.due.items) e ∙ (h.acknowledgments
+          ∙ ap (λ (xs : List Message). drop (length xs) (due w H)) (sym (acknowledged_is H now f true _ n refl)));
+      holders = subst (Knows new.holders) (sym (ap (λ (b : Bool). if b then told_claims H ++ f ∷ [] else told_claims H) n)) (knows (told_claims H) h.holders);
+      missed = ap (λ c. c.inbox.missed) e ∙ h.missed;
+    }
+  where
+    told_address : (s : ℕ) (x : Address) → (if lost (standing_of (older s x)) then 254 else w.address) ≡ claim_address w x
+    told_address s NotClaimed = refl
+    told_address s (Claimed e) = refl
+    told_address s Lost = refl

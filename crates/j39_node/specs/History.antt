@@ -379,6 +379,15 @@ due w (Hear f ∷ H) =
 due w (Acknowledge now r answer (Ok x) ∷ H) = due w H ++ acknowledgment w answer r ∷ []
 due w (call ∷ H) = due w H
 
+-- ---- who holds which address
+
+-- the frames that tell it: all that were heard, and its own claims that were taken
+abbrev pub told_claims : List Call → List FrameRecord
+told_claims [] = []
+told_claims (Hear f ∷ H) = told_claims H ++ f ∷ []
+told_claims (TakeFrame now (Some f) ∷ H) = if is_claim f then told_claims H ++ f ∷ [] else told_claims H
+told_claims (call ∷ H) = told_claims H
+
 -- ---- when something is due
 
 -- a message or an acknowledgment waits

@@ -7,6 +7,7 @@ use Rattle.j39_frame.specs.Identifier.{id_raw}
 use Rattle.j39_frame.specs.Pgn.{pgn_raw}
 use Rattle.j39_frame.specs.Stamp.{stamp_micros}
 use Rattle.j39_address.specs.Name.{name_raw}
+use Rattle.j39_address.specs.Claims.{Knows}
 use Rattle.j39_address.specs.declared.status.Status.{Status}
 use Rattle.j39_address.specs.declared.status.Status.TheVariants.{Idle, Claiming, Holding, Cannot}
 use Rattle.j39_node.specs.declared.controller.Controller.{Controller}
@@ -22,7 +23,7 @@ use Rattle.j39_node.specs.declared.kinds.Ending.TheVariants.{Done, Withdrawn}
 use Rattle.j39_node.specs.declared.kinds.Refused.{Refused}
 use Rattle.j39_node.specs.declared.kinds.Refused.TheVariants.{NoAddress, BadValue, Full}
 use Rattle.j39_node.specs.Hold.{standing_of}
-use Rattle.j39_node.specs.History.{Who, Message, Draft, Call, Address, carried, message_of, moment, step, older, address_after, holds, is_lost, is_held, claim_address, claim_from, owes_claim, can_send, accepted, sent, told, is_full, got, kept, missed, content, Asked, requests, handed, due, acknowledged, acknowledgment}
+use Rattle.j39_node.specs.History.{Who, Message, Draft, Call, Address, carried, message_of, moment, step, older, address_after, holds, is_lost, is_held, claim_address, claim_from, owes_claim, can_send, accepted, sent, told, is_full, got, kept, missed, content, Asked, requests, handed, due, acknowledged, acknowledgment, told_claims}
 use Rattle.j39_node.specs.History.Call.{Hear, Tick, TakeFrame, Send, TakeEnded, TakeReceived, TakeRequest, Acknowledge}
 use Rattle.j39_node.specs.History.Address.{NotClaimed, Claimed, Lost}
 
@@ -148,4 +149,5 @@ pub record Is (w : Who) (H : List Call) (c : Controller) : Type 0 where
   pub unread : map received_by c.inbox.unread.items ≡ drop (length (got H)) (kept w H)
   pub requests : map request_by c.desk.waiting.items ≡ drop (length (handed H)) (requests w H)
   pub acknowledgments : map (refusal_by w) c.desk.due.items ≡ drop (length (acknowledged H)) (due w H)
+  pub holders : Knows c.holders (told_claims H)
   pub missed : c.inbox.missed ≡ min (missed w H) 18446744073709551615

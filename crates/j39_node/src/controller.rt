@@ -1,11 +1,13 @@
 //! A controller.
-ghost use Rattle.std.specs.Prelude.{◌≡◌, ℕ, List, [], ◌∷◌, ◌↔◌, ◌&&◌, ◌||◌, ◌==◌, nat_eq, nat_lt, if◌then◌else◌, min, IsSome, IfSome, Some, length, map, ◌<◌, ◌≤◌, false};
+ghost use Rattle.std.specs.Prelude.{◌≡◌, ℕ, List, [], ◌∷◌, ◌↔◌, ◌&&◌, ◌||◌, ◌==◌, nat_eq, nat_lt, if◌then◌else◌, min, IsSome, IfSome, Some, None, length, map, ◌<◌, ◌≤◌, false};
 ghost use Rattle.std.specs.Option.{option_map};
 ghost use Rattle.j39_frame.specs.Address.{IsAddress, null_address};
 ghost use Rattle.j39_frame.specs.Pgn.{pgn_raw};
 ghost use Rattle.j39_frame.specs.Stamp.{stamp_micros};
 ghost use Rattle.j39_address.specs.Name.{name_raw};
-ghost use Rattle.j39_node.specs.History.{Who, Call, missed, next_due};
+ghost use Rattle.j39_address.specs.Claim.{claims_of};
+ghost use Rattle.j39_address.specs.Holder.{IsHolderAfter};
+ghost use Rattle.j39_node.specs.History.{Who, Call, missed, next_due, told_claims};
 ghost use Rattle.j39_node.specs.Hold.{lost, stands};
 ghost use Rattle.j39_node.specs.History.Call.{Hear, Tick, TakeFrame, Send, TakeEnded, TakeReceived, TakeRequest, Acknowledge};
 ghost use Rattle.j39_node.specs.Is.{Is, received_by, request_by, status_after, who_of};
@@ -17,7 +19,7 @@ use crate::received::Inbox;
 use crate::requests::{Desk, Due, asked};
 use crate::{Answer, Ending, Received, Refused, Request};
 use arrayvec::ArrayVec;
-use j39_address::{Name, Status};
+use j39_address::{Claims, Name, Status};
 use j39_frame::{Frame, NULL_ADDRESS, Pgn, Stamp, is_address};
 
 /// A controller of one address: it claims it, defends it, sends messages of one frame and receives those of others. It
@@ -33,10 +35,12 @@ pub struct Controller {
     next_token: u64,
     inbox: Inbox,
     desk: Desk,
+    /// Who holds which address, by the claims heard and its own that were taken.
+    holders: Claims,
 }
 
 impl Controller {
-    ghost use Rattle.std.specs.Prelude.{◌≡◌, ℕ, List, [], ◌∷◌, ◌↔◌, ◌≤◌, length, map, min, IsSome, IfSome};
+    ghost use Rattle.std.specs.Prelude.{◌≡◌, ◌<◌, ℕ, List, [], ◌∷◌, ◌↔◌, ◌≤◌, length, map, min, IsSome, IfSome, Some, None};
     ghost use Rattle.j39_node.specs.Is.{Is};
     ghost use Rattle.j39_node.specs.History.{Who, Call};
 
@@ -72,6 +76,7 @@ impl Controller {
                 waiting: ArrayVec::new(),
                 due: ArrayVec::new(),
             },
+            holders: Claims::new(),
         })
     }
 
@@ -90,6 +95,30 @@ impl Controller {
             }
             Standing::Lost => Status::Cannot,
         }
+    }
+
+    /// The NAME that holds the address, by the claims heard and its own that were taken; `None` where nobody does.
+    pub fn holder(&self, address: u8) -> Option<Name>
+        ensures { (w : Who) (H : List Call) → Is w H self.now
+            → IsHolderAfter (claims_of (told_claims H)) address (option_map name_raw result) }
+    {
+        self.holders.holder(address)
+    }
+
+    /// The address that a NAME holds, by the same claims.
+    pub fn address_of(&self, name: Name) -> Option<u8>
+        ensures found { IfSome result (λ a. (w : Who) (H : List Call) → Is w H self.now
+            → IsHolderAfter (claims_of (told_claims H)) a (Some (name_raw name))) }
+        ensures none { result ≡ None → (w : Who) (H : List Call) → Is w H self.now → (a : ℕ) → a < 254
+            → IsHolderAfter (claims_of (told_claims H)) a (Some (name_raw name)) → ⊥ }
+    {
+        j39_address::laws::holders();
+        for address in 0..NULL_ADDRESS {
+            if self.holder(address) == Some(name) {
+                return Some(address);
+            }
+        }
+        None
     }
 
     /// How many messages for the program were missed, since sixteen lay unread.
@@ -121,6 +150,7 @@ impl Controller {
         self.inbox.offer(wanted, frame);
         let request = asked(&self.own, is_held, frame);
         self.desk.hear(&self.own, request);
+        let _changed = self.holders.note(frame);
         let drives_away = self.own.is_driven_away(frame);
         let calls = self.own.calls_for_claim(self.hold.is_lost(), frame);
         self.hold = self.hold.heard(drives_away, calls);
@@ -141,8 +171,9 @@ impl Controller {
         if self.is_claim_due() {
             let address = self.claim_address();
             self.hold = self.hold.claimed();
-            let claim = self.own.claim(address, now);
-            return claim;
+            let claim = self.own.claim(address, now)?;
+            let _changed = self.holders.note(&claim);
+            return Some(claim);
         }
         if !self.hold.is_held() {
             return None;

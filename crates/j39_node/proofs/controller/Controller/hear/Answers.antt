@@ -16,5 +16,5 @@ returns c = λ w H h.
     heard_more w H c.args.self.now _ f c.passed-self.result c.is_held-is_held.result c.is_for_program-wanted.result c.is_lost.result
     c.is_driven_away-drives_away.result c.calls_for_claim-calls.result (option_map request_by c.asked-request.result) h p c.is_held-is_held.ensures c.is_for_program-wanted.ensures
     c.offer.ensures.unread c.offer.ensures.missed c.is_driven_away-drives_away.ensures c.is_lost.ensures c.calls_for_claim-calls.ensures
-    c.hear.ensures.waiting c.hear.ensures.due c.asked-request.ensures
+    c.hear.ensures.waiting c.hear.ensures.due c.asked-request.ensures c.note-changed.ensures.knows
     c.heard-self.ensures refl refl refl refl
