@@ -11,6 +11,7 @@ use Rattle.j39_node.specs.declared.hold.Standing.{Standing}
 use Rattle.j39_node.specs.declared.hold.Standing.TheVariants as standing
 use Rattle.j39_node.specs.declared.outgoing.Outgoing.{Outgoing}
 use Rattle.std.proofs.lemmas.Option.{slice_get_past}
+use Rattle.j39_node.specs.declared.news.Untold.{Untold}
 use Rattle.j39_node.specs.declared.requests.Due.{Due}
 use Rattle.j39_node.specs.declared.requests.Request.{Request}
 use Rattle.j39_node.specs.declared.kinds.Answer.{Answer}
@@ -20,8 +21,8 @@ use Rattle.j39_node.specs.declared.kinds.Ending.TheVariants.{Done, Withdrawn}
 use Rattle.j39_node.specs.declared.kinds.Refused.{Refused}
 use Rattle.j39_node.specs.declared.kinds.Refused.TheVariants.{NoAddress, BadValue, Full}
 use Rattle.j39_node.specs.Hold.{standing_of, less, passed, heard, claims, stands, lost, left_at}
-use Rattle.j39_node.specs.History.{Who, Message, Draft, Call, Address, carried, message_of, older, claimed, address_after, holds, is_lost, is_held, is_claim, is_smaller, claim_address, claim_from, owes_claim, calls_for_claim, can_send, message_from, accepted, sent, told, is_full, step, moment, is_for_program, kept, got, missed, Asked, asked, acknowledgment, acknowledged, due, handed, requests, is_served, with_request, with_refusal, is_waiting, stamp_at, held_at, next_due, told_claims}
-use Rattle.j39_node.specs.History.Call.{Hear, Tick, TakeFrame, Send, TakeEnded, TakeReceived, TakeRequest, Acknowledge}
+use Rattle.j39_node.specs.History.{Who, Message, Draft, Call, Address, carried, message_of, older, claimed, address_after, holds, is_lost, is_held, is_claim, is_smaller, claim_address, claim_from, owes_claim, calls_for_claim, can_send, message_from, accepted, sent, told, is_full, step, moment, is_for_program, kept, got, missed, Asked, asked, acknowledgment, acknowledged, due, handed, requests, is_served, with_request, with_refusal, is_waiting, stamp_at, held_at, next_due, told_claims, is_another, lost_news, another_news, missed_news}
+use Rattle.j39_node.specs.History.Call.{Hear, Tick, TakeFrame, Send, TakeEnded, TakeReceived, TakeRequest, TakeNews, Acknowledge}
 use Rattle.j39_node.specs.History.Address.{NotClaimed, Claimed, Lost}
 use Rattle.j39_node.specs.Is.{Is, AreAnswered, IsAnswered, stamped, next_frame, next_ended, end_of, answer_to_send, answer_to_acknowledge, hold_after, who_of, posted, received_by, request_by, refusal_by, first_of, offered, counted}
 use Rattle.j39_node.proofs.QueueLemmas.{get_within, length_one_more, map_append, length_map, length_rest, in_rest, not_in_rest, First, drop_append, length_drop}
@@ -124,6 +125,7 @@ taken w H old new now (Some f) x h p owes held none g m e d =
           ∙ ap (λ (xs : List Message). drop (length xs) (due w H)) (sym (acknowledged_is H now f false false n l)));
       holders = subst (λ t. Knows t (told_claims (TakeFrame now (Some f) ∷ H))) (sym (ap (λ c. c.holders) e))
           (subst (Knows old.holders) (sym (ap (λ (b : Bool). if b then told_claims H ++ f ∷ [] else told_claims H) n)) h.holders);
+      news = ap (λ c. c.news) e ∙ h.news;
       missed = ap (λ c. c.inbox.missed) e ∙ h.missed;
     }
 
@@ -145,6 +147,7 @@ taken_none w H old new now h p owes held none g e =
       requests = ap (λ c. map request_by c.desk.waiting.items) e ∙ h.requests;
       acknowledgments = ap (λ c. map (refusal_by w) c.desk.due.items) e ∙ h.acknowledgments;
       holders = subst (λ t. Knows t (told_claims H)) (sym (ap (λ c. c.holders) e)) h.holders;
+      news = ap (λ c. c.news) e ∙ h.news;
       missed = ap (λ c. c.inbox.missed) e ∙ h.missed;
     }
 
@@ -170,6 +173,7 @@ taken_due w H old new now (Some f) x h p owes held first m e =
       acknowledgments = first.rest ∙ ap (λ (n : ℕ). drop n (due w H)) (sym (ap length more ∙ length_one_more (acknowledged H) (message_of f)));
       holders = subst (λ t. Knows t (told_claims (TakeFrame now (Some f) ∷ H))) (sym (ap (λ c. c.holders) e))
           (subst (Knows old.holders) (sym (ap (λ (b : Bool). if b then told_claims H ++ f ∷ [] else told_claims H) is.0)) h.holders);
+      news = ap (λ c. c.news) e ∙ h.news;
       missed = ap (λ c. c.inbox.missed) e ∙ h.missed;
     }
 
@@ -177,8 +181,8 @@ taken_due w H old new now (Some f) x h p owes held first m e =
 
 pub told_done : (w : Who) (H : List Call) (old new : Controller) (x : Outgoing) → Is w H old
     → First posted new.outgoing.items x (length (told H)) (accepted w H) → 0 < old.taken → new.taken + 1 ≡ old.taken
-    → new.own ≡ old.own → new.hold ≡ old.hold → new.next_token ≡ old.next_token → new.inbox ≡ old.inbox → new.desk ≡ old.desk → new.holders ≡ old.holders → Is w (TakeEnded (Some (x.token, Done)) ∷ H) new
-told_done w H old new x h f some less e1 e2 e3 e4 e5 e6 = record {
+    → new.own ≡ old.own → new.hold ≡ old.hold → new.next_token ≡ old.next_token → new.inbox ≡ old.inbox → new.desk ≡ old.desk → new.holders ≡ old.holders → new.news ≡ old.news → Is w (TakeEnded (Some (x.token, Done)) ∷ H) new
+told_done w H old new x h f some less e1 e2 e3 e4 e5 e6 e7 = record {
   who = ap who_of e1 ∙ h.who;
   answered = (
     h.answered,
@@ -193,6 +197,7 @@ told_done w H old new x h f some less e1 e2 e3 e4 e5 e6 = record {
   requests = ap (λ d. map request_by d.waiting.items) e5 ∙ h.requests;
   acknowledgments = ap (λ d. map (refusal_by w) d.due.items) e5 ∙ h.acknowledgments;
   holders = subst (λ t. Knows t (told_claims H)) (sym e6) h.holders;
+  news = e7 ∙ h.news;
   missed = ap (λ o. o.missed) e4 ∙ h.missed;
 }
   where
@@ -204,8 +209,8 @@ not_before t s l = grind arith
 
 pub told_withdrawn : (w : Who) (H : List Call) (old new : Controller) (x : Outgoing) → Is w H old
     → First posted new.outgoing.items x (length (told H)) (accepted w H) → old.taken ≡ 0 → lost old.hold.standing ≡ true → new.taken ≡ old.taken
-    → new.own ≡ old.own → new.hold ≡ old.hold → new.next_token ≡ old.next_token → new.inbox ≡ old.inbox → new.desk ≡ old.desk → new.holders ≡ old.holders → Is w (TakeEnded (Some (x.token, Withdrawn)) ∷ H) new
-told_withdrawn w H old new x h f none is_away same e1 e2 e3 e4 e5 e6 = record {
+    → new.own ≡ old.own → new.hold ≡ old.hold → new.next_token ≡ old.next_token → new.inbox ≡ old.inbox → new.desk ≡ old.desk → new.holders ≡ old.holders → new.news ≡ old.news → Is w (TakeEnded (Some (x.token, Withdrawn)) ∷ H) new
+told_withdrawn w H old new x h f none is_away same e1 e2 e3 e4 e5 e6 e7 = record {
   who = ap who_of e1 ∙ h.who;
   answered = (
     h.answered,
@@ -220,6 +225,7 @@ told_withdrawn w H old new x h f none is_away same e1 e2 e3 e4 e5 e6 = record {
   requests = ap (λ d. map request_by d.waiting.items) e5 ∙ h.requests;
   acknowledgments = ap (λ d. map (refusal_by w) d.due.items) e5 ∙ h.acknowledgments;
   holders = subst (λ t. Knows t (told_claims H)) (sym e6) h.holders;
+  news = e7 ∙ h.news;
   missed = ap (λ o. o.missed) e4 ∙ h.missed;
 }
   where
@@ -240,8 +246,8 @@ full_is w H old h =
 pub posts : (w : Who) (H : List Call) (old new : Controller) (now : ℕ) (d : Draft) (x : Outgoing) → Is w H old → Passed w H now new.hold
     → holds w H now ≡ true → can_send w d ≡ true → (nat_eq (length old.outgoing.items) 16 || nat_eq old.next_token 18446744073709551615) ≡ false
     → posted x ≡ (old.next_token, message_from w d) → new.outgoing.items ≡ old.outgoing.items ++ x ∷ [] → new.next_token ≡ suc old.next_token
-    → new.own ≡ old.own → new.taken ≡ old.taken → new.inbox ≡ old.inbox → new.desk ≡ old.desk → new.holders ≡ old.holders → Is w (Send now d (Ok old.next_token) ∷ H) new
-posts w H old new now d x h p held can room is e0 e1 e2 e3 e4 e5 e6 =
+    → new.own ≡ old.own → new.taken ≡ old.taken → new.inbox ≡ old.inbox → new.desk ≡ old.desk → new.holders ≡ old.holders → new.news ≡ old.news → Is w (Send now d (Ok old.next_token) ∷ H) new
+posts w H old new now d x h p held can room is e0 e1 e2 e3 e4 e5 e6 e7 =
     let s = sound w H h.answered in
     record {
       who = ap who_of e2 ∙ h.who;
@@ -256,6 +262,7 @@ posts w H old new now d x h p held can room is e0 e1 e2 e3 e4 e5 e6 =
       requests = ap (λ d. map request_by d.waiting.items) e5 ∙ h.requests;
       acknowledgments = ap (λ d. map (refusal_by w) d.due.items) e5 ∙ h.acknowledgments;
       holders = subst (λ t. Knows t (told_claims H)) (sym e6) h.holders;
+      news = e7 ∙ h.news;
       missed = ap (λ o. o.missed) e4 ∙ h.missed;
     }
   where
@@ -313,6 +320,17 @@ refusal_rest w room place (Some r) L xs n l e = go ((nat_eq r.destination w.addr
     go true m = ap (λ ys. ys ++ m ∷ []) e ∙ sym (drop_append n L m l)
     go false m = e
 
+is_news : (u v : Untold) → u.lost ≡ v.lost → u.another ≡ v.another → u.missed ≡ v.missed → u ≡ v
+is_news u v e f g =
+    ap (λ (x : Bool). record u { lost = x }) e
+    ∙ (ap (λ (x : Bool). record u { lost = v.lost; another = x }) f ∙ ap (λ (x : Bool). record u { lost = v.lost; another = v.another; missed = x }) g)
+
+pub news_heard : (u v : Untold) (l a b m n : Bool) → v ≡ record u { lost = l; another = u.another || a; missed = u.missed || m } → a ≡ b → m ≡ n
+    → v ≡ record u { lost = l; another = u.another || b; missed = u.missed || n }
+news_heard u v l a b m n e f g =
+    e ∙ (ap (λ (x : Bool). record u { lost = l; another = u.another || x; missed = u.missed || m }) f
+        ∙ ap (λ (x : Bool). record u { lost = l; another = u.another || b; missed = u.missed || x }) g)
+
 pub heard_more : (w : Who) (H : List Call) (old new : Controller) (f : FrameRecord) (mid : Hold) (held wanted away gone calls : Bool) (o : Option Asked) → Is w H old
     → Passed w H f.stamp mid → held ≡ stands mid.standing → wanted ≡ is_for_program (who_of old.own) held f
     → map received_by new.inbox.unread.items ≡ offered wanted (stamped f) (map received_by old.inbox.unread.items)
@@ -325,9 +343,14 @@ pub heard_more : (w : Who) (H : List Call) (old new : Controller) (f : FrameReco
     (map (refusal_by (who_of old.own)) old.desk.due.items)
     → o ≡ asked (who_of old.own) held f
     → ((F : List FrameRecord) → Knows old.holders F → Knows new.holders (F ++ f ∷ []))
+    → new.news ≡ record {
+      lost = old.news.lost || (gone && not away);
+      another = old.news.another || is_another (who_of old.own) held f;
+      missed = old.news.missed || (wanted && not (nat_lt (length old.inbox.unread.items) 16));
+    }
     → new.hold ≡ heard gone calls mid → new.own ≡ old.own → new.outgoing ≡ old.outgoing → new.taken ≡ old.taken → new.next_token ≡ old.next_token
     → Is w (Hear f ∷ H) new
-heard_more w H old new f mid held wanted away gone calls o h p e1 e2 e3 e4 e5 e6 e7 q1 q2 q3 q4 e8 s1 s2 s3 s4 =
+heard_more w H old new f mid held wanted away gone calls o h p e1 e2 e3 e4 e5 e6 e7 q1 q2 q3 q4 q5 e8 s1 s2 s3 s4 =
     let s = sound w H h.answered in
     let wants : wanted ≡ is_for_program w (holds w H f.stamp) f =
     e2 ∙ (ap (λ (v : Who). is_for_program v held f) h.who ∙ ap (λ (b : Bool). is_for_program w b f) (holds_is w H f.stamp mid held p e1)) in
@@ -366,6 +389,16 @@ heard_more w H old new f mid held wanted away gone calls o h p e1 e2 e3 e4 e5 e6
           ∙ (ap (λ (x : Option Asked). with_refusal w (nat_lt (length (requests w H) - length (handed H)) 16) (nat_lt (length (due w H) - length (acknowledged H)) 16) x (map (refusal_by w) old.desk.due.items)) asks_for
           ∙ refusal_rest w (nat_lt (length (requests w H) - length (handed H)) 16) (nat_lt (length (due w H) - length (acknowledged H)) 16) (asked w (holds w H f.stamp) f) (due w H) (map (refusal_by w) old.desk.due.items) (length (acknowledged H)) (front_length (acknowledged H) (due w H) s.desk.1) h.acknowledgments)))));
       holders = q4 (told_claims H) h.holders;
+      news = q5 ∙ is_news _ _
+          (ap (λ (u : Untold). u.lost || (gone && not away)) h.news
+              ∙ (ap (λ (b : Bool). lost_news w H || (b && not away)) goes ∙ ap (λ (b : Bool). lost_news w H || (is_smaller w (claim_of f) && not b)) lost_before))
+          (ap (λ (u : Untold). u.another || is_another (who_of old.own) held f) h.news
+              ∙ (ap (λ (v : Who). another_news w H || is_another v held f) h.who
+                  ∙ ap (λ (b : Bool). another_news w H || is_another w b f) (holds_is w H f.stamp mid held p e1)))
+          (ap (λ (u : Untold). u.missed || (wanted && not (nat_lt (length old.inbox.unread.items) 16))) h.news
+              ∙ (ap (λ (b : Bool). missed_news w H || (b && not (nat_lt (length old.inbox.unread.items) 16))) wants
+                  ∙ ap (λ (n : ℕ). missed_news w H || (is_for_program w (holds w H f.stamp) f && not (nat_lt n 16)))
+                      (length_rest received_by old.inbox.unread.items (length (got H)) (kept w H) h.unread)));
       missed = e4 ∙ (ap (λ (b : Bool). counted b (map received_by old.inbox.unread.items) old.inbox.missed) wants
           ∙ missed_rest (is_for_program w (holds w H f.stamp) f) (kept w H) _ (length (got H)) (missed w H) _ h.unread h.missed);
     }
@@ -386,6 +419,7 @@ handed_more w H old new x h first e = record {
   requests = first.rest ∙ ap (λ (n : ℕ). drop n (requests w H)) (sym (length_one_more (handed H) (request_by x)));
   acknowledgments = ap (λ c. map (refusal_by w) c.desk.due.items) e ∙ h.acknowledgments;
   holders = subst (λ t. Knows t (told_claims H)) (sym (ap (λ c. c.holders) e)) h.holders;
+  news = ap (λ c. c.news) e ∙ h.news;
   missed = ap (λ c. c.inbox.missed) e ∙ h.missed;
 }
 
@@ -418,6 +452,7 @@ due_more w H old new now answer x h p right a g e =
           ∙ (ap (λ (y : Answer). drop (length (acknowledged H)) (due w H) ++ acknowledgment w y (request_by x.request) ∷ []) a
           ∙ sym (drop_append (length (acknowledged H)) (due w H) (acknowledgment w answer (request_by x.request)) (front_length (acknowledged H) (due w H) s.desk.1)))));
       holders = subst (λ t. Knows t (told_claims H)) (sym (ap (λ c. c.holders) e)) h.holders;
+      news = ap (λ c. c.news) e ∙ h.news;
       missed = ap (λ c. c.inbox.missed) e ∙ h.missed;
     }
 
@@ -436,6 +471,7 @@ refuses_send w H old new now d r h p answer e = record {
   requests = ap (λ c. map request_by c.desk.waiting.items) e ∙ h.requests;
   acknowledgments = ap (λ c. map (refusal_by w) c.desk.due.items) e ∙ h.acknowledgments;
   holders = subst (λ t. Knows t (told_claims H)) (sym (ap (λ c. c.holders) e)) h.holders;
+  news = ap (λ c. c.news) e ∙ h.news;
   missed = ap (λ c. c.inbox.missed) e ∙ h.missed;
 }
 
@@ -530,6 +566,7 @@ claims_more w H old new now f mid a h p owes e0 m at knows e =
       acknowledgments = ap (λ c. map (refusal_by w) c.desk.due.items) e ∙ (h.acknowledgments
           ∙ ap (λ (xs : List Message). drop (length xs) (due w H)) (sym (acknowledged_is H now f true _ n refl)));
       holders = subst (Knows new.holders) (sym (ap (λ (b : Bool). if b then told_claims H ++ f ∷ [] else told_claims H) n)) (knows (told_claims H) h.holders);
+      news = ap (λ c. c.news) e ∙ h.news;
       missed = ap (λ c. c.inbox.missed) e ∙ h.missed;
     }
   where

@@ -15,7 +15,7 @@ use Rattle.j39_node.specs.declared.kinds.Answer.TheVariants.{Nack, Busy}
 use Rattle.j39_node.specs.declared.kinds.Refused.{Refused}
 use Rattle.j39_node.specs.declared.kinds.Refused.TheVariants.{NoAddress, BadValue, Full}
 use Rattle.j39_node.specs.History.{Who, Message, Draft, Call, Address, IsFront, accepted, address_after, calls_for_claim, can_send, claim_address, claim_from, content, frames, got, heard, holds, is_claim, is_for_program, is_full, is_held, is_lost, kept, message_of, missed, moment, older, owes_claim, sent, step, told, Asked, asked, acknowledgment, acknowledgment_group, acknowledged, due, handed, requests, is_served, with_request, with_refusal, is_waiting, stamp_at, held_at, next_due}
-use Rattle.j39_node.specs.History.Call.{Hear, Tick, TakeFrame, Send, TakeEnded, TakeReceived, TakeRequest, Acknowledge}
+use Rattle.j39_node.specs.History.Call.{Hear, Tick, TakeFrame, Send, TakeEnded, TakeReceived, TakeRequest, TakeNews, Acknowledge}
 use Rattle.j39_node.specs.History.Address.{NotClaimed, Claimed, Lost}
 use Rattle.j39_node.specs.Is.{Is, AreAnswered, stamped, next_frame, next_ended, end_of, status_of, status_after}
 use Rattle.j39_node.proofs.QueueLemmas.{get_within, length_one_more, length_map, get_map}
@@ -265,6 +265,7 @@ counted w (Send now d answer ∷ H) = counted w H
 counted w (TakeEnded answer ∷ H) = counted w H
 counted w (TakeReceived answer ∷ H) = counted w H
 counted w (TakeRequest answer ∷ H) = counted w H
+counted w (TakeNews answer ∷ H) = counted w H
 counted w (Acknowledge now r answer result ∷ H) = counted w H
 
 pub missed_full : (w : Who) (H : List Call) (f : FrameRecord) → missed w (Hear f ∷ H) ≢ missed w H → length (got H) + 16 ≤ length (kept w H)
@@ -305,6 +306,7 @@ still_owed w (Send now d answer ∷ later) H e o = still_owed w later H e o
 still_owed w (TakeEnded answer ∷ later) H e o = still_owed w later H e o
 still_owed w (TakeReceived answer ∷ later) H e o = still_owed w later H e o
 still_owed w (TakeRequest answer ∷ later) H e o = still_owed w later H e o
+still_owed w (TakeNews answer ∷ later) H e o = still_owed w later H e o
 still_owed w (Acknowledge now r answer result ∷ later) H e o = still_owed w later H e o
 
 pub next_claim : (w : Who) (H later : List Call) (c : Controller) (now : ℕ) (f g : FrameRecord)

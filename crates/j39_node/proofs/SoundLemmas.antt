@@ -13,7 +13,7 @@ use Rattle.j39_node.specs.declared.kinds.Answer.TheVariants.{Nack, Busy}
 use Rattle.j39_node.specs.declared.kinds.Refused.{Refused}
 use Rattle.j39_node.specs.declared.kinds.Refused.TheVariants.{NoAddress, BadValue, Full}
 use Rattle.j39_node.specs.History.{Who, Message, Draft, Call, Address, message_of, older, claimed, address_after, holds, is_lost, is_held, is_claim, is_smaller, claim_address, claim_from, owes_claim, can_send, is_own_group, is_directed, message_from, accepted, sent, told, is_full, step, content, IsFront, got, kept, Asked, asked, acknowledgment_group, is_acknowledgment, acknowledgment, acknowledged, due, handed, requests, is_served, with_request, with_refusal}
-use Rattle.j39_node.specs.History.Call.{Hear, Tick, TakeFrame, Send, TakeEnded, TakeReceived, TakeRequest, Acknowledge}
+use Rattle.j39_node.specs.History.Call.{Hear, Tick, TakeFrame, Send, TakeEnded, TakeReceived, TakeRequest, TakeNews, Acknowledge}
 use Rattle.j39_node.specs.History.Address.{NotClaimed, Claimed, Lost}
 use Rattle.j39_node.specs.Is.{AreAnswered, IsAnswered, stamped, first_of, next_frame, next_ended, end_of, ending_of, answer_to_send}
 use Rattle.j39_node.proofs.QueueLemmas.{get_within, get_append, get_map, length_one_more, map_append, length_map}
@@ -379,6 +379,8 @@ sound_more w H (TakeEnded (Some x)) e h = sound_ended w H x (end_case w H x e) h
 sound_more w H (TakeReceived None) e h = rests w H _ refl refl refl (λ l. l) h.reads h.desk h
 sound_more w H (TakeReceived (Some x)) e h = rests w H _ refl refl refl (λ l. l)
     (front_longer (got H) (kept w H) x h.reads (sym e)) h.desk h
+sound_more w H (TakeNews None) e h = rests w H _ refl refl refl (λ l. l) h.reads h.desk h
+sound_more w H (TakeNews (Some n)) e h = rests w H _ refl refl refl (λ l. l) h.reads h.desk h
 sound_more w H (TakeRequest None) e h = rests w H _ refl refl refl (λ l. l) h.reads h.desk h
 sound_more w H (TakeRequest (Some r)) e h = rests w H _ refl refl refl (λ l. l) h.reads (h.desk.0, h.desk.1, front_longer (handed H) (requests w H) r h.desk.2 (sym e)) h
 sound_more w H (Acknowledge now r answer (Ok x)) e h = rests w H _ refl refl refl (λ l. sym (lost_older (step H now) (address_after w H)) ∙ l) h.reads

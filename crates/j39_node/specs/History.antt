@@ -8,6 +8,8 @@ use Rattle.j39_frame.specs.Identifier.{source_of, destination_of, priority_of, p
 use Rattle.j39_frame.specs.Network.{address_claimed_group, request_group, transport_control_group, transport_data_group}
 use Rattle.j39_address.specs.Claim.{Claim, claim_of}
 use Rattle.j39_node.specs.declared.kinds.Ending.{Ending}
+use Rattle.j39_node.specs.declared.kinds.News.{News}
+use Rattle.j39_node.specs.declared.kinds.News.TheVariants.{AddressLost, AnotherAtAddress, MessagesMissed}
 use Rattle.j39_node.specs.declared.kinds.Refused.{Refused}
 use Rattle.j39_node.specs.declared.kinds.Answer.{Answer}
 use Rattle.j39_node.specs.declared.kinds.Answer.TheVariants.{Ack, Nack, Denied, Busy}
@@ -48,6 +50,7 @@ pub data Call : Type 0 where
   TakeEnded : Option (ℕ × Ending) → Call
   TakeReceived : Option (ℕ × Message) → Call
   TakeRequest : Option Asked → Call
+  TakeNews : Option News → Call
   Acknowledge : ℕ → Asked → Answer → Result (Unit {0}) Refused → Call
 
 -- what a frame of this identifier and these bytes carries
@@ -387,6 +390,33 @@ told_claims [] = []
 told_claims (Hear f ∷ H) = told_claims H ++ f ∷ []
 told_claims (TakeFrame now (Some f) ∷ H) = if is_claim f then told_claims H ++ f ∷ [] else told_claims H
 told_claims (call ∷ H) = told_claims H
+
+-- ---- news: each stands from when it happens until it is told
+
+-- the address was lost
+abbrev pub lost_news : Who → List Call → Bool
+lost_news w [] = false
+lost_news w (Hear f ∷ H) = lost_news w H || (is_smaller w (claim_of f) && not (is_lost (address_after w H)))
+lost_news w (TakeNews (Some AddressLost) ∷ H) = false
+lost_news w (call ∷ H) = lost_news w H
+
+-- another sends from the address that is held, and it is no claim
+abbrev pub is_another : Who → Bool → FrameRecord → Bool
+is_another w held f = held && (nat_eq (source_of f.id) w.address && not (is_claim f))
+
+abbrev pub another_news : Who → List Call → Bool
+another_news w [] = false
+another_news w (Hear f ∷ H) = another_news w H || is_another w (holds w H f.stamp) f
+another_news w (TakeNews (Some AnotherAtAddress) ∷ H) = false
+another_news w (call ∷ H) = another_news w H
+
+-- messages were missed
+abbrev pub missed_news : Who → List Call → Bool
+missed_news w [] = false
+missed_news w (Hear f ∷ H) =
+    missed_news w H || (is_for_program w (holds w H f.stamp) f && not (nat_lt (length (kept w H) - length (got H)) 16))
+missed_news w (TakeNews (Some MessagesMissed) ∷ H) = false
+missed_news w (call ∷ H) = missed_news w H
 
 -- ---- when something is due
 

@@ -20,11 +20,14 @@ use Rattle.j39_node.specs.declared.outgoing.Outgoing.{Outgoing}
 use Rattle.j39_node.specs.declared.received.Received.{Received}
 use Rattle.j39_node.specs.declared.kinds.Ending.{Ending}
 use Rattle.j39_node.specs.declared.kinds.Ending.TheVariants.{Done, Withdrawn}
+use Rattle.j39_node.specs.declared.news.Untold.{Untold}
+use Rattle.j39_node.specs.declared.kinds.News.{News}
+use Rattle.j39_node.specs.declared.kinds.News.TheVariants.{AddressLost, AnotherAtAddress, MessagesMissed}
 use Rattle.j39_node.specs.declared.kinds.Refused.{Refused}
 use Rattle.j39_node.specs.declared.kinds.Refused.TheVariants.{NoAddress, BadValue, Full}
 use Rattle.j39_node.specs.Hold.{standing_of}
-use Rattle.j39_node.specs.History.{Who, Message, Draft, Call, Address, carried, message_of, moment, step, older, address_after, holds, is_lost, is_held, claim_address, claim_from, owes_claim, can_send, accepted, sent, told, is_full, got, kept, missed, content, Asked, requests, handed, due, acknowledged, acknowledgment, told_claims}
-use Rattle.j39_node.specs.History.Call.{Hear, Tick, TakeFrame, Send, TakeEnded, TakeReceived, TakeRequest, Acknowledge}
+use Rattle.j39_node.specs.History.{Who, Message, Draft, Call, Address, carried, message_of, moment, step, older, address_after, holds, is_lost, is_held, claim_address, claim_from, owes_claim, can_send, accepted, sent, told, is_full, got, kept, missed, content, Asked, requests, handed, due, acknowledged, acknowledgment, told_claims, lost_news, another_news, missed_news}
+use Rattle.j39_node.specs.History.Call.{Hear, Tick, TakeFrame, Send, TakeEnded, TakeReceived, TakeRequest, TakeNews, Acknowledge}
 use Rattle.j39_node.specs.History.Address.{NotClaimed, Claimed, Lost}
 
 -- ---- the answers that a history asks for
@@ -70,6 +73,15 @@ next_received w H = slice_get (kept w H) (length (got H))
 abbrev pub next_request : Who → List Call → Option Asked
 next_request w H = slice_get (requests w H) (length (handed H))
 
+abbrev pub news_of : Bool → Bool → Bool → Option News
+news_of true another missed = Some AddressLost
+news_of false true missed = Some AnotherAtAddress
+news_of false false true = Some MessagesMissed
+news_of false false false = None
+
+abbrev pub next_news : Who → List Call → Option News
+next_news w H = news_of (lost_news w H) (another_news w H) (missed_news w H)
+
 -- a request to all is never acknowledged
 abbrev pub answer_to_acknowledge : Who → List Call → ℕ → Asked → Result (Unit {0}) Refused
 answer_to_acknowledge w H now r =
@@ -86,6 +98,7 @@ IsAnswered w H (Send now draft answer) = answer ≡ answer_to_send w H now draft
 IsAnswered w H (TakeEnded answer) = answer ≡ next_ended w H
 IsAnswered w H (TakeReceived answer) = answer ≡ next_received w H
 IsAnswered w H (TakeRequest answer) = answer ≡ next_request w H
+IsAnswered w H (TakeNews answer) = answer ≡ next_news w H
 IsAnswered w H (Acknowledge now r answer result) = result ≡ answer_to_acknowledge w H now r
 IsAnswered w H call = Unit {0}
 
@@ -109,6 +122,9 @@ who_of own = record { name = name_raw own.name; address = own.address; served = 
 
 abbrev pub hold_after : Who → List Call → Hold
 hold_after w H = record { moment = moment H; standing = standing_of (address_after w H); owes_claim = owes_claim w H }
+
+abbrev pub news_after : Who → List Call → Untold
+news_after w H = record { lost = lost_news w H; another = another_news w H; missed = missed_news w H }
 
 abbrev pub posted : Outgoing → ℕ × Message
 posted x = (x.token, carried (id_raw x.id) x.bytes.items)
@@ -149,5 +165,6 @@ pub record Is (w : Who) (H : List Call) (c : Controller) : Type 0 where
   pub unread : map received_by c.inbox.unread.items ≡ drop (length (got H)) (kept w H)
   pub requests : map request_by c.desk.waiting.items ≡ drop (length (handed H)) (requests w H)
   pub acknowledgments : map (refusal_by w) c.desk.due.items ≡ drop (length (acknowledged H)) (due w H)
+  pub news : c.news ≡ news_after w H
   pub holders : Knows c.holders (told_claims H)
   pub missed : c.inbox.missed ≡ min (missed w H) 18446744073709551615

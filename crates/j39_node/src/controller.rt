@@ -9,7 +9,7 @@ ghost use Rattle.j39_address.specs.Claim.{claims_of};
 ghost use Rattle.j39_address.specs.Holder.{IsHolderAfter};
 ghost use Rattle.j39_node.specs.History.{Who, Call, missed, next_due, told_claims};
 ghost use Rattle.j39_node.specs.Hold.{lost, stands};
-ghost use Rattle.j39_node.specs.History.Call.{Hear, Tick, TakeFrame, Send, TakeEnded, TakeReceived, TakeRequest, Acknowledge};
+ghost use Rattle.j39_node.specs.History.Call.{Hear, Tick, TakeFrame, Send, TakeEnded, TakeReceived, TakeRequest, TakeNews, Acknowledge};
 ghost use Rattle.j39_node.specs.Is.{Is, received_by, request_by, status_after, who_of};
 
 use crate::hold::{Hold, Standing};
@@ -17,7 +17,8 @@ use crate::outgoing::Outgoing;
 use crate::own::{Own, numbers};
 use crate::received::Inbox;
 use crate::requests::{Desk, Due, asked};
-use crate::{Answer, Ending, Received, Refused, Request};
+use crate::news::Untold;
+use crate::{Answer, Ending, News, Received, Refused, Request};
 use arrayvec::ArrayVec;
 use j39_address::{Claims, Name, Status};
 use j39_frame::{Frame, NULL_ADDRESS, Pgn, Stamp, is_address};
@@ -35,6 +36,7 @@ pub struct Controller {
     next_token: u64,
     inbox: Inbox,
     desk: Desk,
+    news: Untold,
     /// Who holds which address, by the claims heard and its own that were taken.
     holders: Claims,
 }
@@ -75,6 +77,11 @@ impl Controller {
             desk: Desk {
                 waiting: ArrayVec::new(),
                 due: ArrayVec::new(),
+            },
+            news: Untold {
+                lost: false,
+                another: false,
+                missed: false,
             },
             holders: Claims::new(),
         })
@@ -147,12 +154,16 @@ impl Controller {
         self.hold = self.hold.passed(frame.stamp);
         let is_held = self.hold.is_held();
         let wanted = self.own.is_for_program(is_held, frame);
+        let misses = self.inbox.misses(wanted);
         self.inbox.offer(wanted, frame);
         let request = asked(&self.own, is_held, frame);
         self.desk.hear(&self.own, request);
         let _changed = self.holders.note(frame);
         let drives_away = self.own.is_driven_away(frame);
-        let calls = self.own.calls_for_claim(self.hold.is_lost(), frame);
+        let is_lost = self.hold.is_lost();
+        let calls = self.own.calls_for_claim(is_lost, frame);
+        let another = self.own.is_another(is_held, frame);
+        self.news = self.news.heard(drives_away, is_lost, another, misses);
         self.hold = self.hold.heard(drives_away, calls);
     }
 
@@ -252,6 +263,25 @@ impl Controller {
         }
         let first = self.inbox.unread.remove(0);
         Some(first)
+    }
+
+    /// What happened, each once.
+    pub fn take_news(&mut self) -> Option<News>
+        ensures { (w : Who) (H : List Call) → Is w H self.old → Is w (TakeNews result ∷ H) self.new }
+    {
+        if self.news.lost {
+            self.news.lost = false;
+            return Some(News::AddressLost);
+        }
+        if self.news.another {
+            self.news.another = false;
+            return Some(News::AnotherAtAddress);
+        }
+        if self.news.missed {
+            self.news.missed = false;
+            return Some(News::MessagesMissed);
+        }
+        None
     }
 
     /// A request for a served group, each once, the oldest first. Answer it by `acknowledge`, or by `send` of its group: to

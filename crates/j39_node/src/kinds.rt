@@ -49,3 +49,14 @@ impl Answer {
         }
     }
 }
+
+/// What happened to a controller.
+#[derive(Clone, Copy, Debug, PartialEq, Eq)]
+pub enum News {
+    /// A smaller NAME claimed its address.
+    AddressLost,
+    /// Another sends from the address that it holds, and not a claim.
+    AnotherAtAddress,
+    /// Messages were missed, since sixteen lay unread; `missed` tells how many.
+    MessagesMissed,
+}

@@ -5,12 +5,13 @@ mod controller;
 mod hold;
 mod kinds;
 pub mod laws;
+mod news;
 mod outgoing;
 mod own;
 mod received;
 mod requests;
 
 pub use controller::Controller;
-pub use kinds::{Answer, Ending, Refused};
+pub use kinds::{Answer, Ending, News, Refused};
 pub use received::Received;
 pub use requests::Request;

@@ -6,7 +6,7 @@ ghost use Rattle.j39_frame.specs.Identifier.{pgn_of, id_raw, destination_of};
 ghost use Rattle.j39_frame.specs.Pgn.{pgn_raw};
 ghost use Rattle.j39_frame.specs.Stamp.{stamp_micros};
 ghost use Rattle.j39_address.specs.Claim.{claim_of};
-ghost use Rattle.j39_node.specs.History.{is_smaller, is_larger, asked_group, is_some, is_none, is_asked, calls_for_claim, is_for_program, is_own_group, claim_from, claim_with, carried, is_served};
+ghost use Rattle.j39_node.specs.History.{is_smaller, is_larger, asked_group, is_some, is_none, is_asked, calls_for_claim, is_for_program, is_own_group, claim_from, claim_with, carried, is_another, is_served};
 ghost use Rattle.j39_node.specs.Is.{who_of, stamped, refusal_by};
 
 use crate::requests::Due;
@@ -80,6 +80,13 @@ impl Own {
             && (is_undirected(frame)
                 || is_to(frame, GLOBAL_ADDRESS)
                 || (is_to(frame, self.address) && is_held))
+    }
+
+    /// Whether another sends the frame from the address that is held, and it is no claim.
+    pub(crate) fn is_another(&self, is_held: bool, frame: &Frame) -> bool
+        ensures { result ≡ is_another (who_of self.now) is_held frame.now }
+    {
+        is_held && (frame.id.source() == self.address && !frame.id.is_address_claimed())
     }
 
     /// Whether its program serves the group.

@@ -1,5 +1,5 @@
 //! Messages that were received.
-ghost use Rattle.std.specs.Prelude.{◌≡◌, Some, map};
+ghost use Rattle.std.specs.Prelude.{◌≡◌, ◌&&◌, Some, length, map, nat_lt, not};
 ghost use Rattle.std.specs.Option.{option_map};
 ghost use Rattle.j39_node.specs.Is.{received_by, stamped, offered, counted};
 
@@ -62,6 +62,13 @@ pub(crate) struct Inbox {
 }
 
 impl Inbox {
+    /// Whether a message that is wanted would be missed.
+    pub(crate) fn misses(&self, wanted: bool) -> bool
+        ensures { result ≡ (wanted && not (nat_lt (length self.now.unread.items) 16)) }
+    {
+        wanted && !(self.unread.len() < 16)
+    }
+
     /// Keeps the frame where it is wanted and there is room, else counts it as missed.
     pub(crate) fn offer(&mut self, wanted: bool, frame: &Frame)
         ensures unread { map received_by self.new.unread.items

@@ -18,6 +18,7 @@ returns c = λ w H h.
       unread = f.rest ∙ ap (λ (n : ℕ). drop n (kept w H)) (sym (length_one_more (got H) (received_by c.remove-first.result)));
       requests = h.requests;
       acknowledgments = h.acknowledgments;
+      news = h.news;
       holders = h.holders;
       missed = h.missed;
     }
