@@ -6,20 +6,23 @@ use Rattle.std.proofs.lemmas.Option.{slice_get_past}
 use Rattle.j39_frame.specs.Frame.{FrameRecord}
 use Rattle.j39_frame.specs.Identifier.{source_of, pgn_of}
 use Rattle.j39_frame.specs.Network.{address_claimed_group}
+use Rattle.j39_address.specs.Claim.{claim_of}
 use Rattle.j39_address.specs.declared.status.Status.TheVariants as status
 use Rattle.j39_node.specs.declared.controller.Controller.{Controller}
 use Rattle.j39_node.specs.declared.kinds.Ending.{Ending}
 use Rattle.j39_node.specs.declared.kinds.Ending.TheVariants.{Done, Withdrawn}
 use Rattle.j39_node.specs.declared.kinds.Answer.{Answer}
 use Rattle.j39_node.specs.declared.kinds.Answer.TheVariants.{Nack, Busy}
+use Rattle.j39_node.specs.declared.kinds.News.{News}
+use Rattle.j39_node.specs.declared.kinds.News.TheVariants.{AddressLost, AnotherAtAddress, MessagesMissed}
 use Rattle.j39_node.specs.declared.kinds.Refused.{Refused}
 use Rattle.j39_node.specs.declared.kinds.Refused.TheVariants.{NoAddress, BadValue, Full}
-use Rattle.j39_node.specs.History.{Who, Message, Draft, Call, Address, IsFront, accepted, address_after, calls_for_claim, can_send, claim_address, claim_from, content, frames, got, heard, holds, is_claim, is_for_program, is_full, is_held, is_lost, kept, message_of, missed, moment, older, owes_claim, sent, step, told, Asked, asked, acknowledgment, acknowledgment_group, acknowledged, due, handed, requests, is_served, with_request, with_refusal, is_waiting, stamp_at, held_at, next_due}
+use Rattle.j39_node.specs.History.{Who, Message, Draft, Call, Address, IsFront, accepted, address_after, calls_for_claim, can_send, claim_address, claim_from, content, frames, got, heard, holds, is_claim, is_smaller, claimed, is_for_program, is_full, is_held, is_lost, kept, message_of, missed, moment, older, owes_claim, sent, step, told, Asked, asked, acknowledgment, acknowledgment_group, acknowledged, due, handed, requests, is_served, with_request, with_refusal, is_waiting, stamp_at, held_at, next_due, lost_news, another_news, missed_news}
 use Rattle.j39_node.specs.History.Call.{Hear, Tick, TakeFrame, Send, TakeEnded, TakeReceived, TakeRequest, TakeNews, Acknowledge}
 use Rattle.j39_node.specs.History.Address.{NotClaimed, Claimed, Lost}
-use Rattle.j39_node.specs.Is.{Is, AreAnswered, stamped, next_frame, next_ended, end_of, status_of, status_after}
+use Rattle.j39_node.specs.Is.{Is, AreAnswered, stamped, next_frame, next_ended, end_of, status_of, status_after, news_of}
 use Rattle.j39_node.proofs.QueueLemmas.{get_within, length_one_more, length_map, get_map}
-use Rattle.j39_node.proofs.SoundLemmas.{Sound, sound, front_length, frame_by, due_get, due_taken, IsOwn, own_get, FrameCase, frame_case, SendCase, send_case, EndCase, end_case, claim_taken, message_taken}
+use Rattle.j39_node.proofs.SoundLemmas.{Sound, sound, front_length, lost_older, lost_claimed, frame_by, due_get, due_taken, IsOwn, own_get, FrameCase, frame_case, SendCase, send_case, EndCase, end_case, claim_taken, message_taken}
 use Rattle.j39_node.proofs.CallLemmas.{acknowledge_is, acknowledges_by}
 use Rattle.j39_node.proofs.SoundLemmas.FrameCase.{claims, acknowledges, sends}
 use Rattle.j39_node.proofs.SoundLemmas.SendCase.{no_address, bad_value, full, accepts}
@@ -634,3 +637,86 @@ due_now w H c now None is e z = go (owes_claim w H) (is_held (address_after w H)
     go false false x p q r = later (ap (λ (u : Bool). u || (is_held (address_after w H) && is_waiting w H)) p ∙ ap (λ (u : Bool). u && is_waiting w H) q)
     go false true false p q r = later (ap (λ (u : Bool). u || (is_held (address_after w H) && is_waiting w H)) p
         ∙ (ap (λ (u : Bool). u && is_waiting w H) q ∙ r))
+
+-- ---- news
+
+news_case : (a b c : Bool) (n : News) → Some n ≡ news_of a b c → ((n ≡ AddressLost) × (a ≡ true)) ⊎ ((n ≡ AnotherAtAddress) × (b ≡ true)) ⊎ ((n ≡ MessagesMissed) × (c ≡ true))
+news_case true b c n e = inl ((let z : n ≡ AddressLost = cc in z), refl)
+news_case false true c n e = inr (inl ((let z : n ≡ AnotherAtAddress = cc in z), refl))
+news_case false false true n e = inr (inr ((let z : n ≡ MessagesMissed = cc in z), refl))
+news_case false false false n e = absurd (cc)
+
+pub news_told : (w : Who) (H : List Call) (c : Controller) (n : News) → Is w (TakeNews (Some n) ∷ H) c
+    → ((n ≡ AddressLost) × IsTrue (lost_news w H)) ⊎ ((n ≡ AnotherAtAddress) × IsTrue (another_news w H)) ⊎ ((n ≡ MessagesMissed) × IsTrue (missed_news w H))
+news_told w H c n is = news_case _ _ _ n is.answered.1
+
+no_news : (a b c : Bool) → None ≡ news_of a b c → (a ≡ false) × (b ≡ false) × (c ≡ false)
+no_news true b c e = absurd (cc)
+no_news false true c e = absurd (cc)
+no_news false false true e = absurd (cc)
+no_news false false false e = (refl, refl, refl)
+
+pub none_told : (w : Who) (H : List Call) (c : Controller) → Is w (TakeNews None ∷ H) c → (lost_news w H ≡ false) × (another_news w H ≡ false) × (missed_news w H ≡ false)
+none_told w H c is = no_news _ _ _ is.answered.1
+
+either : (a b : Bool) → (a || b) ≡ true → (a ≡ true) ⊎ (b ≡ true)
+either true b e = inl refl
+either false b e = inr e
+
+stays_lost : (b : Bool) (s : ℕ) (a : Address) → is_lost a ≡ true → is_lost (if b then Lost else older s a) ≡ true
+stays_lost true s a e = refl
+stays_lost false s a e = lost_older s a ∙ e
+
+stays_lost_claimed : (b : Bool) (s : ℕ) (a : Address) → is_lost a ≡ true → is_lost (if b then claimed (older s a) else older s a) ≡ true
+stays_lost_claimed true s a e = lost_claimed (older s a) ∙ (lost_older s a ∙ e)
+stays_lost_claimed false s a e = lost_older s a ∙ e
+
+is_driven : (b c : Bool) (s : ℕ) (a : Address) → (b && c) ≡ true → is_lost (if b then Lost else older s a) ≡ true
+is_driven true c s a e = refl
+is_driven false c s a e = absurd (cc)
+
+pub lost_is_lost : (w : Who) (H : List Call) → IsTrue (lost_news w H) → IsTrue (is_lost (address_after w H))
+lost_is_lost w [] e = absurd (cc)
+lost_is_lost w (Hear f ∷ H) e = elim (either (lost_news w H) (is_smaller w (claim_of f) && not (is_lost (address_after w H))) e) [
+  | inl z ↦ stays_lost (is_smaller w (claim_of f)) (step H f.stamp) (address_after w H) (lost_is_lost w H z)
+  | inr z ↦ is_driven (is_smaller w (claim_of f)) _ (step H f.stamp) (address_after w H) z
+]
+lost_is_lost w (Tick now ∷ H) e = lost_older (step H now) (address_after w H) ∙ lost_is_lost w H e
+lost_is_lost w (TakeFrame now None ∷ H) e = lost_older (step H now) (address_after w H) ∙ lost_is_lost w H e
+lost_is_lost w (TakeFrame now (Some f) ∷ H) e = stays_lost_claimed (is_claim f) (step H now) (address_after w H) (lost_is_lost w H e)
+lost_is_lost w (Send now d answer ∷ H) e = lost_older (step H now) (address_after w H) ∙ lost_is_lost w H e
+lost_is_lost w (TakeEnded answer ∷ H) e = lost_is_lost w H e
+lost_is_lost w (TakeReceived answer ∷ H) e = lost_is_lost w H e
+lost_is_lost w (TakeRequest answer ∷ H) e = lost_is_lost w H e
+lost_is_lost w (TakeNews None ∷ H) e = lost_is_lost w H e
+lost_is_lost w (TakeNews (Some AddressLost) ∷ H) e = absurd (cc)
+lost_is_lost w (TakeNews (Some AnotherAtAddress) ∷ H) e = lost_is_lost w H e
+lost_is_lost w (TakeNews (Some MessagesMissed) ∷ H) e = lost_is_lost w H e
+lost_is_lost w (Acknowledge now r answer result ∷ H) e = lost_older (step H now) (address_after w H) ∙ lost_is_lost w H e
+
+still_missed : (b : Bool) (m : ℕ) → 0 < m → 0 < (if b then suc m else m)
+still_missed true m l = omega (arith, l)
+still_missed false m l = l
+
+one_missed : (b : Bool) (m : ℕ) → b ≡ true → 0 < (if b then suc m else m)
+one_missed true m e = omega arith
+one_missed false m e = absurd (cc)
+
+pub some_missed : (w : Who) (H : List Call) → IsTrue (missed_news w H) → 0 < missed w H
+some_missed w [] e = absurd (cc)
+some_missed w (Hear f ∷ H) e =
+    elim (either (missed_news w H) (is_for_program w (holds w H f.stamp) f && not (nat_lt (length (kept w H) - length (got H)) 16)) e) [
+      | inl z ↦ still_missed (is_for_program w (holds w H f.stamp) f && not (nat_lt (length (kept w H) - length (got H)) 16)) (missed w H) (some_missed w H z)
+      | inr z ↦ one_missed _ (missed w H) z
+    ]
+some_missed w (Tick now ∷ H) e = some_missed w H e
+some_missed w (TakeFrame now answer ∷ H) e = some_missed w H e
+some_missed w (Send now d answer ∷ H) e = some_missed w H e
+some_missed w (TakeEnded answer ∷ H) e = some_missed w H e
+some_missed w (TakeReceived answer ∷ H) e = some_missed w H e
+some_missed w (TakeRequest answer ∷ H) e = some_missed w H e
+some_missed w (TakeNews None ∷ H) e = some_missed w H e
+some_missed w (TakeNews (Some AddressLost) ∷ H) e = some_missed w H e
+some_missed w (TakeNews (Some AnotherAtAddress) ∷ H) e = some_missed w H e
+some_missed w (TakeNews (Some MessagesMissed) ∷ H) e = absurd (cc)
+some_missed w (Acknowledge now r answer result ∷ H) e = some_missed w H e

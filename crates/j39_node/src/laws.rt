@@ -1,6 +1,6 @@
 //! Laws over histories, each the contract of a function that does nothing. `Is w H c` says that the controller c was made for
 //! w and called as H says since, with the answers that H has; in H the newest call stands first.
-ghost use Rattle.std.specs.Prelude.{◌≡◌, ◌≢◌, ◌⊎◌, ◌+◌, ◌<◌, ◌≤◌, ◌↔◌, ◌++◌, ℕ, List, [], ◌∷◌, length, map, Some, None, Option, Result, Ok, Err, IsTrue};
+ghost use Rattle.std.specs.Prelude.{◌≡◌, ◌≢◌, ◌⊎◌, ◌+◌, ◌<◌, ◌≤◌, ◌↔◌, ◌++◌, ℕ, List, [], ◌∷◌, length, map, Some, None, Option, Result, Ok, Err, IsTrue, false};
 ghost use Rattle.j39_frame.specs.Frame.{FrameRecord};
 ghost use Rattle.j39_frame.specs.Identifier.{source_of, pgn_of};
 ghost use Rattle.j39_frame.specs.Network.{address_claimed_group};
@@ -10,10 +10,12 @@ ghost use Rattle.j39_node.specs.declared.kinds.Ending.{Ending};
 ghost use Rattle.j39_node.specs.declared.kinds.Ending.TheVariants as ending;
 ghost use Rattle.j39_node.specs.declared.kinds.Answer.{Answer};
 ghost use Rattle.j39_node.specs.declared.kinds.Answer.TheVariants as answer;
+ghost use Rattle.j39_node.specs.declared.kinds.News.{News};
+ghost use Rattle.j39_node.specs.declared.kinds.News.TheVariants as news;
 ghost use Rattle.j39_node.specs.declared.kinds.Refused.{Refused};
 ghost use Rattle.j39_node.specs.declared.kinds.Refused.TheVariants as refused;
-ghost use Rattle.j39_node.specs.History.{Who, Asked, Call, Message, Draft, IsFront, accepted, acknowledgment, acknowledgment_group, asked, handed, is_served, requests, address_after, calls_for_claim, can_send, claim_address, claim_from, content, acknowledged, due, frames, got, heard, holds, is_lost, kept, message_of, missed, moment, next_due, owes_claim, sent, told};
-ghost use Rattle.j39_node.specs.History.Call.{Acknowledge, Hear, Tick, TakeFrame, TakeRequest, Send, TakeEnded, TakeReceived};
+ghost use Rattle.j39_node.specs.History.{Who, Asked, Call, Message, Draft, IsFront, accepted, acknowledgment, acknowledgment_group, asked, handed, is_served, requests, lost_news, another_news, missed_news, address_after, calls_for_claim, can_send, claim_address, claim_from, content, acknowledged, due, frames, got, heard, holds, is_lost, kept, message_of, missed, moment, next_due, owes_claim, sent, told};
+ghost use Rattle.j39_node.specs.History.Call.{Acknowledge, Hear, TakeNews, Tick, TakeFrame, TakeRequest, Send, TakeEnded, TakeReceived};
 ghost use Rattle.j39_node.specs.Example.{example, two};
 ghost use Rattle.j39_node.specs.Is.{AreAnswered, Is, status_after};
 
@@ -107,6 +109,18 @@ pub fn quiet_till_due()
         → Is w (TakeFrame now answer ∷ H) c → next_due w H ≡ Some (moment H) → answer ≢ None }
     ensures ticks { (w : Who) (H : List Call) (now later : ℕ) → moment H ≤ now → now ≤ later
         → holds w (Tick now ∷ H) later ≡ holds w H later }
+{}
+
+/// News is told while it stands, and where none is told none stands: that the address was lost, which it then is; that another
+/// sends from it; that messages were missed, of which there then are some.
+pub fn news()
+    ensures none { (w : Who) (H : List Call) (c : Controller) → Is w (TakeNews None ∷ H) c
+        → (lost_news w H ≡ false) × (another_news w H ≡ false) × (missed_news w H ≡ false) }
+    ensures told { (w : Who) (H : List Call) (c : Controller) (n : News) → Is w (TakeNews (Some n) ∷ H) c
+        → ((n ≡ news.AddressLost) × IsTrue (lost_news w H)) ⊎ ((n ≡ news.AnotherAtAddress) × IsTrue (another_news w H))
+            ⊎ ((n ≡ news.MessagesMissed) × IsTrue (missed_news w H)) }
+    ensures lost { (w : Who) (H : List Call) → IsTrue (lost_news w H) → IsTrue (is_lost (address_after w H)) }
+    ensures missed { (w : Who) (H : List Call) → IsTrue (missed_news w H) → 0 < missed w H }
 {}
 
 /// What `status` answers: `Holding` exactly where the address is held, `Cannot` where it is lost.
