@@ -12,6 +12,8 @@ pub mod examples;
 #[cfg(test)]
 mod listener_memory;
 #[cfg(test)]
+mod node;
+#[cfg(test)]
 mod quick_lines;
 #[cfg(test)]
 mod raw_values;

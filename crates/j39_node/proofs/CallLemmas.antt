@@ -1,0 +1,576 @@
+-- A call more.
+use Rattle.std.proofs.Common.{◌≡◌, ◌≢◌, ◌↔◌, ℕ, zero, suc, ◌+◌, ◌-◌, ◌<◌, ◌≤◌, List, [], ◌∷◌, ◌++◌, length, map, drop, min, slice_index_or, remove, Option, Some, None, IsSome, IfSome, Result, Ok, Err, Bool, true, false, not, ◌&&◌, ◌||◌, if◌then◌else◌, nat_eq, nat_lt, nat_le, refl, sym, ap, ◌∙◌, subst, inl, inr, arith, eqb-true, eq-eqb, ltb-true, lt-ltb}
+use Rattle.std.specs.List.{slice_get}
+use Rattle.std.specs.Option.{option_map}
+use Rattle.j39_frame.specs.Frame.{FrameRecord}
+use Rattle.j39_address.specs.Claim.{claim_of}
+use Rattle.j39_address.specs.Claims.{Knows}
+use Rattle.j39_node.specs.declared.controller.Controller.{Controller}
+use Rattle.j39_node.specs.declared.hold.Hold.{Hold}
+use Rattle.j39_node.specs.declared.hold.Standing.{Standing}
+use Rattle.j39_node.specs.declared.hold.Standing.TheVariants as standing
+use Rattle.j39_node.specs.declared.outgoing.Outgoing.{Outgoing}
+use Rattle.std.proofs.lemmas.Option.{slice_get_past}
+use Rattle.j39_node.specs.declared.news.Untold.{Untold}
+use Rattle.j39_node.specs.declared.requests.Due.{Due}
+use Rattle.j39_node.specs.declared.requests.Request.{Request}
+use Rattle.j39_node.specs.declared.kinds.Answer.{Answer}
+use Rattle.j39_node.specs.declared.kinds.Answer.TheVariants.{Nack, Busy}
+use Rattle.j39_node.specs.declared.kinds.Ending.{Ending}
+use Rattle.j39_node.specs.declared.kinds.Ending.TheVariants.{Done, Withdrawn}
+use Rattle.j39_node.specs.declared.kinds.Refused.{Refused}
+use Rattle.j39_node.specs.declared.kinds.Refused.TheVariants.{NoAddress, BadValue, Full}
+use Rattle.j39_node.specs.Hold.{standing_of, less, passed, heard, claims, stands, lost, left_at}
+use Rattle.j39_node.specs.History.{Who, Message, Draft, Call, Address, carried, message_of, older, claimed, address_after, holds, is_lost, is_held, is_claim, is_smaller, claim_address, claim_from, owes_claim, calls_for_claim, can_send, message_from, accepted, sent, told, is_full, step, moment, is_for_program, kept, got, missed, Asked, asked, acknowledgment, acknowledged, due, handed, requests, is_served, with_request, with_refusal, is_waiting, stamp_at, held_at, next_due, told_claims, is_another, lost_news, another_news, missed_news}
+use Rattle.j39_node.specs.History.Call.{Hear, Tick, TakeFrame, Send, TakeEnded, TakeReceived, TakeRequest, TakeNews, Acknowledge}
+use Rattle.j39_node.specs.History.Address.{NotClaimed, Claimed, Lost}
+use Rattle.j39_node.specs.Is.{Is, AreAnswered, IsAnswered, stamped, next_frame, next_ended, end_of, answer_to_send, answer_to_acknowledge, hold_after, who_of, posted, received_by, request_by, refusal_by, first_of, offered, counted}
+use Rattle.j39_node.proofs.QueueLemmas.{get_within, length_one_more, map_append, length_map, length_rest, in_rest, not_in_rest, First, drop_append, length_drop}
+use Rattle.j39_node.proofs.SoundLemmas.{Sound, sound, IsOwn, own_get, due_get, due_taken, claim_taken, message_taken, plain_taken, sent_is, acknowledged_is, address_is, frame_by, front_length, held_not_lost, holding_not_lost, lost_older, read}
+
+-- the frame that is made is one of this message
+pub made : (r : Option FrameRecord) (now id : ℕ) (bytes : List ℕ) (m : Message) → (IsSome r ↔ (length bytes ≤ 8))
+    → IfSome r (λ f. f ≡ record { stamp = now; id = id; bytes = bytes }) → length bytes ≤ 8 → carried id bytes ≡ m
+    → option_map stamped r ≡ Some (now, m)
+made None now id bytes m known is l e = absurd (let z : false ≡ true = known.1 l in cc)
+made (Some f) now id bytes m known is l e = ap (λ g. Some (stamped g)) is ∙ ap (λ (x : Message). Some (now, x)) e
+
+-- ---- the hold
+
+less_is : (s : ℕ) (a : Address) → less s (standing_of a) ≡ standing_of (older s a)
+less_is s NotClaimed = refl
+less_is s (Claimed e) = ap standing.Claimed (omega arith)
+less_is s Lost = refl
+
+pub stands_is : (a : Address) → stands (standing_of a) ≡ is_held a
+stands_is NotClaimed = refl
+stands_is (Claimed e) = left e
+  where
+    left : (n : ℕ) → nat_eq (250000 - n) 0 ≡ nat_le 250000 n
+    left n = grind arith
+stands_is Lost = refl
+
+pub lost_is : (a : Address) → lost (standing_of a) ≡ is_lost a
+lost_is NotClaimed = refl
+lost_is (Claimed e) = refl
+lost_is Lost = refl
+
+-- what passed makes of the hold
+pub record Passed (w : Who) (H : List Call) (now : ℕ) (h : Hold) : Type 0 where
+  pub moment : h.moment ≡ now
+  pub standing : h.standing ≡ standing_of (older (step H now) (address_after w H))
+  pub owes : h.owes_claim ≡ owes_claim w H
+
+pub passed_is : (w : Who) (H : List Call) (now : ℕ) (old new : Hold) → old ≡ hold_after w H → new ≡ passed now old → Passed w H now new
+passed_is w H now old new e f =
+    let g = f ∙ ap (passed now) e in
+    record {
+      moment = ap (λ (h : Hold). h.moment) g;
+      standing = ap (λ (h : Hold). h.standing) g ∙ less_is (step H now) (address_after w H);
+      owes = ap (λ (h : Hold). h.owes_claim) g;
+    }
+
+pub holds_is : (w : Who) (H : List Call) (now : ℕ) (h : Hold) (b : Bool) → Passed w H now h → b ≡ stands h.standing → b ≡ holds w H now
+holds_is w H now h b p e = e ∙ (ap stands p.standing ∙ stands_is (older (step H now) (address_after w H)))
+
+pub is_hold : (h k : Hold) → h.moment ≡ k.moment → h.standing ≡ k.standing → h.owes_claim ≡ k.owes_claim → h ≡ k
+is_hold h k e f g =
+    ap (λ (x : ℕ). record h { moment = x }) e
+    ∙ (ap (λ (x : Standing). record h { moment = k.moment; standing = x }) f
+    ∙ ap (λ (x : Bool). record h { moment = k.moment; standing = k.standing; owes_claim = x }) g)
+
+-- ---- a frame is taken
+
+pub none_due : (w : Who) (H : List Call) (c : Controller) → Is w H c → length c.desk.due.items ≡ 0 → slice_get (due w H) (length (acknowledged H)) ≡ None
+none_due w H c h e =
+    let a = length_rest (refusal_by w) c.desk.due.items (length (acknowledged H)) (due w H) h.acknowledgments in
+    slice_get_past (due w H) (length (acknowledged H)) (omega (arith, a, e))
+
+next_is : (w : Who) (H : List Call) (now : ℕ) (a : Option Message) (o : Option (ℕ × Message)) → owes_claim w H ≡ false → holds w H now ≡ true
+    → slice_get (due w H) (length (acknowledged H)) ≡ a → slice_get (accepted w H) (length (sent H)) ≡ o
+    → next_frame w H now ≡ option_map (λ m. (now, m)) (first_of a o)
+next_is w H now a o e f g k =
+    ap (λ (b : Bool). frame_by b (holds w H now) (slice_get (due w H) (length (acknowledged H))) (slice_get (accepted w H) (length (sent H))) claim now) e
+    ∙ (ap (λ (b : Bool). frame_by false b (slice_get (due w H) (length (acknowledged H))) (slice_get (accepted w H) (length (sent H))) claim now) f
+    ∙ (ap (λ (x : Option Message). frame_by false true x (slice_get (accepted w H) (length (sent H))) claim now) g
+    ∙ ap (λ (x : Option (ℕ × Message)). frame_by false true a x claim now) k))
+  where
+    claim : Message
+    claim = claim_from w (claim_address w (address_after w H))
+
+pub taken : (w : Who) (H : List Call) (old new : Controller) (now : ℕ) (r : Option FrameRecord) (x : Outgoing) → Is w H old
+    → Passed w H now new.hold → new.hold.owes_claim ≡ false → holds w H now ≡ true → length old.desk.due.items ≡ 0
+    → slice_get old.outgoing.items old.taken ≡ Some x → option_map stamped r ≡ Some (now, (posted x).1)
+    → new ≡ record old { hold = new.hold; taken = new.taken } → new.taken ≡ suc old.taken → Is w (TakeFrame now r ∷ H) new
+taken w H old new now None x h p owes held none g m e d = absurd (cc)
+taken w H old new now (Some f) x h p owes held none g m e d =
+    let s = sound w H h.answered in
+    let t = s.in_turn (holding_not_lost w H now held) in
+    let i = in_rest posted old.outgoing.items x (accepted w H) (length (told H)) (length (sent H)) old.taken h.outgoing h.taken t g in
+    let k : stamped f ≡ (now, (posted x).1) = cc in
+    let own = own_get w (accepted w H) (length (sent H)) (posted x) s.own i in
+    let n = message_taken w f now (posted x) k own in
+    let l = plain_taken w f now (posted x) k own in
+    let more = sent_is H now f false false n l in
+    record {
+      who = ap (λ c. who_of c.own) e ∙ h.who;
+      answered = (h.answered, ap Some k ∙ sym (next_is w H now None (Some (posted x)) (sym p.owes ∙ owes) held (none_due w H old h none) i));
+      hold = is_hold _ _ p.moment (p.standing ∙ ap standing_of (sym (address_is w H now f false n))) owes;
+      outgoing = ap (λ c. map posted c.outgoing.items) e ∙ h.outgoing;
+      taken = (let a = h.taken in let b = ap length more in let c = length_one_more (sent H) (message_of f) in omega (arith, a, b, c, d, t));
+      token = ap (λ c. c.next_token) e ∙ h.token;
+      unread = ap (λ c. map received_by c.inbox.unread.items) e ∙ h.unread;
+      requests = ap (λ c. map request_by c.desk.waiting.items) e ∙ h.requests;
+      acknowledgments = ap (λ c. map (refusal_by w) c.desk.due.items) e ∙ (h.acknowledgments
+          ∙ ap (λ (xs : List Message). drop (length xs) (due w H)) (sym (acknowledged_is H now f false false n l)));
+      holders = subst (λ t. Knows t (told_claims (TakeFrame now (Some f) ∷ H))) (sym (ap (λ c. c.holders) e))
+          (subst (Knows old.holders) (sym (ap (λ (b : Bool). if b then told_claims H ++ f ∷ [] else told_claims H) n)) h.holders);
+      news = ap (λ c. c.news) e ∙ h.news;
+      missed = ap (λ c. c.inbox.missed) e ∙ h.missed;
+    }
+
+pub taken_none : (w : Who) (H : List Call) (old new : Controller) (now : ℕ) → Is w H old
+    → Passed w H now new.hold → new.hold.owes_claim ≡ false → holds w H now ≡ true → length old.desk.due.items ≡ 0
+    → slice_get old.outgoing.items old.taken ≡ None → new ≡ record old { hold = new.hold } → Is w (TakeFrame now None ∷ H) new
+taken_none w H old new now h p owes held none g e =
+    let s = sound w H h.answered in
+    let t = s.in_turn (holding_not_lost w H now held) in
+    let i = not_in_rest posted old.outgoing.items (accepted w H) (length (told H)) (length (sent H)) old.taken h.outgoing h.taken t g in
+    record {
+      who = ap (λ c. who_of c.own) e ∙ h.who;
+      answered = (h.answered, sym (next_is w H now None None (sym p.owes ∙ owes) held (none_due w H old h none) i));
+      hold = is_hold _ _ p.moment p.standing p.owes;
+      outgoing = ap (λ c. map posted c.outgoing.items) e ∙ h.outgoing;
+      taken = ap (λ c. c.taken) e ∙ h.taken;
+      token = ap (λ c. c.next_token) e ∙ h.token;
+      unread = ap (λ c. map received_by c.inbox.unread.items) e ∙ h.unread;
+      requests = ap (λ c. map request_by c.desk.waiting.items) e ∙ h.requests;
+      acknowledgments = ap (λ c. map (refusal_by w) c.desk.due.items) e ∙ h.acknowledgments;
+      holders = subst (λ t. Knows t (told_claims H)) (sym (ap (λ c. c.holders) e)) h.holders;
+      news = ap (λ c. c.news) e ∙ h.news;
+      missed = ap (λ c. c.inbox.missed) e ∙ h.missed;
+    }
+
+pub taken_due : (w : Who) (H : List Call) (old new : Controller) (now : ℕ) (r : Option FrameRecord) (x : Due) → Is w H old
+    → Passed w H now new.hold → new.hold.owes_claim ≡ false → holds w H now ≡ true
+    → First (refusal_by w) new.desk.due.items x (length (acknowledged H)) (due w H) → option_map stamped r ≡ Some (now, refusal_by w x)
+    → new ≡ record old { hold = new.hold; desk = record { waiting = old.desk.waiting; due = new.desk.due } } → Is w (TakeFrame now r ∷ H) new
+taken_due w H old new now None x h p owes held first m e = absurd (cc)
+taken_due w H old new now (Some f) x h p owes held first m e =
+    let s = sound w H h.answered in
+    let k : stamped f ≡ (now, refusal_by w x) = cc in
+    let is = due_taken w f now (refusal_by w x) k (due_get w (due w H) (length (acknowledged H)) (refusal_by w x) s.desk.0 first.is) in
+    let more = acknowledged_is H now f false true is.0 is.1 in
+    record {
+      who = ap (λ c. who_of c.own) e ∙ h.who;
+      answered = (h.answered, ap Some k ∙ sym (next_is w H now (Some (refusal_by w x)) _ (sym p.owes ∙ owes) held first.is refl));
+      hold = is_hold _ _ p.moment (p.standing ∙ ap standing_of (sym (address_is w H now f false is.0))) owes;
+      outgoing = ap (λ c. map posted c.outgoing.items) e ∙ h.outgoing;
+      taken = ap (λ c. c.taken) e ∙ (h.taken ∙ ap (λ (xs : List Message). length xs - length (told H)) (sym (sent_is H now f false true is.0 is.1)));
+      token = ap (λ c. c.next_token) e ∙ h.token;
+      unread = ap (λ c. map received_by c.inbox.unread.items) e ∙ h.unread;
+      requests = ap (λ c. map request_by c.desk.waiting.items) e ∙ h.requests;
+      acknowledgments = first.rest ∙ ap (λ (n : ℕ). drop n (due w H)) (sym (ap length more ∙ length_one_more (acknowledged H) (message_of f)));
+      holders = subst (λ t. Knows t (told_claims (TakeFrame now (Some f) ∷ H))) (sym (ap (λ c. c.holders) e))
+          (subst (Knows old.holders) (sym (ap (λ (b : Bool). if b then told_claims H ++ f ∷ [] else told_claims H) is.0)) h.holders);
+      news = ap (λ c. c.news) e ∙ h.news;
+      missed = ap (λ c. c.inbox.missed) e ∙ h.missed;
+    }
+
+-- ---- an end is told
+
+pub told_done : (w : Who) (H : List Call) (old new : Controller) (x : Outgoing) → Is w H old
+    → First posted new.outgoing.items x (length (told H)) (accepted w H) → 0 < old.taken → new.taken + 1 ≡ old.taken
+    → new.own ≡ old.own → new.hold ≡ old.hold → new.next_token ≡ old.next_token → new.inbox ≡ old.inbox → new.desk ≡ old.desk → new.holders ≡ old.holders → new.news ≡ old.news → Is w (TakeEnded (Some (x.token, Done)) ∷ H) new
+told_done w H old new x h f some less e1 e2 e3 e4 e5 e6 e7 = record {
+  who = ap who_of e1 ∙ h.who;
+  answered = (
+    h.answered,
+    sym (ap (λ (b : Bool). end_of b (is_lost (address_after w H)) (slice_get (accepted w H) (length (told H)))) before
+        ∙ ap (end_of true (is_lost (address_after w H))) f.is),
+  );
+  hold = e2 ∙ h.hold;
+  outgoing = f.rest ∙ ap (λ (n : ℕ). drop n (accepted w H)) (sym (length_one_more (told H) (x.token, Done)));
+  taken = (let a = h.taken in let b = length_one_more (told H) (x.token, Done) in omega (arith, a, b, less));
+  token = e3 ∙ h.token;
+  unread = ap (λ o. map received_by o.unread.items) e4 ∙ h.unread;
+  requests = ap (λ d. map request_by d.waiting.items) e5 ∙ h.requests;
+  acknowledgments = ap (λ d. map (refusal_by w) d.due.items) e5 ∙ h.acknowledgments;
+  holders = subst (λ t. Knows t (told_claims H)) (sym e6) h.holders;
+  news = e7 ∙ h.news;
+  missed = ap (λ o. o.missed) e4 ∙ h.missed;
+}
+  where
+    before : nat_lt (length (told H)) (length (sent H)) ≡ true
+    before = lt-ltb _ _ (let a = h.taken in omega (arith, a, some))
+
+not_before : (t s : ℕ) → s ≤ t → nat_lt t s ≡ false
+not_before t s l = grind arith
+
+pub told_withdrawn : (w : Who) (H : List Call) (old new : Controller) (x : Outgoing) → Is w H old
+    → First posted new.outgoing.items x (length (told H)) (accepted w H) → old.taken ≡ 0 → lost old.hold.standing ≡ true → new.taken ≡ old.taken
+    → new.own ≡ old.own → new.hold ≡ old.hold → new.next_token ≡ old.next_token → new.inbox ≡ old.inbox → new.desk ≡ old.desk → new.holders ≡ old.holders → new.news ≡ old.news → Is w (TakeEnded (Some (x.token, Withdrawn)) ∷ H) new
+told_withdrawn w H old new x h f none is_away same e1 e2 e3 e4 e5 e6 e7 = record {
+  who = ap who_of e1 ∙ h.who;
+  answered = (
+    h.answered,
+    sym (ap (λ (b : Bool). end_of b (is_lost (address_after w H)) (slice_get (accepted w H) (length (told H)))) after
+        ∙ (ap (λ (b : Bool). end_of false b (slice_get (accepted w H) (length (told H)))) away ∙ ap (end_of false true) f.is)),
+  );
+  hold = e2 ∙ h.hold;
+  outgoing = f.rest ∙ ap (λ (n : ℕ). drop n (accepted w H)) (sym (length_one_more (told H) (x.token, Withdrawn)));
+  taken = (let a = h.taken in let b = length_one_more (told H) (x.token, Withdrawn) in omega (arith, a, b, none, same));
+  token = e3 ∙ h.token;
+  unread = ap (λ o. map received_by o.unread.items) e4 ∙ h.unread;
+  requests = ap (λ d. map request_by d.waiting.items) e5 ∙ h.requests;
+  acknowledgments = ap (λ d. map (refusal_by w) d.due.items) e5 ∙ h.acknowledgments;
+  holders = subst (λ t. Knows t (told_claims H)) (sym e6) h.holders;
+  news = e7 ∙ h.news;
+  missed = ap (λ o. o.missed) e4 ∙ h.missed;
+}
+  where
+    after : nat_lt (length (told H)) (length (sent H)) ≡ false
+    after = not_before _ _ (let a = h.taken in omega (arith, a, none))
+
+    away : is_lost (address_after w H) ≡ true
+    away = sym (lost_is (address_after w H)) ∙ (sym (ap (λ (k : Hold). lost k.standing) h.hold) ∙ is_away)
+
+-- ---- a message is accepted
+
+pub full_is : (w : Who) (H : List Call) (old : Controller) → Is w H old
+    → (nat_eq (length old.outgoing.items) 16 || nat_eq old.next_token 18446744073709551615) ≡ is_full w H
+full_is w H old h =
+    ap (λ (n : ℕ). nat_eq n 16 || nat_eq old.next_token 18446744073709551615) (length_rest posted old.outgoing.items (length (told H)) (accepted w H) h.outgoing)
+    ∙ ap (λ (n : ℕ). nat_eq (length (accepted w H) - length (told H)) 16 || nat_eq n 18446744073709551615) h.token
+
+pub posts : (w : Who) (H : List Call) (old new : Controller) (now : ℕ) (d : Draft) (x : Outgoing) → Is w H old → Passed w H now new.hold
+    → holds w H now ≡ true → can_send w d ≡ true → (nat_eq (length old.outgoing.items) 16 || nat_eq old.next_token 18446744073709551615) ≡ false
+    → posted x ≡ (old.next_token, message_from w d) → new.outgoing.items ≡ old.outgoing.items ++ x ∷ [] → new.next_token ≡ suc old.next_token
+    → new.own ≡ old.own → new.taken ≡ old.taken → new.inbox ≡ old.inbox → new.desk ≡ old.desk → new.holders ≡ old.holders → new.news ≡ old.news → Is w (Send now d (Ok old.next_token) ∷ H) new
+posts w H old new now d x h p held can room is e0 e1 e2 e3 e4 e5 e6 e7 =
+    let s = sound w H h.answered in
+    record {
+      who = ap who_of e2 ∙ h.who;
+      answered = (h.answered, ap Ok h.token ∙ sym (answer (holds w H now) (can_send w d) (is_full w H) held can (sym (full_is w H old h) ∙ room)));
+      hold = is_hold _ _ p.moment p.standing p.owes;
+      outgoing = ap (map posted) e0 ∙ (map_append posted old.outgoing.items x
+          ∙ (ap (λ l. l ++ posted x ∷ []) h.outgoing ∙ (ap (λ (y : ℕ × Message). drop (length (told H)) (accepted w H) ++ y ∷ []) is
+          ∙ sym (drop_append (length (told H)) (accepted w H) (old.next_token, message_from w d) s.within))));
+      taken = e3 ∙ h.taken;
+      token = (let a = h.token in let b = length_one_more (accepted w H) (old.next_token, message_from w d) in omega (arith, a, b, e1));
+      unread = ap (λ o. map received_by o.unread.items) e4 ∙ h.unread;
+      requests = ap (λ d. map request_by d.waiting.items) e5 ∙ h.requests;
+      acknowledgments = ap (λ d. map (refusal_by w) d.due.items) e5 ∙ h.acknowledgments;
+      holders = subst (λ t. Knows t (told_claims H)) (sym e6) h.holders;
+      news = e7 ∙ h.news;
+      missed = ap (λ o. o.missed) e4 ∙ h.missed;
+    }
+  where
+    answer : (a b f : Bool) → a ≡ true → b ≡ true → f ≡ false
+        → (if a then (if b then (if f then Err Full else Ok (length (accepted w H))) else Err BadValue) else Err NoAddress) ≡ Ok (length (accepted w H))
+    answer true true false e f g = refl
+    answer true true true e f g = absurd (cc)
+    answer true false f e g i = absurd (cc)
+    answer false b f e g i = absurd (cc)
+
+-- ---- a frame is heard
+
+heard_standing : (b : Bool) (s : ℕ) (a : Address) → (if b then standing.Lost else standing_of (older s a)) ≡ standing_of (if b then Lost else older s a)
+heard_standing true s a = refl
+heard_standing false s a = refl
+
+kept_rest : (wanted : Bool) (K unread : List (ℕ × Message)) (n : ℕ) (x : ℕ × Message) → n ≤ length K → unread ≡ drop n K
+    → offered wanted x unread ≡ drop n (if wanted && nat_lt (length K - n) 16 then K ++ x ∷ [] else K)
+kept_rest wanted K unread n x l e =
+    ap (offered wanted x) e
+    ∙ (ap (λ (k : ℕ). if wanted && nat_lt k 16 then drop n K ++ x ∷ [] else drop n K) (length_drop n K) ∙ go (wanted && nat_lt (length K - n) 16))
+  where
+    go : (b : Bool) → (if b then drop n K ++ x ∷ [] else drop n K) ≡ drop n (if b then K ++ x ∷ [] else K)
+    go true = sym (drop_append n K x l)
+    go false = refl
+
+missed_one : (m : ℕ) → min (min m 18446744073709551615 + 1) 18446744073709551615 ≡ min (suc m) 18446744073709551615
+missed_one m = omega arith
+
+missed_rest : (wanted : Bool) (K unread : List (ℕ × Message)) (n m c : ℕ) → unread ≡ drop n K → c ≡ min m 18446744073709551615
+    → counted wanted unread c ≡ min (if wanted && not (nat_lt (length K - n) 16) then suc m else m) 18446744073709551615
+missed_rest wanted K unread n m c e f =
+    ap (λ (k : ℕ). if wanted && not (nat_lt k 16) then min (c + 1) 18446744073709551615 else c) (ap length e ∙ length_drop n K)
+    ∙ go (wanted && not (nat_lt (length K - n) 16))
+  where
+    go : (b : Bool) → (if b then min (c + 1) 18446744073709551615 else c) ≡ min (if b then suc m else m) 18446744073709551615
+    go true = ap (λ (k : ℕ). min (k + 1) 18446744073709551615) f ∙ missed_one m
+    go false = f
+
+request_rest : (w : Who) (room : Bool) (o : Option Asked) (L xs : List Asked) (n : ℕ) → n ≤ length L → xs ≡ drop n L
+    → with_request w room o xs ≡ drop n (with_request w room o L)
+request_rest w room None L xs n l e = e
+request_rest w room (Some r) L xs n l e = go (is_served w r.group && room)
+  where
+    go : (b : Bool) → (if b then xs ++ r ∷ [] else xs) ≡ drop n (if b then L ++ r ∷ [] else L)
+    go true = ap (λ ys. ys ++ r ∷ []) e ∙ sym (drop_append n L r l)
+    go false = e
+
+refusal_rest : (w : Who) (room place : Bool) (o : Option Asked) (L xs : List Message) (n : ℕ) → n ≤ length L → xs ≡ drop n L
+    → with_refusal w room place o xs ≡ drop n (with_refusal w room place o L)
+refusal_rest w room place None L xs n l e = e
+refusal_rest w room place (Some r) L xs n l e = go ((nat_eq r.destination w.address && place) && not (is_served w r.group && room)) (acknowledgment w (if is_served w r.group then Busy else Nack) r)
+  where
+    go : (b : Bool) (m : Message) → (if b then xs ++ m ∷ [] else xs) ≡ drop n (if b then L ++ m ∷ [] else L)
+    go true m = ap (λ ys. ys ++ m ∷ []) e ∙ sym (drop_append n L m l)
+    go false m = e
+
+is_news : (u v : Untold) → u.lost ≡ v.lost → u.another ≡ v.another → u.missed ≡ v.missed → u ≡ v
+is_news u v e f g =
+    ap (λ (x : Bool). record u { lost = x }) e
+    ∙ (ap (λ (x : Bool). record u { lost = v.lost; another = x }) f ∙ ap (λ (x : Bool). record u { lost = v.lost; another = v.another; missed = x }) g)
+
+pub news_heard : (u v : Untold) (l a b m n : Bool) → v ≡ record u { lost = l; another = u.another || a; missed = u.missed || m } → a ≡ b → m ≡ n
+    → v ≡ record u { lost = l; another = u.another || b; missed = u.missed || n }
+news_heard u v l a b m n e f g =
+    e ∙ (ap (λ (x : Bool). record u { lost = l; another = u.another || x; missed = u.missed || m }) f
+        ∙ ap (λ (x : Bool). record u { lost = l; another = u.another || b; missed = u.missed || x }) g)
+
+pub heard_more : (w : Who) (H : List Call) (old new : Controller) (f : FrameRecord) (mid : Hold) (held wanted away gone calls : Bool) (o : Option Asked) → Is w H old
+    → Passed w H f.stamp mid → held ≡ stands mid.standing → wanted ≡ is_for_program (who_of old.own) held f
+    → map received_by new.inbox.unread.items ≡ offered wanted (stamped f) (map received_by old.inbox.unread.items)
+    → new.inbox.missed ≡ counted wanted (map received_by old.inbox.unread.items) old.inbox.missed
+    → gone ≡ is_smaller (who_of old.own) (claim_of f) → away ≡ lost mid.standing → calls ≡ calls_for_claim (who_of old.own) away f
+    → map request_by new.desk.waiting.items
+    ≡ with_request (who_of old.own) (nat_lt (length old.desk.waiting.items) 16) o (map request_by old.desk.waiting.items)
+    → map (refusal_by (who_of old.own)) new.desk.due.items
+    ≡ with_refusal (who_of old.own) (nat_lt (length old.desk.waiting.items) 16) (nat_lt (length old.desk.due.items) 16) o
+    (map (refusal_by (who_of old.own)) old.desk.due.items)
+    → o ≡ asked (who_of old.own) held f
+    → ((F : List FrameRecord) → Knows old.holders F → Knows new.holders (F ++ f ∷ []))
+    → new.news ≡ record {
+      lost = old.news.lost || (gone && not away);
+      another = old.news.another || is_another (who_of old.own) held f;
+      missed = old.news.missed || (wanted && not (nat_lt (length old.inbox.unread.items) 16));
+    }
+    → new.hold ≡ heard gone calls mid → new.own ≡ old.own → new.outgoing ≡ old.outgoing → new.taken ≡ old.taken → new.next_token ≡ old.next_token
+    → Is w (Hear f ∷ H) new
+heard_more w H old new f mid held wanted away gone calls o h p e1 e2 e3 e4 e5 e6 e7 q1 q2 q3 q4 q5 e8 s1 s2 s3 s4 =
+    let s = sound w H h.answered in
+    let wants : wanted ≡ is_for_program w (holds w H f.stamp) f =
+    e2 ∙ (ap (λ (v : Who). is_for_program v held f) h.who ∙ ap (λ (b : Bool). is_for_program w b f) (holds_is w H f.stamp mid held p e1)) in
+    let lost_before : away ≡ is_lost (address_after w H) =
+    e6 ∙ (ap lost p.standing ∙ (lost_is (older (step H f.stamp) (address_after w H)) ∙ lost_older (step H f.stamp) (address_after w H))) in
+    let asks_for : o ≡ asked w (holds w H f.stamp) f =
+    q3 ∙ (ap (λ (v : Who). asked v held f) h.who ∙ ap (λ (b : Bool). asked w b f) (holds_is w H f.stamp mid held p e1)) in
+    let room : nat_lt (length old.desk.waiting.items) 16 ≡ nat_lt (length (requests w H) - length (handed H)) 16 =
+    ap (λ (n : ℕ). nat_lt n 16) (length_rest request_by old.desk.waiting.items (length (handed H)) (requests w H) h.requests) in
+    let place : nat_lt (length old.desk.due.items) 16 ≡ nat_lt (length (due w H) - length (acknowledged H)) 16 =
+    ap (λ (n : ℕ). nat_lt n 16) (length_rest (refusal_by w) old.desk.due.items (length (acknowledged H)) (due w H) h.acknowledgments) in
+    let goes : gone ≡ is_smaller w (claim_of f) = e5 ∙ ap (λ (v : Who). is_smaller v (claim_of f)) h.who in
+    let asks : calls ≡ calls_for_claim w (is_lost (address_after w H)) f =
+    e7 ∙ (ap (λ (v : Who). calls_for_claim v away f) h.who ∙ ap (λ (b : Bool). calls_for_claim w b f) lost_before) in
+    record {
+      who = ap who_of s1 ∙ h.who;
+      answered = (h.answered, tt);
+      hold = is_hold _ _ (ap (λ (k : Hold). k.moment) e8 ∙ p.moment)
+          (ap (λ (k : Hold). k.standing) e8 ∙ (ap (λ (b : Bool). if b then standing.Lost else mid.standing) goes
+          ∙ (ap (λ (x : Standing). if is_smaller w (claim_of f) then standing.Lost else x) p.standing
+          ∙ heard_standing (is_smaller w (claim_of f)) (step H f.stamp) (address_after w H))))
+          (ap (λ (k : Hold). k.owes_claim) e8 ∙ (ap (λ (b : Bool). b || calls) p.owes ∙ ap (λ (b : Bool). owes_claim w H || b) asks));
+      outgoing = ap (λ o. map posted o.items) s2 ∙ h.outgoing;
+      taken = s3 ∙ h.taken;
+      token = s4 ∙ h.token;
+      unread = e3 ∙ (ap (λ (b : Bool). offered b (stamped f) (map received_by old.inbox.unread.items)) wants
+          ∙ kept_rest (is_for_program w (holds w H f.stamp) f) (kept w H) _ (length (got H)) (stamped f) (read w H s) h.unread);
+      requests = q1 ∙ (ap (λ (v : Who). with_request v (nat_lt (length old.desk.waiting.items) 16) o (map request_by old.desk.waiting.items)) h.who
+          ∙ (ap (λ (b : Bool). with_request w b o (map request_by old.desk.waiting.items)) room
+          ∙ (ap (λ (x : Option Asked). with_request w (nat_lt (length (requests w H) - length (handed H)) 16) x (map request_by old.desk.waiting.items)) asks_for
+          ∙ request_rest w (nat_lt (length (requests w H) - length (handed H)) 16) (asked w (holds w H f.stamp) f) (requests w H) (map request_by old.desk.waiting.items) (length (handed H)) (front_length (handed H) (requests w H) s.desk.2) h.requests)));
+      acknowledgments = ap (λ (v : Who). map (refusal_by v) new.desk.due.items) (sym h.who)
+          ∙ (q2 ∙ (ap (λ (v : Who). with_refusal v (nat_lt (length old.desk.waiting.items) 16) (nat_lt (length old.desk.due.items) 16) o (map (refusal_by v) old.desk.due.items)) h.who
+          ∙ (ap (λ (b : Bool). with_refusal w b (nat_lt (length old.desk.due.items) 16) o (map (refusal_by w) old.desk.due.items)) room
+          ∙ (ap (λ (b : Bool). with_refusal w (nat_lt (length (requests w H) - length (handed H)) 16) b o (map (refusal_by w) old.desk.due.items)) place
+          ∙ (ap (λ (x : Option Asked). with_refusal w (nat_lt (length (requests w H) - length (handed H)) 16) (nat_lt (length (due w H) - length (acknowledged H)) 16) x (map (refusal_by w) old.desk.due.items)) asks_for
+          ∙ refusal_rest w (nat_lt (length (requests w H) - length (handed H)) 16) (nat_lt (length (due w H) - length (acknowledged H)) 16) (asked w (holds w H f.stamp) f) (due w H) (map (refusal_by w) old.desk.due.items) (length (acknowledged H)) (front_length (acknowledged H) (due w H) s.desk.1) h.acknowledgments)))));
+      holders = q4 (told_claims H) h.holders;
+      news = q5 ∙ is_news _ _
+          (ap (λ (u : Untold). u.lost || (gone && not away)) h.news
+              ∙ (ap (λ (b : Bool). lost_news w H || (b && not away)) goes ∙ ap (λ (b : Bool). lost_news w H || (is_smaller w (claim_of f) && not b)) lost_before))
+          (ap (λ (u : Untold). u.another || is_another (who_of old.own) held f) h.news
+              ∙ (ap (λ (v : Who). another_news w H || is_another v held f) h.who
+                  ∙ ap (λ (b : Bool). another_news w H || is_another w b f) (holds_is w H f.stamp mid held p e1)))
+          (ap (λ (u : Untold). u.missed || (wanted && not (nat_lt (length old.inbox.unread.items) 16))) h.news
+              ∙ (ap (λ (b : Bool). missed_news w H || (b && not (nat_lt (length old.inbox.unread.items) 16))) wants
+                  ∙ ap (λ (n : ℕ). missed_news w H || (is_for_program w (holds w H f.stamp) f && not (nat_lt n 16)))
+                      (length_rest received_by old.inbox.unread.items (length (got H)) (kept w H) h.unread)));
+      missed = e4 ∙ (ap (λ (b : Bool). counted b (map received_by old.inbox.unread.items) old.inbox.missed) wants
+          ∙ missed_rest (is_for_program w (holds w H f.stamp) f) (kept w H) _ (length (got H)) (missed w H) _ h.unread h.missed);
+    }
+
+-- ---- requests
+
+pub handed_more : (w : Who) (H : List Call) (old new : Controller) (x : Request) → Is w H old
+    → First request_by new.desk.waiting.items x (length (handed H)) (requests w H)
+    → new ≡ record old { desk = record { waiting = new.desk.waiting; due = old.desk.due } } → Is w (TakeRequest (Some (request_by x)) ∷ H) new
+handed_more w H old new x h first e = record {
+  who = ap (λ c. who_of c.own) e ∙ h.who;
+  answered = (h.answered, sym first.is);
+  hold = ap (λ c. c.hold) e ∙ h.hold;
+  outgoing = ap (λ c. map posted c.outgoing.items) e ∙ h.outgoing;
+  taken = ap (λ c. c.taken) e ∙ h.taken;
+  token = ap (λ c. c.next_token) e ∙ h.token;
+  unread = ap (λ c. map received_by c.inbox.unread.items) e ∙ h.unread;
+  requests = first.rest ∙ ap (λ (n : ℕ). drop n (requests w H)) (sym (length_one_more (handed H) (request_by x)));
+  acknowledgments = ap (λ c. map (refusal_by w) c.desk.due.items) e ∙ h.acknowledgments;
+  holders = subst (λ t. Knows t (told_claims H)) (sym (ap (λ c. c.holders) e)) h.holders;
+  news = ap (λ c. c.news) e ∙ h.news;
+  missed = ap (λ c. c.inbox.missed) e ∙ h.missed;
+}
+
+abbrev pub acknowledges_by : Bool → Bool → Bool → Result (Unit {0}) Refused
+acknowledges_by a b f = if a then (if b then (if f then Err Full else Ok tt) else Err BadValue) else Err NoAddress
+
+pub acknowledge_is : (w : Who) (H : List Call) (now : ℕ) (r : Asked) (a b f : Bool) → holds w H now ≡ a → nat_eq r.destination w.address ≡ b
+    → nat_eq (length (due w H) - length (acknowledged H)) 16 ≡ f → answer_to_acknowledge w H now r ≡ acknowledges_by a b f
+acknowledge_is w H now r a b f e g k =
+    ap (λ (x : Bool). acknowledges_by x (nat_eq r.destination w.address) (nat_eq (length (due w H) - length (acknowledged H)) 16)) e
+    ∙ (ap (λ (x : Bool). acknowledges_by a x (nat_eq (length (due w H) - length (acknowledged H)) 16)) g ∙ ap (λ (x : Bool). acknowledges_by a b x) k)
+
+pub due_more : (w : Who) (H : List Call) (old new : Controller) (now : ℕ) (answer : Answer) (x : Due) → Is w H old → Passed w H now new.hold
+    → Ok tt ≡ answer_to_acknowledge w H now (request_by x.request) → x.answer ≡ answer → new.desk.due.items ≡ old.desk.due.items ++ x ∷ []
+    → new ≡ record old { hold = new.hold; desk = record { waiting = old.desk.waiting; due = new.desk.due } }
+    → Is w (Acknowledge now (request_by x.request) answer (Ok tt) ∷ H) new
+due_more w H old new now answer x h p right a g e =
+    let s = sound w H h.answered in
+    record {
+      who = ap (λ c. who_of c.own) e ∙ h.who;
+      answered = (h.answered, right);
+      hold = is_hold _ _ p.moment p.standing p.owes;
+      outgoing = ap (λ c. map posted c.outgoing.items) e ∙ h.outgoing;
+      taken = ap (λ c. c.taken) e ∙ h.taken;
+      token = ap (λ c. c.next_token) e ∙ h.token;
+      unread = ap (λ c. map received_by c.inbox.unread.items) e ∙ h.unread;
+      requests = ap (λ c. map request_by c.desk.waiting.items) e ∙ h.requests;
+      acknowledgments = ap (map (refusal_by w)) g ∙ (map_append (refusal_by w) old.desk.due.items x
+          ∙ (ap (λ l. l ++ refusal_by w x ∷ []) h.acknowledgments
+          ∙ (ap (λ (y : Answer). drop (length (acknowledged H)) (due w H) ++ acknowledgment w y (request_by x.request) ∷ []) a
+          ∙ sym (drop_append (length (acknowledged H)) (due w H) (acknowledgment w answer (request_by x.request)) (front_length (acknowledged H) (due w H) s.desk.1)))));
+      holders = subst (λ t. Knows t (told_claims H)) (sym (ap (λ c. c.holders) e)) h.holders;
+      news = ap (λ c. c.news) e ∙ h.news;
+      missed = ap (λ c. c.inbox.missed) e ∙ h.missed;
+    }
+
+-- ---- a call that only lets time pass
+
+pub refuses_send : (w : Who) (H : List Call) (old new : Controller) (now : ℕ) (d : Draft) (r : Refused) → Is w H old → Passed w H now new.hold
+    → Err r ≡ answer_to_send w H now d → new ≡ record old { hold = new.hold } → Is w (Send now d (Err r) ∷ H) new
+refuses_send w H old new now d r h p answer e = record {
+  who = ap (λ c. who_of c.own) e ∙ h.who;
+  answered = (h.answered, answer);
+  hold = is_hold _ _ p.moment p.standing p.owes;
+  outgoing = ap (λ c. map posted c.outgoing.items) e ∙ h.outgoing;
+  taken = ap (λ c. c.taken) e ∙ h.taken;
+  token = ap (λ c. c.next_token) e ∙ h.token;
+  unread = ap (λ c. map received_by c.inbox.unread.items) e ∙ h.unread;
+  requests = ap (λ c. map request_by c.desk.waiting.items) e ∙ h.requests;
+  acknowledgments = ap (λ c. map (refusal_by w) c.desk.due.items) e ∙ h.acknowledgments;
+  holders = subst (λ t. Knows t (told_claims H)) (sym (ap (λ c. c.holders) e)) h.holders;
+  news = ap (λ c. c.news) e ∙ h.news;
+  missed = ap (λ c. c.inbox.missed) e ∙ h.missed;
+}
+
+abbrev pub sends_by : Who → List Call → Bool → Bool → Bool → Result ℕ Refused
+sends_by w H a b f = if a then (if b then (if f then Err Full else Ok (length (accepted w H))) else Err BadValue) else Err NoAddress
+
+pub send_is : (w : Who) (H : List Call) (now : ℕ) (d : Draft) (a b f : Bool) → holds w H now ≡ a → can_send w d ≡ b → is_full w H ≡ f
+    → answer_to_send w H now d ≡ sends_by w H a b f
+send_is w H now d a b f e g k =
+    ap (λ (x : Bool). sends_by w H x (can_send w d) (is_full w H)) e
+    ∙ (ap (λ (x : Bool). sends_by w H a x (is_full w H)) g ∙ ap (λ (x : Bool). sends_by w H a b x) k)
+
+-- ---- when something is due
+
+lt_less : (a t s : ℕ) → t ≤ s → nat_lt (s - t) (a - t) ≡ nat_lt s a
+lt_less a t s l = grind arith
+
+lt_some : (a b : ℕ) → nat_lt 0 (a - b) ≡ nat_lt b a
+lt_some a b = grind arith
+
+waits_is : (w : Who) (H : List Call) (c : Controller) → Is w H c → is_held (address_after w H) ≡ true
+    → (nat_lt c.taken (length c.outgoing.items) || nat_lt 0 (length c.desk.due.items)) ≡ is_waiting w H
+waits_is w H c h e =
+    let t = (sound w H h.answered).in_turn (held_not_lost (address_after w H) e) in
+    ap (λ (b : Bool). b || nat_lt 0 (length c.desk.due.items))
+    (ap (λ (n : ℕ). nat_lt n (length c.outgoing.items)) h.taken
+    ∙ (ap (λ (n : ℕ). nat_lt (length (sent H) - length (told H)) n) (length_rest posted c.outgoing.items (length (told H)) (accepted w H) h.outgoing)
+    ∙ lt_less _ _ _ t))
+    ∙ ap (λ (b : Bool). nat_lt (length (sent H)) (length (accepted w H)) || b)
+    (ap (nat_lt 0) (length_rest (refusal_by w) c.desk.due.items (length (acknowledged H)) (due w H) h.acknowledgments) ∙ lt_some _ _)
+
+held_and : (a : Bool) (x y : Bool) → (a ≡ true → x ≡ y) → (a && x) ≡ (a && y)
+held_and true x y f = f refl
+held_and false x y f = refl
+
+pub frame_due : (w : Who) (H : List Call) (c : Controller) → Is w H c
+    → (c.hold.owes_claim || (stands c.hold.standing && (nat_lt c.taken (length c.outgoing.items) || nat_lt 0 (length c.desk.due.items))))
+    ≡ (owes_claim w H || (is_held (address_after w H) && is_waiting w H))
+frame_due w H c h =
+    ap (λ (k : Hold). k.owes_claim || (stands k.standing && (nat_lt c.taken (length c.outgoing.items) || nat_lt 0 (length c.desk.due.items)))) h.hold
+    ∙ (ap (λ (b : Bool). owes_claim w H || (b && (nat_lt c.taken (length c.outgoing.items) || nat_lt 0 (length c.desk.due.items)))) (stands_is (address_after w H))
+    ∙ ap (λ (b : Bool). owes_claim w H || b) (held_and (is_held (address_after w H)) _ _ (waits_is w H c h)))
+
+lt_left : (e : ℕ) → nat_lt 0 (250000 - e) ≡ nat_lt e 250000
+lt_left e = grind arith
+
+pub held_at_is : (a : Address) (m : ℕ) → left_at (standing_of a) m ≡ held_at a m
+held_at_is NotClaimed m = refl
+held_at_is (Claimed e) m = ap (λ (b : Bool). if b then stamp_at (m + (250000 - e)) else None) (lt_left e)
+held_at_is Lost m = refl
+
+pub due_is : (w : Who) (H : List Call) (b : Bool) → b ≡ (owes_claim w H || (is_held (address_after w H) && is_waiting w H))
+    → (if b then stamp_at (moment H) else held_at (address_after w H) (moment H)) ≡ next_due w H
+due_is w H b e = ap (λ (x : Bool). if x then stamp_at (moment H) else held_at (address_after w H) (moment H)) e
+
+-- ---- a claim is taken
+
+claims_after : (a : Address) → claims (standing_of a) ≡ standing_of (claimed a)
+claims_after NotClaimed = refl
+claims_after (Claimed e) = refl
+claims_after Lost = refl
+
+pub claims_more : (w : Who) (H : List Call) (old new : Controller) (now : ℕ) (f : FrameRecord) (mid : Hold) (a : ℕ) → Is w H old → Passed w H now mid
+    → mid.owes_claim ≡ true → new.hold ≡ record { moment = mid.moment; standing = claims mid.standing; owes_claim = false }
+    → Some (stamped f) ≡ Some (now, claim_from (who_of old.own) a) → a ≡ (if lost mid.standing then 254 else old.own.address)
+    → ((F : List FrameRecord) → Knows old.holders F → Knows new.holders (F ++ f ∷ []))
+    → new ≡ record old { hold = new.hold; holders = new.holders } → Is w (TakeFrame now (Some f) ∷ H) new
+claims_more w H old new now f mid a h p owes e0 m at knows e =
+    let from : claim_from (who_of old.own) a ≡ claim_from w (claim_address w (address_after w H)) =
+    ap (λ (v : Who). claim_from v a) h.who
+    ∙ ap (claim_from w) (at ∙ (ap (λ (x : Standing). if lost x then 254 else old.own.address) p.standing
+    ∙ (ap (λ (n : ℕ). if lost (standing_of (older (step H now) (address_after w H))) then 254 else n) (ap (λ (v : Who). v.address) h.who)
+    ∙ told_address (step H now) (address_after w H)))) in
+    let k : stamped f ≡ (now, claim_from (who_of old.own) a) = cc in
+    let j : stamped f ≡ (now, claim_from w (claim_address w (address_after w H))) = k ∙ ap (λ (x : Message). (now, x)) from in
+    let n = claim_taken f now w (claim_address w (address_after w H)) j in
+    let due_claim : owes_claim w H ≡ true = sym p.owes ∙ owes in
+    record {
+      who = ap (λ c. who_of c.own) e ∙ h.who;
+      answered = (
+        h.answered,
+        ap Some j ∙ sym (ap (λ (b : Bool). frame_by b (holds w H now) (slice_get (due w H) (length (acknowledged H))) (slice_get (accepted w H) (length (sent H)))
+            (claim_from w (claim_address w (address_after w H))) now) due_claim),
+      );
+      hold = e0 ∙ is_hold _ _ p.moment
+          (ap claims p.standing ∙ (claims_after (older (step H now) (address_after w H)) ∙ ap standing_of (sym (address_is w H now f true n)))) refl;
+      outgoing = ap (λ c. map posted c.outgoing.items) e ∙ h.outgoing;
+      taken = ap (λ c. c.taken) e ∙ (h.taken ∙ ap (λ (xs : List Message). length xs - length (told H)) (sym (sent_is H now f true _ n refl)));
+      token = ap (λ c. c.next_token) e ∙ h.token;
+      unread = ap (λ c. map received_by c.inbox.unread.items) e ∙ h.unread;
+      requests = ap (λ c. map request_by c.desk.waiting.items) e ∙ h.requests;
+      acknowledgments = ap (λ c. map (refusal_by w) c.desk.due.items) e ∙ (h.acknowledgments
+          ∙ ap (λ (xs : List Message). drop (length xs) (due w H)) (sym (acknowledged_is H now f true _ n refl)));
+      holders = subst (Knows new.holders) (sym (ap (λ (b : Bool). if b then told_claims H ++ f ∷ [] else told_claims H) n)) (knows (told_claims H) h.holders);
+      news = ap (λ c. c.news) e ∙ h.news;
+      missed = ap (λ c. c.inbox.missed) e ∙ h.missed;
+    }
+  where
+    told_address : (s : ℕ) (x : Address) → (if lost (standing_of (older s x)) then 254 else w.address) ≡ claim_address w x
+    told_address s NotClaimed = refl
+    told_address s (Claimed e) = refl
+    told_address s Lost = refl

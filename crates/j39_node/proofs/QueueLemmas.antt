@@ -1,0 +1,114 @@
+-- Lists from which the first is taken, and to which one is added at the end.
+use Rattle.std.proofs.Common.{◌≡◌, ◌⊎◌, ℕ, zero, suc, ◌+◌, ◌-◌, ◌<◌, ◌≤◌, List, [], ◌∷◌, ◌++◌, length, map, drop, remove, slice_index_or, Option, Some, None, Bool, true, false, ◌==◌, refl, sym, ap, ◌∙◌, subst, arith, length-append, append_assoc, inl, inr, eqb-true}
+use Rattle.std.specs.List.{slice_get}
+use Rattle.std.proofs.lemmas.Option.{slice_get_past}
+
+pub not_empty : {T : Type 0} (xs : List T) (b : Bool) → b ≡ (length xs == 0) → b ≡ false → 0 < length xs
+not_empty [] b e f = absurd (let z : true ≡ false = sym e ∙ f in cc)
+not_empty (x ∷ xs) b e f = omega arith
+
+pub front : {T : Type 0} (xs ys : List T) (x : T) → 0 < length xs → x ≡ slice_index_or xs 0 x → ys ≡ remove xs 0 → xs ≡ x ∷ ys
+front [] ys x l e f = absurd (omega (arith, l))
+front (z ∷ zs) ys x l e f = let a : x ≡ z = e in let b : ys ≡ zs = f in cc
+
+pub get_of_drop : {T : Type 0} (L : List T) (n : ℕ) (x : T) (xs : List T) → x ∷ xs ≡ drop n L → slice_get L n ≡ Some x
+get_of_drop [] zero x xs e = absurd (cc)
+get_of_drop [] (suc n) x xs e = absurd (cc)
+get_of_drop (y ∷ L) zero x xs e = let z : x ≡ y = cc in ap Some (sym z)
+get_of_drop (y ∷ L) (suc n) x xs e = get_of_drop L n x xs e
+
+pub drop_more : {T : Type 0} (L : List T) (n : ℕ) (x : T) (xs : List T) → x ∷ xs ≡ drop n L → xs ≡ drop (suc n) L
+drop_more [] zero x xs e = absurd (cc)
+drop_more [] (suc n) x xs e = absurd (cc)
+drop_more (y ∷ L) zero x xs e = cc
+drop_more (y ∷ L) (suc n) x xs e = drop_more L n x xs e
+
+pub get_within : {T : Type 0} (L : List T) (n : ℕ) (x : T) → slice_get L n ≡ Some x → n < length L
+get_within [] n x e = absurd (cc)
+get_within (y ∷ L) zero x e = omega arith
+get_within (y ∷ L) (suc n) x e = let h = get_within L n x e in omega (arith, h)
+
+-- what is taken first
+pub record First {T : Type 0} {U : Type 0} (v : T → U) (ys : List T) (x : T) (n : ℕ) (L : List U) : Type 0 where
+  pub is : slice_get L n ≡ Some (v x)
+  pub rest : map v ys ≡ drop (suc n) L
+
+pub first : {T : Type 0} {U : Type 0} (v : T → U) (xs ys : List T) (x : T) (n : ℕ) (L : List U) → map v xs ≡ drop n L → 0 < length xs
+    → x ≡ slice_index_or xs 0 x → ys ≡ remove xs 0 → First v ys x n L
+first v xs ys x n L e l f g =
+    let a = ap (map v) (sym (front xs ys x l f g)) ∙ e in
+    record { is = get_of_drop L n (v x) (map v ys) a; rest = drop_more L n (v x) (map v ys) a }
+
+pub get_at : {T : Type 0} (L : List T) (n k m : ℕ) → m ≡ n + k → slice_get (drop n L) k ≡ slice_get L m
+get_at L zero k m e = ap (slice_get L) (let z : k ≡ m = omega (arith, e) in z)
+get_at [] (suc n) k m e = refl
+get_at (y ∷ L) (suc n) k zero e = absurd (omega (arith, e))
+get_at (y ∷ L) (suc n) k (suc m) e = get_at L n k m (omega (arith, e))
+
+pub get_map : {T : Type 0} {U : Type 0} (v : T → U) (xs : List T) (k : ℕ) (x : T) → slice_get xs k ≡ Some x → slice_get (map v xs) k ≡ Some (v x)
+get_map v [] k x e = absurd (cc)
+get_map v (y ∷ xs) zero x e = let z : y ≡ x = cc in ap (λ u. Some (v u)) z
+get_map v (y ∷ xs) (suc k) x e = get_map v xs k x e
+
+pub get_map_none : {T : Type 0} {U : Type 0} (v : T → U) (xs : List T) (k : ℕ) → slice_get xs k ≡ None → slice_get (map v xs) k ≡ None
+get_map_none v [] k e = refl
+get_map_none v (y ∷ xs) zero e = absurd (cc)
+get_map_none v (y ∷ xs) (suc k) e = get_map_none v xs k e
+
+-- the one that is at place s of L, in what is left after t of them
+pub in_rest : {T : Type 0} {U : Type 0} (v : T → U) (xs : List T) (x : T) (L : List U) (t s k : ℕ) → map v xs ≡ drop t L → k ≡ s - t → t ≤ s
+    → slice_get xs k ≡ Some x → slice_get L s ≡ Some (v x)
+in_rest v xs x L t s k e f l g =
+    sym (get_at L t k s (omega (arith, f, l))) ∙ (ap (λ M. slice_get M k) (sym e) ∙ get_map v xs k x g)
+
+pub not_in_rest : {T : Type 0} {U : Type 0} (v : T → U) (xs : List T) (L : List U) (t s k : ℕ) → map v xs ≡ drop t L → k ≡ s - t → t ≤ s
+    → slice_get xs k ≡ None → slice_get L s ≡ None
+not_in_rest v xs L t s k e f l g =
+    sym (get_at L t k s (omega (arith, f, l))) ∙ (ap (λ M. slice_get M k) (sym e) ∙ get_map_none v xs k g)
+
+pub drop_append : {T : Type 0} (n : ℕ) (L : List T) (x : T) → n ≤ length L → drop n (L ++ x ∷ []) ≡ drop n L ++ x ∷ []
+drop_append zero L x l = refl
+drop_append (suc n) [] x l = absurd (omega (arith, l))
+drop_append (suc n) (y ∷ L) x l = drop_append n L x (omega (arith, l))
+
+pub map_append : {T : Type 0} {U : Type 0} (v : T → U) (xs : List T) (x : T) → map v (xs ++ x ∷ []) ≡ map v xs ++ v x ∷ []
+map_append v [] x = refl
+map_append v (y ∷ xs) x = ap (λ M. v y ∷ M) (map_append v xs x)
+
+pub length_map : {T : Type 0} {U : Type 0} (v : T → U) (xs : List T) → length (map v xs) ≡ length xs
+length_map v [] = refl
+length_map v (x ∷ xs) = ap suc (length_map v xs)
+
+pub length_drop : {T : Type 0} (n : ℕ) (L : List T) → length (drop n L) ≡ length L - n
+length_drop zero L = omega arith
+length_drop (suc n) [] = omega arith
+length_drop (suc n) (y ∷ L) = let h = length_drop n L in omega (arith, h)
+
+pub length_rest : {T : Type 0} {U : Type 0} (v : T → U) (xs : List T) (n : ℕ) (L : List U) → map v xs ≡ drop n L → length xs ≡ length L - n
+length_rest v xs n L e = sym (length_map v xs) ∙ (ap length e ∙ length_drop n L)
+
+pub length_one_more : {T : Type 0} (L : List T) (x : T) → length (L ++ x ∷ []) ≡ suc (length L)
+length_one_more L x = let h = length-append L (x ∷ []) in omega (arith, h)
+
+get_index : {T : Type 0} (xs : List T) (i : ℕ) (x : T) → i < length xs → x ≡ slice_index_or xs i x → slice_get xs i ≡ Some x
+get_index [] i x l e = absurd (omega (arith, l))
+get_index (y ∷ xs) zero x l e = ap Some (sym e)
+get_index (y ∷ xs) (suc i) x l e = get_index xs i x (omega (arith, l)) e
+
+pub read : {T : Type 0} (xs ys : List T) (i : ℕ) (x : T) → xs ≡ ys → i < length xs → x ≡ slice_index_or xs i x → slice_get ys i ≡ Some x
+read xs ys i x e l f = ap (λ zs. slice_get zs i) (sym e) ∙ get_index xs i x l f
+
+pub read_none : {T : Type 0} (xs ys : List T) (i : ℕ) → xs ≡ ys → length xs ≤ i → slice_get ys i ≡ None
+read_none xs ys i e l = ap (λ zs. slice_get zs i) (sym e) ∙ slice_get_past xs i l
+
+pub get_append : {T : Type 0} (L : List T) (y : T) (i : ℕ) (x : T) → slice_get (L ++ y ∷ []) i ≡ Some x → (slice_get L i ≡ Some x) ⊎ ((i ≡ length L) × (y ≡ x))
+get_append [] y zero x e = inr (refl, (let z : y ≡ x = cc in z))
+get_append [] y (suc i) x e = absurd (cc)
+get_append (z ∷ L) y zero x e = inl e
+get_append (z ∷ L) y (suc i) x e = elim (get_append L y i x e) [
+  | inl old ↦ inl old
+  | inr new ↦ inr (ap suc new.0, new.1)
+]
+
+pub none_left : {T : Type 0} (xs : List T) (b : Bool) → b ≡ (length xs == 0) → b ≡ true → length xs ≡ 0
+none_left xs b e f = eqb-true (length xs) 0 (sym e ∙ f)

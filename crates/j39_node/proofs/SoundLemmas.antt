@@ -1,0 +1,392 @@
+-- What every answered history says of what was accepted, sent and told.
+use Rattle.std.proofs.Common.{◌≡◌, ◌≢◌, ◌⊎◌, ℕ, zero, suc, ◌+◌, ◌-◌, ◌<◌, ◌≤◌, List, [], ◌∷◌, ◌++◌, length, map, Option, Some, None, Result, Ok, Err, Bool, true, false, not, ◌&&◌, ◌||◌, if◌then◌else◌, nat_eq, nat_lt, refl, sym, ap, ◌∙◌, subst, inl, inr, arith, append_assoc, length-append, eqb-true, eq-eqb, ltb-true}
+use Rattle.std.specs.List.{slice_get}
+use Rattle.std.specs.Option.{option_map}
+use Rattle.j39_frame.specs.Frame.{FrameRecord}
+use Rattle.j39_frame.specs.Identifier.{pgn_of}
+use Rattle.j39_frame.specs.Network.{address_claimed_group, transport_control_group, transport_data_group}
+use Rattle.j39_address.specs.Claim.{claim_of}
+use Rattle.j39_node.specs.declared.kinds.Ending.{Ending}
+use Rattle.j39_node.specs.declared.kinds.Ending.TheVariants.{Done, Withdrawn}
+use Rattle.j39_node.specs.declared.kinds.Answer.{Answer}
+use Rattle.j39_node.specs.declared.kinds.Answer.TheVariants.{Nack, Busy}
+use Rattle.j39_node.specs.declared.kinds.Refused.{Refused}
+use Rattle.j39_node.specs.declared.kinds.Refused.TheVariants.{NoAddress, BadValue, Full}
+use Rattle.j39_node.specs.History.{Who, Message, Draft, Call, Address, message_of, older, claimed, address_after, holds, is_lost, is_held, is_claim, is_smaller, claim_address, claim_from, owes_claim, can_send, is_own_group, is_directed, message_from, accepted, sent, told, is_full, step, content, IsFront, got, kept, Asked, asked, acknowledgment_group, is_acknowledgment, acknowledgment, acknowledged, due, handed, requests, is_served, with_request, with_refusal}
+use Rattle.j39_node.specs.History.Call.{Hear, Tick, TakeFrame, Send, TakeEnded, TakeReceived, TakeRequest, TakeNews, Acknowledge}
+use Rattle.j39_node.specs.History.Address.{NotClaimed, Claimed, Lost}
+use Rattle.j39_node.specs.Is.{AreAnswered, IsAnswered, stamped, first_of, next_frame, next_ended, end_of, ending_of, answer_to_send}
+use Rattle.j39_node.proofs.QueueLemmas.{get_within, get_append, get_map, length_one_more, map_append, length_map}
+
+-- ---- the address
+
+pub lost_older : (s : ℕ) (a : Address) → is_lost (older s a) ≡ is_lost a
+lost_older s NotClaimed = refl
+lost_older s (Claimed e) = refl
+lost_older s Lost = refl
+
+pub lost_claimed : (a : Address) → is_lost (claimed a) ≡ is_lost a
+lost_claimed NotClaimed = refl
+lost_claimed (Claimed e) = refl
+lost_claimed Lost = refl
+
+pub held_not_lost : (a : Address) → is_held a ≡ true → is_lost a ≡ false
+held_not_lost NotClaimed e = absurd (cc)
+held_not_lost (Claimed n) e = refl
+held_not_lost Lost e = absurd (cc)
+
+pub holding_not_lost : (w : Who) (H : List Call) (now : ℕ) → holds w H now ≡ true → is_lost (address_after w H) ≡ false
+holding_not_lost w H now e = sym (lost_older (step H now) (address_after w H)) ∙ held_not_lost _ e
+
+-- ---- which frame was taken
+
+pub data FrameCase (w : Who) (H : List Call) (now : ℕ) (f : FrameRecord) : Type 0 where
+  claims : owes_claim w H ≡ true → stamped f ≡ (now, claim_from w (claim_address w (address_after w H))) → FrameCase w H now f
+  acknowledges : (m : Message) → owes_claim w H ≡ false → holds w H now ≡ true → slice_get (due w H) (length (acknowledged H)) ≡ Some m
+      → stamped f ≡ (now, m) → FrameCase w H now f
+  sends : (x : ℕ × Message) → owes_claim w H ≡ false → holds w H now ≡ true → slice_get (due w H) (length (acknowledged H)) ≡ None
+      → slice_get (accepted w H) (length (sent H)) ≡ Some x → stamped f ≡ (now, x.1) → FrameCase w H now f
+
+-- the next frame, by what it hangs on
+abbrev pub frame_by : Bool → Bool → Option Message → Option (ℕ × Message) → Message → ℕ → Option (ℕ × Message)
+frame_by owes held a o claim now = if owes then Some (now, claim) else if held then option_map (λ m. (now, m)) (first_of a o) else None
+
+pub frame_case : (w : Who) (H : List Call) (now : ℕ) (f : FrameRecord) → Some (stamped f) ≡ next_frame w H now → FrameCase w H now f
+frame_case w H now f e =
+    go (owes_claim w H) (holds w H now) (slice_get (due w H) (length (acknowledged H))) (slice_get (accepted w H) (length (sent H))) refl refl refl refl e
+  where
+    go : (b h : Bool) (a : Option Message) (o : Option (ℕ × Message)) → owes_claim w H ≡ b → holds w H now ≡ h
+        → slice_get (due w H) (length (acknowledged H)) ≡ a → slice_get (accepted w H) (length (sent H)) ≡ o
+        → Some (stamped f) ≡ frame_by b h a o (claim_from w (claim_address w (address_after w H))) now → FrameCase w H now f
+    go true h a o p q k r i = claims p (let z : stamped f ≡ (now, claim_from w (claim_address w (address_after w H))) = cc in z)
+    go false false a o p q k r i = absurd (cc)
+    go false true (Some m) o p q k r i = acknowledges m p q k (let z : stamped f ≡ (now, m) = cc in z)
+    go false true None None p q k r i = absurd (cc)
+    go false true None (Some x) p q k r i = sends x p q k r (let z : stamped f ≡ (now, x.1) = cc in z)
+
+-- ---- all that is accepted is the controller's own
+
+pub record IsOwn (w : Who) (m : Message) : Type 0 where
+  pub source : m.source ≡ w.address
+  pub group : nat_eq m.group address_claimed_group ≡ false
+  pub plain : nat_eq m.group acknowledgment_group ≡ false
+
+abbrev pub AllOwn : Who → List (ℕ × Message) → Type 0
+AllOwn w [] = Unit {0}
+AllOwn w (x ∷ xs) = IsOwn w x.1 × AllOwn w xs
+
+pub own_append : (w : Who) (xs : List (ℕ × Message)) (x : ℕ × Message) → AllOwn w xs → IsOwn w x.1 → AllOwn w (xs ++ x ∷ [])
+own_append w [] x h e = (e, tt)
+own_append w (y ∷ ys) x h e = (h.0, own_append w ys x h.1 e)
+
+pub own_get : (w : Who) (xs : List (ℕ × Message)) (n : ℕ) (x : ℕ × Message) → AllOwn w xs → slice_get xs n ≡ Some x → IsOwn w x.1
+own_get w [] n x h e = absurd (cc)
+own_get w (y ∷ ys) zero x h e = let z : y ≡ x = cc in subst (λ (u : ℕ × Message). IsOwn w u.1) z h.0
+own_get w (y ∷ ys) (suc n) x h e = own_get w ys n x h.1 e
+
+-- ---- all that is due is an acknowledgment
+
+pub record IsDue (w : Who) (m : Message) : Type 0 where
+  pub source : m.source ≡ w.address
+  pub group : m.group ≡ acknowledgment_group
+
+abbrev pub AllDue : Who → List Message → Type 0
+AllDue w [] = Unit {0}
+AllDue w (x ∷ xs) = IsDue w x × AllDue w xs
+
+due_append : (w : Who) (xs : List Message) (answer : Answer) (r : Asked) → AllDue w xs → AllDue w (xs ++ acknowledgment w answer r ∷ [])
+due_append w [] answer r h = (record { source = refl; group = refl }, tt)
+due_append w (y ∷ ys) answer r h = (h.0, due_append w ys answer r h.1)
+
+pub due_get : (w : Who) (xs : List Message) (n : ℕ) (x : Message) → AllDue w xs → slice_get xs n ≡ Some x → IsDue w x
+due_get w [] n x h e = absurd (cc)
+due_get w (y ∷ ys) zero x h e = let z : y ≡ x = cc in subst (IsDue w) z h.0
+due_get w (y ∷ ys) (suc n) x h e = due_get w ys n x h.1 e
+
+-- ---- a list that another begins with
+
+front_append : {T : Type 0} (xs ys : List T) (y : T) → IsFront xs ys → IsFront xs (ys ++ y ∷ [])
+front_append xs ys y (zs, e) = (zs ++ y ∷ [], ap (λ l. l ++ y ∷ []) e ∙ append_assoc xs zs (y ∷ []))
+
+front_longer : {T : Type 0} (xs ys : List T) (x : T) → IsFront xs ys → slice_get ys (length xs) ≡ Some x → IsFront (xs ++ x ∷ []) ys
+front_longer [] [] x (zs, e) g = absurd (cc)
+front_longer [] (y ∷ ys) x (zs, e) g = let z : y ≡ x = cc in (ys, ap (λ u. u ∷ ys) z)
+front_longer (u ∷ xs) [] x (zs, e) g = absurd (cc)
+front_longer (u ∷ xs) (y ∷ ys) x (zs, e) g =
+    let a : y ≡ u = cc in
+    let h = front_longer xs ys x (zs, cc) g in
+    (h.0, (let b = h.1 in cc))
+
+-- ---- what is so after any answered history
+
+abbrev pub Desked : Who → List Call → Type 0
+Desked w H = AllDue w (due w H) × IsFront (acknowledged H) (due w H) × IsFront (handed H) (requests w H)
+
+pub record Sound (w : Who) (H : List Call) : Type 0 where
+  pub own : AllOwn w (accepted w H)
+  pub fronts : IsFront (sent H) (map content (accepted w H))
+  pub within : length (told H) ≤ length (accepted w H)
+  pub in_turn : is_lost (address_after w H) ≡ false → length (told H) ≤ length (sent H)
+  pub reads : IsFront (got H) (kept w H)
+  pub desk : Desked w H
+  pub numbered : (i : ℕ) (x : ℕ × Message) → slice_get (accepted w H) i ≡ Some x → x.0 ≡ i
+
+pub front_length : {T : Type 0} (xs ys : List T) → IsFront xs ys → length xs ≤ length ys
+front_length xs ys (zs, e) = let b = ap length e in let c = length-append xs zs in omega (arith, b, c)
+
+pub read : (w : Who) (H : List Call) → Sound w H → length (got H) ≤ length (kept w H)
+read w H h = front_length (got H) (kept w H) h.reads
+
+-- a call that accepts, sends and tells nothing
+rests : (w : Who) (H G : List Call) → accepted w G ≡ accepted w H → sent G ≡ sent H → told G ≡ told H
+    → (is_lost (address_after w G) ≡ false → is_lost (address_after w H) ≡ false) → IsFront (got G) (kept w G) → Desked w G → Sound w H → Sound w G
+rests w H G e f g l r d h = record {
+  own = subst (AllOwn w) (sym e) h.own;
+  fronts = subst (λ xs. IsFront xs (map content (accepted w G))) (sym f) (subst (λ ys. IsFront (sent H) (map content ys)) (sym e) h.fronts);
+  within = (let a = h.within in let b = ap length e in let c = ap length g in omega (arith, a, b, c));
+  in_turn = λ i. (let a = h.in_turn (l i) in let b = ap length f in let c = ap length g in omega (arith, a, b, c));
+  reads = r;
+  desk = d;
+  numbered = subst (λ (L : List (ℕ × Message)). (i : ℕ) (x : ℕ × Message) → slice_get L i ≡ Some x → x.0 ≡ i) (sym e) h.numbered;
+}
+
+pub both : (x y : Bool) → (x && y) ≡ true → (x ≡ true) × (y ≡ true)
+both true y e = (refl, e)
+both false y e = absurd (cc)
+
+neither : (x y : Bool) → not (x || y) ≡ true → (x ≡ false) × (not y ≡ true)
+neither true y e = absurd (cc)
+neither false y e = (refl, e)
+
+no : (x : Bool) → not x ≡ true → x ≡ false
+no true e = absurd (cc)
+no false e = refl
+
+is_own : (w : Who) (d : Draft) → can_send w d ≡ true → IsOwn w (message_from w d)
+is_own w d e =
+    let a = both (nat_lt d.priority 8) _ e in
+    let b = both _ _ a.1 in
+    let c = both (not (is_own_group d.group || nat_eq d.group acknowledgment_group)) _ b.1 in
+    let k = neither (is_own_group d.group) _ c.0 in
+    let n = neither (nat_eq d.group transport_control_group) (nat_eq d.group transport_data_group || nat_eq d.group address_claimed_group) (ap not k.0) in
+    let m = neither (nat_eq d.group transport_data_group) _ n.1 in
+    record { source = refl; group = no _ m.1; plain = no _ k.1 }
+
+-- ---- what send answers
+
+pub data SendCase (w : Who) (H : List Call) (now : ℕ) (d : Draft) (answer : Result ℕ Refused) : Type 0 where
+  no_address : holds w H now ≡ false → answer ≡ Err NoAddress → SendCase w H now d answer
+  bad_value : holds w H now ≡ true → can_send w d ≡ false → answer ≡ Err BadValue → SendCase w H now d answer
+  full : holds w H now ≡ true → can_send w d ≡ true → is_full w H ≡ true → answer ≡ Err Full → SendCase w H now d answer
+  accepts : holds w H now ≡ true → can_send w d ≡ true → is_full w H ≡ false → answer ≡ Ok (length (accepted w H)) → SendCase w H now d answer
+
+pub send_case : (w : Who) (H : List Call) (now : ℕ) (d : Draft) (answer : Result ℕ Refused) → answer ≡ answer_to_send w H now d → SendCase w H now d answer
+send_case w H now d answer e = go (holds w H now) (can_send w d) (is_full w H) refl refl refl e
+  where
+    go : (x y z : Bool) → holds w H now ≡ x → can_send w d ≡ y → is_full w H ≡ z
+        → answer ≡ (if x then (if y then (if z then Err Full else Ok (length (accepted w H))) else Err BadValue) else Err NoAddress)
+        → SendCase w H now d answer
+    go false y z p q r i = no_address p i
+    go true false z p q r i = bad_value p q i
+    go true true true p q r i = full p q r i
+    go true true false p q r i = accepts p q r i
+
+-- ---- which token was told
+
+pub data EndCase (w : Who) (H : List Call) (x : ℕ × Ending) : Type 0 where
+  done : (m : Message) → nat_lt (length (told H)) (length (sent H)) ≡ true → slice_get (accepted w H) (length (told H)) ≡ Some (x.0, m)
+      → x.1 ≡ Done → EndCase w H x
+  withdrawn : (m : Message) → nat_lt (length (told H)) (length (sent H)) ≡ false → is_lost (address_after w H) ≡ true
+      → slice_get (accepted w H) (length (told H)) ≡ Some (x.0, m) → x.1 ≡ Withdrawn → EndCase w H x
+
+pub end_case : (w : Who) (H : List Call) (x : ℕ × Ending) → Some x ≡ next_ended w H → EndCase w H x
+end_case w H x e = go (nat_lt (length (told H)) (length (sent H))) (is_lost (address_after w H)) (slice_get (accepted w H) (length (told H))) refl refl refl e
+  where
+    go : (b l : Bool) (o : Option (ℕ × Message)) → nat_lt (length (told H)) (length (sent H)) ≡ b → is_lost (address_after w H) ≡ l
+        → slice_get (accepted w H) (length (told H)) ≡ o → Some x ≡ end_of b l o → EndCase w H x
+    go b l None p q r i = absurd (cc)
+    go true l (Some y) p q r i = let z : x ≡ (y.0, Done) = cc in done y.1 p (r ∙ ap (λ (k : ℕ). Some (k, y.1)) (sym (ap (λ (u : ℕ × Ending). u.0) z))) (ap (λ (u : ℕ × Ending). u.1) z)
+    go false true (Some y) p q r i = let z : x ≡ (y.0, Withdrawn) = cc in withdrawn y.1 p q (r ∙ ap (λ (k : ℕ). Some (k, y.1)) (sym (ap (λ (u : ℕ × Ending). u.0) z))) (ap (λ (u : ℕ × Ending). u.1) z)
+    go false false (Some y) p q r i = absurd (cc)
+
+-- ---- the induction
+
+lost_if : (w : Who) (b : Bool) (s : ℕ) (a : Address) → is_lost (if b then Lost else older s a) ≡ false → is_lost a ≡ false
+lost_if w true s a e = absurd (cc)
+lost_if w false s a e = sym (lost_older s a) ∙ e
+
+-- what a frame taken is: a claim, an acknowledgment, a message
+pub claim_taken : (f : FrameRecord) (now : ℕ) (w : Who) (a : ℕ) → stamped f ≡ (now, claim_from w a) → is_claim f ≡ true
+claim_taken f now w a e = let z = ap (λ (x : ℕ × Message). x.1.group) e in eq-eqb _ _ z
+
+pub message_taken : (w : Who) (f : FrameRecord) (now : ℕ) (x : ℕ × Message) → stamped f ≡ (now, x.1) → IsOwn w x.1 → is_claim f ≡ false
+message_taken w f now x e own = let z = ap (λ (y : ℕ × Message). y.1.group) e in ap (λ (g : ℕ). nat_eq g address_claimed_group) z ∙ own.group
+
+pub plain_taken : (w : Who) (f : FrameRecord) (now : ℕ) (x : ℕ × Message) → stamped f ≡ (now, x.1) → IsOwn w x.1 → is_acknowledgment f ≡ false
+plain_taken w f now x e own = let z = ap (λ (y : ℕ × Message). y.1.group) e in ap (λ (g : ℕ). nat_eq g acknowledgment_group) z ∙ own.plain
+
+pub due_taken : (w : Who) (f : FrameRecord) (now : ℕ) (m : Message) → stamped f ≡ (now, m) → IsDue w m → (is_claim f ≡ false) × (is_acknowledgment f ≡ true)
+due_taken w f now m e is =
+    let z : pgn_of f.id ≡ acknowledgment_group = ap (λ (y : ℕ × Message). y.1.group) e ∙ is.group in
+    (ap (λ (g : ℕ). nat_eq g address_claimed_group) z, eq-eqb _ _ z)
+
+pub sent_is : (H : List Call) (now : ℕ) (f : FrameRecord) (a b : Bool) → is_claim f ≡ a → is_acknowledgment f ≡ b
+    → sent (TakeFrame now (Some f) ∷ H) ≡ (if a || b then sent H else sent H ++ message_of f ∷ [])
+sent_is H now f a b e g = ap (λ (x : Bool). if x || is_acknowledgment f then sent H else sent H ++ message_of f ∷ []) e
+    ∙ ap (λ (y : Bool). if a || y then sent H else sent H ++ message_of f ∷ []) g
+
+pub acknowledged_is : (H : List Call) (now : ℕ) (f : FrameRecord) (a b : Bool) → is_claim f ≡ a → is_acknowledgment f ≡ b
+    → acknowledged (TakeFrame now (Some f) ∷ H) ≡ (if a || not b then acknowledged H else acknowledged H ++ message_of f ∷ [])
+acknowledged_is H now f a b e g = ap (λ (x : Bool). if x || not (is_acknowledgment f) then acknowledged H else acknowledged H ++ message_of f ∷ []) e
+    ∙ ap (λ (y : Bool). if a || not y then acknowledged H else acknowledged H ++ message_of f ∷ []) g
+
+pub address_is : (w : Who) (H : List Call) (now : ℕ) (f : FrameRecord) (a : Bool) → is_claim f ≡ a
+    → address_after w (TakeFrame now (Some f) ∷ H) ≡ (if a then claimed (older (step H now) (address_after w H)) else older (step H now) (address_after w H))
+address_is w H now f a e = ap (λ (b : Bool). if b then claimed (older (step H now) (address_after w H)) else older (step H now) (address_after w H)) e
+
+sound_claim : (w : Who) (H : List Call) (now : ℕ) (f : FrameRecord) → is_claim f ≡ true → Sound w H → Sound w (TakeFrame now (Some f) ∷ H)
+sound_claim w H now f e h = rests w H _ refl (sent_is H now f true _ e refl) refl
+    (λ l. sym (lost_older (step H now) (address_after w H)) ∙ (sym (lost_claimed _) ∙ (sym (ap is_lost (address_is w H now f true e)) ∙ l))) h.reads
+    (h.desk.0, subst (λ xs. IsFront xs (due w H)) (sym (acknowledged_is H now f true _ e refl)) h.desk.1, h.desk.2) h
+
+sound_acknowledge : (w : Who) (H : List Call) (now : ℕ) (f : FrameRecord) (m : Message) → is_claim f ≡ false → is_acknowledgment f ≡ true
+    → slice_get (due w H) (length (acknowledged H)) ≡ Some m → stamped f ≡ (now, m) → Sound w H → Sound w (TakeFrame now (Some f) ∷ H)
+sound_acknowledge w H now f m e k g i h = rests w H _ refl (sent_is H now f false true e k) refl
+    (λ l. sym (lost_older (step H now) (address_after w H)) ∙ (sym (ap is_lost (address_is w H now f false e)) ∙ l)) h.reads (
+      h.desk.0,
+      subst (λ xs. IsFront xs (due w H)) (sym (acknowledged_is H now f false true e k ∙ ap (λ (y : ℕ × Message). acknowledged H ++ y.1 ∷ []) i))
+          (front_longer (acknowledged H) (due w H) m h.desk.1 g),
+      h.desk.2,
+    ) h
+
+sound_send : (w : Who) (H : List Call) (now : ℕ) (f : FrameRecord) (x : ℕ × Message) → is_claim f ≡ false → is_acknowledgment f ≡ false → holds w H now ≡ true
+    → slice_get (accepted w H) (length (sent H)) ≡ Some x → stamped f ≡ (now, x.1) → Sound w H → Sound w (TakeFrame now (Some f) ∷ H)
+sound_send w H now f x e k held g i h =
+    let more : sent (TakeFrame now (Some f) ∷ H) ≡ sent H ++ x.1 ∷ [] =
+    sent_is H now f false false e k ∙ ap (λ (y : ℕ × Message). sent H ++ y.1 ∷ []) i in
+    record {
+      own = h.own;
+      fronts = subst (λ xs. IsFront xs (map content (accepted w H))) (sym more)
+          (front_longer (sent H) (map content (accepted w H)) x.1 h.fronts (get_map content (accepted w H) (length (sent H)) x g));
+      within = h.within;
+      in_turn = λ l. (let a = h.in_turn (holding_not_lost w H now held) in let b = ap length more in let c = length_one_more (sent H) x.1 in omega (arith, a, b, c));
+      reads = h.reads;
+      desk = (h.desk.0, subst (λ xs. IsFront xs (due w H)) (sym (acknowledged_is H now f false false e k)) h.desk.1, h.desk.2);
+      numbered = h.numbered;
+    }
+
+sound_frame : (w : Who) (H : List Call) (now : ℕ) (f : FrameRecord) → FrameCase w H now f → Sound w H → Sound w (TakeFrame now (Some f) ∷ H)
+sound_frame w H now f (claims owes e) h = sound_claim w H now f (claim_taken f now w _ e) h
+sound_frame w H now f (acknowledges m owes held g e) h =
+    let k = due_taken w f now m e (due_get w (due w H) (length (acknowledged H)) m h.desk.0 g) in
+    sound_acknowledge w H now f m k.0 k.1 g e h
+sound_frame w H now f (sends x owes held none g e) h =
+    let own = own_get w _ _ x h.own g in
+    sound_send w H now f x (message_taken w f now x e own) (plain_taken w f now x e own) held g e h
+
+sound_accept : (w : Who) (H : List Call) (now k : ℕ) (d : Draft) → can_send w d ≡ true → k ≡ length (accepted w H) → Sound w H → Sound w (Send now d (Ok k) ∷ H)
+sound_accept w H now k d e g h = record {
+  own = own_append w (accepted w H) (k, message_from w d) h.own (is_own w d e);
+  fronts = subst (λ ys. IsFront (sent H) ys) (sym (map_append content (accepted w H) (k, message_from w d)))
+      (front_append (sent H) (map content (accepted w H)) (message_from w d) h.fronts);
+  within = (let a = h.within in let b = length_one_more (accepted w H) (k, message_from w d) in omega (arith, a, b));
+  in_turn = λ l. h.in_turn (sym (lost_older (step H now) (address_after w H)) ∙ l);
+  reads = h.reads;
+  desk = h.desk;
+  numbered = λ i x f. elim (get_append (accepted w H) (k, message_from w d) i x f) [
+    | inl old ↦ h.numbered i x old
+    | inr new ↦ sym (ap (λ (y : ℕ × Message). y.0) new.1) ∙ (g ∙ sym new.0)
+  ];
+}
+
+sound_ended : (w : Who) (H : List Call) (x : ℕ × Ending) → EndCase w H x → Sound w H → Sound w (TakeEnded (Some x) ∷ H)
+sound_ended w H x (done m l g e) h = record {
+  own = h.own;
+  fronts = h.fronts;
+  within = (let a = get_within (accepted w H) (length (told H)) (x.0, m) g in let b = length_one_more (told H) x in omega (arith, a, b));
+  in_turn = λ i. (let b = length_one_more (told H) x in let c = ltb-true (length (told H)) (length (sent H)) l in omega (arith, b, c));
+  reads = h.reads;
+  desk = h.desk;
+  numbered = h.numbered;
+}
+sound_ended w H x (withdrawn m l lost g e) h = record {
+  own = h.own;
+  fronts = h.fronts;
+  within = (let a = get_within (accepted w H) (length (told H)) (x.0, m) g in let b = length_one_more (told H) x in omega (arith, a, b));
+  in_turn = λ i. absurd (let z : true ≡ false = sym lost ∙ i in cc);
+  reads = h.reads;
+  desk = h.desk;
+  numbered = h.numbered;
+}
+
+kept_grows : (b : Bool) (xs : List (ℕ × Message)) (x : ℕ × Message) (ys : List (ℕ × Message)) → IsFront ys xs → IsFront ys (if b then xs ++ x ∷ [] else xs)
+kept_grows true xs x ys h = front_append ys xs x h
+kept_grows false xs x ys h = h
+
+-- ---- requests
+
+refusal_due : (w : Who) (room place : Bool) (o : Option Asked) (xs : List Message) → AllDue w xs → AllDue w (with_refusal w room place o xs)
+refusal_due w room place None xs h = h
+refusal_due w room place (Some r) xs h = go ((nat_eq r.destination w.address && place) && not (is_served w r.group && room))
+  where
+    go : (b : Bool) → AllDue w (if b then xs ++ acknowledgment w (if is_served w r.group then Busy else Nack) r ∷ [] else xs)
+    go true = due_append w xs _ r h
+    go false = h
+
+refusal_front : (w : Who) (room place : Bool) (o : Option Asked) (xs ys : List Message) → IsFront ys xs → IsFront ys (with_refusal w room place o xs)
+refusal_front w room place None xs ys h = h
+refusal_front w room place (Some r) xs ys h = go ((nat_eq r.destination w.address && place) && not (is_served w r.group && room))
+  where
+    go : (b : Bool) → IsFront ys (if b then xs ++ acknowledgment w (if is_served w r.group then Busy else Nack) r ∷ [] else xs)
+    go true = front_append ys xs _ h
+    go false = h
+
+request_front : (w : Who) (room : Bool) (o : Option Asked) (xs ys : List Asked) → IsFront ys xs → IsFront ys (with_request w room o xs)
+request_front w room None xs ys h = h
+request_front w room (Some r) xs ys h = go (is_served w r.group && room)
+  where
+    go : (b : Bool) → IsFront ys (if b then xs ++ r ∷ [] else xs)
+    go true = front_append ys xs r h
+    go false = h
+
+heard_desk : (w : Who) (H : List Call) (f : FrameRecord) → Desked w H → Desked w (Hear f ∷ H)
+heard_desk w H f h =
+    let room = nat_lt (length (requests w H) - length (handed H)) 16 in
+    let place = nat_lt (length (due w H) - length (acknowledged H)) 16 in
+    let o = asked w (holds w H f.stamp) f in (
+      refusal_due w room place o (due w H) h.0,
+      refusal_front w room place o (due w H) (acknowledged H) h.1,
+      request_front w room o (requests w H) (handed H) h.2,
+    )
+
+sound_more : (w : Who) (H : List Call) (call : Call) → IsAnswered w H call → Sound w H → Sound w (call ∷ H)
+sound_more w H (Hear f) e h = rests w H _ refl refl refl (lost_if w (is_smaller w (claim_of f)) (step H f.stamp) (address_after w H))
+    (kept_grows _ (kept w H) (f.stamp, message_of f) (got H) h.reads)
+    (heard_desk w H f h.desk) h
+sound_more w H (Tick now) e h = rests w H _ refl refl refl (λ l. sym (lost_older (step H now) (address_after w H)) ∙ l) h.reads h.desk h
+sound_more w H (TakeFrame now None) e h = rests w H _ refl refl refl (λ l. sym (lost_older (step H now) (address_after w H)) ∙ l) h.reads h.desk h
+sound_more w H (TakeFrame now (Some f)) e h = sound_frame w H now f (frame_case w H now f e) h
+sound_more w H (Send now d (Ok k)) e h = go (send_case w H now d (Ok k) e)
+  where
+    go : SendCase w H now d (Ok k) → Sound w (Send now d (Ok k) ∷ H)
+    go (no_address a b) = absurd (cc)
+    go (bad_value a b c) = absurd (cc)
+    go (full a b c i) = absurd (cc)
+    go (accepts a b c i) = sound_accept w H now k d b (let z : k ≡ length (accepted w H) = cc in z) h
+sound_more w H (Send now d (Err r)) e h = rests w H _ refl refl refl (λ l. sym (lost_older (step H now) (address_after w H)) ∙ l) h.reads h.desk h
+sound_more w H (TakeEnded None) e h = rests w H _ refl refl refl (λ l. l) h.reads h.desk h
+sound_more w H (TakeEnded (Some x)) e h = sound_ended w H x (end_case w H x e) h
+sound_more w H (TakeReceived None) e h = rests w H _ refl refl refl (λ l. l) h.reads h.desk h
+sound_more w H (TakeReceived (Some x)) e h = rests w H _ refl refl refl (λ l. l)
+    (front_longer (got H) (kept w H) x h.reads (sym e)) h.desk h
+sound_more w H (TakeNews None) e h = rests w H _ refl refl refl (λ l. l) h.reads h.desk h
+sound_more w H (TakeNews (Some n)) e h = rests w H _ refl refl refl (λ l. l) h.reads h.desk h
+sound_more w H (TakeRequest None) e h = rests w H _ refl refl refl (λ l. l) h.reads h.desk h
+sound_more w H (TakeRequest (Some r)) e h = rests w H _ refl refl refl (λ l. l) h.reads (h.desk.0, h.desk.1, front_longer (handed H) (requests w H) r h.desk.2 (sym e)) h
+sound_more w H (Acknowledge now r answer (Ok x)) e h = rests w H _ refl refl refl (λ l. sym (lost_older (step H now) (address_after w H)) ∙ l) h.reads
+    (due_append w (due w H) answer r h.desk.0, front_append (acknowledged H) (due w H) (acknowledgment w answer r) h.desk.1, h.desk.2) h
+sound_more w H (Acknowledge now r answer (Err k)) e h = rests w H _ refl refl refl (λ l. sym (lost_older (step H now) (address_after w H)) ∙ l) h.reads h.desk h
+
+pub sound : (w : Who) (H : List Call) → AreAnswered w H → Sound w H
+sound w [] e = record { own = tt; fronts = ([], refl); within = omega arith; in_turn = λ l. omega arith; reads = ([], refl); desk = (tt, ([], refl), ([], refl)); numbered = λ i x e. absurd (cc) }
+sound w (call ∷ H) e = sound_more w H call e.1 (sound w H e.0)

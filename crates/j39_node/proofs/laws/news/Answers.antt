@@ -1,0 +1,14 @@
+use Rattle.j39_node.proofs.LawLemmas as law
+use Rattle.j39_node.proofs.laws.news.Goals as goal
+
+pub returns-clause-none : goal.returns-clause-none
+returns-clause-none c = law.none_told
+
+pub returns-clause-told : goal.returns-clause-told
+returns-clause-told c = law.news_told
+
+pub returns-clause-lost : goal.returns-clause-lost
+returns-clause-lost c = law.lost_is_lost
+
+pub returns-clause-missed : goal.returns-clause-missed
+returns-clause-missed c = law.some_missed

@@ -1,0 +1,83 @@
+-- A history that a controller can have had.
+use Rattle.std.specs.Prelude.{ℕ, List, [], ◌∷◌, Some, None, Ok, Err}
+use Rattle.j39_frame.specs.Frame.{FrameRecord}
+use Rattle.j39_node.specs.declared.kinds.Ending.TheVariants.{Done, Withdrawn}
+use Rattle.j39_node.specs.declared.kinds.Answer.TheVariants.{Ack}
+use Rattle.j39_node.specs.declared.kinds.Refused.TheVariants.{NoAddress, BadValue}
+use Rattle.j39_node.specs.History.{Who, Asked, Draft, Call, message_of}
+use Rattle.j39_node.specs.History.Call.{Acknowledge, Hear, Tick, TakeFrame, TakeRequest, Send, TakeEnded, TakeReceived}
+
+-- NAME 2 at address 128, whose program serves group 65259
+abbrev pub two : Who
+two = record { name = 2; address = 128; served = 65259 ∷ [] }
+
+-- its claim, and 'cannot claim'
+abbrev pub own_claim : ℕ → FrameRecord
+own_claim now = record { stamp = now; id = 418316160; bytes = 2 ∷ 0 ∷ 0 ∷ 0 ∷ 0 ∷ 0 ∷ 0 ∷ 0 ∷ [] }
+
+abbrev pub cannot_claim : ℕ → FrameRecord
+cannot_claim now = record { stamp = now; id = 418316286; bytes = 2 ∷ 0 ∷ 0 ∷ 0 ∷ 0 ∷ 0 ∷ 0 ∷ 0 ∷ [] }
+
+-- NAME 1 claims address 128
+abbrev pub smaller_claim : ℕ → FrameRecord
+smaller_claim now = record { stamp = now; id = 418316160; bytes = 1 ∷ 0 ∷ 0 ∷ 0 ∷ 0 ∷ 0 ∷ 0 ∷ 0 ∷ [] }
+
+-- a message of group 65265 to all, and its frame
+abbrev pub speed : Draft
+speed = record { priority = 6; group = 65265; to = 255; bytes = 7 ∷ [] }
+
+abbrev pub speed_frame : ℕ → FrameRecord
+speed_frame now = record { stamp = now; id = 419361152; bytes = 7 ∷ [] }
+
+-- address 11 sends it a message of group 0
+abbrev pub torque : ℕ → FrameRecord
+torque now = record { stamp = now; id = 201359371; bytes = 1 ∷ 2 ∷ [] }
+
+-- address 11 asks it for this group, and for 65260
+abbrev pub request : ℕ → FrameRecord
+request now = record { stamp = now; id = 418021387; bytes = 235 ∷ 254 ∷ 0 ∷ [] }
+
+abbrev pub other_request : ℕ → FrameRecord
+other_request now = record { stamp = now; id = 418021387; bytes = 236 ∷ 254 ∷ 0 ∷ [] }
+
+abbrev pub request_in : Asked
+request_in = record { source = 11; destination = 128; group = 65259 }
+
+-- it acknowledges the first, and refuses the second
+abbrev pub answer_frame : ℕ → FrameRecord
+answer_frame now = record { stamp = now; id = 417922944; bytes = 0 ∷ 255 ∷ 255 ∷ 255 ∷ 11 ∷ 235 ∷ 254 ∷ 0 ∷ [] }
+
+abbrev pub refusal_frame : ℕ → FrameRecord
+refusal_frame now = record { stamp = now; id = 417922944; bytes = 1 ∷ 255 ∷ 255 ∷ 255 ∷ 11 ∷ 236 ∷ 254 ∷ 0 ∷ [] }
+
+-- it claims its address, and holds it 250 ms later; sends a message, refuses one to itself, gets one, answers a
+-- request and refuses another; then a smaller NAME claims
+-- the address, so that a message that waits is withdrawn and none is accepted; the newest call first
+abbrev pub example : List Call
+example =
+    Send 300004 speed (Err NoAddress)
+    ∷ TakeEnded None
+    ∷ TakeEnded (Some (1, Withdrawn))
+    ∷ TakeFrame 300003 None
+    ∷ TakeFrame 300002 (Some (cannot_claim 300002))
+    ∷ Hear (smaller_claim 300001)
+    ∷ Send 300000 speed (Ok 1)
+    ∷ TakeFrame 295003 (Some (answer_frame 295003))
+    ∷ Acknowledge 295002 request_in Ack (Ok tt)
+    ∷ TakeRequest None
+    ∷ TakeRequest (Some request_in)
+    ∷ TakeFrame 295001 (Some (refusal_frame 295001))
+    ∷ Hear (other_request 295000)
+    ∷ Hear (request 295000)
+    ∷ TakeReceived None
+    ∷ TakeReceived (Some (290000, message_of (torque 290000)))
+    ∷ Hear (torque 290000)
+    ∷ TakeEnded (Some (0, Done))
+    ∷ TakeFrame 250200 (Some (speed_frame 250200))
+    ∷ Send 250100 (record speed { to = 128 }) (Err BadValue)
+    ∷ Send 250100 speed (Ok 0)
+    ∷ Tick 250100
+    ∷ Send 250099 speed (Err NoAddress)
+    ∷ TakeFrame 100 (Some (own_claim 100))
+    ∷ Tick 90
+    ∷ []

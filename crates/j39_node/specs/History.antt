@@ -1,0 +1,442 @@
+-- Histories of a controller's calls, each with its arguments, its moment and its answer, the newest first; and what a
+-- history says. All lists of messages have the oldest first.
+use Rattle.std.specs.Prelude.{◌≡◌, ℕ, suc, ◌+◌, ◌-◌, ◌%◌, ◌/◌, ◌++◌, ◌&&◌, ◌||◌, ◌==◌, nat_lt, nat_le, nat_eq, not, Bool, true, false, List, [], ◌∷◌, length, Option, Some, None, Result, Ok, if◌then◌else◌}
+use Rattle.byteorder.specs.Endian.{little_bytes, little_number}
+use Rattle.j39_frame.specs.Address.{null_address, global_address}
+use Rattle.j39_frame.specs.Frame.{FrameRecord}
+use Rattle.j39_frame.specs.Identifier.{source_of, destination_of, priority_of, pgn_of}
+use Rattle.j39_frame.specs.Network.{address_claimed_group, request_group, transport_control_group, transport_data_group}
+use Rattle.j39_address.specs.Claim.{Claim, claim_of}
+use Rattle.j39_node.specs.declared.kinds.Ending.{Ending}
+use Rattle.j39_node.specs.declared.kinds.News.{News}
+use Rattle.j39_node.specs.declared.kinds.News.TheVariants.{AddressLost, AnotherAtAddress, MessagesMissed}
+use Rattle.j39_node.specs.declared.kinds.Refused.{Refused}
+use Rattle.j39_node.specs.declared.kinds.Answer.{Answer}
+use Rattle.j39_node.specs.declared.kinds.Answer.TheVariants.{Ack, Nack, Denied, Busy}
+use Rattle.std.specs.List.{list_any}
+
+-- the NAME of a controller, the address that it claims, and the groups that its program serves
+pub record Who : Type 0 where
+  pub name : ℕ
+  pub address : ℕ
+  pub served : List ℕ
+
+-- what a frame carries: who sends it, to whom (none for a group of PF 240 and up), and what
+pub record Message : Type 0 where
+  pub source : ℕ
+  pub destination : Option ℕ
+  pub priority : ℕ
+  pub group : ℕ
+  pub bytes : List ℕ
+
+-- who asks, whom, and for which group
+pub record Asked : Type 0 where
+  pub source : ℕ
+  pub destination : ℕ
+  pub group : ℕ
+
+-- what is handed in to be sent
+pub record Draft : Type 0 where
+  pub priority : ℕ
+  pub group : ℕ
+  pub to : ℕ
+  pub bytes : List ℕ
+
+pub data Call : Type 0 where
+  Hear : FrameRecord → Call
+  Tick : ℕ → Call
+  TakeFrame : ℕ → Option FrameRecord → Call
+  Send : ℕ → Draft → Result ℕ Refused → Call
+  TakeEnded : Option (ℕ × Ending) → Call
+  TakeReceived : Option (ℕ × Message) → Call
+  TakeRequest : Option Asked → Call
+  TakeNews : Option News → Call
+  Acknowledge : ℕ → Asked → Answer → Result (Unit {0}) Refused → Call
+
+-- what a frame of this identifier and these bytes carries
+abbrev pub carried : ℕ → List ℕ → Message
+carried id bytes = record {
+  source = source_of id;
+  destination = destination_of id;
+  priority = priority_of id;
+  group = pgn_of id;
+  bytes = bytes;
+}
+
+abbrev pub message_of : FrameRecord → Message
+message_of f = carried f.id f.bytes
+
+-- what stands with a token or a moment
+abbrev pub content : ℕ × Message → Message
+content x = x.1
+
+-- a list begins with another
+abbrev pub IsFront : {T : Type 0} → List T → List T → Type 0
+IsFront {T} front xs = (rest : List T) × (xs ≡ front ++ rest)
+
+-- ---- time
+
+-- the moment that the last call told, 0 before the first
+abbrev pub moment : List Call → ℕ
+moment [] = 0
+moment (Hear f ∷ H) = f.stamp
+moment (Tick now ∷ H) = now
+moment (TakeFrame now answer ∷ H) = now
+moment (Send now draft answer ∷ H) = now
+moment (Acknowledge now asked answer result ∷ H) = now
+moment (call ∷ H) = moment H
+
+-- the microseconds from the last call to this moment; time that goes back is no time
+abbrev pub step : List Call → ℕ → ℕ
+step H now = now - moment H
+
+-- ---- the address (J1939-81, 4.2 and 4.5)
+
+-- it wasn't claimed yet; a claim of it was taken so many microseconds ago; or a smaller NAME claimed it
+pub data Address : Type 0 where
+  NotClaimed : Address
+  Claimed : ℕ → Address
+  Lost : Address
+
+abbrev pub older : ℕ → Address → Address
+older s NotClaimed = NotClaimed
+older s (Claimed e) = Claimed (e + s)
+older s Lost = Lost
+
+-- when a claim is taken
+abbrev pub claimed : Address → Address
+claimed NotClaimed = Claimed 0
+claimed (Claimed e) = Claimed e
+claimed Lost = Lost
+
+abbrev pub is_claim : FrameRecord → Bool
+is_claim f = nat_eq (pgn_of f.id) address_claimed_group
+
+-- a claim of who's address by a smaller NAME, by a larger one
+abbrev pub is_smaller : Who → Option Claim → Bool
+is_smaller w None = false
+is_smaller w (Some c) = nat_eq c.address w.address && nat_lt c.name w.name
+
+abbrev pub is_larger : Who → Option Claim → Bool
+is_larger w None = false
+is_larger w (Some c) = nat_eq c.address w.address && nat_lt w.name c.name
+
+-- how far the address is
+abbrev pub address_after : Who → List Call → Address
+address_after w [] = NotClaimed
+address_after w (Hear f ∷ H) = if is_smaller w (claim_of f) then Lost else older (step H f.stamp) (address_after w H)
+address_after w (Tick now ∷ H) = older (step H now) (address_after w H)
+address_after w (TakeFrame now None ∷ H) = older (step H now) (address_after w H)
+address_after w (TakeFrame now (Some f) ∷ H) =
+    if is_claim f then claimed (older (step H now) (address_after w H)) else older (step H now) (address_after w H)
+address_after w (Send now draft answer ∷ H) = older (step H now) (address_after w H)
+address_after w (Acknowledge now asked answer result ∷ H) = older (step H now) (address_after w H)
+address_after w (call ∷ H) = address_after w H
+
+abbrev pub is_lost : Address → Bool
+is_lost Lost = true
+is_lost a = false
+
+-- 250 ms after its claim was taken it is held
+abbrev pub is_held : Address → Bool
+is_held (Claimed e) = nat_le 250000 e
+is_held a = false
+
+-- at this moment after H the address is held
+abbrev pub holds : Who → List Call → ℕ → Bool
+holds w H now = is_held (older (step H now) (address_after w H))
+
+-- the address that a claim tells: the null address says that none can be claimed
+abbrev pub claim_address : Who → Address → ℕ
+claim_address w Lost = null_address
+claim_address w a = w.address
+
+-- the claim of an address, or the word that none can be claimed: priority 6, to all, the NAME's low byte first
+abbrev pub claim_with : ℕ → List ℕ → Message
+claim_with a bytes = record {
+  source = a;
+  destination = Some global_address;
+  priority = 6;
+  group = address_claimed_group;
+  bytes = bytes;
+}
+
+abbrev pub claim_from : Who → ℕ → Message
+claim_from w a = claim_with a (little_bytes 8 w.name)
+
+-- the group that a request asks for, the low byte first (J1939-21, 5.4.2); none where the frame is no request
+abbrev pub asked_group : FrameRecord → Option ℕ
+asked_group f =
+    if nat_eq (pgn_of f.id) request_group && nat_le 3 (length f.bytes) then Some (little_number 3 f.bytes) else None
+
+abbrev pub is_some : Option ℕ → ℕ → Bool
+is_some None n = false
+is_some (Some m) n = nat_eq m n
+
+abbrev pub is_none : Option ℕ → Bool
+is_none None = true
+is_none (Some m) = false
+
+-- a request for claims to all, or to the address where it isn't lost
+abbrev pub is_asked : Who → Bool → FrameRecord → Bool
+is_asked w lost f =
+    is_some (asked_group f) address_claimed_group && (is_some (destination_of f.id) global_address
+    || (is_some (destination_of f.id) w.address && not lost))
+
+-- the frame is answered by a claim: it is another's claim of the address, unless that was lost before, or a request for claims
+abbrev pub calls_for_claim : Who → Bool → FrameRecord → Bool
+calls_for_claim w lost f = ((is_smaller w (claim_of f) || is_larger w (claim_of f)) && not lost) || is_asked w lost f
+
+-- a claim is owed: the first, or since a frame was taken last something was heard that is answered by one
+abbrev pub owes_claim : Who → List Call → Bool
+owes_claim w [] = true
+owes_claim w (Hear f ∷ H) = owes_claim w H || calls_for_claim w (is_lost (address_after w H)) f
+owes_claim w (TakeFrame now (Some f) ∷ H) = false
+owes_claim w (call ∷ H) = owes_claim w H
+
+-- ---- messages out
+
+-- the group has a destination
+abbrev pub is_directed : ℕ → Bool
+is_directed group = nat_lt (group / 256 % 256) 240
+
+-- the stack itself speaks these groups: those of sessions of packets (J1939-21, 5.10), and the claim
+abbrev pub is_own_group : ℕ → Bool
+is_own_group group =
+    nat_eq group transport_control_group || (nat_eq group transport_data_group || nat_eq group address_claimed_group)
+
+-- an acknowledgment, positive or not (J1939-21, 5.4.4)
+abbrev pub acknowledgment_group : ℕ
+acknowledgment_group = 59392
+
+-- what may be sent: a group that an identifier can have, and none of the stack's nor an acknowledgment, to all or to the
+-- address of another, in one frame
+abbrev pub can_send : Who → Draft → Bool
+can_send w d =
+    nat_lt d.priority 8 && (not (is_directed d.group && not (nat_eq (d.group % 256) 0))
+    && (not (is_own_group d.group || nat_eq d.group acknowledgment_group)
+    && ((nat_eq d.to global_address || (nat_lt d.to null_address && not (nat_eq d.to w.address)))
+    && nat_le (length d.bytes) 8)))
+
+-- the message that is sent
+abbrev pub message_from : Who → Draft → Message
+message_from w d = record {
+  source = w.address;
+  destination = if is_directed d.group then Some d.to else None;
+  priority = d.priority;
+  group = d.group;
+  bytes = d.bytes;
+}
+
+-- the messages that were accepted, each with its token
+abbrev pub accepted : Who → List Call → List (ℕ × Message)
+accepted w [] = []
+accepted w (Send now draft (Ok token) ∷ H) = accepted w H ++ (token, message_from w draft) ∷ []
+accepted w (call ∷ H) = accepted w H
+
+abbrev pub is_acknowledgment : FrameRecord → Bool
+is_acknowledgment f = nat_eq (pgn_of f.id) acknowledgment_group
+
+-- the messages whose frames were taken
+abbrev pub sent : List Call → List Message
+sent [] = []
+sent (TakeFrame now (Some f) ∷ H) = if is_claim f || is_acknowledgment f then sent H else sent H ++ message_of f ∷ []
+sent (call ∷ H) = sent H
+
+-- all frames that were taken
+abbrev pub frames : List Call → List FrameRecord
+frames [] = []
+frames (TakeFrame now (Some f) ∷ H) = frames H ++ f ∷ []
+frames (call ∷ H) = frames H
+
+-- the tokens that were told to have ended, and how
+abbrev pub told : List Call → List (ℕ × Ending)
+told [] = []
+told (TakeEnded (Some x) ∷ H) = told H ++ x ∷ []
+told (call ∷ H) = told H
+
+-- sixteen are accepted and not told yet, or as many as there are tokens were accepted
+abbrev pub is_full : Who → List Call → Bool
+is_full w H = nat_eq (length (accepted w H) - length (told H)) 16 || nat_eq (length (accepted w H)) 18446744073709551615
+
+-- ---- messages in
+
+-- the frame is one for the program: from an address, of no group of the stack's and no request, to all or to the address
+-- that is held
+abbrev pub is_for_program : Who → Bool → FrameRecord → Bool
+is_for_program w held f =
+    nat_lt (source_of f.id) null_address && (not (is_own_group (pgn_of f.id) || nat_eq (pgn_of f.id) request_group)
+    && (is_none (destination_of f.id) || (is_some (destination_of f.id) global_address
+    || (is_some (destination_of f.id) w.address && held))))
+
+-- the messages for the program that were heard, each with its moment
+abbrev pub heard : Who → List Call → List (ℕ × Message)
+heard w [] = []
+heard w (Hear f ∷ H) =
+    if is_for_program w (holds w H f.stamp) f then heard w H ++ (f.stamp, message_of f) ∷ [] else heard w H
+heard w (call ∷ H) = heard w H
+
+-- what the program got
+abbrev pub got : List Call → List (ℕ × Message)
+got [] = []
+got (TakeReceived (Some x) ∷ H) = got H ++ x ∷ []
+got (call ∷ H) = got H
+
+-- those that were kept: all but what was heard while sixteen lay unread
+abbrev pub kept : Who → List Call → List (ℕ × Message)
+kept w [] = []
+kept w (Hear f ∷ H) =
+    if is_for_program w (holds w H f.stamp) f && nat_lt (length (kept w H) - length (got H)) 16
+    then kept w H ++ (f.stamp, message_of f) ∷ []
+    else kept w H
+kept w (call ∷ H) = kept w H
+
+-- how many of them were missed
+abbrev pub missed : Who → List Call → ℕ
+missed w [] = 0
+missed w (Hear f ∷ H) =
+    if is_for_program w (holds w H f.stamp) f && not (nat_lt (length (kept w H) - length (got H)) 16)
+    then suc (missed w H)
+    else missed w H
+missed w (call ∷ H) = missed w H
+
+-- ---- requests (J1939-21, 5.4.2), and their acknowledgments (5.4.4)
+
+abbrev pub is_served : Who → ℕ → Bool
+is_served w group = list_any (λ g. g == group) w.served
+
+-- a request of an address for a group, and not for claims, to all or to the address that is held
+abbrev pub is_request : Who → Bool → FrameRecord → ℕ → ℕ → Bool
+is_request w held f to group =
+    (held && nat_lt (source_of f.id) null_address) && ((nat_lt group 262144 && not (nat_eq group address_claimed_group))
+    && (nat_eq to global_address || nat_eq to w.address))
+
+abbrev pub asked_with : Who → Bool → FrameRecord → Option ℕ → Option ℕ → Option Asked
+asked_with w held f (Some to) (Some group) =
+    if is_request w held f to group
+    then Some (record { source = source_of f.id; destination = to; group = group })
+    else None
+asked_with w held f None group = None
+asked_with w held f (Some to) None = None
+
+-- what the frame asks of the controller
+abbrev pub asked : Who → Bool → FrameRecord → Option Asked
+asked w held f = asked_with w held f (destination_of f.id) (asked_group f)
+
+-- positive, negative, access denied, cannot respond now
+abbrev pub control_of : Answer → ℕ
+control_of Ack = 0
+control_of Nack = 1
+control_of Denied = 2
+control_of Busy = 3
+
+-- the acknowledgment of a request: priority 6, to all, with who asked and for what
+abbrev pub acknowledgment : Who → Answer → Asked → Message
+acknowledgment w answer r = record {
+  source = w.address;
+  destination = Some global_address;
+  priority = 6;
+  group = acknowledgment_group;
+  bytes = control_of answer ∷ 255 ∷ 255 ∷ 255 ∷ r.source ∷ r.group % 256 ∷ r.group / 256 % 256 ∷ r.group / 65536 % 256 ∷ [];
+}
+
+-- the requests that the program was handed
+abbrev pub handed : List Call → List Asked
+handed [] = []
+handed (TakeRequest (Some r) ∷ H) = handed H ++ r ∷ []
+handed (call ∷ H) = handed H
+
+-- a request for a served group waits, if there is room
+abbrev pub with_request : Who → Bool → Option Asked → List Asked → List Asked
+with_request w room None waiting = waiting
+with_request w room (Some r) waiting = if is_served w r.group && room then waiting ++ r ∷ [] else waiting
+
+-- the requests for the program: those that came while fewer than sixteen waited
+abbrev pub requests : Who → List Call → List Asked
+requests w [] = []
+requests w (Hear f ∷ H) =
+    with_request w (nat_lt (length (requests w H) - length (handed H)) 16) (asked w (holds w H f.stamp) f) (requests w H)
+requests w (call ∷ H) = requests w H
+
+-- the acknowledgments whose frames were taken
+abbrev pub acknowledged : List Call → List Message
+acknowledged [] = []
+acknowledged (TakeFrame now (Some f) ∷ H) =
+    if is_claim f || not (is_acknowledgment f) then acknowledged H else acknowledged H ++ message_of f ∷ []
+acknowledged (call ∷ H) = acknowledged H
+
+-- how the controller itself answers a request to its address: what isn't served is refused; what is, if there is no room
+abbrev pub with_refusal : Who → Bool → Bool → Option Asked → List Message → List Message
+with_refusal w room place None due = due
+with_refusal w room place (Some r) due =
+    if (nat_eq r.destination w.address && place) && not (is_served w r.group && room)
+    then due ++ acknowledgment w (if is_served w r.group then Busy else Nack) r ∷ []
+    else due
+
+-- the acknowledgments that are due, and were: at most sixteen wait
+abbrev pub due : Who → List Call → List Message
+due w [] = []
+due w (Hear f ∷ H) =
+    with_refusal w (nat_lt (length (requests w H) - length (handed H)) 16) (nat_lt (length (due w H) - length (acknowledged H)) 16)
+    (asked w (holds w H f.stamp) f) (due w H)
+due w (Acknowledge now r answer (Ok x) ∷ H) = due w H ++ acknowledgment w answer r ∷ []
+due w (call ∷ H) = due w H
+
+-- ---- who holds which address
+
+-- the frames that tell it: all that were heard, and its own claims that were taken
+abbrev pub told_claims : List Call → List FrameRecord
+told_claims [] = []
+told_claims (Hear f ∷ H) = told_claims H ++ f ∷ []
+told_claims (TakeFrame now (Some f) ∷ H) = if is_claim f then told_claims H ++ f ∷ [] else told_claims H
+told_claims (call ∷ H) = told_claims H
+
+-- ---- news: each stands from when it happens until it is told
+
+-- the address was lost
+abbrev pub lost_news : Who → List Call → Bool
+lost_news w [] = false
+lost_news w (Hear f ∷ H) = lost_news w H || (is_smaller w (claim_of f) && not (is_lost (address_after w H)))
+lost_news w (TakeNews (Some AddressLost) ∷ H) = false
+lost_news w (call ∷ H) = lost_news w H
+
+-- another sends from the address that is held, and it is no claim
+abbrev pub is_another : Who → Bool → FrameRecord → Bool
+is_another w held f = held && (nat_eq (source_of f.id) w.address && not (is_claim f))
+
+abbrev pub another_news : Who → List Call → Bool
+another_news w [] = false
+another_news w (Hear f ∷ H) = another_news w H || is_another w (holds w H f.stamp) f
+another_news w (TakeNews (Some AnotherAtAddress) ∷ H) = false
+another_news w (call ∷ H) = another_news w H
+
+-- messages were missed
+abbrev pub missed_news : Who → List Call → Bool
+missed_news w [] = false
+missed_news w (Hear f ∷ H) =
+    missed_news w H || (is_for_program w (holds w H f.stamp) f && not (nat_lt (length (kept w H) - length (got H)) 16))
+missed_news w (TakeNews (Some MessagesMissed) ∷ H) = false
+missed_news w (call ∷ H) = missed_news w H
+
+-- ---- when something is due
+
+-- a message or an acknowledgment waits
+abbrev pub is_waiting : Who → List Call → Bool
+is_waiting w H = nat_lt (length (sent H)) (length (accepted w H)) || nat_lt (length (acknowledged H)) (length (due w H))
+
+-- a moment that a stamp can tell
+abbrev pub stamp_at : ℕ → Option ℕ
+stamp_at n = if nat_lt n 10000000000000000 then Some n else None
+
+-- when a claimed address will be held
+abbrev pub held_at : Address → ℕ → Option ℕ
+held_at (Claimed e) m = if nat_lt e 250000 then stamp_at (m + (250000 - e)) else None
+held_at NotClaimed m = None
+held_at Lost m = None
+
+-- the moment of the last call, if a frame can be taken; else that at which the address is held
+abbrev pub next_due : Who → List Call → Option ℕ
+next_due w H =
+    if owes_claim w H || (is_held (address_after w H) && is_waiting w H)
+    then stamp_at (moment H)
+    else held_at (address_after w H) (moment H)

@@ -1,0 +1,51 @@
+-- How far a controller is with its address, in its own counts.
+use Rattle.std.specs.Prelude.{ℕ, ◌+◌, ◌-◌, nat_lt, Option, Some, None, ◌&&◌, ◌||◌, not, nat_eq, Bool, true, false, if◌then◌else◌}
+use Rattle.j39_node.specs.declared.hold.Hold.{Hold}
+use Rattle.j39_node.specs.declared.hold.Standing.{Standing}
+use Rattle.j39_node.specs.declared.hold.Standing.TheVariants as standing
+use Rattle.j39_node.specs.History.{Address, stamp_at}
+use Rattle.j39_node.specs.History.Address.{NotClaimed, Claimed, Lost}
+
+-- it counts what is left of the 250 ms
+abbrev pub standing_of : Address → Standing
+standing_of NotClaimed = standing.Idle
+standing_of (Claimed e) = standing.Claimed (250000 - e)
+standing_of Lost = standing.Lost
+
+abbrev pub less : ℕ → Standing → Standing
+less s standing.Idle = standing.Idle
+less s (standing.Claimed left) = standing.Claimed (left - s)
+less s standing.Lost = standing.Lost
+
+abbrev pub passed : ℕ → Hold → Hold
+passed now h = record { moment = now; standing = less (now - h.moment) h.standing; owes_claim = h.owes_claim }
+
+abbrev pub heard : Bool → Bool → Hold → Hold
+heard drives_away calls h = record {
+  moment = h.moment;
+  standing = if drives_away then standing.Lost else h.standing;
+  owes_claim = h.owes_claim || calls;
+}
+
+abbrev pub claims : Standing → Standing
+claims standing.Idle = standing.Claimed 250000
+claims (standing.Claimed left) = standing.Claimed left
+claims standing.Lost = standing.Lost
+
+abbrev pub claimed : Hold → Hold
+claimed h = record { moment = h.moment; standing = claims h.standing; owes_claim = false }
+
+abbrev pub stands : Standing → Bool
+stands standing.Idle = false
+stands (standing.Claimed left) = nat_eq left 0
+stands standing.Lost = false
+
+abbrev pub lost : Standing → Bool
+lost standing.Lost = true
+lost standing.Idle = false
+lost (standing.Claimed left) = false
+
+abbrev pub left_at : Standing → ℕ → Option ℕ
+left_at standing.Idle m = None
+left_at (standing.Claimed left) m = if nat_lt 0 left then stamp_at (m + left) else None
+left_at standing.Lost m = None

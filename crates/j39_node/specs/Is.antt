@@ -1,0 +1,170 @@
+-- The histories that a controller can have had.
+use Rattle.std.specs.Prelude.{◌≡◌, ℕ, ◌-◌, nat_eq, nat_lt, nat_le, not, ◌&&◌, ◌++◌, ◌+◌, Bool, true, false, List, [], ◌∷◌, length, drop, map, min, Option, Some, None, Result, Ok, Err, if◌then◌else◌}
+use Rattle.std.specs.List.{slice_get}
+use Rattle.std.specs.Option.{option_map}
+use Rattle.j39_frame.specs.Frame.{FrameRecord}
+use Rattle.j39_frame.specs.Identifier.{id_raw}
+use Rattle.j39_frame.specs.Pgn.{pgn_raw}
+use Rattle.j39_frame.specs.Stamp.{stamp_micros}
+use Rattle.j39_address.specs.Name.{name_raw}
+use Rattle.j39_address.specs.Claims.{Knows}
+use Rattle.j39_address.specs.declared.status.Status.{Status}
+use Rattle.j39_address.specs.declared.status.Status.TheVariants.{Idle, Claiming, Holding, Cannot}
+use Rattle.j39_node.specs.declared.controller.Controller.{Controller}
+use Rattle.j39_node.specs.declared.hold.Hold.{Hold}
+use Rattle.j39_node.specs.declared.own.Own.{Own}
+use Rattle.j39_node.specs.declared.requests.Request.{Request}
+use Rattle.j39_node.specs.declared.requests.Due.{Due}
+use Rattle.j39_node.specs.declared.kinds.Answer.{Answer}
+use Rattle.j39_node.specs.declared.outgoing.Outgoing.{Outgoing}
+use Rattle.j39_node.specs.declared.received.Received.{Received}
+use Rattle.j39_node.specs.declared.kinds.Ending.{Ending}
+use Rattle.j39_node.specs.declared.kinds.Ending.TheVariants.{Done, Withdrawn}
+use Rattle.j39_node.specs.declared.news.Untold.{Untold}
+use Rattle.j39_node.specs.declared.kinds.News.{News}
+use Rattle.j39_node.specs.declared.kinds.News.TheVariants.{AddressLost, AnotherAtAddress, MessagesMissed}
+use Rattle.j39_node.specs.declared.kinds.Refused.{Refused}
+use Rattle.j39_node.specs.declared.kinds.Refused.TheVariants.{NoAddress, BadValue, Full}
+use Rattle.j39_node.specs.Hold.{standing_of}
+use Rattle.j39_node.specs.History.{Who, Message, Draft, Call, Address, carried, message_of, moment, step, older, address_after, holds, is_lost, is_held, claim_address, claim_from, owes_claim, can_send, accepted, sent, told, is_full, got, kept, missed, content, Asked, requests, handed, due, acknowledged, acknowledgment, told_claims, lost_news, another_news, missed_news}
+use Rattle.j39_node.specs.History.Call.{Hear, Tick, TakeFrame, Send, TakeEnded, TakeReceived, TakeRequest, TakeNews, Acknowledge}
+use Rattle.j39_node.specs.History.Address.{NotClaimed, Claimed, Lost}
+
+-- ---- the answers that a history asks for
+
+abbrev pub stamped : FrameRecord → ℕ × Message
+stamped f = (f.stamp, message_of f)
+
+-- the first that wasn't taken, of the acknowledgments that are due, or else of the messages that were accepted
+abbrev pub first_of : Option Message → Option (ℕ × Message) → Option Message
+first_of (Some m) message = Some m
+first_of None message = option_map content message
+
+-- the claim that is owed goes first; else, from an address that is held, an acknowledgment or a message
+abbrev pub next_frame : Who → List Call → ℕ → Option (ℕ × Message)
+next_frame w H now =
+    if owes_claim w H then Some (now, claim_from w (claim_address w (address_after w H)))
+    else if holds w H now
+    then option_map (λ m. (now, m)) (first_of (slice_get (due w H) (length (acknowledged H))) (slice_get (accepted w H) (length (sent H))))
+    else None
+
+abbrev pub answer_to_send : Who → List Call → ℕ → Draft → Result ℕ Refused
+answer_to_send w H now d =
+    if holds w H now then (if can_send w d then (if is_full w H then Err Full else Ok (length (accepted w H))) else Err BadValue)
+    else Err NoAddress
+
+-- a message that was taken is done; one that wasn't is withdrawn where the address is lost
+abbrev pub ending_of : Bool → Bool → ℕ × Message → Option (ℕ × Ending)
+ending_of true lost x = Some (x.0, Done)
+ending_of false true x = Some (x.0, Withdrawn)
+ending_of false false x = None
+
+abbrev pub end_of : Bool → Bool → Option (ℕ × Message) → Option (ℕ × Ending)
+end_of taken lost None = None
+end_of taken lost (Some x) = ending_of taken lost x
+
+abbrev pub next_ended : Who → List Call → Option (ℕ × Ending)
+next_ended w H =
+    end_of (nat_lt (length (told H)) (length (sent H))) (is_lost (address_after w H)) (slice_get (accepted w H) (length (told H)))
+
+abbrev pub next_received : Who → List Call → Option (ℕ × Message)
+next_received w H = slice_get (kept w H) (length (got H))
+
+abbrev pub next_request : Who → List Call → Option Asked
+next_request w H = slice_get (requests w H) (length (handed H))
+
+abbrev pub news_of : Bool → Bool → Bool → Option News
+news_of true another missed = Some AddressLost
+news_of false true missed = Some AnotherAtAddress
+news_of false false true = Some MessagesMissed
+news_of false false false = None
+
+abbrev pub next_news : Who → List Call → Option News
+next_news w H = news_of (lost_news w H) (another_news w H) (missed_news w H)
+
+-- a request to all is never acknowledged
+abbrev pub answer_to_acknowledge : Who → List Call → ℕ → Asked → Result (Unit {0}) Refused
+answer_to_acknowledge w H now r =
+    if holds w H now
+    then (if nat_eq r.destination w.address
+    then (if nat_eq (length (due w H) - length (acknowledged H)) 16 then Err Full else Ok tt)
+    else Err BadValue)
+    else Err NoAddress
+
+-- the answer of the call is the one that the history before it asks for
+abbrev pub IsAnswered : Who → List Call → Call → Type 0
+IsAnswered w H (TakeFrame now answer) = option_map stamped answer ≡ next_frame w H now
+IsAnswered w H (Send now draft answer) = answer ≡ answer_to_send w H now draft
+IsAnswered w H (TakeEnded answer) = answer ≡ next_ended w H
+IsAnswered w H (TakeReceived answer) = answer ≡ next_received w H
+IsAnswered w H (TakeRequest answer) = answer ≡ next_request w H
+IsAnswered w H (TakeNews answer) = answer ≡ next_news w H
+IsAnswered w H (Acknowledge now r answer result) = result ≡ answer_to_acknowledge w H now r
+IsAnswered w H call = Unit {0}
+
+abbrev pub AreAnswered : Who → List Call → Type 0
+AreAnswered w [] = Unit {0}
+AreAnswered w (call ∷ H) = AreAnswered w H × IsAnswered w H call
+
+-- how far the address is, as `status` answers it
+abbrev pub status_of : Who → Address → Status
+status_of w NotClaimed = Idle
+status_of w (Claimed e) = if nat_le 250000 e then Holding w.address else Claiming w.address
+status_of w Lost = Cannot
+
+abbrev pub status_after : Who → List Call → Status
+status_after w H = status_of w (address_after w H)
+
+-- ---- the controller that it leads to
+
+abbrev pub who_of : Own → Who
+who_of own = record { name = name_raw own.name; address = own.address; served = own.served.items }
+
+abbrev pub hold_after : Who → List Call → Hold
+hold_after w H = record { moment = moment H; standing = standing_of (address_after w H); owes_claim = owes_claim w H }
+
+abbrev pub news_after : Who → List Call → Untold
+news_after w H = record { lost = lost_news w H; another = another_news w H; missed = missed_news w H }
+
+abbrev pub posted : Outgoing → ℕ × Message
+posted x = (x.token, carried (id_raw x.id) x.bytes.items)
+
+abbrev pub received_by : Received → ℕ × Message
+received_by r = (
+  stamp_micros r.stamp,
+  record {
+    source = r.source;
+    destination = r.destination;
+    priority = r.priority;
+    group = pgn_raw r.group;
+    bytes = r.bytes.items;
+  },
+)
+
+abbrev pub request_by : Request → Asked
+request_by r = record { source = r.source; destination = r.destination; group = pgn_raw r.group }
+
+abbrev pub refusal_by : Who → Due → Message
+refusal_by w x = acknowledgment w x.answer (request_by x.request)
+
+-- the inbox when a frame was heard
+abbrev pub offered : Bool → ℕ × Message → List (ℕ × Message) → List (ℕ × Message)
+offered wanted x unread = if wanted && nat_lt (length unread) 16 then unread ++ x ∷ [] else unread
+
+abbrev pub counted : Bool → List (ℕ × Message) → ℕ → ℕ
+counted wanted unread n = if wanted && not (nat_lt (length unread) 16) then min (n + 1) 18446744073709551615 else n
+
+-- c was made for w and called as H says
+pub record Is (w : Who) (H : List Call) (c : Controller) : Type 0 where
+  pub who : who_of c.own ≡ w
+  pub answered : AreAnswered w H
+  pub hold : c.hold ≡ hold_after w H
+  pub outgoing : map posted c.outgoing.items ≡ drop (length (told H)) (accepted w H)
+  pub taken : c.taken ≡ length (sent H) - length (told H)
+  pub token : c.next_token ≡ length (accepted w H)
+  pub unread : map received_by c.inbox.unread.items ≡ drop (length (got H)) (kept w H)
+  pub requests : map request_by c.desk.waiting.items ≡ drop (length (handed H)) (requests w H)
+  pub acknowledgments : map (refusal_by w) c.desk.due.items ≡ drop (length (acknowledged H)) (due w H)
+  pub news : c.news ≡ news_after w H
+  pub holders : Knows c.holders (told_claims H)
+  pub missed : c.inbox.missed ≡ min (missed w H) 18446744073709551615

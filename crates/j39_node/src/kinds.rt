@@ -1,0 +1,62 @@
+//! What calls answer.
+ghost use Rattle.std.specs.Prelude.{◌≡◌};
+ghost use Rattle.j39_node.specs.History.{control_of};
+
+/// How a message that was accepted ended.
+#[derive(Clone, Copy, Debug, PartialEq, Eq)]
+pub enum Ending {
+    /// Its frame was taken.
+    Done,
+    /// The address was lost before.
+    Withdrawn,
+}
+
+/// Why a message isn't accepted.
+#[derive(Clone, Copy, Debug, PartialEq, Eq)]
+pub enum Refused {
+    /// No address is held.
+    NoAddress,
+    /// A priority above 7, a group that no identifier can have or that the stack itself speaks, no receiver, or more
+    /// than 8 bytes.
+    BadValue,
+    /// Sixteen messages are accepted and not told to have ended.
+    Full,
+}
+
+/// How a request is acknowledged (J1939-21, 5.4.4).
+#[derive(Clone, Copy, Debug, PartialEq, Eq)]
+pub enum Answer {
+    /// Positive: what was asked for is done.
+    Ack,
+    /// Negative: the group isn't supported.
+    Nack,
+    /// Access is denied.
+    Denied,
+    /// It can't respond now.
+    Busy,
+}
+
+impl Answer {
+    /// The control byte.
+    pub(crate) fn control(self) -> u8
+        ensures { result ≡ control_of self }
+    {
+        match self {
+            Answer::Ack => 0,
+            Answer::Nack => 1,
+            Answer::Denied => 2,
+            Answer::Busy => 3,
+        }
+    }
+}
+
+/// What happened to a controller.
+#[derive(Clone, Copy, Debug, PartialEq, Eq)]
+pub enum News {
+    /// A smaller NAME claimed its address.
+    AddressLost,
+    /// Another sends from the address that it holds, and not a claim.
+    AnotherAtAddress,
+    /// Messages were missed, since sixteen lay unread; `missed` tells how many.
+    MessagesMissed,
+}

@@ -1,0 +1,17 @@
+//! A controller of single frames that promises by the histories of its calls (J1939-21, J1939-81).
+#![tactic(auto)]
+
+mod controller;
+mod hold;
+mod kinds;
+pub mod laws;
+mod news;
+mod outgoing;
+mod own;
+mod received;
+mod requests;
+
+pub use controller::Controller;
+pub use kinds::{Answer, Ending, News, Refused};
+pub use received::Received;
+pub use requests::Request;

@@ -1,0 +1,29 @@
+//! What happened and is not told.
+ghost use Rattle.std.specs.Prelude.{◌≡◌, ◌&&◌, ◌||◌, not};
+
+use crate::News;
+
+#[derive(Clone, Copy)]
+pub(crate) struct Untold {
+    pub(crate) lost: bool,
+    pub(crate) another: bool,
+    pub(crate) missed: bool,
+}
+
+impl Untold {
+    /// A frame was heard: it drives away from the address, which was lost before or not; another sent it from the address; it
+    /// was missed.
+    pub(crate) fn heard(self, drives_away: bool, was_lost: bool, another: bool, missed: bool) -> Untold
+        ensures { result ≡ record {
+          lost = self.lost || (drives_away && not was_lost);
+          another = self.another || another;
+          missed = self.missed || missed;
+        } }
+    {
+        Untold {
+            lost: self.lost || (drives_away && !was_lost),
+            another: self.another || another,
+            missed: self.missed || missed,
+        }
+    }
+}

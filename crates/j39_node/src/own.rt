@@ -1,0 +1,181 @@
+//! Who a controller is, and what the frames of others are to it (J1939-81, 4.2; J1939-21, 5.4.2).
+ghost use Rattle.std.specs.Prelude.{◌≡◌, ◌&&◌, ◌||◌, not, nat_eq, Option, Some, Bool, IsSomeAnd, IsSome, IfSome, ◌↔◌, ◌≤◌, length, map, ℕ, List, ◌==◌};
+ghost use Rattle.std.specs.List.{list_any};
+ghost use Rattle.std.specs.Option.{option_map};
+ghost use Rattle.j39_frame.specs.Identifier.{pgn_of, id_raw, destination_of};
+ghost use Rattle.j39_frame.specs.Pgn.{pgn_raw};
+ghost use Rattle.j39_frame.specs.Stamp.{stamp_micros};
+ghost use Rattle.j39_address.specs.Claim.{claim_of};
+ghost use Rattle.j39_node.specs.History.{is_smaller, is_larger, asked_group, is_some, is_none, is_asked, calls_for_claim, is_for_program, is_own_group, claim_from, claim_with, carried, is_another, is_served};
+ghost use Rattle.j39_node.specs.Is.{who_of, stamped, refusal_by};
+
+use crate::requests::Due;
+use arrayvec::ArrayVec;
+use byteorder::{ByteOrder, LittleEndian};
+use j39_address::{Name, claim_of};
+use j39_frame::{Frame, GLOBAL_ADDRESS, Id, NULL_ADDRESS, Pgn, Stamp};
+
+/// The group of claims.
+pub(crate) const ADDRESS_CLAIMED: u32 = 60_928;
+
+/// The group of acknowledgments.
+pub(crate) const ACKNOWLEDGMENT: u32 = 59_392;
+
+/// The groups of sessions of packets.
+const TRANSPORT_CONTROL: u32 = 60_416;
+
+const TRANSPORT_DATA: u32 = 60_160;
+
+/// The NAME of a controller, the address that it claims, and the groups that its program serves.
+#[derive(Drop)]
+pub(crate) struct Own {
+    pub(crate) name: Name,
+    pub(crate) address: u8,
+    pub(crate) served: ArrayVec<u32, 16>,
+}
+
+impl Own {
+    /// Whether a smaller NAME claims the address.
+    pub(crate) fn is_driven_away(&self, frame: &Frame) -> bool
+        ensures { result ≡ is_smaller (who_of self.now) (claim_of frame.now) }
+    {
+        match claim_of(frame) {
+            Some((name, address)) => address == self.address && name.raw() < self.name.raw(),
+            None => false,
+        }
+    }
+
+    /// Whether a larger NAME claims the address.
+    pub(crate) fn is_challenged(&self, frame: &Frame) -> bool
+        ensures { result ≡ is_larger (who_of self.now) (claim_of frame.now) }
+    {
+        match claim_of(frame) {
+            Some((name, address)) => address == self.address && self.name.raw() < name.raw(),
+            None => false,
+        }
+    }
+
+    /// Whether the frame is a request for claims, to all or, unless the address is lost, to it.
+    pub(crate) fn is_asked(&self, is_lost: bool, frame: &Frame) -> bool
+        ensures { result ≡ is_asked (who_of self.now) is_lost frame.now }
+    {
+        is_request_for(frame, ADDRESS_CLAIMED)
+            && (is_to(frame, GLOBAL_ADDRESS) || (is_to(frame, self.address) && !is_lost))
+    }
+
+    /// Whether a claim answers the frame.
+    pub(crate) fn calls_for_claim(&self, is_lost: bool, frame: &Frame) -> bool
+        ensures { result ≡ calls_for_claim (who_of self.now) is_lost frame.now }
+    {
+        let contested = self.is_driven_away(frame) || self.is_challenged(frame);
+        (contested && !is_lost) || self.is_asked(is_lost, frame)
+    }
+
+    /// Whether the frame is one for the program.
+    pub(crate) fn is_for_program(&self, is_held: bool, frame: &Frame) -> bool
+        ensures { result ≡ is_for_program (who_of self.now) is_held frame.now }
+    {
+        frame.id.source() < NULL_ADDRESS
+            && !(is_own_group(frame.id.pgn()) || frame.id.is_request())
+            && (is_undirected(frame)
+                || is_to(frame, GLOBAL_ADDRESS)
+                || (is_to(frame, self.address) && is_held))
+    }
+
+    /// Whether another sends the frame from the address that is held, and it is no claim.
+    pub(crate) fn is_another(&self, is_held: bool, frame: &Frame) -> bool
+        ensures { result ≡ is_another (who_of self.now) is_held frame.now }
+    {
+        is_held && (frame.id.source() == self.address && !frame.id.is_address_claimed())
+    }
+
+    /// Whether its program serves the group.
+    pub(crate) fn is_served(&self, group: Pgn) -> bool
+        ensures { result ≡ is_served (who_of self.now) (pgn_raw group) }
+    {
+        is_among(self.served.as_slice(), group.raw())
+    }
+
+    /// The acknowledgment of a request.
+    pub(crate) fn acknowledgment(&self, due: &Due, now: Stamp) -> Option<Frame>
+        ensures { option_map stamped result ≡ Some (stamp_micros now, refusal_by (who_of self.now) due.now) }
+    {
+        let id = acknowledgment_id(self.address)?;
+        let bytes = due.bytes();
+        Frame::new(now, id, &bytes)
+    }
+
+    /// The claim of an address, or the word that none can be claimed where it is the null address.
+    pub(crate) fn claim(&self, address: u8, now: Stamp) -> Option<Frame>
+        ensures { option_map stamped result ≡ Some (stamp_micros now, claim_from (who_of self.now) address) }
+    {
+        let id = claim_id(address)?;
+        Frame::new(now, id, self.name.bytes().as_slice())
+    }
+}
+
+fn is_among(served: &[u32], group: u32) -> bool
+    ensures { result ≡ list_any (λ g. g == group) served.now }
+{
+    served.iter().any(|listed| *listed == group)
+}
+
+/// The numbers of these groups; `None` for more than 16.
+pub(crate) fn numbers(groups: &[Pgn]) -> Option<ArrayVec<u32, 16>>
+    ensures known { IsSome result ↔ (length groups.now ≤ 16) }
+    ensures value { IfSome result (λ numbers. numbers.items ≡ map pgn_raw groups.now) }
+{
+    let mut numbers = ArrayVec::new();
+    for group in groups {
+        numbers.try_push(group.raw()).ok()?;
+    }
+    Some(numbers)
+}
+
+fn acknowledgment_id(address: u8) -> Option<Id>
+    ensures { IsSomeAnd result (λ id. (bytes : List ℕ) → carried (id_raw id) bytes ≡ record
+        { source = address; destination = Some 255; priority = 6; group = 59392; bytes = bytes }) }
+{
+    let group = Pgn::new(ACKNOWLEDGMENT)?;
+    Id::compose(6, group, GLOBAL_ADDRESS, address)
+}
+
+fn claim_id(address: u8) -> Option<Id>
+    ensures { IsSomeAnd result (λ id. carried (id_raw id) ≡ claim_with address) }
+{
+    let group = Pgn::new(ADDRESS_CLAIMED)?;
+    Id::compose(6, group, GLOBAL_ADDRESS, address)
+}
+
+fn is_request_for(frame: &Frame, group: u32) -> bool
+    ensures { result ≡ is_some (asked_group frame.now) group }
+{
+    let bytes = frame.bytes.as_slice();
+    frame.id.is_request() && bytes.len() >= 3 && LittleEndian::read_u24(bytes) == group
+}
+
+fn is_to(frame: &Frame, address: u8) -> bool
+    ensures { result ≡ is_some (destination_of frame.now.id) address }
+{
+    match frame.id.destination() {
+        Some(destination) => destination == address,
+        None => false,
+    }
+}
+
+fn is_undirected(frame: &Frame) -> bool
+    ensures { result ≡ is_none (destination_of frame.now.id) }
+{
+    match frame.id.destination() {
+        Some(_destination) => false,
+        None => true,
+    }
+}
+
+/// Whether the stack itself speaks the group.
+pub(crate) fn is_own_group(group: Pgn) -> bool
+    ensures { result ≡ is_own_group (pgn_raw group) }
+{
+    let number = group.raw();
+    number == TRANSPORT_CONTROL || number == TRANSPORT_DATA || number == ADDRESS_CLAIMED
+}

@@ -1,0 +1,189 @@
+//! A controller of single frames: what it answers, call by call; frames as the lines that a standard's reader would write.
+use j39_address::{Name, Status};
+use j39_frame::{Frame, Pgn, Stamp};
+use j39_log::{Bus, Line, line_of, read_line};
+use j39_node::{Answer, Controller, Ending, Refused};
+use std::test::Fail;
+
+/// What is done with a controller, and what it answers.
+enum Step {
+    /// It hears the frame of this line.
+    Hears(&'static str),
+    /// At this moment it gives the frame of this line, or none.
+    Gives(u64, Option<&'static str>),
+    /// At this moment it takes group 65265 with these bytes, priority 6, to this address: its token, or why not.
+    Sends(u64, u8, &'static [u8], Result<u64, Refused>),
+    /// It tells this end.
+    Ends(Option<(u64, Ending)>),
+    /// It hands out a message of this source, priority, group and bytes.
+    HandsOut(u8, u8, u32, &'static [u8]),
+    HandsOutNone,
+    /// It hands out a request of this source for this group, which is acknowledged at this moment, so: whether it takes it.
+    IsAsked(u8, u32, u64, Answer, bool),
+    IsAskedNothing,
+    /// It is so far with its address.
+    Is(Status),
+    /// Its next frame is due at this moment.
+    IsDue(Option<u64>),
+    /// This address is held by this NAME.
+    Holder(u8, Option<u64>),
+    /// So many messages were missed.
+    Missed(u64),
+}
+
+use Status::{Cannot, Claiming, Holding, Idle};
+use Step::{
+    Ends, Gives, HandsOut, HandsOutNone, Hears, Holder, Is, IsAsked, IsAskedNothing, IsDue, Missed,
+    Sends,
+};
+
+/// NAME 2 at address 128, whose program serves group 65259.
+static STEPS: &[Step] = &[
+    Is(Idle),
+    IsDue(Some(0)),
+    Gives(
+        100,
+        Some("(0000000000.000100) can0 18EEFF80#0200000000000000"),
+    ),
+    Is(Claiming(128)),
+    IsDue(Some(250_100)),
+    Holder(128, Some(2)),
+    Gives(250_099, None),
+    Sends(250_099, 255, &[7], Err(Refused::NoAddress)),
+    Sends(250_100, 255, &[7], Ok(0)),
+    Is(Holding(128)),
+    IsDue(Some(250_100)),
+    Sends(250_100, 128, &[7], Err(Refused::BadValue)),
+    Gives(250_200, Some("(0000000000.250200) can0 18FEF180#07")),
+    IsDue(None),
+    Ends(Some((0, Ending::Done))),
+    Ends(None),
+    // A larger NAME's claim of its address, and a request for claims from the null address, are answered by its claim.
+    Hears("(0.260000) can0 18EEFF80#0300000000000000"),
+    Gives(
+        260_001,
+        Some("(0000000000.260001) can0 18EEFF80#0200000000000000"),
+    ),
+    Hears("(0.260002) can0 18EAFFFE#00EE00"),
+    Gives(
+        260_003,
+        Some("(0000000000.260003) can0 18EEFF80#0200000000000000"),
+    ),
+    // To it, to all, and to another.
+    Hears("(0.290000) can0 0C00800B#0102"),
+    Hears("(0.290001) can0 18FEEE0B#11"),
+    Hears("(0.290002) can0 0C00810B#0304"),
+    HandsOut(11, 3, 0, &[1, 2]),
+    HandsOut(11, 6, 65_262, &[0x11]),
+    HandsOutNone,
+    // A request that it serves, one that it doesn't, and one of each to all.
+    Hears("(0.295000) can0 18EA800B#EBFE00"),
+    Hears("(0.295000) can0 18EA800B#ECFE00"),
+    Hears("(0.295000) can0 18EAFF0B#EBFE00"),
+    Hears("(0.295000) can0 18EAFF0B#ECFE00"),
+    Gives(
+        295_001,
+        Some("(0000000000.295001) can0 18E8FF80#01FFFFFF0BECFE00"),
+    ),
+    Gives(295_001, None),
+    IsAsked(11, 65_259, 295_002, Answer::Denied, true),
+    IsAsked(11, 65_259, 295_002, Answer::Ack, false),
+    IsAskedNothing,
+    Gives(
+        295_003,
+        Some("(0000000000.295003) can0 18E8FF80#02FFFFFF0BEBFE00"),
+    ),
+    // A clock that is set back is no time; a smaller NAME takes the address.
+    Sends(0, 255, &[1, 2, 3, 4, 5, 6, 7, 8, 9], Err(Refused::BadValue)),
+    Sends(0, 0, &[], Ok(1)),
+    Hears("(0.300001) can0 18EEFF80#0100000000000000"),
+    Is(Cannot),
+    Holder(128, Some(1)),
+    Gives(
+        300_002,
+        Some("(0000000000.300002) can0 18EEFFFE#0200000000000000"),
+    ),
+    Gives(300_003, None),
+    Ends(Some((1, Ending::Withdrawn))),
+    Ends(None),
+    Sends(300_004, 255, &[7], Err(Refused::NoAddress)),
+    Missed(0),
+];
+
+fn frame(line: &str) -> Option<Frame> {
+    match read_line(line.as_bytes()) {
+        Line::Frame { frame, .. } => Some(frame),
+        _ => None,
+    }
+}
+
+/// Whether what is given is the frame of this line, or nothing where there is no line.
+fn is_line(given: Option<Frame>, wanted: Option<&str>) -> Option<bool> {
+    let bus = Bus::new(b"can0")?;
+    Some(match (given, wanted) {
+        (Some(frame), Some(line)) => line_of(&frame, &bus).as_slice() == line.as_bytes(),
+        (given, wanted) => given.is_none() && wanted.is_none(),
+    })
+}
+
+/// Whether the controller does as the step says; `None` where the step isn't one.
+fn does(node: &mut Controller, step: &Step) -> Option<bool> {
+    match step {
+        Hears(line) => {
+            node.hear(&frame(line)?);
+            Some(true)
+        }
+        Gives(micros, wanted) => is_line(node.take_frame(Stamp::new(*micros)?), *wanted),
+        Sends(micros, to, bytes, wanted) => {
+            let group = Pgn::new(65_265)?;
+            let answer = if *to == 255 {
+                node.send(Stamp::new(*micros)?, 6, group, *to, bytes)
+            } else {
+                node.send(Stamp::new(*micros)?, 6, Pgn::new(0)?, *to, bytes)
+            };
+            Some(answer == *wanted)
+        }
+        Ends(wanted) => Some(node.take_ended() == *wanted),
+        HandsOut(source, priority, group, bytes) => {
+            let message = node.take_received()?;
+            Some(
+                message.source == *source
+                    && message.priority == *priority
+                    && message.group.raw() == *group
+                    && message.bytes.as_slice() == *bytes,
+            )
+        }
+        HandsOutNone => Some(node.take_received().is_none()),
+        IsAsked(source, group, micros, answer, taken) => {
+            let request = node.take_request()?;
+            let is_it = request.source == *source && request.group.raw() == *group;
+            let is_taken = node
+                .acknowledge(Stamp::new(*micros)?, request, *answer)
+                .is_ok();
+            Some(is_it && is_taken == *taken)
+        }
+        IsAskedNothing => Some(node.take_request().is_none()),
+        Is(status) => Some(node.status() == *status),
+        IsDue(wanted) => Some(node.next_due().map(Stamp::micros) == *wanted),
+        Holder(address, wanted) => Some(node.holder(*address).map(Name::raw) == *wanted),
+        Missed(wanted) => Some(node.missed() == *wanted),
+    }
+}
+
+/// The place of the first step that the controller doesn't take as it says.
+fn wrong_step(node: &mut Controller, steps: &[Step]) -> Option<usize> {
+    for (place, step) in steps.iter().enumerate() {
+        if does(node, step) != Some(true) {
+            return Some(place);
+        }
+    }
+    None
+}
+
+#[test]
+fn node(rt: HostRuntime) -> Result<(), Fail> {
+    let served = [Pgn::new(65_259).ok_or("group")?];
+    let mut node = Controller::new(Name::new(2), 128, &served).ok_or("node")?;
+    assert_eq!(rt; wrong_step(&mut node, STEPS), None);
+    Ok(())
+}
