@@ -574,3 +574,61 @@ claims_more w H old new now f mid a h p owes e0 m at knows e =
     told_address s NotClaimed = refl
     told_address s (Claimed e) = refl
     told_address s Lost = refl
+
+-- ---- which frame would be taken
+
+owes_is : (w : Who) (H : List Call) (c : Controller) (b : Bool) → Is w H c → c.hold.owes_claim ≡ b → owes_claim w H ≡ b
+owes_is w H c b h e = sym (ap (λ (k : Hold). k.owes_claim) h.hold) ∙ e
+
+claim_told : (w : Who) (H : List Call) (c : Controller) (a : ℕ) → Is w H c → a ≡ (if lost c.hold.standing then 254 else c.own.address)
+    → claim_from (who_of c.own) a ≡ claim_from w (claim_address w (address_after w H))
+claim_told w H c a h e =
+    ap (λ (v : Who). claim_from v a) h.who
+    ∙ ap (claim_from w) (e ∙ (ap (λ (k : Hold). if lost k.standing then 254 else c.own.address) h.hold
+        ∙ (ap (λ (n : ℕ). if lost (standing_of (address_after w H)) then 254 else n) (ap (λ (v : Who). v.address) h.who) ∙ told_address (address_after w H))))
+  where
+    told_address : (x : Address) → (if lost (standing_of x) then 254 else w.address) ≡ claim_address w x
+    told_address NotClaimed = refl
+    told_address (Claimed n) = refl
+    told_address Lost = refl
+
+pub peeks_claim : (w : Who) (H : List Call) (c : Controller) (now a : ℕ) (r : Option FrameRecord) → Is w H c → c.hold.owes_claim ≡ true
+    → option_map stamped r ≡ Some (now, claim_from (who_of c.own) a) → a ≡ (if lost c.hold.standing then 254 else c.own.address)
+    → option_map stamped r ≡ next_frame w H now
+peeks_claim w H c now a r h owes m e =
+    m ∙ (ap (λ (x : Message). Some (now, x)) (claim_told w H c a h e)
+        ∙ sym (ap (λ (b : Bool). frame_by b (holds w H now) (slice_get (due w H) (length (acknowledged H))) (slice_get (accepted w H) (length (sent H)))
+            (claim_from w (claim_address w (address_after w H))) now) (owes_is w H c true h owes)))
+
+pub peeks_none : (w : Who) (H : List Call) (c : Controller) (now : ℕ) → Is w H c → c.hold.owes_claim ≡ false → holds w H now ≡ false
+    → (let none : Option (ℕ × Message) = None in none) ≡ next_frame w H now
+peeks_none w H c now h owes held =
+    sym (ap (λ (b : Bool). frame_by b (holds w H now) (slice_get (due w H) (length (acknowledged H))) (slice_get (accepted w H) (length (sent H)))
+        (claim_from w (claim_address w (address_after w H))) now) (owes_is w H c false h owes)
+    ∙ ap (λ (b : Bool). frame_by false b (slice_get (due w H) (length (acknowledged H))) (slice_get (accepted w H) (length (sent H)))
+        (claim_from w (claim_address w (address_after w H))) now) held)
+
+pub peeks_due : (w : Who) (H : List Call) (c : Controller) (now : ℕ) (r : Option FrameRecord) (x : Due) → Is w H c → c.hold.owes_claim ≡ false
+    → holds w H now ≡ true → slice_get c.desk.due.items 0 ≡ Some x → option_map stamped r ≡ Some (now, refusal_by w x)
+    → option_map stamped r ≡ next_frame w H now
+peeks_due w H c now r x h owes held g m =
+    let i = in_rest (refusal_by w) c.desk.due.items x (due w H) (length (acknowledged H)) (length (acknowledged H)) 0 h.acknowledgments (omega arith) (omega arith) g in
+    m ∙ sym (next_is w H now (Some (refusal_by w x)) _ (owes_is w H c false h owes) held i refl)
+
+abbrev pub at_now : ℕ → Message → ℕ × Message
+at_now now m = (now, m)
+
+pub peeks_message : (w : Who) (H : List Call) (c : Controller) (now : ℕ) (r : Option FrameRecord) → Is w H c → c.hold.owes_claim ≡ false
+    → holds w H now ≡ true → slice_get c.desk.due.items 0 ≡ None
+    → option_map stamped r ≡ option_map (λ x. (now, (posted x).1)) (slice_get c.outgoing.items c.taken) → option_map stamped r ≡ next_frame w H now
+peeks_message w H c now r h owes held g m =
+    let t = (sound w H h.answered).in_turn (holding_not_lost w H now held) in
+    let i = not_in_rest (refusal_by w) c.desk.due.items (due w H) (length (acknowledged H)) (length (acknowledged H)) 0 h.acknowledgments (omega arith) (omega arith) g in
+    m ∙ (next (slice_get c.outgoing.items c.taken) refl t ∙ sym (next_is w H now None _ (owes_is w H c false h owes) held i refl))
+  where
+    next : (o : Option Outgoing) → slice_get c.outgoing.items c.taken ≡ o → length (told H) ≤ length (sent H)
+        → option_map (λ (x : Outgoing). at_now now (posted x).1) o ≡ option_map (at_now now) (first_of None (slice_get (accepted w H) (length (sent H))))
+    next None e t = sym (ap (λ z. option_map (at_now now) (first_of None z))
+        (not_in_rest posted c.outgoing.items (accepted w H) (length (told H)) (length (sent H)) c.taken h.outgoing h.taken t e))
+    next (Some y) e t = sym (ap (λ z. option_map (at_now now) (first_of None z))
+        (in_rest posted c.outgoing.items y (accepted w H) (length (told H)) (length (sent H)) c.taken h.outgoing h.taken t e))
