@@ -14,11 +14,11 @@ ghost use Rattle.j39_node.specs.History.Call.{Hear, Tick, TakeFrame, Send, TakeE
 ghost use Rattle.j39_node.specs.Is.{Is, next_frame, posted, received_by, request_by, stamped, status_after, who_of};
 
 use crate::hold::{Hold, Standing};
+use crate::news::Untold;
 use crate::outgoing::Outgoing;
 use crate::own::{Own, numbers};
 use crate::received::Inbox;
 use crate::requests::{Desk, Due, asked};
-use crate::news::Untold;
 use crate::{Answer, Ending, News, Received, Refused, Request};
 use arrayvec::ArrayVec;
 use j39_address::{Claims, Name, Status};

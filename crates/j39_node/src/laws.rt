@@ -118,7 +118,7 @@ pub fn news()
         → (lost_news w H ≡ false) × (another_news w H ≡ false) × (missed_news w H ≡ false) }
     ensures told { (w : Who) (H : List Call) (c : Controller) (n : News) → Is w (TakeNews (Some n) ∷ H) c
         → ((n ≡ news.AddressLost) × IsTrue (lost_news w H)) ⊎ ((n ≡ news.AnotherAtAddress) × IsTrue (another_news w H))
-            ⊎ ((n ≡ news.MessagesMissed) × IsTrue (missed_news w H)) }
+        ⊎ ((n ≡ news.MessagesMissed) × IsTrue (missed_news w H)) }
     ensures lost { (w : Who) (H : List Call) → IsTrue (lost_news w H) → IsTrue (is_lost (address_after w H)) }
     ensures missed { (w : Who) (H : List Call) → IsTrue (missed_news w H) → 0 < missed w H }
 {}
