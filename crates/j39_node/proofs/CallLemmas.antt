@@ -1,5 +1,5 @@
 -- A call more.
-use Rattle.std.proofs.Common.{◌≡◌, ◌≢◌, ◌↔◌, ℕ, zero, suc, ◌+◌, ◌-◌, ◌<◌, ◌≤◌, List, [], ◌∷◌, ◌++◌, length, map, drop, min, slice_index_or, remove, Option, Some, None, IsSome, IfSome, Result, Ok, Err, Bool, true, false, not, ◌&&◌, ◌||◌, if◌then◌else◌, nat_eq, nat_lt, nat_le, refl, sym, ap, ◌∙◌, subst, inl, inr, arith, eqb-true, eq-eqb, ltb-true, lt-ltb}
+use Rattle.std.proofs.Common.{◌≡◌, ◌↔◌, ℕ, suc, ◌+◌, ◌-◌, ◌<◌, ◌≤◌, List, [], ◌∷◌, ◌++◌, length, map, drop, min, Option, Some, None, IsSome, IfSome, Result, Ok, Err, Bool, true, false, not, ◌&&◌, ◌||◌, if◌then◌else◌, nat_eq, nat_lt, nat_le, refl, sym, ap, ◌∙◌, subst, arith, lt-ltb}
 use Rattle.std.specs.List.{slice_get}
 use Rattle.std.specs.Option.{option_map}
 use Rattle.j39_frame.specs.Frame.{FrameRecord}
@@ -16,17 +16,16 @@ use Rattle.j39_node.specs.declared.requests.Due.{Due}
 use Rattle.j39_node.specs.declared.requests.Request.{Request}
 use Rattle.j39_node.specs.declared.kinds.Answer.{Answer}
 use Rattle.j39_node.specs.declared.kinds.Answer.TheVariants.{Nack, Busy}
-use Rattle.j39_node.specs.declared.kinds.Ending.{Ending}
 use Rattle.j39_node.specs.declared.kinds.Ending.TheVariants.{Done, Withdrawn}
 use Rattle.j39_node.specs.declared.kinds.Refused.{Refused}
 use Rattle.j39_node.specs.declared.kinds.Refused.TheVariants.{NoAddress, BadValue, Full}
 use Rattle.j39_node.specs.Hold.{standing_of, less, passed, heard, claims, stands, lost, left_at}
-use Rattle.j39_node.specs.History.{Who, Message, Draft, Call, Address, carried, message_of, older, claimed, address_after, holds, is_lost, is_held, is_claim, is_smaller, claim_address, claim_from, owes_claim, calls_for_claim, can_send, message_from, accepted, sent, told, is_full, step, moment, is_for_program, kept, got, missed, Asked, asked, acknowledgment, acknowledged, due, handed, requests, is_served, with_request, with_refusal, is_waiting, stamp_at, held_at, next_due, told_claims, is_another, lost_news, another_news, missed_news}
-use Rattle.j39_node.specs.History.Call.{Hear, Tick, TakeFrame, Send, TakeEnded, TakeReceived, TakeRequest, TakeNews, Acknowledge}
+use Rattle.j39_node.specs.History.{Who, Message, Draft, Call, Address, carried, message_of, older, claimed, address_after, holds, is_lost, is_held, is_smaller, claim_address, claim_from, owes_claim, calls_for_claim, can_send, message_from, accepted, sent, told, is_full, step, moment, is_for_program, kept, got, missed, Asked, asked, acknowledgment, acknowledged, due, handed, requests, is_served, with_request, with_refusal, is_waiting, stamp_at, held_at, next_due, told_claims, is_another, lost_news, another_news, missed_news}
+use Rattle.j39_node.specs.History.Call.{Hear, TakeFrame, Send, TakeEnded, TakeRequest, Acknowledge}
 use Rattle.j39_node.specs.History.Address.{NotClaimed, Claimed, Lost}
-use Rattle.j39_node.specs.Is.{Is, AreAnswered, IsAnswered, stamped, next_frame, next_ended, end_of, answer_to_send, answer_to_acknowledge, hold_after, who_of, posted, received_by, request_by, refusal_by, first_of, offered, counted}
-use Rattle.j39_node.proofs.QueueLemmas.{get_within, length_one_more, map_append, length_map, length_rest, in_rest, not_in_rest, First, drop_append, length_drop}
-use Rattle.j39_node.proofs.SoundLemmas.{Sound, sound, IsOwn, own_get, due_get, due_taken, claim_taken, message_taken, plain_taken, sent_is, acknowledged_is, address_is, frame_by, front_length, held_not_lost, holding_not_lost, lost_older, read}
+use Rattle.j39_node.specs.Is.{Is, stamped, next_frame, end_of, answer_to_send, answer_to_acknowledge, hold_after, who_of, posted, received_by, request_by, refusal_by, first_of, offered, counted}
+use Rattle.j39_node.proofs.QueueLemmas.{length_one_more, map_append, length_rest, in_rest, not_in_rest, First, drop_append, length_drop}
+use Rattle.j39_node.proofs.SoundLemmas.{sound, own_get, due_get, due_taken, claim_taken, message_taken, plain_taken, sent_is, acknowledged_is, address_is, frame_by, front_length, held_not_lost, holding_not_lost, lost_older, read}
 
 -- the frame that is made is one of this message
 pub made : (r : Option FrameRecord) (now id : ℕ) (bytes : List ℕ) (m : Message) → (IsSome r ↔ (length bytes ≤ 8))
@@ -329,7 +328,7 @@ pub news_heard : (u v : Untold) (l a b m n : Bool) → v ≡ record u { lost = l
     → v ≡ record u { lost = l; another = u.another || b; missed = u.missed || n }
 news_heard u v l a b m n e f g =
     e ∙ (ap (λ (x : Bool). record u { lost = l; another = u.another || x; missed = u.missed || m }) f
-        ∙ ap (λ (x : Bool). record u { lost = l; another = u.another || b; missed = u.missed || x }) g)
+    ∙ ap (λ (x : Bool). record u { lost = l; another = u.another || b; missed = u.missed || x }) g)
 
 pub heard_more : (w : Who) (H : List Call) (old new : Controller) (f : FrameRecord) (mid : Hold) (held wanted away gone calls : Bool) (o : Option Asked) → Is w H old
     → Passed w H f.stamp mid → held ≡ stands mid.standing → wanted ≡ is_for_program (who_of old.own) held f
@@ -391,14 +390,14 @@ heard_more w H old new f mid held wanted away gone calls o h p e1 e2 e3 e4 e5 e6
       holders = q4 (told_claims H) h.holders;
       news = q5 ∙ is_news _ _
           (ap (λ (u : Untold). u.lost || (gone && not away)) h.news
-              ∙ (ap (λ (b : Bool). lost_news w H || (b && not away)) goes ∙ ap (λ (b : Bool). lost_news w H || (is_smaller w (claim_of f) && not b)) lost_before))
+          ∙ (ap (λ (b : Bool). lost_news w H || (b && not away)) goes ∙ ap (λ (b : Bool). lost_news w H || (is_smaller w (claim_of f) && not b)) lost_before))
           (ap (λ (u : Untold). u.another || is_another (who_of old.own) held f) h.news
-              ∙ (ap (λ (v : Who). another_news w H || is_another v held f) h.who
-                  ∙ ap (λ (b : Bool). another_news w H || is_another w b f) (holds_is w H f.stamp mid held p e1)))
+          ∙ (ap (λ (v : Who). another_news w H || is_another v held f) h.who
+          ∙ ap (λ (b : Bool). another_news w H || is_another w b f) (holds_is w H f.stamp mid held p e1)))
           (ap (λ (u : Untold). u.missed || (wanted && not (nat_lt (length old.inbox.unread.items) 16))) h.news
-              ∙ (ap (λ (b : Bool). missed_news w H || (b && not (nat_lt (length old.inbox.unread.items) 16))) wants
-                  ∙ ap (λ (n : ℕ). missed_news w H || (is_for_program w (holds w H f.stamp) f && not (nat_lt n 16)))
-                      (length_rest received_by old.inbox.unread.items (length (got H)) (kept w H) h.unread)));
+          ∙ (ap (λ (b : Bool). missed_news w H || (b && not (nat_lt (length old.inbox.unread.items) 16))) wants
+          ∙ ap (λ (n : ℕ). missed_news w H || (is_for_program w (holds w H f.stamp) f && not (nat_lt n 16)))
+          (length_rest received_by old.inbox.unread.items (length (got H)) (kept w H) h.unread)));
       missed = e4 ∙ (ap (λ (b : Bool). counted b (map received_by old.inbox.unread.items) old.inbox.missed) wants
           ∙ missed_rest (is_for_program w (holds w H f.stamp) f) (kept w H) _ (length (got H)) (missed w H) _ h.unread h.missed);
     }
@@ -574,3 +573,61 @@ claims_more w H old new now f mid a h p owes e0 m at knows e =
     told_address s NotClaimed = refl
     told_address s (Claimed e) = refl
     told_address s Lost = refl
+
+-- ---- which frame would be taken
+
+owes_is : (w : Who) (H : List Call) (c : Controller) (b : Bool) → Is w H c → c.hold.owes_claim ≡ b → owes_claim w H ≡ b
+owes_is w H c b h e = sym (ap (λ (k : Hold). k.owes_claim) h.hold) ∙ e
+
+claim_told : (w : Who) (H : List Call) (c : Controller) (a : ℕ) → Is w H c → a ≡ (if lost c.hold.standing then 254 else c.own.address)
+    → claim_from (who_of c.own) a ≡ claim_from w (claim_address w (address_after w H))
+claim_told w H c a h e =
+    ap (λ (v : Who). claim_from v a) h.who
+    ∙ ap (claim_from w) (e ∙ (ap (λ (k : Hold). if lost k.standing then 254 else c.own.address) h.hold
+    ∙ (ap (λ (n : ℕ). if lost (standing_of (address_after w H)) then 254 else n) (ap (λ (v : Who). v.address) h.who) ∙ told_address (address_after w H))))
+  where
+    told_address : (x : Address) → (if lost (standing_of x) then 254 else w.address) ≡ claim_address w x
+    told_address NotClaimed = refl
+    told_address (Claimed n) = refl
+    told_address Lost = refl
+
+pub peeks_claim : (w : Who) (H : List Call) (c : Controller) (now a : ℕ) (r : Option FrameRecord) → Is w H c → c.hold.owes_claim ≡ true
+    → option_map stamped r ≡ Some (now, claim_from (who_of c.own) a) → a ≡ (if lost c.hold.standing then 254 else c.own.address)
+    → option_map stamped r ≡ next_frame w H now
+peeks_claim w H c now a r h owes m e =
+    m ∙ (ap (λ (x : Message). Some (now, x)) (claim_told w H c a h e)
+    ∙ sym (ap (λ (b : Bool). frame_by b (holds w H now) (slice_get (due w H) (length (acknowledged H))) (slice_get (accepted w H) (length (sent H)))
+    (claim_from w (claim_address w (address_after w H))) now) (owes_is w H c true h owes)))
+
+pub peeks_none : (w : Who) (H : List Call) (c : Controller) (now : ℕ) → Is w H c → c.hold.owes_claim ≡ false → holds w H now ≡ false
+    → (let none : Option (ℕ × Message) = None in none) ≡ next_frame w H now
+peeks_none w H c now h owes held =
+    sym (ap (λ (b : Bool). frame_by b (holds w H now) (slice_get (due w H) (length (acknowledged H))) (slice_get (accepted w H) (length (sent H)))
+    (claim_from w (claim_address w (address_after w H))) now) (owes_is w H c false h owes)
+    ∙ ap (λ (b : Bool). frame_by false b (slice_get (due w H) (length (acknowledged H))) (slice_get (accepted w H) (length (sent H)))
+    (claim_from w (claim_address w (address_after w H))) now) held)
+
+pub peeks_due : (w : Who) (H : List Call) (c : Controller) (now : ℕ) (r : Option FrameRecord) (x : Due) → Is w H c → c.hold.owes_claim ≡ false
+    → holds w H now ≡ true → slice_get c.desk.due.items 0 ≡ Some x → option_map stamped r ≡ Some (now, refusal_by w x)
+    → option_map stamped r ≡ next_frame w H now
+peeks_due w H c now r x h owes held g m =
+    let i = in_rest (refusal_by w) c.desk.due.items x (due w H) (length (acknowledged H)) (length (acknowledged H)) 0 h.acknowledgments (omega arith) (omega arith) g in
+    m ∙ sym (next_is w H now (Some (refusal_by w x)) _ (owes_is w H c false h owes) held i refl)
+
+abbrev pub at_now : ℕ → Message → ℕ × Message
+at_now now m = (now, m)
+
+pub peeks_message : (w : Who) (H : List Call) (c : Controller) (now : ℕ) (r : Option FrameRecord) → Is w H c → c.hold.owes_claim ≡ false
+    → holds w H now ≡ true → slice_get c.desk.due.items 0 ≡ None
+    → option_map stamped r ≡ option_map (λ x. (now, (posted x).1)) (slice_get c.outgoing.items c.taken) → option_map stamped r ≡ next_frame w H now
+peeks_message w H c now r h owes held g m =
+    let t = (sound w H h.answered).in_turn (holding_not_lost w H now held) in
+    let i = not_in_rest (refusal_by w) c.desk.due.items (due w H) (length (acknowledged H)) (length (acknowledged H)) 0 h.acknowledgments (omega arith) (omega arith) g in
+    m ∙ (next (slice_get c.outgoing.items c.taken) refl t ∙ sym (next_is w H now None _ (owes_is w H c false h owes) held i refl))
+  where
+    next : (o : Option Outgoing) → slice_get c.outgoing.items c.taken ≡ o → length (told H) ≤ length (sent H)
+        → option_map (λ (x : Outgoing). at_now now (posted x).1) o ≡ option_map (at_now now) (first_of None (slice_get (accepted w H) (length (sent H))))
+    next None e t = sym (ap (λ z. option_map (at_now now) (first_of None z))
+        (not_in_rest posted c.outgoing.items (accepted w H) (length (told H)) (length (sent H)) c.taken h.outgoing h.taken t e))
+    next (Some y) e t = sym (ap (λ z. option_map (at_now now) (first_of None z))
+        (in_rest posted c.outgoing.items y (accepted w H) (length (told H)) (length (sent H)) c.taken h.outgoing h.taken t e))

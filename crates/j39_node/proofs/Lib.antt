@@ -6,3 +6,5 @@ pub mod SoundLemmas
 pub mod CallLemmas
 -- the laws
 pub mod LawLemmas
+-- since when the address is claimed
+pub mod SinceLemmas

@@ -15,7 +15,6 @@ use Rattle.j39_node.specs.declared.hold.Hold.{Hold}
 use Rattle.j39_node.specs.declared.own.Own.{Own}
 use Rattle.j39_node.specs.declared.requests.Request.{Request}
 use Rattle.j39_node.specs.declared.requests.Due.{Due}
-use Rattle.j39_node.specs.declared.kinds.Answer.{Answer}
 use Rattle.j39_node.specs.declared.outgoing.Outgoing.{Outgoing}
 use Rattle.j39_node.specs.declared.received.Received.{Received}
 use Rattle.j39_node.specs.declared.kinds.Ending.{Ending}
@@ -26,8 +25,8 @@ use Rattle.j39_node.specs.declared.kinds.News.TheVariants.{AddressLost, AnotherA
 use Rattle.j39_node.specs.declared.kinds.Refused.{Refused}
 use Rattle.j39_node.specs.declared.kinds.Refused.TheVariants.{NoAddress, BadValue, Full}
 use Rattle.j39_node.specs.Hold.{standing_of}
-use Rattle.j39_node.specs.History.{Who, Message, Draft, Call, Address, carried, message_of, moment, step, older, address_after, holds, is_lost, is_held, claim_address, claim_from, owes_claim, can_send, accepted, sent, told, is_full, got, kept, missed, content, Asked, requests, handed, due, acknowledged, acknowledgment, told_claims, lost_news, another_news, missed_news}
-use Rattle.j39_node.specs.History.Call.{Hear, Tick, TakeFrame, Send, TakeEnded, TakeReceived, TakeRequest, TakeNews, Acknowledge}
+use Rattle.j39_node.specs.History.{Who, Message, Draft, Call, Address, carried, message_of, moment, address_after, holds, is_lost, claim_address, claim_from, owes_claim, can_send, accepted, sent, told, is_full, got, kept, missed, content, Asked, requests, handed, due, acknowledged, acknowledgment, told_claims, lost_news, another_news, missed_news}
+use Rattle.j39_node.specs.History.Call.{TakeFrame, Send, TakeEnded, TakeReceived, TakeRequest, TakeNews, Acknowledge}
 use Rattle.j39_node.specs.History.Address.{NotClaimed, Claimed, Lost}
 
 -- ---- the answers that a history asks for

@@ -6,3 +6,5 @@ pub mod Is
 pub mod Hold
 -- a history
 pub mod Example
+-- since when an address is claimed
+pub mod Since

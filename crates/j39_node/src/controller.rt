@@ -1,5 +1,6 @@
 //! A controller.
 ghost use Rattle.std.specs.Prelude.{◌≡◌, ℕ, List, [], ◌∷◌, ◌↔◌, ◌&&◌, ◌||◌, ◌==◌, nat_eq, nat_lt, if◌then◌else◌, min, IsSome, IfSome, Some, None, length, map, ◌<◌, ◌≤◌, false};
+ghost use Rattle.std.specs.List.{slice_get};
 ghost use Rattle.std.specs.Option.{option_map};
 ghost use Rattle.j39_frame.specs.Address.{IsAddress, null_address};
 ghost use Rattle.j39_frame.specs.Pgn.{pgn_raw};
@@ -10,14 +11,14 @@ ghost use Rattle.j39_address.specs.Holder.{IsHolderAfter};
 ghost use Rattle.j39_node.specs.History.{Who, Call, missed, next_due, told_claims};
 ghost use Rattle.j39_node.specs.Hold.{lost, stands};
 ghost use Rattle.j39_node.specs.History.Call.{Hear, Tick, TakeFrame, Send, TakeEnded, TakeReceived, TakeRequest, TakeNews, Acknowledge};
-ghost use Rattle.j39_node.specs.Is.{Is, received_by, request_by, status_after, who_of};
+ghost use Rattle.j39_node.specs.Is.{Is, next_frame, posted, received_by, request_by, stamped, status_after, who_of};
 
 use crate::hold::{Hold, Standing};
+use crate::news::Untold;
 use crate::outgoing::Outgoing;
 use crate::own::{Own, numbers};
 use crate::received::Inbox;
 use crate::requests::{Desk, Due, asked};
-use crate::news::Untold;
 use crate::{Answer, Ending, News, Received, Refused, Request};
 use arrayvec::ArrayVec;
 use j39_address::{Claims, Name, Status};
@@ -174,6 +175,25 @@ impl Controller {
         self.hold = self.hold.passed(now);
     }
 
+    /// The frame that `take_frame` would give now: for a driver whose queue may be full, which takes it once it lies there.
+    pub fn peek_frame(&self, now: Stamp) -> Option<Frame>
+        ensures { (w : Who) (H : List Call) → Is w H self.now
+            → option_map stamped result ≡ next_frame w H (stamp_micros now) }
+    {
+        if self.is_claim_due() {
+            let address = self.claim_address();
+            return self.own.claim(address, now);
+        }
+        let hold = self.hold.passed(now);
+        if !hold.is_held() {
+            return None;
+        }
+        match self.desk.due.as_slice().get(0) {
+            Some(due) => self.own.acknowledgment(due, now),
+            None => self.peek_message(now),
+        }
+    }
+
     /// The frame that goes out now; by this it is sent. `None` where nothing is due.
     pub fn take_frame(&mut self, now: Stamp) -> Option<Frame>
         ensures { (w : Who) (H : List Call) → Is w H self.old → Is w (TakeFrame (stamp_micros now) result ∷ H) self.new }
@@ -203,8 +223,8 @@ impl Controller {
         }
     }
 
-    /// Hands in a message of 0 to 8 bytes, to all (255) or to one address; answers its token. A group of PF 240 and up
-    /// goes to all, whatever `to` says.
+    /// Hands in a message of 0 to 8 bytes, to all (255) or to another's address; answers its token. A group of PF 240 and
+    /// up goes to all.
     pub fn send(
         &mut self,
         now: Stamp,
@@ -320,6 +340,15 @@ impl Controller {
         }
         self.desk.due.push(Due { answer, request });
         Ok(())
+    }
+
+    /// The frame of the first message that wasn't taken.
+    fn peek_message(&self, now: Stamp) -> Option<Frame>
+        ensures { option_map stamped result ≡ option_map (λ x. (stamp_micros now, (posted x).1))
+            (slice_get self.now.outgoing.items self.now.taken) }
+    {
+        let next = self.outgoing.as_slice().get(self.taken)?;
+        next.frame(now)
     }
 
     /// A frame can be taken.

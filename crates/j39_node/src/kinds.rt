@@ -16,10 +16,10 @@ pub enum Ending {
 pub enum Refused {
     /// No address is held.
     NoAddress,
-    /// A priority above 7, a group that no identifier can have or that the stack itself speaks, no receiver, or more
-    /// than 8 bytes.
+    /// A priority above 7, a group that no identifier can have or that the stack itself speaks (claims, acknowledgments,
+    /// packets), no other's address, or more than 8 bytes; an acknowledgment of a request to all.
     BadValue,
-    /// Sixteen messages are accepted and not told to have ended.
+    /// Sixteen messages are accepted and not told to have ended; sixteen acknowledgments are due.
     Full,
 }
 

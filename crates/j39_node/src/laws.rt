@@ -14,8 +14,9 @@ ghost use Rattle.j39_node.specs.declared.kinds.News.{News};
 ghost use Rattle.j39_node.specs.declared.kinds.News.TheVariants as news;
 ghost use Rattle.j39_node.specs.declared.kinds.Refused.{Refused};
 ghost use Rattle.j39_node.specs.declared.kinds.Refused.TheVariants as refused;
-ghost use Rattle.j39_node.specs.History.{Who, Asked, Call, Message, Draft, IsFront, accepted, acknowledgment, acknowledgment_group, asked, handed, is_served, requests, lost_news, another_news, missed_news, address_after, calls_for_claim, can_send, claim_address, claim_from, content, acknowledged, due, frames, got, heard, holds, is_lost, kept, message_of, missed, moment, next_due, owes_claim, sent, told};
+ghost use Rattle.j39_node.specs.History.{Who, Asked, Call, Message, Draft, IsFront, accepted, acknowledgment, acknowledgment_group, asked, handed, is_served, requests, lost_news, another_news, missed_news, address_after, calls_for_claim, can_send, claim_address, claim_from, content, acknowledged, due, frames, got, heard, holds, is_lost, kept, message_of, missed, moment, next_due, owes_claim, sent, step, told};
 ghost use Rattle.j39_node.specs.History.Call.{Acknowledge, Hear, TakeNews, Tick, TakeFrame, TakeRequest, Send, TakeEnded, TakeReceived};
+ghost use Rattle.j39_node.specs.Since.{ClaimedSince};
 ghost use Rattle.j39_node.specs.Example.{example, two};
 ghost use Rattle.j39_node.specs.Is.{AreAnswered, Is, status_after};
 
@@ -28,6 +29,12 @@ pub fn sources()
         → Is w (TakeFrame now (Some f) ∷ H) c
         → (message_of f ≡ claim_from w (claim_address w (address_after w H)))
         ⊎ (IsTrue (holds w H now) × (source_of f.id ≡ w.address) × (pgn_of f.id ≢ address_claimed_group)) }
+{}
+
+/// Where an address is held, a claim of it was taken, no smaller NAME's claim of it was heard since, and 250 ms or more passed.
+pub fn held_means()
+    ensures { (w : Who) (H : List Call) (c : Controller) (now : ℕ) → Is w H c → IsTrue (holds w H now)
+        → (e : ℕ) × ClaimedSince w H e × (250000 ≤ e + step H now) }
 {}
 
 /// The tokens of the messages accepted are 0, 1, 2 and so on, and in this order each is told once to have ended, after it was
@@ -118,7 +125,7 @@ pub fn news()
         → (lost_news w H ≡ false) × (another_news w H ≡ false) × (missed_news w H ≡ false) }
     ensures told { (w : Who) (H : List Call) (c : Controller) (n : News) → Is w (TakeNews (Some n) ∷ H) c
         → ((n ≡ news.AddressLost) × IsTrue (lost_news w H)) ⊎ ((n ≡ news.AnotherAtAddress) × IsTrue (another_news w H))
-            ⊎ ((n ≡ news.MessagesMissed) × IsTrue (missed_news w H)) }
+        ⊎ ((n ≡ news.MessagesMissed) × IsTrue (missed_news w H)) }
     ensures lost { (w : Who) (H : List Call) → IsTrue (lost_news w H) → IsTrue (is_lost (address_after w H)) }
     ensures missed { (w : Who) (H : List Call) → IsTrue (missed_news w H) → 0 < missed w H }
 {}

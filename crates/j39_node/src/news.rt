@@ -13,7 +13,13 @@ pub(crate) struct Untold {
 impl Untold {
     /// A frame was heard: it drives away from the address, which was lost before or not; another sent it from the address; it
     /// was missed.
-    pub(crate) fn heard(self, drives_away: bool, was_lost: bool, another: bool, missed: bool) -> Untold
+    pub(crate) fn heard(
+        self,
+        drives_away: bool,
+        was_lost: bool,
+        another: bool,
+        missed: bool,
+    ) -> Untold
         ensures { result ≡ record {
           lost = self.lost || (drives_away && not was_lost);
           another = self.another || another;

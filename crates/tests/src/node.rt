@@ -2,7 +2,7 @@
 use j39_address::{Name, Status};
 use j39_frame::{Frame, Pgn, Stamp};
 use j39_log::{Bus, Line, line_of, read_line};
-use j39_node::{Answer, Controller, Ending, Refused};
+use j39_node::{Answer, Controller, Ending, News, Refused};
 use std::test::Fail;
 
 /// What is done with a controller, and what it answers.
@@ -13,6 +13,10 @@ enum Step {
     Gives(u64, Option<&'static str>),
     /// At this moment it takes group 65265 with these bytes, priority 6, to this address: its token, or why not.
     Sends(u64, u8, &'static [u8], Result<u64, Refused>),
+    /// At this moment it would give the frame of this line, or none.
+    WouldGive(u64, Option<&'static str>),
+    /// It tells this.
+    Tells(Option<News>),
     /// It tells this end.
     Ends(Option<(u64, Ending)>),
     /// It hands out a message of this source, priority, group and bytes.
@@ -34,13 +38,17 @@ enum Step {
 use Status::{Cannot, Claiming, Holding, Idle};
 use Step::{
     Ends, Gives, HandsOut, HandsOutNone, Hears, Holder, Is, IsAsked, IsAskedNothing, IsDue, Missed,
-    Sends,
+    Sends, Tells, WouldGive,
 };
 
 /// NAME 2 at address 128, whose program serves group 65259.
 static STEPS: &[Step] = &[
     Is(Idle),
     IsDue(Some(0)),
+    WouldGive(
+        90,
+        Some("(0000000000.000090) can0 18EEFF80#0200000000000000"),
+    ),
     Gives(
         100,
         Some("(0000000000.000100) can0 18EEFF80#0200000000000000"),
@@ -54,7 +62,9 @@ static STEPS: &[Step] = &[
     Is(Holding(128)),
     IsDue(Some(250_100)),
     Sends(250_100, 128, &[7], Err(Refused::BadValue)),
+    WouldGive(250_150, Some("(0000000000.250150) can0 18FEF180#07")),
     Gives(250_200, Some("(0000000000.250200) can0 18FEF180#07")),
+    WouldGive(250_201, None),
     IsDue(None),
     Ends(Some((0, Ending::Done))),
     Ends(None),
@@ -69,6 +79,12 @@ static STEPS: &[Step] = &[
         260_003,
         Some("(0000000000.260003) can0 18EEFF80#0200000000000000"),
     ),
+    // Another sends from its address.
+    Tells(None),
+    Hears("(0.270000) can0 18FEEE80#11"),
+    Tells(Some(News::AnotherAtAddress)),
+    Tells(None),
+    HandsOut(128, 6, 65_262, &[0x11]),
     // To it, to all, and to another.
     Hears("(0.290000) can0 0C00800B#0102"),
     Hears("(0.290001) can0 18FEEE0B#11"),
@@ -104,10 +120,41 @@ static STEPS: &[Step] = &[
         Some("(0000000000.300002) can0 18EEFFFE#0200000000000000"),
     ),
     Gives(300_003, None),
+    Tells(Some(News::AddressLost)),
+    Tells(None),
     Ends(Some((1, Ending::Withdrawn))),
     Ends(None),
     Sends(300_004, 255, &[7], Err(Refused::NoAddress)),
     Missed(0),
+];
+
+/// Nobody reads: of 18 messages 16 are kept, and two missed.
+static UNREAD: &[Step] = &[
+    Hears("(0.100000) can0 18FEEE0B#01"),
+    Hears("(0.100000) can0 18FEEE0B#02"),
+    Hears("(0.100000) can0 18FEEE0B#03"),
+    Hears("(0.100000) can0 18FEEE0B#04"),
+    Hears("(0.100000) can0 18FEEE0B#05"),
+    Hears("(0.100000) can0 18FEEE0B#06"),
+    Hears("(0.100000) can0 18FEEE0B#07"),
+    Hears("(0.100000) can0 18FEEE0B#08"),
+    Hears("(0.100000) can0 18FEEE0B#09"),
+    Hears("(0.100000) can0 18FEEE0B#0A"),
+    Hears("(0.100000) can0 18FEEE0B#0B"),
+    Hears("(0.100000) can0 18FEEE0B#0C"),
+    Hears("(0.100000) can0 18FEEE0B#0D"),
+    Hears("(0.100000) can0 18FEEE0B#0E"),
+    Hears("(0.100000) can0 18FEEE0B#0F"),
+    Hears("(0.100000) can0 18FEEE0B#10"),
+    Tells(None),
+    Hears("(0.100000) can0 18FEEE0B#11"),
+    Hears("(0.100000) can0 18FEEE0B#12"),
+    Missed(2),
+    Tells(Some(News::MessagesMissed)),
+    HandsOut(11, 6, 65_262, &[1]),
+    HandsOut(11, 6, 65_262, &[2]),
+    Hears("(0.100000) can0 18FEEE0B#13"),
+    Missed(2),
 ];
 
 fn frame(line: &str) -> Option<Frame> {
@@ -134,6 +181,8 @@ fn does(node: &mut Controller, step: &Step) -> Option<bool> {
             Some(true)
         }
         Gives(micros, wanted) => is_line(node.take_frame(Stamp::new(*micros)?), *wanted),
+        WouldGive(micros, wanted) => is_line(node.peek_frame(Stamp::new(*micros)?), *wanted),
+        Tells(wanted) => Some(node.take_news() == *wanted),
         Sends(micros, to, bytes, wanted) => {
             let group = Pgn::new(65_265)?;
             let answer = if *to == 255 {
@@ -185,5 +234,7 @@ fn node(rt: HostRuntime) -> Result<(), Fail> {
     let served = [Pgn::new(65_259).ok_or("group")?];
     let mut node = Controller::new(Name::new(2), 128, &served).ok_or("node")?;
     assert_eq!(rt; wrong_step(&mut node, STEPS), None);
+    let mut deaf = Controller::new(Name::new(2), 128, &served).ok_or("node")?;
+    assert_eq!(rt; wrong_step(&mut deaf, UNREAD), None);
     Ok(())
 }

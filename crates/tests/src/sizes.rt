@@ -1,4 +1,4 @@
-//! The bytes of a controller's parts, as docs/CONTROLLER.md states them.
+//! The bytes of a controller's parts, as docs/CONTROLLER.md and the README of `j39_node` state them.
 use j39_address::{Claimer, Claims};
 use j39_controller::Controller;
 use j39_transport::{Assembler, Broadcast, OwnedSender, Receiver, Sender};
@@ -15,6 +15,7 @@ fn memory_of_the_parts(rt: HostRuntime) {
         size_of::<OwnedSender>(),
         size_of::<Receiver>(),
         size_of::<Controller>(),
+        size_of::<j39_node::Controller>(),
     ];
-    assert_eq!(rt; met, [4_088, 4_064, 4_336, 40, 64, 72, 40, 12_864]);
+    assert_eq!(rt; met, [4_088, 4_064, 4_336, 40, 64, 72, 40, 12_864, 5_592]);
 }

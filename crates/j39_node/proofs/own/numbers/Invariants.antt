@@ -1,4 +1,4 @@
-use Rattle.std.proofs.Common.{◌≡◌, ◌≤◌, ℕ, List, length, map, take}
+use Rattle.std.proofs.Common.{◌≡◌, ◌≤◌, length, map, take}
 use Rattle.j39_frame.specs.Pgn.{pgn_raw}
 use Rattle.j39_node.proofs.own.numbers.Given as goal
 

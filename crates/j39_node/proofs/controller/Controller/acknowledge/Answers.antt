@@ -1,6 +1,6 @@
-use Rattle.std.proofs.Common.{◌≡◌, ◌∙◌, ap, sym, refl, ℕ, length, true, false, Bool, nat_eq, eq-eqb}
+use Rattle.std.proofs.Common.{◌∙◌, ap, sym, refl, ℕ, length, true, false, nat_eq, eq-eqb}
 use Rattle.j39_frame.specs.Stamp.{stamp_micros}
-use Rattle.j39_node.specs.History.{Who, Asked, due, acknowledged}
+use Rattle.j39_node.specs.History.{Who, due, acknowledged}
 use Rattle.j39_node.specs.Is.{request_by, refusal_by}
 use Rattle.j39_node.proofs.QueueLemmas.{length_rest}
 use Rattle.j39_node.proofs.CallLemmas.{passed_is, holds_is, acknowledge_is, due_more}

@@ -1,8 +1,6 @@
-use Rattle.std.proofs.Common.{◌≡◌, ◌∙◌, ap, sym, refl, Bool}
+use Rattle.std.proofs.Common.{◌∙◌, ap, refl}
 use Rattle.j39_frame.specs.Frame.{FrameRecord}
-use Rattle.j39_address.specs.Claim.{claim_of}
-use Rattle.j39_node.specs.History.{Who, calls_for_claim, is_smaller, is_for_program}
-use Rattle.j39_node.specs.Is.{who_of, request_by}
+use Rattle.j39_node.specs.Is.{request_by}
 use Rattle.std.specs.Option.{option_map}
 use Rattle.j39_node.specs.Hold.{passed}
 use Rattle.j39_node.proofs.CallLemmas.{passed_is, heard_more, news_heard}
@@ -17,5 +15,5 @@ returns c = λ w H h.
     c.is_driven_away-drives_away.result c.calls_for_claim-calls.result (option_map request_by c.asked-request.result) h p c.is_held-is_held.ensures c.is_for_program-wanted.ensures
     c.offer.ensures.unread c.offer.ensures.missed c.is_driven_away-drives_away.ensures c.is_lost-is_lost.ensures c.calls_for_claim-calls.ensures
     c.hear.ensures.waiting c.hear.ensures.due c.asked-request.ensures c.note-changed.ensures.knows
-        (news_heard c.args.self.now.news _ _ _ _ _ _ c.heard-self.ensures c.is_another-another.ensures c.misses-misses.ensures)
+    (news_heard c.args.self.now.news _ _ _ _ _ _ c.heard-self.ensures c.is_another-another.ensures c.misses-misses.ensures)
     c.heard-self-2.ensures refl refl refl refl

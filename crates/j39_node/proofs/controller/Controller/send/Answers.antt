@@ -1,4 +1,4 @@
-use Rattle.std.proofs.Common.{◌≡◌, ◌∙◌, ap, sym, refl, ℕ, Some, List, length, arith, true, false, ◌≢◌, ◌<◌, ◌≤◌, Bool}
+use Rattle.std.proofs.Common.{◌≡◌, ◌∙◌, ap, sym, refl, arith, true, false, Bool}
 use Rattle.j39_frame.specs.Stamp.{stamp_micros}
 use Rattle.j39_frame.specs.Pgn.{pgn_raw}
 use Rattle.j39_node.specs.History.{Who, Draft, can_send, message_from}

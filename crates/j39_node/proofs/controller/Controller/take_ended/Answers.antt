@@ -1,7 +1,7 @@
-use Rattle.std.proofs.Common.{◌≡◌, ◌∙◌, ap, sym, refl, ℕ, Some, List, length, drop, arith, true, false, lt-ltb, suc}
-use Rattle.j39_node.specs.History.{Message, accepted, told, sent}
-use Rattle.j39_node.specs.Is.{Is, posted}
-use Rattle.j39_node.proofs.QueueLemmas.{first, not_empty, length_one_more}
+use Rattle.std.proofs.Common.{◌∙◌, sym, refl, length, arith}
+use Rattle.j39_node.specs.History.{accepted, told}
+use Rattle.j39_node.specs.Is.{posted}
+use Rattle.j39_node.proofs.QueueLemmas.{first, not_empty}
 use Rattle.j39_node.proofs.CallLemmas.{told_done, told_withdrawn}
 use Rattle.j39_node.proofs.controller.Controller.take_ended.Goals as goal
 

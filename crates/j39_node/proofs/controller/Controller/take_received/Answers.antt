@@ -1,6 +1,6 @@
 use Rattle.std.proofs.Common.{◌≡◌, ◌∙◌, ap, sym, refl, ℕ, Some, List, drop, subst}
-use Rattle.j39_node.specs.History.{Message, kept, got}
-use Rattle.j39_node.specs.Is.{Is, received_by}
+use Rattle.j39_node.specs.History.{kept, got}
+use Rattle.j39_node.specs.Is.{received_by}
 use Rattle.j39_node.proofs.QueueLemmas.{first, not_empty, length_one_more}
 use Rattle.j39_node.proofs.controller.Controller.take_received.Goals as goal
 

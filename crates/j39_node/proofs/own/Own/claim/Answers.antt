@@ -1,4 +1,4 @@
-use Rattle.std.proofs.Common.{◌≡◌, ◌∙◌, ap, sym, refl, ℕ, List, length, arith}
+use Rattle.std.proofs.Common.{◌∙◌, ap, ℕ, List, length, arith}
 use Rattle.j39_node.specs.History.{Message, claim_with}
 use Rattle.j39_node.proofs.CallLemmas.{made}
 use Rattle.j39_node.proofs.own.Own.claim.Goals as goal

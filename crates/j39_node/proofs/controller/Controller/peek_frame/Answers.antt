@@ -1,0 +1,32 @@
+use Rattle.std.proofs.Common.{◌∙◌, ap, sym, Some}
+use Rattle.j39_frame.specs.Stamp.{stamp_micros}
+use Rattle.j39_node.specs.History.{Who}
+use Rattle.j39_node.specs.Is.{refusal_by}
+use Rattle.j39_node.proofs.QueueLemmas.{read, read_none}
+use Rattle.j39_node.proofs.CallLemmas.{passed_is, holds_is, peeks_claim, peeks_none, peeks_due, peeks_message}
+use Rattle.j39_node.proofs.controller.Controller.peek_frame.Goals as goal
+
+pub returns-then-is_claim_due : goal.returns-then-is_claim_due
+returns-then-is_claim_due c = λ w H h.
+    peeks_claim w H c.args.self.now (stamp_micros c.args.now) _ _ h (sym c.is_claim_due.ensures ∙ c.if-is_claim_due.true) c.claim.ensures c.claim_address-address.ensures
+
+pub returns-then-not-is_held : goal.returns-then-not-is_held
+returns-then-not-is_held c = λ w H h.
+    let p = passed_is w H (stamp_micros c.args.now) c.args.self.now.hold c.passed-hold.result h.hold c.passed-hold.ensures in
+    peeks_none w H c.args.self.now (stamp_micros c.args.now) h (sym c.is_claim_due.ensures ∙ c.if-is_claim_due.false)
+    (sym (holds_is w H (stamp_micros c.args.now) c.passed-hold.result c.is_held.result p c.is_held.ensures) ∙ c.if-not-is_held.true)
+
+pub returns-in-Some : goal.returns-in-Some
+returns-in-Some c = λ w H h.
+    let p = passed_is w H (stamp_micros c.args.now) c.args.self.now.hold c.passed-hold.result h.hold c.passed-hold.ensures in
+    let b = sym (holds_is w H (stamp_micros c.args.now) c.passed-hold.result c.is_held.result p c.is_held.ensures) ∙ c.if-not-is_held.false in
+    peeks_due w H c.args.self.now (stamp_micros c.args.now) _ c.in-Some.due.now h (sym c.is_claim_due.ensures ∙ c.if-is_claim_due.false) b
+    (read c.as_slice.result.now _ _ _ c.as_slice.ensures.value c.in-Some.ensures.lookup.3.0 c.in-Some.ensures.lookup.1)
+    (c.acknowledgment.ensures ∙ ap (λ (v : Who). Some (stamp_micros c.args.now, refusal_by v c.in-Some.due.now)) h.who)
+
+pub returns-in-None : goal.returns-in-None
+returns-in-None c = λ w H h.
+    let p = passed_is w H (stamp_micros c.args.now) c.args.self.now.hold c.passed-hold.result h.hold c.passed-hold.ensures in
+    let b = sym (holds_is w H (stamp_micros c.args.now) c.passed-hold.result c.is_held.result p c.is_held.ensures) ∙ c.if-not-is_held.false in
+    peeks_message w H c.args.self.now (stamp_micros c.args.now) _ h (sym c.is_claim_due.ensures ∙ c.if-is_claim_due.false) b
+    (read_none c.as_slice.result.now _ _ c.as_slice.ensures.value c.in-None.ensures.lookup.3) c.peek_message.ensures

@@ -1,0 +1,5 @@
+use Rattle.j39_node.proofs.SinceLemmas as law
+use Rattle.j39_node.proofs.laws.held_means.Goals as goal
+
+pub returns : goal.returns
+returns c = law.held_since

@@ -1,0 +1,31 @@
+-- Since when an address is claimed, by places of the history.
+use Rattle.std.specs.Prelude.{◌≡◌, ◌≤◌, ℕ, ◌+◌, ◌-◌, Bool, false, List, [], ◌∷◌, ◌++◌, Some}
+use Rattle.j39_frame.specs.Frame.{FrameRecord}
+use Rattle.j39_address.specs.Claim.{claim_of}
+use Rattle.j39_node.specs.History.{Who, Call, claim_from, is_smaller, message_of, moment, step}
+use Rattle.j39_node.specs.History.Call.{Hear, TakeFrame}
+
+-- the sum of the forward steps of these later calls, from the moment of the earlier ones on
+abbrev pub passed_in : List Call → List Call → ℕ
+passed_in [] earlier = 0
+passed_in (call ∷ later) earlier = passed_in later earlier + step (later ++ earlier) (moment (call ∷ later ++ earlier))
+
+-- a smaller NAME's claim of the address is heard
+abbrev pub drives_away : Who → Call → Bool
+drives_away w (Hear f) = is_smaller w (claim_of f)
+drives_away w call = false
+
+abbrev pub NoneDrivesAway : Who → List Call → Type 0
+NoneDrivesAway w [] = Unit {0}
+NoneDrivesAway w (call ∷ later) = (drives_away w call ≡ false) × NoneDrivesAway w later
+
+-- a claim of the address was taken at a call of H, and no smaller NAME's claim was heard since; e microseconds passed since
+pub record ClaimedSince (w : Who) (H : List Call) (e : ℕ) : Type 0 where
+  pub later : List Call
+  pub earlier : List Call
+  pub at : ℕ
+  pub claim : FrameRecord
+  pub is : H ≡ later ++ TakeFrame at (Some claim) ∷ earlier
+  pub claims : message_of claim ≡ claim_from w w.address
+  pub stays : NoneDrivesAway w later
+  pub passed : e ≡ passed_in later (TakeFrame at (Some claim) ∷ earlier)
