@@ -1,14 +1,16 @@
 -- A call more.
-use Rattle.std.proofs.Common.{◌≡◌, ◌↔◌, ℕ, suc, ◌+◌, ◌-◌, ◌<◌, ◌≤◌, List, [], ◌∷◌, ◌++◌, length, map, drop, min, Option, Some, None, IsSome, IfSome, Result, Ok, Err, Bool, true, false, not, ◌&&◌, ◌||◌, if◌then◌else◌, nat_eq, nat_lt, nat_le, refl, sym, ap, ◌∙◌, subst, arith, lt-ltb}
+use Rattle.std.proofs.Common.{◌≡◌, ℕ, suc, ◌+◌, ◌-◌, ◌<◌, ◌≤◌, List, [], ◌∷◌, ◌++◌, length, map, drop, min, Option, Some, None, Result, Ok, Err, Bool, true, false, not, ◌&&◌, ◌||◌, if◌then◌else◌, nat_eq, nat_lt, nat_le, refl, sym, ap, ◌∙◌, subst, arith, lt-ltb}
 use Rattle.std.specs.List.{slice_get}
 use Rattle.std.specs.Option.{option_map}
 use Rattle.j39_frame.specs.Frame.{FrameRecord}
 use Rattle.j39_address.specs.Claim.{claim_of}
 use Rattle.j39_address.specs.Claims.{Knows}
+use Rattle.j39_transport.specs.Message.{MessageRecord}
 use Rattle.j39_node.specs.declared.controller.Controller.{Controller}
 use Rattle.j39_node.specs.declared.hold.Hold.{Hold}
 use Rattle.j39_node.specs.declared.hold.Standing.{Standing}
 use Rattle.j39_node.specs.declared.hold.Standing.TheVariants as standing
+use Rattle.j39_node.specs.declared.lane.Open.{Open}
 use Rattle.j39_node.specs.declared.outgoing.Outgoing.{Outgoing}
 use Rattle.std.proofs.lemmas.Option.{slice_get_past}
 use Rattle.j39_node.specs.declared.news.Untold.{Untold}
@@ -16,23 +18,18 @@ use Rattle.j39_node.specs.declared.requests.Due.{Due}
 use Rattle.j39_node.specs.declared.requests.Request.{Request}
 use Rattle.j39_node.specs.declared.kinds.Answer.{Answer}
 use Rattle.j39_node.specs.declared.kinds.Answer.TheVariants.{Nack, Busy}
+use Rattle.j39_node.specs.declared.kinds.Ending.{Ending}
 use Rattle.j39_node.specs.declared.kinds.Ending.TheVariants.{Done, Withdrawn}
 use Rattle.j39_node.specs.declared.kinds.Refused.{Refused}
 use Rattle.j39_node.specs.declared.kinds.Refused.TheVariants.{NoAddress, BadValue, Full}
-use Rattle.j39_node.specs.Hold.{standing_of, less, passed, heard, claims, stands, lost, left_at}
-use Rattle.j39_node.specs.History.{Who, Message, Draft, Call, Address, carried, message_of, older, claimed, address_after, holds, is_lost, is_held, is_smaller, claim_address, claim_from, owes_claim, calls_for_claim, can_send, message_from, accepted, sent, told, is_full, step, moment, is_for_program, kept, got, missed, Asked, asked, acknowledgment, acknowledged, due, handed, requests, is_served, with_request, with_refusal, is_waiting, stamp_at, held_at, next_due, told_claims, is_another, lost_news, another_news, missed_news}
-use Rattle.j39_node.specs.History.Call.{Hear, TakeFrame, Send, TakeEnded, TakeRequest, Acknowledge}
+use Rattle.j39_node.specs.Hold.{standing_of, less, passed, heard, claims, paused, stands, lost, left_at}
+use Rattle.j39_node.specs.History.{Who, Message, Draft, Call, Address, message_of, older, claimed, address_after, holds, is_lost, is_held, is_smaller, claim_address, claim_from, owes_claim, calls_for_claim, can_send, message_from, accepted, sent, told, is_full, step, moment, is_for_program, kept, got, missed, Asked, asked, acknowledgment, acknowledged, due, handed, requests, is_served, with_request, with_refusal, is_waiting, stamp_at, held_at, next_due, told_claims, is_another, lost_news, another_news, missed_news, broadcasts, broadcast_from, can_broadcast, has_packets, is_busy, is_left, is_open, is_packet, open_broadcast, packets, pause}
+use Rattle.j39_node.specs.History.Call.{Hear, TakeFrame, Send, TakeEnded, TakeRequest, Acknowledge, Broadcast, TakeBroadcastEnded}
 use Rattle.j39_node.specs.History.Address.{NotClaimed, Claimed, Lost}
-use Rattle.j39_node.specs.Is.{Is, stamped, next_frame, end_of, answer_to_send, answer_to_acknowledge, hold_after, who_of, posted, received_by, request_by, refusal_by, first_of, offered, counted}
+use Rattle.j39_node.specs.Is.{Is, stamped, next_frame, end_of, answer_to_send, answer_to_acknowledge, hold_after, who_of, posted, received_by, request_by, refusal_by, first_of, offered, counted, LaneRecord, opened, lane_of, lane_after, packet_by, next_packet, answer_to_broadcast, broadcast_end, next_broadcast_ended}
 use Rattle.j39_node.proofs.QueueLemmas.{length_one_more, map_append, length_rest, in_rest, not_in_rest, First, drop_append, length_drop}
-use Rattle.j39_node.proofs.SoundLemmas.{sound, own_get, due_get, due_taken, claim_taken, message_taken, plain_taken, sent_is, acknowledged_is, address_is, frame_by, front_length, held_not_lost, holding_not_lost, lost_older, read}
-
--- the frame that is made is one of this message
-pub made : (r : Option FrameRecord) (now id : ℕ) (bytes : List ℕ) (m : Message) → (IsSome r ↔ (length bytes ≤ 8))
-    → IfSome r (λ f. f ≡ record { stamp = now; id = id; bytes = bytes }) → length bytes ≤ 8 → carried id bytes ≡ m
-    → option_map stamped r ≡ Some (now, m)
-made None now id bytes m known is l e = absurd (let z : false ≡ true = known.1 l in cc)
-made (Some f) now id bytes m known is l e = ap (λ g. Some (stamped g)) is ∙ ap (λ (x : Message). Some (now, x)) e
+use Rattle.j39_node.proofs.SoundLemmas.{sound, own_get, due_get, due_taken, claim_taken, message_taken, plain_taken, sent_is, acknowledged_is, address_is, frame_by, front_length, held_not_lost, holding_not_lost, lost_older, read, single_taken, claim_single, packet_taken, packets_is, pause_is}
+use Rattle.j39_node.proofs.FrameLemmas.{at_now}
 
 -- ---- the hold
 
@@ -59,6 +56,7 @@ pub record Passed (w : Who) (H : List Call) (now : ℕ) (h : Hold) : Type 0 wher
   pub moment : h.moment ≡ now
   pub standing : h.standing ≡ standing_of (older (step H now) (address_after w H))
   pub owes : h.owes_claim ≡ owes_claim w H
+  pub pause : h.pause ≡ pause H - step H now
 
 pub passed_is : (w : Who) (H : List Call) (now : ℕ) (old new : Hold) → old ≡ hold_after w H → new ≡ passed now old → Passed w H now new
 passed_is w H now old new e f =
@@ -67,16 +65,36 @@ passed_is w H now old new e f =
       moment = ap (λ (h : Hold). h.moment) g;
       standing = ap (λ (h : Hold). h.standing) g ∙ less_is (step H now) (address_after w H);
       owes = ap (λ (h : Hold). h.owes_claim) g;
+      pause = ap (λ (h : Hold). h.pause) g;
     }
 
 pub holds_is : (w : Who) (H : List Call) (now : ℕ) (h : Hold) (b : Bool) → Passed w H now h → b ≡ stands h.standing → b ≡ holds w H now
 holds_is w H now h b p e = e ∙ (ap stands p.standing ∙ stands_is (older (step H now) (address_after w H)))
 
-pub is_hold : (h k : Hold) → h.moment ≡ k.moment → h.standing ≡ k.standing → h.owes_claim ≡ k.owes_claim → h ≡ k
-is_hold h k e f g =
+pub is_hold : (h k : Hold) → h.moment ≡ k.moment → h.standing ≡ k.standing → h.owes_claim ≡ k.owes_claim → h.pause ≡ k.pause → h ≡ k
+is_hold h k e f g i =
     ap (λ (x : ℕ). record h { moment = x }) e
     ∙ (ap (λ (x : Standing). record h { moment = k.moment; standing = x }) f
-    ∙ ap (λ (x : Bool). record h { moment = k.moment; standing = k.standing; owes_claim = x }) g)
+    ∙ (ap (λ (x : Bool). record h { moment = k.moment; standing = k.standing; owes_claim = x }) g
+    ∙ ap (λ (x : ℕ). record h { moment = k.moment; standing = k.standing; owes_claim = k.owes_claim; pause = x }) i))
+
+-- ---- the lane
+
+is_lane : (l k : LaneRecord) → l.current ≡ k.current → l.count ≡ k.count → l.next_token ≡ k.next_token → l ≡ k
+is_lane l k e f g =
+    ap (λ (x : Option (ℕ × MessageRecord)). record l { current = x }) e
+    ∙ (ap (λ (x : ℕ). record l { current = k.current; count = x }) f
+    ∙ ap (λ (x : ℕ). record l { current = k.current; count = k.count; next_token = x }) g)
+
+-- a frame that is none of packets leaves it
+lane_same : (w : Who) (H : List Call) (now : ℕ) (f : FrameRecord) → is_packet f ≡ false → lane_after w H ≡ lane_after w (TakeFrame now (Some f) ∷ H)
+lane_same w H now f e = ap (λ (xs : List Message). record (lane_after w H) { count = length xs }) (sym (packets_is H now f false e))
+
+pub packet_next : (w : Who) (H : List Call) (c : Controller) (now left : ℕ) → Is w H c → left ≡ pause H - step H now
+    → packet_by (lane_of (who_of c.own) c.lane).current c.lane.count left ≡ next_packet w H now
+packet_next w H c now left h e =
+    ap (λ (v : Who). packet_by (lane_of v c.lane).current c.lane.count left) h.who
+    ∙ (ap (λ (l : LaneRecord). packet_by l.current l.count left) h.lane ∙ ap (packet_by (open_broadcast w H) (length (packets H))) e)
 
 -- ---- a frame is taken
 
@@ -87,12 +105,12 @@ none_due w H c h e =
 
 next_is : (w : Who) (H : List Call) (now : ℕ) (a : Option Message) (o : Option (ℕ × Message)) → owes_claim w H ≡ false → holds w H now ≡ true
     → slice_get (due w H) (length (acknowledged H)) ≡ a → slice_get (accepted w H) (length (sent H)) ≡ o
-    → next_frame w H now ≡ option_map (λ m. (now, m)) (first_of a o)
+    → next_frame w H now ≡ option_map (λ m. (now, m)) (first_of a o (next_packet w H now))
 next_is w H now a o e f g k =
-    ap (λ (b : Bool). frame_by b (holds w H now) (slice_get (due w H) (length (acknowledged H))) (slice_get (accepted w H) (length (sent H))) claim now) e
-    ∙ (ap (λ (b : Bool). frame_by false b (slice_get (due w H) (length (acknowledged H))) (slice_get (accepted w H) (length (sent H))) claim now) f
-    ∙ (ap (λ (x : Option Message). frame_by false true x (slice_get (accepted w H) (length (sent H))) claim now) g
-    ∙ ap (λ (x : Option (ℕ × Message)). frame_by false true a x claim now) k))
+    ap (λ (b : Bool). frame_by b (holds w H now) (slice_get (due w H) (length (acknowledged H))) (slice_get (accepted w H) (length (sent H))) (next_packet w H now) claim now) e
+    ∙ (ap (λ (b : Bool). frame_by false b (slice_get (due w H) (length (acknowledged H))) (slice_get (accepted w H) (length (sent H))) (next_packet w H now) claim now) f
+    ∙ (ap (λ (x : Option Message). frame_by false true x (slice_get (accepted w H) (length (sent H))) (next_packet w H now) claim now) g
+    ∙ ap (λ (x : Option (ℕ × Message)). frame_by false true a x (next_packet w H now) claim now) k))
   where
     claim : Message
     claim = claim_from w (claim_address w (address_after w H))
@@ -110,11 +128,12 @@ taken w H old new now (Some f) x h p owes held none g m e d =
     let own = own_get w (accepted w H) (length (sent H)) (posted x) s.own i in
     let n = message_taken w f now (posted x) k own in
     let l = plain_taken w f now (posted x) k own in
-    let more = sent_is H now f false false n l in
+    let one = single_taken w f now (posted x) k own in
+    let more = sent_is H now f false false false n l one in
     record {
       who = ap (λ c. who_of c.own) e ∙ h.who;
       answered = (h.answered, ap Some k ∙ sym (next_is w H now None (Some (posted x)) (sym p.owes ∙ owes) held (none_due w H old h none) i));
-      hold = is_hold _ _ p.moment (p.standing ∙ ap standing_of (sym (address_is w H now f false n))) owes;
+      hold = is_hold _ _ p.moment (p.standing ∙ ap standing_of (sym (address_is w H now f false n))) owes (p.pause ∙ sym (pause_is H now f false one));
       outgoing = ap (λ c. map posted c.outgoing.items) e ∙ h.outgoing;
       taken = (let a = h.taken in let b = ap length more in let c = length_one_more (sent H) (message_of f) in omega (arith, a, b, c, d, t));
       token = ap (λ c. c.next_token) e ∙ h.token;
@@ -126,19 +145,26 @@ taken w H old new now (Some f) x h p owes held none g m e d =
           (subst (Knows old.holders) (sym (ap (λ (b : Bool). if b then told_claims H ++ f ∷ [] else told_claims H) n)) h.holders);
       news = ap (λ c. c.news) e ∙ h.news;
       missed = ap (λ c. c.inbox.missed) e ∙ h.missed;
+      lane = ap (λ c. lane_of w c.lane) e ∙ (h.lane ∙ lane_same w H now f one);
     }
 
 pub taken_none : (w : Who) (H : List Call) (old new : Controller) (now : ℕ) → Is w H old
     → Passed w H now new.hold → new.hold.owes_claim ≡ false → holds w H now ≡ true → length old.desk.due.items ≡ 0
-    → slice_get old.outgoing.items old.taken ≡ None → new ≡ record old { hold = new.hold } → Is w (TakeFrame now None ∷ H) new
-taken_none w H old new now h p owes held none g e =
+    → slice_get old.outgoing.items old.taken ≡ None
+    → (let none : Option (ℕ × Message) = None in none) ≡ option_map (at_now now) (packet_by (lane_of (who_of old.own) old.lane).current old.lane.count new.hold.pause)
+    → new ≡ record old { hold = new.hold } → Is w (TakeFrame now None ∷ H) new
+taken_none w H old new now h p owes held none g m e =
     let s = sound w H h.answered in
     let t = s.in_turn (holding_not_lost w H now held) in
     let i = not_in_rest posted old.outgoing.items (accepted w H) (length (told H)) (length (sent H)) old.taken h.outgoing h.taken t g in
     record {
       who = ap (λ c. who_of c.own) e ∙ h.who;
-      answered = (h.answered, sym (next_is w H now None None (sym p.owes ∙ owes) held (none_due w H old h none) i));
-      hold = is_hold _ _ p.moment p.standing p.owes;
+      answered = (
+        h.answered,
+        m ∙ (ap (option_map (at_now now)) (packet_next w H old now new.hold.pause h p.pause)
+            ∙ sym (next_is w H now None None (sym p.owes ∙ owes) held (none_due w H old h none) i)),
+      );
+      hold = is_hold _ _ p.moment p.standing p.owes p.pause;
       outgoing = ap (λ c. map posted c.outgoing.items) e ∙ h.outgoing;
       taken = ap (λ c. c.taken) e ∙ h.taken;
       token = ap (λ c. c.next_token) e ∙ h.token;
@@ -148,7 +174,48 @@ taken_none w H old new now h p owes held none g e =
       holders = subst (λ t. Knows t (told_claims H)) (sym (ap (λ c. c.holders) e)) h.holders;
       news = ap (λ c. c.news) e ∙ h.news;
       missed = ap (λ c. c.inbox.missed) e ∙ h.missed;
+      lane = ap (λ c. lane_of w c.lane) e ∙ h.lane;
     }
+
+pub taken_packet : (w : Who) (H : List Call) (old new : Controller) (now : ℕ) (f : FrameRecord) (mid : Hold) → Is w H old
+    → Passed w H now mid → mid.owes_claim ≡ false → holds w H now ≡ true → length old.desk.due.items ≡ 0
+    → slice_get old.outgoing.items old.taken ≡ None
+    → Some (stamped f) ≡ option_map (at_now now) (packet_by (lane_of (who_of old.own) old.lane).current old.lane.count mid.pause)
+    → new ≡ record old { hold = new.hold; lane = new.lane } → new.hold ≡ paused mid → new.lane ≡ record old.lane { count = new.lane.count }
+    → new.lane.count ≡ suc old.lane.count → Is w (TakeFrame now (Some f) ∷ H) new
+taken_packet w H old new now f mid h p owes held none g m e e0 e1 more =
+    go (next_packet w H now) refl (m ∙ ap (option_map (at_now now)) (packet_next w H old now mid.pause h p.pause))
+  where
+    go : (o : Option Message) → next_packet w H now ≡ o → Some (stamped f) ≡ option_map (at_now now) o → Is w (TakeFrame now (Some f) ∷ H) new
+    go None q i = absurd (cc)
+    go (Some y) q i =
+        let s = sound w H h.answered in
+        let t = s.in_turn (holding_not_lost w H now held) in
+        let past = not_in_rest posted old.outgoing.items (accepted w H) (length (told H)) (length (sent H)) old.taken h.outgoing h.taken t g in
+        let k : stamped f ≡ (now, y) = cc in
+        let is = packet_taken f now y (open_broadcast w H) (length (packets H)) (pause H - step H now) k q in
+        record {
+          who = ap (λ c. who_of c.own) e ∙ h.who;
+          answered = (
+            h.answered,
+            i ∙ (ap (option_map (at_now now)) (sym q) ∙ sym (next_is w H now None None (sym p.owes ∙ owes) held (none_due w H old h none) past)),
+          );
+          hold = e0 ∙ is_hold _ _ p.moment (p.standing ∙ ap standing_of (sym (address_is w H now f false is.0))) owes (sym (pause_is H now f true is.2));
+          outgoing = ap (λ c. map posted c.outgoing.items) e ∙ h.outgoing;
+          taken = ap (λ c. c.taken) e ∙ (h.taken ∙ ap (λ (xs : List Message). length xs - length (told H)) (sym (sent_is H now f false false true is.0 is.1 is.2)));
+          token = ap (λ c. c.next_token) e ∙ h.token;
+          unread = ap (λ c. map received_by c.inbox.unread.items) e ∙ h.unread;
+          requests = ap (λ c. map request_by c.desk.waiting.items) e ∙ h.requests;
+          acknowledgments = ap (λ c. map (refusal_by w) c.desk.due.items) e ∙ (h.acknowledgments
+              ∙ ap (λ (xs : List Message). drop (length xs) (due w H)) (sym (acknowledged_is H now f false false is.0 is.1)));
+          holders = subst (λ t. Knows t (told_claims (TakeFrame now (Some f) ∷ H))) (sym (ap (λ c. c.holders) e))
+              (subst (Knows old.holders) (sym (ap (λ (b : Bool). if b then told_claims H ++ f ∷ [] else told_claims H) is.0)) h.holders);
+          news = ap (λ c. c.news) e ∙ h.news;
+          missed = ap (λ c. c.inbox.missed) e ∙ h.missed;
+          lane = ap (lane_of w) e1 ∙ (ap (λ (l : LaneRecord). record l { count = new.lane.count }) h.lane
+              ∙ ap (λ (n : ℕ). record (lane_after w H) { count = n })
+              (more ∙ (ap (λ (l : LaneRecord). suc l.count) h.lane ∙ sym (ap length (packets_is H now f true is.2) ∙ length_one_more (packets H) (message_of f)))));
+        }
 
 pub taken_due : (w : Who) (H : List Call) (old new : Controller) (now : ℕ) (r : Option FrameRecord) (x : Due) → Is w H old
     → Passed w H now new.hold → new.hold.owes_claim ≡ false → holds w H now ≡ true
@@ -163,9 +230,9 @@ taken_due w H old new now (Some f) x h p owes held first m e =
     record {
       who = ap (λ c. who_of c.own) e ∙ h.who;
       answered = (h.answered, ap Some k ∙ sym (next_is w H now (Some (refusal_by w x)) _ (sym p.owes ∙ owes) held first.is refl));
-      hold = is_hold _ _ p.moment (p.standing ∙ ap standing_of (sym (address_is w H now f false is.0))) owes;
+      hold = is_hold _ _ p.moment (p.standing ∙ ap standing_of (sym (address_is w H now f false is.0))) owes (p.pause ∙ sym (pause_is H now f false is.2));
       outgoing = ap (λ c. map posted c.outgoing.items) e ∙ h.outgoing;
-      taken = ap (λ c. c.taken) e ∙ (h.taken ∙ ap (λ (xs : List Message). length xs - length (told H)) (sym (sent_is H now f false true is.0 is.1)));
+      taken = ap (λ c. c.taken) e ∙ (h.taken ∙ ap (λ (xs : List Message). length xs - length (told H)) (sym (sent_is H now f false true false is.0 is.1 is.2)));
       token = ap (λ c. c.next_token) e ∙ h.token;
       unread = ap (λ c. map received_by c.inbox.unread.items) e ∙ h.unread;
       requests = ap (λ c. map request_by c.desk.waiting.items) e ∙ h.requests;
@@ -174,14 +241,15 @@ taken_due w H old new now (Some f) x h p owes held first m e =
           (subst (Knows old.holders) (sym (ap (λ (b : Bool). if b then told_claims H ++ f ∷ [] else told_claims H) is.0)) h.holders);
       news = ap (λ c. c.news) e ∙ h.news;
       missed = ap (λ c. c.inbox.missed) e ∙ h.missed;
+      lane = ap (λ c. lane_of w c.lane) e ∙ (h.lane ∙ lane_same w H now f is.2);
     }
 
 -- ---- an end is told
 
 pub told_done : (w : Who) (H : List Call) (old new : Controller) (x : Outgoing) → Is w H old
     → First posted new.outgoing.items x (length (told H)) (accepted w H) → 0 < old.taken → new.taken + 1 ≡ old.taken
-    → new.own ≡ old.own → new.hold ≡ old.hold → new.next_token ≡ old.next_token → new.inbox ≡ old.inbox → new.desk ≡ old.desk → new.holders ≡ old.holders → new.news ≡ old.news → Is w (TakeEnded (Some (x.token, Done)) ∷ H) new
-told_done w H old new x h f some less e1 e2 e3 e4 e5 e6 e7 = record {
+    → new.own ≡ old.own → new.hold ≡ old.hold → new.next_token ≡ old.next_token → new.inbox ≡ old.inbox → new.desk ≡ old.desk → new.holders ≡ old.holders → new.news ≡ old.news → new.lane ≡ old.lane → Is w (TakeEnded (Some (x.token, Done)) ∷ H) new
+told_done w H old new x h f some less e1 e2 e3 e4 e5 e6 e7 e8 = record {
   who = ap who_of e1 ∙ h.who;
   answered = (
     h.answered,
@@ -198,6 +266,7 @@ told_done w H old new x h f some less e1 e2 e3 e4 e5 e6 e7 = record {
   holders = subst (λ t. Knows t (told_claims H)) (sym e6) h.holders;
   news = e7 ∙ h.news;
   missed = ap (λ o. o.missed) e4 ∙ h.missed;
+  lane = ap (lane_of w) e8 ∙ h.lane;
 }
   where
     before : nat_lt (length (told H)) (length (sent H)) ≡ true
@@ -208,8 +277,8 @@ not_before t s l = grind arith
 
 pub told_withdrawn : (w : Who) (H : List Call) (old new : Controller) (x : Outgoing) → Is w H old
     → First posted new.outgoing.items x (length (told H)) (accepted w H) → old.taken ≡ 0 → lost old.hold.standing ≡ true → new.taken ≡ old.taken
-    → new.own ≡ old.own → new.hold ≡ old.hold → new.next_token ≡ old.next_token → new.inbox ≡ old.inbox → new.desk ≡ old.desk → new.holders ≡ old.holders → new.news ≡ old.news → Is w (TakeEnded (Some (x.token, Withdrawn)) ∷ H) new
-told_withdrawn w H old new x h f none is_away same e1 e2 e3 e4 e5 e6 e7 = record {
+    → new.own ≡ old.own → new.hold ≡ old.hold → new.next_token ≡ old.next_token → new.inbox ≡ old.inbox → new.desk ≡ old.desk → new.holders ≡ old.holders → new.news ≡ old.news → new.lane ≡ old.lane → Is w (TakeEnded (Some (x.token, Withdrawn)) ∷ H) new
+told_withdrawn w H old new x h f none is_away same e1 e2 e3 e4 e5 e6 e7 e8 = record {
   who = ap who_of e1 ∙ h.who;
   answered = (
     h.answered,
@@ -226,6 +295,7 @@ told_withdrawn w H old new x h f none is_away same e1 e2 e3 e4 e5 e6 e7 = record
   holders = subst (λ t. Knows t (told_claims H)) (sym e6) h.holders;
   news = e7 ∙ h.news;
   missed = ap (λ o. o.missed) e4 ∙ h.missed;
+  lane = ap (lane_of w) e8 ∙ h.lane;
 }
   where
     after : nat_lt (length (told H)) (length (sent H)) ≡ false
@@ -245,13 +315,13 @@ full_is w H old h =
 pub posts : (w : Who) (H : List Call) (old new : Controller) (now : ℕ) (d : Draft) (x : Outgoing) → Is w H old → Passed w H now new.hold
     → holds w H now ≡ true → can_send w d ≡ true → (nat_eq (length old.outgoing.items) 16 || nat_eq old.next_token 18446744073709551615) ≡ false
     → posted x ≡ (old.next_token, message_from w d) → new.outgoing.items ≡ old.outgoing.items ++ x ∷ [] → new.next_token ≡ suc old.next_token
-    → new.own ≡ old.own → new.taken ≡ old.taken → new.inbox ≡ old.inbox → new.desk ≡ old.desk → new.holders ≡ old.holders → new.news ≡ old.news → Is w (Send now d (Ok old.next_token) ∷ H) new
-posts w H old new now d x h p held can room is e0 e1 e2 e3 e4 e5 e6 e7 =
+    → new.own ≡ old.own → new.taken ≡ old.taken → new.inbox ≡ old.inbox → new.desk ≡ old.desk → new.holders ≡ old.holders → new.news ≡ old.news → new.lane ≡ old.lane → Is w (Send now d (Ok old.next_token) ∷ H) new
+posts w H old new now d x h p held can room is e0 e1 e2 e3 e4 e5 e6 e7 e8 =
     let s = sound w H h.answered in
     record {
       who = ap who_of e2 ∙ h.who;
       answered = (h.answered, ap Ok h.token ∙ sym (answer (holds w H now) (can_send w d) (is_full w H) held can (sym (full_is w H old h) ∙ room)));
-      hold = is_hold _ _ p.moment p.standing p.owes;
+      hold = is_hold _ _ p.moment p.standing p.owes p.pause;
       outgoing = ap (map posted) e0 ∙ (map_append posted old.outgoing.items x
           ∙ (ap (λ l. l ++ posted x ∷ []) h.outgoing ∙ (ap (λ (y : ℕ × Message). drop (length (told H)) (accepted w H) ++ y ∷ []) is
           ∙ sym (drop_append (length (told H)) (accepted w H) (old.next_token, message_from w d) s.within))));
@@ -263,6 +333,7 @@ posts w H old new now d x h p held can room is e0 e1 e2 e3 e4 e5 e6 e7 =
       holders = subst (λ t. Knows t (told_claims H)) (sym e6) h.holders;
       news = e7 ∙ h.news;
       missed = ap (λ o. o.missed) e4 ∙ h.missed;
+      lane = ap (lane_of w) e8 ∙ h.lane;
     }
   where
     answer : (a b f : Bool) → a ≡ true → b ≡ true → f ≡ false
@@ -347,9 +418,9 @@ pub heard_more : (w : Who) (H : List Call) (old new : Controller) (f : FrameReco
       another = old.news.another || is_another (who_of old.own) held f;
       missed = old.news.missed || (wanted && not (nat_lt (length old.inbox.unread.items) 16));
     }
-    → new.hold ≡ heard gone calls mid → new.own ≡ old.own → new.outgoing ≡ old.outgoing → new.taken ≡ old.taken → new.next_token ≡ old.next_token
+    → new.hold ≡ heard gone calls mid → new.own ≡ old.own → new.outgoing ≡ old.outgoing → new.taken ≡ old.taken → new.next_token ≡ old.next_token → new.lane ≡ old.lane
     → Is w (Hear f ∷ H) new
-heard_more w H old new f mid held wanted away gone calls o h p e1 e2 e3 e4 e5 e6 e7 q1 q2 q3 q4 q5 e8 s1 s2 s3 s4 =
+heard_more w H old new f mid held wanted away gone calls o h p e1 e2 e3 e4 e5 e6 e7 q1 q2 q3 q4 q5 e8 s1 s2 s3 s4 s5 =
     let s = sound w H h.answered in
     let wants : wanted ≡ is_for_program w (holds w H f.stamp) f =
     e2 ∙ (ap (λ (v : Who). is_for_program v held f) h.who ∙ ap (λ (b : Bool). is_for_program w b f) (holds_is w H f.stamp mid held p e1)) in
@@ -371,7 +442,8 @@ heard_more w H old new f mid held wanted away gone calls o h p e1 e2 e3 e4 e5 e6
           (ap (λ (k : Hold). k.standing) e8 ∙ (ap (λ (b : Bool). if b then standing.Lost else mid.standing) goes
           ∙ (ap (λ (x : Standing). if is_smaller w (claim_of f) then standing.Lost else x) p.standing
           ∙ heard_standing (is_smaller w (claim_of f)) (step H f.stamp) (address_after w H))))
-          (ap (λ (k : Hold). k.owes_claim) e8 ∙ (ap (λ (b : Bool). b || calls) p.owes ∙ ap (λ (b : Bool). owes_claim w H || b) asks));
+          (ap (λ (k : Hold). k.owes_claim) e8 ∙ (ap (λ (b : Bool). b || calls) p.owes ∙ ap (λ (b : Bool). owes_claim w H || b) asks))
+          (ap (λ (k : Hold). k.pause) e8 ∙ p.pause);
       outgoing = ap (λ o. map posted o.items) s2 ∙ h.outgoing;
       taken = s3 ∙ h.taken;
       token = s4 ∙ h.token;
@@ -400,6 +472,7 @@ heard_more w H old new f mid held wanted away gone calls o h p e1 e2 e3 e4 e5 e6
           (length_rest received_by old.inbox.unread.items (length (got H)) (kept w H) h.unread)));
       missed = e4 ∙ (ap (λ (b : Bool). counted b (map received_by old.inbox.unread.items) old.inbox.missed) wants
           ∙ missed_rest (is_for_program w (holds w H f.stamp) f) (kept w H) _ (length (got H)) (missed w H) _ h.unread h.missed);
+      lane = ap (lane_of w) s5 ∙ h.lane;
     }
 
 -- ---- requests
@@ -420,6 +493,7 @@ handed_more w H old new x h first e = record {
   holders = subst (λ t. Knows t (told_claims H)) (sym (ap (λ c. c.holders) e)) h.holders;
   news = ap (λ c. c.news) e ∙ h.news;
   missed = ap (λ c. c.inbox.missed) e ∙ h.missed;
+  lane = ap (λ c. lane_of w c.lane) e ∙ h.lane;
 }
 
 abbrev pub acknowledges_by : Bool → Bool → Bool → Result (Unit {0}) Refused
@@ -440,7 +514,7 @@ due_more w H old new now answer x h p right a g e =
     record {
       who = ap (λ c. who_of c.own) e ∙ h.who;
       answered = (h.answered, right);
-      hold = is_hold _ _ p.moment p.standing p.owes;
+      hold = is_hold _ _ p.moment p.standing p.owes p.pause;
       outgoing = ap (λ c. map posted c.outgoing.items) e ∙ h.outgoing;
       taken = ap (λ c. c.taken) e ∙ h.taken;
       token = ap (λ c. c.next_token) e ∙ h.token;
@@ -453,6 +527,7 @@ due_more w H old new now answer x h p right a g e =
       holders = subst (λ t. Knows t (told_claims H)) (sym (ap (λ c. c.holders) e)) h.holders;
       news = ap (λ c. c.news) e ∙ h.news;
       missed = ap (λ c. c.inbox.missed) e ∙ h.missed;
+      lane = ap (λ c. lane_of w c.lane) e ∙ h.lane;
     }
 
 -- ---- a call that only lets time pass
@@ -462,7 +537,7 @@ pub refuses_send : (w : Who) (H : List Call) (old new : Controller) (now : ℕ) 
 refuses_send w H old new now d r h p answer e = record {
   who = ap (λ c. who_of c.own) e ∙ h.who;
   answered = (h.answered, answer);
-  hold = is_hold _ _ p.moment p.standing p.owes;
+  hold = is_hold _ _ p.moment p.standing p.owes p.pause;
   outgoing = ap (λ c. map posted c.outgoing.items) e ∙ h.outgoing;
   taken = ap (λ c. c.taken) e ∙ h.taken;
   token = ap (λ c. c.next_token) e ∙ h.token;
@@ -472,6 +547,7 @@ refuses_send w H old new now d r h p answer e = record {
   holders = subst (λ t. Knows t (told_claims H)) (sym (ap (λ c. c.holders) e)) h.holders;
   news = ap (λ c. c.news) e ∙ h.news;
   missed = ap (λ c. c.inbox.missed) e ∙ h.missed;
+  lane = ap (λ c. lane_of w c.lane) e ∙ h.lane;
 }
 
 abbrev pub sends_by : Who → List Call → Bool → Bool → Bool → Result ℕ Refused
@@ -522,9 +598,20 @@ held_at_is NotClaimed m = refl
 held_at_is (Claimed e) m = ap (λ (b : Bool). if b then stamp_at (m + (250000 - e)) else None) (lt_left e)
 held_at_is Lost m = refl
 
-pub due_is : (w : Who) (H : List Call) (b : Bool) → b ≡ (owes_claim w H || (is_held (address_after w H) && is_waiting w H))
-    → (if b then stamp_at (moment H) else held_at (address_after w H) (moment H)) ≡ next_due w H
-due_is w H b e = ap (λ (x : Bool). if x then stamp_at (moment H) else held_at (address_after w H) (moment H)) e
+pub left_due : (w : Who) (H : List Call) (c : Controller) → Is w H c
+    → (stands c.hold.standing && is_left (lane_of w c.lane).current c.lane.count) ≡ (is_held (address_after w H) && has_packets w H)
+left_due w H c h =
+    ap (λ (k : Hold). stands k.standing && is_left (lane_of w c.lane).current c.lane.count) h.hold
+    ∙ (ap (λ (b : Bool). b && is_left (lane_of w c.lane).current c.lane.count) (stands_is (address_after w H))
+    ∙ ap (λ (l : LaneRecord). is_held (address_after w H) && is_left l.current l.count) h.lane)
+
+-- when something is due, by whether a frame can be taken, and whether one of packets is left
+abbrev pub due_by : Who → List Call → Bool → Bool → Option ℕ
+due_by w H b l = if b then stamp_at (moment H) else if l then stamp_at (moment H + pause H) else held_at (address_after w H) (moment H)
+
+pub due_is : (w : Who) (H : List Call) (b l : Bool) → b ≡ (owes_claim w H || (is_held (address_after w H) && is_waiting w H))
+    → l ≡ (is_held (address_after w H) && has_packets w H) → due_by w H b l ≡ next_due w H
+due_is w H b l e f = ap (λ (x : Bool). due_by w H x l) e ∙ ap (due_by w H (owes_claim w H || (is_held (address_after w H) && is_waiting w H))) f
 
 -- ---- a claim is taken
 
@@ -534,7 +621,7 @@ claims_after (Claimed e) = refl
 claims_after Lost = refl
 
 pub claims_more : (w : Who) (H : List Call) (old new : Controller) (now : ℕ) (f : FrameRecord) (mid : Hold) (a : ℕ) → Is w H old → Passed w H now mid
-    → mid.owes_claim ≡ true → new.hold ≡ record { moment = mid.moment; standing = claims mid.standing; owes_claim = false }
+    → mid.owes_claim ≡ true → new.hold ≡ record { moment = mid.moment; standing = claims mid.standing; owes_claim = false; pause = mid.pause }
     → Some (stamped f) ≡ Some (now, claim_from (who_of old.own) a) → a ≡ (if lost mid.standing then 254 else old.own.address)
     → ((F : List FrameRecord) → Knows old.holders F → Knows new.holders (F ++ f ∷ []))
     → new ≡ record old { hold = new.hold; holders = new.holders } → Is w (TakeFrame now (Some f) ∷ H) new
@@ -552,13 +639,14 @@ claims_more w H old new now f mid a h p owes e0 m at knows e =
       who = ap (λ c. who_of c.own) e ∙ h.who;
       answered = (
         h.answered,
-        ap Some j ∙ sym (ap (λ (b : Bool). frame_by b (holds w H now) (slice_get (due w H) (length (acknowledged H))) (slice_get (accepted w H) (length (sent H)))
+        ap Some j ∙ sym (ap (λ (b : Bool). frame_by b (holds w H now) (slice_get (due w H) (length (acknowledged H))) (slice_get (accepted w H) (length (sent H))) (next_packet w H now)
             (claim_from w (claim_address w (address_after w H))) now) due_claim),
       );
       hold = e0 ∙ is_hold _ _ p.moment
-          (ap claims p.standing ∙ (claims_after (older (step H now) (address_after w H)) ∙ ap standing_of (sym (address_is w H now f true n)))) refl;
+          (ap claims p.standing ∙ (claims_after (older (step H now) (address_after w H)) ∙ ap standing_of (sym (address_is w H now f true n)))) refl
+          (p.pause ∙ sym (pause_is H now f false (claim_single f n)));
       outgoing = ap (λ c. map posted c.outgoing.items) e ∙ h.outgoing;
-      taken = ap (λ c. c.taken) e ∙ (h.taken ∙ ap (λ (xs : List Message). length xs - length (told H)) (sym (sent_is H now f true _ n refl)));
+      taken = ap (λ c. c.taken) e ∙ (h.taken ∙ ap (λ (xs : List Message). length xs - length (told H)) (sym (sent_is H now f true _ _ n refl refl)));
       token = ap (λ c. c.next_token) e ∙ h.token;
       unread = ap (λ c. map received_by c.inbox.unread.items) e ∙ h.unread;
       requests = ap (λ c. map request_by c.desk.waiting.items) e ∙ h.requests;
@@ -567,6 +655,7 @@ claims_more w H old new now f mid a h p owes e0 m at knows e =
       holders = subst (Knows new.holders) (sym (ap (λ (b : Bool). if b then told_claims H ++ f ∷ [] else told_claims H) n)) (knows (told_claims H) h.holders);
       news = ap (λ c. c.news) e ∙ h.news;
       missed = ap (λ c. c.inbox.missed) e ∙ h.missed;
+      lane = ap (λ c. lane_of w c.lane) e ∙ (h.lane ∙ lane_same w H now f (claim_single f n));
     }
   where
     told_address : (s : ℕ) (x : Address) → (if lost (standing_of (older s x)) then 254 else w.address) ≡ claim_address w x
@@ -596,15 +685,15 @@ pub peeks_claim : (w : Who) (H : List Call) (c : Controller) (now a : ℕ) (r : 
     → option_map stamped r ≡ next_frame w H now
 peeks_claim w H c now a r h owes m e =
     m ∙ (ap (λ (x : Message). Some (now, x)) (claim_told w H c a h e)
-    ∙ sym (ap (λ (b : Bool). frame_by b (holds w H now) (slice_get (due w H) (length (acknowledged H))) (slice_get (accepted w H) (length (sent H)))
+    ∙ sym (ap (λ (b : Bool). frame_by b (holds w H now) (slice_get (due w H) (length (acknowledged H))) (slice_get (accepted w H) (length (sent H))) (next_packet w H now)
     (claim_from w (claim_address w (address_after w H))) now) (owes_is w H c true h owes)))
 
 pub peeks_none : (w : Who) (H : List Call) (c : Controller) (now : ℕ) → Is w H c → c.hold.owes_claim ≡ false → holds w H now ≡ false
     → (let none : Option (ℕ × Message) = None in none) ≡ next_frame w H now
 peeks_none w H c now h owes held =
-    sym (ap (λ (b : Bool). frame_by b (holds w H now) (slice_get (due w H) (length (acknowledged H))) (slice_get (accepted w H) (length (sent H)))
+    sym (ap (λ (b : Bool). frame_by b (holds w H now) (slice_get (due w H) (length (acknowledged H))) (slice_get (accepted w H) (length (sent H))) (next_packet w H now)
     (claim_from w (claim_address w (address_after w H))) now) (owes_is w H c false h owes)
-    ∙ ap (λ (b : Bool). frame_by false b (slice_get (due w H) (length (acknowledged H))) (slice_get (accepted w H) (length (sent H)))
+    ∙ ap (λ (b : Bool). frame_by false b (slice_get (due w H) (length (acknowledged H))) (slice_get (accepted w H) (length (sent H))) (next_packet w H now)
     (claim_from w (claim_address w (address_after w H))) now) held)
 
 pub peeks_due : (w : Who) (H : List Call) (c : Controller) (now : ℕ) (r : Option FrameRecord) (x : Due) → Is w H c → c.hold.owes_claim ≡ false
@@ -614,20 +703,116 @@ peeks_due w H c now r x h owes held g m =
     let i = in_rest (refusal_by w) c.desk.due.items x (due w H) (length (acknowledged H)) (length (acknowledged H)) 0 h.acknowledgments (omega arith) (omega arith) g in
     m ∙ sym (next_is w H now (Some (refusal_by w x)) _ (owes_is w H c false h owes) held i refl)
 
-abbrev pub at_now : ℕ → Message → ℕ × Message
-at_now now m = (now, m)
-
-pub peeks_message : (w : Who) (H : List Call) (c : Controller) (now : ℕ) (r : Option FrameRecord) → Is w H c → c.hold.owes_claim ≡ false
-    → holds w H now ≡ true → slice_get c.desk.due.items 0 ≡ None
-    → option_map stamped r ≡ option_map (λ x. (now, (posted x).1)) (slice_get c.outgoing.items c.taken) → option_map stamped r ≡ next_frame w H now
-peeks_message w H c now r h owes held g m =
+pub peeks_message : (w : Who) (H : List Call) (c : Controller) (now left : ℕ) (r : Option FrameRecord) → Is w H c → c.hold.owes_claim ≡ false
+    → holds w H now ≡ true → slice_get c.desk.due.items 0 ≡ None → left ≡ pause H - step H now
+    → option_map stamped r ≡ option_map (at_now now)
+    (first_of None (option_map posted (slice_get c.outgoing.items c.taken)) (packet_by (lane_of (who_of c.own) c.lane).current c.lane.count left))
+    → option_map stamped r ≡ next_frame w H now
+peeks_message w H c now left r h owes held g e m =
     let t = (sound w H h.answered).in_turn (holding_not_lost w H now held) in
     let i = not_in_rest (refusal_by w) c.desk.due.items (due w H) (length (acknowledged H)) (length (acknowledged H)) 0 h.acknowledgments (omega arith) (omega arith) g in
-    m ∙ (next (slice_get c.outgoing.items c.taken) refl t ∙ sym (next_is w H now None _ (owes_is w H c false h owes) held i refl))
+    m ∙ (ap (λ p. option_map (at_now now) (first_of None (option_map posted (slice_get c.outgoing.items c.taken)) p)) (packet_next w H c now left h e)
+    ∙ (ap (λ o. option_map (at_now now) (first_of None o (next_packet w H now))) (next (slice_get c.outgoing.items c.taken) refl t)
+    ∙ sym (next_is w H now None _ (owes_is w H c false h owes) held i refl)))
   where
     next : (o : Option Outgoing) → slice_get c.outgoing.items c.taken ≡ o → length (told H) ≤ length (sent H)
-        → option_map (λ (x : Outgoing). at_now now (posted x).1) o ≡ option_map (at_now now) (first_of None (slice_get (accepted w H) (length (sent H))))
-    next None e t = sym (ap (λ z. option_map (at_now now) (first_of None z))
-        (not_in_rest posted c.outgoing.items (accepted w H) (length (told H)) (length (sent H)) c.taken h.outgoing h.taken t e))
-    next (Some y) e t = sym (ap (λ z. option_map (at_now now) (first_of None z))
-        (in_rest posted c.outgoing.items y (accepted w H) (length (told H)) (length (sent H)) c.taken h.outgoing h.taken t e))
+        → option_map posted o ≡ slice_get (accepted w H) (length (sent H))
+    next None e t = sym (not_in_rest posted c.outgoing.items (accepted w H) (length (told H)) (length (sent H)) c.taken h.outgoing h.taken t e)
+    next (Some y) e t = sym (in_rest posted c.outgoing.items y (accepted w H) (length (told H)) (length (sent H)) c.taken h.outgoing h.taken t e)
+
+-- ---- broadcasts
+
+pub busy_is : (w : Who) (H : List Call) (c : Controller) → Is w H c
+    → (is_open (lane_of w c.lane).current || nat_eq c.lane.next_token 18446744073709551615) ≡ is_busy w H
+busy_is w H c h = ap (λ (l : LaneRecord). is_open l.current || nat_eq l.next_token 18446744073709551615) h.lane
+
+abbrev pub broadcasts_by : Who → List Call → Bool → Bool → Bool → Result ℕ Refused
+broadcasts_by w H a b f = if a then (if b then (if f then Err Full else Ok (length (broadcasts w H))) else Err BadValue) else Err NoAddress
+
+pub broadcast_is : (w : Who) (H : List Call) (now group : ℕ) (bytes : List ℕ) (a b f : Bool) → holds w H now ≡ a → can_broadcast group bytes ≡ b
+    → is_busy w H ≡ f → answer_to_broadcast w H now group bytes ≡ broadcasts_by w H a b f
+broadcast_is w H now group bytes a b f e g k =
+    ap (λ (x : Bool). broadcasts_by w H x (can_broadcast group bytes) (is_busy w H)) e
+    ∙ (ap (λ (x : Bool). broadcasts_by w H a x (is_busy w H)) g ∙ ap (λ (x : Bool). broadcasts_by w H a b x) k)
+
+pub refuses_broadcast : (w : Who) (H : List Call) (old new : Controller) (now group : ℕ) (bytes : List ℕ) (r : Refused) → Is w H old
+    → Passed w H now new.hold → Err r ≡ answer_to_broadcast w H now group bytes → new ≡ record old { hold = new.hold }
+    → Is w (Broadcast now group bytes (Err r) ∷ H) new
+refuses_broadcast w H old new now group bytes r h p answer e = record {
+  who = ap (λ c. who_of c.own) e ∙ h.who;
+  answered = (h.answered, answer);
+  hold = is_hold _ _ p.moment p.standing p.owes p.pause;
+  outgoing = ap (λ c. map posted c.outgoing.items) e ∙ h.outgoing;
+  taken = ap (λ c. c.taken) e ∙ h.taken;
+  token = ap (λ c. c.next_token) e ∙ h.token;
+  unread = ap (λ c. map received_by c.inbox.unread.items) e ∙ h.unread;
+  requests = ap (λ c. map request_by c.desk.waiting.items) e ∙ h.requests;
+  acknowledgments = ap (λ c. map (refusal_by w) c.desk.due.items) e ∙ h.acknowledgments;
+  holders = subst (λ t. Knows t (told_claims H)) (sym (ap (λ c. c.holders) e)) h.holders;
+  news = ap (λ c. c.news) e ∙ h.news;
+  missed = ap (λ c. c.inbox.missed) e ∙ h.missed;
+  lane = ap (λ c. lane_of w c.lane) e ∙ h.lane;
+}
+
+pub begins : (w : Who) (H : List Call) (old new : Controller) (now group : ℕ) (bytes : List ℕ) (x : Open) → Is w H old → Passed w H now new.hold
+    → Ok old.lane.next_token ≡ answer_to_broadcast w H now group bytes → opened w x ≡ (old.lane.next_token, broadcast_from w group bytes)
+    → new ≡ record old { hold = new.hold; lane = new.lane } → new.lane.current ≡ Some x → new.lane.count ≡ 0
+    → new.lane.next_token ≡ suc old.lane.next_token → Is w (Broadcast now group bytes (Ok old.lane.next_token) ∷ H) new
+begins w H old new now group bytes x h p answer is e e0 e1 e2 = record {
+  who = ap (λ c. who_of c.own) e ∙ h.who;
+  answered = (h.answered, answer);
+  hold = is_hold _ _ p.moment p.standing p.owes p.pause;
+  outgoing = ap (λ c. map posted c.outgoing.items) e ∙ h.outgoing;
+  taken = ap (λ c. c.taken) e ∙ h.taken;
+  token = ap (λ c. c.next_token) e ∙ h.token;
+  unread = ap (λ c. map received_by c.inbox.unread.items) e ∙ h.unread;
+  requests = ap (λ c. map request_by c.desk.waiting.items) e ∙ h.requests;
+  acknowledgments = ap (λ c. map (refusal_by w) c.desk.due.items) e ∙ h.acknowledgments;
+  holders = subst (λ t. Knows t (told_claims H)) (sym (ap (λ c. c.holders) e)) h.holders;
+  news = ap (λ c. c.news) e ∙ h.news;
+  missed = ap (λ c. c.inbox.missed) e ∙ h.missed;
+  lane = is_lane _ _ (ap (option_map (opened w)) e0 ∙ ap Some is) e1
+      (e2 ∙ (ap (λ (l : LaneRecord). suc l.next_token) h.lane ∙ sym (length_one_more (broadcasts w H) (broadcast_from w group bytes))));
+}
+
+pub ended_is : (w : Who) (H : List Call) (c : Controller) (b : Bool) → Is w H c → b ≡ lost c.hold.standing
+    → broadcast_end (lane_of w c.lane).current c.lane.count b ≡ next_broadcast_ended w H
+ended_is w H c b h e =
+    ap (λ (l : LaneRecord). broadcast_end l.current l.count b) h.lane
+    ∙ ap (broadcast_end (open_broadcast w H) (length (packets H))) (e ∙ (ap (λ (k : Hold). lost k.standing) h.hold ∙ lost_is (address_after w H)))
+
+pub ends : (w : Who) (H : List Call) (old new : Controller) (x : ℕ × Ending) → Is w H old → Some x ≡ next_broadcast_ended w H
+    → new ≡ record old { lane = new.lane } → new.lane ≡ record old.lane { current = None } → Is w (TakeBroadcastEnded (Some x) ∷ H) new
+ends w H old new x h answer e e0 = record {
+  who = ap (λ c. who_of c.own) e ∙ h.who;
+  answered = (h.answered, answer);
+  hold = ap (λ c. c.hold) e ∙ h.hold;
+  outgoing = ap (λ c. map posted c.outgoing.items) e ∙ h.outgoing;
+  taken = ap (λ c. c.taken) e ∙ h.taken;
+  token = ap (λ c. c.next_token) e ∙ h.token;
+  unread = ap (λ c. map received_by c.inbox.unread.items) e ∙ h.unread;
+  requests = ap (λ c. map request_by c.desk.waiting.items) e ∙ h.requests;
+  acknowledgments = ap (λ c. map (refusal_by w) c.desk.due.items) e ∙ h.acknowledgments;
+  holders = subst (λ t. Knows t (told_claims H)) (sym (ap (λ c. c.holders) e)) h.holders;
+  news = ap (λ c. c.news) e ∙ h.news;
+  missed = ap (λ c. c.inbox.missed) e ∙ h.missed;
+  lane = ap (lane_of w) e0 ∙ ap (λ (l : LaneRecord). record l { current = None }) h.lane;
+}
+
+pub none_ends : (w : Who) (H : List Call) (c : Controller) → Is w H c → (let none : Option (ℕ × Ending) = None in none) ≡ next_broadcast_ended w H
+    → Is w (TakeBroadcastEnded None ∷ H) c
+none_ends w H c h answer = record {
+  who = h.who;
+  answered = (h.answered, answer);
+  hold = h.hold;
+  outgoing = h.outgoing;
+  taken = h.taken;
+  token = h.token;
+  unread = h.unread;
+  requests = h.requests;
+  acknowledgments = h.acknowledgments;
+  holders = h.holders;
+  news = h.news;
+  missed = h.missed;
+  lane = h.lane;
+}

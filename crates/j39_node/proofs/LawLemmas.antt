@@ -6,6 +6,7 @@ use Rattle.j39_frame.specs.Frame.{FrameRecord}
 use Rattle.j39_frame.specs.Identifier.{source_of, pgn_of}
 use Rattle.j39_frame.specs.Network.{address_claimed_group}
 use Rattle.j39_address.specs.Claim.{claim_of}
+use Rattle.j39_transport.specs.Message.{MessageRecord, packets_of}
 use Rattle.j39_address.specs.declared.status.Status.TheVariants as status
 use Rattle.j39_node.specs.declared.controller.Controller.{Controller}
 use Rattle.j39_node.specs.declared.kinds.Ending.{Ending}
@@ -16,14 +17,15 @@ use Rattle.j39_node.specs.declared.kinds.News.{News}
 use Rattle.j39_node.specs.declared.kinds.News.TheVariants.{AddressLost, AnotherAtAddress, MessagesMissed}
 use Rattle.j39_node.specs.declared.kinds.Refused.{Refused}
 use Rattle.j39_node.specs.declared.kinds.Refused.TheVariants.{NoAddress, BadValue, Full}
-use Rattle.j39_node.specs.History.{Who, Message, Draft, Call, Address, IsFront, accepted, address_after, calls_for_claim, can_send, claim_address, claim_from, content, frames, got, heard, holds, is_claim, is_smaller, claimed, is_for_program, is_held, is_lost, kept, message_of, missed, moment, older, owes_claim, sent, step, told, Asked, asked, acknowledgment, acknowledgment_group, acknowledged, due, handed, requests, is_served, with_request, with_refusal, is_waiting, stamp_at, held_at, next_due, lost_news, another_news, missed_news}
-use Rattle.j39_node.specs.History.Call.{Hear, Tick, TakeFrame, Send, TakeEnded, TakeReceived, TakeRequest, TakeNews, Acknowledge}
+use Rattle.j39_node.specs.History.{Who, Message, Draft, Call, Address, IsFront, accepted, address_after, calls_for_claim, can_send, claim_address, claim_from, content, frames, got, heard, holds, is_claim, is_smaller, claimed, is_for_program, is_held, is_lost, kept, message_of, missed, moment, older, owes_claim, sent, step, told, Asked, asked, acknowledgment, acknowledgment_group, acknowledged, due, handed, requests, is_served, with_request, with_refusal, is_waiting, stamp_at, held_at, next_due, lost_news, another_news, missed_news, frame_of, has_packets, is_left, open_broadcast, packets, pause}
+use Rattle.j39_node.specs.History.Call.{Hear, Tick, TakeFrame, Send, TakeEnded, TakeReceived, TakeRequest, TakeNews, Acknowledge, Broadcast, TakeBroadcastEnded}
 use Rattle.j39_node.specs.History.Address.{NotClaimed, Claimed, Lost}
-use Rattle.j39_node.specs.Is.{Is, next_frame, end_of, status_of, status_after, news_of}
+use Rattle.j39_node.specs.Is.{Is, next_frame, next_packet, packet_by, end_of, status_of, status_after, news_of}
 use Rattle.j39_node.proofs.QueueLemmas.{get_within, length_one_more, length_map}
-use Rattle.j39_node.proofs.SoundLemmas.{Sound, sound, front_length, lost_older, lost_claimed, frame_by, due_get, due_taken, own_get, FrameCase, frame_case, SendCase, send_case, EndCase, end_case, claim_taken, message_taken}
-use Rattle.j39_node.proofs.CallLemmas.{acknowledge_is, acknowledges_by}
-use Rattle.j39_node.proofs.SoundLemmas.FrameCase.{claims, acknowledges, sends}
+use Rattle.j39_node.proofs.SoundLemmas.{Sound, sound, front_length, lost_older, lost_claimed, frame_by, due_get, due_taken, own_get, FrameCase, frame_case, SendCase, send_case, EndCase, end_case, claim_taken, message_taken, packet_taken, packet_case}
+use Rattle.j39_node.proofs.LaneLemmas.{laned, opened_by}
+use Rattle.j39_node.proofs.CallLemmas.{acknowledge_is, acknowledges_by, due_by}
+use Rattle.j39_node.proofs.SoundLemmas.FrameCase.{claims, acknowledges, sends, packs}
 use Rattle.j39_node.proofs.SoundLemmas.SendCase.{no_address, bad_value, full, accepts}
 use Rattle.j39_node.proofs.SoundLemmas.EndCase.{done, withdrawn}
 
@@ -39,6 +41,7 @@ moments w H c now f is = go (frame w H c now f is)
     go (claims o e) = ap (λ (x : ℕ × Message). x.0) e
     go (acknowledges m o h g e) = ap (λ (y : ℕ × Message). y.0) e
     go (sends x o h k g e) = ap (λ (y : ℕ × Message). y.0) e
+    go (packs m o h k past g e) = ap (λ (y : ℕ × Message). y.0) e
 
 pub sources : (w : Who) (H : List Call) (c : Controller) (now : ℕ) (f : FrameRecord) → Is w (TakeFrame now (Some f) ∷ H) c
     → (message_of f ≡ claim_from w (claim_address w (address_after w H)))
@@ -61,6 +64,15 @@ sources w H c now f is = go (frame w H c now f is)
           h,
           ap (λ (y : ℕ × Message). y.1.source) e ∙ own.source,
           λ z. (let a = message_taken w f now x e own in let b = eq-eqb (pgn_of f.id) address_claimed_group z in let d : true ≡ false = sym b ∙ a in absurd (cc)),
+        )
+    go (packs m o h k past g e) =
+        let p = packet_case (open_broadcast w H) (length (packets H)) (pause H - step H now) m g in
+        let is_own = (opened_by w _ _ _ (open_broadcast w H) (p.token, p.message) (laned w H is.answered.0) p.is).source in
+        let is = packet_taken f now m (open_broadcast w H) (length (packets H)) (pause H - step H now) e g in
+        inr (
+          h,
+          ap (λ (y : ℕ × Message). y.1.source) e ∙ (ap (λ (y : Message). y.source) p.frame ∙ is_own),
+          λ z. (let b = eq-eqb (pgn_of f.id) address_claimed_group z in let d : true ≡ false = sym b ∙ is.0 in absurd (cc)),
         )
 
 -- ---- accounted once
@@ -104,12 +116,12 @@ none_ended true l (Some x) e = absurd (cc)
 none_ended false true (Some x) e = absurd (cc)
 none_ended false false (Some x) e = inr (refl, refl)
 
-past_end : {T : Type 0} (L : List T) (n : ℕ) → slice_get L n ≡ None → length L ≤ n
+pub past_end : {T : Type 0} (L : List T) (n : ℕ) → slice_get L n ≡ None → length L ≤ n
 past_end [] n e = omega arith
 past_end (x ∷ L) zero e = absurd (cc)
 past_end (x ∷ L) (suc n) e = let h = past_end L n e in omega (arith, h)
 
-sent_within : (w : Who) (H : List Call) → Sound w H → length (sent H) ≤ length (accepted w H)
+pub sent_within : (w : Who) (H : List Call) → Sound w H → length (sent H) ≤ length (accepted w H)
 sent_within w H s = let a = front_length (sent H) (map content (accepted w H)) s.fronts in let b = length_map content (accepted w H) in omega (arith, a, b)
 
 pub all_told : (w : Who) (H : List Call) (c : Controller) → Is w (TakeEnded None ∷ H) c
@@ -150,9 +162,12 @@ pub none_waits : (w : Who) (H : List Call) (c : Controller) (now : ℕ) → Is w
 none_waits w H c now is held =
     go (owes_claim w H) (holds w H now) (slice_get (due w H) (length (acknowledged H))) (slice_get (accepted w H) (length (sent H))) held refl refl is.answered.1
   where
+    p : Option Message
+    p = next_packet w H now
+
     go : (o q : Bool) (a : Option Message) (z : Option (ℕ × Message)) → q ≡ true → slice_get (due w H) (length (acknowledged H)) ≡ a
         → slice_get (accepted w H) (length (sent H)) ≡ z
-        → (let none : Option (ℕ × Message) = None in none) ≡ frame_by o q a z (claim_from w (claim_address w (address_after w H))) now
+        → (let none : Option (ℕ × Message) = None in none) ≡ frame_by o q a z p (claim_from w (claim_address w (address_after w H))) now
         → (length (sent H) ≡ length (accepted w H)) × (length (acknowledged H) ≡ length (due w H))
     go true q a z b d f e = absurd (cc)
     go false false a z b d f e = absurd (cc)
@@ -171,7 +186,7 @@ none_waits w H c now is held =
 answers : (w : Who) (H : List Call) (c : Controller) (now : ℕ) (d : Draft) (answer : Result ℕ Refused) → Is w (Send now d answer ∷ H) c → SendCase w H now d answer
 answers w H c now d answer is = send_case w H now d answer is.answered.1
 
-not_both : (b : Bool) → b ≡ false → b ≡ true → ⊥
+pub not_both : (b : Bool) → b ≡ false → b ≡ true → ⊥
 not_both b e f = let z : false ≡ true = sym e ∙ f in absurd (cc)
 
 pub refused_address : (w : Who) (H : List Call) (c : Controller) (now : ℕ) (d : Draft) (answer : Result ℕ Refused)
@@ -246,7 +261,7 @@ whole_rest : {T : Type 0} (xs ys r : List T) → ys ≡ xs ++ r → length ys �
 whole_rest xs ys [] f l = sym (f ∙ append-nil xs)
 whole_rest xs ys (r ∷ rs) f l = absurd (let b = ap length f in let d = length-append xs (r ∷ rs) in omega (arith, b, d, l))
 
-whole : {T : Type 0} (xs ys : List T) → IsFront xs ys → length ys ≤ length xs → xs ≡ ys
+pub whole : {T : Type 0} (xs ys : List T) → IsFront xs ys → length ys ≤ length xs → xs ≡ ys
 whole xs ys (zs, e) l = whole_rest xs ys zs e l
 
 pub all_got : (w : Who) (H : List Call) (c : Controller) → Is w (TakeReceived None ∷ H) c → got H ≡ kept w H
@@ -269,6 +284,8 @@ counted w (TakeReceived answer ∷ H) = counted w H
 counted w (TakeRequest answer ∷ H) = counted w H
 counted w (TakeNews answer ∷ H) = counted w H
 counted w (Acknowledge now r answer result ∷ H) = counted w H
+counted w (Broadcast now group bytes answer ∷ H) = counted w H
+counted w (TakeBroadcastEnded answer ∷ H) = counted w H
 
 pub missed_full : (w : Who) (H : List Call) (f : FrameRecord) → missed w (Hear f ∷ H) ≢ missed w H → length (got H) + 16 ≤ length (kept w H)
 missed_full w H f n = go (is_for_program w (holds w H f.stamp) f) (nat_lt (length (kept w H) - length (got H)) 16) refl n
@@ -289,6 +306,7 @@ owed : (w : Who) (H : List Call) (now : ℕ) (f : FrameRecord) → FrameCase w H
 owed w H now f (claims o e) p = ap content e
 owed w H now f (acknowledges m o h g e) p = absurd (not_both _ o p)
 owed w H now f (sends x o h k g e) p = absurd (not_both _ o p)
+owed w H now f (packs m o h k past g e) p = absurd (not_both _ o p)
 
 or_true : (a b : Bool) → a ≡ true → (a || b) ≡ true
 or_true a b e = ap (λ (c : Bool). c || b) e
@@ -310,6 +328,8 @@ still_owed w (TakeReceived answer ∷ later) H e o = still_owed w later H e o
 still_owed w (TakeRequest answer ∷ later) H e o = still_owed w later H e o
 still_owed w (TakeNews answer ∷ later) H e o = still_owed w later H e o
 still_owed w (Acknowledge now r answer result ∷ later) H e o = still_owed w later H e o
+still_owed w (Broadcast now group bytes answer ∷ later) H e o = still_owed w later H e o
+still_owed w (TakeBroadcastEnded answer ∷ later) H e o = still_owed w later H e o
 
 pub next_claim : (w : Who) (H later : List Call) (c : Controller) (now : ℕ) (f g : FrameRecord)
     → Is w (TakeFrame now (Some g) ∷ later ++ Hear f ∷ H) c → frames later ≡ []
@@ -325,7 +345,7 @@ claims_at_once w H c now None is o z =
     go (owes_claim w H) (slice_get (due w H) (length (acknowledged H))) (slice_get (accepted w H) (length (sent H))) o is.answered.1
   where
     go : (b : Bool) (a : Option Message) (y : Option (ℕ × Message)) → b ≡ true
-        → (let none : Option (ℕ × Message) = None in none) ≡ frame_by b (holds w H now) a y (claim_from w (claim_address w (address_after w H))) now → ⊥
+        → (let none : Option (ℕ × Message) = None in none) ≡ frame_by b (holds w H now) a y (next_packet w H now) (claim_from w (claim_address w (address_after w H))) now → ⊥
     go true a y e f = absurd (cc)
     go false a y e f = absurd (cc)
 
@@ -339,6 +359,8 @@ claims_only w H c now f is z = go (frame w H c now f is)
         absurd (not_both _ (due_taken w f now m e (due_get w (due w H) (length (acknowledged H)) m (sound w H is.answered.0).desk.0 g)).0 (eq-eqb (pgn_of f.id) address_claimed_group z))
     go (sends x o h k g e) =
         absurd (not_both _ (message_taken w f now x e (own_get w (accepted w H) (length (sent H)) x (sound w H is.answered.0).own g)) (eq-eqb (pgn_of f.id) address_claimed_group z))
+    go (packs m o h k past g e) =
+        absurd (not_both _ (packet_taken f now m (open_broadcast w H) (length (packets H)) (pause H - step H now) e g).0 (eq-eqb (pgn_of f.id) address_claimed_group z))
 
 -- ---- who
 
@@ -390,7 +412,7 @@ has_room a b l = lt-ltb _ _ (omega (arith, l))
 has_none : (a b : ℕ) → b + 16 ≤ a → nat_lt (a - b) 16 ≡ false
 has_none a b l = grind arith
 
-is_false : (b : Bool) → (b ≡ true → ⊥) → b ≡ false
+pub is_false : (b : Bool) → (b ≡ true → ⊥) → b ≡ false
 is_false true n = absurd (n refl)
 is_false false n = refl
 
@@ -474,6 +496,7 @@ acknowledged_first w H c now f is n m = go (frame w H c now f is)
     go (acknowledges x o h g e) =
         absurd (m (ap (λ (y : ℕ × Message). y.1.group) e ∙ (due_get w (due w H) (length (acknowledged H)) x (sound w H is.answered.0).desk.0 g).group))
     go (sends x o h k g e) = whole (acknowledged H) (due w H) (sound w H is.answered.0).desk.1 (past_end (due w H) (length (acknowledged H)) k)
+    go (packs x o h k past g e) = whole (acknowledged H) (due w H) (sound w H is.answered.0).desk.1 (past_end (due w H) (length (acknowledged H)) k)
 
 pub is_acknowledged : (w : Who) (H : List Call) (c : Controller) (now : ℕ) (r : Asked) (a : Answer) (result : Result (Unit {0}) Refused)
     → Is w (Acknowledge now r a result ∷ H) c → IsTrue (holds w H now) → r.destination ≡ w.address → length (due w H) < length (acknowledged H) + 16
@@ -510,7 +533,7 @@ not_due : (w : Who) (H : List Call) (now : ℕ) (b : Bool) → moment H ≤ now 
 unfolding Quiet
 not_due w H now false l m q e = refl
 not_due w H now true l m q e =
-    absurd (let z = q (moment H) (ap (λ (b : Bool). if b then stamp_at (moment H) else held_at (address_after w H) (moment H)) e
+    absurd (let z = q (moment H) (ap (λ (b : Bool). due_by w H b (is_held (address_after w H) && has_packets w H)) e
     ∙ ap (λ (b : Bool). if b then Some (moment H) else None) (lt-ltb (moment H) 10000000000000000 (omega (arith, l, m)))) in omega (arith, z, l))
 
 not_held_yet : (w : Who) (H : List Call) (now : ℕ) (a : Address) → moment H ≤ now → now < 10000000000000000
@@ -552,25 +575,72 @@ past L n e = slice_get_past L n (not_lt n (length L) e)
     not_lt : (i k : ℕ) → nat_lt i k ≡ false → k ≤ i
     not_lt i k f = grind arith
 
-none_by : (h : Bool) (x : Option Message) (y : Option (ℕ × Message)) (m : Message) (now : ℕ) → (h ≡ false) ⊎ ((x ≡ None) × (y ≡ None)) → frame_by false h x y m now ≡ None
-none_by false x y m now e = refl
-none_by true x y m now (inl e) = absurd (cc)
-none_by true x y m now (inr e) = ap (λ z. frame_by false true z y m now) e.0 ∙ ap (λ z. frame_by false true None z m now) e.1
+none_by : (h : Bool) (x : Option Message) (y : Option (ℕ × Message)) (p : Option Message) (m : Message) (now : ℕ)
+    → (h ≡ false) ⊎ ((x ≡ None) × (y ≡ None) × (p ≡ None)) → frame_by false h x y p m now ≡ None
+none_by false x y p m now e = refl
+none_by true x y p m now (inl e) = absurd (cc)
+none_by true x y p m now (inr e) =
+    ap (λ z. frame_by false true z y p m now) e.0 ∙ (ap (λ z. frame_by false true None z p m now) e.1 ∙ ap (λ z. frame_by false true None None z m now) e.2)
+
+-- a frame of packets that isn't there, or whose pause isn't over
+no_packet : (o : Option (ℕ × MessageRecord)) (i left : ℕ) → (is_left o i ≡ false) ⊎ (nat_eq left 0 ≡ false) → packet_by o i left ≡ None
+no_packet None i left e = refl
+no_packet (Some x) i left e = go (nat_eq left 0) (nat_le i (packets_of x.1)) e
+  where
+    go : (a b : Bool) → (b ≡ false) ⊎ (a ≡ false) → (if a && b then Some (frame_of x.1 i) else None) ≡ None
+    go false b e = refl
+    go true false e = refl
+    go true true (inl e) = absurd (cc)
+    go true true (inr e) = absurd (cc)
+
+-- what next_due tells where no frame can be taken at the moment of the last call
+due_later : (w : Who) (H : List Call) (l : Bool) → (owes_claim w H || (is_held (address_after w H) && is_waiting w H)) ≡ false
+    → (is_held (address_after w H) && has_packets w H) ≡ l → next_due w H ≡ due_by w H false l
+due_later w H l e f =
+    ap (λ (b : Bool). due_by w H b (is_held (address_after w H) && has_packets w H)) e ∙ ap (due_by w H false) f
+
+-- the pause isn't over
+still_pauses : (w : Who) (H : List Call) (now : ℕ) → moment H ≤ now → now < 10000000000000000 → Quiet w H now
+    → next_due w H ≡ stamp_at (moment H + pause H) → nat_eq (pause H - step H now) 0 ≡ false
+unfolding Quiet
+still_pauses w H now l m q e = go (nat_lt (moment H + pause H) 10000000000000000) refl
+  where
+    short : (p s x : ℕ) → x < s + p → s ≤ x → nat_eq (p - (x - s)) 0 ≡ false
+    short p s x f g = grind arith
+
+    far : (k : ℕ) → nat_lt k 10000000000000000 ≡ false → 10000000000000000 ≤ k
+    far k g = grind arith
+
+    go : (b : Bool) → nat_lt (moment H + pause H) 10000000000000000 ≡ b → nat_eq (pause H - step H now) 0 ≡ false
+    go true f = short (pause H) (moment H) now (q (moment H + pause H) (e ∙ ap (λ (b : Bool). if b then Some (moment H + pause H) else None) f)) l
+    go false f = short (pause H) (moment H) now (let y = far _ f in omega (arith, y, m)) l
 
 nothing_taken : (w : Who) (H : List Call) (now : ℕ) → moment H ≤ now → now < 10000000000000000 → Quiet w H now → next_frame w H now ≡ None
 unfolding Quiet
 nothing_taken w H now l m q =
-    let n = not_due w H now _ l m q refl in
-    let o = or_false (owes_claim w H) _ n in
-    let c = claim_from w (claim_address w (address_after w H)) in
-    ap (λ (b : Bool). frame_by b (holds w H now) (slice_get (due w H) (length (acknowledged H))) (slice_get (accepted w H) (length (sent H))) c now) o.0
-    ∙ none_by (holds w H now) _ _ c now (elim (and_cases (is_held (address_after w H)) (is_waiting w H) o.1) [
-      | inl z ↦ inl (not_held_yet w H now (address_after w H) l m (λ t e. q t (due_later n ∙ e)) z)
-      | inr z ↦ (let v = or_false _ _ z in inr (past (due w H) (length (acknowledged H)) v.1, past (accepted w H) (length (sent H)) v.0))
-    ])
+    ap (λ (b : Bool). frame_by b (holds w H now) (slice_get (due w H) (length (acknowledged H))) (slice_get (accepted w H) (length (sent H))) (next_packet w H now) c now) o.0
+    ∙ none_by (holds w H now) _ _ _ c now (held (is_held (address_after w H)) refl)
   where
-    due_later : (owes_claim w H || (is_held (address_after w H) && is_waiting w H)) ≡ false → next_due w H ≡ held_at (address_after w H) (moment H)
-    due_later e = ap (λ (b : Bool). if b then stamp_at (moment H) else held_at (address_after w H) (moment H)) e
+    c : Message
+    c = claim_from w (claim_address w (address_after w H))
+
+    n : (owes_claim w H || (is_held (address_after w H) && is_waiting w H)) ≡ false
+    n = not_due w H now _ l m q refl
+
+    o : (owes_claim w H ≡ false) × ((is_held (address_after w H) && is_waiting w H) ≡ false)
+    o = or_false (owes_claim w H) _ n
+
+    packet : (b : Bool) → is_held (address_after w H) ≡ true → has_packets w H ≡ b → next_packet w H now ≡ None
+    packet false z f = no_packet (open_broadcast w H) (length (packets H)) (pause H - step H now) (inl f)
+    packet true z f = no_packet (open_broadcast w H) (length (packets H)) (pause H - step H now)
+        (inr (still_pauses w H now l m q (due_later w H true n (ap (λ (b : Bool). b && has_packets w H) z ∙ f))))
+
+    held : (b : Bool) → is_held (address_after w H) ≡ b
+        → (holds w H now ≡ false) ⊎ ((slice_get (due w H) (length (acknowledged H)) ≡ None) × (slice_get (accepted w H) (length (sent H)) ≡ None) × (next_packet w H now ≡ None))
+    held false z = inl (not_held_yet w H now (address_after w H) l m (λ t e. q t (due_later w H false n (ap (λ (b : Bool). b && has_packets w H) z) ∙ e)) z)
+    held true z =
+        let v = or_false _ _ (sym (ap (λ (b : Bool). b && is_waiting w H) z) ∙ o.1) in
+        inr (past (due w H) (length (acknowledged H)) v.1, past (accepted w H) (length (sent H)) v.0, packet (has_packets w H) z refl)
 
 pub quiet : (w : Who) (H : List Call) (c : Controller) (now : ℕ) (answer : Option FrameRecord) → Is w (TakeFrame now answer ∷ H) c → moment H ≤ now
     → now < 10000000000000000 → ((t : ℕ) → next_due w H ≡ Some t → now < t) → answer ≡ None
@@ -602,40 +672,68 @@ held_at_later (Claimed n) m e = go (nat_lt n 250000) (nat_lt (m + (250000 - n)) 
     go true false f g = absurd (cc)
     go true true f g = let x : m + (250000 - n) ≡ m = cc in let y = ltb-true n 250000 f in absurd (omega (arith, x, y))
 
-some_by : (o h : Bool) (x : Option Message) (y : Option (ℕ × Message)) (m : Message) (now : ℕ) → (o ≡ true) ⊎ ((h ≡ true) × ((x ≡ None) × (y ≡ None) → ⊥))
-    → (let none : Option (ℕ × Message) = None in none) ≡ frame_by o h x y m now → ⊥
-some_by true h x y m now e f = absurd (cc)
-some_by false false x y m now (inl e) f = absurd (cc)
-some_by false false x y m now (inr e) f = absurd (let z = e.0 in cc)
-some_by false true (Some a) y m now e f = absurd (cc)
-some_by false true None (Some b) m now e f = absurd (cc)
-some_by false true None None m now (inl e) f = absurd (cc)
-some_by false true None None m now (inr e) f = e.1 (refl, refl)
+some_by : (o h : Bool) (x : Option Message) (y : Option (ℕ × Message)) (p : Option Message) (m : Message) (now : ℕ)
+    → (o ≡ true) ⊎ ((h ≡ true) × ((x ≡ None) × (y ≡ None) × (p ≡ None) → ⊥))
+    → (let none : Option (ℕ × Message) = None in none) ≡ frame_by o h x y p m now → ⊥
+some_by true h x y p m now e f = absurd (cc)
+some_by false false x y p m now (inl e) f = absurd (cc)
+some_by false false x y p m now (inr e) f = absurd (let z = e.0 in cc)
+some_by false true (Some a) y p m now e f = absurd (cc)
+some_by false true None (Some b) p m now e f = absurd (cc)
+some_by false true None None (Some d) m now e f = absurd (cc)
+some_by false true None None None m now (inl e) f = absurd (cc)
+some_by false true None None None m now (inr e) f = e.1 (refl, refl, refl)
+
+-- the next frame of the open broadcast, once the pause is over
+some_packet : (o : Option (ℕ × MessageRecord)) (i left : ℕ) → is_left o i ≡ true → left ≡ 0 → packet_by o i left ≡ None → ⊥
+some_packet None i left e f g = absurd (cc)
+some_packet (Some x) i left e f g = go (nat_eq left 0) (nat_le i (packets_of x.1)) (eq-eqb _ _ f) e g
+  where
+    go : (a b : Bool) → a ≡ true → b ≡ true → (if a && b then Some (frame_of x.1 i) else None) ≡ None → ⊥
+    go true true p q r = absurd (cc)
+    go true false p q r = absurd (cc)
+    go false b p q r = absurd (cc)
+
+no_pause : (m p : ℕ) → stamp_at (m + p) ≡ Some m → p ≡ 0
+no_pause m p e = go (nat_lt (m + p) 10000000000000000) e
+  where
+    go : (b : Bool) → (if b then Some (m + p) else None) ≡ Some m → p ≡ 0
+    go true f = let z : m + p ≡ m = cc in omega (arith, z)
+    go false f = absurd (cc)
 
 pub due_now : (w : Who) (H : List Call) (c : Controller) (now : ℕ) (answer : Option FrameRecord) → Is w (TakeFrame now answer ∷ H) c
     → next_due w H ≡ Some (moment H) → answer ≢ None
 due_now w H c now (Some f) is e z = absurd (cc)
-due_now w H c now None is e z = go (owes_claim w H) (is_held (address_after w H)) (is_waiting w H) refl refl refl
+due_now w H c now None is e z = go (owes_claim w H) (is_held (address_after w H)) (is_waiting w H) (has_packets w H) refl refl refl refl
   where
-    by : (owes_claim w H ≡ true) ⊎ ((holds w H now ≡ true) × ((slice_get (due w H) (length (acknowledged H)) ≡ None) × (slice_get (accepted w H) (length (sent H)) ≡ None) → ⊥)) → ⊥
-    by x = some_by (owes_claim w H) (holds w H now) (slice_get (due w H) (length (acknowledged H))) (slice_get (accepted w H) (length (sent H)))
+    by : (owes_claim w H ≡ true)
+        ⊎ ((holds w H now ≡ true) × ((slice_get (due w H) (length (acknowledged H)) ≡ None) × (slice_get (accepted w H) (length (sent H)) ≡ None) × (next_packet w H now ≡ None) → ⊥)) → ⊥
+    by x = some_by (owes_claim w H) (holds w H now) (slice_get (due w H) (length (acknowledged H))) (slice_get (accepted w H) (length (sent H))) (next_packet w H now)
         (claim_from w (claim_address w (address_after w H))) now x is.answered.1
 
-    later : (owes_claim w H || (is_held (address_after w H) && is_waiting w H)) ≡ false → ⊥
-    later f = held_at_later (address_after w H) (moment H)
-        (sym (ap (λ (b : Bool). if b then stamp_at (moment H) else held_at (address_after w H) (moment H)) f) ∙ e)
+    later : (owes_claim w H || (is_held (address_after w H) && is_waiting w H)) ≡ false → (is_held (address_after w H) && has_packets w H) ≡ false → ⊥
+    later f g = held_at_later (address_after w H) (moment H) (sym (due_later w H false f g) ∙ e)
 
-    go : (o h x : Bool) → owes_claim w H ≡ o → is_held (address_after w H) ≡ h → is_waiting w H ≡ x → ⊥
-    go true h x p q r = by (inl p)
-    go false true true p q r = by (inr (
+    none : (h x : Bool) → owes_claim w H ≡ false → is_held (address_after w H) ≡ h → is_waiting w H ≡ x → (h && x) ≡ false
+        → (owes_claim w H || (is_held (address_after w H) && is_waiting w H)) ≡ false
+    none h x p q r s = ap (λ (u : Bool). u || (is_held (address_after w H) && is_waiting w H)) p ∙ (ap (λ (u : Bool). u && is_waiting w H) q ∙ (ap (λ (u : Bool). h && u) r ∙ s))
+
+    go : (o h x l : Bool) → owes_claim w H ≡ o → is_held (address_after w H) ≡ h → is_waiting w H ≡ x → has_packets w H ≡ l → ⊥
+    go true h x l p q r s = by (inl p)
+    go false true true l p q r s = by (inr (
       held_later (address_after w H) _ q,
       λ n. (let a = there (due w H) (length (acknowledged H)) n.0 in let b = there (accepted w H) (length (sent H)) n.1 in
           let d : is_waiting w H ≡ false = ap (λ (u : Bool). u || nat_lt (length (acknowledged H)) (length (due w H))) b ∙ a in
           not_both _ d r),
     ))
-    go false false x p q r = later (ap (λ (u : Bool). u || (is_held (address_after w H) && is_waiting w H)) p ∙ ap (λ (u : Bool). u && is_waiting w H) q)
-    go false true false p q r = later (ap (λ (u : Bool). u || (is_held (address_after w H) && is_waiting w H)) p
-        ∙ (ap (λ (u : Bool). u && is_waiting w H) q ∙ r))
+    go false true false true p q r s =
+        let over = no_pause (moment H) (pause H) (sym (due_later w H true (none true false p q r refl) (ap (λ (u : Bool). u && has_packets w H) q ∙ s)) ∙ e) in
+        by (inr (
+          held_later (address_after w H) _ q,
+          λ n. some_packet (open_broadcast w H) (length (packets H)) (pause H - step H now) s (omega (arith, over)) n.2,
+        ))
+    go false false x l p q r s = later (none false x p q r refl) (ap (λ (u : Bool). u && has_packets w H) q)
+    go false true false false p q r s = later (none true false p q r refl) (ap (λ (u : Bool). u && has_packets w H) q ∙ s)
 
 -- ---- news
 
@@ -692,6 +790,8 @@ lost_is_lost w (TakeNews (Some AddressLost) ∷ H) e = absurd (cc)
 lost_is_lost w (TakeNews (Some AnotherAtAddress) ∷ H) e = lost_is_lost w H e
 lost_is_lost w (TakeNews (Some MessagesMissed) ∷ H) e = lost_is_lost w H e
 lost_is_lost w (Acknowledge now r answer result ∷ H) e = lost_older (step H now) (address_after w H) ∙ lost_is_lost w H e
+lost_is_lost w (Broadcast now group bytes answer ∷ H) e = lost_older (step H now) (address_after w H) ∙ lost_is_lost w H e
+lost_is_lost w (TakeBroadcastEnded answer ∷ H) e = lost_is_lost w H e
 
 still_missed : (b : Bool) (m : ℕ) → 0 < m → 0 < (if b then suc m else m)
 still_missed true m l = omega (arith, l)
@@ -719,3 +819,5 @@ some_missed w (TakeNews (Some AddressLost) ∷ H) e = some_missed w H e
 some_missed w (TakeNews (Some AnotherAtAddress) ∷ H) e = some_missed w H e
 some_missed w (TakeNews (Some MessagesMissed) ∷ H) e = absurd (cc)
 some_missed w (Acknowledge now r answer result ∷ H) e = some_missed w H e
+some_missed w (Broadcast now group bytes answer ∷ H) e = some_missed w H e
+some_missed w (TakeBroadcastEnded answer ∷ H) e = some_missed w H e

@@ -1,15 +1,15 @@
 -- A claimed address was claimed by a frame that was taken.
-use Rattle.std.proofs.Common.{◌≡◌, ◌≤◌, ℕ, ◌+◌, ◌-◌, List, [], ◌∷◌, ◌++◌, Option, Some, None, Bool, true, false, if◌then◌else◌, nat_le, IsTrue, refl, sym, ap, ◌∙◌, subst, arith}
+use Rattle.std.proofs.Common.{◌≡◌, ◌≤◌, ℕ, ◌+◌, ◌-◌, List, [], ◌∷◌, length, Some, None, Bool, true, false, if◌then◌else◌, nat_le, IsTrue, refl, sym, ap, ◌∙◌, subst, arith}
 use Rattle.j39_frame.specs.Frame.{FrameRecord}
 use Rattle.j39_address.specs.Claim.{claim_of}
 use Rattle.j39_node.specs.declared.controller.Controller.{Controller}
-use Rattle.j39_node.specs.History.{Who, Message, Call, Address, address_after, claim_address, claim_from, claimed, content, holds, is_claim, is_held, is_smaller, message_of, moment, older, step}
-use Rattle.j39_node.specs.History.Call.{Hear, Tick, TakeFrame, Send, TakeEnded, TakeReceived, TakeRequest, TakeNews, Acknowledge}
+use Rattle.j39_node.specs.History.{Who, Call, Address, address_after, claim_address, claim_from, claimed, content, holds, is_claim, is_held, is_smaller, moment, older, open_broadcast, packets, pause, step}
+use Rattle.j39_node.specs.History.Call.{Hear, Tick, TakeFrame, Send, TakeEnded, TakeReceived, TakeRequest, TakeNews, Acknowledge, Broadcast, TakeBroadcastEnded}
 use Rattle.j39_node.specs.History.Address.{NotClaimed, Claimed, Lost}
 use Rattle.j39_node.specs.Is.{Is, AreAnswered}
-use Rattle.j39_node.specs.Since.{ClaimedSince, NoneDrivesAway, drives_away, passed_in}
-use Rattle.j39_node.proofs.SoundLemmas.{FrameCase, frame_case, own_get, due_get, due_taken, message_taken, sound}
-use Rattle.j39_node.proofs.SoundLemmas.FrameCase.{claims, acknowledges, sends}
+use Rattle.j39_node.specs.Since.{ClaimedSince, drives_away, passed_in}
+use Rattle.j39_node.proofs.SoundLemmas.{FrameCase, frame_case, own_get, due_get, due_taken, message_taken, packet_taken, sound}
+use Rattle.j39_node.proofs.SoundLemmas.FrameCase.{claims, acknowledges, sends, packs}
 
 -- one call later
 one_later : (w : Who) (H : List Call) (call : Call) (e d : ℕ) → ClaimedSince w H e → drives_away w call ≡ false → d ≡ e + step H (moment (call ∷ H))
@@ -70,6 +70,8 @@ begins w H now f right (acknowledges m o h g e) k a =
     absurd (let z = (due_taken w f now m e (due_get w _ _ m (sound w H right).desk.0 g)).0 in let y : true ≡ false = sym k ∙ z in cc)
 begins w H now f right (sends x o h n g e) k a =
     absurd (let z = message_taken w f now x e (own_get w _ _ x (sound w H right).own g) in let y : true ≡ false = sym k ∙ z in cc)
+begins w H now f right (packs m o h n past g e) k a =
+    absurd (let z = (packet_taken f now m (open_broadcast w H) (length (packets H)) (pause H - step H now) e g).0 in let y : true ≡ false = sym k ∙ z in cc)
 
 taken : (w : Who) (H : List Call) (now d : ℕ) (f : FrameRecord) → AreAnswered w H → FrameCase w H now f
     → ((n : ℕ) → address_after w H ≡ Claimed n → ClaimedSince w H n)
@@ -99,6 +101,9 @@ claimed_since w (TakeRequest answer ∷ H) d right e = rests w H (TakeRequest an
 claimed_since w (TakeNews answer ∷ H) d right e = rests w H (TakeNews answer) d (λ k i. claimed_since w H k right.0 i) refl refl e
 claimed_since w (Acknowledge now r answer result ∷ H) d right e =
     passes w H (Acknowledge now r answer result) d (λ k i. claimed_since w H k right.0 i) refl e
+claimed_since w (Broadcast now group bytes answer ∷ H) d right e =
+    passes w H (Broadcast now group bytes answer) d (λ k i. claimed_since w H k right.0 i) refl e
+claimed_since w (TakeBroadcastEnded answer ∷ H) d right e = rests w H (TakeBroadcastEnded answer) d (λ k i. claimed_since w H k right.0 i) refl refl e
 
 held_cases : (s : ℕ) (a : Address) → is_held (older s a) ≡ true → (e : ℕ) × (a ≡ Claimed e) × (250000 ≤ e + s)
 held_cases s NotClaimed h = absurd (cc)

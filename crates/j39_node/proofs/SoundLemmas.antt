@@ -1,21 +1,22 @@
 -- What every answered history says of what was accepted, sent and told.
-use Rattle.std.proofs.Common.{◌≡◌, ℕ, zero, suc, ◌-◌, ◌≤◌, List, [], ◌∷◌, ◌++◌, length, map, Option, Some, None, Result, Ok, Err, Bool, true, false, not, ◌&&◌, ◌||◌, if◌then◌else◌, nat_eq, nat_lt, refl, sym, ap, ◌∙◌, subst, inl, inr, arith, append_assoc, length-append, eq-eqb, ltb-true}
+use Rattle.std.proofs.Common.{◌≡◌, ℕ, zero, suc, ◌-◌, ◌≤◌, List, [], ◌∷◌, ◌++◌, length, map, Option, Some, None, Result, Ok, Err, Bool, true, false, not, ◌&&◌, ◌||◌, if◌then◌else◌, nat_eq, nat_lt, nat_le, ◌==◌, refl, sym, ap, ◌∙◌, subst, inl, inr, arith, append_assoc, length-append, eq-eqb, eqb-true, ltb-true}
 use Rattle.std.specs.List.{slice_get}
 use Rattle.std.specs.Option.{option_map}
 use Rattle.j39_frame.specs.Frame.{FrameRecord}
 use Rattle.j39_frame.specs.Identifier.{pgn_of}
 use Rattle.j39_frame.specs.Network.{address_claimed_group, transport_control_group, transport_data_group}
 use Rattle.j39_address.specs.Claim.{claim_of}
+use Rattle.j39_transport.specs.Message.{MessageRecord, packets_of}
 use Rattle.j39_node.specs.declared.kinds.Ending.{Ending}
 use Rattle.j39_node.specs.declared.kinds.Ending.TheVariants.{Done, Withdrawn}
 use Rattle.j39_node.specs.declared.kinds.Answer.{Answer}
 use Rattle.j39_node.specs.declared.kinds.Answer.TheVariants.{Nack, Busy}
 use Rattle.j39_node.specs.declared.kinds.Refused.{Refused}
 use Rattle.j39_node.specs.declared.kinds.Refused.TheVariants.{NoAddress, BadValue, Full}
-use Rattle.j39_node.specs.History.{Who, Message, Draft, Call, Address, message_of, older, claimed, address_after, holds, is_lost, is_held, is_claim, is_smaller, claim_address, claim_from, owes_claim, can_send, is_own_group, message_from, accepted, sent, told, is_full, step, content, IsFront, got, kept, Asked, asked, acknowledgment_group, is_acknowledgment, acknowledgment, acknowledged, due, handed, requests, is_served, with_request, with_refusal}
-use Rattle.j39_node.specs.History.Call.{Hear, Tick, TakeFrame, Send, TakeEnded, TakeReceived, TakeRequest, TakeNews, Acknowledge}
+use Rattle.j39_node.specs.History.{Who, Message, Draft, Call, Address, message_of, older, claimed, address_after, holds, is_lost, is_held, is_claim, is_smaller, claim_address, claim_from, owes_claim, can_send, is_own_group, message_from, accepted, sent, told, is_full, step, content, IsFront, got, kept, Asked, asked, acknowledgment_group, is_acknowledgment, acknowledgment, acknowledged, due, handed, requests, is_served, with_request, with_refusal, is_sendable, is_packet, frame_of, open_broadcast, packets, pause}
+use Rattle.j39_node.specs.History.Call.{Hear, Tick, TakeFrame, Send, TakeEnded, TakeReceived, TakeRequest, TakeNews, Acknowledge, Broadcast, TakeBroadcastEnded}
 use Rattle.j39_node.specs.History.Address.{NotClaimed, Claimed, Lost}
-use Rattle.j39_node.specs.Is.{AreAnswered, IsAnswered, stamped, first_of, next_frame, next_ended, end_of, answer_to_send}
+use Rattle.j39_node.specs.Is.{AreAnswered, IsAnswered, stamped, first_of, packet_by, next_packet, next_frame, next_ended, end_of, answer_to_send}
 use Rattle.j39_node.proofs.QueueLemmas.{get_within, get_append, get_map, length_one_more, map_append}
 
 -- ---- the address
@@ -46,23 +47,69 @@ pub data FrameCase (w : Who) (H : List Call) (now : ℕ) (f : FrameRecord) : Typ
       → stamped f ≡ (now, m) → FrameCase w H now f
   sends : (x : ℕ × Message) → owes_claim w H ≡ false → holds w H now ≡ true → slice_get (due w H) (length (acknowledged H)) ≡ None
       → slice_get (accepted w H) (length (sent H)) ≡ Some x → stamped f ≡ (now, x.1) → FrameCase w H now f
+  packs : (m : Message) → owes_claim w H ≡ false → holds w H now ≡ true → slice_get (due w H) (length (acknowledged H)) ≡ None
+      → slice_get (accepted w H) (length (sent H)) ≡ None → next_packet w H now ≡ Some m → stamped f ≡ (now, m) → FrameCase w H now f
 
 -- the next frame, by what it hangs on
-abbrev pub frame_by : Bool → Bool → Option Message → Option (ℕ × Message) → Message → ℕ → Option (ℕ × Message)
-frame_by owes held a o claim now = if owes then Some (now, claim) else if held then option_map (λ m. (now, m)) (first_of a o) else None
+abbrev pub frame_by : Bool → Bool → Option Message → Option (ℕ × Message) → Option Message → Message → ℕ → Option (ℕ × Message)
+frame_by owes held a o p claim now = if owes then Some (now, claim) else if held then option_map (λ m. (now, m)) (first_of a o p) else None
 
 pub frame_case : (w : Who) (H : List Call) (now : ℕ) (f : FrameRecord) → Some (stamped f) ≡ next_frame w H now → FrameCase w H now f
 frame_case w H now f e =
-    go (owes_claim w H) (holds w H now) (slice_get (due w H) (length (acknowledged H))) (slice_get (accepted w H) (length (sent H))) refl refl refl refl e
+    go (owes_claim w H) (holds w H now) (slice_get (due w H) (length (acknowledged H))) (slice_get (accepted w H) (length (sent H))) (next_packet w H now) refl refl refl refl refl e
   where
-    go : (b h : Bool) (a : Option Message) (o : Option (ℕ × Message)) → owes_claim w H ≡ b → holds w H now ≡ h
-        → slice_get (due w H) (length (acknowledged H)) ≡ a → slice_get (accepted w H) (length (sent H)) ≡ o
-        → Some (stamped f) ≡ frame_by b h a o (claim_from w (claim_address w (address_after w H))) now → FrameCase w H now f
-    go true h a o p q k r i = claims p (let z : stamped f ≡ (now, claim_from w (claim_address w (address_after w H))) = cc in z)
-    go false false a o p q k r i = absurd (cc)
-    go false true (Some m) o p q k r i = acknowledges m p q k (let z : stamped f ≡ (now, m) = cc in z)
-    go false true None None p q k r i = absurd (cc)
-    go false true None (Some x) p q k r i = sends x p q k r (let z : stamped f ≡ (now, x.1) = cc in z)
+    go : (b h : Bool) (a : Option Message) (o : Option (ℕ × Message)) (y : Option Message) → owes_claim w H ≡ b → holds w H now ≡ h
+        → slice_get (due w H) (length (acknowledged H)) ≡ a → slice_get (accepted w H) (length (sent H)) ≡ o → next_packet w H now ≡ y
+        → Some (stamped f) ≡ frame_by b h a o y (claim_from w (claim_address w (address_after w H))) now → FrameCase w H now f
+    go true h a o y p q k r s i = claims p (let z : stamped f ≡ (now, claim_from w (claim_address w (address_after w H))) = cc in z)
+    go false false a o y p q k r s i = absurd (cc)
+    go false true (Some m) o y p q k r s i = acknowledges m p q k (let z : stamped f ≡ (now, m) = cc in z)
+    go false true None None None p q k r s i = absurd (cc)
+    go false true None None (Some m) p q k r s i = packs m p q k r s (let z : stamped f ≡ (now, m) = cc in z)
+    go false true None (Some x) y p q k r s i = sends x p q k r (let z : stamped f ≡ (now, x.1) = cc in z)
+
+-- which frame of a broadcast is next
+pub record PacketCase (o : Option (ℕ × MessageRecord)) (i left : ℕ) (m : Message) : Type 0 where
+  pub token : ℕ
+  pub message : MessageRecord
+  pub is : o ≡ Some (token, message)
+  pub over : left ≡ 0
+  pub within : i ≤ packets_of message
+  pub frame : m ≡ frame_of message i
+
+pub packet_case : (o : Option (ℕ × MessageRecord)) (i left : ℕ) (m : Message) → packet_by o i left ≡ Some m → PacketCase o i left m
+packet_case None i left m e = absurd (cc)
+packet_case (Some x) i left m e = go (nat_eq left 0) (nat_le i (packets_of x.1)) refl refl e
+  where
+    le_is : (k n : ℕ) → nat_le k n ≡ true → k ≤ n
+    le_is k n f = grind arith
+
+    go : (a b : Bool) → nat_eq left 0 ≡ a → nat_le i (packets_of x.1) ≡ b → (if a && b then Some (frame_of x.1 i) else None) ≡ Some m → PacketCase (Some x) i left m
+    go true true p q r = record { token = x.0; message = x.1; is = refl; over = eqb-true _ _ p; within = le_is _ _ q; frame = (let z : frame_of x.1 i ≡ m = cc in sym z) }
+    go true false p q r = absurd (cc)
+    go false b p q r = absurd (cc)
+
+packet_frame : (f : FrameRecord) (now : ℕ) (m : MessageRecord) (i : ℕ) → stamped f ≡ (now, frame_of m i)
+    → (is_claim f ≡ false) × (is_acknowledgment f ≡ false) × (is_packet f ≡ true)
+packet_frame f now m i e = go (i == 0) (ap (λ (y : ℕ × Message). y.1.group) e)
+  where
+    go : (b : Bool) → pgn_of f.id ≡ (if b then transport_control_group else transport_data_group)
+        → (is_claim f ≡ false) × (is_acknowledgment f ≡ false) × (is_packet f ≡ true)
+    go true z = (
+      ap (λ (g : ℕ). nat_eq g address_claimed_group) z,
+      ap (λ (g : ℕ). nat_eq g acknowledgment_group) z,
+      ap (λ (g : ℕ). nat_eq g transport_control_group || nat_eq g transport_data_group) z,
+    )
+    go false z = (
+      ap (λ (g : ℕ). nat_eq g address_claimed_group) z,
+      ap (λ (g : ℕ). nat_eq g acknowledgment_group) z,
+      ap (λ (g : ℕ). nat_eq g transport_control_group || nat_eq g transport_data_group) z,
+    )
+
+pub packet_taken : (f : FrameRecord) (now : ℕ) (m : Message) (o : Option (ℕ × MessageRecord)) (i left : ℕ) → stamped f ≡ (now, m) → packet_by o i left ≡ Some m
+    → (is_claim f ≡ false) × (is_acknowledgment f ≡ false) × (is_packet f ≡ true)
+packet_taken f now m o i left e g =
+    let x = packet_case o i left m g in packet_frame f now x.message i (e ∙ ap (λ (y : Message). (let z : ℕ × Message = (now, y) in z)) x.frame)
 
 -- ---- all that is accepted is the controller's own
 
@@ -70,6 +117,7 @@ pub record IsOwn (w : Who) (m : Message) : Type 0 where
   pub source : m.source ≡ w.address
   pub group : nat_eq m.group address_claimed_group ≡ false
   pub plain : nat_eq m.group acknowledgment_group ≡ false
+  pub single : (nat_eq m.group transport_control_group || nat_eq m.group transport_data_group) ≡ false
 
 abbrev pub AllOwn : Who → List (ℕ × Message) → Type 0
 AllOwn w [] = Unit {0}
@@ -165,12 +213,17 @@ no false e = refl
 is_own : (w : Who) (d : Draft) → can_send w d ≡ true → IsOwn w (message_from w d)
 is_own w d e =
     let a = both (nat_lt d.priority 8) _ e in
-    let b = both _ _ a.1 in
-    let c = both (not (is_own_group d.group || nat_eq d.group acknowledgment_group)) _ b.1 in
-    let k = neither (is_own_group d.group) _ c.0 in
+    let b = both (is_sendable d.group) _ a.1 in
+    let c = both _ (not (is_own_group d.group || nat_eq d.group acknowledgment_group)) b.0 in
+    let k = neither (is_own_group d.group) _ c.1 in
     let n = neither (nat_eq d.group transport_control_group) (nat_eq d.group transport_data_group || nat_eq d.group address_claimed_group) (ap not k.0) in
     let m = neither (nat_eq d.group transport_data_group) _ n.1 in
-    record { source = refl; group = no _ m.1; plain = no _ k.1 }
+    record {
+      source = refl;
+      group = no _ m.1;
+      plain = no _ k.1;
+      single = ap (λ (x : Bool). x || nat_eq d.group transport_data_group) n.0 ∙ m.0;
+    }
 
 -- ---- what send answers
 
@@ -225,15 +278,35 @@ message_taken w f now x e own = let z = ap (λ (y : ℕ × Message). y.1.group) 
 pub plain_taken : (w : Who) (f : FrameRecord) (now : ℕ) (x : ℕ × Message) → stamped f ≡ (now, x.1) → IsOwn w x.1 → is_acknowledgment f ≡ false
 plain_taken w f now x e own = let z = ap (λ (y : ℕ × Message). y.1.group) e in ap (λ (g : ℕ). nat_eq g acknowledgment_group) z ∙ own.plain
 
-pub due_taken : (w : Who) (f : FrameRecord) (now : ℕ) (m : Message) → stamped f ≡ (now, m) → IsDue w m → (is_claim f ≡ false) × (is_acknowledgment f ≡ true)
-due_taken w f now m e is =
-    let z : pgn_of f.id ≡ acknowledgment_group = ap (λ (y : ℕ × Message). y.1.group) e ∙ is.group in
-    (ap (λ (g : ℕ). nat_eq g address_claimed_group) z, eq-eqb _ _ z)
+pub single_taken : (w : Who) (f : FrameRecord) (now : ℕ) (x : ℕ × Message) → stamped f ≡ (now, x.1) → IsOwn w x.1 → is_packet f ≡ false
+single_taken w f now x e own =
+    let z = ap (λ (y : ℕ × Message). y.1.group) e in ap (λ (g : ℕ). nat_eq g transport_control_group || nat_eq g transport_data_group) z ∙ own.single
 
-pub sent_is : (H : List Call) (now : ℕ) (f : FrameRecord) (a b : Bool) → is_claim f ≡ a → is_acknowledgment f ≡ b
-    → sent (TakeFrame now (Some f) ∷ H) ≡ (if a || b then sent H else sent H ++ message_of f ∷ [])
-sent_is H now f a b e g = ap (λ (x : Bool). if x || is_acknowledgment f then sent H else sent H ++ message_of f ∷ []) e
-    ∙ ap (λ (y : Bool). if a || y then sent H else sent H ++ message_of f ∷ []) g
+pub claim_single : (f : FrameRecord) → is_claim f ≡ true → is_packet f ≡ false
+claim_single f e = ap (λ (g : ℕ). nat_eq g transport_control_group || nat_eq g transport_data_group) (eqb-true (pgn_of f.id) address_claimed_group e)
+
+pub due_taken : (w : Who) (f : FrameRecord) (now : ℕ) (m : Message) → stamped f ≡ (now, m) → IsDue w m
+    → (is_claim f ≡ false) × (is_acknowledgment f ≡ true) × (is_packet f ≡ false)
+due_taken w f now m e is =
+    let z : pgn_of f.id ≡ acknowledgment_group = ap (λ (y : ℕ × Message). y.1.group) e ∙ is.group in (
+      ap (λ (g : ℕ). nat_eq g address_claimed_group) z,
+      eq-eqb _ _ z,
+      ap (λ (g : ℕ). nat_eq g transport_control_group || nat_eq g transport_data_group) z,
+    )
+
+pub sent_is : (H : List Call) (now : ℕ) (f : FrameRecord) (a b p : Bool) → is_claim f ≡ a → is_acknowledgment f ≡ b → is_packet f ≡ p
+    → sent (TakeFrame now (Some f) ∷ H) ≡ (if a || (b || p) then sent H else sent H ++ message_of f ∷ [])
+sent_is H now f a b p e g i = ap (λ (x : Bool). if x || (is_acknowledgment f || is_packet f) then sent H else sent H ++ message_of f ∷ []) e
+    ∙ (ap (λ (y : Bool). if a || (y || is_packet f) then sent H else sent H ++ message_of f ∷ []) g
+    ∙ ap (λ (y : Bool). if a || (b || y) then sent H else sent H ++ message_of f ∷ []) i)
+
+pub packets_is : (H : List Call) (now : ℕ) (f : FrameRecord) (p : Bool) → is_packet f ≡ p
+    → packets (TakeFrame now (Some f) ∷ H) ≡ (if p then packets H ++ message_of f ∷ [] else packets H)
+packets_is H now f p e = ap (λ (y : Bool). if y then packets H ++ message_of f ∷ [] else packets H) e
+
+pub pause_is : (H : List Call) (now : ℕ) (f : FrameRecord) (p : Bool) → is_packet f ≡ p
+    → pause (TakeFrame now (Some f) ∷ H) ≡ (if p then 50000 else pause H - step H now)
+pause_is H now f p e = ap (λ (y : Bool). if y then 50000 else pause H - step H now) e
 
 pub acknowledged_is : (H : List Call) (now : ℕ) (f : FrameRecord) (a b : Bool) → is_claim f ≡ a → is_acknowledgment f ≡ b
     → acknowledged (TakeFrame now (Some f) ∷ H) ≡ (if a || not b then acknowledged H else acknowledged H ++ message_of f ∷ [])
@@ -245,13 +318,13 @@ pub address_is : (w : Who) (H : List Call) (now : ℕ) (f : FrameRecord) (a : Bo
 address_is w H now f a e = ap (λ (b : Bool). if b then claimed (older (step H now) (address_after w H)) else older (step H now) (address_after w H)) e
 
 sound_claim : (w : Who) (H : List Call) (now : ℕ) (f : FrameRecord) → is_claim f ≡ true → Sound w H → Sound w (TakeFrame now (Some f) ∷ H)
-sound_claim w H now f e h = rests w H _ refl (sent_is H now f true _ e refl) refl
+sound_claim w H now f e h = rests w H _ refl (sent_is H now f true _ _ e refl refl) refl
     (λ l. sym (lost_older (step H now) (address_after w H)) ∙ (sym (lost_claimed _) ∙ (sym (ap is_lost (address_is w H now f true e)) ∙ l))) h.reads
     (h.desk.0, subst (λ xs. IsFront xs (due w H)) (sym (acknowledged_is H now f true _ e refl)) h.desk.1, h.desk.2) h
 
 sound_acknowledge : (w : Who) (H : List Call) (now : ℕ) (f : FrameRecord) (m : Message) → is_claim f ≡ false → is_acknowledgment f ≡ true
     → slice_get (due w H) (length (acknowledged H)) ≡ Some m → stamped f ≡ (now, m) → Sound w H → Sound w (TakeFrame now (Some f) ∷ H)
-sound_acknowledge w H now f m e k g i h = rests w H _ refl (sent_is H now f false true e k) refl
+sound_acknowledge w H now f m e k g i h = rests w H _ refl (sent_is H now f false true _ e k refl) refl
     (λ l. sym (lost_older (step H now) (address_after w H)) ∙ (sym (ap is_lost (address_is w H now f false e)) ∙ l)) h.reads (
       h.desk.0,
       subst (λ xs. IsFront xs (due w H)) (sym (acknowledged_is H now f false true e k ∙ ap (λ (y : ℕ × Message). acknowledged H ++ y.1 ∷ []) i))
@@ -259,11 +332,17 @@ sound_acknowledge w H now f m e k g i h = rests w H _ refl (sent_is H now f fals
       h.desk.2,
     ) h
 
-sound_send : (w : Who) (H : List Call) (now : ℕ) (f : FrameRecord) (x : ℕ × Message) → is_claim f ≡ false → is_acknowledgment f ≡ false → holds w H now ≡ true
+sound_packet : (w : Who) (H : List Call) (now : ℕ) (f : FrameRecord) → (is_claim f ≡ false) × (is_acknowledgment f ≡ false) × (is_packet f ≡ true)
+    → Sound w H → Sound w (TakeFrame now (Some f) ∷ H)
+sound_packet w H now f k h = rests w H _ refl (sent_is H now f false false true k.0 k.1 k.2) refl
+    (λ l. sym (lost_older (step H now) (address_after w H)) ∙ (sym (ap is_lost (address_is w H now f false k.0)) ∙ l)) h.reads
+    (h.desk.0, subst (λ xs. IsFront xs (due w H)) (sym (acknowledged_is H now f false false k.0 k.1)) h.desk.1, h.desk.2) h
+
+sound_send : (w : Who) (H : List Call) (now : ℕ) (f : FrameRecord) (x : ℕ × Message) → is_claim f ≡ false → is_acknowledgment f ≡ false → is_packet f ≡ false → holds w H now ≡ true
     → slice_get (accepted w H) (length (sent H)) ≡ Some x → stamped f ≡ (now, x.1) → Sound w H → Sound w (TakeFrame now (Some f) ∷ H)
-sound_send w H now f x e k held g i h =
+sound_send w H now f x e k n held g i h =
     let more : sent (TakeFrame now (Some f) ∷ H) ≡ sent H ++ x.1 ∷ [] =
-    sent_is H now f false false e k ∙ ap (λ (y : ℕ × Message). sent H ++ y.1 ∷ []) i in
+    sent_is H now f false false false e k n ∙ ap (λ (y : ℕ × Message). sent H ++ y.1 ∷ []) i in
     record {
       own = h.own;
       fronts = subst (λ xs. IsFront xs (map content (accepted w H))) (sym more)
@@ -282,7 +361,8 @@ sound_frame w H now f (acknowledges m owes held g e) h =
     sound_acknowledge w H now f m k.0 k.1 g e h
 sound_frame w H now f (sends x owes held none g e) h =
     let own = own_get w _ _ x h.own g in
-    sound_send w H now f x (message_taken w f now x e own) (plain_taken w f now x e own) held g e h
+    sound_send w H now f x (message_taken w f now x e own) (plain_taken w f now x e own) (single_taken w f now x e own) held g e h
+sound_frame w H now f (packs m owes held none past g e) h = sound_packet w H now f (packet_taken f now m (open_broadcast w H) (length (packets H)) (pause H - step H now) e g) h
 
 sound_accept : (w : Who) (H : List Call) (now k : ℕ) (d : Draft) → can_send w d ≡ true → k ≡ length (accepted w H) → Sound w H → Sound w (Send now d (Ok k) ∷ H)
 sound_accept w H now k d e g h = record {
@@ -386,6 +466,8 @@ sound_more w H (TakeRequest (Some r)) e h = rests w H _ refl refl refl (λ l. l)
 sound_more w H (Acknowledge now r answer (Ok x)) e h = rests w H _ refl refl refl (λ l. sym (lost_older (step H now) (address_after w H)) ∙ l) h.reads
     (due_append w (due w H) answer r h.desk.0, front_append (acknowledged H) (due w H) (acknowledgment w answer r) h.desk.1, h.desk.2) h
 sound_more w H (Acknowledge now r answer (Err k)) e h = rests w H _ refl refl refl (λ l. sym (lost_older (step H now) (address_after w H)) ∙ l) h.reads h.desk h
+sound_more w H (Broadcast now group bytes answer) e h = rests w H _ refl refl refl (λ l. sym (lost_older (step H now) (address_after w H)) ∙ l) h.reads h.desk h
+sound_more w H (TakeBroadcastEnded answer) e h = rests w H _ refl refl refl (λ l. l) h.reads h.desk h
 
 pub sound : (w : Who) (H : List Call) → AreAnswered w H → Sound w H
 sound w [] e = record { own = tt; fronts = ([], refl); within = omega arith; in_turn = λ l. omega arith; reads = ([], refl); desk = (tt, ([], refl), ([], refl)); numbered = λ i x e. absurd (cc) }

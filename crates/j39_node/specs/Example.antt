@@ -3,9 +3,9 @@ use Rattle.std.specs.Prelude.{ℕ, List, [], ◌∷◌, Some, None, Ok, Err}
 use Rattle.j39_frame.specs.Frame.{FrameRecord}
 use Rattle.j39_node.specs.declared.kinds.Ending.TheVariants.{Done, Withdrawn}
 use Rattle.j39_node.specs.declared.kinds.Answer.TheVariants.{Ack}
-use Rattle.j39_node.specs.declared.kinds.Refused.TheVariants.{NoAddress, BadValue}
+use Rattle.j39_node.specs.declared.kinds.Refused.TheVariants.{NoAddress, BadValue, Full}
 use Rattle.j39_node.specs.History.{Who, Asked, Draft, Call, message_of}
-use Rattle.j39_node.specs.History.Call.{Acknowledge, Hear, Tick, TakeFrame, TakeRequest, Send, TakeEnded, TakeReceived}
+use Rattle.j39_node.specs.History.Call.{Acknowledge, Broadcast, TakeBroadcastEnded, Hear, Tick, TakeFrame, TakeRequest, Send, TakeEnded, TakeReceived}
 
 -- NAME 2 at address 128, whose program serves group 65259
 abbrev pub two : Who
@@ -50,18 +50,42 @@ answer_frame now = record { stamp = now; id = 417922944; bytes = 0 ∷ 255 ∷ 2
 abbrev pub refusal_frame : ℕ → FrameRecord
 refusal_frame now = record { stamp = now; id = 417922944; bytes = 1 ∷ 255 ∷ 255 ∷ 255 ∷ 11 ∷ 236 ∷ 254 ∷ 0 ∷ [] }
 
+-- a message of nine bytes, its announcement, and its packets
+abbrev pub nine : List ℕ
+nine = 1 ∷ 2 ∷ 3 ∷ 4 ∷ 5 ∷ 6 ∷ 7 ∷ 8 ∷ 9 ∷ []
+
+abbrev pub announcement : ℕ → FrameRecord
+announcement now = record { stamp = now; id = 485293952; bytes = 32 ∷ 9 ∷ 0 ∷ 2 ∷ 255 ∷ 202 ∷ 254 ∷ 0 ∷ [] }
+
+abbrev pub first_packet : ℕ → FrameRecord
+first_packet now = record { stamp = now; id = 485228416; bytes = 1 ∷ 1 ∷ 2 ∷ 3 ∷ 4 ∷ 5 ∷ 6 ∷ 7 ∷ [] }
+
+abbrev pub last_packet : ℕ → FrameRecord
+last_packet now = record { stamp = now; id = 485228416; bytes = 2 ∷ 8 ∷ 9 ∷ 255 ∷ 255 ∷ 255 ∷ 255 ∷ 255 ∷ [] }
+
 -- it claims its address, and holds it 250 ms later; sends a message, refuses one to itself, gets one, answers a
--- request and refuses another; then a smaller NAME claims
--- the address, so that a message that waits is withdrawn and none is accepted; the newest call first
+-- request and refuses another; broadcasts a message in packets; then a smaller NAME claims the address, so that a message and a
+-- broadcast that wait are withdrawn and none is accepted; the newest call first
 abbrev pub example : List Call
 example =
-    Send 300004 speed (Err NoAddress)
+    Send 400004 speed (Err NoAddress)
+    ∷ TakeBroadcastEnded (Some (1, Withdrawn))
     ∷ TakeEnded None
     ∷ TakeEnded (Some (1, Withdrawn))
-    ∷ TakeFrame 300003 None
-    ∷ TakeFrame 300002 (Some (cannot_claim 300002))
-    ∷ Hear (smaller_claim 300001)
-    ∷ Send 300000 speed (Ok 1)
+    ∷ TakeFrame 400003 None
+    ∷ TakeFrame 400002 (Some (cannot_claim 400002))
+    ∷ Hear (smaller_claim 400001)
+    ∷ Broadcast 400000 65226 nine (Ok 1)
+    ∷ Send 400000 speed (Ok 1)
+    ∷ TakeBroadcastEnded (Some (0, Done))
+    ∷ TakeFrame 396000 (Some (last_packet 396000))
+    ∷ TakeFrame 346000 (Some (first_packet 346000))
+    ∷ TakeFrame 345999 None
+    ∷ TakeBroadcastEnded None
+    ∷ Broadcast 296001 65226 nine (Err Full)
+    ∷ TakeFrame 296000 (Some (announcement 296000))
+    ∷ Broadcast 296000 65226 nine (Ok 0)
+    ∷ Broadcast 296000 65226 (7 ∷ []) (Err BadValue)
     ∷ TakeFrame 295003 (Some (answer_frame 295003))
     ∷ Acknowledge 295002 request_in Ack (Ok tt)
     ∷ TakeRequest None

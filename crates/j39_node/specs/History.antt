@@ -1,12 +1,15 @@
 -- Histories of a controller's calls, each with its arguments, its moment and its answer, the newest first; and what a
 -- history says. All lists of messages have the oldest first.
-use Rattle.std.specs.Prelude.{◌≡◌, ℕ, suc, ◌+◌, ◌-◌, ◌%◌, ◌/◌, ◌++◌, ◌&&◌, ◌||◌, ◌==◌, nat_lt, nat_le, nat_eq, not, Bool, true, false, List, [], ◌∷◌, length, Option, Some, None, Result, Ok, if◌then◌else◌}
+use Rattle.std.specs.Prelude.{◌≡◌, ℕ, zero, suc, ◌+◌, ◌-◌, ◌%◌, ◌/◌, ◌++◌, ◌&&◌, ◌||◌, ◌==◌, nat_lt, nat_le, nat_eq, not, Bool, true, false, List, [], ◌∷◌, length, Option, Some, None, Result, Ok, if◌then◌else◌}
 use Rattle.byteorder.specs.Endian.{little_bytes, little_number}
 use Rattle.j39_frame.specs.Address.{null_address, global_address}
 use Rattle.j39_frame.specs.Frame.{FrameRecord}
 use Rattle.j39_frame.specs.Identifier.{source_of, destination_of, priority_of, pgn_of}
 use Rattle.j39_frame.specs.Network.{address_claimed_group, request_group, transport_control_group, transport_data_group}
 use Rattle.j39_address.specs.Claim.{Claim, claim_of}
+use Rattle.j39_transport.specs.Cutting.{cut_frame}
+use Rattle.j39_transport.specs.Message.{MessageRecord, packets_of, as_broadcast}
+use Rattle.j39_transport.specs.Protocol.{gap}
 use Rattle.j39_node.specs.declared.kinds.Ending.{Ending}
 use Rattle.j39_node.specs.declared.kinds.News.{News}
 use Rattle.j39_node.specs.declared.kinds.News.TheVariants.{AddressLost, AnotherAtAddress, MessagesMissed}
@@ -52,6 +55,8 @@ pub data Call : Type 0 where
   TakeRequest : Option Asked → Call
   TakeNews : Option News → Call
   Acknowledge : ℕ → Asked → Answer → Result (Unit {0}) Refused → Call
+  Broadcast : ℕ → ℕ → List ℕ → Result ℕ Refused → Call
+  TakeBroadcastEnded : Option (ℕ × Ending) → Call
 
 -- what a frame of this identifier and these bytes carries
 abbrev pub carried : ℕ → List ℕ → Message
@@ -84,6 +89,7 @@ moment (Tick now ∷ H) = now
 moment (TakeFrame now answer ∷ H) = now
 moment (Send now draft answer ∷ H) = now
 moment (Acknowledge now asked answer result ∷ H) = now
+moment (Broadcast now group bytes answer ∷ H) = now
 moment (call ∷ H) = moment H
 
 -- the microseconds from the last call to this moment; time that goes back is no time
@@ -131,6 +137,7 @@ address_after w (TakeFrame now (Some f) ∷ H) =
     if is_claim f then claimed (older (step H now) (address_after w H)) else older (step H now) (address_after w H)
 address_after w (Send now draft answer ∷ H) = older (step H now) (address_after w H)
 address_after w (Acknowledge now asked answer result ∷ H) = older (step H now) (address_after w H)
+address_after w (Broadcast now group bytes answer ∷ H) = older (step H now) (address_after w H)
 address_after w (call ∷ H) = address_after w H
 
 abbrev pub is_lost : Address → Bool
@@ -209,14 +216,17 @@ is_own_group group =
 abbrev pub acknowledgment_group : ℕ
 acknowledgment_group = 59392
 
--- what may be sent: a group that an identifier can have, and none of the stack's nor an acknowledgment, to all or to the
--- address of another, in one frame
+-- a group that an identifier can have, and none of the stack's nor an acknowledgment
+abbrev pub is_sendable : ℕ → Bool
+is_sendable group =
+    not (is_directed group && not (nat_eq (group % 256) 0)) && not (is_own_group group || nat_eq group acknowledgment_group)
+
+-- what may be sent: such a group, to all or to the address of another, in one frame
 abbrev pub can_send : Who → Draft → Bool
 can_send w d =
-    nat_lt d.priority 8 && (not (is_directed d.group && not (nat_eq (d.group % 256) 0))
-    && (not (is_own_group d.group || nat_eq d.group acknowledgment_group)
+    nat_lt d.priority 8 && (is_sendable d.group
     && ((nat_eq d.to global_address || (nat_lt d.to null_address && not (nat_eq d.to w.address)))
-    && nat_le (length d.bytes) 8)))
+    && nat_le (length d.bytes) 8))
 
 -- the message that is sent
 abbrev pub message_from : Who → Draft → Message
@@ -237,10 +247,15 @@ accepted w (call ∷ H) = accepted w H
 abbrev pub is_acknowledgment : FrameRecord → Bool
 is_acknowledgment f = nat_eq (pgn_of f.id) acknowledgment_group
 
+-- a frame of a message in packets
+abbrev pub is_packet : FrameRecord → Bool
+is_packet f = nat_eq (pgn_of f.id) transport_control_group || nat_eq (pgn_of f.id) transport_data_group
+
 -- the messages whose frames were taken
 abbrev pub sent : List Call → List Message
 sent [] = []
-sent (TakeFrame now (Some f) ∷ H) = if is_claim f || is_acknowledgment f then sent H else sent H ++ message_of f ∷ []
+sent (TakeFrame now (Some f) ∷ H) =
+    if is_claim f || (is_acknowledgment f || is_packet f) then sent H else sent H ++ message_of f ∷ []
 sent (call ∷ H) = sent H
 
 -- all frames that were taken
@@ -258,6 +273,89 @@ told (call ∷ H) = told H
 -- sixteen are accepted and not told yet, or as many as there are tokens were accepted
 abbrev pub is_full : Who → List Call → Bool
 is_full w H = nat_eq (length (accepted w H) - length (told H)) 16 || nat_eq (length (accepted w H)) 18446744073709551615
+
+-- ---- messages broadcast in packets (J1939-21, 5.10.3.5 and 5.12.3)
+
+-- what may be broadcast
+abbrev pub can_broadcast : ℕ → List ℕ → Bool
+can_broadcast group bytes = is_sendable group && (nat_le 9 (length bytes) && nat_le (length bytes) 1785)
+
+-- the message that is broadcast
+abbrev pub broadcast_from : Who → ℕ → List ℕ → MessageRecord
+broadcast_from w group bytes = record { source = w.address; pgn = group; bytes = bytes }
+
+-- frame i of a broadcast, to all and of priority 7: its announcement, then its packets from 1 on
+abbrev pub frame_of : MessageRecord → ℕ → Message
+frame_of m i = record {
+  source = m.source;
+  destination = Some global_address;
+  priority = 7;
+  group = if i == 0 then transport_control_group else transport_data_group;
+  bytes = (cut_frame (as_broadcast m) m i).bytes;
+}
+
+-- its first n frames, and all
+abbrev pub first_frames : MessageRecord → ℕ → List Message
+first_frames m zero = []
+first_frames m (suc n) = first_frames m n ++ frame_of m n ∷ []
+
+abbrev pub all_frames : MessageRecord → List Message
+all_frames m = first_frames m (suc (packets_of m))
+
+-- the broadcasts that were accepted
+abbrev pub broadcasts : Who → List Call → List MessageRecord
+broadcasts w [] = []
+broadcasts w (Broadcast now group bytes (Ok token) ∷ H) = broadcasts w H ++ broadcast_from w group bytes ∷ []
+broadcasts w (call ∷ H) = broadcasts w H
+
+-- the tokens of those that were told to have ended, and how
+abbrev pub told_broadcasts : List Call → List (ℕ × Ending)
+told_broadcasts [] = []
+told_broadcasts (TakeBroadcastEnded (Some x) ∷ H) = told_broadcasts H ++ x ∷ []
+told_broadcasts (call ∷ H) = told_broadcasts H
+
+-- the broadcast that is open, with its token: accepted last, and not told to have ended
+abbrev pub open_broadcast : Who → List Call → Option (ℕ × MessageRecord)
+open_broadcast w [] = None
+open_broadcast w (Broadcast now group bytes (Ok token) ∷ H) = Some (token, broadcast_from w group bytes)
+open_broadcast w (TakeBroadcastEnded (Some x) ∷ H) = None
+open_broadcast w (call ∷ H) = open_broadcast w H
+
+-- the frames of packets that were taken since a broadcast was accepted last
+abbrev pub packets : List Call → List Message
+packets [] = []
+packets (Broadcast now group bytes (Ok token) ∷ H) = []
+packets (TakeFrame now (Some f) ∷ H) = if is_packet f then packets H ++ message_of f ∷ [] else packets H
+packets (call ∷ H) = packets H
+
+-- what is left of the 50 ms that follow a frame of packets
+abbrev pub pause : List Call → ℕ
+pause [] = 0
+pause (Hear f ∷ H) = pause H - step H f.stamp
+pause (Tick now ∷ H) = pause H - step H now
+pause (TakeFrame now None ∷ H) = pause H - step H now
+pause (TakeFrame now (Some f) ∷ H) = if is_packet f then gap else pause H - step H now
+pause (Send now draft answer ∷ H) = pause H - step H now
+pause (Acknowledge now asked answer result ∷ H) = pause H - step H now
+pause (Broadcast now group bytes answer ∷ H) = pause H - step H now
+pause (call ∷ H) = pause H
+
+abbrev pub is_open : Option (ℕ × MessageRecord) → Bool
+is_open None = false
+is_open (Some x) = true
+
+-- one is open, or as many as there are tokens were accepted
+abbrev pub is_busy : Who → List Call → Bool
+is_busy w H = is_open (open_broadcast w H) || nat_eq (length (broadcasts w H)) 18446744073709551615
+
+-- frame i is one of the broadcast
+abbrev pub is_left : Option (ℕ × MessageRecord) → ℕ → Bool
+is_left None i = false
+is_left (Some x) i = nat_le i (packets_of x.1)
+
+-- a frame of the open broadcast wasn't taken yet
+abbrev pub has_packets : Who → List Call → Bool
+has_packets w H = is_left (open_broadcast w H) (length (packets H))
 
 -- ---- messages in
 
@@ -434,9 +532,11 @@ held_at (Claimed e) m = if nat_lt e 250000 then stamp_at (m + (250000 - e)) else
 held_at NotClaimed m = None
 held_at Lost m = None
 
--- the moment of the last call, if a frame can be taken; else that at which the address is held
+-- the moment of the last call, if a frame can be taken; else that at which a frame of packets can be, or the address is held
 abbrev pub next_due : Who → List Call → Option ℕ
 next_due w H =
     if owes_claim w H || (is_held (address_after w H) && is_waiting w H)
     then stamp_at (moment H)
+    else if is_held (address_after w H) && has_packets w H
+    then stamp_at (moment H + pause H)
     else held_at (address_after w H) (moment H)

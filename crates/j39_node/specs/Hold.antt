@@ -1,5 +1,6 @@
 -- How far a controller is with its address, in its own counts.
 use Rattle.std.specs.Prelude.{ℕ, ◌+◌, ◌-◌, nat_lt, Option, None, ◌||◌, nat_eq, Bool, true, false, if◌then◌else◌}
+use Rattle.j39_transport.specs.Protocol.{gap}
 use Rattle.j39_node.specs.declared.hold.Hold.{Hold}
 use Rattle.j39_node.specs.declared.hold.Standing.{Standing}
 use Rattle.j39_node.specs.declared.hold.Standing.TheVariants as standing
@@ -18,13 +19,19 @@ less s (standing.Claimed left) = standing.Claimed (left - s)
 less s standing.Lost = standing.Lost
 
 abbrev pub passed : ℕ → Hold → Hold
-passed now h = record { moment = now; standing = less (now - h.moment) h.standing; owes_claim = h.owes_claim }
+passed now h = record {
+  moment = now;
+  standing = less (now - h.moment) h.standing;
+  owes_claim = h.owes_claim;
+  pause = h.pause - (now - h.moment);
+}
 
 abbrev pub heard : Bool → Bool → Hold → Hold
 heard drives_away calls h = record {
   moment = h.moment;
   standing = if drives_away then standing.Lost else h.standing;
   owes_claim = h.owes_claim || calls;
+  pause = h.pause;
 }
 
 abbrev pub claims : Standing → Standing
@@ -33,7 +40,11 @@ claims (standing.Claimed left) = standing.Claimed left
 claims standing.Lost = standing.Lost
 
 abbrev pub claimed : Hold → Hold
-claimed h = record { moment = h.moment; standing = claims h.standing; owes_claim = false }
+claimed h = record { moment = h.moment; standing = claims h.standing; owes_claim = false; pause = h.pause }
+
+-- a frame of packets was taken
+abbrev pub paused : Hold → Hold
+paused h = record { moment = h.moment; standing = h.standing; owes_claim = h.owes_claim; pause = gap }
 
 abbrev pub stands : Standing → Bool
 stands standing.Idle = false

@@ -8,10 +8,13 @@ use Rattle.j39_frame.specs.Pgn.{pgn_raw}
 use Rattle.j39_frame.specs.Stamp.{stamp_micros}
 use Rattle.j39_address.specs.Name.{name_raw}
 use Rattle.j39_address.specs.Claims.{Knows}
+use Rattle.j39_transport.specs.Message.{MessageRecord, packets_of}
 use Rattle.j39_address.specs.declared.status.Status.{Status}
 use Rattle.j39_address.specs.declared.status.Status.TheVariants.{Idle, Claiming, Holding, Cannot}
 use Rattle.j39_node.specs.declared.controller.Controller.{Controller}
 use Rattle.j39_node.specs.declared.hold.Hold.{Hold}
+use Rattle.j39_node.specs.declared.lane.Lane.{Lane}
+use Rattle.j39_node.specs.declared.lane.Open.{Open}
 use Rattle.j39_node.specs.declared.own.Own.{Own}
 use Rattle.j39_node.specs.declared.requests.Request.{Request}
 use Rattle.j39_node.specs.declared.requests.Due.{Due}
@@ -25,8 +28,8 @@ use Rattle.j39_node.specs.declared.kinds.News.TheVariants.{AddressLost, AnotherA
 use Rattle.j39_node.specs.declared.kinds.Refused.{Refused}
 use Rattle.j39_node.specs.declared.kinds.Refused.TheVariants.{NoAddress, BadValue, Full}
 use Rattle.j39_node.specs.Hold.{standing_of}
-use Rattle.j39_node.specs.History.{Who, Message, Draft, Call, Address, carried, message_of, moment, address_after, holds, is_lost, claim_address, claim_from, owes_claim, can_send, accepted, sent, told, is_full, got, kept, missed, content, Asked, requests, handed, due, acknowledged, acknowledgment, told_claims, lost_news, another_news, missed_news}
-use Rattle.j39_node.specs.History.Call.{TakeFrame, Send, TakeEnded, TakeReceived, TakeRequest, TakeNews, Acknowledge}
+use Rattle.j39_node.specs.History.{Who, Message, Draft, Call, Address, carried, message_of, moment, address_after, holds, is_lost, claim_address, claim_from, owes_claim, can_send, accepted, sent, told, is_full, got, kept, missed, Asked, requests, handed, due, acknowledged, acknowledgment, told_claims, lost_news, another_news, missed_news, broadcast_from, broadcasts, can_broadcast, frame_of, is_busy, open_broadcast, packets, pause, step}
+use Rattle.j39_node.specs.History.Call.{TakeFrame, Send, TakeEnded, TakeReceived, TakeRequest, TakeNews, Acknowledge, Broadcast, TakeBroadcastEnded}
 use Rattle.j39_node.specs.History.Address.{NotClaimed, Claimed, Lost}
 
 -- ---- the answers that a history asks for
@@ -34,17 +37,28 @@ use Rattle.j39_node.specs.History.Address.{NotClaimed, Claimed, Lost}
 abbrev pub stamped : FrameRecord → ℕ × Message
 stamped f = (f.stamp, message_of f)
 
--- the first that wasn't taken, of the acknowledgments that are due, or else of the messages that were accepted
-abbrev pub first_of : Option Message → Option (ℕ × Message) → Option Message
-first_of (Some m) message = Some m
-first_of None message = option_map content message
+-- frame i of the open broadcast, once the pause is over
+abbrev pub packet_by : Option (ℕ × MessageRecord) → ℕ → ℕ → Option Message
+packet_by None i left = None
+packet_by (Some x) i left = if nat_eq left 0 && nat_le i (packets_of x.1) then Some (frame_of x.1 i) else None
 
--- the claim that is owed goes first; else, from an address that is held, an acknowledgment or a message
+abbrev pub next_packet : Who → List Call → ℕ → Option Message
+next_packet w H now = packet_by (open_broadcast w H) (length (packets H)) (pause H - step H now)
+
+-- an acknowledgment goes before a message, and this before a packet
+abbrev pub first_of : Option Message → Option (ℕ × Message) → Option Message → Option Message
+first_of (Some m) message packet = Some m
+first_of None (Some x) packet = Some x.1
+first_of None None packet = packet
+
+-- the claim that is owed goes first; else, from an address that is held, the first acknowledgment that is due and wasn't taken,
+-- the first message that was accepted and wasn't, or the next frame of the open broadcast
 abbrev pub next_frame : Who → List Call → ℕ → Option (ℕ × Message)
 next_frame w H now =
     if owes_claim w H then Some (now, claim_from w (claim_address w (address_after w H)))
     else if holds w H now
-    then option_map (λ m. (now, m)) (first_of (slice_get (due w H) (length (acknowledged H))) (slice_get (accepted w H) (length (sent H))))
+    then option_map (λ m. (now, m)) (first_of (slice_get (due w H) (length (acknowledged H))) (slice_get (accepted w H) (length (sent H)))
+    (next_packet w H now))
     else None
 
 abbrev pub answer_to_send : Who → List Call → ℕ → Draft → Result ℕ Refused
@@ -52,19 +66,33 @@ answer_to_send w H now d =
     if holds w H now then (if can_send w d then (if is_full w H then Err Full else Ok (length (accepted w H))) else Err BadValue)
     else Err NoAddress
 
--- a message that was taken is done; one that wasn't is withdrawn where the address is lost
-abbrev pub ending_of : Bool → Bool → ℕ × Message → Option (ℕ × Ending)
-ending_of true lost x = Some (x.0, Done)
-ending_of false true x = Some (x.0, Withdrawn)
-ending_of false false x = None
+-- what was taken is done; what wasn't is withdrawn where the address is lost
+abbrev pub ending_of : Bool → Bool → ℕ → Option (ℕ × Ending)
+ending_of true lost token = Some (token, Done)
+ending_of false true token = Some (token, Withdrawn)
+ending_of false false token = None
 
 abbrev pub end_of : Bool → Bool → Option (ℕ × Message) → Option (ℕ × Ending)
 end_of taken lost None = None
-end_of taken lost (Some x) = ending_of taken lost x
+end_of taken lost (Some x) = ending_of taken lost x.0
 
 abbrev pub next_ended : Who → List Call → Option (ℕ × Ending)
 next_ended w H =
     end_of (nat_lt (length (told H)) (length (sent H))) (is_lost (address_after w H)) (slice_get (accepted w H) (length (told H)))
+
+abbrev pub answer_to_broadcast : Who → List Call → ℕ → ℕ → List ℕ → Result ℕ Refused
+answer_to_broadcast w H now group bytes =
+    if holds w H now
+    then (if can_broadcast group bytes then (if is_busy w H then Err Full else Ok (length (broadcasts w H))) else Err BadValue)
+    else Err NoAddress
+
+-- a broadcast is done once all its frames were taken
+abbrev pub broadcast_end : Option (ℕ × MessageRecord) → ℕ → Bool → Option (ℕ × Ending)
+broadcast_end None i lost = None
+broadcast_end (Some x) i lost = ending_of (nat_lt (packets_of x.1) i) lost x.0
+
+abbrev pub next_broadcast_ended : Who → List Call → Option (ℕ × Ending)
+next_broadcast_ended w H = broadcast_end (open_broadcast w H) (length (packets H)) (is_lost (address_after w H))
 
 abbrev pub next_received : Who → List Call → Option (ℕ × Message)
 next_received w H = slice_get (kept w H) (length (got H))
@@ -99,6 +127,8 @@ IsAnswered w H (TakeReceived answer) = answer ≡ next_received w H
 IsAnswered w H (TakeRequest answer) = answer ≡ next_request w H
 IsAnswered w H (TakeNews answer) = answer ≡ next_news w H
 IsAnswered w H (Acknowledge now r answer result) = result ≡ answer_to_acknowledge w H now r
+IsAnswered w H (Broadcast now group bytes answer) = answer ≡ answer_to_broadcast w H now group bytes
+IsAnswered w H (TakeBroadcastEnded answer) = answer ≡ next_broadcast_ended w H
 IsAnswered w H call = Unit {0}
 
 abbrev pub AreAnswered : Who → List Call → Type 0
@@ -120,7 +150,27 @@ abbrev pub who_of : Own → Who
 who_of own = record { name = name_raw own.name; address = own.address; served = own.served.items }
 
 abbrev pub hold_after : Who → List Call → Hold
-hold_after w H = record { moment = moment H; standing = standing_of (address_after w H); owes_claim = owes_claim w H }
+hold_after w H = record {
+  moment = moment H;
+  standing = standing_of (address_after w H);
+  owes_claim = owes_claim w H;
+  pause = pause H;
+}
+
+-- the open broadcast, how many of its frames were taken, and the next token
+pub record LaneRecord : Type 0 where
+  pub current : Option (ℕ × MessageRecord)
+  pub count : ℕ
+  pub next_token : ℕ
+
+abbrev pub opened : Who → Open → ℕ × MessageRecord
+opened w x = (x.token, broadcast_from w (pgn_raw x.group) x.bytes.items)
+
+abbrev pub lane_of : Who → Lane → LaneRecord
+lane_of w l = record { current = option_map (opened w) l.current; count = l.count; next_token = l.next_token }
+
+abbrev pub lane_after : Who → List Call → LaneRecord
+lane_after w H = record { current = open_broadcast w H; count = length (packets H); next_token = length (broadcasts w H) }
 
 abbrev pub news_after : Who → List Call → Untold
 news_after w H = record { lost = lost_news w H; another = another_news w H; missed = missed_news w H }
@@ -167,3 +217,4 @@ pub record Is (w : Who) (H : List Call) (c : Controller) : Type 0 where
   pub news : c.news ≡ news_after w H
   pub holders : Knows c.holders (told_claims H)
   pub missed : c.inbox.missed ≡ min (missed w H) 18446744073709551615
+  pub lane : lane_of w c.lane ≡ lane_after w H

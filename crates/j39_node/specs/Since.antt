@@ -1,5 +1,5 @@
 -- Since when an address is claimed, by places of the history.
-use Rattle.std.specs.Prelude.{◌≡◌, ◌≤◌, ℕ, ◌+◌, ◌-◌, Bool, false, List, [], ◌∷◌, ◌++◌, Some}
+use Rattle.std.specs.Prelude.{◌≡◌, ℕ, ◌+◌, Bool, false, List, [], ◌∷◌, ◌++◌, Some}
 use Rattle.j39_frame.specs.Frame.{FrameRecord}
 use Rattle.j39_address.specs.Claim.{claim_of}
 use Rattle.j39_node.specs.History.{Who, Call, claim_from, is_smaller, message_of, moment, step}

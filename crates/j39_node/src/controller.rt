@@ -8,12 +8,13 @@ ghost use Rattle.j39_frame.specs.Stamp.{stamp_micros};
 ghost use Rattle.j39_address.specs.Name.{name_raw};
 ghost use Rattle.j39_address.specs.Claim.{claims_of};
 ghost use Rattle.j39_address.specs.Holder.{IsHolderAfter};
-ghost use Rattle.j39_node.specs.History.{Who, Call, missed, next_due, told_claims};
+ghost use Rattle.j39_node.specs.History.{Who, Call, is_left, missed, next_due, told_claims};
 ghost use Rattle.j39_node.specs.Hold.{lost, stands};
-ghost use Rattle.j39_node.specs.History.Call.{Hear, Tick, TakeFrame, Send, TakeEnded, TakeReceived, TakeRequest, TakeNews, Acknowledge};
-ghost use Rattle.j39_node.specs.Is.{Is, next_frame, posted, received_by, request_by, stamped, status_after, who_of};
+ghost use Rattle.j39_node.specs.History.Call.{Hear, Tick, TakeFrame, Send, TakeEnded, TakeReceived, TakeRequest, TakeNews, Acknowledge, Broadcast, TakeBroadcastEnded};
+ghost use Rattle.j39_node.specs.Is.{Is, first_of, lane_of, next_frame, packet_by, posted, received_by, request_by, stamped, status_after, who_of};
 
 use crate::hold::{Hold, Standing};
+use crate::lane::{Lane, Open};
 use crate::news::Untold;
 use crate::outgoing::Outgoing;
 use crate::own::{Own, numbers};
@@ -24,8 +25,9 @@ use arrayvec::ArrayVec;
 use j39_address::{Claims, Name, Status};
 use j39_frame::{Frame, NULL_ADDRESS, Pgn, Stamp, is_address};
 
-/// A controller of one address: it claims it, defends it, sends messages of one frame and receives those of others. It
-/// takes no memory, and no call fails.
+/// A controller of one address: it claims it, defends it, sends messages of one frame and receives those of others, and
+/// broadcasts longer ones in packets. Claims go first, then acknowledgments, then messages, then packets. It takes no memory,
+/// and no call fails.
 #[derive(Drop)]
 pub struct Controller {
     own: Own,
@@ -40,6 +42,7 @@ pub struct Controller {
     news: Untold,
     /// Who holds which address, by the claims heard and its own that were taken.
     holders: Claims,
+    lane: Lane,
 }
 
 impl Controller {
@@ -67,6 +70,7 @@ impl Controller {
                 moment: 0,
                 standing: Standing::Idle,
                 owes_claim: true,
+                pause: 0,
             },
             outgoing: ArrayVec::new(),
             taken: 0,
@@ -85,6 +89,11 @@ impl Controller {
                 missed: false,
             },
             holders: Claims::new(),
+            lane: Lane {
+                current: None,
+                count: 0,
+                next_token: 0,
+            },
         })
     }
 
@@ -137,12 +146,14 @@ impl Controller {
     }
 
     /// The moment before which `take_frame` answers none, if nothing is heard or handed in till then: that of the last call,
-    /// where a frame can be taken, or that at which its address is held. `None` where there is no such moment.
+    /// where a frame can be taken, or that at which a packet can be, or its address is held. `None` where there is none.
     pub fn next_due(&self) -> Option<Stamp>
         ensures { (w : Who) (H : List Call) → Is w H self.now → option_map stamp_micros result ≡ next_due w H }
     {
         if self.has_frame() {
             self.hold.at()
+        } else if self.has_packet() {
+            self.hold.packet_at()
         } else {
             self.hold.held_at()
         }
@@ -190,7 +201,7 @@ impl Controller {
         }
         match self.desk.due.as_slice().get(0) {
             Some(due) => self.own.acknowledgment(due, now),
-            None => self.peek_message(now),
+            None => self.peek_message(hold.pause, now),
         }
     }
 
@@ -219,7 +230,14 @@ impl Controller {
                 self.taken += 1;
                 frame
             }
-            None => None,
+            None => match self.lane.frame(&self.own, self.hold.pause, now) {
+                Some(packet) => {
+                    self.lane.count += 1;
+                    self.hold = self.hold.paused();
+                    Some(packet)
+                }
+                None => None,
+            },
         }
     }
 
@@ -271,6 +289,46 @@ impl Controller {
             return Some((first.token, Ending::Withdrawn));
         }
         None
+    }
+
+    /// Hands in a message of 9 to 1,785 bytes, to all: an announcement and packets, at least 50 ms from one frame to the next;
+    /// answers its token, 0, 1, 2 and so on, apart from those of `send`. `Full` while one is accepted and not told to have
+    /// ended.
+    pub fn broadcast(&mut self, now: Stamp, group: Pgn, bytes: &[u8]) -> Result<u64, Refused>
+        ensures { (w : Who) (H : List Call) → Is w H self.old
+            → Is w (Broadcast (stamp_micros now) (pgn_raw group) bytes.now result ∷ H) self.new }
+    {
+        self.hold = self.hold.passed(now);
+        if !self.hold.is_held() {
+            return Err(Refused::NoAddress);
+        }
+        match Open::new(self.lane.next_token, group, bytes) {
+            Some(broadcast) => {
+                if self.lane.is_busy() {
+                    return Err(Refused::Full);
+                }
+                let token = self.lane.next_token;
+                self.lane.current = Some(broadcast);
+                self.lane.count = 0;
+                self.lane.next_token += 1;
+                Ok(token)
+            }
+            None => Err(Refused::BadValue),
+        }
+    }
+
+    /// Tells a broadcast that ended, each once.
+    pub fn take_broadcast_ended(&mut self) -> Option<(u64, Ending)>
+        ensures { (w : Who) (H : List Call) → Is w H self.old → Is w (TakeBroadcastEnded result ∷ H) self.new }
+    {
+        let is_lost = self.hold.is_lost();
+        match self.lane.ended(is_lost) {
+            Some(ended) => {
+                self.lane.current = None;
+                Some(ended)
+            }
+            None => None,
+        }
     }
 
     /// A message that was heard for the program, each once, the oldest first.
@@ -342,13 +400,16 @@ impl Controller {
         Ok(())
     }
 
-    /// The frame of the first message that wasn't taken.
-    fn peek_message(&self, now: Stamp) -> Option<Frame>
-        ensures { option_map stamped result ≡ option_map (λ x. (stamp_micros now, (posted x).1))
-            (slice_get self.now.outgoing.items self.now.taken) }
+    /// The frame of the first message that wasn't taken, or else of a packet, of whose pause so much is left.
+    fn peek_message(&self, pause: u64, now: Stamp) -> Option<Frame>
+        ensures { option_map stamped result ≡ option_map (λ m. (stamp_micros now, m))
+            (first_of None (option_map posted (slice_get self.now.outgoing.items self.now.taken))
+            (packet_by (lane_of (who_of self.now.own) self.now.lane).current self.now.lane.count pause)) }
     {
-        let next = self.outgoing.as_slice().get(self.taken)?;
-        next.frame(now)
+        match self.outgoing.as_slice().get(self.taken) {
+            Some(next) => next.frame(now),
+            None => self.lane.frame(&self.own, pause, now),
+        }
     }
 
     /// A frame can be taken.
@@ -357,6 +418,14 @@ impl Controller {
             && (nat_lt self.now.taken (length self.now.outgoing.items) || nat_lt 0 (length self.now.desk.due.items)))) }
     {
         self.is_claim_due() || (self.hold.is_held() && self.is_waiting())
+    }
+
+    /// A frame of the open broadcast can be taken once the pause is over.
+    fn has_packet(&self) -> bool
+        ensures { (w : Who) → result
+            ≡ (stands self.now.hold.standing && is_left (lane_of w self.now.lane).current self.now.lane.count) }
+    {
+        self.hold.is_held() && self.lane.is_left()
     }
 
     /// A message or an acknowledgment waits.

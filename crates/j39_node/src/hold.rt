@@ -1,14 +1,17 @@
 //! How far a controller is with its address, and the moment that it is at.
-ghost use Rattle.std.specs.Prelude.{◌≡◌, ◌-◌};
+ghost use Rattle.std.specs.Prelude.{◌≡◌, ◌+◌, ◌-◌};
 ghost use Rattle.std.specs.Option.{option_map};
 ghost use Rattle.j39_frame.specs.Stamp.{stamp_micros};
 ghost use Rattle.j39_node.specs.History.{stamp_at};
-ghost use Rattle.j39_node.specs.Hold.{passed, heard, claimed, stands, lost, less, claims, left_at};
+ghost use Rattle.j39_node.specs.Hold.{passed, heard, claimed, paused, stands, lost, less, claims, left_at};
 
 use j39_frame::Stamp;
 
 /// How long an address is claimed before it is held, in microseconds (J1939-81, 4.5).
 const CLAIM_TIME: u64 = 250_000;
+
+/// The least time between two frames of packets, in microseconds (J1939-21, 5.12.3).
+const PACKET_TIME: u64 = 50_000;
 
 /// How far the address is.
 #[derive(Clone, Copy)]
@@ -48,6 +51,8 @@ pub(crate) struct Hold {
     pub(crate) moment: u64,
     pub(crate) standing: Standing,
     pub(crate) owes_claim: bool,
+    /// What is left of the time between two frames of packets.
+    pub(crate) pause: u64,
 }
 
 impl Hold {
@@ -60,6 +65,7 @@ impl Hold {
             moment: now.micros(),
             standing: self.standing.less(step),
             owes_claim: self.owes_claim,
+            pause: self.pause.saturating_sub(step),
         }
     }
 
@@ -76,6 +82,7 @@ impl Hold {
             moment: self.moment,
             standing,
             owes_claim: self.owes_claim || calls,
+            pause: self.pause,
         }
     }
 
@@ -87,6 +94,19 @@ impl Hold {
             moment: self.moment,
             standing: self.standing.claimed(),
             owes_claim: false,
+            pause: self.pause,
+        }
+    }
+
+    /// A frame of packets was taken.
+    pub(crate) fn paused(self) -> Hold
+        ensures { result ≡ paused self }
+    {
+        Hold {
+            moment: self.moment,
+            standing: self.standing,
+            owes_claim: self.owes_claim,
+            pause: PACKET_TIME,
         }
     }
 
@@ -115,6 +135,13 @@ impl Hold {
         ensures { option_map stamp_micros result ≡ stamp_at self.moment }
     {
         Stamp::new(self.moment)
+    }
+
+    /// When a frame of packets can be taken.
+    pub(crate) fn packet_at(self) -> Option<Stamp>
+        ensures { option_map stamp_micros result ≡ stamp_at (self.moment + self.pause) }
+    {
+        Stamp::new(self.moment.saturating_add(self.pause))
     }
 
     /// When the address will be held.

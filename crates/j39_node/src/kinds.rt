@@ -5,7 +5,7 @@ ghost use Rattle.j39_node.specs.History.{control_of};
 /// How a message that was accepted ended.
 #[derive(Clone, Copy, Debug, PartialEq, Eq)]
 pub enum Ending {
-    /// Its frame was taken.
+    /// Its frames were taken.
     Done,
     /// The address was lost before.
     Withdrawn,
@@ -17,9 +17,9 @@ pub enum Refused {
     /// No address is held.
     NoAddress,
     /// A priority above 7, a group that no identifier can have or that the stack itself speaks (claims, acknowledgments,
-    /// packets), no other's address, or more than 8 bytes; an acknowledgment of a request to all.
+    /// packets), no other's address, or more than 8 bytes; a broadcast outside 9 to 1,785 bytes; an acknowledgment of a request to all.
     BadValue,
-    /// Sixteen messages are accepted and not told to have ended; sixteen acknowledgments are due.
+    /// Sixteen messages are accepted and not told to have ended; a broadcast is; sixteen acknowledgments are due.
     Full,
 }
 

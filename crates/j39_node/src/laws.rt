@@ -1,9 +1,11 @@
 //! Laws over histories, each the contract of a function that does nothing. `Is w H c` says that the controller c was made for
 //! w and called as H says since, with the answers that H has; in H the newest call stands first.
 ghost use Rattle.std.specs.Prelude.{◌≡◌, ◌≢◌, ◌⊎◌, ◌+◌, ◌<◌, ◌≤◌, ◌↔◌, ◌++◌, ℕ, List, [], ◌∷◌, length, map, Some, None, Option, Result, Ok, Err, IsTrue, false};
+ghost use Rattle.std.specs.List.{slice_get};
 ghost use Rattle.j39_frame.specs.Frame.{FrameRecord};
 ghost use Rattle.j39_frame.specs.Identifier.{source_of, pgn_of};
 ghost use Rattle.j39_frame.specs.Network.{address_claimed_group};
+ghost use Rattle.j39_transport.specs.Message.{MessageRecord, packets_of};
 ghost use Rattle.j39_address.specs.declared.status.Status.TheVariants as status;
 ghost use Rattle.j39_node.specs.declared.controller.Controller.{Controller};
 ghost use Rattle.j39_node.specs.declared.kinds.Ending.{Ending};
@@ -14,9 +16,9 @@ ghost use Rattle.j39_node.specs.declared.kinds.News.{News};
 ghost use Rattle.j39_node.specs.declared.kinds.News.TheVariants as news;
 ghost use Rattle.j39_node.specs.declared.kinds.Refused.{Refused};
 ghost use Rattle.j39_node.specs.declared.kinds.Refused.TheVariants as refused;
-ghost use Rattle.j39_node.specs.History.{Who, Asked, Call, Message, Draft, IsFront, accepted, acknowledgment, acknowledgment_group, asked, handed, is_served, requests, lost_news, another_news, missed_news, address_after, calls_for_claim, can_send, claim_address, claim_from, content, acknowledged, due, frames, got, heard, holds, is_lost, kept, message_of, missed, moment, next_due, owes_claim, sent, step, told};
-ghost use Rattle.j39_node.specs.History.Call.{Acknowledge, Hear, TakeNews, Tick, TakeFrame, TakeRequest, Send, TakeEnded, TakeReceived};
-ghost use Rattle.j39_node.specs.Since.{ClaimedSince};
+ghost use Rattle.j39_node.specs.History.{Who, Asked, Call, Message, Draft, IsFront, accepted, acknowledgment, acknowledgment_group, asked, handed, is_served, requests, lost_news, another_news, missed_news, address_after, calls_for_claim, can_send, claim_address, claim_from, content, acknowledged, due, frames, got, heard, holds, is_lost, kept, message_of, missed, moment, next_due, owes_claim, sent, step, told, all_frames, broadcasts, can_broadcast, first_frames, frame_of, has_packets, is_packet, open_broadcast, packets, pause, told_broadcasts};
+ghost use Rattle.j39_node.specs.History.Call.{Acknowledge, Broadcast, TakeBroadcastEnded, Hear, TakeNews, Tick, TakeFrame, TakeRequest, Send, TakeEnded, TakeReceived};
+ghost use Rattle.j39_node.specs.Since.{ClaimedSince, passed_in};
 ghost use Rattle.j39_node.specs.Example.{example, two};
 ghost use Rattle.j39_node.specs.Is.{AreAnswered, Is, status_after};
 
@@ -49,9 +51,9 @@ pub fn accounted_once()
         × (IsTrue (is_lost (address_after w H)) → length (told H) ≡ length (accepted w H)) }
 {}
 
-/// The frames taken that are no claims and no acknowledgments are the messages accepted, in order, none left out. One is told as done where its frame
-/// was taken, and only there; as withdrawn only where the address is lost. Where an address is held and no frame is taken, none
-/// waits.
+/// The frames taken that are no claims, no acknowledgments and none of packets are the messages accepted, in order, none left
+/// out. One is told as done where its frame was taken, and only there; as withdrawn only where the address is lost. Where an
+/// address is held and no frame is taken, none waits.
 pub fn done_means()
     ensures in_order { (w : Who) (H : List Call) (c : Controller) → Is w H c
         → IsFront (sent H) (map content (accepted w H)) }
@@ -140,6 +142,7 @@ pub fn who()
 
 /// All answers of this history are those that a controller gives: it claims, holds, sends, receives, refuses, and loses its
 /// address.
+#[tactic(auto, unfolding(j39_transport::specs::Cutting::cut_frame, j39_transport::specs::Cutting::announcement_of, j39_transport::specs::Cutting::packet_of, j39_transport::specs::Cutting::packet_data))]
 pub fn an_example()
     ensures { AreAnswered two example }
 {}
@@ -181,4 +184,66 @@ pub fn acknowledgments()
         → length (due w H) < length (acknowledged H) + 16 → result ≡ Ok tt }
     ensures only { (w : Who) (H : List Call) (c : Controller) (now : ℕ) (r : Asked) (a : Answer)
         → Is w (Acknowledge now r a (Ok tt) ∷ H) c → IsTrue (holds w H now) × (r.destination ≡ w.address) }
+{}
+
+/// What `broadcast` answers: `NoAddress` where no address is held, `BadValue` where the message can't be broadcast, `Full` where one
+/// is accepted and not told (or as many as there are tokens were accepted), and else the next token.
+pub fn broadcast_means()
+    ensures no_address { (w : Who) (H : List Call) (c : Controller) (now group : ℕ) (bytes : List ℕ) (answer : Result ℕ Refused)
+        → Is w (Broadcast now group bytes answer ∷ H) c → (answer ≡ Err refused.NoAddress ↔ (IsTrue (holds w H now) → ⊥)) }
+    ensures bad_value { (w : Who) (H : List Call) (c : Controller) (now group : ℕ) (bytes : List ℕ) (answer : Result ℕ Refused)
+        → Is w (Broadcast now group bytes answer ∷ H) c
+        → (answer ≡ Err refused.BadValue ↔ (IsTrue (holds w H now) × (IsTrue (can_broadcast group bytes) → ⊥))) }
+    ensures full { (w : Who) (H : List Call) (c : Controller) (now group : ℕ) (bytes : List ℕ) (answer : Result ℕ Refused)
+        → Is w (Broadcast now group bytes answer ∷ H) c
+        → (answer ≡ Err refused.Full
+        ↔ (IsTrue (holds w H now) × IsTrue (can_broadcast group bytes)
+        × ((length (broadcasts w H) ≡ length (told_broadcasts H) + 1) ⊎ (length (broadcasts w H) ≡ 18446744073709551615)))) }
+    ensures accepts { (w : Who) (H : List Call) (c : Controller) (now group : ℕ) (bytes : List ℕ) (answer : Result ℕ Refused)
+        → Is w (Broadcast now group bytes answer ∷ H) c → IsTrue (holds w H now) → IsTrue (can_broadcast group bytes)
+        → length (broadcasts w H) ≡ length (told_broadcasts H) → length (broadcasts w H) < 18446744073709551615
+        → answer ≡ Ok (length (broadcasts w H)) }
+    ensures token { (w : Who) (H : List Call) (c : Controller) (now group k : ℕ) (bytes : List ℕ)
+        → Is w (Broadcast now group bytes (Ok k) ∷ H) c → k ≡ length (broadcasts w H) }
+{}
+
+/// The frames of packets that are taken since a broadcast was accepted are its announcement and packets, in order, and no others are
+/// taken. Each comes from the address that is held, where no message and no acknowledgment waits, and 50 ms or more after the one
+/// before. Where one is left and none is taken, the pause isn't over, which never is longer than 50 ms.
+pub fn packets_mean()
+    ensures in_order { (w : Who) (H : List Call) (c : Controller) (k : ℕ) (m : MessageRecord) → Is w H c
+        → open_broadcast w H ≡ Some (k, m)
+        → (slice_get (broadcasts w H) k ≡ Some m) × (packets H ≡ first_frames m (length (packets H))) }
+    ensures only { (w : Who) (H : List Call) (c : Controller) (now : ℕ) (f : FrameRecord)
+        → Is w (TakeFrame now (Some f) ∷ H) c → IsTrue (is_packet f)
+        → (k : ℕ) × (m : MessageRecord) × (open_broadcast w H ≡ Some (k, m))
+        × (message_of f ≡ frame_of m (length (packets H))) × (length (packets H) ≤ packets_of m) }
+    ensures behind { (w : Who) (H : List Call) (c : Controller) (now : ℕ) (f : FrameRecord)
+        → Is w (TakeFrame now (Some f) ∷ H) c → IsTrue (is_packet f)
+        → IsTrue (holds w H now) × (length (sent H) ≡ length (accepted w H)) × (acknowledged H ≡ due w H) }
+    ensures spaced { (w : Who) (H later : List Call) (c : Controller) (now at : ℕ) (f g : FrameRecord)
+        → Is w (TakeFrame now (Some g) ∷ later ++ TakeFrame at (Some f) ∷ H) c
+        → IsTrue (is_packet f) → IsTrue (is_packet g)
+        → 50000 ≤ passed_in (TakeFrame now (Some g) ∷ later) (TakeFrame at (Some f) ∷ H) }
+    ensures waits { (w : Who) (H : List Call) (c : Controller) (now : ℕ) → Is w (TakeFrame now None ∷ H) c
+        → IsTrue (holds w H now) → IsTrue (has_packets w H) → step H now < pause H }
+    ensures soon { (H : List Call) → pause H ≤ 50000 }
+{}
+
+/// The tokens of the broadcasts accepted are 0, 1, 2 and so on, and in this order each is told once to have ended: as done exactly
+/// where all its frames were taken, as withdrawn only where the address is lost. Where none is told, all are, or a frame is left and
+/// the address isn't lost.
+pub fn broadcast_done_means()
+    ensures told { (w : Who) (H : List Call) (c : Controller) (k : ℕ) (e : Ending)
+        → Is w (TakeBroadcastEnded (Some (k, e)) ∷ H) c
+        → (k ≡ length (told_broadcasts H)) × (k < length (broadcasts w H)) }
+    ensures done { (w : Who) (H : List Call) (c : Controller) (k : ℕ) (e : Ending)
+        → Is w (TakeBroadcastEnded (Some (k, e)) ∷ H) c
+        → (e ≡ ending.Done
+        ↔ ((m : MessageRecord) × (slice_get (broadcasts w H) k ≡ Some m) × (packets H ≡ all_frames m))) }
+    ensures withdrawn { (w : Who) (H : List Call) (c : Controller) (k : ℕ) (e : Ending)
+        → Is w (TakeBroadcastEnded (Some (k, e)) ∷ H) c → e ≡ ending.Withdrawn → IsTrue (is_lost (address_after w H)) }
+    ensures all { (w : Who) (H : List Call) (c : Controller) → Is w (TakeBroadcastEnded None ∷ H) c
+        → (length (told_broadcasts H) ≡ length (broadcasts w H))
+        ⊎ (IsTrue (has_packets w H) × (IsTrue (is_lost (address_after w H)) → ⊥)) }
 {}

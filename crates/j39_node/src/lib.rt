@@ -1,9 +1,10 @@
-//! A controller of single frames that promises by the histories of its calls (J1939-21, J1939-81).
+//! A controller that promises by the histories of its calls (J1939-21, J1939-81).
 #![tactic(auto)]
 
 mod controller;
 mod hold;
 mod kinds;
+mod lane;
 pub mod laws;
 mod news;
 mod outgoing;

@@ -3,7 +3,7 @@ ghost use Rattle.std.specs.Prelude.{◌≡◌, ◌↔◌, IsSome, IfSome, Some, 
 ghost use Rattle.std.specs.Option.{option_map};
 ghost use Rattle.j39_frame.specs.Pgn.{pgn_raw};
 ghost use Rattle.j39_frame.specs.Stamp.{stamp_micros};
-ghost use Rattle.j39_node.specs.History.{can_send, message_from, is_directed};
+ghost use Rattle.j39_node.specs.History.{can_send, is_sendable, message_from, is_directed};
 ghost use Rattle.j39_node.specs.Is.{who_of, posted, stamped};
 
 use crate::own::{ACKNOWLEDGMENT, Own, is_own_group};
@@ -72,10 +72,17 @@ fn can_send(own: &Own, priority: u8, group: Pgn, to: u8, bytes: &[u8]) -> bool
         { priority = priority; group = pgn_raw group; to = to; bytes = bytes.now }) }
 {
     priority < 8
-        && !(is_directed(group) && !(group.raw() & 0xFF == 0))
-        && !(is_own_group(group) || group.raw() == ACKNOWLEDGMENT)
+        && is_sendable(group)
         && (to == GLOBAL_ADDRESS || (to < NULL_ADDRESS && !(to == own.address)))
         && bytes.len() <= 8
+}
+
+/// Whether an identifier can have the group, and the stack itself doesn't speak it.
+pub(crate) fn is_sendable(group: Pgn) -> bool
+    ensures { result ≡ is_sendable (pgn_raw group) }
+{
+    !(is_directed(group) && !(group.raw() & 0xFF == 0))
+        && !(is_own_group(group) || group.raw() == ACKNOWLEDGMENT)
 }
 
 fn is_directed(group: Pgn) -> bool

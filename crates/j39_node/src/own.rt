@@ -7,7 +7,7 @@ ghost use Rattle.j39_frame.specs.Pgn.{pgn_raw};
 ghost use Rattle.j39_frame.specs.Stamp.{stamp_micros};
 ghost use Rattle.j39_address.specs.Claim.{claim_of};
 ghost use Rattle.j39_node.specs.History.{is_smaller, is_larger, asked_group, is_some, is_none, is_asked, calls_for_claim, is_for_program, is_own_group, claim_from, claim_with, carried, is_another, is_served};
-ghost use Rattle.j39_node.specs.Is.{who_of, stamped, refusal_by};
+ghost use Rattle.j39_frame.specs.Address.{IsAddress};
 
 use crate::requests::Due;
 use arrayvec::ArrayVec;
@@ -22,9 +22,9 @@ pub(crate) const ADDRESS_CLAIMED: u32 = 60_928;
 pub(crate) const ACKNOWLEDGMENT: u32 = 59_392;
 
 /// The groups of sessions of packets.
-const TRANSPORT_CONTROL: u32 = 60_416;
+pub(crate) const TRANSPORT_CONTROL: u32 = 60_416;
 
-const TRANSPORT_DATA: u32 = 60_160;
+pub(crate) const TRANSPORT_DATA: u32 = 60_160;
 
 /// The NAME of a controller, the address that it claims, and the groups that its program serves.
 #[derive(Drop)]
@@ -32,9 +32,12 @@ pub(crate) struct Own {
     pub(crate) name: Name,
     pub(crate) address: u8,
     pub(crate) served: ArrayVec<u32, 16>,
+    pub ghost fits: { IsAddress address },
 }
 
 impl Own {
+    ghost use Rattle.j39_node.specs.Is.{who_of, stamped, refusal_by};
+
     /// Whether a smaller NAME claims the address.
     pub(crate) fn is_driven_away(&self, frame: &Frame) -> bool
         ensures { result ≡ is_smaller (who_of self.now) (claim_of frame.now) }

@@ -1,4 +1,4 @@
-//! A controller of single frames: what it answers, call by call; frames as the lines that a standard's reader would write.
+//! A controller: what it answers, call by call; frames as the lines that a standard's reader would write.
 use j39_address::{Name, Status};
 use j39_frame::{Frame, Pgn, Stamp};
 use j39_log::{Bus, Line, line_of, read_line};
@@ -13,6 +13,10 @@ enum Step {
     Gives(u64, Option<&'static str>),
     /// At this moment it takes group 65265 with these bytes, priority 6, to this address: its token, or why not.
     Sends(u64, u8, &'static [u8], Result<u64, Refused>),
+    /// At this moment it takes group 65226 with these bytes to be broadcast: its token, or why not.
+    Broadcasts(u64, &'static [u8], Result<u64, Refused>),
+    /// It tells this end of a broadcast.
+    EndsBroadcast(Option<(u64, Ending)>),
     /// At this moment it would give the frame of this line, or none.
     WouldGive(u64, Option<&'static str>),
     /// It tells this.
@@ -37,7 +41,7 @@ enum Step {
 
 use Status::{Cannot, Claiming, Holding, Idle};
 use Step::{
-    Ends, Gives, HandsOut, HandsOutNone, Hears, Holder, Is, IsAsked, IsAskedNothing, IsDue, Missed,
+    Broadcasts, Ends, EndsBroadcast, Gives, HandsOut, HandsOutNone, Hears, Holder, Is, IsAsked, IsAskedNothing, IsDue, Missed,
     Sends, Tells, WouldGive,
 };
 
@@ -109,9 +113,67 @@ static STEPS: &[Step] = &[
         295_003,
         Some("(0000000000.295003) can0 18E8FF80#02FFFFFF0BEBFE00"),
     ),
+    // A message in packets, 50 ms apart: claims and single frames go before them.
+    Broadcasts(296_000, &[1, 2, 3, 4, 5, 6, 7, 8], Err(Refused::BadValue)),
+    Broadcasts(296_000, &[1; 1_786], Err(Refused::BadValue)),
+    Broadcasts(296_000, &[1, 2, 3, 4, 5, 6, 7, 8, 9], Ok(0)),
+    Broadcasts(
+        296_000,
+        &[1, 2, 3, 4, 5, 6, 7, 8, 9],
+        Err(Refused::Full),
+    ),
+    IsDue(Some(296_000)),
+    EndsBroadcast(None),
+    WouldGive(
+        296_000,
+        Some("(0000000000.296000) can0 1CECFF80#20090002FFCAFE00"),
+    ),
+    Gives(
+        296_001,
+        Some("(0000000000.296001) can0 1CECFF80#20090002FFCAFE00"),
+    ),
+    IsDue(Some(346_001)),
+    WouldGive(346_000, None),
+    Gives(346_000, None),
+    IsDue(Some(346_001)),
+    Sends(346_000, 255, &[7], Ok(1)),
+    IsDue(Some(346_000)),
+    Gives(350_000, Some("(0000000000.350000) can0 18FEF180#07")),
+    IsDue(Some(350_000)),
+    WouldGive(
+        350_000,
+        Some("(0000000000.350000) can0 1CEBFF80#0101020304050607"),
+    ),
+    Gives(
+        350_000,
+        Some("(0000000000.350000) can0 1CEBFF80#0101020304050607"),
+    ),
+    Ends(Some((1, Ending::Done))),
+    EndsBroadcast(None),
+    Gives(399_999, None),
+    Gives(
+        400_000,
+        Some("(0000000000.400000) can0 1CEBFF80#020809FFFFFFFFFF"),
+    ),
+    IsDue(None),
+    Broadcasts(
+        600_000,
+        &[1, 2, 3, 4, 5, 6, 7, 8, 9],
+        Err(Refused::Full),
+    ),
+    EndsBroadcast(Some((0, Ending::Done))),
+    EndsBroadcast(None),
     // A clock that is set back is no time; a smaller NAME takes the address.
+    Broadcasts(700_000, &[0; 1_785], Ok(1)),
+    Gives(
+        700_000,
+        Some("(0000000000.700000) can0 1CECFF80#20F906FFFFCAFE00"),
+    ),
+    IsDue(Some(750_000)),
     Sends(0, 255, &[1, 2, 3, 4, 5, 6, 7, 8, 9], Err(Refused::BadValue)),
-    Sends(0, 0, &[], Ok(1)),
+    IsDue(Some(50_000)),
+    Sends(0, 0, &[], Ok(2)),
+    EndsBroadcast(None),
     Hears("(0.300001) can0 18EEFF80#0100000000000000"),
     Is(Cannot),
     Holder(128, Some(1)),
@@ -122,8 +184,15 @@ static STEPS: &[Step] = &[
     Gives(300_003, None),
     Tells(Some(News::AddressLost)),
     Tells(None),
-    Ends(Some((1, Ending::Withdrawn))),
+    Ends(Some((2, Ending::Withdrawn))),
     Ends(None),
+    EndsBroadcast(Some((1, Ending::Withdrawn))),
+    EndsBroadcast(None),
+    Broadcasts(
+        300_004,
+        &[1, 2, 3, 4, 5, 6, 7, 8, 9],
+        Err(Refused::NoAddress),
+    ),
     Sends(300_004, 255, &[7], Err(Refused::NoAddress)),
     Missed(0),
 ];
@@ -193,6 +262,11 @@ fn does(node: &mut Controller, step: &Step) -> Option<bool> {
             Some(answer == *wanted)
         }
         Ends(wanted) => Some(node.take_ended() == *wanted),
+        Broadcasts(micros, bytes, wanted) => {
+            let answer = node.broadcast(Stamp::new(*micros)?, Pgn::new(65_226)?, bytes);
+            Some(answer == *wanted)
+        }
+        EndsBroadcast(wanted) => Some(node.take_broadcast_ended() == *wanted),
         HandsOut(source, priority, group, bytes) => {
             let message = node.take_received()?;
             Some(

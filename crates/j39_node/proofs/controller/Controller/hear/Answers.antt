@@ -16,4 +16,4 @@ returns c = λ w H h.
     c.offer.ensures.unread c.offer.ensures.missed c.is_driven_away-drives_away.ensures c.is_lost-is_lost.ensures c.calls_for_claim-calls.ensures
     c.hear.ensures.waiting c.hear.ensures.due c.asked-request.ensures c.note-changed.ensures.knows
     (news_heard c.args.self.now.news _ _ _ _ _ _ c.heard-self.ensures c.is_another-another.ensures c.misses-misses.ensures)
-    c.heard-self-2.ensures refl refl refl refl
+    c.heard-self-2.ensures refl refl refl refl refl

@@ -28,5 +28,5 @@ pub returns-in-None : goal.returns-in-None
 returns-in-None c = λ w H h.
     let p = passed_is w H (stamp_micros c.args.now) c.args.self.now.hold c.passed-hold.result h.hold c.passed-hold.ensures in
     let b = sym (holds_is w H (stamp_micros c.args.now) c.passed-hold.result c.is_held.result p c.is_held.ensures) ∙ c.if-not-is_held.false in
-    peeks_message w H c.args.self.now (stamp_micros c.args.now) _ h (sym c.is_claim_due.ensures ∙ c.if-is_claim_due.false) b
-    (read_none c.as_slice.result.now _ _ c.as_slice.ensures.value c.in-None.ensures.lookup.3) c.peek_message.ensures
+    peeks_message w H c.args.self.now (stamp_micros c.args.now) _ _ h (sym c.is_claim_due.ensures ∙ c.if-is_claim_due.false) b
+    (read_none c.as_slice.result.now _ _ c.as_slice.ensures.value c.in-None.ensures.lookup.3) p.pause c.peek_message.ensures

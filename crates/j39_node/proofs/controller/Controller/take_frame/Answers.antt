@@ -3,7 +3,7 @@ use Rattle.j39_node.specs.History.{Who, acknowledged, due}
 use Rattle.j39_node.specs.Is.{refusal_by}
 use Rattle.j39_node.proofs.QueueLemmas.{read, read_none, none_left, first, not_empty}
 use Rattle.j39_frame.specs.Stamp.{stamp_micros}
-use Rattle.j39_node.proofs.CallLemmas.{passed_is, holds_is, taken, taken_none, taken_due, claims_more}
+use Rattle.j39_node.proofs.CallLemmas.{passed_is, holds_is, taken, taken_none, taken_packet, taken_due, claims_more}
 use Rattle.j39_node.proofs.controller.Controller.take_frame.Goals as goal
 
 pub returns-in-Some : goal.returns-in-Some
@@ -12,11 +12,21 @@ returns-in-Some c = λ w H h.
     let b = sym (holds_is w H (stamp_micros c.args.now) c.passed-self.result c.is_held.result p c.is_held.ensures) ∙ c.if-not-is_held.false in
     taken w H c.args.self.now _ (stamp_micros c.args.now) _ c.in-Some.next.now h p (sym c.is_claim_due.ensures ∙ c.if-is_claim_due.false) b (none_left _ _ c.is_empty.ensures c.if-not-is_empty.false) (read c.as_slice.result.now _ _ _ c.as_slice.ensures.value c.in-Some.ensures.lookup.3.0 c.in-Some.ensures.lookup.1) c.frame-frame.ensures refl (omega Rattle.std.proofs.Common.arith)
 
-pub returns-in-None : goal.returns-in-None
-returns-in-None c = λ w H h.
+pub returns-in-Some-frame : goal.returns-in-Some-frame
+returns-in-Some-frame c = λ w H h.
     let p = passed_is w H (stamp_micros c.args.now) c.args.self.now.hold c.passed-self.result h.hold c.passed-self.ensures in
     let b = sym (holds_is w H (stamp_micros c.args.now) c.passed-self.result c.is_held.result p c.is_held.ensures) ∙ c.if-not-is_held.false in
-    taken_none w H c.args.self.now _ (stamp_micros c.args.now) h p (sym c.is_claim_due.ensures ∙ c.if-is_claim_due.false) b (none_left _ _ c.is_empty.ensures c.if-not-is_empty.false) (read_none c.as_slice.result.now _ _ c.as_slice.ensures.value c.in-None.ensures.lookup.3) refl
+    taken_packet w H c.args.self.now _ (stamp_micros c.args.now) c.in-Some-frame.packet c.passed-self.result h p (sym c.is_claim_due.ensures ∙ c.if-is_claim_due.false) b
+    (none_left _ _ c.is_empty.ensures c.if-not-is_empty.false) (read_none c.as_slice.result.now _ _ c.as_slice.ensures.value c.in-None.ensures.lookup.3)
+    c.in-Some-frame.ensures.frame refl c.paused-self.ensures refl (omega Rattle.std.proofs.Common.arith)
+
+pub returns-in-None-frame : goal.returns-in-None-frame
+returns-in-None-frame c = λ w H h.
+    let p = passed_is w H (stamp_micros c.args.now) c.args.self.now.hold c.passed-self.result h.hold c.passed-self.ensures in
+    let b = sym (holds_is w H (stamp_micros c.args.now) c.passed-self.result c.is_held.result p c.is_held.ensures) ∙ c.if-not-is_held.false in
+    taken_none w H c.args.self.now _ (stamp_micros c.args.now) h p (sym c.is_claim_due.ensures ∙ c.if-is_claim_due.false) b
+    (none_left _ _ c.is_empty.ensures c.if-not-is_empty.false) (read_none c.as_slice.result.now _ _ c.as_slice.ensures.value c.in-None.ensures.lookup.3)
+    c.in-None-frame.ensures.frame refl
 
 pub returns-then-not-is_empty : goal.returns-then-not-is_empty
 returns-then-not-is_empty c = λ w H h.

@@ -21,4 +21,5 @@ returns c = λ w H h.
       news = h.news;
       holders = h.holders;
       missed = h.missed;
+      lane = h.lane;
     }

@@ -1,7 +1,7 @@
 use Rattle.std.proofs.Common.{◌≡◌, ◌∙◌, ap, sym, refl, ℕ, List, length, arith}
 use Rattle.j39_node.specs.History.{Message, acknowledgment_group}
 use Rattle.j39_node.specs.Is.{who_of, refusal_by}
-use Rattle.j39_node.proofs.CallLemmas.{made}
+use Rattle.j39_node.proofs.FrameLemmas.{made}
 use Rattle.j39_node.proofs.own.Own.acknowledgment.Goals as goal
 
 to_all : ℕ → List ℕ → Message

@@ -1,6 +1,6 @@
 use Rattle.std.proofs.Common.{◌∙◌, ap, ℕ, List, length, arith}
 use Rattle.j39_node.specs.History.{Message, claim_with}
-use Rattle.j39_node.proofs.CallLemmas.{made}
+use Rattle.j39_node.proofs.FrameLemmas.{made}
 use Rattle.j39_node.proofs.own.Own.claim.Goals as goal
 
 pub returns : goal.returns

@@ -1,0 +1,88 @@
+-- Frames that are made, and the lane of broadcasts.
+use Rattle.std.proofs.Common.{◌≡◌, ◌↔◌, ℕ, ◌<◌, ◌≤◌, List, length, Option, Some, None, IsSome, IfSome, Bool, true, false, ◌&&◌, if◌then◌else◌, nat_eq, nat_le, nat_lt, ◌==◌, refl, sym, ap, ◌∙◌, arith, lt-ltb, eq-eqb, subst}
+use Rattle.std.specs.Option.{option_map}
+use Rattle.j39_frame.specs.Frame.{FrameRecord}
+use Rattle.j39_frame.specs.Network.{transport_control_group, transport_data_group}
+use Rattle.j39_transport.specs.Cutting.{ToSend, cut_frame}
+use Rattle.j39_transport.specs.Message.{MessageRecord, packets_of, as_broadcast}
+use Rattle.j39_node.specs.declared.kinds.Ending.{Ending}
+use Rattle.j39_node.specs.declared.kinds.Ending.TheVariants.{Done, Withdrawn}
+use Rattle.j39_node.specs.History.{Message, carried, frame_of, is_left}
+use Rattle.j39_node.specs.Is.{stamped, packet_by, broadcast_end}
+
+-- the frame that is made is one of this message
+pub made : (r : Option FrameRecord) (now id : ℕ) (bytes : List ℕ) (m : Message) → (IsSome r ↔ (length bytes ≤ 8))
+    → IfSome r (λ f. f ≡ record { stamp = now; id = id; bytes = bytes }) → length bytes ≤ 8 → carried id bytes ≡ m
+    → option_map stamped r ≡ Some (now, m)
+made None now id bytes m known is l e = absurd (let z : false ≡ true = known.1 l in cc)
+made (Some f) now id bytes m known is l e = ap (λ g. Some (stamped g)) is ∙ ap (λ (x : Message). Some (now, x)) e
+
+le_true : (i n : ℕ) → i ≤ n → nat_le i n ≡ true
+le_true i n l = grind arith
+
+le_false : (i n : ℕ) → n < i → nat_le i n ≡ false
+le_false i n l = grind arith
+
+lt_false : (i n : ℕ) → i ≤ n → nat_lt n i ≡ false
+lt_false i n l = grind arith
+
+pub left_is : (o : Option (ℕ × MessageRecord)) (x : ℕ × MessageRecord) (i n : ℕ) → o ≡ Some x → n ≡ packets_of x.1 → nat_le i n ≡ is_left o i
+left_is o x i n e f = ap (nat_le i) f ∙ sym (ap (λ y. is_left y i) e)
+
+pub ended_done : (o : Option (ℕ × MessageRecord)) (x : ℕ × MessageRecord) (i n : ℕ) (lost : Bool) → o ≡ Some x → n ≡ packets_of x.1 → n < i
+    → Some (x.0, Done) ≡ broadcast_end o i lost
+ended_done o x i n lost e f l = sym (ap (λ y. broadcast_end y i lost) e ∙ by (nat_lt (packets_of x.1) i) (lt-ltb _ _ (omega (arith, f, l))))
+  where
+    by : (b : Bool) → b ≡ true → Rattle.j39_node.specs.Is.ending_of b lost x.0 ≡ Some (x.0, Done)
+    by true g = refl
+    by false g = absurd (cc)
+
+pub ended_withdrawn : (o : Option (ℕ × MessageRecord)) (x : ℕ × MessageRecord) (i n : ℕ) (lost : Bool) → o ≡ Some x → n ≡ packets_of x.1 → i ≤ n → lost ≡ true
+    → Some (x.0, Withdrawn) ≡ broadcast_end o i lost
+ended_withdrawn o x i n lost e f l g = sym (ap (λ y. broadcast_end y i lost) e ∙ by (nat_lt (packets_of x.1) i) lost (lt_false _ _ (omega (arith, f, l))) g)
+  where
+    by : (b c : Bool) → b ≡ false → c ≡ true → Rattle.j39_node.specs.Is.ending_of b c x.0 ≡ Some (x.0, Withdrawn)
+    by true c h k = absurd (cc)
+    by false true h k = refl
+    by false false h k = absurd (cc)
+
+pub ended_none : (o : Option (ℕ × MessageRecord)) (x : ℕ × MessageRecord) (i n : ℕ) (lost : Bool) → o ≡ Some x → n ≡ packets_of x.1 → i ≤ n → lost ≡ false
+    → (let none : Option (ℕ × Ending) = None in none) ≡ broadcast_end o i lost
+ended_none o x i n lost e f l g = sym (ap (λ y. broadcast_end y i lost) e ∙ by (nat_lt (packets_of x.1) i) lost (lt_false _ _ (omega (arith, f, l))) g)
+  where
+    by : (b c : Bool) → b ≡ false → c ≡ false → Rattle.j39_node.specs.Is.ending_of b c x.0 ≡ None
+    by true c h k = absurd (cc)
+    by false true h k = absurd (cc)
+    by false false h k = refl
+
+abbrev pub at_now : ℕ → Message → ℕ × Message
+at_now now m = (now, m)
+
+packet_if : (x : ℕ × MessageRecord) (i left : ℕ) (b : Bool) → nat_eq left 0 ≡ true → nat_le i (packets_of x.1) ≡ b
+    → packet_by (Some x) i left ≡ (if b then Some (frame_of x.1 i) else None)
+packet_if x i left b e f = ap (λ (a : Bool). if a && nat_le i (packets_of x.1) then Some (frame_of x.1 i) else None) e
+    ∙ ap (λ (a : Bool). if a then Some (frame_of x.1 i) else None) f
+
+pub packet_past : (o : Option (ℕ × MessageRecord)) (x : ℕ × MessageRecord) (i n left now : ℕ) → o ≡ Some x → n ≡ packets_of x.1 → n < i → left ≡ 0
+    → (let none : Option (ℕ × Message) = None in none) ≡ option_map (at_now now) (packet_by o i left)
+packet_past o x i n left now e f l g =
+    sym (ap (λ y. option_map (at_now now) (packet_by y i left)) e
+    ∙ ap (option_map (at_now now)) (packet_if x i left false (eq-eqb _ _ g) (le_false _ _ (omega (arith, f, l)))))
+
+abbrev pub framed : ℕ → ℕ → List ℕ → Message
+framed source i bytes = record {
+  source = source;
+  destination = Some 255;
+  priority = 7;
+  group = if i == 0 then transport_control_group else transport_data_group;
+  bytes = bytes;
+}
+
+pub packet_made : (r : Option FrameRecord) (now id i : ℕ) (bytes : List ℕ) (s : ToSend) (x : ℕ × MessageRecord) (m : MessageRecord) → (IsSome r ↔ (length bytes ≤ 8))
+    → IfSome r (λ f. f ≡ record { stamp = now; id = id; bytes = bytes }) → length bytes ≤ 8 → carried id bytes ≡ framed x.1.source i bytes
+    → s ≡ cut_frame (as_broadcast m) m i → s.bytes ≡ bytes → m ≡ x.1 → i ≤ packets_of m
+    → option_map stamped r ≡ option_map (at_now now) (packet_by (Some x) i 0)
+packet_made r now id i bytes s x m known is l e f g k n =
+    made r now id bytes (frame_of x.1 i) known is l
+    (e ∙ ap (framed x.1.source i) (sym g ∙ (ap (λ (z : ToSend). z.bytes) f ∙ ap (λ (y : MessageRecord). (cut_frame (as_broadcast y) y i).bytes) k)))
+    ∙ sym (ap (option_map (at_now now)) (packet_if x i 0 true refl (le_true _ _ (subst (λ (y : MessageRecord). i ≤ packets_of y) k n))))

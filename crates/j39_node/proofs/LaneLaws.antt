@@ -1,0 +1,331 @@
+-- The laws of broadcasts.
+use Rattle.std.proofs.Common.{◌≡◌, ◌⊎◌, ◌↔◌, ℕ, zero, suc, ◌+◌, ◌-◌, ◌<◌, ◌≤◌, List, [], ◌∷◌, ◌++◌, length, Option, Some, None, Result, Ok, Err, Bool, true, false, ◌&&◌, ◌||◌, if◌then◌else◌, nat_eq, nat_le, refl, sym, ap, ◌∙◌, arith, inl, inr, eq-eqb, eqb-true, IsTrue}
+use Rattle.std.specs.List.{slice_get}
+use Rattle.j39_frame.specs.Frame.{FrameRecord}
+use Rattle.j39_transport.specs.Message.{MessageRecord, packets_of}
+use Rattle.j39_node.specs.declared.controller.Controller.{Controller}
+use Rattle.j39_node.specs.declared.kinds.Ending.{Ending}
+use Rattle.j39_node.specs.declared.kinds.Ending.TheVariants.{Done, Withdrawn}
+use Rattle.j39_node.specs.declared.kinds.Refused.{Refused}
+use Rattle.j39_node.specs.declared.kinds.Refused.TheVariants.{NoAddress, BadValue, Full}
+use Rattle.j39_node.specs.History.{Who, Message, Call, accepted, acknowledged, address_after, all_frames, broadcasts, can_broadcast, claim_address, claim_from, due, first_frames, frame_of, has_packets, holds, is_busy, is_left, is_lost, is_open, is_packet, message_of, open_broadcast, owes_claim, packets, pause, sent, step, told_broadcasts}
+use Rattle.j39_node.specs.History.Call.{Hear, Tick, TakeFrame, Send, TakeEnded, TakeReceived, TakeRequest, TakeNews, Acknowledge, Broadcast, TakeBroadcastEnded}
+use Rattle.j39_node.specs.Is.{AreAnswered, Is, broadcast_end, next_packet, packet_by}
+use Rattle.j39_node.specs.Since.{passed_in}
+use Rattle.j39_node.proofs.QueueLemmas.{length_one_more}
+use Rattle.j39_node.proofs.SoundLemmas.{FrameCase, frame_by, frame_case, packet_case, sound, claim_taken, claim_single, due_get, due_taken, own_get, single_taken}
+use Rattle.j39_node.proofs.SoundLemmas.FrameCase.{claims, acknowledges, sends, packs}
+use Rattle.j39_node.proofs.LaneLemmas.{BroadcastCase, broadcast_case, LaneEnd, lane_end, Opened, Laned, laned, closed, stands_open, opened_by}
+use Rattle.j39_node.proofs.LaneLemmas.BroadcastCase.{homeless, unfit, busy, opens}
+use Rattle.j39_node.proofs.LaneLemmas.LaneEnd.{complete, broken}
+use Rattle.j39_node.proofs.LawLemmas.{not_both, past_end, sent_within, whole}
+
+-- ---- what broadcast answers
+
+answers : (w : Who) (H : List Call) (c : Controller) (now group : ℕ) (bytes : List ℕ) (answer : Result ℕ Refused) → Is w (Broadcast now group bytes answer ∷ H) c
+    → BroadcastCase w H now group bytes answer
+answers w H c now group bytes answer is = broadcast_case w H now group bytes answer is.answered.1
+
+pub refused_address : (w : Who) (H : List Call) (c : Controller) (now group : ℕ) (bytes : List ℕ) (answer : Result ℕ Refused)
+    → Is w (Broadcast now group bytes answer ∷ H) c → (answer ≡ Err NoAddress ↔ (IsTrue (holds w H now) → ⊥))
+refused_address w H c now group bytes answer is = go (answers w H c now group bytes answer is)
+  where
+    go : BroadcastCase w H now group bytes answer → (answer ≡ Err NoAddress ↔ (IsTrue (holds w H now) → ⊥))
+    go (homeless a e) = (λ z. not_both _ a, λ z. e)
+    go (unfit a b e) = (λ z. absurd (cc), λ z. absurd (z a))
+    go (busy a b f e) = (λ z. absurd (cc), λ z. absurd (z a))
+    go (opens a b f e) = (λ z. absurd (cc), λ z. absurd (z a))
+
+pub refused_value : (w : Who) (H : List Call) (c : Controller) (now group : ℕ) (bytes : List ℕ) (answer : Result ℕ Refused)
+    → Is w (Broadcast now group bytes answer ∷ H) c
+    → (answer ≡ Err BadValue ↔ (IsTrue (holds w H now) × (IsTrue (can_broadcast group bytes) → ⊥)))
+refused_value w H c now group bytes answer is = go (answers w H c now group bytes answer is)
+  where
+    go : BroadcastCase w H now group bytes answer → (answer ≡ Err BadValue ↔ (IsTrue (holds w H now) × (IsTrue (can_broadcast group bytes) → ⊥)))
+    go (homeless a e) = (λ z. absurd (cc), λ z. absurd (not_both _ a z.0))
+    go (unfit a b e) = (λ z. (a, not_both _ b), λ z. e)
+    go (busy a b f e) = (λ z. absurd (cc), λ z. absurd (z.1 b))
+    go (opens a b f e) = (λ z. absurd (cc), λ z. absurd (z.1 b))
+
+-- one is accepted and not told, or there is no token left
+AtLimit : Who → List Call → Type 0
+AtLimit w H = (length (broadcasts w H) ≡ length (told_broadcasts H) + 1) ⊎ (length (broadcasts w H) ≡ 18446744073709551615)
+
+either : (a b : Bool) → (a || b) ≡ true → (a ≡ true) ⊎ (b ≡ true)
+either true b e = inl refl
+either false b e = inr e
+
+neither : (a b : Bool) → (a || b) ≡ false → (a ≡ false) × (b ≡ false)
+neither true b e = absurd (cc)
+neither false b e = (refl, e)
+
+limit : (w : Who) (H : List Call) → AreAnswered w H → is_busy w H ≡ true → AtLimit w H
+unfolding AtLimit
+limit w H right e = elim (either (is_open (open_broadcast w H)) _ e) [
+  | inl a ↦ inl (let z = stands_open w (length (told_broadcasts H)) (broadcasts w H) (packets H) (open_broadcast w H) (laned w H right) a in omega (arith, z))
+  | inr b ↦ inr (eqb-true _ _ b)
+]
+
+no_limit : (w : Who) (H : List Call) → AreAnswered w H → is_busy w H ≡ false → AtLimit w H → ⊥
+unfolding AtLimit
+no_limit w H right e l =
+    let n = neither (is_open (open_broadcast w H)) _ e in
+    elim l [
+      | inl a ↦ (let z = closed w (length (told_broadcasts H)) (broadcasts w H) (packets H) (open_broadcast w H) (laned w H right) n.0 in absurd (omega (arith, z, a)))
+      | inr b ↦ not_both _ n.1 (eq-eqb _ _ b)
+    ]
+
+pub refused_full : (w : Who) (H : List Call) (c : Controller) (now group : ℕ) (bytes : List ℕ) (answer : Result ℕ Refused)
+    → Is w (Broadcast now group bytes answer ∷ H) c
+    → (answer ≡ Err Full ↔ (IsTrue (holds w H now) × IsTrue (can_broadcast group bytes)
+    × ((length (broadcasts w H) ≡ length (told_broadcasts H) + 1) ⊎ (length (broadcasts w H) ≡ 18446744073709551615))))
+unfolding AtLimit
+refused_full w H c now group bytes answer is = go (answers w H c now group bytes answer is)
+  where
+    go : BroadcastCase w H now group bytes answer → (answer ≡ Err Full ↔ (IsTrue (holds w H now) × IsTrue (can_broadcast group bytes) × AtLimit w H))
+    go (homeless a e) = (λ z. absurd (cc), λ z. absurd (not_both _ a z.0))
+    go (unfit a b e) = (λ z. absurd (cc), λ z. absurd (not_both _ b z.1))
+    go (busy a b f e) = (λ z. (a, b, limit w H is.answered.0 f), λ z. e)
+    go (opens a b f e) = (λ z. absurd (cc), λ z. absurd (no_limit w H is.answered.0 f z.2))
+
+pub is_accepted : (w : Who) (H : List Call) (c : Controller) (now group : ℕ) (bytes : List ℕ) (answer : Result ℕ Refused)
+    → Is w (Broadcast now group bytes answer ∷ H) c → IsTrue (holds w H now) → IsTrue (can_broadcast group bytes)
+    → length (broadcasts w H) ≡ length (told_broadcasts H) → length (broadcasts w H) < 18446744073709551615
+    → answer ≡ Ok (length (broadcasts w H))
+unfolding AtLimit
+is_accepted w H c now group bytes answer is held can room some = go (answers w H c now group bytes answer is)
+  where
+    go : BroadcastCase w H now group bytes answer → answer ≡ Ok (length (broadcasts w H))
+    go (homeless a e) = absurd (not_both _ a held)
+    go (unfit a b e) = absurd (not_both _ b can)
+    go (busy a b f e) = elim (limit w H is.answered.0 f) [ inl z ↦ absurd (omega (arith, z, room)) | inr z ↦ absurd (omega (arith, z, some)) ]
+    go (opens a b f e) = e
+
+pub token_is : (w : Who) (H : List Call) (c : Controller) (now group k : ℕ) (bytes : List ℕ) → Is w (Broadcast now group bytes (Ok k) ∷ H) c
+    → k ≡ length (broadcasts w H)
+token_is w H c now group k bytes is = go (answers w H c now group bytes (Ok k) is)
+  where
+    go : BroadcastCase w H now group bytes (Ok k) → k ≡ length (broadcasts w H)
+    go (homeless a e) = absurd (cc)
+    go (unfit a b e) = absurd (cc)
+    go (busy a b f e) = absurd (cc)
+    go (opens a b f e) = cc
+
+-- ---- which frames are taken
+
+pub in_order : (w : Who) (H : List Call) (c : Controller) (k : ℕ) (m : MessageRecord) → Is w H c → open_broadcast w H ≡ Some (k, m)
+    → (slice_get (broadcasts w H) k ≡ Some m) × (packets H ≡ first_frames m (length (packets H)))
+in_order w H c k m is e =
+    let o = opened_by w _ _ _ (open_broadcast w H) (k, m) (laned w H is.answered) e in (o.last, o.frames)
+
+record Packed (w : Who) (H : List Call) (now : ℕ) (f : FrameRecord) : Type 0 where
+  pub token : ℕ
+  pub message : MessageRecord
+  pub current : open_broadcast w H ≡ Some (token, message)
+  pub is : message_of f ≡ frame_of message (length (packets H))
+  pub within : length (packets H) ≤ packets_of message
+  pub held : holds w H now ≡ true
+  pub none_due : slice_get (due w H) (length (acknowledged H)) ≡ None
+  pub none_waits : slice_get (accepted w H) (length (sent H)) ≡ None
+  pub over : pause H - step H now ≡ 0
+
+packed : (w : Who) (H : List Call) (c : Controller) (now : ℕ) (f : FrameRecord) → Is w (TakeFrame now (Some f) ∷ H) c → is_packet f ≡ true → Packed w H now f
+packed w H c now f is p = go (frame_case w H now f is.answered.1)
+  where
+    right : AreAnswered w H
+    right = is.answered.0
+
+    go : FrameCase w H now f → Packed w H now f
+    go (claims o e) = absurd (not_both _ (claim_single f (claim_taken f now w _ e)) p)
+    go (acknowledges m o k g e) = absurd (not_both _ (due_taken w f now m e (due_get w (due w H) (length (acknowledged H)) m (sound w H right).desk.0 g)).2 p)
+    go (sends x o k n g e) = absurd (not_both _ (single_taken w f now x e (own_get w (accepted w H) (length (sent H)) x (sound w H right).own g)) p)
+    go (packs m o k n past g e) =
+        let x = packet_case (open_broadcast w H) (length (packets H)) (pause H - step H now) m g in
+        record {
+          token = x.token;
+          message = x.message;
+          current = x.is;
+          is = ap (λ (y : ℕ × Message). y.1) e ∙ x.frame;
+          within = x.within;
+          held = k;
+          none_due = n;
+          none_waits = past;
+          over = x.over;
+        }
+
+pub only : (w : Who) (H : List Call) (c : Controller) (now : ℕ) (f : FrameRecord) → Is w (TakeFrame now (Some f) ∷ H) c → IsTrue (is_packet f)
+    → (k : ℕ) × (m : MessageRecord) × (open_broadcast w H ≡ Some (k, m)) × (message_of f ≡ frame_of m (length (packets H))) × (length (packets H) ≤ packets_of m)
+only w H c now f is p = let x = packed w H c now f is p in (x.token, x.message, x.current, x.is, x.within)
+
+pub behind : (w : Who) (H : List Call) (c : Controller) (now : ℕ) (f : FrameRecord) → Is w (TakeFrame now (Some f) ∷ H) c → IsTrue (is_packet f)
+    → IsTrue (holds w H now) × (length (sent H) ≡ length (accepted w H)) × (acknowledged H ≡ due w H)
+behind w H c now f is p =
+    let x = packed w H c now f is p in
+    let s = sound w H is.answered.0 in
+    let a = past_end (accepted w H) (length (sent H)) x.none_waits in
+    let b = sent_within w H s in
+    (x.held, omega (arith, a, b), whole (acknowledged H) (due w H) s.desk.1 (past_end (due w H) (length (acknowledged H)) x.none_due))
+
+-- ---- their spacing
+
+pause_or : (b : Bool) (p s q : ℕ) → 50000 ≤ p + q → 50000 ≤ (if b then 50000 else p - s) + (q + s)
+pause_or true p s q l = omega arith
+pause_or false p s q l = omega (arith, l)
+
+shorter : (p s q : ℕ) → 50000 ≤ p + q → 50000 ≤ (p - s) + (q + s)
+shorter p s q l = omega (arith, l)
+
+longer : (p q s : ℕ) → 50000 ≤ p + q → 50000 ≤ p + (q + s)
+longer p q s l = omega (arith, l)
+
+-- what is left of the pause, and what passed since a frame of packets
+pauses : (later E : List Call) → 50000 ≤ pause E → 50000 ≤ pause (later ++ E) + passed_in later E
+pauses [] E l = omega (arith, l)
+pauses (Hear f ∷ later) E l = shorter (pause (later ++ E)) (step (later ++ E) f.stamp) (passed_in later E) (pauses later E l)
+pauses (Tick now ∷ later) E l = shorter (pause (later ++ E)) (step (later ++ E) now) (passed_in later E) (pauses later E l)
+pauses (TakeFrame now None ∷ later) E l = shorter (pause (later ++ E)) (step (later ++ E) now) (passed_in later E) (pauses later E l)
+pauses (TakeFrame now (Some f) ∷ later) E l = pause_or (is_packet f) (pause (later ++ E)) (step (later ++ E) now) (passed_in later E) (pauses later E l)
+pauses (Send now d answer ∷ later) E l = shorter (pause (later ++ E)) (step (later ++ E) now) (passed_in later E) (pauses later E l)
+pauses (TakeEnded answer ∷ later) E l = longer (pause (later ++ E)) (passed_in later E) _ (pauses later E l)
+pauses (TakeReceived answer ∷ later) E l = longer (pause (later ++ E)) (passed_in later E) _ (pauses later E l)
+pauses (TakeRequest answer ∷ later) E l = longer (pause (later ++ E)) (passed_in later E) _ (pauses later E l)
+pauses (TakeNews answer ∷ later) E l = longer (pause (later ++ E)) (passed_in later E) _ (pauses later E l)
+pauses (Acknowledge now r answer result ∷ later) E l = shorter (pause (later ++ E)) (step (later ++ E) now) (passed_in later E) (pauses later E l)
+pauses (Broadcast now group bytes answer ∷ later) E l = shorter (pause (later ++ E)) (step (later ++ E) now) (passed_in later E) (pauses later E l)
+pauses (TakeBroadcastEnded answer ∷ later) E l = longer (pause (later ++ E)) (passed_in later E) _ (pauses later E l)
+
+pub spaced : (w : Who) (H later : List Call) (c : Controller) (now at : ℕ) (f g : FrameRecord)
+    → Is w (TakeFrame now (Some g) ∷ later ++ TakeFrame at (Some f) ∷ H) c → IsTrue (is_packet f) → IsTrue (is_packet g)
+    → 50000 ≤ passed_in (TakeFrame now (Some g) ∷ later) (TakeFrame at (Some f) ∷ H)
+spaced w H later c now at f g is p q =
+    let x = packed w (later ++ TakeFrame at (Some f) ∷ H) c now g is q in
+    let o = x.over in
+    let l = pauses later (TakeFrame at (Some f) ∷ H) (begins (is_packet f) p) in
+    over_all (pause (later ++ TakeFrame at (Some f) ∷ H)) (passed_in later (TakeFrame at (Some f) ∷ H)) (step (later ++ TakeFrame at (Some f) ∷ H) now) l o
+  where
+    begins : (b : Bool) → b ≡ true → 50000 ≤ (if b then 50000 else pause H - step H at)
+    begins true e = omega arith
+    begins false e = absurd (cc)
+
+    over_all : (p d s : ℕ) → 50000 ≤ p + d → p - s ≡ 0 → 50000 ≤ d + s
+    over_all p d s a b = omega (arith, a, b)
+
+at_most : (b : Bool) (p s : ℕ) → p ≤ 50000 → (if b then 50000 else p - s) ≤ 50000
+at_most true p s l = omega arith
+at_most false p s l = omega (arith, l)
+
+pub soon : (H : List Call) → pause H ≤ 50000
+soon [] = omega arith
+soon (Hear f ∷ H) = let l = soon H in omega (arith, l)
+soon (Tick now ∷ H) = let l = soon H in omega (arith, l)
+soon (TakeFrame now None ∷ H) = let l = soon H in omega (arith, l)
+soon (TakeFrame now (Some f) ∷ H) = at_most (is_packet f) (pause H) (step H now) (soon H)
+soon (Send now d answer ∷ H) = let l = soon H in omega (arith, l)
+soon (TakeEnded answer ∷ H) = soon H
+soon (TakeReceived answer ∷ H) = soon H
+soon (TakeRequest answer ∷ H) = soon H
+soon (TakeNews answer ∷ H) = soon H
+soon (Acknowledge now r answer result ∷ H) = let l = soon H in omega (arith, l)
+soon (Broadcast now group bytes answer ∷ H) = let l = soon H in omega (arith, l)
+soon (TakeBroadcastEnded answer ∷ H) = soon H
+
+-- a frame that is left waits for the pause alone
+no_frame : (o : Option (ℕ × MessageRecord)) (i left : ℕ) → is_left o i ≡ true → packet_by o i left ≡ None → 0 < left
+no_frame None i left e f = absurd (cc)
+no_frame (Some x) i zero e f = absurd (let z = some (nat_le i (packets_of x.1)) e f in z)
+  where
+    some : (b : Bool) → b ≡ true → (if b then Some (frame_of x.1 i) else None) ≡ None → ⊥
+    some true p q = absurd (cc)
+    some false p q = absurd (cc)
+no_frame (Some x) i (suc left) e f = omega arith
+
+pub waits : (w : Who) (H : List Call) (c : Controller) (now : ℕ) → Is w (TakeFrame now None ∷ H) c → IsTrue (holds w H now)
+    → IsTrue (has_packets w H) → step H now < pause H
+waits w H c now is held some =
+    let l = no_frame (open_broadcast w H) (length (packets H)) (pause H - step H now) some
+    (none (owes_claim w H) (holds w H now) (slice_get (due w H) (length (acknowledged H))) (slice_get (accepted w H) (length (sent H))) (next_packet w H now) held is.answered.1) in
+    omega (arith, l)
+  where
+    none : (o q : Bool) (a : Option Message) (z : Option (ℕ × Message)) (p : Option Message) → q ≡ true
+        → (let none : Option (ℕ × Message) = None in none) ≡ frame_by o q a z p (claim_from w (claim_address w (address_after w H))) now → p ≡ None
+    none true q a z p b e = absurd (cc)
+    none false false a z p b e = absurd (cc)
+    none false true (Some m) z p b e = absurd (cc)
+    none false true None (Some y) p b e = absurd (cc)
+    none false true None None (Some y) b e = absurd (cc)
+    none false true None None None b e = refl
+
+-- ---- how they end
+
+ended : (w : Who) (H : List Call) (c : Controller) (x : ℕ × Ending) → Is w (TakeBroadcastEnded (Some x) ∷ H) c
+    → LaneEnd (open_broadcast w H) (length (packets H)) (is_lost (address_after w H)) x
+ended w H c x is = lane_end (open_broadcast w H) (length (packets H)) (is_lost (address_after w H)) x is.answered.1
+
+pub in_turn : (w : Who) (H : List Call) (c : Controller) (k : ℕ) (e : Ending) → Is w (TakeBroadcastEnded (Some (k, e)) ∷ H) c
+    → (k ≡ length (told_broadcasts H)) × (k < length (broadcasts w H))
+in_turn w H c k e is = go (ended w H c (k, e) is)
+  where
+    by : (m : MessageRecord) → open_broadcast w H ≡ Some (k, m) → (k ≡ length (told_broadcasts H)) × (k < length (broadcasts w H))
+    by m f =
+        let o = opened_by w _ _ _ (open_broadcast w H) (k, m) (laned w H is.answered.0) f in
+        (o.token, (let a = o.count in omega (arith, a)))
+
+    go : LaneEnd (open_broadcast w H) (length (packets H)) (is_lost (address_after w H)) (k, e) → (k ≡ length (told_broadcasts H)) × (k < length (broadcasts w H))
+    go (complete m f l d) = by m f
+    go (broken m f l a d) = by m f
+
+length_frames : (m : MessageRecord) (n : ℕ) → length (first_frames m n) ≡ n
+length_frames m zero = refl
+length_frames m (suc n) = length_one_more (first_frames m n) (frame_of m n) ∙ ap suc (length_frames m n)
+
+pub done_means : (w : Who) (H : List Call) (c : Controller) (k : ℕ) (e : Ending) → Is w (TakeBroadcastEnded (Some (k, e)) ∷ H) c
+    → (e ≡ Done ↔ ((m : MessageRecord) × (slice_get (broadcasts w H) k ≡ Some m) × (packets H ≡ all_frames m)))
+done_means w H c k e is = go (ended w H c (k, e) is)
+  where
+    opened : (m : MessageRecord) → open_broadcast w H ≡ Some (k, m) → Opened w (length (told_broadcasts H)) (broadcasts w H) (packets H) (k, m)
+    opened m f = opened_by w _ _ _ (open_broadcast w H) (k, m) (laned w H is.answered.0) f
+
+    go : LaneEnd (open_broadcast w H) (length (packets H)) (is_lost (address_after w H)) (k, e)
+        → (e ≡ Done ↔ ((m : MessageRecord) × (slice_get (broadcasts w H) k ≡ Some m) × (packets H ≡ all_frames m)))
+    go (complete m f l d) =
+        let o = opened m f in
+        let all : length (packets H) ≡ suc (packets_of m) = (let a = o.within in omega (arith, a, l)) in
+        (λ z. (m, o.last, o.frames ∙ ap (first_frames m) all), λ z. d)
+    go (broken m f l a d) =
+        let o = opened m f in (
+          λ z. absurd (let y : Withdrawn ≡ Done = sym d ∙ z in cc),
+          λ z. absurd (
+              let y = sym o.last ∙ z.1 in
+              let same : m ≡ z.0 = cc in
+              let n = ap length z.2 ∙ length_frames z.0 (suc (packets_of z.0)) in
+              let b = ap packets_of same in
+              omega (arith, n, b, l)
+              ),
+        )
+
+pub withdrawn_means : (w : Who) (H : List Call) (c : Controller) (k : ℕ) (e : Ending) → Is w (TakeBroadcastEnded (Some (k, e)) ∷ H) c → e ≡ Withdrawn
+    → IsTrue (is_lost (address_after w H))
+withdrawn_means w H c k e is z = go (ended w H c (k, e) is)
+  where
+    go : LaneEnd (open_broadcast w H) (length (packets H)) (is_lost (address_after w H)) (k, e) → is_lost (address_after w H) ≡ true
+    go (complete m f l d) = absurd (let y : Done ≡ Withdrawn = sym d ∙ z in cc)
+    go (broken m f l a d) = a
+
+pub all_told : (w : Who) (H : List Call) (c : Controller) → Is w (TakeBroadcastEnded None ∷ H) c
+    → (length (told_broadcasts H) ≡ length (broadcasts w H)) ⊎ (IsTrue (has_packets w H) × (IsTrue (is_lost (address_after w H)) → ⊥))
+all_told w H c is = go (open_broadcast w H) (laned w H is.answered.0) is.answered.1
+  where
+    by : (b l : Bool) (i n k : ℕ) → Rattle.std.proofs.Common.nat_lt n i ≡ b → (let none : Option (ℕ × Ending) = None in none) ≡ Rattle.j39_node.specs.Is.ending_of b l k
+        → (nat_le i n ≡ true) × (l ≡ false)
+    by true l i n k e f = absurd (cc)
+    by false true i n k e f = absurd (cc)
+    by false false i n k e f = (flip i n e, refl)
+      where
+        flip : (i n : ℕ) → Rattle.std.proofs.Common.nat_lt n i ≡ false → nat_le i n ≡ true
+        flip i n g = grind arith
+
+    go : (o : Option (ℕ × MessageRecord)) → Laned w (length (told_broadcasts H)) (broadcasts w H) (packets H) o
+        → (let none : Option (ℕ × Ending) = None in none) ≡ broadcast_end o (length (packets H)) (is_lost (address_after w H))
+        → (length (told_broadcasts H) ≡ length (broadcasts w H)) ⊎ (IsTrue (is_left o (length (packets H))) × (IsTrue (is_lost (address_after w H)) → ⊥))
+    go None h e = inl h
+    go (Some x) h e = let z = by _ (is_lost (address_after w H)) (length (packets H)) (packets_of x.1) x.0 refl e in inr (z.0, not_both _ z.1)

@@ -1,0 +1,180 @@
+-- What every answered history says of broadcasts.
+use Rattle.std.proofs.Common.{◌≡◌, ℕ, suc, ◌-◌, ◌<◌, ◌≤◌, List, [], ◌∷◌, ◌++◌, length, Option, Some, None, Result, Ok, Err, Bool, true, false, ◌||◌, if◌then◌else◌, nat_lt, refl, sym, ap, ◌∙◌, subst, arith, ltb-true}
+use Rattle.std.specs.List.{slice_get}
+use Rattle.j39_frame.specs.Frame.{FrameRecord}
+use Rattle.j39_transport.specs.Message.{MessageRecord, packets_of}
+use Rattle.j39_node.specs.declared.kinds.Ending.{Ending}
+use Rattle.j39_node.specs.declared.kinds.Ending.TheVariants.{Done, Withdrawn}
+use Rattle.j39_node.specs.declared.kinds.Refused.{Refused}
+use Rattle.j39_node.specs.declared.kinds.Refused.TheVariants.{NoAddress, BadValue, Full}
+use Rattle.j39_node.specs.History.{Who, Message, Call, accepted, acknowledged, due, sent, address_after, broadcast_from, broadcasts, can_broadcast, first_frames, frame_of, holds, is_busy, is_lost, is_open, is_packet, open_broadcast, packets, pause, step, told_broadcasts}
+use Rattle.j39_node.specs.History.Call.{Hear, Tick, TakeFrame, Send, TakeEnded, TakeReceived, TakeRequest, TakeNews, Acknowledge, Broadcast, TakeBroadcastEnded}
+use Rattle.j39_node.specs.Is.{AreAnswered, answer_to_broadcast, broadcast_end, stamped}
+use Rattle.j39_node.proofs.QueueLemmas.{length_one_more}
+use Rattle.j39_node.proofs.SoundLemmas.{FrameCase, PacketCase, frame_case, packet_case, packet_taken, packets_is, sound, claim_taken, claim_single, due_get, due_taken, own_get, single_taken}
+use Rattle.j39_node.proofs.SoundLemmas.FrameCase.{claims, acknowledges, sends, packs}
+
+-- ---- what broadcast answers
+
+pub data BroadcastCase (w : Who) (H : List Call) (now group : ℕ) (bytes : List ℕ) (answer : Result ℕ Refused) : Type 0 where
+  homeless : holds w H now ≡ false → answer ≡ Err NoAddress → BroadcastCase w H now group bytes answer
+  unfit : holds w H now ≡ true → can_broadcast group bytes ≡ false → answer ≡ Err BadValue → BroadcastCase w H now group bytes answer
+  busy : holds w H now ≡ true → can_broadcast group bytes ≡ true → is_busy w H ≡ true → answer ≡ Err Full → BroadcastCase w H now group bytes answer
+  opens : holds w H now ≡ true → can_broadcast group bytes ≡ true → is_busy w H ≡ false → answer ≡ Ok (length (broadcasts w H))
+      → BroadcastCase w H now group bytes answer
+
+pub broadcast_case : (w : Who) (H : List Call) (now group : ℕ) (bytes : List ℕ) (answer : Result ℕ Refused) → answer ≡ answer_to_broadcast w H now group bytes
+    → BroadcastCase w H now group bytes answer
+broadcast_case w H now group bytes answer e = go (holds w H now) (can_broadcast group bytes) (is_busy w H) refl refl refl e
+  where
+    go : (x y z : Bool) → holds w H now ≡ x → can_broadcast group bytes ≡ y → is_busy w H ≡ z
+        → answer ≡ (if x then (if y then (if z then Err Full else Ok (length (broadcasts w H))) else Err BadValue) else Err NoAddress)
+        → BroadcastCase w H now group bytes answer
+    go false y z p q r i = homeless p i
+    go true false z p q r i = unfit p q i
+    go true true true p q r i = busy p q r i
+    go true true false p q r i = opens p q r i
+
+-- ---- how a broadcast ended
+
+pub data LaneEnd (o : Option (ℕ × MessageRecord)) (i : ℕ) (lost : Bool) (x : ℕ × Ending) : Type 0 where
+  complete : (m : MessageRecord) → o ≡ Some (x.0, m) → packets_of m < i → x.1 ≡ Done → LaneEnd o i lost x
+  broken : (m : MessageRecord) → o ≡ Some (x.0, m) → i ≤ packets_of m → lost ≡ true → x.1 ≡ Withdrawn → LaneEnd o i lost x
+
+not_lt : (m n : ℕ) → nat_lt m n ≡ false → n ≤ m
+not_lt m n f = grind arith
+
+pub lane_end : (o : Option (ℕ × MessageRecord)) (i : ℕ) (lost : Bool) (x : ℕ × Ending) → Some x ≡ broadcast_end o i lost → LaneEnd o i lost x
+lane_end None i lost x e = absurd (cc)
+lane_end (Some y) i lost x e = go (nat_lt (packets_of y.1) i) lost refl refl e
+  where
+    same : x.0 ≡ y.0 → Some y ≡ Some (x.0, y.1)
+    same z = ap (λ (k : ℕ). (let u : Option (ℕ × MessageRecord) = Some (k, y.1) in u)) (sym z)
+
+    go : (b l : Bool) → nat_lt (packets_of y.1) i ≡ b → lost ≡ l → Some x ≡ Rattle.j39_node.specs.Is.ending_of b l y.0 → LaneEnd (Some y) i lost x
+    go true l p q r = let z : x ≡ (y.0, Done) = cc in complete y.1 (same (ap (λ (u : ℕ × Ending). u.0) z)) (ltb-true _ _ p) (ap (λ (u : ℕ × Ending). u.1) z)
+    go false true p q r =
+        let z : x ≡ (y.0, Withdrawn) = cc in broken y.1 (same (ap (λ (u : ℕ × Ending). u.0) z)) (not_lt _ _ p) q (ap (λ (u : ℕ × Ending). u.1) z)
+    go false false p q r = absurd (cc)
+
+-- ---- the open broadcast
+
+-- it is the last that was accepted, and what was taken since are its first frames
+pub record Opened (w : Who) (told : ℕ) (all : List MessageRecord) (taken : List Message) (x : ℕ × MessageRecord) : Type 0 where
+  pub token : x.0 ≡ told
+  pub last : slice_get all x.0 ≡ Some x.1
+  pub count : suc x.0 ≡ length all
+  pub source : x.1.source ≡ w.address
+  pub frames : taken ≡ first_frames x.1 (length taken)
+  pub within : length taken ≤ suc (packets_of x.1)
+
+abbrev pub Laned : Who → ℕ → List MessageRecord → List Message → Option (ℕ × MessageRecord) → Type 0
+Laned w told all taken None = told ≡ length all
+Laned w told all taken (Some x) = Opened w told all taken x
+
+pub closed : (w : Who) (told : ℕ) (all : List MessageRecord) (taken : List Message) (o : Option (ℕ × MessageRecord)) → Laned w told all taken o
+    → is_open o ≡ false → told ≡ length all
+closed w told all taken None h e = h
+closed w told all taken (Some x) h e = absurd (cc)
+
+pub stands_open : (w : Who) (told : ℕ) (all : List MessageRecord) (taken : List Message) (o : Option (ℕ × MessageRecord)) → Laned w told all taken o
+    → is_open o ≡ true → length all ≡ suc told
+stands_open w told all taken None h e = absurd (cc)
+stands_open w told all taken (Some x) h e = let a = h.token in let b = h.count in omega (arith, a, b)
+
+pub opened_by : (w : Who) (told : ℕ) (all : List MessageRecord) (taken : List Message) (o : Option (ℕ × MessageRecord)) (x : ℕ × MessageRecord)
+    → Laned w told all taken o → o ≡ Some x → Opened w told all taken x
+opened_by w told all taken o x h e = subst (Laned w told all taken) e h
+
+get_last : {T : Type 0} (xs : List T) (x : T) → slice_get (xs ++ x ∷ []) (length xs) ≡ Some x
+get_last [] x = refl
+get_last (y ∷ xs) x = get_last xs x
+
+grows : (w : Who) (told : ℕ) (all : List MessageRecord) (xs : List Message) (m : Message) (o : Option (ℕ × MessageRecord)) (left : ℕ)
+    → PacketCase o (length xs) left m → Laned w told all xs o → Laned w told all (xs ++ m ∷ []) o
+grows w told all xs m None left p h = absurd (let z = p.is in cc)
+grows w told all xs m (Some x) left p h =
+    let z = p.is in
+    let same : p.message ≡ x.1 = cc in
+    record {
+      token = h.token;
+      last = h.last;
+      count = h.count;
+      source = h.source;
+      frames = ap (λ ys. ys ++ m ∷ []) h.frames
+          ∙ (ap (λ (y : Message). first_frames x.1 (length xs) ++ y ∷ []) (p.frame ∙ ap (λ (r : MessageRecord). frame_of r (length xs)) same)
+          ∙ ap (first_frames x.1) (sym (length_one_more xs m)));
+      within = (let a = p.within in let b = length_one_more xs m in let d = ap packets_of same in omega (arith, a, b, d));
+    }
+
+-- a frame is taken
+lane_frame : (w : Who) (H : List Call) (now : ℕ) (f : FrameRecord) → AreAnswered w H → FrameCase w H now f
+    → Laned w (length (told_broadcasts H)) (broadcasts w H) (packets H) (open_broadcast w H)
+    → Laned w (length (told_broadcasts H)) (broadcasts w H) (packets (TakeFrame now (Some f) ∷ H)) (open_broadcast w H)
+lane_frame w H now f right case h = go case
+  where
+    same : is_packet f ≡ false → Laned w (length (told_broadcasts H)) (broadcasts w H) (packets (TakeFrame now (Some f) ∷ H)) (open_broadcast w H)
+    same e = subst (λ xs. Laned w (length (told_broadcasts H)) (broadcasts w H) xs (open_broadcast w H)) (sym (packets_is H now f false e)) h
+
+    go : FrameCase w H now f → Laned w (length (told_broadcasts H)) (broadcasts w H) (packets (TakeFrame now (Some f) ∷ H)) (open_broadcast w H)
+    go (claims o e) = same (claim_single f (claim_taken f now w _ e))
+    go (acknowledges m o k g e) = same (due_taken w f now m e (due_get w (due w H) (length (acknowledged H)) m (sound w H right).desk.0 g)).2
+    go (sends x o k n g e) = same (single_taken w f now x e (own_get w (accepted w H) (length (sent H)) x (sound w H right).own g))
+    go (packs m o k n past g e) =
+        let is = packet_taken f now m (open_broadcast w H) (length (packets H)) (pause H - step H now) e g in
+        subst (λ xs. Laned w (length (told_broadcasts H)) (broadcasts w H) xs (open_broadcast w H))
+        (sym (packets_is H now f true is.2 ∙ ap (λ (y : ℕ × Message). packets H ++ y.1 ∷ []) e))
+        (grows w (length (told_broadcasts H)) (broadcasts w H) (packets H) m (open_broadcast w H) (pause H - step H now)
+        (packet_case (open_broadcast w H) (length (packets H)) (pause H - step H now) m g) h)
+
+not_either : (a b : Bool) → (a || b) ≡ false → a ≡ false
+not_either true b e = absurd (cc)
+not_either false b e = refl
+
+-- a broadcast is accepted
+lane_opens : (w : Who) (H : List Call) (now group k : ℕ) (bytes : List ℕ) → BroadcastCase w H now group bytes (Ok k)
+    → Laned w (length (told_broadcasts H)) (broadcasts w H) (packets H) (open_broadcast w H)
+    → Opened w (length (told_broadcasts H)) (broadcasts w H ++ broadcast_from w group bytes ∷ []) [] (k, broadcast_from w group bytes)
+lane_opens w H now group k bytes (homeless a e) h = absurd (cc)
+lane_opens w H now group k bytes (unfit a b e) h = absurd (cc)
+lane_opens w H now group k bytes (busy a b d e) h = absurd (cc)
+lane_opens w H now group k bytes (opens a b d e) h =
+    let n : k ≡ length (broadcasts w H) = cc in
+    let t = closed w (length (told_broadcasts H)) (broadcasts w H) (packets H) (open_broadcast w H) h (not_either _ _ d) in
+    record {
+      token = n ∙ sym t;
+      last = ap (slice_get (broadcasts w H ++ broadcast_from w group bytes ∷ [])) n ∙ get_last (broadcasts w H) (broadcast_from w group bytes);
+      count = ap suc n ∙ sym (length_one_more (broadcasts w H) (broadcast_from w group bytes));
+      source = refl;
+      frames = refl;
+      within = omega arith;
+    }
+
+-- its end is told
+lane_closes : (w : Who) (H : List Call) (x : ℕ × Ending) → LaneEnd (open_broadcast w H) (length (packets H)) (is_lost (address_after w H)) x
+    → Laned w (length (told_broadcasts H)) (broadcasts w H) (packets H) (open_broadcast w H)
+    → length (told_broadcasts H ++ x ∷ []) ≡ length (broadcasts w H)
+lane_closes w H x (complete m e l d) h =
+    let o = opened_by w _ _ _ (open_broadcast w H) (x.0, m) h e in
+    let a = o.token in let b = o.count in let n = length_one_more (told_broadcasts H) x in omega (arith, a, b, n)
+lane_closes w H x (broken m e l a d) h =
+    let o = opened_by w _ _ _ (open_broadcast w H) (x.0, m) h e in
+    let a = o.token in let b = o.count in let n = length_one_more (told_broadcasts H) x in omega (arith, a, b, n)
+
+pub laned : (w : Who) (H : List Call) → AreAnswered w H → Laned w (length (told_broadcasts H)) (broadcasts w H) (packets H) (open_broadcast w H)
+laned w [] e = refl
+laned w (Hear f ∷ H) e = laned w H e.0
+laned w (Tick now ∷ H) e = laned w H e.0
+laned w (TakeFrame now None ∷ H) e = laned w H e.0
+laned w (TakeFrame now (Some f) ∷ H) e = lane_frame w H now f e.0 (frame_case w H now f e.1) (laned w H e.0)
+laned w (Send now d answer ∷ H) e = laned w H e.0
+laned w (TakeEnded answer ∷ H) e = laned w H e.0
+laned w (TakeReceived answer ∷ H) e = laned w H e.0
+laned w (TakeRequest answer ∷ H) e = laned w H e.0
+laned w (TakeNews answer ∷ H) e = laned w H e.0
+laned w (Acknowledge now r answer result ∷ H) e = laned w H e.0
+laned w (Broadcast now group bytes (Ok k) ∷ H) e = lane_opens w H now group k bytes (broadcast_case w H now group bytes (Ok k) e.1) (laned w H e.0)
+laned w (Broadcast now group bytes (Err r) ∷ H) e = laned w H e.0
+laned w (TakeBroadcastEnded None ∷ H) e = laned w H e.0
+laned w (TakeBroadcastEnded (Some x) ∷ H) e =
+    lane_closes w H x (lane_end (open_broadcast w H) (length (packets H)) (is_lost (address_after w H)) x e.1) (laned w H e.0)

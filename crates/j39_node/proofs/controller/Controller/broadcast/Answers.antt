@@ -1,0 +1,16 @@
+use Rattle.std.proofs.Common.{◌∙◌, ap, sym, refl, arith, true, false, Ok}
+use Rattle.j39_frame.specs.Stamp.{stamp_micros}
+use Rattle.j39_frame.specs.Pgn.{pgn_raw}
+use Rattle.j39_node.specs.Is.{LaneRecord}
+use Rattle.j39_node.proofs.CallLemmas.{passed_is, holds_is, begins, broadcast_is, busy_is}
+use Rattle.j39_node.proofs.controller.Controller.broadcast.Goals as goal
+
+pub returns-else-is_busy : goal.returns-else-is_busy
+returns-else-is_busy c = λ w H h.
+    let p = passed_is w H (stamp_micros c.args.now) c.args.self.now.hold c.passed-self.result h.hold c.passed-self.ensures in
+    let b = sym (holds_is w H (stamp_micros c.args.now) c.passed-self.result c.is_held.result p c.is_held.ensures) ∙ c.if-not-is_held.false in
+    begins w H c.args.self.now _ (stamp_micros c.args.now) (pgn_raw c.args.group) c.args.bytes.now c.in-Some.broadcast h p
+    (sym (broadcast_is w H (stamp_micros c.args.now) (pgn_raw c.args.group) c.args.bytes.now true true false b (c.in-Some.ensures.known.0 refl)
+    (sym (busy_is w H c.args.self.now h) ∙ (sym (c.is_busy.ensures.value w) ∙ c.if-is_busy.false))
+    ∙ ap Ok (sym (ap (λ (l : LaneRecord). l.next_token) h.lane))))
+    (c.in-Some.ensures.value w) refl refl refl (omega arith)

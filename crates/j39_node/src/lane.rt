@@ -1,0 +1,155 @@
+//! Messages that are broadcast in packets (J1939-21, 5.10.3.5 and 5.12.3).
+ghost use Rattle.std.specs.Prelude.{◌≡◌, ◌≤◌, ◌<◌, ◌↔◌, ◌||◌, ◌==◌, ℕ, List, length, nat_eq, Some, IsSome, IfSome, IsSomeAnd, true, false, if◌then◌else◌};
+ghost use Rattle.std.specs.Option.{option_map};
+ghost use Rattle.j39_frame.specs.Identifier.{id_raw};
+ghost use Rattle.j39_frame.specs.Pgn.{pgn_raw};
+ghost use Rattle.j39_frame.specs.Stamp.{stamp_micros};
+ghost use Rattle.j39_frame.specs.Network.{transport_control_group, transport_data_group};
+ghost use Rattle.j39_transport.specs.Message.{packets_of};
+ghost use Rattle.j39_node.specs.History.{Who, broadcast_from, can_broadcast, carried, is_left, is_open};
+
+use crate::Ending;
+use crate::outgoing::is_sendable;
+use crate::own::{Own, TRANSPORT_CONTROL, TRANSPORT_DATA};
+use arrayvec::ArrayVec;
+use j39_frame::{Frame, GLOBAL_ADDRESS, Id, Pgn, Stamp};
+use j39_transport::{Cut, LONGEST, SHORTEST};
+
+/// A broadcast that is not told to have ended.
+#[derive(Drop)]
+pub(crate) struct Open {
+    pub(crate) token: u64,
+    pub(crate) group: Pgn,
+    pub(crate) bytes: ArrayVec<u8, LONGEST>,
+    pub ghost least: { 9 ≤ length bytes.items },
+    pub ghost most: { length bytes.items ≤ 1785 },
+}
+
+impl Open {
+    ghost use Rattle.j39_node.specs.Is.{opened, packet_by, stamped, who_of};
+
+    /// A message that is to be broadcast; `None` where it can't be.
+    pub(crate) fn new(token: u64, group: Pgn, bytes: &[u8]) -> Option<Open>
+        ensures known { IsSome result ↔ (can_broadcast (pgn_raw group) bytes.now ≡ true) }
+        ensures value { IfSome result (λ x. (w : Who) → opened w x ≡ (token, broadcast_from w (pgn_raw group) bytes.now)) }
+    {
+        if !(is_sendable(group) && (bytes.len() >= SHORTEST && bytes.len() <= LONGEST)) {
+            return None;
+        }
+        let mut kept = ArrayVec::new();
+        kept.try_extend_from_slice(bytes).ok()?;
+        Some(Open {
+            token,
+            group,
+            bytes: kept,
+        })
+    }
+
+    /// How many packets it takes.
+    fn packets(&self) -> u16
+        ensures value { (w : Who) → result ≡ packets_of (opened w self.now).1 }
+        ensures most { result ≤ 255 }
+    {
+        ((self.bytes.len() + 6) / 7) as u16
+    }
+
+    /// Frame `count` of it; `None` past its last.
+    fn frame(&self, own: &Own, count: u16, now: Stamp) -> Option<Frame>
+        ensures { option_map stamped result ≡ option_map (λ m. (stamp_micros now, m))
+            (packet_by (Some (opened (who_of own.now) self.now)) count 0) }
+    {
+        let cut = Cut::new(own.address, self.group, self.bytes.as_slice())?;
+        let (_id, bytes) = cut.frame(count)?;
+        let id = frame_id(own.address, count)?;
+        Frame::new(now, id, &bytes)
+    }
+}
+
+/// The lane of broadcasts: one is open at a time.
+#[derive(Drop)]
+pub(crate) struct Lane {
+    pub(crate) current: Option<Open>,
+    /// How many of its frames were taken.
+    pub(crate) count: u16,
+    pub(crate) next_token: u64,
+}
+
+impl Lane {
+    ghost use Rattle.j39_node.specs.Is.{broadcast_end, lane_of, opened, packet_by, stamped, who_of};
+
+    /// The next frame of the open broadcast, once nothing is left of the pause.
+    pub(crate) fn frame(&self, own: &Own, pause: u64, now: Stamp) -> Option<Frame>
+        ensures frame { option_map stamped result ≡ option_map (λ m. (stamp_micros now, m))
+            (packet_by (lane_of (who_of own.now) self.now).current self.now.count pause) }
+        ensures count { IfSome result (λ f. self.now.count ≤ 255) }
+    {
+        if pause > 0 {
+            return None;
+        }
+        match &self.current {
+            Some(broadcast) => {
+                if self.count > broadcast.packets() {
+                    return None;
+                }
+                broadcast.frame(own, self.count, now)
+            }
+            None => None,
+        }
+    }
+
+    /// Whether a frame of the open broadcast wasn't taken.
+    pub(crate) fn is_left(&self) -> bool
+        ensures { (w : Who) → result ≡ is_left (lane_of w self.now).current self.now.count }
+    {
+        match &self.current {
+            Some(broadcast) => self.count <= broadcast.packets(),
+            None => false,
+        }
+    }
+
+    /// Whether no broadcast can be accepted.
+    pub(crate) fn is_busy(&self) -> bool
+        ensures room { result ≡ false → self.now.next_token < 18446744073709551615 }
+        ensures value { (w : Who) → result
+            ≡ (is_open (lane_of w self.now).current || nat_eq self.now.next_token 18446744073709551615) }
+    {
+        self.current.is_some() || self.next_token == u64::MAX
+    }
+
+    /// How the open broadcast ended.
+    pub(crate) fn ended(&self, is_lost: bool) -> Option<(u64, Ending)>
+        ensures { (w : Who) → result ≡ broadcast_end (lane_of w self.now).current self.now.count is_lost }
+    {
+        match &self.current {
+            Some(broadcast) => {
+                if broadcast.packets() < self.count {
+                    return Some((broadcast.token, Ending::Done));
+                }
+                if is_lost {
+                    return Some((broadcast.token, Ending::Withdrawn));
+                }
+                None
+            }
+            None => None,
+        }
+    }
+}
+
+/// The identifier of frame `count` of a broadcast.
+fn frame_id(source: u8, count: u16) -> Option<Id>
+    ensures { IsSomeAnd result (λ id. (bytes : List ℕ) → carried (id_raw id) bytes ≡ record {
+      source = source;
+      destination = Some 255;
+      priority = 7;
+      group = if count == 0 then transport_control_group else transport_data_group;
+      bytes = bytes;
+    }) }
+{
+    let number = if count == 0 {
+        TRANSPORT_CONTROL
+    } else {
+        TRANSPORT_DATA
+    };
+    let group = Pgn::new(number)?;
+    Id::compose(7, group, GLOBAL_ADDRESS, source)
+}
