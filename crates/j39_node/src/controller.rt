@@ -89,11 +89,7 @@ impl Controller {
                 missed: false,
             },
             holders: Claims::new(),
-            lane: Lane {
-                current: None,
-                count: 0,
-                next_token: 0,
-            },
+            lane: Lane::new(),
         })
     }
 

@@ -1,5 +1,5 @@
 //! Messages that are broadcast in packets (J1939-21, 5.10.3.5 and 5.12.3).
-ghost use Rattle.std.specs.Prelude.{◌≡◌, ◌≤◌, ◌<◌, ◌↔◌, ◌||◌, ◌==◌, ℕ, List, length, nat_eq, Some, IsSome, IfSome, IsSomeAnd, true, false, if◌then◌else◌};
+ghost use Rattle.std.specs.Prelude.{◌≡◌, ◌≤◌, ◌<◌, ◌↔◌, ◌||◌, ◌==◌, ℕ, List, length, nat_eq, None, Some, IsSome, IfSome, IsSomeAnd, true, false, if◌then◌else◌};
 ghost use Rattle.std.specs.Option.{option_map};
 ghost use Rattle.j39_frame.specs.Identifier.{id_raw};
 ghost use Rattle.j39_frame.specs.Pgn.{pgn_raw};
@@ -76,6 +76,17 @@ pub(crate) struct Lane {
 
 impl Lane {
     ghost use Rattle.j39_node.specs.Is.{broadcast_end, lane_of, opened, packet_by, stamped, who_of};
+
+    /// No broadcast was accepted.
+    pub(crate) fn new() -> Lane
+        ensures { result ≡ record { current = None; count = 0; next_token = 0 } }
+    {
+        Lane {
+            current: None,
+            count: 0,
+            next_token: 0,
+        }
+    }
 
     /// The next frame of the open broadcast, once nothing is left of the pause.
     pub(crate) fn frame(&self, own: &Own, pause: u64, now: Stamp) -> Option<Frame>

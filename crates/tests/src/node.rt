@@ -3,6 +3,7 @@ use j39_address::{Name, Status};
 use j39_frame::{Frame, Pgn, Stamp};
 use j39_log::{Bus, Line, line_of, read_line};
 use j39_node::{Answer, Controller, Ending, News, Refused};
+use j39_transport::{Assembler, Fed};
 use std::test::Fail;
 
 /// What is done with a controller, and what it answers.
@@ -41,8 +42,8 @@ enum Step {
 
 use Status::{Cannot, Claiming, Holding, Idle};
 use Step::{
-    Broadcasts, Ends, EndsBroadcast, Gives, HandsOut, HandsOutNone, Hears, Holder, Is, IsAsked, IsAskedNothing, IsDue, Missed,
-    Sends, Tells, WouldGive,
+    Broadcasts, Ends, EndsBroadcast, Gives, HandsOut, HandsOutNone, Hears, Holder, Is, IsAsked,
+    IsAskedNothing, IsDue, Missed, Sends, Tells, WouldGive,
 };
 
 /// NAME 2 at address 128, whose program serves group 65259.
@@ -117,11 +118,7 @@ static STEPS: &[Step] = &[
     Broadcasts(296_000, &[1, 2, 3, 4, 5, 6, 7, 8], Err(Refused::BadValue)),
     Broadcasts(296_000, &[1; 1_786], Err(Refused::BadValue)),
     Broadcasts(296_000, &[1, 2, 3, 4, 5, 6, 7, 8, 9], Ok(0)),
-    Broadcasts(
-        296_000,
-        &[1, 2, 3, 4, 5, 6, 7, 8, 9],
-        Err(Refused::Full),
-    ),
+    Broadcasts(296_000, &[1, 2, 3, 4, 5, 6, 7, 8, 9], Err(Refused::Full)),
     IsDue(Some(296_000)),
     EndsBroadcast(None),
     WouldGive(
@@ -156,11 +153,7 @@ static STEPS: &[Step] = &[
         Some("(0000000000.400000) can0 1CEBFF80#020809FFFFFFFFFF"),
     ),
     IsDue(None),
-    Broadcasts(
-        600_000,
-        &[1, 2, 3, 4, 5, 6, 7, 8, 9],
-        Err(Refused::Full),
-    ),
+    Broadcasts(600_000, &[1, 2, 3, 4, 5, 6, 7, 8, 9], Err(Refused::Full)),
     EndsBroadcast(Some((0, Ending::Done))),
     EndsBroadcast(None),
     // A clock that is set back is no time; a smaller NAME takes the address.
@@ -310,5 +303,51 @@ fn node(rt: HostRuntime) -> Result<(), Fail> {
     assert_eq!(rt; wrong_step(&mut node, STEPS), None);
     let mut deaf = Controller::new(Name::new(2), 128, &served).ok_or("node")?;
     assert_eq!(rt; wrong_step(&mut deaf, UNREAD), None);
+    Ok(())
+}
+
+/// Broadcasts of so many bytes, each handed in when the last is over, and the moment of the last packet.
+static LONG: &[(usize, u64)] = &[
+    (9, 350_000),
+    (14, 500_000),
+    (15, 700_000),
+    (1_785, 13_500_000),
+];
+
+/// The moment of the last packet of these bytes, where an assembler that hears each frame when it is due puts them together.
+fn put_together(
+    node: &mut Controller,
+    assembler: &mut Assembler,
+    now: u64,
+    bytes: &[u8],
+) -> Option<u64> {
+    let group = Pgn::new(65_226)?;
+    node.broadcast(Stamp::new(now)?, group, bytes).ok()?;
+    for _frame in 0..256 {
+        let due = node.next_due()?;
+        let frame = node.take_frame(due)?;
+        if let Fed::Whole(message) = assembler.feed(&frame).ok()? {
+            let is_it = message.source == 128 && message.payload == bytes;
+            return if is_it { Some(due.micros()) } else { None };
+        }
+    }
+    None
+}
+
+#[test]
+fn broadcasts_of_a_node(rt: HostRuntime) -> Result<(), Fail> {
+    let mut node = Controller::new(Name::new(2), 128, &[]).ok_or("node")?;
+    let mut assembler = Assembler::new(rt.alloc());
+    let _claim = node.take_frame(Stamp::new(0).ok_or("moment")?);
+    let bytes: [u8; 1_785] = std::array::from_fn(|place| (place % 251) as u8);
+    let mut now = 250_000;
+    for (token, (size, last)) in LONG.iter().enumerate() {
+        let payload = bytes.get(..*size).ok_or("size")?;
+        let met = put_together(&mut node, &mut assembler, now, payload);
+        assert_eq!(rt; met, Some(*last));
+        let ended = Some((token as u64, Ending::Done));
+        assert_eq!(rt; node.take_broadcast_ended(), ended);
+        now = *last;
+    }
     Ok(())
 }
