@@ -1,13 +1,13 @@
 //! The fault codes in a log, as they become news (J1939-73).
 
-mod account;
+pub(crate) mod account;
 mod changes;
-mod form;
+pub(crate) mod form;
 mod last_faults;
 mod last_message;
 mod last_messages;
 pub mod laws;
-mod lines;
+pub(crate) mod lines;
 mod names;
 mod records;
 mod run;

@@ -3,6 +3,7 @@
 
 mod columns;
 pub mod fault_news;
+pub mod current_faults;
 mod parts;
 mod report_records;
 pub mod summaries;
@@ -10,6 +11,7 @@ pub mod surveys;
 mod utc;
 
 pub use fault_news::{Choice, Telling, faults};
+pub use current_faults::faults_now;
 pub use report_records::report_csv;
 pub use summaries::summary;
 pub use surveys::survey;

@@ -213,14 +213,14 @@ fn put_asked<W: Sink>(
 }
 
 /// Whether messages of an identifier's group are heard in one frame.
-fn is_of_fault_group(id: Id) -> bool
+pub(crate) fn is_of_fault_group(id: Id) -> bool
     ensures { result ≡ is_fault_group (pgn_of (id_raw id)) }
 {
     fault_group(id.pgn()).is_some() || id.is_request()
 }
 
 /// A byte is below 256.
-fn is_byte(_byte: u8)
+pub(crate) fn is_byte(_byte: u8)
     ensures { _byte < 256 }
 {}
 

@@ -1,0 +1,11 @@
+use Rattle.std.proofs.Common.{refl}
+use Rattle.j39_listen.specs.Output.{nothing}
+use Rattle.j39_reports.proofs.current_faults.run.faults_now.Goals as goal
+
+pub returns-in-Line-clause-ran : goal.returns-in-Line-clause-ran
+returns-in-Line-clause-ran g c = rw c.in-Line.is (rw c.in-Line.is at
+    (c.run_over.ensures.ran (c.args.format, record { rows = c.args.groups.now; conversions = c.args.conversions.now }) nothing (λ name. c.new-account.ensures) refl))
+
+pub returns-in-Record-clause-ran : goal.returns-in-Record-clause-ran
+returns-in-Record-clause-ran g c = rw c.in-Record.is (rw c.in-Record.is at
+    (c.run_headed.ensures.ran (c.args.format, record { rows = c.args.groups.now; conversions = c.args.conversions.now }) nothing (λ name. c.new-account.ensures) refl))
