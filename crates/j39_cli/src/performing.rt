@@ -4,7 +4,7 @@ ghost use Rattle.j39_io.specs.Turn.{turn};
 ghost use Rattle.j39_groups.specs.Table.{the_table};
 ghost use Rattle.j39_cli.specs.Task.{IsPerformed, reads_log};
 
-use crate::faults::choice_of;
+use crate::faults::{run_faults, versions_in};
 use crate::id::id_line;
 use crate::log::{LOG_LIMIT, copy_of, tell_end};
 use crate::name::name_lines;
@@ -12,7 +12,7 @@ use crate::shown::show_text;
 use crate::{Task, answer, groups, nodes, report, survey};
 use j39_groups::Groups;
 use j39_io::{Sink, Source};
-use j39_reports::{faults, summary};
+use j39_reports::summary;
 use std::alloc::Global;
 
 /// Performs a task by the built-in table of parameters.
@@ -90,13 +90,13 @@ pub fn perform_with<R: Source, W: Sink, E: Sink>(
         Task::Faults {
             input,
             conversions,
-            telling,
+            told,
             format,
             ..
         } => {
             let bus = copy_of(&input.bus);
-            let choice = choice_of(conversions, *telling);
-            let end = faults(alloc, groups, *format, choice, source, sink, bus, LOG_LIMIT);
+            let versions = versions_in(conversions);
+            let end = run_faults(alloc, groups, *format, *told, versions, source, sink, bus);
             tell_end(end, err)
         }
         Task::Nodes { input, format } => {
