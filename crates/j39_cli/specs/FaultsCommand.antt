@@ -1,17 +1,25 @@
 -- The command `faults [--bus B] [--table T] [--conversion C] [--all | --changes] [--csv] [FILE]`.
-use Rattle.std.specs.Prelude.{◌≡◌, ◌≢◌, ◌∷◌, [], ℕ, Bool, true, false, List, Option, Some, None, codes, option_map, unwrap_or}
+use Rattle.std.specs.Prelude.{◌≡◌, ◌≢◌, ◌⊎◌, ◌∷◌, [], ℕ, Bool, true, false, List, Option, Some, None, Result, Ok, Err, codes, option_map, unwrap_or}
+use Rattle.std.specs.Option.{ForSome}
+use Rattle.j39_io.specs.Turn.{Turn, Writes}
 use Rattle.clap.specs.Words.{App, Text, new_app, with_rule}
-use Rattle.j39_reports.specs.FaultAsking.{AsksForFaults}
+use Rattle.j39_log.specs.Bus.{IsBusName}
+use Rattle.j39_listen.specs.Output.{Making}
+use Rattle.j39_listen.specs.declared.running.RunFault.{RunFault}
+use Rattle.j39_reports.specs.Broken.{ToldFaults}
 use Rattle.j39_reports.specs.FaultRun.{MakesFaults}
 use Rattle.j39_reports.specs.News.{Chosen}
 use Rattle.j39_faults.specs.declared.conversion.Conversion.{Conversion}
+use Rattle.j39_reports.specs.declared.fault_news.run.FaultCounts.{FaultCounts}
 use Rattle.j39_reports.specs.declared.fault_news.telling.Telling.{Telling}
 use Rattle.j39_reports.specs.declared.fault_news.telling.Telling.TheVariants.{News, All, Changes}
 use Rattle.j39_cli.specs.Answer.{IsBusChecked, IsChecked, IsTask, IsValueChecked}
 use Rattle.j39_cli.specs.Conversions.{IsConversionList, conversions_in}
 use Rattle.j39_cli.specs.declared.task.Argument.TheVariants as argument
 use Rattle.j39_cli.specs.Form.{Form, Meaning, flag, option, value}
-use Rattle.j39_cli.specs.LogCommand.{format_of, runs, with_log}
+use Rattle.j39_cli.specs.LogCommand.{fault_text, format_of, log_limit, opened_of, with_log}
+use Rattle.j39_cli.specs.Counted.{fault_counts_text}
+use Rattle.j39_cli.specs.Refusal.{error_line}
 use Rattle.j39_cli.specs.Rules.{flag_rule, option_rule, with_table}
 use Rattle.j39_listen.specs.declared.format.Format.{Format}
 use Rattle.j39_cli.specs.declared.task.LogInput.{LogInput}
@@ -50,7 +58,24 @@ faults_form bus table conversion all changes csv file = record {
 abbrev pub chosen_by : Option (List Conversion) → Telling → Chosen
 chosen_by conversions telling = record { telling = telling; conversions = unwrap_or conversions [] }
 
+-- the end of a run is told: its counts, with the messages that were broken, with status 0, or its fault, with status 1
+abbrev pub IsFaultsTold : Result FaultCounts RunFault → ℕ → Turn → Type 0
+IsFaultsTold (Ok told) status err = (status ≡ 0) × Writes err (fault_counts_text told)
+IsFaultsTold (Err fault) status err = (status ≡ 1) × Writes err (error_line (fault_text fault) [])
+
+-- a run over the log ended so, as a run that makes this of faults may, and its end is told
+pub record IsFaultsRun (makes : Making) (bus : Option (List ℕ)) (status : ℕ) (log out err : Turn) : Type 0 where
+  pub known : (status ≡ 0) ⊎ (status ≡ 1)
+  pub result : Result FaultCounts RunFault
+  pub ran : ToldFaults makes bus log_limit result log out
+  pub told : IsFaultsTold result status err
+
 abbrev pub faults_meaning : LogInput → Option (List ℕ) → Option (List Conversion) → Telling → Format → Meaning
-faults_meaning input table conversions telling format =
-    record (runs (λ _. AsksForFaults) (λ rows. MakesFaults format rows (chosen_by conversions telling)) input)
-    { table = table }
+faults_meaning input table conversions telling format = record {
+  file = opened_of input.file;
+  table = table;
+  InRange = ForSome input.bus IsBusName;
+  reads_log = true;
+  Performs = λ rows status log out err.
+      IsFaultsRun (MakesFaults format rows (chosen_by conversions telling)) input.bus status log out err;
+}

@@ -1,16 +1,24 @@
-//! The command `faults`: its words.
-ghost use Rattle.std.specs.Prelude.{◌≡◌, codes};
+//! The command `faults`: its words, and how it is performed.
+ghost use Rattle.std.specs.Prelude.{◌≡◌, codes, true, false};
+ghost use Rattle.j39_io.specs.Turn.{turn};
 ghost use Rattle.clap.specs.Words.{found_of};
 ghost use Rattle.j39_cli.specs.CommandWords.{IsAnswered, command_found};
-ghost use Rattle.j39_cli.specs.FaultsCommand.{chosen_by, faults_app, telling_of};
+ghost use Rattle.j39_cli.specs.FaultsCommand.{IsFaultsRun, chosen_by, faults_app, telling_of};
+ghost use Rattle.j39_reports.specs.FaultRun.{MakesFaults};
 ghost use Rattle.j39_reports.specs.News.{chosen_of};
 ghost use Rattle.j39_cli.specs.Rules.{IsMade};
 
 use crate::command::{new_command, with_flag, with_option, with_table};
-use crate::log::{with_csv, with_log};
+use crate::fields::fault_counts_line;
+use crate::log::{LOG_LIMIT, copy_of, tell_fault, with_csv, with_log};
+use crate::refusal::show;
 use crate::words::{conversions_value, format_given, is_set, log_input};
 use crate::{Argument, Conversions, ParseFault, Task, WordText};
 use clap::{ArgMatches, Command};
+use j39_groups::Groups;
+use j39_io::{Sink, Source};
+use j39_listen::Format;
+use j39_log::Bus;
 use j39_reports::{Choice, Telling};
 use std::alloc::{AllocError, Global};
 
@@ -39,6 +47,7 @@ At the end the counts go to standard error:
   unread    lines of no form that candump -l or -L writes
   messages  messages of faults that were heard, in one frame or in packets
   lines     lines written
+  broken    messages of codes that a BAM or an RTS announced, and that were not heard
 
 Example:
   j1939 faults --bus can0 trip.log
@@ -113,5 +122,34 @@ pub(crate) fn choice_of(conversions: &Option<Conversions>, telling: Telling) -> 
             telling,
             conversions: &[],
         },
+    }
+}
+
+/// Performs it by a table of parameters: the faults go to `sink`, the counts or what failed to `err`.
+pub(crate) fn perform<R: Source, W: Sink, E: Sink>(
+    alloc: Global,
+    groups: &Groups<'_>,
+    bus: &Option<Bus>,
+    choice: Choice<'_>,
+    format: Format,
+    source: &mut R,
+    sink: &mut W,
+    err: &mut E,
+) -> u8
+    ensures run { IsFaultsRun (MakesFaults format groups.now (chosen_of choice.entry)) bus.now result
+        (turn R.remaining R.has_failed source.old source.new)
+        (turn W.written W.has_failed sink.old sink.new)
+        (turn E.written E.has_failed err.old err.new) }
+    ensures flushed { result ≡ 0 → W.is_flushed sink.new ≡ true }
+    ensures passed_out { W.is_flushed sink.old ≡ true → W.has_failed sink.new ≡ false → W.is_flushed sink.new ≡ true }
+    ensures passed_on { E.has_failed err.new ≡ false → E.is_flushed err.new ≡ true }
+{
+    let bus = copy_of(bus);
+    match j39_reports::faults(alloc, groups, format, choice, source, sink, bus, LOG_LIMIT) {
+        Ok(told) => {
+            show(err, fault_counts_line(told).as_slice());
+            0
+        }
+        Err(fault) => tell_fault(fault, err),
     }
 }

@@ -9,10 +9,10 @@ use crate::id::id_line;
 use crate::log::{LOG_LIMIT, copy_of, tell_end};
 use crate::name::name_lines;
 use crate::shown::show_text;
-use crate::{Task, answer, groups, nodes, report, survey};
+use crate::{Task, answer, faults, groups, nodes, report, survey};
 use j39_groups::Groups;
 use j39_io::{Sink, Source};
-use j39_reports::{faults, summary};
+use j39_reports::summary;
 use std::alloc::Global;
 
 /// Performs a task by the built-in table of parameters.
@@ -94,10 +94,10 @@ pub fn perform_with<R: Source, W: Sink, E: Sink>(
             format,
             ..
         } => {
-            let bus = copy_of(&input.bus);
             let choice = choice_of(conversions, *telling);
-            let end = faults(alloc, groups, *format, choice, source, sink, bus, LOG_LIMIT);
-            tell_end(end, err)
+            faults::perform(
+                alloc, groups, &input.bus, choice, *format, source, sink, err,
+            )
         }
         Task::Nodes { input, format } => {
             tell_end(nodes::run(*format, &input.bus, source, sink), err)

@@ -26,6 +26,8 @@ pub mod HeardLemmas
 pub mod FaultAccountLemmas
 pub mod ChangeLemmas
 pub mod PutLemmas
+pub mod BrokenLemmas
+pub mod WholeLemmas
 -- surveys: lists
 pub mod FirstsLemmas
 pub mod CountLemmas

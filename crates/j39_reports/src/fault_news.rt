@@ -1,6 +1,7 @@
 //! The fault codes in a log, as they become news (J1939-73).
 
 mod account;
+mod announced;
 mod changes;
 mod form;
 mod last_faults;
@@ -14,5 +15,5 @@ mod run;
 mod since;
 mod telling;
 
-pub use run::faults;
+pub use run::{FaultCounts, faults};
 pub use telling::{Choice, Telling};

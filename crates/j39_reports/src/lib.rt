@@ -9,7 +9,7 @@ pub mod summaries;
 pub mod surveys;
 mod utc;
 
-pub use fault_news::{Choice, Telling, faults};
+pub use fault_news::{Choice, FaultCounts, Telling, faults};
 pub use report_records::report_csv;
 pub use summaries::summary;
 pub use surveys::survey;
