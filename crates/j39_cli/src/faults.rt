@@ -1,25 +1,28 @@
-//! The command `faults`: its words.
-ghost use Rattle.std.specs.Prelude.{◌≡◌, Some, codes};
+//! The command `faults`: its words, and how it is performed.
+ghost use Rattle.std.specs.Prelude.{◌≡◌, codes, true, false};
 ghost use Rattle.j39_io.specs.Turn.{turn};
 ghost use Rattle.j39_listen.specs.Headed.{begins_flushed};
-ghost use Rattle.j39_listen.specs.Ran.{PassesOn, Ran};
+ghost use Rattle.j39_listen.specs.Ran.{PassesOn};
 ghost use Rattle.j39_cli.specs.LogCommand.{log_limit};
 ghost use Rattle.clap.specs.Words.{found_of};
 ghost use Rattle.j39_cli.specs.CommandWords.{IsAnswered, command_found};
-ghost use Rattle.j39_cli.specs.FaultsCommand.{asks_by, faults_app, makes_by, told_by, versions_in};
+ghost use Rattle.j39_cli.specs.FaultsCommand.{IsFaultsRun, asks_by, faults_app, makes_by, told_by, versions_in};
+ghost use Rattle.j39_reports.specs.Broken.{ToldFaults};
 ghost use Rattle.j39_cli.specs.Rules.{IsMade};
 
 use crate::command::{new_command, with_flag, with_option, with_table};
-use crate::log::{LOG_LIMIT, with_csv, with_log};
+use crate::fields::fault_counts_line;
+use crate::log::{LOG_LIMIT, copy_of, tell_fault, with_csv, with_log};
+use crate::refusal::show;
 use crate::words::{conversions_value, format_given, is_set, log_input};
 use crate::{Argument, Conversions, FaultsTold, ParseFault, Task, WordText};
 use clap::{ArgMatches, Command};
 use j39_faults::Conversion;
 use j39_groups::Groups;
 use j39_io::{Sink, Source};
-use j39_listen::{Counts, Format, RunFault};
+use j39_listen::{Format, RunFault};
 use j39_log::Bus;
-use j39_reports::{Choice, Telling, faults, faults_now};
+use j39_reports::{Choice, FaultCounts, Telling, faults, faults_now};
 use std::alloc::{AllocError, Global};
 
 const ABOUT: &str = "\
@@ -50,6 +53,7 @@ At the end the counts go to standard error:
   unread    lines of no form that candump -l or -L writes
   messages  messages of faults that were heard, in one frame or in packets
   lines     lines written
+  broken    messages of codes that a BAM or an RTS announced, and that were not heard
 
 Example:
   j1939 faults --bus can0 trip.log
@@ -130,18 +134,48 @@ pub(crate) fn versions_in(conversions: &Option<Conversions>) -> &[Conversion]
     }
 }
 
-/// Runs over a log, and writes the faults that are told of it.
-pub(crate) fn run_faults<R: Source, W: Sink>(
+/// Performs it by a table of parameters: the faults go to `sink`, the counts or what failed to `err`.
+pub(crate) fn perform<R: Source, W: Sink, E: Sink>(
     alloc: Global,
     groups: &Groups<'_>,
-    format: Format,
-    told: FaultsTold,
+    bus: &Option<Bus>,
     conversions: &[Conversion],
+    told: FaultsTold,
+    format: Format,
+    source: &mut R,
+    sink: &mut W,
+    err: &mut E,
+) -> u8
+    ensures run { IsFaultsRun (makes_by conversions.now told format groups.now) (asks_by told) bus.now result
+        (turn R.remaining R.has_failed source.old source.new)
+        (turn W.written W.has_failed sink.old sink.new)
+        (turn E.written E.has_failed err.old err.new) }
+    ensures flushed { result ≡ 0 → W.is_flushed sink.new ≡ true }
+    ensures passed_out { W.is_flushed sink.old ≡ true → W.has_failed sink.new ≡ false → W.is_flushed sink.new ≡ true }
+    ensures passed_on { E.has_failed err.new ≡ false → E.is_flushed err.new ≡ true }
+{
+    let bus = copy_of(bus);
+    match run(alloc, groups, conversions, told, format, source, sink, bus) {
+        Ok(told) => {
+            show(err, fault_counts_line(told).as_slice());
+            0
+        }
+        Err(fault) => tell_fault(fault, err),
+    }
+}
+
+/// Runs over the log.
+fn run<R: Source, W: Sink>(
+    alloc: Global,
+    groups: &Groups<'_>,
+    conversions: &[Conversion],
+    told: FaultsTold,
+    format: Format,
     source: &mut R,
     sink: &mut W,
     bus: Option<Bus>,
-) -> Result<Counts, RunFault>
-    ensures ran { Ran (makes_by (Some conversions.now) told format groups.now) (asks_by told) bus log_limit result
+) -> Result<FaultCounts, RunFault>
+    ensures told { ToldFaults (makes_by conversions.now told format groups.now) (asks_by told) bus log_limit result
         (turn R.remaining R.has_failed source.old source.new) (turn W.written W.has_failed sink.old sink.new) }
     ensures flushed { PassesOn result (begins_flushed format (W.is_flushed sink.old)) (W.is_flushed sink.new) }
 {

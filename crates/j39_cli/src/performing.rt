@@ -4,12 +4,12 @@ ghost use Rattle.j39_io.specs.Turn.{turn};
 ghost use Rattle.j39_groups.specs.Table.{the_table};
 ghost use Rattle.j39_cli.specs.Task.{IsPerformed, reads_log};
 
-use crate::faults::{run_faults, versions_in};
+use crate::faults::versions_in;
 use crate::id::id_line;
 use crate::log::{LOG_LIMIT, copy_of, tell_end};
 use crate::name::name_lines;
 use crate::shown::show_text;
-use crate::{Task, answer, groups, nodes, report, survey};
+use crate::{Task, answer, faults, groups, nodes, report, survey};
 use j39_groups::Groups;
 use j39_io::{Sink, Source};
 use j39_reports::summary;
@@ -94,10 +94,10 @@ pub fn perform_with<R: Source, W: Sink, E: Sink>(
             format,
             ..
         } => {
-            let bus = copy_of(&input.bus);
             let versions = versions_in(conversions);
-            let end = run_faults(alloc, groups, *format, *told, versions, source, sink, bus);
-            tell_end(end, err)
+            faults::perform(
+                alloc, groups, &input.bus, versions, *told, *format, source, sink, err,
+            )
         }
         Task::Nodes { input, format } => {
             tell_end(nodes::run(*format, &input.bus, source, sink), err)

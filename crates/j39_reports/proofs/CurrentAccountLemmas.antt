@@ -20,11 +20,13 @@ use Rattle.j39_reports.specs.CurrentPlaces.{Places}
 use Rattle.j39_reports.specs.CurrentSoFar.{AreKept, HasKept, NowSubject, TakesFrame, shown_below}
 use Rattle.j39_reports.specs.FaultsNow.{active_among, faults_now, is_active_message}
 use Rattle.j39_reports.specs.FaultsNowRun.{AsksForFaultsNow, MakesFaultsNowIn, faults_now_of, now_text}
+use Rattle.j39_reports.specs.FaultsSoFar.{with_either, with_frame}
 use Rattle.j39_reports.specs.News.{is_fault_group}
+use Rattle.j39_reports.specs.declared.fault_news.announced.Announced.{Announced}
 use Rattle.j39_reports.specs.declared.current_faults.account.FaultsNow.{FaultsNow}
 use Rattle.j39_reports.specs.declared.fault_news.form.Writing.{Writing}
 use Rattle.j39_reports.proofs.CurrentLemmas.{shown_all}
-use Rattle.j39_reports.proofs.FaultAccountLemmas.{faults_leave}
+use Rattle.j39_reports.proofs.FaultAccountLemmas.{announced_more, faults_leave}
 
 -- ---- laws
 
@@ -43,22 +45,23 @@ now_one form s = λ bus F x y (hs, are_x, is_x) (ks, are_y, is_y).
 among_more : (heard more : List Hearing) → active_among (heard ++ more) ≡ active_among heard ++ active_among more
 among_more heard more = filter-append is_active_message heard more
 
-pub takes_silent : (cs : List Conversion) (F : List FrameRecord) (f : FrameRecord) (l' : Listener) (places : Places) (ms : List Hearing)
-    → HeardAtWith is_fault_group (F ++ f ∷ []) (length F) None → Hears l' (F ++ f ∷ []) → AreKept cs places ms → TakesFrame cs F f l' places ms 0
-takes_silent cs F f l' places ms at hears kept = record {
+pub takes_silent : (cs : List Conversion) (F : List FrameRecord) (f : FrameRecord) (l' : Listener) (places : Places) (a a' : Announced) (ms : List Hearing)
+    → a' ≡ with_frame a f → HeardAtWith is_fault_group (F ++ f ∷ []) (length F) None → Hears l' (F ++ f ∷ []) → AreKept cs places ms → TakesFrame cs F f l' places a a' ms 0
+takes_silent cs F f l' places a a' ms announced at hears kept = record {
   heard = None;
   heard_at = at;
   hears = hears;
+  announced_is = announced;
   are_kept = subst (AreKept cs places) (sym (append-nil ms)) kept;
   messages_are = refl;
 }
 
 pub now_meets : (form : Format) (s : NowSubject) (a a' : FaultsNow) → a'.writing ≡ a.writing → a'.conversions ≡ a.conversions → (f : FrameRecord) (messages : ℕ) (old : Option (List ℕ))
-    → ((F : List FrameRecord) (ms : List Hearing) → Hears a.listener F → AreKept a.conversions.now a.places ms → TakesFrame a.conversions.now F f a'.listener a'.places ms messages)
+    → ((F : List FrameRecord) (ms : List Hearing) → Hears a.listener F → AreKept a.conversions.now a.places ms → TakesFrame a.conversions.now F f a'.listener a'.places a.announced a'.announced ms messages)
     → a'.messages ≡ capped (a.messages + messages) → Meets (HasKept form s) a a' (f ∷ []) old old
 now_meets form s a a' writing conversions f messages old takes sum = λ F before has.
     let ms = active_among has.heard in
-    let t = subst (λ (cs : List Conversion). TakesFrame cs F f a'.listener a'.places ms messages) has.conversions_are
+    let t = subst (λ (cs : List Conversion). TakesFrame cs F f a'.listener a'.places a.announced a'.announced ms messages) has.conversions_are
     (takes F ms has.hears (subst (λ (cs : List Conversion). AreKept cs a.places ms) (sym has.conversions_are) has.are_kept)) in
     let more = or_none t.heard in
     let all : active_among (has.heard ++ more) ≡ ms ++ active_among more = among_more has.heard more in
@@ -75,6 +78,7 @@ now_meets form s a a' writing conversions f messages old takes sum = λ F before
         hears = t.hears;
         are_kept = subst (AreKept s.conversions a'.places) (sym all) t.are_kept;
         messages_are = count;
+        announced_is = t.announced_is ∙ ap (λ (x : Announced). with_either (with_frame x f) t.heard) has.announced_is ∙ announced_more F has.heard f t.heard;
         nothing_yet = has.nothing_yet;
       };
       more = [];

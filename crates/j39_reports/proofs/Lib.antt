@@ -26,6 +26,8 @@ pub mod HeardLemmas
 pub mod FaultAccountLemmas
 pub mod ChangeLemmas
 pub mod PutLemmas
+pub mod BrokenLemmas
+pub mod WholeLemmas
 -- the faults that are there now
 pub mod TellingLemmas
 pub mod StandingLemmas

@@ -14,7 +14,9 @@ use Rattle.j39_listen.specs.declared.listener.Listener.{Listener}
 use Rattle.j39_reports.specs.Faults.{codes_or_none}
 use Rattle.j39_reports.specs.CurrentPlaces.{LastRecord, Places, StandingRecord, at}
 use Rattle.j39_reports.specs.FaultsNow.{Now, active_among, codes_in, first_stamp, is_at, lasts, telling, tells}
+use Rattle.j39_reports.specs.FaultsSoFar.{IsBroken, announced_in, with_either, with_frame}
 use Rattle.j39_reports.specs.News.{is_fault_group}
+use Rattle.j39_reports.specs.declared.fault_news.announced.Announced.{Announced}
 use Rattle.j39_reports.specs.declared.current_faults.account.FaultsNow.{FaultsNow}
 
 -- ---- what it stands for
@@ -80,10 +82,11 @@ shown_below places (suc n) = shown_below places n ++ nows_shown n (at places n)
 
 -- behind the frames F this is heard at the frame f, and taken to the messages before
 pub record TakesFrame (conversions : List Conversion) (F : List FrameRecord) (f : FrameRecord) (l' : Listener) (places : Places)
-    (ms : List Hearing) (messages : ℕ) : Type 0 where
+    (a a' : Announced) (ms : List Hearing) (messages : ℕ) : Type 0 where
   pub heard : Option Hearing
   pub heard_at : HeardAtWith is_fault_group (F ++ f ∷ []) (length F) heard
   pub hears : Hears l' (F ++ f ∷ [])
+  pub announced_is : a' ≡ with_either (with_frame a f) heard
   pub are_kept : AreKept conversions places (ms ++ active_among (or_none heard))
   pub messages_are : messages ≡ length (active_among (or_none heard))
 
@@ -102,4 +105,10 @@ pub record HasKept (form : Format) (s : NowSubject) (account : FaultsNow) (F : L
   pub hears : Hears account.listener F
   pub are_kept : AreKept s.conversions account.places (active_among heard)
   pub messages_are : account.messages ≡ capped (length (active_among heard))
+  pub announced_is : account.announced ≡ announced_in F heard
   pub nothing_yet : output ≡ nothing
+
+-- so many messages of codes were broken in the frames whose faults are kept
+abbrev pub KnowsBrokenNow : FaultsNow → ℕ → Type 0
+KnowsBrokenNow account n = (form : Format) (s : NowSubject) (F : List FrameRecord) (output : Output)
+    → HasKept form s account F output → IsBroken F n

@@ -26,6 +26,7 @@ pub mod FaultRecords
 -- the news of faults: what a run makes of the frames, and where it may want memory
 pub mod FaultRun
 pub mod FaultAsking
+pub mod Broken
 -- the news of faults: the code's steps, below the rules
 pub mod LastMessages
 pub mod Remembered

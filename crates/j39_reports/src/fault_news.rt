@@ -1,6 +1,7 @@
 //! The fault codes in a log, as they become news (J1939-73).
 
 pub(crate) mod account;
+pub(crate) mod announced;
 mod changes;
 pub(crate) mod form;
 mod last_faults;
@@ -10,9 +11,9 @@ pub mod laws;
 pub(crate) mod lines;
 mod names;
 mod records;
-mod run;
+pub(crate) mod run;
 mod since;
 mod telling;
 
-pub use run::faults;
+pub use run::{FaultCounts, faults};
 pub use telling::{Choice, Telling};

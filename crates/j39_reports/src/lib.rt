@@ -2,16 +2,16 @@
 #![tactic(auto)]
 
 mod columns;
-pub mod fault_news;
 pub mod current_faults;
+pub mod fault_news;
 mod parts;
 mod report_records;
 pub mod summaries;
 pub mod surveys;
 mod utc;
 
-pub use fault_news::{Choice, Telling, faults};
 pub use current_faults::faults_now;
+pub use fault_news::{Choice, FaultCounts, Telling, faults};
 pub use report_records::report_csv;
 pub use summaries::summary;
 pub use surveys::survey;

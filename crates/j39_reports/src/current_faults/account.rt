@@ -8,11 +8,12 @@ ghost use Rattle.j39_listen.specs.Listening.{Hears};
 ghost use Rattle.j39_listen.specs.Output.{nothing};
 ghost use Rattle.j39_reports.specs.FaultsNow.{active_among, is_active_message, is_of_active};
 ghost use Rattle.j39_reports.specs.FaultsNowRun.{AsksForFaultsNow};
-ghost use Rattle.j39_reports.specs.CurrentSoFar.{AreKept, HasKept, TakesFrame};
+ghost use Rattle.j39_reports.specs.CurrentSoFar.{AreKept, HasKept, KnowsBrokenNow, TakesFrame};
 ghost use Rattle.j39_reports.specs.CurrentPlaces.{at};
 ghost use Rattle.j39_reports.specs.News.{is_fault_group};
 
 use crate::fault_news::account::{is_byte, is_of_fault_group};
+use crate::fault_news::announced::Announced;
 use crate::fault_news::form::Writing;
 use crate::current_faults::lines::put_places;
 use crate::current_faults::places::Places;
@@ -32,6 +33,7 @@ pub(crate) struct FaultsNow<'g, 't, 'c> {
     listener: Listener,
     places: Places,
     messages: u64,
+    announced: Announced,
 }
 
 impl<'g, 't, 'c> FaultsNow<'g, 't, 'c> {
@@ -50,7 +52,15 @@ impl<'g, 't, 'c> FaultsNow<'g, 't, 'c> {
             listener: Listener::new(alloc),
             places: Places::new(),
             messages: 0,
+            announced: Announced::default(),
         }
+    }
+
+    /// How many messages of codes were announced and did not come whole.
+    pub(crate) fn broken(self) -> u64
+        ensures { KnowsBrokenNow self.entry result }
+    {
+        self.announced.broken()
     }
 }
 
@@ -74,6 +84,7 @@ impl<'g, 't, 'c> Account for FaultsNow<'g, 't, 'c> {
             &mut self.listener,
             self.conversions,
             &mut self.places,
+            &mut self.announced,
             frame,
         ) {
             Ok(messages) => {
@@ -84,7 +95,7 @@ impl<'g, 't, 'c> Account for FaultsNow<'g, 't, 'c> {
         }
     }
 
-    fn close<W: Sink>(&mut self, sink: &mut W) -> Result<Made, DeviceFault> {
+    fn close<W: Sink>(&self, sink: &mut W) -> Result<Made, DeviceFault> {
         let lines = put_places(&self.places, self.writing, sink)?;
         Ok(Made {
             messages: self.messages,
@@ -106,20 +117,25 @@ fn take_frame(
     listener: &mut Listener,
     conversions: &[Conversion],
     places: &mut Places,
+    announced: &mut Announced,
     frame: &Frame,
 ) -> Result<u64, AllocError>
     ensures taken { IfOk result (λ messages. (F : List FrameRecord) (ms : List Hearing) → Hears listener.old F
         → AreKept conversions.now places.old ms
-        → TakesFrame conversions.now F frame.now listener.new places.new ms messages) }
+        → TakesFrame conversions.now F frame.now listener.new places.new announced.old announced.new ms messages) }
     ensures asked { OnErr result ((F : List FrameRecord) (heard : List Hearing) → Hears listener.old F
         → AreHeardWith is_fault_group F heard → AreKept conversions.now places.old (active_among heard)
         → AsksForFaultsNow F frame.now) }
 {
     let is_single = is_of_fault_group(frame.id);
+    announced.add_frame(frame);
     match listener.feed_as(is_single, frame) {
         Err(AllocError) => Err(AllocError),
         Ok(None) => Ok(0),
-        Ok(Some(heard)) => take_heard(alloc, &heard, conversions, places),
+        Ok(Some(heard)) => {
+            announced.add_heard(&heard);
+            take_heard(alloc, &heard, conversions, places)
+        }
     }
 }
 

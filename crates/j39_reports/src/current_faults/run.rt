@@ -2,15 +2,17 @@
 ghost use Rattle.std.specs.Prelude.{◌≡◌};
 ghost use Rattle.j39_io.specs.Turn.{turn};
 ghost use Rattle.j39_listen.specs.Headed.{begins_flushed};
-ghost use Rattle.j39_listen.specs.Ran.{PassesOn, Ran};
+ghost use Rattle.j39_listen.specs.Ran.{PassesOn};
+ghost use Rattle.j39_reports.specs.Broken.{ToldFaults};
 ghost use Rattle.j39_reports.specs.FaultsNowRun.{AsksForFaultsNow, MakesFaultsNow};
 
 use crate::fault_news::form::Writing;
 use crate::current_faults::account::FaultsNow;
+use crate::fault_news::run::{FaultCounts, counted};
 use j39_faults::Conversion;
 use j39_groups::Groups;
 use j39_io::{Sink, Source};
-use j39_listen::{Counts, Format, RunFault, run_headed, run_over};
+use j39_listen::{Format, RunFault, run_headed_keeping, run_keeping};
 use j39_log::Bus;
 use std::alloc::Global;
 
@@ -31,11 +33,11 @@ pub fn faults_now<R: Source, W: Sink>(
     sink: &mut W,
     bus: Option<Bus>,
     limit: u64,
-) -> Result<Counts, RunFault>
+) -> Result<FaultCounts, RunFault>
     // What the run promises is `Ran`: what is written is the faults that are there at the end of the log, and nothing
     // else. Memory is wanted only at a frame of the log that announces a message, or at the first message of active codes
-    // of its address.
-    ensures ran { Ran (MakesFaultsNow format groups.now conversions.now) AsksForFaultsNow bus limit result
+    // of its address. And it counts which messages of codes were broken.
+    ensures told { ToldFaults (MakesFaultsNow format groups.now conversions.now) AsksForFaultsNow bus limit result
         (turn R.remaining R.has_failed source.old source.new) (turn W.written W.has_failed sink.old sink.new) }
 
     // What was written is passed on at the end, and before each read, the names of the columns before the first.
@@ -44,7 +46,13 @@ pub fn faults_now<R: Source, W: Sink>(
     let form = format;
     let account = FaultsNow::new(alloc, Writing { form, groups }, conversions);
     match format {
-        Format::Line => run_over(account, source, sink, bus, limit),
-        Format::Record => run_headed(COLUMNS, account, source, sink, bus, limit),
+        Format::Line => {
+            let (ran, account) = run_keeping(account, source, sink, bus, limit);
+            counted(ran, account.broken())
+        }
+        Format::Record => {
+            let (ran, account) = run_headed_keeping(COLUMNS, account, source, sink, bus, limit);
+            counted(ran, account.broken())
+        }
     }
 }

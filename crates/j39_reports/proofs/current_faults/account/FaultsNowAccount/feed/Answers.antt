@@ -12,6 +12,7 @@ returns-in-Ok-clause-met g c =
       listener = c.take_frame.new.listener;
       places = c.take_frame.new.places;
       messages = c.saturating_add-self.result;
+      announced = c.take_frame.new.announced;
     } in
     λ (form, subject). now_meets form subject c.args.self.now after refl refl c.args.frame.now c.in-Ok.messages _ c.in-Ok.ensures.taken c.saturating_add-self.ensures
 
