@@ -12,7 +12,7 @@ _j1939_options() {
     '') echo --help -h --version -V ;;
     report) echo --bus --table --spn --csv --help -h ;;
     summary) echo --bus --table --csv --help -h ;;
-    faults) echo --bus --table --conversion --all --changes --csv --help -h ;;
+    faults) echo --bus --table --conversion --all --changes --now --csv --help -h ;;
     nodes) echo --bus --csv --help -h ;;
     answer) echo --name --address --bus --help -h ;;
     cut) echo --source --pgn --at --bus --help -h ;;

@@ -31,6 +31,7 @@ complete -c j1939 -n '__fish_seen_subcommand_from report faults nodes summary' -
 complete -c j1939 -n '__fish_seen_subcommand_from faults' -l conversion -x -d 'By which version older SPNs are read: 1, 2 or 3, or NAME=1,..'
 complete -c j1939 -n '__fish_seen_subcommand_from faults' -l all -d 'Each message of faults'
 complete -c j1939 -n '__fish_seen_subcommand_from faults' -l changes -d 'What became of active codes'
+complete -c j1939 -n '__fish_seen_subcommand_from faults' -l now -d 'The active codes at the end'
 complete -c j1939 -n '__fish_seen_subcommand_from answer' -l name -x -d 'The NAME of the device, 16 hex digits'
 complete -c j1939 -n '__fish_seen_subcommand_from answer' -l address -x -d 'The address that it claims first, 0 to 253'
 complete -c j1939 -n '__fish_seen_subcommand_from cut' -l source -x -d 'The address that the message is sent from, 0 to 253'

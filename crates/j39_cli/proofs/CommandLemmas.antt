@@ -25,7 +25,7 @@ is_parsed program (report bus table spn csv file) = parsed program report_app (r
     (record { step = refl; passes = refl; found = refl; checks = refl }) refl refl refl (memory_of_bus bus _ (memory_of_value _ _ spn _ tt))
 is_parsed program (summary bus table csv file) = parsed program summary_app (summary bus table csv file) [] _
     (record { step = refl; passes = refl; found = refl; checks = refl }) refl refl refl (memory_of_bus bus _ tt)
-is_parsed program (faults bus table conversion all changes csv file) = parsed program faults_app (faults bus table conversion all changes csv file) [] _
+is_parsed program (faults bus table conversion all changes now csv file) = parsed program faults_app (faults bus table conversion all changes now csv file) [] _
     (record { step = refl; passes = refl; found = refl; checks = refl }) refl refl refl (memory_of_bus bus _ (memory_of_value _ _ conversion _ (memory_checked _ _ _ tt)))
 is_parsed program (nodes bus csv file) = parsed program nodes_app (nodes bus csv file) [] _
     (record { step = refl; passes = refl; found = refl; checks = refl }) refl refl refl (memory_of_bus bus _ tt)

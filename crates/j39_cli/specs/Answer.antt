@@ -20,7 +20,7 @@ argument_text argument.At = codes "--at"
 argument_text argument.Hex = codes "HEX"
 argument_text argument.Spn = codes "--spn"
 argument_text argument.Conversion = codes "--conversion"
-argument_text argument.AllChanges = codes "--all with --changes"
+argument_text argument.Together = codes "--all, --changes, --now together"
 
 -- ---- the answer to a command that is spelled
 

@@ -24,7 +24,7 @@ use Rattle.j39_cli.specs.declared.task.ParseFault.TheVariants.{Memory}
 pub data CommandWords : Type 0 where
   report : Option Text → Option Text → Option Text → Bool → Option Text → CommandWords
   summary : Option Text → Option Text → Bool → Option Text → CommandWords
-  faults : Option Text → Option Text → Option Text → Bool → Bool → Bool → Option Text → CommandWords
+  faults : Option Text → Option Text → Option Text → Bool → Bool → Bool → Bool → Option Text → CommandWords
   nodes : Option Text → Bool → Option Text → CommandWords
   answer : Text → Text → Option Text → Option Text → CommandWords
   id : Text → CommandWords
@@ -36,7 +36,7 @@ pub data CommandWords : Type 0 where
 abbrev pub form_of : CommandWords → Form
 form_of (report bus table spn csv file) = report_form bus table spn csv file
 form_of (summary bus table csv file) = summary_form bus table csv file
-form_of (faults bus table conversion all changes csv file) = faults_form bus table conversion all changes csv file
+form_of (faults bus table conversion all changes now csv file) = faults_form bus table conversion all changes now csv file
 form_of (nodes bus csv file) = nodes_form bus csv file
 form_of (answer node address bus file) = answer_form node address bus file
 form_of (id hex) = id_form hex
@@ -71,7 +71,7 @@ command_found called found =
     else if bytes_eq called (codes "summary") then summary bus table csv file
     else if bytes_eq called (codes "faults") then
     faults bus table (first_value found (codes "conversion")) (is_given (first_value found (codes "all")))
-    (is_given (first_value found (codes "changes"))) csv file
+    (is_given (first_value found (codes "changes"))) (is_given (first_value found (codes "now"))) csv file
     else if bytes_eq called (codes "nodes") then nodes bus csv file
     else if bytes_eq called (codes "answer") then
     answer (text_found found (codes "name")) (text_found found (codes "address")) bus file

@@ -1,56 +1,99 @@
--- The command `faults [--bus B] [--table T] [--conversion C] [--all | --changes] [--csv] [FILE]`.
-use Rattle.std.specs.Prelude.{◌≡◌, ◌≢◌, ◌∷◌, [], ℕ, Bool, true, false, List, Option, Some, None, codes, option_map, unwrap_or}
+-- The command `faults [--bus B] [--table T] [--conversion C] [--all | --changes | --now] [--csv] [FILE]`.
+use Rattle.std.specs.Prelude.{◌≡◌, ◌≢◌, ◌⊎◌, ◌∷◌, [], ℕ, Bool, true, false, List, Option, Some, None, Result, Ok, Err, codes, option_map, unwrap_or}
+use Rattle.std.specs.Option.{ForSome}
+use Rattle.j39_io.specs.Turn.{Turn, Writes}
 use Rattle.clap.specs.Words.{App, Text, new_app, with_rule}
+use Rattle.j39_log.specs.Bus.{IsBusName}
+use Rattle.j39_listen.specs.Output.{Making}
+use Rattle.j39_listen.specs.declared.running.RunFault.{RunFault}
+use Rattle.j39_reports.specs.Broken.{ToldFaults}
 use Rattle.j39_reports.specs.FaultAsking.{AsksForFaults}
 use Rattle.j39_reports.specs.FaultRun.{MakesFaults}
-use Rattle.j39_reports.specs.News.{Chosen}
+use Rattle.j39_reports.specs.FaultsNowRun.{AsksForFaultsNow, MakesFaultsNow}
+use Rattle.j39_groups.specs.Row.{RowRecord}
+use Rattle.j39_listen.specs.Asking.{Wanting}
 use Rattle.j39_faults.specs.declared.conversion.Conversion.{Conversion}
+use Rattle.j39_reports.specs.declared.fault_news.run.FaultCounts.{FaultCounts}
 use Rattle.j39_reports.specs.declared.fault_news.telling.Telling.{Telling}
 use Rattle.j39_reports.specs.declared.fault_news.telling.Telling.TheVariants.{News, All, Changes}
 use Rattle.j39_cli.specs.Answer.{IsBusChecked, IsChecked, IsTask, IsValueChecked}
 use Rattle.j39_cli.specs.Conversions.{IsConversionList, conversions_in}
 use Rattle.j39_cli.specs.declared.task.Argument.TheVariants as argument
 use Rattle.j39_cli.specs.Form.{Form, Meaning, flag, option, value}
-use Rattle.j39_cli.specs.LogCommand.{format_of, runs, with_log}
+use Rattle.j39_cli.specs.LogCommand.{fault_text, format_of, log_limit, opened_of, with_log}
+use Rattle.j39_cli.specs.Counted.{fault_counts_text}
+use Rattle.j39_cli.specs.Refusal.{error_line}
 use Rattle.j39_cli.specs.Rules.{flag_rule, option_rule, with_table}
 use Rattle.j39_listen.specs.declared.format.Format.{Format}
+use Rattle.j39_cli.specs.declared.task.FaultsTold.{FaultsTold}
+use Rattle.j39_cli.specs.declared.task.FaultsTold.TheVariants.{InMessages, Now}
 use Rattle.j39_cli.specs.declared.task.LogInput.{LogInput}
 use Rattle.j39_cli.specs.declared.task.Task.{Task}
 use Rattle.j39_cli.specs.declared.task.Task.TheVariants.{Faults}
 
 abbrev pub faults_app : App
 faults_app =
-    with_log (with_rule (with_rule (with_rule (with_rule (with_table (new_app (codes "faults"))) (option_rule (codes "conversion") false))
-    (flag_rule (codes "all"))) (flag_rule (codes "changes"))) (flag_rule (codes "csv")))
+    with_log (with_rule (with_rule (with_rule (with_rule (with_rule (with_table (new_app (codes "faults"))) (option_rule (codes "conversion") false))
+    (flag_rule (codes "all"))) (flag_rule (codes "changes"))) (flag_rule (codes "now"))) (flag_rule (codes "csv")))
 
--- --all and --changes don't go together
-abbrev pub telling_of : Bool → Bool → Option Telling
-telling_of false false = Some News
-telling_of true false = Some All
-telling_of false true = Some Changes
-telling_of true true = None
+-- no two of --all, --changes and --now go together
+abbrev pub told_by : Bool → Bool → Bool → Option FaultsTold
+told_by false false false = Some (InMessages News)
+told_by true false false = Some (InMessages All)
+told_by false true false = Some (InMessages Changes)
+told_by false false true = Some Now
+told_by true true now = None
+told_by true false true = None
+told_by false true true = None
 
-abbrev pub IsFaultsTask : Option (List ℕ) → Option (List ℕ) → Option (List ℕ) → Bool → Bool → Bool → Option (List ℕ) → Task → Type 0
-IsFaultsTask bus table conversion all changes csv file (Faults input table' conversions telling format) =
+abbrev pub IsFaultsTask : Option (List ℕ) → Option (List ℕ) → Option (List ℕ) → Bool → Bool → Bool → Bool → Option (List ℕ) → Task → Type 0
+IsFaultsTask bus table conversion all changes now csv file (Faults input table' conversions told format) =
     (input.bus ≡ bus) × (table' ≡ table) × (conversions ≡ option_map conversions_in conversion)
-    × (telling_of all changes ≡ Some telling) × (format ≡ format_of csv) × (input.file ≡ file)
-IsFaultsTask bus table conversion all changes csv file t = ⊥
+    × (told_by all changes now ≡ Some told) × (format ≡ format_of csv) × (input.file ≡ file)
+IsFaultsTask bus table conversion all changes now csv file t = ⊥
 
-abbrev pub faults_form : Option Text → Option Text → Option Text → Bool → Bool → Bool → Option Text → Form
-faults_form bus table conversion all changes csv file = record {
+abbrev pub faults_form : Option Text → Option Text → Option Text → Bool → Bool → Bool → Bool → Option Text → Form
+faults_form bus table conversion all changes now csv file = record {
   called = codes "faults";
   arguments = option (codes "bus") bus ∷ option (codes "table") table ∷ option (codes "conversion") conversion
-      ∷ flag (codes "all") all ∷ flag (codes "changes") changes ∷ flag (codes "csv") csv ∷ value (codes "file") file ∷ [];
+      ∷ flag (codes "all") all ∷ flag (codes "changes") changes ∷ flag (codes "now") now ∷ flag (codes "csv") csv ∷ value (codes "file") file ∷ [];
   Answers = IsBusChecked bus (IsValueChecked IsConversionList argument.Conversion conversion
-      (IsChecked (telling_of all changes ≢ None) argument.AllChanges
-      (IsTask (IsFaultsTask bus table conversion all changes csv file))));
+      (IsChecked (told_by all changes now ≢ None) argument.Together
+      (IsTask (IsFaultsTask bus table conversion all changes now csv file))));
 }
 
 -- no version is known where none is given
-abbrev pub chosen_by : Option (List Conversion) → Telling → Chosen
-chosen_by conversions telling = record { telling = telling; conversions = unwrap_or conversions [] }
+abbrev pub versions_in : Option (List Conversion) → List Conversion
+versions_in conversions = unwrap_or conversions []
 
-abbrev pub faults_meaning : LogInput → Option (List ℕ) → Option (List Conversion) → Telling → Format → Meaning
-faults_meaning input table conversions telling format =
-    record (runs (λ _. AsksForFaults) (λ rows. MakesFaults format rows (chosen_by conversions telling)) input)
-    { table = table }
+-- what a run makes by a table
+abbrev pub makes_by : List Conversion → FaultsTold → Format → List RowRecord → Making
+makes_by conversions (InMessages telling) format rows =
+    MakesFaults format rows (record { telling = telling; conversions = conversions })
+makes_by conversions Now format rows = MakesFaultsNow format rows conversions
+
+abbrev pub asks_by : FaultsTold → Wanting
+asks_by (InMessages telling) = AsksForFaults
+asks_by Now = AsksForFaultsNow
+
+-- the end of a run is told: its counts, with the messages that were broken, with status 0, or its fault, with status 1
+abbrev pub IsFaultsTold : Result FaultCounts RunFault → ℕ → Turn → Type 0
+IsFaultsTold (Ok told) status err = (status ≡ 0) × Writes err (fault_counts_text told)
+IsFaultsTold (Err fault) status err = (status ≡ 1) × Writes err (error_line (fault_text fault) [])
+
+-- a run over the log ended so, as a run that makes this of faults may, and its end is told
+pub record IsFaultsRun (makes : Making) (asks : Wanting) (bus : Option (List ℕ)) (status : ℕ) (log out err : Turn) : Type 0 where
+  pub known : (status ≡ 0) ⊎ (status ≡ 1)
+  pub result : Result FaultCounts RunFault
+  pub ran : ToldFaults makes asks bus log_limit result log out
+  pub told : IsFaultsTold result status err
+
+abbrev pub faults_meaning : LogInput → Option (List ℕ) → Option (List Conversion) → FaultsTold → Format → Meaning
+faults_meaning input table conversions told format = record {
+  file = opened_of input.file;
+  table = table;
+  InRange = ForSome input.bus IsBusName;
+  reads_log = true;
+  Performs = λ rows status log out err.
+      IsFaultsRun (makes_by (versions_in conversions) told format rows) (asks_by told) input.bus status log out err;
+}

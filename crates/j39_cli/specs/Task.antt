@@ -21,7 +21,7 @@ use Rattle.j39_cli.specs.declared.task.Task.TheVariants.{Report, Summary, Faults
 abbrev pub meaning_of : Task → Meaning
 meaning_of (Report input table spns format) = report_meaning input table spns format
 meaning_of (Summary input table format) = summary_meaning input table format
-meaning_of (Faults input table conversions telling format) = faults_meaning input table conversions telling format
+meaning_of (Faults input table conversions told format) = faults_meaning input table conversions told format
 meaning_of (Nodes input format) = nodes_meaning input format
 meaning_of (Answer name address input) = answer_meaning (name_raw name) address input
 meaning_of (Id id) = id_meaning (id_raw id)

@@ -1,17 +1,28 @@
-//! The command `faults`: its words.
-ghost use Rattle.std.specs.Prelude.{◌≡◌, codes};
+//! The command `faults`: its words, and how it is performed.
+ghost use Rattle.std.specs.Prelude.{◌≡◌, codes, true, false};
+ghost use Rattle.j39_io.specs.Turn.{turn};
+ghost use Rattle.j39_listen.specs.Headed.{begins_flushed};
+ghost use Rattle.j39_listen.specs.Ran.{PassesOn};
+ghost use Rattle.j39_cli.specs.LogCommand.{log_limit};
 ghost use Rattle.clap.specs.Words.{found_of};
 ghost use Rattle.j39_cli.specs.CommandWords.{IsAnswered, command_found};
-ghost use Rattle.j39_cli.specs.FaultsCommand.{chosen_by, faults_app, telling_of};
-ghost use Rattle.j39_reports.specs.News.{chosen_of};
+ghost use Rattle.j39_cli.specs.FaultsCommand.{IsFaultsRun, asks_by, faults_app, makes_by, told_by, versions_in};
+ghost use Rattle.j39_reports.specs.Broken.{ToldFaults};
 ghost use Rattle.j39_cli.specs.Rules.{IsMade};
 
 use crate::command::{new_command, with_flag, with_option, with_table};
-use crate::log::{with_csv, with_log};
+use crate::fields::fault_counts_line;
+use crate::log::{LOG_LIMIT, copy_of, tell_fault, with_csv, with_log};
+use crate::refusal::show;
 use crate::words::{conversions_value, format_given, is_set, log_input};
-use crate::{Argument, Conversions, ParseFault, Task, WordText};
+use crate::{Argument, Conversions, FaultsTold, ParseFault, Task, WordText};
 use clap::{ArgMatches, Command};
-use j39_reports::{Choice, Telling};
+use j39_faults::Conversion;
+use j39_groups::Groups;
+use j39_io::{Sink, Source};
+use j39_listen::{Format, RunFault};
+use j39_log::Bus;
+use j39_reports::{Choice, FaultCounts, Telling, faults, faults_now};
 use std::alloc::{AllocError, Global};
 
 const ABOUT: &str = "\
@@ -23,7 +34,10 @@ before of that group from that address, or that is the first. With --all, of eac
 message. With --changes instead what became of each active code from one DM1 of an
 address to its next under the same NAME: set (that before doesn't name it, or there
 is none), again (its count rose), cleared (this one doesn't name it); silence clears
-none. The line has the time, the source address (hex), the NAME of the device at
+none. With --now the codes that are active at the end: those that the last DM1 of
+each controller names, or that it names none; behind the NAME stand the time of that
+message, and in how many one behind the other the code is named, the first of which
+has the line's time. The line has the time, the source address (hex), the NAME of the device at
 that address (hex, or dashes where no claim before tells it), the state, or what
 became of the code, the SPN, the FMI, how often it came (or -), the lamps of the
 device (a flashing one with *, or - where all are off), what the table calls the
@@ -39,6 +53,7 @@ At the end the counts go to standard error:
   unread    lines of no form that candump -l or -L writes
   messages  messages of faults that were heard, in one frame or in packets
   lines     lines written
+  broken    messages of codes that a BAM or an RTS announced, and that were not heard
 
 Example:
   j1939 faults --bus can0 trip.log
@@ -58,6 +73,8 @@ pub(crate) fn command<'a>(alloc: Global) -> Result<Command<'a>, AllocError>
     let command = with_flag(alloc, command, "all", help);
     let help = "What became of active codes: set, again (its count rose) or cleared";
     let command = with_flag(alloc, command, "changes", help);
+    let help = "The active codes at the end, since when, and in how many messages";
+    let command = with_flag(alloc, command, "now", help);
     with_log(alloc, with_csv(alloc, command))
 }
 
@@ -66,7 +83,11 @@ pub(crate) fn task<'a>(given: &ArgMatches<'a>) -> Result<Task<'a>, ParseFault>
     ensures { IsAnswered (command_found (codes "faults") (found_of given.now)) result }
 {
     let table = given.get_str("table").map(WordText::new);
-    let telling = telling_by(is_set(given, "all"), is_set(given, "changes"));
+    let told = told_by(
+        is_set(given, "all"),
+        is_set(given, "changes"),
+        is_set(given, "now"),
+    );
     let format = format_given(given);
     let input = match log_input(given) {
         Ok(input) => input,
@@ -76,42 +97,105 @@ pub(crate) fn task<'a>(given: &ArgMatches<'a>) -> Result<Task<'a>, ParseFault>
         Ok(conversions) => conversions,
         Err(fault) => return Err(fault),
     };
-    match telling {
-        Some(telling) => Ok(Task::Faults {
+    match told {
+        Some(told) => Ok(Task::Faults {
             input,
             table,
             conversions,
-            telling,
+            told,
             format,
         }),
-        None => Err(ParseFault::BadValue(Argument::AllChanges)),
+        None => Err(ParseFault::BadValue(Argument::Together)),
     }
 }
 
-/// What is told of messages by `--all` and `--changes`, which don't go together.
-fn telling_by(all: bool, changes: bool) -> Option<Telling>
-    ensures { result ≡ telling_of all changes }
+/// What is told by `--all`, `--changes` and `--now`, of which no two go together.
+fn told_by(all: bool, changes: bool, now: bool) -> Option<FaultsTold>
+    ensures { result ≡ told_by all changes now }
 {
-    match (all, changes) {
-        (false, false) => Some(Telling::News),
-        (true, false) => Some(Telling::All),
-        (false, true) => Some(Telling::Changes),
-        (true, true) => None,
+    match (all, changes, now) {
+        (false, false, false) => Some(FaultsTold::InMessages(Telling::News)),
+        (true, false, false) => Some(FaultsTold::InMessages(Telling::All)),
+        (false, true, false) => Some(FaultsTold::InMessages(Telling::Changes)),
+        (false, false, true) => Some(FaultsTold::Now),
+        (true, true, _) => None,
+        (true, false, true) => None,
+        (false, true, true) => None,
     }
 }
 
-/// What is told: no version is known where none is given.
-pub(crate) fn choice_of(conversions: &Option<Conversions>, telling: Telling) -> Choice<'_>
-    ensures { chosen_of result ≡ chosen_by conversions.now telling }
+/// The versions of the conversion that are known: none where none is given.
+pub(crate) fn versions_in(conversions: &Option<Conversions>) -> &[Conversion]
+    ensures { result.now ≡ versions_in conversions.now }
 {
     match conversions {
-        Some(conversions) => Choice {
-            telling,
-            conversions: conversions.as_slice(),
-        },
-        None => Choice {
-            telling,
-            conversions: &[],
-        },
+        Some(conversions) => conversions.as_slice(),
+        None => &[],
+    }
+}
+
+/// Performs it by a table of parameters: the faults go to `sink`, the counts or what failed to `err`.
+pub(crate) fn perform<R: Source, W: Sink, E: Sink>(
+    alloc: Global,
+    groups: &Groups<'_>,
+    bus: &Option<Bus>,
+    conversions: &[Conversion],
+    told: FaultsTold,
+    format: Format,
+    source: &mut R,
+    sink: &mut W,
+    err: &mut E,
+) -> u8
+    ensures run { IsFaultsRun (makes_by conversions.now told format groups.now) (asks_by told) bus.now result
+        (turn R.remaining R.has_failed source.old source.new)
+        (turn W.written W.has_failed sink.old sink.new)
+        (turn E.written E.has_failed err.old err.new) }
+    ensures flushed { result ≡ 0 → W.is_flushed sink.new ≡ true }
+    ensures passed_out { W.is_flushed sink.old ≡ true → W.has_failed sink.new ≡ false → W.is_flushed sink.new ≡ true }
+    ensures passed_on { E.has_failed err.new ≡ false → E.is_flushed err.new ≡ true }
+{
+    let bus = copy_of(bus);
+    match run(alloc, groups, conversions, told, format, source, sink, bus) {
+        Ok(told) => {
+            show(err, fault_counts_line(told).as_slice());
+            0
+        }
+        Err(fault) => tell_fault(fault, err),
+    }
+}
+
+/// Runs over the log.
+fn run<R: Source, W: Sink>(
+    alloc: Global,
+    groups: &Groups<'_>,
+    conversions: &[Conversion],
+    told: FaultsTold,
+    format: Format,
+    source: &mut R,
+    sink: &mut W,
+    bus: Option<Bus>,
+) -> Result<FaultCounts, RunFault>
+    ensures told { ToldFaults (makes_by conversions.now told format groups.now) (asks_by told) bus log_limit result
+        (turn R.remaining R.has_failed source.old source.new) (turn W.written W.has_failed sink.old sink.new) }
+    ensures flushed { PassesOn result (begins_flushed format (W.is_flushed sink.old)) (W.is_flushed sink.new) }
+{
+    match told {
+        FaultsTold::InMessages(telling) => {
+            let choice = Choice {
+                telling,
+                conversions,
+            };
+            faults(alloc, groups, format, choice, source, sink, bus, LOG_LIMIT)
+        }
+        FaultsTold::Now => faults_now(
+            alloc,
+            groups,
+            format,
+            conversions,
+            source,
+            sink,
+            bus,
+            LOG_LIMIT,
+        ),
     }
 }

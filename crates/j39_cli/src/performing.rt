@@ -4,15 +4,15 @@ ghost use Rattle.j39_io.specs.Turn.{turn};
 ghost use Rattle.j39_groups.specs.Table.{the_table};
 ghost use Rattle.j39_cli.specs.Task.{IsPerformed, reads_log};
 
-use crate::faults::choice_of;
+use crate::faults::versions_in;
 use crate::id::id_line;
 use crate::log::{LOG_LIMIT, copy_of, tell_end};
 use crate::name::name_lines;
 use crate::shown::show_text;
-use crate::{Task, answer, groups, nodes, report, survey};
+use crate::{Task, answer, faults, groups, nodes, report, survey};
 use j39_groups::Groups;
 use j39_io::{Sink, Source};
-use j39_reports::{faults, summary};
+use j39_reports::summary;
 use std::alloc::Global;
 
 /// Performs a task by the built-in table of parameters.
@@ -90,14 +90,14 @@ pub fn perform_with<R: Source, W: Sink, E: Sink>(
         Task::Faults {
             input,
             conversions,
-            telling,
+            told,
             format,
             ..
         } => {
-            let bus = copy_of(&input.bus);
-            let choice = choice_of(conversions, *telling);
-            let end = faults(alloc, groups, *format, choice, source, sink, bus, LOG_LIMIT);
-            tell_end(end, err)
+            let versions = versions_in(conversions);
+            faults::perform(
+                alloc, groups, &input.bus, versions, *told, *format, source, sink, err,
+            )
         }
         Task::Nodes { input, format } => {
             tell_end(nodes::run(*format, &input.bus, source, sink), err)

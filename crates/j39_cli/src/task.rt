@@ -93,6 +93,15 @@ pub struct LogInput<'a> {
     pub file: Option<WordText<'a>>,
 }
 
+/// What is told of faults.
+#[derive(Clone, Copy, Debug, PartialEq, Eq)]
+pub enum FaultsTold {
+    /// What messages say, one behind the other.
+    InMessages(Telling),
+    /// What is there at the end of the log.
+    Now,
+}
+
 /// A command with its values.
 #[derive(Drop)]
 pub enum Task<'a> {
@@ -124,8 +133,8 @@ pub enum Task<'a> {
         table: Option<WordText<'a>>,
         /// By which versions of their conversion SPNs are read; `None` for none.
         conversions: Option<Conversions>,
-        /// What is told of messages.
-        telling: Telling,
+        /// What is told of them.
+        told: FaultsTold,
         /// How they are written.
         format: Format,
     },
@@ -233,8 +242,8 @@ pub enum Argument {
     Spn,
     /// `--conversion`, the versions by which SPNs are read.
     Conversion,
-    /// `--all` beside `--changes`, which don't go together.
-    AllChanges,
+    /// Two of `--all`, `--changes` and `--now`, which don't go together.
+    Together,
 }
 
 impl Argument {
@@ -252,7 +261,7 @@ impl Argument {
             Argument::Hex => "HEX",
             Argument::Spn => "--spn",
             Argument::Conversion => "--conversion",
-            Argument::AllChanges => "--all with --changes",
+            Argument::Together => "--all, --changes, --now together",
         }
     }
 }

@@ -2,5 +2,6 @@
 pub mod CodeLemmas
 pub mod LampLemmas
 pub mod SamenessLemmas
+pub mod NamedLemmas
 -- writing them
 pub mod NumberLemmas

@@ -23,7 +23,7 @@ decides_spns a b =
     (λ same. (λ i. record { version_1 = same.0.0 i; version_2 = same.0.1 i; version_3 = same.1 i }))
     (λ same. ((ap (λ (x : Candidates). x.version_1) same, ap (λ (x : Candidates). x.version_2) same), ap (λ (x : Candidates). x.version_3) same))
 
-decides_parameter : (a b : Parameter) → Decides (is_same_parameter a b) (a ≡ b)
+pub decides_parameter : (a b : Parameter) → Decides (is_same_parameter a b) (a ≡ b)
 decides_parameter (Known a) (Known b) = decides_as _ (Decides-eqb a b) (λ same. ap Known same) (λ same. cc)
 decides_parameter (Known a) (OneOf b) = (λ is. cc, λ same. cc)
 decides_parameter (OneOf a) (Known b) = (λ is. cc, λ same. cc)

@@ -60,7 +60,8 @@ fn named_in(version: Option<Version>, payload: &[u8], code: Code) -> Option<Code
     None
 }
 
-fn is_same_fault(one: Code, other: Code) -> bool
+/// Whether two codes are one: their SPNs and FMIs are, whatever their counts.
+pub fn is_same_fault(one: Code, other: Code) -> bool
     ensures { result ≡ is_same_fault one other }
 {
     is_same_parameter(one.parameter, other.parameter) && one.fmi == other.fmi

@@ -12,7 +12,7 @@ mod sameness;
 mod text;
 mod words;
 
-pub use change::{Change, change_since, clearing_by};
+pub use change::{Change, change_since, clearing_by, is_same_fault};
 pub use code::{Candidates, Code, Parameter};
 pub use codes::{Codes, codes_of};
 pub use conversion::{Conversion, Version, code_by, version_for};

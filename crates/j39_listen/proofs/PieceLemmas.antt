@@ -15,13 +15,13 @@ use Rattle.j39_listen.specs.AccountCalls.{Begins}
 use Rattle.j39_listen.specs.LinesSoFar.{IsSpelling}
 use Rattle.j39_listen.specs.Output.{Making, Meeting}
 use Rattle.j39_listen.specs.PiecesSoFar.{HasMetAll, HasTaken, ReadsAs, ReadsLast, ReadsLine, StepsOver, StopsAs, StopsIn, StopsLast, WritesAll, WritesSome}
-use Rattle.j39_listen.specs.Run.{Writes, WritesFront, WritesFrontOfMore}
+use Rattle.j39_listen.specs.Run.{HasMetLog, Writes, WritesFront, WritesFrontOfMore, run_bus}
 use Rattle.j39_listen.specs.declared.account.LineFault.{LineFault}
 use Rattle.j39_listen.specs.declared.account.LineFault.TheVariants.{Memory, Write}
 use Rattle.j39_listen.specs.declared.counts.Counts.{Counts}
 use Rattle.j39_listen.specs.declared.pieces.Pieces.{Pieces}
 use Rattle.j39_listen.specs.declared.lines.Lines.{Lines}
-use Rattle.j39_listen.proofs.RunLemmas.{ended_log, has_met-more, has_read-bytes, has_read-more, last_log, writes_log}
+use Rattle.j39_listen.proofs.RunLemmas.{ended_log, has_met-more, has_read-bytes, has_read-more, has_run_bus, last_log, writes_log}
 use Rattle.j39_listen.proofs.StopLemmas.{front_of_log, stops_in, stops_last, writes_front}
 
 -- what is taken of bytes that end a line
@@ -164,12 +164,16 @@ front_of_all makes given None remaining' taken old new consumed h = tt
 front_of_all makes given (Some log) None taken old new consumed h = absurd consumed
 front_of_all makes given (Some log) (Some rest) taken old new consumed h = subst (λ t. WritesFront makes given t old new) (sym consumed) (h rest)
 
+pub so_of_whole : (remaining remaining' : Option (List ℕ)) (taken : List ℕ) (IsSo : List ℕ → Type 0) → Consumes remaining remaining' taken → IsAtEnd remaining'
+    → IsSo taken → IfSome remaining IsSo
+so_of_whole None remaining' taken IsSo consumed end h = tt
+so_of_whole (Some log) None taken IsSo consumed end h = absurd consumed
+so_of_whole (Some log) (Some rest) taken IsSo consumed end h = subst IsSo (sym (consumed ∙ ap (λ t. taken ++ t) end ∙ append-nil taken)) h
+
 pub front_of_whole : (makes : Making) (given remaining remaining' : Option (List ℕ)) (taken : List ℕ) (old new : Option (List ℕ))
     → Consumes remaining remaining' taken → IsAtEnd remaining' → WritesFront makes given taken old new → IfSome remaining (λ log. WritesFront makes given log old new)
-front_of_whole makes given None remaining' taken old new consumed end h = tt
-front_of_whole makes given (Some log) None taken old new consumed end h = absurd consumed
-front_of_whole makes given (Some log) (Some rest) taken old new consumed end h =
-    subst (λ t. WritesFront makes given t old new) (sym (consumed ∙ ap (λ t. taken ++ t) end ∙ append-nil taken)) h
+front_of_whole makes given remaining remaining' taken old new consumed end h =
+    so_of_whole remaining remaining' taken (λ log. WritesFront makes given log old new) consumed end h
 
 abbrev pub FrontAtEnd : {A : Type 0} → Meeting A → Making → Pieces A → Option (List ℕ) → Option (List ℕ) → Type 0
 FrontAtEnd has_met makes run old new =
@@ -207,6 +211,15 @@ pub end_writes : {A : Type 0} (has_met : Meeting A) (makes : Making) (run : Piec
 end_writes has_met makes run p' counts a b c reads closes = λ given taken held h.
     let f = finishes has_met given taken run p' held a b h reads in
     writes_log makes given taken f.0 counts held c f.1 (closes given f.0 held f.2)
+
+-- the frames of the whole log were met
+pub end_meets : {A : Type 0} (has_met : Meeting A) (run : Pieces A) (p' : Lines A) (a b : Option (List ℕ))
+    → ((begun : List ℕ) → HasBegun run.splitter begun → ReadsLast has_met begun run.lines p' a b)
+    → (given : Option (List ℕ)) (taken : List ℕ) (held : Option (List ℕ)) → HasTaken has_met given taken run held a → HasMetLog has_met given taken p'.account
+end_meets has_met run p' a b reads given taken held h =
+    let f = finishes has_met given taken run p' held a b h reads in
+    let m = f.2.made (run_bus given f.0) (has_run_bus given f.0) in
+    record { spelled = f.0; is_log = f.1; output = m.output; met = m.met }
 
 -- ---- a line, as it was cut
 
@@ -256,6 +269,10 @@ if_ok (Err e) P R f p = tt
 pub on_err_from : {T E : Type 0} (r : Result T E) (P Q : Type 0) → (P → Q) → OnErr r P → OnErr r Q
 on_err_from (Ok x) P Q f h = tt
 on_err_from (Err e) P Q f h = f h
+
+pub on_ok_from : {T E : Type 0} (r : Result T E) (P Q : Type 0) → (P → Q) → OnOk r P → OnOk r Q
+on_ok_from (Ok x) P Q f h = f h
+on_ok_from (Err e) P Q f h = tt
 
 pub at_fault : {T E : Type 0} {r : Result T E} {fault : E} {P : Type 0} → r ≡ Err fault → OnErr r P → P
 at_fault {P = P} is h = subst (λ r. OnErr r P) is h

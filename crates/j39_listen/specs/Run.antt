@@ -6,7 +6,7 @@ use Rattle.j39_log.specs.Log.{IsLog, bus_of, frames_of}
 use Rattle.j39_log.specs.Spelled.{Spelled}
 use Rattle.j39_groups.specs.Row.{RowRecord}
 use Rattle.j39_listen.specs.Counting.{counts_of}
-use Rattle.j39_listen.specs.Output.{Output, Making}
+use Rattle.j39_listen.specs.Output.{Output, Making, Meeting}
 use Rattle.j39_listen.specs.Report.{Entry, IsReport, text_of}
 use Rattle.j39_listen.specs.Values.{TellsPublished, TellsRepeated, TellsThinned}
 use Rattle.j39_listen.specs.declared.counts.Counts.{Counts}
@@ -24,6 +24,14 @@ pub record Writes (makes : Making) (given : Option (List ℕ)) (log : List ℕ) 
   pub is_made : makes (run_bus given spelled) (frames_of given spelled) output
   pub counts_are : counts ≡ counts_of given spelled output
   pub written : Appends old new output.text
+
+-- an account has met the log's frames on the run's bus
+pub record HasMetLog {A : Type 0} (has_met : Meeting A) (given : Option (List ℕ)) (log : List ℕ) (account : A)
+    : Type 0 where
+  pub spelled : List Spelled
+  pub is_log : IsLog log spelled
+  pub output : Output
+  pub met : has_met (run_bus given spelled) account (frames_of given spelled) output
 
 -- what a run stopped with is a front of what is made of the frames in these bytes
 abbrev pub WritesFront : Making → Option (List ℕ) → List ℕ → Option (List ℕ) → Option (List ℕ) → Type 0

@@ -51,11 +51,11 @@ pub trait Account: Drop {
             → has_met subject bus.now self.old F output → asks subject F frame.now };
 
     /// Writes what is left to be written at the end, and answers the numbers of the whole.
-    fn close<W: Sink>(&mut self, sink: &mut W) -> Result<Made, DeviceFault>
+    fn close<W: Sink>(&self, sink: &mut W) -> Result<Made, DeviceFault>
         ensures closes { IfOk result (λ made. (subject : Subject)
-            → Closes (has_met subject) (makes subject) self.old made (W.written sink.old) (W.written sink.new)) }
+            → Closes (has_met subject) (makes subject) self.now made (W.written sink.old) (W.written sink.new)) }
         ensures stops { OnErr result ((subject : Subject)
-            → StopsAtEnd (has_met subject) (makes subject) self.old (W.written sink.old) (W.written sink.new)) }
+            → StopsAtEnd (has_met subject) (makes subject) self.now (W.written sink.old) (W.written sink.new)) }
         ensures mark { Marks result (W.has_failed sink.old) (W.has_failed sink.new) };
 
     /// Does nothing: laws of what was met and of what is made.

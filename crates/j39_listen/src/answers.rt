@@ -125,7 +125,7 @@ impl Account for Answers {
         }
     }
 
-    fn close<W: Sink>(&mut self, _: &mut W) -> Result<Made, DeviceFault> {
+    fn close<W: Sink>(&self, _: &mut W) -> Result<Made, DeviceFault> {
         Ok(self.made)
     }
 

@@ -1,14 +1,15 @@
 //! A run that writes a head before its lines, as the names of the columns.
-ghost use Rattle.std.specs.Prelude.{◌≡◌, true, OnOk};
+ghost use Rattle.std.specs.Prelude.{◌≡◌, true, IfSome, OnOk};
 ghost use Rattle.j39_io.specs.Puts.{Puts};
 ghost use Rattle.j39_io.specs.Turn.{turn};
 ghost use Rattle.j39_listen.specs.Headed.{Headed};
 ghost use Rattle.j39_listen.specs.PiecesSoFar.{AtStart};
 ghost use Rattle.j39_listen.specs.Ran.{Ended, PassesOn, Ran};
+ghost use Rattle.j39_listen.specs.Run.{HasMetLog};
 
 use crate::Counts;
 use crate::account::Account;
-use crate::running::{RunFault, run_over};
+use crate::running::{RunFault, run_keeping};
 use j39_io::{DeviceFault, Sink, Source, put_all};
 use j39_log::Bus;
 
@@ -35,9 +36,34 @@ pub fn run_headed<A: Account, R: Source, W: Sink>(
     // What was written is passed on at the end, and before each read, the head before the first.
     ensures flushed { PassesOn result true (W.is_flushed sink.new) }
 {
+    let (ran, _) = run_headed_keeping(head, account, source, sink, bus, limit);
+    ran
+}
+
+/// Writes a head and an account as `run_headed` does, and hands the account back, with all that it has met.
+pub fn run_headed_keeping<A: Account, R: Source, W: Sink>(
+    head: &[u8],
+    account: A,
+    source: &mut R,
+    sink: &mut W,
+    bus: Option<Bus>,
+    limit: u64,
+) -> (Result<Counts, RunFault>, A)
+    // How it ended and what it promises are those of `run_headed`.
+    ensures ended { Ended limit result.0
+        (turn R.remaining R.has_failed source.old source.new) (turn W.written W.has_failed sink.old sink.new) }
+    ensures ran { AtStart A.has_met account (λ subject. Ran (Headed head.now (A.makes subject)) (A.asks subject) bus
+        limit result.0 (turn R.remaining R.has_failed source.old source.new)
+        (turn W.written W.has_failed sink.old sink.new)) }
+    ensures flushed { PassesOn result.0 true (W.is_flushed sink.new) }
+
+    // After a run that ended well the account has met the frames of the log.
+    ensures met { OnOk result.0 (AtStart A.has_met account (λ subject. IfSome (R.remaining source.old)
+        (λ log. HasMetLog (A.has_met subject) bus log result.1))) }
+{
     match put_head(head, sink) {
-        Ok(()) => run_over(account, source, sink, bus, limit),
-        Err(DeviceFault) => Err(RunFault::Write),
+        Ok(()) => run_keeping(account, source, sink, bus, limit),
+        Err(DeviceFault) => (Err(RunFault::Write), account),
     }
 }
 

@@ -91,14 +91,14 @@ impl<A: Account> Lines<A> {
     }
 
     /// Closes the account of all lines, and passes on what was written.
-    pub fn close<W: Sink>(&mut self, sink: &mut W) -> Result<Counts, DeviceFault>
+    pub fn close<W: Sink>(&self, sink: &mut W) -> Result<Counts, DeviceFault>
         ensures closes { IfOk result (λ counts.
             (subject : A.Subject) (given : Option (List ℕ)) (spelled : List Spelled) (held : Option (List ℕ))
-            → HasMetAll (A.has_met subject) given spelled self.old held (W.written sink.old)
+            → HasMetAll (A.has_met subject) given spelled self.now held (W.written sink.old)
             → WritesAll (A.makes subject) given spelled counts held (W.written sink.new)) }
         ensures stops { OnErr result (
             (subject : A.Subject) (given : Option (List ℕ)) (spelled : List Spelled) (held : Option (List ℕ))
-            → HasMetAll (A.has_met subject) given spelled self.old held (W.written sink.old)
+            → HasMetAll (A.has_met subject) given spelled self.now held (W.written sink.old)
             → WritesSome (A.makes subject) given spelled held (W.written sink.new)) }
         ensures flushed { OnOk result (W.is_flushed sink.new ≡ true) }
         ensures mark { Marks result (W.has_failed sink.old) (W.has_failed sink.new) }

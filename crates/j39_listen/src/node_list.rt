@@ -249,7 +249,7 @@ impl Account for NodeList {
         Ok(())
     }
 
-    fn close<W: Sink>(&mut self, sink: &mut W) -> Result<Made, DeviceFault> {
+    fn close<W: Sink>(&self, sink: &mut W) -> Result<Made, DeviceFault> {
         let lines = put_nodes(self, sink)?;
         Ok(Made { messages: 0, lines })
     }

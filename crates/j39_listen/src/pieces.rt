@@ -7,7 +7,7 @@ ghost use Rattle.j39_listen.specs.AccountCalls.{LeavesWriter};
 ghost use Rattle.j39_listen.specs.Asking.{AsksAmong};
 ghost use Rattle.j39_listen.specs.WantsMemory.{AsksIn, AsksLast};
 ghost use Rattle.j39_listen.specs.PiecesSoFar.{AtStart, Behind, HasTaken, ReadsLast, StepsOver, StopsIn, StopsLast};
-ghost use Rattle.j39_listen.specs.Run.{Writes, WritesFront, WritesFrontOfMore};
+ghost use Rattle.j39_listen.specs.Run.{HasMetLog, Writes, WritesFront, WritesFrontOfMore};
 ghost use Rattle.j39_listen.specs.declared.account.LineFault.TheVariants.{Memory, Write};
 
 use crate::Counts;
@@ -41,6 +41,15 @@ impl<A: Account> Pieces<A> {
             },
             second: LastSecond::new(),
         }
+    }
+
+    /// The account of the lines that were read.
+    pub fn into_account(self) -> A
+        ensures { result ≡ self.lines.account }
+    {
+        let Pieces { lines, .. } = self;
+        let Lines { account, .. } = lines;
+        account
     }
 
     /// Takes a piece of the log, writes what is to be written at the lines that it ends, and passes it on: so
@@ -110,6 +119,8 @@ impl<A: Account> Pieces<A> {
         ensures asked { result ≡ Err Memory → (subject : A.Subject)
             → Behind (A.has_met subject) self.old (W.written sink.old)
             (λ given taken held. AsksAmong (A.asks subject) given taken) }
+        ensures met { OnOk result ((subject : A.Subject) → Behind (A.has_met subject) self.old (W.written sink.old)
+            (λ given taken held. HasMetLog (A.has_met subject) given taken self.new.lines.account)) }
     {
         A::laws();
         match self.take_last(sink) {

@@ -142,7 +142,7 @@ impl<'g, 't, E: EntryForm> Account for Report<'g, 't, E> {
         }
     }
 
-    fn close<W: Sink>(&mut self, _: &mut W) -> Result<Made, DeviceFault> {
+    fn close<W: Sink>(&self, _: &mut W) -> Result<Made, DeviceFault> {
         Ok(self.made)
     }
 

@@ -1,10 +1,10 @@
 //! A run over a log, piece by piece, whatever account of it is written.
-ghost use Rattle.std.specs.Prelude.{◌≡◌, ◌≢◌, ◌<◌, ◌++◌, true, IfOk, OnOk, OnErr, Err};
+ghost use Rattle.std.specs.Prelude.{◌≡◌, ◌≢◌, ◌<◌, ◌++◌, true, IfOk, IfSome, OnOk, OnErr, Err};
 ghost use Rattle.j39_io.specs.Turn.{turn};
 ghost use Rattle.j39_listen.specs.Asking.{AsksAmong};
 ghost use Rattle.j39_listen.specs.PiecesSoFar.{AtNothing, AtStart, Behind, HasTaken};
 ghost use Rattle.j39_listen.specs.Ran.{Ended, PassesOn, Ran};
-ghost use Rattle.j39_listen.specs.Run.{Writes, WritesFront, WritesFrontOfMore};
+ghost use Rattle.j39_listen.specs.Run.{HasMetLog, Writes, WritesFront, WritesFrontOfMore};
 ghost use Rattle.j39_listen.specs.declared.running.RunFault.TheVariants.{Memory, Read, Write, TooLong};
 
 use crate::Counts;
@@ -78,8 +78,32 @@ pub fn run_over<A: Account, R: Source, W: Sink>(
     // What was written is passed on at the end, and before each read.
     ensures flushed { PassesOn result (W.is_flushed sink.old) (W.is_flushed sink.new) }
 {
+    let (ran, _) = run_keeping(account, source, sink, bus, limit);
+    ran
+}
+
+/// Writes an account as `run_over` does, and hands it back, with all that it has met.
+pub fn run_keeping<A: Account, R: Source, W: Sink>(
+    account: A,
+    source: &mut R,
+    sink: &mut W,
+    bus: Option<Bus>,
+    limit: u64,
+) -> (Result<Counts, RunFault>, A)
+    // How it ended and what it promises are those of `run_over`.
+    ensures ended { Ended limit result.0
+        (turn R.remaining R.has_failed source.old source.new) (turn W.written W.has_failed sink.old sink.new) }
+    ensures ran { AtStart A.has_met account (λ subject. Ran (A.makes subject) (A.asks subject) bus limit result.0
+        (turn R.remaining R.has_failed source.old source.new) (turn W.written W.has_failed sink.old sink.new)) }
+    ensures flushed { PassesOn result.0 (W.is_flushed sink.old) (W.is_flushed sink.new) }
+
+    // After a run that ended well the account has met the frames of the log.
+    ensures met { OnOk result.0 (AtStart A.has_met account (λ subject. IfSome (R.remaining source.old)
+        (λ log. HasMetLog (A.has_met subject) bus log result.1))) }
+{
     let mut pieces = Pieces::new(account, bus);
-    read_pieces(&mut pieces, source, sink, limit)
+    let ran = read_pieces(&mut pieces, source, sink, limit);
+    (ran, pieces.into_account())
 }
 
 /// Reads a log to its end, piece by piece.
@@ -95,6 +119,9 @@ fn read_pieces<A: Account, R: Source, W: Sink>(
         (λ subject given. Ran (A.makes subject) (A.asks subject) given limit result
         (turn R.remaining R.has_failed source.old source.new) (turn W.written W.has_failed sink.old sink.new)) }
     ensures flushed { PassesOn result (W.is_flushed sink.old) (W.is_flushed sink.new) }
+    ensures met { OnOk result (AtNothing A.has_met pieces.old (W.written sink.old)
+        (λ subject given. IfSome (R.remaining source.old)
+        (λ log. HasMetLog (A.has_met subject) given log pieces.new.lines.account))) }
 {
     A::laws();
     let mut piece = [0u8; PIECE];
@@ -164,6 +191,8 @@ fn finish<A: Account, W: Sink>(pieces: &mut Pieces<A>, sink: &mut W) -> Result<C
     ensures passed_on { result ≡ Err Memory → W.is_flushed sink.new ≡ true }
     ensures not_read { result ≢ Err Read }
     ensures not_long { result ≢ Err TooLong }
+    ensures met { OnOk result ((subject : A.Subject) → Behind (A.has_met subject) pieces.old (W.written sink.old)
+        (λ given taken held. HasMetLog (A.has_met subject) given taken pieces.new.lines.account)) }
 {
     match pieces.finish(sink) {
         Ok(counts) => Ok(counts),

@@ -5,6 +5,7 @@ use Rattle.std.proofs.lemmas.Grind.{common_steps}
 use Rattle.j39_listen.specs.Counting.{capped}
 use Rattle.j39_log.specs.Kind.{kind_of}
 use Rattle.j39_log.specs.declared.kind.OtherKind.{OtherKind}
+use Rattle.j39_reports.specs.Interfaces.{one_if}
 use Rattle.j39_reports.specs.OtherLines.{OthersRecord, is_kind, kinds_in, others_of}
 use Rattle.j39_log.specs.declared.kind.OtherKind.TheVariants.{Standard, Remote, Flexible, Error, Odd}
 
@@ -22,6 +23,12 @@ length_more xs x = length-append xs (x ∷ [])
 
 pub count_by-append : {X : Type 0} (p : X → Bool) (xs ys : List X) → count_by p (xs ++ ys) ≡ count_by p xs + count_by p ys
 count_by-append p xs ys = grind (arith, common_steps)
+
+pub count_here : {X : Type 0} (p : X → Bool) (x : X) → one_if (p x) ≡ count_by p (x ∷ [])
+count_here p x = elim (p x) as (λ b. p x ≡ b → one_if b ≡ count_by p (x ∷ [])) [
+  | true ↦ λ e. rw e refl
+  | false ↦ λ e. rw e refl
+] refl
 
 -- ---- other lines
 

@@ -27,7 +27,12 @@ use Rattle.j39_reports.specs.News.{Chosen, chosen_of, faults_among, is_fault_gro
 use Rattle.j39_reports.specs.FaultRun.{MakesFaults, MakesFaultsIn, faults_of}
 use Rattle.j39_reports.specs.FaultRecords.{fault_in, faults_text}
 use Rattle.j39_reports.specs.Remembered.{Remembers}
-use Rattle.j39_reports.specs.FaultsSoFar.{HasTold, MeetsFrame, StopsFrame, Subject, Tells, added, told_next}
+use Rattle.j39_reports.specs.FaultsSoFar.{HasTold, MeetsFrame, StopsFrame, Subject, Tells, added, announced_in, told_next, with_either, with_frame}
+use Rattle.j39_reports.specs.Broken.{announces_codes, is_whole}
+use Rattle.j39_reports.specs.Interfaces.{one_if}
+use Rattle.j39_reports.specs.declared.fault_news.announced.Announced.{Announced}
+use Rattle.j39_reports.proofs.CountLemmas.{capped_sum, count_by-append, count_here}
+use Rattle.std.specs.Prelude.{Bool, count_by}
 use Rattle.j39_reports.specs.declared.fault_news.account.FaultNews.{FaultNews}
 use Rattle.j39_listen.specs.declared.format.Format.{Format}
 use Rattle.j39_listen.specs.declared.format.Format.TheVariants.{Line}
@@ -150,19 +155,33 @@ tells_nothing form rows which last ms o made held none untold remembers m l = re
 pub faults_leave : LeavesNetwork is_fault_group
 faults_leave pgn network = grind arith
 
+-- ---- what was announced, and what came whole
+
+pub same_announced : (a b : Announced) → a.announced ≡ b.announced → a.whole ≡ b.whole → a ≡ b
+same_announced a b m w = λ i. record { announced = m i; whole = w i }
+
+count_more : {X : Type 0} (p : X → Bool) (xs : List X) (x : X) → capped (capped (count_by p xs) + one_if (p x)) ≡ capped (count_by p (xs ++ x ∷ []))
+count_more p xs x = capped_sum _ (count_by p xs) (one_if (p x)) refl
+    ∙ ap capped (ap (λ n. count_by p xs + n) (count_here p x) ∙ sym (count_by-append p xs (x ∷ [])))
+
+pub announced_more : (F : List FrameRecord) (heard : List Hearing) (f : FrameRecord) (o : Option Hearing)
+    → with_either (with_frame (announced_in F heard) f) o ≡ announced_in (F ++ f ∷ []) (heard ++ or_none o)
+announced_more F heard f None = same_announced _ _ (count_more announces_codes F f) (ap (λ hs. capped (count_by is_whole hs)) (sym (append-nil heard)))
+announced_more F heard f (Some h) = same_announced _ _ (count_more announces_codes F f) (count_more is_whole heard h)
+
 -- ---- a frame more
 
 sound : (F : List FrameRecord) (heard : List Hearing) (more : List Hearing) → faults_among (heard ++ more) ≡ faults_among heard ++ faults_among more
 sound F heard more = filter-append is_of_faults heard more
 
 pub news_meets : (form : Format) (s : Subject) (a a' : FaultNews) → a'.writing ≡ a.writing → a'.choice ≡ a.choice → (f : FrameRecord) (made : Made) (old new : Option (List ℕ))
-    → ((F : List FrameRecord) (ms : List Hearing) → Hears a.listener F → Remembers a.last ms → MeetsFrame a.writing.form a.writing.groups.now (chosen_of a.choice) a'.listener a'.last F f ms made old new)
+    → ((F : List FrameRecord) (ms : List Hearing) → Hears a.listener F → Remembers a.last ms → MeetsFrame a.writing.form a.writing.groups.now (chosen_of a.choice) a'.listener a'.last a.announced a'.announced F f ms made old new)
     → a'.made ≡ made_sum a.made made → Meets (HasTold form s) a a' (f ∷ []) old new
 news_meets form s a a' writing choice f made old new meets sum = λ F before has.
     let ms = faults_among has.heard in
-    let met = subst (λ (t : Chosen). MeetsFrame form s.rows t a'.listener a'.last F f ms made old new) has.chosen_is
-    (subst (λ (rows : List RowRecord). MeetsFrame form rows (chosen_of a.choice) a'.listener a'.last F f ms made old new) has.by
-    (subst (λ (form : Format). MeetsFrame form a.writing.groups.now (chosen_of a.choice) a'.listener a'.last F f ms made old new) has.form_is (meets F ms has.hears has.remembers))) in
+    let met = subst (λ (t : Chosen). MeetsFrame form s.rows t a'.listener a'.last a.announced a'.announced F f ms made old new) has.chosen_is
+    (subst (λ (rows : List RowRecord). MeetsFrame form rows (chosen_of a.choice) a'.listener a'.last a.announced a'.announced F f ms made old new) has.by
+    (subst (λ (form : Format). MeetsFrame form a.writing.groups.now (chosen_of a.choice) a'.listener a'.last a.announced a'.announced F f ms made old new) has.form_is (meets F ms has.hears has.remembers))) in
     let heard = has.heard ++ or_none met.heard in
     let are = sound F has.heard (or_none met.heard) in
     record {
@@ -178,6 +197,7 @@ news_meets form s a a' writing choice f made old new meets sum = λ F before has
         remembers = subst (Remembers a'.last) (sym are) met.tells.remembers;
         made_is = sum ∙ ap (λ (x : Made). made_sum x made) (has.made_is ∙ ap made_of has.output_is) ∙ ap (made_sum (made_of (faults_of form s.rows s.which ms))) met.tells.made_is
             ∙ sym (made_more form s.rows s.which ms met.heard) ∙ sym (ap (λ (x : List Hearing). made_of (faults_of form s.rows s.which x)) are);
+        announced_is = met.announced_is ∙ ap (λ (x : Announced). with_either (with_frame x f) met.heard) has.announced_is ∙ announced_more F has.heard f met.heard;
       };
       more = (added form s.rows s.which ms met.heard).text;
       text_is = ap (λ (x : List Hearing). (faults_of form s.rows s.which x).text) are ∙ text_more form s.rows s.which ms met.heard

@@ -74,7 +74,7 @@ module _ (form : Format) (head : List ℕ) (rows : List RowRecord) (version : Op
   codes_all left count x sink h none =
       puts_done _ tt x sink (puts_as _ _ _ _ (ap (lines_of form head rows how lamps) (sym (h.all_are ∙ ap (λ x. h.before ++ map by x) none ∙ append-nil h.before))) h.written)
 
-few_found : {X Y : Type 0} (f : X → Option Y) (xs : List X) → length (filter_map f xs) ≤ length xs
+pub few_found : {X Y : Type 0} (f : X → Option Y) (xs : List X) → length (filter_map f xs) ≤ length xs
 few_found f [] = omega arith
 few_found {X} {Y} f (x ∷ xs) = go (f x) (few_found f xs)
   where

@@ -26,6 +26,15 @@ pub mod HeardLemmas
 pub mod FaultAccountLemmas
 pub mod ChangeLemmas
 pub mod PutLemmas
+pub mod BrokenLemmas
+pub mod WholeLemmas
+-- the faults that are there now
+pub mod TellingLemmas
+pub mod StandingLemmas
+pub mod CurrentLemmas
+pub mod NowPlaceLemmas
+pub mod NowLineLemmas
+pub mod CurrentAccountLemmas
 -- surveys: lists
 pub mod FirstsLemmas
 pub mod CountLemmas

@@ -1,9 +1,10 @@
 -- The steps of a run that tells faults, frame by frame.
-use Rattle.std.specs.Prelude.{◌≡◌, ◌++◌, ◌∷◌, [], ℕ, Bool, true, false, List, Option, codes, if◌then◌else◌, length, None, Some, Err, IfOk, OnOk, Result, ◌<◌, ◌^◌}
+use Rattle.std.specs.Prelude.{◌≡◌, ◌++◌, ◌∷◌, [], ℕ, Bool, true, false, List, Option, codes, if◌then◌else◌, length, None, Some, Err, IfOk, OnOk, Result, ◌<◌, ◌^◌, ◌+◌, count_by}
 use Rattle.std.specs.Io.KnownBytes.{Appends}
 use Rattle.j39_io.specs.Device.{AppendsFront}
 use Rattle.j39_io.specs.Turn.{Turn}
 use Rattle.j39_listen.specs.AccountCalls.{LeavesWriter}
+use Rattle.j39_listen.specs.Counting.{capped}
 use Rattle.j39_listen.specs.declared.account.LineFault.{LineFault}
 use Rattle.j39_listen.specs.declared.account.LineFault.TheVariants.{Write}
 use Rattle.std.specs.List.{flat_map}
@@ -33,6 +34,9 @@ use Rattle.j39_reports.specs.FaultRun.{faults_of}
 use Rattle.j39_reports.specs.FaultRecords.{clearing_fields, faults_text, head_fields, said_fields}
 use Rattle.j39_reports.specs.LastMessages.{LastRecord, differs, said_before}
 use Rattle.j39_reports.specs.Remembered.{Remembers}
+use Rattle.j39_reports.specs.Broken.{announces_codes, broken_in, is_whole}
+use Rattle.j39_reports.specs.Interfaces.{one_if}
+use Rattle.j39_reports.specs.declared.fault_news.announced.Announced.{Announced}
 use Rattle.j39_reports.specs.declared.fault_news.changes.Side.{Side}
 use Rattle.j39_reports.specs.declared.fault_news.changes.Side.TheVariants.{Later, Earlier}
 use Rattle.j39_reports.specs.declared.fault_news.telling.Telling.{Telling}
@@ -130,11 +134,35 @@ abbrev pub TellsFront : Format → List RowRecord → Chosen → List Hearing �
     → Option (List ℕ) → Type 0
 TellsFront form rows which ms heard old new = AppendsFront old new (added form rows which ms heard).text
 
+-- so many messages of codes were announced in the frames, and so many were heard in packets
+abbrev pub announced_in : List FrameRecord → List Hearing → Announced
+announced_in F heard =
+    record { announced = capped (count_by announces_codes F); whole = capped (count_by is_whole heard) }
+
+-- a frame more
+abbrev pub with_frame : Announced → FrameRecord → Announced
+with_frame a f = record a { announced = capped (a.announced + one_if (announces_codes f)) }
+
+-- a message more, or none
+abbrev pub with_heard : Announced → Hearing → Announced
+with_heard a h = record a { whole = capped (a.whole + one_if (is_whole h)) }
+
+abbrev pub with_either : Announced → Option Hearing → Announced
+with_either a None = a
+with_either a (Some h) = with_heard a h
+
+-- so many were broken, by what was heard in the frames
+pub record IsBroken (F : List FrameRecord) (n : ℕ) : Type 0 where
+  pub heard : List Hearing
+  pub are_heard : AreHeardWith is_fault_group F heard
+  pub broken_is : n ≡ broken_in F heard
+
 -- behind the frames F, of which these messages were heard, this is heard at the frame f, and was told
 pub record MeetsFrame (form : Format) (rows : List RowRecord) (which : Chosen) (l' : Listener) (last' : LastFaults)
-    (F : List FrameRecord) (f : FrameRecord) (ms : List Hearing) (made : Made)
+    (a a' : Announced) (F : List FrameRecord) (f : FrameRecord) (ms : List Hearing) (made : Made)
     (old new : Option (List ℕ)) : Type 0 where
   pub heard : Option Hearing
+  pub announced_is : a' ≡ with_either (with_frame a f) heard
   pub heard_at : HeardAtWith is_fault_group (F ++ f ∷ []) (length F) heard
   pub hears : Hears l' (F ++ f ∷ [])
   pub tells : Tells form rows which last' ms heard made old new
@@ -162,3 +190,9 @@ pub record HasTold (form : Format) (s : Subject) (news : FaultNews) (F : List Fr
   pub hears : Hears news.listener F
   pub remembers : Remembers news.last (faults_among heard)
   pub made_is : news.made ≡ made_of output
+  pub announced_is : news.announced ≡ announced_in F heard
+
+-- so many of the frames in which faults were told
+abbrev pub KnowsBroken : FaultNews → ℕ → Type 0
+KnowsBroken news n = (form : Format) (s : Subject) (F : List FrameRecord) (output : Output) → HasTold form s news F output
+    → IsBroken F n

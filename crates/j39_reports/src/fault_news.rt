@@ -1,18 +1,19 @@
 //! The fault codes in a log, as they become news (J1939-73).
 
-mod account;
+pub(crate) mod account;
+pub(crate) mod announced;
 mod changes;
-mod form;
+pub(crate) mod form;
 mod last_faults;
 mod last_message;
 mod last_messages;
 pub mod laws;
-mod lines;
+pub(crate) mod lines;
 mod names;
 mod records;
-mod run;
+pub(crate) mod run;
 mod since;
 mod telling;
 
-pub use run::faults;
+pub use run::{FaultCounts, faults};
 pub use telling::{Choice, Telling};

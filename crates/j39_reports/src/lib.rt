@@ -2,6 +2,7 @@
 #![tactic(auto)]
 
 mod columns;
+pub mod current_faults;
 pub mod fault_news;
 mod parts;
 mod report_records;
@@ -9,7 +10,8 @@ pub mod summaries;
 pub mod surveys;
 mod utc;
 
-pub use fault_news::{Choice, Telling, faults};
+pub use current_faults::faults_now;
+pub use fault_news::{Choice, FaultCounts, Telling, faults};
 pub use report_records::report_csv;
 pub use summaries::summary;
 pub use surveys::survey;

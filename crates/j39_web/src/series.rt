@@ -96,7 +96,7 @@ impl<'g, 't> Account for SeriesAccount<'g, 't> {
         }
     }
 
-    fn close<W: Sink>(&mut self, _: &mut W) -> Result<Made, DeviceFault> {
+    fn close<W: Sink>(&self, _: &mut W) -> Result<Made, DeviceFault> {
         Ok(self.made)
     }
 

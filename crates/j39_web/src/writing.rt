@@ -1,6 +1,8 @@
 //! What is written of a log by a table.
+ghost use Rattle.std.specs.Prelude.{◌≡◌};
 ghost use Rattle.j39_io.specs.Turn.{turn};
 ghost use Rattle.j39_listen.specs.Ran.{Ran};
+ghost use Rattle.j39_reports.specs.Broken.{counts_in};
 ghost use Rattle.j39_web.specs.Writings.{asks, makes};
 
 use crate::points::SeriesOrigin;
@@ -9,7 +11,7 @@ use j39_groups::Groups;
 use j39_io::{Sink, Source};
 use j39_listen::{Counts, Format, RunFault, run_with};
 use j39_log::Bus;
-use j39_reports::{Choice, Telling, faults, report_csv, summary};
+use j39_reports::{Choice, FaultCounts, Telling, faults, report_csv, summary};
 use std::alloc::Global;
 
 /// What is written of a log by a table.
@@ -50,18 +52,20 @@ impl Writing {
                     telling: Telling::News,
                     conversions: &[],
                 };
-                faults(
-                    alloc,
-                    groups,
-                    Format::Line,
-                    choice,
-                    source,
-                    sink,
-                    bus,
-                    limit,
-                )
+                let format = Format::Line;
+                counts_of(faults(alloc, groups, format, choice, source, sink, bus, limit))
             }
             Writing::Series(of) => series(alloc, groups, of, source, sink, bus, limit),
         }
+    }
+}
+
+/// What a run that tells faults counts as every run does.
+fn counts_of(told: Result<FaultCounts, RunFault>) -> Result<Counts, RunFault>
+    ensures { result ≡ counts_in told }
+{
+    match told {
+        Ok(told) => Ok(told.counts),
+        Err(fault) => Err(fault),
     }
 }

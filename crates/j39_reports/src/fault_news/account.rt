@@ -16,8 +16,9 @@ ghost use Rattle.j39_reports.specs.Faults.{clearing_of};
 ghost use Rattle.j39_reports.specs.News.{chosen_of, faults_among, is_fault_group, is_of_faults, last_from};
 ghost use Rattle.j39_reports.specs.FaultRun.{faults_of};
 ghost use Rattle.j39_reports.specs.Remembered.{Remembers};
-ghost use Rattle.j39_reports.specs.FaultsSoFar.{HasTold, MeetsFrame, StopsFrame, Tells, TellsFaults, TellsFront, tells_clearing, told_faults};
+ghost use Rattle.j39_reports.specs.FaultsSoFar.{HasTold, KnowsBroken, MeetsFrame, StopsFrame, Tells, TellsFaults, TellsFront, tells_clearing, told_faults};
 
+use crate::fault_news::announced::Announced;
 use crate::fault_news::form::Writing;
 use crate::fault_news::last_faults::LastFaults;
 use crate::fault_news::lines::put_clearing;
@@ -40,6 +41,7 @@ pub(crate) struct FaultNews<'g, 't, 'c> {
     listener: Listener,
     last: LastFaults,
     made: Made,
+    announced: Announced,
 }
 
 impl<'g, 't, 'c> FaultNews<'g, 't, 'c> {
@@ -59,7 +61,15 @@ impl<'g, 't, 'c> FaultNews<'g, 't, 'c> {
             listener: Listener::new(alloc),
             last: LastFaults::new(),
             made: Made::default(),
+            announced: Announced::default(),
         }
+    }
+
+    /// How many messages of codes were announced and did not come whole.
+    pub(crate) fn broken(self) -> u64
+        ensures { KnowsBroken self.entry result }
+    {
+        self.announced.broken()
     }
 }
 
@@ -85,6 +95,7 @@ impl<'g, 't, 'c> Account for FaultNews<'g, 't, 'c> {
             self.writing,
             self.choice,
             &mut self.last,
+            &mut self.announced,
             frame,
             sink,
         ) {
@@ -96,7 +107,7 @@ impl<'g, 't, 'c> Account for FaultNews<'g, 't, 'c> {
         }
     }
 
-    fn close<W: Sink>(&mut self, _: &mut W) -> Result<Made, DeviceFault> {
+    fn close<W: Sink>(&self, _: &mut W) -> Result<Made, DeviceFault> {
         Ok(self.made)
     }
 
@@ -115,12 +126,13 @@ fn put_frame<W: Sink>(
     writing: Writing<'_, '_>,
     choice: Choice<'_>,
     last: &mut LastFaults,
+    announced: &mut Announced,
     frame: &Frame,
     sink: &mut W,
 ) -> Result<Made, LineFault>
     ensures met { IfOk result (λ made. (F : List FrameRecord) (ms : List Hearing) → Hears listener.old F
         → Remembers last.old ms → MeetsFrame writing.entry.form writing.entry.groups.now (chosen_of choice.entry) listener.new last.new
-        F frame.now ms made (W.written sink.old) (W.written sink.new)) }
+        announced.old announced.new F frame.now ms made (W.written sink.old) (W.written sink.new)) }
     ensures writer { LeavesWriter result (turn W.written W.has_failed sink.old sink.new) }
     ensures stops { result ≡ Err line_fault.Write → (F : List FrameRecord) (ms : List Hearing) → Hears listener.old F
         → Remembers last.old ms → StopsFrame writing.entry.form writing.entry.groups.now (chosen_of choice.entry) F frame.now ms
@@ -129,11 +141,15 @@ fn put_frame<W: Sink>(
         → Hears listener.old F → AreHeardWith is_fault_group F heard → Remembers last.old (faults_among heard)
         → AsksForFaults F frame.now }
 {
+    announced.add_frame(frame);
     let is_single = is_of_fault_group(frame.id);
     match listener.feed_as(is_single, frame) {
         Err(AllocError) => Err(LineFault::Memory),
         Ok(None) => Ok(Made::default()),
-        Ok(Some(heard)) => put_heard(alloc, &heard, writing, choice, last, sink),
+        Ok(Some(heard)) => {
+            announced.add_heard(&heard);
+            put_heard(alloc, &heard, writing, choice, last, sink)
+        }
     }
 }
 
@@ -213,14 +229,14 @@ fn put_asked<W: Sink>(
 }
 
 /// Whether messages of an identifier's group are heard in one frame.
-fn is_of_fault_group(id: Id) -> bool
+pub(crate) fn is_of_fault_group(id: Id) -> bool
     ensures { result ≡ is_fault_group (pgn_of (id_raw id)) }
 {
     fault_group(id.pgn()).is_some() || id.is_request()
 }
 
 /// A byte is below 256.
-fn is_byte(_byte: u8)
+pub(crate) fn is_byte(_byte: u8)
     ensures { _byte < 256 }
 {}
 

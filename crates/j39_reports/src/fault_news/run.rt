@@ -1,8 +1,9 @@
 //! The runs that tell the faults in a log.
-ghost use Rattle.std.specs.Prelude.{◌≡◌};
+ghost use Rattle.std.specs.Prelude.{◌≡◌, IfOk};
 ghost use Rattle.j39_io.specs.Turn.{turn};
 ghost use Rattle.j39_listen.specs.Headed.{begins_flushed};
-ghost use Rattle.j39_listen.specs.Ran.{PassesOn, Ran};
+ghost use Rattle.j39_listen.specs.Ran.{PassesOn};
+ghost use Rattle.j39_reports.specs.Broken.{ToldFaults, counts_in};
 ghost use Rattle.j39_reports.specs.FaultAsking.{AsksForFaults};
 ghost use Rattle.j39_reports.specs.FaultRun.{MakesFaults};
 ghost use Rattle.j39_reports.specs.FaultRecords.{fault_columns};
@@ -13,7 +14,7 @@ use crate::fault_news::form::Writing;
 use crate::fault_news::telling::{Choice, Telling};
 use j39_groups::Groups;
 use j39_io::{Sink, Source};
-use j39_listen::{Counts, Format, RunFault, run_headed, run_over};
+use j39_listen::{Counts, Format, RunFault, run_headed_keeping, run_keeping};
 use j39_log::Bus;
 use std::alloc::Global;
 
@@ -24,6 +25,16 @@ const COLUMNS: &[u8] =
 /// Those of records of changes.
 const CHANGE_COLUMNS: &[u8] =
     b"stamp,utc,address,destination,name,change,spn,fmi,count,lamps,parameter,meaning\r\n";
+
+/// What a run that tells faults counts.
+#[derive(Clone, Copy, Debug, PartialEq, Eq)]
+pub struct FaultCounts {
+    /// As every run does.
+    pub counts: Counts,
+    /// Messages of codes in packets that were announced and did not come whole. A count of either that would pass 2^64 - 1
+    /// stays there (own).
+    pub broken: u64,
+}
 
 /// Writes the fault codes in a log of at most `limit` bytes: a line, or a record of comma-separated values (RFC 4180),
 /// for each code that is told of a message of faults, with the name that a table of parameters has for its parameter; one
@@ -38,11 +49,11 @@ pub fn faults<R: Source, W: Sink>(
     sink: &mut W,
     bus: Option<Bus>,
     limit: u64,
-) -> Result<Counts, RunFault>
+) -> Result<FaultCounts, RunFault>
     // What the run promises is `Ran`: what is written is the faults that are told in the frames of the log, and nothing
     // else. Memory is wanted only at a frame of the log that announces a message, or at the first message of faults of
-    // its group from an address.
-    ensures ran { Ran (MakesFaults format groups.now (chosen_of choice.entry)) AsksForFaults bus limit result
+    // its group from an address. And it counts which messages of codes were broken.
+    ensures told { ToldFaults (MakesFaults format groups.now (chosen_of choice.entry)) AsksForFaults bus limit result
         (turn R.remaining R.has_failed source.old source.new) (turn W.written W.has_failed sink.old sink.new) }
 
     // What was written is passed on at the end, and before each read, the names of the columns before the first.
@@ -51,15 +62,26 @@ pub fn faults<R: Source, W: Sink>(
     let form = format;
     let account = FaultNews::new(alloc, Writing { form, groups }, choice);
     match format {
-        Format::Line => run_over(account, source, sink, bus, limit),
-        Format::Record => run_headed(
-            columns_of(choice.telling),
-            account,
-            source,
-            sink,
-            bus,
-            limit,
-        ),
+        Format::Line => {
+            let (ran, news) = run_keeping(account, source, sink, bus, limit);
+            counted(ran, news.broken())
+        }
+        Format::Record => {
+            let columns = columns_of(choice.telling);
+            let (ran, news) = run_headed_keeping(columns, account, source, sink, bus, limit);
+            counted(ran, news.broken())
+        }
+    }
+}
+
+/// What a run counted, with how many messages were broken.
+pub(crate) fn counted(ran: Result<Counts, RunFault>, broken: u64) -> Result<FaultCounts, RunFault>
+    ensures counts { counts_in result ≡ ran }
+    ensures broken { IfOk result (λ told. told.broken ≡ broken) }
+{
+    match ran {
+        Ok(counts) => Ok(FaultCounts { counts, broken }),
+        Err(fault) => Err(fault),
     }
 }
 

@@ -126,7 +126,7 @@ impl<'g, 't> Account for SummaryAccount<'g, 't> {
         }
     }
 
-    fn close<W: Sink>(&mut self, sink: &mut W) -> Result<Made, DeviceFault> {
+    fn close<W: Sink>(&self, sink: &mut W) -> Result<Made, DeviceFault> {
         put_rows(&self.rows, self.form, self.groups, sink)?;
         Ok(Made {
             messages: self.messages,

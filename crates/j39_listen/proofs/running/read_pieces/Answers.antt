@@ -5,7 +5,7 @@ use Rattle.std.specs.Io.KnownBytes.{Consumes}
 use Rattle.std.proofs.KnownBytes.{Consumes-kept, Consumes-nil, Consumes-trans}
 use Rattle.std.specs.Prelude.{Err}
 use Rattle.j39_listen.proofs.AskLemmas.{same_run_fault}
-use Rattle.j39_listen.proofs.PieceLemmas.{at_fault, front_of_all, front_of_more, front_of_no_more, front_of_taken, front_of_whole, no_fault, on_err_from}
+use Rattle.j39_listen.proofs.PieceLemmas.{at_fault, front_of_all, front_of_more, front_of_no_more, front_of_taken, front_of_whole, no_fault, on_err_from, on_ok_from, so_of_whole}
 use Rattle.j39_listen.proofs.running.read_pieces.Goals as goal
 
 -- the read at the end gives nothing, so all that was taken was taken before it
@@ -93,6 +93,13 @@ returns-then-n-eq0-clause-ran g c = λ subject given h.
       prefix = on_err_from c.finish.result _ _ (λ front. record { taken = inv.0; consumed = consumed; written = front subject given inv.0 _ (inv.2 subject given h) })
           c.finish.ensures.front;
     }
+
+pub returns-then-n-eq0-clause-met : goal.returns-then-n-eq0-clause-met
+returns-then-n-eq0-clause-met g c =
+    let inv = c.pieces.invariant in
+    let consumed = at_end _ _ _ inv.0 c.in-Ok.n c.pull.new.buf c.if-n-eq0.true inv.1 c.in-Ok.ensures.bytes.0 in
+    on_ok_from c.finish.result _ _ (λ met subject given h. so_of_whole _ _ inv.0 _ consumed (c.in-Ok.ensures.bytes.1 c.if-n-eq0.true (search rules))
+    (met subject given inv.0 _ (inv.2 subject given h))) c.finish.ensures.met
 
 -- ---- the log is too long
 

@@ -1,7 +1,7 @@
 use Rattle.std.proofs.Common.{◌∙◌, ap}
 use Rattle.std.specs.Prelude.{Err}
 use Rattle.j39_listen.proofs.AskLemmas.{asks_at_end}
-use Rattle.j39_listen.proofs.PieceLemmas.{FrontAtEnd, by_fault, end_fails, end_none, end_stops, end_then_keeps, end_writes, same_fault}
+use Rattle.j39_listen.proofs.PieceLemmas.{FrontAtEnd, by_fault, end_fails, end_meets, end_none, end_stops, end_then_keeps, end_writes, same_fault}
 use Rattle.j39_listen.proofs.pieces.Pieces.finish.Goals as goal
 
 pub returns-in-Err-clause-front : goal.returns-in-Err-clause-front
@@ -35,3 +35,7 @@ returns-in-Err-close-clause-front g c = λ subject.
 pub returns-in-Err-clause-asked : goal.returns-in-Err-clause-asked
 returns-in-Err-clause-asked g c = λ fails subject.
     asks_at_end (g.A.Account.has_met subject) (g.A.Account.asks subject) c.args.self.now (g.W.Sink.written c.args.sink.now) (c.in-Err.ensures.asked (ap Err (c.stop.ensures.memory (same_fault _ _ fails))) subject)
+
+pub returns-in-Ok-close-clause-met : goal.returns-in-Ok-close-clause-met
+returns-in-Ok-close-clause-met g c = λ subject.
+    end_meets (g.A.Account.has_met subject) c.args.self.now c.take_last.new.self.lines _ _ (c.in-Ok.ensures.reads subject)

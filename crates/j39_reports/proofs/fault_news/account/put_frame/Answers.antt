@@ -10,6 +10,8 @@ use Rattle.j39_listen.proofs.PieceLemmas.{if_ok}
 use Rattle.j39_reports.specs.News.{chosen_of, faults_among, is_fault_group}
 use Rattle.j39_reports.proofs.FaultAccountLemmas.{faults_leave, tells_nothing}
 use Rattle.j39_reports.proofs.HeardLemmas.{short_heard}
+use Rattle.j39_reports.specs.FaultsSoFar.{with_heard}
+use Rattle.j39_reports.specs.declared.fault_news.announced.Announced.{Announced}
 use Rattle.j39_listen.specs.Listening.{Hears}
 use Rattle.j39_reports.proofs.fault_news.account.put_frame.Given.{Over}
 use Rattle.j39_reports.proofs.fault_news.account.put_frame.Goals as goal
@@ -19,6 +21,7 @@ returns-in-Ok-None-clause-met g c = λ F ms h remembers.
     let single = ap is_fault_group (sym (ap (λ (x : FrameRecord). pgn_of x.id) c.frame.view_is)) ∙ sym c.is_of_fault_group-is_single.ensures in
     record {
       heard = None;
+      announced_is = c.add_frame.ensures;
       heard_at = rw c.in-Ok-None.field-0-is at (c.in-Ok-None.ensures.heard is_fault_group faults_leave single F h);
       hears = on_ok _ _ _ _ c.in-Ok-None.is c.feed_as.follows.holds-at-none F h;
       tells = tells_nothing c.args.writing.form c.args.writing.groups.now (chosen_of c.args.choice) c.args.last.now ms None c.default.result _ refl refl remembers c.default.ensures.0 c.default.ensures.1;
@@ -39,6 +42,7 @@ short_here g c F h =
 pub returns-in-Ok-Some-clause-met : goal.returns-in-Ok-Some-clause-met
 returns-in-Ok-Some-clause-met g c = if_ok c.put_heard.result _ _ (λ made met F ms h remembers. record {
   heard = Some (hearing_of c.in-Ok-Some.heard);
+  announced_is = c.add_heard.ensures ∙ ap (λ (x : Announced). with_heard x (hearing_of c.in-Ok-Some.heard)) c.add_frame.ensures;
   heard_at = heard_here g c F h;
   hears = on_ok _ _ _ _ c.in-Ok-Some.is c.feed_as.follows.holds-at-none F h;
   tells = met ms remembers (short_here g c F h);

@@ -1,7 +1,7 @@
 use Rattle.std.proofs.Common.{◌∙◌, [], refl}
 use Rattle.j39_listen.proofs.ReportAccount.{same_made}
 use Rattle.j39_reports.specs.News.{chosen_of}
-use Rattle.j39_reports.proofs.FaultAccountLemmas.{none_made}
+use Rattle.j39_reports.proofs.FaultAccountLemmas.{none_made, same_announced}
 use Rattle.j39_reports.proofs.fault_news.account.FaultNews.new.Goals as goal
 
 pub returns : goal.returns
@@ -15,4 +15,5 @@ returns c = record {
   hears = c.new.ensures;
   remembers = c.new-2.ensures;
   made_is = same_made _ _ c.default.ensures.0 c.default.ensures.1 ∙ none_made c.args.writing.form c.args.writing.groups.now (chosen_of c.args.choice);
+  announced_is = same_announced _ _ c.default-2.ensures.0 c.default-2.ensures.1;
 }

@@ -14,6 +14,7 @@ returns-in-Ok-clause-met g c =
       listener = c.put_frame.new.listener;
       last = c.put_frame.new.last;
       made = c.and-self.result;
+      announced = c.put_frame.new.announced;
     } in
     λ (form, subject). news_meets form subject c.args.self.now news refl refl c.args.frame.now c.in-Ok.made _ _ c.in-Ok.ensures.met c.and-self.ensures
 

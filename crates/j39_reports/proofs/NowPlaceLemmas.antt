@@ -1,0 +1,76 @@
+-- The places where the last messages of active codes are kept.
+use Rattle.std.proofs.Common.{◌≡◌, ◌∙◌, ◌<◌, ◌≤◌, ◌+◌, ℕ, zero, suc, Bool, true, false, List, ◌∷◌, Option, Some, None, arith, refl, ap, inl, inr, sym, length, length-set, replicate, slice_index_or, slice_set, if◌then◌else◌}
+use Rattle.std.proofs.lemmas.Bool.{cases_eq}
+use Rattle.std.proofs.lemmas.List.{map-set, get_or-map, get_or-set_other, get_or-set_same, length-map}
+use Rattle.j39_memory.specs.declared.stored.Stored.{Stored}
+use Rattle.j39_memory.specs.Stored.{value_of}
+use Rattle.j39_faults.specs.declared.conversion.Conversion.{Conversion}
+use Rattle.j39_faults.specs.declared.lamps.Lamps.{Lamps}
+use Rattle.j39_listen.specs.Heard.{Hearing}
+use Rattle.j39_reports.specs.CurrentPlaces.{AreLeft, HaveTaken, LastRecord, Places, at, last_by, left_by, shown, stored_in}
+
+abbrev pub Boxes : Type 0
+Boxes = List (Option (Stored LastRecord))
+
+-- a place filled
+pub put_in : (ps : Boxes) (i : ℕ) (b : Stored LastRecord) (v : LastRecord) → value_of b ≡ v → shown (slice_set ps i (Some b)) ≡ slice_set (shown ps) i (Some v)
+put_in ps i b v e = map-set stored_in ps i (Some b) ∙ ap (λ x. slice_set (shown ps) i (Some x)) e
+
+-- a place left empty
+pub left_empty : (ps : Boxes) (i : ℕ) → shown (slice_set ps i None) ≡ slice_set (shown ps) i None
+left_empty ps i = map-set stored_in ps i None
+
+-- what stands at a place
+pub at_shown : (ps : Boxes) (i : ℕ) (d : Option (Stored LastRecord)) → i < length ps → at (shown ps) i ≡ stored_in (slice_index_or ps i d)
+at_shown ps i d l = get_or-map stored_in ps i d None l
+
+none_shown : (n : ℕ) → shown (replicate n None) ≡ replicate n None
+none_shown zero = refl
+none_shown (suc n) = ap (λ t. None ∷ t) (none_shown n)
+
+pub shown_new : (n : ℕ) (ps : Boxes) → ps ≡ replicate n None → shown ps ≡ replicate n None
+shown_new n ps e = ap shown e ∙ none_shown n
+
+-- ---- what a NAME said is left, place by place
+
+module _ (name : Option ℕ) (old : Places) where
+  pub none_left : AreLeft name old 0 old
+  none_left = record { long = refl; left = λ a l. absurd (omega (arith, l)); rest = λ a l. refl }
+
+  pub one_left : (n : ℕ) (new : Places) → n < length old → AreLeft name old n new → left_by name (at new n) ≡ None → AreLeft name old (n + 1) (slice_set new n None)
+  one_left n new below h is = record {
+    long = length-set new n None ∙ h.long;
+    left = λ a l. elim (cases_eq a n) [
+      | inl e ↦ ap (λ k. at (slice_set new n None) k) e ∙ get_or-set_same new n None None (let m = h.long in omega (arith, below, m))
+          ∙ sym is ∙ ap (left_by name) (h.rest n (omega arith)) ∙ ap (λ k. left_by name (at old k)) (sym e)
+      | inr e ↦ get_or-set_other new n a None None e ∙ h.left a (omega (arith, l, e))
+    ];
+    rest = λ a l. get_or-set_other new n a None None (λ e. (omega (arith, l, e))) ∙ h.rest a (omega (arith, l));
+  }
+
+  pub one_stays : (n : ℕ) (new : Places) → AreLeft name old n new → left_by name (at new n) ≡ at new n → AreLeft name old (n + 1) new
+  one_stays n new h is = record {
+    long = h.long;
+    left = λ a l. elim (cases_eq a n) [
+      | inl e ↦ ap (at new) e ∙ sym is ∙ ap (left_by name) (h.rest n (omega arith)) ∙ ap (λ k. left_by name (at old k)) (sym e)
+      | inr e ↦ h.left a (omega (arith, l, e))
+    ];
+    rest = λ a l. h.rest a (omega (arith, l));
+  }
+
+-- ---- a message is taken
+
+module _ (cs : List Conversion) (m : Hearing) (lamps : Lamps) (old mid new : Places) (last : LastRecord)
+    (left : AreLeft m.name (slice_set old m.message.source None) 256 mid) (is : last ≡ last_by cs (at old m.message.source) m lamps)
+    (put : new ≡ slice_set mid m.message.source (Some last)) (below : m.message.source < 256) where
+  long : length old ≡ 256 → length mid ≡ 256
+  long l = left.long ∙ length-set old m.message.source None ∙ l
+
+  pub taken : HaveTaken cs old m lamps new
+  taken = record {
+    places = λ l. ap length put ∙ length-set mid m.message.source (Some last) ∙ long l;
+    here = λ l. ap (λ (t : Places). at t m.message.source) put ∙ get_or-set_same mid m.message.source (Some last) None (let n = long l in omega (arith, below, n))
+        ∙ ap (λ (x : LastRecord). Some x) is;
+    elsewhere = λ l a k n. ap (λ (t : Places). at t a) put ∙ get_or-set_other mid m.message.source a (Some last) None n ∙ left.left a k
+        ∙ ap (left_by m.name) (get_or-set_other old m.message.source a None None n);
+  }

@@ -1,0 +1,18 @@
+use Rattle.std.proofs.Common.{[], refl}
+use Rattle.j39_reports.proofs.CurrentLemmas.{kept_none}
+use Rattle.j39_reports.proofs.FaultAccountLemmas.{same_announced}
+use Rattle.j39_reports.proofs.current_faults.account.FaultsNow.new.Goals as goal
+
+pub returns : goal.returns
+returns c = record {
+  form_is = refl;
+  by = refl;
+  conversions_are = refl;
+  heard = [];
+  are_heard = refl;
+  hears = c.new.ensures;
+  are_kept = kept_none c.args.conversions.now c.new-2.result c.new-2.ensures;
+  messages_are = refl;
+  announced_is = same_announced _ _ c.default.ensures.0 c.default.ensures.1;
+  nothing_yet = refl;
+}

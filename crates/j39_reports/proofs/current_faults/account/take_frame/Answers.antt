@@ -1,0 +1,52 @@
+-- A message is heard at the frame, or none.
+use Rattle.std.proofs.Common.{◌∙◌, ◌++◌, ◌∷◌, List, [], Some, ap, inr, length, sym}
+use Rattle.j39_frame.specs.Frame.{FrameRecord}
+use Rattle.j39_frame.specs.Identifier.{pgn_of}
+use Rattle.j39_listen.specs.Heard.{HeardAtWith}
+use Rattle.j39_listen.specs.HeardModel.{hearing_of}
+use Rattle.j39_listen.specs.Listening.{Hears}
+use Rattle.j39_listen.proofs.ListenerLemmas.{on_ok}
+use Rattle.j39_listen.proofs.PieceLemmas.{if_ok}
+use Rattle.j39_io.proofs.DeviceLemmas.{on_err_from}
+use Rattle.j39_reports.specs.FaultsNow.{active_among}
+use Rattle.j39_reports.specs.FaultsSoFar.{with_heard}
+use Rattle.j39_reports.specs.News.{is_fault_group}
+use Rattle.j39_reports.specs.declared.fault_news.announced.Announced.{Announced}
+use Rattle.j39_reports.proofs.CurrentAccountLemmas.{takes_silent}
+use Rattle.j39_reports.proofs.CurrentLemmas.{first_here}
+use Rattle.j39_reports.proofs.FaultAccountLemmas.{faults_leave}
+use Rattle.j39_reports.proofs.current_faults.account.take_frame.Goals as goal
+
+pub returns-in-Ok-None-clause-taken : goal.returns-in-Ok-None-clause-taken
+returns-in-Ok-None-clause-taken c = λ F ms h kept.
+    let single = ap is_fault_group (sym (ap (λ (x : FrameRecord). pgn_of x.id) c.frame.view_is)) ∙ sym c.is_of_fault_group-is_single.ensures in
+    takes_silent c.args.conversions.now F c.args.frame.now _ c.args.places.now _ _ ms c.add_frame.ensures (rw c.in-Ok-None.field-0-is at (c.in-Ok-None.ensures.heard is_fault_group faults_leave single F h))
+    (on_ok _ _ _ _ c.in-Ok-None.is c.feed_as.follows.holds-at-none F h) kept
+
+-- the message is heard there
+heard_here : (c : goal.After-listener-in-Ok-Some-1) (F : List FrameRecord) → Hears c.args.listener.now F
+    → HeardAtWith is_fault_group (F ++ c.args.frame.now ∷ []) (length F) (Some (hearing_of c.in-Ok-Some.heard))
+heard_here c F h =
+    let single = ap is_fault_group (sym (ap (λ (x : FrameRecord). pgn_of x.id) c.frame.view_is)) ∙ sym c.is_of_fault_group-is_single.ensures in
+    rw c.in-Ok-Some.field-0-is at (c.in-Ok-Some.ensures.heard is_fault_group faults_leave single F h)
+
+pub returns-in-Ok-Some-clause-taken : goal.returns-in-Ok-Some-clause-taken
+returns-in-Ok-Some-clause-taken c = if_ok c.take_heard.result _ _ (λ messages taken F ms h kept. record {
+  heard = Some (hearing_of c.in-Ok-Some.heard);
+  heard_at = heard_here c F h;
+  hears = on_ok _ _ _ _ c.in-Ok-Some.is c.feed_as.follows.holds-at-none F h;
+  announced_is = c.add_heard.ensures ∙ ap (λ (x : Announced). with_heard x (hearing_of c.in-Ok-Some.heard)) c.add_frame.ensures;
+  are_kept = taken.1 ms kept;
+  messages_are = taken.0;
+}) c.take_heard.ensures.taken
+
+pub returns-in-Ok-Some-clause-asked : goal.returns-in-Ok-Some-clause-asked
+returns-in-Ok-Some-clause-asked c = on_err_from c.take_heard.result _ _ (λ asked F heard h are kept.
+    inr (record {
+      before = heard;
+      are_heard = are;
+      message = hearing_of c.in-Ok-Some.heard;
+      is_heard = heard_here c F h;
+      of_active = asked.0;
+      first = first_here c.args.conversions.now c.args.places.now (active_among heard) _ kept c.take_heard.ensures.fits asked.1;
+    })) c.take_heard.ensures.asked

@@ -1,0 +1,16 @@
+-- One code after the other.
+use Rattle.std.proofs.Common.{arith, map}
+use Rattle.j39_frame.specs.Stamp.{stamp_micros}
+use Rattle.j39_reports.specs.CurrentPlaces.{standing_record}
+use Rattle.j39_reports.proofs.StandingLemmas.{room_more, stood_more}
+use Rattle.j39_reports.proofs.current_faults.standing.of_codes.Goals as goal
+
+pub push-requires : goal.push-requires
+push-requires c =
+    let room = room_more (map standing_record c.args.before.now) (stamp_micros c.args.stamp) c.args.version c.args.payload.now c.in-Some.code _ _ _ c.loop-code.invariant c.in-Some.ensures.steps c.requires in
+    omega (arith, room)
+
+pub loop-code-preserved : goal.loop-code-preserved
+loop-code-preserved c =
+    stood_more (map standing_record c.args.before.now) (stamp_micros c.args.stamp) c.args.version c.args.payload.now c.in-Some.code _ _ _ _ c.continued.result c.loop-code.invariant c.in-Some.ensures.steps
+    (rw c.code_by-code.ensures at c.continued.ensures) c.push.ensures.items

@@ -1,0 +1,11 @@
+use Rattle.std.proofs.Common.{map}
+use Rattle.j39_faults.specs.CodesLeft.{codes_left}
+use Rattle.j39_frame.specs.Stamp.{stamp_micros}
+use Rattle.j39_reports.specs.CurrentPlaces.{standing_record}
+use Rattle.j39_reports.proofs.StandingLemmas.{HaveStood}
+use Rattle.j39_reports.proofs.current_faults.standing.of_codes.Given as goal
+
+-- those of the codes before those that are left
+abbrev pub invariant-loop-code : goal.invariant-loop-code
+invariant-loop-code l =
+    HaveStood (map standing_record l.before) (stamp_micros l.stamp) l.version l.payload (codes_left l.code-iterator) l.standings.items

@@ -1,0 +1,141 @@
+//! The lines of the faults that are there now, or the records.
+ghost use Rattle.std.specs.Prelude.{◌≡◌, ◌<◌, ◌∷◌, [], IfOk, Some, length};
+ghost use Rattle.j39_io.specs.Puts.{Puts};
+ghost use Rattle.j39_io.specs.Turn.{turn};
+ghost use Rattle.j39_listen.specs.Counting.{capped};
+ghost use Rattle.j39_listen.specs.declared.format.Format.TheVariants.{Line, Record};
+ghost use Rattle.j39_reports.specs.FaultsNowRun.{now_head, now_text};
+ghost use Rattle.j39_reports.specs.CurrentPlaces.{at, standing_record};
+ghost use Rattle.j39_reports.specs.CurrentSoFar.{now_shown, nows_shown, shown_below};
+
+use crate::columns::{push_behind, push_moment};
+use crate::fault_news::form::{Said, Writing};
+use crate::fault_news::lines::put_fault;
+use crate::current_faults::last_active::LastActive;
+use crate::current_faults::places::{Places, SOURCES};
+use crate::current_faults::standing::Standing;
+use arrayvec::ArrayVec;
+use j39_address::Name;
+use j39_faults::{Kind, State};
+use j39_io::printing::{push_bytes, push_hex};
+use j39_io::{DeviceFault, Sink};
+use j39_listen::{Format, push_name, push_name_or_dashes};
+use j39_log::push_stamp;
+
+/// What a line begins with, or a record.
+type Head = ArrayVec<u8, 160>;
+
+/// Writes what stands at each address, in their order, and answers how many lines that is.
+pub(crate) fn put_places<W: Sink>(
+    places: &Places,
+    writing: Writing<'_, '_>,
+    sink: &mut W,
+) -> Result<u64, DeviceFault>
+    ensures lines { IfOk result (λ n. n ≡ capped (length (shown_below places.now 256))) }
+    ensures puts { Puts (now_text writing.entry.form writing.entry.groups.now (shown_below places.now 256))
+        result (turn W.written W.has_failed sink.old sink.new) }
+{
+    let mut lines: u64 = 0;
+    for address in 0..SOURCES {
+        lines = lines.saturating_add(put_place(writing, address, places, sink)?);
+    }
+    Ok(lines)
+}
+
+/// Writes what stands at an address, and answers how many lines that is.
+fn put_place<W: Sink>(
+    writing: Writing<'_, '_>,
+    address: usize,
+    places: &Places,
+    sink: &mut W,
+) -> Result<u64, DeviceFault>
+    requires { address < 256 }
+    ensures lines { IfOk result (λ n. n ≡ length (nows_shown address (at places.now address))) }
+    ensures puts { Puts (now_text writing.entry.form writing.entry.groups.now (nows_shown address (at places.now address)))
+        result (turn W.written W.has_failed sink.old sink.new) }
+{
+    match places.get(address) {
+        Some(last) => put_last(writing, address as u8, last, sink),
+        None => Ok(0),
+    }
+}
+
+/// Writes what the last message of an address says, and answers how many lines that is.
+fn put_last<W: Sink>(
+    writing: Writing<'_, '_>,
+    address: u8,
+    last: &LastActive,
+    sink: &mut W,
+) -> Result<u64, DeviceFault>
+    ensures lines { IfOk result (λ n. n ≡ length (nows_shown address (Some last.now))) }
+    ensures puts { Puts (now_text writing.entry.form writing.entry.groups.now (nows_shown address (Some last.now)))
+        result (turn W.written W.has_failed sink.old sink.new) }
+{
+    let standings = last.standings.as_slice();
+    for standing in standings {
+        put_standing(writing, address, last, *standing, sink)?;
+    }
+    Ok(standings.len() as u64)
+}
+
+/// Writes a line for a code, or that there is none.
+fn put_standing<W: Sink>(
+    writing: Writing<'_, '_>,
+    address: u8,
+    last: &LastActive,
+    standing: Standing,
+    sink: &mut W,
+) -> Result<(), DeviceFault>
+    ensures { Puts (now_text writing.entry.form writing.entry.groups.now (now_shown address last.now (standing_record standing) ∷ []))
+        result (turn W.written W.has_failed sink.old sink.new) }
+{
+    let head = head_of(writing.form, address, last, standing);
+    let said = Said {
+        state: State::Is(Kind::Active),
+        lamps: last.lamps,
+        code: standing.code,
+    };
+    put_fault(head.as_slice(), writing, said, sink)
+}
+
+/// What stands before what is said.
+fn head_of(form: Format, address: u8, last: &LastActive, standing: Standing) -> Head
+    ensures { result.items ≡ now_head form (now_shown address last.now (standing_record standing)) }
+{
+    match form {
+        Format::Line => line_head(address, last, standing),
+        Format::Record => record_head(address, last, standing),
+    }
+}
+
+fn line_head(address: u8, last: &LastActive, standing: Standing) -> Head
+    ensures { result.items ≡ now_head Line (now_shown address last.now (standing_record standing)) }
+{
+    let mut head = ArrayVec::new();
+    push_stamp(&mut head, standing.since);
+    push_bytes(&mut head, b" ");
+    push_hex(&mut head, &[address]);
+    push_bytes(&mut head, b" ");
+    push_name_or_dashes(&mut head, last.name.map(Name::raw));
+    push_bytes(&mut head, b" ");
+    push_stamp(&mut head, last.stamp);
+    push_behind(&mut head, b' ', standing.often);
+    push_bytes(&mut head, b" ");
+    head
+}
+
+fn record_head(address: u8, last: &LastActive, standing: Standing) -> Head
+    ensures { result.items ≡ now_head Record (now_shown address last.now (standing_record standing)) }
+{
+    let mut head = ArrayVec::new();
+    push_moment(&mut head, standing.since);
+    head.push(b',');
+    push_hex(&mut head, &[address]);
+    head.push(b',');
+    push_name(&mut head, last.name.map(Name::raw));
+    head.push(b',');
+    push_moment(&mut head, last.stamp);
+    push_behind(&mut head, b',', standing.often);
+    head.push(b',');
+    head
+}
