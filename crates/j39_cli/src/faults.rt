@@ -53,7 +53,7 @@ At the end the counts go to standard error:
   unread    lines of no form that candump -l or -L writes
   messages  messages of faults that were heard, in one frame or in packets
   lines     lines written
-  broken    messages of codes that a BAM or an RTS announced, and that were not heard
+  broken    messages of codes that a BAM or an RTS announced and that were not heard
 
 Example:
   j1939 faults --bus can0 trip.log
