@@ -3,7 +3,7 @@ const MOST_PLOTS = 8;
 const PARAMETER_COLUMNS = [
   { name: 'address', value: row => row.address }, { name: 'destination', value: row => row.destination }, { name: 'name', value: row => row.title }, { name: 'unit', value: row => row.unit },
   { name: 'values', value: row => row.count, kind: 'n' }, { name: 'absent', value: row => row.absent, kind: 'n' }, { name: 'least', value: row => row.least, kind: 'n' }, { name: 'most', value: row => row.most, kind: 'n' },
-  { name: 'first', value: row => row.first, kind: 'n' }, { name: 'last', value: row => row.last, kind: 'n' }, { name: 'SPN', value: row => row.spn, kind: 'n' },
+  { name: 'first', value: row => row.first, kind: 'n' }, { name: 'last', value: row => row.last, text: row => row.state ? `${row.last} ${row.state}` : row.last, kind: 'n' }, { name: 'SPN', value: row => row.spn, kind: 'n' },
   { name: 'group', value: row => row.group }, { name: 'PGN', value: row => row.pgn, kind: 'n' }, { name: 'NAME', value: row => row.name, kind: 'code' },
 ];
 

@@ -16,5 +16,6 @@ pub mod SightingLemmas
 pub mod VisitLemmas
 pub mod RestrictedLemmas
 -- what a table calls its groups and parameters
+pub mod StateLemmas
 pub mod NameLemmas
 pub mod GroupNameLemmas

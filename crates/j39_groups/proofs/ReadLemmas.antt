@@ -11,7 +11,7 @@ use Rattle.j39_io.proofs.BackwardsLemmas.{before_none, before_then}
 use Rattle.j39_groups.specs.declared.row.Row.{Row}
 use Rattle.j39_groups.specs.Lines.{in_group, reading_line, row_lines, row_readings}
 use Rattle.j39_groups.specs.Models.{row_record}
-use Rattle.j39_groups.specs.Names.{name_at, name_in}
+use Rattle.j39_groups.specs.Names.{row_at, row_in}
 use Rattle.j39_groups.specs.Readings.{group_rows, is_network_group, is_reported_in, readings_at, readings_in}
 use Rattle.j39_groups.specs.Sightings.{sightings_at, sightings_in}
 use Rattle.j39_groups.specs.Visits.{row_sightings}
@@ -48,20 +48,20 @@ given_more : {X Y : Type 0} (f : X → Option Y) (x : X) (these those : List X) 
     → filter_map f (x ∷ these) ≡ filter_map f (x ∷ those)
 given_more f x these those same = rw same refl
 
-named_by_group : (table : List RowRecord) (pgn spn : ℕ) → filter_map (name_at pgn spn) (group_rows pgn table) ≡ filter_map (name_at pgn spn) table
-named_by_group [] pgn spn = refl
-named_by_group (row ∷ table) pgn spn = elim (cases_Bool (row.pgn == pgn)) [
+found_by_group : (table : List RowRecord) (pgn spn : ℕ) → filter_map (row_at pgn spn) (group_rows pgn table) ≡ filter_map (row_at pgn spn) table
+found_by_group [] pgn spn = refl
+found_by_group (row ∷ table) pgn spn = elim (cases_Bool (row.pgn == pgn)) [
   | inl here ↦
       let kept : group_rows pgn (row ∷ table) ≡ row ∷ group_rows pgn table = rw here refl in
-      ap (filter_map (name_at pgn spn)) kept ∙ given_more (name_at pgn spn) row (group_rows pgn table) table (named_by_group table pgn spn)
-  | inr other ↦ rw other (named_by_group table pgn spn)
+      ap (filter_map (row_at pgn spn)) kept ∙ given_more (row_at pgn spn) row (group_rows pgn table) table (found_by_group table pgn spn)
+  | inr other ↦ rw other (found_by_group table pgn spn)
 ]
 
-pub name_by_group : (rows : List Row) (table : List RowRecord) (pgn spn : ℕ) → group_rows pgn (map row_record rows) ≡ group_rows pgn table
-    → slice_get (filter_map (λ row. name_at pgn spn (row_record row)) rows) 0 ≡ name_in table pgn spn
-name_by_group rows table pgn spn same = ap (λ names. slice_get names 0)
-    (sym (filter_map-seen row_record (name_at pgn spn) rows) ∙ sym (named_by_group (map row_record rows) pgn spn)
-    ∙ ap (filter_map (name_at pgn spn)) same ∙ named_by_group table pgn spn)
+pub row_by_group : (rows : List Row) (table : List RowRecord) (pgn spn : ℕ) → group_rows pgn (map row_record rows) ≡ group_rows pgn table
+    → slice_get (filter_map (λ row. row_at pgn spn (row_record row)) rows) 0 ≡ row_in table pgn spn
+row_by_group rows table pgn spn same = ap (λ names. slice_get names 0)
+    (sym (filter_map-seen row_record (row_at pgn spn) rows) ∙ sym (found_by_group (map row_record rows) pgn spn)
+    ∙ ap (filter_map (row_at pgn spn)) same ∙ found_by_group table pgn spn)
 
 -- what is given of what is given
 pub flat_map-flat_map : {X Y Z : Type 0} (f : X → List Y) (g : Y → List Z) (xs : List X)

@@ -7,6 +7,7 @@ pub mod Parts
 pub mod Slots
 pub mod Readings
 pub mod Sightings
+pub mod States
 pub mod Names
 -- what is printed (own)
 pub mod ValueText

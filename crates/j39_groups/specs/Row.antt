@@ -18,7 +18,7 @@ pub data FieldRecord : Type 0 where
   -- so many parts, at most, of the bytes from this one on; a part of bytes FF alone is not there
   texts_field : ℕ → ℕ → FieldRecord
 
--- one parameter (SPN) of a group (PGN), and what both are called
+-- one parameter (SPN) of a group (PGN), and what both are called; behind its name the names of its states may stand
 pub record RowRecord : Type 0 where
   pub pgn : ℕ
   pub group : List ℕ

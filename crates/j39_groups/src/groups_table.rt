@@ -9,8 +9,8 @@ ghost use Rattle.j39_io.specs.Puts.{Puts};
 ghost use Rattle.j39_io.specs.Turn.{turn};
 ghost use Rattle.j39_groups.specs.GivenRows.{rows_in};
 ghost use Rattle.j39_groups.specs.Lines.{in_group, reading_line};
-ghost use Rattle.j39_groups.specs.Models.{listed_rows, row_record};
-ghost use Rattle.j39_groups.specs.Names.{group_name_in, name_in, parameter_name};
+ghost use Rattle.j39_groups.specs.Models.{listed_rows, row_record, value_of};
+ghost use Rattle.j39_groups.specs.Names.{group_name_in, name_in, parameter_name, state_in};
 ghost use Rattle.j39_groups.specs.Printed.{rows_text};
 ghost use Rattle.j39_groups.specs.Readings.{HaveSameGroups, group_rows, is_reported_in, readings_in, rows_of_spns};
 ghost use Rattle.j39_groups.specs.Rows.{is_row};
@@ -21,14 +21,16 @@ ghost use Rattle.j39_groups.specs.Visits.{Stops, Takes};
 
 use crate::group_lines::put_rows;
 use crate::listed::{LentRows, Listed, rows_of};
-use crate::names::{group_name_in, name_in, name_in_group};
+use crate::names::{group_name_in, name_in, row_in_group};
 use crate::printed;
 use crate::restricted::restricted_rows;
 use crate::row::Row;
 use crate::rows::Rows;
 use crate::rows_before::{HEAD, LINES};
 use crate::runs::{Run, has_group, run_of, runs_of};
+use crate::states::{called, state_by};
 use crate::table::built_in_rows;
+use crate::value::Value;
 use crate::visiting::{ReadingVisitor, visit_rows};
 use j39_frame::Pgn;
 use j39_io::{DeviceFault, Sink};
@@ -187,7 +189,21 @@ impl<'t> Groups<'t> {
     pub fn parameter_name_in(&self, pgn: u32, spn: u32) -> Option<&[u8]>
         ensures { option_map (λ name. name.now) result ≡ name_in self.now pgn spn }
     {
-        name_in_group(self.rows_for(pgn), pgn, spn)
+        match row_in_group(self.rows_for(pgn), pgn, spn) {
+            Some(row) => Some(called(row.name)),
+            None => None,
+        }
+    }
+
+    /// What the state of a value of a parameter is called: by the first row of the table that lists the parameter in the
+    /// group. `None` where that row has no name for the raw number, and where the value stands for more than one.
+    pub fn state_in(&self, pgn: u32, spn: u32, value: Value<'_, '_>) -> Option<&[u8]>
+        ensures { option_map (λ words. words.now) result ≡ state_in self.now pgn spn (value_of value.entry) }
+    {
+        match row_in_group(self.rows_for(pgn), pgn, spn) {
+            Some(row) => state_by(row, value),
+            None => None,
+        }
     }
 }
 

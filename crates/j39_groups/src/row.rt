@@ -25,7 +25,7 @@ pub struct Row<'t> {
     pub(crate) field: Field<'t>,
     /// The group's short name, of any bytes.
     pub(crate) group: &'t [u8],
-    /// What the parameter is called, of any bytes.
+    /// What the parameter is called, of any bytes; behind the first ` = ` the names of its states.
     pub(crate) name: &'t [u8],
 }
 

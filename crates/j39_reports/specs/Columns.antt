@@ -1,9 +1,14 @@
 -- Fields that several records have (own).
 use Rattle.std.specs.Prelude.{◌++◌, ◌∷◌, ℕ, List, [], Option, Some, None, codes}
 use Rattle.hex.specs.Hex.{encode_upper}
+use Rattle.j39_io.specs.Records.{later_text, line_end}
 use Rattle.j39_listen.specs.Report.{name_field}
 use Rattle.j39_log.specs.StampText.{seconds_text}
 use Rattle.j39_reports.specs.Utc.{utc_text}
+
+-- the last field of a record, and the end of its line
+abbrev pub last_field : List ℕ → List ℕ
+last_field field = later_text field ++ line_end
 
 -- a moment: the seconds of a stamp, and the same in UTC
 abbrev pub moment_fields : ℕ → List ℕ

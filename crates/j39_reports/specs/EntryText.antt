@@ -1,9 +1,9 @@
 -- The record of an entry of a report (RFC 4180; own).
 use Rattle.std.specs.Prelude.{◌++◌, ◌∷◌, ℕ, List, [], Option, codes, decimal, unwrap_or}
 use Rattle.std.specs.List.{flat_map}
-use Rattle.j39_reports.specs.Columns.{heard_fields}
-use Rattle.j39_io.specs.Records.{comma, later_text, line_end}
-use Rattle.j39_groups.specs.Names.{group_name_in, name_in}
+use Rattle.j39_reports.specs.Columns.{heard_fields, last_field}
+use Rattle.j39_io.specs.Records.{comma, later_text}
+use Rattle.j39_groups.specs.Names.{group_name_in, name_in, state_in}
 use Rattle.j39_groups.specs.Row.{RowRecord}
 use Rattle.j39_groups.specs.Value.{ValueRecord}
 use Rattle.j39_groups.specs.ValueText.{unit_of, value_field}
@@ -11,7 +11,7 @@ use Rattle.j39_listen.specs.Report.{Entry}
 
 -- the names of the columns
 abbrev pub header_text : List ℕ
-header_text = codes "stamp,utc,address,destination,name,pgn,group,spn,parameter,value,unit\r\n"
+header_text = codes "stamp,utc,address,destination,name,pgn,group,spn,parameter,value,unit,state\r\n"
 
 -- the fields that the records of a message begin with: the stamp, the same in UTC, address, destination, NAME and PGN
 abbrev pub begin_text : ℕ → ℕ → Option ℕ → Option ℕ → ℕ → List ℕ
@@ -29,15 +29,19 @@ parameter_called groups pgn spn = unwrap_or (name_in groups pgn spn) []
 unfoldable pub named_fields : List ℕ → ℕ → List ℕ → List ℕ
 named_fields begun spn parameter = begun ++ (comma ∷ decimal spn) ++ later_text parameter
 
--- the value, its unit, and the end of the line
-unfoldable pub value_fields : ValueRecord → List ℕ
-value_fields value = (comma ∷ value_field value) ++ (later_text (unit_of value) ++ line_end)
+-- what the table calls the state of a value; nothing where it has no name
+abbrev pub state_called : List RowRecord → ℕ → ℕ → ValueRecord → List ℕ
+state_called groups pgn spn value = unwrap_or (state_in groups pgn spn value) []
+
+-- the value, its unit, its state, and the end of the line
+unfoldable pub value_fields : ValueRecord → List ℕ → List ℕ
+value_fields value state = (comma ∷ value_field value) ++ (later_text (unit_of value) ++ last_field state)
 
 -- the record of an entry
 abbrev pub entry_record : List RowRecord → Entry → List ℕ
 entry_record groups e =
     named_fields (begin_text e.stamp e.address e.destination e.name e.pgn ++ later_text (group_called groups e.pgn)) e.spn
-    (parameter_called groups e.pgn e.spn) ++ value_fields e.value
+    (parameter_called groups e.pgn e.spn) ++ value_fields e.value (state_called groups e.pgn e.spn e.value)
 
 abbrev pub entries_text : List RowRecord → List Entry → List ℕ
 entries_text groups entries = flat_map (entry_record groups) entries

@@ -5,12 +5,12 @@ use Rattle.hex.specs.Hex.{encode_upper}
 use Rattle.j39_frame.specs.declared.origin.Origin.{Origin}
 use Rattle.j39_io.specs.Chars.{newline}
 use Rattle.j39_log.specs.StampText.{stamp_text}
-use Rattle.j39_groups.specs.Names.{name_in}
+use Rattle.j39_groups.specs.Names.{name_in, state_in}
 use Rattle.j39_groups.specs.Row.{RowRecord}
 use Rattle.j39_groups.specs.Value.{ValueRecord, text}
 use Rattle.j39_groups.specs.ValueText.{bare_text, quoted, scaled_text, text_in_field}
-use Rattle.j39_reports.specs.Columns.{moment_fields, sender_fields}
-use Rattle.j39_io.specs.Records.{later_text, line_end}
+use Rattle.j39_reports.specs.Columns.{last_field, moment_fields, sender_fields}
+use Rattle.j39_io.specs.Records.{later_text}
 use Rattle.j39_listen.specs.Report.{name_text}
 use Rattle.j39_reports.specs.Summary.{Range, Row, origin_of}
 use Rattle.j39_listen.specs.declared.format.Format.{Format}
@@ -35,7 +35,7 @@ line_head absent row =
 -- the names of a record's columns
 abbrev pub summary_columns : List ℕ
 summary_columns =
-    codes "address,destination,name,pgn,spn,parameter,values,words,absent,first_stamp,first_utc,last_stamp,last_utc,least,most,unit,first,last\r\n"
+    codes "address,destination,name,pgn,spn,parameter,values,words,absent,first_stamp,first_utc,last_stamp,last_utc,least,most,unit,first,last,state\r\n"
 
 -- address, destination, NAME, PGN and SPN
 unfoldable pub origin_fields : Row → List ℕ
@@ -108,16 +108,23 @@ values_in form range first last = range_in form range ++ value_in form first ++ 
 abbrev pub called_in : List RowRecord → ℕ → ℕ → List ℕ
 called_in groups pgn spn = unwrap_or (name_in groups pgn spn) (codes "-")
 
-unfoldable pub end_in : Format → List RowRecord → ℕ → ℕ → List ℕ
-end_in Line groups pgn spn = codes " " ++ (called_in groups pgn spn ++ (newline ∷ []))
-end_in Record groups pgn spn = line_end
+-- behind it the name of a state, if it has one
+abbrev pub state_behind : Option (List ℕ) → List ℕ
+state_behind None = []
+state_behind (Some words) = codes " = " ++ words
+
+-- with the state of the last value
+unfoldable pub end_in : Format → List RowRecord → ℕ → ℕ → ValueRecord → List ℕ
+end_in Line groups pgn spn last =
+    codes " " ++ (called_in groups pgn spn ++ (state_behind (state_in groups pgn spn last) ++ (newline ∷ [])))
+end_in Record groups pgn spn last = last_field (unwrap_or (state_in groups pgn spn last) [])
 
 -- ---- the whole
 
 unfoldable pub row_in : Format → List RowRecord → ℕ → Row → List ℕ
 row_in form groups absent row =
     head_in form groups absent row ++ values_in form row.range row.first.value row.last.value
-    ++ end_in form groups row.first.pgn row.first.spn
+    ++ end_in form groups row.first.pgn row.first.spn row.last.value
 
 -- so often each origin was not available
 abbrev pub summary_text : Format → List RowRecord → (Origin → ℕ) → List Row → List ℕ

@@ -1,7 +1,9 @@
 //! What several lines and records have (own).
 ghost use Rattle.std.specs.Prelude.{◌≡◌, ◌+◌, ◌≤◌, ◌++◌, ◌∷◌, [], decimal, option_map};
 ghost use Rattle.arrayvec.specs.ArrayVec.{array_vec_len};
-ghost use Rattle.j39_reports.specs.Columns.{destination_field, heard_fields, moment_fields, sender_fields};
+ghost use Rattle.j39_io.specs.Puts.{Puts};
+ghost use Rattle.j39_io.specs.Turn.{turn};
+ghost use Rattle.j39_reports.specs.Columns.{destination_field, heard_fields, last_field, moment_fields, sender_fields};
 ghost use Rattle.j39_address.specs.Name.{name_raw};
 ghost use Rattle.j39_frame.specs.Stamp.{stamp_micros};
 
@@ -10,6 +12,7 @@ use arrayvec::ArrayVec;
 use j39_address::Name;
 use j39_frame::Stamp;
 use j39_io::printing::{push_bytes, push_hex, push_number};
+use j39_io::{DeviceFault, Sink, put_all, put_behind_comma};
 use j39_listen::{Heard, push_name};
 use j39_log::push_seconds;
 
@@ -71,6 +74,14 @@ pub fn push_destination<const N: usize>(text: &mut ArrayVec<u8, N>, destination:
         Some(address) => push_hex(text, &[address]),
         None => {}
     }
+}
+
+/// Writes a comma, the last field of a record, and the end of its line.
+pub fn put_last_field<W: Sink>(field: &[u8], sink: &mut W) -> Result<(), DeviceFault>
+    ensures { Puts (last_field field.now) result (turn W.written W.has_failed sink.old sink.new) }
+{
+    put_behind_comma(field, sink)?;
+    put_all(sink, b"\r\n")
 }
 
 /// Appends what stands before a column and a number, of 20 digits at most.

@@ -4,6 +4,7 @@ pub mod SignLemmas
 pub mod ColumnLemmas
 pub mod ScaleLemmas
 pub mod FieldLemmas
+pub mod StateLemmas
 pub mod RowLemmas
 -- the lines of a table, and what is printed
 pub mod TableLemmas

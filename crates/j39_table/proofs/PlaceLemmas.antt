@@ -1,5 +1,5 @@
 -- Places by their texts: a number at the front of a text, and what stands behind it.
-use Rattle.std.proofs.Common.{◌≡◌, ◌<◌, ◌≤◌, ◌+◌, ◌-◌, ◌/◌, ◌%◌, ◌==◌, ◌&&◌, ◌⊎◌, inl, inr, ℕ, true, false, List, [], ◌∷◌, ◌++◌, length, take, drop, get_or, take_all, codes, refl, sym, ap, subst, ◌∙◌, arith, decimal, append-nil}
+use Rattle.std.proofs.Common.{◌≡◌, ◌<◌, ◌≤◌, ◌+◌, ◌-◌, ◌/◌, ◌%◌, ◌^◌, ◌==◌, ◌&&◌, ◌⊎◌, inl, inr, ℕ, true, false, List, [], ◌∷◌, ◌++◌, length, take, drop, get_or, take_all, codes, refl, sym, ap, subst, ◌∙◌, arith, decimal, append-nil}
 use Rattle.std.specs.List.{prefix_len}
 use Rattle.std.specs.Char.{digit_value}
 use Rattle.std.specs.Str.Parse.{AllDigits, digits_value}
@@ -26,9 +26,9 @@ pub record Leads (text rest : List ℕ) (n k : ℕ) : Type 0 where
   pub value : digits_value 10 (take k text) ≡ n
   pub behind : drop k text ≡ rest
 
-pub leading : (text rest : List ℕ) (n k : ℕ) → n ≤ 255 → IsAfterDigits rest → text ≡ decimal n ++ rest → k ≡ prefix_len is_digit text → Leads text rest n k
-leading text rest n k few after is at =
-    let numeral = decimal_is_IsNumeral n (omega arith) in
+pub leads : (text rest : List ℕ) (n k : ℕ) → n < 2 ^ 64 → IsAfterDigits rest → text ≡ decimal n ++ rest → k ≡ prefix_len is_digit text → Leads text rest n k
+leads text rest n k few after is at =
+    let numeral = decimal_is_IsNumeral n few in
     let len : k ≡ length (decimal n) = at ∙ ap (prefix_len is_digit) is ∙ digits_prefix (decimal n) rest numeral.0.1 after in
     let front : take k text ≡ decimal n = ap (λ j. take j text) len ∙ ap (take (length (decimal n))) is ∙ take_front (decimal n) rest in
     record {
@@ -36,6 +36,9 @@ leading text rest n k few after is at =
       value = ap (digits_value 10) front ∙ numeral.1;
       behind = ap (λ j. drop j text) len ∙ ap (drop (length (decimal n))) is ∙ drop_front (decimal n) rest;
     }
+
+pub leading : (text rest : List ℕ) (n k : ℕ) → n ≤ 255 → IsAfterDigits rest → text ≡ decimal n ++ rest → k ≡ prefix_len is_digit text → Leads text rest n k
+leading text rest n k few = leads text rest n k (omega (arith, few))
 
 pub alone : (n : ℕ) (text : List ℕ) → text ≡ decimal n → text ≡ decimal n ++ []
 alone n text is = is ∙ sym (append-nil (decimal n))

@@ -1,13 +1,13 @@
 -- The columns of a line that is printed.
-use Rattle.std.proofs.Common.{◌≡◌, ◌<◌, ◌≤◌, ◌+◌, ◌-◌, ◌*◌, ◌/◌, ◌%◌, ◌^◌, ◌==◌, ◌&&◌, ◌∙◌, ◌++◌, ℕ, ℤ, zero, suc, true, false, List, [], ◌∷◌, All, length, take, drop, refl, sym, ap, append_assoc, subst, arith, codes, decimal, div-le_self, length-append, pos, unsigned_abs, get_or, map}
+use Rattle.std.proofs.Common.{take-append-drop, ◌≡◌, ◌<◌, ◌≤◌, ◌+◌, ◌-◌, ◌*◌, ◌/◌, ◌%◌, ◌^◌, ◌==◌, ◌&&◌, ◌∙◌, ◌++◌, ℕ, ℤ, zero, suc, true, false, List, [], ◌∷◌, All, length, take, drop, refl, sym, ap, append_assoc, subst, arith, codes, decimal, div-le_self, length-append, pos, unsigned_abs, get_or, map}
 use Rattle.std.proofs.lemmas.List.Elements.{All-from_recursion}
-use Rattle.std.proofs.lemmas.List.Splits.{slice_split_at}
+use Rattle.std.proofs.lemmas.List.Splits.{join_with_byte-slice_split, slice_split_at}
 use Rattle.j39_table.specs.Tables.{bare_line, is_no_comment, is_row_line, lines_of, row_lines}
-use Rattle.std.specs.Prelude.{if◌then◌else◌}
+use Rattle.std.specs.Prelude.{if◌then◌else◌, nat_eq, slice_index, ◌≢◌}
 use Rattle.std.specs.Char.{digit_value}
 use Rattle.std.specs.Fmt.{sign_text}
 use Rattle.std.specs.Int.{is_negative}
-use Rattle.std.specs.List.{AllByRecursion, prefix_len, flat_map, slice_split}
+use Rattle.std.specs.List.{AllByRecursion, prefix_len, flat_map, join_with_byte, slice_split, starts_with}
 use Rattle.std.specs.Str.Parse.{AllDigits}
 use Rattle.std.proofs.lemmas.Bool.{cond_both}
 use Rattle.std.proofs.lemmas.Fmt.{decimal_is_IsNumeral}
@@ -23,6 +23,10 @@ use Rattle.j39_table.proofs.ScaleLemmas.{its_step, step_below}
 use Rattle.j39_table.specs.ReadsBack.{PrintedLinesSpell, PrintedTablesSpell}
 use Rattle.j39_table.specs.Lines.{behind_word, first_word, line_columns, without_spaces, words_and_rest}
 use Rattle.j39_table.specs.Rows.{IsGoodField, IsGoodScale, field_columns, IsGoodRow}
+use Rattle.j39_groups.specs.States.{called, name_len, state_front, states_part}
+use Rattle.j39_groups.proofs.StateLemmas.{called_first, front_of, part_begins, words_front}
+use Rattle.j39_table.proofs.StateLemmas.{limit_fits}
+use Rattle.j39_table.specs.States.{AreGoodStates, AreStates, IsState, states_limit}
 use Rattle.j39_table.specs.Words.{IsName, IsWord}
 
 -- ---- words, and what they are made of
@@ -137,7 +141,7 @@ without_first text =
 
 skip_space : (n : ℕ) (text : List ℕ) → words_and_rest n (32 ∷ text) ≡ words_and_rest n text
 unfolding first_word behind_word
-skip_space zero text = ap (λ t. t ∷ []) (without_first text)
+skip_space zero text = ap (λ t. called t ∷ states_part t ∷ []) (without_first text)
 skip_space (suc n) text =
     ap (λ t. take (prefix_len is_not_space t) t ∷ words_and_rest n (drop (prefix_len is_not_space t) t)) (without_first text)
 
@@ -164,16 +168,18 @@ cut n word rest plain =
     ap (λ w. w ∷ words_and_rest n (behind_word (word ++ (32 ∷ rest)))) (first_is word rest plain)
     ∙ ap (λ t. word ∷ words_and_rest n t) (behind_is word rest plain) ∙ ap (λ xs. word ∷ xs) (skip_space n rest)
 
-name_is : (name : List ℕ) → IsName name → without_spaces name ≡ name
+name_is : (name : List ℕ) → IsName (called name) → without_spaces name ≡ name
+unfolding name_len
 name_is [] named = absurd (omega (arith, named.0))
 name_is (b ∷ name) named =
-    let other = named.1 in
+    let other : b ≢ 32 = subst (λ (t : List ℕ). slice_index t 0 ≢ 32) (called_first b name named.0) named.1 in
     let free : is_not_space b ≡ true = grind (arith, common_steps) in no_spaces b name free
 
 -- ---- a row's line
 
-pub seven : (a b c d e f g name : List ℕ) → Plain a → Plain b → Plain c → Plain d → Plain e → Plain f → Plain g → IsName name
-    → line_columns (a ++ (32 ∷ (b ++ (32 ∷ (c ++ (32 ∷ (d ++ (32 ∷ (e ++ (32 ∷ (f ++ (32 ∷ (g ++ (32 ∷ name)))))))))))))) ≡ a ∷ b ∷ c ∷ d ∷ e ∷ f ∷ g ∷ name ∷ []
+pub seven : (a b c d e f g name : List ℕ) → Plain a → Plain b → Plain c → Plain d → Plain e → Plain f → Plain g → IsName (called name)
+    → line_columns (a ++ (32 ∷ (b ++ (32 ∷ (c ++ (32 ∷ (d ++ (32 ∷ (e ++ (32 ∷ (f ++ (32 ∷ (g ++ (32 ∷ name))))))))))))))
+    ≡ a ∷ b ∷ c ∷ d ∷ e ∷ f ∷ g ∷ called name ∷ states_part name ∷ []
 seven a b c d e f g name pa pb pc pd pe pf pg named =
     cut 6 a _ pa
     ∙ ap (λ xs. a ∷ xs) (cut 5 b _ pb
@@ -182,7 +188,7 @@ seven a b c d e f g name pa pb pc pd pe pf pg named =
     ∙ ap (λ xs. d ∷ xs) (cut 2 e _ pe
     ∙ ap (λ xs. e ∷ xs) (cut 1 f _ pf
     ∙ ap (λ xs. f ∷ xs) (cut 0 g _ pg
-    ∙ ap (λ xs. g ∷ xs ∷ []) (name_is name named)))))))
+    ∙ ap (λ t. g ∷ called t ∷ states_part t ∷ []) (name_is name named)))))))
 
 flat : (a b c d e f g name : List ℕ)
     → a ++ codes " " ++ b ++ codes " " ++ c ++ codes " " ++ d ++ codes " " ++ (e ++ codes " " ++ f ++ codes " " ++ g) ++ codes " " ++ name
@@ -200,9 +206,9 @@ Plain-step bits slot some good =
 Plain-offset : (bits : ℕ) (slot : SlotRecord) → IsGoodScale bits slot → Plain (scaled_text slot.places slot.offset)
 Plain-offset bits slot good = let fits = good.fits in Plain-scaled slot.places slot.offset (omega (arith, fits))
 
-printed_columns : (a b c name : List ℕ) (field : FieldRecord) → Plain a → Plain b → Plain c → IsGoodField field → IsName name
+printed_columns : (a b c name : List ℕ) (field : FieldRecord) → Plain a → Plain b → Plain c → IsGoodField field → IsName (called name)
     → line_columns (a ++ codes " " ++ b ++ codes " " ++ c ++ codes " " ++ place_text field ++ codes " " ++ scale_text field ++ codes " " ++ name)
-    ≡ a ∷ b ∷ c ∷ (field_columns field ++ (name ∷ []))
+    ≡ a ∷ b ∷ c ∷ (field_columns field ++ (called name ∷ states_part name ∷ []))
 printed_columns a b c name (number_field first last slot) pa pb pc good named =
     ap line_columns (flat a b c (place_text (number_field first last slot)) (scaled_text slot.places slot.step) (scaled_text slot.places slot.offset) slot.unit name)
     ∙ seven a b c _ _ _ _ name pa pb pc (Plain-place (number_field first last slot) good) (Plain-step (8 * (last - first + 1)) slot (omega arith) good.1)
@@ -292,6 +298,39 @@ Plain-pgn row good = let fits = good.pgn.fits in Plain-decimal row.pgn (omega (a
 Plain-spn : (row : RowRecord) → IsGoodRow row → Plain (decimal row.spn)
 Plain-spn row good = let fits = good.spn in Plain-decimal row.spn (omega (arith, fits))
 
+Printable-state : (least limit raw : ℕ) (state : List ℕ) → limit ≤ 2 ^ 32 → IsState least limit state raw → Printable state
+Printable-state least limit raw state few is =
+    let below = is.below in
+    let front : Printable (state_front raw) =
+    (omega arith, Printable-append (decimal raw) (32 ∷ []) (Printable-plain _ (Plain-decimal raw (omega (arith, below, few))).free) (omega arith, tt)) in
+    subst Printable (sym (words_front raw state is.words is.words_are)) (Printable-append (state_front raw) is.words front (Printable-name is.words is.named.2))
+
+Printable-states : (least limit : ℕ) (states : List (List ℕ)) → limit ≤ 2 ^ 32 → AreStates least limit states → AllByRecursion Printable states
+Printable-states least limit [] few all = tt
+Printable-states least limit (state ∷ states) few all =
+    (Printable-state least limit all.0 state few all.1, Printable-states (all.0 + 1) limit states few all.2)
+
+Printable-joined : (parts : List (List ℕ)) → AllByRecursion Printable parts → Printable (join_with_byte 44 parts)
+Printable-joined [] all = tt
+Printable-joined (part ∷ []) all = all.0
+Printable-joined (part ∷ next ∷ parts) all = Printable-append part _ all.0 (omega arith, Printable-joined (next ∷ parts) all.1)
+
+Printable-part : (limit : ℕ) (part : List ℕ) → limit ≤ 2 ^ 32 → (0 < length part → starts_with nat_eq part (codes " = ") ≡ true)
+    → AreGoodStates limit part → Printable part
+Printable-part limit [] few begins good = tt
+Printable-part limit (b ∷ part) few begins good =
+    let rest : Printable (drop 2 (b ∷ part)) =
+    subst Printable (join_with_byte-slice_split 44 (drop 2 (b ∷ part))) (Printable-joined _ (Printable-states 0 limit _ few good.1)) in
+    let is = front_of (b ∷ part) (codes " = ") (begins (omega arith)) in
+    let front : b ∷ part ≡ 32 ∷ 61 ∷ drop 2 (b ∷ part) = is ∙ ap (λ t. 32 ∷ 61 ∷ t) (sym (ap (drop 2) is)) in
+    subst Printable (sym front) (omega arith, (omega arith, rest))
+
+Printable-with_states : (row : RowRecord) → IsGoodRow row → Printable row.name
+Printable-with_states row good =
+    subst Printable (take-append-drop (name_len row.name) row.name)
+    (Printable-append (called row.name) (states_part row.name) (Printable-name (called row.name) good.name.2)
+    (Printable-part (states_limit row.field) (states_part row.name) (limit_fits row.field good.field) (part_begins row.name) good.states))
+
 Printable-row : (row : RowRecord) → IsGoodRow row → Printable (line_text row)
 Printable-row row good =
     let a = Printable-append (decimal row.pgn) (codes " ") (Printable-plain _ (Plain-pgn row good).free) (omega arith, tt) in
@@ -299,7 +338,7 @@ Printable-row row good =
     let c = Printable-append _ (codes " ") (Printable-append _ (decimal row.spn) b (Printable-plain _ (Plain-spn row good).free)) (omega arith, tt) in
     let d = Printable-append _ (codes " ") (Printable-append _ (place_text row.field) c (Printable-plain _ (Plain-place row.field good.field).free)) (omega arith, tt) in
     let e = Printable-append _ (codes " ") (Printable-append _ (scale_text row.field) d (Printable-scale row.field good.field)) (omega arith, tt) in
-    Printable-append _ row.name e (Printable-name row.name good.name.2)
+    Printable-append _ row.name e (Printable-with_states row good)
 
 no_newline : (text : List ℕ) → Printable text → AllByRecursion (λ b. (b == 10) ≡ false) text
 no_newline [] h = tt

@@ -1,7 +1,7 @@
 -- What is said of a line that is no row, and of a text that is no table.
 use Rattle.std.specs.Prelude.{◌++◌, ℕ, List, [], codes, decimal}
 use Rattle.j39_table.specs.declared.fault.RowFault.{RowFault}
-use Rattle.j39_table.specs.declared.fault.RowFault.TheVariants.{Pgn, Group, Spn, Place, Step, Offset, Unit as NoUnit, Name}
+use Rattle.j39_table.specs.declared.fault.RowFault.TheVariants.{Pgn, Group, Spn, Place, Step, Offset, Unit as NoUnit, Name, States}
 use Rattle.j39_table.specs.declared.fault.TableFault.{TableFault}
 use Rattle.j39_table.specs.declared.fault.TableFault.TheVariants.{Line, TooManyRows, TooLong, Memory}
 
@@ -14,6 +14,7 @@ row_fault_words Step = codes "no step"
 row_fault_words Offset = codes "no offset"
 row_fault_words NoUnit = codes "no unit"
 row_fault_words Name = codes "no name"
+row_fault_words States = codes "no states"
 
 abbrev pub line_text : ℕ → List ℕ → List ℕ
 line_text number words = codes " line " ++ decimal number ++ codes ": " ++ words

@@ -1,7 +1,7 @@
 -- Which column a fault names.
 use Rattle.std.specs.Prelude.{ℕ}
 use Rattle.j39_table.specs.declared.fault.RowFault.{RowFault}
-use Rattle.j39_table.specs.declared.fault.RowFault.TheVariants.{Pgn, Group, Spn, Place, Step, Offset, Unit as NoUnit, Name}
+use Rattle.j39_table.specs.declared.fault.RowFault.TheVariants.{Pgn, Group, Spn, Place, Step, Offset, Unit as NoUnit, Name, States}
 
 -- how many columns stand before the wrong one
 abbrev pub column_of : RowFault → ℕ
@@ -13,3 +13,4 @@ column_of Step = 4
 column_of Offset = 5
 column_of NoUnit = 6
 column_of Name = 7
+column_of States = 8

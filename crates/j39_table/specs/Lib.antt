@@ -4,6 +4,7 @@ pub mod Positions
 pub mod Columns
 pub mod Scales
 pub mod Fields
+pub mod States
 pub mod Rows
 pub mod Lines
 pub mod Spelled

@@ -3,9 +3,11 @@ use Rattle.std.specs.Prelude.{◌≡◌, ◌+◌, ◌-◌, ◌*◌, ◌^◌, ◌
 use Rattle.j39_groups.specs.Printed.{place_text}
 use Rattle.j39_groups.specs.Readings.{is_heard_group, is_network_group}
 use Rattle.j39_groups.specs.Row.{FieldRecord, number_field, bits_field, signed_field, switch_field, text_field, texts_field, RowRecord}
+use Rattle.j39_groups.specs.States.{called, states_part}
 use Rattle.j39_groups.specs.Value.{SlotRecord}
 use Rattle.j39_groups.specs.ValueText.{scaled_text}
 use Rattle.j39_table.specs.Positions.{IsGoodBits, IsGoodBytes}
+use Rattle.j39_table.specs.States.{AreGoodStates, states_limit}
 use Rattle.j39_table.specs.Words.{IsName, IsWord}
 
 -- a number of 18 bits, of a group that can be heard and that is none of the network's
@@ -45,7 +47,8 @@ pub record IsGoodRow (row : RowRecord) : Type 0 where
   pub group : IsWord row.group
   pub spn : row.spn < 2 ^ 19
   pub field : IsGoodField row.field
-  pub name : IsName row.name
+  pub name : IsName (called row.name)
+  pub states : AreGoodStates (states_limit row.field) (states_part row.name)
 
 -- ---- the columns of a row
 
@@ -69,4 +72,4 @@ abbrev pub field_columns : FieldRecord → List (List ℕ)
 field_columns field = place_text field ∷ scale_columns field
 
 abbrev pub columns_of : RowRecord → List (List ℕ)
-columns_of row = decimal row.pgn ∷ row.group ∷ decimal row.spn ∷ (field_columns row.field ++ (row.name ∷ []))
+columns_of row = decimal row.pgn ∷ row.group ∷ decimal row.spn ∷ (field_columns row.field ++ (called row.name ∷ states_part row.name ∷ []))

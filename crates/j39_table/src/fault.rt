@@ -24,6 +24,8 @@ pub enum RowFault {
     Unit,
     /// The line has no name.
     Name,
+    /// What stands behind the name and ` = ` is no list of states, or none of this place.
+    States,
 }
 
 impl RowFault {
@@ -40,6 +42,7 @@ impl RowFault {
             RowFault::Offset => "no offset",
             RowFault::Unit => "no unit",
             RowFault::Name => "no name",
+            RowFault::States => "no states",
         }
     }
 }

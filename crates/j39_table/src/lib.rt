@@ -11,6 +11,7 @@ mod position;
 mod reading;
 mod row;
 mod scale;
+mod states;
 mod words;
 
 pub use fault::{RowFault, TableFault};

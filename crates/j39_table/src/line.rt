@@ -14,10 +14,11 @@ pub(crate) struct Columns<'t> {
     pub step: &'t [u8],
     pub offset: &'t [u8],
     pub unit: &'t [u8],
+    /// To the line's end, with the names of states.
     pub name: &'t [u8],
 }
 
-/// Seven words, and the name to the line's end.
+/// Seven words, and the name with the states to the line's end.
 pub(crate) fn columns_of(line: &[u8]) -> Columns<'_>
     ensures { column_texts result ≡ line_columns line.now }
 {

@@ -287,7 +287,7 @@ fn leading_number(text: &[u8]) -> Option<(u8, &[u8])>
     }
 }
 
-fn digits_len(text: &[u8]) -> usize
+pub(crate) fn digits_len(text: &[u8]) -> usize
     ensures value { result ≡ prefix_len is_digit text.now }
     ensures fits { result ≤ length text.now }
 {

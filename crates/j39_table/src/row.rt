@@ -13,11 +13,12 @@ use crate::RowFault;
 use crate::columns::decimal_in;
 use crate::field::field_in;
 use crate::line::{Columns, columns_of};
+use crate::states::{are_states, states_limit};
 use crate::words::{is_name, is_word};
 use j39_frame::Pgn;
-use j39_groups::{Row, is_heard_group, is_network_group};
+use j39_groups::{Row, is_heard_group, is_network_group, split_states};
 
-/// The row that a line spells, as `j1939 groups` prints it: seven words with spaces between, and a name; or the
+/// The row that a line spells, as `j1939 groups` prints it: seven words with spaces between, a name, and maybe names of states; or the
 /// first column with which no row goes on.
 pub fn read_row(line: &[u8]) -> Result<Row<'_>, RowFault>
     ensures found { IfOk result (λ row. SpellsRow line.now (row_record row)) }
@@ -44,8 +45,12 @@ fn row_of(columns: Columns<'_>) -> Result<Row<'_>, RowFault>
         Ok(field) => field,
         Err(fault) => return Err(fault),
     };
-    if !is_name(columns.name) {
+    let (name, states) = split_states(columns.name);
+    if !is_name(name) {
         return Err(RowFault::Name);
+    }
+    if !are_states(states_limit(field), states) {
+        return Err(RowFault::States);
     }
     Ok(Row::new(pgn, columns.group, spn, columns.name, field))
 }

@@ -15,9 +15,9 @@ use j39_io::backwards::{byte_before, bytes_before, slice_before, tail_before};
 use j39_io::{has_special, is_formula};
 use std::simd::prelude::*;
 
-/// The bytes of a block that a record fits in: what it begins with, a number, a value, two fields of 64 bytes with
+/// The bytes of a block that a record fits in: what it begins with, a number, a value, three fields of 64 bytes with
 /// their commas, and the end of the line.
-pub(crate) const RECORD: usize = 288;
+pub(crate) const RECORD: usize = 352;
 
 /// Writes the record of a reading at the end of a block, and answers where it starts: what it begins with, and the fields
 /// behind that. `None`, and nothing of use is written, for a text of the sender's, a number with more than fifteen places, and
@@ -29,17 +29,19 @@ pub(crate) fn record_before(
     spn: u32,
     parameter: &[u8],
     value: Value<'_, '_>,
+    state: &[u8],
 ) -> Option<usize>
-    ensures written { (group : List ℕ) → IfSome result (λ start. WritesBefore out.old out.new 288 start
-        (named_fields (begun_fields begin.now group) spn parameter.now ++ value_fields (value_of value.entry))) }
-    ensures within { IfSome result (λ start. start ≤ 288) }
+    ensures written { (group : List ℕ) → IfSome result (λ start. WritesBefore out.old out.new 352 start
+        (named_fields (begun_fields begin.now group) spn parameter.now ++ value_fields (value_of value.entry) state.now)) }
+    ensures within { IfSome result (λ start. start ≤ 352) }
 {
     if !begin.has_group {
         return None;
     }
     let unit = value.unit();
     let last = bytes_before(out, RECORD, *b"\r\n");
-    let behind = field_before(out, last, unit)?;
+    let end = field_before(out, last, state)?;
+    let behind = field_before(out, end, unit)?;
     let bare = bare_before(out, behind, value)?;
     let gap = byte_before(out, bare, b',');
     let name = field_before(out, gap, parameter)?;

@@ -10,9 +10,10 @@ ghost use Rattle.j39_frame.specs.Stamp.{stamp_micros};
 ghost use Rattle.j39_frame.specs.Pgn.{pgn_raw};
 ghost use Rattle.j39_groups.specs.Models.{value_of};
 ghost use Rattle.j39_listen.specs.HeardModel.{hearing_of};
-ghost use Rattle.j39_reports.specs.EntryText.{begin_text, group_called, named_fields, parameter_called, value_fields};
+ghost use Rattle.j39_reports.specs.EntryText.{begin_text, group_called, named_fields, parameter_called, state_called, value_fields};
 ghost use Rattle.j39_reports.specs.MessageRecords.{begun_fields};
 
+use crate::columns::put_last_field;
 use crate::report_records::begin::{Begin, HEAD, Second, begin_before, group_before};
 use crate::report_records::quick_record::{RECORD, record_before};
 use arrayvec::ArrayVec;
@@ -107,6 +108,7 @@ impl<'g, 't, W: Sink> ReadingVisitor<'t, W> for Records<'g, 't> {
 
     fn visit(&mut self, spn: u32, value: Value<'t, '_>, sink: &mut W) -> Result<(), DeviceFault> {
         let parameter = parameter_of(self.groups, self.pgn, spn);
+        let state = state_of(self.groups, self.pgn, spn, value);
         put_record(
             &mut self.block,
             &self.begin,
@@ -114,6 +116,7 @@ impl<'g, 't, W: Sink> ReadingVisitor<'t, W> for Records<'g, 't> {
             spn,
             parameter,
             value,
+            state,
             sink,
         )?;
         self.lines = self.lines.saturating_add(1);
@@ -152,14 +155,15 @@ fn put_record<W: Sink>(
     spn: u32,
     parameter: &[u8],
     value: Value<'_, '_>,
+    state: &[u8],
     sink: &mut W,
 ) -> Result<(), DeviceFault>
     ensures { Puts (named_fields (begun_fields begin.now group.now) spn parameter.now
-        ++ value_fields (value_of value.entry)) result (turn W.written W.has_failed sink.old sink.new) }
+        ++ value_fields (value_of value.entry) state.now) result (turn W.written W.has_failed sink.old sink.new) }
 {
-    match record_before(block, begin, spn, parameter, value) {
+    match record_before(block, begin, spn, parameter, value, state) {
         Some(start) => put_all(sink, &block[start..]),
-        None => put_parts(begin, group, spn, parameter, value, sink),
+        None => put_parts(begin, group, spn, parameter, value, state, sink),
     }
 }
 
@@ -171,13 +175,14 @@ fn put_parts<W: Sink>(
     spn: u32,
     parameter: &[u8],
     value: Value<'_, '_>,
+    state: &[u8],
     sink: &mut W,
 ) -> Result<(), DeviceFault>
     ensures { Puts (named_fields (begun_fields begin.now group.now) spn parameter.now
-        ++ value_fields (value_of value.entry)) result (turn W.written W.has_failed sink.old sink.new) }
+        ++ value_fields (value_of value.entry) state.now) result (turn W.written W.has_failed sink.old sink.new) }
 {
     put_named(begin, group, spn, parameter, sink)?;
-    put_value_and_unit(value, sink)
+    put_value_and_behind(value, state, sink)
 }
 
 /// Writes the record of a reading, up to its value.
@@ -210,14 +215,18 @@ fn put_begun<W: Sink>(begin: &Begin, group: &[u8], sink: &mut W) -> Result<(), D
 }
 
 /// Writes the record of a reading, from its value on.
-fn put_value_and_unit<W: Sink>(value: Value<'_, '_>, sink: &mut W) -> Result<(), DeviceFault>
-    ensures { Puts (value_fields (value_of value.entry)) result (turn W.written W.has_failed sink.old sink.new) }
+fn put_value_and_behind<W: Sink>(
+    value: Value<'_, '_>,
+    state: &[u8],
+    sink: &mut W,
+) -> Result<(), DeviceFault>
+    ensures { Puts (value_fields (value_of value.entry) state.now) result (turn W.written W.has_failed sink.old sink.new) }
 {
     put_all(sink, b",")?;
     value.put_field(sink)?;
     let unit = value.unit();
     put_behind_comma(unit, sink)?;
-    put_all(sink, b"\r\n")
+    put_last_field(state, sink)
 }
 
 /// A comma and the number of a parameter.
@@ -236,6 +245,16 @@ fn parameter_of<'r>(groups: &'r Groups<'_>, pgn: u32, spn: u32) -> &'r [u8]
 {
     match groups.parameter_name_in(pgn, spn) {
         Some(name) => name,
+        None => b"",
+    }
+}
+
+/// What the table calls the state of a value; nothing where it has no name.
+fn state_of<'r>(groups: &'r Groups<'_>, pgn: u32, spn: u32, value: Value<'_, '_>) -> &'r [u8]
+    ensures { result.now ≡ state_called groups.now pgn spn (value_of value.entry) }
+{
+    match groups.state_in(pgn, spn, value) {
+        Some(words) => words,
         None => b"",
     }
 }

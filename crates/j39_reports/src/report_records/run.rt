@@ -15,7 +15,8 @@ use j39_log::Bus;
 use std::alloc::Global;
 
 /// The names of the columns.
-const HEADER: &[u8] = b"stamp,utc,address,destination,name,pgn,group,spn,parameter,value,unit\r\n";
+const HEADER: &[u8] =
+    b"stamp,utc,address,destination,name,pgn,group,spn,parameter,value,unit,state\r\n";
 
 /// Writes the report of a log of at most `limit` bytes by a table of parameters as comma-separated values (RFC 4180):
 /// the names of the columns, and a record for each value. Without a bus it is that of the first frame in the log.

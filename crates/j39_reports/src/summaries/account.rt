@@ -61,7 +61,7 @@ pub fn summary<R: Source, W: Sink>(
 
 /// The names of the columns of records.
 const COLUMNS: &[u8] =
-    b"address,destination,name,pgn,spn,parameter,values,words,absent,first_stamp,first_utc,last_stamp,last_utc,least,most,unit,first,last\r\n";
+    b"address,destination,name,pgn,spn,parameter,values,words,absent,first_stamp,first_utc,last_stamp,last_utc,least,most,unit,first,last,state\r\n";
 
 /// What is heard so far, and the rows of its summary.
 #[derive(Drop)]

@@ -6,11 +6,12 @@ ghost use Rattle.j39_io.specs.Puts.{Puts};
 ghost use Rattle.j39_io.specs.Turn.{turn};
 ghost use Rattle.j39_memory.specs.ByOrigin.{pairs_of};
 ghost use Rattle.j39_io.specs.Chars.{newline};
-ghost use Rattle.j39_reports.specs.RowText.{bounds_in, called_in, destination_text, end_in, head_in, line_head, no_range, range_in, row_in, separator_of, summary_text, text_as, unit_in, value_as, value_in, values_in};
+ghost use Rattle.j39_groups.specs.Names.{state_in};
+ghost use Rattle.j39_reports.specs.RowText.{bounds_in, called_in, destination_text, end_in, head_in, line_head, no_range, range_in, row_in, separator_of, state_behind, summary_text, text_as, unit_in, value_as, value_in, values_in};
 ghost use Rattle.j39_reports.specs.RowsSoFar.{counted};
 ghost use Rattle.j39_reports.specs.RowModels.{kept_value, range_of_span, row_shown};
 
-use crate::columns::push_behind;
+use crate::columns::{push_behind, put_last_field};
 use crate::parts::put_parts;
 use crate::summaries::deeds::{Deeds, Span};
 use crate::summaries::kept::Kept;
@@ -57,7 +58,7 @@ fn put_row<W: Sink>(
 {
     put_head(form, origin, deeds, absent, groups, sink)?;
     put_values(form, deeds, sink)?;
-    put_end(form, groups, origin, sink)
+    put_end(form, groups, origin, &deeds.last.value, sink)
 }
 
 /// Writes what a row begins with.
@@ -237,35 +238,62 @@ fn put_text<W: Sink>(form: Format, text: &[u8], sink: &mut W) -> Result<(), Devi
     }
 }
 
-/// Writes what a row ends with: a line with what the table calls the parameter.
+/// Writes what a row ends with: the state of the last value, in a line behind what the table calls the parameter.
 #[tactic(auto, unfolding(crate::specs::RowText::end_in))]
 fn put_end<W: Sink>(
     form: Format,
     groups: &Groups<'_>,
     origin: Origin,
+    last: &Kept<'_>,
     sink: &mut W,
 ) -> Result<(), DeviceFault>
-    ensures { Puts (end_in form groups.now origin.pgn origin.spn) result (turn W.written W.has_failed sink.old sink.new) }
+    ensures { Puts (end_in form groups.now origin.pgn origin.spn (kept_value last.now)) result (turn W.written W.has_failed sink.old sink.new) }
 {
+    let state = state_of(groups, origin, last);
     match form {
-        Format::Line => put_name(groups, origin.pgn, origin.spn, sink),
-        Format::Record => put_all(sink, b"\r\n"),
+        Format::Line => put_name(name_of(groups, origin.pgn, origin.spn), state, sink),
+        Format::Record => put_last_field(state.unwrap_or(b""), sink),
     }
 }
 
-/// Writes a space, what the table calls a parameter, and a newline.
-fn put_name<W: Sink>(
-    groups: &Groups<'_>,
-    pgn: u32,
-    spn: u32,
+/// Writes a space, what a parameter is called, its state and a newline.
+fn put_name<'x, W: Sink>(
+    name: &'x [u8],
+    state: Option<&'x [u8]>,
     sink: &mut W,
 ) -> Result<(), DeviceFault>
-    ensures { Puts (codes " " ++ (called_in groups.now pgn spn ++ (newline ∷ [])))
+    ensures { Puts (codes " " ++ (name.now ++ (state_behind (option_map (λ words. words.now) state.entry) ++ (newline ∷ []))))
         result (turn W.written W.has_failed sink.old sink.new) }
 {
-    let name = name_of(groups, pgn, spn);
-    let parts: [&[u8]; 3] = [b" ", name, b"\n"];
-    put_parts(&parts, sink)
+    match state {
+        None => {
+            let parts: [&[u8]; 3] = [b" ", name, b"\n"];
+            put_parts(&parts, sink)
+        }
+        Some(words) => {
+            let parts: [&[u8]; 5] = [b" ", name, b" = ", words, b"\n"];
+            put_parts(&parts, sink)
+        }
+    }
+}
+
+/// What the table calls the state of a value.
+fn state_of<'r>(groups: &'r Groups<'_>, origin: Origin, kept: &Kept<'_>) -> Option<&'r [u8]>
+    ensures { option_map (λ words. words.now) result ≡ state_in groups.now origin.pgn origin.spn (kept_value kept.now) }
+{
+    match kept {
+        Kept::Number(number, scale) => {
+            groups.state_in(origin.pgn, origin.spn, Value::Number(*number, *scale))
+        }
+        Kept::On => groups.state_in(origin.pgn, origin.spn, Value::On),
+        Kept::Off => groups.state_in(origin.pgn, origin.spn, Value::Off),
+        Kept::Error => groups.state_in(origin.pgn, origin.spn, Value::Error),
+        Kept::Reserved => groups.state_in(origin.pgn, origin.spn, Value::Reserved),
+        Kept::Indicator => groups.state_in(origin.pgn, origin.spn, Value::Indicator),
+        Kept::Text(text) => {
+            groups.state_in(origin.pgn, origin.spn, Value::Text(text.as_slice()))
+        }
+    }
 }
 
 /// What the table calls a parameter, or a dash.

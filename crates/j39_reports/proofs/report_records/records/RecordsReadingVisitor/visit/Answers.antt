@@ -1,11 +1,10 @@
 -- The record of the reading behind the others.
-use Rattle.std.proofs.Common.{◌∷◌, [], append-nil, subst, sym}
+use Rattle.std.proofs.Common.{◌∷◌, []}
 use Rattle.std.proofs.lemmas.List.Elements.{filter_map-append}
 use Rattle.j39_io.proofs.DeviceLemmas.{on_err}
 use Rattle.j39_groups.specs.Models.{value_of}
 use Rattle.j39_groups.specs.Sightings.{told_by, told_in}
 use Rattle.j39_groups.specs.Visits.{visited}
-use Rattle.j39_reports.specs.MessageRecords.{HasStopped, HasWritten}
 use Rattle.j39_reports.proofs.RecordLemmas.{stops_here, takes_this}
 use Rattle.j39_reports.proofs.report_records.records.RecordsReadingVisitor.visit.Goals as goal
 
@@ -14,11 +13,11 @@ returns-in_err-put_record-clause-stopped g c =
     let called = c.parameter_of-parameter in
     on_err c.from_residual.result _ (λ subject before has.
     rw (filter_map-append told_by before (visited c.args.spn c.args.value ∷ []))
-    (stops_here subject c.args.self.now _ _ has c.args.spn (value_of c.args.value) called.result.now called.ensures _ _ c.in_err-put_record.ensures))
+    (stops_here subject c.args.self.now _ _ has c.args.spn (value_of c.args.value) called.result.now called.ensures c.state_of-state.result.now c.state_of-state.ensures _ _ c.in_err-put_record.ensures))
 
 pub returns-clause-taken : goal.returns-clause-taken
 returns-clause-taken g c = λ subject before has.
     let called = c.parameter_of-parameter in
     rw (filter_map-append told_by before (visited c.args.spn c.args.value ∷ []))
-    (takes_this subject c.args.self.now _ (told_in before) has c.args.spn (value_of c.args.value) called.result.now called.ensures _ _ _
+    (takes_this subject c.args.self.now _ (told_in before) has c.args.spn (value_of c.args.value) called.result.now called.ensures c.state_of-state.result.now c.state_of-state.ensures _ _ _
     (record { by = has.is_begun.by; begin_is = has.is_begun.begin_is; pgn_is = has.is_begun.pgn_is }) c.saturating_add-self.ensures c.in_ok-put_record.ensures)
