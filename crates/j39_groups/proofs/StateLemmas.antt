@@ -6,7 +6,10 @@ use Rattle.std.proofs.lemmas.Bool.{cases_Bool, false_from_ne_true, false≢true,
 use Rattle.std.proofs.lemmas.Bool.Decides.{Decides-eqb}
 use Rattle.std.proofs.lemmas.List.{drop_all, length-drop}
 use Rattle.std.proofs.lemmas.Slice.Eq.{starts_is}
-use Rattle.j39_groups.specs.States.{called, name_len, state_front, state_words, states_in, states_part}
+use Rattle.std.specs.Option.{option_and_then}
+use Rattle.j39_groups.specs.Row.{RowRecord}
+use Rattle.j39_groups.specs.States.{called, name_len, raw_behind, state_by, state_front, state_named, state_words, states_in, states_part}
+use Rattle.j39_groups.specs.Value.{ValueRecord}
 use Rattle.j39_groups.proofs.SlotLemmas.{none_more}
 use Rattle.std.specs.Fmt.{decimal}
 use Rattle.std.proofs.lemmas.Fmt.{length-decimal-le}
@@ -134,3 +137,13 @@ whole_name (b ∷ rest) h =
     false_from_ne_true _ (λ begins. false≢true (sym h ∙ ap (list_any (λ (c : ℕ). c == 61)) (front_of (b ∷ rest) (codes " = ") begins))) in
     let later : list_any (λ b. b == 61) rest ≡ false = (or_parts (b == 61) (list_any (λ c. c == 61) rest) h).1 in
     rw goes (ap suc (whole_name rest later))
+
+none_of : (name : List ℕ) → length (states_part name) ≡ 0 → (raw : Option ℕ) → option_and_then (state_named name) raw ≡ None
+unfolding state_named
+none_of name none None = refl
+none_of name none (Some raw) = none_there raw (states_part name) (omega (arith, none))
+
+-- a row whose name has no states has none of any value
+pub none_by : (value : ValueRecord) (row : RowRecord) → length (states_part row.name) ≡ 0 → state_by value row ≡ None
+unfolding state_by
+none_by value row none = none_of row.name none (raw_behind row.field value)

@@ -28,7 +28,7 @@ use crate::row::Row;
 use crate::rows::Rows;
 use crate::rows_before::{HEAD, LINES};
 use crate::runs::{Run, has_group, run_of, runs_of};
-use crate::states::{called, state_by};
+use crate::states::{called, called_by, state_by};
 use crate::table::built_in_rows;
 use crate::value::Value;
 use crate::visiting::{ReadingVisitor, visit_rows};
@@ -192,6 +192,25 @@ impl<'t> Groups<'t> {
         match row_in_group(self.rows_for(pgn), pgn, spn) {
             Some(row) => Some(called(row.name)),
             None => None,
+        }
+    }
+
+    /// What a parameter of a group is called, and the state of a value of it: as `parameter_name_in` and `state_in` say.
+    pub fn called_in(
+        &self,
+        pgn: u32,
+        spn: u32,
+        value: Value<'_, '_>,
+    ) -> (Option<&[u8]>, Option<&[u8]>)
+        ensures parameter { option_map (λ name. name.now) result.0 ≡ name_in self.now pgn spn }
+        ensures state { option_map (λ words. words.now) result.1 ≡ state_in self.now pgn spn (value_of value.entry) }
+    {
+        match row_in_group(self.rows_for(pgn), pgn, spn) {
+            Some(row) => {
+                let (called, state) = called_by(row, value);
+                (Some(called), state)
+            }
+            None => (None, None),
         }
     }
 

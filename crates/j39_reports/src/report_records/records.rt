@@ -1,5 +1,5 @@
 //! The records of a message.
-ghost use Rattle.std.specs.Prelude.{◌≡◌, ◌+◌, ◌≤◌, ◌++◌, ◌∷◌, [], decimal};
+ghost use Rattle.std.specs.Prelude.{◌≡◌, ◌+◌, ◌≤◌, ◌++◌, ◌∷◌, [], decimal, option_map, unwrap_or};
 ghost use Rattle.std.specs.List.{flat_map};
 ghost use Rattle.j39_io.specs.Puts.{Puts};
 ghost use Rattle.j39_io.specs.Turn.{turn};
@@ -107,8 +107,7 @@ impl<'g, 't, W: Sink> ReadingVisitor<'t, W> for Records<'g, 't> {
         HasStopped subject (told_in (before ++ at ∷ [])) (record { bytes = W.written sink; has_failed = W.has_failed sink }) };
 
     fn visit(&mut self, spn: u32, value: Value<'t, '_>, sink: &mut W) -> Result<(), DeviceFault> {
-        let parameter = parameter_of(self.groups, self.pgn, spn);
-        let state = state_of(self.groups, self.pgn, spn, value);
+        let Called { parameter, state } = called_in(self.groups, self.pgn, spn, value);
         put_record(
             &mut self.block,
             &self.begin,
@@ -239,22 +238,33 @@ fn spn_field(spn: u32) -> ArrayVec<u8, 32>
     field
 }
 
-/// What the table calls a parameter of a group; nothing where it lists none.
-fn parameter_of<'r>(groups: &'r Groups<'_>, pgn: u32, spn: u32) -> &'r [u8]
-    ensures { result.now ≡ parameter_called groups.now pgn spn }
+/// What the table calls a parameter of a group, and the state of a value of it; nothing of what has no name.
+struct Called<'r> {
+    parameter: &'r [u8],
+    state: &'r [u8],
+}
+
+fn called_in<'r>(
+    groups: &'r Groups<'_>,
+    pgn: u32,
+    spn: u32,
+    value: Value<'_, '_>,
+) -> Called<'r>
+    ensures parameter { result.parameter.now ≡ parameter_called groups.now pgn spn }
+    ensures state { result.state.now ≡ state_called groups.now pgn spn (value_of value.entry) }
 {
-    match groups.parameter_name_in(pgn, spn) {
-        Some(name) => name,
-        None => b"",
+    let (parameter, state) = groups.called_in(pgn, spn, value);
+    Called {
+        parameter: or_nothing(parameter),
+        state: or_nothing(state),
     }
 }
 
-/// What the table calls the state of a value; nothing where it has no name.
-fn state_of<'r>(groups: &'r Groups<'_>, pgn: u32, spn: u32, value: Value<'_, '_>) -> &'r [u8]
-    ensures { result.now ≡ state_called groups.now pgn spn (value_of value.entry) }
+fn or_nothing(text: Option<&[u8]>) -> &[u8]
+    ensures { result.now ≡ unwrap_or (option_map (λ bytes. bytes.now) text.entry) [] }
 {
-    match groups.state_in(pgn, spn, value) {
-        Some(words) => words,
+    match text {
+        Some(text) => text,
         None => b"",
     }
 }
