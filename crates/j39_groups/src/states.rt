@@ -190,10 +190,7 @@ fn one_if(is_one: bool, raw: u64) -> Option<u64>
 }
 
 /// What the parameter of a row is called, and the state of a value. Most rows name no states.
-pub(crate) fn called_by<'r>(
-    row: &'r Row<'_>,
-    value: Value<'_, '_>,
-) -> (&'r [u8], Option<&'r [u8]>)
+pub(crate) fn called_by<'r>(row: &'r Row<'_>, value: Value<'_, '_>) -> (&'r [u8], Option<&'r [u8]>)
     ensures called { result.0.now ≡ called (row_record row.now).name }
     ensures state { option_map (λ words. words.now) result.1 ≡ state_by (value_of value.entry) (row_record row.now) }
 {

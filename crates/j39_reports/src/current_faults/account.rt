@@ -12,11 +12,11 @@ ghost use Rattle.j39_reports.specs.CurrentSoFar.{AreKept, HasKept, KnowsBrokenNo
 ghost use Rattle.j39_reports.specs.CurrentPlaces.{at};
 ghost use Rattle.j39_reports.specs.News.{is_fault_group};
 
+use crate::current_faults::lines::put_places;
+use crate::current_faults::places::Places;
 use crate::fault_news::account::{is_byte, is_of_fault_group};
 use crate::fault_news::announced::Announced;
 use crate::fault_news::form::Writing;
-use crate::current_faults::lines::put_places;
-use crate::current_faults::places::Places;
 use j39_faults::{Conversion, Kind, fault_group, lamps_of};
 use j39_frame::Frame;
 use j39_io::{DeviceFault, Sink};

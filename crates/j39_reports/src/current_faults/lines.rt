@@ -9,11 +9,11 @@ ghost use Rattle.j39_reports.specs.CurrentPlaces.{at, standing_record};
 ghost use Rattle.j39_reports.specs.CurrentSoFar.{now_shown, nows_shown, shown_below};
 
 use crate::columns::{push_behind, push_moment};
-use crate::fault_news::form::{Said, Writing};
-use crate::fault_news::lines::put_fault;
 use crate::current_faults::last_active::LastActive;
 use crate::current_faults::places::{Places, SOURCES};
 use crate::current_faults::standing::Standing;
+use crate::fault_news::form::{Said, Writing};
+use crate::fault_news::lines::put_fault;
 use arrayvec::ArrayVec;
 use j39_address::Name;
 use j39_faults::{Kind, State};

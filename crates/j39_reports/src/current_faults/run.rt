@@ -6,8 +6,8 @@ ghost use Rattle.j39_listen.specs.Ran.{PassesOn};
 ghost use Rattle.j39_reports.specs.Broken.{ToldFaults};
 ghost use Rattle.j39_reports.specs.FaultsNowRun.{AsksForFaultsNow, MakesFaultsNow};
 
-use crate::fault_news::form::Writing;
 use crate::current_faults::account::FaultsNow;
+use crate::fault_news::form::Writing;
 use crate::fault_news::run::{FaultCounts, counted};
 use j39_faults::Conversion;
 use j39_groups::Groups;

@@ -244,12 +244,7 @@ struct Called<'r> {
     state: &'r [u8],
 }
 
-fn called_in<'r>(
-    groups: &'r Groups<'_>,
-    pgn: u32,
-    spn: u32,
-    value: Value<'_, '_>,
-) -> Called<'r>
+fn called_in<'r>(groups: &'r Groups<'_>, pgn: u32, spn: u32, value: Value<'_, '_>) -> Called<'r>
     ensures parameter { result.parameter.now ≡ parameter_called groups.now pgn spn }
     ensures state { result.state.now ≡ state_called groups.now pgn spn (value_of value.entry) }
 {
