@@ -33,10 +33,13 @@ pub fn sources()
         ⊎ (IsTrue (holds w H now) × (source_of f.id ≡ w.address) × (pgn_of f.id ≢ address_claimed_group)) }
 {}
 
-/// Where an address is held, a claim of it was taken, no smaller NAME's claim of it was heard since, and 250 ms or more passed.
+/// Where an address is held, a claim of it was taken, no smaller NAME's claim of it was heard since, and 250 ms or more passed; and
+/// where that is so, and the address isn't lost, it is held.
 pub fn held_means()
-    ensures { (w : Who) (H : List Call) (c : Controller) (now : ℕ) → Is w H c → IsTrue (holds w H now)
+    ensures since { (w : Who) (H : List Call) (c : Controller) (now : ℕ) → Is w H c → IsTrue (holds w H now)
         → (e : ℕ) × ClaimedSince w H e × (250000 ≤ e + step H now) }
+    ensures in_time { (w : Who) (H : List Call) (now e : ℕ) → ClaimedSince w H e → (IsTrue (is_lost (address_after w H)) → ⊥)
+        → 250000 ≤ e + step H now → IsTrue (holds w H now) }
 {}
 
 /// The tokens of the messages accepted are 0, 1, 2 and so on, and in this order each is told once to have ended, after it was
