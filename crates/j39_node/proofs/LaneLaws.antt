@@ -8,12 +8,12 @@ use Rattle.j39_node.specs.declared.kinds.Ending.{Ending}
 use Rattle.j39_node.specs.declared.kinds.Ending.TheVariants.{Done, Withdrawn}
 use Rattle.j39_node.specs.declared.kinds.Refused.{Refused}
 use Rattle.j39_node.specs.declared.kinds.Refused.TheVariants.{NoAddress, BadValue, Full}
-use Rattle.j39_node.specs.History.{Who, Message, Call, accepted, acknowledged, address_after, all_frames, broadcasts, can_broadcast, claim_address, claim_from, due, first_frames, frame_of, has_packets, holds, is_busy, is_left, is_lost, is_open, is_packet, message_of, open_broadcast, owes_claim, packets, pause, sent, step, told_broadcasts}
+use Rattle.j39_node.specs.History.{Who, Message, Call, accepted, acknowledged, address_after, all_frames, broadcasts, can_broadcast, claim_address, claim_from, due, first_frames, frame_of, has_packets, holds, is_busy, is_left, is_lost, is_open, is_packet, message_of, moment, open_broadcast, owes_claim, packets, pause, sent, step, told_broadcasts}
 use Rattle.j39_node.specs.History.Call.{Hear, Tick, TakeFrame, Send, TakeEnded, TakeReceived, TakeRequest, TakeNews, Acknowledge, Broadcast, TakeBroadcastEnded}
 use Rattle.j39_node.specs.Is.{AreAnswered, Is, broadcast_end, next_packet, packet_by}
-use Rattle.j39_node.specs.Since.{passed_in}
+use Rattle.j39_node.specs.Since.{PacketSince, passed_in}
 use Rattle.j39_node.proofs.QueueLemmas.{length_one_more}
-use Rattle.j39_node.proofs.SoundLemmas.{FrameCase, frame_by, frame_case, packet_case, sound, claim_taken, claim_single, due_get, due_taken, own_get, single_taken}
+use Rattle.j39_node.proofs.SoundLemmas.{FrameCase, frame_by, frame_case, packet_case, sound, claim_taken, claim_single, due_get, due_taken, own_get, pause_is, single_taken}
 use Rattle.j39_node.proofs.SoundLemmas.FrameCase.{claims, acknowledges, sends, packs}
 use Rattle.j39_node.proofs.LaneLemmas.{BroadcastCase, broadcast_case, LaneEnd, lane_end, Opened, Laned, laned, closed, stands_open, opened_by}
 use Rattle.j39_node.proofs.LaneLemmas.BroadcastCase.{homeless, unfit, busy, opens}
@@ -210,24 +210,53 @@ spaced w H later c now at f g is p q =
     over_all : (p d s : ℕ) → 50000 ≤ p + d → p - s ≡ 0 → 50000 ≤ d + s
     over_all p d s a b = omega (arith, a, b)
 
-at_most : (b : Bool) (p s : ℕ) → p ≤ 50000 → (if b then 50000 else p - s) ≤ 50000
-at_most true p s l = omega arith
-at_most false p s l = omega (arith, l)
+-- ---- since when a pause lasts
 
-pub soon : (H : List Call) → pause H ≤ 50000
-soon [] = omega arith
-soon (Hear f ∷ H) = let l = soon H in omega (arith, l)
-soon (Tick now ∷ H) = let l = soon H in omega (arith, l)
-soon (TakeFrame now None ∷ H) = let l = soon H in omega (arith, l)
-soon (TakeFrame now (Some f) ∷ H) = at_most (is_packet f) (pause H) (step H now) (soon H)
-soon (Send now d answer ∷ H) = let l = soon H in omega (arith, l)
-soon (TakeEnded answer ∷ H) = soon H
-soon (TakeReceived answer ∷ H) = soon H
-soon (TakeRequest answer ∷ H) = soon H
-soon (TakeNews answer ∷ H) = soon H
-soon (Acknowledge now r answer result ∷ H) = let l = soon H in omega (arith, l)
-soon (Broadcast now group bytes answer ∷ H) = let l = soon H in omega (arith, l)
-soon (TakeBroadcastEnded answer ∷ H) = soon H
+later_by_one : (H : List Call) (call : Call) (e : ℕ) → PacketSince H e → PacketSince (call ∷ H) (e + step H (moment (call ∷ H)))
+later_by_one H call e h = record {
+  later = call ∷ h.later;
+  earlier = h.earlier;
+  at = h.at;
+  packet = h.packet;
+  is = ap (λ G. call ∷ G) h.is;
+  of_packets = h.of_packets;
+  passed = ap (λ (n : ℕ). n + step H (moment (call ∷ H))) h.passed
+      ∙ ap (λ (G : List Call). passed_in h.later (TakeFrame h.at (Some h.packet) ∷ h.earlier) + step G (moment (call ∷ G))) h.is;
+}
+
+-- a pause that lasts began with a frame of packets
+abbrev Began : List Call → Type 0
+Began H = 0 < pause H → (e : ℕ) × PacketSince H e × (pause H + e ≤ 50000)
+
+lets_pass : (H : List Call) (call : Call) → Began H → pause (call ∷ H) ≡ pause H - step H (moment (call ∷ H)) → Began (call ∷ H)
+lets_pass H call h p l =
+    let r = h (omega (arith, p, l)) in
+    let b = r.2 in
+    (r.0 + step H (moment (call ∷ H)), later_by_one H call r.0 r.1, omega (arith, p, l, b))
+
+says_nothing : (H : List Call) (call : Call) → Began H → moment (call ∷ H) ≡ moment H → pause (call ∷ H) ≡ pause H → Began (call ∷ H)
+says_nothing H call h m p = lets_pass H call h (omega (arith, p, m))
+
+taken_by : (H : List Call) (now : ℕ) (f : FrameRecord) (b : Bool) → is_packet f ≡ b → Began H → Began (TakeFrame now (Some f) ∷ H)
+taken_by H now f true k h = λ l.
+    let p = pause_is H now f true k in
+    (0, record { later = []; earlier = H; at = now; packet = f; is = refl; of_packets = k; passed = refl }, omega (arith, p))
+taken_by H now f false k h = lets_pass H (TakeFrame now (Some f)) h (pause_is H now f false k)
+
+began : (H : List Call) → Began H
+began [] = λ l. absurd (omega (arith, l))
+began (Hear f ∷ H) = lets_pass H (Hear f) (began H) refl
+began (Tick now ∷ H) = lets_pass H (Tick now) (began H) refl
+began (TakeFrame now None ∷ H) = lets_pass H (TakeFrame now None) (began H) refl
+began (TakeFrame now (Some f) ∷ H) = taken_by H now f (is_packet f) refl (began H)
+began (Send now d answer ∷ H) = lets_pass H (Send now d answer) (began H) refl
+began (TakeEnded answer ∷ H) = says_nothing H (TakeEnded answer) (began H) refl refl
+began (TakeReceived answer ∷ H) = says_nothing H (TakeReceived answer) (began H) refl refl
+began (TakeRequest answer ∷ H) = says_nothing H (TakeRequest answer) (began H) refl refl
+began (TakeNews answer ∷ H) = says_nothing H (TakeNews answer) (began H) refl refl
+began (Acknowledge now r answer result ∷ H) = lets_pass H (Acknowledge now r answer result) (began H) refl
+began (Broadcast now group bytes answer ∷ H) = lets_pass H (Broadcast now group bytes answer) (began H) refl
+began (TakeBroadcastEnded answer ∷ H) = says_nothing H (TakeBroadcastEnded answer) (began H) refl refl
 
 -- a frame that is left waits for the pause alone
 no_frame : (o : Option (ℕ × MessageRecord)) (i left : ℕ) → is_left o i ≡ true → packet_by o i left ≡ None → 0 < left
@@ -239,9 +268,9 @@ no_frame (Some x) i zero e f = absurd (let z = some (nat_le i (packets_of x.1)) 
     some false p q = absurd (cc)
 no_frame (Some x) i (suc left) e f = omega arith
 
-pub waits : (w : Who) (H : List Call) (c : Controller) (now : ℕ) → Is w (TakeFrame now None ∷ H) c → IsTrue (holds w H now)
+pausing : (w : Who) (H : List Call) (c : Controller) (now : ℕ) → Is w (TakeFrame now None ∷ H) c → IsTrue (holds w H now)
     → IsTrue (has_packets w H) → step H now < pause H
-waits w H c now is held some =
+pausing w H c now is held some =
     let l = no_frame (open_broadcast w H) (length (packets H)) (pause H - step H now) some
     (none (owes_claim w H) (holds w H now) (slice_get (due w H) (length (acknowledged H))) (slice_get (accepted w H) (length (sent H))) (next_packet w H now) held is.answered.1) in
     omega (arith, l)
@@ -329,3 +358,11 @@ all_told w H c is = go (open_broadcast w H) (laned w H is.answered.0) is.answere
         → (length (told_broadcasts H) ≡ length (broadcasts w H)) ⊎ (IsTrue (is_left o (length (packets H))) × (IsTrue (is_lost (address_after w H)) → ⊥))
     go None h e = inl h
     go (Some x) h e = let z = by _ (is_lost (address_after w H)) (length (packets H)) (packets_of x.1) x.0 refl e in inr (z.0, not_both _ z.1)
+
+pub waits : (w : Who) (H : List Call) (c : Controller) (now : ℕ) → Is w (TakeFrame now None ∷ H) c → IsTrue (holds w H now)
+    → IsTrue (has_packets w H) → (e : ℕ) × PacketSince H e × (e + step H now < 50000)
+waits w H c now is held some =
+    let l = pausing w H c now is held some in
+    let r = began H (omega (arith, l)) in
+    let b = r.2 in
+    (r.0, r.1, omega (arith, l, b))

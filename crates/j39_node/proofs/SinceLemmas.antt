@@ -1,13 +1,14 @@
 -- A claimed address was claimed by a frame that was taken.
-use Rattle.std.proofs.Common.{◌≡◌, ◌≤◌, ℕ, ◌+◌, ◌-◌, List, [], ◌∷◌, length, Some, None, Bool, true, false, if◌then◌else◌, nat_le, IsTrue, refl, sym, ap, ◌∙◌, subst, arith}
+use Rattle.std.proofs.Common.{◌≡◌, ◌≤◌, ℕ, ◌+◌, ◌-◌, List, [], ◌∷◌, ◌++◌, length, nat_eq, Some, None, Bool, true, false, if◌then◌else◌, nat_le, IsTrue, refl, sym, ap, ◌∙◌, subst, arith}
 use Rattle.j39_frame.specs.Frame.{FrameRecord}
+use Rattle.j39_frame.specs.Network.{address_claimed_group}
 use Rattle.j39_address.specs.Claim.{claim_of}
 use Rattle.j39_node.specs.declared.controller.Controller.{Controller}
-use Rattle.j39_node.specs.History.{Who, Call, Address, address_after, claim_address, claim_from, claimed, content, holds, is_claim, is_held, is_smaller, moment, older, open_broadcast, packets, pause, step}
+use Rattle.j39_node.specs.History.{Who, Call, Message, Address, address_after, claim_address, claim_from, claimed, content, holds, is_claim, is_held, is_lost, is_smaller, moment, older, open_broadcast, packets, pause, step}
 use Rattle.j39_node.specs.History.Call.{Hear, Tick, TakeFrame, Send, TakeEnded, TakeReceived, TakeRequest, TakeNews, Acknowledge, Broadcast, TakeBroadcastEnded}
 use Rattle.j39_node.specs.History.Address.{NotClaimed, Claimed, Lost}
 use Rattle.j39_node.specs.Is.{Is, AreAnswered}
-use Rattle.j39_node.specs.Since.{ClaimedSince, drives_away, passed_in}
+use Rattle.j39_node.specs.Since.{ClaimedSince, NoneDrivesAway, drives_away, passed_in}
 use Rattle.j39_node.proofs.SoundLemmas.{FrameCase, frame_case, own_get, due_get, due_taken, message_taken, packet_taken, sound}
 use Rattle.j39_node.proofs.SoundLemmas.FrameCase.{claims, acknowledges, sends, packs}
 
@@ -118,3 +119,68 @@ pub held_since : (w : Who) (H : List Call) (c : Controller) (now : ℕ) → Is w
 held_since w H c now is h =
     let x = held_cases (step H now) (address_after w H) h in
     (x.0, claimed_since w H x.0 is.answered x.1, x.2)
+
+-- ---- an address that is claimed is held in time
+
+-- it is lost, or was claimed so long ago
+data Stands (a : Address) (p : ℕ) : Type 0 where
+  gone : a ≡ Lost → Stands a p
+  stands : (e : ℕ) → a ≡ Claimed e → p ≤ e → Stands a p
+
+ages : (a b : Address) (s p : ℕ) → Stands a p → b ≡ older s a → Stands b (p + s)
+ages a b s p (gone e) f = gone (f ∙ ap (older s) e)
+ages a b s p (stands e g l) f = stands (e + s) (f ∙ ap (older s) g) (omega (arith, l))
+
+-- no time passes
+waits : (a : Address) (s p : ℕ) → Stands a p → s ≡ 0 → Stands a (p + s)
+waits a s p (gone e) z = gone e
+waits a s p (stands e g l) z = stands e g (omega (arith, l, z))
+
+claims_again : (b : Bool) (a : Address) (p : ℕ) → Stands a p → Stands (if b then claimed a else a) p
+claims_again false a p h = h
+claims_again true a p (gone e) = gone (ap claimed e)
+claims_again true a p (stands e g l) = stands e (ap claimed g) l
+
+first_claim : (b : Bool) (a : Address) → b ≡ true → Stands (if b then claimed a else a) 0
+first_claim false a e = absurd (cc)
+first_claim true NotClaimed e = stands 0 refl (omega arith)
+first_claim true (Claimed n) e = stands n refl (omega arith)
+first_claim true Lost e = gone refl
+
+stands_since : (w : Who) (later E : List Call) (at : ℕ) (f : FrameRecord) → is_claim f ≡ true → NoneDrivesAway w later
+    → Stands (address_after w (later ++ TakeFrame at (Some f) ∷ E)) (passed_in later (TakeFrame at (Some f) ∷ E))
+stands_since w [] E at f k d = first_claim (is_claim f) (older (step E at) (address_after w E)) k
+stands_since w (Hear g ∷ later) E at f k d =
+    let H = later ++ TakeFrame at (Some f) ∷ E in
+    ages (address_after w H) _ (step H g.stamp) _ (stands_since w later E at f k d.1)
+    (ap (λ (b : Bool). if b then Lost else older (step H g.stamp) (address_after w H)) d.0)
+stands_since w (Tick now ∷ later) E at f k d = ages _ _ (step (later ++ TakeFrame at (Some f) ∷ E) now) _ (stands_since w later E at f k d.1) refl
+stands_since w (TakeFrame now None ∷ later) E at f k d = ages _ _ (step (later ++ TakeFrame at (Some f) ∷ E) now) _ (stands_since w later E at f k d.1) refl
+stands_since w (TakeFrame now (Some g) ∷ later) E at f k d =
+    let H = later ++ TakeFrame at (Some f) ∷ E in
+    claims_again (is_claim g) (older (step H now) (address_after w H)) _ (ages (address_after w H) _ (step H now) _ (stands_since w later E at f k d.1) refl)
+stands_since w (Send now draft answer ∷ later) E at f k d = ages _ _ (step (later ++ TakeFrame at (Some f) ∷ E) now) _ (stands_since w later E at f k d.1) refl
+stands_since w (TakeEnded answer ∷ later) E at f k d = waits _ _ _ (stands_since w later E at f k d.1) (omega arith)
+stands_since w (TakeReceived answer ∷ later) E at f k d = waits _ _ _ (stands_since w later E at f k d.1) (omega arith)
+stands_since w (TakeRequest answer ∷ later) E at f k d = waits _ _ _ (stands_since w later E at f k d.1) (omega arith)
+stands_since w (TakeNews answer ∷ later) E at f k d = waits _ _ _ (stands_since w later E at f k d.1) (omega arith)
+stands_since w (Acknowledge now r answer result ∷ later) E at f k d =
+    ages _ _ (step (later ++ TakeFrame at (Some f) ∷ E) now) _ (stands_since w later E at f k d.1) refl
+stands_since w (Broadcast now group bytes answer ∷ later) E at f k d =
+    ages _ _ (step (later ++ TakeFrame at (Some f) ∷ E) now) _ (stands_since w later E at f k d.1) refl
+stands_since w (TakeBroadcastEnded answer ∷ later) E at f k d = waits _ _ _ (stands_since w later E at f k d.1) (omega arith)
+
+in_time : (s p : ℕ) (a : Address) → Stands a p → (IsTrue (is_lost a) → ⊥) → 250000 ≤ p + s → is_held (older s a) ≡ true
+in_time s p a (gone e) n l = absurd (n (ap is_lost e))
+in_time s p a (stands e g m) n l = ap (λ (x : Address). is_held (older s x)) g ∙ enough (e + s) (omega (arith, l, m))
+  where
+    enough : (k : ℕ) → 250000 ≤ k → nat_le 250000 k ≡ true
+    enough k h = grind arith
+
+pub held_in_time : (w : Who) (H : List Call) (now e : ℕ) → ClaimedSince w H e → (IsTrue (is_lost (address_after w H)) → ⊥) → 250000 ≤ e + step H now
+    → IsTrue (holds w H now)
+held_in_time w H now e h n l =
+    let k : is_claim h.claim ≡ true = ap (λ (m : Message). nat_eq m.group address_claimed_group) h.claims in
+    let s = stands_since w h.later h.earlier h.at h.claim k h.stays in
+    let z = subst (λ (G : List Call). Stands (address_after w G) (passed_in h.later (TakeFrame h.at (Some h.claim) ∷ h.earlier))) (sym h.is) s in
+    in_time (step H now) e (address_after w H) (subst (Stands (address_after w H)) (sym h.passed) z) n l

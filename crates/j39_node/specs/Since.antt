@@ -1,8 +1,8 @@
--- Since when an address is claimed, by places of the history.
-use Rattle.std.specs.Prelude.{◌≡◌, ℕ, ◌+◌, Bool, false, List, [], ◌∷◌, ◌++◌, Some}
+-- Since when an address is claimed, and since when a frame of packets was taken, by places of the history.
+use Rattle.std.specs.Prelude.{◌≡◌, ℕ, ◌+◌, Bool, false, List, [], ◌∷◌, ◌++◌, Some, IsTrue}
 use Rattle.j39_frame.specs.Frame.{FrameRecord}
 use Rattle.j39_address.specs.Claim.{claim_of}
-use Rattle.j39_node.specs.History.{Who, Call, claim_from, is_smaller, message_of, moment, step}
+use Rattle.j39_node.specs.History.{Who, Call, claim_from, is_packet, is_smaller, message_of, moment, step}
 use Rattle.j39_node.specs.History.Call.{Hear, TakeFrame}
 
 -- the sum of the forward steps of these later calls, from the moment of the earlier ones on
@@ -29,3 +29,13 @@ pub record ClaimedSince (w : Who) (H : List Call) (e : ℕ) : Type 0 where
   pub claims : message_of claim ≡ claim_from w w.address
   pub stays : NoneDrivesAway w later
   pub passed : e ≡ passed_in later (TakeFrame at (Some claim) ∷ earlier)
+
+-- a frame of packets was taken at a call of H; e microseconds passed since
+pub record PacketSince (H : List Call) (e : ℕ) : Type 0 where
+  pub later : List Call
+  pub earlier : List Call
+  pub at : ℕ
+  pub packet : FrameRecord
+  pub is : H ≡ later ++ TakeFrame at (Some packet) ∷ earlier
+  pub of_packets : IsTrue (is_packet packet)
+  pub passed : e ≡ passed_in later (TakeFrame at (Some packet) ∷ earlier)

@@ -16,9 +16,9 @@ ghost use Rattle.j39_node.specs.declared.kinds.News.{News};
 ghost use Rattle.j39_node.specs.declared.kinds.News.TheVariants as news;
 ghost use Rattle.j39_node.specs.declared.kinds.Refused.{Refused};
 ghost use Rattle.j39_node.specs.declared.kinds.Refused.TheVariants as refused;
-ghost use Rattle.j39_node.specs.History.{Who, Asked, Call, Message, Draft, IsFront, accepted, acknowledgment, acknowledgment_group, asked, handed, is_served, requests, lost_news, another_news, missed_news, address_after, calls_for_claim, can_send, claim_address, claim_from, content, acknowledged, due, frames, got, heard, holds, is_lost, kept, message_of, missed, moment, next_due, owes_claim, sent, step, told, all_frames, broadcasts, can_broadcast, first_frames, frame_of, has_packets, is_packet, open_broadcast, packets, pause, told_broadcasts};
+ghost use Rattle.j39_node.specs.History.{Who, Asked, Call, Message, Draft, IsFront, accepted, acknowledgment, acknowledgment_group, asked, handed, is_served, requests, lost_news, another_news, missed_news, address_after, calls_for_claim, can_send, claim_address, claim_from, content, acknowledged, due, frames, got, heard, holds, is_lost, kept, message_of, missed, moment, next_due, owes_claim, sent, step, told, all_frames, broadcasts, can_broadcast, first_frames, frame_of, has_packets, is_packet, open_broadcast, packets, told_broadcasts};
 ghost use Rattle.j39_node.specs.History.Call.{Acknowledge, Broadcast, TakeBroadcastEnded, Hear, TakeNews, Tick, TakeFrame, TakeRequest, Send, TakeEnded, TakeReceived};
-ghost use Rattle.j39_node.specs.Since.{ClaimedSince, passed_in};
+ghost use Rattle.j39_node.specs.Since.{ClaimedSince, PacketSince, passed_in};
 ghost use Rattle.j39_node.specs.Example.{example, two};
 ghost use Rattle.j39_node.specs.Is.{AreAnswered, Is, status_after};
 
@@ -33,10 +33,13 @@ pub fn sources()
         ⊎ (IsTrue (holds w H now) × (source_of f.id ≡ w.address) × (pgn_of f.id ≢ address_claimed_group)) }
 {}
 
-/// Where an address is held, a claim of it was taken, no smaller NAME's claim of it was heard since, and 250 ms or more passed.
+/// Where an address is held, a claim of it was taken, no smaller NAME's claim of it was heard since, and 250 ms or more passed; and
+/// where that is so, and the address isn't lost, it is held.
 pub fn held_means()
-    ensures { (w : Who) (H : List Call) (c : Controller) (now : ℕ) → Is w H c → IsTrue (holds w H now)
+    ensures since { (w : Who) (H : List Call) (c : Controller) (now : ℕ) → Is w H c → IsTrue (holds w H now)
         → (e : ℕ) × ClaimedSince w H e × (250000 ≤ e + step H now) }
+    ensures in_time { (w : Who) (H : List Call) (now e : ℕ) → ClaimedSince w H e → (IsTrue (is_lost (address_after w H)) → ⊥)
+        → 250000 ≤ e + step H now → IsTrue (holds w H now) }
 {}
 
 /// The tokens of the messages accepted are 0, 1, 2 and so on, and in this order each is told once to have ended, after it was
@@ -209,7 +212,7 @@ pub fn broadcast_means()
 
 /// The frames of packets that are taken since a broadcast was accepted are its announcement and packets, in order, and no others are
 /// taken. Each comes from the address that is held, where no message and no acknowledgment waits, and 50 ms or more after the one
-/// before. Where one is left and none is taken, the pause isn't over, which never is longer than 50 ms.
+/// before. Where the address is held and one is left, but no frame is taken, one of packets was taken less than 50 ms before.
 pub fn packets_mean()
     ensures in_order { (w : Who) (H : List Call) (c : Controller) (k : ℕ) (m : MessageRecord) → Is w H c
         → open_broadcast w H ≡ Some (k, m)
@@ -226,8 +229,7 @@ pub fn packets_mean()
         → IsTrue (is_packet f) → IsTrue (is_packet g)
         → 50000 ≤ passed_in (TakeFrame now (Some g) ∷ later) (TakeFrame at (Some f) ∷ H) }
     ensures waits { (w : Who) (H : List Call) (c : Controller) (now : ℕ) → Is w (TakeFrame now None ∷ H) c
-        → IsTrue (holds w H now) → IsTrue (has_packets w H) → step H now < pause H }
-    ensures soon { (H : List Call) → pause H ≤ 50000 }
+        → IsTrue (holds w H now) → IsTrue (has_packets w H) → (e : ℕ) × PacketSince H e × (e + step H now < 50000) }
 {}
 
 /// The tokens of the broadcasts accepted are 0, 1, 2 and so on, and in this order each is told once to have ended: as done exactly

@@ -15,6 +15,3 @@ returns-clause-spaced c = law.spaced
 
 pub returns-clause-waits : goal.returns-clause-waits
 returns-clause-waits c = law.waits
-
-pub returns-clause-soon : goal.returns-clause-soon
-returns-clause-soon c = law.soon
