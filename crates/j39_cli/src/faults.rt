@@ -34,16 +34,17 @@ before of that group from that address, or that is the first. With --all, of eac
 message. With --changes instead what became of each active code from one DM1 of an
 address to its next under the same NAME: set (that before doesn't name it, or there
 is none), again (its count rose), cleared (this one doesn't name it); silence clears
-none. With --now the codes that are active at the end: those that the last DM1 of
-each controller names, or that it names none; behind the NAME stand the time of that
-message, and in how many one behind the other the code is named, the first of which
-has the line's time. The line has the time, the source address (hex), the NAME of the device at
-that address (hex, or dashes where no claim before tells it), the state, or what
+none. With --now instead, at the end of the log, each code that the last DM1 of a
+controller names, or that it names none. Then the line's time is that of the first
+DM1 since which the controller names the code; behind the NAME stand the time of the
+last DM1, and how many there are. Who fell silent still stands there. The line has
+the time, the source address (hex), the NAME of the device at that address (hex, or
+dashes where no claim before tells it), the state, or what
 became of the code, the SPN, the FMI, how often it came (or -), the lamps of the
 device (a flashing one with *, or - where all are off), what the table calls the
 parameter, and what the FMI means. A message with no code writes none. Who asks to
-clear codes is told too, but for --changes: the previously active ones (DM3), or
-the active ones (DM11), of all (FF) or of one.";
+clear codes is told too, but for --changes and --now: the previously active ones
+(DM3), or the active ones (DM11), of all (FF) or of one.";
 
 const HELP: &str = "\
 At the end the counts go to standard error:
@@ -51,7 +52,8 @@ At the end the counts go to standard error:
   other     lines that hold no such frame: of another bus, standard or remote
             frames, CAN FD, error frames
   unread    lines of no form that candump -l or -L writes
-  messages  messages of faults that were heard, in one frame or in packets
+  messages  messages of faults that were heard, in one frame or in packets; with
+            --now those of DM1
   lines     lines written
   broken    messages of codes that a BAM or an RTS announced and that were not heard
 
@@ -73,7 +75,7 @@ pub(crate) fn command<'a>(alloc: Global) -> Result<Command<'a>, AllocError>
     let command = with_flag(alloc, command, "all", help);
     let help = "What became of active codes: set, again (its count rose) or cleared";
     let command = with_flag(alloc, command, "changes", help);
-    let help = "The active codes at the end, since when, and in how many messages";
+    let help = "What the last DM1 of each controller names, since when, in how many messages";
     let command = with_flag(alloc, command, "now", help);
     with_log(alloc, with_csv(alloc, command))
 }

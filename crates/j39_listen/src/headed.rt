@@ -40,7 +40,8 @@ pub fn run_headed<A: Account, R: Source, W: Sink>(
     ran
 }
 
-/// Writes a head and an account as `run_headed` does, and hands the account back, with all that it has met.
+/// Writes a head and an account as `run_headed` does, and hands the account back: after a run that ended well it has met
+/// the log's frames.
 pub fn run_headed_keeping<A: Account, R: Source, W: Sink>(
     head: &[u8],
     account: A,

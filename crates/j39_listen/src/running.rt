@@ -82,7 +82,7 @@ pub fn run_over<A: Account, R: Source, W: Sink>(
     ran
 }
 
-/// Writes an account as `run_over` does, and hands it back, with all that it has met.
+/// Writes an account as `run_over` does, and hands it back: after a run that ended well it has met the log's frames.
 pub fn run_keeping<A: Account, R: Source, W: Sink>(
     account: A,
     source: &mut R,

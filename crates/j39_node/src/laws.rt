@@ -232,7 +232,7 @@ pub fn packets_mean()
         → IsTrue (holds w H now) → IsTrue (has_packets w H) → (e : ℕ) × PacketSince H e × (e + step H now < 50000) }
 {}
 
-/// The tokens of the broadcasts accepted are 0, 1, 2 and so on, and in this order each is told once to have ended: as done exactly
+/// The tokens of the broadcasts accepted are 0, 1, 2 and so on, and in this order each is told at most once to have ended: as done exactly
 /// where all its frames were taken, as withdrawn only where the address is lost. Where none is told, all are, or a frame is left and
 /// the address isn't lost.
 pub fn broadcast_done_means()

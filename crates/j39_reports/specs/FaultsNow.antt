@@ -58,7 +58,7 @@ names [] None = true
 names (one ∷ more) None = false
 names cs (Some code) = is_some (named_in cs code)
 
--- from this address, under this NAME or under none
+-- from this address, under the same NAME, or both under none
 abbrev pub tells : List Conversion → ℕ → Option ℕ → Option Code → Hearing → Bool
 tells conversions address name code m =
     is_at address m && (is_same_or_none m.name name && names (codes_in conversions m) code)
