@@ -12,9 +12,9 @@ use Rattle.j39_reports.specs.CurrentPlaces.{AreLeft, HaveTaken, LastRecord, Plac
 abbrev pub Boxes : Type 0
 Boxes = List (Option (Stored LastRecord))
 
--- a place filled
-pub put_in : (ps : Boxes) (i : ℕ) (b : Stored LastRecord) (v : LastRecord) → value_of b ≡ v → shown (slice_set ps i (Some b)) ≡ slice_set (shown ps) i (Some v)
-put_in ps i b v e = map-set stored_in ps i (Some b) ∙ ap (λ x. slice_set (shown ps) i (Some x)) e
+-- a place filled, or left empty
+pub put_in : (ps : Boxes) (i : ℕ) (b : Option (Stored LastRecord)) → shown (slice_set ps i b) ≡ slice_set (shown ps) i (stored_in b)
+put_in ps i b = map-set stored_in ps i b
 
 -- a place left empty
 pub left_empty : (ps : Boxes) (i : ℕ) → shown (slice_set ps i None) ≡ slice_set (shown ps) i None
@@ -37,26 +37,21 @@ module _ (name : Option ℕ) (old : Places) where
   pub none_left : AreLeft name old 0 old
   none_left = record { long = refl; left = λ a l. absurd (omega (arith, l)); rest = λ a l. refl }
 
-  pub one_left : (n : ℕ) (new : Places) → n < length old → AreLeft name old n new → left_by name (at new n) ≡ None → AreLeft name old (n + 1) (slice_set new n None)
-  one_left n new below h is = record {
-    long = length-set new n None ∙ h.long;
+  pub one_left : (n : ℕ) (new : Places) (here : Option LastRecord) → n < length old → AreLeft name old n new → here ≡ left_by name (at new n)
+      → AreLeft name old (n + 1) (slice_set (slice_set new n None) n here)
+  one_left n new here below h is = record {
+    long = length-set (slice_set new n None) n here ∙ length-set new n None ∙ h.long;
     left = λ a l. elim (cases_eq a n) [
-      | inl e ↦ ap (λ k. at (slice_set new n None) k) e ∙ get_or-set_same new n None None (let m = h.long in omega (arith, below, m))
-          ∙ sym is ∙ ap (left_by name) (h.rest n (omega arith)) ∙ ap (λ k. left_by name (at old k)) (sym e)
-      | inr e ↦ get_or-set_other new n a None None e ∙ h.left a (omega (arith, l, e))
+      | inl e ↦ ap (λ k. at (slice_set (slice_set new n None) n here) k) e
+          ∙ get_or-set_same (slice_set new n None) n here None (let m = length-set new n None ∙ h.long in omega (arith, below, m))
+          ∙ is ∙ ap (left_by name) (h.rest n (omega arith)) ∙ ap (λ k. left_by name (at old k)) (sym e)
+      | inr e ↦ there a e ∙ h.left a (omega (arith, l, e))
     ];
-    rest = λ a l. get_or-set_other new n a None None (λ e. (omega (arith, l, e))) ∙ h.rest a (omega (arith, l));
+    rest = λ a l. there a (λ e. (omega (arith, l, e))) ∙ h.rest a (omega (arith, l));
   }
-
-  pub one_stays : (n : ℕ) (new : Places) → AreLeft name old n new → left_by name (at new n) ≡ at new n → AreLeft name old (n + 1) new
-  one_stays n new h is = record {
-    long = h.long;
-    left = λ a l. elim (cases_eq a n) [
-      | inl e ↦ ap (at new) e ∙ sym is ∙ ap (left_by name) (h.rest n (omega arith)) ∙ ap (λ k. left_by name (at old k)) (sym e)
-      | inr e ↦ h.left a (omega (arith, l, e))
-    ];
-    rest = λ a l. h.rest a (omega (arith, l));
-  }
+    where
+      there : (a : ℕ) → (a ≡ n → ⊥) → at (slice_set (slice_set new n None) n here) a ≡ at new a
+      there a e = get_or-set_other (slice_set new n None) n a here None e ∙ get_or-set_other new n a None None e
 
 -- ---- a message is taken
 

@@ -87,7 +87,7 @@ impl Places {
         let before = self.take_out(source);
         self.leave(heard.name);
         let last = next(alloc, before, conversions, heard, lamps)?;
-        self.put(source, last);
+        self.put(source, Some(last));
         Ok(())
     }
 
@@ -96,20 +96,8 @@ impl Places {
         ensures { length self.old ≡ 256 → AreLeft (option_map name_raw name) self.old 256 self.new }
     {
         for address in 0..SOURCES {
-            if self.is_of(address, name) {
-                let _left = self.take_out(address);
-            }
-        }
-    }
-
-    /// Whether something was said there, under this NAME.
-    fn is_of(&self, address: usize, name: Option<Name>) -> bool
-        requires { address < 256 }
-        ensures { left_by (option_map name_raw name) (at self.now address) ≡ (if result then None else at self.now address) }
-    {
-        match self.get(address) {
-            Some(last) => last.is_of(name),
-            None => false,
+            let last = self.take_out(address);
+            self.put(address, left(last, name));
         }
     }
 
@@ -123,13 +111,23 @@ impl Places {
         self.places[address].take()
     }
 
-    /// Puts in what is said there.
+    /// Puts in what is said there, if anything is.
     #[tactic(auto, using(crate::proofs::NowPlaceLemmas::put_in))]
-    fn put(&mut self, address: usize, last: Stored<LastActive>)
+    fn put(&mut self, address: usize, last: ActiveBox)
         requires { address < 256 }
-        ensures { self.new ≡ slice_set self.old address (Some (value_of last)) }
+        ensures { self.new ≡ slice_set self.old address (stored_in last) }
     {
-        self.places[address] = Some(last);
+        self.places[address] = last;
+    }
+}
+
+/// What was said, unless it was under this NAME.
+fn left(last: ActiveBox, name: Option<Name>) -> ActiveBox
+    ensures { stored_in result ≡ left_by (option_map name_raw name) (stored_in last) }
+{
+    match last {
+        Some(last) => { if last.is_of(name) { None } else { Some(last) } }
+        None => None,
     }
 }
 
