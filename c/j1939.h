@@ -375,7 +375,7 @@ int32_t j1939_sender_close(j1939_sender *sender);
 /* ---- a controller: all of it in one loop (J1939-21, J1939-81)
  *
  * At each frame that another controller sent: j1939_controller_hear, and then .._take_received and .._take_asked until
- * they answer 0. Each 10 to 100 ms: j1939_controller_pass; then hand in what is to be sent, by .._send, .._broadcast or
+ * they answer 0. Each 10 to 80 ms: j1939_controller_pass; then hand in what is to be sent, by .._send, .._broadcast or
  * .._transfer; then j1939_controller_turn; then .._take_settled until it answers 0, and, as the bus is free,
  * .._take_frame. What is not taken is kept, without limit. Messages are handed in under a number of your own, by which
  * their end is told.

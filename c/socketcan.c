@@ -1,8 +1,9 @@
 /* A controller on a CAN interface of Linux: it claims an address and keeps it, sends an engine speed, receives what is
  * sent to it, and answers requests for its VIN. Where it has a destination it sends that its VIN once, and asks for the
- * other's until one came. What it sends is printed as candump -L writes it.
+ * other's until one came. What it sends is printed as candump -L writes it, once the interface took it: where its queue is
+ * full the frame waits, and is handed over again.
  *
- *   socketcan INTERFACE NAME ADDRESS [DESTINATION]   on an interface, for ever: NAME and the addresses are hex
+ *   socketcan INTERFACE NAME ADDRESS [DESTINATION]   on an interface, until SIGINT or SIGTERM: NAME and the addresses are hex
  *   socketcan --socketpair                           two of them in two processes, for two seconds, with a socketpair
  *                                                    for a bus: both claim address 80; one sends the other its VIN,
  *                                                    and asks for the other's
@@ -10,10 +11,14 @@
 #define _DEFAULT_SOURCE
 #include "j1939.h"
 
+#include <errno.h>
 #include <inttypes.h>
 #include <linux/can.h>
+#include <linux/can/error.h>
+#include <linux/can/raw.h>
 #include <net/if.h>
 #include <poll.h>
+#include <signal.h>
 #include <stdio.h>
 #include <stdlib.h>
 #include <string.h>
@@ -45,12 +50,28 @@ typedef struct {
     uint64_t request_due;   /* when the other's VIN is asked for */
     int is_sent, is_done;   /* its VIN is on its way or over; it was acknowledged */
     unsigned received;      /* how many messages came */
+    j1939_frame waiting;    /* a frame that the interface didn't take yet, where there is one */
+    int has_waiting;
 } station;
 
-static uint64_t moment(void) {
+/* Set by a signal that asks it to end. */
+static volatile sig_atomic_t is_over;
+
+static void end(int signal) {
+    (void)signal;
+    is_over = 1;
+}
+
+/* The microseconds of a clock. */
+static uint64_t micros_of(clockid_t clock) {
     struct timespec t;
-    clock_gettime(CLOCK_REALTIME, &t);
+    clock_gettime(clock, &t);
     return (uint64_t)t.tv_sec * 1000000 + (uint64_t)t.tv_nsec / 1000;
+}
+
+/* The moment, by a clock that nobody sets. */
+static uint64_t moment(void) {
+    return micros_of(CLOCK_MONOTONIC);
 }
 
 /* Ends the program where a call answers an error: each is a fault of this program, or want of memory. */
@@ -64,29 +85,51 @@ static int32_t sure(int32_t answer) {
 
 /* ---- the bus */
 
-/* Sends a frame, and prints it. */
-static void say(const station *s, const j1939_frame *frame) {
+/* Ends the program where the interface or standard output is gone. */
+static void fail(void) {
+    perror("socketcan");
+    exit(1);
+}
+
+/* Prints a frame that was sent. */
+static void print(const station *s, const j1939_frame *frame) {
     char line[80];
-    uint64_t now = moment();
-    struct can_frame can = {.can_id = frame->id | CAN_EFF_FLAG, .can_dlc = frame->len};
-    memcpy(can.data, frame->data, frame->len);
+    uint64_t now = micros_of(CLOCK_REALTIME);
     int size = snprintf(line, sizeof line, "(%010" PRIu64 ".%06" PRIu64 ") %.16s %08" PRIX32 "#", now / 1000000,
                         now % 1000000, s->bus, frame->id);
     for (int i = 0; i < frame->len; i++)
         size += snprintf(line + size, sizeof line - (size_t)size, "%02X", frame->data[i]);
     line[size++] = '\n';
-    if (write(s->socket, &can, sizeof can) != sizeof can || write(STDOUT_FILENO, line, (size_t)size) != size) {
-        perror("socketcan");
-        exit(1);
-    }
+    if (write(STDOUT_FILENO, line, (size_t)size) != size) fail();
 }
 
-/* Waits a millisecond for a frame; 0 where none came, or one that is none of J1939's. */
-static int next_frame(const station *s, j1939_frame *frame) {
+/* Hands a frame to the interface, and prints it; 0 where there is no room for it now. */
+static int say(const station *s, const j1939_frame *frame) {
+    struct can_frame can = {.can_id = frame->id | CAN_EFF_FLAG, .can_dlc = frame->len};
+    memcpy(can.data, frame->data, frame->len);
+    if (send(s->socket, &can, sizeof can, MSG_DONTWAIT) != sizeof can) {
+        if (errno != ENOBUFS && errno != EAGAIN && errno != EINTR) fail();
+        return 0;
+    }
+    print(s, frame);
+    return 1;
+}
+
+/* Waits for a frame until this moment at most; 0 where none came, or one that is none of J1939's. */
+static int next_frame(const station *s, uint64_t due, j1939_frame *frame) {
     struct pollfd ready = {.fd = s->socket, .events = POLLIN};
     struct can_frame can;
-    if (poll(&ready, 1, 1) != 1 || read(s->socket, &can, sizeof can) != sizeof can) return 0;
-    if (!(can.can_id & CAN_EFF_FLAG) || can.can_id & (CAN_RTR_FLAG | CAN_ERR_FLAG) || can.can_dlc > 8) return 0;
+    uint64_t now = moment();
+    if (poll(&ready, 1, now < due ? (int)((due - now + 999) / 1000) : 0) != 1) return 0;
+    if (recv(s->socket, &can, sizeof can, MSG_DONTWAIT) != sizeof can) {
+        if (errno != EAGAIN && errno != EINTR) fail();
+        return 0;
+    }
+    if (can.can_id & CAN_ERR_FLAG) {
+        fprintf(stderr, "%.16s: %s\n", s->bus, can.can_id & CAN_ERR_BUSOFF ? "bus off" : "on the bus again");
+        return 0;
+    }
+    if (!(can.can_id & CAN_EFF_FLAG) || can.can_id & CAN_RTR_FLAG || can.can_dlc > 8) return 0;
     *frame = (j1939_frame){.micros = moment(), .id = can.can_id & CAN_EFF_MASK, .len = can.can_dlc};
     memcpy(frame->data, can.data, can.can_dlc);
     return 1;
@@ -159,7 +202,6 @@ static void hear(station *s, const j1939_frame *frame) {
 
 /* A turn of the loop: time passes, and what is to be sent goes out. */
 static void turn(station *s, uint64_t now) {
-    j1939_frame out;
     size_t number;
     uint8_t reason;
     int32_t ended;
@@ -170,17 +212,20 @@ static void turn(station *s, uint64_t now) {
         if (number != SINGLE) s->is_done = ended == J1939_ENDED_DONE;
         if (number == OWN) s->is_sent = ended != J1939_ENDED_WITHDRAWN;
     }
-    while (sure(j1939_controller_take_frame(&s->controller, &out, &number))) say(s, &out);
+    while (s->has_waiting || sure(j1939_controller_take_frame(&s->controller, &s->waiting, &number))) {
+        s->has_waiting = !say(s, &s->waiting);
+        if (s->has_waiting) break;
+    }
 }
 
-/* Runs a controller until a moment. */
-static void run(station *s, uint64_t name, uint8_t preferred, uint64_t end) {
+/* Runs a controller until a moment, or a signal. */
+static void run(station *s, uint64_t name, uint8_t preferred, uint64_t last) {
     j1939_frame frame;
     s->controller = (j1939_controller)J1939_EMPTY;
     s->start = moment();
     sure(j1939_controller_new(&s->controller, name, preferred));
-    for (uint64_t due = s->start; moment() < end;) {
-        if (next_frame(s, &frame)) hear(s, &frame);
+    for (uint64_t due = s->start; moment() < last && !is_over;) {
+        if (next_frame(s, due, &frame)) hear(s, &frame);
         if (moment() >= due) {
             turn(s, moment());
             due += TURN;
@@ -190,13 +235,17 @@ static void run(station *s, uint64_t name, uint8_t preferred, uint64_t end) {
 
 /* ---- the program */
 
-/* A socket of an interface. */
+/* A socket of an interface: data frames of 29 bits, and what is told of the bus itself. */
 static int open_interface(const char *name) {
     struct ifreq request = {0};
     struct sockaddr_can address = {.can_family = AF_CAN};
+    struct can_filter wanted = {.can_id = CAN_EFF_FLAG, .can_mask = CAN_EFF_FLAG | CAN_RTR_FLAG};
+    can_err_mask_t told = CAN_ERR_BUSOFF | CAN_ERR_RESTARTED;
     int at = socket(PF_CAN, SOCK_RAW, CAN_RAW);
     snprintf(request.ifr_name, sizeof request.ifr_name, "%s", name);
     if (at < 0 || ioctl(at, SIOCGIFINDEX, &request) != 0) return -1;
+    if (setsockopt(at, SOL_CAN_RAW, CAN_RAW_FILTER, &wanted, sizeof wanted) != 0) return -1;
+    if (setsockopt(at, SOL_CAN_RAW, CAN_RAW_ERR_FILTER, &told, sizeof told) != 0) return -1;
     address.can_ifindex = request.ifr_ifindex;
     return bind(at, (const struct sockaddr *)&address, sizeof address) == 0 ? at : -1;
 }
@@ -237,6 +286,8 @@ int main(int argc, char **argv) {
         return 1;
     }
     s.destination = argc == 5 ? (uint8_t)strtoul(argv[4], NULL, 16) : NOBODY;
+    signal(SIGINT, end);
+    signal(SIGTERM, end);
     run(&s, strtoull(argv[2], NULL, 16), (uint8_t)strtoul(argv[3], NULL, 16), UINT64_MAX);
-    return 0;
+    return j1939_controller_close(&s.controller) == 0 ? 0 : 1;
 }

@@ -10,7 +10,7 @@ _j1939_buses() {
 _j1939_options() {
   case $1 in
     '') echo --help -h --version -V ;;
-    report) echo --bus --table --spn --csv --help -h ;;
+    report) echo --bus --table --spn --from --to --pgn --since --until --csv --help -h ;;
     summary) echo --bus --table --csv --help -h ;;
     faults) echo --bus --table --conversion --all --changes --now --csv --help -h ;;
     nodes) echo --bus --csv --help -h ;;
@@ -37,7 +37,8 @@ _j1939() {
   case $command:$before:$word in
     *:--bus:*) offered=$(_j1939_buses) ;;
     *:--table:*) compopt -o default 2>/dev/null ;;
-    *:--name:* | *:--address:* | *:--source:* | *:--pgn:* | *:--at:* | *:--spn:* | *:--conversion:*) ;;
+    *:--name:* | *:--address:* | *:--source:* | *:--pgn:* | *:--at:* | *:--spn:* | *:--conversion:* | \
+      *:--from:* | *:--to:* | *:--since:* | *:--until:*) ;;
     *:-*) offered=$(_j1939_options "$command") ;;
     :* | help:*) offered=$commands ;;
     report:* | faults:* | summary:* | nodes:* | answer:* | survey:*) compopt -o default 2>/dev/null ;;

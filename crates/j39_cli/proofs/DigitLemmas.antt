@@ -10,6 +10,13 @@ use Rattle.j39_cli.specs.CutCommand.{IsMomentText, micros_of, moment_value, seco
 pub sixteen_digits : (text : List ℕ) → AllDigits 16 text → length text ≡ 16 → digits_value 16 text < 2 ^ 64
 sixteen_digits text digits is_length = subst (λ (n : ℕ). digits_value 16 text < 16 ^ n) is_length (digits_value-lt 16 text digits)
 
+-- at most two one of a byte
+pub two_digits : (text : List ℕ) → AllDigits 16 text → length text ≤ 2 → digits_value 16 text < 2 ^ 8
+two_digits text digits is_short =
+    let fits : digits_value 16 text < 16 ^ length text = digits_value-lt 16 text digits in
+    let limit : 16 ^ length text ≤ 16 ^ 2 = pow-le-pow_right (omega arith) is_short in
+    omega arith
+
 -- at most so many decimal digits write a number below that power of ten
 pub decimal_below : (text : List ℕ) (most : ℕ) → AllDigits 10 text → length text ≤ most → digits_value 10 text < 10 ^ most
 decimal_below text most digits is_short =

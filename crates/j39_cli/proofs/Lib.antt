@@ -4,6 +4,7 @@ pub mod DigitLemmas
 -- clap, from words to the command that it met: for `parse`
 pub mod PartLemmas
 pub mod TakenLemmas
+pub mod AskedLemmas
 pub mod ArgumentLemmas
 pub mod CommandLemmas
 pub mod MetLemmas

@@ -1,5 +1,5 @@
 -- How clap takes a command as it is spelled, and meets it with its texts.
-use Rattle.std.proofs.Common.{◌≡◌, ◌∙◌, ap, List, ℕ, ◌∷◌, refl, subst, sym, true, Option, Some, None, map}
+use Rattle.std.proofs.Common.{◌≡◌, ◌∙◌, ap, List, ◌∷◌, refl, subst, sym, true, Option, Some, None, map}
 use Rattle.std.specs.Prelude.{Err, Ok, option_map}
 use Rattle.clap.specs.Words.{App, Row, Shape, Text, built, is_simple, is_simple_and_free, subcommand_of, takes}
 use Rattle.clap.specs.Simple.{built_leaf}
@@ -80,6 +80,13 @@ input_read None file input Next r is next = next is.0 is.1
 input_read (Some name) file input Next r is next = record {
   in_range = λ _. next is.1 is.2;
   wrong = λ other. absurd (other is.0);
+}
+
+pub input_wrong : (text file : Option Text) (e : ParseFault) (Next : Answer → Type 0) → IsInput text file (Err e) → IsBusChecked text Next (Err e)
+input_wrong None file e Next is = absurd is
+input_wrong (Some name) file e Next is = record {
+  in_range = λ right. absurd (is.0 right);
+  wrong = λ _. subst (λ (f : ParseFault). IsWrong Bus (let r : Answer = Err f in r)) (sym is.1) refl;
 }
 
 module _ {T : Type 0} (InRange : Text → Type 0) (value : Text → T) (a : Argument) where

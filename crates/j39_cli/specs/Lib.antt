@@ -3,6 +3,7 @@ pub mod Rules
 pub mod Numbers
 pub mod Lists
 pub mod Spns
+pub mod Asked
 pub mod Form
 pub mod Command
 pub mod CommandWords

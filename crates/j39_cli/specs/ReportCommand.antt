@@ -1,5 +1,5 @@
--- The command `report [--bus B] [--table T] [--spn SPN,..] [--csv] [FILE]`.
-use Rattle.std.specs.Prelude.{◌≡◌, ◌⊎◌, ◌∷◌, ℕ, Bool, true, false, List, [], Option, None, Some, codes, option_map}
+-- The command `report [--bus B] [--table T] [--spn SPN,..] [--from A,..] [--to A,..] [--pgn PGN,..] [--since T] [--until T] [--csv] [FILE]`.
+use Rattle.std.specs.Prelude.{◌≡◌, ◌⊎◌, ◌∷◌, ℕ, Bool, true, false, List, [], Option, None, Some, Result, Ok, Err, codes, option_map}
 use Rattle.std.specs.Option.{ForSome}
 use Rattle.j39_io.specs.Turn.{Turn, Writes}
 use Rattle.clap.specs.Words.{App, Text, new_app, with_rule}
@@ -7,12 +7,14 @@ use Rattle.j39_groups.specs.Readings.{HaveSameGroups, rows_of_spns}
 use Rattle.j39_groups.specs.Row.{RowRecord}
 use Rattle.j39_listen.specs.Asking.{AsksForBoxes}
 use Rattle.j39_listen.specs.Headed.{Headed}
-use Rattle.j39_listen.specs.Output.{Making, MakesReport}
+use Rattle.j39_listen.specs.Filter.{FilterRecord, MakesFiltered}
+use Rattle.j39_listen.specs.Output.{Making}
 use Rattle.j39_listen.specs.declared.running.RunFault.TheVariants.{Memory}
 use Rattle.j39_log.specs.Bus.{IsBusName}
-use Rattle.j39_reports.specs.ReportRecords.{MakesRecords}
+use Rattle.j39_reports.specs.ReportRecords.{MakesFilteredRecords}
 use Rattle.j39_reports.specs.EntryText.{header_text}
-use Rattle.j39_cli.specs.Answer.{IsBusChecked, IsTask, IsValueChecked}
+use Rattle.j39_cli.specs.Answer.{IsBusChecked, IsTask, IsValueChecked, IsValueRead}
+use Rattle.j39_cli.specs.Asked.{IsAddressList, IsAsked, IsMoment, IsPgnList, IsSenderList, addresses_in, filter_in, moment_in, pgns_in, senders_in}
 use Rattle.j39_cli.specs.Form.{Form, Meaning, flag, option, value}
 use Rattle.j39_cli.specs.LogCommand.{IsRun, fault_text, format_of, opened_of, with_log}
 use Rattle.j39_cli.specs.Refusal.{error_line}
@@ -21,37 +23,84 @@ use Rattle.j39_cli.specs.Spns.{IsSpnList, spns_in}
 use Rattle.j39_cli.specs.declared.task.Argument.TheVariants as argument
 use Rattle.j39_listen.specs.declared.format.Format.{Format}
 use Rattle.j39_listen.specs.declared.format.Format.TheVariants.{Line, Record}
+use Rattle.j39_cli.specs.declared.asked.Asked.{Asked}
 use Rattle.j39_cli.specs.declared.task.LogInput.{LogInput}
+use Rattle.j39_cli.specs.declared.task.ParseFault.{ParseFault}
 use Rattle.j39_cli.specs.declared.task.Task.{Task}
 use Rattle.j39_cli.specs.declared.task.Task.TheVariants.{Report}
 
 -- ---- its words
 
+abbrev pub with_filter : App → App
+with_filter command =
+    with_rule (with_rule (with_rule (with_rule (with_rule command (option_rule (codes "from") false))
+    (option_rule (codes "to") false)) (option_rule (codes "pgn") false)) (option_rule (codes "since") false))
+    (option_rule (codes "until") false)
+
 abbrev pub report_app : App
 report_app =
-    with_log (with_rule (with_rule (with_table (new_app (codes "report"))) (option_rule (codes "spn") false))
+    with_log (with_rule (with_filter (with_rule (with_table (new_app (codes "report"))) (option_rule (codes "spn") false)))
     (flag_rule (codes "csv")))
 
-abbrev pub IsReportTask : Option (List ℕ) → Option (List ℕ) → Option (List ℕ) → Bool → Option (List ℕ) → Task → Type 0
-IsReportTask bus table spn csv file (Report input table' spns format) =
-    (input.bus ≡ bus) × (table' ≡ table) × (spns ≡ option_map spns_in spn) × (format ≡ format_of csv)
-    × (input.file ≡ file)
-IsReportTask bus table spn csv file t = ⊥
+abbrev pub IsReportTask : Option (List ℕ) → Option (List ℕ) → Option (List ℕ) → Option (List ℕ) → Option (List ℕ) → Option (List ℕ)
+    → Option (List ℕ) → Option (List ℕ) → Bool → Option (List ℕ) → Task → Type 0
+IsReportTask bus table spn from to pgn since until csv file (Report input table' spns asked format) =
+    (input.bus ≡ bus) × (table' ≡ table) × (spns ≡ option_map spns_in spn) × IsAsked from to pgn since until asked
+    × (format ≡ format_of csv) × (input.file ≡ file)
+IsReportTask bus table spn from to pgn since until csv file t = ⊥
 
-abbrev pub report_form : Option Text → Option Text → Option Text → Bool → Option Text → Form
-report_form bus table spn csv file = record {
+abbrev pub report_form : Option Text → Option Text → Option Text → Option Text → Option Text → Option Text → Option Text → Option Text
+    → Bool → Option Text → Form
+report_form bus table spn from to pgn since until csv file = record {
   called = codes "report";
-  arguments = option (codes "bus") bus ∷ option (codes "table") table ∷ option (codes "spn") spn ∷ flag (codes "csv") csv
-      ∷ value (codes "file") file ∷ [];
-  Answers = IsBusChecked bus (IsValueChecked IsSpnList argument.Spn spn (IsTask (IsReportTask bus table spn csv file)));
+  arguments = option (codes "bus") bus ∷ option (codes "table") table ∷ option (codes "spn") spn
+      ∷ option (codes "from") from ∷ option (codes "to") to ∷ option (codes "pgn") pgn ∷ option (codes "since") since
+      ∷ option (codes "until") until ∷ flag (codes "csv") csv ∷ value (codes "file") file ∷ [];
+  Answers = IsBusChecked bus (IsValueChecked IsSpnList argument.Spn spn (IsValueChecked IsSenderList argument.From from
+      (IsValueChecked IsAddressList argument.To to (IsValueChecked IsPgnList argument.Pgn pgn
+      (IsValueChecked IsMoment argument.Since since (IsValueChecked IsMoment argument.Until until
+      (IsTask (IsReportTask bus table spn from to pgn since until csv file))))))));
 }
+
+-- ---- what is read of the options of its filter
+
+-- each text that is given is in range
+pub record AreRead (from to pgn since until : Option (List ℕ)) (asked : Asked) : Type 0 where
+  pub from_is : IsValueRead IsSenderList senders_in argument.From from (Ok asked.from)
+  pub to_is : IsValueRead IsAddressList addresses_in argument.To to (Ok asked.to)
+  pub pgns_are : IsValueRead IsPgnList pgns_in argument.Pgn pgn (Ok asked.pgns)
+  pub since_is : IsValueRead IsMoment moment_in argument.Since since (Ok asked.since)
+  pub until_is : IsValueRead IsMoment moment_in argument.Until until (Ok asked.until)
+
+-- the fault is that of the first that isn't
+pub data IsFirstWrong (from to pgn since until : Option (List ℕ)) (asked : Asked) (e : ParseFault) : Type 0 where
+  the_senders : IsValueRead IsSenderList senders_in argument.From from (Err e) → IsFirstWrong from to pgn since until asked e
+  the_destinations : IsValueRead IsSenderList senders_in argument.From from (Ok asked.from)
+      → IsValueRead IsAddressList addresses_in argument.To to (Err e) → IsFirstWrong from to pgn since until asked e
+  the_groups : IsValueRead IsSenderList senders_in argument.From from (Ok asked.from)
+      → IsValueRead IsAddressList addresses_in argument.To to (Ok asked.to)
+      → IsValueRead IsPgnList pgns_in argument.Pgn pgn (Err e) → IsFirstWrong from to pgn since until asked e
+  the_first : IsValueRead IsSenderList senders_in argument.From from (Ok asked.from)
+      → IsValueRead IsAddressList addresses_in argument.To to (Ok asked.to)
+      → IsValueRead IsPgnList pgns_in argument.Pgn pgn (Ok asked.pgns)
+      → IsValueRead IsMoment moment_in argument.Since since (Err e) → IsFirstWrong from to pgn since until asked e
+  the_last : IsValueRead IsSenderList senders_in argument.From from (Ok asked.from)
+      → IsValueRead IsAddressList addresses_in argument.To to (Ok asked.to)
+      → IsValueRead IsPgnList pgns_in argument.Pgn pgn (Ok asked.pgns)
+      → IsValueRead IsMoment moment_in argument.Since since (Ok asked.since)
+      → IsValueRead IsMoment moment_in argument.Until until (Err e) → IsFirstWrong from to pgn since until asked e
+
+abbrev pub IsAskedRead : Option (List ℕ) → Option (List ℕ) → Option (List ℕ) → Option (List ℕ) → Option (List ℕ)
+    → Result Asked ParseFault → Type 0
+IsAskedRead from to pgn since until (Ok asked) = AreRead from to pgn since until asked
+IsAskedRead from to pgn since until (Err e) = (asked : Asked) × IsFirstWrong from to pgn since until asked e
 
 -- ---- its run
 
--- what it makes of the frames by a table
-abbrev pub makes_in : Format → List RowRecord → Making
-makes_in Line rows = MakesReport rows
-makes_in Record rows = Headed header_text (MakesRecords rows)
+-- what it makes of the frames by a table: the entries of the report that are asked for
+abbrev pub makes_in : Format → FilterRecord → List RowRecord → Making
+makes_in Line which rows = MakesFiltered rows which
+makes_in Record which rows = Headed header_text (MakesFilteredRecords rows which)
 
 -- memory was refused before the log was read: that is told, and nothing is written
 pub record IsNotBegun (status : ℕ) (log out err : Turn) : Type 0 where
@@ -61,17 +110,19 @@ pub record IsNotBegun (status : ℕ) (log out err : Turn) : Type 0 where
   pub told : Writes err (error_line (fault_text Memory) [])
 
 -- by the whole table, or by its rows of the parameters that are asked for
-abbrev pub IsReportRun : Option (List ℕ) → Format → List RowRecord → Option (List ℕ) → ℕ → Turn → Turn → Turn → Type 0
-IsReportRun None format rows bus status log out err = IsRun AsksForBoxes (makes_in format rows) bus status log out err
-IsReportRun (Some spns) format rows bus status log out err =
+abbrev pub IsReportRun : Option (List ℕ) → FilterRecord → Format → List RowRecord → Option (List ℕ) → ℕ → Turn → Turn → Turn
+    → Type 0
+IsReportRun None which format rows bus status log out err =
+    IsRun AsksForBoxes (makes_in format which rows) bus status log out err
+IsReportRun (Some spns) which format rows bus status log out err =
     ((kept : List RowRecord) × HaveSameGroups kept (rows_of_spns spns rows)
-    × IsRun AsksForBoxes (makes_in format kept) bus status log out err) ⊎ IsNotBegun status log out err
+    × IsRun AsksForBoxes (makes_in format which kept) bus status log out err) ⊎ IsNotBegun status log out err
 
-abbrev pub report_meaning : LogInput → Option (List ℕ) → Option (List ℕ) → Format → Meaning
-report_meaning input table spns format = record {
+abbrev pub report_meaning : LogInput → Option (List ℕ) → Option (List ℕ) → Asked → Format → Meaning
+report_meaning input table spns asked format = record {
   file = opened_of input.file;
   table = table;
   InRange = ForSome input.bus IsBusName;
   reads_log = true;
-  Performs = λ rows status log out err. IsReportRun spns format rows input.bus status log out err;
+  Performs = λ rows status log out err. IsReportRun spns (filter_in asked) format rows input.bus status log out err;
 }

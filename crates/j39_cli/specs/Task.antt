@@ -19,7 +19,7 @@ use Rattle.j39_cli.specs.declared.task.Task.{Task}
 use Rattle.j39_cli.specs.declared.task.Task.TheVariants.{Report, Summary, Faults, Nodes, Answer, Id, Name, Cut, Groups, Survey}
 
 abbrev pub meaning_of : Task → Meaning
-meaning_of (Report input table spns format) = report_meaning input table spns format
+meaning_of (Report input table spns asked format) = report_meaning input table spns asked format
 meaning_of (Summary input table format) = summary_meaning input table format
 meaning_of (Faults input table conversions told format) = faults_meaning input table conversions told format
 meaning_of (Nodes input format) = nodes_meaning input format

@@ -60,7 +60,7 @@ pub(crate) fn stamp_of(text: &[u8]) -> Option<Stamp>
 
 /// The number of at most ten decimal digits.
 #[tactic(auto, using(crate::proofs::DigitLemmas::ten_digits))]
-fn short_number(digits: &[u8]) -> Option<u64>
+pub(crate) fn short_number(digits: &[u8]) -> Option<u64>
     requires { length digits.now ≤ 10 }
     ensures value { SomeIff result (AllDigits 10 digits.now) (digits_value 10 digits.now) }
     ensures fits { IfSome result (λ n. n < 10 ^ 10) }

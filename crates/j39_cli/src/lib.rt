@@ -2,6 +2,7 @@
 #![tactic(auto)]
 
 mod answer;
+mod asked;
 mod command;
 mod conversions;
 mod cut;
@@ -26,6 +27,7 @@ mod task;
 mod unknown;
 mod words;
 
+pub use asked::{Addresses, Asked, Pgns, Senders};
 pub use conversions::Conversions;
 pub use outgoing::Outgoing;
 pub use own_table::{folder_for_table, wrong_table};

@@ -79,9 +79,14 @@ pub fn perform_with<R: Source, W: Sink, E: Sink>(
         Task::Report {
             input,
             spns,
+            asked,
             format,
             ..
-        } => { report::perform(alloc, groups, &input.bus, spns, *format, source, sink, err) }
+        } => {
+            report::perform(
+                alloc, groups, &input.bus, spns, asked, *format, source, sink, err,
+            )
+        }
         Task::Summary { input, format, .. } => {
             let bus = copy_of(&input.bus);
             let end = summary(alloc, groups, *format, source, sink, bus, LOG_LIMIT);

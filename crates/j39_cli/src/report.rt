@@ -1,24 +1,28 @@
 //! The command `report`: its words, and how it is performed.
 ghost use Rattle.std.specs.Prelude.{◌≡◌, ◌⊎◌, OnOk, codes, false, true};
 ghost use Rattle.j39_io.specs.Turn.{turn};
-ghost use Rattle.clap.specs.Words.{found_of};
+ghost use Rattle.clap.specs.Words.{App, first_value, found_of};
 ghost use Rattle.j39_listen.specs.Asking.{AsksForBoxes};
+ghost use Rattle.j39_listen.specs.Filter.{no_filter};
 ghost use Rattle.j39_listen.specs.Ran.{Ran};
+ghost use Rattle.j39_cli.specs.Asked.{filter_in};
 ghost use Rattle.j39_cli.specs.CommandWords.{IsAnswered, command_found};
 ghost use Rattle.j39_cli.specs.LogCommand.{log_limit};
-ghost use Rattle.j39_cli.specs.ReportCommand.{IsReportRun, makes_in, report_app};
+ghost use Rattle.j39_cli.specs.ReportCommand.{IsAskedRead, IsReportRun, makes_in, report_app, with_filter};
 ghost use Rattle.j39_cli.specs.Rules.{IsMade};
 
 use crate::command::{new_command, with_option, with_table};
 use crate::log::{LOG_LIMIT, copy_of, tell_end, tell_fault, with_csv, with_log};
-use crate::words::{format_given, log_input, spns_value};
-use crate::{ParseFault, Spns, Task, WordText};
+use crate::words::{
+    addresses_value, format_given, log_input, moment_value, pgns_value, senders_value, spns_value,
+};
+use crate::{Argument, Asked, ParseFault, Spns, Task, WordText};
 use clap::{ArgMatches, Command};
 use j39_groups::Groups;
 use j39_io::{Sink, Source};
-use j39_listen::{Counts, Format, RunFault, run_with};
+use j39_listen::{Counts, Format, RunFault, run_filtered, run_with};
 use j39_log::Bus;
-use j39_reports::report_csv;
+use j39_reports::{report_csv, report_csv_filtered};
 use std::alloc::{AllocError, Global};
 
 const ABOUT: &str = "\
@@ -54,7 +58,27 @@ pub(crate) fn command<'a>(alloc: Global) -> Result<Command<'a>, AllocError>
     let command = with_table(alloc, new_command(alloc, "report", about, ABOUT, HELP));
     let help = "The parameters to write alone: 1 to 32 SPNs, with commas between them";
     let command = with_option(alloc, command, "spn", "SPN,..", false, help);
+    let command = with_filter(alloc, command);
     with_log(alloc, with_csv(alloc, command))
+}
+
+/// The command with the options of a filter.
+fn with_filter<'a>(
+    alloc: Global,
+    command: Result<Command<'a>, AllocError>,
+) -> Result<Command<'a>, AllocError>
+    ensures { (told : App) → IsMade command.entry told → IsMade result (with_filter told) }
+{
+    let help = "From these addresses (hex) or NAMEs (16 hex digits) alone";
+    let command = with_option(alloc, command, "from", "A,..", false, help);
+    let help = "To these addresses (hex) alone; FF is what goes to all";
+    let command = with_option(alloc, command, "to", "A,..", false, help);
+    let help = "Of these PGNs alone";
+    let command = with_option(alloc, command, "pgn", "PGN,..", false, help);
+    let help = "From this stamp on, or as many seconds behind the first frame: 1700000000.5 or +90";
+    let command = with_option(alloc, command, "since", "T", false, help);
+    let help = "Up to this stamp, as --since";
+    with_option(alloc, command, "until", "T", false, help)
 }
 
 /// The task that its words ask for.
@@ -67,11 +91,16 @@ pub(crate) fn task<'a>(given: &ArgMatches<'a>) -> Result<Task<'a>, ParseFault>
         Ok(input) => input,
         Err(fault) => return Err(fault),
     };
-    match spns_value(given) {
-        Ok(spns) => Ok(Task::Report {
+    let spns = match spns_value(given) {
+        Ok(spns) => spns,
+        Err(fault) => return Err(fault),
+    };
+    match asked_value(given) {
+        Ok(asked) => Ok(Task::Report {
             input,
             table,
             spns,
+            asked,
             format,
         }),
         Err(fault) => Err(fault),
@@ -85,12 +114,13 @@ pub(crate) fn perform<R: Source, W: Sink, E: Sink>(
     groups: &Groups<'_>,
     bus: &Option<Bus>,
     spns: &Option<Spns>,
+    asked: &Asked,
     format: Format,
     source: &mut R,
     sink: &mut W,
     err: &mut E,
 ) -> u8
-    ensures run { IsReportRun spns.now format groups.now bus.now result
+    ensures run { IsReportRun spns.now (filter_in asked.now) format groups.now bus.now result
         (turn R.remaining R.has_failed source.old source.new)
         (turn W.written W.has_failed sink.old sink.new)
         (turn E.written E.has_failed err.old err.new) }
@@ -100,16 +130,42 @@ pub(crate) fn perform<R: Source, W: Sink, E: Sink>(
     ensures passed_on { E.has_failed err.new ≡ false → E.is_flushed err.new ≡ true }
 {
     let Some(spns) = spns else {
-        return tell_end(run(alloc, groups, format, bus, source, sink), err);
+        return tell_end(run(alloc, groups, asked, format, bus, source, sink), err);
     };
     match groups.restricted_to(alloc, spns.as_slice()) {
-        Ok(kept) => tell_end(run(alloc, &kept, format, bus, source, sink), err),
+        Ok(kept) => tell_end(run(alloc, &kept, asked, format, bus, source, sink), err),
         Err(AllocError) => tell_fault(RunFault::Memory, err),
     }
 }
 
-/// Reads a log, and writes its report by a table of parameters.
+/// Reads a log, and writes what is asked for of its report by a table of parameters.
 fn run<R: Source, W: Sink>(
+    alloc: Global,
+    groups: &Groups<'_>,
+    asked: &Asked,
+    format: Format,
+    bus: &Option<Bus>,
+    source: &mut R,
+    sink: &mut W,
+) -> Result<Counts, RunFault>
+    ensures ran { Ran (makes_in format (filter_in asked.now) groups.now) AsksForBoxes bus.now log_limit result
+        (turn R.remaining R.has_failed source.old source.new) (turn W.written W.has_failed sink.old sink.new) }
+    ensures flushed { OnOk result (W.is_flushed sink.new ≡ true) }
+    ensures passed_out { W.is_flushed sink.old ≡ true → W.has_failed sink.new ≡ false → W.is_flushed sink.new ≡ true }
+{
+    if asked.is_everything() {
+        return run_whole(alloc, groups, format, bus, source, sink);
+    }
+    let filter = asked.filter();
+    let bus = copy_of(bus);
+    match format {
+        Format::Line => run_filtered(alloc, groups, filter, source, sink, bus, LOG_LIMIT),
+        Format::Record => report_csv_filtered(alloc, groups, filter, source, sink, bus, LOG_LIMIT),
+    }
+}
+
+/// Reads a log, and writes its whole report by a table of parameters.
+fn run_whole<R: Source, W: Sink>(
     alloc: Global,
     groups: &Groups<'_>,
     format: Format,
@@ -117,7 +173,7 @@ fn run<R: Source, W: Sink>(
     source: &mut R,
     sink: &mut W,
 ) -> Result<Counts, RunFault>
-    ensures ran { Ran (makes_in format groups.now) AsksForBoxes bus.now log_limit result
+    ensures ran { Ran (makes_in format no_filter groups.now) AsksForBoxes bus.now log_limit result
         (turn R.remaining R.has_failed source.old source.new) (turn W.written W.has_failed sink.old sink.new) }
     ensures flushed { OnOk result (W.is_flushed sink.new ≡ true) }
     ensures passed_out { W.is_flushed sink.old ≡ true → W.has_failed sink.new ≡ false → W.is_flushed sink.new ≡ true }
@@ -125,5 +181,39 @@ fn run<R: Source, W: Sink>(
     match format {
         Format::Line => run_with(alloc, groups, source, sink, copy_of(bus), LOG_LIMIT),
         Format::Record => report_csv(alloc, groups, source, sink, copy_of(bus), LOG_LIMIT),
+    }
+}
+
+/// Which entries are asked for.
+fn asked_value(given: &ArgMatches<'_>) -> Result<Asked, ParseFault>
+    ensures { IsAskedRead (first_value (found_of given.now) (codes "from")) (first_value (found_of given.now) (codes "to"))
+        (first_value (found_of given.now) (codes "pgn")) (first_value (found_of given.now) (codes "since"))
+        (first_value (found_of given.now) (codes "until")) result }
+{
+    let from = match senders_value(given) {
+        Ok(from) => from,
+        Err(fault) => return Err(fault),
+    };
+    let to = match addresses_value(given) {
+        Ok(to) => to,
+        Err(fault) => return Err(fault),
+    };
+    let pgns = match pgns_value(given) {
+        Ok(pgns) => pgns,
+        Err(fault) => return Err(fault),
+    };
+    let since = match moment_value(given, "since", Argument::Since) {
+        Ok(since) => since,
+        Err(fault) => return Err(fault),
+    };
+    match moment_value(given, "until", Argument::Until) {
+        Ok(until) => Ok(Asked {
+            from,
+            to,
+            pgns,
+            since,
+            until,
+        }),
+        Err(fault) => Err(fault),
     }
 }

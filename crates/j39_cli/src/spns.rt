@@ -1,6 +1,9 @@
 //! Parameters that are asked for.
-ghost use Rattle.std.specs.Prelude.{◌≡◌};
+ghost use Rattle.std.specs.Prelude.{◌≡◌, ◌≤◌, ◌^◌, MatchOption};
 ghost use Rattle.std.specs.Option.{SomeIff};
+ghost use Rattle.std.specs.Str.Parse.{digits_value};
+ghost use Rattle.j39_cli.specs.Lists.{IsListOf, values_in};
+ghost use Rattle.j39_cli.specs.Numbers.{IsNumberBelow};
 ghost use Rattle.j39_cli.specs.Spns.{IsSpnList, spns_in};
 
 use crate::cut_values::number_below;
@@ -33,19 +36,31 @@ impl Spns {
     }
 }
 
-/// The numbers between the commas of a text; `None` where one is none of 19 bits in decimal, and for more than 32.
+/// The parameters between the commas of a text; `None` where one is no number of 19 bits in decimal, and for more than 32.
 pub(crate) fn spns_of(text: &[u8]) -> Option<Spns>
     ensures { SomeIff result (IsSpnList text.now) (spns_in text.now) }
+{
+    match numbers_of(text, SPN_LIMIT) {
+        Some(numbers) => Some(Spns { numbers }),
+        None => None,
+    }
+}
+
+/// The numbers between the commas of a text; `None` where one is no number below the limit in decimal, and for more than 32.
+pub(crate) fn numbers_of(text: &[u8], limit: u64) -> Option<ArrayVec<u32, 32>>
+    requires { limit ≤ 2 ^ 32 }
+    ensures { MatchOption result (¬ IsListOf (IsNumberBelow limit) text.now)
+        (λ numbers. IsListOf (IsNumberBelow limit) text.now × (numbers.items ≡ values_in (digits_value 10) text.now)) }
 {
     let mut numbers = ArrayVec::new();
     for word in text.split(|b| *b == b',') {
         if numbers.is_full() {
             return None;
         }
-        match number_below(word, SPN_LIMIT) {
-            Some(spn) => numbers.push(spn as u32),
+        match number_below(word, limit) {
+            Some(number) => numbers.push(number as u32),
             None => return None,
         }
     }
-    Some(Spns { numbers })
+    Some(numbers)
 }

@@ -5,7 +5,7 @@ ghost use Rattle.j39_cli.specs.Answer.{argument_text};
 ghost use Rattle.j39_cli.specs.LogCommand.{opened_of};
 ghost use Rattle.j39_cli.specs.Task.{file_of, table_of};
 
-use crate::{Conversions, Outgoing, Spns};
+use crate::{Asked, Conversions, Outgoing, Spns};
 use j39_address::Name;
 use j39_frame::{Id, is_address};
 use j39_listen::Format;
@@ -113,6 +113,8 @@ pub enum Task<'a> {
         table: Option<WordText<'a>>,
         /// The parameters that are asked for; `None` for all.
         spns: Option<Spns>,
+        /// Which entries are asked for.
+        asked: Asked,
         /// How it is written.
         format: Format,
     },
@@ -232,7 +234,7 @@ pub enum Argument {
     Address,
     /// `--source`, the address that a message is sent from.
     Source,
-    /// `--pgn`, the parameter group of a message.
+    /// `--pgn`, the parameter group of a message, or those that are asked for.
     Pgn,
     /// `--at`, the stamp of a message's first frame.
     At,
@@ -240,6 +242,14 @@ pub enum Argument {
     Hex,
     /// `--spn`, the parameters that are asked for.
     Spn,
+    /// `--from`, the senders that are asked for.
+    From,
+    /// `--to`, the destinations that are asked for.
+    To,
+    /// `--since`, the first moment that is asked for.
+    Since,
+    /// `--until`, the last one.
+    Until,
     /// `--conversion`, the versions by which SPNs are read.
     Conversion,
     /// Two of `--all`, `--changes` and `--now`, which don't go together.
@@ -260,6 +270,10 @@ impl Argument {
             Argument::At => "--at",
             Argument::Hex => "HEX",
             Argument::Spn => "--spn",
+            Argument::From => "--from",
+            Argument::To => "--to",
+            Argument::Since => "--since",
+            Argument::Until => "--until",
             Argument::Conversion => "--conversion",
             Argument::Together => "--all, --changes, --now together",
         }

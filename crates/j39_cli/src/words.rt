@@ -6,6 +6,7 @@ ghost use Rattle.j39_cli.specs.Command.{line_app};
 ghost use Rattle.j39_cli.specs.CommandWords.{CommandWords, HasTexts, HasValues, IsAnswer, Tells, words_of};
 ghost use Rattle.j39_cli.specs.Spelling.{IsEntered, IsSpelled};
 ghost use Rattle.j39_cli.specs.Answer.{IsInput, IsValueRead};
+ghost use Rattle.j39_cli.specs.Asked.{IsAddressList, IsMoment, IsPgnList, IsSenderList, addresses_in, moment_in, pgns_in, senders_in};
 ghost use Rattle.j39_cli.specs.Conversions.{IsConversionList, conversions_in};
 ghost use Rattle.j39_cli.specs.Spns.{IsSpnList, spns_in};
 ghost use Rattle.j39_cli.specs.LogCommand.{format_of};
@@ -13,16 +14,17 @@ ghost use Rattle.j39_cli.specs.Refused.{IsRefusal, IsSaid};
 ghost use Rattle.j39_cli.specs.Rules.{is_given};
 ghost use Rattle.j39_cli.specs.Task.{IsInRange};
 
+use crate::asked::{addresses_of, moment_of, pgns_of, senders_of};
 use crate::command::line;
 use crate::conversions::{Conversions, conversions_of};
 use crate::spns::{Spns, spns_of};
 use crate::{
-    Argument, LogInput, ParseFault, Task, WordText, answer, cut, faults, groups, id, name, nodes,
-    report, summary, survey,
+    Addresses, Argument, LogInput, ParseFault, Pgns, Senders, Task, WordText, answer, cut, faults,
+    groups, id, name, nodes, report, summary, survey,
 };
 use clap::error::ErrorKind;
 use clap::{ArgMatches, Error};
-use j39_listen::Format;
+use j39_listen::{Format, Moment};
 use j39_log::Bus;
 use std::alloc::Global;
 use std::convert::AsStr;
@@ -161,6 +163,62 @@ pub(crate) fn spns_value(given: &ArgMatches<'_>) -> Result<Option<Spns>, ParseFa
         Some(text) => match spns_of(text.as_bytes()) {
             Some(spns) => Ok(Some(spns)),
             None => Err(ParseFault::BadValue(Argument::Spn)),
+        },
+    }
+}
+
+/// The values of `--from`, where it is given.
+pub(crate) fn senders_value(given: &ArgMatches<'_>) -> Result<Option<Senders>, ParseFault>
+    ensures { IsValueRead IsSenderList senders_in Argument.From (first_value (found_of given.now) (codes "from")) result }
+{
+    match given.get_str("from") {
+        None => Ok(None),
+        Some(text) => match senders_of(text.as_bytes()) {
+            Some(senders) => Ok(Some(senders)),
+            None => Err(ParseFault::BadValue(Argument::From)),
+        },
+    }
+}
+
+/// The values of `--to`, where it is given.
+pub(crate) fn addresses_value(given: &ArgMatches<'_>) -> Result<Option<Addresses>, ParseFault>
+    ensures { IsValueRead IsAddressList addresses_in Argument.To (first_value (found_of given.now) (codes "to")) result }
+{
+    match given.get_str("to") {
+        None => Ok(None),
+        Some(text) => match addresses_of(text.as_bytes()) {
+            Some(addresses) => Ok(Some(addresses)),
+            None => Err(ParseFault::BadValue(Argument::To)),
+        },
+    }
+}
+
+/// The values of `--pgn`, where it is given.
+pub(crate) fn pgns_value(given: &ArgMatches<'_>) -> Result<Option<Pgns>, ParseFault>
+    ensures { IsValueRead IsPgnList pgns_in Argument.Pgn (first_value (found_of given.now) (codes "pgn")) result }
+{
+    match given.get_str("pgn") {
+        None => Ok(None),
+        Some(text) => match pgns_of(text.as_bytes()) {
+            Some(pgns) => Ok(Some(pgns)),
+            None => Err(ParseFault::BadValue(Argument::Pgn)),
+        },
+    }
+}
+
+/// The moment of an argument, where it is given.
+pub(crate) fn moment_value(
+    given: &ArgMatches<'_>,
+    id: &str,
+    argument: Argument,
+) -> Result<Option<Moment>, ParseFault>
+    ensures { IsValueRead IsMoment moment_in argument (first_value (found_of given.now) id.now) result }
+{
+    match given.get_str(id) {
+        None => Ok(None),
+        Some(text) => match moment_of(text.as_bytes()) {
+            Some(moment) => Ok(Some(moment)),
+            None => Err(ParseFault::BadValue(argument)),
         },
     }
 }

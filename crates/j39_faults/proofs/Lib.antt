@@ -5,3 +5,4 @@ pub mod SamenessLemmas
 pub mod NamedLemmas
 -- writing them
 pub mod NumberLemmas
+pub mod MessageLemmas

@@ -4,6 +4,7 @@ pub mod LampBits
 pub mod Codes
 pub mod Conversions
 pub mod Words
+pub mod FaultsMessage
 -- what is told (own)
 pub mod Text
 pub mod Sameness

@@ -8,6 +8,8 @@ mod conversion;
 mod kind;
 mod lamp_names;
 mod lamps;
+pub mod laws;
+mod message;
 mod sameness;
 mod text;
 mod words;
@@ -19,6 +21,7 @@ pub use conversion::{Conversion, Version, code_by, version_for};
 pub use kind::{Kind, cleared_in, fault_group};
 pub use lamp_names::{LampsText, lamps_text, lamps_told};
 pub use lamps::{Flash, Lamp, LampState, Lamps, lamps_of};
+pub use message::{FaultsMessage, faults_message};
 pub use sameness::tells_same;
 pub use text::{
     ClearWord, ParameterWords, State, clear_word, kind_word, parameter_words, put_code,

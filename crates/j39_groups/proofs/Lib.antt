@@ -17,5 +17,6 @@ pub mod VisitLemmas
 pub mod RestrictedLemmas
 -- what a table calls its groups and parameters
 pub mod StateLemmas
+pub mod RawStateLemmas
 pub mod NameLemmas
 pub mod GroupNameLemmas

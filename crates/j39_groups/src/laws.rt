@@ -1,11 +1,12 @@
 //! Laws about the definitions, each the contract of a function that does nothing.
-ghost use Rattle.std.specs.Prelude.{◌≡◌, ℕ, ℤ, List, [], false, filter, true, IsSomeAnd};
+ghost use Rattle.std.specs.Prelude.{◌≡◌, ◌≢◌, ◌<◌, ◌^◌, ℕ, ℤ, pos, List, [], Some, false, filter, true, IsSomeAnd};
 ghost use Rattle.std.specs.List.{Contains};
-ghost use Rattle.j39_groups.specs.Value.{number, ReadingRecord};
+ghost use Rattle.j39_groups.specs.Value.{number, reserved, ReadingRecord, SlotRecord, ValueRecord};
 ghost use Rattle.j39_groups.specs.Parts.{AreParts, parts_of};
-ghost use Rattle.j39_groups.specs.Readings.{HaveSameGroups, is_among, is_reported_group, is_reported_in, readings_in, readings_of, rows_of_spns};
-ghost use Rattle.j39_groups.specs.Row.{RowRecord};
+ghost use Rattle.j39_groups.specs.Readings.{HaveSameGroups, bits_meaning, is_among, is_reported_group, is_reported_in, number_meaning, readings_in, readings_of, rows_of_spns, switch_meaning};
+ghost use Rattle.j39_groups.specs.Row.{RowRecord, bits_field, number_field, switch_field};
 ghost use Rattle.j39_groups.specs.Sightings.{absences_in, absent_in, sightings_in, told_in};
+ghost use Rattle.j39_groups.specs.States.{raw_behind};
 ghost use Rattle.j39_groups.specs.Slots.{Holds, IsRawOf, slot_of_spn};
 
 /// The parts of a payload are the only parts without `*` that, joined by it, are the payload.
@@ -19,6 +20,19 @@ pub fn raw_reads_back()
     ensures { (pgn spn raw : ℕ) (value : ℤ) (bytes : List ℕ) → Holds pgn spn bytes raw → IsRawOf spn value raw
         → IsSomeAnd (slot_of_spn spn) (λ slot.
         Contains (readings_of pgn bytes) (record { spn = spn; value = number value slot })) }
+{}
+
+/// A state is that of the raw number which its value was read from: of bits of less than a byte, of a byte unless it is
+/// reserved, and of a switch.
+pub fn states_are_of_raw_numbers()
+    ensures bits { (byte low count step raw : ℕ) (slot : SlotRecord) (value : ValueRecord) → 0 < count → count < 8 → 0 < step
+        → slot.step ≡ pos step → raw < 2 ^ count → bits_meaning count slot raw ≡ Some value
+        → raw_behind (bits_field byte low count slot) value ≡ Some raw }
+    ensures byte { (byte step raw : ℕ) (slot : SlotRecord) (value : ValueRecord) → 0 < step → slot.step ≡ pos step → raw < 256
+        → number_meaning 1 slot raw ≡ Some value → value ≢ reserved
+        → raw_behind (number_field byte byte slot) value ≡ Some raw }
+    ensures switch { (byte low high bits : ℕ) (value : ValueRecord) → switch_meaning bits ≡ Some value
+        → raw_behind (switch_field byte low high) value ≡ Some bits }
 {}
 
 /// Nothing is read in a group that is not reported.

@@ -15,6 +15,8 @@ pub mod Existing
 pub mod ListenerLemmas
 -- the accounts: for those of `report`, `nodes` and `answer`
 pub mod ReportAccount
+pub mod FilteredAccount
+pub mod FilterLemmas
 pub mod SeenLemmas
 pub mod NodeLemmas
 pub mod AnswerLemmas

@@ -6,6 +6,7 @@ pub mod Nodes
 pub mod Answers
 pub mod Output
 pub mod Headed
+pub mod Filter
 -- what was published, and what a report tells of it
 pub mod Published
 pub mod Loss
@@ -27,6 +28,7 @@ pub mod HeardModel
 pub mod OneFrameMore
 pub mod AccountCalls
 pub mod ReportSoFar
+pub mod FilteredSoFar
 pub mod NodesSoFar
 pub mod AnswersSoFar
 pub mod LinesSoFar

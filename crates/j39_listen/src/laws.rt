@@ -1,7 +1,8 @@
 //! Laws about the definitions, each the contract of a function that does nothing.
-ghost use Rattle.std.specs.Prelude.{◌≡◌, ◌<◌, ℕ, List, Option, length};
+ghost use Rattle.std.specs.Prelude.{◌≡◌, ◌&&◌, ◌<◌, ◌∷◌, [], ℕ, List, Option, Some, filter, length};
 ghost use Rattle.j39_frame.specs.Frame.{FrameRecord};
 ghost use Rattle.j39_address.specs.Command.{Command};
+ghost use Rattle.j39_address.specs.Name.{name_raw};
 ghost use Rattle.j39_address.specs.Node.{Node};
 ghost use Rattle.j39_groups.specs.Readings.{HaveSameGroups, rows_of_spns};
 ghost use Rattle.j39_groups.specs.Row.{RowRecord};
@@ -9,11 +10,15 @@ ghost use Rattle.j39_groups.specs.Table.{the_table};
 ghost use Rattle.j39_listen.specs.Answers.{AreAnswers, CommandedAt};
 ghost use Rattle.j39_listen.specs.TransferExample.{example, example_frames, example_values};
 ghost use Rattle.j39_listen.specs.NoTransferExamples.{Publishes, early, early_frames, eec1, eec1_frames, eec1_values, two, two_frames, two_values, vin, vin_frames, vin_values};
+ghost use Rattle.j39_listen.specs.Filter.{FilterRecord, IsAmong, filtered_of, is_name, no_filter, taken, takes};
 ghost use Rattle.j39_listen.specs.Heard.{AreHeard, HeardAt, Hearing};
-ghost use Rattle.j39_listen.specs.Report.{Entry, IsReport, entries_among};
+ghost use Rattle.j39_listen.specs.Output.{report_of};
+ghost use Rattle.j39_listen.specs.Report.{Entry, Form, IsReport, entries_among};
 ghost use Rattle.j39_listen.specs.Loss.{LostTogether, Repeated, Thinned};
 ghost use Rattle.j39_listen.specs.LossExample.{heard_frames, left_frames, left_values, lost, sent, sent_frames, sent_values};
 ghost use Rattle.j39_listen.specs.Published.{Published};
+ghost use Rattle.j39_listen.specs.declared.filter.Sender.TheVariants.{Named};
+ghost use Rattle.j39_address.specs.declared.name.Name.{Name};
 ghost use Rattle.j39_listen.specs.Values.{TellsPublished, TellsRepeated, TellsThinned, no_place, values};
 
 /// By each table a list of frames has at most one report: at each frame one message is heard at most.
@@ -40,6 +45,25 @@ pub fn restricted_report()
     ensures { (spns : List ℕ) (these those : List RowRecord) → HaveSameGroups these (rows_of_spns spns those)
         → (F : List FrameRecord) (some all : List Entry) → IsReport these F some → IsReport those F all
         → some ≡ entries_among spns all }
+{}
+
+/// What a filter takes stands in the report, in the same order; two filters meet in what both take, in either order; and where
+/// nothing is asked for, what is made is the report.
+pub fn filters()
+    ensures among { (f : FilterRecord) (first : ℕ) (entries : List Entry) → IsAmong (taken f first entries) entries }
+    ensures meet { (f g : FilterRecord) (first : ℕ) (entries : List Entry)
+        → taken f first (taken g first entries) ≡ filter (λ e. takes f first e && takes g first e) entries }
+    ensures either_order { (f g : FilterRecord) (first : ℕ) (entries : List Entry)
+        → taken f first (taken g first entries) ≡ taken g first (taken f first entries) }
+    ensures none { (form : Form) (groups : List RowRecord) (first : ℕ) (heard : List Hearing)
+        → filtered_of form groups no_filter first heard ≡ report_of form groups heard }
+{}
+
+/// By a NAME a filter takes exactly the entries under this NAME, whatever their addresses.
+pub fn filter_by_name()
+    ensures { (name : Name) (first : ℕ) (entries : List Entry)
+        → taken (record no_filter { from = Some (Named name ∷ []) }) first entries
+        ≡ filter (λ e. is_name (name_raw name) e.name) entries }
 {}
 
 /// With each list of frames a node sends some frames, and no others: at each frame it is commanded or not.

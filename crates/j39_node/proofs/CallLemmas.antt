@@ -1,16 +1,18 @@
 -- A call more.
-use Rattle.std.proofs.Common.{◌≡◌, ℕ, suc, ◌+◌, ◌-◌, ◌<◌, ◌≤◌, List, [], ◌∷◌, ◌++◌, length, map, drop, min, Option, Some, None, Result, Ok, Err, Bool, true, false, not, ◌&&◌, ◌||◌, if◌then◌else◌, nat_eq, nat_lt, nat_le, refl, sym, ap, ◌∙◌, subst, arith, lt-ltb}
+use Rattle.std.proofs.Common.{◌≡◌, ℕ, suc, ◌+◌, ◌-◌, ◌<◌, ◌≤◌, List, [], ◌∷◌, ◌++◌, length, map, drop, min, Option, Some, None, IfSome, Result, Ok, Err, Bool, true, false, not, ◌&&◌, ◌||◌, if◌then◌else◌, nat_eq, nat_lt, nat_le, refl, sym, ap, ◌∙◌, subst, arith, lt-ltb}
 use Rattle.std.specs.List.{slice_get}
 use Rattle.std.specs.Option.{option_map}
 use Rattle.j39_frame.specs.Frame.{FrameRecord}
 use Rattle.j39_address.specs.Claim.{claim_of}
-use Rattle.j39_address.specs.Claims.{Knows}
+use Rattle.j39_address.specs.Claims.{Knows, holder_in}
 use Rattle.j39_transport.specs.Message.{MessageRecord}
 use Rattle.j39_node.specs.declared.controller.Controller.{Controller}
 use Rattle.j39_node.specs.declared.hold.Hold.{Hold}
 use Rattle.j39_node.specs.declared.hold.Standing.{Standing}
 use Rattle.j39_node.specs.declared.hold.Standing.TheVariants as standing
 use Rattle.j39_node.specs.declared.lane.Open.{Open}
+use Rattle.j39_node.specs.declared.transfers.Open as transfers
+use Rattle.j39_node.specs.declared.kinds.TransferEnding.{TransferEnding}
 use Rattle.j39_node.specs.declared.outgoing.Outgoing.{Outgoing}
 use Rattle.std.proofs.lemmas.Option.{slice_get_past}
 use Rattle.j39_node.specs.declared.news.Untold.{Untold}
@@ -22,14 +24,28 @@ use Rattle.j39_node.specs.declared.kinds.Ending.{Ending}
 use Rattle.j39_node.specs.declared.kinds.Ending.TheVariants.{Done, Withdrawn}
 use Rattle.j39_node.specs.declared.kinds.Refused.{Refused}
 use Rattle.j39_node.specs.declared.kinds.Refused.TheVariants.{NoAddress, BadValue, Full}
-use Rattle.j39_node.specs.Hold.{standing_of, less, passed, heard, claims, paused, stands, lost, left_at}
-use Rattle.j39_node.specs.History.{Who, Message, Draft, Call, Address, message_of, older, claimed, address_after, holds, is_lost, is_held, is_smaller, claim_address, claim_from, owes_claim, calls_for_claim, can_send, message_from, accepted, sent, told, is_full, step, moment, is_for_program, kept, got, missed, Asked, asked, acknowledgment, acknowledged, due, handed, requests, is_served, with_request, with_refusal, is_waiting, stamp_at, held_at, next_due, told_claims, is_another, lost_news, another_news, missed_news, broadcasts, broadcast_from, can_broadcast, has_packets, is_busy, is_left, is_open, is_packet, open_broadcast, packets, pause}
-use Rattle.j39_node.specs.History.Call.{Hear, TakeFrame, Send, TakeEnded, TakeRequest, Acknowledge, Broadcast, TakeBroadcastEnded}
+use Rattle.j39_node.specs.Asking.{made, ended, has_token, open_ask, wait}
+use Rattle.j39_node.proofs.AskLemmas.{ask_heard, ask_more, ask_same, takes, wait_more, wait_same}
+use Rattle.j39_node.specs.Is.{AskRecord, made_by, asking_of, hears_with}
+use Rattle.j39_node.specs.Hold.{asked as hold_asked, standing_of, less, passed, heard, claims, paused, stands, lost, left_at}
+use Rattle.j39_node.specs.History.{Who, Message, Draft, Call, Address, message_of, older, claimed, address_after, holds, is_lost, is_held, is_smaller, claim_address, claim_from, owes_claim, calls_for_claim, can_send, message_from, accepted, sent, told, is_full, step, moment, is_for_program, kept, got, missed, Asked, asked, acknowledgment, acknowledged, due, handed, requests, is_served, with_request, with_refusal, stamp_at, held_at, told_claims, is_another, is_acknowledgment, is_claim, lost_news, another_news, missed_news, broadcasts, broadcast_from, can_broadcast, has_packets, is_busy, is_left, is_open, is_packet, open_broadcast, packets, pause}
+use Rattle.j39_node.specs.History.Call.{Hear, TakeFrame, Send, TakeEnded, TakeRequest, Acknowledge, Broadcast, TakeBroadcastEnded, Transfer, TakeTransferEnded}
+use Rattle.j39_node.proofs.ReceptionLaws.{made_is}
+use Rattle.j39_node.specs.Reception.{has_place, IsApart, heard_at, heard_by, holder, is_same, is_waiting, leaves, left, reception, time_heard}
+use Rattle.j39_node.specs.declared.incoming.Incoming.{Incoming}
+use Rattle.j39_node.specs.declared.incoming.Said.{Said}
+use Rattle.j39_address.specs.declared.claims.Claims.{Claims}
+use Rattle.j39_node.proofs.ReceptionLemmas.{leaves_is, none_taken, replied_get, taken_is, tidy}
+use Rattle.j39_node.specs.Transfers.{Running, age, answer_to_transfer, at_in, begun, can_transfer, clock, clock_at, is_engaged, next_due, next_transfer, next_transfer_ended, hears_if, is_replaced, open_transfer, packet_in, packets_in, sends_if, sooner, transfer_by, transfer_end, transfer_in, transfers as all_transfers}
 use Rattle.j39_node.specs.History.Address.{NotClaimed, Claimed, Lost}
-use Rattle.j39_node.specs.Is.{Is, stamped, next_frame, end_of, answer_to_send, answer_to_acknowledge, hold_after, who_of, posted, received_by, request_by, refusal_by, first_of, offered, counted, LaneRecord, opened, lane_of, lane_after, packet_by, next_packet, answer_to_broadcast, broadcast_end, next_broadcast_ended}
-use Rattle.j39_node.proofs.QueueLemmas.{length_one_more, map_append, length_rest, in_rest, not_in_rest, First, drop_append, length_drop}
-use Rattle.j39_node.proofs.SoundLemmas.{sound, own_get, due_get, due_taken, claim_taken, message_taken, plain_taken, sent_is, acknowledged_is, address_is, frame_by, front_length, held_not_lost, holding_not_lost, lost_older, read, single_taken, claim_single, packet_taken, packets_is, pause_is}
+use Rattle.j39_node.specs.Is.{Is, stamped, next_frame, end_of, answer_to_send, answer_to_acknowledge, hold_after, who_of, posted, received_by, request_by, refusal_by, first_of, offered, counted, LaneRecord, opened, lane_of, lane_after, packet_by, next_control, control_of, next_packet, IncomingRecord, incoming_of, incoming_after, said_by, with_reception, with_replies, hears, answer_to_broadcast, broadcast_end, next_broadcast_ended, long_by, next_long, PortRecord, port_of, running, HearingRecord, hearing_of}
+use Rattle.j39_frame.specs.Stamp.{stamp_micros}
+use Rattle.j39_node.specs.Hearing.{IsFit, hears as hears_it, is_unheard, left as leaves_it, unheard_news}
+use Rattle.j39_node.proofs.HearingLemmas.{claimed_on, either_news, hearing_same, heard_on}
+use Rattle.j39_node.proofs.QueueLemmas.{length_one_more, length_map, map_append, length_rest, in_rest, not_in_rest, First, drop_append, length_drop}
+use Rattle.j39_node.proofs.SoundLemmas.{sound, own_get, due_get, due_taken, claim_taken, message_taken, plain_taken, sent_is, acknowledged_is, address_is, frame_by, front_length, held_not_lost, holding_not_lost, lost_older, read, single_taken, claim_single, no_packet, packet_session, reply_taken, packet_taken, packets_is, pause_is, no_packet, no_transfer, transfer_taken, no_move, reply_no_move, is_moved, none_steers}
 use Rattle.j39_node.proofs.FrameLemmas.{at_now}
+use Rattle.j39_node.proofs.PortLemmas.{clock_is, is_port, port_more, port_same, ported, replaced_is}
 
 -- ---- the hold
 
@@ -57,6 +73,11 @@ pub record Passed (w : Who) (H : List Call) (now : ℕ) (h : Hold) : Type 0 wher
   pub standing : h.standing ≡ standing_of (older (step H now) (address_after w H))
   pub owes : h.owes_claim ≡ owes_claim w H
   pub pause : h.pause ≡ pause H - step H now
+  pub age : h.age ≡ min (age H + step H now) 18446744073709551615
+  pub wait : h.wait ≡ wait H - step H now
+
+saturates : (a s : ℕ) → min (min a 18446744073709551615 + s) 18446744073709551615 ≡ min (a + s) 18446744073709551615
+saturates a s = omega arith
 
 pub passed_is : (w : Who) (H : List Call) (now : ℕ) (old new : Hold) → old ≡ hold_after w H → new ≡ passed now old → Passed w H now new
 passed_is w H now old new e f =
@@ -66,17 +87,21 @@ passed_is w H now old new e f =
       standing = ap (λ (h : Hold). h.standing) g ∙ less_is (step H now) (address_after w H);
       owes = ap (λ (h : Hold). h.owes_claim) g;
       pause = ap (λ (h : Hold). h.pause) g;
+      age = ap (λ (h : Hold). h.age) g ∙ saturates (age H) (step H now);
+      wait = ap (λ (h : Hold). h.wait) g;
     }
 
 pub holds_is : (w : Who) (H : List Call) (now : ℕ) (h : Hold) (b : Bool) → Passed w H now h → b ≡ stands h.standing → b ≡ holds w H now
 holds_is w H now h b p e = e ∙ (ap stands p.standing ∙ stands_is (older (step H now) (address_after w H)))
 
-pub is_hold : (h k : Hold) → h.moment ≡ k.moment → h.standing ≡ k.standing → h.owes_claim ≡ k.owes_claim → h.pause ≡ k.pause → h ≡ k
-is_hold h k e f g i =
+pub is_hold : (h k : Hold) → h.moment ≡ k.moment → h.standing ≡ k.standing → h.owes_claim ≡ k.owes_claim → h.pause ≡ k.pause → h.age ≡ k.age → h.wait ≡ k.wait → h ≡ k
+is_hold h k e f g i j l =
     ap (λ (x : ℕ). record h { moment = x }) e
     ∙ (ap (λ (x : Standing). record h { moment = k.moment; standing = x }) f
     ∙ (ap (λ (x : Bool). record h { moment = k.moment; standing = k.standing; owes_claim = x }) g
-    ∙ ap (λ (x : ℕ). record h { moment = k.moment; standing = k.standing; owes_claim = k.owes_claim; pause = x }) i))
+    ∙ (ap (λ (x : ℕ). record h { moment = k.moment; standing = k.standing; owes_claim = k.owes_claim; pause = x }) i
+    ∙ (ap (λ (x : ℕ). record h { moment = k.moment; standing = k.standing; owes_claim = k.owes_claim; pause = k.pause; age = x }) j
+    ∙ ap (λ (x : ℕ). record h { moment = k.moment; standing = k.standing; owes_claim = k.owes_claim; pause = k.pause; age = k.age; wait = x }) l))))
 
 -- ---- the lane
 
@@ -96,6 +121,80 @@ packet_next w H c now left h e =
     ap (λ (v : Who). packet_by (lane_of v c.lane).current c.lane.count left) h.who
     ∙ (ap (λ (l : LaneRecord). packet_by l.current l.count left) h.lane ∙ ap (packet_by (open_broadcast w H) (length (packets H))) e)
 
+-- ---- what is received in packets
+
+pub replies_is : (w : Who) (H : List Call) (c : Controller) → Is w H c → map (said_by c.incoming.receiver.state.own) c.incoming.replies.items ≡ (reception w H).replies
+replies_is w H c h = ap (λ (x : IncomingRecord). x.reception.replies) h.incoming
+
+replies_length : (w : Who) (H : List Call) (c : Controller) → Is w H c → length c.incoming.replies.items ≡ length (reception w H).replies
+replies_length w H c h = sym (length_map (said_by c.incoming.receiver.state.own) c.incoming.replies.items) ∙ ap length (replies_is w H c h)
+
+is_empty : {T : Type 0} (xs : List T) → length xs ≡ 0 → xs ≡ []
+is_empty [] e = refl
+is_empty (x ∷ xs) e = absurd (cc)
+
+none_replied : (w : Who) (H : List Call) (c : Controller) → Is w H c → length c.incoming.replies.items ≡ 0 → (reception w H).replies ≡ []
+none_replied w H c h e = is_empty (reception w H).replies (sym (replies_length w H c h) ∙ e)
+
+incoming_same : (w : Who) (H : List Call) (now : ℕ) (f : FrameRecord) → reception w (TakeFrame now (Some f) ∷ H) ≡ reception w H
+    → incoming_after w H ≡ incoming_after w (TakeFrame now (Some f) ∷ H)
+incoming_same w H now f e = λ i. record { moment = heard_at H; clock = time_heard H; own = w.address; has_box = true; reception = sym e i }
+
+told_is : (H : List Call) (now : ℕ) (f : FrameRecord) → is_claim f ≡ true → told_claims (TakeFrame now (Some f) ∷ H) ≡ told_claims H ++ f ∷ []
+told_is H now f e = ap (λ (b : Bool). if b then told_claims H ++ f ∷ [] else told_claims H) e
+
+-- its own claim is taken
+incoming_claimed : (w : Who) (H : List Call) (old : Controller) (now : ℕ) (f : FrameRecord) (table : Claims) → Is w H old → is_claim f ≡ true
+    → Knows table (told_claims (TakeFrame now (Some f) ∷ H))
+    → with_reception (left (leaves (holder_in old.holders) (holder_in table) (incoming_of old.incoming).reception.session) (incoming_of old.incoming).reception) (incoming_of old.incoming)
+    ≡ incoming_after w (TakeFrame now (Some f) ∷ H)
+incoming_claimed w H old now f table h e knows =
+    let G = TakeFrame now (Some f) ∷ H in
+    ap (λ (x : IncomingRecord). with_reception (left (leaves (holder_in old.holders) (holder_in table) x.reception.session) x.reception) x) h.incoming
+    ∙ (ap (λ (b : Bool). with_reception (left b (reception w H)) (incoming_after w H)) (leaves_is old.holders table H G (reception w H).session h.holders knows)
+    ∙ λ i. record { moment = heard_at H; clock = time_heard H; own = w.address; has_box = true; reception = sym (taken_is w H now f true _ e refl) i })
+
+-- a reply is taken
+incoming_replied : (w : Who) (H : List Call) (now : ℕ) (f : FrameRecord) → is_claim f ≡ false → is_acknowledgment f ≡ false
+    → with_replies (drop 1 (reception w H).replies) (incoming_after w H) ≡ incoming_after w (TakeFrame now (Some f) ∷ H)
+incoming_replied w H now f e g =
+    λ i. record { moment = heard_at H; clock = time_heard H; own = w.address; has_box = true; reception = sym (taken_is w H now f false false e g) i }
+
+-- a frame is heard
+incoming_heard : (w : Who) (H : List Call) (old : Controller) (f : FrameRecord) (table : Claims) (new : Incoming) (gone held : Bool) → Is w H old
+    → Knows table (told_claims (Hear f ∷ H)) → gone ≡ is_smaller w (claim_of f) → held ≡ holds w H f.stamp
+    → (old.incoming.receiver.has_box ≡ true → IsApart (incoming_of old.incoming).reception
+    → incoming_of new ≡ hears gone held f (holder_in old.holders) (holder_in table) (incoming_of old.incoming))
+    → incoming_of new ≡ incoming_after w (Hear f ∷ H)
+incoming_heard w H old f table new gone held h knows away stays does =
+    does (ap (λ (x : IncomingRecord). x.has_box) h.incoming) (subst (λ (x : IncomingRecord). IsApart x.reception) (sym h.incoming) (tidy w H).apart)
+    ∙ (ap (hears gone held f (holder_in old.holders) (holder_in table)) h.incoming
+    ∙ (ap (λ (b : Bool). with_reception (heard_by w.address gone held f (time_heard (Hear f ∷ H)) (left b (reception w H))) (incoming_now w H f))
+    (leaves_is old.holders table H (Hear f ∷ H) (reception w H).session h.holders knows)
+    ∙ λ i. with_reception (heard_by w.address (away i) (stays i) f (time_heard (Hear f ∷ H))
+    (left (leaves (holder H) (holder (Hear f ∷ H)) (reception w H).session) (reception w H))) (incoming_now w H f)))
+  where
+    incoming_now : Who → List Call → FrameRecord → IncomingRecord
+    incoming_now w H f = record { moment = f.stamp; clock = time_heard (Hear f ∷ H); own = w.address; has_box = true; reception = reception w H }
+
+pub transfer_next : (w : Who) (H : List Call) (c : Controller) (now time : ℕ) → Is w H c → time ≡ min (age H + step H now) 18446744073709551615
+    → transfer_by (port_of c.transfers).current (clock time) ≡ next_transfer w H now
+transfer_next w H c now time h e =
+    ap (λ (n : ℕ). transfer_by (port_of c.transfers).current n) (ap clock e ∙ clock_is (age H + step H now))
+    ∙ ap (λ (p : PortRecord). transfer_by p.current (clock_at H now)) h.port
+
+pub long_next : (w : Who) (H : List Call) (c : Controller) (now left time : ℕ) → Is w H c → left ≡ pause H - step H now
+    → time ≡ min (age H + step H now) 18446744073709551615
+    → long_by (packet_by (lane_of (who_of c.own) c.lane).current c.lane.count left) (transfer_by (port_of c.transfers).current (clock time)) ≡ next_long w H now
+long_next w H c now left time h e f =
+    ap (λ (o : Option Message). long_by o (transfer_by (port_of c.transfers).current (clock time))) (packet_next w H c now left h e)
+    ∙ ap (long_by (next_packet w H now)) (transfer_next w H c now time h f)
+
+-- nothing is said now
+no_message : (now : ℕ) (o : Option Message) → (let none : Option (ℕ × Message) = None in none) ≡ option_map (at_now now) o → o ≡ None
+no_message now None e = refl
+no_message now (Some m) e = absurd (cc)
+
 -- ---- a frame is taken
 
 pub none_due : (w : Who) (H : List Call) (c : Controller) → Is w H c → length c.desk.due.items ≡ 0 → slice_get (due w H) (length (acknowledged H)) ≡ None
@@ -103,24 +202,38 @@ none_due w H c h e =
     let a = length_rest (refusal_by w) c.desk.due.items (length (acknowledged H)) (due w H) h.acknowledgments in
     slice_get_past (due w H) (length (acknowledged H)) (omega (arith, a, e))
 
+-- what is to be said first, of an acknowledgment and a reply
+steered_by : (w : Who) (H : List Call) (a b : Option Message) → slice_get (due w H) (length (acknowledged H)) ≡ a → slice_get (reception w H).replies 0 ≡ b
+    → next_control w H ≡ control_of a b
+steered_by w H a b e f = ap (λ (x : Option Message). control_of x (slice_get (reception w H).replies 0)) e ∙ ap (control_of a) f
+
+steered_due : (w : Who) (H : List Call) (m : Message) → slice_get (due w H) (length (acknowledged H)) ≡ Some m → next_control w H ≡ Some m
+steered_due w H m e = steered_by w H (Some m) _ e refl
+
+none_steered : (w : Who) (H : List Call) (c : Controller) → Is w H c → length c.desk.due.items ≡ 0 → length c.incoming.replies.items ≡ 0 → next_control w H ≡ None
+none_steered w H c h e f = steered_by w H None None (none_due w H c h e) (ap (λ (xs : List Message). slice_get xs 0) (none_replied w H c h f))
+
 next_is : (w : Who) (H : List Call) (now : ℕ) (a : Option Message) (o : Option (ℕ × Message)) → owes_claim w H ≡ false → holds w H now ≡ true
-    → slice_get (due w H) (length (acknowledged H)) ≡ a → slice_get (accepted w H) (length (sent H)) ≡ o
-    → next_frame w H now ≡ option_map (λ m. (now, m)) (first_of a o (next_packet w H now))
+    → next_control w H ≡ a → slice_get (accepted w H) (length (sent H)) ≡ o
+    → next_frame w H now ≡ option_map (λ m. (now, m)) (first_of a o (next_long w H now))
 next_is w H now a o e f g k =
-    ap (λ (b : Bool). frame_by b (holds w H now) (slice_get (due w H) (length (acknowledged H))) (slice_get (accepted w H) (length (sent H))) (next_packet w H now) claim now) e
-    ∙ (ap (λ (b : Bool). frame_by false b (slice_get (due w H) (length (acknowledged H))) (slice_get (accepted w H) (length (sent H))) (next_packet w H now) claim now) f
-    ∙ (ap (λ (x : Option Message). frame_by false true x (slice_get (accepted w H) (length (sent H))) (next_packet w H now) claim now) g
-    ∙ ap (λ (x : Option (ℕ × Message)). frame_by false true a x (next_packet w H now) claim now) k))
+    ap (λ (b : Bool). frame_by b (holds w H now) (next_control w H) (slice_get (accepted w H) (length (sent H))) (next_long w H now) claim now) e
+    ∙ (ap (λ (b : Bool). frame_by false b (next_control w H) (slice_get (accepted w H) (length (sent H))) (next_long w H now) claim now) f
+    ∙ (ap (λ (x : Option Message). frame_by false true x (slice_get (accepted w H) (length (sent H))) (next_long w H now) claim now) g
+    ∙ ap (λ (x : Option (ℕ × Message)). frame_by false true a x (next_long w H now) claim now) k))
   where
     claim : Message
     claim = claim_from w (claim_address w (address_after w H))
 
-pub taken : (w : Who) (H : List Call) (old new : Controller) (now : ℕ) (r : Option FrameRecord) (x : Outgoing) → Is w H old
-    → Passed w H now new.hold → new.hold.owes_claim ≡ false → holds w H now ≡ true → length old.desk.due.items ≡ 0
-    → slice_get old.outgoing.items old.taken ≡ Some x → option_map stamped r ≡ Some (now, (posted x).1)
-    → new ≡ record old { hold = new.hold; taken = new.taken } → new.taken ≡ suc old.taken → Is w (TakeFrame now r ∷ H) new
-taken w H old new now None x h p owes held none g m e d = absurd (cc)
-taken w H old new now (Some f) x h p owes held none g m e d =
+pub taken : (w : Who) (H : List Call) (old new : Controller) (now : ℕ) (r : Option FrameRecord) (x : Outgoing) (mid : Hold) → Is w H old
+    → Passed w H now mid → mid.owes_claim ≡ false → holds w H now ≡ true → length old.desk.due.items ≡ 0
+    → length old.incoming.replies.items ≡ 0 → slice_get old.outgoing.items old.taken ≡ Some x → option_map stamped r ≡ Some (now, (posted x).1)
+    → new ≡ record old { hold = new.hold; taken = new.taken; asking = new.asking } → new.taken ≡ suc old.taken → (request : Bool)
+    → asking_of new.asking ≡ option_map (takes x.token) (asking_of old.asking)
+    → request ≡ has_token (option_map (λ (y : AskRecord). y.question) (asking_of old.asking)) x.token → new.hold ≡ hold_asked request mid
+    → Is w (TakeFrame now r ∷ H) new
+taken w H old new now None x mid h p owes held none quiet g m e d request a1 a2 a3 = absurd (cc)
+taken w H old new now (Some f) x mid h p owes held none quiet g m e d request a1 a2 a3 =
     let s = sound w H h.answered in
     let t = s.in_turn (holding_not_lost w H now held) in
     let i = in_rest posted old.outgoing.items x (accepted w H) (length (told H)) (length (sent H)) old.taken h.outgoing h.taken t g in
@@ -130,10 +243,14 @@ taken w H old new now (Some f) x h p owes held none g m e d =
     let l = plain_taken w f now (posted x) k own in
     let one = single_taken w f now (posted x) k own in
     let more = sent_is H now f false false false n l one in
+    let number = s.numbered (length (sent H)) (posted x) i in
     record {
       who = ap (λ c. who_of c.own) e ∙ h.who;
-      answered = (h.answered, ap Some k ∙ sym (next_is w H now None (Some (posted x)) (sym p.owes ∙ owes) held (none_due w H old h none) i));
-      hold = is_hold _ _ p.moment (p.standing ∙ ap standing_of (sym (address_is w H now f false n))) owes (p.pause ∙ sym (pause_is H now f false one));
+      answered = (h.answered, ap Some k ∙ sym (next_is w H now None (Some (posted x)) (sym p.owes ∙ owes) held (none_steered w H old h none quiet) i));
+      hold = a3 ∙ is_hold _ _ p.moment (p.standing ∙ ap standing_of (sym (address_is w H now f false n))) owes (p.pause ∙ sym (pause_is H now f false (no_packet f one))) p.age
+          (ap (λ (k : ℕ). if request then 1250000 else k) p.wait
+          ∙ wait_more w H now x.token f request n l one number (a2 ∙ ap (λ (o : Option AskRecord). has_token (option_map (λ (y : AskRecord). y.question) o) x.token) h.asking));
+      asking = a1 ∙ (ap (option_map (takes x.token)) h.asking ∙ ask_more w H now x.token f number more);
       outgoing = ap (λ c. map posted c.outgoing.items) e ∙ h.outgoing;
       taken = (let a = h.taken in let b = ap length more in let c = length_one_more (sent H) (message_of f) in omega (arith, a, b, c, d, t));
       token = ap (λ c. c.next_token) e ∙ h.token;
@@ -145,15 +262,19 @@ taken w H old new now (Some f) x h p owes held none g m e d =
           (subst (Knows old.holders) (sym (ap (λ (b : Bool). if b then told_claims H ++ f ∷ [] else told_claims H) n)) h.holders);
       news = ap (λ c. c.news) e ∙ h.news;
       missed = ap (λ c. c.inbox.missed) e ∙ h.missed;
-      lane = ap (λ c. lane_of w c.lane) e ∙ (h.lane ∙ lane_same w H now f one);
+      lane = ap (λ c. lane_of w c.lane) e ∙ (h.lane ∙ lane_same w H now f (no_packet f one));
+      incoming = ap (λ c. incoming_of c.incoming) e ∙ (h.incoming ∙ incoming_same w H now f (none_taken w H now f n l (none_replied w H old h quiet)));
+      hearing = ap (λ c. hearing_of c.hearing) e ∙ (h.hearing ∙ hearing_same H now f n);
+      port = ap (λ c. port_of c.transfers) e ∙ (h.port ∙ port_same w H now f (no_move w H f (no_transfer f one)));
     }
 
 pub taken_none : (w : Who) (H : List Call) (old new : Controller) (now : ℕ) → Is w H old
     → Passed w H now new.hold → new.hold.owes_claim ≡ false → holds w H now ≡ true → length old.desk.due.items ≡ 0
-    → slice_get old.outgoing.items old.taken ≡ None
+    → length old.incoming.replies.items ≡ 0 → slice_get old.outgoing.items old.taken ≡ None
     → (let none : Option (ℕ × Message) = None in none) ≡ option_map (at_now now) (packet_by (lane_of (who_of old.own) old.lane).current old.lane.count new.hold.pause)
+    → (let none : Option (ℕ × Message) = None in none) ≡ option_map (at_now now) (transfer_by (port_of old.transfers).current (clock new.hold.age))
     → new ≡ record old { hold = new.hold } → Is w (TakeFrame now None ∷ H) new
-taken_none w H old new now h p owes held none g m e =
+taken_none w H old new now h p owes held none quiet g m u e =
     let s = sound w H h.answered in
     let t = s.in_turn (holding_not_lost w H now held) in
     let i = not_in_rest posted old.outgoing.items (accepted w H) (length (told H)) (length (sent H)) old.taken h.outgoing h.taken t g in
@@ -161,13 +282,15 @@ taken_none w H old new now h p owes held none g m e =
       who = ap (λ c. who_of c.own) e ∙ h.who;
       answered = (
         h.answered,
-        m ∙ (ap (option_map (at_now now)) (packet_next w H old now new.hold.pause h p.pause)
-            ∙ sym (next_is w H now None None (sym p.owes ∙ owes) held (none_due w H old h none) i)),
+        ap (option_map (at_now now)) (sym (ap (λ o. long_by o (transfer_by (port_of old.transfers).current (clock new.hold.age))) (no_message now _ m) ∙ no_message now _ u))
+            ∙ (ap (option_map (at_now now)) (long_next w H old now new.hold.pause new.hold.age h p.pause p.age)
+            ∙ sym (next_is w H now None None (sym p.owes ∙ owes) held (none_steered w H old h none quiet) i)),
       );
-      hold = is_hold _ _ p.moment p.standing p.owes p.pause;
+      hold = is_hold _ _ p.moment p.standing p.owes p.pause p.age p.wait;
       outgoing = ap (λ c. map posted c.outgoing.items) e ∙ h.outgoing;
       taken = ap (λ c. c.taken) e ∙ h.taken;
       token = ap (λ c. c.next_token) e ∙ h.token;
+      asking = ap (λ c. asking_of c.asking) e ∙ h.asking;
       unread = ap (λ c. map received_by c.inbox.unread.items) e ∙ h.unread;
       requests = ap (λ c. map request_by c.desk.waiting.items) e ∙ h.requests;
       acknowledgments = ap (λ c. map (refusal_by w) c.desk.due.items) e ∙ h.acknowledgments;
@@ -175,15 +298,18 @@ taken_none w H old new now h p owes held none g m e =
       news = ap (λ c. c.news) e ∙ h.news;
       missed = ap (λ c. c.inbox.missed) e ∙ h.missed;
       lane = ap (λ c. lane_of w c.lane) e ∙ h.lane;
+      incoming = ap (λ c. incoming_of c.incoming) e ∙ h.incoming;
+      hearing = ap (λ c. hearing_of c.hearing) e ∙ h.hearing;
+      port = ap (λ c. port_of c.transfers) e ∙ h.port;
     }
 
 pub taken_packet : (w : Who) (H : List Call) (old new : Controller) (now : ℕ) (f : FrameRecord) (mid : Hold) → Is w H old
     → Passed w H now mid → mid.owes_claim ≡ false → holds w H now ≡ true → length old.desk.due.items ≡ 0
-    → slice_get old.outgoing.items old.taken ≡ None
+    → length old.incoming.replies.items ≡ 0 → slice_get old.outgoing.items old.taken ≡ None
     → Some (stamped f) ≡ option_map (at_now now) (packet_by (lane_of (who_of old.own) old.lane).current old.lane.count mid.pause)
     → new ≡ record old { hold = new.hold; lane = new.lane } → new.hold ≡ paused mid → new.lane ≡ record old.lane { count = new.lane.count }
     → new.lane.count ≡ suc old.lane.count → Is w (TakeFrame now (Some f) ∷ H) new
-taken_packet w H old new now f mid h p owes held none g m e e0 e1 more =
+taken_packet w H old new now f mid h p owes held none quiet g m e e0 e1 more =
     go (next_packet w H now) refl (m ∙ ap (option_map (at_now now)) (packet_next w H old now mid.pause h p.pause))
   where
     go : (o : Option Message) → next_packet w H now ≡ o → Some (stamped f) ≡ option_map (at_now now) o → Is w (TakeFrame now (Some f) ∷ H) new
@@ -198,12 +324,14 @@ taken_packet w H old new now f mid h p owes held none g m e e0 e1 more =
           who = ap (λ c. who_of c.own) e ∙ h.who;
           answered = (
             h.answered,
-            i ∙ (ap (option_map (at_now now)) (sym q) ∙ sym (next_is w H now None None (sym p.owes ∙ owes) held (none_due w H old h none) past)),
+            i ∙ (ap (λ o. option_map (at_now now) (long_by o (next_transfer w H now))) (sym q)
+                ∙ sym (next_is w H now None None (sym p.owes ∙ owes) held (none_steered w H old h none quiet) past)),
           );
-          hold = e0 ∙ is_hold _ _ p.moment (p.standing ∙ ap standing_of (sym (address_is w H now f false is.0))) owes (sym (pause_is H now f true is.2));
+          hold = e0 ∙ is_hold _ _ p.moment (p.standing ∙ ap standing_of (sym (address_is w H now f false is.0))) owes (sym (pause_is H now f true is.2)) p.age (p.wait ∙ wait_same H now f false false true is.0 is.1 (packet_session f is.2).0 refl);
           outgoing = ap (λ c. map posted c.outgoing.items) e ∙ h.outgoing;
-          taken = ap (λ c. c.taken) e ∙ (h.taken ∙ ap (λ (xs : List Message). length xs - length (told H)) (sym (sent_is H now f false false true is.0 is.1 is.2)));
+          taken = ap (λ c. c.taken) e ∙ (h.taken ∙ ap (λ (xs : List Message). length xs - length (told H)) (sym (sent_is H now f false false true is.0 is.1 (packet_session f is.2).0)));
           token = ap (λ c. c.next_token) e ∙ h.token;
+          asking = ap (λ c. asking_of c.asking) e ∙ (h.asking ∙ ask_same w H now f false false true is.0 is.1 (packet_session f is.2).0 refl);
           unread = ap (λ c. map received_by c.inbox.unread.items) e ∙ h.unread;
           requests = ap (λ c. map request_by c.desk.waiting.items) e ∙ h.requests;
           acknowledgments = ap (λ c. map (refusal_by w) c.desk.due.items) e ∙ (h.acknowledgments
@@ -215,6 +343,61 @@ taken_packet w H old new now f mid h p owes held none g m e e0 e1 more =
           lane = ap (lane_of w) e1 ∙ (ap (λ (l : LaneRecord). record l { count = new.lane.count }) h.lane
               ∙ ap (λ (n : ℕ). record (lane_after w H) { count = n })
               (more ∙ (ap (λ (l : LaneRecord). suc l.count) h.lane ∙ sym (ap length (packets_is H now f true is.2) ∙ length_one_more (packets H) (message_of f)))));
+          incoming = ap (λ c. incoming_of c.incoming) e ∙ (h.incoming ∙ incoming_same w H now f (none_taken w H now f is.0 is.1 (none_replied w H old h quiet)));
+          hearing = ap (λ c. hearing_of c.hearing) e ∙ (h.hearing ∙ hearing_same H now f is.0);
+          port = ap (λ c. port_of c.transfers) e ∙ (h.port ∙ port_same w H now f (no_move w H f (packet_session f is.2).1));
+        }
+
+pub taken_transfer : (w : Who) (H : List Call) (old new : Controller) (now : ℕ) (f : FrameRecord) (mid : Hold) → Is w H old
+    → Passed w H now mid → mid.owes_claim ≡ false → holds w H now ≡ true → length old.desk.due.items ≡ 0 → length old.incoming.replies.items ≡ 0
+    → slice_get old.outgoing.items old.taken ≡ None
+    → (let none : Option (ℕ × Message) = None in none) ≡ option_map (at_now now) (packet_by (lane_of (who_of old.own) old.lane).current old.lane.count mid.pause)
+    → Some (stamped f) ≡ option_map (at_now now) (transfer_by (port_of old.transfers).current (clock mid.age))
+    → new ≡ record old { hold = mid; transfers = new.transfers }
+    → (port_of new.transfers).current ≡ sends_if true (clock mid.age) (port_of old.transfers).current → new.transfers.next_token ≡ old.transfers.next_token
+    → Is w (TakeFrame now (Some f) ∷ H) new
+taken_transfer w H old new now f mid h p owes held none quiet g m u e e0 e1 =
+    go (next_transfer w H now) refl (u ∙ ap (option_map (at_now now)) (transfer_next w H old now mid.age h p.age))
+  where
+    no_packets : next_packet w H now ≡ None
+    no_packets = sym (packet_next w H old now mid.pause h p.pause) ∙ no_message now _ m
+
+    go : (o : Option Message) → next_transfer w H now ≡ o → Some (stamped f) ≡ option_map (at_now now) o → Is w (TakeFrame now (Some f) ∷ H) new
+    go None q i = absurd (cc)
+    go (Some y) q i =
+        let s = sound w H h.answered in
+        let t = s.in_turn (holding_not_lost w H now held) in
+        let past = not_in_rest posted old.outgoing.items (accepted w H) (length (told H)) (length (sent H)) old.taken h.outgoing h.taken t g in
+        let k : stamped f ≡ (now, y) = cc in
+        let is = transfer_taken w H now f y h.answered k q in
+        record {
+          who = ap (λ c. who_of c.own) e ∙ h.who;
+          answered = (
+            h.answered,
+            i ∙ (ap (option_map (at_now now)) (sym (ap (λ o. long_by o (next_transfer w H now)) no_packets ∙ q))
+                ∙ sym (next_is w H now None None (sym p.owes ∙ owes) held (none_steered w H old h none quiet) past)),
+          );
+          hold = ap (λ c. c.hold) e ∙ is_hold _ _ p.moment (p.standing ∙ ap standing_of (sym (address_is w H now f false is.claim))) owes
+              (p.pause ∙ sym (pause_is H now f false is.packet)) p.age (p.wait ∙ wait_same H now f false false true is.claim is.plain is.session refl);
+          outgoing = ap (λ c. map posted c.outgoing.items) e ∙ h.outgoing;
+          taken = ap (λ c. c.taken) e ∙ (h.taken ∙ ap (λ (xs : List Message). length xs - length (told H)) (sym (sent_is H now f false false true is.claim is.plain is.session)));
+          token = ap (λ c. c.next_token) e ∙ h.token;
+          asking = ap (λ c. asking_of c.asking) e ∙ (h.asking ∙ ask_same w H now f false false true is.claim is.plain is.session refl);
+          unread = ap (λ c. map received_by c.inbox.unread.items) e ∙ h.unread;
+          requests = ap (λ c. map request_by c.desk.waiting.items) e ∙ h.requests;
+          acknowledgments = ap (λ c. map (refusal_by w) c.desk.due.items) e ∙ (h.acknowledgments
+              ∙ ap (λ (xs : List Message). drop (length xs) (due w H)) (sym (acknowledged_is H now f false false is.claim is.plain)));
+          holders = subst (λ t. Knows t (told_claims (TakeFrame now (Some f) ∷ H))) (sym (ap (λ c. c.holders) e))
+              (subst (Knows old.holders) (sym (ap (λ (b : Bool). if b then told_claims H ++ f ∷ [] else told_claims H) is.claim)) h.holders);
+          news = ap (λ c. c.news) e ∙ h.news;
+          missed = ap (λ c. c.inbox.missed) e ∙ h.missed;
+          lane = ap (λ c. lane_of w c.lane) e ∙ (h.lane ∙ lane_same w H now f is.packet);
+          hearing = ap (λ c. hearing_of c.hearing) e ∙ (h.hearing ∙ hearing_same H now f is.claim);
+          port = is_port _ _
+              (e0 ∙ (ap (λ (n : ℕ). sends_if true n (port_of old.transfers).current) (ap clock p.age ∙ clock_is (age H + step H now))
+              ∙ (ap (λ (t : PortRecord). sends_if true (clock_at H now) t.current) h.port ∙ port_more w H now f (is_moved w H f is.transfer (none_steers (slice_get (due w H) (length (acknowledged H))) _ (none_steered w H old h none quiet)).1))))
+              (e1 ∙ ap (λ (t : PortRecord). t.next_token) h.port);
+          incoming = ap (λ c. incoming_of c.incoming) e ∙ (h.incoming ∙ incoming_same w H now f (none_taken w H now f is.claim is.plain (none_replied w H old h quiet)));
         }
 
 pub taken_due : (w : Who) (H : List Call) (old new : Controller) (now : ℕ) (r : Option FrameRecord) (x : Due) → Is w H old
@@ -229,11 +412,12 @@ taken_due w H old new now (Some f) x h p owes held first m e =
     let more = acknowledged_is H now f false true is.0 is.1 in
     record {
       who = ap (λ c. who_of c.own) e ∙ h.who;
-      answered = (h.answered, ap Some k ∙ sym (next_is w H now (Some (refusal_by w x)) _ (sym p.owes ∙ owes) held first.is refl));
-      hold = is_hold _ _ p.moment (p.standing ∙ ap standing_of (sym (address_is w H now f false is.0))) owes (p.pause ∙ sym (pause_is H now f false is.2));
+      answered = (h.answered, ap Some k ∙ sym (next_is w H now (Some (refusal_by w x)) _ (sym p.owes ∙ owes) held (steered_due w H (refusal_by w x) first.is) refl));
+      hold = is_hold _ _ p.moment (p.standing ∙ ap standing_of (sym (address_is w H now f false is.0))) owes (p.pause ∙ sym (pause_is H now f false (no_packet f is.2))) p.age (p.wait ∙ wait_same H now f false true false is.0 is.1 is.2 refl);
       outgoing = ap (λ c. map posted c.outgoing.items) e ∙ h.outgoing;
       taken = ap (λ c. c.taken) e ∙ (h.taken ∙ ap (λ (xs : List Message). length xs - length (told H)) (sym (sent_is H now f false true false is.0 is.1 is.2)));
       token = ap (λ c. c.next_token) e ∙ h.token;
+      asking = ap (λ c. asking_of c.asking) e ∙ (h.asking ∙ ask_same w H now f false true false is.0 is.1 is.2 refl);
       unread = ap (λ c. map received_by c.inbox.unread.items) e ∙ h.unread;
       requests = ap (λ c. map request_by c.desk.waiting.items) e ∙ h.requests;
       acknowledgments = first.rest ∙ ap (λ (n : ℕ). drop n (due w H)) (sym (ap length more ∙ length_one_more (acknowledged H) (message_of f)));
@@ -241,15 +425,56 @@ taken_due w H old new now (Some f) x h p owes held first m e =
           (subst (Knows old.holders) (sym (ap (λ (b : Bool). if b then told_claims H ++ f ∷ [] else told_claims H) is.0)) h.holders);
       news = ap (λ c. c.news) e ∙ h.news;
       missed = ap (λ c. c.inbox.missed) e ∙ h.missed;
-      lane = ap (λ c. lane_of w c.lane) e ∙ (h.lane ∙ lane_same w H now f is.2);
+      lane = ap (λ c. lane_of w c.lane) e ∙ (h.lane ∙ lane_same w H now f (no_packet f is.2));
+      incoming = ap (λ c. incoming_of c.incoming) e ∙ (h.incoming ∙ incoming_same w H now f (taken_is w H now f false true is.0 is.1));
+      hearing = ap (λ c. hearing_of c.hearing) e ∙ (h.hearing ∙ hearing_same H now f is.0);
+      port = ap (λ c. port_of c.transfers) e ∙ (h.port ∙ port_same w H now f (no_move w H f (no_transfer f is.2)));
+    }
+
+pub taken_reply : (w : Who) (H : List Call) (old new : Controller) (now : ℕ) (r : Option FrameRecord) (x : Said) → Is w H old → Passed w H now new.hold
+    → new.hold.owes_claim ≡ false → holds w H now ≡ true → length old.desk.due.items ≡ 0
+    → First (said_by old.incoming.receiver.state.own) new.incoming.replies.items x 0 (reception w H).replies
+    → option_map stamped r ≡ Some (now, said_by w.address x)
+    → new ≡ record old { hold = new.hold; incoming = new.incoming } → new.incoming ≡ record old.incoming { replies = new.incoming.replies }
+    → Is w (TakeFrame now r ∷ H) new
+taken_reply w H old new now None x h p owes held none first m e e0 = absurd (cc)
+taken_reply w H old new now (Some f) x h p owes held none first m e e0 =
+    let own : old.incoming.receiver.state.own ≡ w.address = ap (λ (y : IncomingRecord). y.own) h.incoming in
+    let k : stamped f ≡ (now, said_by w.address x) = cc in
+    let at : slice_get (reception w H).replies 0 ≡ Some (said_by w.address x) = first.is ∙ ap (λ (a : ℕ). Some (said_by a x)) own in
+    let is = reply_taken w.address f now (said_by w.address x) k (replied_get w.address (reception w H).replies 0 _ (tidy w H).replies at) in
+    record {
+      who = ap (λ c. who_of c.own) e ∙ h.who;
+      answered = (
+        h.answered,
+        ap Some k ∙ sym (next_is w H now (Some (said_by w.address x)) _ (sym p.owes ∙ owes) held (steered_by w H None _ (none_due w H old h none) at) refl),
+      );
+      hold = is_hold _ _ p.moment (p.standing ∙ ap standing_of (sym (address_is w H now f false is.0))) owes (p.pause ∙ sym (pause_is H now f false is.3)) p.age (p.wait ∙ wait_same H now f false false true is.0 is.1 is.2 refl);
+      outgoing = ap (λ c. map posted c.outgoing.items) e ∙ h.outgoing;
+      taken = ap (λ c. c.taken) e ∙ (h.taken ∙ ap (λ (xs : List Message). length xs - length (told H)) (sym (sent_is H now f false false true is.0 is.1 is.2)));
+      token = ap (λ c. c.next_token) e ∙ h.token;
+      asking = ap (λ c. asking_of c.asking) e ∙ (h.asking ∙ ask_same w H now f false false true is.0 is.1 is.2 refl);
+      unread = ap (λ c. map received_by c.inbox.unread.items) e ∙ h.unread;
+      requests = ap (λ c. map request_by c.desk.waiting.items) e ∙ h.requests;
+      acknowledgments = ap (λ c. map (refusal_by w) c.desk.due.items) e ∙ (h.acknowledgments
+          ∙ ap (λ (xs : List Message). drop (length xs) (due w H)) (sym (acknowledged_is H now f false false is.0 is.1)));
+      holders = subst (λ t. Knows t (told_claims (TakeFrame now (Some f) ∷ H))) (sym (ap (λ c. c.holders) e))
+          (subst (Knows old.holders) (sym (ap (λ (b : Bool). if b then told_claims H ++ f ∷ [] else told_claims H) is.0)) h.holders);
+      news = ap (λ c. c.news) e ∙ h.news;
+      missed = ap (λ c. c.inbox.missed) e ∙ h.missed;
+      lane = ap (λ c. lane_of w c.lane) e ∙ (h.lane ∙ lane_same w H now f is.3);
+      incoming = ap incoming_of e0 ∙ (ap (λ (xs : List Message). with_replies xs (incoming_of old.incoming)) first.rest
+          ∙ (ap (with_replies (drop 1 (reception w H).replies)) h.incoming ∙ incoming_replied w H now f is.0 is.1));
+      hearing = ap (λ c. hearing_of c.hearing) e ∙ (h.hearing ∙ hearing_same H now f is.0);
+      port = ap (λ c. port_of c.transfers) e ∙ (h.port ∙ port_same w H now f (reply_no_move w H f _ at));
     }
 
 -- ---- an end is told
 
 pub told_done : (w : Who) (H : List Call) (old new : Controller) (x : Outgoing) → Is w H old
     → First posted new.outgoing.items x (length (told H)) (accepted w H) → 0 < old.taken → new.taken + 1 ≡ old.taken
-    → new.own ≡ old.own → new.hold ≡ old.hold → new.next_token ≡ old.next_token → new.inbox ≡ old.inbox → new.desk ≡ old.desk → new.holders ≡ old.holders → new.news ≡ old.news → new.lane ≡ old.lane → Is w (TakeEnded (Some (x.token, Done)) ∷ H) new
-told_done w H old new x h f some less e1 e2 e3 e4 e5 e6 e7 e8 = record {
+    → new.own ≡ old.own → new.hold ≡ old.hold → new.next_token ≡ old.next_token → new.inbox ≡ old.inbox → new.desk ≡ old.desk → new.holders ≡ old.holders → new.news ≡ old.news → new.lane ≡ old.lane → new.incoming ≡ old.incoming → new.transfers ≡ old.transfers → new.asking ≡ old.asking → new.hearing ≡ old.hearing → Is w (TakeEnded (Some (x.token, Done)) ∷ H) new
+told_done w H old new x h f some less e1 e2 e3 e4 e5 e6 e7 e8 e9 e10 e11 e12 = record {
   who = ap who_of e1 ∙ h.who;
   answered = (
     h.answered,
@@ -260,6 +485,7 @@ told_done w H old new x h f some less e1 e2 e3 e4 e5 e6 e7 e8 = record {
   outgoing = f.rest ∙ ap (λ (n : ℕ). drop n (accepted w H)) (sym (length_one_more (told H) (x.token, Done)));
   taken = (let a = h.taken in let b = length_one_more (told H) (x.token, Done) in omega (arith, a, b, less));
   token = e3 ∙ h.token;
+  asking = ap asking_of e11 ∙ h.asking;
   unread = ap (λ o. map received_by o.unread.items) e4 ∙ h.unread;
   requests = ap (λ d. map request_by d.waiting.items) e5 ∙ h.requests;
   acknowledgments = ap (λ d. map (refusal_by w) d.due.items) e5 ∙ h.acknowledgments;
@@ -267,6 +493,9 @@ told_done w H old new x h f some less e1 e2 e3 e4 e5 e6 e7 e8 = record {
   news = e7 ∙ h.news;
   missed = ap (λ o. o.missed) e4 ∙ h.missed;
   lane = ap (lane_of w) e8 ∙ h.lane;
+  incoming = ap incoming_of e9 ∙ h.incoming;
+  hearing = ap hearing_of e12 ∙ h.hearing;
+  port = ap port_of e10 ∙ h.port;
 }
   where
     before : nat_lt (length (told H)) (length (sent H)) ≡ true
@@ -277,8 +506,8 @@ not_before t s l = grind arith
 
 pub told_withdrawn : (w : Who) (H : List Call) (old new : Controller) (x : Outgoing) → Is w H old
     → First posted new.outgoing.items x (length (told H)) (accepted w H) → old.taken ≡ 0 → lost old.hold.standing ≡ true → new.taken ≡ old.taken
-    → new.own ≡ old.own → new.hold ≡ old.hold → new.next_token ≡ old.next_token → new.inbox ≡ old.inbox → new.desk ≡ old.desk → new.holders ≡ old.holders → new.news ≡ old.news → new.lane ≡ old.lane → Is w (TakeEnded (Some (x.token, Withdrawn)) ∷ H) new
-told_withdrawn w H old new x h f none is_away same e1 e2 e3 e4 e5 e6 e7 e8 = record {
+    → new.own ≡ old.own → new.hold ≡ old.hold → new.next_token ≡ old.next_token → new.inbox ≡ old.inbox → new.desk ≡ old.desk → new.holders ≡ old.holders → new.news ≡ old.news → new.lane ≡ old.lane → new.incoming ≡ old.incoming → new.transfers ≡ old.transfers → new.asking ≡ old.asking → new.hearing ≡ old.hearing → Is w (TakeEnded (Some (x.token, Withdrawn)) ∷ H) new
+told_withdrawn w H old new x h f none is_away same e1 e2 e3 e4 e5 e6 e7 e8 e9 e10 e11 e12 = record {
   who = ap who_of e1 ∙ h.who;
   answered = (
     h.answered,
@@ -289,6 +518,7 @@ told_withdrawn w H old new x h f none is_away same e1 e2 e3 e4 e5 e6 e7 e8 = rec
   outgoing = f.rest ∙ ap (λ (n : ℕ). drop n (accepted w H)) (sym (length_one_more (told H) (x.token, Withdrawn)));
   taken = (let a = h.taken in let b = length_one_more (told H) (x.token, Withdrawn) in omega (arith, a, b, none, same));
   token = e3 ∙ h.token;
+  asking = ap asking_of e11 ∙ h.asking;
   unread = ap (λ o. map received_by o.unread.items) e4 ∙ h.unread;
   requests = ap (λ d. map request_by d.waiting.items) e5 ∙ h.requests;
   acknowledgments = ap (λ d. map (refusal_by w) d.due.items) e5 ∙ h.acknowledgments;
@@ -296,6 +526,9 @@ told_withdrawn w H old new x h f none is_away same e1 e2 e3 e4 e5 e6 e7 e8 = rec
   news = e7 ∙ h.news;
   missed = ap (λ o. o.missed) e4 ∙ h.missed;
   lane = ap (lane_of w) e8 ∙ h.lane;
+  incoming = ap incoming_of e9 ∙ h.incoming;
+  hearing = ap hearing_of e12 ∙ h.hearing;
+  port = ap port_of e10 ∙ h.port;
 }
   where
     after : nat_lt (length (told H)) (length (sent H)) ≡ false
@@ -304,7 +537,7 @@ told_withdrawn w H old new x h f none is_away same e1 e2 e3 e4 e5 e6 e7 e8 = rec
     away : is_lost (address_after w H) ≡ true
     away = sym (lost_is (address_after w H)) ∙ (sym (ap (λ (k : Hold). lost k.standing) h.hold) ∙ is_away)
 
--- ---- a message is accepted
+-- ---- a message is accepted, or a request
 
 pub full_is : (w : Who) (H : List Call) (old : Controller) → Is w H old
     → (nat_eq (length old.outgoing.items) 16 || nat_eq old.next_token 18446744073709551615) ≡ is_full w H
@@ -315,18 +548,19 @@ full_is w H old h =
 pub posts : (w : Who) (H : List Call) (old new : Controller) (now : ℕ) (d : Draft) (x : Outgoing) → Is w H old → Passed w H now new.hold
     → holds w H now ≡ true → can_send w d ≡ true → (nat_eq (length old.outgoing.items) 16 || nat_eq old.next_token 18446744073709551615) ≡ false
     → posted x ≡ (old.next_token, message_from w d) → new.outgoing.items ≡ old.outgoing.items ++ x ∷ [] → new.next_token ≡ suc old.next_token
-    → new.own ≡ old.own → new.taken ≡ old.taken → new.inbox ≡ old.inbox → new.desk ≡ old.desk → new.holders ≡ old.holders → new.news ≡ old.news → new.lane ≡ old.lane → Is w (Send now d (Ok old.next_token) ∷ H) new
-posts w H old new now d x h p held can room is e0 e1 e2 e3 e4 e5 e6 e7 e8 =
+    → new.own ≡ old.own → new.taken ≡ old.taken → new.inbox ≡ old.inbox → new.desk ≡ old.desk → new.holders ≡ old.holders → new.news ≡ old.news → new.lane ≡ old.lane → new.incoming ≡ old.incoming → new.transfers ≡ old.transfers → asking_of new.asking ≡ asking_of old.asking → new.hearing ≡ old.hearing → Is w (Send now d (Ok old.next_token) ∷ H) new
+posts w H old new now d x h p held can room is e0 e1 e2 e3 e4 e5 e6 e7 e8 e9 e10 e11 e12 =
     let s = sound w H h.answered in
     record {
       who = ap who_of e2 ∙ h.who;
       answered = (h.answered, ap Ok h.token ∙ sym (answer (holds w H now) (can_send w d) (is_full w H) held can (sym (full_is w H old h) ∙ room)));
-      hold = is_hold _ _ p.moment p.standing p.owes p.pause;
+      hold = is_hold _ _ p.moment p.standing p.owes p.pause p.age p.wait;
       outgoing = ap (map posted) e0 ∙ (map_append posted old.outgoing.items x
           ∙ (ap (λ l. l ++ posted x ∷ []) h.outgoing ∙ (ap (λ (y : ℕ × Message). drop (length (told H)) (accepted w H) ++ y ∷ []) is
           ∙ sym (drop_append (length (told H)) (accepted w H) (old.next_token, message_from w d) s.within))));
       taken = e3 ∙ h.taken;
       token = (let a = h.token in let b = length_one_more (accepted w H) (old.next_token, message_from w d) in omega (arith, a, b, e1));
+      asking = e11 ∙ h.asking;
       unread = ap (λ o. map received_by o.unread.items) e4 ∙ h.unread;
       requests = ap (λ d. map request_by d.waiting.items) e5 ∙ h.requests;
       acknowledgments = ap (λ d. map (refusal_by w) d.due.items) e5 ∙ h.acknowledgments;
@@ -334,6 +568,9 @@ posts w H old new now d x h p held can room is e0 e1 e2 e3 e4 e5 e6 e7 e8 =
       news = e7 ∙ h.news;
       missed = ap (λ o. o.missed) e4 ∙ h.missed;
       lane = ap (lane_of w) e8 ∙ h.lane;
+      incoming = ap incoming_of e9 ∙ h.incoming;
+      hearing = ap hearing_of e12 ∙ h.hearing;
+      port = ap port_of e10 ∙ h.port;
     }
   where
     answer : (a b f : Bool) → a ≡ true → b ≡ true → f ≡ false
@@ -395,13 +632,13 @@ is_news u v e f g =
     ap (λ (x : Bool). record u { lost = x }) e
     ∙ (ap (λ (x : Bool). record u { lost = v.lost; another = x }) f ∙ ap (λ (x : Bool). record u { lost = v.lost; another = v.another; missed = x }) g)
 
-pub news_heard : (u v : Untold) (l a b m n : Bool) → v ≡ record u { lost = l; another = u.another || a; missed = u.missed || m } → a ≡ b → m ≡ n
-    → v ≡ record u { lost = l; another = u.another || b; missed = u.missed || n }
-news_heard u v l a b m n e f g =
-    e ∙ (ap (λ (x : Bool). record u { lost = l; another = u.another || x; missed = u.missed || m }) f
-    ∙ ap (λ (x : Bool). record u { lost = l; another = u.another || b; missed = u.missed || x }) g)
+pub news_heard : (u v : Untold) (l a b m n o : Bool) → v ≡ record u { lost = l; another = u.another || a; missed = u.missed || (m || o) } → a ≡ b → m ≡ n
+    → v ≡ record u { lost = l; another = u.another || b; missed = u.missed || (n || o) }
+news_heard u v l a b m n o e f g =
+    e ∙ (ap (λ (x : Bool). record u { lost = l; another = u.another || x; missed = u.missed || (m || o) }) f
+    ∙ ap (λ (x : Bool). record u { lost = l; another = u.another || b; missed = u.missed || (x || o) }) g)
 
-pub heard_more : (w : Who) (H : List Call) (old new : Controller) (f : FrameRecord) (mid : Hold) (held wanted away gone calls : Bool) (o : Option Asked) → Is w H old
+pub heard_more : (w : Who) (H : List Call) (old new : Controller) (f : FrameRecord) (mid : Hold) (held wanted away gone calls replaced unheard : Bool) (o : Option Asked) → Is w H old
     → Passed w H f.stamp mid → held ≡ stands mid.standing → wanted ≡ is_for_program (who_of old.own) held f
     → map received_by new.inbox.unread.items ≡ offered wanted (stamped f) (map received_by old.inbox.unread.items)
     → new.inbox.missed ≡ counted wanted (map received_by old.inbox.unread.items) old.inbox.missed
@@ -416,11 +653,24 @@ pub heard_more : (w : Who) (H : List Call) (old new : Controller) (f : FrameReco
     → new.news ≡ record {
       lost = old.news.lost || (gone && not away);
       another = old.news.another || is_another (who_of old.own) held f;
-      missed = old.news.missed || (wanted && not (nat_lt (length old.inbox.unread.items) 16));
+      missed = old.news.missed || ((wanted && not (nat_lt (length old.inbox.unread.items) 16)) || unheard);
     }
     → new.hold ≡ heard gone calls mid → new.own ≡ old.own → new.outgoing ≡ old.outgoing → new.taken ≡ old.taken → new.next_token ≡ old.next_token → new.lane ≡ old.lane
-    → Is w (Hear f ∷ H) new
-heard_more w H old new f mid held wanted away gone calls o h p e1 e2 e3 e4 e5 e6 e7 q1 q2 q3 q4 q5 e8 s1 s2 s3 s4 s5 =
+    → (old.incoming.receiver.has_box ≡ true → IsApart (incoming_of old.incoming).reception
+    → incoming_of new.incoming ≡ hears gone held f (holder_in old.holders) (holder_in new.holders) (incoming_of old.incoming))
+    → IfSome (port_of old.transfers).current (λ x. replaced ≡ is_replaced (holder_in old.holders x.sender.destination) (holder_in new.holders x.sender.destination))
+    → ((r : ℕ → Bool) → IfSome (port_of old.transfers).current (λ x. replaced ≡ r x.sender.destination)
+    → (port_of new.transfers).current ≡ hears_if (lost new.hold.standing) r f (min new.hold.age 9999999999999999) (port_of old.transfers).current)
+    → new.transfers.next_token ≡ old.transfers.next_token
+    → (whole_now : Option (ℕ × ℕ)) → whole_now ≡ made_by (has_place (incoming_of old.incoming).reception.waits) (incoming_of new.incoming).reception.waits
+    → asking_of new.asking ≡ option_map (hears_with (who_of old.own) (lost new.hold.standing) new.hold.wait f whole_now) (asking_of old.asking)
+    → (left_by : Bool) (p1 p2 : Option ℕ) (m : HearingRecord) → IfSome (hearing_of old.hearing).current (λ z. p1 ≡ holder_in old.holders z.source)
+    → IfSome (hearing_of old.hearing).current (λ z. p2 ≡ holder_in new.holders z.source) → left_by ≡ not (is_same p1 p2)
+    → m.current ≡ leaves_it left_by (hearing_of old.hearing).current → m.missed ≡ old.hearing.missed
+    → unheard ≡ is_unheard (stamp_micros new.incoming.clock) f m.current
+    → new.hearing.missed ≡ (if unheard then min (m.missed + 1) 18446744073709551615 else m.missed)
+    → (IsFit m.current → (hearing_of new.hearing).current ≡ hears_it (stamp_micros new.incoming.clock) f m.current) → Is w (Hear f ∷ H) new
+heard_more w H old new f mid held wanted away gone calls replaced unheard o h p e1 e2 e3 e4 e5 e6 e7 q1 q2 q3 q4 q5 e8 s1 s2 s3 s4 s5 s9 s6 s7 s8 whole_now m1 a1 left_by p1 p2 m t1 t2 t3 t4 t5 t6 t7 t8 =
     let s = sound w H h.answered in
     let wants : wanted ≡ is_for_program w (holds w H f.stamp) f =
     e2 ∙ (ap (λ (v : Who). is_for_program v held f) h.who ∙ ap (λ (b : Bool). is_for_program w b f) (holds_is w H f.stamp mid held p e1)) in
@@ -435,18 +685,34 @@ heard_more w H old new f mid held wanted away gone calls o h p e1 e2 e3 e4 e5 e6
     let goes : gone ≡ is_smaller w (claim_of f) = e5 ∙ ap (λ (v : Who). is_smaller v (claim_of f)) h.who in
     let asks : calls ≡ calls_for_claim w (is_lost (address_after w H)) f =
     e7 ∙ (ap (λ (v : Who). calls_for_claim v away f) h.who ∙ ap (λ (b : Bool). calls_for_claim w b f) lost_before) in
+    let r : ℕ → Bool = λ a. is_replaced (holder H a) (holder (Hear f ∷ H) a) in
+    let current : (port_of old.transfers).current ≡ open_transfer w H = ap (λ (t : PortRecord). t.current) h.port in
+    let stands_now : new.hold.standing ≡ standing_of (address_after w (Hear f ∷ H)) =
+    ap (λ (k : Hold). k.standing) e8 ∙ (ap (λ (b : Bool). if b then standing.Lost else mid.standing) goes
+    ∙ (ap (λ (x : Standing). if is_smaller w (claim_of f) then standing.Lost else x) p.standing
+    ∙ heard_standing (is_smaller w (claim_of f)) (step H f.stamp) (address_after w H))) in
+    let hears_in : incoming_of new.incoming ≡ incoming_after w (Hear f ∷ H) =
+    incoming_heard w H old f new.holders new.incoming gone held h (q4 (told_claims H) h.holders) goes (holds_is w H f.stamp mid held p e1) s9 in
+    let on = heard_on H f old.holders new.holders left_by unheard (stamp_micros new.incoming.clock) p1 p2 (hearing_of old.hearing) m (hearing_of new.hearing) h.hearing
+    h.holders (q4 (told_claims H) h.holders) (ap (λ (x : IncomingRecord). x.clock) hears_in) t1 t2 t3 t4 t5 t6 t7 t8 in
+    let made_now : whole_now ≡ made w H f =
+    m1 ∙ (ap (λ (x : IncomingRecord). made_by (has_place x.reception.waits) (incoming_of new.incoming).reception.waits) h.incoming
+    ∙ (ap (λ (x : IncomingRecord). made_by (has_place (reception w H).waits) x.reception.waits) hears_in ∙ made_is w H f)) in
     record {
       who = ap who_of s1 ∙ h.who;
       answered = (h.answered, tt);
-      hold = is_hold _ _ (ap (λ (k : Hold). k.moment) e8 ∙ p.moment)
-          (ap (λ (k : Hold). k.standing) e8 ∙ (ap (λ (b : Bool). if b then standing.Lost else mid.standing) goes
-          ∙ (ap (λ (x : Standing). if is_smaller w (claim_of f) then standing.Lost else x) p.standing
-          ∙ heard_standing (is_smaller w (claim_of f)) (step H f.stamp) (address_after w H))))
+      hold = is_hold _ _ (ap (λ (k : Hold). k.moment) e8 ∙ p.moment) stands_now
           (ap (λ (k : Hold). k.owes_claim) e8 ∙ (ap (λ (b : Bool). b || calls) p.owes ∙ ap (λ (b : Bool). owes_claim w H || b) asks))
-          (ap (λ (k : Hold). k.pause) e8 ∙ p.pause);
+          (ap (λ (k : Hold). k.pause) e8 ∙ p.pause) (ap (λ (k : Hold). k.age) e8 ∙ p.age) (ap (λ (k : Hold). k.wait) e8 ∙ p.wait);
       outgoing = ap (λ o. map posted o.items) s2 ∙ h.outgoing;
       taken = s3 ∙ h.taken;
       token = s4 ∙ h.token;
+      asking = a1 ∙ (ap (λ (v : Who). option_map (hears_with v (lost new.hold.standing) new.hold.wait f whole_now) (asking_of old.asking)) h.who
+          ∙ (ap (λ (b : Bool). option_map (hears_with w b new.hold.wait f whole_now) (asking_of old.asking)) (ap lost stands_now ∙ lost_is (address_after w (Hear f ∷ H)))
+          ∙ (ap (λ (n : ℕ). option_map (hears_with w (is_lost (address_after w (Hear f ∷ H))) n f whole_now) (asking_of old.asking)) (ap (λ (k : Hold). k.wait) e8 ∙ p.wait)
+          ∙ (ap (λ (o : Option (ℕ × ℕ)). option_map (hears_with w (is_lost (address_after w (Hear f ∷ H))) (wait H - step H f.stamp) f o) (asking_of old.asking)) made_now
+          ∙ (ap (option_map (hears_with w (is_lost (address_after w (Hear f ∷ H))) (wait H - step H f.stamp) f (made w H f))) h.asking
+          ∙ ask_heard w (open_ask H) (length (sent H)) (wait H - step H f.stamp) (ended w H) (is_lost (address_after w (Hear f ∷ H))) f (made w H f))))));
       unread = e3 ∙ (ap (λ (b : Bool). offered b (stamped f) (map received_by old.inbox.unread.items)) wants
           ∙ kept_rest (is_for_program w (holds w H f.stamp) f) (kept w H) _ (length (got H)) (stamped f) (read w H s) h.unread);
       requests = q1 ∙ (ap (λ (v : Who). with_request v (nat_lt (length old.desk.waiting.items) 16) o (map request_by old.desk.waiting.items)) h.who
@@ -466,13 +732,29 @@ heard_more w H old new f mid held wanted away gone calls o h p e1 e2 e3 e4 e5 e6
           (ap (λ (u : Untold). u.another || is_another (who_of old.own) held f) h.news
           ∙ (ap (λ (v : Who). another_news w H || is_another v held f) h.who
           ∙ ap (λ (b : Bool). another_news w H || is_another w b f) (holds_is w H f.stamp mid held p e1)))
-          (ap (λ (u : Untold). u.missed || (wanted && not (nat_lt (length old.inbox.unread.items) 16))) h.news
-          ∙ (ap (λ (b : Bool). missed_news w H || (b && not (nat_lt (length old.inbox.unread.items) 16))) wants
-          ∙ ap (λ (n : ℕ). missed_news w H || (is_for_program w (holds w H f.stamp) f && not (nat_lt n 16)))
-          (length_rest received_by old.inbox.unread.items (length (got H)) (kept w H) h.unread)));
+          (ap (λ (u : Untold). u.missed || ((wanted && not (nat_lt (length old.inbox.unread.items) 16)) || unheard)) h.news
+          ∙ (ap (λ (b : Bool). (missed_news w H || unheard_news H) || ((b && not (nat_lt (length old.inbox.unread.items) 16)) || unheard)) wants
+          ∙ (ap (λ (n : ℕ). (missed_news w H || unheard_news H) || ((is_for_program w (holds w H f.stamp) f && not (nat_lt n 16)) || unheard))
+          (length_rest received_by old.inbox.unread.items (length (got H)) (kept w H) h.unread)
+          ∙ (ap (λ (b : Bool). (missed_news w H || unheard_news H) || ((is_for_program w (holds w H f.stamp) f && not (nat_lt (length (kept w H) - length (got H)) 16)) || b)) on.unheard
+          ∙ either_news (missed_news w H) (unheard_news H) _ _))));
       missed = e4 ∙ (ap (λ (b : Bool). counted b (map received_by old.inbox.unread.items) old.inbox.missed) wants
           ∙ missed_rest (is_for_program w (holds w H f.stamp) f) (kept w H) _ (length (got H)) (missed w H) _ h.unread h.missed);
       lane = ap (lane_of w) s5 ∙ h.lane;
+      incoming = hears_in;
+      hearing = on.hearing;
+      port = is_port _ _
+          (s7 (λ a. is_replaced (holder H a) (holder (Hear f ∷ H) a))
+          (subst (λ (o : Option Running). IfSome o (λ x. replaced ≡ is_replaced (holder H x.sender.destination) (holder (Hear f ∷ H) x.sender.destination)))
+          (sym current)
+          (replaced_is w H f old.holders new.holders replaced (open_transfer w H) (ported w H h.answered) h.holders (q4 (told_claims H) h.holders)
+          (subst (λ (o : Option Running). IfSome o (λ x. replaced ≡ is_replaced (holder_in old.holders x.sender.destination) (holder_in new.holders x.sender.destination))) current s6)))
+          ∙ (ap (λ (b : Bool). hears_if b r f (min new.hold.age 9999999999999999) (port_of old.transfers).current)
+          (ap lost stands_now ∙ lost_is (address_after w (Hear f ∷ H)))
+          ∙ (ap (λ (n : ℕ). hears_if (is_lost (address_after w (Hear f ∷ H))) r f n (port_of old.transfers).current)
+          (ap (λ (n : ℕ). min n 9999999999999999) (ap (λ (k : Hold). k.age) e8 ∙ p.age) ∙ clock_is (age H + step H f.stamp))
+          ∙ ap (hears_if (is_lost (address_after w (Hear f ∷ H))) r f (clock_at H f.stamp)) current)))
+          (s8 ∙ ap (λ (t : PortRecord). t.next_token) h.port);
     }
 
 -- ---- requests
@@ -487,6 +769,7 @@ handed_more w H old new x h first e = record {
   outgoing = ap (λ c. map posted c.outgoing.items) e ∙ h.outgoing;
   taken = ap (λ c. c.taken) e ∙ h.taken;
   token = ap (λ c. c.next_token) e ∙ h.token;
+  asking = ap (λ c. asking_of c.asking) e ∙ h.asking;
   unread = ap (λ c. map received_by c.inbox.unread.items) e ∙ h.unread;
   requests = first.rest ∙ ap (λ (n : ℕ). drop n (requests w H)) (sym (length_one_more (handed H) (request_by x)));
   acknowledgments = ap (λ c. map (refusal_by w) c.desk.due.items) e ∙ h.acknowledgments;
@@ -494,6 +777,9 @@ handed_more w H old new x h first e = record {
   news = ap (λ c. c.news) e ∙ h.news;
   missed = ap (λ c. c.inbox.missed) e ∙ h.missed;
   lane = ap (λ c. lane_of w c.lane) e ∙ h.lane;
+  incoming = ap (λ c. incoming_of c.incoming) e ∙ h.incoming;
+  hearing = ap (λ c. hearing_of c.hearing) e ∙ h.hearing;
+  port = ap (λ c. port_of c.transfers) e ∙ h.port;
 }
 
 abbrev pub acknowledges_by : Bool → Bool → Bool → Result (Unit {0}) Refused
@@ -514,10 +800,11 @@ due_more w H old new now answer x h p right a g e =
     record {
       who = ap (λ c. who_of c.own) e ∙ h.who;
       answered = (h.answered, right);
-      hold = is_hold _ _ p.moment p.standing p.owes p.pause;
+      hold = is_hold _ _ p.moment p.standing p.owes p.pause p.age p.wait;
       outgoing = ap (λ c. map posted c.outgoing.items) e ∙ h.outgoing;
       taken = ap (λ c. c.taken) e ∙ h.taken;
       token = ap (λ c. c.next_token) e ∙ h.token;
+      asking = ap (λ c. asking_of c.asking) e ∙ h.asking;
       unread = ap (λ c. map received_by c.inbox.unread.items) e ∙ h.unread;
       requests = ap (λ c. map request_by c.desk.waiting.items) e ∙ h.requests;
       acknowledgments = ap (map (refusal_by w)) g ∙ (map_append (refusal_by w) old.desk.due.items x
@@ -528,6 +815,9 @@ due_more w H old new now answer x h p right a g e =
       news = ap (λ c. c.news) e ∙ h.news;
       missed = ap (λ c. c.inbox.missed) e ∙ h.missed;
       lane = ap (λ c. lane_of w c.lane) e ∙ h.lane;
+      incoming = ap (λ c. incoming_of c.incoming) e ∙ h.incoming;
+      hearing = ap (λ c. hearing_of c.hearing) e ∙ h.hearing;
+      port = ap (λ c. port_of c.transfers) e ∙ h.port;
     }
 
 -- ---- a call that only lets time pass
@@ -537,10 +827,11 @@ pub refuses_send : (w : Who) (H : List Call) (old new : Controller) (now : ℕ) 
 refuses_send w H old new now d r h p answer e = record {
   who = ap (λ c. who_of c.own) e ∙ h.who;
   answered = (h.answered, answer);
-  hold = is_hold _ _ p.moment p.standing p.owes p.pause;
+  hold = is_hold _ _ p.moment p.standing p.owes p.pause p.age p.wait;
   outgoing = ap (λ c. map posted c.outgoing.items) e ∙ h.outgoing;
   taken = ap (λ c. c.taken) e ∙ h.taken;
   token = ap (λ c. c.next_token) e ∙ h.token;
+  asking = ap (λ c. asking_of c.asking) e ∙ h.asking;
   unread = ap (λ c. map received_by c.inbox.unread.items) e ∙ h.unread;
   requests = ap (λ c. map request_by c.desk.waiting.items) e ∙ h.requests;
   acknowledgments = ap (λ c. map (refusal_by w) c.desk.due.items) e ∙ h.acknowledgments;
@@ -548,6 +839,9 @@ refuses_send w H old new now d r h p answer e = record {
   news = ap (λ c. c.news) e ∙ h.news;
   missed = ap (λ c. c.inbox.missed) e ∙ h.missed;
   lane = ap (λ c. lane_of w c.lane) e ∙ h.lane;
+  incoming = ap (λ c. incoming_of c.incoming) e ∙ h.incoming;
+  hearing = ap (λ c. hearing_of c.hearing) e ∙ h.hearing;
+  port = ap (λ c. port_of c.transfers) e ∙ h.port;
 }
 
 abbrev pub sends_by : Who → List Call → Bool → Bool → Bool → Result ℕ Refused
@@ -568,26 +862,29 @@ lt_some : (a b : ℕ) → nat_lt 0 (a - b) ≡ nat_lt b a
 lt_some a b = grind arith
 
 waits_is : (w : Who) (H : List Call) (c : Controller) → Is w H c → is_held (address_after w H) ≡ true
-    → (nat_lt c.taken (length c.outgoing.items) || nat_lt 0 (length c.desk.due.items)) ≡ is_waiting w H
+    → (nat_lt c.taken (length c.outgoing.items) || (nat_lt 0 (length c.desk.due.items) || nat_lt 0 (length c.incoming.replies.items))) ≡ is_waiting w H
 waits_is w H c h e =
     let t = (sound w H h.answered).in_turn (held_not_lost (address_after w H) e) in
-    ap (λ (b : Bool). b || nat_lt 0 (length c.desk.due.items))
+    ap (λ (b : Bool). b || (nat_lt 0 (length c.desk.due.items) || nat_lt 0 (length c.incoming.replies.items)))
     (ap (λ (n : ℕ). nat_lt n (length c.outgoing.items)) h.taken
     ∙ (ap (λ (n : ℕ). nat_lt (length (sent H) - length (told H)) n) (length_rest posted c.outgoing.items (length (told H)) (accepted w H) h.outgoing)
     ∙ lt_less _ _ _ t))
     ∙ ap (λ (b : Bool). nat_lt (length (sent H)) (length (accepted w H)) || b)
+    (ap (λ (b : Bool). b || nat_lt 0 (length c.incoming.replies.items))
     (ap (nat_lt 0) (length_rest (refusal_by w) c.desk.due.items (length (acknowledged H)) (due w H) h.acknowledgments) ∙ lt_some _ _)
+    ∙ ap (λ (n : ℕ). nat_lt (length (acknowledged H)) (length (due w H)) || nat_lt 0 n) (replies_length w H c h))
 
 held_and : (a : Bool) (x y : Bool) → (a ≡ true → x ≡ y) → (a && x) ≡ (a && y)
 held_and true x y f = f refl
 held_and false x y f = refl
 
 pub frame_due : (w : Who) (H : List Call) (c : Controller) → Is w H c
-    → (c.hold.owes_claim || (stands c.hold.standing && (nat_lt c.taken (length c.outgoing.items) || nat_lt 0 (length c.desk.due.items))))
+    → (c.hold.owes_claim || (stands c.hold.standing && (nat_lt c.taken (length c.outgoing.items) || (nat_lt 0 (length c.desk.due.items)
+    || nat_lt 0 (length c.incoming.replies.items)))))
     ≡ (owes_claim w H || (is_held (address_after w H) && is_waiting w H))
 frame_due w H c h =
-    ap (λ (k : Hold). k.owes_claim || (stands k.standing && (nat_lt c.taken (length c.outgoing.items) || nat_lt 0 (length c.desk.due.items)))) h.hold
-    ∙ (ap (λ (b : Bool). owes_claim w H || (b && (nat_lt c.taken (length c.outgoing.items) || nat_lt 0 (length c.desk.due.items)))) (stands_is (address_after w H))
+    ap (λ (k : Hold). k.owes_claim || (stands k.standing && (nat_lt c.taken (length c.outgoing.items) || (nat_lt 0 (length c.desk.due.items) || nat_lt 0 (length c.incoming.replies.items))))) h.hold
+    ∙ (ap (λ (b : Bool). owes_claim w H || (b && (nat_lt c.taken (length c.outgoing.items) || (nat_lt 0 (length c.desk.due.items) || nat_lt 0 (length c.incoming.replies.items))))) (stands_is (address_after w H))
     ∙ ap (λ (b : Bool). owes_claim w H || b) (held_and (is_held (address_after w H)) _ _ (waits_is w H c h)))
 
 lt_left : (e : ℕ) → nat_lt 0 (250000 - e) ≡ nat_lt e 250000
@@ -598,19 +895,25 @@ held_at_is NotClaimed m = refl
 held_at_is (Claimed e) m = ap (λ (b : Bool). if b then stamp_at (m + (250000 - e)) else None) (lt_left e)
 held_at_is Lost m = refl
 
-pub left_due : (w : Who) (H : List Call) (c : Controller) → Is w H c
-    → (stands c.hold.standing && is_left (lane_of w c.lane).current c.lane.count) ≡ (is_held (address_after w H) && has_packets w H)
-left_due w H c h =
-    ap (λ (k : Hold). stands k.standing && is_left (lane_of w c.lane).current c.lane.count) h.hold
-    ∙ (ap (λ (b : Bool). b && is_left (lane_of w c.lane).current c.lane.count) (stands_is (address_after w H))
-    ∙ ap (λ (l : LaneRecord). is_held (address_after w H) && is_left l.current l.count) h.lane)
+-- in how long a frame of packets can be taken
+pub packets_due : (w : Who) (H : List Call) (c : Controller) → Is w H c
+    → sooner (packet_in (is_left (lane_of w c.lane).current c.lane.count) c.hold.pause) (transfer_in (port_of c.transfers).current (clock c.hold.age))
+    ≡ packets_in w H
+packets_due w H c h =
+    ap (λ (l : LaneRecord). sooner (packet_in (is_left l.current l.count) c.hold.pause) (transfer_in (port_of c.transfers).current (clock c.hold.age))) h.lane
+    ∙ (ap (λ (k : Hold). sooner (packet_in (has_packets w H) k.pause) (transfer_in (port_of c.transfers).current (clock k.age))) h.hold
+    ∙ (ap (λ (n : ℕ). sooner (packet_in (has_packets w H) (pause H)) (transfer_in (port_of c.transfers).current n)) (clock_is (age H))
+    ∙ ap (λ (p : PortRecord). sooner (packet_in (has_packets w H) (pause H)) (transfer_in p.current (clock (age H)))) h.port))
 
--- when something is due, by whether a frame can be taken, and whether one of packets is left
+pub held_due : (w : Who) (H : List Call) (c : Controller) (b : Bool) → Is w H c → b ≡ stands c.hold.standing → b ≡ is_held (address_after w H)
+held_due w H c b h e = e ∙ (ap (λ (k : Hold). stands k.standing) h.hold ∙ stands_is (address_after w H))
+
+-- when something is due, by whether a frame can be taken, and whether the address is held
 abbrev pub due_by : Who → List Call → Bool → Bool → Option ℕ
-due_by w H b l = if b then stamp_at (moment H) else if l then stamp_at (moment H + pause H) else held_at (address_after w H) (moment H)
+due_by w H b l = if b then stamp_at (moment H) else if l then at_in (moment H) (packets_in w H) else held_at (address_after w H) (moment H)
 
 pub due_is : (w : Who) (H : List Call) (b l : Bool) → b ≡ (owes_claim w H || (is_held (address_after w H) && is_waiting w H))
-    → l ≡ (is_held (address_after w H) && has_packets w H) → due_by w H b l ≡ next_due w H
+    → l ≡ is_held (address_after w H) → due_by w H b l ≡ next_due w H
 due_is w H b l e f = ap (λ (x : Bool). due_by w H x l) e ∙ ap (due_by w H (owes_claim w H || (is_held (address_after w H) && is_waiting w H))) f
 
 -- ---- a claim is taken
@@ -621,11 +924,16 @@ claims_after (Claimed e) = refl
 claims_after Lost = refl
 
 pub claims_more : (w : Who) (H : List Call) (old new : Controller) (now : ℕ) (f : FrameRecord) (mid : Hold) (a : ℕ) → Is w H old → Passed w H now mid
-    → mid.owes_claim ≡ true → new.hold ≡ record { moment = mid.moment; standing = claims mid.standing; owes_claim = false; pause = mid.pause }
+    → mid.owes_claim ≡ true → new.hold ≡ record { moment = mid.moment; standing = claims mid.standing; owes_claim = false; pause = mid.pause; age = mid.age; wait = mid.wait }
     → Some (stamped f) ≡ Some (now, claim_from (who_of old.own) a) → a ≡ (if lost mid.standing then 254 else old.own.address)
     → ((F : List FrameRecord) → Knows old.holders F → Knows new.holders (F ++ f ∷ []))
-    → new ≡ record old { hold = new.hold; holders = new.holders } → Is w (TakeFrame now (Some f) ∷ H) new
-claims_more w H old new now f mid a h p owes e0 m at knows e =
+    → incoming_of new.incoming ≡ with_reception (left (leaves (holder_in old.holders) (holder_in new.holders) (incoming_of old.incoming).reception.session)
+    (incoming_of old.incoming).reception) (incoming_of old.incoming)
+    → (left_by : Bool) (p1 p2 : Option ℕ) → IfSome (hearing_of old.hearing).current (λ z. p1 ≡ holder_in old.holders z.source)
+    → IfSome (hearing_of old.hearing).current (λ z. p2 ≡ holder_in new.holders z.source) → left_by ≡ not (is_same p1 p2)
+    → (hearing_of new.hearing).current ≡ leaves_it left_by (hearing_of old.hearing).current → new.hearing.missed ≡ old.hearing.missed
+    → new ≡ record old { hold = new.hold; holders = new.holders; incoming = new.incoming; hearing = new.hearing } → Is w (TakeFrame now (Some f) ∷ H) new
+claims_more w H old new now f mid a h p owes e0 m at knows drops left_by p1 p2 t1 t2 t3 t4 t5 e =
     let from : claim_from (who_of old.own) a ≡ claim_from w (claim_address w (address_after w H)) =
     ap (λ (v : Who). claim_from v a) h.who
     ∙ ap (claim_from w) (at ∙ (ap (λ (x : Standing). if lost x then 254 else old.own.address) p.standing
@@ -639,15 +947,16 @@ claims_more w H old new now f mid a h p owes e0 m at knows e =
       who = ap (λ c. who_of c.own) e ∙ h.who;
       answered = (
         h.answered,
-        ap Some j ∙ sym (ap (λ (b : Bool). frame_by b (holds w H now) (slice_get (due w H) (length (acknowledged H))) (slice_get (accepted w H) (length (sent H))) (next_packet w H now)
+        ap Some j ∙ sym (ap (λ (b : Bool). frame_by b (holds w H now) (next_control w H) (slice_get (accepted w H) (length (sent H))) (next_long w H now)
             (claim_from w (claim_address w (address_after w H))) now) due_claim),
       );
       hold = e0 ∙ is_hold _ _ p.moment
           (ap claims p.standing ∙ (claims_after (older (step H now) (address_after w H)) ∙ ap standing_of (sym (address_is w H now f true n)))) refl
-          (p.pause ∙ sym (pause_is H now f false (claim_single f n)));
+          (p.pause ∙ sym (pause_is H now f false (no_packet f (claim_single f n)))) p.age (p.wait ∙ wait_same H now f true _ _ n refl refl refl);
       outgoing = ap (λ c. map posted c.outgoing.items) e ∙ h.outgoing;
       taken = ap (λ c. c.taken) e ∙ (h.taken ∙ ap (λ (xs : List Message). length xs - length (told H)) (sym (sent_is H now f true _ _ n refl refl)));
       token = ap (λ c. c.next_token) e ∙ h.token;
+      asking = ap (λ c. asking_of c.asking) e ∙ (h.asking ∙ ask_same w H now f true _ _ n refl refl refl);
       unread = ap (λ c. map received_by c.inbox.unread.items) e ∙ h.unread;
       requests = ap (λ c. map request_by c.desk.waiting.items) e ∙ h.requests;
       acknowledgments = ap (λ c. map (refusal_by w) c.desk.due.items) e ∙ (h.acknowledgments
@@ -655,7 +964,10 @@ claims_more w H old new now f mid a h p owes e0 m at knows e =
       holders = subst (Knows new.holders) (sym (ap (λ (b : Bool). if b then told_claims H ++ f ∷ [] else told_claims H) n)) (knows (told_claims H) h.holders);
       news = ap (λ c. c.news) e ∙ h.news;
       missed = ap (λ c. c.inbox.missed) e ∙ h.missed;
-      lane = ap (λ c. lane_of w c.lane) e ∙ (h.lane ∙ lane_same w H now f (claim_single f n));
+      lane = ap (λ c. lane_of w c.lane) e ∙ (h.lane ∙ lane_same w H now f (no_packet f (claim_single f n)));
+      hearing = claimed_on H now f old.holders new.holders left_by p1 p2 (hearing_of old.hearing) (hearing_of new.hearing) h.hearing h.holders (subst (Knows new.holders) (sym (told_is H now f n)) (knows (told_claims H) h.holders)) t1 t2 t3 t4 t5;
+      port = ap (λ c. port_of c.transfers) e ∙ (h.port ∙ port_same w H now f (no_move w H f (no_transfer f (claim_single f n))));
+      incoming = drops ∙ incoming_claimed w H old now f new.holders h n (subst (Knows new.holders) (sym (told_is H now f n)) (knows (told_claims H) h.holders));
     }
   where
     told_address : (s : ℕ) (x : Address) → (if lost (standing_of (older s x)) then 254 else w.address) ≡ claim_address w x
@@ -685,15 +997,15 @@ pub peeks_claim : (w : Who) (H : List Call) (c : Controller) (now a : ℕ) (r : 
     → option_map stamped r ≡ next_frame w H now
 peeks_claim w H c now a r h owes m e =
     m ∙ (ap (λ (x : Message). Some (now, x)) (claim_told w H c a h e)
-    ∙ sym (ap (λ (b : Bool). frame_by b (holds w H now) (slice_get (due w H) (length (acknowledged H))) (slice_get (accepted w H) (length (sent H))) (next_packet w H now)
+    ∙ sym (ap (λ (b : Bool). frame_by b (holds w H now) (next_control w H) (slice_get (accepted w H) (length (sent H))) (next_long w H now)
     (claim_from w (claim_address w (address_after w H))) now) (owes_is w H c true h owes)))
 
 pub peeks_none : (w : Who) (H : List Call) (c : Controller) (now : ℕ) → Is w H c → c.hold.owes_claim ≡ false → holds w H now ≡ false
     → (let none : Option (ℕ × Message) = None in none) ≡ next_frame w H now
 peeks_none w H c now h owes held =
-    sym (ap (λ (b : Bool). frame_by b (holds w H now) (slice_get (due w H) (length (acknowledged H))) (slice_get (accepted w H) (length (sent H))) (next_packet w H now)
+    sym (ap (λ (b : Bool). frame_by b (holds w H now) (next_control w H) (slice_get (accepted w H) (length (sent H))) (next_long w H now)
     (claim_from w (claim_address w (address_after w H))) now) (owes_is w H c false h owes)
-    ∙ ap (λ (b : Bool). frame_by false b (slice_get (due w H) (length (acknowledged H))) (slice_get (accepted w H) (length (sent H))) (next_packet w H now)
+    ∙ ap (λ (b : Bool). frame_by false b (next_control w H) (slice_get (accepted w H) (length (sent H))) (next_long w H now)
     (claim_from w (claim_address w (address_after w H))) now) held)
 
 pub peeks_due : (w : Who) (H : List Call) (c : Controller) (now : ℕ) (r : Option FrameRecord) (x : Due) → Is w H c → c.hold.owes_claim ≡ false
@@ -701,19 +1013,48 @@ pub peeks_due : (w : Who) (H : List Call) (c : Controller) (now : ℕ) (r : Opti
     → option_map stamped r ≡ next_frame w H now
 peeks_due w H c now r x h owes held g m =
     let i = in_rest (refusal_by w) c.desk.due.items x (due w H) (length (acknowledged H)) (length (acknowledged H)) 0 h.acknowledgments (omega arith) (omega arith) g in
-    m ∙ sym (next_is w H now (Some (refusal_by w x)) _ (owes_is w H c false h owes) held i refl)
+    m ∙ sym (next_is w H now (Some (refusal_by w x)) _ (owes_is w H c false h owes) held (steered_due w H (refusal_by w x) i) refl)
 
-pub peeks_message : (w : Who) (H : List Call) (c : Controller) (now left : ℕ) (r : Option FrameRecord) → Is w H c → c.hold.owes_claim ≡ false
-    → holds w H now ≡ true → slice_get c.desk.due.items 0 ≡ None → left ≡ pause H - step H now
-    → option_map stamped r ≡ option_map (at_now now)
-    (first_of None (option_map posted (slice_get c.outgoing.items c.taken)) (packet_by (lane_of (who_of c.own) c.lane).current c.lane.count left))
+-- the first reply that waits
+pub no_reply : (w : Who) (H : List Call) (c : Controller) (now : ℕ) → Is w H c → (r : Option FrameRecord)
+    → option_map stamped r ≡ option_map (at_now now) (slice_get (incoming_of c.incoming).reception.replies 0) → r ≡ None → slice_get (reception w H).replies 0 ≡ None
+no_reply w H c now h r e n = go (slice_get (reception w H).replies 0)
+    (sym (ap (option_map stamped) n) ∙ (e ∙ ap (λ (xs : List Message). option_map (at_now now) (slice_get xs 0)) (replies_is w H c h)))
+  where
+    go : (o : Option Message) → (let none : Option (ℕ × Message) = None in none) ≡ option_map (at_now now) o → o ≡ None
+    go None f = refl
+    go (Some m) f = absurd (cc)
+
+pub a_reply : (w : Who) (H : List Call) (c : Controller) (now : ℕ) → Is w H c → (f : FrameRecord)
+    → Some (stamped f) ≡ option_map (at_now now) (slice_get (incoming_of c.incoming).reception.replies 0)
+    → (m : Message) × (slice_get (reception w H).replies 0 ≡ Some m) × (option_map stamped (Some f) ≡ Some (now, m))
+a_reply w H c now h f e = go (slice_get (reception w H).replies 0) refl
+    (e ∙ ap (λ (xs : List Message). option_map (at_now now) (slice_get xs 0)) (replies_is w H c h))
+  where
+    go : (o : Option Message) → slice_get (reception w H).replies 0 ≡ o → Some (stamped f) ≡ option_map (at_now now) o
+        → (m : Message) × (slice_get (reception w H).replies 0 ≡ Some m) × (Some (stamped f) ≡ Some (now, m))
+    go None i g = absurd (cc)
+    go (Some m) i g = (m, i, g)
+
+pub peeks_reply : (w : Who) (H : List Call) (c : Controller) (now : ℕ) (r : Option FrameRecord) (m : Message) → Is w H c → c.hold.owes_claim ≡ false
+    → holds w H now ≡ true → slice_get c.desk.due.items 0 ≡ None → slice_get (reception w H).replies 0 ≡ Some m → option_map stamped r ≡ Some (now, m)
     → option_map stamped r ≡ next_frame w H now
-peeks_message w H c now left r h owes held g e m =
+peeks_reply w H c now r m h owes held g at e =
+    let i = not_in_rest (refusal_by w) c.desk.due.items (due w H) (length (acknowledged H)) (length (acknowledged H)) 0 h.acknowledgments (omega arith) (omega arith) g in
+    e ∙ sym (next_is w H now (Some m) _ (owes_is w H c false h owes) held (steered_by w H None (Some m) i at) refl)
+
+pub peeks_message : (w : Who) (H : List Call) (c : Controller) (now left time : ℕ) (r : Option FrameRecord) → Is w H c → c.hold.owes_claim ≡ false
+    → holds w H now ≡ true → slice_get c.desk.due.items 0 ≡ None → slice_get (reception w H).replies 0 ≡ None → left ≡ pause H - step H now → time ≡ min (age H + step H now) 18446744073709551615
+    → option_map stamped r ≡ option_map (at_now now)
+    (first_of None (option_map posted (slice_get c.outgoing.items c.taken))
+    (long_by (packet_by (lane_of (who_of c.own) c.lane).current c.lane.count left) (transfer_by (port_of c.transfers).current (clock time))))
+    → option_map stamped r ≡ next_frame w H now
+peeks_message w H c now left time r h owes held g quiet e a m =
     let t = (sound w H h.answered).in_turn (holding_not_lost w H now held) in
     let i = not_in_rest (refusal_by w) c.desk.due.items (due w H) (length (acknowledged H)) (length (acknowledged H)) 0 h.acknowledgments (omega arith) (omega arith) g in
-    m ∙ (ap (λ p. option_map (at_now now) (first_of None (option_map posted (slice_get c.outgoing.items c.taken)) p)) (packet_next w H c now left h e)
-    ∙ (ap (λ o. option_map (at_now now) (first_of None o (next_packet w H now))) (next (slice_get c.outgoing.items c.taken) refl t)
-    ∙ sym (next_is w H now None _ (owes_is w H c false h owes) held i refl)))
+    m ∙ (ap (λ p. option_map (at_now now) (first_of None (option_map posted (slice_get c.outgoing.items c.taken)) p)) (long_next w H c now left time h e a)
+    ∙ (ap (λ o. option_map (at_now now) (first_of None o (next_long w H now))) (next (slice_get c.outgoing.items c.taken) refl t)
+    ∙ sym (next_is w H now None _ (owes_is w H c false h owes) held (steered_by w H None None i quiet) refl)))
   where
     next : (o : Option Outgoing) → slice_get c.outgoing.items c.taken ≡ o → length (told H) ≤ length (sent H)
         → option_map posted o ≡ slice_get (accepted w H) (length (sent H))
@@ -741,10 +1082,11 @@ pub refuses_broadcast : (w : Who) (H : List Call) (old new : Controller) (now gr
 refuses_broadcast w H old new now group bytes r h p answer e = record {
   who = ap (λ c. who_of c.own) e ∙ h.who;
   answered = (h.answered, answer);
-  hold = is_hold _ _ p.moment p.standing p.owes p.pause;
+  hold = is_hold _ _ p.moment p.standing p.owes p.pause p.age p.wait;
   outgoing = ap (λ c. map posted c.outgoing.items) e ∙ h.outgoing;
   taken = ap (λ c. c.taken) e ∙ h.taken;
   token = ap (λ c. c.next_token) e ∙ h.token;
+  asking = ap (λ c. asking_of c.asking) e ∙ h.asking;
   unread = ap (λ c. map received_by c.inbox.unread.items) e ∙ h.unread;
   requests = ap (λ c. map request_by c.desk.waiting.items) e ∙ h.requests;
   acknowledgments = ap (λ c. map (refusal_by w) c.desk.due.items) e ∙ h.acknowledgments;
@@ -752,6 +1094,9 @@ refuses_broadcast w H old new now group bytes r h p answer e = record {
   news = ap (λ c. c.news) e ∙ h.news;
   missed = ap (λ c. c.inbox.missed) e ∙ h.missed;
   lane = ap (λ c. lane_of w c.lane) e ∙ h.lane;
+  incoming = ap (λ c. incoming_of c.incoming) e ∙ h.incoming;
+  hearing = ap (λ c. hearing_of c.hearing) e ∙ h.hearing;
+  port = ap (λ c. port_of c.transfers) e ∙ h.port;
 }
 
 pub begins : (w : Who) (H : List Call) (old new : Controller) (now group : ℕ) (bytes : List ℕ) (x : Open) → Is w H old → Passed w H now new.hold
@@ -761,10 +1106,11 @@ pub begins : (w : Who) (H : List Call) (old new : Controller) (now group : ℕ) 
 begins w H old new now group bytes x h p answer is e e0 e1 e2 = record {
   who = ap (λ c. who_of c.own) e ∙ h.who;
   answered = (h.answered, answer);
-  hold = is_hold _ _ p.moment p.standing p.owes p.pause;
+  hold = is_hold _ _ p.moment p.standing p.owes p.pause p.age p.wait;
   outgoing = ap (λ c. map posted c.outgoing.items) e ∙ h.outgoing;
   taken = ap (λ c. c.taken) e ∙ h.taken;
   token = ap (λ c. c.next_token) e ∙ h.token;
+  asking = ap (λ c. asking_of c.asking) e ∙ h.asking;
   unread = ap (λ c. map received_by c.inbox.unread.items) e ∙ h.unread;
   requests = ap (λ c. map request_by c.desk.waiting.items) e ∙ h.requests;
   acknowledgments = ap (λ c. map (refusal_by w) c.desk.due.items) e ∙ h.acknowledgments;
@@ -773,6 +1119,9 @@ begins w H old new now group bytes x h p answer is e e0 e1 e2 = record {
   missed = ap (λ c. c.inbox.missed) e ∙ h.missed;
   lane = is_lane _ _ (ap (option_map (opened w)) e0 ∙ ap Some is) e1
       (e2 ∙ (ap (λ (l : LaneRecord). suc l.next_token) h.lane ∙ sym (length_one_more (broadcasts w H) (broadcast_from w group bytes))));
+  incoming = ap (λ c. incoming_of c.incoming) e ∙ h.incoming;
+  hearing = ap (λ c. hearing_of c.hearing) e ∙ h.hearing;
+  port = ap (λ c. port_of c.transfers) e ∙ h.port;
 }
 
 pub ended_is : (w : Who) (H : List Call) (c : Controller) (b : Bool) → Is w H c → b ≡ lost c.hold.standing
@@ -790,6 +1139,7 @@ ends w H old new x h answer e e0 = record {
   outgoing = ap (λ c. map posted c.outgoing.items) e ∙ h.outgoing;
   taken = ap (λ c. c.taken) e ∙ h.taken;
   token = ap (λ c. c.next_token) e ∙ h.token;
+  asking = ap (λ c. asking_of c.asking) e ∙ h.asking;
   unread = ap (λ c. map received_by c.inbox.unread.items) e ∙ h.unread;
   requests = ap (λ c. map request_by c.desk.waiting.items) e ∙ h.requests;
   acknowledgments = ap (λ c. map (refusal_by w) c.desk.due.items) e ∙ h.acknowledgments;
@@ -797,6 +1147,9 @@ ends w H old new x h answer e e0 = record {
   news = ap (λ c. c.news) e ∙ h.news;
   missed = ap (λ c. c.inbox.missed) e ∙ h.missed;
   lane = ap (lane_of w) e0 ∙ ap (λ (l : LaneRecord). record l { current = None }) h.lane;
+  incoming = ap (λ c. incoming_of c.incoming) e ∙ h.incoming;
+  hearing = ap (λ c. hearing_of c.hearing) e ∙ h.hearing;
+  port = ap (λ c. port_of c.transfers) e ∙ h.port;
 }
 
 pub none_ends : (w : Who) (H : List Call) (c : Controller) → Is w H c → (let none : Option (ℕ × Ending) = None in none) ≡ next_broadcast_ended w H
@@ -808,6 +1161,7 @@ none_ends w H c h answer = record {
   outgoing = h.outgoing;
   taken = h.taken;
   token = h.token;
+  asking = h.asking;
   unread = h.unread;
   requests = h.requests;
   acknowledgments = h.acknowledgments;
@@ -815,4 +1169,121 @@ none_ends w H c h answer = record {
   news = h.news;
   missed = h.missed;
   lane = h.lane;
+  incoming = h.incoming;
+  hearing = h.hearing;
+  port = h.port;
+}
+
+-- ---- transfers
+
+pub engaged_is : (w : Who) (H : List Call) (c : Controller) → Is w H c
+    → is_engaged (port_of c.transfers).current c.transfers.next_token ≡ is_engaged (open_transfer w H) (length (all_transfers w H))
+engaged_is w H c h = ap (λ (p : PortRecord). is_engaged p.current p.next_token) h.port
+
+abbrev pub transfers_by : Who → List Call → Bool → Bool → Bool → Result ℕ Refused
+transfers_by w H a b f = if a then (if b then (if f then Err Full else Ok (length (all_transfers w H))) else Err BadValue) else Err NoAddress
+
+pub transfer_is : (w : Who) (H : List Call) (now group to : ℕ) (bytes : List ℕ) (a b f : Bool) → holds w H now ≡ a → can_transfer w group to bytes ≡ b
+    → is_engaged (open_transfer w H) (length (all_transfers w H)) ≡ f → answer_to_transfer w H now group to bytes ≡ transfers_by w H a b f
+transfer_is w H now group to bytes a b f e g k =
+    ap (λ (x : Bool). transfers_by w H x (can_transfer w group to bytes) (is_engaged (open_transfer w H) (length (all_transfers w H)))) e
+    ∙ (ap (λ (x : Bool). transfers_by w H a x (is_engaged (open_transfer w H) (length (all_transfers w H)))) g ∙ ap (λ (x : Bool). transfers_by w H a b x) k)
+
+pub refuses_transfer : (w : Who) (H : List Call) (old new : Controller) (now group to : ℕ) (bytes : List ℕ) (r : Refused) → Is w H old
+    → Passed w H now new.hold → Err r ≡ answer_to_transfer w H now group to bytes → new ≡ record old { hold = new.hold }
+    → Is w (Transfer now group to bytes (Err r) ∷ H) new
+refuses_transfer w H old new now group to bytes r h p answer e = record {
+  who = ap (λ c. who_of c.own) e ∙ h.who;
+  answered = (h.answered, answer);
+  hold = is_hold _ _ p.moment p.standing p.owes p.pause p.age p.wait;
+  outgoing = ap (λ c. map posted c.outgoing.items) e ∙ h.outgoing;
+  taken = ap (λ c. c.taken) e ∙ h.taken;
+  token = ap (λ c. c.next_token) e ∙ h.token;
+  asking = ap (λ c. asking_of c.asking) e ∙ h.asking;
+  unread = ap (λ c. map received_by c.inbox.unread.items) e ∙ h.unread;
+  requests = ap (λ c. map request_by c.desk.waiting.items) e ∙ h.requests;
+  acknowledgments = ap (λ c. map (refusal_by w) c.desk.due.items) e ∙ h.acknowledgments;
+  holders = subst (λ t. Knows t (told_claims H)) (sym (ap (λ c. c.holders) e)) h.holders;
+  news = ap (λ c. c.news) e ∙ h.news;
+  missed = ap (λ c. c.inbox.missed) e ∙ h.missed;
+  lane = ap (λ c. lane_of w c.lane) e ∙ h.lane;
+  hearing = ap (λ c. hearing_of c.hearing) e ∙ h.hearing;
+  port = ap (λ c. port_of c.transfers) e ∙ h.port;
+  incoming = ap (λ c. incoming_of c.incoming) e ∙ h.incoming;
+}
+
+pub transfer_begins : (w : Who) (H : List Call) (old new : Controller) (now group to : ℕ) (bytes : List ℕ) (x : transfers.Open) (mid : Hold) → Is w H old → Passed w H now mid
+    → Ok old.transfers.next_token ≡ answer_to_transfer w H now group to bytes
+    → running x ≡ begun old.transfers.next_token (broadcast_from w group bytes) to
+    → new ≡ record old { hold = new.hold; transfers = new.transfers } → new.hold ≡ record mid { age = 0 } → new.transfers.current ≡ Some x
+    → new.transfers.next_token ≡ suc old.transfers.next_token → Is w (Transfer now group to bytes (Ok old.transfers.next_token) ∷ H) new
+transfer_begins w H old new now group to bytes x mid h p answer is e e0 e1 e2 = record {
+  who = ap (λ c. who_of c.own) e ∙ h.who;
+  answered = (h.answered, answer);
+  hold = e0 ∙ is_hold _ _ p.moment p.standing p.owes p.pause refl p.wait;
+  outgoing = ap (λ c. map posted c.outgoing.items) e ∙ h.outgoing;
+  taken = ap (λ c. c.taken) e ∙ h.taken;
+  token = ap (λ c. c.next_token) e ∙ h.token;
+  asking = ap (λ c. asking_of c.asking) e ∙ h.asking;
+  unread = ap (λ c. map received_by c.inbox.unread.items) e ∙ h.unread;
+  requests = ap (λ c. map request_by c.desk.waiting.items) e ∙ h.requests;
+  acknowledgments = ap (λ c. map (refusal_by w) c.desk.due.items) e ∙ h.acknowledgments;
+  holders = subst (λ t. Knows t (told_claims H)) (sym (ap (λ c. c.holders) e)) h.holders;
+  news = ap (λ c. c.news) e ∙ h.news;
+  missed = ap (λ c. c.inbox.missed) e ∙ h.missed;
+  lane = ap (λ c. lane_of w c.lane) e ∙ h.lane;
+  hearing = ap (λ c. hearing_of c.hearing) e ∙ h.hearing;
+  port = is_port _ _ (ap (option_map running) e1 ∙ ap Some is)
+      (e2 ∙ (ap (λ (t : PortRecord). suc t.next_token) h.port ∙ sym (length_one_more (all_transfers w H) (to, broadcast_from w group bytes))));
+  incoming = ap (λ c. incoming_of c.incoming) e ∙ h.incoming;
+}
+
+pub transfer_end_is : (w : Who) (H : List Call) (c : Controller) (b : Bool) → Is w H c → b ≡ lost c.hold.standing
+    → transfer_end (port_of c.transfers).current b ≡ next_transfer_ended w H
+transfer_end_is w H c b h e =
+    ap (λ (p : PortRecord). transfer_end p.current b) h.port
+    ∙ ap (transfer_end (open_transfer w H)) (e ∙ (ap (λ (k : Hold). lost k.standing) h.hold ∙ lost_is (address_after w H)))
+
+pub transfer_ends : (w : Who) (H : List Call) (old new : Controller) (x : ℕ × TransferEnding) → Is w H old → Some x ≡ next_transfer_ended w H
+    → new ≡ record old { transfers = record old.transfers { current = None } } → Is w (TakeTransferEnded (Some x) ∷ H) new
+transfer_ends w H old new x h answer e = record {
+  who = ap (λ c. who_of c.own) e ∙ h.who;
+  answered = (h.answered, answer);
+  hold = ap (λ c. c.hold) e ∙ h.hold;
+  outgoing = ap (λ c. map posted c.outgoing.items) e ∙ h.outgoing;
+  taken = ap (λ c. c.taken) e ∙ h.taken;
+  token = ap (λ c. c.next_token) e ∙ h.token;
+  asking = ap (λ c. asking_of c.asking) e ∙ h.asking;
+  unread = ap (λ c. map received_by c.inbox.unread.items) e ∙ h.unread;
+  requests = ap (λ c. map request_by c.desk.waiting.items) e ∙ h.requests;
+  acknowledgments = ap (λ c. map (refusal_by w) c.desk.due.items) e ∙ h.acknowledgments;
+  holders = subst (λ t. Knows t (told_claims H)) (sym (ap (λ c. c.holders) e)) h.holders;
+  news = ap (λ c. c.news) e ∙ h.news;
+  missed = ap (λ c. c.inbox.missed) e ∙ h.missed;
+  lane = ap (λ c. lane_of w c.lane) e ∙ h.lane;
+  hearing = ap (λ c. hearing_of c.hearing) e ∙ h.hearing;
+  port = ap (λ c. port_of c.transfers) e ∙ ap (λ (p : PortRecord). record p { current = None }) h.port;
+  incoming = ap (λ c. incoming_of c.incoming) e ∙ h.incoming;
+}
+
+pub no_transfer_ends : (w : Who) (H : List Call) (c : Controller) → Is w H c → (let none : Option (ℕ × TransferEnding) = None in none) ≡ next_transfer_ended w H
+    → Is w (TakeTransferEnded None ∷ H) c
+no_transfer_ends w H c h answer = record {
+  who = h.who;
+  answered = (h.answered, answer);
+  hold = h.hold;
+  outgoing = h.outgoing;
+  taken = h.taken;
+  token = h.token;
+  asking = h.asking;
+  unread = h.unread;
+  requests = h.requests;
+  acknowledgments = h.acknowledgments;
+  holders = h.holders;
+  news = h.news;
+  missed = h.missed;
+  lane = h.lane;
+  hearing = h.hearing;
+  port = h.port;
+  incoming = h.incoming;
 }

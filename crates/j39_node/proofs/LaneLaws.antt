@@ -9,12 +9,15 @@ use Rattle.j39_node.specs.declared.kinds.Ending.TheVariants.{Done, Withdrawn}
 use Rattle.j39_node.specs.declared.kinds.Refused.{Refused}
 use Rattle.j39_node.specs.declared.kinds.Refused.TheVariants.{NoAddress, BadValue, Full}
 use Rattle.j39_node.specs.History.{Who, Message, Call, accepted, acknowledged, address_after, all_frames, broadcasts, can_broadcast, claim_address, claim_from, due, first_frames, frame_of, has_packets, holds, is_busy, is_left, is_lost, is_open, is_packet, message_of, moment, open_broadcast, owes_claim, packets, pause, sent, step, told_broadcasts}
-use Rattle.j39_node.specs.History.Call.{Hear, Tick, TakeFrame, Send, TakeEnded, TakeReceived, TakeRequest, TakeNews, Acknowledge, Broadcast, TakeBroadcastEnded}
-use Rattle.j39_node.specs.Is.{AreAnswered, Is, broadcast_end, next_packet, packet_by}
+use Rattle.j39_node.specs.History.Call.{Ask, TakeAskEnded, Hear, Tick, TakeFrame, Send, TakeEnded, TakeReceived, TakeRequest, TakeNews, Acknowledge, Broadcast, TakeBroadcastEnded, ReleaseTransfer, Transfer, TakeTransferEnded, ReleaseBroadcast}
+use Rattle.j39_node.specs.Reception.{reception}
+use Rattle.j39_node.specs.Is.{AreAnswered, Is, broadcast_end, next_control, next_packet, packet_by, long_by, next_frame, next_long}
+use Rattle.j39_node.specs.Transfers.{next_transfer}
 use Rattle.j39_node.specs.Since.{PacketSince, passed_in}
 use Rattle.j39_node.proofs.QueueLemmas.{length_one_more}
-use Rattle.j39_node.proofs.SoundLemmas.{FrameCase, frame_by, frame_case, packet_case, sound, claim_taken, claim_single, due_get, due_taken, own_get, pause_is, single_taken}
-use Rattle.j39_node.proofs.SoundLemmas.FrameCase.{claims, acknowledges, sends, packs}
+use Rattle.j39_node.proofs.SoundLemmas.{FrameCase, frame_by, frame_case, packet_case, sound, claim_taken, claim_single, due_get, due_taken, none_steers, no_packet, own_get, pause_is, reply_taken, single_taken, no_packet, transfer_taken}
+use Rattle.j39_node.proofs.ReceptionLemmas.{replied_get, tidy}
+use Rattle.j39_node.proofs.SoundLemmas.FrameCase.{claims, acknowledges, replies, sends, packs, transfers}
 use Rattle.j39_node.proofs.LaneLemmas.{BroadcastCase, broadcast_case, LaneEnd, lane_end, Opened, Laned, laned, closed, stands_open, opened_by}
 use Rattle.j39_node.proofs.LaneLemmas.BroadcastCase.{homeless, unfit, busy, opens}
 use Rattle.j39_node.proofs.LaneLemmas.LaneEnd.{complete, broken}
@@ -136,9 +139,11 @@ packed w H c now f is p = go (frame_case w H now f is.answered.1)
     right = is.answered.0
 
     go : FrameCase w H now f → Packed w H now f
-    go (claims o e) = absurd (not_both _ (claim_single f (claim_taken f now w _ e)) p)
-    go (acknowledges m o k g e) = absurd (not_both _ (due_taken w f now m e (due_get w (due w H) (length (acknowledged H)) m (sound w H right).desk.0 g)).2 p)
-    go (sends x o k n g e) = absurd (not_both _ (single_taken w f now x e (own_get w (accepted w H) (length (sent H)) x (sound w H right).own g)) p)
+    go (claims o e) = absurd (not_both _ (no_packet f (claim_single f (claim_taken f now w _ e))) p)
+    go (acknowledges m o k g e) = absurd (not_both _ (no_packet f (due_taken w f now m e (due_get w (due w H) (length (acknowledged H)) m (sound w H right).desk.0 g)).2) p)
+    go (replies m o k n g e) = absurd (not_both _ (reply_taken w.address f now m e (replied_get w.address (reception w H).replies 0 m (tidy w H).replies g)).3 p)
+    go (sends x o k n g e) = absurd (not_both _ (no_packet f (single_taken w f now x e (own_get w (accepted w H) (length (sent H)) x (sound w H right).own g))) p)
+    go (transfers m o k n past nothing g e) = absurd (not_both _ (transfer_taken w H now f m right e g).packet p)
     go (packs m o k n past g e) =
         let x = packet_case (open_broadcast w H) (length (packets H)) (pause H - step H now) m g in
         record {
@@ -148,7 +153,7 @@ packed w H c now f is p = go (frame_case w H now f is.answered.1)
           is = ap (λ (y : ℕ × Message). y.1) e ∙ x.frame;
           within = x.within;
           held = k;
-          none_due = n;
+          none_due = (none_steers _ (slice_get (reception w H).replies 0) n).0;
           none_waits = past;
           over = x.over;
         }
@@ -186,13 +191,19 @@ pauses (Tick now ∷ later) E l = shorter (pause (later ++ E)) (step (later ++ E
 pauses (TakeFrame now None ∷ later) E l = shorter (pause (later ++ E)) (step (later ++ E) now) (passed_in later E) (pauses later E l)
 pauses (TakeFrame now (Some f) ∷ later) E l = pause_or (is_packet f) (pause (later ++ E)) (step (later ++ E) now) (passed_in later E) (pauses later E l)
 pauses (Send now d answer ∷ later) E l = shorter (pause (later ++ E)) (step (later ++ E) now) (passed_in later E) (pauses later E l)
+pauses (Ask now group to answer ∷ later) E l = shorter (pause (later ++ E)) (step (later ++ E) now) (passed_in later E) (pauses later E l)
 pauses (TakeEnded answer ∷ later) E l = longer (pause (later ++ E)) (passed_in later E) _ (pauses later E l)
+pauses (TakeAskEnded answer ∷ later) E l = longer (pause (later ++ E)) (passed_in later E) _ (pauses later E l)
 pauses (TakeReceived answer ∷ later) E l = longer (pause (later ++ E)) (passed_in later E) _ (pauses later E l)
 pauses (TakeRequest answer ∷ later) E l = longer (pause (later ++ E)) (passed_in later E) _ (pauses later E l)
 pauses (TakeNews answer ∷ later) E l = longer (pause (later ++ E)) (passed_in later E) _ (pauses later E l)
 pauses (Acknowledge now r answer result ∷ later) E l = shorter (pause (later ++ E)) (step (later ++ E) now) (passed_in later E) (pauses later E l)
 pauses (Broadcast now group bytes answer ∷ later) E l = shorter (pause (later ++ E)) (step (later ++ E) now) (passed_in later E) (pauses later E l)
 pauses (TakeBroadcastEnded answer ∷ later) E l = longer (pause (later ++ E)) (passed_in later E) _ (pauses later E l)
+pauses (ReleaseTransfer answer ∷ later) E l = longer (pause (later ++ E)) (passed_in later E) _ (pauses later E l)
+pauses (ReleaseBroadcast answer ∷ later) E l = longer (pause (later ++ E)) (passed_in later E) _ (pauses later E l)
+pauses (Transfer now group to bytes answer ∷ later) E l = shorter (pause (later ++ E)) (step (later ++ E) now) (passed_in later E) (pauses later E l)
+pauses (TakeTransferEnded answer ∷ later) E l = longer (pause (later ++ E)) (passed_in later E) _ (pauses later E l)
 
 pub spaced : (w : Who) (H later : List Call) (c : Controller) (now at : ℕ) (f g : FrameRecord)
     → Is w (TakeFrame now (Some g) ∷ later ++ TakeFrame at (Some f) ∷ H) c → IsTrue (is_packet f) → IsTrue (is_packet g)
@@ -250,13 +261,19 @@ began (Tick now ∷ H) = lets_pass H (Tick now) (began H) refl
 began (TakeFrame now None ∷ H) = lets_pass H (TakeFrame now None) (began H) refl
 began (TakeFrame now (Some f) ∷ H) = taken_by H now f (is_packet f) refl (began H)
 began (Send now d answer ∷ H) = lets_pass H (Send now d answer) (began H) refl
+began (Ask now group to answer ∷ H) = lets_pass H (Ask now group to answer) (began H) refl
 began (TakeEnded answer ∷ H) = says_nothing H (TakeEnded answer) (began H) refl refl
+began (TakeAskEnded answer ∷ H) = says_nothing H (TakeAskEnded answer) (began H) refl refl
 began (TakeReceived answer ∷ H) = says_nothing H (TakeReceived answer) (began H) refl refl
 began (TakeRequest answer ∷ H) = says_nothing H (TakeRequest answer) (began H) refl refl
 began (TakeNews answer ∷ H) = says_nothing H (TakeNews answer) (began H) refl refl
 began (Acknowledge now r answer result ∷ H) = lets_pass H (Acknowledge now r answer result) (began H) refl
 began (Broadcast now group bytes answer ∷ H) = lets_pass H (Broadcast now group bytes answer) (began H) refl
 began (TakeBroadcastEnded answer ∷ H) = says_nothing H (TakeBroadcastEnded answer) (began H) refl refl
+began (ReleaseTransfer answer ∷ H) = says_nothing H (ReleaseTransfer answer) (began H) refl refl
+began (ReleaseBroadcast answer ∷ H) = says_nothing H (ReleaseBroadcast answer) (began H) refl refl
+began (Transfer now group to bytes answer ∷ H) = lets_pass H (Transfer now group to bytes answer) (began H) refl
+began (TakeTransferEnded answer ∷ H) = says_nothing H (TakeTransferEnded answer) (began H) refl refl
 
 -- a frame that is left waits for the pause alone
 no_frame : (o : Option (ℕ × MessageRecord)) (i left : ℕ) → is_left o i ≡ true → packet_by o i left ≡ None → 0 < left
@@ -268,12 +285,10 @@ no_frame (Some x) i zero e f = absurd (let z = some (nat_le i (packets_of x.1)) 
     some false p q = absurd (cc)
 no_frame (Some x) i (suc left) e f = omega arith
 
-pausing : (w : Who) (H : List Call) (c : Controller) (now : ℕ) → Is w (TakeFrame now None ∷ H) c → IsTrue (holds w H now)
-    → IsTrue (has_packets w H) → step H now < pause H
-pausing w H c now is held some =
-    let l = no_frame (open_broadcast w H) (length (packets H)) (pause H - step H now) some
-    (none (owes_claim w H) (holds w H now) (slice_get (due w H) (length (acknowledged H))) (slice_get (accepted w H) (length (sent H))) (next_packet w H now) held is.answered.1) in
-    omega (arith, l)
+-- where no frame is taken from an address that is held, none of packets is next
+pub none_long : (w : Who) (H : List Call) (now : ℕ) → holds w H now ≡ true → (let none : Option (ℕ × Message) = None in none) ≡ next_frame w H now → next_long w H now ≡ None
+none_long w H now held e =
+    none (owes_claim w H) (holds w H now) (next_control w H) (slice_get (accepted w H) (length (sent H))) (next_long w H now) held e
   where
     none : (o q : Bool) (a : Option Message) (z : Option (ℕ × Message)) (p : Option Message) → q ≡ true
         → (let none : Option (ℕ × Message) = None in none) ≡ frame_by o q a z p (claim_from w (claim_address w (address_after w H))) now → p ≡ None
@@ -283,6 +298,17 @@ pausing w H c now is held some =
     none false true None (Some y) p b e = absurd (cc)
     none false true None None (Some y) b e = absurd (cc)
     none false true None None None b e = refl
+
+pausing : (w : Who) (H : List Call) (c : Controller) (now : ℕ) → Is w (TakeFrame now None ∷ H) c → IsTrue (holds w H now)
+    → IsTrue (has_packets w H) → step H now < pause H
+pausing w H c now is held some =
+    let l = no_frame (open_broadcast w H) (length (packets H)) (pause H - step H now) some
+    (no_long (next_packet w H now) (next_transfer w H now) (none_long w H now held is.answered.1)) in
+    omega (arith, l)
+  where
+    no_long : (a b : Option Message) → long_by a b ≡ None → a ≡ None
+    no_long None b e = refl
+    no_long (Some m) b e = absurd (cc)
 
 -- ---- how they end
 
@@ -358,6 +384,15 @@ all_told w H c is = go (open_broadcast w H) (laned w H is.answered.0) is.answere
         → (length (told_broadcasts H) ≡ length (broadcasts w H)) ⊎ (IsTrue (is_left o (length (packets H))) × (IsTrue (is_lost (address_after w H)) → ⊥))
     go None h e = inl h
     go (Some x) h e = let z = by _ (is_lost (address_after w H)) (length (packets H)) (packets_of x.1) x.0 refl e in inr (z.0, not_both _ z.1)
+
+-- where a frame of packets is left, but none is next, one was taken less than 50 ms before
+pub packet_waits : (w : Who) (H : List Call) (now : ℕ) → IsTrue (has_packets w H) → next_packet w H now ≡ None
+    → (e : ℕ) × PacketSince H e × (e + step H now < 50000)
+packet_waits w H now some none =
+    let l = no_frame (open_broadcast w H) (length (packets H)) (pause H - step H now) some none in
+    let r = began H (omega (arith, l)) in
+    let b = r.2 in
+    (r.0, r.1, omega (arith, l, b))
 
 pub waits : (w : Who) (H : List Call) (c : Controller) (now : ℕ) → Is w (TakeFrame now None ∷ H) c → IsTrue (holds w H now)
     → IsTrue (has_packets w H) → (e : ℕ) × PacketSince H e × (e + step H now < 50000)

@@ -8,11 +8,13 @@ use Rattle.j39_node.specs.declared.kinds.Ending.TheVariants.{Done, Withdrawn}
 use Rattle.j39_node.specs.declared.kinds.Refused.{Refused}
 use Rattle.j39_node.specs.declared.kinds.Refused.TheVariants.{NoAddress, BadValue, Full}
 use Rattle.j39_node.specs.History.{Who, Message, Call, accepted, acknowledged, due, sent, address_after, broadcast_from, broadcasts, can_broadcast, first_frames, frame_of, holds, is_busy, is_lost, is_open, is_packet, open_broadcast, packets, pause, step, told_broadcasts}
-use Rattle.j39_node.specs.History.Call.{Hear, Tick, TakeFrame, Send, TakeEnded, TakeReceived, TakeRequest, TakeNews, Acknowledge, Broadcast, TakeBroadcastEnded}
+use Rattle.j39_node.specs.History.Call.{Ask, TakeAskEnded, Hear, Tick, TakeFrame, Send, TakeEnded, TakeReceived, TakeRequest, TakeNews, Acknowledge, Broadcast, TakeBroadcastEnded, ReleaseTransfer, Transfer, TakeTransferEnded, ReleaseBroadcast}
+use Rattle.j39_node.specs.Reception.{reception}
 use Rattle.j39_node.specs.Is.{AreAnswered, answer_to_broadcast, broadcast_end, stamped}
 use Rattle.j39_node.proofs.QueueLemmas.{length_one_more}
-use Rattle.j39_node.proofs.SoundLemmas.{FrameCase, PacketCase, frame_case, packet_case, packet_taken, packets_is, sound, claim_taken, claim_single, due_get, due_taken, own_get, single_taken}
-use Rattle.j39_node.proofs.SoundLemmas.FrameCase.{claims, acknowledges, sends, packs}
+use Rattle.j39_node.proofs.SoundLemmas.{FrameCase, PacketCase, frame_case, packet_case, packet_taken, packets_is, sound, claim_taken, claim_single, due_get, due_taken, no_packet, own_get, reply_taken, single_taken, no_packet, transfer_taken}
+use Rattle.j39_node.proofs.ReceptionLemmas.{replied_get, tidy}
+use Rattle.j39_node.proofs.SoundLemmas.FrameCase.{claims, acknowledges, replies, sends, packs, transfers}
 
 -- ---- what broadcast answers
 
@@ -117,9 +119,11 @@ lane_frame w H now f right case h = go case
     same e = subst (λ xs. Laned w (length (told_broadcasts H)) (broadcasts w H) xs (open_broadcast w H)) (sym (packets_is H now f false e)) h
 
     go : FrameCase w H now f → Laned w (length (told_broadcasts H)) (broadcasts w H) (packets (TakeFrame now (Some f) ∷ H)) (open_broadcast w H)
-    go (claims o e) = same (claim_single f (claim_taken f now w _ e))
-    go (acknowledges m o k g e) = same (due_taken w f now m e (due_get w (due w H) (length (acknowledged H)) m (sound w H right).desk.0 g)).2
-    go (sends x o k n g e) = same (single_taken w f now x e (own_get w (accepted w H) (length (sent H)) x (sound w H right).own g))
+    go (claims o e) = same (no_packet f (claim_single f (claim_taken f now w _ e)))
+    go (acknowledges m o k g e) = same (no_packet f (due_taken w f now m e (due_get w (due w H) (length (acknowledged H)) m (sound w H right).desk.0 g)).2)
+    go (replies m o k n g e) = same (reply_taken w.address f now m e (replied_get w.address (reception w H).replies 0 m (tidy w H).replies g)).3
+    go (sends x o k n g e) = same (no_packet f (single_taken w f now x e (own_get w (accepted w H) (length (sent H)) x (sound w H right).own g)))
+    go (transfers m o k n past nothing g e) = same (transfer_taken w H now f m right e g).packet
     go (packs m o k n past g e) =
         let is = packet_taken f now m (open_broadcast w H) (length (packets H)) (pause H - step H now) e g in
         subst (λ xs. Laned w (length (told_broadcasts H)) (broadcasts w H) xs (open_broadcast w H))
@@ -168,7 +172,9 @@ laned w (Tick now ∷ H) e = laned w H e.0
 laned w (TakeFrame now None ∷ H) e = laned w H e.0
 laned w (TakeFrame now (Some f) ∷ H) e = lane_frame w H now f e.0 (frame_case w H now f e.1) (laned w H e.0)
 laned w (Send now d answer ∷ H) e = laned w H e.0
+laned w (Ask now group to answer ∷ H) e = laned w H e.0
 laned w (TakeEnded answer ∷ H) e = laned w H e.0
+laned w (TakeAskEnded answer ∷ H) e = laned w H e.0
 laned w (TakeReceived answer ∷ H) e = laned w H e.0
 laned w (TakeRequest answer ∷ H) e = laned w H e.0
 laned w (TakeNews answer ∷ H) e = laned w H e.0
@@ -176,5 +182,9 @@ laned w (Acknowledge now r answer result ∷ H) e = laned w H e.0
 laned w (Broadcast now group bytes (Ok k) ∷ H) e = lane_opens w H now group k bytes (broadcast_case w H now group bytes (Ok k) e.1) (laned w H e.0)
 laned w (Broadcast now group bytes (Err r) ∷ H) e = laned w H e.0
 laned w (TakeBroadcastEnded None ∷ H) e = laned w H e.0
+laned w (Transfer now group to bytes answer ∷ H) e = laned w H e.0
+laned w (TakeTransferEnded answer ∷ H) e = laned w H e.0
 laned w (TakeBroadcastEnded (Some x) ∷ H) e =
     lane_closes w H x (lane_end (open_broadcast w H) (length (packets H)) (is_lost (address_after w H)) x e.1) (laned w H e.0)
+laned w (ReleaseTransfer answer ∷ H) e = laned w H e.0
+laned w (ReleaseBroadcast answer ∷ H) e = laned w H e.0

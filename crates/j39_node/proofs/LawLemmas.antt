@@ -6,7 +6,6 @@ use Rattle.j39_frame.specs.Frame.{FrameRecord}
 use Rattle.j39_frame.specs.Identifier.{source_of, pgn_of}
 use Rattle.j39_frame.specs.Network.{address_claimed_group}
 use Rattle.j39_address.specs.Claim.{claim_of}
-use Rattle.j39_transport.specs.Message.{MessageRecord, packets_of}
 use Rattle.j39_address.specs.declared.status.Status.TheVariants as status
 use Rattle.j39_node.specs.declared.controller.Controller.{Controller}
 use Rattle.j39_node.specs.declared.kinds.Ending.{Ending}
@@ -17,15 +16,20 @@ use Rattle.j39_node.specs.declared.kinds.News.{News}
 use Rattle.j39_node.specs.declared.kinds.News.TheVariants.{AddressLost, AnotherAtAddress, MessagesMissed}
 use Rattle.j39_node.specs.declared.kinds.Refused.{Refused}
 use Rattle.j39_node.specs.declared.kinds.Refused.TheVariants.{NoAddress, BadValue, Full}
-use Rattle.j39_node.specs.History.{Who, Message, Draft, Call, Address, IsFront, accepted, address_after, calls_for_claim, can_send, claim_address, claim_from, content, frames, got, heard, holds, is_claim, is_smaller, claimed, is_for_program, is_held, is_lost, kept, message_of, missed, moment, older, owes_claim, sent, step, told, Asked, asked, acknowledgment, acknowledgment_group, acknowledged, due, handed, requests, is_served, with_request, with_refusal, is_waiting, stamp_at, held_at, next_due, lost_news, another_news, missed_news, frame_of, has_packets, is_left, open_broadcast, packets, pause}
-use Rattle.j39_node.specs.History.Call.{Hear, Tick, TakeFrame, Send, TakeEnded, TakeReceived, TakeRequest, TakeNews, Acknowledge, Broadcast, TakeBroadcastEnded}
+use Rattle.j39_node.specs.History.{Who, Message, Draft, Call, Address, IsFront, accepted, address_after, calls_for_claim, can_send, claim_address, claim_from, content, frames, got, heard, holds, is_claim, is_smaller, claimed, is_for_program, is_held, is_lost, kept, message_of, missed, moment, older, owes_claim, sent, step, told, Asked, asked, acknowledgment, acknowledgment_group, acknowledged, due, handed, requests, is_served, with_request, with_refusal, stamp_at, held_at, lost_news, another_news, missed_news, open_broadcast, packets, pause}
+use Rattle.j39_node.specs.History.Call.{Ask, TakeAskEnded, Hear, Tick, TakeFrame, Send, TakeEnded, TakeReceived, TakeRequest, TakeNews, Acknowledge, Broadcast, TakeBroadcastEnded, ReleaseTransfer, Transfer, TakeTransferEnded, ReleaseBroadcast}
+use Rattle.j39_node.specs.Reception.{is_waiting, reception}
+use Rattle.j39_node.proofs.ReceptionLemmas.{replied_get, tidy}
 use Rattle.j39_node.specs.History.Address.{NotClaimed, Claimed, Lost}
-use Rattle.j39_node.specs.Is.{Is, next_frame, next_packet, packet_by, end_of, status_of, status_after, news_of}
+use Rattle.j39_node.specs.Hearing.{unheard_news}
+use Rattle.j39_node.specs.Is.{Is, control_of, next_control, next_frame, end_of, status_of, status_after, news_of, next_long}
+use Rattle.j39_node.specs.Transfers.{age, at_in, next_due}
+use Rattle.j39_node.proofs.DueLemmas.{from_long, quiet_long, then_long}
 use Rattle.j39_node.proofs.QueueLemmas.{get_within, length_one_more, length_map}
-use Rattle.j39_node.proofs.SoundLemmas.{Sound, sound, front_length, lost_older, lost_claimed, frame_by, due_get, due_taken, own_get, FrameCase, frame_case, SendCase, send_case, EndCase, end_case, claim_taken, message_taken, packet_taken, packet_case}
+use Rattle.j39_node.proofs.SoundLemmas.{Sound, sound, front_length, lost_older, lost_claimed, frame_by, due_get, due_taken, own_get, FrameCase, frame_case, SendCase, send_case, EndCase, end_case, claim_taken, message_taken, none_steers, packet_taken, packet_case, reply_taken, transfer_taken}
 use Rattle.j39_node.proofs.LaneLemmas.{laned, opened_by}
 use Rattle.j39_node.proofs.CallLemmas.{acknowledge_is, acknowledges_by, due_by}
-use Rattle.j39_node.proofs.SoundLemmas.FrameCase.{claims, acknowledges, sends, packs}
+use Rattle.j39_node.proofs.SoundLemmas.FrameCase.{claims, acknowledges, replies, sends, packs, transfers}
 use Rattle.j39_node.proofs.SoundLemmas.SendCase.{no_address, bad_value, full, accepts}
 use Rattle.j39_node.proofs.SoundLemmas.EndCase.{done, withdrawn}
 
@@ -40,8 +44,10 @@ moments w H c now f is = go (frame w H c now f is)
     go : FrameCase w H now f → f.stamp ≡ now
     go (claims o e) = ap (λ (x : ℕ × Message). x.0) e
     go (acknowledges m o h g e) = ap (λ (y : ℕ × Message). y.0) e
+    go (replies m o h k g e) = ap (λ (y : ℕ × Message). y.0) e
     go (sends x o h k g e) = ap (λ (y : ℕ × Message). y.0) e
     go (packs m o h k past g e) = ap (λ (y : ℕ × Message). y.0) e
+    go (transfers m o h k past nothing g e) = ap (λ (y : ℕ × Message). y.0) e
 
 pub sources : (w : Who) (H : List Call) (c : Controller) (now : ℕ) (f : FrameRecord) → Is w (TakeFrame now (Some f) ∷ H) c
     → (message_of f ≡ claim_from w (claim_address w (address_after w H)))
@@ -57,6 +63,13 @@ sources w H c now f is = go (frame w H c now f is)
           h,
           ap (λ (y : ℕ × Message). y.1.source) e ∙ is_due.source,
           λ z. (let a = (due_taken w f now m e is_due).0 in let b = eq-eqb (pgn_of f.id) address_claimed_group z in let d : true ≡ false = sym b ∙ a in absurd (cc)),
+        )
+    go (replies m o h k g e) =
+        let is_reply = replied_get w.address (reception w H).replies 0 m (tidy w H).replies g in
+        inr (
+          h,
+          ap (λ (y : ℕ × Message). y.1.source) e ∙ is_reply.source,
+          λ z. (let a = (reply_taken w.address f now m e is_reply).0 in let b = eq-eqb (pgn_of f.id) address_claimed_group z in let d : true ≡ false = sym b ∙ a in absurd (cc)),
         )
     go (sends x o h k g e) =
         let own = own_get w (accepted w H) (length (sent H)) x (sound w H is.answered.0).own g in
@@ -74,6 +87,9 @@ sources w H c now f is = go (frame w H c now f is)
           ap (λ (y : ℕ × Message). y.1.source) e ∙ (ap (λ (y : Message). y.source) p.frame ∙ is_own),
           λ z. (let b = eq-eqb (pgn_of f.id) address_claimed_group z in let d : true ≡ false = sym b ∙ is.0 in absurd (cc)),
         )
+    go (transfers m o h k past nothing g e) =
+        let is = transfer_taken w H now f m is.answered.0 e g in
+        inr (h, is.source, λ z. (let b = eq-eqb (pgn_of f.id) address_claimed_group z in let d : true ≡ false = sym b ∙ is.claim in absurd (cc)))
 
 -- ---- accounted once
 
@@ -160,12 +176,12 @@ withdrawn_means w H c k e is z = (told_is w H c k e is).withdrawn z
 pub none_waits : (w : Who) (H : List Call) (c : Controller) (now : ℕ) → Is w (TakeFrame now None ∷ H) c → IsTrue (holds w H now)
     → (length (sent H) ≡ length (accepted w H)) × (length (acknowledged H) ≡ length (due w H))
 none_waits w H c now is held =
-    go (owes_claim w H) (holds w H now) (slice_get (due w H) (length (acknowledged H))) (slice_get (accepted w H) (length (sent H))) held refl refl is.answered.1
+    go (owes_claim w H) (holds w H now) (next_control w H) (slice_get (accepted w H) (length (sent H))) held refl refl is.answered.1
   where
     p : Option Message
-    p = next_packet w H now
+    p = next_long w H now
 
-    go : (o q : Bool) (a : Option Message) (z : Option (ℕ × Message)) → q ≡ true → slice_get (due w H) (length (acknowledged H)) ≡ a
+    go : (o q : Bool) (a : Option Message) (z : Option (ℕ × Message)) → q ≡ true → next_control w H ≡ a
         → slice_get (accepted w H) (length (sent H)) ≡ z
         → (let none : Option (ℕ × Message) = None in none) ≡ frame_by o q a z p (claim_from w (claim_address w (address_after w H))) now
         → (length (sent H) ≡ length (accepted w H)) × (length (acknowledged H) ≡ length (due w H))
@@ -177,7 +193,7 @@ none_waits w H c now is held =
         let s = sound w H is.answered.0 in
         let x = past_end (accepted w H) (length (sent H)) f in
         let y = sent_within w H s in
-        let u = past_end (due w H) (length (acknowledged H)) d in
+        let u = past_end (due w H) (length (acknowledged H)) (none_steers _ (slice_get (reception w H).replies 0) d).0 in
         let v = front_length (acknowledged H) (due w H) s.desk.1 in
         (omega (arith, x, y), omega (arith, u, v))
 
@@ -212,14 +228,14 @@ refused_value w H c now d answer is = go (answers w H c now d answer is)
 AtLimit : Who → List Call → Type 0
 AtLimit w H = (length (accepted w H) ≡ length (told H) + 16) ⊎ (length (accepted w H) ≡ 18446744073709551615)
 
-full_parts : (a t : ℕ) → (nat_eq (a - t) 16 || nat_eq a 18446744073709551615) ≡ true → (a ≡ t + 16) ⊎ (a ≡ 18446744073709551615)
+pub full_parts : (a t : ℕ) → (nat_eq (a - t) 16 || nat_eq a 18446744073709551615) ≡ true → (a ≡ t + 16) ⊎ (a ≡ 18446744073709551615)
 full_parts a t e = go (nat_eq (a - t) 16) refl e
   where
     go : (b : Bool) → nat_eq (a - t) 16 ≡ b → (b || nat_eq a 18446744073709551615) ≡ true → (a ≡ t + 16) ⊎ (a ≡ 18446744073709551615)
     go true f g = inl (let z = eqb-true (a - t) 16 f in omega (arith, z))
     go false f g = inr (eqb-true a 18446744073709551615 g)
 
-full_from : (a t : ℕ) → (a ≡ t + 16) ⊎ (a ≡ 18446744073709551615) → (nat_eq (a - t) 16 || nat_eq a 18446744073709551615) ≡ true
+pub full_from : (a t : ℕ) → (a ≡ t + 16) ⊎ (a ≡ 18446744073709551615) → (nat_eq (a - t) 16 || nat_eq a 18446744073709551615) ≡ true
 full_from a t (inl e) = ap (λ (b : Bool). b || nat_eq a 18446744073709551615) (eq-eqb (a - t) 16 (omega (arith, e)))
 full_from a t (inr e) = go (nat_eq (a - t) 16) (eq-eqb a 18446744073709551615 e)
   where
@@ -279,13 +295,19 @@ counted w (Hear f ∷ H) = count_one (is_for_program w (holds w H f.stamp) f) (n
 counted w (Tick now ∷ H) = counted w H
 counted w (TakeFrame now answer ∷ H) = counted w H
 counted w (Send now d answer ∷ H) = counted w H
+counted w (Ask now group to answer ∷ H) = counted w H
 counted w (TakeEnded answer ∷ H) = counted w H
+counted w (TakeAskEnded answer ∷ H) = counted w H
 counted w (TakeReceived answer ∷ H) = counted w H
 counted w (TakeRequest answer ∷ H) = counted w H
 counted w (TakeNews answer ∷ H) = counted w H
 counted w (Acknowledge now r answer result ∷ H) = counted w H
 counted w (Broadcast now group bytes answer ∷ H) = counted w H
 counted w (TakeBroadcastEnded answer ∷ H) = counted w H
+counted w (ReleaseTransfer answer ∷ H) = counted w H
+counted w (ReleaseBroadcast answer ∷ H) = counted w H
+counted w (Transfer now group to bytes answer ∷ H) = counted w H
+counted w (TakeTransferEnded answer ∷ H) = counted w H
 
 pub missed_full : (w : Who) (H : List Call) (f : FrameRecord) → missed w (Hear f ∷ H) ≢ missed w H → length (got H) + 16 ≤ length (kept w H)
 missed_full w H f n = go (is_for_program w (holds w H f.stamp) f) (nat_lt (length (kept w H) - length (got H)) 16) refl n
@@ -305,8 +327,10 @@ owed : (w : Who) (H : List Call) (now : ℕ) (f : FrameRecord) → FrameCase w H
     → message_of f ≡ claim_from w (claim_address w (address_after w H))
 owed w H now f (claims o e) p = ap content e
 owed w H now f (acknowledges m o h g e) p = absurd (not_both _ o p)
+owed w H now f (replies m o h k g e) p = absurd (not_both _ o p)
 owed w H now f (sends x o h k g e) p = absurd (not_both _ o p)
 owed w H now f (packs m o h k past g e) p = absurd (not_both _ o p)
+owed w H now f (transfers m o h k past nothing g e) p = absurd (not_both _ o p)
 
 or_true : (a b : Bool) → a ≡ true → (a || b) ≡ true
 or_true a b e = ap (λ (c : Bool). c || b) e
@@ -323,13 +347,19 @@ still_owed w (Tick now ∷ later) H e o = still_owed w later H e o
 still_owed w (TakeFrame now None ∷ later) H e o = still_owed w later H e o
 still_owed w (TakeFrame now (Some f) ∷ later) H e o = absurd (let a = ap length e in let b = length_one_more (frames later) f in omega (arith, a, b))
 still_owed w (Send now d answer ∷ later) H e o = still_owed w later H e o
+still_owed w (Ask now group to answer ∷ later) H e o = still_owed w later H e o
 still_owed w (TakeEnded answer ∷ later) H e o = still_owed w later H e o
+still_owed w (TakeAskEnded answer ∷ later) H e o = still_owed w later H e o
 still_owed w (TakeReceived answer ∷ later) H e o = still_owed w later H e o
 still_owed w (TakeRequest answer ∷ later) H e o = still_owed w later H e o
 still_owed w (TakeNews answer ∷ later) H e o = still_owed w later H e o
 still_owed w (Acknowledge now r answer result ∷ later) H e o = still_owed w later H e o
 still_owed w (Broadcast now group bytes answer ∷ later) H e o = still_owed w later H e o
 still_owed w (TakeBroadcastEnded answer ∷ later) H e o = still_owed w later H e o
+still_owed w (ReleaseTransfer answer ∷ later) H e o = still_owed w later H e o
+still_owed w (ReleaseBroadcast answer ∷ later) H e o = still_owed w later H e o
+still_owed w (Transfer now group to bytes answer ∷ later) H e o = still_owed w later H e o
+still_owed w (TakeTransferEnded answer ∷ later) H e o = still_owed w later H e o
 
 pub next_claim : (w : Who) (H later : List Call) (c : Controller) (now : ℕ) (f g : FrameRecord)
     → Is w (TakeFrame now (Some g) ∷ later ++ Hear f ∷ H) c → frames later ≡ []
@@ -342,10 +372,10 @@ pub claims_at_once : (w : Who) (H : List Call) (c : Controller) (now : ℕ) (ans
     → IsTrue (owes_claim w H) → answer ≢ None
 claims_at_once w H c now (Some f) is o z = absurd (cc)
 claims_at_once w H c now None is o z =
-    go (owes_claim w H) (slice_get (due w H) (length (acknowledged H))) (slice_get (accepted w H) (length (sent H))) o is.answered.1
+    go (owes_claim w H) (next_control w H) (slice_get (accepted w H) (length (sent H))) o is.answered.1
   where
     go : (b : Bool) (a : Option Message) (y : Option (ℕ × Message)) → b ≡ true
-        → (let none : Option (ℕ × Message) = None in none) ≡ frame_by b (holds w H now) a y (next_packet w H now) (claim_from w (claim_address w (address_after w H))) now → ⊥
+        → (let none : Option (ℕ × Message) = None in none) ≡ frame_by b (holds w H now) a y (next_long w H now) (claim_from w (claim_address w (address_after w H))) now → ⊥
     go true a y e f = absurd (cc)
     go false a y e f = absurd (cc)
 
@@ -357,10 +387,13 @@ claims_only w H c now f is z = go (frame w H c now f is)
     go (claims o e) = o
     go (acknowledges m o h g e) =
         absurd (not_both _ (due_taken w f now m e (due_get w (due w H) (length (acknowledged H)) m (sound w H is.answered.0).desk.0 g)).0 (eq-eqb (pgn_of f.id) address_claimed_group z))
+    go (replies m o h k g e) =
+        absurd (not_both _ (reply_taken w.address f now m e (replied_get w.address (reception w H).replies 0 m (tidy w H).replies g)).0 (eq-eqb (pgn_of f.id) address_claimed_group z))
     go (sends x o h k g e) =
         absurd (not_both _ (message_taken w f now x e (own_get w (accepted w H) (length (sent H)) x (sound w H is.answered.0).own g)) (eq-eqb (pgn_of f.id) address_claimed_group z))
     go (packs m o h k past g e) =
         absurd (not_both _ (packet_taken f now m (open_broadcast w H) (length (packets H)) (pause H - step H now) e g).0 (eq-eqb (pgn_of f.id) address_claimed_group z))
+    go (transfers m o h k past nothing g e) = absurd (not_both _ (transfer_taken w H now f m is.answered.0 e g).claim (eq-eqb (pgn_of f.id) address_claimed_group z))
 
 -- ---- who
 
@@ -495,8 +528,13 @@ acknowledged_first w H c now f is n m = go (frame w H c now f is)
     go (claims o e) = absurd (n (eqb-true _ _ (claim_taken f now w _ e)))
     go (acknowledges x o h g e) =
         absurd (m (ap (λ (y : ℕ × Message). y.1.group) e ∙ (due_get w (due w H) (length (acknowledged H)) x (sound w H is.answered.0).desk.0 g).group))
-    go (sends x o h k g e) = whole (acknowledged H) (due w H) (sound w H is.answered.0).desk.1 (past_end (due w H) (length (acknowledged H)) k)
-    go (packs x o h k past g e) = whole (acknowledged H) (due w H) (sound w H is.answered.0).desk.1 (past_end (due w H) (length (acknowledged H)) k)
+    go (replies m o h k g e) = whole (acknowledged H) (due w H) (sound w H is.answered.0).desk.1 (past_end (due w H) (length (acknowledged H)) k)
+    go (sends x o h k g e) =
+        whole (acknowledged H) (due w H) (sound w H is.answered.0).desk.1 (past_end (due w H) (length (acknowledged H)) (none_steers _ (slice_get (reception w H).replies 0) k).0)
+    go (packs x o h k past g e) =
+        whole (acknowledged H) (due w H) (sound w H is.answered.0).desk.1 (past_end (due w H) (length (acknowledged H)) (none_steers _ (slice_get (reception w H).replies 0) k).0)
+    go (transfers x o h k past nothing g e) =
+        whole (acknowledged H) (due w H) (sound w H is.answered.0).desk.1 (past_end (due w H) (length (acknowledged H)) (none_steers _ (slice_get (reception w H).replies 0) k).0)
 
 pub is_acknowledged : (w : Who) (H : List Call) (c : Controller) (now : ℕ) (r : Asked) (a : Answer) (result : Result (Unit {0}) Refused)
     → Is w (Acknowledge now r a result ∷ H) c → IsTrue (holds w H now) → r.destination ≡ w.address → length (due w H) < length (acknowledged H) + 16
@@ -533,7 +571,7 @@ not_due : (w : Who) (H : List Call) (now : ℕ) (b : Bool) → moment H ≤ now 
 unfolding Quiet
 not_due w H now false l m q e = refl
 not_due w H now true l m q e =
-    absurd (let z = q (moment H) (ap (λ (b : Bool). due_by w H b (is_held (address_after w H) && has_packets w H)) e
+    absurd (let z = q (moment H) (ap (λ (b : Bool). due_by w H b (is_held (address_after w H))) e
     ∙ ap (λ (b : Bool). if b then Some (moment H) else None) (lt-ltb (moment H) 10000000000000000 (omega (arith, l, m)))) in omega (arith, z, l))
 
 not_held_yet : (w : Who) (H : List Call) (now : ℕ) (a : Address) → moment H ≤ now → now < 10000000000000000
@@ -575,6 +613,9 @@ past L n e = slice_get_past L n (not_lt n (length L) e)
     not_lt : (i k : ℕ) → nat_lt i k ≡ false → k ≤ i
     not_lt i k f = grind arith
 
+no_control : (w : Who) (H : List Call) → slice_get (due w H) (length (acknowledged H)) ≡ None → slice_get (reception w H).replies 0 ≡ None → next_control w H ≡ None
+no_control w H e f = ap (λ (x : Option Message). control_of x (slice_get (reception w H).replies 0)) e ∙ f
+
 none_by : (h : Bool) (x : Option Message) (y : Option (ℕ × Message)) (p : Option Message) (m : Message) (now : ℕ)
     → (h ≡ false) ⊎ ((x ≡ None) × (y ≡ None) × (p ≡ None)) → frame_by false h x y p m now ≡ None
 none_by false x y p m now e = refl
@@ -582,43 +623,29 @@ none_by true x y p m now (inl e) = absurd (cc)
 none_by true x y p m now (inr e) =
     ap (λ z. frame_by false true z y p m now) e.0 ∙ (ap (λ z. frame_by false true None z p m now) e.1 ∙ ap (λ z. frame_by false true None None z m now) e.2)
 
--- a frame of packets that isn't there, or whose pause isn't over
-no_packet : (o : Option (ℕ × MessageRecord)) (i left : ℕ) → (is_left o i ≡ false) ⊎ (nat_eq left 0 ≡ false) → packet_by o i left ≡ None
-no_packet None i left e = refl
-no_packet (Some x) i left e = go (nat_eq left 0) (nat_le i (packets_of x.1)) e
-  where
-    go : (a b : Bool) → (b ≡ false) ⊎ (a ≡ false) → (if a && b then Some (frame_of x.1 i) else None) ≡ None
-    go false b e = refl
-    go true false e = refl
-    go true true (inl e) = absurd (cc)
-    go true true (inr e) = absurd (cc)
-
 -- what next_due tells where no frame can be taken at the moment of the last call
 due_later : (w : Who) (H : List Call) (l : Bool) → (owes_claim w H || (is_held (address_after w H) && is_waiting w H)) ≡ false
-    → (is_held (address_after w H) && has_packets w H) ≡ l → next_due w H ≡ due_by w H false l
+    → is_held (address_after w H) ≡ l → next_due w H ≡ due_by w H false l
 due_later w H l e f =
-    ap (λ (b : Bool). due_by w H b (is_held (address_after w H) && has_packets w H)) e ∙ ap (due_by w H false) f
+    ap (λ (b : Bool). due_by w H b (is_held (address_after w H))) e ∙ ap (due_by w H false) f
 
--- the pause isn't over
-still_pauses : (w : Who) (H : List Call) (now : ℕ) → moment H ≤ now → now < 10000000000000000 → Quiet w H now
-    → next_due w H ≡ stamp_at (moment H + pause H) → nat_eq (pause H - step H now) 0 ≡ false
+-- the next frame of packets isn't due yet
+still_waits : (w : Who) (H : List Call) (now n : ℕ) → moment H ≤ now → now < 10000000000000000 → Quiet w H now
+    → next_due w H ≡ stamp_at (moment H + n) → step H now < n
 unfolding Quiet
-still_pauses w H now l m q e = go (nat_lt (moment H + pause H) 10000000000000000) refl
+still_waits w H now n l m q e = go (nat_lt (moment H + n) 10000000000000000) refl
   where
-    short : (p s x : ℕ) → x < s + p → s ≤ x → nat_eq (p - (x - s)) 0 ≡ false
-    short p s x f g = grind arith
-
     far : (k : ℕ) → nat_lt k 10000000000000000 ≡ false → 10000000000000000 ≤ k
     far k g = grind arith
 
-    go : (b : Bool) → nat_lt (moment H + pause H) 10000000000000000 ≡ b → nat_eq (pause H - step H now) 0 ≡ false
-    go true f = short (pause H) (moment H) now (q (moment H + pause H) (e ∙ ap (λ (b : Bool). if b then Some (moment H + pause H) else None) f)) l
-    go false f = short (pause H) (moment H) now (let y = far _ f in omega (arith, y, m)) l
+    go : (b : Bool) → nat_lt (moment H + n) 10000000000000000 ≡ b → step H now < n
+    go true f = let y = q (moment H + n) (e ∙ ap (λ (b : Bool). if b then Some (moment H + n) else None) f) in omega (arith, y, l)
+    go false f = let y = far _ f in omega (arith, y, m, l)
 
 nothing_taken : (w : Who) (H : List Call) (now : ℕ) → moment H ≤ now → now < 10000000000000000 → Quiet w H now → next_frame w H now ≡ None
 unfolding Quiet
 nothing_taken w H now l m q =
-    ap (λ (b : Bool). frame_by b (holds w H now) (slice_get (due w H) (length (acknowledged H))) (slice_get (accepted w H) (length (sent H))) (next_packet w H now) c now) o.0
+    ap (λ (b : Bool). frame_by b (holds w H now) (next_control w H) (slice_get (accepted w H) (length (sent H))) (next_long w H now) c now) o.0
     ∙ none_by (holds w H now) _ _ _ c now (held (is_held (address_after w H)) refl)
   where
     c : Message
@@ -630,17 +657,16 @@ nothing_taken w H now l m q =
     o : (owes_claim w H ≡ false) × ((is_held (address_after w H) && is_waiting w H) ≡ false)
     o = or_false (owes_claim w H) _ n
 
-    packet : (b : Bool) → is_held (address_after w H) ≡ true → has_packets w H ≡ b → next_packet w H now ≡ None
-    packet false z f = no_packet (open_broadcast w H) (length (packets H)) (pause H - step H now) (inl f)
-    packet true z f = no_packet (open_broadcast w H) (length (packets H)) (pause H - step H now)
-        (inr (still_pauses w H now l m q (due_later w H true n (ap (λ (b : Bool). b && has_packets w H) z ∙ f))))
+    long : is_held (address_after w H) ≡ true → next_long w H now ≡ None
+    long z = quiet_long w H now (λ k f. still_waits w H now k l m q (due_later w H true n z ∙ ap (at_in (moment H)) f))
 
     held : (b : Bool) → is_held (address_after w H) ≡ b
-        → (holds w H now ≡ false) ⊎ ((slice_get (due w H) (length (acknowledged H)) ≡ None) × (slice_get (accepted w H) (length (sent H)) ≡ None) × (next_packet w H now ≡ None))
-    held false z = inl (not_held_yet w H now (address_after w H) l m (λ t e. q t (due_later w H false n (ap (λ (b : Bool). b && has_packets w H) z) ∙ e)) z)
+        → (holds w H now ≡ false) ⊎ ((next_control w H ≡ None) × (slice_get (accepted w H) (length (sent H)) ≡ None) × (next_long w H now ≡ None))
+    held false z = inl (not_held_yet w H now (address_after w H) l m (λ t e. q t (due_later w H false n z ∙ e)) z)
     held true z =
         let v = or_false _ _ (sym (ap (λ (b : Bool). b && is_waiting w H) z) ∙ o.1) in
-        inr (past (due w H) (length (acknowledged H)) v.1, past (accepted w H) (length (sent H)) v.0, packet (has_packets w H) z refl)
+        let u = or_false _ _ v.1 in
+        inr (no_control w H (past (due w H) (length (acknowledged H)) u.0) (past (reception w H).replies 0 u.1), past (accepted w H) (length (sent H)) v.0, long z)
 
 pub quiet : (w : Who) (H : List Call) (c : Controller) (now : ℕ) (answer : Option FrameRecord) → Is w (TakeFrame now answer ∷ H) c → moment H ≤ now
     → now < 10000000000000000 → ((t : ℕ) → next_due w H ≡ Some t → now < t) → answer ≡ None
@@ -684,56 +710,49 @@ some_by false true None None (Some d) m now e f = absurd (cc)
 some_by false true None None None m now (inl e) f = absurd (cc)
 some_by false true None None None m now (inr e) f = e.1 (refl, refl, refl)
 
--- the next frame of the open broadcast, once the pause is over
-some_packet : (o : Option (ℕ × MessageRecord)) (i left : ℕ) → is_left o i ≡ true → left ≡ 0 → packet_by o i left ≡ None → ⊥
-some_packet None i left e f g = absurd (cc)
-some_packet (Some x) i left e f g = go (nat_eq left 0) (nat_le i (packets_of x.1)) (eq-eqb _ _ f) e g
-  where
-    go : (a b : Bool) → a ≡ true → b ≡ true → (if a && b then Some (frame_of x.1 i) else None) ≡ None → ⊥
-    go true true p q r = absurd (cc)
-    go true false p q r = absurd (cc)
-    go false b p q r = absurd (cc)
-
-no_pause : (m p : ℕ) → stamp_at (m + p) ≡ Some m → p ≡ 0
-no_pause m p e = go (nat_lt (m + p) 10000000000000000) e
-  where
-    go : (b : Bool) → (if b then Some (m + p) else None) ≡ Some m → p ≡ 0
-    go true f = let z : m + p ≡ m = cc in omega (arith, z)
-    go false f = absurd (cc)
-
-pub due_now : (w : Who) (H : List Call) (c : Controller) (now : ℕ) (answer : Option FrameRecord) → Is w (TakeFrame now answer ∷ H) c
-    → next_due w H ≡ Some (moment H) → answer ≢ None
-due_now w H c now (Some f) is e z = absurd (cc)
-due_now w H c now None is e z = go (owes_claim w H) (is_held (address_after w H)) (is_waiting w H) (has_packets w H) refl refl refl refl
+-- one is taken where the claim is owed, one waits, or one of packets is due
+none_taken : (w : Who) (H : List Call) (c : Controller) (now : ℕ) → Is w (TakeFrame now None ∷ H) c
+    → (next_due w H ≡ due_by w H false true → next_long w H now ≡ None → ⊥)
+    → (next_due w H ≡ due_by w H false false → is_held (address_after w H) ≡ false → ⊥) → ⊥
+none_taken w H c now is long later = go (owes_claim w H) (is_held (address_after w H)) (is_waiting w H) refl refl refl
   where
     by : (owes_claim w H ≡ true)
-        ⊎ ((holds w H now ≡ true) × ((slice_get (due w H) (length (acknowledged H)) ≡ None) × (slice_get (accepted w H) (length (sent H)) ≡ None) × (next_packet w H now ≡ None) → ⊥)) → ⊥
-    by x = some_by (owes_claim w H) (holds w H now) (slice_get (due w H) (length (acknowledged H))) (slice_get (accepted w H) (length (sent H))) (next_packet w H now)
+        ⊎ ((holds w H now ≡ true) × ((next_control w H ≡ None) × (slice_get (accepted w H) (length (sent H)) ≡ None) × (next_long w H now ≡ None) → ⊥)) → ⊥
+    by x = some_by (owes_claim w H) (holds w H now) (next_control w H) (slice_get (accepted w H) (length (sent H))) (next_long w H now)
         (claim_from w (claim_address w (address_after w H))) now x is.answered.1
-
-    later : (owes_claim w H || (is_held (address_after w H) && is_waiting w H)) ≡ false → (is_held (address_after w H) && has_packets w H) ≡ false → ⊥
-    later f g = held_at_later (address_after w H) (moment H) (sym (due_later w H false f g) ∙ e)
 
     none : (h x : Bool) → owes_claim w H ≡ false → is_held (address_after w H) ≡ h → is_waiting w H ≡ x → (h && x) ≡ false
         → (owes_claim w H || (is_held (address_after w H) && is_waiting w H)) ≡ false
     none h x p q r s = ap (λ (u : Bool). u || (is_held (address_after w H) && is_waiting w H)) p ∙ (ap (λ (u : Bool). u && is_waiting w H) q ∙ (ap (λ (u : Bool). h && u) r ∙ s))
 
-    go : (o h x l : Bool) → owes_claim w H ≡ o → is_held (address_after w H) ≡ h → is_waiting w H ≡ x → has_packets w H ≡ l → ⊥
-    go true h x l p q r s = by (inl p)
-    go false true true l p q r s = by (inr (
+    go : (o h x : Bool) → owes_claim w H ≡ o → is_held (address_after w H) ≡ h → is_waiting w H ≡ x → ⊥
+    go true h x p q r = by (inl p)
+    go false true true p q r = by (inr (
       held_later (address_after w H) _ q,
-      λ n. (let a = there (due w H) (length (acknowledged H)) n.0 in let b = there (accepted w H) (length (sent H)) n.1 in
-          let d : is_waiting w H ≡ false = ap (λ (u : Bool). u || nat_lt (length (acknowledged H)) (length (due w H))) b ∙ a in
+      λ n. (let k = none_steers _ (slice_get (reception w H).replies 0) n.0 in
+          let a = there (due w H) (length (acknowledged H)) k.0 in let b = there (accepted w H) (length (sent H)) n.1 in let v = there (reception w H).replies 0 k.1 in
+          let d : is_waiting w H ≡ false =
+          ap (λ (u : Bool). u || (nat_lt (length (acknowledged H)) (length (due w H)) || nat_lt 0 (length (reception w H).replies))) b
+          ∙ (ap (λ (u : Bool). u || nat_lt 0 (length (reception w H).replies)) a ∙ v) in
           not_both _ d r),
     ))
-    go false true false true p q r s =
-        let over = no_pause (moment H) (pause H) (sym (due_later w H true (none true false p q r refl) (ap (λ (u : Bool). u && has_packets w H) q ∙ s)) ∙ e) in
-        by (inr (
-          held_later (address_after w H) _ q,
-          λ n. some_packet (open_broadcast w H) (length (packets H)) (pause H - step H now) s (omega (arith, over)) n.2,
-        ))
-    go false false x l p q r s = later (none false x p q r refl) (ap (λ (u : Bool). u && has_packets w H) q)
-    go false true false false p q r s = later (none true false p q r refl) (ap (λ (u : Bool). u && has_packets w H) q ∙ s)
+    go false true false p q r = by (inr (
+      held_later (address_after w H) _ q,
+      λ n. long (due_later w H true (none true false p q r refl) q) n.2,
+    ))
+    go false false x p q r = later (due_later w H false (none false x p q r refl) q) q
+
+pub due_now : (w : Who) (H : List Call) (c : Controller) (now : ℕ) (answer : Option FrameRecord) → Is w (TakeFrame now answer ∷ H) c
+    → next_due w H ≡ Some (moment H) → answer ≢ None
+due_now w H c now (Some f) is e z = absurd (cc)
+due_now w H c now None is e z =
+    none_taken w H c now is (λ d k. from_long w H now (sym d ∙ e) k) (λ d q. held_at_later (address_after w H) (moment H) (sym d ∙ e))
+
+pub due_then : (w : Who) (H : List Call) (c : Controller) (now t : ℕ) (answer : Option FrameRecord) → Is w (TakeFrame now answer ∷ H) c
+    → next_due w H ≡ Some t → t ≤ now → IsTrue (is_held (address_after w H)) → age H + step H t < 10000000000000000 → answer ≢ None
+due_then w H c now t (Some f) is e l held m z = absurd (cc)
+due_then w H c now t None is e l held m z =
+    none_taken w H c now is (λ d k. then_long w H now t l m (sym d ∙ e) k) (λ d q. not_both _ q held)
 
 -- ---- news
 
@@ -744,7 +763,7 @@ news_case false false true n e = inr (inr ((let z : n ≡ MessagesMissed = cc in
 news_case false false false n e = absurd (cc)
 
 pub news_told : (w : Who) (H : List Call) (c : Controller) (n : News) → Is w (TakeNews (Some n) ∷ H) c
-    → ((n ≡ AddressLost) × IsTrue (lost_news w H)) ⊎ ((n ≡ AnotherAtAddress) × IsTrue (another_news w H)) ⊎ ((n ≡ MessagesMissed) × IsTrue (missed_news w H))
+    → ((n ≡ AddressLost) × IsTrue (lost_news w H)) ⊎ ((n ≡ AnotherAtAddress) × IsTrue (another_news w H)) ⊎ ((n ≡ MessagesMissed) × IsTrue (missed_news w H || unheard_news H))
 news_told w H c n is = news_case _ _ _ n is.answered.1
 
 no_news : (a b c : Bool) → None ≡ news_of a b c → (a ≡ false) × (b ≡ false) × (c ≡ false)
@@ -753,18 +772,18 @@ no_news false true c e = absurd (cc)
 no_news false false true e = absurd (cc)
 no_news false false false e = (refl, refl, refl)
 
-pub none_told : (w : Who) (H : List Call) (c : Controller) → Is w (TakeNews None ∷ H) c → (lost_news w H ≡ false) × (another_news w H ≡ false) × (missed_news w H ≡ false)
+pub none_told : (w : Who) (H : List Call) (c : Controller) → Is w (TakeNews None ∷ H) c → (lost_news w H ≡ false) × (another_news w H ≡ false) × ((missed_news w H || unheard_news H) ≡ false)
 none_told w H c is = no_news _ _ _ is.answered.1
 
 either : (a b : Bool) → (a || b) ≡ true → (a ≡ true) ⊎ (b ≡ true)
 either true b e = inl refl
 either false b e = inr e
 
-stays_lost : (b : Bool) (s : ℕ) (a : Address) → is_lost a ≡ true → is_lost (if b then Lost else older s a) ≡ true
+pub stays_lost : (b : Bool) (s : ℕ) (a : Address) → is_lost a ≡ true → is_lost (if b then Lost else older s a) ≡ true
 stays_lost true s a e = refl
 stays_lost false s a e = lost_older s a ∙ e
 
-stays_lost_claimed : (b : Bool) (s : ℕ) (a : Address) → is_lost a ≡ true → is_lost (if b then claimed (older s a) else older s a) ≡ true
+pub stays_lost_claimed : (b : Bool) (s : ℕ) (a : Address) → is_lost a ≡ true → is_lost (if b then claimed (older s a) else older s a) ≡ true
 stays_lost_claimed true s a e = lost_claimed (older s a) ∙ (lost_older s a ∙ e)
 stays_lost_claimed false s a e = lost_older s a ∙ e
 
@@ -782,7 +801,9 @@ lost_is_lost w (Tick now ∷ H) e = lost_older (step H now) (address_after w H) 
 lost_is_lost w (TakeFrame now None ∷ H) e = lost_older (step H now) (address_after w H) ∙ lost_is_lost w H e
 lost_is_lost w (TakeFrame now (Some f) ∷ H) e = stays_lost_claimed (is_claim f) (step H now) (address_after w H) (lost_is_lost w H e)
 lost_is_lost w (Send now d answer ∷ H) e = lost_older (step H now) (address_after w H) ∙ lost_is_lost w H e
+lost_is_lost w (Ask now group to answer ∷ H) e = lost_older (step H now) (address_after w H) ∙ lost_is_lost w H e
 lost_is_lost w (TakeEnded answer ∷ H) e = lost_is_lost w H e
+lost_is_lost w (TakeAskEnded answer ∷ H) e = lost_is_lost w H e
 lost_is_lost w (TakeReceived answer ∷ H) e = lost_is_lost w H e
 lost_is_lost w (TakeRequest answer ∷ H) e = lost_is_lost w H e
 lost_is_lost w (TakeNews None ∷ H) e = lost_is_lost w H e
@@ -792,6 +813,10 @@ lost_is_lost w (TakeNews (Some MessagesMissed) ∷ H) e = lost_is_lost w H e
 lost_is_lost w (Acknowledge now r answer result ∷ H) e = lost_older (step H now) (address_after w H) ∙ lost_is_lost w H e
 lost_is_lost w (Broadcast now group bytes answer ∷ H) e = lost_older (step H now) (address_after w H) ∙ lost_is_lost w H e
 lost_is_lost w (TakeBroadcastEnded answer ∷ H) e = lost_is_lost w H e
+lost_is_lost w (ReleaseTransfer answer ∷ H) e = lost_is_lost w H e
+lost_is_lost w (ReleaseBroadcast answer ∷ H) e = lost_is_lost w H e
+lost_is_lost w (Transfer now group to bytes answer ∷ H) e = lost_older (step H now) (address_after w H) ∙ lost_is_lost w H e
+lost_is_lost w (TakeTransferEnded answer ∷ H) e = lost_is_lost w H e
 
 still_missed : (b : Bool) (m : ℕ) → 0 < m → 0 < (if b then suc m else m)
 still_missed true m l = omega (arith, l)
@@ -811,7 +836,9 @@ some_missed w (Hear f ∷ H) e =
 some_missed w (Tick now ∷ H) e = some_missed w H e
 some_missed w (TakeFrame now answer ∷ H) e = some_missed w H e
 some_missed w (Send now d answer ∷ H) e = some_missed w H e
+some_missed w (Ask now group to answer ∷ H) e = some_missed w H e
 some_missed w (TakeEnded answer ∷ H) e = some_missed w H e
+some_missed w (TakeAskEnded answer ∷ H) e = some_missed w H e
 some_missed w (TakeReceived answer ∷ H) e = some_missed w H e
 some_missed w (TakeRequest answer ∷ H) e = some_missed w H e
 some_missed w (TakeNews None ∷ H) e = some_missed w H e
@@ -821,3 +848,7 @@ some_missed w (TakeNews (Some MessagesMissed) ∷ H) e = absurd (cc)
 some_missed w (Acknowledge now r answer result ∷ H) e = some_missed w H e
 some_missed w (Broadcast now group bytes answer ∷ H) e = some_missed w H e
 some_missed w (TakeBroadcastEnded answer ∷ H) e = some_missed w H e
+some_missed w (ReleaseTransfer answer ∷ H) e = some_missed w H e
+some_missed w (ReleaseBroadcast answer ∷ H) e = some_missed w H e
+some_missed w (Transfer now group to bytes answer ∷ H) e = some_missed w H e
+some_missed w (TakeTransferEnded answer ∷ H) e = some_missed w H e

@@ -2,15 +2,44 @@
 pub mod QueueLemmas
 -- frames that are made, and the lane of broadcasts
 pub mod FrameLemmas
+-- what every history says of what is received in packets
+pub mod ReceptionLemmas
+-- broadcasts in packets that are heard
+pub mod HearingLemmas
+-- transfers: between which addresses the open one goes, and the frames that it makes
+pub mod PortLemmas
+pub mod SaidLemmas
+-- what `ask` answers
+pub mod AskCases
 -- what every answered history says
 pub mod SoundLemmas
 -- what every answered history says of broadcasts
 pub mod LaneLemmas
+-- the open request
+pub mod AskLemmas
 -- a call more
 pub mod CallLemmas
+-- what a call does to the open request
+pub mod AskView
+-- the laws of requests
+pub mod AskLaws
+-- a call of `ask` more
+pub mod AskCalls
+-- when frames of packets are due
+pub mod DueLemmas
 -- the laws
 pub mod LawLemmas
 -- the laws of broadcasts
 pub mod LaneLaws
 -- since when the address is claimed
 pub mod SinceLemmas
+-- what is received in packets, step by step
+pub mod IncomingLemmas
+-- the laws of messages that come in packets
+pub mod ReceptionLaws
+-- the laws of transfers
+pub mod MoveSteps
+pub mod MoveLemmas
+pub mod TransferLaws
+-- the laws of broadcasts in packets that are heard
+pub mod HearingLaws

@@ -5,12 +5,14 @@ use Rattle.j39_frame.specs.Network.{address_claimed_group}
 use Rattle.j39_address.specs.Claim.{claim_of}
 use Rattle.j39_node.specs.declared.controller.Controller.{Controller}
 use Rattle.j39_node.specs.History.{Who, Call, Message, Address, address_after, claim_address, claim_from, claimed, content, holds, is_claim, is_held, is_lost, is_smaller, moment, older, open_broadcast, packets, pause, step}
-use Rattle.j39_node.specs.History.Call.{Hear, Tick, TakeFrame, Send, TakeEnded, TakeReceived, TakeRequest, TakeNews, Acknowledge, Broadcast, TakeBroadcastEnded}
+use Rattle.j39_node.specs.History.Call.{Ask, TakeAskEnded, Hear, Tick, TakeFrame, Send, TakeEnded, TakeReceived, TakeRequest, TakeNews, Acknowledge, Broadcast, TakeBroadcastEnded, ReleaseTransfer, Transfer, TakeTransferEnded, ReleaseBroadcast}
 use Rattle.j39_node.specs.History.Address.{NotClaimed, Claimed, Lost}
 use Rattle.j39_node.specs.Is.{Is, AreAnswered}
 use Rattle.j39_node.specs.Since.{ClaimedSince, NoneDrivesAway, drives_away, passed_in}
-use Rattle.j39_node.proofs.SoundLemmas.{FrameCase, frame_case, own_get, due_get, due_taken, message_taken, packet_taken, sound}
-use Rattle.j39_node.proofs.SoundLemmas.FrameCase.{claims, acknowledges, sends, packs}
+use Rattle.j39_node.specs.Reception.{reception}
+use Rattle.j39_node.proofs.ReceptionLemmas.{replied_get, tidy}
+use Rattle.j39_node.proofs.SoundLemmas.{FrameCase, frame_case, own_get, due_get, due_taken, message_taken, packet_taken, reply_taken, sound, transfer_taken}
+use Rattle.j39_node.proofs.SoundLemmas.FrameCase.{claims, acknowledges, replies, sends, packs, transfers}
 
 -- one call later
 one_later : (w : Who) (H : List Call) (call : Call) (e d : ℕ) → ClaimedSince w H e → drives_away w call ≡ false → d ≡ e + step H (moment (call ∷ H))
@@ -69,10 +71,14 @@ begins w H now f right (claims o e) k a = record {
 }
 begins w H now f right (acknowledges m o h g e) k a =
     absurd (let z = (due_taken w f now m e (due_get w _ _ m (sound w H right).desk.0 g)).0 in let y : true ≡ false = sym k ∙ z in cc)
+begins w H now f right (replies m o h n g e) k a =
+    absurd (let z = (reply_taken w.address f now m e (replied_get w.address (reception w H).replies 0 m (tidy w H).replies g)).0 in let y : true ≡ false = sym k ∙ z in cc)
 begins w H now f right (sends x o h n g e) k a =
     absurd (let z = message_taken w f now x e (own_get w _ _ x (sound w H right).own g) in let y : true ≡ false = sym k ∙ z in cc)
 begins w H now f right (packs m o h n past g e) k a =
     absurd (let z = (packet_taken f now m (open_broadcast w H) (length (packets H)) (pause H - step H now) e g).0 in let y : true ≡ false = sym k ∙ z in cc)
+begins w H now f right (transfers m o h n past nothing g e) k a =
+    absurd (let z = (transfer_taken w H now f m right e g).claim in let y : true ≡ false = sym k ∙ z in cc)
 
 taken : (w : Who) (H : List Call) (now d : ℕ) (f : FrameRecord) → AreAnswered w H → FrameCase w H now f
     → ((n : ℕ) → address_after w H ≡ Claimed n → ClaimedSince w H n)
@@ -96,7 +102,9 @@ claimed_since w (TakeFrame now None ∷ H) d right e = passes w H (TakeFrame now
 claimed_since w (TakeFrame now (Some f) ∷ H) d right e =
     taken w H now d f right.0 (frame_case w H now f right.1) (λ k i. claimed_since w H k right.0 i) (is_claim f) (address_after w H) refl refl e
 claimed_since w (Send now draft answer ∷ H) d right e = passes w H (Send now draft answer) d (λ k i. claimed_since w H k right.0 i) refl e
+claimed_since w (Ask now group to answer ∷ H) d right e = passes w H (Ask now group to answer) d (λ k i. claimed_since w H k right.0 i) refl e
 claimed_since w (TakeEnded answer ∷ H) d right e = rests w H (TakeEnded answer) d (λ k i. claimed_since w H k right.0 i) refl refl e
+claimed_since w (TakeAskEnded answer ∷ H) d right e = rests w H (TakeAskEnded answer) d (λ k i. claimed_since w H k right.0 i) refl refl e
 claimed_since w (TakeReceived answer ∷ H) d right e = rests w H (TakeReceived answer) d (λ k i. claimed_since w H k right.0 i) refl refl e
 claimed_since w (TakeRequest answer ∷ H) d right e = rests w H (TakeRequest answer) d (λ k i. claimed_since w H k right.0 i) refl refl e
 claimed_since w (TakeNews answer ∷ H) d right e = rests w H (TakeNews answer) d (λ k i. claimed_since w H k right.0 i) refl refl e
@@ -105,6 +113,11 @@ claimed_since w (Acknowledge now r answer result ∷ H) d right e =
 claimed_since w (Broadcast now group bytes answer ∷ H) d right e =
     passes w H (Broadcast now group bytes answer) d (λ k i. claimed_since w H k right.0 i) refl e
 claimed_since w (TakeBroadcastEnded answer ∷ H) d right e = rests w H (TakeBroadcastEnded answer) d (λ k i. claimed_since w H k right.0 i) refl refl e
+claimed_since w (ReleaseTransfer answer ∷ H) d right e = rests w H (ReleaseTransfer answer) d (λ k i. claimed_since w H k right.0 i) refl refl e
+claimed_since w (ReleaseBroadcast answer ∷ H) d right e = rests w H (ReleaseBroadcast answer) d (λ k i. claimed_since w H k right.0 i) refl refl e
+claimed_since w (Transfer now group to bytes answer ∷ H) d right e =
+    passes w H (Transfer now group to bytes answer) d (λ k i. claimed_since w H k right.0 i) refl e
+claimed_since w (TakeTransferEnded answer ∷ H) d right e = rests w H (TakeTransferEnded answer) d (λ k i. claimed_since w H k right.0 i) refl refl e
 
 held_cases : (s : ℕ) (a : Address) → is_held (older s a) ≡ true → (e : ℕ) × (a ≡ Claimed e) × (250000 ≤ e + s)
 held_cases s NotClaimed h = absurd (cc)
@@ -160,7 +173,9 @@ stands_since w (TakeFrame now (Some g) ∷ later) E at f k d =
     let H = later ++ TakeFrame at (Some f) ∷ E in
     claims_again (is_claim g) (older (step H now) (address_after w H)) _ (ages (address_after w H) _ (step H now) _ (stands_since w later E at f k d.1) refl)
 stands_since w (Send now draft answer ∷ later) E at f k d = ages _ _ (step (later ++ TakeFrame at (Some f) ∷ E) now) _ (stands_since w later E at f k d.1) refl
+stands_since w (Ask now group to answer ∷ later) E at f k d = ages _ _ (step (later ++ TakeFrame at (Some f) ∷ E) now) _ (stands_since w later E at f k d.1) refl
 stands_since w (TakeEnded answer ∷ later) E at f k d = waits _ _ _ (stands_since w later E at f k d.1) (omega arith)
+stands_since w (TakeAskEnded answer ∷ later) E at f k d = waits _ _ _ (stands_since w later E at f k d.1) (omega arith)
 stands_since w (TakeReceived answer ∷ later) E at f k d = waits _ _ _ (stands_since w later E at f k d.1) (omega arith)
 stands_since w (TakeRequest answer ∷ later) E at f k d = waits _ _ _ (stands_since w later E at f k d.1) (omega arith)
 stands_since w (TakeNews answer ∷ later) E at f k d = waits _ _ _ (stands_since w later E at f k d.1) (omega arith)
@@ -169,6 +184,11 @@ stands_since w (Acknowledge now r answer result ∷ later) E at f k d =
 stands_since w (Broadcast now group bytes answer ∷ later) E at f k d =
     ages _ _ (step (later ++ TakeFrame at (Some f) ∷ E) now) _ (stands_since w later E at f k d.1) refl
 stands_since w (TakeBroadcastEnded answer ∷ later) E at f k d = waits _ _ _ (stands_since w later E at f k d.1) (omega arith)
+stands_since w (ReleaseTransfer answer ∷ later) E at f k d = waits _ _ _ (stands_since w later E at f k d.1) (omega arith)
+stands_since w (ReleaseBroadcast answer ∷ later) E at f k d = waits _ _ _ (stands_since w later E at f k d.1) (omega arith)
+stands_since w (Transfer now group to bytes answer ∷ later) E at f k d =
+    ages _ _ (step (later ++ TakeFrame at (Some f) ∷ E) now) _ (stands_since w later E at f k d.1) refl
+stands_since w (TakeTransferEnded answer ∷ later) E at f k d = waits _ _ _ (stands_since w later E at f k d.1) (omega arith)
 
 in_time : (s p : ℕ) (a : Address) → Stands a p → (IsTrue (is_lost a) → ⊥) → 250000 ≤ p + s → is_held (older s a) ≡ true
 in_time s p a (gone e) n l = absurd (n (ap is_lost e))

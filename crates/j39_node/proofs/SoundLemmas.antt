@@ -1,9 +1,9 @@
 -- What every answered history says of what was accepted, sent and told.
-use Rattle.std.proofs.Common.{◌≡◌, ℕ, zero, suc, ◌-◌, ◌≤◌, List, [], ◌∷◌, ◌++◌, length, map, Option, Some, None, Result, Ok, Err, Bool, true, false, not, ◌&&◌, ◌||◌, if◌then◌else◌, nat_eq, nat_lt, nat_le, ◌==◌, refl, sym, ap, ◌∙◌, subst, inl, inr, arith, append_assoc, length-append, eq-eqb, eqb-true, ltb-true}
+use Rattle.std.proofs.Common.{◌≡◌, ℕ, zero, suc, ◌-◌, ◌<◌, ◌≤◌, List, [], ◌∷◌, ◌++◌, length, map, Option, Some, None, Result, Ok, Err, Bool, true, false, not, ◌&&◌, ◌||◌, if◌then◌else◌, nat_eq, nat_lt, nat_le, ◌==◌, refl, sym, ap, ◌∙◌, subst, inl, inr, arith, append_assoc, length-append, eq-eqb, eqb-true, ltb-true, ◌⊎◌}
 use Rattle.std.specs.List.{slice_get}
 use Rattle.std.specs.Option.{option_map}
 use Rattle.j39_frame.specs.Frame.{FrameRecord}
-use Rattle.j39_frame.specs.Identifier.{pgn_of}
+use Rattle.j39_frame.specs.Identifier.{destination_of, pgn_of, source_of}
 use Rattle.j39_frame.specs.Network.{address_claimed_group, transport_control_group, transport_data_group}
 use Rattle.j39_address.specs.Claim.{claim_of}
 use Rattle.j39_transport.specs.Message.{MessageRecord, packets_of}
@@ -13,10 +13,16 @@ use Rattle.j39_node.specs.declared.kinds.Answer.{Answer}
 use Rattle.j39_node.specs.declared.kinds.Answer.TheVariants.{Nack, Busy}
 use Rattle.j39_node.specs.declared.kinds.Refused.{Refused}
 use Rattle.j39_node.specs.declared.kinds.Refused.TheVariants.{NoAddress, BadValue, Full}
-use Rattle.j39_node.specs.History.{Who, Message, Draft, Call, Address, message_of, older, claimed, address_after, holds, is_lost, is_held, is_claim, is_smaller, claim_address, claim_from, owes_claim, can_send, is_own_group, message_from, accepted, sent, told, is_full, step, content, IsFront, got, kept, Asked, asked, acknowledgment_group, is_acknowledgment, acknowledgment, acknowledged, due, handed, requests, is_served, with_request, with_refusal, is_sendable, is_packet, frame_of, open_broadcast, packets, pause}
-use Rattle.j39_node.specs.History.Call.{Hear, Tick, TakeFrame, Send, TakeEnded, TakeReceived, TakeRequest, TakeNews, Acknowledge, Broadcast, TakeBroadcastEnded}
+use Rattle.j39_node.specs.History.{Who, Message, Draft, Call, Address, message_of, older, claimed, address_after, holds, is_lost, is_held, is_claim, is_smaller, claim_address, claim_from, owes_claim, can_send, is_own_group, message_from, accepted, sent, told, is_full, step, content, IsFront, got, kept, Asked, asked, acknowledgment_group, is_acknowledgment, acknowledgment, acknowledged, due, handed, requests, is_served, with_request, with_refusal, is_sendable, request_for, is_packet, is_session, is_some, frame_of, open_broadcast, packets, pause, is_transfer}
+use Rattle.j39_node.specs.History.Call.{Ask, TakeAskEnded, Hear, Tick, TakeFrame, Send, TakeEnded, TakeReceived, TakeRequest, TakeNews, Acknowledge, Broadcast, TakeBroadcastEnded, ReleaseTransfer, Transfer, TakeTransferEnded, ReleaseBroadcast}
+use Rattle.j39_node.specs.Reception.{is_move, none_waits, reception}
+use Rattle.j39_node.proofs.ReceptionLemmas.{IsReply, replied_get, tidy}
 use Rattle.j39_node.specs.History.Address.{NotClaimed, Claimed, Lost}
-use Rattle.j39_node.specs.Is.{AreAnswered, IsAnswered, stamped, first_of, packet_by, next_packet, next_frame, next_ended, end_of, answer_to_send}
+use Rattle.j39_node.specs.Is.{AreAnswered, IsAnswered, control_of, stamped, first_of, packet_by, next_control, next_packet, next_frame, next_ended, end_of, answer_to_send, long_by}
+use Rattle.j39_node.specs.Transfers.{next_transfer, open_transfer, clock_at}
+use Rattle.j39_node.specs.Asking.{can_ask}
+use Rattle.j39_node.proofs.AskCases.{AskCase, ask_case, homeless, unfit, busy, asks, sendable}
+use Rattle.j39_node.proofs.PortLemmas.{ported, SaidCase, said_case}
 use Rattle.j39_node.proofs.QueueLemmas.{get_within, get_append, get_map, length_one_more, map_append}
 
 -- ---- the address
@@ -39,16 +45,33 @@ held_not_lost Lost e = absurd (cc)
 pub holding_not_lost : (w : Who) (H : List Call) (now : ℕ) → holds w H now ≡ true → is_lost (address_after w H) ≡ false
 holding_not_lost w H now e = sym (lost_older (step H now) (address_after w H)) ∙ held_not_lost _ e
 
+pub both : (x y : Bool) → (x && y) ≡ true → (x ≡ true) × (y ≡ true)
+both true y e = (refl, e)
+both false y e = absurd (cc)
+
+some_is : {T : Type 0} (x y : T) → Some x ≡ Some y → x ≡ y
+some_is x y e = cc
+
+-- neither an acknowledgment nor a reply
+pub none_steers : (a b : Option Message) → control_of a b ≡ None → (a ≡ None) × (b ≡ None)
+none_steers None b e = (refl, e)
+none_steers (Some m) b e = absurd (cc)
+
 -- ---- which frame was taken
 
 pub data FrameCase (w : Who) (H : List Call) (now : ℕ) (f : FrameRecord) : Type 0 where
   claims : owes_claim w H ≡ true → stamped f ≡ (now, claim_from w (claim_address w (address_after w H))) → FrameCase w H now f
   acknowledges : (m : Message) → owes_claim w H ≡ false → holds w H now ≡ true → slice_get (due w H) (length (acknowledged H)) ≡ Some m
       → stamped f ≡ (now, m) → FrameCase w H now f
-  sends : (x : ℕ × Message) → owes_claim w H ≡ false → holds w H now ≡ true → slice_get (due w H) (length (acknowledged H)) ≡ None
+  replies : (m : Message) → owes_claim w H ≡ false → holds w H now ≡ true → slice_get (due w H) (length (acknowledged H)) ≡ None
+      → slice_get (reception w H).replies 0 ≡ Some m → stamped f ≡ (now, m) → FrameCase w H now f
+  sends : (x : ℕ × Message) → owes_claim w H ≡ false → holds w H now ≡ true → next_control w H ≡ None
       → slice_get (accepted w H) (length (sent H)) ≡ Some x → stamped f ≡ (now, x.1) → FrameCase w H now f
-  packs : (m : Message) → owes_claim w H ≡ false → holds w H now ≡ true → slice_get (due w H) (length (acknowledged H)) ≡ None
+  packs : (m : Message) → owes_claim w H ≡ false → holds w H now ≡ true → next_control w H ≡ None
       → slice_get (accepted w H) (length (sent H)) ≡ None → next_packet w H now ≡ Some m → stamped f ≡ (now, m) → FrameCase w H now f
+  transfers : (m : Message) → owes_claim w H ≡ false → holds w H now ≡ true → next_control w H ≡ None
+      → slice_get (accepted w H) (length (sent H)) ≡ None → next_packet w H now ≡ None → next_transfer w H now ≡ Some m → stamped f ≡ (now, m)
+      → FrameCase w H now f
 
 -- the next frame, by what it hangs on
 abbrev pub frame_by : Bool → Bool → Option Message → Option (ℕ × Message) → Option Message → Message → ℕ → Option (ℕ × Message)
@@ -56,17 +79,30 @@ frame_by owes held a o p claim now = if owes then Some (now, claim) else if held
 
 pub frame_case : (w : Who) (H : List Call) (now : ℕ) (f : FrameRecord) → Some (stamped f) ≡ next_frame w H now → FrameCase w H now f
 frame_case w H now f e =
-    go (owes_claim w H) (holds w H now) (slice_get (due w H) (length (acknowledged H))) (slice_get (accepted w H) (length (sent H))) (next_packet w H now) refl refl refl refl refl e
+    go (owes_claim w H) (holds w H now) (next_control w H) (slice_get (accepted w H) (length (sent H))) (next_packet w H now) (next_transfer w H now)
+    refl refl refl refl refl refl e
   where
-    go : (b h : Bool) (a : Option Message) (o : Option (ℕ × Message)) (y : Option Message) → owes_claim w H ≡ b → holds w H now ≡ h
-        → slice_get (due w H) (length (acknowledged H)) ≡ a → slice_get (accepted w H) (length (sent H)) ≡ o → next_packet w H now ≡ y
-        → Some (stamped f) ≡ frame_by b h a o y (claim_from w (claim_address w (address_after w H))) now → FrameCase w H now f
-    go true h a o y p q k r s i = claims p (let z : stamped f ≡ (now, claim_from w (claim_address w (address_after w H))) = cc in z)
-    go false false a o y p q k r s i = absurd (cc)
-    go false true (Some m) o y p q k r s i = acknowledges m p q k (let z : stamped f ≡ (now, m) = cc in z)
-    go false true None None None p q k r s i = absurd (cc)
-    go false true None None (Some m) p q k r s i = packs m p q k r s (let z : stamped f ≡ (now, m) = cc in z)
-    go false true None (Some x) y p q k r s i = sends x p q k r (let z : stamped f ≡ (now, x.1) = cc in z)
+    go : (b h : Bool) (a : Option Message) (o : Option (ℕ × Message)) (y z : Option Message) → owes_claim w H ≡ b → holds w H now ≡ h
+        → next_control w H ≡ a → slice_get (accepted w H) (length (sent H)) ≡ o → next_packet w H now ≡ y → next_transfer w H now ≡ z
+        → Some (stamped f) ≡ frame_by b h a o (long_by y z) (claim_from w (claim_address w (address_after w H))) now → FrameCase w H now f
+    go true h a o y z p q k r s t i = claims p (let u : stamped f ≡ (now, claim_from w (claim_address w (address_after w H))) = cc in u)
+    go false false a o y z p q k r s t i = absurd (cc)
+    go false true (Some m) o y z p q k r s t i =
+        steers (slice_get (due w H) (length (acknowledged H))) (slice_get (reception w H).replies 0) refl refl
+      where
+        is : stamped f ≡ (now, m)
+        is = (let u : stamped f ≡ (now, m) = cc in u)
+
+        steers : (a b : Option Message) → slice_get (due w H) (length (acknowledged H)) ≡ a → slice_get (reception w H).replies 0 ≡ b → FrameCase w H now f
+        steers (Some x) b u v =
+            let same : x ≡ m = some_is x m (sym (ap (λ (z : Option Message). control_of z (slice_get (reception w H).replies 0)) u) ∙ k) in
+            acknowledges m p q (u ∙ ap Some same) is
+        steers None b u v =
+            replies m p q u (sym (ap (λ (z : Option Message). control_of z (slice_get (reception w H).replies 0)) u) ∙ k) is
+    go false true None None None None p q k r s t i = absurd (cc)
+    go false true None None None (Some m) p q k r s t i = transfers m p q k r s t (let u : stamped f ≡ (now, m) = cc in u)
+    go false true None None (Some m) z p q k r s t i = packs m p q k r s (let u : stamped f ≡ (now, m) = cc in u)
+    go false true None (Some x) y z p q k r s t i = sends x p q k r (let u : stamped f ≡ (now, x.1) = cc in u)
 
 -- which frame of a broadcast is next
 pub record PacketCase (o : Option (ℕ × MessageRecord)) (i left : ℕ) (m : Message) : Type 0 where
@@ -93,18 +129,119 @@ packet_frame : (f : FrameRecord) (now : ℕ) (m : MessageRecord) (i : ℕ) → s
     → (is_claim f ≡ false) × (is_acknowledgment f ≡ false) × (is_packet f ≡ true)
 packet_frame f now m i e = go (i == 0) (ap (λ (y : ℕ × Message). y.1.group) e)
   where
+    to_all : is_some (destination_of f.id) 255 ≡ true
+    to_all = ap (λ (y : ℕ × Message). is_some y.1.destination 255) e
+
     go : (b : Bool) → pgn_of f.id ≡ (if b then transport_control_group else transport_data_group)
         → (is_claim f ≡ false) × (is_acknowledgment f ≡ false) × (is_packet f ≡ true)
     go true z = (
       ap (λ (g : ℕ). nat_eq g address_claimed_group) z,
       ap (λ (g : ℕ). nat_eq g acknowledgment_group) z,
-      ap (λ (g : ℕ). nat_eq g transport_control_group || nat_eq g transport_data_group) z,
+      ap (λ (g : ℕ). (nat_eq g transport_control_group || nat_eq g transport_data_group) && is_some (destination_of f.id) 255) z ∙ to_all,
     )
     go false z = (
       ap (λ (g : ℕ). nat_eq g address_claimed_group) z,
       ap (λ (g : ℕ). nat_eq g acknowledgment_group) z,
-      ap (λ (g : ℕ). nat_eq g transport_control_group || nat_eq g transport_data_group) z,
+      ap (λ (g : ℕ). (nat_eq g transport_control_group || nat_eq g transport_data_group) && is_some (destination_of f.id) 255) z ∙ to_all,
     )
+
+-- a reply is no frame of a broadcast
+pub reply_taken : (own : ℕ) (f : FrameRecord) (now : ℕ) (m : Message) → stamped f ≡ (now, m) → IsReply own m
+    → (is_claim f ≡ false) × (is_acknowledgment f ≡ false) × (is_session f ≡ true) × (is_packet f ≡ false)
+reply_taken own f now m e is =
+    let z : pgn_of f.id ≡ transport_control_group = ap (λ (y : ℕ × Message). y.1.group) e ∙ is.group in
+    let to : destination_of f.id ≡ Some is.to = ap (λ (y : ℕ × Message). y.1.destination) e ∙ is.destination in
+    let session : is_session f ≡ true = ap (λ (g : ℕ). nat_eq g transport_control_group || nat_eq g transport_data_group) z in (
+      ap (λ (g : ℕ). nat_eq g address_claimed_group) z,
+      ap (λ (g : ℕ). nat_eq g acknowledgment_group) z,
+      session,
+      ap (λ (x : Bool). x && is_some (destination_of f.id) 255) session ∙ (ap (λ o. is_some o 255) to ∙ not_all is.to is.address),
+    )
+  where
+    not_all : (k : ℕ) → k < 254 → nat_eq k 255 ≡ false
+    not_all k l = grind arith
+
+-- ---- a frame of a session is one of a broadcast, or of a transfer
+
+pub no_packet : (f : FrameRecord) → is_session f ≡ false → is_packet f ≡ false
+no_packet f e = ap (λ (b : Bool). b && is_some (destination_of f.id) 255) e
+
+pub no_transfer : (f : FrameRecord) → is_session f ≡ false → is_transfer f ≡ false
+no_transfer f e = ap (λ (b : Bool). b && not (is_some (destination_of f.id) 255)) e
+
+pub packet_session : (f : FrameRecord) → is_packet f ≡ true → (is_session f ≡ true) × (is_transfer f ≡ false)
+packet_session f e = go (is_session f) (is_some (destination_of f.id) 255) refl refl e
+  where
+    go : (a b : Bool) → is_session f ≡ a → is_some (destination_of f.id) 255 ≡ b → (a && b) ≡ true → (is_session f ≡ true) × (is_transfer f ≡ false)
+    go true true p q r = (p, ap (λ (x : Bool). is_session f && not x) q ∙ off (is_session f))
+      where
+        off : (x : Bool) → (x && false) ≡ false
+        off true = refl
+        off false = refl
+    go true false p q r = absurd (cc)
+    go false b p q r = absurd (cc)
+
+pub no_move : (w : Who) (H : List Call) (f : FrameRecord) → is_transfer f ≡ false → is_move w H f ≡ false
+no_move w H f e = ap (λ (b : Bool). b && none_waits (reception w H).replies) e
+
+-- where a reply waits
+pub reply_no_move : (w : Who) (H : List Call) (f : FrameRecord) (m : Message) → slice_get (reception w H).replies 0 ≡ Some m → is_move w H f ≡ false
+reply_no_move w H f m e = ap (λ (b : Bool). is_transfer f && b) (some_wait (reception w H).replies e) ∙ off (is_transfer f)
+  where
+    some_wait : (L : List Message) → slice_get L 0 ≡ Some m → none_waits L ≡ false
+    some_wait [] g = absurd (cc)
+    some_wait (x ∷ L) g = refl
+
+    off : (b : Bool) → (b && false) ≡ false
+    off true = refl
+    off false = refl
+
+-- and where none does
+pub is_moved : (w : Who) (H : List Call) (f : FrameRecord) → is_transfer f ≡ true → slice_get (reception w H).replies 0 ≡ None → is_move w H f ≡ true
+is_moved w H f e g = ap (λ (b : Bool). b && none_waits (reception w H).replies) e ∙ none_wait (reception w H).replies g
+  where
+    none_wait : (L : List Message) → slice_get L 0 ≡ None → none_waits L ≡ true
+    none_wait [] h = refl
+    none_wait (x ∷ L) h = absurd (cc)
+
+-- what a frame of the open transfer is
+pub record IsOfTransfer (w : Who) (f : FrameRecord) : Type 0 where
+  pub claim : is_claim f ≡ false
+  pub plain : is_acknowledgment f ≡ false
+  pub session : is_session f ≡ true
+  pub packet : is_packet f ≡ false
+  pub transfer : is_transfer f ≡ true
+  pub source : source_of f.id ≡ w.address
+
+pub transfer_taken : (w : Who) (H : List Call) (now : ℕ) (f : FrameRecord) (m : Message) → AreAnswered w H → stamped f ≡ (now, m) → next_transfer w H now ≡ Some m
+    → IsOfTransfer w f
+transfer_taken w H now f m right e g = go (said_case w (open_transfer w H) (clock_at H now) m (ported w H right) g)
+  where
+    by : (d : Option ℕ) → destination_of f.id ≡ d → is_some d 255 ≡ false → is_some (destination_of f.id) 255 ≡ false
+    by d p q = ap (λ (x : Option ℕ). is_some x 255) p ∙ q
+
+    of_group : (g : ℕ) → pgn_of f.id ≡ g → (g ≡ transport_control_group) ⊎ (g ≡ transport_data_group) → source_of f.id ≡ w.address → is_some (destination_of f.id) 255 ≡ false
+        → IsOfTransfer w f
+    of_group g p (inl q) k d = let z = p ∙ q in record {
+      claim = ap (λ (g : ℕ). nat_eq g address_claimed_group) z;
+      plain = ap (λ (g : ℕ). nat_eq g acknowledgment_group) z;
+      session = ap (λ (g : ℕ). nat_eq g transport_control_group || nat_eq g transport_data_group) z;
+      packet = ap (λ (g : ℕ). (nat_eq g transport_control_group || nat_eq g transport_data_group) && is_some (destination_of f.id) 255) z ∙ d;
+      transfer = ap (λ (g : ℕ). (nat_eq g transport_control_group || nat_eq g transport_data_group) && not (is_some (destination_of f.id) 255)) z ∙ ap not d;
+      source = k;
+    }
+    of_group g p (inr q) k d = let z = p ∙ q in record {
+      claim = ap (λ (g : ℕ). nat_eq g address_claimed_group) z;
+      plain = ap (λ (g : ℕ). nat_eq g acknowledgment_group) z;
+      session = ap (λ (g : ℕ). nat_eq g transport_control_group || nat_eq g transport_data_group) z;
+      packet = ap (λ (g : ℕ). (nat_eq g transport_control_group || nat_eq g transport_data_group) && is_some (destination_of f.id) 255) z ∙ d;
+      transfer = ap (λ (g : ℕ). (nat_eq g transport_control_group || nat_eq g transport_data_group) && not (is_some (destination_of f.id) 255)) z ∙ ap not d;
+      source = k;
+    }
+
+    go : SaidCase w m → IsOfTransfer w f
+    go s = of_group m.group (ap (λ (y : ℕ × Message). y.1.group) e) s.group (ap (λ (y : ℕ × Message). y.1.source) e ∙ s.source)
+        (by m.destination (ap (λ (y : ℕ × Message). y.1.destination) e) s.directed)
 
 pub packet_taken : (f : FrameRecord) (now : ℕ) (m : Message) (o : Option (ℕ × MessageRecord)) (i left : ℕ) → stamped f ≡ (now, m) → packet_by o i left ≡ Some m
     → (is_claim f ≡ false) × (is_acknowledgment f ≡ false) × (is_packet f ≡ true)
@@ -198,11 +335,7 @@ rests w H G e f g l r d h = record {
   numbered = subst (λ (L : List (ℕ × Message)). (i : ℕ) (x : ℕ × Message) → slice_get L i ≡ Some x → x.0 ≡ i) (sym e) h.numbered;
 }
 
-pub both : (x y : Bool) → (x && y) ≡ true → (x ≡ true) × (y ≡ true)
-both true y e = (refl, e)
-both false y e = absurd (cc)
-
-neither : (x y : Bool) → not (x || y) ≡ true → (x ≡ false) × (not y ≡ true)
+pub neither : (x y : Bool) → not (x || y) ≡ true → (x ≡ false) × (not y ≡ true)
 neither true y e = absurd (cc)
 neither false y e = (refl, e)
 
@@ -278,15 +411,15 @@ message_taken w f now x e own = let z = ap (λ (y : ℕ × Message). y.1.group) 
 pub plain_taken : (w : Who) (f : FrameRecord) (now : ℕ) (x : ℕ × Message) → stamped f ≡ (now, x.1) → IsOwn w x.1 → is_acknowledgment f ≡ false
 plain_taken w f now x e own = let z = ap (λ (y : ℕ × Message). y.1.group) e in ap (λ (g : ℕ). nat_eq g acknowledgment_group) z ∙ own.plain
 
-pub single_taken : (w : Who) (f : FrameRecord) (now : ℕ) (x : ℕ × Message) → stamped f ≡ (now, x.1) → IsOwn w x.1 → is_packet f ≡ false
+pub single_taken : (w : Who) (f : FrameRecord) (now : ℕ) (x : ℕ × Message) → stamped f ≡ (now, x.1) → IsOwn w x.1 → is_session f ≡ false
 single_taken w f now x e own =
     let z = ap (λ (y : ℕ × Message). y.1.group) e in ap (λ (g : ℕ). nat_eq g transport_control_group || nat_eq g transport_data_group) z ∙ own.single
 
-pub claim_single : (f : FrameRecord) → is_claim f ≡ true → is_packet f ≡ false
+pub claim_single : (f : FrameRecord) → is_claim f ≡ true → is_session f ≡ false
 claim_single f e = ap (λ (g : ℕ). nat_eq g transport_control_group || nat_eq g transport_data_group) (eqb-true (pgn_of f.id) address_claimed_group e)
 
 pub due_taken : (w : Who) (f : FrameRecord) (now : ℕ) (m : Message) → stamped f ≡ (now, m) → IsDue w m
-    → (is_claim f ≡ false) × (is_acknowledgment f ≡ true) × (is_packet f ≡ false)
+    → (is_claim f ≡ false) × (is_acknowledgment f ≡ true) × (is_session f ≡ false)
 due_taken w f now m e is =
     let z : pgn_of f.id ≡ acknowledgment_group = ap (λ (y : ℕ × Message). y.1.group) e ∙ is.group in (
       ap (λ (g : ℕ). nat_eq g address_claimed_group) z,
@@ -294,10 +427,10 @@ due_taken w f now m e is =
       ap (λ (g : ℕ). nat_eq g transport_control_group || nat_eq g transport_data_group) z,
     )
 
-pub sent_is : (H : List Call) (now : ℕ) (f : FrameRecord) (a b p : Bool) → is_claim f ≡ a → is_acknowledgment f ≡ b → is_packet f ≡ p
+pub sent_is : (H : List Call) (now : ℕ) (f : FrameRecord) (a b p : Bool) → is_claim f ≡ a → is_acknowledgment f ≡ b → is_session f ≡ p
     → sent (TakeFrame now (Some f) ∷ H) ≡ (if a || (b || p) then sent H else sent H ++ message_of f ∷ [])
-sent_is H now f a b p e g i = ap (λ (x : Bool). if x || (is_acknowledgment f || is_packet f) then sent H else sent H ++ message_of f ∷ []) e
-    ∙ (ap (λ (y : Bool). if a || (y || is_packet f) then sent H else sent H ++ message_of f ∷ []) g
+sent_is H now f a b p e g i = ap (λ (x : Bool). if x || (is_acknowledgment f || is_session f) then sent H else sent H ++ message_of f ∷ []) e
+    ∙ (ap (λ (y : Bool). if a || (y || is_session f) then sent H else sent H ++ message_of f ∷ []) g
     ∙ ap (λ (y : Bool). if a || (b || y) then sent H else sent H ++ message_of f ∷ []) i)
 
 pub packets_is : (H : List Call) (now : ℕ) (f : FrameRecord) (p : Bool) → is_packet f ≡ p
@@ -332,13 +465,13 @@ sound_acknowledge w H now f m e k g i h = rests w H _ refl (sent_is H now f fals
       h.desk.2,
     ) h
 
-sound_packet : (w : Who) (H : List Call) (now : ℕ) (f : FrameRecord) → (is_claim f ≡ false) × (is_acknowledgment f ≡ false) × (is_packet f ≡ true)
+sound_packet : (w : Who) (H : List Call) (now : ℕ) (f : FrameRecord) → (is_claim f ≡ false) × (is_acknowledgment f ≡ false) × (is_session f ≡ true)
     → Sound w H → Sound w (TakeFrame now (Some f) ∷ H)
 sound_packet w H now f k h = rests w H _ refl (sent_is H now f false false true k.0 k.1 k.2) refl
     (λ l. sym (lost_older (step H now) (address_after w H)) ∙ (sym (ap is_lost (address_is w H now f false k.0)) ∙ l)) h.reads
     (h.desk.0, subst (λ xs. IsFront xs (due w H)) (sym (acknowledged_is H now f false false k.0 k.1)) h.desk.1, h.desk.2) h
 
-sound_send : (w : Who) (H : List Call) (now : ℕ) (f : FrameRecord) (x : ℕ × Message) → is_claim f ≡ false → is_acknowledgment f ≡ false → is_packet f ≡ false → holds w H now ≡ true
+sound_send : (w : Who) (H : List Call) (now : ℕ) (f : FrameRecord) (x : ℕ × Message) → is_claim f ≡ false → is_acknowledgment f ≡ false → is_session f ≡ false → holds w H now ≡ true
     → slice_get (accepted w H) (length (sent H)) ≡ Some x → stamped f ≡ (now, x.1) → Sound w H → Sound w (TakeFrame now (Some f) ∷ H)
 sound_send w H now f x e k n held g i h =
     let more : sent (TakeFrame now (Some f) ∷ H) ≡ sent H ++ x.1 ∷ [] =
@@ -354,15 +487,22 @@ sound_send w H now f x e k n held g i h =
       numbered = h.numbered;
     }
 
-sound_frame : (w : Who) (H : List Call) (now : ℕ) (f : FrameRecord) → FrameCase w H now f → Sound w H → Sound w (TakeFrame now (Some f) ∷ H)
-sound_frame w H now f (claims owes e) h = sound_claim w H now f (claim_taken f now w _ e) h
-sound_frame w H now f (acknowledges m owes held g e) h =
+sound_frame : (w : Who) (H : List Call) (now : ℕ) (f : FrameRecord) → AreAnswered w H → FrameCase w H now f → Sound w H → Sound w (TakeFrame now (Some f) ∷ H)
+sound_frame w H now f right (claims owes e) h = sound_claim w H now f (claim_taken f now w _ e) h
+sound_frame w H now f right (acknowledges m owes held g e) h =
     let k = due_taken w f now m e (due_get w (due w H) (length (acknowledged H)) m h.desk.0 g) in
     sound_acknowledge w H now f m k.0 k.1 g e h
-sound_frame w H now f (sends x owes held none g e) h =
+sound_frame w H now f right (replies m owes held none g e) h =
+    let k = reply_taken w.address f now m e (replied_get w.address (reception w H).replies 0 m (tidy w H).replies g) in
+    sound_packet w H now f (k.0, k.1, k.2) h
+sound_frame w H now f right (sends x owes held none g e) h =
     let own = own_get w _ _ x h.own g in
     sound_send w H now f x (message_taken w f now x e own) (plain_taken w f now x e own) (single_taken w f now x e own) held g e h
-sound_frame w H now f (packs m owes held none past g e) h = sound_packet w H now f (packet_taken f now m (open_broadcast w H) (length (packets H)) (pause H - step H now) e g) h
+sound_frame w H now f right (packs m owes held none past g e) h =
+    let is = packet_taken f now m (open_broadcast w H) (length (packets H)) (pause H - step H now) e g in
+    sound_packet w H now f (is.0, is.1, (packet_session f is.2).0) h
+sound_frame w H now f right (transfers m owes held none past nothing g e) h =
+    let is = transfer_taken w H now f m right e g in sound_packet w H now f (is.claim, is.plain, is.session) h
 
 sound_accept : (w : Who) (H : List Call) (now k : ℕ) (d : Draft) → can_send w d ≡ true → k ≡ length (accepted w H) → Sound w H → Sound w (Send now d (Ok k) ∷ H)
 sound_accept w H now k d e g h = record {
@@ -377,6 +517,17 @@ sound_accept w H now k d e g h = record {
     | inl old ↦ h.numbered i x old
     | inr new ↦ sym (ap (λ (y : ℕ × Message). y.0) new.1) ∙ (g ∙ sym new.0)
   ];
+}
+
+sound_ask : (w : Who) (H : List Call) (now k group to : ℕ) → can_ask w group to ≡ true → k ≡ length (accepted w H) → Sound w H → Sound w (Ask now group to (Ok k) ∷ H)
+sound_ask w H now k group to e g h = let s = sound_accept w H now k (request_for group to) (sendable w group to e) g h in record {
+  own = s.own;
+  fronts = s.fronts;
+  within = s.within;
+  in_turn = s.in_turn;
+  reads = s.reads;
+  desk = s.desk;
+  numbered = s.numbered;
 }
 
 sound_ended : (w : Who) (H : List Call) (x : ℕ × Ending) → EndCase w H x → Sound w H → Sound w (TakeEnded (Some x) ∷ H)
@@ -439,36 +590,49 @@ heard_desk w H f h =
       request_front w room o (requests w H) (handed H) h.2,
     )
 
-sound_more : (w : Who) (H : List Call) (call : Call) → IsAnswered w H call → Sound w H → Sound w (call ∷ H)
-sound_more w H (Hear f) e h = rests w H _ refl refl refl (lost_if w (is_smaller w (claim_of f)) (step H f.stamp) (address_after w H))
+sound_more : (w : Who) (H : List Call) (call : Call) → AreAnswered w H → IsAnswered w H call → Sound w H → Sound w (call ∷ H)
+sound_more w H (Hear f) right e h = rests w H _ refl refl refl (lost_if w (is_smaller w (claim_of f)) (step H f.stamp) (address_after w H))
     (kept_grows _ (kept w H) (f.stamp, message_of f) (got H) h.reads)
     (heard_desk w H f h.desk) h
-sound_more w H (Tick now) e h = rests w H _ refl refl refl (λ l. sym (lost_older (step H now) (address_after w H)) ∙ l) h.reads h.desk h
-sound_more w H (TakeFrame now None) e h = rests w H _ refl refl refl (λ l. sym (lost_older (step H now) (address_after w H)) ∙ l) h.reads h.desk h
-sound_more w H (TakeFrame now (Some f)) e h = sound_frame w H now f (frame_case w H now f e) h
-sound_more w H (Send now d (Ok k)) e h = go (send_case w H now d (Ok k) e)
+sound_more w H (Tick now) right e h = rests w H _ refl refl refl (λ l. sym (lost_older (step H now) (address_after w H)) ∙ l) h.reads h.desk h
+sound_more w H (TakeFrame now None) right e h = rests w H _ refl refl refl (λ l. sym (lost_older (step H now) (address_after w H)) ∙ l) h.reads h.desk h
+sound_more w H (TakeFrame now (Some f)) right e h = sound_frame w H now f right (frame_case w H now f e) h
+sound_more w H (Send now d (Ok k)) right e h = go (send_case w H now d (Ok k) e)
   where
     go : SendCase w H now d (Ok k) → Sound w (Send now d (Ok k) ∷ H)
     go (no_address a b) = absurd (cc)
     go (bad_value a b c) = absurd (cc)
     go (full a b c i) = absurd (cc)
     go (accepts a b c i) = sound_accept w H now k d b (let z : k ≡ length (accepted w H) = cc in z) h
-sound_more w H (Send now d (Err r)) e h = rests w H _ refl refl refl (λ l. sym (lost_older (step H now) (address_after w H)) ∙ l) h.reads h.desk h
-sound_more w H (TakeEnded None) e h = rests w H _ refl refl refl (λ l. l) h.reads h.desk h
-sound_more w H (TakeEnded (Some x)) e h = sound_ended w H x (end_case w H x e) h
-sound_more w H (TakeReceived None) e h = rests w H _ refl refl refl (λ l. l) h.reads h.desk h
-sound_more w H (TakeReceived (Some x)) e h = rests w H _ refl refl refl (λ l. l)
+sound_more w H (Ask now group to (Ok k)) right e h = go (ask_case w H now group to (Ok k) e)
+  where
+    go : AskCase w H now group to (Ok k) → Sound w (Ask now group to (Ok k) ∷ H)
+    go (homeless a b) = absurd (cc)
+    go (unfit a b c) = absurd (cc)
+    go (busy a b c i) = absurd (cc)
+    go (asks a b c i) = sound_ask w H now k group to b (let z : k ≡ length (accepted w H) = cc in z) h
+sound_more w H (Ask now group to (Err r)) right e h = rests w H _ refl refl refl (λ l. sym (lost_older (step H now) (address_after w H)) ∙ l) h.reads h.desk h
+sound_more w H (Send now d (Err r)) right e h = rests w H _ refl refl refl (λ l. sym (lost_older (step H now) (address_after w H)) ∙ l) h.reads h.desk h
+sound_more w H (TakeEnded None) right e h = rests w H _ refl refl refl (λ l. l) h.reads h.desk h
+sound_more w H (TakeEnded (Some x)) right e h = sound_ended w H x (end_case w H x e) h
+sound_more w H (TakeReceived None) right e h = rests w H _ refl refl refl (λ l. l) h.reads h.desk h
+sound_more w H (TakeReceived (Some x)) right e h = rests w H _ refl refl refl (λ l. l)
     (front_longer (got H) (kept w H) x h.reads (sym e)) h.desk h
-sound_more w H (TakeNews None) e h = rests w H _ refl refl refl (λ l. l) h.reads h.desk h
-sound_more w H (TakeNews (Some n)) e h = rests w H _ refl refl refl (λ l. l) h.reads h.desk h
-sound_more w H (TakeRequest None) e h = rests w H _ refl refl refl (λ l. l) h.reads h.desk h
-sound_more w H (TakeRequest (Some r)) e h = rests w H _ refl refl refl (λ l. l) h.reads (h.desk.0, h.desk.1, front_longer (handed H) (requests w H) r h.desk.2 (sym e)) h
-sound_more w H (Acknowledge now r answer (Ok x)) e h = rests w H _ refl refl refl (λ l. sym (lost_older (step H now) (address_after w H)) ∙ l) h.reads
+sound_more w H (TakeNews None) right e h = rests w H _ refl refl refl (λ l. l) h.reads h.desk h
+sound_more w H (TakeNews (Some n)) right e h = rests w H _ refl refl refl (λ l. l) h.reads h.desk h
+sound_more w H (TakeRequest None) right e h = rests w H _ refl refl refl (λ l. l) h.reads h.desk h
+sound_more w H (TakeRequest (Some r)) right e h = rests w H _ refl refl refl (λ l. l) h.reads (h.desk.0, h.desk.1, front_longer (handed H) (requests w H) r h.desk.2 (sym e)) h
+sound_more w H (Acknowledge now r answer (Ok x)) right e h = rests w H _ refl refl refl (λ l. sym (lost_older (step H now) (address_after w H)) ∙ l) h.reads
     (due_append w (due w H) answer r h.desk.0, front_append (acknowledged H) (due w H) (acknowledgment w answer r) h.desk.1, h.desk.2) h
-sound_more w H (Acknowledge now r answer (Err k)) e h = rests w H _ refl refl refl (λ l. sym (lost_older (step H now) (address_after w H)) ∙ l) h.reads h.desk h
-sound_more w H (Broadcast now group bytes answer) e h = rests w H _ refl refl refl (λ l. sym (lost_older (step H now) (address_after w H)) ∙ l) h.reads h.desk h
-sound_more w H (TakeBroadcastEnded answer) e h = rests w H _ refl refl refl (λ l. l) h.reads h.desk h
+sound_more w H (Acknowledge now r answer (Err k)) right e h = rests w H _ refl refl refl (λ l. sym (lost_older (step H now) (address_after w H)) ∙ l) h.reads h.desk h
+sound_more w H (Broadcast now group bytes answer) right e h = rests w H _ refl refl refl (λ l. sym (lost_older (step H now) (address_after w H)) ∙ l) h.reads h.desk h
+sound_more w H (TakeBroadcastEnded answer) right e h = rests w H _ refl refl refl (λ l. l) h.reads h.desk h
+sound_more w H (Transfer now group to bytes answer) right e h = rests w H _ refl refl refl (λ l. sym (lost_older (step H now) (address_after w H)) ∙ l) h.reads h.desk h
+sound_more w H (TakeAskEnded answer) right e h = rests w H _ refl refl refl (λ l. l) h.reads h.desk h
+sound_more w H (TakeTransferEnded answer) right e h = rests w H _ refl refl refl (λ l. l) h.reads h.desk h
+sound_more w H (ReleaseTransfer answer) right e h = rests w H _ refl refl refl (λ l. l) h.reads h.desk h
+sound_more w H (ReleaseBroadcast answer) right e h = rests w H _ refl refl refl (λ l. l) h.reads h.desk h
 
 pub sound : (w : Who) (H : List Call) → AreAnswered w H → Sound w H
 sound w [] e = record { own = tt; fronts = ([], refl); within = omega arith; in_turn = λ l. omega arith; reads = ([], refl); desk = (tt, ([], refl), ([], refl)); numbered = λ i x e. absurd (cc) }
-sound w (call ∷ H) e = sound_more w H call e.1 (sound w H e.0)
+sound w (call ∷ H) e = sound_more w H call e.0 e.1 (sound w H e.0)

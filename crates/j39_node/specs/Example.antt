@@ -1,11 +1,13 @@
 -- A history that a controller can have had.
-use Rattle.std.specs.Prelude.{ℕ, List, [], ◌∷◌, Some, None, Ok, Err}
+use Rattle.std.specs.Prelude.{ℕ, ◌+◌, List, [], ◌∷◌, Some, None, Ok, Err, true, false}
 use Rattle.j39_frame.specs.Frame.{FrameRecord}
 use Rattle.j39_node.specs.declared.kinds.Ending.TheVariants.{Done, Withdrawn}
+use Rattle.j39_node.specs.declared.kinds.TransferEnding.TheVariants as transfer
 use Rattle.j39_node.specs.declared.kinds.Answer.TheVariants.{Ack}
+use Rattle.j39_node.specs.declared.kinds.News.TheVariants.{MessagesMissed}
 use Rattle.j39_node.specs.declared.kinds.Refused.TheVariants.{NoAddress, BadValue, Full}
 use Rattle.j39_node.specs.History.{Who, Asked, Draft, Call, message_of}
-use Rattle.j39_node.specs.History.Call.{Acknowledge, Broadcast, TakeBroadcastEnded, Hear, Tick, TakeFrame, TakeRequest, Send, TakeEnded, TakeReceived}
+use Rattle.j39_node.specs.History.Call.{Acknowledge, Broadcast, TakeBroadcastEnded, Hear, Tick, TakeFrame, TakeRequest, Send, TakeEnded, TakeNews, TakeReceived, ReleaseBroadcast, ReleaseTransfer, Transfer, TakeTransferEnded}
 
 -- NAME 2 at address 128, whose program serves group 65259
 abbrev pub two : Who
@@ -63,9 +65,58 @@ first_packet now = record { stamp = now; id = 485228416; bytes = 1 ∷ 1 ∷ 2 �
 abbrev pub last_packet : ℕ → FrameRecord
 last_packet now = record { stamp = now; id = 485228416; bytes = 2 ∷ 8 ∷ 9 ∷ 255 ∷ 255 ∷ 255 ∷ 255 ∷ 255 ∷ [] }
 
--- it claims its address, and holds it 250 ms later; sends a message, refuses one to itself, gets one, answers a
--- request and refuses another; broadcasts a message in packets; then a smaller NAME claims the address, so that a message and a
--- broadcast that wait are withdrawn and none is accepted; the newest call first
+-- its request to send them to address 11, and the packets; what 11 answers: clear to send both, and the acknowledgment
+abbrev pub request_to : ℕ → FrameRecord
+request_to now = record { stamp = now; id = 485231488; bytes = 16 ∷ 9 ∷ 0 ∷ 2 ∷ 255 ∷ 202 ∷ 254 ∷ 0 ∷ [] }
+
+abbrev pub first_to : ℕ → FrameRecord
+first_to now = record { stamp = now; id = 485165952; bytes = 1 ∷ 1 ∷ 2 ∷ 3 ∷ 4 ∷ 5 ∷ 6 ∷ 7 ∷ [] }
+
+abbrev pub last_to : ℕ → FrameRecord
+last_to now = record { stamp = now; id = 485165952; bytes = 2 ∷ 8 ∷ 9 ∷ 255 ∷ 255 ∷ 255 ∷ 255 ∷ 255 ∷ [] }
+
+abbrev pub clear : ℕ → FrameRecord
+clear now = record { stamp = now; id = 485261323; bytes = 17 ∷ 2 ∷ 1 ∷ 255 ∷ 255 ∷ 202 ∷ 254 ∷ 0 ∷ [] }
+
+abbrev pub received_all : ℕ → FrameRecord
+received_all now = record { stamp = now; id = 485261323; bytes = 19 ∷ 9 ∷ 0 ∷ 2 ∷ 255 ∷ 202 ∷ 254 ∷ 0 ∷ [] }
+
+-- address 11 requests to send them to it, and sends the packets; what it answers: clear to send both, and the acknowledgment; and to
+-- address 12, which requests the same meanwhile, that it is busy
+abbrev pub request_from : ℕ → FrameRecord
+request_from now = record { stamp = now; id = 485261323; bytes = 16 ∷ 9 ∷ 0 ∷ 2 ∷ 255 ∷ 202 ∷ 254 ∷ 0 ∷ [] }
+
+abbrev pub other_request_from : ℕ → FrameRecord
+other_request_from now = record { stamp = now; id = 485261324; bytes = 16 ∷ 9 ∷ 0 ∷ 2 ∷ 255 ∷ 202 ∷ 254 ∷ 0 ∷ [] }
+
+abbrev pub first_from : ℕ → FrameRecord
+first_from now = record { stamp = now; id = 485195787; bytes = 1 ∷ 1 ∷ 2 ∷ 3 ∷ 4 ∷ 5 ∷ 6 ∷ 7 ∷ [] }
+
+abbrev pub last_from : ℕ → FrameRecord
+last_from now = record { stamp = now; id = 485195787; bytes = 2 ∷ 8 ∷ 9 ∷ 255 ∷ 255 ∷ 255 ∷ 255 ∷ 255 ∷ [] }
+
+abbrev pub clear_to : ℕ → FrameRecord
+clear_to now = record { stamp = now; id = 485231488; bytes = 17 ∷ 2 ∷ 1 ∷ 255 ∷ 255 ∷ 202 ∷ 254 ∷ 0 ∷ [] }
+
+abbrev pub busy_to : ℕ → FrameRecord
+busy_to now = record { stamp = now; id = 485231744; bytes = 255 ∷ 1 ∷ 255 ∷ 255 ∷ 255 ∷ 202 ∷ 254 ∷ 0 ∷ [] }
+
+abbrev pub has_all : ℕ → FrameRecord
+has_all now = record { stamp = now; id = 485231488; bytes = 19 ∷ 9 ∷ 0 ∷ 2 ∷ 255 ∷ 202 ∷ 254 ∷ 0 ∷ [] }
+
+-- address 11 broadcasts them, and address 12 announces the same meanwhile
+abbrev pub announced_by : ℕ → ℕ → FrameRecord
+announced_by source now = record { stamp = now; id = 485293824 + source; bytes = 32 ∷ 9 ∷ 0 ∷ 2 ∷ 255 ∷ 202 ∷ 254 ∷ 0 ∷ [] }
+
+abbrev pub first_to_all : ℕ → FrameRecord
+first_to_all now = record { stamp = now; id = 485228299; bytes = 1 ∷ 1 ∷ 2 ∷ 3 ∷ 4 ∷ 5 ∷ 6 ∷ 7 ∷ [] }
+
+abbrev pub last_to_all : ℕ → FrameRecord
+last_to_all now = record { stamp = now; id = 485228299; bytes = 2 ∷ 8 ∷ 9 ∷ 255 ∷ 255 ∷ 255 ∷ 255 ∷ 255 ∷ [] }
+
+-- it claims its address, hears a broadcast in packets and misses another, and holds the address 250 ms later; sends a message, refuses one to itself, gets one in packets and one of one frame,
+-- answers a request and refuses another; broadcasts a message in packets, and sends it to an address; then a smaller NAME claims the
+-- address, so that a message and a broadcast that wait are withdrawn and none is accepted; the newest call first
 abbrev pub example : List Call
 example =
     Send 400004 speed (Err NoAddress)
@@ -77,6 +128,16 @@ example =
     ∷ Hear (smaller_claim 400001)
     ∷ Broadcast 400000 65226 nine (Ok 1)
     ∷ Send 400000 speed (Ok 1)
+    ∷ TakeTransferEnded (Some (0, transfer.Done))
+    ∷ Hear (received_all 399003)
+    ∷ TakeFrame 399002 (Some (last_to 399002))
+    ∷ TakeFrame 399001 (Some (first_to 399001))
+    ∷ Hear (clear 399000)
+    ∷ TakeTransferEnded None
+    ∷ Transfer 398002 65226 11 nine (Err Full)
+    ∷ TakeFrame 398001 (Some (request_to 398001))
+    ∷ Transfer 398000 65226 11 nine (Ok 0)
+    ∷ Transfer 398000 65226 128 nine (Err BadValue)
     ∷ TakeBroadcastEnded (Some (0, Done))
     ∷ TakeFrame 396000 (Some (last_packet 396000))
     ∷ TakeFrame 346000 (Some (first_packet 346000))
@@ -96,12 +157,30 @@ example =
     ∷ TakeReceived None
     ∷ TakeReceived (Some (290000, message_of (torque 290000)))
     ∷ Hear (torque 290000)
+    ∷ ReleaseTransfer false
+    ∷ ReleaseTransfer true
+    ∷ TakeFrame 270007 (Some (has_all 270007))
+    ∷ Hear (last_from 270006)
+    ∷ Hear (first_from 270005)
+    ∷ TakeFrame 270004 None
+    ∷ TakeFrame 270003 (Some (busy_to 270003))
+    ∷ TakeFrame 270002 (Some (clear_to 270002))
+    ∷ Hear (other_request_from 270001)
+    ∷ Hear (request_from 270000)
     ∷ TakeEnded (Some (0, Done))
     ∷ TakeFrame 250200 (Some (speed_frame 250200))
     ∷ Send 250100 (record speed { to = 128 }) (Err BadValue)
     ∷ Send 250100 speed (Ok 0)
     ∷ Tick 250100
     ∷ Send 250099 speed (Err NoAddress)
+    ∷ ReleaseBroadcast false
+    ∷ ReleaseBroadcast true
+    ∷ TakeNews None
+    ∷ TakeNews (Some MessagesMissed)
+    ∷ Hear (last_to_all 130)
+    ∷ Hear (first_to_all 120)
+    ∷ Hear (announced_by 12 115)
+    ∷ Hear (announced_by 11 110)
     ∷ TakeFrame 100 (Some (own_claim 100))
     ∷ Tick 90
     ∷ []

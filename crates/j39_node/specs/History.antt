@@ -11,6 +11,8 @@ use Rattle.j39_transport.specs.Cutting.{cut_frame}
 use Rattle.j39_transport.specs.Message.{MessageRecord, packets_of, as_broadcast}
 use Rattle.j39_transport.specs.Protocol.{gap}
 use Rattle.j39_node.specs.declared.kinds.Ending.{Ending}
+use Rattle.j39_node.specs.declared.kinds.TransferEnding.{TransferEnding}
+use Rattle.j39_node.specs.declared.kinds.AskEnding.{AskEnding}
 use Rattle.j39_node.specs.declared.kinds.News.{News}
 use Rattle.j39_node.specs.declared.kinds.News.TheVariants.{AddressLost, AnotherAtAddress, MessagesMissed}
 use Rattle.j39_node.specs.declared.kinds.Refused.{Refused}
@@ -57,6 +59,12 @@ pub data Call : Type 0 where
   Acknowledge : ℕ → Asked → Answer → Result (Unit {0}) Refused → Call
   Broadcast : ℕ → ℕ → List ℕ → Result ℕ Refused → Call
   TakeBroadcastEnded : Option (ℕ × Ending) → Call
+  ReleaseTransfer : Bool → Call
+  Transfer : ℕ → ℕ → ℕ → List ℕ → Result ℕ Refused → Call
+  TakeTransferEnded : Option (ℕ × TransferEnding) → Call
+  Ask : ℕ → ℕ → ℕ → Result ℕ Refused → Call
+  TakeAskEnded : Option (ℕ × AskEnding) → Call
+  ReleaseBroadcast : Bool → Call
 
 -- what a frame of this identifier and these bytes carries
 abbrev pub carried : ℕ → List ℕ → Message
@@ -89,7 +97,9 @@ moment (Tick now ∷ H) = now
 moment (TakeFrame now answer ∷ H) = now
 moment (Send now draft answer ∷ H) = now
 moment (Acknowledge now asked answer result ∷ H) = now
+moment (Ask now group to answer ∷ H) = now
 moment (Broadcast now group bytes answer ∷ H) = now
+moment (Transfer now group to bytes answer ∷ H) = now
 moment (call ∷ H) = moment H
 
 -- the microseconds from the last call to this moment; time that goes back is no time
@@ -137,7 +147,9 @@ address_after w (TakeFrame now (Some f) ∷ H) =
     if is_claim f then claimed (older (step H now) (address_after w H)) else older (step H now) (address_after w H)
 address_after w (Send now draft answer ∷ H) = older (step H now) (address_after w H)
 address_after w (Acknowledge now asked answer result ∷ H) = older (step H now) (address_after w H)
+address_after w (Ask now group to answer ∷ H) = older (step H now) (address_after w H)
 address_after w (Broadcast now group bytes answer ∷ H) = older (step H now) (address_after w H)
+address_after w (Transfer now group to bytes answer ∷ H) = older (step H now) (address_after w H)
 address_after w (call ∷ H) = address_after w H
 
 abbrev pub is_lost : Address → Bool
@@ -238,24 +250,41 @@ message_from w d = record {
   bytes = d.bytes;
 }
 
--- the messages that were accepted, each with its token
+-- a request for a group: priority 6, the low byte first (J1939-21, 5.4.2)
+abbrev pub request_for : ℕ → ℕ → Draft
+request_for group to = record {
+  priority = 6;
+  group = request_group;
+  to = to;
+  bytes = group % 256 ∷ group / 256 % 256 ∷ group / 65536 % 256 ∷ [];
+}
+
+-- the messages that were accepted, each with its token: a request is one
 abbrev pub accepted : Who → List Call → List (ℕ × Message)
 accepted w [] = []
 accepted w (Send now draft (Ok token) ∷ H) = accepted w H ++ (token, message_from w draft) ∷ []
+accepted w (Ask now group to (Ok token) ∷ H) = accepted w H ++ (token, message_from w (request_for group to)) ∷ []
 accepted w (call ∷ H) = accepted w H
 
 abbrev pub is_acknowledgment : FrameRecord → Bool
 is_acknowledgment f = nat_eq (pgn_of f.id) acknowledgment_group
 
 -- a frame of a message in packets
+abbrev pub is_session : FrameRecord → Bool
+is_session f = nat_eq (pgn_of f.id) transport_control_group || nat_eq (pgn_of f.id) transport_data_group
+
+-- one of a broadcast, and one to an address
 abbrev pub is_packet : FrameRecord → Bool
-is_packet f = nat_eq (pgn_of f.id) transport_control_group || nat_eq (pgn_of f.id) transport_data_group
+is_packet f = is_session f && is_some (destination_of f.id) global_address
+
+abbrev pub is_transfer : FrameRecord → Bool
+is_transfer f = is_session f && not (is_some (destination_of f.id) global_address)
 
 -- the messages whose frames were taken
 abbrev pub sent : List Call → List Message
 sent [] = []
 sent (TakeFrame now (Some f) ∷ H) =
-    if is_claim f || (is_acknowledgment f || is_packet f) then sent H else sent H ++ message_of f ∷ []
+    if is_claim f || (is_acknowledgment f || is_session f) then sent H else sent H ++ message_of f ∷ []
 sent (call ∷ H) = sent H
 
 -- all frames that were taken
@@ -337,7 +366,9 @@ pause (TakeFrame now None ∷ H) = pause H - step H now
 pause (TakeFrame now (Some f) ∷ H) = if is_packet f then gap else pause H - step H now
 pause (Send now draft answer ∷ H) = pause H - step H now
 pause (Acknowledge now asked answer result ∷ H) = pause H - step H now
+pause (Ask now group to answer ∷ H) = pause H - step H now
 pause (Broadcast now group bytes answer ∷ H) = pause H - step H now
+pause (Transfer now group to bytes answer ∷ H) = pause H - step H now
 pause (call ∷ H) = pause H
 
 abbrev pub is_open : Option (ℕ × MessageRecord) → Bool
@@ -518,10 +549,6 @@ missed_news w (call ∷ H) = missed_news w H
 
 -- ---- when something is due
 
--- a message or an acknowledgment waits
-abbrev pub is_waiting : Who → List Call → Bool
-is_waiting w H = nat_lt (length (sent H)) (length (accepted w H)) || nat_lt (length (acknowledged H)) (length (due w H))
-
 -- a moment that a stamp can tell
 abbrev pub stamp_at : ℕ → Option ℕ
 stamp_at n = if nat_lt n 10000000000000000 then Some n else None
@@ -531,12 +558,3 @@ abbrev pub held_at : Address → ℕ → Option ℕ
 held_at (Claimed e) m = if nat_lt e 250000 then stamp_at (m + (250000 - e)) else None
 held_at NotClaimed m = None
 held_at Lost m = None
-
--- the moment of the last call, if a frame can be taken; else that at which a frame of packets can be, or the address is held
-abbrev pub next_due : Who → List Call → Option ℕ
-next_due w H =
-    if owes_claim w H || (is_held (address_after w H) && is_waiting w H)
-    then stamp_at (moment H)
-    else if is_held (address_after w H) && has_packets w H
-    then stamp_at (moment H + pause H)
-    else held_at (address_after w H) (moment H)

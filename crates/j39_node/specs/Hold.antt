@@ -1,5 +1,5 @@
 -- How far a controller is with its address, in its own counts.
-use Rattle.std.specs.Prelude.{ℕ, ◌+◌, ◌-◌, nat_lt, Option, None, ◌||◌, nat_eq, Bool, true, false, if◌then◌else◌}
+use Rattle.std.specs.Prelude.{ℕ, min, ◌+◌, ◌-◌, nat_lt, Option, None, ◌||◌, nat_eq, Bool, true, false, if◌then◌else◌}
 use Rattle.j39_transport.specs.Protocol.{gap}
 use Rattle.j39_node.specs.declared.hold.Hold.{Hold}
 use Rattle.j39_node.specs.declared.hold.Standing.{Standing}
@@ -24,6 +24,8 @@ passed now h = record {
   standing = less (now - h.moment) h.standing;
   owes_claim = h.owes_claim;
   pause = h.pause - (now - h.moment);
+  age = min (h.age + (now - h.moment)) 18446744073709551615;
+  wait = h.wait - (now - h.moment);
 }
 
 abbrev pub heard : Bool → Bool → Hold → Hold
@@ -32,6 +34,8 @@ heard drives_away calls h = record {
   standing = if drives_away then standing.Lost else h.standing;
   owes_claim = h.owes_claim || calls;
   pause = h.pause;
+  age = h.age;
+  wait = h.wait;
 }
 
 abbrev pub claims : Standing → Standing
@@ -40,11 +44,19 @@ claims (standing.Claimed left) = standing.Claimed left
 claims standing.Lost = standing.Lost
 
 abbrev pub claimed : Hold → Hold
-claimed h = record { moment = h.moment; standing = claims h.standing; owes_claim = false; pause = h.pause }
+claimed h = record h { standing = claims h.standing; owes_claim = false }
 
 -- a frame of packets was taken
 abbrev pub paused : Hold → Hold
-paused h = record { moment = h.moment; standing = h.standing; owes_claim = h.owes_claim; pause = gap }
+paused h = record h { pause = gap }
+
+-- a transfer was accepted
+abbrev pub renewed : Hold → Hold
+renewed h = record h { age = 0 }
+
+-- a message was taken: whether it was the request
+abbrev pub asked : Bool → Hold → Hold
+asked b h = record h { wait = if b then 1250000 else h.wait }
 
 abbrev pub stands : Standing → Bool
 stands standing.Idle = false

@@ -1,5 +1,5 @@
 -- The histories that a controller can have had.
-use Rattle.std.specs.Prelude.{◌≡◌, ℕ, ◌-◌, nat_eq, nat_lt, nat_le, not, ◌&&◌, ◌++◌, ◌+◌, Bool, true, false, List, [], ◌∷◌, length, drop, map, min, Option, Some, None, Result, Ok, Err, if◌then◌else◌}
+use Rattle.std.specs.Prelude.{◌≡◌, ℕ, ◌-◌, nat_eq, nat_lt, nat_le, not, ◌&&◌, ◌||◌, ◌++◌, ◌+◌, Bool, true, false, List, [], ◌∷◌, length, drop, map, min, Option, Some, None, Result, Ok, Err, if◌then◌else◌}
 use Rattle.std.specs.List.{slice_get}
 use Rattle.std.specs.Option.{option_map}
 use Rattle.j39_frame.specs.Frame.{FrameRecord}
@@ -16,6 +16,8 @@ use Rattle.j39_node.specs.declared.hold.Hold.{Hold}
 use Rattle.j39_node.specs.declared.lane.Lane.{Lane}
 use Rattle.j39_node.specs.declared.lane.Open.{Open}
 use Rattle.j39_node.specs.declared.own.Own.{Own}
+use Rattle.j39_node.specs.declared.transfers.Open as transfers
+use Rattle.j39_node.specs.declared.transfers.Transfers.{Transfers}
 use Rattle.j39_node.specs.declared.requests.Request.{Request}
 use Rattle.j39_node.specs.declared.requests.Due.{Due}
 use Rattle.j39_node.specs.declared.outgoing.Outgoing.{Outgoing}
@@ -29,8 +31,22 @@ use Rattle.j39_node.specs.declared.kinds.Refused.{Refused}
 use Rattle.j39_node.specs.declared.kinds.Refused.TheVariants.{NoAddress, BadValue, Full}
 use Rattle.j39_node.specs.Hold.{standing_of}
 use Rattle.j39_node.specs.History.{Who, Message, Draft, Call, Address, carried, message_of, moment, address_after, holds, is_lost, claim_address, claim_from, owes_claim, can_send, accepted, sent, told, is_full, got, kept, missed, Asked, requests, handed, due, acknowledged, acknowledgment, told_claims, lost_news, another_news, missed_news, broadcast_from, broadcasts, can_broadcast, frame_of, is_busy, open_broadcast, packets, pause, step}
-use Rattle.j39_node.specs.History.Call.{TakeFrame, Send, TakeEnded, TakeReceived, TakeRequest, TakeNews, Acknowledge, Broadcast, TakeBroadcastEnded}
+use Rattle.j39_node.specs.History.Call.{Ask, TakeAskEnded, TakeFrame, Send, TakeEnded, TakeReceived, TakeRequest, TakeNews, Acknowledge, Broadcast, TakeBroadcastEnded, ReleaseTransfer, Transfer, TakeTransferEnded, ReleaseBroadcast}
 use Rattle.j39_node.specs.History.Address.{NotClaimed, Claimed, Lost}
+use Rattle.j39_node.specs.Reception.{Reception, time_heard, has_place, heard_at, heard_by, keeps, later, leaves, left, reception, reply_from, ticked}
+use Rattle.j39_node.specs.Asking.{Question, answer_to_ask, ended, first, next_ask_ended, open_ask, question, says_to, silent_end, wait}
+use Rattle.j39_node.specs.declared.kinds.AskEnding.{AskEnding}
+use Rattle.j39_node.specs.declared.asking.Asking.{Asking}
+use Rattle.j39_node.specs.declared.asking.Open as asking
+use Rattle.j39_node.specs.declared.incoming.Incoming.{Incoming}
+use Rattle.j39_node.specs.declared.incoming.Kept.{Kept}
+use Rattle.j39_node.specs.declared.incoming.Said.{Said}
+use Rattle.j39_node.specs.Hearing.{OpenBroadcast, hearing, is_late, is_whole, unheard, unheard_news, waiting}
+use Rattle.j39_node.specs.declared.hearing.Heard.{Heard as Bytes}
+use Rattle.j39_node.specs.declared.hearing.Hearing.{Hearing}
+use Rattle.j39_transport.specs.Cutting.{ToSend}
+use Rattle.j39_transport.specs.Receiving.{BoxedReceiver, Heard, recv_step}
+use Rattle.j39_node.specs.Transfers.{Running, age, answer_to_transfer, next_transfer, next_transfer_ended, open_transfer, transfers as all_transfers}
 
 -- ---- the answers that a history asks for
 
@@ -45,20 +61,36 @@ packet_by (Some x) i left = if nat_eq left 0 && nat_le i (packets_of x.1) then S
 abbrev pub next_packet : Who → List Call → ℕ → Option Message
 next_packet w H now = packet_by (open_broadcast w H) (length (packets H)) (pause H - step H now)
 
+-- a frame of the open broadcast goes before one of the open transfer
+abbrev pub long_by : Option Message → Option Message → Option Message
+long_by None transfer = transfer
+long_by (Some m) transfer = Some m
+
+abbrev pub next_long : Who → List Call → ℕ → Option Message
+next_long w H now = long_by (next_packet w H now) (next_transfer w H now)
+
 -- an acknowledgment goes before a message, and this before a packet
 abbrev pub first_of : Option Message → Option (ℕ × Message) → Option Message → Option Message
 first_of (Some m) message packet = Some m
 first_of None (Some x) packet = Some x.1
 first_of None None packet = packet
 
+-- an acknowledgment goes before a reply
+abbrev pub control_of : Option Message → Option Message → Option Message
+control_of (Some m) reply = Some m
+control_of None reply = reply
+
+abbrev pub next_control : Who → List Call → Option Message
+next_control w H = control_of (slice_get (due w H) (length (acknowledged H))) (slice_get (reception w H).replies 0)
+
 -- the claim that is owed goes first; else, from an address that is held, the first acknowledgment that is due and wasn't taken,
--- the first message that was accepted and wasn't, or the next frame of the open broadcast
+-- the first reply that waits, the first message that was accepted and wasn't taken, the next frame of the open broadcast, or of the open transfer
 abbrev pub next_frame : Who → List Call → ℕ → Option (ℕ × Message)
 next_frame w H now =
     if owes_claim w H then Some (now, claim_from w (claim_address w (address_after w H)))
     else if holds w H now
-    then option_map (λ m. (now, m)) (first_of (slice_get (due w H) (length (acknowledged H))) (slice_get (accepted w H) (length (sent H)))
-    (next_packet w H now))
+    then option_map (λ m. (now, m)) (first_of (next_control w H) (slice_get (accepted w H) (length (sent H)))
+    (next_long w H now))
     else None
 
 abbrev pub answer_to_send : Who → List Call → ℕ → Draft → Result ℕ Refused
@@ -107,7 +139,7 @@ news_of false false true = Some MessagesMissed
 news_of false false false = None
 
 abbrev pub next_news : Who → List Call → Option News
-next_news w H = news_of (lost_news w H) (another_news w H) (missed_news w H)
+next_news w H = news_of (lost_news w H) (another_news w H) (missed_news w H || unheard_news H)
 
 -- a request to all is never acknowledged
 abbrev pub answer_to_acknowledge : Who → List Call → ℕ → Asked → Result (Unit {0}) Refused
@@ -129,6 +161,12 @@ IsAnswered w H (TakeNews answer) = answer ≡ next_news w H
 IsAnswered w H (Acknowledge now r answer result) = result ≡ answer_to_acknowledge w H now r
 IsAnswered w H (Broadcast now group bytes answer) = answer ≡ answer_to_broadcast w H now group bytes
 IsAnswered w H (TakeBroadcastEnded answer) = answer ≡ next_broadcast_ended w H
+IsAnswered w H (ReleaseTransfer answer) = answer ≡ not (has_place (reception w H).waits)
+IsAnswered w H (Transfer now group to bytes answer) = answer ≡ answer_to_transfer w H now group to bytes
+IsAnswered w H (TakeTransferEnded answer) = answer ≡ next_transfer_ended w H
+IsAnswered w H (Ask now group to answer) = answer ≡ answer_to_ask w H now group to
+IsAnswered w H (TakeAskEnded answer) = answer ≡ next_ask_ended w H
+IsAnswered w H (ReleaseBroadcast answer) = answer ≡ not (has_place (waiting H))
 IsAnswered w H call = Unit {0}
 
 abbrev pub AreAnswered : Who → List Call → Type 0
@@ -155,6 +193,8 @@ hold_after w H = record {
   standing = standing_of (address_after w H);
   owes_claim = owes_claim w H;
   pause = pause H;
+  age = min (age H) 18446744073709551615;
+  wait = wait H;
 }
 
 -- the open broadcast, how many of its frames were taken, and the next token
@@ -172,8 +212,122 @@ lane_of w l = record { current = option_map (opened w) l.current; count = l.coun
 abbrev pub lane_after : Who → List Call → LaneRecord
 lane_after w H = record { current = open_broadcast w H; count = length (packets H); next_token = length (broadcasts w H) }
 
+abbrev pub said_by : ℕ → Said → Message
+said_by own x = reply_from own x.to x.bytes
+
+abbrev pub kept_by : Kept → ℕ × MessageRecord
+kept_by x = (stamp_micros x.stamp, record { source = x.source; pgn = pgn_raw x.group; bytes = x.bytes.items })
+
+-- what is received, when the receiver was told the time, how late it is there, its address, and that it has its buffer
+pub record IncomingRecord : Type 0 where
+  pub moment : ℕ
+  pub clock : ℕ
+  pub own : ℕ
+  pub has_box : Bool
+  pub reception : Reception
+
+abbrev pub incoming_of : Incoming → IncomingRecord
+incoming_of x = record {
+  moment = x.moment;
+  clock = stamp_micros x.clock;
+  own = x.receiver.state.own;
+  has_box = x.receiver.has_box;
+  reception = record {
+    session = x.receiver.state.session;
+    waits = option_map kept_by x.place;
+    replies = map (said_by x.receiver.state.own) x.replies.items;
+  };
+}
+
+abbrev pub with_reception : Reception → IncomingRecord → IncomingRecord
+with_reception r x = record { moment = x.moment; clock = x.clock; own = x.own; has_box = x.has_box; reception = r }
+
+abbrev pub with_replies : List Message → IncomingRecord → IncomingRecord
+with_replies replies x = with_reception (record { session = x.reception.session; waits = x.reception.waits; replies = replies }) x
+
+abbrev pub passed_to : ℕ → IncomingRecord → IncomingRecord
+passed_to now x = record
+    { moment = now; clock = later x.clock (now - x.moment); own = x.own; has_box = x.has_box; reception = x.reception }
+
+abbrev pub hears : Bool → Bool → FrameRecord → (ℕ → Option ℕ) → (ℕ → Option ℕ) → IncomingRecord → IncomingRecord
+hears lost held f before after x =
+    with_reception (heard_by x.own lost held f (later x.clock (f.stamp - x.moment))
+    (left (leaves before after x.reception.session) x.reception)) (passed_to f.stamp x)
+
+abbrev pub ticks : ℕ → IncomingRecord → IncomingRecord
+ticks now x = with_reception (ticked x.own now (later x.clock (now - x.moment)) x.reception) (passed_to now x)
+
+-- the receiver takes its step at a frame, and what it delivers is kept with the frame's moment
+pub record Receives (old : BoxedReceiver) (f : FrameRecord) (now : ℕ) (waits : Option (ℕ × MessageRecord)) (sends : Option ToSend)
+    (after : Option (ℕ × MessageRecord)) (new : BoxedReceiver) : Type 0 where
+  pub state : new.state ≡ (recv_step old.state (Heard f) now true).after
+  pub box : new.has_box ≡ true
+  pub sends_it : sends ≡ (recv_step old.state (Heard f) now true).sends
+  pub keeps_it : after ≡ keeps f.stamp (recv_step old.state (Heard f) now true).delivers waits
+
+abbrev pub incoming_after : Who → List Call → IncomingRecord
+incoming_after w H = record {
+  moment = heard_at H;
+  clock = time_heard H;
+  own = w.address;
+  has_box = true;
+  reception = reception w H;
+}
+
+-- the open transfer, and the next token
+pub record PortRecord : Type 0 where
+  pub current : Option Running
+  pub next_token : ℕ
+
+abbrev pub running : transfers.Open → Running
+running x = record { token = x.token; sender = x.sender; granted = x.granted; spent = x.spent; gone = x.is_gone }
+
+abbrev pub port_of : Transfers → PortRecord
+port_of t = record { current = option_map running t.current; next_token = t.next_token }
+
+abbrev pub port_after : Who → List Call → PortRecord
+port_after w H = record { current = open_transfer w H; next_token = length (all_transfers w H) }
+
+-- the open request, whether its frame was taken, and how it ended by what was heard
+pub record AskRecord : Type 0 where
+  pub question : Question
+  pub taken : Bool
+  pub ending : Option AskEnding
+
+abbrev pub ask_record : asking.Open → AskRecord
+ask_record x = record { question = question x.token (pgn_raw x.group) x.to; taken = x.is_taken; ending = x.ending }
+
+abbrev pub asking_of : Asking → Option AskRecord
+asking_of a = option_map ask_record a.current
+
+abbrev pub asked_by : Option Question → ℕ → Option AskEnding → Option AskRecord
+asked_by None n ending = None
+asked_by (Some q) n ending = Some (record { question = q; taken = nat_lt q.token n; ending = ending })
+
+-- what waits, where nothing waited before
+abbrev pub made_by : Bool → Option (ℕ × MessageRecord) → Option (ℕ × ℕ)
+made_by true (Some x) = Some (x.1.source, x.1.pgn)
+made_by true None = None
+made_by false x = None
+
+-- a frame is heard, and the end is told
+abbrev pub hears_with : Who → Bool → ℕ → FrameRecord → Option (ℕ × ℕ) → AskRecord → AskRecord
+hears_with w lost left f made x = record {
+  question = x.question;
+  taken = x.taken;
+  ending = first x.ending (first (silent_end x.taken left lost) (if x.taken then says_to w x.question f made else None));
+}
+
+abbrev pub ended_with : Bool → ℕ → Option AskRecord → Option (ℕ × AskEnding)
+ended_with lost left None = None
+ended_with lost left (Some x) =
+    option_map (λ e. (x.question.token, e)) (first x.ending (silent_end x.taken left lost))
+
+abbrev pub asking_after : Who → List Call → Option AskRecord
+asking_after w H = asked_by (open_ask H) (length (sent H)) (ended w H)
+
 abbrev pub news_after : Who → List Call → Untold
-news_after w H = record { lost = lost_news w H; another = another_news w H; missed = missed_news w H }
+news_after w H = record { lost = lost_news w H; another = another_news w H; missed = missed_news w H || unheard_news H }
 
 abbrev pub posted : Outgoing → ℕ × Message
 posted x = (x.token, carried (id_raw x.id) x.bytes.items)
@@ -203,6 +357,33 @@ offered wanted x unread = if wanted && nat_lt (length unread) 16 then unread ++ 
 abbrev pub counted : Bool → List (ℕ × Message) → ℕ → ℕ
 counted wanted unread n = if wanted && not (nat_lt (length unread) 16) then min (n + 1) 18446744073709551615 else n
 
+-- the broadcast that is heard, and how many weren't
+pub record HearingRecord : Type 0 where
+  pub current : Option OpenBroadcast
+  pub missed : ℕ
+
+abbrev pub broadcast_by : Bytes → OpenBroadcast
+broadcast_by x = record {
+  source = x.source;
+  group = pgn_raw x.group;
+  size = x.size;
+  count = x.count;
+  bytes = x.bytes.items;
+  stamp = stamp_micros x.stamp;
+  time = stamp_micros x.time;
+}
+
+abbrev pub hearing_of : Hearing → HearingRecord
+hearing_of x = record { current = option_map broadcast_by x.current; missed = x.missed }
+
+abbrev pub hearing_after : List Call → HearingRecord
+hearing_after H = record { current = hearing H; missed = min (unheard H) 18446744073709551615 }
+
+-- a packet of this source is one of it, and comes too late
+abbrev pub is_out : ℕ → ℕ → Option OpenBroadcast → Bool
+is_out now source None = false
+is_out now source (Some x) = not (is_whole x || not (nat_eq source x.source)) && is_late now x
+
 -- c was made for w and called as H says
 pub record Is (w : Who) (H : List Call) (c : Controller) : Type 0 where
   pub who : who_of c.own ≡ w
@@ -211,6 +392,7 @@ pub record Is (w : Who) (H : List Call) (c : Controller) : Type 0 where
   pub outgoing : map posted c.outgoing.items ≡ drop (length (told H)) (accepted w H)
   pub taken : c.taken ≡ length (sent H) - length (told H)
   pub token : c.next_token ≡ length (accepted w H)
+  pub asking : asking_of c.asking ≡ asking_after w H
   pub unread : map received_by c.inbox.unread.items ≡ drop (length (got H)) (kept w H)
   pub requests : map request_by c.desk.waiting.items ≡ drop (length (handed H)) (requests w H)
   pub acknowledgments : map (refusal_by w) c.desk.due.items ≡ drop (length (acknowledged H)) (due w H)
@@ -218,3 +400,6 @@ pub record Is (w : Who) (H : List Call) (c : Controller) : Type 0 where
   pub holders : Knows c.holders (told_claims H)
   pub missed : c.inbox.missed ≡ min (missed w H) 18446744073709551615
   pub lane : lane_of w c.lane ≡ lane_after w H
+  pub incoming : incoming_of c.incoming ≡ incoming_after w H
+  pub port : port_of c.transfers ≡ port_after w H
+  pub hearing : hearing_of c.hearing ≡ hearing_after H

@@ -1,10 +1,20 @@
 -- calls, their answers, and what a history of them says
 pub mod History
+-- since when an address is claimed
+pub mod Since
+-- messages in packets to its address
+pub mod Reception
+-- broadcasts in packets that are heard
+pub mod Hearing
+-- transfers to one address
+pub mod Transfers
+pub mod Moves
+-- asking others for groups
+pub mod Asking
 -- the histories that a controller can have had
 pub mod Is
 -- the code's steps, below the definitions
 pub mod Hold
 -- a history
 pub mod Example
--- since when an address is claimed
-pub mod Since
+pub mod AskExample

@@ -1,5 +1,5 @@
 //! A controller.
-ghost use Rattle.std.specs.Prelude.{◌≡◌, ℕ, List, [], ◌∷◌, ◌↔◌, ◌&&◌, ◌||◌, ◌==◌, nat_eq, nat_lt, if◌then◌else◌, min, IsSome, IfSome, Some, None, length, map, ◌<◌, ◌≤◌, false};
+ghost use Rattle.std.specs.Prelude.{◌≡◌, ℕ, List, [], ◌∷◌, ◌↔◌, ◌&&◌, ◌||◌, ◌==◌, ◌+◌, nat_eq, nat_lt, if◌then◌else◌, min, IsSome, IfSome, Some, None, length, map, ◌<◌, ◌≤◌, false};
 ghost use Rattle.std.specs.List.{slice_get};
 ghost use Rattle.std.specs.Option.{option_map};
 ghost use Rattle.j39_frame.specs.Address.{IsAddress, null_address};
@@ -7,27 +7,40 @@ ghost use Rattle.j39_frame.specs.Pgn.{pgn_raw};
 ghost use Rattle.j39_frame.specs.Stamp.{stamp_micros};
 ghost use Rattle.j39_address.specs.Name.{name_raw};
 ghost use Rattle.j39_address.specs.Claim.{claims_of};
+ghost use Rattle.j39_address.specs.Claims.{holder_in};
 ghost use Rattle.j39_address.specs.Holder.{IsHolderAfter};
-ghost use Rattle.j39_node.specs.History.{Who, Call, is_left, missed, next_due, told_claims};
+ghost use Rattle.j39_transport.specs.ReceiverModel.{message_shown};
+ghost use Rattle.j39_node.specs.History.{Who, Call, is_left, missed, told_claims};
+ghost use Rattle.j39_node.specs.Reception.{next_tick, reception};
+ghost use Rattle.j39_node.specs.Hearing.{unheard, waiting};
+ghost use Rattle.j39_node.specs.Transfers.{clock, is_replaced, next_due, packet_in, packets_in, sooner, transfer_by, transfer_in};
 ghost use Rattle.j39_node.specs.Hold.{lost, stands};
-ghost use Rattle.j39_node.specs.History.Call.{Hear, Tick, TakeFrame, Send, TakeEnded, TakeReceived, TakeRequest, TakeNews, Acknowledge, Broadcast, TakeBroadcastEnded};
-ghost use Rattle.j39_node.specs.Is.{Is, first_of, lane_of, next_frame, packet_by, posted, received_by, request_by, stamped, status_after, who_of};
+ghost use Rattle.j39_node.specs.History.Call.{Ask, TakeAskEnded, Hear, Tick, TakeFrame, Send, TakeEnded, TakeReceived, TakeRequest, TakeNews, Acknowledge, Broadcast, TakeBroadcastEnded, ReleaseTransfer, Transfer, TakeTransferEnded, ReleaseBroadcast};
+ghost use Rattle.j39_node.specs.Asking.{is_asking};
+ghost use Rattle.j39_node.specs.Is.{asking_of, Is, first_of, lane_of, next_frame, packet_by, posted, received_by, request_by, stamped, status_after, who_of, long_by, port_of, hearing_of};
 
+use crate::asking::{self, Asking};
+use crate::hearing::Hearing;
 use crate::hold::{Hold, Standing};
+use crate::incoming::{Incoming, is_same};
 use crate::lane::{Lane, Open};
 use crate::news::Untold;
 use crate::outgoing::Outgoing;
 use crate::own::{Own, numbers};
 use crate::received::Inbox;
 use crate::requests::{Desk, Due, asked};
-use crate::{Answer, Ending, News, Received, Refused, Request};
+use crate::transfers::{self, Transfers};
+use crate::{Answer, AskEnding, Ending, News, Received, Refused, Request, TransferEnding};
 use arrayvec::ArrayVec;
 use j39_address::{Claims, Name, Status};
 use j39_frame::{Frame, NULL_ADDRESS, Pgn, Stamp, is_address};
+use j39_transport::Message;
+use std::alloc::{AllocError, Global};
 
-/// A controller of one address: it claims it, defends it, sends messages of one frame and receives those of others, and
-/// broadcasts longer ones in packets. Claims go first, then acknowledgments, then messages, then packets. It takes no memory,
-/// and no call fails.
+/// A controller of one address: it claims it, defends it, sends messages of one frame and receives those of others, sends
+/// longer ones in packets, to all or to one address, and receives those that come in packets to its own, or to all. Claims go
+/// first, then acknowledgments, what it says as a receiver, messages, packets to all, and packets to one. `new` takes memory, and no other
+/// call does or fails.
 #[derive(Drop)]
 pub struct Controller {
     own: Own,
@@ -37,60 +50,65 @@ pub struct Controller {
     /// How many of these were taken.
     taken: usize,
     next_token: u64,
+    asking: Asking,
     inbox: Inbox,
     desk: Desk,
     news: Untold,
     /// Who holds which address, by the claims heard and its own that were taken.
     holders: Claims,
     lane: Lane,
+    incoming: Incoming,
+    transfers: Transfers,
+    hearing: Hearing,
 }
 
 impl Controller {
-    ghost use Rattle.std.specs.Prelude.{◌≡◌, ◌<◌, ℕ, List, [], ◌∷◌, ◌↔◌, ◌≤◌, length, map, min, IsSome, IfSome, Some, None};
+    ghost use Rattle.std.specs.Prelude.{◌≡◌, ◌<◌, ℕ, List, [], ◌∷◌, ◌↔◌, ◌≤◌, length, map, min, IfOk, OnErr, IsSome, IfSome, Some, None};
     ghost use Rattle.j39_node.specs.Is.{Is};
     ghost use Rattle.j39_node.specs.History.{Who, Call};
 
     /// A controller of this NAME that will claim this address, and whose program serves these groups; `None` for an address
-    /// above 253, or more than 16 groups.
-    pub fn new(name: Name, address: u8, served: &[Pgn]) -> Option<Controller>
-        ensures known { IsSome result ↔ (IsAddress address × (length served.now ≤ 16)) }
-        ensures is { IfSome result (λ c. Is (record { name = name_raw name; address = address; served = map pgn_raw served.now }) [] c) }
+    /// above 253, or more than 16 groups, where no memory is taken. An error where memory is refused.
+    pub fn new(
+        alloc: Global,
+        name: Name,
+        address: u8,
+        served: &[Pgn],
+    ) -> Result<Option<Controller>, AllocError>
+        ensures known { IfOk result (λ found. IsSome found ↔ (IsAddress address × (length served.now ≤ 16))) }
+        ensures is { IfOk result (λ found. IfSome found (λ c. Is (record
+            { name = name_raw name; address = address; served = map pgn_raw served.now }) [] c)) }
+        ensures refused { OnErr result (IsAddress address × (length served.now ≤ 16)) }
     {
         if !is_address(address) {
-            return None;
+            return Ok(None);
         }
-        let served = numbers(served)?;
-        Some(Controller {
+        let Some(served) = numbers(served) else {
+            return Ok(None);
+        };
+        let Some(incoming) = Incoming::new(alloc, address)? else {
+            return Ok(None);
+        };
+        Ok(Some(Controller {
             own: Own {
                 name,
                 address,
                 served,
             },
-            hold: Hold {
-                moment: 0,
-                standing: Standing::Idle,
-                owes_claim: true,
-                pause: 0,
-            },
+            hold: Hold::new(),
             outgoing: ArrayVec::new(),
             taken: 0,
             next_token: 0,
-            inbox: Inbox {
-                unread: ArrayVec::new(),
-                missed: 0,
-            },
-            desk: Desk {
-                waiting: ArrayVec::new(),
-                due: ArrayVec::new(),
-            },
-            news: Untold {
-                lost: false,
-                another: false,
-                missed: false,
-            },
+            asking: Asking::new(),
+            inbox: Inbox::new(),
+            desk: Desk::new(),
+            news: Untold::none(),
             holders: Claims::new(),
             lane: Lane::new(),
-        })
+            transfers: Transfers::new(),
+            hearing: Hearing::new(),
+            incoming,
+        }))
     }
 
     /// How far it is with its address, at the moment of the last call: `Idle` until its first claim is taken.
@@ -134,11 +152,13 @@ impl Controller {
         None
     }
 
-    /// How many messages for the program were missed, since sixteen lay unread.
+    /// How many messages for the program were missed, since sixteen lay unread, or another broadcast in packets lay there or was
+    /// being heard.
     pub fn missed(&self) -> u64
-        ensures { (w : Who) (H : List Call) → Is w H self.now → result ≡ min (missed w H) 18446744073709551615 }
+        ensures { (w : Who) (H : List Call) → Is w H self.now
+            → result ≡ min (missed w H + unheard H) 18446744073709551615 }
     {
-        self.inbox.missed
+        self.inbox.missed.saturating_add(self.hearing.missed)
     }
 
     /// The moment before which `take_frame` answers none, if nothing is heard or handed in till then: that of the last call,
@@ -148,11 +168,19 @@ impl Controller {
     {
         if self.has_frame() {
             self.hold.at()
-        } else if self.has_packet() {
-            self.hold.packet_at()
+        } else if self.hold.is_held() {
+            self.hold.later(self.packets_in()?)
         } else {
             self.hold.held_at()
         }
+    }
+
+    /// The moment before which `tick` does nothing but let time pass, if no frame is heard till then: a session waits, and asks again
+    /// or is aborted at it. `None` where no session is open.
+    pub fn next_tick(&self) -> Option<Stamp>
+        ensures { (w : Who) (H : List Call) → Is w H self.now → option_map stamp_micros result ≡ next_tick w H }
+    {
+        self.incoming.next_tick()
     }
 
     /// Hears a frame of another controller, at its stamp.
@@ -166,13 +194,27 @@ impl Controller {
         self.inbox.offer(wanted, frame);
         let request = asked(&self.own, is_held, frame);
         self.desk.hear(&self.own, request);
-        let _changed = self.holders.note(frame);
+        let before = self.peer();
+        let speaker = self.speaker();
+        let has_place = self.incoming.has_place();
         let drives_away = self.own.is_driven_away(frame);
+        self.incoming
+            .hear(&mut self.holders, drives_away, is_held, frame);
+        let made = self.incoming.made(has_place);
+        let is_replaced = is_replaced(before, self.peer());
+        let is_left = !is_same(speaker, self.speaker());
+        self.hearing.leave(is_left);
+        let unheard = self.hearing.hear(frame, self.incoming.clock);
         let is_lost = self.hold.is_lost();
         let calls = self.own.calls_for_claim(is_lost, frame);
         let another = self.own.is_another(is_held, frame);
-        self.news = self.news.heard(drives_away, is_lost, another, misses);
+        self.news = self
+            .news
+            .heard(drives_away, is_lost, another, misses, unheard);
         self.hold = self.hold.heard(drives_away, calls);
+        self.transfers
+            .hear(self.hold.is_lost(), is_replaced, frame, self.hold.clock());
+        self.asking.hear(&self.own, self.hold.is_lost(), self.hold.wait, frame, made);
     }
 
     /// Time passes.
@@ -180,6 +222,7 @@ impl Controller {
         ensures { (w : Who) (H : List Call) → Is w H self.old → Is w (Tick (stamp_micros now) ∷ H) self.new }
     {
         self.hold = self.hold.passed(now);
+        self.incoming.tick(now);
     }
 
     /// The frame that `take_frame` would give now: for a driver whose queue may be full, which takes it once it lies there.
@@ -197,7 +240,10 @@ impl Controller {
         }
         match self.desk.due.as_slice().get(0) {
             Some(due) => self.own.acknowledgment(due, now),
-            None => self.peek_message(hold.pause, now),
+            None => match self.incoming.frame(now) {
+                Some(reply) => Some(reply),
+                None => self.peek_message(hold, now),
+            },
         }
     }
 
@@ -210,7 +256,10 @@ impl Controller {
             let address = self.claim_address();
             self.hold = self.hold.claimed();
             let claim = self.own.claim(address, now)?;
-            let _changed = self.holders.note(&claim);
+            let speaker = self.speaker();
+            self.incoming.note(&mut self.holders, &claim);
+            let is_left = !is_same(speaker, self.speaker());
+            self.hearing.leave(is_left);
             return Some(claim);
         }
         if !self.hold.is_held() {
@@ -220,9 +269,15 @@ impl Controller {
             let due = self.desk.due.remove(0);
             return self.own.acknowledgment(&due, now);
         }
+        if !self.incoming.replies.is_empty() {
+            let reply = self.incoming.replies.remove(0);
+            return reply.frame(self.own.address, now);
+        }
         match self.outgoing.as_slice().get(self.taken) {
             Some(next) => {
                 let frame = next.frame(now);
+                let is_request = self.asking.take(next.token);
+                self.hold = self.hold.asked(is_request);
                 self.taken += 1;
                 frame
             }
@@ -232,7 +287,12 @@ impl Controller {
                     self.hold = self.hold.paused();
                     Some(packet)
                 }
-                None => None,
+                None => {
+                    let clock = self.hold.clock();
+                    let frame = self.transfers.frame(clock, now)?;
+                    self.transfers.taken(clock);
+                    Some(frame)
+                }
             },
         }
     }
@@ -327,6 +387,77 @@ impl Controller {
         }
     }
 
+    /// Hands in a message of 9 to 1,785 bytes, to another's address: a request to send, and the packets that it clears; answers its
+    /// token, 0, 1, 2 and so on, apart from those of `send` and `broadcast`. `Full` while one is accepted and not told to have ended.
+    pub fn transfer(&mut self, now: Stamp, group: Pgn, to: u8, bytes: &[u8]) -> Result<u64, Refused>
+        ensures { (w : Who) (H : List Call) → Is w H self.old
+            → Is w (Transfer (stamp_micros now) (pgn_raw group) to bytes.now result ∷ H) self.new }
+    {
+        self.hold = self.hold.passed(now);
+        if !self.hold.is_held() {
+            return Err(Refused::NoAddress);
+        }
+        match transfers::Open::new(self.transfers.next_token, &self.own, group, to, bytes) {
+            Some(transfer) => {
+                if self.transfers.is_busy() {
+                    return Err(Refused::Full);
+                }
+                let token = self.transfers.next_token;
+                self.transfers.current = Some(transfer);
+                self.transfers.next_token += 1;
+                self.hold = self.hold.renewed();
+                Ok(token)
+            }
+            None => Err(Refused::BadValue),
+        }
+    }
+
+    /// Tells a transfer that ended, each once.
+    pub fn take_transfer_ended(&mut self) -> Option<(u64, TransferEnding)>
+        ensures { (w : Who) (H : List Call) → Is w H self.old → Is w (TakeTransferEnded result ∷ H) self.new }
+    {
+        let is_lost = self.hold.is_lost();
+        let ended = self.transfers.ended(is_lost)?;
+        self.transfers.current = None;
+        Some(ended)
+    }
+
+    /// Asks an address, or all (255), for a group, by a message of priority 6; answers its token, one of those of `send`, to which
+    /// `take_ended` tells that its frame was taken. `Full` while one is accepted and not told by `take_ask_ended`, or sixteen
+    /// messages are.
+    pub fn ask(&mut self, now: Stamp, group: Pgn, to: u8) -> Result<u64, Refused>
+        ensures { (w : Who) (H : List Call) → Is w H self.old
+            → Is w (Ask (stamp_micros now) (pgn_raw group) to result ∷ H) self.new }
+    {
+        self.hold = self.hold.passed(now);
+        if !self.hold.is_held() {
+            return Err(Refused::NoAddress);
+        }
+        match asking::request(self.next_token, &self.own, group, to) {
+            Some(message) => {
+                if self.asks_no_more() {
+                    return Err(Refused::Full);
+                }
+                let token = self.next_token;
+                self.outgoing.push(message);
+                self.asking.current = Some(asking::Open::new(token, group, to));
+                self.next_token += 1;
+                Ok(token)
+            }
+            None => Err(Refused::BadValue),
+        }
+    }
+
+    /// Tells a request that ended, each once, at the moment of the last call.
+    pub fn take_ask_ended(&mut self) -> Option<(u64, AskEnding)>
+        ensures { (w : Who) (H : List Call) → Is w H self.old → Is w (TakeAskEnded result ∷ H) self.new }
+    {
+        let is_lost = self.hold.is_lost();
+        let ended = self.asking.ended(is_lost, self.hold.wait)?;
+        self.asking.current = None;
+        Some(ended)
+    }
+
     /// A message that was heard for the program, each once, the oldest first.
     pub fn take_received(&mut self) -> Option<Received>
         ensures { (w : Who) (H : List Call) → Is w H self.old
@@ -337,6 +468,40 @@ impl Controller {
         }
         let first = self.inbox.unread.remove(0);
         Some(first)
+    }
+
+    /// The message of 9 to 1,785 bytes that came in packets to its address, until `release_transfer` is called. Till then another
+    /// is refused (abort 2), so what was acknowledged lies here.
+    pub fn received_transfer(&self) -> Option<Message<'_>>
+        ensures { (w : Who) (H : List Call) → Is w H self.now
+            → option_map (λ m. (stamp_micros m.stamp, message_shown m)) result ≡ (reception w H).waits }
+    {
+        self.incoming.message()
+    }
+
+    /// Makes room for the next message in packets; whether one lay there, which by this the program got.
+    pub fn release_transfer(&mut self) -> bool
+        ensures { (w : Who) (H : List Call) → Is w H self.old → Is w (ReleaseTransfer result ∷ H) self.new }
+    {
+        let waits = self.incoming.place.is_some();
+        self.incoming.place = None;
+        waits
+    }
+
+    /// The message of 9 to 1,785 bytes that came in packets to all, until `release_broadcast` is called. Till then no other is
+    /// heard; such are counted in `missed`.
+    pub fn received_broadcast(&self) -> Option<Message<'_>>
+        ensures { (w : Who) (H : List Call) → Is w H self.now
+            → option_map (λ m. (stamp_micros m.stamp, message_shown m)) result ≡ waiting H }
+    {
+        self.hearing.message()
+    }
+
+    /// Makes room for the next broadcast in packets; whether one lay there, which by this the program got.
+    pub fn release_broadcast(&mut self) -> bool
+        ensures { (w : Who) (H : List Call) → Is w H self.old → Is w (ReleaseBroadcast result ∷ H) self.new }
+    {
+        self.hearing.release()
     }
 
     /// What happened, each once.
@@ -396,39 +561,75 @@ impl Controller {
         Ok(())
     }
 
-    /// The frame of the first message that wasn't taken, or else of a packet, of whose pause so much is left.
-    fn peek_message(&self, pause: u64, now: Stamp) -> Option<Frame>
+    /// The frame of the first message that wasn't taken, or else of packets.
+    fn peek_message(&self, hold: Hold, now: Stamp) -> Option<Frame>
         ensures { option_map stamped result ≡ option_map (λ m. (stamp_micros now, m))
             (first_of None (option_map posted (slice_get self.now.outgoing.items self.now.taken))
-            (packet_by (lane_of (who_of self.now.own) self.now.lane).current self.now.lane.count pause)) }
+            (long_by (packet_by (lane_of (who_of self.now.own) self.now.lane).current self.now.lane.count hold.pause)
+            (transfer_by (port_of self.now.transfers).current (clock hold.age)))) }
     {
         match self.outgoing.as_slice().get(self.taken) {
             Some(next) => next.frame(now),
-            None => self.lane.frame(&self.own, pause, now),
+            None => match self.lane.frame(&self.own, hold.pause, now) {
+                Some(packet) => Some(packet),
+                None => self.transfers.frame(hold.clock(), now),
+            },
+        }
+    }
+
+    /// The NAME that holds the address to which the open transfer goes.
+    fn peer(&self) -> Option<Name>
+        ensures { IfSome (port_of self.now.transfers).current (λ x.
+            option_map name_raw result ≡ holder_in self.now.holders x.sender.destination) }
+    {
+        match self.transfers.destination() {
+            Some(address) => self.holders.holder(address),
+            None => None,
+        }
+    }
+
+    /// The NAME that holds the address from which the open broadcast comes.
+    fn speaker(&self) -> Option<Name>
+        ensures { IfSome (hearing_of self.now.hearing).current (λ x.
+            option_map name_raw result ≡ holder_in self.now.holders x.source) }
+    {
+        match self.hearing.source() {
+            Some(address) => self.holders.holder(address),
+            None => None,
         }
     }
 
     /// A frame can be taken.
     fn has_frame(&self) -> bool
         ensures { result ≡ (self.now.hold.owes_claim || (stands self.now.hold.standing
-            && (nat_lt self.now.taken (length self.now.outgoing.items) || nat_lt 0 (length self.now.desk.due.items)))) }
+            && (nat_lt self.now.taken (length self.now.outgoing.items) || (nat_lt 0 (length self.now.desk.due.items)
+            || nat_lt 0 (length self.now.incoming.replies.items))))) }
     {
         self.is_claim_due() || (self.hold.is_held() && self.is_waiting())
     }
 
-    /// A frame of the open broadcast can be taken once the pause is over.
-    fn has_packet(&self) -> bool
+    /// In how long a frame of packets can be taken.
+    fn packets_in(&self) -> Option<u64>
         ensures { (w : Who) → result
-            ≡ (stands self.now.hold.standing && is_left (lane_of w self.now.lane).current self.now.lane.count) }
+            ≡ sooner (packet_in (is_left (lane_of w self.now.lane).current self.now.lane.count) self.now.hold.pause)
+            (transfer_in (port_of self.now.transfers).current (clock self.now.hold.age)) }
     {
-        self.hold.is_held() && self.lane.is_left()
+        let packet = if self.lane.is_left() {
+            Some(self.hold.pause)
+        } else {
+            None
+        };
+        sooner(packet, self.transfers.sends_in(self.hold.clock()))
     }
 
-    /// A message or an acknowledgment waits.
+    /// A message, an acknowledgment or a reply waits.
     fn is_waiting(&self) -> bool
-        ensures { result ≡ (nat_lt self.now.taken (length self.now.outgoing.items) || nat_lt 0 (length self.now.desk.due.items)) }
+        ensures { result ≡ (nat_lt self.now.taken (length self.now.outgoing.items) || (nat_lt 0 (length self.now.desk.due.items)
+            || nat_lt 0 (length self.now.incoming.replies.items))) }
     {
-        self.taken < self.outgoing.len() || 0 < self.desk.due.len()
+        self.taken < self.outgoing.len()
+            || 0 < self.desk.due.len()
+            || 0 < self.incoming.replies.len()
     }
 
     /// A claim goes before all else.
@@ -449,10 +650,41 @@ impl Controller {
         }
     }
 
+    /// No request can be accepted.
+    fn asks_no_more(&self) -> bool
+        ensures room { result ≡ false → length self.now.outgoing.items < 16 }
+        ensures value { result
+            ≡ ((nat_eq (length self.now.outgoing.items) 16 || nat_eq self.now.next_token 18446744073709551615)
+            || is_asking (option_map (λ x. x.question) (asking_of self.now.asking))) }
+    {
+        self.is_full() || self.asking.is_open()
+    }
+
     fn is_full(&self) -> bool
         ensures room { result ≡ false → length self.now.outgoing.items < 16 }
         ensures value { result ≡ (nat_eq (length self.now.outgoing.items) 16 || nat_eq self.now.next_token 18446744073709551615) }
     {
         self.outgoing.is_full() || self.next_token == u64::MAX
+    }
+}
+
+fn sooner(one: Option<u64>, other: Option<u64>) -> Option<u64>
+    ensures { result ≡ sooner one other }
+{
+    match (one, other) {
+        (None, _) => other,
+        (Some(_), None) => one,
+        (Some(m), Some(n)) => Some(m.min(n)),
+    }
+}
+
+/// Who held an address no longer does.
+fn is_replaced(before: Option<Name>, now: Option<Name>) -> bool
+    ensures { result ≡ is_replaced (option_map name_raw before) (option_map name_raw now) }
+{
+    match (before, now) {
+        (None, _) => false,
+        (Some(_), None) => true,
+        (Some(one), Some(other)) => other.raw() != one.raw(),
     }
 }

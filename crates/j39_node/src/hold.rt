@@ -1,9 +1,10 @@
 //! How far a controller is with its address, and the moment that it is at.
-ghost use Rattle.std.specs.Prelude.{◌≡◌, ◌+◌, ◌-◌};
+ghost use Rattle.std.specs.Prelude.{◌≡◌, ◌+◌, ◌-◌, min, true};
 ghost use Rattle.std.specs.Option.{option_map};
 ghost use Rattle.j39_frame.specs.Stamp.{stamp_micros};
 ghost use Rattle.j39_node.specs.History.{stamp_at};
-ghost use Rattle.j39_node.specs.Hold.{passed, heard, claimed, paused, stands, lost, less, claims, left_at};
+ghost use Rattle.j39_node.specs.declared.hold.Standing.TheVariants as standing;
+ghost use Rattle.j39_node.specs.Hold.{asked, passed, heard, claimed, paused, renewed, stands, lost, less, claims, left_at};
 
 use j39_frame::Stamp;
 
@@ -12,6 +13,9 @@ const CLAIM_TIME: u64 = 250_000;
 
 /// The least time between two frames of packets, in microseconds (J1939-21, 5.12.3).
 const PACKET_TIME: u64 = 50_000;
+
+/// How long a request waits for its answer, in microseconds (own).
+const ANSWER_TIME: u64 = 1_250_000;
 
 /// How far the address is.
 #[derive(Clone, Copy)]
@@ -53,9 +57,27 @@ pub(crate) struct Hold {
     pub(crate) owes_claim: bool,
     /// What is left of the time between two frames of packets.
     pub(crate) pause: u64,
+    /// How long ago a transfer was accepted last.
+    pub(crate) age: u64,
+    /// What is left of the time that the open request waits.
+    pub(crate) wait: u64,
 }
 
 impl Hold {
+    /// Nothing was claimed; the first claim is owed.
+    pub(crate) fn new() -> Hold
+        ensures { result ≡ record { moment = 0; standing = standing.Idle; owes_claim = true; pause = 0; age = 0; wait = 0 } }
+    {
+        Hold {
+            moment: 0,
+            standing: Standing::Idle,
+            owes_claim: true,
+            pause: 0,
+            age: 0,
+            wait: 0,
+        }
+    }
+
     /// At this moment: time that goes back is no time.
     pub(crate) fn passed(self, now: Stamp) -> Hold
         ensures { result ≡ passed (stamp_micros now) self }
@@ -66,6 +88,8 @@ impl Hold {
             standing: self.standing.less(step),
             owes_claim: self.owes_claim,
             pause: self.pause.saturating_sub(step),
+            age: self.age.saturating_add(step),
+            wait: self.wait.saturating_sub(step),
         }
     }
 
@@ -83,6 +107,8 @@ impl Hold {
             standing,
             owes_claim: self.owes_claim || calls,
             pause: self.pause,
+            age: self.age,
+            wait: self.wait,
         }
     }
 
@@ -95,6 +121,8 @@ impl Hold {
             standing: self.standing.claimed(),
             owes_claim: false,
             pause: self.pause,
+            age: self.age,
+            wait: self.wait,
         }
     }
 
@@ -107,7 +135,46 @@ impl Hold {
             standing: self.standing,
             owes_claim: self.owes_claim,
             pause: PACKET_TIME,
+            age: self.age,
+            wait: self.wait,
         }
+    }
+
+    /// A transfer was accepted.
+    pub(crate) fn renewed(self) -> Hold
+        ensures { result ≡ renewed self }
+    {
+        Hold {
+            moment: self.moment,
+            standing: self.standing,
+            owes_claim: self.owes_claim,
+            pause: self.pause,
+            age: 0,
+            wait: self.wait,
+        }
+    }
+
+    /// A message was taken: whether it was the request.
+    pub(crate) fn asked(self, is_request: bool) -> Hold
+        ensures { result ≡ asked is_request self }
+    {
+        let wait = if is_request { ANSWER_TIME } else { self.wait };
+        Hold {
+            moment: self.moment,
+            standing: self.standing,
+            owes_claim: self.owes_claim,
+            pause: self.pause,
+            age: self.age,
+            wait,
+        }
+    }
+
+    /// The moment that the open transfer is at, counted from its acceptance.
+    pub(crate) fn clock(self) -> Stamp
+        ensures { stamp_micros result ≡ min self.age 9999999999999999 }
+    {
+        let micros = self.age.min(Stamp::LIMIT - 1);
+        Stamp::new(micros).unwrap()
     }
 
     pub(crate) fn is_held(self) -> bool
@@ -137,11 +204,11 @@ impl Hold {
         Stamp::new(self.moment)
     }
 
-    /// When a frame of packets can be taken.
-    pub(crate) fn packet_at(self) -> Option<Stamp>
-        ensures { option_map stamp_micros result ≡ stamp_at (self.moment + self.pause) }
+    /// The moment after so many microseconds.
+    pub(crate) fn later(self, micros: u64) -> Option<Stamp>
+        ensures { option_map stamp_micros result ≡ stamp_at (self.moment + micros) }
     {
-        Stamp::new(self.moment.saturating_add(self.pause))
+        Stamp::new(self.moment.saturating_add(micros))
     }
 
     /// When the address will be held.

@@ -11,15 +11,42 @@ pub enum Ending {
     Withdrawn,
 }
 
+/// How a transfer that was accepted ended.
+#[derive(Clone, Copy, Debug, PartialEq, Eq)]
+pub enum TransferEnding {
+    /// Its destination acknowledged it.
+    Done,
+    /// The address was lost before.
+    Withdrawn,
+    /// It was aborted: by its destination for this reason, for 3 where that was silent, for 5 where that cleared nothing new too
+    /// often. It may have arrived all the same.
+    Failed(u8),
+    /// Who held its destination's address no longer does.
+    Gone,
+}
+
+/// How a request that was accepted ended (J1939-21, 5.4.2 and 5.4.4).
+#[derive(Clone, Copy, Debug, PartialEq, Eq)]
+pub enum AskEnding {
+    /// Whom was asked sent the group.
+    Answered,
+    /// Whom was asked acknowledged it: `Ack` is positive, all others refuse.
+    Acknowledged(Answer),
+    /// None of this came within 1,250 ms after its frame was taken.
+    TimedOut,
+    /// The address was lost before.
+    Withdrawn,
+}
+
 /// Why a message isn't accepted.
 #[derive(Clone, Copy, Debug, PartialEq, Eq)]
 pub enum Refused {
     /// No address is held.
     NoAddress,
     /// A priority above 7, a group that no identifier can have or that the stack itself speaks (claims, acknowledgments,
-    /// packets), no other's address, or more than 8 bytes; a broadcast outside 9 to 1,785 bytes; an acknowledgment of a request to all.
+    /// packets), no other's address, or more than 8 bytes; a broadcast or a transfer outside 9 to 1,785 bytes; an acknowledgment of a request to all.
     BadValue,
-    /// Sixteen messages are accepted and not told to have ended; a broadcast is; sixteen acknowledgments are due.
+    /// Sixteen messages are accepted and not told to have ended; a broadcast is, or a transfer, or a request; sixteen acknowledgments are due.
     Full,
 }
 

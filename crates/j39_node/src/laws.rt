@@ -1,9 +1,11 @@
 //! Laws over histories, each the contract of a function that does nothing. `Is w H c` says that the controller c was made for
 //! w and called as H says since, with the answers that H has; in H the newest call stands first.
-ghost use Rattle.std.specs.Prelude.{◌≡◌, ◌≢◌, ◌⊎◌, ◌+◌, ◌<◌, ◌≤◌, ◌↔◌, ◌++◌, ℕ, List, [], ◌∷◌, length, map, Some, None, Option, Result, Ok, Err, IsTrue, false};
+ghost use Rattle.std.specs.Prelude.{◌≡◌, ◌||◌, ◌≢◌, ◌⊎◌, ◌+◌, ◌-◌, ◌<◌, ◌≤◌, ◌↔◌, ◌++◌, ℕ, Bool, List, [], ◌∷◌, length, drop, map, Some, None, Option, Result, Ok, Err, IsTrue, true, false};
 ghost use Rattle.std.specs.List.{slice_get};
 ghost use Rattle.j39_frame.specs.Frame.{FrameRecord};
-ghost use Rattle.j39_frame.specs.Identifier.{source_of, pgn_of};
+ghost use Rattle.j39_frame.specs.Identifier.{destination_of, source_of, pgn_of};
+ghost use Rattle.j39_address.specs.Claim.{claim_of};
+ghost use Rattle.j39_transport.specs.Reception.{ReceptionRecord};
 ghost use Rattle.j39_frame.specs.Network.{address_claimed_group};
 ghost use Rattle.j39_transport.specs.Message.{MessageRecord, packets_of};
 ghost use Rattle.j39_address.specs.declared.status.Status.TheVariants as status;
@@ -16,8 +18,15 @@ ghost use Rattle.j39_node.specs.declared.kinds.News.{News};
 ghost use Rattle.j39_node.specs.declared.kinds.News.TheVariants as news;
 ghost use Rattle.j39_node.specs.declared.kinds.Refused.{Refused};
 ghost use Rattle.j39_node.specs.declared.kinds.Refused.TheVariants as refused;
-ghost use Rattle.j39_node.specs.History.{Who, Asked, Call, Message, Draft, IsFront, accepted, acknowledgment, acknowledgment_group, asked, handed, is_served, requests, lost_news, another_news, missed_news, address_after, calls_for_claim, can_send, claim_address, claim_from, content, acknowledged, due, frames, got, heard, holds, is_lost, kept, message_of, missed, moment, next_due, owes_claim, sent, step, told, all_frames, broadcasts, can_broadcast, first_frames, frame_of, has_packets, is_packet, open_broadcast, packets, told_broadcasts};
-ghost use Rattle.j39_node.specs.History.Call.{Acknowledge, Broadcast, TakeBroadcastEnded, Hear, TakeNews, Tick, TakeFrame, TakeRequest, Send, TakeEnded, TakeReceived};
+ghost use Rattle.j39_node.specs.History.{Who, Asked, Call, Message, Draft, IsFront, accepted, acknowledgment, acknowledgment_group, asked, handed, is_served, requests, lost_news, another_news, missed_news, address_after, calls_for_claim, can_send, claim_address, claim_from, content, acknowledged, due, frames, got, heard, holds, is_held, is_lost, kept, message_of, missed, moment, owes_claim, sent, step, told, all_frames, broadcasts, can_broadcast, first_frames, frame_of, has_packets, is_acknowledgment, is_claim, is_packet, is_transfer, open_broadcast, packets, told_broadcasts};
+ghost use Rattle.j39_node.specs.History.Call.{Acknowledge, Broadcast, TakeBroadcastEnded, ReleaseTransfer, Hear, TakeNews, Tick, TakeFrame, TakeRequest, Send, TakeEnded, TakeReceived, Transfer, TakeTransferEnded};
+ghost use Rattle.j39_node.specs.Reception.{CameFromOne, delivered, got_transfers, heard_at, holder, is_move, listed, next_tick, reception, replied, reply_from, says, time_heard, whole, without};
+ghost use Rattle.j39_transport.specs.Cutting.{ToSend};
+ghost use Rattle.j39_transport.specs.Receiving.{said_to};
+ghost use Rattle.j39_transport.specs.Signals.{RequestToSend};
+ghost use Rattle.byteorder.specs.Endian.{little_bytes};
+ghost use Rattle.j39_node.specs.Hearing.{unheard_news};
+ghost use Rattle.j39_node.specs.Transfers.{age, next_due};
 ghost use Rattle.j39_node.specs.Since.{ClaimedSince, PacketSince, passed_in};
 ghost use Rattle.j39_node.specs.Example.{example, two};
 ghost use Rattle.j39_node.specs.Is.{AreAnswered, Is, status_after};
@@ -112,13 +121,17 @@ pub fn claims()
 {}
 
 /// No frame is taken before the moment that `next_due` tells, if nothing is heard or handed in till then; and one is taken at the
-/// moment of the last call, if it tells that. Time that passes in two steps is the same as in one.
+/// moment of the last call, if it tells that, and where the address is held from the moment on that it tells. Time that passes
+/// in two steps is the same as in one.
 pub fn quiet_till_due()
     ensures quiet { (w : Who) (H : List Call) (c : Controller) (now : ℕ) (answer : Option FrameRecord)
         → Is w (TakeFrame now answer ∷ H) c → moment H ≤ now → now < 10000000000000000
         → ((t : ℕ) → next_due w H ≡ Some t → now < t) → answer ≡ None }
     ensures due { (w : Who) (H : List Call) (c : Controller) (now : ℕ) (answer : Option FrameRecord)
         → Is w (TakeFrame now answer ∷ H) c → next_due w H ≡ Some (moment H) → answer ≢ None }
+    ensures taken { (w : Who) (H : List Call) (c : Controller) (now t : ℕ) (answer : Option FrameRecord)
+        → Is w (TakeFrame now answer ∷ H) c → next_due w H ≡ Some t → t ≤ now → IsTrue (is_held (address_after w H))
+        → age H + step H t < 10000000000000000 → answer ≢ None }
     ensures ticks { (w : Who) (H : List Call) (now later : ℕ) → moment H ≤ now → now ≤ later
         → holds w (Tick now ∷ H) later ≡ holds w H later }
 {}
@@ -127,10 +140,10 @@ pub fn quiet_till_due()
 /// sends from it; that messages were missed, of which there then are some.
 pub fn news()
     ensures none { (w : Who) (H : List Call) (c : Controller) → Is w (TakeNews None ∷ H) c
-        → (lost_news w H ≡ false) × (another_news w H ≡ false) × (missed_news w H ≡ false) }
+        → (lost_news w H ≡ false) × (another_news w H ≡ false) × ((missed_news w H || unheard_news H) ≡ false) }
     ensures told { (w : Who) (H : List Call) (c : Controller) (n : News) → Is w (TakeNews (Some n) ∷ H) c
         → ((n ≡ news.AddressLost) × IsTrue (lost_news w H)) ⊎ ((n ≡ news.AnotherAtAddress) × IsTrue (another_news w H))
-        ⊎ ((n ≡ news.MessagesMissed) × IsTrue (missed_news w H)) }
+        ⊎ ((n ≡ news.MessagesMissed) × IsTrue (missed_news w H || unheard_news H)) }
     ensures lost { (w : Who) (H : List Call) → IsTrue (lost_news w H) → IsTrue (is_lost (address_after w H)) }
     ensures missed { (w : Who) (H : List Call) → IsTrue (missed_news w H) → 0 < missed w H }
 {}
@@ -145,7 +158,7 @@ pub fn who()
 
 /// All answers of this history are those that a controller gives: it claims, holds, sends, receives, refuses, and loses its
 /// address.
-#[tactic(auto, unfolding(j39_transport::specs::Cutting::cut_frame, j39_transport::specs::Cutting::announcement_of, j39_transport::specs::Cutting::packet_of, j39_transport::specs::Cutting::packet_data))]
+#[tactic(auto, unfolding(j39_transport::specs::Frames::is_announcement, j39_transport::specs::Frames::is_packet, j39_transport::specs::Frames::goes, j39_transport::specs::Cutting::cut_frame, j39_transport::specs::Cutting::announcement_of, j39_transport::specs::Cutting::packet_of, j39_transport::specs::Cutting::packet_data, j39_transport::specs::Sending::new_sender, j39_transport::specs::Sending::send_step, j39_transport::specs::Sending::ticks_in, j39_transport::specs::Sending::sends_packet, j39_transport::specs::Sending::hears, j39_transport::specs::Sending::cleared, j39_transport::specs::Sending::acknowledged, j39_transport::specs::Sending::aborted, j39_transport::specs::Signals::said_between, j39_transport::specs::Signals::said_by, j39_transport::specs::Signals::control_in, j39_transport::specs::Signals::packet_in, j39_transport::specs::Frames::group_of, j39_transport::specs::Frames::source_of, j39_transport::specs::Frames::destination_of, j39_transport::specs::Reception::takes_request, j39_transport::specs::Reception::begun, j39_transport::specs::Reception::grants, j39_transport::specs::Reception::granted_at, j39_transport::specs::Reception::takes_data, j39_transport::specs::Reception::takes_packet, j39_transport::specs::Reception::goes_on, j39_transport::specs::Reception::delivers_message, j39_transport::specs::Signals::request_in, j39_transport::specs::Signals::written, j39_transport::specs::Frames::names_message, j39_transport::specs::Key::key_between, j39_transport::specs::Receiving::recv_step, j39_transport::specs::Receiving::said_to, j39_transport::specs::Reception::takes_signal, j39_transport::specs::Reception::takes_tick))]
 pub fn an_example()
     ensures { AreAnswered two example }
 {}
@@ -248,4 +261,84 @@ pub fn broadcast_done_means()
     ensures all { (w : Who) (H : List Call) (c : Controller) → Is w (TakeBroadcastEnded None ∷ H) c
         → (length (told_broadcasts H) ≡ length (broadcasts w H))
         ⊎ (IsTrue (has_packets w H) × (IsTrue (is_lost (address_after w H)) → ⊥)) }
+{}
+
+/// What comes in packets to its address and is made whole by a frame is got by the program, each once, in order, or waits. It was handed
+/// over by one sender: an RTS, then its packets in order, and since the RTS one NAME held its source, or none. Where the address is held,
+/// nothing waits and no session is open, an RTS begins one, and a CTS (its first byte is 17) is said to its source.
+pub fn transfers_received()
+    ensures in_order { (w : Who) (H : List Call) → delivered w H ≡ got_transfers w H ++ listed (reception w H).waits }
+    ensures got { (w : Who) (H : List Call) (c : Controller) (answer : Bool) → Is w (ReleaseTransfer answer ∷ H) c
+        → (answer ≡ true ↔ ((x : ℕ × MessageRecord) × ((reception w H).waits ≡ Some x))) }
+    ensures of_one { (w : Who) (H : List Call) (f : FrameRecord) (m : MessageRecord) → whole w H f ≡ Some m
+        → CameFromOne w (Hear f ∷ H) m }
+    ensures begins { (w : Who) (H : List Call) (f : FrameRecord) (size packets most pgn : ℕ) → IsTrue (holds w H f.stamp)
+        → (reception w H).waits ≡ None → (reception w H).session ≡ None
+        → said_to w.address f ≡ Some (RequestToSend size packets most pgn)
+        → (r : ReceptionRecord) × (x : ToSend) × ((reception w (Hear f ∷ H)).session ≡ Some r)
+        × (r.message.source ≡ source_of f.id) × (slice_get x.bytes 0 ≡ Some 17)
+        × ((reception w (Hear f ∷ H)).replies ≡ replied w.address (source_of f.id) (Some x) (reception w H).replies) }
+{}
+
+/// What the receiver says to a frame waits in place of what it said to that address before. It says an end-of-message acknowledgment
+/// (J1939-21, 5.10.3.3: its first byte is 19) of what this frame makes whole, and of nothing else: so what is acknowledged waits for the
+/// program, or was got.
+pub fn acknowledged_is_there()
+    ensures says { (w : Who) (H : List Call) (f : FrameRecord) → IsTrue (holds w H f.stamp) → claim_of f ≡ None
+        → (reception w (Hear f ∷ H)).replies ≡ replied w.address (source_of f.id) (says w H f) (reception w H).replies }
+    ensures whole { (w : Who) (H : List Call) (f : FrameRecord) (m : MessageRecord) → whole w H f ≡ Some m
+        → (x : ToSend) × (says w H f ≡ Some x) × (slice_get x.bytes 0 ≡ Some 19) }
+    ensures only { (w : Who) (H : List Call) (f : FrameRecord) (x : ToSend) → says w H f ≡ Some x
+        → slice_get x.bytes 0 ≡ Some 19 → (m : MessageRecord) × (whole w H f ≡ Some m) }
+{}
+
+/// A frame taken that belongs to a session, goes to an address and is none of the open transfer is the first reply that waits: it comes from the address that is held,
+/// behind claims and acknowledgments and before all else, and each is taken once. From an address that is lost nothing is said.
+pub fn replies_mean()
+    ensures first { (w : Who) (H : List Call) (c : Controller) (now : ℕ) (f : FrameRecord)
+        → Is w (TakeFrame now (Some f) ∷ H) c → IsTrue (is_transfer f) → is_move w H f ≡ false
+        → IsTrue (holds w H now) × (source_of f.id ≡ w.address) × (slice_get (reception w H).replies 0 ≡ Some (message_of f))
+        × (slice_get (due w H) (length (acknowledged H)) ≡ None) }
+    ensures before { (w : Who) (H : List Call) (c : Controller) (now : ℕ) (f : FrameRecord) (m : Message)
+        → Is w (TakeFrame now (Some f) ∷ H) c → slice_get (reception w H).replies 0 ≡ Some m
+        → is_claim f ≡ false → is_acknowledgment f ≡ false → message_of f ≡ m }
+    ensures once { (w : Who) (H : List Call) (now : ℕ) (f : FrameRecord) → is_claim f ≡ false → is_acknowledgment f ≡ false
+        → (reception w (TakeFrame now (Some f) ∷ H)).replies ≡ drop 1 (reception w H).replies }
+    ensures lost { (w : Who) (H : List Call) → IsTrue (is_lost (address_after w H))
+        → ((reception w H).session ≡ None) × ((reception w H).replies ≡ []) }
+{}
+
+/// A frame that is no claim and doesn't go to its address changes nothing of what is received, and one of another source nothing of the
+/// session, unless by it the address is lost or the session's source gets another holder.
+pub fn strangers()
+    ensures to_others { (w : Who) (H : List Call) (f : FrameRecord) → claim_of f ≡ None → destination_of f.id ≢ Some w.address
+        → reception w (Hear f ∷ H) ≡ reception w H }
+    ensures from_others { (w : Who) (H : List Call) (f : FrameRecord) (r : ReceptionRecord)
+        → is_lost (address_after w (Hear f ∷ H)) ≡ false → holder (Hear f ∷ H) r.message.source ≡ holder H r.message.source
+        → (reception w H).session ≡ Some r → source_of f.id ≢ r.message.source → (reception w (Hear f ∷ H)).session ≡ Some r }
+{}
+
+/// While a message waits for the program, an RTS to its address is answered by abort 2, and none begins.
+pub fn full_refuses()
+    ensures { (w : Who) (H : List Call) (f : FrameRecord) (x : ℕ × MessageRecord) (size packets most pgn : ℕ)
+        → (reception w H).waits ≡ Some x → IsTrue (holds w H f.stamp)
+        → said_to w.address f ≡ Some (RequestToSend size packets most pgn)
+        → length (without (source_of f.id) (reception w H).replies) < 16
+        → reception w (Hear f ∷ H) ≡ record {
+          session = None;
+          waits = Some x;
+          replies = without (source_of f.id) (reception w H).replies
+              ++ reply_from w.address (source_of f.id) (255 ∷ 2 ∷ 255 ∷ 255 ∷ 255 ∷ little_bytes 3 pgn) ∷ [];
+        } }
+{}
+
+/// Before the moment that `next_tick` tells, a tick says nothing and ends no session; from then on one says a CTS or an abort (its first
+/// byte is 17 or 255) to the session's source.
+pub fn ticks_wait()
+    ensures waits { (w : Who) (H : List Call) (now : ℕ) → heard_at H ≤ now → now < 10000000000000000
+        → ((t : ℕ) → next_tick w H ≡ Some t → now < t) → reception w (Tick now ∷ H) ≡ reception w H }
+    ensures says { (w : Who) (H : List Call) (now t : ℕ) (r : ReceptionRecord) → next_tick w H ≡ Some t
+        → (reception w H).session ≡ Some r → t ≤ now → time_heard H + (t - heard_at H) < 10000000000000000
+        → (x : ToSend) × ((slice_get x.bytes 0 ≡ Some 17) ⊎ (slice_get x.bytes 0 ≡ Some 255))
+        × ((reception w (Tick now ∷ H)).replies ≡ replied w.address r.message.source (Some x) (reception w H).replies) }
 {}

@@ -1,8 +1,13 @@
 //! A controller that promises by the histories of its calls (J1939-21, J1939-81).
 #![tactic(auto)]
 
+pub mod ask_laws;
+mod asking;
 mod controller;
+mod hearing;
+pub mod hearing_laws;
 mod hold;
+mod incoming;
 mod kinds;
 mod lane;
 pub mod laws;
@@ -11,8 +16,10 @@ mod outgoing;
 mod own;
 mod received;
 mod requests;
+pub mod transfer_laws;
+mod transfers;
 
 pub use controller::Controller;
-pub use kinds::{Answer, Ending, News, Refused};
+pub use kinds::{Answer, AskEnding, Ending, News, Refused, TransferEnding};
 pub use received::Received;
 pub use requests::Request;

@@ -1,5 +1,5 @@
 //! What happened and is not told.
-ghost use Rattle.std.specs.Prelude.{◌≡◌, ◌&&◌, ◌||◌, not};
+ghost use Rattle.std.specs.Prelude.{◌≡◌, ◌&&◌, ◌||◌, not, false};
 
 use crate::News;
 
@@ -11,25 +11,37 @@ pub(crate) struct Untold {
 }
 
 impl Untold {
+    /// Nothing happened.
+    pub(crate) fn none() -> Untold
+        ensures { result ≡ record { lost = false; another = false; missed = false } }
+    {
+        Untold {
+            lost: false,
+            another: false,
+            missed: false,
+        }
+    }
+
     /// A frame was heard: it drives away from the address, which was lost before or not; another sent it from the address; it
-    /// was missed.
+    /// was missed, or announces what isn't heard.
     pub(crate) fn heard(
         self,
         drives_away: bool,
         was_lost: bool,
         another: bool,
         missed: bool,
+        unheard: bool,
     ) -> Untold
         ensures { result ≡ record {
           lost = self.lost || (drives_away && not was_lost);
           another = self.another || another;
-          missed = self.missed || missed;
+          missed = self.missed || (missed || unheard);
         } }
     {
         Untold {
             lost: self.lost || (drives_away && !was_lost),
             another: self.another || another,
-            missed: self.missed || missed,
+            missed: self.missed || (missed || unheard),
         }
     }
 }

@@ -21,6 +21,9 @@ pub(crate) const ADDRESS_CLAIMED: u32 = 60_928;
 /// The group of acknowledgments.
 pub(crate) const ACKNOWLEDGMENT: u32 = 59_392;
 
+/// The group of requests.
+pub(crate) const REQUEST: u32 = 59_904;
+
 /// The groups of sessions of packets.
 pub(crate) const TRANSPORT_CONTROL: u32 = 60_416;
 
@@ -157,7 +160,7 @@ fn is_request_for(frame: &Frame, group: u32) -> bool
     frame.id.is_request() && bytes.len() >= 3 && LittleEndian::read_u24(bytes) == group
 }
 
-fn is_to(frame: &Frame, address: u8) -> bool
+pub(crate) fn is_to(frame: &Frame, address: u8) -> bool
     ensures { result ≡ is_some (destination_of frame.now.id) address }
 {
     match frame.id.destination() {
@@ -166,7 +169,7 @@ fn is_to(frame: &Frame, address: u8) -> bool
     }
 }
 
-fn is_undirected(frame: &Frame) -> bool
+pub(crate) fn is_undirected(frame: &Frame) -> bool
     ensures { result ≡ is_none (destination_of frame.now.id) }
 {
     match frame.id.destination() {

@@ -1,5 +1,5 @@
 //! Messages that were received.
-ghost use Rattle.std.specs.Prelude.{◌≡◌, ◌&&◌, Some, length, map, nat_lt, not};
+ghost use Rattle.std.specs.Prelude.{◌≡◌, ◌&&◌, [], Some, length, map, nat_lt, not};
 ghost use Rattle.std.specs.Option.{option_map};
 ghost use Rattle.j39_node.specs.Is.{received_by, stamped, offered, counted};
 
@@ -62,6 +62,17 @@ pub(crate) struct Inbox {
 }
 
 impl Inbox {
+    /// Nothing was received.
+    pub(crate) fn new() -> Inbox
+        ensures unread { result.unread.items ≡ [] }
+        ensures missed { result.missed ≡ 0 }
+    {
+        Inbox {
+            unread: ArrayVec::new(),
+            missed: 0,
+        }
+    }
+
     /// Whether a message that is wanted would be missed.
     pub(crate) fn misses(&self, wanted: bool) -> bool
         ensures { result ≡ (wanted && not (nat_lt (length self.now.unread.items) 16)) }

@@ -76,6 +76,17 @@ pub(crate) struct Desk {
 }
 
 impl Desk {
+    /// Nothing was asked.
+    pub(crate) fn new() -> Desk
+        ensures waiting { result.waiting.items ≡ [] }
+        ensures due { result.due.items ≡ [] }
+    {
+        Desk {
+            waiting: ArrayVec::new(),
+            due: ArrayVec::new(),
+        }
+    }
+
     /// Takes in what a frame asks for: what is served waits; what isn't, or finds no room, is refused where it came to the
     /// address.
     pub(crate) fn hear(&mut self, own: &Own, request: Option<Request>)

@@ -5,7 +5,7 @@ pub(crate) mod announced;
 mod changes;
 pub(crate) mod form;
 mod last_faults;
-mod last_message;
+pub(crate) mod last_message;
 mod last_messages;
 pub mod laws;
 pub(crate) mod lines;

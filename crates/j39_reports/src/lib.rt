@@ -12,6 +12,6 @@ mod utc;
 
 pub use current_faults::faults_now;
 pub use fault_news::{Choice, FaultCounts, Telling, faults};
-pub use report_records::report_csv;
+pub use report_records::{report_csv, report_csv_filtered};
 pub use summaries::summary;
 pub use surveys::survey;

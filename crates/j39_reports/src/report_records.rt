@@ -5,4 +5,4 @@ mod quick_record;
 mod records;
 mod run;
 
-pub use run::report_csv;
+pub use run::{report_csv, report_csv_filtered};

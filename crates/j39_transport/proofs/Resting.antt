@@ -22,9 +22,9 @@ use Rattle.j39_transport.proofs.SignalLemmas.{heard_by_sender, heard_by_receiver
 
 -- ---- a sender's state is of its message, whatever happens
 
-record IsSound (m : MessageRecord) (s : SenderRecord) : Type 0 where
-  message_is : s.message ≡ m
-  state_is : IsState (packets_of m) s.state
+pub record IsSound (m : MessageRecord) (s : SenderRecord) : Type 0 where
+  pub message_is : s.message ≡ m
+  pub state_is : IsState (packets_of m) s.state
 
 -- how many ticks are left at most
 left : SendState → ℕ
@@ -95,7 +95,7 @@ sender_rests m (now ∷ moments) moment s h b f l =
 
 -- ---- every step keeps it
 
-tick_sound : (m : MessageRecord) (s : SenderRecord) (st : SendState) (now : ℕ) → s.message ≡ m → s.state ≡ st → IsState (packets_of m) st → IsSound m (ticks_in st now s).after
+pub tick_sound : (m : MessageRecord) (s : SenderRecord) (st : SendState) (now : ℕ) → s.message ≡ m → s.state ≡ st → IsState (packets_of m) st → IsSound m (ticks_in st now s).after
 unfolding ticks_in sends_packet
 tick_sound m s Idle now e k h = record { message_is = e; state_is = omega arith }
 tick_sound m s (Waiting limit) now e k h = cond_both (nat_lt (s.since + limit) now) _ _ (λ (r : SendResult). IsSound m r.after)
@@ -148,12 +148,12 @@ unfolding send_step
 step_sound m s Tick now h = tick_sound m s s.state now h.message_is refl h.state_is
 step_sound m s (Heard f) now h = heard_sound m s (said_between s.destination s.message.source f) now h
 
-all_sound : (m : MessageRecord) (es : List (SendEvent × ℕ)) (s : SenderRecord) → IsSound m s → IsSound m (has_sent es s)
+pub all_sound : (m : MessageRecord) (es : List (SendEvent × ℕ)) (s : SenderRecord) → IsSound m s → IsSound m (has_sent es s)
 unfolding has_sent
 all_sound m [] s h = h
 all_sound m (e ∷ es) s h = all_sound m es (send_step s e.0 e.1).after (step_sound m s e.0 e.1 h)
 
-new_sound : (m : MessageRecord) (to : ℕ) → IsSound m (new_sender m to)
+pub new_sound : (m : MessageRecord) (to : ℕ) → IsSound m (new_sender m to)
 unfolding new_sender
 new_sound m to = record { message_is = refl; state_is = tt }
 
@@ -167,7 +167,7 @@ sender_at_rest m to l es moments f n =
 
 -- ---- a receiver asks at most twice
 
-abbrev AsksFew : Option ReceptionRecord → Type 0
+abbrev pub AsksFew : Option ReceptionRecord → Type 0
 AsksFew None = Unit {0}
 AsksFew (Some r) = r.asks ≤ 2
 
@@ -220,7 +220,7 @@ unfolding recv_step
 few_step r receiving.Tick now found h = few_tick now r.session h
 few_step r (receiving.Heard f) now found h = few_signal _ (said_to r.own f) now found r.session h
 
-all_few : (es : List (RecvEvent × ℕ × Bool)) (r : ReceiverRecord) → AsksFew r.session → AsksFew (has_received es r).session
+pub all_few : (es : List (RecvEvent × ℕ × Bool)) (r : ReceiverRecord) → AsksFew r.session → AsksFew (has_received es r).session
 unfolding has_received
 all_few [] r h = h
 all_few (e ∷ es) r h = all_few es (recv_step r e.0 e.1 e.2).after (few_step r e.0 e.1 e.2 h)
@@ -235,7 +235,7 @@ record Nears (now before : ℕ) (o : Option ReceptionRecord) : Type 0 where
   time_is : time_of o ≤ now
   nears : ticks_left o ≤ before - 1
 
-limit_most : (r : ReceptionRecord) → limit_of r ≤ 1250000
+pub limit_most : (r : ReceptionRecord) → limit_of r ≤ 1250000
 limit_most r = cond_both r.fresh _ _ (λ (n : ℕ). n ≤ 1250000) (λ t. omega arith) (λ t. omega arith)
 
 asks_nears : (now : ℕ) (r : ReceptionRecord) → r.asks ≤ 2 → Nears now (3 - r.asks) (asks_again now r).session

@@ -18,6 +18,7 @@ pub mod AssemblerLaws
 pub mod Broadcasting
 pub mod Broadcasts
 pub mod Sending
+pub mod SenderNext
 pub mod Reception
 pub mod Receiving
 pub mod ReceiverStands

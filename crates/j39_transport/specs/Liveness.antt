@@ -1,5 +1,5 @@
 -- Directed transfers come to an end: on a bus that loses nothing, and where nothing more is heard.
-use Rattle.std.specs.Prelude.{◌≡◌, ◌≤◌, ◌<◌, ℕ, ◌+◌, Bool, false, true, List, [], ◌∷◌, length, map, Option, Some, None, IsSome}
+use Rattle.std.specs.Prelude.{◌≡◌, ◌≤◌, ◌<◌, ℕ, ◌+◌, ◌*◌, Bool, false, true, List, [], ◌∷◌, length, map, Option, Some, None, IsSome}
 use Rattle.j39_frame.specs.Address.{IsAddress}
 use Rattle.j39_frame.specs.Frame.{FrameRecord}
 use Rattle.j39_transport.specs.Key.{Key}
@@ -97,6 +97,33 @@ SenderLastsLaw = (m : MessageRecord) (to : ℕ) → IsLong m → IsAddress to
 abbrev pub ReceiverLastsLaw : Type 0
 ReceiverLastsLaw = (own : ℕ) → IsAddress own → (moments : List ℕ) → length moments ≡ 2
     → (es : List (RecvEvent × ℕ × Bool)) × IsSome (ticked_receiver moments (has_received es (new_receiver own))).session
+
+-- ---- in a loop that ticks often
+
+-- moments in order, each at most so long after the one before, the first after this one
+abbrev pub AreWithin : ℕ → ℕ → List ℕ → Type 0
+AreWithin gap moment [] = Unit {0}
+AreWithin gap moment (now ∷ later) = (moment ≤ now) × (now ≤ moment + gap) × AreWithin gap now later
+
+-- the last of the moments, or this one
+abbrev pub last_of : ℕ → List ℕ → ℕ
+last_of moment [] = moment
+last_of moment (now ∷ later) = last_of now later
+
+-- a sender is over 1,250 ms and a tick for each packet, and one more, after a moment from which on it is ticked so
+abbrev pub SenderRestsSoonLaw : Type 0
+SenderRestsSoonLaw = (m : MessageRecord) (to : ℕ) → IsLong m → (es : List (SendEvent × ℕ)) (gap moment : ℕ) (moments : List ℕ)
+    → (has_sent es (new_sender m to)).since ≤ moment → AreWithin gap moment moments
+    → moment + 1250000 + (packets_of m + 1) * gap < last_of moment moments
+    → is_over (ticked_sender moments (has_sent es (new_sender m to))).state ≡ true
+
+-- and a receiver has no session three times 1,250 ms and a tick after it last heard or said something
+abbrev pub ReceiverRestsSoonLaw : Type 0
+ReceiverRestsSoonLaw = (own : ℕ) (es : List (RecvEvent × ℕ × Bool)) (gap : ℕ) (moments : List ℕ)
+    → AreWithin gap (time_of (has_received es (new_receiver own)).session) moments
+    → time_of (has_received es (new_receiver own)).session + 3 * (1250000 + gap)
+    < last_of (time_of (has_received es (new_receiver own)).session) moments
+    → (ticked_receiver moments (has_received es (new_receiver own))).session ≡ None
 
 -- ---- how long each waits
 

@@ -73,6 +73,6 @@ broadcast_limit = 750000
 abbrev pub directed_limit : ℕ
 directed_limit = 1250000
 
--- the least between those of a broadcast that is sent (own)
+-- the least between those of a broadcast that is sent (5.12.3)
 abbrev pub gap : ℕ
 gap = 50000

@@ -1,6 +1,6 @@
 //! Laws about the definitions, each the contract of a function that does nothing.
 ghost use Rattle.j39_transport.specs.Liveness.{CompletesLaw, SenderWaitsLaw, ReceiverWaitsLaw};
-ghost use Rattle.j39_transport.specs.Liveness.{SenderRestsLaw, ReceiverRestsLaw, SenderLastsLaw, ReceiverLastsLaw};
+ghost use Rattle.j39_transport.specs.Liveness.{SenderRestsLaw, ReceiverRestsLaw, SenderLastsLaw, ReceiverLastsLaw, SenderRestsSoonLaw, ReceiverRestsSoonLaw};
 ghost use Rattle.j39_transport.specs.Broadcasts.{SendsAllLaw, IsHeardLaw};
 ghost use Rattle.j39_transport.specs.Net.{TransfersLaw, TransfersAloneLaw};
 ghost use Rattle.j39_transport.specs.AssemblerLaws.{OneMessageLaw, AtPacketLaw, WholeOrNoneLaw, CountsLaw};
@@ -68,6 +68,12 @@ pub fn rests()
     ensures receiver { ReceiverRestsLaw }
     ensures sender_lasts { SenderLastsLaw }
     ensures receiver_lasts { ReceiverLastsLaw }
+
+    // In a loop whose ticks are at most a gap apart: a sender is over 1,250 ms, and a gap for each packet and one more, after
+    // one of them. A receiver has no session three times 1,250 ms and a gap after it last heard or said something: 4 s, if the
+    // gap is at most 83 ms.
+    ensures sender_soon { SenderRestsSoonLaw }
+    ensures receiver_soon { ReceiverRestsSoonLaw }
 {}
 
 /// A broadcast that is polled at whatever moment first, and then each time when it asks to be, sends all

@@ -1,5 +1,5 @@
 //! The receiving end of directed transfers (J1939-21, 5.10.3).
-ghost use Rattle.std.specs.Prelude.{◌≡◌, ◌≤◌, ◌↔◌, ◌||◌, ◌∷◌, ◌++◌, [], IsTrue, IsSome, IfSome, IfOk, OnErr, Bool, true, false, List, None, length};
+ghost use Rattle.std.specs.Prelude.{◌≡◌, ◌≤◌, ◌<◌, ◌+◌, ◌^◌, ◌↔◌, ◌||◌, ◌∷◌, ◌++◌, [], ℕ, IsTrue, IsSome, IfSome, IfOk, OnErr, Bool, true, false, List, None, length};
 ghost use Rattle.std.specs.Borrow.{sem};
 ghost use Rattle.std.specs.Io.BufRead.{Rests};
 ghost use Rattle.std.specs.Option.{is_some, option_map};
@@ -10,7 +10,7 @@ ghost use Rattle.j39_transport.specs.Cutting.{to_send};
 ghost use Rattle.j39_transport.specs.Frames.{source_of};
 ghost use Rattle.j39_transport.specs.Key.Key.{Directed};
 ghost use Rattle.j39_transport.specs.ReceiverStands.{ReceiverStandsFor, WereHanded, HasHeard};
-ghost use Rattle.j39_transport.specs.Reception.{takes_request, takes_data, takes_abort, takes_signal, takes_tick, is_taken};
+ghost use Rattle.j39_transport.specs.Reception.{takes_request, takes_data, takes_abort, takes_signal, takes_tick, is_taken, limit_of};
 ghost use Rattle.j39_transport.specs.Receiving.{said_to, RecvStep, HearStep, Tick, Heard, recv_step, answer_in, result_of, new_receiver, partner_of};
 ghost use Rattle.j39_transport.specs.SessionModel.{opened_by};
 ghost use Rattle.j39_transport.specs.SignalModel.{said};
@@ -168,6 +168,63 @@ impl Receiver {
         }
     }
 
+    /// The abort that refuses an RTS for whose message there is no room elsewhere, as one does that finds no memory; for
+    /// a receiver with no session.
+    #[tactic(auto, unfolding(crate::specs::Receiving::recv_step, crate::specs::Reception::takes_signal, crate::specs::Reception::takes_request, crate::specs::Reception::takes_data, crate::specs::Reception::takes_abort))]
+    pub fn refuse(&self, frame: &Frame) -> Option<(Id, [u8; 8])>
+        ensures { self.now.state.session ≡ None → (now : ℕ) → recv_step self.now.state (Heard frame.now) now false
+            ≡ record { after = self.now.state; sends = option_map to_send result; delivers = None } }
+    {
+        match said_to(self.own, frame) {
+            Some(Signal::RequestToSend(announcement, _)) => {
+                let abort = Signal::Abort(NO_RESOURCES, announcement.group.raw());
+                Some(signal::write(abort, self.own, signal::source_in(frame)))
+            }
+            Some(Signal::BroadcastAnnounce(_)) => None,
+            Some(Signal::ClearToSend(_, _, _)) => None,
+            Some(Signal::Acknowledgment(_, _, _)) => None,
+            Some(Signal::Abort(_, _)) => None,
+            Some(Signal::Packet(_, _)) => None,
+            None => None,
+        }
+    }
+
+    /// Ends the session, if one is open, without a frame.
+    pub fn end(&mut self)
+        ensures state { self.new.state ≡ new_receiver self.old.state.own }
+        ensures buffer { self.new.has_box ≡ self.old.has_box }
+    {
+        self.buffers.end();
+    }
+
+    /// The address that it is at.
+    pub fn address(&self) -> u8
+        ensures { result ≡ self.now.state.own }
+    {
+        self.own
+    }
+
+    /// Whose session is open.
+    pub fn source(&self) -> Option<u8>
+        ensures { result ≡ option_map (λ r. r.message.source) self.now.state.session }
+    {
+        match &self.buffers.session {
+            Some(session) => Some(session.source()),
+            None => None,
+        }
+    }
+
+    /// The moment, in microseconds, after which a tick answers a frame; `None` with no session.
+    pub fn limit(&self) -> Option<u64>
+        ensures value { result ≡ option_map (λ r. r.message.last + limit_of r) self.now.state.session }
+        ensures fits { IfSome result (λ moment. moment < 2 ^ 54) }
+    {
+        match &self.buffers.session {
+            Some(session) => Some(session.limit()),
+            None => None,
+        }
+    }
+
     /// Whether a session is open. A controller starts its next message to a receiver when this is
     /// false there.
     pub fn busy(&self) -> bool
@@ -236,6 +293,16 @@ impl Buffers {
         match &self.session {
             None => false,
             Some(session) => source != session.source(),
+        }
+    }
+
+    /// Ends the session, and keeps its buffer.
+    fn end(&mut self)
+        ensures session { self.new.session ≡ None }
+        ensures buffer { has_box self.new ≡ has_box self.old }
+    {
+        if let Some(session) = self.session.take() {
+            self.spare = Some(session);
         }
     }
 

@@ -1,8 +1,8 @@
 //! One message that a receiver is receiving.
-ghost use Rattle.std.specs.Prelude.{◌≡◌, ◌<◌, ◌≤◌, ◌+◌, length, take, Some};
+ghost use Rattle.std.specs.Prelude.{◌≡◌, ◌<◌, ◌≤◌, ◌+◌, ◌^◌, length, take, Some};
 ghost use Rattle.j39_frame.specs.Pgn.{pgn_raw};
 ghost use Rattle.j39_frame.specs.Stamp.{stamp_micros};
-ghost use Rattle.j39_transport.specs.Reception.{begun, most_named, granted_at, window, asks_again, goes_on, takes_packet, takes_tick};
+ghost use Rattle.j39_transport.specs.Reception.{begun, most_named, granted_at, window, asks_again, goes_on, takes_packet, takes_tick, limit_of};
 ghost use Rattle.j39_transport.specs.ReceiverModel.{stepped, IsStep};
 ghost use Rattle.j39_transport.specs.SessionModel.{opened_by};
 ghost use Rattle.j39_transport.specs.SignalModel.{said};
@@ -176,6 +176,15 @@ impl Reception {
         }
     }
 
+    /// The moment after which a tick asks again.
+    pub(crate) fn limit(&self) -> u64
+        ensures value { result ≡ self.now.message.last + limit_of self.now }
+        ensures fits { result < 2 ^ 54 }
+    {
+        let wait = if self.fresh { TIMER_T2 } else { TIMER_T1 };
+        self.message.last().micros() + wait
+    }
+
     /// Lets time pass.
     #[tactic(auto, unfolding(crate::specs::Reception::takes_tick))]
     pub(crate) fn tick(&mut self, now: Stamp) -> Step
@@ -183,8 +192,7 @@ impl Reception {
         ensures step { stepped result self.new ≡ takes_tick (stamp_micros now) (Some self.old) }
         ensures open { IsStep result self.new }
     {
-        let limit = if self.fresh { TIMER_T2 } else { TIMER_T1 };
-        if now.micros() > self.message.last().micros() + limit {
+        if now.micros() > self.limit() {
             self.ask_again(now)
         } else {
             Step::Quiet

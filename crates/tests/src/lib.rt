@@ -10,9 +10,19 @@ mod claimer;
 mod controller_pairs;
 pub mod examples;
 #[cfg(test)]
+mod fault_messages;
+#[cfg(test)]
 mod listener_memory;
 #[cfg(test)]
 mod node;
+#[cfg(test)]
+mod node_asks;
+#[cfg(test)]
+mod node_hears;
+#[cfg(test)]
+mod node_receives;
+#[cfg(test)]
+mod node_transfers;
 #[cfg(test)]
 mod quick_lines;
 #[cfg(test)]

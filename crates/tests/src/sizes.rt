@@ -17,5 +17,5 @@ fn memory_of_the_parts(rt: HostRuntime) {
         size_of::<Controller>(),
         size_of::<j39_node::Controller>(),
     ];
-    assert_eq!(rt; met, [4_088, 4_064, 4_336, 40, 64, 72, 40, 12_864, 7_440]);
+    assert_eq!(rt; met, [4_088, 4_064, 4_336, 40, 64, 72, 40, 12_864, 13_248]);
 }

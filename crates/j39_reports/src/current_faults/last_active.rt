@@ -1,14 +1,13 @@
 //! What the last message of active codes of a controller says.
 ghost use Rattle.std.specs.Prelude.{◌≡◌, ◌≤◌, Some, length, map, option_map};
-ghost use Rattle.std.specs.List.{last_or};
 ghost use Rattle.j39_address.specs.Name.{name_raw};
 ghost use Rattle.j39_faults.specs.Conversions.{version_for};
-ghost use Rattle.j39_frame.specs.Origin.{is_same_or_none};
 ghost use Rattle.j39_listen.specs.HeardModel.{hearing_of};
 ghost use Rattle.j39_reports.specs.FaultsNow.{codes_in, is_same_name};
 ghost use Rattle.j39_reports.specs.CurrentPlaces.{last_by, next_standings, standing_record, standings_under};
 
 use crate::current_faults::standing::{Standing, Standings, next_standings};
+use crate::fault_news::last_message::is_same_or_none;
 use j39_address::Name;
 use j39_faults::{Conversion, Lamps, version_for};
 use j39_frame::Stamp;
@@ -105,16 +104,5 @@ impl LastActive {
             (Some(_), None) => false,
             (Some(one), Some(name)) => one.raw() == name.raw(),
         }
-    }
-}
-
-fn is_same_or_none(one: Option<Name>, other: Option<Name>) -> bool
-    ensures { result ≡ is_same_or_none (option_map name_raw one) (option_map name_raw other) }
-{
-    match (one, other) {
-        (None, None) => true,
-        (None, Some(_)) => false,
-        (Some(_), None) => false,
-        (Some(one), Some(other)) => one.raw() == other.raw(),
     }
 }

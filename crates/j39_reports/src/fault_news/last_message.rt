@@ -51,7 +51,7 @@ impl LastMessage {
     pub(crate) fn bytes_under(&self, name: Option<Name>) -> &[u8]
         ensures { result.now ≡ said_before (Some self.now) (option_map name_raw name) }
     {
-        if is_same_name(self.name, name) {
+        if is_same_or_none(self.name, name) {
             self.bytes.as_slice()
         } else {
             &[]
@@ -62,7 +62,7 @@ impl LastMessage {
     pub(crate) fn is(&self, version: Option<Version>, payload: &[u8], name: Option<Name>) -> bool
         ensures { result ≡ is_said version self.now payload.now (option_map name_raw name) }
     {
-        tells_same(version, self.bytes.as_slice(), payload) && is_same_name(self.name, name)
+        tells_same(version, self.bytes.as_slice(), payload) && is_same_or_none(self.name, name)
     }
 }
 
@@ -79,7 +79,8 @@ fn front_of(payload: &[u8]) -> &[u8]
     }
 }
 
-fn is_same_name(one: Option<Name>, other: Option<Name>) -> bool
+/// Whether two messages came under one NAME, or both under none.
+pub(crate) fn is_same_or_none(one: Option<Name>, other: Option<Name>) -> bool
     ensures { result ≡ is_same_or_none (option_map name_raw one) (option_map name_raw other) }
 {
     match (one, other) {

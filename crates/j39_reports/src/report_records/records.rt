@@ -77,6 +77,7 @@ impl EntryForm for RecordForm {
 
     ghost text_by = { entry_record };
 
+    #[inline(always)]
     fn put_heard<W: Sink>(
         &mut self,
         heard: &Heard<'_>,

@@ -2,7 +2,7 @@
 use Rattle.std.proofs.Common.{◌≡◌, ◌∙◌, Some, None, codes, rules, sym}
 use Rattle.clap.specs.Words.{first_value, found_of}
 use Rattle.j39_cli.specs.FaultsCommand.{told_by}
-use Rattle.j39_cli.proofs.TakenLemmas.{input_read, value_read, value_wrong}
+use Rattle.j39_cli.proofs.TakenLemmas.{input_read, input_wrong, value_read, value_wrong}
 use Rattle.j39_cli.proofs.faults.task.Goals as goal
 
 pub returns-in-Err-conversions_value : goal.returns-in-Err-conversions_value
@@ -27,4 +27,13 @@ returns-in-Some c =
           }));
       memory = search rules;
       in_range = search rules;
+    }
+
+pub returns-in-Err : goal.returns-in-Err
+returns-in-Err c =
+    let found = found_of c.args.given.now in
+    record {
+      answer = input_wrong (first_value found (codes "bus")) _ _ _ c.in-Err.ensures;
+      memory = search rules;
+      in_range = tt;
     }

@@ -9,3 +9,6 @@ returns-clause-due c = law.due_now
 
 pub returns-clause-ticks : goal.returns-clause-ticks
 returns-clause-ticks c = law.ticks
+
+pub returns-clause-taken : goal.returns-clause-taken
+returns-clause-taken c = law.due_then

@@ -1,8 +1,12 @@
-use Rattle.std.proofs.Common.{◌∙◌, ap, refl}
+use Rattle.std.proofs.Common.{◌∙◌, ap, refl, not, Bool, ℕ}
 use Rattle.j39_frame.specs.Frame.{FrameRecord}
-use Rattle.j39_node.specs.Is.{request_by}
+use Rattle.j39_frame.specs.Stamp.{stamp_micros}
+use Rattle.j39_node.specs.Is.{asking_of, hears_with, port_of, request_by, who_of, hearing_of, incoming_of, made_by}
+use Rattle.j39_node.specs.Transfers.{hears_if}
 use Rattle.std.specs.Option.{option_map}
-use Rattle.j39_node.specs.Hold.{passed}
+use Rattle.j39_node.specs.Hold.{lost, passed}
+use Rattle.j39_address.specs.Name.{name_raw}
+use Rattle.j39_node.proofs.PortLemmas.{peers_are}
 use Rattle.j39_node.proofs.CallLemmas.{passed_is, heard_more, news_heard}
 use Rattle.j39_node.proofs.controller.Controller.hear.Goals as goal
 
@@ -12,8 +16,20 @@ returns c = λ w H h.
     let p = passed_is w H f.stamp c.args.self.now.hold c.passed-self.result h.hold
     (c.passed-self.ensures ∙ ap (λ (g : FrameRecord). passed g.stamp c.args.self.now.hold) c.frame.view_is) in
     heard_more w H c.args.self.now _ f c.passed-self.result c.is_held-is_held.result c.is_for_program-wanted.result c.is_lost-is_lost.result
-    c.is_driven_away-drives_away.result c.calls_for_claim-calls.result (option_map request_by c.asked-request.result) h p c.is_held-is_held.ensures c.is_for_program-wanted.ensures
+    c.is_driven_away-drives_away.result c.calls_for_claim-calls.result c.is_replaced-is_replaced.result c.hear-unheard.result (option_map request_by c.asked-request.result) h p c.is_held-is_held.ensures c.is_for_program-wanted.ensures
     c.offer.ensures.unread c.offer.ensures.missed c.is_driven_away-drives_away.ensures c.is_lost-is_lost.ensures c.calls_for_claim-calls.ensures
-    c.hear.ensures.waiting c.hear.ensures.due c.asked-request.ensures c.note-changed.ensures.knows
-    (news_heard c.args.self.now.news _ _ _ _ _ _ c.heard-self.ensures c.is_another-another.ensures c.misses-misses.ensures)
-    c.heard-self-2.ensures refl refl refl refl refl
+    c.hear.ensures.waiting c.hear.ensures.due c.asked-request.ensures c.hear-2.ensures.knows
+    (news_heard c.args.self.now.news _ _ _ _ _ _ _ c.heard-self.ensures c.is_another-another.ensures c.misses-misses.ensures)
+    c.heard-self-2.ensures refl refl refl refl refl c.hear-2.ensures.heard
+    (peers_are (port_of c.args.self.now.transfers).current c.is_replaced-is_replaced.result (option_map name_raw c.peer-before.result) (option_map name_raw c.peer.result)
+    c.args.self.now.holders _ c.peer-before.ensures c.peer.ensures c.is_replaced-is_replaced.ensures)
+    (λ r e. c.hear-3.ensures.current r e
+    ∙ (ap (λ (b : Bool). hears_if b r f (stamp_micros c.clock.result) (port_of c.args.self.now.transfers).current) c.is_lost.ensures
+    ∙ ap (λ (n : ℕ). hears_if (lost c.heard-self-2.result.standing) r f n (port_of c.args.self.now.transfers).current) c.clock.ensures))
+    c.hear-3.ensures.token
+    c.made-made.result
+    (c.made-made.ensures ∙ ap (λ (b : Bool). made_by b (incoming_of c.hear-2.new.self).reception.waits) c.has_place-has_place.ensures)
+    (c.hear-4.ensures ∙ ap (λ (b : Bool). option_map (hears_with (who_of c.args.self.now.own) b c.heard-self-2.result.wait f c.made-made.result) (asking_of c.args.self.now.asking)) c.is_lost-2.ensures)
+    (not c.is_same-is_left.result) (option_map name_raw c.speaker-speaker.result) (option_map name_raw c.speaker.result) (hearing_of c.leave.new.self)
+    c.speaker-speaker.ensures c.speaker.ensures (ap not c.is_same-is_left.ensures) c.leave.ensures.current c.leave.ensures.missed
+    c.hear-unheard.ensures.unheard c.hear-unheard.ensures.missed c.hear-unheard.ensures.current

@@ -1,9 +1,10 @@
 use Rattle.std.proofs.Common.{◌∙◌, ap, sym, Some}
+use Rattle.std.specs.Option.{option_map}
 use Rattle.j39_frame.specs.Stamp.{stamp_micros}
 use Rattle.j39_node.specs.History.{Who}
-use Rattle.j39_node.specs.Is.{refusal_by}
+use Rattle.j39_node.specs.Is.{refusal_by, stamped}
 use Rattle.j39_node.proofs.QueueLemmas.{read, read_none}
-use Rattle.j39_node.proofs.CallLemmas.{passed_is, holds_is, peeks_claim, peeks_none, peeks_due, peeks_message}
+use Rattle.j39_node.proofs.CallLemmas.{passed_is, holds_is, peeks_claim, peeks_none, peeks_due, peeks_message, peeks_reply, a_reply, no_reply}
 use Rattle.j39_node.proofs.controller.Controller.peek_frame.Goals as goal
 
 pub returns-then-is_claim_due : goal.returns-then-is_claim_due
@@ -24,9 +25,18 @@ returns-in-Some c = λ w H h.
     (read c.as_slice.result.now _ _ _ c.as_slice.ensures.value c.in-Some.ensures.lookup.3.0 c.in-Some.ensures.lookup.1)
     (c.acknowledgment.ensures ∙ ap (λ (v : Who). Some (stamp_micros c.args.now, refusal_by v c.in-Some.due.now)) h.who)
 
-pub returns-in-None : goal.returns-in-None
-returns-in-None c = λ w H h.
+pub returns-in-None-frame : goal.returns-in-None-frame
+returns-in-None-frame c = λ w H h.
     let p = passed_is w H (stamp_micros c.args.now) c.args.self.now.hold c.passed-hold.result h.hold c.passed-hold.ensures in
     let b = sym (holds_is w H (stamp_micros c.args.now) c.passed-hold.result c.is_held.result p c.is_held.ensures) ∙ c.if-not-is_held.false in
-    peeks_message w H c.args.self.now (stamp_micros c.args.now) _ _ h (sym c.is_claim_due.ensures ∙ c.if-is_claim_due.false) b
-    (read_none c.as_slice.result.now _ _ c.as_slice.ensures.value c.in-None.ensures.lookup.3) p.pause c.peek_message.ensures
+    peeks_message w H c.args.self.now (stamp_micros c.args.now) _ _ _ h (sym c.is_claim_due.ensures ∙ c.if-is_claim_due.false) b
+    (read_none c.as_slice.result.now _ _ c.as_slice.ensures.value c.in-None.ensures.lookup.3)
+    (no_reply w H c.args.self.now (stamp_micros c.args.now) h _ c.frame.ensures c.in-None-frame.is) p.pause p.age c.peek_message.ensures
+
+pub returns-in-Some-frame : goal.returns-in-Some-frame
+returns-in-Some-frame c = λ w H h.
+    let p = passed_is w H (stamp_micros c.args.now) c.args.self.now.hold c.passed-hold.result h.hold c.passed-hold.ensures in
+    let b = sym (holds_is w H (stamp_micros c.args.now) c.passed-hold.result c.is_held.result p c.is_held.ensures) ∙ c.if-not-is_held.false in
+    let x = a_reply w H c.args.self.now (stamp_micros c.args.now) h c.in-Some-frame.reply (ap (option_map stamped) (sym c.in-Some-frame.is) ∙ c.frame.ensures) in
+    peeks_reply w H c.args.self.now (stamp_micros c.args.now) (Some c.in-Some-frame.reply) x.0 h (sym c.is_claim_due.ensures ∙ c.if-is_claim_due.false) b
+    (read_none c.as_slice.result.now _ _ c.as_slice.ensures.value c.in-None.ensures.lookup.3) x.1 x.2

@@ -21,7 +21,7 @@ returns-else-is_full c = λ w H h.
     (ap (λ (v : Who). can_send v d) (sym h.who) ∙ c.in-Some.ensures.known.0 refl)
     (sym c.is_full.ensures.value ∙ c.if-is_full.false)
     (c.in-Some.ensures.value ∙ ap (λ (v : Who). (c.args.self.now.next_token, message_from v d)) h.who)
-    c.push.ensures.items (omega arith) refl refl refl refl refl refl refl
+    c.push.ensures.items (omega arith) refl refl refl refl refl refl refl refl refl refl refl
 
 pub returns-then-is_full : goal.returns-then-is_full
 returns-then-is_full c = λ w H h.

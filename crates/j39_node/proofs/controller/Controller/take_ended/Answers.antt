@@ -9,10 +9,10 @@ pub returns-then-self-gt0 : goal.returns-then-self-gt0
 returns-then-self-gt0 c = λ w H h.
     let f = first posted _ _ c.remove-first.result (length (told H)) (accepted w H) h.outgoing
     (not_empty _ _ c.is_empty.ensures c.if-is_empty.false) c.remove-first.ensures.value c.remove-first.ensures.items in
-    told_done w H c.args.self.now _ c.remove-first.result h f (omega (arith, c.if-self-gt0.true)) (omega arith) refl refl refl refl refl refl refl refl
+    told_done w H c.args.self.now _ c.remove-first.result h f (omega (arith, c.if-self-gt0.true)) (omega arith) refl refl refl refl refl refl refl refl refl refl refl refl
 
 pub returns-then-is_lost : goal.returns-then-is_lost
 returns-then-is_lost c = λ w H h.
     let f = first posted _ _ c.remove-first-then-is_lost.result (length (told H)) (accepted w H) h.outgoing
     (not_empty _ _ c.is_empty.ensures c.if-is_empty.false) c.remove-first-then-is_lost.ensures.value c.remove-first-then-is_lost.ensures.items in
-    told_withdrawn w H c.args.self.now _ c.remove-first-then-is_lost.result h f (omega (arith, c.if-self-gt0.false)) (sym c.is_lost.ensures ∙ c.if-is_lost.true) refl refl refl refl refl refl refl refl refl
+    told_withdrawn w H c.args.self.now _ c.remove-first-then-is_lost.result h f (omega (arith, c.if-self-gt0.false)) (sym c.is_lost.ensures ∙ c.if-is_lost.true) refl refl refl refl refl refl refl refl refl refl refl refl refl

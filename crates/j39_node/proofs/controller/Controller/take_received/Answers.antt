@@ -15,6 +15,7 @@ returns c = λ w H h.
       outgoing = h.outgoing;
       taken = h.taken;
       token = h.token;
+      asking = h.asking;
       unread = f.rest ∙ ap (λ (n : ℕ). drop n (kept w H)) (sym (length_one_more (got H) (received_by c.remove-first.result)));
       requests = h.requests;
       acknowledgments = h.acknowledgments;
@@ -22,4 +23,7 @@ returns c = λ w H h.
       holders = h.holders;
       missed = h.missed;
       lane = h.lane;
+      incoming = h.incoming;
+      port = h.port;
+      hearing = h.hearing;
     }

@@ -1,16 +1,15 @@
--- Each word in turn is a number of 19 bits, or there is no list.
-use Rattle.std.proofs.Common.{◌≡◌, ◌∙◌, ◌^◌, ◌∷◌, [], ◌++◌, ap, arith, eqb, eqb-true, length, rules, subst, sym}
+-- Each word in turn is a sender, or there is no list.
+use Rattle.std.proofs.Common.{◌≡◌, ◌∙◌, ◌∷◌, [], ◌++◌, ap, arith, eqb, eqb-true, length, rules, subst, sym}
 use borrow.Author.Tests.{tests}
 use Rattle.std.proofs.lemmas.Bool.{eqb-false}
 use Rattle.std.proofs.lemmas.List.{length_push}
 use Rattle.std.proofs.lemmas.Iterator.Splits.{YieldsList-from_slice_split}
 use Rattle.std.proofs.lemmas.Iterator.Consumers.{YieldsList-at, YieldsList-turn, YieldsList-end}
 use Rattle.arrayvec.specs.ArrayVec.{array_vec_len}
-use Rattle.std.specs.Str.Parse.{digits_value}
-use Rattle.j39_cli.specs.Numbers.{IsNumberBelow}
+use Rattle.j39_cli.specs.Asked.{IsSender, sender_in}
 use Rattle.j39_cli.specs.Lists.{words_in}
 use Rattle.j39_cli.proofs.ListLemmas.{AreRead, all_read, no_value, reads_more}
-use Rattle.j39_cli.proofs.spns.spns_of.Goals as goal
+use Rattle.j39_cli.proofs.asked.senders_of.Goals as goal
 
 pub returns-then-is_full : goal.returns-then-is_full
 returns-then-is_full c =
@@ -18,7 +17,7 @@ returns-then-is_full c =
     (YieldsList-from_slice_split _ (λ b. eqb b 44) c.args.text.now c.split-word-items.ensures.rest c.split-word-items.ensures.done
     c.split-word-items.ensures.closure (λ x b q k. search (rules, tests))))
     c.loop-word.yielded _ c.loop-word.yielded_by _ _ c.in-Some.word c.in-Some.is c.next.ensures.steps in
-    let full : array_vec_len c.loop-word.numbers ≡ 32 = eqb-true _ _ (sym c.is_full.ensures.value ∙ c.if-is_full.true) in
+    let full : array_vec_len c.loop-word.senders ≡ 32 = eqb-true _ _ (sym c.is_full.ensures.value ∙ c.if-is_full.true) in
     λ list. (let few = list.few in let here = turn.0 in let len = c.loop-word.invariant.1 in absurd (omega (arith, full, few, here, len)))
 
 pub loop-word-preserved : goal.loop-word-preserved
@@ -28,23 +27,23 @@ loop-word-preserved c =
     c.split-word-items.ensures.closure (λ x b q k. search (rules, tests))))
     c.loop-word.yielded _ c.loop-word.yielded_by _ _ c.in-Some.word c.in-Some.is c.next.ensures.steps in
     let next = length_push c.loop-word.yielded c.in-Some.word in
-    let spn = c.in-Some-number_below.ensures in
+    let here = c.in-Some-sender_of.ensures in
     let len = c.push.ensures.len in
     let before = c.loop-word.invariant.1 in (
-      subst (AreRead (IsNumberBelow (2 ^ 19)) (digits_value 10) (words_in c.args.text.now) (length (c.loop-word.yielded ++ c.in-Some.word ∷ [])))
-          (ap (λ n. c.loop-word.numbers.items ++ (n ∷ [])) (sym spn.1) ∙ sym c.push.ensures.items)
-          (reads_more _ _ (words_in c.args.text.now) (length c.loop-word.yielded) _ c.in-Some.word.now c.loop-word.numbers.items turn.0 next turn.1 spn.0 c.loop-word.invariant.0),
+      subst (AreRead IsSender sender_in (words_in c.args.text.now) (length (c.loop-word.yielded ++ c.in-Some.word ∷ [])))
+          (ap (λ n. c.loop-word.senders.items ++ (n ∷ [])) (sym here.1) ∙ sym c.push.ensures.items)
+          (reads_more _ _ (words_in c.args.text.now) (length c.loop-word.yielded) _ c.in-Some.word.now c.loop-word.senders.items turn.0 next turn.1 here.0 c.loop-word.invariant.0),
       omega (arith, next, len, before),
       (let fits = c.is_full.ensures.fits in let other = eqb-false _ _ (sym c.is_full.ensures.value ∙ c.if-is_full.false) in omega (arith, next, before, fits, other)),
     )
 
-pub returns-in-None-number_below : goal.returns-in-None-number_below
-returns-in-None-number_below c =
+pub returns-in-None-sender_of : goal.returns-in-None-sender_of
+returns-in-None-sender_of c =
     let turn = YieldsList-turn (YieldsList-at c.into_iter-word-iterator.ensures.into_iter_gives
     (YieldsList-from_slice_split _ (λ b. eqb b 44) c.args.text.now c.split-word-items.ensures.rest c.split-word-items.ensures.done
     c.split-word-items.ensures.closure (λ x b q k. search (rules, tests))))
     c.loop-word.yielded _ c.loop-word.yielded_by _ _ c.in-Some.word c.in-Some.is c.next.ensures.steps in
-    no_value _ (digits_value 10) c.args.text.now c.in-Some.word.now (length c.loop-word.yielded) turn.0 turn.1 c.in-None-number_below.ensures
+    no_value _ sender_in c.args.text.now c.in-Some.word.now (length c.loop-word.yielded) turn.0 turn.1 c.in-None-sender_of.ensures
 
 pub returns : goal.returns
 returns c =
@@ -52,4 +51,4 @@ returns c =
     (YieldsList-from_slice_split _ (λ b. eqb b 44) c.args.text.now c.split-word-items.ensures.rest c.split-word-items.ensures.done
     c.split-word-items.ensures.closure (λ x b q k. search (rules, tests))))
     c.loop-word.yielded _ c.loop-word.yielded_by _ _ c.in-None.is c.next.ensures.steps in
-    all_read _ _ c.args.text.now (length c.loop-word.yielded) c.loop-word.numbers.items (let e = end.1 in omega (arith, e)) (let e = end.1 in let len = c.loop-word.invariant.1 in let few = c.loop-word.invariant.2 in omega (arith, e, few)) c.loop-word.invariant.0
+    all_read _ _ c.args.text.now (length c.loop-word.yielded) c.loop-word.senders.items (let e = end.1 in omega (arith, e)) (let e = end.1 in let len = c.loop-word.invariant.1 in let few = c.loop-word.invariant.2 in omega (arith, e, few)) c.loop-word.invariant.0

@@ -1,0 +1,55 @@
+-- A frame of a group that is heard, or of another.
+use Rattle.std.proofs.Common.{◌≡◌, ◌∙◌, ap, false, refl, sym}
+use Rattle.std.specs.Prelude.{Err, None}
+use Rattle.j39_frame.specs.Frame.{FrameRecord}
+use Rattle.j39_frame.specs.Identifier.{pgn_of}
+use Rattle.j39_frame.specs.Stamp.{stamp_micros}
+use Rattle.j39_groups.specs.Readings.{is_network_group, is_reported_in}
+use Rattle.j39_listen.specs.Filter.{filter_of}
+use Rattle.j39_listen.specs.FilteredSoFar.{Subject}
+use Rattle.j39_listen.specs.ReportSoFar.{made_by}
+use Rattle.j39_listen.specs.declared.filtered.Filtered.{Filtered}
+use Rattle.j39_listen.proofs.FilteredAccount.{filtered_meets, filtered_stops, taken_silent}
+use Rattle.j39_listen.proofs.ListenerLemmas.{hears_single, outside_claims, silent_outside}
+use Rattle.j39_listen.proofs.PieceLemmas.{same_fault}
+use Rattle.j39_listen.proofs.Reported.{reported_leaves}
+use Rattle.j39_listen.proofs.filtered.FilteredAccount.feed.Goals as goal
+
+pub put_frame-requires : goal.put_frame-requires
+put_frame-requires g c = c.is_reported-is_single.ensures ∙ ap (is_reported_in c.args.self.now.groups.now) (c.pgn.ensures ∙ ap (λ (x : FrameRecord). pgn_of x.id) c.frame.view_is)
+
+pub returns-then-not-is_network_group-clause-met : goal.returns-then-not-is_network_group-clause-met
+returns-then-not-is_network_group-clause-met g c =
+    let self = c.args.self.now in
+    let groups = self.groups.now in
+    let frame = c.args.frame.now in
+    let first = c.first_at-first.result in
+    let report : Filtered g.row.E.Denot =
+    record { groups = self.groups; filter = self.filter; first = c.first_at-first.new.first; listener = self.listener; made = c.and-self.result; form = self.form } in
+    let own : Subject = record { rows = groups; which = filter_of self.filter } in
+    let other : is_reported_in groups (pgn_of frame.id) ≡ false =
+    ap (is_reported_in groups) (sym (c.pgn.ensures ∙ ap (λ (x : FrameRecord). pgn_of x.id) c.frame.view_is)) ∙ (sym c.is_reported-is_single.ensures ∙ c.if-not-is_single.true) in
+    let free : is_network_group (pgn_of frame.id) ≡ false =
+    ap is_network_group (sym (c.pgn-then-not-is_single.ensures ∙ ap (λ (x : FrameRecord). pgn_of x.id) c.frame.view_is)) ∙ (sym c.is_network_group.ensures ∙ c.if-not-is_network_group.true) in
+    λ subject. filtered_meets g.E.EntryForm.text_by subject self report refl refl first c.first_at-first.ensures.kept frame c.first_at-first.ensures.value
+    (made_by None) _ _ (λ F h.
+    taken_silent g.E.EntryForm.text_by own (stamp_micros first) self.listener F frame _
+    (silent_outside (is_reported_in groups) (reported_leaves groups) self.listener F frame free other h)
+    (hears_single self.listener F frame free (outside_claims frame free) h)) c.and-self.ensures
+
+pub returns-in-Ok-clause-met : goal.returns-in-Ok-clause-met
+returns-in-Ok-clause-met g c =
+    let met = c.in-Ok.ensures.met in
+    let self = c.args.self.now in
+    let report : Filtered g.row.E.Denot =
+    record { groups = self.groups; filter = self.filter; first = c.first_at-first.new.first; listener = c.put_frame.new.listener; made = c.put_frame.new.made; form = c.put_frame.new.form } in
+    λ subject. filtered_meets g.E.EntryForm.text_by subject self report refl refl c.first_at-first.result c.first_at-first.ensures.kept c.args.frame.now
+    c.first_at-first.ensures.value met.0 _ _ met.2 met.1
+
+pub returns-in-Err-clause-stops : goal.returns-in-Err-clause-stops
+returns-in-Err-clause-stops g c = λ fails subject.
+    filtered_stops g.E.EntryForm.text_by subject c.args.self.now c.first_at-first.result c.args.frame.now c.first_at-first.ensures.value _ _
+    (c.in-Err.ensures.stops (ap Err (same_fault _ _ fails))) c.args.arg2.now
+
+pub returns-in-Err-clause-asked : goal.returns-in-Err-clause-asked
+returns-in-Err-clause-asked g c = λ fails subject F output met. c.in-Err.ensures.asked (ap Err (same_fault _ _ fails)) F met.hears

@@ -1,0 +1,46 @@
+-- A message is heard at the frame or none, and its entries are taken or not.
+use Rattle.std.proofs.Common.{◌∙◌, None, Some, sym}
+use Rattle.j39_frame.specs.Stamp.{stamp_micros}
+use Rattle.j39_groups.specs.Readings.{is_reported_in}
+use Rattle.j39_listen.specs.Filter.{filter_of}
+use Rattle.j39_listen.specs.FilteredSoFar.{Subject}
+use Rattle.j39_listen.specs.HeardModel.{hearing_of}
+use Rattle.j39_listen.specs.ReportSoFar.{made_by}
+use Rattle.j39_listen.proofs.FilteredAccount.{taken_heard, taken_silent, taken_stops}
+use Rattle.j39_listen.proofs.ListenerLemmas.{on_ok}
+use Rattle.j39_listen.proofs.Reported.{reported_free, reported_leaves}
+use Rattle.j39_listen.proofs.filtered.put_frame.Goals as goal
+
+pub feed_as-requires : goal.feed_as-requires
+feed_as-requires g c = λ single. reported_free c.args.groups.now _ (sym c.requires ∙ single)
+
+pub returns-in-Ok-None-clause-met : goal.returns-in-Ok-None-clause-met
+returns-in-Ok-None-clause-met g c =
+    let groups = c.args.groups.now in
+    let subject : Subject = record { rows = groups; which = filter_of c.args.filter.now } in (
+      made_by None,
+      c.and.ensures,
+      λ F h.
+          taken_silent g.E.EntryForm.text_by subject (stamp_micros c.args.first) _ F c.args.frame.now _
+          (rw c.in-Ok-None.field-0-is at (c.in-Ok-None.ensures.heard (is_reported_in groups) (reported_leaves groups) (sym c.requires) F h))
+          (on_ok _ _ _ _ c.in-Ok-None.is c.feed_as.follows.holds-at-none F h),
+    )
+
+pub returns-in-Ok-clause-met : goal.returns-in-Ok-clause-met
+returns-in-Ok-clause-met g c =
+    let groups = c.args.groups.now in
+    let subject : Subject = record { rows = groups; which = filter_of c.args.filter.now } in (
+      made_by (Some c.in-Ok.lines),
+      c.and-in-Ok.ensures,
+      λ F h.
+          taken_heard g.E.EntryForm.text_by subject (stamp_micros c.args.first) _ F c.args.frame.now (hearing_of c.in-Ok-Some.heard) c.in-Ok.lines _ _
+          (rw c.in-Ok-Some.field-0-is at (c.in-Ok-Some.ensures.heard (is_reported_in groups) (reported_leaves groups) (sym c.requires) F h))
+          (on_ok _ _ _ _ c.in-Ok-Some.is c.feed_as.follows.holds-at-none F h) c.in-Ok.ensures.lines c.in-Ok.ensures.puts.written,
+    )
+
+pub returns-in-Err-put_taken-clause-stops : goal.returns-in-Err-put_taken-clause-stops
+returns-in-Err-put_taken-clause-stops g c = λ e F h.
+    let groups = c.args.groups.now in
+    let subject : Subject = record { rows = groups; which = filter_of c.args.filter.now } in
+    taken_stops g.E.EntryForm.text_by subject (stamp_micros c.args.first) F c.args.frame.now (hearing_of c.in-Ok-Some.heard) _ _
+    (rw c.in-Ok-Some.field-0-is at (c.in-Ok-Some.ensures.heard (is_reported_in groups) (reported_leaves groups) (sym c.requires) F h)) c.in-Err-put_taken.ensures.puts.front

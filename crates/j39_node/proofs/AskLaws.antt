@@ -1,0 +1,557 @@
+-- The laws of requests.
+use Rattle.std.proofs.Common.{◌≡◌, ◌⊎◌, ◌↔◌, ℕ, suc, ◌+◌, ◌-◌, ◌<◌, ◌≤◌, List, [], ◌∷◌, ◌++◌, length, Option, Some, None, Result, Ok, Err, Bool, true, false, not, ◌&&◌, ◌||◌, if◌then◌else◌, nat_eq, nat_lt, refl, sym, ap, ◌∙◌, subst, inl, inr, arith, eqb-true, IsTrue}
+use Rattle.std.specs.List.{slice_get}
+use Rattle.std.specs.Option.{option_map}
+use Rattle.j39_frame.specs.Frame.{FrameRecord}
+use Rattle.j39_node.specs.declared.controller.Controller.{Controller}
+use Rattle.j39_node.specs.declared.kinds.Answer.{Answer}
+use Rattle.j39_node.specs.declared.kinds.Answer.TheVariants.{Ack, Nack, Denied, Busy}
+use Rattle.j39_node.specs.declared.kinds.AskEnding.{AskEnding}
+use Rattle.j39_node.specs.declared.kinds.AskEnding.TheVariants.{Answered, Acknowledged, TimedOut, Withdrawn}
+use Rattle.j39_node.specs.declared.kinds.Refused.{Refused}
+use Rattle.j39_node.specs.declared.kinds.Refused.TheVariants.{NoAddress, BadValue, Full}
+use Rattle.j39_node.specs.History.{Who, Message, Call, accepted, address_after, holds, is_acknowledgment, is_claim, is_full, is_lost, is_session, is_smaller, message_from, message_of, moment, request_for, sent, step, told}
+use Rattle.j39_node.specs.History.Call.{Ask, TakeAskEnded, Hear, TakeFrame}
+use Rattle.j39_address.specs.Claim.{claim_of}
+use Rattle.j39_node.specs.Since.{passed_in}
+use Rattle.j39_node.specs.Asking.{is_whole, made, AskedSince, HeardFirst, NoneEnds, Question, ask_end, asks, can_ask, end_at, ended, ends, first, has_token, is_answer, is_asking, is_message, is_reply, is_request, is_taken, open_ask, question, reaches, said_by, says_to, silent_end, told_asks, wait}
+use Rattle.j39_node.specs.Is.{AreAnswered, Is, IsAnswered}
+use Rattle.j39_node.proofs.AskCases.{AskCase, ask_case, homeless, unfit, busy, asks as accepts}
+use Rattle.j39_node.proofs.AskView.{View, view, asks_one, tells_one, hears_one, takes_one, quiet, get_before}
+use Rattle.j39_node.proofs.QueueLemmas.{get_append, length_one_more}
+use Rattle.j39_node.proofs.SoundLemmas.{both, sound}
+use Rattle.j39_node.proofs.LawLemmas.{full_from, full_parts, not_both, sent_within, stays_lost, stays_lost_claimed}
+
+-- ---- which is open
+
+abbrev Listed : ℕ → List Question → Option Question → Type 0
+Listed n qs None = length qs ≡ n
+Listed n qs (Some q) = (slice_get qs n ≡ Some q) × (length qs ≡ suc n)
+
+pub get_last : {T : Type 0} (L : List T) (y : T) → slice_get (L ++ y ∷ []) (length L) ≡ Some y
+get_last [] y = refl
+get_last (x ∷ L) y = get_last L y
+
+none_open : (b : Bool) (o : Option Question) → (b || is_asking o) ≡ false → o ≡ None
+none_open true o e = absurd (cc)
+none_open false None e = refl
+none_open false (Some q) e = absurd (cc)
+
+opens : (w : Who) (H : List Call) (now group to k : ℕ) → AskCase w H now group to (Ok k) → (can_ask w group to ≡ true) × (open_ask H ≡ None) × (k ≡ length (accepted w H))
+opens w H now group to k (homeless a e) = absurd (cc)
+opens w H now group to k (unfit a b e) = absurd (cc)
+opens w H now group to k (busy a b f e) = absurd (cc)
+opens w H now group to k (accepts a b f e) = (b, none_open (is_full w H) (open_ask H) f, (let z : k ≡ length (accepted w H) = cc in z))
+
+listed : (w : Who) (H : List Call) → AreAnswered w H → Listed (length (told_asks H)) (asks H) (open_ask H)
+listed w [] e = refl
+listed w (call ∷ H) e = go call (view call) e.1 (listed w H e.0)
+  where
+    new : (o : Option Question) (q : Question) → o ≡ None → Listed (length (told_asks H)) (asks H) o → Listed (length (told_asks H)) (asks H ++ q ∷ []) (Some q)
+    new None q z h =
+        (subst (λ (n : ℕ). slice_get (asks H ++ q ∷ []) n ≡ Some q) h (get_last (asks H) q), length_one_more (asks H) q ∙ ap suc h)
+    new (Some p) q z h = absurd (cc)
+
+    over : (o : Option Question) (n left : ℕ) (b : Option AskEnding) (l : Bool) (x : ℕ × AskEnding) → Some x ≡ ask_end o n b left l
+        → Listed (length (told_asks H)) (asks H) o → length (asks H) ≡ length (told_asks H ++ x ∷ [])
+    over None n left b l x z h = absurd (cc)
+    over (Some q) n left b l x z h = h.1 ∙ sym (length_one_more (told_asks H) x)
+
+    go : (call : Call) → View call → IsAnswered w H call → Listed (length (told_asks H)) (asks H) (open_ask H)
+        → Listed (length (told_asks (call ∷ H))) (asks (call ∷ H)) (open_ask (call ∷ H))
+    go _ (asks_one now group to k) right h = new (open_ask H) (question k group to) (opens w H now group to k (ask_case w H now group to (Ok k) right)).1 h
+    go _ (tells_one x) right h = over (open_ask H) (length (sent H)) (wait H) (ended w H) (is_lost (address_after w H)) x right h
+    go _ (hears_one f) right h = h
+    go _ (takes_one now f) right h = h
+    go _ (quiet call s) right h =
+        subst (λ (xs : List (ℕ × AskEnding)). Listed (length xs) (asks (call ∷ H)) (open_ask (call ∷ H))) (sym (s.told H))
+        (subst (λ (qs : List Question). Listed (length (told_asks H)) qs (open_ask (call ∷ H))) (sym (s.asks H))
+        (subst (λ (o : Option Question). Listed (length (told_asks H)) (asks H) o) (sym (s.current H)) h))
+
+-- ---- what it sends
+
+pub request_sent : (w : Who) (H : List Call) → AreAnswered w H → (i : ℕ) (q : Question) → slice_get (asks H) i ≡ Some q
+    → slice_get (accepted w H) q.token ≡ Some (q.token, message_from w (request_for q.group q.to))
+request_sent w [] e i q g = absurd (cc)
+request_sent w (call ∷ H) e i q g = go call (view call) e.1 (request_sent w H e.0) i q g
+  where
+    Sent : List Call → Type 0
+    Sent G = (i : ℕ) (q : Question) → slice_get (asks G) i ≡ Some q → slice_get (accepted w G) q.token ≡ Some (q.token, message_from w (request_for q.group q.to))
+
+    new : (now group to k : ℕ) → k ≡ length (accepted w H) → Sent H → Sent (Ask now group to (Ok k) ∷ H)
+    new now group to k t h = λ i q g. elim (get_append (asks H) (question k group to) i q g) [
+      | inl old ↦ get_before (accepted w H) _ q.token _ (h i q old)
+      | inr last ↦ subst (λ (p : Question). slice_get (accepted w H ++ (k, message_from w (request_for group to)) ∷ []) p.token ≡ Some (p.token, message_from w (request_for p.group p.to)))
+          last.1
+          (subst (λ (n : ℕ). slice_get (accepted w H ++ (k, message_from w (request_for group to)) ∷ []) n ≡ Some (k, message_from w (request_for group to))) (sym t)
+          (get_last (accepted w H) (k, message_from w (request_for group to))))
+    ]
+
+    go : (call : Call) → View call → IsAnswered w H call → Sent H → Sent (call ∷ H)
+    go _ (asks_one now group to k) right h = new now group to k (opens w H now group to k (ask_case w H now group to (Ok k) right)).2 h
+    go _ (tells_one x) right h = h
+    go _ (hears_one f) right h = h
+    go _ (takes_one now f) right h = h
+    go _ (quiet call s) right h = λ i q g. s.grows w H q.token _ (h i q (ap (λ (qs : List Question). slice_get qs i) (sym (s.asks H)) ∙ g))
+
+-- ---- since when it waits
+
+later_asked : (H : List Call) (call : Call) (q : Question) (e : ℕ) → AskedSince H q e → AskedSince (call ∷ H) q (e + step H (moment (call ∷ H)))
+later_asked H call q e h = record {
+  later = call ∷ h.later;
+  earlier = h.earlier;
+  at = h.at;
+  frame = h.frame;
+  is = ap (λ G. call ∷ G) h.is;
+  current = h.current;
+  request = h.request;
+  passed = ap (λ (n : ℕ). n + step H (moment (call ∷ H))) h.passed
+      ∙ ap (λ (G : List Call). passed_in h.later (TakeFrame h.at (Some h.frame) ∷ h.earlier) + step G (moment (call ∷ G))) h.is;
+}
+
+abbrev Waits : List Call → Question → Type 0
+Waits H q = (e : ℕ) × AskedSince H q e × (wait H ≡ 1250000 - e)
+
+waits_on : (H : List Call) (call : Call) (q : Question) → wait (call ∷ H) ≡ wait H - step H (moment (call ∷ H)) → Waits H q → Waits (call ∷ H) q
+waits_on H call q p h = let l = h.2 in (h.0 + step H (moment (call ∷ H)), later_asked H call q h.0 h.1, omega (arith, p, l))
+
+-- a frame that isn't its request takes nothing of it
+not_taken_by : (H : List Call) (now : ℕ) (f : FrameRecord) (q : Question) → open_ask H ≡ Some q → is_request H f ≡ false
+    → is_taken q (TakeFrame now (Some f) ∷ H) ≡ true → is_taken q H ≡ true
+not_taken_by H now f q o r t = go (is_claim f || (is_acknowledgment f || is_session f)) refl r t
+  where
+    less : (k n : ℕ) → nat_eq k n ≡ false → nat_lt k (suc n) ≡ true → nat_lt k n ≡ true
+    less k n e g = grind arith
+
+    go : (b : Bool) → (is_claim f || (is_acknowledgment f || is_session f)) ≡ b → is_request H f ≡ false → is_taken q (TakeFrame now (Some f) ∷ H) ≡ true → is_taken q H ≡ true
+    go true e r t = sym (ap (λ (x : Bool). nat_lt q.token (length (if x then sent H else sent H ++ message_of f ∷ []))) e) ∙ t
+    go false e r t =
+        less q.token (length (sent H)) (sym (ap (λ (x : Bool). not x && has_token (open_ask H) (length (sent H))) e ∙ ap (λ (x : Option Question). has_token x (length (sent H))) o) ∙ r)
+        (sym (ap (λ (x : Bool). nat_lt q.token (length (if x then sent H else sent H ++ message_of f ∷ []))) e ∙ ap (nat_lt q.token) (length_one_more (sent H) (message_of f))) ∙ t)
+
+pub waits : (w : Who) (H : List Call) → AreAnswered w H → (q : Question) → open_ask H ≡ Some q → is_taken q H ≡ true → Waits H q
+waits w [] e q o t = absurd (cc)
+waits w (call ∷ H) e q o t = go call (view call) e.1 (λ i k. waits w H e.0 q i k) o t
+  where
+    late : (k n : ℕ) → n ≤ k → nat_lt k n ≡ true → ⊥
+    late k n l g = grind arith
+
+    fresh : (now group to k : ℕ) → k ≡ length (accepted w H) → question k group to ≡ q → is_taken q H ≡ true → Waits (Ask now group to (Ok k) ∷ H) q
+    fresh now group to k z p g = absurd (late q.token (length (sent H))
+        (let a = sent_within w H (sound w H e.0) in let b = ap (λ (y : Question). y.token) p in omega (arith, a, b, z)) g)
+
+    takes : (now : ℕ) (f : FrameRecord) (b : Bool) → (open_ask H ≡ Some q → is_taken q H ≡ true → Waits H q) → is_request H f ≡ b → open_ask H ≡ Some q → is_taken q (TakeFrame now (Some f) ∷ H) ≡ true
+        → Waits (TakeFrame now (Some f) ∷ H) q
+    takes now f true prior r o t =
+        (0, record { later = []; earlier = H; at = now; frame = f; is = refl; current = o; request = r; passed = refl }, ap (λ (b : Bool). if b then 1250000 else wait H - step H now) r)
+    takes now f false prior r o t =
+        waits_on H (TakeFrame now (Some f)) q (ap (λ (b : Bool). if b then 1250000 else wait H - step H now) r) (prior o (not_taken_by H now f q o r t))
+
+    go : (call : Call) → View call → IsAnswered w H call → (open_ask H ≡ Some q → is_taken q H ≡ true → Waits H q) → open_ask (call ∷ H) ≡ Some q → is_taken q (call ∷ H) ≡ true → Waits (call ∷ H) q
+    go _ (asks_one now group to k) right prior o t =
+        fresh now group to k (opens w H now group to k (ask_case w H now group to (Ok k) right)).2 (let z : question k group to ≡ q = cc in z) t
+    go _ (tells_one x) right prior o t = absurd (cc)
+    go _ (hears_one f) right prior o t = waits_on H (Hear f) q refl (prior o t)
+    go _ (takes_one now f) right prior o t = takes now f (is_request H f) prior refl o t
+    go _ (quiet call s) right prior o t =
+        waits_on H call q (s.wait H) (prior (sym (s.current H) ∙ o) (sym (ap (λ (xs : List Message). nat_lt q.token (length xs)) (s.sent H)) ∙ t))
+
+-- ---- how it ends
+
+abbrev is_word : AskEnding → Bool
+is_word Answered = true
+is_word (Acknowledged a) = true
+is_word TimedOut = false
+is_word Withdrawn = false
+
+-- what a frame says is a word
+said_word : (o : Option ℕ) (e : AskEnding) → said_by o ≡ Some e → is_word e ≡ true
+said_word None e g = absurd (cc)
+said_word (Some c) e g = go (nat_eq c 0) (nat_eq c 1) (nat_eq c 2) (nat_eq c 3) g
+  where
+    word : (a : Answer) → Some (Acknowledged a) ≡ Some e → is_word e ≡ true
+    word a z = let y : Acknowledged a ≡ e = cc in sym (ap is_word y)
+
+    go : (p q r s : Bool) → (if p then Some (Acknowledged Ack) else if q then Some (Acknowledged Nack) else if r then Some (Acknowledged Denied) else if s then Some (Acknowledged Busy) else None) ≡ Some e
+        → is_word e ≡ true
+    go true q r s z = word Ack z
+    go false true r s z = word Nack z
+    go false false true s z = word Denied z
+    go false false false true z = word Busy z
+    go false false false false z = absurd (cc)
+
+says_word : (w : Who) (q : Question) (f : FrameRecord) (m : Option (ℕ × ℕ)) (e : AskEnding) → says_to w q f m ≡ Some e → is_word e ≡ true
+says_word w q f m e g = go (is_whole q m) (reaches w f) (is_answer q f) (is_reply w q f) g
+  where
+    answered : Some Answered ≡ Some e → is_word e ≡ true
+    answered z = let y : Answered ≡ e = cc in sym (ap is_word y)
+
+    go : (d a b c : Bool) → (if d then Some Answered else if a then (if b then Some Answered else if c then said_by (slice_get f.bytes 0) else None) else None) ≡ Some e → is_word e ≡ true
+    go true a b c z = answered z
+    go false false b c z = absurd (cc)
+    go false true true c z = answered z
+    go false true false true z = said_word (slice_get f.bytes 0) e z
+    go false true false false z = absurd (cc)
+
+-- how it ended, and what was before
+data Outcome (w : Who) (H : List Call) (q : Question) (e : AskEnding) : Type 0 where
+  by_word : is_word e ≡ true → HeardFirst w H q e → Outcome w H q e
+  by_time : (n : ℕ) → e ≡ TimedOut → AskedSince H q n → 1250000 ≤ n → Outcome w H q e
+  by_loss : e ≡ Withdrawn → is_lost (address_after w H) ≡ true → Outcome w H q e
+
+later_outcome : (w : Who) (H : List Call) (call : Call) (q : Question) (e : AskEnding) → (is_lost (address_after w H) ≡ true → is_lost (address_after w (call ∷ H)) ≡ true)
+    → Outcome w H q e → Outcome w (call ∷ H) q e
+later_outcome w H call q e l (by_word k h) = by_word k (record {
+  later = call ∷ h.later;
+  frame = h.frame;
+  earlier = h.earlier;
+  is = ap (λ G. call ∷ G) h.is;
+  current = h.current;
+  none = h.none;
+  since = h.since;
+  asked = h.asked;
+  in_time = h.in_time;
+  says = h.says;
+})
+later_outcome w H call q e l (by_time n z h m) = by_time (n + step H (moment (call ∷ H))) z (later_asked H call q n h) (omega (arith, m))
+later_outcome w H call q e l (by_loss z h) = by_loss z (l h)
+
+-- without a word
+silently : (w : Who) (H : List Call) (q : Question) (e : AskEnding) (taken : Bool) (left : ℕ) (lost : Bool) → silent_end taken left lost ≡ Some e
+    → (taken ≡ true → left ≡ 0 → e ≡ TimedOut → Outcome w H q e) → (lost ≡ true → e ≡ Withdrawn → Outcome w H q e) → Outcome w H q e
+silently w H q e taken left lost z time loss = go taken (nat_eq left 0) lost refl refl refl z
+  where
+    go : (a b c : Bool) → taken ≡ a → nat_eq left 0 ≡ b → lost ≡ c → (if a && b then Some TimedOut else if c then Some Withdrawn else None) ≡ Some e → Outcome w H q e
+    go true true c p r s z = time p (eqb-true left 0 r) (let y : TimedOut ≡ e = cc in sym y)
+    go true false true p r s z = loss s (let y : Withdrawn ≡ e = cc in sym y)
+    go true false false p r s z = absurd (cc)
+    go false b true p r s z = loss s (let y : Withdrawn ≡ e = cc in sym y)
+    go false b false p r s z = absurd (cc)
+
+not_over : (taken : Bool) (left : ℕ) (lost : Bool) → silent_end taken left lost ≡ None → (lost ≡ false) × (taken ≡ true → 0 < left)
+not_over taken left lost z = go taken (nat_eq left 0) lost refl refl refl z
+  where
+    some : (n : ℕ) → nat_eq n 0 ≡ false → 0 < n
+    some n e = grind arith
+
+    go : (a b c : Bool) → taken ≡ a → nat_eq left 0 ≡ b → lost ≡ c → (if a && b then Some TimedOut else if c then Some Withdrawn else None) ≡ None
+        → (lost ≡ false) × (taken ≡ true → 0 < left)
+    go true true c p r s z = absurd (cc)
+    go true false true p r s z = absurd (cc)
+    go true false false p r s z = (s, λ t. some left r)
+    go false b true p r s z = absurd (cc)
+    go false b false p r s z = (s, λ t. absurd (let y : false ≡ true = sym p ∙ t in cc))
+
+-- a frame ends it
+ends_by : (w : Who) (H : List Call) (f : FrameRecord) (q : Question) (e : AskEnding) → AreAnswered w H → open_ask H ≡ Some q → ended w H ≡ None
+    → end_at w (Some q) (length (sent H)) (wait H - step H f.stamp) (is_lost (address_after w (Hear f ∷ H))) f (made w H f) ≡ Some e → Outcome w (Hear f ∷ H) q e
+ends_by w H f q e right o n z = go (silent_end (is_taken q H) (wait H - step H f.stamp) (is_lost (address_after w (Hear f ∷ H)))) (is_taken q H) refl refl z
+  where
+    timely : is_taken q H ≡ true → 0 < wait H - step H f.stamp → says_to w q f (made w H f) ≡ Some e → Outcome w (Hear f ∷ H) q e
+    timely t l s =
+        let a = waits w H right q o t in
+        let b = a.2 in
+        by_word (says_word w q f (made w H f) e s) (record {
+          later = [];
+          frame = f;
+          earlier = H;
+          is = refl;
+          current = o;
+          none = n;
+          since = a.0;
+          asked = a.1;
+          in_time = omega (arith, b, l);
+          says = s;
+        })
+
+    out : is_taken q H ≡ true → wait H - step H f.stamp ≡ 0 → e ≡ TimedOut → Outcome w (Hear f ∷ H) q e
+    out t l y =
+        let a = waits w H right q o t in
+        let b = a.2 in
+        by_time (a.0 + step H f.stamp) y (later_asked H (Hear f) q a.0 a.1) (omega (arith, b, l))
+
+    go : (s : Option AskEnding) (b : Bool) → silent_end (is_taken q H) (wait H - step H f.stamp) (is_lost (address_after w (Hear f ∷ H))) ≡ s → is_taken q H ≡ b
+        → first s (if b then says_to w q f (made w H f) else None) ≡ Some e → Outcome w (Hear f ∷ H) q e
+    go (Some x) b p r z = silently w (Hear f ∷ H) q e _ _ _ (p ∙ z) out (λ l y. by_loss y l)
+    go None true p r z = timely r ((not_over (is_taken q H) _ _ p).1 r) z
+    go None false p r z = absurd (cc)
+
+outcome : (w : Who) (H : List Call) → AreAnswered w H → (q : Question) (e : AskEnding) → open_ask H ≡ Some q → ended w H ≡ Some e → Outcome w H q e
+outcome w [] right q e o z = absurd (cc)
+outcome w (call ∷ H) right q e o z = go call (view call) (λ i k. outcome w H right.0 q e i k) o z
+  where
+    hears : (f : FrameRecord) (b : Option AskEnding) → (open_ask H ≡ Some q → ended w H ≡ Some e → Outcome w H q e) → open_ask H ≡ Some q → ended w H ≡ b
+        → first b (end_at w (open_ask H) (length (sent H)) (wait H - step H f.stamp) (is_lost (address_after w (Hear f ∷ H))) f (made w H f)) ≡ Some e → Outcome w (Hear f ∷ H) q e
+    hears f (Some x) prior o p z = later_outcome w H (Hear f) q e (stays_lost (is_smaller w (claim_of f)) (step H f.stamp) (address_after w H)) (prior o (p ∙ z))
+    hears f None prior o p z = ends_by w H f q e right.0 o p
+        (sym (ap (λ (x : Option Question). end_at w x (length (sent H)) (wait H - step H f.stamp) (is_lost (address_after w (Hear f ∷ H))) f (made w H f)) o) ∙ z)
+
+    go : (call : Call) → View call → (open_ask H ≡ Some q → ended w H ≡ Some e → Outcome w H q e) → open_ask (call ∷ H) ≡ Some q → ended w (call ∷ H) ≡ Some e
+        → Outcome w (call ∷ H) q e
+    go _ (asks_one now group to k) prior o z = absurd (cc)
+    go _ (tells_one x) prior o z = absurd (cc)
+    go _ (hears_one f) prior o z = hears f (ended w H) prior o refl z
+    go _ (takes_one now f) prior o z =
+        later_outcome w H (TakeFrame now (Some f)) q e (stays_lost_claimed (is_claim f) (step H now) (address_after w H)) (prior o z)
+    go _ (quiet call s) prior o z = later_outcome w H call q e (λ l. s.lost w H ∙ l) (prior (sym (s.current H) ∙ o) (sym (s.ended w H) ∙ z))
+
+-- the end that is told
+record Told (w : Who) (H : List Call) (k : ℕ) (e : AskEnding) : Type 0 where
+  pub question : Question
+  pub current : open_ask H ≡ Some question
+  pub token : question.token ≡ k
+  pub out : Outcome w H question e
+
+told_is : (w : Who) (H : List Call) (c : Controller) (k : ℕ) (e : AskEnding) → Is w (TakeAskEnded (Some (k, e)) ∷ H) c → Told w H k e
+told_is w H c k e is = go (open_ask H) (ended w H) refl refl is.answered.1
+  where
+    out : (q : Question) (h : Option AskEnding) → open_ask H ≡ Some q → ended w H ≡ h → first h (silent_end (is_taken q H) (wait H) (is_lost (address_after w H))) ≡ Some e
+        → Outcome w H q e
+    out q (Some x) o p z = outcome w H is.answered.0 q e o (p ∙ z)
+    out q None o p z = silently w H q e _ _ _ z
+        (λ t l y. let a = waits w H is.answered.0 q o t in let b = a.2 in by_time a.0 y a.1 (omega (arith, b, l))) (λ l y. by_loss y l)
+
+    by : (q : Question) (o : Option AskEnding) (x : ℕ × AskEnding) → Some x ≡ option_map (λ (y : AskEnding). (q.token, y)) o → (q.token ≡ x.0) × (o ≡ Some x.1)
+    by q None x z = absurd (cc)
+    by q (Some y) x z = let u : x ≡ (q.token, y) = cc in (sym (ap (λ (v : ℕ × AskEnding). v.0) u), sym (ap (λ (v : ℕ × AskEnding). Some v.1) u))
+
+    go : (o : Option Question) (h : Option AskEnding) → open_ask H ≡ o → ended w H ≡ h → Some (k, e) ≡ ask_end o (length (sent H)) h (wait H) (is_lost (address_after w H)) → Told w H k e
+    go None h o p z = absurd (cc)
+    go (Some q) h o p z =
+        let b = by q (first h (silent_end (is_taken q H) (wait H) (is_lost (address_after w H)))) (k, e) z in
+        record { question = q; current = o; token = b.0; out = out q h o p b.1 }
+
+-- ---- what ask answers
+
+answers : (w : Who) (H : List Call) (c : Controller) (now group to : ℕ) (answer : Result ℕ Refused) → Is w (Ask now group to answer ∷ H) c → AskCase w H now group to answer
+answers w H c now group to answer is = ask_case w H now group to answer is.answered.1
+
+pub refused_address : (w : Who) (H : List Call) (c : Controller) (now group to : ℕ) (answer : Result ℕ Refused)
+    → Is w (Ask now group to answer ∷ H) c → (answer ≡ Err NoAddress ↔ (IsTrue (holds w H now) → ⊥))
+refused_address w H c now group to answer is = go (answers w H c now group to answer is)
+  where
+    go : AskCase w H now group to answer → (answer ≡ Err NoAddress ↔ (IsTrue (holds w H now) → ⊥))
+    go (homeless a e) = (λ z. not_both _ a, λ z. e)
+    go (unfit a b e) = (λ z. absurd (cc), λ z. absurd (z a))
+    go (busy a b f e) = (λ z. absurd (cc), λ z. absurd (z a))
+    go (accepts a b f e) = (λ z. absurd (cc), λ z. absurd (z a))
+
+pub refused_value : (w : Who) (H : List Call) (c : Controller) (now group to : ℕ) (answer : Result ℕ Refused)
+    → Is w (Ask now group to answer ∷ H) c → (answer ≡ Err BadValue ↔ (IsTrue (holds w H now) × (IsTrue (can_ask w group to) → ⊥)))
+refused_value w H c now group to answer is = go (answers w H c now group to answer is)
+  where
+    go : AskCase w H now group to answer → (answer ≡ Err BadValue ↔ (IsTrue (holds w H now) × (IsTrue (can_ask w group to) → ⊥)))
+    go (homeless a e) = (λ z. absurd (cc), λ z. absurd (not_both _ a z.0))
+    go (unfit a b e) = (λ z. (a, not_both _ b), λ z. e)
+    go (busy a b f e) = (λ z. absurd (cc), λ z. absurd (z.1 b))
+    go (accepts a b f e) = (λ z. absurd (cc), λ z. absurd (z.1 b))
+
+abbrev pub AtLimit : Who → List Call → Type 0
+AtLimit w H =
+    (length (asks H) ≡ length (told_asks H) + 1)
+    ⊎ ((length (accepted w H) ≡ length (told H) + 16) ⊎ (length (accepted w H) ≡ 18446744073709551615))
+
+limit : (w : Who) (H : List Call) → AreAnswered w H → (is_full w H || is_asking (open_ask H)) ≡ true → AtLimit w H
+limit w H right e = go (is_full w H) (open_ask H) refl (listed w H right) e
+  where
+    go : (b : Bool) (o : Option Question) → is_full w H ≡ b → Listed (length (told_asks H)) (asks H) o → (b || is_asking o) ≡ true → AtLimit w H
+    go true o p h z = inr (full_parts (length (accepted w H)) (length (told H)) p)
+    go false None p h z = absurd (cc)
+    go false (Some q) p h z = inl (let a = h.1 in omega (arith, a))
+
+from_limit : (w : Who) (H : List Call) → AreAnswered w H → (is_full w H || is_asking (open_ask H)) ≡ false → AtLimit w H → ⊥
+from_limit w H right e (inl z) = go (open_ask H) (none_open (is_full w H) (open_ask H) e) (listed w H right)
+  where
+    go : (o : Option Question) → o ≡ None → Listed (length (told_asks H)) (asks H) o → ⊥
+    go None p h = omega (arith, z, h)
+    go (Some q) p h = absurd (cc)
+from_limit w H right e (inr z) = go (is_full w H) e (full_from (length (accepted w H)) (length (told H)) z)
+  where
+    go : (b : Bool) → (b || is_asking (open_ask H)) ≡ false → b ≡ true → ⊥
+    go true f g = absurd (cc)
+    go false f g = absurd (cc)
+
+pub refused_full : (w : Who) (H : List Call) (c : Controller) (now group to : ℕ) (answer : Result ℕ Refused) → Is w (Ask now group to answer ∷ H) c
+    → (answer ≡ Err Full ↔ (IsTrue (holds w H now) × IsTrue (can_ask w group to) × AtLimit w H))
+refused_full w H c now group to answer is = go (answers w H c now group to answer is)
+  where
+    go : AskCase w H now group to answer → (answer ≡ Err Full ↔ (IsTrue (holds w H now) × IsTrue (can_ask w group to) × AtLimit w H))
+    go (homeless a e) = (λ z. absurd (cc), λ z. absurd (not_both _ a z.0))
+    go (unfit a b e) = (λ z. absurd (cc), λ z. absurd (not_both _ b z.1))
+    go (busy a b f e) = (λ z. (a, b, limit w H is.answered.0 f), λ z. e)
+    go (accepts a b f e) = (λ z. absurd (cc), λ z. absurd (from_limit w H is.answered.0 f z.2))
+
+pub is_accepted : (w : Who) (H : List Call) (c : Controller) (now group to : ℕ) (answer : Result ℕ Refused) → Is w (Ask now group to answer ∷ H) c
+    → IsTrue (holds w H now) → IsTrue (can_ask w group to) → length (asks H) ≡ length (told_asks H) → length (accepted w H) < length (told H) + 16
+    → length (accepted w H) < 18446744073709551615 → answer ≡ Ok (length (accepted w H))
+is_accepted w H c now group to answer is held can none room some = go (answers w H c now group to answer is)
+  where
+    no : AtLimit w H → ⊥
+    no (inl z) = omega (arith, z, none)
+    no (inr (inl z)) = omega (arith, z, room)
+    no (inr (inr z)) = omega (arith, z, some)
+
+    go : AskCase w H now group to answer → answer ≡ Ok (length (accepted w H))
+    go (homeless a e) = absurd (not_both _ a held)
+    go (unfit a b e) = absurd (not_both _ b can)
+    go (busy a b f e) = absurd (no (limit w H is.answered.0 f))
+    go (accepts a b f e) = e
+
+pub token_is : (w : Who) (H : List Call) (c : Controller) (now group to k : ℕ) → Is w (Ask now group to (Ok k) ∷ H) c → k ≡ length (accepted w H)
+token_is w H c now group to k is = (opens w H now group to k (answers w H c now group to (Ok k) is)).2
+
+-- ---- its frame
+
+pub frame_is : (w : Who) (H : List Call) (c : Controller) (i : ℕ) (q : Question) → Is w H c → slice_get (asks H) i ≡ Some q
+    → slice_get (accepted w H) q.token ≡ Some (q.token, message_from w (request_for q.group q.to))
+frame_is w H c i q is g = request_sent w H is.answered i q g
+
+pub taken_once : (H : List Call) (now : ℕ) (f : FrameRecord) (q : Question) → open_ask H ≡ Some q → IsTrue (is_request H f)
+    → (is_taken q H ≡ false) × IsTrue (is_taken q (TakeFrame now (Some f) ∷ H)) × (length (sent H) ≡ q.token)
+taken_once H now f q o r =
+    let b = both (is_message f) (has_token (open_ask H) (length (sent H))) r in
+    let z = eqb-true q.token (length (sent H)) (sym (ap (λ (x : Option Question). has_token x (length (sent H))) o) ∙ b.1) in (
+      not_less q.token (length (sent H)) z,
+      ap (λ (x : Bool). nat_lt q.token (length (if x then sent H else sent H ++ message_of f ∷ []))) (single (is_claim f || (is_acknowledgment f || is_session f)) b.0)
+          ∙ (ap (nat_lt q.token) (length_one_more (sent H) (message_of f)) ∙ less q.token (length (sent H)) z),
+      sym z,
+    )
+  where
+    not_less : (k n : ℕ) → k ≡ n → nat_lt k n ≡ false
+    not_less k n e = grind arith
+
+    less : (k n : ℕ) → k ≡ n → nat_lt k (suc n) ≡ true
+    less k n e = grind arith
+
+    single : (b : Bool) → not b ≡ true → b ≡ false
+    single true e = absurd (cc)
+    single false e = refl
+
+pub since_taken : (w : Who) (H : List Call) (c : Controller) (q : Question) → Is w H c → open_ask H ≡ Some q → IsTrue (is_taken q H)
+    → (e : ℕ) × AskedSince H q e × (wait H ≡ 1250000 - e)
+since_taken w H c q is o t = waits w H is.answered q o t
+
+-- ---- what is told
+
+pub in_turn : (w : Who) (H : List Call) (c : Controller) (k : ℕ) (e : AskEnding) → Is w (TakeAskEnded (Some (k, e)) ∷ H) c
+    → (q : Question) × (open_ask H ≡ Some q) × (slice_get (asks H) (length (told_asks H)) ≡ Some q) × (q.token ≡ k)
+in_turn w H c k e is =
+    let t = told_is w H c k e is in
+    (t.question, t.current, go (open_ask H) t.current (listed w H is.answered.0), t.token)
+  where
+    go : (o : Option Question) → o ≡ Some (told_is w H c k e is).question → Listed (length (told_asks H)) (asks H) o
+        → slice_get (asks H) (length (told_asks H)) ≡ Some (told_is w H c k e is).question
+    go None p h = absurd (cc)
+    go (Some q) p h = h.0 ∙ p
+
+-- ends of each kind
+same_open : (H : List Call) (p q : Question) → open_ask H ≡ Some p → open_ask H ≡ Some q → p ≡ q
+same_open H p q e f = let z : Some p ≡ Some q = sym e ∙ f in cc
+
+out_of : (w : Who) (H : List Call) (c : Controller) (k : ℕ) (e : AskEnding) (q : Question) → Is w (TakeAskEnded (Some (k, e)) ∷ H) c → open_ask H ≡ Some q → Outcome w H q e
+out_of w H c k e q is o =
+    let t = told_is w H c k e is in subst (λ (p : Question). Outcome w H p e) (same_open H t.question q t.current o) t.out
+
+word_of : (w : Who) (H : List Call) (q : Question) (e : AskEnding) → is_word e ≡ true → Outcome w H q e → HeardFirst w H q e
+word_of w H q e k (by_word l h) = h
+word_of w H q e k (by_time n z h m) = absurd (let y : false ≡ true = sym (ap is_word z) ∙ k in cc)
+word_of w H q e k (by_loss z h) = absurd (let y : false ≡ true = sym (ap is_word z) ∙ k in cc)
+
+pub answered_means : (w : Who) (H : List Call) (c : Controller) (k : ℕ) (q : Question) → Is w (TakeAskEnded (Some (k, Answered)) ∷ H) c → open_ask H ≡ Some q
+    → HeardFirst w H q Answered
+answered_means w H c k q is o = word_of w H q Answered refl (out_of w H c k Answered q is o)
+
+pub acknowledged_means : (w : Who) (H : List Call) (c : Controller) (k : ℕ) (a : Answer) (q : Question) → Is w (TakeAskEnded (Some (k, Acknowledged a)) ∷ H) c
+    → open_ask H ≡ Some q → HeardFirst w H q (Acknowledged a)
+acknowledged_means w H c k a q is o = word_of w H q (Acknowledged a) refl (out_of w H c k (Acknowledged a) q is o)
+
+pub timed_out_means : (w : Who) (H : List Call) (c : Controller) (k : ℕ) (q : Question) → Is w (TakeAskEnded (Some (k, TimedOut)) ∷ H) c → open_ask H ≡ Some q
+    → (e : ℕ) × AskedSince H q e × (1250000 ≤ e)
+timed_out_means w H c k q is o = go (out_of w H c k TimedOut q is o)
+  where
+    go : Outcome w H q TimedOut → (e : ℕ) × AskedSince H q e × (1250000 ≤ e)
+    go (by_word l h) = absurd (cc)
+    go (by_time n z h m) = (n, h, m)
+    go (by_loss z h) = absurd (cc)
+
+pub withdrawn_means : (w : Who) (H : List Call) (c : Controller) (k : ℕ) → Is w (TakeAskEnded (Some (k, Withdrawn)) ∷ H) c → IsTrue (is_lost (address_after w H))
+withdrawn_means w H c k is = let t = told_is w H c k Withdrawn is in go t.question t.out
+  where
+    go : (q : Question) → Outcome w H q Withdrawn → IsTrue (is_lost (address_after w H))
+    go q (by_word l h) = absurd (cc)
+    go q (by_time n z h m) = absurd (cc)
+    go q (by_loss z h) = h
+
+-- ---- what was heard first stands
+
+stays : (w : Who) (later H : List Call) (q : Question) (e : AskEnding) → NoneEnds later → open_ask H ≡ Some q → ended w H ≡ Some e
+    → (open_ask (later ++ H) ≡ Some q) × (ended w (later ++ H) ≡ Some e)
+stays w [] H q e n o z = (o, z)
+stays w (call ∷ later) H q e n o z = go call (view call) n.0 (stays w later H q e n.1 o z)
+  where
+    go : (call : Call) → View call → ends call ≡ false → (open_ask (later ++ H) ≡ Some q) × (ended w (later ++ H) ≡ Some e)
+        → (open_ask (call ∷ later ++ H) ≡ Some q) × (ended w (call ∷ later ++ H) ≡ Some e)
+    go _ (asks_one now group to k) x h = absurd (cc)
+    go _ (tells_one y) x h = absurd (cc)
+    go _ (hears_one f) x h = (
+      h.0,
+      ap (λ (o : Option AskEnding). first o (end_at w (open_ask (later ++ H)) (length (sent (later ++ H))) (wait (later ++ H) - step (later ++ H) f.stamp)
+          (is_lost (address_after w (Hear f ∷ later ++ H))) f (made w (later ++ H) f))) h.1,
+    )
+    go _ (takes_one now f) x h = h
+    go _ (quiet call s) x h = (s.current (later ++ H) ∙ h.0, s.ended w (later ++ H) ∙ h.1)
+
+pub first_stands : (w : Who) (H later : List Call) (c : Controller) (f : FrameRecord) (q : Question) (e : AskEnding) (answer : Option (ℕ × AskEnding))
+    → Is w (TakeAskEnded answer ∷ later ++ Hear f ∷ H) c → NoneEnds later → open_ask H ≡ Some q → IsTrue (is_taken q H) → ended w H ≡ None
+    → step H f.stamp < wait H → is_lost (address_after w (Hear f ∷ H)) ≡ false → says_to w q f (made w H f) ≡ Some e → answer ≡ Some (q.token, e)
+first_stands w H later c f q e answer is n o t none l kept says =
+    let G = later ++ Hear f ∷ H in
+    let now : ended w (Hear f ∷ H) ≡ Some e =
+    ap (λ (x : Option AskEnding). first x (end_at w (open_ask H) (length (sent H)) (wait H - step H f.stamp) (is_lost (address_after w (Hear f ∷ H))) f (made w H f))) none
+    ∙ (ap (λ (x : Option Question). end_at w x (length (sent H)) (wait H - step H f.stamp) (is_lost (address_after w (Hear f ∷ H))) f (made w H f)) o
+    ∙ (ap (λ (b : Bool). first (silent_end b (wait H - step H f.stamp) (is_lost (address_after w (Hear f ∷ H)))) (if b then says_to w q f (made w H f) else None)) t
+    ∙ (ap (λ (b : Bool). first (if b then Some TimedOut else if is_lost (address_after w (Hear f ∷ H)) then Some Withdrawn else None) (says_to w q f (made w H f))) (some_left (wait H) (step H f.stamp) l)
+    ∙ (ap (λ (b : Bool). first (if b then Some Withdrawn else None) (says_to w q f (made w H f))) kept ∙ says)))) in
+    let s = stays w later (Hear f ∷ H) q e n o now in
+    is.answered.1
+    ∙ (ap (λ (x : Option Question). ask_end x (length (sent G)) (ended w G) (wait G) (is_lost (address_after w G))) s.0
+    ∙ ap (λ (x : Option AskEnding). ask_end (Some q) (length (sent G)) x (wait G) (is_lost (address_after w G))) s.1)
+  where
+    some_left : (a b : ℕ) → b < a → nat_eq (a - b) 0 ≡ false
+    some_left a b g = grind arith
+
+-- ---- where none is told
+
+pub all_told : (w : Who) (H : List Call) (c : Controller) → Is w (TakeAskEnded None ∷ H) c
+    → (length (told_asks H) ≡ length (asks H))
+    ⊎ ((q : Question) × (open_ask H ≡ Some q) × ((is_taken q H ≡ false) ⊎ ((e : ℕ) × AskedSince H q e × (e < 1250000)))
+    × (IsTrue (is_lost (address_after w H)) → ⊥))
+all_told w H c is = go (open_ask H) refl (listed w H is.answered.0) is.answered.1
+  where
+    Goal : Type 0
+    Goal =
+        (length (told_asks H) ≡ length (asks H))
+        ⊎ ((q : Question) × (open_ask H ≡ Some q) × ((is_taken q H ≡ false) ⊎ ((e : ℕ) × AskedSince H q e × (e < 1250000)))
+        × (IsTrue (is_lost (address_after w H)) → ⊥))
+
+    waiting : (q : Question) → open_ask H ≡ Some q → (is_taken q H ≡ true → 0 < wait H) → (is_taken q H ≡ false) ⊎ ((e : ℕ) × AskedSince H q e × (e < 1250000))
+    waiting q o l = by (is_taken q H) refl
+      where
+        by : (b : Bool) → is_taken q H ≡ b → (is_taken q H ≡ false) ⊎ ((e : ℕ) × AskedSince H q e × (e < 1250000))
+        by false t = inl t
+        by true t = let a = waits w H is.answered.0 q o t in let b = a.2 in let d = l t in inr (a.0, a.1, omega (arith, b, d))
+
+    silent : (q : Question) (h : Option AskEnding) → (let none : Option (ℕ × AskEnding) = None in none) ≡ ask_end (Some q) (length (sent H)) h (wait H) (is_lost (address_after w H))
+        → silent_end (is_taken q H) (wait H) (is_lost (address_after w H)) ≡ None
+    silent q (Some x) z = absurd (cc)
+    silent q None z = by (silent_end (is_taken q H) (wait H) (is_lost (address_after w H))) z
+      where
+        by : (o : Option AskEnding) → (let none : Option (ℕ × AskEnding) = None in none) ≡ option_map (λ (y : AskEnding). (q.token, y)) o → o ≡ None
+        by None g = refl
+        by (Some y) g = absurd (cc)
+
+    go : (o : Option Question) → open_ask H ≡ o → Listed (length (told_asks H)) (asks H) o
+        → (let none : Option (ℕ × AskEnding) = None in none) ≡ ask_end o (length (sent H)) (ended w H) (wait H) (is_lost (address_after w H)) → Goal
+    go None o h z = inl (sym h)
+    go (Some q) o h z =
+        let n = not_over (is_taken q H) (wait H) (is_lost (address_after w H)) (silent q (ended w H) z) in inr (q, o, waiting q o n.1, not_both _ n.0)

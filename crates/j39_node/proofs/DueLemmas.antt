@@ -1,0 +1,179 @@
+-- When a frame of packets is due.
+use Rattle.std.proofs.Common.{◌≡◌, ◌⊎◌, ℕ, ◌+◌, ◌-◌, ◌<◌, ◌≤◌, List, length, Option, Some, None, Bool, true, false, ◌&&◌, if◌then◌else◌, nat_lt, nat_eq, nat_le, min, refl, sym, ap, ◌∙◌, inl, inr, arith, eq-eqb, lt-ltb, ltb-true, ltb-false}
+use Rattle.std.specs.Option.{option_map}
+use Rattle.j39_transport.specs.Message.{MessageRecord, packets_of}
+use Rattle.j39_transport.specs.Protocol.{timeout}
+use Rattle.j39_transport.specs.Sending.{SendState, Idle, Waiting, Sending, Done, Failed, Tick, SendResult, send_step, sends_packet, silent, ticks_in}
+use Rattle.j39_transport.specs.SenderNext.{sends_in}
+use Rattle.j39_transport.specs.Signals.{Abort, Signal}
+use Rattle.j39_node.specs.History.{Who, Message, Call, frame_of, has_packets, is_left, moment, open_broadcast, packets, pause, step}
+use Rattle.j39_node.specs.Is.{long_by, next_long, next_packet, packet_by}
+use Rattle.j39_node.specs.Transfers.{Running, age, at_in, clock, gives_up, next_transfer, open_transfer, packet_in, packets_in, running_in, says, signal_by, sooner, transfer_by, transfer_in}
+
+-- ---- a frame isn't due yet
+
+not_yet : (p s : ℕ) → s < p → nat_eq (p - s) 0 ≡ false
+not_yet p s l = grind arith
+
+lt_false : (i n : ℕ) → n ≤ i → nat_lt i n ≡ false
+lt_false i n l = grind arith
+
+sooner_first : (p : ℕ) (o : Option ℕ) → (n : ℕ) × (sooner (Some p) o ≡ Some n) × (n ≤ p)
+sooner_first p None = (p, refl, omega arith)
+sooner_first p (Some m) = (min p m, refl, omega arith)
+
+sooner_second : (p : ℕ) (o : Option ℕ) → (n : ℕ) × (sooner o (Some p) ≡ Some n) × (n ≤ p)
+sooner_second p None = (p, refl, omega arith)
+sooner_second p (Some m) = (min m p, refl, omega arith)
+
+no_packet : (o : Option (ℕ × MessageRecord)) (i p s : ℕ) → ((n : ℕ) → packet_in (is_left o i) p ≡ Some n → s < n) → packet_by o i (p - s) ≡ None
+no_packet None i p s h = refl
+no_packet (Some x) i p s h = go (nat_eq (p - s) 0) (nat_le i (packets_of x.1)) refl refl
+  where
+    go : (a b : Bool) → nat_eq (p - s) 0 ≡ a → nat_le i (packets_of x.1) ≡ b → (if a && b then Some (frame_of x.1 i) else None) ≡ None
+    go false b e f = refl
+    go true false e f = refl
+    go true true e f =
+        let l = h p (ap (λ (b : Bool). packet_in b p) f) in
+        absurd (let z : true ≡ false = sym e ∙ not_yet p s l in cc)
+
+late : (a s k : ℕ) → s < k + 1 - min a 9999999999999999 → min (a + s) 9999999999999999 ≤ k
+late a s k l = omega (arith, l)
+
+no_signal : (t : Running) (a s : ℕ) → ((n : ℕ) → running_in t (clock a) ≡ Some n → s < n) → signal_by t (clock (a + s)) ≡ None
+unfolding send_step ticks_in
+no_signal t a s h = go t.gone (gives_up t) refl refl
+  where
+    none_now : (b c : Bool) → t.gone ≡ b → gives_up t ≡ c → (n : ℕ) → (if b then None else if c then Some 0 else sends_in t.sender.state t.sender.since (clock a)) ≡ Some n → s < n
+    none_now b c e f n k = h n (ap (λ (x : Bool). if x then None else if gives_up t then Some 0 else sends_in t.sender.state t.sender.since (clock a)) e
+        ∙ (ap (λ (x : Bool). if b then None else if x then Some 0 else sends_in t.sender.state t.sender.since (clock a)) f ∙ k))
+
+    by : (u : SendState) → t.sender.state ≡ u → ((n : ℕ) → sends_in t.sender.state t.sender.since (clock a) ≡ Some n → s < n)
+        → (ticks_in u (clock (a + s)) t.sender).says ≡ None
+    by Idle e k = let l = k 0 (ap (λ (x : SendState). sends_in x t.sender.since (clock a)) e) in absurd (omega (arith, l))
+    by (Waiting limit) e k =
+        let l = k (t.sender.since + limit + 1 - clock a) (ap (λ (x : SendState). sends_in x t.sender.since (clock a)) e) in
+        ap (λ (b : Bool). (if b then (let r : SendResult = record { after = record t.sender { state = Failed timeout }; says = Some (Abort timeout t.sender.message.pgn) } in r) else silent t.sender).says)
+        (lt_false (t.sender.since + limit) (clock (a + s)) (late a s (t.sender.since + limit) l))
+    by (Sending next last) e k = let l = k 0 (ap (λ (x : SendState). sends_in x t.sender.since (clock a)) e) in absurd (omega (arith, l))
+    by Done e k = refl
+    by (Failed reason) e k = refl
+
+    go : (b c : Bool) → t.gone ≡ b → gives_up t ≡ c → signal_by t (clock (a + s)) ≡ None
+    go true c e f = ap (λ (x : Bool). if x then None else if gives_up t then Some (Abort 5 t.sender.message.pgn) else (send_step t.sender Tick (clock (a + s))).says) e
+    go false true e f = let l = none_now false true e f 0 refl in absurd (omega (arith, l))
+    go false false e f =
+        ap (λ (x : Bool). if x then None else if gives_up t then Some (Abort 5 t.sender.message.pgn) else (send_step t.sender Tick (clock (a + s))).says) e
+        ∙ (ap (λ (x : Bool). if x then Some (Abort 5 t.sender.message.pgn) else (send_step t.sender Tick (clock (a + s))).says) f
+        ∙ by t.sender.state refl (none_now false false e f))
+
+no_transfer : (o : Option Running) (a s : ℕ) → ((n : ℕ) → transfer_in o (clock a) ≡ Some n → s < n) → transfer_by o (clock (a + s)) ≡ None
+no_transfer None a s h = refl
+no_transfer (Some t) a s h = ap (option_map (says t.sender)) (no_signal t a s h)
+
+pub quiet_long : (w : Who) (H : List Call) (now : ℕ) → ((n : ℕ) → packets_in w H ≡ Some n → step H now < n) → next_long w H now ≡ None
+quiet_long w H now h =
+    ap (λ o. long_by o (next_transfer w H now)) (no_packet (open_broadcast w H) (length (packets H)) (pause H) (step H now) first)
+    ∙ no_transfer (open_transfer w H) (age H) (step H now) second
+  where
+    first : (n : ℕ) → packet_in (has_packets w H) (pause H) ≡ Some n → step H now < n
+    first n e =
+        let z = sooner_first n (transfer_in (open_transfer w H) (clock (age H))) in
+        let l = h z.0 (ap (λ o. sooner o (transfer_in (open_transfer w H) (clock (age H)))) e ∙ z.1) in
+        let k = z.2 in omega (arith, l, k)
+
+    second : (n : ℕ) → transfer_in (open_transfer w H) (clock (age H)) ≡ Some n → step H now < n
+    second n e =
+        let z = sooner_second n (packet_in (has_packets w H) (pause H)) in
+        let l = h z.0 (ap (sooner (packet_in (has_packets w H) (pause H))) e ∙ z.1) in
+        let k = z.2 in omega (arith, l, k)
+
+-- ---- a frame is due
+
+at_then : (m t : ℕ) (o : Option ℕ) → at_in m o ≡ Some t → (n : ℕ) × (o ≡ Some n) × (m + n ≡ t)
+at_then m t None e = absurd (cc)
+at_then m t (Some n) e = go (nat_lt (m + n) 10000000000000000) e
+  where
+    go : (b : Bool) → (if b then Some (m + n) else None) ≡ Some t → (k : ℕ) × (Some n ≡ Some k) × (m + k ≡ t)
+    go true f = (n, refl, (let z : m + n ≡ t = cc in z))
+    go false f = absurd (cc)
+
+either_sooner : (a b : Option ℕ) (n : ℕ) → sooner a b ≡ Some n → (a ≡ Some n) ⊎ (b ≡ Some n)
+either_sooner None b n e = inr e
+either_sooner (Some k) None n e = inl e
+either_sooner (Some k) (Some m) n e = go (nat_lt k m) refl
+  where
+    least : min k m ≡ n
+    least = cc
+
+    go : (b : Bool) → nat_lt k m ≡ b → (Some k ≡ Some n) ⊎ (Some m ≡ Some n)
+    go true f = inl (ap (λ (x : ℕ). Some x) (let y = ltb-true k m f in omega (arith, y, least)))
+    go false f = inr (ap (λ (x : ℕ). Some x) (let y = ltb-false k m f in omega (arith, y, least)))
+
+some_packet : (o : Option (ℕ × MessageRecord)) (i p n s : ℕ) → n ≤ s → packet_in (is_left o i) p ≡ Some n → packet_by o i (p - s) ≡ None → ⊥
+some_packet None i p n s l e f = absurd (cc)
+some_packet (Some x) i p n s l e f = go (nat_le i (packets_of x.1)) refl e
+  where
+    go : (b : Bool) → nat_le i (packets_of x.1) ≡ b → packet_in b p ≡ Some n → ⊥
+    go false g k = absurd (cc)
+    go true g k =
+        let z : p ≡ n = cc in
+        let a : nat_eq (p - s) 0 ≡ true = eq-eqb _ _ (omega (arith, z, l)) in
+        let y : Some (frame_of x.1 i) ≡ None = sym (ap (λ (c : Bool). if c && nat_le i (packets_of x.1) then Some (frame_of x.1 i) else None) a
+        ∙ ap (λ (c : Bool). if c then Some (frame_of x.1 i) else None) g) ∙ f in absurd (cc)
+
+some_signal : (t : Running) (a n s : ℕ) → n ≤ s → (n ≡ 0) ⊎ (a + n < 10000000000000000) → running_in t (clock a) ≡ Some n → signal_by t (clock (a + s)) ≡ None → ⊥
+unfolding send_step ticks_in sends_packet
+some_signal t a n s l m e f = go t.gone (gives_up t) e f
+  where
+    over : (k : ℕ) → k + 1 - min a 9999999999999999 ≡ n → k < min (a + s) 9999999999999999
+    over k g = elim m [ inl z ↦ omega (arith, g, z) | inr z ↦ omega (arith, g, l, z) ]
+
+    by : (u : SendState) → sends_in u t.sender.since (clock a) ≡ Some n → (ticks_in u (clock (a + s)) t.sender).says ≡ None → ⊥
+    by Idle h k = absurd (cc)
+    by (Waiting limit) h k =
+        let z : t.sender.since + limit + 1 - clock a ≡ n = cc in
+        let b = lt-ltb (t.sender.since + limit) (clock (a + s)) (over (t.sender.since + limit) z) in
+        let y : Some (Abort timeout t.sender.message.pgn) ≡ None =
+        sym (ap (λ (b : Bool). (if b then (let r : SendResult = record { after = record t.sender { state = Failed timeout }; says = Some (Abort timeout t.sender.message.pgn) } in r) else silent t.sender).says) b) ∙ k in
+        absurd (cc)
+    by (Sending next last) h k = absurd (cc)
+    by Done h k = absurd (cc)
+    by (Failed reason) h k = absurd (cc)
+
+    go : (b c : Bool) → (if b then None else if c then Some 0 else sends_in t.sender.state t.sender.since (clock a)) ≡ Some n
+        → (if b then None else if c then Some (Abort 5 t.sender.message.pgn) else (send_step t.sender Tick (clock (a + s))).says) ≡ None → ⊥
+    go true c h k = absurd (cc)
+    go false true h k = absurd (cc)
+    go false false h k = by t.sender.state h k
+
+some_transfer : (o : Option Running) (a n s : ℕ) → n ≤ s → (n ≡ 0) ⊎ (a + n < 10000000000000000) → transfer_in o (clock a) ≡ Some n → transfer_by o (clock (a + s)) ≡ None → ⊥
+some_transfer None a n s l m e f = absurd (cc)
+some_transfer (Some t) a n s l m e f = some_signal t a n s l m e (none_said (signal_by t (clock (a + s))) f)
+  where
+    none_said : (o : Option Signal) → option_map (says t.sender) o ≡ None → o ≡ None
+    none_said None g = refl
+    none_said (Some x) g = absurd (cc)
+
+some_long : (w : Who) (H : List Call) (now n : ℕ) → n ≤ step H now → (n ≡ 0) ⊎ (age H + n < 10000000000000000) → packets_in w H ≡ Some n → next_long w H now ≡ None → ⊥
+some_long w H now n l m e f = elim (either_sooner _ _ n e) [
+  | inl a ↦ some_packet (open_broadcast w H) (length (packets H)) (pause H) n (step H now) l a (both_none (next_packet w H now) (next_transfer w H now) f).0
+  | inr b ↦ some_transfer (open_transfer w H) (age H) n (step H now) l m b (both_none (next_packet w H now) (next_transfer w H now) f).1
+]
+  where
+    both_none : (a b : Option Message) → long_by a b ≡ None → (a ≡ None) × (b ≡ None)
+    both_none None b e = (refl, e)
+    both_none (Some m) b e = absurd (cc)
+
+pub from_long : (w : Who) (H : List Call) (now : ℕ) → at_in (moment H) (packets_in w H) ≡ Some (moment H) → next_long w H now ≡ None → ⊥
+from_long w H now e f =
+    let z = at_then (moment H) (moment H) (packets_in w H) e in
+    let k : z.0 ≡ 0 = let y = z.2 in omega (arith, y) in
+    some_long w H now z.0 (omega (arith, k)) (inl k) z.1 f
+
+pub then_long : (w : Who) (H : List Call) (now t : ℕ) → t ≤ now → age H + step H t < 10000000000000000 → at_in (moment H) (packets_in w H) ≡ Some t
+    → next_long w H now ≡ None → ⊥
+then_long w H now t l m e f =
+    let z = at_then (moment H) t (packets_in w H) e in
+    let y = z.2 in
+    some_long w H now z.0 (omega (arith, y, l)) (inr (omega (arith, y, m))) z.1 f

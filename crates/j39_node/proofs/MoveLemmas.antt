@@ -1,0 +1,329 @@
+-- What every answered history says of transfers.
+use Rattle.std.proofs.Common.{◌≡◌, ◌⊎◌, ℕ, suc, ◌-◌, List, [], ◌∷◌, ◌++◌, length, Option, Some, None, Ok, Err, Bool, true, false, ◌||◌, ◌&&◌, if◌then◌else◌, refl, sym, ap, ◌∙◌, inl, inr, arith, subst}
+use Rattle.std.specs.List.{slice_get}
+use Rattle.std.specs.Option.{option_map}
+use Rattle.std.proofs.lemmas.Bool.{cond_both}
+use Rattle.j39_frame.specs.Frame.{FrameRecord}
+use Rattle.j39_transport.specs.Message.{MessageRecord}
+use Rattle.j39_transport.specs.Sending.{Tick, aborted, is_running, new_sender, send_step}
+use Rattle.j39_transport.specs.Signals.{Signal, Abort}
+use Rattle.j39_node.specs.declared.kinds.TransferEnding.{TransferEnding}
+use Rattle.j39_node.specs.History.{Who, Message, Call, accepted, acknowledged, address_after, broadcast_from, due, holds, is_lost, message_of, open_broadcast, packets, pause, sent, step}
+use Rattle.j39_node.specs.History.Call.{Ask, TakeAskEnded, Hear, Tick as Ticks, TakeFrame, Send, TakeEnded, TakeReceived, TakeRequest, TakeNews, Acknowledge, Broadcast, TakeBroadcastEnded, ReleaseTransfer, Transfer, TakeTransferEnded, ReleaseBroadcast}
+use Rattle.j39_node.specs.Is.{AreAnswered, next_packet}
+use Rattle.j39_node.specs.Transfers.{Running, begun, clock_at, gives_up, hears, hears_if, is_engaged, is_replaced, is_spent, listens, open_transfer, says, sends, sends_if, signal_by, told_transfers, transfer_by, transfer_end, transfers as all_transfers}
+use Rattle.j39_node.specs.Reception.{holder, is_move, reception}
+use Rattle.j39_node.specs.Moves.{Happened, begins, moves}
+use Rattle.j39_node.proofs.QueueLemmas.{length_one_more}
+use Rattle.j39_node.proofs.SoundLemmas.{FrameCase, frame_case, claim_taken, claim_single, due_get, due_taken, no_move, no_transfer, none_steers, own_get, packet_session, packet_taken, reply_no_move, single_taken, sound}
+use Rattle.j39_node.proofs.SoundLemmas.FrameCase.{claims, acknowledges, replies, sends as sends_one, packs, transfers}
+use Rattle.j39_node.proofs.PortLemmas.{TransferCase, transfer_case, hears_same, sends_same}
+use Rattle.j39_node.proofs.PortLemmas.TransferCase.{homeless, unfit, busy, opens}
+use Rattle.j39_node.proofs.MoveSteps.{Moved, moved_given_up, moved_heard, moved_ticked}
+
+not_both : (b : Bool) → b ≡ false → b ≡ true → ⊥
+not_both b e f = let z : false ≡ true = sym e ∙ f in absurd (cc)
+
+-- ---- a frame of the open transfer is taken
+
+pub record Sent (w : Who) (H : List Call) (now : ℕ) (f : FrameRecord) : Type 0 where
+  pub running : Running
+  pub is : open_transfer w H ≡ Some running
+  pub signal : Signal
+  pub said : signal_by running (clock_at H now) ≡ Some signal
+  pub frame : message_of f ≡ says running.sender signal
+  pub held : holds w H now ≡ true
+  pub none_due : slice_get (due w H) (length (acknowledged H)) ≡ None
+  pub none_waits : slice_get (accepted w H) (length (sent H)) ≡ None
+  pub no_packet : next_packet w H now ≡ None
+
+said_by : (w : Who) (H : List Call) (now : ℕ) (f : FrameRecord) (m : Message) (o : Option Running) → open_transfer w H ≡ o → transfer_by o (clock_at H now) ≡ Some m
+    → message_of f ≡ m → holds w H now ≡ true → slice_get (due w H) (length (acknowledged H)) ≡ None → slice_get (accepted w H) (length (sent H)) ≡ None
+    → next_packet w H now ≡ None → Sent w H now f
+said_by w H now f m None e g k a b c d = absurd (cc)
+said_by w H now f m (Some t) e g k a b c d = go (signal_by t (clock_at H now)) refl g
+  where
+    go : (x : Option Signal) → signal_by t (clock_at H now) ≡ x → option_map (says t.sender) x ≡ Some m → Sent w H now f
+    go None p q = absurd (cc)
+    go (Some y) p q = record {
+      running = t;
+      is = e;
+      signal = y;
+      said = p;
+      frame = k ∙ (let z : says t.sender y ≡ m = cc in sym z);
+      held = a;
+      none_due = b;
+      none_waits = c;
+      no_packet = d;
+    }
+
+pub sent_case : (w : Who) (H : List Call) (now : ℕ) (f : FrameRecord) → AreAnswered w H → FrameCase w H now f → is_move w H f ≡ true → Sent w H now f
+sent_case w H now f right (claims o e) p = absurd (not_both _ (no_move w H f (no_transfer f (claim_single f (claim_taken f now w _ e)))) p)
+sent_case w H now f right (acknowledges m o k g e) p =
+    absurd (not_both _ (no_move w H f (no_transfer f (due_taken w f now m e (due_get w (due w H) (length (acknowledged H)) m (sound w H right).desk.0 g)).2)) p)
+sent_case w H now f right (replies m o k n g e) p = absurd (not_both _ (reply_no_move w H f m g) p)
+sent_case w H now f right (sends_one x o k n g e) p =
+    absurd (not_both _ (no_move w H f (no_transfer f (single_taken w f now x e (own_get w (accepted w H) (length (sent H)) x (sound w H right).own g)))) p)
+sent_case w H now f right (packs m o k n past g e) p =
+    absurd (not_both _ (no_move w H f (packet_session f (packet_taken f now m (open_broadcast w H) (length (packets H)) (pause H - step H now) e g).2).1) p)
+sent_case w H now f right (transfers m o k n past nothing g e) p =
+    said_by w H now f m (open_transfer w H) refl g (ap (λ (y : ℕ × Message). y.1) e) k (none_steers _ (slice_get (reception w H).replies 0) n).0 past nothing
+
+-- ---- what was taken of the open transfer
+
+abbrev pub MovedIf : Option Running → List Message → Type 0
+MovedIf None xs = Unit {0}
+MovedIf (Some t) xs = Moved t.sender xs
+
+moved_hears : (lost : Bool) (replaced : ℕ → Bool) (f : FrameRecord) (now : ℕ) (o : Option Running) (xs : List Message) → MovedIf o xs
+    → MovedIf (hears_if lost replaced f now o) xs
+moved_hears lost replaced f now None xs h = h
+moved_hears lost replaced f now (Some t) xs h = go lost (replaced t.sender.destination)
+  where
+    go : (a b : Bool) → Moved (hears a b f now t).sender xs
+    go true b = h
+    go false true = h
+    go false false = cond_both (t.gone || is_spent t) t (listens f now t) (λ (u : Running). Moved u.sender xs) (λ z. h) (λ z. moved_heard t.sender f now xs h)
+
+signal_parts : (t : Running) (now : ℕ) (xs : List Message) (a : Signal) → Moved t.sender xs → signal_by t now ≡ Some a
+    → Moved (sends now t).sender (xs ++ says t.sender a ∷ [])
+signal_parts t now xs a h = cond_both t.gone None _ (λ (o : Option Signal). o ≡ Some a → Moved (sends now t).sender (xs ++ says t.sender a ∷ []))
+    (λ z e. absurd (cc))
+    (λ z. go (gives_up t) refl)
+  where
+    running : (x y : Bool) → (x && y) ≡ true → y ≡ true
+    running true y e = e
+    running false y e = absurd (cc)
+
+    go : (b : Bool) → gives_up t ≡ b → (if b then Some (Abort 5 t.sender.message.pgn) else (send_step t.sender Tick now).says) ≡ Some a
+        → Moved (if b then aborted 5 t.sender else (send_step t.sender Tick now).after) (xs ++ says t.sender a ∷ [])
+    go true k e = moved_given_up t.sender 5 xs (says t.sender a) (running (is_spent t) (is_running t.sender.state) k) h
+    go false k e = moved_ticked t.sender now xs a h e
+
+moved_frame : (w : Who) (H : List Call) (now : ℕ) (f : FrameRecord) → AreAnswered w H → FrameCase w H now f → MovedIf (open_transfer w H) (moves w H)
+    → (b : Bool) → is_move w H f ≡ b → MovedIf (sends_if b (clock_at H now) (open_transfer w H)) (if b then moves w H ++ message_of f ∷ [] else moves w H)
+moved_frame w H now f right case h false e = h
+moved_frame w H now f right case h true e =
+    let s = sent_case w H now f right case e in
+    subst (λ (o : Option Running). MovedIf (sends_if true (clock_at H now) o) (moves w H ++ message_of f ∷ [])) (sym s.is)
+    (subst (λ (m : Message). Moved (sends (clock_at H now) s.running).sender (moves w H ++ m ∷ [])) (sym s.frame)
+    (signal_parts s.running (clock_at H now) (moves w H) s.signal (subst (λ (o : Option Running). MovedIf o (moves w H)) s.is h) s.said))
+
+moved_new : (m : MessageRecord) (to : ℕ) → Moved (new_sender m to) []
+unfolding new_sender
+moved_new m to = record { state = refl; taken = λ i l k. absurd (omega (arith, l, k)) }
+
+pub moved : (w : Who) (H : List Call) → AreAnswered w H → MovedIf (open_transfer w H) (moves w H)
+moved w [] e = tt
+moved w (Hear f ∷ H) e =
+    moved_hears (is_lost (address_after w (Hear f ∷ H))) (λ a. is_replaced (holder H a) (holder (Hear f ∷ H) a)) f (clock_at H f.stamp) (open_transfer w H) (moves w H)
+    (moved w H e.0)
+moved w (Ticks now ∷ H) e = moved w H e.0
+moved w (TakeFrame now None ∷ H) e = moved w H e.0
+moved w (TakeFrame now (Some f) ∷ H) e = moved_frame w H now f e.0 (frame_case w H now f e.1) (moved w H e.0) (is_move w H f) refl
+moved w (Send now draft answer ∷ H) e = moved w H e.0
+moved w (Ask now group to answer ∷ H) e = moved w H e.0
+moved w (TakeEnded answer ∷ H) e = moved w H e.0
+moved w (TakeAskEnded answer ∷ H) e = moved w H e.0
+moved w (TakeReceived answer ∷ H) e = moved w H e.0
+moved w (TakeRequest answer ∷ H) e = moved w H e.0
+moved w (TakeNews answer ∷ H) e = moved w H e.0
+moved w (Acknowledge now r answer result ∷ H) e = moved w H e.0
+moved w (Broadcast now group bytes answer ∷ H) e = moved w H e.0
+moved w (TakeBroadcastEnded answer ∷ H) e = moved w H e.0
+moved w (Transfer now group to bytes (Ok k) ∷ H) e = moved_new (broadcast_from w group bytes) to
+moved w (Transfer now group to bytes (Err r) ∷ H) e = moved w H e.0
+moved w (TakeTransferEnded None ∷ H) e = moved w H e.0
+moved w (TakeTransferEnded (Some x) ∷ H) e = tt
+moved w (ReleaseTransfer answer ∷ H) e = moved w H e.0
+moved w (ReleaseBroadcast answer ∷ H) e = moved w H e.0
+
+pub moved_open : (w : Who) (H : List Call) (t : Running) → AreAnswered w H → open_transfer w H ≡ Some t → Moved t.sender (moves w H)
+moved_open w H t right e = subst (λ (o : Option Running). MovedIf o (moves w H)) e (moved w H right)
+
+-- ---- which transfer is open
+
+-- it is the last that was accepted
+pub record Last (told : ℕ) (all : List (ℕ × MessageRecord)) (t : Running) : Type 0 where
+  pub token : t.token ≡ told
+  pub last : slice_get all t.token ≡ Some (t.sender.destination, t.sender.message)
+  pub count : suc t.token ≡ length all
+
+abbrev pub LastIf : ℕ → List (ℕ × MessageRecord) → Option Running → Type 0
+LastIf told all None = told ≡ length all
+LastIf told all (Some t) = Last told all t
+
+last_same : (told : ℕ) (all : List (ℕ × MessageRecord)) (new old : Running) → new.token ≡ old.token
+    → (new.sender.message ≡ old.sender.message) × (new.sender.destination ≡ old.sender.destination) → Last told all old → Last told all new
+last_same told all new old e s h = record {
+  token = e ∙ h.token;
+  last = ap (slice_get all) e ∙ (h.last ∙ (λ i. Some (sym s.1 i, sym s.0 i)));
+  count = ap suc e ∙ h.count;
+}
+
+hears_token : (lost replaced : Bool) (f : FrameRecord) (now : ℕ) (t : Running) → (hears lost replaced f now t).token ≡ t.token
+hears_token true replaced f now t = refl
+hears_token false true f now t = refl
+hears_token false false f now t = cond_both (t.gone || is_spent t) t (listens f now t) (λ (u : Running). u.token ≡ t.token) (λ z. refl) (λ z. refl)
+
+last_hears : (told : ℕ) (all : List (ℕ × MessageRecord)) (lost : Bool) (replaced : ℕ → Bool) (f : FrameRecord) (now : ℕ) (o : Option Running)
+    → LastIf told all o → LastIf told all (hears_if lost replaced f now o)
+last_hears told all lost replaced f now None h = h
+last_hears told all lost replaced f now (Some t) h =
+    last_same told all _ t (hears_token lost (replaced t.sender.destination) f now t) (hears_same lost (replaced t.sender.destination) f now t) h
+
+last_sends : (told : ℕ) (all : List (ℕ × MessageRecord)) (b : Bool) (now : ℕ) (o : Option Running) → LastIf told all o → LastIf told all (sends_if b now o)
+last_sends told all false now o h = h
+last_sends told all true now None h = h
+last_sends told all true now (Some t) h = last_same told all (sends now t) t refl (sends_same now t) h
+
+get_last : {T : Type 0} (xs : List T) (x : T) → slice_get (xs ++ x ∷ []) (length xs) ≡ Some x
+get_last [] x = refl
+get_last (y ∷ xs) x = get_last xs x
+
+not_engaged : (o : Option Running) (n told : ℕ) (all : List (ℕ × MessageRecord)) → LastIf told all o → is_engaged o n ≡ false → told ≡ length all
+not_engaged None n told all h e = h
+not_engaged (Some t) n told all h e = absurd (cc)
+
+last_opens : (w : Who) (H : List Call) (now group to k : ℕ) (bytes : List ℕ) → TransferCase w H now group to bytes (Ok k)
+    → LastIf (length (told_transfers H)) (all_transfers w H) (open_transfer w H)
+    → Last (length (told_transfers H)) (all_transfers w H ++ (to, broadcast_from w group bytes) ∷ []) (begun k (broadcast_from w group bytes) to)
+unfolding new_sender
+last_opens w H now group to k bytes (homeless a e) h = absurd (cc)
+last_opens w H now group to k bytes (unfit a b e) h = absurd (cc)
+last_opens w H now group to k bytes (busy a b f e) h = absurd (cc)
+last_opens w H now group to k bytes (opens a b f e) h =
+    let n : k ≡ length (all_transfers w H) = cc in
+    let t = not_engaged (open_transfer w H) (length (all_transfers w H)) (length (told_transfers H)) (all_transfers w H) h f in
+    record {
+      token = n ∙ sym t;
+      last = ap (slice_get (all_transfers w H ++ (to, broadcast_from w group bytes) ∷ [])) n ∙ get_last (all_transfers w H) (to, broadcast_from w group bytes);
+      count = ap suc n ∙ sym (length_one_more (all_transfers w H) (to, broadcast_from w group bytes));
+    }
+
+last_closes : (told : ℕ) (all : List (ℕ × MessageRecord)) (o : Option Running) (lost : Bool) (x : ℕ × TransferEnding) → LastIf told all o
+    → Some x ≡ transfer_end o lost → suc told ≡ length all
+last_closes told all None lost x h e = absurd (cc)
+last_closes told all (Some t) lost x h e = let a = h.token in let b = h.count in omega (arith, a, b)
+
+pub last_one : (w : Who) (H : List Call) → AreAnswered w H → LastIf (length (told_transfers H)) (all_transfers w H) (open_transfer w H)
+last_one w [] e = refl
+last_one w (Hear f ∷ H) e =
+    last_hears _ _ (is_lost (address_after w (Hear f ∷ H))) (λ a. is_replaced (holder H a) (holder (Hear f ∷ H) a)) f (clock_at H f.stamp) (open_transfer w H)
+    (last_one w H e.0)
+last_one w (Ticks now ∷ H) e = last_one w H e.0
+last_one w (TakeFrame now None ∷ H) e = last_one w H e.0
+last_one w (TakeFrame now (Some f) ∷ H) e = last_sends _ _ (is_move w H f) (clock_at H now) (open_transfer w H) (last_one w H e.0)
+last_one w (Send now draft answer ∷ H) e = last_one w H e.0
+last_one w (Ask now group to answer ∷ H) e = last_one w H e.0
+last_one w (TakeEnded answer ∷ H) e = last_one w H e.0
+last_one w (TakeAskEnded answer ∷ H) e = last_one w H e.0
+last_one w (TakeReceived answer ∷ H) e = last_one w H e.0
+last_one w (TakeRequest answer ∷ H) e = last_one w H e.0
+last_one w (TakeNews answer ∷ H) e = last_one w H e.0
+last_one w (Acknowledge now r answer result ∷ H) e = last_one w H e.0
+last_one w (Broadcast now group bytes answer ∷ H) e = last_one w H e.0
+last_one w (TakeBroadcastEnded answer ∷ H) e = last_one w H e.0
+last_one w (Transfer now group to bytes (Ok k) ∷ H) e = last_opens w H now group to k bytes (transfer_case w H now group to bytes (Ok k) e.1) (last_one w H e.0)
+last_one w (Transfer now group to bytes (Err r) ∷ H) e = last_one w H e.0
+last_one w (TakeTransferEnded None ∷ H) e = last_one w H e.0
+last_one w (TakeTransferEnded (Some x) ∷ H) e =
+    length_one_more (told_transfers H) x ∙ last_closes (length (told_transfers H)) (all_transfers w H) (open_transfer w H) (is_lost (address_after w H)) x (last_one w H e.0) e.1
+last_one w (ReleaseTransfer answer ∷ H) e = last_one w H e.0
+last_one w (ReleaseBroadcast answer ∷ H) e = last_one w H e.0
+
+pub last_open : (w : Who) (H : List Call) (t : Running) → AreAnswered w H → open_transfer w H ≡ Some t → Last (length (told_transfers H)) (all_transfers w H) t
+last_open w H t right e = subst (LastIf (length (told_transfers H)) (all_transfers w H)) e (last_one w H right)
+
+-- ---- since when something is so of the open transfer
+
+pub later_on : (So : List Call → Call → Type 0) (H : List Call) (call : Call) → begins call ≡ false → Happened So H → Happened So (call ∷ H)
+later_on So H call b h = record {
+  later = call ∷ h.later;
+  call = h.call;
+  earlier = h.earlier;
+  is = ap (λ G. call ∷ G) h.is;
+  since = (b, h.since);
+  so = h.so;
+}
+
+now_so : (So : List Call → Call → Type 0) (H : List Call) (call : Call) → So H call → Happened So (call ∷ H)
+now_so So H call s = record { later = []; call = call; earlier = H; is = refl; since = tt; so = s }
+
+-- what isn't so of a transfer that begins, and is so after a call where it was before, or where the call says so
+pub record Arises (w : Who) (Q : Running → Type 0) (So : ℕ → MessageRecord → List Call → Call → Type 0) : Type 0 where
+  pub begins_not : (token : ℕ) (m : MessageRecord) (to : ℕ) → Q (begun token m to) → ⊥
+  pub by_hearing : (H : List Call) (f : FrameRecord) (t : Running) → AreAnswered w H → open_transfer w H ≡ Some t
+      → Q (hears (is_lost (address_after w (Hear f ∷ H))) (is_replaced (holder H t.sender.destination) (holder (Hear f ∷ H) t.sender.destination)) f (clock_at H f.stamp) t)
+      → Q t ⊎ So t.sender.destination t.sender.message H (Hear f)
+  pub by_sending : (H : List Call) (now : ℕ) (f : FrameRecord) (t : Running) (a : Signal) → AreAnswered w H → open_transfer w H ≡ Some t
+      → signal_by t (clock_at H now) ≡ Some a → message_of f ≡ says t.sender a → Q (sends (clock_at H now) t)
+      → Q t ⊎ So t.sender.destination t.sender.message H (TakeFrame now (Some f))
+
+abbrev Traced : (ℕ → MessageRecord → List Call → Call → Type 0) → Running → List Call → Type 0
+Traced So t H = Happened (So t.sender.destination t.sender.message) H
+
+traced_same : (So : ℕ → MessageRecord → List Call → Call → Type 0) (new old : Running) (H : List Call)
+    → (new.sender.message ≡ old.sender.message) × (new.sender.destination ≡ old.sender.destination) → Traced So old H → Traced So new H
+traced_same So new old H s h =
+    subst (λ (m : MessageRecord). Happened (So new.sender.destination m) H) (sym s.0)
+    (subst (λ (d : ℕ). Happened (So d old.sender.message) H) (sym s.1) h)
+
+trace_hears : (w : Who) (Q : Running → Type 0) (So : ℕ → MessageRecord → List Call → Call → Type 0) (H : List Call) (f : FrameRecord) (t : Running) (o : Option Running)
+    → Arises w Q So → AreAnswered w H → open_transfer w H ≡ o
+    → hears_if (is_lost (address_after w (Hear f ∷ H))) (λ a. is_replaced (holder H a) (holder (Hear f ∷ H) a)) f (clock_at H f.stamp) o ≡ Some t → Q t
+    → ((u : Running) → open_transfer w H ≡ Some u → Q u → Traced So u H) → Traced So t (Hear f ∷ H)
+trace_hears w Q So H f t None arises right e g q rec = absurd (cc)
+trace_hears w Q So H f t (Some u) arises right e g q rec =
+    let lost = is_lost (address_after w (Hear f ∷ H)) in
+    let replaced = is_replaced (holder H u.sender.destination) (holder (Hear f ∷ H) u.sender.destination) in
+    let z : hears lost replaced f (clock_at H f.stamp) u ≡ t = cc in
+    subst (λ (x : Running). Traced So x (Hear f ∷ H)) z
+    (traced_same So (hears lost replaced f (clock_at H f.stamp) u) u (Hear f ∷ H) (hears_same lost replaced f (clock_at H f.stamp) u)
+    (elim (arises.by_hearing H f u right e (subst Q (sym z) q)) [
+      | inl x ↦ later_on (So u.sender.destination u.sender.message) H (Hear f) refl (rec u e x)
+      | inr x ↦ now_so (So u.sender.destination u.sender.message) H (Hear f) x
+    ]))
+
+trace_sends : (w : Who) (Q : Running → Type 0) (So : ℕ → MessageRecord → List Call → Call → Type 0) (H : List Call) (now : ℕ) (f : FrameRecord) (t : Running) (b : Bool)
+    → Arises w Q So → AreAnswered w H → FrameCase w H now f → is_move w H f ≡ b → sends_if b (clock_at H now) (open_transfer w H) ≡ Some t → Q t
+    → ((u : Running) → open_transfer w H ≡ Some u → Q u → Traced So u H) → Traced So t (TakeFrame now (Some f) ∷ H)
+trace_sends w Q So H now f t false arises right case e g q rec =
+    later_on (So t.sender.destination t.sender.message) H (TakeFrame now (Some f)) refl (rec t g q)
+trace_sends w Q So H now f t true arises right case e g q rec =
+    let s = sent_case w H now f right case e in
+    let u = s.running in
+    let g2 : sends_if true (clock_at H now) (Some u) ≡ Some t = ap (sends_if true (clock_at H now)) (sym s.is) ∙ g in
+    let z : sends (clock_at H now) u ≡ t = cc in
+    subst (λ (x : Running). Traced So x (TakeFrame now (Some f) ∷ H)) z
+    (traced_same So (sends (clock_at H now) u) u (TakeFrame now (Some f) ∷ H) (sends_same (clock_at H now) u)
+    (elim (arises.by_sending H now f u s.signal right s.is s.said s.frame (subst Q (sym z) q)) [
+      | inl x ↦ later_on (So u.sender.destination u.sender.message) H (TakeFrame now (Some f)) refl (rec u s.is x)
+      | inr x ↦ now_so (So u.sender.destination u.sender.message) H (TakeFrame now (Some f)) x
+    ]))
+
+pub traced : (w : Who) (Q : Running → Type 0) (So : ℕ → MessageRecord → List Call → Call → Type 0) → Arises w Q So → (H : List Call) (t : Running) → AreAnswered w H
+    → open_transfer w H ≡ Some t → Q t → Happened (So t.sender.destination t.sender.message) H
+traced w Q So arises [] t right e q = absurd (cc)
+traced w Q So arises (Hear f ∷ H) t right e q = trace_hears w Q So H f t (open_transfer w H) arises right.0 refl e q (λ u k. traced w Q So arises H u right.0 k)
+traced w Q So arises (Ticks now ∷ H) t right e q = later_on _ H _ refl (traced w Q So arises H t right.0 e q)
+traced w Q So arises (TakeFrame now None ∷ H) t right e q = later_on _ H _ refl (traced w Q So arises H t right.0 e q)
+traced w Q So arises (TakeFrame now (Some f) ∷ H) t right e q =
+    trace_sends w Q So H now f t (is_move w H f) arises right.0 (frame_case w H now f right.1) refl e q (λ u k. traced w Q So arises H u right.0 k)
+traced w Q So arises (Send now draft answer ∷ H) t right e q = later_on _ H _ refl (traced w Q So arises H t right.0 e q)
+traced w Q So arises (Ask now group to answer ∷ H) t right e q = later_on _ H _ refl (traced w Q So arises H t right.0 e q)
+traced w Q So arises (TakeEnded answer ∷ H) t right e q = later_on _ H _ refl (traced w Q So arises H t right.0 e q)
+traced w Q So arises (TakeAskEnded answer ∷ H) t right e q = later_on _ H _ refl (traced w Q So arises H t right.0 e q)
+traced w Q So arises (TakeReceived answer ∷ H) t right e q = later_on _ H _ refl (traced w Q So arises H t right.0 e q)
+traced w Q So arises (TakeRequest answer ∷ H) t right e q = later_on _ H _ refl (traced w Q So arises H t right.0 e q)
+traced w Q So arises (TakeNews answer ∷ H) t right e q = later_on _ H _ refl (traced w Q So arises H t right.0 e q)
+traced w Q So arises (Acknowledge now r answer result ∷ H) t right e q = later_on _ H _ refl (traced w Q So arises H t right.0 e q)
+traced w Q So arises (Broadcast now group bytes answer ∷ H) t right e q = later_on _ H _ refl (traced w Q So arises H t right.0 e q)
+traced w Q So arises (TakeBroadcastEnded answer ∷ H) t right e q = later_on _ H _ refl (traced w Q So arises H t right.0 e q)
+traced w Q So arises (Transfer now group to bytes (Ok k) ∷ H) t right e q =
+    let z : begun k (broadcast_from w group bytes) to ≡ t = cc in absurd (arises.begins_not k (broadcast_from w group bytes) to (subst Q (sym z) q))
+traced w Q So arises (Transfer now group to bytes (Err r) ∷ H) t right e q = later_on _ H _ refl (traced w Q So arises H t right.0 e q)
+traced w Q So arises (TakeTransferEnded None ∷ H) t right e q = later_on _ H _ refl (traced w Q So arises H t right.0 e q)
+traced w Q So arises (TakeTransferEnded (Some x) ∷ H) t right e q = absurd (cc)
+traced w Q So arises (ReleaseTransfer answer ∷ H) t right e q = later_on _ H _ refl (traced w Q So arises H t right.0 e q)
+traced w Q So arises (ReleaseBroadcast answer ∷ H) t right e q = later_on _ H _ refl (traced w Q So arises H t right.0 e q)

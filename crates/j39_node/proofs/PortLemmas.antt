@@ -1,0 +1,219 @@
+-- The open transfer of an answered history goes from the address to another's.
+use Rattle.std.proofs.Common.{◌≡◌, ◌⊎◌, ◌<◌, ◌||◌, ℕ, List, [], ◌∷◌, length, Option, Some, None, Result, Ok, Err, Bool, true, false, ◌&&◌, if◌then◌else◌, nat_lt, nat_eq, min, IfSome, subst, ltb-true, refl, sym, ap, ◌∙◌, inl, inr, arith}
+use Rattle.std.specs.Option.{option_map}
+use Rattle.j39_frame.specs.Frame.{FrameRecord}
+use Rattle.j39_frame.specs.Network.{transport_control_group, transport_data_group}
+use Rattle.j39_transport.specs.Sending as sending
+use Rattle.j39_transport.specs.Sending.{SendEvent, SenderRecord, Failed, Heard, Tick, aborted, is_running, new_sender, send_step}
+use Rattle.j39_transport.specs.Signals.{Signal, BroadcastAnnounce, RequestToSend, ClearToSend, Acknowledgment, Abort, Packet, group_with, said_between}
+use Rattle.j39_transport.proofs.SenderLemmas.{ticked, hears_signal}
+use Rattle.j39_node.specs.declared.kinds.Refused.{Refused}
+use Rattle.j39_node.specs.declared.kinds.Refused.TheVariants.{NoAddress, BadValue, Full}
+use Rattle.j39_node.specs.History.{Who, Message, Call, address_after, can_broadcast, holds, is_lost, is_some, told_claims}
+use Rattle.j39_node.specs.Reception.{holder, is_move}
+use Rattle.j39_node.proofs.ReceptionLemmas.{table_is}
+use Rattle.j39_node.specs.History.Call.{Ask, TakeAskEnded, Hear, Tick as Ticks, TakeFrame, Send, TakeEnded, TakeReceived, TakeRequest, TakeNews, Acknowledge, Broadcast, TakeBroadcastEnded, ReleaseTransfer, Transfer, TakeTransferEnded, ReleaseBroadcast}
+use Rattle.j39_node.specs.Is.{AreAnswered, PortRecord, port_after}
+use Rattle.j39_node.specs.Transfers.{Running, answer_to_transfer, can_transfer, clock_at, gives_up, hears, hears_if, is_engaged, is_replaced, is_spent, listens, open_transfer, says, sends, sends_if, signal_by, transfer_by, transfers}
+use Rattle.j39_address.specs.Claims.{Knows, holder_in}
+use Rattle.j39_address.specs.declared.claims.Claims.{Claims}
+
+-- ---- a step keeps message and destination
+
+keeps_heard : (s : SenderRecord) (o : Option Signal) (now : ℕ) → ((sending.hears o now s).message ≡ s.message) × ((sending.hears o now s).destination ≡ s.destination)
+unfolding sending.hears
+keeps_heard s None now = (refl, refl)
+keeps_heard s (Some a) now = let h = hears_signal s a now in (h.message_is, h.destination_is)
+
+pub keeps : (s : SenderRecord) (e : SendEvent) (now : ℕ) → ((send_step s e now).after.message ≡ s.message) × ((send_step s e now).after.destination ≡ s.destination)
+unfolding send_step
+keeps s Tick now = let h = ticked s s.state now refl in (h.message_is, h.destination_is)
+keeps s (Heard f) now = keeps_heard s (said_between s.destination s.message.source f) now
+
+-- ---- what transfer answers
+
+pub data TransferCase (w : Who) (H : List Call) (now group to : ℕ) (bytes : List ℕ) (answer : Result ℕ Refused) : Type 0 where
+  homeless : holds w H now ≡ false → answer ≡ Err NoAddress → TransferCase w H now group to bytes answer
+  unfit : holds w H now ≡ true → can_transfer w group to bytes ≡ false → answer ≡ Err BadValue → TransferCase w H now group to bytes answer
+  busy : holds w H now ≡ true → can_transfer w group to bytes ≡ true → is_engaged (open_transfer w H) (length (transfers w H)) ≡ true → answer ≡ Err Full
+      → TransferCase w H now group to bytes answer
+  opens : holds w H now ≡ true → can_transfer w group to bytes ≡ true → is_engaged (open_transfer w H) (length (transfers w H)) ≡ false
+      → answer ≡ Ok (length (transfers w H)) → TransferCase w H now group to bytes answer
+
+pub transfer_case : (w : Who) (H : List Call) (now group to : ℕ) (bytes : List ℕ) (answer : Result ℕ Refused) → answer ≡ answer_to_transfer w H now group to bytes
+    → TransferCase w H now group to bytes answer
+transfer_case w H now group to bytes answer e =
+    go (holds w H now) (can_transfer w group to bytes) (is_engaged (open_transfer w H) (length (transfers w H))) refl refl refl e
+  where
+    go : (x y z : Bool) → holds w H now ≡ x → can_transfer w group to bytes ≡ y → is_engaged (open_transfer w H) (length (transfers w H)) ≡ z
+        → answer ≡ (if x then (if y then (if z then Err Full else Ok (length (transfers w H))) else Err BadValue) else Err NoAddress)
+        → TransferCase w H now group to bytes answer
+    go false y z p q r i = homeless p i
+    go true false z p q r i = unfit p q i
+    go true true true p q r i = busy p q r i
+    go true true false p q r i = opens p q r i
+
+-- ---- between which addresses the open transfer goes
+
+pub record Between (w : Who) (x : Running) : Type 0 where
+  pub source : x.sender.message.source ≡ w.address
+  pub directed : x.sender.destination < 254
+
+abbrev pub Ported : Who → Option Running → Type 0
+Ported w None = Unit {0}
+Ported w (Some x) = Between w x
+
+-- what became of it goes between the same
+abbrev Same : SenderRecord → SenderRecord → Type 0
+Same new old = (new.message ≡ old.message) × (new.destination ≡ old.destination)
+
+pub gives_up_same : (s : SenderRecord) (reason : ℕ) → Same (aborted reason s) s
+unfolding aborted
+gives_up_same s reason = go (is_running s.state)
+  where
+    go : (b : Bool) → Same (if b then record s { state = Failed reason } else s) s
+    go true = (refl, refl)
+    go false = (refl, refl)
+
+pub hears_same : (lost replaced : Bool) (f : FrameRecord) (now : ℕ) (t : Running) → Same (hears lost replaced f now t).sender t.sender
+hears_same true replaced f now t = (refl, refl)
+hears_same false true f now t = (refl, refl)
+hears_same false false f now t = go (t.gone || is_spent t)
+  where
+    go : (b : Bool) → Same (if b then t else listens f now t).sender t.sender
+    go true = (refl, refl)
+    go false = keeps t.sender (Heard f) now
+
+pub sends_same : (now : ℕ) (t : Running) → Same (sends now t).sender t.sender
+sends_same now t = go (gives_up t)
+  where
+    go : (b : Bool) → Same (if b then aborted 5 t.sender else (send_step t.sender Tick now).after) t.sender
+    go true = gives_up_same t.sender 5
+    go false = keeps t.sender Tick now
+
+between_same : (w : Who) (new old : Running) → Same new.sender old.sender → Between w old → Between w new
+between_same w new old k h = record {
+  source = ap (λ m. m.source) k.0 ∙ h.source;
+  directed = subst (λ (d : ℕ). d < 254) (sym k.1) h.directed;
+}
+
+ported_hears : (w : Who) (lost : Bool) (replaced : ℕ → Bool) (f : FrameRecord) (now : ℕ) (o : Option Running) → Ported w o
+    → Ported w (hears_if lost replaced f now o)
+ported_hears w lost replaced f now None h = h
+ported_hears w lost replaced f now (Some t) h = between_same w _ t (hears_same lost (replaced t.sender.destination) f now t) h
+
+ported_sends : (w : Who) (b : Bool) (now : ℕ) (o : Option Running) → Ported w o → Ported w (sends_if b now o)
+ported_sends w false now o h = h
+ported_sends w true now None h = h
+ported_sends w true now (Some t) h = between_same w _ t (sends_same now t) h
+
+both : (x y : Bool) → (x && y) ≡ true → (x ≡ true) × (y ≡ true)
+both true y e = (refl, e)
+both false y e = absurd (cc)
+
+not_all : (n : ℕ) → n < 254 → nat_eq n 255 ≡ false
+not_all n e = grind arith
+
+ported_opens : (w : Who) (H : List Call) (now group to k : ℕ) (bytes : List ℕ) → TransferCase w H now group to bytes (Ok k)
+    → Ported w (open_transfer w (Transfer now group to bytes (Ok k) ∷ H))
+unfolding new_sender
+ported_opens w H now group to k bytes (homeless a e) = absurd (cc)
+ported_opens w H now group to k bytes (unfit a b e) = absurd (cc)
+ported_opens w H now group to k bytes (busy a b f e) = absurd (cc)
+ported_opens w H now group to k bytes (opens a b f e) =
+    record { source = refl; directed = ltb-true _ _ (both (nat_lt to 254) _ (both (can_broadcast group bytes) _ b).1).0 }
+
+pub ported : (w : Who) (H : List Call) → AreAnswered w H → Ported w (open_transfer w H)
+ported w [] e = tt
+ported w (Hear f ∷ H) e =
+    ported_hears w (is_lost (address_after w (Hear f ∷ H))) (λ a. is_replaced (holder H a) (holder (Hear f ∷ H) a)) f (clock_at H f.stamp) (open_transfer w H)
+    (ported w H e.0)
+ported w (Ticks now ∷ H) e = ported w H e.0
+ported w (TakeFrame now None ∷ H) e = ported w H e.0
+ported w (TakeFrame now (Some f) ∷ H) e = ported_sends w (is_move w H f) (clock_at H now) (open_transfer w H) (ported w H e.0)
+ported w (Send now draft answer ∷ H) e = ported w H e.0
+ported w (Ask now group to answer ∷ H) e = ported w H e.0
+ported w (TakeEnded answer ∷ H) e = ported w H e.0
+ported w (TakeAskEnded answer ∷ H) e = ported w H e.0
+ported w (TakeReceived answer ∷ H) e = ported w H e.0
+ported w (TakeRequest answer ∷ H) e = ported w H e.0
+ported w (TakeNews answer ∷ H) e = ported w H e.0
+ported w (Acknowledge now r answer result ∷ H) e = ported w H e.0
+ported w (Broadcast now group bytes answer ∷ H) e = ported w H e.0
+ported w (TakeBroadcastEnded answer ∷ H) e = ported w H e.0
+ported w (Transfer now group to bytes (Ok k) ∷ H) e = ported_opens w H now group to k bytes (transfer_case w H now group to bytes (Ok k) e.1)
+ported w (Transfer now group to bytes (Err r) ∷ H) e = ported w H e.0
+ported w (TakeTransferEnded None ∷ H) e = ported w H e.0
+ported w (TakeTransferEnded (Some x) ∷ H) e = tt
+ported w (ReleaseTransfer answer ∷ H) e = ported w H e.0
+ported w (ReleaseBroadcast answer ∷ H) e = ported w H e.0
+
+-- ---- what its frames are
+
+pub record SaidCase (w : Who) (m : Message) : Type 0 where
+  pub source : m.source ≡ w.address
+  pub group : (m.group ≡ transport_control_group) ⊎ (m.group ≡ transport_data_group)
+  pub directed : is_some m.destination 255 ≡ false
+
+either_group : (a : Signal) → (group_with a ≡ transport_control_group) ⊎ (group_with a ≡ transport_data_group)
+either_group (BroadcastAnnounce size packets pgn) = inl refl
+either_group (RequestToSend size packets most pgn) = inl refl
+either_group (ClearToSend count next pgn) = inl refl
+either_group (Acknowledgment size packets pgn) = inl refl
+either_group (Abort reason pgn) = inl refl
+either_group (Packet number part) = inr refl
+
+pub said_case : (w : Who) (o : Option Running) (now : ℕ) (m : Message) → Ported w o → transfer_by o now ≡ Some m → SaidCase w m
+said_case w None now m h e = absurd (cc)
+said_case w (Some t) now m h e = go (signal_by t now) e
+  where
+    go : (o : Option Signal) → option_map (says t.sender) o ≡ Some m → SaidCase w m
+    go None i = absurd (cc)
+    go (Some a) i =
+        let z : says t.sender a ≡ m = cc in
+        record {
+          source = ap (λ (y : Message). y.source) (sym z) ∙ h.source;
+          group = elim (either_group a) [ inl p ↦ inl (ap (λ (y : Message). y.group) (sym z) ∙ p) | inr p ↦ inr (ap (λ (y : Message). y.group) (sym z) ∙ p) ];
+          directed = ap (λ (y : Message). is_some y.destination 255) (sym z) ∙ not_all t.sender.destination h.directed;
+        }
+
+-- ---- who holds an address
+
+pub holder_known : (H : List Call) (table : Claims) (a : ℕ) → a < 254 → Knows table (told_claims H) → holder_in table a ≡ holder H a
+holder_known H table a l k = table_is table H a k
+
+-- who was, and is, the holder of the destination's address
+pub peers_are : (o : Option Running) (b : Bool) (p q : Option ℕ) (old new : Claims) → IfSome o (λ x. p ≡ holder_in old x.sender.destination)
+    → IfSome o (λ x. q ≡ holder_in new x.sender.destination) → b ≡ is_replaced p q
+    → IfSome o (λ x. b ≡ is_replaced (holder_in old x.sender.destination) (holder_in new x.sender.destination))
+peers_are None b p q old new e f g = tt
+peers_are (Some t) b p q old new e f g = g ∙ (ap (λ (o : Option ℕ). is_replaced o q) e ∙ ap (is_replaced (holder_in old t.sender.destination)) f)
+
+-- whether a frame that is heard replaces the holder of the destination's address
+pub replaced_is : (w : Who) (H : List Call) (f : FrameRecord) (old new : Claims) (b : Bool) (o : Option Running) → Ported w o
+    → Knows old (told_claims H) → Knows new (told_claims (Hear f ∷ H))
+    → IfSome o (λ x. b ≡ is_replaced (holder_in old x.sender.destination) (holder_in new x.sender.destination))
+    → IfSome o (λ x. b ≡ is_replaced (holder H x.sender.destination) (holder (Hear f ∷ H) x.sender.destination))
+replaced_is w H f old new b None h k l e = e
+replaced_is w H f old new b (Some t) h k l e =
+    e ∙ (ap (λ (o : Option ℕ). is_replaced o (holder_in new t.sender.destination)) (holder_known H old t.sender.destination h.directed k)
+    ∙ ap (is_replaced (holder H t.sender.destination)) (holder_known (Hear f ∷ H) new t.sender.destination h.directed l))
+
+-- ---- what a controller has of it
+
+pub is_port : (p q : PortRecord) → p.current ≡ q.current → p.next_token ≡ q.next_token → p ≡ q
+is_port p q e f =
+    ap (λ (x : Option Running). record p { current = x }) e ∙ ap (λ (n : ℕ). record p { current = q.current; next_token = n }) f
+
+-- a frame that is none of a transfer leaves it
+pub port_same : (w : Who) (H : List Call) (now : ℕ) (f : FrameRecord) → is_move w H f ≡ false → port_after w H ≡ port_after w (TakeFrame now (Some f) ∷ H)
+port_same w H now f e =
+    sym (ap (λ (b : Bool). (let p : PortRecord = record { current = sends_if b (clock_at H now) (open_transfer w H); next_token = length (transfers w H) } in p)) e)
+
+-- one of a transfer is its sender's step
+pub port_more : (w : Who) (H : List Call) (now : ℕ) (f : FrameRecord) → is_move w H f ≡ true
+    → sends_if true (clock_at H now) (open_transfer w H) ≡ open_transfer w (TakeFrame now (Some f) ∷ H)
+port_more w H now f e = sym (ap (λ (b : Bool). sends_if b (clock_at H now) (open_transfer w H)) e)
+
+pub clock_is : (n : ℕ) → min (min n 18446744073709551615) 9999999999999999 ≡ min n 9999999999999999
+clock_is n = omega arith

@@ -1,0 +1,841 @@
+-- The laws of transfers.
+use Rattle.std.proofs.Common.{◌≡◌, ◌⊎◌, ◌↔◌, ℕ, ◌+◌, ◌-◌, ◌<◌, ◌≤◌, List, [], ◌∷◌, ◌++◌, length, Option, Some, None, Result, Ok, Err, Bool, true, false, not, ◌&&◌, ◌||◌, ◌==◌, if◌then◌else◌, nat_lt, max, min, refl, sym, ap, ◌∙◌, arith, inl, inr, eq-eqb, eqb-true, subst, IsTrue}
+use Rattle.std.specs.List.{slice_get}
+use Rattle.std.specs.Option.{option_map}
+use Rattle.std.proofs.lemmas.Bool.{cond_both}
+use Rattle.j39_frame.specs.Frame.{FrameRecord}
+use Rattle.j39_frame.specs.Network.{transport_control_group, transport_data_group}
+use Rattle.j39_transport.specs.Cutting.{packet_data}
+use Rattle.j39_transport.specs.Message.{MessageRecord, packets_of}
+use Rattle.j39_transport.specs.Sending as sending
+use Rattle.j39_transport.specs.Sending.{SenderRecord, SendState, Heard, Tick, aborted, acknowledged as acked, cleared, is_idle, is_running, is_waiting, may_name, new_sender, request_of, send_step, sends_packet, ticks_in}
+use Rattle.j39_transport.specs.SenderNext.{granted_by}
+use Rattle.j39_transport.specs.Signals.{Signal, BroadcastAnnounce, RequestToSend, ClearToSend, Acknowledgment, Abort, Packet, said_between}
+use Rattle.j39_node.specs.declared.controller.Controller.{Controller}
+use Rattle.j39_node.specs.declared.kinds.TransferEnding.{TransferEnding}
+use Rattle.j39_node.specs.declared.kinds.TransferEnding.TheVariants.{Done, Withdrawn, Failed, Gone}
+use Rattle.j39_node.specs.declared.kinds.Refused.{Refused}
+use Rattle.j39_node.specs.declared.kinds.Refused.TheVariants.{NoAddress, BadValue, Full}
+use Rattle.j39_node.specs.History.{Who, Message, Call, accepted, acknowledged, address_after, due, has_packets, holds, is_lost, message_of, packets, sent, step}
+use Rattle.j39_node.specs.History.Call.{Ask, TakeAskEnded, Hear, Tick as Ticks, TakeFrame, Send, TakeEnded, TakeReceived, TakeRequest, TakeNews, Acknowledge, Broadcast, TakeBroadcastEnded, ReleaseTransfer, Transfer, TakeTransferEnded, ReleaseBroadcast}
+use Rattle.j39_node.specs.Is.{AreAnswered, Is, long_by, next_packet}
+use Rattle.j39_node.specs.Since.{PacketSince}
+use Rattle.j39_node.specs.Transfers.{Running, broken_off, can_transfer, clock_at, ending_by, gives_up, granted_after, hears, hears_if, is_engaged, is_over, is_replaced, is_spent, listens, next_transfer, open_transfer, said_to, says, sends, sends_if, signal_by, spent_after, told_transfers, transfer_end, transfers as all_transfers}
+use Rattle.j39_node.specs.Reception.{holder, is_move}
+use Rattle.j39_node.specs.Moves.{Aborts, Acknowledges, Happened, IsMove, NoneEnds, Replaces, abort_move, clears, clears_by, is_clear, moves, takes_clear}
+use Rattle.j39_node.proofs.SoundLemmas.{frame_case, sound}
+use Rattle.j39_node.proofs.LawLemmas.{not_both, past_end, sent_within, whole}
+use Rattle.j39_node.proofs.LaneLaws.{none_long, packet_waits}
+use Rattle.j39_node.proofs.PortLemmas.{TransferCase, transfer_case, Ported, ported, hears_same, sends_same}
+use Rattle.j39_node.proofs.PortLemmas.TransferCase.{homeless, unfit, busy, opens}
+use Rattle.j39_node.proofs.MoveSteps.{Moved, SignalCase, signal_case, running_some, done_heard, done_ticked, done_given_up, failed_heard, failed_ticked, failed_given_up}
+use Rattle.j39_node.proofs.MoveSteps.SignalCase.{requests, packs, times_out}
+use Rattle.j39_node.proofs.MoveLemmas.{Arises, LastIf, Sent, last_one, last_open, moved_open, sent_case, traced}
+
+-- ---- what transfer answers
+
+answers : (w : Who) (H : List Call) (c : Controller) (now group to : ℕ) (bytes : List ℕ) (answer : Result ℕ Refused)
+    → Is w (Transfer now group to bytes answer ∷ H) c → TransferCase w H now group to bytes answer
+answers w H c now group to bytes answer is = transfer_case w H now group to bytes answer is.answered.1
+
+pub refused_address : (w : Who) (H : List Call) (c : Controller) (now group to : ℕ) (bytes : List ℕ) (answer : Result ℕ Refused)
+    → Is w (Transfer now group to bytes answer ∷ H) c → (answer ≡ Err NoAddress ↔ (IsTrue (holds w H now) → ⊥))
+refused_address w H c now group to bytes answer is = go (answers w H c now group to bytes answer is)
+  where
+    go : TransferCase w H now group to bytes answer → (answer ≡ Err NoAddress ↔ (IsTrue (holds w H now) → ⊥))
+    go (homeless a e) = (λ z. not_both _ a, λ z. e)
+    go (unfit a b e) = (λ z. absurd (cc), λ z. absurd (z a))
+    go (busy a b f e) = (λ z. absurd (cc), λ z. absurd (z a))
+    go (opens a b f e) = (λ z. absurd (cc), λ z. absurd (z a))
+
+pub refused_value : (w : Who) (H : List Call) (c : Controller) (now group to : ℕ) (bytes : List ℕ) (answer : Result ℕ Refused)
+    → Is w (Transfer now group to bytes answer ∷ H) c
+    → (answer ≡ Err BadValue ↔ (IsTrue (holds w H now) × (IsTrue (can_transfer w group to bytes) → ⊥)))
+refused_value w H c now group to bytes answer is = go (answers w H c now group to bytes answer is)
+  where
+    go : TransferCase w H now group to bytes answer → (answer ≡ Err BadValue ↔ (IsTrue (holds w H now) × (IsTrue (can_transfer w group to bytes) → ⊥)))
+    go (homeless a e) = (λ z. absurd (cc), λ z. absurd (not_both _ a z.0))
+    go (unfit a b e) = (λ z. (a, not_both _ b), λ z. e)
+    go (busy a b f e) = (λ z. absurd (cc), λ z. absurd (z.1 b))
+    go (opens a b f e) = (λ z. absurd (cc), λ z. absurd (z.1 b))
+
+-- one is accepted and not told, or there is no token left
+AtLimit : Who → List Call → Type 0
+AtLimit w H = (length (all_transfers w H) ≡ length (told_transfers H) + 1) ⊎ (length (all_transfers w H) ≡ 18446744073709551615)
+
+engaged_limit : (o : Option Running) (told : ℕ) (all : List (ℕ × MessageRecord)) → LastIf told all o → is_engaged o (length all) ≡ true
+    → (length all ≡ told + 1) ⊎ (length all ≡ 18446744073709551615)
+engaged_limit None told all h e = inr (eqb-true _ _ e)
+engaged_limit (Some t) told all h e = inl (let a = h.token in let b = h.count in omega (arith, a, b))
+
+free_limit : (o : Option Running) (told : ℕ) (all : List (ℕ × MessageRecord)) → LastIf told all o → is_engaged o (length all) ≡ false
+    → ((length all ≡ told + 1) ⊎ (length all ≡ 18446744073709551615)) → ⊥
+free_limit None told all h e (inl a) = absurd (omega (arith, h, a))
+free_limit None told all h e (inr a) = not_both _ e (eq-eqb _ _ a)
+free_limit (Some t) told all h e l = absurd (cc)
+
+pub refused_full : (w : Who) (H : List Call) (c : Controller) (now group to : ℕ) (bytes : List ℕ) (answer : Result ℕ Refused)
+    → Is w (Transfer now group to bytes answer ∷ H) c
+    → (answer ≡ Err Full ↔ (IsTrue (holds w H now) × IsTrue (can_transfer w group to bytes)
+    × ((length (all_transfers w H) ≡ length (told_transfers H) + 1) ⊎ (length (all_transfers w H) ≡ 18446744073709551615))))
+unfolding AtLimit
+refused_full w H c now group to bytes answer is = go (answers w H c now group to bytes answer is)
+  where
+    go : TransferCase w H now group to bytes answer → (answer ≡ Err Full ↔ (IsTrue (holds w H now) × IsTrue (can_transfer w group to bytes) × AtLimit w H))
+    go (homeless a e) = (λ z. absurd (cc), λ z. absurd (not_both _ a z.0))
+    go (unfit a b e) = (λ z. absurd (cc), λ z. absurd (not_both _ b z.1))
+    go (busy a b f e) = (λ z. (a, b, engaged_limit (open_transfer w H) _ _ (last_one w H is.answered.0) f), λ z. e)
+    go (opens a b f e) = (λ z. absurd (cc), λ z. absurd (free_limit (open_transfer w H) _ _ (last_one w H is.answered.0) f z.2))
+
+pub is_accepted : (w : Who) (H : List Call) (c : Controller) (now group to : ℕ) (bytes : List ℕ) (answer : Result ℕ Refused)
+    → Is w (Transfer now group to bytes answer ∷ H) c → IsTrue (holds w H now) → IsTrue (can_transfer w group to bytes)
+    → length (all_transfers w H) ≡ length (told_transfers H) → length (all_transfers w H) < 18446744073709551615
+    → answer ≡ Ok (length (all_transfers w H))
+is_accepted w H c now group to bytes answer is held can room some = go (answers w H c now group to bytes answer is)
+  where
+    go : TransferCase w H now group to bytes answer → answer ≡ Ok (length (all_transfers w H))
+    go (homeless a e) = absurd (not_both _ a held)
+    go (unfit a b e) = absurd (not_both _ b can)
+    go (busy a b f e) = elim (engaged_limit (open_transfer w H) _ _ (last_one w H is.answered.0) f) [ inl z ↦ absurd (omega (arith, z, room)) | inr z ↦ absurd (omega (arith, z, some)) ]
+    go (opens a b f e) = e
+
+pub token_is : (w : Who) (H : List Call) (c : Controller) (now group to k : ℕ) (bytes : List ℕ) → Is w (Transfer now group to bytes (Ok k) ∷ H) c
+    → k ≡ length (all_transfers w H)
+token_is w H c now group to k bytes is = go (answers w H c now group to bytes (Ok k) is)
+  where
+    go : TransferCase w H now group to bytes (Ok k) → k ≡ length (all_transfers w H)
+    go (homeless a e) = absurd (cc)
+    go (unfit a b e) = absurd (cc)
+    go (busy a b f e) = absurd (cc)
+    go (opens a b f e) = cc
+
+-- ---- which frames are taken
+
+sent_one : (w : Who) (H : List Call) (c : Controller) (now : ℕ) (f : FrameRecord) → Is w (TakeFrame now (Some f) ∷ H) c → is_move w H f ≡ true → Sent w H now f
+sent_one w H c now f is p = sent_case w H now f is.answered.0 (frame_case w H now f is.answered.1) p
+
+both : (x y : Bool) → (x && y) ≡ true → (x ≡ true) × (y ≡ true)
+both true y e = (refl, e)
+both false y e = absurd (cc)
+
+given_up : (t : Running) (now : ℕ) (a : Signal) → gives_up t ≡ true → signal_by t now ≡ Some a → a ≡ Abort 5 t.sender.message.pgn
+given_up t now a g = cond_both t.gone None _ (λ (o : Option Signal). o ≡ Some a → a ≡ Abort 5 t.sender.message.pgn) (λ z e. absurd (cc))
+    (λ z. cond_both (gives_up t) _ _ (λ (o : Option Signal). o ≡ Some a → a ≡ Abort 5 t.sender.message.pgn)
+    (λ y e. (let x : Abort 5 t.sender.message.pgn ≡ a = cc in sym x)) (λ y e. absurd (not_both _ y g)))
+
+ticking : (t : Running) (now : ℕ) (a : Signal) → gives_up t ≡ false → signal_by t now ≡ Some a → (send_step t.sender Tick now).says ≡ Some a
+ticking t now a g = cond_both t.gone None _ (λ (o : Option Signal). o ≡ Some a → (send_step t.sender Tick now).says ≡ Some a) (λ z e. absurd (cc))
+    (λ z. cond_both (gives_up t) _ _ (λ (o : Option Signal). o ≡ Some a → (send_step t.sender Tick now).says ≡ Some a) (λ y e. absurd (not_both _ g y)) (λ y e. e))
+
+moves_so : (t : Running) (now : ℕ) (xs : List Message) (a : Signal) → Moved t.sender xs → signal_by t now ≡ Some a
+    → IsMove t.sender.destination t.sender.message xs (says t.sender a)
+moves_so t now xs a h e = go (gives_up t) refl
+  where
+    by : SignalCase t.sender xs a → IsMove t.sender.destination t.sender.message xs (says t.sender a)
+    by (requests n z) = inl (n, ap (says t.sender) z)
+    by (packs i n l k z) = inr (n, inl (i, l, k, ap (says t.sender) z))
+    by (times_out n z) = inr (n, inr (inl (ap (says t.sender) z)))
+
+    go : (b : Bool) → gives_up t ≡ b → IsMove t.sender.destination t.sender.message xs (says t.sender a)
+    go true g = inr (running_some _ _ xs t.sender.state h.state (both (is_spent t) (is_running t.sender.state) g).1, inr (inr (ap (says t.sender) (given_up t now a g e))))
+    go false g = by (signal_case t.sender now xs a h (ticking t now a g e))
+
+pub only : (w : Who) (H : List Call) (c : Controller) (now : ℕ) (f : FrameRecord) → Is w (TakeFrame now (Some f) ∷ H) c → IsTrue (is_move w H f)
+    → (k to : ℕ) × (m : MessageRecord) × (slice_get (all_transfers w H) k ≡ Some (to, m)) × (k ≡ length (told_transfers H)) × IsMove to m (moves w H) (message_of f)
+only w H c now f is p =
+    let s = sent_one w H c now f is p in
+    let l = last_open w H s.running is.answered.0 s.is in (
+      s.running.token,
+      s.running.sender.destination,
+      s.running.sender.message,
+      l.last,
+      l.token,
+      subst (IsMove s.running.sender.destination s.running.sender.message (moves w H)) (sym s.frame)
+          (moves_so s.running (clock_at H now) (moves w H) s.signal (moved_open w H s.running is.answered.0 s.is) s.said),
+    )
+
+pub behind : (w : Who) (H : List Call) (c : Controller) (now : ℕ) (f : FrameRecord) → Is w (TakeFrame now (Some f) ∷ H) c → IsTrue (is_move w H f)
+    → IsTrue (holds w H now) × (length (sent H) ≡ length (accepted w H)) × (acknowledged H ≡ due w H)
+behind w H c now f is p =
+    let x = sent_one w H c now f is p in
+    let s = sound w H is.answered.0 in
+    let a = past_end (accepted w H) (length (sent H)) x.none_waits in
+    let b = sent_within w H s in
+    (x.held, omega (arith, a, b), whole (acknowledged H) (due w H) s.desk.1 (past_end (due w H) (length (acknowledged H)) x.none_due))
+
+pub after_broadcasts : (w : Who) (H : List Call) (c : Controller) (now : ℕ) (f : FrameRecord) → Is w (TakeFrame now (Some f) ∷ H) c → IsTrue (is_move w H f)
+    → IsTrue (has_packets w H) → (e : ℕ) × PacketSince H e × (e + step H now < 50000)
+after_broadcasts w H c now f is p some = packet_waits w H now some (sent_one w H c now f is p).no_packet
+
+pub waits : (w : Who) (H : List Call) (c : Controller) (now : ℕ) → Is w (TakeFrame now None ∷ H) c → IsTrue (holds w H now) → next_transfer w H now ≡ None
+waits w H c now is held = no_long (next_packet w H now) (next_transfer w H now) (none_long w H now held is.answered.1)
+  where
+    no_long : (a b : Option Message) → long_by a b ≡ None → b ≡ None
+    no_long None b e = e
+    no_long (Some m) b e = absurd (cc)
+
+pub gives_up_so : (w : Who) (H : List Call) (c : Controller) (now : ℕ) (f : FrameRecord) (t : Running) → Is w (TakeFrame now (Some f) ∷ H) c → IsTrue (is_move w H f)
+    → open_transfer w H ≡ Some t → IsTrue (gives_up t) → message_of f ≡ abort_move t.sender.destination t.sender.message 5
+gives_up_so w H c now f t is p e g =
+    let s = sent_one w H c now f is p in
+    let z : Some s.running ≡ Some t = sym s.is ∙ e in
+    let y : s.running ≡ t = cc in
+    s.frame ∙ (ap (says s.running.sender) (given_up s.running (clock_at H now) s.signal (ap gives_up y ∙ g) s.said)
+    ∙ ap (λ (u : Running). abort_move u.sender.destination u.sender.message 5) y)
+
+-- ---- how many clears to send it takes
+
+record Budgeted (t : Running) (n : ℕ) : Type 0 where
+  pub count : n ≤ t.granted + t.spent
+  pub granted : t.granted ≤ packets_of t.sender.message
+  pub spent : t.spent ≤ 65
+  pub heard : t.spent ≤ n
+
+abbrev BudgetedIf : Option Running → ℕ → Type 0
+BudgetedIf None n = Unit {0}
+BudgetedIf (Some t) n = Budgeted t n
+
+abbrev Within : ℕ → Option ℕ → Type 0
+Within n None = Unit {0}
+Within n (Some last) = last ≤ n
+
+granted_within : (s : SenderRecord) (o : Option Signal) → Within (packets_of s.message) (granted_by s o)
+granted_within s None = tt
+granted_within s (Some (BroadcastAnnounce size packets pgn)) = tt
+granted_within s (Some (RequestToSend size packets most pgn)) = tt
+granted_within s (Some (ClearToSend count p pgn)) = cond_both (is_waiting s.state && pgn == s.message.pgn) _ _ (Within (packets_of s.message))
+    (λ t. cond_both (count == 0) _ _ (Within (packets_of s.message)) (λ u. (let z : 0 ≤ packets_of s.message = omega arith in z))
+    (λ u. cond_both (may_name s p) _ _ (Within (packets_of s.message)) (λ v. (let z : min (p + count - 1) (packets_of s.message) ≤ packets_of s.message = omega arith in z)) (λ v. tt)))
+    (λ t. tt)
+granted_within s (Some (Acknowledgment size packets pgn)) = tt
+granted_within s (Some (Abort reason pgn)) = tt
+granted_within s (Some (Packet number part)) = tt
+
+not_more : (k : ℕ) → nat_lt 64 k ≡ false → k ≤ 64
+not_more k e = grind arith
+
+budget_listens : (t : Running) (n k : ℕ) (o : Option ℕ) → Within k o → n ≤ t.granted + t.spent → t.granted ≤ k → t.spent ≤ 64 → t.spent ≤ n
+    → ((if is_clear o then n + 1 else n) ≤ granted_after o t.granted + spent_after o t.granted t.spent)
+    × (granted_after o t.granted ≤ k) × (spent_after o t.granted t.spent ≤ 65) × (spent_after o t.granted t.spent ≤ (if is_clear o then n + 1 else n))
+budget_listens t n k None l a b d h = (a, b, omega (arith, d), h)
+budget_listens t n k (Some last) l a b d h = go (nat_lt t.granted last) refl
+  where
+    less : (x y : ℕ) → nat_lt x y ≡ true → x < y
+    less x y e = grind arith
+
+    go : (b : Bool) → nat_lt t.granted last ≡ b → (n + 1 ≤ max t.granted last + (if b then t.spent else t.spent + 1)) × (max t.granted last ≤ k) × ((if b then t.spent else t.spent + 1) ≤ 65) × ((if b then t.spent else t.spent + 1) ≤ n + 1)
+    go true e = let y = less _ _ e in (omega (arith, y, a), omega (arith, b, l), omega (arith, d), omega (arith, h))
+    go false e = (omega (arith, a), omega (arith, b, l), omega (arith, d), omega (arith, h))
+
+budget_hears : (lost replaced : Bool) (f : FrameRecord) (now : ℕ) (t : Running) (n : ℕ) → Budgeted t n
+    → Budgeted (hears lost replaced f now t) (if takes_clear lost replaced f t then n + 1 else n)
+budget_hears true replaced f now t n h = record { count = h.count; granted = h.granted; spent = h.spent; heard = h.heard }
+budget_hears false true f now t n h = record { count = h.count; granted = h.granted; spent = h.spent; heard = h.heard }
+budget_hears false false f now t n h = go (t.gone || is_spent t) refl
+  where
+    second : (x y : Bool) → (x || y) ≡ false → y ≡ false
+    second true y e = absurd (cc)
+    second false y e = e
+
+    same : packets_of (send_step t.sender (Heard f) now).after.message ≡ packets_of t.sender.message
+    same = ap packets_of (hears_same false false f now (record t { gone = false; spent = 0 })).0
+
+    go : (b : Bool) → (t.gone || is_spent t) ≡ b
+        → Budgeted (if b then t else listens f now t) (if not b && is_clear (granted_by t.sender (said_to t.sender f)) then n + 1 else n)
+    go true e = h
+    go false e =
+        let x = budget_listens t n (packets_of t.sender.message) (granted_by t.sender (said_to t.sender f)) (granted_within t.sender (said_to t.sender f)) h.count h.granted
+        (not_more t.spent (second t.gone (is_spent t) e)) h.heard in
+        record { count = x.0; granted = subst (λ (k : ℕ). granted_after (granted_by t.sender (said_to t.sender f)) t.granted ≤ k) (sym same) x.1; spent = x.2; heard = x.3 }
+
+budget_hears_if : (lost : Bool) (replaced : ℕ → Bool) (f : FrameRecord) (now : ℕ) (o : Option Running) (n : ℕ) → BudgetedIf o n
+    → BudgetedIf (hears_if lost replaced f now o) (clears_by lost replaced f o n)
+budget_hears_if lost replaced f now None n h = h
+budget_hears_if lost replaced f now (Some t) n h = budget_hears lost (replaced t.sender.destination) f now t n h
+
+budget_sends : (b : Bool) (now : ℕ) (o : Option Running) (n : ℕ) → BudgetedIf o n → BudgetedIf (sends_if b now o) n
+budget_sends false now o n h = h
+budget_sends true now None n h = h
+budget_sends true now (Some t) n h = record {
+  count = h.count;
+  granted = subst (λ (k : ℕ). t.granted ≤ k) (sym (ap packets_of (sends_same now t).0)) h.granted;
+  spent = h.spent;
+  heard = h.heard;
+}
+
+budgeted : (w : Who) (H : List Call) → BudgetedIf (open_transfer w H) (clears w H)
+budgeted w [] = tt
+budgeted w (Hear f ∷ H) =
+    budget_hears_if (is_lost (address_after w (Hear f ∷ H))) (λ a. is_replaced (holder H a) (holder (Hear f ∷ H) a)) f (clock_at H f.stamp) (open_transfer w H)
+    (clears w H) (budgeted w H)
+budgeted w (Ticks now ∷ H) = budgeted w H
+budgeted w (TakeFrame now None ∷ H) = budgeted w H
+budgeted w (TakeFrame now (Some f) ∷ H) = budget_sends (is_move w H f) (clock_at H now) (open_transfer w H) (clears w H) (budgeted w H)
+budgeted w (Send now draft answer ∷ H) = budgeted w H
+budgeted w (Ask now group to answer ∷ H) = budgeted w H
+budgeted w (TakeEnded answer ∷ H) = budgeted w H
+budgeted w (TakeAskEnded answer ∷ H) = budgeted w H
+budgeted w (TakeReceived answer ∷ H) = budgeted w H
+budgeted w (TakeRequest answer ∷ H) = budgeted w H
+budgeted w (TakeNews answer ∷ H) = budgeted w H
+budgeted w (Acknowledge now r answer result ∷ H) = budgeted w H
+budgeted w (Broadcast now group bytes answer ∷ H) = budgeted w H
+budgeted w (TakeBroadcastEnded answer ∷ H) = budgeted w H
+budgeted w (Transfer now group to bytes (Ok k) ∷ H) = record { count = omega arith; granted = omega arith; spent = omega arith; heard = omega arith }
+budgeted w (Transfer now group to bytes (Err r) ∷ H) = budgeted w H
+budgeted w (TakeTransferEnded None ∷ H) = budgeted w H
+budgeted w (TakeTransferEnded (Some x) ∷ H) = tt
+budgeted w (ReleaseTransfer answer ∷ H) = budgeted w H
+budgeted w (ReleaseBroadcast answer ∷ H) = budgeted w H
+
+pub bounded : (w : Who) (H : List Call) (c : Controller) (t : Running) → Is w H c → open_transfer w H ≡ Some t → clears w H ≤ packets_of t.sender.message + 65
+bounded w H c t is e =
+    let h : Budgeted t (clears w H) = subst (λ (o : Option Running). BudgetedIf o (clears w H)) e (budgeted w H) in
+    let a = h.count in let b = h.granted in let d = h.spent in omega (arith, a, b, d)
+
+one_number : (m n : ℕ) → Some m ≡ Some n → m ≡ n
+one_number m n e = cc
+
+-- it gives up only where more than 64 clears to send granted nothing higher
+not_five : (t : Running) (xs : List Message) (a : Signal) → SignalCase t.sender xs a → says t.sender a ≡ abort_move t.sender.destination t.sender.message 5 → ⊥
+not_five t xs a (requests n e) k =
+    let z : says t.sender (request_of t.sender.message) ≡ abort_move t.sender.destination t.sender.message 5 = sym (ap (says t.sender) e) ∙ k in
+    let y = one_number 16 255 (ap (λ (m : Message). slice_get m.bytes 0) z) in
+    absurd (omega (arith, y))
+not_five t xs a (packs i n l m e) k =
+    let z : says t.sender (Packet i (packet_data t.sender.message.bytes i)) ≡ abort_move t.sender.destination t.sender.message 5 = sym (ap (says t.sender) e) ∙ k in
+    let y : transport_data_group ≡ transport_control_group = ap (λ (m : Message). m.group) z in
+    absurd (omega (arith, y))
+not_five t xs a (times_out n e) k =
+    let z : abort_move t.sender.destination t.sender.message 3 ≡ abort_move t.sender.destination t.sender.message 5 = sym (ap (says t.sender) e) ∙ k in
+    let y = one_number 3 5 (ap (λ (m : Message). slice_get m.bytes 1) z) in
+    absurd (omega (arith, y))
+
+many : (k : ℕ) → nat_lt 64 k ≡ true → 65 ≤ k
+many k e = grind arith
+
+pub patient : (w : Who) (H : List Call) (c : Controller) (now : ℕ) (f : FrameRecord) (t : Running) → Is w (TakeFrame now (Some f) ∷ H) c → IsTrue (is_move w H f)
+    → open_transfer w H ≡ Some t → message_of f ≡ abort_move t.sender.destination t.sender.message 5 → (65 ≤ t.spent) × (65 ≤ clears w H)
+patient w H c now f t is p e five = go (gives_up t) refl
+  where
+    s : Sent w H now f
+    s = sent_one w H c now f is p
+
+    same : s.running ≡ t
+    same = let z : Some s.running ≡ Some t = sym s.is ∙ e in cc
+
+    go : (b : Bool) → gives_up t ≡ b → (65 ≤ t.spent) × (65 ≤ clears w H)
+    go true g =
+        let a = many t.spent (both (is_spent t) (is_running t.sender.state) g).0 in
+        let h : Budgeted t (clears w H) = subst (λ (o : Option Running). BudgetedIf o (clears w H)) e (budgeted w H) in
+        let b = h.heard in
+        (a, omega (arith, a, b))
+    go false g = absurd (not_five t (moves w H) s.signal
+        (signal_case t.sender (clock_at H now) (moves w H) s.signal (moved_open w H t is.answered.0 e)
+        (ticking t (clock_at H now) s.signal g (ap (λ (u : Running). signal_by u (clock_at H now)) (sym same) ∙ s.said)))
+        (ap (λ (u : Running). says u.sender s.signal) (sym same) ∙ (sym s.frame ∙ five)))
+
+-- ---- its sender takes the steps of the standard's
+
+pub heeds : (w : Who) (H : List Call) (f : FrameRecord) (t : Running) → open_transfer w H ≡ Some t → is_lost (address_after w (Hear f ∷ H)) ≡ false
+    → is_replaced (holder H t.sender.destination) (holder (Hear f ∷ H) t.sender.destination) ≡ false → t.gone ≡ false → is_spent t ≡ false
+    → (x : Running) × (open_transfer w (Hear f ∷ H) ≡ Some x) × (x.sender ≡ (send_step t.sender (Heard f) (clock_at H f.stamp)).after)
+heeds w H f t e own held here room =
+    subst (λ (o : Option Running). (x : Running)
+    × (hears_if (is_lost (address_after w (Hear f ∷ H))) (λ a. is_replaced (holder H a) (holder (Hear f ∷ H) a)) f (clock_at H f.stamp) o ≡ Some x)
+    × (x.sender ≡ (send_step t.sender (Heard f) (clock_at H f.stamp)).after))
+    (sym e) (heard _ _ _ own held (ap (λ (b : Bool). b || is_spent t) here ∙ room))
+  where
+    heard : (a b g : Bool) → a ≡ false → b ≡ false → g ≡ false
+        → (x : Running) × (Some (if a then t else if b then record t { gone = true } else if g then t else listens f (clock_at H f.stamp) t) ≡ Some x)
+        × (x.sender ≡ (send_step t.sender (Heard f) (clock_at H f.stamp)).after)
+    heard false false false p q r = (listens f (clock_at H f.stamp) t, refl, refl)
+    heard true b g p q r = absurd (cc)
+    heard false true g p q r = absurd (cc)
+    heard false false true p q r = absurd (cc)
+
+pub goes_on : (w : Who) (H : List Call) (now : ℕ) (f : FrameRecord) (t : Running) → open_transfer w H ≡ Some t → IsTrue (is_move w H f) → gives_up t ≡ false
+    → (x : Running) × (open_transfer w (TakeFrame now (Some f) ∷ H) ≡ Some x) × (x.sender ≡ (send_step t.sender Tick (clock_at H now)).after)
+goes_on w H now f t e p g = (
+  sends (clock_at H now) t,
+  ap (λ (b : Bool). sends_if b (clock_at H now) (open_transfer w H)) p ∙ ap (λ (o : Option Running). sends_if true (clock_at H now) o) e,
+  ap (λ (b : Bool). if b then aborted 5 t.sender else (send_step t.sender Tick (clock_at H now)).after) g,
+)
+
+-- ---- how it ended
+
+record Ended (w : Who) (H : List Call) (k : ℕ) (e : TransferEnding) : Type 0 where
+  pub running : Running
+  pub is : open_transfer w H ≡ Some running
+  pub token : running.token ≡ k
+  pub ending : Some e ≡ ending_by running.sender.state running.gone (is_lost (address_after w H))
+
+same_pair : (x y : ℕ × TransferEnding) → Some x ≡ Some y → (x.0 ≡ y.0) × (x.1 ≡ y.1)
+same_pair x y e = let z : x ≡ y = cc in (ap (λ (u : ℕ × TransferEnding). u.0) z, ap (λ (u : ℕ × TransferEnding). u.1) z)
+
+ended_by : (w : Who) (H : List Call) (k : ℕ) (e : TransferEnding) (o : Option Running) → open_transfer w H ≡ o → Some (k, e) ≡ transfer_end o (is_lost (address_after w H))
+    → Ended w H k e
+ended_by w H k e None p q = absurd (cc)
+ended_by w H k e (Some t) p q = go (ending_by t.sender.state t.gone (is_lost (address_after w H))) refl q
+  where
+    go : (x : Option TransferEnding) → ending_by t.sender.state t.gone (is_lost (address_after w H)) ≡ x
+        → (let o : Option (ℕ × TransferEnding) = Some (k, e) in o) ≡ (let o : Option (ℕ × TransferEnding) = option_map (λ y. (t.token, y)) x in o) → Ended w H k e
+    go None a b = absurd (cc)
+    go (Some y) a b =
+        let z = same_pair (k, e) (t.token, y) b in
+        record { running = t; is = p; token = sym z.0; ending = ap (λ (u : TransferEnding). Some u) z.1 ∙ sym a }
+
+ended : (w : Who) (H : List Call) (c : Controller) (k : ℕ) (e : TransferEnding) → Is w (TakeTransferEnded (Some (k, e)) ∷ H) c → Ended w H k e
+ended w H c k e is = ended_by w H k e (open_transfer w H) refl is.answered.1
+
+pub in_turn : (w : Who) (H : List Call) (c : Controller) (k : ℕ) (e : TransferEnding) → Is w (TakeTransferEnded (Some (k, e)) ∷ H) c
+    → (k ≡ length (told_transfers H)) × (k < length (all_transfers w H))
+in_turn w H c k e is =
+    let x = ended w H c k e is in
+    let l = last_open w H x.running is.answered.0 x.is in
+    let a = x.token in let b = l.token in let d = l.count in (omega (arith, a, b), omega (arith, a, d))
+
+broken_done : (gone lost : Bool) → Some Done ≡ broken_off gone lost → ⊥
+broken_done true lost e = absurd (cc)
+broken_done false true e = absurd (cc)
+broken_done false false e = absurd (cc)
+
+broken_failed : (gone lost : Bool) (r : ℕ) → Some (Failed r) ≡ broken_off gone lost → ⊥
+broken_failed true lost r e = absurd (cc)
+broken_failed false true r e = absurd (cc)
+broken_failed false false r e = absurd (cc)
+
+state_done : (u : SendState) (gone lost : Bool) → Some Done ≡ ending_by u gone lost → u ≡ sending.Done
+state_done sending.Done gone lost e = refl
+state_done (sending.Failed r) gone lost e = absurd (cc)
+state_done sending.Idle gone lost e = absurd (broken_done gone lost e)
+state_done (sending.Waiting limit) gone lost e = absurd (broken_done gone lost e)
+state_done (sending.Sending next last) gone lost e = absurd (broken_done gone lost e)
+
+state_failed : (u : SendState) (gone lost : Bool) (r : ℕ) → Some (Failed r) ≡ ending_by u gone lost → u ≡ sending.Failed r
+state_failed sending.Done gone lost r e = absurd (cc)
+state_failed (sending.Failed k) gone lost r e = let z : r ≡ k = cc in ap sending.Failed (sym z)
+state_failed sending.Idle gone lost r e = absurd (broken_failed gone lost r e)
+state_failed (sending.Waiting limit) gone lost r e = absurd (broken_failed gone lost r e)
+state_failed (sending.Sending next last) gone lost r e = absurd (broken_failed gone lost r e)
+
+broken_gone : (gone lost : Bool) → Some Gone ≡ broken_off gone lost → gone ≡ true
+broken_gone true lost e = refl
+broken_gone false true e = absurd (cc)
+broken_gone false false e = absurd (cc)
+
+state_gone : (u : SendState) (gone lost : Bool) → Some Gone ≡ ending_by u gone lost → gone ≡ true
+state_gone sending.Done gone lost e = absurd (cc)
+state_gone (sending.Failed r) gone lost e = absurd (cc)
+state_gone sending.Idle gone lost e = broken_gone gone lost e
+state_gone (sending.Waiting limit) gone lost e = broken_gone gone lost e
+state_gone (sending.Sending next last) gone lost e = broken_gone gone lost e
+
+broken_lost : (gone lost : Bool) → Some Withdrawn ≡ broken_off gone lost → lost ≡ true
+broken_lost true lost e = absurd (cc)
+broken_lost false true e = refl
+broken_lost false false e = absurd (cc)
+
+state_lost : (u : SendState) (gone lost : Bool) → Some Withdrawn ≡ ending_by u gone lost → lost ≡ true
+state_lost sending.Done gone lost e = absurd (cc)
+state_lost (sending.Failed r) gone lost e = absurd (cc)
+state_lost sending.Idle gone lost e = broken_lost gone lost e
+state_lost (sending.Waiting limit) gone lost e = broken_lost gone lost e
+state_lost (sending.Sending next last) gone lost e = broken_lost gone lost e
+
+pub withdrawn_means : (w : Who) (H : List Call) (c : Controller) (k : ℕ) → Is w (TakeTransferEnded (Some (k, Withdrawn)) ∷ H) c → IsTrue (is_lost (address_after w H))
+withdrawn_means w H c k is = let x = ended w H c k Withdrawn is in state_lost x.running.sender.state x.running.gone _ x.ending
+
+-- ---- since when
+
+from_own : (w : Who) (H : List Call) (t : Running) → AreAnswered w H → open_transfer w H ≡ Some t → t.sender.message.source ≡ w.address
+from_own w H t right e = let p : Ported w (Some t) = subst (Ported w) e (ported w H right) in p.source
+
+said_own : (w : Who) (H : List Call) (t : Running) (f : FrameRecord) (a : Option Signal) → AreAnswered w H → open_transfer w H ≡ Some t → said_to t.sender f ≡ a
+    → said_between t.sender.destination w.address f ≡ a
+said_own w H t f a right e g = ap (λ (n : ℕ). said_between t.sender.destination n f) (sym (from_own w H t right e)) ∙ g
+
+done_arises : (w : Who) → Arises w (λ t. t.sender.state ≡ sending.Done) (Acknowledges w)
+unfolding new_sender
+done_arises w = record {
+  begins_not = λ token m to q. (let z : sending.Idle ≡ sending.Done = q in absurd (cc));
+  by_hearing = hearing;
+  by_sending = λ H now f t a right e g k q. inl (cond_both (gives_up t) (aborted 5 t.sender) (send_step t.sender Tick (clock_at H now)).after
+      (λ (r : SenderRecord). r.state ≡ sending.Done → t.sender.state ≡ sending.Done) (λ z. done_given_up t.sender 5) (λ z. done_ticked t.sender (clock_at H now)) q);
+}
+  where
+    heard : (H : List Call) (f : FrameRecord) (t : Running) (lost replaced : Bool) (now : ℕ) → AreAnswered w H → open_transfer w H ≡ Some t
+        → (hears lost replaced f now t).sender.state ≡ sending.Done
+        → (t.sender.state ≡ sending.Done) ⊎ Acknowledges w t.sender.destination t.sender.message H (Hear f)
+    heard H f t true replaced now right e = λ q. inl q
+    heard H f t false true now right e = λ q. inl q
+    heard H f t false false now right e = cond_both (t.gone || is_spent t) t (listens f now t)
+        (λ (u : Running). u.sender.state ≡ sending.Done → (t.sender.state ≡ sending.Done) ⊎ Acknowledges w t.sender.destination t.sender.message H (Hear f))
+        (λ z q. inl q)
+        (λ z q. elim (done_heard t.sender f now q) [
+          | inl x ↦ inl x
+          | inr x ↦ inr (
+            said_own w H t f _ right e x.says,
+            λ i l m. (let n = x.last in (moved_open w H t right e).taken i l (omega (arith, m, n))),
+          )
+        ])
+
+    hearing : (H : List Call) (f : FrameRecord) (t : Running) → AreAnswered w H → open_transfer w H ≡ Some t
+        → (hears (is_lost (address_after w (Hear f ∷ H))) (is_replaced (holder H t.sender.destination) (holder (Hear f ∷ H) t.sender.destination)) f (clock_at H f.stamp) t).sender.state
+        ≡ sending.Done
+        → (t.sender.state ≡ sending.Done) ⊎ Acknowledges w t.sender.destination t.sender.message H (Hear f)
+    hearing H f t right e q =
+        heard H f t (is_lost (address_after w (Hear f ∷ H))) (is_replaced (holder H t.sender.destination) (holder (Hear f ∷ H) t.sender.destination)) (clock_at H f.stamp) right e q
+
+failed_arises : (w : Who) (r : ℕ) → Arises w (λ t. t.sender.state ≡ sending.Failed r) (Aborts w r)
+unfolding new_sender
+failed_arises w r = record {
+  begins_not = λ token m to q. (let z : sending.Idle ≡ sending.Failed r = q in absurd (cc));
+  by_hearing = hearing;
+  by_sending = sending_one;
+}
+  where
+    heard : (H : List Call) (f : FrameRecord) (t : Running) (lost replaced : Bool) (now : ℕ) → AreAnswered w H → open_transfer w H ≡ Some t
+        → (hears lost replaced f now t).sender.state ≡ sending.Failed r
+        → (t.sender.state ≡ sending.Failed r) ⊎ Aborts w r t.sender.destination t.sender.message H (Hear f)
+    heard H f t true replaced now right e = λ q. inl q
+    heard H f t false true now right e = λ q. inl q
+    heard H f t false false now right e = cond_both (t.gone || is_spent t) t (listens f now t)
+        (λ (u : Running). u.sender.state ≡ sending.Failed r → (t.sender.state ≡ sending.Failed r) ⊎ Aborts w r t.sender.destination t.sender.message H (Hear f))
+        (λ z q. inl q)
+        (λ z q. elim (failed_heard t.sender f now r q) [ inl x ↦ inl x | inr x ↦ inr (said_own w H t f _ right e x) ])
+
+    hearing : (H : List Call) (f : FrameRecord) (t : Running) → AreAnswered w H → open_transfer w H ≡ Some t
+        → (hears (is_lost (address_after w (Hear f ∷ H))) (is_replaced (holder H t.sender.destination) (holder (Hear f ∷ H) t.sender.destination)) f (clock_at H f.stamp) t).sender.state
+        ≡ sending.Failed r
+        → (t.sender.state ≡ sending.Failed r) ⊎ Aborts w r t.sender.destination t.sender.message H (Hear f)
+    hearing H f t right e q =
+        heard H f t (is_lost (address_after w (Hear f ∷ H))) (is_replaced (holder H t.sender.destination) (holder (Hear f ∷ H) t.sender.destination)) (clock_at H f.stamp) right e q
+
+    aborts : (t : Running) (f : FrameRecord) (a : Signal) → message_of f ≡ says t.sender a → a ≡ Abort r t.sender.message.pgn
+        → message_of f ≡ abort_move t.sender.destination t.sender.message r
+    aborts t f a k z = k ∙ ap (says t.sender) z
+
+    sending_one : (H : List Call) (now : ℕ) (f : FrameRecord) (t : Running) (a : Signal) → AreAnswered w H → open_transfer w H ≡ Some t
+        → signal_by t (clock_at H now) ≡ Some a → message_of f ≡ says t.sender a → (sends (clock_at H now) t).sender.state ≡ sending.Failed r
+        → (t.sender.state ≡ sending.Failed r) ⊎ Aborts w r t.sender.destination t.sender.message H (TakeFrame now (Some f))
+    sending_one H now f t a right e g k = cond_both (gives_up t) (aborted 5 t.sender) (send_step t.sender Tick (clock_at H now)).after
+        (λ (s : SenderRecord). s.state ≡ sending.Failed r → (t.sender.state ≡ sending.Failed r) ⊎ Aborts w r t.sender.destination t.sender.message H (TakeFrame now (Some f)))
+        (λ z q. elim (failed_given_up t.sender 5 r q) [
+          | inl x ↦ inl x
+          | inr x ↦ inr (aborts t f a k (given_up t (clock_at H now) a z g ∙ ap (λ (n : ℕ). Abort n t.sender.message.pgn) x))
+        ])
+        (λ z q. elim (failed_ticked t.sender (clock_at H now) r q) [
+          | inl x ↦ inl x
+          | inr x ↦ inr (aborts t f a k (let y = sym (ticking t (clock_at H now) a z g) ∙ x in let v : a ≡ Abort r t.sender.message.pgn = cc in v))
+        ])
+
+gone_arises : (w : Who) → Arises w (λ t. t.gone ≡ true) (λ to m. Replaces to)
+gone_arises w = record {
+  begins_not = λ token m to q. absurd (cc);
+  by_hearing = λ H f t right e q.
+      heard H f t (is_lost (address_after w (Hear f ∷ H))) (is_replaced (holder H t.sender.destination) (holder (Hear f ∷ H) t.sender.destination)) (clock_at H f.stamp) refl q;
+  by_sending = λ H now f t a right e g k q. inl q;
+}
+  where
+    heard : (H : List Call) (f : FrameRecord) (t : Running) (lost replaced : Bool) (now : ℕ)
+        → is_replaced (holder H t.sender.destination) (holder (Hear f ∷ H) t.sender.destination) ≡ replaced → (hears lost replaced f now t).gone ≡ true
+        → (t.gone ≡ true) ⊎ Replaces t.sender.destination H (Hear f)
+    heard H f t true replaced now e = λ q. inl q
+    heard H f t false true now e = λ q. inr e
+    heard H f t false false now e = cond_both (t.gone || is_spent t) t (listens f now t)
+        (λ (u : Running). u.gone ≡ true → (t.gone ≡ true) ⊎ Replaces t.sender.destination H (Hear f)) (λ z q. inl q) (λ z q. inl q)
+
+of_token : (w : Who) (H : List Call) (c : Controller) (k : ℕ) (e : TransferEnding) (is : Is w (TakeTransferEnded (Some (k, e)) ∷ H) c) (x : Ended w H k e)
+    → slice_get (all_transfers w H) k ≡ Some (x.running.sender.destination, x.running.sender.message)
+of_token w H c k e is x = ap (slice_get (all_transfers w H)) (sym x.token) ∙ (last_open w H x.running is.answered.0 x.is).last
+
+pub done_means : (w : Who) (H : List Call) (c : Controller) (k : ℕ) → Is w (TakeTransferEnded (Some (k, Done)) ∷ H) c
+    → (to : ℕ) × (m : MessageRecord) × (slice_get (all_transfers w H) k ≡ Some (to, m)) × Happened (Acknowledges w to m) H
+done_means w H c k is =
+    let x = ended w H c k Done is in (
+      x.running.sender.destination,
+      x.running.sender.message,
+      of_token w H c k Done is x,
+      traced w (λ t. t.sender.state ≡ sending.Done) (Acknowledges w) (done_arises w) H x.running is.answered.0 x.is (state_done x.running.sender.state x.running.gone _ x.ending),
+    )
+
+pub failed_means : (w : Who) (H : List Call) (c : Controller) (k r : ℕ) → Is w (TakeTransferEnded (Some (k, Failed r)) ∷ H) c
+    → (to : ℕ) × (m : MessageRecord) × (slice_get (all_transfers w H) k ≡ Some (to, m)) × Happened (Aborts w r to m) H
+failed_means w H c k r is =
+    let x = ended w H c k (Failed r) is in (
+      x.running.sender.destination,
+      x.running.sender.message,
+      of_token w H c k (Failed r) is x,
+      traced w (λ t. t.sender.state ≡ sending.Failed r) (Aborts w r) (failed_arises w r) H x.running is.answered.0 x.is (state_failed x.running.sender.state x.running.gone _ r x.ending),
+    )
+
+pub gone_means : (w : Who) (H : List Call) (c : Controller) (k : ℕ) → Is w (TakeTransferEnded (Some (k, Gone)) ∷ H) c
+    → (to : ℕ) × (m : MessageRecord) × (slice_get (all_transfers w H) k ≡ Some (to, m)) × Happened (Replaces to) H
+gone_means w H c k is =
+    let x = ended w H c k Gone is in (
+      x.running.sender.destination,
+      x.running.sender.message,
+      of_token w H c k Gone is x,
+      traced w (λ t. t.gone ≡ true) (λ to m. Replaces to) (gone_arises w) H x.running is.answered.0 x.is (state_gone x.running.sender.state x.running.gone _ x.ending),
+    )
+
+-- ---- an acknowledgment makes it done
+
+-- it is done, whatever comes
+record IsDone (token : ℕ) (o : Option Running) : Type 0 where
+  pub running : Running
+  pub is : o ≡ Some running
+  pub token_is : running.token ≡ token
+  pub done : running.sender.state ≡ sending.Done
+
+stays_heard : (s : SenderRecord) (f : FrameRecord) (now : ℕ) → s.state ≡ sending.Done → (send_step s (Heard f) now).after.state ≡ sending.Done
+unfolding send_step sending.hears cleared acked aborted
+stays_heard s f now e = go (said_between s.destination s.message.source f)
+  where
+    idle : is_waiting s.state ≡ false
+    idle = ap is_waiting e
+
+    still : is_running s.state ≡ false
+    still = ap is_running e
+
+    not_first : (a b c d : Bool) → a ≡ false → (a && b && c && d) ≡ false
+    not_first true b c d k = absurd (cc)
+    not_first false b c d k = refl
+
+    go : (o : Option Signal) → (sending.hears o now s).state ≡ sending.Done
+    go None = e
+    go (Some (BroadcastAnnounce size packets pgn)) = e
+    go (Some (RequestToSend size packets most pgn)) = e
+    go (Some (Packet k part)) = e
+    go (Some (ClearToSend count p pgn)) = cond_both (pgn == s.message.pgn) _ _ (λ (r : SenderRecord). r.state ≡ sending.Done)
+        (λ t. cond_both (is_waiting s.state) _ _ (λ (r : SenderRecord). r.state ≡ sending.Done) (λ u. absurd (not_both _ idle u)) (λ u. e)) (λ t. e)
+    go (Some (Acknowledgment size packets pgn)) = cond_both (pgn == s.message.pgn) _ _ (λ (r : SenderRecord). r.state ≡ sending.Done)
+        (λ t. cond_both (is_waiting s.state && size == length s.message.bytes && packets == packets_of s.message && s.highest == packets_of s.message) _ _
+        (λ (r : SenderRecord). r.state ≡ sending.Done) (λ u. refl) (λ u. e)) (λ t. e)
+    go (Some (Abort reason pgn)) = cond_both (pgn == s.message.pgn) _ _ (λ (r : SenderRecord). r.state ≡ sending.Done)
+        (λ t. cond_both (is_running s.state) _ _ (λ (r : SenderRecord). r.state ≡ sending.Done) (λ u. absurd (not_both _ still u)) (λ u. e)) (λ t. e)
+
+stays_ticked : (s : SenderRecord) (now : ℕ) → s.state ≡ sending.Done → (send_step s Tick now).after.state ≡ sending.Done
+unfolding send_step ticks_in
+stays_ticked s now e = ap (λ (u : SendState). (ticks_in u now s).after.state) e ∙ e
+
+done_hears : (token : ℕ) (lost : Bool) (replaced : ℕ → Bool) (f : FrameRecord) (now : ℕ) (o : Option Running) → IsDone token o
+    → IsDone token (hears_if lost replaced f now o)
+done_hears token lost replaced f now o h =
+    subst (λ (x : Option Running). IsDone token (hears_if lost replaced f now x)) (sym h.is) (go lost (replaced h.running.sender.destination))
+  where
+    go : (a b : Bool) → IsDone token (Some (hears a b f now h.running))
+    go true b = record { running = h.running; is = refl; token_is = h.token_is; done = h.done }
+    go false true = record { running = record h.running { gone = true }; is = refl; token_is = h.token_is; done = h.done }
+    go false false = cond_both (h.running.gone || is_spent h.running) h.running (listens f now h.running) (λ (u : Running). IsDone token (Some u))
+        (λ z. record { running = h.running; is = refl; token_is = h.token_is; done = h.done })
+        (λ z. record { running = listens f now h.running; is = refl; token_is = h.token_is; done = stays_heard h.running.sender f now h.done })
+
+done_sends : (token : ℕ) (b : Bool) (now : ℕ) (o : Option Running) → IsDone token o → IsDone token (sends_if b now o)
+done_sends token false now o h = h
+done_sends token true now o h = subst (λ (x : Option Running). IsDone token (sends_if true now x)) (sym h.is) (record {
+  running = sends now h.running;
+  is = refl;
+  token_is = h.token_is;
+  done = cond_both (gives_up h.running) (aborted 5 h.running.sender) (send_step h.running.sender Tick now).after (λ (r : SenderRecord). r.state ≡ sending.Done)
+      (λ z. absurd (not_both _ (ap is_running h.done) (both (is_spent h.running) (is_running h.running.sender.state) z).1))
+      (λ z. stays_ticked h.running.sender now h.done);
+})
+
+stays_done : (w : Who) (token : ℕ) (later E : List Call) → NoneEnds later → IsDone token (open_transfer w E) → IsDone token (open_transfer w (later ++ E))
+stays_done w token [] E n h = h
+stays_done w token (Hear f ∷ later) E n h =
+    let G = later ++ E in
+    done_hears token (is_lost (address_after w (Hear f ∷ G))) (λ a. is_replaced (holder G a) (holder (Hear f ∷ G) a)) f (clock_at G f.stamp) (open_transfer w G)
+    (stays_done w token later E n.1 h)
+stays_done w token (Ticks now ∷ later) E n h = stays_done w token later E n.1 h
+stays_done w token (TakeFrame now None ∷ later) E n h = stays_done w token later E n.1 h
+stays_done w token (TakeFrame now (Some f) ∷ later) E n h =
+    done_sends token (is_move w (later ++ E) f) (clock_at (later ++ E) now) (open_transfer w (later ++ E)) (stays_done w token later E n.1 h)
+stays_done w token (Send now draft answer ∷ later) E n h = stays_done w token later E n.1 h
+stays_done w token (Ask now group to answer ∷ later) E n h = stays_done w token later E n.1 h
+stays_done w token (TakeEnded answer ∷ later) E n h = stays_done w token later E n.1 h
+stays_done w token (TakeAskEnded answer ∷ later) E n h = stays_done w token later E n.1 h
+stays_done w token (TakeReceived answer ∷ later) E n h = stays_done w token later E n.1 h
+stays_done w token (TakeRequest answer ∷ later) E n h = stays_done w token later E n.1 h
+stays_done w token (TakeNews answer ∷ later) E n h = stays_done w token later E n.1 h
+stays_done w token (Acknowledge now r answer result ∷ later) E n h = stays_done w token later E n.1 h
+stays_done w token (Broadcast now group bytes answer ∷ later) E n h = stays_done w token later E n.1 h
+stays_done w token (TakeBroadcastEnded answer ∷ later) E n h = stays_done w token later E n.1 h
+stays_done w token (Transfer now group to bytes (Ok k) ∷ later) E n h = absurd (let z = n.0 in cc)
+stays_done w token (Transfer now group to bytes (Err r) ∷ later) E n h = stays_done w token later E n.1 h
+stays_done w token (TakeTransferEnded None ∷ later) E n h = stays_done w token later E n.1 h
+stays_done w token (TakeTransferEnded (Some x) ∷ later) E n h = absurd (let z = n.0 in cc)
+stays_done w token (ReleaseTransfer answer ∷ later) E n h = stays_done w token later E n.1 h
+stays_done w token (ReleaseBroadcast answer ∷ later) E n h = stays_done w token later E n.1 h
+
+acks : (s : SenderRecord) (now : ℕ) (f : FrameRecord) → is_waiting s.state ≡ true → s.highest ≡ packets_of s.message
+    → said_to s f ≡ Some (Acknowledgment (length s.message.bytes) (packets_of s.message) s.message.pgn) → (send_step s (Heard f) now).after.state ≡ sending.Done
+unfolding send_step sending.hears acked
+acks s now f e g k =
+    ap (λ (o : Option Signal). (sending.hears o now s).state) k
+    ∙ (ap (λ (b : Bool). (if b then acked (length s.message.bytes) (packets_of s.message) s else s).state) (eq-eqb s.message.pgn s.message.pgn refl)
+    ∙ ap (λ (b : Bool). (if b then record s { state = sending.Done } else s).state)
+    (four (is_waiting s.state) _ _ _ e (eq-eqb (length s.message.bytes) (length s.message.bytes) refl) (eq-eqb (packets_of s.message) (packets_of s.message) refl) (eq-eqb s.highest (packets_of s.message) g)))
+  where
+    four : (a b c d : Bool) → a ≡ true → b ≡ true → c ≡ true → d ≡ true → (a && b && c && d) ≡ true
+    four a b c d p q r t = λ i. p i && q i && r i && t i
+
+pub is_done : (w : Who) (H later : List Call) (c : Controller) (f : FrameRecord) (t : Running) (answer : Option (ℕ × TransferEnding))
+    → Is w (TakeTransferEnded answer ∷ later ++ Hear f ∷ H) c → NoneEnds later → open_transfer w H ≡ Some t
+    → IsTrue (is_waiting t.sender.state) → t.sender.highest ≡ packets_of t.sender.message → t.gone ≡ false → is_spent t ≡ false
+    → is_lost (address_after w (Hear f ∷ H)) ≡ false
+    → is_replaced (holder H t.sender.destination) (holder (Hear f ∷ H) t.sender.destination) ≡ false
+    → said_to t.sender f ≡ Some (Acknowledgment (length t.sender.message.bytes) (packets_of t.sender.message) t.sender.message.pgn)
+    → answer ≡ Some (t.token, Done)
+is_done w H later c f t answer is n e waiting highest here room own held says =
+    let d = stays_done w t.token later (Hear f ∷ H) n first in
+    is.answered.1 ∙ (ap (λ (o : Option Running). transfer_end o (is_lost (address_after w (later ++ Hear f ∷ H)))) d.is
+    ∙ (ap (λ (u : SendState). option_map (λ y. (d.running.token, y)) (ending_by u d.running.gone (is_lost (address_after w (later ++ Hear f ∷ H))))) d.done
+    ∙ ap (λ (k : ℕ). (let o : Option (ℕ × TransferEnding) = Some (k, Done) in o)) d.token_is))
+  where
+    heard : (a b g : Bool) → a ≡ false → b ≡ false → g ≡ false
+        → IsDone t.token (Some (if a then t else if b then record t { gone = true } else if g then t else listens f (clock_at H f.stamp) t))
+    heard false false false p q r = record { running = listens f (clock_at H f.stamp) t; is = refl; token_is = refl; done = acks t.sender (clock_at H f.stamp) f waiting highest says }
+    heard true b g p q r = absurd (cc)
+    heard false true g p q r = absurd (cc)
+    heard false false true p q r = absurd (cc)
+
+    first : IsDone t.token (open_transfer w (Hear f ∷ H))
+    first = subst (λ (o : Option Running). IsDone t.token (hears_if (is_lost (address_after w (Hear f ∷ H))) (λ a. is_replaced (holder H a) (holder (Hear f ∷ H) a)) f (clock_at H f.stamp) o))
+        (sym e) (heard _ _ _ own held (ap (λ (b : Bool). b || is_spent t) here ∙ room))
+
+-- ---- another holder makes it gone
+
+-- it is gone before it was acknowledged or aborted, whatever comes
+record IsGone (token : ℕ) (o : Option Running) : Type 0 where
+  pub running : Running
+  pub is : o ≡ Some running
+  pub token_is : running.token ≡ token
+  pub gone : running.gone ≡ true
+  pub unended : not (is_idle running.sender.state || is_running running.sender.state) ≡ false
+
+gone_hears : (token : ℕ) (lost : Bool) (replaced : ℕ → Bool) (f : FrameRecord) (now : ℕ) (o : Option Running) → IsGone token o
+    → IsGone token (hears_if lost replaced f now o)
+gone_hears token lost replaced f now o h =
+    subst (λ (x : Option Running). IsGone token (hears_if lost replaced f now x)) (sym h.is) (go lost (replaced h.running.sender.destination) h.running.gone h.gone)
+  where
+    go : (a b g : Bool) → g ≡ true
+        → IsGone token (Some (if a then h.running else if b then record h.running { gone = true } else if g || is_spent h.running then h.running else listens f now h.running))
+    go true b g e = record { running = h.running; is = refl; token_is = h.token_is; gone = h.gone; unended = h.unended }
+    go false true g e = record { running = record h.running { gone = true }; is = refl; token_is = h.token_is; gone = refl; unended = h.unended }
+    go false false true e = record { running = h.running; is = refl; token_is = h.token_is; gone = h.gone; unended = h.unended }
+    go false false false e = absurd (cc)
+
+-- none of its frames is taken
+gone_sends : (w : Who) (H : List Call) (token now : ℕ) (f : FrameRecord) (b : Bool) → AreAnswered w (TakeFrame now (Some f) ∷ H) → is_move w H f ≡ b
+    → IsGone token (open_transfer w H) → IsGone token (sends_if b (clock_at H now) (open_transfer w H))
+gone_sends w H token now f false right e h = h
+gone_sends w H token now f true right e h = absurd (silent h.running.gone h.gone
+    (ap (λ (t : Running). signal_by t (clock_at H now)) same ∙ s.said))
+  where
+    s : Sent w H now f
+    s = sent_case w H now f right.0 (frame_case w H now f right.1) e
+
+    same : h.running ≡ s.running
+    same = let z : Some h.running ≡ Some s.running = sym h.is ∙ s.is in cc
+
+    silent : (g : Bool) → g ≡ true → (if g then None else if gives_up h.running then Some (Abort 5 h.running.sender.message.pgn)
+        else (send_step h.running.sender Tick (clock_at H now)).says) ≡ Some s.signal → ⊥
+    silent true p q = absurd (cc)
+    silent false p q = absurd (cc)
+
+stays_gone : (w : Who) (token : ℕ) (later E : List Call) → AreAnswered w (later ++ E) → NoneEnds later → IsGone token (open_transfer w E)
+    → IsGone token (open_transfer w (later ++ E))
+stays_gone w token [] E r n h = h
+stays_gone w token (Hear f ∷ later) E r n h =
+    let G = later ++ E in
+    gone_hears token (is_lost (address_after w (Hear f ∷ G))) (λ a. is_replaced (holder G a) (holder (Hear f ∷ G) a)) f (clock_at G f.stamp) (open_transfer w G)
+    (stays_gone w token later E r.0 n.1 h)
+stays_gone w token (Ticks now ∷ later) E r n h = stays_gone w token later E r.0 n.1 h
+stays_gone w token (TakeFrame now None ∷ later) E r n h = stays_gone w token later E r.0 n.1 h
+stays_gone w token (TakeFrame now (Some f) ∷ later) E r n h =
+    gone_sends w (later ++ E) token now f (is_move w (later ++ E) f) r refl (stays_gone w token later E r.0 n.1 h)
+stays_gone w token (Send now draft answer ∷ later) E r n h = stays_gone w token later E r.0 n.1 h
+stays_gone w token (Ask now group to answer ∷ later) E r n h = stays_gone w token later E r.0 n.1 h
+stays_gone w token (TakeEnded answer ∷ later) E r n h = stays_gone w token later E r.0 n.1 h
+stays_gone w token (TakeAskEnded answer ∷ later) E r n h = stays_gone w token later E r.0 n.1 h
+stays_gone w token (TakeReceived answer ∷ later) E r n h = stays_gone w token later E r.0 n.1 h
+stays_gone w token (TakeRequest answer ∷ later) E r n h = stays_gone w token later E r.0 n.1 h
+stays_gone w token (TakeNews answer ∷ later) E r n h = stays_gone w token later E r.0 n.1 h
+stays_gone w token (Acknowledge now q answer result ∷ later) E r n h = stays_gone w token later E r.0 n.1 h
+stays_gone w token (Broadcast now group bytes answer ∷ later) E r n h = stays_gone w token later E r.0 n.1 h
+stays_gone w token (TakeBroadcastEnded answer ∷ later) E r n h = stays_gone w token later E r.0 n.1 h
+stays_gone w token (Transfer now group to bytes (Ok k) ∷ later) E r n h = absurd (let z = n.0 in cc)
+stays_gone w token (Transfer now group to bytes (Err x) ∷ later) E r n h = stays_gone w token later E r.0 n.1 h
+stays_gone w token (TakeTransferEnded None ∷ later) E r n h = stays_gone w token later E r.0 n.1 h
+stays_gone w token (TakeTransferEnded (Some x) ∷ later) E r n h = absurd (let z = n.0 in cc)
+stays_gone w token (ReleaseTransfer answer ∷ later) E r n h = stays_gone w token later E r.0 n.1 h
+stays_gone w token (ReleaseBroadcast answer ∷ later) E r n h = stays_gone w token later E r.0 n.1 h
+
+pub is_gone : (w : Who) (H later : List Call) (c : Controller) (f : FrameRecord) (t : Running) (answer : Option (ℕ × TransferEnding))
+    → Is w (TakeTransferEnded answer ∷ later ++ Hear f ∷ H) c → NoneEnds later → open_transfer w H ≡ Some t → is_over t ≡ false
+    → is_lost (address_after w (Hear f ∷ H)) ≡ false
+    → is_replaced (holder H t.sender.destination) (holder (Hear f ∷ H) t.sender.destination) ≡ true → answer ≡ Some (t.token, Gone)
+is_gone w H later c f t answer is n e going own left =
+    let d = stays_gone w t.token later (Hear f ∷ H) is.answered.0 n first in
+    is.answered.1 ∙ (ap (λ (o : Option Running). transfer_end o (is_lost (address_after w (later ++ Hear f ∷ H)))) d.is
+    ∙ (ap (λ (b : Bool). option_map (λ y. (d.running.token, y)) (ending_by d.running.sender.state b (is_lost (address_after w (later ++ Hear f ∷ H))))) d.gone
+    ∙ (ap (option_map (λ (y : TransferEnding). (d.running.token, y))) (gone d.running.sender.state _ d.unended)
+    ∙ ap (λ (k : ℕ). (let o : Option (ℕ × TransferEnding) = Some (k, Gone) in o)) d.token_is)))
+  where
+    second : (x y : Bool) → (x || y) ≡ false → y ≡ false
+    second true y k = absurd (cc)
+    second false y k = k
+
+    gone : (u : SendState) (lost : Bool) → not (is_idle u || is_running u) ≡ false → ending_by u true lost ≡ Some Gone
+    gone sending.Idle lost k = refl
+    gone (sending.Waiting limit) lost k = refl
+    gone (sending.Sending next last) lost k = refl
+    gone sending.Done lost k = absurd (cc)
+    gone (sending.Failed r) lost k = absurd (cc)
+
+    heard : (a b : Bool) → a ≡ false → b ≡ true → IsGone t.token (Some (hears a b f (clock_at H f.stamp) t))
+    heard true b p q = absurd (cc)
+    heard false false p q = absurd (cc)
+    heard false true p q = record { running = record t { gone = true }; is = refl; token_is = refl; gone = refl; unended = second t.gone _ going }
+
+    first : IsGone t.token (open_transfer w (Hear f ∷ H))
+    first = subst (λ (o : Option Running). IsGone t.token (hears_if (is_lost (address_after w (Hear f ∷ H))) (λ a. is_replaced (holder H a) (holder (Hear f ∷ H) a)) f (clock_at H f.stamp) o))
+        (sym e) (heard _ _ own left)
+
+-- ---- where none is told
+
+broken_none : (gone lost : Bool) → None ≡ broken_off gone lost → (gone ≡ false) × (lost ≡ false)
+broken_none true lost e = absurd (cc)
+broken_none false true e = absurd (cc)
+broken_none false false e = (refl, refl)
+
+none_over : (t : Running) (lost : Bool) (u : SendState) → t.sender.state ≡ u → None ≡ ending_by u t.gone lost → (is_over t ≡ false) × (lost ≡ false)
+none_over t lost sending.Done k e = absurd (cc)
+none_over t lost (sending.Failed r) k e = absurd (cc)
+none_over t lost sending.Idle k e =
+    let z = broken_none t.gone lost e in (ap (λ (b : Bool). b || not (is_idle t.sender.state || is_running t.sender.state)) z.0 ∙ ap (λ (u : SendState). not (is_idle u || is_running u)) k, z.1)
+none_over t lost (sending.Waiting limit) k e =
+    let z = broken_none t.gone lost e in (ap (λ (b : Bool). b || not (is_idle t.sender.state || is_running t.sender.state)) z.0 ∙ ap (λ (u : SendState). not (is_idle u || is_running u)) k, z.1)
+none_over t lost (sending.Sending next last) k e =
+    let z = broken_none t.gone lost e in (ap (λ (b : Bool). b || not (is_idle t.sender.state || is_running t.sender.state)) z.0 ∙ ap (λ (u : SendState). not (is_idle u || is_running u)) k, z.1)
+
+pub all_told : (w : Who) (H : List Call) (c : Controller) → Is w (TakeTransferEnded None ∷ H) c
+    → (length (told_transfers H) ≡ length (all_transfers w H))
+    ⊎ ((t : Running) × (open_transfer w H ≡ Some t) × (is_over t ≡ false) × (IsTrue (is_lost (address_after w H)) → ⊥))
+all_told w H c is = go (open_transfer w H) refl (last_one w H is.answered.0) is.answered.1
+  where
+    nothing : (k : ℕ) (x : Option TransferEnding) → (let none : Option (ℕ × TransferEnding) = None in none) ≡ option_map (λ y. (k, y)) x → None ≡ x
+    nothing k None e = refl
+    nothing k (Some y) e = absurd (cc)
+
+    go : (o : Option Running) → open_transfer w H ≡ o → LastIf (length (told_transfers H)) (all_transfers w H) o
+        → (let none : Option (ℕ × TransferEnding) = None in none) ≡ transfer_end o (is_lost (address_after w H))
+        → (length (told_transfers H) ≡ length (all_transfers w H))
+        ⊎ ((t : Running) × (open_transfer w H ≡ Some t) × (is_over t ≡ false) × (IsTrue (is_lost (address_after w H)) → ⊥))
+    go None p h e = inl h
+    go (Some t) p h e =
+        let z = none_over t (is_lost (address_after w H)) t.sender.state refl (nothing t.token _ e) in
+        inr (t, p, z.0, not_both _ z.1)

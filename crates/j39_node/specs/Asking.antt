@@ -1,0 +1,211 @@
+-- Asking others for groups (J1939-21, 5.4.2 and 5.4.4): what a history says of it.
+use Rattle.std.specs.Prelude.{◌≡◌, ◌<◌, ℕ, ◌+◌, ◌-◌, ◌%◌, ◌/◌, ◌++◌, ◌&&◌, ◌||◌, nat_lt, nat_eq, not, Bool, true, false, IsTrue, List, [], ◌∷◌, length, Option, Some, None, Result, Ok, Err, if◌then◌else◌}
+use Rattle.std.specs.List.{slice_get}
+use Rattle.std.specs.Option.{option_map}
+use Rattle.j39_frame.specs.Address.{null_address, global_address}
+use Rattle.j39_frame.specs.Frame.{FrameRecord}
+use Rattle.j39_frame.specs.Identifier.{source_of, destination_of, pgn_of}
+use Rattle.j39_node.specs.declared.kinds.Answer.TheVariants.{Ack, Nack, Denied, Busy}
+use Rattle.j39_node.specs.declared.kinds.AskEnding.{AskEnding}
+use Rattle.j39_node.specs.declared.kinds.AskEnding.TheVariants.{Answered, Acknowledged, TimedOut, Withdrawn}
+use Rattle.j39_node.specs.declared.kinds.Refused.{Refused}
+use Rattle.j39_node.specs.declared.kinds.Refused.TheVariants.{NoAddress, BadValue, Full}
+use Rattle.j39_node.specs.History.{Who, Call, accepted, address_after, holds, is_acknowledgment, is_claim, is_full, is_lost, is_none, is_sendable, is_session, is_some, sent, step}
+use Rattle.j39_node.specs.History.Call.{Ask, Hear, Tick, TakeFrame, Send, Acknowledge, Broadcast, Transfer, TakeAskEnded}
+use Rattle.j39_node.specs.Since.{passed_in}
+use Rattle.j39_node.specs.Reception.{whole}
+use Rattle.j39_transport.specs.Message.{MessageRecord}
+
+-- a group that may be sent, of all or of the address of another
+abbrev pub can_ask : Who → ℕ → ℕ → Bool
+can_ask w group to =
+    is_sendable group && (nat_eq to global_address || (nat_lt to null_address && not (nat_eq to w.address)))
+
+-- a request that was accepted: its token, for which group, and whom (255 is all)
+pub record Question : Type 0 where
+  pub token : ℕ
+  pub group : ℕ
+  pub to : ℕ
+
+abbrev pub question : ℕ → ℕ → ℕ → Question
+question token group to = record { token = token; group = group; to = to }
+
+abbrev pub asks : List Call → List Question
+asks [] = []
+asks (Ask now group to (Ok token) ∷ H) = asks H ++ question token group to ∷ []
+asks (call ∷ H) = asks H
+
+-- the tokens of those that were told to have ended, and how
+abbrev pub told_asks : List Call → List (ℕ × AskEnding)
+told_asks [] = []
+told_asks (TakeAskEnded (Some x) ∷ H) = told_asks H ++ x ∷ []
+told_asks (call ∷ H) = told_asks H
+
+-- the one that is open: accepted last, and not told to have ended
+abbrev pub open_ask : List Call → Option Question
+open_ask [] = None
+open_ask (Ask now group to (Ok token) ∷ H) = Some (question token group to)
+open_ask (TakeAskEnded (Some x) ∷ H) = None
+open_ask (call ∷ H) = open_ask H
+
+-- its frame was taken: it is the message of its token
+abbrev pub is_taken : Question → List Call → Bool
+is_taken q H = nat_lt q.token (length (sent H))
+
+-- the frame that is taken is that of the open request
+abbrev pub is_message : FrameRecord → Bool
+is_message f = not (is_claim f || (is_acknowledgment f || is_session f))
+
+abbrev pub has_token : Option Question → ℕ → Bool
+has_token None n = false
+has_token (Some q) n = nat_eq q.token n
+
+abbrev pub is_request : List Call → FrameRecord → Bool
+is_request H f = is_message f && has_token (open_ask H) (length (sent H))
+
+-- what is left of the 1,250 ms that it waits after that (own); time that goes back is no time
+abbrev pub wait : List Call → ℕ
+wait [] = 0
+wait (Hear f ∷ H) = wait H - step H f.stamp
+wait (Tick now ∷ H) = wait H - step H now
+wait (TakeFrame now None ∷ H) = wait H - step H now
+wait (TakeFrame now (Some f) ∷ H) = if is_request H f then 1250000 else wait H - step H now
+wait (Send now draft answer ∷ H) = wait H - step H now
+wait (Ask now group to answer ∷ H) = wait H - step H now
+wait (Acknowledge now asked answer result ∷ H) = wait H - step H now
+wait (Broadcast now group bytes answer ∷ H) = wait H - step H now
+wait (Transfer now group to bytes answer ∷ H) = wait H - step H now
+wait (call ∷ H) = wait H
+
+-- ---- what a frame says to it
+
+-- a frame of an address, to all or to this one
+abbrev pub reaches : Who → FrameRecord → Bool
+reaches w f =
+    nat_lt (source_of f.id) null_address && (is_none (destination_of f.id)
+    || (is_some (destination_of f.id) global_address || is_some (destination_of f.id) w.address))
+
+-- a message of the group, of whom was asked
+abbrev pub is_answer : Question → FrameRecord → Bool
+is_answer q f = nat_eq (pgn_of f.id) q.group && (nat_eq q.to global_address || nat_eq (source_of f.id) q.to)
+
+-- the address acknowledged is this one, or none is told; and it is the group's
+abbrev pub is_of : ℕ → ℕ → List ℕ → Bool
+is_of own group bytes =
+    (is_some (slice_get bytes 4) own || is_some (slice_get bytes 4) 255) && (is_some (slice_get bytes 5) (group % 256)
+    && (is_some (slice_get bytes 6) (group / 256 % 256) && is_some (slice_get bytes 7) (group / 65536 % 256)))
+
+-- what a control byte says
+abbrev pub said_by : Option ℕ → Option AskEnding
+said_by None = None
+said_by (Some c) =
+    if nat_eq c 0 then Some (Acknowledged Ack) else if nat_eq c 1 then Some (Acknowledged Nack)
+    else if nat_eq c 2 then Some (Acknowledged Denied) else if nat_eq c 3 then Some (Acknowledged Busy) else None
+
+-- the acknowledgment, by whom was asked; where all were, none counts
+abbrev pub is_reply : Who → Question → FrameRecord → Bool
+is_reply w q f = is_acknowledgment f && (nat_eq (source_of f.id) q.to && is_of w.address q.group f.bytes)
+
+-- the source and the group of the message in packets that the frame makes whole
+abbrev pub made_of : Option MessageRecord → Option (ℕ × ℕ)
+made_of None = None
+made_of (Some m) = Some (m.source, m.pgn)
+
+abbrev pub made : Who → List Call → FrameRecord → Option (ℕ × ℕ)
+made w H f = made_of (whole w H f)
+
+abbrev pub is_whole : Question → Option (ℕ × ℕ) → Bool
+is_whole q None = false
+is_whole q (Some x) = nat_eq x.1 q.group && (nat_eq q.to global_address || nat_eq x.0 q.to)
+
+abbrev pub says_to : Who → Question → FrameRecord → Option (ℕ × ℕ) → Option AskEnding
+says_to w q f made =
+    if is_whole q made
+    then Some Answered
+    else if reaches w f
+    then (if is_answer q f then Some Answered else if is_reply w q f then said_by (slice_get f.bytes 0) else None)
+    else None
+
+-- ---- how it ends
+
+abbrev pub first : Option AskEnding → Option AskEnding → Option AskEnding
+first None later = later
+first (Some e) later = Some e
+
+-- without a word: by time, or as the address is lost
+abbrev pub silent_end : Bool → ℕ → Bool → Option AskEnding
+silent_end taken left lost =
+    if taken && nat_eq left 0 then Some TimedOut else if lost then Some Withdrawn else None
+
+-- by a frame that is heard while so much is left, and the address is lost or not by it
+abbrev pub end_at : Who → Option Question → ℕ → ℕ → Bool → FrameRecord → Option (ℕ × ℕ) → Option AskEnding
+end_at w None n left lost f made = None
+end_at w (Some q) n left lost f made =
+    first (silent_end (nat_lt q.token n) left lost) (if nat_lt q.token n then says_to w q f made else None)
+
+-- how the open request ended by what was heard: what came first stands
+abbrev pub ended : Who → List Call → Option AskEnding
+ended w [] = None
+ended w (Hear f ∷ H) =
+    first (ended w H)
+    (end_at w (open_ask H) (length (sent H)) (wait H - step H f.stamp) (is_lost (address_after w (Hear f ∷ H))) f (made w H f))
+ended w (Ask now group to (Ok token) ∷ H) = None
+ended w (call ∷ H) = ended w H
+
+-- ---- the answers that a history asks for
+
+abbrev pub is_asking : Option Question → Bool
+is_asking None = false
+is_asking (Some q) = true
+
+abbrev pub answer_to_ask : Who → List Call → ℕ → ℕ → ℕ → Result ℕ Refused
+answer_to_ask w H now group to =
+    if holds w H now
+    then (if can_ask w group to
+    then (if is_full w H || is_asking (open_ask H) then Err Full else Ok (length (accepted w H)))
+    else Err BadValue)
+    else Err NoAddress
+
+abbrev pub ask_end : Option Question → ℕ → Option AskEnding → ℕ → Bool → Option (ℕ × AskEnding)
+ask_end None n heard left lost = None
+ask_end (Some q) n heard left lost =
+    option_map (λ e. (q.token, e)) (first heard (silent_end (nat_lt q.token n) left lost))
+
+abbrev pub next_ask_ended : Who → List Call → Option (ℕ × AskEnding)
+next_ask_ended w H = ask_end (open_ask H) (length (sent H)) (ended w H) (wait H) (is_lost (address_after w H))
+
+-- ---- by places of the history
+
+-- its frame was taken at a call of H, and e microseconds passed since
+pub record AskedSince (H : List Call) (q : Question) (e : ℕ) : Type 0 where
+  pub later : List Call
+  pub earlier : List Call
+  pub at : ℕ
+  pub frame : FrameRecord
+  pub is : H ≡ later ++ TakeFrame at (Some frame) ∷ earlier
+  pub current : open_ask earlier ≡ Some q
+  pub request : IsTrue (is_request earlier frame)
+  pub passed : e ≡ passed_in later (TakeFrame at (Some frame) ∷ earlier)
+
+-- at a call of H, after its frame was taken less than 1,250 ms before, this was heard first
+pub record HeardFirst (w : Who) (H : List Call) (q : Question) (ending : AskEnding) : Type 0 where
+  pub later : List Call
+  pub frame : FrameRecord
+  pub earlier : List Call
+  pub is : H ≡ later ++ Hear frame ∷ earlier
+  pub current : open_ask earlier ≡ Some q
+  pub none : ended w earlier ≡ None
+  pub since : ℕ
+  pub asked : AskedSince earlier q since
+  pub in_time : since + step earlier frame.stamp < 1250000
+  pub says : says_to w q frame (made w earlier frame) ≡ Some ending
+
+-- none is accepted or told
+abbrev pub ends : Call → Bool
+ends (Ask now group to (Ok token)) = true
+ends (TakeAskEnded (Some x)) = true
+ends call = false
+
+abbrev pub NoneEnds : List Call → Type 0
+NoneEnds [] = Unit {0}
+NoneEnds (call ∷ later) = (ends call ≡ false) × NoneEnds later

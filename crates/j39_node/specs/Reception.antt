@@ -1,0 +1,237 @@
+-- Messages that come in packets to the address that is held (J1939-21, 5.10.3): what a history says of them.
+use Rattle.std.specs.Prelude.{◌≡◌, ◌⊎◌, ℕ, suc, ◌+◌, ◌-◌, ◌++◌, ◌&&◌, ◌||◌, min, nat_lt, nat_eq, not, Bool, true, false, List, [], ◌∷◌, length, drop, Option, Some, None, if◌then◌else◌}
+use Rattle.std.specs.Option.{option_map}
+use Rattle.j39_frame.specs.Address.{null_address}
+use Rattle.j39_frame.specs.Frame.{FrameRecord}
+use Rattle.j39_frame.specs.Identifier.{source_of}
+use Rattle.j39_frame.specs.Network.{transport_control_group}
+use Rattle.j39_address.specs.Claim.{Claim, claim_of}
+use Rattle.j39_transport.specs.Cutting.{ToSend}
+use Rattle.j39_transport.specs.Message.{MessageRecord}
+use Rattle.j39_transport.specs.Reception.{ReceptionRecord, limit_of}
+use Rattle.j39_transport.specs.Receiving.{ReceiverRecord, RecvResult, Heard, Tick as Ticks, partner_of, recv_step}
+use Rattle.j39_transport.specs.ReceiverStands.{WasHanded}
+use Rattle.j39_node.specs.History.{Who, Message, Call, accepted, acknowledged, due, holds, is_acknowledgment, is_claim, is_smaller, is_some, is_transfer, sent, stamp_at}
+use Rattle.j39_node.specs.History.Call.{Hear, Tick, TakeFrame, ReleaseTransfer}
+
+-- ---- who holds an address (J1939-81, 4.2.2)
+
+-- what a claim makes of the NAME that holds a: the smaller NAME has it, and a NAME has one address
+abbrev pub held_then : ℕ → Option Claim → Option ℕ → Option ℕ
+held_then a None holder = holder
+held_then a (Some c) None = if nat_eq c.address a && nat_lt a null_address then Some c.name else None
+held_then a (Some c) (Some n) =
+    if nat_eq c.address a then Some (min n c.name) else if nat_eq n c.name then None else Some n
+
+-- the NAME that holds it, by the claims heard and its own that were taken
+abbrev pub holder : List Call → ℕ → Option ℕ
+holder [] a = None
+holder (Hear f ∷ H) a = held_then a (claim_of f) (holder H a)
+holder (TakeFrame now (Some f) ∷ H) a = if is_claim f then held_then a (claim_of f) (holder H a) else holder H a
+holder (call ∷ H) a = holder H a
+
+abbrev pub is_same : Option ℕ → Option ℕ → Bool
+is_same None None = true
+is_same None (Some n) = false
+is_same (Some m) None = false
+is_same (Some m) (Some n) = nat_eq m n
+
+-- ---- time: the sum of the forward steps from one frame heard or tick to the next, as a stamp can tell it
+
+abbrev pub heard_at : List Call → ℕ
+heard_at [] = 0
+heard_at (Hear f ∷ H) = f.stamp
+heard_at (Tick now ∷ H) = now
+heard_at (call ∷ H) = heard_at H
+
+abbrev pub later : ℕ → ℕ → ℕ
+later clock step = min (clock + step) 9999999999999999
+
+abbrev pub time_heard : List Call → ℕ
+time_heard [] = 0
+time_heard (Hear f ∷ H) = later (time_heard H) (f.stamp - heard_at H)
+time_heard (Tick now ∷ H) = later (time_heard H) (now - heard_at H)
+time_heard (call ∷ H) = time_heard H
+
+-- ---- what is received
+
+-- the open session, the message that waits for the program with the moment of its last packet, and the replies that wait
+pub record Reception : Type 0 where
+  pub session : Option ReceptionRecord
+  pub waits : Option (ℕ × MessageRecord)
+  pub replies : List Message
+
+abbrev pub receiver_at : ℕ → Reception → ReceiverRecord
+receiver_at own r = record { own = own; session = r.session }
+
+-- no message waits
+abbrev pub has_place : Option (ℕ × MessageRecord) → Bool
+has_place None = true
+has_place (Some x) = false
+
+abbrev pub keeps : ℕ → Option MessageRecord → Option (ℕ × MessageRecord) → Option (ℕ × MessageRecord)
+keeps stamp None waits = waits
+keeps stamp (Some m) waits = Some (stamp, m)
+
+abbrev pub goes_to : ℕ → Message → Bool
+goes_to a m = is_some m.destination a
+
+-- the replies that don't go to this address
+abbrev pub without : ℕ → List Message → List Message
+without a [] = []
+without a (m ∷ replies) = if goes_to a m then without a replies else m ∷ without a replies
+
+-- what a receiver says, of priority 7
+abbrev pub reply_from : ℕ → ℕ → List ℕ → Message
+reply_from own a bytes = record { source = own; destination = Some a; priority = 7; group = transport_control_group; bytes = bytes }
+
+-- a reply to this address takes the place of an older one; where sixteen to others wait, it isn't said
+abbrev pub replied : ℕ → ℕ → Option ToSend → List Message → List Message
+replied own a None replies = replies
+replied own a (Some f) replies =
+    if nat_lt (length (without a replies)) 16 then without a replies ++ reply_from own a f.bytes ∷ [] else without a replies
+
+abbrev pub takes : ℕ → ℕ → RecvResult → Reception → Reception
+takes stamp a x r = record {
+  session = x.after.session;
+  waits = keeps stamp x.delivers r.waits;
+  replies = replied x.after.own a x.sends r.replies;
+}
+
+-- the receiver's step at a frame, by the standard: there is room for the message of an RTS where none waits
+abbrev pub step_at : ℕ → FrameRecord → ℕ → Reception → RecvResult
+step_at own f now r = recv_step (receiver_at own r) (Heard f) now (has_place r.waits)
+
+-- another NAME holds the source of the session
+abbrev pub leaves : (ℕ → Option ℕ) → (ℕ → Option ℕ) → Option ReceptionRecord → Bool
+leaves before after None = false
+leaves before after (Some r) = not (is_same (before r.message.source) (after r.message.source))
+
+-- the session and what waits to be said to its source are dropped
+abbrev pub left : Bool → Reception → Reception
+left false r = r
+left true r = record { session = None; waits = r.waits; replies = without (partner_of r.session) r.replies }
+
+-- the address is lost, it is held, or neither
+abbrev pub heard_by : ℕ → Bool → Bool → FrameRecord → ℕ → Reception → Reception
+heard_by own true held f now r = record { session = None; waits = r.waits; replies = [] }
+heard_by own false true f now r = takes f.stamp (source_of f.id) (step_at own f now r) r
+heard_by own false false f now r = r
+
+abbrev pub ticked : ℕ → ℕ → ℕ → Reception → Reception
+ticked own stamp now r = takes stamp (partner_of r.session) (recv_step (receiver_at own r) Ticks now true) r
+
+-- the frame that is taken is a claim, an acknowledgment, or the first reply where one waits
+abbrev pub taken_by : Bool → Bool → Bool → Reception → Reception
+taken_by true acknowledges leaves r = left leaves r
+taken_by false true leaves r = r
+taken_by false false leaves r = record { session = r.session; waits = r.waits; replies = drop 1 r.replies }
+
+abbrev pub released_by : Bool → Reception → Reception
+released_by false r = r
+released_by true r = record { session = r.session; waits = None; replies = r.replies }
+
+abbrev pub no_reception : Reception
+no_reception = record { session = None; waits = None; replies = [] }
+
+abbrev pub reception : Who → List Call → Reception
+reception w [] = no_reception
+reception w (Hear f ∷ H) =
+    heard_by w.address (is_smaller w (claim_of f)) (holds w H f.stamp) f (time_heard (Hear f ∷ H))
+    (left (leaves (holder H) (holder (Hear f ∷ H)) (reception w H).session) (reception w H))
+reception w (Tick now ∷ H) = ticked w.address now (time_heard (Tick now ∷ H)) (reception w H)
+reception w (TakeFrame now (Some f) ∷ H) =
+    taken_by (is_claim f) (is_acknowledgment f)
+    (leaves (holder H) (holder (TakeFrame now (Some f) ∷ H)) (reception w H).session) (reception w H)
+reception w (ReleaseTransfer answer ∷ H) = released_by answer (reception w H)
+reception w (call ∷ H) = reception w H
+
+-- no session is open while a message waits
+abbrev pub IsApart : Reception → Type 0
+IsApart r = (r.waits ≡ None) ⊎ (r.session ≡ None)
+
+-- a frame of a session to an address that is taken is a reply where one waits, else one of the open transfer
+abbrev pub none_waits : List Message → Bool
+none_waits [] = true
+none_waits (m ∷ replies) = false
+
+abbrev pub is_move : Who → List Call → FrameRecord → Bool
+is_move w H f = is_transfer f && none_waits (reception w H).replies
+
+-- ---- which messages
+
+abbrev pub listed : Option (ℕ × MessageRecord) → List (ℕ × MessageRecord)
+listed None = []
+listed (Some x) = x ∷ []
+
+abbrev pub whole_by : ℕ → Bool → Bool → FrameRecord → ℕ → Reception → Option MessageRecord
+whole_by own true held f now r = None
+whole_by own false true f now r = (step_at own f now r).delivers
+whole_by own false false f now r = None
+
+-- the message that the frame makes whole
+abbrev pub whole : Who → List Call → FrameRecord → Option MessageRecord
+whole w H f =
+    whole_by w.address (is_smaller w (claim_of f)) (holds w H f.stamp) f (time_heard (Hear f ∷ H))
+    (left (leaves (holder H) (holder (Hear f ∷ H)) (reception w H).session) (reception w H))
+
+abbrev pub says_by : ℕ → Bool → Bool → FrameRecord → ℕ → Reception → Option ToSend
+says_by own true held f now r = None
+says_by own false true f now r = (step_at own f now r).sends
+says_by own false false f now r = None
+
+-- what is said to the frame
+abbrev pub says : Who → List Call → FrameRecord → Option ToSend
+says w H f =
+    says_by w.address (is_smaller w (claim_of f)) (holds w H f.stamp) f (time_heard (Hear f ∷ H))
+    (left (leaves (holder H) (holder (Hear f ∷ H)) (reception w H).session) (reception w H))
+
+-- those that were whole, each with the moment of its last packet
+abbrev pub delivered : Who → List Call → List (ℕ × MessageRecord)
+delivered w [] = []
+delivered w (Hear f ∷ H) = delivered w H ++ listed (option_map (λ m. (f.stamp, m)) (whole w H f))
+delivered w (call ∷ H) = delivered w H
+
+-- those that the program got
+abbrev pub got_transfers : Who → List Call → List (ℕ × MessageRecord)
+got_transfers w [] = []
+got_transfers w (ReleaseTransfer true ∷ H) = got_transfers w H ++ listed (reception w H).waits
+got_transfers w (call ∷ H) = got_transfers w H
+
+-- ---- of one sender
+
+abbrev pub frames_heard : List Call → List FrameRecord
+frames_heard [] = []
+frames_heard (Hear f ∷ H) = frames_heard H ++ f ∷ []
+frames_heard (call ∷ H) = frames_heard H
+
+-- the NAME that holds a, or that none does, is the same after each of the later calls
+abbrev pub KeepsHolder : ℕ → List Call → List Call → Type 0
+KeepsHolder a [] earlier = Unit {0}
+KeepsHolder a (call ∷ later) earlier = (holder (call ∷ later ++ earlier) a ≡ holder (later ++ earlier) a) × KeepsHolder a later earlier
+
+-- the frames heard from a call on hand over an RTS of the message and its packets, in order; and since, one NAME held its source,
+-- or none did
+pub record CameFromOne (w : Who) (H : List Call) (m : MessageRecord) : Type 0 where
+  pub later : List Call
+  pub first : FrameRecord
+  pub earlier : List Call
+  pub is : H ≡ later ++ Hear first ∷ earlier
+  pub handed : WasHanded w.address (frames_heard (later ++ Hear first ∷ [])) m
+  pub one : KeepsHolder m.source later (Hear first ∷ earlier)
+
+-- ---- when something is due
+
+-- a message, an acknowledgment or a reply waits
+abbrev pub is_waiting : Who → List Call → Bool
+is_waiting w H =
+    nat_lt (length (sent H)) (length (accepted w H)) || (nat_lt (length (acknowledged H)) (length (due w H))
+    || nat_lt 0 (length (reception w H).replies))
+
+-- the first moment at which a tick says something, by when the last one was
+abbrev pub tick_at : Option ReceptionRecord → ℕ → ℕ → Option ℕ
+tick_at None last clock = None
+tick_at (Some r) last clock = stamp_at (last + (suc (r.message.last + limit_of r) - clock))
+
+abbrev pub next_tick : Who → List Call → Option ℕ
+next_tick w H = tick_at (reception w H).session (heard_at H) (time_heard H)

@@ -1,0 +1,230 @@
+-- Messages sent to one address in packets (J1939-21, 5.10.2.4 and 5.10.3): what a history says of them.
+use Rattle.std.specs.Prelude.{ℕ, ◌+◌, ◌++◌, ◌&&◌, ◌||◌, nat_lt, nat_eq, not, max, min, Bool, true, false, List, [], ◌∷◌, length, Option, Some, None, Result, Ok, Err, if◌then◌else◌}
+use Rattle.std.specs.Option.{option_map}
+use Rattle.j39_frame.specs.Address.{null_address}
+use Rattle.j39_frame.specs.Frame.{FrameRecord}
+use Rattle.j39_transport.specs.Message.{MessageRecord}
+use Rattle.j39_transport.specs.Sending.{SendState, SenderRecord, Heard, Tick, aborted, is_idle, is_running, new_sender, send_step}
+use Rattle.j39_transport.specs.Sending as sending
+use Rattle.j39_transport.specs.SenderNext.{granted_by, sends_in}
+use Rattle.j39_transport.specs.Signals.{Signal, Abort, bytes_with, group_with, said_between}
+use Rattle.j39_node.specs.declared.kinds.TransferEnding.{TransferEnding}
+use Rattle.j39_node.specs.declared.kinds.TransferEnding.TheVariants.{Done, Withdrawn, Failed, Gone}
+use Rattle.j39_node.specs.declared.kinds.Refused.{Refused}
+use Rattle.j39_node.specs.declared.kinds.Refused.TheVariants.{NoAddress, BadValue, Full}
+use Rattle.j39_node.specs.History.{Who, Message, Call, address_after, broadcast_from, can_broadcast, has_packets, held_at, holds, is_held, is_lost, is_some, moment, owes_claim, pause, stamp_at, step}
+use Rattle.j39_node.specs.Reception.{holder, is_move, is_waiting}
+use Rattle.j39_node.specs.History.Call.{Ask, Hear, Tick as Ticks, TakeFrame, Send, Acknowledge, Broadcast, Transfer, TakeTransferEnded}
+
+-- what may be transferred: what may be broadcast, to the address of another
+abbrev pub can_transfer : Who → ℕ → ℕ → List ℕ → Bool
+can_transfer w group to bytes = can_broadcast group bytes && (nat_lt to null_address && not (nat_eq to w.address))
+
+-- the transfers that were accepted: their destinations and messages
+abbrev pub transfers : Who → List Call → List (ℕ × MessageRecord)
+transfers w [] = []
+transfers w (Transfer now group to bytes (Ok token) ∷ H) = transfers w H ++ (to, broadcast_from w group bytes) ∷ []
+transfers w (call ∷ H) = transfers w H
+
+-- the tokens of those that were told to have ended, and how
+abbrev pub told_transfers : List Call → List (ℕ × TransferEnding)
+told_transfers [] = []
+told_transfers (TakeTransferEnded (Some x) ∷ H) = told_transfers H ++ x ∷ []
+told_transfers (call ∷ H) = told_transfers H
+
+-- how long ago one was accepted last; time that goes back is no time
+abbrev pub age : List Call → ℕ
+age [] = 0
+age (Hear f ∷ H) = age H + step H f.stamp
+age (Ticks now ∷ H) = age H + step H now
+age (TakeFrame now answer ∷ H) = age H + step H now
+age (Send now draft answer ∷ H) = age H + step H now
+age (Acknowledge now asked answer result ∷ H) = age H + step H now
+age (Ask now group to answer ∷ H) = age H + step H now
+age (Broadcast now group bytes answer ∷ H) = age H + step H now
+age (Transfer now group to bytes (Ok token) ∷ H) = 0
+age (Transfer now group to bytes (Err reason) ∷ H) = age H + step H now
+age (call ∷ H) = age H
+
+-- this time, as a stamp can tell it
+abbrev pub clock : ℕ → ℕ
+clock time = min time 9999999999999999
+
+abbrev pub clock_at : List Call → ℕ → ℕ
+clock_at H now = clock (age H + step H now)
+
+-- ---- the open transfer
+
+-- its token, how far its sender is, the highest packet that it was granted, how many clears to send granted nothing higher, and
+-- whether its destination's address has another holder since
+pub record Running : Type 0 where
+  pub token : ℕ
+  pub sender : SenderRecord
+  pub granted : ℕ
+  pub spent : ℕ
+  pub gone : Bool
+
+abbrev pub begun : ℕ → MessageRecord → ℕ → Running
+begun token m to = record { token = token; sender = new_sender m to; granted = 0; spent = 0; gone = false }
+
+-- it gives up where more than 64 clears to send granted nothing higher (own)
+abbrev pub is_spent : Running → Bool
+is_spent t = nat_lt 64 t.spent
+
+abbrev pub gives_up : Running → Bool
+gives_up t = is_spent t && is_running t.sender.state
+
+abbrev pub spent_after : Option ℕ → ℕ → ℕ → ℕ
+spent_after None granted spent = spent
+spent_after (Some last) granted spent = if nat_lt granted last then spent else spent + 1
+
+abbrev pub granted_after : Option ℕ → ℕ → ℕ
+granted_after None granted = granted
+granted_after (Some last) granted = max granted last
+
+-- what f says to its sender
+abbrev pub said_to : SenderRecord → FrameRecord → Option Signal
+said_to s f = said_between s.destination s.message.source f
+
+-- its sender hears a frame (J1939-21, as the definitions of `Sender` have it)
+abbrev pub listens : FrameRecord → ℕ → Running → Running
+listens f now t = record {
+  token = t.token;
+  sender = (send_step t.sender (Heard f) now).after;
+  granted = granted_after (granted_by t.sender (said_to t.sender f)) t.granted;
+  spent = spent_after (granted_by t.sender (said_to t.sender f)) t.granted t.spent;
+  gone = t.gone;
+}
+
+-- a frame is heard while the address isn't lost: the destination's address may get another holder by it
+abbrev pub hears : Bool → Bool → FrameRecord → ℕ → Running → Running
+hears lost replaced f now t =
+    if lost then t else if replaced then record t { gone = true }
+    else if t.gone || is_spent t then t else listens f now t
+
+-- one of its frames is taken
+abbrev pub sends : ℕ → Running → Running
+sends now t =
+    record t { sender = if gives_up t then aborted 5 t.sender else (send_step t.sender Tick now).after }
+
+-- who held an address no longer does
+abbrev pub is_replaced : Option ℕ → Option ℕ → Bool
+is_replaced None now = false
+is_replaced (Some m) now = not (is_some now m)
+
+abbrev pub hears_if : Bool → (ℕ → Bool) → FrameRecord → ℕ → Option Running → Option Running
+hears_if lost replaced f now None = None
+hears_if lost replaced f now (Some t) = Some (hears lost (replaced t.sender.destination) f now t)
+
+abbrev pub sends_if : Bool → ℕ → Option Running → Option Running
+sends_if true now x = option_map (sends now) x
+sends_if false now x = x
+
+-- the transfer that is open: accepted last, and not told to have ended
+abbrev pub open_transfer : Who → List Call → Option Running
+open_transfer w [] = None
+open_transfer w (Hear f ∷ H) =
+    hears_if (is_lost (address_after w (Hear f ∷ H))) (λ a. is_replaced (holder H a) (holder (Hear f ∷ H) a)) f
+    (clock_at H f.stamp) (open_transfer w H)
+open_transfer w (TakeFrame now (Some f) ∷ H) = sends_if (is_move w H f) (clock_at H now) (open_transfer w H)
+open_transfer w (Transfer now group to bytes (Ok token) ∷ H) = Some (begun token (broadcast_from w group bytes) to)
+open_transfer w (TakeTransferEnded (Some x) ∷ H) = None
+open_transfer w (call ∷ H) = open_transfer w H
+
+-- the frame that says something of a message to its destination, of priority 7
+abbrev pub move : ℕ → MessageRecord → Signal → Message
+move to m signal = record {
+  source = m.source;
+  destination = Some to;
+  priority = 7;
+  group = group_with signal;
+  bytes = bytes_with signal;
+}
+
+abbrev pub says : SenderRecord → Signal → Message
+says s signal = move s.destination s.message signal
+
+-- what it sends at a moment: nothing to who is gone, abort 5 where it gives up, else what its sender does
+abbrev pub signal_by : Running → ℕ → Option Signal
+signal_by t now =
+    if t.gone then None else if gives_up t then Some (Abort 5 t.sender.message.pgn) else (send_step t.sender Tick now).says
+
+abbrev pub transfer_by : Option Running → ℕ → Option Message
+transfer_by None now = None
+transfer_by (Some t) now = option_map (says t.sender) (signal_by t now)
+
+abbrev pub next_transfer : Who → List Call → ℕ → Option Message
+next_transfer w H now = transfer_by (open_transfer w H) (clock_at H now)
+
+-- one is open, or as many as there are tokens were accepted
+abbrev pub is_engaged : Option Running → ℕ → Bool
+is_engaged None count = nat_eq count 18446744073709551615
+is_engaged (Some t) count = true
+
+abbrev pub answer_to_transfer : Who → List Call → ℕ → ℕ → ℕ → List ℕ → Result ℕ Refused
+answer_to_transfer w H now group to bytes =
+    if holds w H now
+    then (if can_transfer w group to bytes
+    then (if is_engaged (open_transfer w H) (length (transfers w H)) then Err Full else Ok (length (transfers w H)))
+    else Err BadValue)
+    else Err NoAddress
+
+-- how it ended: acknowledged, aborted, or before that its destination was gone, or the address lost
+abbrev pub broken_off : Bool → Bool → Option TransferEnding
+broken_off true lost = Some Gone
+broken_off false true = Some Withdrawn
+broken_off false false = None
+
+abbrev pub ending_by : SendState → Bool → Bool → Option TransferEnding
+ending_by sending.Done gone lost = Some Done
+ending_by (sending.Failed reason) gone lost = Some (Failed reason)
+ending_by sending.Idle gone lost = broken_off gone lost
+ending_by (sending.Waiting limit) gone lost = broken_off gone lost
+ending_by (sending.Sending next last) gone lost = broken_off gone lost
+
+-- it is acknowledged or aborted, or its destination is gone
+abbrev pub is_over : Running → Bool
+is_over t = t.gone || not (is_idle t.sender.state || is_running t.sender.state)
+
+abbrev pub transfer_end : Option Running → Bool → Option (ℕ × TransferEnding)
+transfer_end None lost = None
+transfer_end (Some t) lost = option_map (λ e. (t.token, e)) (ending_by t.sender.state t.gone lost)
+
+abbrev pub next_transfer_ended : Who → List Call → Option (ℕ × TransferEnding)
+next_transfer_ended w H = transfer_end (open_transfer w H) (is_lost (address_after w H))
+
+-- ---- when something is due
+
+-- in how long a frame of the open transfer is
+abbrev pub running_in : Running → ℕ → Option ℕ
+running_in t now =
+    if t.gone then None else if gives_up t then Some 0 else sends_in t.sender.state t.sender.since now
+
+abbrev pub transfer_in : Option Running → ℕ → Option ℕ
+transfer_in None now = None
+transfer_in (Some t) now = running_in t now
+
+-- in how long a frame of the open broadcast is
+abbrev pub packet_in : Bool → ℕ → Option ℕ
+packet_in left pause = if left then Some pause else None
+
+abbrev pub sooner : Option ℕ → Option ℕ → Option ℕ
+sooner None other = other
+sooner (Some m) None = Some m
+sooner (Some m) (Some n) = Some (min m n)
+
+abbrev pub packets_in : Who → List Call → Option ℕ
+packets_in w H = sooner (packet_in (has_packets w H) (pause H)) (transfer_in (open_transfer w H) (clock (age H)))
+
+abbrev pub at_in : ℕ → Option ℕ → Option ℕ
+at_in m None = None
+at_in m (Some n) = stamp_at (m + n)
+
+-- the moment of the last call, if a frame can be taken; else that at which one of packets can be, or the address is held
+abbrev pub next_due : Who → List Call → Option ℕ
+next_due w H =
+    if owes_claim w H || (is_held (address_after w H) && is_waiting w H)
+    then stamp_at (moment H)
+    else if is_held (address_after w H)
+    then at_in (moment H) (packets_in w H)
+    else held_at (address_after w H) (moment H)

@@ -1,0 +1,271 @@
+//! Asking others for groups (J1939-21, 5.4.2 and 5.4.4).
+ghost use Rattle.std.specs.Prelude.{◌≡◌, ◌&&◌, ◌||◌, ◌%◌, ◌/◌, ℕ, List, [], ◌∷◌, nat_lt, nat_eq, not, None, Some, Option, IsSome, IfSome, Bool, true, false, ◌↔◌, if◌then◌else◌};
+ghost use Rattle.std.specs.List.{slice_get};
+ghost use Rattle.std.specs.Option.{option_map};
+ghost use Rattle.j39_frame.specs.Identifier.{source_of};
+ghost use Rattle.j39_frame.specs.Pgn.{pgn_raw};
+ghost use Rattle.j39_node.specs.History.{is_some, message_from, request_for};
+ghost use Rattle.j39_node.specs.Is.{posted, who_of};
+ghost use Rattle.j39_node.specs.Asking.{can_ask, first, is_answer, is_of, is_reply, is_whole, question, reaches, said_by, says_to, silent_end};
+
+use crate::outgoing::{Outgoing, is_sendable};
+use crate::own::{ACKNOWLEDGMENT, Own, REQUEST, is_to, is_undirected};
+use crate::{Answer, AskEnding};
+use j39_frame::{Frame, GLOBAL_ADDRESS, NULL_ADDRESS, Pgn};
+
+/// A request that is not told to have ended.
+#[derive(Drop)]
+pub(crate) struct Open {
+    pub(crate) token: u64,
+    pub(crate) group: Pgn,
+    /// Whom it asks; 255 is all.
+    pub(crate) to: u8,
+    pub(crate) is_taken: bool,
+    /// How it ended, by what was heard.
+    pub(crate) ending: Option<AskEnding>,
+}
+
+impl Open {
+    ghost use Rattle.j39_node.specs.Is.{ask_record};
+
+    /// One that was accepted.
+    pub(crate) fn new(token: u64, group: Pgn, to: u8) -> Open
+        ensures { ask_record result
+            ≡ record { question = question token (pgn_raw group) to; taken = false; ending = None } }
+    {
+        Open {
+            token,
+            group,
+            to,
+            is_taken: false,
+            ending: None,
+        }
+    }
+
+    /// A frame is heard while so much is left of its time, and the address is lost or not by it.
+    fn hear(&mut self, own: &Own, is_lost: bool, left: u64, frame: &Frame, made: Option<(u8, u32)>)
+        ensures question { (ask_record self.new).question ≡ (ask_record self.old).question }
+        ensures taken { self.new.is_taken ≡ self.old.is_taken }
+        ensures ending { self.new.ending ≡ first self.old.ending (first (silent_end self.old.is_taken left is_lost)
+            (if self.old.is_taken then says_to (who_of own.now) (ask_record self.old).question frame.now made else None)) }
+    {
+        let heard = if self.is_taken {
+            self.says(own, frame, made)
+        } else {
+            None
+        };
+        self.ending = first(self.ending_at(is_lost, left), heard);
+    }
+
+    /// How it ended, with so much left of its time.
+    fn ending_at(&self, is_lost: bool, left: u64) -> Option<AskEnding>
+        ensures { result ≡ first self.now.ending (silent_end self.now.is_taken left is_lost) }
+    {
+        first(self.ending, silent_end(self.is_taken, left, is_lost))
+    }
+
+    /// What a frame says to it.
+    fn says(&self, own: &Own, frame: &Frame, made: Option<(u8, u32)>) -> Option<AskEnding>
+        ensures { result ≡ says_to (who_of own.now) (ask_record self.now).question frame.now made }
+    {
+        if self.is_whole(made) {
+            Some(AskEnding::Answered)
+        } else if !reaches(own, frame) {
+            None
+        } else if self.is_answer(frame) {
+            Some(AskEnding::Answered)
+        } else if self.is_reply(own, frame) {
+            said_by(frame.bytes.as_slice())
+        } else {
+            None
+        }
+    }
+
+    /// Whether the message in packets that a frame makes whole, of this source and group, answers it.
+    fn is_whole(&self, made: Option<(u8, u32)>) -> bool
+        ensures { result ≡ is_whole (ask_record self.now).question made }
+    {
+        match made {
+            Some((source, group)) => {
+                group == self.group.raw() && (self.to == GLOBAL_ADDRESS || source == self.to)
+            }
+            None => false,
+        }
+    }
+
+    fn is_answer(&self, frame: &Frame) -> bool
+        ensures { result ≡ is_answer (ask_record self.now).question frame.now }
+    {
+        frame.id.pgn().raw() == self.group.raw()
+            && (self.to == GLOBAL_ADDRESS || frame.id.source() == self.to)
+    }
+
+    fn is_reply(&self, own: &Own, frame: &Frame) -> bool
+        ensures { result ≡ is_reply (who_of own.now) (ask_record self.now).question frame.now }
+    {
+        frame.id.pgn().raw() == ACKNOWLEDGMENT
+            && (frame.id.source() == self.to
+                && is_of(own.address, self.group, frame.bytes.as_slice()))
+    }
+}
+
+/// The requests: one is open at a time.
+#[derive(Drop)]
+pub(crate) struct Asking {
+    pub(crate) current: Option<Open>,
+}
+
+impl Asking {
+    ghost use Rattle.j39_node.specs.Asking.{has_token, is_asking};
+    ghost use Rattle.j39_node.specs.Is.{ended_with, hears_with};
+    ghost use Rattle.j39_node.specs.Is.{AskRecord, asking_of, ask_record};
+
+    /// None was accepted.
+    pub(crate) fn new() -> Asking
+        ensures { result ≡ record { current = None } }
+    {
+        Asking { current: None }
+    }
+
+    /// Whether one is open.
+    pub(crate) fn is_open(&self) -> bool
+        ensures { result ≡ is_asking (option_map (λ x. x.question) (asking_of self.now)) }
+    {
+        self.current.is_some()
+    }
+
+    /// The message of this token was taken; whether it was the request.
+    pub(crate) fn take(&mut self, token: u64) -> bool
+        ensures current { asking_of self.new ≡ option_map (λ x. (let r : AskRecord = record
+            { question = x.question; taken = x.taken || nat_eq x.question.token token; ending = x.ending } in r))
+            (asking_of self.old) }
+        ensures value { result ≡ has_token (option_map (λ x. x.question) (asking_of self.old)) token }
+    {
+        match &mut self.current {
+            Some(open) => {
+                let is_request = open.token == token;
+                open.is_taken = open.is_taken || is_request;
+                is_request
+            }
+            None => false,
+        }
+    }
+
+    /// A frame is heard while so much is left of its time, and the address is lost or not by it.
+    pub(crate) fn hear(
+        &mut self,
+        own: &Own,
+        is_lost: bool,
+        left: u64,
+        frame: &Frame,
+        made: Option<(u8, u32)>,
+    )
+        ensures { asking_of self.new
+            ≡ option_map (hears_with (who_of own.now) is_lost left frame.now made) (asking_of self.old) }
+    {
+        if let Some(open) = &mut self.current {
+            open.hear(own, is_lost, left, frame, made);
+        }
+    }
+
+    /// How the open request ended, with so much left of its time.
+    pub(crate) fn ended(&self, is_lost: bool, left: u64) -> Option<(u64, AskEnding)>
+        ensures { result ≡ ended_with is_lost left (asking_of self.now) }
+    {
+        match &self.current {
+            Some(open) => {
+                let ending = open.ending_at(is_lost, left)?;
+                Some((open.token, ending))
+            }
+            None => None,
+        }
+    }
+}
+
+/// The message that asks an address, or all (255), for a group; `None` where none may.
+pub(crate) fn request(token: u64, own: &Own, group: Pgn, to: u8) -> Option<Outgoing>
+    ensures known { IsSome result ↔ (can_ask (who_of own.now) (pgn_raw group) to ≡ true) }
+    ensures value { IfSome result (λ x. posted x
+        ≡ (token, message_from (who_of own.now) (request_for (pgn_raw group) to))) }
+{
+    if !is_sendable(group) {
+        return None;
+    }
+    let asked = Pgn::new(REQUEST)?;
+    let [low, middle, high, _top] = group.raw().to_le_bytes();
+    Outgoing::new(token, own, 6, asked, to, &[low, middle, high])
+}
+
+fn first(one: Option<AskEnding>, later: Option<AskEnding>) -> Option<AskEnding>
+    ensures { result ≡ first one later }
+{
+    match one {
+        Some(ending) => Some(ending),
+        None => later,
+    }
+}
+
+/// How a request ended without a word.
+fn silent_end(is_taken: bool, left: u64, is_lost: bool) -> Option<AskEnding>
+    ensures { result ≡ silent_end is_taken left is_lost }
+{
+    if is_taken && left == 0 {
+        Some(AskEnding::TimedOut)
+    } else if is_lost {
+        Some(AskEnding::Withdrawn)
+    } else {
+        None
+    }
+}
+
+/// Whether an address sends the frame, to all or to this one.
+fn reaches(own: &Own, frame: &Frame) -> bool
+    ensures { result ≡ reaches (who_of own.now) frame.now }
+{
+    frame.id.source() < NULL_ADDRESS
+        && (is_undirected(frame) || (is_to(frame, GLOBAL_ADDRESS) || is_to(frame, own.address)))
+}
+
+/// What the control byte of an acknowledgment says.
+fn said_by(bytes: &[u8]) -> Option<AskEnding>
+    ensures { result ≡ said_by (slice_get bytes.now 0) }
+{
+    match bytes.get(0) {
+        Some(control) => ending_by(*control),
+        None => None,
+    }
+}
+
+fn ending_by(control: u8) -> Option<AskEnding>
+    ensures { result ≡ said_by (Some control) }
+{
+    if control == 0 {
+        Some(AskEnding::Acknowledged(Answer::Ack))
+    } else if control == 1 {
+        Some(AskEnding::Acknowledged(Answer::Nack))
+    } else if control == 2 {
+        Some(AskEnding::Acknowledged(Answer::Denied))
+    } else if control == 3 {
+        Some(AskEnding::Acknowledged(Answer::Busy))
+    } else {
+        None
+    }
+}
+
+/// Whether an acknowledgment is of the group, and of this address or of none.
+fn is_of(own: u8, group: Pgn, bytes: &[u8]) -> bool
+    ensures { result ≡ is_of own (pgn_raw group) bytes.now }
+{
+    let [low, middle, high, _top] = group.raw().to_le_bytes();
+    (has_at(bytes, 4, own) || has_at(bytes, 4, 255))
+        && (has_at(bytes, 5, low) && (has_at(bytes, 6, middle) && has_at(bytes, 7, high)))
+}
+
+fn has_at(bytes: &[u8], at: usize, value: u8) -> bool
+    ensures { result ≡ is_some (slice_get bytes.now at) value }
+{
+    match bytes.get(at) {
+        Some(byte) => *byte == value,
+        None => false,
+    }
+}

@@ -1,0 +1,118 @@
+//! Laws of transfers over histories, as those of `laws`.
+ghost use Rattle.std.specs.Prelude.{◌≡◌, ◌⊎◌, ◌+◌, ◌<◌, ◌≤◌, ◌↔◌, ◌++◌, ℕ, List, [], ◌∷◌, length, Some, None, Option, Result, Ok, Err, IsTrue, true, false};
+ghost use Rattle.std.specs.List.{slice_get};
+ghost use Rattle.j39_frame.specs.Frame.{FrameRecord};
+ghost use Rattle.j39_address.specs.Claim.{claims_of};
+ghost use Rattle.j39_address.specs.Holder.{IsHolderAfter};
+ghost use Rattle.j39_transport.specs.Message.{MessageRecord, packets_of};
+ghost use Rattle.j39_transport.specs.Sending.{Heard, Tick, is_waiting, send_step};
+ghost use Rattle.j39_transport.specs.Signals.{Acknowledgment};
+ghost use Rattle.j39_node.specs.declared.controller.Controller.{Controller};
+ghost use Rattle.j39_node.specs.declared.kinds.TransferEnding.{TransferEnding};
+ghost use Rattle.j39_node.specs.declared.kinds.TransferEnding.TheVariants as ending;
+ghost use Rattle.j39_node.specs.declared.kinds.Refused.{Refused};
+ghost use Rattle.j39_node.specs.declared.kinds.Refused.TheVariants as refused;
+ghost use Rattle.j39_node.specs.History.{Who, Call, accepted, acknowledged, address_after, due, has_packets, holds, is_lost, message_of, sent, step, told_claims};
+ghost use Rattle.j39_node.specs.History.Call.{Hear, TakeFrame, TakeTransferEnded, Transfer};
+ghost use Rattle.j39_node.specs.Since.{PacketSince};
+ghost use Rattle.j39_node.specs.Reception.{holder, is_move};
+ghost use Rattle.j39_node.specs.Transfers.{Running, can_transfer, clock_at, gives_up, is_over, is_replaced, is_spent, next_transfer, open_transfer, said_to, told_transfers, transfers};
+ghost use Rattle.j39_node.specs.Moves.{Aborts, Acknowledges, Happened, IsMove, NoneEnds, Replaces, abort_move, clears, moves};
+ghost use Rattle.j39_node.specs.Is.{Is};
+
+/// What `transfer` answers: `NoAddress` where no address is held, `BadValue` where the message can't be sent so, `Full` where one is
+/// accepted and not told (or as many as there are tokens were accepted), and else the next token.
+pub fn transfer_means()
+    ensures no_address { (w : Who) (H : List Call) (c : Controller) (now group to : ℕ) (bytes : List ℕ) (answer : Result ℕ Refused)
+        → Is w (Transfer now group to bytes answer ∷ H) c → (answer ≡ Err refused.NoAddress ↔ (IsTrue (holds w H now) → ⊥)) }
+    ensures bad_value { (w : Who) (H : List Call) (c : Controller) (now group to : ℕ) (bytes : List ℕ) (answer : Result ℕ Refused)
+        → Is w (Transfer now group to bytes answer ∷ H) c
+        → (answer ≡ Err refused.BadValue ↔ (IsTrue (holds w H now) × (IsTrue (can_transfer w group to bytes) → ⊥))) }
+    ensures full { (w : Who) (H : List Call) (c : Controller) (now group to : ℕ) (bytes : List ℕ) (answer : Result ℕ Refused)
+        → Is w (Transfer now group to bytes answer ∷ H) c
+        → (answer ≡ Err refused.Full
+        ↔ (IsTrue (holds w H now) × IsTrue (can_transfer w group to bytes)
+        × ((length (transfers w H) ≡ length (told_transfers H) + 1) ⊎ (length (transfers w H) ≡ 18446744073709551615)))) }
+    ensures accepts { (w : Who) (H : List Call) (c : Controller) (now group to : ℕ) (bytes : List ℕ) (answer : Result ℕ Refused)
+        → Is w (Transfer now group to bytes answer ∷ H) c → IsTrue (holds w H now) → IsTrue (can_transfer w group to bytes)
+        → length (transfers w H) ≡ length (told_transfers H) → length (transfers w H) < 18446744073709551615
+        → answer ≡ Ok (length (transfers w H)) }
+    ensures token { (w : Who) (H : List Call) (c : Controller) (now group to k : ℕ) (bytes : List ℕ)
+        → Is w (Transfer now group to bytes (Ok k) ∷ H) c → k ≡ length (transfers w H) }
+{}
+
+/// A frame of a transfer that is taken is one of the transfer that was accepted last and isn't told: first its request to send, then
+/// packets of its message, or an abort. It is taken where the address is held, no message and no acknowledgment waits, and no frame of
+/// the open broadcast is due; where none is taken though the address is held, its sender has none. A transfer takes so many clears to send as it has packets, and 65 more, at most; where more than 64
+/// granted nothing new, and only there, its next frame is abort 5. At what is heard and taken its sender takes the steps that
+/// `j39_transport` defines.
+pub fn moves_mean()
+    ensures only { (w : Who) (H : List Call) (c : Controller) (now : ℕ) (f : FrameRecord)
+        → Is w (TakeFrame now (Some f) ∷ H) c → IsTrue (is_move w H f)
+        → (k to : ℕ) × (m : MessageRecord) × (slice_get (transfers w H) k ≡ Some (to, m)) × (k ≡ length (told_transfers H))
+        × IsMove to m (moves w H) (message_of f) }
+    ensures behind { (w : Who) (H : List Call) (c : Controller) (now : ℕ) (f : FrameRecord)
+        → Is w (TakeFrame now (Some f) ∷ H) c → IsTrue (is_move w H f)
+        → IsTrue (holds w H now) × (length (sent H) ≡ length (accepted w H)) × (acknowledged H ≡ due w H) }
+    ensures after_broadcasts { (w : Who) (H : List Call) (c : Controller) (now : ℕ) (f : FrameRecord)
+        → Is w (TakeFrame now (Some f) ∷ H) c → IsTrue (is_move w H f) → IsTrue (has_packets w H)
+        → (e : ℕ) × PacketSince H e × (e + step H now < 50000) }
+    ensures waits { (w : Who) (H : List Call) (c : Controller) (now : ℕ) → Is w (TakeFrame now None ∷ H) c → IsTrue (holds w H now)
+        → next_transfer w H now ≡ None }
+    ensures gives_up { (w : Who) (H : List Call) (c : Controller) (now : ℕ) (f : FrameRecord) (t : Running)
+        → Is w (TakeFrame now (Some f) ∷ H) c → IsTrue (is_move w H f) → open_transfer w H ≡ Some t → IsTrue (gives_up t)
+        → message_of f ≡ abort_move t.sender.destination t.sender.message 5 }
+    ensures patient { (w : Who) (H : List Call) (c : Controller) (now : ℕ) (f : FrameRecord) (t : Running)
+        → Is w (TakeFrame now (Some f) ∷ H) c → IsTrue (is_move w H f) → open_transfer w H ≡ Some t
+        → message_of f ≡ abort_move t.sender.destination t.sender.message 5 → (65 ≤ t.spent) × (65 ≤ clears w H) }
+    ensures bounded { (w : Who) (H : List Call) (c : Controller) (t : Running) → Is w H c → open_transfer w H ≡ Some t
+        → clears w H ≤ packets_of t.sender.message + 65 }
+    ensures hears { (w : Who) (H : List Call) (f : FrameRecord) (t : Running) → open_transfer w H ≡ Some t
+        → is_lost (address_after w (Hear f ∷ H)) ≡ false
+        → is_replaced (holder H t.sender.destination) (holder (Hear f ∷ H) t.sender.destination) ≡ false
+        → t.gone ≡ false → is_spent t ≡ false
+        → (x : Running) × (open_transfer w (Hear f ∷ H) ≡ Some x)
+        × (x.sender ≡ (send_step t.sender (Heard f) (clock_at H f.stamp)).after) }
+    ensures takes { (w : Who) (H : List Call) (now : ℕ) (f : FrameRecord) (t : Running) → open_transfer w H ≡ Some t
+        → IsTrue (is_move w H f) → gives_up t ≡ false
+        → (x : Running) × (open_transfer w (TakeFrame now (Some f) ∷ H) ≡ Some x)
+        × (x.sender ≡ (send_step t.sender Tick (clock_at H now)).after) }
+{}
+
+/// The tokens of the transfers accepted are 0, 1, 2 and so on, and in this order each is told at most once to have ended: as done only
+/// where its destination acknowledged its size, packets and group after all its packets were taken, as failed only by an abort for that
+/// reason, heard or taken; as gone only where its destination's address was left or lost by its holder, and there unless it was over;
+/// as withdrawn only where the address is lost. One that waits with its last packet taken, and hears its acknowledgment, is told as done. Where none is told, all
+/// are, or one is open and nothing of this is so. `holder` is `j39_address`'s holder.
+pub fn transfer_done_means()
+    ensures told { (w : Who) (H : List Call) (c : Controller) (k : ℕ) (e : TransferEnding)
+        → Is w (TakeTransferEnded (Some (k, e)) ∷ H) c → (k ≡ length (told_transfers H)) × (k < length (transfers w H)) }
+    ensures done { (w : Who) (H : List Call) (c : Controller) (k : ℕ)
+        → Is w (TakeTransferEnded (Some (k, ending.Done)) ∷ H) c
+        → (to : ℕ) × (m : MessageRecord) × (slice_get (transfers w H) k ≡ Some (to, m)) × Happened (Acknowledges w to m) H }
+    ensures acknowledged { (w : Who) (H later : List Call) (c : Controller) (f : FrameRecord) (t : Running) (answer : Option (ℕ × TransferEnding))
+        → Is w (TakeTransferEnded answer ∷ later ++ Hear f ∷ H) c → NoneEnds later → open_transfer w H ≡ Some t
+        → IsTrue (is_waiting t.sender.state) → t.sender.highest ≡ packets_of t.sender.message → t.gone ≡ false → is_spent t ≡ false
+        → is_lost (address_after w (Hear f ∷ H)) ≡ false
+        → is_replaced (holder H t.sender.destination) (holder (Hear f ∷ H) t.sender.destination) ≡ false
+        → said_to t.sender f
+        ≡ Some (Acknowledgment (length t.sender.message.bytes) (packets_of t.sender.message) t.sender.message.pgn)
+        → answer ≡ Some (t.token, ending.Done) }
+    ensures failed { (w : Who) (H : List Call) (c : Controller) (k reason : ℕ)
+        → Is w (TakeTransferEnded (Some (k, ending.Failed reason)) ∷ H) c
+        → (to : ℕ) × (m : MessageRecord) × (slice_get (transfers w H) k ≡ Some (to, m)) × Happened (Aborts w reason to m) H }
+    ensures gone { (w : Who) (H : List Call) (c : Controller) (k : ℕ)
+        → Is w (TakeTransferEnded (Some (k, ending.Gone)) ∷ H) c
+        → (to : ℕ) × (m : MessageRecord) × (slice_get (transfers w H) k ≡ Some (to, m)) × Happened (Replaces to) H }
+    ensures replaced { (w : Who) (H later : List Call) (c : Controller) (f : FrameRecord) (t : Running) (answer : Option (ℕ × TransferEnding))
+        → Is w (TakeTransferEnded answer ∷ later ++ Hear f ∷ H) c → NoneEnds later → open_transfer w H ≡ Some t → is_over t ≡ false
+        → is_lost (address_after w (Hear f ∷ H)) ≡ false
+        → is_replaced (holder H t.sender.destination) (holder (Hear f ∷ H) t.sender.destination) ≡ true
+        → answer ≡ Some (t.token, ending.Gone) }
+    ensures withdrawn { (w : Who) (H : List Call) (c : Controller) (k : ℕ)
+        → Is w (TakeTransferEnded (Some (k, ending.Withdrawn)) ∷ H) c → IsTrue (is_lost (address_after w H)) }
+    ensures all { (w : Who) (H : List Call) (c : Controller) → Is w (TakeTransferEnded None ∷ H) c
+        → (length (told_transfers H) ≡ length (transfers w H))
+        ⊎ ((t : Running) × (open_transfer w H ≡ Some t) × (is_over t ≡ false) × (IsTrue (is_lost (address_after w H)) → ⊥)) }
+    ensures holder { (H : List Call) (a : ℕ) → IsHolderAfter (claims_of (told_claims H)) a (holder H a) }
+{}

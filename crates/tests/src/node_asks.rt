@@ -1,0 +1,177 @@
+//! A controller at 80 that asks others for groups: its requests, and how they end.
+use crate::node::{frame, is_line};
+use j39_address::Name;
+use j39_frame::{Pgn, Stamp};
+use j39_node::{Answer, AskEnding, Controller, Ending, Refused};
+use std::test::Fail;
+
+/// What is done with a controller, and what it answers.
+enum Step {
+    /// It hears the frame of this line.
+    Hears(&'static str),
+    /// At this moment it gives the frame of this line, or none.
+    Gives(u64, Option<&'static str>),
+    /// At this moment it is to ask this address for this group: its token, or why not.
+    Asks(u64, u32, u8, Result<u64, Refused>),
+    /// It tells this end of a request.
+    Ends(Option<(u64, AskEnding)>),
+    /// It tells this end of a message.
+    IsSent(Option<(u64, Ending)>),
+    /// Time passes till this moment.
+    Ticks(u64),
+    /// Its next frame is due at this moment.
+    IsDue(Option<u64>),
+}
+
+use AskEnding::{Acknowledged, Answered, TimedOut, Withdrawn};
+use Step::{Asks, Ends, Gives, Hears, IsDue, IsSent, Ticks};
+
+static STEPS: &[Step] = &[
+    Gives(
+        0,
+        Some("(0000000000.000000) can0 18EEFF80#0200000000000000"),
+    ),
+    Asks(249_999, 65_226, 11, Err(Refused::NoAddress)),
+    // No other's address; a group of sessions, and acknowledgments; a group with a destination in it.
+    Asks(250_000, 65_226, 128, Err(Refused::BadValue)),
+    Asks(250_000, 65_226, 254, Err(Refused::BadValue)),
+    Asks(250_000, 60_416, 11, Err(Refused::BadValue)),
+    Asks(250_000, 59_392, 11, Err(Refused::BadValue)),
+    Asks(250_000, 61_185, 11, Err(Refused::BadValue)),
+    Asks(250_000, 65_226, 11, Ok(0)),
+    Asks(250_000, 65_226, 12, Err(Refused::Full)),
+    // What comes before its frame is taken is no answer.
+    Hears("(0.260000) can0 18FECA0B#0102030405060708"),
+    Ends(None),
+    IsDue(Some(260_000)),
+    Gives(270_000, Some("(0000000000.270000) can0 18EA0B80#CAFE00")),
+    IsDue(None),
+    IsSent(Some((0, Ending::Done))),
+    // Of another; of another group; for another asker; for none, but a word that isn't known.
+    Hears("(0.280000) can0 18FECA0C#0102030405060708"),
+    Hears("(0.280000) can0 18E8FF0C#01FFFFFF80CAFE00"),
+    Hears("(0.280000) can0 18E8FF0B#01FFFFFF80CBFE00"),
+    Hears("(0.280000) can0 18E8FF0B#01FFFFFF81CAFE00"),
+    Hears("(0.280000) can0 18E8FF0B#04FFFFFF80CAFE00"),
+    Hears("(0.280000) can0 18E8810B#01FFFFFF80CAFE00"),
+    Ends(None),
+    Asks(290_000, 65_226, 12, Err(Refused::Full)),
+    // What is heard first stands.
+    Hears("(0.300000) can0 18FECA0B#0102030405060708"),
+    Hears("(0.310000) can0 18E8FF0B#01FFFFFF80CAFE00"),
+    Ends(Some((0, Answered))),
+    Ends(None),
+    // Acknowledged: positive, negative, denied, busy.
+    Asks(400_000, 65_226, 11, Ok(1)),
+    Gives(400_000, Some("(0000000000.400000) can0 18EA0B80#CAFE00")),
+    Hears("(0.410000) can0 18E8FF0B#00FFFFFF80CAFE00"),
+    Ends(Some((1, Acknowledged(Answer::Ack)))),
+    Asks(500_000, 65_226, 11, Ok(2)),
+    Gives(500_000, Some("(0000000000.500000) can0 18EA0B80#CAFE00")),
+    Hears("(0.510000) can0 18E8FF0B#01FFFFFFFFCAFE00"),
+    Ends(Some((2, Acknowledged(Answer::Nack)))),
+    Asks(600_000, 65_226, 11, Ok(3)),
+    Gives(600_000, Some("(0000000000.600000) can0 18EA0B80#CAFE00")),
+    Hears("(0.610000) can0 18E8800B#02FFFFFF80CAFE00"),
+    Ends(Some((3, Acknowledged(Answer::Denied)))),
+    Asks(700_000, 65_226, 11, Ok(4)),
+    Gives(700_000, Some("(0000000000.700000) can0 18EA0B80#CAFE00")),
+    Hears("(0.710000) can0 18E8FF0B#03FFFFFF80CAFE00"),
+    Ends(Some((4, Acknowledged(Answer::Busy)))),
+    // A group with a destination: to another it is no answer.
+    Asks(800_000, 61_184, 11, Ok(5)),
+    Gives(800_000, Some("(0000000000.800000) can0 18EA0B80#00EF00")),
+    Hears("(0.810000) can0 18EF0C0B#01"),
+    Ends(None),
+    Hears("(0.820000) can0 18EF800B#01"),
+    Ends(Some((5, Answered))),
+    // To all: acknowledgments don't count, and anyone's answer does.
+    Asks(900_000, 65_226, 255, Ok(6)),
+    Gives(900_000, Some("(0000000000.900000) can0 18EAFF80#CAFE00")),
+    Hears("(0.910000) can0 18E8FF0B#01FFFFFF80CAFE00"),
+    Ends(None),
+    Hears("(0.920000) can0 18FECA21#0102030405060708"),
+    Ends(Some((6, Answered))),
+    // A message in packets is an answer once it is whole; one that lies there is none.
+    Asks(930_000, 65_260, 11, Ok(7)),
+    Gives(930_000, Some("(0000000000.930000) can0 18EA0B80#ECFE00")),
+    Hears("(0.940000) can0 1CEC800B#10120003FFECFE00"),
+    Gives(
+        940_000,
+        Some("(0000000000.940000) can0 1CEC0B80#110301FFFFECFE00"),
+    ),
+    Hears("(0.941000) can0 1CEB800B#013146554A413643"),
+    Hears("(0.942000) can0 1CEB800B#025631324C4B3132"),
+    Ends(None),
+    Hears("(0.943000) can0 1CEB800B#033334352AFFFFFF"),
+    Ends(Some((7, Answered))),
+    Gives(
+        943_000,
+        Some("(0000000000.943000) can0 1CEC0B80#13120003FFECFE00"),
+    ),
+    Asks(950_000, 65_260, 11, Ok(8)),
+    Gives(950_000, Some("(0000000000.950000) can0 18EA0B80#ECFE00")),
+    Hears("(0.960000) can0 18FECA0B#0102030405060708"),
+    Ends(None),
+    Hears("(0.970000) can0 18E8FF0B#01FFFFFF80ECFE00"),
+    Ends(Some((8, Acknowledged(Answer::Nack)))),
+    // Silence: time that goes back is no time.
+    Asks(1_000_000, 65_226, 11, Ok(9)),
+    Ticks(9_000_000),
+    Ticks(1_000_000),
+    Ends(None),
+    Gives(1_000_000, Some("(0000000001.000000) can0 18EA0B80#CAFE00")),
+    Ticks(2_249_999),
+    Ends(None),
+    Ticks(1_000_000),
+    Ends(None),
+    Hears("(1.000001) can0 18FECA0B#0102030405060708"),
+    Ends(Some((9, TimedOut))),
+    // Its address is lost.
+    Asks(3_000_000, 65_226, 11, Ok(10)),
+    Gives(3_000_000, Some("(0000000003.000000) can0 18EA0B80#CAFE00")),
+    Hears("(3.100000) can0 18EEFF80#0100000000000000"),
+    Hears("(3.200000) can0 18FECA0B#0102030405060708"),
+    Ends(Some((10, Withdrawn))),
+    Ends(None),
+    Asks(3_300_000, 65_226, 11, Err(Refused::NoAddress)),
+];
+
+/// Whether the controller does as the step says; `None` where the step isn't one.
+fn does(node: &mut Controller, step: &Step) -> Option<bool> {
+    match step {
+        Hears(line) => {
+            node.hear(&frame(line)?);
+            Some(true)
+        }
+        Gives(micros, wanted) => {
+            let would = node.peek_frame(Stamp::new(*micros)?);
+            let given = node.take_frame(Stamp::new(*micros)?);
+            Some(is_line(would, *wanted)? && is_line(given, *wanted)?)
+        }
+        Asks(micros, group, to, wanted) => {
+            let answer = node.ask(Stamp::new(*micros)?, Pgn::new(*group)?, *to);
+            Some(answer == *wanted)
+        }
+        Ends(wanted) => Some(node.take_ask_ended() == *wanted),
+        IsSent(wanted) => Some(node.take_ended() == *wanted),
+        Ticks(micros) => {
+            node.tick(Stamp::new(*micros)?);
+            Some(true)
+        }
+        IsDue(wanted) => Some(node.next_due().map(Stamp::micros) == *wanted),
+    }
+}
+
+#[test]
+fn node_asks(rt: HostRuntime) -> Result<(), Fail> {
+    let mut node = Controller::new(rt.alloc(), Name::new(2), 128, &[])?.ok_or("node")?;
+    let mut wrong = None;
+    for (place, step) in STEPS.iter().enumerate() {
+        if wrong.is_none() && does(&mut node, step) != Some(true) {
+            wrong = Some(place);
+        }
+    }
+    assert_eq!(rt; wrong, None);
+    Ok(())
+}

@@ -1,0 +1,281 @@
+//! Transfers of a controller to one address: from 80 to 0B, of the group 65226.
+use crate::node::{frame, is_line};
+use j39_address::Name;
+use j39_frame::{Pgn, Stamp};
+use j39_node::{Controller, Refused, TransferEnding};
+use j39_transport::{Receiver, Reply};
+use std::alloc::Global;
+use std::test::Fail;
+
+/// What is done with a controller, and what it answers.
+enum Step {
+    /// It hears the frame of this line.
+    Hears(&'static str),
+    /// So many times.
+    HearsOften(u8, &'static str),
+    /// At this moment it gives the frame of this line, or none.
+    Gives(u64, Option<&'static str>),
+    /// At this moment it takes these bytes to be sent to this address: its token, or why not.
+    Transfers(u64, u8, &'static [u8], Result<u64, Refused>),
+    /// It tells this end of a transfer.
+    Ends(Option<(u64, TransferEnding)>),
+    /// At this moment it takes nine bytes to be broadcast.
+    Broadcasts(u64),
+    /// Its next frame is due at this moment.
+    IsDue(Option<u64>),
+}
+
+use Step::{Broadcasts, Ends, Gives, Hears, HearsOften, IsDue, Transfers};
+use TransferEnding::{Done, Failed, Gone, Withdrawn};
+
+const MESSAGE: [u8; 18] = *b"1FUJA6CV12LK12345*";
+
+/// It claims address 128 at 0, and holds it from 250,000 on.
+static BEGINS: &[Step] = &[
+    Gives(
+        0,
+        Some("(0000000000.000000) can0 18EEFF80#0200000000000000"),
+    ),
+    Transfers(249_999, 11, &MESSAGE, Err(Refused::NoAddress)),
+    Transfers(250_000, 128, &MESSAGE, Err(Refused::BadValue)),
+    Transfers(250_000, 254, &MESSAGE, Err(Refused::BadValue)),
+    Transfers(250_000, 255, &MESSAGE, Err(Refused::BadValue)),
+    Transfers(
+        250_000,
+        11,
+        &[1, 2, 3, 4, 5, 6, 7, 8],
+        Err(Refused::BadValue),
+    ),
+    Transfers(250_000, 11, &[0; 1_786], Err(Refused::BadValue)),
+    Transfers(250_000, 11, &MESSAGE, Ok(0)),
+    Transfers(250_000, 12, &MESSAGE, Err(Refused::Full)),
+    IsDue(Some(250_000)),
+    Gives(
+        250_000,
+        Some("(0000000000.250000) can0 1CEC0B80#10120003FFCAFE00"),
+    ),
+    IsDue(Some(1_500_001)),
+    Gives(1_000_000, None),
+    Ends(None),
+];
+
+/// Cleared for two packets, held, cleared for the third, and acknowledged; a broadcast goes beside, and before.
+static WINDOWS: &[Step] = &[
+    Hears("(1.000000) can0 1CEC800B#110201FFFFCAFE00"),
+    Broadcasts(1_000_000),
+    IsDue(Some(1_000_000)),
+    Gives(
+        1_000_000,
+        Some("(0000000001.000000) can0 1CECFF80#20090002FFCAFE00"),
+    ),
+    Gives(
+        1_000_000,
+        Some("(0000000001.000000) can0 1CEB0B80#013146554A413643"),
+    ),
+    Gives(
+        1_000_001,
+        Some("(0000000001.000001) can0 1CEB0B80#025631324C4B3132"),
+    ),
+    Gives(1_000_002, None),
+    IsDue(Some(1_050_000)),
+    Gives(
+        1_050_000,
+        Some("(0000000001.050000) can0 1CEBFF80#0101020304050607"),
+    ),
+    Gives(
+        1_100_000,
+        Some("(0000000001.100000) can0 1CEBFF80#020809FFFFFFFFFF"),
+    ),
+    IsDue(Some(2_250_002)),
+    Hears("(1.200000) can0 1CEC800B#1100FFFFFFCAFE00"),
+    IsDue(Some(2_250_001)),
+    // Another's, and one of another group: neither counts.
+    Hears("(1.200000) can0 1CEC800C#110103FFFFCAFE00"),
+    Hears("(1.200000) can0 1CEC800B#110103FFFFCBFE00"),
+    Hears("(1.200000) can0 1CEC800B#13120003FFCAFE00"),
+    Ends(None),
+    Hears("(2.250000) can0 1CEC800B#110103FFFFCAFE00"),
+    Gives(
+        2_250_000,
+        Some("(0000000002.250000) can0 1CEB0B80#033334352AFFFFFF"),
+    ),
+    Ends(None),
+    Hears("(2.250001) can0 1CEC800B#13120003FFCAFE00"),
+    IsDue(None),
+    Ends(Some((0, Done))),
+    Ends(None),
+    Transfers(2_250_001, 11, &MESSAGE, Ok(1)),
+];
+
+/// Aborted by its destination.
+static ABORTED: &[Step] = &[
+    Hears("(1.000000) can0 1CEC800B#FF01FFFFFFCAFE00"),
+    IsDue(None),
+    Transfers(1_000_000, 11, &MESSAGE, Err(Refused::Full)),
+    Ends(Some((0, Failed(1)))),
+    Ends(None),
+];
+
+/// Nobody answers; a clock that is set back is no time.
+static ABSENT: &[Step] = &[
+    Gives(500_000, None),
+    IsDue(Some(1_000_001)),
+    Gives(1_000_000, None),
+    Gives(
+        1_000_001,
+        Some("(0000000001.000001) can0 1CEC0B80#FF03FFFFFFCAFE00"),
+    ),
+    Ends(Some((0, Failed(3)))),
+];
+
+/// It holds again and again.
+static HOLDS: &[Step] = &[
+    HearsOften(64, "(1.000000) can0 1CEC800B#1100FFFFFFCAFE00"),
+    IsDue(Some(2_050_001)),
+    Hears("(1.100000) can0 1CEC800B#1100FFFFFFCAFE00"),
+    IsDue(Some(1_100_000)),
+    Ends(None),
+    Gives(
+        1_100_000,
+        Some("(0000000001.100000) can0 1CEC0B80#FF05FFFFFFCAFE00"),
+    ),
+    Ends(Some((0, Failed(5)))),
+];
+
+/// The NAME of 0B says again who it is; then another takes the address.
+static REPLACED: &[Step] = &[
+    Hears("(1.000000) can0 18EEFF0B#0900000000000000"),
+    Hears("(1.000000) can0 18EEFF0B#0900000000000000"),
+    Hears("(1.000000) can0 18EEFF0B#0A00000000000000"),
+    IsDue(Some(1_500_001)),
+    Hears("(1.000001) can0 18EEFF0B#0800000000000000"),
+    IsDue(None),
+    Hears("(1.000002) can0 1CEC800B#110301FFFFCAFE00"),
+    Gives(1_000_003, None),
+    Ends(Some((0, Gone))),
+];
+
+/// A smaller NAME takes the own address, and is acknowledged to by mistake.
+static LOST: &[Step] = &[
+    Hears("(1.000000) can0 1CEC800B#110301FFFFCAFE00"),
+    Gives(
+        1_000_000,
+        Some("(0000000001.000000) can0 1CEB0B80#013146554A413643"),
+    ),
+    Gives(
+        1_000_000,
+        Some("(0000000001.000000) can0 1CEB0B80#025631324C4B3132"),
+    ),
+    Gives(
+        1_000_000,
+        Some("(0000000001.000000) can0 1CEB0B80#033334352AFFFFFF"),
+    ),
+    Hears("(1.000001) can0 18EEFF80#0100000000000000"),
+    Hears("(1.000002) can0 1CEC800B#13120003FFCAFE00"),
+    Ends(Some((0, Withdrawn))),
+    Transfers(1_000_003, 11, &MESSAGE, Err(Refused::NoAddress)),
+];
+
+/// Whether the controller does as the step says; `None` where the step isn't one.
+fn does(node: &mut Controller, step: &Step) -> Option<bool> {
+    match step {
+        Hears(line) => {
+            node.hear(&frame(line)?);
+            Some(true)
+        }
+        HearsOften(times, line) => {
+            let heard = frame(line)?;
+            for _time in 0..*times {
+                node.hear(&heard);
+            }
+            Some(true)
+        }
+        Gives(micros, wanted) => {
+            let would = node.peek_frame(Stamp::new(*micros)?);
+            let given = node.take_frame(Stamp::new(*micros)?);
+            Some(is_line(would, *wanted)? && is_line(given, *wanted)?)
+        }
+        Transfers(micros, to, bytes, wanted) => {
+            let answer = node.transfer(Stamp::new(*micros)?, Pgn::new(65_226)?, *to, bytes);
+            Some(answer == *wanted)
+        }
+        Ends(wanted) => Some(node.take_transfer_ended() == *wanted),
+        Broadcasts(micros) => {
+            let bytes = [1, 2, 3, 4, 5, 6, 7, 8, 9];
+            let answer = node.broadcast(Stamp::new(*micros)?, Pgn::new(65_226)?, &bytes);
+            Some(answer.is_ok())
+        }
+        IsDue(wanted) => Some(node.next_due().map(Stamp::micros) == *wanted),
+    }
+}
+
+/// The place of the first step that the controller doesn't take as it says.
+fn wrong_step(node: &mut Controller, steps: &[Step]) -> Option<usize> {
+    for (place, step) in steps.iter().enumerate() {
+        if does(node, step) != Some(true) {
+            return Some(place);
+        }
+    }
+    None
+}
+
+/// The place of the first wrong step, after an address is held and a request to send was sent.
+fn wrong_after(alloc: Global, steps: &[Step]) -> Option<usize> {
+    let mut node = Controller::new(alloc, Name::new(2), 128, &[]).ok()??;
+    match wrong_step(&mut node, BEGINS) {
+        Some(place) => Some(place.saturating_add(1_000)),
+        None => wrong_step(&mut node, steps),
+    }
+}
+
+#[test]
+fn transfers_of_a_node(rt: HostRuntime) {
+    assert_eq!(rt; wrong_after(rt.alloc(), WINDOWS), None);
+    assert_eq!(rt; wrong_after(rt.alloc(), ABORTED), None);
+    assert_eq!(rt; wrong_after(rt.alloc(), ABSENT), None);
+    assert_eq!(rt; wrong_after(rt.alloc(), HOLDS), None);
+    assert_eq!(rt; wrong_after(rt.alloc(), REPLACED), None);
+    assert_eq!(rt; wrong_after(rt.alloc(), LOST), None);
+}
+
+/// How many bytes the receiver at 0B delivers, and how the transfer ended, where it hears each frame at once.
+fn delivered(
+    node: &mut Controller,
+    receiver: &mut Receiver,
+    bytes: &[u8],
+) -> Option<(usize, Option<(u64, TransferEnding)>)> {
+    let now = Stamp::new(250_000)?;
+    node.transfer(now, Pgn::new(65_226)?, 11, bytes).ok()?;
+    let mut got = 0;
+    // No transfer takes more frames: a request to send, and at most 255 packets.
+    for _frame in 0..256 {
+        let Some(sent) = node.take_frame(now) else {
+            break;
+        };
+        match receiver.on(&sent, now) {
+            Reply::Nothing => {}
+            Reply::Send(id, data) => node.hear(&j39_frame::Frame::new(now, id, &data)?),
+            Reply::Delivered(message, id, data) => {
+                if message.payload == bytes {
+                    got += message.payload.len();
+                }
+                node.hear(&j39_frame::Frame::new(now, id, &data)?);
+            }
+        }
+    }
+    Some((got, node.take_transfer_ended()))
+}
+
+#[test]
+fn transfers_to_a_receiver(rt: HostRuntime) -> Result<(), Fail> {
+    let mut node = Controller::new(rt.alloc(), Name::new(2), 128, &[])?.ok_or("node")?;
+    let _claim = node.take_frame(Stamp::new(0).ok_or("moment")?);
+    let mut receiver = crate::transfers::receiver(rt.alloc()).ok_or("receiver")?;
+    let bytes: [u8; 1_785] = std::array::from_fn(|place| (place % 251) as u8);
+    for (token, size) in [9, 14, 15, 1_785].into_iter().enumerate() {
+        let payload = bytes.get(..size).ok_or("size")?;
+        let met = delivered(&mut node, &mut receiver, payload);
+        assert_eq!(rt; met, Some((size, Some((token as u64, Done)))));
+    }
+    Ok(())
+}
