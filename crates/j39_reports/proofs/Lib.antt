@@ -3,8 +3,11 @@ mod CalendarLemmas
 -- parts that stand one behind the other, and how long numbers are
 pub mod PartLemmas
 pub mod NumberLemmas
--- the report as records: a message's records
+-- the report as records and as objects: a message's entries
+pub mod JsonLemmas
+pub mod EntryLemmas
 pub mod RecordLemmas
+pub mod ObjectLemmas
 pub mod QuoteLemmas
 -- summaries: a summary, entry by entry
 pub mod OriginLemmas

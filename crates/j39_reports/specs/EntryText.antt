@@ -1,6 +1,5 @@
 -- The record of an entry of a report (RFC 4180; own).
 use Rattle.std.specs.Prelude.{◌++◌, ◌∷◌, ℕ, List, [], Option, codes, decimal, unwrap_or}
-use Rattle.std.specs.List.{flat_map}
 use Rattle.j39_reports.specs.Columns.{heard_fields, last_field}
 use Rattle.j39_io.specs.Records.{comma, later_text}
 use Rattle.j39_groups.specs.Names.{group_name_in, name_in, state_in}
@@ -42,6 +41,3 @@ abbrev pub entry_record : List RowRecord → Entry → List ℕ
 entry_record groups e =
     named_fields (begin_text e.stamp e.address e.destination e.name e.pgn ++ later_text (group_called groups e.pgn)) e.spn
     (parameter_called groups e.pgn e.spn) ++ value_fields e.value (state_called groups e.pgn e.spn e.value)
-
-abbrev pub entries_text : List RowRecord → List Entry → List ℕ
-entries_text groups entries = flat_map (entry_record groups) entries

@@ -5,8 +5,14 @@ pub mod Columns
 -- the report as records: the record of an entry, and what a run makes of the frames
 pub mod EntryText
 pub mod ReportRecords
--- the report as records: the code's steps
+-- the report as objects of JSON
+pub mod Json
+pub mod EntryObject
+pub mod ReportObjects
+-- the report as records and as objects: the code's steps
+pub mod MessageEntries
 pub mod MessageRecords
+pub mod MessageObjects
 -- summaries: what a report's values did, and its text
 pub mod Summary
 pub mod RowText

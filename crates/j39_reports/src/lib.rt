@@ -4,14 +4,18 @@
 mod columns;
 pub mod current_faults;
 pub mod fault_news;
+mod json;
 mod parts;
+mod report_objects;
 mod report_records;
+mod second;
 pub mod summaries;
 pub mod surveys;
 mod utc;
 
 pub use current_faults::faults_now;
 pub use fault_news::{Choice, FaultCounts, Telling, faults};
+pub use report_objects::{report_json, report_json_filtered};
 pub use report_records::{report_csv, report_csv_filtered};
 pub use summaries::summary;
 pub use surveys::survey;

@@ -5,4 +5,6 @@ mod quick_record;
 mod records;
 mod run;
 
+pub(crate) use begin::digits_before;
+pub(crate) use quick_record::scaled_before;
 pub use run::{report_csv, report_csv_filtered};

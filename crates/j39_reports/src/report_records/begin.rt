@@ -1,22 +1,20 @@
 //! What the records of a message begin with, written backwards.
-ghost use Rattle.std.specs.Prelude.{◌≡◌, ◌+◌, ◌<◌, ◌≤◌, ◌^◌, IfSome, decimal, length};
+ghost use Rattle.std.specs.Prelude.{◌≡◌, ◌+◌, ◌≤◌, IfSome, decimal, length};
 ghost use Rattle.std.specs.Option.{option_map};
 ghost use Rattle.j39_address.specs.Name.{name_raw};
 ghost use Rattle.j39_io.specs.Backwards.{WritesBefore};
-ghost use Rattle.j39_io.specs.Printing.{last_digits};
 ghost use Rattle.j39_io.specs.Records.{later_text};
 ghost use Rattle.j39_frame.specs.Pgn.{pgn_raw};
 ghost use Rattle.j39_frame.specs.Stamp.{stamp_micros};
 ghost use Rattle.j39_listen.specs.Report.{name_field};
 ghost use Rattle.j39_reports.specs.Columns.{destination_field, moment_fields, sender_fields};
 ghost use Rattle.j39_reports.specs.EntryText.{begin_text};
-ghost use Rattle.j39_reports.specs.Utc.{second_text};
 
 use crate::report_records::quick_record::field_before;
-use crate::utc::second_text;
+use crate::second::Second;
 use j39_address::Name;
 use j39_frame::Stamp;
-use j39_io::backwards::{byte_before, bytes_before, hex_before, last_digits_before, number_before};
+use j39_io::backwards::{byte_before, bytes_before, hex_before, number_before};
 use j39_io::vectors::hex_of_eight;
 use j39_listen::Heard;
 
@@ -32,62 +30,6 @@ pub(crate) struct Begin {
     pub has_group: bool,
     pub ghost whole: { length head ≡ 96 },
     pub ghost inside: { from ≤ 96 },
-}
-
-/// A second as the columns of a moment have it, kept from message to message: most come within the second of the
-/// message before.
-#[derive(Clone, Copy, Debug)]
-pub(crate) struct Second {
-    value: u64,
-    digits: [u8; 10],
-    utc: [u8; 19],
-    pub ghost digits_are: { digits ≡ last_digits 10 value },
-    pub ghost utc_is: { utc ≡ second_text value },
-}
-
-impl Second {
-    /// This second after 1 January 1970.
-    pub fn new(value: u64) -> Second
-        requires { value < 10 ^ 10 }
-        ensures { result.value ≡ value }
-    {
-        let mut digits = [0; 10];
-        let _ = last_digits_before(&mut digits, 10, 10, value);
-        let text = second_text(value);
-        let mut utc = [0; 19];
-        utc.copy_from_slice(text.as_slice());
-        Second { value, digits, utc }
-    }
-
-    /// Turns to this second.
-    #[inline(always)]
-    fn turn_to(&mut self, value: u64)
-        requires { value < 10 ^ 10 }
-        ensures { self.new.value ≡ value }
-    {
-        if self.value != value {
-            *self = Second::new(value);
-        }
-    }
-
-    /// Writes the seconds of a stamp, a comma, and the same moment in UTC.
-    #[inline(always)]
-    fn moment_before(&mut self, out: &mut [u8], end: usize, stamp: Stamp) -> usize
-        requires room { 45 ≤ end }
-        requires within { end ≤ length out.old }
-        ensures { WritesBefore out.old out.new end result (moment_fields (stamp_micros stamp)) }
-    {
-        let micros = stamp.micros();
-        self.turn_to(micros / 1_000_000);
-        let zone = byte_before(out, end, b'Z');
-        let (places, _) = last_digits_before(out, zone, 6, micros % 1_000_000);
-        let later = byte_before(out, places, b'.');
-        let utc = bytes_before(out, later, self.utc);
-        let comma = byte_before(out, utc, b',');
-        let (fraction, _) = last_digits_before(out, comma, 6, micros % 1_000_000);
-        let point = byte_before(out, fraction, b'.');
-        bytes_before(out, point, self.digits)
-    }
 }
 
 /// Writes a comma and what a group is called at the end of a block, where that is short and stands as it is.
@@ -121,7 +63,19 @@ pub(crate) fn begin_before(
     let comma = byte_before(out, group, b',');
     let sender = sender_before(out, comma, heard);
     let first = byte_before(out, sender, b',');
-    second.moment_before(out, first, heard.message.stamp)
+    moment_before(out, first, second, heard.message.stamp)
+}
+
+/// Writes the seconds of a stamp, a comma, and the same moment in UTC.
+#[inline(always)]
+fn moment_before(out: &mut [u8], end: usize, second: &mut Second, stamp: Stamp) -> usize
+    requires room { 45 ≤ end }
+    requires within { end ≤ length out.old }
+    ensures { WritesBefore out.old out.new end result (moment_fields (stamp_micros stamp)) }
+{
+    let utc = second.utc_before(out, end, stamp);
+    let comma = byte_before(out, utc, b',');
+    second.seconds_before(out, comma, stamp)
 }
 
 /// Writes the address, the destination and the NAME.

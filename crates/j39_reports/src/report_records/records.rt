@@ -14,8 +14,9 @@ ghost use Rattle.j39_reports.specs.EntryText.{begin_text, group_called, named_fi
 ghost use Rattle.j39_reports.specs.MessageRecords.{begun_fields};
 
 use crate::columns::put_last_field;
-use crate::report_records::begin::{Begin, HEAD, Second, begin_before, group_before};
+use crate::report_records::begin::{Begin, HEAD, begin_before, group_before};
 use crate::report_records::quick_record::{RECORD, record_before};
+use crate::second::Second;
 use arrayvec::ArrayVec;
 use j39_frame::Pgn;
 use j39_groups::{Groups, ReadingVisitor, Value, push_decimal};
@@ -95,7 +96,9 @@ impl EntryForm for RecordForm {
 impl<'g, 't, W: Sink> ReadingVisitor<'t, W> for Records<'g, 't> {
     ghost use Rattle.std.specs.Prelude.{◌++◌, ◌∷◌, []};
     ghost use Rattle.j39_groups.specs.Sightings.{told_in};
-    ghost use Rattle.j39_reports.specs.MessageRecords.{Begun, HasStopped, HasWritten};
+    ghost use Rattle.j39_reports.specs.EntryText.{entry_record};
+    ghost use Rattle.j39_reports.specs.MessageEntries.{Begun, HasStopped};
+    ghost use Rattle.j39_reports.specs.MessageRecords.{HasWritten};
 
     type Fault = DeviceFault;
 
@@ -104,8 +107,8 @@ impl<'g, 't, W: Sink> ReadingVisitor<'t, W> for Records<'g, 't> {
     ghost has_taken = { λ subject records sink sightings.
         HasWritten subject records (record { bytes = W.written sink; has_failed = W.has_failed sink }) (told_in sightings) };
 
-    ghost has_stopped = { λ subject before at records sink.
-        HasStopped subject (told_in (before ++ at ∷ [])) (record { bytes = W.written sink; has_failed = W.has_failed sink }) };
+    ghost has_stopped = { λ subject before at records sink. HasStopped entry_record subject (told_in (before ++ at ∷ []))
+        (record { bytes = W.written sink; has_failed = W.has_failed sink }) };
 
     fn visit(&mut self, spn: u32, value: Value<'t, '_>, sink: &mut W) -> Result<(), DeviceFault> {
         let Called { parameter, state } = called_in(self.groups, self.pgn, spn, value);

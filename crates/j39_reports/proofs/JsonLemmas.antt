@@ -1,0 +1,77 @@
+-- Strings of JSON.
+use Rattle.std.proofs.Common.{◌≡◌, ◌≤◌, ◌∙◌, ◌++◌, ◌∷◌, [], ◌<◌, ℕ, zero, suc, Bool, true, false, List, Result, Ok, Err, ap, ap₂, append_assoc, arith, drop, eq-zero-or-pos, inl, inr, length, refl, sym}
+use Rattle.std.specs.Prelude.{◌==◌, ◌||◌, IsErr, nat_lt, if◌then◌else◌, codes}
+use Rattle.std.specs.List.{flat_map, list_any}
+use Rattle.std.specs.Str.{IsAscii}
+use Rattle.std.specs.Str.Lossy.{replacement_bytes, utf8_invalid_len, utf8_lossy, utf8_valid_len}
+use Rattle.std.proofs.lemmas.Bool.{or_parts}
+use Rattle.std.proofs.lemmas.Bool.Decides.{nat_tests}
+use Rattle.std.proofs.lemmas.Grind.{flat_map-append}
+use Rattle.std.proofs.lemmas.Str.{IsUtf8-from_ascii, utf8_lossy-IsUtf8, utf8_lossy_chunk, utf8_lossy_last_chunk}
+use Rattle.hex.specs.Hex.{encode_upper}
+use Rattle.j39_io.specs.Chars.{backslash, quote, space}
+use Rattle.j39_io.specs.Puts.{Puts}
+use Rattle.j39_io.specs.Turn.{Device}
+use Rattle.j39_io.proofs.PutsLemmas.{puts_as, puts_done, puts_first, puts_then}
+use Rattle.j39_reports.specs.Json.{character_text, in_marks, is_marked, string_text}
+
+-- a byte that isn't marked is printable
+printable : (b : ℕ) → is_marked b ≡ false → b ≤ 0x7E
+printable b unmarked =
+    let below = (or_parts (nat_lt b space) _ unmarked).1 in
+    let above : nat_lt 0x7E b ≡ false = (or_parts (nat_lt 0x7E b) _ below).0 in
+    grind (arith, nat_tests, above)
+
+-- and stands as it is
+stands : (b : ℕ) → is_marked b ≡ false → character_text b ≡ b ∷ []
+stands b unmarked =
+    let parts = or_parts (nat_lt b space) _ unmarked in
+    let others = or_parts (b == quote) _ ((or_parts (nat_lt 0x7E b) _ parts.1).1) in
+    ap (λ (t : Bool). if t then codes "\\\"" else (if b == backslash then codes "\\\\" else (if nat_lt b space then codes "\\u00" ++ encode_upper (b ∷ []) else b ∷ []))) others.0
+    ∙ ap (λ (t : Bool). if t then codes "\\\\" else (if nat_lt b space then codes "\\u00" ++ encode_upper (b ∷ []) else b ∷ [])) others.1
+    ∙ ap (λ (t : Bool). if t then codes "\\u00" ++ encode_upper (b ∷ []) else b ∷ []) parts.0
+
+ascii : (bs : List ℕ) → list_any is_marked bs ≡ false → IsAscii bs
+ascii [] unmarked i = omega arith
+ascii (b ∷ bs) unmarked zero =
+    let small = printable b (or_parts (is_marked b) _ unmarked).0 in
+    omega (arith, small)
+ascii (b ∷ bs) unmarked (suc i) = ascii bs (or_parts (is_marked b) _ unmarked).1 i
+
+all_stand : (bs : List ℕ) → list_any is_marked bs ≡ false → flat_map character_text bs ≡ bs
+all_stand [] unmarked = refl
+all_stand (b ∷ bs) unmarked =
+    let parts = or_parts (is_marked b) _ unmarked in
+    ap₂ (λ (xs ys : List ℕ). xs ++ ys) (stands b parts.0) (all_stand bs parts.1)
+
+pub plain_string : (bs : List ℕ) → list_any is_marked bs ≡ false → string_text bs ≡ in_marks bs
+unfolding string_text
+plain_string bs unmarked =
+    ap (λ text. in_marks (flat_map character_text text)) (utf8_lossy-IsUtf8 bs (IsUtf8-from_ascii bs (ascii bs unmarked)))
+    ∙ ap in_marks (all_stand bs unmarked)
+
+-- the text of bytes begins with their first chunk
+pub valid_first : (bs valid invalid rest : List ℕ) → bs ≡ valid ++ (invalid ++ rest) → (length invalid ≡ 0 → length rest ≡ 0) → length valid ≡ utf8_valid_len bs
+    → length invalid ≡ utf8_invalid_len (drop (utf8_valid_len bs) bs) → (tail : List ℕ) × (utf8_lossy bs ≡ valid ++ tail)
+valid_first bs valid invalid rest cut ends valid_len invalid_len = elim (eq-zero-or-pos (length invalid)) [
+  | inl none ↦ (utf8_lossy rest, utf8_lossy_last_chunk bs valid invalid rest cut valid_len none (ends none))
+  | inr some ↦ (replacement_bytes ++ utf8_lossy rest, utf8_lossy_chunk bs valid invalid rest cut valid_len invalid_len some)
+]
+
+module _ (done more : List ℕ) (old mid new : Device) (first : Puts {T = Unit} {E = Unit} (flat_map character_text done) (Ok tt) (record { old = old; new = mid })) where
+  -- the characters of these, and behind them what came of more
+  pub puts_both : {U F : Type 0} (last : Result U F)
+      → Puts (flat_map character_text more) last (record { old = mid; new = new }) → Puts (flat_map character_text (done ++ more)) last (record { old = old; new = new })
+  puts_both last second =
+      puts_as _ _ _ _ (sym (flat_map-append character_text done more)) (puts_then (flat_map character_text done) (flat_map character_text more) tt last old mid new first second)
+
+  pub puts_more_too : {U F : Type 0} (x : U) → Puts {E = F} (flat_map character_text more) (Ok x) (record { old = mid; new = new })
+      → Puts {T = Unit} {E = Unit} (flat_map character_text (done ++ more)) (Ok tt) (record { old = old; new = new })
+  puts_more_too x second = puts_done _ x tt _ (puts_both (Ok x) second)
+
+  -- a fault in these
+  pub stops_in : {U V E F : Type 0} (all tail : List ℕ) (e : E) (last : Result U F) → all ≡ (done ++ more) ++ tail → IsErr last
+      → Puts {T = V} (flat_map character_text more) (Err e) (record { old = mid; new = new }) → Puts (flat_map character_text all) last (record { old = old; new = new })
+  stops_in {V = V} all tail e last cut failed second =
+      puts_as _ _ _ _ (sym (ap (flat_map character_text) cut ∙ flat_map-append character_text (done ++ more) tail))
+      (puts_first {T = V} (flat_map character_text (done ++ more)) (flat_map character_text tail) e last _ failed (puts_both (Err e) second))

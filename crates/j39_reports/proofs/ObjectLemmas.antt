@@ -1,0 +1,20 @@
+-- The object of a reading of a message.
+use Rattle.std.proofs.Common.{◌≡◌, ◌++◌, ℕ, List, Option, drop, refl}
+use Rattle.std.specs.Option.{option_map}
+use Rattle.j39_groups.specs.Names.{group_name_in, name_in, state_in}
+use Rattle.j39_groups.specs.Row.{RowRecord}
+use Rattle.j39_groups.specs.Value.{ValueRecord}
+use Rattle.j39_listen.specs.Heard.{Hearing}
+use Rattle.j39_listen.specs.Report.{entry_of}
+use Rattle.j39_reports.specs.EntryObject.{entry_object, named_members, value_members}
+use Rattle.j39_reports.specs.MessageObjects.{IsOpened}
+use Rattle.j39_reports.specs.declared.report_objects.objects.Objects.{Objects}
+
+-- what is written of a reading is the object of its entry
+pub object_is : (groups : List RowRecord) (h : Hearing) (objects : Objects) → IsOpened groups h objects → (spn : ℕ) (value : ValueRecord) (parameter : Option (List ℕ))
+    → parameter ≡ name_in objects.groups.now objects.pgn spn
+    → (state : Option (List ℕ)) → state ≡ state_in objects.groups.now objects.pgn spn value
+    → drop objects.opening.from objects.opening.head ++ (named_members (option_map (λ name. name.now) objects.group) spn parameter ++ value_members value state)
+    ≡ entry_object groups (entry_of h (record { spn = spn; value = value }))
+object_is groups h objects opened spn value parameter called state state_is =
+    rw (opened.opening_is, opened.group_is, called, state_is, opened.by, opened.pgn_is) refl

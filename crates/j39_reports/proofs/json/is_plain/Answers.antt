@@ -1,0 +1,7 @@
+use Rattle.std.proofs.Common.{◌∙◌, Bool, false, not, ap, refl, sym}
+use Rattle.std.proofs.lemmas.Bool.{not-true}
+use Rattle.j39_reports.proofs.JsonLemmas.{plain_string}
+use Rattle.j39_reports.proofs.json.is_plain.Goals as goal
+
+pub returns : goal.returns
+returns c = λ plain. plain_string c.args.text.now (sym c.has_marked.ensures ∙ not-true _ plain)

@@ -1,0 +1,23 @@
+-- The parts, one before the other.
+use Rattle.std.proofs.Common.{List, ℕ, ◌≡◌, ◌++◌, ◌∷◌, [], append_assoc, codes, refl, subst}
+use Rattle.std.specs.Option.{option_map}
+use Rattle.j39_address.specs.Name.{name_raw}
+use Rattle.j39_io.proofs.BackwardsLemmas.{before_then}
+use Rattle.j39_io.specs.Backwards.{WritesBefore}
+use Rattle.j39_reports.specs.EntryObject.{address_string, name_string, sender_members}
+use Rattle.j39_reports.specs.Json.{or_null}
+use Rattle.j39_reports.proofs.report_objects.opening.sender_before.Goals as goal
+
+regroup : (a b c address destination name : List ℕ) → a ++ (address ++ (b ++ (destination ++ (c ++ name)))) ≡ a ++ address ++ b ++ destination ++ c ++ name
+regroup a b c address destination name = simp append_assoc refl
+
+pub returns-clause-written : goal.returns-clause-written
+unfolding sender_members
+returns-clause-written c =
+    let heard = c.args.heard.now in
+    subst (WritesBefore c.args.out.now c.bytes_before.new.out c.args.end c.bytes_before.result)
+    (regroup (codes ",\"address\":") (codes ",\"destination\":") (codes ",\"name\":") (address_string heard.message.source) (or_null (option_map address_string heard.destination))
+    (or_null (option_map name_string (option_map name_raw heard.name))))
+    (before_then _ _ _ _ _ _ _ _ (before_then _ _ _ _ _ _ _ _ (before_then _ _ _ _ _ _ _ _ (before_then _ _ _ _ _ _ _ _ (before_then _ _ _ _ _ _ _ _
+    c.name_before-name.ensures.written c.bytes_before-name_key.ensures.written) c.destination_before-destination.ensures.written)
+    c.bytes_before-destination_key.ensures.written) c.address_before-address.ensures.written) c.bytes_before.ensures.written)

@@ -1,0 +1,72 @@
+-- The object of an entry of a report (RFC 8259; own): a line for each, its members in this order.
+use Rattle.std.specs.Prelude.{◌∷◌, ◌++◌, ℕ, List, [], Option, None, Some, codes, decimal, option_map}
+use Rattle.std.specs.Int.{to_be_bytes, w64}
+use Rattle.hex.specs.Hex.{encode_upper}
+use Rattle.j39_groups.specs.Names.{group_name_in, name_in, state_in}
+use Rattle.j39_groups.specs.Row.{RowRecord}
+use Rattle.j39_groups.specs.Value.{ValueRecord, number, on, off, error, reserved, indicator, text}
+use Rattle.j39_groups.specs.ValueText.{scaled_text}
+use Rattle.j39_listen.specs.Report.{Entry}
+use Rattle.j39_log.specs.StampText.{seconds_text}
+use Rattle.j39_reports.specs.Json.{bytes_member, in_marks, or_null, string_or_null, string_text}
+use Rattle.j39_reports.specs.Utc.{utc_text}
+
+abbrev pub address_string : ℕ → List ℕ
+address_string address = in_marks (encode_upper (address ∷ []))
+
+abbrev pub name_string : ℕ → List ℕ
+name_string name = in_marks (encode_upper (to_be_bytes w64 name))
+
+-- a moment: the seconds of a stamp, and the same in UTC
+unfoldable pub moment_members : ℕ → List ℕ
+moment_members stamp = codes "{\"stamp\":" ++ seconds_text stamp ++ codes ",\"utc\":" ++ in_marks (utc_text stamp)
+
+-- an address, the destination, and the NAME at the address
+unfoldable pub sender_members : ℕ → Option ℕ → Option ℕ → List ℕ
+sender_members address destination name =
+    codes ",\"address\":" ++ address_string address
+    ++ codes ",\"destination\":" ++ or_null (option_map address_string destination)
+    ++ codes ",\"name\":" ++ or_null (option_map name_string name)
+
+-- what the objects of a message begin with: these, and the PGN
+unfoldable pub opening_text : ℕ → ℕ → Option ℕ → Option ℕ → ℕ → List ℕ
+opening_text stamp address destination name pgn =
+    moment_members stamp ++ sender_members address destination name ++ codes ",\"pgn\":" ++ decimal pgn
+
+-- what the table calls the group, the parameter, and what the table calls it
+unfoldable pub named_members : Option (List ℕ) → ℕ → Option (List ℕ) → List ℕ
+named_members group spn parameter =
+    codes ",\"group\":" ++ string_or_null group ++ codes ",\"spn\":" ++ decimal spn
+    ++ codes ",\"parameter\":" ++ string_or_null parameter
+
+-- a number with the digits of the report, a word, or a text
+unfoldable pub value_json : ValueRecord → List ℕ
+value_json (number n slot) = scaled_text slot.places n
+value_json on = codes "\"on\""
+value_json off = codes "\"off\""
+value_json error = codes "\"error\""
+value_json reserved = codes "\"reserved\""
+value_json indicator = codes "\"indicator\""
+value_json (text bytes) = string_text bytes ++ bytes_member bytes
+
+-- a number has a unit
+unfoldable pub unit_in : ValueRecord → Option (List ℕ)
+unit_in (number n slot) = Some slot.unit
+unit_in on = None
+unit_in off = None
+unit_in error = None
+unit_in reserved = None
+unit_in indicator = None
+unit_in (text bytes) = None
+
+-- the value, its unit, what the table calls its state, and the end of the line
+unfoldable pub value_members : ValueRecord → Option (List ℕ) → List ℕ
+value_members value state =
+    codes ",\"value\":" ++ value_json value ++ codes ",\"unit\":" ++ string_or_null (unit_in value)
+    ++ codes ",\"state\":" ++ string_or_null state ++ codes "}\n"
+
+abbrev pub entry_object : List RowRecord → Entry → List ℕ
+entry_object groups e =
+    opening_text e.stamp e.address e.destination e.name e.pgn
+    ++ (named_members (group_name_in groups e.pgn) e.spn (name_in groups e.pgn e.spn)
+    ++ value_members e.value (state_in groups e.pgn e.spn e.value))

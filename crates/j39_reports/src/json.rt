@@ -1,0 +1,180 @@
+//! Strings of JSON (RFC 8259, 7).
+ghost use Rattle.std.specs.Prelude.{◌≡◌, ◌∷◌, ◌++◌, [], ◌+◌, ◌≤◌, IfSome, codes, length, true};
+ghost use Rattle.std.specs.List.{flat_map, list_any};
+ghost use Rattle.std.specs.Option.{option_map};
+ghost use Rattle.std.specs.Str.{is_utf8};
+ghost use Rattle.std.specs.Str.Lossy.{utf8_lossy};
+ghost use Rattle.hex.specs.Hex.{encode_upper};
+ghost use Rattle.j39_io.specs.Backwards.{WritesBefore};
+ghost use Rattle.j39_io.specs.Puts.{Puts};
+ghost use Rattle.j39_io.specs.Turn.{turn};
+ghost use Rattle.j39_reports.specs.Json.{bytes_member, character_text, hex_text, in_marks, is_marked, string_or_null, string_text};
+
+use arrayvec::ArrayVec;
+use j39_io::backwards::{byte_before, bytes_before, slice_before};
+use j39_io::printing::{push_bytes, push_hex};
+use j39_io::{DeviceFault, Sink, put_all};
+
+/// The bytes of U+FFFD.
+const REPLACEMENT: &[u8] = b"\xEF\xBF\xBD";
+
+/// Writes a text as a string, or `null` where there is none. After a fault a front of that was written.
+pub(crate) fn put_string_or_null<W: Sink>(
+    text: Option<&[u8]>,
+    sink: &mut W,
+) -> Result<(), DeviceFault>
+    ensures { Puts (string_or_null (option_map (λ bytes. bytes.now) text.entry)) result
+        (turn W.written W.has_failed sink.old sink.new) }
+{
+    match text {
+        Some(text) => put_string(text, sink),
+        None => put_all(sink, b"null"),
+    }
+}
+
+/// Writes bytes as a string, with U+FFFD for what is no UTF-8. After a fault a front of that was written.
+#[tactic(auto, unfolding(crate::specs::Json::string_text))]
+pub(crate) fn put_string<W: Sink>(text: &[u8], sink: &mut W) -> Result<(), DeviceFault>
+    ensures { Puts (string_text text.now) result (turn W.written W.has_failed sink.old sink.new) }
+{
+    put_all(sink, b"\"")?;
+    put_characters(text, sink)?;
+    put_all(sink, b"\"")
+}
+
+/// Writes the characters of a string.
+fn put_characters<W: Sink>(text: &[u8], sink: &mut W) -> Result<(), DeviceFault>
+    ensures { Puts (flat_map character_text (utf8_lossy text.now)) result
+        (turn W.written W.has_failed sink.old sink.new) }
+{
+    for chunk in text.utf8_chunks() {
+        put_bytes(chunk.valid().as_bytes(), sink)?;
+        if !chunk.invalid().is_empty() {
+            put_all(sink, REPLACEMENT)?;
+        }
+    }
+    Ok(())
+}
+
+/// Writes bytes that are UTF-8.
+fn put_bytes<W: Sink>(bytes: &[u8], sink: &mut W) -> Result<(), DeviceFault>
+    ensures { Puts (flat_map character_text bytes.now) result (turn W.written W.has_failed sink.old sink.new) }
+{
+    for &byte in bytes {
+        put_all(sink, character(byte).as_slice())?;
+    }
+    Ok(())
+}
+
+/// A byte of a character as it stands in a string.
+fn character(byte: u8) -> ArrayVec<u8, 6>
+    ensures { result.items ≡ character_text byte }
+{
+    let mut out = ArrayVec::new();
+    match byte {
+        b'"' => push_bytes(&mut out, b"\\\""),
+        b'\\' => push_bytes(&mut out, b"\\\\"),
+        0..=31 => {
+            push_bytes(&mut out, b"\\u00");
+            push_hex(&mut out, &[byte]);
+        }
+        _ => out.push(byte),
+    }
+    out
+}
+
+/// Writes the bytes of a text that isn't all UTF-8 beside it; nothing of any other. After a fault a front of that was written.
+pub(crate) fn put_bytes_member<W: Sink>(text: &[u8], sink: &mut W) -> Result<(), DeviceFault>
+    ensures { Puts (bytes_member text.now) result (turn W.written W.has_failed sink.old sink.new) }
+{
+    if is_utf8(text) {
+        Ok(())
+    } else {
+        put_in_hex(text, sink)
+    }
+}
+
+fn is_utf8(text: &[u8]) -> bool
+    ensures { result ≡ is_utf8 text.now }
+{
+    std::str::from_utf8(text).is_ok()
+}
+
+/// Writes the key of the bytes, and the bytes.
+fn put_in_hex<W: Sink>(text: &[u8], sink: &mut W) -> Result<(), DeviceFault>
+    ensures { Puts (codes ",\"bytes\":" ++ in_marks (hex_text text.now)) result (turn W.written W.has_failed sink.old sink.new) }
+{
+    put_all(sink, b",\"bytes\":\"")?;
+    put_hex(text, sink)?;
+    put_all(sink, b"\"")
+}
+
+/// Writes bytes as pairs of hex digits.
+fn put_hex<W: Sink>(bytes: &[u8], sink: &mut W) -> Result<(), DeviceFault>
+    ensures { Puts (hex_text bytes.now) result (turn W.written W.has_failed sink.old sink.new) }
+{
+    for &byte in bytes {
+        put_all(sink, hex_pair(byte).as_slice())?;
+    }
+    Ok(())
+}
+
+fn hex_pair(byte: u8) -> ArrayVec<u8, 2>
+    ensures { result.items ≡ encode_upper (byte ∷ []) }
+{
+    let mut pair = ArrayVec::new();
+    push_hex(&mut pair, &[byte]);
+    pair
+}
+
+/// Writes a text as a string before `end`, or `null`. `None`, and nothing of use is written, where it is long, or has a byte that
+/// doesn't stand as it is.
+#[inline(always)]
+pub(crate) fn string_or_null_before(
+    out: &mut [u8],
+    end: usize,
+    text: Option<&[u8]>,
+) -> Option<usize>
+    requires room { 65 ≤ end }
+    requires within { end ≤ length out.old }
+    ensures written { IfSome result (λ start. WritesBefore out.old out.new end start
+        (string_or_null (option_map (λ bytes. bytes.now) text.entry))) }
+    ensures short { IfSome result (λ start. end ≤ start + 65) }
+{
+    match text {
+        Some(text) => string_before(out, end, text),
+        None => Some(bytes_before(out, end, *b"null")),
+    }
+}
+
+/// Writes a text as a string before `end`.
+#[inline(always)]
+fn string_before(out: &mut [u8], end: usize, text: &[u8]) -> Option<usize>
+    requires room { 65 ≤ end }
+    requires within { end ≤ length out.old }
+    ensures written { IfSome result (λ start. WritesBefore out.old out.new end start (string_text text.now)) }
+    ensures short { IfSome result (λ start. end ≤ start + 65) }
+{
+    if text.len() > 63 || !is_plain(text) {
+        return None;
+    }
+    let last = byte_before(out, end, b'"');
+    let first = slice_before(out, last, text);
+    Some(byte_before(out, first, b'"'))
+}
+
+/// Whether each byte of a text stands in a string as it is.
+#[inline(always)]
+fn is_plain(text: &[u8]) -> bool
+    ensures { result ≡ true → string_text text.now ≡ in_marks text.now }
+{
+    !has_marked(text)
+}
+
+fn has_marked(text: &[u8]) -> bool
+    ensures { result ≡ list_any is_marked text.now }
+{
+    text.iter().any(|byte| {
+        *byte < b' ' || *byte > b'~' || *byte == b'"' || *byte == b'\\'
+    })
+}

@@ -1,0 +1,260 @@
+//! The objects of a message.
+ghost use Rattle.std.specs.Prelude.{◌≡◌, ◌++◌, codes, decimal, drop};
+ghost use Rattle.j39_io.specs.Puts.{Puts};
+ghost use Rattle.j39_io.specs.Turn.{turn};
+ghost use Rattle.std.specs.Option.{option_map};
+ghost use Rattle.j39_groups.specs.Models.{value_of};
+ghost use Rattle.j39_listen.specs.HeardModel.{hearing_of};
+ghost use Rattle.j39_reports.specs.EntryObject.{named_members, value_json, value_members};
+ghost use Rattle.j39_reports.specs.Json.{bytes_member, string_or_null, string_text};
+
+use crate::json::{put_bytes_member, put_string, put_string_or_null};
+use crate::report_objects::opening::Opening;
+use crate::report_objects::quick_object::{OBJECT, object_before, unit_in};
+use crate::second::Second;
+use arrayvec::ArrayVec;
+use j39_groups::{Groups, ReadingVisitor, Value, push_decimal};
+use j39_io::printing::push_bytes;
+use j39_io::{DeviceFault, Sink, put_all};
+use j39_listen::{EntryForm, Heard};
+
+/// The objects of a message so far.
+#[derive(Drop)]
+pub(crate) struct Objects<'g, 't> {
+    groups: &'g Groups<'t>,
+    opening: Opening,
+    group: Option<&'g [u8]>,
+    pgn: u32,
+    lines: u64,
+    block: [u8; OBJECT],
+}
+
+impl<'g, 't> Objects<'g, 't> {
+    ghost use Rattle.j39_reports.specs.MessageObjects.{IsOpened};
+
+    /// None so far.
+    #[inline(always)]
+    fn new(groups: &'g Groups<'t>, heard: &Heard<'_>, second: &mut Second) -> Objects<'g, 't>
+        ensures opened { IsOpened groups.entry.now (hearing_of heard.now) result }
+        ensures none { result.lines ≡ 0 }
+    {
+        let pgn = heard.message.pgn;
+        Objects {
+            groups,
+            opening: Opening::new(heard, second),
+            group: groups.group_name(pgn),
+            pgn: pgn.raw(),
+            lines: 0,
+            block: [0; OBJECT],
+        }
+    }
+}
+
+/// The form of objects: one for each entry.
+#[derive(Drop)]
+pub(crate) struct ObjectForm {
+    second: Second,
+}
+
+impl ObjectForm {
+    /// At the second 0.
+    pub fn new() -> ObjectForm
+        ensures { result.second.value ≡ 0 }
+    {
+        ObjectForm {
+            second: Second::new(0),
+        }
+    }
+}
+
+impl EntryForm for ObjectForm {
+    ghost use Rattle.j39_reports.specs.EntryObject.{entry_object};
+
+    ghost text_by = { entry_object };
+
+    #[inline(always)]
+    fn put_heard<W: Sink>(
+        &mut self,
+        heard: &Heard<'_>,
+        groups: &Groups<'_>,
+        sink: &mut W,
+    ) -> Result<u64, DeviceFault> {
+        let mut objects = Objects::new(groups, heard, &mut self.second);
+        match groups.visit(heard.message.pgn, heard.message.payload, &mut objects, sink) {
+            Ok(()) => Ok(objects.lines),
+            Err(DeviceFault) => Err(DeviceFault),
+        }
+    }
+}
+
+impl<'g, 't, W: Sink> ReadingVisitor<'t, W> for Objects<'g, 't> {
+    ghost use Rattle.std.specs.Prelude.{◌++◌, ◌∷◌, []};
+    ghost use Rattle.j39_groups.specs.Sightings.{told_in};
+    ghost use Rattle.j39_reports.specs.EntryObject.{entry_object};
+    ghost use Rattle.j39_reports.specs.MessageEntries.{Begun, HasStopped};
+    ghost use Rattle.j39_reports.specs.MessageObjects.{HasWritten};
+
+    type Fault = DeviceFault;
+
+    ghost Subject = { Begun };
+
+    ghost has_taken = { λ subject objects sink sightings.
+        HasWritten subject objects (record { bytes = W.written sink; has_failed = W.has_failed sink }) (told_in sightings) };
+
+    ghost has_stopped = { λ subject before at objects sink. HasStopped entry_object subject (told_in (before ++ at ∷ []))
+        (record { bytes = W.written sink; has_failed = W.has_failed sink }) };
+
+    fn visit(&mut self, spn: u32, value: Value<'t, '_>, sink: &mut W) -> Result<(), DeviceFault> {
+        let (parameter, state) = self.groups.called_in(self.pgn, spn, value);
+        put_object(
+            &mut self.block,
+            &self.opening,
+            self.group,
+            spn,
+            parameter,
+            value,
+            state,
+            sink,
+        )?;
+        self.lines = self.lines.saturating_add(1);
+        Ok(())
+    }
+
+    #[inline(always)]
+    fn visit_absent(&mut self, _: u32, _: &mut W) -> Result<(), DeviceFault> {
+        Ok(())
+    }
+}
+
+/// Writes the object of a reading, in one piece where it is short. What stands in `block` afterwards is not known.
+#[inline(always)]
+fn put_object<W: Sink>(
+    block: &mut [u8; OBJECT],
+    opening: &Opening,
+    group: Option<&[u8]>,
+    spn: u32,
+    parameter: Option<&[u8]>,
+    value: Value<'_, '_>,
+    state: Option<&[u8]>,
+    sink: &mut W,
+) -> Result<(), DeviceFault>
+    ensures { Puts (drop opening.now.from opening.now.head
+        ++ (named_members (option_map (λ text. text.now) group.entry) spn (option_map (λ text. text.now) parameter.entry)
+        ++ value_members (value_of value.entry) (option_map (λ text. text.now) state.entry)))
+        result (turn W.written W.has_failed sink.old sink.new) }
+{
+    match object_before(block, opening, group, spn, parameter, value, state) {
+        Some(start) => put_all(sink, &block[start..]),
+        None => put_parts(opening, group, spn, parameter, value, state, sink),
+    }
+}
+
+/// Writes the object of a reading, part by part.
+#[inline(never)]
+fn put_parts<W: Sink>(
+    opening: &Opening,
+    group: Option<&[u8]>,
+    spn: u32,
+    parameter: Option<&[u8]>,
+    value: Value<'_, '_>,
+    state: Option<&[u8]>,
+    sink: &mut W,
+) -> Result<(), DeviceFault>
+    ensures { Puts (drop opening.now.from opening.now.head
+        ++ (named_members (option_map (λ text. text.now) group.entry) spn (option_map (λ text. text.now) parameter.entry)
+        ++ value_members (value_of value.entry) (option_map (λ text. text.now) state.entry)))
+        result (turn W.written W.has_failed sink.old sink.new) }
+{
+    put_all(sink, opening.bytes())?;
+    put_named(group, spn, parameter, sink)?;
+    put_value_members(value, state, sink)
+}
+
+/// Writes the group, the number of the parameter, and what it is called.
+#[tactic(auto, unfolding(crate::specs::EntryObject::named_members))]
+fn put_named<W: Sink>(
+    group: Option<&[u8]>,
+    spn: u32,
+    parameter: Option<&[u8]>,
+    sink: &mut W,
+) -> Result<(), DeviceFault>
+    ensures { Puts (named_members (option_map (λ text. text.now) group.entry) spn
+        (option_map (λ text. text.now) parameter.entry)) result (turn W.written W.has_failed sink.old sink.new) }
+{
+    put_member(b",\"group\":", group, sink)?;
+    let number = spn_member(spn);
+    put_all(sink, number.as_slice())?;
+    put_member(b",\"parameter\":", parameter, sink)
+}
+
+/// Writes the value, its unit, what its state is called, and the end of the line.
+#[tactic(auto, unfolding(crate::specs::EntryObject::value_members))]
+fn put_value_members<W: Sink>(
+    value: Value<'_, '_>,
+    state: Option<&[u8]>,
+    sink: &mut W,
+) -> Result<(), DeviceFault>
+    ensures { Puts (value_members (value_of value.entry) (option_map (λ text. text.now) state.entry)) result
+        (turn W.written W.has_failed sink.old sink.new) }
+{
+    put_value(value, sink)?;
+    put_member(b",\"unit\":", unit_in(value), sink)?;
+    put_member(b",\"state\":", state, sink)?;
+    put_all(sink, b"}\n")
+}
+
+/// Writes a key and a text.
+fn put_member<W: Sink>(
+    key: &[u8],
+    text: Option<&[u8]>,
+    sink: &mut W,
+) -> Result<(), DeviceFault>
+    ensures { Puts (key.now ++ string_or_null (option_map (λ bytes. bytes.now) text.entry)) result
+        (turn W.written W.has_failed sink.old sink.new) }
+{
+    put_all(sink, key)?;
+    put_string_or_null(text, sink)
+}
+
+/// Writes the key of a value, and the value.
+fn put_value<W: Sink>(value: Value<'_, '_>, sink: &mut W) -> Result<(), DeviceFault>
+    ensures { Puts (codes ",\"value\":" ++ value_json (value_of value.entry)) result
+        (turn W.written W.has_failed sink.old sink.new) }
+{
+    put_all(sink, b",\"value\":")?;
+    put_json(value, sink)
+}
+
+/// Writes a value: a number, a word as a string, or a text with its bytes.
+#[tactic(auto, unfolding(crate::specs::EntryObject::value_json))]
+fn put_json<W: Sink>(value: Value<'_, '_>, sink: &mut W) -> Result<(), DeviceFault>
+    ensures { Puts (value_json (value_of value.entry)) result (turn W.written W.has_failed sink.old sink.new) }
+{
+    match value {
+        Value::Number(_, _) => value.put_field(sink),
+        Value::On => put_all(sink, b"\"on\""),
+        Value::Off => put_all(sink, b"\"off\""),
+        Value::Error => put_all(sink, b"\"error\""),
+        Value::Reserved => put_all(sink, b"\"reserved\""),
+        Value::Indicator => put_all(sink, b"\"indicator\""),
+        Value::Text(text) => put_text(text, sink),
+    }
+}
+
+/// Writes a text, and its bytes where it isn't all UTF-8.
+fn put_text<W: Sink>(text: &[u8], sink: &mut W) -> Result<(), DeviceFault>
+    ensures { Puts (string_text text.now ++ bytes_member text.now) result (turn W.written W.has_failed sink.old sink.new) }
+{
+    put_string(text, sink)?;
+    put_bytes_member(text, sink)
+}
+
+/// The key and the number of a parameter.
+fn spn_member(spn: u32) -> ArrayVec<u8, 32>
+    ensures { result.items ≡ codes ",\"spn\":" ++ decimal spn }
+{
+    let mut member = ArrayVec::new();
+    push_bytes(&mut member, b",\"spn\":");
+    push_decimal(&mut member, spn);
+    member
+}

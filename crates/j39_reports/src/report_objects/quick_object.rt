@@ -1,0 +1,120 @@
+//! The object of one reading in a block, the last byte first.
+ghost use Rattle.std.specs.Prelude.{◌≡◌, ◌+◌, ◌≤◌, ◌++◌, IfSome, drop, length};
+ghost use Rattle.std.specs.Option.{option_map};
+ghost use Rattle.j39_io.specs.Backwards.{WritesBefore};
+ghost use Rattle.j39_groups.specs.Models.{value_of};
+ghost use Rattle.j39_reports.specs.EntryObject.{named_members, unit_in, value_json, value_members};
+
+use crate::json::string_or_null_before;
+use crate::report_objects::opening::Opening;
+use crate::report_records::{digits_before, scaled_before};
+use j39_groups::Value;
+use j39_io::backwards::{bytes_before, tail_before};
+
+/// The bytes of a block that an object fits in: what it begins with, a number, a value, four texts of 63 bytes in their marks, the
+/// keys, and the end of the line.
+pub(crate) const OBJECT: usize = 528;
+
+/// Writes the object of a reading at the end of a block, and answers where it starts. `None`, and nothing of use is written, for a
+/// text of the sender's, a number with more than fifteen places, and a text of the table that is long or doesn't stand as it is.
+#[inline(always)]
+pub(crate) fn object_before(
+    out: &mut [u8; OBJECT],
+    opening: &Opening,
+    group: Option<&[u8]>,
+    spn: u32,
+    parameter: Option<&[u8]>,
+    value: Value<'_, '_>,
+    state: Option<&[u8]>,
+) -> Option<usize>
+    ensures written { IfSome result (λ start. WritesBefore out.old out.new 528 start (drop opening.now.from opening.now.head
+        ++ (named_members (option_map (λ text. text.now) group.entry) spn (option_map (λ text. text.now) parameter.entry)
+        ++ value_members (value_of value.entry) (option_map (λ text. text.now) state.entry)))) }
+    ensures within { IfSome result (λ start. start ≤ 528) }
+{
+    let behind = value_before(out, OBJECT, value, state)?;
+    let named = named_before(out, behind, group, spn, parameter)?;
+    Some(tail_before(out, named, &opening.head, opening.from))
+}
+
+/// Writes the group, the number of the parameter, and what it is called.
+#[inline(always)]
+fn named_before(
+    out: &mut [u8],
+    end: usize,
+    group: Option<&[u8]>,
+    spn: u32,
+    parameter: Option<&[u8]>,
+) -> Option<usize>
+    requires room { 169 ≤ end }
+    requires within { end ≤ length out.old }
+    ensures written { IfSome result (λ start. WritesBefore out.old out.new end start
+        (named_members (option_map (λ text. text.now) group.entry) spn (option_map (λ text. text.now) parameter.entry))) }
+    ensures short { IfSome result (λ start. end ≤ start + 169) }
+{
+    let name = string_or_null_before(out, end, parameter)?;
+    let name_key = bytes_before(out, name, *b",\"parameter\":");
+    let number = digits_before(out, name_key, spn);
+    let number_key = bytes_before(out, number, *b",\"spn\":");
+    let called = string_or_null_before(out, number_key, group)?;
+    Some(bytes_before(out, called, *b",\"group\":"))
+}
+
+/// Writes the value, its unit, what its state is called, and the end of the line.
+#[inline(always)]
+fn value_before(
+    out: &mut [u8],
+    end: usize,
+    value: Value<'_, '_>,
+    state: Option<&[u8]>,
+) -> Option<usize>
+    requires room { 196 ≤ end }
+    requires within { end ≤ length out.old }
+    ensures written { IfSome result (λ start. WritesBefore out.old out.new end start
+        (value_members (value_of value.entry) (option_map (λ text. text.now) state.entry))) }
+    ensures short { IfSome result (λ start. end ≤ start + 196) }
+{
+    let last = bytes_before(out, end, *b"}\n");
+    let words = string_or_null_before(out, last, state)?;
+    let state_key = bytes_before(out, words, *b",\"state\":");
+    let unit = string_or_null_before(out, state_key, unit_in(value))?;
+    let unit_key = bytes_before(out, unit, *b",\"unit\":");
+    let json = json_before(out, unit_key, value)?;
+    Some(bytes_before(out, json, *b",\"value\":"))
+}
+
+/// Writes a value: a number, or a word as a string.
+#[inline(always)]
+#[tactic(auto, unfolding(crate::specs::EntryObject::value_json))]
+fn json_before(out: &mut [u8], end: usize, value: Value<'_, '_>) -> Option<usize>
+    requires room { 38 ≤ end }
+    requires within { end ≤ length out.old }
+    ensures written { IfSome result (λ start. WritesBefore out.old out.new end start (value_json (value_of value.entry))) }
+    ensures short { IfSome result (λ start. end ≤ start + 38) }
+{
+    match value {
+        Value::Number(number, scale) => scaled_before(out, end, number, scale.places),
+        Value::On => Some(bytes_before(out, end, *b"\"on\"")),
+        Value::Off => Some(bytes_before(out, end, *b"\"off\"")),
+        Value::Error => Some(bytes_before(out, end, *b"\"error\"")),
+        Value::Reserved => Some(bytes_before(out, end, *b"\"reserved\"")),
+        Value::Indicator => Some(bytes_before(out, end, *b"\"indicator\"")),
+        Value::Text(_) => None,
+    }
+}
+
+/// The unit of a number.
+#[tactic(auto, unfolding(crate::specs::EntryObject::unit_in))]
+pub(crate) fn unit_in<'t>(value: Value<'t, '_>) -> Option<&'t [u8]>
+    ensures { option_map (λ unit. unit.now) result ≡ unit_in (value_of value.entry) }
+{
+    match value {
+        Value::Number(_, scale) => Some(scale.unit),
+        Value::On => None,
+        Value::Off => None,
+        Value::Error => None,
+        Value::Reserved => None,
+        Value::Indicator => None,
+        Value::Text(_) => None,
+    }
+}

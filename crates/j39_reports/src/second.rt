@@ -1,0 +1,78 @@
+//! A second as records and objects have it.
+ghost use Rattle.std.specs.Prelude.{◌≡◌, ◌+◌, ◌<◌, ◌≤◌, ◌^◌, length};
+ghost use Rattle.j39_io.specs.Backwards.{WritesBefore};
+ghost use Rattle.j39_io.specs.Printing.{last_digits};
+ghost use Rattle.j39_frame.specs.Stamp.{stamp_micros};
+ghost use Rattle.j39_log.specs.StampText.{seconds_text};
+ghost use Rattle.j39_reports.specs.Utc.{second_text, utc_text};
+
+use crate::utc::second_text;
+use j39_frame::Stamp;
+use j39_io::backwards::{byte_before, bytes_before, last_digits_before};
+
+/// A second and its texts, kept from message to message: most come within the second of the message before.
+#[derive(Clone, Copy, Debug)]
+pub(crate) struct Second {
+    value: u64,
+    digits: [u8; 10],
+    utc: [u8; 19],
+    pub ghost digits_are: { digits ≡ last_digits 10 value },
+    pub ghost utc_is: { utc ≡ second_text value },
+}
+
+impl Second {
+    /// This second after 1 January 1970.
+    pub fn new(value: u64) -> Second
+        requires { value < 10 ^ 10 }
+        ensures { result.value ≡ value }
+    {
+        let mut digits = [0; 10];
+        let _ = last_digits_before(&mut digits, 10, 10, value);
+        let text = second_text(value);
+        let mut utc = [0; 19];
+        utc.copy_from_slice(text.as_slice());
+        Second { value, digits, utc }
+    }
+
+    /// Turns to this second.
+    #[inline(always)]
+    fn turn_to(&mut self, value: u64)
+        requires { value < 10 ^ 10 }
+        ensures { self.new.value ≡ value }
+    {
+        if self.value != value {
+            *self = Second::new(value);
+        }
+    }
+
+    /// Writes the seconds of a stamp.
+    #[inline(always)]
+    pub fn seconds_before(&mut self, out: &mut [u8], end: usize, stamp: Stamp) -> usize
+        requires room { 17 ≤ end }
+        requires within { end ≤ length out.old }
+        ensures written { WritesBefore out.old out.new end result (seconds_text (stamp_micros stamp)) }
+        ensures starts { result + 17 ≡ end }
+    {
+        let micros = stamp.micros();
+        self.turn_to(micros / 1_000_000);
+        let (fraction, _) = last_digits_before(out, end, 6, micros % 1_000_000);
+        let point = byte_before(out, fraction, b'.');
+        bytes_before(out, point, self.digits)
+    }
+
+    /// Writes the same moment in UTC.
+    #[inline(always)]
+    pub fn utc_before(&mut self, out: &mut [u8], end: usize, stamp: Stamp) -> usize
+        requires room { 27 ≤ end }
+        requires within { end ≤ length out.old }
+        ensures written { WritesBefore out.old out.new end result (utc_text (stamp_micros stamp)) }
+        ensures starts { result + 27 ≡ end }
+    {
+        let micros = stamp.micros();
+        self.turn_to(micros / 1_000_000);
+        let zone = byte_before(out, end, b'Z');
+        let (places, _) = last_digits_before(out, zone, 6, micros % 1_000_000);
+        let point = byte_before(out, places, b'.');
+        bytes_before(out, point, self.utc)
+    }
+}
