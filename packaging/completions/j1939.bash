@@ -10,7 +10,7 @@ _j1939_buses() {
 _j1939_options() {
   case $1 in
     '') echo --help -h --version -V ;;
-    report) echo --bus --table --spn --from --to --pgn --since --until --csv --help -h ;;
+    report) echo --bus --table --spn --from --to --pgn --since --until --csv --json --help -h ;;
     summary) echo --bus --table --csv --help -h ;;
     faults) echo --bus --table --conversion --all --changes --now --csv --help -h ;;
     nodes) echo --bus --csv --help -h ;;

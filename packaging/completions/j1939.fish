@@ -33,6 +33,7 @@ complete -c j1939 -n '__fish_seen_subcommand_from report' -l pgn -x -d 'The grou
 complete -c j1939 -n '__fish_seen_subcommand_from report' -l since -x -d 'The first time to write'
 complete -c j1939 -n '__fish_seen_subcommand_from report' -l until -x -d 'The last time to write'
 complete -c j1939 -n '__fish_seen_subcommand_from report faults nodes summary' -l csv -d 'Comma-separated values'
+complete -c j1939 -n '__fish_seen_subcommand_from report' -l json -d 'Objects of JSON, one a line'
 complete -c j1939 -n '__fish_seen_subcommand_from faults' -l conversion -x -d 'By which version older SPNs are read: 1, 2 or 3, or NAME=1,..'
 complete -c j1939 -n '__fish_seen_subcommand_from faults' -l all -d 'Each message of faults'
 complete -c j1939 -n '__fish_seen_subcommand_from faults' -l changes -d 'What became of active codes'

@@ -21,8 +21,8 @@ use Rattle.j39_cli.proofs.TakenLemmas.{IsParsed, memory_checked, memory_of_bus, 
 
 pub is_parsed : (program : Text) (s : CommandWords) → IsParsed program s
 unfolding clap_on_literals line_app parts_pass
-is_parsed program (report bus table spn from to pgn since until csv file) =
-    parsed program report_app (report bus table spn from to pgn since until csv file) [] _
+is_parsed program (report bus table spn from to pgn since until csv json file) =
+    parsed program report_app (report bus table spn from to pgn since until csv json file) [] _
     (record { step = refl; passes = refl; found = refl; checks = refl }) refl refl refl
     (memory_of_bus bus _ (memory_of_value _ _ spn _ (memory_of_value _ _ from _ (memory_of_value _ _ to _
     (memory_of_value _ _ pgn _ (memory_of_value _ _ since _ (memory_of_value _ _ until _ tt)))))))

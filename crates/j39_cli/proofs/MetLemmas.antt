@@ -79,7 +79,7 @@ is_text_found found id text is = rw is
 -- a command is that of its name whose texts are found
 is_command_found : (s : CommandWords) (found : Found) → AreFound found (form_of s).arguments
     → s ≡ command_found (form_of s).called found
-is_command_found (command.report bus table spn from to pgn since until csv file) found are = cc
+is_command_found (command.report bus table spn from to pgn since until csv json file) found are = cc
 is_command_found (command.summary bus table csv file) found are = cc
 is_command_found (command.faults bus table conversion all changes now csv file) found are = cc
 is_command_found (command.nodes bus csv file) found are = cc

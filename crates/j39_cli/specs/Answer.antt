@@ -25,6 +25,7 @@ argument_text argument.Since = codes "--since"
 argument_text argument.Until = codes "--until"
 argument_text argument.Conversion = codes "--conversion"
 argument_text argument.Together = codes "--all, --changes, --now together"
+argument_text argument.Forms = codes "--csv, --json together"
 
 -- ---- the answer to a command that is spelled
 

@@ -22,8 +22,8 @@ use Rattle.j39_cli.specs.declared.task.ParseFault.TheVariants.{Memory}
 
 -- a command with the texts of its values, in the order of its spelling
 pub data CommandWords : Type 0 where
-  report : Option Text → Option Text → Option Text → Option Text → Option Text → Option Text → Option Text → Option Text → Bool → Option Text
-      → CommandWords
+  report : Option Text → Option Text → Option Text → Option Text → Option Text → Option Text → Option Text → Option Text → Bool → Bool
+      → Option Text → CommandWords
   summary : Option Text → Option Text → Bool → Option Text → CommandWords
   faults : Option Text → Option Text → Option Text → Bool → Bool → Bool → Bool → Option Text → CommandWords
   nodes : Option Text → Bool → Option Text → CommandWords
@@ -35,7 +35,7 @@ pub data CommandWords : Type 0 where
   survey : Option Text → Option Text → Option Text → CommandWords
 
 abbrev pub form_of : CommandWords → Form
-form_of (report bus table spn from to pgn since until csv file) = report_form bus table spn from to pgn since until csv file
+form_of (report bus table spn from to pgn since until csv json file) = report_form bus table spn from to pgn since until csv json file
 form_of (summary bus table csv file) = summary_form bus table csv file
 form_of (faults bus table conversion all changes now csv file) = faults_form bus table conversion all changes now csv file
 form_of (nodes bus csv file) = nodes_form bus csv file
@@ -70,7 +70,7 @@ command_found called found =
     let file = first_value found (codes "file") in
     if bytes_eq called (codes "report") then
     report bus table (first_value found (codes "spn")) (first_value found (codes "from")) (first_value found (codes "to"))
-    (first_value found (codes "pgn")) (first_value found (codes "since")) (first_value found (codes "until")) csv file
+    (first_value found (codes "pgn")) (first_value found (codes "since")) (first_value found (codes "until")) csv (is_given (first_value found (codes "json"))) file
     else if bytes_eq called (codes "summary") then summary bus table csv file
     else if bytes_eq called (codes "faults") then
     faults bus table (first_value found (codes "conversion")) (is_given (first_value found (codes "all")))

@@ -1,5 +1,5 @@
--- The command `report [--bus B] [--table T] [--spn SPN,..] [--from A,..] [--to A,..] [--pgn PGN,..] [--since T] [--until T] [--csv] [FILE]`.
-use Rattle.std.specs.Prelude.{◌≡◌, ◌⊎◌, ◌∷◌, ℕ, Bool, true, false, List, [], Option, None, Some, Result, Ok, Err, codes, option_map}
+-- The command `report [--bus B] [--table T] [--spn SPN,..] [--from A,..] [--to A,..] [--pgn PGN,..] [--since T] [--until T] [--csv | --json] [FILE]`.
+use Rattle.std.specs.Prelude.{◌≡◌, ◌≢◌, ◌⊎◌, ◌∷◌, ℕ, Bool, true, false, List, [], Option, None, Some, Result, Ok, Err, codes, option_map}
 use Rattle.std.specs.Option.{ForSome}
 use Rattle.j39_io.specs.Turn.{Turn, Writes}
 use Rattle.clap.specs.Words.{App, Text, new_app, with_rule}
@@ -11,21 +11,22 @@ use Rattle.j39_listen.specs.Filter.{FilterRecord, MakesFiltered}
 use Rattle.j39_listen.specs.Output.{Making}
 use Rattle.j39_listen.specs.declared.running.RunFault.TheVariants.{Memory}
 use Rattle.j39_log.specs.Bus.{IsBusName}
+use Rattle.j39_reports.specs.ReportObjects.{MakesFilteredObjects}
 use Rattle.j39_reports.specs.ReportRecords.{MakesFilteredRecords}
 use Rattle.j39_reports.specs.EntryText.{header_text}
-use Rattle.j39_cli.specs.Answer.{IsBusChecked, IsTask, IsValueChecked, IsValueRead}
+use Rattle.j39_cli.specs.Answer.{IsBusChecked, IsChecked, IsTask, IsValueChecked, IsValueRead}
 use Rattle.j39_cli.specs.Asked.{IsAddressList, IsAsked, IsMoment, IsPgnList, IsSenderList, addresses_in, filter_in, moment_in, pgns_in, senders_in}
 use Rattle.j39_cli.specs.Form.{Form, Meaning, flag, option, value}
-use Rattle.j39_cli.specs.LogCommand.{IsRun, fault_text, format_of, opened_of, with_log}
+use Rattle.j39_cli.specs.LogCommand.{IsRun, fault_text, opened_of, with_log}
 use Rattle.j39_cli.specs.Refusal.{error_line}
 use Rattle.j39_cli.specs.Rules.{flag_rule, option_rule, with_table}
 use Rattle.j39_cli.specs.Spns.{IsSpnList, spns_in}
 use Rattle.j39_cli.specs.declared.task.Argument.TheVariants as argument
-use Rattle.j39_listen.specs.declared.format.Format.{Format}
-use Rattle.j39_listen.specs.declared.format.Format.TheVariants.{Line, Record}
 use Rattle.j39_cli.specs.declared.asked.Asked.{Asked}
 use Rattle.j39_cli.specs.declared.task.LogInput.{LogInput}
 use Rattle.j39_cli.specs.declared.task.ParseFault.{ParseFault}
+use Rattle.j39_cli.specs.declared.task.ReportFormat.{ReportFormat}
+use Rattle.j39_cli.specs.declared.task.ReportFormat.TheVariants.{Line, Object, Record}
 use Rattle.j39_cli.specs.declared.task.Task.{Task}
 use Rattle.j39_cli.specs.declared.task.Task.TheVariants.{Report}
 
@@ -39,27 +40,35 @@ with_filter command =
 
 abbrev pub report_app : App
 report_app =
-    with_log (with_rule (with_filter (with_rule (with_table (new_app (codes "report"))) (option_rule (codes "spn") false)))
-    (flag_rule (codes "csv")))
+    with_log (with_rule (with_rule (with_filter (with_rule (with_table (new_app (codes "report"))) (option_rule (codes "spn") false)))
+    (flag_rule (codes "csv"))) (flag_rule (codes "json")))
+
+-- `--csv` asks for comma-separated values, `--json` for objects; not both
+abbrev pub written_by : Bool → Bool → Option ReportFormat
+written_by false false = Some Line
+written_by true false = Some Record
+written_by false true = Some Object
+written_by true true = None
 
 abbrev pub IsReportTask : Option (List ℕ) → Option (List ℕ) → Option (List ℕ) → Option (List ℕ) → Option (List ℕ) → Option (List ℕ)
-    → Option (List ℕ) → Option (List ℕ) → Bool → Option (List ℕ) → Task → Type 0
-IsReportTask bus table spn from to pgn since until csv file (Report input table' spns asked format) =
+    → Option (List ℕ) → Option (List ℕ) → Bool → Bool → Option (List ℕ) → Task → Type 0
+IsReportTask bus table spn from to pgn since until csv json file (Report input table' spns asked format) =
     (input.bus ≡ bus) × (table' ≡ table) × (spns ≡ option_map spns_in spn) × IsAsked from to pgn since until asked
-    × (format ≡ format_of csv) × (input.file ≡ file)
-IsReportTask bus table spn from to pgn since until csv file t = ⊥
+    × (written_by csv json ≡ Some format) × (input.file ≡ file)
+IsReportTask bus table spn from to pgn since until csv json file t = ⊥
 
 abbrev pub report_form : Option Text → Option Text → Option Text → Option Text → Option Text → Option Text → Option Text → Option Text
-    → Bool → Option Text → Form
-report_form bus table spn from to pgn since until csv file = record {
+    → Bool → Bool → Option Text → Form
+report_form bus table spn from to pgn since until csv json file = record {
   called = codes "report";
   arguments = option (codes "bus") bus ∷ option (codes "table") table ∷ option (codes "spn") spn
       ∷ option (codes "from") from ∷ option (codes "to") to ∷ option (codes "pgn") pgn ∷ option (codes "since") since
-      ∷ option (codes "until") until ∷ flag (codes "csv") csv ∷ value (codes "file") file ∷ [];
+      ∷ option (codes "until") until ∷ flag (codes "csv") csv ∷ flag (codes "json") json ∷ value (codes "file") file ∷ [];
   Answers = IsBusChecked bus (IsValueChecked IsSpnList argument.Spn spn (IsValueChecked IsSenderList argument.From from
       (IsValueChecked IsAddressList argument.To to (IsValueChecked IsPgnList argument.Pgn pgn
       (IsValueChecked IsMoment argument.Since since (IsValueChecked IsMoment argument.Until until
-      (IsTask (IsReportTask bus table spn from to pgn since until csv file))))))));
+      (IsChecked (written_by csv json ≢ None) argument.Forms
+      (IsTask (IsReportTask bus table spn from to pgn since until csv json file)))))))));
 }
 
 -- ---- what is read of the options of its filter
@@ -98,9 +107,10 @@ IsAskedRead from to pgn since until (Err e) = (asked : Asked) × IsFirstWrong fr
 -- ---- its run
 
 -- what it makes of the frames by a table: the entries of the report that are asked for
-abbrev pub makes_in : Format → FilterRecord → List RowRecord → Making
+abbrev pub makes_in : ReportFormat → FilterRecord → List RowRecord → Making
 makes_in Line which rows = MakesFiltered rows which
 makes_in Record which rows = Headed header_text (MakesFilteredRecords rows which)
+makes_in Object which rows = MakesFilteredObjects rows which
 
 -- memory was refused before the log was read: that is told, and nothing is written
 pub record IsNotBegun (status : ℕ) (log out err : Turn) : Type 0 where
@@ -110,7 +120,7 @@ pub record IsNotBegun (status : ℕ) (log out err : Turn) : Type 0 where
   pub told : Writes err (error_line (fault_text Memory) [])
 
 -- by the whole table, or by its rows of the parameters that are asked for
-abbrev pub IsReportRun : Option (List ℕ) → FilterRecord → Format → List RowRecord → Option (List ℕ) → ℕ → Turn → Turn → Turn
+abbrev pub IsReportRun : Option (List ℕ) → FilterRecord → ReportFormat → List RowRecord → Option (List ℕ) → ℕ → Turn → Turn → Turn
     → Type 0
 IsReportRun None which format rows bus status log out err =
     IsRun AsksForBoxes (makes_in format which rows) bus status log out err
@@ -118,7 +128,7 @@ IsReportRun (Some spns) which format rows bus status log out err =
     ((kept : List RowRecord) × HaveSameGroups kept (rows_of_spns spns rows)
     × IsRun AsksForBoxes (makes_in format which kept) bus status log out err) ⊎ IsNotBegun status log out err
 
-abbrev pub report_meaning : LogInput → Option (List ℕ) → Option (List ℕ) → Asked → Format → Meaning
+abbrev pub report_meaning : LogInput → Option (List ℕ) → Option (List ℕ) → Asked → ReportFormat → Meaning
 report_meaning input table spns asked format = record {
   file = opened_of input.file;
   table = table;

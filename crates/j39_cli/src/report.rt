@@ -1,28 +1,28 @@
 //! The command `report`: its words, and how it is performed.
 ghost use Rattle.std.specs.Prelude.{◌≡◌, ◌⊎◌, OnOk, codes, false, true};
 ghost use Rattle.j39_io.specs.Turn.{turn};
-ghost use Rattle.clap.specs.Words.{App, first_value, found_of};
+ghost use Rattle.clap.specs.Words.{App, first_value, found_of, with_rule};
 ghost use Rattle.j39_listen.specs.Asking.{AsksForBoxes};
 ghost use Rattle.j39_listen.specs.Filter.{no_filter};
 ghost use Rattle.j39_listen.specs.Ran.{Ran};
 ghost use Rattle.j39_cli.specs.Asked.{filter_in};
 ghost use Rattle.j39_cli.specs.CommandWords.{IsAnswered, command_found};
 ghost use Rattle.j39_cli.specs.LogCommand.{log_limit};
-ghost use Rattle.j39_cli.specs.ReportCommand.{IsAskedRead, IsReportRun, makes_in, report_app, with_filter};
+ghost use Rattle.j39_cli.specs.ReportCommand.{IsAskedRead, IsReportRun, makes_in, report_app, with_filter, written_by};
 ghost use Rattle.j39_cli.specs.Rules.{IsMade};
 
-use crate::command::{new_command, with_option, with_table};
+use crate::command::{new_command, with_flag, with_option, with_table};
 use crate::log::{LOG_LIMIT, copy_of, tell_end, tell_fault, with_csv, with_log};
 use crate::words::{
-    addresses_value, format_given, log_input, moment_value, pgns_value, senders_value, spns_value,
+    addresses_value, is_set, log_input, moment_value, pgns_value, senders_value, spns_value,
 };
-use crate::{Argument, Asked, ParseFault, Spns, Task, WordText};
+use crate::{Argument, Asked, ParseFault, ReportFormat, Spns, Task, WordText};
 use clap::{ArgMatches, Command};
 use j39_groups::Groups;
 use j39_io::{Sink, Source};
-use j39_listen::{Counts, Format, RunFault, run_filtered, run_with};
+use j39_listen::{Counts, RunFault, run_filtered, run_with};
 use j39_log::Bus;
-use j39_reports::{report_csv, report_csv_filtered};
+use j39_reports::{report_csv, report_csv_filtered, report_json, report_json_filtered};
 use std::alloc::{AllocError, Global};
 
 const ABOUT: &str = "\
@@ -59,7 +59,10 @@ pub(crate) fn command<'a>(alloc: Global) -> Result<Command<'a>, AllocError>
     let help = "The parameters to write alone: 1 to 32 SPNs, with commas between them";
     let command = with_option(alloc, command, "spn", "SPN,..", false, help);
     let command = with_filter(alloc, command);
-    with_log(alloc, with_csv(alloc, command))
+    let command = with_csv(alloc, command);
+    let help = "As objects of JSON (RFC 8259), one a line";
+    let command = with_flag(alloc, command, "json", help);
+    with_log(alloc, command)
 }
 
 /// The command with the options of a filter.
@@ -86,7 +89,7 @@ pub(crate) fn task<'a>(given: &ArgMatches<'a>) -> Result<Task<'a>, ParseFault>
     ensures { IsAnswered (command_found (codes "report") (found_of given.now)) result }
 {
     let table = given.get_str("table").map(WordText::new);
-    let format = format_given(given);
+    let format = written_by(is_set(given, "csv"), is_set(given, "json"));
     let input = match log_input(given) {
         Ok(input) => input,
         Err(fault) => return Err(fault),
@@ -95,15 +98,31 @@ pub(crate) fn task<'a>(given: &ArgMatches<'a>) -> Result<Task<'a>, ParseFault>
         Ok(spns) => spns,
         Err(fault) => return Err(fault),
     };
-    match asked_value(given) {
-        Ok(asked) => Ok(Task::Report {
+    let asked = match asked_value(given) {
+        Ok(asked) => asked,
+        Err(fault) => return Err(fault),
+    };
+    match format {
+        Some(format) => Ok(Task::Report {
             input,
             table,
             spns,
             asked,
             format,
         }),
-        Err(fault) => Err(fault),
+        None => Err(ParseFault::BadValue(Argument::Forms)),
+    }
+}
+
+/// How a report is written by `--csv` and `--json`, which don't go together.
+fn written_by(csv: bool, json: bool) -> Option<ReportFormat>
+    ensures { result ≡ written_by csv json }
+{
+    match (csv, json) {
+        (false, false) => Some(ReportFormat::Line),
+        (true, false) => Some(ReportFormat::Record),
+        (false, true) => Some(ReportFormat::Object),
+        (true, true) => None,
     }
 }
 
@@ -115,7 +134,7 @@ pub(crate) fn perform<R: Source, W: Sink, E: Sink>(
     bus: &Option<Bus>,
     spns: &Option<Spns>,
     asked: &Asked,
-    format: Format,
+    format: ReportFormat,
     source: &mut R,
     sink: &mut W,
     err: &mut E,
@@ -143,7 +162,7 @@ fn run<R: Source, W: Sink>(
     alloc: Global,
     groups: &Groups<'_>,
     asked: &Asked,
-    format: Format,
+    format: ReportFormat,
     bus: &Option<Bus>,
     source: &mut R,
     sink: &mut W,
@@ -159,8 +178,13 @@ fn run<R: Source, W: Sink>(
     let filter = asked.filter();
     let bus = copy_of(bus);
     match format {
-        Format::Line => run_filtered(alloc, groups, filter, source, sink, bus, LOG_LIMIT),
-        Format::Record => report_csv_filtered(alloc, groups, filter, source, sink, bus, LOG_LIMIT),
+        ReportFormat::Line => run_filtered(alloc, groups, filter, source, sink, bus, LOG_LIMIT),
+        ReportFormat::Record => {
+            report_csv_filtered(alloc, groups, filter, source, sink, bus, LOG_LIMIT)
+        }
+        ReportFormat::Object => {
+            report_json_filtered(alloc, groups, filter, source, sink, bus, LOG_LIMIT)
+        }
     }
 }
 
@@ -168,7 +192,7 @@ fn run<R: Source, W: Sink>(
 fn run_whole<R: Source, W: Sink>(
     alloc: Global,
     groups: &Groups<'_>,
-    format: Format,
+    format: ReportFormat,
     bus: &Option<Bus>,
     source: &mut R,
     sink: &mut W,
@@ -179,8 +203,9 @@ fn run_whole<R: Source, W: Sink>(
     ensures passed_out { W.is_flushed sink.old ≡ true → W.has_failed sink.new ≡ false → W.is_flushed sink.new ≡ true }
 {
     match format {
-        Format::Line => run_with(alloc, groups, source, sink, copy_of(bus), LOG_LIMIT),
-        Format::Record => report_csv(alloc, groups, source, sink, copy_of(bus), LOG_LIMIT),
+        ReportFormat::Line => run_with(alloc, groups, source, sink, copy_of(bus), LOG_LIMIT),
+        ReportFormat::Record => report_csv(alloc, groups, source, sink, copy_of(bus), LOG_LIMIT),
+        ReportFormat::Object => report_json(alloc, groups, source, sink, copy_of(bus), LOG_LIMIT),
     }
 }
 

@@ -93,6 +93,17 @@ pub struct LogInput<'a> {
     pub file: Option<WordText<'a>>,
 }
 
+/// How a report is written.
+#[derive(Clone, Copy, Debug, PartialEq, Eq)]
+pub enum ReportFormat {
+    /// In lines, with a space between fields.
+    Line,
+    /// In records of comma-separated values (RFC 4180), below the names of the columns.
+    Record,
+    /// In objects of JSON (RFC 8259), one a line.
+    Object,
+}
+
 /// What is told of faults.
 #[derive(Clone, Copy, Debug, PartialEq, Eq)]
 pub enum FaultsTold {
@@ -116,7 +127,7 @@ pub enum Task<'a> {
         /// Which entries are asked for.
         asked: Asked,
         /// How it is written.
-        format: Format,
+        format: ReportFormat,
     },
     /// The summary of a log.
     Summary {
@@ -254,6 +265,8 @@ pub enum Argument {
     Conversion,
     /// Two of `--all`, `--changes` and `--now`, which don't go together.
     Together,
+    /// `--csv` and `--json`, which don't.
+    Forms,
 }
 
 impl Argument {
@@ -276,6 +289,7 @@ impl Argument {
             Argument::Until => "--until",
             Argument::Conversion => "--conversion",
             Argument::Together => "--all, --changes, --now together",
+            Argument::Forms => "--csv, --json together",
         }
     }
 }

@@ -5,9 +5,8 @@ use Rattle.hex.specs.Hex.{encode_upper}
 use Rattle.j39_groups.specs.Names.{group_name_in, name_in, state_in}
 use Rattle.j39_groups.specs.Row.{RowRecord}
 use Rattle.j39_groups.specs.Value.{ValueRecord, number, on, off, error, reserved, indicator, text}
-use Rattle.j39_groups.specs.ValueText.{scaled_text}
+use Rattle.j39_groups.specs.ValueText.{magnitude_text, scaled_text}
 use Rattle.j39_listen.specs.Report.{Entry}
-use Rattle.j39_log.specs.StampText.{seconds_text}
 use Rattle.j39_reports.specs.Json.{bytes_member, in_marks, or_null, string_or_null, string_text}
 use Rattle.j39_reports.specs.Utc.{utc_text}
 
@@ -17,9 +16,9 @@ address_string address = in_marks (encode_upper (address ∷ []))
 abbrev pub name_string : ℕ → List ℕ
 name_string name = in_marks (encode_upper (to_be_bytes w64 name))
 
--- a moment: the seconds of a stamp, and the same in UTC
+-- a moment: the seconds of a stamp, a number, which has no zeros before it; and the same in UTC
 unfoldable pub moment_members : ℕ → List ℕ
-moment_members stamp = codes "{\"stamp\":" ++ seconds_text stamp ++ codes ",\"utc\":" ++ in_marks (utc_text stamp)
+moment_members stamp = codes "{\"stamp\":" ++ magnitude_text 6 stamp ++ codes ",\"utc\":" ++ in_marks (utc_text stamp)
 
 -- an address, the destination, and the NAME at the address
 unfoldable pub sender_members : ℕ → Option ℕ → Option ℕ → List ℕ

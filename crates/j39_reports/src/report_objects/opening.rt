@@ -12,20 +12,21 @@ use crate::report_records::digits_before;
 use crate::second::Second;
 use j39_address::Name;
 use j39_frame::Stamp;
+use j39_groups::magnitude_before;
 use j39_io::backwards::{byte_before, bytes_before, hex_before};
 use j39_io::vectors::hex_of_eight;
 use j39_listen::Heard;
 
 /// The bytes of a block that the objects of every message can begin with.
-pub(crate) const HEAD: usize = 144;
+pub(crate) const HEAD: usize = 160;
 
 /// What the objects of a message begin with: the bytes of a block from a place on.
 #[derive(Debug, Drop)]
 pub(crate) struct Opening {
     pub head: [u8; HEAD],
     pub from: usize,
-    pub ghost whole: { length head ≡ 144 },
-    pub ghost inside: { from ≤ 144 },
+    pub ghost whole: { length head ≡ 160 },
+    pub ghost inside: { from ≤ 160 },
 }
 
 impl Opening {
@@ -55,14 +56,14 @@ impl Opening {
 /// Writes the stamp, and the same moment in UTC.
 #[inline(always)]
 fn moment_before(out: &mut [u8], end: usize, second: &mut Second, stamp: Stamp) -> usize
-    requires room { 62 ≤ end }
+    requires room { 82 ≤ end }
     requires within { end ≤ length out.old }
     ensures { WritesBefore out.old out.new end result (moment_members (stamp_micros stamp)) }
 {
     let last = byte_before(out, end, b'"');
     let utc = second.utc_before(out, last, stamp);
     let key = bytes_before(out, utc, *b",\"utc\":\"");
-    let seconds = second.seconds_before(out, key, stamp);
+    let seconds = magnitude_before(out, key, stamp.micros(), 6);
     bytes_before(out, seconds, *b"{\"stamp\":")
 }
 

@@ -1,14 +1,16 @@
--- The bus is checked, then the parameters, and then what is asked for.
-use Rattle.std.proofs.Common.{codes, rules}
+-- The bus is checked, then the parameters, what is asked for, and how it is written.
+use Rattle.std.proofs.Common.{◌≡◌, ◌∙◌, Some, None, codes, rules, sym}
 use Rattle.clap.specs.Words.{first_value, found_of}
+use Rattle.j39_cli.specs.ReportCommand.{written_by}
 use Rattle.j39_cli.proofs.AskedLemmas.{asked_wrong}
-use Rattle.j39_cli.proofs.TakenLemmas.{input_read, value_read, value_wrong}
+use Rattle.j39_cli.proofs.TakenLemmas.{input_read, input_wrong, value_read, value_wrong}
 use Rattle.j39_cli.proofs.report.task.Goals as goal
 
-pub returns-in-Ok-asked_value : goal.returns-in-Ok-asked_value
-returns-in-Ok-asked_value c =
+pub returns-in-Some : goal.returns-in-Some
+returns-in-Some c =
     let found = found_of c.args.given.now in
     let read = c.in-Ok-asked_value.ensures in
+    let written = (λ i. written_by (sym c.is_set.ensures i) (sym c.is_set-2.ensures i)) ∙ sym c.written_by-format.ensures ∙ c.in-Some.is in
     record {
       answer = input_read (first_value found (codes "bus")) _ _ _ _ c.in-Ok.ensures (λ is_bus is_file.
           value_read _ _ _ (first_value found (codes "spn")) _ _ _ c.in-Ok-spns_value.ensures (λ is_spns.
@@ -16,16 +18,39 @@ returns-in-Ok-asked_value c =
           value_read _ _ _ (first_value found (codes "to")) _ _ _ read.to_is (λ to_is.
           value_read _ _ _ (first_value found (codes "pgn")) _ _ _ read.pgns_are (λ pgns_are.
           value_read _ _ _ (first_value found (codes "since")) _ _ _ read.since_is (λ since_is.
-          value_read _ _ _ (first_value found (codes "until")) _ _ _ read.until_is (λ until_is. (
-            is_bus,
-            search rules,
-            is_spns,
-            record { from_is = from_is; to_is = to_is; pgns_are = pgns_are; since_is = since_is; until_is = until_is },
-            c.format_given-format.ensures,
-            is_file,
-          ))))))));
+          value_read _ _ _ (first_value found (codes "until")) _ _ _ read.until_is (λ until_is. record {
+            in_range = λ _. (
+              is_bus,
+              search rules,
+              is_spns,
+              record { from_is = from_is; to_is = to_is; pgns_are = pgns_are; since_is = since_is; until_is = until_is },
+              written,
+              is_file,
+            );
+            wrong = λ none. absurd (none (λ is. (let no : Some c.in-Some.format ≡ None = sym written ∙ is in cc)));
+          })))))));
       memory = search rules;
       in_range = search rules;
+    }
+
+pub returns-in-None : goal.returns-in-None
+returns-in-None c =
+    let found = found_of c.args.given.now in
+    let read = c.in-Ok-asked_value.ensures in
+    let none = (λ i. written_by (sym c.is_set.ensures i) (sym c.is_set-2.ensures i)) ∙ sym c.written_by-format.ensures ∙ c.in-None.is in
+    record {
+      answer = input_read (first_value found (codes "bus")) _ _ _ _ c.in-Ok.ensures (λ is_bus is_file.
+          value_read _ _ _ (first_value found (codes "spn")) _ _ _ c.in-Ok-spns_value.ensures (λ is_spns.
+          value_read _ _ _ (first_value found (codes "from")) _ _ _ read.from_is (λ from_is.
+          value_read _ _ _ (first_value found (codes "to")) _ _ _ read.to_is (λ to_is.
+          value_read _ _ _ (first_value found (codes "pgn")) _ _ _ read.pgns_are (λ pgns_are.
+          value_read _ _ _ (first_value found (codes "since")) _ _ _ read.since_is (λ since_is.
+          value_read _ _ _ (first_value found (codes "until")) _ _ _ read.until_is (λ until_is. record {
+            in_range = λ some. absurd (some none);
+            wrong = λ _. search rules;
+          })))))));
+      memory = search rules;
+      in_range = tt;
     }
 
 pub returns-in-Err-asked_value : goal.returns-in-Err-asked_value
@@ -47,6 +72,15 @@ returns-in-Err-spns_value c =
     record {
       answer = input_read (first_value found (codes "bus")) _ _ _ _ c.in-Ok.ensures (λ _ _.
           value_wrong _ _ _ (first_value found (codes "spn")) _ _ c.in-Err-spns_value.ensures);
+      memory = search rules;
+      in_range = tt;
+    }
+
+pub returns-in-Err : goal.returns-in-Err
+returns-in-Err c =
+    let found = found_of c.args.given.now in
+    record {
+      answer = input_wrong (first_value found (codes "bus")) _ _ _ c.in-Err.ensures;
       memory = search rules;
       in_range = tt;
     }

@@ -14,7 +14,7 @@ pub returns : goal.returns
 unfolding opening_text
 returns c =
     let heard = c.args.heard.now in
-    before_end _ _ 144 _ _ (omega arith) (before_then _ _ _ _ _ _ _ _ (before_then _ _ _ _ _ _ _ _ (before_then _ _ _ _ _ _ _ _
+    before_end _ _ 160 _ _ (omega arith) (before_then _ _ _ _ _ _ _ _ (before_then _ _ _ _ _ _ _ _ (before_then _ _ _ _ _ _ _ _
     c.digits_before-group.ensures.written c.bytes_before-key.ensures.written) c.sender_before-sender.ensures.written) c.moment_before-from.ensures)
     ∙ regroup (moment_members (stamp_micros heard.message.stamp)) (sender_members heard.message.source heard.destination (option_map name_raw heard.name)) (codes ",\"pgn\":") (decimal _)
     ∙ ap (λ n. moment_members (stamp_micros heard.message.stamp) ++ sender_members heard.message.source heard.destination (option_map name_raw heard.name) ++ codes ",\"pgn\":" ++ decimal n) c.raw.ensures.value
