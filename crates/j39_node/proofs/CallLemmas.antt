@@ -116,7 +116,7 @@ lane_same : (w : Who) (H : List Call) (now : ℕ) (f : FrameRecord) → is_packe
 lane_same w H now f e = ap (λ (xs : List Message). record (lane_after w H) { count = length xs }) (sym (packets_is H now f false e))
 
 pub packet_next : (w : Who) (H : List Call) (c : Controller) (now left : ℕ) → Is w H c → left ≡ pause H - step H now
-    → packet_by (lane_of (who_of c.own) c.lane).current c.lane.count left ≡ next_packet w H now
+    → packet_by (lane_of (who_of w.known c.own) c.lane).current c.lane.count left ≡ next_packet w H now
 packet_next w H c now left h e =
     ap (λ (v : Who). packet_by (lane_of v c.lane).current c.lane.count left) h.who
     ∙ (ap (λ (l : LaneRecord). packet_by l.current l.count left) h.lane ∙ ap (packet_by (open_broadcast w H) (length (packets H))) e)
@@ -140,18 +140,18 @@ incoming_same : (w : Who) (H : List Call) (now : ℕ) (f : FrameRecord) → rece
     → incoming_after w H ≡ incoming_after w (TakeFrame now (Some f) ∷ H)
 incoming_same w H now f e = λ i. record { moment = heard_at H; clock = time_heard H; own = w.address; has_box = true; reception = sym e i }
 
-told_is : (H : List Call) (now : ℕ) (f : FrameRecord) → is_claim f ≡ true → told_claims (TakeFrame now (Some f) ∷ H) ≡ told_claims H ++ f ∷ []
-told_is H now f e = ap (λ (b : Bool). if b then told_claims H ++ f ∷ [] else told_claims H) e
+told_is : (w : Who) (H : List Call) (now : ℕ) (f : FrameRecord) → is_claim f ≡ true → told_claims w (TakeFrame now (Some f) ∷ H) ≡ told_claims w H ++ f ∷ []
+told_is w H now f e = ap (λ (b : Bool). if b then told_claims w H ++ f ∷ [] else told_claims w H) e
 
 -- its own claim is taken
 incoming_claimed : (w : Who) (H : List Call) (old : Controller) (now : ℕ) (f : FrameRecord) (table : Claims) → Is w H old → is_claim f ≡ true
-    → Knows table (told_claims (TakeFrame now (Some f) ∷ H))
+    → Knows table (told_claims w (TakeFrame now (Some f) ∷ H))
     → with_reception (left (leaves (holder_in old.holders) (holder_in table) (incoming_of old.incoming).reception.session) (incoming_of old.incoming).reception) (incoming_of old.incoming)
     ≡ incoming_after w (TakeFrame now (Some f) ∷ H)
 incoming_claimed w H old now f table h e knows =
     let G = TakeFrame now (Some f) ∷ H in
     ap (λ (x : IncomingRecord). with_reception (left (leaves (holder_in old.holders) (holder_in table) x.reception.session) x.reception) x) h.incoming
-    ∙ (ap (λ (b : Bool). with_reception (left b (reception w H)) (incoming_after w H)) (leaves_is old.holders table H G (reception w H).session h.holders knows)
+    ∙ (ap (λ (b : Bool). with_reception (left b (reception w H)) (incoming_after w H)) (leaves_is w old.holders table H G (reception w H).session h.holders knows)
     ∙ λ i. record { moment = heard_at H; clock = time_heard H; own = w.address; has_box = true; reception = sym (taken_is w H now f true _ e refl) i })
 
 -- a reply is taken
@@ -162,7 +162,7 @@ incoming_replied w H now f e g =
 
 -- a frame is heard
 incoming_heard : (w : Who) (H : List Call) (old : Controller) (f : FrameRecord) (table : Claims) (new : Incoming) (gone held : Bool) → Is w H old
-    → Knows table (told_claims (Hear f ∷ H)) → gone ≡ is_smaller w (claim_of f) → held ≡ holds w H f.stamp
+    → Knows table (told_claims w (Hear f ∷ H)) → gone ≡ is_smaller w (claim_of f) → held ≡ holds w H f.stamp
     → (old.incoming.receiver.has_box ≡ true → IsApart (incoming_of old.incoming).reception
     → incoming_of new ≡ hears gone held f (holder_in old.holders) (holder_in table) (incoming_of old.incoming))
     → incoming_of new ≡ incoming_after w (Hear f ∷ H)
@@ -170,9 +170,9 @@ incoming_heard w H old f table new gone held h knows away stays does =
     does (ap (λ (x : IncomingRecord). x.has_box) h.incoming) (subst (λ (x : IncomingRecord). IsApart x.reception) (sym h.incoming) (tidy w H).apart)
     ∙ (ap (hears gone held f (holder_in old.holders) (holder_in table)) h.incoming
     ∙ (ap (λ (b : Bool). with_reception (heard_by w.address gone held f (time_heard (Hear f ∷ H)) (left b (reception w H))) (incoming_now w H f))
-    (leaves_is old.holders table H (Hear f ∷ H) (reception w H).session h.holders knows)
+    (leaves_is w old.holders table H (Hear f ∷ H) (reception w H).session h.holders knows)
     ∙ λ i. with_reception (heard_by w.address (away i) (stays i) f (time_heard (Hear f ∷ H))
-    (left (leaves (holder H) (holder (Hear f ∷ H)) (reception w H).session) (reception w H))) (incoming_now w H f)))
+    (left (leaves (holder w H) (holder w (Hear f ∷ H)) (reception w H).session) (reception w H))) (incoming_now w H f)))
   where
     incoming_now : Who → List Call → FrameRecord → IncomingRecord
     incoming_now w H f = record { moment = f.stamp; clock = time_heard (Hear f ∷ H); own = w.address; has_box = true; reception = reception w H }
@@ -185,7 +185,7 @@ transfer_next w H c now time h e =
 
 pub long_next : (w : Who) (H : List Call) (c : Controller) (now left time : ℕ) → Is w H c → left ≡ pause H - step H now
     → time ≡ min (age H + step H now) 18446744073709551615
-    → long_by (packet_by (lane_of (who_of c.own) c.lane).current c.lane.count left) (transfer_by (port_of c.transfers).current (clock time)) ≡ next_long w H now
+    → long_by (packet_by (lane_of (who_of w.known c.own) c.lane).current c.lane.count left) (transfer_by (port_of c.transfers).current (clock time)) ≡ next_long w H now
 long_next w H c now left time h e f =
     ap (λ (o : Option Message). long_by o (transfer_by (port_of c.transfers).current (clock time))) (packet_next w H c now left h e)
     ∙ ap (long_by (next_packet w H now)) (transfer_next w H c now time h f)
@@ -245,7 +245,7 @@ taken w H old new now (Some f) x mid h p owes held none quiet g m e d request a1
     let more = sent_is H now f false false false n l one in
     let number = s.numbered (length (sent H)) (posted x) i in
     record {
-      who = ap (λ c. who_of c.own) e ∙ h.who;
+      who = ap (λ c. who_of w.known c.own) e ∙ h.who;
       answered = (h.answered, ap Some k ∙ sym (next_is w H now None (Some (posted x)) (sym p.owes ∙ owes) held (none_steered w H old h none quiet) i));
       hold = a3 ∙ is_hold _ _ p.moment (p.standing ∙ ap standing_of (sym (address_is w H now f false n))) owes (p.pause ∙ sym (pause_is H now f false (no_packet f one))) p.age
           (ap (λ (k : ℕ). if request then 1250000 else k) p.wait
@@ -258,20 +258,20 @@ taken w H old new now (Some f) x mid h p owes held none quiet g m e d request a1
       requests = ap (λ c. map request_by c.desk.waiting.items) e ∙ h.requests;
       acknowledgments = ap (λ c. map (refusal_by w) c.desk.due.items) e ∙ (h.acknowledgments
           ∙ ap (λ (xs : List Message). drop (length xs) (due w H)) (sym (acknowledged_is H now f false false n l)));
-      holders = subst (λ t. Knows t (told_claims (TakeFrame now (Some f) ∷ H))) (sym (ap (λ c. c.holders) e))
-          (subst (Knows old.holders) (sym (ap (λ (b : Bool). if b then told_claims H ++ f ∷ [] else told_claims H) n)) h.holders);
+      holders = subst (λ t. Knows t (told_claims w (TakeFrame now (Some f) ∷ H))) (sym (ap (λ c. c.holders) e))
+          (subst (Knows old.holders) (sym (ap (λ (b : Bool). if b then told_claims w H ++ f ∷ [] else told_claims w H) n)) h.holders);
       news = ap (λ c. c.news) e ∙ h.news;
       missed = ap (λ c. c.inbox.missed) e ∙ h.missed;
       lane = ap (λ c. lane_of w c.lane) e ∙ (h.lane ∙ lane_same w H now f (no_packet f one));
       incoming = ap (λ c. incoming_of c.incoming) e ∙ (h.incoming ∙ incoming_same w H now f (none_taken w H now f n l (none_replied w H old h quiet)));
-      hearing = ap (λ c. hearing_of c.hearing) e ∙ (h.hearing ∙ hearing_same H now f n);
+      hearing = ap (λ c. hearing_of c.hearing) e ∙ (h.hearing ∙ hearing_same w H now f n);
       port = ap (λ c. port_of c.transfers) e ∙ (h.port ∙ port_same w H now f (no_move w H f (no_transfer f one)));
     }
 
 pub taken_none : (w : Who) (H : List Call) (old new : Controller) (now : ℕ) → Is w H old
     → Passed w H now new.hold → new.hold.owes_claim ≡ false → holds w H now ≡ true → length old.desk.due.items ≡ 0
     → length old.incoming.replies.items ≡ 0 → slice_get old.outgoing.items old.taken ≡ None
-    → (let none : Option (ℕ × Message) = None in none) ≡ option_map (at_now now) (packet_by (lane_of (who_of old.own) old.lane).current old.lane.count new.hold.pause)
+    → (let none : Option (ℕ × Message) = None in none) ≡ option_map (at_now now) (packet_by (lane_of (who_of w.known old.own) old.lane).current old.lane.count new.hold.pause)
     → (let none : Option (ℕ × Message) = None in none) ≡ option_map (at_now now) (transfer_by (port_of old.transfers).current (clock new.hold.age))
     → new ≡ record old { hold = new.hold } → Is w (TakeFrame now None ∷ H) new
 taken_none w H old new now h p owes held none quiet g m u e =
@@ -279,7 +279,7 @@ taken_none w H old new now h p owes held none quiet g m u e =
     let t = s.in_turn (holding_not_lost w H now held) in
     let i = not_in_rest posted old.outgoing.items (accepted w H) (length (told H)) (length (sent H)) old.taken h.outgoing h.taken t g in
     record {
-      who = ap (λ c. who_of c.own) e ∙ h.who;
+      who = ap (λ c. who_of w.known c.own) e ∙ h.who;
       answered = (
         h.answered,
         ap (option_map (at_now now)) (sym (ap (λ o. long_by o (transfer_by (port_of old.transfers).current (clock new.hold.age))) (no_message now _ m) ∙ no_message now _ u))
@@ -294,7 +294,7 @@ taken_none w H old new now h p owes held none quiet g m u e =
       unread = ap (λ c. map received_by c.inbox.unread.items) e ∙ h.unread;
       requests = ap (λ c. map request_by c.desk.waiting.items) e ∙ h.requests;
       acknowledgments = ap (λ c. map (refusal_by w) c.desk.due.items) e ∙ h.acknowledgments;
-      holders = subst (λ t. Knows t (told_claims H)) (sym (ap (λ c. c.holders) e)) h.holders;
+      holders = subst (λ t. Knows t (told_claims w H)) (sym (ap (λ c. c.holders) e)) h.holders;
       news = ap (λ c. c.news) e ∙ h.news;
       missed = ap (λ c. c.inbox.missed) e ∙ h.missed;
       lane = ap (λ c. lane_of w c.lane) e ∙ h.lane;
@@ -306,7 +306,7 @@ taken_none w H old new now h p owes held none quiet g m u e =
 pub taken_packet : (w : Who) (H : List Call) (old new : Controller) (now : ℕ) (f : FrameRecord) (mid : Hold) → Is w H old
     → Passed w H now mid → mid.owes_claim ≡ false → holds w H now ≡ true → length old.desk.due.items ≡ 0
     → length old.incoming.replies.items ≡ 0 → slice_get old.outgoing.items old.taken ≡ None
-    → Some (stamped f) ≡ option_map (at_now now) (packet_by (lane_of (who_of old.own) old.lane).current old.lane.count mid.pause)
+    → Some (stamped f) ≡ option_map (at_now now) (packet_by (lane_of (who_of w.known old.own) old.lane).current old.lane.count mid.pause)
     → new ≡ record old { hold = new.hold; lane = new.lane } → new.hold ≡ paused mid → new.lane ≡ record old.lane { count = new.lane.count }
     → new.lane.count ≡ suc old.lane.count → Is w (TakeFrame now (Some f) ∷ H) new
 taken_packet w H old new now f mid h p owes held none quiet g m e e0 e1 more =
@@ -321,7 +321,7 @@ taken_packet w H old new now f mid h p owes held none quiet g m e e0 e1 more =
         let k : stamped f ≡ (now, y) = cc in
         let is = packet_taken f now y (open_broadcast w H) (length (packets H)) (pause H - step H now) k q in
         record {
-          who = ap (λ c. who_of c.own) e ∙ h.who;
+          who = ap (λ c. who_of w.known c.own) e ∙ h.who;
           answered = (
             h.answered,
             i ∙ (ap (λ o. option_map (at_now now) (long_by o (next_transfer w H now))) (sym q)
@@ -336,22 +336,22 @@ taken_packet w H old new now f mid h p owes held none quiet g m e e0 e1 more =
           requests = ap (λ c. map request_by c.desk.waiting.items) e ∙ h.requests;
           acknowledgments = ap (λ c. map (refusal_by w) c.desk.due.items) e ∙ (h.acknowledgments
               ∙ ap (λ (xs : List Message). drop (length xs) (due w H)) (sym (acknowledged_is H now f false false is.0 is.1)));
-          holders = subst (λ t. Knows t (told_claims (TakeFrame now (Some f) ∷ H))) (sym (ap (λ c. c.holders) e))
-              (subst (Knows old.holders) (sym (ap (λ (b : Bool). if b then told_claims H ++ f ∷ [] else told_claims H) is.0)) h.holders);
+          holders = subst (λ t. Knows t (told_claims w (TakeFrame now (Some f) ∷ H))) (sym (ap (λ c. c.holders) e))
+              (subst (Knows old.holders) (sym (ap (λ (b : Bool). if b then told_claims w H ++ f ∷ [] else told_claims w H) is.0)) h.holders);
           news = ap (λ c. c.news) e ∙ h.news;
           missed = ap (λ c. c.inbox.missed) e ∙ h.missed;
           lane = ap (lane_of w) e1 ∙ (ap (λ (l : LaneRecord). record l { count = new.lane.count }) h.lane
               ∙ ap (λ (n : ℕ). record (lane_after w H) { count = n })
               (more ∙ (ap (λ (l : LaneRecord). suc l.count) h.lane ∙ sym (ap length (packets_is H now f true is.2) ∙ length_one_more (packets H) (message_of f)))));
           incoming = ap (λ c. incoming_of c.incoming) e ∙ (h.incoming ∙ incoming_same w H now f (none_taken w H now f is.0 is.1 (none_replied w H old h quiet)));
-          hearing = ap (λ c. hearing_of c.hearing) e ∙ (h.hearing ∙ hearing_same H now f is.0);
+          hearing = ap (λ c. hearing_of c.hearing) e ∙ (h.hearing ∙ hearing_same w H now f is.0);
           port = ap (λ c. port_of c.transfers) e ∙ (h.port ∙ port_same w H now f (no_move w H f (packet_session f is.2).1));
         }
 
 pub taken_transfer : (w : Who) (H : List Call) (old new : Controller) (now : ℕ) (f : FrameRecord) (mid : Hold) → Is w H old
     → Passed w H now mid → mid.owes_claim ≡ false → holds w H now ≡ true → length old.desk.due.items ≡ 0 → length old.incoming.replies.items ≡ 0
     → slice_get old.outgoing.items old.taken ≡ None
-    → (let none : Option (ℕ × Message) = None in none) ≡ option_map (at_now now) (packet_by (lane_of (who_of old.own) old.lane).current old.lane.count mid.pause)
+    → (let none : Option (ℕ × Message) = None in none) ≡ option_map (at_now now) (packet_by (lane_of (who_of w.known old.own) old.lane).current old.lane.count mid.pause)
     → Some (stamped f) ≡ option_map (at_now now) (transfer_by (port_of old.transfers).current (clock mid.age))
     → new ≡ record old { hold = mid; transfers = new.transfers }
     → (port_of new.transfers).current ≡ sends_if true (clock mid.age) (port_of old.transfers).current → new.transfers.next_token ≡ old.transfers.next_token
@@ -371,7 +371,7 @@ taken_transfer w H old new now f mid h p owes held none quiet g m u e e0 e1 =
         let k : stamped f ≡ (now, y) = cc in
         let is = transfer_taken w H now f y h.answered k q in
         record {
-          who = ap (λ c. who_of c.own) e ∙ h.who;
+          who = ap (λ c. who_of w.known c.own) e ∙ h.who;
           answered = (
             h.answered,
             i ∙ (ap (option_map (at_now now)) (sym (ap (λ o. long_by o (next_transfer w H now)) no_packets ∙ q))
@@ -387,12 +387,12 @@ taken_transfer w H old new now f mid h p owes held none quiet g m u e e0 e1 =
           requests = ap (λ c. map request_by c.desk.waiting.items) e ∙ h.requests;
           acknowledgments = ap (λ c. map (refusal_by w) c.desk.due.items) e ∙ (h.acknowledgments
               ∙ ap (λ (xs : List Message). drop (length xs) (due w H)) (sym (acknowledged_is H now f false false is.claim is.plain)));
-          holders = subst (λ t. Knows t (told_claims (TakeFrame now (Some f) ∷ H))) (sym (ap (λ c. c.holders) e))
-              (subst (Knows old.holders) (sym (ap (λ (b : Bool). if b then told_claims H ++ f ∷ [] else told_claims H) is.claim)) h.holders);
+          holders = subst (λ t. Knows t (told_claims w (TakeFrame now (Some f) ∷ H))) (sym (ap (λ c. c.holders) e))
+              (subst (Knows old.holders) (sym (ap (λ (b : Bool). if b then told_claims w H ++ f ∷ [] else told_claims w H) is.claim)) h.holders);
           news = ap (λ c. c.news) e ∙ h.news;
           missed = ap (λ c. c.inbox.missed) e ∙ h.missed;
           lane = ap (λ c. lane_of w c.lane) e ∙ (h.lane ∙ lane_same w H now f is.packet);
-          hearing = ap (λ c. hearing_of c.hearing) e ∙ (h.hearing ∙ hearing_same H now f is.claim);
+          hearing = ap (λ c. hearing_of c.hearing) e ∙ (h.hearing ∙ hearing_same w H now f is.claim);
           port = is_port _ _
               (e0 ∙ (ap (λ (n : ℕ). sends_if true n (port_of old.transfers).current) (ap clock p.age ∙ clock_is (age H + step H now))
               ∙ (ap (λ (t : PortRecord). sends_if true (clock_at H now) t.current) h.port ∙ port_more w H now f (is_moved w H f is.transfer (none_steers (slice_get (due w H) (length (acknowledged H))) _ (none_steered w H old h none quiet)).1))))
@@ -411,7 +411,7 @@ taken_due w H old new now (Some f) x h p owes held first m e =
     let is = due_taken w f now (refusal_by w x) k (due_get w (due w H) (length (acknowledged H)) (refusal_by w x) s.desk.0 first.is) in
     let more = acknowledged_is H now f false true is.0 is.1 in
     record {
-      who = ap (λ c. who_of c.own) e ∙ h.who;
+      who = ap (λ c. who_of w.known c.own) e ∙ h.who;
       answered = (h.answered, ap Some k ∙ sym (next_is w H now (Some (refusal_by w x)) _ (sym p.owes ∙ owes) held (steered_due w H (refusal_by w x) first.is) refl));
       hold = is_hold _ _ p.moment (p.standing ∙ ap standing_of (sym (address_is w H now f false is.0))) owes (p.pause ∙ sym (pause_is H now f false (no_packet f is.2))) p.age (p.wait ∙ wait_same H now f false true false is.0 is.1 is.2 refl);
       outgoing = ap (λ c. map posted c.outgoing.items) e ∙ h.outgoing;
@@ -421,13 +421,13 @@ taken_due w H old new now (Some f) x h p owes held first m e =
       unread = ap (λ c. map received_by c.inbox.unread.items) e ∙ h.unread;
       requests = ap (λ c. map request_by c.desk.waiting.items) e ∙ h.requests;
       acknowledgments = first.rest ∙ ap (λ (n : ℕ). drop n (due w H)) (sym (ap length more ∙ length_one_more (acknowledged H) (message_of f)));
-      holders = subst (λ t. Knows t (told_claims (TakeFrame now (Some f) ∷ H))) (sym (ap (λ c. c.holders) e))
-          (subst (Knows old.holders) (sym (ap (λ (b : Bool). if b then told_claims H ++ f ∷ [] else told_claims H) is.0)) h.holders);
+      holders = subst (λ t. Knows t (told_claims w (TakeFrame now (Some f) ∷ H))) (sym (ap (λ c. c.holders) e))
+          (subst (Knows old.holders) (sym (ap (λ (b : Bool). if b then told_claims w H ++ f ∷ [] else told_claims w H) is.0)) h.holders);
       news = ap (λ c. c.news) e ∙ h.news;
       missed = ap (λ c. c.inbox.missed) e ∙ h.missed;
       lane = ap (λ c. lane_of w c.lane) e ∙ (h.lane ∙ lane_same w H now f (no_packet f is.2));
       incoming = ap (λ c. incoming_of c.incoming) e ∙ (h.incoming ∙ incoming_same w H now f (taken_is w H now f false true is.0 is.1));
-      hearing = ap (λ c. hearing_of c.hearing) e ∙ (h.hearing ∙ hearing_same H now f is.0);
+      hearing = ap (λ c. hearing_of c.hearing) e ∙ (h.hearing ∙ hearing_same w H now f is.0);
       port = ap (λ c. port_of c.transfers) e ∙ (h.port ∙ port_same w H now f (no_move w H f (no_transfer f is.2)));
     }
 
@@ -444,7 +444,7 @@ taken_reply w H old new now (Some f) x h p owes held none first m e e0 =
     let at : slice_get (reception w H).replies 0 ≡ Some (said_by w.address x) = first.is ∙ ap (λ (a : ℕ). Some (said_by a x)) own in
     let is = reply_taken w.address f now (said_by w.address x) k (replied_get w.address (reception w H).replies 0 _ (tidy w H).replies at) in
     record {
-      who = ap (λ c. who_of c.own) e ∙ h.who;
+      who = ap (λ c. who_of w.known c.own) e ∙ h.who;
       answered = (
         h.answered,
         ap Some k ∙ sym (next_is w H now (Some (said_by w.address x)) _ (sym p.owes ∙ owes) held (steered_by w H None _ (none_due w H old h none) at) refl),
@@ -458,14 +458,14 @@ taken_reply w H old new now (Some f) x h p owes held none first m e e0 =
       requests = ap (λ c. map request_by c.desk.waiting.items) e ∙ h.requests;
       acknowledgments = ap (λ c. map (refusal_by w) c.desk.due.items) e ∙ (h.acknowledgments
           ∙ ap (λ (xs : List Message). drop (length xs) (due w H)) (sym (acknowledged_is H now f false false is.0 is.1)));
-      holders = subst (λ t. Knows t (told_claims (TakeFrame now (Some f) ∷ H))) (sym (ap (λ c. c.holders) e))
-          (subst (Knows old.holders) (sym (ap (λ (b : Bool). if b then told_claims H ++ f ∷ [] else told_claims H) is.0)) h.holders);
+      holders = subst (λ t. Knows t (told_claims w (TakeFrame now (Some f) ∷ H))) (sym (ap (λ c. c.holders) e))
+          (subst (Knows old.holders) (sym (ap (λ (b : Bool). if b then told_claims w H ++ f ∷ [] else told_claims w H) is.0)) h.holders);
       news = ap (λ c. c.news) e ∙ h.news;
       missed = ap (λ c. c.inbox.missed) e ∙ h.missed;
       lane = ap (λ c. lane_of w c.lane) e ∙ (h.lane ∙ lane_same w H now f is.3);
       incoming = ap incoming_of e0 ∙ (ap (λ (xs : List Message). with_replies xs (incoming_of old.incoming)) first.rest
           ∙ (ap (with_replies (drop 1 (reception w H).replies)) h.incoming ∙ incoming_replied w H now f is.0 is.1));
-      hearing = ap (λ c. hearing_of c.hearing) e ∙ (h.hearing ∙ hearing_same H now f is.0);
+      hearing = ap (λ c. hearing_of c.hearing) e ∙ (h.hearing ∙ hearing_same w H now f is.0);
       port = ap (λ c. port_of c.transfers) e ∙ (h.port ∙ port_same w H now f (reply_no_move w H f _ at));
     }
 
@@ -475,7 +475,7 @@ pub told_done : (w : Who) (H : List Call) (old new : Controller) (x : Outgoing) 
     → First posted new.outgoing.items x (length (told H)) (accepted w H) → 0 < old.taken → new.taken + 1 ≡ old.taken
     → new.own ≡ old.own → new.hold ≡ old.hold → new.next_token ≡ old.next_token → new.inbox ≡ old.inbox → new.desk ≡ old.desk → new.holders ≡ old.holders → new.news ≡ old.news → new.lane ≡ old.lane → new.incoming ≡ old.incoming → new.transfers ≡ old.transfers → new.asking ≡ old.asking → new.hearing ≡ old.hearing → Is w (TakeEnded (Some (x.token, Done)) ∷ H) new
 told_done w H old new x h f some less e1 e2 e3 e4 e5 e6 e7 e8 e9 e10 e11 e12 = record {
-  who = ap who_of e1 ∙ h.who;
+  who = ap (who_of w.known) e1 ∙ h.who;
   answered = (
     h.answered,
     sym (ap (λ (b : Bool). end_of b (is_lost (address_after w H)) (slice_get (accepted w H) (length (told H)))) before
@@ -489,7 +489,7 @@ told_done w H old new x h f some less e1 e2 e3 e4 e5 e6 e7 e8 e9 e10 e11 e12 = r
   unread = ap (λ o. map received_by o.unread.items) e4 ∙ h.unread;
   requests = ap (λ d. map request_by d.waiting.items) e5 ∙ h.requests;
   acknowledgments = ap (λ d. map (refusal_by w) d.due.items) e5 ∙ h.acknowledgments;
-  holders = subst (λ t. Knows t (told_claims H)) (sym e6) h.holders;
+  holders = subst (λ t. Knows t (told_claims w H)) (sym e6) h.holders;
   news = e7 ∙ h.news;
   missed = ap (λ o. o.missed) e4 ∙ h.missed;
   lane = ap (lane_of w) e8 ∙ h.lane;
@@ -508,7 +508,7 @@ pub told_withdrawn : (w : Who) (H : List Call) (old new : Controller) (x : Outgo
     → First posted new.outgoing.items x (length (told H)) (accepted w H) → old.taken ≡ 0 → lost old.hold.standing ≡ true → new.taken ≡ old.taken
     → new.own ≡ old.own → new.hold ≡ old.hold → new.next_token ≡ old.next_token → new.inbox ≡ old.inbox → new.desk ≡ old.desk → new.holders ≡ old.holders → new.news ≡ old.news → new.lane ≡ old.lane → new.incoming ≡ old.incoming → new.transfers ≡ old.transfers → new.asking ≡ old.asking → new.hearing ≡ old.hearing → Is w (TakeEnded (Some (x.token, Withdrawn)) ∷ H) new
 told_withdrawn w H old new x h f none is_away same e1 e2 e3 e4 e5 e6 e7 e8 e9 e10 e11 e12 = record {
-  who = ap who_of e1 ∙ h.who;
+  who = ap (who_of w.known) e1 ∙ h.who;
   answered = (
     h.answered,
     sym (ap (λ (b : Bool). end_of b (is_lost (address_after w H)) (slice_get (accepted w H) (length (told H)))) after
@@ -522,7 +522,7 @@ told_withdrawn w H old new x h f none is_away same e1 e2 e3 e4 e5 e6 e7 e8 e9 e1
   unread = ap (λ o. map received_by o.unread.items) e4 ∙ h.unread;
   requests = ap (λ d. map request_by d.waiting.items) e5 ∙ h.requests;
   acknowledgments = ap (λ d. map (refusal_by w) d.due.items) e5 ∙ h.acknowledgments;
-  holders = subst (λ t. Knows t (told_claims H)) (sym e6) h.holders;
+  holders = subst (λ t. Knows t (told_claims w H)) (sym e6) h.holders;
   news = e7 ∙ h.news;
   missed = ap (λ o. o.missed) e4 ∙ h.missed;
   lane = ap (lane_of w) e8 ∙ h.lane;
@@ -552,7 +552,7 @@ pub posts : (w : Who) (H : List Call) (old new : Controller) (now : ℕ) (d : Dr
 posts w H old new now d x h p held can room is e0 e1 e2 e3 e4 e5 e6 e7 e8 e9 e10 e11 e12 =
     let s = sound w H h.answered in
     record {
-      who = ap who_of e2 ∙ h.who;
+      who = ap (who_of w.known) e2 ∙ h.who;
       answered = (h.answered, ap Ok h.token ∙ sym (answer (holds w H now) (can_send w d) (is_full w H) held can (sym (full_is w H old h) ∙ room)));
       hold = is_hold _ _ p.moment p.standing p.owes p.pause p.age p.wait;
       outgoing = ap (map posted) e0 ∙ (map_append posted old.outgoing.items x
@@ -564,7 +564,7 @@ posts w H old new now d x h p held can room is e0 e1 e2 e3 e4 e5 e6 e7 e8 e9 e10
       unread = ap (λ o. map received_by o.unread.items) e4 ∙ h.unread;
       requests = ap (λ d. map request_by d.waiting.items) e5 ∙ h.requests;
       acknowledgments = ap (λ d. map (refusal_by w) d.due.items) e5 ∙ h.acknowledgments;
-      holders = subst (λ t. Knows t (told_claims H)) (sym e6) h.holders;
+      holders = subst (λ t. Knows t (told_claims w H)) (sym e6) h.holders;
       news = e7 ∙ h.news;
       missed = ap (λ o. o.missed) e4 ∙ h.missed;
       lane = ap (lane_of w) e8 ∙ h.lane;
@@ -639,20 +639,20 @@ news_heard u v l a b m n o e f g =
     ∙ ap (λ (x : Bool). record u { lost = l; another = u.another || b; missed = u.missed || (x || o) }) g)
 
 pub heard_more : (w : Who) (H : List Call) (old new : Controller) (f : FrameRecord) (mid : Hold) (held wanted away gone calls replaced unheard : Bool) (o : Option Asked) → Is w H old
-    → Passed w H f.stamp mid → held ≡ stands mid.standing → wanted ≡ is_for_program (who_of old.own) held f
+    → Passed w H f.stamp mid → held ≡ stands mid.standing → wanted ≡ is_for_program (who_of w.known old.own) held f
     → map received_by new.inbox.unread.items ≡ offered wanted (stamped f) (map received_by old.inbox.unread.items)
     → new.inbox.missed ≡ counted wanted (map received_by old.inbox.unread.items) old.inbox.missed
-    → gone ≡ is_smaller (who_of old.own) (claim_of f) → away ≡ lost mid.standing → calls ≡ calls_for_claim (who_of old.own) away f
+    → gone ≡ is_smaller (who_of w.known old.own) (claim_of f) → away ≡ lost mid.standing → calls ≡ calls_for_claim (who_of w.known old.own) away f
     → map request_by new.desk.waiting.items
-    ≡ with_request (who_of old.own) (nat_lt (length old.desk.waiting.items) 16) o (map request_by old.desk.waiting.items)
-    → map (refusal_by (who_of old.own)) new.desk.due.items
-    ≡ with_refusal (who_of old.own) (nat_lt (length old.desk.waiting.items) 16) (nat_lt (length old.desk.due.items) 16) o
-    (map (refusal_by (who_of old.own)) old.desk.due.items)
-    → o ≡ asked (who_of old.own) held f
+    ≡ with_request (who_of w.known old.own) (nat_lt (length old.desk.waiting.items) 16) o (map request_by old.desk.waiting.items)
+    → map (refusal_by (who_of w.known old.own)) new.desk.due.items
+    ≡ with_refusal (who_of w.known old.own) (nat_lt (length old.desk.waiting.items) 16) (nat_lt (length old.desk.due.items) 16) o
+    (map (refusal_by (who_of w.known old.own)) old.desk.due.items)
+    → o ≡ asked (who_of w.known old.own) held f
     → ((F : List FrameRecord) → Knows old.holders F → Knows new.holders (F ++ f ∷ []))
     → new.news ≡ record {
       lost = old.news.lost || (gone && not away);
-      another = old.news.another || is_another (who_of old.own) held f;
+      another = old.news.another || is_another (who_of w.known old.own) held f;
       missed = old.news.missed || ((wanted && not (nat_lt (length old.inbox.unread.items) 16)) || unheard);
     }
     → new.hold ≡ heard gone calls mid → new.own ≡ old.own → new.outgoing ≡ old.outgoing → new.taken ≡ old.taken → new.next_token ≡ old.next_token → new.lane ≡ old.lane
@@ -663,7 +663,7 @@ pub heard_more : (w : Who) (H : List Call) (old new : Controller) (f : FrameReco
     → (port_of new.transfers).current ≡ hears_if (lost new.hold.standing) r f (min new.hold.age 9999999999999999) (port_of old.transfers).current)
     → new.transfers.next_token ≡ old.transfers.next_token
     → (whole_now : Option (ℕ × ℕ)) → whole_now ≡ made_by (has_place (incoming_of old.incoming).reception.waits) (incoming_of new.incoming).reception.waits
-    → asking_of new.asking ≡ option_map (hears_with (who_of old.own) (lost new.hold.standing) new.hold.wait f whole_now) (asking_of old.asking)
+    → asking_of new.asking ≡ option_map (hears_with (who_of w.known old.own) (lost new.hold.standing) new.hold.wait f whole_now) (asking_of old.asking)
     → (left_by : Bool) (p1 p2 : Option ℕ) (m : HearingRecord) → IfSome (hearing_of old.hearing).current (λ z. p1 ≡ holder_in old.holders z.source)
     → IfSome (hearing_of old.hearing).current (λ z. p2 ≡ holder_in new.holders z.source) → left_by ≡ not (is_same p1 p2)
     → m.current ≡ leaves_it left_by (hearing_of old.hearing).current → m.missed ≡ old.hearing.missed
@@ -685,21 +685,21 @@ heard_more w H old new f mid held wanted away gone calls replaced unheard o h p 
     let goes : gone ≡ is_smaller w (claim_of f) = e5 ∙ ap (λ (v : Who). is_smaller v (claim_of f)) h.who in
     let asks : calls ≡ calls_for_claim w (is_lost (address_after w H)) f =
     e7 ∙ (ap (λ (v : Who). calls_for_claim v away f) h.who ∙ ap (λ (b : Bool). calls_for_claim w b f) lost_before) in
-    let r : ℕ → Bool = λ a. is_replaced (holder H a) (holder (Hear f ∷ H) a) in
+    let r : ℕ → Bool = λ a. is_replaced (holder w H a) (holder w (Hear f ∷ H) a) in
     let current : (port_of old.transfers).current ≡ open_transfer w H = ap (λ (t : PortRecord). t.current) h.port in
     let stands_now : new.hold.standing ≡ standing_of (address_after w (Hear f ∷ H)) =
     ap (λ (k : Hold). k.standing) e8 ∙ (ap (λ (b : Bool). if b then standing.Lost else mid.standing) goes
     ∙ (ap (λ (x : Standing). if is_smaller w (claim_of f) then standing.Lost else x) p.standing
     ∙ heard_standing (is_smaller w (claim_of f)) (step H f.stamp) (address_after w H))) in
     let hears_in : incoming_of new.incoming ≡ incoming_after w (Hear f ∷ H) =
-    incoming_heard w H old f new.holders new.incoming gone held h (q4 (told_claims H) h.holders) goes (holds_is w H f.stamp mid held p e1) s9 in
-    let on = heard_on H f old.holders new.holders left_by unheard (stamp_micros new.incoming.clock) p1 p2 (hearing_of old.hearing) m (hearing_of new.hearing) h.hearing
-    h.holders (q4 (told_claims H) h.holders) (ap (λ (x : IncomingRecord). x.clock) hears_in) t1 t2 t3 t4 t5 t6 t7 t8 in
+    incoming_heard w H old f new.holders new.incoming gone held h (q4 (told_claims w H) h.holders) goes (holds_is w H f.stamp mid held p e1) s9 in
+    let on = heard_on w H f old.holders new.holders left_by unheard (stamp_micros new.incoming.clock) p1 p2 (hearing_of old.hearing) m (hearing_of new.hearing) h.hearing
+    h.holders (q4 (told_claims w H) h.holders) (ap (λ (x : IncomingRecord). x.clock) hears_in) t1 t2 t3 t4 t5 t6 t7 t8 in
     let made_now : whole_now ≡ made w H f =
     m1 ∙ (ap (λ (x : IncomingRecord). made_by (has_place x.reception.waits) (incoming_of new.incoming).reception.waits) h.incoming
     ∙ (ap (λ (x : IncomingRecord). made_by (has_place (reception w H).waits) x.reception.waits) hears_in ∙ made_is w H f)) in
     record {
-      who = ap who_of s1 ∙ h.who;
+      who = ap (who_of w.known) s1 ∙ h.who;
       answered = (h.answered, tt);
       hold = is_hold _ _ (ap (λ (k : Hold). k.moment) e8 ∙ p.moment) stands_now
           (ap (λ (k : Hold). k.owes_claim) e8 ∙ (ap (λ (b : Bool). b || calls) p.owes ∙ ap (λ (b : Bool). owes_claim w H || b) asks))
@@ -725,29 +725,29 @@ heard_more w H old new f mid held wanted away gone calls replaced unheard o h p 
           ∙ (ap (λ (b : Bool). with_refusal w (nat_lt (length (requests w H) - length (handed H)) 16) b o (map (refusal_by w) old.desk.due.items)) place
           ∙ (ap (λ (x : Option Asked). with_refusal w (nat_lt (length (requests w H) - length (handed H)) 16) (nat_lt (length (due w H) - length (acknowledged H)) 16) x (map (refusal_by w) old.desk.due.items)) asks_for
           ∙ refusal_rest w (nat_lt (length (requests w H) - length (handed H)) 16) (nat_lt (length (due w H) - length (acknowledged H)) 16) (asked w (holds w H f.stamp) f) (due w H) (map (refusal_by w) old.desk.due.items) (length (acknowledged H)) (front_length (acknowledged H) (due w H) s.desk.1) h.acknowledgments)))));
-      holders = q4 (told_claims H) h.holders;
+      holders = q4 (told_claims w H) h.holders;
       news = q5 ∙ is_news _ _
           (ap (λ (u : Untold). u.lost || (gone && not away)) h.news
           ∙ (ap (λ (b : Bool). lost_news w H || (b && not away)) goes ∙ ap (λ (b : Bool). lost_news w H || (is_smaller w (claim_of f) && not b)) lost_before))
-          (ap (λ (u : Untold). u.another || is_another (who_of old.own) held f) h.news
+          (ap (λ (u : Untold). u.another || is_another (who_of w.known old.own) held f) h.news
           ∙ (ap (λ (v : Who). another_news w H || is_another v held f) h.who
           ∙ ap (λ (b : Bool). another_news w H || is_another w b f) (holds_is w H f.stamp mid held p e1)))
           (ap (λ (u : Untold). u.missed || ((wanted && not (nat_lt (length old.inbox.unread.items) 16)) || unheard)) h.news
-          ∙ (ap (λ (b : Bool). (missed_news w H || unheard_news H) || ((b && not (nat_lt (length old.inbox.unread.items) 16)) || unheard)) wants
-          ∙ (ap (λ (n : ℕ). (missed_news w H || unheard_news H) || ((is_for_program w (holds w H f.stamp) f && not (nat_lt n 16)) || unheard))
+          ∙ (ap (λ (b : Bool). (missed_news w H || unheard_news w H) || ((b && not (nat_lt (length old.inbox.unread.items) 16)) || unheard)) wants
+          ∙ (ap (λ (n : ℕ). (missed_news w H || unheard_news w H) || ((is_for_program w (holds w H f.stamp) f && not (nat_lt n 16)) || unheard))
           (length_rest received_by old.inbox.unread.items (length (got H)) (kept w H) h.unread)
-          ∙ (ap (λ (b : Bool). (missed_news w H || unheard_news H) || ((is_for_program w (holds w H f.stamp) f && not (nat_lt (length (kept w H) - length (got H)) 16)) || b)) on.unheard
-          ∙ either_news (missed_news w H) (unheard_news H) _ _))));
+          ∙ (ap (λ (b : Bool). (missed_news w H || unheard_news w H) || ((is_for_program w (holds w H f.stamp) f && not (nat_lt (length (kept w H) - length (got H)) 16)) || b)) on.unheard
+          ∙ either_news (missed_news w H) (unheard_news w H) _ _))));
       missed = e4 ∙ (ap (λ (b : Bool). counted b (map received_by old.inbox.unread.items) old.inbox.missed) wants
           ∙ missed_rest (is_for_program w (holds w H f.stamp) f) (kept w H) _ (length (got H)) (missed w H) _ h.unread h.missed);
       lane = ap (lane_of w) s5 ∙ h.lane;
       incoming = hears_in;
       hearing = on.hearing;
       port = is_port _ _
-          (s7 (λ a. is_replaced (holder H a) (holder (Hear f ∷ H) a))
-          (subst (λ (o : Option Running). IfSome o (λ x. replaced ≡ is_replaced (holder H x.sender.destination) (holder (Hear f ∷ H) x.sender.destination)))
+          (s7 (λ a. is_replaced (holder w H a) (holder w (Hear f ∷ H) a))
+          (subst (λ (o : Option Running). IfSome o (λ x. replaced ≡ is_replaced (holder w H x.sender.destination) (holder w (Hear f ∷ H) x.sender.destination)))
           (sym current)
-          (replaced_is w H f old.holders new.holders replaced (open_transfer w H) (ported w H h.answered) h.holders (q4 (told_claims H) h.holders)
+          (replaced_is w H f old.holders new.holders replaced (open_transfer w H) (ported w H h.answered) h.holders (q4 (told_claims w H) h.holders)
           (subst (λ (o : Option Running). IfSome o (λ x. replaced ≡ is_replaced (holder_in old.holders x.sender.destination) (holder_in new.holders x.sender.destination))) current s6)))
           ∙ (ap (λ (b : Bool). hears_if b r f (min new.hold.age 9999999999999999) (port_of old.transfers).current)
           (ap lost stands_now ∙ lost_is (address_after w (Hear f ∷ H)))
@@ -763,7 +763,7 @@ pub handed_more : (w : Who) (H : List Call) (old new : Controller) (x : Request)
     → First request_by new.desk.waiting.items x (length (handed H)) (requests w H)
     → new ≡ record old { desk = record { waiting = new.desk.waiting; due = old.desk.due } } → Is w (TakeRequest (Some (request_by x)) ∷ H) new
 handed_more w H old new x h first e = record {
-  who = ap (λ c. who_of c.own) e ∙ h.who;
+  who = ap (λ c. who_of w.known c.own) e ∙ h.who;
   answered = (h.answered, sym first.is);
   hold = ap (λ c. c.hold) e ∙ h.hold;
   outgoing = ap (λ c. map posted c.outgoing.items) e ∙ h.outgoing;
@@ -773,7 +773,7 @@ handed_more w H old new x h first e = record {
   unread = ap (λ c. map received_by c.inbox.unread.items) e ∙ h.unread;
   requests = first.rest ∙ ap (λ (n : ℕ). drop n (requests w H)) (sym (length_one_more (handed H) (request_by x)));
   acknowledgments = ap (λ c. map (refusal_by w) c.desk.due.items) e ∙ h.acknowledgments;
-  holders = subst (λ t. Knows t (told_claims H)) (sym (ap (λ c. c.holders) e)) h.holders;
+  holders = subst (λ t. Knows t (told_claims w H)) (sym (ap (λ c. c.holders) e)) h.holders;
   news = ap (λ c. c.news) e ∙ h.news;
   missed = ap (λ c. c.inbox.missed) e ∙ h.missed;
   lane = ap (λ c. lane_of w c.lane) e ∙ h.lane;
@@ -798,7 +798,7 @@ pub due_more : (w : Who) (H : List Call) (old new : Controller) (now : ℕ) (ans
 due_more w H old new now answer x h p right a g e =
     let s = sound w H h.answered in
     record {
-      who = ap (λ c. who_of c.own) e ∙ h.who;
+      who = ap (λ c. who_of w.known c.own) e ∙ h.who;
       answered = (h.answered, right);
       hold = is_hold _ _ p.moment p.standing p.owes p.pause p.age p.wait;
       outgoing = ap (λ c. map posted c.outgoing.items) e ∙ h.outgoing;
@@ -811,7 +811,7 @@ due_more w H old new now answer x h p right a g e =
           ∙ (ap (λ l. l ++ refusal_by w x ∷ []) h.acknowledgments
           ∙ (ap (λ (y : Answer). drop (length (acknowledged H)) (due w H) ++ acknowledgment w y (request_by x.request) ∷ []) a
           ∙ sym (drop_append (length (acknowledged H)) (due w H) (acknowledgment w answer (request_by x.request)) (front_length (acknowledged H) (due w H) s.desk.1)))));
-      holders = subst (λ t. Knows t (told_claims H)) (sym (ap (λ c. c.holders) e)) h.holders;
+      holders = subst (λ t. Knows t (told_claims w H)) (sym (ap (λ c. c.holders) e)) h.holders;
       news = ap (λ c. c.news) e ∙ h.news;
       missed = ap (λ c. c.inbox.missed) e ∙ h.missed;
       lane = ap (λ c. lane_of w c.lane) e ∙ h.lane;
@@ -825,7 +825,7 @@ due_more w H old new now answer x h p right a g e =
 pub refuses_send : (w : Who) (H : List Call) (old new : Controller) (now : ℕ) (d : Draft) (r : Refused) → Is w H old → Passed w H now new.hold
     → Err r ≡ answer_to_send w H now d → new ≡ record old { hold = new.hold } → Is w (Send now d (Err r) ∷ H) new
 refuses_send w H old new now d r h p answer e = record {
-  who = ap (λ c. who_of c.own) e ∙ h.who;
+  who = ap (λ c. who_of w.known c.own) e ∙ h.who;
   answered = (h.answered, answer);
   hold = is_hold _ _ p.moment p.standing p.owes p.pause p.age p.wait;
   outgoing = ap (λ c. map posted c.outgoing.items) e ∙ h.outgoing;
@@ -835,7 +835,7 @@ refuses_send w H old new now d r h p answer e = record {
   unread = ap (λ c. map received_by c.inbox.unread.items) e ∙ h.unread;
   requests = ap (λ c. map request_by c.desk.waiting.items) e ∙ h.requests;
   acknowledgments = ap (λ c. map (refusal_by w) c.desk.due.items) e ∙ h.acknowledgments;
-  holders = subst (λ t. Knows t (told_claims H)) (sym (ap (λ c. c.holders) e)) h.holders;
+  holders = subst (λ t. Knows t (told_claims w H)) (sym (ap (λ c. c.holders) e)) h.holders;
   news = ap (λ c. c.news) e ∙ h.news;
   missed = ap (λ c. c.inbox.missed) e ∙ h.missed;
   lane = ap (λ c. lane_of w c.lane) e ∙ h.lane;
@@ -925,7 +925,7 @@ claims_after Lost = refl
 
 pub claims_more : (w : Who) (H : List Call) (old new : Controller) (now : ℕ) (f : FrameRecord) (mid : Hold) (a : ℕ) → Is w H old → Passed w H now mid
     → mid.owes_claim ≡ true → new.hold ≡ record { moment = mid.moment; standing = claims mid.standing; owes_claim = false; pause = mid.pause; age = mid.age; wait = mid.wait }
-    → Some (stamped f) ≡ Some (now, claim_from (who_of old.own) a) → a ≡ (if lost mid.standing then 254 else old.own.address)
+    → Some (stamped f) ≡ Some (now, claim_from (who_of w.known old.own) a) → a ≡ (if lost mid.standing then 254 else old.own.address)
     → ((F : List FrameRecord) → Knows old.holders F → Knows new.holders (F ++ f ∷ []))
     → incoming_of new.incoming ≡ with_reception (left (leaves (holder_in old.holders) (holder_in new.holders) (incoming_of old.incoming).reception.session)
     (incoming_of old.incoming).reception) (incoming_of old.incoming)
@@ -934,17 +934,17 @@ pub claims_more : (w : Who) (H : List Call) (old new : Controller) (now : ℕ) (
     → (hearing_of new.hearing).current ≡ leaves_it left_by (hearing_of old.hearing).current → new.hearing.missed ≡ old.hearing.missed
     → new ≡ record old { hold = new.hold; holders = new.holders; incoming = new.incoming; hearing = new.hearing } → Is w (TakeFrame now (Some f) ∷ H) new
 claims_more w H old new now f mid a h p owes e0 m at knows drops left_by p1 p2 t1 t2 t3 t4 t5 e =
-    let from : claim_from (who_of old.own) a ≡ claim_from w (claim_address w (address_after w H)) =
+    let from : claim_from (who_of w.known old.own) a ≡ claim_from w (claim_address w (address_after w H)) =
     ap (λ (v : Who). claim_from v a) h.who
     ∙ ap (claim_from w) (at ∙ (ap (λ (x : Standing). if lost x then 254 else old.own.address) p.standing
     ∙ (ap (λ (n : ℕ). if lost (standing_of (older (step H now) (address_after w H))) then 254 else n) (ap (λ (v : Who). v.address) h.who)
     ∙ told_address (step H now) (address_after w H)))) in
-    let k : stamped f ≡ (now, claim_from (who_of old.own) a) = cc in
+    let k : stamped f ≡ (now, claim_from (who_of w.known old.own) a) = cc in
     let j : stamped f ≡ (now, claim_from w (claim_address w (address_after w H))) = k ∙ ap (λ (x : Message). (now, x)) from in
     let n = claim_taken f now w (claim_address w (address_after w H)) j in
     let due_claim : owes_claim w H ≡ true = sym p.owes ∙ owes in
     record {
-      who = ap (λ c. who_of c.own) e ∙ h.who;
+      who = ap (λ c. who_of w.known c.own) e ∙ h.who;
       answered = (
         h.answered,
         ap Some j ∙ sym (ap (λ (b : Bool). frame_by b (holds w H now) (next_control w H) (slice_get (accepted w H) (length (sent H))) (next_long w H now)
@@ -961,13 +961,13 @@ claims_more w H old new now f mid a h p owes e0 m at knows drops left_by p1 p2 t
       requests = ap (λ c. map request_by c.desk.waiting.items) e ∙ h.requests;
       acknowledgments = ap (λ c. map (refusal_by w) c.desk.due.items) e ∙ (h.acknowledgments
           ∙ ap (λ (xs : List Message). drop (length xs) (due w H)) (sym (acknowledged_is H now f true _ n refl)));
-      holders = subst (Knows new.holders) (sym (ap (λ (b : Bool). if b then told_claims H ++ f ∷ [] else told_claims H) n)) (knows (told_claims H) h.holders);
+      holders = subst (Knows new.holders) (sym (ap (λ (b : Bool). if b then told_claims w H ++ f ∷ [] else told_claims w H) n)) (knows (told_claims w H) h.holders);
       news = ap (λ c. c.news) e ∙ h.news;
       missed = ap (λ c. c.inbox.missed) e ∙ h.missed;
       lane = ap (λ c. lane_of w c.lane) e ∙ (h.lane ∙ lane_same w H now f (no_packet f (claim_single f n)));
-      hearing = claimed_on H now f old.holders new.holders left_by p1 p2 (hearing_of old.hearing) (hearing_of new.hearing) h.hearing h.holders (subst (Knows new.holders) (sym (told_is H now f n)) (knows (told_claims H) h.holders)) t1 t2 t3 t4 t5;
+      hearing = claimed_on w H now f old.holders new.holders left_by p1 p2 (hearing_of old.hearing) (hearing_of new.hearing) h.hearing h.holders (subst (Knows new.holders) (sym (told_is w H now f n)) (knows (told_claims w H) h.holders)) t1 t2 t3 t4 t5;
       port = ap (λ c. port_of c.transfers) e ∙ (h.port ∙ port_same w H now f (no_move w H f (no_transfer f (claim_single f n))));
-      incoming = drops ∙ incoming_claimed w H old now f new.holders h n (subst (Knows new.holders) (sym (told_is H now f n)) (knows (told_claims H) h.holders));
+      incoming = drops ∙ incoming_claimed w H old now f new.holders h n (subst (Knows new.holders) (sym (told_is w H now f n)) (knows (told_claims w H) h.holders));
     }
   where
     told_address : (s : ℕ) (x : Address) → (if lost (standing_of (older s x)) then 254 else w.address) ≡ claim_address w x
@@ -981,7 +981,7 @@ owes_is : (w : Who) (H : List Call) (c : Controller) (b : Bool) → Is w H c →
 owes_is w H c b h e = sym (ap (λ (k : Hold). k.owes_claim) h.hold) ∙ e
 
 claim_told : (w : Who) (H : List Call) (c : Controller) (a : ℕ) → Is w H c → a ≡ (if lost c.hold.standing then 254 else c.own.address)
-    → claim_from (who_of c.own) a ≡ claim_from w (claim_address w (address_after w H))
+    → claim_from (who_of w.known c.own) a ≡ claim_from w (claim_address w (address_after w H))
 claim_told w H c a h e =
     ap (λ (v : Who). claim_from v a) h.who
     ∙ ap (claim_from w) (e ∙ (ap (λ (k : Hold). if lost k.standing then 254 else c.own.address) h.hold
@@ -993,7 +993,7 @@ claim_told w H c a h e =
     told_address Lost = refl
 
 pub peeks_claim : (w : Who) (H : List Call) (c : Controller) (now a : ℕ) (r : Option FrameRecord) → Is w H c → c.hold.owes_claim ≡ true
-    → option_map stamped r ≡ Some (now, claim_from (who_of c.own) a) → a ≡ (if lost c.hold.standing then 254 else c.own.address)
+    → option_map stamped r ≡ Some (now, claim_from (who_of w.known c.own) a) → a ≡ (if lost c.hold.standing then 254 else c.own.address)
     → option_map stamped r ≡ next_frame w H now
 peeks_claim w H c now a r h owes m e =
     m ∙ (ap (λ (x : Message). Some (now, x)) (claim_told w H c a h e)
@@ -1047,7 +1047,7 @@ pub peeks_message : (w : Who) (H : List Call) (c : Controller) (now left time : 
     → holds w H now ≡ true → slice_get c.desk.due.items 0 ≡ None → slice_get (reception w H).replies 0 ≡ None → left ≡ pause H - step H now → time ≡ min (age H + step H now) 18446744073709551615
     → option_map stamped r ≡ option_map (at_now now)
     (first_of None (option_map posted (slice_get c.outgoing.items c.taken))
-    (long_by (packet_by (lane_of (who_of c.own) c.lane).current c.lane.count left) (transfer_by (port_of c.transfers).current (clock time))))
+    (long_by (packet_by (lane_of (who_of w.known c.own) c.lane).current c.lane.count left) (transfer_by (port_of c.transfers).current (clock time))))
     → option_map stamped r ≡ next_frame w H now
 peeks_message w H c now left time r h owes held g quiet e a m =
     let t = (sound w H h.answered).in_turn (holding_not_lost w H now held) in
@@ -1080,7 +1080,7 @@ pub refuses_broadcast : (w : Who) (H : List Call) (old new : Controller) (now gr
     → Passed w H now new.hold → Err r ≡ answer_to_broadcast w H now group bytes → new ≡ record old { hold = new.hold }
     → Is w (Broadcast now group bytes (Err r) ∷ H) new
 refuses_broadcast w H old new now group bytes r h p answer e = record {
-  who = ap (λ c. who_of c.own) e ∙ h.who;
+  who = ap (λ c. who_of w.known c.own) e ∙ h.who;
   answered = (h.answered, answer);
   hold = is_hold _ _ p.moment p.standing p.owes p.pause p.age p.wait;
   outgoing = ap (λ c. map posted c.outgoing.items) e ∙ h.outgoing;
@@ -1090,7 +1090,7 @@ refuses_broadcast w H old new now group bytes r h p answer e = record {
   unread = ap (λ c. map received_by c.inbox.unread.items) e ∙ h.unread;
   requests = ap (λ c. map request_by c.desk.waiting.items) e ∙ h.requests;
   acknowledgments = ap (λ c. map (refusal_by w) c.desk.due.items) e ∙ h.acknowledgments;
-  holders = subst (λ t. Knows t (told_claims H)) (sym (ap (λ c. c.holders) e)) h.holders;
+  holders = subst (λ t. Knows t (told_claims w H)) (sym (ap (λ c. c.holders) e)) h.holders;
   news = ap (λ c. c.news) e ∙ h.news;
   missed = ap (λ c. c.inbox.missed) e ∙ h.missed;
   lane = ap (λ c. lane_of w c.lane) e ∙ h.lane;
@@ -1104,7 +1104,7 @@ pub begins : (w : Who) (H : List Call) (old new : Controller) (now group : ℕ) 
     → new ≡ record old { hold = new.hold; lane = new.lane } → new.lane.current ≡ Some x → new.lane.count ≡ 0
     → new.lane.next_token ≡ suc old.lane.next_token → Is w (Broadcast now group bytes (Ok old.lane.next_token) ∷ H) new
 begins w H old new now group bytes x h p answer is e e0 e1 e2 = record {
-  who = ap (λ c. who_of c.own) e ∙ h.who;
+  who = ap (λ c. who_of w.known c.own) e ∙ h.who;
   answered = (h.answered, answer);
   hold = is_hold _ _ p.moment p.standing p.owes p.pause p.age p.wait;
   outgoing = ap (λ c. map posted c.outgoing.items) e ∙ h.outgoing;
@@ -1114,7 +1114,7 @@ begins w H old new now group bytes x h p answer is e e0 e1 e2 = record {
   unread = ap (λ c. map received_by c.inbox.unread.items) e ∙ h.unread;
   requests = ap (λ c. map request_by c.desk.waiting.items) e ∙ h.requests;
   acknowledgments = ap (λ c. map (refusal_by w) c.desk.due.items) e ∙ h.acknowledgments;
-  holders = subst (λ t. Knows t (told_claims H)) (sym (ap (λ c. c.holders) e)) h.holders;
+  holders = subst (λ t. Knows t (told_claims w H)) (sym (ap (λ c. c.holders) e)) h.holders;
   news = ap (λ c. c.news) e ∙ h.news;
   missed = ap (λ c. c.inbox.missed) e ∙ h.missed;
   lane = is_lane _ _ (ap (option_map (opened w)) e0 ∙ ap Some is) e1
@@ -1133,7 +1133,7 @@ ended_is w H c b h e =
 pub ends : (w : Who) (H : List Call) (old new : Controller) (x : ℕ × Ending) → Is w H old → Some x ≡ next_broadcast_ended w H
     → new ≡ record old { lane = new.lane } → new.lane ≡ record old.lane { current = None } → Is w (TakeBroadcastEnded (Some x) ∷ H) new
 ends w H old new x h answer e e0 = record {
-  who = ap (λ c. who_of c.own) e ∙ h.who;
+  who = ap (λ c. who_of w.known c.own) e ∙ h.who;
   answered = (h.answered, answer);
   hold = ap (λ c. c.hold) e ∙ h.hold;
   outgoing = ap (λ c. map posted c.outgoing.items) e ∙ h.outgoing;
@@ -1143,7 +1143,7 @@ ends w H old new x h answer e e0 = record {
   unread = ap (λ c. map received_by c.inbox.unread.items) e ∙ h.unread;
   requests = ap (λ c. map request_by c.desk.waiting.items) e ∙ h.requests;
   acknowledgments = ap (λ c. map (refusal_by w) c.desk.due.items) e ∙ h.acknowledgments;
-  holders = subst (λ t. Knows t (told_claims H)) (sym (ap (λ c. c.holders) e)) h.holders;
+  holders = subst (λ t. Knows t (told_claims w H)) (sym (ap (λ c. c.holders) e)) h.holders;
   news = ap (λ c. c.news) e ∙ h.news;
   missed = ap (λ c. c.inbox.missed) e ∙ h.missed;
   lane = ap (lane_of w) e0 ∙ ap (λ (l : LaneRecord). record l { current = None }) h.lane;
@@ -1193,7 +1193,7 @@ pub refuses_transfer : (w : Who) (H : List Call) (old new : Controller) (now gro
     → Passed w H now new.hold → Err r ≡ answer_to_transfer w H now group to bytes → new ≡ record old { hold = new.hold }
     → Is w (Transfer now group to bytes (Err r) ∷ H) new
 refuses_transfer w H old new now group to bytes r h p answer e = record {
-  who = ap (λ c. who_of c.own) e ∙ h.who;
+  who = ap (λ c. who_of w.known c.own) e ∙ h.who;
   answered = (h.answered, answer);
   hold = is_hold _ _ p.moment p.standing p.owes p.pause p.age p.wait;
   outgoing = ap (λ c. map posted c.outgoing.items) e ∙ h.outgoing;
@@ -1203,7 +1203,7 @@ refuses_transfer w H old new now group to bytes r h p answer e = record {
   unread = ap (λ c. map received_by c.inbox.unread.items) e ∙ h.unread;
   requests = ap (λ c. map request_by c.desk.waiting.items) e ∙ h.requests;
   acknowledgments = ap (λ c. map (refusal_by w) c.desk.due.items) e ∙ h.acknowledgments;
-  holders = subst (λ t. Knows t (told_claims H)) (sym (ap (λ c. c.holders) e)) h.holders;
+  holders = subst (λ t. Knows t (told_claims w H)) (sym (ap (λ c. c.holders) e)) h.holders;
   news = ap (λ c. c.news) e ∙ h.news;
   missed = ap (λ c. c.inbox.missed) e ∙ h.missed;
   lane = ap (λ c. lane_of w c.lane) e ∙ h.lane;
@@ -1218,7 +1218,7 @@ pub transfer_begins : (w : Who) (H : List Call) (old new : Controller) (now grou
     → new ≡ record old { hold = new.hold; transfers = new.transfers } → new.hold ≡ record mid { age = 0 } → new.transfers.current ≡ Some x
     → new.transfers.next_token ≡ suc old.transfers.next_token → Is w (Transfer now group to bytes (Ok old.transfers.next_token) ∷ H) new
 transfer_begins w H old new now group to bytes x mid h p answer is e e0 e1 e2 = record {
-  who = ap (λ c. who_of c.own) e ∙ h.who;
+  who = ap (λ c. who_of w.known c.own) e ∙ h.who;
   answered = (h.answered, answer);
   hold = e0 ∙ is_hold _ _ p.moment p.standing p.owes p.pause refl p.wait;
   outgoing = ap (λ c. map posted c.outgoing.items) e ∙ h.outgoing;
@@ -1228,7 +1228,7 @@ transfer_begins w H old new now group to bytes x mid h p answer is e e0 e1 e2 = 
   unread = ap (λ c. map received_by c.inbox.unread.items) e ∙ h.unread;
   requests = ap (λ c. map request_by c.desk.waiting.items) e ∙ h.requests;
   acknowledgments = ap (λ c. map (refusal_by w) c.desk.due.items) e ∙ h.acknowledgments;
-  holders = subst (λ t. Knows t (told_claims H)) (sym (ap (λ c. c.holders) e)) h.holders;
+  holders = subst (λ t. Knows t (told_claims w H)) (sym (ap (λ c. c.holders) e)) h.holders;
   news = ap (λ c. c.news) e ∙ h.news;
   missed = ap (λ c. c.inbox.missed) e ∙ h.missed;
   lane = ap (λ c. lane_of w c.lane) e ∙ h.lane;
@@ -1247,7 +1247,7 @@ transfer_end_is w H c b h e =
 pub transfer_ends : (w : Who) (H : List Call) (old new : Controller) (x : ℕ × TransferEnding) → Is w H old → Some x ≡ next_transfer_ended w H
     → new ≡ record old { transfers = record old.transfers { current = None } } → Is w (TakeTransferEnded (Some x) ∷ H) new
 transfer_ends w H old new x h answer e = record {
-  who = ap (λ c. who_of c.own) e ∙ h.who;
+  who = ap (λ c. who_of w.known c.own) e ∙ h.who;
   answered = (h.answered, answer);
   hold = ap (λ c. c.hold) e ∙ h.hold;
   outgoing = ap (λ c. map posted c.outgoing.items) e ∙ h.outgoing;
@@ -1257,7 +1257,7 @@ transfer_ends w H old new x h answer e = record {
   unread = ap (λ c. map received_by c.inbox.unread.items) e ∙ h.unread;
   requests = ap (λ c. map request_by c.desk.waiting.items) e ∙ h.requests;
   acknowledgments = ap (λ c. map (refusal_by w) c.desk.due.items) e ∙ h.acknowledgments;
-  holders = subst (λ t. Knows t (told_claims H)) (sym (ap (λ c. c.holders) e)) h.holders;
+  holders = subst (λ t. Knows t (told_claims w H)) (sym (ap (λ c. c.holders) e)) h.holders;
   news = ap (λ c. c.news) e ∙ h.news;
   missed = ap (λ c. c.inbox.missed) e ∙ h.missed;
   lane = ap (λ c. lane_of w c.lane) e ∙ h.lane;

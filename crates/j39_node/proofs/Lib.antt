@@ -43,3 +43,5 @@ pub mod MoveLemmas
 pub mod TransferLaws
 -- the laws of broadcasts in packets that are heard
 pub mod HearingLaws
+pub mod MovingLemmas
+pub mod KnownLemmas

@@ -116,7 +116,7 @@ moved_new m to = record { state = refl; taken = λ i l k. absurd (omega (arith, 
 pub moved : (w : Who) (H : List Call) → AreAnswered w H → MovedIf (open_transfer w H) (moves w H)
 moved w [] e = tt
 moved w (Hear f ∷ H) e =
-    moved_hears (is_lost (address_after w (Hear f ∷ H))) (λ a. is_replaced (holder H a) (holder (Hear f ∷ H) a)) f (clock_at H f.stamp) (open_transfer w H) (moves w H)
+    moved_hears (is_lost (address_after w (Hear f ∷ H))) (λ a. is_replaced (holder w H a) (holder w (Hear f ∷ H) a)) f (clock_at H f.stamp) (open_transfer w H) (moves w H)
     (moved w H e.0)
 moved w (Ticks now ∷ H) e = moved w H e.0
 moved w (TakeFrame now None ∷ H) e = moved w H e.0
@@ -209,7 +209,7 @@ last_closes told all (Some t) lost x h e = let a = h.token in let b = h.count in
 pub last_one : (w : Who) (H : List Call) → AreAnswered w H → LastIf (length (told_transfers H)) (all_transfers w H) (open_transfer w H)
 last_one w [] e = refl
 last_one w (Hear f ∷ H) e =
-    last_hears _ _ (is_lost (address_after w (Hear f ∷ H))) (λ a. is_replaced (holder H a) (holder (Hear f ∷ H) a)) f (clock_at H f.stamp) (open_transfer w H)
+    last_hears _ _ (is_lost (address_after w (Hear f ∷ H))) (λ a. is_replaced (holder w H a) (holder w (Hear f ∷ H) a)) f (clock_at H f.stamp) (open_transfer w H)
     (last_one w H e.0)
 last_one w (Ticks now ∷ H) e = last_one w H e.0
 last_one w (TakeFrame now None ∷ H) e = last_one w H e.0
@@ -254,7 +254,7 @@ now_so So H call s = record { later = []; call = call; earlier = H; is = refl; s
 pub record Arises (w : Who) (Q : Running → Type 0) (So : ℕ → MessageRecord → List Call → Call → Type 0) : Type 0 where
   pub begins_not : (token : ℕ) (m : MessageRecord) (to : ℕ) → Q (begun token m to) → ⊥
   pub by_hearing : (H : List Call) (f : FrameRecord) (t : Running) → AreAnswered w H → open_transfer w H ≡ Some t
-      → Q (hears (is_lost (address_after w (Hear f ∷ H))) (is_replaced (holder H t.sender.destination) (holder (Hear f ∷ H) t.sender.destination)) f (clock_at H f.stamp) t)
+      → Q (hears (is_lost (address_after w (Hear f ∷ H))) (is_replaced (holder w H t.sender.destination) (holder w (Hear f ∷ H) t.sender.destination)) f (clock_at H f.stamp) t)
       → Q t ⊎ So t.sender.destination t.sender.message H (Hear f)
   pub by_sending : (H : List Call) (now : ℕ) (f : FrameRecord) (t : Running) (a : Signal) → AreAnswered w H → open_transfer w H ≡ Some t
       → signal_by t (clock_at H now) ≡ Some a → message_of f ≡ says t.sender a → Q (sends (clock_at H now) t)
@@ -271,12 +271,12 @@ traced_same So new old H s h =
 
 trace_hears : (w : Who) (Q : Running → Type 0) (So : ℕ → MessageRecord → List Call → Call → Type 0) (H : List Call) (f : FrameRecord) (t : Running) (o : Option Running)
     → Arises w Q So → AreAnswered w H → open_transfer w H ≡ o
-    → hears_if (is_lost (address_after w (Hear f ∷ H))) (λ a. is_replaced (holder H a) (holder (Hear f ∷ H) a)) f (clock_at H f.stamp) o ≡ Some t → Q t
+    → hears_if (is_lost (address_after w (Hear f ∷ H))) (λ a. is_replaced (holder w H a) (holder w (Hear f ∷ H) a)) f (clock_at H f.stamp) o ≡ Some t → Q t
     → ((u : Running) → open_transfer w H ≡ Some u → Q u → Traced So u H) → Traced So t (Hear f ∷ H)
 trace_hears w Q So H f t None arises right e g q rec = absurd (cc)
 trace_hears w Q So H f t (Some u) arises right e g q rec =
     let lost = is_lost (address_after w (Hear f ∷ H)) in
-    let replaced = is_replaced (holder H u.sender.destination) (holder (Hear f ∷ H) u.sender.destination) in
+    let replaced = is_replaced (holder w H u.sender.destination) (holder w (Hear f ∷ H) u.sender.destination) in
     let z : hears lost replaced f (clock_at H f.stamp) u ≡ t = cc in
     subst (λ (x : Running). Traced So x (Hear f ∷ H)) z
     (traced_same So (hears lost replaced f (clock_at H f.stamp) u) u (Hear f ∷ H) (hears_same lost replaced f (clock_at H f.stamp) u)

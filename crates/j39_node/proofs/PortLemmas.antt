@@ -126,7 +126,7 @@ ported_opens w H now group to k bytes (opens a b f e) =
 pub ported : (w : Who) (H : List Call) → AreAnswered w H → Ported w (open_transfer w H)
 ported w [] e = tt
 ported w (Hear f ∷ H) e =
-    ported_hears w (is_lost (address_after w (Hear f ∷ H))) (λ a. is_replaced (holder H a) (holder (Hear f ∷ H) a)) f (clock_at H f.stamp) (open_transfer w H)
+    ported_hears w (is_lost (address_after w (Hear f ∷ H))) (λ a. is_replaced (holder w H a) (holder w (Hear f ∷ H) a)) f (clock_at H f.stamp) (open_transfer w H)
     (ported w H e.0)
 ported w (Ticks now ∷ H) e = ported w H e.0
 ported w (TakeFrame now None ∷ H) e = ported w H e.0
@@ -179,8 +179,8 @@ said_case w (Some t) now m h e = go (signal_by t now) e
 
 -- ---- who holds an address
 
-pub holder_known : (H : List Call) (table : Claims) (a : ℕ) → a < 254 → Knows table (told_claims H) → holder_in table a ≡ holder H a
-holder_known H table a l k = table_is table H a k
+pub holder_known : (w : Who) (H : List Call) (table : Claims) (a : ℕ) → a < 254 → Knows table (told_claims w H) → holder_in table a ≡ holder w H a
+holder_known w H table a l k = table_is w table H a k
 
 -- who was, and is, the holder of the destination's address
 pub peers_are : (o : Option Running) (b : Bool) (p q : Option ℕ) (old new : Claims) → IfSome o (λ x. p ≡ holder_in old x.sender.destination)
@@ -191,13 +191,13 @@ peers_are (Some t) b p q old new e f g = g ∙ (ap (λ (o : Option ℕ). is_repl
 
 -- whether a frame that is heard replaces the holder of the destination's address
 pub replaced_is : (w : Who) (H : List Call) (f : FrameRecord) (old new : Claims) (b : Bool) (o : Option Running) → Ported w o
-    → Knows old (told_claims H) → Knows new (told_claims (Hear f ∷ H))
+    → Knows old (told_claims w H) → Knows new (told_claims w (Hear f ∷ H))
     → IfSome o (λ x. b ≡ is_replaced (holder_in old x.sender.destination) (holder_in new x.sender.destination))
-    → IfSome o (λ x. b ≡ is_replaced (holder H x.sender.destination) (holder (Hear f ∷ H) x.sender.destination))
+    → IfSome o (λ x. b ≡ is_replaced (holder w H x.sender.destination) (holder w (Hear f ∷ H) x.sender.destination))
 replaced_is w H f old new b None h k l e = e
 replaced_is w H f old new b (Some t) h k l e =
-    e ∙ (ap (λ (o : Option ℕ). is_replaced o (holder_in new t.sender.destination)) (holder_known H old t.sender.destination h.directed k)
-    ∙ ap (is_replaced (holder H t.sender.destination)) (holder_known (Hear f ∷ H) new t.sender.destination h.directed l))
+    e ∙ (ap (λ (o : Option ℕ). is_replaced o (holder_in new t.sender.destination)) (holder_known w H old t.sender.destination h.directed k)
+    ∙ ap (is_replaced (holder w H t.sender.destination)) (holder_known w (Hear f ∷ H) new t.sender.destination h.directed l))
 
 -- ---- what a controller has of it
 

@@ -266,7 +266,7 @@ budget_sends true now (Some t) n h = record {
 budgeted : (w : Who) (H : List Call) → BudgetedIf (open_transfer w H) (clears w H)
 budgeted w [] = tt
 budgeted w (Hear f ∷ H) =
-    budget_hears_if (is_lost (address_after w (Hear f ∷ H))) (λ a. is_replaced (holder H a) (holder (Hear f ∷ H) a)) f (clock_at H f.stamp) (open_transfer w H)
+    budget_hears_if (is_lost (address_after w (Hear f ∷ H))) (λ a. is_replaced (holder w H a) (holder w (Hear f ∷ H) a)) f (clock_at H f.stamp) (open_transfer w H)
     (clears w H) (budgeted w H)
 budgeted w (Ticks now ∷ H) = budgeted w H
 budgeted w (TakeFrame now None ∷ H) = budgeted w H
@@ -338,11 +338,11 @@ patient w H c now f t is p e five = go (gives_up t) refl
 -- ---- its sender takes the steps of the standard's
 
 pub heeds : (w : Who) (H : List Call) (f : FrameRecord) (t : Running) → open_transfer w H ≡ Some t → is_lost (address_after w (Hear f ∷ H)) ≡ false
-    → is_replaced (holder H t.sender.destination) (holder (Hear f ∷ H) t.sender.destination) ≡ false → t.gone ≡ false → is_spent t ≡ false
+    → is_replaced (holder w H t.sender.destination) (holder w (Hear f ∷ H) t.sender.destination) ≡ false → t.gone ≡ false → is_spent t ≡ false
     → (x : Running) × (open_transfer w (Hear f ∷ H) ≡ Some x) × (x.sender ≡ (send_step t.sender (Heard f) (clock_at H f.stamp)).after)
 heeds w H f t e own held here room =
     subst (λ (o : Option Running). (x : Running)
-    × (hears_if (is_lost (address_after w (Hear f ∷ H))) (λ a. is_replaced (holder H a) (holder (Hear f ∷ H) a)) f (clock_at H f.stamp) o ≡ Some x)
+    × (hears_if (is_lost (address_after w (Hear f ∷ H))) (λ a. is_replaced (holder w H a) (holder w (Hear f ∷ H) a)) f (clock_at H f.stamp) o ≡ Some x)
     × (x.sender ≡ (send_step t.sender (Heard f) (clock_at H f.stamp)).after))
     (sym e) (heard _ _ _ own held (ap (λ (b : Bool). b || is_spent t) here ∙ room))
   where
@@ -481,11 +481,11 @@ done_arises w = record {
         ])
 
     hearing : (H : List Call) (f : FrameRecord) (t : Running) → AreAnswered w H → open_transfer w H ≡ Some t
-        → (hears (is_lost (address_after w (Hear f ∷ H))) (is_replaced (holder H t.sender.destination) (holder (Hear f ∷ H) t.sender.destination)) f (clock_at H f.stamp) t).sender.state
+        → (hears (is_lost (address_after w (Hear f ∷ H))) (is_replaced (holder w H t.sender.destination) (holder w (Hear f ∷ H) t.sender.destination)) f (clock_at H f.stamp) t).sender.state
         ≡ sending.Done
         → (t.sender.state ≡ sending.Done) ⊎ Acknowledges w t.sender.destination t.sender.message H (Hear f)
     hearing H f t right e q =
-        heard H f t (is_lost (address_after w (Hear f ∷ H))) (is_replaced (holder H t.sender.destination) (holder (Hear f ∷ H) t.sender.destination)) (clock_at H f.stamp) right e q
+        heard H f t (is_lost (address_after w (Hear f ∷ H))) (is_replaced (holder w H t.sender.destination) (holder w (Hear f ∷ H) t.sender.destination)) (clock_at H f.stamp) right e q
 
 failed_arises : (w : Who) (r : ℕ) → Arises w (λ t. t.sender.state ≡ sending.Failed r) (Aborts w r)
 unfolding new_sender
@@ -506,11 +506,11 @@ failed_arises w r = record {
         (λ z q. elim (failed_heard t.sender f now r q) [ inl x ↦ inl x | inr x ↦ inr (said_own w H t f _ right e x) ])
 
     hearing : (H : List Call) (f : FrameRecord) (t : Running) → AreAnswered w H → open_transfer w H ≡ Some t
-        → (hears (is_lost (address_after w (Hear f ∷ H))) (is_replaced (holder H t.sender.destination) (holder (Hear f ∷ H) t.sender.destination)) f (clock_at H f.stamp) t).sender.state
+        → (hears (is_lost (address_after w (Hear f ∷ H))) (is_replaced (holder w H t.sender.destination) (holder w (Hear f ∷ H) t.sender.destination)) f (clock_at H f.stamp) t).sender.state
         ≡ sending.Failed r
         → (t.sender.state ≡ sending.Failed r) ⊎ Aborts w r t.sender.destination t.sender.message H (Hear f)
     hearing H f t right e q =
-        heard H f t (is_lost (address_after w (Hear f ∷ H))) (is_replaced (holder H t.sender.destination) (holder (Hear f ∷ H) t.sender.destination)) (clock_at H f.stamp) right e q
+        heard H f t (is_lost (address_after w (Hear f ∷ H))) (is_replaced (holder w H t.sender.destination) (holder w (Hear f ∷ H) t.sender.destination)) (clock_at H f.stamp) right e q
 
     aborts : (t : Running) (f : FrameRecord) (a : Signal) → message_of f ≡ says t.sender a → a ≡ Abort r t.sender.message.pgn
         → message_of f ≡ abort_move t.sender.destination t.sender.message r
@@ -530,21 +530,21 @@ failed_arises w r = record {
           | inr x ↦ inr (aborts t f a k (let y = sym (ticking t (clock_at H now) a z g) ∙ x in let v : a ≡ Abort r t.sender.message.pgn = cc in v))
         ])
 
-gone_arises : (w : Who) → Arises w (λ t. t.gone ≡ true) (λ to m. Replaces to)
+gone_arises : (w : Who) → Arises w (λ t. t.gone ≡ true) (λ to m. Replaces w to)
 gone_arises w = record {
   begins_not = λ token m to q. absurd (cc);
   by_hearing = λ H f t right e q.
-      heard H f t (is_lost (address_after w (Hear f ∷ H))) (is_replaced (holder H t.sender.destination) (holder (Hear f ∷ H) t.sender.destination)) (clock_at H f.stamp) refl q;
+      heard H f t (is_lost (address_after w (Hear f ∷ H))) (is_replaced (holder w H t.sender.destination) (holder w (Hear f ∷ H) t.sender.destination)) (clock_at H f.stamp) refl q;
   by_sending = λ H now f t a right e g k q. inl q;
 }
   where
     heard : (H : List Call) (f : FrameRecord) (t : Running) (lost replaced : Bool) (now : ℕ)
-        → is_replaced (holder H t.sender.destination) (holder (Hear f ∷ H) t.sender.destination) ≡ replaced → (hears lost replaced f now t).gone ≡ true
-        → (t.gone ≡ true) ⊎ Replaces t.sender.destination H (Hear f)
+        → is_replaced (holder w H t.sender.destination) (holder w (Hear f ∷ H) t.sender.destination) ≡ replaced → (hears lost replaced f now t).gone ≡ true
+        → (t.gone ≡ true) ⊎ Replaces w t.sender.destination H (Hear f)
     heard H f t true replaced now e = λ q. inl q
     heard H f t false true now e = λ q. inr e
     heard H f t false false now e = cond_both (t.gone || is_spent t) t (listens f now t)
-        (λ (u : Running). u.gone ≡ true → (t.gone ≡ true) ⊎ Replaces t.sender.destination H (Hear f)) (λ z q. inl q) (λ z q. inl q)
+        (λ (u : Running). u.gone ≡ true → (t.gone ≡ true) ⊎ Replaces w t.sender.destination H (Hear f)) (λ z q. inl q) (λ z q. inl q)
 
 of_token : (w : Who) (H : List Call) (c : Controller) (k : ℕ) (e : TransferEnding) (is : Is w (TakeTransferEnded (Some (k, e)) ∷ H) c) (x : Ended w H k e)
     → slice_get (all_transfers w H) k ≡ Some (x.running.sender.destination, x.running.sender.message)
@@ -571,13 +571,13 @@ failed_means w H c k r is =
     )
 
 pub gone_means : (w : Who) (H : List Call) (c : Controller) (k : ℕ) → Is w (TakeTransferEnded (Some (k, Gone)) ∷ H) c
-    → (to : ℕ) × (m : MessageRecord) × (slice_get (all_transfers w H) k ≡ Some (to, m)) × Happened (Replaces to) H
+    → (to : ℕ) × (m : MessageRecord) × (slice_get (all_transfers w H) k ≡ Some (to, m)) × Happened (Replaces w to) H
 gone_means w H c k is =
     let x = ended w H c k Gone is in (
       x.running.sender.destination,
       x.running.sender.message,
       of_token w H c k Gone is x,
-      traced w (λ t. t.gone ≡ true) (λ to m. Replaces to) (gone_arises w) H x.running is.answered.0 x.is (state_gone x.running.sender.state x.running.gone _ x.ending),
+      traced w (λ t. t.gone ≡ true) (λ to m. Replaces w to) (gone_arises w) H x.running is.answered.0 x.is (state_gone x.running.sender.state x.running.gone _ x.ending),
     )
 
 -- ---- an acknowledgment makes it done
@@ -647,7 +647,7 @@ stays_done : (w : Who) (token : ℕ) (later E : List Call) → NoneEnds later �
 stays_done w token [] E n h = h
 stays_done w token (Hear f ∷ later) E n h =
     let G = later ++ E in
-    done_hears token (is_lost (address_after w (Hear f ∷ G))) (λ a. is_replaced (holder G a) (holder (Hear f ∷ G) a)) f (clock_at G f.stamp) (open_transfer w G)
+    done_hears token (is_lost (address_after w (Hear f ∷ G))) (λ a. is_replaced (holder w G a) (holder w (Hear f ∷ G) a)) f (clock_at G f.stamp) (open_transfer w G)
     (stays_done w token later E n.1 h)
 stays_done w token (Ticks now ∷ later) E n h = stays_done w token later E n.1 h
 stays_done w token (TakeFrame now None ∷ later) E n h = stays_done w token later E n.1 h
@@ -686,7 +686,7 @@ pub is_done : (w : Who) (H later : List Call) (c : Controller) (f : FrameRecord)
     → Is w (TakeTransferEnded answer ∷ later ++ Hear f ∷ H) c → NoneEnds later → open_transfer w H ≡ Some t
     → IsTrue (is_waiting t.sender.state) → t.sender.highest ≡ packets_of t.sender.message → t.gone ≡ false → is_spent t ≡ false
     → is_lost (address_after w (Hear f ∷ H)) ≡ false
-    → is_replaced (holder H t.sender.destination) (holder (Hear f ∷ H) t.sender.destination) ≡ false
+    → is_replaced (holder w H t.sender.destination) (holder w (Hear f ∷ H) t.sender.destination) ≡ false
     → said_to t.sender f ≡ Some (Acknowledgment (length t.sender.message.bytes) (packets_of t.sender.message) t.sender.message.pgn)
     → answer ≡ Some (t.token, Done)
 is_done w H later c f t answer is n e waiting highest here room own held says =
@@ -703,7 +703,7 @@ is_done w H later c f t answer is n e waiting highest here room own held says =
     heard false false true p q r = absurd (cc)
 
     first : IsDone t.token (open_transfer w (Hear f ∷ H))
-    first = subst (λ (o : Option Running). IsDone t.token (hears_if (is_lost (address_after w (Hear f ∷ H))) (λ a. is_replaced (holder H a) (holder (Hear f ∷ H) a)) f (clock_at H f.stamp) o))
+    first = subst (λ (o : Option Running). IsDone t.token (hears_if (is_lost (address_after w (Hear f ∷ H))) (λ a. is_replaced (holder w H a) (holder w (Hear f ∷ H) a)) f (clock_at H f.stamp) o))
         (sym e) (heard _ _ _ own held (ap (λ (b : Bool). b || is_spent t) here ∙ room))
 
 -- ---- another holder makes it gone
@@ -751,7 +751,7 @@ stays_gone : (w : Who) (token : ℕ) (later E : List Call) → AreAnswered w (la
 stays_gone w token [] E r n h = h
 stays_gone w token (Hear f ∷ later) E r n h =
     let G = later ++ E in
-    gone_hears token (is_lost (address_after w (Hear f ∷ G))) (λ a. is_replaced (holder G a) (holder (Hear f ∷ G) a)) f (clock_at G f.stamp) (open_transfer w G)
+    gone_hears token (is_lost (address_after w (Hear f ∷ G))) (λ a. is_replaced (holder w G a) (holder w (Hear f ∷ G) a)) f (clock_at G f.stamp) (open_transfer w G)
     (stays_gone w token later E r.0 n.1 h)
 stays_gone w token (Ticks now ∷ later) E r n h = stays_gone w token later E r.0 n.1 h
 stays_gone w token (TakeFrame now None ∷ later) E r n h = stays_gone w token later E r.0 n.1 h
@@ -777,7 +777,7 @@ stays_gone w token (ReleaseBroadcast answer ∷ later) E r n h = stays_gone w to
 pub is_gone : (w : Who) (H later : List Call) (c : Controller) (f : FrameRecord) (t : Running) (answer : Option (ℕ × TransferEnding))
     → Is w (TakeTransferEnded answer ∷ later ++ Hear f ∷ H) c → NoneEnds later → open_transfer w H ≡ Some t → is_over t ≡ false
     → is_lost (address_after w (Hear f ∷ H)) ≡ false
-    → is_replaced (holder H t.sender.destination) (holder (Hear f ∷ H) t.sender.destination) ≡ true → answer ≡ Some (t.token, Gone)
+    → is_replaced (holder w H t.sender.destination) (holder w (Hear f ∷ H) t.sender.destination) ≡ true → answer ≡ Some (t.token, Gone)
 is_gone w H later c f t answer is n e going own left =
     let d = stays_gone w t.token later (Hear f ∷ H) is.answered.0 n first in
     is.answered.1 ∙ (ap (λ (o : Option Running). transfer_end o (is_lost (address_after w (later ++ Hear f ∷ H)))) d.is
@@ -802,7 +802,7 @@ is_gone w H later c f t answer is n e going own left =
     heard false true p q = record { running = record t { gone = true }; is = refl; token_is = refl; gone = refl; unended = second t.gone _ going }
 
     first : IsGone t.token (open_transfer w (Hear f ∷ H))
-    first = subst (λ (o : Option Running). IsGone t.token (hears_if (is_lost (address_after w (Hear f ∷ H))) (λ a. is_replaced (holder H a) (holder (Hear f ∷ H) a)) f (clock_at H f.stamp) o))
+    first = subst (λ (o : Option Running). IsGone t.token (hears_if (is_lost (address_after w (Hear f ∷ H))) (λ a. is_replaced (holder w H a) (holder w (Hear f ∷ H) a)) f (clock_at H f.stamp) o))
         (sym e) (heard _ _ own left)
 
 -- ---- where none is told

@@ -139,7 +139,7 @@ news_of false false true = Some MessagesMissed
 news_of false false false = None
 
 abbrev pub next_news : Who → List Call → Option News
-next_news w H = news_of (lost_news w H) (another_news w H) (missed_news w H || unheard_news H)
+next_news w H = news_of (lost_news w H) (another_news w H) (missed_news w H || unheard_news w H)
 
 -- a request to all is never acknowledged
 abbrev pub answer_to_acknowledge : Who → List Call → ℕ → Asked → Result (Unit {0}) Refused
@@ -166,7 +166,7 @@ IsAnswered w H (Transfer now group to bytes answer) = answer ≡ answer_to_trans
 IsAnswered w H (TakeTransferEnded answer) = answer ≡ next_transfer_ended w H
 IsAnswered w H (Ask now group to answer) = answer ≡ answer_to_ask w H now group to
 IsAnswered w H (TakeAskEnded answer) = answer ≡ next_ask_ended w H
-IsAnswered w H (ReleaseBroadcast answer) = answer ≡ not (has_place (waiting H))
+IsAnswered w H (ReleaseBroadcast answer) = answer ≡ not (has_place (waiting w H))
 IsAnswered w H call = Unit {0}
 
 abbrev pub AreAnswered : Who → List Call → Type 0
@@ -184,8 +184,9 @@ status_after w H = status_of w (address_after w H)
 
 -- ---- the controller that it leads to
 
-abbrev pub who_of : Own → Who
-who_of own = record { name = name_raw own.name; address = own.address; served = own.served.items }
+-- what it knew before is no part of the code's state
+abbrev pub who_of : List FrameRecord → Own → Who
+who_of known own = record { name = name_raw own.name; address = own.address; served = own.served.items; known = known }
 
 abbrev pub hold_after : Who → List Call → Hold
 hold_after w H = record {
@@ -327,7 +328,7 @@ abbrev pub asking_after : Who → List Call → Option AskRecord
 asking_after w H = asked_by (open_ask H) (length (sent H)) (ended w H)
 
 abbrev pub news_after : Who → List Call → Untold
-news_after w H = record { lost = lost_news w H; another = another_news w H; missed = missed_news w H || unheard_news H }
+news_after w H = record { lost = lost_news w H; another = another_news w H; missed = missed_news w H || unheard_news w H }
 
 abbrev pub posted : Outgoing → ℕ × Message
 posted x = (x.token, carried (id_raw x.id) x.bytes.items)
@@ -376,8 +377,8 @@ broadcast_by x = record {
 abbrev pub hearing_of : Hearing → HearingRecord
 hearing_of x = record { current = option_map broadcast_by x.current; missed = x.missed }
 
-abbrev pub hearing_after : List Call → HearingRecord
-hearing_after H = record { current = hearing H; missed = min (unheard H) 18446744073709551615 }
+abbrev pub hearing_after : Who → List Call → HearingRecord
+hearing_after w H = record { current = hearing w H; missed = min (unheard w H) 18446744073709551615 }
 
 -- a packet of this source is one of it, and comes too late
 abbrev pub is_out : ℕ → ℕ → Option OpenBroadcast → Bool
@@ -386,7 +387,7 @@ is_out now source (Some x) = not (is_whole x || not (nat_eq source x.source)) &&
 
 -- c was made for w and called as H says
 pub record Is (w : Who) (H : List Call) (c : Controller) : Type 0 where
-  pub who : who_of c.own ≡ w
+  pub who : who_of w.known c.own ≡ w
   pub answered : AreAnswered w H
   pub hold : c.hold ≡ hold_after w H
   pub outgoing : map posted c.outgoing.items ≡ drop (length (told H)) (accepted w H)
@@ -397,9 +398,9 @@ pub record Is (w : Who) (H : List Call) (c : Controller) : Type 0 where
   pub requests : map request_by c.desk.waiting.items ≡ drop (length (handed H)) (requests w H)
   pub acknowledgments : map (refusal_by w) c.desk.due.items ≡ drop (length (acknowledged H)) (due w H)
   pub news : c.news ≡ news_after w H
-  pub holders : Knows c.holders (told_claims H)
+  pub holders : Knows c.holders (told_claims w H)
   pub missed : c.inbox.missed ≡ min (missed w H) 18446744073709551615
   pub lane : lane_of w c.lane ≡ lane_after w H
   pub incoming : incoming_of c.incoming ≡ incoming_after w H
   pub port : port_of c.transfers ≡ port_after w H
-  pub hearing : hearing_of c.hearing ≡ hearing_after H
+  pub hearing : hearing_of c.hearing ≡ hearing_after w H

@@ -13,6 +13,8 @@ pub mod Moves
 pub mod Asking
 -- the histories that a controller can have had
 pub mod Is
+-- moving to another address
+pub mod Moving
 -- the code's steps, below the definitions
 pub mod Hold
 -- a history

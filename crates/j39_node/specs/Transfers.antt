@@ -124,7 +124,7 @@ sends_if false now x = x
 abbrev pub open_transfer : Who → List Call → Option Running
 open_transfer w [] = None
 open_transfer w (Hear f ∷ H) =
-    hears_if (is_lost (address_after w (Hear f ∷ H))) (λ a. is_replaced (holder H a) (holder (Hear f ∷ H) a)) f
+    hears_if (is_lost (address_after w (Hear f ∷ H))) (λ a. is_replaced (holder w H a) (holder w (Hear f ∷ H) a)) f
     (clock_at H f.stamp) (open_transfer w H)
 open_transfer w (TakeFrame now (Some f) ∷ H) = sends_if (is_move w H f) (clock_at H now) (open_transfer w H)
 open_transfer w (Transfer now group to bytes (Ok token) ∷ H) = Some (begun token (broadcast_from w group bytes) to)

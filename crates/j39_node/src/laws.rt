@@ -140,10 +140,10 @@ pub fn quiet_till_due()
 /// sends from it; that messages were missed, of which there then are some.
 pub fn news()
     ensures none { (w : Who) (H : List Call) (c : Controller) → Is w (TakeNews None ∷ H) c
-        → (lost_news w H ≡ false) × (another_news w H ≡ false) × ((missed_news w H || unheard_news H) ≡ false) }
+        → (lost_news w H ≡ false) × (another_news w H ≡ false) × ((missed_news w H || unheard_news w H) ≡ false) }
     ensures told { (w : Who) (H : List Call) (c : Controller) (n : News) → Is w (TakeNews (Some n) ∷ H) c
         → ((n ≡ news.AddressLost) × IsTrue (lost_news w H)) ⊎ ((n ≡ news.AnotherAtAddress) × IsTrue (another_news w H))
-        ⊎ ((n ≡ news.MessagesMissed) × IsTrue (missed_news w H || unheard_news H)) }
+        ⊎ ((n ≡ news.MessagesMissed) × IsTrue (missed_news w H || unheard_news w H)) }
     ensures lost { (w : Who) (H : List Call) → IsTrue (lost_news w H) → IsTrue (is_lost (address_after w H)) }
     ensures missed { (w : Who) (H : List Call) → IsTrue (missed_news w H) → 0 < missed w H }
 {}
@@ -314,7 +314,7 @@ pub fn strangers()
     ensures to_others { (w : Who) (H : List Call) (f : FrameRecord) → claim_of f ≡ None → destination_of f.id ≢ Some w.address
         → reception w (Hear f ∷ H) ≡ reception w H }
     ensures from_others { (w : Who) (H : List Call) (f : FrameRecord) (r : ReceptionRecord)
-        → is_lost (address_after w (Hear f ∷ H)) ≡ false → holder (Hear f ∷ H) r.message.source ≡ holder H r.message.source
+        → is_lost (address_after w (Hear f ∷ H)) ≡ false → holder w (Hear f ∷ H) r.message.source ≡ holder w H r.message.source
         → (reception w H).session ≡ Some r → source_of f.id ≢ r.message.source → (reception w (Hear f ∷ H)).session ≡ Some r }
 {}
 

@@ -69,7 +69,7 @@ pub fn moves_mean()
         → clears w H ≤ packets_of t.sender.message + 65 }
     ensures hears { (w : Who) (H : List Call) (f : FrameRecord) (t : Running) → open_transfer w H ≡ Some t
         → is_lost (address_after w (Hear f ∷ H)) ≡ false
-        → is_replaced (holder H t.sender.destination) (holder (Hear f ∷ H) t.sender.destination) ≡ false
+        → is_replaced (holder w H t.sender.destination) (holder w (Hear f ∷ H) t.sender.destination) ≡ false
         → t.gone ≡ false → is_spent t ≡ false
         → (x : Running) × (open_transfer w (Hear f ∷ H) ≡ Some x)
         × (x.sender ≡ (send_step t.sender (Heard f) (clock_at H f.stamp)).after) }
@@ -94,7 +94,7 @@ pub fn transfer_done_means()
         → Is w (TakeTransferEnded answer ∷ later ++ Hear f ∷ H) c → NoneEnds later → open_transfer w H ≡ Some t
         → IsTrue (is_waiting t.sender.state) → t.sender.highest ≡ packets_of t.sender.message → t.gone ≡ false → is_spent t ≡ false
         → is_lost (address_after w (Hear f ∷ H)) ≡ false
-        → is_replaced (holder H t.sender.destination) (holder (Hear f ∷ H) t.sender.destination) ≡ false
+        → is_replaced (holder w H t.sender.destination) (holder w (Hear f ∷ H) t.sender.destination) ≡ false
         → said_to t.sender f
         ≡ Some (Acknowledgment (length t.sender.message.bytes) (packets_of t.sender.message) t.sender.message.pgn)
         → answer ≡ Some (t.token, ending.Done) }
@@ -103,16 +103,16 @@ pub fn transfer_done_means()
         → (to : ℕ) × (m : MessageRecord) × (slice_get (transfers w H) k ≡ Some (to, m)) × Happened (Aborts w reason to m) H }
     ensures gone { (w : Who) (H : List Call) (c : Controller) (k : ℕ)
         → Is w (TakeTransferEnded (Some (k, ending.Gone)) ∷ H) c
-        → (to : ℕ) × (m : MessageRecord) × (slice_get (transfers w H) k ≡ Some (to, m)) × Happened (Replaces to) H }
+        → (to : ℕ) × (m : MessageRecord) × (slice_get (transfers w H) k ≡ Some (to, m)) × Happened (Replaces w to) H }
     ensures replaced { (w : Who) (H later : List Call) (c : Controller) (f : FrameRecord) (t : Running) (answer : Option (ℕ × TransferEnding))
         → Is w (TakeTransferEnded answer ∷ later ++ Hear f ∷ H) c → NoneEnds later → open_transfer w H ≡ Some t → is_over t ≡ false
         → is_lost (address_after w (Hear f ∷ H)) ≡ false
-        → is_replaced (holder H t.sender.destination) (holder (Hear f ∷ H) t.sender.destination) ≡ true
+        → is_replaced (holder w H t.sender.destination) (holder w (Hear f ∷ H) t.sender.destination) ≡ true
         → answer ≡ Some (t.token, ending.Gone) }
     ensures withdrawn { (w : Who) (H : List Call) (c : Controller) (k : ℕ)
         → Is w (TakeTransferEnded (Some (k, ending.Withdrawn)) ∷ H) c → IsTrue (is_lost (address_after w H)) }
     ensures all { (w : Who) (H : List Call) (c : Controller) → Is w (TakeTransferEnded None ∷ H) c
         → (length (told_transfers H) ≡ length (transfers w H))
         ⊎ ((t : Running) × (open_transfer w H ≡ Some t) × (is_over t ≡ false) × (IsTrue (is_lost (address_after w H)) → ⊥)) }
-    ensures holder { (H : List Call) (a : ℕ) → IsHolderAfter (claims_of (told_claims H)) a (holder H a) }
+    ensures holder { (w : Who) (H : List Call) (a : ℕ) → IsHolderAfter (claims_of (told_claims w H)) a (holder w H a) }
 {}

@@ -1,5 +1,5 @@
 //! Messages that are sent to one address in packets (J1939-21, 5.10.3).
-ghost use Rattle.std.specs.Prelude.{◌≡◌, ◌<◌, ◌↔◌, ◌||◌, ℕ, List, length, nat_eq, None, Some, Option, IsSome, IfSome, Bool, true, false, not, if◌then◌else◌};
+ghost use Rattle.std.specs.Prelude.{◌≡◌, ◌<◌, ◌↔◌, ◌||◌, ℕ, List, length, nat_eq, None, Some, Option, IsSome, IfSome, Bool, true, false, not, if◌then◌else◌, []};
 ghost use Rattle.std.specs.Option.{option_map};
 ghost use Rattle.j39_frame.specs.Pgn.{pgn_raw};
 ghost use Rattle.j39_frame.specs.Stamp.{stamp_micros};
@@ -39,9 +39,9 @@ impl Open {
 
     /// A message that is to be sent to an address; `None` where it can't be.
     pub(crate) fn new(token: u64, own: &Own, group: Pgn, to: u8, bytes: &[u8]) -> Option<Open>
-        ensures known { IsSome result ↔ (can_transfer (who_of own.now) (pgn_raw group) to bytes.now ≡ true) }
+        ensures known { IsSome result ↔ (can_transfer (who_of [] own.now) (pgn_raw group) to bytes.now ≡ true) }
         ensures value { IfSome result (λ x. running x
-            ≡ begun token (broadcast_from (who_of own.now) (pgn_raw group) bytes.now) to) }
+            ≡ begun token (broadcast_from (who_of [] own.now) (pgn_raw group) bytes.now) to) }
     {
         if !is_sendable(group) || to >= NULL_ADDRESS || to == own.address {
             return None;
