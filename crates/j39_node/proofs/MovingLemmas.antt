@@ -1,10 +1,9 @@
 -- When a controller may move, by what it has; and what it is then.
-use Rattle.std.proofs.Common.{◌≡◌, ◌↔◌, ℕ, ◌-◌, ◌≤◌, ◌<◌, ◌≢◌, List, [], ◌∷◌, length, map, drop, min, Option, Some, None, Bool, true, false, not, ◌&&◌, ◌||◌, nat_eq, refl, sym, ap, ◌∙◌, subst, arith, eq-eqb, eqb-true}
+use Rattle.std.proofs.Common.{◌≡◌, ℕ, ◌-◌, ◌≤◌, ◌<◌, ◌≢◌, List, [], ◌∷◌, length, map, Option, Some, None, Bool, true, false, not, ◌&&◌, ◌||◌, nat_eq, refl, sym, ap, ◌∙◌, subst, arith, eq-eqb, eqb-true}
 use Rattle.std.proofs.lemmas.Bool.{and_parts, and_from}
 use Rattle.std.specs.Option.{is_some, option_map}
 use Rattle.j39_node.specs.declared.controller.Controller.{Controller}
 use Rattle.j39_node.specs.declared.news.Untold.{Untold}
-use Rattle.j39_node.specs.declared.hold.Hold.{Hold}
 use Rattle.j39_node.specs.declared.hold.Standing.TheVariants as standing
 use Rattle.j39_address.specs.Claim.{Claim}
 use Rattle.j39_address.specs.Claims.{Knows, holder_in}
@@ -17,12 +16,12 @@ use Rattle.j39_node.specs.History.{Who, Call, accepted, got, handed, kept, open_
 use Rattle.j39_node.specs.Reception.{has_place, no_reception, reception}
 use Rattle.j39_node.specs.Hearing.{waiting, whole_of}
 use Rattle.j39_node.specs.Transfers.{open_transfer}
-use Rattle.j39_node.specs.Asking.{Question, open_ask}
+use Rattle.j39_node.specs.Asking.{Question}
 use Rattle.j39_node.specs.declared.kinds.AskEnding.{AskEnding}
-use Rattle.j39_node.specs.Is.{AskRecord, HearingRecord, IncomingRecord, Is, LaneRecord, PortRecord, asked_by, asking_of, hearing_of, incoming_of, lane_of, news_of, next_news, port_of, posted, received_by, refusal_by, request_by, running}
+use Rattle.j39_node.specs.Is.{HearingRecord, IncomingRecord, Is, LaneRecord, PortRecord, asked_by, asking_of, hearing_of, incoming_of, lane_of, news_of, next_news, port_of, posted, received_by, refusal_by, request_by, running}
 use Rattle.j39_node.specs.Moving.{IsSettled, has_given, has_told, moved}
 use Rattle.j39_node.proofs.QueueLemmas.{length_rest}
-use Rattle.j39_node.proofs.SoundLemmas.{Sound, front_length, read, sound}
+use Rattle.j39_node.proofs.SoundLemmas.{front_length, read, sound}
 
 -- ---- free addresses
 

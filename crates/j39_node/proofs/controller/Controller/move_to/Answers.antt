@@ -1,6 +1,6 @@
 use Rattle.std.proofs.Common.{◌∙◌, ap, sym, refl}
 use Rattle.j39_node.specs.Is.{IncomingRecord, hearing_of}
-use Rattle.j39_node.proofs.MovingLemmas.{begins_anew, settled, settles}
+use Rattle.j39_node.proofs.MovingLemmas.{begins_anew, settles}
 use Rattle.j39_node.proofs.controller.Controller.move_to.Goals as goal
 
 pub returns-clause-known : goal.returns-clause-known

@@ -1,0 +1,22 @@
+//! Laws of a driver that is prompt: what was accepted ends.
+ghost use Rattle.std.specs.Prelude.{◌≡◌, ◌+◌, ◌*◌, ◌<◌, ◌++◌, ℕ, List, ◌∷◌, Some, Ok};
+ghost use Rattle.j39_transport.specs.Message.{packets_of};
+ghost use Rattle.j39_transport.specs.Protocol.{gap};
+ghost use Rattle.j39_node.specs.declared.controller.Controller.{Controller};
+ghost use Rattle.j39_node.specs.declared.kinds.Ending.{Ending};
+ghost use Rattle.j39_node.specs.History.{Who, Call, broadcast_from};
+ghost use Rattle.j39_node.specs.History.Call.{Broadcast};
+ghost use Rattle.j39_node.specs.Is.{Is, next_broadcast_ended};
+ghost use Rattle.j39_node.specs.Prompt.{IsPrompt, NoneTold, tells_broadcast};
+ghost use Rattle.j39_node.specs.Since.{passed_in};
+
+/// A broadcast of n packets ends: where the driver is prompt by g microseconds since its acceptance, and more than
+/// (n + 1) * (50 ms + g) passed, `take_broadcast_ended` would tell its end, unless it told it before. Nothing else that is
+/// sent or heard lengthens this.
+pub fn broadcast_ends()
+    ensures { (w : Who) (later earlier : List Call) (c : Controller) (g now group k : ℕ) (bytes : List ℕ)
+        → Is w (later ++ Broadcast now group bytes (Ok k) ∷ earlier) c → NoneTold tells_broadcast later
+        → IsPrompt g later (Broadcast now group bytes (Ok k) ∷ earlier)
+        → (packets_of (broadcast_from w group bytes) + 1) * (gap + g) < passed_in later (Broadcast now group bytes (Ok k) ∷ earlier)
+        → (e : Ending) × (next_broadcast_ended w (later ++ Broadcast now group bytes (Ok k) ∷ earlier) ≡ Some (k, e)) }
+{}
