@@ -47,4 +47,6 @@ pub mod MovingLemmas
 -- the laws of a driver that is prompt
 pub mod PromptView
 pub mod PromptLaws
+pub mod EndSteps
+pub mod EndLaws
 pub mod KnownLemmas

@@ -161,7 +161,7 @@ last_same told all new old e s h = record {
   count = ap suc e ∙ h.count;
 }
 
-hears_token : (lost replaced : Bool) (f : FrameRecord) (now : ℕ) (t : Running) → (hears lost replaced f now t).token ≡ t.token
+pub hears_token : (lost replaced : Bool) (f : FrameRecord) (now : ℕ) (t : Running) → (hears lost replaced f now t).token ≡ t.token
 hears_token true replaced f now t = refl
 hears_token false true f now t = refl
 hears_token false false f now t = cond_both (t.gone || is_spent t) t (listens f now t) (λ (u : Running). u.token ≡ t.token) (λ z. refl) (λ z. refl)

@@ -185,13 +185,13 @@ gives_up_so w H c now f t is p e g =
 
 -- ---- how many clears to send it takes
 
-record Budgeted (t : Running) (n : ℕ) : Type 0 where
+pub record Budgeted (t : Running) (n : ℕ) : Type 0 where
   pub count : n ≤ t.granted + t.spent
   pub granted : t.granted ≤ packets_of t.sender.message
   pub spent : t.spent ≤ 65
   pub heard : t.spent ≤ n
 
-abbrev BudgetedIf : Option Running → ℕ → Type 0
+abbrev pub BudgetedIf : Option Running → ℕ → Type 0
 BudgetedIf None n = Unit {0}
 BudgetedIf (Some t) n = Budgeted t n
 
@@ -263,7 +263,7 @@ budget_sends true now (Some t) n h = record {
   heard = h.heard;
 }
 
-budgeted : (w : Who) (H : List Call) → BudgetedIf (open_transfer w H) (clears w H)
+pub budgeted : (w : Who) (H : List Call) → BudgetedIf (open_transfer w H) (clears w H)
 budgeted w [] = tt
 budgeted w (Hear f ∷ H) =
     budget_hears_if (is_lost (address_after w (Hear f ∷ H))) (λ a. is_replaced (holder w H a) (holder w (Hear f ∷ H) a)) f (clock_at H f.stamp) (open_transfer w H)

@@ -1,13 +1,15 @@
 //! Laws of a driver that is prompt: what was accepted ends.
 ghost use Rattle.std.specs.Prelude.{◌≡◌, ◌+◌, ◌*◌, ◌<◌, ◌++◌, ℕ, List, ◌∷◌, Some, Ok};
 ghost use Rattle.j39_transport.specs.Message.{packets_of};
-ghost use Rattle.j39_transport.specs.Protocol.{gap};
+ghost use Rattle.j39_transport.specs.Protocol.{gap, timer_t3};
 ghost use Rattle.j39_node.specs.declared.controller.Controller.{Controller};
 ghost use Rattle.j39_node.specs.declared.kinds.Ending.{Ending};
+ghost use Rattle.j39_node.specs.declared.kinds.TransferEnding.{TransferEnding};
 ghost use Rattle.j39_node.specs.History.{Who, Call, broadcast_from};
-ghost use Rattle.j39_node.specs.History.Call.{Broadcast};
+ghost use Rattle.j39_node.specs.History.Call.{Broadcast, Transfer};
 ghost use Rattle.j39_node.specs.Is.{Is, next_broadcast_ended};
-ghost use Rattle.j39_node.specs.Prompt.{IsPrompt, NoneTold, tells_broadcast};
+ghost use Rattle.j39_node.specs.Transfers.{next_transfer_ended};
+ghost use Rattle.j39_node.specs.Prompt.{IsPrompt, NoneTold, tells_broadcast, tells_transfer};
 ghost use Rattle.j39_node.specs.Since.{passed_in};
 
 /// A broadcast of n packets ends: where the driver is prompt by g microseconds since its acceptance, and more than
@@ -19,4 +21,16 @@ pub fn broadcast_ends()
         → IsPrompt g later (Broadcast now group bytes (Ok k) ∷ earlier)
         → (packets_of (broadcast_from w group bytes) + 1) * (gap + g) < passed_in later (Broadcast now group bytes (Ok k) ∷ earlier)
         → (e : Ending) × (next_broadcast_ended w (later ++ Broadcast now group bytes (Ok k) ∷ earlier) ≡ Some (k, e)) }
+{}
+
+/// A transfer of n packets ends, whatever its destination answers: where the driver is prompt by g microseconds since its
+/// acceptance (g below a million seconds), and more than (n + 65) * (T3 + g) + g passed, `take_transfer_ended` would tell its
+/// end, unless it told it before. T3 is 1,250 ms; 64 clears to send may grant nothing new.
+pub fn transfer_ends()
+    ensures { (w : Who) (later earlier : List Call) (c : Controller) (g now group to k : ℕ) (bytes : List ℕ)
+        → Is w (later ++ Transfer now group to bytes (Ok k) ∷ earlier) c → NoneTold tells_transfer later
+        → IsPrompt g later (Transfer now group to bytes (Ok k) ∷ earlier) → g < 1000000000000
+        → (packets_of (broadcast_from w group bytes) + 65) * (timer_t3 + g) + g
+        < passed_in later (Transfer now group to bytes (Ok k) ∷ earlier)
+        → (e : TransferEnding) × (next_transfer_ended w (later ++ Transfer now group to bytes (Ok k) ∷ earlier) ≡ Some (k, e)) }
 {}
