@@ -49,4 +49,5 @@ pub mod PromptView
 pub mod PromptLaws
 pub mod EndSteps
 pub mod EndLaws
+pub mod MessageLaws
 pub mod KnownLemmas

@@ -1,13 +1,15 @@
 -- What a call does to what is sent in packets, and to the time.
-use Rattle.std.proofs.Common.{◌≡◌, ℕ, ◌+◌, ◌-◌, List, ◌∷◌, ◌++◌, Some, None, Ok, Err, true, nat_le, refl, arith, ◌∙◌}
+use Rattle.std.proofs.Common.{◌≡◌, ℕ, ◌+◌, ◌-◌, ◌≤◌, List, length, Result, ◌∷◌, ◌++◌, Some, None, Ok, Err, true, nat_le, refl, arith, ◌∙◌}
 use Rattle.j39_frame.specs.Frame.{FrameRecord}
 use Rattle.j39_node.specs.declared.kinds.Ending.{Ending}
 use Rattle.j39_node.specs.declared.kinds.TransferEnding.{TransferEnding}
-use Rattle.j39_node.specs.History.{Who, Call, Address, address_after, is_held, is_lost, moment, older, open_broadcast, packets, pause, sent, step}
+use Rattle.j39_node.specs.History.{Who, Draft, Call, Address, accepted, address_after, is_held, is_lost, message_from, moment, older, open_broadcast, packets, pause, request_for, sent, step}
 use Rattle.j39_node.specs.History.Address.{NotClaimed, Claimed, Lost}
 use Rattle.j39_node.specs.History.Call.{Ask, TakeAskEnded, Hear, Tick, TakeFrame, Send, TakeEnded, TakeReceived, TakeRequest, TakeNews, Acknowledge, Broadcast, TakeBroadcastEnded, ReleaseTransfer, Transfer, TakeTransferEnded, ReleaseBroadcast}
 use Rattle.j39_node.specs.Prompt.{waited_in}
 use Rattle.j39_node.specs.Transfers.{age, open_transfer}
+use Rattle.j39_node.specs.declared.kinds.Refused.{Refused}
+use Rattle.j39_node.proofs.QueueLemmas.{length_one_more}
 use Rattle.j39_node.proofs.SoundLemmas.{lost_older}
 
 pub held_older : (s : ℕ) (a : Address) → is_held a ≡ true → is_held (older s a) ≡ true
@@ -24,6 +26,14 @@ stands_still n m = omega arith
 pub ages_none : (n m : ℕ) → n ≡ n + (m - m)
 ages_none n m = omega arith
 
+sends_more : (w : Who) (H : List Call) (now : ℕ) (d : Draft) (answer : Result ℕ Refused) → length (accepted w H) ≤ length (accepted w (Send now d answer ∷ H))
+sends_more w H now d (Ok k) = let e = length_one_more (accepted w H) (k, message_from w d) in omega (arith, e)
+sends_more w H now d (Err r) = omega arith
+
+asks_more : (w : Who) (H : List Call) (now group to : ℕ) (answer : Result ℕ Refused) → length (accepted w H) ≤ length (accepted w (Ask now group to answer ∷ H))
+asks_more w H now group to (Ok k) = let e = length_one_more (accepted w H) (k, message_from w (request_for group to)) in omega (arith, e)
+asks_more w H now group to (Err r) = omega arith
+
 -- it takes no frame, accepts and tells nothing in packets, and hears nothing
 pub record Quiet (call : Call) : Type 0 where
   pub pause_is : (H : List Call) → pause (call ∷ H) ≡ pause H - step H (moment (call ∷ H))
@@ -31,6 +41,7 @@ pub record Quiet (call : Call) : Type 0 where
   pub broadcast : (w : Who) (H : List Call) → open_broadcast w (call ∷ H) ≡ open_broadcast w H
   pub transfer : (w : Who) (H : List Call) → open_transfer w (call ∷ H) ≡ open_transfer w H
   pub sent_is : (H : List Call) → sent (call ∷ H) ≡ sent H
+  pub accepts : (w : Who) (H : List Call) → length (accepted w H) ≤ length (accepted w (call ∷ H))
   pub age_is : (H : List Call) → age (call ∷ H) ≡ age H + step H (moment (call ∷ H))
   pub held : (w : Who) (H : List Call) → is_held (address_after w H) ≡ true → is_held (address_after w (call ∷ H)) ≡ true
   pub lost : (w : Who) (H : List Call) → is_lost (address_after w H) ≡ true → is_lost (address_after w (call ∷ H)) ≡ true
@@ -60,6 +71,7 @@ view (Tick now) = at_rest (Tick now) (record {
   broadcast = λ w H. refl;
   transfer = λ w H. refl;
   sent_is = λ H. refl;
+  accepts = λ w H. omega arith;
   age_is = λ H. refl;
   held = λ w H e. held_older (step H now) (address_after w H) e;
   lost = λ w H e. lost_older (step H now) (address_after w H) ∙ e;
@@ -71,6 +83,7 @@ view (Send now draft answer) = at_rest (Send now draft answer) (record {
   broadcast = λ w H. refl;
   transfer = λ w H. refl;
   sent_is = λ H. refl;
+  accepts = λ w H. sends_more w H now draft answer;
   age_is = λ H. refl;
   held = λ w H e. held_older (step H now) (address_after w H) e;
   lost = λ w H e. lost_older (step H now) (address_after w H) ∙ e;
@@ -82,6 +95,7 @@ view (Ask now group to answer) = at_rest (Ask now group to answer) (record {
   broadcast = λ w H. refl;
   transfer = λ w H. refl;
   sent_is = λ H. refl;
+  accepts = λ w H. asks_more w H now group to answer;
   age_is = λ H. refl;
   held = λ w H e. held_older (step H now) (address_after w H) e;
   lost = λ w H e. lost_older (step H now) (address_after w H) ∙ e;
@@ -93,6 +107,7 @@ view (Acknowledge now r answer result) = at_rest (Acknowledge now r answer resul
   broadcast = λ w H. refl;
   transfer = λ w H. refl;
   sent_is = λ H. refl;
+  accepts = λ w H. omega arith;
   age_is = λ H. refl;
   held = λ w H e. held_older (step H now) (address_after w H) e;
   lost = λ w H e. lost_older (step H now) (address_after w H) ∙ e;
@@ -104,6 +119,7 @@ view (Broadcast now group bytes (Err r)) = at_rest (Broadcast now group bytes (E
   broadcast = λ w H. refl;
   transfer = λ w H. refl;
   sent_is = λ H. refl;
+  accepts = λ w H. omega arith;
   age_is = λ H. refl;
   held = λ w H e. held_older (step H now) (address_after w H) e;
   lost = λ w H e. lost_older (step H now) (address_after w H) ∙ e;
@@ -115,6 +131,7 @@ view (Transfer now group to bytes (Err r)) = at_rest (Transfer now group to byte
   broadcast = λ w H. refl;
   transfer = λ w H. refl;
   sent_is = λ H. refl;
+  accepts = λ w H. omega arith;
   age_is = λ H. refl;
   held = λ w H e. held_older (step H now) (address_after w H) e;
   lost = λ w H e. lost_older (step H now) (address_after w H) ∙ e;
@@ -126,6 +143,7 @@ view (TakeEnded answer) = at_rest (TakeEnded answer) (record {
   broadcast = λ w H. refl;
   transfer = λ w H. refl;
   sent_is = λ H. refl;
+  accepts = λ w H. omega arith;
   age_is = λ H. ages_none (age H) (moment H);
   held = λ w H e. e;
   lost = λ w H e. e;
@@ -137,6 +155,7 @@ view (TakeAskEnded answer) = at_rest (TakeAskEnded answer) (record {
   broadcast = λ w H. refl;
   transfer = λ w H. refl;
   sent_is = λ H. refl;
+  accepts = λ w H. omega arith;
   age_is = λ H. ages_none (age H) (moment H);
   held = λ w H e. e;
   lost = λ w H e. e;
@@ -148,6 +167,7 @@ view (TakeReceived answer) = at_rest (TakeReceived answer) (record {
   broadcast = λ w H. refl;
   transfer = λ w H. refl;
   sent_is = λ H. refl;
+  accepts = λ w H. omega arith;
   age_is = λ H. ages_none (age H) (moment H);
   held = λ w H e. e;
   lost = λ w H e. e;
@@ -159,6 +179,7 @@ view (TakeRequest answer) = at_rest (TakeRequest answer) (record {
   broadcast = λ w H. refl;
   transfer = λ w H. refl;
   sent_is = λ H. refl;
+  accepts = λ w H. omega arith;
   age_is = λ H. ages_none (age H) (moment H);
   held = λ w H e. e;
   lost = λ w H e. e;
@@ -170,6 +191,7 @@ view (TakeNews answer) = at_rest (TakeNews answer) (record {
   broadcast = λ w H. refl;
   transfer = λ w H. refl;
   sent_is = λ H. refl;
+  accepts = λ w H. omega arith;
   age_is = λ H. ages_none (age H) (moment H);
   held = λ w H e. e;
   lost = λ w H e. e;
@@ -181,6 +203,7 @@ view (TakeBroadcastEnded None) = at_rest (TakeBroadcastEnded None) (record {
   broadcast = λ w H. refl;
   transfer = λ w H. refl;
   sent_is = λ H. refl;
+  accepts = λ w H. omega arith;
   age_is = λ H. ages_none (age H) (moment H);
   held = λ w H e. e;
   lost = λ w H e. e;
@@ -192,6 +215,7 @@ view (TakeTransferEnded None) = at_rest (TakeTransferEnded None) (record {
   broadcast = λ w H. refl;
   transfer = λ w H. refl;
   sent_is = λ H. refl;
+  accepts = λ w H. omega arith;
   age_is = λ H. ages_none (age H) (moment H);
   held = λ w H e. e;
   lost = λ w H e. e;
@@ -203,6 +227,7 @@ view (ReleaseTransfer answer) = at_rest (ReleaseTransfer answer) (record {
   broadcast = λ w H. refl;
   transfer = λ w H. refl;
   sent_is = λ H. refl;
+  accepts = λ w H. omega arith;
   age_is = λ H. ages_none (age H) (moment H);
   held = λ w H e. e;
   lost = λ w H e. e;
@@ -214,6 +239,7 @@ view (ReleaseBroadcast answer) = at_rest (ReleaseBroadcast answer) (record {
   broadcast = λ w H. refl;
   transfer = λ w H. refl;
   sent_is = λ H. refl;
+  accepts = λ w H. omega arith;
   age_is = λ H. ages_none (age H) (moment H);
   held = λ w H e. e;
   lost = λ w H e. e;
