@@ -313,12 +313,10 @@ impl Controller {
             return None;
         }
         if !self.desk.due.is_empty() {
-            let due = self.desk.due.remove(0);
-            return self.own.acknowledgment(&due, now);
+            return self.own.acknowledgment(&self.desk.due.remove(0), now);
         }
         if !self.incoming.replies.is_empty() {
-            let reply = self.incoming.replies.remove(0);
-            return reply.frame(self.own.address, now);
+            return self.incoming.replies.remove(0).frame(self.own.address, now);
         }
         match self.outgoing.as_slice().get(self.taken) {
             Some(next) => {
