@@ -18,7 +18,7 @@ use Rattle.j39_node.specs.Is.{AreAnswered, Is, IsAnswered, long_by, next_frame, 
 use Rattle.j39_node.specs.Prompt.{IsPrompt, NoneTold, tells_transfer, waited_in}
 use Rattle.j39_node.specs.Reception.{holder, is_move}
 use Rattle.j39_node.specs.Since.{passed_in}
-use Rattle.j39_node.specs.Transfers.{Running, age, begun, broken_off, can_transfer, clock_at, ending_by, gives_up, granted_after, hears, hears_if, is_engaged, is_replaced, is_spent, listens, next_transfer, next_transfer_ended, open_transfer, said_to, says, sends, sends_if, signal_by, spent_after, transfer_by, transfer_end, transfers as all_transfers}
+use Rattle.j39_node.specs.Transfers.{Running, age, begun, broken_off, can_transfer, clock_at, ending_by, gives_up, granted_after, hears, hears_if, is_engaged, is_replaced, is_resting, is_spent, listens, next_transfer, next_transfer_ended, open_transfer, said_to, says, sends, sends_if, signal_by, spent_after, transfer_by, transfer_end, transfers as all_transfers}
 use Rattle.j39_node.specs.Moves.{clears}
 use Rattle.j39_node.proofs.EndSteps.{HeardCase, IsEnded, Timely, accepted_now, heard_case, heard_timely, most, none_timely, passes, ticked_timely, times_more}
 use Rattle.j39_node.proofs.EndSteps.HeardCase.{same, ends, holds as holds_on, clears as is_cleared}
@@ -325,7 +325,7 @@ module _ (w : Who) (B : List Call) (g k : ℕ) (m : MessageRecord) (few : packet
   none_begins later now group to j bytes h (unfit a b e) = absurd (cc)
   none_begins later now group to j bytes h (busy a b f e) = absurd (cc)
   none_begins later now group to j bytes h (opens a b f e) =
-      let z : true ≡ false = sym (ap (λ (x : Option Running). is_engaged x (length (all_transfers w (later ++ B)))) h.is) ∙ f in absurd (cc)
+      let z : true ≡ false = sym (ap (λ (x : Option Running). is_engaged x (length (all_transfers w (later ++ B))) || is_resting w (later ++ B) now group to) h.is) ∙ f in absurd (cc)
 
   one_more : (call : Call) (later : List Call) → View call → IsAnswered w (later ++ B) call → tells_transfer call ≡ false
       → waited_in later B + step (later ++ B) (moment (call ∷ later ++ B)) ≤ g → Stands later → Stands (call ∷ later)

@@ -47,6 +47,7 @@ pub mod MovingLemmas
 -- the laws of a driver that is prompt
 pub mod PromptView
 pub mod PromptLaws
+pub mod RestLaws
 pub mod EndSteps
 pub mod EndLaws
 pub mod MessageLaws

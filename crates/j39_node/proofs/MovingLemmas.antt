@@ -15,10 +15,10 @@ use Rattle.j39_address.specs.Name.{name_raw}
 use Rattle.j39_node.specs.History.{Who, Call, accepted, got, handed, kept, open_broadcast, requests, told, told_claims}
 use Rattle.j39_node.specs.Reception.{has_place, no_reception, reception}
 use Rattle.j39_node.specs.Hearing.{waiting, whole_of}
-use Rattle.j39_node.specs.Transfers.{open_transfer}
+use Rattle.j39_node.specs.Transfers.{NoneRests, open_transfer}
 use Rattle.j39_node.specs.Asking.{Question}
 use Rattle.j39_node.specs.declared.kinds.AskEnding.{AskEnding}
-use Rattle.j39_node.specs.Is.{HearingRecord, IncomingRecord, Is, LaneRecord, PortRecord, asked_by, asking_of, hearing_of, incoming_of, lane_of, news_of, next_news, port_of, posted, received_by, refusal_by, request_by, running}
+use Rattle.j39_node.specs.Is.{HearingRecord, IncomingRecord, Is, LaneRecord, PortRecord, asked_by, asking_of, hearing_of, incoming_of, lane_of, news_of, next_news, port_of, posted, received_by, refusal_by, request_by}
 use Rattle.j39_node.specs.Moving.{IsSettled, has_given, has_told, moved}
 use Rattle.j39_node.proofs.QueueLemmas.{length_rest}
 use Rattle.j39_node.proofs.SoundLemmas.{front_length, read, sound}
@@ -167,14 +167,14 @@ none_untold u e = go u.lost u.another u.missed refl refl refl e
 
 pub begins_anew : (w : Who) (H : List Call) (old new : Controller) (a : ℕ) → Is w H old → (has_told old && has_given old) ≡ true
     → new.own.name ≡ old.own.name → new.own.address ≡ a → new.own.served.items ≡ old.own.served.items
-    → new.hold ≡ record { moment = 0; standing = standing.Idle; owes_claim = true; pause = 0; age = 0; wait = 0 }
+    → new.hold ≡ record { moment = 0; standing = standing.Idle; owes_claim = true; pause = 0; age = 0; wait = 0; rest = 0 }
     → new.outgoing ≡ old.outgoing → new.taken ≡ 0 → new.next_token ≡ 0 → new.asking ≡ old.asking → new.inbox.unread ≡ old.inbox.unread → new.inbox.missed ≡ 0
     → new.desk.waiting ≡ old.desk.waiting → new.desk.due.items ≡ [] → new.news ≡ old.news → new.holders ≡ old.holders
     → new.lane ≡ record { current = None; count = 0; next_token = 0 }
     → incoming_of new.incoming ≡ record { moment = 0; clock = 0; own = a; has_box = true; reception = no_reception }
-    → new.transfers.current ≡ old.transfers.current → new.transfers.next_token ≡ 0 → hearing_of new.hearing ≡ record { current = None; missed = 0 }
+    → port_of new.transfers ≡ record { current = None; next_token = 0; resting = NoneRests } → hearing_of new.hearing ≡ record { current = None; missed = 0 }
     → Is (moved w H a) [] new
-begins_anew w H old new a h e o1 o2 o3 q1 q2 q3 q4 q5 q6 q7 q8 q9 q10 q11 q12 q15 q16 q17 q18 =
+begins_anew w H old new a h e o1 o2 o3 q1 q2 q3 q4 q5 q6 q7 q8 q9 q10 q11 q12 q15 q16 q18 =
     let p = and_parts _ _ e in
     let t = and_parts _ _ p.0 in
     let t3 = and_parts _ _ (and_parts _ _ t.1).1 in
@@ -199,6 +199,6 @@ begins_anew w H old new a h e o1 o2 o3 q1 q2 q3 q4 q5 q6 q7 q8 q9 q10 q11 q12 q1
       missed = q7;
       lane = ap (lane_of (moved w H a)) q12;
       incoming = q15;
-      port = λ i. let r : PortRecord = record { current = (ap (option_map running) q16 ∙ none_is _ _ t3.0) i; next_token = q17 i } in r;
+      port = q16;
       hearing = q18;
     }

@@ -7,7 +7,7 @@ use Rattle.j39_node.specs.History.{Who, Draft, Call, Address, accepted, address_
 use Rattle.j39_node.specs.History.Address.{NotClaimed, Claimed, Lost}
 use Rattle.j39_node.specs.History.Call.{Ask, TakeAskEnded, Hear, Tick, TakeFrame, Send, TakeEnded, TakeReceived, TakeRequest, TakeNews, Acknowledge, Broadcast, TakeBroadcastEnded, ReleaseTransfer, Transfer, TakeTransferEnded, ReleaseBroadcast}
 use Rattle.j39_node.specs.Prompt.{waited_in}
-use Rattle.j39_node.specs.Transfers.{age, open_transfer}
+use Rattle.j39_node.specs.Transfers.{rest, resting, age, open_transfer}
 use Rattle.j39_node.specs.declared.kinds.Refused.{Refused}
 use Rattle.j39_node.proofs.QueueLemmas.{length_one_more}
 use Rattle.j39_node.proofs.SoundLemmas.{lost_older}
@@ -41,6 +41,8 @@ pub record Quiet (call : Call) : Type 0 where
   pub broadcast : (w : Who) (H : List Call) → open_broadcast w (call ∷ H) ≡ open_broadcast w H
   pub transfer : (w : Who) (H : List Call) → open_transfer w (call ∷ H) ≡ open_transfer w H
   pub sent_is : (H : List Call) → sent (call ∷ H) ≡ sent H
+  pub rest_is : (H : List Call) → rest (call ∷ H) ≡ rest H - step H (moment (call ∷ H))
+  pub resting_is : (w : Who) (H : List Call) → resting w (call ∷ H) ≡ resting w H
   pub accepts : (w : Who) (H : List Call) → length (accepted w H) ≤ length (accepted w (call ∷ H))
   pub age_is : (H : List Call) → age (call ∷ H) ≡ age H + step H (moment (call ∷ H))
   pub held : (w : Who) (H : List Call) → is_held (address_after w H) ≡ true → is_held (address_after w (call ∷ H)) ≡ true
@@ -71,6 +73,8 @@ view (Tick now) = at_rest (Tick now) (record {
   broadcast = λ w H. refl;
   transfer = λ w H. refl;
   sent_is = λ H. refl;
+  rest_is = λ H. refl;
+  resting_is = λ w H. refl;
   accepts = λ w H. omega arith;
   age_is = λ H. refl;
   held = λ w H e. held_older (step H now) (address_after w H) e;
@@ -83,6 +87,8 @@ view (Send now draft answer) = at_rest (Send now draft answer) (record {
   broadcast = λ w H. refl;
   transfer = λ w H. refl;
   sent_is = λ H. refl;
+  rest_is = λ H. refl;
+  resting_is = λ w H. refl;
   accepts = λ w H. sends_more w H now draft answer;
   age_is = λ H. refl;
   held = λ w H e. held_older (step H now) (address_after w H) e;
@@ -95,6 +101,8 @@ view (Ask now group to answer) = at_rest (Ask now group to answer) (record {
   broadcast = λ w H. refl;
   transfer = λ w H. refl;
   sent_is = λ H. refl;
+  rest_is = λ H. refl;
+  resting_is = λ w H. refl;
   accepts = λ w H. asks_more w H now group to answer;
   age_is = λ H. refl;
   held = λ w H e. held_older (step H now) (address_after w H) e;
@@ -107,6 +115,8 @@ view (Acknowledge now r answer result) = at_rest (Acknowledge now r answer resul
   broadcast = λ w H. refl;
   transfer = λ w H. refl;
   sent_is = λ H. refl;
+  rest_is = λ H. refl;
+  resting_is = λ w H. refl;
   accepts = λ w H. omega arith;
   age_is = λ H. refl;
   held = λ w H e. held_older (step H now) (address_after w H) e;
@@ -119,6 +129,8 @@ view (Broadcast now group bytes (Err r)) = at_rest (Broadcast now group bytes (E
   broadcast = λ w H. refl;
   transfer = λ w H. refl;
   sent_is = λ H. refl;
+  rest_is = λ H. refl;
+  resting_is = λ w H. refl;
   accepts = λ w H. omega arith;
   age_is = λ H. refl;
   held = λ w H e. held_older (step H now) (address_after w H) e;
@@ -131,6 +143,8 @@ view (Transfer now group to bytes (Err r)) = at_rest (Transfer now group to byte
   broadcast = λ w H. refl;
   transfer = λ w H. refl;
   sent_is = λ H. refl;
+  rest_is = λ H. refl;
+  resting_is = λ w H. refl;
   accepts = λ w H. omega arith;
   age_is = λ H. refl;
   held = λ w H e. held_older (step H now) (address_after w H) e;
@@ -143,6 +157,8 @@ view (TakeEnded answer) = at_rest (TakeEnded answer) (record {
   broadcast = λ w H. refl;
   transfer = λ w H. refl;
   sent_is = λ H. refl;
+  rest_is = λ H. stands_still (rest H) (moment H);
+  resting_is = λ w H. refl;
   accepts = λ w H. omega arith;
   age_is = λ H. ages_none (age H) (moment H);
   held = λ w H e. e;
@@ -155,6 +171,8 @@ view (TakeAskEnded answer) = at_rest (TakeAskEnded answer) (record {
   broadcast = λ w H. refl;
   transfer = λ w H. refl;
   sent_is = λ H. refl;
+  rest_is = λ H. stands_still (rest H) (moment H);
+  resting_is = λ w H. refl;
   accepts = λ w H. omega arith;
   age_is = λ H. ages_none (age H) (moment H);
   held = λ w H e. e;
@@ -167,6 +185,8 @@ view (TakeReceived answer) = at_rest (TakeReceived answer) (record {
   broadcast = λ w H. refl;
   transfer = λ w H. refl;
   sent_is = λ H. refl;
+  rest_is = λ H. stands_still (rest H) (moment H);
+  resting_is = λ w H. refl;
   accepts = λ w H. omega arith;
   age_is = λ H. ages_none (age H) (moment H);
   held = λ w H e. e;
@@ -179,6 +199,8 @@ view (TakeRequest answer) = at_rest (TakeRequest answer) (record {
   broadcast = λ w H. refl;
   transfer = λ w H. refl;
   sent_is = λ H. refl;
+  rest_is = λ H. stands_still (rest H) (moment H);
+  resting_is = λ w H. refl;
   accepts = λ w H. omega arith;
   age_is = λ H. ages_none (age H) (moment H);
   held = λ w H e. e;
@@ -191,6 +213,8 @@ view (TakeNews answer) = at_rest (TakeNews answer) (record {
   broadcast = λ w H. refl;
   transfer = λ w H. refl;
   sent_is = λ H. refl;
+  rest_is = λ H. stands_still (rest H) (moment H);
+  resting_is = λ w H. refl;
   accepts = λ w H. omega arith;
   age_is = λ H. ages_none (age H) (moment H);
   held = λ w H e. e;
@@ -203,6 +227,8 @@ view (TakeBroadcastEnded None) = at_rest (TakeBroadcastEnded None) (record {
   broadcast = λ w H. refl;
   transfer = λ w H. refl;
   sent_is = λ H. refl;
+  rest_is = λ H. stands_still (rest H) (moment H);
+  resting_is = λ w H. refl;
   accepts = λ w H. omega arith;
   age_is = λ H. ages_none (age H) (moment H);
   held = λ w H e. e;
@@ -215,6 +241,8 @@ view (TakeTransferEnded None) = at_rest (TakeTransferEnded None) (record {
   broadcast = λ w H. refl;
   transfer = λ w H. refl;
   sent_is = λ H. refl;
+  rest_is = λ H. stands_still (rest H) (moment H);
+  resting_is = λ w H. refl;
   accepts = λ w H. omega arith;
   age_is = λ H. ages_none (age H) (moment H);
   held = λ w H e. e;
@@ -227,6 +255,8 @@ view (ReleaseTransfer answer) = at_rest (ReleaseTransfer answer) (record {
   broadcast = λ w H. refl;
   transfer = λ w H. refl;
   sent_is = λ H. refl;
+  rest_is = λ H. stands_still (rest H) (moment H);
+  resting_is = λ w H. refl;
   accepts = λ w H. omega arith;
   age_is = λ H. ages_none (age H) (moment H);
   held = λ w H e. e;
@@ -239,6 +269,8 @@ view (ReleaseBroadcast answer) = at_rest (ReleaseBroadcast answer) (record {
   broadcast = λ w H. refl;
   transfer = λ w H. refl;
   sent_is = λ H. refl;
+  rest_is = λ H. stands_still (rest H) (moment H);
+  resting_is = λ w H. refl;
   accepts = λ w H. omega arith;
   age_is = λ H. ages_none (age H) (moment H);
   held = λ w H e. e;

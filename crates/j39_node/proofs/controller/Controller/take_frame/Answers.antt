@@ -38,7 +38,7 @@ returns-in_ok-frame-in-None-frame c = λ w H h.
     c.in-None-frame.ensures.frame
     (c.in_ok-frame-in-None-frame.ensures
     ∙ ap (λ (n : ℕ). option_map (at_now (stamp_micros c.args.now)) (transfer_by (port_of c.args.self.now.transfers).current n)) c.clock-clock.ensures)
-    refl (c.taken.ensures.current ∙ ap (λ (n : ℕ). sends_if true n (port_of c.args.self.now.transfers).current) c.clock-clock.ensures) c.taken.ensures.token
+    refl (c.taken.ensures.current ∙ ap (λ (n : ℕ). sends_if true n (port_of c.args.self.now.transfers).current) c.clock-clock.ensures) c.taken.ensures.token c.taken.ensures.resting
 
 pub returns-in_err-frame-in-None-frame : goal.returns-in_err-frame-in-None-frame
 returns-in_err-frame-in-None-frame c = λ w H h.
