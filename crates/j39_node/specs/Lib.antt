@@ -22,3 +22,4 @@ pub mod Hold
 -- a history
 pub mod Example
 pub mod AskExample
+pub mod PromptExample

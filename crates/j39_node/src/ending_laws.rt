@@ -7,10 +7,12 @@ ghost use Rattle.j39_node.specs.declared.kinds.Ending.{Ending};
 ghost use Rattle.j39_node.specs.declared.kinds.TransferEnding.{TransferEnding};
 ghost use Rattle.j39_node.specs.History.{Who, Call, Draft, address_after, broadcast_from, is_lost, sent, told};
 ghost use Rattle.j39_node.specs.History.Call.{Ask, Broadcast, Send, Transfer};
-ghost use Rattle.j39_node.specs.Is.{Is, next_broadcast_ended, next_ended};
+ghost use Rattle.j39_node.specs.Is.{AreAnswered, Is, next_broadcast_ended, next_ended};
 ghost use Rattle.j39_node.specs.Transfers.{next_transfer_ended};
 ghost use Rattle.j39_node.specs.Prompt.{IsPrompt, NoneTold, tells_broadcast, tells_transfer};
 ghost use Rattle.j39_node.specs.Since.{passed_in};
+ghost use Rattle.j39_node.specs.Example.{nine, two};
+ghost use Rattle.j39_node.specs.PromptExample.{prompt_example, prompt_start};
 
 /// A broadcast of n packets ends: where the driver is prompt by g microseconds since its acceptance, and more than
 /// (n + 1) * (50 ms + g) passed, `take_broadcast_ended` would tell its end, unless it told it before. Nothing else that is
@@ -59,4 +61,14 @@ pub fn message_ends()
         → g < passed_in later (Ask now group to (Ok k) ∷ earlier) → length (told (later ++ Ask now group to (Ok k) ∷ earlier)) ≤ k
         → (e : Ending) × (next_ended w (later ++ Ask now group to (Ok k) ∷ earlier)
         ≡ Some (length (told (later ++ Ask now group to (Ok k) ∷ earlier)), e)) }
+{}
+
+/// All answers of this history are those that a controller gives, its driver is prompt by 100 ms, and a broadcast of two packets
+/// has ended in time: so the laws speak of something.
+#[tactic(auto, unfolding(j39_transport::specs::Cutting::cut_frame, j39_transport::specs::Cutting::announcement_of, j39_transport::specs::Cutting::packet_of, j39_transport::specs::Cutting::packet_data, j39_transport::specs::Frames::is_announcement, j39_transport::specs::Frames::is_packet, j39_transport::specs::Frames::goes, j39_transport::specs::Frames::group_of, j39_transport::specs::Frames::source_of, j39_transport::specs::Frames::destination_of, j39_transport::specs::Signals::said_between))]
+pub fn an_example_of_promptness()
+    ensures answered { AreAnswered two (prompt_example ++ prompt_start) }
+    ensures prompt { IsPrompt 100000 prompt_example prompt_start }
+    ensures not_told { NoneTold tells_broadcast prompt_example }
+    ensures long { (packets_of (broadcast_from two 65226 nine) + 1) * (gap + 100000) < passed_in prompt_example prompt_start }
 {}
