@@ -28,9 +28,9 @@ busy_is w H c h =
 pub refuses_ask : (w : Who) (H : List Call) (old new : Controller) (now group to : ℕ) (r : Refused) → Is w H old → Passed w H now new.hold
     → Err r ≡ answer_to_ask w H now group to → new ≡ record old { hold = new.hold } → Is w (Ask now group to (Err r) ∷ H) new
 refuses_ask w H old new now group to r h p answer e = record {
-  who = ap (λ c. who_of c.own) e ∙ h.who;
+  who = ap (λ c. who_of w.known c.own) e ∙ h.who;
   answered = (h.answered, answer);
-  hold = is_hold _ _ p.moment p.standing p.owes p.pause p.age p.wait;
+  hold = is_hold _ _ p.rest p.moment p.standing p.owes p.pause p.age p.wait;
   outgoing = ap (λ c. map posted c.outgoing.items) e ∙ h.outgoing;
   taken = ap (λ c. c.taken) e ∙ h.taken;
   token = ap (λ c. c.next_token) e ∙ h.token;
@@ -38,7 +38,7 @@ refuses_ask w H old new now group to r h p answer e = record {
   unread = ap (λ c. map received_by c.inbox.unread.items) e ∙ h.unread;
   requests = ap (λ c. map request_by c.desk.waiting.items) e ∙ h.requests;
   acknowledgments = ap (λ c. map (refusal_by w) c.desk.due.items) e ∙ h.acknowledgments;
-  holders = subst (λ t. Knows t (told_claims H)) (sym (ap (λ c. c.holders) e)) h.holders;
+  holders = subst (λ t. Knows t (told_claims w H)) (sym (ap (λ c. c.holders) e)) h.holders;
   news = ap (λ c. c.news) e ∙ h.news;
   missed = ap (λ c. c.inbox.missed) e ∙ h.missed;
   lane = ap (λ c. lane_of w c.lane) e ∙ h.lane;
@@ -59,9 +59,9 @@ asks_one w H old new now group to x q h p answer is e e0 e1 e2 e3 =
     let s = sound w H h.answered in
     let m = message_from w (request_for group to) in
     record {
-      who = ap (λ c. who_of c.own) e ∙ h.who;
+      who = ap (λ c. who_of w.known c.own) e ∙ h.who;
       answered = (h.answered, answer);
-      hold = is_hold _ _ p.moment p.standing p.owes p.pause p.age p.wait;
+      hold = is_hold _ _ p.rest p.moment p.standing p.owes p.pause p.age p.wait;
       outgoing = ap (map posted) e0 ∙ (map_append posted old.outgoing.items x
           ∙ (ap (λ l. l ++ posted x ∷ []) h.outgoing ∙ (ap (λ (y : ℕ × Message). drop (length (told H)) (accepted w H) ++ y ∷ []) is
           ∙ sym (drop_append (length (told H)) (accepted w H) (old.next_token, m) s.within))));
@@ -73,7 +73,7 @@ asks_one w H old new now group to x q h p answer is e e0 e1 e2 e3 =
       unread = ap (λ c. map received_by c.inbox.unread.items) e ∙ h.unread;
       requests = ap (λ c. map request_by c.desk.waiting.items) e ∙ h.requests;
       acknowledgments = ap (λ c. map (refusal_by w) c.desk.due.items) e ∙ h.acknowledgments;
-      holders = subst (λ t. Knows t (told_claims H)) (sym (ap (λ c. c.holders) e)) h.holders;
+      holders = subst (λ t. Knows t (told_claims w H)) (sym (ap (λ c. c.holders) e)) h.holders;
       news = ap (λ c. c.news) e ∙ h.news;
       missed = ap (λ c. c.inbox.missed) e ∙ h.missed;
       lane = ap (λ c. lane_of w c.lane) e ∙ h.lane;

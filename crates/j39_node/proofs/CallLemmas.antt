@@ -27,7 +27,7 @@ use Rattle.j39_node.specs.declared.kinds.Refused.TheVariants.{NoAddress, BadValu
 use Rattle.j39_node.specs.Asking.{made, ended, has_token, open_ask, wait}
 use Rattle.j39_node.proofs.AskLemmas.{ask_heard, ask_more, ask_same, takes, wait_more, wait_same}
 use Rattle.j39_node.specs.Is.{AskRecord, made_by, asking_of, hears_with}
-use Rattle.j39_node.specs.Hold.{asked as hold_asked, standing_of, less, passed, heard, claims, paused, stands, lost, left_at}
+use Rattle.j39_node.specs.Hold.{rested, asked as hold_asked, standing_of, less, passed, heard, claims, paused, stands, lost, left_at}
 use Rattle.j39_node.specs.History.{Who, Message, Draft, Call, Address, message_of, older, claimed, address_after, holds, is_lost, is_held, is_smaller, claim_address, claim_from, owes_claim, calls_for_claim, can_send, message_from, accepted, sent, told, is_full, step, moment, is_for_program, kept, got, missed, Asked, asked, acknowledgment, acknowledged, due, handed, requests, is_served, with_request, with_refusal, stamp_at, held_at, told_claims, is_another, is_acknowledgment, is_claim, lost_news, another_news, missed_news, broadcasts, broadcast_from, can_broadcast, has_packets, is_busy, is_left, is_open, is_packet, open_broadcast, packets, pause}
 use Rattle.j39_node.specs.History.Call.{Hear, TakeFrame, Send, TakeEnded, TakeRequest, Acknowledge, Broadcast, TakeBroadcastEnded, Transfer, TakeTransferEnded}
 use Rattle.j39_node.proofs.ReceptionLaws.{made_is}
@@ -36,9 +36,9 @@ use Rattle.j39_node.specs.declared.incoming.Incoming.{Incoming}
 use Rattle.j39_node.specs.declared.incoming.Said.{Said}
 use Rattle.j39_address.specs.declared.claims.Claims.{Claims}
 use Rattle.j39_node.proofs.ReceptionLemmas.{leaves_is, none_taken, replied_get, taken_is, tidy}
-use Rattle.j39_node.specs.Transfers.{Running, age, answer_to_transfer, at_in, begun, can_transfer, clock, clock_at, is_engaged, next_due, next_transfer, next_transfer_ended, hears_if, is_replaced, open_transfer, packet_in, packets_in, sends_if, sooner, transfer_by, transfer_end, transfer_in, transfers as all_transfers}
+use Rattle.j39_node.specs.Transfers.{holds_back, is_resting, rest, resting, rests_after, Running, age, answer_to_transfer, at_in, begun, can_transfer, clock, clock_at, is_engaged, next_due, next_transfer, next_transfer_ended, hears_if, is_replaced, open_transfer, packet_in, packets_in, sends_if, sooner, transfer_by, transfer_end, transfer_in, transfers as all_transfers}
 use Rattle.j39_node.specs.History.Address.{NotClaimed, Claimed, Lost}
-use Rattle.j39_node.specs.Is.{Is, stamped, next_frame, end_of, answer_to_send, answer_to_acknowledge, hold_after, who_of, posted, received_by, request_by, refusal_by, first_of, offered, counted, LaneRecord, opened, lane_of, lane_after, packet_by, next_control, control_of, next_packet, IncomingRecord, incoming_of, incoming_after, said_by, with_reception, with_replies, hears, answer_to_broadcast, broadcast_end, next_broadcast_ended, long_by, next_long, PortRecord, port_of, running, HearingRecord, hearing_of}
+use Rattle.j39_node.specs.Is.{Is, stamped, next_frame, end_of, answer_to_send, answer_to_acknowledge, hold_after, who_of, posted, received_by, request_by, refusal_by, first_of, offered, counted, LaneRecord, opened, lane_of, lane_after, packet_by, next_control, control_of, next_packet, IncomingRecord, incoming_of, incoming_after, said_by, with_reception, with_replies, hears, answer_to_broadcast, broadcast_end, next_broadcast_ended, long_by, next_long, PortRecord, closed, port_after, port_of, resting_by, running, HearingRecord, hearing_of}
 use Rattle.j39_frame.specs.Stamp.{stamp_micros}
 use Rattle.j39_node.specs.Hearing.{IsFit, hears as hears_it, is_unheard, left as leaves_it, unheard_news}
 use Rattle.j39_node.proofs.HearingLemmas.{claimed_on, either_news, hearing_same, heard_on}
@@ -75,6 +75,7 @@ pub record Passed (w : Who) (H : List Call) (now : ℕ) (h : Hold) : Type 0 wher
   pub pause : h.pause ≡ pause H - step H now
   pub age : h.age ≡ min (age H + step H now) 18446744073709551615
   pub wait : h.wait ≡ wait H - step H now
+  pub rest : h.rest ≡ rest H - step H now
 
 saturates : (a s : ℕ) → min (min a 18446744073709551615 + s) 18446744073709551615 ≡ min (a + s) 18446744073709551615
 saturates a s = omega arith
@@ -89,19 +90,21 @@ passed_is w H now old new e f =
       pause = ap (λ (h : Hold). h.pause) g;
       age = ap (λ (h : Hold). h.age) g ∙ saturates (age H) (step H now);
       wait = ap (λ (h : Hold). h.wait) g;
+      rest = ap (λ (h : Hold). h.rest) g;
     }
 
 pub holds_is : (w : Who) (H : List Call) (now : ℕ) (h : Hold) (b : Bool) → Passed w H now h → b ≡ stands h.standing → b ≡ holds w H now
 holds_is w H now h b p e = e ∙ (ap stands p.standing ∙ stands_is (older (step H now) (address_after w H)))
 
-pub is_hold : (h k : Hold) → h.moment ≡ k.moment → h.standing ≡ k.standing → h.owes_claim ≡ k.owes_claim → h.pause ≡ k.pause → h.age ≡ k.age → h.wait ≡ k.wait → h ≡ k
-is_hold h k e f g i j l =
+pub is_hold : (h k : Hold) → h.rest ≡ k.rest → h.moment ≡ k.moment → h.standing ≡ k.standing → h.owes_claim ≡ k.owes_claim → h.pause ≡ k.pause → h.age ≡ k.age → h.wait ≡ k.wait → h ≡ k
+is_hold h k r e f g i j l =
     ap (λ (x : ℕ). record h { moment = x }) e
     ∙ (ap (λ (x : Standing). record h { moment = k.moment; standing = x }) f
     ∙ (ap (λ (x : Bool). record h { moment = k.moment; standing = k.standing; owes_claim = x }) g
     ∙ (ap (λ (x : ℕ). record h { moment = k.moment; standing = k.standing; owes_claim = k.owes_claim; pause = x }) i
     ∙ (ap (λ (x : ℕ). record h { moment = k.moment; standing = k.standing; owes_claim = k.owes_claim; pause = k.pause; age = x }) j
-    ∙ ap (λ (x : ℕ). record h { moment = k.moment; standing = k.standing; owes_claim = k.owes_claim; pause = k.pause; age = k.age; wait = x }) l))))
+    ∙ (ap (λ (x : ℕ). record h { moment = k.moment; standing = k.standing; owes_claim = k.owes_claim; pause = k.pause; age = k.age; wait = x }) l
+    ∙ ap (λ (x : ℕ). record k { rest = x }) r)))))
 
 -- ---- the lane
 
@@ -116,7 +119,7 @@ lane_same : (w : Who) (H : List Call) (now : ℕ) (f : FrameRecord) → is_packe
 lane_same w H now f e = ap (λ (xs : List Message). record (lane_after w H) { count = length xs }) (sym (packets_is H now f false e))
 
 pub packet_next : (w : Who) (H : List Call) (c : Controller) (now left : ℕ) → Is w H c → left ≡ pause H - step H now
-    → packet_by (lane_of (who_of c.own) c.lane).current c.lane.count left ≡ next_packet w H now
+    → packet_by (lane_of (who_of w.known c.own) c.lane).current c.lane.count left ≡ next_packet w H now
 packet_next w H c now left h e =
     ap (λ (v : Who). packet_by (lane_of v c.lane).current c.lane.count left) h.who
     ∙ (ap (λ (l : LaneRecord). packet_by l.current l.count left) h.lane ∙ ap (packet_by (open_broadcast w H) (length (packets H))) e)
@@ -140,18 +143,18 @@ incoming_same : (w : Who) (H : List Call) (now : ℕ) (f : FrameRecord) → rece
     → incoming_after w H ≡ incoming_after w (TakeFrame now (Some f) ∷ H)
 incoming_same w H now f e = λ i. record { moment = heard_at H; clock = time_heard H; own = w.address; has_box = true; reception = sym e i }
 
-told_is : (H : List Call) (now : ℕ) (f : FrameRecord) → is_claim f ≡ true → told_claims (TakeFrame now (Some f) ∷ H) ≡ told_claims H ++ f ∷ []
-told_is H now f e = ap (λ (b : Bool). if b then told_claims H ++ f ∷ [] else told_claims H) e
+told_is : (w : Who) (H : List Call) (now : ℕ) (f : FrameRecord) → is_claim f ≡ true → told_claims w (TakeFrame now (Some f) ∷ H) ≡ told_claims w H ++ f ∷ []
+told_is w H now f e = ap (λ (b : Bool). if b then told_claims w H ++ f ∷ [] else told_claims w H) e
 
 -- its own claim is taken
 incoming_claimed : (w : Who) (H : List Call) (old : Controller) (now : ℕ) (f : FrameRecord) (table : Claims) → Is w H old → is_claim f ≡ true
-    → Knows table (told_claims (TakeFrame now (Some f) ∷ H))
+    → Knows table (told_claims w (TakeFrame now (Some f) ∷ H))
     → with_reception (left (leaves (holder_in old.holders) (holder_in table) (incoming_of old.incoming).reception.session) (incoming_of old.incoming).reception) (incoming_of old.incoming)
     ≡ incoming_after w (TakeFrame now (Some f) ∷ H)
 incoming_claimed w H old now f table h e knows =
     let G = TakeFrame now (Some f) ∷ H in
     ap (λ (x : IncomingRecord). with_reception (left (leaves (holder_in old.holders) (holder_in table) x.reception.session) x.reception) x) h.incoming
-    ∙ (ap (λ (b : Bool). with_reception (left b (reception w H)) (incoming_after w H)) (leaves_is old.holders table H G (reception w H).session h.holders knows)
+    ∙ (ap (λ (b : Bool). with_reception (left b (reception w H)) (incoming_after w H)) (leaves_is w old.holders table H G (reception w H).session h.holders knows)
     ∙ λ i. record { moment = heard_at H; clock = time_heard H; own = w.address; has_box = true; reception = sym (taken_is w H now f true _ e refl) i })
 
 -- a reply is taken
@@ -162,7 +165,7 @@ incoming_replied w H now f e g =
 
 -- a frame is heard
 incoming_heard : (w : Who) (H : List Call) (old : Controller) (f : FrameRecord) (table : Claims) (new : Incoming) (gone held : Bool) → Is w H old
-    → Knows table (told_claims (Hear f ∷ H)) → gone ≡ is_smaller w (claim_of f) → held ≡ holds w H f.stamp
+    → Knows table (told_claims w (Hear f ∷ H)) → gone ≡ is_smaller w (claim_of f) → held ≡ holds w H f.stamp
     → (old.incoming.receiver.has_box ≡ true → IsApart (incoming_of old.incoming).reception
     → incoming_of new ≡ hears gone held f (holder_in old.holders) (holder_in table) (incoming_of old.incoming))
     → incoming_of new ≡ incoming_after w (Hear f ∷ H)
@@ -170,9 +173,9 @@ incoming_heard w H old f table new gone held h knows away stays does =
     does (ap (λ (x : IncomingRecord). x.has_box) h.incoming) (subst (λ (x : IncomingRecord). IsApart x.reception) (sym h.incoming) (tidy w H).apart)
     ∙ (ap (hears gone held f (holder_in old.holders) (holder_in table)) h.incoming
     ∙ (ap (λ (b : Bool). with_reception (heard_by w.address gone held f (time_heard (Hear f ∷ H)) (left b (reception w H))) (incoming_now w H f))
-    (leaves_is old.holders table H (Hear f ∷ H) (reception w H).session h.holders knows)
+    (leaves_is w old.holders table H (Hear f ∷ H) (reception w H).session h.holders knows)
     ∙ λ i. with_reception (heard_by w.address (away i) (stays i) f (time_heard (Hear f ∷ H))
-    (left (leaves (holder H) (holder (Hear f ∷ H)) (reception w H).session) (reception w H))) (incoming_now w H f)))
+    (left (leaves (holder w H) (holder w (Hear f ∷ H)) (reception w H).session) (reception w H))) (incoming_now w H f)))
   where
     incoming_now : Who → List Call → FrameRecord → IncomingRecord
     incoming_now w H f = record { moment = f.stamp; clock = time_heard (Hear f ∷ H); own = w.address; has_box = true; reception = reception w H }
@@ -185,7 +188,7 @@ transfer_next w H c now time h e =
 
 pub long_next : (w : Who) (H : List Call) (c : Controller) (now left time : ℕ) → Is w H c → left ≡ pause H - step H now
     → time ≡ min (age H + step H now) 18446744073709551615
-    → long_by (packet_by (lane_of (who_of c.own) c.lane).current c.lane.count left) (transfer_by (port_of c.transfers).current (clock time)) ≡ next_long w H now
+    → long_by (packet_by (lane_of (who_of w.known c.own) c.lane).current c.lane.count left) (transfer_by (port_of c.transfers).current (clock time)) ≡ next_long w H now
 long_next w H c now left time h e f =
     ap (λ (o : Option Message). long_by o (transfer_by (port_of c.transfers).current (clock time))) (packet_next w H c now left h e)
     ∙ ap (long_by (next_packet w H now)) (transfer_next w H c now time h f)
@@ -245,9 +248,9 @@ taken w H old new now (Some f) x mid h p owes held none quiet g m e d request a1
     let more = sent_is H now f false false false n l one in
     let number = s.numbered (length (sent H)) (posted x) i in
     record {
-      who = ap (λ c. who_of c.own) e ∙ h.who;
+      who = ap (λ c. who_of w.known c.own) e ∙ h.who;
       answered = (h.answered, ap Some k ∙ sym (next_is w H now None (Some (posted x)) (sym p.owes ∙ owes) held (none_steered w H old h none quiet) i));
-      hold = a3 ∙ is_hold _ _ p.moment (p.standing ∙ ap standing_of (sym (address_is w H now f false n))) owes (p.pause ∙ sym (pause_is H now f false (no_packet f one))) p.age
+      hold = a3 ∙ is_hold _ _ p.rest p.moment (p.standing ∙ ap standing_of (sym (address_is w H now f false n))) owes (p.pause ∙ sym (pause_is H now f false (no_packet f one))) p.age
           (ap (λ (k : ℕ). if request then 1250000 else k) p.wait
           ∙ wait_more w H now x.token f request n l one number (a2 ∙ ap (λ (o : Option AskRecord). has_token (option_map (λ (y : AskRecord). y.question) o) x.token) h.asking));
       asking = a1 ∙ (ap (option_map (takes x.token)) h.asking ∙ ask_more w H now x.token f number more);
@@ -258,20 +261,20 @@ taken w H old new now (Some f) x mid h p owes held none quiet g m e d request a1
       requests = ap (λ c. map request_by c.desk.waiting.items) e ∙ h.requests;
       acknowledgments = ap (λ c. map (refusal_by w) c.desk.due.items) e ∙ (h.acknowledgments
           ∙ ap (λ (xs : List Message). drop (length xs) (due w H)) (sym (acknowledged_is H now f false false n l)));
-      holders = subst (λ t. Knows t (told_claims (TakeFrame now (Some f) ∷ H))) (sym (ap (λ c. c.holders) e))
-          (subst (Knows old.holders) (sym (ap (λ (b : Bool). if b then told_claims H ++ f ∷ [] else told_claims H) n)) h.holders);
+      holders = subst (λ t. Knows t (told_claims w (TakeFrame now (Some f) ∷ H))) (sym (ap (λ c. c.holders) e))
+          (subst (Knows old.holders) (sym (ap (λ (b : Bool). if b then told_claims w H ++ f ∷ [] else told_claims w H) n)) h.holders);
       news = ap (λ c. c.news) e ∙ h.news;
       missed = ap (λ c. c.inbox.missed) e ∙ h.missed;
       lane = ap (λ c. lane_of w c.lane) e ∙ (h.lane ∙ lane_same w H now f (no_packet f one));
       incoming = ap (λ c. incoming_of c.incoming) e ∙ (h.incoming ∙ incoming_same w H now f (none_taken w H now f n l (none_replied w H old h quiet)));
-      hearing = ap (λ c. hearing_of c.hearing) e ∙ (h.hearing ∙ hearing_same H now f n);
+      hearing = ap (λ c. hearing_of c.hearing) e ∙ (h.hearing ∙ hearing_same w H now f n);
       port = ap (λ c. port_of c.transfers) e ∙ (h.port ∙ port_same w H now f (no_move w H f (no_transfer f one)));
     }
 
 pub taken_none : (w : Who) (H : List Call) (old new : Controller) (now : ℕ) → Is w H old
     → Passed w H now new.hold → new.hold.owes_claim ≡ false → holds w H now ≡ true → length old.desk.due.items ≡ 0
     → length old.incoming.replies.items ≡ 0 → slice_get old.outgoing.items old.taken ≡ None
-    → (let none : Option (ℕ × Message) = None in none) ≡ option_map (at_now now) (packet_by (lane_of (who_of old.own) old.lane).current old.lane.count new.hold.pause)
+    → (let none : Option (ℕ × Message) = None in none) ≡ option_map (at_now now) (packet_by (lane_of (who_of w.known old.own) old.lane).current old.lane.count new.hold.pause)
     → (let none : Option (ℕ × Message) = None in none) ≡ option_map (at_now now) (transfer_by (port_of old.transfers).current (clock new.hold.age))
     → new ≡ record old { hold = new.hold } → Is w (TakeFrame now None ∷ H) new
 taken_none w H old new now h p owes held none quiet g m u e =
@@ -279,14 +282,14 @@ taken_none w H old new now h p owes held none quiet g m u e =
     let t = s.in_turn (holding_not_lost w H now held) in
     let i = not_in_rest posted old.outgoing.items (accepted w H) (length (told H)) (length (sent H)) old.taken h.outgoing h.taken t g in
     record {
-      who = ap (λ c. who_of c.own) e ∙ h.who;
+      who = ap (λ c. who_of w.known c.own) e ∙ h.who;
       answered = (
         h.answered,
         ap (option_map (at_now now)) (sym (ap (λ o. long_by o (transfer_by (port_of old.transfers).current (clock new.hold.age))) (no_message now _ m) ∙ no_message now _ u))
             ∙ (ap (option_map (at_now now)) (long_next w H old now new.hold.pause new.hold.age h p.pause p.age)
             ∙ sym (next_is w H now None None (sym p.owes ∙ owes) held (none_steered w H old h none quiet) i)),
       );
-      hold = is_hold _ _ p.moment p.standing p.owes p.pause p.age p.wait;
+      hold = is_hold _ _ p.rest p.moment p.standing p.owes p.pause p.age p.wait;
       outgoing = ap (λ c. map posted c.outgoing.items) e ∙ h.outgoing;
       taken = ap (λ c. c.taken) e ∙ h.taken;
       token = ap (λ c. c.next_token) e ∙ h.token;
@@ -294,7 +297,7 @@ taken_none w H old new now h p owes held none quiet g m u e =
       unread = ap (λ c. map received_by c.inbox.unread.items) e ∙ h.unread;
       requests = ap (λ c. map request_by c.desk.waiting.items) e ∙ h.requests;
       acknowledgments = ap (λ c. map (refusal_by w) c.desk.due.items) e ∙ h.acknowledgments;
-      holders = subst (λ t. Knows t (told_claims H)) (sym (ap (λ c. c.holders) e)) h.holders;
+      holders = subst (λ t. Knows t (told_claims w H)) (sym (ap (λ c. c.holders) e)) h.holders;
       news = ap (λ c. c.news) e ∙ h.news;
       missed = ap (λ c. c.inbox.missed) e ∙ h.missed;
       lane = ap (λ c. lane_of w c.lane) e ∙ h.lane;
@@ -306,7 +309,7 @@ taken_none w H old new now h p owes held none quiet g m u e =
 pub taken_packet : (w : Who) (H : List Call) (old new : Controller) (now : ℕ) (f : FrameRecord) (mid : Hold) → Is w H old
     → Passed w H now mid → mid.owes_claim ≡ false → holds w H now ≡ true → length old.desk.due.items ≡ 0
     → length old.incoming.replies.items ≡ 0 → slice_get old.outgoing.items old.taken ≡ None
-    → Some (stamped f) ≡ option_map (at_now now) (packet_by (lane_of (who_of old.own) old.lane).current old.lane.count mid.pause)
+    → Some (stamped f) ≡ option_map (at_now now) (packet_by (lane_of (who_of w.known old.own) old.lane).current old.lane.count mid.pause)
     → new ≡ record old { hold = new.hold; lane = new.lane } → new.hold ≡ paused mid → new.lane ≡ record old.lane { count = new.lane.count }
     → new.lane.count ≡ suc old.lane.count → Is w (TakeFrame now (Some f) ∷ H) new
 taken_packet w H old new now f mid h p owes held none quiet g m e e0 e1 more =
@@ -321,13 +324,13 @@ taken_packet w H old new now f mid h p owes held none quiet g m e e0 e1 more =
         let k : stamped f ≡ (now, y) = cc in
         let is = packet_taken f now y (open_broadcast w H) (length (packets H)) (pause H - step H now) k q in
         record {
-          who = ap (λ c. who_of c.own) e ∙ h.who;
+          who = ap (λ c. who_of w.known c.own) e ∙ h.who;
           answered = (
             h.answered,
             i ∙ (ap (λ o. option_map (at_now now) (long_by o (next_transfer w H now))) (sym q)
                 ∙ sym (next_is w H now None None (sym p.owes ∙ owes) held (none_steered w H old h none quiet) past)),
           );
-          hold = e0 ∙ is_hold _ _ p.moment (p.standing ∙ ap standing_of (sym (address_is w H now f false is.0))) owes (sym (pause_is H now f true is.2)) p.age (p.wait ∙ wait_same H now f false false true is.0 is.1 (packet_session f is.2).0 refl);
+          hold = e0 ∙ is_hold _ _ p.rest p.moment (p.standing ∙ ap standing_of (sym (address_is w H now f false is.0))) owes (sym (pause_is H now f true is.2)) p.age (p.wait ∙ wait_same H now f false false true is.0 is.1 (packet_session f is.2).0 refl);
           outgoing = ap (λ c. map posted c.outgoing.items) e ∙ h.outgoing;
           taken = ap (λ c. c.taken) e ∙ (h.taken ∙ ap (λ (xs : List Message). length xs - length (told H)) (sym (sent_is H now f false false true is.0 is.1 (packet_session f is.2).0)));
           token = ap (λ c. c.next_token) e ∙ h.token;
@@ -336,27 +339,27 @@ taken_packet w H old new now f mid h p owes held none quiet g m e e0 e1 more =
           requests = ap (λ c. map request_by c.desk.waiting.items) e ∙ h.requests;
           acknowledgments = ap (λ c. map (refusal_by w) c.desk.due.items) e ∙ (h.acknowledgments
               ∙ ap (λ (xs : List Message). drop (length xs) (due w H)) (sym (acknowledged_is H now f false false is.0 is.1)));
-          holders = subst (λ t. Knows t (told_claims (TakeFrame now (Some f) ∷ H))) (sym (ap (λ c. c.holders) e))
-              (subst (Knows old.holders) (sym (ap (λ (b : Bool). if b then told_claims H ++ f ∷ [] else told_claims H) is.0)) h.holders);
+          holders = subst (λ t. Knows t (told_claims w (TakeFrame now (Some f) ∷ H))) (sym (ap (λ c. c.holders) e))
+              (subst (Knows old.holders) (sym (ap (λ (b : Bool). if b then told_claims w H ++ f ∷ [] else told_claims w H) is.0)) h.holders);
           news = ap (λ c. c.news) e ∙ h.news;
           missed = ap (λ c. c.inbox.missed) e ∙ h.missed;
           lane = ap (lane_of w) e1 ∙ (ap (λ (l : LaneRecord). record l { count = new.lane.count }) h.lane
               ∙ ap (λ (n : ℕ). record (lane_after w H) { count = n })
               (more ∙ (ap (λ (l : LaneRecord). suc l.count) h.lane ∙ sym (ap length (packets_is H now f true is.2) ∙ length_one_more (packets H) (message_of f)))));
           incoming = ap (λ c. incoming_of c.incoming) e ∙ (h.incoming ∙ incoming_same w H now f (none_taken w H now f is.0 is.1 (none_replied w H old h quiet)));
-          hearing = ap (λ c. hearing_of c.hearing) e ∙ (h.hearing ∙ hearing_same H now f is.0);
+          hearing = ap (λ c. hearing_of c.hearing) e ∙ (h.hearing ∙ hearing_same w H now f is.0);
           port = ap (λ c. port_of c.transfers) e ∙ (h.port ∙ port_same w H now f (no_move w H f (packet_session f is.2).1));
         }
 
 pub taken_transfer : (w : Who) (H : List Call) (old new : Controller) (now : ℕ) (f : FrameRecord) (mid : Hold) → Is w H old
     → Passed w H now mid → mid.owes_claim ≡ false → holds w H now ≡ true → length old.desk.due.items ≡ 0 → length old.incoming.replies.items ≡ 0
     → slice_get old.outgoing.items old.taken ≡ None
-    → (let none : Option (ℕ × Message) = None in none) ≡ option_map (at_now now) (packet_by (lane_of (who_of old.own) old.lane).current old.lane.count mid.pause)
+    → (let none : Option (ℕ × Message) = None in none) ≡ option_map (at_now now) (packet_by (lane_of (who_of w.known old.own) old.lane).current old.lane.count mid.pause)
     → Some (stamped f) ≡ option_map (at_now now) (transfer_by (port_of old.transfers).current (clock mid.age))
     → new ≡ record old { hold = mid; transfers = new.transfers }
     → (port_of new.transfers).current ≡ sends_if true (clock mid.age) (port_of old.transfers).current → new.transfers.next_token ≡ old.transfers.next_token
-    → Is w (TakeFrame now (Some f) ∷ H) new
-taken_transfer w H old new now f mid h p owes held none quiet g m u e e0 e1 =
+    → new.transfers.resting ≡ old.transfers.resting → Is w (TakeFrame now (Some f) ∷ H) new
+taken_transfer w H old new now f mid h p owes held none quiet g m u e e0 e1 e2 =
     go (next_transfer w H now) refl (u ∙ ap (option_map (at_now now)) (transfer_next w H old now mid.age h p.age))
   where
     no_packets : next_packet w H now ≡ None
@@ -371,13 +374,13 @@ taken_transfer w H old new now f mid h p owes held none quiet g m u e e0 e1 =
         let k : stamped f ≡ (now, y) = cc in
         let is = transfer_taken w H now f y h.answered k q in
         record {
-          who = ap (λ c. who_of c.own) e ∙ h.who;
+          who = ap (λ c. who_of w.known c.own) e ∙ h.who;
           answered = (
             h.answered,
             i ∙ (ap (option_map (at_now now)) (sym (ap (λ o. long_by o (next_transfer w H now)) no_packets ∙ q))
                 ∙ sym (next_is w H now None None (sym p.owes ∙ owes) held (none_steered w H old h none quiet) past)),
           );
-          hold = ap (λ c. c.hold) e ∙ is_hold _ _ p.moment (p.standing ∙ ap standing_of (sym (address_is w H now f false is.claim))) owes
+          hold = ap (λ c. c.hold) e ∙ is_hold _ _ p.rest p.moment (p.standing ∙ ap standing_of (sym (address_is w H now f false is.claim))) owes
               (p.pause ∙ sym (pause_is H now f false is.packet)) p.age (p.wait ∙ wait_same H now f false false true is.claim is.plain is.session refl);
           outgoing = ap (λ c. map posted c.outgoing.items) e ∙ h.outgoing;
           taken = ap (λ c. c.taken) e ∙ (h.taken ∙ ap (λ (xs : List Message). length xs - length (told H)) (sym (sent_is H now f false false true is.claim is.plain is.session)));
@@ -387,16 +390,16 @@ taken_transfer w H old new now f mid h p owes held none quiet g m u e e0 e1 =
           requests = ap (λ c. map request_by c.desk.waiting.items) e ∙ h.requests;
           acknowledgments = ap (λ c. map (refusal_by w) c.desk.due.items) e ∙ (h.acknowledgments
               ∙ ap (λ (xs : List Message). drop (length xs) (due w H)) (sym (acknowledged_is H now f false false is.claim is.plain)));
-          holders = subst (λ t. Knows t (told_claims (TakeFrame now (Some f) ∷ H))) (sym (ap (λ c. c.holders) e))
-              (subst (Knows old.holders) (sym (ap (λ (b : Bool). if b then told_claims H ++ f ∷ [] else told_claims H) is.claim)) h.holders);
+          holders = subst (λ t. Knows t (told_claims w (TakeFrame now (Some f) ∷ H))) (sym (ap (λ c. c.holders) e))
+              (subst (Knows old.holders) (sym (ap (λ (b : Bool). if b then told_claims w H ++ f ∷ [] else told_claims w H) is.claim)) h.holders);
           news = ap (λ c. c.news) e ∙ h.news;
           missed = ap (λ c. c.inbox.missed) e ∙ h.missed;
           lane = ap (λ c. lane_of w c.lane) e ∙ (h.lane ∙ lane_same w H now f is.packet);
-          hearing = ap (λ c. hearing_of c.hearing) e ∙ (h.hearing ∙ hearing_same H now f is.claim);
+          hearing = ap (λ c. hearing_of c.hearing) e ∙ (h.hearing ∙ hearing_same w H now f is.claim);
           port = is_port _ _
               (e0 ∙ (ap (λ (n : ℕ). sends_if true n (port_of old.transfers).current) (ap clock p.age ∙ clock_is (age H + step H now))
               ∙ (ap (λ (t : PortRecord). sends_if true (clock_at H now) t.current) h.port ∙ port_more w H now f (is_moved w H f is.transfer (none_steers (slice_get (due w H) (length (acknowledged H))) _ (none_steered w H old h none quiet)).1))))
-              (e1 ∙ ap (λ (t : PortRecord). t.next_token) h.port);
+              (e1 ∙ ap (λ (t : PortRecord). t.next_token) h.port) (ap resting_by e2 ∙ ap (λ (t : PortRecord). t.resting) h.port);
           incoming = ap (λ c. incoming_of c.incoming) e ∙ (h.incoming ∙ incoming_same w H now f (none_taken w H now f is.claim is.plain (none_replied w H old h quiet)));
         }
 
@@ -411,9 +414,9 @@ taken_due w H old new now (Some f) x h p owes held first m e =
     let is = due_taken w f now (refusal_by w x) k (due_get w (due w H) (length (acknowledged H)) (refusal_by w x) s.desk.0 first.is) in
     let more = acknowledged_is H now f false true is.0 is.1 in
     record {
-      who = ap (λ c. who_of c.own) e ∙ h.who;
+      who = ap (λ c. who_of w.known c.own) e ∙ h.who;
       answered = (h.answered, ap Some k ∙ sym (next_is w H now (Some (refusal_by w x)) _ (sym p.owes ∙ owes) held (steered_due w H (refusal_by w x) first.is) refl));
-      hold = is_hold _ _ p.moment (p.standing ∙ ap standing_of (sym (address_is w H now f false is.0))) owes (p.pause ∙ sym (pause_is H now f false (no_packet f is.2))) p.age (p.wait ∙ wait_same H now f false true false is.0 is.1 is.2 refl);
+      hold = is_hold _ _ p.rest p.moment (p.standing ∙ ap standing_of (sym (address_is w H now f false is.0))) owes (p.pause ∙ sym (pause_is H now f false (no_packet f is.2))) p.age (p.wait ∙ wait_same H now f false true false is.0 is.1 is.2 refl);
       outgoing = ap (λ c. map posted c.outgoing.items) e ∙ h.outgoing;
       taken = ap (λ c. c.taken) e ∙ (h.taken ∙ ap (λ (xs : List Message). length xs - length (told H)) (sym (sent_is H now f false true false is.0 is.1 is.2)));
       token = ap (λ c. c.next_token) e ∙ h.token;
@@ -421,13 +424,13 @@ taken_due w H old new now (Some f) x h p owes held first m e =
       unread = ap (λ c. map received_by c.inbox.unread.items) e ∙ h.unread;
       requests = ap (λ c. map request_by c.desk.waiting.items) e ∙ h.requests;
       acknowledgments = first.rest ∙ ap (λ (n : ℕ). drop n (due w H)) (sym (ap length more ∙ length_one_more (acknowledged H) (message_of f)));
-      holders = subst (λ t. Knows t (told_claims (TakeFrame now (Some f) ∷ H))) (sym (ap (λ c. c.holders) e))
-          (subst (Knows old.holders) (sym (ap (λ (b : Bool). if b then told_claims H ++ f ∷ [] else told_claims H) is.0)) h.holders);
+      holders = subst (λ t. Knows t (told_claims w (TakeFrame now (Some f) ∷ H))) (sym (ap (λ c. c.holders) e))
+          (subst (Knows old.holders) (sym (ap (λ (b : Bool). if b then told_claims w H ++ f ∷ [] else told_claims w H) is.0)) h.holders);
       news = ap (λ c. c.news) e ∙ h.news;
       missed = ap (λ c. c.inbox.missed) e ∙ h.missed;
       lane = ap (λ c. lane_of w c.lane) e ∙ (h.lane ∙ lane_same w H now f (no_packet f is.2));
       incoming = ap (λ c. incoming_of c.incoming) e ∙ (h.incoming ∙ incoming_same w H now f (taken_is w H now f false true is.0 is.1));
-      hearing = ap (λ c. hearing_of c.hearing) e ∙ (h.hearing ∙ hearing_same H now f is.0);
+      hearing = ap (λ c. hearing_of c.hearing) e ∙ (h.hearing ∙ hearing_same w H now f is.0);
       port = ap (λ c. port_of c.transfers) e ∙ (h.port ∙ port_same w H now f (no_move w H f (no_transfer f is.2)));
     }
 
@@ -444,12 +447,12 @@ taken_reply w H old new now (Some f) x h p owes held none first m e e0 =
     let at : slice_get (reception w H).replies 0 ≡ Some (said_by w.address x) = first.is ∙ ap (λ (a : ℕ). Some (said_by a x)) own in
     let is = reply_taken w.address f now (said_by w.address x) k (replied_get w.address (reception w H).replies 0 _ (tidy w H).replies at) in
     record {
-      who = ap (λ c. who_of c.own) e ∙ h.who;
+      who = ap (λ c. who_of w.known c.own) e ∙ h.who;
       answered = (
         h.answered,
         ap Some k ∙ sym (next_is w H now (Some (said_by w.address x)) _ (sym p.owes ∙ owes) held (steered_by w H None _ (none_due w H old h none) at) refl),
       );
-      hold = is_hold _ _ p.moment (p.standing ∙ ap standing_of (sym (address_is w H now f false is.0))) owes (p.pause ∙ sym (pause_is H now f false is.3)) p.age (p.wait ∙ wait_same H now f false false true is.0 is.1 is.2 refl);
+      hold = is_hold _ _ p.rest p.moment (p.standing ∙ ap standing_of (sym (address_is w H now f false is.0))) owes (p.pause ∙ sym (pause_is H now f false is.3)) p.age (p.wait ∙ wait_same H now f false false true is.0 is.1 is.2 refl);
       outgoing = ap (λ c. map posted c.outgoing.items) e ∙ h.outgoing;
       taken = ap (λ c. c.taken) e ∙ (h.taken ∙ ap (λ (xs : List Message). length xs - length (told H)) (sym (sent_is H now f false false true is.0 is.1 is.2)));
       token = ap (λ c. c.next_token) e ∙ h.token;
@@ -458,14 +461,14 @@ taken_reply w H old new now (Some f) x h p owes held none first m e e0 =
       requests = ap (λ c. map request_by c.desk.waiting.items) e ∙ h.requests;
       acknowledgments = ap (λ c. map (refusal_by w) c.desk.due.items) e ∙ (h.acknowledgments
           ∙ ap (λ (xs : List Message). drop (length xs) (due w H)) (sym (acknowledged_is H now f false false is.0 is.1)));
-      holders = subst (λ t. Knows t (told_claims (TakeFrame now (Some f) ∷ H))) (sym (ap (λ c. c.holders) e))
-          (subst (Knows old.holders) (sym (ap (λ (b : Bool). if b then told_claims H ++ f ∷ [] else told_claims H) is.0)) h.holders);
+      holders = subst (λ t. Knows t (told_claims w (TakeFrame now (Some f) ∷ H))) (sym (ap (λ c. c.holders) e))
+          (subst (Knows old.holders) (sym (ap (λ (b : Bool). if b then told_claims w H ++ f ∷ [] else told_claims w H) is.0)) h.holders);
       news = ap (λ c. c.news) e ∙ h.news;
       missed = ap (λ c. c.inbox.missed) e ∙ h.missed;
       lane = ap (λ c. lane_of w c.lane) e ∙ (h.lane ∙ lane_same w H now f is.3);
       incoming = ap incoming_of e0 ∙ (ap (λ (xs : List Message). with_replies xs (incoming_of old.incoming)) first.rest
           ∙ (ap (with_replies (drop 1 (reception w H).replies)) h.incoming ∙ incoming_replied w H now f is.0 is.1));
-      hearing = ap (λ c. hearing_of c.hearing) e ∙ (h.hearing ∙ hearing_same H now f is.0);
+      hearing = ap (λ c. hearing_of c.hearing) e ∙ (h.hearing ∙ hearing_same w H now f is.0);
       port = ap (λ c. port_of c.transfers) e ∙ (h.port ∙ port_same w H now f (reply_no_move w H f _ at));
     }
 
@@ -475,7 +478,7 @@ pub told_done : (w : Who) (H : List Call) (old new : Controller) (x : Outgoing) 
     → First posted new.outgoing.items x (length (told H)) (accepted w H) → 0 < old.taken → new.taken + 1 ≡ old.taken
     → new.own ≡ old.own → new.hold ≡ old.hold → new.next_token ≡ old.next_token → new.inbox ≡ old.inbox → new.desk ≡ old.desk → new.holders ≡ old.holders → new.news ≡ old.news → new.lane ≡ old.lane → new.incoming ≡ old.incoming → new.transfers ≡ old.transfers → new.asking ≡ old.asking → new.hearing ≡ old.hearing → Is w (TakeEnded (Some (x.token, Done)) ∷ H) new
 told_done w H old new x h f some less e1 e2 e3 e4 e5 e6 e7 e8 e9 e10 e11 e12 = record {
-  who = ap who_of e1 ∙ h.who;
+  who = ap (who_of w.known) e1 ∙ h.who;
   answered = (
     h.answered,
     sym (ap (λ (b : Bool). end_of b (is_lost (address_after w H)) (slice_get (accepted w H) (length (told H)))) before
@@ -489,7 +492,7 @@ told_done w H old new x h f some less e1 e2 e3 e4 e5 e6 e7 e8 e9 e10 e11 e12 = r
   unread = ap (λ o. map received_by o.unread.items) e4 ∙ h.unread;
   requests = ap (λ d. map request_by d.waiting.items) e5 ∙ h.requests;
   acknowledgments = ap (λ d. map (refusal_by w) d.due.items) e5 ∙ h.acknowledgments;
-  holders = subst (λ t. Knows t (told_claims H)) (sym e6) h.holders;
+  holders = subst (λ t. Knows t (told_claims w H)) (sym e6) h.holders;
   news = e7 ∙ h.news;
   missed = ap (λ o. o.missed) e4 ∙ h.missed;
   lane = ap (lane_of w) e8 ∙ h.lane;
@@ -508,7 +511,7 @@ pub told_withdrawn : (w : Who) (H : List Call) (old new : Controller) (x : Outgo
     → First posted new.outgoing.items x (length (told H)) (accepted w H) → old.taken ≡ 0 → lost old.hold.standing ≡ true → new.taken ≡ old.taken
     → new.own ≡ old.own → new.hold ≡ old.hold → new.next_token ≡ old.next_token → new.inbox ≡ old.inbox → new.desk ≡ old.desk → new.holders ≡ old.holders → new.news ≡ old.news → new.lane ≡ old.lane → new.incoming ≡ old.incoming → new.transfers ≡ old.transfers → new.asking ≡ old.asking → new.hearing ≡ old.hearing → Is w (TakeEnded (Some (x.token, Withdrawn)) ∷ H) new
 told_withdrawn w H old new x h f none is_away same e1 e2 e3 e4 e5 e6 e7 e8 e9 e10 e11 e12 = record {
-  who = ap who_of e1 ∙ h.who;
+  who = ap (who_of w.known) e1 ∙ h.who;
   answered = (
     h.answered,
     sym (ap (λ (b : Bool). end_of b (is_lost (address_after w H)) (slice_get (accepted w H) (length (told H)))) after
@@ -522,7 +525,7 @@ told_withdrawn w H old new x h f none is_away same e1 e2 e3 e4 e5 e6 e7 e8 e9 e1
   unread = ap (λ o. map received_by o.unread.items) e4 ∙ h.unread;
   requests = ap (λ d. map request_by d.waiting.items) e5 ∙ h.requests;
   acknowledgments = ap (λ d. map (refusal_by w) d.due.items) e5 ∙ h.acknowledgments;
-  holders = subst (λ t. Knows t (told_claims H)) (sym e6) h.holders;
+  holders = subst (λ t. Knows t (told_claims w H)) (sym e6) h.holders;
   news = e7 ∙ h.news;
   missed = ap (λ o. o.missed) e4 ∙ h.missed;
   lane = ap (lane_of w) e8 ∙ h.lane;
@@ -552,9 +555,9 @@ pub posts : (w : Who) (H : List Call) (old new : Controller) (now : ℕ) (d : Dr
 posts w H old new now d x h p held can room is e0 e1 e2 e3 e4 e5 e6 e7 e8 e9 e10 e11 e12 =
     let s = sound w H h.answered in
     record {
-      who = ap who_of e2 ∙ h.who;
+      who = ap (who_of w.known) e2 ∙ h.who;
       answered = (h.answered, ap Ok h.token ∙ sym (answer (holds w H now) (can_send w d) (is_full w H) held can (sym (full_is w H old h) ∙ room)));
-      hold = is_hold _ _ p.moment p.standing p.owes p.pause p.age p.wait;
+      hold = is_hold _ _ p.rest p.moment p.standing p.owes p.pause p.age p.wait;
       outgoing = ap (map posted) e0 ∙ (map_append posted old.outgoing.items x
           ∙ (ap (λ l. l ++ posted x ∷ []) h.outgoing ∙ (ap (λ (y : ℕ × Message). drop (length (told H)) (accepted w H) ++ y ∷ []) is
           ∙ sym (drop_append (length (told H)) (accepted w H) (old.next_token, message_from w d) s.within))));
@@ -564,7 +567,7 @@ posts w H old new now d x h p held can room is e0 e1 e2 e3 e4 e5 e6 e7 e8 e9 e10
       unread = ap (λ o. map received_by o.unread.items) e4 ∙ h.unread;
       requests = ap (λ d. map request_by d.waiting.items) e5 ∙ h.requests;
       acknowledgments = ap (λ d. map (refusal_by w) d.due.items) e5 ∙ h.acknowledgments;
-      holders = subst (λ t. Knows t (told_claims H)) (sym e6) h.holders;
+      holders = subst (λ t. Knows t (told_claims w H)) (sym e6) h.holders;
       news = e7 ∙ h.news;
       missed = ap (λ o. o.missed) e4 ∙ h.missed;
       lane = ap (lane_of w) e8 ∙ h.lane;
@@ -639,20 +642,20 @@ news_heard u v l a b m n o e f g =
     ∙ ap (λ (x : Bool). record u { lost = l; another = u.another || b; missed = u.missed || (x || o) }) g)
 
 pub heard_more : (w : Who) (H : List Call) (old new : Controller) (f : FrameRecord) (mid : Hold) (held wanted away gone calls replaced unheard : Bool) (o : Option Asked) → Is w H old
-    → Passed w H f.stamp mid → held ≡ stands mid.standing → wanted ≡ is_for_program (who_of old.own) held f
+    → Passed w H f.stamp mid → held ≡ stands mid.standing → wanted ≡ is_for_program (who_of w.known old.own) held f
     → map received_by new.inbox.unread.items ≡ offered wanted (stamped f) (map received_by old.inbox.unread.items)
     → new.inbox.missed ≡ counted wanted (map received_by old.inbox.unread.items) old.inbox.missed
-    → gone ≡ is_smaller (who_of old.own) (claim_of f) → away ≡ lost mid.standing → calls ≡ calls_for_claim (who_of old.own) away f
+    → gone ≡ is_smaller (who_of w.known old.own) (claim_of f) → away ≡ lost mid.standing → calls ≡ calls_for_claim (who_of w.known old.own) away f
     → map request_by new.desk.waiting.items
-    ≡ with_request (who_of old.own) (nat_lt (length old.desk.waiting.items) 16) o (map request_by old.desk.waiting.items)
-    → map (refusal_by (who_of old.own)) new.desk.due.items
-    ≡ with_refusal (who_of old.own) (nat_lt (length old.desk.waiting.items) 16) (nat_lt (length old.desk.due.items) 16) o
-    (map (refusal_by (who_of old.own)) old.desk.due.items)
-    → o ≡ asked (who_of old.own) held f
+    ≡ with_request (who_of w.known old.own) (nat_lt (length old.desk.waiting.items) 16) o (map request_by old.desk.waiting.items)
+    → map (refusal_by (who_of w.known old.own)) new.desk.due.items
+    ≡ with_refusal (who_of w.known old.own) (nat_lt (length old.desk.waiting.items) 16) (nat_lt (length old.desk.due.items) 16) o
+    (map (refusal_by (who_of w.known old.own)) old.desk.due.items)
+    → o ≡ asked (who_of w.known old.own) held f
     → ((F : List FrameRecord) → Knows old.holders F → Knows new.holders (F ++ f ∷ []))
     → new.news ≡ record {
       lost = old.news.lost || (gone && not away);
-      another = old.news.another || is_another (who_of old.own) held f;
+      another = old.news.another || is_another (who_of w.known old.own) held f;
       missed = old.news.missed || ((wanted && not (nat_lt (length old.inbox.unread.items) 16)) || unheard);
     }
     → new.hold ≡ heard gone calls mid → new.own ≡ old.own → new.outgoing ≡ old.outgoing → new.taken ≡ old.taken → new.next_token ≡ old.next_token → new.lane ≡ old.lane
@@ -661,16 +664,16 @@ pub heard_more : (w : Who) (H : List Call) (old new : Controller) (f : FrameReco
     → IfSome (port_of old.transfers).current (λ x. replaced ≡ is_replaced (holder_in old.holders x.sender.destination) (holder_in new.holders x.sender.destination))
     → ((r : ℕ → Bool) → IfSome (port_of old.transfers).current (λ x. replaced ≡ r x.sender.destination)
     → (port_of new.transfers).current ≡ hears_if (lost new.hold.standing) r f (min new.hold.age 9999999999999999) (port_of old.transfers).current)
-    → new.transfers.next_token ≡ old.transfers.next_token
+    → new.transfers.next_token ≡ old.transfers.next_token → new.transfers.resting ≡ old.transfers.resting
     → (whole_now : Option (ℕ × ℕ)) → whole_now ≡ made_by (has_place (incoming_of old.incoming).reception.waits) (incoming_of new.incoming).reception.waits
-    → asking_of new.asking ≡ option_map (hears_with (who_of old.own) (lost new.hold.standing) new.hold.wait f whole_now) (asking_of old.asking)
+    → asking_of new.asking ≡ option_map (hears_with (who_of w.known old.own) (lost new.hold.standing) new.hold.wait f whole_now) (asking_of old.asking)
     → (left_by : Bool) (p1 p2 : Option ℕ) (m : HearingRecord) → IfSome (hearing_of old.hearing).current (λ z. p1 ≡ holder_in old.holders z.source)
     → IfSome (hearing_of old.hearing).current (λ z. p2 ≡ holder_in new.holders z.source) → left_by ≡ not (is_same p1 p2)
     → m.current ≡ leaves_it left_by (hearing_of old.hearing).current → m.missed ≡ old.hearing.missed
     → unheard ≡ is_unheard (stamp_micros new.incoming.clock) f m.current
     → new.hearing.missed ≡ (if unheard then min (m.missed + 1) 18446744073709551615 else m.missed)
     → (IsFit m.current → (hearing_of new.hearing).current ≡ hears_it (stamp_micros new.incoming.clock) f m.current) → Is w (Hear f ∷ H) new
-heard_more w H old new f mid held wanted away gone calls replaced unheard o h p e1 e2 e3 e4 e5 e6 e7 q1 q2 q3 q4 q5 e8 s1 s2 s3 s4 s5 s9 s6 s7 s8 whole_now m1 a1 left_by p1 p2 m t1 t2 t3 t4 t5 t6 t7 t8 =
+heard_more w H old new f mid held wanted away gone calls replaced unheard o h p e1 e2 e3 e4 e5 e6 e7 q1 q2 q3 q4 q5 e8 s1 s2 s3 s4 s5 s9 s6 s7 s8 s10 whole_now m1 a1 left_by p1 p2 m t1 t2 t3 t4 t5 t6 t7 t8 =
     let s = sound w H h.answered in
     let wants : wanted ≡ is_for_program w (holds w H f.stamp) f =
     e2 ∙ (ap (λ (v : Who). is_for_program v held f) h.who ∙ ap (λ (b : Bool). is_for_program w b f) (holds_is w H f.stamp mid held p e1)) in
@@ -685,23 +688,23 @@ heard_more w H old new f mid held wanted away gone calls replaced unheard o h p 
     let goes : gone ≡ is_smaller w (claim_of f) = e5 ∙ ap (λ (v : Who). is_smaller v (claim_of f)) h.who in
     let asks : calls ≡ calls_for_claim w (is_lost (address_after w H)) f =
     e7 ∙ (ap (λ (v : Who). calls_for_claim v away f) h.who ∙ ap (λ (b : Bool). calls_for_claim w b f) lost_before) in
-    let r : ℕ → Bool = λ a. is_replaced (holder H a) (holder (Hear f ∷ H) a) in
+    let r : ℕ → Bool = λ a. is_replaced (holder w H a) (holder w (Hear f ∷ H) a) in
     let current : (port_of old.transfers).current ≡ open_transfer w H = ap (λ (t : PortRecord). t.current) h.port in
     let stands_now : new.hold.standing ≡ standing_of (address_after w (Hear f ∷ H)) =
     ap (λ (k : Hold). k.standing) e8 ∙ (ap (λ (b : Bool). if b then standing.Lost else mid.standing) goes
     ∙ (ap (λ (x : Standing). if is_smaller w (claim_of f) then standing.Lost else x) p.standing
     ∙ heard_standing (is_smaller w (claim_of f)) (step H f.stamp) (address_after w H))) in
     let hears_in : incoming_of new.incoming ≡ incoming_after w (Hear f ∷ H) =
-    incoming_heard w H old f new.holders new.incoming gone held h (q4 (told_claims H) h.holders) goes (holds_is w H f.stamp mid held p e1) s9 in
-    let on = heard_on H f old.holders new.holders left_by unheard (stamp_micros new.incoming.clock) p1 p2 (hearing_of old.hearing) m (hearing_of new.hearing) h.hearing
-    h.holders (q4 (told_claims H) h.holders) (ap (λ (x : IncomingRecord). x.clock) hears_in) t1 t2 t3 t4 t5 t6 t7 t8 in
+    incoming_heard w H old f new.holders new.incoming gone held h (q4 (told_claims w H) h.holders) goes (holds_is w H f.stamp mid held p e1) s9 in
+    let on = heard_on w H f old.holders new.holders left_by unheard (stamp_micros new.incoming.clock) p1 p2 (hearing_of old.hearing) m (hearing_of new.hearing) h.hearing
+    h.holders (q4 (told_claims w H) h.holders) (ap (λ (x : IncomingRecord). x.clock) hears_in) t1 t2 t3 t4 t5 t6 t7 t8 in
     let made_now : whole_now ≡ made w H f =
     m1 ∙ (ap (λ (x : IncomingRecord). made_by (has_place x.reception.waits) (incoming_of new.incoming).reception.waits) h.incoming
     ∙ (ap (λ (x : IncomingRecord). made_by (has_place (reception w H).waits) x.reception.waits) hears_in ∙ made_is w H f)) in
     record {
-      who = ap who_of s1 ∙ h.who;
+      who = ap (who_of w.known) s1 ∙ h.who;
       answered = (h.answered, tt);
-      hold = is_hold _ _ (ap (λ (k : Hold). k.moment) e8 ∙ p.moment) stands_now
+      hold = is_hold _ _ (ap (λ (k : Hold). k.rest) e8 ∙ p.rest) (ap (λ (k : Hold). k.moment) e8 ∙ p.moment) stands_now
           (ap (λ (k : Hold). k.owes_claim) e8 ∙ (ap (λ (b : Bool). b || calls) p.owes ∙ ap (λ (b : Bool). owes_claim w H || b) asks))
           (ap (λ (k : Hold). k.pause) e8 ∙ p.pause) (ap (λ (k : Hold). k.age) e8 ∙ p.age) (ap (λ (k : Hold). k.wait) e8 ∙ p.wait);
       outgoing = ap (λ o. map posted o.items) s2 ∙ h.outgoing;
@@ -725,36 +728,36 @@ heard_more w H old new f mid held wanted away gone calls replaced unheard o h p 
           ∙ (ap (λ (b : Bool). with_refusal w (nat_lt (length (requests w H) - length (handed H)) 16) b o (map (refusal_by w) old.desk.due.items)) place
           ∙ (ap (λ (x : Option Asked). with_refusal w (nat_lt (length (requests w H) - length (handed H)) 16) (nat_lt (length (due w H) - length (acknowledged H)) 16) x (map (refusal_by w) old.desk.due.items)) asks_for
           ∙ refusal_rest w (nat_lt (length (requests w H) - length (handed H)) 16) (nat_lt (length (due w H) - length (acknowledged H)) 16) (asked w (holds w H f.stamp) f) (due w H) (map (refusal_by w) old.desk.due.items) (length (acknowledged H)) (front_length (acknowledged H) (due w H) s.desk.1) h.acknowledgments)))));
-      holders = q4 (told_claims H) h.holders;
+      holders = q4 (told_claims w H) h.holders;
       news = q5 ∙ is_news _ _
           (ap (λ (u : Untold). u.lost || (gone && not away)) h.news
           ∙ (ap (λ (b : Bool). lost_news w H || (b && not away)) goes ∙ ap (λ (b : Bool). lost_news w H || (is_smaller w (claim_of f) && not b)) lost_before))
-          (ap (λ (u : Untold). u.another || is_another (who_of old.own) held f) h.news
+          (ap (λ (u : Untold). u.another || is_another (who_of w.known old.own) held f) h.news
           ∙ (ap (λ (v : Who). another_news w H || is_another v held f) h.who
           ∙ ap (λ (b : Bool). another_news w H || is_another w b f) (holds_is w H f.stamp mid held p e1)))
           (ap (λ (u : Untold). u.missed || ((wanted && not (nat_lt (length old.inbox.unread.items) 16)) || unheard)) h.news
-          ∙ (ap (λ (b : Bool). (missed_news w H || unheard_news H) || ((b && not (nat_lt (length old.inbox.unread.items) 16)) || unheard)) wants
-          ∙ (ap (λ (n : ℕ). (missed_news w H || unheard_news H) || ((is_for_program w (holds w H f.stamp) f && not (nat_lt n 16)) || unheard))
+          ∙ (ap (λ (b : Bool). (missed_news w H || unheard_news w H) || ((b && not (nat_lt (length old.inbox.unread.items) 16)) || unheard)) wants
+          ∙ (ap (λ (n : ℕ). (missed_news w H || unheard_news w H) || ((is_for_program w (holds w H f.stamp) f && not (nat_lt n 16)) || unheard))
           (length_rest received_by old.inbox.unread.items (length (got H)) (kept w H) h.unread)
-          ∙ (ap (λ (b : Bool). (missed_news w H || unheard_news H) || ((is_for_program w (holds w H f.stamp) f && not (nat_lt (length (kept w H) - length (got H)) 16)) || b)) on.unheard
-          ∙ either_news (missed_news w H) (unheard_news H) _ _))));
+          ∙ (ap (λ (b : Bool). (missed_news w H || unheard_news w H) || ((is_for_program w (holds w H f.stamp) f && not (nat_lt (length (kept w H) - length (got H)) 16)) || b)) on.unheard
+          ∙ either_news (missed_news w H) (unheard_news w H) _ _))));
       missed = e4 ∙ (ap (λ (b : Bool). counted b (map received_by old.inbox.unread.items) old.inbox.missed) wants
           ∙ missed_rest (is_for_program w (holds w H f.stamp) f) (kept w H) _ (length (got H)) (missed w H) _ h.unread h.missed);
       lane = ap (lane_of w) s5 ∙ h.lane;
       incoming = hears_in;
       hearing = on.hearing;
       port = is_port _ _
-          (s7 (λ a. is_replaced (holder H a) (holder (Hear f ∷ H) a))
-          (subst (λ (o : Option Running). IfSome o (λ x. replaced ≡ is_replaced (holder H x.sender.destination) (holder (Hear f ∷ H) x.sender.destination)))
+          (s7 (λ a. is_replaced (holder w H a) (holder w (Hear f ∷ H) a))
+          (subst (λ (o : Option Running). IfSome o (λ x. replaced ≡ is_replaced (holder w H x.sender.destination) (holder w (Hear f ∷ H) x.sender.destination)))
           (sym current)
-          (replaced_is w H f old.holders new.holders replaced (open_transfer w H) (ported w H h.answered) h.holders (q4 (told_claims H) h.holders)
+          (replaced_is w H f old.holders new.holders replaced (open_transfer w H) (ported w H h.answered) h.holders (q4 (told_claims w H) h.holders)
           (subst (λ (o : Option Running). IfSome o (λ x. replaced ≡ is_replaced (holder_in old.holders x.sender.destination) (holder_in new.holders x.sender.destination))) current s6)))
           ∙ (ap (λ (b : Bool). hears_if b r f (min new.hold.age 9999999999999999) (port_of old.transfers).current)
           (ap lost stands_now ∙ lost_is (address_after w (Hear f ∷ H)))
           ∙ (ap (λ (n : ℕ). hears_if (is_lost (address_after w (Hear f ∷ H))) r f n (port_of old.transfers).current)
           (ap (λ (n : ℕ). min n 9999999999999999) (ap (λ (k : Hold). k.age) e8 ∙ p.age) ∙ clock_is (age H + step H f.stamp))
           ∙ ap (hears_if (is_lost (address_after w (Hear f ∷ H))) r f (clock_at H f.stamp)) current)))
-          (s8 ∙ ap (λ (t : PortRecord). t.next_token) h.port);
+          (s8 ∙ ap (λ (t : PortRecord). t.next_token) h.port) (ap resting_by s10 ∙ ap (λ (t : PortRecord). t.resting) h.port);
     }
 
 -- ---- requests
@@ -763,7 +766,7 @@ pub handed_more : (w : Who) (H : List Call) (old new : Controller) (x : Request)
     → First request_by new.desk.waiting.items x (length (handed H)) (requests w H)
     → new ≡ record old { desk = record { waiting = new.desk.waiting; due = old.desk.due } } → Is w (TakeRequest (Some (request_by x)) ∷ H) new
 handed_more w H old new x h first e = record {
-  who = ap (λ c. who_of c.own) e ∙ h.who;
+  who = ap (λ c. who_of w.known c.own) e ∙ h.who;
   answered = (h.answered, sym first.is);
   hold = ap (λ c. c.hold) e ∙ h.hold;
   outgoing = ap (λ c. map posted c.outgoing.items) e ∙ h.outgoing;
@@ -773,7 +776,7 @@ handed_more w H old new x h first e = record {
   unread = ap (λ c. map received_by c.inbox.unread.items) e ∙ h.unread;
   requests = first.rest ∙ ap (λ (n : ℕ). drop n (requests w H)) (sym (length_one_more (handed H) (request_by x)));
   acknowledgments = ap (λ c. map (refusal_by w) c.desk.due.items) e ∙ h.acknowledgments;
-  holders = subst (λ t. Knows t (told_claims H)) (sym (ap (λ c. c.holders) e)) h.holders;
+  holders = subst (λ t. Knows t (told_claims w H)) (sym (ap (λ c. c.holders) e)) h.holders;
   news = ap (λ c. c.news) e ∙ h.news;
   missed = ap (λ c. c.inbox.missed) e ∙ h.missed;
   lane = ap (λ c. lane_of w c.lane) e ∙ h.lane;
@@ -798,9 +801,9 @@ pub due_more : (w : Who) (H : List Call) (old new : Controller) (now : ℕ) (ans
 due_more w H old new now answer x h p right a g e =
     let s = sound w H h.answered in
     record {
-      who = ap (λ c. who_of c.own) e ∙ h.who;
+      who = ap (λ c. who_of w.known c.own) e ∙ h.who;
       answered = (h.answered, right);
-      hold = is_hold _ _ p.moment p.standing p.owes p.pause p.age p.wait;
+      hold = is_hold _ _ p.rest p.moment p.standing p.owes p.pause p.age p.wait;
       outgoing = ap (λ c. map posted c.outgoing.items) e ∙ h.outgoing;
       taken = ap (λ c. c.taken) e ∙ h.taken;
       token = ap (λ c. c.next_token) e ∙ h.token;
@@ -811,7 +814,7 @@ due_more w H old new now answer x h p right a g e =
           ∙ (ap (λ l. l ++ refusal_by w x ∷ []) h.acknowledgments
           ∙ (ap (λ (y : Answer). drop (length (acknowledged H)) (due w H) ++ acknowledgment w y (request_by x.request) ∷ []) a
           ∙ sym (drop_append (length (acknowledged H)) (due w H) (acknowledgment w answer (request_by x.request)) (front_length (acknowledged H) (due w H) s.desk.1)))));
-      holders = subst (λ t. Knows t (told_claims H)) (sym (ap (λ c. c.holders) e)) h.holders;
+      holders = subst (λ t. Knows t (told_claims w H)) (sym (ap (λ c. c.holders) e)) h.holders;
       news = ap (λ c. c.news) e ∙ h.news;
       missed = ap (λ c. c.inbox.missed) e ∙ h.missed;
       lane = ap (λ c. lane_of w c.lane) e ∙ h.lane;
@@ -825,9 +828,9 @@ due_more w H old new now answer x h p right a g e =
 pub refuses_send : (w : Who) (H : List Call) (old new : Controller) (now : ℕ) (d : Draft) (r : Refused) → Is w H old → Passed w H now new.hold
     → Err r ≡ answer_to_send w H now d → new ≡ record old { hold = new.hold } → Is w (Send now d (Err r) ∷ H) new
 refuses_send w H old new now d r h p answer e = record {
-  who = ap (λ c. who_of c.own) e ∙ h.who;
+  who = ap (λ c. who_of w.known c.own) e ∙ h.who;
   answered = (h.answered, answer);
-  hold = is_hold _ _ p.moment p.standing p.owes p.pause p.age p.wait;
+  hold = is_hold _ _ p.rest p.moment p.standing p.owes p.pause p.age p.wait;
   outgoing = ap (λ c. map posted c.outgoing.items) e ∙ h.outgoing;
   taken = ap (λ c. c.taken) e ∙ h.taken;
   token = ap (λ c. c.next_token) e ∙ h.token;
@@ -835,7 +838,7 @@ refuses_send w H old new now d r h p answer e = record {
   unread = ap (λ c. map received_by c.inbox.unread.items) e ∙ h.unread;
   requests = ap (λ c. map request_by c.desk.waiting.items) e ∙ h.requests;
   acknowledgments = ap (λ c. map (refusal_by w) c.desk.due.items) e ∙ h.acknowledgments;
-  holders = subst (λ t. Knows t (told_claims H)) (sym (ap (λ c. c.holders) e)) h.holders;
+  holders = subst (λ t. Knows t (told_claims w H)) (sym (ap (λ c. c.holders) e)) h.holders;
   news = ap (λ c. c.news) e ∙ h.news;
   missed = ap (λ c. c.inbox.missed) e ∙ h.missed;
   lane = ap (λ c. lane_of w c.lane) e ∙ h.lane;
@@ -924,8 +927,8 @@ claims_after (Claimed e) = refl
 claims_after Lost = refl
 
 pub claims_more : (w : Who) (H : List Call) (old new : Controller) (now : ℕ) (f : FrameRecord) (mid : Hold) (a : ℕ) → Is w H old → Passed w H now mid
-    → mid.owes_claim ≡ true → new.hold ≡ record { moment = mid.moment; standing = claims mid.standing; owes_claim = false; pause = mid.pause; age = mid.age; wait = mid.wait }
-    → Some (stamped f) ≡ Some (now, claim_from (who_of old.own) a) → a ≡ (if lost mid.standing then 254 else old.own.address)
+    → mid.owes_claim ≡ true → new.hold ≡ record { moment = mid.moment; standing = claims mid.standing; owes_claim = false; pause = mid.pause; age = mid.age; wait = mid.wait; rest = mid.rest }
+    → Some (stamped f) ≡ Some (now, claim_from (who_of w.known old.own) a) → a ≡ (if lost mid.standing then 254 else old.own.address)
     → ((F : List FrameRecord) → Knows old.holders F → Knows new.holders (F ++ f ∷ []))
     → incoming_of new.incoming ≡ with_reception (left (leaves (holder_in old.holders) (holder_in new.holders) (incoming_of old.incoming).reception.session)
     (incoming_of old.incoming).reception) (incoming_of old.incoming)
@@ -934,23 +937,23 @@ pub claims_more : (w : Who) (H : List Call) (old new : Controller) (now : ℕ) (
     → (hearing_of new.hearing).current ≡ leaves_it left_by (hearing_of old.hearing).current → new.hearing.missed ≡ old.hearing.missed
     → new ≡ record old { hold = new.hold; holders = new.holders; incoming = new.incoming; hearing = new.hearing } → Is w (TakeFrame now (Some f) ∷ H) new
 claims_more w H old new now f mid a h p owes e0 m at knows drops left_by p1 p2 t1 t2 t3 t4 t5 e =
-    let from : claim_from (who_of old.own) a ≡ claim_from w (claim_address w (address_after w H)) =
+    let from : claim_from (who_of w.known old.own) a ≡ claim_from w (claim_address w (address_after w H)) =
     ap (λ (v : Who). claim_from v a) h.who
     ∙ ap (claim_from w) (at ∙ (ap (λ (x : Standing). if lost x then 254 else old.own.address) p.standing
     ∙ (ap (λ (n : ℕ). if lost (standing_of (older (step H now) (address_after w H))) then 254 else n) (ap (λ (v : Who). v.address) h.who)
     ∙ told_address (step H now) (address_after w H)))) in
-    let k : stamped f ≡ (now, claim_from (who_of old.own) a) = cc in
+    let k : stamped f ≡ (now, claim_from (who_of w.known old.own) a) = cc in
     let j : stamped f ≡ (now, claim_from w (claim_address w (address_after w H))) = k ∙ ap (λ (x : Message). (now, x)) from in
     let n = claim_taken f now w (claim_address w (address_after w H)) j in
     let due_claim : owes_claim w H ≡ true = sym p.owes ∙ owes in
     record {
-      who = ap (λ c. who_of c.own) e ∙ h.who;
+      who = ap (λ c. who_of w.known c.own) e ∙ h.who;
       answered = (
         h.answered,
         ap Some j ∙ sym (ap (λ (b : Bool). frame_by b (holds w H now) (next_control w H) (slice_get (accepted w H) (length (sent H))) (next_long w H now)
             (claim_from w (claim_address w (address_after w H))) now) due_claim),
       );
-      hold = e0 ∙ is_hold _ _ p.moment
+      hold = e0 ∙ is_hold _ _ p.rest p.moment
           (ap claims p.standing ∙ (claims_after (older (step H now) (address_after w H)) ∙ ap standing_of (sym (address_is w H now f true n)))) refl
           (p.pause ∙ sym (pause_is H now f false (no_packet f (claim_single f n)))) p.age (p.wait ∙ wait_same H now f true _ _ n refl refl refl);
       outgoing = ap (λ c. map posted c.outgoing.items) e ∙ h.outgoing;
@@ -961,13 +964,13 @@ claims_more w H old new now f mid a h p owes e0 m at knows drops left_by p1 p2 t
       requests = ap (λ c. map request_by c.desk.waiting.items) e ∙ h.requests;
       acknowledgments = ap (λ c. map (refusal_by w) c.desk.due.items) e ∙ (h.acknowledgments
           ∙ ap (λ (xs : List Message). drop (length xs) (due w H)) (sym (acknowledged_is H now f true _ n refl)));
-      holders = subst (Knows new.holders) (sym (ap (λ (b : Bool). if b then told_claims H ++ f ∷ [] else told_claims H) n)) (knows (told_claims H) h.holders);
+      holders = subst (Knows new.holders) (sym (ap (λ (b : Bool). if b then told_claims w H ++ f ∷ [] else told_claims w H) n)) (knows (told_claims w H) h.holders);
       news = ap (λ c. c.news) e ∙ h.news;
       missed = ap (λ c. c.inbox.missed) e ∙ h.missed;
       lane = ap (λ c. lane_of w c.lane) e ∙ (h.lane ∙ lane_same w H now f (no_packet f (claim_single f n)));
-      hearing = claimed_on H now f old.holders new.holders left_by p1 p2 (hearing_of old.hearing) (hearing_of new.hearing) h.hearing h.holders (subst (Knows new.holders) (sym (told_is H now f n)) (knows (told_claims H) h.holders)) t1 t2 t3 t4 t5;
+      hearing = claimed_on w H now f old.holders new.holders left_by p1 p2 (hearing_of old.hearing) (hearing_of new.hearing) h.hearing h.holders (subst (Knows new.holders) (sym (told_is w H now f n)) (knows (told_claims w H) h.holders)) t1 t2 t3 t4 t5;
       port = ap (λ c. port_of c.transfers) e ∙ (h.port ∙ port_same w H now f (no_move w H f (no_transfer f (claim_single f n))));
-      incoming = drops ∙ incoming_claimed w H old now f new.holders h n (subst (Knows new.holders) (sym (told_is H now f n)) (knows (told_claims H) h.holders));
+      incoming = drops ∙ incoming_claimed w H old now f new.holders h n (subst (Knows new.holders) (sym (told_is w H now f n)) (knows (told_claims w H) h.holders));
     }
   where
     told_address : (s : ℕ) (x : Address) → (if lost (standing_of (older s x)) then 254 else w.address) ≡ claim_address w x
@@ -981,7 +984,7 @@ owes_is : (w : Who) (H : List Call) (c : Controller) (b : Bool) → Is w H c →
 owes_is w H c b h e = sym (ap (λ (k : Hold). k.owes_claim) h.hold) ∙ e
 
 claim_told : (w : Who) (H : List Call) (c : Controller) (a : ℕ) → Is w H c → a ≡ (if lost c.hold.standing then 254 else c.own.address)
-    → claim_from (who_of c.own) a ≡ claim_from w (claim_address w (address_after w H))
+    → claim_from (who_of w.known c.own) a ≡ claim_from w (claim_address w (address_after w H))
 claim_told w H c a h e =
     ap (λ (v : Who). claim_from v a) h.who
     ∙ ap (claim_from w) (e ∙ (ap (λ (k : Hold). if lost k.standing then 254 else c.own.address) h.hold
@@ -993,7 +996,7 @@ claim_told w H c a h e =
     told_address Lost = refl
 
 pub peeks_claim : (w : Who) (H : List Call) (c : Controller) (now a : ℕ) (r : Option FrameRecord) → Is w H c → c.hold.owes_claim ≡ true
-    → option_map stamped r ≡ Some (now, claim_from (who_of c.own) a) → a ≡ (if lost c.hold.standing then 254 else c.own.address)
+    → option_map stamped r ≡ Some (now, claim_from (who_of w.known c.own) a) → a ≡ (if lost c.hold.standing then 254 else c.own.address)
     → option_map stamped r ≡ next_frame w H now
 peeks_claim w H c now a r h owes m e =
     m ∙ (ap (λ (x : Message). Some (now, x)) (claim_told w H c a h e)
@@ -1047,7 +1050,7 @@ pub peeks_message : (w : Who) (H : List Call) (c : Controller) (now left time : 
     → holds w H now ≡ true → slice_get c.desk.due.items 0 ≡ None → slice_get (reception w H).replies 0 ≡ None → left ≡ pause H - step H now → time ≡ min (age H + step H now) 18446744073709551615
     → option_map stamped r ≡ option_map (at_now now)
     (first_of None (option_map posted (slice_get c.outgoing.items c.taken))
-    (long_by (packet_by (lane_of (who_of c.own) c.lane).current c.lane.count left) (transfer_by (port_of c.transfers).current (clock time))))
+    (long_by (packet_by (lane_of (who_of w.known c.own) c.lane).current c.lane.count left) (transfer_by (port_of c.transfers).current (clock time))))
     → option_map stamped r ≡ next_frame w H now
 peeks_message w H c now left time r h owes held g quiet e a m =
     let t = (sound w H h.answered).in_turn (holding_not_lost w H now held) in
@@ -1080,9 +1083,9 @@ pub refuses_broadcast : (w : Who) (H : List Call) (old new : Controller) (now gr
     → Passed w H now new.hold → Err r ≡ answer_to_broadcast w H now group bytes → new ≡ record old { hold = new.hold }
     → Is w (Broadcast now group bytes (Err r) ∷ H) new
 refuses_broadcast w H old new now group bytes r h p answer e = record {
-  who = ap (λ c. who_of c.own) e ∙ h.who;
+  who = ap (λ c. who_of w.known c.own) e ∙ h.who;
   answered = (h.answered, answer);
-  hold = is_hold _ _ p.moment p.standing p.owes p.pause p.age p.wait;
+  hold = is_hold _ _ p.rest p.moment p.standing p.owes p.pause p.age p.wait;
   outgoing = ap (λ c. map posted c.outgoing.items) e ∙ h.outgoing;
   taken = ap (λ c. c.taken) e ∙ h.taken;
   token = ap (λ c. c.next_token) e ∙ h.token;
@@ -1090,7 +1093,7 @@ refuses_broadcast w H old new now group bytes r h p answer e = record {
   unread = ap (λ c. map received_by c.inbox.unread.items) e ∙ h.unread;
   requests = ap (λ c. map request_by c.desk.waiting.items) e ∙ h.requests;
   acknowledgments = ap (λ c. map (refusal_by w) c.desk.due.items) e ∙ h.acknowledgments;
-  holders = subst (λ t. Knows t (told_claims H)) (sym (ap (λ c. c.holders) e)) h.holders;
+  holders = subst (λ t. Knows t (told_claims w H)) (sym (ap (λ c. c.holders) e)) h.holders;
   news = ap (λ c. c.news) e ∙ h.news;
   missed = ap (λ c. c.inbox.missed) e ∙ h.missed;
   lane = ap (λ c. lane_of w c.lane) e ∙ h.lane;
@@ -1104,9 +1107,9 @@ pub begins : (w : Who) (H : List Call) (old new : Controller) (now group : ℕ) 
     → new ≡ record old { hold = new.hold; lane = new.lane } → new.lane.current ≡ Some x → new.lane.count ≡ 0
     → new.lane.next_token ≡ suc old.lane.next_token → Is w (Broadcast now group bytes (Ok old.lane.next_token) ∷ H) new
 begins w H old new now group bytes x h p answer is e e0 e1 e2 = record {
-  who = ap (λ c. who_of c.own) e ∙ h.who;
+  who = ap (λ c. who_of w.known c.own) e ∙ h.who;
   answered = (h.answered, answer);
-  hold = is_hold _ _ p.moment p.standing p.owes p.pause p.age p.wait;
+  hold = is_hold _ _ p.rest p.moment p.standing p.owes p.pause p.age p.wait;
   outgoing = ap (λ c. map posted c.outgoing.items) e ∙ h.outgoing;
   taken = ap (λ c. c.taken) e ∙ h.taken;
   token = ap (λ c. c.next_token) e ∙ h.token;
@@ -1114,7 +1117,7 @@ begins w H old new now group bytes x h p answer is e e0 e1 e2 = record {
   unread = ap (λ c. map received_by c.inbox.unread.items) e ∙ h.unread;
   requests = ap (λ c. map request_by c.desk.waiting.items) e ∙ h.requests;
   acknowledgments = ap (λ c. map (refusal_by w) c.desk.due.items) e ∙ h.acknowledgments;
-  holders = subst (λ t. Knows t (told_claims H)) (sym (ap (λ c. c.holders) e)) h.holders;
+  holders = subst (λ t. Knows t (told_claims w H)) (sym (ap (λ c. c.holders) e)) h.holders;
   news = ap (λ c. c.news) e ∙ h.news;
   missed = ap (λ c. c.inbox.missed) e ∙ h.missed;
   lane = is_lane _ _ (ap (option_map (opened w)) e0 ∙ ap Some is) e1
@@ -1133,7 +1136,7 @@ ended_is w H c b h e =
 pub ends : (w : Who) (H : List Call) (old new : Controller) (x : ℕ × Ending) → Is w H old → Some x ≡ next_broadcast_ended w H
     → new ≡ record old { lane = new.lane } → new.lane ≡ record old.lane { current = None } → Is w (TakeBroadcastEnded (Some x) ∷ H) new
 ends w H old new x h answer e e0 = record {
-  who = ap (λ c. who_of c.own) e ∙ h.who;
+  who = ap (λ c. who_of w.known c.own) e ∙ h.who;
   answered = (h.answered, answer);
   hold = ap (λ c. c.hold) e ∙ h.hold;
   outgoing = ap (λ c. map posted c.outgoing.items) e ∙ h.outgoing;
@@ -1143,7 +1146,7 @@ ends w H old new x h answer e e0 = record {
   unread = ap (λ c. map received_by c.inbox.unread.items) e ∙ h.unread;
   requests = ap (λ c. map request_by c.desk.waiting.items) e ∙ h.requests;
   acknowledgments = ap (λ c. map (refusal_by w) c.desk.due.items) e ∙ h.acknowledgments;
-  holders = subst (λ t. Knows t (told_claims H)) (sym (ap (λ c. c.holders) e)) h.holders;
+  holders = subst (λ t. Knows t (told_claims w H)) (sym (ap (λ c. c.holders) e)) h.holders;
   news = ap (λ c. c.news) e ∙ h.news;
   missed = ap (λ c. c.inbox.missed) e ∙ h.missed;
   lane = ap (lane_of w) e0 ∙ ap (λ (l : LaneRecord). record l { current = None }) h.lane;
@@ -1176,26 +1179,29 @@ none_ends w H c h answer = record {
 
 -- ---- transfers
 
-pub engaged_is : (w : Who) (H : List Call) (c : Controller) → Is w H c
-    → is_engaged (port_of c.transfers).current c.transfers.next_token ≡ is_engaged (open_transfer w H) (length (all_transfers w H))
-engaged_is w H c h = ap (λ (p : PortRecord). is_engaged p.current p.next_token) h.port
+pub engaged_is : (w : Who) (H : List Call) (c : Controller) (now group to : ℕ) (mid : Hold) → Is w H c → Passed w H now mid
+    → (is_engaged (port_of c.transfers).current c.transfers.next_token || (nat_lt 0 mid.rest && holds_back (port_of c.transfers).resting group to))
+    ≡ (is_engaged (open_transfer w H) (length (all_transfers w H)) || is_resting w H now group to)
+engaged_is w H c now group to mid h p =
+    ap (λ (q : PortRecord). is_engaged q.current q.next_token || (nat_lt 0 mid.rest && holds_back q.resting group to)) h.port
+    ∙ ap (λ (n : ℕ). is_engaged (open_transfer w H) (length (all_transfers w H)) || (nat_lt 0 n && holds_back (resting w H) group to)) p.rest
 
 abbrev pub transfers_by : Who → List Call → Bool → Bool → Bool → Result ℕ Refused
 transfers_by w H a b f = if a then (if b then (if f then Err Full else Ok (length (all_transfers w H))) else Err BadValue) else Err NoAddress
 
 pub transfer_is : (w : Who) (H : List Call) (now group to : ℕ) (bytes : List ℕ) (a b f : Bool) → holds w H now ≡ a → can_transfer w group to bytes ≡ b
-    → is_engaged (open_transfer w H) (length (all_transfers w H)) ≡ f → answer_to_transfer w H now group to bytes ≡ transfers_by w H a b f
+    → (is_engaged (open_transfer w H) (length (all_transfers w H)) || is_resting w H now group to) ≡ f → answer_to_transfer w H now group to bytes ≡ transfers_by w H a b f
 transfer_is w H now group to bytes a b f e g k =
-    ap (λ (x : Bool). transfers_by w H x (can_transfer w group to bytes) (is_engaged (open_transfer w H) (length (all_transfers w H)))) e
-    ∙ (ap (λ (x : Bool). transfers_by w H a x (is_engaged (open_transfer w H) (length (all_transfers w H)))) g ∙ ap (λ (x : Bool). transfers_by w H a b x) k)
+    ap (λ (x : Bool). transfers_by w H x (can_transfer w group to bytes) (is_engaged (open_transfer w H) (length (all_transfers w H)) || is_resting w H now group to)) e
+    ∙ (ap (λ (x : Bool). transfers_by w H a x (is_engaged (open_transfer w H) (length (all_transfers w H)) || is_resting w H now group to)) g ∙ ap (λ (x : Bool). transfers_by w H a b x) k)
 
 pub refuses_transfer : (w : Who) (H : List Call) (old new : Controller) (now group to : ℕ) (bytes : List ℕ) (r : Refused) → Is w H old
     → Passed w H now new.hold → Err r ≡ answer_to_transfer w H now group to bytes → new ≡ record old { hold = new.hold }
     → Is w (Transfer now group to bytes (Err r) ∷ H) new
 refuses_transfer w H old new now group to bytes r h p answer e = record {
-  who = ap (λ c. who_of c.own) e ∙ h.who;
+  who = ap (λ c. who_of w.known c.own) e ∙ h.who;
   answered = (h.answered, answer);
-  hold = is_hold _ _ p.moment p.standing p.owes p.pause p.age p.wait;
+  hold = is_hold _ _ p.rest p.moment p.standing p.owes p.pause p.age p.wait;
   outgoing = ap (λ c. map posted c.outgoing.items) e ∙ h.outgoing;
   taken = ap (λ c. c.taken) e ∙ h.taken;
   token = ap (λ c. c.next_token) e ∙ h.token;
@@ -1203,7 +1209,7 @@ refuses_transfer w H old new now group to bytes r h p answer e = record {
   unread = ap (λ c. map received_by c.inbox.unread.items) e ∙ h.unread;
   requests = ap (λ c. map request_by c.desk.waiting.items) e ∙ h.requests;
   acknowledgments = ap (λ c. map (refusal_by w) c.desk.due.items) e ∙ h.acknowledgments;
-  holders = subst (λ t. Knows t (told_claims H)) (sym (ap (λ c. c.holders) e)) h.holders;
+  holders = subst (λ t. Knows t (told_claims w H)) (sym (ap (λ c. c.holders) e)) h.holders;
   news = ap (λ c. c.news) e ∙ h.news;
   missed = ap (λ c. c.inbox.missed) e ∙ h.missed;
   lane = ap (λ c. lane_of w c.lane) e ∙ h.lane;
@@ -1216,11 +1222,12 @@ pub transfer_begins : (w : Who) (H : List Call) (old new : Controller) (now grou
     → Ok old.transfers.next_token ≡ answer_to_transfer w H now group to bytes
     → running x ≡ begun old.transfers.next_token (broadcast_from w group bytes) to
     → new ≡ record old { hold = new.hold; transfers = new.transfers } → new.hold ≡ record mid { age = 0 } → new.transfers.current ≡ Some x
-    → new.transfers.next_token ≡ suc old.transfers.next_token → Is w (Transfer now group to bytes (Ok old.transfers.next_token) ∷ H) new
-transfer_begins w H old new now group to bytes x mid h p answer is e e0 e1 e2 = record {
-  who = ap (λ c. who_of c.own) e ∙ h.who;
+    → new.transfers.next_token ≡ suc old.transfers.next_token → new.transfers.resting ≡ old.transfers.resting
+    → Is w (Transfer now group to bytes (Ok old.transfers.next_token) ∷ H) new
+transfer_begins w H old new now group to bytes x mid h p answer is e e0 e1 e2 e3 = record {
+  who = ap (λ c. who_of w.known c.own) e ∙ h.who;
   answered = (h.answered, answer);
-  hold = e0 ∙ is_hold _ _ p.moment p.standing p.owes p.pause refl p.wait;
+  hold = e0 ∙ is_hold _ _ p.rest p.moment p.standing p.owes p.pause refl p.wait;
   outgoing = ap (λ c. map posted c.outgoing.items) e ∙ h.outgoing;
   taken = ap (λ c. c.taken) e ∙ h.taken;
   token = ap (λ c. c.next_token) e ∙ h.token;
@@ -1228,13 +1235,14 @@ transfer_begins w H old new now group to bytes x mid h p answer is e e0 e1 e2 = 
   unread = ap (λ c. map received_by c.inbox.unread.items) e ∙ h.unread;
   requests = ap (λ c. map request_by c.desk.waiting.items) e ∙ h.requests;
   acknowledgments = ap (λ c. map (refusal_by w) c.desk.due.items) e ∙ h.acknowledgments;
-  holders = subst (λ t. Knows t (told_claims H)) (sym (ap (λ c. c.holders) e)) h.holders;
+  holders = subst (λ t. Knows t (told_claims w H)) (sym (ap (λ c. c.holders) e)) h.holders;
   news = ap (λ c. c.news) e ∙ h.news;
   missed = ap (λ c. c.inbox.missed) e ∙ h.missed;
   lane = ap (λ c. lane_of w c.lane) e ∙ h.lane;
   hearing = ap (λ c. hearing_of c.hearing) e ∙ h.hearing;
   port = is_port _ _ (ap (option_map running) e1 ∙ ap Some is)
-      (e2 ∙ (ap (λ (t : PortRecord). suc t.next_token) h.port ∙ sym (length_one_more (all_transfers w H) (to, broadcast_from w group bytes))));
+      (e2 ∙ (ap (λ (t : PortRecord). suc t.next_token) h.port ∙ sym (length_one_more (all_transfers w H) (to, broadcast_from w group bytes))))
+      (ap resting_by e3 ∙ ap (λ (t : PortRecord). t.resting) h.port);
   incoming = ap (λ c. incoming_of c.incoming) e ∙ h.incoming;
 }
 
@@ -1244,12 +1252,13 @@ transfer_end_is w H c b h e =
     ap (λ (p : PortRecord). transfer_end p.current b) h.port
     ∙ ap (transfer_end (open_transfer w H)) (e ∙ (ap (λ (k : Hold). lost k.standing) h.hold ∙ lost_is (address_after w H)))
 
-pub transfer_ends : (w : Who) (H : List Call) (old new : Controller) (x : ℕ × TransferEnding) → Is w H old → Some x ≡ next_transfer_ended w H
-    → new ≡ record old { transfers = record old.transfers { current = None } } → Is w (TakeTransferEnded (Some x) ∷ H) new
-transfer_ends w H old new x h answer e = record {
-  who = ap (λ c. who_of c.own) e ∙ h.who;
+pub transfer_ends : (w : Who) (H : List Call) (old new : Controller) (x : ℕ × TransferEnding) (b : Bool) → Is w H old → Some x ≡ next_transfer_ended w H
+    → b ≡ rests_after x.1 → new ≡ record old { hold = new.hold; transfers = new.transfers } → new.hold ≡ rested b old.hold
+    → port_of new.transfers ≡ closed b old.hold.rest (port_of old.transfers) → Is w (TakeTransferEnded (Some x) ∷ H) new
+transfer_ends w H old new x b h answer rests e e0 e1 = record {
+  who = ap (λ c. who_of w.known c.own) e ∙ h.who;
   answered = (h.answered, answer);
-  hold = ap (λ c. c.hold) e ∙ h.hold;
+  hold = e0 ∙ (ap (rested b) h.hold ∙ ap (λ (y : Bool). rested y (hold_after w H)) rests);
   outgoing = ap (λ c. map posted c.outgoing.items) e ∙ h.outgoing;
   taken = ap (λ c. c.taken) e ∙ h.taken;
   token = ap (λ c. c.next_token) e ∙ h.token;
@@ -1257,12 +1266,13 @@ transfer_ends w H old new x h answer e = record {
   unread = ap (λ c. map received_by c.inbox.unread.items) e ∙ h.unread;
   requests = ap (λ c. map request_by c.desk.waiting.items) e ∙ h.requests;
   acknowledgments = ap (λ c. map (refusal_by w) c.desk.due.items) e ∙ h.acknowledgments;
-  holders = subst (λ t. Knows t (told_claims H)) (sym (ap (λ c. c.holders) e)) h.holders;
+  holders = subst (λ t. Knows t (told_claims w H)) (sym (ap (λ c. c.holders) e)) h.holders;
   news = ap (λ c. c.news) e ∙ h.news;
   missed = ap (λ c. c.inbox.missed) e ∙ h.missed;
   lane = ap (λ c. lane_of w c.lane) e ∙ h.lane;
   hearing = ap (λ c. hearing_of c.hearing) e ∙ h.hearing;
-  port = ap (λ c. port_of c.transfers) e ∙ ap (λ (p : PortRecord). record p { current = None }) h.port;
+  port = e1 ∙ (ap (closed b old.hold.rest) h.port
+      ∙ (ap (λ (n : ℕ). closed b n (port_after w H)) (ap (λ (k : Hold). k.rest) h.hold) ∙ ap (λ (y : Bool). closed y (rest H) (port_after w H)) rests));
   incoming = ap (λ c. incoming_of c.incoming) e ∙ h.incoming;
 }
 

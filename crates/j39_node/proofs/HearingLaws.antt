@@ -65,63 +65,63 @@ list_more : (a b : Option (ℕ × MessageRecord)) (W G : List (ℕ × MessageRec
 list_more None b W G e h = ap (λ z. z ++ listed b) (e ∙ append-nil G)
 list_more (Some p) b W G e h = append-nil W ∙ (e ∙ ap (λ z. G ++ listed z) (sym (h p refl)))
 
-pub in_order : (H : List Call) → whole_broadcasts H ≡ got_broadcasts H ++ listed (waiting H)
-in_order [] = refl
-in_order (Hear f ∷ H) =
-    list_more (waiting H) (waiting (Hear f ∷ H)) (whole_broadcasts H) (got_broadcasts H) (in_order H)
-    (λ p e. ap whole_of (whole_stays (changes (holder H) (holder (Hear f ∷ H)) (hearing H)) (time_heard (Hear f ∷ H)) f (hearing H) p e))
-in_order (TakeFrame now None ∷ H) = in_order H
-in_order (TakeFrame now (Some f) ∷ H) =
-    in_order H ∙ ap (λ z. got_broadcasts H ++ listed z) (sym (whole_of_left (changes (holder H) (holder (TakeFrame now (Some f) ∷ H)) (hearing H)) (hearing H)))
-in_order (Tick now ∷ H) = in_order H
-in_order (Send now d answer ∷ H) = in_order H
-in_order (TakeEnded answer ∷ H) = in_order H
-in_order (TakeReceived answer ∷ H) = in_order H
-in_order (TakeRequest answer ∷ H) = in_order H
-in_order (TakeNews answer ∷ H) = in_order H
-in_order (Acknowledge now r answer result ∷ H) = in_order H
-in_order (Broadcast now group bytes answer ∷ H) = in_order H
-in_order (TakeBroadcastEnded answer ∷ H) = in_order H
-in_order (ReleaseTransfer answer ∷ H) = in_order H
-in_order (Transfer now group to bytes answer ∷ H) = in_order H
-in_order (TakeTransferEnded answer ∷ H) = in_order H
-in_order (Ask now group to answer ∷ H) = in_order H
-in_order (TakeAskEnded answer ∷ H) = in_order H
-in_order (ReleaseBroadcast false ∷ H) = in_order H
-in_order (ReleaseBroadcast true ∷ H) = in_order H ∙ sym (append-nil (got_broadcasts H ++ listed (waiting H)))
+pub in_order : (who : Who) (H : List Call) → whole_broadcasts who H ≡ got_broadcasts who H ++ listed (waiting who H)
+in_order who [] = refl
+in_order who (Hear f ∷ H) =
+    list_more (waiting who H) (waiting who (Hear f ∷ H)) (whole_broadcasts who H) (got_broadcasts who H) (in_order who H)
+    (λ p e. ap whole_of (whole_stays (changes (holder who H) (holder who (Hear f ∷ H)) (hearing who H)) (time_heard (Hear f ∷ H)) f (hearing who H) p e))
+in_order who (TakeFrame now None ∷ H) = in_order who H
+in_order who (TakeFrame now (Some f) ∷ H) =
+    in_order who H ∙ ap (λ z. got_broadcasts who H ++ listed z) (sym (whole_of_left (changes (holder who H) (holder who (TakeFrame now (Some f) ∷ H)) (hearing who H)) (hearing who H)))
+in_order who (Tick now ∷ H) = in_order who H
+in_order who (Send now d answer ∷ H) = in_order who H
+in_order who (TakeEnded answer ∷ H) = in_order who H
+in_order who (TakeReceived answer ∷ H) = in_order who H
+in_order who (TakeRequest answer ∷ H) = in_order who H
+in_order who (TakeNews answer ∷ H) = in_order who H
+in_order who (Acknowledge now r answer result ∷ H) = in_order who H
+in_order who (Broadcast now group bytes answer ∷ H) = in_order who H
+in_order who (TakeBroadcastEnded answer ∷ H) = in_order who H
+in_order who (ReleaseTransfer answer ∷ H) = in_order who H
+in_order who (Transfer now group to bytes answer ∷ H) = in_order who H
+in_order who (TakeTransferEnded answer ∷ H) = in_order who H
+in_order who (Ask now group to answer ∷ H) = in_order who H
+in_order who (TakeAskEnded answer ∷ H) = in_order who H
+in_order who (ReleaseBroadcast false ∷ H) = in_order who H
+in_order who (ReleaseBroadcast true ∷ H) = in_order who H ∙ sym (append-nil (got_broadcasts who H ++ listed (waiting who H)))
 
-pub released : (w : Who) (H : List Call) (c : Controller) (answer : Bool) → Is w (ReleaseBroadcast answer ∷ H) c
-    → (answer ≡ true ↔ ((x : ℕ × MessageRecord) × (waiting H ≡ Some x)))
-released w H c answer is = go (waiting H) answer refl is.answered.1
+pub released : (who : Who) (H : List Call) (c : Controller) (answer : Bool) → Is who (ReleaseBroadcast answer ∷ H) c
+    → (answer ≡ true ↔ ((x : ℕ × MessageRecord) × (waiting who H ≡ Some x)))
+released who H c answer is = go (waiting who H) answer refl is.answered.1
   where
-    go : (o : Option (ℕ × MessageRecord)) (b : Bool) → waiting H ≡ o → b ≡ not (has_place o)
-        → (b ≡ true ↔ ((x : ℕ × MessageRecord) × (waiting H ≡ Some x)))
+    go : (o : Option (ℕ × MessageRecord)) (b : Bool) → waiting who H ≡ o → b ≡ not (has_place o)
+        → (b ≡ true ↔ ((x : ℕ × MessageRecord) × (waiting who H ≡ Some x)))
     go None b e f = (λ z. absurd (let y : false ≡ true = sym f ∙ z in cc), λ z. absurd (let y : None ≡ Some z.0 = sym e ∙ z.1 in cc))
     go (Some x) b e f = (λ z. (x, e), λ z. f)
 
 -- ---- what isn't heard
 
-pub heard_or_counted : (H : List Call) (f : FrameRecord) → announces f ≡ true → is_own_group (pgn_named f) ≡ false
-    → (hearing (Hear f ∷ H) ≡ Some (begun (time_heard (Hear f ∷ H)) f)) ⊎ (unheard (Hear f ∷ H) ≡ suc (unheard H))
-heard_or_counted H f e g = by (has_room (time_heard (Hear f ∷ H)) (source_of f.id) (found H f)) refl
+pub heard_or_counted : (who : Who) (H : List Call) (f : FrameRecord) → announces f ≡ true → is_own_group (pgn_named f) ≡ false
+    → (hearing who (Hear f ∷ H) ≡ Some (begun (time_heard (Hear f ∷ H)) f)) ⊎ (unheard who (Hear f ∷ H) ≡ suc (unheard who H))
+heard_or_counted who H f e g = by (has_room (time_heard (Hear f ∷ H)) (source_of f.id) (found who H f)) refl
   where
     hears_by : Bool → Bool → Bool → Option OpenBroadcast
     hears_by a r o =
-        if a then (if r then (if o then None else Some (begun (time_heard (Hear f ∷ H)) f)) else found H f) else if packs f
-        then packed (time_heard (Hear f ∷ H)) f (found H f) else found H f
+        if a then (if r then (if o then None else Some (begun (time_heard (Hear f ∷ H)) f)) else found who H f) else if packs f
+        then packed (time_heard (Hear f ∷ H)) f (found who H f) else found who H f
 
     counts_by : Bool → Bool → Bool → ℕ
-    counts_by a r o = if a && (not o && not r) then suc (unheard H) else unheard H
+    counts_by a r o = if a && (not o && not r) then suc (unheard who H) else unheard who H
 
-    by : (r : Bool) → has_room (time_heard (Hear f ∷ H)) (source_of f.id) (found H f) ≡ r
-        → (hearing (Hear f ∷ H) ≡ Some (begun (time_heard (Hear f ∷ H)) f)) ⊎ (unheard (Hear f ∷ H) ≡ suc (unheard H))
+    by : (r : Bool) → has_room (time_heard (Hear f ∷ H)) (source_of f.id) (found who H f) ≡ r
+        → (hearing who (Hear f ∷ H) ≡ Some (begun (time_heard (Hear f ∷ H)) f)) ⊎ (unheard who (Hear f ∷ H) ≡ suc (unheard who H))
     by true k = inl (λ i. hears_by (e i) (k i) (g i))
     by false k = inr (λ i. counts_by (e i) (k i) (g i))
 
-pub counted_only : (H : List Call) (f : FrameRecord) → unheard (Hear f ∷ H) ≢ unheard H
-    → IsTrue (announces f) × ((x : OpenBroadcast) × (found H f ≡ Some x)
+pub counted_only : (who : Who) (H : List Call) (f : FrameRecord) → unheard who (Hear f ∷ H) ≢ unheard who H
+    → IsTrue (announces f) × ((x : OpenBroadcast) × (found who H f ≡ Some x)
     × (IsTrue (is_whole x) ⊎ ((source_of f.id ≢ x.source) × (is_late (time_heard (Hear f ∷ H)) x ≡ false))))
-counted_only H f n = go (announces f) (is_own_group (pgn_named f)) refl (found H f) refl n
+counted_only who H f n = go (announces f) (is_own_group (pgn_named f)) refl (found who H f) refl n
   where
     no_room : (x : OpenBroadcast) (a b c : Bool) → is_whole x ≡ a → nat_eq (source_of f.id) x.source ≡ b → is_late (time_heard (Hear f ∷ H)) x ≡ c
         → (not a && (b || c)) ≡ false → IsTrue (is_whole x) ⊎ ((source_of f.id ≢ x.source) × (is_late (time_heard (Hear f ∷ H)) x ≡ false))
@@ -130,16 +130,16 @@ counted_only H f n = go (announces f) (is_own_group (pgn_named f)) refl (found H
     no_room x false false true e g k i = absurd (cc)
     no_room x false false false e g k i = inr (λ s. (let z : false ≡ true = sym g ∙ eq-eqb _ _ s in absurd (cc)), k)
 
-    go : (a o : Bool) → announces f ≡ a → (z : Option OpenBroadcast) → found H f ≡ z
-        → ((if a && (not o && not (has_room (time_heard (Hear f ∷ H)) (source_of f.id) z)) then suc (unheard H) else unheard H) ≢ unheard H)
-        → IsTrue (announces f) × ((x : OpenBroadcast) × (found H f ≡ Some x)
+    go : (a o : Bool) → announces f ≡ a → (z : Option OpenBroadcast) → found who H f ≡ z
+        → ((if a && (not o && not (has_room (time_heard (Hear f ∷ H)) (source_of f.id) z)) then suc (unheard who H) else unheard who H) ≢ unheard who H)
+        → IsTrue (announces f) × ((x : OpenBroadcast) × (found who H f ≡ Some x)
         × (IsTrue (is_whole x) ⊎ ((source_of f.id ≢ x.source) × (is_late (time_heard (Hear f ∷ H)) x ≡ false))))
     go false o e z g m = absurd (m refl)
     go true true e z g m = absurd (m refl)
     go true false e None g m = absurd (m refl)
     go true false e (Some x) g m = (e, (x, g, no_room x _ _ _ refl refl refl (not_room (has_room (time_heard (Hear f ∷ H)) (source_of f.id) (Some x)) m)))
       where
-        not_room : (r : Bool) → ((if not r then suc (unheard H) else unheard H) ≢ unheard H) → r ≡ false
+        not_room : (r : Bool) → ((if not r then suc (unheard who H) else unheard who H) ≢ unheard who H) → r ≡ false
         not_room true q = absurd (q refl)
         not_room false q = refl
 
@@ -155,42 +155,42 @@ one_more : (b : Bool) (m : ℕ) → b ≡ true → 0 < (if b then suc m else m)
 one_more true m e = omega arith
 one_more false m e = absurd (cc)
 
-pub some_unheard : (H : List Call) → IsTrue (unheard_news H) → 0 < unheard H
-some_unheard [] e = absurd (cc)
-some_unheard (Hear f ∷ H) e =
-    elim (either (unheard_news H) (is_unheard (time_heard (Hear f ∷ H)) f (found H f)) e) [
-      | inl z ↦ still (is_unheard (time_heard (Hear f ∷ H)) f (found H f)) (unheard H) (some_unheard H z)
-      | inr z ↦ one_more _ (unheard H) z
+pub some_unheard : (who : Who) (H : List Call) → IsTrue (unheard_news who H) → 0 < unheard who H
+some_unheard who [] e = absurd (cc)
+some_unheard who (Hear f ∷ H) e =
+    elim (either (unheard_news who H) (is_unheard (time_heard (Hear f ∷ H)) f (found who H f)) e) [
+      | inl z ↦ still (is_unheard (time_heard (Hear f ∷ H)) f (found who H f)) (unheard who H) (some_unheard who H z)
+      | inr z ↦ one_more _ (unheard who H) z
     ]
-some_unheard (Tick now ∷ H) e = some_unheard H e
-some_unheard (TakeFrame now answer ∷ H) e = some_unheard H e
-some_unheard (Send now d answer ∷ H) e = some_unheard H e
-some_unheard (TakeEnded answer ∷ H) e = some_unheard H e
-some_unheard (TakeReceived answer ∷ H) e = some_unheard H e
-some_unheard (TakeRequest answer ∷ H) e = some_unheard H e
-some_unheard (TakeNews None ∷ H) e = some_unheard H e
-some_unheard (TakeNews (Some AddressLost) ∷ H) e = some_unheard H e
-some_unheard (TakeNews (Some AnotherAtAddress) ∷ H) e = some_unheard H e
-some_unheard (TakeNews (Some MessagesMissed) ∷ H) e = absurd (cc)
-some_unheard (Acknowledge now r answer result ∷ H) e = some_unheard H e
-some_unheard (Broadcast now group bytes answer ∷ H) e = some_unheard H e
-some_unheard (TakeBroadcastEnded answer ∷ H) e = some_unheard H e
-some_unheard (ReleaseTransfer answer ∷ H) e = some_unheard H e
-some_unheard (Transfer now group to bytes answer ∷ H) e = some_unheard H e
-some_unheard (TakeTransferEnded answer ∷ H) e = some_unheard H e
-some_unheard (Ask now group to answer ∷ H) e = some_unheard H e
-some_unheard (TakeAskEnded answer ∷ H) e = some_unheard H e
-some_unheard (ReleaseBroadcast answer ∷ H) e = some_unheard H e
+some_unheard who (Tick now ∷ H) e = some_unheard who H e
+some_unheard who (TakeFrame now answer ∷ H) e = some_unheard who H e
+some_unheard who (Send now d answer ∷ H) e = some_unheard who H e
+some_unheard who (TakeEnded answer ∷ H) e = some_unheard who H e
+some_unheard who (TakeReceived answer ∷ H) e = some_unheard who H e
+some_unheard who (TakeRequest answer ∷ H) e = some_unheard who H e
+some_unheard who (TakeNews None ∷ H) e = some_unheard who H e
+some_unheard who (TakeNews (Some AddressLost) ∷ H) e = some_unheard who H e
+some_unheard who (TakeNews (Some AnotherAtAddress) ∷ H) e = some_unheard who H e
+some_unheard who (TakeNews (Some MessagesMissed) ∷ H) e = absurd (cc)
+some_unheard who (Acknowledge now r answer result ∷ H) e = some_unheard who H e
+some_unheard who (Broadcast now group bytes answer ∷ H) e = some_unheard who H e
+some_unheard who (TakeBroadcastEnded answer ∷ H) e = some_unheard who H e
+some_unheard who (ReleaseTransfer answer ∷ H) e = some_unheard who H e
+some_unheard who (Transfer now group to bytes answer ∷ H) e = some_unheard who H e
+some_unheard who (TakeTransferEnded answer ∷ H) e = some_unheard who H e
+some_unheard who (Ask now group to answer ∷ H) e = some_unheard who H e
+some_unheard who (TakeAskEnded answer ∷ H) e = some_unheard who H e
+some_unheard who (ReleaseBroadcast answer ∷ H) e = some_unheard who H e
 
 -- ---- packets
 
 -- what is no claim leaves who holds an address
-unclaimed : (H : List Call) (f : FrameRecord) → claim_of f ≡ None → found H f ≡ hearing H
-unclaimed H f e = left_same (holder H) (holder (Hear f ∷ H)) (hearing H) (λ a. ap (λ (o : Option Claim). held_then a o (holder H a)) e)
+unclaimed : (who : Who) (H : List Call) (f : FrameRecord) → claim_of f ≡ None → found who H f ≡ hearing who H
+unclaimed who H f e = left_same (holder who H) (holder who (Hear f ∷ H)) (hearing who H) (λ a. ap (λ (o : Option Claim). held_then a o (holder who H a)) e)
 
-hears_found : (H : List Call) (f : FrameRecord) (o : Option OpenBroadcast) → claim_of f ≡ None → hearing H ≡ o
-    → hearing (Hear f ∷ H) ≡ hears (time_heard (Hear f ∷ H)) f o
-hears_found H f o e g = ap (hears (time_heard (Hear f ∷ H)) f) (unclaimed H f e ∙ g)
+hears_found : (who : Who) (H : List Call) (f : FrameRecord) (o : Option OpenBroadcast) → claim_of f ≡ None → hearing who H ≡ o
+    → hearing who (Hear f ∷ H) ≡ hears (time_heard (Hear f ∷ H)) f o
+hears_found who H f o e g = ap (hears (time_heard (Hear f ∷ H)) f) (unclaimed who H f e ∙ g)
 
 packed_by : (now : ℕ) (f : FrameRecord) (x : OpenBroadcast) (a b c d : Bool) → announces f ≡ false → packs f ≡ true → is_whole x ≡ a
     → nat_eq (source_of f.id) x.source ≡ b → is_late now x ≡ c → nat_eq (slice_index f.bytes 0) (suc x.count) ≡ d
@@ -203,39 +203,39 @@ packed_by now f x a b c d e g k l m n =
         if e then (if has_room now (source_of f.id) (Some x) then opens now f else Some x) else if g
         then (if k || not l then Some x else if m then None else Some (if n then grown now f x else touched now f x)) else Some x
 
-pub next_appended : (H : List Call) (f : FrameRecord) (x : OpenBroadcast) → claim_of f ≡ None → announces f ≡ false → IsTrue (packs f)
-    → hearing H ≡ Some x → is_whole x ≡ false → source_of f.id ≡ x.source → is_late (time_heard (Hear f ∷ H)) x ≡ false
-    → slice_index f.bytes 0 ≡ suc x.count → hearing (Hear f ∷ H) ≡ Some (grown (time_heard (Hear f ∷ H)) f x)
-next_appended H f x e g k l m n o p =
-    hears_found H f (Some x) e l ∙ packed_by (time_heard (Hear f ∷ H)) f x false true false true g k m (eq-eqb _ _ n) o (eq-eqb _ _ p)
+pub next_appended : (who : Who) (H : List Call) (f : FrameRecord) (x : OpenBroadcast) → claim_of f ≡ None → announces f ≡ false → IsTrue (packs f)
+    → hearing who H ≡ Some x → is_whole x ≡ false → source_of f.id ≡ x.source → is_late (time_heard (Hear f ∷ H)) x ≡ false
+    → slice_index f.bytes 0 ≡ suc x.count → hearing who (Hear f ∷ H) ≡ Some (grown (time_heard (Hear f ∷ H)) f x)
+next_appended who H f x e g k l m n o p =
+    hears_found who H f (Some x) e l ∙ packed_by (time_heard (Hear f ∷ H)) f x false true false true g k m (eq-eqb _ _ n) o (eq-eqb _ _ p)
 
-pub late_ends : (H : List Call) (f : FrameRecord) (x : OpenBroadcast) → claim_of f ≡ None → announces f ≡ false → IsTrue (packs f)
-    → hearing H ≡ Some x → is_whole x ≡ false → source_of f.id ≡ x.source → IsTrue (is_late (time_heard (Hear f ∷ H)) x)
-    → hearing (Hear f ∷ H) ≡ None
-late_ends H f x e g k l m n o =
-    hears_found H f (Some x) e l ∙ packed_by (time_heard (Hear f ∷ H)) f x false true true _ g k m (eq-eqb _ _ n) o refl
+pub late_ends : (who : Who) (H : List Call) (f : FrameRecord) (x : OpenBroadcast) → claim_of f ≡ None → announces f ≡ false → IsTrue (packs f)
+    → hearing who H ≡ Some x → is_whole x ≡ false → source_of f.id ≡ x.source → IsTrue (is_late (time_heard (Hear f ∷ H)) x)
+    → hearing who (Hear f ∷ H) ≡ None
+late_ends who H f x e g k l m n o =
+    hears_found who H f (Some x) e l ∙ packed_by (time_heard (Hear f ∷ H)) f x false true true _ g k m (eq-eqb _ _ n) o refl
 
-pub strangers : (H : List Call) (f : FrameRecord) → claim_of f ≡ None → announces f ≡ false
-    → (packs f ≡ false) ⊎ ((x : OpenBroadcast) → hearing H ≡ Some x → source_of f.id ≢ x.source)
-    → hearing (Hear f ∷ H) ≡ hearing H
-strangers H f e g (inl k) =
-    hears_found H f (hearing H) e refl
-    ∙ λ i. if g i then (if has_room (time_heard (Hear f ∷ H)) (source_of f.id) (hearing H) then opens (time_heard (Hear f ∷ H)) f else hearing H) else if k i
-    then packed (time_heard (Hear f ∷ H)) f (hearing H) else hearing H
-strangers H f e g (inr k) = go (hearing H) refl
+pub strangers : (who : Who) (H : List Call) (f : FrameRecord) → claim_of f ≡ None → announces f ≡ false
+    → (packs f ≡ false) ⊎ ((x : OpenBroadcast) → hearing who H ≡ Some x → source_of f.id ≢ x.source)
+    → hearing who (Hear f ∷ H) ≡ hearing who H
+strangers who H f e g (inl k) =
+    hears_found who H f (hearing who H) e refl
+    ∙ λ i. if g i then (if has_room (time_heard (Hear f ∷ H)) (source_of f.id) (hearing who H) then opens (time_heard (Hear f ∷ H)) f else hearing who H) else if k i
+    then packed (time_heard (Hear f ∷ H)) f (hearing who H) else hearing who H
+strangers who H f e g (inr k) = go (hearing who H) refl
   where
     other : (x : OpenBroadcast) → (source_of f.id ≢ x.source) → (b : Bool) → nat_eq (source_of f.id) x.source ≡ b → b ≡ false
     other x n true i = absurd (n (eqb-true _ _ i))
     other x n false i = refl
 
-    go : (o : Option OpenBroadcast) → hearing H ≡ o → hearing (Hear f ∷ H) ≡ o
-    go None l = hears_found H f None e l ∙ none (announces f) (packs f) g
+    go : (o : Option OpenBroadcast) → hearing who H ≡ o → hearing who (Hear f ∷ H) ≡ o
+    go None l = hears_found who H f None e l ∙ none (announces f) (packs f) g
       where
         none : (a b : Bool) → a ≡ false → (if a then opens (time_heard (Hear f ∷ H)) f else if b then None else None) ≡ None
         none true b i = absurd (cc)
         none false true i = refl
         none false false i = refl
-    go (Some x) l = hears_found H f (Some x) e l ∙ some (packs f) refl
+    go (Some x) l = hears_found who H f (Some x) e l ∙ some (packs f) refl
       where
         some : (p : Bool) → packs f ≡ p → hears (time_heard (Hear f ∷ H)) f (Some x) ≡ Some x
         some true q =
@@ -249,13 +249,13 @@ strangers H f e g (inr k) = go (hearing H) refl
             λ i. if g i then (if has_room (time_heard (Hear f ∷ H)) (source_of f.id) (Some x) then opens (time_heard (Hear f ∷ H)) f else Some x) else if q i
             then packed (time_heard (Hear f ∷ H)) f (Some x) else Some x
 
-pub own_frames : (H : List Call) (now : ℕ) (f : FrameRecord) → is_claim f ≡ false → hearing (TakeFrame now (Some f) ∷ H) ≡ hearing H
-own_frames H now f e = sym (ap (λ (r : HearingRecord). r.current) (hearing_same H now f e))
+pub own_frames : (who : Who) (H : List Call) (now : ℕ) (f : FrameRecord) → is_claim f ≡ false → hearing who (TakeFrame now (Some f) ∷ H) ≡ hearing who H
+own_frames who H now f e = sym (ap (λ (r : HearingRecord). r.current) (hearing_same who H now f e))
 
 -- ---- of one sender
 
 -- an open broadcast, and the calls since its announcement
-record Begun (H : List Call) (x : OpenBroadcast) : Type 0 where
+record Begun (who : Who) (H : List Call) (x : OpenBroadcast) : Type 0 where
   pub later : List Call
   pub first : FrameRecord
   pub earlier : List Call
@@ -270,18 +270,18 @@ record Begun (H : List Call) (x : OpenBroadcast) : Type 0 where
   pub numbered : AreNumbered (by x.source) 1 packets
   pub bytes : joined packets ≡ x.bytes
   pub few : length x.bytes < x.size + 7
-  pub one : KeepsHolder x.source later (Hear first ∷ earlier)
+  pub one : KeepsHolder who x.source later (Hear first ∷ earlier)
 
-abbrev AllBegun : List Call → Option OpenBroadcast → Type 0
-AllBegun H None = Unit {0}
-AllBegun H (Some x) = Begun H x
+abbrev AllBegun : Who → List Call → Option OpenBroadcast → Type 0
+AllBegun who H None = Unit {0}
+AllBegun who H (Some x) = Begun who H x
 
-abbrev AreBegun : List Call → Option OpenBroadcast → Type 0
-AreBegun H None = Unit {0}
-AreBegun H (Some x) = (is_whole x ≡ true) ⊎ Begun H x
+abbrev AreBegun : Who → List Call → Option OpenBroadcast → Type 0
+AreBegun who H None = Unit {0}
+AreBegun who H (Some x) = (is_whole x ≡ true) ⊎ Begun who H x
 
-anew : (H : List Call) (now : ℕ) (f : FrameRecord) → announces f ≡ true → Begun (Hear f ∷ H) (begun now f)
-anew H now f e = record {
+anew : (who : Who) (H : List Call) (now : ℕ) (f : FrameRecord) → announces f ≡ true → Begun who (Hear f ∷ H) (begun now f)
+anew who H now f e = record {
   later = [];
   first = f;
   earlier = H;
@@ -299,14 +299,14 @@ anew H now f e = record {
   one = tt;
 }
 
-keeps_on : (call : Call) (H : List Call) (x : OpenBroadcast) (h : Begun H x) → holder (call ∷ H) x.source ≡ holder H x.source
-    → KeepsHolder x.source (call ∷ h.later) (Hear h.first ∷ h.earlier)
-keeps_on call H x h k = (subst (λ (G : List Call). holder (call ∷ G) x.source ≡ holder G x.source) h.is k, h.one)
+keeps_on : (who : Who) (call : Call) (H : List Call) (x : OpenBroadcast) (h : Begun who H x) → holder who (call ∷ H) x.source ≡ holder who H x.source
+    → KeepsHolder who x.source (call ∷ h.later) (Hear h.first ∷ h.earlier)
+keeps_on who call H x h k = (subst (λ (G : List Call). holder who (call ∷ G) x.source ≡ holder who G x.source) h.is k, h.one)
 
 -- a call that isn't heard
-rests : (call : Call) (H : List Call) (x : OpenBroadcast) → ((G : List Call) → frames_heard (call ∷ G) ≡ frames_heard G)
-    → holder (call ∷ H) x.source ≡ holder H x.source → Begun H x → Begun (call ∷ H) x
-rests call H x quiet k h = record {
+rests : (who : Who) (call : Call) (H : List Call) (x : OpenBroadcast) → ((G : List Call) → frames_heard (call ∷ G) ≡ frames_heard G)
+    → holder who (call ∷ H) x.source ≡ holder who H x.source → Begun who H x → Begun who (call ∷ H) x
+rests who call H x quiet k h = record {
   later = call ∷ h.later;
   first = h.first;
   earlier = h.earlier;
@@ -321,13 +321,13 @@ rests call H x quiet k h = record {
   numbered = h.numbered;
   bytes = h.bytes;
   few = h.few;
-  one = keeps_on call H x h k;
+  one = keeps_on who call H x h k;
 }
 
 -- a frame that is ignored
-ignores : (H : List Call) (f : FrameRecord) (x : OpenBroadcast) (stamp now : ℕ) → holder (Hear f ∷ H) x.source ≡ holder H x.source → Begun H x
-    → Begun (Hear f ∷ H) (record x { stamp = stamp; time = now })
-ignores H f x stamp now k h = record {
+ignores : (who : Who) (H : List Call) (f : FrameRecord) (x : OpenBroadcast) (stamp now : ℕ) → holder who (Hear f ∷ H) x.source ≡ holder who H x.source → Begun who H x
+    → Begun who (Hear f ∷ H) (record x { stamp = stamp; time = now })
+ignores who H f x stamp now k h = record {
   later = Hear f ∷ h.later;
   first = h.first;
   earlier = h.earlier;
@@ -342,7 +342,7 @@ ignores H f x stamp now k h = record {
   numbered = h.numbered;
   bytes = h.bytes;
   few = h.few;
-  one = keeps_on (Hear f) H x h k;
+  one = keeps_on who (Hear f) H x h k;
 }
 
 numbered_more : (k : Key) (n : ℕ) (fs : List FrameRecord) (f : FrameRecord) → AreNumbered k n fs → is_packet k f ≡ true → slice_index f.bytes 0 ≡ n + length fs
@@ -365,9 +365,9 @@ not_whole x e = go x.size (length x.bytes) e
     go m n i = grind arith
 
 -- a packet is appended
-appends : (H : List Call) (f : FrameRecord) (x : OpenBroadcast) (now : ℕ) → holder (Hear f ∷ H) x.source ≡ holder H x.source → packs f ≡ true
-    → source_of f.id ≡ x.source → slice_index f.bytes 0 ≡ suc x.count → is_whole x ≡ false → Begun H x → Begun (Hear f ∷ H) (grown now f x)
-appends H f x now k p s n w h = record {
+appends : (who : Who) (H : List Call) (f : FrameRecord) (x : OpenBroadcast) (now : ℕ) → holder who (Hear f ∷ H) x.source ≡ holder who H x.source → packs f ≡ true
+    → source_of f.id ≡ x.source → slice_index f.bytes 0 ≡ suc x.count → is_whole x ≡ false → Begun who H x → Begun who (Hear f ∷ H) (grown now f x)
+appends who H f x now k p s n w h = record {
   later = Hear f ∷ h.later;
   first = h.first;
   earlier = h.earlier;
@@ -382,7 +382,7 @@ appends H f x now k p s n w h = record {
   numbered = numbered_more (by x.source) 1 h.packets f h.numbered (subst (λ (a : ℕ). is_packet (by a) f ≡ true) s p) (let c = h.count in omega (arith, n, c));
   bytes = joined_more h.packets f ∙ ap (λ z. z ++ drop 1 f.bytes) h.bytes;
   few = (let a = length_two x.bytes (drop 1 f.bytes) in let b = drop_one f.bytes (packs_eight f p) in let c = not_whole x w in omega (arith, a, b, c));
-  one = keeps_on (Hear f) H x h k;
+  one = keeps_on who (Hear f) H x h k;
 }
 
 same_is : (o p : Option ℕ) → is_same o p ≡ true → p ≡ o
@@ -392,68 +392,68 @@ same_is (Some m) None e = absurd (cc)
 same_is (Some m) (Some n) e = ap Some (sym (eqb-true m n e))
 
 -- a frame is heard where none waits
-heard_open : (H : List Call) (now : ℕ) (f : FrameRecord) (o : Option OpenBroadcast) → AllBegun H o → whole_of o ≡ None
-    → AllBegun (Hear f ∷ H) (hears now f (left (changes (holder H) (holder (Hear f ∷ H)) o) o))
-heard_open H now f None h n = go (announces f) (packs f) (is_own_group (pgn_named f)) refl
+heard_open : (who : Who) (H : List Call) (now : ℕ) (f : FrameRecord) (o : Option OpenBroadcast) → AllBegun who H o → whole_of o ≡ None
+    → AllBegun who (Hear f ∷ H) (hears now f (left (changes (holder who H) (holder who (Hear f ∷ H)) o) o))
+heard_open who H now f None h n = go (announces f) (packs f) (is_own_group (pgn_named f)) refl
   where
-    go : (a b c : Bool) → announces f ≡ a → AllBegun (Hear f ∷ H) (if a then (if c then None else Some (begun now f)) else if b then None else None)
+    go : (a b c : Bool) → announces f ≡ a → AllBegun who (Hear f ∷ H) (if a then (if c then None else Some (begun now f)) else if b then None else None)
     go true b true e = tt
-    go true b false e = anew H now f e
+    go true b false e = anew who H now f e
     go false true c e = tt
     go false false c e = tt
-heard_open H now f (Some x) h n = by (is_same (holder H x.source) (holder (Hear f ∷ H) x.source)) refl (is_whole x) refl
+heard_open who H now f (Some x) h n = by (is_same (holder who H x.source) (holder who (Hear f ∷ H) x.source)) refl (is_whole x) refl
   where
     open_one : (w : Bool) → is_whole x ≡ w → whole_of (Some x) ≡ None → w ≡ false
     open_one true e i = absurd (let z : Some (message_by x) ≡ None = sym (ap (λ (v : Bool). if v then Some (message_by x) else None) e) ∙ i in cc)
     open_one false e i = refl
 
-    gone : (a b c : Bool) → announces f ≡ a → AllBegun (Hear f ∷ H) (if a then (if c then None else Some (begun now f)) else if b then None else None)
+    gone : (a b c : Bool) → announces f ≡ a → AllBegun who (Hear f ∷ H) (if a then (if c then None else Some (begun now f)) else if b then None else None)
     gone true b true e = tt
-    gone true b false e = anew H now f e
+    gone true b false e = anew who H now f e
     gone false true c e = tt
     gone false false c e = tt
 
-    stays : holder (Hear f ∷ H) x.source ≡ holder H x.source → is_whole x ≡ false → (a b c d e g k : Bool) → announces f ≡ a → packs f ≡ b
+    stays : holder who (Hear f ∷ H) x.source ≡ holder who H x.source → is_whole x ≡ false → (a b c d e g k : Bool) → announces f ≡ a → packs f ≡ b
         → nat_eq (source_of f.id) x.source ≡ d → nat_eq (slice_index f.bytes 0) (suc x.count) ≡ k
-        → AllBegun (Hear f ∷ H) (if a then (if e then (if c then None else Some (begun now f)) else Some x) else if b
+        → AllBegun who (Hear f ∷ H) (if a then (if e then (if c then None else Some (begun now f)) else Some x) else if b
         then (if false || not d then Some x else if g then None else Some (if k then grown now f x else touched now f x)) else Some x)
     stays q w true b true d true g k i j l m = tt
-    stays q w true b false d true g k i j l m = anew H now f i
-    stays q w true b c d false g k i j l m = ignores H f x x.stamp x.time q h
-    stays q w false true c false e g k i j l m = ignores H f x x.stamp x.time q h
+    stays q w true b false d true g k i j l m = anew who H now f i
+    stays q w true b c d false g k i j l m = ignores who H f x x.stamp x.time q h
+    stays q w false true c false e g k i j l m = ignores who H f x x.stamp x.time q h
     stays q w false true c true e true k i j l m = tt
-    stays q w false true c true e false true i j l m = appends H f x now q j (eqb-true _ _ l) (eqb-true _ _ m) w h
-    stays q w false true c true e false false i j l m = ignores H f x f.stamp now q h
-    stays q w false false c d e g k i j l m = ignores H f x x.stamp x.time q h
+    stays q w false true c true e false true i j l m = appends who H f x now q j (eqb-true _ _ l) (eqb-true _ _ m) w h
+    stays q w false true c true e false false i j l m = ignores who H f x f.stamp now q h
+    stays q w false false c d e g k i j l m = ignores who H f x x.stamp x.time q h
 
     hears_by : Bool → Option OpenBroadcast
     hears_by w =
         if announces f then (if has_room now (source_of f.id) (Some x) then opens now f else Some x) else if packs f
         then (if w || not (nat_eq (source_of f.id) x.source) then Some x else if is_late now x then None else Some (goes_on now f x)) else Some x
 
-    by : (b : Bool) → is_same (holder H x.source) (holder (Hear f ∷ H) x.source) ≡ b → (w : Bool) → is_whole x ≡ w
-        → AllBegun (Hear f ∷ H) (hears now f (if not b && not w then None else Some x))
+    by : (b : Bool) → is_same (holder who H x.source) (holder who (Hear f ∷ H) x.source) ≡ b → (w : Bool) → is_whole x ≡ w
+        → AllBegun who (Hear f ∷ H) (hears now f (if not b && not w then None else Some x))
     by b e true i = absurd (let z : true ≡ false = open_one true i n in cc)
     by false e false i = gone (announces f) (packs f) (is_own_group (pgn_named f)) refl
     by true e false i =
-        subst (λ (v : Bool). AllBegun (Hear f ∷ H) (hears_by v)) (sym i)
+        subst (λ (v : Bool). AllBegun who (Hear f ∷ H) (hears_by v)) (sym i)
         (stays (same_is _ _ e) i (announces f) (packs f) (is_own_group (pgn_named f)) (nat_eq (source_of f.id) x.source)
         (has_room now (source_of f.id) (Some x)) (is_late now x) (nat_eq (slice_index f.bytes 0) (suc x.count)) refl refl refl refl)
 
-open_ones : (H : List Call) (o : Option OpenBroadcast) → AreBegun H o → whole_of o ≡ None → AllBegun H o
-open_ones H None h e = tt
-open_ones H (Some x) (inl w) e = absurd (let z : Some (message_by x) ≡ None = sym (ap (λ (v : Bool). if v then Some (message_by x) else None) w) ∙ e in cc)
-open_ones H (Some x) (inr h) e = h
+open_ones : (who : Who) (H : List Call) (o : Option OpenBroadcast) → AreBegun who H o → whole_of o ≡ None → AllBegun who H o
+open_ones who H None h e = tt
+open_ones who H (Some x) (inl w) e = absurd (let z : Some (message_by x) ≡ None = sym (ap (λ (v : Bool). if v then Some (message_by x) else None) w) ∙ e in cc)
+open_ones who H (Some x) (inr h) e = h
 
-become : (H : List Call) (o : Option OpenBroadcast) → AllBegun H o → AreBegun H o
-become H None h = tt
-become H (Some x) h = inr h
+become : (who : Who) (H : List Call) (o : Option OpenBroadcast) → AllBegun who H o → AreBegun who H o
+become who H None h = tt
+become who H (Some x) h = inr h
 
-heard_more : (H : List Call) (now : ℕ) (f : FrameRecord) (o : Option OpenBroadcast) → AreBegun H o
-    → AreBegun (Hear f ∷ H) (hears now f (left (changes (holder H) (holder (Hear f ∷ H)) o) o))
-heard_more H now f o h = go (whole_of o) refl
+heard_more : (who : Who) (H : List Call) (now : ℕ) (f : FrameRecord) (o : Option OpenBroadcast) → AreBegun who H o
+    → AreBegun who (Hear f ∷ H) (hears now f (left (changes (holder who H) (holder who (Hear f ∷ H)) o) o))
+heard_more who H now f o h = go (whole_of o) refl
   where
-    kept : (z : Option OpenBroadcast) (p : ℕ × MessageRecord) → whole_of z ≡ Some p → AreBegun (Hear f ∷ H) z
+    kept : (z : Option OpenBroadcast) (p : ℕ × MessageRecord) → whole_of z ≡ Some p → AreBegun who (Hear f ∷ H) z
     kept None p e = tt
     kept (Some x) p e = inl (w (is_whole x) e)
       where
@@ -461,58 +461,58 @@ heard_more H now f o h = go (whole_of o) refl
         w true i = refl
         w false i = absurd (cc)
 
-    go : (p : Option (ℕ × MessageRecord)) → whole_of o ≡ p → AreBegun (Hear f ∷ H) (hears now f (left (changes (holder H) (holder (Hear f ∷ H)) o) o))
-    go None e = become (Hear f ∷ H) _ (heard_open H now f o (open_ones H o h e) e)
-    go (Some p) e = subst (AreBegun (Hear f ∷ H)) (sym (whole_stays (changes (holder H) (holder (Hear f ∷ H)) o) now f o p e)) (kept o p e)
+    go : (p : Option (ℕ × MessageRecord)) → whole_of o ≡ p → AreBegun who (Hear f ∷ H) (hears now f (left (changes (holder who H) (holder who (Hear f ∷ H)) o) o))
+    go None e = become who (Hear f ∷ H) _ (heard_open who H now f o (open_ones who H o h e) e)
+    go (Some p) e = subst (AreBegun who (Hear f ∷ H)) (sym (whole_stays (changes (holder who H) (holder who (Hear f ∷ H)) o) now f o p e)) (kept o p e)
 
-quiet_more : (call : Call) (H : List Call) (o : Option OpenBroadcast) → ((G : List Call) → frames_heard (call ∷ G) ≡ frames_heard G)
-    → ((a : ℕ) → holder (call ∷ H) a ≡ holder H a) → AreBegun H o → AreBegun (call ∷ H) o
-quiet_more call H None quiet k h = tt
-quiet_more call H (Some x) quiet k (inl w) = inl w
-quiet_more call H (Some x) quiet k (inr h) = inr (rests call H x quiet (k x.source) h)
+quiet_more : (who : Who) (call : Call) (H : List Call) (o : Option OpenBroadcast) → ((G : List Call) → frames_heard (call ∷ G) ≡ frames_heard G)
+    → ((a : ℕ) → holder who (call ∷ H) a ≡ holder who H a) → AreBegun who H o → AreBegun who (call ∷ H) o
+quiet_more who call H None quiet k h = tt
+quiet_more who call H (Some x) quiet k (inl w) = inl w
+quiet_more who call H (Some x) quiet k (inr h) = inr (rests who call H x quiet (k x.source) h)
 
-taken_more : (H : List Call) (now : ℕ) (f : FrameRecord) (o : Option OpenBroadcast) → AreBegun H o
-    → AreBegun (TakeFrame now (Some f) ∷ H) (left (changes (holder H) (holder (TakeFrame now (Some f) ∷ H)) o) o)
-taken_more H now f None h = tt
-taken_more H now f (Some x) (inl w) =
-    subst (AreBegun (TakeFrame now (Some f) ∷ H)) (sym (left_whole (changes (holder H) (holder (TakeFrame now (Some f) ∷ H)) (Some x)) x w)) (inl w)
-taken_more H now f (Some x) (inr h) = by (is_same (holder H x.source) (holder (TakeFrame now (Some f) ∷ H) x.source)) refl (is_whole x) refl
+taken_more : (who : Who) (H : List Call) (now : ℕ) (f : FrameRecord) (o : Option OpenBroadcast) → AreBegun who H o
+    → AreBegun who (TakeFrame now (Some f) ∷ H) (left (changes (holder who H) (holder who (TakeFrame now (Some f) ∷ H)) o) o)
+taken_more who H now f None h = tt
+taken_more who H now f (Some x) (inl w) =
+    subst (AreBegun who (TakeFrame now (Some f) ∷ H)) (sym (left_whole (changes (holder who H) (holder who (TakeFrame now (Some f) ∷ H)) (Some x)) x w)) (inl w)
+taken_more who H now f (Some x) (inr h) = by (is_same (holder who H x.source) (holder who (TakeFrame now (Some f) ∷ H) x.source)) refl (is_whole x) refl
   where
-    by : (b : Bool) → is_same (holder H x.source) (holder (TakeFrame now (Some f) ∷ H) x.source) ≡ b → (w : Bool) → is_whole x ≡ w
-        → AreBegun (TakeFrame now (Some f) ∷ H) (if not b && not w then None else Some x)
+    by : (b : Bool) → is_same (holder who H x.source) (holder who (TakeFrame now (Some f) ∷ H) x.source) ≡ b → (w : Bool) → is_whole x ≡ w
+        → AreBegun who (TakeFrame now (Some f) ∷ H) (if not b && not w then None else Some x)
     by false e false i = tt
     by false e true i = inl i
-    by true e w i = inr (rests (TakeFrame now (Some f)) H x (λ G. refl) (same_is _ _ e) h)
+    by true e w i = inr (rests who (TakeFrame now (Some f)) H x (λ G. refl) (same_is _ _ e) h)
 
-are_begun : (H : List Call) → AreBegun H (hearing H)
-are_begun [] = tt
-are_begun (Hear f ∷ H) = heard_more H (time_heard (Hear f ∷ H)) f (hearing H) (are_begun H)
-are_begun (TakeFrame now None ∷ H) = quiet_more (TakeFrame now None) H (hearing H) (λ G. refl) (λ a. refl) (are_begun H)
-are_begun (TakeFrame now (Some f) ∷ H) = taken_more H now f (hearing H) (are_begun H)
-are_begun (Tick now ∷ H) = quiet_more (Tick now) H (hearing H) (λ G. refl) (λ a. refl) (are_begun H)
-are_begun (Send now d answer ∷ H) = quiet_more (Send now d answer) H (hearing H) (λ G. refl) (λ a. refl) (are_begun H)
-are_begun (TakeEnded answer ∷ H) = quiet_more (TakeEnded answer) H (hearing H) (λ G. refl) (λ a. refl) (are_begun H)
-are_begun (TakeReceived answer ∷ H) = quiet_more (TakeReceived answer) H (hearing H) (λ G. refl) (λ a. refl) (are_begun H)
-are_begun (TakeRequest answer ∷ H) = quiet_more (TakeRequest answer) H (hearing H) (λ G. refl) (λ a. refl) (are_begun H)
-are_begun (TakeNews answer ∷ H) = quiet_more (TakeNews answer) H (hearing H) (λ G. refl) (λ a. refl) (are_begun H)
-are_begun (Acknowledge now r answer result ∷ H) = quiet_more (Acknowledge now r answer result) H (hearing H) (λ G. refl) (λ a. refl) (are_begun H)
-are_begun (Broadcast now group bytes answer ∷ H) = quiet_more (Broadcast now group bytes answer) H (hearing H) (λ G. refl) (λ a. refl) (are_begun H)
-are_begun (TakeBroadcastEnded answer ∷ H) = quiet_more (TakeBroadcastEnded answer) H (hearing H) (λ G. refl) (λ a. refl) (are_begun H)
-are_begun (ReleaseTransfer answer ∷ H) = quiet_more (ReleaseTransfer answer) H (hearing H) (λ G. refl) (λ a. refl) (are_begun H)
-are_begun (Transfer now group to bytes answer ∷ H) = quiet_more (Transfer now group to bytes answer) H (hearing H) (λ G. refl) (λ a. refl) (are_begun H)
-are_begun (TakeTransferEnded answer ∷ H) = quiet_more (TakeTransferEnded answer) H (hearing H) (λ G. refl) (λ a. refl) (are_begun H)
-are_begun (Ask now group to answer ∷ H) = quiet_more (Ask now group to answer) H (hearing H) (λ G. refl) (λ a. refl) (are_begun H)
-are_begun (TakeAskEnded answer ∷ H) = quiet_more (TakeAskEnded answer) H (hearing H) (λ G. refl) (λ a. refl) (are_begun H)
-are_begun (ReleaseBroadcast true ∷ H) = tt
-are_begun (ReleaseBroadcast false ∷ H) = quiet_more (ReleaseBroadcast false) H (hearing H) (λ G. refl) (λ a. refl) (are_begun H)
+are_begun : (who : Who) (H : List Call) → AreBegun who H (hearing who H)
+are_begun who [] = tt
+are_begun who (Hear f ∷ H) = heard_more who H (time_heard (Hear f ∷ H)) f (hearing who H) (are_begun who H)
+are_begun who (TakeFrame now None ∷ H) = quiet_more who (TakeFrame now None) H (hearing who H) (λ G. refl) (λ a. refl) (are_begun who H)
+are_begun who (TakeFrame now (Some f) ∷ H) = taken_more who H now f (hearing who H) (are_begun who H)
+are_begun who (Tick now ∷ H) = quiet_more who (Tick now) H (hearing who H) (λ G. refl) (λ a. refl) (are_begun who H)
+are_begun who (Send now d answer ∷ H) = quiet_more who (Send now d answer) H (hearing who H) (λ G. refl) (λ a. refl) (are_begun who H)
+are_begun who (TakeEnded answer ∷ H) = quiet_more who (TakeEnded answer) H (hearing who H) (λ G. refl) (λ a. refl) (are_begun who H)
+are_begun who (TakeReceived answer ∷ H) = quiet_more who (TakeReceived answer) H (hearing who H) (λ G. refl) (λ a. refl) (are_begun who H)
+are_begun who (TakeRequest answer ∷ H) = quiet_more who (TakeRequest answer) H (hearing who H) (λ G. refl) (λ a. refl) (are_begun who H)
+are_begun who (TakeNews answer ∷ H) = quiet_more who (TakeNews answer) H (hearing who H) (λ G. refl) (λ a. refl) (are_begun who H)
+are_begun who (Acknowledge now r answer result ∷ H) = quiet_more who (Acknowledge now r answer result) H (hearing who H) (λ G. refl) (λ a. refl) (are_begun who H)
+are_begun who (Broadcast now group bytes answer ∷ H) = quiet_more who (Broadcast now group bytes answer) H (hearing who H) (λ G. refl) (λ a. refl) (are_begun who H)
+are_begun who (TakeBroadcastEnded answer ∷ H) = quiet_more who (TakeBroadcastEnded answer) H (hearing who H) (λ G. refl) (λ a. refl) (are_begun who H)
+are_begun who (ReleaseTransfer answer ∷ H) = quiet_more who (ReleaseTransfer answer) H (hearing who H) (λ G. refl) (λ a. refl) (are_begun who H)
+are_begun who (Transfer now group to bytes answer ∷ H) = quiet_more who (Transfer now group to bytes answer) H (hearing who H) (λ G. refl) (λ a. refl) (are_begun who H)
+are_begun who (TakeTransferEnded answer ∷ H) = quiet_more who (TakeTransferEnded answer) H (hearing who H) (λ G. refl) (λ a. refl) (are_begun who H)
+are_begun who (Ask now group to answer ∷ H) = quiet_more who (Ask now group to answer) H (hearing who H) (λ G. refl) (λ a. refl) (are_begun who H)
+are_begun who (TakeAskEnded answer ∷ H) = quiet_more who (TakeAskEnded answer) H (hearing who H) (λ G. refl) (λ a. refl) (are_begun who H)
+are_begun who (ReleaseBroadcast true ∷ H) = tt
+are_begun who (ReleaseBroadcast false ∷ H) = quiet_more who (ReleaseBroadcast false) H (hearing who H) (λ G. refl) (λ a. refl) (are_begun who H)
 
 length_taken : (n : ℕ) (xs : List ℕ) → n ≤ length xs → length (take n xs) ≡ n
 length_taken n xs l =
     let e = ap length (take-append-drop n xs) in let a = length_two (take n xs) (drop n xs) in let b = length_drop n xs in omega (arith, e, a, b, l)
 
 -- all its packets came
-done : (H : List Call) (x : OpenBroadcast) → Begun H x → is_whole x ≡ true → length x.bytes ≡ 7 * x.count → WasBroadcast H (message_by x).1
-done H x h w seven =
+done : (who : Who) (H : List Call) (x : OpenBroadcast) → Begun who H x → is_whole x ≡ true → length x.bytes ≡ 7 * x.count → WasBroadcast who H (message_by x).1
+done who H x h w seven =
     let enough : x.size ≤ length x.bytes = leb-true _ _ w in
     let size : length (take x.size x.bytes) ≡ x.size = length_taken x.size x.bytes enough in
     let facts = announcement_facts (by (source_of h.first.id)) h.first h.announced in
@@ -538,23 +538,23 @@ done H x h w seven =
       };
     }
 
-pub came : (H : List Call) (f : FrameRecord) (p : ℕ × MessageRecord) → made_whole H f ≡ Some p → WasBroadcast (Hear f ∷ H) p.1
-came H f p e = go (waiting H) refl e
+pub came : (who : Who) (H : List Call) (f : FrameRecord) (p : ℕ × MessageRecord) → made_whole who H f ≡ Some p → WasBroadcast who (Hear f ∷ H) p.1
+came who H f p e = go (waiting who H) refl e
   where
-    last : (o : Option OpenBroadcast) → AllBegun (Hear f ∷ H) o → IsFit o → whole_of o ≡ Some p → WasBroadcast (Hear f ∷ H) p.1
+    last : (o : Option OpenBroadcast) → AllBegun who (Hear f ∷ H) o → IsFit o → whole_of o ≡ Some p → WasBroadcast who (Hear f ∷ H) p.1
     last None h fits i = absurd (cc)
     last (Some x) h fits i =
         let whole : is_whole x ≡ true = all_true (is_whole x) i in
         let z : Some (message_by x) ≡ Some p = sym (ap (λ (v : Bool). if v then Some (message_by x) else None) whole) ∙ i in
         let q : message_by x ≡ p = cc in
-        subst (λ (r : ℕ × MessageRecord). WasBroadcast (Hear f ∷ H) r.1) q (done (Hear f ∷ H) x h whole fits.0)
+        subst (λ (r : ℕ × MessageRecord). WasBroadcast who (Hear f ∷ H) r.1) q (done who (Hear f ∷ H) x h whole fits.0)
       where
         all_true : (v : Bool) → (if v then Some (message_by x) else None) ≡ Some p → v ≡ true
         all_true true j = refl
         all_true false j = absurd (cc)
 
-    go : (o : Option (ℕ × MessageRecord)) → waiting H ≡ o → newly o (waiting (Hear f ∷ H)) ≡ Some p → WasBroadcast (Hear f ∷ H) p.1
-    go None i k = last (hearing (Hear f ∷ H)) (heard_open H (time_heard (Hear f ∷ H)) f (hearing H) (open_ones H (hearing H) (are_begun H) i) i) (fit (Hear f ∷ H)) k
+    go : (o : Option (ℕ × MessageRecord)) → waiting who H ≡ o → newly o (waiting who (Hear f ∷ H)) ≡ Some p → WasBroadcast who (Hear f ∷ H) p.1
+    go None i k = last (hearing who (Hear f ∷ H)) (heard_open who H (time_heard (Hear f ∷ H)) f (hearing who H) (open_ones who H (hearing who H) (are_begun who H) i) i) (fit who (Hear f ∷ H)) k
     go (Some q) i k = absurd (cc)
 
 -- ---- what a packet and a claim do
@@ -569,32 +569,32 @@ unequal m n h = go (nat_eq m n) refl
     go true e = absurd (h (eqb-true m n e))
     go false e = refl
 
-pub last_makes_whole : (H : List Call) (f : FrameRecord) (x : OpenBroadcast) → claim_of f ≡ None → announces f ≡ false → IsTrue (packs f)
-    → hearing H ≡ Some x → is_whole x ≡ false → source_of f.id ≡ x.source → is_late (time_heard (Hear f ∷ H)) x ≡ false
+pub last_makes_whole : (who : Who) (H : List Call) (f : FrameRecord) (x : OpenBroadcast) → claim_of f ≡ None → announces f ≡ false → IsTrue (packs f)
+    → hearing who H ≡ Some x → is_whole x ≡ false → source_of f.id ≡ x.source → is_late (time_heard (Hear f ∷ H)) x ≡ false
     → slice_index f.bytes 0 ≡ suc x.count → x.size ≤ length x.bytes + 7
-    → made_whole H f ≡ Some (message_by (grown (time_heard (Hear f ∷ H)) f x))
-last_makes_whole H f x e g k l m n o p q =
+    → made_whole who H f ≡ Some (message_by (grown (time_heard (Hear f ∷ H)) f x))
+last_makes_whole who H f x e g k l m n o p q =
     let y = grown (time_heard (Hear f ∷ H)) f x in
     let whole : is_whole y ≡ true =
     at_most x.size (length (x.bytes ++ drop 1 f.bytes)) (let a = length_two x.bytes (drop 1 f.bytes) in let b = drop_one f.bytes (packs_eight f k) in omega (arith, a, b, q)) in
-    let before : waiting H ≡ None = ap whole_of l ∙ ap (λ (v : Bool). if v then Some (message_by x) else None) m in
-    let after : waiting (Hear f ∷ H) ≡ Some (message_by y) =
-    ap whole_of (next_appended H f x e g k l m n o p) ∙ ap (λ (v : Bool). if v then Some (message_by y) else None) whole in
+    let before : waiting who H ≡ None = ap whole_of l ∙ ap (λ (v : Bool). if v then Some (message_by x) else None) m in
+    let after : waiting who (Hear f ∷ H) ≡ Some (message_by y) =
+    ap whole_of (next_appended who H f x e g k l m n o p) ∙ ap (λ (v : Bool). if v then Some (message_by y) else None) whole in
     λ i. newly (before i) (after i)
 
-pub other_adds_none : (H : List Call) (f : FrameRecord) (x : OpenBroadcast) → claim_of f ≡ None → announces f ≡ false → IsTrue (packs f)
-    → hearing H ≡ Some x → is_whole x ≡ false → source_of f.id ≡ x.source → is_late (time_heard (Hear f ∷ H)) x ≡ false
-    → (slice_index f.bytes 0 ≢ suc x.count) → hearing (Hear f ∷ H) ≡ Some (touched (time_heard (Hear f ∷ H)) f x)
-other_adds_none H f x e g k l m n o p =
-    hears_found H f (Some x) e l ∙ packed_by (time_heard (Hear f ∷ H)) f x false true false false g k m (eq-eqb _ _ n) o (unequal _ _ p)
+pub other_adds_none : (who : Who) (H : List Call) (f : FrameRecord) (x : OpenBroadcast) → claim_of f ≡ None → announces f ≡ false → IsTrue (packs f)
+    → hearing who H ≡ Some x → is_whole x ≡ false → source_of f.id ≡ x.source → is_late (time_heard (Hear f ∷ H)) x ≡ false
+    → (slice_index f.bytes 0 ≢ suc x.count) → hearing who (Hear f ∷ H) ≡ Some (touched (time_heard (Hear f ∷ H)) f x)
+other_adds_none who H f x e g k l m n o p =
+    hears_found who H f (Some x) e l ∙ packed_by (time_heard (Hear f ∷ H)) f x false true false false g k m (eq-eqb _ _ n) o (unequal _ _ p)
 
-pub left_ends : (H : List Call) (f : FrameRecord) (x : OpenBroadcast) → hearing H ≡ Some x → is_whole x ≡ false
-    → (holder (Hear f ∷ H) x.source ≢ holder H x.source) → found H f ≡ None
-left_ends H f x e w h =
-    ap (λ (o : Option OpenBroadcast). left (changes (holder H) (holder (Hear f ∷ H)) o) o) e
-    ∙ go (is_same (holder H x.source) (holder (Hear f ∷ H) x.source)) refl (is_whole x) w
+pub left_ends : (who : Who) (H : List Call) (f : FrameRecord) (x : OpenBroadcast) → hearing who H ≡ Some x → is_whole x ≡ false
+    → (holder who (Hear f ∷ H) x.source ≢ holder who H x.source) → found who H f ≡ None
+left_ends who H f x e w h =
+    ap (λ (o : Option OpenBroadcast). left (changes (holder who H) (holder who (Hear f ∷ H)) o) o) e
+    ∙ go (is_same (holder who H x.source) (holder who (Hear f ∷ H) x.source)) refl (is_whole x) w
   where
-    go : (b : Bool) → is_same (holder H x.source) (holder (Hear f ∷ H) x.source) ≡ b → (v : Bool) → v ≡ false → (if not b && not v then None else Some x) ≡ None
+    go : (b : Bool) → is_same (holder who H x.source) (holder who (Hear f ∷ H) x.source) ≡ b → (v : Bool) → v ≡ false → (if not b && not v then None else Some x) ≡ None
     go true i v j = absurd (h (same_is _ _ i))
     go false i true j = absurd (cc)
     go false i false j = refl

@@ -9,7 +9,7 @@ use Rattle.j39_transport.specs.Frames.{goes, is_packet, pgn_named}
 use Rattle.j39_transport.specs.Key.{Broadcast as by, is_key}
 use Rattle.j39_frame.specs.Network.{transport_data_group}
 use Rattle.j39_transport.proofs.FrameFacts.{announcement_facts}
-use Rattle.j39_node.specs.History.{Call, is_claim, is_own_group, told_claims}
+use Rattle.j39_node.specs.History.{Who, Call, is_claim, is_own_group, told_claims}
 use Rattle.j39_node.specs.History.Call.{Ask, TakeAskEnded, Hear, Tick, TakeFrame, Send, TakeEnded, TakeReceived, TakeRequest, TakeNews, Acknowledge, Broadcast, TakeBroadcastEnded, ReleaseTransfer, Transfer, TakeTransferEnded, ReleaseBroadcast}
 use Rattle.j39_node.specs.Hearing.{IsFit, OpenBroadcast, announces, begun, changes, found, grown, has_room, hearing, hears, is_late, is_unheard, is_whole, left, opens, packed, packs, touched, unheard}
 use Rattle.j39_node.specs.Reception.{holder, is_same, time_heard}
@@ -28,21 +28,21 @@ left_same before after (Some x) k =
     ap (λ (p : Option ℕ). left (not (is_same (before x.source) p)) (Some x)) (k x.source)
     ∙ ap (λ (b : Bool). left (not b) (Some x)) (same_same (before x.source))
 
-pub left_is : (H G : List Call) (old new : Claims) (b : Bool) (p q : Option ℕ) (o : Option OpenBroadcast) → Knows old (told_claims H) → Knows new (told_claims G)
+pub left_is : (w : Who) (H G : List Call) (old new : Claims) (b : Bool) (p q : Option ℕ) (o : Option OpenBroadcast) → Knows old (told_claims w H) → Knows new (told_claims w G)
     → IfSome o (λ x. p ≡ holder_in old x.source) → IfSome o (λ x. q ≡ holder_in new x.source) → b ≡ not (is_same p q)
-    → left b o ≡ left (changes (holder H) (holder G) o) o
-left_is H G old new b p q None k l e f g = refl
-left_is H G old new b p q (Some x) k l e f g =
+    → left b o ≡ left (changes (holder w H) (holder w G) o) o
+left_is w H G old new b p q None k l e f g = refl
+left_is w H G old new b p q (Some x) k l e f g =
     ap (λ (c : Bool). left c (Some x)) g
-    ∙ λ i. left (not (is_same ((e ∙ table_is old H x.source k) i) ((f ∙ table_is new G x.source l) i))) (Some x)
+    ∙ λ i. left (not (is_same ((e ∙ table_is w old H x.source k) i) ((f ∙ table_is w new G x.source l) i))) (Some x)
 
 -- ---- a frame is taken
 
-pub hearing_same : (H : List Call) (now : ℕ) (f : FrameRecord) → is_claim f ≡ false → hearing_after H ≡ hearing_after (TakeFrame now (Some f) ∷ H)
-hearing_same H now f e =
-    ap (λ (o : Option OpenBroadcast). (let r : HearingRecord = record { current = o; missed = min (unheard H) 18446744073709551615 } in r))
-    (sym (left_same (holder H) (holder (TakeFrame now (Some f) ∷ H)) (hearing H)
-    (λ a. cond (is_claim f) _ (holder H a) e)))
+pub hearing_same : (w : Who) (H : List Call) (now : ℕ) (f : FrameRecord) → is_claim f ≡ false → hearing_after w H ≡ hearing_after w (TakeFrame now (Some f) ∷ H)
+hearing_same w H now f e =
+    ap (λ (o : Option OpenBroadcast). (let r : HearingRecord = record { current = o; missed = min (unheard w H) 18446744073709551615 } in r))
+    (sym (left_same (holder w H) (holder w (TakeFrame now (Some f) ∷ H)) (hearing w H)
+    (λ a. cond (is_claim f) _ (holder w H a) e)))
   where
     cond : (b : Bool) (x y : Option ℕ) → b ≡ false → (if b then x else y) ≡ y
     cond true x y e = absurd (cc)
@@ -52,14 +52,14 @@ pub is_hearing : (x y : HearingRecord) → x.current ≡ y.current → x.missed 
 is_hearing x y e f =
     ap (λ (o : Option OpenBroadcast). record x { current = o }) e ∙ ap (λ (n : ℕ). record x { current = y.current; missed = n }) f
 
-pub claimed_on : (H : List Call) (now : ℕ) (f : FrameRecord) (old new : Claims) (b : Bool) (p q : Option ℕ) (x y : HearingRecord) → x ≡ hearing_after H
-    → Knows old (told_claims H) → Knows new (told_claims (TakeFrame now (Some f) ∷ H))
+pub claimed_on : (w : Who) (H : List Call) (now : ℕ) (f : FrameRecord) (old new : Claims) (b : Bool) (p q : Option ℕ) (x y : HearingRecord) → x ≡ hearing_after w H
+    → Knows old (told_claims w H) → Knows new (told_claims w (TakeFrame now (Some f) ∷ H))
     → IfSome x.current (λ z. p ≡ holder_in old z.source) → IfSome x.current (λ z. q ≡ holder_in new z.source) → b ≡ not (is_same p q)
-    → y.current ≡ left b x.current → y.missed ≡ x.missed → y ≡ hearing_after (TakeFrame now (Some f) ∷ H)
-claimed_on H now f old new b p q x y h k l e1 e2 e3 e4 e5 =
+    → y.current ≡ left b x.current → y.missed ≡ x.missed → y ≡ hearing_after w (TakeFrame now (Some f) ∷ H)
+claimed_on w H now f old new b p q x y h k l e1 e2 e3 e4 e5 =
     let G = TakeFrame now (Some f) ∷ H in
-    let o : x.current ≡ hearing H = ap (λ (r : HearingRecord). r.current) h in
-    is_hearing _ _ (e4 ∙ (left_is H G old new b p q x.current k l e1 e2 e3 ∙ ap (λ (z : Option OpenBroadcast). left (changes (holder H) (holder G) z) z) o))
+    let o : x.current ≡ hearing w H = ap (λ (r : HearingRecord). r.current) h in
+    is_hearing _ _ (e4 ∙ (left_is w H G old new b p q x.current k l e1 e2 e3 ∙ ap (λ (z : Option OpenBroadcast). left (changes (holder w H) (holder w G) z) z) o))
     (e5 ∙ ap (λ (r : HearingRecord). r.missed) h)
 
 -- ---- a frame is heard
@@ -107,27 +107,27 @@ fit_hears now f o h = go (announces f) (packs f) (has_room now (source_of f.id) 
     go false true c e g = fit_packed now f o (packs_eight f g) h
     go false false c e g = h
 
-pub fit : (H : List Call) → IsFit (hearing H)
-fit [] = tt
-fit (Hear f ∷ H) = fit_hears (time_heard (Hear f ∷ H)) f (found H f) (fit_left (changes (holder H) (holder (Hear f ∷ H)) (hearing H)) (hearing H) (fit H))
-fit (TakeFrame now None ∷ H) = fit H
-fit (TakeFrame now (Some f) ∷ H) = fit_left (changes (holder H) (holder (TakeFrame now (Some f) ∷ H)) (hearing H)) (hearing H) (fit H)
-fit (Tick now ∷ H) = fit H
-fit (Send now d answer ∷ H) = fit H
-fit (TakeEnded answer ∷ H) = fit H
-fit (TakeReceived answer ∷ H) = fit H
-fit (TakeRequest answer ∷ H) = fit H
-fit (TakeNews answer ∷ H) = fit H
-fit (Acknowledge now r answer result ∷ H) = fit H
-fit (Broadcast now group bytes answer ∷ H) = fit H
-fit (TakeBroadcastEnded answer ∷ H) = fit H
-fit (ReleaseTransfer answer ∷ H) = fit H
-fit (Transfer now group to bytes answer ∷ H) = fit H
-fit (TakeTransferEnded answer ∷ H) = fit H
-fit (Ask now group to answer ∷ H) = fit H
-fit (TakeAskEnded answer ∷ H) = fit H
-fit (ReleaseBroadcast true ∷ H) = tt
-fit (ReleaseBroadcast false ∷ H) = fit H
+pub fit : (w : Who) (H : List Call) → IsFit (hearing w H)
+fit w [] = tt
+fit w (Hear f ∷ H) = fit_hears (time_heard (Hear f ∷ H)) f (found w H f) (fit_left (changes (holder w H) (holder w (Hear f ∷ H)) (hearing w H)) (hearing w H) (fit w H))
+fit w (TakeFrame now None ∷ H) = fit w H
+fit w (TakeFrame now (Some f) ∷ H) = fit_left (changes (holder w H) (holder w (TakeFrame now (Some f) ∷ H)) (hearing w H)) (hearing w H) (fit w H)
+fit w (Tick now ∷ H) = fit w H
+fit w (Send now d answer ∷ H) = fit w H
+fit w (TakeEnded answer ∷ H) = fit w H
+fit w (TakeReceived answer ∷ H) = fit w H
+fit w (TakeRequest answer ∷ H) = fit w H
+fit w (TakeNews answer ∷ H) = fit w H
+fit w (Acknowledge now r answer result ∷ H) = fit w H
+fit w (Broadcast now group bytes answer ∷ H) = fit w H
+fit w (TakeBroadcastEnded answer ∷ H) = fit w H
+fit w (ReleaseTransfer answer ∷ H) = fit w H
+fit w (Transfer now group to bytes answer ∷ H) = fit w H
+fit w (TakeTransferEnded answer ∷ H) = fit w H
+fit w (Ask now group to answer ∷ H) = fit w H
+fit w (TakeAskEnded answer ∷ H) = fit w H
+fit w (ReleaseBroadcast true ∷ H) = tt
+fit w (ReleaseBroadcast false ∷ H) = fit w H
 
 -- by what it is
 pub hears_is : (now : ℕ) (f : FrameRecord) (o : Option OpenBroadcast) (a b : Bool) → announces f ≡ a → packs f ≡ b
@@ -152,28 +152,28 @@ missed_more true c m e = ap (λ (k : ℕ). min (k + 1) 18446744073709551615) e �
 missed_more false c m e = e
 
 -- what a frame makes of it
-pub record HeardOn (H : List Call) (f : FrameRecord) (u : Bool) (y : HearingRecord) : Type 0 where
-  pub unheard : u ≡ is_unheard (time_heard (Hear f ∷ H)) f (found H f)
-  pub hearing : y ≡ hearing_after (Hear f ∷ H)
+pub record HeardOn (w : Who) (H : List Call) (f : FrameRecord) (u : Bool) (y : HearingRecord) : Type 0 where
+  pub unheard : u ≡ is_unheard (time_heard (Hear f ∷ H)) f (found w H f)
+  pub hearing : y ≡ hearing_after w (Hear f ∷ H)
 
-pub heard_on : (H : List Call) (f : FrameRecord) (old new : Claims) (b u : Bool) (now : ℕ) (p q : Option ℕ) (x m y : HearingRecord) → x ≡ hearing_after H
-    → Knows old (told_claims H) → Knows new (told_claims (Hear f ∷ H)) → now ≡ time_heard (Hear f ∷ H)
+pub heard_on : (w : Who) (H : List Call) (f : FrameRecord) (old new : Claims) (b u : Bool) (now : ℕ) (p q : Option ℕ) (x m y : HearingRecord) → x ≡ hearing_after w H
+    → Knows old (told_claims w H) → Knows new (told_claims w (Hear f ∷ H)) → now ≡ time_heard (Hear f ∷ H)
     → IfSome x.current (λ z. p ≡ holder_in old z.source) → IfSome x.current (λ z. q ≡ holder_in new z.source) → b ≡ not (is_same p q)
     → m.current ≡ left b x.current → m.missed ≡ x.missed → u ≡ is_unheard now f m.current
     → y.missed ≡ (if u then min (m.missed + 1) 18446744073709551615 else m.missed) → (IsFit m.current → y.current ≡ hears now f m.current)
-    → HeardOn H f u y
-heard_on H f old new b u now p q x m y h k l t e1 e2 e3 e4 e5 e6 e7 e8 =
+    → HeardOn w H f u y
+heard_on w H f old new b u now p q x m y h k l t e1 e2 e3 e4 e5 e6 e7 e8 =
     let G = Hear f ∷ H in
-    let o : x.current ≡ hearing H = ap (λ (r : HearingRecord). r.current) h in
-    let mid : m.current ≡ found H f =
-    e4 ∙ (left_is H G old new b p q x.current k l e1 e2 e3 ∙ ap (λ (z : Option OpenBroadcast). left (changes (holder H) (holder G) z) z) o) in
-    let says : u ≡ is_unheard (time_heard G) f (found H f) = e6 ∙ (ap (λ (n : ℕ). is_unheard n f m.current) t ∙ ap (is_unheard (time_heard G) f) mid) in
-    let fits : IsFit m.current = subst IsFit (sym mid) (fit_left (changes (holder H) (holder G) (hearing H)) (hearing H) (fit H)) in
+    let o : x.current ≡ hearing w H = ap (λ (r : HearingRecord). r.current) h in
+    let mid : m.current ≡ found w H f =
+    e4 ∙ (left_is w H G old new b p q x.current k l e1 e2 e3 ∙ ap (λ (z : Option OpenBroadcast). left (changes (holder w H) (holder w G) z) z) o) in
+    let says : u ≡ is_unheard (time_heard G) f (found w H f) = e6 ∙ (ap (λ (n : ℕ). is_unheard n f m.current) t ∙ ap (is_unheard (time_heard G) f) mid) in
+    let fits : IsFit m.current = subst IsFit (sym mid) (fit_left (changes (holder w H) (holder w G) (hearing w H)) (hearing w H) (fit w H)) in
     record {
       unheard = says;
       hearing = is_hearing _ _ (e8 fits ∙ (ap (λ (n : ℕ). hears n f m.current) t ∙ ap (hears (time_heard G) f) mid))
-          (e7 ∙ (missed_more u m.missed (unheard H) (e5 ∙ ap (λ (r : HearingRecord). r.missed) h)
-          ∙ ap (λ (c : Bool). min (if c then suc (unheard H) else unheard H) 18446744073709551615) says));
+          (e7 ∙ (missed_more u m.missed (unheard w H) (e5 ∙ ap (λ (r : HearingRecord). r.missed) h)
+          ∙ ap (λ (c : Bool). min (if c then suc (unheard w H) else unheard w H) 18446744073709551615) says));
     }
 
 -- news that stands, or is new: of messages of one frame, and of broadcasts

@@ -763,7 +763,7 @@ news_case false false true n e = inr (inr ((let z : n ≡ MessagesMissed = cc in
 news_case false false false n e = absurd (cc)
 
 pub news_told : (w : Who) (H : List Call) (c : Controller) (n : News) → Is w (TakeNews (Some n) ∷ H) c
-    → ((n ≡ AddressLost) × IsTrue (lost_news w H)) ⊎ ((n ≡ AnotherAtAddress) × IsTrue (another_news w H)) ⊎ ((n ≡ MessagesMissed) × IsTrue (missed_news w H || unheard_news H))
+    → ((n ≡ AddressLost) × IsTrue (lost_news w H)) ⊎ ((n ≡ AnotherAtAddress) × IsTrue (another_news w H)) ⊎ ((n ≡ MessagesMissed) × IsTrue (missed_news w H || unheard_news w H))
 news_told w H c n is = news_case _ _ _ n is.answered.1
 
 no_news : (a b c : Bool) → None ≡ news_of a b c → (a ≡ false) × (b ≡ false) × (c ≡ false)
@@ -772,7 +772,7 @@ no_news false true c e = absurd (cc)
 no_news false false true e = absurd (cc)
 no_news false false false e = (refl, refl, refl)
 
-pub none_told : (w : Who) (H : List Call) (c : Controller) → Is w (TakeNews None ∷ H) c → (lost_news w H ≡ false) × (another_news w H ≡ false) × ((missed_news w H || unheard_news H) ≡ false)
+pub none_told : (w : Who) (H : List Call) (c : Controller) → Is w (TakeNews None ∷ H) c → (lost_news w H ≡ false) × (another_news w H ≡ false) × ((missed_news w H || unheard_news w H) ≡ false)
 none_told w H c is = no_news _ _ _ is.answered.1
 
 either : (a b : Bool) → (a || b) ≡ true → (a ≡ true) ⊎ (b ≡ true)

@@ -2,7 +2,7 @@
 use Rattle.std.proofs.Common.{◌≡◌, ◌⊎◌, ℕ, suc, ◌-◌, List, [], ◌∷◌, ◌++◌, length, Option, Some, None, Ok, Err, Bool, true, false, ◌||◌, ◌&&◌, if◌then◌else◌, refl, sym, ap, ◌∙◌, inl, inr, arith, subst}
 use Rattle.std.specs.List.{slice_get}
 use Rattle.std.specs.Option.{option_map}
-use Rattle.std.proofs.lemmas.Bool.{cond_both}
+use Rattle.std.proofs.lemmas.Bool.{or_parts, cond_both}
 use Rattle.j39_frame.specs.Frame.{FrameRecord}
 use Rattle.j39_transport.specs.Message.{MessageRecord}
 use Rattle.j39_transport.specs.Sending.{Tick, aborted, is_running, new_sender, send_step}
@@ -11,7 +11,7 @@ use Rattle.j39_node.specs.declared.kinds.TransferEnding.{TransferEnding}
 use Rattle.j39_node.specs.History.{Who, Message, Call, accepted, acknowledged, address_after, broadcast_from, due, holds, is_lost, message_of, open_broadcast, packets, pause, sent, step}
 use Rattle.j39_node.specs.History.Call.{Ask, TakeAskEnded, Hear, Tick as Ticks, TakeFrame, Send, TakeEnded, TakeReceived, TakeRequest, TakeNews, Acknowledge, Broadcast, TakeBroadcastEnded, ReleaseTransfer, Transfer, TakeTransferEnded, ReleaseBroadcast}
 use Rattle.j39_node.specs.Is.{AreAnswered, next_packet}
-use Rattle.j39_node.specs.Transfers.{Running, begun, clock_at, gives_up, hears, hears_if, is_engaged, is_replaced, is_spent, listens, open_transfer, says, sends, sends_if, signal_by, told_transfers, transfer_by, transfer_end, transfers as all_transfers}
+use Rattle.j39_node.specs.Transfers.{is_resting, Running, begun, clock_at, gives_up, hears, hears_if, is_engaged, is_replaced, is_spent, listens, open_transfer, says, sends, sends_if, signal_by, told_transfers, transfer_by, transfer_end, transfers as all_transfers}
 use Rattle.j39_node.specs.Reception.{holder, is_move, reception}
 use Rattle.j39_node.specs.Moves.{Happened, begins, moves}
 use Rattle.j39_node.proofs.QueueLemmas.{length_one_more}
@@ -116,7 +116,7 @@ moved_new m to = record { state = refl; taken = λ i l k. absurd (omega (arith, 
 pub moved : (w : Who) (H : List Call) → AreAnswered w H → MovedIf (open_transfer w H) (moves w H)
 moved w [] e = tt
 moved w (Hear f ∷ H) e =
-    moved_hears (is_lost (address_after w (Hear f ∷ H))) (λ a. is_replaced (holder H a) (holder (Hear f ∷ H) a)) f (clock_at H f.stamp) (open_transfer w H) (moves w H)
+    moved_hears (is_lost (address_after w (Hear f ∷ H))) (λ a. is_replaced (holder w H a) (holder w (Hear f ∷ H) a)) f (clock_at H f.stamp) (open_transfer w H) (moves w H)
     (moved w H e.0)
 moved w (Ticks now ∷ H) e = moved w H e.0
 moved w (TakeFrame now None ∷ H) e = moved w H e.0
@@ -161,7 +161,7 @@ last_same told all new old e s h = record {
   count = ap suc e ∙ h.count;
 }
 
-hears_token : (lost replaced : Bool) (f : FrameRecord) (now : ℕ) (t : Running) → (hears lost replaced f now t).token ≡ t.token
+pub hears_token : (lost replaced : Bool) (f : FrameRecord) (now : ℕ) (t : Running) → (hears lost replaced f now t).token ≡ t.token
 hears_token true replaced f now t = refl
 hears_token false true f now t = refl
 hears_token false false f now t = cond_both (t.gone || is_spent t) t (listens f now t) (λ (u : Running). u.token ≡ t.token) (λ z. refl) (λ z. refl)
@@ -194,7 +194,7 @@ last_opens w H now group to k bytes (unfit a b e) h = absurd (cc)
 last_opens w H now group to k bytes (busy a b f e) h = absurd (cc)
 last_opens w H now group to k bytes (opens a b f e) h =
     let n : k ≡ length (all_transfers w H) = cc in
-    let t = not_engaged (open_transfer w H) (length (all_transfers w H)) (length (told_transfers H)) (all_transfers w H) h f in
+    let t = not_engaged (open_transfer w H) (length (all_transfers w H)) (length (told_transfers H)) (all_transfers w H) h (or_parts (is_engaged (open_transfer w H) (length (all_transfers w H))) (is_resting w H now group to) f).0 in
     record {
       token = n ∙ sym t;
       last = ap (slice_get (all_transfers w H ++ (to, broadcast_from w group bytes) ∷ [])) n ∙ get_last (all_transfers w H) (to, broadcast_from w group bytes);
@@ -209,7 +209,7 @@ last_closes told all (Some t) lost x h e = let a = h.token in let b = h.count in
 pub last_one : (w : Who) (H : List Call) → AreAnswered w H → LastIf (length (told_transfers H)) (all_transfers w H) (open_transfer w H)
 last_one w [] e = refl
 last_one w (Hear f ∷ H) e =
-    last_hears _ _ (is_lost (address_after w (Hear f ∷ H))) (λ a. is_replaced (holder H a) (holder (Hear f ∷ H) a)) f (clock_at H f.stamp) (open_transfer w H)
+    last_hears _ _ (is_lost (address_after w (Hear f ∷ H))) (λ a. is_replaced (holder w H a) (holder w (Hear f ∷ H) a)) f (clock_at H f.stamp) (open_transfer w H)
     (last_one w H e.0)
 last_one w (Ticks now ∷ H) e = last_one w H e.0
 last_one w (TakeFrame now None ∷ H) e = last_one w H e.0
@@ -254,7 +254,7 @@ now_so So H call s = record { later = []; call = call; earlier = H; is = refl; s
 pub record Arises (w : Who) (Q : Running → Type 0) (So : ℕ → MessageRecord → List Call → Call → Type 0) : Type 0 where
   pub begins_not : (token : ℕ) (m : MessageRecord) (to : ℕ) → Q (begun token m to) → ⊥
   pub by_hearing : (H : List Call) (f : FrameRecord) (t : Running) → AreAnswered w H → open_transfer w H ≡ Some t
-      → Q (hears (is_lost (address_after w (Hear f ∷ H))) (is_replaced (holder H t.sender.destination) (holder (Hear f ∷ H) t.sender.destination)) f (clock_at H f.stamp) t)
+      → Q (hears (is_lost (address_after w (Hear f ∷ H))) (is_replaced (holder w H t.sender.destination) (holder w (Hear f ∷ H) t.sender.destination)) f (clock_at H f.stamp) t)
       → Q t ⊎ So t.sender.destination t.sender.message H (Hear f)
   pub by_sending : (H : List Call) (now : ℕ) (f : FrameRecord) (t : Running) (a : Signal) → AreAnswered w H → open_transfer w H ≡ Some t
       → signal_by t (clock_at H now) ≡ Some a → message_of f ≡ says t.sender a → Q (sends (clock_at H now) t)
@@ -271,12 +271,12 @@ traced_same So new old H s h =
 
 trace_hears : (w : Who) (Q : Running → Type 0) (So : ℕ → MessageRecord → List Call → Call → Type 0) (H : List Call) (f : FrameRecord) (t : Running) (o : Option Running)
     → Arises w Q So → AreAnswered w H → open_transfer w H ≡ o
-    → hears_if (is_lost (address_after w (Hear f ∷ H))) (λ a. is_replaced (holder H a) (holder (Hear f ∷ H) a)) f (clock_at H f.stamp) o ≡ Some t → Q t
+    → hears_if (is_lost (address_after w (Hear f ∷ H))) (λ a. is_replaced (holder w H a) (holder w (Hear f ∷ H) a)) f (clock_at H f.stamp) o ≡ Some t → Q t
     → ((u : Running) → open_transfer w H ≡ Some u → Q u → Traced So u H) → Traced So t (Hear f ∷ H)
 trace_hears w Q So H f t None arises right e g q rec = absurd (cc)
 trace_hears w Q So H f t (Some u) arises right e g q rec =
     let lost = is_lost (address_after w (Hear f ∷ H)) in
-    let replaced = is_replaced (holder H u.sender.destination) (holder (Hear f ∷ H) u.sender.destination) in
+    let replaced = is_replaced (holder w H u.sender.destination) (holder w (Hear f ∷ H) u.sender.destination) in
     let z : hears lost replaced f (clock_at H f.stamp) u ≡ t = cc in
     subst (λ (x : Running). Traced So x (Hear f ∷ H)) z
     (traced_same So (hears lost replaced f (clock_at H f.stamp) u) u (Hear f ∷ H) (hears_same lost replaced f (clock_at H f.stamp) u)

@@ -76,7 +76,7 @@ pub made_is : (w : Who) (H : List Call) (f : FrameRecord) → made_by (has_place
 made_is w H f = go (reception w H).waits refl
   where
     left_one : Reception
-    left_one = left (leaves (holder H) (holder (Hear f ∷ H)) (reception w H).session) (reception w H)
+    left_one = left (leaves (holder w H) (holder w (Hear f ∷ H)) (reception w H).session) (reception w H)
 
     kept_one : (o : Option MessageRecord) → made_by true (keeps f.stamp o None) ≡ made_of o
     kept_one None = refl
@@ -87,12 +87,12 @@ made_is w H f = go (reception w H).waits refl
         ap (λ (y : Option (ℕ × MessageRecord)). made_by (has_place y) (reception w (Hear f ∷ H)).waits) e
         ∙ (ap (made_by true) (waits_after w.address (is_smaller w (claim_of f)) (holds w H f.stamp) f (time_heard (Hear f ∷ H)) left_one)
         ∙ (ap (λ (y : Option (ℕ × MessageRecord)). made_by true (keeps f.stamp (whole w H f) y))
-        (left_waits (leaves (holder H) (holder (Hear f ∷ H)) (reception w H).session) (reception w H) ∙ e) ∙ kept_one (whole w H f)))
+        (left_waits (leaves (holder w H) (holder w (Hear f ∷ H)) (reception w H).session) (reception w H) ∙ e) ∙ kept_one (whole w H f)))
     go (Some y) e =
         ap (λ (z : Option (ℕ × MessageRecord)). made_by (has_place z) (reception w (Hear f ∷ H)).waits) e
         ∙ sym (ap made_of (no_whole w.address (is_smaller w (claim_of f)) (holds w H f.stamp) f (time_heard (Hear f ∷ H)) left_one y
-        (tidy_left w.address (leaves (holder H) (holder (Hear f ∷ H)) (reception w H).session) (reception w H) (tidy w H)).apart
-        (left_waits (leaves (holder H) (holder (Hear f ∷ H)) (reception w H).session) (reception w H) ∙ e)))
+        (tidy_left w.address (leaves (holder w H) (holder w (Hear f ∷ H)) (reception w H).session) (reception w H) (tidy w H)).apart
+        (left_waits (leaves (holder w H) (holder w (Hear f ∷ H)) (reception w H).session) (reception w H) ∙ e)))
 
 taken_waits : (a b l : Bool) (r : Reception) → (taken_by a b l r).waits ≡ r.waits
 taken_waits true b l r = left_waits l r
@@ -106,7 +106,7 @@ keeps_same stamp (Some m) x e = absurd (cc)
 pub in_order : (w : Who) (H : List Call) → delivered w H ≡ got_transfers w H ++ listed (reception w H).waits
 in_order w [] = refl
 in_order w (Hear f ∷ H) =
-    in_order_heard w.address (is_smaller w (claim_of f)) (holds w H f.stamp) (leaves (holder H) (holder (Hear f ∷ H)) (reception w H).session) f (time_heard (Hear f ∷ H))
+    in_order_heard w.address (is_smaller w (claim_of f)) (holds w H f.stamp) (leaves (holder w H) (holder w (Hear f ∷ H)) (reception w H).session) f (time_heard (Hear f ∷ H))
     (reception w H) (delivered w H) (got_transfers w H) (tidy w H) (in_order w H)
 in_order w (Tick now ∷ H) =
     in_order w H ∙ ap (λ x. got_transfers w H ++ listed x)
@@ -149,7 +149,7 @@ record Begun (w : Who) (H : List Call) (r : ReceptionRecord) : Type 0 where
   pub earlier : List Call
   pub is : H ≡ later ++ Hear first ∷ earlier
   pub stands : IsReceived w.address (frames_heard (later ++ Hear first ∷ [])) r
-  pub one : KeepsHolder r.message.source later (Hear first ∷ earlier)
+  pub one : KeepsHolder w r.message.source later (Hear first ∷ earlier)
 
 abbrev AreBegun : Who → List Call → Option ReceptionRecord → Type 0
 AreBegun w H None = Unit {0}
@@ -157,7 +157,7 @@ AreBegun w H (Some r) = Begun w H r
 
 -- a session with the same source, after a call that leaves its holder
 goes_on : (w : Who) (H : List Call) (call : Call) (r s : ReceptionRecord) (h : Begun w H r) → s.message.source ≡ r.message.source
-    → holder (call ∷ H) r.message.source ≡ holder H r.message.source
+    → holder w (call ∷ H) r.message.source ≡ holder w H r.message.source
     → IsReceived w.address (frames_heard (call ∷ h.later ++ Hear h.first ∷ [])) s → Begun w (call ∷ H) s
 goes_on w H call r s h same keeps stands = record {
   later = call ∷ h.later;
@@ -165,13 +165,13 @@ goes_on w H call r s h same keeps stands = record {
   earlier = h.earlier;
   is = ap (λ G. call ∷ G) h.is;
   stands = stands;
-  one = subst (λ (a : ℕ). KeepsHolder a (call ∷ h.later) (Hear h.first ∷ h.earlier)) (sym same)
-      (subst (λ (G : List Call). holder (call ∷ G) r.message.source ≡ holder G r.message.source) h.is keeps, h.one);
+  one = subst (λ (a : ℕ). KeepsHolder w a (call ∷ h.later) (Hear h.first ∷ h.earlier)) (sym same)
+      (subst (λ (G : List Call). holder w (call ∷ G) r.message.source ≡ holder w G r.message.source) h.is keeps, h.one);
 }
 
 -- one that no frame touches
 stays : (w : Who) (H : List Call) (call : Call) (o : Option ReceptionRecord) → ((G : List Call) → frames_heard (call ∷ G) ≡ frames_heard G)
-    → ((r : ReceptionRecord) → o ≡ Some r → holder (call ∷ H) r.message.source ≡ holder H r.message.source) → AreBegun w H o → AreBegun w (call ∷ H) o
+    → ((r : ReceptionRecord) → o ≡ Some r → holder w (call ∷ H) r.message.source ≡ holder w H r.message.source) → AreBegun w H o → AreBegun w (call ∷ H) o
 stays w H call None heard keeps h = tt
 stays w H call (Some r) heard keeps h =
     goes_on w H call r r h refl (keeps r refl) (subst (λ (E : List FrameRecord). IsReceived w.address E r) (sym (heard (h.later ++ Hear h.first ∷ []))) h.stands)
@@ -261,7 +261,7 @@ none_delivered r f now found e = ap (λ o. (takes_signal (Directed (frames.sourc
 
 -- a frame is heard at the address that is held
 begun_by : (w : Who) (H : List Call) (f : FrameRecord) (now : ℕ) (found : Bool) (o : Option ReceptionRecord) → AreBegun w H o
-    → ((r : ReceptionRecord) → o ≡ Some r → holder (Hear f ∷ H) r.message.source ≡ holder H r.message.source)
+    → ((r : ReceptionRecord) → o ≡ Some r → holder w (Hear f ∷ H) r.message.source ≡ holder w H r.message.source)
     → AreBegun w (Hear f ∷ H) (recv_step (record { own = w.address; session = o }) (Heard f) now found).after.session
 begun_by w H f now found None h keeps =
     go (recv_step (record { own = w.address; session = None }) (Heard f) now found).after.session
@@ -289,18 +289,18 @@ begun_by w H f now found (Some x) h keeps =
 
 -- a frame that isn't heard there
 heard_aside : (w : Who) (H : List Call) (f : FrameRecord) (o : Option ReceptionRecord) → AreBegun w H o
-    → ((r : ReceptionRecord) → o ≡ Some r → holder (Hear f ∷ H) r.message.source ≡ holder H r.message.source) → AreBegun w (Hear f ∷ H) o
+    → ((r : ReceptionRecord) → o ≡ Some r → holder w (Hear f ∷ H) r.message.source ≡ holder w H r.message.source) → AreBegun w (Hear f ∷ H) o
 heard_aside w H f None h keeps = tt
 heard_aside w H f (Some r) h keeps =
     goes_on w H (Hear f) r r h refl (keeps r refl) (record { packets_are = h.stands.packets_are; joined_are = passed _ f _ _ h.stands.joined_are })
 
-begun_heard : (w : Who) (H : List Call) (lost held b : Bool) (f : FrameRecord) (now : ℕ) (r : Reception) → leaves (holder H) (holder (Hear f ∷ H)) r.session ≡ b
+begun_heard : (w : Who) (H : List Call) (lost held b : Bool) (f : FrameRecord) (now : ℕ) (r : Reception) → leaves (holder w H) (holder w (Hear f ∷ H)) r.session ≡ b
     → AreBegun w H r.session → AreBegun w (Hear f ∷ H) (heard_by w.address lost held f now (left b r)).session
 begun_heard w H true held b f now r e h = tt
 begun_heard w H false true true f now r e h = begun_by w H f now (has_place r.waits) None tt (λ x i. absurd (cc))
-begun_heard w H false true false f now r e h = begun_by w H f now (has_place r.waits) r.session h (λ x i. not_left (holder H) (holder (Hear f ∷ H)) r.session false x e refl i)
+begun_heard w H false true false f now r e h = begun_by w H f now (has_place r.waits) r.session h (λ x i. not_left (holder w H) (holder w (Hear f ∷ H)) r.session false x e refl i)
 begun_heard w H false false true f now r e h = tt
-begun_heard w H false false false f now r e h = heard_aside w H f r.session h (λ x i. not_left (holder H) (holder (Hear f ∷ H)) r.session false x e refl i)
+begun_heard w H false false false f now r e h = heard_aside w H f r.session h (λ x i. not_left (holder w H) (holder w (Hear f ∷ H)) r.session false x e refl i)
 
 begun_ticked : (w : Who) (H : List Call) (now time : ℕ) (o : Option ReceptionRecord) → AreBegun w H o
     → AreBegun w (Tick now ∷ H) (recv_step (record { own = w.address; session = o }) Ticks time true).after.session
@@ -322,13 +322,13 @@ begun_ticked w H now time (Some x) h =
     go (Some r) e k = goes_on w H (Tick now) x r h e refl k
 
 begun_taken : (w : Who) (H : List Call) (now : ℕ) (f : FrameRecord) (a b l : Bool) (r : Reception) → is_claim f ≡ a
-    → leaves (holder H) (holder (TakeFrame now (Some f) ∷ H)) r.session ≡ l → AreBegun w H r.session → AreBegun w (TakeFrame now (Some f) ∷ H) (taken_by a b l r).session
+    → leaves (holder w H) (holder w (TakeFrame now (Some f) ∷ H)) r.session ≡ l → AreBegun w H r.session → AreBegun w (TakeFrame now (Some f) ∷ H) (taken_by a b l r).session
 begun_taken w H now f true b true r e g h = tt
-begun_taken w H now f true b false r e g h = stays w H (TakeFrame now (Some f)) r.session (λ G. refl) (λ x i. not_left (holder H) (holder (TakeFrame now (Some f) ∷ H)) r.session false x g refl i) h
+begun_taken w H now f true b false r e g h = stays w H (TakeFrame now (Some f)) r.session (λ G. refl) (λ x i. not_left (holder w H) (holder w (TakeFrame now (Some f) ∷ H)) r.session false x g refl i) h
 begun_taken w H now f false true l r e g h =
-    stays w H (TakeFrame now (Some f)) r.session (λ G. refl) (λ x i. ap (λ (c : Bool). if c then held_then x.message.source (claim_of f) (holder H x.message.source) else holder H x.message.source) e) h
+    stays w H (TakeFrame now (Some f)) r.session (λ G. refl) (λ x i. ap (λ (c : Bool). if c then held_then x.message.source (claim_of f) (holder w H x.message.source) else holder w H x.message.source) e) h
 begun_taken w H now f false false l r e g h =
-    stays w H (TakeFrame now (Some f)) r.session (λ G. refl) (λ x i. ap (λ (c : Bool). if c then held_then x.message.source (claim_of f) (holder H x.message.source) else holder H x.message.source) e) h
+    stays w H (TakeFrame now (Some f)) r.session (λ G. refl) (λ x i. ap (λ (c : Bool). if c then held_then x.message.source (claim_of f) (holder w H x.message.source) else holder w H x.message.source) e) h
 
 same_released : (b : Bool) (r : Reception) → (released_by b r).session ≡ r.session
 same_released true r = refl
@@ -359,7 +359,7 @@ begun w (Transfer now group to bytes answer ∷ H) = stays w H (Transfer now gro
 -- ---- what is made whole
 
 whole_came : (w : Who) (H : List Call) (f : FrameRecord) (now : ℕ) (found : Bool) (o : Option ReceptionRecord) (m : MessageRecord) → AreBegun w H o
-    → ((r : ReceptionRecord) → o ≡ Some r → holder (Hear f ∷ H) r.message.source ≡ holder H r.message.source)
+    → ((r : ReceptionRecord) → o ≡ Some r → holder w (Hear f ∷ H) r.message.source ≡ holder w H r.message.source)
     → (recv_step (record { own = w.address; session = o }) (Heard f) now found).delivers ≡ Some m → CameFromOne w (Hear f ∷ H) m
 whole_came w H f now found None m h keeps e =
     absurd (let z = none_delivered (record { own = w.address; session = None }) f now found refl in let y : None ≡ Some m = sym z ∙ e in cc)
@@ -373,8 +373,8 @@ whole_came w H f now found (Some x) m h keeps e =
       is = ap (λ G. Hear f ∷ G) h.is;
       handed = subst (WereHanded w.address (frames_heard (h.later ++ Hear h.first ∷ []) ++ f ∷ [])) e
           (were_handed (frames_heard (h.later ++ Hear h.first ∷ [])) r f now found (answer_in (recv_step r (Heard f) now found)) refl h.stands);
-      one = subst (λ (a : ℕ). KeepsHolder a (Hear f ∷ h.later) (Hear h.first ∷ h.earlier)) (sym from)
-          (subst (λ (G : List Call). holder (Hear f ∷ G) x.message.source ≡ holder G x.message.source) h.is (keeps x refl), h.one);
+      one = subst (λ (a : ℕ). KeepsHolder w a (Hear f ∷ h.later) (Hear h.first ∷ h.earlier)) (sym from)
+          (subst (λ (G : List Call). holder w (Hear f ∷ G) x.message.source ≡ holder w G x.message.source) h.is (keeps x refl), h.one);
     }
   where
     gives : (d : Option MessageRecord) → d ≡ Some m → Gives (λ a. a ≡ x.message.source) d → m.source ≡ x.message.source
@@ -382,13 +382,13 @@ whole_came w H f now found (Some x) m h keeps e =
     gives (Some y) i k = let z : y ≡ m = cc in ap (λ (u : MessageRecord). u.source) (sym z) ∙ k
 
 came_by : (w : Who) (H : List Call) (lost held b : Bool) (f : FrameRecord) (now : ℕ) (r : Reception) (m : MessageRecord)
-    → leaves (holder H) (holder (Hear f ∷ H)) r.session ≡ b → AreBegun w H r.session → whole_by w.address lost held f now (left b r) ≡ Some m
+    → leaves (holder w H) (holder w (Hear f ∷ H)) r.session ≡ b → AreBegun w H r.session → whole_by w.address lost held f now (left b r) ≡ Some m
     → CameFromOne w (Hear f ∷ H) m
 came_by w H true held b f now r m e h g = absurd (cc)
 came_by w H false false b f now r m e h g = absurd (cc)
 came_by w H false true true f now r m e h g = whole_came w H f now (has_place r.waits) None m tt (λ x i. absurd (cc)) g
 came_by w H false true false f now r m e h g =
-    whole_came w H f now (has_place r.waits) r.session m h (λ x i. not_left (holder H) (holder (Hear f ∷ H)) r.session false x e refl i) g
+    whole_came w H f now (has_place r.waits) r.session m h (λ x i. not_left (holder w H) (holder w (Hear f ∷ H)) r.session false x e refl i) g
 
 pub came : (w : Who) (H : List Call) (f : FrameRecord) (m : MessageRecord) → whole w H f ≡ Some m → CameFromOne w (Hear f ∷ H) m
 came w H f m e = came_by w H (is_smaller w (claim_of f)) (holds w H f.stamp) _ f (time_heard (Hear f ∷ H)) (reception w H) m refl (begun w H) e
@@ -495,7 +495,7 @@ silent w [] e = record { session = refl; replies = refl }
 silent w (Hear f ∷ H) e =
     silent_heard w.address (is_smaller w (claim_of f)) (holds w H f.stamp) f (time_heard (Hear f ∷ H)) _
     (λ i. not_held (step H f.stamp) (address_after w H) (lost_before (is_smaller w (claim_of f)) (step H f.stamp) (address_after w H) e i))
-    (λ i. silent_left (leaves (holder H) (holder (Hear f ∷ H)) (reception w H).session) (reception w H)
+    (λ i. silent_left (leaves (holder w H) (holder w (Hear f ∷ H)) (reception w H).session) (reception w H)
     (silent w H (lost_before (is_smaller w (claim_of f)) (step H f.stamp) (address_after w H) e i)))
 silent w (Tick now ∷ H) e = silent_tick w.address now (time_heard (Tick now ∷ H)) (reception w H) (silent w H (sym (lost_older (step H now) (address_after w H)) ∙ e))
 silent w (TakeFrame now None ∷ H) e = silent w H (sym (lost_older (step H now) (address_after w H)) ∙ e)
@@ -531,8 +531,8 @@ never_left before after None h = refl
 never_left before after (Some r) h =
     ap (λ (x : Option ℕ). not (is_same (before r.message.source) x)) (h r.message.source) ∙ ap not (same_self (before r.message.source))
 
-not_left_by : (w : Who) (H : List Call) (f : FrameRecord) → claim_of f ≡ None → leaves (holder H) (holder (Hear f ∷ H)) (reception w H).session ≡ false
-not_left_by w H f e = never_left (holder H) (holder (Hear f ∷ H)) (reception w H).session (λ a. ap (λ (c : Option Claim). held_then a c (holder H a)) e)
+not_left_by : (w : Who) (H : List Call) (f : FrameRecord) → claim_of f ≡ None → leaves (holder w H) (holder w (Hear f ∷ H)) (reception w H).session ≡ false
+not_left_by w H f e = never_left (holder w H) (holder w (Hear f ∷ H)) (reception w H).session (λ a. ap (λ (c : Option Claim). held_then a c (holder w H a)) e)
 
 not_driven : (w : Who) (f : FrameRecord) → claim_of f ≡ None → is_smaller w (claim_of f) ≡ false
 not_driven w f e = ap (is_smaller w) e
@@ -579,11 +579,18 @@ aside own false false false f now r e g n = refl
 aside own false true false f now r e g n =
     ap (λ (x : RecvResult). takes f.stamp (source_of f.id) x r) (quiet_step (receiver_at own r) f now (has_place r.waits) n)
 
-pub to_others : (w : Who) (H : List Call) (f : FrameRecord) → claim_of f ≡ None → destination_of f.id ≢ Some w.address
-    → reception w (Hear f ∷ H) ≡ reception w H
-to_others w H f e n =
-    aside w.address (is_smaller w (claim_of f)) (holds w H f.stamp) (leaves (holder H) (holder (Hear f ∷ H)) (reception w H).session) f (time_heard (Hear f ∷ H))
-    (reception w H) (not_driven w f e) (not_left_by w H f e) (not_said w.address f n)
+stays_with : (before after : ℕ → Option ℕ) (o : Option ReceptionRecord)
+    → ((r : ReceptionRecord) → o ≡ Some r → after r.message.source ≡ before r.message.source) → leaves before after o ≡ false
+stays_with before after None h = refl
+stays_with before after (Some r) h =
+    ap (λ (x : Option ℕ). not (is_same (before r.message.source) x)) (h r refl) ∙ ap not (same_self (before r.message.source))
+
+pub to_others : (w : Who) (H : List Call) (f : FrameRecord) → is_smaller w (claim_of f) ≡ false
+    → ((r : ReceptionRecord) → (reception w H).session ≡ Some r → holder w (Hear f ∷ H) r.message.source ≡ holder w H r.message.source)
+    → destination_of f.id ≢ Some w.address → reception w (Hear f ∷ H) ≡ reception w H
+to_others w H f e same n =
+    aside w.address (is_smaller w (claim_of f)) (holds w H f.stamp) (leaves (holder w H) (holder w (Hear f ∷ H)) (reception w H).session) f (time_heard (Hear f ∷ H))
+    (reception w H) e (stays_with (holder w H) (holder w (Hear f ∷ H)) (reception w H).session same) (not_said w.address f n)
 
 -- another's frame leaves the session
 other_signal : (source own : ℕ) (s : Option Signal) (now : ℕ) (found : Bool) (x : ReceptionRecord) → (source ≡ x.message.source → ⊥)
@@ -624,11 +631,11 @@ not_lost true a e = absurd (cc)
 not_lost false a e = refl
 
 pub from_others : (w : Who) (H : List Call) (f : FrameRecord) (r : ReceptionRecord) → is_lost (address_after w (Hear f ∷ H)) ≡ false
-    → holder (Hear f ∷ H) r.message.source ≡ holder H r.message.source → (reception w H).session ≡ Some r → source_of f.id ≢ r.message.source
+    → holder w (Hear f ∷ H) r.message.source ≡ holder w H r.message.source → (reception w H).session ≡ Some r → source_of f.id ≢ r.message.source
     → (reception w (Hear f ∷ H)).session ≡ Some r
 from_others w H f r own same i n =
-    others_by w.address (is_smaller w (claim_of f)) (holds w H f.stamp) (leaves (holder H) (holder (Hear f ∷ H)) (reception w H).session) f (time_heard (Hear f ∷ H))
-    (reception w H) r (not_lost (is_smaller w (claim_of f)) _ own) (holder_stays (holder H) (holder (Hear f ∷ H)) (reception w H).session r i same) i n
+    others_by w.address (is_smaller w (claim_of f)) (holds w H f.stamp) (leaves (holder w H) (holder w (Hear f ∷ H)) (reception w H).session) f (time_heard (Hear f ∷ H))
+    (reception w H) r (not_lost (is_smaller w (claim_of f)) _ own) (holder_stays (holder w H) (holder w (Hear f ∷ H)) (reception w H).session r i same) i n
 
 -- ---- while a message waits
 
@@ -698,7 +705,7 @@ pub full_refuses : (w : Who) (H : List Call) (f : FrameRecord) (x : ℕ × Messa
     }
 full_refuses w H f x size count most pgn e held said l =
     let none = said_no_claim w.address f (RequestToSend size count most pgn) said in
-    refuses_by w.address (is_smaller w (claim_of f)) (holds w H f.stamp) (leaves (holder H) (holder (Hear f ∷ H)) (reception w H).session) f (time_heard (Hear f ∷ H))
+    refuses_by w.address (is_smaller w (claim_of f)) (holds w H f.stamp) (leaves (holder w H) (holder w (Hear f ∷ H)) (reception w H).session) f (time_heard (Hear f ∷ H))
     (reception w H) x size count most pgn (not_driven w f none) held (not_left_by w H f none) (no_session (reception w H) x (tidy w H).apart e) e said l
 
 -- ---- a session begins
@@ -725,7 +732,7 @@ pub session_begins : (w : Who) (H : List Call) (f : FrameRecord) (size count mos
     → (r : ReceptionRecord) × (x : ToSend) × ((reception w (Hear f ∷ H)).session ≡ Some r) × (r.message.source ≡ source_of f.id) × (slice_get x.bytes 0 ≡ Some 17)
     × ((reception w (Hear f ∷ H)).replies ≡ replied w.address (source_of f.id) (Some x) (reception w H).replies)
 session_begins w H f size count most pgn held room free said =
-    by (is_smaller w (claim_of f)) (holds w H f.stamp) (leaves (holder H) (holder (Hear f ∷ H)) (reception w H).session) (not_driven w f none) held (not_left_by w H f none)
+    by (is_smaller w (claim_of f)) (holds w H f.stamp) (leaves (holder w H) (holder w (Hear f ∷ H)) (reception w H).session) (not_driven w f none) held (not_left_by w H f none)
   where
     none : claim_of f ≡ None
     none = said_no_claim w.address f (RequestToSend size count most pgn) said
@@ -892,7 +899,7 @@ only_whole w H f x e b = go (says w H f) refl (tells_by w.address (is_smaller w 
 pub says_it : (w : Who) (H : List Call) (f : FrameRecord) → holds w H f.stamp ≡ true → claim_of f ≡ None
     → (reception w (Hear f ∷ H)).replies ≡ replied w.address (source_of f.id) (says w H f) (reception w H).replies
 says_it w H f held none =
-    by (is_smaller w (claim_of f)) (holds w H f.stamp) (leaves (holder H) (holder (Hear f ∷ H)) (reception w H).session) (not_driven w f none) held (not_left_by w H f none)
+    by (is_smaller w (claim_of f)) (holds w H f.stamp) (leaves (holder w H) (holder w (Hear f ∷ H)) (reception w H).session) (not_driven w f none) held (not_left_by w H f none)
   where
     by : (a b c : Bool) → a ≡ false → b ≡ true → c ≡ false
         → (heard_by w.address a b f (time_heard (Hear f ∷ H)) (left c (reception w H))).replies

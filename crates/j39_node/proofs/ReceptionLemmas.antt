@@ -1,5 +1,5 @@
 -- What every history says of what is received in packets.
-use Rattle.std.proofs.Common.{◌≡◌, ◌⊎◌, ℕ, zero, suc, ◌+◌, ◌<◌, ◌≤◌, List, [], ◌∷◌, ◌++◌, length, drop, min, Option, Some, None, Bool, true, false, not, ◌&&◌, if◌then◌else◌, nat_eq, nat_lt, ◌==◌, refl, sym, ap, ◌∙◌, subst, inl, inr, arith, ltb-true, ltb-false}
+use Rattle.std.proofs.Common.{◌≡◌, ◌⊎◌, ℕ, zero, suc, ◌+◌, ◌<◌, ◌≤◌, List, [], ◌∷◌, ◌++◌, length, drop, min, Option, Some, None, Bool, true, false, not, ◌&&◌, if◌then◌else◌, nat_eq, nat_lt, ◌==◌, refl, sym, ap, ◌∙◌, subst, inl, inr, arith, ltb-true, ltb-false, append-nil, append_assoc}
 use Rattle.std.proofs.lemmas.Bool.{cond_both}
 use Rattle.std.specs.List.{slice_get}
 use Rattle.j39_frame.specs.Frame.{FrameRecord}
@@ -21,7 +21,7 @@ use Rattle.j39_transport.specs.Session.{SessionRecord}
 use Rattle.j39_transport.specs.Signals.{Signal, BroadcastAnnounce, RequestToSend, ClearToSend, Acknowledgment, Abort, Packet, said_between}
 use Rattle.j39_node.specs.History.{Who, Message, Call, holds, is_acknowledgment, is_claim, is_smaller, told_claims}
 use Rattle.j39_node.specs.History.Call.{Ask, TakeAskEnded, Hear, Tick, TakeFrame, Send, TakeEnded, TakeReceived, TakeRequest, TakeNews, Acknowledge, Broadcast, TakeBroadcastEnded, ReleaseTransfer, Transfer, TakeTransferEnded, ReleaseBroadcast}
-use Rattle.j39_node.specs.Reception.{Reception, IsApart, time_heard, goes_to, has_place, heard_by, held_then, holder, is_same, keeps, leaves, left, receiver_at, reception, released_by, replied, step_at, taken_by, takes, ticked, without}
+use Rattle.j39_node.specs.Reception.{Reception, IsApart, time_heard, goes_to, has_place, heard_by, held_then, held_through, holder, is_same, keeps, leaves, left, receiver_at, reception, released_by, replied, step_at, taken_by, takes, ticked, without}
 
 -- ---- what a step of the receiver leaves
 
@@ -289,7 +289,7 @@ pub tidy : (w : Who) (H : List Call) → Tidy w.address (reception w H)
 tidy w [] = record { fits = tt; apart = inl refl; replies = tt }
 tidy w (Hear f ∷ H) =
     tidy_heard w.address (is_smaller w (claim_of f)) (holds w H f.stamp) f (time_heard (Hear f ∷ H)) _
-    (tidy_left w.address (leaves (holder H) (holder (Hear f ∷ H)) (reception w H).session) (reception w H) (tidy w H))
+    (tidy_left w.address (leaves (holder w H) (holder w (Hear f ∷ H)) (reception w H).session) (reception w H) (tidy w H))
 tidy w (Tick now ∷ H) = tidy_ticked w.address now (time_heard (Tick now ∷ H)) (reception w H) (tidy w H)
 tidy w (TakeFrame now None ∷ H) = tidy w H
 tidy w (TakeFrame now (Some f) ∷ H) = tidy_taken w.address (is_claim f) (is_acknowledgment f) _ (reception w H) (tidy w H)
@@ -367,44 +367,51 @@ one_holder_more : (F : List FrameRecord) (f : FrameRecord) (a : ℕ) (o : Option
 one_holder_more F f a o true h = record { is = holder_next F f a o h.is h.none; none = λ e. nobody_at a (claim_of f) o (ltb-false _ _ e) (h.none e) }
 one_holder_more F f a o false h = h
 
-pub holders : (H : List Call) (a : ℕ) → HolderOf (told_claims H) a (holder H a)
-holders [] a = record { is = λ n h. absurd h; none = λ e. refl }
-holders (Hear f ∷ H) a = one_holder_more (told_claims H) f a (holder H a) true (holders H a)
-holders (TakeFrame now None ∷ H) a = holders H a
-holders (TakeFrame now (Some f) ∷ H) a = one_holder_more (told_claims H) f a (holder H a) (is_claim f) (holders H a)
-holders (Tick now ∷ H) a = holders H a
-holders (Send now d answer ∷ H) a = holders H a
-holders (Ask now group to answer ∷ H) a = holders H a
-holders (TakeEnded answer ∷ H) a = holders H a
-holders (TakeAskEnded answer ∷ H) a = holders H a
-holders (TakeReceived answer ∷ H) a = holders H a
-holders (TakeRequest answer ∷ H) a = holders H a
-holders (TakeNews answer ∷ H) a = holders H a
-holders (Acknowledge now r answer result ∷ H) a = holders H a
-holders (Broadcast now group bytes answer ∷ H) a = holders H a
-holders (TakeBroadcastEnded answer ∷ H) a = holders H a
-holders (ReleaseTransfer answer ∷ H) a = holders H a
-holders (ReleaseBroadcast answer ∷ H) a = holders H a
-holders (TakeTransferEnded answer ∷ H) a = holders H a
-holders (Transfer now group to bytes answer ∷ H) a = holders H a
+-- from a list of frames on
+known_more : (F E : List FrameRecord) (a : ℕ) (o : Option ℕ) → HolderOf F a o → HolderOf (F ++ E) a (held_through a E o)
+known_more F [] a o h = subst (λ (G : List FrameRecord). HolderOf G a o) (sym (append-nil F)) h
+known_more F (f ∷ E) a o h =
+    subst (λ (G : List FrameRecord). HolderOf G a (held_through a E (held_then a (claim_of f) o))) (append_assoc F (f ∷ []) E)
+    (known_more (F ++ f ∷ []) E a (held_then a (claim_of f) o) (one_holder_more F f a o true h))
+
+pub holders : (w : Who) (H : List Call) (a : ℕ) → HolderOf (told_claims w H) a (holder w H a)
+holders w [] a = known_more [] w.known a None (record { is = λ n h. absurd h; none = λ e. refl })
+holders w (Hear f ∷ H) a = one_holder_more (told_claims w H) f a (holder w H a) true (holders w H a)
+holders w (TakeFrame now None ∷ H) a = holders w H a
+holders w (TakeFrame now (Some f) ∷ H) a = one_holder_more (told_claims w H) f a (holder w H a) (is_claim f) (holders w H a)
+holders w (Tick now ∷ H) a = holders w H a
+holders w (Send now d answer ∷ H) a = holders w H a
+holders w (Ask now group to answer ∷ H) a = holders w H a
+holders w (TakeEnded answer ∷ H) a = holders w H a
+holders w (TakeAskEnded answer ∷ H) a = holders w H a
+holders w (TakeReceived answer ∷ H) a = holders w H a
+holders w (TakeRequest answer ∷ H) a = holders w H a
+holders w (TakeNews answer ∷ H) a = holders w H a
+holders w (Acknowledge now r answer result ∷ H) a = holders w H a
+holders w (Broadcast now group bytes answer ∷ H) a = holders w H a
+holders w (TakeBroadcastEnded answer ∷ H) a = holders w H a
+holders w (ReleaseTransfer answer ∷ H) a = holders w H a
+holders w (ReleaseBroadcast answer ∷ H) a = holders w H a
+holders w (TakeTransferEnded answer ∷ H) a = holders w H a
+holders w (Transfer now group to bytes answer ∷ H) a = holders w H a
 
 -- what the table has is the holder
-pub table_is : (table : Claims) (H : List Call) (a : ℕ) → Knows table (told_claims H) → holder_in table a ≡ holder H a
-table_is table H a knows = same_holder (claims_of (told_claims H)) (length (claims_of (told_claims H))) a _ _ (knows a) (holders H a).is
+pub table_is : (w : Who) (table : Claims) (H : List Call) (a : ℕ) → Knows table (told_claims w H) → holder_in table a ≡ holder w H a
+table_is w table H a knows = same_holder (claims_of (told_claims w H)) (length (claims_of (told_claims w H))) a _ _ (knows a) (holders w H a).is
 
-pub leaves_is : (old new : Claims) (H G : List Call) (o : Option ReceptionRecord) → Knows old (told_claims H) → Knows new (told_claims G)
-    → leaves (holder_in old) (holder_in new) o ≡ leaves (holder H) (holder G) o
-leaves_is old new H G None k l = refl
-leaves_is old new H G (Some r) k l =
-    λ i. not (is_same (table_is old H r.message.source k i) (table_is new G r.message.source l i))
+pub leaves_is : (w : Who) (old new : Claims) (H G : List Call) (o : Option ReceptionRecord) → Knows old (told_claims w H) → Knows new (told_claims w G)
+    → leaves (holder_in old) (holder_in new) o ≡ leaves (holder w H) (holder w G) o
+leaves_is w old new H G None k l = refl
+leaves_is w old new H G (Some r) k l =
+    λ i. not (is_same (table_is w old H r.message.source k i) (table_is w new G r.message.source l i))
 
 -- ---- a frame is taken
 
 pub taken_is : (w : Who) (H : List Call) (now : ℕ) (f : FrameRecord) (a b : Bool) → is_claim f ≡ a → is_acknowledgment f ≡ b
     → reception w (TakeFrame now (Some f) ∷ H)
-    ≡ taken_by a b (leaves (holder H) (holder (TakeFrame now (Some f) ∷ H)) (reception w H).session) (reception w H)
+    ≡ taken_by a b (leaves (holder w H) (holder w (TakeFrame now (Some f) ∷ H)) (reception w H).session) (reception w H)
 taken_is w H now f a b e g =
-    let l = leaves (holder H) (holder (TakeFrame now (Some f) ∷ H)) (reception w H).session in
+    let l = leaves (holder w H) (holder w (TakeFrame now (Some f) ∷ H)) (reception w H).session in
     ap (λ (x : Bool). taken_by x (is_acknowledgment f) l (reception w H)) e ∙ ap (λ (y : Bool). taken_by a y l (reception w H)) g
 
 -- with no reply nothing changes

@@ -1,8 +1,8 @@
 -- The laws of transfers.
-use Rattle.std.proofs.Common.{◌≡◌, ◌⊎◌, ◌↔◌, ℕ, ◌+◌, ◌-◌, ◌<◌, ◌≤◌, List, [], ◌∷◌, ◌++◌, length, Option, Some, None, Result, Ok, Err, Bool, true, false, not, ◌&&◌, ◌||◌, ◌==◌, if◌then◌else◌, nat_lt, max, min, refl, sym, ap, ◌∙◌, arith, inl, inr, eq-eqb, eqb-true, subst, IsTrue}
+use Rattle.std.proofs.Common.{◌≡◌, ◌⊎◌, ◌↔◌, ℕ, ◌+◌, ◌-◌, ◌<◌, ◌≤◌, List, [], ◌∷◌, ◌++◌, length, Option, Some, None, Result, Ok, Err, Bool, true, false, not, ◌&&◌, ◌||◌, ◌==◌, if◌then◌else◌, nat_eq, nat_lt, max, min, refl, sym, ap, ◌∙◌, arith, inl, inr, eq-eqb, eqb-true, subst, IsTrue}
 use Rattle.std.specs.List.{slice_get}
 use Rattle.std.specs.Option.{option_map}
-use Rattle.std.proofs.lemmas.Bool.{cond_both}
+use Rattle.std.proofs.lemmas.Bool.{cond_both, or_parts}
 use Rattle.j39_frame.specs.Frame.{FrameRecord}
 use Rattle.j39_frame.specs.Network.{transport_control_group, transport_data_group}
 use Rattle.j39_transport.specs.Cutting.{packet_data}
@@ -20,7 +20,7 @@ use Rattle.j39_node.specs.History.{Who, Message, Call, accepted, acknowledged, a
 use Rattle.j39_node.specs.History.Call.{Ask, TakeAskEnded, Hear, Tick as Ticks, TakeFrame, Send, TakeEnded, TakeReceived, TakeRequest, TakeNews, Acknowledge, Broadcast, TakeBroadcastEnded, ReleaseTransfer, Transfer, TakeTransferEnded, ReleaseBroadcast}
 use Rattle.j39_node.specs.Is.{AreAnswered, Is, long_by, next_packet}
 use Rattle.j39_node.specs.Since.{PacketSince}
-use Rattle.j39_node.specs.Transfers.{Running, broken_off, can_transfer, clock_at, ending_by, gives_up, granted_after, hears, hears_if, is_engaged, is_over, is_replaced, is_spent, listens, next_transfer, open_transfer, said_to, says, sends, sends_if, signal_by, spent_after, told_transfers, transfer_end, transfers as all_transfers}
+use Rattle.j39_node.specs.Transfers.{Running, broken_off, can_transfer, clock_at, ending_by, gives_up, granted_after, hears, hears_if, is_engaged, is_over, is_replaced, is_resting, is_spent, listens, next_transfer, open_transfer, said_to, says, sends, sends_if, signal_by, spent_after, told_transfers, transfer_end, transfers as all_transfers}
 use Rattle.j39_node.specs.Reception.{holder, is_move}
 use Rattle.j39_node.specs.Moves.{Aborts, Acknowledges, Happened, IsMove, NoneEnds, Replaces, abort_move, clears, clears_by, is_clear, moves, takes_clear}
 use Rattle.j39_node.proofs.SoundLemmas.{frame_case, sound}
@@ -59,44 +59,60 @@ refused_value w H c now group to bytes answer is = go (answers w H c now group t
     go (busy a b f e) = (λ z. absurd (cc), λ z. absurd (z.1 b))
     go (opens a b f e) = (λ z. absurd (cc), λ z. absurd (z.1 b))
 
--- one is accepted and not told, or there is no token left
-AtLimit : Who → List Call → Type 0
-AtLimit w H = (length (all_transfers w H) ≡ length (told_transfers H) + 1) ⊎ (length (all_transfers w H) ≡ 18446744073709551615)
+-- one is accepted and not told, there is no token left, or it rests
+AtLimit : Who → List Call → ℕ → ℕ → ℕ → Type 0
+AtLimit w H now group to =
+    (length (all_transfers w H) ≡ length (told_transfers H) + 1)
+    ⊎ ((length (all_transfers w H) ≡ 18446744073709551615) ⊎ IsTrue (is_resting w H now group to))
 
-engaged_limit : (o : Option Running) (told : ℕ) (all : List (ℕ × MessageRecord)) → LastIf told all o → is_engaged o (length all) ≡ true
-    → (length all ≡ told + 1) ⊎ (length all ≡ 18446744073709551615)
-engaged_limit None told all h e = inr (eqb-true _ _ e)
-engaged_limit (Some t) told all h e = inl (let a = h.token in let b = h.count in omega (arith, a, b))
+engaged_limit : (o : Option Running) (told : ℕ) (all : List (ℕ × MessageRecord)) (r : Bool) → LastIf told all o → (is_engaged o (length all) || r) ≡ true
+    → (length all ≡ told + 1) ⊎ ((length all ≡ 18446744073709551615) ⊎ IsTrue r)
+engaged_limit (Some t) told all r h e = inl (let a = h.token in let b = h.count in omega (arith, a, b))
+engaged_limit None told all r h e = inr (go (nat_eq (length all) 18446744073709551615) refl e)
+  where
+    go : (b : Bool) → nat_eq (length all) 18446744073709551615 ≡ b → (b || r) ≡ true → (length all ≡ 18446744073709551615) ⊎ IsTrue r
+    go true i z = inl (eqb-true _ _ i)
+    go false i z = inr z
 
-free_limit : (o : Option Running) (told : ℕ) (all : List (ℕ × MessageRecord)) → LastIf told all o → is_engaged o (length all) ≡ false
-    → ((length all ≡ told + 1) ⊎ (length all ≡ 18446744073709551615)) → ⊥
-free_limit None told all h e (inl a) = absurd (omega (arith, h, a))
-free_limit None told all h e (inr a) = not_both _ e (eq-eqb _ _ a)
-free_limit (Some t) told all h e l = absurd (cc)
+free_limit : (o : Option Running) (told : ℕ) (all : List (ℕ × MessageRecord)) (r : Bool) → LastIf told all o → (is_engaged o (length all) || r) ≡ false
+    → ((length all ≡ told + 1) ⊎ ((length all ≡ 18446744073709551615) ⊎ IsTrue r)) → ⊥
+free_limit None told all r h e (inl a) = absurd (omega (arith, h, a))
+free_limit None told all r h e (inr (inl a)) = not_both _ (or_parts (nat_eq (length all) 18446744073709551615) r e).0 (eq-eqb _ _ a)
+free_limit None told all r h e (inr (inr a)) = not_both _ (or_parts (nat_eq (length all) 18446744073709551615) r e).1 a
+free_limit (Some t) told all r h e l = absurd (let z : true ≡ false = e in cc)
 
 pub refused_full : (w : Who) (H : List Call) (c : Controller) (now group to : ℕ) (bytes : List ℕ) (answer : Result ℕ Refused)
     → Is w (Transfer now group to bytes answer ∷ H) c
     → (answer ≡ Err Full ↔ (IsTrue (holds w H now) × IsTrue (can_transfer w group to bytes)
-    × ((length (all_transfers w H) ≡ length (told_transfers H) + 1) ⊎ (length (all_transfers w H) ≡ 18446744073709551615))))
+    × ((length (all_transfers w H) ≡ length (told_transfers H) + 1)
+    ⊎ ((length (all_transfers w H) ≡ 18446744073709551615) ⊎ IsTrue (is_resting w H now group to)))))
 unfolding AtLimit
 refused_full w H c now group to bytes answer is = go (answers w H c now group to bytes answer is)
   where
-    go : TransferCase w H now group to bytes answer → (answer ≡ Err Full ↔ (IsTrue (holds w H now) × IsTrue (can_transfer w group to bytes) × AtLimit w H))
+    go : TransferCase w H now group to bytes answer
+        → (answer ≡ Err Full ↔ (IsTrue (holds w H now) × IsTrue (can_transfer w group to bytes) × AtLimit w H now group to))
     go (homeless a e) = (λ z. absurd (cc), λ z. absurd (not_both _ a z.0))
     go (unfit a b e) = (λ z. absurd (cc), λ z. absurd (not_both _ b z.1))
-    go (busy a b f e) = (λ z. (a, b, engaged_limit (open_transfer w H) _ _ (last_one w H is.answered.0) f), λ z. e)
-    go (opens a b f e) = (λ z. absurd (cc), λ z. absurd (free_limit (open_transfer w H) _ _ (last_one w H is.answered.0) f z.2))
+    go (busy a b f e) = (λ z. (a, b, engaged_limit (open_transfer w H) _ _ (is_resting w H now group to) (last_one w H is.answered.0) f), λ z. e)
+    go (opens a b f e) =
+        (λ z. absurd (cc), λ z. absurd (free_limit (open_transfer w H) _ _ (is_resting w H now group to) (last_one w H is.answered.0) f z.2))
 
 pub is_accepted : (w : Who) (H : List Call) (c : Controller) (now group to : ℕ) (bytes : List ℕ) (answer : Result ℕ Refused)
     → Is w (Transfer now group to bytes answer ∷ H) c → IsTrue (holds w H now) → IsTrue (can_transfer w group to bytes)
     → length (all_transfers w H) ≡ length (told_transfers H) → length (all_transfers w H) < 18446744073709551615
-    → answer ≡ Ok (length (all_transfers w H))
-is_accepted w H c now group to bytes answer is held can room some = go (answers w H c now group to bytes answer is)
+    → is_resting w H now group to ≡ false → answer ≡ Ok (length (all_transfers w H))
+is_accepted w H c now group to bytes answer is held can room some rested = go (answers w H c now group to bytes answer is)
   where
+    free : (length (all_transfers w H) ≡ length (told_transfers H) + 1)
+        ⊎ ((length (all_transfers w H) ≡ 18446744073709551615) ⊎ IsTrue (is_resting w H now group to)) → ⊥
+    free (inl z) = absurd (omega (arith, z, room))
+    free (inr (inl z)) = absurd (omega (arith, z, some))
+    free (inr (inr z)) = not_both _ rested z
+
     go : TransferCase w H now group to bytes answer → answer ≡ Ok (length (all_transfers w H))
     go (homeless a e) = absurd (not_both _ a held)
     go (unfit a b e) = absurd (not_both _ b can)
-    go (busy a b f e) = elim (engaged_limit (open_transfer w H) _ _ (last_one w H is.answered.0) f) [ inl z ↦ absurd (omega (arith, z, room)) | inr z ↦ absurd (omega (arith, z, some)) ]
+    go (busy a b f e) = absurd (free (engaged_limit (open_transfer w H) _ _ (is_resting w H now group to) (last_one w H is.answered.0) f))
     go (opens a b f e) = e
 
 pub token_is : (w : Who) (H : List Call) (c : Controller) (now group to k : ℕ) (bytes : List ℕ) → Is w (Transfer now group to bytes (Ok k) ∷ H) c
@@ -185,13 +201,13 @@ gives_up_so w H c now f t is p e g =
 
 -- ---- how many clears to send it takes
 
-record Budgeted (t : Running) (n : ℕ) : Type 0 where
+pub record Budgeted (t : Running) (n : ℕ) : Type 0 where
   pub count : n ≤ t.granted + t.spent
   pub granted : t.granted ≤ packets_of t.sender.message
   pub spent : t.spent ≤ 65
   pub heard : t.spent ≤ n
 
-abbrev BudgetedIf : Option Running → ℕ → Type 0
+abbrev pub BudgetedIf : Option Running → ℕ → Type 0
 BudgetedIf None n = Unit {0}
 BudgetedIf (Some t) n = Budgeted t n
 
@@ -263,10 +279,10 @@ budget_sends true now (Some t) n h = record {
   heard = h.heard;
 }
 
-budgeted : (w : Who) (H : List Call) → BudgetedIf (open_transfer w H) (clears w H)
+pub budgeted : (w : Who) (H : List Call) → BudgetedIf (open_transfer w H) (clears w H)
 budgeted w [] = tt
 budgeted w (Hear f ∷ H) =
-    budget_hears_if (is_lost (address_after w (Hear f ∷ H))) (λ a. is_replaced (holder H a) (holder (Hear f ∷ H) a)) f (clock_at H f.stamp) (open_transfer w H)
+    budget_hears_if (is_lost (address_after w (Hear f ∷ H))) (λ a. is_replaced (holder w H a) (holder w (Hear f ∷ H) a)) f (clock_at H f.stamp) (open_transfer w H)
     (clears w H) (budgeted w H)
 budgeted w (Ticks now ∷ H) = budgeted w H
 budgeted w (TakeFrame now None ∷ H) = budgeted w H
@@ -338,11 +354,11 @@ patient w H c now f t is p e five = go (gives_up t) refl
 -- ---- its sender takes the steps of the standard's
 
 pub heeds : (w : Who) (H : List Call) (f : FrameRecord) (t : Running) → open_transfer w H ≡ Some t → is_lost (address_after w (Hear f ∷ H)) ≡ false
-    → is_replaced (holder H t.sender.destination) (holder (Hear f ∷ H) t.sender.destination) ≡ false → t.gone ≡ false → is_spent t ≡ false
+    → is_replaced (holder w H t.sender.destination) (holder w (Hear f ∷ H) t.sender.destination) ≡ false → t.gone ≡ false → is_spent t ≡ false
     → (x : Running) × (open_transfer w (Hear f ∷ H) ≡ Some x) × (x.sender ≡ (send_step t.sender (Heard f) (clock_at H f.stamp)).after)
 heeds w H f t e own held here room =
     subst (λ (o : Option Running). (x : Running)
-    × (hears_if (is_lost (address_after w (Hear f ∷ H))) (λ a. is_replaced (holder H a) (holder (Hear f ∷ H) a)) f (clock_at H f.stamp) o ≡ Some x)
+    × (hears_if (is_lost (address_after w (Hear f ∷ H))) (λ a. is_replaced (holder w H a) (holder w (Hear f ∷ H) a)) f (clock_at H f.stamp) o ≡ Some x)
     × (x.sender ≡ (send_step t.sender (Heard f) (clock_at H f.stamp)).after))
     (sym e) (heard _ _ _ own held (ap (λ (b : Bool). b || is_spent t) here ∙ room))
   where
@@ -481,11 +497,11 @@ done_arises w = record {
         ])
 
     hearing : (H : List Call) (f : FrameRecord) (t : Running) → AreAnswered w H → open_transfer w H ≡ Some t
-        → (hears (is_lost (address_after w (Hear f ∷ H))) (is_replaced (holder H t.sender.destination) (holder (Hear f ∷ H) t.sender.destination)) f (clock_at H f.stamp) t).sender.state
+        → (hears (is_lost (address_after w (Hear f ∷ H))) (is_replaced (holder w H t.sender.destination) (holder w (Hear f ∷ H) t.sender.destination)) f (clock_at H f.stamp) t).sender.state
         ≡ sending.Done
         → (t.sender.state ≡ sending.Done) ⊎ Acknowledges w t.sender.destination t.sender.message H (Hear f)
     hearing H f t right e q =
-        heard H f t (is_lost (address_after w (Hear f ∷ H))) (is_replaced (holder H t.sender.destination) (holder (Hear f ∷ H) t.sender.destination)) (clock_at H f.stamp) right e q
+        heard H f t (is_lost (address_after w (Hear f ∷ H))) (is_replaced (holder w H t.sender.destination) (holder w (Hear f ∷ H) t.sender.destination)) (clock_at H f.stamp) right e q
 
 failed_arises : (w : Who) (r : ℕ) → Arises w (λ t. t.sender.state ≡ sending.Failed r) (Aborts w r)
 unfolding new_sender
@@ -506,11 +522,11 @@ failed_arises w r = record {
         (λ z q. elim (failed_heard t.sender f now r q) [ inl x ↦ inl x | inr x ↦ inr (said_own w H t f _ right e x) ])
 
     hearing : (H : List Call) (f : FrameRecord) (t : Running) → AreAnswered w H → open_transfer w H ≡ Some t
-        → (hears (is_lost (address_after w (Hear f ∷ H))) (is_replaced (holder H t.sender.destination) (holder (Hear f ∷ H) t.sender.destination)) f (clock_at H f.stamp) t).sender.state
+        → (hears (is_lost (address_after w (Hear f ∷ H))) (is_replaced (holder w H t.sender.destination) (holder w (Hear f ∷ H) t.sender.destination)) f (clock_at H f.stamp) t).sender.state
         ≡ sending.Failed r
         → (t.sender.state ≡ sending.Failed r) ⊎ Aborts w r t.sender.destination t.sender.message H (Hear f)
     hearing H f t right e q =
-        heard H f t (is_lost (address_after w (Hear f ∷ H))) (is_replaced (holder H t.sender.destination) (holder (Hear f ∷ H) t.sender.destination)) (clock_at H f.stamp) right e q
+        heard H f t (is_lost (address_after w (Hear f ∷ H))) (is_replaced (holder w H t.sender.destination) (holder w (Hear f ∷ H) t.sender.destination)) (clock_at H f.stamp) right e q
 
     aborts : (t : Running) (f : FrameRecord) (a : Signal) → message_of f ≡ says t.sender a → a ≡ Abort r t.sender.message.pgn
         → message_of f ≡ abort_move t.sender.destination t.sender.message r
@@ -530,21 +546,21 @@ failed_arises w r = record {
           | inr x ↦ inr (aborts t f a k (let y = sym (ticking t (clock_at H now) a z g) ∙ x in let v : a ≡ Abort r t.sender.message.pgn = cc in v))
         ])
 
-gone_arises : (w : Who) → Arises w (λ t. t.gone ≡ true) (λ to m. Replaces to)
+gone_arises : (w : Who) → Arises w (λ t. t.gone ≡ true) (λ to m. Replaces w to)
 gone_arises w = record {
   begins_not = λ token m to q. absurd (cc);
   by_hearing = λ H f t right e q.
-      heard H f t (is_lost (address_after w (Hear f ∷ H))) (is_replaced (holder H t.sender.destination) (holder (Hear f ∷ H) t.sender.destination)) (clock_at H f.stamp) refl q;
+      heard H f t (is_lost (address_after w (Hear f ∷ H))) (is_replaced (holder w H t.sender.destination) (holder w (Hear f ∷ H) t.sender.destination)) (clock_at H f.stamp) refl q;
   by_sending = λ H now f t a right e g k q. inl q;
 }
   where
     heard : (H : List Call) (f : FrameRecord) (t : Running) (lost replaced : Bool) (now : ℕ)
-        → is_replaced (holder H t.sender.destination) (holder (Hear f ∷ H) t.sender.destination) ≡ replaced → (hears lost replaced f now t).gone ≡ true
-        → (t.gone ≡ true) ⊎ Replaces t.sender.destination H (Hear f)
+        → is_replaced (holder w H t.sender.destination) (holder w (Hear f ∷ H) t.sender.destination) ≡ replaced → (hears lost replaced f now t).gone ≡ true
+        → (t.gone ≡ true) ⊎ Replaces w t.sender.destination H (Hear f)
     heard H f t true replaced now e = λ q. inl q
     heard H f t false true now e = λ q. inr e
     heard H f t false false now e = cond_both (t.gone || is_spent t) t (listens f now t)
-        (λ (u : Running). u.gone ≡ true → (t.gone ≡ true) ⊎ Replaces t.sender.destination H (Hear f)) (λ z q. inl q) (λ z q. inl q)
+        (λ (u : Running). u.gone ≡ true → (t.gone ≡ true) ⊎ Replaces w t.sender.destination H (Hear f)) (λ z q. inl q) (λ z q. inl q)
 
 of_token : (w : Who) (H : List Call) (c : Controller) (k : ℕ) (e : TransferEnding) (is : Is w (TakeTransferEnded (Some (k, e)) ∷ H) c) (x : Ended w H k e)
     → slice_get (all_transfers w H) k ≡ Some (x.running.sender.destination, x.running.sender.message)
@@ -571,13 +587,13 @@ failed_means w H c k r is =
     )
 
 pub gone_means : (w : Who) (H : List Call) (c : Controller) (k : ℕ) → Is w (TakeTransferEnded (Some (k, Gone)) ∷ H) c
-    → (to : ℕ) × (m : MessageRecord) × (slice_get (all_transfers w H) k ≡ Some (to, m)) × Happened (Replaces to) H
+    → (to : ℕ) × (m : MessageRecord) × (slice_get (all_transfers w H) k ≡ Some (to, m)) × Happened (Replaces w to) H
 gone_means w H c k is =
     let x = ended w H c k Gone is in (
       x.running.sender.destination,
       x.running.sender.message,
       of_token w H c k Gone is x,
-      traced w (λ t. t.gone ≡ true) (λ to m. Replaces to) (gone_arises w) H x.running is.answered.0 x.is (state_gone x.running.sender.state x.running.gone _ x.ending),
+      traced w (λ t. t.gone ≡ true) (λ to m. Replaces w to) (gone_arises w) H x.running is.answered.0 x.is (state_gone x.running.sender.state x.running.gone _ x.ending),
     )
 
 -- ---- an acknowledgment makes it done
@@ -647,7 +663,7 @@ stays_done : (w : Who) (token : ℕ) (later E : List Call) → NoneEnds later �
 stays_done w token [] E n h = h
 stays_done w token (Hear f ∷ later) E n h =
     let G = later ++ E in
-    done_hears token (is_lost (address_after w (Hear f ∷ G))) (λ a. is_replaced (holder G a) (holder (Hear f ∷ G) a)) f (clock_at G f.stamp) (open_transfer w G)
+    done_hears token (is_lost (address_after w (Hear f ∷ G))) (λ a. is_replaced (holder w G a) (holder w (Hear f ∷ G) a)) f (clock_at G f.stamp) (open_transfer w G)
     (stays_done w token later E n.1 h)
 stays_done w token (Ticks now ∷ later) E n h = stays_done w token later E n.1 h
 stays_done w token (TakeFrame now None ∷ later) E n h = stays_done w token later E n.1 h
@@ -686,7 +702,7 @@ pub is_done : (w : Who) (H later : List Call) (c : Controller) (f : FrameRecord)
     → Is w (TakeTransferEnded answer ∷ later ++ Hear f ∷ H) c → NoneEnds later → open_transfer w H ≡ Some t
     → IsTrue (is_waiting t.sender.state) → t.sender.highest ≡ packets_of t.sender.message → t.gone ≡ false → is_spent t ≡ false
     → is_lost (address_after w (Hear f ∷ H)) ≡ false
-    → is_replaced (holder H t.sender.destination) (holder (Hear f ∷ H) t.sender.destination) ≡ false
+    → is_replaced (holder w H t.sender.destination) (holder w (Hear f ∷ H) t.sender.destination) ≡ false
     → said_to t.sender f ≡ Some (Acknowledgment (length t.sender.message.bytes) (packets_of t.sender.message) t.sender.message.pgn)
     → answer ≡ Some (t.token, Done)
 is_done w H later c f t answer is n e waiting highest here room own held says =
@@ -703,7 +719,7 @@ is_done w H later c f t answer is n e waiting highest here room own held says =
     heard false false true p q r = absurd (cc)
 
     first : IsDone t.token (open_transfer w (Hear f ∷ H))
-    first = subst (λ (o : Option Running). IsDone t.token (hears_if (is_lost (address_after w (Hear f ∷ H))) (λ a. is_replaced (holder H a) (holder (Hear f ∷ H) a)) f (clock_at H f.stamp) o))
+    first = subst (λ (o : Option Running). IsDone t.token (hears_if (is_lost (address_after w (Hear f ∷ H))) (λ a. is_replaced (holder w H a) (holder w (Hear f ∷ H) a)) f (clock_at H f.stamp) o))
         (sym e) (heard _ _ _ own held (ap (λ (b : Bool). b || is_spent t) here ∙ room))
 
 -- ---- another holder makes it gone
@@ -751,7 +767,7 @@ stays_gone : (w : Who) (token : ℕ) (later E : List Call) → AreAnswered w (la
 stays_gone w token [] E r n h = h
 stays_gone w token (Hear f ∷ later) E r n h =
     let G = later ++ E in
-    gone_hears token (is_lost (address_after w (Hear f ∷ G))) (λ a. is_replaced (holder G a) (holder (Hear f ∷ G) a)) f (clock_at G f.stamp) (open_transfer w G)
+    gone_hears token (is_lost (address_after w (Hear f ∷ G))) (λ a. is_replaced (holder w G a) (holder w (Hear f ∷ G) a)) f (clock_at G f.stamp) (open_transfer w G)
     (stays_gone w token later E r.0 n.1 h)
 stays_gone w token (Ticks now ∷ later) E r n h = stays_gone w token later E r.0 n.1 h
 stays_gone w token (TakeFrame now None ∷ later) E r n h = stays_gone w token later E r.0 n.1 h
@@ -777,7 +793,7 @@ stays_gone w token (ReleaseBroadcast answer ∷ later) E r n h = stays_gone w to
 pub is_gone : (w : Who) (H later : List Call) (c : Controller) (f : FrameRecord) (t : Running) (answer : Option (ℕ × TransferEnding))
     → Is w (TakeTransferEnded answer ∷ later ++ Hear f ∷ H) c → NoneEnds later → open_transfer w H ≡ Some t → is_over t ≡ false
     → is_lost (address_after w (Hear f ∷ H)) ≡ false
-    → is_replaced (holder H t.sender.destination) (holder (Hear f ∷ H) t.sender.destination) ≡ true → answer ≡ Some (t.token, Gone)
+    → is_replaced (holder w H t.sender.destination) (holder w (Hear f ∷ H) t.sender.destination) ≡ true → answer ≡ Some (t.token, Gone)
 is_gone w H later c f t answer is n e going own left =
     let d = stays_gone w t.token later (Hear f ∷ H) is.answered.0 n first in
     is.answered.1 ∙ (ap (λ (o : Option Running). transfer_end o (is_lost (address_after w (later ++ Hear f ∷ H)))) d.is
@@ -802,7 +818,7 @@ is_gone w H later c f t answer is n e going own left =
     heard false true p q = record { running = record t { gone = true }; is = refl; token_is = refl; gone = refl; unended = second t.gone _ going }
 
     first : IsGone t.token (open_transfer w (Hear f ∷ H))
-    first = subst (λ (o : Option Running). IsGone t.token (hears_if (is_lost (address_after w (Hear f ∷ H))) (λ a. is_replaced (holder H a) (holder (Hear f ∷ H) a)) f (clock_at H f.stamp) o))
+    first = subst (λ (o : Option Running). IsGone t.token (hears_if (is_lost (address_after w (Hear f ∷ H))) (λ a. is_replaced (holder w H a) (holder w (Hear f ∷ H) a)) f (clock_at H f.stamp) o))
         (sym e) (heard _ _ own left)
 
 -- ---- where none is told

@@ -11,7 +11,7 @@ use Rattle.j39_node.specs.History.Call.{Acknowledge, Broadcast, TakeBroadcastEnd
 
 -- NAME 2 at address 128, whose program serves group 65259
 abbrev pub two : Who
-two = record { name = 2; address = 128; served = 65259 ∷ [] }
+two = record { name = 2; address = 128; served = 65259 ∷ []; known = [] }
 
 -- its claim, and 'cannot claim'
 abbrev pub own_claim : ℕ → FrameRecord

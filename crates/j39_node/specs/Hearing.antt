@@ -8,7 +8,7 @@ use Rattle.j39_transport.specs.Key.{Broadcast as by}
 use Rattle.j39_transport.specs.Message.{MessageRecord}
 use Rattle.j39_transport.specs.Protocol.{broadcast_limit}
 use Rattle.j39_node.specs.declared.kinds.News.TheVariants.{MessagesMissed}
-use Rattle.j39_node.specs.History.{Call, is_own_group}
+use Rattle.j39_node.specs.History.{Who, Call, is_own_group}
 use Rattle.j39_node.specs.History.Call.{Hear, TakeFrame, TakeNews, ReleaseBroadcast}
 use Rattle.j39_node.specs.Reception.{KeepsHolder, frames_heard, holder, is_same, listed, time_heard}
 
@@ -94,29 +94,29 @@ left b (Some x) = if b && not (is_whole x) then None else Some x
 
 -- ---- the history
 
-abbrev pub hearing : List Call → Option OpenBroadcast
-hearing [] = None
-hearing (Hear f ∷ H) =
-    hears (time_heard (Hear f ∷ H)) f (left (changes (holder H) (holder (Hear f ∷ H)) (hearing H)) (hearing H))
-hearing (TakeFrame now (Some f) ∷ H) = left (changes (holder H) (holder (TakeFrame now (Some f) ∷ H)) (hearing H)) (hearing H)
-hearing (ReleaseBroadcast true ∷ H) = None
-hearing (call ∷ H) = hearing H
+abbrev pub hearing : Who → List Call → Option OpenBroadcast
+hearing w [] = None
+hearing w (Hear f ∷ H) =
+    hears (time_heard (Hear f ∷ H)) f (left (changes (holder w H) (holder w (Hear f ∷ H)) (hearing w H)) (hearing w H))
+hearing w (TakeFrame now (Some f) ∷ H) = left (changes (holder w H) (holder w (TakeFrame now (Some f) ∷ H)) (hearing w H)) (hearing w H)
+hearing w (ReleaseBroadcast true ∷ H) = None
+hearing w (call ∷ H) = hearing w H
 
 -- the broadcast that f finds
-abbrev pub found : List Call → FrameRecord → Option OpenBroadcast
-found H f = left (changes (holder H) (holder (Hear f ∷ H)) (hearing H)) (hearing H)
+abbrev pub found : Who → List Call → FrameRecord → Option OpenBroadcast
+found w H f = left (changes (holder w H) (holder w (Hear f ∷ H)) (hearing w H)) (hearing w H)
 
 -- how many announcements weren't heard, and whether that is news
-abbrev pub unheard : List Call → ℕ
-unheard [] = 0
-unheard (Hear f ∷ H) = if is_unheard (time_heard (Hear f ∷ H)) f (found H f) then suc (unheard H) else unheard H
-unheard (call ∷ H) = unheard H
+abbrev pub unheard : Who → List Call → ℕ
+unheard w [] = 0
+unheard w (Hear f ∷ H) = if is_unheard (time_heard (Hear f ∷ H)) f (found w H f) then suc (unheard w H) else unheard w H
+unheard w (call ∷ H) = unheard w H
 
-abbrev pub unheard_news : List Call → Bool
-unheard_news [] = false
-unheard_news (Hear f ∷ H) = unheard_news H || is_unheard (time_heard (Hear f ∷ H)) f (found H f)
-unheard_news (TakeNews (Some MessagesMissed) ∷ H) = false
-unheard_news (call ∷ H) = unheard_news H
+abbrev pub unheard_news : Who → List Call → Bool
+unheard_news w [] = false
+unheard_news w (Hear f ∷ H) = unheard_news w H || is_unheard (time_heard (Hear f ∷ H)) f (found w H f)
+unheard_news w (TakeNews (Some MessagesMissed) ∷ H) = false
+unheard_news w (call ∷ H) = unheard_news w H
 
 -- ---- which messages
 
@@ -128,28 +128,28 @@ whole_of None = None
 whole_of (Some x) = if is_whole x then Some (message_by x) else None
 
 -- the one that waits for the program, with the moment of its last packet
-abbrev pub waiting : List Call → Option (ℕ × MessageRecord)
-waiting H = whole_of (hearing H)
+abbrev pub waiting : Who → List Call → Option (ℕ × MessageRecord)
+waiting w H = whole_of (hearing w H)
 
 -- what f makes whole: none waited before
 abbrev pub newly : Option (ℕ × MessageRecord) → Option (ℕ × MessageRecord) → Option (ℕ × MessageRecord)
 newly None after = after
 newly (Some x) after = None
 
-abbrev pub made_whole : List Call → FrameRecord → Option (ℕ × MessageRecord)
-made_whole H f = newly (waiting H) (waiting (Hear f ∷ H))
+abbrev pub made_whole : Who → List Call → FrameRecord → Option (ℕ × MessageRecord)
+made_whole w H f = newly (waiting w H) (waiting w (Hear f ∷ H))
 
 -- those that were whole
-abbrev pub whole_broadcasts : List Call → List (ℕ × MessageRecord)
-whole_broadcasts [] = []
-whole_broadcasts (Hear f ∷ H) = whole_broadcasts H ++ listed (made_whole H f)
-whole_broadcasts (call ∷ H) = whole_broadcasts H
+abbrev pub whole_broadcasts : Who → List Call → List (ℕ × MessageRecord)
+whole_broadcasts w [] = []
+whole_broadcasts w (Hear f ∷ H) = whole_broadcasts w H ++ listed (made_whole w H f)
+whole_broadcasts w (call ∷ H) = whole_broadcasts w H
 
 -- those that the program got
-abbrev pub got_broadcasts : List Call → List (ℕ × MessageRecord)
-got_broadcasts [] = []
-got_broadcasts (ReleaseBroadcast true ∷ H) = got_broadcasts H ++ listed (waiting H)
-got_broadcasts (call ∷ H) = got_broadcasts H
+abbrev pub got_broadcasts : Who → List Call → List (ℕ × MessageRecord)
+got_broadcasts w [] = []
+got_broadcasts w (ReleaseBroadcast true ∷ H) = got_broadcasts w H ++ listed (waiting w H)
+got_broadcasts w (call ∷ H) = got_broadcasts w H
 
 -- ---- of one sender
 
@@ -160,7 +160,7 @@ pub data IsPartOf : List FrameRecord → List FrameRecord → Type 0 where
   chosen : (f : FrameRecord) (part all : List FrameRecord) → IsPartOf part all → IsPartOf (part ++ f ∷ []) (all ++ f ∷ [])
 
 -- an announcement of the message was heard and its packets after it, in order; and since, one NAME held its source, or none did
-pub record WasBroadcast (H : List Call) (m : MessageRecord) : Type 0 where
+pub record WasBroadcast (w : Who) (H : List Call) (m : MessageRecord) : Type 0 where
   pub later : List Call
   pub first : FrameRecord
   pub earlier : List Call
@@ -168,7 +168,7 @@ pub record WasBroadcast (H : List Call) (m : MessageRecord) : Type 0 where
   pub packets : List FrameRecord
   pub part : IsPartOf packets (frames_heard later)
   pub carries : CarriesCut (by m.source) m first packets
-  pub one : KeepsHolder m.source later (Hear first ∷ earlier)
+  pub one : KeepsHolder w m.source later (Hear first ∷ earlier)
 
 -- ---- what every history says of it
 

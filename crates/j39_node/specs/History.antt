@@ -20,11 +20,13 @@ use Rattle.j39_node.specs.declared.kinds.Answer.{Answer}
 use Rattle.j39_node.specs.declared.kinds.Answer.TheVariants.{Ack, Nack, Denied, Busy}
 use Rattle.std.specs.List.{list_any}
 
--- the NAME of a controller, the address that it claims, and the groups that its program serves
+-- the NAME of a controller, the address that it claims, the groups that its program serves, and the frames by which it knew
+-- before its history who holds which address: none, unless it moved
 pub record Who : Type 0 where
   pub name : ℕ
   pub address : ℕ
   pub served : List ℕ
+  pub known : List FrameRecord
 
 -- what a frame carries: who sends it, to whom (none for a group of PF 240 and up), and what
 pub record Message : Type 0 where
@@ -513,12 +515,12 @@ due w (call ∷ H) = due w H
 
 -- ---- who holds which address
 
--- the frames that tell it: all that were heard, and its own claims that were taken
-abbrev pub told_claims : List Call → List FrameRecord
-told_claims [] = []
-told_claims (Hear f ∷ H) = told_claims H ++ f ∷ []
-told_claims (TakeFrame now (Some f) ∷ H) = if is_claim f then told_claims H ++ f ∷ [] else told_claims H
-told_claims (call ∷ H) = told_claims H
+-- the frames that tell it: those known before, all that were heard, and its own claims that were taken
+abbrev pub told_claims : Who → List Call → List FrameRecord
+told_claims w [] = w.known
+told_claims w (Hear f ∷ H) = told_claims w H ++ f ∷ []
+told_claims w (TakeFrame now (Some f) ∷ H) = if is_claim f then told_claims w H ++ f ∷ [] else told_claims w H
+told_claims w (call ∷ H) = told_claims w H
 
 -- ---- news: each stands from when it happens until it is told
 

@@ -18,6 +18,8 @@ use Rattle.j39_node.specs.declared.lane.Open.{Open}
 use Rattle.j39_node.specs.declared.own.Own.{Own}
 use Rattle.j39_node.specs.declared.transfers.Open as transfers
 use Rattle.j39_node.specs.declared.transfers.Transfers.{Transfers}
+use Rattle.j39_node.specs.declared.transfers.Resting.{Resting as DeclaredResting}
+use Rattle.j39_node.specs.declared.transfers.Resting.TheVariants as rests
 use Rattle.j39_node.specs.declared.requests.Request.{Request}
 use Rattle.j39_node.specs.declared.requests.Due.{Due}
 use Rattle.j39_node.specs.declared.outgoing.Outgoing.{Outgoing}
@@ -46,7 +48,7 @@ use Rattle.j39_node.specs.declared.hearing.Heard.{Heard as Bytes}
 use Rattle.j39_node.specs.declared.hearing.Hearing.{Hearing}
 use Rattle.j39_transport.specs.Cutting.{ToSend}
 use Rattle.j39_transport.specs.Receiving.{BoxedReceiver, Heard, recv_step}
-use Rattle.j39_node.specs.Transfers.{Running, age, answer_to_transfer, next_transfer, next_transfer_ended, open_transfer, transfers as all_transfers}
+use Rattle.j39_node.specs.Transfers.{Resting, NoneRests, PairRests, AllRest, Running, joined, rest, resting, age, answer_to_transfer, next_transfer, next_transfer_ended, open_transfer, transfers as all_transfers}
 
 -- ---- the answers that a history asks for
 
@@ -139,7 +141,7 @@ news_of false false true = Some MessagesMissed
 news_of false false false = None
 
 abbrev pub next_news : Who → List Call → Option News
-next_news w H = news_of (lost_news w H) (another_news w H) (missed_news w H || unheard_news H)
+next_news w H = news_of (lost_news w H) (another_news w H) (missed_news w H || unheard_news w H)
 
 -- a request to all is never acknowledged
 abbrev pub answer_to_acknowledge : Who → List Call → ℕ → Asked → Result (Unit {0}) Refused
@@ -166,7 +168,7 @@ IsAnswered w H (Transfer now group to bytes answer) = answer ≡ answer_to_trans
 IsAnswered w H (TakeTransferEnded answer) = answer ≡ next_transfer_ended w H
 IsAnswered w H (Ask now group to answer) = answer ≡ answer_to_ask w H now group to
 IsAnswered w H (TakeAskEnded answer) = answer ≡ next_ask_ended w H
-IsAnswered w H (ReleaseBroadcast answer) = answer ≡ not (has_place (waiting H))
+IsAnswered w H (ReleaseBroadcast answer) = answer ≡ not (has_place (waiting w H))
 IsAnswered w H call = Unit {0}
 
 abbrev pub AreAnswered : Who → List Call → Type 0
@@ -184,8 +186,9 @@ status_after w H = status_of w (address_after w H)
 
 -- ---- the controller that it leads to
 
-abbrev pub who_of : Own → Who
-who_of own = record { name = name_raw own.name; address = own.address; served = own.served.items }
+-- what it knew before is no part of the code's state
+abbrev pub who_of : List FrameRecord → Own → Who
+who_of known own = record { name = name_raw own.name; address = own.address; served = own.served.items; known = known }
 
 abbrev pub hold_after : Who → List Call → Hold
 hold_after w H = record {
@@ -195,6 +198,7 @@ hold_after w H = record {
   pause = pause H;
   age = min (age H) 18446744073709551615;
   wait = wait H;
+  rest = rest H;
 }
 
 -- the open broadcast, how many of its frames were taken, and the next token
@@ -278,15 +282,29 @@ incoming_after w H = record {
 pub record PortRecord : Type 0 where
   pub current : Option Running
   pub next_token : ℕ
+  pub resting : Resting
 
 abbrev pub running : transfers.Open → Running
 running x = record { token = x.token; sender = x.sender; granted = x.granted; spent = x.spent; gone = x.is_gone }
 
+abbrev pub resting_by : DeclaredResting → Resting
+resting_by rests.Nothing = NoneRests
+resting_by (rests.Pair to group) = PairRests to group
+resting_by rests.All = AllRest
+
 abbrev pub port_of : Transfers → PortRecord
-port_of t = record { current = option_map running t.current; next_token = t.next_token }
+port_of t = record { current = option_map running t.current; next_token = t.next_token; resting = resting_by t.resting }
 
 abbrev pub port_after : Who → List Call → PortRecord
-port_after w H = record { current = open_transfer w H; next_token = length (all_transfers w H) }
+port_after w H = record { current = open_transfer w H; next_token = length (all_transfers w H); resting = resting w H }
+
+-- the end of the open transfer is told: whether it rests by it, and what is left of the time for which others rest
+abbrev pub closed : Bool → ℕ → PortRecord → PortRecord
+closed b left p = record {
+  current = None;
+  next_token = p.next_token;
+  resting = if b then joined left p.resting p.current else p.resting;
+}
 
 -- the open request, whether its frame was taken, and how it ended by what was heard
 pub record AskRecord : Type 0 where
@@ -327,7 +345,7 @@ abbrev pub asking_after : Who → List Call → Option AskRecord
 asking_after w H = asked_by (open_ask H) (length (sent H)) (ended w H)
 
 abbrev pub news_after : Who → List Call → Untold
-news_after w H = record { lost = lost_news w H; another = another_news w H; missed = missed_news w H || unheard_news H }
+news_after w H = record { lost = lost_news w H; another = another_news w H; missed = missed_news w H || unheard_news w H }
 
 abbrev pub posted : Outgoing → ℕ × Message
 posted x = (x.token, carried (id_raw x.id) x.bytes.items)
@@ -376,8 +394,8 @@ broadcast_by x = record {
 abbrev pub hearing_of : Hearing → HearingRecord
 hearing_of x = record { current = option_map broadcast_by x.current; missed = x.missed }
 
-abbrev pub hearing_after : List Call → HearingRecord
-hearing_after H = record { current = hearing H; missed = min (unheard H) 18446744073709551615 }
+abbrev pub hearing_after : Who → List Call → HearingRecord
+hearing_after w H = record { current = hearing w H; missed = min (unheard w H) 18446744073709551615 }
 
 -- a packet of this source is one of it, and comes too late
 abbrev pub is_out : ℕ → ℕ → Option OpenBroadcast → Bool
@@ -386,7 +404,7 @@ is_out now source (Some x) = not (is_whole x || not (nat_eq source x.source)) &&
 
 -- c was made for w and called as H says
 pub record Is (w : Who) (H : List Call) (c : Controller) : Type 0 where
-  pub who : who_of c.own ≡ w
+  pub who : who_of w.known c.own ≡ w
   pub answered : AreAnswered w H
   pub hold : c.hold ≡ hold_after w H
   pub outgoing : map posted c.outgoing.items ≡ drop (length (told H)) (accepted w H)
@@ -397,9 +415,9 @@ pub record Is (w : Who) (H : List Call) (c : Controller) : Type 0 where
   pub requests : map request_by c.desk.waiting.items ≡ drop (length (handed H)) (requests w H)
   pub acknowledgments : map (refusal_by w) c.desk.due.items ≡ drop (length (acknowledged H)) (due w H)
   pub news : c.news ≡ news_after w H
-  pub holders : Knows c.holders (told_claims H)
+  pub holders : Knows c.holders (told_claims w H)
   pub missed : c.inbox.missed ≡ min (missed w H) 18446744073709551615
   pub lane : lane_of w c.lane ≡ lane_after w H
   pub incoming : incoming_of c.incoming ≡ incoming_after w H
   pub port : port_of c.transfers ≡ port_after w H
-  pub hearing : hearing_of c.hearing ≡ hearing_after H
+  pub hearing : hearing_of c.hearing ≡ hearing_after w H

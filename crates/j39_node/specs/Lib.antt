@@ -13,8 +13,13 @@ pub mod Moves
 pub mod Asking
 -- the histories that a controller can have had
 pub mod Is
+-- a driver that is prompt
+pub mod Prompt
+-- moving to another address
+pub mod Moving
 -- the code's steps, below the definitions
 pub mod Hold
 -- a history
 pub mod Example
 pub mod AskExample
+pub mod PromptExample

@@ -71,9 +71,9 @@ Aborts w reason to m earlier (TakeFrame now (Some f)) = message_of f ≡ abort_m
 Aborts w reason to m earlier call = ⊥
 
 -- who held the destination's address no longer does
-abbrev pub Replaces : ℕ → List Call → Call → Type 0
-Replaces to earlier (Hear f) = is_replaced (holder earlier to) (holder (Hear f ∷ earlier) to) ≡ true
-Replaces to earlier call = ⊥
+abbrev pub Replaces : Who → ℕ → List Call → Call → Type 0
+Replaces w to earlier (Hear f) = is_replaced (holder w earlier to) (holder w (Hear f ∷ earlier) to) ≡ true
+Replaces w to earlier call = ⊥
 
 -- how many clears to send the open transfer took
 abbrev pub is_clear : Option ℕ → Bool
@@ -92,7 +92,7 @@ abbrev pub clears : Who → List Call → ℕ
 clears w [] = 0
 clears w (Transfer now group to bytes (Ok token) ∷ H) = 0
 clears w (Hear f ∷ H) =
-    clears_by (is_lost (address_after w (Hear f ∷ H))) (λ a. is_replaced (holder H a) (holder (Hear f ∷ H) a)) f (open_transfer w H)
+    clears_by (is_lost (address_after w (Hear f ∷ H))) (λ a. is_replaced (holder w H a) (holder w (Hear f ∷ H) a)) f (open_transfer w H)
     (clears w H)
 clears w (call ∷ H) = clears w H
 

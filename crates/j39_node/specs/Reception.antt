@@ -23,12 +23,17 @@ held_then a (Some c) None = if nat_eq c.address a && nat_lt a null_address then 
 held_then a (Some c) (Some n) =
     if nat_eq c.address a then Some (min n c.name) else if nat_eq n c.name then None else Some n
 
--- the NAME that holds it, by the claims heard and its own that were taken
-abbrev pub holder : List Call → ℕ → Option ℕ
-holder [] a = None
-holder (Hear f ∷ H) a = held_then a (claim_of f) (holder H a)
-holder (TakeFrame now (Some f) ∷ H) a = if is_claim f then held_then a (claim_of f) (holder H a) else holder H a
-holder (call ∷ H) a = holder H a
+-- the NAME that holds a after these frames, where this one held it before
+abbrev pub held_through : ℕ → List FrameRecord → Option ℕ → Option ℕ
+held_through a [] holder = holder
+held_through a (f ∷ frames) holder = held_through a frames (held_then a (claim_of f) holder)
+
+-- the NAME that holds it, by what was known before, the claims heard, and its own that were taken
+abbrev pub holder : Who → List Call → ℕ → Option ℕ
+holder w [] a = held_through a w.known None
+holder w (Hear f ∷ H) a = held_then a (claim_of f) (holder w H a)
+holder w (TakeFrame now (Some f) ∷ H) a = if is_claim f then held_then a (claim_of f) (holder w H a) else holder w H a
+holder w (call ∷ H) a = holder w H a
 
 abbrev pub is_same : Option ℕ → Option ℕ → Bool
 is_same None None = true
@@ -138,11 +143,11 @@ abbrev pub reception : Who → List Call → Reception
 reception w [] = no_reception
 reception w (Hear f ∷ H) =
     heard_by w.address (is_smaller w (claim_of f)) (holds w H f.stamp) f (time_heard (Hear f ∷ H))
-    (left (leaves (holder H) (holder (Hear f ∷ H)) (reception w H).session) (reception w H))
+    (left (leaves (holder w H) (holder w (Hear f ∷ H)) (reception w H).session) (reception w H))
 reception w (Tick now ∷ H) = ticked w.address now (time_heard (Tick now ∷ H)) (reception w H)
 reception w (TakeFrame now (Some f) ∷ H) =
     taken_by (is_claim f) (is_acknowledgment f)
-    (leaves (holder H) (holder (TakeFrame now (Some f) ∷ H)) (reception w H).session) (reception w H)
+    (leaves (holder w H) (holder w (TakeFrame now (Some f) ∷ H)) (reception w H).session) (reception w H)
 reception w (ReleaseTransfer answer ∷ H) = released_by answer (reception w H)
 reception w (call ∷ H) = reception w H
 
@@ -173,7 +178,7 @@ whole_by own false false f now r = None
 abbrev pub whole : Who → List Call → FrameRecord → Option MessageRecord
 whole w H f =
     whole_by w.address (is_smaller w (claim_of f)) (holds w H f.stamp) f (time_heard (Hear f ∷ H))
-    (left (leaves (holder H) (holder (Hear f ∷ H)) (reception w H).session) (reception w H))
+    (left (leaves (holder w H) (holder w (Hear f ∷ H)) (reception w H).session) (reception w H))
 
 abbrev pub says_by : ℕ → Bool → Bool → FrameRecord → ℕ → Reception → Option ToSend
 says_by own true held f now r = None
@@ -184,7 +189,7 @@ says_by own false false f now r = None
 abbrev pub says : Who → List Call → FrameRecord → Option ToSend
 says w H f =
     says_by w.address (is_smaller w (claim_of f)) (holds w H f.stamp) f (time_heard (Hear f ∷ H))
-    (left (leaves (holder H) (holder (Hear f ∷ H)) (reception w H).session) (reception w H))
+    (left (leaves (holder w H) (holder w (Hear f ∷ H)) (reception w H).session) (reception w H))
 
 -- those that were whole, each with the moment of its last packet
 abbrev pub delivered : Who → List Call → List (ℕ × MessageRecord)
@@ -206,9 +211,9 @@ frames_heard (Hear f ∷ H) = frames_heard H ++ f ∷ []
 frames_heard (call ∷ H) = frames_heard H
 
 -- the NAME that holds a, or that none does, is the same after each of the later calls
-abbrev pub KeepsHolder : ℕ → List Call → List Call → Type 0
-KeepsHolder a [] earlier = Unit {0}
-KeepsHolder a (call ∷ later) earlier = (holder (call ∷ later ++ earlier) a ≡ holder (later ++ earlier) a) × KeepsHolder a later earlier
+abbrev pub KeepsHolder : Who → ℕ → List Call → List Call → Type 0
+KeepsHolder w a [] earlier = Unit {0}
+KeepsHolder w a (call ∷ later) earlier = (holder w (call ∷ later ++ earlier) a ≡ holder w (later ++ earlier) a) × KeepsHolder w a later earlier
 
 -- the frames heard from a call on hand over an RTS of the message and its packets, in order; and since, one NAME held its source,
 -- or none did
@@ -218,7 +223,7 @@ pub record CameFromOne (w : Who) (H : List Call) (m : MessageRecord) : Type 0 wh
   pub earlier : List Call
   pub is : H ≡ later ++ Hear first ∷ earlier
   pub handed : WasHanded w.address (frames_heard (later ++ Hear first ∷ [])) m
-  pub one : KeepsHolder m.source later (Hear first ∷ earlier)
+  pub one : KeepsHolder w m.source later (Hear first ∷ earlier)
 
 -- ---- when something is due
 

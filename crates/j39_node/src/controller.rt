@@ -1,5 +1,5 @@
 //! A controller.
-ghost use Rattle.std.specs.Prelude.{◌≡◌, ℕ, List, [], ◌∷◌, ◌↔◌, ◌&&◌, ◌||◌, ◌==◌, ◌+◌, nat_eq, nat_lt, if◌then◌else◌, min, IsSome, IfSome, Some, None, length, map, ◌<◌, ◌≤◌, false};
+ghost use Rattle.std.specs.Prelude.{IsTrue, true, ◌≡◌, ℕ, List, [], ◌∷◌, ◌↔◌, ◌&&◌, ◌||◌, ◌==◌, ◌+◌, nat_eq, nat_lt, if◌then◌else◌, min, IsSome, IfSome, Some, None, length, map, ◌<◌, ◌≤◌, false};
 ghost use Rattle.std.specs.List.{slice_get};
 ghost use Rattle.std.specs.Option.{option_map};
 ghost use Rattle.j39_frame.specs.Address.{IsAddress, null_address};
@@ -9,12 +9,14 @@ ghost use Rattle.j39_address.specs.Name.{name_raw};
 ghost use Rattle.j39_address.specs.Claim.{claims_of};
 ghost use Rattle.j39_address.specs.Claims.{holder_in};
 ghost use Rattle.j39_address.specs.Holder.{IsHolderAfter};
+ghost use Rattle.j39_address.specs.Node.{IsLeastFree, NoneFree};
 ghost use Rattle.j39_transport.specs.ReceiverModel.{message_shown};
 ghost use Rattle.j39_node.specs.History.{Who, Call, is_left, missed, told_claims};
 ghost use Rattle.j39_node.specs.Reception.{next_tick, reception};
 ghost use Rattle.j39_node.specs.Hearing.{unheard, waiting};
 ghost use Rattle.j39_node.specs.Transfers.{clock, is_replaced, next_due, packet_in, packets_in, sooner, transfer_by, transfer_in};
 ghost use Rattle.j39_node.specs.Hold.{lost, stands};
+ghost use Rattle.j39_node.specs.Moving.{IsSettled, has_given, has_told, moved};
 ghost use Rattle.j39_node.specs.History.Call.{Ask, TakeAskEnded, Hear, Tick, TakeFrame, Send, TakeEnded, TakeReceived, TakeRequest, TakeNews, Acknowledge, Broadcast, TakeBroadcastEnded, ReleaseTransfer, Transfer, TakeTransferEnded, ReleaseBroadcast};
 ghost use Rattle.j39_node.specs.Asking.{is_asking};
 ghost use Rattle.j39_node.specs.Is.{asking_of, Is, first_of, lane_of, next_frame, packet_by, posted, received_by, request_by, stamped, status_after, who_of, long_by, port_of, hearing_of};
@@ -77,7 +79,7 @@ impl Controller {
     ) -> Result<Option<Controller>, AllocError>
         ensures known { IfOk result (λ found. IsSome found ↔ (IsAddress address × (length served.now ≤ 16))) }
         ensures is { IfOk result (λ found. IfSome found (λ c. Is (record
-            { name = name_raw name; address = address; served = map pgn_raw served.now }) [] c)) }
+            { name = name_raw name; address = address; served = map pgn_raw served.now; known = [] }) [] c)) }
         ensures refused { OnErr result (IsAddress address × (length served.now ≤ 16)) }
     {
         if !is_address(address) {
@@ -131,7 +133,7 @@ impl Controller {
     /// The NAME that holds the address, by the claims heard and its own that were taken; `None` where nobody does.
     pub fn holder(&self, address: u8) -> Option<Name>
         ensures { (w : Who) (H : List Call) → Is w H self.now
-            → IsHolderAfter (claims_of (told_claims H)) address (option_map name_raw result) }
+            → IsHolderAfter (claims_of (told_claims w H)) address (option_map name_raw result) }
     {
         self.holders.holder(address)
     }
@@ -139,9 +141,9 @@ impl Controller {
     /// The address that a NAME holds, by the same claims.
     pub fn address_of(&self, name: Name) -> Option<u8>
         ensures found { IfSome result (λ a. (w : Who) (H : List Call) → Is w H self.now
-            → IsHolderAfter (claims_of (told_claims H)) a (Some (name_raw name))) }
+            → IsHolderAfter (claims_of (told_claims w H)) a (Some (name_raw name))) }
         ensures none { result ≡ None → (w : Who) (H : List Call) → Is w H self.now → (a : ℕ) → a < 254
-            → IsHolderAfter (claims_of (told_claims H)) a (Some (name_raw name)) → ⊥ }
+            → IsHolderAfter (claims_of (told_claims w H)) a (Some (name_raw name)) → ⊥ }
     {
         j39_address::laws::holders();
         for address in 0..NULL_ADDRESS {
@@ -152,11 +154,56 @@ impl Controller {
         None
     }
 
+    /// The least address of 128 to 247 that nobody holds, by the same claims (J1939-81, 4.4.3.3); `None` where there is none. A
+    /// controller that lost its address, and whose NAME is arbitrary address capable, may move there.
+    pub fn free_address(&self) -> Option<u8>
+        ensures found { IfSome result (λ a. (w : Who) (H : List Call) → Is w H self.now
+            → IsLeastFree (claims_of (told_claims w H)) a) }
+        ensures none { result ≡ None → (w : Who) (H : List Call) → Is w H self.now → NoneFree (claims_of (told_claims w H)) }
+    {
+        for address in 128..248u8 {
+            if self.holders.holder(address).is_none() {
+                return Some(address);
+            }
+        }
+        None
+    }
+
+    /// Begins anew at another address, which it will claim: with the same NAME and served groups, with what it knows of who holds
+    /// which address, and with nothing else, as a controller that `new` gives. What was due is dropped, a session too, without a
+    /// frame. False, where nothing changes, for an address above 253, or as long as something that was accepted isn't told to have
+    /// ended, or something received or news wasn't taken.
+    ///
+    /// A command to move (J1939-81, 4.2.3) is received as a broadcast in packets: `j39_address::commanded_of` reads it.
+    pub fn move_to(&mut self, address: u8) -> bool
+        ensures known { (w : Who) (H : List Call) → Is w H self.old
+            → (IsTrue result ↔ (IsAddress address × IsSettled w H)) }
+        ensures moved { result ≡ true → (w : Who) (H : List Call) → Is w H self.old → Is (moved w H address) [] self.new }
+        ensures stays { result ≡ false → self.new ≡ self.old }
+    {
+        if !self.is_settled() {
+            return false;
+        }
+        if !self.incoming.move_to(address) {
+            return false;
+        }
+        self.own.address = address;
+        self.hold = Hold::new();
+        self.taken = 0;
+        self.next_token = 0;
+        self.inbox.missed = 0;
+        self.desk.due.clear();
+        self.lane = Lane::new();
+        self.transfers = Transfers::new();
+        self.hearing = Hearing::new();
+        true
+    }
+
     /// How many messages for the program were missed, since sixteen lay unread, or another broadcast in packets lay there or was
     /// being heard.
     pub fn missed(&self) -> u64
         ensures { (w : Who) (H : List Call) → Is w H self.now
-            → result ≡ min (missed w H + unheard H) 18446744073709551615 }
+            → result ≡ min (missed w H + unheard w H) 18446744073709551615 }
     {
         self.inbox.missed.saturating_add(self.hearing.missed)
     }
@@ -266,12 +313,10 @@ impl Controller {
             return None;
         }
         if !self.desk.due.is_empty() {
-            let due = self.desk.due.remove(0);
-            return self.own.acknowledgment(&due, now);
+            return self.own.acknowledgment(&self.desk.due.remove(0), now);
         }
         if !self.incoming.replies.is_empty() {
-            let reply = self.incoming.replies.remove(0);
-            return reply.frame(self.own.address, now);
+            return self.incoming.replies.remove(0).frame(self.own.address, now);
         }
         match self.outgoing.as_slice().get(self.taken) {
             Some(next) => {
@@ -388,7 +433,9 @@ impl Controller {
     }
 
     /// Hands in a message of 9 to 1,785 bytes, to another's address: a request to send, and the packets that it clears; answers its
-    /// token, 0, 1, 2 and so on, apart from those of `send` and `broadcast`. `Full` while one is accepted and not told to have ended.
+    /// token, 0, 1, 2 and so on, apart from those of `send` and `broadcast`. `Full` while one is accepted and not told to have ended,
+    /// and while it rests: for 4 seconds after the end of one of this group to this address was told, which wasn't acknowledged, so that
+    /// nothing late of it is taken for this one's. Where one of another pair so ended in these 4 seconds, all rest till 4 seconds after it.
     pub fn transfer(&mut self, now: Stamp, group: Pgn, to: u8, bytes: &[u8]) -> Result<u64, Refused>
         ensures { (w : Who) (H : List Call) → Is w H self.old
             → Is w (Transfer (stamp_micros now) (pgn_raw group) to bytes.now result ∷ H) self.new }
@@ -399,7 +446,7 @@ impl Controller {
         }
         match transfers::Open::new(self.transfers.next_token, &self.own, group, to, bytes) {
             Some(transfer) => {
-                if self.transfers.is_busy() {
+                if self.transfers.refuses(self.hold.rest, group, to) {
                     return Err(Refused::Full);
                 }
                 let token = self.transfers.next_token;
@@ -418,7 +465,9 @@ impl Controller {
     {
         let is_lost = self.hold.is_lost();
         let ended = self.transfers.ended(is_lost)?;
-        self.transfers.current = None;
+        let rests = ended.1.rests();
+        self.transfers.close(rests, self.hold.rest);
+        self.hold = self.hold.rested(rests);
         Some(ended)
     }
 
@@ -492,7 +541,7 @@ impl Controller {
     /// heard; such are counted in `missed`.
     pub fn received_broadcast(&self) -> Option<Message<'_>>
         ensures { (w : Who) (H : List Call) → Is w H self.now
-            → option_map (λ m. (stamp_micros m.stamp, message_shown m)) result ≡ waiting H }
+            → option_map (λ m. (stamp_micros m.stamp, message_shown m)) result ≡ waiting w H }
     {
         self.hearing.message()
     }
@@ -561,11 +610,39 @@ impl Controller {
         Ok(())
     }
 
+    /// All that was accepted is told to have ended, and all that was received, and news, is taken.
+    fn is_settled(&self) -> bool
+        ensures { result ≡ (has_told self.now && has_given self.now) }
+    {
+        self.has_told() && self.has_given()
+    }
+
+    /// All that was accepted is told to have ended.
+    fn has_told(&self) -> bool
+        ensures { result ≡ has_told self.now }
+    {
+        self.outgoing.is_empty()
+            && self.lane.current.is_none()
+            && self.transfers.current.is_none()
+            && self.asking.current.is_none()
+    }
+
+    /// All that was received, and news, is taken.
+    fn has_given(&self) -> bool
+        ensures { result ≡ has_given self.now }
+    {
+        self.inbox.unread.is_empty()
+            && self.desk.waiting.is_empty()
+            && self.incoming.place.is_none()
+            && !self.hearing.is_waiting()
+            && self.news.is_none()
+    }
+
     /// The frame of the first message that wasn't taken, or else of packets.
     fn peek_message(&self, hold: Hold, now: Stamp) -> Option<Frame>
         ensures { option_map stamped result ≡ option_map (λ m. (stamp_micros now, m))
             (first_of None (option_map posted (slice_get self.now.outgoing.items self.now.taken))
-            (long_by (packet_by (lane_of (who_of self.now.own) self.now.lane).current self.now.lane.count hold.pause)
+            (long_by (packet_by (lane_of (who_of [] self.now.own) self.now.lane).current self.now.lane.count hold.pause)
             (transfer_by (port_of self.now.transfers).current (clock hold.age)))) }
     {
         match self.outgoing.as_slice().get(self.taken) {

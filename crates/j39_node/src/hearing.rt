@@ -207,7 +207,7 @@ impl Hearing {
     }
 
     /// Whether one that is whole waits.
-    fn is_waiting(&self) -> bool
+    pub(crate) fn is_waiting(&self) -> bool
         ensures { result ≡ not (has_place (whole_of (hearing_of self.now).current)) }
     {
         match &self.current {

@@ -15,50 +15,50 @@ ghost use Rattle.j39_node.specs.Reception.{holder, listed, time_heard};
 /// What packets to all make whole is got by the program, each once, in order, or waits. It was sent by one: its announcement was heard,
 /// then its packets in order, and since the announcement one NAME held its source, or none.
 pub fn broadcasts_received()
-    ensures in_order { (H : List Call) → whole_broadcasts H ≡ got_broadcasts H ++ listed (waiting H) }
+    ensures in_order { (w : Who) (H : List Call) → whole_broadcasts w H ≡ got_broadcasts w H ++ listed (waiting w H) }
     ensures got { (w : Who) (H : List Call) (c : Controller) (answer : Bool) → Is w (ReleaseBroadcast answer ∷ H) c
-        → (answer ≡ true ↔ ((x : ℕ × MessageRecord) × (waiting H ≡ Some x))) }
-    ensures of_one { (H : List Call) (f : FrameRecord) (x : ℕ × MessageRecord) → made_whole H f ≡ Some x
-        → WasBroadcast (Hear f ∷ H) x.1 }
+        → (answer ≡ true ↔ ((x : ℕ × MessageRecord) × (waiting w H ≡ Some x))) }
+    ensures of_one { (w : Who) (H : List Call) (f : FrameRecord) (x : ℕ × MessageRecord) → made_whole w H f ≡ Some x
+        → WasBroadcast w (Hear f ∷ H) x.1 }
 {}
 
 /// An announcement of a message for the program is heard or counted. It is counted only where one waits, or one of another source is open
 /// and in time.
 pub fn announcements_heard()
-    ensures heard { (H : List Call) (f : FrameRecord) → announces f ≡ true → is_own_group (pgn_named f) ≡ false
-        → (hearing (Hear f ∷ H) ≡ Some (begun (time_heard (Hear f ∷ H)) f)) ⊎ (unheard (Hear f ∷ H) ≡ suc (unheard H)) }
-    ensures counted { (H : List Call) (f : FrameRecord) → unheard (Hear f ∷ H) ≢ unheard H
-        → IsTrue (announces f) × ((x : OpenBroadcast) × (found H f ≡ Some x)
+    ensures heard { (w : Who) (H : List Call) (f : FrameRecord) → announces f ≡ true → is_own_group (pgn_named f) ≡ false
+        → (hearing w (Hear f ∷ H) ≡ Some (begun (time_heard (Hear f ∷ H)) f)) ⊎ (unheard w (Hear f ∷ H) ≡ suc (unheard w H)) }
+    ensures counted { (w : Who) (H : List Call) (f : FrameRecord) → unheard w (Hear f ∷ H) ≢ unheard w H
+        → IsTrue (announces f) × ((x : OpenBroadcast) × (found w H f ≡ Some x)
         × (IsTrue (is_whole x) ⊎ ((source_of f.id ≢ x.source) × (is_late (time_heard (Hear f ∷ H)) x ≡ false)))) }
-    ensures news { (H : List Call) → IsTrue (unheard_news H) → 0 < unheard H }
+    ensures news { (w : Who) (H : List Call) → IsTrue (unheard_news w H) → 0 < unheard w H }
 {}
 
 /// The next packet of the broadcast that is open is appended, in time, and the last makes it whole; another of its source adds no byte, a
 /// late one ends it, and so does a claim by which its source has another holder, or none. What is no claim, no announcement and no packet
 /// of its source changes nothing, and neither does a frame taken that is no claim.
 pub fn packets_heard()
-    ensures next { (H : List Call) (f : FrameRecord) (x : OpenBroadcast) → claim_of f ≡ None → announces f ≡ false → IsTrue (packs f)
-        → hearing H ≡ Some x → is_whole x ≡ false → source_of f.id ≡ x.source → is_late (time_heard (Hear f ∷ H)) x ≡ false
-        → slice_index f.bytes 0 ≡ suc x.count → hearing (Hear f ∷ H) ≡ Some (grown (time_heard (Hear f ∷ H)) f x) }
-    ensures whole { (H : List Call) (f : FrameRecord) (x : OpenBroadcast) → claim_of f ≡ None → announces f ≡ false → IsTrue (packs f)
-        → hearing H ≡ Some x → is_whole x ≡ false → source_of f.id ≡ x.source → is_late (time_heard (Hear f ∷ H)) x ≡ false
+    ensures next { (w : Who) (H : List Call) (f : FrameRecord) (x : OpenBroadcast) → claim_of f ≡ None → announces f ≡ false → IsTrue (packs f)
+        → hearing w H ≡ Some x → is_whole x ≡ false → source_of f.id ≡ x.source → is_late (time_heard (Hear f ∷ H)) x ≡ false
+        → slice_index f.bytes 0 ≡ suc x.count → hearing w (Hear f ∷ H) ≡ Some (grown (time_heard (Hear f ∷ H)) f x) }
+    ensures whole { (w : Who) (H : List Call) (f : FrameRecord) (x : OpenBroadcast) → claim_of f ≡ None → announces f ≡ false → IsTrue (packs f)
+        → hearing w H ≡ Some x → is_whole x ≡ false → source_of f.id ≡ x.source → is_late (time_heard (Hear f ∷ H)) x ≡ false
         → slice_index f.bytes 0 ≡ suc x.count → x.size ≤ length x.bytes + 7
-        → made_whole H f ≡ Some (
+        → made_whole w H f ≡ Some (
           f.stamp,
           record
               { source = x.source; pgn = x.group; bytes = take x.size (x.bytes ++ drop 1 f.bytes) },
         ) }
-    ensures other { (H : List Call) (f : FrameRecord) (x : OpenBroadcast) → claim_of f ≡ None → announces f ≡ false → IsTrue (packs f)
-        → hearing H ≡ Some x → is_whole x ≡ false → source_of f.id ≡ x.source → is_late (time_heard (Hear f ∷ H)) x ≡ false
-        → slice_index f.bytes 0 ≢ suc x.count → hearing (Hear f ∷ H) ≡ Some (touched (time_heard (Hear f ∷ H)) f x) }
-    ensures late { (H : List Call) (f : FrameRecord) (x : OpenBroadcast) → claim_of f ≡ None → announces f ≡ false → IsTrue (packs f)
-        → hearing H ≡ Some x → is_whole x ≡ false → source_of f.id ≡ x.source → IsTrue (is_late (time_heard (Hear f ∷ H)) x)
-        → hearing (Hear f ∷ H) ≡ None }
-    ensures left { (H : List Call) (f : FrameRecord) (x : OpenBroadcast) → hearing H ≡ Some x → is_whole x ≡ false
-        → holder (Hear f ∷ H) x.source ≢ holder H x.source → found H f ≡ None }
-    ensures strangers { (H : List Call) (f : FrameRecord) → claim_of f ≡ None → announces f ≡ false
-        → (packs f ≡ false) ⊎ ((x : OpenBroadcast) → hearing H ≡ Some x → source_of f.id ≢ x.source)
-        → hearing (Hear f ∷ H) ≡ hearing H }
-    ensures own { (H : List Call) (now : ℕ) (f : FrameRecord) → is_claim f ≡ false
-        → hearing (TakeFrame now (Some f) ∷ H) ≡ hearing H }
+    ensures other { (w : Who) (H : List Call) (f : FrameRecord) (x : OpenBroadcast) → claim_of f ≡ None → announces f ≡ false → IsTrue (packs f)
+        → hearing w H ≡ Some x → is_whole x ≡ false → source_of f.id ≡ x.source → is_late (time_heard (Hear f ∷ H)) x ≡ false
+        → slice_index f.bytes 0 ≢ suc x.count → hearing w (Hear f ∷ H) ≡ Some (touched (time_heard (Hear f ∷ H)) f x) }
+    ensures late { (w : Who) (H : List Call) (f : FrameRecord) (x : OpenBroadcast) → claim_of f ≡ None → announces f ≡ false → IsTrue (packs f)
+        → hearing w H ≡ Some x → is_whole x ≡ false → source_of f.id ≡ x.source → IsTrue (is_late (time_heard (Hear f ∷ H)) x)
+        → hearing w (Hear f ∷ H) ≡ None }
+    ensures left { (w : Who) (H : List Call) (f : FrameRecord) (x : OpenBroadcast) → hearing w H ≡ Some x → is_whole x ≡ false
+        → holder w (Hear f ∷ H) x.source ≢ holder w H x.source → found w H f ≡ None }
+    ensures strangers { (w : Who) (H : List Call) (f : FrameRecord) → claim_of f ≡ None → announces f ≡ false
+        → (packs f ≡ false) ⊎ ((x : OpenBroadcast) → hearing w H ≡ Some x → source_of f.id ≢ x.source)
+        → hearing w (Hear f ∷ H) ≡ hearing w H }
+    ensures own { (w : Who) (H : List Call) (now : ℕ) (f : FrameRecord) → is_claim f ≡ false
+        → hearing w (TakeFrame now (Some f) ∷ H) ≡ hearing w H }
 {}

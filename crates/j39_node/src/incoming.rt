@@ -1,5 +1,5 @@
 //! Messages that come in packets to the address that is held (J1939-21, 5.10.3).
-ghost use Rattle.std.specs.Prelude.{◌≡◌, ◌≤◌, ◌↔◌, ◌++◌, ◌∷◌, [], ℕ, List, length, true, false, IsSome, IfSome, IsSomeAnd, IfOk, OnErr, Some, None};
+ghost use Rattle.std.specs.Prelude.{IsTrue, ◌≡◌, ◌≤◌, ◌↔◌, ◌++◌, ◌∷◌, [], ℕ, List, length, true, false, IsSome, IfSome, IsSomeAnd, IfOk, OnErr, Some, None};
 ghost use Rattle.std.specs.List.{slice_get};
 ghost use Rattle.std.specs.Option.{option_map};
 ghost use Rattle.j39_frame.specs.Address.{IsAddress};
@@ -126,6 +126,24 @@ impl Incoming {
         } else if is_held {
             self.take_in(frame);
         }
+    }
+
+    /// Begins anew at another address: an open session is dropped, and what was to be said. The receiver's memory is kept. False
+    /// above 253, where nothing changes.
+    pub(crate) fn move_to(&mut self, own: u8) -> bool
+        ensures known { IsTrue result ↔ IsAddress own }
+        ensures moved { result ≡ true → self.old.receiver.has_box ≡ true → incoming_of self.new ≡ record
+            { moment = 0; clock = 0; own = own; has_box = true; reception = no_reception } }
+        ensures stays { result ≡ false → self.new ≡ self.old }
+    {
+        if !self.receiver.move_to(own) {
+            return false;
+        }
+        self.moment = 0;
+        self.clock = Stamp::new(0).unwrap();
+        self.place = None;
+        self.replies.clear();
+        true
     }
 
     /// Whether nothing lies there.

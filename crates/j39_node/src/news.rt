@@ -22,6 +22,13 @@ impl Untold {
         }
     }
 
+    /// Whether nothing is untold.
+    pub(crate) fn is_none(self) -> bool
+        ensures { result ≡ not (self.lost || (self.another || self.missed)) }
+    {
+        !(self.lost || (self.another || self.missed))
+    }
+
     /// A frame was heard: it drives away from the address, which was lost before or not; another sent it from the address; it
     /// was missed, or announces what isn't heard.
     pub(crate) fn heard(

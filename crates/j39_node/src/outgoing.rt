@@ -1,5 +1,5 @@
 //! Messages that were accepted, and are not told to have ended.
-ghost use Rattle.std.specs.Prelude.{◌≡◌, ◌↔◌, IsSome, IfSome, Some, true};
+ghost use Rattle.std.specs.Prelude.{◌≡◌, ◌↔◌, IsSome, IfSome, Some, true, List, []};
 ghost use Rattle.std.specs.Option.{option_map};
 ghost use Rattle.j39_frame.specs.Pgn.{pgn_raw};
 ghost use Rattle.j39_frame.specs.Stamp.{stamp_micros};
@@ -38,11 +38,11 @@ impl Outgoing {
         to: u8,
         bytes: &[u8],
     ) -> Option<Outgoing>
-        ensures known { IsSome result ↔ (can_send (who_of own.now) (record
+        ensures known { IsSome result ↔ (can_send (who_of [] own.now) (record
             { priority = priority; group = pgn_raw group; to = to; bytes = bytes.now }) ≡ true) }
         ensures value { IfSome result (λ x. posted x ≡ (
           token,
-          message_from (who_of own.now) (record
+          message_from (who_of [] own.now) (record
               { priority = priority; group = pgn_raw group; to = to; bytes = bytes.now }),
         )) }
     {
@@ -68,7 +68,7 @@ impl Outgoing {
 }
 
 fn can_send(own: &Own, priority: u8, group: Pgn, to: u8, bytes: &[u8]) -> bool
-    ensures { result ≡ can_send (who_of own.now) (record
+    ensures { result ≡ can_send (who_of [] own.now) (record
         { priority = priority; group = pgn_raw group; to = to; bytes = bytes.now }) }
 {
     priority < 8

@@ -197,6 +197,23 @@ impl Receiver {
         self.buffers.end();
     }
 
+    /// Begins anew at another address, as `with_buffer` would there, with no frame and no memory taken: a session is
+    /// dropped, and the buffer is kept. False above 253, where nothing changes.
+    pub fn move_to(&mut self, own: u8) -> bool
+        ensures known { IsTrue result ↔ IsAddress own }
+        ensures moved { result ≡ true → self.new.state ≡ new_receiver own }
+        ensures stays { result ≡ false → self.new ≡ self.old }
+        ensures buffer { self.new.has_box ≡ self.old.has_box }
+        ensures stands { result ≡ true → ReceiverStandsFor [] self.new.state }
+    {
+        if !is_address(own) {
+            return false;
+        }
+        self.end();
+        self.own = own;
+        true
+    }
+
     /// The address that it is at.
     pub fn address(&self) -> u8
         ensures { result ≡ self.now.state.own }

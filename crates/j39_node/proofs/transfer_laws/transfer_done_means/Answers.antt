@@ -24,7 +24,7 @@ pub returns-clause-all : goal.returns-clause-all
 returns-clause-all c = law.all_told
 
 pub returns-clause-holder : goal.returns-clause-holder
-returns-clause-holder c = λ H a. (holders H a).is
+returns-clause-holder c = λ w H a. (holders w H a).is
 
 pub returns-clause-replaced : goal.returns-clause-replaced
 returns-clause-replaced c = law.is_gone

@@ -9,4 +9,4 @@ use Rattle.j39_node.proofs.controller.Controller.address_of.Given as goal
 -- the NAME holds no address so far
 abbrev pub invariant-loop-address : goal.invariant-loop-address
 invariant-loop-address l = (w : Who) (H : List Call) → Is w H l.self → (a : ℕ) → a < l.address
-    → IsHolderAfter (claims_of (told_claims H)) a (Some (name_raw l.name)) → ⊥
+    → IsHolderAfter (claims_of (told_claims w H)) a (Some (name_raw l.name)) → ⊥

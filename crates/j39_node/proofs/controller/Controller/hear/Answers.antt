@@ -6,7 +6,9 @@ use Rattle.j39_node.specs.Transfers.{hears_if}
 use Rattle.std.specs.Option.{option_map}
 use Rattle.j39_node.specs.Hold.{lost, passed}
 use Rattle.j39_address.specs.Name.{name_raw}
+use Rattle.j39_address.specs.Claim.{claim_of}
 use Rattle.j39_node.proofs.PortLemmas.{peers_are}
+use Rattle.j39_node.proofs.KnownLemmas.{asked_known, calls_known, refusal_known, request_known, smaller_known}
 use Rattle.j39_node.proofs.CallLemmas.{passed_is, heard_more, news_heard}
 use Rattle.j39_node.proofs.controller.Controller.hear.Goals as goal
 
@@ -17,8 +19,8 @@ returns c = λ w H h.
     (c.passed-self.ensures ∙ ap (λ (g : FrameRecord). passed g.stamp c.args.self.now.hold) c.frame.view_is) in
     heard_more w H c.args.self.now _ f c.passed-self.result c.is_held-is_held.result c.is_for_program-wanted.result c.is_lost-is_lost.result
     c.is_driven_away-drives_away.result c.calls_for_claim-calls.result c.is_replaced-is_replaced.result c.hear-unheard.result (option_map request_by c.asked-request.result) h p c.is_held-is_held.ensures c.is_for_program-wanted.ensures
-    c.offer.ensures.unread c.offer.ensures.missed c.is_driven_away-drives_away.ensures c.is_lost-is_lost.ensures c.calls_for_claim-calls.ensures
-    c.hear.ensures.waiting c.hear.ensures.due c.asked-request.ensures c.hear-2.ensures.knows
+    c.offer.ensures.unread c.offer.ensures.missed (c.is_driven_away-drives_away.ensures ∙ smaller_known w.known c.args.self.now.own (claim_of f)) c.is_lost-is_lost.ensures (c.calls_for_claim-calls.ensures ∙ calls_known w.known c.args.self.now.own c.is_lost-is_lost.result f)
+    (c.hear.ensures.waiting ∙ request_known w.known c.args.self.now.own _ (option_map request_by c.asked-request.result) _) (c.hear.ensures.due ∙ refusal_known w.known c.args.self.now.own _ _ (option_map request_by c.asked-request.result) _) (c.asked-request.ensures ∙ asked_known w.known c.args.self.now.own c.is_held-is_held.result f) c.hear-2.ensures.knows
     (news_heard c.args.self.now.news _ _ _ _ _ _ _ c.heard-self.ensures c.is_another-another.ensures c.misses-misses.ensures)
     c.heard-self-2.ensures refl refl refl refl refl c.hear-2.ensures.heard
     (peers_are (port_of c.args.self.now.transfers).current c.is_replaced-is_replaced.result (option_map name_raw c.peer-before.result) (option_map name_raw c.peer.result)
@@ -26,10 +28,10 @@ returns c = λ w H h.
     (λ r e. c.hear-3.ensures.current r e
     ∙ (ap (λ (b : Bool). hears_if b r f (stamp_micros c.clock.result) (port_of c.args.self.now.transfers).current) c.is_lost.ensures
     ∙ ap (λ (n : ℕ). hears_if (lost c.heard-self-2.result.standing) r f n (port_of c.args.self.now.transfers).current) c.clock.ensures))
-    c.hear-3.ensures.token
+    c.hear-3.ensures.token c.hear-3.ensures.resting
     c.made-made.result
     (c.made-made.ensures ∙ ap (λ (b : Bool). made_by b (incoming_of c.hear-2.new.self).reception.waits) c.has_place-has_place.ensures)
-    (c.hear-4.ensures ∙ ap (λ (b : Bool). option_map (hears_with (who_of c.args.self.now.own) b c.heard-self-2.result.wait f c.made-made.result) (asking_of c.args.self.now.asking)) c.is_lost-2.ensures)
+    (c.hear-4.ensures ∙ ap (λ (b : Bool). option_map (hears_with (who_of w.known c.args.self.now.own) b c.heard-self-2.result.wait f c.made-made.result) (asking_of c.args.self.now.asking)) c.is_lost-2.ensures)
     (not c.is_same-is_left.result) (option_map name_raw c.speaker-speaker.result) (option_map name_raw c.speaker.result) (hearing_of c.leave.new.self)
     c.speaker-speaker.ensures c.speaker.ensures (ap not c.is_same-is_left.ensures) c.leave.ensures.current c.leave.ensures.missed
     c.hear-unheard.ensures.unheard c.hear-unheard.ensures.missed c.hear-unheard.ensures.current

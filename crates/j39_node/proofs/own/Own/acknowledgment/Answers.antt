@@ -11,6 +11,6 @@ pub returns : goal.returns
 unfolding to_all
 returns c =
     let e = c.bytes-bytes.ensures c.args.self.now in
-    made c.new.result _ _ c.bytes-bytes.result (refusal_by (who_of c.args.self.now) c.args.due.now) c.new.ensures.known c.new.ensures.value
+    made c.new.result _ _ c.bytes-bytes.result (refusal_by (who_of Rattle.std.proofs.Common.[] c.args.self.now) c.args.due.now) c.new.ensures.known c.new.ensures.value
     (let l = ap length e in omega (arith, l))
     (c.in_ok-id.ensures c.bytes-bytes.result ∙ ap (to_all c.args.self.now.address) e)

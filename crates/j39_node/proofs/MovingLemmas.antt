@@ -1,0 +1,204 @@
+-- When a controller may move, by what it has; and what it is then.
+use Rattle.std.proofs.Common.{◌≡◌, ℕ, ◌-◌, ◌≤◌, ◌<◌, ◌≢◌, List, [], ◌∷◌, length, map, Option, Some, None, Bool, true, false, not, ◌&&◌, ◌||◌, nat_eq, refl, sym, ap, ◌∙◌, subst, arith, eq-eqb, eqb-true}
+use Rattle.std.proofs.lemmas.Bool.{and_parts, and_from}
+use Rattle.std.specs.Option.{is_some, option_map}
+use Rattle.j39_node.specs.declared.controller.Controller.{Controller}
+use Rattle.j39_node.specs.declared.news.Untold.{Untold}
+use Rattle.j39_node.specs.declared.hold.Standing.TheVariants as standing
+use Rattle.j39_address.specs.Claim.{Claim}
+use Rattle.j39_address.specs.Claims.{Knows, holder_in}
+use Rattle.j39_address.specs.Holder.{IsHolderAfter}
+use Rattle.j39_address.specs.Node.{IsLeastFree, NoneFree}
+use Rattle.j39_address.specs.declared.claims.Claims.{Claims}
+use Rattle.j39_address.proofs.HolderLemmas.{same_holder}
+use Rattle.j39_address.specs.Name.{name_raw}
+use Rattle.j39_node.specs.History.{Who, Call, accepted, got, handed, kept, open_broadcast, requests, told, told_claims}
+use Rattle.j39_node.specs.Reception.{has_place, no_reception, reception}
+use Rattle.j39_node.specs.Hearing.{waiting, whole_of}
+use Rattle.j39_node.specs.Transfers.{NoneRests, open_transfer}
+use Rattle.j39_node.specs.Asking.{Question}
+use Rattle.j39_node.specs.declared.kinds.AskEnding.{AskEnding}
+use Rattle.j39_node.specs.Is.{HearingRecord, IncomingRecord, Is, LaneRecord, PortRecord, asked_by, asking_of, hearing_of, incoming_of, lane_of, news_of, next_news, port_of, posted, received_by, refusal_by, request_by}
+use Rattle.j39_node.specs.Moving.{IsSettled, has_given, has_told, moved}
+use Rattle.j39_node.proofs.QueueLemmas.{length_rest}
+use Rattle.j39_node.proofs.SoundLemmas.{front_length, read, sound}
+
+-- ---- free addresses
+
+abbrev pub StandsFor : Claims → List (Option Claim) → Type 0
+StandsFor table C = (a : ℕ) → IsHolderAfter C a (holder_in table a)
+
+unheld : (table : Claims) (C : List (Option Claim)) (b : ℕ) → StandsFor table C → IsHolderAfter C b None → holder_in table b ≡ None
+unheld table C b h f = same_holder C _ b (holder_in table b) None (h b) f
+
+pub least_free : (table : Claims) (C : List (Option Claim)) (a : ℕ) → StandsFor table C → 128 ≤ a → a ≤ 247 → holder_in table a ≡ None
+    → ((b : ℕ) → 128 ≤ b → b < a → holder_in table b ≢ None) → IsLeastFree C a
+least_free table C a h l u e least =
+    (record { least = l; most = u; unheld = subst (λ (o : Option ℕ). IsHolderAfter C a o) e (h a) }, λ b lt f. least b f.least lt (unheld table C b h f.unheld))
+
+pub none_free : (table : Claims) (C : List (Option Claim)) → StandsFor table C
+    → ((b : ℕ) → 128 ≤ b → b ≤ 247 → holder_in table b ≢ None) → NoneFree C
+none_free table C h none b f = none b f.least f.most (unheld table C b h f.unheld)
+
+-- ---- parts that are empty
+
+empty_is : (a b n : ℕ) → a ≡ b - n → n ≤ b → nat_eq a 0 ≡ true → n ≡ b
+empty_is a b n e l z = let y = eqb-true _ _ z in omega (arith, e, l, y)
+
+is_empty : (a b n : ℕ) → a ≡ b - n → n ≡ b → nat_eq a 0 ≡ true
+is_empty a b n e l = eq-eqb a 0 (omega (arith, e, l))
+
+none_is : {T : Type 0} {U : Type 0} (v : T → U) (o : Option T) → not (is_some o) ≡ true → option_map v o ≡ None
+none_is v None e = refl
+none_is v (Some x) e = absurd (cc)
+
+is_none : {T : Type 0} {U : Type 0} (v : T → U) (o : Option T) → option_map v o ≡ None → not (is_some o) ≡ true
+is_none v None e = refl
+is_none v (Some x) e = absurd (cc)
+
+asked_none : (o : Option Question) (n : ℕ) (e : Option AskEnding) → asked_by o n e ≡ None → o ≡ None
+asked_none None n e h = refl
+asked_none (Some q) n e h = absurd (cc)
+
+none_asked : (o : Option Question) (n : ℕ) (e : Option AskEnding) → o ≡ None → asked_by o n e ≡ None
+none_asked None n e h = refl
+none_asked (Some q) n e h = absurd (cc)
+
+place_none : {T : Type 0} (o : Option T) → (p : Option T → Bool) → ((x : T) → p (Some x) ≡ false) → p o ≡ true → o ≡ None
+place_none None p q e = refl
+place_none (Some x) p q e = absurd (let z : false ≡ true = sym (q x) ∙ e in cc)
+
+no_news : (a b c : Bool) → not (a || (b || c)) ≡ true → news_of a b c ≡ None
+no_news true b c e = absurd (cc)
+no_news false true c e = absurd (cc)
+no_news false false true e = absurd (cc)
+no_news false false false e = refl
+
+news_none : (a b c : Bool) → news_of a b c ≡ None → not (a || (b || c)) ≡ true
+news_none true b c e = absurd (cc)
+news_none false true c e = absurd (cc)
+news_none false false true e = absurd (cc)
+news_none false false false e = refl
+
+-- ---- all of them
+
+module _ (w : Who) (H : List Call) (c : Controller) (h : Is w H c) where
+  messages : length c.outgoing.items ≡ length (accepted w H) - length (told H)
+  messages = length_rest posted c.outgoing.items (length (told H)) (accepted w H) h.outgoing
+
+  unread : length c.inbox.unread.items ≡ length (kept w H) - length (got H)
+  unread = length_rest received_by c.inbox.unread.items (length (got H)) (kept w H) h.unread
+
+  asked : length c.desk.waiting.items ≡ length (requests w H) - length (handed H)
+  asked = length_rest request_by c.desk.waiting.items (length (handed H)) (requests w H) h.requests
+
+  broadcast : (lane_of w c.lane).current ≡ open_broadcast w H
+  broadcast = ap (λ (l : LaneRecord). l.current) h.lane
+
+  transfer : (port_of c.transfers).current ≡ open_transfer w H
+  transfer = ap (λ (p : PortRecord). p.current) h.port
+
+  waits : (incoming_of c.incoming).reception.waits ≡ (reception w H).waits
+  waits = ap (λ (x : IncomingRecord). x.reception.waits) h.incoming
+
+  heard : whole_of (hearing_of c.hearing).current ≡ waiting w H
+  heard = ap (λ (r : HearingRecord). whole_of r.current) h.hearing
+
+  untold : not (c.news.lost || (c.news.another || c.news.missed)) ≡ true → next_news w H ≡ None
+  untold e = no_news _ _ _ (sym (ap (λ (u : Untold). not (u.lost || (u.another || u.missed))) h.news) ∙ e)
+
+  all_told : next_news w H ≡ None → not (c.news.lost || (c.news.another || c.news.missed)) ≡ true
+  all_told e = ap (λ (u : Untold). not (u.lost || (u.another || u.missed))) h.news ∙ news_none _ _ _ e
+
+  pub settles : (has_told c && has_given c) ≡ true → IsSettled w H
+  settles e =
+      let s = sound w H h.answered in
+      let p = and_parts _ _ e in
+      let t = and_parts _ _ p.0 in
+      let t2 = and_parts _ _ t.1 in
+      let t3 = and_parts _ _ t2.1 in
+      let g = and_parts _ _ p.1 in
+      let g2 = and_parts _ _ g.1 in
+      let g3 = and_parts _ _ g2.1 in
+      let g4 = and_parts _ _ g3.1 in
+      record {
+        messages = empty_is _ _ _ messages s.within t.0;
+        broadcast = sym broadcast ∙ none_is _ _ t2.0;
+        transfer = sym transfer ∙ none_is _ _ t3.0;
+        request = asked_none _ _ _ (sym h.asking ∙ none_is _ _ t3.1);
+        received = empty_is _ _ _ unread (read w H s) g.0;
+        requests_taken = empty_is _ _ _ asked (front_length _ _ s.desk.2) g2.0;
+        received_transfer = sym waits ∙ place_none _ has_place (λ x. refl) g3.0;
+        received_broadcast = sym heard ∙ place_none _ has_place (λ x. refl) g4.0;
+        news = untold g4.1;
+      }
+
+  pub settled : IsSettled w H → (has_told c && has_given c) ≡ true
+  settled s =
+      and_from _ _
+      (and_from _ _ (is_empty _ _ _ messages s.messages)
+      (and_from _ _ (is_none _ _ (broadcast ∙ s.broadcast))
+      (and_from _ _ (is_none _ _ (transfer ∙ s.transfer)) (is_none _ _ (h.asking ∙ none_asked _ _ _ s.request)))))
+      (and_from _ _ (is_empty _ _ _ unread s.received)
+      (and_from _ _ (is_empty _ _ _ asked s.requests_taken)
+      (and_from _ _ (ap has_place (waits ∙ s.received_transfer))
+      (and_from _ _ (ap has_place (heard ∙ s.received_broadcast)) (all_told s.news)))))
+
+-- ---- it begins anew
+
+nothing : {T : Type 0} {U : Type 0} (v : T → U) (xs : List T) → nat_eq (length xs) 0 ≡ true → map v xs ≡ []
+nothing v [] e = refl
+nothing v (x ∷ xs) e = absurd (let z = eqb-true _ _ e in omega (arith, z))
+
+mapped : {T : Type 0} {U : Type 0} (v : T → U) (xs : List T) → xs ≡ [] → map v xs ≡ []
+mapped v xs e = ap (map v) e
+
+none_untold : (u : Untold) → not (u.lost || (u.another || u.missed)) ≡ true → u ≡ record { lost = false; another = false; missed = false }
+none_untold u e = go u.lost u.another u.missed refl refl refl e
+  where
+    untold : Bool → Bool → Bool → Untold
+    untold a b c = record { lost = a; another = b; missed = c }
+
+    go : (a b c : Bool) → u.lost ≡ a → u.another ≡ b → u.missed ≡ c → not (a || (b || c)) ≡ true → u ≡ untold false false false
+    go true b c i j k e = absurd (cc)
+    go false true c i j k e = absurd (cc)
+    go false false true i j k e = absurd (cc)
+    go false false false i j k e = λ l. untold (i l) (j l) (k l)
+
+pub begins_anew : (w : Who) (H : List Call) (old new : Controller) (a : ℕ) → Is w H old → (has_told old && has_given old) ≡ true
+    → new.own.name ≡ old.own.name → new.own.address ≡ a → new.own.served.items ≡ old.own.served.items
+    → new.hold ≡ record { moment = 0; standing = standing.Idle; owes_claim = true; pause = 0; age = 0; wait = 0; rest = 0 }
+    → new.outgoing ≡ old.outgoing → new.taken ≡ 0 → new.next_token ≡ 0 → new.asking ≡ old.asking → new.inbox.unread ≡ old.inbox.unread → new.inbox.missed ≡ 0
+    → new.desk.waiting ≡ old.desk.waiting → new.desk.due.items ≡ [] → new.news ≡ old.news → new.holders ≡ old.holders
+    → new.lane ≡ record { current = None; count = 0; next_token = 0 }
+    → incoming_of new.incoming ≡ record { moment = 0; clock = 0; own = a; has_box = true; reception = no_reception }
+    → port_of new.transfers ≡ record { current = None; next_token = 0; resting = NoneRests } → hearing_of new.hearing ≡ record { current = None; missed = 0 }
+    → Is (moved w H a) [] new
+begins_anew w H old new a h e o1 o2 o3 q1 q2 q3 q4 q5 q6 q7 q8 q9 q10 q11 q12 q15 q16 q18 =
+    let p = and_parts _ _ e in
+    let t = and_parts _ _ p.0 in
+    let t3 = and_parts _ _ (and_parts _ _ t.1).1 in
+    let g = and_parts _ _ p.1 in
+    let g2 = and_parts _ _ g.1 in
+    let g3 = and_parts _ _ g2.1 in
+    let g4 = and_parts _ _ g3.1 in
+    record {
+      who = (λ i. let v : Who = record { name = name_raw (o1 i); address = o2 i; served = o3 i; known = told_claims w H } in v)
+          ∙ ap (λ (v : Who). (let u : Who = record { name = v.name; address = a; served = v.served; known = told_claims w H } in u)) h.who;
+      answered = tt;
+      hold = q1;
+      outgoing = ap (λ x. map posted x.items) q2 ∙ nothing posted old.outgoing.items t.0;
+      taken = q3;
+      token = q4;
+      asking = ap asking_of q5 ∙ none_is _ _ t3.1;
+      unread = ap (λ x. map received_by x.items) q6 ∙ nothing received_by old.inbox.unread.items g.0;
+      requests = ap (λ x. map request_by x.items) q8 ∙ nothing request_by old.desk.waiting.items g2.0;
+      acknowledgments = mapped (refusal_by (moved w H a)) new.desk.due.items q9;
+      news = q10 ∙ none_untold old.news g4.1;
+      holders = subst (λ t. Knows t (told_claims w H)) (sym q11) h.holders;
+      missed = q7;
+      lane = ap (lane_of (moved w H a)) q12;
+      incoming = q15;
+      port = q16;
+      hearing = q18;
+    }

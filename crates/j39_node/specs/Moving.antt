@@ -1,0 +1,40 @@
+-- When a controller may move to another address, and what it is then.
+use Rattle.std.specs.Prelude.{◌≡◌, ℕ, ◌&&◌, ◌||◌, not, nat_eq, Bool, List, length, None}
+use Rattle.std.specs.Option.{is_some}
+use Rattle.j39_node.specs.declared.controller.Controller.{Controller}
+use Rattle.j39_node.specs.History.{Who, Call, accepted, got, handed, kept, open_broadcast, requests, told, told_claims}
+use Rattle.j39_node.specs.Reception.{has_place, reception}
+use Rattle.j39_node.specs.Hearing.{waiting, whole_of}
+use Rattle.j39_node.specs.Transfers.{open_transfer}
+use Rattle.j39_node.specs.Asking.{open_ask}
+use Rattle.j39_node.specs.Is.{hearing_of, incoming_of, next_news}
+
+-- all that was accepted is told to have ended, all that was received is taken, and so is all news
+pub record IsSettled (w : Who) (H : List Call) : Type 0 where
+  pub messages : length (told H) ≡ length (accepted w H)
+  pub broadcast : open_broadcast w H ≡ None
+  pub transfer : open_transfer w H ≡ None
+  pub request : open_ask H ≡ None
+  pub received : length (got H) ≡ length (kept w H)
+  pub requests_taken : length (handed H) ≡ length (requests w H)
+  pub received_transfer : (reception w H).waits ≡ None
+  pub received_broadcast : waiting w H ≡ None
+  pub news : next_news w H ≡ None
+
+-- the same controller at another address: it knows the claims told so far
+abbrev pub moved : Who → List Call → ℕ → Who
+moved w H address = record { name = w.name; address = address; served = w.served; known = told_claims w H }
+
+-- ---- by what the code has
+
+abbrev pub has_told : Controller → Bool
+has_told c =
+    nat_eq (length c.outgoing.items) 0
+    && (not (is_some c.lane.current) && (not (is_some c.transfers.current) && not (is_some c.asking.current)))
+
+abbrev pub has_given : Controller → Bool
+has_given c =
+    nat_eq (length c.inbox.unread.items) 0
+    && (nat_eq (length c.desk.waiting.items) 0
+    && (has_place (incoming_of c.incoming).reception.waits
+    && (has_place (whole_of (hearing_of c.hearing).current) && not (c.news.lost || (c.news.another || c.news.missed)))))
