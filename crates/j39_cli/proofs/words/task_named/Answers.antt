@@ -6,7 +6,7 @@ use Rattle.j39_cli.proofs.MetLemmas.{tells, tells_none}
 use Rattle.j39_cli.proofs.words.task_named.Goals as goal
 
 pub returns-in-report-clause-tells : goal.returns-in-report-clause-tells
-returns-in-report-clause-tells c = tells _ (found_of c.args.given.now) c.task.result (report _ _ _ _ _ _ _ _ _ _) c.in-report.is (refl, (refl, (refl, (refl, (refl, (refl, (refl, (refl, (refl, (refl, tt)))))))))) c.task.ensures.answer
+returns-in-report-clause-tells c = tells _ (found_of c.args.given.now) c.task.result (report _ _ _ _ _ _ _ _ _ _ _) c.in-report.is (refl, (refl, (refl, (refl, (refl, (refl, (refl, (refl, (refl, (refl, (refl, tt))))))))))) c.task.ensures.answer
 
 pub returns-in-summary-clause-tells : goal.returns-in-summary-clause-tells
 returns-in-summary-clause-tells c = tells _ (found_of c.args.given.now) c.task-in-summary.result (summary _ _ _ _) c.in-summary.is (refl, (refl, (refl, (refl, tt)))) c.task-in-summary.ensures.answer
