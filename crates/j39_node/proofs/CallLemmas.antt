@@ -27,7 +27,7 @@ use Rattle.j39_node.specs.declared.kinds.Refused.TheVariants.{NoAddress, BadValu
 use Rattle.j39_node.specs.Asking.{made, ended, has_token, open_ask, wait}
 use Rattle.j39_node.proofs.AskLemmas.{ask_heard, ask_more, ask_same, takes, wait_more, wait_same}
 use Rattle.j39_node.specs.Is.{AskRecord, made_by, asking_of, hears_with}
-use Rattle.j39_node.specs.Hold.{asked as hold_asked, standing_of, less, passed, heard, claims, paused, stands, lost, left_at}
+use Rattle.j39_node.specs.Hold.{rested, asked as hold_asked, standing_of, less, passed, heard, claims, paused, stands, lost, left_at}
 use Rattle.j39_node.specs.History.{Who, Message, Draft, Call, Address, message_of, older, claimed, address_after, holds, is_lost, is_held, is_smaller, claim_address, claim_from, owes_claim, calls_for_claim, can_send, message_from, accepted, sent, told, is_full, step, moment, is_for_program, kept, got, missed, Asked, asked, acknowledgment, acknowledged, due, handed, requests, is_served, with_request, with_refusal, stamp_at, held_at, told_claims, is_another, is_acknowledgment, is_claim, lost_news, another_news, missed_news, broadcasts, broadcast_from, can_broadcast, has_packets, is_busy, is_left, is_open, is_packet, open_broadcast, packets, pause}
 use Rattle.j39_node.specs.History.Call.{Hear, TakeFrame, Send, TakeEnded, TakeRequest, Acknowledge, Broadcast, TakeBroadcastEnded, Transfer, TakeTransferEnded}
 use Rattle.j39_node.proofs.ReceptionLaws.{made_is}
@@ -36,9 +36,9 @@ use Rattle.j39_node.specs.declared.incoming.Incoming.{Incoming}
 use Rattle.j39_node.specs.declared.incoming.Said.{Said}
 use Rattle.j39_address.specs.declared.claims.Claims.{Claims}
 use Rattle.j39_node.proofs.ReceptionLemmas.{leaves_is, none_taken, replied_get, taken_is, tidy}
-use Rattle.j39_node.specs.Transfers.{Running, age, answer_to_transfer, at_in, begun, can_transfer, clock, clock_at, is_engaged, next_due, next_transfer, next_transfer_ended, hears_if, is_replaced, open_transfer, packet_in, packets_in, sends_if, sooner, transfer_by, transfer_end, transfer_in, transfers as all_transfers}
+use Rattle.j39_node.specs.Transfers.{holds_back, is_resting, rest, resting, rests_after, Running, age, answer_to_transfer, at_in, begun, can_transfer, clock, clock_at, is_engaged, next_due, next_transfer, next_transfer_ended, hears_if, is_replaced, open_transfer, packet_in, packets_in, sends_if, sooner, transfer_by, transfer_end, transfer_in, transfers as all_transfers}
 use Rattle.j39_node.specs.History.Address.{NotClaimed, Claimed, Lost}
-use Rattle.j39_node.specs.Is.{Is, stamped, next_frame, end_of, answer_to_send, answer_to_acknowledge, hold_after, who_of, posted, received_by, request_by, refusal_by, first_of, offered, counted, LaneRecord, opened, lane_of, lane_after, packet_by, next_control, control_of, next_packet, IncomingRecord, incoming_of, incoming_after, said_by, with_reception, with_replies, hears, answer_to_broadcast, broadcast_end, next_broadcast_ended, long_by, next_long, PortRecord, port_of, running, HearingRecord, hearing_of}
+use Rattle.j39_node.specs.Is.{Is, stamped, next_frame, end_of, answer_to_send, answer_to_acknowledge, hold_after, who_of, posted, received_by, request_by, refusal_by, first_of, offered, counted, LaneRecord, opened, lane_of, lane_after, packet_by, next_control, control_of, next_packet, IncomingRecord, incoming_of, incoming_after, said_by, with_reception, with_replies, hears, answer_to_broadcast, broadcast_end, next_broadcast_ended, long_by, next_long, PortRecord, closed, port_after, port_of, resting_by, running, HearingRecord, hearing_of}
 use Rattle.j39_frame.specs.Stamp.{stamp_micros}
 use Rattle.j39_node.specs.Hearing.{IsFit, hears as hears_it, is_unheard, left as leaves_it, unheard_news}
 use Rattle.j39_node.proofs.HearingLemmas.{claimed_on, either_news, hearing_same, heard_on}
@@ -75,6 +75,7 @@ pub record Passed (w : Who) (H : List Call) (now : ℕ) (h : Hold) : Type 0 wher
   pub pause : h.pause ≡ pause H - step H now
   pub age : h.age ≡ min (age H + step H now) 18446744073709551615
   pub wait : h.wait ≡ wait H - step H now
+  pub rest : h.rest ≡ rest H - step H now
 
 saturates : (a s : ℕ) → min (min a 18446744073709551615 + s) 18446744073709551615 ≡ min (a + s) 18446744073709551615
 saturates a s = omega arith
@@ -89,19 +90,21 @@ passed_is w H now old new e f =
       pause = ap (λ (h : Hold). h.pause) g;
       age = ap (λ (h : Hold). h.age) g ∙ saturates (age H) (step H now);
       wait = ap (λ (h : Hold). h.wait) g;
+      rest = ap (λ (h : Hold). h.rest) g;
     }
 
 pub holds_is : (w : Who) (H : List Call) (now : ℕ) (h : Hold) (b : Bool) → Passed w H now h → b ≡ stands h.standing → b ≡ holds w H now
 holds_is w H now h b p e = e ∙ (ap stands p.standing ∙ stands_is (older (step H now) (address_after w H)))
 
-pub is_hold : (h k : Hold) → h.moment ≡ k.moment → h.standing ≡ k.standing → h.owes_claim ≡ k.owes_claim → h.pause ≡ k.pause → h.age ≡ k.age → h.wait ≡ k.wait → h ≡ k
-is_hold h k e f g i j l =
+pub is_hold : (h k : Hold) → h.rest ≡ k.rest → h.moment ≡ k.moment → h.standing ≡ k.standing → h.owes_claim ≡ k.owes_claim → h.pause ≡ k.pause → h.age ≡ k.age → h.wait ≡ k.wait → h ≡ k
+is_hold h k r e f g i j l =
     ap (λ (x : ℕ). record h { moment = x }) e
     ∙ (ap (λ (x : Standing). record h { moment = k.moment; standing = x }) f
     ∙ (ap (λ (x : Bool). record h { moment = k.moment; standing = k.standing; owes_claim = x }) g
     ∙ (ap (λ (x : ℕ). record h { moment = k.moment; standing = k.standing; owes_claim = k.owes_claim; pause = x }) i
     ∙ (ap (λ (x : ℕ). record h { moment = k.moment; standing = k.standing; owes_claim = k.owes_claim; pause = k.pause; age = x }) j
-    ∙ ap (λ (x : ℕ). record h { moment = k.moment; standing = k.standing; owes_claim = k.owes_claim; pause = k.pause; age = k.age; wait = x }) l))))
+    ∙ (ap (λ (x : ℕ). record h { moment = k.moment; standing = k.standing; owes_claim = k.owes_claim; pause = k.pause; age = k.age; wait = x }) l
+    ∙ ap (λ (x : ℕ). record k { rest = x }) r)))))
 
 -- ---- the lane
 
@@ -247,7 +250,7 @@ taken w H old new now (Some f) x mid h p owes held none quiet g m e d request a1
     record {
       who = ap (λ c. who_of w.known c.own) e ∙ h.who;
       answered = (h.answered, ap Some k ∙ sym (next_is w H now None (Some (posted x)) (sym p.owes ∙ owes) held (none_steered w H old h none quiet) i));
-      hold = a3 ∙ is_hold _ _ p.moment (p.standing ∙ ap standing_of (sym (address_is w H now f false n))) owes (p.pause ∙ sym (pause_is H now f false (no_packet f one))) p.age
+      hold = a3 ∙ is_hold _ _ p.rest p.moment (p.standing ∙ ap standing_of (sym (address_is w H now f false n))) owes (p.pause ∙ sym (pause_is H now f false (no_packet f one))) p.age
           (ap (λ (k : ℕ). if request then 1250000 else k) p.wait
           ∙ wait_more w H now x.token f request n l one number (a2 ∙ ap (λ (o : Option AskRecord). has_token (option_map (λ (y : AskRecord). y.question) o) x.token) h.asking));
       asking = a1 ∙ (ap (option_map (takes x.token)) h.asking ∙ ask_more w H now x.token f number more);
@@ -286,7 +289,7 @@ taken_none w H old new now h p owes held none quiet g m u e =
             ∙ (ap (option_map (at_now now)) (long_next w H old now new.hold.pause new.hold.age h p.pause p.age)
             ∙ sym (next_is w H now None None (sym p.owes ∙ owes) held (none_steered w H old h none quiet) i)),
       );
-      hold = is_hold _ _ p.moment p.standing p.owes p.pause p.age p.wait;
+      hold = is_hold _ _ p.rest p.moment p.standing p.owes p.pause p.age p.wait;
       outgoing = ap (λ c. map posted c.outgoing.items) e ∙ h.outgoing;
       taken = ap (λ c. c.taken) e ∙ h.taken;
       token = ap (λ c. c.next_token) e ∙ h.token;
@@ -327,7 +330,7 @@ taken_packet w H old new now f mid h p owes held none quiet g m e e0 e1 more =
             i ∙ (ap (λ o. option_map (at_now now) (long_by o (next_transfer w H now))) (sym q)
                 ∙ sym (next_is w H now None None (sym p.owes ∙ owes) held (none_steered w H old h none quiet) past)),
           );
-          hold = e0 ∙ is_hold _ _ p.moment (p.standing ∙ ap standing_of (sym (address_is w H now f false is.0))) owes (sym (pause_is H now f true is.2)) p.age (p.wait ∙ wait_same H now f false false true is.0 is.1 (packet_session f is.2).0 refl);
+          hold = e0 ∙ is_hold _ _ p.rest p.moment (p.standing ∙ ap standing_of (sym (address_is w H now f false is.0))) owes (sym (pause_is H now f true is.2)) p.age (p.wait ∙ wait_same H now f false false true is.0 is.1 (packet_session f is.2).0 refl);
           outgoing = ap (λ c. map posted c.outgoing.items) e ∙ h.outgoing;
           taken = ap (λ c. c.taken) e ∙ (h.taken ∙ ap (λ (xs : List Message). length xs - length (told H)) (sym (sent_is H now f false false true is.0 is.1 (packet_session f is.2).0)));
           token = ap (λ c. c.next_token) e ∙ h.token;
@@ -355,8 +358,8 @@ pub taken_transfer : (w : Who) (H : List Call) (old new : Controller) (now : ℕ
     → Some (stamped f) ≡ option_map (at_now now) (transfer_by (port_of old.transfers).current (clock mid.age))
     → new ≡ record old { hold = mid; transfers = new.transfers }
     → (port_of new.transfers).current ≡ sends_if true (clock mid.age) (port_of old.transfers).current → new.transfers.next_token ≡ old.transfers.next_token
-    → Is w (TakeFrame now (Some f) ∷ H) new
-taken_transfer w H old new now f mid h p owes held none quiet g m u e e0 e1 =
+    → new.transfers.resting ≡ old.transfers.resting → Is w (TakeFrame now (Some f) ∷ H) new
+taken_transfer w H old new now f mid h p owes held none quiet g m u e e0 e1 e2 =
     go (next_transfer w H now) refl (u ∙ ap (option_map (at_now now)) (transfer_next w H old now mid.age h p.age))
   where
     no_packets : next_packet w H now ≡ None
@@ -377,7 +380,7 @@ taken_transfer w H old new now f mid h p owes held none quiet g m u e e0 e1 =
             i ∙ (ap (option_map (at_now now)) (sym (ap (λ o. long_by o (next_transfer w H now)) no_packets ∙ q))
                 ∙ sym (next_is w H now None None (sym p.owes ∙ owes) held (none_steered w H old h none quiet) past)),
           );
-          hold = ap (λ c. c.hold) e ∙ is_hold _ _ p.moment (p.standing ∙ ap standing_of (sym (address_is w H now f false is.claim))) owes
+          hold = ap (λ c. c.hold) e ∙ is_hold _ _ p.rest p.moment (p.standing ∙ ap standing_of (sym (address_is w H now f false is.claim))) owes
               (p.pause ∙ sym (pause_is H now f false is.packet)) p.age (p.wait ∙ wait_same H now f false false true is.claim is.plain is.session refl);
           outgoing = ap (λ c. map posted c.outgoing.items) e ∙ h.outgoing;
           taken = ap (λ c. c.taken) e ∙ (h.taken ∙ ap (λ (xs : List Message). length xs - length (told H)) (sym (sent_is H now f false false true is.claim is.plain is.session)));
@@ -396,7 +399,7 @@ taken_transfer w H old new now f mid h p owes held none quiet g m u e e0 e1 =
           port = is_port _ _
               (e0 ∙ (ap (λ (n : ℕ). sends_if true n (port_of old.transfers).current) (ap clock p.age ∙ clock_is (age H + step H now))
               ∙ (ap (λ (t : PortRecord). sends_if true (clock_at H now) t.current) h.port ∙ port_more w H now f (is_moved w H f is.transfer (none_steers (slice_get (due w H) (length (acknowledged H))) _ (none_steered w H old h none quiet)).1))))
-              (e1 ∙ ap (λ (t : PortRecord). t.next_token) h.port);
+              (e1 ∙ ap (λ (t : PortRecord). t.next_token) h.port) (ap resting_by e2 ∙ ap (λ (t : PortRecord). t.resting) h.port);
           incoming = ap (λ c. incoming_of c.incoming) e ∙ (h.incoming ∙ incoming_same w H now f (none_taken w H now f is.claim is.plain (none_replied w H old h quiet)));
         }
 
@@ -413,7 +416,7 @@ taken_due w H old new now (Some f) x h p owes held first m e =
     record {
       who = ap (λ c. who_of w.known c.own) e ∙ h.who;
       answered = (h.answered, ap Some k ∙ sym (next_is w H now (Some (refusal_by w x)) _ (sym p.owes ∙ owes) held (steered_due w H (refusal_by w x) first.is) refl));
-      hold = is_hold _ _ p.moment (p.standing ∙ ap standing_of (sym (address_is w H now f false is.0))) owes (p.pause ∙ sym (pause_is H now f false (no_packet f is.2))) p.age (p.wait ∙ wait_same H now f false true false is.0 is.1 is.2 refl);
+      hold = is_hold _ _ p.rest p.moment (p.standing ∙ ap standing_of (sym (address_is w H now f false is.0))) owes (p.pause ∙ sym (pause_is H now f false (no_packet f is.2))) p.age (p.wait ∙ wait_same H now f false true false is.0 is.1 is.2 refl);
       outgoing = ap (λ c. map posted c.outgoing.items) e ∙ h.outgoing;
       taken = ap (λ c. c.taken) e ∙ (h.taken ∙ ap (λ (xs : List Message). length xs - length (told H)) (sym (sent_is H now f false true false is.0 is.1 is.2)));
       token = ap (λ c. c.next_token) e ∙ h.token;
@@ -449,7 +452,7 @@ taken_reply w H old new now (Some f) x h p owes held none first m e e0 =
         h.answered,
         ap Some k ∙ sym (next_is w H now (Some (said_by w.address x)) _ (sym p.owes ∙ owes) held (steered_by w H None _ (none_due w H old h none) at) refl),
       );
-      hold = is_hold _ _ p.moment (p.standing ∙ ap standing_of (sym (address_is w H now f false is.0))) owes (p.pause ∙ sym (pause_is H now f false is.3)) p.age (p.wait ∙ wait_same H now f false false true is.0 is.1 is.2 refl);
+      hold = is_hold _ _ p.rest p.moment (p.standing ∙ ap standing_of (sym (address_is w H now f false is.0))) owes (p.pause ∙ sym (pause_is H now f false is.3)) p.age (p.wait ∙ wait_same H now f false false true is.0 is.1 is.2 refl);
       outgoing = ap (λ c. map posted c.outgoing.items) e ∙ h.outgoing;
       taken = ap (λ c. c.taken) e ∙ (h.taken ∙ ap (λ (xs : List Message). length xs - length (told H)) (sym (sent_is H now f false false true is.0 is.1 is.2)));
       token = ap (λ c. c.next_token) e ∙ h.token;
@@ -554,7 +557,7 @@ posts w H old new now d x h p held can room is e0 e1 e2 e3 e4 e5 e6 e7 e8 e9 e10
     record {
       who = ap (who_of w.known) e2 ∙ h.who;
       answered = (h.answered, ap Ok h.token ∙ sym (answer (holds w H now) (can_send w d) (is_full w H) held can (sym (full_is w H old h) ∙ room)));
-      hold = is_hold _ _ p.moment p.standing p.owes p.pause p.age p.wait;
+      hold = is_hold _ _ p.rest p.moment p.standing p.owes p.pause p.age p.wait;
       outgoing = ap (map posted) e0 ∙ (map_append posted old.outgoing.items x
           ∙ (ap (λ l. l ++ posted x ∷ []) h.outgoing ∙ (ap (λ (y : ℕ × Message). drop (length (told H)) (accepted w H) ++ y ∷ []) is
           ∙ sym (drop_append (length (told H)) (accepted w H) (old.next_token, message_from w d) s.within))));
@@ -661,7 +664,7 @@ pub heard_more : (w : Who) (H : List Call) (old new : Controller) (f : FrameReco
     → IfSome (port_of old.transfers).current (λ x. replaced ≡ is_replaced (holder_in old.holders x.sender.destination) (holder_in new.holders x.sender.destination))
     → ((r : ℕ → Bool) → IfSome (port_of old.transfers).current (λ x. replaced ≡ r x.sender.destination)
     → (port_of new.transfers).current ≡ hears_if (lost new.hold.standing) r f (min new.hold.age 9999999999999999) (port_of old.transfers).current)
-    → new.transfers.next_token ≡ old.transfers.next_token
+    → new.transfers.next_token ≡ old.transfers.next_token → new.transfers.resting ≡ old.transfers.resting
     → (whole_now : Option (ℕ × ℕ)) → whole_now ≡ made_by (has_place (incoming_of old.incoming).reception.waits) (incoming_of new.incoming).reception.waits
     → asking_of new.asking ≡ option_map (hears_with (who_of w.known old.own) (lost new.hold.standing) new.hold.wait f whole_now) (asking_of old.asking)
     → (left_by : Bool) (p1 p2 : Option ℕ) (m : HearingRecord) → IfSome (hearing_of old.hearing).current (λ z. p1 ≡ holder_in old.holders z.source)
@@ -670,7 +673,7 @@ pub heard_more : (w : Who) (H : List Call) (old new : Controller) (f : FrameReco
     → unheard ≡ is_unheard (stamp_micros new.incoming.clock) f m.current
     → new.hearing.missed ≡ (if unheard then min (m.missed + 1) 18446744073709551615 else m.missed)
     → (IsFit m.current → (hearing_of new.hearing).current ≡ hears_it (stamp_micros new.incoming.clock) f m.current) → Is w (Hear f ∷ H) new
-heard_more w H old new f mid held wanted away gone calls replaced unheard o h p e1 e2 e3 e4 e5 e6 e7 q1 q2 q3 q4 q5 e8 s1 s2 s3 s4 s5 s9 s6 s7 s8 whole_now m1 a1 left_by p1 p2 m t1 t2 t3 t4 t5 t6 t7 t8 =
+heard_more w H old new f mid held wanted away gone calls replaced unheard o h p e1 e2 e3 e4 e5 e6 e7 q1 q2 q3 q4 q5 e8 s1 s2 s3 s4 s5 s9 s6 s7 s8 s10 whole_now m1 a1 left_by p1 p2 m t1 t2 t3 t4 t5 t6 t7 t8 =
     let s = sound w H h.answered in
     let wants : wanted ≡ is_for_program w (holds w H f.stamp) f =
     e2 ∙ (ap (λ (v : Who). is_for_program v held f) h.who ∙ ap (λ (b : Bool). is_for_program w b f) (holds_is w H f.stamp mid held p e1)) in
@@ -701,7 +704,7 @@ heard_more w H old new f mid held wanted away gone calls replaced unheard o h p 
     record {
       who = ap (who_of w.known) s1 ∙ h.who;
       answered = (h.answered, tt);
-      hold = is_hold _ _ (ap (λ (k : Hold). k.moment) e8 ∙ p.moment) stands_now
+      hold = is_hold _ _ (ap (λ (k : Hold). k.rest) e8 ∙ p.rest) (ap (λ (k : Hold). k.moment) e8 ∙ p.moment) stands_now
           (ap (λ (k : Hold). k.owes_claim) e8 ∙ (ap (λ (b : Bool). b || calls) p.owes ∙ ap (λ (b : Bool). owes_claim w H || b) asks))
           (ap (λ (k : Hold). k.pause) e8 ∙ p.pause) (ap (λ (k : Hold). k.age) e8 ∙ p.age) (ap (λ (k : Hold). k.wait) e8 ∙ p.wait);
       outgoing = ap (λ o. map posted o.items) s2 ∙ h.outgoing;
@@ -754,7 +757,7 @@ heard_more w H old new f mid held wanted away gone calls replaced unheard o h p 
           ∙ (ap (λ (n : ℕ). hears_if (is_lost (address_after w (Hear f ∷ H))) r f n (port_of old.transfers).current)
           (ap (λ (n : ℕ). min n 9999999999999999) (ap (λ (k : Hold). k.age) e8 ∙ p.age) ∙ clock_is (age H + step H f.stamp))
           ∙ ap (hears_if (is_lost (address_after w (Hear f ∷ H))) r f (clock_at H f.stamp)) current)))
-          (s8 ∙ ap (λ (t : PortRecord). t.next_token) h.port);
+          (s8 ∙ ap (λ (t : PortRecord). t.next_token) h.port) (ap resting_by s10 ∙ ap (λ (t : PortRecord). t.resting) h.port);
     }
 
 -- ---- requests
@@ -800,7 +803,7 @@ due_more w H old new now answer x h p right a g e =
     record {
       who = ap (λ c. who_of w.known c.own) e ∙ h.who;
       answered = (h.answered, right);
-      hold = is_hold _ _ p.moment p.standing p.owes p.pause p.age p.wait;
+      hold = is_hold _ _ p.rest p.moment p.standing p.owes p.pause p.age p.wait;
       outgoing = ap (λ c. map posted c.outgoing.items) e ∙ h.outgoing;
       taken = ap (λ c. c.taken) e ∙ h.taken;
       token = ap (λ c. c.next_token) e ∙ h.token;
@@ -827,7 +830,7 @@ pub refuses_send : (w : Who) (H : List Call) (old new : Controller) (now : ℕ) 
 refuses_send w H old new now d r h p answer e = record {
   who = ap (λ c. who_of w.known c.own) e ∙ h.who;
   answered = (h.answered, answer);
-  hold = is_hold _ _ p.moment p.standing p.owes p.pause p.age p.wait;
+  hold = is_hold _ _ p.rest p.moment p.standing p.owes p.pause p.age p.wait;
   outgoing = ap (λ c. map posted c.outgoing.items) e ∙ h.outgoing;
   taken = ap (λ c. c.taken) e ∙ h.taken;
   token = ap (λ c. c.next_token) e ∙ h.token;
@@ -924,7 +927,7 @@ claims_after (Claimed e) = refl
 claims_after Lost = refl
 
 pub claims_more : (w : Who) (H : List Call) (old new : Controller) (now : ℕ) (f : FrameRecord) (mid : Hold) (a : ℕ) → Is w H old → Passed w H now mid
-    → mid.owes_claim ≡ true → new.hold ≡ record { moment = mid.moment; standing = claims mid.standing; owes_claim = false; pause = mid.pause; age = mid.age; wait = mid.wait }
+    → mid.owes_claim ≡ true → new.hold ≡ record { moment = mid.moment; standing = claims mid.standing; owes_claim = false; pause = mid.pause; age = mid.age; wait = mid.wait; rest = mid.rest }
     → Some (stamped f) ≡ Some (now, claim_from (who_of w.known old.own) a) → a ≡ (if lost mid.standing then 254 else old.own.address)
     → ((F : List FrameRecord) → Knows old.holders F → Knows new.holders (F ++ f ∷ []))
     → incoming_of new.incoming ≡ with_reception (left (leaves (holder_in old.holders) (holder_in new.holders) (incoming_of old.incoming).reception.session)
@@ -950,7 +953,7 @@ claims_more w H old new now f mid a h p owes e0 m at knows drops left_by p1 p2 t
         ap Some j ∙ sym (ap (λ (b : Bool). frame_by b (holds w H now) (next_control w H) (slice_get (accepted w H) (length (sent H))) (next_long w H now)
             (claim_from w (claim_address w (address_after w H))) now) due_claim),
       );
-      hold = e0 ∙ is_hold _ _ p.moment
+      hold = e0 ∙ is_hold _ _ p.rest p.moment
           (ap claims p.standing ∙ (claims_after (older (step H now) (address_after w H)) ∙ ap standing_of (sym (address_is w H now f true n)))) refl
           (p.pause ∙ sym (pause_is H now f false (no_packet f (claim_single f n)))) p.age (p.wait ∙ wait_same H now f true _ _ n refl refl refl);
       outgoing = ap (λ c. map posted c.outgoing.items) e ∙ h.outgoing;
@@ -1082,7 +1085,7 @@ pub refuses_broadcast : (w : Who) (H : List Call) (old new : Controller) (now gr
 refuses_broadcast w H old new now group bytes r h p answer e = record {
   who = ap (λ c. who_of w.known c.own) e ∙ h.who;
   answered = (h.answered, answer);
-  hold = is_hold _ _ p.moment p.standing p.owes p.pause p.age p.wait;
+  hold = is_hold _ _ p.rest p.moment p.standing p.owes p.pause p.age p.wait;
   outgoing = ap (λ c. map posted c.outgoing.items) e ∙ h.outgoing;
   taken = ap (λ c. c.taken) e ∙ h.taken;
   token = ap (λ c. c.next_token) e ∙ h.token;
@@ -1106,7 +1109,7 @@ pub begins : (w : Who) (H : List Call) (old new : Controller) (now group : ℕ) 
 begins w H old new now group bytes x h p answer is e e0 e1 e2 = record {
   who = ap (λ c. who_of w.known c.own) e ∙ h.who;
   answered = (h.answered, answer);
-  hold = is_hold _ _ p.moment p.standing p.owes p.pause p.age p.wait;
+  hold = is_hold _ _ p.rest p.moment p.standing p.owes p.pause p.age p.wait;
   outgoing = ap (λ c. map posted c.outgoing.items) e ∙ h.outgoing;
   taken = ap (λ c. c.taken) e ∙ h.taken;
   token = ap (λ c. c.next_token) e ∙ h.token;
@@ -1176,18 +1179,21 @@ none_ends w H c h answer = record {
 
 -- ---- transfers
 
-pub engaged_is : (w : Who) (H : List Call) (c : Controller) → Is w H c
-    → is_engaged (port_of c.transfers).current c.transfers.next_token ≡ is_engaged (open_transfer w H) (length (all_transfers w H))
-engaged_is w H c h = ap (λ (p : PortRecord). is_engaged p.current p.next_token) h.port
+pub engaged_is : (w : Who) (H : List Call) (c : Controller) (now group to : ℕ) (mid : Hold) → Is w H c → Passed w H now mid
+    → (is_engaged (port_of c.transfers).current c.transfers.next_token || (nat_lt 0 mid.rest && holds_back (port_of c.transfers).resting group to))
+    ≡ (is_engaged (open_transfer w H) (length (all_transfers w H)) || is_resting w H now group to)
+engaged_is w H c now group to mid h p =
+    ap (λ (q : PortRecord). is_engaged q.current q.next_token || (nat_lt 0 mid.rest && holds_back q.resting group to)) h.port
+    ∙ ap (λ (n : ℕ). is_engaged (open_transfer w H) (length (all_transfers w H)) || (nat_lt 0 n && holds_back (resting w H) group to)) p.rest
 
 abbrev pub transfers_by : Who → List Call → Bool → Bool → Bool → Result ℕ Refused
 transfers_by w H a b f = if a then (if b then (if f then Err Full else Ok (length (all_transfers w H))) else Err BadValue) else Err NoAddress
 
 pub transfer_is : (w : Who) (H : List Call) (now group to : ℕ) (bytes : List ℕ) (a b f : Bool) → holds w H now ≡ a → can_transfer w group to bytes ≡ b
-    → is_engaged (open_transfer w H) (length (all_transfers w H)) ≡ f → answer_to_transfer w H now group to bytes ≡ transfers_by w H a b f
+    → (is_engaged (open_transfer w H) (length (all_transfers w H)) || is_resting w H now group to) ≡ f → answer_to_transfer w H now group to bytes ≡ transfers_by w H a b f
 transfer_is w H now group to bytes a b f e g k =
-    ap (λ (x : Bool). transfers_by w H x (can_transfer w group to bytes) (is_engaged (open_transfer w H) (length (all_transfers w H)))) e
-    ∙ (ap (λ (x : Bool). transfers_by w H a x (is_engaged (open_transfer w H) (length (all_transfers w H)))) g ∙ ap (λ (x : Bool). transfers_by w H a b x) k)
+    ap (λ (x : Bool). transfers_by w H x (can_transfer w group to bytes) (is_engaged (open_transfer w H) (length (all_transfers w H)) || is_resting w H now group to)) e
+    ∙ (ap (λ (x : Bool). transfers_by w H a x (is_engaged (open_transfer w H) (length (all_transfers w H)) || is_resting w H now group to)) g ∙ ap (λ (x : Bool). transfers_by w H a b x) k)
 
 pub refuses_transfer : (w : Who) (H : List Call) (old new : Controller) (now group to : ℕ) (bytes : List ℕ) (r : Refused) → Is w H old
     → Passed w H now new.hold → Err r ≡ answer_to_transfer w H now group to bytes → new ≡ record old { hold = new.hold }
@@ -1195,7 +1201,7 @@ pub refuses_transfer : (w : Who) (H : List Call) (old new : Controller) (now gro
 refuses_transfer w H old new now group to bytes r h p answer e = record {
   who = ap (λ c. who_of w.known c.own) e ∙ h.who;
   answered = (h.answered, answer);
-  hold = is_hold _ _ p.moment p.standing p.owes p.pause p.age p.wait;
+  hold = is_hold _ _ p.rest p.moment p.standing p.owes p.pause p.age p.wait;
   outgoing = ap (λ c. map posted c.outgoing.items) e ∙ h.outgoing;
   taken = ap (λ c. c.taken) e ∙ h.taken;
   token = ap (λ c. c.next_token) e ∙ h.token;
@@ -1216,11 +1222,12 @@ pub transfer_begins : (w : Who) (H : List Call) (old new : Controller) (now grou
     → Ok old.transfers.next_token ≡ answer_to_transfer w H now group to bytes
     → running x ≡ begun old.transfers.next_token (broadcast_from w group bytes) to
     → new ≡ record old { hold = new.hold; transfers = new.transfers } → new.hold ≡ record mid { age = 0 } → new.transfers.current ≡ Some x
-    → new.transfers.next_token ≡ suc old.transfers.next_token → Is w (Transfer now group to bytes (Ok old.transfers.next_token) ∷ H) new
-transfer_begins w H old new now group to bytes x mid h p answer is e e0 e1 e2 = record {
+    → new.transfers.next_token ≡ suc old.transfers.next_token → new.transfers.resting ≡ old.transfers.resting
+    → Is w (Transfer now group to bytes (Ok old.transfers.next_token) ∷ H) new
+transfer_begins w H old new now group to bytes x mid h p answer is e e0 e1 e2 e3 = record {
   who = ap (λ c. who_of w.known c.own) e ∙ h.who;
   answered = (h.answered, answer);
-  hold = e0 ∙ is_hold _ _ p.moment p.standing p.owes p.pause refl p.wait;
+  hold = e0 ∙ is_hold _ _ p.rest p.moment p.standing p.owes p.pause refl p.wait;
   outgoing = ap (λ c. map posted c.outgoing.items) e ∙ h.outgoing;
   taken = ap (λ c. c.taken) e ∙ h.taken;
   token = ap (λ c. c.next_token) e ∙ h.token;
@@ -1234,7 +1241,8 @@ transfer_begins w H old new now group to bytes x mid h p answer is e e0 e1 e2 = 
   lane = ap (λ c. lane_of w c.lane) e ∙ h.lane;
   hearing = ap (λ c. hearing_of c.hearing) e ∙ h.hearing;
   port = is_port _ _ (ap (option_map running) e1 ∙ ap Some is)
-      (e2 ∙ (ap (λ (t : PortRecord). suc t.next_token) h.port ∙ sym (length_one_more (all_transfers w H) (to, broadcast_from w group bytes))));
+      (e2 ∙ (ap (λ (t : PortRecord). suc t.next_token) h.port ∙ sym (length_one_more (all_transfers w H) (to, broadcast_from w group bytes))))
+      (ap resting_by e3 ∙ ap (λ (t : PortRecord). t.resting) h.port);
   incoming = ap (λ c. incoming_of c.incoming) e ∙ h.incoming;
 }
 
@@ -1244,12 +1252,13 @@ transfer_end_is w H c b h e =
     ap (λ (p : PortRecord). transfer_end p.current b) h.port
     ∙ ap (transfer_end (open_transfer w H)) (e ∙ (ap (λ (k : Hold). lost k.standing) h.hold ∙ lost_is (address_after w H)))
 
-pub transfer_ends : (w : Who) (H : List Call) (old new : Controller) (x : ℕ × TransferEnding) → Is w H old → Some x ≡ next_transfer_ended w H
-    → new ≡ record old { transfers = record old.transfers { current = None } } → Is w (TakeTransferEnded (Some x) ∷ H) new
-transfer_ends w H old new x h answer e = record {
+pub transfer_ends : (w : Who) (H : List Call) (old new : Controller) (x : ℕ × TransferEnding) (b : Bool) → Is w H old → Some x ≡ next_transfer_ended w H
+    → b ≡ rests_after x.1 → new ≡ record old { hold = new.hold; transfers = new.transfers } → new.hold ≡ rested b old.hold
+    → port_of new.transfers ≡ closed b old.hold.rest (port_of old.transfers) → Is w (TakeTransferEnded (Some x) ∷ H) new
+transfer_ends w H old new x b h answer rests e e0 e1 = record {
   who = ap (λ c. who_of w.known c.own) e ∙ h.who;
   answered = (h.answered, answer);
-  hold = ap (λ c. c.hold) e ∙ h.hold;
+  hold = e0 ∙ (ap (rested b) h.hold ∙ ap (λ (y : Bool). rested y (hold_after w H)) rests);
   outgoing = ap (λ c. map posted c.outgoing.items) e ∙ h.outgoing;
   taken = ap (λ c. c.taken) e ∙ h.taken;
   token = ap (λ c. c.next_token) e ∙ h.token;
@@ -1262,7 +1271,8 @@ transfer_ends w H old new x h answer e = record {
   missed = ap (λ c. c.inbox.missed) e ∙ h.missed;
   lane = ap (λ c. lane_of w c.lane) e ∙ h.lane;
   hearing = ap (λ c. hearing_of c.hearing) e ∙ h.hearing;
-  port = ap (λ c. port_of c.transfers) e ∙ ap (λ (p : PortRecord). record p { current = None }) h.port;
+  port = e1 ∙ (ap (closed b old.hold.rest) h.port
+      ∙ (ap (λ (n : ℕ). closed b n (port_after w H)) (ap (λ (k : Hold). k.rest) h.hold) ∙ ap (λ (y : Bool). closed y (rest H) (port_after w H)) rests));
   incoming = ap (λ c. incoming_of c.incoming) e ∙ h.incoming;
 }
 

@@ -44,4 +44,11 @@ pub mod TransferLaws
 -- the laws of broadcasts in packets that are heard
 pub mod HearingLaws
 pub mod MovingLemmas
+-- the laws of a driver that is prompt
+pub mod PromptView
+pub mod PromptLaws
+pub mod RestLaws
+pub mod EndSteps
+pub mod EndLaws
+pub mod MessageLaws
 pub mod KnownLemmas

@@ -2,7 +2,7 @@
 use Rattle.std.proofs.Common.{◌≡◌, ◌⊎◌, ℕ, suc, ◌-◌, List, [], ◌∷◌, ◌++◌, length, Option, Some, None, Ok, Err, Bool, true, false, ◌||◌, ◌&&◌, if◌then◌else◌, refl, sym, ap, ◌∙◌, inl, inr, arith, subst}
 use Rattle.std.specs.List.{slice_get}
 use Rattle.std.specs.Option.{option_map}
-use Rattle.std.proofs.lemmas.Bool.{cond_both}
+use Rattle.std.proofs.lemmas.Bool.{or_parts, cond_both}
 use Rattle.j39_frame.specs.Frame.{FrameRecord}
 use Rattle.j39_transport.specs.Message.{MessageRecord}
 use Rattle.j39_transport.specs.Sending.{Tick, aborted, is_running, new_sender, send_step}
@@ -11,7 +11,7 @@ use Rattle.j39_node.specs.declared.kinds.TransferEnding.{TransferEnding}
 use Rattle.j39_node.specs.History.{Who, Message, Call, accepted, acknowledged, address_after, broadcast_from, due, holds, is_lost, message_of, open_broadcast, packets, pause, sent, step}
 use Rattle.j39_node.specs.History.Call.{Ask, TakeAskEnded, Hear, Tick as Ticks, TakeFrame, Send, TakeEnded, TakeReceived, TakeRequest, TakeNews, Acknowledge, Broadcast, TakeBroadcastEnded, ReleaseTransfer, Transfer, TakeTransferEnded, ReleaseBroadcast}
 use Rattle.j39_node.specs.Is.{AreAnswered, next_packet}
-use Rattle.j39_node.specs.Transfers.{Running, begun, clock_at, gives_up, hears, hears_if, is_engaged, is_replaced, is_spent, listens, open_transfer, says, sends, sends_if, signal_by, told_transfers, transfer_by, transfer_end, transfers as all_transfers}
+use Rattle.j39_node.specs.Transfers.{is_resting, Running, begun, clock_at, gives_up, hears, hears_if, is_engaged, is_replaced, is_spent, listens, open_transfer, says, sends, sends_if, signal_by, told_transfers, transfer_by, transfer_end, transfers as all_transfers}
 use Rattle.j39_node.specs.Reception.{holder, is_move, reception}
 use Rattle.j39_node.specs.Moves.{Happened, begins, moves}
 use Rattle.j39_node.proofs.QueueLemmas.{length_one_more}
@@ -161,7 +161,7 @@ last_same told all new old e s h = record {
   count = ap suc e ∙ h.count;
 }
 
-hears_token : (lost replaced : Bool) (f : FrameRecord) (now : ℕ) (t : Running) → (hears lost replaced f now t).token ≡ t.token
+pub hears_token : (lost replaced : Bool) (f : FrameRecord) (now : ℕ) (t : Running) → (hears lost replaced f now t).token ≡ t.token
 hears_token true replaced f now t = refl
 hears_token false true f now t = refl
 hears_token false false f now t = cond_both (t.gone || is_spent t) t (listens f now t) (λ (u : Running). u.token ≡ t.token) (λ z. refl) (λ z. refl)
@@ -194,7 +194,7 @@ last_opens w H now group to k bytes (unfit a b e) h = absurd (cc)
 last_opens w H now group to k bytes (busy a b f e) h = absurd (cc)
 last_opens w H now group to k bytes (opens a b f e) h =
     let n : k ≡ length (all_transfers w H) = cc in
-    let t = not_engaged (open_transfer w H) (length (all_transfers w H)) (length (told_transfers H)) (all_transfers w H) h f in
+    let t = not_engaged (open_transfer w H) (length (all_transfers w H)) (length (told_transfers H)) (all_transfers w H) h (or_parts (is_engaged (open_transfer w H) (length (all_transfers w H))) (is_resting w H now group to) f).0 in
     record {
       token = n ∙ sym t;
       last = ap (slice_get (all_transfers w H ++ (to, broadcast_from w group bytes) ∷ [])) n ∙ get_last (all_transfers w H) (to, broadcast_from w group bytes);

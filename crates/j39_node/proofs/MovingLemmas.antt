@@ -1,10 +1,9 @@
 -- When a controller may move, by what it has; and what it is then.
-use Rattle.std.proofs.Common.{◌≡◌, ◌↔◌, ℕ, ◌-◌, ◌≤◌, ◌<◌, ◌≢◌, List, [], ◌∷◌, length, map, drop, min, Option, Some, None, Bool, true, false, not, ◌&&◌, ◌||◌, nat_eq, refl, sym, ap, ◌∙◌, subst, arith, eq-eqb, eqb-true}
+use Rattle.std.proofs.Common.{◌≡◌, ℕ, ◌-◌, ◌≤◌, ◌<◌, ◌≢◌, List, [], ◌∷◌, length, map, Option, Some, None, Bool, true, false, not, ◌&&◌, ◌||◌, nat_eq, refl, sym, ap, ◌∙◌, subst, arith, eq-eqb, eqb-true}
 use Rattle.std.proofs.lemmas.Bool.{and_parts, and_from}
 use Rattle.std.specs.Option.{is_some, option_map}
 use Rattle.j39_node.specs.declared.controller.Controller.{Controller}
 use Rattle.j39_node.specs.declared.news.Untold.{Untold}
-use Rattle.j39_node.specs.declared.hold.Hold.{Hold}
 use Rattle.j39_node.specs.declared.hold.Standing.TheVariants as standing
 use Rattle.j39_address.specs.Claim.{Claim}
 use Rattle.j39_address.specs.Claims.{Knows, holder_in}
@@ -16,13 +15,13 @@ use Rattle.j39_address.specs.Name.{name_raw}
 use Rattle.j39_node.specs.History.{Who, Call, accepted, got, handed, kept, open_broadcast, requests, told, told_claims}
 use Rattle.j39_node.specs.Reception.{has_place, no_reception, reception}
 use Rattle.j39_node.specs.Hearing.{waiting, whole_of}
-use Rattle.j39_node.specs.Transfers.{open_transfer}
-use Rattle.j39_node.specs.Asking.{Question, open_ask}
+use Rattle.j39_node.specs.Transfers.{NoneRests, open_transfer}
+use Rattle.j39_node.specs.Asking.{Question}
 use Rattle.j39_node.specs.declared.kinds.AskEnding.{AskEnding}
-use Rattle.j39_node.specs.Is.{AskRecord, HearingRecord, IncomingRecord, Is, LaneRecord, PortRecord, asked_by, asking_of, hearing_of, incoming_of, lane_of, news_of, next_news, port_of, posted, received_by, refusal_by, request_by, running}
+use Rattle.j39_node.specs.Is.{HearingRecord, IncomingRecord, Is, LaneRecord, PortRecord, asked_by, asking_of, hearing_of, incoming_of, lane_of, news_of, next_news, port_of, posted, received_by, refusal_by, request_by}
 use Rattle.j39_node.specs.Moving.{IsSettled, has_given, has_told, moved}
 use Rattle.j39_node.proofs.QueueLemmas.{length_rest}
-use Rattle.j39_node.proofs.SoundLemmas.{Sound, front_length, read, sound}
+use Rattle.j39_node.proofs.SoundLemmas.{front_length, read, sound}
 
 -- ---- free addresses
 
@@ -168,14 +167,14 @@ none_untold u e = go u.lost u.another u.missed refl refl refl e
 
 pub begins_anew : (w : Who) (H : List Call) (old new : Controller) (a : ℕ) → Is w H old → (has_told old && has_given old) ≡ true
     → new.own.name ≡ old.own.name → new.own.address ≡ a → new.own.served.items ≡ old.own.served.items
-    → new.hold ≡ record { moment = 0; standing = standing.Idle; owes_claim = true; pause = 0; age = 0; wait = 0 }
+    → new.hold ≡ record { moment = 0; standing = standing.Idle; owes_claim = true; pause = 0; age = 0; wait = 0; rest = 0 }
     → new.outgoing ≡ old.outgoing → new.taken ≡ 0 → new.next_token ≡ 0 → new.asking ≡ old.asking → new.inbox.unread ≡ old.inbox.unread → new.inbox.missed ≡ 0
     → new.desk.waiting ≡ old.desk.waiting → new.desk.due.items ≡ [] → new.news ≡ old.news → new.holders ≡ old.holders
     → new.lane ≡ record { current = None; count = 0; next_token = 0 }
     → incoming_of new.incoming ≡ record { moment = 0; clock = 0; own = a; has_box = true; reception = no_reception }
-    → new.transfers.current ≡ old.transfers.current → new.transfers.next_token ≡ 0 → hearing_of new.hearing ≡ record { current = None; missed = 0 }
+    → port_of new.transfers ≡ record { current = None; next_token = 0; resting = NoneRests } → hearing_of new.hearing ≡ record { current = None; missed = 0 }
     → Is (moved w H a) [] new
-begins_anew w H old new a h e o1 o2 o3 q1 q2 q3 q4 q5 q6 q7 q8 q9 q10 q11 q12 q15 q16 q17 q18 =
+begins_anew w H old new a h e o1 o2 o3 q1 q2 q3 q4 q5 q6 q7 q8 q9 q10 q11 q12 q15 q16 q18 =
     let p = and_parts _ _ e in
     let t = and_parts _ _ p.0 in
     let t3 = and_parts _ _ (and_parts _ _ t.1).1 in
@@ -200,6 +199,6 @@ begins_anew w H old new a h e o1 o2 o3 q1 q2 q3 q4 q5 q6 q7 q8 q9 q10 q11 q12 q1
       missed = q7;
       lane = ap (lane_of (moved w H a)) q12;
       incoming = q15;
-      port = λ i. let r : PortRecord = record { current = (ap (option_map running) q16 ∙ none_is _ _ t3.0) i; next_token = q17 i } in r;
+      port = q16;
       hearing = q18;
     }

@@ -14,7 +14,7 @@ use Rattle.j39_node.specs.Reception.{holder, is_move}
 use Rattle.j39_node.proofs.ReceptionLemmas.{table_is}
 use Rattle.j39_node.specs.History.Call.{Ask, TakeAskEnded, Hear, Tick as Ticks, TakeFrame, Send, TakeEnded, TakeReceived, TakeRequest, TakeNews, Acknowledge, Broadcast, TakeBroadcastEnded, ReleaseTransfer, Transfer, TakeTransferEnded, ReleaseBroadcast}
 use Rattle.j39_node.specs.Is.{AreAnswered, PortRecord, port_after}
-use Rattle.j39_node.specs.Transfers.{Running, answer_to_transfer, can_transfer, clock_at, gives_up, hears, hears_if, is_engaged, is_replaced, is_spent, listens, open_transfer, says, sends, sends_if, signal_by, transfer_by, transfers}
+use Rattle.j39_node.specs.Transfers.{Resting, is_resting, resting, Running, answer_to_transfer, can_transfer, clock_at, gives_up, hears, hears_if, is_engaged, is_replaced, is_spent, listens, open_transfer, says, sends, sends_if, signal_by, transfer_by, transfers}
 use Rattle.j39_address.specs.Claims.{Knows, holder_in}
 use Rattle.j39_address.specs.declared.claims.Claims.{Claims}
 
@@ -35,17 +35,17 @@ keeps s (Heard f) now = keeps_heard s (said_between s.destination s.message.sour
 pub data TransferCase (w : Who) (H : List Call) (now group to : ℕ) (bytes : List ℕ) (answer : Result ℕ Refused) : Type 0 where
   homeless : holds w H now ≡ false → answer ≡ Err NoAddress → TransferCase w H now group to bytes answer
   unfit : holds w H now ≡ true → can_transfer w group to bytes ≡ false → answer ≡ Err BadValue → TransferCase w H now group to bytes answer
-  busy : holds w H now ≡ true → can_transfer w group to bytes ≡ true → is_engaged (open_transfer w H) (length (transfers w H)) ≡ true → answer ≡ Err Full
+  busy : holds w H now ≡ true → can_transfer w group to bytes ≡ true → (is_engaged (open_transfer w H) (length (transfers w H)) || is_resting w H now group to) ≡ true → answer ≡ Err Full
       → TransferCase w H now group to bytes answer
-  opens : holds w H now ≡ true → can_transfer w group to bytes ≡ true → is_engaged (open_transfer w H) (length (transfers w H)) ≡ false
+  opens : holds w H now ≡ true → can_transfer w group to bytes ≡ true → (is_engaged (open_transfer w H) (length (transfers w H)) || is_resting w H now group to) ≡ false
       → answer ≡ Ok (length (transfers w H)) → TransferCase w H now group to bytes answer
 
 pub transfer_case : (w : Who) (H : List Call) (now group to : ℕ) (bytes : List ℕ) (answer : Result ℕ Refused) → answer ≡ answer_to_transfer w H now group to bytes
     → TransferCase w H now group to bytes answer
 transfer_case w H now group to bytes answer e =
-    go (holds w H now) (can_transfer w group to bytes) (is_engaged (open_transfer w H) (length (transfers w H))) refl refl refl e
+    go (holds w H now) (can_transfer w group to bytes) (is_engaged (open_transfer w H) (length (transfers w H)) || is_resting w H now group to) refl refl refl e
   where
-    go : (x y z : Bool) → holds w H now ≡ x → can_transfer w group to bytes ≡ y → is_engaged (open_transfer w H) (length (transfers w H)) ≡ z
+    go : (x y z : Bool) → holds w H now ≡ x → can_transfer w group to bytes ≡ y → (is_engaged (open_transfer w H) (length (transfers w H)) || is_resting w H now group to) ≡ z
         → answer ≡ (if x then (if y then (if z then Err Full else Ok (length (transfers w H))) else Err BadValue) else Err NoAddress)
         → TransferCase w H now group to bytes answer
     go false y z p q r i = homeless p i
@@ -201,14 +201,15 @@ replaced_is w H f old new b (Some t) h k l e =
 
 -- ---- what a controller has of it
 
-pub is_port : (p q : PortRecord) → p.current ≡ q.current → p.next_token ≡ q.next_token → p ≡ q
-is_port p q e f =
-    ap (λ (x : Option Running). record p { current = x }) e ∙ ap (λ (n : ℕ). record p { current = q.current; next_token = n }) f
+pub is_port : (p q : PortRecord) → p.current ≡ q.current → p.next_token ≡ q.next_token → p.resting ≡ q.resting → p ≡ q
+is_port p q e f g =
+    ap (λ (x : Option Running). record p { current = x }) e
+    ∙ (ap (λ (n : ℕ). record p { current = q.current; next_token = n }) f ∙ ap (λ (x : Resting). record q { resting = x }) g)
 
 -- a frame that is none of a transfer leaves it
 pub port_same : (w : Who) (H : List Call) (now : ℕ) (f : FrameRecord) → is_move w H f ≡ false → port_after w H ≡ port_after w (TakeFrame now (Some f) ∷ H)
 port_same w H now f e =
-    sym (ap (λ (b : Bool). (let p : PortRecord = record { current = sends_if b (clock_at H now) (open_transfer w H); next_token = length (transfers w H) } in p)) e)
+    sym (ap (λ (b : Bool). (let p : PortRecord = record { current = sends_if b (clock_at H now) (open_transfer w H); next_token = length (transfers w H); resting = resting w H } in p)) e)
 
 -- one of a transfer is its sender's step
 pub port_more : (w : Who) (H : List Call) (now : ℕ) (f : FrameRecord) → is_move w H f ≡ true

@@ -579,11 +579,18 @@ aside own false false false f now r e g n = refl
 aside own false true false f now r e g n =
     ap (λ (x : RecvResult). takes f.stamp (source_of f.id) x r) (quiet_step (receiver_at own r) f now (has_place r.waits) n)
 
-pub to_others : (w : Who) (H : List Call) (f : FrameRecord) → claim_of f ≡ None → destination_of f.id ≢ Some w.address
-    → reception w (Hear f ∷ H) ≡ reception w H
-to_others w H f e n =
+stays_with : (before after : ℕ → Option ℕ) (o : Option ReceptionRecord)
+    → ((r : ReceptionRecord) → o ≡ Some r → after r.message.source ≡ before r.message.source) → leaves before after o ≡ false
+stays_with before after None h = refl
+stays_with before after (Some r) h =
+    ap (λ (x : Option ℕ). not (is_same (before r.message.source) x)) (h r refl) ∙ ap not (same_self (before r.message.source))
+
+pub to_others : (w : Who) (H : List Call) (f : FrameRecord) → is_smaller w (claim_of f) ≡ false
+    → ((r : ReceptionRecord) → (reception w H).session ≡ Some r → holder w (Hear f ∷ H) r.message.source ≡ holder w H r.message.source)
+    → destination_of f.id ≢ Some w.address → reception w (Hear f ∷ H) ≡ reception w H
+to_others w H f e same n =
     aside w.address (is_smaller w (claim_of f)) (holds w H f.stamp) (leaves (holder w H) (holder w (Hear f ∷ H)) (reception w H).session) f (time_heard (Hear f ∷ H))
-    (reception w H) (not_driven w f e) (not_left_by w H f e) (not_said w.address f n)
+    (reception w H) e (stays_with (holder w H) (holder w (Hear f ∷ H)) (reception w H).session same) (not_said w.address f n)
 
 -- another's frame leaves the session
 other_signal : (source own : ℕ) (s : Option Signal) (now : ℕ) (found : Bool) (x : ReceptionRecord) → (source ≡ x.message.source → ⊥)

@@ -1,8 +1,8 @@
 -- The laws of transfers.
-use Rattle.std.proofs.Common.{◌≡◌, ◌⊎◌, ◌↔◌, ℕ, ◌+◌, ◌-◌, ◌<◌, ◌≤◌, List, [], ◌∷◌, ◌++◌, length, Option, Some, None, Result, Ok, Err, Bool, true, false, not, ◌&&◌, ◌||◌, ◌==◌, if◌then◌else◌, nat_lt, max, min, refl, sym, ap, ◌∙◌, arith, inl, inr, eq-eqb, eqb-true, subst, IsTrue}
+use Rattle.std.proofs.Common.{◌≡◌, ◌⊎◌, ◌↔◌, ℕ, ◌+◌, ◌-◌, ◌<◌, ◌≤◌, List, [], ◌∷◌, ◌++◌, length, Option, Some, None, Result, Ok, Err, Bool, true, false, not, ◌&&◌, ◌||◌, ◌==◌, if◌then◌else◌, nat_eq, nat_lt, max, min, refl, sym, ap, ◌∙◌, arith, inl, inr, eq-eqb, eqb-true, subst, IsTrue}
 use Rattle.std.specs.List.{slice_get}
 use Rattle.std.specs.Option.{option_map}
-use Rattle.std.proofs.lemmas.Bool.{cond_both}
+use Rattle.std.proofs.lemmas.Bool.{cond_both, or_parts}
 use Rattle.j39_frame.specs.Frame.{FrameRecord}
 use Rattle.j39_frame.specs.Network.{transport_control_group, transport_data_group}
 use Rattle.j39_transport.specs.Cutting.{packet_data}
@@ -20,7 +20,7 @@ use Rattle.j39_node.specs.History.{Who, Message, Call, accepted, acknowledged, a
 use Rattle.j39_node.specs.History.Call.{Ask, TakeAskEnded, Hear, Tick as Ticks, TakeFrame, Send, TakeEnded, TakeReceived, TakeRequest, TakeNews, Acknowledge, Broadcast, TakeBroadcastEnded, ReleaseTransfer, Transfer, TakeTransferEnded, ReleaseBroadcast}
 use Rattle.j39_node.specs.Is.{AreAnswered, Is, long_by, next_packet}
 use Rattle.j39_node.specs.Since.{PacketSince}
-use Rattle.j39_node.specs.Transfers.{Running, broken_off, can_transfer, clock_at, ending_by, gives_up, granted_after, hears, hears_if, is_engaged, is_over, is_replaced, is_spent, listens, next_transfer, open_transfer, said_to, says, sends, sends_if, signal_by, spent_after, told_transfers, transfer_end, transfers as all_transfers}
+use Rattle.j39_node.specs.Transfers.{Running, broken_off, can_transfer, clock_at, ending_by, gives_up, granted_after, hears, hears_if, is_engaged, is_over, is_replaced, is_resting, is_spent, listens, next_transfer, open_transfer, said_to, says, sends, sends_if, signal_by, spent_after, told_transfers, transfer_end, transfers as all_transfers}
 use Rattle.j39_node.specs.Reception.{holder, is_move}
 use Rattle.j39_node.specs.Moves.{Aborts, Acknowledges, Happened, IsMove, NoneEnds, Replaces, abort_move, clears, clears_by, is_clear, moves, takes_clear}
 use Rattle.j39_node.proofs.SoundLemmas.{frame_case, sound}
@@ -59,44 +59,60 @@ refused_value w H c now group to bytes answer is = go (answers w H c now group t
     go (busy a b f e) = (λ z. absurd (cc), λ z. absurd (z.1 b))
     go (opens a b f e) = (λ z. absurd (cc), λ z. absurd (z.1 b))
 
--- one is accepted and not told, or there is no token left
-AtLimit : Who → List Call → Type 0
-AtLimit w H = (length (all_transfers w H) ≡ length (told_transfers H) + 1) ⊎ (length (all_transfers w H) ≡ 18446744073709551615)
+-- one is accepted and not told, there is no token left, or it rests
+AtLimit : Who → List Call → ℕ → ℕ → ℕ → Type 0
+AtLimit w H now group to =
+    (length (all_transfers w H) ≡ length (told_transfers H) + 1)
+    ⊎ ((length (all_transfers w H) ≡ 18446744073709551615) ⊎ IsTrue (is_resting w H now group to))
 
-engaged_limit : (o : Option Running) (told : ℕ) (all : List (ℕ × MessageRecord)) → LastIf told all o → is_engaged o (length all) ≡ true
-    → (length all ≡ told + 1) ⊎ (length all ≡ 18446744073709551615)
-engaged_limit None told all h e = inr (eqb-true _ _ e)
-engaged_limit (Some t) told all h e = inl (let a = h.token in let b = h.count in omega (arith, a, b))
+engaged_limit : (o : Option Running) (told : ℕ) (all : List (ℕ × MessageRecord)) (r : Bool) → LastIf told all o → (is_engaged o (length all) || r) ≡ true
+    → (length all ≡ told + 1) ⊎ ((length all ≡ 18446744073709551615) ⊎ IsTrue r)
+engaged_limit (Some t) told all r h e = inl (let a = h.token in let b = h.count in omega (arith, a, b))
+engaged_limit None told all r h e = inr (go (nat_eq (length all) 18446744073709551615) refl e)
+  where
+    go : (b : Bool) → nat_eq (length all) 18446744073709551615 ≡ b → (b || r) ≡ true → (length all ≡ 18446744073709551615) ⊎ IsTrue r
+    go true i z = inl (eqb-true _ _ i)
+    go false i z = inr z
 
-free_limit : (o : Option Running) (told : ℕ) (all : List (ℕ × MessageRecord)) → LastIf told all o → is_engaged o (length all) ≡ false
-    → ((length all ≡ told + 1) ⊎ (length all ≡ 18446744073709551615)) → ⊥
-free_limit None told all h e (inl a) = absurd (omega (arith, h, a))
-free_limit None told all h e (inr a) = not_both _ e (eq-eqb _ _ a)
-free_limit (Some t) told all h e l = absurd (cc)
+free_limit : (o : Option Running) (told : ℕ) (all : List (ℕ × MessageRecord)) (r : Bool) → LastIf told all o → (is_engaged o (length all) || r) ≡ false
+    → ((length all ≡ told + 1) ⊎ ((length all ≡ 18446744073709551615) ⊎ IsTrue r)) → ⊥
+free_limit None told all r h e (inl a) = absurd (omega (arith, h, a))
+free_limit None told all r h e (inr (inl a)) = not_both _ (or_parts (nat_eq (length all) 18446744073709551615) r e).0 (eq-eqb _ _ a)
+free_limit None told all r h e (inr (inr a)) = not_both _ (or_parts (nat_eq (length all) 18446744073709551615) r e).1 a
+free_limit (Some t) told all r h e l = absurd (let z : true ≡ false = e in cc)
 
 pub refused_full : (w : Who) (H : List Call) (c : Controller) (now group to : ℕ) (bytes : List ℕ) (answer : Result ℕ Refused)
     → Is w (Transfer now group to bytes answer ∷ H) c
     → (answer ≡ Err Full ↔ (IsTrue (holds w H now) × IsTrue (can_transfer w group to bytes)
-    × ((length (all_transfers w H) ≡ length (told_transfers H) + 1) ⊎ (length (all_transfers w H) ≡ 18446744073709551615))))
+    × ((length (all_transfers w H) ≡ length (told_transfers H) + 1)
+    ⊎ ((length (all_transfers w H) ≡ 18446744073709551615) ⊎ IsTrue (is_resting w H now group to)))))
 unfolding AtLimit
 refused_full w H c now group to bytes answer is = go (answers w H c now group to bytes answer is)
   where
-    go : TransferCase w H now group to bytes answer → (answer ≡ Err Full ↔ (IsTrue (holds w H now) × IsTrue (can_transfer w group to bytes) × AtLimit w H))
+    go : TransferCase w H now group to bytes answer
+        → (answer ≡ Err Full ↔ (IsTrue (holds w H now) × IsTrue (can_transfer w group to bytes) × AtLimit w H now group to))
     go (homeless a e) = (λ z. absurd (cc), λ z. absurd (not_both _ a z.0))
     go (unfit a b e) = (λ z. absurd (cc), λ z. absurd (not_both _ b z.1))
-    go (busy a b f e) = (λ z. (a, b, engaged_limit (open_transfer w H) _ _ (last_one w H is.answered.0) f), λ z. e)
-    go (opens a b f e) = (λ z. absurd (cc), λ z. absurd (free_limit (open_transfer w H) _ _ (last_one w H is.answered.0) f z.2))
+    go (busy a b f e) = (λ z. (a, b, engaged_limit (open_transfer w H) _ _ (is_resting w H now group to) (last_one w H is.answered.0) f), λ z. e)
+    go (opens a b f e) =
+        (λ z. absurd (cc), λ z. absurd (free_limit (open_transfer w H) _ _ (is_resting w H now group to) (last_one w H is.answered.0) f z.2))
 
 pub is_accepted : (w : Who) (H : List Call) (c : Controller) (now group to : ℕ) (bytes : List ℕ) (answer : Result ℕ Refused)
     → Is w (Transfer now group to bytes answer ∷ H) c → IsTrue (holds w H now) → IsTrue (can_transfer w group to bytes)
     → length (all_transfers w H) ≡ length (told_transfers H) → length (all_transfers w H) < 18446744073709551615
-    → answer ≡ Ok (length (all_transfers w H))
-is_accepted w H c now group to bytes answer is held can room some = go (answers w H c now group to bytes answer is)
+    → is_resting w H now group to ≡ false → answer ≡ Ok (length (all_transfers w H))
+is_accepted w H c now group to bytes answer is held can room some rested = go (answers w H c now group to bytes answer is)
   where
+    free : (length (all_transfers w H) ≡ length (told_transfers H) + 1)
+        ⊎ ((length (all_transfers w H) ≡ 18446744073709551615) ⊎ IsTrue (is_resting w H now group to)) → ⊥
+    free (inl z) = absurd (omega (arith, z, room))
+    free (inr (inl z)) = absurd (omega (arith, z, some))
+    free (inr (inr z)) = not_both _ rested z
+
     go : TransferCase w H now group to bytes answer → answer ≡ Ok (length (all_transfers w H))
     go (homeless a e) = absurd (not_both _ a held)
     go (unfit a b e) = absurd (not_both _ b can)
-    go (busy a b f e) = elim (engaged_limit (open_transfer w H) _ _ (last_one w H is.answered.0) f) [ inl z ↦ absurd (omega (arith, z, room)) | inr z ↦ absurd (omega (arith, z, some)) ]
+    go (busy a b f e) = absurd (free (engaged_limit (open_transfer w H) _ _ (is_resting w H now group to) (last_one w H is.answered.0) f))
     go (opens a b f e) = e
 
 pub token_is : (w : Who) (H : List Call) (c : Controller) (now group to k : ℕ) (bytes : List ℕ) → Is w (Transfer now group to bytes (Ok k) ∷ H) c
@@ -185,13 +201,13 @@ gives_up_so w H c now f t is p e g =
 
 -- ---- how many clears to send it takes
 
-record Budgeted (t : Running) (n : ℕ) : Type 0 where
+pub record Budgeted (t : Running) (n : ℕ) : Type 0 where
   pub count : n ≤ t.granted + t.spent
   pub granted : t.granted ≤ packets_of t.sender.message
   pub spent : t.spent ≤ 65
   pub heard : t.spent ≤ n
 
-abbrev BudgetedIf : Option Running → ℕ → Type 0
+abbrev pub BudgetedIf : Option Running → ℕ → Type 0
 BudgetedIf None n = Unit {0}
 BudgetedIf (Some t) n = Budgeted t n
 
@@ -263,7 +279,7 @@ budget_sends true now (Some t) n h = record {
   heard = h.heard;
 }
 
-budgeted : (w : Who) (H : List Call) → BudgetedIf (open_transfer w H) (clears w H)
+pub budgeted : (w : Who) (H : List Call) → BudgetedIf (open_transfer w H) (clears w H)
 budgeted w [] = tt
 budgeted w (Hear f ∷ H) =
     budget_hears_if (is_lost (address_after w (Hear f ∷ H))) (λ a. is_replaced (holder w H a) (holder w (Hear f ∷ H) a)) f (clock_at H f.stamp) (open_transfer w H)

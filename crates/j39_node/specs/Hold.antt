@@ -26,6 +26,7 @@ passed now h = record {
   pause = h.pause - (now - h.moment);
   age = min (h.age + (now - h.moment)) 18446744073709551615;
   wait = h.wait - (now - h.moment);
+  rest = h.rest - (now - h.moment);
 }
 
 abbrev pub heard : Bool → Bool → Hold → Hold
@@ -36,6 +37,7 @@ heard drives_away calls h = record {
   pause = h.pause;
   age = h.age;
   wait = h.wait;
+  rest = h.rest;
 }
 
 abbrev pub claims : Standing → Standing
@@ -57,6 +59,10 @@ renewed h = record h { age = 0 }
 -- a message was taken: whether it was the request
 abbrev pub asked : Bool → Hold → Hold
 asked b h = record h { wait = if b then 1250000 else h.wait }
+
+-- the end of a transfer was told: whether one rests by it
+abbrev pub rested : Bool → Hold → Hold
+rested b h = record h { rest = if b then 4000000 else h.rest }
 
 abbrev pub stands : Standing → Bool
 stands standing.Idle = false

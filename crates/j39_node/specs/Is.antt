@@ -18,6 +18,8 @@ use Rattle.j39_node.specs.declared.lane.Open.{Open}
 use Rattle.j39_node.specs.declared.own.Own.{Own}
 use Rattle.j39_node.specs.declared.transfers.Open as transfers
 use Rattle.j39_node.specs.declared.transfers.Transfers.{Transfers}
+use Rattle.j39_node.specs.declared.transfers.Resting.{Resting as DeclaredResting}
+use Rattle.j39_node.specs.declared.transfers.Resting.TheVariants as rests
 use Rattle.j39_node.specs.declared.requests.Request.{Request}
 use Rattle.j39_node.specs.declared.requests.Due.{Due}
 use Rattle.j39_node.specs.declared.outgoing.Outgoing.{Outgoing}
@@ -46,7 +48,7 @@ use Rattle.j39_node.specs.declared.hearing.Heard.{Heard as Bytes}
 use Rattle.j39_node.specs.declared.hearing.Hearing.{Hearing}
 use Rattle.j39_transport.specs.Cutting.{ToSend}
 use Rattle.j39_transport.specs.Receiving.{BoxedReceiver, Heard, recv_step}
-use Rattle.j39_node.specs.Transfers.{Running, age, answer_to_transfer, next_transfer, next_transfer_ended, open_transfer, transfers as all_transfers}
+use Rattle.j39_node.specs.Transfers.{Resting, NoneRests, PairRests, AllRest, Running, joined, rest, resting, age, answer_to_transfer, next_transfer, next_transfer_ended, open_transfer, transfers as all_transfers}
 
 -- ---- the answers that a history asks for
 
@@ -196,6 +198,7 @@ hold_after w H = record {
   pause = pause H;
   age = min (age H) 18446744073709551615;
   wait = wait H;
+  rest = rest H;
 }
 
 -- the open broadcast, how many of its frames were taken, and the next token
@@ -279,15 +282,29 @@ incoming_after w H = record {
 pub record PortRecord : Type 0 where
   pub current : Option Running
   pub next_token : ℕ
+  pub resting : Resting
 
 abbrev pub running : transfers.Open → Running
 running x = record { token = x.token; sender = x.sender; granted = x.granted; spent = x.spent; gone = x.is_gone }
 
+abbrev pub resting_by : DeclaredResting → Resting
+resting_by rests.Nothing = NoneRests
+resting_by (rests.Pair to group) = PairRests to group
+resting_by rests.All = AllRest
+
 abbrev pub port_of : Transfers → PortRecord
-port_of t = record { current = option_map running t.current; next_token = t.next_token }
+port_of t = record { current = option_map running t.current; next_token = t.next_token; resting = resting_by t.resting }
 
 abbrev pub port_after : Who → List Call → PortRecord
-port_after w H = record { current = open_transfer w H; next_token = length (all_transfers w H) }
+port_after w H = record { current = open_transfer w H; next_token = length (all_transfers w H); resting = resting w H }
+
+-- the end of the open transfer is told: whether it rests by it, and what is left of the time for which others rest
+abbrev pub closed : Bool → ℕ → PortRecord → PortRecord
+closed b left p = record {
+  current = None;
+  next_token = p.next_token;
+  resting = if b then joined left p.resting p.current else p.resting;
+}
 
 -- the open request, whether its frame was taken, and how it ended by what was heard
 pub record AskRecord : Type 0 where

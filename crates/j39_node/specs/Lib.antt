@@ -13,6 +13,8 @@ pub mod Moves
 pub mod Asking
 -- the histories that a controller can have had
 pub mod Is
+-- a driver that is prompt
+pub mod Prompt
 -- moving to another address
 pub mod Moving
 -- the code's steps, below the definitions

@@ -3,7 +3,8 @@ use Rattle.std.specs.Prelude.{◌≡◌, ℕ, ◌+◌, Bool, false, List, [], �
 use Rattle.j39_frame.specs.Frame.{FrameRecord}
 use Rattle.j39_address.specs.Claim.{claim_of}
 use Rattle.j39_node.specs.History.{Who, Call, claim_from, is_packet, is_smaller, message_of, moment, step}
-use Rattle.j39_node.specs.History.Call.{Hear, TakeFrame}
+use Rattle.j39_node.specs.History.Call.{Hear, TakeFrame, TakeTransferEnded}
+use Rattle.j39_node.specs.declared.kinds.TransferEnding.{TransferEnding}
 
 -- the sum of the forward steps of these later calls, from the moment of the earlier ones on
 abbrev pub passed_in : List Call → List Call → ℕ
@@ -39,3 +40,10 @@ pub record PacketSince (H : List Call) (e : ℕ) : Type 0 where
   pub is : H ≡ later ++ TakeFrame at (Some packet) ∷ earlier
   pub of_packets : IsTrue (is_packet packet)
   pub passed : e ≡ passed_in later (TakeFrame at (Some packet) ∷ earlier)
+
+-- the end of a transfer was told at a call of H; e microseconds passed since
+pub record ToldSince (H : List Call) (x : ℕ × TransferEnding) (e : ℕ) : Type 0 where
+  pub later : List Call
+  pub earlier : List Call
+  pub is : H ≡ later ++ TakeTransferEnded (Some x) ∷ earlier
+  pub passed : e ≡ passed_in later (TakeTransferEnded (Some x) ∷ earlier)

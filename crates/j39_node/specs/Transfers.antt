@@ -1,5 +1,5 @@
 -- Messages sent to one address in packets (J1939-21, 5.10.2.4 and 5.10.3): what a history says of them.
-use Rattle.std.specs.Prelude.{ℕ, ◌+◌, ◌++◌, ◌&&◌, ◌||◌, nat_lt, nat_eq, not, max, min, Bool, true, false, List, [], ◌∷◌, length, Option, Some, None, Result, Ok, Err, if◌then◌else◌}
+use Rattle.std.specs.Prelude.{ℕ, ◌+◌, ◌-◌, ◌++◌, ◌&&◌, ◌||◌, nat_lt, nat_eq, not, max, min, Bool, true, false, List, [], ◌∷◌, length, Option, Some, None, Result, Ok, Err, if◌then◌else◌}
 use Rattle.std.specs.Option.{option_map}
 use Rattle.j39_frame.specs.Address.{null_address}
 use Rattle.j39_frame.specs.Frame.{FrameRecord}
@@ -161,14 +161,6 @@ abbrev pub is_engaged : Option Running → ℕ → Bool
 is_engaged None count = nat_eq count 18446744073709551615
 is_engaged (Some t) count = true
 
-abbrev pub answer_to_transfer : Who → List Call → ℕ → ℕ → ℕ → List ℕ → Result ℕ Refused
-answer_to_transfer w H now group to bytes =
-    if holds w H now
-    then (if can_transfer w group to bytes
-    then (if is_engaged (open_transfer w H) (length (transfers w H)) then Err Full else Ok (length (transfers w H)))
-    else Err BadValue)
-    else Err NoAddress
-
 -- how it ended: acknowledged, aborted, or before that its destination was gone, or the address lost
 abbrev pub broken_off : Bool → Bool → Option TransferEnding
 broken_off true lost = Some Gone
@@ -192,6 +184,70 @@ transfer_end (Some t) lost = option_map (λ e. (t.token, e)) (ending_by t.sender
 
 abbrev pub next_transfer_ended : Who → List Call → Option (ℕ × TransferEnding)
 next_transfer_ended w H = transfer_end (open_transfer w H) (is_lost (address_after w H))
+
+-- ---- for 4 seconds after the end of one that wasn't acknowledged is told, its group isn't sent to its destination again (own): a
+-- receiver of this stack that is ticked each 80 ms at most has dropped its session by then
+
+abbrev pub rests_after : TransferEnding → Bool
+rests_after Done = false
+rests_after Withdrawn = true
+rests_after (Failed reason) = true
+rests_after Gone = true
+
+-- what is left of them; time that goes back is no time
+abbrev pub rest : List Call → ℕ
+rest [] = 0
+rest (Hear f ∷ H) = rest H - step H f.stamp
+rest (Ticks now ∷ H) = rest H - step H now
+rest (TakeFrame now answer ∷ H) = rest H - step H now
+rest (Send now draft answer ∷ H) = rest H - step H now
+rest (Acknowledge now asked answer result ∷ H) = rest H - step H now
+rest (Ask now group to answer ∷ H) = rest H - step H now
+rest (Broadcast now group bytes answer ∷ H) = rest H - step H now
+rest (Transfer now group to bytes answer ∷ H) = rest H - step H now
+rest (TakeTransferEnded (Some x) ∷ H) = if rests_after x.1 then 4000000 else rest H
+rest (call ∷ H) = rest H
+
+-- which rest: none, those of a group to a destination, or all
+pub data Resting : Type 0 where
+  NoneRests : Resting
+  PairRests : ℕ → ℕ → Resting
+  AllRest : Resting
+
+-- where others still rest when one begins to, all do
+abbrev pub with_pair : Resting → ℕ → ℕ → Resting
+with_pair NoneRests to group = PairRests to group
+with_pair (PairRests a b) to group = if nat_eq a to && nat_eq b group then PairRests a b else AllRest
+with_pair AllRest to group = AllRest
+
+abbrev pub joined : ℕ → Resting → Option Running → Resting
+joined left before None = before
+joined left before (Some t) =
+    with_pair (if nat_eq left 0 then NoneRests else before) t.sender.destination t.sender.message.pgn
+
+abbrev pub resting : Who → List Call → Resting
+resting w [] = NoneRests
+resting w (TakeTransferEnded (Some x) ∷ H) =
+    if rests_after x.1 then joined (rest H) (resting w H) (open_transfer w H) else resting w H
+resting w (call ∷ H) = resting w H
+
+abbrev pub holds_back : Resting → ℕ → ℕ → Bool
+holds_back NoneRests group to = false
+holds_back (PairRests a b) group to = nat_eq a to && nat_eq b group
+holds_back AllRest group to = true
+
+-- a transfer of the group to the destination rests at this moment
+abbrev pub is_resting : Who → List Call → ℕ → ℕ → ℕ → Bool
+is_resting w H now group to = nat_lt 0 (rest H - step H now) && holds_back (resting w H) group to
+
+abbrev pub answer_to_transfer : Who → List Call → ℕ → ℕ → ℕ → List ℕ → Result ℕ Refused
+answer_to_transfer w H now group to bytes =
+    if holds w H now
+    then (if can_transfer w group to bytes
+    then (if is_engaged (open_transfer w H) (length (transfers w H)) || is_resting w H now group to then Err Full
+    else Ok (length (transfers w H)))
+    else Err BadValue)
+    else Err NoAddress
 
 -- ---- when something is due
 

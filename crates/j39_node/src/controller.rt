@@ -194,7 +194,7 @@ impl Controller {
         self.inbox.missed = 0;
         self.desk.due.clear();
         self.lane = Lane::new();
-        self.transfers.next_token = 0;
+        self.transfers = Transfers::new();
         self.hearing = Hearing::new();
         true
     }
@@ -313,12 +313,10 @@ impl Controller {
             return None;
         }
         if !self.desk.due.is_empty() {
-            let due = self.desk.due.remove(0);
-            return self.own.acknowledgment(&due, now);
+            return self.own.acknowledgment(&self.desk.due.remove(0), now);
         }
         if !self.incoming.replies.is_empty() {
-            let reply = self.incoming.replies.remove(0);
-            return reply.frame(self.own.address, now);
+            return self.incoming.replies.remove(0).frame(self.own.address, now);
         }
         match self.outgoing.as_slice().get(self.taken) {
             Some(next) => {
@@ -435,7 +433,9 @@ impl Controller {
     }
 
     /// Hands in a message of 9 to 1,785 bytes, to another's address: a request to send, and the packets that it clears; answers its
-    /// token, 0, 1, 2 and so on, apart from those of `send` and `broadcast`. `Full` while one is accepted and not told to have ended.
+    /// token, 0, 1, 2 and so on, apart from those of `send` and `broadcast`. `Full` while one is accepted and not told to have ended,
+    /// and while it rests: for 4 seconds after the end of one of this group to this address was told, which wasn't acknowledged, so that
+    /// nothing late of it is taken for this one's. Where one of another pair so ended in these 4 seconds, all rest till 4 seconds after it.
     pub fn transfer(&mut self, now: Stamp, group: Pgn, to: u8, bytes: &[u8]) -> Result<u64, Refused>
         ensures { (w : Who) (H : List Call) → Is w H self.old
             → Is w (Transfer (stamp_micros now) (pgn_raw group) to bytes.now result ∷ H) self.new }
@@ -446,7 +446,7 @@ impl Controller {
         }
         match transfers::Open::new(self.transfers.next_token, &self.own, group, to, bytes) {
             Some(transfer) => {
-                if self.transfers.is_busy() {
+                if self.transfers.refuses(self.hold.rest, group, to) {
                     return Err(Refused::Full);
                 }
                 let token = self.transfers.next_token;
@@ -465,7 +465,9 @@ impl Controller {
     {
         let is_lost = self.hold.is_lost();
         let ended = self.transfers.ended(is_lost)?;
-        self.transfers.current = None;
+        let rests = ended.1.rests();
+        self.transfers.close(rests, self.hold.rest);
+        self.hold = self.hold.rested(rests);
         Some(ended)
     }
 

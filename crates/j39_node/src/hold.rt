@@ -4,7 +4,7 @@ ghost use Rattle.std.specs.Option.{option_map};
 ghost use Rattle.j39_frame.specs.Stamp.{stamp_micros};
 ghost use Rattle.j39_node.specs.History.{stamp_at};
 ghost use Rattle.j39_node.specs.declared.hold.Standing.TheVariants as standing;
-ghost use Rattle.j39_node.specs.Hold.{asked, passed, heard, claimed, paused, renewed, stands, lost, less, claims, left_at};
+ghost use Rattle.j39_node.specs.Hold.{asked, passed, heard, claimed, paused, renewed, rested, stands, lost, less, claims, left_at};
 
 use j39_frame::Stamp;
 
@@ -16,6 +16,9 @@ const PACKET_TIME: u64 = 50_000;
 
 /// How long a request waits for its answer, in microseconds (own).
 const ANSWER_TIME: u64 = 1_250_000;
+
+/// How long a transfer rests after an end without acknowledgment, in microseconds (own).
+const REST_TIME: u64 = 4_000_000;
 
 /// How far the address is.
 #[derive(Clone, Copy)]
@@ -61,12 +64,14 @@ pub(crate) struct Hold {
     pub(crate) age: u64,
     /// What is left of the time that the open request waits.
     pub(crate) wait: u64,
+    /// What is left of the time for which transfers rest.
+    pub(crate) rest: u64,
 }
 
 impl Hold {
     /// Nothing was claimed; the first claim is owed.
     pub(crate) fn new() -> Hold
-        ensures { result ≡ record { moment = 0; standing = standing.Idle; owes_claim = true; pause = 0; age = 0; wait = 0 } }
+        ensures { result ≡ record { moment = 0; standing = standing.Idle; owes_claim = true; pause = 0; age = 0; wait = 0; rest = 0 } }
     {
         Hold {
             moment: 0,
@@ -75,6 +80,7 @@ impl Hold {
             pause: 0,
             age: 0,
             wait: 0,
+            rest: 0,
         }
     }
 
@@ -90,6 +96,7 @@ impl Hold {
             pause: self.pause.saturating_sub(step),
             age: self.age.saturating_add(step),
             wait: self.wait.saturating_sub(step),
+            rest: self.rest.saturating_sub(step),
         }
     }
 
@@ -109,6 +116,7 @@ impl Hold {
             pause: self.pause,
             age: self.age,
             wait: self.wait,
+            rest: self.rest,
         }
     }
 
@@ -123,6 +131,7 @@ impl Hold {
             pause: self.pause,
             age: self.age,
             wait: self.wait,
+            rest: self.rest,
         }
     }
 
@@ -137,6 +146,7 @@ impl Hold {
             pause: PACKET_TIME,
             age: self.age,
             wait: self.wait,
+            rest: self.rest,
         }
     }
 
@@ -151,6 +161,7 @@ impl Hold {
             pause: self.pause,
             age: 0,
             wait: self.wait,
+            rest: self.rest,
         }
     }
 
@@ -166,6 +177,23 @@ impl Hold {
             pause: self.pause,
             age: self.age,
             wait,
+            rest: self.rest,
+        }
+    }
+
+    /// The end of a transfer was told: whether one rests by it.
+    pub(crate) fn rested(self, rests: bool) -> Hold
+        ensures { result ≡ rested rests self }
+    {
+        let rest = if rests { REST_TIME } else { self.rest };
+        Hold {
+            moment: self.moment,
+            standing: self.standing,
+            owes_claim: self.owes_claim,
+            pause: self.pause,
+            age: self.age,
+            wait: self.wait,
+            rest,
         }
     }
 

@@ -1,6 +1,7 @@
 //! What calls answer.
 ghost use Rattle.std.specs.Prelude.{◌≡◌};
 ghost use Rattle.j39_node.specs.History.{control_of};
+ghost use Rattle.j39_node.specs.Transfers.{rests_after};
 
 /// How a message that was accepted ended.
 #[derive(Clone, Copy, Debug, PartialEq, Eq)]
@@ -25,6 +26,20 @@ pub enum TransferEnding {
     Gone,
 }
 
+impl TransferEnding {
+    /// Its group isn't sent to its destination again for a while.
+    pub(crate) fn rests(self) -> bool
+        ensures { result ≡ rests_after self }
+    {
+        match self {
+            TransferEnding::Done => false,
+            TransferEnding::Withdrawn => true,
+            TransferEnding::Failed(_reason) => true,
+            TransferEnding::Gone => true,
+        }
+    }
+}
+
 /// How a request that was accepted ended (J1939-21, 5.4.2 and 5.4.4).
 #[derive(Clone, Copy, Debug, PartialEq, Eq)]
 pub enum AskEnding {
@@ -46,7 +61,8 @@ pub enum Refused {
     /// A priority above 7, a group that no identifier can have or that the stack itself speaks (claims, acknowledgments,
     /// packets), no other's address, or more than 8 bytes; a broadcast or a transfer outside 9 to 1,785 bytes; an acknowledgment of a request to all.
     BadValue,
-    /// Sixteen messages are accepted and not told to have ended; a broadcast is, or a transfer, or a request; sixteen acknowledgments are due.
+    /// Sixteen messages are accepted and not told to have ended; a broadcast is, or a transfer, or a request; sixteen acknowledgments are due. Where none
+    /// is: a transfer of this group to this address ended without acknowledgment less than 4 seconds ago, or after others did.
     Full,
 }
 

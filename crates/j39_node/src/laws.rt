@@ -18,7 +18,7 @@ ghost use Rattle.j39_node.specs.declared.kinds.News.{News};
 ghost use Rattle.j39_node.specs.declared.kinds.News.TheVariants as news;
 ghost use Rattle.j39_node.specs.declared.kinds.Refused.{Refused};
 ghost use Rattle.j39_node.specs.declared.kinds.Refused.TheVariants as refused;
-ghost use Rattle.j39_node.specs.History.{Who, Asked, Call, Message, Draft, IsFront, accepted, acknowledgment, acknowledgment_group, asked, handed, is_served, requests, lost_news, another_news, missed_news, address_after, calls_for_claim, can_send, claim_address, claim_from, content, acknowledged, due, frames, got, heard, holds, is_held, is_lost, kept, message_of, missed, moment, owes_claim, sent, step, told, all_frames, broadcasts, can_broadcast, first_frames, frame_of, has_packets, is_acknowledgment, is_claim, is_packet, is_transfer, open_broadcast, packets, told_broadcasts};
+ghost use Rattle.j39_node.specs.History.{Who, is_smaller, Asked, Call, Message, Draft, IsFront, accepted, acknowledgment, acknowledgment_group, asked, handed, is_served, requests, lost_news, another_news, missed_news, address_after, calls_for_claim, can_send, claim_address, claim_from, content, acknowledged, due, frames, got, heard, holds, is_held, is_lost, kept, message_of, missed, moment, owes_claim, sent, step, told, all_frames, broadcasts, can_broadcast, first_frames, frame_of, has_packets, is_acknowledgment, is_claim, is_packet, is_transfer, open_broadcast, packets, told_broadcasts};
 ghost use Rattle.j39_node.specs.History.Call.{Acknowledge, Broadcast, TakeBroadcastEnded, ReleaseTransfer, Hear, TakeNews, Tick, TakeFrame, TakeRequest, Send, TakeEnded, TakeReceived, Transfer, TakeTransferEnded};
 ghost use Rattle.j39_node.specs.Reception.{CameFromOne, delivered, got_transfers, heard_at, holder, is_move, listed, next_tick, reception, replied, reply_from, says, time_heard, whole, without};
 ghost use Rattle.j39_transport.specs.Cutting.{ToSend};
@@ -308,11 +308,13 @@ pub fn replies_mean()
         → ((reception w H).session ≡ None) × ((reception w H).replies ≡ []) }
 {}
 
-/// A frame that is no claim and doesn't go to its address changes nothing of what is received, and one of another source nothing of the
-/// session, unless by it the address is lost or the session's source gets another holder.
+/// A frame that doesn't go to its address changes nothing of what is received, and one of another source nothing of the session,
+/// unless by it the address is lost or the session's source gets another holder.
 pub fn strangers()
-    ensures to_others { (w : Who) (H : List Call) (f : FrameRecord) → claim_of f ≡ None → destination_of f.id ≢ Some w.address
-        → reception w (Hear f ∷ H) ≡ reception w H }
+    ensures to_others { (w : Who) (H : List Call) (f : FrameRecord) → is_smaller w (claim_of f) ≡ false
+        → ((r : ReceptionRecord) → (reception w H).session ≡ Some r
+        → holder w (Hear f ∷ H) r.message.source ≡ holder w H r.message.source)
+        → destination_of f.id ≢ Some w.address → reception w (Hear f ∷ H) ≡ reception w H }
     ensures from_others { (w : Who) (H : List Call) (f : FrameRecord) (r : ReceptionRecord)
         → is_lost (address_after w (Hear f ∷ H)) ≡ false → holder w (Hear f ∷ H) r.message.source ≡ holder w H r.message.source
         → (reception w H).session ≡ Some r → source_of f.id ≢ r.message.source → (reception w (Hear f ∷ H)).session ≡ Some r }

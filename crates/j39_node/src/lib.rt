@@ -4,6 +4,7 @@
 pub mod ask_laws;
 mod asking;
 mod controller;
+pub mod ending_laws;
 mod hearing;
 pub mod hearing_laws;
 mod hold;

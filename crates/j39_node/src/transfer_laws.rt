@@ -14,14 +14,14 @@ ghost use Rattle.j39_node.specs.declared.kinds.Refused.{Refused};
 ghost use Rattle.j39_node.specs.declared.kinds.Refused.TheVariants as refused;
 ghost use Rattle.j39_node.specs.History.{Who, Call, accepted, acknowledged, address_after, due, has_packets, holds, is_lost, message_of, sent, step, told_claims};
 ghost use Rattle.j39_node.specs.History.Call.{Hear, TakeFrame, TakeTransferEnded, Transfer};
-ghost use Rattle.j39_node.specs.Since.{PacketSince};
+ghost use Rattle.j39_node.specs.Since.{PacketSince, ToldSince, passed_in};
 ghost use Rattle.j39_node.specs.Reception.{holder, is_move};
-ghost use Rattle.j39_node.specs.Transfers.{Running, can_transfer, clock_at, gives_up, is_over, is_replaced, is_spent, next_transfer, open_transfer, said_to, told_transfers, transfers};
+ghost use Rattle.j39_node.specs.Transfers.{Running, can_transfer, clock_at, gives_up, is_over, is_replaced, is_resting, is_spent, next_transfer, open_transfer, rests_after, said_to, told_transfers, transfers};
 ghost use Rattle.j39_node.specs.Moves.{Aborts, Acknowledges, Happened, IsMove, NoneEnds, Replaces, abort_move, clears, moves};
 ghost use Rattle.j39_node.specs.Is.{Is};
 
 /// What `transfer` answers: `NoAddress` where no address is held, `BadValue` where the message can't be sent so, `Full` where one is
-/// accepted and not told (or as many as there are tokens were accepted), and else the next token.
+/// accepted and not told (or as many as there are tokens were accepted) or where it rests, and else the next token.
 pub fn transfer_means()
     ensures no_address { (w : Who) (H : List Call) (c : Controller) (now group to : ℕ) (bytes : List ℕ) (answer : Result ℕ Refused)
         → Is w (Transfer now group to bytes answer ∷ H) c → (answer ≡ Err refused.NoAddress ↔ (IsTrue (holds w H now) → ⊥)) }
@@ -32,11 +32,12 @@ pub fn transfer_means()
         → Is w (Transfer now group to bytes answer ∷ H) c
         → (answer ≡ Err refused.Full
         ↔ (IsTrue (holds w H now) × IsTrue (can_transfer w group to bytes)
-        × ((length (transfers w H) ≡ length (told_transfers H) + 1) ⊎ (length (transfers w H) ≡ 18446744073709551615)))) }
+        × ((length (transfers w H) ≡ length (told_transfers H) + 1)
+        ⊎ ((length (transfers w H) ≡ 18446744073709551615) ⊎ IsTrue (is_resting w H now group to))))) }
     ensures accepts { (w : Who) (H : List Call) (c : Controller) (now group to : ℕ) (bytes : List ℕ) (answer : Result ℕ Refused)
         → Is w (Transfer now group to bytes answer ∷ H) c → IsTrue (holds w H now) → IsTrue (can_transfer w group to bytes)
         → length (transfers w H) ≡ length (told_transfers H) → length (transfers w H) < 18446744073709551615
-        → answer ≡ Ok (length (transfers w H)) }
+        → is_resting w H now group to ≡ false → answer ≡ Ok (length (transfers w H)) }
     ensures token { (w : Who) (H : List Call) (c : Controller) (now group to k : ℕ) (bytes : List ℕ)
         → Is w (Transfer now group to bytes (Ok k) ∷ H) c → k ≡ length (transfers w H) }
 {}
@@ -115,4 +116,15 @@ pub fn transfer_done_means()
         → (length (told_transfers H) ≡ length (transfers w H))
         ⊎ ((t : Running) × (open_transfer w H ≡ Some t) × (is_over t ≡ false) × (IsTrue (is_lost (address_after w H)) → ⊥)) }
     ensures holder { (w : Who) (H : List Call) (a : ℕ) → IsHolderAfter (claims_of (told_claims w H)) a (holder w H a) }
+{}
+
+/// A transfer rests for 4 seconds after the end of one of its group to its destination was told that wasn't acknowledged, whatever
+/// comes between; and only so long after such an end of any transfer.
+pub fn transfer_rests()
+    ensures rests { (w : Who) (later earlier : List Call) (now group to : ℕ) (x : ℕ × TransferEnding) (t : Running)
+        → IsTrue (rests_after x.1) → open_transfer w earlier ≡ Some t → t.sender.destination ≡ to → t.sender.message.pgn ≡ group
+        → passed_in later (TakeTransferEnded (Some x) ∷ earlier) + step (later ++ TakeTransferEnded (Some x) ∷ earlier) now < 4000000
+        → IsTrue (is_resting w (later ++ TakeTransferEnded (Some x) ∷ earlier) now group to) }
+    ensures only { (w : Who) (H : List Call) (now group to : ℕ) → IsTrue (is_resting w H now group to)
+        → (x : ℕ × TransferEnding) × (e : ℕ) × ToldSince H x e × IsTrue (rests_after x.1) × (e + step H now < 4000000) }
 {}

@@ -1,5 +1,5 @@
 //! Messages that are sent to one address in packets (J1939-21, 5.10.3).
-ghost use Rattle.std.specs.Prelude.{◌≡◌, ◌<◌, ◌↔◌, ◌||◌, ℕ, List, length, nat_eq, None, Some, Option, IsSome, IfSome, Bool, true, false, not, if◌then◌else◌, []};
+ghost use Rattle.std.specs.Prelude.{◌≡◌, ◌<◌, ◌↔◌, ◌||◌, ℕ, List, length, nat_eq, nat_lt, ◌&&◌, None, Some, Option, IsSome, IfSome, Bool, true, false, not, if◌then◌else◌, []};
 ghost use Rattle.std.specs.Option.{option_map};
 ghost use Rattle.j39_frame.specs.Pgn.{pgn_raw};
 ghost use Rattle.j39_frame.specs.Stamp.{stamp_micros};
@@ -7,7 +7,7 @@ ghost use Rattle.j39_transport.specs.Cutting.{to_send};
 ghost use Rattle.j39_transport.specs.Sending.{is_running, sent_by};
 ghost use Rattle.j39_transport.specs.SenderModel.{IsSender};
 ghost use Rattle.j39_node.specs.History.{broadcast_from};
-ghost use Rattle.j39_node.specs.Transfers.{begun, broken_off, can_transfer, gives_up, hears, hears_if, is_engaged, is_spent, sends, sends_if, signal_by, says, running_in, transfer_by, transfer_end, transfer_in};
+ghost use Rattle.j39_node.specs.Transfers.{NoneRests, holds_back, joined, with_pair, begun, broken_off, can_transfer, gives_up, hears, hears_if, is_engaged, is_spent, sends, sends_if, signal_by, says, running_in, transfer_by, transfer_end, transfer_in};
 
 use crate::TransferEnding;
 use crate::outgoing::is_sendable;
@@ -162,23 +162,67 @@ impl Open {
     }
 }
 
+/// Which transfers rest, as long as time is left.
+#[derive(Clone, Copy)]
+pub(crate) enum Resting {
+    /// None.
+    Nothing,
+    /// Those to this address, of this group.
+    Pair(u8, u32),
+    /// All.
+    All,
+}
+
+impl Resting {
+    ghost use Rattle.j39_node.specs.Is.{resting_by};
+
+    /// One more rests.
+    fn with_pair(self, to: u8, group: u32) -> Resting
+        ensures { resting_by result ≡ with_pair (resting_by self) to group }
+    {
+        match self {
+            Resting::Nothing => Resting::Pair(to, group),
+            Resting::Pair(a, b) => {
+                if a == to && b == group {
+                    Resting::Pair(a, b)
+                } else {
+                    Resting::All
+                }
+            }
+            Resting::All => Resting::All,
+        }
+    }
+
+    fn holds_back(self, group: u32, to: u8) -> bool
+        ensures { result ≡ holds_back (resting_by self) group to }
+    {
+        match self {
+            Resting::Nothing => false,
+            Resting::Pair(a, b) => a == to && b == group,
+            Resting::All => true,
+        }
+    }
+}
+
 /// The transfers: one is open at a time.
 #[derive(Drop)]
 pub(crate) struct Transfers {
     pub(crate) current: Option<Open>,
     pub(crate) next_token: u64,
+    pub(crate) resting: Resting,
 }
 
 impl Transfers {
-    ghost use Rattle.j39_node.specs.Is.{port_of, stamped};
+    ghost use Rattle.j39_node.specs.Is.{closed, port_of, resting_by, stamped};
 
     /// None was accepted.
     pub(crate) fn new() -> Transfers
-        ensures { result ≡ record { current = None; next_token = 0 } }
+        ensures { port_of result ≡ record { current = None; next_token = 0; resting = NoneRests } }
     {
         Transfers {
             current: None,
             next_token: 0,
+            resting: Resting::Nothing,
         }
     }
 
@@ -195,6 +239,7 @@ impl Transfers {
     /// A frame was heard, by which who held its destination's address may be replaced.
     pub(crate) fn hear(&mut self, is_lost: bool, is_replaced: bool, frame: &Frame, clock: Stamp)
         ensures token { self.new.next_token ≡ self.old.next_token }
+        ensures resting { self.new.resting ≡ self.old.resting }
         ensures current { (replaced : ℕ → Bool)
             → IfSome (port_of self.old).current (λ x. is_replaced ≡ replaced x.sender.destination)
             → (port_of self.new).current
@@ -222,6 +267,7 @@ impl Transfers {
     /// That frame was taken.
     pub(crate) fn taken(&mut self, clock: Stamp)
         ensures token { self.new.next_token ≡ self.old.next_token }
+        ensures resting { self.new.resting ≡ self.old.resting }
         ensures current { (port_of self.new).current ≡ sends_if true (stamp_micros clock) (port_of self.old).current }
     {
         if let Some(open) = &mut self.current {
@@ -247,6 +293,40 @@ impl Transfers {
         match &self.current {
             Some(_open) => true,
             None => self.next_token == u64::MAX,
+        }
+    }
+
+    /// Whether this one can't be accepted, where so much is left of the time for which transfers rest.
+    pub(crate) fn refuses(&self, left: u64, group: Pgn, to: u8) -> bool
+        ensures room { result ≡ false → self.now.next_token < 18446744073709551615 }
+        ensures value { result ≡ (is_engaged (port_of self.now).current self.now.next_token
+            || (nat_lt 0 left && holds_back (port_of self.now).resting (pgn_raw group) to)) }
+    {
+        self.is_busy() || (left > 0 && self.resting.holds_back(group.raw(), to))
+    }
+
+    /// The end of the open transfer is told: whether it rests by it.
+    pub(crate) fn close(&mut self, rests: bool, left: u64)
+        ensures { port_of self.new ≡ closed rests left (port_of self.old) }
+    {
+        if rests {
+            self.resting = self.joined(left);
+        }
+        self.current = None;
+    }
+
+    /// What rests with the open transfer, where so much is left of the time for which others rest.
+    fn joined(&self, left: u64) -> Resting
+        ensures { resting_by result ≡ joined left (port_of self.now).resting (port_of self.now).current }
+    {
+        let before = if left == 0 {
+            Resting::Nothing
+        } else {
+            self.resting
+        };
+        match &self.current {
+            Some(open) => before.with_pair(open.sender.destination(), open.sender.group().raw()),
+            None => self.resting,
         }
     }
 

@@ -152,6 +152,13 @@ impl SenderInPlace {
         self.course.destination
     }
 
+    /// The group of its message.
+    pub fn group(&self) -> Pgn
+        ensures { pgn_raw result ≡ self.now.message.pgn }
+    {
+        self.pgn
+    }
+
     fn cleared(&self, count: u8, next: u8) -> Option<u8>
         ensures { result ≡ clears count next self.now }
     {

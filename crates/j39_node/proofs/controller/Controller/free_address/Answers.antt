@@ -1,4 +1,4 @@
-use Rattle.std.proofs.Common.{◌≡◌, ◌∙◌, ℕ, Option, Some, None, Bool, true, false, not, refl, sym, arith}
+use Rattle.std.proofs.Common.{◌≡◌, ◌∙◌, Option, Some, None, Bool, true, false, not, refl, sym, arith}
 use Rattle.std.specs.Option.{is_some, option_map}
 use Rattle.j39_address.specs.Claim.{claims_of}
 use Rattle.j39_address.specs.Name.{name_raw}

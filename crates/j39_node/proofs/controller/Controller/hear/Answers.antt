@@ -28,7 +28,7 @@ returns c = λ w H h.
     (λ r e. c.hear-3.ensures.current r e
     ∙ (ap (λ (b : Bool). hears_if b r f (stamp_micros c.clock.result) (port_of c.args.self.now.transfers).current) c.is_lost.ensures
     ∙ ap (λ (n : ℕ). hears_if (lost c.heard-self-2.result.standing) r f n (port_of c.args.self.now.transfers).current) c.clock.ensures))
-    c.hear-3.ensures.token
+    c.hear-3.ensures.token c.hear-3.ensures.resting
     c.made-made.result
     (c.made-made.ensures ∙ ap (λ (b : Bool). made_by b (incoming_of c.hear-2.new.self).reception.waits) c.has_place-has_place.ensures)
     (c.hear-4.ensures ∙ ap (λ (b : Bool). option_map (hears_with (who_of w.known c.args.self.now.own) b c.heard-self-2.result.wait f c.made-made.result) (asking_of c.args.self.now.asking)) c.is_lost-2.ensures)

@@ -38,7 +38,7 @@ returns-in_ok-frame-in-None-frame c = λ w H h.
     c.in-None-frame.ensures.frame
     (c.in_ok-frame-in-None-frame.ensures
     ∙ ap (λ (n : ℕ). option_map (at_now (stamp_micros c.args.now)) (transfer_by (port_of c.args.self.now.transfers).current n)) c.clock-clock.ensures)
-    refl (c.taken.ensures.current ∙ ap (λ (n : ℕ). sends_if true n (port_of c.args.self.now.transfers).current) c.clock-clock.ensures) c.taken.ensures.token
+    refl (c.taken.ensures.current ∙ ap (λ (n : ℕ). sends_if true n (port_of c.args.self.now.transfers).current) c.clock-clock.ensures) c.taken.ensures.token c.taken.ensures.resting
 
 pub returns-in_err-frame-in-None-frame : goal.returns-in_err-frame-in-None-frame
 returns-in_err-frame-in-None-frame c = λ w H h.
@@ -57,10 +57,10 @@ pub returns-then-not-is_empty : goal.returns-then-not-is_empty
 returns-then-not-is_empty c = λ w H h.
     let p = passed_is w H (stamp_micros c.args.now) c.args.self.now.hold c.passed-self.result h.hold c.passed-self.ensures in
     let b = sym (holds_is w H (stamp_micros c.args.now) c.passed-self.result c.is_held.result p c.is_held.ensures) ∙ c.if-not-is_held.false in
-    let f = first (refusal_by w) _ _ c.remove-due.result (length (acknowledged H)) (due w H) h.acknowledgments
-    (not_empty _ _ c.is_empty.ensures c.if-not-is_empty.true) c.remove-due.ensures.value c.remove-due.ensures.items in
-    taken_due w H c.args.self.now _ (stamp_micros c.args.now) _ c.remove-due.result h p (sym c.is_claim_due.ensures ∙ c.if-is_claim_due.false) b f
-    (c.acknowledgment.ensures ∙ ap (λ (v : Who). Some (stamp_micros c.args.now, refusal_by v c.remove-due.result)) h.who) refl
+    let f = first (refusal_by w) _ _ c.remove.result (length (acknowledged H)) (due w H) h.acknowledgments
+    (not_empty _ _ c.is_empty.ensures c.if-not-is_empty.true) c.remove.ensures.value c.remove.ensures.items in
+    taken_due w H c.args.self.now _ (stamp_micros c.args.now) _ c.remove.result h p (sym c.is_claim_due.ensures ∙ c.if-is_claim_due.false) b f
+    (c.acknowledgment.ensures ∙ ap (λ (v : Who). Some (stamp_micros c.args.now, refusal_by v c.remove.result)) h.who) refl
 
 pub returns-then-is_claim_due : goal.returns-then-is_claim_due
 returns-then-is_claim_due c = λ w H h.
@@ -74,8 +74,8 @@ pub returns-then-not-is_empty-2 : goal.returns-then-not-is_empty-2
 returns-then-not-is_empty-2 c = λ w H h.
     let p = passed_is w H (stamp_micros c.args.now) c.args.self.now.hold c.passed-self.result h.hold c.passed-self.ensures in
     let b = sym (holds_is w H (stamp_micros c.args.now) c.passed-self.result c.is_held.result p c.is_held.ensures) ∙ c.if-not-is_held.false in
-    let f = first (said_by c.args.self.now.incoming.receiver.state.own) _ _ c.remove-reply.result 0 (reception w H).replies (replies_is w H c.args.self.now h)
-    (not_empty _ _ c.is_empty-2.ensures c.if-not-is_empty-2.true) c.remove-reply.ensures.value c.remove-reply.ensures.items in
-    taken_reply w H c.args.self.now _ (stamp_micros c.args.now) _ c.remove-reply.result h p (sym c.is_claim_due.ensures ∙ c.if-is_claim_due.false) b
+    let f = first (said_by c.args.self.now.incoming.receiver.state.own) _ _ c.remove-then-not-is_empty-2.result 0 (reception w H).replies (replies_is w H c.args.self.now h)
+    (not_empty _ _ c.is_empty-2.ensures c.if-not-is_empty-2.true) c.remove-then-not-is_empty-2.ensures.value c.remove-then-not-is_empty-2.ensures.items in
+    taken_reply w H c.args.self.now _ (stamp_micros c.args.now) _ c.remove-then-not-is_empty-2.result h p (sym c.is_claim_due.ensures ∙ c.if-is_claim_due.false) b
     (none_left _ _ c.is_empty.ensures c.if-not-is_empty.false) f
-    (c.frame.ensures ∙ ap (λ (v : Who). Some (stamp_micros c.args.now, said_by v.address c.remove-reply.result)) h.who) refl refl
+    (c.frame.ensures ∙ ap (λ (v : Who). Some (stamp_micros c.args.now, said_by v.address c.remove-then-not-is_empty-2.result)) h.who) refl refl

@@ -11,26 +11,26 @@ not_true : (b : Bool) → (b ≡ true → false ≡ true) → b ≡ false
 not_true true f = absurd (let z : false ≡ true = f refl in cc)
 not_true false f = refl
 
-pub returns-else-is_busy : goal.returns-else-is_busy
-returns-else-is_busy c = λ w H h.
+pub returns-else-refuses : goal.returns-else-refuses
+returns-else-refuses c = λ w H h.
     let p = passed_is w H (stamp_micros c.args.now) c.args.self.now.hold c.passed-self.result h.hold c.passed-self.ensures in
     let b = sym (holds_is w H (stamp_micros c.args.now) c.passed-self.result c.is_held.result p c.is_held.ensures) ∙ c.if-not-is_held.false in
     transfer_begins w H c.args.self.now _ (stamp_micros c.args.now) (pgn_raw c.args.group) c.args.to c.args.bytes.now c.in-Some.transfer c.passed-self.result h p
     (sym (transfer_is w H (stamp_micros c.args.now) (pgn_raw c.args.group) c.args.to c.args.bytes.now true true false b
     (ap (λ (v : Who). can_transfer v (pgn_raw c.args.group) c.args.to c.args.bytes.now) (sym h.who) ∙ c.in-Some.ensures.known.0 refl)
-    (sym (engaged_is w H c.args.self.now h) ∙ (sym c.is_busy.ensures.value ∙ c.if-is_busy.false))
+    (sym (engaged_is w H c.args.self.now (stamp_micros c.args.now) (pgn_raw c.args.group) c.args.to c.passed-self.result h p) ∙ (sym c.refuses.ensures.value ∙ c.if-refuses.false))
     ∙ ap Ok (sym (ap (λ (t : PortRecord). t.next_token) h.port))))
     (c.in-Some.ensures.value ∙ ap (λ (v : Who). begun c.args.self.now.transfers.next_token (broadcast_from v (pgn_raw c.args.group) c.args.bytes.now) c.args.to) h.who)
-    refl c.renewed-self.ensures refl (omega arith)
+    refl c.renewed-self.ensures refl (omega arith) refl
 
-pub returns-then-is_busy : goal.returns-then-is_busy
-returns-then-is_busy c = λ w H h.
+pub returns-then-refuses : goal.returns-then-refuses
+returns-then-refuses c = λ w H h.
     let p = passed_is w H (stamp_micros c.args.now) c.args.self.now.hold c.passed-self.result h.hold c.passed-self.ensures in
     let b = sym (holds_is w H (stamp_micros c.args.now) c.passed-self.result c.is_held.result p c.is_held.ensures) ∙ c.if-not-is_held.false in
     refuses_transfer w H c.args.self.now _ (stamp_micros c.args.now) (pgn_raw c.args.group) c.args.to c.args.bytes.now _ h p
     (sym (transfer_is w H (stamp_micros c.args.now) (pgn_raw c.args.group) c.args.to c.args.bytes.now true true true b
     (ap (λ (v : Who). can_transfer v (pgn_raw c.args.group) c.args.to c.args.bytes.now) (sym h.who) ∙ c.in-Some.ensures.known.0 refl)
-    (sym (engaged_is w H c.args.self.now h) ∙ (sym c.is_busy.ensures.value ∙ c.if-is_busy.true)))) refl
+    (sym (engaged_is w H c.args.self.now (stamp_micros c.args.now) (pgn_raw c.args.group) c.args.to c.passed-self.result h p) ∙ (sym c.refuses.ensures.value ∙ c.if-refuses.true)))) refl
 
 pub returns-in-None : goal.returns-in-None
 returns-in-None c = λ w H h.

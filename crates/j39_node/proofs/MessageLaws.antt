@@ -1,0 +1,226 @@
+-- That every message of one frame ends.
+use Rattle.std.proofs.Common.{◌≡◌, ◌⊎◌, ℕ, zero, suc, ◌+◌, ◌<◌, ◌≤◌, List, [], ◌∷◌, ◌++◌, length, Option, Some, None, Ok, Bool, true, false, ◌||◌, if◌then◌else◌, nat_lt, refl, sym, ap, ◌∙◌, arith, inl, inr, IsTrue}
+use Rattle.std.specs.List.{slice_get}
+use Rattle.j39_frame.specs.Frame.{FrameRecord}
+use Rattle.j39_node.specs.declared.controller.Controller.{Controller}
+use Rattle.j39_node.specs.declared.kinds.Ending.{Ending}
+use Rattle.j39_node.specs.declared.kinds.Ending.TheVariants.{Done, Withdrawn}
+use Rattle.j39_node.specs.History.{Who, Message, Draft, Call, accepted, address_after, claim_address, claim_from, holds, is_acknowledgment, is_claim, is_held, is_lost, is_session, message_from, message_of, moment, owes_claim, request_for, sent, step, told}
+use Rattle.j39_node.specs.History.Call.{Ask, Broadcast, Hear, Send, TakeBroadcastEnded, TakeFrame, Transfer, TakeTransferEnded}
+use Rattle.j39_node.specs.Is.{AreAnswered, Is, IsAnswered, end_of, next_control, next_ended, next_frame, next_long}
+use Rattle.j39_node.specs.Prompt.{IsPrompt, waited_in}
+use Rattle.j39_node.specs.Since.{passed_in}
+use Rattle.j39_node.proofs.AskCases.{AskCase, ask_case}
+use Rattle.j39_node.proofs.AskCases.AskCase.{homeless, unfit, busy, asks}
+use Rattle.j39_node.proofs.LawLemmas.{past_end}
+use Rattle.j39_node.proofs.PromptLaws.{answered_from, keeps_heard, keeps_taken, lost_heard, lost_taken, waited_last}
+use Rattle.j39_node.proofs.PromptView.{Quiet, View, held_older, view}
+use Rattle.j39_node.proofs.PromptView.View.{at_hear, at_none, at_take, at_broadcast, at_broadcast_told, at_transfer, at_transfer_told, at_rest}
+use Rattle.j39_node.proofs.QueueLemmas.{length_one_more}
+use Rattle.j39_node.proofs.SoundLemmas.{SendCase, frame_by, lost_older, send_case, sound}
+use Rattle.j39_node.proofs.SoundLemmas.SendCase.{no_address, bad_value, full, accepts}
+
+-- where no frame is taken from an address that is held, no message waits
+none_waits : (w : Who) (H : List Call) (now : ℕ) → holds w H now ≡ true → (let none : Option (ℕ × Message) = None in none) ≡ next_frame w H now
+    → slice_get (accepted w H) (length (sent H)) ≡ None
+none_waits w H now held e =
+    none (owes_claim w H) (holds w H now) (next_control w H) (slice_get (accepted w H) (length (sent H))) (next_long w H now) held e
+  where
+    none : (o q : Bool) (a : Option Message) (z : Option (ℕ × Message)) (p : Option Message) → q ≡ true
+        → (let none : Option (ℕ × Message) = None in none) ≡ frame_by o q a z p (claim_from w (claim_address w (address_after w H))) now → z ≡ None
+    none true q a z p b e = absurd (cc)
+    none false false a z p b e = absurd (cc)
+    none false true (Some m) z p b e = absurd (cc)
+    none false true None (Some y) p b e = absurd (cc)
+    none false true None None p b e = refl
+
+more_sent : (H : List Call) (now : ℕ) (f : FrameRecord) → length (sent H) ≤ length (sent (TakeFrame now (Some f) ∷ H))
+more_sent H now f = go (is_claim f || (is_acknowledgment f || is_session f))
+  where
+    go : (b : Bool) → length (sent H) ≤ length (if b then sent H else sent H ++ message_of f ∷ [])
+    go true = omega arith
+    go false = let e = length_one_more (sent H) (message_of f) in omega (arith, e)
+
+module _ (w : Who) (B : List Call) (g k : ℕ) where
+  -- taken, or the address is lost; or it waits, and no take answered none since its acceptance
+  data Course (later : List Call) : Type 0 where
+    taken : k < length (sent (later ++ B)) → Course later
+    gone : is_lost (address_after w (later ++ B)) ≡ true → Course later
+    waits : is_held (address_after w (later ++ B)) ≡ true → passed_in later B ≡ waited_in later B → Course later
+
+  record Stands (later : List Call) : Type 0 where
+    pub among : k < length (accepted w (later ++ B))
+    pub course : Course later
+
+  rests : (call : Call) (later : List Call) → Quiet call → Stands later → Stands (call ∷ later)
+  rests call later q h = record { among = (let a = q.accepts w (later ++ B) in let b = h.among in omega (arith, a, b)); course = go h.course }
+    where
+      go : Course later → Course (call ∷ later)
+      go (taken l) = taken (let e = ap length (q.sent_is (later ++ B)) in omega (arith, e, l))
+      go (gone e) = gone (q.lost w (later ++ B) e)
+      go (waits e p) = waits (q.held w (later ++ B) e)
+          (ap (λ (n : ℕ). n + step (later ++ B) (moment (call ∷ later ++ B))) p ∙ sym (q.waits later B))
+
+  passes : (later : List Call) (now : ℕ) → passed_in later B ≡ waited_in later B
+      → passed_in later B + step (later ++ B) now ≡ waited_in later B + step (later ++ B) now
+  passes later now p = ap (λ (n : ℕ). n + step (later ++ B) now) p
+
+  one_more : (call : Call) (later : List Call) → View call → IsAnswered w (later ++ B) call → Stands later → Stands (call ∷ later)
+  one_more call later (at_hear f) a h = record { among = h.among; course = go h.course }
+    where
+      go : Course later → Course (Hear f ∷ later)
+      go (taken l) = taken l
+      go (gone e) = gone (lost_heard w (later ++ B) f e)
+      go (waits e p) = elim (keeps_heard w (later ++ B) f e) [ inl z ↦ gone z | inr z ↦ waits z (passes later f.stamp p) ]
+  one_more call later (at_take now f) a h = record { among = h.among; course = go h.course }
+    where
+      go : Course later → Course (TakeFrame now (Some f) ∷ later)
+      go (taken l) = taken (let e = more_sent (later ++ B) now f in omega (arith, e, l))
+      go (gone e) = gone (lost_taken w (later ++ B) now f e)
+      go (waits e p) = waits (keeps_taken w (later ++ B) now f e) (passes later now p)
+  one_more call later (at_none now) a h = record { among = h.among; course = go h.course }
+    where
+      go : Course later → Course (TakeFrame now None ∷ later)
+      go (taken l) = taken l
+      go (gone e) = gone (lost_older (step (later ++ B) now) (address_after w (later ++ B)) ∙ e)
+      go (waits e p) = taken (let l = past_end (accepted w (later ++ B)) (length (sent (later ++ B)))
+          (none_waits w (later ++ B) now (held_older (step (later ++ B) now) (address_after w (later ++ B)) e) a) in
+          let b = h.among in omega (arith, l, b))
+  one_more call later (at_broadcast now group j bytes) a h = record { among = h.among; course = go h.course }
+    where
+      go : Course later → Course (Broadcast now group bytes (Ok j) ∷ later)
+      go (taken l) = taken l
+      go (gone e) = gone (lost_older (step (later ++ B) now) (address_after w (later ++ B)) ∙ e)
+      go (waits e p) = waits (held_older (step (later ++ B) now) (address_after w (later ++ B)) e) (passes later now p)
+  one_more call later (at_broadcast_told x) a h = record { among = h.among; course = go h.course }
+    where
+      go : Course later → Course (TakeBroadcastEnded (Some x) ∷ later)
+      go (taken l) = taken l
+      go (gone e) = gone e
+      go (waits e p) = waits e (passes later (moment (later ++ B)) p)
+  one_more call later (at_transfer now group to j bytes) a h = record { among = h.among; course = go h.course }
+    where
+      go : Course later → Course (Transfer now group to bytes (Ok j) ∷ later)
+      go (taken l) = taken l
+      go (gone e) = gone (lost_older (step (later ++ B) now) (address_after w (later ++ B)) ∙ e)
+      go (waits e p) = waits (held_older (step (later ++ B) now) (address_after w (later ++ B)) e) (passes later now p)
+  one_more call later (at_transfer_told x) a h = record { among = h.among; course = go h.course }
+    where
+      go : Course later → Course (TakeTransferEnded (Some x) ∷ later)
+      go (taken l) = taken l
+      go (gone e) = gone e
+      go (waits e p) = waits e (passes later (moment (later ++ B)) p)
+  one_more c later (at_rest call q) a h = rests call later q h
+
+  stands : (later : List Call) → AreAnswered w (later ++ B) → Stands [] → Stands later
+  stands [] a h = h
+  stands (call ∷ later) a h = one_more call later (view call) a.1 (stands later a.0 h)
+
+  ends_so : (later : List Call) → Stands later → g < passed_in later B → waited_in later B ≤ g
+      → (k < length (sent (later ++ B))) ⊎ (is_lost (address_after w (later ++ B)) ≡ true)
+  ends_so later h l p = go h.course
+    where
+      go : Course later → (k < length (sent (later ++ B))) ⊎ (is_lost (address_after w (later ++ B)) ≡ true)
+      go (taken z) = inl z
+      go (gone e) = inr e
+      go (waits e q) = absurd (omega (arith, l, p, q))
+
+-- the oldest that isn't told would be told
+some_at : {T : Type 0} (L : List T) (n : ℕ) → n < length L → (x : T) × (slice_get L n ≡ Some x)
+some_at [] n l = absurd (omega (arith, l))
+some_at (x ∷ L) zero l = (x, refl)
+some_at (x ∷ L) (suc n) l = some_at L n (omega (arith, l))
+
+tells : (b lost : Bool) (x : ℕ × Message) → (b ≡ true) ⊎ (lost ≡ true) → (e : Ending) × (end_of b lost (Some x) ≡ Some (x.0, e))
+tells true lost x h = (Done, refl)
+tells false true x h = (Withdrawn, refl)
+tells false false x (inl e) = absurd (let z : false ≡ true = e in cc)
+tells false false x (inr e) = absurd (let z : false ≡ true = e in cc)
+
+told_next : (w : Who) (H : List Call) (k : ℕ) → AreAnswered w H → k < length (accepted w H) → length (told H) ≤ k
+    → (k < length (sent H)) ⊎ (is_lost (address_after w H) ≡ true) → (e : Ending) × (next_ended w H ≡ Some (length (told H), e))
+told_next w H k a l t h =
+    let x = some_at (accepted w H) (length (told H)) (omega (arith, l, t)) in
+    let y = tells (nat_lt (length (told H)) (length (sent H))) (is_lost (address_after w H)) x.0 (go h) in (
+      y.0,
+      ap (end_of (nat_lt (length (told H)) (length (sent H))) (is_lost (address_after w H))) x.1
+          ∙ (y.1 ∙ ap (λ (n : ℕ). (let z : Option (ℕ × Ending) = Some (n, y.0) in z)) ((sound w H a).numbered (length (told H)) x.0 x.1)),
+    )
+  where
+    less : (m n : ℕ) → m < n → nat_lt m n ≡ true
+    less m n z = grind arith
+
+    go : (k < length (sent H)) ⊎ (is_lost (address_after w H) ≡ true)
+        → (nat_lt (length (told H)) (length (sent H)) ≡ true) ⊎ (is_lost (address_after w H) ≡ true)
+    go (inl z) = inl (less _ _ (omega (arith, z, t)))
+    go (inr z) = inr z
+
+-- ---- what was accepted
+
+sent_so : (w : Who) (H : List Call) (now k : ℕ) (d : Draft) → SendCase w H now d (Ok k)
+    → (is_held (address_after w (Send now d (Ok k) ∷ H)) ≡ true) × (k < length (accepted w (Send now d (Ok k) ∷ H)))
+sent_so w H now k d (no_address a e) = absurd (cc)
+sent_so w H now k d (bad_value a b e) = absurd (cc)
+sent_so w H now k d (full a b f e) = absurd (cc)
+sent_so w H now k d (accepts a b f e) =
+    let z : k ≡ length (accepted w H) = cc in
+    let y = length_one_more (accepted w H) (k, message_from w d) in (a, omega (arith, z, y))
+
+asked_so : (w : Who) (H : List Call) (now group to k : ℕ) → AskCase w H now group to (Ok k)
+    → (is_held (address_after w (Ask now group to (Ok k) ∷ H)) ≡ true) × (k < length (accepted w (Ask now group to (Ok k) ∷ H)))
+asked_so w H now group to k (homeless a e) = absurd (cc)
+asked_so w H now group to k (unfit a b e) = absurd (cc)
+asked_so w H now group to k (busy a b f e) = absurd (cc)
+asked_so w H now group to k (asks a b f e) =
+    let z : k ≡ length (accepted w H) = cc in
+    let y = length_one_more (accepted w H) (k, message_from w (request_for group to)) in (a, omega (arith, z, y))
+
+module _ (w : Who) (later B : List Call) (c : Controller) (g k : ℕ) (is : Is w (later ++ B) c)
+    (fits : (is_held (address_after w B) ≡ true) × (k < length (accepted w B))) (prompt : IsPrompt g later B) (l : g < passed_in later B) where
+  here : Stands w B g k later
+  here = stands w B g k later is.answered (record { among = fits.1; course = waits fits.0 refl })
+
+  ends_taken : (k < length (sent (later ++ B))) ⊎ (is_lost (address_after w (later ++ B)) ≡ true)
+  ends_taken = ends_so w B g k later here l (waited_last g later B prompt)
+
+  ends_told : length (told (later ++ B)) ≤ k → (e : Ending) × (next_ended w (later ++ B) ≡ Some (length (told (later ++ B)), e))
+  ends_told t = told_next w (later ++ B) k is.answered here.among t ends_taken
+
+sent_fits : (w : Who) (later earlier : List Call) (c : Controller) (now k : ℕ) (d : Draft) → Is w (later ++ Send now d (Ok k) ∷ earlier) c
+    → (is_held (address_after w (Send now d (Ok k) ∷ earlier)) ≡ true) × (k < length (accepted w (Send now d (Ok k) ∷ earlier)))
+sent_fits w later earlier c now k d is =
+    sent_so w earlier now k d (send_case w earlier now d (Ok k) ((answered_from w later (Send now d (Ok k) ∷ earlier) is.answered).1))
+
+asked_fits : (w : Who) (later earlier : List Call) (c : Controller) (now group to k : ℕ) → Is w (later ++ Ask now group to (Ok k) ∷ earlier) c
+    → (is_held (address_after w (Ask now group to (Ok k) ∷ earlier)) ≡ true) × (k < length (accepted w (Ask now group to (Ok k) ∷ earlier)))
+asked_fits w later earlier c now group to k is =
+    asked_so w earlier now group to k
+    (ask_case w earlier now group to (Ok k) ((answered_from w later (Ask now group to (Ok k) ∷ earlier) is.answered).1))
+
+pub sent_ends : (w : Who) (later earlier : List Call) (c : Controller) (g now k : ℕ) (d : Draft) → Is w (later ++ Send now d (Ok k) ∷ earlier) c
+    → IsPrompt g later (Send now d (Ok k) ∷ earlier) → g < passed_in later (Send now d (Ok k) ∷ earlier)
+    → (k < length (sent (later ++ Send now d (Ok k) ∷ earlier))) ⊎ IsTrue (is_lost (address_after w (later ++ Send now d (Ok k) ∷ earlier)))
+sent_ends w later earlier c g now k d is prompt l =
+    ends_taken w later (Send now d (Ok k) ∷ earlier) c g k is (sent_fits w later earlier c now k d is) prompt l
+
+pub asked_ends : (w : Who) (later earlier : List Call) (c : Controller) (g now group to k : ℕ)
+    → Is w (later ++ Ask now group to (Ok k) ∷ earlier) c → IsPrompt g later (Ask now group to (Ok k) ∷ earlier)
+    → g < passed_in later (Ask now group to (Ok k) ∷ earlier)
+    → (k < length (sent (later ++ Ask now group to (Ok k) ∷ earlier)))
+    ⊎ IsTrue (is_lost (address_after w (later ++ Ask now group to (Ok k) ∷ earlier)))
+asked_ends w later earlier c g now group to k is prompt l =
+    ends_taken w later (Ask now group to (Ok k) ∷ earlier) c g k is (asked_fits w later earlier c now group to k is) prompt l
+
+pub sent_told : (w : Who) (later earlier : List Call) (c : Controller) (g now k : ℕ) (d : Draft) → Is w (later ++ Send now d (Ok k) ∷ earlier) c
+    → IsPrompt g later (Send now d (Ok k) ∷ earlier) → g < passed_in later (Send now d (Ok k) ∷ earlier)
+    → length (told (later ++ Send now d (Ok k) ∷ earlier)) ≤ k
+    → (e : Ending) × (next_ended w (later ++ Send now d (Ok k) ∷ earlier) ≡ Some (length (told (later ++ Send now d (Ok k) ∷ earlier)), e))
+sent_told w later earlier c g now k d is prompt l =
+    ends_told w later (Send now d (Ok k) ∷ earlier) c g k is (sent_fits w later earlier c now k d is) prompt l
+
+pub asked_told : (w : Who) (later earlier : List Call) (c : Controller) (g now group to k : ℕ)
+    → Is w (later ++ Ask now group to (Ok k) ∷ earlier) c → IsPrompt g later (Ask now group to (Ok k) ∷ earlier)
+    → g < passed_in later (Ask now group to (Ok k) ∷ earlier) → length (told (later ++ Ask now group to (Ok k) ∷ earlier)) ≤ k
+    → (e : Ending) × (next_ended w (later ++ Ask now group to (Ok k) ∷ earlier) ≡ Some (length (told (later ++ Ask now group to (Ok k) ∷ earlier)), e))
+asked_told w later earlier c g now group to k is prompt l =
+    ends_told w later (Ask now group to (Ok k) ∷ earlier) c g k is (asked_fits w later earlier c now group to k is) prompt l

@@ -1,0 +1,346 @@
+-- That every broadcast ends, and every message of one frame.
+use Rattle.std.proofs.Math.Nat.{add-mul, suc-mul}
+use Rattle.std.proofs.Common.{◌≡◌, ◌⊎◌, ℕ, zero, suc, ◌+◌, ◌-◌, ◌*◌, ◌<◌, ◌≤◌, List, [], ◌∷◌, ◌++◌, length, Option, Some, None, Ok, Bool, true, false, ◌||◌, if◌then◌else◌, nat_eq, nat_le, nat_lt, refl, sym, ap, ◌∙◌, subst, arith, inl, inr}
+use Rattle.j39_frame.specs.Frame.{FrameRecord}
+use Rattle.j39_transport.specs.Message.{MessageRecord, packets_of}
+use Rattle.j39_transport.specs.Protocol.{gap}
+use Rattle.j39_node.specs.declared.controller.Controller.{Controller}
+use Rattle.j39_node.specs.declared.kinds.Ending.{Ending}
+use Rattle.j39_node.specs.declared.kinds.Ending.TheVariants.{Done, Withdrawn}
+use Rattle.j39_node.specs.History.{Who, Message, Call, Address, address_after, broadcast_from, broadcasts, claimed, frame_of, is_claim, is_held, is_lost, is_open, is_packet, is_smaller, message_of, moment, older, open_broadcast, packets, pause, step}
+use Rattle.j39_node.specs.History.Address.{NotClaimed, Claimed, Lost}
+use Rattle.j39_node.specs.History.Call.{Broadcast, Hear, TakeFrame, Transfer, TakeTransferEnded}
+use Rattle.j39_node.specs.Is.{AreAnswered, Is, IsAnswered, broadcast_end, ending_of, long_by, next_broadcast_ended, next_frame, next_packet, packet_by}
+use Rattle.j39_node.specs.Prompt.{IsPrompt, NoneTold, tells_broadcast, waited_in}
+use Rattle.j39_node.specs.Since.{passed_in}
+use Rattle.j39_address.specs.Claim.{claim_of}
+use Rattle.j39_node.specs.Transfers.{next_transfer}
+use Rattle.j39_node.proofs.LaneLaws.{none_long}
+use Rattle.j39_node.proofs.LaneLemmas.{BroadcastCase, broadcast_case}
+use Rattle.j39_node.proofs.LaneLemmas.BroadcastCase.{homeless, unfit, busy, opens}
+use Rattle.j39_node.proofs.PromptView.{Quiet, View, held_older, stands_still, view}
+use Rattle.j39_node.proofs.PromptView.View.{at_hear, at_none, at_take, at_broadcast, at_broadcast_told, at_transfer, at_transfer_told, at_rest}
+use Rattle.j39_node.proofs.QueueLemmas.{length_one_more}
+use Rattle.j39_node.proofs.SoundLemmas.{lost_claimed, lost_older, packets_is, pause_is}
+
+-- ---- an address that was held is held or lost
+
+held_claimed : (a : Address) → is_held a ≡ true → is_held (claimed a) ≡ true
+held_claimed NotClaimed e = absurd (cc)
+held_claimed (Claimed n) e = e
+held_claimed Lost e = absurd (cc)
+
+pub keeps_heard : (w : Who) (H : List Call) (f : FrameRecord) → is_held (address_after w H) ≡ true
+    → (is_lost (address_after w (Hear f ∷ H)) ≡ true) ⊎ (is_held (address_after w (Hear f ∷ H)) ≡ true)
+keeps_heard w H f e = go (is_smaller w (claim_of f))
+  where
+    go : (b : Bool) → (is_lost (if b then Lost else older (step H f.stamp) (address_after w H)) ≡ true)
+        ⊎ (is_held (if b then Lost else older (step H f.stamp) (address_after w H)) ≡ true)
+    go true = inl refl
+    go false = inr (held_older (step H f.stamp) (address_after w H) e)
+
+pub keeps_taken : (w : Who) (H : List Call) (now : ℕ) (f : FrameRecord) → is_held (address_after w H) ≡ true
+    → is_held (address_after w (TakeFrame now (Some f) ∷ H)) ≡ true
+keeps_taken w H now f e = go (is_claim f)
+  where
+    go : (b : Bool) → is_held (if b then claimed (older (step H now) (address_after w H)) else older (step H now) (address_after w H)) ≡ true
+    go true = held_claimed (older (step H now) (address_after w H)) (held_older (step H now) (address_after w H) e)
+    go false = held_older (step H now) (address_after w H) e
+
+-- what is lost stays lost
+pub lost_heard : (w : Who) (H : List Call) (f : FrameRecord) → is_lost (address_after w H) ≡ true → is_lost (address_after w (Hear f ∷ H)) ≡ true
+lost_heard w H f e = go (is_smaller w (claim_of f))
+  where
+    go : (b : Bool) → is_lost (if b then Lost else older (step H f.stamp) (address_after w H)) ≡ true
+    go true = refl
+    go false = lost_older (step H f.stamp) (address_after w H) ∙ e
+
+pub lost_taken : (w : Who) (H : List Call) (now : ℕ) (f : FrameRecord) → is_lost (address_after w H) ≡ true
+    → is_lost (address_after w (TakeFrame now (Some f) ∷ H)) ≡ true
+lost_taken w H now f e = go (is_claim f)
+  where
+    go : (b : Bool) → is_lost (if b then claimed (older (step H now) (address_after w H)) else older (step H now) (address_after w H)) ≡ true
+    go true = lost_claimed (older (step H now) (address_after w H)) ∙ (lost_older (step H now) (address_after w H) ∙ e)
+    go false = lost_older (step H now) (address_after w H) ∙ e
+
+-- ---- when the next frame of a broadcast is taken at the latest
+
+-- after c of its frames the gap is over so long after its acceptance at most
+due_by : ℕ → ℕ → ℕ
+due_by g c = gap + c * (gap + g)
+
+due_more : (g c : ℕ) → due_by g (suc c) ≡ due_by g c + (gap + g)
+unfolding due_by
+due_more g c = let e = suc-mul c (gap + g) in omega (arith, e)
+
+due_last : (g c n : ℕ) → c ≤ n → due_by g c + g ≤ (n + 1) * (gap + g)
+unfolding due_by
+due_last g c n l =
+    let e : n + 1 ≡ suc c + (n - c) = omega (arith, l) in
+    let a = ap (λ (k : ℕ). k * (gap + g)) e in
+    let b = add-mul (suc c) (n - c) (gap + g) in
+    let d = suc-mul c (gap + g) in
+    omega (arith, a, b, d)
+
+-- so long after the acceptance, with so much of the gap left, and so long after a take that answered none
+record Timely (g count passed left waited : ℕ) : Type 0 where
+  pub soon : 0 < left → passed + left ≤ due_by g count
+  pub late : passed ≤ due_by g count + waited
+
+accepted_now : (g left : ℕ) → left ≤ gap → Timely g 0 0 left 0
+unfolding due_by
+accepted_now g left l = record { soon = λ z. omega (arith, l); late = omega arith }
+
+passes : (g count passed left waited s : ℕ) → Timely g count passed left waited → Timely g count (passed + s) (left - s) (waited + s)
+passes g count passed left waited s h = record {
+  soon = λ z. (let a = h.soon (omega (arith, z)) in omega (arith, a, z));
+  late = (let a = h.late in omega (arith, a));
+}
+
+finds_none : (g count passed left waited s : ℕ) → Timely g count passed left waited → 0 < left - s → Timely g count (passed + s) (left - s) 0
+finds_none g count passed left waited s h l =
+    let a = h.soon (omega (arith, l)) in record { soon = λ z. omega (arith, a, l); late = omega (arith, a, l) }
+
+packs_one : (g count passed left waited s : ℕ) → Timely g count passed left waited → waited + s ≤ g → Timely g (suc count) (passed + s) gap (waited + s)
+packs_one g count passed left waited s h p =
+    let a = h.late in let e = due_more g count in record { soon = λ z. omega (arith, a, e, p); late = omega (arith, a, e) }
+
+-- ---- the course of a broadcast
+
+module _ (w : Who) (B : List Call) (g k : ℕ) (m : MessageRecord) where
+  data Course (later : List Call) : Type 0 where
+    over : packets_of m < length (packets (later ++ B)) → Course later
+    gone : is_lost (address_after w (later ++ B)) ≡ true → Course later
+    runs : is_held (address_after w (later ++ B)) ≡ true
+        → Timely g (length (packets (later ++ B))) (passed_in later B) (pause (later ++ B)) (waited_in later B) → Course later
+
+  record Stands (later : List Call) : Type 0 where
+    pub broadcast : open_broadcast w (later ++ B) ≡ Some (k, m)
+    pub course : Course later
+
+  -- a call that lets time pass alone
+  rests : (call : Call) (later : List Call) → Quiet call → Stands later → Stands (call ∷ later)
+  rests call later q h = record { broadcast = q.broadcast w (later ++ B) ∙ h.broadcast; course = go h.course }
+    where
+      same : length (packets (call ∷ later ++ B)) ≡ length (packets (later ++ B))
+      same = ap length (q.packets_are (later ++ B))
+
+      go : Course later → Course (call ∷ later)
+      go (over l) = over (omega (arith, l, same))
+      go (gone e) = gone (q.lost w (later ++ B) e)
+      go (runs e t) = runs (q.held w (later ++ B) e)
+          (subst (λ (n : ℕ). Timely g n (passed_in (call ∷ later) B) (pause (call ∷ later ++ B)) (waited_in (call ∷ later) B)) (sym same)
+          (subst (λ (n : ℕ). Timely g (length (packets (later ++ B))) (passed_in (call ∷ later) B) n (waited_in (call ∷ later) B)) (sym (q.pause_is (later ++ B)))
+          (subst (λ (n : ℕ). Timely g (length (packets (later ++ B))) (passed_in (call ∷ later) B) (pause (later ++ B) - step (later ++ B) (moment (call ∷ later ++ B))) n) (sym (q.waits later B))
+          (passes g _ _ _ _ (step (later ++ B) (moment (call ∷ later ++ B))) t))))
+
+  -- a frame is heard
+  hears_one : (f : FrameRecord) (later : List Call) → Stands later → Stands (Hear f ∷ later)
+  hears_one f later h = record { broadcast = h.broadcast; course = go h.course }
+    where
+      go : Course later → Course (Hear f ∷ later)
+      go (over l) = over l
+      go (gone e) = gone (lost_heard w (later ++ B) f e)
+      go (runs e t) = elim (keeps_heard w (later ++ B) f e) [
+        | inl z ↦ gone z
+        | inr z ↦ runs z (passes g _ _ _ _ (step (later ++ B) f.stamp) t)
+      ]
+
+  -- a frame is taken
+  takes_one : (now : ℕ) (f : FrameRecord) (later : List Call) → waited_in later B + step (later ++ B) now ≤ g → Stands later
+      → Stands (TakeFrame now (Some f) ∷ later)
+  takes_one now f later p h = record { broadcast = h.broadcast; course = go (is_packet f) refl h.course }
+    where
+      G : List Call
+      G = TakeFrame now (Some f) ∷ later ++ B
+
+      go : (b : Bool) → is_packet f ≡ b → Course later → Course (TakeFrame now (Some f) ∷ later)
+      go true i (over l) =
+          over (let n = ap length (packets_is (later ++ B) now f true i) in let o = length_one_more (packets (later ++ B)) (message_of f) in omega (arith, l, n, o))
+      go false i (over l) = over (let n = ap length (packets_is (later ++ B) now f false i) in omega (arith, l, n))
+      go b i (gone e) = gone (lost_taken w (later ++ B) now f e)
+      go true i (runs e t) = runs (keeps_taken w (later ++ B) now f e)
+          (subst (λ (n : ℕ). Timely g n (passed_in (TakeFrame now (Some f) ∷ later) B) (pause G) (waited_in (TakeFrame now (Some f) ∷ later) B))
+          (sym (ap length (packets_is (later ++ B) now f true i) ∙ length_one_more (packets (later ++ B)) (message_of f)))
+          (subst (λ (n : ℕ). Timely g (suc (length (packets (later ++ B)))) (passed_in (TakeFrame now (Some f) ∷ later) B) n (waited_in (TakeFrame now (Some f) ∷ later) B))
+          (sym (pause_is (later ++ B) now f true i))
+          (packs_one g _ _ _ _ (step (later ++ B) now) t p)))
+      go false i (runs e t) = runs (keeps_taken w (later ++ B) now f e)
+          (subst (λ (n : ℕ). Timely g n (passed_in (TakeFrame now (Some f) ∷ later) B) (pause G) (waited_in (TakeFrame now (Some f) ∷ later) B))
+          (sym (ap length (packets_is (later ++ B) now f false i)))
+          (subst (λ (n : ℕ). Timely g (length (packets (later ++ B))) (passed_in (TakeFrame now (Some f) ∷ later) B) n (waited_in (TakeFrame now (Some f) ∷ later) B))
+          (sym (pause_is (later ++ B) now f false i))
+          (passes g _ _ _ _ (step (later ++ B) now) t)))
+
+  -- none is taken: the gap isn't over, or all were
+  no_packet : (now i left : ℕ) → packet_by (Some (k, m)) i left ≡ None → (packets_of m < i) ⊎ (0 < left)
+  no_packet now i zero e = go (nat_le i (packets_of m)) refl e
+    where
+      past : (a b : ℕ) → nat_le a b ≡ false → b < a
+      past a b z = grind arith
+
+      go : (b : Bool) → nat_le i (packets_of m) ≡ b → (if b then Some (frame_of m i) else None) ≡ None → (packets_of m < i) ⊎ (0 < 0)
+      go true z y = absurd (cc)
+      go false z y = inl (past _ _ z)
+  no_packet now i (suc left) e = inr (omega arith)
+
+  first_none : (a b : Option Message) → long_by a b ≡ None → a ≡ None
+  first_none None b e = refl
+  first_none (Some x) b e = absurd (cc)
+
+  takes_no_frame : (now : ℕ) (later : List Call) → (let none : Option (ℕ × Message) = None in none) ≡ next_frame w (later ++ B) now → Stands later
+      → Stands (TakeFrame now None ∷ later)
+  takes_no_frame now later answer h = record { broadcast = h.broadcast; course = go h.course }
+    where
+      G : List Call
+      G = later ++ B
+
+      s : ℕ
+      s = step G now
+
+      go : Course later → Course (TakeFrame now None ∷ later)
+      go (over l) = over l
+      go (gone e) = gone (lost_older (step (later ++ B) now) (address_after w (later ++ B)) ∙ e)
+      go (runs e t) =
+          elim (no_packet now (length (packets (later ++ B))) (pause (later ++ B) - step (later ++ B) now)
+          (ap (λ (o : Option (ℕ × MessageRecord)). packet_by o (length (packets (later ++ B))) (pause (later ++ B) - step (later ++ B) now)) (sym h.broadcast)
+          ∙ first_none (next_packet w (later ++ B) now) (next_transfer w (later ++ B) now)
+          (none_long w (later ++ B) now (held_older (step (later ++ B) now) (address_after w (later ++ B)) e) answer))) [
+            | inl z ↦ over z
+            | inr z ↦ runs (held_older (step (later ++ B) now) (address_after w (later ++ B)) e) (finds_none g _ _ _ _ (step (later ++ B) now) t z)
+          ]
+
+  -- no other is accepted
+  none_begins : (later : List Call) (now group j : ℕ) (bytes : List ℕ) → open_broadcast w (later ++ B) ≡ Some (k, m)
+      → BroadcastCase w (later ++ B) now group bytes (Ok j) → ⊥
+  none_begins later now group j bytes o (homeless a e) = absurd (cc)
+  none_begins later now group j bytes o (unfit a b e) = absurd (cc)
+  none_begins later now group j bytes o (busy a b f e) = absurd (cc)
+  none_begins later now group j bytes o (opens a b f e) =
+      let z : true ≡ false = sym (ap (λ (x : Option (ℕ × MessageRecord)). is_open x || nat_eq (length (broadcasts w (later ++ B))) 18446744073709551615) o) ∙ f in
+      absurd (cc)
+
+  one_more : (call : Call) (later : List Call) → View call → IsAnswered w (later ++ B) call → tells_broadcast call ≡ false
+      → waited_in later B + step (later ++ B) (moment (call ∷ later ++ B)) ≤ g → Stands later → Stands (call ∷ later)
+  one_more call later (at_hear f) a n p h = hears_one f later h
+  one_more call later (at_take now f) a n p h = takes_one now f later p h
+  one_more call later (at_none now) a n p h = takes_no_frame now later a h
+  one_more call later (at_broadcast now group j bytes) a n p h =
+      absurd (none_begins later now group j bytes h.broadcast (broadcast_case w (later ++ B) now group bytes (Ok j) a))
+  one_more call later (at_broadcast_told x) a n p h = absurd (let z : true ≡ false = n in cc)
+  one_more call later (at_transfer now group to j bytes) a n p h = record { broadcast = h.broadcast; course = go h.course }
+    where
+      go : Course later → Course (Transfer now group to bytes (Ok j) ∷ later)
+      go (over l) = over l
+      go (gone e) = gone (lost_older (step (later ++ B) now) (address_after w (later ++ B)) ∙ e)
+      go (runs e t) = runs (held_older (step (later ++ B) now) (address_after w (later ++ B)) e) (passes g _ _ _ _ (step (later ++ B) now) t)
+  one_more call later (at_transfer_told x) a n p h = record { broadcast = h.broadcast; course = go h.course }
+    where
+      s : ℕ
+      s = step (later ++ B) (moment (later ++ B))
+
+      go : Course later → Course (TakeTransferEnded (Some x) ∷ later)
+      go (over l) = over l
+      go (gone e) = gone e
+      go (runs e t) = runs e
+          (subst (λ (n : ℕ). Timely g (length (packets (later ++ B))) (passed_in (TakeTransferEnded (Some x) ∷ later) B) n (waited_in (TakeTransferEnded (Some x) ∷ later) B))
+          (sym (stands_still (pause (later ++ B)) (moment (later ++ B)))) (passes g _ _ _ _ (step (later ++ B) (moment (later ++ B))) t))
+  one_more c later (at_rest call q) a n p h = rests call later q h
+
+  stands : (later : List Call) → AreAnswered w (later ++ B) → NoneTold tells_broadcast later → IsPrompt g later B → Stands [] → Stands later
+  stands [] a n p h = h
+  stands (call ∷ later) a n p h = one_more call later (view call) a.1 n.0 p.1 (stands later a.0 n.1 p.0 h)
+
+  -- then its end would be told
+  ends_by : (i : ℕ) (b lost : Bool) → nat_lt (packets_of m) i ≡ b → (packets_of m < i) ⊎ (lost ≡ true) → (e : Ending) × (ending_of b lost k ≡ Some (k, e))
+  ends_by i true lost z h = (Done, refl)
+  ends_by i false true z h = (Withdrawn, refl)
+  ends_by i false false z (inl l) = absurd (not_past _ _ z l)
+    where
+      not_past : (a b : ℕ) → nat_lt a b ≡ false → a < b → ⊥
+      not_past a b y l = absurd (let x : b ≤ a = grind arith in omega (arith, x, l))
+  ends_by i false false z (inr l) = absurd (let y : false ≡ true = l in cc)
+
+  ends_so : (later : List Call) → Stands later → (packets_of m + 1) * (gap + g) < passed_in later B → waited_in later B ≤ g
+      → (e : Ending) × (next_broadcast_ended w (later ++ B) ≡ Some (k, e))
+  ends_so later h l p =
+      let x = ends_by (length (packets (later ++ B))) (nat_lt (packets_of m) (length (packets (later ++ B)))) (is_lost (address_after w (later ++ B))) refl (go h.course) in
+      (x.0, ap (λ (o : Option (ℕ × MessageRecord)). broadcast_end o (length (packets (later ++ B))) (is_lost (address_after w (later ++ B)))) h.broadcast ∙ x.1)
+    where
+      past : (a b : ℕ) → nat_le a b ≡ false → b < a
+      past a b z = grind arith
+
+      le_is : (a b : ℕ) → nat_le a b ≡ true → a ≤ b
+      le_is a b z = grind arith
+
+      go : Course later → (packets_of m < length (packets (later ++ B))) ⊎ (is_lost (address_after w (later ++ B)) ≡ true)
+      go (over z) = inl z
+      go (gone e) = inr e
+      go (runs e t) = most (nat_le (length (packets (later ++ B))) (packets_of m)) refl
+        where
+          most : (b : Bool) → nat_le (length (packets (later ++ B))) (packets_of m) ≡ b
+              → (packets_of m < length (packets (later ++ B))) ⊎ (is_lost (address_after w (later ++ B)) ≡ true)
+          most true z =
+              let d = due_last g (length (packets (later ++ B))) (packets_of m) (le_is _ _ z) in
+              let a = t.late in absurd (omega (arith, a, d, l, p))
+          most false z = inl (past _ _ z)
+
+-- the last call came in time
+waited_call : (g : ℕ) (call : Call) (later B : List Call) → View call → waited_in later B + step (later ++ B) (moment (call ∷ later ++ B)) ≤ g
+    → waited_in (call ∷ later) B ≤ g
+waited_call g call later B (at_hear f) p = p
+waited_call g call later B (at_take now f) p = p
+waited_call g call later B (at_none now) p = omega arith
+waited_call g call later B (at_broadcast now group j bytes) p = p
+waited_call g call later B (at_broadcast_told x) p = p
+waited_call g call later B (at_transfer now group to j bytes) p = p
+waited_call g call later B (at_transfer_told x) p = p
+waited_call g c later B (at_rest call q) p = let e = q.waits later B in omega (arith, e, p)
+
+pub waited_last : (g : ℕ) (later B : List Call) → IsPrompt g later B → waited_in later B ≤ g
+waited_last g [] B p = omega arith
+waited_last g (call ∷ later) B p = waited_call g call later B (view call) p.1
+
+-- never is more left than the gap
+less_left : (p s : ℕ) → p ≤ gap → p - s ≤ gap
+less_left p s l = omega (arith, l)
+
+pause_call : (call : Call) (H : List Call) → View call → pause H ≤ gap → pause (call ∷ H) ≤ gap
+pause_call call H (at_hear f) l = less_left (pause H) (step H f.stamp) l
+pause_call call H (at_take now f) l = go (is_packet f)
+  where
+    go : (b : Bool) → (if b then gap else pause H - step H now) ≤ gap
+    go true = omega arith
+    go false = less_left (pause H) (step H now) l
+pause_call call H (at_none now) l = less_left (pause H) (step H now) l
+pause_call call H (at_broadcast now group j bytes) l = less_left (pause H) (step H now) l
+pause_call call H (at_broadcast_told x) l = l
+pause_call call H (at_transfer now group to j bytes) l = less_left (pause H) (step H now) l
+pause_call call H (at_transfer_told x) l = l
+pause_call c H (at_rest call q) l = let e = q.pause_is H in let a = less_left (pause H) (step H (moment (call ∷ H))) l in omega (arith, e, a)
+
+pause_most : (H : List Call) → pause H ≤ gap
+pause_most [] = omega arith
+pause_most (call ∷ H) = pause_call call H (view call) (pause_most H)
+
+pub answered_from : (w : Who) (later B : List Call) → AreAnswered w (later ++ B) → AreAnswered w B
+answered_from w [] B a = a
+answered_from w (call ∷ later) B a = answered_from w later B a.0
+
+pub broadcast_ends : (w : Who) (later earlier : List Call) (c : Controller) (g now group k : ℕ) (bytes : List ℕ)
+    → Is w (later ++ Broadcast now group bytes (Ok k) ∷ earlier) c → NoneTold tells_broadcast later
+    → IsPrompt g later (Broadcast now group bytes (Ok k) ∷ earlier)
+    → (packets_of (broadcast_from w group bytes) + 1) * (gap + g) < passed_in later (Broadcast now group bytes (Ok k) ∷ earlier)
+    → (e : Ending) × (next_broadcast_ended w (later ++ Broadcast now group bytes (Ok k) ∷ earlier) ≡ Some (k, e))
+broadcast_ends w later earlier c g now group k bytes is none prompt l =
+    let B = Broadcast now group bytes (Ok k) ∷ earlier in
+    ends_so w B g k (broadcast_from w group bytes) later
+    (stands w B g k (broadcast_from w group bytes) later is.answered none prompt
+    (record { broadcast = refl; course = runs (held (broadcast_case w earlier now group bytes (Ok k) ((answered_from w later B is.answered).1))) (accepted_now g (pause B) (pause_most B)) }))
+    l (waited_last g later B prompt)
+  where
+    held : BroadcastCase w earlier now group bytes (Ok k) → is_held (address_after w (Broadcast now group bytes (Ok k) ∷ earlier)) ≡ true
+    held (homeless a e) = absurd (cc)
+    held (unfit a b e) = absurd (cc)
+    held (busy a b f e) = absurd (cc)
+    held (opens a b f e) = a
