@@ -468,7 +468,9 @@ int32_t j1939_controller_send(j1939_controller *controller, uint64_t micros, uin
 int32_t j1939_controller_broadcast(j1939_controller *controller, uint64_t micros, uint32_t pgn, const uint8_t *payload,
                                    size_t size, uint64_t *token);
 
-/** The same to another's address (J1939-21, 5.10.3), as that clears it; 255 is none.
+/** The same to another's address (J1939-21, 5.10.3), as that clears it; 255 is none. J1939_FULL also for 4 s after the
+ * end of one of this group to this address was told that was not acknowledged, and, where one of another pair ended so
+ * in these 4 s, for 4 s after that.
  * @return 0, 1, J1939_BAD_VALUE, J1939_NO_PART, J1939_NO_ADDRESS, J1939_FULL */
 int32_t j1939_controller_transfer(j1939_controller *controller, uint64_t micros, uint32_t pgn, uint8_t to,
                                   const uint8_t *payload, size_t size, uint64_t *token);
@@ -491,8 +493,9 @@ enum {
 enum {
     J1939_ENDED_DONE = 1,         /**< its frames were taken; a transfer was acknowledged; a group came in answer */
     J1939_ENDED_WITHDRAWN = 2,    /**< the address was lost before */
-    J1939_ENDED_FAILED = 3,       /**< a transfer was aborted, as detail says: by the receiver for its reason, for 3 where
-                                       that was silent, for 5 where it cleared nothing new too often; it may have arrived */
+    J1939_ENDED_FAILED = 3,       /**< a transfer was aborted, as detail says: by the receiver for its reason, for 3
+                                       where that was silent, for 5 where it cleared nothing new too often; it may have
+                                       arrived */
     J1939_ENDED_GONE = 4,         /**< who held the address that a transfer went to no longer does */
     J1939_ENDED_ACKNOWLEDGED = 5, /**< a request was acknowledged, as detail says: J1939_ACK and so on */
     J1939_ENDED_TIMED_OUT = 6     /**< a request had no answer for 1,250 ms after its frame was taken */

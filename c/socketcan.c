@@ -30,10 +30,8 @@
 #include <unistd.h>
 
 /* In microseconds: the time between two values, between two messages of fault codes, between two requests; how long it
- * waits for others to come before it sends anything but claims, and for room in a full queue; and how long nothing goes
- * to another in packets after a transfer that was not acknowledged (docs/RULES.md, "The rule of use"). */
-static const uint64_t VALUES = 100000, FAULTS = 1000000, AGAIN = 500000, PATIENCE = 1000000, ROOM = 2000,
-                      REST = 4200000;
+ * waits for others to come before it sends anything but claims, and for room in a full queue. */
+static const uint64_t VALUES = 100000, FAULTS = 1000000, AGAIN = 500000, PATIENCE = 1000000, ROOM = 2000;
 
 /* The groups of vehicle identification, of the engine speed and its parameter (J1939-71), of active fault codes
  * (J1939-73), and of a commanded address (J1939-81). */
@@ -51,7 +49,6 @@ typedef struct {
     j1939_controller controller;
     uint64_t values_due, faults_due; /* when the next value and the next fault codes are sent */
     uint64_t request_due;   /* when the other's VIN is asked for */
-    uint64_t rests;         /* till when no transfer begins */
     uint64_t own;           /* the token of its VIN, while that is on its way */
     int is_sent, is_done;   /* its VIN is on its way or over; it was acknowledged */
     uint8_t wanted;         /* the address that it goes to once all that was handed in has ended; NOBODY for none */
@@ -154,10 +151,9 @@ static int next_frame(const station *s, uint64_t due, j1939_frame *frame) {
 /* Hands in the VIN, to all or to one controller; whether it was accepted. */
 static int send_vin(station *s, uint8_t to, uint64_t now, uint64_t *token) {
     const uint8_t *vin = (const uint8_t *)s->vin;
-    if (to == EVERYBODY)
-        return accepted(j1939_controller_broadcast(&s->controller, now, VIN_GROUP, vin, VIN_SIZE, token));
-    return now >= s->rests
-           && accepted(j1939_controller_transfer(&s->controller, now, VIN_GROUP, to, vin, VIN_SIZE, token));
+    return accepted(to == EVERYBODY
+                        ? j1939_controller_broadcast(&s->controller, now, VIN_GROUP, vin, VIN_SIZE, token)
+                        : j1939_controller_transfer(&s->controller, now, VIN_GROUP, to, vin, VIN_SIZE, token));
 }
 
 /* Hands in an engine speed, in thousandths of an rpm. */
@@ -254,12 +250,10 @@ static void hear(station *s, const j1939_frame *frame) {
 }
 
 /* Takes what ended. */
-static void take_ended(station *s, uint64_t now) {
+static void take_ended(station *s) {
     j1939_ended ended;
     for (int32_t kind; (kind = sure(j1939_controller_take_ended(&s->controller, &ended))) != 0;) {
-        if (kind != J1939_ENDED_TRANSFER) continue;
-        if (ended.ending != J1939_ENDED_DONE) s->rests = now + REST;
-        if (ended.token != s->own) continue;
+        if (kind != J1939_ENDED_TRANSFER || ended.token != s->own) continue;
         s->is_done = ended.ending == J1939_ENDED_DONE;
         s->is_sent = ended.ending != J1939_ENDED_WITHDRAWN;
         s->own = UINT64_MAX;
@@ -286,7 +280,7 @@ static uint64_t speak(station *s, uint64_t now) {
 static uint64_t turn(station *s, uint64_t now) {
     uint64_t due;
     sure(j1939_controller_tick(&s->controller, now));
-    take_ended(s, now);
+    take_ended(s);
     move(s); /* before it says that it can't claim an address */
     if (s->wanted == NOBODY) send_own(s, now);
     due = speak(s, now);

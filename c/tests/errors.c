@@ -465,7 +465,7 @@ static void messages_of(j1939_controller *controller) {
     EXPECT(ended.token == 0 && ended.ending == J1939_ENDED_DONE && j1939_controller_take_ended(controller, &ended) == 0);
 }
 
-/* A transfer to nobody fails for 3; a request that nobody answers ends, and one is refused. */
+/* A transfer to nobody fails for 3, and rests; a request that nobody answers ends, and one is refused. */
 static void ends_of(j1939_controller *controller) {
     j1939_frame refusal = {
         .micros = 4500000, .id = 0x18E8FF03, .len = 8, .data = {2, 0xFF, 0xFF, 0xFF, 0x80, 0xEC, 0xFE, 0}};
@@ -479,6 +479,7 @@ static void ends_of(j1939_controller *controller) {
     EXPECT(taken(controller, 2750001) == 0x1CEC0380 && out.data[0] == 0xFF && out.data[1] == 3);
     EXPECT(j1939_controller_take_ended(controller, &ended) == J1939_ENDED_TRANSFER);
     EXPECT(ended.token == 0 && ended.ending == J1939_ENDED_FAILED && ended.detail == 3);
+    EXPECT(j1939_controller_transfer(controller, 2750001, 65260, 3, payload, 9, &token) == J1939_FULL); /* it rests */
     EXPECT(j1939_controller_ask(controller, 3000000, 65260, 3, &token) == 1 && token == 16);
     EXPECT(taken(controller, 3000000) == 0x18EA0380 && out.len == 3 && out.data[0] == 0xEC);
     EXPECT(j1939_controller_take_ended(controller, &ended) == J1939_ENDED_MESSAGE && ended.token == 16);
