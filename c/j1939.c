@@ -40,22 +40,33 @@ int32_t j39_sender_new(j1939_handle *sender, uint8_t source, uint8_t destination
 int32_t j39_sender_tick(j1939_handle *sender, uint64_t micros, j1939_frame *out);
 int32_t j39_sender_on(j1939_handle *sender, const j1939_frame *frame);
 int32_t j39_sender_state(j1939_handle *sender, uint8_t *reason);
-int32_t j39_controller_new(j1939_handle *controller, uint64_t name, uint8_t preferred);
-int32_t j39_controller_pass(j1939_handle *controller, uint64_t micros);
-int32_t j39_controller_turn(j1939_handle *controller, uint64_t micros);
+int32_t j39_controller_new(j1939_handle *controller, uint64_t name, uint8_t address, const uint32_t *served,
+                           size_t count);
 int32_t j39_controller_hear(j1939_handle *controller, const j1939_frame *frame);
-int32_t j39_controller_wish(j1939_handle *controller, uint32_t *id);
-int32_t j39_controller_take_frame(j1939_handle *controller, j1939_frame *out, size_t *number);
-int32_t j39_controller_held(j1939_handle *controller, uint8_t *address);
-int32_t j39_controller_free_at(j1939_handle *controller, uint64_t micros, uint8_t *address);
-int32_t j39_controller_send(j1939_handle *controller, const j1939_frame *frame, size_t number);
-int32_t j39_controller_broadcast(j1939_handle *controller, size_t number, uint32_t pgn, const uint8_t *payload,
-                                 size_t size, uint64_t micros);
-int32_t j39_controller_transfer(j1939_handle *controller, size_t number, uint8_t to, uint32_t pgn,
-                                const uint8_t *payload, size_t size, uint64_t micros);
-int32_t j39_controller_take_received(j1939_handle *controller, j1939_message *message, uint8_t *destination);
-int32_t j39_controller_take_asked(j1939_handle *controller, j1939_request *request);
-int32_t j39_controller_take_settled(j1939_handle *controller, size_t *number, uint8_t *reason);
+int32_t j39_controller_tick(j1939_handle *controller, uint64_t micros);
+int32_t j39_controller_next_tick(j1939_handle *controller, uint64_t *due);
+int32_t j39_controller_take_frame(j1939_handle *controller, uint64_t micros, j1939_frame *out);
+int32_t j39_controller_peek_frame(j1939_handle *controller, uint64_t micros, j1939_frame *out);
+int32_t j39_controller_next_due(j1939_handle *controller, uint64_t *due);
+int32_t j39_controller_status(j1939_handle *controller, uint8_t *address);
+int32_t j39_controller_holder(j1939_handle *controller, uint8_t address, uint64_t *name);
+int32_t j39_controller_address_of(j1939_handle *controller, uint64_t name, uint8_t *address);
+int32_t j39_controller_free_address(j1939_handle *controller, uint8_t *address);
+int32_t j39_controller_move_to(j1939_handle *controller, uint8_t address);
+int32_t j39_controller_send(j1939_handle *controller, uint64_t micros, uint8_t priority, uint32_t pgn, uint8_t to,
+                            const uint8_t *payload, size_t size, uint64_t *token);
+int32_t j39_controller_broadcast(j1939_handle *controller, uint64_t micros, uint32_t pgn, const uint8_t *payload,
+                                 size_t size, uint64_t *token);
+int32_t j39_controller_transfer(j1939_handle *controller, uint64_t micros, uint32_t pgn, uint8_t to,
+                                const uint8_t *payload, size_t size, uint64_t *token);
+int32_t j39_controller_ask(j1939_handle *controller, uint64_t micros, uint32_t pgn, uint8_t to, uint64_t *token);
+int32_t j39_controller_take_ended(j1939_handle *controller, j1939_ended *ended);
+int32_t j39_controller_take_received(j1939_handle *controller, j1939_message *message, uint8_t *priority);
+int32_t j39_controller_missed(j1939_handle *controller, uint64_t *count);
+int32_t j39_controller_take_request(j1939_handle *controller, j1939_request *request);
+int32_t j39_controller_acknowledge(j1939_handle *controller, uint64_t micros, const j1939_request *request,
+                                   uint8_t answer);
+int32_t j39_controller_take_news(j1939_handle *controller);
 
 int32_t j1939_id_split(uint32_t id, j1939_id_fields *fields) {
     return fields ? j39_id_split(id, fields) : J1939_NULL;
@@ -226,67 +237,108 @@ int32_t j1939_sender_close(j1939_sender *sender) {
     return sender ? close_handle(&sender->handle) : J1939_NULL;
 }
 
-int32_t j1939_controller_new(j1939_controller *controller, uint64_t name, uint8_t preferred) {
-    return controller ? j39_controller_new(&controller->handle, name, preferred) : J1939_NULL;
-}
-
-int32_t j1939_controller_pass(j1939_controller *controller, uint64_t micros) {
-    return controller ? j39_controller_pass(&controller->handle, micros) : J1939_NULL;
-}
-
-int32_t j1939_controller_turn(j1939_controller *controller, uint64_t micros) {
-    return controller ? j39_controller_turn(&controller->handle, micros) : J1939_NULL;
+int32_t j1939_controller_new(j1939_controller *controller, uint64_t name, uint8_t address, const uint32_t *served,
+                             size_t count) {
+    static const uint32_t none[1] = {0};
+    if (!controller || (!served && count)) return J1939_NULL;
+    return j39_controller_new(&controller->handle, name, address, served ? served : none, count);
 }
 
 int32_t j1939_controller_hear(j1939_controller *controller, const j1939_frame *frame) {
     return controller && frame ? j39_controller_hear(&controller->handle, frame) : J1939_NULL;
 }
 
-int32_t j1939_controller_wish(j1939_controller *controller, uint32_t *id) {
-    return controller && id ? j39_controller_wish(&controller->handle, id) : J1939_NULL;
+int32_t j1939_controller_tick(j1939_controller *controller, uint64_t micros) {
+    return controller ? j39_controller_tick(&controller->handle, micros) : J1939_NULL;
 }
 
-int32_t j1939_controller_take_frame(j1939_controller *controller, j1939_frame *out, size_t *number) {
-    return controller && out && number ? j39_controller_take_frame(&controller->handle, out, number) : J1939_NULL;
+int32_t j1939_controller_next_tick(j1939_controller *controller, uint64_t *due) {
+    return controller && due ? j39_controller_next_tick(&controller->handle, due) : J1939_NULL;
 }
 
-int32_t j1939_controller_held(j1939_controller *controller, uint8_t *address) {
-    return controller && address ? j39_controller_held(&controller->handle, address) : J1939_NULL;
+int32_t j1939_controller_take_frame(j1939_controller *controller, uint64_t micros, j1939_frame *out) {
+    return controller && out ? j39_controller_take_frame(&controller->handle, micros, out) : J1939_NULL;
 }
 
-int32_t j1939_controller_free_at(j1939_controller *controller, uint64_t micros, uint8_t *address) {
-    return controller && address ? j39_controller_free_at(&controller->handle, micros, address) : J1939_NULL;
+int32_t j1939_controller_peek_frame(j1939_controller *controller, uint64_t micros, j1939_frame *out) {
+    return controller && out ? j39_controller_peek_frame(&controller->handle, micros, out) : J1939_NULL;
 }
 
-int32_t j1939_controller_send(j1939_controller *controller, const j1939_frame *frame, size_t number) {
-    return controller && frame ? j39_controller_send(&controller->handle, frame, number) : J1939_NULL;
+int32_t j1939_controller_next_due(j1939_controller *controller, uint64_t *due) {
+    return controller && due ? j39_controller_next_due(&controller->handle, due) : J1939_NULL;
 }
 
-int32_t j1939_controller_broadcast(j1939_controller *controller, size_t number, uint32_t pgn, const uint8_t *payload,
-                                   size_t size, uint64_t micros) {
-    return controller && payload ? j39_controller_broadcast(&controller->handle, number, pgn, payload, size, micros)
-                                 : J1939_NULL;
+int32_t j1939_controller_status(j1939_controller *controller, uint8_t *address) {
+    return controller && address ? j39_controller_status(&controller->handle, address) : J1939_NULL;
 }
 
-int32_t j1939_controller_transfer(j1939_controller *controller, size_t number, uint8_t to, uint32_t pgn,
-                                  const uint8_t *payload, size_t size, uint64_t micros) {
-    return controller && payload ? j39_controller_transfer(&controller->handle, number, to, pgn, payload, size, micros)
-                                 : J1939_NULL;
+int32_t j1939_controller_holder(j1939_controller *controller, uint8_t address, uint64_t *name) {
+    return controller && name ? j39_controller_holder(&controller->handle, address, name) : J1939_NULL;
 }
 
-int32_t j1939_controller_take_received(j1939_controller *controller, j1939_message *message, uint8_t *destination) {
-    return controller && message && destination
-               ? j39_controller_take_received(&controller->handle, message, destination)
+int32_t j1939_controller_address_of(j1939_controller *controller, uint64_t name, uint8_t *address) {
+    return controller && address ? j39_controller_address_of(&controller->handle, name, address) : J1939_NULL;
+}
+
+int32_t j1939_controller_free_address(j1939_controller *controller, uint8_t *address) {
+    return controller && address ? j39_controller_free_address(&controller->handle, address) : J1939_NULL;
+}
+
+int32_t j1939_controller_move_to(j1939_controller *controller, uint8_t address) {
+    return controller ? j39_controller_move_to(&controller->handle, address) : J1939_NULL;
+}
+
+int32_t j1939_controller_send(j1939_controller *controller, uint64_t micros, uint8_t priority, uint32_t pgn, uint8_t to,
+                              const uint8_t *payload, size_t size, uint64_t *token) {
+    return controller && payload && token
+               ? j39_controller_send(&controller->handle, micros, priority, pgn, to, payload, size, token)
                : J1939_NULL;
 }
 
-int32_t j1939_controller_take_asked(j1939_controller *controller, j1939_request *request) {
-    return controller && request ? j39_controller_take_asked(&controller->handle, request) : J1939_NULL;
+int32_t j1939_controller_broadcast(j1939_controller *controller, uint64_t micros, uint32_t pgn, const uint8_t *payload,
+                                   size_t size, uint64_t *token) {
+    return controller && payload && token
+               ? j39_controller_broadcast(&controller->handle, micros, pgn, payload, size, token)
+               : J1939_NULL;
 }
 
-int32_t j1939_controller_take_settled(j1939_controller *controller, size_t *number, uint8_t *reason) {
-    return controller && number && reason ? j39_controller_take_settled(&controller->handle, number, reason)
-                                          : J1939_NULL;
+int32_t j1939_controller_transfer(j1939_controller *controller, uint64_t micros, uint32_t pgn, uint8_t to,
+                                  const uint8_t *payload, size_t size, uint64_t *token) {
+    return controller && payload && token
+               ? j39_controller_transfer(&controller->handle, micros, pgn, to, payload, size, token)
+               : J1939_NULL;
+}
+
+int32_t j1939_controller_ask(j1939_controller *controller, uint64_t micros, uint32_t pgn, uint8_t to, uint64_t *token) {
+    return controller && token ? j39_controller_ask(&controller->handle, micros, pgn, to, token) : J1939_NULL;
+}
+
+int32_t j1939_controller_take_ended(j1939_controller *controller, j1939_ended *ended) {
+    return controller && ended ? j39_controller_take_ended(&controller->handle, ended) : J1939_NULL;
+}
+
+int32_t j1939_controller_take_received(j1939_controller *controller, j1939_message *message, uint8_t *priority) {
+    return controller && message && priority
+               ? j39_controller_take_received(&controller->handle, message, priority)
+               : J1939_NULL;
+}
+
+int32_t j1939_controller_missed(j1939_controller *controller, uint64_t *count) {
+    return controller && count ? j39_controller_missed(&controller->handle, count) : J1939_NULL;
+}
+
+int32_t j1939_controller_take_request(j1939_controller *controller, j1939_request *request) {
+    return controller && request ? j39_controller_take_request(&controller->handle, request) : J1939_NULL;
+}
+
+int32_t j1939_controller_acknowledge(j1939_controller *controller, uint64_t micros, const j1939_request *request,
+                                     uint8_t answer) {
+    return controller && request ? j39_controller_acknowledge(&controller->handle, micros, request, answer)
+                                 : J1939_NULL;
+}
+
+int32_t j1939_controller_take_news(j1939_controller *controller) {
+    return controller ? j39_controller_take_news(&controller->handle) : J1939_NULL;
 }
 
 int32_t j1939_controller_close(j1939_controller *controller) {

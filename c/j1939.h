@@ -8,9 +8,9 @@
  * sources of the library, in the crate j39_c, whose README says it in words.
  *
  * Answers. A call answers below 0 where it did nothing, and why: one of the J1939_ codes. Then what it was handed is
- * as it was; only a controller may have done some of a call where memory was refused. 0 says that there is no more to
- * say, and 1 and above what stands in the parameters that it wrote to. A call's answers stand behind its @return; what
- * it doesn't write at one of them is as it was. J1939_NULL comes of each call with a pointer, and isn't named there.
+ * as it was; only for a controller time may have passed. 0 says that there is no more to say, and 1 and above what
+ * stands in the parameters that it wrote to. A call's answers stand behind its @return; what it doesn't write at one of
+ * them is as it was. J1939_NULL comes of each call with a pointer, and isn't named there.
  *
  * Storage. j1939_node, j1939_claims and j1939_broadcast are plain data in your own memory: make them by their .._init.
  * They take no memory besides, need no close, and may be copied. A j1939_controller, a j1939_listener, a
@@ -18,8 +18,8 @@
  * close it by its .._close. What it holds lies on the heap and is the library's. Frames, messages, readings and texts
  * are your own, and are copied.
  *
- * A j1939_controller is a node, an assembler, a receiver, a sender and its broadcasts in one loop. Take the others
- * where you write a loop of your own, or listen only.
+ * A j1939_controller is a node, a receiver, a sender and its broadcasts in one. Take the others where you write a loop
+ * of your own, or listen only.
  *
  * What you owe, since no library can test it:
  *  - a pointer that is not NULL points to memory of its type, or of the size that you say (NULL is tested);
@@ -51,7 +51,9 @@ enum {
     J1939_IN_USE = -4,    /**< the handle is open */
     J1939_NO_ROOM = -5,   /**< the text does not fit */
     J1939_END = -6,       /**< there are no more */
-    J1939_NULL = -7       /**< a pointer is NULL */
+    J1939_NULL = -7,      /**< a pointer is NULL */
+    J1939_NO_ADDRESS = -8, /**< the controller holds no address */
+    J1939_FULL = -9        /**< as many wait as there is room for */
 };
 
 /** A frame (J1939-21, 5.2). */
@@ -74,7 +76,7 @@ typedef struct {
     uint8_t source;              /**< the address that sent it */
     uint8_t is_named;            /**< 0 where no claim tells who sent it */
     uint8_t data[J1939_LONGEST]; /**< its bytes */
-    uint8_t is_addressed;        /**< 0 where no destination is told: only a listener tells one */
+    uint8_t is_addressed;        /**< 0 where no destination is told */
     uint8_t destination;         /**< the address it was sent to, 255 for all, where is_addressed is not 0 */
 } j1939_message;
 
@@ -177,8 +179,9 @@ typedef struct {
  * @return 0 */
 int32_t j1939_broadcast_init(j1939_broadcast *broadcast);
 
-/** What to do at a moment for the broadcast of these bytes, the same at each call: 1 where out is to be sent now, 0 to ask
- * again at due, 2 where all was sent. Two frames stand 50 ms apart or more. J1939_BAD_VALUE as from j1939_cut_frame.
+/** What to do at a moment for the broadcast of these bytes, the same at each call: 1 where out is to be sent now, 0 to
+ * ask again at due, 2 where all was sent. Two frames stand 50 ms apart or more. J1939_BAD_VALUE as from
+ * j1939_cut_frame.
  * @return 0 to 2, J1939_BAD_VALUE */
 int32_t j1939_broadcast_poll(j1939_broadcast *broadcast, uint8_t source, uint32_t pgn, const uint8_t *payload,
                              size_t size, uint64_t micros, j1939_frame *out, uint64_t *due);
@@ -372,84 +375,159 @@ int32_t j1939_sender_state(j1939_sender *sender, uint8_t *reason);
  * @return 0 */
 int32_t j1939_sender_close(j1939_sender *sender);
 
-/* ---- a controller: all of it in one loop (J1939-21, J1939-81)
+/* ---- a controller (J1939-21, J1939-81)
  *
- * At each frame that another controller sent: j1939_controller_hear, and then .._take_received and .._take_asked until
- * they answer 0. Each 10 to 80 ms: j1939_controller_pass; then hand in what is to be sent, by .._send, .._broadcast or
- * .._transfer; then j1939_controller_turn; then .._take_settled until it answers 0, and, as the bus is free,
- * .._take_frame. What is not taken is kept, without limit. Messages are handed in under a number of your own, by which
- * their end is told.
+ * It claims one address, defends it, and sends and receives from there. A frame is made when it is taken: so what
+ * j1939_controller_take_frame hands out is to go out at once. The loop:
+ *  - at each frame that another controller sent, j1939_controller_hear, and then .._take_received, .._take_request and
+ *    .._take_news until they answer 0;
+ *  - at the sooner of j1939_controller_next_tick and .._next_due, after each frame that is heard, and after what is
+ *    handed in: j1939_controller_tick; then .._take_frame until it answers 0, or, where the driver may have no room,
+ *    .._peek_frame first; and then .._take_ended until it answers 0.
  *
- * Where a smaller NAME claims its address it claims the least free one of 128 to 247, if its NAME is arbitrary and one
- * is free. Else "cannot claim" is to be sent, from address 254, and it holds no address again but by a commanded one.
- * J1939-81 has "cannot claim" wait a random time up to 153 ms: that is yours. What it was sending is withdrawn.
+ * What it hands out waits for you: 16 messages of one frame, 16 requests, and one message in packets of each kind. What
+ * comes beyond is refused, or told by j1939_controller_missed.
  *
- * A call with a handle that holds no controller answers J1939_NO_PART, but for .._new and .._close. After
- * J1939_NO_MEMORY from .._pass, .._turn and .._hear some of the call may be done, and its claim may be lost, though it
- * holds the address later: take what there is to take, which stays, close it then, and open another one. */
+ * A call with a handle that holds no controller answers J1939_NO_PART, but for .._new and .._close. Where a message is
+ * not accepted, by J1939_BAD_VALUE for a moment or a group out of range nothing has changed, and else time alone has
+ * passed. J1939_NO_ADDRESS comes where no address is held. */
 
-/** Opens a controller of this NAME, to start with this address; J1939_BAD_VALUE for an address above 253.
+/** Opens a controller of this NAME, that will claim this address, and whose program serves these groups: a request for
+ * another group is refused. J1939_BAD_VALUE for an address above 253, more than 16 groups, or one of 2^18 and above.
+ * Where count is 0, served may be NULL. It takes all its memory here: some 15 kB.
  * @return 0, J1939_BAD_VALUE, J1939_NO_MEMORY, J1939_IN_USE */
-int32_t j1939_controller_new(j1939_controller *controller, uint64_t name, uint8_t preferred);
+int32_t j1939_controller_new(j1939_controller *controller, uint64_t name, uint8_t address, const uint32_t *served,
+                             size_t count);
 
-/** Lets time pass for its address (J1939-81, 4.2): the first call claims the preferred one, and 250 ms later it is
- * held.
- * @return 0, J1939_BAD_VALUE, J1939_NO_PART, J1939_NO_MEMORY */
-int32_t j1939_controller_pass(j1939_controller *controller, uint64_t micros);
-
-/** Lets time pass for its messages, where it holds an address: a frame of a broadcast, a frame of a transfer, and what
- * its receiver asks for again are to be sent then.
- * @return 0, J1939_BAD_VALUE, J1939_NO_PART, J1939_NO_MEMORY */
-int32_t j1939_controller_turn(j1939_controller *controller, uint64_t micros);
-
-/** Shows it a frame that another controller sent, of any group, at the frame's own moment. It answers claims,
- * requests for claims, transfers to it, and a commanded address.
- * @return 0, J1939_BAD_VALUE, J1939_NO_PART, J1939_NO_MEMORY */
+/** Shows it a frame that another controller sent, of any group, at the frame's own moment.
+ * @return 0, J1939_BAD_VALUE, J1939_NO_PART */
 int32_t j1939_controller_hear(j1939_controller *controller, const j1939_frame *frame);
 
-/** The identifier of the frame that it wishes to send next, for arbitration: 1 and the identifier, or 0. Its frames go
- * out in the order in which they came to wait.
+/** Lets time pass: so an address comes to be held, and of what comes in packets to it, it asks again for what is late,
+ * or gives it up.
+ * @return 0, J1939_BAD_VALUE, J1939_NO_PART */
+int32_t j1939_controller_tick(j1939_controller *controller, uint64_t micros);
+
+/** When the next tick is due, if no frame is heard till then: 1 and the moment, or 0.
  * @return 0, 1, J1939_NO_PART */
-int32_t j1939_controller_wish(j1939_controller *controller, uint32_t *id);
+int32_t j1939_controller_next_tick(j1939_controller *controller, uint64_t *due);
 
-/** Takes the frame that it wishes to send next, which counts as sent then; its moment says since when it waits, not
- * when it goes out. 0 where none waits, or this one may not go out any more: it is dropped then, and the next call has
- * what is behind it. Else *out goes out: 1 it is a claim or a frame of a transfer, and *number stays as it was; 2 it is
- * a frame of message *number, 3 that message's last. While no address is held, claims alone go out.
- * @return 0 to 3, J1939_NO_PART */
-int32_t j1939_controller_take_frame(j1939_controller *controller, j1939_frame *out, size_t *number);
-
-/** The address that it holds: 1 and the address, or 0: it did not claim yet, claims for less than 250 ms, or cannot.
- * @return 0, 1, J1939_NO_PART */
-int32_t j1939_controller_held(j1939_controller *controller, uint8_t *address);
-
-/** The address that a message may begin from: 1 and the address, or 0: it holds none, a message is on its way, or a
- * transfer failed or was withdrawn within 4 s.
+/** Takes the frame that goes out now; by this it counts as sent: 1 where *out goes out, else 0. First go claims, then
+ * acknowledgments, what it says as a receiver, messages of one frame, broadcasts, and transfers. The first call claims
+ * the address, which is held 250 ms later; till then, and where it is lost, claims alone go out.
  * @return 0, 1, J1939_BAD_VALUE, J1939_NO_PART */
-int32_t j1939_controller_free_at(j1939_controller *controller, uint64_t micros, uint8_t *address);
+int32_t j1939_controller_take_frame(j1939_controller *controller, uint64_t micros, j1939_frame *out);
 
-/** Hands in a frame that is a message by itself. It goes out where its source is the address that is held and it is
- * no claim; else it is told as J1939_ENDED_WITHDRAWN. J1939_BAD_VALUE for a frame that is out of range.
- * @return 0, J1939_BAD_VALUE, J1939_NO_PART, J1939_NO_MEMORY */
-int32_t j1939_controller_send(j1939_controller *controller, const j1939_frame *frame, size_t number);
+/** The frame that .._take_frame would hand out now; nothing changes by it. A driver whose queue may be full takes it
+ * once it lies there.
+ * @return 0, 1, J1939_BAD_VALUE, J1939_NO_PART */
+int32_t j1939_controller_peek_frame(j1939_controller *controller, uint64_t micros, j1939_frame *out);
 
-/** Begins to broadcast these bytes (J1939-21, 5.10.3.5): 1 where the message has begun, 0 where none may begin
- * (j1939_controller_free_at). J1939_BAD_VALUE outside 9 to 1785 bytes, for a group of 2^18 and above or a moment of
- * 10^16 and above. The bytes are copied.
- * @return 0, 1, J1939_BAD_VALUE, J1939_NO_PART, J1939_NO_MEMORY */
-int32_t j1939_controller_broadcast(j1939_controller *controller, size_t number, uint32_t pgn, const uint8_t *payload,
-                                   size_t size, uint64_t micros);
-
-/** Begins to send these bytes to an address (J1939-21, 5.10.3): 1 where the message has begun, 0 where none may begin.
- * J1939_BAD_VALUE for an address above 253 too. The bytes are copied.
- * @return 0, 1, J1939_BAD_VALUE, J1939_NO_PART, J1939_NO_MEMORY */
-int32_t j1939_controller_transfer(j1939_controller *controller, size_t number, uint8_t to, uint32_t pgn,
-                                  const uint8_t *payload, size_t size, uint64_t micros);
-
-/** Takes the oldest message of 9 to 1785 bytes that it received, with no NAME: 1 where there is one, else 0. It went to
- * *destination: 255 for a broadcast, else the controller's address.
+/** Before which moment .._take_frame answers 0, if nothing is heard or handed in till then: 1 and the moment, which is
+ * that of the last call where a frame can be taken already; or 0. No time passes by .._peek_frame.
  * @return 0, 1, J1939_NO_PART */
-int32_t j1939_controller_take_received(j1939_controller *controller, j1939_message *message, uint8_t *destination);
+int32_t j1939_controller_next_due(j1939_controller *controller, uint64_t *due);
+
+/** How far it is with its address at the moment of the last call: J1939_IDLE (its first claim wasn't taken),
+ * J1939_CLAIMING, J1939_HOLDING, J1939_CANNOT (it was lost), and the address, 254 where there is none.
+ * @return 0 to 3, J1939_NO_PART */
+int32_t j1939_controller_status(j1939_controller *controller, uint8_t *address);
+
+/** Who holds an address, by the claims heard and its own that were taken: 1 and the NAME, or 0.
+ * @return 0, 1, J1939_NO_PART */
+int32_t j1939_controller_holder(j1939_controller *controller, uint8_t address, uint64_t *name);
+
+/** The address that a NAME holds, by the same claims: 1 and the address, or 0.
+ * @return 0, 1, J1939_NO_PART */
+int32_t j1939_controller_address_of(j1939_controller *controller, uint64_t name, uint8_t *address);
+
+/** The least address of 128 to 247 that nobody holds, by the same claims: 1 and the address, or 0. A controller that
+ * lost its address may move there, if its NAME is arbitrary.
+ * @return 0, 1, J1939_NO_PART */
+int32_t j1939_controller_free_address(j1939_controller *controller, uint8_t *address);
+
+/** Begins anew at another address, which it will claim, with what it knows of who holds which, and with nothing else;
+ * tokens begin with 0 again. 1 where it does. 0, where nothing changes, for an address above 253, and until all that
+ * was accepted is told to have ended, and what was received, requests and news are taken. What else was due is dropped.
+ * A command to move (J1939-81, 4.2.3) is received like any message.
+ * @return 0, 1, J1939_NO_PART */
+int32_t j1939_controller_move_to(j1939_controller *controller, uint8_t address);
+
+/** Hands in a message of 0 to 8 bytes, of a priority 0 (the highest) to 7, to all (255) or to another's address; a
+ * group of PF 240 and above goes to all. 1 and its token: 0, 1, 2 and so on. J1939_BAD_VALUE for more bytes, another
+ * priority, its own address, 254, a group that no identifier can have, and the groups of claims (60928),
+ * acknowledgments (59392) and packets (60160, 60416). J1939_FULL while 16 are accepted and not told by .._take_ended.
+ * @return 0, 1, J1939_BAD_VALUE, J1939_NO_PART, J1939_NO_ADDRESS, J1939_FULL */
+int32_t j1939_controller_send(j1939_controller *controller, uint64_t micros, uint8_t priority, uint32_t pgn, uint8_t to,
+                              const uint8_t *payload, size_t size, uint64_t *token);
+
+/** Hands in a message of 9 to 1785 bytes to all (J1939-21, 5.10.3.5), 50 ms or more from frame to frame: 1 and its
+ * token, of a count of its own. J1939_BAD_VALUE as of .._send. J1939_FULL while one is accepted and not told. The bytes
+ * are copied.
+ * @return 0, 1, J1939_BAD_VALUE, J1939_NO_PART, J1939_NO_ADDRESS, J1939_FULL */
+int32_t j1939_controller_broadcast(j1939_controller *controller, uint64_t micros, uint32_t pgn, const uint8_t *payload,
+                                   size_t size, uint64_t *token);
+
+/** The same to another's address (J1939-21, 5.10.3), as that clears it; 255 is none. J1939_FULL also for 4 s after the
+ * end of one of this group to this address was told that was not acknowledged, and, where one of another pair ended so
+ * in these 4 s, for 4 s after that.
+ * @return 0, 1, J1939_BAD_VALUE, J1939_NO_PART, J1939_NO_ADDRESS, J1939_FULL */
+int32_t j1939_controller_transfer(j1939_controller *controller, uint64_t micros, uint32_t pgn, uint8_t to,
+                                  const uint8_t *payload, size_t size, uint64_t *token);
+
+/** Asks an address, or all (255), for a group (J1939-21, 5.4.2): 1 and its token, one of the count of .._send. That its
+ * frame went out is told as of a message, and how it ended as of a request. What is sent in answer is received like any
+ * message. J1939_FULL while one is accepted and not told, or 16 messages are.
+ * @return 0, 1, J1939_BAD_VALUE, J1939_NO_PART, J1939_NO_ADDRESS, J1939_FULL */
+int32_t j1939_controller_ask(j1939_controller *controller, uint64_t micros, uint32_t pgn, uint8_t to, uint64_t *token);
+
+/** What ended. */
+enum {
+    J1939_ENDED_MESSAGE = 1,   /**< a message of one frame */
+    J1939_ENDED_BROADCAST = 2, /**< a message in packets to all */
+    J1939_ENDED_TRANSFER = 3,  /**< one to an address */
+    J1939_ENDED_REQUEST = 4    /**< a request */
+};
+
+/** How it ended. */
+enum {
+    J1939_ENDED_DONE = 1,         /**< its frames were taken; a transfer was acknowledged; a group came in answer */
+    J1939_ENDED_WITHDRAWN = 2,    /**< the address was lost before */
+    J1939_ENDED_FAILED = 3,       /**< a transfer was aborted, as detail says: by the receiver for its reason, for 3
+                                       where that was silent, for 5 where it cleared nothing new too often; it may have
+                                       arrived */
+    J1939_ENDED_GONE = 4,         /**< who held the address that a transfer went to no longer does */
+    J1939_ENDED_ACKNOWLEDGED = 5, /**< a request was acknowledged, as detail says: J1939_ACK and so on */
+    J1939_ENDED_TIMED_OUT = 6     /**< a request had no answer for 1,250 ms after its frame was taken */
+};
+
+/** How something ended that was accepted. */
+typedef struct {
+    uint64_t token; /**< its token */
+    uint8_t ending; /**< J1939_ENDED_DONE and so on */
+    uint8_t detail; /**< a reason, or an acknowledgment; else 0 */
+} j1939_ended;
+
+/** Takes how something ended, each once: 0 where nothing did; J1939_ENDED_MESSAGE and so on where it stands in *ended.
+ * @return 0 to 4, J1939_NO_PART */
+int32_t j1939_controller_take_ended(j1939_controller *controller, j1939_ended *ended);
+
+/** What was received. */
+enum {
+    J1939_RECEIVED_FRAME = 1,    /**< a message of 0 to 8 bytes, to all or to its address */
+    J1939_RECEIVED_TRANSFER = 2, /**< one in packets to its address */
+    J1939_RECEIVED_BROADCAST = 3 /**< one in packets to all */
+};
+
+/** Takes a message that was received, each once: 0 where there is none; J1939_RECEIVED_FRAME and so on where it stands
+ * in *message. It has no NAME. Of J1939_RECEIVED_FRAME alone *priority is written, and the message has its destination;
+ * requests and what the stack itself speaks are none. Of the two others by this there is room for the next.
+ * @return 0 to 3, J1939_NO_PART */
+int32_t j1939_controller_take_received(j1939_controller *controller, j1939_message *message, uint8_t *priority);
+
+/** How many messages were missed, since 16 lay unread, or another broadcast in packets lay there or was heard: *count.
+ * @return 0, J1939_NO_PART */
+int32_t j1939_controller_missed(j1939_controller *controller, uint64_t *count);
 
 /** A request for a group (J1939-21, 5.4.2). */
 typedef struct {
@@ -458,22 +536,30 @@ typedef struct {
     uint8_t destination; /**< 255 where all are asked, else the controller's address */
 } j1939_request;
 
-/** Takes the oldest request, to it or to all, for a group other than claims: 1 where there is one, else 0. The answer
- * is yours to send.
+/** Takes a request for a group that the program serves, each once: 1 where there is one, else 0. Answer it by the
+ * group, to all where all were asked, else to who asked; or by j1939_controller_acknowledge.
  * @return 0, 1, J1939_NO_PART */
-int32_t j1939_controller_take_asked(j1939_controller *controller, j1939_request *request);
+int32_t j1939_controller_take_request(j1939_controller *controller, j1939_request *request);
 
-/** How a message ended. */
+/** How a request is acknowledged (J1939-21, 5.4.4). */
+enum { J1939_ACK = 0, J1939_NACK = 1, J1939_DENIED = 2, J1939_BUSY = 3 };
+
+/** Acknowledges a request to its address. J1939_BAD_VALUE for one to all, which is never acknowledged, another answer,
+ * a group of 2^18 and above, or a moment of 10^16 and above. J1939_FULL while 16 are due.
+ * @return 0, J1939_BAD_VALUE, J1939_NO_PART, J1939_NO_ADDRESS, J1939_FULL */
+int32_t j1939_controller_acknowledge(j1939_controller *controller, uint64_t micros, const j1939_request *request,
+                                     uint8_t answer);
+
+/** What happened. */
 enum {
-    J1939_ENDED_DONE = 1,     /**< the receiver of a transfer acknowledged it */
-    J1939_ENDED_FAILED = 2,   /**< a transfer was aborted, for 3 where the receiver was silent; it may be delivered */
-    J1939_ENDED_WITHDRAWN = 3 /**< the address was lost, or was not held, before all its frames went out */
+    J1939_NEWS_LOST = 1,    /**< a smaller NAME claimed its address */
+    J1939_NEWS_ANOTHER = 2, /**< another sends from the address that it holds, and no claim */
+    J1939_NEWS_MISSED = 3   /**< messages were missed (j1939_controller_missed) */
 };
 
-/** Takes the oldest end of a message: J1939_ENDED_DONE and so on, and its number, with the reason where it is
- * J1939_ENDED_FAILED; 0 where there is none. Broadcasts and single frames that went out are not told.
+/** Takes what happened, each once: J1939_NEWS_LOST and so on, or 0.
  * @return 0 to 3, J1939_NO_PART */
-int32_t j1939_controller_take_settled(j1939_controller *controller, size_t *number, uint8_t *reason);
+int32_t j1939_controller_take_news(j1939_controller *controller);
 
 /** Closes it. Closing an empty one does nothing.
  * @return 0 */

@@ -1,12 +1,13 @@
-/* A controller on a CAN interface of Linux: it claims an address and keeps it, sends an engine speed, receives what is
- * sent to it, and answers requests for its VIN. Where it has a destination it sends that its VIN once, and asks for the
- * other's until one came. What it sends is printed as candump -L writes it, once the interface took it: where its queue is
- * full the frame waits, and is handed over again.
+/* A controller on a CAN interface of Linux: it claims an address and keeps it, sends an engine speed each 100 ms and
+ * its fault codes each second, receives what is sent to it, and answers requests for its VIN and its fault codes. Where
+ * it has a destination it sends that its VIN once, and asks for the other's until it came. Where it loses its address
+ * it goes on at a free one, if its NAME may choose; and it obeys a commanded address. What it sends is printed as
+ * candump -L writes it, once the interface took it: where its queue is full the frame waits, and is handed over again.
  *
- *   socketcan INTERFACE NAME ADDRESS [DESTINATION]   on an interface, until SIGINT or SIGTERM: NAME and the addresses are hex
- *   socketcan --socketpair                           two of them in two processes, for two seconds, with a socketpair
- *                                                    for a bus: both claim address 80; one sends the other its VIN,
- *                                                    and asks for the other's
+ *   socketcan INTERFACE NAME ADDRESS [DESTINATION]   on an interface, until SIGINT or SIGTERM: NAME and the addresses
+ *   are hex socketcan --socketpair                           two of them in two processes, for two seconds, with a
+ *                                                    socketpair for a bus: both claim address 80; one sends the other
+ *                                                    its VIN, and asks for the other's
  */
 #define _DEFAULT_SOURCE
 #include "j1939.h"
@@ -28,30 +29,30 @@
 #include <time.h>
 #include <unistd.h>
 
-/* The time between two turns of the loop, between two values, and between two requests, in microseconds; and how long it
- * waits for others to come before it sends anything but claims. */
-static const uint64_t TURN = 10000, PERIOD = 100000, AGAIN = 500000, PATIENCE = 1000000;
+/* In microseconds: the time between two values, between two messages of fault codes, between two requests; how long it
+ * waits for others to come before it sends anything but claims, and for room in a full queue. */
+static const uint64_t VALUES = 100000, FAULTS = 1000000, AGAIN = 500000, PATIENCE = 1000000, ROOM = 2000;
 
-/* The numbers of its messages: its own VIN, answers to requests, and what goes in one frame. */
-enum { OWN, ANSWER, SINGLE };
-
-/* The groups of vehicle identification and of the engine speed, and its parameter (J1939-71); that of requests (-21). */
-enum { VIN_GROUP = 65260, VIN_SIZE = 17, EEC1 = 61444, ENGINE_SPEED = 190, REQUEST = 59904 };
+/* The groups of vehicle identification, of the engine speed and its parameter (J1939-71), of active fault codes
+ * (J1939-73), and of a commanded address (J1939-81). */
+enum { VIN_GROUP = 65260, VIN_SIZE = 17, EEC1 = 61444, ENGINE_SPEED = 190, DM1 = 65226, COMMANDED_ADDRESS = 65240 };
 enum { NOBODY = 254, EVERYBODY = 255 };
+static const uint32_t SERVED[] = {VIN_GROUP, DM1};
 
 typedef struct {
     const char *bus;        /* what the bus is called where frames are printed */
     int socket;
-    uint64_t start, begins; /* when it came to the bus, and how long it waits before it claims */
+    uint64_t name, start;   /* when it came to the bus */
+    uint64_t begins;        /* how long it waits before it claims */
     uint8_t destination;    /* whom it sends its message to; NOBODY for nobody */
     const char *vin;
     j1939_controller controller;
-    uint64_t value_due;     /* when the next value is sent */
+    uint64_t values_due, faults_due; /* when the next value and the next fault codes are sent */
     uint64_t request_due;   /* when the other's VIN is asked for */
+    uint64_t own;           /* the token of its VIN, while that is on its way */
     int is_sent, is_done;   /* its VIN is on its way or over; it was acknowledged */
-    unsigned received;      /* how many messages came */
-    j1939_frame waiting;    /* a frame that the interface didn't take yet, where there is one */
-    int has_waiting;
+    uint8_t wanted;         /* the address that it goes to once all that was handed in has ended; NOBODY for none */
+    unsigned received;      /* how many messages came in packets */
 } station;
 
 /* Set by a signal that asks it to end. */
@@ -74,6 +75,10 @@ static uint64_t moment(void) {
     return micros_of(CLOCK_MONOTONIC);
 }
 
+static uint64_t sooner(uint64_t one, uint64_t other) {
+    return one < other ? one : other;
+}
+
 /* Ends the program where a call answers an error: each is a fault of this program, or want of memory. */
 static int32_t sure(int32_t answer) {
     if (answer < 0) {
@@ -81,6 +86,12 @@ static int32_t sure(int32_t answer) {
         exit(1);
     }
     return answer;
+}
+
+/* Whether something was accepted; else no address is held, there is no room, or it may not go: it was asked for by
+ * another at its own address. */
+static int accepted(int32_t answer) {
+    return answer != J1939_NO_ADDRESS && answer != J1939_FULL && answer != J1939_BAD_VALUE && sure(answer) == 1;
 }
 
 /* ---- the bus */
@@ -91,10 +102,9 @@ static void fail(void) {
     exit(1);
 }
 
-/* Prints a frame that was sent. */
-static void print(const station *s, const j1939_frame *frame) {
+/* Prints a frame that was sent, with the moment just before: so an answer to it has a later one. */
+static void print(const station *s, const j1939_frame *frame, uint64_t now) {
     char line[80];
-    uint64_t now = micros_of(CLOCK_REALTIME);
     int size = snprintf(line, sizeof line, "(%010" PRIu64 ".%06" PRIu64 ") %.16s %08" PRIX32 "#", now / 1000000,
                         now % 1000000, s->bus, frame->id);
     for (int i = 0; i < frame->len; i++)
@@ -106,12 +116,13 @@ static void print(const station *s, const j1939_frame *frame) {
 /* Hands a frame to the interface, and prints it; 0 where there is no room for it now. */
 static int say(const station *s, const j1939_frame *frame) {
     struct can_frame can = {.can_id = frame->id | CAN_EFF_FLAG, .can_dlc = frame->len};
+    uint64_t now = micros_of(CLOCK_REALTIME);
     memcpy(can.data, frame->data, frame->len);
     if (send(s->socket, &can, sizeof can, MSG_DONTWAIT) != sizeof can) {
         if (errno != ENOBUFS && errno != EAGAIN && errno != EINTR) fail();
         return 0;
     }
-    print(s, frame);
+    print(s, frame, now);
     return 1;
 }
 
@@ -137,49 +148,86 @@ static int next_frame(const station *s, uint64_t due, j1939_frame *frame) {
 
 /* ---- the controller */
 
-/* Begins to send the VIN, to all or to one controller; 0 where no message may begin now. */
-static int send_vin(station *s, size_t number, uint8_t to, uint64_t now) {
+/* Hands in the VIN, to all or to one controller; whether it was accepted. */
+static int send_vin(station *s, uint8_t to, uint64_t now, uint64_t *token) {
     const uint8_t *vin = (const uint8_t *)s->vin;
-    return sure(to == EVERYBODY
-                    ? j1939_controller_broadcast(&s->controller, number, VIN_GROUP, vin, VIN_SIZE, now)
-                    : j1939_controller_transfer(&s->controller, number, to, VIN_GROUP, vin, VIN_SIZE, now));
+    return accepted(to == EVERYBODY
+                        ? j1939_controller_broadcast(&s->controller, now, VIN_GROUP, vin, VIN_SIZE, token)
+                        : j1939_controller_transfer(&s->controller, now, VIN_GROUP, to, vin, VIN_SIZE, token));
 }
 
-/* Sends a frame of a group to all or to one controller, where it holds an address. */
-static void send_frame(station *s, j1939_frame *frame, uint32_t pgn, uint8_t priority, uint8_t to) {
-    j1939_id_fields id = {.pgn = pgn, .priority = priority, .destination = to};
-    if (!sure(j1939_controller_held(&s->controller, &id.source))) return;
-    sure(j1939_id_compose(&id, &frame->id));
-    sure(j1939_controller_send(&s->controller, frame, SINGLE));
-}
-
-/* Sends an engine speed, in thousandths of an rpm. */
+/* Hands in an engine speed, in thousandths of an rpm. */
 static void send_speed(station *s, int64_t speed, uint64_t now) {
-    j1939_frame frame = {.micros = now, .len = 8};
+    uint8_t data[8];
     uint32_t raw;
+    uint64_t token;
     if (!sure(j1939_raw_of(ENGINE_SPEED, speed, &raw))) return;
-    memset(frame.data, 0xFF, sizeof frame.data); /* what isn't measured */
-    frame.data[3] = (uint8_t)raw, frame.data[4] = (uint8_t)(raw >> 8); /* bytes 4 and 5, as J1939 counts them */
-    send_frame(s, &frame, EEC1, 3, EVERYBODY);
+    memset(data, 0xFF, sizeof data); /* what isn't measured */
+    data[3] = (uint8_t)raw, data[4] = (uint8_t)(raw >> 8); /* bytes 4 and 5, as J1939 counts them */
+    accepted(j1939_controller_send(&s->controller, now, 3, EEC1, EVERYBODY, data, sizeof data, &token));
 }
 
-/* Asks for a VIN. */
-static void ask_for_vin(station *s, uint64_t now) {
-    j1939_frame frame = {.micros = now, .len = 3, .data = {VIN_GROUP & 0xFF, VIN_GROUP >> 8, 0}};
-    send_frame(s, &frame, REQUEST, 6, s->destination);
+/* Hands in its active fault codes: all lamps are off, and there is none. Two and more take more than eight bytes, and
+ * go by j1939_controller_broadcast. */
+static int send_faults(station *s, uint64_t now) {
+    static const uint8_t none[8] = {0x00, 0xFF, 0, 0, 0, 0, 0xFF, 0xFF};
+    uint64_t token;
+    return accepted(j1939_controller_send(&s->controller, now, 6, DM1, EVERYBODY, none, sizeof none, &token));
 }
 
-/* Hands in what it sends of its own: a value each 100 ms, its VIN once, and requests for the other's. */
+/* Hands in what it sends of its own. A value that can't go now is left out: the next one is newer. */
 static void send_own(station *s, uint64_t now) {
-    if (now >= s->value_due) {
+    uint64_t token;
+    if (now >= s->values_due) {
         send_speed(s, 1500000, now);
-        s->value_due = now + PERIOD;
+        s->values_due = now + VALUES;
     }
-    if (s->destination == NOBODY) return;
-    if (!s->is_sent) s->is_sent = send_vin(s, OWN, s->destination, now);
+    if (now >= s->faults_due) {
+        send_faults(s, now);
+        s->faults_due = now + FAULTS;
+    }
+    if (s->destination == NOBODY || now < s->start + PATIENCE) return;
+    if (!s->is_sent) s->is_sent = send_vin(s, s->destination, now, &s->own);
     if (!s->received && now >= s->request_due) {
-        ask_for_vin(s, now);
+        accepted(j1939_controller_ask(&s->controller, now, VIN_GROUP, s->destination, &token));
         s->request_due = now + AGAIN;
+    }
+}
+
+/* Goes to the address that it wants, where it may already. */
+static void move(station *s) {
+    if (s->wanted == NOBODY || !sure(j1939_controller_move_to(&s->controller, s->wanted))) return;
+    fprintf(stderr, "%.16s: on to address %02X\n", s->bus, (unsigned)s->wanted);
+    s->wanted = NOBODY;
+}
+
+/* Obeys a commanded address (J1939-81, 4.2.3): the NAME, its low byte first, and the address. */
+static void obey(station *s, const j1939_message *message) {
+    uint64_t name = 0;
+    if (message->pgn != COMMANDED_ADDRESS || message->len != 9) return;
+    for (int i = 7; i >= 0; i--) name = name << 8 | message->data[i];
+    if (name == s->name && message->data[8] < NOBODY) s->wanted = message->data[8];
+}
+
+/* Answers a request: to all where all were asked, else to who asked, who is told where there is no room. */
+static void answer(station *s, const j1939_request *request, uint64_t now) {
+    uint8_t to = request->destination == EVERYBODY ? EVERYBODY : request->source;
+    uint64_t token;
+    if (request->pgn == VIN_GROUP ? send_vin(s, to, now, &token) : send_faults(s, now)) return;
+    if (to != EVERYBODY) accepted(j1939_controller_acknowledge(&s->controller, now, request, J1939_BUSY));
+}
+
+/* Tells what happened, and looks for another address where its own was lost. */
+static void take_news(station *s) {
+    uint64_t count;
+    uint8_t address;
+    for (int32_t news; (news = sure(j1939_controller_take_news(&s->controller))) != 0;) {
+        if (news == J1939_NEWS_ANOTHER) fprintf(stderr, "%.16s: another sends from its address\n", s->bus);
+        if (news == J1939_NEWS_MISSED && j1939_controller_missed(&s->controller, &count) == 0)
+            fprintf(stderr, "%.16s: %" PRIu64 " messages missed\n", s->bus, count);
+        if (news != J1939_NEWS_LOST) continue;
+        fprintf(stderr, "%.16s: its address is lost\n", s->bus);
+        if (s->name >> 63 && sure(j1939_controller_free_address(&s->controller, &address))) s->wanted = address;
     }
 }
 
@@ -187,49 +235,73 @@ static void send_own(station *s, uint64_t now) {
 static void hear(station *s, const j1939_frame *frame) {
     static j1939_message message;
     j1939_request request;
-    uint8_t to;
+    uint8_t priority;
+    int32_t kind;
     sure(j1939_controller_hear(&s->controller, frame));
-    while (sure(j1939_controller_take_received(&s->controller, &message, &to))) {
+    while ((kind = sure(j1939_controller_take_received(&s->controller, &message, &priority))) != 0) {
+        if (kind == J1939_RECEIVED_FRAME) continue;
         s->received++;
         fprintf(stderr, "from %02X: %u bytes of group %" PRIu32 "\n", (unsigned)message.source, (unsigned)message.len,
                 message.pgn);
+        obey(s, &message);
     }
-    while (sure(j1939_controller_take_asked(&s->controller, &request))) {
-        to = request.destination == EVERYBODY ? EVERYBODY : request.source;
-        if (request.pgn == VIN_GROUP) send_vin(s, ANSWER, to, frame->micros);
+    while (sure(j1939_controller_take_request(&s->controller, &request))) answer(s, &request, frame->micros);
+    take_news(s);
+}
+
+/* Takes what ended. */
+static void take_ended(station *s) {
+    j1939_ended ended;
+    for (int32_t kind; (kind = sure(j1939_controller_take_ended(&s->controller, &ended))) != 0;) {
+        if (kind != J1939_ENDED_TRANSFER || ended.token != s->own) continue;
+        s->is_done = ended.ending == J1939_ENDED_DONE;
+        s->is_sent = ended.ending != J1939_ENDED_WITHDRAWN;
+        s->own = UINT64_MAX;
     }
 }
 
-/* A turn of the loop: time passes, and what is to be sent goes out. */
-static void turn(station *s, uint64_t now) {
-    size_t number;
-    uint8_t reason;
-    int32_t ended;
-    if (now - s->start >= s->begins) sure(j1939_controller_pass(&s->controller, now));
-    if (now - s->start >= PATIENCE) send_own(s, now);
-    sure(j1939_controller_turn(&s->controller, now));
-    while ((ended = sure(j1939_controller_take_settled(&s->controller, &number, &reason))) != 0) {
-        if (number != SINGLE) s->is_done = ended == J1939_ENDED_DONE;
-        if (number == OWN) s->is_sent = ended != J1939_ENDED_WITHDRAWN;
+/* Hands over all frames that go out now; when there is more to say, if nothing is heard till then. */
+static uint64_t speak(station *s, uint64_t now) {
+    j1939_frame frame;
+    uint64_t due, next = UINT64_MAX;
+    while (sure(j1939_controller_peek_frame(&s->controller, now, &frame))) {
+        if (!say(s, &frame)) {
+            next = now + ROOM;
+            break;
+        }
+        sure(j1939_controller_take_frame(&s->controller, now, &frame));
     }
-    while (s->has_waiting || sure(j1939_controller_take_frame(&s->controller, &s->waiting, &number))) {
-        s->has_waiting = !say(s, &s->waiting);
-        if (s->has_waiting) break;
-    }
+    if (next == UINT64_MAX && sure(j1939_controller_next_due(&s->controller, &due))) next = due;
+    if (sure(j1939_controller_next_tick(&s->controller, &due))) next = sooner(next, due);
+    return next;
+}
+
+/* A turn of the loop; when the next is due, if nothing is heard till then. */
+static uint64_t turn(station *s, uint64_t now) {
+    uint64_t due;
+    sure(j1939_controller_tick(&s->controller, now));
+    take_ended(s);
+    move(s); /* before it says that it can't claim an address */
+    if (s->wanted == NOBODY) send_own(s, now);
+    due = speak(s, now);
+    if (s->wanted != NOBODY) return sooner(due, now + ROOM);
+    if (s->destination != NOBODY && !s->received) due = sooner(due, s->request_due);
+    return sooner(due, sooner(s->values_due, s->faults_due));
 }
 
 /* Runs a controller until a moment, or a signal. */
-static void run(station *s, uint64_t name, uint8_t preferred, uint64_t last) {
+static void run(station *s, uint8_t preferred, uint64_t last) {
     j1939_frame frame;
+    uint64_t due, now;
     s->controller = (j1939_controller)J1939_EMPTY;
     s->start = moment();
-    sure(j1939_controller_new(&s->controller, name, preferred));
-    for (uint64_t due = s->start; moment() < last && !is_over;) {
+    s->own = UINT64_MAX, s->wanted = NOBODY;
+    s->values_due = s->faults_due = s->request_due = s->start + PATIENCE;
+    sure(j1939_controller_new(&s->controller, s->name, preferred, SERVED, sizeof SERVED / sizeof SERVED[0]));
+    while ((now = moment()) < last && !is_over) {
+        due = now < s->start + s->begins ? s->start + s->begins : turn(s, now);
+        due = sooner(due, last);
         if (next_frame(s, due, &frame)) hear(s, &frame);
-        if (moment() >= due) {
-            turn(s, moment());
-            due += TURN;
-        }
     }
 }
 
@@ -250,17 +322,18 @@ static int open_interface(const char *name) {
     return bind(at, (const struct sockaddr *)&address, sizeof address) == 0 ? at : -1;
 }
 
-/* Plays one of two controllers; whether all went well. The second has the smaller NAME, and comes later; it sends the first
- * its VIN, and asks for the first's. */
+/* Plays one of two controllers; whether all went well. The second has the smaller NAME, and comes later; it sends the
+ * first its VIN, and asks for the first's. */
 static int play(int socket, int is_second) {
     static station s;
     uint8_t own;
     s = (station){.bus = "can0", .socket = socket, .begins = is_second ? 400000 : 0};
+    s.name = is_second ? 0x8000000001400001 : 0x8000000001400002;
     s.destination = is_second ? 0x81 : NOBODY;
     s.vin = is_second ? "4V4NC9EH7EN165432" : "1FUJA6CV12LK12345";
-    run(&s, is_second ? 0x8000000001400001 : 0x8000000001400002, 0x80, moment() + 2000000);
-    int holds = j1939_controller_held(&s.controller, &own) == 1 && own == (is_second ? 0x80 : 0x81);
-    return j1939_controller_close(&s.controller) == 0 && holds && s.is_done && s.received == 1;
+    run(&s, 0x80, moment() + 2000000);
+    int holds = j1939_controller_status(&s.controller, &own) == J1939_HOLDING && own == (is_second ? 0x80 : 0x81);
+    return j1939_controller_close(&s.controller) == 0 && holds && s.is_done == is_second && s.received == 1;
 }
 
 static int play_both(void) {
@@ -285,9 +358,10 @@ int main(int argc, char **argv) {
         perror("socketcan");
         return 1;
     }
+    s.name = strtoull(argv[2], NULL, 16);
     s.destination = argc == 5 ? (uint8_t)strtoul(argv[4], NULL, 16) : NOBODY;
     signal(SIGINT, end);
     signal(SIGTERM, end);
-    run(&s, strtoull(argv[2], NULL, 16), (uint8_t)strtoul(argv[3], NULL, 16), UINT64_MAX);
+    run(&s, (uint8_t)strtoul(argv[3], NULL, 16), UINT64_MAX);
     return j1939_controller_close(&s.controller) == 0 ? 0 : 1;
 }

@@ -29,7 +29,6 @@ static void null_pointers(void) {
     j1939_controller controller = J1939_EMPTY;
     j1939_request request;
     j1939_frame frame = {0};
-    size_t number;
     uint8_t byte = 0, changed[2];
     uint64_t name;
     char text[8];
@@ -71,23 +70,31 @@ static void null_pointers(void) {
     EXPECT(j1939_sender_on(&sender, NULL) == J1939_NULL);
     EXPECT(j1939_sender_state(NULL, &byte) == J1939_NULL);
     EXPECT(j1939_sender_close(NULL) == J1939_NULL);
-    EXPECT(j1939_controller_new(NULL, 0, 0) == J1939_NULL);
-    EXPECT(j1939_controller_pass(NULL, 0) == J1939_NULL);
-    EXPECT(j1939_controller_turn(NULL, 0) == J1939_NULL);
+    EXPECT(j1939_controller_new(NULL, 0, 0, NULL, 0) == J1939_NULL);
+    EXPECT(j1939_controller_new(&controller, 0, 0, NULL, 1) == J1939_NULL);
     EXPECT(j1939_controller_hear(&controller, NULL) == J1939_NULL);
-    EXPECT(j1939_controller_wish(&controller, NULL) == J1939_NULL);
-    EXPECT(j1939_controller_take_frame(&controller, &out, NULL) == J1939_NULL);
-    EXPECT(j1939_controller_take_frame(&controller, NULL, &number) == J1939_NULL);
-    EXPECT(j1939_controller_held(&controller, NULL) == J1939_NULL);
-    EXPECT(j1939_controller_free_at(&controller, 0, NULL) == J1939_NULL);
-    EXPECT(j1939_controller_send(&controller, NULL, 0) == J1939_NULL);
-    EXPECT(j1939_controller_broadcast(&controller, 0, 0, NULL, 9, 0) == J1939_NULL);
-    EXPECT(j1939_controller_transfer(&controller, 0, 0, 0, NULL, 9, 0) == J1939_NULL);
+    EXPECT(j1939_controller_tick(NULL, 0) == J1939_NULL);
+    EXPECT(j1939_controller_next_tick(&controller, NULL) == J1939_NULL);
+    EXPECT(j1939_controller_take_frame(&controller, 0, NULL) == J1939_NULL);
+    EXPECT(j1939_controller_peek_frame(NULL, 0, &out) == J1939_NULL);
+    EXPECT(j1939_controller_next_due(&controller, NULL) == J1939_NULL);
+    EXPECT(j1939_controller_status(&controller, NULL) == J1939_NULL);
+    EXPECT(j1939_controller_holder(&controller, 0, NULL) == J1939_NULL);
+    EXPECT(j1939_controller_address_of(NULL, 0, &byte) == J1939_NULL);
+    EXPECT(j1939_controller_send(&controller, 0, 6, 0, 255, NULL, 0, &name) == J1939_NULL);
+    EXPECT(j1939_controller_send(&controller, 0, 6, 0, 255, payload, 0, NULL) == J1939_NULL);
+    EXPECT(j1939_controller_broadcast(&controller, 0, 0, NULL, 9, &name) == J1939_NULL);
+    EXPECT(j1939_controller_transfer(&controller, 0, 0, 0, payload, 9, NULL) == J1939_NULL);
+    EXPECT(j1939_controller_ask(&controller, 0, 0, 0, NULL) == J1939_NULL);
+    EXPECT(j1939_controller_take_ended(&controller, NULL) == J1939_NULL);
     EXPECT(j1939_controller_take_received(&controller, &message, NULL) == J1939_NULL);
     EXPECT(j1939_controller_take_received(&controller, NULL, &byte) == J1939_NULL);
-    EXPECT(j1939_controller_take_asked(NULL, &request) == J1939_NULL);
-    EXPECT(j1939_controller_take_settled(&controller, &number, NULL) == J1939_NULL);
-    EXPECT(j1939_controller_take_settled(&controller, NULL, &byte) == J1939_NULL);
+    EXPECT(j1939_controller_missed(NULL, &name) == J1939_NULL);
+    EXPECT(j1939_controller_take_request(NULL, &request) == J1939_NULL);
+    EXPECT(j1939_controller_acknowledge(&controller, 0, NULL, J1939_ACK) == J1939_NULL);
+    EXPECT(j1939_controller_take_news(NULL) == J1939_NULL);
+    EXPECT(j1939_controller_free_address(&controller, NULL) == J1939_NULL);
+    EXPECT(j1939_controller_move_to(NULL, 0) == J1939_NULL);
     EXPECT(j1939_controller_close(NULL) == J1939_NULL);
 }
 
@@ -347,162 +354,288 @@ static void broadcasts(void) {
 
 /* Each call on a handle that holds no controller, and with numbers out of range. */
 static void no_controller(j1939_controller *controller) {
-    j1939_request request;
-    uint32_t id;
-    size_t number;
+    j1939_request request = {65260, 3, 0x80};
+    j1939_ended ended;
+    uint64_t number;
     uint8_t byte;
-    EXPECT(j1939_controller_pass(controller, 0) == J1939_NO_PART);
-    EXPECT(j1939_controller_wish(controller, &id) == J1939_NO_PART);
-    EXPECT(j1939_controller_turn(controller, 0) == J1939_NO_PART);
     EXPECT(j1939_controller_hear(controller, &bam) == J1939_NO_PART);
-    EXPECT(j1939_controller_take_frame(controller, &out, &number) == J1939_NO_PART);
-    EXPECT(j1939_controller_held(controller, &byte) == J1939_NO_PART);
-    EXPECT(j1939_controller_free_at(controller, 0, &byte) == J1939_NO_PART);
-    EXPECT(j1939_controller_send(controller, &bam, 0) == J1939_NO_PART);
-    EXPECT(j1939_controller_broadcast(controller, 0, 65260, payload, 9, 0) == J1939_NO_PART);
-    EXPECT(j1939_controller_transfer(controller, 0, 3, 65260, payload, 9, 0) == J1939_NO_PART);
+    EXPECT(j1939_controller_tick(controller, 0) == J1939_NO_PART);
+    EXPECT(j1939_controller_next_tick(controller, &number) == J1939_NO_PART);
+    EXPECT(j1939_controller_take_frame(controller, 0, &out) == J1939_NO_PART);
+    EXPECT(j1939_controller_peek_frame(controller, 0, &out) == J1939_NO_PART);
+    EXPECT(j1939_controller_next_due(controller, &number) == J1939_NO_PART);
+    EXPECT(j1939_controller_status(controller, &byte) == J1939_NO_PART);
+    EXPECT(j1939_controller_holder(controller, 0x80, &number) == J1939_NO_PART);
+    EXPECT(j1939_controller_address_of(controller, 1, &byte) == J1939_NO_PART);
+    EXPECT(j1939_controller_send(controller, 0, 6, 65262, 255, payload, 8, &number) == J1939_NO_PART);
+    EXPECT(j1939_controller_broadcast(controller, 0, 65260, payload, 9, &number) == J1939_NO_PART);
+    EXPECT(j1939_controller_transfer(controller, 0, 65260, 3, payload, 9, &number) == J1939_NO_PART);
+    EXPECT(j1939_controller_ask(controller, 0, 65260, 3, &number) == J1939_NO_PART);
+    EXPECT(j1939_controller_take_ended(controller, &ended) == J1939_NO_PART);
     EXPECT(j1939_controller_take_received(controller, &message, &byte) == J1939_NO_PART);
-    EXPECT(j1939_controller_take_asked(controller, &request) == J1939_NO_PART);
-    EXPECT(j1939_controller_take_settled(controller, &number, &byte) == J1939_NO_PART);
+    EXPECT(j1939_controller_missed(controller, &number) == J1939_NO_PART);
+    EXPECT(j1939_controller_take_request(controller, &request) == J1939_NO_PART);
+    EXPECT(j1939_controller_acknowledge(controller, 0, &request, J1939_ACK) == J1939_NO_PART);
+    EXPECT(j1939_controller_take_news(controller) == J1939_NO_PART);
+    EXPECT(j1939_controller_free_address(controller, &byte) == J1939_NO_PART);
+    EXPECT(j1939_controller_move_to(controller, 3) == J1939_NO_PART);
 }
 
 static void controller_in_range(j1939_controller *controller) {
     j1939_frame late = {.micros = LATE}, long_one = {.len = 9};
-    uint8_t byte;
-    EXPECT(j1939_controller_pass(controller, LATE) == J1939_BAD_VALUE);
-    EXPECT(j1939_controller_turn(controller, LATE) == J1939_BAD_VALUE);
+    j1939_request request = {65260, 3, 0x80}, no_group = {1u << 18, 3, 0x80};
+    uint64_t token = 9;
     EXPECT(j1939_controller_hear(controller, &late) == J1939_BAD_VALUE);
-    EXPECT(j1939_controller_send(controller, &long_one, 0) == J1939_BAD_VALUE);
-    EXPECT(j1939_controller_free_at(controller, LATE, &byte) == J1939_BAD_VALUE);
-    EXPECT(j1939_controller_broadcast(controller, 0, 65260, payload, 8, 0) == J1939_BAD_VALUE);
-    EXPECT(j1939_controller_broadcast(controller, 0, 65260, payload, 1786, 0) == J1939_BAD_VALUE);
-    EXPECT(j1939_controller_broadcast(controller, 0, 1u << 18, payload, 9, 0) == J1939_BAD_VALUE);
-    EXPECT(j1939_controller_broadcast(controller, 0, 65260, payload, 9, LATE) == J1939_BAD_VALUE);
-    EXPECT(j1939_controller_transfer(controller, 0, 254, 65260, payload, 9, 0) == J1939_BAD_VALUE);
-    EXPECT(j1939_controller_transfer(controller, 0, 3, 65260, payload, 1786, 0) == J1939_BAD_VALUE);
-    EXPECT(j1939_controller_transfer(controller, 0, 3, 65260, payload, 9, LATE) == J1939_BAD_VALUE);
+    EXPECT(j1939_controller_hear(controller, &long_one) == J1939_BAD_VALUE);
+    EXPECT(j1939_controller_tick(controller, LATE) == J1939_BAD_VALUE);
+    EXPECT(j1939_controller_take_frame(controller, LATE, &out) == J1939_BAD_VALUE);
+    EXPECT(j1939_controller_peek_frame(controller, LATE, &out) == J1939_BAD_VALUE);
+    EXPECT(j1939_controller_send(controller, LATE, 6, 65262, 255, payload, 8, &token) == J1939_BAD_VALUE);
+    EXPECT(j1939_controller_send(controller, 0, 6, 1u << 18, 255, payload, 8, &token) == J1939_BAD_VALUE);
+    EXPECT(j1939_controller_broadcast(controller, LATE, 65260, payload, 9, &token) == J1939_BAD_VALUE);
+    EXPECT(j1939_controller_broadcast(controller, 0, 1u << 18, payload, 9, &token) == J1939_BAD_VALUE);
+    EXPECT(j1939_controller_transfer(controller, LATE, 65260, 3, payload, 9, &token) == J1939_BAD_VALUE);
+    EXPECT(j1939_controller_transfer(controller, 0, 1u << 18, 3, payload, 9, &token) == J1939_BAD_VALUE);
+    EXPECT(j1939_controller_ask(controller, LATE, 65260, 3, &token) == J1939_BAD_VALUE);
+    EXPECT(j1939_controller_ask(controller, 0, 1u << 18, 3, &token) == J1939_BAD_VALUE);
+    EXPECT(j1939_controller_acknowledge(controller, LATE, &request, J1939_ACK) == J1939_BAD_VALUE);
+    EXPECT(j1939_controller_acknowledge(controller, 0, &request, 4) == J1939_BAD_VALUE);
+    EXPECT(j1939_controller_acknowledge(controller, 0, &no_group, J1939_ACK) == J1939_BAD_VALUE);
+    EXPECT(token == 9);
+}
+
+/* The frame that goes out at a moment. */
+static uint32_t taken(j1939_controller *controller, uint64_t now) {
+    j1939_frame seen;
+    int32_t peeked = j1939_controller_peek_frame(controller, now, &seen);
+    EXPECT(j1939_controller_take_frame(controller, now, &out) == peeked);
+    if (!peeked) return 0;
+    EXPECT(peeked == 1 && out.micros == now && seen.id == out.id && seen.len == out.len);
+    EXPECT(memcmp(seen.data, out.data, out.len) == 0);
+    return out.id;
 }
 
 /* It claims address 80 at one second, and holds it 250 ms later. */
 static void claim_of(j1939_controller *controller) {
-    uint32_t id;
-    size_t number = 5;
+    uint64_t due = 9, token = 9;
     uint8_t own = 9;
-    allowed = 0; /* the claim is lost: it is said again where it is asked for */
-    EXPECT(j1939_controller_pass(controller, 1000000) == J1939_NO_MEMORY);
-    allowed = -1;
-    EXPECT(j1939_controller_take_frame(controller, &out, &number) == 0);
-    j1939_frame asks = {.micros = 1000001, .id = 0x18EAFF81, .len = 3, .data = {0x00, 0xEE, 0x00}};
-    EXPECT(j1939_controller_hear(controller, &asks) == 0);
-    EXPECT(j1939_controller_wish(controller, &id) == 1 && id == 0x18EEFF80);
-    EXPECT(j1939_controller_take_frame(controller, &out, &number) == 1 && out.id == 0x18EEFF80 && number == 5);
-    EXPECT(j1939_controller_take_frame(controller, &out, &number) == 0 && j1939_controller_wish(controller, &id) == 0);
-    EXPECT(j1939_controller_held(controller, &own) == 0 && own == 9);
-    EXPECT(j1939_controller_broadcast(controller, 1, 65260, payload, 9, 1000001) == 0);
-    EXPECT(j1939_controller_pass(controller, 1250000) == 0);
-    EXPECT(j1939_controller_held(controller, &own) == 1 && own == 0x80);
+    EXPECT(j1939_controller_status(controller, &own) == J1939_IDLE && own == 254);
+    EXPECT(j1939_controller_next_due(controller, &due) == 1 && due == 0);
+    EXPECT(taken(controller, 1000000) == 0x18EEFF80 && taken(controller, 1000000) == 0);
+    EXPECT(j1939_controller_status(controller, &own) == J1939_CLAIMING && own == 0x80);
+    EXPECT(j1939_controller_next_due(controller, &due) == 1 && due == 1250000);
+    EXPECT(j1939_controller_broadcast(controller, 1249999, 65260, payload, 9, &token) == J1939_NO_ADDRESS);
+    EXPECT(j1939_controller_holder(controller, 0x80, &token) == 1 && token == 1);
+    EXPECT(j1939_controller_holder(controller, 0x81, &token) == 0 && token == 1);
+    EXPECT(j1939_controller_address_of(controller, 1, &own) == 1 && own == 0x80);
+    EXPECT(j1939_controller_address_of(controller, 2, &own) == 0);
+    EXPECT(j1939_controller_tick(controller, 1250000) == 0);
+    EXPECT(j1939_controller_status(controller, &own) == J1939_HOLDING && own == 0x80);
+    EXPECT(j1939_controller_next_due(controller, &due) == 0 && due == 1250000);
+    EXPECT(j1939_controller_next_tick(controller, &due) == 0);
 }
 
-/* A broadcast of nine bytes takes three frames; one message at a time is on its way. */
-static void broadcast_of(j1939_controller *controller) {
-    size_t number = 5;
-    uint8_t own = 9;
-    EXPECT(j1939_controller_free_at(controller, 1300000, &own) == 1 && own == 0x80);
-    allowed = 0;
-    EXPECT(j1939_controller_broadcast(controller, 7, 65260, payload, 9, 1300000) == J1939_NO_MEMORY);
-    EXPECT(j1939_controller_transfer(controller, 7, 3, 65260, payload, 9, 1300000) == J1939_NO_MEMORY);
-    EXPECT(j1939_controller_turn(controller, 1300000) == J1939_NO_MEMORY); /* a receiver wants its buffer */
-    allowed = -1;
-    EXPECT(j1939_controller_broadcast(controller, 7, 65260, payload, 9, 1300000) == 1);
-    EXPECT(j1939_controller_broadcast(controller, 8, 65260, payload, 9, 1300000) == 0);
-    EXPECT(j1939_controller_transfer(controller, 8, 3, 65260, payload, 9, 1300000) == 0);
-    EXPECT(j1939_controller_free_at(controller, 1300000, &own) == 0);
-    for (uint64_t k = 0; k < 3; k++) {
-        EXPECT(j1939_controller_turn(controller, 1300000 + k * 50000) == 0);
-        EXPECT(j1939_controller_take_frame(controller, &out, &number) == (k == 2 ? 3 : 2) && number == 7);
-        EXPECT(out.id == (k ? 0x1CEBFF80 : 0x1CECFF80) && out.micros == 1300000 + k * 50000);
+/* What is sent: sixteen messages of one frame at most, and a broadcast of nine bytes takes three. */
+static void messages_of(j1939_controller *controller) {
+    j1939_ended ended;
+    uint64_t token = 9;
+    EXPECT(j1939_controller_send(controller, 1300000, 8, 65262, 255, payload, 8, &token) == J1939_BAD_VALUE);
+    EXPECT(j1939_controller_send(controller, 1300000, 6, 65262, 255, payload, 9, &token) == J1939_BAD_VALUE);
+    EXPECT(j1939_controller_send(controller, 1300000, 6, 60928, 255, payload, 8, &token) == J1939_BAD_VALUE);
+    EXPECT(j1939_controller_send(controller, 1300000, 6, 0xEF00, 0x80, payload, 8, &token) == J1939_BAD_VALUE);
+    for (uint64_t k = 0; k < 16; k++)
+        EXPECT(j1939_controller_send(controller, 1300000, 6, 0xEF00, 3, payload, k % 9, &token) == 1 && token == k);
+    EXPECT(j1939_controller_send(controller, 1300000, 6, 65262, 255, payload, 8, &token) == J1939_FULL);
+    EXPECT(j1939_controller_ask(controller, 1300000, 65260, 3, &token) == J1939_FULL && token == 15);
+    EXPECT(j1939_controller_take_ended(controller, &ended) == 0);
+    for (uint64_t k = 0; k < 16; k++) {
+        EXPECT(taken(controller, 1300000) == 0x18EF0380 && out.len == k % 9);
+        EXPECT(j1939_controller_take_ended(controller, &ended) == J1939_ENDED_MESSAGE);
+        EXPECT(ended.token == k && ended.ending == J1939_ENDED_DONE && ended.detail == 0);
     }
-    EXPECT(j1939_controller_free_at(controller, 1500000, &own) == 1);
+    EXPECT(j1939_controller_broadcast(controller, 1300000, 65260, payload, 8, &token) == J1939_BAD_VALUE);
+    EXPECT(j1939_controller_broadcast(controller, 1300000, 65260, payload, 1786, &token) == J1939_BAD_VALUE);
+    EXPECT(j1939_controller_broadcast(controller, 1300000, 65260, payload, 9, &token) == 1 && token == 0);
+    EXPECT(j1939_controller_broadcast(controller, 1300000, 65260, payload, 9, &token) == J1939_FULL);
+    for (uint64_t k = 0; k < 3; k++) {
+        EXPECT(taken(controller, 1300000 + k * 50000) == (k ? 0x1CEBFF80 : 0x1CECFF80));
+        EXPECT(taken(controller, 1349999 + k * 50000) == 0);
+    }
+    EXPECT(j1939_controller_take_ended(controller, &ended) == J1939_ENDED_BROADCAST);
+    EXPECT(ended.token == 0 && ended.ending == J1939_ENDED_DONE && j1939_controller_take_ended(controller, &ended) == 0);
 }
 
-/* A single frame goes out from its own address alone; a transfer to nobody fails for 3. */
+/* A transfer to nobody fails for 3, and rests; a request that nobody answers ends, and one is refused. */
 static void ends_of(j1939_controller *controller) {
-    j1939_frame single = {.micros = 1500000, .id = 0x18FEEE80, .len = 8};
-    size_t number = 5;
-    uint8_t reason = 9, own;
-    EXPECT(j1939_controller_send(controller, &single, 11) == 0);
-    EXPECT(j1939_controller_take_frame(controller, &out, &number) == 3 && out.id == 0x18FEEE80 && number == 11);
-    single.id = 0x18FEEE81;
-    allowed = 0;
-    EXPECT(j1939_controller_send(controller, &single, 12) == J1939_NO_MEMORY);
-    allowed = -1;
-    EXPECT(j1939_controller_take_settled(controller, &number, &reason) == 0);
-    EXPECT(j1939_controller_send(controller, &single, 12) == 0);
-    EXPECT(j1939_controller_take_settled(controller, &number, &reason) == J1939_ENDED_WITHDRAWN && number == 12);
-    EXPECT(j1939_controller_take_settled(controller, &number, &reason) == 0 && reason == 9);
-    EXPECT(j1939_controller_transfer(controller, 13, 3, 65260, payload, 9, 1500000) == 1);
-    EXPECT(j1939_controller_turn(controller, 1500000) == 0);
-    EXPECT(j1939_controller_take_frame(controller, &out, &number) == 1 && out.id == 0x1CEC0380);
-    EXPECT(j1939_controller_turn(controller, 3000000) == 0);
-    EXPECT(j1939_controller_take_settled(controller, &number, &reason) == J1939_ENDED_FAILED);
-    EXPECT(number == 13 && reason == 3);
-    EXPECT(j1939_controller_free_at(controller, 6999999, &own) == 0);
-    EXPECT(j1939_controller_free_at(controller, 7000000, &own) == 1);
+    j1939_frame refusal = {
+        .micros = 4500000, .id = 0x18E8FF03, .len = 8, .data = {2, 0xFF, 0xFF, 0xFF, 0x80, 0xEC, 0xFE, 0}};
+    j1939_ended ended;
+    uint64_t token, due;
+    EXPECT(j1939_controller_transfer(controller, 1500000, 65260, 254, payload, 9, &token) == J1939_BAD_VALUE);
+    EXPECT(j1939_controller_transfer(controller, 1500000, 65260, 3, payload, 9, &token) == 1 && token == 0);
+    EXPECT(j1939_controller_transfer(controller, 1500000, 65260, 4, payload, 9, &token) == J1939_FULL);
+    EXPECT(taken(controller, 1500000) == 0x1CEC0380 && out.data[0] == 0x10);
+    EXPECT(j1939_controller_next_due(controller, &due) == 1 && due == 2750001);
+    EXPECT(taken(controller, 2750001) == 0x1CEC0380 && out.data[0] == 0xFF && out.data[1] == 3);
+    EXPECT(j1939_controller_take_ended(controller, &ended) == J1939_ENDED_TRANSFER);
+    EXPECT(ended.token == 0 && ended.ending == J1939_ENDED_FAILED && ended.detail == 3);
+    EXPECT(j1939_controller_transfer(controller, 2750001, 65260, 3, payload, 9, &token) == J1939_FULL); /* it rests */
+    EXPECT(j1939_controller_ask(controller, 3000000, 65260, 3, &token) == 1 && token == 16);
+    EXPECT(taken(controller, 3000000) == 0x18EA0380 && out.len == 3 && out.data[0] == 0xEC);
+    EXPECT(j1939_controller_take_ended(controller, &ended) == J1939_ENDED_MESSAGE && ended.token == 16);
+    EXPECT(j1939_controller_take_ended(controller, &ended) == 0);
+    EXPECT(j1939_controller_tick(controller, 4250000) == 0);
+    EXPECT(j1939_controller_take_ended(controller, &ended) == J1939_ENDED_REQUEST && ended.token == 16);
+    EXPECT(ended.ending == J1939_ENDED_TIMED_OUT && ended.detail == 0);
+    EXPECT(j1939_controller_ask(controller, 4500000, 65260, 3, &token) == 1 && token == 17);
+    EXPECT(taken(controller, 4500000) == 0x18EA0380 && j1939_controller_hear(controller, &refusal) == 0);
+    EXPECT(j1939_controller_take_ended(controller, &ended) == J1939_ENDED_MESSAGE && ended.token == 17);
+    EXPECT(j1939_controller_take_ended(controller, &ended) == J1939_ENDED_REQUEST && ended.token == 17);
+    EXPECT(ended.ending == J1939_ENDED_ACKNOWLEDGED && ended.detail == J1939_DENIED);
 }
 
-/* What it hears: a request, a broadcast, and a claim that its address is lost to. */
+/* What it hears: requests, and messages of one frame. */
 static void hearing_of(j1939_controller *controller) {
     j1939_frame asks = {.micros = 7000000, .id = 0x18EA8081, .len = 3, .data = {0xEC, 0xFE, 0x00}};
-    j1939_frame claim = {.micros = 7900000, .id = 0x18EEFF80, .len = 8};
-    j1939_frame announcement = bam;
+    j1939_frame single = {.micros = 7000000, .id = 0x0CF00481, .len = 5, .data = {1, 2, 3, 4, 5}};
     j1939_request request;
-    size_t number = 5;
-    uint8_t to = 9;
-    announcement.id = 0x1CECFF81, announcement.micros = 7000001;
+    uint64_t count = 9;
+    uint8_t priority = 9;
+    while (j1939_controller_take_received(controller, &message, &priority)) continue; /* the refusal */
     EXPECT(j1939_controller_hear(controller, &asks) == 0);
-    EXPECT(j1939_controller_take_asked(controller, &request) == 1);
+    EXPECT(j1939_controller_take_request(controller, &request) == 1);
     EXPECT(request.pgn == 65260 && request.source == 0x81 && request.destination == 0x80);
-    EXPECT(j1939_controller_take_asked(controller, &request) == 0);
-    allowed = 0;
-    EXPECT(j1939_controller_hear(controller, &announcement) == J1939_NO_MEMORY);
-    allowed = -1;
+    EXPECT(j1939_controller_take_request(controller, &request) == 0);
+    EXPECT(j1939_controller_acknowledge(controller, 7000000, &request, J1939_BUSY) == 0);
+    EXPECT(taken(controller, 7000000) == 0x18E8FF80 && out.data[0] == 3 && out.data[4] == 0x81);
+    request.destination = 255;
+    EXPECT(j1939_controller_acknowledge(controller, 7000000, &request, J1939_BUSY) == J1939_BAD_VALUE);
+    asks.data[0] = 0xEB; /* a group that isn't served is refused */
+    EXPECT(j1939_controller_hear(controller, &asks) == 0);
+    EXPECT(taken(controller, 7000000) == 0x18E8FF80 && out.data[0] == 1 && out.data[5] == 0xEB);
+    EXPECT(j1939_controller_take_request(controller, &request) == 0 && taken(controller, 7000000) == 0);
+    for (int k = 0; k < 17; k++) EXPECT(j1939_controller_hear(controller, &single) == 0);
+    EXPECT(j1939_controller_take_news(controller) == J1939_NEWS_MISSED && !j1939_controller_take_news(controller));
+    EXPECT(j1939_controller_missed(controller, &count) == 0 && count == 1);
+    for (int k = 0; k < 16; k++)
+        EXPECT(j1939_controller_take_received(controller, &message, &priority) == J1939_RECEIVED_FRAME);
+    EXPECT(message.source == 0x81 && message.pgn == 61444 && message.len == 5 && message.data[4] == 5 && priority == 3);
+    EXPECT(!message.is_addressed && !message.is_named && message.micros == 7000000);
+    single.id = 0x18EF8081;
+    EXPECT(j1939_controller_hear(controller, &single) == 0);
+    EXPECT(j1939_controller_take_received(controller, &message, &priority) == J1939_RECEIVED_FRAME);
+    EXPECT(message.is_addressed && message.destination == 0x80 && priority == 6);
+    EXPECT(j1939_controller_take_received(controller, &message, &priority) == 0);
+}
+
+/* Messages in packets, to all and to it; while one lies there another is refused. */
+static void packets_of(j1939_controller *controller) {
+    j1939_frame announcement = bam, next, rts;
+    uint64_t due;
+    uint8_t priority = 9;
+    announcement.id = 0x1CECFF81, announcement.micros = 7000001;
     EXPECT(j1939_controller_hear(controller, &announcement) == 0);
     for (uint8_t k = 1; k <= 3; k++) {
-        j1939_frame next = packet(k);
+        next = packet(k);
         next.id = 0x1CEBFF81, next.micros += 7000001;
         EXPECT(j1939_controller_hear(controller, &next) == 0);
     }
-    EXPECT(j1939_controller_take_received(controller, &message, &to) == 1 && to == 255);
-    EXPECT(message.source == 0x81 && message.pgn == 65260 && message.len == 20 && !message.is_named);
-    EXPECT(j1939_controller_take_received(controller, &message, &to) == 0);
-    EXPECT(j1939_controller_broadcast(controller, 14, 65260, payload, 9, 7800000) == 1);
+    EXPECT(j1939_controller_take_received(controller, &message, &priority) == J1939_RECEIVED_BROADCAST);
+    EXPECT(message.source == 0x81 && message.pgn == 65260 && message.len == 20 && !message.is_named && priority == 9);
+    EXPECT(message.micros == 7150006 && !message.is_addressed);
+    EXPECT(j1939_controller_take_received(controller, &message, &priority) == 0);
+    rts = announcement, rts.id = 0x1CEC8081, rts.data[0] = 0x10, rts.data[4] = 0xFF, rts.micros = 7300000;
+    EXPECT(j1939_controller_hear(controller, &rts) == 0);
+    EXPECT(j1939_controller_next_tick(controller, &due) == 1 && due == 8550001);
+    EXPECT(taken(controller, 7300000) == 0x1CEC8180 && out.data[0] == 0x11);
+    for (uint8_t k = 1; k <= 3; k++) {
+        next = packet(k);
+        next.id = 0x1CEB8081, next.micros += 7300000;
+        EXPECT(j1939_controller_hear(controller, &next) == 0);
+    }
+    EXPECT(taken(controller, 7500000) == 0x1CEC8180 && out.data[0] == 0x13);
+    rts.micros = 7500000;
+    EXPECT(j1939_controller_hear(controller, &rts) == 0);
+    EXPECT(taken(controller, 7500000) == 0x1CEC8180 && out.data[0] == 0xFF && out.data[1] == 2);
+    EXPECT(j1939_controller_take_received(controller, &message, &priority) == J1939_RECEIVED_TRANSFER);
+    EXPECT(message.len == 20 && message.data[7] == 'A' && message.micros == 7450005 && priority == 9);
+    EXPECT(j1939_controller_take_received(controller, &message, &priority) == 0);
+}
+
+/* Its address is lost to a smaller NAME. */
+static void loss_of(j1939_controller *controller) {
+    j1939_frame claim = {.micros = 7900000, .id = 0x18EEFF80, .len = 8};
+    j1939_frame other = {.micros = 7800000, .id = 0x18FEEE80, .len = 8};
+    j1939_ended ended;
+    uint64_t token = 9;
+    uint8_t own = 9, priority;
+    EXPECT(j1939_controller_hear(controller, &other) == 0);
+    EXPECT(j1939_controller_take_news(controller) == J1939_NEWS_ANOTHER);
+    EXPECT(j1939_controller_take_received(controller, &message, &priority) == J1939_RECEIVED_FRAME);
+    EXPECT(j1939_controller_send(controller, 7800000, 6, 65262, 255, payload, 8, &token) == 1 && token == 18);
+    EXPECT(j1939_controller_broadcast(controller, 7800000, 65260, payload, 9, &token) == 1 && token == 1);
+    EXPECT(j1939_controller_transfer(controller, 7800000, 65260, 3, payload, 9, &token) == 1 && token == 1);
+    EXPECT(j1939_controller_ask(controller, 7800000, 65260, 3, &token) == 1 && token == 19);
     EXPECT(j1939_controller_hear(controller, &claim) == 0);
-    EXPECT(j1939_controller_held(controller, &to) == 0);
-    EXPECT(j1939_controller_take_settled(controller, &number, &to) == J1939_ENDED_WITHDRAWN && number == 14);
-    while (j1939_controller_take_frame(controller, &out, &number) > 0) EXPECT((out.id & 0xFFFFFF00) == 0x18EEFF00);
+    EXPECT(j1939_controller_status(controller, &own) == J1939_CANNOT && own == 254);
+    EXPECT(j1939_controller_take_news(controller) == J1939_NEWS_LOST && !j1939_controller_take_news(controller));
+    EXPECT(j1939_controller_take_ended(controller, &ended) == J1939_ENDED_MESSAGE && ended.token == 18);
+    EXPECT(ended.ending == J1939_ENDED_WITHDRAWN);
+    EXPECT(j1939_controller_take_ended(controller, &ended) == J1939_ENDED_MESSAGE && ended.token == 19);
+    EXPECT(j1939_controller_take_ended(controller, &ended) == J1939_ENDED_BROADCAST && ended.token == 1);
+    EXPECT(j1939_controller_take_ended(controller, &ended) == J1939_ENDED_TRANSFER && ended.token == 1);
+    EXPECT(ended.ending == J1939_ENDED_WITHDRAWN);
+    EXPECT(j1939_controller_take_ended(controller, &ended) == J1939_ENDED_REQUEST && ended.token == 19);
+    EXPECT(ended.ending == J1939_ENDED_WITHDRAWN && j1939_controller_take_ended(controller, &ended) == 0);
+    EXPECT(taken(controller, 7900000) == 0x18EEFFFE && taken(controller, 7900000) == 0);
+    EXPECT(j1939_controller_send(controller, 9000000, 6, 65262, 255, payload, 8, &token) == J1939_NO_ADDRESS);
+}
+
+/* It goes on at another address: not before all is told and taken. */
+static void move_of(j1939_controller *controller) {
+    j1939_frame single = {.micros = 9000000, .id = 0x18FEEE81, .len = 8};
+    uint64_t token = 9;
+    uint8_t own = 9, priority;
+    EXPECT(j1939_controller_hear(controller, &single) == 0);
+    EXPECT(j1939_controller_free_address(controller, &own) == 1 && own == 0x81);
+    EXPECT(j1939_controller_move_to(controller, own) == 0);
+    EXPECT(j1939_controller_take_received(controller, &message, &priority) == J1939_RECEIVED_FRAME);
+    EXPECT(j1939_controller_move_to(controller, 254) == 0 && j1939_controller_move_to(controller, own) == 1);
+    EXPECT(j1939_controller_status(controller, &own) == J1939_IDLE && taken(controller, 9000000) == 0x18EEFF81);
+    EXPECT(j1939_controller_holder(controller, 0x80, &token) == 1 && token == 0);
+    EXPECT(j1939_controller_send(controller, 9250000, 6, 65262, 255, payload, 8, &token) == 1 && token == 0);
+    EXPECT(taken(controller, 9250000) == 0x18FEEE81);
 }
 
 static void controllers(void) {
+    static const uint32_t served[17] = {65260}, no_group[1] = {1u << 18};
     j1939_controller controller = J1939_EMPTY;
     j1939_listener foreign = J1939_EMPTY;
-    EXPECT(j1939_controller_new(&controller, 1, 254) == J1939_BAD_VALUE);
-    for (long granted = 0; granted < 2; granted++) {
+    EXPECT(j1939_controller_new(&controller, 1, 254, NULL, 0) == J1939_BAD_VALUE);
+    EXPECT(j1939_controller_new(&controller, 1, 0x80, served, 17) == J1939_BAD_VALUE);
+    EXPECT(j1939_controller_new(&controller, 1, 0x80, no_group, 1) == J1939_BAD_VALUE);
+    for (long granted = 0; granted < 3; granted++) {
         allowed = granted;
-        EXPECT(j1939_controller_new(&controller, 1, 0x80) == J1939_NO_MEMORY && !controller.handle.part);
+        EXPECT(j1939_controller_new(&controller, 1, 0x80, served, 1) == J1939_NO_MEMORY && !controller.handle.part);
     }
     allowed = -1;
     EXPECT(j1939_listener_new(&foreign) == 0);
     no_controller(&controller);
     no_controller((j1939_controller *)&foreign);
-    EXPECT(j1939_controller_new((j1939_controller *)&foreign, 1, 254) == J1939_IN_USE);
+    EXPECT(j1939_controller_new((j1939_controller *)&foreign, 1, 254, NULL, 0) == J1939_IN_USE);
     EXPECT(j1939_listener_close(&foreign) == 0);
-    EXPECT(j1939_controller_new(&controller, 1, 0x80) == 0);
-    EXPECT(j1939_controller_new(&controller, 1, 0x80) == J1939_IN_USE);
+    EXPECT(j1939_controller_new(&controller, 1, 0x80, served, 16) == 0);
+    EXPECT(j1939_controller_new(&controller, 1, 0x80, served, 16) == J1939_IN_USE);
+    allowed = 0; /* from here on it takes no memory */
     controller_in_range(&controller);
     claim_of(&controller);
-    broadcast_of(&controller);
+    messages_of(&controller);
     ends_of(&controller);
     hearing_of(&controller);
+    packets_of(&controller);
+    loss_of(&controller);
+    move_of(&controller);
+    allowed = -1;
     EXPECT(j1939_controller_close(&controller) == 0 && j1939_controller_close(&controller) == 0);
     controller_in_range(&controller);
     no_controller(&controller);

@@ -36,7 +36,7 @@ static void open_listener(void) { EXPECT(j1939_listener_new(&listener) == 0); }
 static void open_assembler(void) { EXPECT(j1939_assembler_new(&assembler) == 0); }
 static void open_receiver(void) { EXPECT(j1939_receiver_new(&receiver, 3) == 0); }
 static void open_sender(void) { EXPECT(j1939_sender_new(&sender, 1, 3, 65260, payload, sizeof payload) == 0); }
-static void open_controller(void) { EXPECT(j1939_controller_new(&controller, 1, 3) == 0); }
+static void open_controller(void) { EXPECT(j1939_controller_new(&controller, 1, 3, NULL, 0) == 0); }
 static void hear(void) { EXPECT(j1939_listener_feed(&listener, &engine, &message) == 1); }
 static void hear_other(void) { EXPECT(j1939_listener_feed(&listener, &other, &message) == 0); }
 static void read_number(void) { EXPECT(j1939_read(&message, 0, &reading) == 0); }
@@ -47,15 +47,21 @@ static void node_tick(void) { EXPECT(j1939_node_tick(&node, 5) == 0); }
 static void node_on(void) { EXPECT(j1939_node_on(&node, &claim, &out) == 0); }
 static void receiver_tick(void) { EXPECT(j1939_receiver_tick(&receiver, 5, &out) == 0); }
 static void sender_tick(void) { EXPECT(j1939_sender_tick(&sender, 5, &out) >= 0); }
-static void controller_pass(void) { EXPECT(j1939_controller_pass(&controller, 5) == 0); }
-static void controller_late(void) { EXPECT(j1939_controller_pass(&controller, 300000) == 0); }
-static void controller_turn(void) { EXPECT(j1939_controller_turn(&controller, 300000) == 0); }
+static void controller_tick(void) { EXPECT(j1939_controller_tick(&controller, 300000) == 0); }
 static void controller_hear(void) { EXPECT(j1939_controller_hear(&controller, &claim) == 0); }
-static void controller_hear_other(void) { EXPECT(j1939_controller_hear(&controller, &other) == 0); }
-static void controller_frame(void) {
-    size_t number;
-    EXPECT(j1939_controller_take_frame(&controller, &out, &number) >= 0);
+static void controller_hear_other(void) {
+    uint8_t priority;
+    EXPECT(j1939_controller_hear(&controller, &other) == 0);
+    EXPECT(j1939_controller_take_received(&controller, &message, &priority) == 1);
 }
+static void controller_send(void) {
+    uint64_t token;
+    j1939_ended ended;
+    EXPECT(j1939_controller_send(&controller, 300000, 6, 65262, 255, payload, 8, &token) == 1);
+    EXPECT(j1939_controller_take_frame(&controller, 300000, &out) == 1);
+    EXPECT(j1939_controller_take_ended(&controller, &ended) == J1939_ENDED_MESSAGE);
+}
+static void controller_frame(void) { EXPECT(j1939_controller_take_frame(&controller, 5, &out) >= 0); }
 static void close_listener(void) { EXPECT(j1939_listener_close(&listener) == 0); }
 static void close_assembler(void) { EXPECT(j1939_assembler_close(&assembler) == 0); }
 static void close_receiver(void) { EXPECT(j1939_receiver_close(&receiver) == 0); }
@@ -115,12 +121,11 @@ int main(void) {
     measure("node_on", node_on, 1000000);
     measure("receiver_tick", receiver_tick, 1000000);
     measure("sender_tick", sender_tick, 1000000);
-    measure("controller_pass", controller_pass, 1000000);
-    measure("  it claims", controller_late, 0);
-    measure("controller_turn", controller_turn, 1000000);
+    measure("controller_frame", controller_frame, 1000000);
+    measure("controller_tick", controller_tick, 1000000);
     measure("controller_hear", controller_hear, 1000000);
-    measure("  other group", controller_hear_other, 1000000);
-    measure("  take_frame", controller_frame, 1000000);
+    measure("  heard, taken", controller_hear_other, 1000000);
+    measure("  sent, taken", controller_send, 1000000);
     measure("listener_close", close_listener, 0);
     measure("assembler_close", close_assembler, 0);
     measure("receiver_close", close_receiver, 0);

@@ -101,59 +101,83 @@ static void call_handles(size_t i, uint8_t address) {
 /* Hands the frame that a controller sent to the others. */
 static void tell_others(const j1939_controller *controller) {
     for (size_t i = 0; i < PARTS; i++) {
-        if (&controllers[i] != controller) answered(j1939_controller_hear(&controllers[i], &out), J1939_NO_MEMORY, 0);
+        if (&controllers[i] != controller) answered(j1939_controller_hear(&controllers[i], &out), J1939_NO_PART, 0);
     }
 }
 
 /* Takes all that a controller hands out. */
 static void empty_controller(j1939_controller *controller) {
+    static j1939_frame seen;
     j1939_request request;
-    size_t number;
-    uint8_t byte;
+    j1939_ended ended;
+    uint8_t priority = 0;
     int32_t answer;
-    while ((answer = j1939_controller_take_frame(controller, &out, &number)) > 0) {
-        EXPECT(answer <= 3);
+    while ((answer = j1939_controller_peek_frame(controller, now, &seen)) > 0) {
+        EXPECT(j1939_controller_take_frame(controller, now, &out) == 1 && out.id == seen.id && out.len == seen.len);
         tell_others(controller);
     }
     answered(answer, J1939_NO_PART, 0);
-    while ((answer = j1939_controller_take_received(controller, &message, &byte)) > 0) {
-        EXPECT(answer == 1 && message.len >= 9 && message.len <= J1939_LONGEST && !message.is_named);
+    while ((answer = j1939_controller_take_received(controller, &message, &priority)) > 0) {
+        EXPECT(answer <= J1939_RECEIVED_BROADCAST && message.len <= J1939_LONGEST && !message.is_named && priority < 8);
+        EXPECT((answer == J1939_RECEIVED_FRAME) == (message.len < 9));
     }
     answered(answer, J1939_NO_PART, 0);
-    while ((answer = j1939_controller_take_asked(controller, &request)) > 0) {
-        EXPECT(answer == 1 && request.pgn < 1u << 18);
+    while ((answer = j1939_controller_take_request(controller, &request)) > 0) {
+        EXPECT(answer == 1 && (request.pgn == 65260 || request.pgn == 61444));
+        answered(j1939_controller_acknowledge(controller, now, &request, (uint8_t)(next() % 5)), J1939_FULL, 0);
     }
     answered(answer, J1939_NO_PART, 0);
-    while ((answer = j1939_controller_take_settled(controller, &number, &byte)) > 0) EXPECT(answer <= 3);
+    while ((answer = j1939_controller_take_ended(controller, &ended)) > 0) {
+        EXPECT(answer <= J1939_ENDED_REQUEST && ended.ending >= J1939_ENDED_DONE);
+        EXPECT(ended.ending <= J1939_ENDED_TIMED_OUT);
+    }
     answered(answer, J1939_NO_PART, 0);
+    while ((answer = j1939_controller_take_news(controller)) > 0) EXPECT(answer <= J1939_NEWS_MISSED);
+    answered(answer, J1939_NO_PART, 0);
+}
+
+/* What it is asked of itself. */
+static void ask_controller(j1939_controller *controller, uint8_t address) {
+    uint64_t number;
+    uint8_t own;
+    answered(j1939_controller_status(controller, &own), J1939_NO_PART, J1939_CANNOT);
+    answered(j1939_controller_next_due(controller, &number), J1939_NO_PART, 1);
+    answered(j1939_controller_next_tick(controller, &number), J1939_NO_PART, 1);
+    answered(j1939_controller_missed(controller, &number), J1939_NO_PART, 0);
+    answered(j1939_controller_holder(controller, address, &number), J1939_NO_PART, 1);
+    answered(j1939_controller_address_of(controller, next() % 4, &own), J1939_NO_PART, 1);
+    answered(j1939_controller_free_address(controller, &own), J1939_NO_PART, 1);
+}
+
+/* Whether it tells a token, or why there is none. */
+static void told(int32_t answer) {
+    EXPECT(answer == 1 || answer == J1939_BAD_VALUE || answer == J1939_NO_PART || answer == J1939_NO_ADDRESS
+           || answer == J1939_FULL);
 }
 
 static void call_controller(j1939_controller *controller, uint8_t address) {
     static const uint8_t payload[1800];
-    uint32_t id;
-    uint8_t own;
+    static const uint32_t served[] = {65260, 61444, 1u << 18};
+    uint64_t token;
     size_t size = next() % 64 ? 9 + next() % 20 : next() % sizeof payload;
     switch (next() % 12) {
-    case 0: answered(j1939_controller_new(controller, next() % 4, address), J1939_IN_USE, 0); break;
+    case 0:
+        answered(j1939_controller_new(controller, next() % 4, address, served, 2 + !(next() % 8)), J1939_IN_USE, 0);
+        break;
     case 1:
         if (next() % 256 == 0) answered(j1939_controller_close(controller), 0, 0);
         break;
-    case 2: answered(j1939_controller_pass(controller, now), J1939_NO_MEMORY, 0); break;
-    case 3: answered(j1939_controller_turn(controller, now), J1939_NO_MEMORY, 0); break;
-    case 4:
-        answered(j1939_controller_held(controller, &own), J1939_NO_PART, 1);
-        answered(j1939_controller_wish(controller, &id), J1939_NO_PART, 1);
+    case 2: answered(j1939_controller_tick(controller, now), J1939_NO_PART, 0); break;
+    case 3: ask_controller(controller, address); break;
+    case 4: told(j1939_controller_ask(controller, now, next() % 2 ? 65260 : 65262, address, &token)); break;
+    case 5: answered(j1939_controller_move_to(controller, address), J1939_NO_PART, 1); break;
+    case 6:
+        told(j1939_controller_send(controller, now, (uint8_t)(next() % 9), 61444, 255, payload, next() % 10, &token));
         break;
-    case 5: answered(j1939_controller_free_at(controller, now, &own), J1939_NO_PART, 1); break;
-    case 6: answered(j1939_controller_send(controller, &frame, next()), J1939_NO_MEMORY, 0); break;
-    case 7:
-        answered(j1939_controller_broadcast(controller, next(), 65260, payload, size, now), J1939_NO_MEMORY, 1);
-        break;
-    case 8:
-        answered(j1939_controller_transfer(controller, next(), address, 65260, payload, size, now), J1939_NO_MEMORY, 1);
-        break;
+    case 7: told(j1939_controller_broadcast(controller, now, 65260, payload, size, &token)); break;
+    case 8: told(j1939_controller_transfer(controller, now, 65260, address, payload, size, &token)); break;
     case 9: empty_controller(controller); break;
-    default: answered(j1939_controller_hear(controller, &frame), J1939_NO_MEMORY, 0);
+    default: answered(j1939_controller_hear(controller, &frame), J1939_NO_PART, 0);
     }
 }
 

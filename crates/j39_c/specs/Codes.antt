@@ -5,7 +5,7 @@ use Rattle.j39_transport.specs.Cutting.{ToSend, without_stamp}
 use Rattle.j39_c.specs.Can.{frame_of}
 use Rattle.j39_c.specs.declared.can.CanFrame.{CanFrame}
 use Rattle.j39_c.specs.declared.refusal.Refusal.{Refusal}
-use Rattle.j39_c.specs.declared.refusal.Refusal.TheVariants.{BadValue, NoPart, NoMemory, InUse, NoRoom, End}
+use Rattle.j39_c.specs.declared.refusal.Refusal.TheVariants.{BadValue, NoPart, NoMemory, InUse, NoRoom, End, NoAddress, Full}
 
 abbrev pub bad_value : ℤ
 bad_value = negsuc 0
@@ -25,6 +25,12 @@ no_room = negsuc 4
 abbrev pub end : ℤ
 end = negsuc 5
 
+abbrev pub no_address : ℤ
+no_address = negsuc 7
+
+abbrev pub full : ℤ
+full = negsuc 8
+
 abbrev pub code_of : Refusal → ℤ
 code_of BadValue = bad_value
 code_of NoPart = no_part
@@ -32,6 +38,8 @@ code_of NoMemory = no_memory
 code_of InUse = in_use
 code_of NoRoom = no_room
 code_of End = end
+code_of NoAddress = no_address
+code_of Full = full
 
 -- the call was done; it did nothing
 abbrev pub IsDone : ℤ → Type 0

@@ -1,142 +1,223 @@
--- What a controller answers to C.
-use Rattle.std.specs.Prelude.{◌≡◌, ◌≢◌, ◌<◌, ◌≤◌, ◌^◌, ◌++◌, ◌∷◌, [], ℕ, zero, suc, ℤ, pos, negsuc, Bool, true, false, Option, Some, None, IfSome, List, drop, length}
-use Rattle.std.specs.Option.{option_to_list}
-use Rattle.j39_address.specs.Node.{Node}
-use Rattle.j39_address.specs.Node.NodeStatus.{Idle}
+-- What a controller answers to C, by the histories of its calls.
+use Rattle.std.specs.Prelude.{◌≡◌, ◌<◌, ◌≤◌, ◌^◌, ◌+◌, min, ◌∷◌, ◌++◌, [], ℕ, zero, suc, ℤ, pos, negsuc, nat_eq, nat_lt, Bool, true, false, Option, Some, None, IfSome, IsSomeAnd, Result, Ok, Err, List, length, take, if◌then◌else◌}
+use Rattle.std.specs.Option.{option_map}
+use Rattle.std.specs.List.{list_all}
+use Rattle.j39_address.specs.Claim.{claims_of}
+use Rattle.j39_address.specs.Holder.{IsHolderAfter}
+use Rattle.j39_address.specs.Node.{IsLeastFree, NoneFree}
 use Rattle.j39_frame.specs.Address.{IsAddress}
-use Rattle.j39_frame.specs.Frame.{FrameRecord}
-use Rattle.j39_controller.specs.Asked.{AskedRecord}
-use Rattle.j39_controller.specs.Controller.{BroadcastsAt, HasNode, IsFreeAt, IsSent, KeepsButAsked, KeepsButReceived, KeepsButSending, KeepsButTold, KeepsButWaiting, LosesNothing, TransfersAt, Turns, asked_in, received_in, told_in, waiting_in}
-use Rattle.j39_controller.specs.Inbox.{ReceivedRecord, received_of}
-use Rattle.j39_controller.specs.MaySend.{MaySend, held_in}
-use Rattle.j39_controller.specs.Queues.{IsFront}
-use Rattle.j39_controller.specs.declared.controller.Controller.{Controller}
-use Rattle.j39_controller.specs.declared.outbox.MessageFrame.{MessageFrame}
-use Rattle.j39_controller.specs.declared.outbox.Wish.{Wish}
-use Rattle.j39_controller.specs.declared.settled.Ending.TheVariants as ending
-use Rattle.j39_controller.specs.declared.settled.Settled.{Settled}
-use Rattle.j39_c.specs.Can.{frame_of}
-use Rattle.j39_c.specs.Codes.{told}
+use Rattle.j39_transport.specs.Message.{MessageRecord}
+use Rattle.j39_node.specs.History.{Asked, Call, Message, Who, missed, told_claims}
+use Rattle.j39_node.specs.History.Call.{ReleaseBroadcast, ReleaseTransfer, TakeAskEnded, TakeBroadcastEnded, TakeEnded, TakeReceived, TakeTransferEnded}
+use Rattle.j39_node.specs.Hearing.{unheard, waiting}
+use Rattle.j39_node.specs.Is.{Is}
+use Rattle.j39_node.specs.Moving.{IsSettled, moved}
+use Rattle.j39_node.specs.Reception.{reception}
+use Rattle.j39_node.specs.declared.controller.Controller.{Controller}
+use Rattle.j39_node.specs.declared.kinds.Answer.{Answer}
+use Rattle.j39_node.specs.declared.kinds.Answer.TheVariants.{Ack, Nack, Denied, Busy}
+use Rattle.j39_node.specs.declared.kinds.AskEnding.{AskEnding}
+use Rattle.j39_node.specs.declared.kinds.AskEnding.TheVariants as request
+use Rattle.j39_node.specs.declared.kinds.Ending.{Ending}
+use Rattle.j39_node.specs.declared.kinds.Ending.TheVariants as message
+use Rattle.j39_node.specs.declared.kinds.News.{News}
+use Rattle.j39_node.specs.declared.kinds.News.TheVariants.{AddressLost, AnotherAtAddress, MessagesMissed}
+use Rattle.j39_node.specs.declared.kinds.Refused.{Refused}
+use Rattle.j39_node.specs.declared.kinds.Refused.TheVariants.{NoAddress, BadValue, Full}
+use Rattle.j39_node.specs.declared.kinds.TransferEnding.{TransferEnding}
+use Rattle.j39_node.specs.declared.kinds.TransferEnding.TheVariants as transfer
+use Rattle.j39_c.specs.Codes.{bad_value, full, no_address, no_part}
 use Rattle.j39_c.specs.Messages.{hearing_in}
+use Rattle.j39_c.specs.Parts.{controller_in}
+use Rattle.j39_c.specs.declared.handed_out.PlainEnded.{PlainEnded}
 use Rattle.j39_c.specs.declared.handed_out.PlainRequest.{PlainRequest}
-use Rattle.j39_c.specs.declared.can.CanFrame.{CanFrame}
 use Rattle.j39_c.specs.declared.message.WholeMessage.{WholeMessage}
+use Rattle.j39_c.specs.declared.part.Part.{Part}
+use Rattle.j39_c.specs.declared.refusal.Refusal.{Refusal}
+use Rattle.j39_c.specs.declared.refusal.Refusal.TheVariants as refusal
 
--- ---- its address
+-- each history that leads to `old` leads on to `new` by these calls, the newest first
+abbrev pub Goes : List Call → Controller → Controller → Type 0
+Goes calls old new = (w : Who) (H : List Call) → Is w H old → Is w (calls ++ H) new
 
--- the address that it holds, or none
-abbrev pub Holds : Controller → Option ℕ → Type 0
-Holds c address = (node : Node) → HasNode c node → address ≡ held_in node.status
+-- the same of one call
+abbrev pub Continues : Call → Controller → Controller → Type 0
+Continues call old new = Goes (call ∷ []) old new
 
--- the address that a message may begin from at a moment, or none
-abbrev pub BeginsFrom : Controller → ℕ → Option ℕ → Type 0
-BeginsFrom c now address = (node : Node) → HasNode c node → IsFreeAt c now node address
+-- each history that leads here says so
+abbrev pub Says : (Who → List Call → Type 0) → Controller → Type 0
+Says fact c = (w : Who) (H : List Call) → Is w H c → fact w H
 
--- time passes for its messages
-abbrev pub LetsTurn : Controller → ℕ → Controller → Type 0
-LetsTurn old now new = (node : Node) → HasNode old node → Turns old now (held_in node.status) new
+-- ---- opened
 
--- no memory was left for time to pass for its address: it was idle, and what there is to take stays, in front of what came
-pub record FailsToPass (old new : Controller) : Type 0 where
-  pub idle : (node : Node) → HasNode old node → node.status ≢ Idle → ⊥
-  pub kept : LosesNothing old new
+-- 16 groups at most
+pub record CanRead (served : List ℕ) : Type 0 where
+  pub most : length served ≤ 16
+  pub groups : list_all (λ group. nat_lt group 262144) served ≡ true
 
--- no memory was left for time to pass for its messages: it holds an address, and what waits and what there is to take stays,
--- in front of what came
-pub record FailsToTurn (old new : Controller) : Type 0 where
-  pub held : (node : Node) → HasNode old node → held_in node.status ≢ None
-  pub kept : LosesNothing old new
-  pub waiting : IsFront (waiting_in old) (waiting_in new)
+-- an address, and the groups that the program serves
+pub record CanServe (address : ℕ) (served : List ℕ) : Type 0 where
+  pub is_address : IsAddress address
+  pub can_read : CanRead served
+
+-- why there is no controller of them
+abbrev pub IsMakeRefusal : ℕ → List ℕ → Refusal → Type 0
+IsMakeRefusal address served refusal.BadValue = CanServe address served → ⊥
+IsMakeRefusal address served refusal.NoMemory = CanServe address served
+IsMakeRefusal address served other = ⊥
+
+-- ---- what its history says
+
+-- the address that a NAME holds, or that it holds none
+abbrev pub IsAddressOf : Who → List Call → ℕ → Option ℕ → Type 0
+IsAddressOf w H name (Some a) = IsHolderAfter (claims_of (told_claims w H)) a (Some name)
+IsAddressOf w H name None = (a : ℕ) → a < 254 → IsHolderAfter (claims_of (told_claims w H)) a (Some name) → ⊥
+
+-- the least address of 128 to 247 that nobody holds, or that there is none
+abbrev pub IsFree : Who → List Call → Option ℕ → Type 0
+IsFree w H (Some a) = IsLeastFree (claims_of (told_claims w H)) a
+IsFree w H None = NoneFree (claims_of (told_claims w H))
+
+-- how many messages were missed, as far as the count goes
+abbrev pub count_missed : Who → List Call → ℕ
+count_missed w H = min (missed w H + unheard w H) 18446744073709551615
+
+-- ---- it moves: 1 where it may, and begins anew there, else 0, and it stays as it was
+abbrev pub Moves : ℕ → ℤ → Controller → Controller → Type 0
+Moves address (pos zero) old new = (new ≡ old) × Says (λ w H. IsAddress address × IsSettled w H → ⊥) old
+Moves address (pos (suc n)) old new =
+    (w : Who) (H : List Call) → Is w H old → IsAddress address × IsSettled w H × Is (moved w H address) [] new
+Moves address (negsuc n) old new = ⊥
 
 -- ---- messages are handed in
 
--- a frame that is a message by itself is handed in
-abbrev pub TakesIn : Controller → FrameRecord → ℕ → Controller → Type 0
-TakesIn old f number new = (node : Node) → HasNode old node → IsSent old node f number new
-
--- a group and 9 to 1,785 bytes, at a moment
-pub record CanBegin (pgn : ℕ) (bytes : List ℕ) (micros : ℕ) : Type 0 where
+-- a group, at a moment
+pub record IsAt (pgn micros : ℕ) : Type 0 where
   pub group : pgn < 2 ^ 18
-  pub least : 9 ≤ length bytes
-  pub most : length bytes ≤ 1785
   pub moment : micros < 10 ^ 16
 
-abbrev pub CanTransfer : ℕ → ℕ → List ℕ → ℕ → Type 0
-CanTransfer to pgn bytes micros = IsAddress to × CanBegin pgn bytes micros
+-- why nothing is accepted
+abbrev pub IsRefusal : Refused → ℤ → Type 0
+IsRefusal NoAddress code = code ≡ no_address
+IsRefusal BadValue code = code ≡ bad_value
+IsRefusal Full code = code ≡ full
 
--- whether a message has begun, by what a call answered
-abbrev pub begun : ℤ → Bool
-begun (pos zero) = false
-begun (pos (suc n)) = true
-begun (negsuc n) = false
+-- a message is accepted, and this is its token
+abbrev pub IsAccepted : ℤ → ℕ → Result ℕ Refused → Type 0
+IsAccepted code token (Ok t) = (code ≡ pos 1) × (token ≡ t)
+IsAccepted code token (Err why) = IsRefusal why code
 
--- a message of this group and these bytes has begun, to all or to an address, or nothing has changed
-pub record Broadcasts (old : Controller) (number pgn : ℕ) (bytes : List ℕ) (now : ℕ) (begun : Bool) (new : Controller)
-    : Type 0 where
-  pub begins : (node : Node) → HasNode old node
-      → BroadcastsAt (held_in node.status) old number pgn bytes now begun new
-  pub rest : KeepsButSending old new
+-- an acknowledgment is accepted
+abbrev pub IsTaken : ℤ → Result (Unit {0}) Refused → Type 0
+IsTaken code (Ok t) = code ≡ pos 0
+IsTaken code (Err why) = IsRefusal why code
 
-pub record Transfers (old : Controller) (number to pgn : ℕ) (bytes : List ℕ) (now : ℕ) (begun : Bool) (new : Controller)
-    : Type 0 where
-  pub begins : (node : Node) → HasNode old node
-      → TransfersAt (held_in node.status) old number to pgn bytes now begun new
-  pub rest : KeepsButSending old new
+-- a call that hands something to the controller of a handle, which holds `old` before it and `new` after it: `fits` says that the
+-- values it is given are in range, `is_told` which answer of the controller it tells
+pub record Offers {A : Type 0} (fits : Type 0) (old : Option Part) (code : ℤ) (new : Option Part)
+    (call : Result A Refused → Call) (is_told : Result A Refused → Type 0) : Type 0 where
+  -- the history goes on by the call, with its answer
+  pub done : fits → IfSome (controller_in old) (λ o. (answer : Result A Refused) × is_told answer
+      × IsSomeAnd (controller_in new) (λ n. Continues (call answer) o n))
+  -- the handle holds no controller: it is as it was
+  pub foreign : fits → controller_in old ≡ None → (code ≡ no_part) × (new ≡ old)
+  -- a value is out of its range: the handle is as it was
+  pub bad : (fits → ⊥) → (code ≡ bad_value) × (new ≡ old)
 
--- ---- a frame is taken
+-- ---- requests
 
-abbrev pub part_of : ℕ → Bool → Option MessageFrame
-part_of number is_last = Some (record { number = number; is_last = is_last })
+-- the request that is written out
+abbrev pub request_in : PlainRequest → Asked
+request_in r = record { source = r.source; destination = r.destination; group = r.pgn }
 
--- the frame that goes out, by what a call answered and wrote out: 0 none, 1 one that is no part of a message that was
--- handed in, 2 a part of the message of this number, 3 the message's last
-abbrev pub wish_in : ℤ → CanFrame → ℕ → Option Wish
-wish_in (pos zero) can number = None
-wish_in (pos (suc zero)) can number = Some (record { frame = frame_of can; part = None })
-wish_in (pos (suc (suc zero))) can number = Some (record { frame = frame_of can; part = part_of number false })
-wish_in (pos (suc (suc (suc n)))) can number = Some (record { frame = frame_of can; part = part_of number true })
-wish_in (negsuc n) can number = None
+-- how a request is acknowledged, by its number (J1939-21, 5.4.4)
+abbrev pub answer_in : ℕ → Option Answer
+answer_in n =
+    if nat_eq n 0 then Some Ack else if nat_eq n 1 then Some Nack else if nat_eq n 2 then Some Denied
+    else if nat_eq n 3 then Some Busy else None
 
--- the first frame that waits is taken, and goes out exactly where it may
-pub record TakesFrame (old : Controller) (wish : Option Wish) (new : Controller) : Type 0 where
-  pub may : (node : Node) → HasNode old node → IfSome wish (λ w. MaySend node w.frame)
-  pub goes : (node : Node) (first : Wish) (others : List Wish) → HasNode old node
-      → waiting_in old ≡ first ∷ others → MaySend node first.frame → wish ≡ Some first
-  pub dropped : (node : Node) (first : Wish) (others : List Wish) → HasNode old node
-      → waiting_in old ≡ first ∷ others → (MaySend node first.frame → ⊥) → wish ≡ None
-  pub none : waiting_in old ≡ [] → wish ≡ None
-  pub next : waiting_in new ≡ drop 1 (waiting_in old)
-  pub rest : KeepsButWaiting old new
+-- ---- what ended, by what a call answered and wrote out
 
--- ---- what came is taken
+-- 1 done, 2 withdrawn
+abbrev pub ending_in : ℕ → Option Ending
+ending_in n = if nat_eq n 1 then Some message.Done else if nat_eq n 2 then Some message.Withdrawn else None
 
--- the message that was received, and where it went, by what a call answered and wrote out
-abbrev pub received : ℤ → WholeMessage → ℕ → Option ReceivedRecord
-received code m to = told code (received_of (hearing_in m).message to (hearing_in m).stamp)
+-- the same; 3 failed for a reason, 4 its destination is gone
+abbrev pub transfer_ending_in : ℕ → ℕ → Option TransferEnding
+transfer_ending_in n detail =
+    if nat_eq n 1 then Some transfer.Done else if nat_eq n 2 then Some transfer.Withdrawn
+    else if nat_eq n 3 then Some (transfer.Failed detail) else if nat_eq n 4 then Some transfer.Gone else None
 
-pub record TakesReceived (old : Controller) (message : Option ReceivedRecord) (new : Controller) : Type 0 where
-  pub first : received_in old ≡ option_to_list message ++ received_in new
-  pub none : message ≡ None → received_in old ≡ []
-  pub rest : KeepsButReceived old new
+-- 1 answered by its group, 2 withdrawn, 5 acknowledged, 6 it timed out
+abbrev pub ask_ending_in : ℕ → ℕ → Option AskEnding
+ask_ending_in n detail =
+    if nat_eq n 1 then Some request.Answered else if nat_eq n 2 then Some request.Withdrawn
+    else if nat_eq n 5 then option_map request.Acknowledged (answer_in detail)
+    else if nat_eq n 6 then Some request.TimedOut else None
 
--- the request that was heard
-abbrev pub asked : ℤ → PlainRequest → Option AskedRecord
-asked code r = told code (record { source = r.source; destination = r.destination; pgn = r.pgn })
+abbrev pub with_token : {E : Type 0} → PlainEnded → Option E → Option (ℕ × E)
+with_token x ending = option_map (λ e. (x.token, e)) ending
 
-pub record TakesAsked (old : Controller) (request : Option AskedRecord) (new : Controller) : Type 0 where
-  pub first : asked_in old ≡ option_to_list request ++ asked_in new
-  pub none : request ≡ None → asked_in old ≡ []
-  pub rest : KeepsButAsked old new
+-- 0 none of the four kinds; 1 a message of one frame, 2 a broadcast, 3 a transfer, 4 a request
+abbrev pub ended_by : ℤ → PlainEnded → List Call
+ended_by (pos zero) x = TakeAskEnded None ∷ TakeTransferEnded None ∷ TakeBroadcastEnded None ∷ TakeEnded None ∷ []
+ended_by (pos (suc zero)) x = TakeEnded (with_token x (ending_in x.ending)) ∷ []
+ended_by (pos (suc (suc zero))) x = TakeBroadcastEnded (with_token x (ending_in x.ending)) ∷ TakeEnded None ∷ []
+ended_by (pos (suc (suc (suc zero)))) x =
+    TakeTransferEnded (with_token x (transfer_ending_in x.ending x.detail)) ∷ TakeBroadcastEnded None ∷ TakeEnded None ∷ []
+ended_by (pos (suc (suc (suc (suc n))))) x =
+    TakeAskEnded (with_token x (ask_ending_in x.ending x.detail)) ∷ TakeTransferEnded None ∷ TakeBroadcastEnded None
+    ∷ TakeEnded None ∷ []
+ended_by (negsuc n) x = []
 
--- how a message ended: 1 done, 2 failed for a reason, 3 withdrawn
-abbrev pub settled : ℤ → ℕ → ℕ → Option Settled
-settled (pos zero) number reason = None
-settled (pos (suc zero)) number reason = Some (record { number = number; ending = ending.Done })
-settled (pos (suc (suc zero))) number reason = Some (record { number = number; ending = ending.Failed reason })
-settled (pos (suc (suc (suc n)))) number reason = Some (record { number = number; ending = ending.Withdrawn })
-settled (negsuc n) number reason = None
+-- ---- what was received, by what a call answered and wrote out
 
-pub record TakesSettled (old : Controller) (ended : Option Settled) (new : Controller) : Type 0 where
-  pub first : told_in old ≡ option_to_list ended ++ told_in new
-  pub none : ended ≡ None → told_in old ≡ []
-  pub rest : KeepsButTold old new
+-- a message of one frame, and its moment
+abbrev pub short_in : WholeMessage → ℕ → ℕ × Message
+short_in m priority = (
+  m.micros,
+  record {
+    source = m.source;
+    destination = (hearing_in m).destination;
+    priority = priority;
+    group = m.pgn;
+    bytes = (hearing_in m).message.bytes;
+  },
+)
+
+-- a message in packets, and the moment of its last one
+abbrev pub long_in : WholeMessage → ℕ × MessageRecord
+long_in m = (m.micros, (hearing_in m).message)
+
+-- its bytes: a message has 1,785 at most (J1939-21, 5.10.1)
+abbrev pub first_bytes : ℕ × MessageRecord → ℕ × MessageRecord
+first_bytes x = (x.0, record { source = x.1.source; pgn = x.1.pgn; bytes = take 1785 x.1.bytes })
+
+abbrev pub long_if : Bool → WholeMessage → Option (ℕ × MessageRecord)
+long_if true m = Some (long_in m)
+long_if false m = None
+
+-- 0 none; 1 a message of one frame; 2 one in packets to its address, 3 one to all: its place is free again
+abbrev pub received_by : ℤ → WholeMessage → ℕ → List Call
+received_by (pos zero) m priority = TakeReceived None ∷ []
+received_by (pos (suc zero)) m priority = TakeReceived (Some (short_in m priority)) ∷ []
+received_by (pos (suc (suc zero))) m priority = ReleaseTransfer true ∷ TakeReceived None ∷ []
+received_by (pos (suc (suc (suc n)))) m priority = ReleaseBroadcast true ∷ TakeReceived None ∷ []
+received_by (negsuc n) m priority = []
+
+-- what waited in packets, at its address and to all
+abbrev pub Waited : ℤ → WholeMessage → Who → List Call → Type 0
+Waited (pos zero) m w H = ((reception w H).waits ≡ None) × (waiting w H ≡ None)
+Waited (pos (suc zero)) m w H = Unit {0}
+Waited (pos (suc (suc zero))) m w H = option_map first_bytes (reception w H).waits ≡ Some (long_in m)
+Waited (pos (suc (suc (suc n)))) m w H =
+    ((reception w H).waits ≡ None) × (option_map first_bytes (waiting w H) ≡ Some (long_in m))
+Waited (negsuc n) m w H = Unit {0}
+
+-- ---- news: 1 the address was lost, 2 another sends from it, 3 messages were missed
+abbrev pub news_in : ℤ → Option News
+news_in (pos zero) = None
+news_in (pos (suc zero)) = Some AddressLost
+news_in (pos (suc (suc zero))) = Some AnotherAtAddress
+news_in (pos (suc (suc (suc n)))) = Some MessagesMissed
+news_in (negsuc n) = None

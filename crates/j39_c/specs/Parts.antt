@@ -24,10 +24,10 @@ use Rattle.j39_c.specs.declared.can.CanFrame.{CanFrame}
 use Rattle.j39_c.specs.declared.message.WholeMessage.{WholeMessage}
 use Rattle.j39_c.specs.declared.part.Part.{Part}
 use Rattle.j39_c.specs.declared.refusal.Refusal.{Refusal}
-use Rattle.j39_c.specs.declared.refusal.Refusal.TheVariants.{BadValue, NoPart, NoMemory, InUse, NoRoom, End}
+use Rattle.j39_c.specs.declared.refusal.Refusal.TheVariants.{BadValue, NoPart, NoMemory, InUse, NoRoom, End, NoAddress, Full}
 use Rattle.j39_c.specs.declared.part.Part.TheVariants.{Listening, Receiving, Sending, Assembling, Controlling}
 use Rattle.j39_listen.specs.declared.listener.Listener as heard
-use Rattle.j39_controller.specs.declared.controller.Controller.{Controller}
+use Rattle.j39_node.specs.declared.controller.Controller.{Controller}
 
 -- what a handle's part gives, by its kind
 abbrev by_kind : {T : Type 0} → (heard.Listener → Option T) → (BoxedReceiver → Option T) → (SenderRecord → Option T)
@@ -119,6 +119,8 @@ IsSendRefusal m destination NoPart = ⊥
 IsSendRefusal m destination InUse = ⊥
 IsSendRefusal m destination NoRoom = ⊥
 IsSendRefusal m destination End = ⊥
+IsSendRefusal m destination NoAddress = ⊥
+IsSendRefusal m destination Full = ⊥
 
 -- how far a sender is, and the reason where it failed
 abbrev pub IsSendCode : SendState → ℤ → ℕ → Type 0

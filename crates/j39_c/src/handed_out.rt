@@ -1,16 +1,19 @@
 //! What calls write out, as C has it.
-ghost use Rattle.std.specs.Prelude.{◌≡◌, None, Some, pos, ◌∷◌, []};
+ghost use Rattle.std.specs.Prelude.{◌≡◌, ◌↔◌, ◌<◌, ◌^◌, None, Some, IfSome, IsSome, pos, ◌∷◌, []};
 ghost use Rattle.std.specs.Option.{option_map};
 ghost use Rattle.j39_address.specs.Name.{name_raw};
-ghost use Rattle.j39_c.specs.Calls.{Fills, Puts};
-ghost use Rattle.j39_c.specs.Codes.{told};
-ghost use Rattle.j39_c.specs.Controllers.{asked, received, settled, wish_in};
-ghost use Rattle.j39_c.specs.Messages.{marked};
+ghost use Rattle.j39_frame.specs.Stamp.{stamp_micros};
+ghost use Rattle.j39_node.specs.Is.{received_by, request_by};
+ghost use Rattle.j39_c.specs.Calls.{Answers, Fills, Puts};
+ghost use Rattle.j39_c.specs.Codes.{IsDone, bad_value, full, no_address, told};
+ghost use Rattle.j39_c.specs.Controllers.{IsAccepted, IsRefusal, IsTaken, answer_in, ask_ending_in, ending_in, request_in, short_in, transfer_ending_in};
+ghost use Rattle.j39_c.specs.Messages.{hearing_in};
 
-use crate::can::{CanFrame, write_frame};
 use crate::message::WholeMessage;
+use crate::refusal::Refusal;
 use j39_address::Name;
-use j39_controller::{Asked, Ending, Received, Settled, Wish};
+use j39_frame::{Pgn, Stamp};
+use j39_node::{Answer, AskEnding, Ending, Received, Refused, Request, TransferEnding};
 use j39_transport::Message;
 
 /// A request for a group, `j1939_request` of the header.
@@ -23,6 +26,18 @@ pub struct PlainRequest {
     pub source: u8,
     /// 255 where all are asked, else the controller's address.
     pub destination: u8,
+}
+
+/// How what was accepted ended, `j1939_ended` of the header.
+#[repr(C)]
+#[derive(Clone, Copy, Debug)]
+pub struct PlainEnded {
+    /// Its token.
+    pub token: u64,
+    /// 1 done, 2 withdrawn, 3 failed, 4 its destination is gone, 5 acknowledged, 6 it timed out.
+    pub ending: u8,
+    /// The reason where it failed; how a request was acknowledged; else 0.
+    pub detail: u8,
 }
 
 /// Writes out what was found: 1, or 0 where there is none.
@@ -46,82 +61,172 @@ pub(crate) fn put_name(holder: Option<Name>, name: &mut u64) -> i32
     put(holder.map(Name::raw), name)
 }
 
-/// Writes out a frame that goes out, and the number of the message that it is a part of: 0 where there is none, 1 for a
-/// frame that is no part of a message that was handed in, 2 for a part, 3 for the last one.
-pub(crate) fn put_wish(wish: Option<Wish>, out: &mut CanFrame, number: &mut usize) -> i32
-    ensures puts { Puts wish 3 (pos 1 ∷ pos 2 ∷ pos 3 ∷ []) result (wish_in result out.new number.new)
-        (out.new ≡ out.old) }
-    ensures fills_number { Fills (pos 2 ∷ pos 3 ∷ []) result (number.new ≡ number.old) }
+/// Writes out a moment in microseconds: 1, or 0 where there is none.
+pub(crate) fn put_moment(moment: Option<Stamp>, micros: &mut u64) -> i32
+    ensures { Puts (option_map stamp_micros moment) 1 (pos 1 ∷ []) result (told result micros.new)
+        (micros.new ≡ micros.old) }
 {
-    let Some(wish) = wish else {
-        return 0;
-    };
-    write_frame(&wish.frame, out);
-    let Some(part) = wish.part else {
-        return 1;
-    };
-    *number = part.number;
-    if part.is_last { 3 } else { 2 }
+    put(moment.map(Stamp::micros), micros)
 }
 
-/// Writes out a message that was received, and where it went: 1, or 0 where there is none.
-pub(crate) fn put_received(
-    message: Option<Received>,
-    out: &mut WholeMessage,
-    destination: &mut u8,
-) -> i32
-    ensures puts { Puts message 1 (pos 1 ∷ []) result (received result out.new destination.new)
-        (out.new ≡ out.old) }
-    ensures fills_destination { Fills (pos 1 ∷ []) result (destination.new ≡ destination.old) }
-    ensures unnamed { result ≡ pos 1 → marked out.new.is_named out.new.name ≡ None }
-    ensures unaddressed { result ≡ pos 1 → marked out.new.is_addressed out.new.destination ≡ None }
+/// Writes out the token of what was accepted: 1, or why it wasn't.
+pub(crate) fn put_token(answer: Result<u64, Refused>, token: &mut u64) -> i32
+    ensures told { IsAccepted result token.new answer }
+    ensures answers { Answers 1 (bad_value ∷ no_address ∷ full ∷ []) result }
+    ensures fills { Fills (pos 1 ∷ []) result (token.new ≡ token.old) }
 {
-    let Some(message) = message else {
-        return 0;
-    };
+    match answer {
+        Ok(accepted) => {
+            *token = accepted;
+            1
+        }
+        Err(why) => refused(why),
+    }
+}
+
+/// Whether an acknowledgment was accepted: 0, or why it wasn't.
+pub(crate) fn taken(answer: Result<(), Refused>) -> i32
+    ensures told { IsTaken result answer }
+    ensures answers { Answers 0 (bad_value ∷ no_address ∷ full ∷ []) result }
+{
+    match answer {
+        Ok(_accepted) => 0,
+        Err(why) => refused(why),
+    }
+}
+
+/// Why nothing was accepted, as a number.
+fn refused(why: Refused) -> i32
+    ensures told { IsRefusal why result }
+    ensures answers { Answers 0 (bad_value ∷ no_address ∷ full ∷ []) result }
+{
+    match why {
+        Refused::NoAddress => Refusal::NoAddress.code(),
+        Refused::BadValue => Refusal::BadValue.code(),
+        Refused::Full => Refusal::Full.code(),
+    }
+}
+
+/// Writes out a message of one frame, and its priority.
+pub(crate) fn put_received(message: &Received, out: &mut WholeMessage, priority: &mut u8)
+    ensures value { short_in out.new priority.new ≡ received_by message.now }
+    ensures unnamed { (hearing_in out.new).name ≡ None }
+{
     let whole = Message {
         source: message.source,
-        pgn: message.pgn,
-        payload: message.payload.as_slice(),
+        pgn: message.group,
+        payload: message.bytes.as_slice(),
         stamp: message.stamp,
     };
     out.put_message(&whole, None);
-    *destination = message.destination;
-    1
+    out.put_destination(message.destination);
+    *priority = message.priority;
 }
 
 /// Writes out a request: 1, or 0 where there is none.
-pub(crate) fn put_request(request: Option<Asked>, out: &mut PlainRequest) -> i32
-    ensures { Puts request 1 (pos 1 ∷ []) result (asked result out.new) (out.new ≡ out.old) }
+pub(crate) fn put_request(request: Option<Request>, out: &mut PlainRequest) -> i32
+    ensures { Puts (option_map request_by request) 1 (pos 1 ∷ []) result (told result (request_in out.new))
+        (out.new ≡ out.old) }
 {
     let Some(request) = request else {
         return 0;
     };
     *out = PlainRequest {
-        pgn: request.pgn.raw(),
+        pgn: request.group.raw(),
         source: request.source,
         destination: request.destination,
     };
     1
 }
 
-/// Writes out how a message ended: 0 where there is none, 1 where it is done, 2 where it failed for `reason`, 3 where
-/// it was withdrawn.
-pub(crate) fn put_settled(ended: Option<Settled>, number: &mut usize, reason: &mut u8) -> i32
-    ensures puts { Puts ended 3 (pos 1 ∷ pos 2 ∷ pos 3 ∷ []) result (settled result number.new reason.new)
-        (number.new ≡ number.old) }
-    ensures fills_reason { Fills (pos 2 ∷ []) result (reason.new ≡ reason.old) }
+/// The request that C hands in, `None` for a group of 2^18 and above.
+pub(crate) fn request_of(request: &PlainRequest) -> Option<Request>
+    ensures known { IsSome result ↔ (request.now.pgn < 2 ^ 18) }
+    ensures value { IfSome result (λ r. request_by r ≡ request_in request.now) }
 {
-    let Some(ended) = ended else {
-        return 0;
-    };
-    *number = ended.number;
-    match ended.ending {
-        Ending::Done => 1,
-        Ending::Failed(why) => {
-            *reason = why;
-            2
+    let group = Pgn::new(request.pgn)?;
+    Some(Request {
+        source: request.source,
+        destination: request.destination,
+        group,
+    })
+}
+
+/// How a request is acknowledged, by its number.
+pub(crate) fn answer_of(number: u8) -> Option<Answer>
+    ensures { result ≡ answer_in number }
+{
+    match number {
+        0 => Some(Answer::Ack),
+        1 => Some(Answer::Nack),
+        2 => Some(Answer::Denied),
+        3 => Some(Answer::Busy),
+        _ => None,
+    }
+}
+
+/// The number of how a request was acknowledged.
+fn number_of(answer: Answer) -> u8
+    ensures { answer_in result ≡ Some answer }
+{
+    match answer {
+        Answer::Ack => 0,
+        Answer::Nack => 1,
+        Answer::Denied => 2,
+        Answer::Busy => 3,
+    }
+}
+
+impl PlainEnded {
+    /// How a message ended.
+    pub(crate) fn of_message(token: u64, ending: Ending) -> PlainEnded
+        ensures token { result.token ≡ token }
+        ensures ending { ending_in result.ending ≡ Some ending }
+    {
+        let ending = match ending {
+            Ending::Done => 1,
+            Ending::Withdrawn => 2,
+        };
+        PlainEnded {
+            token,
+            ending,
+            detail: 0,
         }
-        Ending::Withdrawn => 3,
+    }
+
+    /// How a transfer ended.
+    pub(crate) fn of_transfer(token: u64, ending: TransferEnding) -> PlainEnded
+        ensures token { result.token ≡ token }
+        ensures ending { transfer_ending_in result.ending result.detail ≡ Some ending }
+    {
+        let (ending, detail) = match ending {
+            TransferEnding::Done => (1, 0),
+            TransferEnding::Withdrawn => (2, 0),
+            TransferEnding::Failed(reason) => (3, reason),
+            TransferEnding::Gone => (4, 0),
+        };
+        PlainEnded {
+            token,
+            ending,
+            detail,
+        }
+    }
+
+    /// How a request ended.
+    pub(crate) fn of_request(token: u64, ending: AskEnding) -> PlainEnded
+        ensures token { result.token ≡ token }
+        ensures ending { ask_ending_in result.ending result.detail ≡ Some ending }
+    {
+        let (ending, detail) = match ending {
+            AskEnding::Answered => (1, 0),
+            AskEnding::Withdrawn => (2, 0),
+            AskEnding::Acknowledged(answer) => (5, number_of(answer)),
+            AskEnding::TimedOut => (6, 0),
+        };
+        PlainEnded {
+            token,
+            ending,
+            detail,
+        }
     }
 }

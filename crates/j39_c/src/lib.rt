@@ -14,33 +14,43 @@ mod listener;
 mod loose;
 mod message;
 mod node;
+mod offering;
 mod part;
 mod reading;
 mod receiver;
 mod refusal;
 mod sender;
+mod taking;
 
 pub use assembler::{j39_assembler_feed, j39_assembler_forget, j39_assembler_new};
 pub use broadcast::{j39_broadcast_init, j39_broadcast_poll};
 pub use can::CanFrame;
 pub use claims::{j39_claims_holder, j39_claims_init, j39_claims_note};
 pub use controller::{
-    j39_controller_broadcast, j39_controller_free_at, j39_controller_hear, j39_controller_held,
-    j39_controller_new, j39_controller_pass, j39_controller_send, j39_controller_take_asked,
-    j39_controller_take_frame, j39_controller_take_received, j39_controller_take_settled,
-    j39_controller_transfer, j39_controller_turn, j39_controller_wish,
+    j39_controller_address_of, j39_controller_free_address, j39_controller_hear,
+    j39_controller_holder, j39_controller_missed, j39_controller_move_to, j39_controller_new,
+    j39_controller_next_due, j39_controller_next_tick, j39_controller_peek_frame,
+    j39_controller_status, j39_controller_take_frame, j39_controller_take_news,
+    j39_controller_tick,
 };
 pub use cut::j39_cut_frame;
 pub use fields::{
     IdFields, NameParts, j39_id_compose, j39_id_split, j39_name_compose, j39_name_split,
 };
-pub use handed_out::PlainRequest;
+pub use handed_out::{PlainEnded, PlainRequest};
 pub use handle::{Handle, j39_close};
 pub use listener::{j39_listener_feed, j39_listener_holder, j39_listener_new};
 pub use message::WholeMessage;
 pub use node::{
     j39_node_commanded, j39_node_init, j39_node_on, j39_node_start, j39_node_status, j39_node_tick,
 };
+pub use offering::{
+    j39_controller_acknowledge, j39_controller_ask, j39_controller_broadcast, j39_controller_send,
+    j39_controller_transfer,
+};
 pub use reading::{PlainReading, j39_raw_of, j39_reading, j39_reading_text};
 pub use receiver::{j39_receiver_busy, j39_receiver_new, j39_receiver_on, j39_receiver_tick};
 pub use sender::{j39_sender_new, j39_sender_on, j39_sender_state, j39_sender_tick};
+pub use taking::{
+    j39_controller_take_ended, j39_controller_take_received, j39_controller_take_request,
+};

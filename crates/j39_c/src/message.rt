@@ -78,7 +78,8 @@ impl WholeMessage {
         }
     }
 
-    fn put_destination(&mut self, destination: Option<u8>)
+    /// Writes out where it was sent.
+    pub(crate) fn put_destination(&mut self, destination: Option<u8>)
         ensures { hearing_in self.new ≡ record (hearing_in self.old) { destination = destination } }
     {
         match destination {

@@ -120,7 +120,9 @@ pub extern "C" fn j39_node_status(node: &Claimer, address: &mut u8) -> i32
     put_status(node.status(), address)
 }
 
-fn put_status(status: Status, address: &mut u8) -> i32
+/// How far an address is, as a number.
+pub(crate) fn put_status(status: Status, address: &mut u8) -> i32
+    ensures done { IsDone result }
     ensures status { IsStatus (status_of status) result address.new }
     ensures answers { Answers 3 [] result }
 {

@@ -1,7 +1,7 @@
 //! The parts of the stack that a handle can hold.
 
-use j39_controller::Controller;
 use j39_listen::Listener;
+use j39_node::Controller;
 use j39_transport::{Assembler, OwnedSender, Receiver};
 
 /// What a handle holds. Each kind lies in a box of its own size.

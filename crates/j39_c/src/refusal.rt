@@ -17,6 +17,10 @@ pub(crate) enum Refusal {
     NoRoom,
     /// There are no more.
     End,
+    /// The controller holds no address.
+    NoAddress,
+    /// As many wait as there is room for.
+    Full,
 }
 
 impl Refusal {
@@ -31,18 +35,8 @@ impl Refusal {
             Refusal::InUse => -4,
             Refusal::NoRoom => -5,
             Refusal::End => -6,
+            Refusal::NoAddress => -8,
+            Refusal::Full => -9,
         }
     }
 }
-
-/// What is answered where a part's call wants nothing but memory: 0, or that memory is refused.
-macro_rules! done {
-    ($ran:expr) => {
-        match $ran {
-            Ok(()) => 0,
-            Err(_) => $crate::refusal::Refusal::NoMemory.code(),
-        }
-    };
-}
-
-pub(crate) use done;

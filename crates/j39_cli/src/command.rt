@@ -10,7 +10,7 @@ use clap::{Arg, ArgAction, Command};
 use std::alloc::{AllocError, Global};
 
 /// What `--version` prints behind the program's name.
-const VERSION: &str = "0.1.0";
+const VERSION: &str = "0.2.0";
 
 const LINE_HELP: &str = "\
 Examples:

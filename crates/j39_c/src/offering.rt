@@ -1,0 +1,148 @@
+//! What a controller is handed in, to be sent (J1939-21, 5.4 and 5.10).
+ghost use Rattle.std.specs.Prelude.{◌≡◌, ◌<◌, ◌^◌, ◌∷◌, [], Some, None, IfSome, IsSome, ◌↔◌, pos};
+ghost use Rattle.j39_frame.specs.Pgn.{pgn_raw};
+ghost use Rattle.j39_frame.specs.Stamp.{stamp_micros};
+ghost use Rattle.j39_node.specs.declared.kinds.Answer.{Answer};
+ghost use Rattle.j39_node.specs.History.Call.{Acknowledge, Ask, Broadcast, Send, Transfer};
+ghost use Rattle.j39_c.specs.Calls.{Answers, Fills};
+ghost use Rattle.j39_c.specs.Codes.{bad_value, full, no_address, no_part};
+ghost use Rattle.j39_c.specs.Controllers.{IsAccepted, IsAt, IsTaken, Offers, answer_in, request_in};
+
+use crate::handed_out::{PlainRequest, answer_of, put_token, request_of, taken};
+use crate::handle::Handle;
+use crate::part::ask;
+use crate::refusal::Refusal;
+use j39_frame::{Pgn, Stamp};
+use std::alloc::Global;
+
+/// Hands in a message of 0 to 8 bytes, to all (255) or to another's address; a group of PF 240 and up goes to all: 1, and
+/// its token. -8 where no address is held. -1 for a priority above 7, a group that no identifier can have or that the stack
+/// itself speaks, no other's address, more than 8 bytes, or a moment of 10^16 microseconds and above. -9 while 16 are
+/// accepted and not told to have ended. -2 where the handle holds no controller.
+#[unsafe(no_mangle)]
+pub extern "C" fn j39_controller_send(
+    alloc: Global,
+    controller: &mut Handle,
+    micros: u64,
+    priority: u8,
+    pgn: u32,
+    to: u8,
+    payload: &[u8],
+    token: &mut u64,
+) -> i32
+    ensures offers { Offers (IsAt pgn micros) controller.old.part result controller.new.part
+        (Send micros (record { priority = priority; group = pgn; to = to; bytes = payload.now }))
+        (IsAccepted result token.new) }
+    ensures answers { Answers 1 (bad_value ∷ no_part ∷ no_address ∷ full ∷ []) result }
+    ensures fills { Fills (pos 1 ∷ []) result (token.new ≡ token.old) }
+{
+    let Some((group, now)) = group_and_moment(pgn, micros) else {
+        return Refusal::BadValue.code();
+    };
+    ask!(alloc, controller, Controlling(held) => put_token(held.send(now, priority, group, to, payload), token))
+}
+
+/// Hands in a message of 9 to 1,785 bytes, to all: 1, and its token. -8 where no address is held. -1 for another number of
+/// bytes, a group that no identifier can have or that the stack itself speaks, or a moment of 10^16 microseconds and above.
+/// -9 while one is accepted and not told to have ended. -2 where the handle holds no controller.
+#[unsafe(no_mangle)]
+pub extern "C" fn j39_controller_broadcast(
+    alloc: Global,
+    controller: &mut Handle,
+    micros: u64,
+    pgn: u32,
+    payload: &[u8],
+    token: &mut u64,
+) -> i32
+    ensures offers { Offers (IsAt pgn micros) controller.old.part result controller.new.part
+        (Broadcast micros pgn payload.now) (IsAccepted result token.new) }
+    ensures answers { Answers 1 (bad_value ∷ no_part ∷ no_address ∷ full ∷ []) result }
+    ensures fills { Fills (pos 1 ∷ []) result (token.new ≡ token.old) }
+{
+    let Some((group, now)) = group_and_moment(pgn, micros) else {
+        return Refusal::BadValue.code();
+    };
+    ask!(alloc, controller, Controlling(held) => put_token(held.broadcast(now, group, payload), token))
+}
+
+/// Hands in a message of 9 to 1,785 bytes, to another's address: 1, and its token. -8 where no address is held. -1 as of a
+/// broadcast, and for no other's address. -9 while one is accepted and not told to have ended. -2 where the handle holds no
+/// controller.
+#[unsafe(no_mangle)]
+pub extern "C" fn j39_controller_transfer(
+    alloc: Global,
+    controller: &mut Handle,
+    micros: u64,
+    pgn: u32,
+    to: u8,
+    payload: &[u8],
+    token: &mut u64,
+) -> i32
+    ensures offers { Offers (IsAt pgn micros) controller.old.part result controller.new.part
+        (Transfer micros pgn to payload.now) (IsAccepted result token.new) }
+    ensures answers { Answers 1 (bad_value ∷ no_part ∷ no_address ∷ full ∷ []) result }
+    ensures fills { Fills (pos 1 ∷ []) result (token.new ≡ token.old) }
+{
+    let Some((group, now)) = group_and_moment(pgn, micros) else {
+        return Refusal::BadValue.code();
+    };
+    ask!(alloc, controller, Controlling(held) => put_token(held.transfer(now, group, to, payload), token))
+}
+
+/// Asks an address, or all (255), for a group: 1, and its token, one of those of `send`. -8 where no address is held. -1
+/// for no other's address, a group of 2^18 and above, or a moment of 10^16 microseconds and above. -9 while one is
+/// accepted and not told to have ended, or 16 messages are. -2 where the handle holds no controller.
+#[unsafe(no_mangle)]
+pub extern "C" fn j39_controller_ask(
+    alloc: Global,
+    controller: &mut Handle,
+    micros: u64,
+    pgn: u32,
+    to: u8,
+    token: &mut u64,
+) -> i32
+    ensures offers { Offers (IsAt pgn micros) controller.old.part result controller.new.part
+        (Ask micros pgn to) (IsAccepted result token.new) }
+    ensures answers { Answers 1 (bad_value ∷ no_part ∷ no_address ∷ full ∷ []) result }
+    ensures fills { Fills (pos 1 ∷ []) result (token.new ≡ token.old) }
+{
+    let Some((group, now)) = group_and_moment(pgn, micros) else {
+        return Refusal::BadValue.code();
+    };
+    ask!(alloc, controller, Controlling(held) => put_token(held.ask(now, group, to), token))
+}
+
+/// Acknowledges a request to its address: 0. The answer is 0 positive, 1 negative, 2 access denied, 3 it can't respond
+/// now. -8 where no address is held. -1 for another answer, a request to all, a group of 2^18 and above, or a moment of
+/// 10^16 microseconds and above. -9 while 16 are due. -2 where the handle holds no controller.
+#[unsafe(no_mangle)]
+pub extern "C" fn j39_controller_acknowledge(
+    alloc: Global,
+    controller: &mut Handle,
+    micros: u64,
+    request: &PlainRequest,
+    answer: u8,
+) -> i32
+    ensures offers { (kind : Answer) → answer_in answer ≡ Some kind → Offers (IsAt request.now.pgn micros)
+        controller.old.part result controller.new.part
+        (Acknowledge micros (request_in request.now) kind) (IsTaken result) }
+    ensures bad { answer_in answer ≡ None → (result ≡ bad_value) × (controller.new.part ≡ controller.old.part) }
+    ensures answers { Answers 0 (bad_value ∷ no_part ∷ no_address ∷ full ∷ []) result }
+{
+    let (Some(now), Some(asked), Some(answer)) = (
+        Stamp::new(micros),
+        request_of(request),
+        answer_of(answer),
+    ) else {
+        return Refusal::BadValue.code();
+    };
+    ask!(alloc, controller, Controlling(held) => taken(held.acknowledge(now, asked, answer)))
+}
+
+/// A group and a moment, where both are in their range.
+fn group_and_moment(pgn: u32, micros: u64) -> Option<(Pgn, Stamp)>
+    ensures known { IsSome result ↔ IsAt pgn micros }
+    ensures value { IfSome result (λ found. (pgn_raw found.0 ≡ pgn) × (stamp_micros found.1 ≡ micros)) }
+{
+    Some((Pgn::new(pgn)?, Stamp::new(micros)?))
+}

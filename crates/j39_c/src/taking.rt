@@ -1,0 +1,180 @@
+//! What a controller hands out.
+ghost use Rattle.std.specs.Prelude.{◌≡◌, ◌≤◌, ◌∷◌, [], ⊤, pos, None, IfSome, true, false, length, take};
+ghost use Rattle.std.specs.Option.{option_map};
+ghost use Rattle.j39_frame.specs.Stamp.{stamp_micros};
+ghost use Rattle.j39_transport.specs.ReceiverModel.{message_shown};
+ghost use Rattle.j39_node.specs.Hearing.{waiting};
+ghost use Rattle.j39_node.specs.History.Call.{ReleaseBroadcast, ReleaseTransfer, TakeRequest};
+ghost use Rattle.j39_node.specs.Reception.{reception};
+ghost use Rattle.j39_c.specs.Calls.{Answers, Asks, Fills, Never};
+ghost use Rattle.j39_c.specs.Codes.{IsDone, IsRefused, no_part, told};
+ghost use Rattle.j39_c.specs.Controllers.{Continues, Goes, Says, Waited, ended_by, first_bytes, long_if, long_in, received_by, request_in};
+ghost use Rattle.j39_c.specs.Messages.{hearing_in};
+ghost use Rattle.j39_c.specs.Parts.{controller_in};
+
+use crate::handed_out::{PlainEnded, PlainRequest, put_received, put_request};
+use crate::handle::Handle;
+use crate::message::WholeMessage;
+use crate::part::ask;
+use crate::refusal::Refusal;
+use j39_node::Controller;
+use j39_transport::{LONGEST, Message};
+use std::alloc::Global;
+
+/// Takes how something ended that was accepted, each once: 0 where nothing did; else it is in `out`: 1 a message of one
+/// frame, 2 a broadcast, 3 a transfer, 4 a request. -2 where the handle holds no controller.
+#[unsafe(no_mangle)]
+pub extern "C" fn j39_controller_take_ended(
+    alloc: Global,
+    controller: &mut Handle,
+    out: &mut PlainEnded,
+) -> i32
+    ensures asks { Asks controller_in ⊤ controller.old.part result controller.new.part
+        (λ old new. Goes (ended_by result out.new) old new) Never }
+    ensures refused { IsRefused result → controller.new.part ≡ controller.old.part }
+    ensures answers { Answers 4 (no_part ∷ []) result }
+    ensures fills { Fills (pos 1 ∷ pos 2 ∷ pos 3 ∷ pos 4 ∷ []) result (out.new ≡ out.old) }
+{
+    ask!(alloc, controller, Controlling(held) => put_ended(held, out))
+}
+
+/// Takes a message that was received, each once: 0 where there is none; else it is in `out`, with no NAME: 1 a message of
+/// 0 to 8 bytes, with its destination and its priority; 2 one in packets to its address, 3 one in packets to all, with no
+/// destination there. -2 where the handle holds no controller.
+#[unsafe(no_mangle)]
+pub extern "C" fn j39_controller_take_received(
+    alloc: Global,
+    controller: &mut Handle,
+    out: &mut WholeMessage,
+    priority: &mut u8,
+) -> i32
+    ensures asks { Asks controller_in ⊤ controller.old.part result controller.new.part
+        (λ old new. Goes (received_by result out.new priority.new) old new × Says (Waited result out.new) old) Never }
+    ensures unnamed { IfSome (told result (hearing_in out.new)) (λ m. m.name ≡ None) }
+    ensures refused { IsRefused result → controller.new.part ≡ controller.old.part }
+    ensures answers { Answers 3 (no_part ∷ []) result }
+    ensures fills_out { Fills (pos 1 ∷ pos 2 ∷ pos 3 ∷ []) result (out.new ≡ out.old) }
+    ensures fills_priority { Fills (pos 1 ∷ []) result (priority.new ≡ priority.old) }
+{
+    ask!(alloc, controller, Controlling(held) => put_message(held, out, priority))
+}
+
+/// Takes a request for a group that the program serves, each once: 1 where there is one, which is in `out`, else 0. -2
+/// where the handle holds no controller.
+#[unsafe(no_mangle)]
+pub extern "C" fn j39_controller_take_request(
+    alloc: Global,
+    controller: &mut Handle,
+    out: &mut PlainRequest,
+) -> i32
+    ensures asks { Asks controller_in ⊤ controller.old.part result controller.new.part
+        (λ old new. Continues (TakeRequest (told result (request_in out.new))) old new) Never }
+    ensures refused { IsRefused result → controller.new.part ≡ controller.old.part }
+    ensures answers { Answers 1 (no_part ∷ []) result }
+    ensures fills { Fills (pos 1 ∷ []) result (out.new ≡ out.old) }
+{
+    ask!(alloc, controller, Controlling(held) => put_request(held.take_request(), out))
+}
+
+/// Takes how something ended, of the first kind of which something did.
+fn put_ended(controller: &mut Controller, out: &mut PlainEnded) -> i32
+    ensures done { IsDone result }
+    ensures goes { Goes (ended_by result out.new) controller.old controller.new }
+    ensures answers { Answers 4 [] result }
+    ensures fills { Fills (pos 1 ∷ pos 2 ∷ pos 3 ∷ pos 4 ∷ []) result (out.new ≡ out.old) }
+{
+    if let Some((token, ending)) = controller.take_ended() {
+        *out = PlainEnded::of_message(token, ending);
+        return 1;
+    }
+    if let Some((token, ending)) = controller.take_broadcast_ended() {
+        *out = PlainEnded::of_message(token, ending);
+        return 2;
+    }
+    if let Some((token, ending)) = controller.take_transfer_ended() {
+        *out = PlainEnded::of_transfer(token, ending);
+        return 3;
+    }
+    if let Some((token, ending)) = controller.take_ask_ended() {
+        *out = PlainEnded::of_request(token, ending);
+        return 4;
+    }
+    0
+}
+
+/// Takes a message, of the first kind of which there is one.
+fn put_message(controller: &mut Controller, out: &mut WholeMessage, priority: &mut u8) -> i32
+    ensures done { IsDone result }
+    ensures goes { Goes (received_by result out.new priority.new) controller.old controller.new }
+    ensures waited { Says (Waited result out.new) controller.old }
+    ensures unnamed { IfSome (told result (hearing_in out.new)) (λ m. m.name ≡ None) }
+    ensures answers { Answers 3 [] result }
+    ensures fills_out { Fills (pos 1 ∷ pos 2 ∷ pos 3 ∷ []) result (out.new ≡ out.old) }
+    ensures fills_priority { Fills (pos 1 ∷ []) result (priority.new ≡ priority.old) }
+{
+    if let Some(message) = controller.take_received() {
+        put_received(&message, out, priority);
+        return 1;
+    }
+    if put_transfer(controller, out) {
+        return 2;
+    }
+    if put_broadcast(controller, out) {
+        return 3;
+    }
+    0
+}
+
+/// Takes the message in packets to its address, where one waits.
+fn put_transfer(controller: &mut Controller, out: &mut WholeMessage) -> bool
+    ensures waits { Says (λ w H. option_map first_bytes (reception w H).waits ≡ long_if result out.new) controller.old }
+    ensures goes { result ≡ true → Continues (ReleaseTransfer true) controller.old controller.new }
+    ensures unnamed { result ≡ true → (hearing_in out.new).name ≡ None }
+    ensures kept { result ≡ false → (controller.new ≡ controller.old) × (out.new ≡ out.old) }
+{
+    let Some(message) = controller.received_transfer() else {
+        return false;
+    };
+    put_first(&message, out);
+    controller.release_transfer();
+    true
+}
+
+/// Takes the message in packets to all, where one waits.
+fn put_broadcast(controller: &mut Controller, out: &mut WholeMessage) -> bool
+    ensures waits { Says (λ w H. option_map first_bytes (waiting w H) ≡ long_if result out.new) controller.old }
+    ensures goes { result ≡ true → Continues (ReleaseBroadcast true) controller.old controller.new }
+    ensures unnamed { result ≡ true → (hearing_in out.new).name ≡ None }
+    ensures kept { result ≡ false → (controller.new ≡ controller.old) × (out.new ≡ out.old) }
+{
+    let Some(message) = controller.received_broadcast() else {
+        return false;
+    };
+    put_first(&message, out);
+    controller.release_broadcast();
+    true
+}
+
+/// Writes out a message in packets: 1,785 bytes of it at most, which is as many as one can have.
+fn put_first(message: &Message<'_>, out: &mut WholeMessage)
+    ensures value { long_in out.new ≡ first_bytes (stamp_micros message.now.stamp, message_shown message.now) }
+    ensures unnamed { (hearing_in out.new).name ≡ None }
+{
+    let first = Message {
+        source: message.source,
+        pgn: message.pgn,
+        payload: first_part(message.payload),
+        stamp: message.stamp,
+    };
+    out.put_message(&first, None);
+}
+
+fn first_part(payload: &[u8]) -> &[u8]
+    ensures value { result.now ≡ take 1785 payload.now }
+    ensures fits { length result.now ≤ 1785 }
+{
+    match payload.get(..LONGEST) {
+        Some(first) => first,
+        None => payload,
+    }
+}
