@@ -1,5 +1,6 @@
 -- which message was delivered
 mod BookLemmas
+mod CallLemmas
 -- the players that were told a frame
 mod TellingLemmas
 -- where a call ended well

@@ -1,9 +1,8 @@
 -- What is noted in the book stays there; what was due is due again.
-use Rattle.std.proofs.Common.{◌≡◌, ◌≤◌, ◌<◌, ◌==◌, ◌++◌, ◌∷◌, ◌∙◌, [], ℕ, zero, suc, List, None, Option, Some, ap, arith, eq-eqb, eqb-true, inl, inr, length, length-append, ltb-false, ltb-true, nat_lt, refl, slice_get, subst, sym}
+use Rattle.std.proofs.Common.{◌≡◌, ◌≤◌, ◌<◌, ◌++◌, ◌∷◌, ◌∙◌, [], ℕ, zero, suc, List, None, Option, Some, ap, arith, inl, inr, length, length-append, ltb-false, ltb-true, nat_lt, refl, slice_get, subst, sym}
 use Rattle.std.proofs.lemmas.Bool.{cases_Bool}
 use Rattle.j39_address.specs.Name.{name_raw}
 use Rattle.bus_demo.specs.Publishing.{AreDueAgain, AreNoted, rate_after}
-use Rattle.bus_demo.specs.declared.bus.book.Fate.{Fate}
 use Rattle.bus_demo.specs.declared.bus.book.Handed.{Handed}
 use Rattle.bus_demo.specs.declared.bus.role.Rate.{Rate}
 
@@ -31,10 +30,6 @@ at_end [] (suc k) last x past there = absurd (cc)
 at_end (z ∷ zs) zero last x past there = absurd (omega arith)
 at_end (z ∷ zs) (suc k) last x past there = at_end zs k last x (omega (arith, past)) there
 
-pub at_last : {X : Type 0} (xs : List X) (last : X) → slice_get (xs ++ (last ∷ [])) (length xs) ≡ Some last
-at_last [] last = refl
-at_last (z ∷ zs) last = at_last zs last
-
 module _ (name : ℕ) where
   pub noted_none : (all : List Handed) → AreNoted name all all
   noted_none all = record {
@@ -60,25 +55,6 @@ module _ (name : ℕ) where
     grows = (let len = length-append old (one ∷ []) in omega (arith, len));
     stays = λ k message there. in_front old (one ∷ []) k message there;
     more = λ k message past there. subst (λ (m : Handed). name_raw m.name ≡ name) (at_end old k one message past there) is;
-  }
-
-  -- and its fate is settled
-  pub noted_settled : (old new : List Handed) (one : Handed) (fate : Fate) → name_raw one.name ≡ name → length new ≡ length (old ++ (one ∷ []))
-      → ((k : ℕ) → (k ≡ length old → ⊥) → slice_get new k ≡ slice_get (old ++ (one ∷ [])) k)
-      → slice_get new (length old) ≡ Some (record one { fate = fate }) → AreNoted name old new
-  noted_settled old new one fate is count others settled = record {
-    grows = (let len = length-append old (one ∷ []) in omega (arith, len, count));
-    stays = λ k message there.
-        let less = inside old k message there in
-        others k (λ e. omega (arith, less, e)) ∙ in_front old (one ∷ []) k message there;
-    more = λ k message past there. elim (cases_Bool (k == length old)) [
-      | inl here ↦
-          let at : slice_get new k ≡ Some (record one { fate = fate }) = ap (slice_get new) (eqb-true _ _ here) ∙ settled in
-          subst (λ (m : Handed). name_raw m.name ≡ name) (same (record one { fate = fate }) message _ at there) is
-      | inr other ↦
-          subst (λ (m : Handed). name_raw m.name ≡ name)
-          (at_end old k one message past (sym (others k (λ e. let t = eq-eqb _ _ e in absurd (cc))) ∙ there)) is
-    ];
   }
 
 -- ---- what was due

@@ -1,19 +1,16 @@
 -- Players to whom something happens, one after another, and the one that takes its frame out.
-use Rattle.std.proofs.Common.{◌≡◌, ◌≢◌, ◌<◌, ◌+◌, ◌∙◌, ◌++◌, ℕ, zero, suc, [], ◌∷◌, List, Option, Some, add-one, ap, arith, length, map, refl, slice_get, slice_set, subst, sym, take}
+use Rattle.std.proofs.Common.{◌≡◌, ◌≢◌, ◌<◌, ◌+◌, ◌∙◌, ◌++◌, ℕ, zero, suc, [], ◌∷◌, List, Option, Some, add-one, ap, arith, length, refl, slice_get, slice_set, subst, sym, take}
 use Rattle.std.proofs.Math.ListN.{length-set}
 use Rattle.std.proofs.lemmas.Grind.{take-set_at}
-use Rattle.std.proofs.lemmas.List.{map-append}
-use Rattle.std.specs.Option.{option_map}
-use Rattle.j39_frame.specs.Identifier.{id_raw}
 use Rattle.j39_frame.specs.declared.identifier.Id.{Id}
 use borrow.Author.Count.{below_more}
 use Rattle.j39_frame.specs.Frame.{FrameRecord}
-use Rattle.j39_controller.specs.declared.outbox.Wish.{Wish}
 use Rattle.bus_demo.specs.Playing.{AreNotedBelow, HappenedBelow, IsNotedAt}
 use Rattle.bus_demo.specs.Sending.{TakesAt, TakesOut}
-use Rattle.bus_demo.specs.Turning.{wish_of, wishes_of}
+use Rattle.bus_demo.specs.Turning.{AreAsked, IsWish}
 use Rattle.bus_demo.specs.declared.bus.book.Book.{Book}
 use Rattle.bus_demo.specs.declared.bus.player.Player.{Player}
+use Rattle.bus_demo.specs.declared.bus.station.Sent.{Sent}
 
 at_set : {X : Type 0} (xs : List X) (i : ℕ) (x : X) → i < length xs → slice_get (slice_set xs i x) i ≡ Some x
 at_set [] i x inside = absurd (omega arith)
@@ -70,18 +67,24 @@ pub noted_then : (n sender : ℕ) (f : FrameRecord) (players : List Player) (old
 noted_then n sender f players old mid new so_far here = subst (λ k. AreNotedBelow k sender f players old new) (sym (add-one n)) (mid, so_far, here)
 
 -- one player more was asked
-pub one_asked : (n : ℕ) (mid : List Player) (q : Player) (wishes : List (Option Id)) (wish : Option Id) → n < length mid → wishes_of wishes ≡ map wish_of (take n mid)
-    → option_map id_raw wish ≡ wish_of q → wishes_of (wishes ++ (wish ∷ [])) ≡ map wish_of (take (n + 1) (slice_set mid n q))
-one_asked n mid q wishes wish inside so_far is =
-    map-append (option_map id_raw) wishes (wish ∷ [])
-    ∙ (λ i. so_far i ++ (is i ∷ []))
-    ∙ sym (ap (map wish_of) (take-set_at mid n (n + 1) q refl inside) ∙ map-append wish_of (take n mid) (q ∷ []))
+asked_more : (micros : ℕ) (players : List Player) (wishes : List (Option Id)) (q : Player) (wish : Option Id) → AreAsked micros players wishes
+    → IsWish micros q wish → AreAsked micros (players ++ (q ∷ [])) (wishes ++ (wish ∷ []))
+asked_more micros [] [] q wish asked is = (is, tt)
+asked_more micros [] (w ∷ ws) q wish asked is = absurd asked
+asked_more micros (p ∷ ps) [] q wish asked is = absurd asked
+asked_more micros (p ∷ ps) (w ∷ ws) q wish asked is = (asked.0, asked_more micros ps ws q wish asked.1 is)
+
+pub one_asked : (micros n : ℕ) (mid : List Player) (q : Player) (wishes : List (Option Id)) (wish : Option Id) → n < length mid
+    → AreAsked micros (take n mid) wishes → IsWish micros q wish → AreAsked micros (take (n + 1) (slice_set mid n q)) (wishes ++ (wish ∷ []))
+one_asked micros n mid q wishes wish inside asked is =
+    subst (λ (ps : List Player). AreAsked micros ps (wishes ++ (wish ∷ []))) (sym (take-set_at mid n (n + 1) q refl inside))
+    (asked_more micros (take n mid) wishes q wish asked is)
 
 -- a player takes its frame out, and the others stay
-pub one_takes : (sender : ℕ) (old : List Player) (p q : Player) (wish : Option Wish) → sender < length old → slice_get old sender ≡ Some p → TakesOut p wish q
-    → TakesAt sender old wish (slice_set old sender q)
-one_takes sender old p q wish inside stands taken = record {
+pub one_takes : (micros sender : ℕ) (old : List Player) (p q : Player) (sent : Option Sent) → sender < length old → slice_get old sender ≡ Some p → TakesOut micros p sent q
+    → TakesAt micros sender old sent (slice_set old sender q)
+one_takes micros sender old p q sent inside stands taken = record {
   count = length-set old sender q;
-  takes = λ player there. (q, at_set old sender q inside, subst (λ x. TakesOut x wish q) (some p player (sym stands ∙ there)) taken);
+  takes = λ player there. (q, at_set old sender q inside, subst (λ x. TakesOut micros x sent q) (some p player (sym stands ∙ there)) taken);
   others = λ k other. beside_set old sender k q other;
 }

@@ -1,7 +1,10 @@
 pub mod Arbitration
+pub mod Calls
 pub mod Delivered
 pub mod Fates
+pub mod Faults
 pub mod Groups
+pub mod Moving
 pub mod Noted
 pub mod Numerals
 pub mod Payloads

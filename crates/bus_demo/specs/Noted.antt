@@ -1,32 +1,35 @@
--- What the book notes of what a controller received, and of how its messages ended.
-use Rattle.std.specs.Prelude.{◌≡◌, ◌==◌, ◌++◌, ◌∷◌, ℕ, Bool, List, [], filter, not}
-use Rattle.j39_frame.specs.Address.{global_address}
-use Rattle.j39_controller.specs.Controller.{received_in, told_in}
-use Rattle.j39_controller.specs.Inbox.{ReceivedRecord}
-use Rattle.j39_controller.specs.declared.controller.Controller.{Controller}
-use Rattle.j39_controller.specs.declared.settled.Ending.{Ending}
-use Rattle.j39_controller.specs.declared.settled.Ending.TheVariants.{Done, Failed, Withdrawn}
-use Rattle.j39_controller.specs.declared.settled.Settled.{Settled}
+-- What the book notes of what a controller received, and of how its transfers ended.
+use Rattle.std.specs.Prelude.{◌≡◌, ◌++◌, ◌∷◌, ℕ, List, [], Option, None, Some, map}
+use Rattle.j39_frame.specs.Frame.{FrameRecord}
+use Rattle.j39_frame.specs.Pgn.{pgn_raw}
+use Rattle.j39_frame.specs.Stamp.{stamp_micros}
+use Rattle.j39_transport.specs.Message.{MessageRecord}
+use Rattle.j39_node.specs.History.{Who, Call}
+use Rattle.j39_node.specs.History.Call.{Hear}
+use Rattle.j39_node.specs.Reception.{reception}
+use Rattle.j39_node.specs.Transfers.{next_transfer_ended}
+use Rattle.j39_node.specs.declared.kinds.TransferEnding.{TransferEnding}
+use Rattle.j39_node.specs.declared.kinds.TransferEnding.TheVariants.{Done, Withdrawn, Failed, Gone}
 use Rattle.bus_demo.specs.declared.bus.book.Book.{Book}
+use Rattle.bus_demo.specs.declared.bus.book.Delivery.{Delivery}
 
-abbrev pub is_to_one : ReceivedRecord → Bool
-is_to_one received = not (received.destination == global_address)
+-- a delivery as what it says, with its moment
+abbrev pub told_by : Delivery → ℕ × MessageRecord
+told_by d = (stamp_micros d.stamp, record { source = d.source; pgn = pgn_raw d.pgn; bytes = d.payload.items })
 
--- the transfers among what was received
-abbrev pub transfers_in : List ReceivedRecord → List ReceivedRecord
-transfers_in received = filter is_to_one received
+abbrev pub delivered_in : Book → List (ℕ × MessageRecord)
+delivered_in book = map told_by book.deliveries.items
 
-abbrev pub with_done : Ending → ℕ → List ℕ → List ℕ
-with_done Done number others = number ∷ others
-with_done (Failed reason) number others = others
-with_done Withdrawn number others = others
+abbrev pub listed : {T : Type 0} → Option T → List T
+listed None = []
+listed (Some x) = x ∷ []
 
--- the numbers of the messages that are done
-abbrev pub done_among : List Settled → List ℕ
-done_among [] = []
-done_among (settled ∷ others) = with_done settled.ending settled.number (done_among others)
+-- the number of the message whose transfer is done
+abbrev pub done_by : Option (ℕ × TransferEnding) → Option ℕ → List ℕ
+done_by (Some (token, Done)) number = listed number
+done_by ended number = []
 
--- both are noted, in their order
-pub record IsNoted (heard : Controller) (old new : Book) : Type 0 where
-  pub delivered : new.deliveries.items ≡ old.deliveries.items ++ transfers_in (received_in heard)
-  pub done : new.done.items ≡ old.done.items ++ done_among (told_in heard)
+-- the message in packets that lies there once the frame was heard is noted, and the transfer that is then done
+pub record IsNoted (w : Who) (H : List Call) (f : FrameRecord) (number : Option ℕ) (old new : Book) : Type 0 where
+  pub delivered : delivered_in new ≡ delivered_in old ++ listed (reception w (Hear f ∷ H)).waits
+  pub done : new.done.items ≡ old.done.items ++ done_by (next_transfer_ended w (Hear f ∷ H)) number

@@ -1,41 +1,51 @@
 -- What the players of a bus make of time and of frames.
-use Rattle.std.specs.Prelude.{◌≡◌, ◌≢◌, ◌+◌, ◌-◌, ◌^◌, ◌<◌, ◌≤◌, ℕ, zero, suc, [], IsSome, List, None, Some, length, min, slice_get}
+use Rattle.std.specs.Prelude.{◌≡◌, ◌≢◌, ◌+◌, ◌-◌, ◌^◌, ◌<◌, ◌≤◌, ◌⊎◌, ℕ, zero, suc, IsSome, List, None, Option, Some, length, min, nat_lt, slice_get, if◌then◌else◌}
+use Rattle.j39_frame.specs.Address.{null_address}
 use Rattle.j39_frame.specs.Frame.{FrameRecord}
-use Rattle.j39_address.specs.Node.{Node}
-use Rattle.j39_controller.specs.Controller.{HasNode, Hears, KeepsButReceived, KeepsButTold, Passes, Turns}
-use Rattle.j39_controller.specs.Controller.{received_in, told_in}
-use Rattle.j39_controller.specs.MaySend.{held_in}
-use Rattle.j39_controller.specs.declared.controller.Controller.{Controller}
+use Rattle.j39_address.specs.Name.{name_raw}
+use Rattle.j39_node.specs.declared.controller.Controller.{Controller}
+use Rattle.j39_node.specs.Hearing.{waiting}
+use Rattle.j39_node.specs.History.{Who, Call}
+use Rattle.j39_node.specs.Is.{Is}
+use Rattle.bus_demo.specs.Calls.{Calls, Heard, Ticked, command_to, held_after, is_handing, is_taking}
+use Rattle.bus_demo.specs.Moving.{Moves}
 use Rattle.bus_demo.specs.Noted.{IsNoted}
 use Rattle.bus_demo.specs.Publishing.{AreDueAgain}
 use Rattle.bus_demo.specs.declared.bus.book.Book.{Book}
 use Rattle.bus_demo.specs.declared.bus.player.Player.{Player}
 
--- the player's controller heard the frame, and what it received and how its messages ended was noted
+abbrev pub controller_of : Player → Controller
+controller_of player = player.station.controller
+
+-- the address that a player is to claim, by a command that it hears, or by the last one
+abbrev pub target : Option ℕ → Option ℕ → Option ℕ
+target None last = last
+target (Some address) last = if nat_lt address null_address then Some address else last
+
+-- the player's controller heard the frame, and what came of it was taken; where a broadcast commands its NAME it moves
 pub record IsHeard (old : Player) (f : FrameRecord) (new : Player) : Type 0 where
   pub heard : Controller
-  pub hears : Hears old.controller f heard
-  pub delivered : Controller
-  pub delivers : KeepsButReceived heard delivered
-  pub all_delivered : received_in delivered ≡ []
-  pub settles : KeepsButTold delivered new.controller
-  pub all_settled : told_in new.controller ≡ []
+  pub hears : Heard f (controller_of old) heard
+  pub obeyed : Controller
+  pub obeys : Calls is_taking heard obeyed
+  pub aim : Option ℕ
+  pub commanded : (w : Who) (H : List Call) → Is w H heard → aim ≡ target (command_to (name_raw old.name) (waiting w H)) old.commanded
+  pub moves : Moves aim obeyed new.commanded (controller_of new)
+  pub rest : new ≡ record old { station = new.station; commanded = new.commanded }
 
--- the player's loop turned at this moment: time passed for its address, it published what was due where it held one, time
--- passed for its messages, and how they ended was noted. It turns again 10 ms later
+-- the player's loop turned at this moment: time passed, it moved where it had to, and it handed in what was due where it held
+-- an address and had to claim no other. It turns again 10 ms later
 pub record IsTurned (old : Player) (micros : ℕ) (new : Player) : Type 0 where
   pub due : new.due ≡ min (old.due + 10000) (2 ^ 64 - 1)
-  pub passed : Controller
-  pub passes : Passes old.controller micros passed
-  pub published : Controller
-  pub silent : (node : Node) → HasNode passed node → held_in node.status ≡ None
-      → (published ≡ passed) × (new.publisher ≡ old.publisher)
-  pub measures : (node : Node) → HasNode passed node → IsSome (held_in node.status)
+  pub ticked : Controller
+  pub ticks : Ticked micros (controller_of old) ticked
+  pub moved : Controller
+  pub moves : Moves old.commanded ticked new.commanded moved
+  pub silent : (w : Who) (H : List Call) → Is w H moved → (held_after w H ≡ None) ⊎ IsSome new.commanded
+      → (controller_of new ≡ moved) × (new.publisher ≡ old.publisher)
+  pub measures : (w : Who) (H : List Call) → Is w H moved → IsSome (held_after w H) → new.commanded ≡ None
       → AreDueAgain micros old.publisher.rates new.publisher.rates
-  pub turned : Controller
-  pub turns : (node : Node) → HasNode published node → Turns published micros (held_in node.status) turned
-  pub settles : KeepsButTold turned new.controller
-  pub all_settled : told_in new.controller ≡ []
+  pub hands_in : Calls (is_handing micros) moved (controller_of new)
 
 -- the player had its turn at this moment: its loop turned where it was due, and else nothing happened
 pub record HadTurn (micros : ℕ) (old new : Player) : Type 0 where
@@ -63,9 +73,10 @@ HaveTurned micros old new = HappenedBelow (λ _. HadTurn micros) (length old) ol
 
 -- what a player heard of a frame was noted
 abbrev pub IsHeardNoted : Player → FrameRecord → Book → Book → Type 0
-IsHeardNoted player f old new = (heard : Controller) × Hears player.controller f heard × IsNoted heard old new
+IsHeardNoted player f old new =
+    (w : Who) (H : List Call) → Is w H (controller_of player) → IsNoted w H f player.station.transfer old new
 
--- what the player at a place heard was; of the sender there is nothing to note
+-- so it is with the player at a place, where it isn't the sender
 abbrev pub IsNotedAt : ℕ → ℕ → FrameRecord → List Player → Book → Book → Type 0
 IsNotedAt place sender f players old new =
     (place ≡ sender → new ≡ old)

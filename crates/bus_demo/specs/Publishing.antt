@@ -1,6 +1,7 @@
 -- What a player sends of its own accord in one turn: what is due, and what is noted of it.
-use Rattle.std.specs.Prelude.{◌≡◌, ◌+◌, ◌-◌, ◌^◌, ◌≤◌, ℕ, List, [], ◌∷◌, Option, None, Some, if◌then◌else◌, length, min, nat_le, slice_get}
+use Rattle.std.specs.Prelude.{◌≡◌, ◌+◌, ◌-◌, ◌^◌, ◌≤◌, ℕ, List, [], ◌∷◌, Option, None, Some, false, if◌then◌else◌, length, min, nat_le, slice_get}
 use Rattle.j39_address.specs.Name.{name_raw}
+use Rattle.bus_demo.specs.Faults.{are_due}
 use Rattle.bus_demo.specs.declared.bus.book.Handed.{Handed}
 use Rattle.bus_demo.specs.declared.bus.gauges.Group.{Group}
 use Rattle.bus_demo.specs.declared.bus.publisher.Publisher.{Publisher}
@@ -31,6 +32,7 @@ plan_due micros (plan ∷ plans) = if nat_le plan.at micros then Some plan else 
 pub record IsQuiet (micros : ℕ) (publisher : Publisher) : Type 0 where
   pub groups : (k : ℕ) → group_due micros (slice_get publisher.rates k) ≡ None
   pub plan : plan_due micros publisher.plans.now ≡ None
+  pub faults : are_due publisher.diagnostics.faults.now publisher.diagnostics.told micros ≡ false
 
 -- what was noted stays as it was, and what is noted behind it was handed in by the controller of this NAME
 pub record AreNoted (name : ℕ) (old new : List Handed) : Type 0 where

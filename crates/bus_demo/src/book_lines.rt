@@ -1,13 +1,12 @@
 //! The book of a bus, in lines.
 use crate::bus::Bus;
-use crate::bus::book::{Fate, Handed};
+use crate::bus::book::{Delivery, Fate, Handed};
 use crate::bus::player::Player;
-use j39_controller::Received;
 use j39_frame::GLOBAL_ADDRESS;
 use std::io;
 
 /// Writes to standard error what was handed in and what became of it, what was delivered, what senders count as done,
-/// and each controller with its address and how many messages it has begun to put together or to receive.
+/// and each controller with its address and whether it receives a message in packets.
 pub(crate) fn tell_book(rt: &HostRuntime, bus: &Bus<'_>) -> io::Result<()> {
     for message in bus.book().handed() {
         tell_message(rt, message)?;
@@ -42,18 +41,23 @@ fn tell_message(rt: &HostRuntime, message: &Handed) -> io::Result<()> {
 }
 
 /// `delivered SOURCE PGN PAYLOAD`
-fn tell_delivery(rt: &HostRuntime, delivery: &Received) -> io::Result<()> {
+fn tell_delivery(rt: &HostRuntime, delivery: &Delivery) -> io::Result<()> {
     let (source, pgn) = (delivery.source, delivery.pgn.raw());
     eprint!(rt; "delivered {source:02X} {pgn} ")?;
     tell_bytes(rt, delivery.payload.as_slice())
 }
 
-/// `holds ADDRESS NAME BEGUN`
+/// `holds ADDRESS NAME WHAT`, the last `receives` or `idle`
 fn tell_controller(rt: &HostRuntime, controller: &Player) -> io::Result<()> {
-    let (name, begun) = (controller.name().raw(), controller.begun());
+    let name = controller.name().raw();
+    let does = if controller.is_receiving() {
+        "receives"
+    } else {
+        "idle"
+    };
     match controller.held() {
-        Some(address) => eprintln!(rt; "holds {address:02X} {name:016X} {begun}"),
-        None => eprintln!(rt; "holds - {name:016X} {begun}"),
+        Some(address) => eprintln!(rt; "holds {address:02X} {name:016X} {does}"),
+        None => eprintln!(rt; "holds - {name:016X} {does}"),
     }
 }
 

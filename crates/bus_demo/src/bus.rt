@@ -13,19 +13,21 @@ ghost use Rattle.bus_demo.specs.declared.bus.BusFault.TheVariants.{Memory, Write
 
 mod arbitration;
 pub(crate) mod book;
+pub(crate) mod diagnostics;
 pub(crate) mod gauges;
 pub(crate) mod player;
 mod publisher;
 pub(crate) mod role;
 pub(crate) mod scenario;
+mod station;
 
 use arbitration::winner;
 use book::Book;
-use j39_controller::Wish;
 use j39_frame::{Frame, Id, Stamp};
 use j39_io::{DeviceFault, Sink, put_all};
 use j39_log::{Bus as Interface, line_of};
 use player::Player;
+use station::Sent;
 use std::alloc::{AllocError, Global};
 
 /// The microseconds of a bit at 250 kbit/s.
@@ -142,7 +144,7 @@ impl<'a> Bus<'a> {
     fn turns(&mut self) -> Result<(), AllocError>
         ensures turned { OnOk result (HaveTurned (stamp_micros self.old.now) self.old.controllers.items
             self.new.controllers.items) }
-        ensures asked { OnOk result (AreAsked self.new.controllers.items self.new.wishes.items) }
+        ensures asked { OnOk result (AreAsked (stamp_micros self.old.now) self.new.controllers.items self.new.wishes.items) }
         ensures rest { KeepsButTurned self.old self.new }
     {
         self.wishes.clear();
@@ -159,7 +161,7 @@ impl<'a> Bus<'a> {
         ensures rest { KeepsButTurned self.old self.new }
     {
         self.controllers[place].pass(self.now, &mut self.book)?;
-        let wish = self.controllers[place].wish();
+        let wish = self.controllers[place].wish(self.now);
         self.wishes.push(wish)?;
         Ok(())
     }
@@ -174,7 +176,7 @@ impl<'a> Bus<'a> {
         ensures lose { self.new.lose ≡ self.old.lose }
     {
         match self.take_frame(sender) {
-            Some(wish) => self.carry(sender, wish, log),
+            Some(sent) => self.carry(sender, sent, log),
             None => {
                 self.now = later(self.now, 1);
                 Ok(())
@@ -183,23 +185,23 @@ impl<'a> Bus<'a> {
     }
 
     /// The frame that a controller wishes to send, where it still may.
-    fn take_frame(&mut self, sender: usize) -> Option<Wish>
-        ensures takes { TakesAt sender self.old.controllers.items result self.new.controllers.items }
+    fn take_frame(&mut self, sender: usize) -> Option<Sent>
+        ensures takes { TakesAt (stamp_micros self.old.now) sender self.old.controllers.items result self.new.controllers.items }
         ensures rest { self.new ≡ record self.old { controllers = self.new.controllers } }
     {
-        self.controllers.get_mut(sender)?.take_frame()
+        self.controllers.get_mut(sender)?.take_frame(self.now)
     }
 
     /// Carries a frame, which is seen at its end, or lost.
-    fn carry<W: Sink>(&mut self, sender: usize, wish: Wish, log: &mut W) -> Result<(), BusFault>
-        ensures goes { OnOk result (Goes sender wish self.old self.new
+    fn carry<W: Sink>(&mut self, sender: usize, sent: Sent, log: &mut W) -> Result<(), BusFault>
+        ensures goes { OnOk result (Goes sender sent self.old self.new
             (turn W.written W.has_failed log.old log.new)) }
         ensures goes_on { OnOk result (stamp_micros self.old.now + 1000 < 10 ^ 16
             → stamp_micros self.old.now < stamp_micros self.new.now) }
         ensures faults { TellsFault result (turn W.written W.has_failed log.old log.new) }
         ensures lose { self.new.lose ≡ self.old.lose }
     {
-        let Wish { frame, part } = wish;
+        let Sent { frame, part } = sent;
         self.now = later(self.now, frame_time(frame.bytes.len()));
         self.frames = self.frames.saturating_add(1);
         let is_lost = self.loses();

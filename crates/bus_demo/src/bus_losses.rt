@@ -14,9 +14,12 @@ const SOFTWARE: u32 = 65_242;
 
 const COMMANDED_ADDRESS: u32 = 65_240;
 
-/// 12 packets: a broadcast of it takes 600 ms, a transfer some 200 ms.
+/// 12 packets: a broadcast of it takes 600 ms.
 const LONG: &[u8] =
     b"BUILD 2026.11.23*REVISION 4 OF THE ENGINE'S SOFTWARE*CHECKED*SIGNED*RELEASED*END*";
+
+/// 255 packets: a transfer of it takes some 140 ms.
+const LONGEST: &[u8] = &[0x2A; 1_785];
 
 const SHORT: &[u8] = b"REVISION 5*END*";
 
@@ -37,17 +40,17 @@ const LONG_TO_ALL: &[Plan] = &[Plan {
 }];
 
 const LONG_TO_TOOL: &[Plan] = &[Plan {
-    at: 900_000,
+    at: 950_000,
     to: Some(TOOL),
     pgn: SOFTWARE,
-    payload: LONG,
+    payload: LONGEST,
 }];
 
 const LONG_TO_ENGINE: &[Plan] = &[Plan {
-    at: 900_000,
+    at: 950_000,
     to: Some(ENGINE),
     pgn: SOFTWARE,
-    payload: LONG,
+    payload: LONGEST,
 }];
 
 const TWO_TO_GEARBOX: &[Plan] = &[
@@ -88,6 +91,7 @@ fn role(name: u64, preferred: u8, starts: u64, plans: &'static [Plan]) -> Role {
             rate(Group::Distance),
         ],
         plans,
+        faults: &[],
     }
 }
 
@@ -108,7 +112,7 @@ fn four(
     let mut controllers = Vec::new(alloc);
     for (place, role) in roles.iter().enumerate() {
         let gauges = Gauges::new(seed, place as u64);
-        if let Some(controller) = Player::new(alloc, role, gauges) {
+        if let Some(controller) = Player::new(alloc, role, gauges)? {
             controllers.push(controller)?;
         }
     }
@@ -125,7 +129,7 @@ struct Outcome {
     delivered: usize,
     done: usize,
     /// Messages that are put together or received still.
-    begun: usize,
+    receiving: usize,
 }
 
 const NOTHING: Outcome = Outcome {
@@ -135,7 +139,7 @@ const NOTHING: Outcome = Outcome {
     open: 0,
     delivered: 0,
     done: 0,
-    begun: 0,
+    receiving: 0,
 };
 
 fn outcome_of(bus: &Bus<'_>) -> Outcome {
@@ -156,7 +160,9 @@ fn outcome_of(bus: &Bus<'_>) -> Outcome {
         }
     }
     for controller in bus.controllers() {
-        met.begun = met.begun.saturating_add(controller.begun());
+        if controller.is_receiving() {
+            met.receiving = met.receiving.saturating_add(1);
+        }
     }
     met
 }
@@ -194,7 +200,7 @@ static CASES: &[Case] = &[
         engine: LONG_TO_TOOL,
         tool: NONE,
         seconds: 8,
-        lines: (" 1CEBF900#", 1, 11),
+        lines: (" 1CEBF900#", 1, 254),
         lost: None,
         outcome: Outcome {
             withdrawn: 1,

@@ -174,7 +174,5 @@ fn is_plain(text: &[u8]) -> bool
 fn has_marked(text: &[u8]) -> bool
     ensures { result ≡ list_any is_marked text.now }
 {
-    text.iter().any(|byte| {
-        *byte < b' ' || *byte > b'~' || *byte == b'"' || *byte == b'\\'
-    })
+    text.iter().any(|byte| { *byte < b' ' || *byte > b'~' || *byte == b'"' || *byte == b'\\' })
 }

@@ -6,8 +6,6 @@
 mod broadcasts;
 #[cfg(test)]
 mod claimer;
-#[cfg(test)]
-mod controller_pairs;
 pub mod examples;
 #[cfg(test)]
 mod fault_messages;
@@ -21,6 +19,8 @@ mod node_asks;
 mod node_hears;
 #[cfg(test)]
 mod node_receives;
+#[cfg(test)]
+mod node_stranger;
 #[cfg(test)]
 mod node_transfers;
 #[cfg(test)]

@@ -257,7 +257,7 @@ fn delivered(
             Reply::Send(id, data) => node.hear(&j39_frame::Frame::new(now, id, &data)?),
             Reply::Delivered(message, id, data) => {
                 if message.payload == bytes {
-                    got += message.payload.len();
+                    got = message.payload.len().saturating_add(got);
                 }
                 node.hear(&j39_frame::Frame::new(now, id, &data)?);
             }

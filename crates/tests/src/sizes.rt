@@ -1,6 +1,6 @@
 //! The bytes of a controller's parts, as docs/CONTROLLER.md and the README of `j39_node` state them.
 use j39_address::{Claimer, Claims};
-use j39_controller::Controller;
+use j39_node::Controller;
 use j39_transport::{Assembler, Broadcast, OwnedSender, Receiver, Sender};
 use std::mem::size_of;
 
@@ -15,7 +15,6 @@ fn memory_of_the_parts(rt: HostRuntime) {
         size_of::<OwnedSender>(),
         size_of::<Receiver>(),
         size_of::<Controller>(),
-        size_of::<j39_node::Controller>(),
     ];
-    assert_eq!(rt; met, [4_088, 4_064, 4_336, 40, 64, 72, 40, 12_864, 13_248]);
+    assert_eq!(rt; met, [4_088, 4_064, 4_336, 40, 64, 72, 40, 13_264]);
 }

@@ -4,11 +4,31 @@ ghost use Rattle.std.specs.List.{count_by};
 ghost use Rattle.std.specs.Result.{IfOk, OnErr, OnOk};
 ghost use Rattle.bus_demo.specs.Delivered.{IsLastOf, IsNoneOf, IsOf, IsWholeAt};
 ghost use Rattle.bus_demo.specs.Fates.{IsFated, is_whole};
+ghost use Rattle.bus_demo.specs.Noted.{delivered_in};
+ghost use Rattle.j39_frame.specs.Stamp.{stamp_micros};
+ghost use Rattle.j39_transport.specs.ReceiverModel.{message_shown};
 
 use j39_address::Name;
-use j39_controller::{MessageFrame, Received};
 use j39_frame::{Pgn, Stamp};
+use j39_transport::Message;
 use std::alloc::{AllocError, Global};
+
+/// A frame of a message that goes to all: the message's number, and whether it is the last one.
+#[derive(Clone, Copy)]
+pub struct Part {
+    pub number: usize,
+    pub is_last: bool,
+}
+
+/// A message in packets that a receiver delivered.
+#[derive(Drop)]
+pub struct Delivery {
+    /// When its last packet was seen.
+    pub stamp: Stamp,
+    pub source: u8,
+    pub pgn: Pgn,
+    pub payload: Vec<u8>,
+}
 
 /// What became of a message.
 #[derive(Clone, Copy, PartialEq, Eq)]
@@ -38,19 +58,19 @@ pub struct Handed {
 
 /// Whether it is the message that a receiver delivered: it goes to one controller, and has the source, the group and the
 /// payload of what was delivered.
-fn is_of(handed: &Handed, delivered: &Received) -> bool
-    ensures { IsTrue result ↔ IsOf delivered.now handed.now }
+fn is_of(handed: &Handed, delivered: &Message<'_>) -> bool
+    ensures { IsTrue result ↔ IsOf (message_shown delivered.now) handed.now }
 {
     handed.to.is_some()
         && handed.address == delivered.source
         && handed.pgn == delivered.pgn
-        && handed.payload.as_slice() == delivered.payload.as_slice()
+        && handed.payload.as_slice() == delivered.payload
 }
 
 /// The number of the last message that is the one delivered.
-fn last_of(handed: &[Handed], delivered: &Received) -> Option<usize>
-    ensures last { IfSome result (IsLastOf delivered.now handed.now) }
-    ensures none { result ≡ None → IsNoneOf delivered.now handed.now 0 }
+fn last_of(handed: &[Handed], delivered: &Message<'_>) -> Option<usize>
+    ensures last { IfSome result (IsLastOf (message_shown delivered.now) handed.now) }
+    ensures none { result ≡ None → IsNoneOf (message_shown delivered.now) handed.now 0 }
 {
     let mut place = handed.len();
     'places: while place > 0 {
@@ -67,7 +87,7 @@ fn last_of(handed: &[Handed], delivered: &Received) -> Option<usize>
 pub struct Book {
     alloc: Global,
     handed: Vec<Handed>,
-    deliveries: Vec<Received>,
+    deliveries: Vec<Delivery>,
     done: Vec<usize>,
 }
 
@@ -103,7 +123,7 @@ impl Book {
     }
 
     /// Notes that a frame was seen on the bus.
-    pub fn seen(&mut self, part: MessageFrame, now: Stamp)
+    pub fn seen(&mut self, part: Part, now: Stamp)
         ensures open { part.is_last ≡ false → self.new ≡ self.old }
         ensures last { (message : Handed) → part.is_last ≡ true
             → slice_get self.old.handed.items part.number ≡ Some message → message.fate ≡ Open
@@ -121,7 +141,7 @@ impl Book {
     }
 
     /// Notes that a frame, which may be one of a message, was lost, or seen at this moment.
-    pub fn note(&mut self, part: Option<MessageFrame>, is_lost: bool, now: Stamp)
+    pub fn note(&mut self, part: Option<Part>, is_lost: bool, now: Stamp)
         ensures { IsFated part is_lost now self.old self.new }
     {
         match part {
@@ -151,28 +171,33 @@ impl Book {
 
     /// Notes what a receiver delivered: the message that was handed in last with this source, group and
     /// payload to one controller is whole.
-    pub fn deliver(&mut self, message: Received) -> Result<(), AllocError>
-        ensures last { OnOk result (self.new.deliveries.items ≡ self.old.deliveries.items ++ message ∷ []) }
+    pub fn deliver(&mut self, message: &Message<'_>) -> Result<(), AllocError>
+        ensures last { OnOk result (delivered_in self.new ≡ delivered_in self.old ++ (stamp_micros message.now.stamp, message_shown message.now) ∷ []) }
         ensures kept { OnErr result (self.new.deliveries.items ≡ self.old.deliveries.items) }
-        ensures whole { (number : ℕ) (handed : Handed) → IsLastOf message self.old.handed.items number
+        ensures whole { (number : ℕ) (handed : Handed) → IsLastOf (message_shown message.now) self.old.handed.items number
             → slice_get self.old.handed.items number ≡ Some handed → handed.fate ≡ Open
-            → IsWholeAt message.stamp handed (slice_get self.new.handed.items number) }
-        ensures others { (k : ℕ) → (IsLastOf message self.old.handed.items k → ⊥)
+            → IsWholeAt (stamp_micros message.now.stamp) handed (slice_get self.new.handed.items number) }
+        ensures others { (k : ℕ) → (IsLastOf (message_shown message.now) self.old.handed.items k → ⊥)
             → slice_get self.new.handed.items k ≡ slice_get self.old.handed.items k }
         ensures count { length self.new.handed.items ≡ length self.old.handed.items }
         ensures done { self.new.done ≡ self.old.done }
     {
-        self.note_whole(&message);
-        self.deliveries.push(message)?;
+        self.note_whole(message);
+        self.deliveries.push(Delivery {
+            stamp: message.stamp,
+            source: message.source,
+            pgn: message.pgn,
+            payload: Vec::from_slice(self.alloc, message.payload)?,
+        })?;
         Ok(())
     }
 
     /// Notes that the message that was delivered is whole.
-    fn note_whole(&mut self, delivered: &Received)
-        ensures whole { (number : ℕ) (handed : Handed) → IsLastOf delivered.now self.old.handed.items number
+    fn note_whole(&mut self, delivered: &Message<'_>)
+        ensures whole { (number : ℕ) (handed : Handed) → IsLastOf (message_shown delivered.now) self.old.handed.items number
             → slice_get self.old.handed.items number ≡ Some handed → handed.fate ≡ Open
-            → IsWholeAt delivered.now.stamp handed (slice_get self.new.handed.items number) }
-        ensures others { (k : ℕ) → (IsLastOf delivered.now self.old.handed.items k → ⊥)
+            → IsWholeAt (stamp_micros delivered.now.stamp) handed (slice_get self.new.handed.items number) }
+        ensures others { (k : ℕ) → (IsLastOf (message_shown delivered.now) self.old.handed.items k → ⊥)
             → slice_get self.new.handed.items k ≡ slice_get self.old.handed.items k }
         ensures count { length self.new.handed.items ≡ length self.old.handed.items }
         ensures rest { self.new ≡ record self.old { handed = self.new.handed } }
@@ -211,7 +236,7 @@ impl Book {
     }
 
     /// What receivers delivered, in order.
-    pub fn deliveries(&self) -> &[Received]
+    pub fn deliveries(&self) -> &[Delivery]
         ensures { result.now ≡ self.now.deliveries.items }
     {
         self.deliveries.as_slice()

@@ -1,27 +1,26 @@
 //! A controller of the demo: the stack's own, with what it sends of its own accord.
-ghost use Rattle.std.specs.Prelude.{◌≡◌, ◌↔◌, ◌∷◌, ◌++◌, ◌+◌, ◌<◌, ◌≤◌, ◌^◌, [], IfSome, IsOk, IsSome, List, None, OnOk, Some, drop, length};
+ghost use Rattle.std.specs.Prelude.{◌≡◌, ◌↔◌, ◌⊎◌, ◌+◌, ◌<◌, ◌≤◌, ◌^◌, [], IfOk, IfSome, IsOk, IsSome, IsTrue, List, None, OnOk, length};
 ghost use Rattle.std.specs.Option.{option_map};
 ghost use Rattle.j39_frame.specs.Address.{IsAddress};
-ghost use Rattle.j39_frame.specs.Identifier.{id_raw};
 ghost use Rattle.j39_frame.specs.Stamp.{stamp_micros};
 ghost use Rattle.j39_address.specs.Name.{name_raw};
-ghost use Rattle.j39_address.specs.Node.{Node};
-ghost use Rattle.j39_controller.specs.Controller.{HasNode, IsNew, KeepsButReceived, KeepsButTold, KeepsButWaiting};
-ghost use Rattle.j39_controller.specs.Controller.{begun_in, received_in, told_in, waiting_in};
-ghost use Rattle.j39_controller.specs.MaySend.{MaySend, held_in};
-ghost use Rattle.j39_controller.specs.Outbox.{first_id};
-ghost use Rattle.j39_controller.specs.declared.outbox.Wish.{Wish};
-ghost use Rattle.bus_demo.specs.Noted.{done_among, transfers_in};
-ghost use Rattle.bus_demo.specs.Playing.{IsHeard, IsHeardNoted, IsTurned};
+ghost use Rattle.j39_node.specs.History.{Who, Call};
+ghost use Rattle.j39_node.specs.Is.{Is};
+ghost use Rattle.bus_demo.specs.Calls.{Calls, Takes, held_after, is_handing};
+ghost use Rattle.bus_demo.specs.Fates.{IsOf};
+ghost use Rattle.bus_demo.specs.Moving.{Moves};
+ghost use Rattle.bus_demo.specs.Playing.{IsHeard, IsHeardNoted, IsTurned, controller_of, target};
 ghost use Rattle.bus_demo.specs.Publishing.{AreDueAgain};
+ghost use Rattle.bus_demo.specs.Scenario.{IsPlayed};
+ghost use Rattle.bus_demo.specs.Turning.{IsWish};
 
-use crate::bus::book::{Book, Fate};
+use crate::bus::book::Book;
 use crate::bus::gauges::Gauges;
 use crate::bus::publisher::Publisher;
 use crate::bus::role::Role;
+use crate::bus::station::{Sent, Station};
 use j39_address::Name;
-use j39_controller::{Controller, Ending, Received, Settled, Wish};
-use j39_frame::{Frame, GLOBAL_ADDRESS, Id, Stamp};
+use j39_frame::{Frame, Id, Stamp, is_address};
 use std::alloc::{AllocError, Global};
 
 /// The time between two turns of a controller's loop, in microseconds.
@@ -30,72 +29,79 @@ const TURN: u64 = 10_000;
 /// A controller on the bus, and what it sends of its own accord.
 #[derive(Drop)]
 pub struct Player {
-    controller: Controller,
+    name: Name,
+    station: Station,
     publisher: Publisher,
-    /// When its loop turns next.
+    /// When its loop turns first, and next. Before, it hears the bus, and sends nothing.
+    starts: u64,
     due: u64,
+    /// The address that it was commanded to claim, and didn't yet.
+    commanded: Option<u8>,
 }
 
 impl Player {
     /// One that has claimed no address yet; `None` for a preferred address above 253.
-    pub fn new(alloc: Global, role: &Role, mut gauges: Gauges) -> Option<Player>
-        ensures known { IsSome result ↔ IsAddress role.now.preferred }
-        ensures fresh { IfSome result (λ player. IsNew role.now.name role.now.preferred player.controller) }
+    pub fn new(alloc: Global, role: &Role, mut gauges: Gauges) -> Result<Option<Player>, AllocError>
+        ensures known { IfOk result (λ found. IsSome found ↔ IsAddress role.now.preferred) }
+        ensures fresh { IfOk result (λ found. IfSome found (IsPlayed role.now.name role.now.preferred)) }
 
         // Its loop turns first within 10 ms of its start.
-        ensures due { IfSome result (λ player. role.now.starts + 10000 < 2 ^ 64
-            → (role.now.starts ≤ player.due) × (player.due < role.now.starts + 10000)) }
+        ensures due { IfOk result (λ found. IfSome found (λ player. role.now.starts + 10000 < 2 ^ 64
+            → (role.now.starts ≤ player.due) × (player.due < role.now.starts + 10000))) }
     {
-        let phase = u64::from(gauges.below(10_000));
-        Some(Player {
-            controller: Controller::new(alloc, Name::new(role.name), role.preferred)?,
+        let starts = role.starts.saturating_add(u64::from(gauges.below(10_000)));
+        let name = Name::new(role.name);
+        let Some(station) = Station::new(alloc, name, role.preferred)? else {
+            return Ok(None);
+        };
+        Ok(Some(Player {
+            name,
+            station,
             publisher: Publisher::new(alloc, role, gauges),
-            due: role.starts.saturating_add(phase),
-        })
+            starts,
+            due: starts,
+            commanded: None,
+        }))
     }
 
     /// The address that it holds.
     pub fn held(&self) -> Option<u8>
-        ensures { (node : Node) → HasNode self.now.controller node → result ≡ held_in node.status }
+        ensures { (w : Who) (H : List Call) → Is w H (controller_of self.now) → result ≡ held_after w H }
     {
-        self.controller.held()
+        self.station.held()
     }
 
     /// Its NAME.
     pub fn name(&self) -> Name
-        ensures { (node : Node) → HasNode self.now.controller node → name_raw result ≡ node.name }
+        ensures { result ≡ self.now.name }
     {
-        self.controller.name()
+        self.name
     }
 
-    /// How many messages it has begun to put together or to receive.
-    pub fn begun(&self) -> usize
-        ensures { result ≡ begun_in self.now.controller }
-    {
-        self.controller.begun()
+    /// Whether a message comes to it in packets.
+    pub fn is_receiving(&self) -> bool {
+        self.station.is_receiving()
     }
 
-    /// The identifier of the frame that it wishes to send next.
-    pub fn wish(&self) -> Option<Id>
-        ensures { option_map id_raw result ≡ first_id (waiting_in self.now.controller) }
+    /// The identifier of the frame that it wishes to send now.
+    pub fn wish(&self, now: Stamp) -> Option<Id>
+        ensures { IsWish (stamp_micros now) self.now result }
     {
-        self.controller.wish()
+        if now.micros() < self.starts {
+            return None;
+        }
+        let frame = self.station.peek_frame(now)?;
+        Some(frame.id)
     }
 
-    /// The frame that it wishes to send next, which the bus now takes.
-    pub fn take_frame(&mut self) -> Option<Wish>
-        ensures may { (node : Node) → HasNode self.old.controller node
-            → IfSome result (λ wish. MaySend node wish.frame) }
-        ensures goes { (node : Node) (first : Wish) (others : List Wish) → HasNode self.old.controller node
-            → waiting_in self.old.controller ≡ first ∷ others → MaySend node first.frame → result ≡ Some first }
-        ensures dropped { (node : Node) (first : Wish) (others : List Wish) → HasNode self.old.controller node
-            → waiting_in self.old.controller ≡ first ∷ others → (MaySend node first.frame → ⊥) → result ≡ None }
-        ensures none { waiting_in self.old.controller ≡ [] → result ≡ None }
-        ensures next { waiting_in self.new.controller ≡ drop 1 (waiting_in self.old.controller) }
-        ensures rest { KeepsButWaiting self.old.controller self.new.controller
-            × (self.new ≡ record self.old { controller = self.new.controller }) }
+    /// The frame that it wishes to send now, which the bus takes.
+    pub fn take_frame(&mut self, now: Stamp) -> Option<Sent>
+        ensures takes { Takes (stamp_micros now) (option_map (λ sent. sent.frame) result)
+            (controller_of self.old) (controller_of self.new) }
+        ensures part { IfSome result (λ sent. IfSome sent.part (IsOf self.old.station)) }
+        ensures rest { self.new ≡ record self.old { station = self.new.station } }
     {
-        self.controller.take_frame()
+        self.station.take_frame(now)
     }
 
     /// Lets time pass: the loop turns every 10 ms.
@@ -108,26 +114,24 @@ impl Player {
             return Ok(());
         }
         self.due = self.due.saturating_add(TURN);
-        self.controller.pass(now)?;
-        self.publish(now, book)?;
-        self.controller.turn(now)?;
-        self.settle(book)
+        self.station.tick(now, book)?;
+        self.move_on();
+        self.publish(now, book)
     }
 
-    /// Sends what is due, while an address is held.
+    /// Sends what is due, while an address is held that it may stay at.
     fn publish(&mut self, now: Stamp, book: &mut Book) -> Result<(), AllocError>
-        ensures silent { (node : Node) → HasNode self.old.controller node → held_in node.status ≡ None
-            → self.new ≡ self.old }
-        ensures measures { OnOk result ((node : Node) → HasNode self.old.controller node
-            → IsSome (held_in node.status)
+        ensures silent { (w : Who) (H : List Call) → Is w H (controller_of self.old)
+            → (held_after w H ≡ None) ⊎ IsSome self.old.commanded → self.new ≡ self.old }
+        ensures measures { OnOk result ((w : Who) (H : List Call) → Is w H (controller_of self.old)
+            → IsSome (held_after w H) → self.old.commanded ≡ None
             → AreDueAgain (stamp_micros now) self.old.publisher.rates self.new.publisher.rates) }
-        ensures rest { self.new ≡ record self.old { controller = self.new.controller; publisher = self.new.publisher } }
+        ensures hands_in { Calls (is_handing (stamp_micros now)) (controller_of self.old) (controller_of self.new) }
+        ensures rest { self.new ≡ record self.old { station = self.new.station; publisher = self.new.publisher } }
     {
-        match self.controller.held() {
-            Some(address) => self
-                .publisher
-                .turn(address, now, &mut self.controller, book),
-            None => Ok(()),
+        match (self.station.held(), self.commanded) {
+            (Some(address), None) => self.publisher.turn(address, now, &mut self.station, book),
+            _ => Ok(()),
         }
     }
 
@@ -136,75 +140,38 @@ impl Player {
         ensures heard { OnOk result (IsHeard self.old frame.now self.new) }
         ensures noted { OnOk result (IsHeardNoted self.old frame.now book.old book.new) }
         ensures count { length book.new.handed.items ≡ length book.old.handed.items }
-        ensures rest { self.new ≡ record self.old { controller = self.new.controller } }
+        ensures rest { self.new ≡ record self.old { station = self.new.station; commanded = self.new.commanded } }
     {
-        self.controller.hear(frame)?;
-        self.deliver(book)?;
-        self.settle(book)
-    }
-
-    /// Notes the transfers that were received.
-    fn deliver(&mut self, book: &mut Book) -> Result<(), AllocError>
-        ensures all { OnOk result (received_in self.new.controller ≡ []) }
-        ensures noted { OnOk result (book.new.deliveries.items
-            ≡ book.old.deliveries.items ++ transfers_in (received_in self.old.controller)) }
-        ensures done { book.new.done ≡ book.old.done }
-        ensures kept { KeepsButReceived self.old.controller self.new.controller }
-        ensures count { length book.new.handed.items ≡ length book.old.handed.items }
-        ensures rest { self.new ≡ record self.old { controller = self.new.controller } }
-    {
-        while let Some(received) = self.controller.take_received() {
-            note_received(received, book)?;
-        }
+        self.station.hear(frame, book)?;
+        let command = self.station.command(self.name);
+        self.commanded = target(command, self.commanded);
+        self.move_on();
         Ok(())
     }
 
-    /// Notes how messages ended.
-    fn settle(&mut self, book: &mut Book) -> Result<(), AllocError>
-        ensures all { OnOk result (told_in self.new.controller ≡ []) }
-        ensures noted { OnOk result (book.new.done.items
-            ≡ book.old.done.items ++ done_among (told_in self.old.controller)) }
-        ensures deliveries { book.new.deliveries ≡ book.old.deliveries }
-        ensures kept { KeepsButTold self.old.controller self.new.controller }
-        ensures count { length book.new.handed.items ≡ length book.old.handed.items }
-        ensures rest { self.new ≡ record self.old { controller = self.new.controller } }
+    /// Moves to the address that it was commanded to claim, or to a free one where its own is lost; not before all that it was
+    /// handed has ended.
+    fn move_on(&mut self)
+        ensures moves { Moves self.old.commanded (controller_of self.old) self.new.commanded (controller_of self.new) }
+        ensures rest { self.new ≡ record self.old { station = self.new.station; commanded = self.new.commanded } }
     {
-        while let Some(settled) = self.controller.take_settled() {
-            note_settled(settled, book)?;
+        match self.commanded {
+            Some(address) => {
+                if self.station.move_to(address) {
+                    self.commanded = None;
+                }
+            }
+            None => self.station.move_if_lost(),
         }
-        Ok(())
     }
 }
 
-/// Notes what was received, where it is a transfer.
-fn note_received(received: Received, book: &mut Book) -> Result<(), AllocError>
-    ensures noted { OnOk result (book.new.deliveries.items
-        ≡ book.old.deliveries.items ++ transfers_in (received ∷ [])) }
-    ensures done { book.new.done ≡ book.old.done }
-    ensures count { length book.new.handed.items ≡ length book.old.handed.items }
+/// The address that it is to claim, by a command that it hears, or by the last one.
+fn target(command: Option<u8>, last: Option<u8>) -> Option<u8>
+    ensures { result ≡ target command last }
 {
-    if received.destination != GLOBAL_ADDRESS {
-        book.deliver(received)
-    } else {
-        Ok(())
-    }
-}
-
-/// Notes how a message ended.
-fn note_settled(settled: Settled, book: &mut Book) -> Result<(), AllocError>
-    ensures noted { OnOk result (book.new.done.items ≡ book.old.done.items ++ done_among (settled ∷ [])) }
-    ensures deliveries { book.new.deliveries ≡ book.old.deliveries }
-    ensures count { length book.new.handed.items ≡ length book.old.handed.items }
-{
-    match settled.ending {
-        Ending::Done => book.count_done(settled.number),
-        Ending::Failed(_) => {
-            book.settle(settled.number, Fate::Lost);
-            Ok(())
-        }
-        Ending::Withdrawn => {
-            book.settle(settled.number, Fate::Withdrawn);
-            Ok(())
-        }
+    match command {
+        Some(address) => { if is_address(address) { command } else { last } }
+        None => last,
     }
 }

@@ -1,19 +1,25 @@
-//! What a controller sends: single frames again and again, and planned messages, long ones among them.
-ghost use Rattle.std.specs.Prelude.{◌≡◌, ◌<◌, ◌⊎◌, ℕ, IsOk, None, OnOk, drop, slice_get};
+//! What a controller sends: single frames again and again, its faults, and planned messages, long ones among them.
+ghost use Rattle.std.specs.Prelude.{◌≡◌, ◌<◌, ◌⊎◌, ℕ, IsOk, None, OnOk, Some, drop, false, slice_get};
 ghost use Rattle.j39_address.specs.Name.{name_raw};
 ghost use Rattle.j39_frame.specs.Stamp.{stamp_micros};
+ghost use Rattle.bus_demo.specs.Calls.{Calls, is_handing};
+ghost use Rattle.bus_demo.specs.Faults.{are_due};
 ghost use Rattle.bus_demo.specs.Publishing.{AreDueAgain, AreNoted, IsQuiet, group_due, plan_due, rate_after};
 
 use crate::bus::book::{Book, Fate, Handed};
+use crate::bus::diagnostics::Diagnostics;
 use crate::bus::gauges::{Gauges, Group};
 use crate::bus::role::{Plan, Rate, Role};
+use crate::bus::station::{Draft, Station};
 use j39_address::Name;
-use j39_controller::Controller;
-use j39_frame::{Frame, GLOBAL_ADDRESS, Id, Pgn, Stamp};
+use j39_frame::{Pgn, Stamp};
 use std::alloc::{AllocError, Global};
 
-/// The priority of a planned message of one frame, from 0 (first) to 7.
+/// The priority of a planned message of one frame, and of one of faults.
 const SLOW: u8 = 6;
+
+/// The group of the active faults (DM1).
+const ACTIVE_FAULTS: u32 = 65_226;
 
 /// What a controller sends of its own accord.
 #[derive(Drop)]
@@ -24,6 +30,7 @@ pub struct Publisher {
     rates: [Rate; 3],
     /// The messages that are still to be begun.
     plans: &'static [Plan],
+    diagnostics: Diagnostics,
 }
 
 impl Publisher {
@@ -40,6 +47,7 @@ impl Publisher {
             gauges,
             rates: role.rates,
             plans: role.plans,
+            diagnostics: Diagnostics::new(role.faults),
         }
     }
 
@@ -48,18 +56,22 @@ impl Publisher {
         &mut self,
         address: u8,
         now: Stamp,
-        controller: &mut Controller,
+        station: &mut Station,
         book: &mut Book,
     ) -> Result<(), AllocError>
         ensures noted { OnOk result (AreNoted (name_raw self.old.name) book.old.handed.items book.new.handed.items) }
         ensures due { OnOk result (AreDueAgain (stamp_micros now) self.old.rates self.new.rates) }
+        ensures calls { Calls (is_handing (stamp_micros now)) station.old.controller station.new.controller }
+        ensures told { OnOk result ((self.new.diagnostics ≡ self.old.diagnostics)
+            ⊎ (self.new.diagnostics ≡ record self.old.diagnostics { told = Some (stamp_micros now) })) }
         ensures plans { OnOk result ((self.new.plans.now ≡ self.old.plans.now)
             ⊎ (self.new.plans.now ≡ drop 1 self.old.plans.now)) }
         ensures quiet { IsQuiet (stamp_micros now) self.old → IsOk result × (self.new ≡ self.old)
-            × (controller.new ≡ controller.old) × (book.new ≡ book.old) }
+            × (station.new ≡ station.old) × (book.new ≡ book.old) }
     {
-        self.measure(address, now, controller, book)?;
-        self.begin(now, controller, book)
+        self.measure(address, now, station, book)?;
+        self.tell_faults(address, now, station, book)?;
+        self.begin(address, now, station, book)
     }
 
     /// Sends each group that is due.
@@ -67,17 +79,18 @@ impl Publisher {
         &mut self,
         address: u8,
         now: Stamp,
-        controller: &mut Controller,
+        station: &mut Station,
         book: &mut Book,
     ) -> Result<(), AllocError>
         ensures noted { OnOk result (AreNoted (name_raw self.old.name) book.old.handed.items book.new.handed.items) }
         ensures due { OnOk result (AreDueAgain (stamp_micros now) self.old.rates self.new.rates) }
+        ensures calls { Calls (is_handing (stamp_micros now)) station.old.controller station.new.controller }
         ensures quiet { ((k : ℕ) → group_due (stamp_micros now) (slice_get self.old.rates k) ≡ None)
-            → IsOk result × (self.new ≡ self.old) × (controller.new ≡ controller.old) × (book.new ≡ book.old) }
+            → IsOk result × (self.new ≡ self.old) × (station.new ≡ station.old) × (book.new ≡ book.old) }
         ensures rest { self.new ≡ record self.old { gauges = self.new.gauges; rates = self.new.rates } }
     {
         for place in 0..self.rates.len() {
-            self.measure_at(place, address, now, controller, book)?;
+            self.measure_at(place, address, now, station, book)?;
         }
         Ok(())
     }
@@ -88,15 +101,16 @@ impl Publisher {
         place: usize,
         address: u8,
         now: Stamp,
-        controller: &mut Controller,
+        station: &mut Station,
         book: &mut Book,
     ) -> Result<(), AllocError>
         requires { place < 3 }
         ensures noted { OnOk result (AreNoted (name_raw self.old.name) book.old.handed.items book.new.handed.items) }
         ensures rate { slice_get self.new.rates place ≡ rate_after (stamp_micros now) (slice_get self.old.rates place) }
         ensures others { (k : ℕ) → (k ≡ place → ⊥) → slice_get self.new.rates k ≡ slice_get self.old.rates k }
+        ensures calls { Calls (is_handing (stamp_micros now)) station.old.controller station.new.controller }
         ensures quiet { group_due (stamp_micros now) (slice_get self.old.rates place) ≡ None
-            → IsOk result × (self.new ≡ self.old) × (controller.new ≡ controller.old) × (book.new ≡ book.old) }
+            → IsOk result × (self.new ≡ self.old) × (station.new ≡ station.old) × (book.new ≡ book.old) }
         ensures rest { self.new ≡ record self.old { gauges = self.new.gauges; rates = self.new.rates } }
     {
         let Some(group) = self.due_group(place, now) else {
@@ -105,10 +119,14 @@ impl Publisher {
         let Some(payload) = self.gauges.payload(group) else {
             return Ok(());
         };
-        match frame_of(group.priority(), group.pgn(), address, &payload, now) {
-            Some(frame) => self.send_single(frame, controller, book),
-            None => Ok(()),
-        }
+        let draft = Draft {
+            priority: group.priority(),
+            pgn: group.pgn(),
+            to: None,
+            payload: &payload,
+        };
+        self.hand_in(&draft, address, now, station, book)?;
+        Ok(())
     }
 
     /// The group of this place, where it is due, and then not again before its period is over.
@@ -128,95 +146,101 @@ impl Publisher {
         Some(rate.group)
     }
 
-    /// Hands in the message of one frame.
-    fn send_single(
+    /// Hands in a message, and notes it where it is accepted: whether it was.
+    fn hand_in(
         &self,
-        frame: Frame,
-        controller: &mut Controller,
+        draft: &Draft<'_>,
+        address: u8,
+        now: Stamp,
+        station: &mut Station,
         book: &mut Book,
-    ) -> Result<(), AllocError>
-        ensures { OnOk result (AreNoted (name_raw self.now.name) book.old.handed.items book.new.handed.items) }
+    ) -> Result<bool, AllocError>
+        ensures noted { OnOk result (AreNoted (name_raw self.now.name) book.old.handed.items book.new.handed.items) }
+        ensures calls { Calls (is_handing (stamp_micros now)) station.old.controller station.new.controller }
     {
-        let number = book.hand_in(Handed {
+        let number = book.handed().len();
+        if !station.hand_in(draft, number, now) {
+            return Ok(false);
+        }
+        book.hand_in(Handed {
             name: self.name,
-            address: frame.id.source(),
-            to: None,
-            pgn: frame.id.pgn(),
-            payload: Vec::from_slice(self.alloc, frame.bytes.as_slice())?,
+            address,
+            to: draft.to,
+            pgn: draft.pgn,
+            payload: Vec::from_slice(self.alloc, draft.payload)?,
             fate: Fate::Open,
         })?;
-        controller.send(frame, number)
+        Ok(true)
+    }
+
+    /// Tells its faults, where they are due.
+    fn tell_faults(
+        &mut self,
+        address: u8,
+        now: Stamp,
+        station: &mut Station,
+        book: &mut Book,
+    ) -> Result<(), AllocError>
+        ensures noted { OnOk result (AreNoted (name_raw self.old.name) book.old.handed.items book.new.handed.items) }
+        ensures calls { Calls (is_handing (stamp_micros now)) station.old.controller station.new.controller }
+        ensures told { (self.new.diagnostics ≡ self.old.diagnostics)
+            ⊎ (self.new.diagnostics ≡ record self.old.diagnostics { told = Some (stamp_micros now) }) }
+        ensures quiet { are_due self.old.diagnostics.faults.now self.old.diagnostics.told (stamp_micros now) ≡ false
+            → IsOk result × (self.new ≡ self.old) × (station.new ≡ station.old) × (book.new ≡ book.old) }
+        ensures rest { self.new ≡ record self.old { diagnostics = self.new.diagnostics } }
+    {
+        if !self.diagnostics.are_due(now.micros()) {
+            return Ok(());
+        }
+        let message = self.diagnostics.message(self.alloc, now.micros())?;
+        let Some((pgn, message)) = Pgn::new(ACTIVE_FAULTS).zip(message) else {
+            return Ok(());
+        };
+        let draft = Draft {
+            priority: SLOW,
+            pgn,
+            to: None,
+            payload: message.as_slice(),
+        };
+        if self.hand_in(&draft, address, now, station, book)? {
+            self.diagnostics.note(now.micros());
+        }
+        Ok(())
     }
 
     /// Begins the next planned message whose moment has come, one at a time.
     fn begin(
         &mut self,
+        address: u8,
         now: Stamp,
-        controller: &mut Controller,
+        station: &mut Station,
         book: &mut Book,
     ) -> Result<(), AllocError>
         ensures noted { OnOk result (AreNoted (name_raw self.old.name) book.old.handed.items book.new.handed.items) }
+        ensures calls { Calls (is_handing (stamp_micros now)) station.old.controller station.new.controller }
         ensures plans { (self.new.plans.now ≡ self.old.plans.now) ⊎ (self.new.plans.now ≡ drop 1 self.old.plans.now) }
         ensures quiet { plan_due (stamp_micros now) self.old.plans.now ≡ None → IsOk result × (self.new ≡ self.old)
-            × (controller.new ≡ controller.old) × (book.new ≡ book.old) }
+            × (station.new ≡ station.old) × (book.new ≡ book.old) }
         ensures rest { self.new ≡ record self.old { plans = self.new.plans } }
     {
         let Some((plan, rest)) = self.plans.split_first() else {
             return Ok(());
         };
-        let Some(address) = controller.free_at(now) else {
-            return Ok(());
-        };
         if now.micros() < plan.at {
             return Ok(());
         }
-        self.plans = rest;
         let Some(pgn) = Pgn::new(plan.pgn) else {
             return Ok(());
         };
-        if plan.payload.len() > 8 {
-            return self.begin_long(plan, pgn, address, now, controller, book);
-        }
-        match frame_of(SLOW, pgn, address, plan.payload, now) {
-            Some(frame) => self.send_single(frame, controller, book),
-            None => Ok(()),
-        }
-    }
-
-    /// Begins a message that goes in packets.
-    fn begin_long(
-        &self,
-        plan: &Plan,
-        pgn: Pgn,
-        address: u8,
-        now: Stamp,
-        controller: &mut Controller,
-        book: &mut Book,
-    ) -> Result<(), AllocError>
-        ensures { OnOk result (AreNoted (name_raw self.now.name) book.old.handed.items book.new.handed.items) }
-    {
-        let number = book.hand_in(Handed {
-            name: self.name,
-            address,
-            to: plan.to,
+        let draft = Draft {
+            priority: SLOW,
             pgn,
-            payload: Vec::from_slice(self.alloc, plan.payload)?,
-            fate: Fate::Open,
-        })?;
-        let payload = Vec::from_slice(self.alloc, plan.payload)?;
-        let is_begun = match plan.to {
-            None => controller.broadcast(number, pgn, payload, now),
-            Some(to) => controller.transfer(number, to, pgn, payload, now),
+            to: plan.to,
+            payload: plan.payload,
         };
-        if !is_begun {
-            book.settle(number, Fate::Lost);
+        if self.hand_in(&draft, address, now, station, book)? {
+            self.plans = rest;
         }
         Ok(())
     }
-}
-
-/// The single frame of a group that goes to all.
-fn frame_of(priority: u8, pgn: Pgn, source: u8, payload: &[u8], now: Stamp) -> Option<Frame> {
-    let id = Id::compose(priority, pgn, GLOBAL_ADDRESS, source)?;
-    Frame::new(now, id, payload)
 }

@@ -1,4 +1,5 @@
 //! What a controller is told to do.
+use crate::bus::diagnostics::Fault;
 use crate::bus::gauges::Group;
 
 /// A group that is sent every so many microseconds, and when it is due next.
@@ -29,4 +30,6 @@ pub struct Role {
     pub starts: u64,
     pub rates: [Rate; 3],
     pub plans: &'static [Plan],
+    /// The faults that it has and tells by DM1; one with none here sends no DM1.
+    pub faults: &'static [Fault],
 }

@@ -3,16 +3,18 @@
 //! The engine takes address 00. A second later a rival with a smaller NAME claims it too, so that the
 //! engine moves to 80. The tool commands the gearbox to move from 03 to 05. Each of them sends engine
 //! speed, temperatures and distance. The engine broadcasts its vehicle's identification (VI), and the
-//! rival sends its component's (CI) to the tool. The gearbox says which of its fault codes are active
-//! (DM1): first one, then three, then none.
+//! rival sends its component's (CI) to the tool. The engine says each second, and at a change, which of its
+//! fault codes are active (DM1): first none, then one, then three, then none.
 ghost use Rattle.std.specs.Prelude.{◌≡◌, ◌∷◌, ◌++◌, [], IfOk, OnOk};
 ghost use Rattle.j39_frame.specs.Address.{IsAddress};
 ghost use Rattle.bus_demo.specs.Scenario.{IsPlayed, PlaysAll};
 ghost use Rattle.bus_demo.specs.declared.bus.player.Player.{Player};
 
+use crate::bus::diagnostics::Fault;
 use crate::bus::gauges::{Gauges, Group};
 use crate::bus::player::Player;
 use crate::bus::role::{Plan, Rate, Role};
+use j39_faults::{Code, Parameter};
 use std::alloc::{AllocError, Global};
 
 /// The vehicle identification number, with the `*` that ends it.
@@ -27,26 +29,47 @@ pub const COMMAND: &[u8] = &[0x03, 0x10, 0x40, 0x02, 0, 0, 0, 0x80, 0x05];
 /// The address of the tool.
 const TOOL: u8 = 0xF9;
 
-/// The groups of planned messages: VI, CI, the commanded address and DM1.
+/// The groups of planned messages: VI, CI and the commanded address.
 const VEHICLE_IDENTIFICATION: u32 = 65_260;
 
 const COMPONENT_IDENTIFICATION: u32 = 65_259;
 
 const COMMANDED_ADDRESS: u32 = 65_240;
 
-const ACTIVE_FAULTS: u32 = 65_226;
-
-/// The amber lamp is on, and SPN 177 is above normal (FMI 0), for the first time.
-const ONE_FAULT: &[u8] = &[0x04, 0xFF, 177, 0, 0x00, 1, 0xFF, 0xFF];
-
-/// The red lamp flashes fast, and the amber one is on: SPN 177 is above normal for the second time, SPN 191 is
-/// erratic (FMI 2), and SPN 520201 is there (FMI 31), which isn't counted.
-const THREE_FAULTS: &[u8] = &[
-    0x14, 0xDF, 177, 0, 0x00, 2, 191, 0, 0x02, 1, 0x09, 0xF0, 0xFF, 0x7F,
+/// SPN 110, the temperature of the coolant, is above normal (FMI 0); SPN 175, that of the oil, is erratic (FMI 2); and
+/// SPN 520201, one of its maker's own, is there (FMI 31), which isn't counted.
+static ENGINE_FAULTS: [Fault; 3] = [
+    Fault {
+        code: Code {
+            parameter: Parameter::Known(110),
+            fmi: 0,
+            count: Some(2),
+        },
+        begins: 500_000,
+        ends: 3_900_000,
+        is_severe: true,
+    },
+    Fault {
+        code: Code {
+            parameter: Parameter::Known(175),
+            fmi: 2,
+            count: Some(1),
+        },
+        begins: 1_900_000,
+        ends: 3_900_000,
+        is_severe: false,
+    },
+    Fault {
+        code: Code {
+            parameter: Parameter::Known(520_201),
+            fmi: 31,
+            count: None,
+        },
+        begins: 1_900_000,
+        ends: 3_900_000,
+        is_severe: false,
+    },
 ];
-
-/// All lamps are off, and no fault is there: SPN 0 and FMI 0 are none.
-const NO_FAULT: &[u8] = &[0x00, 0xFF, 0, 0, 0, 0, 0xFF, 0xFF];
 
 static ENGINE_PLANS: [Plan; 1] = [Plan {
     at: 1_600_000,
@@ -68,27 +91,6 @@ static TOOL_PLANS: [Plan; 1] = [Plan {
     pgn: COMMANDED_ADDRESS,
     payload: COMMAND,
 }];
-
-static GEARBOX_PLANS: [Plan; 3] = [
-    Plan {
-        at: 500_000,
-        to: None,
-        pgn: ACTIVE_FAULTS,
-        payload: ONE_FAULT,
-    },
-    Plan {
-        at: 1_200_000,
-        to: None,
-        pgn: ACTIVE_FAULTS,
-        payload: THREE_FAULTS,
-    },
-    Plan {
-        at: 1_900_000,
-        to: None,
-        pgn: ACTIVE_FAULTS,
-        payload: NO_FAULT,
-    },
-];
 
 /// The rates of the three groups, in microseconds.
 fn rates(engine: u64, temperatures: u64, distance: u64) -> [Rate; 3] {
@@ -113,6 +115,7 @@ fn engine() -> Role
         starts: 0,
         rates: rates(100_000, 500_000, 1_000_000),
         plans: &ENGINE_PLANS,
+        faults: &ENGINE_FAULTS,
     }
 }
 
@@ -125,6 +128,7 @@ fn rival() -> Role
         starts: 1_000_000,
         rates: rates(100_000, 1_000_000, 1_000_000),
         plans: &RIVAL_PLANS,
+        faults: &[],
     }
 }
 
@@ -136,7 +140,8 @@ fn gearbox() -> Role
         preferred: 0x03,
         starts: 20_000,
         rates: rates(200_000, 1_000_000, 1_000_000),
-        plans: &GEARBOX_PLANS,
+        plans: &[],
+        faults: &[],
     }
 }
 
@@ -149,6 +154,7 @@ fn tool() -> Role
         starts: 100_000,
         rates: rates(500_000, 1_000_000, 1_000_000),
         plans: &TOOL_PLANS,
+        faults: &[],
     }
 }
 
@@ -176,7 +182,8 @@ fn join(
         × IsPlayed role.now.name role.now.preferred player
         × (players.new.items ≡ players.old.items ++ player ∷ [])) }
 {
-    if let Some(player) = Player::new(alloc, role, gauges) {
+    let found = Player::new(alloc, role, gauges)?;
+    if let Some(player) = found {
         players.push(player)?;
     }
     Ok(())

@@ -204,11 +204,7 @@ fn put_value_members<W: Sink>(
 }
 
 /// Writes a key and a text.
-fn put_member<W: Sink>(
-    key: &[u8],
-    text: Option<&[u8]>,
-    sink: &mut W,
-) -> Result<(), DeviceFault>
+fn put_member<W: Sink>(key: &[u8], text: Option<&[u8]>, sink: &mut W) -> Result<(), DeviceFault>
     ensures { Puts (key.now ++ string_or_null (option_map (λ bytes. bytes.now) text.entry)) result
         (turn W.written W.has_failed sink.old sink.new) }
 {

@@ -31,13 +31,7 @@ pub fn report_json<R: Source, W: Sink>(
     ensures flushed { PassesOn result (W.is_flushed sink.old) (W.is_flushed sink.new) }
 {
     let form = ObjectForm::new();
-    run_over(
-        Report::new(alloc, groups, form),
-        source,
-        sink,
-        bus,
-        limit,
-    )
+    run_over(Report::new(alloc, groups, form), source, sink, bus, limit)
 }
 
 /// Writes the report as objects of JSON as `report_json` does, kept to the entries that a filter takes.

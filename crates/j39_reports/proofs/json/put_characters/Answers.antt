@@ -24,13 +24,12 @@ loop-chunk-preserved-in-Continue-branch-2 g c =
     let (done, is, put) = c.loop-chunk.invariant in
     let valid = c.in-Some.chunk.valid.now in
     let some : 0 < length c.in-Some.chunk.invalid.now = search rules in
-    let text = utf8_lossy_chunk _ valid _ _ steps.0 steps.3.0 steps.3.1 some in
-    (
+    let text = utf8_lossy_chunk _ valid _ _ steps.0 steps.3.0 steps.3.1 some in (
       (done ++ valid) ++ replacement_bytes,
       append_assoc (done ++ valid) replacement_bytes _ ∙ append_assoc done valid _ ∙ ap (λ t. done ++ t) (sym text) ∙ is,
       puts_more_too (done ++ valid) replacement_bytes _ _ _
-      (puts_more_too done valid _ _ _ put _ (puts_as _ _ _ _ (ap (flat_map character_text) (c.as_bytes.ensures.value ∙ c.valid.ensures)) c.in_ok-put_bytes.ensures))
-      _ c.in_ok-put_all.ensures.puts,
+          (puts_more_too done valid _ _ _ put _ (puts_as _ _ _ _ (ap (flat_map character_text) (c.as_bytes.ensures.value ∙ c.valid.ensures)) c.in_ok-put_bytes.ensures))
+          _ c.in_ok-put_all.ensures.puts,
     )
 
 pub returns-in_err-put_all : goal.returns-in_err-put_all
@@ -52,8 +51,7 @@ loop-chunk-preserved g c =
     let (done, is, put) = c.loop-chunk.invariant in
     let valid = c.in-Some.chunk.valid.now in
     let none : length c.in-Some.chunk.invalid.now ≡ 0 = search rules in
-    let text = utf8_lossy_last_chunk _ valid _ _ steps.0 steps.3.0 none (steps.2 none) in
-    (
+    let text = utf8_lossy_last_chunk _ valid _ _ steps.0 steps.3.0 none (steps.2 none) in (
       done ++ valid,
       append_assoc done valid _ ∙ ap (λ t. done ++ t) (sym text) ∙ is,
       puts_more_too done valid _ _ _ put _ (puts_as _ _ _ _ (ap (flat_map character_text) (c.as_bytes.ensures.value ∙ c.valid.ensures)) c.in_ok-put_bytes.ensures),

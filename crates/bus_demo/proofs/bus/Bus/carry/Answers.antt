@@ -9,7 +9,7 @@ returns-then-is_lost-clause-goes g c = record {
   count = search rules;
   time = search rules;
   noted = c.note.new.self;
-  lost = λ _. (subst (λ (is : Bool). IsFated c.args.wish.part is c.later-self.result c.args.self.now.book c.note.new.self) c.if-is_lost.true c.note.ensures, refl, refl, refl);
+  lost = λ _. (subst (λ (is : Bool). IsFated c.args.sent.part is c.later-self.result c.args.self.now.book c.note.new.self) c.if-is_lost.true c.note.ensures, refl, refl, refl);
   seen = λ other. absurd (other (c.loses-is_lost.ensures.0 c.if-is_lost.true));
 }
 
@@ -22,8 +22,8 @@ returns-clause-goes g c = on_ok c.show.result _ _ (λ seen. record {
       let same = subst (λ n. Contains c.args.self.now.lose.now n) c.show.ensures.frames is in
       absurd (true≢false (sym (c.loses-is_lost.ensures.1 same) ∙ c.if-is_lost.false));
   seen = λ _. (
-    subst (λ now. IsFated c.args.wish.part false now c.args.self.now.book c.note.new.self) (sym c.show.ensures.now)
-        (subst (λ (is : Bool). IsFated c.args.wish.part is c.later-self.result c.args.self.now.book c.note.new.self) c.if-is_lost.false c.note.ensures),
+    subst (λ now. IsFated c.args.sent.part false now c.args.self.now.book c.note.new.self) (sym c.show.ensures.now)
+        (subst (λ (is : Bool). IsFated c.args.sent.part is c.later-self.result c.args.self.now.book c.note.new.self) c.if-is_lost.false c.note.ensures),
     search rules,
   );
 }) c.show.ensures.seen

@@ -1,6 +1,7 @@
 -- The player at the place takes its frame out.
 use Rattle.std.proofs.Common.{◌<◌, length, ltb-true, refl, sym}
 use Rattle.std.proofs.lemmas.Option.{slice_get_read}
+use Rattle.j39_frame.specs.Stamp.{stamp_micros}
 use Rattle.bus_demo.proofs.TellingLemmas.{one_takes}
 use Rattle.bus_demo.proofs.bus.Bus.take_frame.Goals as goal
 
@@ -9,14 +10,6 @@ returns-clause-takes c =
     let players = c.args.self.now.controllers.items in
     let player = c.in_ok-get_mut.field-0.now in
     let inside : c.args.sender < length players = ltb-true _ _ (sym c.in_ok-get_mut.ensures.item.0) in
-    one_takes c.args.sender players player _ _ inside
+    one_takes (stamp_micros c.args.self.now.now) c.args.sender players player _ _ inside
     (slice_get_read players (length players) c.args.sender player refl inside c.in_ok-get_mut.ensures.value)
-    (record {
-      may = c.take_frame.ensures.may;
-      goes = c.take_frame.ensures.goes;
-      dropped = c.take_frame.ensures.dropped;
-      none = c.take_frame.ensures.none;
-      next = c.take_frame.ensures.next;
-      rest = c.take_frame.ensures.rest.0;
-      own = c.take_frame.ensures.rest.1;
-    })
+    (record { takes = c.take_frame.ensures.takes; part = c.take_frame.ensures.part; own = c.take_frame.ensures.rest })

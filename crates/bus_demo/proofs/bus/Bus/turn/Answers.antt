@@ -1,8 +1,10 @@
 -- The player at the place had its turn, and was asked.
-use Rattle.std.proofs.Common.{◌<◌, ◌∙◌, ap, length, refl, rules, slice_set, sym}
+use Rattle.std.proofs.Common.{◌<◌, length, refl, rules, slice_set, subst, sym}
 use Rattle.std.proofs.Math.ListN.{length-set}
 use Rattle.std.proofs.lemmas.Option.{slice_get_read}
-use Rattle.bus_demo.specs.Turning.{wish_of}
+use Rattle.j39_frame.specs.Stamp.{stamp_micros}
+use Rattle.bus_demo.specs.Turning.{IsWish}
+use Rattle.bus_demo.specs.declared.bus.player.Player.{Player}
 use Rattle.bus_demo.proofs.TellingLemmas.{stands_set}
 use Rattle.bus_demo.proofs.bus.Bus.turn.Goals as goal
 
@@ -20,6 +22,7 @@ returns-clause-turned c =
       turned = record { waits = λ early. (c.in_ok-pass.ensures.waits early).1; turns = c.in_ok-pass.ensures.turns };
       players = refl;
       wish = c.wish-wish.result;
-      wish_is = c.wish-wish.ensures ∙ ap wish_of (sym (stands_set players place after c.index.result.now c.requires asked));
+      wish_is = subst (λ (p : Player). IsWish (stamp_micros c.args.self.now.now) p c.wish-wish.result)
+          (sym (stands_set players place after c.index.result.now c.requires asked)) c.wish-wish.ensures;
       wishes = c.in_ok-push.ensures.items;
     }

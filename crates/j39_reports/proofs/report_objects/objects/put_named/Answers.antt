@@ -13,8 +13,10 @@ regroup a b c group number parameter = simp append_assoc refl
 module _ (group parameter : Option (List ℕ)) (spn : ℕ) where
   abbrev first : List ℕ
   first = codes ",\"group\":" ++ string_or_null group
+
   abbrev second : List ℕ
   second = codes ",\"spn\":" ++ decimal spn
+
   abbrev third : List ℕ
   third = codes ",\"parameter\":" ++ string_or_null parameter
 

@@ -3,8 +3,10 @@ use Rattle.std.proofs.Common.{◌≡◌, ◌∙◌, ap, arith, slice_get, subst}
 use borrow.Author.Count.{below_more}
 use Rattle.j39_address.specs.Name.{name_raw}
 use Rattle.j39_frame.specs.Stamp.{stamp_micros}
+use Rattle.bus_demo.specs.Calls.{is_handing}
 use Rattle.bus_demo.specs.Publishing.{AreNoted, group_due, rate_after}
 use Rattle.bus_demo.specs.declared.bus.publisher.Publisher.{Publisher}
+use Rattle.bus_demo.proofs.CallLemmas.{calls_then}
 use Rattle.bus_demo.proofs.NotedLemmas.{all_due, noted_then}
 use Rattle.bus_demo.proofs.bus.publisher.Publisher.measure.Goals as goal
 
@@ -26,9 +28,15 @@ loop-place-preserved c =
           let step = c.measure_at.ensures.quiet (ap (group_due now) (inv.2 n (omega arith)) ∙ quiet n) in
           (step.1 ∙ same.0, step.2 ∙ same.1, step.3 ∙ same.2)),
       c.measure_at.ensures.rest ∙ ap (λ (p : Publisher). record p { gauges = new.gauges; rates = new.rates }) inv.4,
+      calls_then (is_handing now) c.args.station.now.controller c.loop-place.station.controller c.measure_at.new.station.controller inv.5 c.measure_at.ensures.calls,
     )
 
 pub returns-clause-due : goal.returns-clause-due
 returns-clause-due c =
     let inv = c.loop-place.invariant in
     all_due (stamp_micros c.args.now) c.loop-place.place c.args.self.now.rates c.loop-place.self.rates (omega arith) inv.1 inv.2
+
+pub returns-in_err-measure_at-clause-calls : goal.returns-in_err-measure_at-clause-calls
+returns-in_err-measure_at-clause-calls c =
+    calls_then (is_handing (stamp_micros c.args.now)) c.args.station.now.controller c.loop-place.station.controller c.measure_at.new.station.controller
+    c.loop-place.invariant.5 c.measure_at.ensures.calls

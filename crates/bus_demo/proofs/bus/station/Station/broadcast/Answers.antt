@@ -1,0 +1,14 @@
+-- One call hands it in.
+use Rattle.std.proofs.Common.{eq-eqb, refl}
+use Rattle.j39_frame.specs.Pgn.{pgn_raw}
+use Rattle.j39_frame.specs.Stamp.{stamp_micros}
+use Rattle.j39_node.specs.History.Call.{Broadcast}
+use Rattle.bus_demo.specs.Calls.{is_handing}
+use Rattle.bus_demo.proofs.CallLemmas.{calls_none, calls_one}
+use Rattle.bus_demo.proofs.bus.station.Station.broadcast.Goals as goal
+
+pub returns : goal.returns
+returns c =
+    let now = stamp_micros c.args.now in
+    let call = Broadcast now (pgn_raw c.args.draft.now.pgn) c.args.draft.now.payload.now c.broadcast-answer.result in
+    calls_one (is_handing now) call _ _ (eq-eqb now now refl) c.broadcast-answer.ensures

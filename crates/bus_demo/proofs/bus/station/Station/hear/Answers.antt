@@ -1,0 +1,38 @@
+-- The frame was heard, what it ended and made whole was noted, and all else was taken.
+use Rattle.std.proofs.Common.{◌++◌, ◌∷◌, ◌∙◌, ap, map, refl}
+use Rattle.j39_node.specs.History.Call.{Hear, ReleaseTransfer, TakeTransferEnded}
+use Rattle.j39_node.specs.Reception.{reception}
+use Rattle.bus_demo.specs.Calls.{is_taking}
+use Rattle.bus_demo.specs.Noted.{listed, told_by}
+use Rattle.bus_demo.proofs.CallLemmas.{calls_one, calls_then}
+use Rattle.bus_demo.proofs.bus.station.Station.hear.Goals as goal
+
+pub returns-clause-hears : goal.returns-clause-hears
+returns-clause-hears c =
+    let heard = c.hear.new.self in
+    let settled = c.settle.new.self.controller in
+    let delivered = c.deliver.new.self.controller in
+    let withdrawn = c.withdraw.new.self.controller in
+    let ended = c.settle.ensures.calls in
+    let released = c.in_ok-deliver.ensures.calls in
+    let first = calls_one is_taking (TakeTransferEnded ended.0) heard settled refl ended.1 in
+    let second = calls_one is_taking (ReleaseTransfer released.0) settled delivered refl released.1 in (
+      heard,
+      c.hear.ensures,
+      calls_then is_taking heard withdrawn c.clear.new.self.controller
+          (calls_then is_taking heard delivered withdrawn (calls_then is_taking heard settled delivered first second) c.withdraw.ensures.calls)
+          c.clear.ensures,
+    )
+
+pub returns-clause-noted : goal.returns-clause-noted
+returns-clause-noted c = λ w H is.
+    let K = Hear c.args.frame.now ∷ H in
+    let heard = c.hear.ensures w H is in
+    let ended = c.settle.ensures.calls in
+    let settled = ended.1 w K heard in
+    record {
+      delivered = ap (λ v. map told_by v.items) c.withdraw.ensures.deliveries
+          ∙ (c.in_ok-deliver.ensures.delivered w (TakeTransferEnded ended.0 ∷ K) settled
+          ∙ ap (λ v. map told_by v.items ++ listed (reception w K).waits) c.settle.ensures.deliveries);
+      done = ap (λ v. v.items) (c.withdraw.ensures.done ∙ c.deliver.ensures.done) ∙ c.in_ok-settle.ensures.done w K heard;
+    }

@@ -1,6 +1,0 @@
-mod ForgetLemmas
-mod FrontLemmas
-mod GoesLemmas
-mod MaySendLemmas
-mod ResultLemmas
-mod StartedLemmas
