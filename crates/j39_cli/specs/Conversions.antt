@@ -1,5 +1,5 @@
 -- By which versions of the conversion SPNs are read: `--conversion 1`, or `--conversion NAME=1,..` (J1939-73, 5.7.1).
-use Rattle.std.specs.Prelude.{◌≡◌, ◌≤◌, ◌<◌, ◌⊎◌, ◌++◌, ℕ, List, Option, Some, None, codes, drop, if◌then◌else◌, length, nat_le, take}
+use Rattle.std.specs.Prelude.{◌≡◌, ◌≤◌, ◌<◌, ◌⊎◌, ℕ, List, Some, None, codes, drop, if◌then◌else◌, length, nat_le, take}
 use Rattle.std.specs.Str.{bytes_eq}
 use Rattle.std.specs.Str.Parse.{digits_value}
 use Rattle.j39_faults.specs.declared.conversion.Conversion.{Conversion}

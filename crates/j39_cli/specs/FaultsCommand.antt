@@ -14,7 +14,6 @@ use Rattle.j39_groups.specs.Row.{RowRecord}
 use Rattle.j39_listen.specs.Asking.{Wanting}
 use Rattle.j39_faults.specs.declared.conversion.Conversion.{Conversion}
 use Rattle.j39_reports.specs.declared.fault_news.run.FaultCounts.{FaultCounts}
-use Rattle.j39_reports.specs.declared.fault_news.telling.Telling.{Telling}
 use Rattle.j39_reports.specs.declared.fault_news.telling.Telling.TheVariants.{News, All, Changes}
 use Rattle.j39_cli.specs.Answer.{IsBusChecked, IsChecked, IsTask, IsValueChecked}
 use Rattle.j39_cli.specs.Conversions.{IsConversionList, conversions_in}

@@ -1,5 +1,5 @@
 -- The command `survey [--bus B] [--table T] [FILE]`.
-use Rattle.std.specs.Prelude.{◌≡◌, ◌⊎◌, ◌∷◌, ℕ, List, [], Option, Result, Ok, Err, codes, false, true}
+use Rattle.std.specs.Prelude.{◌≡◌, ◌⊎◌, ◌∷◌, ℕ, List, [], Option, Result, Ok, Err, codes, true}
 use Rattle.j39_io.specs.Turn.{Turn, Writes}
 use Rattle.std.specs.Option.{ForSome}
 use Rattle.clap.specs.Words.{App, Text, new_app}

@@ -1,12 +1,11 @@
 -- The faults that are there now as an account: what is heard at one frame more, and its end.
-use Rattle.std.proofs.Common.{◌≡◌, ◌∙◌, ◌+◌, ◌≤◌, ◌++◌, ◌∷◌, [], ℕ, List, Option, Some, None, ap, append-nil, arith, filter, inr, length, length-append, refl, subst, sym}
+use Rattle.std.proofs.Common.{◌≡◌, ◌∙◌, ◌+◌, ◌++◌, ◌∷◌, [], ℕ, List, Option, None, ap, append-nil, arith, length, length-append, refl, subst, sym}
 use Rattle.std.specs.Io.KnownBytes.{Appends}
 use Rattle.std.proofs.KnownBytes.{Appends-nil}
 use Rattle.std.proofs.lemmas.List.Elements.{filter-append}
 use Rattle.j39_io.specs.Device.{AppendsFront}
 use Rattle.j39_faults.specs.declared.conversion.Conversion.{Conversion}
 use Rattle.j39_frame.specs.Frame.{FrameRecord}
-use Rattle.j39_groups.specs.Row.{RowRecord}
 use Rattle.j39_listen.specs.AccountCalls.{Begins, Closes, MakesOne, Meets, StopsAtEnd}
 use Rattle.j39_listen.specs.Counting.{capped}
 use Rattle.j39_listen.specs.Heard.{AreHeardWith, HeardAtWith, Hearing, or_none}

@@ -1,5 +1,5 @@
 -- What is kept of each address, with one message of active codes more, and what is written of it.
-use Rattle.std.proofs.Common.{◌≡◌, ◌∙◌, ◌+◌, ◌<◌, ◌≤◌, ◌==◌, ◌&&◌, ◌||◌, ◌++◌, ◌∷◌, [], ℕ, zero, suc, Bool, true, false, not, List, Option, Some, None, refl, sym, ap, append-nil, append_assoc, arith, filter, inl, inr, length, length-append, map, replicate, subst}
+use Rattle.std.proofs.Common.{◌≡◌, ◌∙◌, ◌+◌, ◌<◌, ◌≤◌, ◌&&◌, ◌||◌, ◌++◌, ◌∷◌, [], ℕ, zero, suc, Bool, true, false, not, List, Option, Some, None, refl, sym, ap, append-nil, append_assoc, arith, filter, inl, inr, length, length-append, map, replicate, subst}
 use Rattle.std.specs.List.{flat_map, list_all, list_any}
 use Rattle.std.proofs.lemmas.Bool.{cases_Bool, cases_eq, cond-false, cond-true, eq-eqb, eqb-true, ne_eqb}
 use Rattle.std.proofs.lemmas.List.{get_or-replicate, length-replicate}
@@ -17,7 +17,7 @@ use Rattle.j39_listen.specs.Heard.{Hearing}
 use Rattle.j39_reports.specs.CurrentPlaces.{HaveTaken, LastRecord, Places, StandingRecord, at, continued, found_in, going_on, is_same_code, last_by, left_by, standings_under}
 use Rattle.j39_reports.specs.CurrentSoFar.{AreKept, IsEmptyAt, IsKeptAt, IsLastAt, now_shown, nows_shown, shown_below, standing_of}
 use Rattle.j39_reports.specs.Faults.{codes_or_none}
-use Rattle.j39_reports.specs.FaultsNow.{codes_in, first_stamp, is_about, is_at, is_same_name, lasts, names, now_at, now_below, now_by, now_in, now_of, telling, tells}
+use Rattle.j39_reports.specs.FaultsNow.{codes_in, first_stamp, is_about, is_at, is_same_name, lasts, names, now_at, now_below, now_by, now_in, telling, tells}
 use Rattle.j39_reports.proofs.TellingLemmas.{filter_turned, first_of_more, first_of_some, lasts_more, lasts_none, names_any, none_left, none_telling, or_none_self, or_true, same_name, same_or_none, stays, telling_ends, telling_more, telling_same, telling_stays}
 
 -- ---- a code that is named again

@@ -7,7 +7,6 @@ use Rattle.std.proofs.lemmas.List.Elements.{filter_map-append}
 use Rattle.j39_io.specs.Puts.{Puts}
 use Rattle.j39_io.specs.Turn.{Device}
 use Rattle.j39_io.proofs.PutsLemmas.{puts_as, puts_done, puts_failed, puts_first, puts_nothing, puts_then}
-use Rattle.j39_groups.specs.Row.{RowRecord}
 use Rattle.j39_groups.specs.Sightings.{SightingRecord, told_by, told_in}
 use Rattle.j39_groups.specs.Value.{ReadingRecord}
 use Rattle.j39_listen.specs.Counting.{capped}

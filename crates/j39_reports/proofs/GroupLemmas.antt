@@ -1,18 +1,18 @@
 -- What came of the groups, with a frame or a message more.
-use Rattle.std.proofs.Common.{◌≡◌, ◌≢◌, ◌==◌, ◌||◌, ◌+◌, ◌-◌, ◌*◌, ◌/◌, ◌%◌, ◌++◌, ◌<◌, ◌^◌, ℕ, List, [], ◌∷◌, Bool, true, false, length, map, refl, sym, ap, ap₂, ◌∙◌, append-nil, append_assoc, get_or, subst, inl, inr, replicate, Option, None, Some, arith}
-use Rattle.std.specs.Prelude.{count_by, fold, max, min, nat_eq, nat_lt, option_map, if◌then◌else◌}
+use Rattle.std.proofs.Common.{◌≡◌, ◌==◌, ◌||◌, ◌+◌, ◌-◌, ◌*◌, ◌/◌, ◌%◌, ◌++◌, ◌<◌, ◌^◌, ℕ, List, [], ◌∷◌, Bool, true, false, length, refl, sym, ap, ◌∙◌, append-nil, append_assoc, get_or, subst, inl, inr, replicate, Option, None, Some, arith}
+use Rattle.std.specs.Prelude.{count_by, fold, max, min, nat_eq, nat_lt, if◌then◌else◌}
 use Rattle.std.specs.List.{flat_map, list_any, sum_by}
 use Rattle.std.proofs.lemmas.Bool.{cases_eq, eq-eqb, ltb-false, ne_eqb}
 use Rattle.std.proofs.Math.ListN.{set}
 use Rattle.std.proofs.lemmas.Grind.{flat_map-append}
-use Rattle.std.proofs.lemmas.List.{get_or-replicate, get_or-set_same, get_or-set_other, length-replicate, length-set, map-append}
+use Rattle.std.proofs.lemmas.List.{get_or-replicate, get_or-set_same, get_or-set_other, length-replicate, length-set}
 use Rattle.std.proofs.lemmas.List.Elements.{filter-append}
 use Rattle.std.proofs.lemmas.List.Folds.{list_any-append}
 use Rattle.std.proofs.lemmas.List.Sums.{fold-append, sum_by-append}
 use Rattle.j39_memory.specs.ByGroup.{values_of}
 use Rattle.j39_frame.specs.Frame.{FrameRecord}
 use Rattle.j39_frame.specs.Groups.{IsHeardGroup, place_of_group}
-use Rattle.j39_frame.specs.Identifier.{pgn_of, source_of}
+use Rattle.j39_frame.specs.Identifier.{pgn_of}
 use Rattle.j39_frame.proofs.GroupLemmas.{heard}
 use Rattle.j39_transport.specs.Announced.{announced_by}
 use Rattle.j39_listen.specs.Counting.{capped}

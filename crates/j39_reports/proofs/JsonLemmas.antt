@@ -1,6 +1,6 @@
 -- Strings of JSON.
-use Rattle.std.proofs.Common.{◌≡◌, ◌≤◌, ◌∙◌, ◌++◌, ◌∷◌, [], ◌<◌, ℕ, zero, suc, Bool, true, false, List, Result, Ok, Err, ap, ap₂, append_assoc, arith, drop, eq-zero-or-pos, inl, inr, length, refl, sym}
-use Rattle.std.specs.Prelude.{◌==◌, ◌||◌, IsErr, nat_lt, if◌then◌else◌, codes}
+use Rattle.std.proofs.Common.{◌≡◌, ◌≤◌, ◌∙◌, ◌++◌, ◌∷◌, [], ℕ, zero, suc, Bool, false, List, Result, Ok, Err, ap, ap₂, arith, drop, eq-zero-or-pos, inl, inr, length, refl, sym}
+use Rattle.std.specs.Prelude.{◌==◌, IsErr, nat_lt, if◌then◌else◌, codes}
 use Rattle.std.specs.List.{flat_map, list_any}
 use Rattle.std.specs.Str.{IsAscii}
 use Rattle.std.specs.Str.Lossy.{replacement_bytes, utf8_invalid_len, utf8_lossy, utf8_valid_len}

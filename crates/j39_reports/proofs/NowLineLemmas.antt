@@ -1,12 +1,11 @@
 -- The lines of the faults that are there now, one behind the other.
-use Rattle.std.proofs.Common.{◌≡◌, ◌∙◌, ◌+◌, ◌-◌, ◌<◌, ◌≤◌, ◌++◌, ◌∷◌, [], ℕ, zero, suc, List, Option, Some, None, Result, Ok, Err, append-nil, append_assoc, ap, arith, length, length-append, map, refl, sym, take, take_all}
+use Rattle.std.proofs.Common.{◌≡◌, ◌∙◌, ◌+◌, ◌-◌, ◌<◌, ◌++◌, ◌∷◌, [], ℕ, zero, suc, List, Result, Ok, Err, append-nil, append_assoc, ap, arith, length, length-append, map, refl, sym, take}
 use Rattle.std.specs.Prelude.{IsErr, slice_index_or}
 use Rattle.std.specs.List.{flat_map}
 use Rattle.std.proofs.lemmas.Grind.{flat_map-append}
-use Rattle.std.proofs.lemmas.List.Folds.{flat_map-map}
 use Rattle.j39_io.specs.Puts.{Puts}
 use Rattle.j39_io.specs.Turn.{Device}
-use Rattle.j39_io.proofs.PutsLemmas.{puts_as, puts_done, puts_first, puts_nothing, puts_then, puts_until}
+use Rattle.j39_io.proofs.PutsLemmas.{puts_as, puts_done, puts_first, puts_then, puts_until}
 use Rattle.j39_groups.proofs.VisitLemmas.{flat_map-next}
 use Rattle.j39_groups.specs.Row.{RowRecord}
 use Rattle.j39_listen.specs.Counting.{capped}

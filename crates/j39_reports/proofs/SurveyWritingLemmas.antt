@@ -1,5 +1,5 @@
 -- A survey, written.
-use Rattle.std.proofs.Common.{◌≡◌, ◌+◌, ◌++◌, ◌<◌, ◌≤◌, ◌-◌, ◌*◌, ◌%◌, ℕ, zero, suc, Bool, List, [], ◌∷◌, get_or, length, map, refl, take, sym, ap, ◌∙◌, append-nil, append_assoc, arith, ◌≢◌}
+use Rattle.std.proofs.Common.{◌≡◌, ◌+◌, ◌++◌, ◌<◌, ◌≤◌, ◌-◌, ◌*◌, ◌%◌, ℕ, zero, suc, Bool, List, [], ◌∷◌, get_or, length, map, refl, take, sym, ap, ◌∙◌, append-nil, append_assoc, arith}
 use Rattle.std.specs.Prelude.{IsErr, Option, Result, Ok, Err}
 use Rattle.std.specs.List.{flat_map}
 use Rattle.std.specs.Io.KnownBytes.{Keeps}

@@ -6,7 +6,6 @@ use Rattle.j39_frame.specs.declared.origin.Origin.{Origin}
 use Rattle.j39_groups.specs.Sightings.{SightingRecord, absent, absent_by, absent_in, told, told_by, told_in}
 use Rattle.j39_groups.specs.Value.{ReadingRecord}
 use Rattle.j39_listen.specs.Report.{Entry, entry_of}
-use Rattle.j39_reports.specs.RowModels.{row_shown}
 use Rattle.j39_reports.specs.RowsSoFar.{AreCounted, AreRowsOf, Message}
 use Rattle.j39_reports.specs.Summary.{absence_of}
 use Rattle.j39_reports.specs.declared.summaries.deeds.Deeds.{Deeds}

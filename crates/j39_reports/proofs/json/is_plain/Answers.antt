@@ -1,4 +1,4 @@
-use Rattle.std.proofs.Common.{◌∙◌, Bool, false, not, ap, refl, sym}
+use Rattle.std.proofs.Common.{◌∙◌, sym}
 use Rattle.std.proofs.lemmas.Bool.{not-true}
 use Rattle.j39_reports.proofs.JsonLemmas.{plain_string}
 use Rattle.j39_reports.proofs.json.is_plain.Goals as goal

@@ -1,6 +1,5 @@
 -- The key, the digits, and the mark behind them.
-use Rattle.std.proofs.Common.{◌++◌, ap, append_assoc, codes, sym}
-use Rattle.j39_io.proofs.PutsLemmas.{puts_as}
+use Rattle.std.proofs.Common.{codes}
 use Rattle.j39_reports.specs.Json.{hex_text}
 use Rattle.j39_reports.proofs.PartLemmas.{first_of_three, second_of_three, third_of_three}
 use Rattle.j39_reports.proofs.json.put_in_hex.Goals as goal

@@ -1,5 +1,5 @@
 -- A line more; after a fault a front of the lines that are left was written.
-use Rattle.std.proofs.Common.{◌∙◌, ap, map, sym}
+use Rattle.std.proofs.Common.{◌∙◌, ap, map}
 use Rattle.j39_io.proofs.PutsLemmas.{puts_as, puts_nothing}
 use Rattle.j39_reports.specs.CurrentPlaces.{LastRecord, standing_record}
 use Rattle.j39_reports.specs.CurrentSoFar.{now_shown}

@@ -1,4 +1,3 @@
-use Rattle.std.proofs.Common.{List, ℕ, ◌≡◌, ◌++◌, append_assoc, refl}
 use Rattle.j39_io.proofs.PutsLemmas.{puts_as, puts_first, puts_then}
 use Rattle.j39_reports.proofs.report_objects.objects.put_parts.Goals as goal
 

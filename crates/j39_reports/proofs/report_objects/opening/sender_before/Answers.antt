@@ -1,5 +1,5 @@
 -- The parts, one before the other.
-use Rattle.std.proofs.Common.{List, ℕ, ◌≡◌, ◌++◌, ◌∷◌, [], append_assoc, codes, refl, subst}
+use Rattle.std.proofs.Common.{List, ℕ, ◌≡◌, ◌++◌, append_assoc, codes, refl, subst}
 use Rattle.std.specs.Option.{option_map}
 use Rattle.j39_address.specs.Name.{name_raw}
 use Rattle.j39_io.proofs.BackwardsLemmas.{before_then}

@@ -1,5 +1,4 @@
 -- One group, or 256.
-use Rattle.std.proofs.Common.{arith}
 use Rattle.j39_io.proofs.PutsLemmas.{puts_as}
 use Rattle.j39_reports.specs.GroupCounts.{came_in}
 use Rattle.j39_reports.proofs.SurveyWritingLemmas.{groups_directed}

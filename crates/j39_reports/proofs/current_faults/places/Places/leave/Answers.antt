@@ -1,5 +1,5 @@
 -- A place more is left.
-use Rattle.std.proofs.Common.{◌∙◌, ◌+◌, ap, arith, option_map, slice_set, subst, sym, None}
+use Rattle.std.proofs.Common.{◌∙◌, ◌+◌, ap, arith, option_map, slice_set, subst, sym}
 use Rattle.j39_address.specs.Name.{name_raw}
 use Rattle.j39_reports.specs.CurrentPlaces.{AreLeft, Places, left_by, stored_in}
 use Rattle.j39_reports.proofs.NowPlaceLemmas.{none_left, one_left}

@@ -1,5 +1,5 @@
 -- The parts, one before the other; what stands from the start on is all of them.
-use Rattle.std.proofs.Common.{List, ℕ, ◌≡◌, ◌∙◌, ◌++◌, ◌∷◌, [], ap, append_assoc, arith, codes, decimal, refl}
+use Rattle.std.proofs.Common.{List, ℕ, ◌≡◌, ◌∙◌, ◌++◌, ap, append_assoc, arith, codes, decimal, refl}
 use Rattle.std.specs.Option.{option_map}
 use Rattle.j39_address.specs.Name.{name_raw}
 use Rattle.j39_frame.specs.Stamp.{stamp_micros}

@@ -1,8 +1,8 @@
 -- Behind a moment there is one distance more, and behind none there is none.
-use Rattle.std.proofs.Common.{◌≡◌, ◌∙◌, ◌++◌, ◌-◌, ◌∷◌, [], ℕ, List, Option, ap, arith, sym}
+use Rattle.std.proofs.Common.{◌≡◌, ◌∙◌, ◌++◌, ◌-◌, ◌∷◌, [], ℕ, List, ap, arith, sym}
 use Rattle.std.specs.Prelude.{option_map}
-use Rattle.j39_reports.specs.GroupCounts.{Spread, distances_in, spread_of}
-use Rattle.j39_reports.specs.SurveyModels.{HaveMeasured, spread_record}
+use Rattle.j39_reports.specs.GroupCounts.{distances_in, spread_of}
+use Rattle.j39_reports.specs.SurveyModels.{spread_record}
 use Rattle.j39_reports.specs.declared.surveys.distances.Distances.{Distances}
 use Rattle.j39_reports.proofs.GroupLemmas.{distances-first, distances-more, last-more}
 use Rattle.j39_reports.proofs.surveys.distances.Distances.add.Goals.{in-Some, in_default}

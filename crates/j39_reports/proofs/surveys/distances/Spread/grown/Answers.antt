@@ -1,5 +1,5 @@
 -- The first distance, or one more.
-use Rattle.std.proofs.Common.{◌≡◌, ◌∙◌, ◌++◌, ◌∷◌, [], None, Some, ap, subst, sym}
+use Rattle.std.proofs.Common.{◌≡◌, ◌∙◌, ◌++◌, ◌∷◌, [], ap, sym}
 use Rattle.std.specs.Prelude.{option_map}
 use Rattle.j39_reports.specs.GroupCounts.{spread_of}
 use Rattle.j39_reports.specs.SurveyModels.{spread_record}

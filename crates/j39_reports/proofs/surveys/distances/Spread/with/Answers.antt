@@ -1,6 +1,4 @@
-use Rattle.std.proofs.Common.{◌≡◌, ◌+◌, arith}
-use Rattle.std.specs.Prelude.{max, min}
-use Rattle.j39_listen.specs.Counting.{capped}
+use Rattle.std.proofs.Common.{arith}
 use Rattle.j39_reports.specs.SurveyModels.{spread_record}
 use Rattle.j39_reports.proofs.GroupLemmas.{spread-more}
 use Rattle.j39_reports.proofs.surveys.distances.Spread.with.Goals as goal

@@ -1,6 +1,5 @@
 -- A frame of the interface whose groups are counted.
-use Rattle.std.proofs.Common.{◌≡◌, ◌+◌, ◌∙◌, ap, subst, sym, arith, ℕ, List, Option, refl}
-use Rattle.std.specs.Prelude.{unwrap_or}
+use Rattle.std.proofs.Common.{◌≡◌, ◌+◌, ◌∙◌, ap, subst, sym, arith, refl}
 use Rattle.j39_frame.specs.Frame.{FrameRecord}
 use Rattle.j39_listen.specs.Counting.{capped}
 use Rattle.j39_log.specs.Bus.{IsBusName}
@@ -8,7 +7,7 @@ use Rattle.j39_log.specs.Log as log
 use Rattle.j39_log.specs.Spelled.{frame}
 use Rattle.j39_log.proofs.LineLemmas.{one_spelled}
 use Rattle.j39_reports.specs.LogLines.{seen_in, spelled_in}
-use Rattle.j39_reports.proofs.SurveyLemmas.{bus_known, meets_one, on_bus_known, on_err_all, on_ok_all, surveys_frame}
+use Rattle.j39_reports.proofs.SurveyLemmas.{meets_one, on_bus_known, on_err_all, on_ok_all, surveys_frame}
 use Rattle.j39_reports.proofs.surveys.log_survey.Survey.add_frame.Goals as goal
 
 pub returns-clause-surveyed : goal.returns-clause-surveyed

@@ -1,5 +1,5 @@
 -- Its own group, the one that it announces, and that of the message which is whole with it.
-use Rattle.std.proofs.Common.{◌∙◌, ap, subst, sym, false}
+use Rattle.std.proofs.Common.{subst, false}
 use Rattle.j39_frame.specs.Identifier.{pgn_of}
 use Rattle.j39_transport.specs.Announced.{announced_by}
 use Rattle.j39_listen.proofs.Causal.{heard_more}
