@@ -6,15 +6,14 @@ use Rattle.j39_groups.specs.Row.{RowRecord}
 use Rattle.j39_groups.specs.Value.{ValueRecord}
 use Rattle.j39_listen.specs.Heard.{Hearing}
 use Rattle.j39_listen.specs.Report.{entry_of}
-use Rattle.j39_reports.specs.EntryObject.{entry_object, named_members, value_members}
-use Rattle.j39_reports.specs.MessageObjects.{IsOpened}
+use Rattle.j39_reports.specs.EntryObject.{entry_object, parameter_members, value_members}
+use Rattle.j39_reports.specs.MessageObjects.{IsOpened, opened}
 use Rattle.j39_reports.specs.declared.report_objects.objects.Objects.{Objects}
 
 -- what is written of a reading is the object of its entry
 pub object_is : (groups : List RowRecord) (h : Hearing) (objects : Objects) → IsOpened groups h objects → (spn : ℕ) (value : ValueRecord) (parameter : Option (List ℕ))
     → parameter ≡ name_in objects.groups.now objects.pgn spn
     → (state : Option (List ℕ)) → state ≡ state_in objects.groups.now objects.pgn spn value
-    → drop objects.opening.from objects.opening.head ++ (named_members (option_map (λ name. name.now) objects.group) spn parameter ++ value_members value state)
+    → opened objects.opening (option_map (λ name. name.now) objects.group) ++ (parameter_members spn parameter ++ value_members value state)
     ≡ entry_object groups (entry_of h (record { spn = spn; value = value }))
-object_is groups h objects opened spn value parameter called state state_is =
-    rw (opened.opening_is, opened.group_is, called, state_is, opened.by, opened.pgn_is) refl
+object_is groups h objects is spn value parameter called state state_is = rw (is.opening_is, called, state_is, is.by, is.pgn_is) refl

@@ -19,7 +19,7 @@ no_bit a b c d none =
     let d_in : d ≤ bit_or (bit_or (bit_or a b) c) d = le_or_r (bit_or (bit_or a b) c) d in
     (omega arith, omega arith, omega arith, omega arith)
 
-unset : (b : Bool) (m : ℕ) → cond b 1 0 + 2 * m ≡ 0 → (b ≡ false) × (m ≡ 0)
+pub unset : (b : Bool) (m : ℕ) → cond b 1 0 + 2 * m ≡ 0 → (b ≡ false) × (m ≡ 0)
 unset true m e = absurd (omega arith)
 unset false m e = (refl, omega arith)
 

@@ -32,11 +32,14 @@ unfoldable pub opening_text : ℕ → ℕ → Option ℕ → Option ℕ → ℕ 
 opening_text stamp address destination name pgn =
     moment_members stamp ++ sender_members address destination name ++ codes ",\"pgn\":" ++ decimal pgn
 
--- what the table calls the group, the parameter, and what the table calls it
-unfoldable pub named_members : Option (List ℕ) → ℕ → Option (List ℕ) → List ℕ
-named_members group spn parameter =
-    codes ",\"group\":" ++ string_or_null group ++ codes ",\"spn\":" ++ decimal spn
-    ++ codes ",\"parameter\":" ++ string_or_null parameter
+-- what the table calls the group
+abbrev pub group_member : Option (List ℕ) → List ℕ
+group_member group = codes ",\"group\":" ++ string_or_null group
+
+-- the parameter, and what the table calls it
+unfoldable pub parameter_members : ℕ → Option (List ℕ) → List ℕ
+parameter_members spn parameter =
+    codes ",\"spn\":" ++ decimal spn ++ codes ",\"parameter\":" ++ string_or_null parameter
 
 -- a number with the digits of the report, a word, or a text
 unfoldable pub value_json : ValueRecord → List ℕ
@@ -66,6 +69,6 @@ value_members value state =
 
 abbrev pub entry_object : List RowRecord → Entry → List ℕ
 entry_object groups e =
-    opening_text e.stamp e.address e.destination e.name e.pgn
-    ++ (named_members (group_name_in groups e.pgn) e.spn (name_in groups e.pgn e.spn)
+    (opening_text e.stamp e.address e.destination e.name e.pgn ++ group_member (group_name_in groups e.pgn))
+    ++ (parameter_members e.spn (name_in groups e.pgn e.spn)
     ++ value_members e.value (state_in groups e.pgn e.spn e.value))

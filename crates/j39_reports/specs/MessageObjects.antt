@@ -1,21 +1,25 @@
 -- The steps of a message's objects, reading by reading.
-use Rattle.std.specs.Prelude.{◌≡◌, List, drop}
+use Rattle.std.specs.Prelude.{◌≡◌, ◌++◌, ℕ, List, Option, if◌then◌else◌, drop}
 use Rattle.std.specs.Option.{option_map}
 use Rattle.j39_io.specs.Turn.{Device}
 use Rattle.j39_groups.specs.Names.{group_name_in}
 use Rattle.j39_groups.specs.Row.{RowRecord}
 use Rattle.j39_groups.specs.Value.{ReadingRecord}
 use Rattle.j39_listen.specs.Heard.{Hearing}
-use Rattle.j39_reports.specs.EntryObject.{entry_object, opening_text}
+use Rattle.j39_reports.specs.EntryObject.{entry_object, group_member, opening_text}
 use Rattle.j39_reports.specs.MessageEntries.{Begun, HaveWritten}
+use Rattle.j39_reports.specs.declared.report_objects.opening.Opening.{Opening}
 use Rattle.j39_reports.specs.declared.report_objects.objects.Objects.{Objects}
+
+-- what stands before the parameter: the bytes of the block, and the group where they have it not
+abbrev pub opened : Opening → Option (List ℕ) → List ℕ
+opened o group = if o.has_group then drop o.from o.head else drop o.from o.head ++ group_member group
 
 -- the objects are those of this message by this table
 pub record IsOpened (groups : List RowRecord) (h : Hearing) (objects : Objects) : Type 0 where
   pub by : objects.groups.now ≡ groups
-  pub opening_is : drop objects.opening.from objects.opening.head
-      ≡ opening_text h.stamp h.message.source h.destination h.name h.message.pgn
-  pub group_is : option_map (λ name. name.now) objects.group ≡ group_name_in groups h.message.pgn
+  pub opening_is : opened objects.opening (option_map (λ name. name.now) objects.group)
+      ≡ opening_text h.stamp h.message.source h.destination h.name h.message.pgn ++ group_member (group_name_in groups h.message.pgn)
   pub pgn_is : objects.pgn ≡ h.message.pgn
 
 -- the objects of these readings were written, and no fault came

@@ -6,5 +6,5 @@ mod records;
 mod run;
 
 pub(crate) use begin::digits_before;
-pub(crate) use quick_record::scaled_before;
+pub(crate) use quick_record::{bits_of, scaled_before};
 pub use run::{report_csv, report_csv_filtered};

@@ -3,7 +3,7 @@ ghost use Rattle.std.specs.Prelude.{◌≡◌, ◌+◌, ◌<◌, ◌≤◌, ◌^
 ghost use Rattle.j39_io.specs.Backwards.{WritesBefore};
 ghost use Rattle.j39_io.specs.Printing.{last_digits};
 ghost use Rattle.j39_frame.specs.Stamp.{stamp_micros};
-ghost use Rattle.j39_log.specs.StampText.{seconds_text};
+ghost use Rattle.j39_reports.specs.Columns.{moment_fields};
 ghost use Rattle.j39_reports.specs.Utc.{second_text, utc_text};
 
 use crate::utc::second_text;
@@ -45,22 +45,26 @@ impl Second {
         }
     }
 
-    /// Writes the seconds of a stamp.
+    /// Writes the seconds of a stamp, a comma, and the same moment in UTC.
     #[inline(always)]
-    pub fn seconds_before(&mut self, out: &mut [u8], end: usize, stamp: Stamp) -> usize
-        requires room { 17 ≤ end }
+    pub fn moment_before(&mut self, out: &mut [u8], end: usize, stamp: Stamp) -> usize
+        requires room { 45 ≤ end }
         requires within { end ≤ length out.old }
-        ensures written { WritesBefore out.old out.new end result (seconds_text (stamp_micros stamp)) }
-        ensures starts { result + 17 ≡ end }
+        ensures { WritesBefore out.old out.new end result (moment_fields (stamp_micros stamp)) }
     {
         let micros = stamp.micros();
         self.turn_to(micros / 1_000_000);
-        let (fraction, _) = last_digits_before(out, end, 6, micros % 1_000_000);
+        let zone = byte_before(out, end, b'Z');
+        let (places, _) = last_digits_before(out, zone, 6, micros % 1_000_000);
+        let later = byte_before(out, places, b'.');
+        let utc = bytes_before(out, later, self.utc);
+        let comma = byte_before(out, utc, b',');
+        let (fraction, _) = last_digits_before(out, comma, 6, micros % 1_000_000);
         let point = byte_before(out, fraction, b'.');
         bytes_before(out, point, self.digits)
     }
 
-    /// Writes the same moment in UTC.
+    /// Writes a moment in UTC.
     #[inline(always)]
     pub fn utc_before(&mut self, out: &mut [u8], end: usize, stamp: Stamp) -> usize
         requires room { 27 ≤ end }

@@ -1,19 +1,25 @@
 //! The objects of a message.
-ghost use Rattle.std.specs.Prelude.{◌≡◌, ◌++◌, codes, decimal, drop};
+ghost use Rattle.std.specs.Prelude.{◌≡◌, ◌++◌, codes, decimal};
 ghost use Rattle.j39_io.specs.Puts.{Puts};
 ghost use Rattle.j39_io.specs.Turn.{turn};
 ghost use Rattle.std.specs.Option.{option_map};
+ghost use Rattle.j39_address.specs.Name.{name_raw};
+ghost use Rattle.j39_frame.specs.Pgn.{pgn_raw};
+ghost use Rattle.j39_frame.specs.Stamp.{stamp_micros};
 ghost use Rattle.j39_groups.specs.Models.{value_of};
 ghost use Rattle.j39_listen.specs.HeardModel.{hearing_of};
-ghost use Rattle.j39_reports.specs.EntryObject.{named_members, value_json, value_members};
+ghost use Rattle.j39_reports.specs.EntryObject.{group_member, opening_text, parameter_members, value_json, value_members};
+ghost use Rattle.j39_reports.specs.MessageObjects.{opened};
 ghost use Rattle.j39_reports.specs.Json.{bytes_member, string_or_null, string_text};
 
 use crate::json::{put_bytes_member, put_string, put_string_or_null};
-use crate::report_objects::opening::Opening;
+use crate::report_objects::opening::{HEAD, Opening, group_before, moment_before, sender_before};
 use crate::report_objects::quick_object::{OBJECT, object_before, unit_in};
+use crate::report_records::digits_before;
 use crate::second::Second;
 use arrayvec::ArrayVec;
 use j39_groups::{Groups, ReadingVisitor, Value, push_decimal};
+use j39_io::backwards::bytes_before;
 use j39_io::printing::push_bytes;
 use j39_io::{DeviceFault, Sink, put_all};
 use j39_listen::{EntryForm, Heard};
@@ -39,10 +45,11 @@ impl<'g, 't> Objects<'g, 't> {
         ensures none { result.lines ≡ 0 }
     {
         let pgn = heard.message.pgn;
+        let group = groups.group_name(pgn);
         Objects {
             groups,
-            opening: Opening::new(heard, second),
-            group: groups.group_name(pgn),
+            opening: opening_of(heard, group, second),
+            group,
             pgn: pgn.raw(),
             lines: 0,
             block: [0; OBJECT],
@@ -126,6 +133,26 @@ impl<'g, 't, W: Sink> ReadingVisitor<'t, W> for Objects<'g, 't> {
     }
 }
 
+/// What the objects of a message begin with, of a group that is called so.
+#[inline(always)]
+fn opening_of(heard: &Heard<'_>, group: Option<&[u8]>, second: &mut Second) -> Opening
+    ensures { opened result (option_map (λ name. name.now) group.entry) ≡ opening_text (stamp_micros heard.now.message.stamp)
+        heard.now.message.source heard.now.destination (option_map name_raw heard.now.name)
+        (pgn_raw heard.now.message.pgn) ++ group_member (option_map (λ name. name.now) group.entry) }
+{
+    let mut head = [0; HEAD];
+    let quick = group_before(&mut head, group);
+    let number = digits_before(&mut head, quick.unwrap_or(HEAD), heard.message.pgn.raw());
+    let key = bytes_before(&mut head, number, *b",\"pgn\":");
+    let sender = sender_before(&mut head, key, heard);
+    let from = moment_before(&mut head, sender, second, heard.message.stamp);
+    Opening {
+        head,
+        from,
+        has_group: quick.is_some(),
+    }
+}
+
 /// Writes the object of a reading, in one piece where it is short. What stands in `block` afterwards is not known.
 #[inline(always)]
 fn put_object<W: Sink>(
@@ -138,12 +165,12 @@ fn put_object<W: Sink>(
     state: Option<&[u8]>,
     sink: &mut W,
 ) -> Result<(), DeviceFault>
-    ensures { Puts (drop opening.now.from opening.now.head
-        ++ (named_members (option_map (λ text. text.now) group.entry) spn (option_map (λ text. text.now) parameter.entry)
+    ensures { Puts (opened opening.now (option_map (λ text. text.now) group.entry)
+        ++ (parameter_members spn (option_map (λ text. text.now) parameter.entry)
         ++ value_members (value_of value.entry) (option_map (λ text. text.now) state.entry)))
         result (turn W.written W.has_failed sink.old sink.new) }
 {
-    match object_before(block, opening, group, spn, parameter, value, state) {
+    match object_before(block, opening, spn, parameter, value, state) {
         Some(start) => put_all(sink, &block[start..]),
         None => put_parts(opening, group, spn, parameter, value, state, sink),
     }
@@ -160,28 +187,42 @@ fn put_parts<W: Sink>(
     state: Option<&[u8]>,
     sink: &mut W,
 ) -> Result<(), DeviceFault>
-    ensures { Puts (drop opening.now.from opening.now.head
-        ++ (named_members (option_map (λ text. text.now) group.entry) spn (option_map (λ text. text.now) parameter.entry)
+    ensures { Puts (opened opening.now (option_map (λ text. text.now) group.entry)
+        ++ (parameter_members spn (option_map (λ text. text.now) parameter.entry)
         ++ value_members (value_of value.entry) (option_map (λ text. text.now) state.entry)))
         result (turn W.written W.has_failed sink.old sink.new) }
 {
-    put_all(sink, opening.bytes())?;
-    put_named(group, spn, parameter, sink)?;
+    put_opened(opening, group, sink)?;
+    put_parameter(spn, parameter, sink)?;
     put_value_members(value, state, sink)
 }
 
-/// Writes the group, the number of the parameter, and what it is called.
-#[tactic(auto, unfolding(crate::specs::EntryObject::named_members))]
-fn put_named<W: Sink>(
+/// Writes what the objects of a message begin with, and the group.
+fn put_opened<W: Sink>(
+    opening: &Opening,
     group: Option<&[u8]>,
+    sink: &mut W,
+) -> Result<(), DeviceFault>
+    ensures { Puts (opened opening.now (option_map (λ text. text.now) group.entry)) result
+        (turn W.written W.has_failed sink.old sink.new) }
+{
+    if opening.has_group {
+        return put_all(sink, opening.bytes());
+    }
+    put_all(sink, opening.bytes())?;
+    put_member(b",\"group\":", group, sink)
+}
+
+/// Writes the number of the parameter, and what it is called.
+#[tactic(auto, unfolding(crate::specs::EntryObject::parameter_members))]
+fn put_parameter<W: Sink>(
     spn: u32,
     parameter: Option<&[u8]>,
     sink: &mut W,
 ) -> Result<(), DeviceFault>
-    ensures { Puts (named_members (option_map (λ text. text.now) group.entry) spn
-        (option_map (λ text. text.now) parameter.entry)) result (turn W.written W.has_failed sink.old sink.new) }
+    ensures { Puts (parameter_members spn (option_map (λ text. text.now) parameter.entry)) result
+        (turn W.written W.has_failed sink.old sink.new) }
 {
-    put_member(b",\"group\":", group, sink)?;
     let number = spn_member(spn);
     put_all(sink, number.as_slice())?;
     put_member(b",\"parameter\":", parameter, sink)

@@ -1,14 +1,13 @@
 //! What the objects of a message begin with, written backwards.
-ghost use Rattle.std.specs.Prelude.{◌≡◌, ◌+◌, ◌≤◌, drop, length};
+ghost use Rattle.std.specs.Prelude.{◌≡◌, ◌+◌, ◌≤◌, IfSome, drop, length};
 ghost use Rattle.std.specs.Option.{option_map};
 ghost use Rattle.j39_address.specs.Name.{name_raw};
 ghost use Rattle.j39_io.specs.Backwards.{WritesBefore};
-ghost use Rattle.j39_frame.specs.Pgn.{pgn_raw};
 ghost use Rattle.j39_frame.specs.Stamp.{stamp_micros};
-ghost use Rattle.j39_reports.specs.EntryObject.{address_string, moment_members, name_string, opening_text, sender_members};
+ghost use Rattle.j39_reports.specs.EntryObject.{address_string, group_member, moment_members, name_string, sender_members};
 ghost use Rattle.j39_reports.specs.Json.{or_null};
 
-use crate::report_records::digits_before;
+use crate::json::string_or_null_before;
 use crate::second::Second;
 use j39_address::Name;
 use j39_frame::Stamp;
@@ -18,33 +17,20 @@ use j39_io::vectors::hex_of_eight;
 use j39_listen::Heard;
 
 /// The bytes of a block that the objects of every message can begin with.
-pub(crate) const HEAD: usize = 160;
+pub(crate) const HEAD: usize = 192;
 
 /// What the objects of a message begin with: the bytes of a block from a place on.
 #[derive(Debug, Drop)]
 pub(crate) struct Opening {
     pub head: [u8; HEAD],
     pub from: usize,
-    pub ghost whole: { length head ≡ 160 },
-    pub ghost inside: { from ≤ 160 },
+    /// Whether the group stands there too.
+    pub has_group: bool,
+    pub ghost whole: { length head ≡ 192 },
+    pub ghost inside: { from ≤ 192 },
 }
 
 impl Opening {
-    /// That of a message.
-    #[inline(always)]
-    pub fn new(heard: &Heard<'_>, second: &mut Second) -> Opening
-        ensures { drop result.from result.head ≡ opening_text (stamp_micros heard.now.message.stamp)
-            heard.now.message.source heard.now.destination (option_map name_raw heard.now.name)
-            (pgn_raw heard.now.message.pgn) }
-    {
-        let mut head = [0; HEAD];
-        let group = digits_before(&mut head, HEAD, heard.message.pgn.raw());
-        let key = bytes_before(&mut head, group, *b",\"pgn\":");
-        let sender = sender_before(&mut head, key, heard);
-        let from = moment_before(&mut head, sender, second, heard.message.stamp);
-        Opening { head, from }
-    }
-
     /// The bytes.
     pub fn bytes(&self) -> &[u8]
         ensures { result.now ≡ drop self.now.from self.now.head }
@@ -53,9 +39,24 @@ impl Opening {
     }
 }
 
+/// Writes what a group is called at the end of a block, where that is short and stands as it is.
+#[inline(always)]
+pub(crate) fn group_before(out: &mut [u8; HEAD], group: Option<&[u8]>) -> Option<usize>
+    ensures written { IfSome result (λ start. WritesBefore out.old out.new 192 start
+        (group_member (option_map (λ name. name.now) group.entry))) }
+    ensures room { IfSome result (λ start. 160 ≤ start) }
+    ensures within { IfSome result (λ start. start ≤ 192) }
+{
+    let name = string_or_null_before(out, HEAD, group)?;
+    if name < 169 {
+        return None;
+    }
+    Some(bytes_before(out, name, *b",\"group\":"))
+}
+
 /// Writes the stamp, and the same moment in UTC.
 #[inline(always)]
-fn moment_before(out: &mut [u8], end: usize, second: &mut Second, stamp: Stamp) -> usize
+pub(crate) fn moment_before(out: &mut [u8], end: usize, second: &mut Second, stamp: Stamp) -> usize
     requires room { 82 ≤ end }
     requires within { end ≤ length out.old }
     ensures { WritesBefore out.old out.new end result (moment_members (stamp_micros stamp)) }
@@ -69,7 +70,7 @@ fn moment_before(out: &mut [u8], end: usize, second: &mut Second, stamp: Stamp) 
 
 /// Writes the address, the destination and the NAME.
 #[inline(always)]
-fn sender_before(out: &mut [u8], end: usize, heard: &Heard<'_>) -> usize
+pub(crate) fn sender_before(out: &mut [u8], end: usize, heard: &Heard<'_>) -> usize
     requires room { 60 ≤ end }
     requires within { end ≤ length out.old }
     ensures written { WritesBefore out.old out.new end result (sender_members heard.now.message.source

@@ -1,9 +1,10 @@
 //! The object of one reading in a block, the last byte first.
-ghost use Rattle.std.specs.Prelude.{◌≡◌, ◌+◌, ◌≤◌, ◌++◌, IfSome, drop, length};
+ghost use Rattle.std.specs.Prelude.{◌≡◌, ◌+◌, ◌≤◌, ◌++◌, ℕ, IfSome, List, Option, length};
 ghost use Rattle.std.specs.Option.{option_map};
 ghost use Rattle.j39_io.specs.Backwards.{WritesBefore};
 ghost use Rattle.j39_groups.specs.Models.{value_of};
-ghost use Rattle.j39_reports.specs.EntryObject.{named_members, unit_in, value_json, value_members};
+ghost use Rattle.j39_reports.specs.EntryObject.{parameter_members, unit_in, value_json, value_members};
+ghost use Rattle.j39_reports.specs.MessageObjects.{opened};
 
 use crate::json::string_or_null_before;
 use crate::report_objects::opening::Opening;
@@ -11,9 +12,9 @@ use crate::report_records::{digits_before, scaled_before};
 use j39_groups::Value;
 use j39_io::backwards::{bytes_before, tail_before};
 
-/// The bytes of a block that an object fits in: what it begins with, a number, a value, four texts of 63 bytes in their marks, the
-/// keys, and the end of the line.
-pub(crate) const OBJECT: usize = 528;
+/// The bytes of a block that an object fits in: what it begins with, a number, a value, three texts of 63 bytes in their marks,
+/// the keys, and the end of the line.
+pub(crate) const OBJECT: usize = 496;
 
 /// Writes the object of a reading at the end of a block, and answers where it starts. `None`, and nothing of use is written, for a
 /// text of the sender's, a number with more than fifteen places, and a text of the table that is long or doesn't stand as it is.
@@ -21,43 +22,37 @@ pub(crate) const OBJECT: usize = 528;
 pub(crate) fn object_before(
     out: &mut [u8; OBJECT],
     opening: &Opening,
-    group: Option<&[u8]>,
     spn: u32,
     parameter: Option<&[u8]>,
     value: Value<'_, '_>,
     state: Option<&[u8]>,
 ) -> Option<usize>
-    ensures written { IfSome result (λ start. WritesBefore out.old out.new 528 start (drop opening.now.from opening.now.head
-        ++ (named_members (option_map (λ text. text.now) group.entry) spn (option_map (λ text. text.now) parameter.entry)
+    ensures written { (group : Option (List ℕ)) → IfSome result (λ start. WritesBefore out.old out.new 496 start
+        (opened opening.now group ++ (parameter_members spn (option_map (λ text. text.now) parameter.entry)
         ++ value_members (value_of value.entry) (option_map (λ text. text.now) state.entry)))) }
-    ensures within { IfSome result (λ start. start ≤ 528) }
+    ensures within { IfSome result (λ start. start ≤ 496) }
 {
+    if !opening.has_group {
+        return None;
+    }
     let behind = value_before(out, OBJECT, value, state)?;
-    let named = named_before(out, behind, group, spn, parameter)?;
-    Some(tail_before(out, named, &opening.head, opening.from))
+    let number = parameter_before(out, behind, spn, parameter)?;
+    Some(tail_before(out, number, &opening.head, opening.from))
 }
 
-/// Writes the group, the number of the parameter, and what it is called.
+/// Writes the number of the parameter, and what it is called.
 #[inline(always)]
-fn named_before(
-    out: &mut [u8],
-    end: usize,
-    group: Option<&[u8]>,
-    spn: u32,
-    parameter: Option<&[u8]>,
-) -> Option<usize>
-    requires room { 169 ≤ end }
+fn parameter_before(out: &mut [u8], end: usize, spn: u32, parameter: Option<&[u8]>) -> Option<usize>
+    requires room { 95 ≤ end }
     requires within { end ≤ length out.old }
     ensures written { IfSome result (λ start. WritesBefore out.old out.new end start
-        (named_members (option_map (λ text. text.now) group.entry) spn (option_map (λ text. text.now) parameter.entry))) }
-    ensures short { IfSome result (λ start. end ≤ start + 169) }
+        (parameter_members spn (option_map (λ text. text.now) parameter.entry))) }
+    ensures short { IfSome result (λ start. end ≤ start + 95) }
 {
     let name = string_or_null_before(out, end, parameter)?;
-    let name_key = bytes_before(out, name, *b",\"parameter\":");
-    let number = digits_before(out, name_key, spn);
-    let number_key = bytes_before(out, number, *b",\"spn\":");
-    let called = string_or_null_before(out, number_key, group)?;
-    Some(bytes_before(out, called, *b",\"group\":"))
+    let key = bytes_before(out, name, *b",\"parameter\":");
+    let number = digits_before(out, key, spn);
+    Some(bytes_before(out, number, *b",\"spn\":"))
 }
 
 /// Writes the value, its unit, what its state is called, and the end of the line.

@@ -7,13 +7,12 @@ ghost use Rattle.j39_io.specs.Records.{later_text};
 ghost use Rattle.j39_frame.specs.Pgn.{pgn_raw};
 ghost use Rattle.j39_frame.specs.Stamp.{stamp_micros};
 ghost use Rattle.j39_listen.specs.Report.{name_field};
-ghost use Rattle.j39_reports.specs.Columns.{destination_field, moment_fields, sender_fields};
+ghost use Rattle.j39_reports.specs.Columns.{destination_field, sender_fields};
 ghost use Rattle.j39_reports.specs.EntryText.{begin_text};
 
 use crate::report_records::quick_record::field_before;
 use crate::second::Second;
 use j39_address::Name;
-use j39_frame::Stamp;
 use j39_io::backwards::{byte_before, bytes_before, hex_before, number_before};
 use j39_io::vectors::hex_of_eight;
 use j39_listen::Heard;
@@ -63,19 +62,7 @@ pub(crate) fn begin_before(
     let comma = byte_before(out, group, b',');
     let sender = sender_before(out, comma, heard);
     let first = byte_before(out, sender, b',');
-    moment_before(out, first, second, heard.message.stamp)
-}
-
-/// Writes the seconds of a stamp, a comma, and the same moment in UTC.
-#[inline(always)]
-fn moment_before(out: &mut [u8], end: usize, second: &mut Second, stamp: Stamp) -> usize
-    requires room { 45 ≤ end }
-    requires within { end ≤ length out.old }
-    ensures { WritesBefore out.old out.new end result (moment_fields (stamp_micros stamp)) }
-{
-    let utc = second.utc_before(out, end, stamp);
-    let comma = byte_before(out, utc, b',');
-    second.seconds_before(out, comma, stamp)
+    second.moment_before(out, first, heard.message.stamp)
 }
 
 /// Writes the address, the destination and the NAME.

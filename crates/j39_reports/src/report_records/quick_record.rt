@@ -103,7 +103,7 @@ fn special_bits(block: &[u8; 8]) -> u64
 
 /// A bit for each byte of a block, set where it is this byte.
 #[inline(always)]
-fn bits_of(block: &[u8; 8], byte: u8) -> u64
+pub(crate) fn bits_of(block: &[u8; 8], byte: u8) -> u64
     ensures { result ≡ mask_l (map (λ b. b == byte) block.now) }
 {
     u8x8::from_array(*block)

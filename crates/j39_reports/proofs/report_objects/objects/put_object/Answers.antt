@@ -1,5 +1,6 @@
 -- What stands in the block from the start on is the object.
 use Rattle.std.proofs.Common.{◌∙◌, arith}
+use Rattle.std.specs.Option.{option_map}
 use Rattle.std.proofs.lemmas.Slice.{between_to_end}
 use Rattle.j39_io.proofs.BackwardsLemmas.{before_end}
 use Rattle.j39_io.proofs.PutsLemmas.{puts_as}
@@ -8,4 +9,5 @@ use Rattle.j39_reports.proofs.report_objects.objects.put_object.Goals as goal
 pub returns-in-Some : goal.returns-in-Some
 returns-in-Some g c =
     puts_as _ _ _ _
-    (between_to_end c.object_before.new.out c.in-Some.start 528 (omega arith) ∙ before_end _ _ 528 _ _ (omega arith) c.in-Some.ensures.written) c.put_all.ensures.puts
+    (between_to_end c.object_before.new.out c.in-Some.start 496 (omega arith)
+    ∙ before_end _ _ 496 _ _ (omega arith) (c.in-Some.ensures.written (option_map (λ text. text.now) c.args.group))) c.put_all.ensures.puts

@@ -23,7 +23,7 @@ pub returns-clause-taken : goal.returns-clause-taken
 returns-clause-taken g c = λ subject before has.
     rw (filter_map-append told_by before (visited c.args.spn c.args.value ∷ []))
     (record {
-      is_opened = record { by = has.is_opened.by; opening_is = has.is_opened.opening_is; group_is = has.is_opened.group_is; pgn_is = has.is_opened.pgn_is };
+      is_opened = record { by = has.is_opened.by; opening_is = has.is_opened.opening_is; pgn_is = has.is_opened.pgn_is };
       have = takes_this entry_object subject (told_in before) _ c.args.self.now.lines _ _ _ _ has.have c.saturating_add-self.ensures
           (puts_as _ _ _ _ (object_is subject.groups subject.hearing c.args.self.now has.is_opened c.args.spn (value_of c.args.value)
           _ c.called_in.ensures.parameter _ c.called_in.ensures.state) c.in_ok-put_object.ensures);

@@ -1,0 +1,12 @@
+use Rattle.std.proofs.Common.{◌≡◌, ◌≤◌, ◌-◌, drop, false, length}
+use Rattle.std.specs.List.{list_any}
+use Rattle.j39_reports.specs.Json.{is_marked}
+use Rattle.j39_reports.proofs.json.may_be_marked.Given as goal
+
+-- none so far; what is left stands at the end
+abbrev pub invariant-loop-block : goal.invariant-loop-block
+invariant-loop-block l = (list_any is_marked l.rest ≡ false → list_any is_marked l.text ≡ false)
+    × (length l.rest ≤ length l.text) × (l.rest ≡ drop (length l.text - length l.rest) l.text)
+
+abbrev pub decreases-loop-block : goal.decreases-loop-block
+decreases-loop-block l = length l.rest

@@ -1,0 +1,32 @@
+-- The parts, one before the other.
+use Rattle.std.proofs.Common.{◌≡◌, ◌++◌, ◌∷◌, [], ◌/◌, ◌%◌, ◌^◌, ℕ, List, subst, append_assoc, refl}
+use Rattle.j39_io.specs.Backwards.{WritesBefore}
+use Rattle.j39_io.specs.Printing.{last_digits}
+use Rattle.j39_io.proofs.BackwardsLemmas.{before_then}
+use Rattle.j39_frame.specs.Stamp.{stamp_micros}
+use Rattle.j39_reports.specs.Columns.{moment_fields}
+use Rattle.j39_reports.specs.Utc.{second_text, utc_text}
+use Rattle.j39_reports.proofs.second.Second.moment_before.Goals as goal
+
+regroup : (digits fraction utc : List ℕ)
+    → digits ++ ((46 ∷ []) ++ (fraction ++ ((44 ∷ []) ++ (utc ++ ((46 ∷ []) ++ (fraction ++ (90 ∷ [])))))))
+    ≡ digits ++ (46 ∷ []) ++ fraction ++ (44 ∷ []) ++ (utc ++ (46 ∷ []) ++ fraction ++ (90 ∷ []))
+regroup digits fraction utc = simp append_assoc refl
+
+parts : (micros told value : ℕ) (digits utc : List ℕ) → told ≡ micros → value ≡ told / 10 ^ 6
+    → digits ≡ last_digits 10 value → utc ≡ second_text value
+    → digits ++ ((46 ∷ []) ++ (last_digits 6 (told % 10 ^ 6) ++ ((44 ∷ []) ++ (utc ++ ((46 ∷ []) ++ (last_digits 6 (told % 10 ^ 6) ++ (90 ∷ [])))))))
+    ≡ moment_fields micros
+unfolding utc_text
+parts micros told value digits utc m v d u =
+    rw (d, u, v, m) (regroup (last_digits 10 (micros / 10 ^ 6)) (last_digits 6 (micros % 10 ^ 6)) (second_text (micros / 10 ^ 6)))
+
+pub returns : goal.returns
+returns c =
+    let micros = c.micros-micros in
+    subst (WritesBefore c.args.out.now c.bytes_before.new.out c.args.end c.bytes_before.result)
+    (parts (stamp_micros c.args.stamp) micros.result c.turn_to.new.self.value c.turn_to.new.self.digits c.turn_to.new.self.utc micros.ensures.value c.turn_to.ensures
+    c.turn_to.new.self.digits_are c.turn_to.new.self.utc_is)
+    (before_then _ _ _ _ _ _ _ _ (before_then _ _ _ _ _ _ _ _ (before_then _ _ _ _ _ _ _ _ (before_then _ _ _ _ _ _ _ _ (before_then _ _ _ _ _ _ _ _ (before_then _ _ _ _ _ _ _ _ (before_then _ _ _ _ _ _ _ _
+    c.byte_before-zone.ensures c.last_digits_before-places.ensures.digits) c.byte_before-later.ensures) c.bytes_before-utc.ensures.written) c.byte_before-comma.ensures)
+    c.last_digits_before-fraction.ensures.digits) c.byte_before-point.ensures) c.bytes_before.ensures.written)
