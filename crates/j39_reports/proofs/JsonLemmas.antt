@@ -1,5 +1,5 @@
 -- Strings of JSON.
-use Rattle.std.proofs.Common.{◌≡◌, ◌<◌, ◌≤◌, ◌∙◌, ◌++◌, ◌∷◌, [], ℕ, zero, suc, Bool, false, List, Result, Ok, Err, ap, ap₂, arith, drop, eq-zero-or-pos, inl, inr, length, map, refl, sym, take, take-append-drop, ◌-◌, ◌+◌}
+use Rattle.std.proofs.Common.{◌≡◌, ◌<◌, ◌≤◌, ◌∙◌, ◌++◌, ◌∷◌, [], ℕ, zero, suc, Bool, false, List, Result, Ok, Err, ap, ap₂, arith, drop, eq-zero-or-pos, inl, inr, length, map, refl, sym, take, take-append-drop, ◌-◌}
 use Rattle.std.specs.Prelude.{◌==◌, ◌||◌, IsErr, nat_lt, if◌then◌else◌, codes}
 use Rattle.std.specs.List.{flat_map, list_any}
 use Rattle.std.specs.Simd.Lanes.{mask_l}

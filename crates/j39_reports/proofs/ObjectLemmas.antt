@@ -1,5 +1,5 @@
 -- The object of a reading of a message.
-use Rattle.std.proofs.Common.{◌≡◌, ◌++◌, ℕ, List, Option, drop, refl}
+use Rattle.std.proofs.Common.{◌≡◌, ◌++◌, ℕ, List, Option, refl}
 use Rattle.std.specs.Option.{option_map}
 use Rattle.j39_groups.specs.Names.{name_in, state_in}
 use Rattle.j39_groups.specs.Row.{RowRecord}

@@ -26,21 +26,26 @@ use j39_listen::{EntryForm, Heard};
 
 /// The objects of a message so far.
 #[derive(Drop)]
-pub(crate) struct Objects<'g, 't> {
+pub(crate) struct Objects<'g, 't, 'b> {
     groups: &'g Groups<'t>,
     opening: Opening,
     group: Option<&'g [u8]>,
     pgn: u32,
     lines: u64,
-    block: [u8; OBJECT],
+    block: &'b mut [u8; OBJECT],
 }
 
-impl<'g, 't> Objects<'g, 't> {
+impl<'g, 't, 'b> Objects<'g, 't, 'b> {
     ghost use Rattle.j39_reports.specs.MessageObjects.{IsOpened};
 
     /// None so far.
     #[inline(always)]
-    fn new(groups: &'g Groups<'t>, heard: &Heard<'_>, second: &mut Second) -> Objects<'g, 't>
+    fn new(
+        groups: &'g Groups<'t>,
+        heard: &Heard<'_>,
+        second: &mut Second,
+        block: &'b mut [u8; OBJECT],
+    ) -> Objects<'g, 't, 'b>
         ensures opened { IsOpened groups.entry.now (hearing_of heard.now) result }
         ensures none { result.lines ≡ 0 }
     {
@@ -52,7 +57,7 @@ impl<'g, 't> Objects<'g, 't> {
             group,
             pgn: pgn.raw(),
             lines: 0,
-            block: [0; OBJECT],
+            block,
         }
     }
 }
@@ -61,6 +66,7 @@ impl<'g, 't> Objects<'g, 't> {
 #[derive(Drop)]
 pub(crate) struct ObjectForm {
     second: Second,
+    block: [u8; OBJECT],
 }
 
 impl ObjectForm {
@@ -70,6 +76,7 @@ impl ObjectForm {
     {
         ObjectForm {
             second: Second::new(0),
+            block: [0; OBJECT],
         }
     }
 }
@@ -86,7 +93,7 @@ impl EntryForm for ObjectForm {
         groups: &Groups<'_>,
         sink: &mut W,
     ) -> Result<u64, DeviceFault> {
-        let mut objects = Objects::new(groups, heard, &mut self.second);
+        let mut objects = Objects::new(groups, heard, &mut self.second, &mut self.block);
         match groups.visit(heard.message.pgn, heard.message.payload, &mut objects, sink) {
             Ok(()) => Ok(objects.lines),
             Err(DeviceFault) => Err(DeviceFault),
@@ -94,7 +101,7 @@ impl EntryForm for ObjectForm {
     }
 }
 
-impl<'g, 't, W: Sink> ReadingVisitor<'t, W> for Objects<'g, 't> {
+impl<'g, 't, 'b, W: Sink> ReadingVisitor<'t, W> for Objects<'g, 't, 'b> {
     ghost use Rattle.std.specs.Prelude.{◌++◌, ◌∷◌, []};
     ghost use Rattle.j39_groups.specs.Sightings.{told_in};
     ghost use Rattle.j39_reports.specs.EntryObject.{entry_object};
@@ -114,7 +121,7 @@ impl<'g, 't, W: Sink> ReadingVisitor<'t, W> for Objects<'g, 't> {
     fn visit(&mut self, spn: u32, value: Value<'t, '_>, sink: &mut W) -> Result<(), DeviceFault> {
         let (parameter, state) = self.groups.called_in(self.pgn, spn, value);
         put_object(
-            &mut self.block,
+            self.block,
             &self.opening,
             self.group,
             spn,

@@ -1,5 +1,5 @@
 -- The group stands in the block, or not.
-use Rattle.std.proofs.Common.{List, ℕ, Option, Some, None, ◌≡◌, ◌≤◌, ◌∙◌, ◌++◌, ap, append_assoc, arith, codes, decimal, drop, length, refl, subst}
+use Rattle.std.proofs.Common.{List, ℕ, Option, Some, None, ◌≡◌, ◌≤◌, ◌++◌, ap, append_assoc, arith, codes, decimal, drop, length, refl, subst}
 use Rattle.std.specs.Prelude.{IfSome, is_some, unwrap_or, if◌then◌else◌}
 use Rattle.std.specs.Option.{option_map}
 use Rattle.j39_address.specs.Name.{name_raw}
