@@ -1,6 +1,6 @@
 -- What a listener stands for: the frames that it was fed.
-use Rattle.std.specs.Prelude.{◌≡◌, ◌++◌, ◌∷◌, [], ℕ, List, Result, MatchResult, length}
-use Rattle.j39_address.specs.Claims.{Knows}
+use Rattle.std.specs.Prelude.{◌≡◌, ◌++◌, ◌∷◌, [], ℕ, List, Option, Result, MatchResult, length}
+use Rattle.j39_address.specs.Claims.{Knows, holder_in}
 use Rattle.j39_frame.specs.Frame.{FrameRecord}
 use Rattle.j39_transport.specs.Answers.{AreHeldAfter, AreOpenAfter}
 use Rattle.j39_transport.specs.Boxes.{WantsMemory}
@@ -15,6 +15,10 @@ pub record Hears (listener : Listener) (F : List FrameRecord) : Type 0 where
   pub with_forgets : WithForgets F (length F) events
   pub stands : Stands events listener.assembler
   pub knows : Knows listener.claims F
+
+-- the NAME that it says holds an address, or none
+abbrev pub holder_of : Listener → ℕ → Option ℕ
+holder_of listener address = holder_in listener.claims address
 
 -- fed one frame more, it has heard that too; after an error it is as it was
 abbrev pub HearsOneMore : {T E : Type 0} → Listener → FrameRecord → Result T E → Listener → Type 0

@@ -13,7 +13,7 @@ ghost use Rattle.j39_groups.specs.Table.{the_table};
 ghost use Rattle.j39_transport.specs.Answers.{IsAnnouncement};
 ghost use Rattle.j39_transport.specs.AssemblerStep.{messages_open};
 ghost use Rattle.j39_listen.specs.Heard.{HeardAt, HeardAtWith, LeavesNetwork};
-ghost use Rattle.j39_listen.specs.Listening.{AreHeld, AreOpen, Hears, HearsOneMore, WantsMemoryBehind};
+ghost use Rattle.j39_listen.specs.Listening.{AreHeld, AreOpen, Hears, HearsOneMore, WantsMemoryBehind, holder_of};
 ghost use Rattle.j39_listen.specs.OneFrameMore.{IsMany, heard_alone, hearing_alone};
 ghost use Rattle.j39_listen.specs.HeardModel.{hearing_of};
 
@@ -158,7 +158,8 @@ impl Listener {
 
     /// The NAME that holds the address; `None` where no claim tells it, and for 254 and 255.
     pub fn holder(&self, address: u8) -> Option<Name>
-        ensures { (F : List FrameRecord) → Hears self.now F
+        ensures value { option_map name_raw result ≡ holder_of self.now address }
+        ensures holder { (F : List FrameRecord) → Hears self.now F
             → IsHolderAfter (claims_of F) address (option_map name_raw result) }
     {
         self.claims.holder(address)

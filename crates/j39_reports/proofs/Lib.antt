@@ -16,6 +16,7 @@ pub mod RowLemmas
 pub mod HeldLemmas
 pub mod AbsenceLemmas
 pub mod TakenLemmas
+pub mod OriginRowLemmas
 pub mod SummaryLineLemmas
 pub mod SummaryAccountLemmas
 pub mod LawLemmas
@@ -38,6 +39,13 @@ pub mod CurrentLemmas
 pub mod NowPlaceLemmas
 pub mod NowLineLemmas
 pub mod CurrentAccountLemmas
+-- a watch: its lines
+pub mod CutLemmas
+pub mod LatestLemmas
+pub mod ValueLemmas
+pub mod ScreenLemmas
+pub mod NoteLemmas
+pub mod WatchLemmas
 -- surveys: lists
 pub mod FirstsLemmas
 pub mod CountLemmas

@@ -74,11 +74,11 @@ module _ (form : Format) (rows : List RowRecord) (places : Places) where
   abbrev pub text : ℕ → List ℕ
   text n = now_text form rows (shown_below places n)
 
-  shown_next : (n : ℕ) → shown_below places (n + 1) ≡ shown_below places n ++ nows_shown n (at places n)
+  pub shown_next : (n : ℕ) → shown_below places (n + 1) ≡ shown_below places n ++ nows_shown n (at places n)
   unfolding shown_below
   shown_next n = (let next : n + 1 ≡ suc n = omega arith in ap (shown_below places) next)
 
-  shown_rest : (n k : ℕ) → (rest : List Now) × (shown_below places (k + n) ≡ shown_below places n ++ rest)
+  pub shown_rest : (n k : ℕ) → (rest : List Now) × (shown_below places (k + n) ≡ shown_below places n ++ rest)
   unfolding shown_below
   shown_rest n zero = ([], (let same : 0 + n ≡ n = omega arith in ap (shown_below places) same ∙ sym (append-nil (shown_below places n))))
   shown_rest n (suc k) =

@@ -43,6 +43,13 @@ pub mod FaultsNowRun
 -- the faults that are there now: the code's steps, below the rules
 pub mod CurrentPlaces
 pub mod CurrentSoFar
+-- a watch: what stands on its screens
+pub mod Watch
+-- a watch: the code's steps, below the rules
+pub mod LatestSoFar
+pub mod WatchSoFar
+pub mod ScreenSoFar
+pub mod NotesSoFar
 -- surveys: the lines of a log, and what is in them
 pub mod LogLines
 pub mod Firsts

@@ -1,11 +1,11 @@
 //! Which faults are there now: what the last message of active codes of each controller names (J1939-73).
 
-mod account;
-mod last_active;
+pub(crate) mod account;
+pub(crate) mod last_active;
 pub mod laws;
 mod lines;
-mod places;
+pub(crate) mod places;
 mod run;
-mod standing;
+pub(crate) mod standing;
 
 pub use run::faults_now;

@@ -12,6 +12,7 @@ mod second;
 pub mod summaries;
 pub mod surveys;
 mod utc;
+mod watching;
 
 pub use current_faults::faults_now;
 pub use fault_news::{Choice, FaultCounts, Telling, faults};
@@ -19,3 +20,4 @@ pub use report_objects::{report_json, report_json_filtered};
 pub use report_records::{report_csv, report_csv_filtered};
 pub use summaries::summary;
 pub use surveys::survey;
+pub use watching::{ScreenSize, watch};

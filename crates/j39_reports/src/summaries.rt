@@ -2,9 +2,9 @@
 
 mod absences;
 mod account;
-mod deeds;
-mod guesses;
-mod kept;
+pub(crate) mod deeds;
+pub(crate) mod guesses;
+pub(crate) mod kept;
 pub mod laws;
 pub(crate) mod lines;
 mod records;

@@ -140,7 +140,7 @@ fn take_frame(
 }
 
 /// Takes a message, where it is one of active codes, and answers how many that is.
-fn take_heard(
+pub(crate) fn take_heard(
     alloc: Global,
     heard: &Heard<'_>,
     conversions: &[Conversion],

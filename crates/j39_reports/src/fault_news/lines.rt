@@ -118,7 +118,11 @@ fn put_words<W: Sink>(groups: &Groups<'_>, said: Said, sink: &mut W) -> Result<(
 }
 
 /// Writes what is said in words.
-fn put_said<W: Sink>(groups: &Groups<'_>, said: Said, sink: &mut W) -> Result<(), DeviceFault>
+pub(crate) fn put_said<W: Sink>(
+    groups: &Groups<'_>,
+    said: Said,
+    sink: &mut W,
+) -> Result<(), DeviceFault>
     ensures { Puts (said_text groups.now said.state said.lamps said.code)
         result (turn W.written W.has_failed sink.old sink.new) }
 {

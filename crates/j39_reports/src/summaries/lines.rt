@@ -278,7 +278,11 @@ fn put_name<'x, W: Sink>(
 }
 
 /// What the table calls the state of a value.
-fn state_of<'r>(groups: &'r Groups<'_>, origin: Origin, kept: &Kept<'_>) -> Option<&'r [u8]>
+pub(crate) fn state_of<'r>(
+    groups: &'r Groups<'_>,
+    origin: Origin,
+    kept: &Kept<'_>,
+) -> Option<&'r [u8]>
     ensures { option_map (λ words. words.now) result ≡ state_in groups.now origin.pgn origin.spn (kept_value kept.now) }
 {
     match kept {
@@ -297,7 +301,7 @@ fn state_of<'r>(groups: &'r Groups<'_>, origin: Origin, kept: &Kept<'_>) -> Opti
 }
 
 /// What the table calls a parameter, or a dash.
-fn name_of<'r>(groups: &'r Groups<'_>, pgn: u32, spn: u32) -> &'r [u8]
+pub(crate) fn name_of<'r>(groups: &'r Groups<'_>, pgn: u32, spn: u32) -> &'r [u8]
     ensures { result.now ≡ called_in groups.now pgn spn }
 {
     match groups.parameter_name_in(pgn, spn) {

@@ -1,0 +1,80 @@
+-- Lines that are cut at a width.
+use Rattle.std.proofs.Common.{◌≡◌, ◌≤◌, ◌<◌, ◌-◌, ◌++◌, [], ◌∷◌, ℕ, zero, suc, Bool, true, false, List, Some, Result, Ok, Err, codes, drop, get_or, length, length-append, append_assoc, take, refl, sym, ap, ◌∙◌, arith, nat_le}
+use Rattle.std.proofs.lemmas.List.{take-append-le, take_all, take_at}
+use Rattle.j39_io.specs.Puts.{Puts}
+use Rattle.j39_reports.specs.Watch.{column, spaces}
+
+-- what is cut twice
+pub cut_twice : (w : ℕ) (a b : List ℕ) → take w (take w a ++ b) ≡ take w (a ++ b)
+cut_twice zero a b = refl
+cut_twice (suc w) [] b = refl
+cut_twice (suc w) (x ∷ a) b = ap (λ t. x ∷ t) (cut_twice w a b)
+
+-- behind what was kept of a text
+pub cut_behind : (w : ℕ) (whole b b' x : List ℕ) → b ≡ take w whole → b' ≡ take w (b ++ x) → b' ≡ take w (whole ++ x)
+cut_behind w whole b b' x is next = next ∙ ap (λ t. take w (t ++ x)) is ∙ cut_twice w whole x
+
+pub cut_step : (w v : ℕ) (whole b b' x y : List ℕ) → v ≡ w → x ≡ y → b ≡ take w whole → b' ≡ take v (b ++ x) → b' ≡ take w (whole ++ y)
+cut_step w v whole b b' x y same text is next =
+    cut_behind w whole b b' y is (next ∙ ap (λ n. take n (b ++ x)) same ∙ ap (λ t. take w (b ++ t)) text)
+
+pub cut_none : (w : ℕ) (b : List ℕ) → b ≡ [] → b ≡ take w []
+cut_none zero b none = none
+cut_none (suc w) b none = none
+
+-- behind a full line
+full_stays : (w : ℕ) (a b : List ℕ) → w ≤ length a → take w (a ++ b) ≡ take w a
+full_stays w a b h = take-append-le w a b h
+
+below : (m n : ℕ) → nat_le m n ≡ true → m ≤ n
+below m n e = grind arith
+
+above : (m n : ℕ) → nat_le m n ≡ false → n < m
+above m n e = grind arith
+
+-- a column whose spaces are counted by what was kept of its text
+pub column_cut : (w n : ℕ) (b t : List ℕ) → length b ≤ w
+    → take w (take w (b ++ t) ++ (spaces (n - (length (take w (b ++ t)) - length b)) ++ codes " ")) ≡ take w (b ++ column n t)
+column_cut w n b t fits =
+    cut_twice w (b ++ t) (spaces (n - (length (take w (b ++ t)) - length b)) ++ codes " ")
+    ∙ by (nat_le (length (b ++ t)) w) refl
+    ∙ ap (take w) (append_assoc b t (spaces (n - length t) ++ codes " "))
+  where
+    end : ℕ → List ℕ
+    end m = spaces (n - m) ++ codes " "
+
+    by : (c : Bool) → nat_le (length (b ++ t)) w ≡ c
+        → take w ((b ++ t) ++ end (length (take w (b ++ t)) - length b)) ≡ take w ((b ++ t) ++ end (length t))
+    by true short =
+        let all : take w (b ++ t) ≡ b ++ t = take_all w (b ++ t) (below (length (b ++ t)) w short) in
+        let len = length-append b t in
+        let count : length (take w (b ++ t)) - length b ≡ length t = ap (λ l. length l - length b) all ∙ omega (arith, len) in
+        ap (λ m. take w ((b ++ t) ++ end m)) count
+    by false long =
+        let past : w < length (b ++ t) = above (length (b ++ t)) w long in
+        full_stays w (b ++ t) _ (omega (arith, past)) ∙ sym (full_stays w (b ++ t) _ (omega (arith, past)))
+
+-- the first of some spaces
+pub first_spaces : (m n : ℕ) → m ≤ n → take m (spaces n) ≡ spaces m
+first_spaces zero n h = refl
+first_spaces (suc m) zero h = absurd (omega (arith, h))
+first_spaces (suc m) (suc n) h = ap (λ t. 0x20 ∷ t) (first_spaces m n (omega (arith, h)))
+
+-- ---- what a call wrote to a line
+
+-- all of its text, or what there was room for
+pub puts_cut : {T E : Type 0} (w w' : ℕ) (old new text : List ℕ) (result : Result T E) (was is : Bool)
+    → Puts text result (record { old = record { bytes = Some (w ∷ old); has_failed = was }; new = record { bytes = Some (w' ∷ new); has_failed = is } })
+    → length new ≤ w' → (is ≡ true → length new ≡ w') → (w' ≡ w) × (new ≡ take w (old ++ text))
+puts_cut w w' old new text (Ok x) was is puts fits full =
+    let appended : w' ∷ new ≡ (w ∷ old) ++ text = puts.written in
+    let same : w' ≡ w = ap (λ l. get_or l 0 w) appended in
+    let all : new ≡ old ++ text = ap (drop 1) appended in
+    let short : length (old ++ text) ≤ w = let len = ap length all in omega (arith, len, fits, same) in
+    (same, all ∙ sym (take_all w (old ++ text) short))
+puts_cut w w' old new text (Err e) was is puts fits full =
+    let (front, rest, cut, appended) = puts.front in
+    let same : w' ≡ w = ap (λ l. get_or l 0 w) appended in
+    let all : new ≡ old ++ front = ap (drop 1) appended in
+    let long : length (old ++ front) ≡ w = let len = ap length all in let f = full puts.mark in omega (arith, len, f, same) in
+    (same, all ∙ sym (ap (λ t. take w (old ++ t)) cut ∙ ap (take w) (sym (append_assoc old front rest)) ∙ take_at (old ++ front) rest w long))

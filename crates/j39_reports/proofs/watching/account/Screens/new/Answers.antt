@@ -1,0 +1,22 @@
+-- Nothing was heard.
+use Rattle.std.proofs.Common.{[], refl}
+use Rattle.j39_reports.proofs.CurrentLemmas.{kept_none}
+use Rattle.j39_reports.proofs.watching.account.Screens.new.Goals as goal
+
+pub returns : goal.returns
+returns c = record {
+  keeps = record {
+    by = refl;
+    size_is = refl;
+    last_is = refl;
+    hears = c.new.ensures;
+    heard = [];
+    are_heard = refl;
+    are_latest = c.new-3.ensures;
+    faults = [];
+    are_faults = refl;
+    are_kept = kept_none [] _ c.new-2.ensures;
+    messages_are = refl;
+  };
+  drawn = refl;
+}

@@ -1,0 +1,43 @@
+-- What is heard is noted, and a screen is written if it is due.
+use Rattle.std.proofs.Common.{◌∙◌, Some, ap, refl}
+use Rattle.j39_frame.specs.Frame.{FrameRecord}
+use Rattle.j39_groups.proofs.ReadLemmas.{on_ok_from}
+use Rattle.j39_reports.proofs.NoteLemmas.{written_front}
+use Rattle.j39_reports.proofs.WatchLemmas.{watch_meets, watch_stops}
+use Rattle.j39_reports.specs.Watch.{is_due}
+use Rattle.j39_reports.specs.declared.watching.account.Screens.{Screens}
+use Rattle.j39_reports.proofs.watching.account.ScreensAccount.feed.Goals as goal
+
+pub returns-in-Ok-clause-met : goal.returns-in-Ok-clause-met
+returns-in-Ok-clause-met g c = on_ok_from c.draw_if.result _ _ (λ written subject.
+    let self = c.args.self.now in
+    let after : Screens = record {
+      alloc = self.alloc;
+      groups = self.groups;
+      size = self.size;
+      listener = c.note.new.listener;
+      places = c.note.new.places;
+      values = c.note.new.values;
+      messages = c.saturating_add-self.result;
+      last = Some c.frame.inside.stamp;
+    } in
+    let stamp = ap (λ (f : FrameRecord). f.stamp) c.frame.view_is in
+    watch_meets subject.1 subject.0 self after c.args.frame.now c.in-Ok.messages c.is_due-draws.result _ _ refl refl (ap Some stamp)
+    c.saturating_add-self.ensures (c.is_due-draws.ensures ∙ ap (is_due _) stamp) c.in-Ok.ensures.noted written) c.draw_if.ensures.puts.written
+
+pub returns-in-Ok-clause-stops : goal.returns-in-Ok-clause-stops
+returns-in-Ok-clause-stops g c = λ failed subject.
+    let self = c.args.self.now in
+    let after : Screens = record {
+      alloc = self.alloc;
+      groups = self.groups;
+      size = self.size;
+      listener = c.note.new.listener;
+      places = c.note.new.places;
+      values = c.note.new.values;
+      messages = c.saturating_add-self.result;
+      last = Some c.frame.inside.stamp;
+    } in
+    let stamp = ap (λ (f : FrameRecord). f.stamp) c.frame.view_is in
+    watch_stops subject.1 subject.0 self after c.args.frame.now c.in-Ok.messages c.is_due-draws.result c.args.arg2.now _ _ refl refl (ap Some stamp)
+    c.saturating_add-self.ensures (c.is_due-draws.ensures ∙ ap (is_due _) stamp) c.in-Ok.ensures.noted (written_front c.draw_if.result _ _ failed c.draw_if.ensures.puts.front)

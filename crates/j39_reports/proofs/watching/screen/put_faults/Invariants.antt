@@ -1,0 +1,13 @@
+use Rattle.std.proofs.Common.{◌≡◌, ◌-◌, Ok, length}
+use Rattle.j39_io.specs.Puts.{Puts}
+use Rattle.j39_io.specs.Turn.{turn}
+use Rattle.j39_listen.specs.Listening.{holder_of}
+use Rattle.j39_reports.specs.WatchSoFar.{faults_of_places, limited}
+use Rattle.j39_reports.proofs.watching.screen.put_faults.Given as goal
+
+-- the lines of the addresses so far are written, and no fault came
+abbrev pub invariant-loop-address : goal.invariant-loop-address
+invariant-loop-address g l =
+    (l.left ≡ l.room - length (faults_of_places l.view.groups.now (holder_of l.view.listener.now) l.places l.address))
+    × Puts {T = Unit} {E = Unit} (limited l.view.width l.room (faults_of_places l.view.groups.now (holder_of l.view.listener.now) l.places l.address)) (Ok tt)
+    (turn g.W.Sink.written g.W.Sink.has_failed l.initial.sink l.sink)

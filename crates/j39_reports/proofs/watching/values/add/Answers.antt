@@ -1,0 +1,12 @@
+-- The row goes last.
+use Rattle.j39_frame.specs.Stamp.{stamp_micros}
+use Rattle.j39_groups.proofs.ReadLemmas.{on_ok_from}
+use Rattle.j39_groups.specs.Models.{value_of}
+use Rattle.j39_memory.specs.ByOrigin.{pairs_of}
+use Rattle.j39_reports.proofs.ValueLemmas.{begins}
+use Rattle.j39_reports.proofs.watching.values.add.Goals as goal
+
+pub returns : goal.returns
+returns c = on_ok_from c.add.result _ _ (λ added before are.
+    begins c.args.origin c.in_ok-latest.latest (stamp_micros c.args.stamp) (value_of c.args.value) (pairs_of c.args.rows.now) _ before
+    (c.in_ok-latest.ensures.begun c.args.origin) c.requires added are) c.add.ensures.added

@@ -1,0 +1,13 @@
+//! What a log is at each half second, as a screen: the faults that are there, and the last values.
+mod account;
+mod cut_line;
+mod latest;
+mod lines;
+mod note;
+mod screen;
+mod size;
+mod values;
+mod view;
+
+pub use account::watch;
+pub use size::ScreenSize;
