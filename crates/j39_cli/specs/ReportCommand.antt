@@ -17,16 +17,16 @@ use Rattle.j39_reports.specs.EntryText.{header_text}
 use Rattle.j39_cli.specs.Answer.{IsBusChecked, IsChecked, IsTask, IsValueChecked, IsValueRead}
 use Rattle.j39_cli.specs.Asked.{IsAddressList, IsAsked, IsMoment, IsPgnList, IsSenderList, addresses_in, filter_in, moment_in, pgns_in, senders_in}
 use Rattle.j39_cli.specs.Form.{Form, Meaning, flag, option, value}
-use Rattle.j39_cli.specs.LogCommand.{IsRun, fault_text, opened_of, with_log}
+use Rattle.j39_cli.specs.LogCommand.{IsRun, fault_text, opened_of, with_forms, with_log, written_by}
 use Rattle.j39_cli.specs.Refusal.{error_line}
-use Rattle.j39_cli.specs.Rules.{flag_rule, option_rule, with_table}
+use Rattle.j39_cli.specs.Rules.{option_rule, with_table}
 use Rattle.j39_cli.specs.Spns.{IsSpnList, spns_in}
 use Rattle.j39_cli.specs.declared.task.Argument.TheVariants as argument
 use Rattle.j39_cli.specs.declared.asked.Asked.{Asked}
 use Rattle.j39_cli.specs.declared.task.LogInput.{LogInput}
 use Rattle.j39_cli.specs.declared.task.ParseFault.{ParseFault}
-use Rattle.j39_cli.specs.declared.task.ReportFormat.{ReportFormat}
-use Rattle.j39_cli.specs.declared.task.ReportFormat.TheVariants.{Line, Object, Record}
+use Rattle.j39_listen.specs.declared.format.Format.{Format}
+use Rattle.j39_listen.specs.declared.format.Format.TheVariants.{Line, Object, Record}
 use Rattle.j39_cli.specs.declared.task.Task.{Task}
 use Rattle.j39_cli.specs.declared.task.Task.TheVariants.{Report}
 
@@ -40,15 +40,7 @@ with_filter command =
 
 abbrev pub report_app : App
 report_app =
-    with_log (with_rule (with_rule (with_filter (with_rule (with_table (new_app (codes "report"))) (option_rule (codes "spn") false)))
-    (flag_rule (codes "csv"))) (flag_rule (codes "json")))
-
--- `--csv` asks for comma-separated values, `--json` for objects; not both
-abbrev pub written_by : Bool → Bool → Option ReportFormat
-written_by false false = Some Line
-written_by true false = Some Record
-written_by false true = Some Object
-written_by true true = None
+    with_log (with_forms (with_filter (with_rule (with_table (new_app (codes "report"))) (option_rule (codes "spn") false))))
 
 abbrev pub IsReportTask : Option (List ℕ) → Option (List ℕ) → Option (List ℕ) → Option (List ℕ) → Option (List ℕ) → Option (List ℕ)
     → Option (List ℕ) → Option (List ℕ) → Bool → Bool → Option (List ℕ) → Task → Type 0
@@ -107,7 +99,7 @@ IsAskedRead from to pgn since until (Err e) = (asked : Asked) × IsFirstWrong fr
 -- ---- its run
 
 -- what it makes of the frames by a table: the entries of the report that are asked for
-abbrev pub makes_in : ReportFormat → FilterRecord → List RowRecord → Making
+abbrev pub makes_in : Format → FilterRecord → List RowRecord → Making
 makes_in Line which rows = MakesFiltered rows which
 makes_in Record which rows = Headed header_text (MakesFilteredRecords rows which)
 makes_in Object which rows = MakesFilteredObjects rows which
@@ -120,7 +112,7 @@ pub record IsNotBegun (status : ℕ) (log out err : Turn) : Type 0 where
   pub told : Writes err (error_line (fault_text Memory) [])
 
 -- by the whole table, or by its rows of the parameters that are asked for
-abbrev pub IsReportRun : Option (List ℕ) → FilterRecord → ReportFormat → List RowRecord → Option (List ℕ) → ℕ → Turn → Turn → Turn
+abbrev pub IsReportRun : Option (List ℕ) → FilterRecord → Format → List RowRecord → Option (List ℕ) → ℕ → Turn → Turn → Turn
     → Type 0
 IsReportRun None which format rows bus status log out err =
     IsRun AsksForBoxes (makes_in format which rows) bus status log out err
@@ -128,7 +120,7 @@ IsReportRun (Some spns) which format rows bus status log out err =
     ((kept : List RowRecord) × HaveSameGroups kept (rows_of_spns spns rows)
     × IsRun AsksForBoxes (makes_in format which kept) bus status log out err) ⊎ IsNotBegun status log out err
 
-abbrev pub report_meaning : LogInput → Option (List ℕ) → Option (List ℕ) → Asked → ReportFormat → Meaning
+abbrev pub report_meaning : LogInput → Option (List ℕ) → Option (List ℕ) → Asked → Format → Meaning
 report_meaning input table spns asked format = record {
   file = opened_of input.file;
   table = table;

@@ -34,6 +34,6 @@ pub use own_table::{folder_for_table, wrong_table};
 pub use performing::{perform, perform_with};
 pub use refusal::{refuse, unopened};
 pub use spns::Spns;
-pub use task::{Address, Argument, FaultsTold, LogInput, ParseFault, ReportFormat, Task, WordText};
+pub use task::{Address, Argument, FaultsTold, LogInput, ParseFault, Task, WordText};
 pub use unknown::asks_for_unknown;
 pub use words::parse;

@@ -104,9 +104,11 @@ pub fn perform_with<R: Source, W: Sink, E: Sink>(
                 alloc, groups, &input.bus, versions, *told, *format, source, sink, err,
             )
         }
-        Task::Nodes { input, format } => {
-            tell_end(nodes::run(*format, &input.bus, source, sink), err)
-        }
+        Task::Nodes {
+            input,
+            from,
+            format,
+        } => tell_end(nodes::run(*format, from, &input.bus, source, sink), err),
         Task::Answer {
             name,
             address,

@@ -6,9 +6,9 @@ ghost use Rattle.j39_cli.specs.SummaryCommand.{summary_app};
 ghost use Rattle.j39_cli.specs.Rules.{IsMade};
 
 use crate::command::{new_command, with_table};
-use crate::log::{with_csv, with_log};
+use crate::log::{with_forms, with_log};
 use crate::words::{format_given, log_input};
-use crate::{ParseFault, Task, WordText};
+use crate::{Argument, ParseFault, Task, WordText};
 use clap::{ArgMatches, Command};
 use std::alloc::{AllocError, Global};
 
@@ -37,7 +37,7 @@ pub(crate) fn command<'a>(alloc: Global) -> Result<Command<'a>, AllocError>
 {
     let about = "Writes what each parameter in a log did";
     let command = with_table(alloc, new_command(alloc, "summary", about, ABOUT, HELP));
-    with_log(alloc, with_csv(alloc, command))
+    with_log(alloc, with_forms(alloc, command))
 }
 
 /// The task that its words ask for.
@@ -46,12 +46,16 @@ pub(crate) fn task<'a>(given: &ArgMatches<'a>) -> Result<Task<'a>, ParseFault>
 {
     let table = given.get_str("table").map(WordText::new);
     let format = format_given(given);
-    match log_input(given) {
-        Ok(input) => Ok(Task::Summary {
+    let input = match log_input(given) {
+        Ok(input) => input,
+        Err(fault) => return Err(fault),
+    };
+    match format {
+        Some(format) => Ok(Task::Summary {
             input,
             table,
             format,
         }),
-        Err(fault) => Err(fault),
+        None => Err(ParseFault::BadValue(Argument::Forms)),
     }
 }

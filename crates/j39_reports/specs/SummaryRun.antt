@@ -10,10 +10,9 @@ use Rattle.j39_listen.specs.Asking.{AsksForBoxes, Wanting}
 use Rattle.j39_listen.specs.Heard.{AreHeard, HeardAt, Hearing}
 use Rattle.j39_listen.specs.Output.{Making, Output}
 use Rattle.j39_listen.specs.Report.{Entry, entries_of}
-use Rattle.j39_listen.specs.Headed.{Headed}
+use Rattle.j39_listen.specs.Headed.{Columned}
 use Rattle.j39_reports.specs.RowText.{summary_columns, summary_text}
 use Rattle.j39_listen.specs.declared.format.Format.{Format}
-use Rattle.j39_listen.specs.declared.format.Format.TheVariants.{Line, Record}
 use Rattle.j39_reports.specs.Summary.{absences_of, have_one_origin, how_often, summary_of}
 
 -- the summary of the entries of what is heard, and of what is not available in it; each message counts that is heard
@@ -30,10 +29,9 @@ abbrev pub MakesSummaryIn : Format → List RowRecord → Making
 MakesSummaryIn form groups bus F output =
     (heard : List Hearing) × AreHeard groups F heard × (output ≡ output_of form groups heard)
 
--- a line for each row, or the names of the columns and a record for each
+-- a line, a record or an object for each row
 abbrev pub MakesSummary : Format → List RowRecord → Making
-MakesSummary Line groups = MakesSummaryIn Line groups
-MakesSummary Record groups = Headed summary_columns (MakesSummaryIn Record groups)
+MakesSummary form groups = Columned summary_columns form (MakesSummaryIn form groups)
 
 abbrev pub IsText : ValueRecord → Type 0
 IsText (number n slot) = ⊥

@@ -7,6 +7,7 @@ mod guesses;
 mod kept;
 pub mod laws;
 pub(crate) mod lines;
+mod objects;
 mod records;
 mod rows;
 

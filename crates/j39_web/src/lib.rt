@@ -1,7 +1,7 @@
 //! What a web page calls: each call makes a text of a log, in room that the page lends.
 #![tactic(auto)]
 
-ghost use Rattle.std.specs.Prelude.{◌≡◌, ◌≢◌, ◌<◌, ◌≤◌, ◌↔◌, ◌⊎◌, ◌∷◌, [], ⊤, length, take};
+ghost use Rattle.std.specs.Prelude.{◌≡◌, ◌≢◌, ◌<◌, ◌≤◌, ◌↔◌, ◌⊎◌, ◌∷◌, [], None, ⊤, length, take};
 ghost use Rattle.j39_address.specs.Name.{fields_of};
 ghost use Rattle.j39_reports.specs.FaultAsking.{AsksForFaults};
 ghost use Rattle.j39_reports.specs.FaultRun.{MakesFaults};
@@ -161,11 +161,11 @@ pub extern "C" fn j39_faults(
 #[unsafe(no_mangle)]
 pub extern "C" fn j39_nodes(log: &[u8], bus: &[u8], room: &mut [u8], text: &mut LogText) -> u32
     // What stands at the front of the room is who holds an address after the log's frames, and nothing else.
-    ensures nodes { result ≡ done → IsMade (MakesNodes Line) (given_bus bus.now) log.now text.new room.new }
+    ensures nodes { result ≡ done → IsMade (MakesNodes Line None) (given_bus bus.now) log.now text.new room.new }
 
     // The room is too small exactly where that text has as many bytes, or more.
     ensures fits { result ≡ done → text.new.bytes < length room.new }
-    ensures too_small { result ≡ too_small → Overflows (MakesNodes Line) (given_bus bus.now) log.now room.new }
+    ensures too_small { result ≡ too_small → Overflows (MakesNodes Line None) (given_bus bus.now) log.now room.new }
 
     ensures bus { (result ≡ wrong_bus) ↔ IsWrongBus bus.now }
     ensures answers { result ≤ wrong_bus }

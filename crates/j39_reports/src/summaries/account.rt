@@ -30,8 +30,8 @@ use j39_listen::{
 use j39_log::Bus;
 use std::alloc::{AllocError, Global};
 
-/// Writes the summary of a log of at most `limit` bytes by a table of parameters: a line, or a record of
-/// comma-separated values (RFC 4180), for each parameter that a controller on the bus reported, in the order of their
+/// Writes the summary of a log of at most `limit` bytes by a table of parameters: a line, a record of
+/// comma-separated values (RFC 4180), or an object (RFC 8259), for each parameter that a controller on the bus reported, in the order of their
 /// first values. The names of the columns of records are written before the log is read. Without a bus it is that of
 /// the first frame in the log.
 pub fn summary<R: Source, W: Sink>(
@@ -56,6 +56,7 @@ pub fn summary<R: Source, W: Sink>(
     match format {
         Format::Line => run_over(account, source, sink, bus, limit),
         Format::Record => run_headed(COLUMNS, account, source, sink, bus, limit),
+        Format::Object => run_over(account, source, sink, bus, limit),
     }
 }
 

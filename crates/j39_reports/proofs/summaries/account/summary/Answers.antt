@@ -9,3 +9,7 @@ returns-in-Line-clause-ran g c = rw c.in-Line.is (rw c.in-Line.is at
 pub returns-in-Record-clause-ran : goal.returns-in-Record-clause-ran
 returns-in-Record-clause-ran g c = rw c.in-Record.is (rw c.in-Record.is at
     (c.run_headed.ensures.ran (c.args.format, c.args.groups.now) nothing (λ name. c.new-account.ensures) refl))
+
+pub returns-in-Object-clause-ran : goal.returns-in-Object-clause-ran
+returns-in-Object-clause-ran g c = rw c.in-Object.is (rw c.in-Object.is at
+    (c.run_over-in-Object.ensures.ran (c.args.format, c.args.groups.now) nothing (λ name. c.new-account.ensures) refl))
