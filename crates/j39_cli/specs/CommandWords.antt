@@ -24,7 +24,8 @@ use Rattle.j39_cli.specs.declared.task.ParseFault.TheVariants.{Memory}
 pub data CommandWords : Type 0 where
   report : Option Text → Option Text → Option Text → Option Text → Option Text → Option Text → Option Text → Option Text → Bool → Bool
       → Option Text → CommandWords
-  summary : Option Text → Option Text → Bool → Bool → Option Text → CommandWords
+  summary : Option Text → Option Text → Option Text → Option Text → Option Text → Option Text → Option Text → Bool → Bool → Option Text
+      → CommandWords
   faults : Option Text → Option Text → Option Text → Bool → Bool → Bool → Bool → Bool → Option Text → CommandWords
   nodes : Option Text → Option Text → Bool → Bool → Option Text → CommandWords
   answer : Text → Text → Option Text → Option Text → CommandWords
@@ -36,7 +37,7 @@ pub data CommandWords : Type 0 where
 
 abbrev pub form_of : CommandWords → Form
 form_of (report bus table spn from to pgn since until csv json file) = report_form bus table spn from to pgn since until csv json file
-form_of (summary bus table csv json file) = summary_form bus table csv json file
+form_of (summary bus table from to pgn since until csv json file) = summary_form bus table from to pgn since until csv json file
 form_of (faults bus table conversion all changes now csv json file) = faults_form bus table conversion all changes now csv json file
 form_of (nodes bus from csv json file) = nodes_form bus from csv json file
 form_of (answer node address bus file) = answer_form node address bus file
@@ -69,14 +70,18 @@ command_found called found =
     let csv = is_given (first_value found (codes "csv")) in
     let json = is_given (first_value found (codes "json")) in
     let file = first_value found (codes "file") in
+    let from = first_value found (codes "from") in
+    let to = first_value found (codes "to") in
+    let pgn = first_value found (codes "pgn") in
+    let since = first_value found (codes "since") in
+    let until = first_value found (codes "until") in
     if bytes_eq called (codes "report") then
-    report bus table (first_value found (codes "spn")) (first_value found (codes "from")) (first_value found (codes "to"))
-    (first_value found (codes "pgn")) (first_value found (codes "since")) (first_value found (codes "until")) csv json file
-    else if bytes_eq called (codes "summary") then summary bus table csv json file
+    report bus table (first_value found (codes "spn")) from to pgn since until csv json file
+    else if bytes_eq called (codes "summary") then summary bus table from to pgn since until csv json file
     else if bytes_eq called (codes "faults") then
     faults bus table (first_value found (codes "conversion")) (is_given (first_value found (codes "all")))
     (is_given (first_value found (codes "changes"))) (is_given (first_value found (codes "now"))) csv json file
-    else if bytes_eq called (codes "nodes") then nodes bus (first_value found (codes "from")) csv json file
+    else if bytes_eq called (codes "nodes") then nodes bus from csv json file
     else if bytes_eq called (codes "answer") then
     answer (text_found found (codes "name")) (text_found found (codes "address")) bus file
     else if bytes_eq called (codes "id") then id (text_found found (codes "hex"))

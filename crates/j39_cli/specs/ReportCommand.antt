@@ -14,8 +14,9 @@ use Rattle.j39_log.specs.Bus.{IsBusName}
 use Rattle.j39_reports.specs.ReportObjects.{MakesFilteredObjects}
 use Rattle.j39_reports.specs.ReportRecords.{MakesFilteredRecords}
 use Rattle.j39_reports.specs.EntryText.{header_text}
-use Rattle.j39_cli.specs.Answer.{IsBusChecked, IsChecked, IsTask, IsValueChecked, IsValueRead}
-use Rattle.j39_cli.specs.Asked.{IsAddressList, IsAsked, IsMoment, IsPgnList, IsSenderList, addresses_in, filter_in, moment_in, pgns_in, senders_in}
+use Rattle.j39_cli.specs.Answer.{IsBusChecked, IsChecked, IsTask, IsValueChecked}
+use Rattle.j39_cli.specs.Asked.{IsAddressList, IsAsked, IsMoment, IsPgnList, IsSenderList, filter_in}
+use Rattle.j39_cli.specs.FilterWords.{with_filter}
 use Rattle.j39_cli.specs.Form.{Form, Meaning, flag, option, value}
 use Rattle.j39_cli.specs.LogCommand.{IsRun, fault_text, opened_of, with_forms, with_log, written_by}
 use Rattle.j39_cli.specs.Refusal.{error_line}
@@ -24,19 +25,12 @@ use Rattle.j39_cli.specs.Spns.{IsSpnList, spns_in}
 use Rattle.j39_cli.specs.declared.task.Argument.TheVariants as argument
 use Rattle.j39_cli.specs.declared.asked.Asked.{Asked}
 use Rattle.j39_cli.specs.declared.task.LogInput.{LogInput}
-use Rattle.j39_cli.specs.declared.task.ParseFault.{ParseFault}
 use Rattle.j39_listen.specs.declared.format.Format.{Format}
 use Rattle.j39_listen.specs.declared.format.Format.TheVariants.{Line, Object, Record}
 use Rattle.j39_cli.specs.declared.task.Task.{Task}
 use Rattle.j39_cli.specs.declared.task.Task.TheVariants.{Report}
 
 -- ---- its words
-
-abbrev pub with_filter : App → App
-with_filter command =
-    with_rule (with_rule (with_rule (with_rule (with_rule command (option_rule (codes "from") false))
-    (option_rule (codes "to") false)) (option_rule (codes "pgn") false)) (option_rule (codes "since") false))
-    (option_rule (codes "until") false)
 
 abbrev pub report_app : App
 report_app =
@@ -62,39 +56,6 @@ report_form bus table spn from to pgn since until csv json file = record {
       (IsChecked (written_by csv json ≢ None) argument.Forms
       (IsTask (IsReportTask bus table spn from to pgn since until csv json file)))))))));
 }
-
--- ---- what is read of the options of its filter
-
--- each text that is given is in range
-pub record AreRead (from to pgn since until : Option (List ℕ)) (asked : Asked) : Type 0 where
-  pub from_is : IsValueRead IsSenderList senders_in argument.From from (Ok asked.from)
-  pub to_is : IsValueRead IsAddressList addresses_in argument.To to (Ok asked.to)
-  pub pgns_are : IsValueRead IsPgnList pgns_in argument.Pgn pgn (Ok asked.pgns)
-  pub since_is : IsValueRead IsMoment moment_in argument.Since since (Ok asked.since)
-  pub until_is : IsValueRead IsMoment moment_in argument.Until until (Ok asked.until)
-
--- the fault is that of the first that isn't
-pub data IsFirstWrong (from to pgn since until : Option (List ℕ)) (asked : Asked) (e : ParseFault) : Type 0 where
-  the_senders : IsValueRead IsSenderList senders_in argument.From from (Err e) → IsFirstWrong from to pgn since until asked e
-  the_destinations : IsValueRead IsSenderList senders_in argument.From from (Ok asked.from)
-      → IsValueRead IsAddressList addresses_in argument.To to (Err e) → IsFirstWrong from to pgn since until asked e
-  the_groups : IsValueRead IsSenderList senders_in argument.From from (Ok asked.from)
-      → IsValueRead IsAddressList addresses_in argument.To to (Ok asked.to)
-      → IsValueRead IsPgnList pgns_in argument.Pgn pgn (Err e) → IsFirstWrong from to pgn since until asked e
-  the_first : IsValueRead IsSenderList senders_in argument.From from (Ok asked.from)
-      → IsValueRead IsAddressList addresses_in argument.To to (Ok asked.to)
-      → IsValueRead IsPgnList pgns_in argument.Pgn pgn (Ok asked.pgns)
-      → IsValueRead IsMoment moment_in argument.Since since (Err e) → IsFirstWrong from to pgn since until asked e
-  the_last : IsValueRead IsSenderList senders_in argument.From from (Ok asked.from)
-      → IsValueRead IsAddressList addresses_in argument.To to (Ok asked.to)
-      → IsValueRead IsPgnList pgns_in argument.Pgn pgn (Ok asked.pgns)
-      → IsValueRead IsMoment moment_in argument.Since since (Ok asked.since)
-      → IsValueRead IsMoment moment_in argument.Until until (Err e) → IsFirstWrong from to pgn since until asked e
-
-abbrev pub IsAskedRead : Option (List ℕ) → Option (List ℕ) → Option (List ℕ) → Option (List ℕ) → Option (List ℕ)
-    → Result Asked ParseFault → Type 0
-IsAskedRead from to pgn since until (Ok asked) = AreRead from to pgn since until asked
-IsAskedRead from to pgn since until (Err e) = (asked : Asked) × IsFirstWrong from to pgn since until asked e
 
 -- ---- its run
 

@@ -9,6 +9,7 @@ mod cut;
 mod cut_values;
 mod faults;
 mod fields;
+mod filter_words;
 mod groups;
 mod id;
 mod log;

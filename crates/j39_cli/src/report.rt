@@ -1,21 +1,20 @@
 //! The command `report`: its words, and how it is performed.
 ghost use Rattle.std.specs.Prelude.{◌≡◌, ◌⊎◌, OnOk, codes, false, true};
 ghost use Rattle.j39_io.specs.Turn.{turn};
-ghost use Rattle.clap.specs.Words.{App, first_value, found_of, with_rule};
+ghost use Rattle.clap.specs.Words.{found_of};
 ghost use Rattle.j39_listen.specs.Asking.{AsksForBoxes};
 ghost use Rattle.j39_listen.specs.Filter.{no_filter};
 ghost use Rattle.j39_listen.specs.Ran.{Ran};
 ghost use Rattle.j39_cli.specs.Asked.{filter_in};
 ghost use Rattle.j39_cli.specs.CommandWords.{IsAnswered, command_found};
 ghost use Rattle.j39_cli.specs.LogCommand.{log_limit};
-ghost use Rattle.j39_cli.specs.ReportCommand.{IsAskedRead, IsReportRun, makes_in, report_app, with_filter};
+ghost use Rattle.j39_cli.specs.ReportCommand.{IsReportRun, makes_in, report_app};
 ghost use Rattle.j39_cli.specs.Rules.{IsMade};
 
 use crate::command::{new_command, with_option, with_table};
+use crate::filter_words::{asked_value, with_filter};
 use crate::log::{LOG_LIMIT, copy_of, tell_end, tell_fault, with_forms, with_log};
-use crate::words::{
-    addresses_value, format_given, log_input, moment_value, pgns_value, senders_value, spns_value,
-};
+use crate::words::{format_given, log_input, spns_value};
 use crate::{Argument, Asked, ParseFault, Spns, Task, WordText};
 use clap::{ArgMatches, Command};
 use j39_groups::Groups;
@@ -60,25 +59,6 @@ pub(crate) fn command<'a>(alloc: Global) -> Result<Command<'a>, AllocError>
     let command = with_option(alloc, command, "spn", "SPN,..", false, help);
     let command = with_filter(alloc, command);
     with_log(alloc, with_forms(alloc, command))
-}
-
-/// The command with the options of a filter.
-fn with_filter<'a>(
-    alloc: Global,
-    command: Result<Command<'a>, AllocError>,
-) -> Result<Command<'a>, AllocError>
-    ensures { (told : App) → IsMade command.entry told → IsMade result (with_filter told) }
-{
-    let help = "From these addresses (hex) or NAMEs (16 hex digits) alone";
-    let command = with_option(alloc, command, "from", "A,..", false, help);
-    let help = "To these addresses (hex) alone; FF is what goes to all";
-    let command = with_option(alloc, command, "to", "A,..", false, help);
-    let help = "Of these PGNs alone";
-    let command = with_option(alloc, command, "pgn", "PGN,..", false, help);
-    let help = "From this stamp on, or as many seconds behind the first frame: 1700000000.5 or +90";
-    let command = with_option(alloc, command, "since", "T", false, help);
-    let help = "Up to this stamp, as --since";
-    with_option(alloc, command, "until", "T", false, help)
 }
 
 /// The task that its words ask for.
@@ -191,39 +171,5 @@ fn run_whole<R: Source, W: Sink>(
         Format::Line => run_with(alloc, groups, source, sink, copy_of(bus), LOG_LIMIT),
         Format::Record => report_csv(alloc, groups, source, sink, copy_of(bus), LOG_LIMIT),
         Format::Object => report_json(alloc, groups, source, sink, copy_of(bus), LOG_LIMIT),
-    }
-}
-
-/// Which entries are asked for.
-fn asked_value(given: &ArgMatches<'_>) -> Result<Asked, ParseFault>
-    ensures { IsAskedRead (first_value (found_of given.now) (codes "from")) (first_value (found_of given.now) (codes "to"))
-        (first_value (found_of given.now) (codes "pgn")) (first_value (found_of given.now) (codes "since"))
-        (first_value (found_of given.now) (codes "until")) result }
-{
-    let from = match senders_value(given) {
-        Ok(from) => from,
-        Err(fault) => return Err(fault),
-    };
-    let to = match addresses_value(given) {
-        Ok(to) => to,
-        Err(fault) => return Err(fault),
-    };
-    let pgns = match pgns_value(given) {
-        Ok(pgns) => pgns,
-        Err(fault) => return Err(fault),
-    };
-    let since = match moment_value(given, "since", Argument::Since) {
-        Ok(since) => since,
-        Err(fault) => return Err(fault),
-    };
-    match moment_value(given, "until", Argument::Until) {
-        Ok(until) => Ok(Asked {
-            from,
-            to,
-            pgns,
-            since,
-            until,
-        }),
-        Err(fault) => Err(fault),
     }
 }

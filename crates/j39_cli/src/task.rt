@@ -124,6 +124,8 @@ pub enum Task<'a> {
         input: LogInput<'a>,
         /// The file of the table, as of a report.
         table: Option<WordText<'a>>,
+        /// Which entries are asked for.
+        asked: Asked,
         /// How it is written.
         format: Format,
     },

@@ -8,6 +8,7 @@ ghost use Rattle.j39_reports.specs.FaultRun.{MakesFaults};
 ghost use Rattle.j39_reports.specs.News.{news};
 ghost use Rattle.j39_groups.specs.Printed.{rows_text};
 ghost use Rattle.j39_listen.specs.Asking.{AsksForBoxes};
+ghost use Rattle.j39_listen.specs.Filter.{no_filter};
 ghost use Rattle.j39_listen.specs.Headed.{MakesNodes};
 ghost use Rattle.j39_listen.specs.Output.{MakesReport};
 ghost use Rattle.j39_listen.specs.declared.format.Format.TheVariants.{Line, Record};
@@ -129,8 +130,8 @@ pub extern "C" fn j39_summary(
 ) -> u32
     // What is written is the summary of the log's report. Memory is wanted at a frame that announces a message, and
     // where a value is the first of its parameter, or a text.
-    ensures { Tells (ByTable table.now) (MakesSummary Record)
-        (λ rows. AsksSomewhere (AsksForRows rows) (given_bus bus.now) log.now)
+    ensures { Tells (ByTable table.now) (MakesSummary Record no_filter)
+        (λ rows. AsksSomewhere (AsksForRows no_filter rows) (given_bus bus.now) log.now)
         log.now bus.now table.now room.old room.new text.old text.new result }
 {
     tell(alloc, Writing::Summary, log, bus, table, room, text)
