@@ -2,7 +2,7 @@
 use Rattle.std.proofs.Common.{◌≡◌, ◌∙◌, Some, None, codes, rules, sym}
 use Rattle.clap.specs.Words.{first_value, found_of}
 use Rattle.j39_cli.proofs.AskedLemmas.{asked_wrong}
-use Rattle.j39_cli.proofs.TakenLemmas.{input_read, input_wrong, value_read, value_wrong}
+use Rattle.j39_cli.proofs.TakenLemmas.{input_read, input_wrong, value_read}
 use Rattle.j39_cli.proofs.summary.task.Goals as goal
 
 pub returns-in-Some : goal.returns-in-Some
